@@ -1,0 +1,56 @@
+-- One instruction. It looks at memory only by the word that it fetches, f, and by one word that it may load, w.
+use Rattle.std.specs.Prelude.{ℕ, ◌/◌, List, length, Option, Some, None, if◌then◌else◌}
+use Rattle.spec_isa.specs.declared.instr.Instr.{Instr}
+use Rattle.spec_isa.specs.declared.thread.Parts.{Parts}
+use Rattle.spec_isa.specs.declared.thread.Load.{Load}
+use Rattle.spec_isa.specs.declared.thread.Kind.{Kind}
+use Rattle.spec_isa.specs.declared.plan.Plan.{Plan}
+use Rattle.spec_isa.specs.Denoted.{denoted}
+use Rattle.spec_isa.specs.Words.{Stored, read, is_inside}
+use Rattle.spec_isa.specs.Planned.{plan, refuses, word_loaded, thread_then, load_then, store_then}
+
+-- a word outside the table is illegal
+abbrev pub plan_found : Option Instr → Parts → Plan
+plan_found None t = Plan.Stop (Kind.Fault 2)
+plan_found (Some i) t = plan i t
+
+abbrev pub plan_of : Parts → (f : ℕ) → Plan
+plan_of t f = plan_found (denoted f) t
+
+-- why the instruction is serial, or none where it is run; a fetch outside memory faults
+unfoldable pub serial_of : Parts → (f size : ℕ) → Option Kind
+serial_of t f size = if is_inside size t.pc then refuses size (plan_of t f) else Some (Kind.Fault 1)
+
+-- the number of the word that it loads
+unfoldable pub loads_of : Parts → (f : ℕ) → Option ℕ
+loads_of t f = word_loaded (plan_of t f)
+
+unfoldable pub next_of : Parts → (f w : ℕ) → Parts
+next_of t f w = thread_then (plan_of t f) t w
+
+unfoldable pub load_of : Parts → (f w : ℕ) → Option Load
+load_of t f w = load_then (plan_of t f) w
+
+unfoldable pub store_of : Parts → (f w : ℕ) → Option Stored
+store_of t f w = store_then (plan_of t f) t w
+
+-- what an instruction comes to
+pub data Outcome : Type 0 where
+  Next : (thread : Parts) (load : Option Load) (store : Option Stored) → Outcome
+  Serial : (kind : Kind) → Outcome
+
+abbrev pub unless : Option Kind → Outcome → Outcome
+unless None outcome = outcome
+unless (Some kind) outcome = Serial kind
+
+-- the word of that number, 0 where there is none
+abbrev pub value_at : List ℕ → Option ℕ → ℕ
+value_at m None = 0
+value_at m (Some a) = read m a
+
+abbrev pub outcome_with : Parts → (f w size : ℕ) → Outcome
+outcome_with t f w size = unless (serial_of t f size) (Next (next_of t f w) (load_of t f w) (store_of t f w))
+
+-- one instruction of a thread on a memory
+unfoldable pub one : Parts → List ℕ → Outcome
+one t m = let f = read m (t.pc / 4) in outcome_with t f (value_at m (loads_of t f)) (length m)

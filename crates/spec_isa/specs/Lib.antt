@@ -1,0 +1,9 @@
+pub mod Encoding
+pub mod Denoted
+pub mod Arithmetic
+pub mod Words
+pub mod Masks
+pub mod Planned
+pub mod Instruction
+pub mod Runs
+pub mod Threads

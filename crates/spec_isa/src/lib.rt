@@ -1,0 +1,8 @@
+//! The instruction set RV32IMA as definitions: instructions and their words, threads, memory and stores, one
+//! instruction, and a run of them; with the plain types that these speak of.
+#![tactic(auto)]
+
+pub mod field;
+pub mod instr;
+pub mod plan;
+pub mod thread;
