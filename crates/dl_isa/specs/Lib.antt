@@ -1,0 +1,3 @@
+pub mod Places
+pub use Rattle.spec_isa.specs.Encoding
+pub use Rattle.spec_isa.specs.Denoted
