@@ -1,0 +1,21 @@
+//! Threads, and one instruction of a thread over any view of a memory: callers see a thread as its parts.
+#![tactic(auto)]
+
+mod access;
+mod answer;
+mod arithmetic;
+mod instruction;
+mod plan;
+mod refusal;
+mod row;
+mod sight;
+mod state;
+#[cfg(test)]
+mod tests;
+
+pub use answer::Did;
+pub use instruction::one;
+pub use row::Threads;
+pub use sight::{Full, View};
+pub use spec_isa::thread::{Kind, Load, Parts, ThreadStatus};
+pub use state::Thread;

@@ -1,0 +1,111 @@
+//! Why a plan is serial, and so is not carried out.
+ghost use Rattle.std.specs.Prelude.{◌≡◌, ◌<◌};
+ghost use Rattle.spec_isa.specs.Planned.{is_device_load, is_device_store, load_refusal, load_size, refuses, store_refusal, store_size};
+ghost use Rattle.spec_isa.specs.Words.{is_inside};
+
+use spec_isa::instr::{LoadOp, StoreOp};
+use spec_isa::plan::Plan;
+use spec_isa::thread::Kind;
+
+// Why a plan is serial in a memory of `size` bytes.
+pub(crate) fn refusal(plan: &Plan, size: u32) -> Option<Kind>
+    ensures { result ≡ refuses size plan.now }
+{
+    match *plan {
+        Plan::Go { pc, .. } => (pc % 4 != 0).then_some(Kind::Fault(0)),
+        Plan::Stop(kind) => Some(kind),
+        Plan::Load { op, addr, .. } => refused_load(
+            size,
+            load_width(op),
+            addr,
+            reads_device(op, addr),
+        ),
+        Plan::Store { op, addr, .. } => refused_store(
+            size,
+            store_width(op),
+            addr,
+            writes_device(op, addr),
+        ),
+        Plan::LoadReserved { addr, .. } => refused_load(size, 4, addr, false),
+        Plan::StoreConditional { addr, .. } | Plan::Amo { addr, .. } => refused_store(
+            size, 4, addr, false,
+        ),
+    }
+}
+
+// Why a load of `width` bytes is serial.
+fn refused_load(size: u32, width: u32, addr: u32, is_device: bool) -> Option<Kind>
+    requires { 0 < width }
+    ensures { result ≡ load_refusal size width addr is_device }
+{
+    if addr % width != 0 {
+        Some(Kind::Fault(4))
+    } else if is_device {
+        Some(Kind::DeviceLoad)
+    } else {
+        (!has_word(size, addr)).then_some(Kind::Fault(5))
+    }
+}
+
+// Why a store of `width` bytes is serial.
+fn refused_store(size: u32, width: u32, addr: u32, is_device: bool) -> Option<Kind>
+    requires { 0 < width }
+    ensures { result ≡ store_refusal size width addr is_device }
+{
+    if addr % width != 0 {
+        Some(Kind::Fault(6))
+    } else if is_device {
+        Some(Kind::DeviceStore)
+    } else {
+        (!has_word(size, addr)).then_some(Kind::Fault(7))
+    }
+}
+
+// Whether the word of that byte is in a memory of `size` bytes.
+pub(crate) fn has_word(size: u32, addr: u32) -> bool
+    ensures { result ≡ is_inside size addr }
+{
+    size >= 4 && addr / 4 * 4 <= size - 4
+}
+
+// LW alone reads a device, the moment or the next input byte.
+fn reads_device(op: LoadOp, addr: u32) -> bool
+    ensures { result ≡ is_device_load op addr }
+{
+    match op {
+        LoadOp::Lw => addr == 0xF000_0000 || addr == 0xF000_0004,
+        LoadOp::Lb | LoadOp::Lh | LoadOp::Lbu | LoadOp::Lhu => false,
+    }
+}
+
+// SW alone writes a device, the console.
+fn writes_device(op: StoreOp, addr: u32) -> bool
+    ensures { result ≡ is_device_store op addr }
+{
+    match op {
+        StoreOp::Sw => addr == 0xF000_0008,
+        StoreOp::Sb | StoreOp::Sh => false,
+    }
+}
+
+fn load_width(op: LoadOp) -> u32
+    ensures value { result ≡ load_size op }
+    ensures some { 0 < result }
+{
+    match op {
+        LoadOp::Lb | LoadOp::Lbu => 1,
+        LoadOp::Lh | LoadOp::Lhu => 2,
+        LoadOp::Lw => 4,
+    }
+}
+
+fn store_width(op: StoreOp) -> u32
+    ensures value { result ≡ store_size op }
+    ensures some { 0 < result }
+{
+    match op {
+        StoreOp::Sb => 1,
+        StoreOp::Sh => 2,
+        StoreOp::Sw => 4,
+    }
+}

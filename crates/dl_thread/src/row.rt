@@ -1,0 +1,78 @@
+//! The threads of a sphere, by number.
+ghost use Rattle.std.specs.Prelude.{◌≡◌, ◌%◌, ◌<◌, ◌≤◌, List, [], ◌∷◌, ◌++◌, length, slice_get, slice_set, option_copied, nat_lt, if◌then◌else◌};
+ghost use Rattle.spec_isa.specs.Threads.{started};
+
+use crate::state::Thread;
+use std::marker::Model;
+
+/// The threads of a sphere, at least 1 and at most 15, seen as the list of their parts.
+#[derive(Debug, Drop)]
+pub struct Threads {
+    row: [Thread; 15],
+    len: u8,
+}
+
+impl Model for Threads {
+    ghost use Rattle.std.specs.Prelude.{◌≡◌, ◌<◌, ◌≤◌, List, length, take};
+    ghost use Rattle.spec_isa.specs.declared.thread.Parts.{Parts};
+
+    ghost Value = { List Parts };
+
+    ghost view = { λ a. take a.len a.row };
+
+    ghost invariant = { λ a. (0 < a.len) × (a.len ≤ 15) × (length a.row ≡ 15) };
+}
+
+impl Threads {
+    /// Thread 0 alone, at `entry`.
+    pub fn start(entry: u32) -> Self
+        requires { entry % 4 ≡ 0 }
+        ensures { result ≡ started entry ∷ [] }
+    {
+        Threads {
+            row: [Thread::started(entry); 15],
+            len: 1,
+        }
+    }
+
+    /// How many there are.
+    pub fn len(&self) -> u8
+        ensures value { result ≡ length self.now }
+        ensures some { 0 < result }
+        ensures few { result ≤ 15 }
+    {
+        self.len
+    }
+
+    /// Thread `n`, if there is one.
+    pub fn get(&self, n: u8) -> Option<&Thread>
+        ensures { option_copied result ≡ slice_get self.now n }
+    {
+        if n < self.len {
+            Some(&self.row[n as usize])
+        } else {
+            None
+        }
+    }
+
+    /// Puts `thread` in the place of thread `n`.
+    pub fn set(&mut self, n: u8, thread: &Thread)
+        requires { n < length self.old }
+        ensures { self.new ≡ slice_set self.old n thread.now }
+    {
+        self.row[n as usize] = *thread;
+    }
+
+    /// Adds a thread at the end. False, with nothing changed, where there are 15.
+    pub fn add(&mut self, thread: &Thread) -> bool
+        ensures added { result ≡ nat_lt (length self.old) 15 }
+        ensures threads { self.new ≡ (if result then self.old ++ thread.now ∷ [] else self.old) }
+    {
+        if self.len == 15 {
+            return false;
+        }
+        self.row[self.len as usize] = *thread;
+        self.len += 1;
+        true
+    }
+}

@@ -1,0 +1,49 @@
+//! A memory as one thread sees it, which is all that an instruction needs of it.
+ghost use Rattle.std.specs.Prelude.{◌≡◌, ℕ, ◌/◌, false, length, OnOk, OnErr};
+ghost use Rattle.spec_isa.specs.Words.{Stored};
+ghost use Rattle.spec_isa.specs.Masks.{bytes_of};
+ghost use Rattle.dl_thread.specs.Sight.{Sight, IsWord, Answers, Lays};
+
+/// There is no room for a store to a new word.
+#[derive(Clone, Copy, Debug, PartialEq, Eq)]
+pub struct Full;
+
+/// A memory as one thread sees it. Calls take the byte address of a word; what is said of them goes by its number.
+pub trait View {
+    /// What it shows.
+    ghost sight: { Self → Sight };
+
+    /// How it changes where a word is read.
+    ghost Read: { Self → ℕ → Self → Type 0 };
+
+    /// How it changes by a store.
+    ghost Wrote: { Self → Stored → Self → Type 0 };
+
+    /// The number of bytes that it shows.
+    fn size(&self) -> u32
+        ensures { result ≡ length (sight self.now).bytes };
+
+    /// The word at `addr`, to be run; or the flight that holds it up.
+    fn fetch(&mut self, addr: u32) -> Result<u32, u8>
+        requires { IsWord (length (sight self.old).bytes) addr }
+        ensures value { Answers (sight self.old) (addr / 4) result }
+        ensures same { sight self.new ≡ sight self.old }
+        ensures read { OnOk result (Read self.old (addr / 4) self.new) }
+        ensures held { OnErr result (self.new ≡ self.old) };
+
+    /// The word at `word`, to be loaded; or the flight that holds it up.
+    fn load(&mut self, word: u32) -> Result<u32, u8>
+        requires { IsWord (length (sight self.old).bytes) word }
+        ensures value { Answers (sight self.old) (word / 4) result }
+        ensures same { sight self.new ≡ sight self.old }
+        ensures read { OnOk result (Read self.old (word / 4) self.new) }
+        ensures held { OnErr result (self.new ≡ self.old) };
+
+    /// Stores those bytes of `value` whose bits `mask` has, bit 0 being that of the lowest byte, into the word at `word`.
+    fn store(&mut self, word: u32, mask: u8, value: u32) -> Result<(), Full>
+        requires { IsWord (length (sight self.old).bytes) word }
+        ensures laid { OnOk result (Lays (sight self.old) (bytes_of (word / 4) mask value) (sight self.new)) }
+        ensures wrote { OnOk result (Wrote self.old (bytes_of (word / 4) mask value) self.new) }
+        ensures full { OnErr result ((sight self.old).room (word / 4) ≡ false) }
+        ensures same { OnErr result (self.new ≡ self.old) };
+}
