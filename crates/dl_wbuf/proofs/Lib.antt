@@ -1,0 +1,4 @@
+pub mod LaneLaws
+pub mod Lasts
+pub mod Places
+pub mod Puts

@@ -1,0 +1,9 @@
+//! A write buffer: the stores of a chunk that is not in memory yet, seen as a list of words in the order of their first store.
+#![tactic(auto)]
+
+pub mod buffer;
+mod lanes;
+pub mod stored;
+
+pub use buffer::{Buffer, Full};
+pub use stored::Stored;
