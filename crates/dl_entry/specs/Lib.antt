@@ -1,0 +1,3 @@
+pub mod Actor
+pub mod ReplyName
+pub mod Counts

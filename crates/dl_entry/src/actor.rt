@@ -1,0 +1,22 @@
+//! Who commits.
+ghost use Rattle.std.specs.Prelude.{◌≡◌};
+ghost use Rattle.dl_entry.specs.Actor.{code};
+
+/// Who commits: a thread by its number, or a sphere's DMA.
+#[derive(Clone, Copy, Debug, PartialEq, Eq)]
+pub enum Actor {
+    Thread(u8),
+    Dma,
+}
+
+impl Actor {
+    /// The actor as logs and texts write it: a thread's number, or 15 for a DMA.
+    pub fn code(self) -> u8
+        ensures { result ≡ code self }
+    {
+        match self {
+            Actor::Thread(number) => number,
+            Actor::Dma => 15,
+        }
+    }
+}

@@ -1,0 +1,20 @@
+//! The one refusal without a cause.
+use std::alloc::{AllocError, AllocFailed};
+use thiserror::Error;
+
+/// No memory was left for what the call was to hold.
+#[derive(Clone, Copy, Debug, PartialEq, Eq, Error)]
+#[error("out of memory")]
+pub struct OutOfMemory;
+
+impl From<AllocError> for OutOfMemory {
+    fn from(_: AllocError) -> OutOfMemory {
+        OutOfMemory
+    }
+}
+
+impl<T: Drop> From<AllocFailed<T>> for OutOfMemory {
+    fn from(_: AllocFailed<T>) -> OutOfMemory {
+        OutOfMemory
+    }
+}

@@ -1,0 +1,3 @@
+mod Examples
+mod ReadingExamples
+pub mod Sections

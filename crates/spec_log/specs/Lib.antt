@@ -1,0 +1,6 @@
+pub mod Bytes
+pub mod Head
+pub mod Log
+pub mod Mode
+pub mod Reading
+pub mod Size

@@ -1,0 +1,12 @@
+//! What a log is: its parts with their ranges and orders, whose turn it names, the sizes that it gives, and its bytes.
+#![tactic(auto)]
+
+mod log;
+mod mode_name;
+mod records;
+mod sizes;
+
+pub use log::{Log, LogParts};
+pub use mode_name::ModeName;
+pub use records::{DmaRecord, Interrupt, Order};
+pub use sizes::{ShortSize, Sizes};
