@@ -1,0 +1,6 @@
+mod Laying
+mod Stepping
+mod Serving
+mod Committing
+mod Noting
+mod Events

@@ -1,0 +1,5 @@
+pub mod Machine
+pub mod Serial
+pub mod Promise
+pub mod Logged
+pub mod Bounds
