@@ -1,0 +1,42 @@
+-- What files hold, where it is told: a finite map from names to bytes.
+use Rattle.std.specs.Prelude.{◌≡◌, ◌≢◌, ℕ, List, Option, None, Some, IsSome, IfSome, option_map}
+use Rattle.std.specs.Ordering.{nat_cmp}
+use Rattle.std.specs.Cmp.Lexicographic.{slice_cmp}
+use Rattle.std.specs.FinMap.{FinMap, code, get, insert}
+use Rattle.std.specs.Coded.{Coded, coded_ℕ, coded_list}
+use Rattle.dl_files.specs.Count.{Rose}
+
+-- names and bytes are lists of bytes
+abbrev pub Contents : Type 0
+Contents = FinMap (slice_cmp nat_cmp) (List ℕ)
+
+-- contents are stored as their entries
+abbrev pub contents_code : Coded Contents
+contents_code = code (coded_list coded_ℕ) (coded_list coded_ℕ)
+
+-- where told, these are the name's bytes
+abbrev pub Holds : Option Contents → List ℕ → List ℕ → Type 0
+Holds told name bytes = IfSome told (λ m. get m name ≡ Some bytes)
+
+-- where told, the name is there
+abbrev pub IsThere : Option Contents → List ℕ → Type 0
+IsThere told name = IfSome told (λ m. IsSome (get m name))
+
+-- what the answer Absent shows: a name that is told to be missing, or else a count that rose
+abbrev pub IsAbsent : Option Contents → List ℕ → ℕ → ℕ → Type 0
+IsAbsent None name old new = Rose old new
+IsAbsent (Some m) name old new = (get m name ≡ None) × (new ≡ old)
+
+-- the contents once the name holds these bytes
+abbrev pub with_file : List ℕ → List ℕ → Option Contents → Option Contents
+with_file name bytes told = option_map (λ m. insert m name bytes) told
+
+-- every other name holds what it held
+abbrev pub SameBut : List ℕ → Option Contents → Option Contents → Type 0
+SameBut name None None = Unit {0}
+SameBut name (Some old) (Some new) = (other : List ℕ) → other ≢ name → get new other ≡ get old other
+SameBut name _ _ = ⊥
+
+-- where told, the last fault is at this name
+abbrev pub IsLast : Option (List ℕ) → List ℕ → Type 0
+IsLast last name = IfSome last (λ n. n ≡ name)

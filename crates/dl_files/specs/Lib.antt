@@ -1,0 +1,6 @@
+pub mod Calls
+pub mod Contents
+pub mod Count
+pub mod Entries
+pub mod Staged
+pub mod Taken

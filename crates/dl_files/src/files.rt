@@ -1,0 +1,43 @@
+//! Files that are read and written whole, by name.
+ghost use Rattle.std.specs.Prelude.{◌≡◌, ◌≢◌, ℕ, ◌≤◌, List, Option, IfOk, IfErr, OnOk, IsErrOf};
+ghost use Rattle.dl_files.specs.Contents.{Contents, Holds, IsThere, IsAbsent, IsLast, with_file, SameBut};
+ghost use Rattle.dl_files.specs.Count.{Rose};
+
+use crate::FileError;
+use std::alloc::Global;
+
+/// Files by name. They may tell their contents and the name of their last fault, and count faults.
+pub trait Files {
+    ghost told: { Self → Option Contents };
+
+    ghost last_fault: { Self → Option (List ℕ) };
+
+    ghost count: { Self → ℕ };
+
+    /// How many faults there were. The count never falls, and counts as risen in every call once it
+    /// is `u64::MAX`.
+    fn faults(&self) -> u64
+        ensures { result ≡ count self.now };
+
+    /// The bytes of the file `name`, in memory of `alloc`.
+    fn read(&mut self, alloc: Global, name: &str) -> Result<Vec<u8>, FileError>
+        ensures bytes { IfOk result (λ bytes. Holds (told self.old) name.now bytes.items) }
+        ensures absent { IsErrOf result FileError.Absent
+            → IsAbsent (told self.old) name.now (count self.old) (count self.new) }
+        ensures there { IfErr result (λ e. e ≢ FileError.Absent → IsThere (told self.old) name.now) }
+        ensures failed { IsErrOf result FileError.Failed → Rose (count self.old) (count self.new) }
+        ensures last { IsErrOf result FileError.Failed → IsLast (last_fault self.new) name.now }
+        ensures kept { told self.new ≡ told self.old }
+        ensures counted { count self.old ≤ count self.new };
+
+    /// Makes `bytes` the bytes of the file `name`. After `Failed` nothing is known of that file alone.
+    fn write(&mut self, name: &str, bytes: &[u8]) -> Result<(), FileError>
+        ensures written { OnOk result (told self.new ≡ with_file name.now bytes.now (told self.old)) }
+        ensures memory { IsErrOf result FileError.OutOfMemory → told self.new ≡ told self.old }
+        ensures others { IsErrOf result FileError.Failed
+            → SameBut name.now (told self.old) (told self.new) }
+        ensures not_absent { IfErr result (λ e. e ≢ FileError.Absent) }
+        ensures failed { IsErrOf result FileError.Failed → Rose (count self.old) (count self.new) }
+        ensures last { IsErrOf result FileError.Failed → IsLast (last_fault self.new) name.now }
+        ensures counted { count self.old ≤ count self.new };
+}

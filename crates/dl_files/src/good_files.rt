@@ -1,0 +1,79 @@
+//! Files in memory that never fail.
+ghost use Rattle.std.specs.Prelude.{◌≡◌, ◌↔◌, None, Some, IfOk, IfErr, OnOk, OnErr, IsErrOf};
+ghost use Rattle.std.specs.FinMap.{empty, get, insert};
+ghost use Rattle.dl_files.specs.Entries.{contents_of};
+
+use crate::store::Store;
+use crate::{FileError, Files};
+use std::alloc::Global;
+use std::marker::Model;
+
+/// Files in memory, seen as their contents. They have no faults: the count is 0 and no call fails.
+/// The only refusals are that a name is absent and that there is no memory.
+#[derive(Drop)]
+pub struct GoodFiles {
+    store: Store,
+}
+
+impl Model for GoodFiles {
+    ghost use Rattle.dl_files.specs.Contents.{Contents, contents_code};
+    ghost use Rattle.dl_files.specs.Entries.{contents_of};
+
+    ghost Value = { Contents };
+
+    ghost coded = { contents_code };
+
+    ghost view = { λ files. contents_of files.store };
+}
+
+impl GoodFiles {
+    /// No files, which are to be kept in memory of `alloc`.
+    pub fn new(alloc: Global) -> Self
+        ensures { result ≡ empty }
+    {
+        Self {
+            store: Store::new(alloc),
+        }
+    }
+
+    pub(crate) fn into_store(self) -> Store
+        ensures { contents_of result ≡ self }
+    {
+        self.store
+    }
+}
+
+impl Files for GoodFiles {
+    ghost told = { λ files. Some files };
+
+    ghost last_fault = { λ _. None };
+
+    ghost count = { λ _. 0 };
+
+    fn faults(&self) -> u64
+        ensures { result ≡ 0 }
+    {
+        0
+    }
+
+    fn read(&mut self, alloc: Global, name: &str) -> Result<Vec<u8>, FileError>
+        ensures bytes { IfOk result (λ bytes. get self.old name.now ≡ Some bytes.items) }
+        ensures absent { IsErrOf result FileError.Absent ↔ (get self.old name.now ≡ None) }
+        ensures never { IsErrOf result FileError.Failed → ⊥ }
+        ensures kept { self.new ≡ self.old }
+    {
+        match self.store.place(name) {
+            Some(place) => Ok(Vec::from_slice(alloc, self.store.bytes(place))?),
+            None => Err(FileError::Absent),
+        }
+    }
+
+    fn write(&mut self, name: &str, bytes: &[u8]) -> Result<(), FileError>
+        ensures written { OnOk result (self.new ≡ insert self.old name.now bytes.now) }
+        ensures only { IfErr result (λ e. e ≡ FileError.OutOfMemory) }
+        ensures same { OnErr result (self.new ≡ self.old) }
+    {
+        self.store.put(name, bytes)?;
+        Ok(())
+    }
+}

@@ -1,0 +1,27 @@
+//! The outside of the tool: files and a sink as traits, over which everything above is proved, with
+//! ones in memory, ones in memory whose calls fail as a list says, and the real ones.
+#![tactic(auto)]
+
+mod calls;
+mod error;
+mod files;
+mod good_files;
+mod good_sink;
+mod mem_files;
+mod mem_sink;
+mod real_files;
+mod sink;
+mod std_sink;
+mod store;
+#[cfg(test)]
+mod tests;
+
+pub use error::{FileError, SinkError};
+pub use files::Files;
+pub use good_files::GoodFiles;
+pub use good_sink::GoodSink;
+pub use mem_files::MemFiles;
+pub use mem_sink::MemSink;
+pub use real_files::RealFiles;
+pub use sink::Sink;
+pub use std_sink::StdSink;

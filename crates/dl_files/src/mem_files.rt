@@ -1,0 +1,123 @@
+//! Files in memory whose calls fail as a list says.
+ghost use Rattle.std.specs.Prelude.{◌≡◌, ◌≢◌, ◌↔◌, None, Some, IsSome, IfOk, IfErr, OnOk, IsErrOf};
+ghost use Rattle.std.specs.FinMap.{get, insert};
+ghost use Rattle.dl_files.specs.Calls.{unmade, FailsNext, passed, faulted};
+ghost use Rattle.dl_files.specs.Contents.{SameBut};
+
+use crate::calls::Calls;
+use crate::store::Store;
+use crate::{FileError, Files, GoodFiles};
+use std::alloc::Global;
+use std::marker::Model;
+
+/// Files in memory some of whose calls fail. Calls of `read` and `write` are numbered together, from 0
+/// in the order in which they are made. A read of an absent name takes no number, since the name is
+/// looked up first, and nor does a call that finds no memory.
+#[derive(Drop)]
+pub struct MemFiles {
+    store: Store,
+    calls: Calls,
+    // The place in the store of the last fault's name.
+    last: Option<usize>,
+}
+
+impl Model for MemFiles {
+    ghost use Rattle.std.specs.Prelude.{◌<◌, length, IfSome, option_and_then};
+    ghost use Rattle.dl_files.specs.Entries.{contents_of, name_at};
+    ghost use Rattle.dl_files.specs.Staged.{StagedFiles, staged_files_code};
+
+    ghost Value = { StagedFiles };
+
+    ghost coded = { staged_files_code };
+
+    ghost view = { λ files. record {
+      contents = contents_of files.store;
+      calls = files.calls;
+      last_fault = option_and_then (name_at files.store) files.last;
+    } };
+
+    ghost invariant = { λ files. IfSome files.last (λ place. place < length files.store) };
+}
+
+impl MemFiles {
+    /// These files, of which the calls whose numbers `failing` lists are to fail. Where there is no
+    /// memory the files are given up.
+    pub fn new(alloc: Global, files: GoodFiles, failing: &[u64]) -> Result<Self, FileError>
+        ensures ok { IfOk result (λ mem. mem ≡ record {
+          contents = files;
+          calls = unmade failing.now;
+          last_fault = None;
+        }) }
+        ensures only { IfErr result (λ e. e ≡ FileError.OutOfMemory) }
+    {
+        Ok(Self {
+            calls: Calls::new(alloc, failing)?,
+            store: files.into_store(),
+            last: None,
+        })
+    }
+}
+
+impl Files for MemFiles {
+    ghost told = { λ files. Some files.contents };
+
+    ghost last_fault = { λ files. files.last_fault };
+
+    ghost count = { λ files. files.calls.faults };
+
+    fn faults(&self) -> u64 {
+        self.calls.faults()
+    }
+
+    fn read(&mut self, alloc: Global, name: &str) -> Result<Vec<u8>, FileError>
+        ensures bytes { IfOk result (λ bytes. get self.old.contents name.now ≡ Some bytes.items) }
+        ensures absent { IsErrOf result FileError.Absent ↔ (get self.old.contents name.now ≡ None) }
+        ensures passes { OnOk result (FailsNext self.old.calls → ⊥) }
+        ensures fails { IsErrOf result FileError.Failed → FailsNext self.old.calls }
+        ensures ok { OnOk result (self.new ≡ record self.old { calls = passed self.old.calls }) }
+        ensures fault { IsErrOf result FileError.Failed → self.new ≡ record self.old {
+          calls = faulted self.old.calls;
+          last_fault = Some name.now;
+        } }
+        ensures same { IfErr result (λ e. e ≢ FileError.Failed → self.new ≡ self.old) }
+    {
+        let Some(place) = self.store.place(name) else {
+            return Err(FileError::Absent);
+        };
+        if self.calls.fails_next() {
+            self.calls.fault();
+            self.last = Some(place);
+            return Err(FileError::Failed);
+        }
+        let bytes = Vec::from_slice(alloc, self.store.bytes(place))?;
+        self.calls.pass();
+        Ok(bytes)
+    }
+
+    fn write(&mut self, name: &str, bytes: &[u8]) -> Result<(), FileError>
+        ensures passes { OnOk result (FailsNext self.old.calls → ⊥) }
+        ensures fails { IsErrOf result FileError.Failed → FailsNext self.old.calls }
+        ensures written { OnOk result (self.new ≡ record self.old {
+          contents = insert self.old.contents name.now bytes.now;
+          calls = passed self.old.calls;
+        }) }
+        ensures others { IsErrOf result FileError.Failed
+            → SameBut name.now (Some self.old.contents) (Some self.new.contents) }
+        ensures fault { IsErrOf result FileError.Failed → self.new ≡ record self.new {
+          calls = faulted self.old.calls;
+          last_fault = Some name.now;
+        } }
+        ensures same { IsErrOf result FileError.OutOfMemory → self.new ≡ self.old }
+        ensures not_absent { IfErr result (λ e. e ≢ FileError.Absent) }
+    {
+        if self.calls.fails_next() {
+            let place = self.store.touch(name)?;
+            self.calls.fault();
+            self.last = Some(place);
+            return Err(FileError::Failed);
+        }
+        self.store.put(name, bytes)?;
+        self.calls.pass();
+        Ok(())
+    }
+}
