@@ -1,0 +1,28 @@
+-- Texts of numbered entries, one entry after another.
+use Rattle.std.proofs.Common.{◌≡◌, ℕ, ◌+◌, ◌<◌, List, [], ◌∷◌, ◌++◌, length, take, get_or, sym, ap, ◌∙◌, arith}
+use Rattle.std.proofs.lemmas.List.{append_assoc, append-nil, length-take-le}
+use Rattle.std.proofs.lemmas.Grind.{take_at_read}
+use Rattle.dl_account.specs.Lines.{numbered}
+
+-- one more entry at the end has the number after those before it
+pub numbered-push : {X : Type 0} (text : ℕ → X → List ℕ) (n : ℕ) (xs : List X) (x : X) → numbered text n (xs ++ x ∷ []) ≡ numbered text n xs ++ text (n + length xs) x
+numbered-push text n [] x = append-nil (text n x) ∙ ap (λ (k : ℕ). text k x) (omega arith)
+numbered-push text n (y ∷ ys) x =
+    ap (λ (rest : List ℕ). text n y ++ rest) (numbered-push text (n + 1) ys x)
+    ∙ ap (λ (k : ℕ). text n y ++ (numbered text (n + 1) ys ++ text k x)) (omega arith)
+    ∙ sym (append_assoc (text n y) (numbered text (n + 1) ys) (text (n + length (y ∷ ys)) x))
+
+-- the text of the first i entries, and the next entry's
+pub numbered_more : {X : Type 0} (text : ℕ → X → List ℕ) (old : List ℕ) (xs : List X) (i : ℕ) (d : X) → i < length xs → old ++ numbered text 0 (take i xs) ++ text i (get_or xs i d) ≡ old ++ numbered text 0 (take (i + 1) xs)
+numbered_more text old xs i d here =
+    let number : 0 + length (take i xs) ≡ i = omega (arith, length-take-le i xs) in
+    append_assoc old (numbered text 0 (take i xs)) (text i (get_or xs i d))
+    ∙ ap (λ (rest : List ℕ). old ++ rest)
+    (ap (λ (k : ℕ). numbered text 0 (take i xs) ++ text k (get_or xs i d)) (sym number)
+    ∙ sym (numbered-push text 0 (take i xs) (get_or xs i d))
+    ∙ ap (λ (some : List _). numbered text 0 some) (sym (take_at_read xs i d here).1))
+
+-- the same, where the entry was read
+pub numbered_read : {X : Type 0} (text : ℕ → X → List ℕ) (old : List ℕ) (xs : List X) (i : ℕ) (x : X) → i < length xs → x ≡ get_or xs i x → old ++ numbered text 0 (take i xs) ++ text i x ≡ old ++ numbered text 0 (take (i + 1) xs)
+numbered_read text old xs i x here read =
+    ap (λ (y : _). old ++ numbered text 0 (take i xs) ++ text i y) read ∙ numbered_more text old xs i x here

@@ -1,0 +1,62 @@
+//! The lines of commits: each one, its loads and its outputs.
+ghost use Rattle.std.specs.Prelude.{◌≡◌, ◌++◌, flat_map, OnOk};
+ghost use Rattle.dl_account.specs.Commits.{commit_lines, load_line, output_line};
+ghost use Rattle.dl_account.specs.Lines.{numbered};
+
+use crate::text::Text;
+use dl_entry::{Commit, Load, OutOfMemory, Output};
+
+pub(crate) fn put_commits(text: &mut Text, commits: &[Commit]) -> Result<(), OutOfMemory>
+    ensures { OnOk result (text.new ≡ text.old ++ numbered commit_lines 0 commits.now) }
+{
+    for (index, commit) in commits.iter().enumerate() {
+        put_commit(text, index, commit)?;
+    }
+    Ok(())
+}
+
+fn put_commit(text: &mut Text, index: usize, commit: &Commit) -> Result<(), OutOfMemory>
+    ensures { OnOk result (text.new ≡ text.old ++ commit_lines index commit.now) }
+{
+    text.put(b"c")?;
+    text.put_number(index as u64)?;
+    text.put_number(u64::from(commit.actor.code()))?;
+    text.put_number(u64::from(commit.size))?;
+    text.put(b"\n")?;
+    put_loads(text, commit.loads.as_slice())?;
+    put_outputs(text, commit.outputs.as_slice())
+}
+
+fn put_loads(text: &mut Text, loads: &[Load]) -> Result<(), OutOfMemory>
+    ensures { OnOk result (text.new ≡ text.old ++ flat_map load_line loads.now) }
+{
+    for load in loads {
+        text.put(b"l")?;
+        text.put_hex_word(load.address)?;
+        text.put_hex_word(load.value)?;
+        text.put(b"\n")?;
+    }
+    Ok(())
+}
+
+fn put_outputs(text: &mut Text, outputs: &[Output]) -> Result<(), OutOfMemory>
+    ensures { OnOk result (text.new ≡ text.old ++ flat_map output_line outputs.now) }
+{
+    for output in outputs {
+        put_output(text, output)?;
+    }
+    Ok(())
+}
+
+fn put_output(text: &mut Text, output: &Output) -> Result<(), OutOfMemory>
+    ensures { OnOk result (text.new ≡ text.old ++ output_line output.now) }
+{
+    let bytes = output.bytes.as_slice();
+    if bytes.is_empty() {
+        return Ok(());
+    }
+    text.put(b"o")?;
+    text.put_number(u64::from(output.channel))?;
+    text.put_hex_bytes(bytes)?;
+    text.put(b"\n")
+}

@@ -1,0 +1,16 @@
+//! The texts of a run, byte for byte: each sphere's account, the report and the summary.
+#![tactic(auto)]
+
+mod account;
+mod commits;
+mod memory;
+mod replays;
+mod replies;
+mod report;
+mod summary;
+mod text;
+mod threads;
+
+pub use account::account_text;
+pub use report::report_text;
+pub use summary::summary_text;

@@ -1,0 +1,132 @@
+//! A text that is being written, seen as the bytes so far. What is there after a want of memory is of no use.
+ghost use Rattle.std.specs.Prelude.{◌≡◌, ◌<◌, [], ◌∷◌, ◌++◌, true, decimal, OnOk};
+ghost use Rattle.std.specs.Fmt.{digit_glyph};
+ghost use Rattle.dl_account.specs.Lines.{spaced, hex_byte, hex_bytes, hex_word};
+
+use dl_entry::OutOfMemory;
+use std::alloc::Global;
+use std::marker::Model;
+
+#[derive(Drop)]
+pub(crate) struct Text {
+    bytes: Vec<u8>,
+}
+
+impl Model for Text {
+    ghost use Rattle.std.specs.Prelude.{ℕ, List};
+
+    ghost Value = { List ℕ };
+
+    ghost view = { λ t. t.bytes.items };
+}
+
+impl Text {
+    // A text with nothing in it.
+    pub(crate) fn new(alloc: Global) -> Text
+        ensures { result ≡ [] }
+    {
+        Text {
+            bytes: Vec::new(alloc),
+        }
+    }
+
+    // The text as it is.
+    pub(crate) fn into_bytes(self) -> Vec<u8>
+        ensures { result.items ≡ self }
+    {
+        let Text { bytes } = self;
+        bytes
+    }
+
+    // These bytes as they are: a line's name, or a line feed.
+    pub(crate) fn put(&mut self, bytes: &[u8]) -> Result<(), OutOfMemory>
+        ensures { OnOk result (self.new ≡ self.old ++ bytes.now) }
+    {
+        self.bytes.extend_from_slice(bytes)?;
+        Ok(())
+    }
+
+    // A field that is a word.
+    pub(crate) fn put_word(&mut self, word: &[u8]) -> Result<(), OutOfMemory>
+        ensures { OnOk result (self.new ≡ self.old ++ spaced word.now) }
+    {
+        self.put_byte(b' ')?;
+        self.put(word)
+    }
+
+    // A field that is a number.
+    pub(crate) fn put_number(&mut self, n: u64) -> Result<(), OutOfMemory>
+        ensures { OnOk result (self.new ≡ self.old ++ spaced (decimal n)) }
+    {
+        self.put_large_number(u128::from(n))
+    }
+
+    // A field that is a number past 64 bits.
+    pub(crate) fn put_large_number(&mut self, n: u128) -> Result<(), OutOfMemory>
+        ensures { OnOk result (self.new ≡ self.old ++ spaced (decimal n)) }
+    {
+        self.put_byte(b' ')?;
+        self.put_digits(n)
+    }
+
+    // Two fields: a word, and a number of what it names.
+    pub(crate) fn put_count(&mut self, word: &[u8], n: u32) -> Result<(), OutOfMemory>
+        ensures { OnOk result (self.new ≡ self.old ++ spaced word.now ++ spaced (decimal n)) }
+    {
+        self.put_word(word)?;
+        self.put_number(u64::from(n))
+    }
+
+    // A field that is an address or a register.
+    #[tactic(auto, unfolding(crate::specs::Lines::hex_word))]
+    pub(crate) fn put_hex_word(&mut self, word: u32) -> Result<(), OutOfMemory>
+        ensures { OnOk result (self.new ≡ self.old ++ spaced (hex_word word)) }
+    {
+        self.put_hex_bytes(&word.to_be_bytes())
+    }
+
+    // A field that is bytes.
+    pub(crate) fn put_hex_bytes(&mut self, bytes: &[u8]) -> Result<(), OutOfMemory>
+        ensures { OnOk result (self.new ≡ self.old ++ spaced (hex_bytes bytes.now)) }
+    {
+        self.put_byte(b' ')?;
+        for byte in bytes {
+            self.put_hex_byte(*byte)?;
+        }
+        Ok(())
+    }
+
+    // The decimal digits of a number: those before the last one, and that.
+    pub(crate) fn put_digits(&mut self, n: u128) -> Result<(), OutOfMemory>
+        ensures { OnOk result (self.new ≡ self.old ++ decimal n) }
+    {
+        if n >= 10 {
+            self.put_digits(n / 10)?;
+        }
+        self.put_byte(b'0' + (n % 10) as u8)
+    }
+
+    // The two hexadecimal digits of a byte.
+    fn put_hex_byte(&mut self, byte: u8) -> Result<(), OutOfMemory>
+        ensures { OnOk result (self.new ≡ self.old ++ hex_byte byte) }
+    {
+        self.put_byte(hex_digit(byte / 16))?;
+        self.put_byte(hex_digit(byte % 16))
+    }
+
+    // One byte.
+    fn put_byte(&mut self, byte: u8) -> Result<(), OutOfMemory>
+        ensures { OnOk result (self.new ≡ self.old ++ byte ∷ []) }
+    {
+        self.bytes.push(byte)?;
+        Ok(())
+    }
+}
+
+// The upper-case hexadecimal digit of a number below 16.
+fn hex_digit(n: u8) -> u8
+    requires { n < 16 }
+    ensures { result ≡ digit_glyph true n }
+{
+    if n < 10 { b'0' + n } else { b'A' + (n - 10) }
+}
