@@ -1,0 +1,10 @@
+use Rattle.std.proofs.Common.{◌∙◌, sym, length, nat_eq, not, rules, tests}
+use Rattle.std.proofs.lemmas.Iterator.{YieldsList-from_slice}
+use Rattle.std.proofs.lemmas.Iterator.Search.{all_from_yields_List}
+use Rattle.std.proofs.lemmas.List.Folds.{list_all-map}
+use Rattle.dl_plan.proofs.names.none_is_empty.Goals as goal
+
+pub returns : goal.returns
+returns c =
+    all_from_yields_List (λ n. not (nat_eq (length n.now) 0)) _ _ _ c.all.ensures.ran (YieldsList-from_slice c.args.names.now cc) (λ x b q k. search (rules, tests))
+    ∙ sym (list_all-map (λ n. not (nat_eq (length n) 0)) (λ n. n.now) c.args.names.now)

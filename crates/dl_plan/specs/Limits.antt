@@ -1,0 +1,16 @@
+-- The limits of a plan's numbers.
+use Rattle.std.specs.Prelude.{ℕ, ◌==◌, ◌%◌, nat_le, ℤ, pos, negsuc, Bool, ◌&&◌, [], ◌∷◌, Option, Some, None, if◌then◌else◌}
+use Rattle.std.specs.List.{list_any}
+
+-- the number, where it stands from `low` to `high`
+abbrev pub limited : ℕ → ℕ → ℤ → Option ℕ
+limited low high (pos n) = if nat_le low n && nat_le n high then Some n else None
+limited low high (negsuc n) = None
+
+-- a power of two from 64 to 2048
+abbrev pub is_signature : ℕ → Bool
+is_signature n = list_any (λ size. n == size) (64 ∷ 128 ∷ 256 ∷ 512 ∷ 1024 ∷ 2048 ∷ [])
+
+-- a multiple of 4096
+abbrev pub is_paged : ℕ → Bool
+is_paged n = n % 4096 == 0
