@@ -1,0 +1,5 @@
+mod Putting
+mod Stopping
+mod Storing
+mod Recorded
+mod Finishing

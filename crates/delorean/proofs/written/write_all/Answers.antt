@@ -1,0 +1,33 @@
+use Rattle.std.proofs.Common.{◌<◌, length, Some, Err, ap, sym, ◌∙◌, subst, arith}
+use Rattle.std.specs.Prelude.{IsErrOf}
+use Rattle.dl_files.specs.declared.FileError.{FileError}
+use Rattle.dl_files.specs.Contents.{IsLast}
+use Rattle.delorean.specs.Jobs.{write_of}
+use Rattle.delorean.proofs.Storing.{write_at, written_more, with_file_same, same_but_at}
+use Rattle.delorean.proofs.written.write_all.Goals as goal
+
+pub returns-in-Err-Failed-clause-stop : goal.returns-in-Err-Failed-clause-stop
+returns-in-Err-Failed-clause-stop g c =
+    let within : c.loop-i.i < length c.args.writes.now = omega arith in
+    let is : IsErrOf {T = Unit {0}} {E = FileError} (Err c.in-Err-Failed.field-0) FileError.Failed = ap Err c.in-Err-Failed.field-0-is in (
+      omega (arith, c.in-Err-Failed.ensures.failed is, c.loop-i.invariant.counted),
+      (
+        write_of c.index-writes-i.result,
+        write_at c.args.writes.now c.loop-i.i c.index-writes-i.result within c.index-writes-i.is,
+        subst (IsLast (g.F.Files.last_fault c.write.new.self)) c.as_str.ensures.value (c.in-Err-Failed.ensures.last is),
+        λ m e.
+            same_but_at _ _ _ _ _ c.as_str.ensures.value (c.loop-i.invariant.told m e) (c.in-Err-Failed.ensures.others is),
+      ),
+    )
+
+pub loop-i-preserved : goal.loop-i-preserved
+loop-i-preserved g c =
+    let within : c.loop-i.i < length c.args.writes.now = omega arith in
+    record {
+      told =
+          λ m e.
+          c.in-Ok.ensures.written
+          ∙ with_file_same c.as_str.ensures.value c.deref.ensures.value (c.loop-i.invariant.told m e)
+          ∙ ap Some (sym (written_more c.args.writes.now c.loop-i.i c.index-writes-i.result m within c.index-writes-i.is));
+      counted = omega (arith, c.in-Ok.ensures.counted, c.loop-i.invariant.counted);
+    }

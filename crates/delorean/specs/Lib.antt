@@ -1,0 +1,7 @@
+pub mod Texts
+pub mod Halts
+pub mod Jobs
+pub mod Stops
+pub mod Recordings
+pub mod Ended
+pub mod Performed

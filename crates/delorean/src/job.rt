@@ -1,0 +1,9 @@
+//! What a command is to write and to say, once it is computed.
+use crate::writing::NamedBytes;
+
+/// The files to be written, in their order, and the text for the sink.
+#[derive(Drop)]
+pub struct Job {
+    pub writes: Vec<NamedBytes>,
+    pub text: Vec<u8>,
+}

@@ -1,0 +1,41 @@
+//! The lines that say why a command stops.
+ghost use Rattle.std.specs.Prelude.{◌≡◌, IfOk};
+ghost use Rattle.spec_program.specs.Lines.{usage_line as usage_text, plan_line as plan_text, image_line as image_text, script_line as script_text, absent_line as absent_text, fault_line as fault_text};
+
+use std::alloc::{AllocError, Global};
+
+pub fn usage_line(alloc: Global) -> Result<Vec<u8>, AllocError>
+    ensures { IfOk result (λ line. line.items ≡ usage_text) }
+{
+    Vec::from_slice(alloc, b"usage\n")
+}
+
+pub fn plan_line(alloc: Global, rule: u8) -> Result<Vec<u8>, AllocError>
+    ensures { IfOk result (λ line. line.items ≡ plan_text rule) }
+{
+    Ok(format!(in alloc; "refused plan {rule}\n")?.into_bytes())
+}
+
+pub fn image_line(alloc: Global, sphere: u8, rule: u8) -> Result<Vec<u8>, AllocError>
+    ensures { IfOk result (λ line. line.items ≡ image_text sphere rule) }
+{
+    Ok(format!(in alloc; "refused image {sphere} {rule}\n")?.into_bytes())
+}
+
+pub fn script_line(alloc: Global, number: u64) -> Result<Vec<u8>, AllocError>
+    ensures { IfOk result (λ line. line.items ≡ script_text number) }
+{
+    Ok(format!(in alloc; "refused script {number}\n")?.into_bytes())
+}
+
+pub fn absent_line(alloc: Global, name: &str) -> Result<Vec<u8>, AllocError>
+    ensures { IfOk result (λ line. line.items ≡ absent_text name.now) }
+{
+    Ok(format!(in alloc; "absent {name}\n")?.into_bytes())
+}
+
+pub fn fault_line(alloc: Global, name: &str) -> Result<Vec<u8>, AllocError>
+    ensures { IfOk result (λ line. line.items ≡ fault_text name.now) }
+{
+    Ok(format!(in alloc; "fault {name}\n")?.into_bytes())
+}

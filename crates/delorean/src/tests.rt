@@ -1,0 +1,266 @@
+//! The program over files and sinks in memory, and once over the real ones.
+use crate::top::{delorean, delorean_in_memory};
+use dl_files::{Files, GoodFiles, GoodSink, MemFiles, MemSink, RealFiles, StdSink};
+use spec_program::status::Status;
+use std::alloc::Global;
+use std::fs;
+use std::process::Abort;
+use std::test::Fail;
+
+const PLAN: &[u8] =
+    b"cores = 1\nchunk = 100\nbuffer = 16\nwindow = 2\nsignature = 64\nscript = \"s.txt\"\nreport = \"r.txt\"\n[[sphere]]\nimage = \"a.elf\"\nmemory = 4096\nrole = \"record\"\nmode = \"order-size\"\nlog = \"a.log\"\naccount = \"a.txt\"\n";
+
+const SCRIPT: &[u8] = b"step 0\nstep 0\nstep 0\nask 0\nstep 0\nask 0\n";
+
+// addi x17, x0, 0; addi x10, x0, 7; ecall
+const IMAGE: &[u8] =
+    b"\x7fELF\x01\x01\x01\0\0\0\0\0\0\0\0\0\x02\0\xf3\0\x01\0\0\0\0\0\0\04\0\0\0\0\0\0\0\0\0\0\04\0 \0\x01\0\0\0\0\0\0\0\x01\0\0\0T\0\0\0\0\0\0\0\0\0\0\0\x0c\0\0\0\x0c\0\0\0\x07\0\0\0\x04\0\0\0\x93\x08\0\0\x13\x05p\0s\0\0\0";
+
+const LOG: &[u8] =
+    b"DLRN\x01\0\0\0d\0\0\0\x02\0\0\0\x02\0\0\0\0\x02\0\0\0\x02\0\0\0\0\0\0\0\0\0\0\0\0\0\0\0";
+
+const ACCOUNT: &[u8] =
+    b"c 0 0 2\nc 1 0 0\nt 0 0000000C ended:7 00000000 0 00000000 00000000 00000000 00000000 00000000 00000000 00000000 00000000 00000000 00000007 00000000 00000000 00000000 00000000 00000000 00000000 00000000 00000000 00000000 00000000 00000000 00000000 00000000 00000000 00000000 00000000 00000000 00000000 00000000 00000000 00000000\nm 00000000 9308000013057000730000000000000000000000000000000000000000000000\nend complete 2\n";
+
+const REPORT: &[u8] =
+    b"g 3 0 0 chunk 2\ng 5 0 0 serial 0\nr Ran 2\nr Closed 2\nr Granted 2\nevents 6\ncommits 2\ns 0 record 2\n";
+
+const SUMMARY: &[u8] = b"events 6\ncommits 2\ns 0 record 2\n";
+
+const EMPTY_SUMMARY: &[u8] = b"events 0\ncommits 0\ns 0 record 0\n";
+
+const SMALL_BUFFER: &[u8] =
+    b"cores = 1\nchunk = 100\nbuffer = 1\nwindow = 2\nsignature = 64\nscript = \"s.txt\"\nreport = \"r.txt\"\n[[sphere]]\nimage = \"a.elf\"\nmemory = 4096\nrole = \"record\"\nmode = \"order-size\"\nlog = \"a.log\"\naccount = \"a.txt\"\n";
+
+const OVERFLOW_SCRIPT: &[u8] =
+    b"step 0\nstep 0\nstep 0\nstep 0\nask 0\nstep 0\nstep 0\nstep 0\nask 0\nstep 0\nask 0\n";
+
+// addi x5, x0, 260; sw x5, 256(x0); lr.w x6, (x5); sc.w x7, x5, (x5); addi x17, x0, 0; ecall
+const OVERFLOW_IMAGE: &[u8] =
+    b"\x7fELF\x01\x01\x01\0\0\0\0\0\0\0\0\0\x02\0\xf3\0\x01\0\0\0\0\0\0\04\0\0\0\0\0\0\0\0\0\0\04\0 \0\x01\0\0\0\0\0\0\0\x01\0\0\0T\0\0\0\0\0\0\0\0\0\0\0\x18\0\0\0\x18\0\0\0\x07\0\0\0\x04\0\0\0\x93\x02@\x10# P\x10/\xa3\x02\x10\xaf\xa3R\x18\x93\x08\0\0s\0\0\0";
+
+const OVERFLOW_LOG: &[u8] =
+    b"DLRN\x01\0\0\0d\0\0\0\x03\0\0\0\x03\0\0\0\0\0\x03\0\0\0\x03\0\x02\0\0\0\0\0\0\0\0\0\0\0\0\0\0\0";
+
+const RUN: [&str; 2] = ["run", "plan.toml"];
+
+fn three_instructions(alloc: Global) -> Result<GoodFiles, Fail> {
+    let mut files = GoodFiles::new(alloc);
+    files.write("plan.toml", PLAN)?;
+    files.write("s.txt", SCRIPT)?;
+    files.write("a.elf", IMAGE)?;
+    Ok(files)
+}
+
+fn holds<F: Files>(rt: &impl Abort, alloc: Global, files: &mut F, name: &str, want: &[u8]) {
+    match files.read(alloc, name) {
+        Ok(bytes) => assert_eq!(rt; bytes.as_slice(), want, "{name}"),
+        Err(error) => panic!(rt; "{name}: {error}"),
+    }
+}
+
+#[test]
+fn three_instructions_are_recorded(rt: HostRuntime) -> Result<(), Fail> {
+    let alloc = rt.alloc();
+    let mut files = MemFiles::new(alloc, three_instructions(alloc)?, &[])?;
+    let mut out = MemSink::new(alloc, &[])?;
+    assert_eq!(rt; delorean(alloc, &RUN, &mut files, &mut out), Status::Done);
+    assert_eq!(rt; out.taken(), SUMMARY);
+    for (name, want) in [("a.log", LOG), ("a.txt", ACCOUNT), ("r.txt", REPORT)] {
+        holds(&rt, alloc, &mut files, name, want);
+    }
+    Ok(())
+}
+
+// The row of a store that finds no room: each of the three asks lays its words at once.
+#[test]
+fn an_overflow_closes_the_chunk(rt: HostRuntime) -> Result<(), Fail> {
+    let alloc = rt.alloc();
+    let mut files = three_instructions(alloc)?;
+    files.write("plan.toml", SMALL_BUFFER)?;
+    files.write("s.txt", OVERFLOW_SCRIPT)?;
+    files.write("a.elf", OVERFLOW_IMAGE)?;
+    let mut out = GoodSink::new(alloc);
+    assert_eq!(rt;
+        delorean_in_memory(alloc, &RUN, &mut files, &mut out),
+        Status::Done
+    );
+    holds(&rt, alloc, &mut files, "a.log", OVERFLOW_LOG);
+    Ok(())
+}
+
+#[derive(Clone, Copy)]
+struct Case {
+    name: &'static str,
+    bytes: &'static [u8],
+    status: Status,
+    said: &'static [u8],
+}
+
+// Each case is the first recording with one file changed, what it answers and what it says.
+#[test]
+fn what_is_read_decides_the_answer(rt: HostRuntime) -> Result<(), Fail> {
+    let alloc = rt.alloc();
+    for case in [
+        Case {
+            name: "s.txt",
+            bytes: b"",
+            status: Status::Done,
+            said: EMPTY_SUMMARY,
+        },
+        Case {
+            name: "s.txt",
+            bytes: b"step x",
+            status: Status::Grammar,
+            said: b"refused script 1\n",
+        },
+        Case {
+            name: "s.txt",
+            bytes: b"step 0\n\ncut 0\n",
+            status: Status::Grammar,
+            said: b"refused script 3\n",
+        },
+        Case {
+            name: "a.elf",
+            bytes: b"\x7fELF\x01\x01\x01",
+            status: Status::Image,
+            said: b"refused image 0 0\n",
+        },
+        Case {
+            name: "plan.toml",
+            bytes: b"cores = 9\n",
+            status: Status::Plan,
+            said: b"refused plan 0\n",
+        },
+    ] {
+        let mut files = three_instructions(alloc)?;
+        files.write(case.name, case.bytes)?;
+        let mut files = MemFiles::new(alloc, files, &[])?;
+        let mut out = MemSink::new(alloc, &[])?;
+        assert_eq!(rt; delorean(alloc, &RUN, &mut files, &mut out), case.status);
+        assert_eq!(rt; out.taken(), case.said);
+    }
+    Ok(())
+}
+
+#[derive(Clone, Copy)]
+struct Words {
+    words: &'static [&'static str],
+    status: Status,
+    said: &'static [u8],
+}
+
+// No file but the script is there.
+#[test]
+fn words_and_absent_files_decide_the_answer(rt: HostRuntime) -> Result<(), Fail> {
+    let alloc = rt.alloc();
+    for case in [
+        Words {
+            words: &[],
+            status: Status::Usage,
+            said: b"usage\n",
+        },
+        Words {
+            words: &["run"],
+            status: Status::Usage,
+            said: b"usage\n",
+        },
+        Words {
+            words: &["run", "-x"],
+            status: Status::Usage,
+            said: b"usage\n",
+        },
+        Words {
+            words: &["walk", "plan.toml"],
+            status: Status::Usage,
+            said: b"usage\n",
+        },
+        Words {
+            words: &["run", "p", "q"],
+            status: Status::Usage,
+            said: b"usage\n",
+        },
+        Words {
+            words: &["run", "p"],
+            status: Status::Absent,
+            said: b"absent p\n",
+        },
+        Words {
+            words: &["run", "plan.toml"],
+            status: Status::Absent,
+            said: b"absent a.elf\n",
+        },
+    ] {
+        let mut files = GoodFiles::new(alloc);
+        files.write("plan.toml", PLAN)?;
+        files.write("s.txt", SCRIPT)?;
+        let mut files = MemFiles::new(alloc, files, &[])?;
+        let mut out = MemSink::new(alloc, &[])?;
+        assert_eq!(rt;
+            delorean(alloc, case.words, &mut files, &mut out),
+            case.status
+        );
+        assert_eq!(rt; out.taken(), case.said);
+    }
+    Ok(())
+}
+
+// Three files are read and three are written: each call fails in turn, and the names before it are written whole.
+#[test]
+fn a_call_that_fails_ends_the_work(rt: HostRuntime) -> Result<(), Fail> {
+    let alloc = rt.alloc();
+    for (call, said) in [
+        (0, b"fault plan.toml\n".as_slice()),
+        (1, b"fault s.txt\n".as_slice()),
+        (2, b"fault a.elf\n".as_slice()),
+        (3, b"fault a.log\n".as_slice()),
+        (4, b"fault a.txt\n".as_slice()),
+        (5, b"fault r.txt\n".as_slice()),
+    ] {
+        let mut files = MemFiles::new(alloc, three_instructions(alloc)?, &[call])?;
+        let mut out = MemSink::new(alloc, &[])?;
+        assert_eq!(rt; delorean(alloc, &RUN, &mut files, &mut out), Status::Fault);
+        assert_eq!(rt; out.taken(), said);
+        assert_eq!(rt;
+            files
+                .read(alloc, "a.log")
+                .is_ok_and(|log| log.as_slice() == LOG),
+            call > 3
+        );
+        assert_eq!(rt;
+            files
+                .read(alloc, "a.txt")
+                .is_ok_and(|text| text.as_slice() == ACCOUNT),
+            call > 4
+        );
+    }
+    Ok(())
+}
+
+#[test]
+fn a_sink_that_fails_leaves_the_files_written(rt: HostRuntime) -> Result<(), Fail> {
+    let alloc = rt.alloc();
+    let mut files = MemFiles::new(alloc, three_instructions(alloc)?, &[])?;
+    let mut out = MemSink::new(alloc, &[0])?;
+    assert_eq!(rt; delorean(alloc, &RUN, &mut files, &mut out), Status::Sink);
+    holds(&rt, alloc, &mut files, "a.log", LOG);
+    holds(&rt, alloc, &mut files, "r.txt", REPORT);
+    Ok(())
+}
+
+// The trusted edge: std's own calls write what is read, and find what is written.
+#[test]
+fn real_files_are_read_and_written(rt: HostRuntime) -> Result<(), Fail> {
+    let alloc = rt.alloc();
+    for (name, bytes) in [("plan.toml", PLAN), ("s.txt", SCRIPT), ("a.elf", IMAGE)] {
+        fs::write(&rt, name, bytes)?;
+    }
+    let mut files = RealFiles::new(rt.clone()?);
+    let mut out = StdSink::new(rt.clone()?);
+    assert_eq!(rt; delorean(alloc, &RUN, &mut files, &mut out), Status::Done);
+    for (name, want) in [("a.log", LOG), ("a.txt", ACCOUNT), ("r.txt", REPORT)] {
+        let found = fs::read(&rt, name)?;
+        assert_eq!(rt; found.as_slice(), want, "{name}");
+    }
+    Ok(())
+}

@@ -1,0 +1,104 @@
+//! The program's one call.
+ghost use Rattle.std.specs.Prelude.{◌≡◌, ◌⊎◌, ℕ, List, None, Some, true, false};
+ghost use Rattle.dl_files.specs.Contents.{Contents, IsLast};
+ghost use Rattle.dl_files.specs.Count.{Rose};
+ghost use Rattle.spec_program.specs.declared.status.Status.{Status};
+ghost use Rattle.spec_program.specs.Commands.{command_of};
+ghost use Rattle.spec_program.specs.Ends.{Stands, TookAll, is_refusal, reads_of, status_in, text_in};
+ghost use Rattle.spec_program.specs.Lines.{fault_line as fault_text};
+ghost use Rattle.spec_program.specs.Outcomes.{Finishes, outcome_of};
+ghost use Rattle.delorean.specs.Jobs.{writes_of};
+ghost use Rattle.delorean.specs.Performed.{IsPerformed};
+ghost use Rattle.delorean.specs.Texts.{texts};
+
+use crate::ending::{fail, say, stop};
+use crate::job::Job;
+use crate::preparing::prepare;
+use crate::writing::Stop;
+use crate::written::write_all;
+use dl_files::{Files, GoodFiles, GoodSink, Sink};
+use spec_program::status::Status;
+use std::alloc::Global;
+
+/// Does what the words ask for, over the files and the sink, and answers how that ended.
+///
+/// `run PLAN` records the plan: it writes the log, the account and the report, and puts the summary into the sink.
+pub fn delorean<F: Files, O: Sink>(
+    alloc: Global,
+    words: &[&str],
+    files: &mut F,
+    out: &mut O,
+) -> Status
+    ensures stands { (m : Contents) → F.told files.old ≡ Some m
+        → Stands (outcome_of (texts words.now) m) (reads_of (texts words.now) m) m
+        (F.told files.new) (F.last_fault files.new) (O.taken out.old) (O.taken out.new) result }
+
+    // The line of a refusal, and of a fault, is said whole where the sink's count did not rise.
+    ensures whole { (m : Contents) → F.told files.old ≡ Some m
+        → is_refusal result ≡ true → (Rose (O.count out.old) (O.count out.new) → ⊥)
+        → TookAll (text_in (outcome_of (texts words.now) m)) (O.taken out.old) (O.taken out.new) }
+    ensures fault_said { result ≡ Status.Fault → (Rose (O.count out.old) (O.count out.new) → ⊥)
+        → (name : List ℕ) × IsLast (F.last_fault files.new) name
+        × TookAll (fault_text name) (O.taken out.old) (O.taken out.new) }
+
+    // What each answer shows, also where no contents are told.
+    ensures usage { result ≡ Status.Usage → command_of (texts words.now) ≡ None }
+    ensures no_command { command_of (texts words.now) ≡ None
+        → (result ≡ Status.Usage) ⊎ (result ≡ Status.Memory) }
+    ensures fault { result ≡ Status.Fault → Rose (F.count files.old) (F.count files.new) }
+    ensures sink { result ≡ Status.Sink → Rose (O.count out.old) (O.count out.new) }
+    ensures absent { F.told files.old ≡ None → result ≡ Status.Absent
+        → Rose (F.count files.old) (F.count files.new) }
+
+    // Where no count rose, the answer is the outcome's, or memory ran out.
+    ensures complete { (m : Contents) → F.told files.old ≡ Some m
+        → (Rose (F.count files.old) (F.count files.new) → ⊥)
+        → (Rose (O.count out.old) (O.count out.new) → ⊥)
+        → (result ≡ status_in (outcome_of (texts words.now) m)) ⊎ (result ≡ Status.Memory) }
+{
+    match prepare(alloc, words, files) {
+        Ok(job) => perform(alloc, &job, files, out),
+        Err(halt) => stop(out, halt),
+    }
+}
+
+/// The same over files and a sink in memory that never fail: then no fault is answered, of a file or of the sink.
+pub fn delorean_in_memory(
+    alloc: Global,
+    words: &[&str],
+    files: &mut GoodFiles,
+    out: &mut GoodSink,
+) -> Status
+    ensures outcome { (result ≡ status_in (outcome_of (texts words.now) files.old))
+        ⊎ (result ≡ Status.Memory) }
+    ensures no_fault { result ≡ Status.Fault → ⊥ }
+    ensures no_sink { result ≡ Status.Sink → ⊥ }
+{
+    delorean(alloc, words, files, out)
+}
+
+// Writes the files, and then says the text.
+fn perform<F: Files, O: Sink>(alloc: Global, job: &Job, files: &mut F, out: &mut O) -> Status
+    ensures { IsPerformed (writes_of job.now.writes.items) job.now.text.items
+        (record {
+          told = F.told files.old;
+          faults = F.count files.old;
+          last = F.last_fault files.old;
+          taken = O.taken out.old;
+          sink_faults = O.count out.old;
+        })
+        (record {
+          told = F.told files.new;
+          faults = F.count files.new;
+          last = F.last_fault files.new;
+          taken = O.taken out.new;
+          sink_faults = O.count out.new;
+        })
+        result }
+{
+    match write_all(files, &job.writes) {
+        Ok(()) => say(out, &job.text),
+        Err(Stop::Failed(i)) => fail(alloc, out, job.writes[i].name.as_str()),
+        Err(Stop::OutOfMemory) => Status::Memory,
+    }
+}

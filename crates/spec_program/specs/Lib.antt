@@ -1,0 +1,6 @@
+pub mod Statuses
+pub mod Lines
+pub mod Writes
+pub mod Commands
+pub mod Outcomes
+pub mod Ends

@@ -1,0 +1,108 @@
+-- The outcome of a command where no call fails: what it refuses and says, or what it writes and says.
+use Rattle.std.specs.Prelude.{ℕ, Bool, false, List, [], ◌∷◌, length, Option, Some, None, Result, Ok, Err}
+use Rattle.std.specs.FinMap.{get}
+use Rattle.dl_account.specs.Account.{account_of}
+use Rattle.dl_account.specs.Report.{report_of}
+use Rattle.dl_account.specs.Summary.{summary_of}
+use Rattle.dl_entry.specs.declared.End.{End}
+use Rattle.dl_entry.specs.declared.SphereLine.{SphereLine}
+use Rattle.dl_files.specs.Contents.{Contents}
+use Rattle.dl_elf.specs.Images.{Image}
+use Rattle.dl_elf.specs.Short.{image_of}
+use Rattle.dl_plan.specs.Plans.{plan_of}
+use Rattle.dl_plan.specs.Values.{PlanValues}
+use Rattle.dl_script.specs.Script.{script_of}
+use Rattle.spec_log.specs.Bytes.{log_bytes}
+use Rattle.spec_single.specs.declared.event.Event.{Event}
+use Rattle.spec_single.specs.Machine.{Setup, Machine, machine_of, after, points_of}
+use Rattle.spec_single.specs.Serial.{Whole, whole_of, do_points}
+use Rattle.spec_single.specs.Logged.{logged}
+use Rattle.spec_program.specs.declared.status.Refusal.{Refusal}
+use Rattle.spec_program.specs.Lines.{usage_line, plan_line, image_line, script_line, absent_line}
+use Rattle.spec_program.specs.Writes.{Write}
+use Rattle.spec_program.specs.Commands.{command_of}
+
+pub data Outcome : Type 0 where
+  -- why, and the line that says so
+  Refuses : Refusal → List ℕ → Outcome
+  -- whether a replayed sphere diverged, the writes in their order, and the text for the sink
+  Finishes : Bool → List Write → List ℕ → Outcome
+
+-- the setup that a plan and its image give
+abbrev pub setup_of : PlanValues → Image → Setup
+setup_of p image = record { limit = p.chunk; capacity = p.buffer; memory = image.bytes; entry = image.entry }
+
+-- the machine at the end of the schedule
+abbrev pub ended : Setup → List Event → Machine
+ended s events = after (machine_of s) events
+
+-- the commits of the machine's points, executed whole, one at a time
+abbrev pub executed : Setup → List Event → Whole
+executed s events = do_points (whole_of s) (points_of s events)
+
+-- the log's bytes are those of the points
+unfoldable pub log_text : Setup → List Event → List ℕ
+log_text s events = log_bytes (logged s.limit (points_of s events))
+
+abbrev pub account_of_whole : Whole → List ℕ
+account_of_whole w = account_of w.commits (w.thread ∷ []) None w.memory (End.Complete (length w.commits))
+
+-- the account tells the executed commits, and the thread and memory that they leave
+unfoldable pub account_text : Setup → List Event → List ℕ
+account_text s events = account_of_whole (executed s events)
+
+-- one recorded sphere, with so many commits
+abbrev pub spheres_of : Setup → List Event → List SphereLine
+spheres_of s events = SphereLine.Record (length (executed s events).commits) ∷ []
+
+-- the report tells the points in the order in which they were made, and how often each reply was given
+unfoldable pub report_text : Setup → List Event → List ℕ
+report_text s events = report_of (points_of s events) (ended s events).counts (spheres_of s events)
+
+unfoldable pub summary_text : Setup → List Event → List ℕ
+summary_text s events = summary_of (ended s events).counts (spheres_of s events)
+
+abbrev pub writes_for : PlanValues → Setup → List Event → List Write
+writes_for p s events =
+    record { name = p.log; bytes = log_text s events }
+    ∷ record { name = p.account; bytes = account_text s events }
+    ∷ record { name = p.report; bytes = report_text s events }
+    ∷ []
+
+-- a recording writes its log, its account and the report, and says the summary
+abbrev pub recorded : PlanValues → Setup → List Event → Outcome
+recorded p s events = Finishes false (writes_for p s events) (summary_text s events)
+
+-- ---- the stages, in the order of the work
+
+abbrev pub of_script : PlanValues → Image → Result (List Event) ℕ → Outcome
+of_script p image (Err number) = Refuses Refusal.Grammar (script_line number)
+of_script p image (Ok events) = recorded p (setup_of p image) events
+
+abbrev pub of_image : PlanValues → (script : List ℕ) → Option Image → Outcome
+of_image p script None = Refuses Refusal.Image (image_line 0 0)
+of_image p script (Some image) = of_script p image (script_of script)
+
+-- the image's file, once the script is read
+abbrev pub of_image_file : PlanValues → (script : List ℕ) → Option (List ℕ) → Outcome
+of_image_file p script None = Refuses Refusal.Absent (absent_line p.image)
+of_image_file p script (Some bytes) = of_image p script (image_of bytes p.memory)
+
+abbrev pub of_script_file : Contents → PlanValues → Option (List ℕ) → Outcome
+of_script_file m p None = Refuses Refusal.Absent (absent_line p.script)
+of_script_file m p (Some script) = of_image_file p script (get m p.image)
+
+abbrev pub of_plan : Contents → Option PlanValues → Outcome
+of_plan m None = Refuses Refusal.Plan (plan_line 0)
+of_plan m (Some p) = of_script_file m p (get m p.script)
+
+abbrev pub of_plan_file : Contents → (name : List ℕ) → Option (List ℕ) → Outcome
+of_plan_file m name None = Refuses Refusal.Absent (absent_line name)
+of_plan_file m name (Some bytes) = of_plan m (plan_of name bytes)
+
+abbrev pub of_command : Contents → Option (List ℕ) → Outcome
+of_command m None = Refuses Refusal.Usage usage_line
+of_command m (Some name) = of_plan_file m name (get m name)
+
+abbrev pub outcome_of : (words : List (List ℕ)) → Contents → Outcome
+outcome_of words m = of_command m (command_of words)

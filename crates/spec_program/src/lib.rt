@@ -1,0 +1,5 @@
+//! What the program does with its words and its files, as definitions: the outcome of a command where no call fails, and
+//! what each status says where one does.
+#![tactic(auto)]
+
+pub mod status;
