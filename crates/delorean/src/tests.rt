@@ -205,47 +205,67 @@ fn words_and_absent_files_decide_the_answer(rt: HostRuntime) -> Result<(), Fail>
     Ok(())
 }
 
-// Three files are read and three are written: each call fails in turn, and the names before it are written whole.
+#[derive(Clone, Copy)]
+struct Failing {
+    files: &'static [u64],
+    sink: &'static [u64],
+    status: Status,
+    said: &'static [u8],
+    whole: usize,
+}
+
+// Three files are read and three are written, and the text is put in one call. Each call fails in turn, and then a put
+// after a failed write: the names before the one that failed are written whole, and those after it aren't there.
 #[test]
 fn a_call_that_fails_ends_the_work(rt: HostRuntime) -> Result<(), Fail> {
     let alloc = rt.alloc();
-    for (call, said) in [
-        (0, b"fault plan.toml\n".as_slice()),
-        (1, b"fault s.txt\n".as_slice()),
-        (2, b"fault a.elf\n".as_slice()),
-        (3, b"fault a.log\n".as_slice()),
-        (4, b"fault a.txt\n".as_slice()),
-        (5, b"fault r.txt\n".as_slice()),
+    for case in [
+        failed_file(&[0], b"fault plan.toml\n", 0),
+        failed_file(&[1], b"fault s.txt\n", 0),
+        failed_file(&[2], b"fault a.elf\n", 0),
+        failed_file(&[3], b"fault a.log\n", 0),
+        failed_file(&[4], b"fault a.txt\n", 1),
+        failed_file(&[5], b"fault r.txt\n", 2),
+        Failing {
+            files: &[],
+            sink: &[0],
+            status: Status::Sink,
+            said: b"",
+            whole: 3,
+        },
+        Failing {
+            files: &[4],
+            sink: &[0],
+            status: Status::Fault,
+            said: b"",
+            whole: 1,
+        },
     ] {
-        let mut files = MemFiles::new(alloc, three_instructions(alloc)?, &[call])?;
-        let mut out = MemSink::new(alloc, &[])?;
-        assert_eq!(rt; delorean(alloc, &RUN, &mut files, &mut out), Status::Fault);
-        assert_eq!(rt; out.taken(), said);
-        assert_eq!(rt;
-            files
-                .read(alloc, "a.log")
-                .is_ok_and(|log| log.as_slice() == LOG),
-            call > 3
-        );
-        assert_eq!(rt;
-            files
-                .read(alloc, "a.txt")
-                .is_ok_and(|text| text.as_slice() == ACCOUNT),
-            call > 4
-        );
+        let mut files = MemFiles::new(alloc, three_instructions(alloc)?, case.files)?;
+        let mut out = MemSink::new(alloc, case.sink)?;
+        assert_eq!(rt; delorean(alloc, &RUN, &mut files, &mut out), case.status);
+        assert_eq!(rt; out.taken(), case.said);
+        let written = [("a.log", LOG), ("a.txt", ACCOUNT), ("r.txt", REPORT)];
+        for (i, (name, want)) in written.into_iter().enumerate() {
+            let found = files.read(alloc, name);
+            if i < case.whole {
+                assert!(rt; found.is_ok_and(|bytes| bytes.as_slice() == want), "{name}");
+            } else if i > case.whole {
+                assert!(rt; found.is_err(), "{name}");
+            }
+        }
     }
     Ok(())
 }
 
-#[test]
-fn a_sink_that_fails_leaves_the_files_written(rt: HostRuntime) -> Result<(), Fail> {
-    let alloc = rt.alloc();
-    let mut files = MemFiles::new(alloc, three_instructions(alloc)?, &[])?;
-    let mut out = MemSink::new(alloc, &[0])?;
-    assert_eq!(rt; delorean(alloc, &RUN, &mut files, &mut out), Status::Sink);
-    holds(&rt, alloc, &mut files, "a.log", LOG);
-    holds(&rt, alloc, &mut files, "r.txt", REPORT);
-    Ok(())
+fn failed_file(files: &'static [u64], said: &'static [u8], whole: usize) -> Failing {
+    Failing {
+        files,
+        sink: &[],
+        status: Status::Fault,
+        said,
+        whole,
+    }
 }
 
 // The trusted edge: std's own calls write what is read, and find what is written.

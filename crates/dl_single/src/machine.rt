@@ -74,13 +74,14 @@ impl Machine {
         })
     }
 
-    /// Takes one event. An Ask alone takes memory.
+    /// Takes one event. An Ask that is granted alone takes memory.
     pub fn apply(&mut self, event: Event) -> Result<Reply, OutOfMemory>
         requires events { self.old.counts.events < 2 ^ 63 }
         requires commits { length self.old.commits < 2 ^ 24 }
         ensures ok { IfOk result (λ reply. Gives (apply_in self.old event) reply self.new) }
         ensures err { OnErr result (self.new ≡ self.old) }
         ensures asks { OnErr result (IsAsk event) }
+        ensures granted { OnErr result ((apply_in self.old event).reply ≡ Reply.Granted) }
     {
         let reply = self.answer(event)?;
         self.count(reply);
@@ -158,6 +159,7 @@ impl Machine {
         ensures ok { IfOk result (λ reply. Gives (answer_in self.old event) reply self.new) }
         ensures err { OnErr result (self.new ≡ self.old) }
         ensures asks { OnErr result (IsAsk event) }
+        ensures granted { OnErr result ((answer_in self.old event).reply ≡ Reply.Granted) }
     {
         match event {
             Event::Step(_) => Ok(self.step()),
