@@ -1,0 +1,6 @@
+pub mod Effects
+pub mod Progress
+pub mod Turns
+pub mod Verdicts
+pub mod Transfers
+pub mod Plays
