@@ -4,3 +4,4 @@ pub mod Turns
 pub mod Verdicts
 pub mod Transfers
 pub mod Plays
+pub mod Recording

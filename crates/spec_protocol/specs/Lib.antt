@@ -1,0 +1,14 @@
+pub mod Spheres
+pub mod Commits
+pub mod World
+pub mod Stepping
+pub mod Asking
+pub mod Flying
+pub mod Placing
+pub mod Transferring
+pub mod Machine
+pub mod Finishing
+pub mod Serial
+pub mod Shown
+pub mod Moves
+pub mod Logged

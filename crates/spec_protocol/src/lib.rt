@@ -1,0 +1,9 @@
+//! The whole protocol as definitions: spheres with their roles, cores, flights and devices; what each of nine events
+//! answers and leaves; the serialisation points; finishing; and the same points executed whole, one at a time.
+#![tactic(auto)]
+
+mod event;
+mod reply;
+
+pub use event::Event;
+pub use reply::Reply;
