@@ -1,0 +1,2 @@
+mod Scenes
+mod Recordings
