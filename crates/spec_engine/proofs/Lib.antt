@@ -1,0 +1,4 @@
+pub mod Marking
+pub mod Searches
+pub mod Choosing
+pub mod Stepping

@@ -7,6 +7,6 @@ on_option None n s = n
 on_option (Some x) n s = s x
 
 -- by a test
-unfoldable pub choose : {B : Type 0} → Bool → (yes no : B) → B
+unfoldable pub choose : {B : Type 0} → Bool → (where_true where_false : B) → B
 choose true x y = x
 choose false x y = y

@@ -3,3 +3,4 @@ pub mod Flights
 pub mod Choices
 pub mod Chunks
 pub mod Asking
+pub mod Laws

@@ -3,3 +3,8 @@
 #![tactic(auto)]
 
 pub mod answers;
+mod laws;
+
+pub use laws::{
+    cores_are_told, finds_the_least, signatures_cover, signatures_hit, steps_are_instructions,
+};
