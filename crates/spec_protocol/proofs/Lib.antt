@@ -1,2 +1,4 @@
 mod Scenes
 mod Recordings
+pub mod Laying
+pub mod Running
