@@ -2,3 +2,4 @@ mod Scenes
 mod Recordings
 pub mod Laying
 pub mod Running
+pub mod Slots
