@@ -3,3 +3,4 @@ mod Recordings
 pub mod Laying
 pub mod Running
 pub mod Slots
+pub mod Covering

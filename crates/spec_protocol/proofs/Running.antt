@@ -20,7 +20,7 @@ pub record Touches (seen : ℕ → Bool) (t : Parts) (m : List ℕ) : Type 0 whe
   pub fetch : is_inside (length m) t.pc ≡ true → seen (t.pc / 4) ≡ true
   pub load : serial_of t (fetched t m) (length m) ≡ None → (a : ℕ) → loads_of t (fetched t m) ≡ Some a → seen a ≡ true
 
-outside_serial : (t : Parts) (f size : ℕ) → is_inside size t.pc ≡ false → serial_of t f size ≡ Some (Kind.Fault 1)
+pub outside_serial : (t : Parts) (f size : ℕ) → is_inside size t.pc ≡ false → serial_of t f size ≡ Some (Kind.Fault 1)
 unfolding serial_of
 outside_serial t f size e = rw e refl
 
