@@ -4,3 +4,4 @@ pub mod Laying
 pub mod Running
 pub mod Slots
 pub mod Covering
+pub mod Steps
