@@ -5,3 +5,4 @@ pub mod Running
 pub mod Slots
 pub mod Covering
 pub mod Steps
+pub mod Current
