@@ -6,3 +6,4 @@ pub mod Slots
 pub mod Covering
 pub mod Steps
 pub mod Current
+pub mod Moving
