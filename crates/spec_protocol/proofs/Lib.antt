@@ -7,3 +7,5 @@ pub mod Covering
 pub mod Steps
 pub mod Current
 pub mod Moving
+pub mod Relaying
+pub mod Transfers

@@ -62,7 +62,7 @@ either_none : (b : Bool) → pieces_if b 0 ≡ 0
 either_none true = refl
 either_none false = refl
 
-pieces_none : (now : Now) (j : ℕ) → pieces_of now j 0 ≡ 0
+pub pieces_none : (now : Now) (j : ℕ) → pieces_of now j 0 ≡ 0
 pieces_none (Turn k) j = either_none (eqb k j)
 pieces_none TurnOfDma j = refl
 pieces_none (Over how) j = refl
@@ -213,7 +213,7 @@ chunk-moves k piece short r devices p turn apart = chunk_in_moves k p.role piece
 
 -- ---- serial steps
 
-bytes_apart : (ws : List Stored) (a : ℕ) (bytes : List ℕ) → Apart ws → Apart (bytes_put ws a bytes)
+pub bytes_apart : (ws : List Stored) (a : ℕ) (bytes : List ℕ) → Apart ws → Apart (bytes_put ws a bytes)
 unfolding bytes_put
 bytes_apart ws a [] apart = apart
 bytes_apart ws a (b ∷ bytes) apart = bytes_apart (put ws (stored 1 a b)) _ bytes (Apart-put ws (stored 1 a b) apart)
