@@ -9,3 +9,4 @@ pub mod Current
 pub mod Moving
 pub mod Relaying
 pub mod Transfers
+pub mod Invariant

@@ -1,0 +1,143 @@
+-- What holds of every world that the machine comes to, and what an event keeps.
+use Rattle.std.proofs.Common.{◌≡◌, ◌≢◌, ℕ, zero, suc, ◌+◌, ◌<◌, ◌≤◌, ◌⊎◌, inl, inr, Bool, true, false, List, [], ◌∷◌, ◌++◌, length, Option, Some, None, refl, sym, ap, ◌∙◌, subst, arith, set, get_or, get_or-set_same, get_or-set_other}
+use Rattle.std.specs.Prelude.{slice_get, option_map}
+use Rattle.std.proofs.Math.ListN.{length-set}
+use Rattle.std.proofs.lemmas.Option.{none-some, slice_get-get_or}
+use Rattle.dl_entry.specs.declared.Point.{Point}
+use Rattle.spec_isa.specs.declared.thread.Parts.{Parts}
+use Rattle.spec_isa.specs.Words.{Stored, lays, Apart}
+use Rattle.spec_kernel.specs.Devices.{Devices}
+use Rattle.spec_kernel.specs.Interrupts.{is_live}
+use Rattle.spec_engine.specs.Flights.{Flight, at}
+use Rattle.spec_engine.specs.Chunks.{Chunk}
+use Rattle.spec_protocol.specs.Spheres.{Role, Sphere, no_sphere, is_stopped, limit_of, halves}
+use Rattle.spec_protocol.specs.Placing.{replays}
+use Rattle.spec_protocol.specs.World.{Numbers, Held, World, Move, After, sphere_at}
+use Rattle.spec_protocol.specs.Serial.{Whole}
+use Rattle.spec_protocol.specs.Shown.{flying, shown, shown_from, shown_of}
+use Rattle.spec_protocol.specs.Moves.{do_if, FitsIf}
+use Rattle.spec_protocol.proofs.Covering.{AllCovered}
+use Rattle.spec_protocol.proofs.Current.{GoodChunk}
+
+-- ---- the invariant
+
+-- the memory of sphere i with the words that fly laid over it
+abbrev pub current : World → (i : ℕ) → List ℕ
+current w i = lays (sphere_at w i).memory (flying i w.slots)
+
+-- a chunk's limit is the thread's, or in a recording less
+pub record LimitFits (s : ℕ) (role : Role) (k : ℕ) (t : Parts) (limit : ℕ) : Type 0 where
+  pub most : limit ≤ limit_of s role k t
+  pub replayed : replays role ≡ true → limit ≡ limit_of s role k t
+
+-- core c holds a thread of a sphere that there is, its chunk began from the thread's state, and is current
+pub record GoodHeld (w : World) (c : ℕ) (h : Held) : Type 0 where
+  pub sphere : h.chunk.sphere < length w.spheres
+  pub start : slice_get (sphere_at w h.chunk.sphere).threads h.thread ≡ Some h.chunk.start
+  pub lives : is_live h.chunk.start ≡ true
+  pub halving : h.chunk.halves ≡ halves (sphere_at w h.chunk.sphere).role
+  pub limit : is_stopped (sphere_at w h.chunk.sphere).role ≡ false → LimitFits w.numbers.chunk (sphere_at w h.chunk.sphere).role h.thread h.chunk.start h.chunk.limit
+  pub chunk : GoodChunk w.numbers.buffer w.numbers.signature w.slots c (current w h.chunk.sphere) h.chunk
+
+-- a thread is on one core at most
+abbrev pub IsAlone : List (Option Held) → Type 0
+IsAlone cores = (c d : ℕ) (h g : Held) → at cores c ≡ Some h → at cores d ≡ Some g → h.chunk.sphere ≡ g.chunk.sphere → h.thread ≡ g.thread → c ≡ d
+
+pub record Good (w : World) : Type 0 where
+  pub buffer : 0 < w.numbers.buffer
+  pub standard : 0 < w.numbers.chunk
+  pub apart : (i : ℕ) → Apart (flying i w.slots)
+  pub covered : AllCovered w.numbers.signature w.slots
+  pub flights : (k : ℕ) (f : Flight) → at w.slots k ≡ Some f → f.sphere < length w.spheres
+  pub held : (c : ℕ) (h : Held) → at w.cores c ≡ Some h → GoodHeld w c h
+  pub alone : IsAlone w.cores
+
+-- ---- what an event keeps
+
+pub record SameSizes (w v : World) : Type 0 where
+  pub numbers : v.numbers ≡ w.numbers
+  pub spheres : length v.spheres ≡ length w.spheres
+  pub cores : length v.cores ≡ length w.cores
+  pub slots : length v.slots ≡ length w.slots
+
+pub record Kept (w : World) (a : After) : Type 0 where
+  pub good : Good a.world
+  pub sizes : SameSizes w a.world
+  -- the world shows what its move, done whole, gives
+  pub whole : shown_of a.world ≡ do_if w.numbers (shown_of w) a.move
+  -- and the move can be done as it says
+  pub fits : FitsIf w.numbers (shown_of w) a.move
+
+pub same_sizes : (w : World) → SameSizes w w
+same_sizes w = record { numbers = refl; spheres = refl; cores = refl; slots = refl }
+
+-- ---- rows of spheres
+
+pub sphere-same : (ps : List Sphere) (i : ℕ) (p : Sphere) → i < length ps → get_or (set ps i p) i no_sphere ≡ p
+sphere-same ps i p l = get_or-set_same ps i p no_sphere l
+
+pub sphere-other : (ps : List Sphere) (i j : ℕ) (p : Sphere) → j ≢ i → get_or (set ps i p) j no_sphere ≡ get_or ps j no_sphere
+sphere-other ps i j p ne = get_or-set_other ps i j p no_sphere ne
+
+-- ---- what is shown
+
+shown_same : (xs ys : List (Option Flight)) (i : ℕ) (p : Sphere) → flying i ys ≡ flying i xs → shown ys i p ≡ shown xs i p
+unfolding shown
+shown_same xs ys i p e = (λ j. record p { memory = lays p.memory (e j) })
+
+pub shown_from-same : (xs ys : List (Option Flight)) (n : ℕ) (ps : List Sphere) → ((j : ℕ) → n ≤ j → flying j ys ≡ flying j xs) → shown_from ys n ps ≡ shown_from xs n ps
+shown_from-same xs ys n [] same = refl
+shown_from-same xs ys n (p ∷ ps) same =
+    (λ j. shown_same xs ys n p (same n (omega arith)) j ∷ shown_from-same xs ys (suc n) ps (λ i l. same i (omega arith)) j)
+
+-- a sphere that is changed, and words that fly of that sphere alone
+pub shown_from-set : (xs ys : List (Option Flight)) (n i : ℕ) (ps : List Sphere) (p : Sphere) → ((j : ℕ) → n ≤ j → j ≢ n + i → flying j ys ≡ flying j xs) → shown_from ys n (set ps i p) ≡ set (shown_from xs n ps) i (shown ys (n + i) p)
+shown_from-set xs ys n i [] p same = refl
+shown_from-set xs ys n zero (q ∷ ps) p same =
+    let e : n ≡ n + 0 = omega arith in
+    (λ j. shown ys (e j) p ∷ shown_from-same xs ys (suc n) ps (λ i l. same i (omega arith) (λ h. omega arith)) j)
+shown_from-set xs ys n (suc i) (q ∷ ps) p same =
+    let e : suc n + i ≡ n + suc i = omega arith in
+    (λ j. shown_same xs ys n q (same n (omega arith) (λ h. omega arith)) j ∷ shown_from-set xs ys (suc n) i ps p (λ k l ne. same k (omega arith) (λ h. ne (h ∙ sym e))) j)
+    ∙ ap (λ (k : ℕ). shown xs n q ∷ set (shown_from xs (suc n) ps) i (shown ys k p)) e
+
+pub shown-set : (xs ys : List (Option Flight)) (i : ℕ) (ps : List Sphere) (p : Sphere) → ((j : ℕ) → j ≢ i → flying j ys ≡ flying j xs) → shown_from ys 0 (set ps i p) ≡ set (shown_from xs 0 ps) i (shown ys i p)
+shown-set xs ys i ps p same =
+    let e : 0 + i ≡ i = omega arith in
+    shown_from-set xs ys 0 i ps p (λ j l ne. same j (λ h. ne (h ∙ sym e)))
+    ∙ ap (λ (k : ℕ). set (shown_from xs 0 ps) i (shown ys k p)) e
+
+shown_get_from : (xs : List (Option Flight)) (n i : ℕ) (ps : List Sphere) → i < length ps → slice_get (shown_from xs n ps) i ≡ Some (shown xs (n + i) (get_or ps i no_sphere))
+shown_get_from xs n i [] l = absurd (omega arith)
+shown_get_from xs n zero (p ∷ ps) l = let e : n ≡ n + 0 = omega arith in ap (λ (k : ℕ). Some (shown xs k p)) e
+shown_get_from xs n (suc i) (p ∷ ps) l =
+    let e : suc n + i ≡ n + suc i = omega arith in
+    shown_get_from xs (suc n) i ps (omega arith) ∙ ap (λ (k : ℕ). Some (shown xs k (get_or ps i no_sphere))) e
+
+-- the sphere that is shown at i
+pub shown-get : (xs : List (Option Flight)) (i : ℕ) (ps : List Sphere) → i < length ps → slice_get (shown_from xs 0 ps) i ≡ Some (shown xs i (get_or ps i no_sphere))
+shown-get xs i ps l =
+    let e : 0 + i ≡ i = omega arith in
+    shown_get_from xs 0 i ps l ∙ ap (λ (k : ℕ). Some (shown xs k (get_or ps i no_sphere))) e
+
+set-itself : (ps : List Sphere) (i : ℕ) → set ps i (get_or ps i no_sphere) ≡ ps
+set-itself [] i = refl
+set-itself (p ∷ ps) zero = refl
+set-itself (p ∷ ps) (suc i) = ap (λ (qs : List Sphere). p ∷ qs) (set-itself ps i)
+
+-- a sphere whose own memory and flying words have changed, and not what is shown of it
+pub shown-unmoved : (xs ys : List (Option Flight)) (i : ℕ) (ps : List Sphere) (p : Sphere) → ((j : ℕ) → j ≢ i → flying j ys ≡ flying j xs) → shown ys i p ≡ shown xs i (get_or ps i no_sphere) → shown_from ys 0 (set ps i p) ≡ shown_from xs 0 ps
+shown-unmoved xs ys i ps p same e =
+    shown-set xs ys i ps p same ∙ ap (set (shown_from xs 0 ps) i) e ∙ sym (shown-set xs xs i ps (get_or ps i no_sphere) (λ j ne. refl))
+    ∙ ap (shown_from xs 0) (set-itself ps i)
+
+-- ---- an event that answers and does nothing
+
+pub still-kept : (w : World) (a : After) → a.world ≡ w → a.move ≡ None → Good w → Kept w a
+still-kept w a world move good =
+    record {
+      good = subst Good (sym world) good;
+      sizes = subst (SameSizes w) (sym world) (same_sizes w);
+      whole = ap shown_of world ∙ sym (ap (do_if w.numbers (shown_of w)) move);
+      fits = subst (FitsIf w.numbers (shown_of w)) (sym move) tt;
+    }
