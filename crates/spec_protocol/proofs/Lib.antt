@@ -10,3 +10,4 @@ pub mod Moving
 pub mod Relaying
 pub mod Transfers
 pub mod Invariant
+pub mod OnCores

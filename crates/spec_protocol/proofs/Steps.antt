@@ -37,6 +37,7 @@ pub record SameBase (ch dh : Chunk) : Type 0 where
   pub sphere : dh.sphere ≡ ch.sphere
   pub start : dh.start ≡ ch.start
   pub limit : dh.limit ≡ ch.limit
+  pub halves : dh.halves ≡ ch.halves
   pub reads : dh.reads.bits ≡ ch.reads.bits
   pub writes : dh.writes.bits ≡ ch.writes.bits
 
@@ -87,7 +88,7 @@ abbrev with_reads : Chunk → Marks → Chunk
 with_reads ch g = record ch { reads = g }
 
 abbrev base_with : (ch : Chunk) (g : Marks) → Grown ch g → SameBase ch (with_reads ch g)
-base_with ch g n = record { sphere = refl; start = refl; limit = refl; reads = n.size; writes = refl }
+base_with ch g n = record { sphere = refl; start = refl; limit = refl; halves = refl; reads = n.size; writes = refl }
 
 -- closing changes nothing else
 closed_closes : (capacity : ℕ) (ch : Chunk) (g : Marks) (how : How) → IsOpen capacity ch → how ≢ How.Limit → how ≢ How.Cut → (how ≡ How.Overflow → capacity ≤ ch.done.n) → Closes capacity (record (with_reads ch g) { closed = Some how })
@@ -106,7 +107,7 @@ stays_closed : (capacity : ℕ) (xs : List (Option Flight)) (c : ℕ) (m : List 
     → Looks xs c m ch (record (with_reads ch g) { closed = Some how }) (Stepped.Closed how) → Stays capacity xs c m ch (closes how (with_reads ch g))
 stays_closed capacity xs c m ch g how o n limit cut room looks =
     record {
-      base = record { sphere = refl; start = refl; limit = refl; reads = n.size; writes = refl };
+      base = record { sphere = refl; start = refl; limit = refl; halves = refl; reads = n.size; writes = refl };
       more_reads = n.more_;
       less_hits = n.hits_;
       apart = o.apart;
@@ -151,7 +152,7 @@ unfolding at_limit
 stays_ran capacity xs c m ch g t load store o n touches =
     keep_choose (Stays capacity xs c m ch) (eqb (suc ch.done.n) ch.limit) (closes How.Limit (ran (with_reads ch g) t load store)) (record { reply = Stepped.Ran; chunk = ran (with_reads ch g) t load store })
     (λ e. record {
-      base = record { sphere = refl; start = refl; limit = refl; reads = n.size; writes = bits-with_line ch.sphere store ch.writes };
+      base = record { sphere = refl; start = refl; limit = refl; halves = refl; reads = n.size; writes = bits-with_line ch.sphere store ch.writes };
       more_reads = n.more_;
       less_hits = n.hits_;
       apart = Apart-store ch.done.words store o.apart;
@@ -160,7 +161,7 @@ stays_ran capacity xs c m ch g t load store o n touches =
       looks = (refl, touches);
     })
     (λ e. record {
-      base = record { sphere = refl; start = refl; limit = refl; reads = n.size; writes = bits-with_line ch.sphere store ch.writes };
+      base = record { sphere = refl; start = refl; limit = refl; halves = refl; reads = n.size; writes = bits-with_line ch.sphere store ch.writes };
       more_reads = n.more_;
       less_hits = n.hits_;
       apart = Apart-store ch.done.words store o.apart;
@@ -204,7 +205,7 @@ stays_reading capacity xs c m ch g a then_ o n stays =
     keep_option (Stays capacity xs c m ch) (first_slot (bounces c (line ch.sphere a)) xs) (then_ (marked (with_reads ch g) a)) (λ k. record { reply = Stepped.Bounced k; chunk = with_reads ch g })
     stays
     (λ k e. record {
-      base = record { sphere = refl; start = refl; limit = refl; reads = n.size; writes = refl };
+      base = record { sphere = refl; start = refl; limit = refl; halves = refl; reads = n.size; writes = refl };
       more_reads = n.more_;
       less_hits = n.hits_;
       apart = o.apart;
