@@ -120,7 +120,7 @@ shown-get xs i ps l =
     let e : 0 + i ≡ i = omega arith in
     shown_get_from xs 0 i ps l ∙ ap (λ (k : ℕ). Some (shown xs k (get_or ps i no_sphere))) e
 
-set-itself : (ps : List Sphere) (i : ℕ) → set ps i (get_or ps i no_sphere) ≡ ps
+pub set-itself : (ps : List Sphere) (i : ℕ) → set ps i (get_or ps i no_sphere) ≡ ps
 set-itself [] i = refl
 set-itself (p ∷ ps) zero = refl
 set-itself (p ∷ ps) (suc i) = ap (λ (qs : List Sphere). p ∷ qs) (set-itself ps i)

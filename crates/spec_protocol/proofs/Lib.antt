@@ -11,3 +11,4 @@ pub mod Relaying
 pub mod Transfers
 pub mod Invariant
 pub mod OnCores
+pub mod OnFlights

@@ -53,7 +53,7 @@ alone-set cores c o alone new a b h g ah bg sphere thread =
 
 -- ---- one core changes
 
-held_there : (w : World) (c d : ℕ) (o : Option Held) (g : Held) → GoodHeld w d g → GoodHeld (with_core w c o) d g
+pub held_there : (w : World) (c d : ℕ) (o : Option Held) (g : Held) → GoodHeld w d g → GoodHeld (with_core w c o) d g
 held_there w c d o g good =
     record {
       sphere = good.sphere;
