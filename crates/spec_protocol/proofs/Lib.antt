@@ -12,3 +12,4 @@ pub mod Transfers
 pub mod Invariant
 pub mod OnCores
 pub mod OnFlights
+pub mod Landing
