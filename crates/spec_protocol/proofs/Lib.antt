@@ -13,3 +13,4 @@ pub mod Invariant
 pub mod OnCores
 pub mod OnFlights
 pub mod Landing
+pub mod OnCommits

@@ -1,0 +1,273 @@
+-- The event Ask keeps the invariant, and what it grants is what the commit, done whole on the current memory, gives.
+use Rattle.std.proofs.Common.{◌≡◌, ◌≢◌, ℕ, zero, suc, ◌<◌, ◌≤◌, ◌^◌, ◌⊎◌, inl, inr, Bool, true, false, not, ◌&&◌, eqb, cond, List, [], ◌∷◌, ◌++◌, length, Option, Some, None, refl, sym, ap, ◌∙◌, subst, arith, set, get_or}
+use Rattle.std.specs.Prelude.{slice_get, IsSome}
+use Rattle.std.proofs.Math.ListN.{length-set}
+use Rattle.std.proofs.lemmas.Bool.{true≢false, cases_eq, and_parts, or_parts, and_left, and_cases, eqb-true, ne_eqb, false_from_ne_true, cases_Bool}
+use Rattle.std.proofs.lemmas.Nat.Bits.{bit_at-pow_other}
+use Rattle.std.proofs.lemmas.Option.{none-some}
+use Rattle.dl_entry.specs.declared.Actor.{Actor}
+use Rattle.dl_entry.specs.declared.CommitKind.{CommitKind}
+use Rattle.dl_entry.specs.declared.Why.{Why}
+use Rattle.spec_isa.specs.declared.thread.Parts.{Parts}
+use Rattle.spec_isa.specs.Words.{Stored, lays, Apart}
+use Rattle.spec_isa.specs.Runs.{Run, begun as run_begun, run}
+use Rattle.spec_kernel.specs.Devices.{Devices}
+use Rattle.spec_kernel.specs.Needs.{next_kind}
+use Rattle.spec_kernel.specs.Interrupts.{is_live}
+use Rattle.spec_engine.specs.declared.answers.How.{How}
+use Rattle.spec_engine.specs.declared.answers.Asked.{Asked}
+use Rattle.spec_engine.specs.declared.answers.AskedSerial.{AskedSerial}
+use Rattle.spec_engine.specs.Signatures.{Marks, hits, nothing, signed}
+use Rattle.spec_engine.specs.Flights.{Flight, at, first_slot, told_at, is_full, meets_chunk, is_of_sphere}
+use Rattle.spec_engine.specs.Chunks.{Chunk, is_serial, is_empty_serial}
+use Rattle.spec_engine.specs.Asking.{denied_by, ask, busy_by, ask_serial}
+use Rattle.spec_engine.proofs.Searches.{first_none}
+use Rattle.spec_protocol.specs.declared.reply.Reply.{Reply}
+use Rattle.spec_protocol.specs.Spheres.{Role, Plain, Record, Replay, Sphere, is_stopped, head_in, head_of, limit_of, halves, is_in_pieces}
+use Rattle.spec_protocol.specs.Placing.{replays}
+use Rattle.spec_protocol.specs.Commits.{Outcome, Granted, Piece, Diverged, Moved, is_piece, chunk_moved, serial_moved}
+use Rattle.spec_protocol.specs.World.{Numbers, Held, World, moment, sphere_at, with_sphere, with_core, begun, flown, What, OfChunk, OfSerial, Move, After, still}
+use Rattle.spec_protocol.specs.Asking.{Request, move_at, world_with, granted, is_short, chunk_request, grant_chunk, unless_denied, serial_request, grant_serial, unless_busy, asks_serial, ask_arbiter, other_turn, unless_turn, ask_closed, ask_held, asking}
+use Rattle.spec_protocol.specs.Serial.{Whole, do_moved, do_serial}
+use Rattle.spec_protocol.specs.Shown.{words_of, flying, shown, shown_from, shown_of}
+use Rattle.spec_protocol.specs.Moves.{move_chunk, do_what, do_at, do_move, do_if, ChunkFits, SerialFits, FitsWhat, FitsAt, Fits, FitsIf}
+use Rattle.spec_protocol.proofs.Laying.{AllLack, AllLack_nil, AllLack_flip}
+use Rattle.spec_protocol.proofs.Slots.{at_within, Flew, flown-flew, words-other}
+use Rattle.spec_protocol.proofs.Running.{Live}
+use Rattle.spec_protocol.proofs.Covering.{CoversAll, bits-signed, CoversAll-signed, apart-covered, flying-all_lack, Quiet, Covered}
+use Rattle.spec_protocol.proofs.Current.{GoodChunk}
+use Rattle.spec_protocol.proofs.Moving.{KeepsOthers, Divergence, MovesOnly, HasTurn, chunk-moves, serial-moves}
+use Rattle.spec_protocol.proofs.Relaying.{over, relaid, chunk-relaid}
+use Rattle.spec_protocol.proofs.Invariant.{current, LimitFits, GoodHeld, IsAlone, Good, SameSizes, Kept, sphere-same, shown-get, still-kept}
+use Rattle.spec_protocol.proofs.OnCores.{set-cases, alone-set, branch}
+use Rattle.spec_protocol.proofs.Landing.{begun-begins, begun-held, Begins, moved_world, Lands, landed-held, elsewhere-held, moved-shown}
+
+-- ---- a request that is granted, or diverges
+
+abbrev request_flight : World → (core : ℕ) → Request → Marks → Moved → Flight
+request_flight w c q writes v = record { sphere = q.sphere; words = v.words; writes = writes; told = 2 ^ c }
+
+-- core c holds h, whose request q moves its sphere by v; its stores meet no flight, and v is what it gives on current memory
+record Grants (w : World) (c : ℕ) (h : Held) (q : Request) (writes : Marks) (v : Moved) : Type 0 where
+  is : at w.cores c ≡ Some h
+  sphere : h.chunk.sphere ≡ q.sphere
+  thread : h.thread ≡ q.thread
+  within : q.sphere < length w.spheres
+  going : is_stopped (sphere_at w q.sphere).role ≡ false
+  moves : MovesOnly q.thread w.devices (sphere_at w q.sphere) v
+  free : is_full w.slots ≡ false
+  covered : Covered w.numbers.signature (request_flight w c q writes v)
+  lack : AllLack v.words (flying q.sphere w.slots)
+  whole : do_move w.numbers (shown_of w) (move_at (moment w) q) ≡ do_moved (shown_of w) q.sphere (relaid (current w q.sphere) v)
+  fits : Fits w.numbers (shown_of w) (move_at (moment w) q)
+
+grant_flew : (w : World) (c : ℕ) (h : Held) (q : Request) (writes : Marks) (v : Moved) → Good w → Grants w c h q writes v
+    → Flew q.sphere (request_flight w c q writes v) w.slots (flown q.sphere v.words writes (2 ^ c) w.slots)
+grant_flew w c h q writes v good g =
+    flown-flew q.sphere v.words writes (2 ^ c) w.slots g.free (good.apart q.sphere) g.moves.apart g.lack
+
+-- another core's thread in the sphere is another thread
+other_thread : (w : World) (c d : ℕ) (h x : Held) (q : Request) (writes : Marks) (v : Moved) → Good w → Grants w c h q writes v → d ≢ c → at w.cores d ≡ Some x → x.chunk.sphere ≡ q.sphere → x.thread ≢ q.thread
+other_thread w c d h x q writes v good g ne there same e =
+    ne (good.alone d c x h there g.is (same ∙ sym g.sphere) (e ∙ sym g.thread))
+
+granted_lands : (w : World) (c d : ℕ) (h x : Held) (q : Request) (writes : Marks) (v : Moved) → Good w → Grants w c h q writes v → d ≢ c → at w.cores d ≡ Some x → x.chunk.sphere ≡ q.sphere
+    → Lands w q.sphere v.sphere (request_flight w c q writes v) (flown q.sphere v.words writes (2 ^ c) w.slots) d x
+granted_lands w c d h x q writes v good g ne there same =
+    let other = other_thread w c d h x q writes v good g ne there same in
+    let keeps = g.moves.keeps in
+    record {
+      within = g.within;
+      flew = grant_flew w c h q writes v good g;
+      sphere = refl;
+      covered = g.covered;
+      untold = ap (λ (b : ℕ). eqb b 1) (bit_at-pow_other c d ne);
+      memory = keeps.memory;
+      going = g.going;
+      threads = keeps.threads x.thread x.chunk.start other;
+      halving = keeps.halving;
+      replaying = keeps.replaying;
+      limits = keeps.limits w.numbers.chunk x.thread x.chunk.start other;
+    }
+
+granted_good : (w : World) (c : ℕ) (h : Held) (q : Request) (writes : Marks) (v : Moved) → Good w → Grants w c h q writes v → Good (world_with w c q writes v)
+granted_good w c h q writes v good g =
+    let flew = grant_flew w c h q writes v good g in
+    let f = request_flight w c q writes v in
+    let u = world_with w c q writes v in
+    let o = begun w.numbers q.sphere q.thread v.sphere in
+    let count = length-set w.spheres q.sphere v.sphere in
+    let there : sphere_at u q.sphere ≡ v.sphere = sphere-same w.spheres q.sphere v.sphere g.within in
+    record {
+      buffer = good.buffer;
+      standard = good.standard;
+      apart = λ i. elim (cases_eq i q.sphere) [
+        | inl e ↦ subst (λ (n : ℕ). Apart (flying n u.slots)) (sym e) flew.apart
+        | inr ne ↦ subst Apart (sym (flew.others i ne)) (good.apart i)
+      ];
+      covered = λ k x e. elim (flew.stood k x e) [
+        | inl p ↦ good.covered k x p
+        | inr p ↦ subst (Covered w.numbers.signature) (sym p) g.covered
+      ];
+      flights = λ k x e. subst (λ (n : ℕ). x.sphere < n) (sym count) (elim (flew.stood k x e) [
+        | inl p ↦ good.flights k x p
+        | inr p ↦ subst (λ (y : Flight). y.sphere < length w.spheres) (sym p) g.within
+      ]);
+      held = λ d x e. elim (set-cases w.cores c d o x e) [
+        | inl p ↦ subst (λ (n : ℕ). GoodHeld u n x) (sym p.0)
+        (begun-held u q.sphere q.thread c v.sphere x (subst (λ (n : ℕ). q.sphere < n) (sym count) g.within) good.standard there (begun-begins w.numbers q.sphere q.thread v.sphere x p.1))
+        | inr p ↦ elim (cases_eq x.chunk.sphere q.sphere) [
+          | inl same ↦ landed-held w q.sphere v.sphere f u.slots u.cores v.devices d x same (granted_lands w c d h x q writes v good g p.0 p.1 same) (good.held d x p.1)
+          | inr ne ↦ elsewhere-held w q.sphere v.sphere f u.slots u.cores v.devices d x ne flew (good.held d x p.1)
+        ]
+      ];
+      alone = alone-set w.cores c o good.alone
+      (λ y e d x ne there sphere thread.
+      let b = begun-begins w.numbers q.sphere q.thread v.sphere y e in
+      other_thread w c d h x q writes v good g ne there (sym sphere ∙ ap (λ (z : Held). z.chunk.sphere) (sym b.is)) (sym thread ∙ ap (λ (z : Held). z.thread) (sym b.is)));
+    }
+
+granted_sizes : (w : World) (c : ℕ) (h : Held) (q : Request) (writes : Marks) (v : Moved) → Good w → Grants w c h q writes v → SameSizes w (world_with w c q writes v)
+granted_sizes w c h q writes v good g =
+    record {
+      numbers = refl;
+      spheres = length-set w.spheres q.sphere v.sphere;
+      cores = length-set w.cores c (begun w.numbers q.sphere q.thread v.sphere);
+      slots = (grant_flew w c h q writes v good g).size;
+    }
+
+granted_whole : (w : World) (c : ℕ) (h : Held) (q : Request) (writes : Marks) (v : Moved) → Good w → Grants w c h q writes v → shown_of (world_with w c q writes v) ≡ do_move w.numbers (shown_of w) (move_at (moment w) q)
+granted_whole w c h q writes v good g =
+    moved-shown w q.sphere v (request_flight w c q writes v) (flown q.sphere v.words writes (2 ^ c) w.slots) (set w.cores c (begun w.numbers q.sphere q.thread v.sphere)) g.moves.keeps.memory refl (grant_flew w c h q writes v good g)
+    ∙ sym g.whole
+
+-- ---- a divergence, which stops the sphere
+
+unflown : (w : World) (i : ℕ) (f : Flight) → Good w → f.words ≡ [] → Flew i f w.slots w.slots
+unflown w i f good e =
+    record {
+      size = refl;
+      lands = λ m. ap (lays (lays m (flying i w.slots))) (sym e);
+      apart = good.apart i;
+      others = λ j ne. refl;
+      stays = λ k g h. h;
+      stood = λ k g h. inl h;
+      stands = inl e;
+    }
+
+-- a sphere that stops, with the same memory and threads
+pub record Stops (w : World) (i : ℕ) (p : Sphere) : Type 0 where
+  pub within : i < length w.spheres
+  pub memory : p.memory ≡ (sphere_at w i).memory
+  pub threads : p.threads ≡ (sphere_at w i).threads
+  pub halving : halves p.role ≡ halves (sphere_at w i).role
+  pub stopped : is_stopped p.role ≡ true
+
+stopped_here : (w : World) (p : Sphere) (c : ℕ) (x : Held) → Stops w x.chunk.sphere p → GoodHeld w c x → GoodHeld (with_sphere w x.chunk.sphere p) c x
+stopped_here w p c x s good =
+    let i = x.chunk.sphere in
+    let v = with_sphere w i p in
+    let there : sphere_at v i ≡ p = sphere-same w.spheres i p s.within in
+    record {
+      sphere = subst (λ (n : ℕ). i < n) (sym (length-set w.spheres i p)) good.sphere;
+      start = ap (λ (q : Sphere). slice_get q.threads x.thread) there ∙ ap (λ (ts : List Parts). slice_get ts x.thread) s.threads ∙ good.start;
+      lives = good.lives;
+      halving = good.halving ∙ sym s.halving ∙ ap (λ (q : Sphere). halves q.role) (sym there);
+      limit = λ going. absurd (true≢false (sym s.stopped ∙ ap (λ (q : Sphere). is_stopped q.role) (sym there) ∙ going));
+      chunk = subst (λ (m : List ℕ). GoodChunk w.numbers.buffer w.numbers.signature w.slots c m x.chunk)
+      (ap (λ (m : List ℕ). lays m (flying i w.slots)) (sym s.memory) ∙ ap (λ (q : Sphere). lays q.memory (flying i w.slots)) (sym there)) good.chunk;
+    }
+
+pub stopped-good : (w : World) (i : ℕ) (p : Sphere) → Good w → Stops w i p → Good (with_sphere w i p)
+stopped-good w i p good s =
+    let f : Flight = record { sphere = i; words = []; writes = nothing w.numbers.signature; told = 0 } in
+    record {
+      buffer = good.buffer;
+      standard = good.standard;
+      apart = good.apart;
+      covered = good.covered;
+      flights = λ k x e. subst (λ (n : ℕ). x.sphere < n) (sym (length-set w.spheres i p)) (good.flights k x e);
+      held = λ d x e. elim (cases_eq x.chunk.sphere i) [
+        | inl same ↦ subst (λ (n : ℕ). Stops w n p → GoodHeld (with_sphere w n p) d x) same (λ t. stopped_here w p d x t (good.held d x e)) s
+        | inr ne ↦ elsewhere-held w i p f w.slots w.cores w.devices d x ne (unflown w i f good refl) (good.held d x e)
+      ];
+      alone = good.alone;
+    }
+
+pub stopped-shown : (w : World) (i : ℕ) (v : Moved) → Good w → v.sphere.memory ≡ (sphere_at w i).memory → v.words ≡ [] → v.devices ≡ w.devices → shown_of (with_sphere w i v.sphere) ≡ do_moved (shown_of w) i (relaid (current w i) v)
+stopped-shown w i v good memory words devices =
+    let f : Flight = record { sphere = i; words = v.words; writes = nothing w.numbers.signature; told = 0 } in
+    sym (λ j. shown_of (moved_world w i v.sphere w.slots w.cores (devices j)))
+    ∙ moved-shown w i v f w.slots w.cores memory refl (unflown w i f good words)
+
+granted_kept : (w : World) (c : ℕ) (h : Held) (q : Request) (writes : Marks) (v : Moved) (o : Outcome) → v.outcome ≡ o → Good w → Grants w c h q writes v → Kept w (granted w c q writes v o)
+granted_kept w c h q writes v Granted is good g =
+    record {
+      good = granted_good w c h q writes v good g;
+      sizes = granted_sizes w c h q writes v good g;
+      whole = granted_whole w c h q writes v good g;
+      fits = g.fits;
+    }
+granted_kept w c h q writes v Piece is good g =
+    record {
+      good = granted_good w c h q writes v good g;
+      sizes = granted_sizes w c h q writes v good g;
+      whole = granted_whole w c h q writes v good g;
+      fits = g.fits;
+    }
+granted_kept w c h q writes v (Diverged i why) is good g =
+    let d : Divergence w.devices (sphere_at w q.sphere) v (Diverged i why) = subst (Divergence w.devices (sphere_at w q.sphere) v) is g.moves.divergence in
+    record {
+      good = stopped-good w q.sphere v.sphere good
+      (record { within = g.within; memory = g.moves.keeps.memory; threads = d.2; halving = g.moves.keeps.halving; stopped = d.3 });
+      sizes = record { numbers = refl; spheres = length-set w.spheres q.sphere v.sphere; cores = refl; slots = refl };
+      whole = stopped-shown w q.sphere v good g.moves.keeps.memory d.0 d.1 ∙ sym g.whole;
+      fits = g.fits;
+    }
+
+-- ---- what is shown of the sphere that asks
+
+shown_at : (w : World) (i : ℕ) → i < length w.spheres → slice_get (shown_of w).spheres i ≡ Some (shown w.slots i (sphere_at w i))
+shown_at w i within = shown-get w.slots i w.spheres within
+
+shown_over : (w : World) (i : ℕ) → shown w.slots i (sphere_at w i) ≡ over (current w i) (sphere_at w i)
+unfolding shown
+shown_over w i = refl
+
+-- ---- a chunk
+
+abbrev chunk_move : World → Held → How → Moved
+chunk_move w h how =
+    chunk_moved h.thread (is_piece how) (is_short w.numbers.chunk how h.chunk.limit) h.chunk.done w.devices (sphere_at w h.chunk.sphere)
+
+-- done whole: a run of its instructions on the current memory
+chunk_whole : (w : World) (h : Held) (how : How) → h.chunk.sphere < length w.spheres → slice_get (sphere_at w h.chunk.sphere).threads h.thread ≡ Some h.chunk.start → run (current w h.chunk.sphere) h.chunk.start h.chunk.done.n ≡ h.chunk.done
+    → do_move w.numbers (shown_of w) (move_at (moment w) (chunk_request w h how)) ≡ do_moved (shown_of w) h.chunk.sphere (relaid (current w h.chunk.sphere) (chunk_move w h how))
+unfolding do_move
+chunk_whole w h how within start runs =
+    let i = h.chunk.sphere in
+    let ch = h.chunk in
+    let p = sphere_at w i in
+    let m = current w i in
+    let move = move_at (moment w) (chunk_request w h how) in
+    ap (do_at w.numbers (shown_of w) move) (shown_at w i within ∙ ap Some (shown_over w i))
+    ∙ ap (move_chunk w.numbers (shown_of w) i h.thread how ch.done.n ch.limit (over m p)) start
+    ∙ ap (λ (r : Run). do_moved (shown_of w) i (chunk_moved h.thread (is_piece how) (is_short w.numbers.chunk how ch.limit) r w.devices (over m p))) runs
+    ∙ ap (do_moved (shown_of w) i) (chunk-relaid h.thread (is_piece how) (is_short w.numbers.chunk how ch.limit) ch.done w.devices p m)
+
+-- no flight at all hits the chunk
+never_hits : (w : World) (ch : Chunk) → first_slot (meets_chunk ch.reads ch.writes) w.slots ≡ None → (k : ℕ) (f : Flight) → at w.slots k ≡ Some f → (hits f.writes ch.reads ≡ false) × (hits f.writes ch.writes ≡ false)
+never_hits w ch none k f is =
+    or_parts (hits f.writes ch.reads) (hits f.writes ch.writes) (first_none (meets_chunk ch.reads ch.writes) w.slots none k f is)
+
+chunk_lacks : (w : World) (c : ℕ) (h : Held) → Good w → GoodHeld w c h → first_slot (meets_chunk h.chunk.reads h.chunk.writes) w.slots ≡ None → AllLack h.chunk.done.words (flying h.chunk.sphere w.slots)
+chunk_lacks w c h good held none =
+    flying-all_lack h.chunk.sphere h.chunk.done.words w.slots
+    (λ k f is same.
+    let cov = good.covered k f is in
+    AllLack_flip f.words h.chunk.done.words
+    (apart-covered h.chunk.sphere f.writes h.chunk.writes f.words h.chunk.done.words (held.chunk.writes_size ∙ sym cov.size) (subst (λ (n : ℕ). CoversAll n f.writes f.words) same cov.words) held.chunk.writes
+    (never_hits w h.chunk none k f is).1))
+
+chunk_live : (w : World) (c : ℕ) (h : Held) → GoodHeld w c h → first_slot (meets_chunk h.chunk.reads h.chunk.writes) w.slots ≡ None → Live (current w h.chunk.sphere) h.chunk
+chunk_live w c h held none = held.chunk.live (record { misses = λ k f is same untold. (never_hits w h.chunk none k f is).0 })
