@@ -13,4 +13,5 @@ pub mod Invariant
 pub mod OnCores
 pub mod OnFlights
 pub mod Landing
-pub mod OnCommits
+pub mod Granting
+pub mod OnAsks

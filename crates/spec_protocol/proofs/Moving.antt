@@ -211,6 +211,26 @@ pub chunk-moves : (k : ℕ) (piece short : Bool) (r : Run) (devices : Devices) (
 unfolding chunk_moved
 chunk-moves k piece short r devices p turn apart = chunk_in_moves k p.role piece short r devices p refl turn apart
 
+-- it stores the run's words, or none
+verdict_stores : (P : List Stored → Type 0) (b : Book) (k : ℕ) (verdict : Verdict) (devices : Devices) (p : Sphere) (ws : List Stored) → P [] → P ws → ((e : Effect) (u : Used) → verdict ≡ Goes e u → e.words ≡ ws) → P (by_verdict b k verdict devices p).words
+verdict_stores P b k (Fails why) devices p ws none some each = none
+verdict_stores P b k (Goes e u) devices p ws none some each = subst P (sym (each e u refl)) some
+
+replayed_stores : (P : List Stored → Type 0) (b : Book) (k : ℕ) (piece : Bool) (r : Run) (devices : Devices) (p : Sphere) → P [] → P r.words → P (replayed_chunk piece b k r devices p).words
+replayed_stores P b k true r devices p none some = some
+replayed_stores P b k false r devices p none some =
+    verdict_stores P b k (chunk_verdict b.log p.progress b.used k (joined b r)) devices p r.words none some
+    (λ e u h. chunk_words b.log p.progress b.used k (joined b r) e u h)
+
+stores_in : (P : List Stored → Type 0) (role : Role) (k : ℕ) (piece short : Bool) (r : Run) (devices : Devices) (p : Sphere) → P [] → P r.words → P (chunk_in role k piece short r devices p).words
+stores_in P Plain k piece short r devices p none some = some
+stores_in P (Record log) k piece short r devices p none some = some
+stores_in P (Replay b) k piece short r devices p none some = replayed_stores P b k piece r devices p none some
+
+pub chunk-stores : (P : List Stored → Type 0) (k : ℕ) (piece short : Bool) (r : Run) (devices : Devices) (p : Sphere) → P [] → P r.words → P (chunk_moved k piece short r devices p).words
+unfolding chunk_moved
+chunk-stores P k piece short r devices p none some = stores_in P p.role k piece short r devices p none some
+
 -- ---- serial steps
 
 pub bytes_apart : (ws : List Stored) (a : ℕ) (bytes : List ℕ) → Apart ws → Apart (bytes_put ws a bytes)

@@ -1,4 +1,4 @@
--- The event Ask keeps the invariant, and what it grants is what the commit, done whole on the current memory, gives.
+-- A granted request keeps the invariant, where its stores meet no flight and it gives what it would on the current memory.
 use Rattle.std.proofs.Common.{◌≡◌, ◌≢◌, ℕ, zero, suc, ◌<◌, ◌≤◌, ◌^◌, ◌⊎◌, inl, inr, Bool, true, false, not, ◌&&◌, eqb, cond, List, [], ◌∷◌, ◌++◌, length, Option, Some, None, refl, sym, ap, ◌∙◌, subst, arith, set, get_or}
 use Rattle.std.specs.Prelude.{slice_get, IsSome}
 use Rattle.std.proofs.Math.ListN.{length-set}
@@ -44,22 +44,22 @@ use Rattle.spec_protocol.proofs.Landing.{begun-begins, begun-held, Begins, moved
 
 -- ---- a request that is granted, or diverges
 
-abbrev request_flight : World → (core : ℕ) → Request → Marks → Moved → Flight
+abbrev pub request_flight : World → (core : ℕ) → Request → Marks → Moved → Flight
 request_flight w c q writes v = record { sphere = q.sphere; words = v.words; writes = writes; told = 2 ^ c }
 
 -- core c holds h, whose request q moves its sphere by v; its stores meet no flight, and v is what it gives on current memory
-record Grants (w : World) (c : ℕ) (h : Held) (q : Request) (writes : Marks) (v : Moved) : Type 0 where
-  is : at w.cores c ≡ Some h
-  sphere : h.chunk.sphere ≡ q.sphere
-  thread : h.thread ≡ q.thread
-  within : q.sphere < length w.spheres
-  going : is_stopped (sphere_at w q.sphere).role ≡ false
-  moves : MovesOnly q.thread w.devices (sphere_at w q.sphere) v
-  free : is_full w.slots ≡ false
-  covered : Covered w.numbers.signature (request_flight w c q writes v)
-  lack : AllLack v.words (flying q.sphere w.slots)
-  whole : do_move w.numbers (shown_of w) (move_at (moment w) q) ≡ do_moved (shown_of w) q.sphere (relaid (current w q.sphere) v)
-  fits : Fits w.numbers (shown_of w) (move_at (moment w) q)
+pub record Grants (w : World) (c : ℕ) (h : Held) (q : Request) (writes : Marks) (v : Moved) : Type 0 where
+  pub is : at w.cores c ≡ Some h
+  pub sphere : h.chunk.sphere ≡ q.sphere
+  pub thread : h.thread ≡ q.thread
+  pub within : q.sphere < length w.spheres
+  pub going : is_stopped (sphere_at w q.sphere).role ≡ false
+  pub moves : MovesOnly q.thread w.devices (sphere_at w q.sphere) v
+  pub free : is_full w.slots ≡ false
+  pub covered : Covered w.numbers.signature (request_flight w c q writes v)
+  pub lack : AllLack v.words (flying q.sphere w.slots)
+  pub whole : do_move w.numbers (shown_of w) (move_at (moment w) q) ≡ do_moved (shown_of w) q.sphere (relaid (current w q.sphere) v)
+  pub fits : Fits w.numbers (shown_of w) (move_at (moment w) q)
 
 grant_flew : (w : World) (c : ℕ) (h : Held) (q : Request) (writes : Marks) (v : Moved) → Good w → Grants w c h q writes v
     → Flew q.sphere (request_flight w c q writes v) w.slots (flown q.sphere v.words writes (2 ^ c) w.slots)
@@ -200,22 +200,22 @@ stopped-shown w i v good memory words devices =
     sym (λ j. shown_of (moved_world w i v.sphere w.slots w.cores (devices j)))
     ∙ moved-shown w i v f w.slots w.cores memory refl (unflown w i f good words)
 
-granted_kept : (w : World) (c : ℕ) (h : Held) (q : Request) (writes : Marks) (v : Moved) (o : Outcome) → v.outcome ≡ o → Good w → Grants w c h q writes v → Kept w (granted w c q writes v o)
-granted_kept w c h q writes v Granted is good g =
+pub granted-kept : (w : World) (c : ℕ) (h : Held) (q : Request) (writes : Marks) (v : Moved) (o : Outcome) → v.outcome ≡ o → Good w → Grants w c h q writes v → Kept w (granted w c q writes v o)
+granted-kept w c h q writes v Granted is good g =
     record {
       good = granted_good w c h q writes v good g;
       sizes = granted_sizes w c h q writes v good g;
       whole = granted_whole w c h q writes v good g;
       fits = g.fits;
     }
-granted_kept w c h q writes v Piece is good g =
+granted-kept w c h q writes v Piece is good g =
     record {
       good = granted_good w c h q writes v good g;
       sizes = granted_sizes w c h q writes v good g;
       whole = granted_whole w c h q writes v good g;
       fits = g.fits;
     }
-granted_kept w c h q writes v (Diverged i why) is good g =
+granted-kept w c h q writes v (Diverged i why) is good g =
     let d : Divergence w.devices (sphere_at w q.sphere) v (Diverged i why) = subst (Divergence w.devices (sphere_at w q.sphere) v) is g.moves.divergence in
     record {
       good = stopped-good w q.sphere v.sphere good
@@ -224,50 +224,3 @@ granted_kept w c h q writes v (Diverged i why) is good g =
       whole = stopped-shown w q.sphere v good g.moves.keeps.memory d.0 d.1 ∙ sym g.whole;
       fits = g.fits;
     }
-
--- ---- what is shown of the sphere that asks
-
-shown_at : (w : World) (i : ℕ) → i < length w.spheres → slice_get (shown_of w).spheres i ≡ Some (shown w.slots i (sphere_at w i))
-shown_at w i within = shown-get w.slots i w.spheres within
-
-shown_over : (w : World) (i : ℕ) → shown w.slots i (sphere_at w i) ≡ over (current w i) (sphere_at w i)
-unfolding shown
-shown_over w i = refl
-
--- ---- a chunk
-
-abbrev chunk_move : World → Held → How → Moved
-chunk_move w h how =
-    chunk_moved h.thread (is_piece how) (is_short w.numbers.chunk how h.chunk.limit) h.chunk.done w.devices (sphere_at w h.chunk.sphere)
-
--- done whole: a run of its instructions on the current memory
-chunk_whole : (w : World) (h : Held) (how : How) → h.chunk.sphere < length w.spheres → slice_get (sphere_at w h.chunk.sphere).threads h.thread ≡ Some h.chunk.start → run (current w h.chunk.sphere) h.chunk.start h.chunk.done.n ≡ h.chunk.done
-    → do_move w.numbers (shown_of w) (move_at (moment w) (chunk_request w h how)) ≡ do_moved (shown_of w) h.chunk.sphere (relaid (current w h.chunk.sphere) (chunk_move w h how))
-unfolding do_move
-chunk_whole w h how within start runs =
-    let i = h.chunk.sphere in
-    let ch = h.chunk in
-    let p = sphere_at w i in
-    let m = current w i in
-    let move = move_at (moment w) (chunk_request w h how) in
-    ap (do_at w.numbers (shown_of w) move) (shown_at w i within ∙ ap Some (shown_over w i))
-    ∙ ap (move_chunk w.numbers (shown_of w) i h.thread how ch.done.n ch.limit (over m p)) start
-    ∙ ap (λ (r : Run). do_moved (shown_of w) i (chunk_moved h.thread (is_piece how) (is_short w.numbers.chunk how ch.limit) r w.devices (over m p))) runs
-    ∙ ap (do_moved (shown_of w) i) (chunk-relaid h.thread (is_piece how) (is_short w.numbers.chunk how ch.limit) ch.done w.devices p m)
-
--- no flight at all hits the chunk
-never_hits : (w : World) (ch : Chunk) → first_slot (meets_chunk ch.reads ch.writes) w.slots ≡ None → (k : ℕ) (f : Flight) → at w.slots k ≡ Some f → (hits f.writes ch.reads ≡ false) × (hits f.writes ch.writes ≡ false)
-never_hits w ch none k f is =
-    or_parts (hits f.writes ch.reads) (hits f.writes ch.writes) (first_none (meets_chunk ch.reads ch.writes) w.slots none k f is)
-
-chunk_lacks : (w : World) (c : ℕ) (h : Held) → Good w → GoodHeld w c h → first_slot (meets_chunk h.chunk.reads h.chunk.writes) w.slots ≡ None → AllLack h.chunk.done.words (flying h.chunk.sphere w.slots)
-chunk_lacks w c h good held none =
-    flying-all_lack h.chunk.sphere h.chunk.done.words w.slots
-    (λ k f is same.
-    let cov = good.covered k f is in
-    AllLack_flip f.words h.chunk.done.words
-    (apart-covered h.chunk.sphere f.writes h.chunk.writes f.words h.chunk.done.words (held.chunk.writes_size ∙ sym cov.size) (subst (λ (n : ℕ). CoversAll n f.writes f.words) same cov.words) held.chunk.writes
-    (never_hits w h.chunk none k f is).1))
-
-chunk_live : (w : World) (c : ℕ) (h : Held) → GoodHeld w c h → first_slot (meets_chunk h.chunk.reads h.chunk.writes) w.slots ≡ None → Live (current w h.chunk.sphere) h.chunk
-chunk_live w c h held none = held.chunk.live (record { misses = λ k f is same untold. (never_hits w h.chunk none k f is).0 })
