@@ -143,7 +143,7 @@ granted_whole w c h q writes v good g =
 
 -- ---- a divergence, which stops the sphere
 
-unflown : (w : World) (i : ℕ) (f : Flight) → Good w → f.words ≡ [] → Flew i f w.slots w.slots
+pub unflown : (w : World) (i : ℕ) (f : Flight) → Good w → f.words ≡ [] → Flew i f w.slots w.slots
 unflown w i f good e =
     record {
       size = refl;

@@ -15,3 +15,5 @@ pub mod OnFlights
 pub mod Landing
 pub mod Granting
 pub mod OnAsks
+pub mod OnThreads
+pub mod OnTransfers

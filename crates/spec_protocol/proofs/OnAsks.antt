@@ -39,10 +39,10 @@ use Rattle.spec_protocol.proofs.Granting.{Grants, granted-kept}
 
 -- ---- what is shown of the sphere that asks
 
-shown_at : (w : World) (i : ℕ) → i < length w.spheres → slice_get (shown_of w).spheres i ≡ Some (shown w.slots i (sphere_at w i))
+pub shown_at : (w : World) (i : ℕ) → i < length w.spheres → slice_get (shown_of w).spheres i ≡ Some (shown w.slots i (sphere_at w i))
 shown_at w i within = shown-get w.slots i w.spheres within
 
-shown_over : (w : World) (i : ℕ) → shown w.slots i (sphere_at w i) ≡ over (current w i) (sphere_at w i)
+pub shown_over : (w : World) (i : ℕ) → shown w.slots i (sphere_at w i) ≡ over (current w i) (sphere_at w i)
 unfolding shown
 shown_over w i = refl
 
@@ -267,7 +267,7 @@ grant_serial_kept : (w : World) (c : ℕ) (h : Held) → Good w → Grants w c h
 unfolding grant_serial
 grant_serial_kept w c h good g = granted-kept w c h (serial_request h) _ (serial_move w h) _ refl good g
 
-denied_kept : (w : World) (a : After) (o : Option ℕ) → Good w → (o ≡ None → Kept w a) → Kept w (unless_denied (denied_by o) w a)
+pub denied_kept : (w : World) (a : After) (o : Option ℕ) → Good w → (o ≡ None → Kept w a) → Kept w (unless_denied (denied_by o) w a)
 denied_kept w a None good kept = kept refl
 denied_kept w a (Some k) good kept = still-kept w (still w (Reply.Denied k)) refl refl good
 
