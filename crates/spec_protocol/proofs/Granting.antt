@@ -7,6 +7,7 @@ use Rattle.std.proofs.lemmas.Nat.Bits.{bit_at-pow_other}
 use Rattle.std.proofs.lemmas.Option.{none-some}
 use Rattle.dl_entry.specs.declared.Actor.{Actor}
 use Rattle.dl_entry.specs.declared.CommitKind.{CommitKind}
+use Rattle.dl_entry.specs.declared.Point.{Point}
 use Rattle.dl_entry.specs.declared.Why.{Why}
 use Rattle.spec_isa.specs.declared.thread.Parts.{Parts}
 use Rattle.spec_isa.specs.Words.{Stored, lays, Apart}
@@ -27,7 +28,7 @@ use Rattle.spec_protocol.specs.Spheres.{Role, Plain, Record, Replay, Sphere, is_
 use Rattle.spec_protocol.specs.Placing.{replays}
 use Rattle.spec_protocol.specs.Commits.{Outcome, Granted, Piece, Diverged, Moved, is_piece, chunk_moved, serial_moved}
 use Rattle.spec_protocol.specs.World.{Numbers, Held, World, moment, sphere_at, with_sphere, with_core, begun, flown, What, OfChunk, OfSerial, Move, After, still}
-use Rattle.spec_protocol.specs.Asking.{Request, move_at, world_with, granted, is_short, chunk_request, grant_chunk, unless_denied, serial_request, grant_serial, unless_busy, asks_serial, ask_arbiter, other_turn, unless_turn, ask_closed, ask_held, asking}
+use Rattle.spec_protocol.specs.Asking.{Request, point_at, move_at, world_with, granted, is_short, chunk_request, grant_chunk, unless_denied, serial_request, grant_serial, unless_busy, asks_serial, ask_arbiter, other_turn, unless_turn, ask_closed, ask_held, asking}
 use Rattle.spec_protocol.specs.Serial.{Whole, do_moved, do_serial}
 use Rattle.spec_protocol.specs.Shown.{words_of, flying, shown, shown_from, shown_of}
 use Rattle.spec_protocol.specs.Moves.{move_chunk, do_what, do_at, do_move, do_if, ChunkFits, SerialFits, FitsWhat, FitsAt, Fits, FitsIf}
@@ -38,7 +39,7 @@ use Rattle.spec_protocol.proofs.Covering.{CoversAll, bits-signed, CoversAll-sign
 use Rattle.spec_protocol.proofs.Current.{GoodChunk}
 use Rattle.spec_protocol.proofs.Moving.{KeepsOthers, Divergence, MovesOnly, HasTurn, chunk-moves, serial-moves}
 use Rattle.spec_protocol.proofs.Relaying.{over, relaid, chunk-relaid}
-use Rattle.spec_protocol.proofs.Invariant.{current, LimitFits, GoodHeld, IsAlone, Good, SameSizes, Kept, sphere-same, shown-get, still-kept}
+use Rattle.spec_protocol.proofs.Invariant.{current, LimitFits, GoodHeld, IsAlone, Good, SameSizes, point_for, PointOf, PointIs, Kept, point-made, point-other, sphere-same, shown-get, still-kept}
 use Rattle.spec_protocol.proofs.OnCores.{set-cases, alone-set, branch}
 use Rattle.spec_protocol.proofs.Landing.{begun-begins, begun-held, Begins, moved_world, Lands, landed-held, elsewhere-held, moved-shown}
 
@@ -58,6 +59,9 @@ pub record Grants (w : World) (c : ℕ) (h : Held) (q : Request) (writes : Marks
   pub free : is_full w.slots ≡ false
   pub covered : Covered w.numbers.signature (request_flight w c q writes v)
   pub lack : AllLack v.words (flying q.sphere w.slots)
+  -- a plain or recorded sphere grants it, and the point tells it
+  pub lives : replays (sphere_at w q.sphere).role ≡ false → v.outcome ≡ Granted
+  pub tells : point_at (moment w) q q.kind ≡ point_for w.numbers (moment w) q.sphere q.what
   pub whole : do_move w.numbers (shown_of w) (move_at (moment w) q) ≡ do_moved (shown_of w) q.sphere (relaid (current w q.sphere) v)
   pub fits : Fits w.numbers (shown_of w) (move_at (moment w) q)
 
@@ -202,9 +206,12 @@ stopped-shown w i v good memory words devices =
 
 pub granted-kept : (w : World) (c : ℕ) (h : Held) (q : Request) (writes : Marks) (v : Moved) (o : Outcome) → v.outcome ≡ o → Good w → Grants w c h q writes v → Kept w (granted w c q writes v o)
 granted-kept w c h q writes v Granted is good g =
+    let m = move_at (moment w) q in
+    let b = replays (sphere_at w q.sphere).role in
     record {
       good = granted_good w c h q writes v good g;
       sizes = granted_sizes w c h q writes v good g;
+      point = subst (λ (p : Point). PointOf w.numbers b m (Some p)) (sym g.tells) (point-made w.numbers b m);
       whole = granted_whole w c h q writes v good g;
       fits = g.fits;
     }
@@ -212,6 +219,8 @@ granted-kept w c h q writes v Piece is good g =
     record {
       good = granted_good w c h q writes v good g;
       sizes = granted_sizes w c h q writes v good g;
+      point = point-other w.numbers (replays (sphere_at w q.sphere).role) (move_at (moment w) q) _
+      (λ live. let e : Granted ≡ Piece = sym (g.lives live) ∙ is in cc) refl;
       whole = granted_whole w c h q writes v good g;
       fits = g.fits;
     }
@@ -221,6 +230,8 @@ granted-kept w c h q writes v (Diverged i why) is good g =
       good = stopped-good w q.sphere v.sphere good
       (record { within = g.within; memory = g.moves.keeps.memory; threads = d.2; halving = g.moves.keeps.halving; stopped = d.3 });
       sizes = record { numbers = refl; spheres = length-set w.spheres q.sphere v.sphere; cores = refl; slots = refl };
+      point = point-other w.numbers (replays (sphere_at w q.sphere).role) (move_at (moment w) q) _
+      (λ live. let e : Granted ≡ Diverged i why = sym (g.lives live) ∙ is in cc) tt;
       whole = stopped-shown w q.sphere v good g.moves.keeps.memory d.0 d.1 ∙ sym g.whole;
       fits = g.fits;
     }

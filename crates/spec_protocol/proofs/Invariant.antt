@@ -3,7 +3,10 @@ use Rattle.std.proofs.Common.{◌≡◌, ◌≢◌, ℕ, zero, suc, ◌+◌, ◌
 use Rattle.std.specs.Prelude.{slice_get, option_map}
 use Rattle.std.proofs.Math.ListN.{length-set}
 use Rattle.std.proofs.lemmas.Option.{none-some, slice_get-get_or}
+use Rattle.dl_entry.specs.declared.Actor.{Actor}
+use Rattle.dl_entry.specs.declared.CommitKind.{CommitKind}
 use Rattle.dl_entry.specs.declared.Point.{Point}
+use Rattle.spec_protocol.specs.Asking.{is_short}
 use Rattle.spec_isa.specs.declared.thread.Parts.{Parts}
 use Rattle.spec_isa.specs.Words.{Stored, lays, Apart}
 use Rattle.spec_kernel.specs.Devices.{Devices}
@@ -12,7 +15,7 @@ use Rattle.spec_engine.specs.Flights.{Flight, at}
 use Rattle.spec_engine.specs.Chunks.{Chunk}
 use Rattle.spec_protocol.specs.Spheres.{Role, Sphere, no_sphere, is_stopped, limit_of, halves}
 use Rattle.spec_protocol.specs.Placing.{replays}
-use Rattle.spec_protocol.specs.World.{Numbers, Held, World, Move, After, sphere_at}
+use Rattle.spec_protocol.specs.World.{Numbers, Held, World, What, OfChunk, OfSerial, OfDma, OfRaise, Move, After, sphere_at}
 use Rattle.spec_protocol.specs.Serial.{Whole}
 use Rattle.spec_protocol.specs.Shown.{flying, shown, shown_from, shown_of}
 use Rattle.spec_protocol.specs.Moves.{do_if, FitsIf}
@@ -60,9 +63,35 @@ pub record SameSizes (w v : World) : Type 0 where
   pub cores : length v.cores ≡ length w.cores
   pub slots : length v.slots ≡ length w.slots
 
+-- the point that a move makes where the sphere is plain or recorded
+abbrev pub point_for : Numbers → (moment i : ℕ) → What → Point
+point_for z now i (OfChunk k how n limit) = Point.Commit now i (Actor.Thread k) CommitKind.Chunk n (is_short z.chunk how limit)
+point_for z now i (OfSerial k) = Point.Commit now i (Actor.Thread k) CommitKind.Serial 0 false
+point_for z now i OfDma = Point.Commit now i Actor.Dma CommitKind.Dma 0 false
+point_for z now i (OfRaise k value) = Point.Raise now i k value
+
+abbrev pub sphere_of_point : Point → ℕ
+sphere_of_point (Point.Commit moment i actor kind size short) = i
+sphere_of_point (Point.Raise moment i k value) = i
+
+-- the point is of that sphere, if there is one
+abbrev pub IsOf : (i : ℕ) → Option Point → Type 0
+IsOf i None = Unit {0}
+IsOf i (Some p) = sphere_of_point p ≡ i
+
+-- in a plain or recorded sphere a move makes its point; in a replayed one it may make one of the sphere
+abbrev pub PointOf : Numbers → (replays : Bool) → Move → Option Point → Type 0
+PointOf z true m o = IsOf m.sphere o
+PointOf z false m o = o ≡ Some (point_for z m.moment m.sphere m.what)
+
+abbrev pub PointIs : World → Option Move → Option Point → Type 0
+PointIs w None o = o ≡ None
+PointIs w (Some m) o = PointOf w.numbers (replays (sphere_at w m.sphere).role) m o
+
 pub record Kept (w : World) (a : After) : Type 0 where
   pub good : Good a.world
   pub sizes : SameSizes w a.world
+  pub point : PointIs w a.move a.point
   -- the world shows what its move, done whole, gives
   pub whole : shown_of a.world ≡ do_if w.numbers (shown_of w) a.move
   -- and the move can be done as it says
@@ -131,13 +160,32 @@ shown-unmoved xs ys i ps p same e =
     shown-set xs ys i ps p same ∙ ap (set (shown_from xs 0 ps) i) e ∙ sym (shown-set xs xs i ps (get_or ps i no_sphere) (λ j ne. refl))
     ∙ ap (shown_from xs 0) (set-itself ps i)
 
+-- ---- points
+
+sphere_for : (z : Numbers) (now i : ℕ) (what : What) → sphere_of_point (point_for z now i what) ≡ i
+sphere_for z now i (OfChunk k how n limit) = refl
+sphere_for z now i (OfSerial k) = refl
+sphere_for z now i OfDma = refl
+sphere_for z now i (OfRaise k value) = refl
+
+-- a move makes its point, whatever the role
+pub point-made : (z : Numbers) (b : Bool) (m : Move) → PointOf z b m (Some (point_for z m.moment m.sphere m.what))
+point-made z true m = sphere_for z m.moment m.sphere m.what
+point-made z false m = refl
+
+-- in a replay it may make another one, or none
+pub point-other : (z : Numbers) (b : Bool) (m : Move) (o : Option Point) → (b ≡ false → ⊥) → IsOf m.sphere o → PointOf z b m o
+point-other z true m o replayed is = is
+point-other z false m o replayed is = absurd (replayed refl)
+
 -- ---- an event that answers and does nothing
 
-pub still-kept : (w : World) (a : After) → a.world ≡ w → a.move ≡ None → Good w → Kept w a
-still-kept w a world move good =
+pub still-kept : (w : World) (a : After) → a.world ≡ w → a.move ≡ None → a.point ≡ None → Good w → Kept w a
+still-kept w a world move point good =
     record {
       good = subst Good (sym world) good;
       sizes = subst (SameSizes w) (sym world) (same_sizes w);
+      point = subst (λ (m : Option Move). PointIs w m a.point) (sym move) point;
       whole = ap shown_of world ∙ sym (ap (do_if w.numbers (shown_of w)) move);
       fits = subst (FitsIf w.numbers (shown_of w)) (sym move) tt;
     }

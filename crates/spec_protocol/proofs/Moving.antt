@@ -320,3 +320,23 @@ serial_in_moves k moment (Replay b) t devices p is turn =
 pub serial-moves : (k moment : ℕ) (t : Parts) (devices : Devices) (p : Sphere) → HasTurn k p.role p → MovesOnly k devices p (serial_moved k moment t devices p)
 unfolding serial_moved
 serial-moves k moment t devices p turn = serial_in_moves k moment p.role t devices p refl turn
+
+-- ---- plain and recorded spheres grant every request
+
+chunk_in_lives : (role : Role) (k : ℕ) (piece short : Bool) (r : Run) (devices : Devices) (p : Sphere) → replays role ≡ false → (chunk_in role k piece short r devices p).outcome ≡ Granted
+chunk_in_lives Plain k piece short r devices p live = refl
+chunk_in_lives (Record log) k piece short r devices p live = refl
+chunk_in_lives (Replay b) k piece short r devices p live = absurd (true≢false live)
+
+pub chunk-lives : (k : ℕ) (piece short : Bool) (r : Run) (devices : Devices) (p : Sphere) → replays p.role ≡ false → (chunk_moved k piece short r devices p).outcome ≡ Granted
+unfolding chunk_moved
+chunk-lives k piece short r devices p live = chunk_in_lives p.role k piece short r devices p live
+
+serial_in_lives : (role : Role) (k moment : ℕ) (t : Parts) (devices : Devices) (p : Sphere) → replays role ≡ false → (serial_in role k moment t devices p).outcome ≡ Granted
+serial_in_lives Plain k moment t devices p live = refl
+serial_in_lives (Record log) k moment t devices p live = refl
+serial_in_lives (Replay b) k moment t devices p live = absurd (true≢false live)
+
+pub serial-lives : (k moment : ℕ) (t : Parts) (devices : Devices) (p : Sphere) → replays p.role ≡ false → (serial_moved k moment t devices p).outcome ≡ Granted
+unfolding serial_moved
+serial-lives k moment t devices p live = serial_in_lives p.role k moment t devices p live

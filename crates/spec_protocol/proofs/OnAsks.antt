@@ -31,7 +31,7 @@ use Rattle.spec_protocol.proofs.Laying.{AllLack, AllLack_nil, AllLack_flip}
 use Rattle.spec_protocol.proofs.Slots.{words-other}
 use Rattle.spec_protocol.proofs.Running.{Live}
 use Rattle.spec_protocol.proofs.Covering.{CoversAll, bits-signed, CoversAll-signed, apart-covered, flying-all_lack, Covered}
-use Rattle.spec_protocol.proofs.Moving.{MovesOnly, HasTurn, chunk-stores, chunk-moves, serial-moves}
+use Rattle.spec_protocol.proofs.Moving.{MovesOnly, HasTurn, chunk-stores, chunk-lives, serial-lives, chunk-moves, serial-moves}
 use Rattle.spec_protocol.proofs.Relaying.{over, relaid, chunk-relaid}
 use Rattle.spec_protocol.proofs.Invariant.{current, GoodHeld, Good, Kept, shown-get, still-kept}
 use Rattle.spec_protocol.proofs.OnCores.{branch}
@@ -166,6 +166,8 @@ chunk_grants w c h how good is closed going turn free chunk none =
         words = chunk-stores (CoversAll i h.chunk.writes) h.thread (is_piece how) short h.chunk.done w.devices p tt held.chunk.writes;
       };
       lack = chunk-stores (λ (ws : List Stored). AllLack ws (flying i w.slots)) h.thread (is_piece how) short h.chunk.done w.devices p tt (chunk_lacks w c h good held none);
+      lives = λ e. chunk-lives h.thread (is_piece how) short h.chunk.done w.devices p e;
+      tells = refl;
       whole = chunk_whole w h how held.sphere held.start live.runs;
       fits = chunk_fits_at w h how held.sphere held.start (chunk_fits w c h how held live closed going turn chunk);
     }
@@ -246,6 +248,8 @@ serial_grants w c h good is going turn free serial none =
         words = CoversAll-signed i v.words (nothing w.numbers.signature);
       };
       lack = subst (AllLack v.words) (sym empty) (AllLack_nil v.words);
+      lives = λ e. serial-lives h.thread (moment w) h.chunk.start w.devices p e;
+      tells = refl;
       whole = serial_whole w h held.sphere held.start empty moves.keeps.memory;
       fits = serial_fits_at w h held.sphere held.start
       (record {
@@ -269,11 +273,11 @@ grant_serial_kept w c h good g = granted-kept w c h (serial_request h) _ (serial
 
 pub denied_kept : (w : World) (a : After) (o : Option ℕ) → Good w → (o ≡ None → Kept w a) → Kept w (unless_denied (denied_by o) w a)
 denied_kept w a None good kept = kept refl
-denied_kept w a (Some k) good kept = still-kept w (still w (Reply.Denied k)) refl refl good
+denied_kept w a (Some k) good kept = still-kept w (still w (Reply.Denied k)) refl refl refl good
 
 busy_kept : (w : World) (a : After) (o : Option ℕ) → Good w → (o ≡ None → Kept w a) → Kept w (unless_busy (busy_by o) w a)
 busy_kept w a None good kept = kept refl
-busy_kept w a (Some k) good kept = still-kept w (still w (Reply.SphereBusy k)) refl refl good
+busy_kept w a (Some k) good kept = still-kept w (still w (Reply.SphereBusy k)) refl refl refl good
 
 arbiter_kept : (w : World) (c : ℕ) (h : Held) (how : How) (serial : Bool) → Good w → at w.cores c ≡ Some h → h.chunk.closed ≡ Some how → is_stopped (sphere_at w h.chunk.sphere).role ≡ false → other_turn (head_of (sphere_at w h.chunk.sphere)) h.thread ≡ None
     → is_full w.slots ≡ false → asks_serial h.chunk (sphere_at w h.chunk.sphere).role ≡ serial → Kept w (ask_arbiter w c h how serial)
@@ -286,23 +290,23 @@ arbiter_kept w c h how false good is closed going turn free chunk =
 
 pub turn-kept : (w : World) (a : After) (o : Option Actor) → Good w → (o ≡ None → Kept w a) → Kept w (unless_turn o w a)
 turn-kept w a None good kept = kept refl
-turn-kept w a (Some actor) good kept = still-kept w (still w (Reply.NotTurn actor)) refl refl good
+turn-kept w a (Some actor) good kept = still-kept w (still w (Reply.NotTurn actor)) refl refl refl good
 
 closed_kept : (w : World) (c : ℕ) (h : Held) (o : Option How) → Good w → at w.cores c ≡ Some h → h.chunk.closed ≡ o → Kept w (ask_closed w c h o)
-closed_kept w c h None good is closed = still-kept w (still w Reply.NotClosed) refl refl good
+closed_kept w c h None good is closed = still-kept w (still w Reply.NotClosed) refl refl refl good
 closed_kept w c h (Some how) good is closed =
     let p = sphere_at w h.chunk.sphere in
     let turn = other_turn (head_of p) h.thread in
     let arbiter = ask_arbiter w c h how (asks_serial h.chunk p.role) in
     branch (Kept w) (is_stopped p.role) (still w Reply.Stopped) (unless_turn turn w (cond (is_full w.slots) (still w Reply.WindowFull) arbiter))
-    (λ _. still-kept w (still w Reply.Stopped) refl refl good)
+    (λ _. still-kept w (still w Reply.Stopped) refl refl refl good)
     (λ going. turn-kept w (cond (is_full w.slots) (still w Reply.WindowFull) arbiter) turn good
     (λ mine. branch (Kept w) (is_full w.slots) (still w Reply.WindowFull) arbiter
-    (λ _. still-kept w (still w Reply.WindowFull) refl refl good)
+    (λ _. still-kept w (still w Reply.WindowFull) refl refl refl good)
     (λ free. arbiter_kept w c h how (asks_serial h.chunk p.role) good is closed going mine free refl)))
 
 ask_held_kept : (w : World) (c : ℕ) (o : Option Held) → Good w → at w.cores c ≡ o → Kept w (ask_held w c o)
-ask_held_kept w c None good is = still-kept w (still w Reply.Idle) refl refl good
+ask_held_kept w c None good is = still-kept w (still w Reply.Idle) refl refl refl good
 ask_held_kept w c (Some h) good is = closed_kept w c h h.chunk.closed good is refl
 
 pub ask-kept : (w : World) (c : ℕ) → Good w → Kept w (asking w c)

@@ -14,7 +14,7 @@ use Rattle.spec_engine.specs.Chunks.{Chunk, step, Cutting, cut_open, cut, is_ope
 use Rattle.spec_protocol.specs.declared.reply.Reply.{Reply}
 use Rattle.spec_protocol.specs.Spheres.{Role, Sphere, is_stopped, limit_of, halves}
 use Rattle.spec_protocol.specs.Placing.{replays}
-use Rattle.spec_protocol.specs.World.{Held, World, After, sphere_at, with_core, still}
+use Rattle.spec_protocol.specs.World.{Held, World, Move, After, sphere_at, with_core, still}
 use Rattle.spec_protocol.specs.Shown.{flying, shown_of}
 use Rattle.spec_protocol.specs.Moves.{do_if, FitsIf}
 use Rattle.spec_protocol.specs.Stepping.{with_chunk, stepped, step_held, stepping, cut_to, cut_held, cutting}
@@ -23,7 +23,7 @@ use Rattle.spec_protocol.proofs.Running.{Live}
 use Rattle.spec_protocol.proofs.Covering.{Quiet}
 use Rattle.spec_protocol.proofs.Steps.{Closes, SameBase}
 use Rattle.spec_protocol.proofs.Current.{GoodChunk, step-good}
-use Rattle.spec_protocol.proofs.Invariant.{current, LimitFits, GoodHeld, IsAlone, Good, SameSizes, Kept, still-kept}
+use Rattle.spec_protocol.proofs.Invariant.{current, LimitFits, GoodHeld, IsAlone, Good, SameSizes, PointIs, Kept, still-kept}
 
 -- ---- rows of cores and slots
 
@@ -80,11 +80,12 @@ core-good w c o good new other =
       alone = alone-set w.cores c o good.alone other;
     }
 
-pub core-kept : (w : World) (c : ℕ) (o : Option Held) (a : After) → a.world ≡ with_core w c o → a.move ≡ None → Good (with_core w c o) → Kept w a
-core-kept w c o a world move good =
+pub core-kept : (w : World) (c : ℕ) (o : Option Held) (a : After) → a.world ≡ with_core w c o → a.move ≡ None → a.point ≡ None → Good (with_core w c o) → Kept w a
+core-kept w c o a world move point good =
     record {
       good = subst Good (sym world) good;
       sizes = subst (SameSizes w) (sym world) (record { numbers = refl; spheres = refl; cores = length-set w.cores c o; slots = refl });
+      point = subst (λ (m : Option Move). PointIs w m a.point) (sym move) point;
       whole = ap shown_of world ∙ sym (ap (do_if w.numbers (shown_of w)) move);
       fits = subst (FitsIf w.numbers (shown_of w)) (sym move) tt;
     }
@@ -117,9 +118,9 @@ others-differ w c h dh good is same k e d g ne there sphere thread =
     ne (good.alone d c g h there is (sym sphere ∙ ap (λ (x : Held). x.chunk.sphere) (sym q) ∙ same) (sym thread ∙ ap (λ (x : Held). x.thread) (sym q)))
 
 chunk_kept : (w : World) (c : ℕ) (h : Held) (dh : Chunk) (a : After) → Good w → at w.cores c ≡ Some h → SameBase h.chunk dh → GoodChunk w.numbers.buffer w.numbers.signature w.slots c (current w h.chunk.sphere) dh
-    → a.world ≡ with_chunk w c h dh → a.move ≡ None → Kept w a
-chunk_kept w c h dh a good is base chunk world move =
-    core-kept w c (Some (record h { chunk = dh })) a world move
+    → a.world ≡ with_chunk w c h dh → a.move ≡ None → a.point ≡ None → Kept w a
+chunk_kept w c h dh a good is base chunk world move point =
+    core-kept w c (Some (record h { chunk = dh })) a world move point
     (core-good w c (Some (record h { chunk = dh })) good
     (λ k e. subst (GoodHeld w c) (let q : record h { chunk = dh } ≡ k = cc in q) (held-same w c h dh (good.held c h is) base chunk))
     (others-differ w c h dh good is base.sphere))
@@ -140,17 +141,17 @@ open_is ch e =
     ] e
 
 step_held_kept : (w : World) (c : ℕ) (o : Option Held) → at w.cores c ≡ o → Good w → Kept w (step_held w c o)
-step_held_kept w c None is good = still-kept w (still w Reply.Idle) refl refl good
+step_held_kept w c None is good = still-kept w (still w Reply.Idle) refl refl refl good
 step_held_kept w c (Some h) is good =
     let p = sphere_at w h.chunk.sphere in
     let s = step w.numbers.buffer p.memory w.slots c h.chunk in
     branch (Kept w) (is_stopped p.role) (still w Reply.Stopped) (cond (is_open h.chunk) (stepped w c h s) (still w Reply.Waiting))
-    (λ _. still-kept w (still w Reply.Stopped) refl refl good)
+    (λ _. still-kept w (still w Reply.Stopped) refl refl refl good)
     (λ _. branch (Kept w) (is_open h.chunk) (stepped w c h s) (still w Reply.Waiting)
     (λ e.
     let r = step-good w.numbers.buffer w.numbers.signature w.slots c p.memory h.chunk good.covered (open_is h.chunk e) (good.held c h is).chunk in
-    chunk_kept w c h s.chunk (stepped w c h s) good is r.1 r.0 refl refl)
-    (λ _. still-kept w (still w Reply.Waiting) refl refl good))
+    chunk_kept w c h s.chunk (stepped w c h s) good is r.1 r.0 refl refl refl)
+    (λ _. still-kept w (still w Reply.Waiting) refl refl refl good))
 
 pub step-kept : (w : World) (c : ℕ) → Good w → Kept w (stepping w c)
 unfolding stepping
@@ -192,20 +193,20 @@ cut_good capacity bits xs c m ch open_ some good =
 
 cut_open_kept : (w : World) (c : ℕ) (h : Held) (o : Option How) → at w.cores c ≡ Some h → h.chunk.closed ≡ o → Good w → Kept w (cut_to w c h (cut_open h.chunk o))
 cut_open_kept w c h (Some how) is closed good =
-    chunk_kept w c h h.chunk (cut_to w c h (cut_open h.chunk (Some how))) good is (same_base h.chunk) (good.held c h is).chunk refl refl
+    chunk_kept w c h h.chunk (cut_to w c h (cut_open h.chunk (Some how))) good is (same_base h.chunk) (good.held c h is).chunk refl refl refl
 cut_open_kept w c h None is closed good =
     branch (λ (s : Cutting). Kept w (cut_to w c h s)) (eqb h.chunk.done.n 0) (record { reply = CutReply.NothingRun; chunk = h.chunk }) (record { reply = CutReply.Closed; chunk = record h.chunk { closed = Some How.Cut } })
-    (λ _. chunk_kept w c h h.chunk (cut_to w c h (record { reply = CutReply.NothingRun; chunk = h.chunk })) good is (same_base h.chunk) (good.held c h is).chunk refl refl)
+    (λ _. chunk_kept w c h h.chunk (cut_to w c h (record { reply = CutReply.NothingRun; chunk = h.chunk })) good is (same_base h.chunk) (good.held c h is).chunk refl refl refl)
     (λ e. let dh = record h.chunk { closed = Some How.Cut } in
     chunk_kept w c h dh (cut_to w c h (record { reply = CutReply.Closed; chunk = dh })) good is
     (record { sphere = refl; start = refl; limit = refl; halves = refl; reads = refl; writes = refl })
-    (cut_good w.numbers.buffer w.numbers.signature w.slots c (current w h.chunk.sphere) h.chunk closed (positive h.chunk.done.n e) (good.held c h is).chunk) refl refl)
+    (cut_good w.numbers.buffer w.numbers.signature w.slots c (current w h.chunk.sphere) h.chunk closed (positive h.chunk.done.n e) (good.held c h is).chunk) refl refl refl)
 
 cut_held_kept : (w : World) (c : ℕ) (o : Option Held) → at w.cores c ≡ o → Good w → Kept w (cut_held w c o)
-cut_held_kept w c None is good = still-kept w (still w Reply.Idle) refl refl good
+cut_held_kept w c None is good = still-kept w (still w Reply.Idle) refl refl refl good
 cut_held_kept w c (Some h) is good =
     branch (Kept w) (is_stopped (sphere_at w h.chunk.sphere).role) (still w Reply.Stopped) (cut_to w c h (cut h.chunk))
-    (λ _. still-kept w (still w Reply.Stopped) refl refl good)
+    (λ _. still-kept w (still w Reply.Stopped) refl refl refl good)
     (λ _. cut_open_kept w c h h.chunk.closed is refl good)
 
 pub cut-kept : (w : World) (c : ℕ) → Good w → Kept w (cutting w c)

@@ -17,7 +17,7 @@ use Rattle.spec_engine.proofs.Searches.{told-tell_other, all_told-at}
 use Rattle.spec_protocol.specs.declared.reply.Reply.{Reply}
 use Rattle.spec_protocol.specs.Spheres.{Role, Plain, Record, Replay, Sphere, no_sphere, is_stopped, limit_of, halves}
 use Rattle.spec_protocol.specs.Placing.{replays}
-use Rattle.spec_protocol.specs.World.{Held, World, After, sphere_at, with_sphere, with_memory, with_core, with_slot, still, went_on}
+use Rattle.spec_protocol.specs.World.{Held, World, Move, After, sphere_at, with_sphere, with_memory, with_core, with_slot, still, went_on}
 use Rattle.spec_protocol.specs.Shown.{words_of, flying, shown, shown_from, shown_of}
 use Rattle.spec_protocol.specs.Moves.{do_if, FitsIf}
 use Rattle.spec_protocol.specs.Flying.{reply_of_drain, drain_slot, draining, reads_of, writes_of, squashed, told, deliver_to, delivering, reply_of_retire, retiring}
@@ -27,7 +27,7 @@ use Rattle.spec_protocol.proofs.Running.{Live}
 use Rattle.spec_protocol.proofs.Covering.{CoversAll, Quiet, Covered, AllCovered}
 use Rattle.spec_protocol.proofs.Steps.{Closes}
 use Rattle.spec_protocol.proofs.Current.{GoodChunk}
-use Rattle.spec_protocol.proofs.Invariant.{current, LimitFits, GoodHeld, IsAlone, Good, SameSizes, Kept, sphere-same, sphere-other, shown_from-same, shown-unmoved, set-itself, still-kept}
+use Rattle.spec_protocol.proofs.Invariant.{current, LimitFits, GoodHeld, IsAlone, Good, SameSizes, PointIs, Kept, sphere-same, sphere-other, shown_from-same, shown-unmoved, set-itself, still-kept}
 use Rattle.spec_protocol.proofs.OnCores.{set-cases, alone-set, held_there, core-good, others-differ, branch}
 
 -- ---- a chunk beside other slots
@@ -116,9 +116,9 @@ without_first b h s ss apart =
 drained_world : World → ℕ → Flight → Stored → List Stored → World
 drained_world w k f s ss = with_slot (with_memory w f.sphere (lay (sphere_at w f.sphere).memory s)) k (Some (record f { words = ss }))
 
-drained_kept : (w : World) (k : ℕ) (f : Flight) (s : Stored) (ss : List Stored) (a : After) → Good w → at w.slots k ≡ Some f → f.words ≡ s ∷ ss → a.world ≡ drained_world w k f s ss → a.move ≡ None → Kept w a
+drained_kept : (w : World) (k : ℕ) (f : Flight) (s : Stored) (ss : List Stored) (a : After) → Good w → at w.slots k ≡ Some f → f.words ≡ s ∷ ss → a.world ≡ drained_world w k f s ss → a.move ≡ None → a.point ≡ None → Kept w a
 unfolding drained_world shown
-drained_kept w k f s ss a good is words world move =
+drained_kept w k f s ss a good is words world move point =
     let i = f.sphere in
     let m = (sphere_at w i).memory in
     let b = before i w.slots k in
@@ -186,6 +186,7 @@ drained_kept w k f s ss a good is words world move =
         alone = good.alone;
       });
       sizes = subst (SameSizes w) (sym world) (record { numbers = refl; spheres = length-set w.spheres i (record (sphere_at w i) { memory = lay m s }); cores = refl; slots = length-set w.slots k (Some g) });
+      point = subst (λ (m : Option Move). PointIs w m a.point) (sym move) point;
       whole = ap shown_of world
       ∙ (λ j. record { spheres = shown-unmoved w.slots ys i w.spheres (record (sphere_at w i) { memory = lay m s }) others (λ n. record (sphere_at w i) { memory = memory n }) j; devices = w.devices })
       ∙ sym (ap (do_if w.numbers (shown_of w)) move);
@@ -199,11 +200,11 @@ clean_world w k i v is =
 drain_words_kept : (w : World) (k : ℕ) (f : Flight) (ws : List Stored) → Good w → at w.slots k ≡ Some f → f.words ≡ ws
     → let d = drain_words (sphere_at w f.sphere).memory f ws in Kept w (went_on (with_slot (with_memory w f.sphere d.memory) k d.slot) (reply_of_drain d.reply))
 unfolding drained_world
-drain_words_kept w k f [] good is words = still-kept w _ (clean_world w k f.sphere (Some f) is) refl good
-drain_words_kept w k f (s ∷ ss) good is words = drained_kept w k f s ss _ good is words refl refl
+drain_words_kept w k f [] good is words = still-kept w _ (clean_world w k f.sphere (Some f) is) refl refl good
+drain_words_kept w k f (s ∷ ss) good is words = drained_kept w k f s ss _ good is words refl refl refl
 
 drain_slot_kept : (w : World) (k : ℕ) (o : Option Flight) → at w.slots k ≡ o → Good w → Kept w (drain_slot w k o)
-drain_slot_kept w k None is good = still-kept w (still w Reply.NoCommit) refl refl good
+drain_slot_kept w k None is good = still-kept w (still w Reply.NoCommit) refl refl refl good
 drain_slot_kept w k (Some f) is good = drain_words_kept w k f f.words good is refl
 
 pub drain-kept : (w : World) (k : ℕ) → Good w → Kept w (draining w k)
@@ -270,8 +271,8 @@ retired_quiet w k f i c reads is all l q =
       ];
     }
 
-retired_kept : (w : World) (k : ℕ) (f : Flight) (a : After) → Good w → at w.slots k ≡ Some f → is_done (length w.cores) f ≡ true → a.world ≡ with_slot w k None → a.move ≡ None → Kept w a
-retired_kept w k f a good is done world move =
+retired_kept : (w : World) (k : ℕ) (f : Flight) (a : After) → Good w → at w.slots k ≡ Some f → is_done (length w.cores) f ≡ true → a.world ≡ with_slot w k None → a.move ≡ None → a.point ≡ None → Kept w a
+retired_kept w k f a good is done world move point =
     let p = and_parts (has_none f.words) (all_told (length w.cores) f.told) done in
     let within = at_within w.slots k f is in
     let s : SlotKept w k None = record {
@@ -285,17 +286,18 @@ retired_kept w k f a good is done world move =
       (λ c x e. held-beside w (with_slot w k None) c x
       (slot_beside w k None c x within s (retired_quiet w k f x.chunk.sphere c x.chunk.reads is p.1 (at_within w.cores c x e))) (good.held c x e)));
       sizes = subst (SameSizes w) (sym world) (record { numbers = refl; spheres = refl; cores = refl; slots = length-set w.slots k None });
+      point = subst (λ (m : Option Move). PointIs w m a.point) (sym move) point;
       whole = ap shown_of world ∙ slot_shown w k None within s ∙ sym (ap (do_if w.numbers (shown_of w)) move);
       fits = subst (FitsIf w.numbers (shown_of w)) (sym move) tt;
     }
 
 retire_slot_kept : (w : World) (k : ℕ) (o : Option Flight) → at w.slots k ≡ o → Good w → let d = retire (length w.cores) o in Kept w (went_on (with_slot w k d.slot) (reply_of_retire d.reply))
-retire_slot_kept w k None is good = still-kept w _ (unchanged w k None is) refl good
+retire_slot_kept w k None is good = still-kept w _ (unchanged w k None is) refl refl good
 retire_slot_kept w k (Some f) is good =
     branch (λ (d : Retired). Kept w (went_on (with_slot w k d.slot) (reply_of_retire d.reply))) (is_done (length w.cores) f)
     (record { reply = Retire.Retired; slot = None }) (record { reply = Retire.NotDone; slot = Some f })
-    (λ done. retired_kept w k f _ good is done refl refl)
-    (λ _. still-kept w _ (unchanged w k (Some f) is) refl good)
+    (λ done. retired_kept w k f _ good is done refl refl refl)
+    (λ _. still-kept w _ (unchanged w k (Some f) is) refl refl good)
 
 pub retire-kept : (w : World) (k : ℕ) → Good w → Kept w (retiring w k)
 unfolding retiring
@@ -406,6 +408,7 @@ delivered_kept w k c f held good is there free =
       (or_parts (hits f.writes x.chunk.reads) (hits f.writes x.chunk.writes) (ap (λ (o : Option Held). meets_chunk (reads_of w o) (writes_of w o) f) (sym h) ∙ free)).0)
       e);
       sizes = told_sizes w k c f;
+      point = refl;
       whole = slot_shown w k (Some (tell f c)) (at_within w.slots k f is) (told_slot w k c f good is);
       fits = tt;
     }
@@ -442,18 +445,19 @@ squashed_kept w k c f held good is there =
     record {
       good = squashed_good w k c f held good is there;
       sizes = record { numbers = refl; spheres = refl; cores = length-set w.cores c (squashed held); slots = length-set w.slots k (Some (tell f c)) };
+      point = refl;
       whole = slot_shown w k (Some (tell f c)) (at_within w.slots k f is) (told_slot w k c f good is);
       fits = tt;
     }
 
 deliver_slot_kept : (w : World) (c k : ℕ) (held : Option Held) (o : Option Flight) → at w.cores c ≡ held → at w.slots k ≡ o → Good w
     → let d = deliver c (reads_of w held) (writes_of w held) o in Kept w (told (with_slot w k d.slot) c held d.reply)
-deliver_slot_kept w c k held None there is good = still-kept w _ (unchanged w k None is) refl good
+deliver_slot_kept w c k held None there is good = still-kept w _ (unchanged w k None is) refl refl good
 deliver_slot_kept w c k held (Some f) there is good =
     branch (λ (d : Delivered). Kept w (told (with_slot w k d.slot) c held d.reply)) (told_at f.told c)
     (record { reply = Deliver.Already; slot = Some f })
     (record { reply = cond (meets_chunk (reads_of w held) (writes_of w held) f) Deliver.Squashed Deliver.Delivered; slot = Some (tell f c) })
-    (λ _. still-kept w _ (unchanged w k (Some f) is) refl good)
+    (λ _. still-kept w _ (unchanged w k (Some f) is) refl refl good)
     (λ _. branch (λ (r : Deliver). Kept w (told (tell_in w k c f) c held r)) (meets_chunk (reads_of w held) (writes_of w held) f) Deliver.Squashed Deliver.Delivered
     (λ _. squashed_kept w k c f held good is there)
     (λ free. delivered_kept w k c f held good is there free))

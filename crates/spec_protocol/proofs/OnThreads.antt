@@ -23,7 +23,7 @@ use Rattle.spec_protocol.proofs.Slots.{Flew}
 use Rattle.spec_protocol.proofs.Current.{GoodChunk}
 use Rattle.spec_protocol.proofs.Moving.{get-set_other, get-set_same}
 use Rattle.spec_protocol.proofs.Relaying.{over, raised-relaid}
-use Rattle.spec_protocol.proofs.Invariant.{current, GoodHeld, IsAlone, Good, SameSizes, Kept, sphere-same, sphere-other, shown-set, shown-get, still-kept}
+use Rattle.spec_protocol.proofs.Invariant.{current, GoodHeld, IsAlone, Good, SameSizes, Kept, point-made, sphere-same, sphere-other, shown-set, shown-get, still-kept}
 use Rattle.spec_protocol.proofs.OnCores.{set-cases, alone-set, held_there, core-good, core-kept, branch}
 use Rattle.spec_protocol.proofs.Landing.{begun-begins, begun-held, elsewhere-held}
 use Rattle.spec_protocol.proofs.Granting.{unflown}
@@ -54,17 +54,17 @@ placed_good w c i k good within free =
 
 elsewhere_kept : (w : World) (c i k : ℕ) (t : Parts) (o : Option ℕ) → Good w → slice_get (sphere_at w i).threads k ≡ Some t → core_of w i k ≡ o → Kept w (unless_elsewhere o w (went_on (with_core w c (begun w.numbers i k (sphere_at w i))) Reply.Placed))
 elsewhere_kept w c i k t None good is none =
-    core-kept w c (begun w.numbers i k (sphere_at w i)) _ refl refl
+    core-kept w c (begun w.numbers i k (sphere_at w i)) _ refl refl refl
     (placed_good w c i k good (inside w i k t is) (λ d g ne there sphere thread. nobody w i k none d g there sphere thread))
-elsewhere_kept w c i k t (Some d) good is some = still-kept w (still w (Reply.Elsewhere d)) refl refl good
+elsewhere_kept w c i k t (Some d) good is some = still-kept w (still w (Reply.Elsewhere d)) refl refl refl good
 
 place_thread_kept : (w : World) (c i k : ℕ) (o : Option Parts) → Good w → slice_get (sphere_at w i).threads k ≡ o → Kept w (place_thread w c i k o)
-place_thread_kept w c i k None good is = still-kept w (still w Reply.NoThread) refl refl good
+place_thread_kept w c i k None good is = still-kept w (still w Reply.NoThread) refl refl refl good
 place_thread_kept w c i k (Some t) good is =
     let placed = unless_elsewhere (core_of w i k) w (went_on (with_core w c (begun w.numbers i k (sphere_at w i))) Reply.Placed) in
     branch (Kept w) (is_live t) placed (still w Reply.Ended)
     (λ _. elsewhere_kept w c i k t (core_of w i k) good is refl)
-    (λ _. still-kept w (still w Reply.Ended) refl refl good)
+    (λ _. still-kept w (still w Reply.Ended) refl refl refl good)
 
 pub place-kept : (w : World) (c i k : ℕ) → Good w → Kept w (placing w c i k)
 unfolding placing
@@ -207,6 +207,7 @@ raise_in_kept w i k value t good r =
       good = renewed_good w i k value t (core_of w i k) good within refl;
       sizes = renewed_sizes w (raised_world w i k value t) i k (core_of w i k)
       (record { numbers = refl; spheres = length-set w.spheres i (raised k value t (sphere_at w i)); cores = refl; slots = refl });
+      point = point-made w.numbers (replays (sphere_at w i).role) (record { moment = moment w; sphere = i; what = OfRaise k value });
       whole = renewed_shown (raised_world w i k value t) i k (core_of w i k) ∙ raise_shown w i k value t within r.start;
       fits = raise_fits w i k value t within r;
     }
@@ -215,7 +216,7 @@ taken_by : (t : Parts) → is_live t ≡ true → has_handler t ≡ true → t.m
 taken_by t live handler mask = and_from _ _ (and_from _ _ live handler) (ap not mask)
 
 raise_thread_kept : (w : World) (i k value : ℕ) (o : Option Parts) → Good w → slice_get (sphere_at w i).threads k ≡ o → replays (sphere_at w i).role ≡ false → Kept w (raise_thread w i k value o)
-raise_thread_kept w i k value None good is live = still-kept w (still w Reply.NoThread) refl refl good
+raise_thread_kept w i k value None good is live = still-kept w (still w Reply.NoThread) refl refl refl good
 raise_thread_kept w i k value (Some t) good is live =
     let raised_ = raise_in w i k value t in
     let masked = cond t.mask (still w Reply.Masked) raised_ in
@@ -223,15 +224,15 @@ raise_thread_kept w i k value (Some t) good is live =
     branch (Kept w) (is_live t) handled (still w Reply.Ended)
     (λ lives. branch (Kept w) (has_handler t) masked (still w Reply.NoHandler)
     (λ handler. branch (Kept w) t.mask (still w Reply.Masked) raised_
-    (λ _. still-kept w (still w Reply.Masked) refl refl good)
+    (λ _. still-kept w (still w Reply.Masked) refl refl refl good)
     (λ mask. raise_in_kept w i k value t good (record { start = is; live = live; takes = taken_by t lives handler mask })))
-    (λ _. still-kept w (still w Reply.NoHandler) refl refl good))
-    (λ _. still-kept w (still w Reply.Ended) refl refl good)
+    (λ _. still-kept w (still w Reply.NoHandler) refl refl refl good))
+    (λ _. still-kept w (still w Reply.Ended) refl refl refl good)
 
 pub raise-kept : (w : World) (i k value : ℕ) → Good w → Kept w (raising w i k value)
 unfolding raising
 raise-kept w i k value good =
     let p = sphere_at w i in
     branch (Kept w) (replays p.role) (still w Reply.FromLog) (raise_thread w i k value (slice_get p.threads k))
-    (λ _. still-kept w (still w Reply.FromLog) refl refl good)
+    (λ _. still-kept w (still w Reply.FromLog) refl refl refl good)
     (λ live. raise_thread_kept w i k value (slice_get p.threads k) good refl live)

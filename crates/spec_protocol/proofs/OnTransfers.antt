@@ -2,7 +2,8 @@
 use Rattle.std.proofs.Common.{◌≡◌, ◌≢◌, ℕ, ◌<◌, inl, inr, Bool, true, false, cond, List, [], ◌∷◌, length, Option, Some, None, refl, sym, ap, ◌∙◌, subst}
 use Rattle.std.specs.Prelude.{slice_get, option_map, IsSome}
 use Rattle.std.proofs.Math.ListN.{length-set}
-use Rattle.std.proofs.lemmas.Bool.{or_parts, cases_eq}
+use Rattle.std.proofs.lemmas.Bool.{or_parts, cases_eq, cases_lt}
+use Rattle.std.proofs.lemmas.List.{get_or_past}
 use Rattle.std.proofs.lemmas.Option.{none-some}
 use Rattle.dl_entry.specs.declared.Actor.{Actor}
 use Rattle.spec_isa.specs.declared.thread.Parts.{Parts}
@@ -15,9 +16,10 @@ use Rattle.spec_protocol.specs.Asking.{unless_denied, unless_turn}
 use Rattle.spec_engine.proofs.Searches.{first_none, told-zero}
 use Rattle.spec_protocol.specs.declared.reply.Reply.{Reply}
 use Rattle.spec_protocol.specs.Spheres.{Role, Plain, Record, Replay, Sphere, no_sphere, is_stopped, actor_of}
-use Rattle.spec_protocol.specs.Commits.{Outcome, Granted, Piece, Diverged, Moved, dma_moved}
+use Rattle.spec_protocol.specs.Commits.{Outcome, Granted, Piece, Diverged, Moved, dma_in, dma_moved}
 use Rattle.spec_protocol.specs.World.{Held, World, moment, sphere_at, flown, OfDma, Move, After, still}
 use Rattle.spec_protocol.specs.Transferring.{dma_move, dma_done, transfer, dma_with, dma_if, not_of_dma, turn_before_dma, transferring}
+use Rattle.spec_protocol.specs.Placing.{replays}
 use Rattle.spec_protocol.specs.Serial.{do_moved, do_dma}
 use Rattle.spec_protocol.specs.Shown.{flying, shown_of}
 use Rattle.spec_protocol.specs.Moves.{do_at, do_move, DmaFits, FitsAt, Fits}
@@ -26,8 +28,8 @@ use Rattle.spec_protocol.proofs.Slots.{Flew, flown-flew}
 use Rattle.spec_protocol.proofs.Covering.{CoversAll, bits-signed, CoversAll-signed, apart-covered, flying-all_lack, Covered}
 use Rattle.spec_protocol.proofs.Moving.{Divergence}
 use Rattle.spec_protocol.proofs.Relaying.{over, relaid, dma-relaid}
-use Rattle.spec_protocol.proofs.Transfers.{DmaMoves, dma-moves}
-use Rattle.spec_protocol.proofs.Invariant.{current, GoodHeld, Good, Kept, sphere-same, still-kept}
+use Rattle.spec_protocol.proofs.Transfers.{DmaMoves, dma-lives, dma-moves}
+use Rattle.spec_protocol.proofs.Invariant.{current, GoodHeld, Good, Kept, point-made, point-other, sphere-same, still-kept}
 use Rattle.spec_protocol.proofs.OnCores.{branch}
 use Rattle.spec_protocol.proofs.Landing.{moved_world, Lands, landed-held, elsewhere-held, moved-shown}
 use Rattle.spec_protocol.proofs.Granting.{stopped-good, stopped-shown}
@@ -134,6 +136,7 @@ done_kept w i v good t free none =
     record {
       good = done_good w i v good t free none;
       sizes = record { numbers = refl; spheres = length-set w.spheres i v.sphere; cores = refl; slots = flew.size };
+      point = point-made w.numbers (replays (sphere_at w i).role) (dma_move w i);
       whole = moved-shown w i v (dma_flight w i v) (flown i v.words (marks_of w i v) 0 w.slots) w.cores moves.memory refl flew ∙ sym (dma_whole w i v t);
       fits = dma_fits w i v t;
     }
@@ -145,7 +148,7 @@ transfer_kept w i v good t =
     let done = dma_done w i g v in
     let asked = unless_denied (ask g g w.slots) w done in
     branch (Kept w) (is_full w.slots) (still w Reply.WindowFull) asked
-    (λ _. still-kept w (still w Reply.WindowFull) refl refl good)
+    (λ _. still-kept w (still w Reply.WindowFull) refl refl refl good)
     (λ free. denied_kept w done (first_slot (meets_chunk g g) w.slots) good (λ none. done_kept w i v good t free none))
 
 with_kept : (w : World) (i : ℕ) (v : Moved) (o : Outcome) → v.outcome ≡ o → Good w → Transfers w i v → Kept w (dma_with w i v o)
@@ -157,19 +160,30 @@ with_kept w i v (Diverged j why) is good t =
     record {
       good = stopped-good w i v.sphere good (record { within = t.within; memory = moves.memory; threads = d.2; halving = moves.halving; stopped = d.3 });
       sizes = record { numbers = refl; spheres = length-set w.spheres i v.sphere; cores = refl; slots = refl };
+      point = point-other w.numbers (replays (sphere_at w i).role) (dma_move w i) _
+      (λ live. let e : Granted ≡ Diverged j why = sym (dma-lives w.devices (sphere_at w i) v live t.is) ∙ is in cc) tt;
       whole = stopped-shown w i v good moves.memory d.0 d.1 ∙ sym (dma_whole w i v t);
       fits = dma_fits w i v t;
     }
 
-if_kept : (w : World) (i : ℕ) (o : Option Moved) → Good w → i < length w.spheres → is_stopped (sphere_at w i).role ≡ false → turn_before_dma (sphere_at w i).role ≡ None → dma_moved w.devices (sphere_at w i) ≡ o → Kept w (dma_if w i o)
-if_kept w i None good within going turn is = still-kept w (still w Reply.NoDma) refl refl good
-if_kept w i (Some v) good within going turn is = with_kept w i v v.outcome refl good (record { within = within; going = going; turn = turn; is = is })
+-- a sphere that has a request is one of the spheres
+dma_inside : (w : World) (i : ℕ) (v : Moved) → dma_moved w.devices (sphere_at w i) ≡ Some v → i < length w.spheres
+unfolding dma_moved
+dma_inside w i v e =
+    elim (cases_lt i (length w.spheres)) [
+      | inl l ↦ l
+      | inr past ↦ absurd (none-some v (ap (λ (p : Sphere). dma_in p.role w.devices p) (sym (get_or_past w.spheres i no_sphere past)) ∙ e))
+    ]
 
-pub dma-kept : (w : World) (i : ℕ) → Good w → i < length w.spheres → Kept w (transferring w i)
+if_kept : (w : World) (i : ℕ) (o : Option Moved) → Good w → is_stopped (sphere_at w i).role ≡ false → turn_before_dma (sphere_at w i).role ≡ None → dma_moved w.devices (sphere_at w i) ≡ o → Kept w (dma_if w i o)
+if_kept w i None good going turn is = still-kept w (still w Reply.NoDma) refl refl refl good
+if_kept w i (Some v) good going turn is = with_kept w i v v.outcome refl good (record { within = dma_inside w i v is; going = going; turn = turn; is = is })
+
+pub dma-kept : (w : World) (i : ℕ) → Good w → Kept w (transferring w i)
 unfolding transferring
-dma-kept w i good within =
+dma-kept w i good =
     let p = sphere_at w i in
     let rest = dma_if w i (dma_moved w.devices p) in
     branch (Kept w) (is_stopped p.role) (still w Reply.Stopped) (unless_turn (turn_before_dma p.role) w rest)
-    (λ _. still-kept w (still w Reply.Stopped) refl refl good)
-    (λ going. turn-kept w rest (turn_before_dma p.role) good (λ turn. if_kept w i (dma_moved w.devices p) good within going turn refl))
+    (λ _. still-kept w (still w Reply.Stopped) refl refl refl good)
+    (λ going. turn-kept w rest (turn_before_dma p.role) good (λ turn. if_kept w i (dma_moved w.devices p) good going turn refl))

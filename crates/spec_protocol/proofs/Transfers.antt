@@ -116,3 +116,17 @@ in_moves (Replay b) devices p v is going turn e =
 pub dma-moves : (devices : Devices) (p : Sphere) (v : Moved) → is_stopped p.role ≡ false → turn_before_dma p.role ≡ None → dma_moved devices p ≡ Some v → DmaMoves devices p v
 unfolding dma_moved
 dma-moves devices p v going turn e = in_moves p.role devices p v refl going turn e
+
+live_grants : (role : Role) (devices : Devices) (p : Sphere) (o : Option Request) (v : Moved) → live_dma role devices p o ≡ Some v → v.outcome ≡ Granted
+live_grants role devices p None v e = absurd (none-some v e)
+live_grants role devices p (Some request) v e =
+    let h : dma_as role (dma_words request (dma_bytes devices request)) (dma_taken devices request) p ≡ v = cc in ap (λ (u : Moved). u.outcome) (sym h)
+
+in_lives : (role : Role) (devices : Devices) (p : Sphere) (v : Moved) → replays role ≡ false → dma_in role devices p ≡ Some v → v.outcome ≡ Granted
+in_lives Plain devices p v live e = live_grants Plain devices p p.progress.request v e
+in_lives (Record log) devices p v live e = live_grants (Record (dma_log log devices p p.progress.request)) devices p p.progress.request v e
+in_lives (Replay b) devices p v live e = absurd (true≢false live)
+
+pub dma-lives : (devices : Devices) (p : Sphere) (v : Moved) → replays p.role ≡ false → dma_moved devices p ≡ Some v → v.outcome ≡ Granted
+unfolding dma_moved
+dma-lives devices p v live e = in_lives p.role devices p v live e
