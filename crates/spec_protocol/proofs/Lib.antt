@@ -17,3 +17,4 @@ pub mod Granting
 pub mod OnAsks
 pub mod OnThreads
 pub mod OnTransfers
+pub mod Schedules

@@ -12,3 +12,4 @@ pub mod Serial
 pub mod Shown
 pub mod Moves
 pub mod Logged
+pub mod Promises

@@ -3,7 +3,9 @@
 #![tactic(auto)]
 
 mod event;
+mod promise;
 mod reply;
 
 pub use event::Event;
+pub use promise::moves_are_serial;
 pub use reply::Reply;
