@@ -18,3 +18,4 @@ pub mod OnAsks
 pub mod OnThreads
 pub mod OnTransfers
 pub mod Schedules
+pub mod OnPoints
