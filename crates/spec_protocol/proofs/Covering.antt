@@ -1,11 +1,11 @@
 -- What signatures cover: the lines of stored words, and when a word is no word of a flight.
-use Rattle.std.proofs.Common.{◌≡◌, ◌≢◌, ℕ, zero, suc, ◌<◌, ◌≤◌, inl, inr, Bool, true, false, eqb, cond, ◌&&◌, List, [], ◌∷◌, ◌++◌, length, Option, Some, None, refl, sym, ap, ◌∙◌, subst, arith}
+use Rattle.std.proofs.Common.{◌≡◌, ℕ, zero, suc, ◌≤◌, inl, inr, Bool, true, false, eqb, cond, ◌&&◌, List, [], ◌∷◌, length, Option, Some, None, refl, sym, ap, ◌∙◌, subst, arith}
 use Rattle.std.proofs.lemmas.Bool.{true≢false, and_parts, and_from, cases_Bool, false_from_ne_true}
 use Rattle.std.proofs.lemmas.Bool.Decides.{eqb_tells}
 use Rattle.spec_isa.specs.Words.{Stored, merged, put, Lacks, Apart}
 use Rattle.spec_isa.specs.Runs.{with_store}
 use Rattle.spec_isa.proofs.BufferLaws.{Apart-put}
-use Rattle.spec_engine.specs.Signatures.{Marks, insert, covers, hits, line, nothing, signed}
+use Rattle.spec_engine.specs.Signatures.{Marks, insert, covers, hits, line, signed}
 use Rattle.spec_engine.specs.Flights.{Flight, at, is_none, first_slot, told_at, bounces}
 use Rattle.spec_engine.specs.Chunks.{Chunk, with_line}
 use Rattle.spec_engine.proofs.Marking.{covers_insert, covers_more, covers_hit}
@@ -83,11 +83,10 @@ uncovered-lacks i a g (w ∷ ws) c e =
 -- two signatures of one size that do not hit: no word of the one is a word of the other
 pub apart-covered : (i : ℕ) (g h : Marks) (xs ys : List Stored) → h.bits ≡ g.bits → CoversAll i g xs → CoversAll i h ys → hits g h ≡ false → AllLack xs ys
 apart-covered i g h [] ys size cx cy e = tt
-apart-covered i g h (x ∷ xs) ys size cx cy e =
-    (
-      uncovered-lacks i x.word h ys cy (false_from_ne_true (covers h (line i x.word)) (λ c. true≢false (sym (covers_hit g h (line i x.word) size cx.0 c) ∙ e))),
-      apart-covered i g h xs ys size cx.1 cy e
-    )
+apart-covered i g h (x ∷ xs) ys size cx cy e = (
+  uncovered-lacks i x.word h ys cy (false_from_ne_true (covers h (line i x.word)) (λ c. true≢false (sym (covers_hit g h (line i x.word) size cx.0 c) ∙ e))),
+  apart-covered i g h xs ys size cx.1 cy e,
+)
 
 -- the flying words of sphere i lack a word that no flight of the sphere has
 pub flying-lacks : (i a : ℕ) (xs : List (Option Flight)) → ((k : ℕ) (f : Flight) → at xs k ≡ Some f → f.sphere ≡ i → Lacks a f.words) → Lacks a (flying i xs)

@@ -1,26 +1,26 @@
 -- A chunk that no untold flight hits is a run on the current memory, and stays so.
-use Rattle.std.proofs.Common.{◌≡◌, ◌≢◌, ℕ, zero, suc, ◌<◌, ◌≤◌, inl, inr, Bool, true, false, List, [], ◌∷◌, length, Option, Some, None, refl, sym, ap, ◌∙◌, subst, arith}
+use Rattle.std.proofs.Common.{◌≡◌, ◌≢◌, ℕ, suc, inl, inr, Bool, true, List, Option, Some, None, refl, sym, ap, ◌∙◌, subst, arith}
 use Rattle.std.specs.Prelude.{IsSome}
 use Rattle.std.proofs.lemmas.Bool.{true≢false, and_parts, cases_lt, false_from_ne_true}
 use Rattle.std.proofs.lemmas.Option.{none-some}
 use Rattle.spec_isa.specs.declared.thread.Parts.{Parts}
 use Rattle.spec_isa.specs.declared.thread.Kind.{Kind}
-use Rattle.spec_isa.specs.Words.{Stored, lays, Apart}
+use Rattle.spec_isa.specs.Words.{lays, Apart}
 use Rattle.spec_isa.specs.Instruction.{Outcome, Next, Serial, one}
-use Rattle.spec_isa.specs.Runs.{Run, begun, followed, more, run}
+use Rattle.spec_isa.specs.Runs.{Run, followed, more, run}
 use Rattle.spec_kernel.specs.Needs.{next_kind}
 use Rattle.spec_engine.specs.declared.answers.How.{How}
 use Rattle.spec_engine.specs.declared.answers.Stepped.{Stepped}
 use Rattle.spec_engine.specs.Signatures.{Marks, hits, line}
-use Rattle.spec_engine.specs.Flights.{Flight, at, told_at, is_none, first_slot, bounces}
-use Rattle.spec_engine.specs.Chunks.{Chunk, fresh, Stepping, step}
+use Rattle.spec_engine.specs.Flights.{Flight, is_none, first_slot, bounces}
+use Rattle.spec_engine.specs.Chunks.{Chunk, Stepping, step}
 use Rattle.spec_engine.specs.Laws.{StepAgrees}
 use Rattle.spec_engine.proofs.Stepping.{steps_are}
 use Rattle.spec_protocol.specs.Shown.{flying}
-use Rattle.spec_protocol.proofs.Laying.{Agree, Agree_sym, Agree-lays, Agree-unseen}
-use Rattle.spec_protocol.proofs.Running.{Touches, Touches_local, Touches_more, one_local, one_serial, kind_local, RunTouches, seen_by, Live}
+use Rattle.spec_protocol.proofs.Laying.{Agree, Agree-lays, Agree-unseen}
+use Rattle.spec_protocol.proofs.Running.{Touches, Touches_local, Touches_more, one_local, one_serial, RunTouches, seen_by, Live}
 use Rattle.spec_protocol.proofs.Covering.{CoversAll, Quiet, AllCovered, clear, clear-lacks, unseen_from}
-use Rattle.spec_protocol.proofs.Steps.{Closes, SameBase, Looks, Stays, IsOpen, step-stays}
+use Rattle.spec_protocol.proofs.Steps.{Closes, SameBase, Looks, step-stays}
 
 -- a chunk of core c, beside these slots, where the current memory of its sphere is m
 pub record GoodChunk (capacity bits : ℕ) (xs : List (Option Flight)) (c : ℕ) (m : List ℕ) (ch : Chunk) : Type 0 where
@@ -52,9 +52,9 @@ last_touches seen m t r n runs last touches i l =
     elim (cases_lt i n) [
       | inl h ↦ touches i h
       | inr h ↦ (
-        let e : n ≡ i = omega arith in
-        subst (λ (k : ℕ). Touches seen (run m t k).thread (lays m (run m t k).words)) e (subst (λ (q : Run). Touches seen q.thread (lays m q.words)) (sym runs) last)
-      )
+          let e : n ≡ i = omega arith in
+          subst (λ (k : ℕ). Touches seen (run m t k).thread (lays m (run m t k).words)) e (subst (λ (q : Run). Touches seen q.thread (lays m q.words)) (sym runs) last)
+          )
     ]
 
 -- the run of ch goes on by the outcome of its next instruction
@@ -121,8 +121,7 @@ pub step-good : (capacity bits : ℕ) (xs : List (Option Flight)) (c : ℕ) (r :
     → let dh = (step capacity r xs c ch).chunk in GoodChunk capacity bits xs c (lays r (flying ch.sphere xs)) dh × SameBase ch dh
 step-good capacity bits xs c r ch cov open_ good =
     let s = step capacity r xs c ch in
-    let st = step-stays capacity r xs c ch (record { open_ = open_; closes = good.closes; apart = good.apart; writes = good.writes }) in
-    (
+    let st = step-stays capacity r xs c ch (record { open_ = open_; closes = good.closes; apart = good.apart; writes = good.writes }) in (
       record {
         reads_size = st.base.reads ∙ good.reads_size;
         writes_size = st.base.writes ∙ good.writes_size;
@@ -130,16 +129,16 @@ step-good capacity bits xs c r ch cov open_ good =
         writes = st.writes;
         closes = st.closes;
         live = λ quiet.
-        live_step xs c r (lays r (flying ch.sphere xs)) ch s s.reply
-        (good.live (quiet_less xs c ch s.chunk st.base.sphere st.less_hits quiet))
-        st.base
-        st.more_reads
-        (subst (λ (i : ℕ). Agree (clear xs c s.chunk) r (lays r (flying i xs))) st.base.sphere
-        (Agree-unseen (clear xs c s.chunk) r (flying s.chunk.sphere xs)
-        (unseen_from (clear xs c s.chunk) (flying s.chunk.sphere xs)
-        (λ a e. clear-lacks bits xs c s.chunk a cov (st.base.reads ∙ good.reads_size) quiet e))))
-        st.looks
-        (steps_are capacity r xs c ch);
+            live_step xs c r (lays r (flying ch.sphere xs)) ch s s.reply
+            (good.live (quiet_less xs c ch s.chunk st.base.sphere st.less_hits quiet))
+            st.base
+            st.more_reads
+            (subst (λ (i : ℕ). Agree (clear xs c s.chunk) r (lays r (flying i xs))) st.base.sphere
+            (Agree-unseen (clear xs c s.chunk) r (flying s.chunk.sphere xs)
+            (unseen_from (clear xs c s.chunk) (flying s.chunk.sphere xs)
+            (λ a e. clear-lacks bits xs c s.chunk a cov (st.base.reads ∙ good.reads_size) quiet e))))
+            st.looks
+            (steps_are capacity r xs c ch);
       },
-      st.base
+      st.base,
     )

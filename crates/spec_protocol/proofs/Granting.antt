@@ -1,47 +1,31 @@
 -- A granted request keeps the invariant, where its stores meet no flight and it gives what it would on the current memory.
-use Rattle.std.proofs.Common.{◌≡◌, ◌≢◌, ℕ, zero, suc, ◌<◌, ◌≤◌, ◌^◌, ◌⊎◌, inl, inr, Bool, true, false, not, ◌&&◌, eqb, cond, List, [], ◌∷◌, ◌++◌, length, Option, Some, None, refl, sym, ap, ◌∙◌, subst, arith, set, get_or}
-use Rattle.std.specs.Prelude.{slice_get, IsSome}
+use Rattle.std.proofs.Common.{◌≡◌, ◌≢◌, ℕ, ◌<◌, ◌^◌, inl, inr, true, false, eqb, List, [], length, Some, refl, sym, ap, ◌∙◌, subst, set}
+use Rattle.std.specs.Prelude.{slice_get}
 use Rattle.std.proofs.Math.ListN.{length-set}
-use Rattle.std.proofs.lemmas.Bool.{true≢false, cases_eq, and_parts, or_parts, and_left, and_cases, eqb-true, ne_eqb, false_from_ne_true, cases_Bool}
+use Rattle.std.proofs.lemmas.Bool.{true≢false, cases_eq}
 use Rattle.std.proofs.lemmas.Nat.Bits.{bit_at-pow_other}
-use Rattle.std.proofs.lemmas.Option.{none-some}
-use Rattle.dl_entry.specs.declared.Actor.{Actor}
-use Rattle.dl_entry.specs.declared.CommitKind.{CommitKind}
 use Rattle.dl_entry.specs.declared.Point.{Point}
-use Rattle.dl_entry.specs.declared.Why.{Why}
 use Rattle.spec_isa.specs.declared.thread.Parts.{Parts}
-use Rattle.spec_isa.specs.Words.{Stored, lays, Apart}
-use Rattle.spec_isa.specs.Runs.{Run, begun as run_begun, run}
-use Rattle.spec_kernel.specs.Devices.{Devices}
-use Rattle.spec_kernel.specs.Needs.{next_kind}
-use Rattle.spec_kernel.specs.Interrupts.{is_live}
-use Rattle.spec_engine.specs.declared.answers.How.{How}
-use Rattle.spec_engine.specs.declared.answers.Asked.{Asked}
-use Rattle.spec_engine.specs.declared.answers.AskedSerial.{AskedSerial}
-use Rattle.spec_engine.specs.Signatures.{Marks, hits, nothing, signed}
-use Rattle.spec_engine.specs.Flights.{Flight, at, first_slot, told_at, is_full, meets_chunk, is_of_sphere}
-use Rattle.spec_engine.specs.Chunks.{Chunk, is_serial, is_empty_serial}
-use Rattle.spec_engine.specs.Asking.{denied_by, ask, busy_by, ask_serial}
-use Rattle.spec_engine.proofs.Searches.{first_none}
-use Rattle.spec_protocol.specs.declared.reply.Reply.{Reply}
-use Rattle.spec_protocol.specs.Spheres.{Role, Plain, Record, Replay, Sphere, is_stopped, head_in, head_of, limit_of, halves, is_in_pieces}
+use Rattle.spec_isa.specs.Words.{lays, Apart}
+use Rattle.spec_engine.specs.Signatures.{Marks, nothing}
+use Rattle.spec_engine.specs.Flights.{Flight, at, is_full}
+use Rattle.spec_protocol.specs.Spheres.{Sphere, is_stopped, halves}
 use Rattle.spec_protocol.specs.Placing.{replays}
-use Rattle.spec_protocol.specs.Commits.{Outcome, Granted, Piece, Diverged, Moved, is_piece, chunk_moved, serial_moved}
-use Rattle.spec_protocol.specs.World.{Numbers, Held, World, moment, sphere_at, with_sphere, with_core, begun, flown, What, OfChunk, OfSerial, Move, After, still}
-use Rattle.spec_protocol.specs.Asking.{Request, point_at, move_at, world_with, granted, is_short, chunk_request, grant_chunk, unless_denied, serial_request, grant_serial, unless_busy, asks_serial, ask_arbiter, other_turn, unless_turn, ask_closed, ask_held, asking}
-use Rattle.spec_protocol.specs.Serial.{Whole, do_moved, do_serial}
-use Rattle.spec_protocol.specs.Shown.{words_of, flying, shown, shown_from, shown_of}
-use Rattle.spec_protocol.specs.Moves.{move_chunk, do_what, do_at, do_move, do_if, ChunkFits, SerialFits, FitsWhat, FitsAt, Fits, FitsIf}
-use Rattle.spec_protocol.proofs.Laying.{AllLack, AllLack_nil, AllLack_flip}
-use Rattle.spec_protocol.proofs.Slots.{at_within, Flew, flown-flew, words-other}
-use Rattle.spec_protocol.proofs.Running.{Live}
-use Rattle.spec_protocol.proofs.Covering.{CoversAll, bits-signed, CoversAll-signed, apart-covered, flying-all_lack, Quiet, Covered}
+use Rattle.spec_protocol.specs.Commits.{Outcome, Granted, Piece, Diverged, Moved}
+use Rattle.spec_protocol.specs.World.{Held, World, moment, sphere_at, with_sphere, begun, flown}
+use Rattle.spec_protocol.specs.Asking.{Request, point_at, move_at, world_with, granted}
+use Rattle.spec_protocol.specs.Serial.{do_moved}
+use Rattle.spec_protocol.specs.Shown.{flying, shown_of}
+use Rattle.spec_protocol.specs.Moves.{do_move, Fits}
+use Rattle.spec_protocol.proofs.Laying.{AllLack}
+use Rattle.spec_protocol.proofs.Slots.{Flew, flown-flew}
+use Rattle.spec_protocol.proofs.Covering.{Covered}
 use Rattle.spec_protocol.proofs.Current.{GoodChunk}
-use Rattle.spec_protocol.proofs.Moving.{KeepsOthers, Divergence, MovesOnly, HasTurn, chunk-moves, serial-moves}
-use Rattle.spec_protocol.proofs.Relaying.{over, relaid, chunk-relaid}
-use Rattle.spec_protocol.proofs.Invariant.{current, LimitFits, GoodHeld, IsAlone, Good, SameSizes, point_for, PointOf, PointIs, Kept, point-made, point-other, sphere-same, shown-get, still-kept}
-use Rattle.spec_protocol.proofs.OnCores.{set-cases, alone-set, branch}
-use Rattle.spec_protocol.proofs.Landing.{begun-begins, begun-held, Begins, moved_world, Lands, landed-held, elsewhere-held, moved-shown}
+use Rattle.spec_protocol.proofs.Moving.{Divergence, MovesOnly}
+use Rattle.spec_protocol.proofs.Relaying.{relaid}
+use Rattle.spec_protocol.proofs.Invariant.{current, GoodHeld, Good, SameSizes, point_for, PointOf, Kept, point-made, point-other, sphere-same}
+use Rattle.spec_protocol.proofs.OnCores.{set-cases, alone-set}
+use Rattle.spec_protocol.proofs.Landing.{begun-begins, begun-held, moved_world, Lands, landed-held, elsewhere-held, moved-shown}
 
 -- ---- a request that is granted, or diverges
 
@@ -119,16 +103,16 @@ granted_good w c h q writes v good g =
       ]);
       held = λ d x e. elim (set-cases w.cores c d o x e) [
         | inl p ↦ subst (λ (n : ℕ). GoodHeld u n x) (sym p.0)
-        (begun-held u q.sphere q.thread c v.sphere x (subst (λ (n : ℕ). q.sphere < n) (sym count) g.within) good.standard there (begun-begins w.numbers q.sphere q.thread v.sphere x p.1))
+            (begun-held u q.sphere q.thread c v.sphere x (subst (λ (n : ℕ). q.sphere < n) (sym count) g.within) good.standard there (begun-begins w.numbers q.sphere q.thread v.sphere x p.1))
         | inr p ↦ elim (cases_eq x.chunk.sphere q.sphere) [
           | inl same ↦ landed-held w q.sphere v.sphere f u.slots u.cores v.devices d x same (granted_lands w c d h x q writes v good g p.0 p.1 same) (good.held d x p.1)
           | inr ne ↦ elsewhere-held w q.sphere v.sphere f u.slots u.cores v.devices d x ne flew (good.held d x p.1)
         ]
       ];
       alone = alone-set w.cores c o good.alone
-      (λ y e d x ne there sphere thread.
-      let b = begun-begins w.numbers q.sphere q.thread v.sphere y e in
-      other_thread w c d h x q writes v good g ne there (sym sphere ∙ ap (λ (z : Held). z.chunk.sphere) (sym b.is)) (sym thread ∙ ap (λ (z : Held). z.thread) (sym b.is)));
+          (λ y e d x ne there sphere thread.
+          let b = begun-begins w.numbers q.sphere q.thread v.sphere y e in
+          other_thread w c d h x q writes v good g ne there (sym sphere ∙ ap (λ (z : Held). z.chunk.sphere) (sym b.is)) (sym thread ∙ ap (λ (z : Held). z.thread) (sym b.is)));
     }
 
 granted_sizes : (w : World) (c : ℕ) (h : Held) (q : Request) (writes : Marks) (v : Moved) → Good w → Grants w c h q writes v → SameSizes w (world_with w c q writes v)
@@ -179,7 +163,7 @@ stopped_here w p c x s good =
       halving = good.halving ∙ sym s.halving ∙ ap (λ (q : Sphere). halves q.role) (sym there);
       limit = λ going. absurd (true≢false (sym s.stopped ∙ ap (λ (q : Sphere). is_stopped q.role) (sym there) ∙ going));
       chunk = subst (λ (m : List ℕ). GoodChunk w.numbers.buffer w.numbers.signature w.slots c m x.chunk)
-      (ap (λ (m : List ℕ). lays m (flying i w.slots)) (sym s.memory) ∙ ap (λ (q : Sphere). lays q.memory (flying i w.slots)) (sym there)) good.chunk;
+          (ap (λ (m : List ℕ). lays m (flying i w.slots)) (sym s.memory) ∙ ap (λ (q : Sphere). lays q.memory (flying i w.slots)) (sym there)) good.chunk;
     }
 
 pub stopped-good : (w : World) (i : ℕ) (p : Sphere) → Good w → Stops w i p → Good (with_sphere w i p)
@@ -220,7 +204,7 @@ granted-kept w c h q writes v Piece is good g =
       good = granted_good w c h q writes v good g;
       sizes = granted_sizes w c h q writes v good g;
       point = point-other w.numbers (replays (sphere_at w q.sphere).role) (move_at (moment w) q) _
-      (λ live. let e : Granted ≡ Piece = sym (g.lives live) ∙ is in cc) refl;
+          (λ live. let e : Granted ≡ Piece = sym (g.lives live) ∙ is in cc) refl;
       whole = granted_whole w c h q writes v good g;
       fits = g.fits;
     }
@@ -228,10 +212,10 @@ granted-kept w c h q writes v (Diverged i why) is good g =
     let d : Divergence w.devices (sphere_at w q.sphere) v (Diverged i why) = subst (Divergence w.devices (sphere_at w q.sphere) v) is g.moves.divergence in
     record {
       good = stopped-good w q.sphere v.sphere good
-      (record { within = g.within; memory = g.moves.keeps.memory; threads = d.2; halving = g.moves.keeps.halving; stopped = d.3 });
+          (record { within = g.within; memory = g.moves.keeps.memory; threads = d.2; halving = g.moves.keeps.halving; stopped = d.3 });
       sizes = record { numbers = refl; spheres = length-set w.spheres q.sphere v.sphere; cores = refl; slots = refl };
       point = point-other w.numbers (replays (sphere_at w q.sphere).role) (move_at (moment w) q) _
-      (λ live. let e : Granted ≡ Diverged i why = sym (g.lives live) ∙ is in cc) tt;
+          (λ live. let e : Granted ≡ Diverged i why = sym (g.lives live) ∙ is in cc) tt;
       whole = stopped-shown w q.sphere v good g.moves.keeps.memory d.0 d.1 ∙ sym g.whole;
       fits = g.fits;
     }

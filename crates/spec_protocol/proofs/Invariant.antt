@@ -1,22 +1,17 @@
 -- What holds of every world that the machine comes to, and what an event keeps.
-use Rattle.std.proofs.Common.{◌≡◌, ◌≢◌, ℕ, zero, suc, ◌+◌, ◌<◌, ◌≤◌, ◌⊎◌, inl, inr, Bool, true, false, List, [], ◌∷◌, ◌++◌, length, Option, Some, None, refl, sym, ap, ◌∙◌, subst, arith, set, get_or, get_or-set_same, get_or-set_other}
-use Rattle.std.specs.Prelude.{slice_get, option_map}
-use Rattle.std.proofs.Math.ListN.{length-set}
-use Rattle.std.proofs.lemmas.Option.{none-some, slice_get-get_or}
+use Rattle.std.proofs.Common.{◌≡◌, ◌≢◌, ℕ, zero, suc, ◌+◌, ◌<◌, ◌≤◌, Bool, true, false, List, [], ◌∷◌, length, Option, Some, None, refl, sym, ap, ◌∙◌, subst, arith, set, get_or, get_or-set_same, get_or-set_other}
+use Rattle.std.specs.Prelude.{slice_get}
 use Rattle.dl_entry.specs.declared.Actor.{Actor}
 use Rattle.dl_entry.specs.declared.CommitKind.{CommitKind}
 use Rattle.dl_entry.specs.declared.Point.{Point}
 use Rattle.spec_protocol.specs.Asking.{is_short}
 use Rattle.spec_isa.specs.declared.thread.Parts.{Parts}
-use Rattle.spec_isa.specs.Words.{Stored, lays, Apart}
-use Rattle.spec_kernel.specs.Devices.{Devices}
+use Rattle.spec_isa.specs.Words.{lays, Apart}
 use Rattle.spec_kernel.specs.Interrupts.{is_live}
 use Rattle.spec_engine.specs.Flights.{Flight, at}
-use Rattle.spec_engine.specs.Chunks.{Chunk}
 use Rattle.spec_protocol.specs.Spheres.{Role, Sphere, no_sphere, is_stopped, limit_of, halves}
 use Rattle.spec_protocol.specs.Placing.{replays}
 use Rattle.spec_protocol.specs.World.{Numbers, Held, World, What, OfChunk, OfSerial, OfDma, OfRaise, Move, After, sphere_at}
-use Rattle.spec_protocol.specs.Serial.{Whole}
 use Rattle.spec_protocol.specs.Shown.{flying, shown, shown_from, shown_of}
 use Rattle.spec_protocol.specs.Moves.{do_if, FitsIf}
 use Rattle.spec_protocol.proofs.Covering.{AllCovered}

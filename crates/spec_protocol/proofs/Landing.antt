@@ -1,32 +1,32 @@
 -- A commit moves one sphere: its words land on the current memory, every chunk that goes on stays current, and the world
 -- shows what the commit, done whole, gives.
-use Rattle.std.proofs.Common.{◌≡◌, ◌≢◌, ℕ, zero, suc, ◌<◌, ◌≤◌, ◌⊎◌, inl, inr, Bool, true, false, eqb, cond, List, [], ◌∷◌, ◌++◌, length, Option, Some, None, refl, sym, ap, ◌∙◌, subst, arith, set, get_or}
-use Rattle.std.specs.Prelude.{slice_get, max}
+use Rattle.std.proofs.Common.{◌≡◌, ◌≢◌, ℕ, ◌<◌, ◌≤◌, inl, inr, Bool, true, false, cond, List, [], ◌∷◌, length, Option, Some, None, refl, sym, ap, ◌∙◌, subst, arith, set}
+use Rattle.std.specs.Prelude.{slice_get}
 use Rattle.std.proofs.Math.ListN.{length-set}
-use Rattle.std.proofs.lemmas.Bool.{true≢false, cases_eq, false_from_ne_true}
+use Rattle.std.proofs.lemmas.Bool.{true≢false, false_from_ne_true}
 use Rattle.std.proofs.lemmas.Option.{none-some}
 use Rattle.spec_isa.specs.declared.thread.Parts.{Parts}
-use Rattle.spec_isa.specs.Words.{Stored, lays, Apart}
+use Rattle.spec_isa.specs.Words.{Stored, lays}
 use Rattle.spec_kernel.specs.Devices.{Devices}
 use Rattle.spec_kernel.specs.Interrupts.{is_live}
 use Rattle.spec_engine.specs.Signatures.{Marks, covers, hits, line}
-use Rattle.spec_engine.specs.Flights.{Flight, at, told_at}
+use Rattle.spec_engine.specs.Flights.{Flight, told_at}
 use Rattle.spec_engine.specs.Chunks.{Chunk, fresh}
 use Rattle.spec_engine.proofs.Marking.{covers_hit}
-use Rattle.spec_protocol.specs.Spheres.{Role, Plain, Record, Replay, Sphere, no_sphere, is_stopped, limit_in, limit_of, halves}
+use Rattle.spec_protocol.specs.Spheres.{Role, Plain, Record, Replay, Sphere, is_stopped, limit_of, halves}
 use Rattle.spec_protocol.specs.Placing.{replays}
 use Rattle.spec_protocol.specs.Commits.{Moved}
 use Rattle.spec_protocol.specs.World.{Numbers, Held, World, sphere_at, begun_thread, begun}
-use Rattle.spec_protocol.specs.Serial.{Whole, do_moved}
+use Rattle.spec_protocol.specs.Serial.{do_moved}
 use Rattle.spec_protocol.specs.Shown.{flying, shown, shown_from, shown_of}
 use Rattle.spec_protocol.proofs.Laying.{Agree-unseen, Unseen}
 use Rattle.spec_protocol.proofs.Slots.{Flew}
-use Rattle.spec_protocol.proofs.Running.{seen_by, Live, Live_local}
-use Rattle.spec_protocol.proofs.Covering.{CoversAll, Quiet, Covered}
+use Rattle.spec_protocol.proofs.Running.{seen_by, Live_local}
+use Rattle.spec_protocol.proofs.Covering.{CoversAll, Covered}
 use Rattle.spec_protocol.proofs.Current.{GoodChunk}
 use Rattle.spec_protocol.proofs.Relaying.{relaid}
-use Rattle.spec_protocol.proofs.Invariant.{current, LimitFits, GoodHeld, Good, sphere-same, sphere-other, shown-set}
-use Rattle.spec_protocol.proofs.OnFlights.{Beside, held-beside}
+use Rattle.spec_protocol.proofs.Invariant.{current, GoodHeld, sphere-same, sphere-other, shown-set}
+use Rattle.spec_protocol.proofs.OnFlights.{held-beside}
 
 -- ---- a chunk at its beginning
 
@@ -87,8 +87,8 @@ begun-held v i k c p h within positive there b =
       lives = b.lives;
       halving = ap (λ (q : Sphere). halves q.role) (sym there);
       limit = λ going.
-      let e : limit_of v.numbers.chunk p.role k t ≡ limit_of v.numbers.chunk (sphere_at v i).role k t = ap (λ (q : Sphere). limit_of v.numbers.chunk q.role k t) (sym there) in
-      record { most = omega (arith, e); replayed = λ r. e };
+          let e : limit_of v.numbers.chunk p.role k t ≡ limit_of v.numbers.chunk (sphere_at v i).role k t = ap (λ (q : Sphere). limit_of v.numbers.chunk q.role k t) (sym there) in
+          record { most = omega (arith, e); replayed = λ r. e };
       chunk = fresh-good v.numbers.buffer v.numbers.signature v.slots c (current v i) i t (limit_of v.numbers.chunk p.role k t) (halves p.role) (limit-positive v.numbers.chunk p.role k t positive);
     })
 
@@ -100,12 +100,11 @@ moved_world w i q ys cores devices = record w { spheres = set w.spheres i q; slo
 -- words of a signature that does not hit these reads
 pub unhit-unseen : (i : ℕ) (g : Marks) (ch : Chunk) (ws : List Stored) → ch.sphere ≡ i → ch.reads.bits ≡ g.bits → CoversAll i g ws → hits g ch.reads ≡ false → Unseen (seen_by ch) ws
 unhit-unseen i g ch [] same size c e = tt
-unhit-unseen i g ch (w ∷ ws) same size c e =
-    (
-      false_from_ne_true (seen_by ch w.word)
+unhit-unseen i g ch (w ∷ ws) same size c e = (
+  false_from_ne_true (seen_by ch w.word)
       (λ h. true≢false (sym (covers_hit g ch.reads (line ch.sphere w.word) size (ap (λ (n : ℕ). covers g (line n w.word)) same ∙ c.0) h) ∙ e)),
-      unhit-unseen i g ch ws same size c.1 e
-    )
+  unhit-unseen i g ch ws same size c.1 e,
+)
 
 landed_chunk : (capacity bits : ℕ) (xs ys : List (Option Flight)) (d : ℕ) (m : List ℕ) (ch : Chunk) (f : Flight) → Flew ch.sphere f xs ys → f.sphere ≡ ch.sphere → Covered bits f → told_at f.told d ≡ false → GoodChunk capacity bits xs d m ch
     → GoodChunk capacity bits ys d (lays m f.words) ch
@@ -117,13 +116,13 @@ landed_chunk capacity bits xs ys d m ch f flew same cov untold good =
       writes = good.writes;
       closes = good.closes;
       live = λ quiet.
-      let unseen : Unseen (seen_by ch) f.words = elim flew.stands [
-        | inl none ↦ subst (Unseen (seen_by ch)) (sym none) tt
-        | inr at_k ↦ unhit-unseen f.sphere f.writes ch f.words (sym same) (good.reads_size ∙ sym cov.size) cov.words (quiet.misses at_k.0 f at_k.1 same untold)
-      ]
-      in
-      Live_local m (lays m f.words) ch (Agree-unseen (seen_by ch) m f.words unseen)
-      (good.live (record { misses = λ k g there gs gu. quiet.misses k g (flew.stays k g there) gs gu }));
+          let unseen : Unseen (seen_by ch) f.words = elim flew.stands [
+            | inl none ↦ subst (Unseen (seen_by ch)) (sym none) tt
+            | inr at_k ↦ unhit-unseen f.sphere f.writes ch f.words (sym same) (good.reads_size ∙ sym cov.size) cov.words (quiet.misses at_k.0 f at_k.1 same untold)
+          ]
+          in
+          Live_local m (lays m f.words) ch (Agree-unseen (seen_by ch) m f.words unseen)
+          (good.live (record { misses = λ k g there gs gu. quiet.misses k g (flew.stays k g there) gs gu }));
     }
 
 -- all that the chunk of a core d needs in the sphere that moves
@@ -158,14 +157,14 @@ landed_here w q f ys cores devices d x l good =
       lives = good.lives;
       halving = good.halving ∙ sym l.halving ∙ ap (λ (p : Sphere). halves p.role) (sym there);
       limit = λ going.
-      let g : is_stopped q.role ≡ false = ap (λ (p : Sphere). is_stopped p.role) (sym there) ∙ going in
-      let fit = good.limit l.going in
-      record {
-        most = subst (λ (n : ℕ). x.chunk.limit ≤ n) (sym (limits g)) fit.most;
-        replayed = λ r. fit.replayed (sym l.replaying ∙ ap (λ (p : Sphere). replays p.role) (sym there) ∙ r) ∙ sym (limits g);
-      };
+          let g : is_stopped q.role ≡ false = ap (λ (p : Sphere). is_stopped p.role) (sym there) ∙ going in
+          let fit = good.limit l.going in
+          record {
+            most = subst (λ (n : ℕ). x.chunk.limit ≤ n) (sym (limits g)) fit.most;
+            replayed = λ r. fit.replayed (sym l.replaying ∙ ap (λ (p : Sphere). replays p.role) (sym there) ∙ r) ∙ sym (limits g);
+          };
       chunk = subst (λ (m : List ℕ). GoodChunk w.numbers.buffer w.numbers.signature ys d m x.chunk) memory
-      (landed_chunk w.numbers.buffer w.numbers.signature w.slots ys d (current w i) x.chunk f l.flew l.sphere l.covered l.untold good.chunk);
+          (landed_chunk w.numbers.buffer w.numbers.signature w.slots ys d (current w i) x.chunk f l.flew l.sphere l.covered l.untold good.chunk);
     }
 
 pub landed-held : (w : World) (i : ℕ) (q : Sphere) (f : Flight) (ys : List (Option Flight)) (cores : List (Option Held)) (devices : Devices) (d : ℕ) (x : Held) → x.chunk.sphere ≡ i → Lands w i q f ys d x → GoodHeld w d x

@@ -1,11 +1,11 @@
 -- Stores laid over a memory: those of different words in any order, and memories that agree on some words.
-use Rattle.std.proofs.Common.{◌≡◌, ◌≢◌, ℕ, ◌+◌, ◌*◌, ◌/◌, ◌<◌, inl, inr, Bool, true, false, List, [], ◌∷◌, ◌++◌, length, Option, Some, None, refl, sym, ap, ◌∙◌, subst, arith}
+use Rattle.std.proofs.Common.{◌≡◌, ℕ, ◌+◌, ◌*◌, ◌/◌, ◌<◌, inl, inr, Bool, true, false, List, [], ◌∷◌, ◌++◌, length, refl, sym, ap, ◌∙◌, arith}
 use Rattle.std.specs.Prelude.{slice_index}
 use Rattle.std.proofs.lemmas.Bool.{cases_lt}
-use Rattle.std.proofs.lemmas.List.{get_or_past, append_assoc}
+use Rattle.std.proofs.lemmas.List.{get_or_past}
 use Rattle.spec_isa.specs.Words.{Stored, lay, lays, read, Lacks, Apart}
 use Rattle.spec_isa.specs.Masks.{or_byte}
-use Rattle.spec_isa.proofs.MemoryLaws.{length_lay, length_lays, given, byte-lay, byte-lay_other}
+use Rattle.spec_isa.proofs.MemoryLaws.{length_lay, given, byte-lay, byte-lay_other}
 use Rattle.spec_isa.proofs.BufferLaws.{lay-lay}
 
 -- ---- lists of stores
@@ -100,7 +100,7 @@ byte_agrees m n s i size e =
     elim (cases_lt i (length m)) [
       | inl l ↦ byte-lay n s i (omega arith) ∙ ap (or_byte (given s i)) e ∙ sym (byte-lay m s i l)
       | inr past ↦ get_or_past (lay n s) i 0 (let h = length_lay n s in omega arith)
-      ∙ sym (get_or_past (lay m s) i 0 (let h = length_lay m s in omega arith))
+          ∙ sym (get_or_past (lay m s) i 0 (let h = length_lay m s in omega arith))
     ]
 
 pub Agree-lay : (seen : ℕ → Bool) (m n : List ℕ) (s : Stored) → Agree seen m n → Agree seen (lay m s) (lay n s)

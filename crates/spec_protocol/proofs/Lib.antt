@@ -18,4 +18,5 @@ pub mod OnAsks
 pub mod OnThreads
 pub mod OnTransfers
 pub mod Schedules
+pub mod OnCounts
 pub mod OnPoints

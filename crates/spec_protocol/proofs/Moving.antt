@@ -1,7 +1,7 @@
 -- What a granted request leaves alone in its sphere, whatever its role: the memory, the other threads and their limits.
-use Rattle.std.proofs.Common.{◌≡◌, ◌≢◌, ℕ, zero, suc, ◌+◌, ◌-◌, ◌<◌, ◌≤◌, ◌⊎◌, inl, inr, Bool, true, false, eqb, cond, List, [], ◌∷◌, ◌++◌, length, Option, Some, None, refl, sym, ap, ◌∙◌, subst, arith, set}
+use Rattle.std.proofs.Common.{◌≡◌, ◌≢◌, ℕ, zero, suc, ◌+◌, ◌-◌, Bool, true, false, eqb, cond, List, [], ◌∷◌, ◌++◌, length, Option, Some, None, refl, sym, ap, ◌∙◌, subst, set}
 use Rattle.std.specs.Prelude.{slice_get, slice_set, max}
-use Rattle.std.proofs.lemmas.Bool.{true≢false, eqb-true, eqb-false, ne_eqb, cases_eq}
+use Rattle.std.proofs.lemmas.Bool.{true≢false, eqb-true, ne_eqb}
 use Rattle.std.proofs.lemmas.Option.{none-some}
 use Rattle.dl_entry.specs.declared.Actor.{Actor}
 use Rattle.dl_entry.specs.declared.Input.{Input}
@@ -20,18 +20,16 @@ use Rattle.spec_kernel.specs.Devices.{Devices}
 use Rattle.spec_kernel.specs.Copies.{bytes_put}
 use Rattle.spec_kernel.specs.Needs.{Need, Write, Read, Random, Clock, MomentWord, InputWord, need}
 use Rattle.spec_kernel.specs.Interrupts.{takes_interrupt, interrupted}
-use Rattle.spec_kernel.specs.Serving.{Served, copy_of, outside_called, is_outside, inside_called, device_loaded, device_stored, alone, serve_kind, serve, console_told}
+use Rattle.spec_kernel.specs.Serving.{Served, copy_of, outside_called, is_outside, inside_called, device_loaded, device_stored, serve_kind, serve, console_told}
 use Rattle.spec_kernel.specs.Calls.{called}
 use Rattle.spec_play.specs.Effects.{Effect, chunk_effect, serial_effect}
 use Rattle.spec_play.specs.Progress.{Progress, Used}
 use Rattle.spec_play.specs.Turns.{Now, Turn, TurnOfDma, Over}
 use Rattle.spec_play.specs.Verdicts.{Verdict, Goes, Fails, unless, interrupt_at, with_interrupted, chunk_why, chunk_verdict, Given, given, serial_why, served_verdict, serial_verdict}
-use Rattle.spec_play.specs.Transfers.{DmaVerdict, DmaGoes, DmaFails, is_for, transferred, dma_unless, dma_verdict}
 use Rattle.spec_play.specs.Plays.{with_threads}
-use Rattle.spec_protocol.specs.Spheres.{Book, Role, Plain, Record, Replay, Sphere, is_over, is_stopped, actor_of, head_in, head_of, whole_limit, pieces_of, limit_in, limit_of, halves}
-use Rattle.spec_protocol.specs.Commits.{Outcome, Granted, Piece, Diverged, Moved, granted_as, by_verdict, joined, piece_moved, replayed_chunk, chunk_in, chunk_moved, serial_in, serial_moved, taken, serial_noted, dma_by_verdict, live_dma, dma_in, dma_moved}
+use Rattle.spec_protocol.specs.Spheres.{Book, Role, Plain, Record, Replay, Sphere, is_over, is_stopped, actor_of, head_in, whole_limit, pieces_of, limit_in, limit_of, halves}
+use Rattle.spec_protocol.specs.Commits.{Outcome, Granted, Piece, Diverged, Moved, granted_as, by_verdict, joined, piece_moved, replayed_chunk, chunk_in, chunk_moved, serial_in, serial_moved, taken, serial_noted}
 use Rattle.spec_protocol.specs.Asking.{other_turn}
-use Rattle.spec_protocol.specs.Transferring.{turn_before_dma}
 use Rattle.spec_protocol.specs.Placing.{replays}
 
 -- ---- threads
@@ -130,8 +128,8 @@ verdict_moves k b (Goes e u) devices p is turn apart =
         halving = ap halves (sym is);
         replaying = ap replays (sym is);
         limits = λ s j t ne going.
-        ap (λ (n : ℕ). max 1 (whole_limit b.log j t.commits - n)) (pieces_none _ j ∙ sym (ap (λ (now : Now). pieces_of now j b.total) turn ∙ pieces_other k j b.total ne))
-        ∙ ap (λ (r : Role). limit_in r s j t.commits) (sym is);
+            ap (λ (n : ℕ). max 1 (whole_limit b.log j t.commits - n)) (pieces_none _ j ∙ sym (ap (λ (now : Now). pieces_of now j b.total) turn ∙ pieces_other k j b.total ne))
+            ∙ ap (λ (r : Role). limit_in r s j t.commits) (sym is);
       };
       apart = apart e u refl;
       divergence = tt;
@@ -184,9 +182,9 @@ piece_moves k b r devices p is turn apart =
         halving = ap halves (sym is);
         replaying = ap replays (sym is);
         limits = λ s j t ne going.
-        ap (λ (n : ℕ). max 1 (whole_limit b.log j t.commits - n))
-        (ap (λ (now : Now). pieces_of now j (b.total + r.n)) turn ∙ pieces_other k j (b.total + r.n) ne ∙ sym (ap (λ (now : Now). pieces_of now j b.total) turn ∙ pieces_other k j b.total ne))
-        ∙ ap (λ (q : Role). limit_in q s j t.commits) (sym is);
+            ap (λ (n : ℕ). max 1 (whole_limit b.log j t.commits - n))
+            (ap (λ (now : Now). pieces_of now j (b.total + r.n)) turn ∙ pieces_other k j (b.total + r.n) ne ∙ sym (ap (λ (now : Now). pieces_of now j b.total) turn ∙ pieces_other k j b.total ne))
+            ∙ ap (λ (q : Role). limit_in q s j t.commits) (sym is);
       };
       apart = apart;
       divergence = tt;

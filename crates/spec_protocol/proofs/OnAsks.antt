@@ -1,37 +1,31 @@
 -- The event Ask keeps the invariant.
-use Rattle.std.proofs.Common.{◌≡◌, ◌≢◌, ℕ, zero, suc, ◌<◌, ◌≤◌, inl, inr, Bool, true, false, not, ◌&&◌, eqb, cond, List, [], ◌∷◌, ◌++◌, length, Option, Some, None, refl, sym, ap, ◌∙◌, subst, arith, set, get_or}
+use Rattle.std.proofs.Common.{◌≡◌, ℕ, zero, suc, ◌<◌, Bool, true, false, not, ◌&&◌, eqb, cond, List, [], ◌∷◌, ◌++◌, length, Option, Some, None, refl, sym, ap, ◌∙◌, subst}
 use Rattle.std.specs.Prelude.{slice_get, IsSome}
-use Rattle.std.proofs.lemmas.Bool.{true≢false, and_parts, and_from, or_parts, eqb-true, eqb-false, eq-eqb, ne_eqb, not-true, not-false, cases_Bool}
-use Rattle.std.proofs.lemmas.Option.{none-some}
+use Rattle.std.proofs.lemmas.Bool.{true≢false, and_parts, and_from, or_parts, eqb-true, eqb-false, eq-eqb, not-true, not-false}
 use Rattle.dl_entry.specs.declared.Actor.{Actor}
-use Rattle.spec_isa.specs.declared.thread.Parts.{Parts}
-use Rattle.spec_isa.specs.Words.{Stored, lays, Apart}
+use Rattle.spec_isa.specs.Words.{Stored, lays}
 use Rattle.spec_isa.specs.Runs.{Run, begun as run_begun, run}
 use Rattle.spec_log.specs.declared.ModeName.{ModeName}
 use Rattle.spec_kernel.specs.Needs.{next_kind}
-use Rattle.spec_kernel.specs.Interrupts.{is_live}
 use Rattle.spec_engine.specs.declared.answers.How.{How}
-use Rattle.spec_engine.specs.declared.answers.Asked.{Asked}
-use Rattle.spec_engine.specs.declared.answers.AskedSerial.{AskedSerial}
-use Rattle.spec_engine.specs.Signatures.{Marks, hits, nothing, signed}
+use Rattle.spec_engine.specs.Signatures.{hits, nothing, signed}
 use Rattle.spec_engine.specs.Flights.{Flight, at, first_slot, is_full, meets_chunk, is_of_sphere}
 use Rattle.spec_engine.specs.Chunks.{Chunk, is_serial, is_empty_serial}
-use Rattle.spec_engine.specs.Asking.{denied_by, ask, busy_by, ask_serial}
+use Rattle.spec_engine.specs.Asking.{denied_by, busy_by}
 use Rattle.spec_engine.proofs.Searches.{first_none}
 use Rattle.spec_protocol.specs.declared.reply.Reply.{Reply}
-use Rattle.spec_protocol.specs.Spheres.{Role, Plain, Record, Replay, Sphere, is_stopped, recording_turn, head_in, head_of, limit_of, is_in_pieces}
-use Rattle.spec_protocol.specs.Placing.{replays}
+use Rattle.spec_protocol.specs.Spheres.{Role, Plain, Record, Replay, Sphere, is_stopped, recording_turn, head_in, head_of, is_in_pieces}
 use Rattle.spec_protocol.specs.Commits.{Moved, is_piece, chunk_moved, serial_moved}
-use Rattle.spec_protocol.specs.World.{Held, World, moment, sphere_at, OfChunk, OfSerial, After, still}
-use Rattle.spec_protocol.specs.Asking.{Request, move_at, granted, is_short, chunk_request, grant_chunk, unless_denied, serial_request, grant_serial, unless_busy, asks_serial, ask_arbiter, other_turn, unless_turn, ask_closed, ask_held, asking}
+use Rattle.spec_protocol.specs.World.{Held, World, moment, sphere_at, After, still}
+use Rattle.spec_protocol.specs.Asking.{move_at, is_short, chunk_request, grant_chunk, unless_denied, serial_request, grant_serial, unless_busy, asks_serial, ask_arbiter, other_turn, unless_turn, ask_closed, ask_held, asking}
 use Rattle.spec_protocol.specs.Serial.{do_moved, do_serial}
-use Rattle.spec_protocol.specs.Shown.{words_of, flying, shown, shown_of}
-use Rattle.spec_protocol.specs.Moves.{move_chunk, do_what, do_at, do_move, ChunkFits, SerialFits, FitsChunk, FitsSerial, FitsWhat, FitsAt, Fits}
+use Rattle.spec_protocol.specs.Shown.{flying, shown, shown_of}
+use Rattle.spec_protocol.specs.Moves.{move_chunk, do_at, do_move, ChunkFits, SerialFits, FitsChunk, FitsSerial, FitsAt, Fits}
 use Rattle.spec_protocol.proofs.Laying.{AllLack, AllLack_nil, AllLack_flip}
 use Rattle.spec_protocol.proofs.Slots.{words-other}
 use Rattle.spec_protocol.proofs.Running.{Live}
-use Rattle.spec_protocol.proofs.Covering.{CoversAll, bits-signed, CoversAll-signed, apart-covered, flying-all_lack, Covered}
-use Rattle.spec_protocol.proofs.Moving.{MovesOnly, HasTurn, chunk-stores, chunk-lives, serial-lives, chunk-moves, serial-moves}
+use Rattle.spec_protocol.proofs.Covering.{CoversAll, bits-signed, CoversAll-signed, apart-covered, flying-all_lack}
+use Rattle.spec_protocol.proofs.Moving.{HasTurn, chunk-stores, chunk-lives, serial-lives, chunk-moves, serial-moves}
 use Rattle.spec_protocol.proofs.Relaying.{over, relaid, chunk-relaid}
 use Rattle.spec_protocol.proofs.Invariant.{current, GoodHeld, Good, Kept, shown-get, still-kept}
 use Rattle.spec_protocol.proofs.OnCores.{branch}
@@ -252,13 +246,13 @@ serial_grants w c h good is going turn free serial none =
       tells = refl;
       whole = serial_whole w h held.sphere held.start empty moves.keeps.memory;
       fits = serial_fits_at w h held.sphere held.start
-      (record {
-        going = going;
-        turn = ap (λ (o : Option Actor). other_turn o h.thread) (head_over p (current w i)) ∙ turn;
-        live = held.lives;
-        whole = not-true (is_in_pieces p.role) asks.1;
-        serial = serial_next (current w i) h.chunk live (serial_closed h.chunk.closed parts.1) (eqb-true h.chunk.done.n 0 parts.0);
-      });
+          (record {
+            going = going;
+            turn = ap (λ (o : Option Actor). other_turn o h.thread) (head_over p (current w i)) ∙ turn;
+            live = held.lives;
+            whole = not-true (is_in_pieces p.role) asks.1;
+            serial = serial_next (current w i) h.chunk live (serial_closed h.chunk.closed parts.1) (eqb-true h.chunk.done.n 0 parts.0);
+          });
     }
 
 -- ---- the event

@@ -1,29 +1,27 @@
 -- The events of running chunks keep the invariant: Step and Cut.
-use Rattle.std.proofs.Common.{◌≡◌, ◌≢◌, ℕ, zero, suc, ◌<◌, ◌≤◌, ◌⊎◌, inl, inr, Bool, true, false, eqb, cond, List, [], ◌∷◌, length, Option, Some, None, refl, sym, ap, ◌∙◌, subst, arith, set, get_or, get_or-set_same, get_or-set_other}
+use Rattle.std.proofs.Common.{◌≡◌, ◌≢◌, ℕ, ◌<◌, ◌≤◌, ◌⊎◌, inl, inr, Bool, true, false, eqb, cond, List, length, Option, Some, None, refl, sym, ap, ◌∙◌, subst, arith, set}
 use Rattle.std.specs.Prelude.{slice_get}
 use Rattle.std.proofs.Math.ListN.{length-set}
-use Rattle.std.proofs.lemmas.Bool.{true≢false, eqb-true, eqb-false, cases_lt, cases_eq}
-use Rattle.std.proofs.lemmas.List.{get_or_past, set-get_or}
+use Rattle.std.proofs.lemmas.Bool.{true≢false, eqb-false, cases_lt, cases_eq}
+use Rattle.std.proofs.lemmas.List.{get_or_past}
 use Rattle.std.proofs.lemmas.Option.{none-some}
-use Rattle.spec_isa.specs.declared.thread.Parts.{Parts}
 use Rattle.spec_kernel.specs.Interrupts.{is_live}
 use Rattle.spec_engine.specs.declared.answers.How.{How}
 use Rattle.spec_engine.specs.declared.answers.CutReply.{CutReply}
 use Rattle.spec_engine.specs.Flights.{Flight, at}
 use Rattle.spec_engine.specs.Chunks.{Chunk, step, Cutting, cut_open, cut, is_open}
 use Rattle.spec_protocol.specs.declared.reply.Reply.{Reply}
-use Rattle.spec_protocol.specs.Spheres.{Role, Sphere, is_stopped, limit_of, halves}
+use Rattle.spec_protocol.specs.Spheres.{is_stopped, limit_of, halves}
 use Rattle.spec_protocol.specs.Placing.{replays}
 use Rattle.spec_protocol.specs.World.{Held, World, Move, After, sphere_at, with_core, still}
-use Rattle.spec_protocol.specs.Shown.{flying, shown_of}
+use Rattle.spec_protocol.specs.Shown.{shown_of}
 use Rattle.spec_protocol.specs.Moves.{do_if, FitsIf}
 use Rattle.spec_protocol.specs.Stepping.{with_chunk, stepped, step_held, stepping, cut_to, cut_held, cutting}
 use Rattle.spec_protocol.proofs.Slots.{at-set_same, at-set_other}
 use Rattle.spec_protocol.proofs.Running.{Live}
-use Rattle.spec_protocol.proofs.Covering.{Quiet}
-use Rattle.spec_protocol.proofs.Steps.{Closes, SameBase}
+use Rattle.spec_protocol.proofs.Steps.{SameBase}
 use Rattle.spec_protocol.proofs.Current.{GoodChunk, step-good}
-use Rattle.spec_protocol.proofs.Invariant.{current, LimitFits, GoodHeld, IsAlone, Good, SameSizes, PointIs, Kept, still-kept}
+use Rattle.spec_protocol.proofs.Invariant.{current, GoodHeld, IsAlone, Good, SameSizes, PointIs, Kept, still-kept}
 
 -- ---- rows of cores and slots
 
@@ -103,11 +101,11 @@ held-same w c h dh good base chunk =
       lives = ap is_live base.start ∙ good.lives;
       halving = base.halves ∙ good.halving ∙ ap (λ (i : ℕ). halves (sphere_at w i).role) (sym base.sphere);
       limit = λ going.
-      let l = good.limit (ap (λ (i : ℕ). is_stopped (sphere_at w i).role) (sym base.sphere) ∙ going) in
-      record {
-        most = subst (λ (n : ℕ). n ≤ limit_of w.numbers.chunk (sphere_at w dh.sphere).role h.thread dh.start) (sym base.limit) (subst (λ (n : ℕ). h.chunk.limit ≤ n) (sym limits) l.most);
-        replayed = λ r. base.limit ∙ l.replayed (ap (λ (i : ℕ). replays (sphere_at w i).role) (sym base.sphere) ∙ r) ∙ sym limits;
-      };
+          let l = good.limit (ap (λ (i : ℕ). is_stopped (sphere_at w i).role) (sym base.sphere) ∙ going) in
+          record {
+            most = subst (λ (n : ℕ). n ≤ limit_of w.numbers.chunk (sphere_at w dh.sphere).role h.thread dh.start) (sym base.limit) (subst (λ (n : ℕ). h.chunk.limit ≤ n) (sym limits) l.most);
+            replayed = λ r. base.limit ∙ l.replayed (ap (λ (i : ℕ). replays (sphere_at w i).role) (sym base.sphere) ∙ r) ∙ sym limits;
+          };
       chunk = subst (λ (i : ℕ). GoodChunk w.numbers.buffer w.numbers.signature w.slots c (current w i) dh) (sym base.sphere) chunk;
     }
 
@@ -182,13 +180,13 @@ cut_good capacity bits xs c m ch open_ some good =
         few = good.closes.few;
       };
       live = λ quiet.
-      let live : Live m ch = good.live quiet in
-      record {
-        runs = live.runs;
-        touches = live.touches;
-        next_touches = λ e. absurd (let h : How.Cut ≡ How.Serial = cc in cc);
-        next_serial = λ e. absurd (let h : How.Cut ≡ How.Serial = cc in cc);
-      };
+          let live : Live m ch = good.live quiet in
+          record {
+            runs = live.runs;
+            touches = live.touches;
+            next_touches = λ e. absurd (let h : How.Cut ≡ How.Serial = cc in cc);
+            next_serial = λ e. absurd (let h : How.Cut ≡ How.Serial = cc in cc);
+          };
     }
 
 cut_open_kept : (w : World) (c : ℕ) (h : Held) (o : Option How) → at w.cores c ≡ Some h → h.chunk.closed ≡ o → Good w → Kept w (cut_to w c h (cut_open h.chunk o))

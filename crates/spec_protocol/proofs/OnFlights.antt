@@ -1,34 +1,32 @@
 -- The events of flights keep the invariant: Drain, Deliver and Retire.
-use Rattle.std.proofs.Common.{◌≡◌, ◌≢◌, ℕ, zero, suc, ◌<◌, ◌≤◌, ◌⊎◌, inl, inr, Bool, true, false, eqb, cond, ◌&&◌, List, [], ◌∷◌, ◌++◌, length, Option, Some, None, refl, sym, ap, ◌∙◌, subst, arith, set, get_or, get_or-set_same, get_or-set_other}
+use Rattle.std.proofs.Common.{◌≡◌, ◌≢◌, ℕ, ◌<◌, ◌≤◌, inl, inr, Bool, true, false, eqb, cond, ◌&&◌, List, [], ◌∷◌, ◌++◌, length, Option, Some, None, refl, sym, ap, ◌∙◌, subst, arith, set}
 use Rattle.std.specs.Prelude.{slice_get}
 use Rattle.std.proofs.Math.ListN.{length-set}
-use Rattle.std.proofs.lemmas.Bool.{true≢false, and_parts, or_parts, cases_lt, cases_eq}
-use Rattle.std.proofs.lemmas.List.{get_or_past, set-get_or}
+use Rattle.std.proofs.lemmas.Bool.{true≢false, and_parts, or_parts, cases_eq}
+use Rattle.std.proofs.lemmas.List.{set-get_or}
 use Rattle.std.proofs.lemmas.Option.{none-some}
 use Rattle.spec_isa.specs.declared.thread.Parts.{Parts}
 use Rattle.spec_isa.specs.Words.{Stored, lay, lays, Lacks, Apart}
-use Rattle.spec_engine.specs.declared.answers.Drain.{Drain}
 use Rattle.spec_engine.specs.declared.answers.Deliver.{Deliver}
 use Rattle.spec_engine.specs.declared.answers.Retire.{Retire}
-use Rattle.spec_engine.specs.Signatures.{Marks, hits, nothing}
-use Rattle.spec_engine.specs.Flights.{Flight, at, told_at, all_told, meets_chunk, drain_words, drain, Delivered, tell, deliver, has_none, is_done, Retired, retire}
-use Rattle.spec_engine.specs.Chunks.{Chunk, fresh, squash, is_fourth, halved}
+use Rattle.spec_engine.specs.Signatures.{Marks, hits}
+use Rattle.spec_engine.specs.Flights.{Flight, at, told_at, all_told, meets_chunk, drain_words, Delivered, tell, deliver, has_none, is_done, Retired, retire}
+use Rattle.spec_engine.specs.Chunks.{Chunk, squash, is_fourth, halved}
 use Rattle.spec_engine.proofs.Searches.{told-tell_other, all_told-at}
 use Rattle.spec_protocol.specs.declared.reply.Reply.{Reply}
-use Rattle.spec_protocol.specs.Spheres.{Role, Plain, Record, Replay, Sphere, no_sphere, is_stopped, limit_of, halves}
+use Rattle.spec_protocol.specs.Spheres.{Role, Plain, Record, Replay, Sphere, is_stopped, limit_of, halves}
 use Rattle.spec_protocol.specs.Placing.{replays}
-use Rattle.spec_protocol.specs.World.{Held, World, Move, After, sphere_at, with_sphere, with_memory, with_core, with_slot, still, went_on}
-use Rattle.spec_protocol.specs.Shown.{words_of, flying, shown, shown_from, shown_of}
+use Rattle.spec_protocol.specs.World.{Held, World, Move, After, sphere_at, with_memory, with_core, with_slot, still, went_on}
+use Rattle.spec_protocol.specs.Shown.{words_of, flying, shown, shown_of}
 use Rattle.spec_protocol.specs.Moves.{do_if, FitsIf}
-use Rattle.spec_protocol.specs.Flying.{reply_of_drain, drain_slot, draining, reads_of, writes_of, squashed, told, deliver_to, delivering, reply_of_retire, retiring}
-use Rattle.spec_protocol.proofs.Laying.{lays_append, AllLack, AllLack_flip, Apart_lack, Apart_first, Apart_last, Apart-append, AllLack_right, lays-lay}
+use Rattle.spec_protocol.specs.Flying.{reply_of_drain, drain_slot, draining, reads_of, writes_of, squashed, told, delivering, reply_of_retire, retiring}
+use Rattle.spec_protocol.proofs.Laying.{lays_append, AllLack_flip, Apart_lack, Apart_first, Apart_last, Apart-append, lays-lay}
 use Rattle.spec_protocol.proofs.Slots.{at-set_same, at-set_other, at_within, before, behind, flying-at, flying-set, flying_same, words-same, words-other}
 use Rattle.spec_protocol.proofs.Running.{Live}
-use Rattle.spec_protocol.proofs.Covering.{CoversAll, Quiet, Covered, AllCovered}
-use Rattle.spec_protocol.proofs.Steps.{Closes}
+use Rattle.spec_protocol.proofs.Covering.{CoversAll, Quiet, Covered}
 use Rattle.spec_protocol.proofs.Current.{GoodChunk}
-use Rattle.spec_protocol.proofs.Invariant.{current, LimitFits, GoodHeld, IsAlone, Good, SameSizes, PointIs, Kept, sphere-same, sphere-other, shown_from-same, shown-unmoved, set-itself, still-kept}
-use Rattle.spec_protocol.proofs.OnCores.{set-cases, alone-set, held_there, core-good, others-differ, branch}
+use Rattle.spec_protocol.proofs.Invariant.{current, GoodHeld, Good, SameSizes, PointIs, Kept, sphere-same, sphere-other, shown_from-same, shown-unmoved, set-itself, still-kept}
+use Rattle.spec_protocol.proofs.OnCores.{set-cases, alone-set, held_there, others-differ, branch}
 
 -- ---- a chunk beside other slots
 
@@ -63,13 +61,13 @@ held-beside w v c h b good =
       lives = good.lives;
       halving = good.halving ∙ ap halves (sym b.role);
       limit = λ going.
-      let l = good.limit (ap is_stopped (sym b.role) ∙ going) in
-      record {
-        most = subst (λ (n : ℕ). h.chunk.limit ≤ n) (sym limits) l.most;
-        replayed = λ r. l.replayed (ap replays (sym b.role) ∙ r) ∙ sym limits;
-      };
+          let l = good.limit (ap is_stopped (sym b.role) ∙ going) in
+          record {
+            most = subst (λ (n : ℕ). h.chunk.limit ≤ n) (sym limits) l.most;
+            replayed = λ r. l.replayed (ap replays (sym b.role) ∙ r) ∙ sym limits;
+          };
       chunk = subst (λ (z : _). GoodChunk z.buffer z.signature v.slots c (current v h.chunk.sphere) h.chunk) (sym b.numbers)
-      (chunk-beside w.numbers.buffer w.numbers.signature w.slots v.slots c (current w h.chunk.sphere) (current v h.chunk.sphere) h.chunk b.memory b.quiet good.chunk);
+          (chunk-beside w.numbers.buffer w.numbers.signature w.slots v.slots c (current w h.chunk.sphere) (current v h.chunk.sphere) h.chunk b.memory b.quiet good.chunk);
     }
 
 -- ---- a slot is set to what stands there
@@ -95,11 +93,11 @@ shorter_quiet xs k f ss i c reads is q =
     record {
       misses = λ j g there same untold. elim (cases_eq j k) [
         | inl e ↦ (
-          let fg : f ≡ g = (let o : Some f ≡ Some g = sym is ∙ ap (at xs) (sym e) ∙ there in cc) in
-          subst (λ (x : Flight). hits x.writes reads ≡ false) fg
-          (q.misses k (record f { words = ss }) (at-set_same xs k (Some (record f { words = ss })) (at_within xs k f is))
-          (ap (λ (x : Flight). x.sphere) fg ∙ same) (ap (λ (x : Flight). told_at x.told c) fg ∙ untold))
-        )
+            let fg : f ≡ g = (let o : Some f ≡ Some g = sym is ∙ ap (at xs) (sym e) ∙ there in cc) in
+            subst (λ (x : Flight). hits x.writes reads ≡ false) fg
+            (q.misses k (record f { words = ss }) (at-set_same xs k (Some (record f { words = ss })) (at_within xs k f is))
+            (ap (λ (x : Flight). x.sphere) fg ∙ same) (ap (λ (x : Flight). told_at x.told c) fg ∙ untold))
+            )
         | inr ne ↦ q.misses j g (at-set_other xs k j (Some (record f { words = ss })) ne ∙ there) same untold
       ];
     }
@@ -172,10 +170,10 @@ drained_kept w k f s ss a good is words world move point =
         ];
         covered = λ j x e. elim (set-cases w.slots k j (Some g) x e) [
           | inl p ↦ (
-            let c = good.covered k f is in
-            let gx : g ≡ x = (let o : Some g ≡ Some x = p.1 in cc) in
-            subst (Covered w.numbers.signature) gx (record { size = c.size; words = (subst (CoversAll f.sphere f.writes) words c.words).1 })
-          )
+              let c = good.covered k f is in
+              let gx : g ≡ x = (let o : Some g ≡ Some x = p.1 in cc) in
+              subst (Covered w.numbers.signature) gx (record { size = c.size; words = (subst (CoversAll f.sphere f.writes) words c.words).1 })
+              )
           | inr p ↦ good.covered j x p.1
         ];
         flights = λ j x e. subst (λ (n : ℕ). x.sphere < n) (sym (length-set w.spheres i (record (sphere_at w i) { memory = lay m s }))) (elim (set-cases w.slots k j (Some g) x e) [
@@ -188,8 +186,8 @@ drained_kept w k f s ss a good is words world move point =
       sizes = subst (SameSizes w) (sym world) (record { numbers = refl; spheres = length-set w.spheres i (record (sphere_at w i) { memory = lay m s }); cores = refl; slots = length-set w.slots k (Some g) });
       point = subst (λ (m : Option Move). PointIs w m a.point) (sym move) point;
       whole = ap shown_of world
-      ∙ (λ j. record { spheres = shown-unmoved w.slots ys i w.spheres (record (sphere_at w i) { memory = lay m s }) others (λ n. record (sphere_at w i) { memory = memory n }) j; devices = w.devices })
-      ∙ sym (ap (do_if w.numbers (shown_of w)) move);
+          ∙ (λ j. record { spheres = shown-unmoved w.slots ys i w.spheres (record (sphere_at w i) { memory = lay m s }) others (λ n. record (sphere_at w i) { memory = memory n }) j; devices = w.devices })
+          ∙ sym (ap (do_if w.numbers (shown_of w)) move);
       fits = subst (FitsIf w.numbers (shown_of w)) (sym move) tt;
     }
 
@@ -264,9 +262,9 @@ retired_quiet w k f i c reads is all l q =
     record {
       misses = λ j g there same untold. elim (cases_eq j k) [
         | inl e ↦ (
-          let fg : f ≡ g = (let o : Some f ≡ Some g = sym is ∙ ap (at w.slots) (sym e) ∙ there in cc) in
-          absurd (true≢false (sym (all_told-at (length w.cores) f.told c all l) ∙ ap (λ (x : Flight). told_at x.told c) fg ∙ untold))
-        )
+            let fg : f ≡ g = (let o : Some f ≡ Some g = sym is ∙ ap (at w.slots) (sym e) ∙ there in cc) in
+            absurd (true≢false (sym (all_told-at (length w.cores) f.told c all l) ∙ ap (λ (x : Flight). told_at x.told c) fg ∙ untold))
+            )
         | inr ne ↦ q.misses j g (at-set_other w.slots k j None ne ∙ there) same untold
       ];
     }
@@ -283,8 +281,8 @@ retired_kept w k f a good is done world move point =
     in
     record {
       good = subst Good (sym world) (slot_good w k None within good s
-      (λ c x e. held-beside w (with_slot w k None) c x
-      (slot_beside w k None c x within s (retired_quiet w k f x.chunk.sphere c x.chunk.reads is p.1 (at_within w.cores c x e))) (good.held c x e)));
+          (λ c x e. held-beside w (with_slot w k None) c x
+          (slot_beside w k None c x within s (retired_quiet w k f x.chunk.sphere c x.chunk.reads is p.1 (at_within w.cores c x e))) (good.held c x e)));
       sizes = subst (SameSizes w) (sym world) (record { numbers = refl; spheres = refl; cores = refl; slots = length-set w.slots k None });
       point = subst (λ (m : Option Move). PointIs w m a.point) (sym move) point;
       whole = ap shown_of world ∙ slot_shown w k None within s ∙ sym (ap (do_if w.numbers (shown_of w)) move);
@@ -310,13 +308,13 @@ told_quiet xs k f c d i reads is free q =
     record {
       misses = λ j g there same untold. elim (cases_eq j k) [
         | inl e ↦ (
-          let fg : f ≡ g = (let o : Some f ≡ Some g = sym is ∙ ap (at xs) (sym e) ∙ there in cc) in
-          subst (λ (x : Flight). hits x.writes reads ≡ false) fg (elim (cases_eq d c) [
-            | inl dc ↦ free dc
-            | inr ne ↦ q.misses k (tell f c) (at-set_same xs k (Some (tell f c)) (at_within xs k f is)) (ap (λ (x : Flight). x.sphere) fg ∙ same)
-            (told-tell_other f c d ne ∙ ap (λ (x : Flight). told_at x.told d) fg ∙ untold)
-          ])
-        )
+            let fg : f ≡ g = (let o : Some f ≡ Some g = sym is ∙ ap (at xs) (sym e) ∙ there in cc) in
+            subst (λ (x : Flight). hits x.writes reads ≡ false) fg (elim (cases_eq d c) [
+              | inl dc ↦ free dc
+              | inr ne ↦ q.misses k (tell f c) (at-set_same xs k (Some (tell f c)) (at_within xs k f is)) (ap (λ (x : Flight). x.sphere) fg ∙ same)
+                  (told-tell_other f c d ne ∙ ap (λ (x : Flight). told_at x.told d) fg ∙ untold)
+            ])
+            )
         | inr ne ↦ q.misses j g (at-set_other xs k j (Some (tell f c)) ne ∙ there) same untold
       ];
     }
@@ -326,9 +324,9 @@ told_slot w k c f good is =
     record {
       words = λ i. ap (words_of i) (sym is);
       covered = λ x e.
-      let cov = good.covered k f is in
-      let q : tell f c ≡ x = cc in
-      subst (Covered w.numbers.signature) q (record { size = cov.size; words = cov.words });
+          let cov = good.covered k f is in
+          let q : tell f c ≡ x = cc in
+          subst (Covered w.numbers.signature) q (record { size = cov.size; words = cov.words });
       flights = λ x e. let q : tell f c ≡ x = cc in subst (λ (y : Flight). y.sphere < length w.spheres) q (good.flights k f is);
     }
 
@@ -378,11 +376,11 @@ squash_held w k c o h good =
       lives = good.lives;
       halving = good.halving;
       limit = λ going.
-      let l = good.limit going in
-      record {
-        most = either_most (is_fourth h.chunk) h.chunk.limit _ positive l.most;
-        replayed = λ r. not_halved h.chunk (sphere_at w h.chunk.sphere).role good.halving r ∙ l.replayed r;
-      };
+          let l = good.limit going in
+          record {
+            most = either_most (is_fourth h.chunk) h.chunk.limit _ positive l.most;
+            replayed = λ r. not_halved h.chunk (sphere_at w h.chunk.sphere).role good.halving r ∙ l.replayed r;
+          };
       chunk = squash_good w.numbers.buffer (set w.slots k o) c (current (with_slot w k o) h.chunk.sphere) h.chunk w.numbers.signature positive good.chunk.reads_size;
     }
 
@@ -402,11 +400,11 @@ delivered_kept : (w : World) (k c : ℕ) (f : Flight) (held : Option Held) → G
 delivered_kept w k c f held good is there free =
     record {
       good = slot_good w k (Some (tell f c)) (at_within w.slots k f is) good (told_slot w k c f good is)
-      (λ d x e. told_held w k c f d x good is
-      (λ dc.
-      let h : held ≡ Some x = sym there ∙ ap (at w.cores) (sym dc) ∙ e in
-      (or_parts (hits f.writes x.chunk.reads) (hits f.writes x.chunk.writes) (ap (λ (o : Option Held). meets_chunk (reads_of w o) (writes_of w o) f) (sym h) ∙ free)).0)
-      e);
+          (λ d x e. told_held w k c f d x good is
+          (λ dc.
+          let h : held ≡ Some x = sym there ∙ ap (at w.cores) (sym dc) ∙ e in
+          (or_parts (hits f.writes x.chunk.reads) (hits f.writes x.chunk.writes) (ap (λ (o : Option Held). meets_chunk (reads_of w o) (writes_of w o) f) (sym h) ∙ free)).0)
+          e);
       sizes = told_sizes w k c f;
       point = refl;
       whole = slot_shown w k (Some (tell f c)) (at_within w.slots k f is) (told_slot w k c f good is);

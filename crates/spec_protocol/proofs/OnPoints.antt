@@ -1,7 +1,6 @@
 -- From all moves to the points of plain and recorded spheres: a replayed sphere touches neither them nor the devices.
-use Rattle.std.proofs.Common.{◌≡◌, ◌≢◌, ℕ, zero, suc, ◌<◌, ◌≤◌, inl, inr, Bool, true, false, cond, List, [], ◌∷◌, ◌++◌, length, Option, Some, None, refl, sym, ap, ◌∙◌, subst, arith, set}
+use Rattle.std.proofs.Common.{◌≡◌, ℕ, zero, suc, ◌<◌, inl, inr, Bool, true, false, List, [], ◌∷◌, ◌++◌, length, Option, Some, None, refl, sym, ap, ◌∙◌, subst, arith, set}
 use Rattle.std.specs.Prelude.{slice_get, IsSome}
-use Rattle.std.proofs.Math.ListN.{length-set}
 use Rattle.std.proofs.lemmas.Bool.{true≢false, cases_eq, cases_Bool}
 use Rattle.std.proofs.lemmas.Option.{none-some, slice_get_within}
 use Rattle.dl_entry.specs.declared.Actor.{Actor}
@@ -9,7 +8,6 @@ use Rattle.dl_entry.specs.declared.CommitKind.{CommitKind}
 use Rattle.dl_entry.specs.declared.Point.{Point}
 use Rattle.dl_entry.specs.declared.Request.{Request}
 use Rattle.spec_isa.specs.declared.thread.Parts.{Parts}
-use Rattle.spec_isa.specs.Words.{lays}
 use Rattle.spec_isa.specs.Runs.{Run, run}
 use Rattle.spec_kernel.specs.Devices.{Devices}
 use Rattle.spec_kernel.specs.Copies.{dma_words}
@@ -22,15 +20,16 @@ use Rattle.spec_protocol.specs.Spheres.{Book, Role, Plain, Record, Replay, Spher
 use Rattle.spec_protocol.specs.Placing.{replays}
 use Rattle.spec_protocol.specs.Commits.{Moved, is_piece, joined, by_verdict, replayed_chunk, chunk_in, chunk_moved, serial_in, serial_moved, live_dma, dma_by_verdict, dma_in, dma_moved, dma_as, dma_log, role_raised, raised}
 use Rattle.spec_protocol.specs.Asking.{is_short}
-use Rattle.spec_protocol.specs.World.{Numbers, World, What, OfChunk, OfSerial, OfDma, OfRaise, Move, After, sphere_at}
-use Rattle.spec_protocol.specs.Machine.{Setup, world_of, with_point, kept, act, happens, world_after}
-use Rattle.spec_protocol.specs.Serial.{Whole, whole_of, laid, do_moved, do_chunk, do_serial, do_dma, do_raise, do_kind, in_live, do_commit, do_interrupt, do_point, do_points, serial, CanRun, CanChunk, CanServe, CanSerial, CanTake, CanKind, InLive, CanCommit, CanInterrupt, CanDo, CanDoAll}
+use Rattle.spec_protocol.specs.World.{Numbers, World, What, OfChunk, OfSerial, OfDma, OfRaise, Move, sphere_at}
+use Rattle.spec_protocol.specs.Machine.{world_of, with_point, act, happens, world_after}
+use Rattle.spec_protocol.specs.Serial.{Whole, whole_of, laid, do_moved, do_chunk, do_serial, do_dma, do_raise, in_live, do_commit, do_interrupt, do_point, do_points, CanChunk, CanSerial, CanTake, InLive, CanCommit, CanInterrupt, CanDo, CanDoAll}
 use Rattle.spec_protocol.specs.Shown.{shown, shown_from, shown_of}
 use Rattle.spec_engine.specs.Flights.{Flight}
-use Rattle.spec_protocol.specs.Moves.{move_chunk, do_what, do_at, do_move, do_if, ChunkFits, SerialFits, DmaFits, RaiseFits, FitsChunk, FitsSerial, FitsRaise, FitsWhat, FitsAt, Fits, FitsIf}
-use Rattle.spec_protocol.specs.Promises.{IsSetup, after, IsSerialAfter, CommitsAreSerial}
+use Rattle.spec_protocol.specs.Moves.{move_chunk, do_what, do_at, do_move, do_if, ChunkFits, FitsChunk, FitsSerial, FitsRaise, FitsWhat, FitsAt, FitsIf}
+use Rattle.spec_protocol.specs.Promises.{CommitsAreSerial}
 use Rattle.spec_protocol.proofs.Moving.{get-set_other, get-set_same}
-use Rattle.spec_protocol.proofs.Invariant.{point_for, sphere_of_point, IsOf, PointOf, PointIs, Good, SameSizes, Kept, shown-get}
+use Rattle.spec_protocol.proofs.Invariant.{point_for, sphere_of_point, IsOf, PointOf, PointIs, Good, shown-get}
+use Rattle.spec_protocol.proofs.OnCounts.{act-untold}
 use Rattle.spec_protocol.proofs.Schedules.{happens-kept, start-good, start-shown}
 
 -- ---- in a replayed sphere
@@ -112,13 +111,13 @@ agrees_set x y i p q d e a xi yi lives same =
       ];
       replayed = λ j r h rep. elim (cases_eq j i) [
         | inl ji ↦ (
-          let qr : q ≡ r = (let o : Some q ≡ Some r = sym (get-set_same x.spheres i q p xi) ∙ ap (slice_get (set x.spheres i q)) (sym ji) ∙ h in cc) in
-          absurd (true≢false (sym rep ∙ ap (λ (s : Sphere). replays s.role) (sym qr) ∙ lives))
-        )
+            let qr : q ≡ r = (let o : Some q ≡ Some r = sym (get-set_same x.spheres i q p xi) ∙ ap (slice_get (set x.spheres i q)) (sym ji) ∙ h in cc) in
+            absurd (true≢false (sym rep ∙ ap (λ (s : Sphere). replays s.role) (sym qr) ∙ lives))
+            )
         | inr ne ↦ (
-          let c = a.replayed j r (sym (get-set_other x.spheres i j q ne) ∙ h) rep in
-          (c.0, get-set_other y.spheres i j q ne ∙ c.1, c.2)
-        )
+            let c = a.replayed j r (sym (get-set_other x.spheres i j q ne) ∙ h) rep in
+            (c.0, get-set_other y.spheres i j q ne ∙ c.1, c.2)
+            )
       ];
     }
 
@@ -129,9 +128,9 @@ agrees_replay x y i p q d a xi rep now same =
       devices = same ∙ a.devices;
       live = λ j r h live. elim (cases_eq j i) [
         | inl ji ↦ (
-          let qr : q ≡ r = (let o : Some q ≡ Some r = sym (get-set_same x.spheres i q p xi) ∙ ap (slice_get (set x.spheres i q)) (sym ji) ∙ h in cc) in
-          absurd (true≢false (sym now ∙ ap (λ (s : Sphere). replays s.role) qr ∙ live))
-        )
+            let qr : q ≡ r = (let o : Some q ≡ Some r = sym (get-set_same x.spheres i q p xi) ∙ ap (slice_get (set x.spheres i q)) (sym ji) ∙ h in cc) in
+            absurd (true≢false (sym now ∙ ap (λ (s : Sphere). replays s.role) qr ∙ live))
+            )
         | inr ne ↦ a.live j r (sym (get-set_other x.spheres i j q ne) ∙ h) live
       ];
       replayed = λ j r h rep'. elim (cases_eq j i) [
@@ -181,11 +180,10 @@ can_replay (Replay b) can e = tt
 -- a point of a replayed sphere does nothing here
 replay_point : (y : Whole) (pt : Point) (q : Sphere) → slice_get y.spheres (sphere_of_point pt) ≡ Some q → replays q.role ≡ true → (do_point y pt ≡ y) × CanDo y pt
 unfolding do_point
-replay_point y (Point.Commit moment i actor kind size short) q yi rep =
-    (
-      ap (do_commit y moment i actor kind size short) yi ∙ in_replay q.role y _ rep,
-      subst (CanCommit y.devices actor kind size) (sym yi) (can_replay q.role _ rep)
-    )
+replay_point y (Point.Commit moment i actor kind size short) q yi rep = (
+  ap (do_commit y moment i actor kind size short) yi ∙ in_replay q.role y _ rep,
+  subst (CanCommit y.devices actor kind size) (sym yi) (can_replay q.role _ rep),
+)
 replay_point y (Point.Raise moment i k value) q yi rep =
     (ap (do_interrupt y i k value) yi ∙ in_replay q.role y _ rep, subst (CanInterrupt k) (sym yi) (can_replay q.role _ rep))
 
@@ -434,3 +432,27 @@ record SerialSo (x : Whole) (w : World) : Type 0 where
 points_kept : (w : World) (e : Event) → (happens w e).world.points ≡ with_point (happens w e).point (act w e).world.points
 unfolding happens
 points_kept w e = refl
+
+serial_so : (x : Whole) (w : World) (e : Event) → Good w → SerialSo x w → SerialSo x (happens w e).world
+serial_so x w e good s =
+    let a = happens w e in
+    let k = happens-kept w e good in
+    let f = event_follows w (do_points x w.points) a.move a.point s.agrees good.buffer k.fits k.point in
+    let points : a.world.points ≡ with_point a.point w.points = points_kept w e ∙ ap (with_point a.point) (act-untold w e).points in
+    record {
+      agrees = subst (λ (u : Whole). Agrees u (do_points x a.world.points)) (sym k.whole)
+          (subst (Agrees (do_if w.numbers (shown_of w) a.move)) (sym (ap (do_points x) points ∙ with_point_done x w.points a.point)) f.agrees);
+      possible = subst (CanDoAll x) (sym points) (with_point_can x w.points a.point s.possible f.can);
+    }
+
+after_so : (x : Whole) (w : World) (es : List Event) → Good w → SerialSo x w → SerialSo x (world_after w es)
+after_so x w [] good s = s
+after_so x w (e ∷ es) good s = after_so x (happens w e).world es (happens-kept w e good).good (serial_so x w e good s)
+
+pub commits_are : CommitsAreSerial
+commits_are s es is =
+    let start : SerialSo (whole_of s) (world_of s) =
+    record { agrees = subst (λ (u : Whole). Agrees u (whole_of s)) (sym (start-shown s)) (agrees_itself (whole_of s)); possible = tt }
+    in
+    let r = after_so (whole_of s) (world_of s) es (start-good s is) start in
+    record { spheres = r.agrees.live; devices = r.agrees.devices; possible = r.possible }

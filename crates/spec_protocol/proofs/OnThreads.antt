@@ -1,29 +1,28 @@
 -- The events of threads keep the invariant: Place and Raise.
-use Rattle.std.proofs.Common.{◌≡◌, ◌≢◌, ℕ, zero, suc, ◌<◌, ◌≤◌, inl, inr, Bool, true, false, not, ◌&&◌, eqb, cond, List, [], ◌∷◌, length, Option, Some, None, refl, sym, ap, ◌∙◌, subst, arith, set, get_or}
+use Rattle.std.proofs.Common.{◌≡◌, ◌≢◌, ℕ, ◌<◌, ◌≤◌, inl, inr, true, false, not, eqb, cond, List, [], length, Option, Some, None, refl, sym, ap, ◌∙◌, subst}
 use Rattle.std.specs.Prelude.{slice_get}
 use Rattle.std.proofs.Math.ListN.{length-set}
 use Rattle.std.proofs.lemmas.Bool.{true≢false, and_parts, and_from, eqb-true, eq-eqb, cases_eq, cases_lt}
-use Rattle.std.proofs.lemmas.Option.{none-some, slice_get_within}
+use Rattle.std.proofs.lemmas.Option.{none-some}
 use Rattle.std.proofs.lemmas.List.{get_or_past}
 use Rattle.spec_isa.specs.declared.thread.Parts.{Parts}
-use Rattle.spec_isa.specs.Words.{lays, Apart}
+use Rattle.spec_isa.specs.Words.{lays}
 use Rattle.spec_kernel.specs.Interrupts.{is_live, has_handler, takes_interrupt, interrupted}
 use Rattle.spec_engine.specs.Signatures.{nothing}
-use Rattle.spec_engine.specs.Flights.{Flight, at, first_slot}
+use Rattle.spec_engine.specs.Flights.{Flight, at}
 use Rattle.spec_engine.proofs.Searches.{first_none, first_some}
 use Rattle.spec_protocol.specs.declared.reply.Reply.{Reply}
-use Rattle.spec_protocol.specs.Spheres.{Role, Plain, Record, Replay, Sphere, no_sphere, is_stopped, limit_in, limit_of, halves}
+use Rattle.spec_protocol.specs.Spheres.{Role, Plain, Record, Replay, Sphere, no_sphere, is_stopped, limit_of, halves}
 use Rattle.spec_protocol.specs.Commits.{role_raised, raised}
-use Rattle.spec_protocol.specs.World.{Held, World, moment, sphere_at, with_sphere, with_core, begun, runs, core_of, OfRaise, Move, After, still, went_on}
+use Rattle.spec_protocol.specs.World.{Held, World, moment, sphere_at, with_sphere, with_core, begun, runs, core_of, OfRaise, still, went_on}
 use Rattle.spec_protocol.specs.Placing.{unless_elsewhere, place_thread, placing, replays, with_renewed, raise_in, raise_thread, raising}
 use Rattle.spec_protocol.specs.Serial.{do_raise}
-use Rattle.spec_protocol.specs.Shown.{flying, shown, shown_from, shown_of}
-use Rattle.spec_protocol.specs.Moves.{do_at, do_move, do_if, RaiseFits, FitsRaise, FitsAt, Fits}
-use Rattle.spec_protocol.proofs.Slots.{Flew}
+use Rattle.spec_protocol.specs.Shown.{flying, shown, shown_of}
+use Rattle.spec_protocol.specs.Moves.{do_at, do_move, FitsRaise, FitsAt, Fits}
 use Rattle.spec_protocol.proofs.Current.{GoodChunk}
-use Rattle.spec_protocol.proofs.Moving.{get-set_other, get-set_same}
-use Rattle.spec_protocol.proofs.Relaying.{over, raised-relaid}
-use Rattle.spec_protocol.proofs.Invariant.{current, GoodHeld, IsAlone, Good, SameSizes, Kept, point-made, sphere-same, sphere-other, shown-set, shown-get, still-kept}
+use Rattle.spec_protocol.proofs.Moving.{get-set_other}
+use Rattle.spec_protocol.proofs.Relaying.{over}
+use Rattle.spec_protocol.proofs.Invariant.{current, GoodHeld, Good, SameSizes, Kept, point-made, sphere-same, shown-set, still-kept}
 use Rattle.spec_protocol.proofs.OnCores.{set-cases, alone-set, held_there, core-good, core-kept, branch}
 use Rattle.spec_protocol.proofs.Landing.{begun-begins, begun-held, elsewhere-held}
 use Rattle.spec_protocol.proofs.Granting.{unflown}
@@ -102,11 +101,11 @@ raised_here w k value t d x within ne good =
       lives = good.lives;
       halving = good.halving ∙ sym r.0 ∙ ap (λ (y : Sphere). halves y.role) (sym there);
       limit = λ going.
-      let fit = good.limit (sym r.3 ∙ ap (λ (y : Sphere). is_stopped y.role) (sym there) ∙ going) in
-      record {
-        most = subst (λ (n : ℕ). x.chunk.limit ≤ n) (sym limits) fit.most;
-        replayed = λ h. fit.replayed (sym r.1 ∙ ap (λ (y : Sphere). replays y.role) (sym there) ∙ h) ∙ sym limits;
-      };
+          let fit = good.limit (sym r.3 ∙ ap (λ (y : Sphere). is_stopped y.role) (sym there) ∙ going) in
+          record {
+            most = subst (λ (n : ℕ). x.chunk.limit ≤ n) (sym limits) fit.most;
+            replayed = λ h. fit.replayed (sym r.1 ∙ ap (λ (y : Sphere). replays y.role) (sym there) ∙ h) ∙ sym limits;
+          };
       chunk = subst (λ (m : List ℕ). GoodChunk w.numbers.buffer w.numbers.signature w.slots d m x.chunk) (ap (λ (y : Sphere). lays y.memory (flying i w.slots)) (sym there)) good.chunk;
     }
 
@@ -135,7 +134,7 @@ raised_good w i k value t c o good within others new =
         | inr p ↦ held_there v c d o x (raised_held w i k value t d x good within (others d x p.0 p.1) (good.held d x p.1))
       ];
       alone = alone-set w.cores c o good.alone
-      (λ h e d g ne there sphere thread. let n = new h e in others d g ne there (sym sphere ∙ n.1) (sym thread ∙ n.2));
+          (λ h e d g ne there sphere thread. let n = new h e in others d g ne there (sym sphere ∙ n.1) (sym thread ∙ n.2));
     }
 
 -- where no core runs the thread
@@ -169,11 +168,10 @@ renewed_good w i k value t (Some c) good within is =
     let v = raised_world w i k value t in
     raised_good w i k value t c (begun v.numbers i k (sphere_at v i)) good within (only_core w i k c good is)
     (λ h e.
-    let b = begun-begins v.numbers i k (sphere_at v i) h e in
-    (
+    let b = begun-begins v.numbers i k (sphere_at v i) h e in (
       begun-held v i k c (sphere_at v i) h (subst (λ (n : ℕ). i < n) (sym (length-set w.spheres i q)) within) good.standard refl b,
       ap (λ (x : Held). x.chunk.sphere) (sym b.is),
-      ap (λ (x : Held). x.thread) (sym b.is)
+      ap (λ (x : Held). x.thread) (sym b.is),
     ))
 
 renewed_shown : (v : World) (i k : ℕ) (o : Option ℕ) → shown_of (with_renewed v i k o) ≡ shown_of v
@@ -206,7 +204,7 @@ raise_in_kept w i k value t good r =
     record {
       good = renewed_good w i k value t (core_of w i k) good within refl;
       sizes = renewed_sizes w (raised_world w i k value t) i k (core_of w i k)
-      (record { numbers = refl; spheres = length-set w.spheres i (raised k value t (sphere_at w i)); cores = refl; slots = refl });
+          (record { numbers = refl; spheres = length-set w.spheres i (raised k value t (sphere_at w i)); cores = refl; slots = refl });
       point = point-made w.numbers (replays (sphere_at w i).role) (record { moment = moment w; sphere = i; what = OfRaise k value });
       whole = renewed_shown (raised_world w i k value t) i k (core_of w i k) ∙ raise_shown w i k value t within r.start;
       fits = raise_fits w i k value t within r;

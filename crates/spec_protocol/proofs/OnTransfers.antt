@@ -1,37 +1,35 @@
 -- The event Dma keeps the invariant.
-use Rattle.std.proofs.Common.{◌≡◌, ◌≢◌, ℕ, ◌<◌, inl, inr, Bool, true, false, cond, List, [], ◌∷◌, length, Option, Some, None, refl, sym, ap, ◌∙◌, subst}
+use Rattle.std.proofs.Common.{◌≡◌, ℕ, ◌<◌, inl, inr, false, List, length, Option, Some, None, refl, sym, ap, ◌∙◌, subst}
 use Rattle.std.specs.Prelude.{slice_get, option_map, IsSome}
 use Rattle.std.proofs.Math.ListN.{length-set}
 use Rattle.std.proofs.lemmas.Bool.{or_parts, cases_eq, cases_lt}
 use Rattle.std.proofs.lemmas.List.{get_or_past}
 use Rattle.std.proofs.lemmas.Option.{none-some}
-use Rattle.dl_entry.specs.declared.Actor.{Actor}
 use Rattle.spec_isa.specs.declared.thread.Parts.{Parts}
-use Rattle.spec_isa.specs.Words.{Stored, Apart}
-use Rattle.spec_kernel.specs.Devices.{Devices}
+use Rattle.spec_isa.specs.Words.{Apart}
 use Rattle.spec_engine.specs.Signatures.{Marks, hits, nothing, signed}
-use Rattle.spec_engine.specs.Flights.{Flight, at, first_slot, is_full, meets_chunk}
+use Rattle.spec_engine.specs.Flights.{Flight, first_slot, is_full, meets_chunk}
 use Rattle.spec_engine.specs.Asking.{ask}
 use Rattle.spec_protocol.specs.Asking.{unless_denied, unless_turn}
 use Rattle.spec_engine.proofs.Searches.{first_none, told-zero}
 use Rattle.spec_protocol.specs.declared.reply.Reply.{Reply}
-use Rattle.spec_protocol.specs.Spheres.{Role, Plain, Record, Replay, Sphere, no_sphere, is_stopped, actor_of}
+use Rattle.spec_protocol.specs.Spheres.{Sphere, no_sphere, is_stopped}
 use Rattle.spec_protocol.specs.Commits.{Outcome, Granted, Piece, Diverged, Moved, dma_in, dma_moved}
-use Rattle.spec_protocol.specs.World.{Held, World, moment, sphere_at, flown, OfDma, Move, After, still}
-use Rattle.spec_protocol.specs.Transferring.{dma_move, dma_done, transfer, dma_with, dma_if, not_of_dma, turn_before_dma, transferring}
+use Rattle.spec_protocol.specs.World.{World, sphere_at, flown, still}
+use Rattle.spec_protocol.specs.Transferring.{dma_move, dma_done, transfer, dma_with, dma_if, turn_before_dma, transferring}
 use Rattle.spec_protocol.specs.Placing.{replays}
 use Rattle.spec_protocol.specs.Serial.{do_moved, do_dma}
 use Rattle.spec_protocol.specs.Shown.{flying, shown_of}
-use Rattle.spec_protocol.specs.Moves.{do_at, do_move, DmaFits, FitsAt, Fits}
+use Rattle.spec_protocol.specs.Moves.{do_at, do_move, FitsAt, Fits}
 use Rattle.spec_protocol.proofs.Laying.{AllLack, AllLack_flip}
-use Rattle.spec_protocol.proofs.Slots.{Flew, flown-flew}
+use Rattle.spec_protocol.proofs.Slots.{flown-flew}
 use Rattle.spec_protocol.proofs.Covering.{CoversAll, bits-signed, CoversAll-signed, apart-covered, flying-all_lack, Covered}
 use Rattle.spec_protocol.proofs.Moving.{Divergence}
-use Rattle.spec_protocol.proofs.Relaying.{over, relaid, dma-relaid}
+use Rattle.spec_protocol.proofs.Relaying.{relaid, dma-relaid}
 use Rattle.spec_protocol.proofs.Transfers.{DmaMoves, dma-lives, dma-moves}
-use Rattle.spec_protocol.proofs.Invariant.{current, GoodHeld, Good, Kept, point-made, point-other, sphere-same, still-kept}
+use Rattle.spec_protocol.proofs.Invariant.{current, Good, Kept, point-made, point-other, still-kept}
 use Rattle.spec_protocol.proofs.OnCores.{branch}
-use Rattle.spec_protocol.proofs.Landing.{moved_world, Lands, landed-held, elsewhere-held, moved-shown}
+use Rattle.spec_protocol.proofs.Landing.{landed-held, elsewhere-held, moved-shown}
 use Rattle.spec_protocol.proofs.Granting.{stopped-good, stopped-shown}
 use Rattle.spec_protocol.proofs.OnAsks.{shown_at, shown_over, denied_kept, turn-kept}
 
@@ -110,20 +108,20 @@ done_good w i v good t free none =
       ]);
       held = λ d x e. elim (cases_eq x.chunk.sphere i) [
         | inl same ↦ landed-held w i v.sphere f u.slots w.cores v.devices d x same
-        (record {
-          within = t.within;
-          flew = flew;
-          sphere = refl;
-          covered = dma_covered w i v;
-          untold = told-zero d;
-          memory = moves.memory;
-          going = t.going;
-          threads = λ h. ap (λ (ts : List Parts). slice_get ts x.thread) moves.threads ∙ h;
-          halving = moves.halving;
-          replaying = moves.replaying;
-          limits = moves.limits w.numbers.chunk x.thread x.chunk.start;
-        })
-        (good.held d x e)
+            (record {
+              within = t.within;
+              flew = flew;
+              sphere = refl;
+              covered = dma_covered w i v;
+              untold = told-zero d;
+              memory = moves.memory;
+              going = t.going;
+              threads = λ h. ap (λ (ts : List Parts). slice_get ts x.thread) moves.threads ∙ h;
+              halving = moves.halving;
+              replaying = moves.replaying;
+              limits = moves.limits w.numbers.chunk x.thread x.chunk.start;
+            })
+            (good.held d x e)
         | inr ne ↦ elsewhere-held w i v.sphere f u.slots w.cores v.devices d x ne flew (good.held d x e)
       ];
       alone = good.alone;
@@ -161,7 +159,7 @@ with_kept w i v (Diverged j why) is good t =
       good = stopped-good w i v.sphere good (record { within = t.within; memory = moves.memory; threads = d.2; halving = moves.halving; stopped = d.3 });
       sizes = record { numbers = refl; spheres = length-set w.spheres i v.sphere; cores = refl; slots = refl };
       point = point-other w.numbers (replays (sphere_at w i).role) (dma_move w i) _
-      (λ live. let e : Granted ≡ Diverged j why = sym (dma-lives w.devices (sphere_at w i) v live t.is) ∙ is in cc) tt;
+          (λ live. let e : Granted ≡ Diverged j why = sym (dma-lives w.devices (sphere_at w i) v live t.is) ∙ is in cc) tt;
       whole = stopped-shown w i v good moves.memory d.0 d.1 ∙ sym (dma_whole w i v t);
       fits = dma_fits w i v t;
     }

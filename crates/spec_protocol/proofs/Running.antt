@@ -6,7 +6,7 @@ use Rattle.spec_isa.specs.declared.thread.Load.{Load}
 use Rattle.spec_isa.specs.declared.thread.Kind.{Kind}
 use Rattle.spec_isa.specs.Words.{Stored, lays, read, is_inside}
 use Rattle.spec_isa.specs.Instruction.{Outcome, Next, Serial, one, unless, value_at, outcome_with, serial_of, loads_of, next_of, load_of, store_of}
-use Rattle.spec_isa.specs.Runs.{Run, begun, followed, more, run}
+use Rattle.spec_isa.specs.Runs.{Run, followed, more, run}
 use Rattle.spec_kernel.specs.Needs.{fetched, next_kind}
 use Rattle.spec_engine.specs.declared.answers.How.{How}
 use Rattle.spec_engine.specs.Signatures.{line, covers}

@@ -1,20 +1,17 @@
 -- Every event keeps the invariant, and the start has it: so it holds after every schedule.
-use Rattle.std.proofs.Common.{◌≡◌, ◌≢◌, ℕ, zero, suc, ◌+◌, ◌<◌, inl, inr, Bool, true, false, List, [], ◌∷◌, ◌++◌, length, map, replicate, Option, Some, None, refl, sym, ap, ◌∙◌, subst, arith, get_or}
-use Rattle.std.specs.Prelude.{slice_get}
-use Rattle.std.proofs.lemmas.Bool.{cases_lt}
-use Rattle.std.proofs.lemmas.List.{get_or_past, length-map}
+use Rattle.std.proofs.Common.{◌≡◌, ℕ, zero, suc, ◌+◌, ◌<◌, List, [], ◌∷◌, length, replicate, Option, Some, None, refl, sym, ap, ◌∙◌, subst, arith, get_or}
 use Rattle.std.proofs.lemmas.Option.{none-some}
 use Rattle.spec_isa.specs.Words.{lays, Apart}
 use Rattle.spec_engine.specs.Flights.{Flight, at}
 use Rattle.spec_protocol.specs.declared.event.Event.{Event}
 use Rattle.spec_protocol.specs.Spheres.{Sphere, no_sphere}
 use Rattle.spec_protocol.specs.World.{Numbers, Held, World, Move, After, begun, sphere_at}
-use Rattle.spec_protocol.specs.Machine.{Setup, sphere_of, first_cores, world_of, core_no, sphere_no, slot_no, act, kept, happens, world_after, with_move, moves}
+use Rattle.spec_protocol.specs.Machine.{Setup, first_cores, world_of, core_no, sphere_no, slot_no, act, kept, happens, world_after, with_move, moves}
 use Rattle.spec_protocol.specs.Serial.{Whole, whole_of}
 use Rattle.spec_protocol.specs.Shown.{flying, shown, shown_from, shown_of}
 use Rattle.spec_protocol.specs.Moves.{do_if, do_moves, FitsIf, FitAll}
-use Rattle.spec_protocol.specs.Promises.{IsSetup, AreMovesSerial, MovesAreSerial}
-use Rattle.spec_protocol.proofs.Invariant.{GoodHeld, IsAlone, Good, SameSizes, Kept}
+use Rattle.spec_protocol.specs.Promises.{IsSetup, MovesAreSerial}
+use Rattle.spec_protocol.proofs.Invariant.{GoodHeld, Good, Kept}
 use Rattle.spec_protocol.proofs.OnCores.{step-kept, cut-kept}
 use Rattle.spec_protocol.proofs.OnFlights.{drain-kept, deliver-kept, retire-kept}
 use Rattle.spec_protocol.proofs.Landing.{begun-begins, begun-held}
@@ -104,10 +101,10 @@ start-good s is =
       covered = λ k f e. absurd (free_slots s.window k f e);
       flights = λ k f e. absurd (free_slots s.window k f e);
       held = λ c h e.
-      let r = first_held s.numbers 0 s.cores c w.spheres h e in
-      let k : 0 + c ≡ c = omega arith in
-      begun-held w c 0 c (sphere_at w c) h r.0 is.chunk refl
-      (begun-begins s.numbers c 0 (sphere_at w c) h (sym (ap (λ (j : ℕ). begun s.numbers j 0 (sphere_at w c)) k) ∙ r.1));
+          let r = first_held s.numbers 0 s.cores c w.spheres h e in
+          let k : 0 + c ≡ c = omega arith in
+          begun-held w c 0 c (sphere_at w c) h r.0 is.chunk refl
+          (begun-begins s.numbers c 0 (sphere_at w c) h (sym (ap (λ (j : ℕ). begun s.numbers j 0 (sphere_at w c)) k) ∙ r.1));
       alone = λ c d h g eh eg same thread. sym (first_sphere s.numbers s.cores c w.spheres h eh) ∙ same ∙ first_sphere s.numbers s.cores d w.spheres g eg;
     }
 
@@ -146,8 +143,8 @@ moves_serial w (e ∷ es) good =
     record {
       same = r.same ∙ (λ j. do_moves (k.sizes.numbers j) (k.whole j) (moves a.world es)) ∙ sym (with_moves w.numbers (shown_of w) a.move (moves a.world es));
       possible = with_fits w.numbers (shown_of w) a.move (moves a.world es) k.fits
-      (subst (λ (x : Whole). FitAll w.numbers x (moves a.world es)) k.whole
-      (subst (λ (z : Numbers). FitAll z (shown_of a.world) (moves a.world es)) k.sizes.numbers r.possible));
+          (subst (λ (x : Whole). FitAll w.numbers x (moves a.world es)) k.whole
+          (subst (λ (z : Numbers). FitAll z (shown_of a.world) (moves a.world es)) k.sizes.numbers r.possible));
     }
 
 pub moves_are : MovesAreSerial

@@ -1,12 +1,12 @@
 -- Slots and their flights: what stands where after a change, and the words that fly then.
-use Rattle.std.proofs.Common.{◌≡◌, ◌≢◌, ℕ, zero, suc, ◌<◌, ◌≤◌, ◌⊎◌, inl, inr, Bool, true, false, eqb, cond, List, [], ◌∷◌, ◌++◌, length, Option, Some, None, refl, sym, ap, ◌∙◌, subst, arith, get_or, set, get_or-set_same, get_or-set_other}
+use Rattle.std.proofs.Common.{◌≡◌, ◌≢◌, ℕ, zero, suc, ◌<◌, ◌⊎◌, inl, inr, Bool, true, false, cond, List, [], ◌∷◌, ◌++◌, length, Option, Some, None, refl, sym, ap, ◌∙◌, subst, arith, set, get_or-set_same, get_or-set_other}
 use Rattle.std.proofs.Math.ListN.{length-set}
 use Rattle.std.proofs.lemmas.Bool.{cases_lt, cases_eq, eq-eqb, ne_eqb}
 use Rattle.std.proofs.lemmas.Option.{none-some}
-use Rattle.std.proofs.lemmas.List.{get_or_past, append_assoc, append-nil}
-use Rattle.spec_isa.specs.Words.{Stored, lay, lays, Lacks, Apart}
+use Rattle.std.proofs.lemmas.List.{get_or_past, append_assoc}
+use Rattle.spec_isa.specs.Words.{Stored, lays, Apart}
 use Rattle.spec_engine.specs.Signatures.{Marks}
-use Rattle.spec_engine.specs.Flights.{Flight, at, is_none, free_slot, is_full, fill, fill_at, has_none}
+use Rattle.spec_engine.specs.Flights.{Flight, at, is_none, free_slot, is_full, fill, fill_at}
 use Rattle.spec_engine.proofs.Searches.{free_slot-within, free_slot-free}
 use Rattle.spec_protocol.specs.World.{flown}
 use Rattle.spec_protocol.specs.Shown.{words_of, flying}
@@ -85,12 +85,14 @@ pub record Filled (xs ys : List (Option Flight)) (f : Flight) (k : ℕ) : Type 0
 
 pub fill-filled : (xs : List (Option Flight)) (f : Flight) → is_full xs ≡ false → (k : ℕ) × Filled xs (fill f xs) f k
 fill-filled xs f e =
-    let s = free_if xs e in
-    (s.0, record {
-      within = free_slot-within xs s.0 s.1;
-      free = free_slot-free xs s.0 s.1;
-      is = ap (λ (o : Option ℕ). fill_at o f xs) s.1;
-    })
+    let s = free_if xs e in (
+      s.0,
+      record {
+        within = free_slot-within xs s.0 s.1;
+        free = free_slot-free xs s.0 s.1;
+        is = ap (λ (o : Option ℕ). fill_at o f xs) s.1;
+      },
+    )
 
 no_words_there : (i : ℕ) (xs : List (Option Flight)) (k : ℕ) → at xs k ≡ None → flying i xs ≡ before i xs k ++ behind i xs k
 no_words_there i xs k e = flying-at i xs k ∙ ap (λ (o : Option Flight). before i xs k ++ (words_of i o ++ behind i xs k)) e
@@ -103,12 +105,11 @@ record Landing (m : List ℕ) (i : ℕ) (xs ys : List (Option Flight)) (ws : Lis
 between : (m : List ℕ) (b h ws : List Stored) → Apart (b ++ h) → Apart ws → AllLack ws (b ++ h) → (lays m (b ++ (ws ++ h)) ≡ lays (lays m (b ++ h)) ws) × Apart (b ++ (ws ++ h))
 between m b h ws old apart lack =
     let wh = AllLack_right ws b h lack in
-    let wb = AllLack_left ws b h lack in
-    (
+    let wb = AllLack_left ws b h lack in (
       lays_append m b (ws ++ h) ∙ lays_append (lays m b) ws h ∙ lays-lays (lays m b) ws h wh
-      ∙ ap (λ (n : List ℕ). lays n ws) (sym (lays_append m b h)),
+          ∙ ap (λ (n : List ℕ). lays n ws) (sym (lays_append m b h)),
       Apart-append b (ws ++ h) (Apart_first b h old) (Apart-append ws h apart (Apart_last b h old) wh)
-      (AllLack-append b ws h (AllLack_flip ws b wb) (Apart_lack b h old))
+          (AllLack-append b ws h (AllLack_flip ws b wb) (Apart_lack b h old)),
     )
 
 landing : (m : List ℕ) (i : ℕ) (xs ys : List (Option Flight)) (f : Flight) (k : ℕ) → Filled xs ys f k → f.sphere ≡ i → Apart (flying i xs) → Apart f.words → AllLack f.words (flying i xs) → Landing m i xs ys f.words

@@ -1,20 +1,20 @@
 -- What a step of a chunk keeps, beside its run: its signatures, how its size stands to its limit, and that the words which
 -- its instruction looks at are marked and held up by no told flight.
-use Rattle.std.proofs.Common.{◌≡◌, ◌≢◌, ℕ, zero, suc, ◌<◌, ◌≤◌, ◌/◌, inl, inr, Bool, true, false, eqb, ◌&&◌, List, [], ◌∷◌, length, Option, Some, None, refl, sym, ap, ◌∙◌, subst, arith}
+use Rattle.std.proofs.Common.{◌≡◌, ◌≢◌, ℕ, suc, ◌<◌, ◌≤◌, ◌/◌, true, false, eqb, List, length, Option, Some, None, refl, sym, ap, ◌∙◌, subst, arith}
 use Rattle.std.proofs.lemmas.Bool.{true≢false, and_parts, and_from, or_parts, eqb-true, eqb-false, ltb-false}
 use Rattle.std.proofs.lemmas.Option.{none-some}
 use Rattle.spec_isa.specs.declared.thread.Parts.{Parts}
 use Rattle.spec_isa.specs.declared.thread.Kind.{Kind}
 use Rattle.spec_isa.specs.declared.thread.Load.{Load}
 use Rattle.spec_isa.specs.Words.{Stored, lays, read, holds, is_inside, Apart}
-use Rattle.spec_isa.specs.Instruction.{Next, serial_of, loads_of, next_of, load_of, store_of}
-use Rattle.spec_isa.specs.Runs.{Run, followed, with_store}
+use Rattle.spec_isa.specs.Instruction.{serial_of, loads_of, next_of, load_of, store_of}
+use Rattle.spec_isa.specs.Runs.{with_store}
 use Rattle.spec_kernel.specs.Needs.{fetched}
 use Rattle.spec_engine.specs.declared.answers.How.{How}
 use Rattle.spec_engine.specs.declared.answers.Stepped.{Stepped}
 use Rattle.spec_engine.specs.Signatures.{Marks, insert, covers, hits, line}
 use Rattle.spec_engine.specs.Flights.{Flight, is_none, first_slot, bounces}
-use Rattle.spec_engine.specs.Chunks.{Chunk, Stepping, closes, marked, with_line, ran, at_limit, has_room, reading, storing, loading, running, step}
+use Rattle.spec_engine.specs.Chunks.{Chunk, Stepping, closes, marked, ran, at_limit, has_room, reading, storing, loading, running, step}
 use Rattle.spec_engine.proofs.Choosing.{keep_option, keep_choose}
 use Rattle.spec_engine.proofs.Marking.{covers_insert, covers_more, hits_more}
 use Rattle.spec_protocol.proofs.Running.{Touches, outside_serial, seen_by}
@@ -238,8 +238,8 @@ touches_some xs c m ch g a e some free =
     record {
       fetch = λ _. clear_more xs c ch g (line ch.sphere a) (ch.done.thread.pc / 4) e;
       load = λ _ b is.
-      let same : a ≡ b = (let q : Some a ≡ Some b = sym some ∙ is in cc) in
-      subst (λ (d : ℕ). clear xs c (with_reads ch (insert (line ch.sphere a) g)) d ≡ true) same (clear_marked xs c ch g a free);
+          let same : a ≡ b = (let q : Some a ≡ Some b = sym some ∙ is in cc) in
+          subst (λ (d : ℕ). clear xs c (with_reads ch (insert (line ch.sphere a) g)) d ≡ true) same (clear_marked xs c ch g a free);
     }
 
 touches_serial : (xs : List (Option Flight)) (c : ℕ) (m : List ℕ) (ch dh : Chunk) (kind : Kind) → (is_inside (length (shown_in m ch)) ch.done.thread.pc ≡ true → clear xs c dh (ch.done.thread.pc / 4) ≡ true) → serial_of ch.done.thread (fetched_by m ch) (length (shown_in m ch)) ≡ Some kind

@@ -1,7 +1,6 @@
 -- What a DMA leaves alone in its sphere.
-use Rattle.std.proofs.Common.{◌≡◌, ℕ, ◌-◌, ◌+◌, Bool, true, false, cond, List, length, Option, Some, None, refl, sym, ap, ◌∙◌, subst}
+use Rattle.std.proofs.Common.{◌≡◌, ℕ, ◌-◌, Bool, true, false, cond, List, Option, Some, None, refl, sym, ap, ◌∙◌, subst}
 use Rattle.std.specs.Prelude.{slice_get, max}
-use Rattle.std.specs.Int.{bytes_low_first}
 use Rattle.std.proofs.lemmas.Bool.{true≢false}
 use Rattle.std.proofs.lemmas.Option.{none-some}
 use Rattle.dl_entry.specs.declared.Actor.{Actor}
@@ -20,7 +19,7 @@ use Rattle.spec_play.specs.Turns.{Now, Turn, TurnOfDma, Over}
 use Rattle.spec_play.specs.Verdicts.{serial_why}
 use Rattle.spec_play.specs.Transfers.{DmaVerdict, DmaGoes, DmaFails, is_for, transferred, dma_unless, dma_verdict}
 use Rattle.spec_protocol.specs.Spheres.{Book, Role, Plain, Record, Replay, Sphere, is_over, is_stopped, actor_of, whole_limit, pieces_of, limit_in, limit_of, halves}
-use Rattle.spec_protocol.specs.Commits.{Outcome, Granted, Piece, Diverged, Moved, dma_as, live_dma, dma_log, dma_by_verdict, dma_in, dma_moved}
+use Rattle.spec_protocol.specs.Commits.{Granted, Moved, dma_as, live_dma, dma_log, dma_by_verdict, dma_in, dma_moved}
 use Rattle.spec_protocol.specs.Transferring.{not_of_dma, turn_before_dma}
 use Rattle.spec_protocol.specs.Placing.{replays}
 use Rattle.spec_protocol.proofs.Moving.{bytes_apart, pieces_none, Divergence}

@@ -5,7 +5,7 @@ use Rattle.spec_protocol.specs.Spheres.{Sphere}
 use Rattle.spec_protocol.specs.Placing.{replays}
 use Rattle.spec_protocol.specs.World.{World}
 use Rattle.spec_protocol.specs.Machine.{Setup, world_of, world_after, moves}
-use Rattle.spec_protocol.specs.Serial.{Whole, whole_of, serial, CanDoAll}
+use Rattle.spec_protocol.specs.Serial.{whole_of, serial, CanDoAll}
 use Rattle.spec_protocol.specs.Shown.{shown_of}
 use Rattle.spec_protocol.specs.Moves.{do_moves, FitAll}
 

@@ -7,5 +7,5 @@ mod promise;
 mod reply;
 
 pub use event::Event;
-pub use promise::moves_are_serial;
+pub use promise::{commits_are_serial, moves_are_serial};
 pub use reply::Reply;
