@@ -1,9 +1,16 @@
 -- What signatures cover: the lines of stored words, and when a word is no word of a flight.
-use Rattle.std.proofs.Common.{◌≡◌, ℕ, zero, suc, ◌≤◌, inl, inr, Bool, true, false, eqb, cond, ◌&&◌, List, [], ◌∷◌, length, Option, Some, None, refl, sym, ap, ◌∙◌, subst, arith}
+use Rattle.std.proofs.Common.{◌++◌, ◌/◌, ◌≡◌, ℕ, zero, suc, ◌≤◌, inl, inr, Bool, true, false, eqb, cond, ◌&&◌, List, [], ◌∷◌, length, Option, Some, None, refl, sym, ap, ◌∙◌, subst, arith}
 use Rattle.std.proofs.lemmas.Bool.{true≢false, and_parts, and_from, cases_Bool, false_from_ne_true}
 use Rattle.std.proofs.lemmas.Bool.Decides.{eqb_tells}
 use Rattle.spec_isa.specs.Words.{Stored, merged, put, Lacks, Apart}
-use Rattle.spec_isa.specs.Runs.{with_store}
+use Rattle.std.proofs.lemmas.Option.{none-some}
+use Rattle.std.proofs.lemmas.List.{length-append}
+use Rattle.spec_isa.specs.declared.thread.Parts.{Parts}
+use Rattle.spec_isa.specs.declared.thread.Load.{Load}
+use Rattle.spec_isa.specs.declared.plan.Plan.{Plan}
+use Rattle.spec_isa.specs.Planned.{loaded, word_loaded, load_then}
+use Rattle.spec_isa.specs.Instruction.{plan_of, loads_of, load_of}
+use Rattle.spec_isa.specs.Runs.{with_load, with_store}
 use Rattle.spec_isa.proofs.BufferLaws.{Apart-put}
 use Rattle.spec_engine.specs.Signatures.{Marks, insert, covers, hits, line, signed}
 use Rattle.spec_engine.specs.Flights.{Flight, at, is_none, first_slot, told_at, bounces}
@@ -12,12 +19,8 @@ use Rattle.spec_engine.proofs.Marking.{covers_insert, covers_more, covers_hit}
 use Rattle.spec_engine.proofs.Searches.{first_none}
 use Rattle.spec_protocol.specs.Shown.{words_of, flying}
 use Rattle.spec_protocol.proofs.Laying.{AllLack, Lacks-append, Unseen}
-use Rattle.spec_protocol.proofs.Running.{seen_by}
-
--- the signature covers the lines of these words of sphere i
-abbrev pub CoversAll : (i : ℕ) → Marks → List Stored → Type 0
-CoversAll i g [] = Unit {0}
-CoversAll i g (w ∷ ws) = (covers g (line i w.word) ≡ true) × CoversAll i g ws
+use Rattle.spec_protocol.specs.Currency.{CoversLoads, seen_by, IsQuiet, CoversAll}
+use Rattle.spec_protocol.specs.Invariants.{IsCovered, AreCovered}
 
 pub CoversAll_more : (i l : ℕ) (g : Marks) (ws : List Stored) → CoversAll i g ws → CoversAll i (insert l g) ws
 CoversAll_more i l g [] c = tt
@@ -54,6 +57,38 @@ put_length (w ∷ ws) s =
 pub length-store : (ws : List Stored) (store : Option Stored) → length (with_store ws store) ≤ suc (length ws)
 length-store ws None = omega arith
 length-store ws (Some s) = put_length ws s
+
+-- loads that one signature covers and another, which covers more
+pub CoversLoads_more : (i : ℕ) (g h : Marks) (ls : List Load) → ((a : ℕ) → covers g (line i a) ≡ true → covers h (line i a) ≡ true) → CoversLoads i g ls → CoversLoads i h ls
+CoversLoads_more i g h [] more_ c = tt
+CoversLoads_more i g h (l ∷ ls) more_ c = (more_ (l.addr / 4) c.0, CoversLoads_more i g h ls more_ c.1)
+
+loads_push : (i : ℕ) (g : Marks) (ls : List Load) (l : Load) → covers g (line i (l.addr / 4)) ≡ true → CoversLoads i g ls → CoversLoads i g (ls ++ l ∷ [])
+loads_push i g [] l e c = (e, tt)
+loads_push i g (k ∷ ls) l e c = (c.0, loads_push i g ls l e c.1)
+
+pub CoversLoads-load : (i : ℕ) (g : Marks) (ls : List Load) (load : Option Load) → ((l : Load) → load ≡ Some l → covers g (line i (l.addr / 4)) ≡ true) → CoversLoads i g ls → CoversLoads i g (with_load ls load)
+CoversLoads-load i g ls None e c = c
+CoversLoads-load i g ls (Some l) e c = loads_push i g ls l (e l refl) c
+
+pub length-load : (ls : List Load) (load : Option Load) → length (with_load ls load) ≤ suc (length ls)
+length-load ls None = omega arith
+length-load ls (Some l) = let h = length-append ls (l ∷ []) in omega arith
+
+-- the word that a plan's load is of
+plan_load : (p : Plan) (w : ℕ) (l : Load) → load_then p w ≡ Some l → word_loaded p ≡ Some (l.addr / 4)
+plan_load (Plan.Go rd value pc) w l e = absurd (none-some l e)
+plan_load (Plan.Stop kind) w l e = absurd (none-some l e)
+plan_load (Plan.Load op rd a) w l e = let h : record { addr = a; value = loaded op w a } ≡ l = cc in ap (λ (k : Load). Some (k.addr / 4)) h
+plan_load (Plan.Store op a v) w l e = absurd (none-some l e)
+plan_load (Plan.LoadReserved rd a) w l e = let h : record { addr = a; value = w } ≡ l = cc in ap (λ (k : Load). Some (k.addr / 4)) h
+plan_load (Plan.StoreConditional rd a v) w l e = absurd (none-some l e)
+plan_load (Plan.Amo op rd a v) w l e = let h : record { addr = a; value = w } ≡ l = cc in ap (λ (k : Load). Some (k.addr / 4)) h
+
+-- an instruction's load is of the word that it loads
+pub load-word : (t : Parts) (f w : ℕ) (l : Load) → load_of t f w ≡ Some l → loads_of t f ≡ Some (l.addr / 4)
+unfolding load_of loads_of
+load-word t f w l e = plan_load (plan_of t f) w l e
 
 pub bits-with_line : (i : ℕ) (store : Option Stored) (g : Marks) → (with_line i store g).bits ≡ g.bits
 bits-with_line i None g = refl
@@ -106,18 +141,6 @@ flying-all_lack i (w ∷ ws) xs each =
 
 -- ---- flights that are told, and those that are not
 
--- no flight of sphere i that core c was not told of hits these reads
-pub record Quiet (xs : List (Option Flight)) (i c : ℕ) (reads : Marks) : Type 0 where
-  pub misses : (k : ℕ) (f : Flight) → at xs k ≡ Some f → f.sphere ≡ i → told_at f.told c ≡ false → hits f.writes reads ≡ false
-
--- a flight's signature covers the lines of its words, and has the machine's size
-pub record Covered (bits : ℕ) (f : Flight) : Type 0 where
-  pub size : f.writes.bits ≡ bits
-  pub words : CoversAll f.sphere f.writes f.words
-
-abbrev pub AllCovered : (bits : ℕ) → List (Option Flight) → Type 0
-AllCovered bits xs = (k : ℕ) (f : Flight) → at xs k ≡ Some f → Covered bits f
-
 -- a word that the chunk's reads cover, and that no told flight holds up
 abbrev pub clear : List (Option Flight) → (core : ℕ) → Chunk → (word : ℕ) → Bool
 clear xs c ch a = seen_by ch a && is_none (first_slot (bounces c (line ch.sphere a)) xs)
@@ -129,7 +152,7 @@ unbounced xs c l e =
       | Some k ↦ λ h. absurd (let g : false ≡ true = h in grind arith)
     ] e
 
-lacking : (bits : ℕ) (xs : List (Option Flight)) (c : ℕ) (ch : Chunk) (a : ℕ) (f : Flight) → Covered bits f → ch.reads.bits ≡ bits → covers ch.reads (line ch.sphere a) ≡ true
+lacking : (bits : ℕ) (xs : List (Option Flight)) (c : ℕ) (ch : Chunk) (a : ℕ) (f : Flight) → IsCovered bits f → ch.reads.bits ≡ bits → covers ch.reads (line ch.sphere a) ≡ true
     → bounces c (line ch.sphere a) f ≡ false → f.sphere ≡ ch.sphere → (told_at f.told c ≡ false → hits f.writes ch.reads ≡ false) → covers f.writes (line ch.sphere a) ≡ false
 lacking bits xs c ch a f cov size seen free same misses =
     elim (cases_Bool (told_at f.told c)) [
@@ -138,7 +161,7 @@ lacking bits xs c ch a f cov size seen free same misses =
     ]
 
 -- where no untold flight of the sphere hits the reads, a clear word is no flying word
-pub clear-lacks : (bits : ℕ) (xs : List (Option Flight)) (c : ℕ) (ch : Chunk) (a : ℕ) → AllCovered bits xs → ch.reads.bits ≡ bits → Quiet xs ch.sphere c ch.reads → clear xs c ch a ≡ true → Lacks a (flying ch.sphere xs)
+pub clear-lacks : (bits : ℕ) (xs : List (Option Flight)) (c : ℕ) (ch : Chunk) (a : ℕ) → AreCovered bits xs → ch.reads.bits ≡ bits → IsQuiet xs ch.sphere c ch.reads → clear xs c ch a ≡ true → Lacks a (flying ch.sphere xs)
 clear-lacks bits xs c ch a cov size quiet e =
     let p = and_parts (seen_by ch a) (is_none (first_slot (bounces c (line ch.sphere a)) xs)) e in
     let none = unbounced xs c (line ch.sphere a) p.1 in

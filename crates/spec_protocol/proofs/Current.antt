@@ -5,7 +5,7 @@ use Rattle.std.proofs.lemmas.Bool.{true≢false, and_parts, cases_lt, false_from
 use Rattle.std.proofs.lemmas.Option.{none-some}
 use Rattle.spec_isa.specs.declared.thread.Parts.{Parts}
 use Rattle.spec_isa.specs.declared.thread.Kind.{Kind}
-use Rattle.spec_isa.specs.Words.{lays, Apart}
+use Rattle.spec_isa.specs.Words.{lays}
 use Rattle.spec_isa.specs.Instruction.{Outcome, Next, Serial, one}
 use Rattle.spec_isa.specs.Runs.{Run, followed, more, run}
 use Rattle.spec_kernel.specs.Needs.{next_kind}
@@ -18,23 +18,16 @@ use Rattle.spec_engine.specs.Laws.{StepAgrees}
 use Rattle.spec_engine.proofs.Stepping.{steps_are}
 use Rattle.spec_protocol.specs.Shown.{flying}
 use Rattle.spec_protocol.proofs.Laying.{Agree, Agree-lays, Agree-unseen}
-use Rattle.spec_protocol.proofs.Running.{Touches, Touches_local, Touches_more, one_local, one_serial, RunTouches, seen_by, Live}
-use Rattle.spec_protocol.proofs.Covering.{CoversAll, Quiet, AllCovered, clear, clear-lacks, unseen_from}
-use Rattle.spec_protocol.proofs.Steps.{Closes, SameBase, Looks, step-stays}
-
--- a chunk of core c, beside these slots, where the current memory of its sphere is m
-pub record GoodChunk (capacity bits : ℕ) (xs : List (Option Flight)) (c : ℕ) (m : List ℕ) (ch : Chunk) : Type 0 where
-  pub reads_size : ch.reads.bits ≡ bits
-  pub writes_size : ch.writes.bits ≡ bits
-  pub apart : Apart ch.done.words
-  pub writes : CoversAll ch.sphere ch.writes ch.done.words
-  pub closes : Closes capacity ch
-  pub live : Quiet xs ch.sphere c ch.reads → Live m ch
+use Rattle.spec_protocol.proofs.Running.{Touches_local, Touches_more, one_local, one_serial}
+use Rattle.spec_protocol.proofs.Covering.{clear, clear-lacks, unseen_from}
+use Rattle.spec_protocol.proofs.Steps.{SameBase, Looks, step-stays}
+use Rattle.spec_protocol.specs.Currency.{Touches, RunTouches, seen_by, IsCurrent, IsQuiet}
+use Rattle.spec_protocol.specs.Invariants.{AreCovered, IsGoodChunk}
 
 -- ---- a run that goes on
 
 make_live : (m : List ℕ) (dh : Chunk) (t : Parts) (r : Run) → dh.start ≡ t → dh.done ≡ r → run m t r.n ≡ r → RunTouches (seen_by dh) m t r.n
-    → (dh.closed ≡ Some How.Serial → Touches (seen_by dh) r.thread (lays m r.words)) → (dh.closed ≡ Some How.Serial → IsSome (next_kind r.thread (lays m r.words))) → Live m dh
+    → (dh.closed ≡ Some How.Serial → Touches (seen_by dh) r.thread (lays m r.words)) → (dh.closed ≡ Some How.Serial → IsSome (next_kind r.thread (lays m r.words))) → IsCurrent m dh
 make_live m dh t r start done runs touches next_ serial =
     record {
       runs = (λ i. run m (start i) (done i).n) ∙ runs ∙ sym done;
@@ -58,8 +51,8 @@ last_touches seen m t r n runs last touches i l =
     ]
 
 -- the run of ch goes on by the outcome of its next instruction
-live_followed : (m : List ℕ) (ch dh : Chunk) (o : Outcome) → Live m ch → dh.start ≡ ch.start → ((a : ℕ) → seen_by ch a ≡ true → seen_by dh a ≡ true) → dh.closed ≢ Some How.Serial → one ch.done.thread (lays m ch.done.words) ≡ o
-    → dh.done ≡ followed ch.done o → Touches (seen_by dh) ch.done.thread (lays m ch.done.words) → Live m dh
+live_followed : (m : List ℕ) (ch dh : Chunk) (o : Outcome) → IsCurrent m ch → dh.start ≡ ch.start → ((a : ℕ) → seen_by ch a ≡ true → seen_by dh a ≡ true) → dh.closed ≢ Some How.Serial → one ch.done.thread (lays m ch.done.words) ≡ o
+    → dh.done ≡ followed ch.done o → Touches (seen_by dh) ch.done.thread (lays m ch.done.words) → IsCurrent m dh
 live_followed m ch dh (Serial kind) live start more_ open_ is done touches =
     make_live m dh ch.start ch.done start done live.runs (touches_on ch dh m more_ live.touches) (λ e. absurd (open_ e)) (λ e. absurd (open_ e))
 live_followed m ch dh (Next u load store) live start more_ open_ is done touches =
@@ -70,13 +63,13 @@ live_followed m ch dh (Next u load store) live start more_ open_ is done touches
     (λ e. absurd (open_ e))
 
 -- nothing was run, and the chunk is not closed for a serial instruction
-live_same : (m : List ℕ) (ch dh : Chunk) → Live m ch → dh.start ≡ ch.start → ((a : ℕ) → seen_by ch a ≡ true → seen_by dh a ≡ true) → dh.closed ≢ Some How.Serial → dh.done ≡ ch.done → Live m dh
+live_same : (m : List ℕ) (ch dh : Chunk) → IsCurrent m ch → dh.start ≡ ch.start → ((a : ℕ) → seen_by ch a ≡ true → seen_by dh a ≡ true) → dh.closed ≢ Some How.Serial → dh.done ≡ ch.done → IsCurrent m dh
 live_same m ch dh live start more_ open_ done =
     make_live m dh ch.start ch.done start done live.runs (touches_on ch dh m more_ live.touches) (λ e. absurd (open_ e)) (λ e. absurd (open_ e))
 
 -- it met a serial instruction
-live_serial : (m : List ℕ) (ch dh : Chunk) (kind : Kind) → Live m ch → dh.start ≡ ch.start → ((a : ℕ) → seen_by ch a ≡ true → seen_by dh a ≡ true) → dh.done ≡ ch.done → one ch.done.thread (lays m ch.done.words) ≡ Serial kind
-    → Touches (seen_by dh) ch.done.thread (lays m ch.done.words) → Live m dh
+live_serial : (m : List ℕ) (ch dh : Chunk) (kind : Kind) → IsCurrent m ch → dh.start ≡ ch.start → ((a : ℕ) → seen_by ch a ≡ true → seen_by dh a ≡ true) → dh.done ≡ ch.done → one ch.done.thread (lays m ch.done.words) ≡ Serial kind
+    → Touches (seen_by dh) ch.done.thread (lays m ch.done.words) → IsCurrent m dh
 live_serial m ch dh kind live start more_ done is touches =
     make_live m dh ch.start ch.done start done live.runs (touches_on ch dh m more_ live.touches) (λ e. touches) (λ e. subst IsSome (sym (one_serial _ _ kind is)) refl)
 
@@ -85,8 +78,8 @@ live_serial m ch dh kind live start more_ done is touches =
 clear_seen : (xs : List (Option Flight)) (c : ℕ) (dh : Chunk) (a : ℕ) → clear xs c dh a ≡ true → seen_by dh a ≡ true
 clear_seen xs c dh a e = (and_parts (seen_by dh a) (is_none (first_slot (bounces c (line dh.sphere a)) xs)) e).0
 
-live_step : (xs : List (Option Flight)) (c : ℕ) (r m : List ℕ) (ch : Chunk) (s : Stepping) (reply : Stepped) → Live m ch → SameBase ch s.chunk → ((a : ℕ) → seen_by ch a ≡ true → seen_by s.chunk a ≡ true)
-    → Agree (clear xs c s.chunk) r m → Looks xs c (lays r ch.done.words) ch s.chunk reply → StepAgrees r ch s reply → Live m s.chunk
+live_step : (xs : List (Option Flight)) (c : ℕ) (r m : List ℕ) (ch : Chunk) (s : Stepping) (reply : Stepped) → IsCurrent m ch → SameBase ch s.chunk → ((a : ℕ) → seen_by ch a ≡ true → seen_by s.chunk a ≡ true)
+    → Agree (clear xs c s.chunk) r m → Looks xs c (lays r ch.done.words) ch s.chunk reply → StepAgrees r ch s reply → IsCurrent m s.chunk
 live_step xs c r m ch s Stepped.Ran live base more_ g looks agrees =
     let h = Agree-lays (clear xs c s.chunk) r m ch.done.words g in
     live_followed m ch s.chunk (one ch.done.thread (lays r ch.done.words)) live base.start more_ (λ e. none-some How.Serial (sym looks.0 ∙ e))
@@ -111,22 +104,23 @@ live_step xs c r m ch s (Stepped.Bounced k) live base more_ g looks agrees =
     live_same m ch s.chunk live base.start more_ (λ e. none-some How.Serial (sym looks ∙ e)) (ap (λ (q : Chunk). q.done) agrees)
 
 -- no untold flight hits fewer reads
-quiet_less : (xs : List (Option Flight)) (c : ℕ) (ch dh : Chunk) → dh.sphere ≡ ch.sphere → ((g : Marks) → hits g ch.reads ≡ true → hits g dh.reads ≡ true) → Quiet xs dh.sphere c dh.reads → Quiet xs ch.sphere c ch.reads
+quiet_less : (xs : List (Option Flight)) (c : ℕ) (ch dh : Chunk) → dh.sphere ≡ ch.sphere → ((g : Marks) → hits g ch.reads ≡ true → hits g dh.reads ≡ true) → IsQuiet xs dh.sphere c dh.reads → IsQuiet xs ch.sphere c ch.reads
 quiet_less xs c ch dh same less q =
     record {
       misses = λ k f is e untold. false_from_ne_true (hits f.writes ch.reads) (λ h. true≢false (sym (less f.writes h) ∙ q.misses k f is (e ∙ sym same) untold));
     }
 
-pub step-good : (capacity bits : ℕ) (xs : List (Option Flight)) (c : ℕ) (r : List ℕ) (ch : Chunk) → AllCovered bits xs → ch.closed ≡ None → GoodChunk capacity bits xs c (lays r (flying ch.sphere xs)) ch
-    → let dh = (step capacity r xs c ch).chunk in GoodChunk capacity bits xs c (lays r (flying ch.sphere xs)) dh × SameBase ch dh
+pub step-good : (capacity bits : ℕ) (xs : List (Option Flight)) (c : ℕ) (r : List ℕ) (ch : Chunk) → AreCovered bits xs → ch.closed ≡ None → IsGoodChunk capacity bits xs c (lays r (flying ch.sphere xs)) ch
+    → let dh = (step capacity r xs c ch).chunk in IsGoodChunk capacity bits xs c (lays r (flying ch.sphere xs)) dh × SameBase ch dh
 step-good capacity bits xs c r ch cov open_ good =
     let s = step capacity r xs c ch in
-    let st = step-stays capacity r xs c ch (record { open_ = open_; closes = good.closes; apart = good.apart; writes = good.writes }) in (
+    let st = step-stays capacity r xs c ch (record { open_ = open_; closes = good.closes; apart = good.apart; writes = good.writes; loads = good.loads }) in (
       record {
         reads_size = st.base.reads ∙ good.reads_size;
         writes_size = st.base.writes ∙ good.writes_size;
         apart = st.apart;
         writes = st.writes;
+        loads = st.loads;
         closes = st.closes;
         live = λ quiet.
             live_step xs c r (lays r (flying ch.sphere xs)) ch s s.reply

@@ -5,50 +5,14 @@ use Rattle.dl_entry.specs.declared.Actor.{Actor}
 use Rattle.dl_entry.specs.declared.CommitKind.{CommitKind}
 use Rattle.dl_entry.specs.declared.Point.{Point}
 use Rattle.spec_protocol.specs.Asking.{is_short}
-use Rattle.spec_isa.specs.declared.thread.Parts.{Parts}
-use Rattle.spec_isa.specs.Words.{lays, Apart}
-use Rattle.spec_kernel.specs.Interrupts.{is_live}
-use Rattle.spec_engine.specs.Flights.{Flight, at}
-use Rattle.spec_protocol.specs.Spheres.{Role, Sphere, no_sphere, is_stopped, limit_of, halves}
+use Rattle.spec_isa.specs.Words.{lays}
+use Rattle.spec_engine.specs.Flights.{Flight}
+use Rattle.spec_protocol.specs.Spheres.{Sphere, no_sphere}
 use Rattle.spec_protocol.specs.Placing.{replays}
-use Rattle.spec_protocol.specs.World.{Numbers, Held, World, What, OfChunk, OfSerial, OfDma, OfRaise, Move, After, sphere_at}
+use Rattle.spec_protocol.specs.World.{Numbers, World, What, OfChunk, OfSerial, OfDma, OfRaise, Move, After, sphere_at}
 use Rattle.spec_protocol.specs.Shown.{flying, shown, shown_from, shown_of}
 use Rattle.spec_protocol.specs.Moves.{do_if, FitsIf}
-use Rattle.spec_protocol.proofs.Covering.{AllCovered}
-use Rattle.spec_protocol.proofs.Current.{GoodChunk}
-
--- ---- the invariant
-
--- the memory of sphere i with the words that fly laid over it
-abbrev pub current : World → (i : ℕ) → List ℕ
-current w i = lays (sphere_at w i).memory (flying i w.slots)
-
--- a chunk's limit is the thread's, or in a recording less
-pub record LimitFits (s : ℕ) (role : Role) (k : ℕ) (t : Parts) (limit : ℕ) : Type 0 where
-  pub most : limit ≤ limit_of s role k t
-  pub replayed : replays role ≡ true → limit ≡ limit_of s role k t
-
--- core c holds a thread of a sphere that there is, its chunk began from the thread's state, and is current
-pub record GoodHeld (w : World) (c : ℕ) (h : Held) : Type 0 where
-  pub sphere : h.chunk.sphere < length w.spheres
-  pub start : slice_get (sphere_at w h.chunk.sphere).threads h.thread ≡ Some h.chunk.start
-  pub lives : is_live h.chunk.start ≡ true
-  pub halving : h.chunk.halves ≡ halves (sphere_at w h.chunk.sphere).role
-  pub limit : is_stopped (sphere_at w h.chunk.sphere).role ≡ false → LimitFits w.numbers.chunk (sphere_at w h.chunk.sphere).role h.thread h.chunk.start h.chunk.limit
-  pub chunk : GoodChunk w.numbers.buffer w.numbers.signature w.slots c (current w h.chunk.sphere) h.chunk
-
--- a thread is on one core at most
-abbrev pub IsAlone : List (Option Held) → Type 0
-IsAlone cores = (c d : ℕ) (h g : Held) → at cores c ≡ Some h → at cores d ≡ Some g → h.chunk.sphere ≡ g.chunk.sphere → h.thread ≡ g.thread → c ≡ d
-
-pub record Good (w : World) : Type 0 where
-  pub buffer : 0 < w.numbers.buffer
-  pub standard : 0 < w.numbers.chunk
-  pub apart : (i : ℕ) → Apart (flying i w.slots)
-  pub covered : AllCovered w.numbers.signature w.slots
-  pub flights : (k : ℕ) (f : Flight) → at w.slots k ≡ Some f → f.sphere < length w.spheres
-  pub held : (c : ℕ) (h : Held) → at w.cores c ≡ Some h → GoodHeld w c h
-  pub alone : IsAlone w.cores
+use Rattle.spec_protocol.specs.Invariants.{IsGood}
 
 -- ---- what an event keeps
 
@@ -84,7 +48,7 @@ PointIs w None o = o ≡ None
 PointIs w (Some m) o = PointOf w.numbers (replays (sphere_at w m.sphere).role) m o
 
 pub record Kept (w : World) (a : After) : Type 0 where
-  pub good : Good a.world
+  pub good : IsGood a.world
   pub sizes : SameSizes w a.world
   pub point : PointIs w a.move a.point
   -- the world shows what its move, done whole, gives
@@ -175,10 +139,10 @@ point-other z false m o replayed is = absurd (replayed refl)
 
 -- ---- an event that answers and does nothing
 
-pub still-kept : (w : World) (a : After) → a.world ≡ w → a.move ≡ None → a.point ≡ None → Good w → Kept w a
+pub still-kept : (w : World) (a : After) → a.world ≡ w → a.move ≡ None → a.point ≡ None → IsGood w → Kept w a
 still-kept w a world move point good =
     record {
-      good = subst Good (sym world) good;
+      good = subst IsGood (sym world) good;
       sizes = subst (SameSizes w) (sym world) (same_sizes w);
       point = subst (λ (m : Option Move). PointIs w m a.point) (sym move) point;
       whole = ap shown_of world ∙ sym (ap (do_if w.numbers (shown_of w)) move);

@@ -21,12 +21,12 @@ use Rattle.spec_protocol.specs.Serial.{do_moved}
 use Rattle.spec_protocol.specs.Shown.{flying, shown, shown_from, shown_of}
 use Rattle.spec_protocol.proofs.Laying.{Agree-unseen, Unseen}
 use Rattle.spec_protocol.proofs.Slots.{Flew}
-use Rattle.spec_protocol.proofs.Running.{seen_by, Live_local}
-use Rattle.spec_protocol.proofs.Covering.{CoversAll, Covered}
-use Rattle.spec_protocol.proofs.Current.{GoodChunk}
+use Rattle.spec_protocol.proofs.Running.{Live_local}
 use Rattle.spec_protocol.proofs.Relaying.{relaid}
-use Rattle.spec_protocol.proofs.Invariant.{current, GoodHeld, sphere-same, sphere-other, shown-set}
+use Rattle.spec_protocol.proofs.Invariant.{sphere-same, sphere-other, shown-set}
 use Rattle.spec_protocol.proofs.OnFlights.{held-beside}
+use Rattle.spec_protocol.specs.Currency.{seen_by, CoversAll}
+use Rattle.spec_protocol.specs.Invariants.{IsCovered, IsGoodChunk, current, IsGoodHeld}
 
 -- ---- a chunk at its beginning
 
@@ -36,13 +36,14 @@ limit-positive s Plain k t positive = positive
 limit-positive s (Record log) k t positive = positive
 limit-positive s (Replay b) k t positive = omega arith
 
-pub fresh-good : (capacity bits : ℕ) (xs : List (Option Flight)) (c : ℕ) (m : List ℕ) (i : ℕ) (t : Parts) (limit : ℕ) (halving : Bool) → 0 < limit → GoodChunk capacity bits xs c m (fresh bits i t limit halving)
+pub fresh-good : (capacity bits : ℕ) (xs : List (Option Flight)) (c : ℕ) (m : List ℕ) (i : ℕ) (t : Parts) (limit : ℕ) (halving : Bool) → 0 < limit → IsGoodChunk capacity bits xs c m (fresh bits i t limit halving)
 fresh-good capacity bits xs c m i t limit halving positive =
     record {
       reads_size = refl;
       writes_size = refl;
       apart = tt;
       writes = tt;
+      loads = tt;
       closes = record {
         positive = positive;
         opened = λ e. positive;
@@ -51,6 +52,7 @@ fresh-good capacity bits xs c m i t limit halving positive =
         cut = λ e. absurd (none-some _ e);
         room = λ e. absurd (none-some _ e);
         few = omega arith;
+        few_loads = omega arith;
       };
       live = λ q. record { runs = refl; touches = λ j l. absurd (omega arith); next_touches = λ e. absurd (none-some _ e); next_serial = λ e. absurd (none-some _ e) };
     }
@@ -77,10 +79,10 @@ pub begun-begins : (z : Numbers) (i k : ℕ) (p : Sphere) (h : Held) → begun z
 begun-begins z i k p h e = begins_thread z i k p h (slice_get p.threads k) refl e
 
 -- in a world whose sphere i is p
-pub begun-held : (v : World) (i k c : ℕ) (p : Sphere) (h : Held) → i < length v.spheres → 0 < v.numbers.chunk → sphere_at v i ≡ p → Begins v.numbers i k p h → GoodHeld v c h
+pub begun-held : (v : World) (i k c : ℕ) (p : Sphere) (h : Held) → i < length v.spheres → 0 < v.numbers.chunk → sphere_at v i ≡ p → Begins v.numbers i k p h → IsGoodHeld v c h
 begun-held v i k c p h within positive there b =
     let t = b.state in
-    subst (GoodHeld v c) b.is
+    subst (IsGoodHeld v c) b.is
     (record {
       sphere = within;
       start = ap (λ (q : Sphere). slice_get q.threads k) there ∙ b.start;
@@ -106,14 +108,15 @@ unhit-unseen i g ch (w ∷ ws) same size c e = (
   unhit-unseen i g ch ws same size c.1 e,
 )
 
-landed_chunk : (capacity bits : ℕ) (xs ys : List (Option Flight)) (d : ℕ) (m : List ℕ) (ch : Chunk) (f : Flight) → Flew ch.sphere f xs ys → f.sphere ≡ ch.sphere → Covered bits f → told_at f.told d ≡ false → GoodChunk capacity bits xs d m ch
-    → GoodChunk capacity bits ys d (lays m f.words) ch
+landed_chunk : (capacity bits : ℕ) (xs ys : List (Option Flight)) (d : ℕ) (m : List ℕ) (ch : Chunk) (f : Flight) → Flew ch.sphere f xs ys → f.sphere ≡ ch.sphere → IsCovered bits f → told_at f.told d ≡ false → IsGoodChunk capacity bits xs d m ch
+    → IsGoodChunk capacity bits ys d (lays m f.words) ch
 landed_chunk capacity bits xs ys d m ch f flew same cov untold good =
     record {
       reads_size = good.reads_size;
       writes_size = good.writes_size;
       apart = good.apart;
       writes = good.writes;
+      loads = good.loads;
       closes = good.closes;
       live = λ quiet.
           let unseen : Unseen (seen_by ch) f.words = elim flew.stands [
@@ -130,7 +133,7 @@ pub record Lands (w : World) (i : ℕ) (q : Sphere) (f : Flight) (ys : List (Opt
   pub within : i < length w.spheres
   pub flew : Flew i f w.slots ys
   pub sphere : f.sphere ≡ i
-  pub covered : Covered w.numbers.signature f
+  pub covered : IsCovered w.numbers.signature f
   pub untold : told_at f.told d ≡ false
   pub memory : q.memory ≡ (sphere_at w i).memory
   pub going : is_stopped (sphere_at w i).role ≡ false
@@ -139,8 +142,8 @@ pub record Lands (w : World) (i : ℕ) (q : Sphere) (f : Flight) (ys : List (Opt
   pub replaying : replays q.role ≡ replays (sphere_at w i).role
   pub limits : is_stopped q.role ≡ false → limit_of w.numbers.chunk q.role x.thread x.chunk.start ≡ limit_of w.numbers.chunk (sphere_at w i).role x.thread x.chunk.start
 
-landed_here : (w : World) (q : Sphere) (f : Flight) (ys : List (Option Flight)) (cores : List (Option Held)) (devices : Devices) (d : ℕ) (x : Held) → Lands w x.chunk.sphere q f ys d x → GoodHeld w d x
-    → GoodHeld (moved_world w x.chunk.sphere q ys cores devices) d x
+landed_here : (w : World) (q : Sphere) (f : Flight) (ys : List (Option Flight)) (cores : List (Option Held)) (devices : Devices) (d : ℕ) (x : Held) → Lands w x.chunk.sphere q f ys d x → IsGoodHeld w d x
+    → IsGoodHeld (moved_world w x.chunk.sphere q ys cores devices) d x
 landed_here w q f ys cores devices d x l good =
     let i = x.chunk.sphere in
     let v = moved_world w i q ys cores devices in
@@ -163,18 +166,18 @@ landed_here w q f ys cores devices d x l good =
             most = subst (λ (n : ℕ). x.chunk.limit ≤ n) (sym (limits g)) fit.most;
             replayed = λ r. fit.replayed (sym l.replaying ∙ ap (λ (p : Sphere). replays p.role) (sym there) ∙ r) ∙ sym (limits g);
           };
-      chunk = subst (λ (m : List ℕ). GoodChunk w.numbers.buffer w.numbers.signature ys d m x.chunk) memory
+      chunk = subst (λ (m : List ℕ). IsGoodChunk w.numbers.buffer w.numbers.signature ys d m x.chunk) memory
           (landed_chunk w.numbers.buffer w.numbers.signature w.slots ys d (current w i) x.chunk f l.flew l.sphere l.covered l.untold good.chunk);
     }
 
-pub landed-held : (w : World) (i : ℕ) (q : Sphere) (f : Flight) (ys : List (Option Flight)) (cores : List (Option Held)) (devices : Devices) (d : ℕ) (x : Held) → x.chunk.sphere ≡ i → Lands w i q f ys d x → GoodHeld w d x
-    → GoodHeld (moved_world w i q ys cores devices) d x
+pub landed-held : (w : World) (i : ℕ) (q : Sphere) (f : Flight) (ys : List (Option Flight)) (cores : List (Option Held)) (devices : Devices) (d : ℕ) (x : Held) → x.chunk.sphere ≡ i → Lands w i q f ys d x → IsGoodHeld w d x
+    → IsGoodHeld (moved_world w i q ys cores devices) d x
 landed-held w i q f ys cores devices d x e l good =
-    subst (λ (n : ℕ). Lands w n q f ys d x → GoodHeld (moved_world w n q ys cores devices) d x) e (λ k. landed_here w q f ys cores devices d x k good) l
+    subst (λ (n : ℕ). Lands w n q f ys d x → IsGoodHeld (moved_world w n q ys cores devices) d x) e (λ k. landed_here w q f ys cores devices d x k good) l
 
 -- a chunk of another sphere
-pub elsewhere-held : (w : World) (i : ℕ) (q : Sphere) (f : Flight) (ys : List (Option Flight)) (cores : List (Option Held)) (devices : Devices) (d : ℕ) (x : Held) → x.chunk.sphere ≢ i → Flew i f w.slots ys → GoodHeld w d x
-    → GoodHeld (moved_world w i q ys cores devices) d x
+pub elsewhere-held : (w : World) (i : ℕ) (q : Sphere) (f : Flight) (ys : List (Option Flight)) (cores : List (Option Held)) (devices : Devices) (d : ℕ) (x : Held) → x.chunk.sphere ≢ i → Flew i f w.slots ys → IsGoodHeld w d x
+    → IsGoodHeld (moved_world w i q ys cores devices) d x
 elsewhere-held w i q f ys cores devices d x ne flew good =
     let v = moved_world w i q ys cores devices in
     let there : sphere_at v x.chunk.sphere ≡ sphere_at w x.chunk.sphere = sphere-other w.spheres i x.chunk.sphere q ne in

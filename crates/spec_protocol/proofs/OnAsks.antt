@@ -23,13 +23,14 @@ use Rattle.spec_protocol.specs.Shown.{flying, shown, shown_of}
 use Rattle.spec_protocol.specs.Moves.{move_chunk, do_at, do_move, ChunkFits, SerialFits, FitsChunk, FitsSerial, FitsAt, Fits}
 use Rattle.spec_protocol.proofs.Laying.{AllLack, AllLack_nil, AllLack_flip}
 use Rattle.spec_protocol.proofs.Slots.{words-other}
-use Rattle.spec_protocol.proofs.Running.{Live}
-use Rattle.spec_protocol.proofs.Covering.{CoversAll, bits-signed, CoversAll-signed, apart-covered, flying-all_lack}
+use Rattle.spec_protocol.proofs.Covering.{bits-signed, CoversAll-signed, apart-covered, flying-all_lack}
 use Rattle.spec_protocol.proofs.Moving.{HasTurn, chunk-stores, chunk-lives, serial-lives, chunk-moves, serial-moves}
 use Rattle.spec_protocol.proofs.Relaying.{over, relaid, chunk-relaid}
-use Rattle.spec_protocol.proofs.Invariant.{current, GoodHeld, Good, Kept, shown-get, still-kept}
+use Rattle.spec_protocol.proofs.Invariant.{Kept, shown-get, still-kept}
 use Rattle.spec_protocol.proofs.OnCores.{branch}
 use Rattle.spec_protocol.proofs.Granting.{Grants, granted-kept}
+use Rattle.spec_protocol.specs.Currency.{IsCurrent, CoversAll}
+use Rattle.spec_protocol.specs.Invariants.{current, IsGoodHeld, IsGood}
 
 -- ---- what is shown of the sphere that asks
 
@@ -66,7 +67,7 @@ never_hits : (w : World) (ch : Chunk) → first_slot (meets_chunk ch.reads ch.wr
 never_hits w ch none k f is =
     or_parts (hits f.writes ch.reads) (hits f.writes ch.writes) (first_none (meets_chunk ch.reads ch.writes) w.slots none k f is)
 
-chunk_lacks : (w : World) (c : ℕ) (h : Held) → Good w → GoodHeld w c h → first_slot (meets_chunk h.chunk.reads h.chunk.writes) w.slots ≡ None → AllLack h.chunk.done.words (flying h.chunk.sphere w.slots)
+chunk_lacks : (w : World) (c : ℕ) (h : Held) → IsGood w → IsGoodHeld w c h → first_slot (meets_chunk h.chunk.reads h.chunk.writes) w.slots ≡ None → AllLack h.chunk.done.words (flying h.chunk.sphere w.slots)
 chunk_lacks w c h good held none =
     flying-all_lack h.chunk.sphere h.chunk.done.words w.slots
     (λ k f is same.
@@ -75,7 +76,7 @@ chunk_lacks w c h good held none =
     (apart-covered h.chunk.sphere f.writes h.chunk.writes f.words h.chunk.done.words (held.chunk.writes_size ∙ sym cov.size) (subst (λ (n : ℕ). CoversAll n f.writes f.words) same cov.words) held.chunk.writes
     (never_hits w h.chunk none k f is).1))
 
-chunk_live : (w : World) (c : ℕ) (h : Held) → GoodHeld w c h → first_slot (meets_chunk h.chunk.reads h.chunk.writes) w.slots ≡ None → Live (current w h.chunk.sphere) h.chunk
+chunk_live : (w : World) (c : ℕ) (h : Held) → IsGoodHeld w c h → first_slot (meets_chunk h.chunk.reads h.chunk.writes) w.slots ≡ None → IsCurrent (current w h.chunk.sphere) h.chunk
 chunk_live w c h held none = held.chunk.live (record { misses = λ k f is same untold. (never_hits w h.chunk none k f is).0 })
 
 -- ---- turns
@@ -106,7 +107,7 @@ pieces_before ch role e closed none =
     let empty : is_empty_serial ch ≡ true = and_from (eqb ch.done.n 0) (is_serial ch.closed) (eq-eqb ch.done.n 0 none) (ap is_serial closed) in
     not-false (is_in_pieces role) (ap (λ (b : Bool). b && not (is_in_pieces role)) (sym empty) ∙ e)
 
-chunk_fits : (w : World) (c : ℕ) (h : Held) (how : How) → GoodHeld w c h → Live (current w h.chunk.sphere) h.chunk → h.chunk.closed ≡ Some how → is_stopped (sphere_at w h.chunk.sphere).role ≡ false → other_turn (head_of (sphere_at w h.chunk.sphere)) h.thread ≡ None
+chunk_fits : (w : World) (c : ℕ) (h : Held) (how : How) → IsGoodHeld w c h → IsCurrent (current w h.chunk.sphere) h.chunk → h.chunk.closed ≡ Some how → is_stopped (sphere_at w h.chunk.sphere).role ≡ false → other_turn (head_of (sphere_at w h.chunk.sphere)) h.thread ≡ None
     → asks_serial h.chunk (sphere_at w h.chunk.sphere).role ≡ false → ChunkFits w.numbers (over (current w h.chunk.sphere) (sphere_at w h.chunk.sphere)) h.thread h.chunk.start how h.chunk.done.n h.chunk.limit
 chunk_fits w c h how held live closed going turn chunk =
     let p = sphere_at w h.chunk.sphere in
@@ -137,7 +138,7 @@ chunk_fits_at w h how within start fits =
     subst (FitsAt w.numbers w.devices (move_at (moment w) (chunk_request w h how))) (sym (shown_at w i within ∙ ap Some (shown_over w i)))
     (subst (FitsChunk w.numbers p h.thread how h.chunk.done.n h.chunk.limit) (sym start) fits)
 
-chunk_grants : (w : World) (c : ℕ) (h : Held) (how : How) → Good w → at w.cores c ≡ Some h → h.chunk.closed ≡ Some how → is_stopped (sphere_at w h.chunk.sphere).role ≡ false → other_turn (head_of (sphere_at w h.chunk.sphere)) h.thread ≡ None
+chunk_grants : (w : World) (c : ℕ) (h : Held) (how : How) → IsGood w → at w.cores c ≡ Some h → h.chunk.closed ≡ Some how → is_stopped (sphere_at w h.chunk.sphere).role ≡ false → other_turn (head_of (sphere_at w h.chunk.sphere)) h.thread ≡ None
     → is_full w.slots ≡ false → asks_serial h.chunk (sphere_at w h.chunk.sphere).role ≡ false → first_slot (meets_chunk h.chunk.reads h.chunk.writes) w.slots ≡ None
     → Grants w c h (chunk_request w h how) h.chunk.writes (chunk_move w h how)
 chunk_grants w c h how good is closed going turn free chunk none =
@@ -197,7 +198,7 @@ serial_whole w h within start none memory =
     ∙ (λ j. do_moved (shown_of w) i (relaid (same j) v))
 
 -- the thread has run nothing, and its next instruction is serial
-serial_next : (m : List ℕ) (ch : Chunk) → Live m ch → ch.closed ≡ Some How.Serial → ch.done.n ≡ 0 → IsSome (next_kind ch.start m)
+serial_next : (m : List ℕ) (ch : Chunk) → IsCurrent m ch → ch.closed ≡ Some How.Serial → ch.done.n ≡ 0 → IsSome (next_kind ch.start m)
 serial_next m ch live closed none =
     let e : run_begun ch.start ≡ ch.done = subst (λ (n : ℕ). run m ch.start n ≡ ch.done) none live.runs in
     subst (λ (r : Run). IsSome (next_kind r.thread (lays m r.words))) (sym e) (live.next_serial closed)
@@ -216,7 +217,7 @@ serial_fits_at w h within start fits =
     subst (FitsAt w.numbers w.devices (move_at (moment w) (serial_request h))) (sym (shown_at w i within ∙ ap Some (shown_over w i)))
     (subst (FitsSerial (over (current w i) (sphere_at w i)) h.thread) (sym start) fits)
 
-serial_grants : (w : World) (c : ℕ) (h : Held) → Good w → at w.cores c ≡ Some h → is_stopped (sphere_at w h.chunk.sphere).role ≡ false → other_turn (head_of (sphere_at w h.chunk.sphere)) h.thread ≡ None → is_full w.slots ≡ false
+serial_grants : (w : World) (c : ℕ) (h : Held) → IsGood w → at w.cores c ≡ Some h → is_stopped (sphere_at w h.chunk.sphere).role ≡ false → other_turn (head_of (sphere_at w h.chunk.sphere)) h.thread ≡ None → is_full w.slots ≡ false
     → asks_serial h.chunk (sphere_at w h.chunk.sphere).role ≡ true → first_slot (is_of_sphere h.chunk.sphere) w.slots ≡ None
     → Grants w c h (serial_request h) (signed h.chunk.sphere (serial_move w h).words (nothing w.numbers.signature)) (serial_move w h)
 serial_grants w c h good is going turn free serial none =
@@ -227,7 +228,7 @@ serial_grants w c h good is going turn free serial none =
     let empty = none_of_sphere w i none in
     let asks = and_parts (is_empty_serial h.chunk) (not (is_in_pieces p.role)) serial in
     let parts = and_parts (eqb h.chunk.done.n 0) (is_serial h.chunk.closed) asks.0 in
-    let live : Live (current w i) h.chunk = held.chunk.live (record { misses = λ k f at_k same untold. absurd (eqb-false f.sphere i (first_none (is_of_sphere i) w.slots none k f at_k) same) }) in
+    let live : IsCurrent (current w i) h.chunk = held.chunk.live (record { misses = λ k f at_k same untold. absurd (eqb-false f.sphere i (first_none (is_of_sphere i) w.slots none k f at_k) same) }) in
     let moves = serial-moves h.thread (moment w) h.chunk.start w.devices p (has_turn h.thread p going turn) in
     record {
       is = is;
@@ -257,23 +258,23 @@ serial_grants w c h good is going turn free serial none =
 
 -- ---- the event
 
-grant_chunk_kept : (w : World) (c : ℕ) (h : Held) (how : How) → Good w → Grants w c h (chunk_request w h how) h.chunk.writes (chunk_move w h how) → Kept w (grant_chunk w c h how)
+grant_chunk_kept : (w : World) (c : ℕ) (h : Held) (how : How) → IsGood w → Grants w c h (chunk_request w h how) h.chunk.writes (chunk_move w h how) → Kept w (grant_chunk w c h how)
 unfolding grant_chunk
 grant_chunk_kept w c h how good g = granted-kept w c h (chunk_request w h how) h.chunk.writes (chunk_move w h how) _ refl good g
 
-grant_serial_kept : (w : World) (c : ℕ) (h : Held) → Good w → Grants w c h (serial_request h) (signed h.chunk.sphere (serial_move w h).words (nothing w.numbers.signature)) (serial_move w h) → Kept w (grant_serial w c h)
+grant_serial_kept : (w : World) (c : ℕ) (h : Held) → IsGood w → Grants w c h (serial_request h) (signed h.chunk.sphere (serial_move w h).words (nothing w.numbers.signature)) (serial_move w h) → Kept w (grant_serial w c h)
 unfolding grant_serial
 grant_serial_kept w c h good g = granted-kept w c h (serial_request h) _ (serial_move w h) _ refl good g
 
-pub denied_kept : (w : World) (a : After) (o : Option ℕ) → Good w → (o ≡ None → Kept w a) → Kept w (unless_denied (denied_by o) w a)
+pub denied_kept : (w : World) (a : After) (o : Option ℕ) → IsGood w → (o ≡ None → Kept w a) → Kept w (unless_denied (denied_by o) w a)
 denied_kept w a None good kept = kept refl
 denied_kept w a (Some k) good kept = still-kept w (still w (Reply.Denied k)) refl refl refl good
 
-busy_kept : (w : World) (a : After) (o : Option ℕ) → Good w → (o ≡ None → Kept w a) → Kept w (unless_busy (busy_by o) w a)
+busy_kept : (w : World) (a : After) (o : Option ℕ) → IsGood w → (o ≡ None → Kept w a) → Kept w (unless_busy (busy_by o) w a)
 busy_kept w a None good kept = kept refl
 busy_kept w a (Some k) good kept = still-kept w (still w (Reply.SphereBusy k)) refl refl refl good
 
-arbiter_kept : (w : World) (c : ℕ) (h : Held) (how : How) (serial : Bool) → Good w → at w.cores c ≡ Some h → h.chunk.closed ≡ Some how → is_stopped (sphere_at w h.chunk.sphere).role ≡ false → other_turn (head_of (sphere_at w h.chunk.sphere)) h.thread ≡ None
+arbiter_kept : (w : World) (c : ℕ) (h : Held) (how : How) (serial : Bool) → IsGood w → at w.cores c ≡ Some h → h.chunk.closed ≡ Some how → is_stopped (sphere_at w h.chunk.sphere).role ≡ false → other_turn (head_of (sphere_at w h.chunk.sphere)) h.thread ≡ None
     → is_full w.slots ≡ false → asks_serial h.chunk (sphere_at w h.chunk.sphere).role ≡ serial → Kept w (ask_arbiter w c h how serial)
 arbiter_kept w c h how true good is closed going turn free serial =
     busy_kept w (grant_serial w c h) (first_slot (is_of_sphere h.chunk.sphere) w.slots) good
@@ -282,11 +283,11 @@ arbiter_kept w c h how false good is closed going turn free chunk =
     denied_kept w (grant_chunk w c h how) (first_slot (meets_chunk h.chunk.reads h.chunk.writes) w.slots) good
     (λ none. grant_chunk_kept w c h how good (chunk_grants w c h how good is closed going turn free chunk none))
 
-pub turn-kept : (w : World) (a : After) (o : Option Actor) → Good w → (o ≡ None → Kept w a) → Kept w (unless_turn o w a)
+pub turn-kept : (w : World) (a : After) (o : Option Actor) → IsGood w → (o ≡ None → Kept w a) → Kept w (unless_turn o w a)
 turn-kept w a None good kept = kept refl
 turn-kept w a (Some actor) good kept = still-kept w (still w (Reply.NotTurn actor)) refl refl refl good
 
-closed_kept : (w : World) (c : ℕ) (h : Held) (o : Option How) → Good w → at w.cores c ≡ Some h → h.chunk.closed ≡ o → Kept w (ask_closed w c h o)
+closed_kept : (w : World) (c : ℕ) (h : Held) (o : Option How) → IsGood w → at w.cores c ≡ Some h → h.chunk.closed ≡ o → Kept w (ask_closed w c h o)
 closed_kept w c h None good is closed = still-kept w (still w Reply.NotClosed) refl refl refl good
 closed_kept w c h (Some how) good is closed =
     let p = sphere_at w h.chunk.sphere in
@@ -299,10 +300,10 @@ closed_kept w c h (Some how) good is closed =
     (λ _. still-kept w (still w Reply.WindowFull) refl refl refl good)
     (λ free. arbiter_kept w c h how (asks_serial h.chunk p.role) good is closed going mine free refl)))
 
-ask_held_kept : (w : World) (c : ℕ) (o : Option Held) → Good w → at w.cores c ≡ o → Kept w (ask_held w c o)
+ask_held_kept : (w : World) (c : ℕ) (o : Option Held) → IsGood w → at w.cores c ≡ o → Kept w (ask_held w c o)
 ask_held_kept w c None good is = still-kept w (still w Reply.Idle) refl refl refl good
 ask_held_kept w c (Some h) good is = closed_kept w c h h.chunk.closed good is refl
 
-pub ask-kept : (w : World) (c : ℕ) → Good w → Kept w (asking w c)
+pub ask-kept : (w : World) (c : ℕ) → IsGood w → Kept w (asking w c)
 unfolding asking
 ask-kept w c good = ask_held_kept w c (at w.cores c) good refl

@@ -18,10 +18,11 @@ use Rattle.spec_protocol.specs.Shown.{shown_of}
 use Rattle.spec_protocol.specs.Moves.{do_if, FitsIf}
 use Rattle.spec_protocol.specs.Stepping.{with_chunk, stepped, step_held, stepping, cut_to, cut_held, cutting}
 use Rattle.spec_protocol.proofs.Slots.{at-set_same, at-set_other}
-use Rattle.spec_protocol.proofs.Running.{Live}
 use Rattle.spec_protocol.proofs.Steps.{SameBase}
-use Rattle.spec_protocol.proofs.Current.{GoodChunk, step-good}
-use Rattle.spec_protocol.proofs.Invariant.{current, GoodHeld, IsAlone, Good, SameSizes, PointIs, Kept, still-kept}
+use Rattle.spec_protocol.proofs.Current.{step-good}
+use Rattle.spec_protocol.proofs.Invariant.{SameSizes, PointIs, Kept, still-kept}
+use Rattle.spec_protocol.specs.Currency.{IsCurrent}
+use Rattle.spec_protocol.specs.Invariants.{IsGoodChunk, current, IsGoodHeld, IsAlone, IsGood}
 
 -- ---- rows of cores and slots
 
@@ -51,7 +52,7 @@ alone-set cores c o alone new a b h g ah bg sphere thread =
 
 -- ---- one core changes
 
-pub held_there : (w : World) (c d : ℕ) (o : Option Held) (g : Held) → GoodHeld w d g → GoodHeld (with_core w c o) d g
+pub held_there : (w : World) (c d : ℕ) (o : Option Held) (g : Held) → IsGoodHeld w d g → IsGoodHeld (with_core w c o) d g
 held_there w c d o g good =
     record {
       sphere = good.sphere;
@@ -62,8 +63,8 @@ held_there w c d o g good =
       chunk = good.chunk;
     }
 
-pub core-good : (w : World) (c : ℕ) (o : Option Held) → Good w → ((h : Held) → o ≡ Some h → GoodHeld w c h)
-    → ((h : Held) → o ≡ Some h → (d : ℕ) (g : Held) → d ≢ c → at w.cores d ≡ Some g → h.chunk.sphere ≡ g.chunk.sphere → h.thread ≡ g.thread → ⊥) → Good (with_core w c o)
+pub core-good : (w : World) (c : ℕ) (o : Option Held) → IsGood w → ((h : Held) → o ≡ Some h → IsGoodHeld w c h)
+    → ((h : Held) → o ≡ Some h → (d : ℕ) (g : Held) → d ≢ c → at w.cores d ≡ Some g → h.chunk.sphere ≡ g.chunk.sphere → h.thread ≡ g.thread → ⊥) → IsGood (with_core w c o)
 core-good w c o good new other =
     record {
       buffer = good.buffer;
@@ -72,16 +73,16 @@ core-good w c o good new other =
       covered = good.covered;
       flights = good.flights;
       held = λ d g e. elim (set-cases w.cores c d o g e) [
-        | inl p ↦ held_there w c d o g (subst (λ (k : ℕ). GoodHeld w k g) (sym p.0) (new g p.1))
+        | inl p ↦ held_there w c d o g (subst (λ (k : ℕ). IsGoodHeld w k g) (sym p.0) (new g p.1))
         | inr p ↦ held_there w c d o g (good.held d g p.1)
       ];
       alone = alone-set w.cores c o good.alone other;
     }
 
-pub core-kept : (w : World) (c : ℕ) (o : Option Held) (a : After) → a.world ≡ with_core w c o → a.move ≡ None → a.point ≡ None → Good (with_core w c o) → Kept w a
+pub core-kept : (w : World) (c : ℕ) (o : Option Held) (a : After) → a.world ≡ with_core w c o → a.move ≡ None → a.point ≡ None → IsGood (with_core w c o) → Kept w a
 core-kept w c o a world move point good =
     record {
-      good = subst Good (sym world) good;
+      good = subst IsGood (sym world) good;
       sizes = subst (SameSizes w) (sym world) (record { numbers = refl; spheres = refl; cores = length-set w.cores c o; slots = refl });
       point = subst (λ (m : Option Move). PointIs w m a.point) (sym move) point;
       whole = ap shown_of world ∙ sym (ap (do_if w.numbers (shown_of w)) move);
@@ -90,7 +91,7 @@ core-kept w c o a world move point good =
 
 -- ---- the core's chunk changes, and its base does not
 
-pub held-same : (w : World) (c : ℕ) (h : Held) (dh : Chunk) → GoodHeld w c h → SameBase h.chunk dh → GoodChunk w.numbers.buffer w.numbers.signature w.slots c (current w h.chunk.sphere) dh → GoodHeld w c (record h { chunk = dh })
+pub held-same : (w : World) (c : ℕ) (h : Held) (dh : Chunk) → IsGoodHeld w c h → SameBase h.chunk dh → IsGoodChunk w.numbers.buffer w.numbers.signature w.slots c (current w h.chunk.sphere) dh → IsGoodHeld w c (record h { chunk = dh })
 held-same w c h dh good base chunk =
     let limits : limit_of w.numbers.chunk (sphere_at w dh.sphere).role h.thread dh.start ≡ limit_of w.numbers.chunk (sphere_at w h.chunk.sphere).role h.thread h.chunk.start =
     (λ j. limit_of w.numbers.chunk (sphere_at w (base.sphere j)).role h.thread (base.start j))
@@ -106,21 +107,21 @@ held-same w c h dh good base chunk =
             most = subst (λ (n : ℕ). n ≤ limit_of w.numbers.chunk (sphere_at w dh.sphere).role h.thread dh.start) (sym base.limit) (subst (λ (n : ℕ). h.chunk.limit ≤ n) (sym limits) l.most);
             replayed = λ r. base.limit ∙ l.replayed (ap (λ (i : ℕ). replays (sphere_at w i).role) (sym base.sphere) ∙ r) ∙ sym limits;
           };
-      chunk = subst (λ (i : ℕ). GoodChunk w.numbers.buffer w.numbers.signature w.slots c (current w i) dh) (sym base.sphere) chunk;
+      chunk = subst (λ (i : ℕ). IsGoodChunk w.numbers.buffer w.numbers.signature w.slots c (current w i) dh) (sym base.sphere) chunk;
     }
 
 -- nobody else runs the thread of core c's chunk
-pub others-differ : (w : World) (c : ℕ) (h : Held) (dh : Chunk) → Good w → at w.cores c ≡ Some h → dh.sphere ≡ h.chunk.sphere → (k : Held) → Some (record h { chunk = dh }) ≡ Some k → (d : ℕ) (g : Held) → d ≢ c → at w.cores d ≡ Some g → k.chunk.sphere ≡ g.chunk.sphere → k.thread ≡ g.thread → ⊥
+pub others-differ : (w : World) (c : ℕ) (h : Held) (dh : Chunk) → IsGood w → at w.cores c ≡ Some h → dh.sphere ≡ h.chunk.sphere → (k : Held) → Some (record h { chunk = dh }) ≡ Some k → (d : ℕ) (g : Held) → d ≢ c → at w.cores d ≡ Some g → k.chunk.sphere ≡ g.chunk.sphere → k.thread ≡ g.thread → ⊥
 others-differ w c h dh good is same k e d g ne there sphere thread =
     let q : record h { chunk = dh } ≡ k = cc in
     ne (good.alone d c g h there is (sym sphere ∙ ap (λ (x : Held). x.chunk.sphere) (sym q) ∙ same) (sym thread ∙ ap (λ (x : Held). x.thread) (sym q)))
 
-chunk_kept : (w : World) (c : ℕ) (h : Held) (dh : Chunk) (a : After) → Good w → at w.cores c ≡ Some h → SameBase h.chunk dh → GoodChunk w.numbers.buffer w.numbers.signature w.slots c (current w h.chunk.sphere) dh
+chunk_kept : (w : World) (c : ℕ) (h : Held) (dh : Chunk) (a : After) → IsGood w → at w.cores c ≡ Some h → SameBase h.chunk dh → IsGoodChunk w.numbers.buffer w.numbers.signature w.slots c (current w h.chunk.sphere) dh
     → a.world ≡ with_chunk w c h dh → a.move ≡ None → a.point ≡ None → Kept w a
 chunk_kept w c h dh a good is base chunk world move point =
     core-kept w c (Some (record h { chunk = dh })) a world move point
     (core-good w c (Some (record h { chunk = dh })) good
-    (λ k e. subst (GoodHeld w c) (let q : record h { chunk = dh } ≡ k = cc in q) (held-same w c h dh (good.held c h is) base chunk))
+    (λ k e. subst (IsGoodHeld w c) (let q : record h { chunk = dh } ≡ k = cc in q) (held-same w c h dh (good.held c h is) base chunk))
     (others-differ w c h dh good is base.sphere))
 
 -- ---- choices
@@ -138,7 +139,7 @@ open_is ch e =
       | Some how ↦ λ h. absurd (true≢false (sym h))
     ] e
 
-step_held_kept : (w : World) (c : ℕ) (o : Option Held) → at w.cores c ≡ o → Good w → Kept w (step_held w c o)
+step_held_kept : (w : World) (c : ℕ) (o : Option Held) → at w.cores c ≡ o → IsGood w → Kept w (step_held w c o)
 step_held_kept w c None is good = still-kept w (still w Reply.Idle) refl refl refl good
 step_held_kept w c (Some h) is good =
     let p = sphere_at w h.chunk.sphere in
@@ -151,7 +152,7 @@ step_held_kept w c (Some h) is good =
     chunk_kept w c h s.chunk (stepped w c h s) good is r.1 r.0 refl refl refl)
     (λ _. still-kept w (still w Reply.Waiting) refl refl refl good))
 
-pub step-kept : (w : World) (c : ℕ) → Good w → Kept w (stepping w c)
+pub step-kept : (w : World) (c : ℕ) → IsGood w → Kept w (stepping w c)
 unfolding stepping
 step-kept w c good = step_held_kept w c (at w.cores c) refl good
 
@@ -163,13 +164,14 @@ same_base ch = record { sphere = refl; start = refl; limit = refl; halves = refl
 positive : (n : ℕ) → eqb n 0 ≡ false → 0 < n
 positive n e = let h = eqb-false n 0 e in omega (arith, h)
 
-cut_good : (capacity bits : ℕ) (xs : List (Option Flight)) (c : ℕ) (m : List ℕ) (ch : Chunk) → ch.closed ≡ None → 0 < ch.done.n → GoodChunk capacity bits xs c m ch → GoodChunk capacity bits xs c m (record ch { closed = Some How.Cut })
+cut_good : (capacity bits : ℕ) (xs : List (Option Flight)) (c : ℕ) (m : List ℕ) (ch : Chunk) → ch.closed ≡ None → 0 < ch.done.n → IsGoodChunk capacity bits xs c m ch → IsGoodChunk capacity bits xs c m (record ch { closed = Some How.Cut })
 cut_good capacity bits xs c m ch open_ some good =
     record {
       reads_size = good.reads_size;
       writes_size = good.writes_size;
       apart = good.apart;
       writes = good.writes;
+      loads = good.loads;
       closes = record {
         positive = good.closes.positive;
         opened = λ e. absurd (none-some How.Cut (sym e));
@@ -178,9 +180,10 @@ cut_good capacity bits xs c m ch open_ some good =
         cut = λ e. some;
         room = λ e. cc;
         few = good.closes.few;
+        few_loads = good.closes.few_loads;
       };
       live = λ quiet.
-          let live : Live m ch = good.live quiet in
+          let live : IsCurrent m ch = good.live quiet in
           record {
             runs = live.runs;
             touches = live.touches;
@@ -189,7 +192,7 @@ cut_good capacity bits xs c m ch open_ some good =
           };
     }
 
-cut_open_kept : (w : World) (c : ℕ) (h : Held) (o : Option How) → at w.cores c ≡ Some h → h.chunk.closed ≡ o → Good w → Kept w (cut_to w c h (cut_open h.chunk o))
+cut_open_kept : (w : World) (c : ℕ) (h : Held) (o : Option How) → at w.cores c ≡ Some h → h.chunk.closed ≡ o → IsGood w → Kept w (cut_to w c h (cut_open h.chunk o))
 cut_open_kept w c h (Some how) is closed good =
     chunk_kept w c h h.chunk (cut_to w c h (cut_open h.chunk (Some how))) good is (same_base h.chunk) (good.held c h is).chunk refl refl refl
 cut_open_kept w c h None is closed good =
@@ -200,13 +203,13 @@ cut_open_kept w c h None is closed good =
     (record { sphere = refl; start = refl; limit = refl; halves = refl; reads = refl; writes = refl })
     (cut_good w.numbers.buffer w.numbers.signature w.slots c (current w h.chunk.sphere) h.chunk closed (positive h.chunk.done.n e) (good.held c h is).chunk) refl refl refl)
 
-cut_held_kept : (w : World) (c : ℕ) (o : Option Held) → at w.cores c ≡ o → Good w → Kept w (cut_held w c o)
+cut_held_kept : (w : World) (c : ℕ) (o : Option Held) → at w.cores c ≡ o → IsGood w → Kept w (cut_held w c o)
 cut_held_kept w c None is good = still-kept w (still w Reply.Idle) refl refl refl good
 cut_held_kept w c (Some h) is good =
     branch (Kept w) (is_stopped (sphere_at w h.chunk.sphere).role) (still w Reply.Stopped) (cut_to w c h (cut h.chunk))
     (λ _. still-kept w (still w Reply.Stopped) refl refl refl good)
     (λ _. cut_open_kept w c h h.chunk.closed is refl good)
 
-pub cut-kept : (w : World) (c : ℕ) → Good w → Kept w (cutting w c)
+pub cut-kept : (w : World) (c : ℕ) → IsGood w → Kept w (cutting w c)
 unfolding cutting
 cut-kept w c good = cut_held_kept w c (at w.cores c) refl good

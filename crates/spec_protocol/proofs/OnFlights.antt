@@ -22,23 +22,23 @@ use Rattle.spec_protocol.specs.Moves.{do_if, FitsIf}
 use Rattle.spec_protocol.specs.Flying.{reply_of_drain, drain_slot, draining, reads_of, writes_of, squashed, told, delivering, reply_of_retire, retiring}
 use Rattle.spec_protocol.proofs.Laying.{lays_append, AllLack_flip, Apart_lack, Apart_first, Apart_last, Apart-append, lays-lay}
 use Rattle.spec_protocol.proofs.Slots.{at-set_same, at-set_other, at_within, before, behind, flying-at, flying-set, flying_same, words-same, words-other}
-use Rattle.spec_protocol.proofs.Running.{Live}
-use Rattle.spec_protocol.proofs.Covering.{CoversAll, Quiet, Covered}
-use Rattle.spec_protocol.proofs.Current.{GoodChunk}
-use Rattle.spec_protocol.proofs.Invariant.{current, GoodHeld, Good, SameSizes, PointIs, Kept, sphere-same, sphere-other, shown_from-same, shown-unmoved, set-itself, still-kept}
+use Rattle.spec_protocol.proofs.Invariant.{SameSizes, PointIs, Kept, sphere-same, sphere-other, shown_from-same, shown-unmoved, set-itself, still-kept}
 use Rattle.spec_protocol.proofs.OnCores.{set-cases, alone-set, held_there, others-differ, branch}
+use Rattle.spec_protocol.specs.Currency.{IsCurrent, IsQuiet, CoversAll}
+use Rattle.spec_protocol.specs.Invariants.{IsCovered, IsGoodChunk, current, IsGoodHeld, IsGood}
 
 -- ---- a chunk beside other slots
 
-pub chunk-beside : (capacity bits : ℕ) (xs ys : List (Option Flight)) (c : ℕ) (m n : List ℕ) (ch : Chunk) → n ≡ m → (Quiet ys ch.sphere c ch.reads → Quiet xs ch.sphere c ch.reads) → GoodChunk capacity bits xs c m ch → GoodChunk capacity bits ys c n ch
+pub chunk-beside : (capacity bits : ℕ) (xs ys : List (Option Flight)) (c : ℕ) (m n : List ℕ) (ch : Chunk) → n ≡ m → (IsQuiet ys ch.sphere c ch.reads → IsQuiet xs ch.sphere c ch.reads) → IsGoodChunk capacity bits xs c m ch → IsGoodChunk capacity bits ys c n ch
 chunk-beside capacity bits xs ys c m n ch same quiet good =
     record {
       reads_size = good.reads_size;
       writes_size = good.writes_size;
       apart = good.apart;
       writes = good.writes;
+      loads = good.loads;
       closes = good.closes;
-      live = λ q. subst (λ (k : List ℕ). Live k ch) (sym same) (good.live (quiet q));
+      live = λ q. subst (λ (k : List ℕ). IsCurrent k ch) (sym same) (good.live (quiet q));
     }
 
 -- a world in which the core's sphere has the same threads, role and current memory
@@ -48,9 +48,9 @@ pub record Beside (w v : World) (c : ℕ) (h : Held) : Type 0 where
   pub threads : (sphere_at v h.chunk.sphere).threads ≡ (sphere_at w h.chunk.sphere).threads
   pub role : (sphere_at v h.chunk.sphere).role ≡ (sphere_at w h.chunk.sphere).role
   pub memory : current v h.chunk.sphere ≡ current w h.chunk.sphere
-  pub quiet : Quiet v.slots h.chunk.sphere c h.chunk.reads → Quiet w.slots h.chunk.sphere c h.chunk.reads
+  pub quiet : IsQuiet v.slots h.chunk.sphere c h.chunk.reads → IsQuiet w.slots h.chunk.sphere c h.chunk.reads
 
-pub held-beside : (w v : World) (c : ℕ) (h : Held) → Beside w v c h → GoodHeld w c h → GoodHeld v c h
+pub held-beside : (w v : World) (c : ℕ) (h : Held) → Beside w v c h → IsGoodHeld w c h → IsGoodHeld v c h
 held-beside w v c h b good =
     let limits : limit_of v.numbers.chunk (sphere_at v h.chunk.sphere).role h.thread h.chunk.start ≡ limit_of w.numbers.chunk (sphere_at w h.chunk.sphere).role h.thread h.chunk.start =
     (λ j. limit_of (b.numbers j).chunk (b.role j) h.thread h.chunk.start)
@@ -66,7 +66,7 @@ held-beside w v c h b good =
             most = subst (λ (n : ℕ). h.chunk.limit ≤ n) (sym limits) l.most;
             replayed = λ r. l.replayed (ap replays (sym b.role) ∙ r) ∙ sym limits;
           };
-      chunk = subst (λ (z : _). GoodChunk z.buffer z.signature v.slots c (current v h.chunk.sphere) h.chunk) (sym b.numbers)
+      chunk = subst (λ (z : _). IsGoodChunk z.buffer z.signature v.slots c (current v h.chunk.sphere) h.chunk) (sym b.numbers)
           (chunk-beside w.numbers.buffer w.numbers.signature w.slots v.slots c (current w h.chunk.sphere) (current v h.chunk.sphere) h.chunk b.memory b.quiet good.chunk);
     }
 
@@ -88,7 +88,7 @@ drain_lays m b h ss s lacks =
     lays_append (lay m s) b (ss ++ h) ∙ ap (λ (n : List ℕ). lays n (ss ++ h)) (lays-lay m s b lacks) ∙ sym (lays_append m b ((s ∷ ss) ++ h))
 
 -- flights of which one has a word less
-shorter_quiet : (xs : List (Option Flight)) (k : ℕ) (f : Flight) (ss : List Stored) (i c : ℕ) (reads : Marks) → at xs k ≡ Some f → Quiet (set xs k (Some (record f { words = ss }))) i c reads → Quiet xs i c reads
+shorter_quiet : (xs : List (Option Flight)) (k : ℕ) (f : Flight) (ss : List Stored) (i c : ℕ) (reads : Marks) → at xs k ≡ Some f → IsQuiet (set xs k (Some (record f { words = ss }))) i c reads → IsQuiet xs i c reads
 shorter_quiet xs k f ss i c reads is q =
     record {
       misses = λ j g there same untold. elim (cases_eq j k) [
@@ -114,7 +114,7 @@ without_first b h s ss apart =
 drained_world : World → ℕ → Flight → Stored → List Stored → World
 drained_world w k f s ss = with_slot (with_memory w f.sphere (lay (sphere_at w f.sphere).memory s)) k (Some (record f { words = ss }))
 
-drained_kept : (w : World) (k : ℕ) (f : Flight) (s : Stored) (ss : List Stored) (a : After) → Good w → at w.slots k ≡ Some f → f.words ≡ s ∷ ss → a.world ≡ drained_world w k f s ss → a.move ≡ None → a.point ≡ None → Kept w a
+drained_kept : (w : World) (k : ℕ) (f : Flight) (s : Stored) (ss : List Stored) (a : After) → IsGood w → at w.slots k ≡ Some f → f.words ≡ s ∷ ss → a.world ≡ drained_world w k f s ss → a.move ≡ None → a.point ≡ None → Kept w a
 unfolding drained_world shown
 drained_kept w k f s ss a good is words world move point =
     let i = f.sphere in
@@ -161,7 +161,7 @@ drained_kept w k f s ss a good is words world move point =
     })
     in
     record {
-      good = subst Good (sym world) (record {
+      good = subst IsGood (sym world) (record {
         buffer = good.buffer;
         standard = good.standard;
         apart = λ j. elim (cases_eq j i) [
@@ -172,7 +172,7 @@ drained_kept w k f s ss a good is words world move point =
           | inl p ↦ (
               let c = good.covered k f is in
               let gx : g ≡ x = (let o : Some g ≡ Some x = p.1 in cc) in
-              subst (Covered w.numbers.signature) gx (record { size = c.size; words = (subst (CoversAll f.sphere f.writes) words c.words).1 })
+              subst (IsCovered w.numbers.signature) gx (record { size = c.size; words = (subst (CoversAll f.sphere f.writes) words c.words).1 })
               )
           | inr p ↦ good.covered j x p.1
         ];
@@ -195,17 +195,17 @@ clean_world : (w : World) (k i : ℕ) (v : Option Flight) → at w.slots k ≡ v
 clean_world w k i v is =
     (λ j. record w { spheres = set-itself w.spheres i j; slots = (ap (set w.slots k) (sym is) ∙ set-get_or w.slots k None) j })
 
-drain_words_kept : (w : World) (k : ℕ) (f : Flight) (ws : List Stored) → Good w → at w.slots k ≡ Some f → f.words ≡ ws
+drain_words_kept : (w : World) (k : ℕ) (f : Flight) (ws : List Stored) → IsGood w → at w.slots k ≡ Some f → f.words ≡ ws
     → let d = drain_words (sphere_at w f.sphere).memory f ws in Kept w (went_on (with_slot (with_memory w f.sphere d.memory) k d.slot) (reply_of_drain d.reply))
 unfolding drained_world
 drain_words_kept w k f [] good is words = still-kept w _ (clean_world w k f.sphere (Some f) is) refl refl good
 drain_words_kept w k f (s ∷ ss) good is words = drained_kept w k f s ss _ good is words refl refl refl
 
-drain_slot_kept : (w : World) (k : ℕ) (o : Option Flight) → at w.slots k ≡ o → Good w → Kept w (drain_slot w k o)
+drain_slot_kept : (w : World) (k : ℕ) (o : Option Flight) → at w.slots k ≡ o → IsGood w → Kept w (drain_slot w k o)
 drain_slot_kept w k None is good = still-kept w (still w Reply.NoCommit) refl refl refl good
 drain_slot_kept w k (Some f) is good = drain_words_kept w k f f.words good is refl
 
-pub drain-kept : (w : World) (k : ℕ) → Good w → Kept w (draining w k)
+pub drain-kept : (w : World) (k : ℕ) → IsGood w → Kept w (draining w k)
 unfolding draining
 drain-kept w k good = drain_slot_kept w k (at w.slots k) refl good
 
@@ -214,10 +214,10 @@ drain-kept w k good = drain_slot_kept w k (at w.slots k) refl good
 -- only what is told has changed, or the flight had no word left
 record SlotKept (w : World) (k : ℕ) (v : Option Flight) : Type 0 where
   words : (i : ℕ) → words_of i v ≡ words_of i (at w.slots k)
-  covered : (x : Flight) → v ≡ Some x → Covered w.numbers.signature x
+  covered : (x : Flight) → v ≡ Some x → IsCovered w.numbers.signature x
   flights : (x : Flight) → v ≡ Some x → x.sphere < length w.spheres
 
-slot_beside : (w : World) (k : ℕ) (v : Option Flight) (c : ℕ) (x : Held) → k < length w.slots → SlotKept w k v → (Quiet (set w.slots k v) x.chunk.sphere c x.chunk.reads → Quiet w.slots x.chunk.sphere c x.chunk.reads) → Beside w (with_slot w k v) c x
+slot_beside : (w : World) (k : ℕ) (v : Option Flight) (c : ℕ) (x : Held) → k < length w.slots → SlotKept w k v → (IsQuiet (set w.slots k v) x.chunk.sphere c x.chunk.reads → IsQuiet w.slots x.chunk.sphere c x.chunk.reads) → Beside w (with_slot w k v) c x
 slot_beside w k v c x within s quiet =
     record {
       numbers = refl;
@@ -228,7 +228,7 @@ slot_beside w k v c x within s quiet =
       quiet = quiet;
     }
 
-slot_good : (w : World) (k : ℕ) (v : Option Flight) → k < length w.slots → Good w → SlotKept w k v → ((c : ℕ) (x : Held) → at w.cores c ≡ Some x → GoodHeld (with_slot w k v) c x) → Good (with_slot w k v)
+slot_good : (w : World) (k : ℕ) (v : Option Flight) → k < length w.slots → IsGood w → SlotKept w k v → ((c : ℕ) (x : Held) → at w.cores c ≡ Some x → IsGoodHeld (with_slot w k v) c x) → IsGood (with_slot w k v)
 slot_good w k v within good s held =
     record {
       buffer = good.buffer;
@@ -257,7 +257,7 @@ empty_words i f e =
       | false ↦ refl
     ]
 
-retired_quiet : (w : World) (k : ℕ) (f : Flight) (i c : ℕ) (reads : Marks) → at w.slots k ≡ Some f → all_told (length w.cores) f.told ≡ true → c < length w.cores → Quiet (set w.slots k None) i c reads → Quiet w.slots i c reads
+retired_quiet : (w : World) (k : ℕ) (f : Flight) (i c : ℕ) (reads : Marks) → at w.slots k ≡ Some f → all_told (length w.cores) f.told ≡ true → c < length w.cores → IsQuiet (set w.slots k None) i c reads → IsQuiet w.slots i c reads
 retired_quiet w k f i c reads is all l q =
     record {
       misses = λ j g there same untold. elim (cases_eq j k) [
@@ -269,7 +269,7 @@ retired_quiet w k f i c reads is all l q =
       ];
     }
 
-retired_kept : (w : World) (k : ℕ) (f : Flight) (a : After) → Good w → at w.slots k ≡ Some f → is_done (length w.cores) f ≡ true → a.world ≡ with_slot w k None → a.move ≡ None → a.point ≡ None → Kept w a
+retired_kept : (w : World) (k : ℕ) (f : Flight) (a : After) → IsGood w → at w.slots k ≡ Some f → is_done (length w.cores) f ≡ true → a.world ≡ with_slot w k None → a.move ≡ None → a.point ≡ None → Kept w a
 retired_kept w k f a good is done world move point =
     let p = and_parts (has_none f.words) (all_told (length w.cores) f.told) done in
     let within = at_within w.slots k f is in
@@ -280,7 +280,7 @@ retired_kept w k f a good is done world move point =
     }
     in
     record {
-      good = subst Good (sym world) (slot_good w k None within good s
+      good = subst IsGood (sym world) (slot_good w k None within good s
           (λ c x e. held-beside w (with_slot w k None) c x
           (slot_beside w k None c x within s (retired_quiet w k f x.chunk.sphere c x.chunk.reads is p.1 (at_within w.cores c x e))) (good.held c x e)));
       sizes = subst (SameSizes w) (sym world) (record { numbers = refl; spheres = refl; cores = refl; slots = length-set w.slots k None });
@@ -289,7 +289,7 @@ retired_kept w k f a good is done world move point =
       fits = subst (FitsIf w.numbers (shown_of w)) (sym move) tt;
     }
 
-retire_slot_kept : (w : World) (k : ℕ) (o : Option Flight) → at w.slots k ≡ o → Good w → let d = retire (length w.cores) o in Kept w (went_on (with_slot w k d.slot) (reply_of_retire d.reply))
+retire_slot_kept : (w : World) (k : ℕ) (o : Option Flight) → at w.slots k ≡ o → IsGood w → let d = retire (length w.cores) o in Kept w (went_on (with_slot w k d.slot) (reply_of_retire d.reply))
 retire_slot_kept w k None is good = still-kept w _ (unchanged w k None is) refl refl good
 retire_slot_kept w k (Some f) is good =
     branch (λ (d : Retired). Kept w (went_on (with_slot w k d.slot) (reply_of_retire d.reply))) (is_done (length w.cores) f)
@@ -297,13 +297,13 @@ retire_slot_kept w k (Some f) is good =
     (λ done. retired_kept w k f _ good is done refl refl refl)
     (λ _. still-kept w _ (unchanged w k (Some f) is) refl refl good)
 
-pub retire-kept : (w : World) (k : ℕ) → Good w → Kept w (retiring w k)
+pub retire-kept : (w : World) (k : ℕ) → IsGood w → Kept w (retiring w k)
 unfolding retiring
 retire-kept w k good = retire_slot_kept w k (at w.slots k) refl good
 
 -- ---- Deliver
 
-told_quiet : (xs : List (Option Flight)) (k : ℕ) (f : Flight) (c d i : ℕ) (reads : Marks) → at xs k ≡ Some f → (d ≡ c → hits f.writes reads ≡ false) → Quiet (set xs k (Some (tell f c))) i d reads → Quiet xs i d reads
+told_quiet : (xs : List (Option Flight)) (k : ℕ) (f : Flight) (c d i : ℕ) (reads : Marks) → at xs k ≡ Some f → (d ≡ c → hits f.writes reads ≡ false) → IsQuiet (set xs k (Some (tell f c))) i d reads → IsQuiet xs i d reads
 told_quiet xs k f c d i reads is free q =
     record {
       misses = λ j g there same untold. elim (cases_eq j k) [
@@ -319,14 +319,14 @@ told_quiet xs k f c d i reads is free q =
       ];
     }
 
-told_slot : (w : World) (k c : ℕ) (f : Flight) → Good w → at w.slots k ≡ Some f → SlotKept w k (Some (tell f c))
+told_slot : (w : World) (k c : ℕ) (f : Flight) → IsGood w → at w.slots k ≡ Some f → SlotKept w k (Some (tell f c))
 told_slot w k c f good is =
     record {
       words = λ i. ap (words_of i) (sym is);
       covered = λ x e.
           let cov = good.covered k f is in
           let q : tell f c ≡ x = cc in
-          subst (Covered w.numbers.signature) q (record { size = cov.size; words = cov.words });
+          subst (IsCovered w.numbers.signature) q (record { size = cov.size; words = cov.words });
       flights = λ x e. let q : tell f c ≡ x = cc in subst (λ (y : Flight). y.sphere < length w.spheres) q (good.flights k f is);
     }
 
@@ -339,13 +339,14 @@ either_most true limit most positive l = omega arith
 either_most false limit most positive l = l
 
 -- a chunk that begins again from its start
-squash_good : (capacity : ℕ) (xs : List (Option Flight)) (c : ℕ) (m : List ℕ) (ch : Chunk) (bits : ℕ) → 0 < ch.limit → ch.reads.bits ≡ bits → GoodChunk capacity bits xs c m (squash ch)
+squash_good : (capacity : ℕ) (xs : List (Option Flight)) (c : ℕ) (m : List ℕ) (ch : Chunk) (bits : ℕ) → 0 < ch.limit → ch.reads.bits ≡ bits → IsGoodChunk capacity bits xs c m (squash ch)
 squash_good capacity xs c m ch bits positive size =
     record {
       reads_size = size;
       writes_size = size;
       apart = tt;
       writes = tt;
+      loads = tt;
       closes = record {
         positive = either_positive (is_fourth ch) ch.limit positive;
         opened = λ e. either_positive (is_fourth ch) ch.limit positive;
@@ -354,6 +355,7 @@ squash_good capacity xs c m ch bits positive size =
         cut = λ e. absurd (none-some _ e);
         room = λ e. absurd (none-some _ e);
         few = omega arith;
+        few_loads = omega arith;
       };
       live = λ q. record { runs = refl; touches = λ i l. absurd (omega arith); next_touches = λ e. absurd (none-some _ e); next_serial = λ e. absurd (none-some _ e) };
     }
@@ -367,7 +369,7 @@ not_both (Replay b) r = refl
 not_halved : (ch : Chunk) (role : Role) → ch.halves ≡ halves role → replays role ≡ true → cond (is_fourth ch) (halved ch.limit) ch.limit ≡ ch.limit
 not_halved ch role e r = ap (λ (b : Bool). cond (b && eqb ch.squashes 3) (halved ch.limit) ch.limit) (e ∙ not_both role r)
 
-squash_held : (w : World) (k c : ℕ) (o : Option Flight) (h : Held) → GoodHeld w c h → GoodHeld (with_slot w k o) c (record h { chunk = squash h.chunk })
+squash_held : (w : World) (k c : ℕ) (o : Option Flight) (h : Held) → IsGoodHeld w c h → IsGoodHeld (with_slot w k o) c (record h { chunk = squash h.chunk })
 squash_held w k c o h good =
     let positive = good.chunk.closes.positive in
     record {
@@ -387,7 +389,7 @@ squash_held w k c o h good =
 abbrev tell_in : World → (slot core : ℕ) → Flight → World
 tell_in w k c f = with_slot w k (Some (tell f c))
 
-told_held : (w : World) (k c : ℕ) (f : Flight) (d : ℕ) (x : Held) → Good w → at w.slots k ≡ Some f → (d ≡ c → hits f.writes x.chunk.reads ≡ false) → at w.cores d ≡ Some x → GoodHeld (tell_in w k c f) d x
+told_held : (w : World) (k c : ℕ) (f : Flight) (d : ℕ) (x : Held) → IsGood w → at w.slots k ≡ Some f → (d ≡ c → hits f.writes x.chunk.reads ≡ false) → at w.cores d ≡ Some x → IsGoodHeld (tell_in w k c f) d x
 told_held w k c f d x good is free there =
     held-beside w (tell_in w k c f) d x
     (slot_beside w k (Some (tell f c)) d x (at_within w.slots k f is) (told_slot w k c f good is) (told_quiet w.slots k f c d x.chunk.sphere x.chunk.reads is free))
@@ -396,7 +398,7 @@ told_held w k c f d x good is free there =
 told_sizes : (w : World) (k c : ℕ) (f : Flight) → SameSizes w (tell_in w k c f)
 told_sizes w k c f = record { numbers = refl; spheres = refl; cores = refl; slots = length-set w.slots k (Some (tell f c)) }
 
-delivered_kept : (w : World) (k c : ℕ) (f : Flight) (held : Option Held) → Good w → at w.slots k ≡ Some f → at w.cores c ≡ held → meets_chunk (reads_of w held) (writes_of w held) f ≡ false → Kept w (went_on (tell_in w k c f) Reply.Delivered)
+delivered_kept : (w : World) (k c : ℕ) (f : Flight) (held : Option Held) → IsGood w → at w.slots k ≡ Some f → at w.cores c ≡ held → meets_chunk (reads_of w held) (writes_of w held) f ≡ false → Kept w (went_on (tell_in w k c f) Reply.Delivered)
 delivered_kept w k c f held good is there free =
     record {
       good = slot_good w k (Some (tell f c)) (at_within w.slots k f is) good (told_slot w k c f good is)
@@ -412,8 +414,8 @@ delivered_kept w k c f held good is there free =
     }
 
 -- core c is told, and what it holds changes
-told_good : (w : World) (k c : ℕ) (f : Flight) (o : Option Held) → Good w → at w.slots k ≡ Some f → ((x : Held) → o ≡ Some x → GoodHeld (tell_in w k c f) c x)
-    → ((h : Held) → o ≡ Some h → (d : ℕ) (g : Held) → d ≢ c → at w.cores d ≡ Some g → h.chunk.sphere ≡ g.chunk.sphere → h.thread ≡ g.thread → ⊥) → Good (with_core (tell_in w k c f) c o)
+told_good : (w : World) (k c : ℕ) (f : Flight) (o : Option Held) → IsGood w → at w.slots k ≡ Some f → ((x : Held) → o ≡ Some x → IsGoodHeld (tell_in w k c f) c x)
+    → ((h : Held) → o ≡ Some h → (d : ℕ) (g : Held) → d ≢ c → at w.cores d ≡ Some g → h.chunk.sphere ≡ g.chunk.sphere → h.thread ≡ g.thread → ⊥) → IsGood (with_core (tell_in w k c f) c o)
 told_good w k c f o good is new other =
     let within = at_within w.slots k f is in
     let s = told_slot w k c f good is in
@@ -424,21 +426,21 @@ told_good w k c f o good is new other =
       covered = λ j x e. elim (set-cases w.slots k j (Some (tell f c)) x e) [ inl p ↦ s.covered x p.1 | inr p ↦ good.covered j x p.1 ];
       flights = λ j x e. elim (set-cases w.slots k j (Some (tell f c)) x e) [ inl p ↦ s.flights x p.1 | inr p ↦ good.flights j x p.1 ];
       held = λ d x e. elim (set-cases w.cores c d o x e) [
-        | inl p ↦ held_there (tell_in w k c f) c d o x (subst (λ (n : ℕ). GoodHeld (tell_in w k c f) n x) (sym p.0) (new x p.1))
+        | inl p ↦ held_there (tell_in w k c f) c d o x (subst (λ (n : ℕ). IsGoodHeld (tell_in w k c f) n x) (sym p.0) (new x p.1))
         | inr p ↦ held_there (tell_in w k c f) c d o x (told_held w k c f d x good is (λ dc. absurd (p.0 dc)) p.1)
       ];
       alone = alone-set w.cores c o good.alone other;
     }
 
-squashed_good : (w : World) (k c : ℕ) (f : Flight) (held : Option Held) → Good w → at w.slots k ≡ Some f → at w.cores c ≡ held → Good (with_core (tell_in w k c f) c (squashed held))
+squashed_good : (w : World) (k c : ℕ) (f : Flight) (held : Option Held) → IsGood w → at w.slots k ≡ Some f → at w.cores c ≡ held → IsGood (with_core (tell_in w k c f) c (squashed held))
 squashed_good w k c f None good is there =
     told_good w k c f None good is (λ x e. absurd (none-some x e)) (λ h e. absurd (none-some h e))
 squashed_good w k c f (Some h) good is there =
     told_good w k c f (Some (record h { chunk = squash h.chunk })) good is
-    (λ x e. subst (GoodHeld (tell_in w k c f) c) (let q : record h { chunk = squash h.chunk } ≡ x = cc in q) (squash_held w k c (Some (tell f c)) h (good.held c h there)))
+    (λ x e. subst (IsGoodHeld (tell_in w k c f) c) (let q : record h { chunk = squash h.chunk } ≡ x = cc in q) (squash_held w k c (Some (tell f c)) h (good.held c h there)))
     (others-differ w c h (squash h.chunk) good there refl)
 
-squashed_kept : (w : World) (k c : ℕ) (f : Flight) (held : Option Held) → Good w → at w.slots k ≡ Some f → at w.cores c ≡ held → Kept w (went_on (with_core (tell_in w k c f) c (squashed held)) Reply.Squashed)
+squashed_kept : (w : World) (k c : ℕ) (f : Flight) (held : Option Held) → IsGood w → at w.slots k ≡ Some f → at w.cores c ≡ held → Kept w (went_on (with_core (tell_in w k c f) c (squashed held)) Reply.Squashed)
 squashed_kept w k c f held good is there =
     record {
       good = squashed_good w k c f held good is there;
@@ -448,7 +450,7 @@ squashed_kept w k c f held good is there =
       fits = tt;
     }
 
-deliver_slot_kept : (w : World) (c k : ℕ) (held : Option Held) (o : Option Flight) → at w.cores c ≡ held → at w.slots k ≡ o → Good w
+deliver_slot_kept : (w : World) (c k : ℕ) (held : Option Held) (o : Option Flight) → at w.cores c ≡ held → at w.slots k ≡ o → IsGood w
     → let d = deliver c (reads_of w held) (writes_of w held) o in Kept w (told (with_slot w k d.slot) c held d.reply)
 deliver_slot_kept w c k held None there is good = still-kept w _ (unchanged w k None is) refl refl good
 deliver_slot_kept w c k held (Some f) there is good =
@@ -460,6 +462,6 @@ deliver_slot_kept w c k held (Some f) there is good =
     (λ _. squashed_kept w k c f held good is there)
     (λ free. delivered_kept w k c f held good is there free))
 
-pub deliver-kept : (w : World) (c k : ℕ) → Good w → Kept w (delivering w c k)
+pub deliver-kept : (w : World) (c k : ℕ) → IsGood w → Kept w (delivering w c k)
 unfolding delivering
 deliver-kept w c k good = deliver_slot_kept w c k (at w.cores c) (at w.slots k) refl refl good

@@ -28,9 +28,10 @@ use Rattle.spec_engine.specs.Flights.{Flight}
 use Rattle.spec_protocol.specs.Moves.{move_chunk, do_what, do_at, do_move, do_if, ChunkFits, FitsChunk, FitsSerial, FitsRaise, FitsWhat, FitsAt, FitsIf}
 use Rattle.spec_protocol.specs.Promises.{CommitsAreSerial}
 use Rattle.spec_protocol.proofs.Moving.{get-set_other, get-set_same}
-use Rattle.spec_protocol.proofs.Invariant.{point_for, sphere_of_point, IsOf, PointOf, PointIs, Good, shown-get}
+use Rattle.spec_protocol.proofs.Invariant.{point_for, sphere_of_point, IsOf, PointOf, PointIs, shown-get}
 use Rattle.spec_protocol.proofs.OnCounts.{act-untold}
 use Rattle.spec_protocol.proofs.Schedules.{happens-kept, start-good, start-shown}
+use Rattle.spec_protocol.specs.Invariants.{IsGood}
 
 -- ---- in a replayed sphere
 
@@ -433,7 +434,7 @@ points_kept : (w : World) (e : Event) → (happens w e).world.points ≡ with_po
 unfolding happens
 points_kept w e = refl
 
-serial_so : (x : Whole) (w : World) (e : Event) → Good w → SerialSo x w → SerialSo x (happens w e).world
+serial_so : (x : Whole) (w : World) (e : Event) → IsGood w → SerialSo x w → SerialSo x (happens w e).world
 serial_so x w e good s =
     let a = happens w e in
     let k = happens-kept w e good in
@@ -445,7 +446,7 @@ serial_so x w e good s =
       possible = subst (CanDoAll x) (sym points) (with_point_can x w.points a.point s.possible f.can);
     }
 
-after_so : (x : Whole) (w : World) (es : List Event) → Good w → SerialSo x w → SerialSo x (world_after w es)
+after_so : (x : Whole) (w : World) (es : List Event) → IsGood w → SerialSo x w → SerialSo x (world_after w es)
 after_so x w [] good s = s
 after_so x w (e ∷ es) good s = after_so x (happens w e).world es (happens-kept w e good).good (serial_so x w e good s)
 

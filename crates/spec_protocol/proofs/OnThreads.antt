@@ -19,14 +19,14 @@ use Rattle.spec_protocol.specs.Placing.{unless_elsewhere, place_thread, placing,
 use Rattle.spec_protocol.specs.Serial.{do_raise}
 use Rattle.spec_protocol.specs.Shown.{flying, shown, shown_of}
 use Rattle.spec_protocol.specs.Moves.{do_at, do_move, FitsRaise, FitsAt, Fits}
-use Rattle.spec_protocol.proofs.Current.{GoodChunk}
 use Rattle.spec_protocol.proofs.Moving.{get-set_other}
 use Rattle.spec_protocol.proofs.Relaying.{over}
-use Rattle.spec_protocol.proofs.Invariant.{current, GoodHeld, Good, SameSizes, Kept, point-made, sphere-same, shown-set, still-kept}
+use Rattle.spec_protocol.proofs.Invariant.{SameSizes, Kept, point-made, sphere-same, shown-set, still-kept}
 use Rattle.spec_protocol.proofs.OnCores.{set-cases, alone-set, held_there, core-good, core-kept, branch}
 use Rattle.spec_protocol.proofs.Landing.{begun-begins, begun-held, elsewhere-held}
 use Rattle.spec_protocol.proofs.Granting.{unflown}
 use Rattle.spec_protocol.proofs.OnAsks.{shown_at, shown_over}
+use Rattle.spec_protocol.specs.Invariants.{IsGoodChunk, current, IsGoodHeld, IsGood}
 
 -- a sphere with a thread is one of the spheres
 inside : (w : World) (i k : ℕ) (t : Parts) → slice_get (sphere_at w i).threads k ≡ Some t → i < length w.spheres
@@ -43,7 +43,7 @@ nobody w i k none d g there sphere thread =
 
 -- ---- Place
 
-placed_good : (w : World) (c i k : ℕ) → Good w → i < length w.spheres → ((d : ℕ) (g : Held) → d ≢ c → at w.cores d ≡ Some g → g.chunk.sphere ≡ i → g.thread ≡ k → ⊥) → Good (with_core w c (begun w.numbers i k (sphere_at w i)))
+placed_good : (w : World) (c i k : ℕ) → IsGood w → i < length w.spheres → ((d : ℕ) (g : Held) → d ≢ c → at w.cores d ≡ Some g → g.chunk.sphere ≡ i → g.thread ≡ k → ⊥) → IsGood (with_core w c (begun w.numbers i k (sphere_at w i)))
 placed_good w c i k good within free =
     core-good w c (begun w.numbers i k (sphere_at w i)) good
     (λ h e. begun-held w i k c (sphere_at w i) h within good.standard refl (begun-begins w.numbers i k (sphere_at w i) h e))
@@ -51,13 +51,13 @@ placed_good w c i k good within free =
     let b = begun-begins w.numbers i k (sphere_at w i) h e in
     free d g ne there (sym sphere ∙ ap (λ (x : Held). x.chunk.sphere) (sym b.is)) (sym thread ∙ ap (λ (x : Held). x.thread) (sym b.is)))
 
-elsewhere_kept : (w : World) (c i k : ℕ) (t : Parts) (o : Option ℕ) → Good w → slice_get (sphere_at w i).threads k ≡ Some t → core_of w i k ≡ o → Kept w (unless_elsewhere o w (went_on (with_core w c (begun w.numbers i k (sphere_at w i))) Reply.Placed))
+elsewhere_kept : (w : World) (c i k : ℕ) (t : Parts) (o : Option ℕ) → IsGood w → slice_get (sphere_at w i).threads k ≡ Some t → core_of w i k ≡ o → Kept w (unless_elsewhere o w (went_on (with_core w c (begun w.numbers i k (sphere_at w i))) Reply.Placed))
 elsewhere_kept w c i k t None good is none =
     core-kept w c (begun w.numbers i k (sphere_at w i)) _ refl refl refl
     (placed_good w c i k good (inside w i k t is) (λ d g ne there sphere thread. nobody w i k none d g there sphere thread))
 elsewhere_kept w c i k t (Some d) good is some = still-kept w (still w (Reply.Elsewhere d)) refl refl refl good
 
-place_thread_kept : (w : World) (c i k : ℕ) (o : Option Parts) → Good w → slice_get (sphere_at w i).threads k ≡ o → Kept w (place_thread w c i k o)
+place_thread_kept : (w : World) (c i k : ℕ) (o : Option Parts) → IsGood w → slice_get (sphere_at w i).threads k ≡ o → Kept w (place_thread w c i k o)
 place_thread_kept w c i k None good is = still-kept w (still w Reply.NoThread) refl refl refl good
 place_thread_kept w c i k (Some t) good is =
     let placed = unless_elsewhere (core_of w i k) w (went_on (with_core w c (begun w.numbers i k (sphere_at w i))) Reply.Placed) in
@@ -65,7 +65,7 @@ place_thread_kept w c i k (Some t) good is =
     (λ _. elsewhere_kept w c i k t (core_of w i k) good is refl)
     (λ _. still-kept w (still w Reply.Ended) refl refl refl good)
 
-pub place-kept : (w : World) (c i k : ℕ) → Good w → Kept w (placing w c i k)
+pub place-kept : (w : World) (c i k : ℕ) → IsGood w → Kept w (placing w c i k)
 unfolding placing
 place-kept w c i k good = place_thread_kept w c i k (slice_get (sphere_at w i).threads k) good refl
 
@@ -83,7 +83,7 @@ raised_role k n value Plain = (refl, refl, λ s j u. refl, refl)
 raised_role k n value (Record log) = (refl, refl, λ s j u. refl, refl)
 raised_role k n value (Replay b) = (refl, refl, λ s j u. refl, refl)
 
-raised_here : (w : World) (k value : ℕ) (t : Parts) (d : ℕ) (x : Held) → x.chunk.sphere < length w.spheres → x.thread ≢ k → GoodHeld w d x → GoodHeld (with_sphere w x.chunk.sphere (raised k value t (sphere_at w x.chunk.sphere))) d x
+raised_here : (w : World) (k value : ℕ) (t : Parts) (d : ℕ) (x : Held) → x.chunk.sphere < length w.spheres → x.thread ≢ k → IsGoodHeld w d x → IsGoodHeld (with_sphere w x.chunk.sphere (raised k value t (sphere_at w x.chunk.sphere))) d x
 unfolding raised
 raised_here w k value t d x within ne good =
     let i = x.chunk.sphere in
@@ -106,20 +106,20 @@ raised_here w k value t d x within ne good =
             most = subst (λ (n : ℕ). x.chunk.limit ≤ n) (sym limits) fit.most;
             replayed = λ h. fit.replayed (sym r.1 ∙ ap (λ (y : Sphere). replays y.role) (sym there) ∙ h) ∙ sym limits;
           };
-      chunk = subst (λ (m : List ℕ). GoodChunk w.numbers.buffer w.numbers.signature w.slots d m x.chunk) (ap (λ (y : Sphere). lays y.memory (flying i w.slots)) (sym there)) good.chunk;
+      chunk = subst (λ (m : List ℕ). IsGoodChunk w.numbers.buffer w.numbers.signature w.slots d m x.chunk) (ap (λ (y : Sphere). lays y.memory (flying i w.slots)) (sym there)) good.chunk;
     }
 
-raised_held : (w : World) (i k value : ℕ) (t : Parts) (d : ℕ) (x : Held) → Good w → i < length w.spheres → (x.chunk.sphere ≡ i → x.thread ≢ k) → GoodHeld w d x → GoodHeld (with_sphere w i (raised k value t (sphere_at w i))) d x
+raised_held : (w : World) (i k value : ℕ) (t : Parts) (d : ℕ) (x : Held) → IsGood w → i < length w.spheres → (x.chunk.sphere ≡ i → x.thread ≢ k) → IsGoodHeld w d x → IsGoodHeld (with_sphere w i (raised k value t (sphere_at w i))) d x
 raised_held w i k value t d x good within other held =
     let f : Flight = record { sphere = i; words = []; writes = nothing w.numbers.signature; told = 0 } in
     elim (cases_eq x.chunk.sphere i) [
-      | inl same ↦ subst (λ (n : ℕ). n < length w.spheres → GoodHeld (with_sphere w n (raised k value t (sphere_at w n))) d x) same (λ l. raised_here w k value t d x l (other same) held) within
+      | inl same ↦ subst (λ (n : ℕ). n < length w.spheres → IsGoodHeld (with_sphere w n (raised k value t (sphere_at w n))) d x) same (λ l. raised_here w k value t d x l (other same) held) within
       | inr ne ↦ elsewhere-held w i (raised k value t (sphere_at w i)) f w.slots w.cores w.devices d x ne (unflown w i f good refl) held
     ]
 
 -- each chunk but the thread's goes on, and this one is as it should be
-raised_good : (w : World) (i k value : ℕ) (t : Parts) (c : ℕ) (o : Option Held) → Good w → i < length w.spheres → ((d : ℕ) (x : Held) → d ≢ c → at w.cores d ≡ Some x → x.chunk.sphere ≡ i → x.thread ≢ k)
-    → ((h : Held) → o ≡ Some h → GoodHeld (with_sphere w i (raised k value t (sphere_at w i))) c h × (h.chunk.sphere ≡ i) × (h.thread ≡ k)) → Good (with_core (with_sphere w i (raised k value t (sphere_at w i))) c o)
+raised_good : (w : World) (i k value : ℕ) (t : Parts) (c : ℕ) (o : Option Held) → IsGood w → i < length w.spheres → ((d : ℕ) (x : Held) → d ≢ c → at w.cores d ≡ Some x → x.chunk.sphere ≡ i → x.thread ≢ k)
+    → ((h : Held) → o ≡ Some h → IsGoodHeld (with_sphere w i (raised k value t (sphere_at w i))) c h × (h.chunk.sphere ≡ i) × (h.thread ≡ k)) → IsGood (with_core (with_sphere w i (raised k value t (sphere_at w i))) c o)
 raised_good w i k value t c o good within others new =
     let q = raised k value t (sphere_at w i) in
     let v = with_sphere w i q in
@@ -130,7 +130,7 @@ raised_good w i k value t c o good within others new =
       covered = good.covered;
       flights = λ j x e. subst (λ (n : ℕ). x.sphere < n) (sym (length-set w.spheres i q)) (good.flights j x e);
       held = λ d x e. elim (set-cases w.cores c d o x e) [
-        | inl p ↦ held_there v c d o x (subst (λ (n : ℕ). GoodHeld v n x) (sym p.0) (new x p.1).0)
+        | inl p ↦ held_there v c d o x (subst (λ (n : ℕ). IsGoodHeld v n x) (sym p.0) (new x p.1).0)
         | inr p ↦ held_there v c d o x (raised_held w i k value t d x good within (others d x p.0 p.1) (good.held d x p.1))
       ];
       alone = alone-set w.cores c o good.alone
@@ -138,7 +138,7 @@ raised_good w i k value t c o good within others new =
     }
 
 -- where no core runs the thread
-raised_alone : (w : World) (i k value : ℕ) (t : Parts) → Good w → i < length w.spheres → core_of w i k ≡ None → Good (with_sphere w i (raised k value t (sphere_at w i)))
+raised_alone : (w : World) (i k value : ℕ) (t : Parts) → IsGood w → i < length w.spheres → core_of w i k ≡ None → IsGood (with_sphere w i (raised k value t (sphere_at w i)))
 raised_alone w i k value t good within none =
     let q = raised k value t (sphere_at w i) in
     record {
@@ -152,7 +152,7 @@ raised_alone w i k value t good within none =
     }
 
 -- the core that is found runs the thread, and no other one does
-only_core : (w : World) (i k c : ℕ) → Good w → core_of w i k ≡ Some c → (d : ℕ) (x : Held) → d ≢ c → at w.cores d ≡ Some x → x.chunk.sphere ≡ i → x.thread ≢ k
+only_core : (w : World) (i k c : ℕ) → IsGood w → core_of w i k ≡ Some c → (d : ℕ) (x : Held) → d ≢ c → at w.cores d ≡ Some x → x.chunk.sphere ≡ i → x.thread ≢ k
 only_core w i k c good some d x ne there same thread =
     let f = first_some (runs i k) w.cores c some in
     let p = and_parts (eqb f.0.chunk.sphere i) (eqb f.0.thread k) f.2 in
@@ -161,7 +161,7 @@ only_core w i k c good some d x ne there same thread =
 abbrev raised_world : World → (i k value : ℕ) → Parts → World
 raised_world w i k value t = with_sphere w i (raised k value t (sphere_at w i))
 
-renewed_good : (w : World) (i k value : ℕ) (t : Parts) (o : Option ℕ) → Good w → i < length w.spheres → core_of w i k ≡ o → Good (with_renewed (raised_world w i k value t) i k o)
+renewed_good : (w : World) (i k value : ℕ) (t : Parts) (o : Option ℕ) → IsGood w → i < length w.spheres → core_of w i k ≡ o → IsGood (with_renewed (raised_world w i k value t) i k o)
 renewed_good w i k value t None good within is = raised_alone w i k value t good within is
 renewed_good w i k value t (Some c) good within is =
     let q = raised k value t (sphere_at w i) in
@@ -198,7 +198,7 @@ raise_fits w i k value t within r =
     subst (FitsAt w.numbers w.devices (record { moment = moment w; sphere = i; what = OfRaise k value })) (sym (shown_at w i within ∙ ap Some (shown_over w i)))
     (subst (FitsRaise (over (current w i) (sphere_at w i))) (sym r.start) (record { live = r.live; takes = r.takes }))
 
-raise_in_kept : (w : World) (i k value : ℕ) (t : Parts) → Good w → Raises w i k value t → Kept w (raise_in w i k value t)
+raise_in_kept : (w : World) (i k value : ℕ) (t : Parts) → IsGood w → Raises w i k value t → Kept w (raise_in w i k value t)
 raise_in_kept w i k value t good r =
     let within = inside w i k t r.start in
     record {
@@ -213,7 +213,7 @@ raise_in_kept w i k value t good r =
 taken_by : (t : Parts) → is_live t ≡ true → has_handler t ≡ true → t.mask ≡ false → takes_interrupt t ≡ true
 taken_by t live handler mask = and_from _ _ (and_from _ _ live handler) (ap not mask)
 
-raise_thread_kept : (w : World) (i k value : ℕ) (o : Option Parts) → Good w → slice_get (sphere_at w i).threads k ≡ o → replays (sphere_at w i).role ≡ false → Kept w (raise_thread w i k value o)
+raise_thread_kept : (w : World) (i k value : ℕ) (o : Option Parts) → IsGood w → slice_get (sphere_at w i).threads k ≡ o → replays (sphere_at w i).role ≡ false → Kept w (raise_thread w i k value o)
 raise_thread_kept w i k value None good is live = still-kept w (still w Reply.NoThread) refl refl refl good
 raise_thread_kept w i k value (Some t) good is live =
     let raised_ = raise_in w i k value t in
@@ -227,7 +227,7 @@ raise_thread_kept w i k value (Some t) good is live =
     (λ _. still-kept w (still w Reply.NoHandler) refl refl refl good))
     (λ _. still-kept w (still w Reply.Ended) refl refl refl good)
 
-pub raise-kept : (w : World) (i k value : ℕ) → Good w → Kept w (raising w i k value)
+pub raise-kept : (w : World) (i k value : ℕ) → IsGood w → Kept w (raising w i k value)
 unfolding raising
 raise-kept w i k value good =
     let p = sphere_at w i in

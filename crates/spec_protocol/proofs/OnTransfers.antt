@@ -23,15 +23,17 @@ use Rattle.spec_protocol.specs.Shown.{flying, shown_of}
 use Rattle.spec_protocol.specs.Moves.{do_at, do_move, FitsAt, Fits}
 use Rattle.spec_protocol.proofs.Laying.{AllLack, AllLack_flip}
 use Rattle.spec_protocol.proofs.Slots.{flown-flew}
-use Rattle.spec_protocol.proofs.Covering.{CoversAll, bits-signed, CoversAll-signed, apart-covered, flying-all_lack, Covered}
+use Rattle.spec_protocol.proofs.Covering.{bits-signed, CoversAll-signed, apart-covered, flying-all_lack}
 use Rattle.spec_protocol.proofs.Moving.{Divergence}
 use Rattle.spec_protocol.proofs.Relaying.{relaid, dma-relaid}
 use Rattle.spec_protocol.proofs.Transfers.{DmaMoves, dma-lives, dma-moves}
-use Rattle.spec_protocol.proofs.Invariant.{current, Good, Kept, point-made, point-other, still-kept}
+use Rattle.spec_protocol.proofs.Invariant.{Kept, point-made, point-other, still-kept}
 use Rattle.spec_protocol.proofs.OnCores.{branch}
 use Rattle.spec_protocol.proofs.Landing.{landed-held, elsewhere-held, moved-shown}
 use Rattle.spec_protocol.proofs.Granting.{stopped-good, stopped-shown}
 use Rattle.spec_protocol.proofs.OnAsks.{shown_at, shown_over, denied_kept, turn-kept}
+use Rattle.spec_protocol.specs.Currency.{CoversAll}
+use Rattle.spec_protocol.specs.Invariants.{IsCovered, current, IsGood}
 
 -- sphere i moves by v, whose stores meet no flight
 record Transfers (w : World) (i : ℕ) (v : Moved) : Type 0 where
@@ -49,14 +51,14 @@ marks_of w i v = signed i v.words (nothing w.numbers.signature)
 abbrev dma_flight : World → (i : ℕ) → Moved → Flight
 dma_flight w i v = record { sphere = i; words = v.words; writes = marks_of w i v; told = 0 }
 
-dma_covered : (w : World) (i : ℕ) (v : Moved) → Covered w.numbers.signature (dma_flight w i v)
+dma_covered : (w : World) (i : ℕ) (v : Moved) → IsCovered w.numbers.signature (dma_flight w i v)
 dma_covered w i v =
     record {
       size = bits-signed i v.words (nothing w.numbers.signature);
       words = CoversAll-signed i v.words (nothing w.numbers.signature);
     }
 
-dma_lacks : (w : World) (i : ℕ) (v : Moved) → Good w → first_slot (meets_chunk (marks_of w i v) (marks_of w i v)) w.slots ≡ None → AllLack v.words (flying i w.slots)
+dma_lacks : (w : World) (i : ℕ) (v : Moved) → IsGood w → first_slot (meets_chunk (marks_of w i v) (marks_of w i v)) w.slots ≡ None → AllLack v.words (flying i w.slots)
 dma_lacks w i v good none =
     let g = marks_of w i v in
     let c = dma_covered w i v in
@@ -84,7 +86,7 @@ dma_fits w i v t =
 
 -- ---- the event
 
-done_good : (w : World) (i : ℕ) (v : Moved) → Good w → Transfers w i v → is_full w.slots ≡ false → first_slot (meets_chunk (marks_of w i v) (marks_of w i v)) w.slots ≡ None → Good (dma_done w i (marks_of w i v) v).world
+done_good : (w : World) (i : ℕ) (v : Moved) → IsGood w → Transfers w i v → is_full w.slots ≡ false → first_slot (meets_chunk (marks_of w i v) (marks_of w i v)) w.slots ≡ None → IsGood (dma_done w i (marks_of w i v) v).world
 done_good w i v good t free none =
     let moves = moves_of w i v t in
     let f = dma_flight w i v in
@@ -100,7 +102,7 @@ done_good w i v good t free none =
       ];
       covered = λ k x e. elim (flew.stood k x e) [
         | inl p ↦ good.covered k x p
-        | inr p ↦ subst (Covered w.numbers.signature) (sym p) (dma_covered w i v)
+        | inr p ↦ subst (IsCovered w.numbers.signature) (sym p) (dma_covered w i v)
       ];
       flights = λ k x e. subst (λ (n : ℕ). x.sphere < n) (sym count) (elim (flew.stood k x e) [
         | inl p ↦ good.flights k x p
@@ -127,7 +129,7 @@ done_good w i v good t free none =
       alone = good.alone;
     }
 
-done_kept : (w : World) (i : ℕ) (v : Moved) → Good w → Transfers w i v → is_full w.slots ≡ false → first_slot (meets_chunk (marks_of w i v) (marks_of w i v)) w.slots ≡ None → Kept w (dma_done w i (marks_of w i v) v)
+done_kept : (w : World) (i : ℕ) (v : Moved) → IsGood w → Transfers w i v → is_full w.slots ≡ false → first_slot (meets_chunk (marks_of w i v) (marks_of w i v)) w.slots ≡ None → Kept w (dma_done w i (marks_of w i v) v)
 done_kept w i v good t free none =
     let moves = moves_of w i v t in
     let flew = flown-flew i v.words (marks_of w i v) 0 w.slots free (good.apart i) moves.apart (dma_lacks w i v good none) in
@@ -139,7 +141,7 @@ done_kept w i v good t free none =
       fits = dma_fits w i v t;
     }
 
-transfer_kept : (w : World) (i : ℕ) (v : Moved) → Good w → Transfers w i v → Kept w (transfer w i v)
+transfer_kept : (w : World) (i : ℕ) (v : Moved) → IsGood w → Transfers w i v → Kept w (transfer w i v)
 unfolding transfer
 transfer_kept w i v good t =
     let g = marks_of w i v in
@@ -149,7 +151,7 @@ transfer_kept w i v good t =
     (λ _. still-kept w (still w Reply.WindowFull) refl refl refl good)
     (λ free. denied_kept w done (first_slot (meets_chunk g g) w.slots) good (λ none. done_kept w i v good t free none))
 
-with_kept : (w : World) (i : ℕ) (v : Moved) (o : Outcome) → v.outcome ≡ o → Good w → Transfers w i v → Kept w (dma_with w i v o)
+with_kept : (w : World) (i : ℕ) (v : Moved) (o : Outcome) → v.outcome ≡ o → IsGood w → Transfers w i v → Kept w (dma_with w i v o)
 with_kept w i v Granted is good t = transfer_kept w i v good t
 with_kept w i v Piece is good t = transfer_kept w i v good t
 with_kept w i v (Diverged j why) is good t =
@@ -173,11 +175,11 @@ dma_inside w i v e =
       | inr past ↦ absurd (none-some v (ap (λ (p : Sphere). dma_in p.role w.devices p) (sym (get_or_past w.spheres i no_sphere past)) ∙ e))
     ]
 
-if_kept : (w : World) (i : ℕ) (o : Option Moved) → Good w → is_stopped (sphere_at w i).role ≡ false → turn_before_dma (sphere_at w i).role ≡ None → dma_moved w.devices (sphere_at w i) ≡ o → Kept w (dma_if w i o)
+if_kept : (w : World) (i : ℕ) (o : Option Moved) → IsGood w → is_stopped (sphere_at w i).role ≡ false → turn_before_dma (sphere_at w i).role ≡ None → dma_moved w.devices (sphere_at w i) ≡ o → Kept w (dma_if w i o)
 if_kept w i None good going turn is = still-kept w (still w Reply.NoDma) refl refl refl good
 if_kept w i (Some v) good going turn is = with_kept w i v v.outcome refl good (record { within = dma_inside w i v is; going = going; turn = turn; is = is })
 
-pub dma-kept : (w : World) (i : ℕ) → Good w → Kept w (transferring w i)
+pub dma-kept : (w : World) (i : ℕ) → IsGood w → Kept w (transferring w i)
 unfolding transferring
 dma-kept w i good =
     let p = sphere_at w i in

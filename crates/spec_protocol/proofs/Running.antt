@@ -1,5 +1,5 @@
 -- Instructions and runs look at memory only by the words that they fetch and load.
-use Rattle.std.proofs.Common.{◌≡◌, ℕ, zero, suc, ◌<◌, ◌/◌, Bool, true, false, List, length, Option, Some, None, refl, sym, ap, ◌∙◌, subst, arith}
+use Rattle.std.proofs.Common.{◌≡◌, ℕ, zero, suc, ◌/◌, Bool, true, false, List, length, Option, Some, None, refl, sym, ap, ◌∙◌, subst, arith}
 use Rattle.std.specs.Prelude.{IsSome}
 use Rattle.spec_isa.specs.declared.thread.Parts.{Parts}
 use Rattle.spec_isa.specs.declared.thread.Load.{Load}
@@ -8,17 +8,11 @@ use Rattle.spec_isa.specs.Words.{Stored, lays, read, is_inside}
 use Rattle.spec_isa.specs.Instruction.{Outcome, Next, Serial, one, unless, value_at, outcome_with, serial_of, loads_of, next_of, load_of, store_of}
 use Rattle.spec_isa.specs.Runs.{Run, followed, more, run}
 use Rattle.spec_kernel.specs.Needs.{fetched, next_kind}
-use Rattle.spec_engine.specs.declared.answers.How.{How}
-use Rattle.spec_engine.specs.Signatures.{line, covers}
 use Rattle.spec_engine.specs.Chunks.{Chunk}
 use Rattle.spec_protocol.proofs.Laying.{Agree, Agree-lays, Agree-read}
+use Rattle.spec_protocol.specs.Currency.{Touches, RunTouches, seen_by, IsCurrent}
 
 -- ---- one instruction
-
--- the words that the next instruction fetches and loads are seen
-pub record Touches (seen : ℕ → Bool) (t : Parts) (m : List ℕ) : Type 0 where
-  pub fetch : is_inside (length m) t.pc ≡ true → seen (t.pc / 4) ≡ true
-  pub load : serial_of t (fetched t m) (length m) ≡ None → (a : ℕ) → loads_of t (fetched t m) ≡ Some a → seen a ≡ true
 
 pub outside_serial : (t : Parts) (f size : ℕ) → is_inside size t.pc ≡ false → serial_of t f size ≡ Some (Kind.Fault 1)
 unfolding serial_of
@@ -108,10 +102,6 @@ Touches_more seen more_seen t m more_ touches =
 
 -- ---- a run
 
--- what the first k instructions of a run look at is seen
-abbrev pub RunTouches : (ℕ → Bool) → List ℕ → Parts → ℕ → Type 0
-RunTouches seen m t k = (i : ℕ) → i < k → Touches seen (run m t i).thread (lays m (run m t i).words)
-
 pub run_local : (seen : ℕ → Bool) (m n : List ℕ) (t : Parts) (k : ℕ) → Agree seen m n → RunTouches seen m t k → run n t k ≡ run m t k
 run_local seen m n t zero g touches = refl
 run_local seen m n t (suc k) g touches =
@@ -126,19 +116,7 @@ RunTouches_local seen m n t k g touches i l =
 
 -- ---- a chunk
 
--- whether the chunk's reads cover a word
-abbrev pub seen_by : Chunk → ℕ → Bool
-seen_by ch a = covers ch.reads (line ch.sphere a)
-
--- On this memory the chunk's instructions, from its start, give what it has, its reads cover what they fetch and load, and
--- where it was closed for a serial instruction, that comes next
-pub record Live (m : List ℕ) (ch : Chunk) : Type 0 where
-  pub runs : run m ch.start ch.done.n ≡ ch.done
-  pub touches : RunTouches (seen_by ch) m ch.start ch.done.n
-  pub next_touches : ch.closed ≡ Some How.Serial → Touches (seen_by ch) ch.done.thread (lays m ch.done.words)
-  pub next_serial : ch.closed ≡ Some How.Serial → IsSome (next_kind ch.done.thread (lays m ch.done.words))
-
-pub Live_local : (m n : List ℕ) (ch : Chunk) → Agree (seen_by ch) m n → Live m ch → Live n ch
+pub Live_local : (m n : List ℕ) (ch : Chunk) → Agree (seen_by ch) m n → IsCurrent m ch → IsCurrent n ch
 Live_local m n ch g live =
     let later : Agree (seen_by ch) (lays m ch.done.words) (lays n ch.done.words) = Agree-lays (seen_by ch) m n ch.done.words g in
     record {

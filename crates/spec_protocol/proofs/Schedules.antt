@@ -6,22 +6,24 @@ use Rattle.spec_engine.specs.Flights.{Flight, at}
 use Rattle.spec_protocol.specs.declared.event.Event.{Event}
 use Rattle.spec_protocol.specs.Spheres.{Sphere, no_sphere}
 use Rattle.spec_protocol.specs.World.{Numbers, Held, World, Move, After, begun, sphere_at}
-use Rattle.spec_protocol.specs.Machine.{Setup, first_cores, world_of, core_no, sphere_no, slot_no, act, kept, happens, world_after, with_move, moves}
+use Rattle.spec_protocol.specs.Machine.{Setup, first_cores, world_of, core_no, sphere_no, slot_no, act, kept, happens, world_after, with_move, moves, sphere_of}
 use Rattle.spec_protocol.specs.Serial.{Whole, whole_of}
 use Rattle.spec_protocol.specs.Shown.{flying, shown, shown_from, shown_of}
 use Rattle.spec_protocol.specs.Moves.{do_if, do_moves, FitsIf, FitAll}
-use Rattle.spec_protocol.specs.Promises.{IsSetup, MovesAreSerial}
-use Rattle.spec_protocol.proofs.Invariant.{GoodHeld, Good, Kept}
+use Rattle.spec_protocol.specs.Promises.{IsSetup, MovesAreSerial, InvariantsHold, SizesAreKept}
+use Rattle.spec_protocol.proofs.Invariant.{Kept, SameSizes, same_sizes}
 use Rattle.spec_protocol.proofs.OnCores.{step-kept, cut-kept}
 use Rattle.spec_protocol.proofs.OnFlights.{drain-kept, deliver-kept, retire-kept}
 use Rattle.spec_protocol.proofs.Landing.{begun-begins, begun-held}
 use Rattle.spec_protocol.proofs.OnAsks.{ask-kept}
 use Rattle.spec_protocol.proofs.OnThreads.{place-kept, raise-kept}
 use Rattle.spec_protocol.proofs.OnTransfers.{dma-kept}
+use Rattle.spec_protocol.specs.Invariants.{IsGoodHeld, IsGood}
+use Rattle.std.proofs.lemmas.List.{length-replicate, length-map}
 
 -- ---- one event
 
-act_kept : (w : World) (e : Event) → Good w → Kept w (act w e)
+act_kept : (w : World) (e : Event) → IsGood w → Kept w (act w e)
 unfolding act
 act_kept w (Event.Step c) good = step-kept w (core_no w c) good
 act_kept w (Event.Cut c) good = cut-kept w (core_no w c) good
@@ -34,11 +36,11 @@ act_kept w (Event.Raise i k value) good = raise-kept w (sphere_no w i) k value g
 act_kept w (Event.Dma i) good = dma-kept w (sphere_no w i) good
 
 -- counts and points are no part of what is kept
-held_counted : (a : After) (c : ℕ) (h : Held) → GoodHeld a.world c h → GoodHeld (kept a) c h
+held_counted : (a : After) (c : ℕ) (h : Held) → IsGoodHeld a.world c h → IsGoodHeld (kept a) c h
 held_counted a c h g =
     record { sphere = g.sphere; start = g.start; lives = g.lives; halving = g.halving; limit = g.limit; chunk = g.chunk }
 
-good_counted : (a : After) → Good a.world → Good (kept a)
+good_counted : (a : After) → IsGood a.world → IsGood (kept a)
 good_counted a g =
     record {
       buffer = g.buffer;
@@ -50,7 +52,7 @@ good_counted a g =
       alone = g.alone;
     }
 
-pub happens-kept : (w : World) (e : Event) → Good w → Kept w (happens w e)
+pub happens-kept : (w : World) (e : Event) → IsGood w → Kept w (happens w e)
 unfolding happens
 happens-kept w e good =
     let k = act_kept w e good in
@@ -91,7 +93,7 @@ first_sphere z n c ps h e =
     let k : 0 + c ≡ c = omega arith in
     ap (λ (x : Held). x.chunk.sphere) (sym b.is) ∙ k
 
-pub start-good : (s : Setup) → IsSetup s → Good (world_of s)
+pub start-good : (s : Setup) → IsSetup s → IsGood (world_of s)
 start-good s is =
     let w = world_of s in
     record {
@@ -118,7 +120,7 @@ start-shown s = (λ j. record { spheres = shown_itself s.window 0 (world_of s).s
 
 -- ---- schedules
 
-pub after-good : (w : World) (es : List Event) → Good w → Good (world_after w es)
+pub after-good : (w : World) (es : List Event) → IsGood w → IsGood (world_after w es)
 after-good w [] good = good
 after-good w (e ∷ es) good = after-good (happens w e).world es (happens-kept w e good).good
 
@@ -134,7 +136,7 @@ record Serial (w : World) (es : List Event) : Type 0 where
   same : shown_of (world_after w es) ≡ do_moves w.numbers (shown_of w) (moves w es)
   possible : FitAll w.numbers (shown_of w) (moves w es)
 
-moves_serial : (w : World) (es : List Event) → Good w → Serial w es
+moves_serial : (w : World) (es : List Event) → IsGood w → Serial w es
 moves_serial w [] good = record { same = refl; possible = tt }
 moves_serial w (e ∷ es) good =
     let a = happens w e in
@@ -153,4 +155,39 @@ moves_are s es is =
     record {
       same = r.same ∙ ap (λ (x : Whole). do_moves s.numbers x (moves (world_of s) es)) (start-shown s);
       possible = subst (λ (x : Whole). FitAll s.numbers x (moves (world_of s) es)) (start-shown s) r.possible;
+    }
+
+pub invariants_hold : InvariantsHold
+invariants_hold s es is = after-good (world_of s) es (start-good s is)
+
+-- ---- the numbers
+
+abbrev both_sizes : (w v u : World) → SameSizes w v → SameSizes v u → SameSizes w u
+both_sizes w v u a b =
+    record {
+      numbers = b.numbers ∙ a.numbers;
+      spheres = b.spheres ∙ a.spheres;
+      cores = b.cores ∙ a.cores;
+      slots = b.slots ∙ a.slots;
+    }
+
+after_sizes : (w : World) (es : List Event) → IsGood w → SameSizes w (world_after w es)
+after_sizes w [] good = same_sizes w
+after_sizes w (e ∷ es) good =
+    let k = happens-kept w e good in
+    both_sizes w (happens w e).world (world_after w (e ∷ es)) k.sizes (after_sizes (happens w e).world es k.good)
+
+first_length : (z : Numbers) (i n : ℕ) (ps : List Sphere) → length (first_cores z i n ps) ≡ n
+first_length z i zero ps = refl
+first_length z i (suc n) [] = ap suc (first_length z (suc i) n [])
+first_length z i (suc n) (p ∷ ps) = ap suc (first_length z (suc i) n ps)
+
+pub sizes_kept : SizesAreKept
+sizes_kept s es is =
+    let a = after_sizes (world_of s) es (start-good s is) in
+    record {
+      numbers = a.numbers;
+      spheres = a.spheres ∙ length-map s.spheres (sphere_of s.numbers.chunk);
+      cores = a.cores ∙ first_length s.numbers 0 s.cores (world_of s).spheres;
+      slots = a.slots ∙ length-replicate s.window None;
     }

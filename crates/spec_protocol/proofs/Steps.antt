@@ -1,6 +1,6 @@
 -- What a step of a chunk keeps, beside its run: its signatures, how its size stands to its limit, and that the words which
 -- its instruction looks at are marked and held up by no told flight.
-use Rattle.std.proofs.Common.{◌≡◌, ◌≢◌, ℕ, suc, ◌<◌, ◌≤◌, ◌/◌, true, false, eqb, List, length, Option, Some, None, refl, sym, ap, ◌∙◌, subst, arith}
+use Rattle.std.proofs.Common.{◌≡◌, ◌≢◌, ℕ, suc, ◌≤◌, ◌/◌, true, false, eqb, List, length, Option, Some, None, refl, sym, ap, ◌∙◌, subst, arith}
 use Rattle.std.proofs.lemmas.Bool.{true≢false, and_parts, and_from, or_parts, eqb-true, eqb-false, ltb-false}
 use Rattle.std.proofs.lemmas.Option.{none-some}
 use Rattle.spec_isa.specs.declared.thread.Parts.{Parts}
@@ -8,7 +8,7 @@ use Rattle.spec_isa.specs.declared.thread.Kind.{Kind}
 use Rattle.spec_isa.specs.declared.thread.Load.{Load}
 use Rattle.spec_isa.specs.Words.{Stored, lays, read, holds, is_inside, Apart}
 use Rattle.spec_isa.specs.Instruction.{serial_of, loads_of, next_of, load_of, store_of}
-use Rattle.spec_isa.specs.Runs.{with_store}
+use Rattle.spec_isa.specs.Runs.{with_load, with_store}
 use Rattle.spec_kernel.specs.Needs.{fetched}
 use Rattle.spec_engine.specs.declared.answers.How.{How}
 use Rattle.spec_engine.specs.declared.answers.Stepped.{Stepped}
@@ -17,20 +17,12 @@ use Rattle.spec_engine.specs.Flights.{Flight, is_none, first_slot, bounces}
 use Rattle.spec_engine.specs.Chunks.{Chunk, Stepping, closes, marked, ran, at_limit, has_room, reading, storing, loading, running, step}
 use Rattle.spec_engine.proofs.Choosing.{keep_option, keep_choose}
 use Rattle.spec_engine.proofs.Marking.{covers_insert, covers_more, hits_more}
-use Rattle.spec_protocol.proofs.Running.{Touches, outside_serial, seen_by}
-use Rattle.spec_protocol.proofs.Covering.{CoversAll, CoversAll-store, Apart-store, length-store, bits-with_line, clear}
+use Rattle.spec_protocol.proofs.Running.{outside_serial}
+use Rattle.spec_protocol.proofs.Covering.{CoversLoads_more, CoversLoads-load, length-load, load-word, CoversAll-store, Apart-store, length-store, bits-with_line, clear}
+use Rattle.spec_protocol.specs.Currency.{CoversLoads, Touches, seen_by, CoversAll}
+use Rattle.spec_protocol.specs.Invariants.{Closes}
 
 -- ---- what is kept
-
--- how a chunk's number of instructions stands to its limit and to its stores
-pub record Closes (capacity : ℕ) (ch : Chunk) : Type 0 where
-  pub positive : 0 < ch.limit
-  pub opened : ch.closed ≡ None → ch.done.n < ch.limit
-  pub full : ch.closed ≡ Some How.Limit → ch.done.n ≡ ch.limit
-  pub early : (how : How) → ch.closed ≡ Some how → how ≢ How.Limit → ch.done.n < ch.limit
-  pub cut : ch.closed ≡ Some How.Cut → 0 < ch.done.n
-  pub room : ch.closed ≡ Some How.Overflow → capacity ≤ ch.done.n
-  pub few : length ch.done.words ≤ ch.done.n
 
 -- the two chunks are the same but for their runs
 pub record SameBase (ch dh : Chunk) : Type 0 where
@@ -56,6 +48,7 @@ pub record Stays (capacity : ℕ) (xs : List (Option Flight)) (c : ℕ) (m : Lis
   pub less_hits : (g : Marks) → hits g ch.reads ≡ true → hits g s.chunk.reads ≡ true
   pub apart : Apart s.chunk.done.words
   pub writes : CoversAll s.chunk.sphere s.chunk.writes s.chunk.done.words
+  pub loads : CoversLoads s.chunk.sphere s.chunk.reads s.chunk.done.loads
   pub closes : Closes capacity s.chunk
   pub looks : Looks xs c m ch s.chunk s.reply
 
@@ -66,6 +59,7 @@ pub record IsOpen (capacity : ℕ) (ch : Chunk) : Type 0 where
   pub closes : Closes capacity ch
   pub apart : Apart ch.done.words
   pub writes : CoversAll ch.sphere ch.writes ch.done.words
+  pub loads : CoversLoads ch.sphere ch.reads ch.done.loads
 
 -- g has the chunk's reads and maybe more
 record Grown (ch : Chunk) (g : Marks) : Type 0 where
@@ -101,6 +95,7 @@ closed_closes capacity ch g how o limit cut room =
       cut = λ e. absurd (cut (let h : how ≡ How.Cut = cc in h));
       room = λ e. room (let h : how ≡ How.Overflow = cc in h);
       few = o.closes.few;
+      few_loads = o.closes.few_loads;
     }
 
 stays_closed : (capacity : ℕ) (xs : List (Option Flight)) (c : ℕ) (m : List ℕ) (ch : Chunk) (g : Marks) (how : How) → IsOpen capacity ch → Grown ch g → how ≢ How.Limit → how ≢ How.Cut → (how ≡ How.Overflow → capacity ≤ ch.done.n)
@@ -112,6 +107,7 @@ stays_closed capacity xs c m ch g how o n limit cut room looks =
       less_hits = n.hits_;
       apart = o.apart;
       writes = o.writes;
+      loads = CoversLoads_more ch.sphere ch.reads g ch.done.loads n.more_ o.loads;
       closes = closed_closes capacity ch g how o limit cut room;
       looks = looks;
     }
@@ -120,6 +116,9 @@ stays_closed capacity xs c m ch g how o n limit cut room looks =
 
 ran_few : (ch : Chunk) (store : Option Stored) → length ch.done.words ≤ ch.done.n → length (with_store ch.done.words store) ≤ suc ch.done.n
 ran_few ch store few = let h = length-store ch.done.words store in omega arith
+
+ran_few_loads : (ch : Chunk) (load : Option Load) → length ch.done.loads ≤ ch.done.n → length (with_load ch.done.loads load) ≤ suc ch.done.n
+ran_few_loads ch load few = let h = length-load ch.done.loads load in omega arith
 
 ran_open : (capacity : ℕ) (ch : Chunk) (g : Marks) (t : Parts) (load : Option Load) (store : Option Stored) → IsOpen capacity ch → eqb (suc ch.done.n) ch.limit ≡ false → Closes capacity (ran (with_reads ch g) t load store)
 ran_open capacity ch g t load store o e =
@@ -131,6 +130,7 @@ ran_open capacity ch g t load store o e =
       cut = λ h. absurd (none-some How.Cut (sym o.open_ ∙ h));
       room = λ h. absurd (none-some How.Overflow (sym o.open_ ∙ h));
       few = ran_few ch store o.closes.few;
+      few_loads = ran_few_loads ch load o.closes.few_loads;
     }
 
 ran_full : (capacity : ℕ) (ch : Chunk) (g : Marks) (t : Parts) (load : Option Load) (store : Option Stored) → IsOpen capacity ch → eqb (suc ch.done.n) ch.limit ≡ true → Closes capacity (record (ran (with_reads ch g) t load store) { closed = Some How.Limit })
@@ -143,13 +143,14 @@ ran_full capacity ch g t load store o e =
       cut = λ h. cc;
       room = λ h. cc;
       few = ran_few ch store o.closes.few;
+      few_loads = ran_few_loads ch load o.closes.few_loads;
     }
 
 -- an instruction was run
-stays_ran : (capacity : ℕ) (xs : List (Option Flight)) (c : ℕ) (m : List ℕ) (ch : Chunk) (g : Marks) (t : Parts) (load : Option Load) (store : Option Stored) → IsOpen capacity ch → Grown ch g
+stays_ran : (capacity : ℕ) (xs : List (Option Flight)) (c : ℕ) (m : List ℕ) (ch : Chunk) (g : Marks) (t : Parts) (load : Option Load) (store : Option Stored) → IsOpen capacity ch → Grown ch g → ((l : Load) → load ≡ Some l → covers g (line ch.sphere (l.addr / 4)) ≡ true)
     → Touches (clear xs c (with_reads ch g)) ch.done.thread m → Stays capacity xs c m ch (at_limit (ran (with_reads ch g) t load store))
 unfolding at_limit
-stays_ran capacity xs c m ch g t load store o n touches =
+stays_ran capacity xs c m ch g t load store o n looked touches =
     keep_choose (Stays capacity xs c m ch) (eqb (suc ch.done.n) ch.limit) (closes How.Limit (ran (with_reads ch g) t load store)) (record { reply = Stepped.Ran; chunk = ran (with_reads ch g) t load store })
     (λ e. record {
       base = record { sphere = refl; start = refl; limit = refl; halves = refl; reads = n.size; writes = bits-with_line ch.sphere store ch.writes };
@@ -157,6 +158,7 @@ stays_ran capacity xs c m ch g t load store o n touches =
       less_hits = n.hits_;
       apart = Apart-store ch.done.words store o.apart;
       writes = CoversAll-store ch.sphere ch.writes ch.done.words store o.writes;
+      loads = CoversLoads-load ch.sphere g ch.done.loads load looked (CoversLoads_more ch.sphere ch.reads g ch.done.loads n.more_ o.loads);
       closes = ran_full capacity ch g t load store o e;
       looks = (refl, touches);
     })
@@ -166,6 +168,7 @@ stays_ran capacity xs c m ch g t load store o n touches =
       less_hits = n.hits_;
       apart = Apart-store ch.done.words store o.apart;
       writes = CoversAll-store ch.sphere ch.writes ch.done.words store o.writes;
+      loads = CoversLoads-load ch.sphere g ch.done.loads load looked (CoversLoads_more ch.sphere ch.reads g ch.done.loads n.more_ o.loads);
       closes = ran_open capacity ch g t load store o e;
       looks = (o.open_, touches);
     })
@@ -174,13 +177,13 @@ no_room : (capacity : ℕ) (ws : List Stored) (store : Option Stored) → has_ro
 no_room capacity ws None e = absurd (true≢false e)
 no_room capacity ws (Some s) e = ltb-false (length ws) capacity (or_parts (holds ws s.word) _ e).1
 
-stays_storing : (capacity : ℕ) (xs : List (Option Flight)) (c : ℕ) (m : List ℕ) (f w : ℕ) (ch : Chunk) (g : Marks) → IsOpen capacity ch → Grown ch g
+stays_storing : (capacity : ℕ) (xs : List (Option Flight)) (c : ℕ) (m : List ℕ) (f w : ℕ) (ch : Chunk) (g : Marks) → IsOpen capacity ch → Grown ch g → ((a : ℕ) → loads_of ch.done.thread f ≡ Some a → covers g (line ch.sphere a) ≡ true)
     → Touches (clear xs c (with_reads ch g)) ch.done.thread m → Stays capacity xs c m ch (storing capacity f w (with_reads ch g))
 unfolding storing
-stays_storing capacity xs c m f w ch g o n touches =
+stays_storing capacity xs c m f w ch g o n looked touches =
     let t = ch.done.thread in
     keep_choose (Stays capacity xs c m ch) (has_room capacity ch.done.words (store_of t f w)) (at_limit (ran (with_reads ch g) (next_of t f w) (load_of t f w) (store_of t f w))) (closes How.Overflow (with_reads ch g))
-    (λ e. stays_ran capacity xs c m ch g (next_of t f w) (load_of t f w) (store_of t f w) o n touches)
+    (λ e. stays_ran capacity xs c m ch g (next_of t f w) (load_of t f w) (store_of t f w) o n (λ l e. looked (l.addr / 4) (load-word t f w l e)) touches)
     (λ e. stays_closed capacity xs c m ch g How.Overflow o n (λ h. cc) (λ h. cc)
     (λ h. let r = no_room capacity ch.done.words (store_of t f w) e in let k = o.closes.few in omega arith)
     refl)
@@ -210,6 +213,7 @@ stays_reading capacity xs c m ch g a then_ o n stays =
       less_hits = n.hits_;
       apart = o.apart;
       writes = o.writes;
+      loads = CoversLoads_more ch.sphere ch.reads g ch.done.loads n.more_ o.loads;
       closes = record {
         positive = o.closes.positive;
         opened = o.closes.opened;
@@ -218,6 +222,7 @@ stays_reading capacity xs c m ch g a then_ o n stays =
         cut = o.closes.cut;
         room = o.closes.room;
         few = o.closes.few;
+        few_loads = o.closes.few_loads;
       };
       looks = o.open_;
     })
@@ -252,9 +257,11 @@ unfolding loading
 stays_loading capacity xs c m ch g o n e =
     let f = fetched_by m ch in
     keep_option (Stays capacity xs c (shown_in m ch) ch) (loads_of ch.done.thread f) (storing capacity f 0 (with_reads ch g)) (λ a. reading xs c (with_reads ch g) a (storing capacity f (read (shown_in m ch) a)))
-    (λ none. stays_storing capacity xs c (shown_in m ch) f 0 ch g o n (touches_none xs c m ch g e none))
+    (λ none. stays_storing capacity xs c (shown_in m ch) f 0 ch g o n (λ a some. absurd (none-some a (sym none ∙ some))) (touches_none xs c m ch g e none))
     (λ a some. stays_reading capacity xs c (shown_in m ch) ch g a (storing capacity f (read (shown_in m ch) a)) o n
-    (λ free. stays_storing capacity xs c (shown_in m ch) f (read (shown_in m ch) a) ch (insert (line ch.sphere a) g) o (grown_insert ch g (line ch.sphere a) n) (touches_some xs c m ch g a e some free)))
+    (λ free. stays_storing capacity xs c (shown_in m ch) f (read (shown_in m ch) a) ch (insert (line ch.sphere a) g) o (grown_insert ch g (line ch.sphere a) n)
+    (λ b is. let same : a ≡ b = (let q : Some a ≡ Some b = sym some ∙ is in cc) in subst (λ (d : ℕ). covers (insert (line ch.sphere a) g) (line ch.sphere d) ≡ true) same (covers_insert (line ch.sphere a) g))
+    (touches_some xs c m ch g a e some free)))
 
 -- ---- the whole step
 

@@ -12,4 +12,6 @@ pub mod Serial
 pub mod Shown
 pub mod Moves
 pub mod Logged
+pub mod Currency
+pub mod Invariants
 pub mod Promises

@@ -1,5 +1,5 @@
 -- What is promised of these definitions, for every setup within its limits and every list of events.
-use Rattle.std.specs.Prelude.{◌≡◌, ℕ, ◌<◌, false, List, slice_get, Some}
+use Rattle.std.specs.Prelude.{◌≡◌, ℕ, ◌<◌, false, List, length, slice_get, Some}
 use Rattle.spec_protocol.specs.declared.event.Event.{Event}
 use Rattle.spec_protocol.specs.Spheres.{Sphere}
 use Rattle.spec_protocol.specs.Placing.{replays}
@@ -7,6 +7,7 @@ use Rattle.spec_protocol.specs.World.{World}
 use Rattle.spec_protocol.specs.Machine.{Setup, world_of, world_after, moves}
 use Rattle.spec_protocol.specs.Serial.{whole_of, serial, CanDoAll}
 use Rattle.spec_protocol.specs.Shown.{shown_of}
+use Rattle.spec_protocol.specs.Invariants.{IsGood}
 use Rattle.spec_protocol.specs.Moves.{do_moves, FitAll}
 
 -- a chunk can run an instruction, and a write buffer can hold a word
@@ -39,3 +40,18 @@ pub record AreMovesSerial (s : Setup) (es : List Event) : Type 0 where
 
 abbrev pub MovesAreSerial : Type 0
 MovesAreSerial = (s : Setup) (es : List Event) → IsSetup s → AreMovesSerial s es
+
+-- ---- what holds of every world
+
+abbrev pub InvariantsHold : Type 0
+InvariantsHold = (s : Setup) (es : List Event) → IsSetup s → IsGood (after s es)
+
+-- the numbers stay
+pub record AreSizesKept (s : Setup) (w : World) : Type 0 where
+  pub numbers : w.numbers ≡ s.numbers
+  pub spheres : length w.spheres ≡ length s.spheres
+  pub cores : length w.cores ≡ s.cores
+  pub slots : length w.slots ≡ s.window
+
+abbrev pub SizesAreKept : Type 0
+SizesAreKept = (s : Setup) (es : List Event) → IsSetup s → AreSizesKept s (after s es)

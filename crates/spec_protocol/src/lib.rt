@@ -7,5 +7,5 @@ mod promise;
 mod reply;
 
 pub use event::Event;
-pub use promise::{commits_are_serial, moves_are_serial};
+pub use promise::{commits_are_serial, invariants_hold, moves_are_serial, sizes_are_kept};
 pub use reply::Reply;
