@@ -18,8 +18,8 @@ use Rattle.spec_engine.specs.Chunks.{Chunk, with_line}
 use Rattle.spec_engine.proofs.Marking.{covers_insert, covers_more, covers_hit}
 use Rattle.spec_engine.proofs.Searches.{first_none}
 use Rattle.spec_protocol.specs.Shown.{words_of, flying}
-use Rattle.spec_protocol.proofs.Laying.{AllLack, Lacks-append, Unseen}
-use Rattle.spec_protocol.specs.Currency.{CoversLoads, seen_by, IsQuiet, CoversAll}
+use Rattle.spec_protocol.proofs.Laying.{Lacks-append, Unseen}
+use Rattle.spec_protocol.specs.Currency.{CoversLoads, seen_by, IsQuiet, CoversAll, AllLack}
 use Rattle.spec_protocol.specs.Invariants.{IsCovered, AreCovered}
 
 pub CoversAll_more : (i l : ℕ) (g : Marks) (ws : List Stored) → CoversAll i g ws → CoversAll i (insert l g) ws

@@ -17,7 +17,7 @@ use Rattle.spec_protocol.specs.Asking.{Request, point_at, move_at, world_with, g
 use Rattle.spec_protocol.specs.Serial.{do_moved}
 use Rattle.spec_protocol.specs.Shown.{flying, shown_of}
 use Rattle.spec_protocol.specs.Moves.{do_move, Fits}
-use Rattle.spec_protocol.proofs.Laying.{AllLack}
+use Rattle.spec_protocol.specs.Shown.{flying}
 use Rattle.spec_protocol.proofs.Slots.{Flew, flown-flew}
 use Rattle.spec_protocol.proofs.Moving.{Divergence, MovesOnly}
 use Rattle.spec_protocol.proofs.Relaying.{relaid}
@@ -25,6 +25,7 @@ use Rattle.spec_protocol.proofs.Invariant.{SameSizes, point_for, PointOf, Kept, 
 use Rattle.spec_protocol.proofs.OnCores.{set-cases, alone-set}
 use Rattle.spec_protocol.proofs.Landing.{begun-begins, begun-held, moved_world, Lands, landed-held, elsewhere-held, moved-shown}
 use Rattle.spec_protocol.specs.Invariants.{IsCovered, IsGoodChunk, current, IsGoodHeld, IsGood}
+use Rattle.spec_protocol.specs.Currency.{AllLack}
 
 -- ---- a request that is granted, or diverges
 

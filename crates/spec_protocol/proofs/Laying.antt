@@ -5,6 +5,7 @@ use Rattle.std.proofs.lemmas.Bool.{cases_lt}
 use Rattle.std.proofs.lemmas.List.{get_or_past}
 use Rattle.spec_isa.specs.Words.{Stored, lay, lays, read, Lacks, Apart}
 use Rattle.spec_isa.specs.Masks.{or_byte}
+use Rattle.spec_protocol.specs.Currency.{AllLack}
 use Rattle.spec_isa.proofs.MemoryLaws.{length_lay, given, byte-lay, byte-lay_other}
 use Rattle.spec_isa.proofs.BufferLaws.{lay-lay}
 
@@ -13,11 +14,6 @@ use Rattle.spec_isa.proofs.BufferLaws.{lay-lay}
 pub lays_append : (m : List ℕ) (xs ys : List Stored) → lays m (xs ++ ys) ≡ lays (lays m xs) ys
 lays_append m [] ys = refl
 lays_append m (x ∷ xs) ys = lays_append (lay m x) xs ys
-
--- no store of the first list is of a word of the second
-abbrev pub AllLack : List Stored → List Stored → Type 0
-AllLack [] ys = Unit {0}
-AllLack (x ∷ xs) ys = Lacks x.word ys × AllLack xs ys
 
 pub Lacks-append : (a : ℕ) (xs ys : List Stored) → Lacks a xs → Lacks a ys → Lacks a (xs ++ ys)
 Lacks-append a [] ys p q = q

@@ -20,3 +20,4 @@ pub mod OnTransfers
 pub mod Schedules
 pub mod OnCounts
 pub mod OnPoints
+pub mod AsksGranted

@@ -21,7 +21,7 @@ use Rattle.spec_protocol.specs.Asking.{move_at, is_short, chunk_request, grant_c
 use Rattle.spec_protocol.specs.Serial.{do_moved, do_serial}
 use Rattle.spec_protocol.specs.Shown.{flying, shown, shown_of}
 use Rattle.spec_protocol.specs.Moves.{move_chunk, do_at, do_move, ChunkFits, SerialFits, FitsChunk, FitsSerial, FitsAt, Fits}
-use Rattle.spec_protocol.proofs.Laying.{AllLack, AllLack_nil, AllLack_flip}
+use Rattle.spec_protocol.proofs.Laying.{AllLack_nil, AllLack_flip}
 use Rattle.spec_protocol.proofs.Slots.{words-other}
 use Rattle.spec_protocol.proofs.Covering.{bits-signed, CoversAll-signed, apart-covered, flying-all_lack}
 use Rattle.spec_protocol.proofs.Moving.{HasTurn, chunk-stores, chunk-lives, serial-lives, chunk-moves, serial-moves}
@@ -29,7 +29,7 @@ use Rattle.spec_protocol.proofs.Relaying.{over, relaid, chunk-relaid}
 use Rattle.spec_protocol.proofs.Invariant.{Kept, shown-get, still-kept}
 use Rattle.spec_protocol.proofs.OnCores.{branch}
 use Rattle.spec_protocol.proofs.Granting.{Grants, granted-kept}
-use Rattle.spec_protocol.specs.Currency.{IsCurrent, CoversAll}
+use Rattle.spec_protocol.specs.Currency.{IsCurrent, CoversAll, AllLack}
 use Rattle.spec_protocol.specs.Invariants.{current, IsGoodHeld, IsGood}
 
 -- ---- what is shown of the sphere that asks
@@ -63,7 +63,7 @@ chunk_whole w h how within start runs =
     ∙ ap (do_moved (shown_of w) i) (chunk-relaid h.thread (is_piece how) (is_short w.numbers.chunk how ch.limit) ch.done w.devices p m)
 
 -- no flight at all hits the chunk
-never_hits : (w : World) (ch : Chunk) → first_slot (meets_chunk ch.reads ch.writes) w.slots ≡ None → (k : ℕ) (f : Flight) → at w.slots k ≡ Some f → (hits f.writes ch.reads ≡ false) × (hits f.writes ch.writes ≡ false)
+pub never_hits : (w : World) (ch : Chunk) → first_slot (meets_chunk ch.reads ch.writes) w.slots ≡ None → (k : ℕ) (f : Flight) → at w.slots k ≡ Some f → (hits f.writes ch.reads ≡ false) × (hits f.writes ch.writes ≡ false)
 never_hits w ch none k f is =
     or_parts (hits f.writes ch.reads) (hits f.writes ch.writes) (first_none (meets_chunk ch.reads ch.writes) w.slots none k f is)
 

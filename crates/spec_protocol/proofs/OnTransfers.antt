@@ -21,7 +21,7 @@ use Rattle.spec_protocol.specs.Placing.{replays}
 use Rattle.spec_protocol.specs.Serial.{do_moved, do_dma}
 use Rattle.spec_protocol.specs.Shown.{flying, shown_of}
 use Rattle.spec_protocol.specs.Moves.{do_at, do_move, FitsAt, Fits}
-use Rattle.spec_protocol.proofs.Laying.{AllLack, AllLack_flip}
+use Rattle.spec_protocol.proofs.Laying.{AllLack_flip}
 use Rattle.spec_protocol.proofs.Slots.{flown-flew}
 use Rattle.spec_protocol.proofs.Covering.{bits-signed, CoversAll-signed, apart-covered, flying-all_lack}
 use Rattle.spec_protocol.proofs.Moving.{Divergence}
@@ -32,7 +32,7 @@ use Rattle.spec_protocol.proofs.OnCores.{branch}
 use Rattle.spec_protocol.proofs.Landing.{landed-held, elsewhere-held, moved-shown}
 use Rattle.spec_protocol.proofs.Granting.{stopped-good, stopped-shown}
 use Rattle.spec_protocol.proofs.OnAsks.{shown_at, shown_over, denied_kept, turn-kept}
-use Rattle.spec_protocol.specs.Currency.{CoversAll}
+use Rattle.spec_protocol.specs.Currency.{CoversAll, AllLack}
 use Rattle.spec_protocol.specs.Invariants.{IsCovered, current, IsGood}
 
 -- sphere i moves by v, whose stores meet no flight

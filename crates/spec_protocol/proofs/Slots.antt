@@ -10,7 +10,8 @@ use Rattle.spec_engine.specs.Flights.{Flight, at, is_none, free_slot, is_full, f
 use Rattle.spec_engine.proofs.Searches.{free_slot-within, free_slot-free}
 use Rattle.spec_protocol.specs.World.{flown}
 use Rattle.spec_protocol.specs.Shown.{words_of, flying}
-use Rattle.spec_protocol.proofs.Laying.{lays_append, AllLack, AllLack_flip, AllLack_left, AllLack_right, AllLack-append, Apart_first, Apart_last, Apart_lack, Apart-append, lays-lays}
+use Rattle.spec_protocol.proofs.Laying.{lays_append, AllLack_flip, AllLack_left, AllLack_right, AllLack-append, Apart_first, Apart_last, Apart_lack, Apart-append, lays-lays}
+use Rattle.spec_protocol.specs.Currency.{AllLack}
 
 -- ---- rows
 

@@ -3,7 +3,7 @@
 use Rattle.std.specs.Prelude.{◌≡◌, ℕ, ◌<◌, ◌/◌, Bool, true, false, List, [], ◌∷◌, length, Option, Some, None, IsSome}
 use Rattle.spec_isa.specs.declared.thread.Parts.{Parts}
 use Rattle.spec_isa.specs.declared.thread.Load.{Load}
-use Rattle.spec_isa.specs.Words.{Stored, lays, is_inside}
+use Rattle.spec_isa.specs.Words.{Stored, lays, Lacks, is_inside}
 use Rattle.spec_isa.specs.Instruction.{serial_of, loads_of}
 use Rattle.spec_isa.specs.Runs.{run}
 use Rattle.spec_kernel.specs.Needs.{fetched, next_kind}
@@ -52,3 +52,8 @@ CoversAll i g (w ∷ ws) = (covers g (line i w.word) ≡ true) × CoversAll i g 
 abbrev pub CoversLoads : (i : ℕ) → Marks → List Load → Type 0
 CoversLoads i g [] = Unit {0}
 CoversLoads i g (l ∷ ls) = (covers g (line i (l.addr / 4)) ≡ true) × CoversLoads i g ls
+
+-- no store of the first list is of a word of the second
+abbrev pub AllLack : List Stored → List Stored → Type 0
+AllLack [] ys = Unit {0}
+AllLack (x ∷ xs) ys = Lacks x.word ys × AllLack xs ys

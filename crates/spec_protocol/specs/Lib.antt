@@ -15,3 +15,4 @@ pub mod Logged
 pub mod Currency
 pub mod Invariants
 pub mod Promises
+pub mod Replying

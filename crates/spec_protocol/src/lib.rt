@@ -7,5 +7,8 @@ mod promise;
 mod reply;
 
 pub use event::Event;
-pub use promise::{commits_are_serial, invariants_hold, moves_are_serial, sizes_are_kept};
+pub use promise::{
+    asks_are_granted, commits_are_serial, grants_are_clear, invariants_hold, moves_are_serial,
+    points_are_made, sizes_are_kept,
+};
 pub use reply::Reply;

@@ -1,5 +1,6 @@
 //! What is promised of the protocol. Each promise is a clause of a function that does nothing.
 ghost use Rattle.spec_protocol.specs.Promises.{CommitsAreSerial, InvariantsHold, MovesAreSerial, SizesAreKept};
+ghost use Rattle.spec_protocol.specs.Replying.{AsksAreGranted, GrantsAreClear, PointsAreMade};
 
 /// For every setup and every list of events, in any order: the plain and recorded spheres, with their threads, requests,
 /// current memories, commits and logs, and the devices with the console, are those of executing the serialisation points
@@ -26,4 +27,22 @@ pub fn invariants_hold()
 /// After every list of events there are as many spheres, cores and slots as at first, and the sizes are the same.
 pub fn sizes_are_kept()
     ensures { SizesAreKept }
+{}
+
+/// Whatever the world and the event: a point is made exactly where the reply is Granted, Piece, DmaDone or Raised; it is of
+/// the event's moment and is kept behind the earlier ones; and the event is counted with its reply.
+pub fn points_are_made()
+    ensures { PointsAreMade }
+{}
+
+/// After every list of events that leaves no flight standing: the ask of a closed chunk of a plain or recorded sphere is
+/// granted, or it is another thread's turn in a recording in picolog.
+pub fn asks_are_granted()
+    ensures { AsksAreGranted }
+{}
+
+/// After every list of events: no ask is granted, whole or as a piece, where a word that the chunk stored or loaded is left
+/// in a flight of its sphere.
+pub fn grants_are_clear()
+    ensures { GrantsAreClear }
 {}
