@@ -1,7 +1,6 @@
 //! One flight.
-ghost use Rattle.std.specs.Prelude.{◌≡◌, ◌<◌, ◌≤◌};
+ghost use Rattle.std.specs.Prelude.{◌≡◌, ◌<◌, ◌≤◌, Some};
 ghost use Rattle.spec_engine.specs.Flights.{IsOfSize, all_told, bounces, is_done, is_of_sphere, meets_chunk, tell, told_at};
-ghost use Rattle.std.specs.Prelude.{Some};
 
 use dl_sig::Sig;
 use dl_wbuf::Buffer;
@@ -32,7 +31,6 @@ impl<G: Sig> Model for Flight<G> {
 impl<G: Sig> Flight<G> {
     /// Whether it holds up the reading of a line by a core, which was told of it.
     pub fn bounces(&self, core: u8, line: u32) -> bool
-        requires { core < 8 }
         ensures { result ≡ bounces core line self.now }
     {
         self.was_told(core) && self.writes.covers(line)
@@ -55,11 +53,15 @@ impl<G: Sig> Flight<G> {
     }
 
     // Whether the core was told.
+    #[tactic(auto, using(crate::proofs::Cores::told_past))]
     pub(crate) fn was_told(&self, core: u8) -> bool
-        requires { core < 8 }
         ensures { result ≡ told_at self.now.told core }
     {
-        self.told >> core & 1 == 1
+        let told = self.told;
+        if core >= 8 {
+            return false;
+        }
+        told >> core & 1 == 1
     }
 
     // Tells the core.

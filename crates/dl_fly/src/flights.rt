@@ -1,6 +1,6 @@
 //! The slots of flights, all of which `new` makes. No other call takes memory.
 ghost use Rattle.std.specs.Prelude.{◌≡◌, ◌<◌, ◌≤◌, false, None, Some, IfOk, length, option_map, replicate, slice_set};
-ghost use Rattle.spec_engine.specs.Flights.{IsInside, IsOfSize, at, deliver, drain, fill, free_slot, is_full, retire};
+ghost use Rattle.spec_engine.specs.Flights.{IsInside, IsOfSize, at, bounces, deliver, drain, fill, first_slot, free_slot, is_full, retire};
 
 use crate::flight::Flight;
 use crate::slot;
@@ -80,6 +80,14 @@ impl<G: Sig> Flights<G> {
         slot::free(&self.slots).is_none()
     }
 
+    /// The least slot whose flight holds up the reading of a line by a core, which was told of it.
+    pub fn holder(&self, core: u8, line: u32) -> Option<u8>
+        ensures { result ≡ first_slot (bounces core line) self.now.slots }
+    {
+        let k = slot::holder(&self.slots, core, line)?;
+        Some(k as u8)
+    }
+
     /// Puts a flight into the least free slot, and gives its number.
     pub fn add(&mut self, flight: Flight<G>) -> u8
         requires { is_full self.old.slots ≡ false }
@@ -114,7 +122,8 @@ impl<G: Sig> Flights<G> {
         requires writes { IsOfSize (G.marks writes.now).bits (at self.old.slots k) }
         ensures reply { result ≡ (deliver core (G.marks reads.now) (G.marks writes.now) (at self.old.slots k)).reply }
         ensures slots { self.new ≡ record self.old {
-            slots = slice_set self.old.slots k (deliver core (G.marks reads.now) (G.marks writes.now) (at self.old.slots k)).slot } }
+          slots = slice_set self.old.slots k (deliver core (G.marks reads.now) (G.marks writes.now) (at self.old.slots k)).slot;
+        } }
     {
         slot::deliver(&mut self.slots[k as usize], core, reads, writes)
     }

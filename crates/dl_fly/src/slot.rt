@@ -1,6 +1,6 @@
 //! What is done to one slot.
 ghost use Rattle.std.specs.Prelude.{◌≡◌, ◌<◌, ◌≤◌, IfSome, length};
-ghost use Rattle.spec_engine.specs.Flights.{IsInside, IsOfSize, deliver, drain, free_slot, is_none, retire};
+ghost use Rattle.spec_engine.specs.Flights.{IsInside, IsOfSize, bounces, deliver, drain, first_slot, free_slot, is_none, passes, retire};
 
 use crate::flight::Flight;
 use dl_mem::Memory;
@@ -25,6 +25,24 @@ fn is_free<G: Sig>(slot: &Option<Flight<G>>) -> bool
     }
 }
 
+// The least slot whose flight holds up a line for the core.
+#[tactic(auto, unfolding(spec_engine::specs::Flights::first_slot))]
+pub(crate) fn holder<G: Sig>(slots: &[Option<Flight<G>>], core: u8, line: u32) -> Option<usize>
+    ensures value { result ≡ first_slot (bounces core line) slots.now }
+    ensures within { IfSome result (λ k. k < length slots.now) }
+{
+    slots.iter().position(|slot| holds_up(slot, core, line))
+}
+
+fn holds_up<G: Sig>(slot: &Option<Flight<G>>, core: u8, line: u32) -> bool
+    ensures { result ≡ passes (bounces core line) slot.now }
+{
+    match slot {
+        Some(flight) => flight.bounces(core, line),
+        None => false,
+    }
+}
+
 // The first word left goes to the memory of the flight's sphere.
 pub(crate) fn drain<G: Sig>(slot: &mut Option<Flight<G>>, mem: &mut Memory) -> Drain
     requires { IsInside (length mem.old) slot.old }
@@ -45,7 +63,12 @@ pub(crate) fn drain<G: Sig>(slot: &mut Option<Flight<G>>, mem: &mut Memory) -> D
 }
 
 // The core is told, and learns whether the flight hits what its chunk has read or written.
-pub(crate) fn deliver<G: Sig>(slot: &mut Option<Flight<G>>, core: u8, reads: &G, writes: &G) -> Deliver
+pub(crate) fn deliver<G: Sig>(
+    slot: &mut Option<Flight<G>>,
+    core: u8,
+    reads: &G,
+    writes: &G,
+) -> Deliver
     requires core { core < 8 }
     requires reads { IsOfSize (G.marks reads.now).bits slot.old }
     requires writes { IsOfSize (G.marks writes.now).bits slot.old }
