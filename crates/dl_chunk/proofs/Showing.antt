@@ -1,13 +1,13 @@
 -- Words as a chunk sees them.
-use Rattle.std.proofs.Common.{◌≡◌, ℕ, ◌+◌, ◌/◌, ◌%◌, ◌≤◌, true, List, length, Option, Some, None, Result, Ok, Err, OnOk, refl, sym, ◌∙◌, ap, arith}
-use Rattle.spec_isa.specs.Words.{Stored, Apart, IsBytes, lay, lays, put, read}
+use Rattle.std.proofs.Common.{◌≡◌, ℕ, ◌+◌, ◌/◌, ◌%◌, ◌≤◌, true, List, length, Option, Some, Result, Ok, Err, OnOk, sym, ◌∙◌, ap, arith}
+use Rattle.spec_isa.specs.Words.{Stored, Apart, IsBytes, lays, read}
 use Rattle.spec_isa.specs.Masks.{over, bytes_of}
 use Rattle.spec_isa.proofs.MemoryLaws.{length_lays}
 use Rattle.spec_isa.proofs.BufferLaws.{read_over, lays_put}
 use Rattle.dl_wbuf.specs.Buffers.{has_room}
 use Rattle.dl_thread.specs.Sight.{Lays}
 use Rattle.spec_engine.specs.Flights.{Flight}
-use Rattle.dl_chunk.specs.Stores.{Notes, with_read, with_written}
+use Rattle.dl_chunk.specs.Stores.{Notes, with_written}
 use Rattle.dl_chunk.specs.Seeing.{shown}
 
 pub within : (m : List ℕ) (ws : List Stored) (addr : ℕ) → addr + 4 ≤ length (lays m ws) → addr + 4 ≤ length m

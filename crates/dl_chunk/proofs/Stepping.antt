@@ -3,17 +3,16 @@ use Rattle.std.proofs.Common.{◌≡◌, ℕ, ◌/◌, Bool, true, false, List, 
 use Rattle.spec_isa.specs.declared.thread.Parts.{Parts}
 use Rattle.spec_isa.specs.declared.thread.Load.{Load}
 use Rattle.spec_isa.specs.declared.thread.Kind.{Kind}
-use Rattle.spec_isa.specs.Words.{Stored, lays, read, is_inside}
+use Rattle.spec_isa.specs.Words.{Stored, read, is_inside}
 use Rattle.spec_isa.specs.Instruction.{value_at, serial_of, loads_of, next_of, load_of, store_of}
-use Rattle.dl_wbuf.specs.Buffers.{has_room as has_room_in}
 use Rattle.dl_thread.specs.declared.answer.Did.{Did}
 use Rattle.dl_thread.specs.Sight.{Sight}
-use Rattle.dl_thread.specs.Answer.{did, accessed, fetched_word, thread_next, store_made, unless_held, unless_serial, holder, unheld, fetch_read, load_read, has_room as sight_room}
+use Rattle.dl_thread.specs.Answer.{did, accessed, fetched_word, thread_next, store_made, unless_held, unless_serial, unheld, fetch_read, load_read, has_room as sight_room}
 use Rattle.spec_engine.specs.declared.answers.How.{How}
 use Rattle.spec_engine.specs.declared.answers.Stepped.{Stepped}
 use Rattle.spec_engine.specs.Choices.{on_option, choose}
-use Rattle.spec_engine.specs.Signatures.{Marks, line}
-use Rattle.spec_engine.specs.Flights.{Flight, first_slot, bounces}
+use Rattle.spec_engine.specs.Signatures.{Marks}
+use Rattle.spec_engine.specs.Flights.{Flight}
 use Rattle.spec_engine.specs.Chunks.{Chunk, Engine, Stepping, with_chunk, marked, ran, closes, at_limit, has_room, reading, storing, loading, running, step}
 use Rattle.dl_chunk.specs.Stores.{Notes, with_read, with_written}
 use Rattle.dl_chunk.specs.Seeing.{shown, left}

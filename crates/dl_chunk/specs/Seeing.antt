@@ -1,7 +1,7 @@
 -- What a chunk sees of its sphere's memory, and what one instruction leaves.
-use Rattle.std.specs.Prelude.{◌≡◌, ℕ, List, Option, Some, None}
+use Rattle.std.specs.Prelude.{◌≡◌, ℕ, List, Option}
 use Rattle.spec_isa.specs.declared.thread.Parts.{Parts}
-use Rattle.spec_isa.specs.Words.{Stored, lays}
+use Rattle.spec_isa.specs.Words.{lays}
 use Rattle.spec_isa.specs.Instruction.{loads_of}
 use Rattle.dl_wbuf.specs.Buffers.{has_room}
 use Rattle.dl_thread.specs.declared.answer.Did.{Did}

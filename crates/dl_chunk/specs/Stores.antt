@@ -1,5 +1,5 @@
 -- What a chunk stores and marks: its words, over its sphere's memory, and the lines that it reads and stores to.
-use Rattle.std.specs.Prelude.{◌≡◌, ℕ, List, [], Option, Some, None}
+use Rattle.std.specs.Prelude.{◌≡◌, ℕ, [], Option, Some, None}
 use Rattle.spec_isa.specs.Words.{Stored, put}
 use Rattle.dl_wbuf.specs.Buffers.{Words}
 use Rattle.spec_engine.specs.Signatures.{Marks, nothing, insert, line}

@@ -1,4 +1,4 @@
-use Rattle.std.proofs.Common.{◌<◌, ℕ, inl, inr, None, sym, ap, ◌∙◌, arith}
+use Rattle.std.proofs.Common.{ℕ, inl, inr, None, sym, ap, ◌∙◌, arith}
 use Rattle.std.proofs.lemmas.Bool.{cases_lt}
 use Rattle.std.proofs.lemmas.List.{get_or_default}
 use Rattle.spec_engine.specs.Flights.{at, passes, meets_chunk}
