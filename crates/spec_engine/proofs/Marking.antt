@@ -1,6 +1,6 @@
 -- The laws of signatures.
-use Rattle.std.proofs.Common.{◌≡◌, ℕ, Bool, true, false, not, ◌&&◌, eqb, refl, sym, ◌∙◌, ap, rules}
-use Rattle.std.proofs.lemmas.Bool.{true≢false, and_from, and_parts, false_from_ne_true, true_from_ne_false, eqb-true, not-false}
+use Rattle.std.proofs.Common.{◌≡◌, ◌≢◌, ◌||◌, inl, inr, ℕ, Bool, true, false, not, ◌&&◌, eqb, refl, sym, ◌∙◌, ap, rules}
+use Rattle.std.proofs.lemmas.Bool.{true≢false, and_from, and_left, and_right, cases_eq, cases_Bool, and_parts, false_from_ne_true, true_from_ne_false, eqb-true, not-false}
 use Rattle.std.specs.Cmp.{nat_cmp_total}
 use Rattle.std.specs.FinSet as set
 use Rattle.std.specs.FinSet.{members, contains-empty, contains-intersection, empty_of_len, len-empty, same_set, nat_cmp-IsAntisymmetric}
@@ -80,3 +80,44 @@ one_low s a =
 -- a signature hits that of one line alone exactly where it covers the line
 pub hits_one : (g : Marks) (l : ℕ) → hits g (insert l (nothing g.bits)) ≡ covers g l
 hits_one g l = (λ i. one_low g.low (low_place g.bits l) i && one_low g.high (high_place g.bits l) i)
+
+-- ---- whether two sets share a place, by one place at a time
+
+pub meets-empty : (s : set.FinSet nat_cmp) → meets s set.empty ≡ false
+meets-empty s = apart_from s set.empty (λ p. and_right (set.contains s p) (set.contains set.empty p) (contains-empty nat_cmp p))
+
+pub meets-empty_left : (s : set.FinSet nat_cmp) → meets set.empty s ≡ false
+meets-empty_left s = apart_from set.empty s (λ p. and_left (set.contains set.empty p) (set.contains s p) (contains-empty nat_cmp p))
+
+apart_more : (s t : set.FinSet nat_cmp) (k p : ℕ) → set.contains s k ≡ false → both s t p ≡ false → both s (set.insert t k) p ≡ false
+apart_more s t k p lacks apart =
+    elim (cases_eq p k) [
+      | inl e ↦ and_left (set.contains s p) (set.contains (set.insert t k) p) (ap (set.contains s) e ∙ lacks)
+      | inr ne ↦ ap (λ (b : Bool). set.contains s p && b) (other t k p ne) ∙ apart
+    ]
+  where
+    other : (t : set.FinSet nat_cmp) (k p : ℕ) → p ≢ k → set.contains (set.insert t k) p ≡ set.contains t p
+    other t k p ne = grind (members, rules)
+
+pub meets-insert : (s t : set.FinSet nat_cmp) (k : ℕ) → meets s (set.insert t k) ≡ (set.contains s k || meets s t)
+meets-insert s t k =
+    elim (cases_Bool (set.contains s k)) [
+      | inl has ↦ meets_at s (set.insert t k) k has (grind (members, rules)) ∙ sym (λ i. has i || meets s t)
+      | inr lacks ↦ elim (cases_Bool (meets s t)) [
+        | inl met ↦ more_right s t k met ∙ sym (λ i. lacks i || met i)
+        | inr apart ↦ apart_from s (set.insert t k) (λ p. apart_more s t k p lacks (apart_at s t apart p)) ∙ sym (λ i. lacks i || apart i)
+      ]
+    ]
+
+meets_swap : (s t : set.FinSet nat_cmp) → meets s t ≡ true → meets t s ≡ true
+meets_swap s t = meets_more s t t s (λ p e. let h = and_parts (set.contains s p) (set.contains t p) e in and_from (set.contains t p) (set.contains s p) h.1 h.0)
+
+pub meets-sym : (s t : set.FinSet nat_cmp) → meets s t ≡ meets t s
+meets-sym s t =
+    elim (cases_Bool (meets s t)) [
+      | inl met ↦ met ∙ sym (meets_swap s t met)
+      | inr apart ↦ apart ∙ sym (false_from_ne_true (meets t s) (λ e. true≢false (sym (meets_swap t s e) ∙ apart)))
+    ]
+
+pub meets-insert_left : (s t : set.FinSet nat_cmp) (k : ℕ) → meets (set.insert s k) t ≡ (set.contains t k || meets s t)
+meets-insert_left s t k = meets-sym (set.insert s k) t ∙ meets-insert t s k ∙ ap (λ (b : Bool). set.contains t k || b) (meets-sym t s)

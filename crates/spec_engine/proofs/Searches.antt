@@ -1,13 +1,13 @@
 -- The laws of searches over slots, and of telling cores.
-use Rattle.std.proofs.Common.{◌≡◌, ◌≢◌, ℕ, zero, suc, ◌<◌, ◌^◌, inl, inr, Bool, true, false, eqb, List, length, get_or, Option, Some, None, refl, sym, ◌∙◌, ap, arith}
-use Rattle.std.proofs.lemmas.Bool.{and_from, and_parts, cases_lt, true≢false}
+use Rattle.std.proofs.Common.{◌≡◌, ◌≢◌, ℕ, zero, suc, ◌<◌, ◌^◌, inl, inr, Bool, true, false, eqb, ltb, List, length, get_or, Option, Some, None, refl, sym, ◌∙◌, ap, arith}
+use Rattle.std.proofs.lemmas.Bool.{and_from, and_parts, cases_lt, true≢false, cond-true, cond-false, lt-ltb, le-ltb}
 use Rattle.std.proofs.lemmas.Nat.Bits.{bit_at_or, bit_at-pow_same, bit_at-pow_other, bit_at-lt, bit_at-zero}
 use Rattle.std.proofs.lemmas.List.Quantifiers.{position-Some}
-use Rattle.std.proofs.lemmas.List.Sums.{fails_before_first}
+use Rattle.std.proofs.lemmas.List.Sums.{fails_before_first, position_or_len_is}
 use Rattle.std.proofs.lemmas.Grind.{common_steps}
 use Rattle.std.proofs.lemmas.Option.{none-some}
 use Rattle.std.proofs.lemmas.List.{get_or_past}
-use Rattle.std.specs.List.{position}
+use Rattle.std.specs.List.{position, position_or_len}
 use Rattle.spec_engine.specs.Flights.{told_at, all_told, Flight, tell, at, passes, is_none, first_slot, free_slot}
 
 -- ---- the cores told
@@ -74,3 +74,17 @@ free_slot-free xs k e = free_at (at xs k) (position-Some is_none xs k None e).1
 pub full_at : {A : Type 0} (xs : List (Option A)) → free_slot xs ≡ None → (k : ℕ) → k < length xs → is_none (at xs k) ≡ false
 unfolding free_slot
 full_at xs e k l = position_none is_none xs e k None l
+
+-- ---- a search that went through the slots in order
+
+pub first_is : {A : Type 0} (p : A → Bool) (xs : List (Option A)) (k : ℕ) → k < length xs → ((j : ℕ) → j < k → passes p (at xs j) ≡ false) → passes p (at xs k) ≡ true → Some k ≡ first_slot p xs
+unfolding first_slot
+first_is p xs k l before e =
+    let found = position_or_len_is (passes p) xs k None (omega arith) before (λ _. e) in
+    sym (cond-true (ltb (position_or_len (passes p) xs) (length xs)) _ _ (lt-ltb _ _ (omega arith)) ∙ ap Some found)
+
+pub first_is_none : {A : Type 0} (p : A → Bool) (xs : List (Option A)) → ((j : ℕ) → j < length xs → passes p (at xs j) ≡ false) → None ≡ first_slot p xs
+unfolding first_slot
+first_is_none p xs each =
+    let past = position_or_len_is (passes p) xs (length xs) None (omega arith) each (λ l. absurd (let m : length xs < length xs = l in omega arith)) in
+    sym (cond-false (ltb (position_or_len (passes p) xs) (length xs)) _ _ (le-ltb _ _ (omega arith)))

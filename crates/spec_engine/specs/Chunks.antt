@@ -5,6 +5,7 @@ use Rattle.spec_isa.specs.declared.thread.Load.{Load}
 use Rattle.spec_isa.specs.Words.{Stored, lays, read, holds, is_inside}
 use Rattle.spec_isa.specs.Instruction.{Next, serial_of, loads_of, next_of, load_of, store_of}
 use Rattle.spec_isa.specs.Runs.{Run, begun, followed}
+use Rattle.spec_isa.specs.Threads.{started}
 use Rattle.spec_engine.specs.declared.answers.How.{How}
 use Rattle.spec_engine.specs.declared.answers.Stepped.{Stepped}
 use Rattle.spec_engine.specs.declared.answers.CutReply.{CutReply}
@@ -42,6 +43,20 @@ fresh bits i t limit halves =
       halves = halves;
       squashes = 0;
     }
+
+-- what a core has its chunks run on: for how many instructions and words there is room, and the chunk
+pub record Engine : Type 0 where
+  pub most : ℕ
+  pub capacity : ℕ
+  pub chunk : Chunk
+
+-- a new engine, whose chunk has run nothing
+abbrev pub new_engine : (most capacity bits : ℕ) → Engine
+new_engine most capacity bits = record { most = most; capacity = capacity; chunk = fresh bits 0 (started 0) most false }
+
+-- with this chunk
+abbrev pub with_chunk : Chunk → Engine → Engine
+with_chunk ch e = record e { chunk = ch }
 
 -- ---- one step
 

@@ -1,5 +1,5 @@
 -- Flights: commits whose stores are still being made visible, each in its slot.
-use Rattle.std.specs.Prelude.{ℕ, zero, suc, ◌/◌, ◌%◌, ◌^◌, Bool, true, false, ◌&&◌, ◌||◌, nat_eq, List, [], ◌∷◌, Option, Some, None, bit_or, if◌then◌else◌, slice_set, slice_index_or}
+use Rattle.std.specs.Prelude.{ℕ, zero, suc, ◌+◌, ◌*◌, ◌≤◌, ◌≡◌, ◌/◌, ◌%◌, ◌^◌, Bool, true, false, ◌&&◌, ◌||◌, nat_eq, List, [], ◌∷◌, Option, Some, None, bit_or, if◌then◌else◌, slice_set, slice_index_or}
 use Rattle.std.specs.List.{position}
 use Rattle.spec_isa.specs.Words.{Stored, lay}
 use Rattle.spec_engine.specs.declared.answers.Drain.{Drain}
@@ -127,3 +127,24 @@ abbrev pub retire : (cores : ℕ) → Option Flight → Retired
 retire n None = record { reply = Retire.NoCommit; slot = None }
 retire n (Some f) =
     if is_done n f then record { reply = Retire.Retired; slot = None } else record { reply = Retire.NotDone; slot = Some f }
+
+-- ---- what the calls of one slot ask for
+
+-- its signature has so many bits, if there is a flight
+abbrev pub IsOfSize : (bits : ℕ) → Option Flight → Type 0
+IsOfSize bits None = Unit {0}
+IsOfSize bits (Some f) = f.writes.bits ≡ bits
+
+-- the same of every slot
+pub record AreOfSize (bits : ℕ) (slots : List (Option Flight)) : Type 0 where
+  pub each : (k : ℕ) → IsOfSize bits (at slots k)
+
+-- each of these words lies in a memory of that size
+abbrev pub AreInside : (size : ℕ) → List Stored → Type 0
+AreInside size [] = Unit {0}
+AreInside size (s ∷ ss) = (4 * s.word + 4 ≤ size) × AreInside size ss
+
+-- the words left do, if there is a flight
+abbrev pub IsInside : (size : ℕ) → Option Flight → Type 0
+IsInside size None = Unit {0}
+IsInside size (Some f) = AreInside size f.words

@@ -1,14 +1,16 @@
 -- What is promised of these definitions.
-use Rattle.std.specs.Prelude.{◌≡◌, ◌≢◌, ℕ, ◌<◌, Bool, true, false, List, Option, Some, None}
+use Rattle.std.specs.Prelude.{◌≡◌, ◌≢◌, ℕ, ◌<◌, Bool, true, false, List, Option, Some, None, ◌/◌, [], ◌∷◌}
 use Rattle.spec_isa.specs.declared.thread.Kind.{Kind}
-use Rattle.spec_isa.specs.Words.{lays}
+use Rattle.spec_isa.specs.declared.thread.Load.{Load}
+use Rattle.spec_isa.specs.declared.thread.Parts.{Parts}
+use Rattle.spec_isa.specs.Words.{Stored, lays}
 use Rattle.spec_isa.specs.Instruction.{Serial, one}
 use Rattle.spec_isa.specs.Runs.{more}
 use Rattle.spec_engine.specs.declared.answers.How.{How}
 use Rattle.spec_engine.specs.declared.answers.Stepped.{Stepped}
-use Rattle.spec_engine.specs.Signatures.{Marks, nothing, insert, covers, hits}
+use Rattle.spec_engine.specs.Signatures.{Marks, nothing, line, insert, covers, hits}
 use Rattle.spec_engine.specs.Flights.{Flight, at, first_slot, told_at, all_told, tell}
-use Rattle.spec_engine.specs.Chunks.{Chunk, Stepping, step}
+use Rattle.spec_engine.specs.Chunks.{Chunk, Stepping, fresh, squash, step}
 
 -- a signature covers a line that was inserted, and what it covered before
 pub record SignaturesCover : Type 0 where
@@ -51,3 +53,26 @@ abbrev pub StepsAreInstructions : Type 0
 StepsAreInstructions =
     (capacity : ℕ) (m : List ℕ) (slots : List (Option Flight)) (c : ℕ) (ch : Chunk) →
     let s = step capacity m slots c ch in StepAgrees m ch s s.reply
+
+-- ---- the lines of a chunk
+
+-- the signature covers the lines of these words of a sphere
+abbrev pub CoversWords : (sphere : ℕ) → Marks → List Stored → Type 0
+CoversWords i g [] = Unit {0}
+CoversWords i g (s ∷ ss) = (covers g (line i s.word) ≡ true) × CoversWords i g ss
+
+-- and those of the words that these loads read
+abbrev pub CoversLoads : (sphere : ℕ) → Marks → List Load → Type 0
+CoversLoads i g [] = Unit {0}
+CoversLoads i g (l ∷ ls) = (covers g (line i (l.addr / 4)) ≡ true) × CoversLoads i g ls
+
+-- a chunk's writes cover the lines of its words, and its reads those of its loads
+pub record IsCovered (ch : Chunk) : Type 0 where
+  pub words : CoversWords ch.sphere ch.writes ch.done.words
+  pub loads : CoversLoads ch.sphere ch.reads ch.done.loads
+
+-- that is so of a fresh chunk, and stays so
+pub record ChunksAreCovered : Type 0 where
+  pub begun : (bits i : ℕ) (t : Parts) (limit : ℕ) (halves : Bool) → IsCovered (fresh bits i t limit halves)
+  pub squashed : (ch : Chunk) → IsCovered (squash ch)
+  pub stepped : (capacity : ℕ) (m : List ℕ) (slots : List (Option Flight)) (c : ℕ) (ch : Chunk) → IsCovered ch → IsCovered (step capacity m slots c ch).chunk

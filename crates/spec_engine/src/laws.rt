@@ -1,5 +1,5 @@
 //! What is promised of signatures, of telling cores, of searches over slots, and of a chunk's step.
-ghost use Rattle.spec_engine.specs.Laws.{CoresAreTold, FindsTheLeast, SignaturesCover, SignaturesHit, StepsAreInstructions};
+ghost use Rattle.spec_engine.specs.Laws.{ChunksAreCovered, CoresAreTold, FindsTheLeast, SignaturesCover, SignaturesHit, StepsAreInstructions};
 
 /// A signature covers all that was inserted.
 pub fn signatures_cover()
@@ -24,4 +24,9 @@ pub fn finds_the_least()
 /// A step of a chunk is one instruction of its run on the memory that it sees, or none.
 pub fn steps_are_instructions()
     ensures { StepsAreInstructions }
+{}
+
+/// A chunk's writes cover the lines of its words, and its reads those of its loads.
+pub fn chunks_are_covered()
+    ensures { ChunksAreCovered }
 {}

@@ -6,5 +6,6 @@ pub mod answers;
 mod laws;
 
 pub use laws::{
-    cores_are_told, finds_the_least, signatures_cover, signatures_hit, steps_are_instructions,
+    chunks_are_covered, cores_are_told, finds_the_least, signatures_cover, signatures_hit,
+    steps_are_instructions,
 };
