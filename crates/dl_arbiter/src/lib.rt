@@ -1,0 +1,9 @@
+//! Which flight a request for a commit runs into: the least that hits it, or none.
+#![tactic(auto)]
+
+pub mod arbiter;
+#[cfg(test)]
+mod tests;
+
+pub use arbiter::{ask, ask_serial};
+pub use spec_engine::answers::{Asked, AskedSerial};

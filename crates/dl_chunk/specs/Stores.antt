@@ -1,0 +1,34 @@
+-- What a chunk stores and marks: its words, over its sphere's memory, and the lines that it reads and stores to.
+use Rattle.std.specs.Prelude.{◌≡◌, ℕ, [], Option, Some, None}
+use Rattle.spec_isa.specs.Words.{Stored, put}
+use Rattle.dl_wbuf.specs.Buffers.{Words}
+use Rattle.spec_engine.specs.Signatures.{Marks, nothing, insert, line}
+
+pub record Notes : Type 0 where
+  pub sphere : ℕ
+  pub words : Words
+  pub reads : Marks
+  pub writes : Marks
+
+-- with no word and no line
+abbrev pub bare : (capacity bits sphere : ℕ) → Notes
+bare capacity bits i = record { sphere = i; words = record { capacity = capacity; words = [] }; reads = nothing bits; writes = nothing bits }
+
+-- the same room, emptied, for this sphere
+abbrev pub emptied : (sphere : ℕ) → Notes → Notes
+emptied i n = bare n.words.capacity n.reads.bits i
+
+-- a word was read, or none
+abbrev pub with_read : Option ℕ → Notes → Notes
+with_read None n = n
+with_read (Some a) n = record n { reads = insert (line n.sphere a) n.reads }
+
+-- a store was made, or none
+abbrev pub with_written : Option Stored → Notes → Notes
+with_written None n = n
+with_written (Some s) n =
+    record n { words = record n.words { words = put n.words.words s }; writes = insert (line n.sphere s.word) n.writes }
+
+-- both signatures have one size
+pub record AreNotes (sphere : ℕ) (reads writes : Marks) : Type 0 where
+  pub size : writes.bits ≡ reads.bits

@@ -1,0 +1,74 @@
+//! A sphere's memory as a chunk on a core sees it: with the chunk's own words over it, and words held up by the flights that
+//! the core was told of.
+ghost use Rattle.std.specs.Prelude.{◌≡◌, Some};
+ghost use Rattle.dl_thread.specs.Answer.{after, did, thread_next};
+ghost use Rattle.dl_chunk.specs.Seeing.{left, shown};
+
+use crate::store::Store;
+use dl_fly::Flights;
+use dl_mem::Memory;
+use dl_sig::Sig;
+use dl_thread::{Did, Full, Thread, View, one};
+
+// The memory and the flights, beside what the chunk stores and marks.
+#[derive(Drop)]
+struct Seen<'a, G: Sig> {
+    memory: &'a Memory,
+    flights: &'a Flights<G>,
+    core: u8,
+    store: &'a mut Store<G>,
+}
+
+impl<'a, G: Sig> View for Seen<'a, G> {
+    ghost use Rattle.dl_chunk.specs.Stores.{with_read, with_written};
+    ghost use Rattle.dl_chunk.specs.Seeing.{IsSame};
+
+    ghost sight = { λ v. shown v.memory.now v.flights.now.slots v.core v.store.now };
+
+    ghost Read = { λ v a w. IsSame v.memory.now w.memory.now v.flights.now w.flights.now v.core w.core v.store.ghost_name w.store.ghost_name × (w.store.now ≡ with_read (Some a) v.store.now) };
+
+    ghost Wrote = { λ v b w. IsSame v.memory.now w.memory.now v.flights.now w.flights.now v.core w.core v.store.ghost_name w.store.ghost_name × (w.store.now ≡ with_written (Some b) v.store.now) };
+
+    #[tactic(auto, using(spec_isa::proofs::MemoryLaws::length_lays))]
+    fn size(&self) -> u32 {
+        self.memory.size()
+    }
+
+    fn fetch(&mut self, addr: u32) -> Result<u32, u8> {
+        if let Some(flight) = self.flights.holder(self.core, self.store.line(addr)) {
+            return Err(flight);
+        }
+        let word = self.store.words().over(addr, self.memory.word(addr));
+        self.store.note_read(addr);
+        Ok(word)
+    }
+
+    fn load(&mut self, word: u32) -> Result<u32, u8> {
+        self.fetch(word)
+    }
+
+    fn store(&mut self, word: u32, mask: u8, value: u32) -> Result<(), Full> {
+        self.store.put(word, mask, value)
+    }
+}
+
+// One instruction of a thread over the memory, beside the flights, by what its chunk stores and marks.
+pub(crate) fn run_one<G: Sig>(
+    state: &mut Thread,
+    store: &mut Store<G>,
+    memory: &Memory,
+    flights: &Flights<G>,
+    core: u8,
+) -> Did
+    ensures did { result ≡ did (shown memory.now flights.now.slots core store.old) state.old }
+    ensures thread { state.new ≡ after result state.old (thread_next (shown memory.now flights.now.slots core store.old) state.old) }
+    ensures store { store.new ≡ left (shown memory.now flights.now.slots core store.old) state.old result store.old }
+{
+    let mut seen = Seen {
+        memory,
+        flights,
+        core,
+        store,
+    };
+    one(state, &mut seen)
+}

@@ -1,0 +1,10 @@
+-- What is true of every row of slots.
+use Rattle.std.specs.Prelude.{ℕ, ◌≤◌, List, length, Option}
+use Rattle.spec_engine.specs.Flights.{Flight}
+
+-- there are from 1 to 8 cores, and from 1 to 8 slots
+pub record AreSlots (cores : ℕ) (slots : List (Option Flight)) : Type 0 where
+  pub some_core : 1 ≤ cores
+  pub most_cores : cores ≤ 8
+  pub some_slot : 1 ≤ length slots
+  pub most_slots : length slots ≤ 8

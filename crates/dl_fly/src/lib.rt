@@ -1,0 +1,12 @@
+//! Commits whose stores are still being made visible: callers see the slots, each free or with its flight.
+#![tactic(auto)]
+
+pub mod flight;
+pub mod flights;
+mod slot;
+#[cfg(test)]
+mod tests;
+
+pub use flight::Flight;
+pub use flights::Flights;
+pub use spec_engine::answers::{Deliver, Drain, Retire};

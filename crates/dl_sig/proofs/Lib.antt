@@ -1,0 +1,3 @@
+pub mod Sets
+pub mod Bits
+pub mod Flagged

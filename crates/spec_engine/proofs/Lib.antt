@@ -1,0 +1,6 @@
+mod Examples
+pub mod Marking
+pub mod Searches
+pub mod Choosing
+pub mod Stepping
+pub mod Covering

@@ -1,0 +1,62 @@
+-- Signatures: two banks of bits, in each of which every line has a place. A line is marked by setting both of its bits.
+use Rattle.std.specs.Prelude.{ℕ, ◌+◌, ◌*◌, ◌/◌, ◌%◌, ◌^◌, Bool, not, ◌&&◌, nat_eq, List, [], ◌∷◌}
+use Rattle.std.specs.Coded.{Coded, coded_ℕ}
+use Rattle.std.specs.FinSet as set
+use Rattle.std.specs.List.{list_any}
+use Rattle.std.specs.Ordering.{nat_cmp}
+use Rattle.spec_isa.specs.Words.{Stored}
+
+-- a signature has a power of two of bits, from 64 to 2048
+abbrev pub is_size : (bits : ℕ) → Bool
+is_size bits = list_any (λ size. nat_eq bits size) (64 ∷ 128 ∷ 256 ∷ 512 ∷ 1024 ∷ 2048 ∷ [])
+
+-- the line of a sphere's word, of which a line has eight
+abbrev pub line : (sphere word : ℕ) → ℕ
+line i a = i * 2 ^ 19 + a / 8
+
+-- each bank has half of the bits
+abbrev pub bank : (bits : ℕ) → ℕ
+bank bits = bits / 2
+
+-- the place of a line in the first bank: the line modulo the bank's size
+abbrev pub low_place : (bits line : ℕ) → ℕ
+low_place bits l = l % bank bits
+
+-- its place in the second bank: the highest bits of a product of 32 bits, as many as number the bank's places
+abbrev pub high_place : (bits line : ℕ) → ℕ
+high_place bits l = l * 2654435761 % 2 ^ 32 / (2 ^ 32 / bank bits)
+
+-- the size, and the places that are set in each bank
+pub record Marks : Type 0 where
+  pub bits : ℕ
+  pub low : set.FinSet nat_cmp
+  pub high : set.FinSet nat_cmp
+
+-- a set of places as a value of models
+abbrev pub places_code : Coded (set.FinSet nat_cmp)
+places_code = set.code coded_ℕ
+
+-- no line is marked
+abbrev pub nothing : (bits : ℕ) → Marks
+nothing bits = record { bits = bits; low = set.empty; high = set.empty }
+
+-- one line more is marked
+abbrev pub insert : (line : ℕ) → Marks → Marks
+insert l g = record g { low = set.insert g.low (low_place g.bits l); high = set.insert g.high (high_place g.bits l) }
+
+-- both bits of the line are set
+abbrev pub covers : Marks → (line : ℕ) → Bool
+covers g l = set.contains g.low (low_place g.bits l) && set.contains g.high (high_place g.bits l)
+
+-- two sets share a place
+unfoldable pub meets : set.FinSet nat_cmp → set.FinSet nat_cmp → Bool
+meets s t = not (nat_eq (set.len (set.intersection s t)) 0)
+
+-- two signatures hit where both banks share a set bit
+abbrev pub hits : Marks → Marks → Bool
+hits g h = meets g.low h.low && meets g.high h.high
+
+-- the lines of these words of a sphere are marked too
+abbrev pub signed : (sphere : ℕ) → List Stored → Marks → Marks
+signed i [] g = g
+signed i (s ∷ ss) g = signed i ss (insert (line i s.word) g)

@@ -1,0 +1,11 @@
+//! The engine below the machine as definitions: signatures of lines, flights in their slots, the chunk of one core and its
+//! step, and which flight an ask runs into; with the plain answers that these speak of.
+#![tactic(auto)]
+
+pub mod answers;
+mod laws;
+
+pub use laws::{
+    chunks_are_covered, cores_are_told, finds_the_least, signatures_cover, signatures_hit,
+    steps_are_instructions,
+};

@@ -1,0 +1,97 @@
+-- What a thread's next step, where it is serial, wants from outside.
+use Rattle.std.specs.Prelude.{ℕ, ◌+◌, ◌/◌, min, nat_eq, nat_le, List, length, take, drop, Option, Some, None, if◌then◌else◌}
+use Rattle.spec_isa.specs.declared.thread.Parts.{Parts}
+use Rattle.spec_isa.specs.declared.thread.Kind.{Kind}
+use Rattle.spec_isa.specs.declared.plan.Plan.{Plan}
+use Rattle.spec_isa.specs.Words.{read}
+use Rattle.spec_isa.specs.Planned.{register}
+use Rattle.spec_isa.specs.Instruction.{serial_of, plan_of}
+
+-- ---- the next instruction
+
+-- the word that is fetched
+abbrev pub fetched : Parts → List ℕ → ℕ
+fetched t m = read m (t.pc / 4)
+
+-- why it is serial, or none where it is not
+unfoldable pub next_kind : Parts → List ℕ → Option Kind
+next_kind t m = serial_of t (fetched t m) (length m)
+
+-- what it is to do, once its registers are read
+unfoldable pub next_plan : Parts → List ℕ → Plan
+next_plan t m = plan_of t (fetched t m)
+
+-- ---- the outside answer
+
+pub data Need : Type 0 where
+  -- to put these bytes on a channel
+  Write : (channel : ℕ) (bytes : List ℕ) → Need
+  -- at most so many bytes of a channel, for a buffer
+  Read : (channel buf len : ℕ) → Need
+  -- so many random bytes, for a buffer
+  Random : (buf len : ℕ) → Need
+  -- the moment
+  Clock : Need
+  -- the moment, by a load of its device word
+  MomentWord : Need
+  -- the next byte of the input, by a load of its device word
+  InputWord : Need
+
+-- the number of a call, and its arguments
+abbrev pub number_of : Parts → ℕ
+number_of t = register t 17
+
+abbrev pub a0 : Parts → ℕ
+a0 t = register t 10
+
+abbrev pub a1 : Parts → ℕ
+a1 t = register t 11
+
+abbrev pub a2 : Parts → ℕ
+a2 t = register t 12
+
+-- lengths are cut to 4,096
+abbrev pub cut : ℕ → ℕ
+cut len = min len 4096
+
+-- a buffer that ends beyond the memory is bad, and nothing is wanted for it
+abbrev pub if_inside : (size buf len : ℕ) → Need → Option Need
+if_inside size buf len need = if nat_le (buf + len) size then Some need else None
+
+abbrev pub need_of_write : Parts → List ℕ → Option Need
+need_of_write t m =
+    let buf = a1 t in
+    let len = cut (a2 t) in if_inside (length m) buf len (Write (a0 t) (take len (drop buf m)))
+
+abbrev pub need_of_read : Parts → List ℕ → Option Need
+need_of_read t m =
+    let buf = a1 t in
+    let len = cut (a2 t) in if_inside (length m) buf len (Read (a0 t) buf len)
+
+abbrev pub need_of_random : Parts → List ℕ → Option Need
+need_of_random t m =
+    let buf = a0 t in
+    let len = cut (a1 t) in if_inside (length m) buf len (Random buf len)
+
+-- calls 2 to 5 go outside: write, read, random and clock
+abbrev pub need_of_call : Parts → List ℕ → Option Need
+need_of_call t m =
+    if nat_eq (number_of t) 2 then need_of_write t m
+    else if nat_eq (number_of t) 3 then need_of_read t m
+    else if nat_eq (number_of t) 4 then need_of_random t m
+    else if nat_eq (number_of t) 5 then Some Clock
+    else None
+
+-- a load of the moment's word, or of the input's word
+abbrev pub need_of_load : Plan → Option Need
+need_of_load (Plan.Load op rd a) = Some (if nat_eq a 0xF0000000 then MomentWord else InputWord)
+need_of_load _ = None
+
+abbrev pub need_of : Option Kind → Parts → List ℕ → Option Need
+need_of (Some Kind.Call) t m = need_of_call t m
+need_of (Some Kind.DeviceLoad) t m = need_of_load (next_plan t m)
+need_of _ t m = None
+
+-- what the next step wants, if anything
+unfoldable pub need : Parts → List ℕ → Option Need
+need t m = need_of (next_kind t m) t m

@@ -1,0 +1,44 @@
+-- How far a sphere has come, and how much of a log is used.
+use Rattle.std.specs.Prelude.{ℕ, suc, List, [], ◌∷◌, ◌++◌, length, Option, Some, None}
+use Rattle.dl_entry.specs.declared.Commit.{Commit}
+use Rattle.dl_entry.specs.declared.Request.{Request}
+use Rattle.spec_play.specs.Effects.{Effect, dma_commit}
+
+-- the whole commits that are done, the thread that committed last, and the outstanding DMA request
+pub record Progress : Type 0 where
+  pub commits : List Commit
+  pub last : Option ℕ
+  pub request : Option Request
+
+abbrev pub no_progress : Progress
+no_progress = record { commits = []; last = None; request = None }
+
+-- how many commits are done: the index of the next
+abbrev pub position : Progress → ℕ
+position p = length p.commits
+
+-- a commit of thread k more
+abbrev pub with_effect : (thread : ℕ) → Effect → Progress → Progress
+with_effect k e p = record { commits = p.commits ++ e.commit ∷ []; last = Some k; request = e.request }
+
+-- a DMA more, which moves no turn
+abbrev pub with_dma : Progress → Progress
+with_dma p = record { commits = p.commits ++ dma_commit ∷ []; last = p.last; request = None }
+
+-- how many input, interrupt and DMA records of a log are taken
+pub record Used : Type 0 where
+  pub inputs : ℕ
+  pub interrupts : ℕ
+  pub dmas : ℕ
+
+abbrev pub nothing_used : Used
+nothing_used = record { inputs = 0; interrupts = 0; dmas = 0 }
+
+abbrev pub with_interrupt : Used → Used
+with_interrupt u = record u { interrupts = suc u.interrupts }
+
+abbrev pub with_input : Used → Used
+with_input u = record u { inputs = suc u.inputs }
+
+abbrev pub with_dma_used : Used → Used
+with_dma_used u = record u { dmas = suc u.dmas }

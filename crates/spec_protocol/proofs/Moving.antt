@@ -1,0 +1,340 @@
+-- What a granted request leaves alone in its sphere, whatever its role: the memory, the other threads and their limits.
+use Rattle.std.proofs.Common.{◌≡◌, ◌≢◌, ℕ, zero, suc, ◌+◌, ◌-◌, Bool, true, false, eqb, cond, List, [], ◌∷◌, ◌++◌, length, Option, Some, None, refl, sym, ap, ◌∙◌, subst, set}
+use Rattle.std.specs.Prelude.{slice_get, slice_set, max}
+use Rattle.std.proofs.lemmas.Bool.{true≢false, eqb-true, ne_eqb}
+use Rattle.std.proofs.lemmas.Option.{none-some}
+use Rattle.dl_entry.specs.declared.Actor.{Actor}
+use Rattle.dl_entry.specs.declared.Input.{Input}
+use Rattle.dl_entry.specs.declared.Request.{Request}
+use Rattle.dl_entry.specs.declared.Why.{Why}
+use Rattle.spec_isa.specs.declared.thread.Parts.{Parts}
+use Rattle.spec_isa.specs.declared.thread.Kind.{Kind}
+use Rattle.spec_isa.specs.declared.plan.Plan.{Plan}
+use Rattle.spec_isa.specs.Words.{Stored, put, Apart}
+use Rattle.spec_isa.specs.Planned.{stored}
+use Rattle.spec_isa.specs.Runs.{Run}
+use Rattle.spec_isa.proofs.BufferLaws.{Apart-put}
+use Rattle.spec_log.specs.declared.LogParts.{LogParts}
+use Rattle.spec_log.specs.Size.{size_in}
+use Rattle.spec_kernel.specs.Devices.{Devices}
+use Rattle.spec_kernel.specs.Copies.{bytes_put}
+use Rattle.spec_kernel.specs.Needs.{Need, Write, Read, Random, Clock, MomentWord, InputWord, need}
+use Rattle.spec_kernel.specs.Interrupts.{takes_interrupt, interrupted}
+use Rattle.spec_kernel.specs.Serving.{Served, copy_of, outside_called, is_outside, inside_called, device_loaded, device_stored, serve_kind, serve, console_told}
+use Rattle.spec_kernel.specs.Calls.{called}
+use Rattle.spec_play.specs.Effects.{Effect, chunk_effect, serial_effect}
+use Rattle.spec_play.specs.Progress.{Progress, Used}
+use Rattle.spec_play.specs.Turns.{Now, Turn, TurnOfDma, Over}
+use Rattle.spec_play.specs.Verdicts.{Verdict, Goes, Fails, unless, interrupt_at, with_interrupted, chunk_why, chunk_verdict, Given, given, serial_why, served_verdict, serial_verdict}
+use Rattle.spec_play.specs.Plays.{with_threads}
+use Rattle.spec_protocol.specs.Spheres.{Book, Role, Plain, Record, Replay, Sphere, is_over, is_stopped, actor_of, head_in, whole_limit, pieces_of, limit_in, limit_of, halves}
+use Rattle.spec_protocol.specs.Commits.{Outcome, Granted, Piece, Diverged, Moved, granted_as, by_verdict, joined, piece_moved, replayed_chunk, chunk_in, chunk_moved, serial_in, serial_moved, taken, serial_noted}
+use Rattle.spec_protocol.specs.Asking.{other_turn}
+use Rattle.spec_protocol.specs.Placing.{replays}
+
+-- ---- threads
+
+pub get-set_other : {A : Type 0} (xs : List A) (k j : ℕ) (x : A) → j ≢ k → slice_get (set xs k x) j ≡ slice_get xs j
+get-set_other [] k j x ne = refl
+get-set_other (y ∷ ys) zero zero x ne = absurd (ne refl)
+get-set_other (y ∷ ys) zero (suc j) x ne = refl
+get-set_other (y ∷ ys) (suc k) zero x ne = refl
+get-set_other (y ∷ ys) (suc k) (suc j) x ne = get-set_other ys k j x (λ e. ne (ap suc e))
+
+pub get-set_same : {A : Type 0} (xs : List A) (k : ℕ) (x y : A) → slice_get xs k ≡ Some y → slice_get (set xs k x) k ≡ Some x
+get-set_same [] k x y e = absurd (none-some y e)
+get-set_same (z ∷ zs) zero x y e = refl
+get-set_same (z ∷ zs) (suc k) x y e = get-set_same zs k x y e
+
+pub get-append : {A : Type 0} (xs ys : List A) (j : ℕ) (x : A) → slice_get xs j ≡ Some x → slice_get (xs ++ ys) j ≡ Some x
+get-append [] ys j x e = absurd (none-some x e)
+get-append (y ∷ xs) ys zero x e = e
+get-append (y ∷ xs) ys (suc j) x e = get-append xs ys j x e
+
+-- ---- limits
+
+abbrev pieces_if : Bool → ℕ → ℕ
+pieces_if b n = cond b n 0
+
+either_none : (b : Bool) → pieces_if b 0 ≡ 0
+either_none true = refl
+either_none false = refl
+
+pub pieces_none : (now : Now) (j : ℕ) → pieces_of now j 0 ≡ 0
+pieces_none (Turn k) j = either_none (eqb k j)
+pieces_none TurnOfDma j = refl
+pieces_none (Over how) j = refl
+
+pieces_other : (k j total : ℕ) → j ≢ k → pieces_of (Turn k) j total ≡ 0
+pieces_other k j total ne = ap (λ (b : Bool). pieces_if b total) (ne_eqb k j (λ e. ne (sym e)))
+
+-- the thread has the turn in a replay that hasn't stopped
+turn_is : (now : Now) (k : ℕ) → is_over now ≡ false → other_turn (actor_of now) k ≡ None → now ≡ Turn k
+turn_is (Turn j) k going e =
+    ap Turn (eqb-true j k (elim (eqb j k) as (λ b. cond b None (Some (Actor.Thread j)) ≡ None → b ≡ true) [
+      | true ↦ λ h. refl
+      | false ↦ λ h. absurd (none-some (Actor.Thread j) (sym h))
+    ] e))
+turn_is TurnOfDma k going e = absurd (none-some Actor.Dma (sym e))
+turn_is (Over how) k going e = absurd (true≢false going)
+
+-- ---- what a commit of thread k keeps of its sphere
+
+pub record KeepsOthers (k : ℕ) (p q : Sphere) : Type 0 where
+  pub memory : q.memory ≡ p.memory
+  pub threads : (j : ℕ) (t : Parts) → j ≢ k → slice_get p.threads j ≡ Some t → slice_get q.threads j ≡ Some t
+  pub halving : halves q.role ≡ halves p.role
+  pub replaying : replays q.role ≡ replays p.role
+  pub limits : (s j : ℕ) (t : Parts) → j ≢ k → is_stopped q.role ≡ false → limit_of s q.role j t ≡ limit_of s p.role j t
+
+-- a divergence stores nothing, changes no thread and no device, and stops the sphere
+abbrev pub Divergence : Devices → Sphere → Moved → Outcome → Type 0
+Divergence devices p v Granted = Unit {0}
+Divergence devices p v Piece = Unit {0}
+Divergence devices p v (Diverged i why) = (v.words ≡ []) × (v.devices ≡ devices) × (v.sphere.threads ≡ p.threads) × (is_stopped v.sphere.role ≡ true)
+
+pub record MovesOnly (k : ℕ) (devices : Devices) (p : Sphere) (v : Moved) : Type 0 where
+  pub keeps : KeepsOthers k p v.sphere
+  pub apart : Apart v.words
+  pub divergence : Divergence devices p v v.outcome
+
+-- the thread of a replay that goes on has the turn
+pub record HasTurn (k : ℕ) (role : Role) (p : Sphere) : Type 0 where
+  pub going : is_stopped role ≡ false
+  pub turn : other_turn (head_in role p) k ≡ None
+
+threads_kept : (k : ℕ) (e : Effect) (ts : List Parts) (j : ℕ) (t : Parts) → j ≢ k → slice_get ts j ≡ Some t → slice_get (with_threads k e ts) j ≡ Some t
+threads_kept k e ts j t ne is = get-append (slice_set ts k e.thread) e.made j t (get-set_other ts k j e.thread ne ∙ is)
+
+verdict_moves : (k : ℕ) (b : Book) (verdict : Verdict) (devices : Devices) (p : Sphere) → p.role ≡ Replay b → b.now ≡ Turn k → ((e : Effect) (u : Used) → verdict ≡ Goes e u → Apart e.words) → MovesOnly k devices p (by_verdict b k verdict devices p)
+unfolding limit_of
+verdict_moves k b (Fails why) devices p is turn apart =
+    record {
+      keeps = record {
+        memory = refl;
+        threads = λ j t ne h. h;
+        halving = ap halves (sym is);
+        replaying = ap replays (sym is);
+        limits = λ s j t ne going. absurd (true≢false going);
+      };
+      apart = tt;
+      divergence = (refl, refl, refl, refl);
+    }
+verdict_moves k b (Goes e u) devices p is turn apart =
+    record {
+      keeps = record {
+        memory = refl;
+        threads = λ j t ne h. threads_kept k e p.threads j t ne h;
+        halving = ap halves (sym is);
+        replaying = ap replays (sym is);
+        limits = λ s j t ne going.
+            ap (λ (n : ℕ). max 1 (whole_limit b.log j t.commits - n)) (pieces_none _ j ∙ sym (ap (λ (now : Now). pieces_of now j b.total) turn ∙ pieces_other k j b.total ne))
+            ∙ ap (λ (r : Role). limit_in r s j t.commits) (sym is);
+      };
+      apart = apart e u refl;
+      divergence = tt;
+    }
+
+-- ---- chunks
+
+by_taken : (b : Bool) (d e f : Effect) (u v : Used) → d.words ≡ e.words → cond b (Goes d u) (Fails Why.Interrupt) ≡ Goes f v → f.words ≡ e.words
+by_taken true d e f u v same is = let g : d ≡ f = cc in ap (λ (x : Effect). x.words) (sym g) ∙ same
+by_taken false d e f u v same is = cc
+
+interrupted_words : (o : Option ℕ) (e : Effect) (u : Used) (f : Effect) (v : Used) → with_interrupted o e u ≡ Goes f v → f.words ≡ e.words
+interrupted_words None e u f v is = let g : e ≡ f = cc in ap (λ (x : Effect). x.words) (sym g)
+interrupted_words (Some value) e u f v is =
+    by_taken (takes_interrupt e.thread) (record e { thread = interrupted value e.thread }) e f _ v refl is
+
+unless_words : (o : Option Why) (x : Verdict) (ws : List Stored) → ((e : Effect) (u : Used) → x ≡ Goes e u → e.words ≡ ws) → (e : Effect) (u : Used) → unless o x ≡ Goes e u → e.words ≡ ws
+unless_words None x ws each e u is = each e u is
+unless_words (Some why) x ws each e u is = cc
+
+chunk_words : (log : LogParts) (p : Progress) (u : Used) (k : ℕ) (r : Run) (e : Effect) (v : Used) → chunk_verdict log p u k r ≡ Goes e v → e.words ≡ r.words
+unfolding chunk_verdict
+chunk_words log p u k r e v is =
+    let x = chunk_effect k p.request r in
+    unless_words (chunk_why (size_in log (Actor.Thread k) r.thread.commits) r.n) (with_interrupted (interrupt_at log.interrupts k x.thread.commits) x u) r.words
+    (λ f w h. interrupted_words (interrupt_at log.interrupts k x.thread.commits) x u f w h) e v is
+
+granted_moves : (k : ℕ) (role : Role) (e : Effect) (ds devices : Devices) (p : Sphere) → halves role ≡ halves p.role → replays role ≡ replays p.role → ((s j : ℕ) (t : Parts) → limit_of s role j t ≡ limit_of s p.role j t) → Apart e.words
+    → MovesOnly k ds p (granted_as role k e devices p)
+granted_moves k role e ds devices p halving replaying limits apart =
+    record {
+      keeps = record {
+        memory = refl;
+        threads = λ j t ne h. threads_kept k e p.threads j t ne h;
+        halving = halving;
+        replaying = replaying;
+        limits = λ s j t ne going. limits s j t;
+      };
+      apart = apart;
+      divergence = tt;
+    }
+
+piece_moves : (k : ℕ) (b : Book) (r : Run) (devices : Devices) (p : Sphere) → p.role ≡ Replay b → b.now ≡ Turn k → Apart r.words → MovesOnly k devices p (piece_moved b k r devices p)
+unfolding limit_of
+piece_moves k b r devices p is turn apart =
+    record {
+      keeps = record {
+        memory = refl;
+        threads = λ j t ne h. get-set_other p.threads k j r.thread ne ∙ h;
+        halving = ap halves (sym is);
+        replaying = ap replays (sym is);
+        limits = λ s j t ne going.
+            ap (λ (n : ℕ). max 1 (whole_limit b.log j t.commits - n))
+            (ap (λ (now : Now). pieces_of now j (b.total + r.n)) turn ∙ pieces_other k j (b.total + r.n) ne ∙ sym (ap (λ (now : Now). pieces_of now j b.total) turn ∙ pieces_other k j b.total ne))
+            ∙ ap (λ (q : Role). limit_in q s j t.commits) (sym is);
+      };
+      apart = apart;
+      divergence = tt;
+    }
+
+replayed_moves : (k : ℕ) (b : Book) (piece : Bool) (r : Run) (devices : Devices) (p : Sphere) → p.role ≡ Replay b → b.now ≡ Turn k → Apart r.words → MovesOnly k devices p (replayed_chunk piece b k r devices p)
+replayed_moves k b true r devices p is turn apart = piece_moves k b r devices p is turn apart
+replayed_moves k b false r devices p is turn apart =
+    verdict_moves k b (chunk_verdict b.log p.progress b.used k (joined b r)) devices p is turn
+    (λ e u h. subst Apart (sym (chunk_words b.log p.progress b.used k (joined b r) e u h)) apart)
+
+chunk_in_moves : (k : ℕ) (role : Role) (piece short : Bool) (r : Run) (devices : Devices) (p : Sphere) → p.role ≡ role → HasTurn k role p → Apart r.words → MovesOnly k devices p (chunk_in role k piece short r devices p)
+unfolding limit_of
+chunk_in_moves k Plain piece short r devices p is turn apart =
+    granted_moves k Plain (chunk_effect k p.progress.request r) devices devices p (ap halves (sym is)) (ap replays (sym is)) (λ s j t. ap (λ (q : Role). limit_in q s j t.commits) (sym is)) apart
+chunk_in_moves k (Record log) piece short r devices p is turn apart =
+    granted_moves k (Record _) (chunk_effect k p.progress.request r) devices devices p (ap halves (sym is)) (ap replays (sym is)) (λ s j t. ap (λ (q : Role). limit_in q s j t.commits) (sym is)) apart
+chunk_in_moves k (Replay b) piece short r devices p is turn apart =
+    replayed_moves k b piece r devices p is (turn_is b.now k turn.going turn.turn) apart
+
+pub chunk-moves : (k : ℕ) (piece short : Bool) (r : Run) (devices : Devices) (p : Sphere) → HasTurn k p.role p → Apart r.words → MovesOnly k devices p (chunk_moved k piece short r devices p)
+unfolding chunk_moved
+chunk-moves k piece short r devices p turn apart = chunk_in_moves k p.role piece short r devices p refl turn apart
+
+-- it stores the run's words, or none
+verdict_stores : (P : List Stored → Type 0) (b : Book) (k : ℕ) (verdict : Verdict) (devices : Devices) (p : Sphere) (ws : List Stored) → P [] → P ws → ((e : Effect) (u : Used) → verdict ≡ Goes e u → e.words ≡ ws) → P (by_verdict b k verdict devices p).words
+verdict_stores P b k (Fails why) devices p ws none some each = none
+verdict_stores P b k (Goes e u) devices p ws none some each = subst P (sym (each e u refl)) some
+
+replayed_stores : (P : List Stored → Type 0) (b : Book) (k : ℕ) (piece : Bool) (r : Run) (devices : Devices) (p : Sphere) → P [] → P r.words → P (replayed_chunk piece b k r devices p).words
+replayed_stores P b k true r devices p none some = some
+replayed_stores P b k false r devices p none some =
+    verdict_stores P b k (chunk_verdict b.log p.progress b.used k (joined b r)) devices p r.words none some
+    (λ e u h. chunk_words b.log p.progress b.used k (joined b r) e u h)
+
+stores_in : (P : List Stored → Type 0) (role : Role) (k : ℕ) (piece short : Bool) (r : Run) (devices : Devices) (p : Sphere) → P [] → P r.words → P (chunk_in role k piece short r devices p).words
+stores_in P Plain k piece short r devices p none some = some
+stores_in P (Record log) k piece short r devices p none some = some
+stores_in P (Replay b) k piece short r devices p none some = replayed_stores P b k piece r devices p none some
+
+pub chunk-stores : (P : List Stored → Type 0) (k : ℕ) (piece short : Bool) (r : Run) (devices : Devices) (p : Sphere) → P [] → P r.words → P (chunk_moved k piece short r devices p).words
+unfolding chunk_moved
+chunk-stores P k piece short r devices p none some = stores_in P p.role k piece short r devices p none some
+
+-- ---- serial steps
+
+pub bytes_apart : (ws : List Stored) (a : ℕ) (bytes : List ℕ) → Apart ws → Apart (bytes_put ws a bytes)
+unfolding bytes_put
+bytes_apart ws a [] apart = apart
+bytes_apart ws a (b ∷ bytes) apart = bytes_apart (put ws (stored 1 a b)) _ bytes (Apart-put ws (stored 1 a b) apart)
+
+copy_apart : (o : Option Need) (r : Input) → Apart (copy_of o r)
+copy_apart None r = tt
+copy_apart (Some (Write channel bytes)) r = tt
+copy_apart (Some (Read channel buf len)) r = bytes_apart [] buf r.bytes tt
+copy_apart (Some (Random buf len)) r = bytes_apart [] buf r.bytes tt
+copy_apart (Some Clock) r = tt
+copy_apart (Some MomentWord) r = tt
+copy_apart (Some InputWord) r = tt
+
+outside_apart : (o : Option Need) (request : Option Request) (t : Parts) (input : Option Input) → Apart (outside_called o request t input).words
+outside_apart o request t None = tt
+outside_apart o request t (Some r) = copy_apart o r
+
+loaded_apart : (request : Option Request) (t : Parts) (p : Plan) (input : Option Input) → Apart (device_loaded request t p input).words
+loaded_apart request t (Plan.Load op rd a) (Some r) = tt
+loaded_apart request t (Plan.Load op rd a) None = tt
+loaded_apart request t (Plan.Go rd value pc) input = tt
+loaded_apart request t (Plan.Stop kind) input = tt
+loaded_apart request t (Plan.Store op a v) input = tt
+loaded_apart request t (Plan.LoadReserved rd a) input = tt
+loaded_apart request t (Plan.StoreConditional rd a v) input = tt
+loaded_apart request t (Plan.Amo op rd a v) input = tt
+
+stored_apart : (request : Option Request) (t : Parts) (p : Plan) → Apart (device_stored request t p).words
+stored_apart request t (Plan.Load op rd a) = tt
+stored_apart request t (Plan.Go rd value pc) = tt
+stored_apart request t (Plan.Stop kind) = tt
+stored_apart request t (Plan.Store op a v) = tt
+stored_apart request t (Plan.LoadReserved rd a) = tt
+stored_apart request t (Plan.StoreConditional rd a v) = tt
+stored_apart request t (Plan.Amo op rd a v) = tt
+
+either : (P : Served → Type 0) (b : Bool) (x y : Served) → P x → P y → P (cond b x y)
+either P true x y p q = p
+either P false x y p q = q
+
+kind_apart : (o : Option Kind) (k : ℕ) (ts : List Parts) (request : Option Request) (t : Parts) (m : List ℕ) (input : Option Input) → Apart (serve_kind o k ts request t m input).words
+kind_apart None k ts request t m input = tt
+kind_apart (Some Kind.Call) k ts request t m input =
+    either (λ (v : Served). Apart v.words) (is_outside t) (outside_called (need t m) request t input) (inside_called (called (length m) k ts request t)) (outside_apart (need t m) request t input) tt
+kind_apart (Some Kind.Break) k ts request t m input = tt
+kind_apart (Some Kind.DeviceLoad) k ts request t m input = loaded_apart request t _ input
+kind_apart (Some Kind.DeviceStore) k ts request t m input = stored_apart request t _
+kind_apart (Some (Kind.Fault cause)) k ts request t m input = tt
+
+-- a kernel copy stores no word twice
+pub serve-apart : (k : ℕ) (ts : List Parts) (request : Option Request) (t : Parts) (m : List ℕ) (input : Option Input) → Apart (serve k ts request t m input).words
+unfolding serve
+serve-apart k ts request t m input = kind_apart _ k ts request t m input
+
+served_apart : (log : LogParts) (p : Progress) (k : ℕ) (ts : List Parts) (t : Parts) (m : List ℕ) (o : Option Given) (e : Effect) (u : Used) → served_verdict log p k ts t m o ≡ Goes e u → Apart e.words
+served_apart log p k ts t m None e u is = cc
+served_apart log p k ts t m (Some g) e u is =
+    subst Apart (sym (interrupted_words _ (serial_effect k (serve k ts p.request t m g.input)) g.used e u is)) (serve-apart k ts p.request t m g.input)
+
+unless_apart : (o : Option Why) (x : Verdict) → ((e : Effect) (u : Used) → x ≡ Goes e u → Apart e.words) → (e : Effect) (u : Used) → unless o x ≡ Goes e u → Apart e.words
+unless_apart None x each e u is = each e u is
+unless_apart (Some why) x each e u is = cc
+
+serial_apart : (log : LogParts) (p : Progress) (u : Used) (k : ℕ) (ts : List Parts) (t : Parts) (m : List ℕ) (e : Effect) (v : Used) → serial_verdict log p u k ts t m ≡ Goes e v → Apart e.words
+unfolding serial_verdict
+serial_apart log p u k ts t m e v is =
+    let g = given (need t m) (slice_get log.inputs u.inputs) u in
+    unless_apart (serial_why (size_in log (Actor.Thread k) t.commits)) (served_verdict log p k ts t m g) (λ f w h. served_apart log p k ts t m g f w h) e v is
+
+serial_in_moves : (k moment : ℕ) (role : Role) (t : Parts) (devices : Devices) (p : Sphere) → p.role ≡ role → HasTurn k role p → MovesOnly k devices p (serial_in role k moment t devices p)
+unfolding limit_of
+serial_in_moves k moment Plain t devices p is turn =
+    let g = taken (need t p.memory) devices moment in
+    let v = serve k p.threads p.progress.request t p.memory g.input in
+    granted_moves k Plain (serial_effect k v) devices (console_told t p.memory v.outputs g.devices) p (ap halves (sym is)) (ap replays (sym is)) (λ s j u. ap (λ (q : Role). limit_in q s j u.commits) (sym is)) (serve-apart k p.threads p.progress.request t p.memory g.input)
+serial_in_moves k moment (Record log) t devices p is turn =
+    let g = taken (need t p.memory) devices moment in
+    let v = serve k p.threads p.progress.request t p.memory g.input in
+    granted_moves k (Record (serial_noted k t g log p)) (serial_effect k v) devices (console_told t p.memory v.outputs g.devices) p (ap halves (sym is)) (ap replays (sym is)) (λ s j u. ap (λ (q : Role). limit_in q s j u.commits) (sym is)) (serve-apart k p.threads p.progress.request t p.memory g.input)
+serial_in_moves k moment (Replay b) t devices p is turn =
+    verdict_moves k b (serial_verdict b.log p.progress b.used k p.threads t p.memory) devices p is (turn_is b.now k turn.going turn.turn)
+    (λ e u h. serial_apart b.log p.progress b.used k p.threads t p.memory e u h)
+
+pub serial-moves : (k moment : ℕ) (t : Parts) (devices : Devices) (p : Sphere) → HasTurn k p.role p → MovesOnly k devices p (serial_moved k moment t devices p)
+unfolding serial_moved
+serial-moves k moment t devices p turn = serial_in_moves k moment p.role t devices p refl turn
+
+-- ---- plain and recorded spheres grant every request
+
+chunk_in_lives : (role : Role) (k : ℕ) (piece short : Bool) (r : Run) (devices : Devices) (p : Sphere) → replays role ≡ false → (chunk_in role k piece short r devices p).outcome ≡ Granted
+chunk_in_lives Plain k piece short r devices p live = refl
+chunk_in_lives (Record log) k piece short r devices p live = refl
+chunk_in_lives (Replay b) k piece short r devices p live = absurd (true≢false live)
+
+pub chunk-lives : (k : ℕ) (piece short : Bool) (r : Run) (devices : Devices) (p : Sphere) → replays p.role ≡ false → (chunk_moved k piece short r devices p).outcome ≡ Granted
+unfolding chunk_moved
+chunk-lives k piece short r devices p live = chunk_in_lives p.role k piece short r devices p live
+
+serial_in_lives : (role : Role) (k moment : ℕ) (t : Parts) (devices : Devices) (p : Sphere) → replays role ≡ false → (serial_in role k moment t devices p).outcome ≡ Granted
+serial_in_lives Plain k moment t devices p live = refl
+serial_in_lives (Record log) k moment t devices p live = refl
+serial_in_lives (Replay b) k moment t devices p live = absurd (true≢false live)
+
+pub serial-lives : (k moment : ℕ) (t : Parts) (devices : Devices) (p : Sphere) → replays p.role ≡ false → (serial_moved k moment t devices p).outcome ≡ Granted
+unfolding serial_moved
+serial-lives k moment t devices p live = serial_in_lives p.role k moment t devices p live

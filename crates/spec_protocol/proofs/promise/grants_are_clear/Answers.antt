@@ -1,0 +1,5 @@
+use Rattle.spec_protocol.proofs.AsksGranted.{grants_clear}
+use Rattle.spec_protocol.proofs.promise.grants_are_clear.Goals as goal
+
+pub returns : goal.returns
+returns c = grants_clear

@@ -1,0 +1,159 @@
+-- The event Ask: a closed chunk is to be committed, or a serial step to be done.
+use Rattle.std.specs.Prelude.{ℕ, ◌^◌, Bool, true, false, not, ◌&&◌, nat_eq, nat_lt, Option, Some, None, if◌then◌else◌}
+use Rattle.dl_entry.specs.declared.Actor.{Actor}
+use Rattle.dl_entry.specs.declared.CommitKind.{CommitKind}
+use Rattle.dl_entry.specs.declared.Point.{Point}
+use Rattle.spec_engine.specs.declared.answers.How.{How}
+use Rattle.spec_engine.specs.declared.answers.Asked.{Asked}
+use Rattle.spec_engine.specs.declared.answers.AskedSerial.{AskedSerial}
+use Rattle.spec_engine.specs.Signatures.{Marks, nothing, signed}
+use Rattle.spec_engine.specs.Flights.{at, is_full}
+use Rattle.spec_engine.specs.Chunks.{Chunk, is_empty_serial}
+use Rattle.spec_engine.specs.Asking.{ask, ask_serial}
+use Rattle.spec_protocol.specs.declared.reply.Reply.{Reply}
+use Rattle.spec_protocol.specs.Spheres.{Role, is_stopped, head_of, is_in_pieces}
+use Rattle.spec_protocol.specs.Commits.{Outcome, Granted, Piece, Diverged, Moved, is_piece, chunk_moved, serial_moved}
+use Rattle.spec_protocol.specs.World.{World, Held, moment, sphere_at, with_sphere, with_core, begun, flown, What, OfChunk, OfSerial, Move, After, still}
+
+-- ---- a granted request
+
+-- a request of a core: its sphere and thread, what it is in full, its kind as a point, its instructions, and whether its
+-- chunk was closed before its standard size
+pub record Request : Type 0 where
+  pub sphere : ℕ
+  pub thread : ℕ
+  pub what : What
+  pub kind : CommitKind
+  pub n : ℕ
+  pub short : Bool
+
+abbrev pub point_at : (moment : ℕ) → Request → CommitKind → Point
+point_at now q kind = Point.Commit now q.sphere (Actor.Thread q.thread) kind q.n q.short
+
+abbrev pub move_at : (moment : ℕ) → Request → Move
+move_at now q = record { moment = now; sphere = q.sphere; what = q.what }
+
+-- the words fly, and the core, which is told, goes on with its thread as it is now
+abbrev pub world_with : World → (core : ℕ) → Request → Marks → Moved → World
+world_with w c q writes v =
+    record w {
+      spheres = (with_sphere w q.sphere v.sphere).spheres;
+      slots = flown q.sphere v.words writes (2 ^ c) w.slots;
+      cores = (with_core w c (begun w.numbers q.sphere q.thread v.sphere)).cores;
+      devices = v.devices;
+    }
+
+abbrev pub granted : World → (core : ℕ) → Request → Marks → Moved → Outcome → After
+granted w c q writes v Granted =
+    record {
+      reply = Reply.Granted;
+      world = world_with w c q writes v;
+      point = Some (point_at (moment w) q q.kind);
+      move = Some (move_at (moment w) q);
+    }
+granted w c q writes v Piece =
+    record {
+      reply = Reply.Piece;
+      world = world_with w c q writes v;
+      point = Some (point_at (moment w) q CommitKind.Piece);
+      move = Some (move_at (moment w) q);
+    }
+granted w c q writes v (Diverged i why) =
+    record {
+      reply = Reply.Diverged i why;
+      world = with_sphere w q.sphere v.sphere;
+      point = None;
+      move = Some (move_at (moment w) q);
+    }
+
+-- ---- a chunk
+
+-- closed by want of room or by Cut, or by a limit below the standard size
+abbrev pub is_short : (s : ℕ) → How → (limit : ℕ) → Bool
+is_short s How.Limit limit = nat_lt limit s
+is_short s How.Serial limit = false
+is_short s How.Overflow limit = true
+is_short s How.Cut limit = true
+
+abbrev pub chunk_request : World → Held → How → Request
+chunk_request w h how =
+    let ch = h.chunk in
+    record {
+      sphere = ch.sphere;
+      thread = h.thread;
+      what = OfChunk h.thread how ch.done.n ch.limit;
+      kind = CommitKind.Chunk;
+      n = ch.done.n;
+      short = is_short w.numbers.chunk how ch.limit;
+    }
+
+unfoldable pub grant_chunk : World → (core : ℕ) → Held → How → After
+grant_chunk w c h how =
+    let q = chunk_request w h how in
+    let v = chunk_moved h.thread (is_piece how) q.short h.chunk.done w.devices (sphere_at w h.chunk.sphere) in
+    granted w c q h.chunk.writes v v.outcome
+
+abbrev pub unless_denied : Asked → World → After → After
+unless_denied Asked.Grant w a = a
+unless_denied (Asked.Denied k) w a = still w (Reply.Denied k)
+
+-- ---- a serial step
+
+abbrev pub serial_request : Held → Request
+serial_request h =
+    record {
+      sphere = h.chunk.sphere;
+      thread = h.thread;
+      what = OfSerial h.thread;
+      kind = CommitKind.Serial;
+      n = 0;
+      short = false;
+    }
+
+-- the thread has run nothing since its last commit
+unfoldable pub grant_serial : World → (core : ℕ) → Held → After
+grant_serial w c h =
+    let i = h.chunk.sphere in
+    let v = serial_moved h.thread (moment w) h.chunk.start w.devices (sphere_at w i) in
+    granted w c (serial_request h) (signed i v.words (nothing w.numbers.signature)) v v.outcome
+
+abbrev pub unless_busy : AskedSerial → World → After → After
+unless_busy AskedSerial.Grant w a = a
+unless_busy (AskedSerial.SphereBusy k) w a = still w (Reply.SphereBusy k)
+
+-- ---- the event
+
+-- a chunk that met a serial instruction before any other, and no piece stands before it
+abbrev pub asks_serial : Chunk → Role → Bool
+asks_serial ch role = is_empty_serial ch && not (is_in_pieces role)
+
+abbrev pub ask_arbiter : World → (core : ℕ) → Held → How → (serial : Bool) → After
+ask_arbiter w c h how true = unless_busy (ask_serial h.chunk.sphere w.slots) w (grant_serial w c h)
+ask_arbiter w c h how false = unless_denied (ask h.chunk.reads h.chunk.writes w.slots) w (grant_chunk w c h how)
+
+-- the actor whose turn it is, where that isn't the thread
+abbrev pub other_turn : Option Actor → (thread : ℕ) → Option Actor
+other_turn None k = None
+other_turn (Some Actor.Dma) k = Some Actor.Dma
+other_turn (Some (Actor.Thread j)) k = if nat_eq j k then None else Some (Actor.Thread j)
+
+abbrev pub unless_turn : Option Actor → World → After → After
+unless_turn None w a = a
+unless_turn (Some actor) w a = still w (Reply.NotTurn actor)
+
+abbrev pub ask_closed : World → (core : ℕ) → Held → Option How → After
+ask_closed w c h None = still w Reply.NotClosed
+ask_closed w c h (Some how) =
+    let p = sphere_at w h.chunk.sphere in
+    if is_stopped p.role then still w Reply.Stopped
+    else unless_turn (other_turn (head_of p) h.thread) w
+    (if is_full w.slots then still w Reply.WindowFull
+    else ask_arbiter w c h how (asks_serial h.chunk p.role))
+
+abbrev pub ask_held : World → (core : ℕ) → Option Held → After
+ask_held w c None = still w Reply.Idle
+ask_held w c (Some h) = ask_closed w c h h.chunk.closed
+
+-- the core asks
+unfoldable pub asking : World → (core : ℕ) → After
+asking w c = ask_held w c (at w.cores c)

@@ -1,0 +1,203 @@
+-- What a granted request makes of its sphere. The machine lets the words fly; the serial execution lays them at once.
+use Rattle.std.specs.Prelude.{ℕ, ◌+◌, Bool, true, false, List, [], ◌++◌, slice_set, Option, Some, None}
+use Rattle.dl_entry.specs.declared.End.{End}
+use Rattle.dl_entry.specs.declared.Input.{Input}
+use Rattle.dl_entry.specs.declared.Request.{Request}
+use Rattle.dl_entry.specs.declared.Why.{Why}
+use Rattle.spec_isa.specs.declared.thread.Parts.{Parts}
+use Rattle.spec_isa.specs.Words.{Stored}
+use Rattle.spec_isa.specs.Runs.{Run}
+use Rattle.spec_log.specs.declared.LogParts.{LogParts}
+use Rattle.spec_kernel.specs.Devices.{Devices}
+use Rattle.spec_kernel.specs.Copies.{dma_words}
+use Rattle.spec_kernel.specs.Needs.{Need, need}
+use Rattle.spec_kernel.specs.Answers.{answer, dma_bytes, dma_taken}
+use Rattle.spec_kernel.specs.Interrupts.{interrupted}
+use Rattle.spec_kernel.specs.Serving.{serve, console_told}
+use Rattle.spec_play.specs.Effects.{Effect, chunk_effect, serial_effect, dma_commit}
+use Rattle.spec_play.specs.Progress.{Progress, position, with_effect, with_dma, Used, with_dma_used}
+use Rattle.spec_play.specs.Turns.{Over, now_at}
+use Rattle.spec_play.specs.Verdicts.{Verdict, Goes, Fails, chunk_verdict, serial_verdict}
+use Rattle.spec_play.specs.Transfers.{DmaVerdict, DmaGoes, DmaFails, dma_verdict}
+use Rattle.spec_play.specs.Plays.{with_threads}
+use Rattle.spec_play.specs.Recording.{noted, input_noted, dma_noted, interrupt_noted}
+use Rattle.spec_engine.specs.declared.answers.How.{How}
+use Rattle.spec_protocol.specs.Spheres.{Book, Role, Plain, Record, Replay, Sphere}
+
+pub data Outcome : Type 0 where
+  -- a whole commit, or the last part of one
+  Granted : Outcome
+  -- a piece of a commit
+  Piece : Outcome
+  -- the replay leaves its log after so many commits
+  Diverged : (commits : ℕ) (why : Why) → Outcome
+
+-- the sphere with its memory as before, the words to be stored, and the devices
+pub record Moved : Type 0 where
+  pub outcome : Outcome
+  pub sphere : Sphere
+  pub words : List Stored
+  pub devices : Devices
+
+-- ---- whole commits of threads
+
+abbrev pub granted_as : Role → (thread : ℕ) → Effect → Devices → Sphere → Moved
+granted_as role k e devices p =
+    record {
+      outcome = Granted;
+      sphere = record p {
+        threads = with_threads k e p.threads;
+        progress = with_effect k e p.progress;
+        role = role;
+      };
+      words = e.words;
+      devices = devices;
+    }
+
+-- only the end is noted
+abbrev pub diverged : Book → Why → Devices → Sphere → Moved
+diverged b why devices p =
+    record {
+      outcome = Diverged (position p.progress) why;
+      sphere = record p { role = Replay (record b { now = Over (End.Diverged (position p.progress) why) }) };
+      words = [];
+      devices = devices;
+    }
+
+-- the book after a whole commit that left this progress and these threads
+abbrev pub turned : LogParts → Progress → Used → List Parts → Book
+turned log progress used threads =
+    record { log = log; used = used; now = now_at log progress used threads; total = 0; loads = [] }
+
+-- as the log says
+abbrev pub by_verdict : Book → (thread : ℕ) → Verdict → Devices → Sphere → Moved
+by_verdict b k (Fails why) devices p = diverged b why devices p
+by_verdict b k (Goes e u) devices p =
+    granted_as (Replay (turned b.log (with_effect k e p.progress) u (with_threads k e p.threads))) k e devices p
+
+-- ---- chunks
+
+-- a replayed chunk that was closed by want of room or by Cut is a piece of a commit
+abbrev pub is_piece : How → Bool
+is_piece How.Limit = false
+is_piece How.Serial = false
+is_piece How.Overflow = true
+is_piece How.Cut = true
+
+-- the run of the last part, with the instructions and the loads of the pieces before it
+abbrev pub joined : Book → Run → Run
+joined b r = record r { loads = b.loads ++ r.loads; n = b.total + r.n }
+
+-- the thread's state moves on; the reservation and the turn stay
+abbrev pub piece_moved : Book → (thread : ℕ) → Run → Devices → Sphere → Moved
+piece_moved b k r devices p =
+    record {
+      outcome = Piece;
+      sphere = record p {
+        threads = slice_set p.threads k r.thread;
+        role = Replay (record b { total = b.total + r.n; loads = b.loads ++ r.loads });
+      };
+      words = r.words;
+      devices = devices;
+    }
+
+abbrev pub replayed_chunk : (is_piece : Bool) → Book → (thread : ℕ) → Run → Devices → Sphere → Moved
+replayed_chunk true b k r devices p = piece_moved b k r devices p
+replayed_chunk false b k r devices p =
+    by_verdict b k (chunk_verdict b.log p.progress b.used k (joined b r)) devices p
+
+abbrev pub chunk_in : Role → (thread : ℕ) → (is_piece short : Bool) → Run → Devices → Sphere → Moved
+chunk_in Plain k piece short r devices p = granted_as Plain k (chunk_effect k p.progress.request r) devices p
+chunk_in (Record log) k piece short r devices p =
+    let e = chunk_effect k p.progress.request r in
+    granted_as (Record (noted e.commit r.thread.commits short log)) k e devices p
+chunk_in (Replay b) k piece short r devices p = replayed_chunk piece b k r devices p
+
+-- the chunk of thread k, which is a run. In a replay it may be a piece; in a recording it may be short, which is closed
+-- before its standard size
+unfoldable pub chunk_moved : (thread : ℕ) → (is_piece short : Bool) → Run → Devices → Sphere → Moved
+chunk_moved k piece short r devices p = chunk_in p.role k piece short r devices p
+
+-- ---- serial steps
+
+-- what was taken from outside, and the devices then
+pub record Taken : Type 0 where
+  pub input : Option Input
+  pub devices : Devices
+
+abbrev pub taken : Option Need → Devices → (moment : ℕ) → Taken
+taken None devices moment = record { input = None; devices = devices }
+taken (Some need) devices moment =
+    let a = answer devices need moment in record { input = Some a.input; devices = a.devices }
+
+-- a role's part in a step that real devices have answered
+abbrev pub served_as : Role → (thread : ℕ) → Parts → Taken → Sphere → Moved
+served_as role k t g p =
+    let v = serve k p.threads p.progress.request t p.memory g.input in
+    granted_as role k (serial_effect k v) (console_told t p.memory v.outputs g.devices) p
+
+-- the log with a serial step and what came for it
+abbrev pub serial_noted : (thread : ℕ) → Parts → Taken → LogParts → Sphere → LogParts
+serial_noted k t g log p =
+    let v = serve k p.threads p.progress.request t p.memory g.input in
+    input_noted g.input (noted (serial_effect k v).commit t.commits false log)
+
+abbrev pub serial_in : Role → (thread : ℕ) → (moment : ℕ) → Parts → Devices → Sphere → Moved
+serial_in Plain k moment t devices p = served_as Plain k t (taken (need t p.memory) devices moment) p
+serial_in (Record log) k moment t devices p =
+    let g = taken (need t p.memory) devices moment in served_as (Record (serial_noted k t g log p)) k t g p
+serial_in (Replay b) k moment t devices p =
+    by_verdict b k (serial_verdict b.log p.progress b.used k p.threads t p.memory) devices p
+
+-- the serial step of thread k, which is t
+unfoldable pub serial_moved : (thread : ℕ) → (moment : ℕ) → Parts → Devices → Sphere → Moved
+serial_moved k moment t devices p = serial_in p.role k moment t devices p
+
+-- ---- DMAs
+
+abbrev pub dma_as : Role → List Stored → Devices → Sphere → Moved
+dma_as role words devices p =
+    record {
+      outcome = Granted;
+      sphere = record p { progress = with_dma p.progress; role = role };
+      words = words;
+      devices = devices;
+    }
+
+-- as many bytes of the input as are asked for, or as are left
+abbrev pub live_dma : Role → Devices → Sphere → Option Request → Option Moved
+live_dma role devices p None = None
+live_dma role devices p (Some request) =
+    Some (dma_as role (dma_words request (dma_bytes devices request)) (dma_taken devices request) p)
+
+abbrev pub dma_log : LogParts → Devices → Sphere → Option Request → LogParts
+dma_log log devices p None = log
+dma_log log devices p (Some request) =
+    dma_noted (position p.progress) (dma_bytes devices request) (noted dma_commit (position p.progress) false log)
+
+abbrev pub dma_by_verdict : Book → DmaVerdict → Devices → Sphere → Moved
+dma_by_verdict b (DmaFails why) devices p = diverged b why devices p
+dma_by_verdict b (DmaGoes words) devices p =
+    dma_as (Replay (turned b.log (with_dma p.progress) (with_dma_used b.used) p.threads)) words devices p
+
+abbrev pub dma_in : Role → Devices → Sphere → Option Moved
+dma_in Plain devices p = live_dma Plain devices p p.progress.request
+dma_in (Record log) devices p =
+    live_dma (Record (dma_log log devices p p.progress.request)) devices p p.progress.request
+dma_in (Replay b) devices p = Some (dma_by_verdict b (dma_verdict b.log p.progress b.used) devices p)
+
+-- the sphere's DMA; none where no request is outstanding, which in a replay is a reason to diverge
+unfoldable pub dma_moved : Devices → Sphere → Option Moved
+dma_moved devices p = dma_in p.role devices p
+
+-- ---- interrupts
+
+abbrev pub role_raised : (thread commits value : ℕ) → Role → Role
+role_raised k commits value Plain = Plain
+role_raised k commits value (Record log) = Record (interrupt_noted k commits value log)
+role_raised k commits value (Replay b) = Replay b
+
+-- thread k, which is t, is interrupted with the value
+unfoldable pub raised : (thread value : ℕ) → Parts → Sphere → Sphere
+raised k value t p =
+    record p { threads = slice_set p.threads k (interrupted value t); role = role_raised k t.commits value p.role }

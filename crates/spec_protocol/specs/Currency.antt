@@ -1,0 +1,59 @@
+-- When a running chunk is current: where no flight of its sphere that its core wasn't told of hits what it has read, it is
+-- what its instructions do on the current memory.
+use Rattle.std.specs.Prelude.{◌≡◌, ℕ, ◌<◌, ◌/◌, Bool, true, false, List, [], ◌∷◌, length, Option, Some, None, IsSome}
+use Rattle.spec_isa.specs.declared.thread.Parts.{Parts}
+use Rattle.spec_isa.specs.declared.thread.Load.{Load}
+use Rattle.spec_isa.specs.Words.{Stored, lays, Lacks, is_inside}
+use Rattle.spec_isa.specs.Instruction.{serial_of, loads_of}
+use Rattle.spec_isa.specs.Runs.{run}
+use Rattle.spec_kernel.specs.Needs.{fetched, next_kind}
+use Rattle.spec_engine.specs.declared.answers.How.{How}
+use Rattle.spec_engine.specs.Signatures.{Marks, line, covers, hits}
+use Rattle.spec_engine.specs.Flights.{Flight, at, told_at}
+use Rattle.spec_engine.specs.Chunks.{Chunk}
+
+-- ---- what is looked at
+
+-- the words that the next instruction of a thread fetches and loads are among those seen
+pub record Touches (seen : ℕ → Bool) (t : Parts) (m : List ℕ) : Type 0 where
+  pub fetch : is_inside (length m) t.pc ≡ true → seen (t.pc / 4) ≡ true
+  pub load : serial_of t (fetched t m) (length m) ≡ None → (a : ℕ) → loads_of t (fetched t m) ≡ Some a → seen a ≡ true
+
+-- so are those of the first n instructions of a run
+abbrev pub RunTouches : (seen : ℕ → Bool) → List ℕ → Parts → (n : ℕ) → Type 0
+RunTouches seen m t n = (i : ℕ) → i < n → Touches seen (run m t i).thread (lays m (run m t i).words)
+
+-- whether a chunk's reads cover a word
+abbrev pub seen_by : Chunk → (word : ℕ) → Bool
+seen_by ch a = covers ch.reads (line ch.sphere a)
+
+-- ---- a current chunk
+
+-- on this memory the chunk's instructions, from its start, give what it has; its reads cover what they fetch and load, and
+-- what the serial instruction does that it was closed before; and that one comes next
+pub record IsCurrent (m : List ℕ) (ch : Chunk) : Type 0 where
+  pub runs : run m ch.start ch.done.n ≡ ch.done
+  pub touches : RunTouches (seen_by ch) m ch.start ch.done.n
+  pub next_touches : ch.closed ≡ Some How.Serial → Touches (seen_by ch) ch.done.thread (lays m ch.done.words)
+  pub next_serial : ch.closed ≡ Some How.Serial → IsSome (next_kind ch.done.thread (lays m ch.done.words))
+
+-- no flight of sphere i that core c was not told of hits these reads
+pub record IsQuiet (slots : List (Option Flight)) (i c : ℕ) (reads : Marks) : Type 0 where
+  pub misses : (k : ℕ) (f : Flight) → at slots k ≡ Some f → f.sphere ≡ i → told_at f.told c ≡ false → hits f.writes reads ≡ false
+
+-- ---- what signatures cover
+
+-- the lines of these words of sphere i
+abbrev pub CoversAll : (i : ℕ) → Marks → List Stored → Type 0
+CoversAll i g [] = Unit {0}
+CoversAll i g (w ∷ ws) = (covers g (line i w.word) ≡ true) × CoversAll i g ws
+
+-- the lines of the words of these loads
+abbrev pub CoversLoads : (i : ℕ) → Marks → List Load → Type 0
+CoversLoads i g [] = Unit {0}
+CoversLoads i g (l ∷ ls) = (covers g (line i (l.addr / 4)) ≡ true) × CoversLoads i g ls
+
+-- no store of the first list is of a word of the second
+abbrev pub AllLack : List Stored → List Stored → Type 0
+AllLack [] ys = Unit {0}
+AllLack (x ∷ xs) ys = Lacks x.word ys × AllLack xs ys

@@ -1,0 +1,70 @@
+-- The events of flights: Drain, Deliver and Retire.
+use Rattle.std.specs.Prelude.{ℕ, length, Option, Some, None}
+use Rattle.spec_engine.specs.declared.answers.Drain.{Drain}
+use Rattle.spec_engine.specs.declared.answers.Deliver.{Deliver}
+use Rattle.spec_engine.specs.declared.answers.Retire.{Retire}
+use Rattle.spec_engine.specs.Signatures.{Marks, nothing}
+use Rattle.spec_engine.specs.Flights.{Flight, at, drain, deliver, retire}
+use Rattle.spec_engine.specs.Chunks.{squash}
+use Rattle.spec_protocol.specs.declared.reply.Reply.{Reply}
+use Rattle.spec_protocol.specs.World.{World, Held, sphere_at, with_memory, with_core, with_slot, After, still, went_on}
+
+-- ---- Drain
+
+abbrev pub reply_of_drain : Drain → Reply
+reply_of_drain Drain.NoCommit = Reply.NoCommit
+reply_of_drain Drain.Clean = Reply.Clean
+reply_of_drain Drain.Drained = Reply.Drained
+
+abbrev pub drain_slot : World → (slot : ℕ) → Option Flight → After
+drain_slot w k None = still w Reply.NoCommit
+drain_slot w k (Some f) =
+    let d = drain (sphere_at w f.sphere).memory (Some f) in
+    went_on (with_slot (with_memory w f.sphere d.memory) k d.slot) (reply_of_drain d.reply)
+
+-- the first word left of the slot's flight goes to the memory of its sphere
+unfoldable pub draining : World → (slot : ℕ) → After
+draining w k = drain_slot w k (at w.slots k)
+
+-- ---- Deliver
+
+-- an idle core has read and stored nothing
+abbrev pub reads_of : World → Option Held → Marks
+reads_of w None = nothing w.numbers.signature
+reads_of w (Some h) = h.chunk.reads
+
+abbrev pub writes_of : World → Option Held → Marks
+writes_of w None = nothing w.numbers.signature
+writes_of w (Some h) = h.chunk.writes
+
+abbrev pub squashed : Option Held → Option Held
+squashed None = None
+squashed (Some h) = Some (record h { chunk = squash h.chunk })
+
+abbrev pub told : World → (core : ℕ) → Option Held → Deliver → After
+told w c held Deliver.NoCommit = still w Reply.NoCommit
+told w c held Deliver.Already = still w Reply.Already
+told w c held Deliver.Squashed = went_on (with_core w c (squashed held)) Reply.Squashed
+told w c held Deliver.Delivered = went_on w Reply.Delivered
+
+abbrev pub deliver_to : World → (core slot : ℕ) → Option Held → After
+deliver_to w c k held =
+    let d = deliver c (reads_of w held) (writes_of w held) (at w.slots k) in
+    told (with_slot w k d.slot) c held d.reply
+
+-- the core is told of the slot's flight
+unfoldable pub delivering : World → (core slot : ℕ) → After
+delivering w c k = deliver_to w c k (at w.cores c)
+
+-- ---- Retire
+
+abbrev pub reply_of_retire : Retire → Reply
+reply_of_retire Retire.NoCommit = Reply.NoCommit
+reply_of_retire Retire.NotDone = Reply.NotDone
+reply_of_retire Retire.Retired = Reply.Retired
+
+-- the slot of a flight with no word left and all cores told becomes free
+unfoldable pub retiring : World → (slot : ℕ) → After
+retiring w k =
+    let d = retire (length w.cores) (at w.slots k) in
+    went_on (with_slot w k d.slot) (reply_of_retire d.reply)

@@ -1,0 +1,83 @@
+-- What holds of every world that the machine comes to.
+use Rattle.std.specs.Prelude.{◌≡◌, ◌≢◌, ℕ, ◌<◌, ◌≤◌, true, false, List, length, slice_get, Option, Some, None}
+use Rattle.spec_isa.specs.declared.thread.Parts.{Parts}
+use Rattle.spec_isa.specs.Words.{lays, Apart}
+use Rattle.spec_kernel.specs.Interrupts.{is_live}
+use Rattle.spec_engine.specs.declared.answers.How.{How}
+use Rattle.spec_engine.specs.Flights.{Flight, at}
+use Rattle.spec_engine.specs.Chunks.{Chunk}
+use Rattle.spec_protocol.specs.Spheres.{Role, is_stopped, limit_of, halves}
+use Rattle.spec_protocol.specs.Placing.{replays}
+use Rattle.spec_protocol.specs.World.{Held, World, sphere_at}
+use Rattle.spec_protocol.specs.Shown.{flying}
+use Rattle.spec_protocol.specs.Currency.{IsCurrent, IsQuiet, CoversAll, CoversLoads}
+
+-- ---- flights
+
+-- a flight's signature covers the lines of its words, and has the machine's size
+pub record IsCovered (bits : ℕ) (f : Flight) : Type 0 where
+  pub size : f.writes.bits ≡ bits
+  pub words : CoversAll f.sphere f.writes f.words
+
+abbrev pub AreCovered : (bits : ℕ) → List (Option Flight) → Type 0
+AreCovered bits slots = (k : ℕ) (f : Flight) → at slots k ≡ Some f → IsCovered bits f
+
+-- ---- chunks
+
+-- how the number of a chunk's instructions stands to its limit, and to its loads and stores
+pub record Closes (capacity : ℕ) (ch : Chunk) : Type 0 where
+  pub positive : 0 < ch.limit
+  pub opened : ch.closed ≡ None → ch.done.n < ch.limit
+  pub full : ch.closed ≡ Some How.Limit → ch.done.n ≡ ch.limit
+  pub early : (how : How) → ch.closed ≡ Some how → how ≢ How.Limit → ch.done.n < ch.limit
+  pub cut : ch.closed ≡ Some How.Cut → 0 < ch.done.n
+  pub room : ch.closed ≡ Some How.Overflow → capacity ≤ ch.done.n
+  pub few : length ch.done.words ≤ ch.done.n
+  pub few_loads : length ch.done.loads ≤ ch.done.n
+
+-- a chunk of core c, beside these slots, where the current memory of its sphere is m: its signatures cover what it has
+-- loaded and stored, no word is held twice, and it is current where it is quiet
+pub record IsGoodChunk (capacity bits : ℕ) (slots : List (Option Flight)) (c : ℕ) (m : List ℕ) (ch : Chunk) : Type 0 where
+  pub reads_size : ch.reads.bits ≡ bits
+  pub writes_size : ch.writes.bits ≡ bits
+  pub apart : Apart ch.done.words
+  pub writes : CoversAll ch.sphere ch.writes ch.done.words
+  pub loads : CoversLoads ch.sphere ch.reads ch.done.loads
+  pub closes : Closes capacity ch
+  pub live : IsQuiet slots ch.sphere c ch.reads → IsCurrent m ch
+
+-- ---- cores
+
+-- the memory of sphere i with the words that fly laid over it
+abbrev pub current : World → (i : ℕ) → List ℕ
+current w i = lays (sphere_at w i).memory (flying i w.slots)
+
+-- a chunk's limit is that of its thread, or in a recording less
+pub record LimitFits (s : ℕ) (role : Role) (k : ℕ) (t : Parts) (limit : ℕ) : Type 0 where
+  pub most : limit ≤ limit_of s role k t
+  pub replayed : replays role ≡ true → limit ≡ limit_of s role k t
+
+-- core c holds a live thread of a sphere that there is, and its chunk began from the thread's state
+pub record IsGoodHeld (w : World) (c : ℕ) (h : Held) : Type 0 where
+  pub sphere : h.chunk.sphere < length w.spheres
+  pub start : slice_get (sphere_at w h.chunk.sphere).threads h.thread ≡ Some h.chunk.start
+  pub lives : is_live h.chunk.start ≡ true
+  pub halving : h.chunk.halves ≡ halves (sphere_at w h.chunk.sphere).role
+  pub limit : is_stopped (sphere_at w h.chunk.sphere).role ≡ false → LimitFits w.numbers.chunk (sphere_at w h.chunk.sphere).role h.thread h.chunk.start h.chunk.limit
+  pub chunk : IsGoodChunk w.numbers.buffer w.numbers.signature w.slots c (current w h.chunk.sphere) h.chunk
+
+-- a thread is on one core at most
+abbrev pub IsAlone : List (Option Held) → Type 0
+IsAlone cores = (c d : ℕ) (h g : Held) → at cores c ≡ Some h → at cores d ≡ Some g → h.chunk.sphere ≡ g.chunk.sphere → h.thread ≡ g.thread → c ≡ d
+
+-- ---- the world
+
+-- no two flying words of a sphere are one, each flight is of a sphere that there is, and cores hold what they should
+pub record IsGood (w : World) : Type 0 where
+  pub buffer : 0 < w.numbers.buffer
+  pub standard : 0 < w.numbers.chunk
+  pub apart : (i : ℕ) → Apart (flying i w.slots)
+  pub covered : AreCovered w.numbers.signature w.slots
+  pub flights : (k : ℕ) (f : Flight) → at w.slots k ≡ Some f → f.sphere < length w.spheres
+  pub held : (c : ℕ) (h : Held) → at w.cores c ≡ Some h → IsGoodHeld w c h
+  pub alone : IsAlone w.cores

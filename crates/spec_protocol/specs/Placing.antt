@@ -1,0 +1,62 @@
+-- The events of threads: Place and Raise.
+use Rattle.std.specs.Prelude.{ℕ, Bool, true, false, slice_get, Option, Some, None, if◌then◌else◌}
+use Rattle.dl_entry.specs.declared.Point.{Point}
+use Rattle.spec_isa.specs.declared.thread.Parts.{Parts}
+use Rattle.spec_kernel.specs.Interrupts.{is_live, has_handler}
+use Rattle.spec_protocol.specs.declared.reply.Reply.{Reply}
+use Rattle.spec_protocol.specs.Spheres.{Role, Plain, Record, Replay}
+use Rattle.spec_protocol.specs.Commits.{raised}
+use Rattle.spec_protocol.specs.World.{World, moment, sphere_at, with_sphere, with_core, begun, core_of, OfRaise, After, still, went_on}
+
+-- ---- Place
+
+abbrev pub unless_elsewhere : Option ℕ → World → After → After
+unless_elsewhere None w a = a
+unless_elsewhere (Some d) w a = still w (Reply.Elsewhere d)
+
+abbrev pub place_thread : World → (core i thread : ℕ) → Option Parts → After
+place_thread w c i k None = still w Reply.NoThread
+place_thread w c i k (Some t) =
+    if is_live t
+    then unless_elsewhere (core_of w i k) w (went_on (with_core w c (begun w.numbers i k (sphere_at w i))) Reply.Placed)
+    else still w Reply.Ended
+
+-- core c takes thread k of sphere i; what it ran is abandoned
+unfoldable pub placing : World → (core i thread : ℕ) → After
+placing w c i k = place_thread w c i k (slice_get (sphere_at w i).threads k)
+
+-- ---- Raise
+
+abbrev pub replays : Role → Bool
+replays Plain = false
+replays (Record log) = false
+replays (Replay b) = true
+
+-- a core that runs the thread abandons its chunk
+abbrev pub with_renewed : World → (i thread : ℕ) → Option ℕ → World
+with_renewed w i k None = w
+with_renewed w i k (Some c) = with_core w c (begun w.numbers i k (sphere_at w i))
+
+abbrev pub raise_in : World → (i thread value : ℕ) → Parts → After
+raise_in w i k value t =
+    record {
+      reply = Reply.Raised;
+      world = with_renewed (with_sphere w i (raised k value t (sphere_at w i))) i k (core_of w i k);
+      point = Some (Point.Raise (moment w) i k value);
+      move = Some (record { moment = moment w; sphere = i; what = OfRaise k value });
+    }
+
+abbrev pub raise_thread : World → (i thread value : ℕ) → Option Parts → After
+raise_thread w i k value None = still w Reply.NoThread
+raise_thread w i k value (Some t) =
+    if is_live t
+    then if has_handler t
+    then if t.mask then still w Reply.Masked else raise_in w i k value t
+    else still w Reply.NoHandler
+    else still w Reply.Ended
+
+-- thread k of sphere i is interrupted with the value
+unfoldable pub raising : World → (i thread value : ℕ) → After
+raising w i k value =
+    let p = sphere_at w i in
+    if replays p.role then still w Reply.FromLog else raise_thread w i k value (slice_get p.threads k)

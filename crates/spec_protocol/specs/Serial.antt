@@ -1,0 +1,141 @@
+-- The serialisation points executed whole, one at a time, on plain memories: no cores, no speculation, no buffers, no
+-- signatures, no flights.
+use Rattle.std.specs.Prelude.{◌≡◌, ℕ, ◌<◌, Bool, true, false, List, [], ◌∷◌, map, slice_get, slice_set, Option, Some, None, IsSome}
+use Rattle.dl_entry.specs.declared.Actor.{Actor}
+use Rattle.dl_entry.specs.declared.CommitKind.{CommitKind}
+use Rattle.dl_entry.specs.declared.Point.{Point}
+use Rattle.spec_isa.specs.declared.thread.Parts.{Parts}
+use Rattle.spec_isa.specs.Words.{lays}
+use Rattle.spec_isa.specs.Runs.{run}
+use Rattle.spec_kernel.specs.Devices.{Devices, devices_of}
+use Rattle.spec_kernel.specs.Needs.{next_kind}
+use Rattle.spec_kernel.specs.Interrupts.{is_live, takes_interrupt}
+use Rattle.spec_protocol.specs.Spheres.{Role, Plain, Record, Replay, Sphere}
+use Rattle.spec_protocol.specs.Commits.{Moved, chunk_moved, serial_moved, dma_moved, raised}
+use Rattle.spec_protocol.specs.Machine.{Setup, sphere_of}
+
+-- the spheres between two points, and the devices. A replayed sphere stays as it began, since its log says what it does
+pub record Whole : Type 0 where
+  pub spheres : List Sphere
+  pub devices : Devices
+
+abbrev pub whole_of : Setup → Whole
+whole_of s =
+    record { spheres = map (sphere_of s.numbers.chunk) s.spheres; devices = devices_of s.input s.seed }
+
+-- ---- one point
+
+-- a commit's words are in memory at once
+abbrev pub laid : Moved → Sphere
+laid v = record v.sphere { memory = lays v.sphere.memory v.words }
+
+abbrev pub do_moved : Whole → (i : ℕ) → Moved → Whole
+do_moved x i v = record { spheres = slice_set x.spheres i (laid v); devices = v.devices }
+
+-- a chunk is a run of its size
+abbrev pub do_chunk : Whole → (i thread size : ℕ) → (short : Bool) → Sphere → Option Parts → Whole
+do_chunk x i k size short p None = x
+do_chunk x i k size short p (Some t) = do_moved x i (chunk_moved k false short (run p.memory t size) x.devices p)
+
+abbrev pub do_serial : Whole → (i thread moment : ℕ) → Sphere → Option Parts → Whole
+do_serial x i k moment p None = x
+do_serial x i k moment p (Some t) = do_moved x i (serial_moved k moment t x.devices p)
+
+abbrev pub do_dma : Whole → (i : ℕ) → Option Moved → Whole
+do_dma x i None = x
+do_dma x i (Some v) = do_moved x i v
+
+abbrev pub do_raise : Whole → (i thread value : ℕ) → Sphere → Option Parts → Whole
+do_raise x i k value p None = x
+do_raise x i k value p (Some t) = record x { spheres = slice_set x.spheres i (raised k value t p) }
+
+-- a commit of that kind, in sphere i, which is p
+abbrev pub do_kind : Whole → (moment i : ℕ) → Actor → CommitKind → (size : ℕ) → (short : Bool) → Sphere → Whole
+do_kind x moment i (Actor.Thread k) CommitKind.Chunk size short p =
+    do_chunk x i k size short p (slice_get p.threads k)
+do_kind x moment i (Actor.Thread k) CommitKind.Serial size short p =
+    do_serial x i k moment p (slice_get p.threads k)
+do_kind x moment i Actor.Dma CommitKind.Dma size short p = do_dma x i (dma_moved x.devices p)
+do_kind x moment i _ _ size short p = x
+
+-- only in plain and recorded spheres
+abbrev pub in_live : Role → Whole → Whole → Whole
+in_live Plain x done = done
+in_live (Record log) x done = done
+in_live (Replay b) x done = x
+
+abbrev pub do_commit : Whole → (moment i : ℕ) → Actor → CommitKind → (size : ℕ) → (short : Bool) → Option Sphere → Whole
+do_commit x moment i actor kind size short None = x
+do_commit x moment i actor kind size short (Some p) =
+    in_live p.role x (do_kind x moment i actor kind size short p)
+
+abbrev pub do_interrupt : Whole → (i thread value : ℕ) → Option Sphere → Whole
+do_interrupt x i k value None = x
+do_interrupt x i k value (Some p) = in_live p.role x (do_raise x i k value p (slice_get p.threads k))
+
+unfoldable pub do_point : Whole → Point → Whole
+do_point x (Point.Commit moment i actor kind size short) =
+    do_commit x moment i actor kind size short (slice_get x.spheres i)
+do_point x (Point.Raise moment i k value) = do_interrupt x i k value (slice_get x.spheres i)
+
+-- these points, in their order
+abbrev pub do_points : Whole → List Point → Whole
+do_points x [] = x
+do_points x (p ∷ ps) = do_points (do_point x p) ps
+
+-- what the points of a run leave
+abbrev pub serial : Setup → List Point → Whole
+serial s ps = do_points (whole_of s) ps
+
+-- ---- whether a point can be done as it says
+
+-- the thread lives, and none of so many instructions is serial
+pub record CanRun (m : List ℕ) (t : Parts) (size : ℕ) : Type 0 where
+  pub live : is_live t ≡ true
+  pub some : 0 < size
+  pub ran : (run m t size).n ≡ size
+
+abbrev pub CanChunk : (size : ℕ) → Sphere → Option Parts → Type 0
+CanChunk size p None = ⊥
+CanChunk size p (Some t) = CanRun p.memory t size
+
+-- the thread lives, and its next instruction is serial
+pub record CanServe (m : List ℕ) (t : Parts) (size : ℕ) : Type 0 where
+  pub live : is_live t ≡ true
+  pub empty : size ≡ 0
+  pub serial : IsSome (next_kind t m)
+
+abbrev pub CanSerial : (size : ℕ) → Sphere → Option Parts → Type 0
+CanSerial size p None = ⊥
+CanSerial size p (Some t) = CanServe p.memory t size
+
+abbrev pub CanTake : Option Parts → Type 0
+CanTake None = ⊥
+CanTake (Some t) = takes_interrupt t ≡ true
+
+abbrev pub CanKind : Devices → Actor → CommitKind → (size : ℕ) → Sphere → Type 0
+CanKind devices (Actor.Thread k) CommitKind.Chunk size p = CanChunk size p (slice_get p.threads k)
+CanKind devices (Actor.Thread k) CommitKind.Serial size p = CanSerial size p (slice_get p.threads k)
+CanKind devices Actor.Dma CommitKind.Dma size p = (size ≡ 0) × IsSome p.progress.request
+CanKind devices _ _ size p = ⊥
+
+abbrev pub InLive : Role → Type 0 → Type 0
+InLive Plain can = can
+InLive (Record log) can = can
+InLive (Replay b) can = Unit {0}
+
+abbrev pub CanCommit : Devices → Actor → CommitKind → (size : ℕ) → Option Sphere → Type 0
+CanCommit devices actor kind size None = ⊥
+CanCommit devices actor kind size (Some p) = InLive p.role (CanKind devices actor kind size p)
+
+abbrev pub CanInterrupt : (thread : ℕ) → Option Sphere → Type 0
+CanInterrupt k None = ⊥
+CanInterrupt k (Some p) = InLive p.role (CanTake (slice_get p.threads k))
+
+abbrev pub CanDo : Whole → Point → Type 0
+CanDo x (Point.Commit moment i actor kind size short) = CanCommit x.devices actor kind size (slice_get x.spheres i)
+CanDo x (Point.Raise moment i k value) = CanInterrupt k (slice_get x.spheres i)
+
+abbrev pub CanDoAll : Whole → List Point → Type 0
+CanDoAll x [] = Unit {0}
+CanDoAll x (p ∷ ps) = CanDo x p × CanDoAll (do_point x p) ps

@@ -1,0 +1,104 @@
+-- A sphere: its memory, its threads, how far it has come, and its role.
+use Rattle.std.specs.Prelude.{ℕ, ◌-◌, Bool, true, false, max, nat_eq, nat_lt, List, [], map, Option, Some, None, option_map, if◌then◌else◌}
+use Rattle.dl_entry.specs.declared.Actor.{Actor}
+use Rattle.spec_isa.specs.declared.thread.Parts.{Parts}
+use Rattle.spec_isa.specs.declared.thread.Load.{Load}
+use Rattle.spec_log.specs.declared.ModeName.{ModeName}
+use Rattle.spec_log.specs.declared.LogParts.{LogParts}
+use Rattle.spec_log.specs.Head.{turn}
+use Rattle.spec_log.specs.Size.{size_in}
+use Rattle.spec_kernel.specs.Interrupts.{is_live}
+use Rattle.spec_play.specs.Progress.{Progress, no_progress, Used}
+use Rattle.spec_play.specs.Turns.{Now, Turn, TurnOfDma, Over}
+
+-- a replayed sphere's log, how far it is in it, and of the pieces of the present commit the instructions and the loads
+pub record Book : Type 0 where
+  pub log : LogParts
+  pub used : Used
+  pub now : Now
+  pub total : ℕ
+  pub loads : List Load
+
+pub data Role : Type 0 where
+  Plain : Role
+  -- with the log so far
+  Record : (log : LogParts) → Role
+  Replay : (book : Book) → Role
+
+pub record Sphere : Type 0 where
+  pub memory : List ℕ
+  pub threads : List Parts
+  pub progress : Progress
+  pub role : Role
+
+-- what stands where there is no sphere
+abbrev pub no_sphere : Sphere
+no_sphere = record { memory = []; threads = []; progress = no_progress; role = Plain }
+
+-- ---- turns
+
+abbrev pub is_over : Now → Bool
+is_over (Turn k) = false
+is_over TurnOfDma = false
+is_over (Over how) = true
+
+-- a replayed sphere stops once it is complete or has diverged
+abbrev pub is_stopped : Role → Bool
+is_stopped Plain = false
+is_stopped (Record log) = false
+is_stopped (Replay b) = is_over b.now
+
+abbrev pub actor_of : Now → Option Actor
+actor_of (Turn k) = Some (Actor.Thread k)
+actor_of TurnOfDma = Some Actor.Dma
+actor_of (Over how) = None
+
+-- while picolog is recorded threads take turns
+abbrev pub recording_turn : ModeName → Sphere → Option Actor
+recording_turn ModeName.Picolog p = option_map Actor.Thread (turn p.progress.last (map is_live p.threads))
+recording_turn ModeName.OrderSize p = None
+recording_turn ModeName.OrderOnly p = None
+
+abbrev pub head_in : Role → Sphere → Option Actor
+head_in Plain p = None
+head_in (Record log) p = recording_turn log.mode p
+head_in (Replay b) p = actor_of b.now
+
+-- the actor whose turn it is to commit, where not every one may
+unfoldable pub head_of : Sphere → Option Actor
+head_of p = head_in p.role p
+
+-- ---- limits of chunks
+
+-- the size that is logged for a thread's commit, but 1 for a logged 0; where none is logged the log's standard size
+abbrev pub whole_limit : LogParts → (thread commits : ℕ) → ℕ
+whole_limit log k commits = elim (size_in log (Actor.Thread k) commits) [ None ↦ log.s | Some z ↦ max 1 z ]
+
+-- the instructions that earlier pieces of the thread's present commit have run
+abbrev pub pieces_of : Now → (thread total : ℕ) → ℕ
+pieces_of (Turn j) k total = if nat_eq j k then total else 0
+pieces_of TurnOfDma k total = 0
+pieces_of (Over how) k total = 0
+
+abbrev pub limit_in : Role → (s thread commits : ℕ) → ℕ
+limit_in Plain s k commits = s
+limit_in (Record log) s k commits = s
+limit_in (Replay b) s k commits = max 1 (whole_limit b.log k commits - pieces_of b.now k b.total)
+
+-- how many instructions a new chunk of thread k, which is t, may run, where the plan's standard size is s
+unfoldable pub limit_of : (s : ℕ) → Role → (thread : ℕ) → Parts → ℕ
+limit_of s role k t = limit_in role s k t.commits
+
+-- ---- more of roles
+
+-- in a recorded sphere squashes halve a chunk's limit
+abbrev pub halves : Role → Bool
+halves Plain = false
+halves (Record log) = true
+halves (Replay b) = false
+
+-- the present commit has pieces already
+abbrev pub is_in_pieces : Role → Bool
+is_in_pieces Plain = false
+is_in_pieces (Record log) = false
+is_in_pieces (Replay b) = nat_lt 0 b.total

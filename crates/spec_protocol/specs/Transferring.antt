@@ -1,0 +1,70 @@
+-- The event Dma.
+use Rattle.std.specs.Prelude.{ℕ, false, Option, Some, None, if◌then◌else◌}
+use Rattle.dl_entry.specs.declared.Actor.{Actor}
+use Rattle.dl_entry.specs.declared.CommitKind.{CommitKind}
+use Rattle.dl_entry.specs.declared.Point.{Point}
+use Rattle.spec_engine.specs.Signatures.{Marks, nothing, signed}
+use Rattle.spec_engine.specs.Flights.{is_full}
+use Rattle.spec_engine.specs.Asking.{ask}
+use Rattle.spec_protocol.specs.declared.reply.Reply.{Reply}
+use Rattle.spec_protocol.specs.Spheres.{Role, Plain, Record, Replay, is_stopped, actor_of}
+use Rattle.spec_protocol.specs.Commits.{Outcome, Granted, Piece, Diverged, Moved, dma_moved}
+use Rattle.spec_protocol.specs.World.{World, moment, sphere_at, with_sphere, flown, OfDma, Move, After, still}
+use Rattle.spec_protocol.specs.Asking.{unless_denied, unless_turn}
+
+abbrev pub dma_move : World → (i : ℕ) → Move
+dma_move w i = record { moment = moment w; sphere = i; what = OfDma }
+
+-- no core is told yet
+abbrev pub dma_done : World → (i : ℕ) → Marks → Moved → After
+dma_done w i writes v =
+    record {
+      reply = Reply.DmaDone;
+      world = record w {
+        spheres = (with_sphere w i v.sphere).spheres;
+        slots = flown i v.words writes 0 w.slots;
+        devices = v.devices;
+      };
+      point = Some (Point.Commit (moment w) i Actor.Dma CommitKind.Dma 0 false);
+      move = Some (dma_move w i);
+    }
+
+-- its stores are denied where they hit a flight
+unfoldable pub transfer : World → (i : ℕ) → Moved → After
+transfer w i v =
+    let writes = signed i v.words (nothing w.numbers.signature) in
+    if is_full w.slots then still w Reply.WindowFull
+    else unless_denied (ask writes writes w.slots) w (dma_done w i writes v)
+
+abbrev pub dma_with : World → (i : ℕ) → Moved → Outcome → After
+dma_with w i v Granted = transfer w i v
+dma_with w i v Piece = transfer w i v
+dma_with w i v (Diverged j why) =
+    record {
+      reply = Reply.Diverged j why;
+      world = with_sphere w i v.sphere;
+      point = None;
+      move = Some (dma_move w i);
+    }
+
+abbrev pub dma_if : World → (i : ℕ) → Option Moved → After
+dma_if w i None = still w Reply.NoDma
+dma_if w i (Some v) = dma_with w i v v.outcome
+
+-- in a replay a DMA has its turn
+abbrev pub not_of_dma : Option Actor → Option Actor
+not_of_dma None = None
+not_of_dma (Some Actor.Dma) = None
+not_of_dma (Some (Actor.Thread k)) = Some (Actor.Thread k)
+
+abbrev pub turn_before_dma : Role → Option Actor
+turn_before_dma Plain = None
+turn_before_dma (Record log) = None
+turn_before_dma (Replay b) = not_of_dma (actor_of b.now)
+
+-- the outstanding request of sphere i is done
+unfoldable pub transferring : World → (i : ℕ) → After
+transferring w i =
+    let p = sphere_at w i in
+    if is_stopped p.role then still w Reply.Stopped
+    else unless_turn (turn_before_dma p.role) w (dma_if w i (dma_moved w.devices p))

@@ -1,0 +1,14 @@
+//! The whole protocol as definitions: spheres with their roles, cores, flights and devices; what each of nine events
+//! answers and leaves; the serialisation points; finishing; and the same points executed whole, one at a time.
+#![tactic(auto)]
+
+mod event;
+mod promise;
+mod reply;
+
+pub use event::Event;
+pub use promise::{
+    asks_are_granted, commits_are_serial, grants_are_clear, invariants_hold, moves_are_serial,
+    points_are_made, sizes_are_kept,
+};
+pub use reply::Reply;

@@ -1,0 +1,48 @@
+//! What is promised of the protocol. Each promise is a clause of a function that does nothing.
+ghost use Rattle.spec_protocol.specs.Promises.{CommitsAreSerial, InvariantsHold, MovesAreSerial, SizesAreKept};
+ghost use Rattle.spec_protocol.specs.Replying.{AsksAreGranted, GrantsAreClear, PointsAreMade};
+
+/// For every setup and every list of events, in any order: the plain and recorded spheres, with their threads, requests,
+/// current memories, commits and logs, and the devices with the console, are those of executing the serialisation points
+/// whole and in their order; and each point can be done as it says.
+pub fn commits_are_serial()
+    ensures { CommitsAreSerial }
+{}
+
+/// For every setup and every list of events, in any order: the spheres' threads, progress, roles and current memories, and
+/// the devices, are those of doing whole and in their order all that took effect, pieces and divergences too; and each
+/// of these moves can be done as it says.
+pub fn moves_are_serial()
+    ensures { MovesAreSerial }
+{}
+
+/// After every list of events: no two flying words of a sphere are one, and a flight's signature covers the lines of its
+/// words; a core's thread is on no other core, and its chunk began from the thread's state, has signatures that cover
+/// what it loaded and stored, stands to its limit as its closing says, and is current where no flight of its sphere that
+/// the core was not told of hits its reads.
+pub fn invariants_hold()
+    ensures { InvariantsHold }
+{}
+
+/// After every list of events there are as many spheres, cores and slots as at first, and the sizes are the same.
+pub fn sizes_are_kept()
+    ensures { SizesAreKept }
+{}
+
+/// Whatever the world and the event: a point is made exactly where the reply is Granted, Piece, DmaDone or Raised; it is of
+/// the event's moment and is kept behind the earlier ones; and the event is counted with its reply.
+pub fn points_are_made()
+    ensures { PointsAreMade }
+{}
+
+/// After every list of events that leaves no flight standing: the ask of a closed chunk of a plain or recorded sphere is
+/// granted, or it is another thread's turn in a recording in picolog.
+pub fn asks_are_granted()
+    ensures { AsksAreGranted }
+{}
+
+/// After every list of events: no ask is granted, whole or as a piece, where a word that the chunk stored or loaded is left
+/// in a flight of its sphere.
+pub fn grants_are_clear()
+    ensures { GrantsAreClear }
+{}
