@@ -1,0 +1,248 @@
+//! The devices.
+ghost use Rattle.std.specs.Prelude.{◌≡◌, ◌≤◌, ◌<◌, ◌^◌, ◌++◌, length, drop, slice_get, replicate, [], IfOk, OnOk, OnErr};
+ghost use Rattle.spec_kernel.specs.Devices.{devices_of, input_taken, console_put, pipe_fitting, pipe_put, pipe_first, pipe_taken, random_bytes, random_taken};
+
+use crate::pipe::Pipe;
+use crate::random::fill;
+use rand_pcg::Lcg64Xsh32;
+use std::alloc::{AllocError, Global};
+use std::marker::Model;
+
+const MOST_INPUT: usize = 1 << 24;
+
+const STREAM: u64 = 2;
+
+/// What stands outside the spheres. All room but the console's is made by `new`.
+#[derive(Drop)]
+pub struct Devices {
+    input: Vec<u8>,
+    // how many bytes of the input are taken
+    taken: usize,
+    console: Vec<u8>,
+    pipes: [Pipe; 8],
+    words: Lcg64Xsh32,
+}
+
+impl Model for Devices {
+    ghost use Rattle.std.specs.Prelude.{drop};
+    ghost use Rattle.spec_kernel.specs.Devices.{Devices};
+
+    ghost Value = { Devices };
+
+    ghost view = { λ d. record { input = drop d.taken d.input.items; console = d.console.items; pipes = d.pipes; random = d.words } };
+
+    ghost use Rattle.dl_dev.specs.Kept.{IsKept};
+
+    ghost invariant = { λ d. IsKept d.input.items d.taken d.words };
+}
+
+impl Devices {
+    /// The devices before the first event, with the first 2^24 bytes of an input and the random bytes of a seed.
+    #[tactic(auto, using(std::proofs::lemmas::List::take_min))]
+    pub fn new(alloc: Global, input: &[u8], seed: u64) -> Result<Devices, AllocError>
+        ensures { IfOk result (λ devices. devices ≡ devices_of input.now seed) }
+    {
+        let used = &input[..MOST_INPUT.min(input.len())];
+        Ok(Devices {
+            input: Vec::from_slice(alloc, used)?,
+            taken: 0,
+            console: Vec::new(alloc),
+            pipes: empty_pipes(alloc)?,
+            words: Lcg64Xsh32::new(seed, STREAM),
+        })
+    }
+
+    /// The bytes of the input that nobody took yet.
+    pub fn input(&self) -> &[u8]
+        ensures value { result.now ≡ self.now.input }
+        ensures few { length self.now.input ≤ 2 ^ 24 }
+    {
+        &self.input[self.taken..]
+    }
+
+    /// How many bytes of the input are left.
+    pub fn input_left(&self) -> u32
+        ensures value { result ≡ length self.now.input }
+        ensures few { result ≤ 2 ^ 24 }
+    {
+        (self.input.len() - self.taken) as u32
+    }
+
+    /// Takes the next byte of the input, if one is left.
+    pub fn input_byte(&mut self) -> Option<u8>
+        ensures value { result ≡ slice_get self.old.input 0 }
+        ensures taken { self.new ≡ input_taken 1 self.old }
+    {
+        let byte = self.input().first().copied();
+        self.input_take(1);
+        byte
+    }
+
+    /// Takes the next `n` bytes of the input, or all that are left where these are fewer.
+    pub fn input_take(&mut self, n: u32)
+        ensures { self.new ≡ input_taken n self.old }
+    {
+        self.taken += (n as usize).min(self.input.len() - self.taken);
+    }
+
+    /// Puts bytes on the console.
+    pub fn console_put(&mut self, bytes: &[u8]) -> Result<(), AllocError>
+        ensures ok { OnOk result (self.new ≡ console_put bytes.now self.old) }
+        ensures err { OnErr result (self.new ≡ self.old) }
+    {
+        self.console.extend_from_slice(bytes)
+    }
+
+    /// All bytes that were put on the console.
+    pub fn console(&self) -> &[u8]
+        ensures { result.now ≡ self.now.console }
+    {
+        &self.console
+    }
+
+    /// Appends bytes to a pipe, as many as there is room for, and gives their number. A pipe holds 256 bytes.
+    pub fn pipe_put(&mut self, pipe: u8, bytes: &[u8]) -> u32
+        requires { pipe < 8 }
+        ensures count { result ≡ length (pipe_fitting self.old pipe bytes.now) }
+        ensures put { self.new ≡ pipe_put self.old pipe bytes.now }
+    {
+        self.pipes[pipe as usize].put(bytes)
+    }
+
+    /// Moves a pipe's first bytes into a buffer, as many as that holds, and gives their number. The rest of the buffer stays.
+    pub fn pipe_get(&mut self, pipe: u8, into: &mut [u8]) -> u32
+        requires { pipe < 8 }
+        ensures count { result ≡ length (pipe_first self.old pipe (length into.old)) }
+        ensures bytes { into.new ≡ pipe_first self.old pipe (length into.old) ++ drop result into.old }
+        ensures taken { self.new ≡ pipe_taken self.old pipe (length into.old) }
+    {
+        self.pipes[pipe as usize].get(into)
+    }
+
+    /// Copies the bytes that `pipe_get` would move, and gives their number.
+    #[tactic(auto, using(std::proofs::lemmas::List::take_min))]
+    pub fn pipe_first(&self, pipe: u8, into: &mut [u8]) -> u32
+        requires { pipe < 8 }
+        ensures count { result ≡ length (pipe_first self.now pipe (length into.old)) }
+        ensures bytes { into.new ≡ pipe_first self.now pipe (length into.old) ++ drop result into.old }
+    {
+        self.pipes[pipe as usize].first(into)
+    }
+
+    /// Fills a buffer with the next random bytes.
+    pub fn random(&mut self, into: &mut [u8])
+        ensures bytes { into.new ≡ random_bytes (length into.old) self.old.random }
+        ensures taken { self.new ≡ random_taken (length into.old) self.old }
+    {
+        fill(&mut self.words, into);
+    }
+
+    /// Fills a buffer with the bytes that `random` would give.
+    pub fn random_first(&self, into: &mut [u8])
+        ensures { into.new ≡ random_bytes (length into.old) self.now.random }
+    {
+        let mut words = Lcg64Xsh32::from_state(self.words.state(), STREAM);
+        fill(&mut words, into);
+    }
+}
+
+fn empty_pipes(alloc: Global) -> Result<[Pipe; 8], AllocError>
+    ensures { IfOk result (λ pipes. pipes ≡ replicate 8 []) }
+{
+    Ok([
+        Pipe::new(alloc)?,
+        Pipe::new(alloc)?,
+        Pipe::new(alloc)?,
+        Pipe::new(alloc)?,
+        Pipe::new(alloc)?,
+        Pipe::new(alloc)?,
+        Pipe::new(alloc)?,
+        Pipe::new(alloc)?,
+    ])
+}
+
+#[cfg(test)]
+mod tests {
+    use super::*;
+    use std::test::Fail;
+
+    #[test]
+    fn input_ends(rt: HostRuntime) -> Result<(), Fail> {
+        let mut devices = Devices::new(rt.alloc(), b"ABCDE", 0)?;
+        assert_eq!(rt; devices.input_left(), 5);
+        assert!(rt; devices.input_byte() == Some(0x41));
+        devices.input_take(2);
+        assert_eq!(rt; devices.input(), b"DE".as_slice());
+        devices.input_take(9);
+        assert_eq!(rt; devices.input_left(), 0);
+        assert!(rt; devices.input_byte().is_none());
+        Ok(())
+    }
+
+    #[test]
+    fn console_takes_all(rt: HostRuntime) -> Result<(), Fail> {
+        let mut devices = Devices::new(rt.alloc(), b"", 0)?;
+        devices.console_put(b"A")?;
+        devices.console_put(b"")?;
+        devices.console_put(b"BC")?;
+        assert_eq!(rt; devices.console(), b"ABC".as_slice());
+        Ok(())
+    }
+
+    #[test]
+    fn a_pipe_holds_256_bytes(rt: HostRuntime) -> Result<(), Fail> {
+        let mut devices = Devices::new(rt.alloc(), b"", 0)?;
+        let mut bytes = [0u8; 300];
+        assert_eq!(rt; devices.pipe_get(3, &mut bytes), 0);
+        assert_eq!(rt; devices.pipe_put(3, &[7; 200]), 200);
+        assert_eq!(rt; devices.pipe_put(3, &[]), 0);
+        assert_eq!(rt; devices.pipe_put(3, &[8; 100]), 56);
+        assert_eq!(rt; devices.pipe_put(3, &[9; 1]), 0);
+        assert_eq!(rt; devices.pipe_get(3, &mut bytes[..0]), 0);
+        assert_eq!(rt; devices.pipe_get(3, &mut bytes[..199]), 199);
+        // the next bytes lie across the end of the block
+        assert_eq!(rt; devices.pipe_put(3, &[1, 2, 3]), 3);
+        assert_eq!(rt; devices.pipe_first(3, &mut bytes[..2]), 2);
+        assert_eq!(rt; &bytes[..3], [7, 8, 7].as_slice());
+        assert_eq!(rt; devices.pipe_get(3, &mut bytes), 60);
+        assert_eq!(rt; &bytes[56..61], [8, 1, 2, 3, 7].as_slice());
+        assert_eq!(rt; devices.pipe_get(3, &mut bytes), 0);
+        Ok(())
+    }
+
+    #[test]
+    fn pipes_are_apart(rt: HostRuntime) -> Result<(), Fail> {
+        let mut devices = Devices::new(rt.alloc(), b"", 0)?;
+        let mut byte = [0u8; 1];
+        for pipe in 0..8 {
+            assert_eq!(rt; devices.pipe_put(pipe, &[pipe]), 1);
+        }
+        for pipe in 0..8 {
+            assert_eq!(rt; devices.pipe_get(pipe, &mut byte), 1);
+            assert_eq!(rt; byte[0], pipe);
+        }
+        Ok(())
+    }
+
+    // The expected bytes are those of an independent model.
+    #[test]
+    fn random_bytes_are_those_of_the_seed(rt: HostRuntime) -> Result<(), Fail> {
+        let mut twelve = [0u8; 12];
+        let mut three = [0u8; 3];
+        let mut four = [0u8; 4];
+        let mut devices = Devices::new(rt.alloc(), b"", 7)?;
+        devices.random_first(&mut twelve);
+        assert_eq!(rt;
+            twelve,
+            [212, 83, 14, 69, 161, 89, 226, 249, 69, 12, 174, 254]
+        );
+        devices.random(&mut three);
+        assert_eq!(rt; three, [212, 83, 14]);
+        devices.random(&mut four);
+        assert_eq!(rt; four, [69, 161, 89, 226]);
+        let mut devices = Devices::new(rt.alloc(), b"", u64::MAX)?;
+        devices.random(&mut four);
+        assert_eq!(rt; four, [145, 198, 23, 79]);
+        Ok(())
+    }
+}

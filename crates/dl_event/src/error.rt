@@ -1,0 +1,26 @@
+//! Why a text is no script.
+use spec_protocol::Event;
+use std::alloc::AllocFailed;
+use thiserror::Error;
+
+/// Why there are no events.
+#[derive(Clone, Copy, Debug, PartialEq, Eq, Error)]
+pub enum ScriptError {
+    /// The line of that number, counted from 1, is no line of a script, or holds the event after the 2^24th.
+    #[error("line {0} is refused")]
+    Refused(u64),
+    /// Memory ran out.
+    #[error("out of memory")]
+    OutOfMemory,
+}
+
+impl From<AllocFailed<Event>> for ScriptError {
+    ghost use Rattle.std.specs.Prelude.{◌≡◌};
+    ghost use Rattle.dl_event.specs.declared.error.ScriptError.TheVariants.{OutOfMemory};
+
+    ghost from_gives = { λ _ error. error ≡ OutOfMemory };
+
+    fn from(_failed: AllocFailed<Event>) -> ScriptError {
+        ScriptError::OutOfMemory
+    }
+}

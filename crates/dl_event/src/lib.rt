@@ -1,0 +1,12 @@
+//! Schedules: the events of the machine, read from the lines of a script or drawn from a seed.
+#![tactic(auto)]
+
+pub mod error;
+pub mod line;
+pub mod script;
+mod seeded;
+
+pub use error::ScriptError;
+pub use script::parse_script;
+pub use seeded::Seeded;
+pub use spec_protocol::Event;

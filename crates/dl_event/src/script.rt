@@ -1,0 +1,116 @@
+//! Whole scripts.
+ghost use Rattle.std.specs.Prelude.{◌≡◌, ◌≤◌, ◌^◌, length, Ok, IfOk, IfErr};
+ghost use Rattle.dl_event.specs.Script.{script_of, Refuses};
+
+use crate::error::ScriptError;
+use crate::line::{Line, read_line};
+use spec_protocol::Event;
+use std::alloc::Global;
+
+const MOST_EVENTS: usize = 1 << 24;
+
+/// The events of a script, whose lines end with LF, but the last need not. A line is empty or spaces alone, or begins
+/// with `#`, or is one of `step C`, `cut C`, `ask C`, `drain K`, `deliver C K`, `retire K`, `place C S T`, `raise S T V`
+/// and `dma S`, with spaces between and around: numbers of 1 to 10 decimal digits, V at most 2^32 - 1 and the others at
+/// most 255. Refused is the first line, from 1, that is none of these or holds the event after the 2^24th.
+pub fn parse_script(alloc: Global, bytes: &[u8]) -> Result<Vec<Event>, ScriptError>
+    ensures read { IfOk result (λ events. script_of bytes.now ≡ Ok events.items) }
+    ensures refused { IfErr result (Refuses (script_of bytes.now)) }
+    ensures few { IfOk result (λ events. length events.items ≤ 2 ^ 24) }
+{
+    let mut events = Vec::new(alloc);
+    let mut number = 0u64;
+    for line in bytes.split(|byte| *byte == b'\n') {
+        number += 1;
+        match read_line(line) {
+            Line::Empty => {}
+            Line::Holds(event) if events.len() < MOST_EVENTS => events.push(event)?,
+            _ => return Err(ScriptError::Refused(number)),
+        }
+    }
+    Ok(events)
+}
+
+#[cfg(test)]
+mod tests {
+    use super::*;
+    use crate::error::ScriptError::Refused;
+    use spec_protocol::Event::*;
+
+    #[test]
+    fn a_script_is_its_events(rt: HostRuntime) -> Result<(), ScriptError> {
+        let table: [(&str, &[Event]); 14] = [
+            ("", &[]),
+            ("   ", &[]),
+            ("#\tcut\r\n#", &[]),
+            ("  step   0  ", &[Step(0)]),
+            ("step 0\nask 0\n", &[Step(0), Ask(0)]),
+            ("\n  step   7 \n\n# step x\nask 255", &[Step(7), Ask(255)]),
+            ("step 0000000255\n", &[Step(255)]),
+            ("ask 0000000000", &[Ask(0)]),
+            (
+                "cut 1\ndrain 2\nretire 3\ndma 4",
+                &[Cut(1), Drain(2), Retire(3), Dma(4)],
+            ),
+            ("deliver 0 255", &[Deliver(0, 255)]),
+            (" deliver  1   2 ", &[Deliver(1, 2)]),
+            (
+                "place 1 2 3\nplace 255 255 255\n",
+                &[Place(1, 2, 3), Place(255, 255, 255)],
+            ),
+            ("raise 1 2 4294967295", &[Raise(1, 2, 4_294_967_295)]),
+            ("raise 0000000000 0000000000 0000000000", &[Raise(0, 0, 0)]),
+        ];
+        for (text, events) in table {
+            let read = parse_script(rt.alloc(), text.as_bytes())?;
+            assert!(rt; read.as_slice() == events, "at {text}");
+        }
+        Ok(())
+    }
+
+    #[test]
+    fn the_first_wrong_line_is_named(rt: HostRuntime) {
+        let table = [
+            ("step 256", 1),
+            ("step 4294967296", 1),
+            ("step 00000000000", 1),
+            ("step", 1),
+            ("step 0 0", 1),
+            ("step x", 1),
+            ("step +1", 1),
+            ("step -1", 1),
+            ("step\t0", 1),
+            ("\t", 1),
+            (" # x", 1),
+            ("step 0 #", 1),
+            ("Step 0", 1),
+            ("step0", 1),
+            ("steps 0", 1),
+            ("halt 0", 1),
+            ("step 0\r\nstep 0\r\n", 1),
+            ("deliver 0", 1),
+            ("deliver 0 256", 1),
+            ("deliver 256 0", 1),
+            ("deliver 0 0 0", 1),
+            ("retire 0 0", 1),
+            ("place 0 0", 1),
+            ("place 0 0 256", 1),
+            ("place 0 256 0", 1),
+            ("place 0 0 0 0", 1),
+            ("raise 0 0 4294967296", 1),
+            ("raise 256 0 0", 1),
+            ("raise 0 256 0", 1),
+            ("raise 0 0", 1),
+            ("raise 0 0 00000000000", 1),
+            ("raise 0 0 0 0", 1),
+            ("dma", 1),
+            ("step 0\nask 1\nstep", 3),
+            ("# a\n\n0 step\n", 3),
+            ("step 0\n\nask 0\nask\n256\n", 4),
+        ];
+        for (text, line) in table {
+            let read = parse_script(rt.alloc(), text.as_bytes());
+            assert!(rt; read.err() == Some(Refused(line)), "at {text}");
+        }
+    }
+}

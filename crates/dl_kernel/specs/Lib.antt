@@ -1,0 +1,4 @@
+pub mod Calls
+pub mod Peeks
+pub mod Wants
+pub mod Outside

@@ -1,0 +1,22 @@
+-- What an outside call or a device load leaves, and whether a record fits.
+use Rattle.std.specs.Prelude.{ℕ, Bool, true, false, Option, Some, None}
+use Rattle.dl_entry.specs.declared.Input.{Input}
+use Rattle.spec_kernel.specs.Devices.{Devices}
+use Rattle.spec_kernel.specs.Needs.{Need}
+use Rattle.spec_kernel.specs.Answers.{answer}
+use Rattle.dl_kernel.specs.declared.record.Injected.{Injected}
+use Rattle.dl_kernel.specs.declared.record.Injected.TheVariants.{Fits, Misfit}
+
+-- the record, where something is wanted
+abbrev pub record_left : (moment : ℕ) → Devices → Option Need → Option Input
+record_left moment d None = None
+record_left moment d (Some need) = Some (answer d need moment).input
+
+-- the devices then, which are as before where nothing is wanted
+abbrev pub devices_left : (moment : ℕ) → Devices → Option Need → Devices
+devices_left moment d None = d
+devices_left moment d (Some need) = (answer d need moment).devices
+
+abbrev pub injected : Bool → Injected
+injected true = Fits
+injected false = Misfit

@@ -1,0 +1,35 @@
+//! A call that the kernel does by itself.
+ghost use Rattle.std.specs.Prelude.{◌≡◌, ◌≢◌, ℕ, ◌<◌, ◌≤◌, ◌++◌, Some, length, slice_get, slice_set};
+ghost use Rattle.spec_isa.specs.declared.thread.Parts.{Parts};
+ghost use Rattle.spec_kernel.specs.Calls.{called};
+
+use crate::calls::{Caller, call};
+use dl_entry::Request;
+use dl_thread::{Thread, Threads};
+
+/// Does the call of thread `thread`, whose next instruction is an ECALL that asks for nothing from outside: exit, spawn,
+/// handler, iret, dma, self, yield or ended, or one that is unknown. `size` is the number of bytes of the memory. Only
+/// this thread changes, and a thread that is made comes last.
+pub fn sphere_call(threads: &mut Threads, thread: u8, request: &mut Option<Request>, size: u32)
+    requires { thread < length threads.old }
+    ensures threads { (t : Parts) → slice_get threads.old thread ≡ Some t →
+        let c = called size thread threads.old request.old t in threads.new ≡ slice_set threads.old thread c.thread ++ c.made }
+    ensures request { (t : Parts) → slice_get threads.old thread ≡ Some t →
+        request.new ≡ (called size thread threads.old request.old t).request }
+    ensures others { (k : ℕ) → k < length threads.old → k ≢ thread → slice_get threads.new k ≡ slice_get threads.old k }
+    ensures kept { length threads.old ≤ length threads.new }
+{
+    let Some(found) = threads.get(thread) else {
+        return;
+    };
+    let caller = Caller {
+        number: thread,
+        thread: found.parts(),
+    };
+    let called = call(size, threads, *request, &caller);
+    threads.set(thread, &Thread::from_parts(&called.thread));
+    if let Some(made) = called.made {
+        let _ = threads.add(&made);
+    }
+    *request = called.request;
+}

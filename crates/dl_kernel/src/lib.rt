@@ -1,0 +1,18 @@
+//! The kernel: what a thread's serial step does by itself, what it wants from outside and is answered, and whether a record
+//! of a log is such an answer.
+#![tactic(auto)]
+
+mod answering;
+mod calls;
+mod inside;
+mod need;
+mod outside;
+mod peek;
+mod record;
+mod results;
+#[cfg(test)]
+mod tests;
+
+pub use inside::sphere_call;
+pub use outside::outside_call;
+pub use record::{Injected, inject};

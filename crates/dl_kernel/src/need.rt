@@ -1,0 +1,159 @@
+//! What a thread's next step, where it is serial, wants from outside.
+ghost use Rattle.std.specs.Prelude.{◌≡◌, ◌+◌, true, nat_le, length, IfSome};
+ghost use Rattle.std.specs.Option.{option_map};
+ghost use Rattle.spec_isa.specs.Arithmetic.{add, extended};
+ghost use Rattle.spec_isa.specs.Planned.{plan, register};
+ghost use Rattle.spec_isa.specs.Words.{is_inside};
+ghost use Rattle.spec_kernel.specs.Needs.{need, need_of_call, need_of_load, need_of_write, need_of_read, need_of_random, next_kind, next_plan};
+ghost use Rattle.dl_kernel.specs.Wants.{wanted, IsShort};
+
+use crate::peek::Peek;
+use dl_isa::decode;
+use dl_mem::Memory;
+use dl_thread::{Did, Kind, Thread, one};
+use spec_isa::field::{Imm12, Reg};
+use spec_isa::instr::Instr;
+
+const MOST_BYTES: u32 = 4096;
+
+const MOMENT: u32 = 0xF000_0000;
+
+// What is wanted. Lengths are cut to 4,096 bytes.
+#[derive(Clone, Copy)]
+pub(crate) enum Want<'a> {
+    // To put these bytes on a channel.
+    Write { channel: u32, bytes: &'a [u8] },
+    // At most `len` bytes of a channel, for a buffer in the memory.
+    Read { channel: u32, buf: u32, len: u32 },
+    // `len` random bytes, for a buffer in the memory.
+    Random { buf: u32, len: u32 },
+    Clock,
+    // The moment, by a load of its device word.
+    MomentWord,
+    // The next byte of the input, by a load of its device word.
+    InputWord,
+}
+
+// What the thread's next step wants, if anything.
+#[tactic(auto, using(crate::proofs::Causes::device_inside), unfolding(spec_kernel::specs::Needs::need))]
+pub(crate) fn need<'a>(thread: &Thread, memory: &'a Memory) -> Option<Want<'a>>
+    ensures want { option_map wanted result ≡ need thread.now memory.now }
+    ensures short { IfSome result IsShort }
+{
+    match next_kind(thread, memory) {
+        Some(Kind::Call) => need_of_call(thread, memory),
+        Some(Kind::DeviceLoad) => need_of_load(thread, memory),
+        Some(Kind::Break | Kind::DeviceStore | Kind::Fault(_)) | None => None,
+    }
+}
+
+// Why the thread's next step is serial, or none where it is not.
+#[tactic(auto, using(crate::proofs::Causes::kind_found))]
+fn next_kind(thread: &Thread, memory: &Memory) -> Option<Kind>
+    ensures { result ≡ next_kind thread.now memory.now }
+{
+    let mut probe = *thread;
+    match one(&mut probe, &mut Peek { memory }) {
+        Did::Serial(kind) => Some(kind),
+        Did::Next(_) | Did::NoRoom | Did::Bounced(_) => None,
+    }
+}
+
+fn need_of_call<'a>(thread: &Thread, memory: &'a Memory) -> Option<Want<'a>>
+    ensures want { option_map wanted result ≡ need_of_call thread.now memory.now }
+    ensures short { IfSome result IsShort }
+{
+    match thread.x()[17] {
+        2 => need_of_write(thread, memory),
+        3 => need_of_read(thread, memory),
+        4 => need_of_random(thread, memory),
+        5 => Some(Want::Clock),
+        _ => None,
+    }
+}
+
+fn need_of_write<'a>(thread: &Thread, memory: &'a Memory) -> Option<Want<'a>>
+    ensures want { option_map wanted result ≡ need_of_write thread.now memory.now }
+    ensures short { IfSome result IsShort }
+{
+    let x = thread.x();
+    let (channel, buf, len) = (x[10], x[11], x[12].min(MOST_BYTES));
+    if !has_buffer(memory, buf, len) {
+        return None;
+    }
+    let bytes = &memory.bytes()[buf as usize..][..len as usize];
+    Some(Want::Write { channel, bytes })
+}
+
+fn need_of_read<'a>(thread: &Thread, memory: &'a Memory) -> Option<Want<'a>>
+    ensures want { option_map wanted result ≡ need_of_read thread.now memory.now }
+    ensures short { IfSome result IsShort }
+{
+    let x = thread.x();
+    let (channel, buf, len) = (x[10], x[11], x[12].min(MOST_BYTES));
+    if !has_buffer(memory, buf, len) {
+        return None;
+    }
+    Some(Want::Read { channel, buf, len })
+}
+
+fn need_of_random<'a>(thread: &Thread, memory: &'a Memory) -> Option<Want<'a>>
+    ensures want { option_map wanted result ≡ need_of_random thread.now memory.now }
+    ensures short { IfSome result IsShort }
+{
+    let x = thread.x();
+    let (buf, len) = (x[10], x[11].min(MOST_BYTES));
+    if !has_buffer(memory, buf, len) {
+        return None;
+    }
+    Some(Want::Random { buf, len })
+}
+
+// Whether a buffer ends in the memory.
+fn has_buffer(memory: &Memory, buf: u32, len: u32) -> bool
+    ensures { result ≡ nat_le (buf + len) (length memory.now) }
+{
+    u64::from(buf) + u64::from(len) <= u64::from(memory.size())
+}
+
+// What a device load wants.
+#[tactic(auto, unfolding(spec_kernel::specs::Needs::next_plan))]
+fn need_of_load<'a>(thread: &Thread, memory: &'a Memory) -> Option<Want<'a>>
+    requires { is_inside (length memory.now) thread.now.pc ≡ true }
+    ensures want { option_map wanted result ≡ need_of_load (next_plan thread.now memory.now) }
+    ensures short { IfSome result IsShort }
+{
+    match decode(memory.word(thread.pc())) {
+        Some(instr) => device_word(instr, thread),
+        None => None,
+    }
+}
+
+// The device word that an instruction loads, by its address.
+fn device_word<'a>(instr: Instr, thread: &Thread) -> Option<Want<'a>>
+    ensures want { option_map wanted result ≡ need_of_load (plan instr thread.now) }
+    ensures short { IfSome result IsShort }
+{
+    match instr {
+        Instr::Load { rs1, offset, .. } => {
+            if address(thread, rs1, offset) == MOMENT {
+                return Some(Want::MomentWord);
+            }
+            Some(Want::InputWord)
+        }
+        _ => None,
+    }
+}
+
+// A register and an offset, the offset's sign copied into the bits above.
+fn address(thread: &Thread, rs1: Reg, offset: Imm12) -> u32
+    ensures { result ≡ add (register thread.now rs1) (extended 12 offset) }
+{
+    let bits = offset.bits();
+    let offset = if bits < 1 << 11 {
+        bits
+    } else {
+        bits + 0xFFFF_F000
+    };
+    thread.x()[rs1.number() as usize].wrapping_add(offset)
+}
