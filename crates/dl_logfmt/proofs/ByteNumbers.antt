@@ -1,10 +1,10 @@
 -- Numbers and their bytes, the low one first.
-use Rattle.std.proofs.Common.{◌≡◌, ℕ, zero, suc, ◌+◌, ◌*◌, ◌/◌, ◌%◌, ◌^◌, ◌<◌, List, [], ◌∷◌, ◌++◌, All, length, refl, ap, sym, ◌∙◌, append-nil, arith}
+use Rattle.std.proofs.Common.{◌≡◌, ℕ, zero, suc, ◌+◌, ◌*◌, ◌/◌, ◌%◌, ◌^◌, ◌<◌, List, [], ◌∷◌, All, length, refl, ap, sym, ◌∙◌, append-nil, arith}
 use Rattle.std.proofs.Math.Nat.{div-one, pow-suc, pow-succ', div-div-eq-div-mul}
 use Rattle.std.proofs.lemmas.List.Elements.{All-head, All-tail}
 use Rattle.std.specs.Int.{byte_at, bytes_low_first}
 use Rattle.byteorder.specs.Endian.{little_from}
-use Rattle.byteorder.specs.Numbers.{little_from-cons, little_from-lt, length-bytes_low_first, little_number-reads_back}
+use Rattle.byteorder.specs.Numbers.{little_from-cons, length-bytes_low_first, little_number-reads_back}
 use Rattle.spec_log.specs.Reading.{number_of}
 use Rattle.spec_log.specs.Bytes.{little}
 

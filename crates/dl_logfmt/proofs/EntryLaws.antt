@@ -1,14 +1,10 @@
 -- The entries of sections, as they are read and written.
-use Rattle.std.proofs.Common.{◌≡◌, ℕ, zero, suc, ◌+◌, ◌<◌, ◌≤◌, ◌^◌, ◌==◌, ◌||◌, Bool, true, false, List, [], ◌∷◌, ◌++◌, All, Contains, length, get_or, nat_le, nat_lt, inl, inr, ◌⊎◌, refl, ap, sym, subst, ◌∙◌, append-nil, append_assoc, arith, eq-eqb, lit<}
+use Rattle.std.proofs.Common.{◌≡◌, ℕ, zero, suc, ◌<◌, ◌≤◌, ◌^◌, ◌==◌, ◌||◌, Bool, true, false, List, [], ◌∷◌, ◌++◌, All, Contains, length, get_or, nat_le, inl, inr, refl, ap, sym, ◌∙◌, append-nil, append_assoc, arith, eq-eqb, lit<}
 use Rattle.std.specs.Bool.{Decides}
 use Rattle.std.specs.List.{list_any}
 use Rattle.std.proofs.lemmas.Bool.{leb-true, le-leb, eqb-true, or_cases, and_parts, and_from}
 use Rattle.std.proofs.lemmas.Bool.Decides.{Decides-or, Decides-and, Decides-ltb, Decides-eqb}
 use Rattle.std.proofs.lemmas.List.Elements.{All-contains, All-from_recursion}
-use Rattle.dl_entry.specs.declared.input.Input.{Input}
-use Rattle.spec_log.specs.declared.records.Interrupt.{Interrupt}
-use Rattle.spec_log.specs.declared.records.DmaRecord.{DmaRecord}
-use Rattle.spec_log.specs.declared.sizes.ShortSize.{ShortSize}
 use Rattle.spec_log.specs.Bytes.{little, u8, u16, u32, counted_bytes, short_size_bytes, interrupt_bytes, input_bytes, dma_bytes}
 use Rattle.spec_log.specs.Log.{ComesBefore, IsShortSize, IsInterrupt, AreFewBytes, input_kinds, IsInput, IsDmaRecord}
 use Rattle.spec_log.specs.Reading.{Reader, read, gives, raw, number, field, any, at_most, from_to, thread, is_earlier, short_size, interrupt, counted, input, dma}

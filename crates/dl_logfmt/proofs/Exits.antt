@@ -1,5 +1,5 @@
 -- Where a call hands on what a part of it answered.
-use Rattle.std.proofs.Common.{◌≡◌, ℕ, Result, Ok, Err}
+use Rattle.std.proofs.Common.{◌≡◌, ℕ, Result, Err}
 use Rattle.spec_log.specs.Reading.{Fault, Read}
 use Rattle.dl_logfmt.specs.declared.error.LogError.{LogError}
 use Rattle.dl_logfmt.specs.declared.error.LogError.TheVariants.{Malformed, OutOfMemory}

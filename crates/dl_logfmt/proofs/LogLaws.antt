@@ -1,5 +1,5 @@
 -- Logs, as they are read and written.
-use Rattle.std.proofs.Common.{◌≡◌, ℕ, zero, suc, ◌+◌, ◌<◌, ◌≤◌, ◌^◌, ◌==◌, nat_le, nat_lt, Bool, true, false, List, [], ◌∷◌, ◌++◌, All, length, Result, Ok, Err, if◌then◌else◌, refl, ap, sym, subst, ◌∙◌, append-nil, append_assoc, length-append, arith, eq-eqb}
+use Rattle.std.proofs.Common.{◌≡◌, ℕ, zero, suc, ◌<◌, ◌≤◌, ◌^◌, ◌==◌, nat_le, nat_lt, true, false, List, [], ◌++◌, All, length, Result, Ok, Err, if◌then◌else◌, refl, ap, sym, subst, ◌∙◌, append-nil, append_assoc, length-append, arith, eq-eqb}
 use Rattle.std.proofs.lemmas.Bool.{leb-true, le-leb, eqb-true, and_parts, and_from, le-ltb, ltb-false}
 use Rattle.std.proofs.lemmas.List.{nil_from_length}
 use Rattle.dl_entry.specs.declared.input.Input.{Input}
@@ -15,7 +15,7 @@ use Rattle.spec_log.specs.Bytes.{u8, u16, u32, little, magic, section, header_by
 use Rattle.spec_log.specs.Log.{ComesBefore, IsChunkSize, IsOrder, IsSizes, IsInterrupt, AreInterrupts, IsInput, AreInputs, IsDmaRecord, AreDmas, IsLog}
 use Rattle.spec_log.specs.Reading.{Fault, Read, Reader, continues, fails, read, gives, number, field, at_most, from_to, is_earlier, order_of, sizes_of, interrupt, interrupts_of, input, inputs_of, dma, dmas_of, mode, mode_of, parts, read_of}
 use Rattle.dl_logfmt.proofs.ByteNumbers.{IsByte}
-use Rattle.dl_logfmt.proofs.Codes.{Found, Codes, Codes-as, Codes-read, Codes-gives, Codes-skip, Codes-part, untested}
+use Rattle.dl_logfmt.proofs.Codes.{Codes, Codes-as, Codes-read, Codes-gives, Codes-skip, Codes-part, untested}
 use Rattle.dl_logfmt.proofs.EntryLaws.{Codes-field, Codes-interrupt, Codes-input, Codes-dma, Decides-earlier}
 use Rattle.std.proofs.lemmas.Bool.Decides.{Decides-ltb}
 use Rattle.dl_logfmt.proofs.SectionLaws.{Codes-section}

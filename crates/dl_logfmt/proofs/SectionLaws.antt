@@ -1,5 +1,5 @@
 -- Sections, as they are read and written.
-use Rattle.std.proofs.Common.{◌≡◌, ℕ, zero, suc, ◌+◌, ◌<◌, ◌≤◌, ◌^◌, Bool, true, List, [], ◌∷◌, ◌++◌, All, length, drop, get_or, Option, Some, None, Result, Ok, Err, refl, ap, sym, subst, ◌∙◌, append-nil, add-one, arith}
+use Rattle.std.proofs.Common.{◌≡◌, ℕ, zero, suc, ◌<◌, ◌^◌, Bool, true, List, [], ◌∷◌, ◌++◌, length, drop, get_or, Option, Some, None, Result, refl, ap, subst, append-nil, add-one, arith}
 use Rattle.std.specs.List.{flat_map, AllByRecursion, AllAdjacentBelow}
 use Rattle.std.proofs.lemmas.List.{nil_from_length}
 use Rattle.std.proofs.lemmas.List.Elements.{All-from_recursion, recursion_from_All}
@@ -7,7 +7,6 @@ use Rattle.std.specs.Bool.{Decides}
 use Rattle.spec_log.specs.Log.{IsSection}
 use Rattle.spec_log.specs.Bytes.{little, section}
 use Rattle.spec_log.specs.Reading.{Fault, Read, Reader, read, gives, any, passes, comes_after, entries, section_of}
-use Rattle.dl_logfmt.proofs.ByteNumbers.{IsByte}
 use Rattle.dl_logfmt.proofs.Codes.{Codes, Codes-as, Codes-read, Codes-then, Codes-gives, Codes-number, continued, tested, found_as}
 
 -- each entry comes after the one before it

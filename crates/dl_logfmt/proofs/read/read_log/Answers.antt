@@ -1,6 +1,6 @@
 use Rattle.std.proofs.lemmas.List.Elements.{All-from_get_or}
 use Rattle.dl_logfmt.proofs.ByteNumbers.{IsByte}
-use Rattle.dl_logfmt.proofs.LogLaws.{parts-good, written_again, read_again}
+use Rattle.dl_logfmt.proofs.LogLaws.{parts-good}
 use Rattle.dl_logfmt.proofs.read.read_log.Goals as goal
 
 pub new-requires : goal.new-requires
