@@ -56,3 +56,11 @@ pub room_at : {V : Type 0} (lanes : List (Held V)) (t : ℕ) (d : Held V) → t 
 room_at [] t d h e = absurd (omega arith)
 room_at (x ∷ xs) zero d h e = (and_parts x.room (list_all (λ lane. lane.room) xs) e).0
 room_at (x ∷ xs) (suc t) d h e = room_at xs t d (omega arith) (and_parts x.room (list_all (λ lane. lane.room) xs) e).1
+
+-- room in each, also after one was changed
+pub Roomy-set : {V : Type 0} (lanes : List (Held V)) (n t : ℕ) (new : Held V) → t < length lanes → Roomy lanes n → new.room ≡ true → Roomy (set lanes t new) n
+Roomy-set lanes n t new h rooms room k d l =
+    elim (cases_eq k t) [
+      | inl same ↦ rw (same, get_or-set_same lanes t new d h) room
+      | inr other ↦ rw (get_or-set_other lanes t k new d other) (rooms k d l)
+    ]

@@ -1,5 +1,5 @@
 -- Values by rising indices.
-use Rattle.std.specs.Prelude.{◌≡◌, ℕ, ◌<◌, ◌≤◌, ◌==◌, nat_lt, List, [], ◌∷◌, length, slice_set, slice_index_or, Option, Some, None, if◌then◌else◌}
+use Rattle.std.specs.Prelude.{◌≡◌, ℕ, ◌<◌, ◌≤◌, ◌==◌, nat_lt, List, [], ◌∷◌, length, slice_set, slice_index_or, Option, Some, None, is_some, if◌then◌else◌}
 use Rattle.std.specs.List.{AllAdjacentBelow, insert}
 use Rattle.dl_moments.specs.declared.lane.Mark.{Mark}
 
@@ -19,6 +19,10 @@ with_mark index value (mark ∷ marks) =
 abbrev pub value_at : {V : Type 0} → ℕ → List (Mark V) → Option V
 value_at index [] = None
 value_at index (mark ∷ marks) = if mark.index == index then Some mark.value else value_at index marks
+
+-- a value put in place of another, where one stands
+abbrev pub with_mark_if : {V : Type 0} → ℕ → V → List (Mark V) → List (Mark V)
+with_mark_if index value marks = if is_some (value_at index marks) then with_mark index value marks else marks
 
 -- the index stands at a place
 pub record Stands {V : Type 0} (index : ℕ) (marks : List (Mark V)) (place : ℕ) : Type 0 where

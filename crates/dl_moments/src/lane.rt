@@ -1,6 +1,6 @@
 //! The values of one thread, by index.
 ghost use Rattle.std.specs.Prelude.{◌≡◌, ℕ, ◌<◌, ◌≤◌, [], length, slice_index_or, IsOk, IsTrue, MatchResult, OnOk, OnErr};
-ghost use Rattle.dl_moments.specs.Marks.{Rises, with_mark, value_at, Stands, Misses};
+ghost use Rattle.dl_moments.specs.Marks.{Rises, with_mark, with_mark_if, value_at, Stands, Misses};
 
 use dl_entry::OutOfMemory;
 use std::alloc::Global;
@@ -45,6 +45,7 @@ impl<V: Copy> Lane<V> {
     pub fn reserve(&mut self) -> Result<(), OutOfMemory>
         ensures marks { self.new.marks ≡ self.old.marks }
         ensures ok { OnOk result (IsTrue self.new.room) }
+        ensures room { IsTrue self.old.room → IsOk result }
     {
         self.marks.reserve(1)?;
         Ok(())
@@ -61,6 +62,16 @@ impl<V: Copy> Lane<V> {
             Err(place) => self.marks.insert(place, Mark { index, value })?,
         }
         Ok(())
+    }
+
+    /// Puts a value in place of the one that stands at an index, if there is one.
+    pub fn set(&mut self, index: u32, value: V)
+        ensures marks { self.new.marks ≡ with_mark_if index value self.old.marks }
+        ensures room { self.new.room ≡ self.old.room }
+    {
+        if let Ok(place) = place_of(&self.marks, index) {
+            self.marks[place] = Mark { index, value };
+        }
     }
 
     /// The value at an index.

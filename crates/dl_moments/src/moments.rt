@@ -1,7 +1,7 @@
 //! Values by thread and index.
 ghost use Rattle.std.specs.Prelude.{◌≡◌, ◌≤◌, List, [], length, replicate, slice_set, slice_index_or, IfOk, IsOk, IsTrue, OnOk, OnErr};
 ghost use Rattle.dl_moments.specs.Held.{By};
-ghost use Rattle.dl_moments.specs.Marks.{Rises, with_mark, value_at};
+ghost use Rattle.dl_moments.specs.Marks.{Rises, with_mark, with_mark_if, value_at};
 
 use crate::lane::{Lane, Mark};
 use dl_entry::OutOfMemory;
@@ -45,6 +45,7 @@ impl<V: Copy> Moments<V> {
     pub fn reserve(&mut self) -> Result<(), OutOfMemory>
         ensures lanes { self.new.lanes ≡ self.old.lanes }
         ensures ok { OnOk result (IsTrue self.new.room) }
+        ensures room { IsTrue self.old.room → IsOk result }
     {
         for thread in 0..self.lanes.len() {
             let lane = &mut self.lanes[thread];
@@ -63,6 +64,17 @@ impl<V: Copy> Moments<V> {
     {
         let lane = &mut self.lanes[usize::from(thread)];
         lane.put(index, value)
+    }
+
+    /// Puts a value in place of a thread's that stands at an index, if there is one.
+    pub fn set(&mut self, thread: u8, index: u32, value: V)
+        ensures lanes { let lane = slice_index_or self.old.lanes thread [] in
+            self.new.lanes ≡ slice_set self.old.lanes thread (with_mark_if index value lane) }
+    {
+        if usize::from(thread) < THREADS {
+            let lane = &mut self.lanes[usize::from(thread)];
+            lane.set(index, value);
+        }
     }
 
     /// A thread's value at an index.
