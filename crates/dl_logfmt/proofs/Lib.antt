@@ -1,1 +1,10 @@
+mod Behind
+mod ByteNumbers
+mod Codes
+mod EntryLaws
+mod Exits
+mod LogLaws
 mod Nibbles
+mod OrderLaws
+mod SectionLaws
+mod SizeLaws

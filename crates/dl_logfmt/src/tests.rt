@@ -1,316 +1,182 @@
-//! The bytes of the logs of small recordings.
-ghost use Rattle.std.specs.Prelude.{◌≡◌, ◌≤◌, ◌^◌, All, Contains, IfOk, length};
-ghost use Rattle.spec_log.specs.Log.{IsActor, AreShortSizes, AreInputs, IsInput, input_kinds};
-
+//! The bytes of the logs of small recordings, and bytes that are no log.
 use super::*;
-use dl_entry::{Actor, Bytes, Input, OutOfMemory, Sequence};
 use std::alloc::Global;
 use std::test::Fail;
 
 #[test]
-fn logs_of_small_recordings(rt: HostRuntime) -> Result<(), Fail> {
-    for (recording, bytes) in &TABLE {
-        let log = log_of(rt.alloc(), *recording)?;
-        assert_eq!(rt; write_log(rt.alloc(), &log)?.as_slice(), *bytes);
-    }
-    Ok(())
-}
-
-#[derive(Clone, Copy)]
-enum Recording {
-    /// A thread runs two instructions and exits.
-    Exits,
-    ExitsInOrder,
-    ExitsInTurn,
-    /// A thread runs two chunks and exits.
-    RunsTwice,
-    /// Two threads, of which one is odd in the order.
-    Races,
-    /// Its first chunk was closed after three instructions.
-    ClosesEarly,
-    /// It reads two bytes from a pipe.
-    ReadsPipe,
-    /// A DMA is its third commit.
-    TakesDma,
-    /// An interrupt comes after its two commits.
-    TakesInterrupt,
-    /// It loads the two device words that can be read.
-    LoadsDeviceWords,
-}
-
-fn log_of(alloc: Global, recording: Recording) -> Result<Log, OutOfMemory> {
-    match recording {
-        Recording::Exits => order_size(alloc, &[(0, 2), (0, 0)]),
-        Recording::ExitsInOrder => order_only(alloc, &[0, 0], None),
-        Recording::ExitsInTurn => in_turn(alloc, 2),
-        Recording::RunsTwice => order_size(alloc, &[(0, 3), (0, 2), (0, 0)]),
-        Recording::Races => races(alloc),
-        Recording::ClosesEarly => closes_early(alloc),
-        Recording::ReadsPipe => reads_pipe(alloc),
-        Recording::TakesDma => with_dma(alloc, in_turn(alloc, 5)?, 2, b"AB"),
-        Recording::TakesInterrupt => takes_interrupt(alloc),
-        Recording::LoadsDeviceWords => loads_device_words(alloc),
-    }
-}
-
-fn races(alloc: Global) -> Result<Log, OutOfMemory> {
-    order_size(alloc, &[(0, 3), (0, 0), (1, 3), (0, 2), (0, 0), (1, 0)])
-}
-
-fn closes_early(alloc: Global) -> Result<Log, OutOfMemory> {
-    let short = ShortSize {
-        thread: 0,
-        index: 0,
-        size: 3,
-    };
-    order_only(alloc, &[0, 0, 0], Some(short))
-}
-
-fn reads_pipe(alloc: Global) -> Result<Log, OutOfMemory> {
-    let log = order_size(alloc, &[(0, 3), (0, 0), (0, 2), (0, 0)])?;
-    with_input(alloc, log, 3, 2, &[0x93, 0x08])
-}
-
-fn takes_interrupt(alloc: Global) -> Result<Log, OutOfMemory> {
-    let log = order_size(alloc, &[(0, 2), (0, 0)])?;
-    let interrupt = Interrupt {
-        thread: 0,
-        index: 2,
-        value: 5,
-    };
-    with_interrupt(alloc, log, interrupt)
-}
-
-fn loads_device_words(alloc: Global) -> Result<Log, OutOfMemory> {
-    let log = order_size(alloc, &[(0, 1), (0, 0), (0, 0), (0, 0), (0, 0)])?;
-    let log = with_input(alloc, log, 16, 4, &[])?;
-    with_input(alloc, log, 17, 0x41, &[])
-}
-
-/// A log in order-size of commits by their actors and sizes.
-fn order_size(alloc: Global, commits: &[(u8, u32)]) -> Result<Log, OutOfMemory>
-    requires { length commits.now ≤ 100 }
-{
-    let mut order = Order::new(alloc);
-    let mut sizes = Sequence::new(alloc);
-    for (actor, size) in commits {
-        order.push(actor_of(*actor))?;
-        sizes.push((*size).min(100))?;
-    }
-    Ok(Log::new(LogParts {
-        mode: ModeName::OrderSize,
-        s: 100,
-        count: order.len() as u32,
-        order,
-        sizes: Sizes::Each(sizes),
-        interrupts: Sequence::new(alloc),
-        inputs: Sequence::new(alloc),
-        dmas: Sequence::new(alloc),
-    }))
-}
-
-/// A log in order-only of commits by their actors, with at most one that was closed early.
-fn order_only(alloc: Global, actors: &[u8], short: Option<ShortSize>) -> Result<Log, OutOfMemory>
-    requires { length actors.now ≤ 100 }
-{
-    let mut order = Order::new(alloc);
-    for actor in actors {
-        order.push(actor_of(*actor))?;
-    }
-    Ok(Log::new(LogParts {
-        mode: ModeName::OrderOnly,
-        s: 100,
-        count: order.len() as u32,
-        order,
-        sizes: Sizes::Short(short_sizes(alloc, short)?),
-        interrupts: Sequence::new(alloc),
-        inputs: Sequence::new(alloc),
-        dmas: Sequence::new(alloc),
-    }))
-}
-
-/// A log in picolog of so many commits.
-fn in_turn(alloc: Global, count: u32) -> Result<Log, OutOfMemory> {
-    Ok(Log::new(LogParts {
-        mode: ModeName::Picolog,
-        s: 100,
-        count: count.min(100),
-        order: Order::new(alloc),
-        sizes: Sizes::Short(Sequence::new(alloc)),
-        interrupts: Sequence::new(alloc),
-        inputs: Sequence::new(alloc),
-        dmas: Sequence::new(alloc),
-    }))
-}
-
-fn short_sizes(alloc: Global, short: Option<ShortSize>) -> Result<Sequence<ShortSize>, OutOfMemory>
-    ensures { IfOk result (λ sizes. AreShortSizes 100 sizes) }
-{
-    let mut sizes = Sequence::new(alloc);
-    if let Some(short) = short {
-        if short.thread < 15 && 0 < short.size && short.size <= 100 {
-            sizes.push(short)?;
+fn logs_are_read_and_written_back(rt: HostRuntime) -> Result<(), Fail> {
+    for bytes in LOGS {
+        match read_log(rt.alloc(), bytes) {
+            Ok(log) => assert_eq!(rt; write_log(rt.alloc(), &log)?.as_slice(), bytes),
+            Err(error) => assert!(rt; false, "{error}"),
         }
     }
-    Ok(sizes)
+    Ok(())
 }
 
-fn actor_of(code: u8) -> Actor
-    ensures { IsActor result }
-{
-    if code < 15 {
-        Actor::Thread(code)
-    } else {
-        Actor::Dma
+#[test]
+fn cut_logs_end_inside_a_field(rt: HostRuntime) {
+    for bytes in [EXITS, FULL] {
+        for length in 0..bytes.len() {
+            let short = Some(LogError::Malformed(1, length as u64));
+            assert_eq!(rt; read_log(rt.alloc(), &bytes[..length]).err(), short);
+        }
     }
 }
 
-/// The log with this interrupt alone.
-fn with_interrupt(alloc: Global, log: Log, interrupt: Interrupt) -> Result<Log, OutOfMemory>
-    requires { interrupt.thread ≤ 14 }
-{
-    let mut parts = log.into_parts();
-    let mut interrupts = Sequence::new(alloc);
-    interrupts.push(interrupt)?;
-    parts.interrupts = interrupts;
-    Ok(Log::new(parts))
-}
-
-/// The log with one input more.
-fn with_input(
-    alloc: Global,
-    log: Log,
-    kind: u8,
-    answer: u32,
-    bytes: &[u8],
-) -> Result<Log, OutOfMemory>
-    requires kind { Contains input_kinds kind }
-    requires few { length bytes.now ≤ 4096 }
-{
-    let mut parts = log.into_parts();
-    let bytes = Bytes::from_slice(alloc, bytes)?;
-    let input = Input {
-        kind,
-        result: answer,
-        bytes,
-    };
-    add(&mut parts.inputs, input)?;
-    Ok(Log::new(parts))
-}
-
-fn add(inputs: &mut Sequence<Input>, input: Input) -> Result<(), OutOfMemory>
-    requires inputs { AreInputs inputs.old }
-    requires input { IsInput input }
-    ensures { AreInputs inputs.new }
-{
-    if inputs.len() < 100 {
-        inputs.push(input)?;
+#[test]
+fn the_first_wrong_field_is_named(rt: HostRuntime) -> Result<(), Fail> {
+    for (bytes, at, wrong, number, offset) in WRONG {
+        let bytes = overwritten(rt.alloc(), bytes, at, wrong)?;
+        let malformed = Some(LogError::Malformed(number, offset));
+        assert_eq!(rt; read_log(rt.alloc(), &bytes).err(), malformed, "{at}");
     }
     Ok(())
 }
 
-/// The log with this DMA alone.
-fn with_dma(alloc: Global, log: Log, slot: u32, bytes: &[u8]) -> Result<Log, OutOfMemory>
-    requires { length bytes.now ≤ 4096 }
-{
-    let mut parts = log.into_parts();
-    let mut dmas = Sequence::new(alloc);
-    let bytes = Bytes::from_slice(alloc, bytes)?;
-    dmas.push(DmaRecord { slot, bytes })?;
-    parts.dmas = dmas;
-    Ok(Log::new(parts))
+/// The bytes with others from an offset on, or behind their end.
+fn overwritten(alloc: Global, bytes: &[u8], at: usize, wrong: &[u8]) -> Result<Vec<u8>, Fail> {
+    let mut out = Vec::new(alloc);
+    out.extend_from_slice(bytes.get(..at).unwrap_or(bytes))?;
+    out.extend_from_slice(wrong)?;
+    out.extend_from_slice(bytes.get(out.len()..).unwrap_or(&[]))?;
+    Ok(out)
 }
 
 /// The header, the order, the sizes, the interrupts, the inputs and the DMAs of each.
-const TABLE: [(Recording, &[u8]); 10] = [
+const LOGS: [&[u8]; 12] = [
+    // A thread runs two instructions and exits.
+    EXITS,
+    // The same without sizes.
+    b"\x44\x4C\x52\x4E\x01\x01\x00\x00\x64\x00\x00\x00\x02\x00\x00\x00\
+      \x02\x00\x00\x00\x00\
+      \x00\x00\x00\x00\
+      \x00\x00\x00\x00\
+      \x00\x00\x00\x00\
+      \x00\x00\x00\x00",
+    // The same without an order.
+    b"\x44\x4C\x52\x4E\x01\x02\x00\x00\x64\x00\x00\x00\x02\x00\x00\x00\
+      \x00\x00\x00\x00\
+      \x00\x00\x00\x00\
+      \x00\x00\x00\x00\
+      \x00\x00\x00\x00\
+      \x00\x00\x00\x00",
+    // Two threads, of which one is odd in the order.
+    b"\x44\x4C\x52\x4E\x01\x00\x00\x00\x64\x00\x00\x00\x06\x00\x00\x00\
+      \x06\x00\x00\x00\x00\x01\x10\
+      \x06\x00\x00\x00\x03\x00\x00\x00\x03\x00\x02\x00\x00\x00\x00\x00\
+      \x00\x00\x00\x00\
+      \x00\x00\x00\x00\
+      \x00\x00\x00\x00",
+    // The first chunk was closed after three instructions.
+    b"\x44\x4C\x52\x4E\x01\x01\x00\x00\x64\x00\x00\x00\x03\x00\x00\x00\
+      \x03\x00\x00\x00\x00\x00\
+      \x01\x00\x00\x00\x00\x00\x00\x00\x00\x03\x00\
+      \x00\x00\x00\x00\
+      \x00\x00\x00\x00\
+      \x00\x00\x00\x00",
+    // No chunk was closed early.
+    b"\x44\x4C\x52\x4E\x01\x01\x00\x00\x64\x00\x00\x00\x02\x00\x00\x00\
+      \x02\x00\x00\x00\x00\
+      \x00\x00\x00\x00\
+      \x00\x00\x00\x00\
+      \x00\x00\x00\x00\
+      \x00\x00\x00\x00",
+    // Two threads with chunks that were closed early.
+    HALVED,
+    // Two bytes are read from a pipe.
+    b"\x44\x4C\x52\x4E\x01\x00\x00\x00\x64\x00\x00\x00\x04\x00\x00\x00\
+      \x04\x00\x00\x00\x00\x00\
+      \x04\x00\x00\x00\x03\x00\x00\x00\x02\x00\x00\x00\
+      \x00\x00\x00\x00\
+      \x01\x00\x00\x00\x03\x02\x00\x00\x00\x02\x00\x93\x08\
+      \x00\x00\x00\x00",
+    // A DMA is the third commit.
+    TAKES_DMA,
+    // An interrupt comes after two commits.
+    b"\x44\x4C\x52\x4E\x01\x00\x00\x00\x64\x00\x00\x00\x02\x00\x00\x00\
+      \x02\x00\x00\x00\x00\
+      \x02\x00\x00\x00\x02\x00\x00\x00\
+      \x01\x00\x00\x00\x00\x02\x00\x00\x00\x05\x00\x00\x00\
+      \x00\x00\x00\x00\
+      \x00\x00\x00\x00",
+    // The two device words that can be read.
+    b"\x44\x4C\x52\x4E\x01\x00\x00\x00\x64\x00\x00\x00\x05\x00\x00\x00\
+      \x05\x00\x00\x00\x00\x00\x00\
+      \x05\x00\x00\x00\x01\x00\x00\x00\x00\x00\x00\x00\x00\x00\
+      \x00\x00\x00\x00\
+      \x02\x00\x00\x00\x10\x04\x00\x00\x00\x00\x00\x11\x41\x00\x00\x00\x00\x00\
+      \x00\x00\x00\x00",
+    FULL,
+];
+
+const EXITS: &[u8] = b"\x44\x4C\x52\x4E\x01\x00\x00\x00\x64\x00\x00\x00\x02\x00\x00\x00\
+  \x02\x00\x00\x00\x00\
+  \x02\x00\x00\x00\x02\x00\x00\x00\
+  \x00\x00\x00\x00\
+  \x00\x00\x00\x00\
+  \x00\x00\x00\x00";
+
+const HALVED: &[u8] = b"\x44\x4C\x52\x4E\x01\x01\x00\x00\x10\x00\x00\x00\x07\x00\x00\x00\
+  \x07\x00\x00\x00\x00\x11\x11\x00\
+  \x05\x00\x00\x00\x00\x02\x00\x00\x00\x08\x00\x01\x00\x00\x00\x00\x02\x00\x01\x01\x00\x00\x00\x02\x00\x01\x02\x00\x00\x00\x02\x00\x01\x03\x00\x00\x00\x02\x00\
+  \x00\x00\x00\x00\
+  \x00\x00\x00\x00\
+  \x00\x00\x00\x00";
+
+const TAKES_DMA: &[u8] = b"\x44\x4C\x52\x4E\x01\x02\x00\x00\x64\x00\x00\x00\x05\x00\x00\x00\
+  \x00\x00\x00\x00\
+  \x00\x00\x00\x00\
+  \x00\x00\x00\x00\
+  \x00\x00\x00\x00\
+  \x01\x00\x00\x00\x02\x00\x00\x00\x02\x00\x41\x42";
+
+/// Entries in each section.
+const FULL: &[u8] = b"\x44\x4C\x52\x4E\x01\x01\x00\x00\x00\x10\x00\x00\x03\x00\x00\x00\
+  \x03\x00\x00\x00\xFE\x00\
+  \x02\x00\x00\x00\x00\x04\x03\x02\x01\x00\x10\x0E\x00\x00\x00\x00\x01\x00\
+  \x02\x00\x00\x00\x03\x07\x00\x00\x00\xFF\xFF\xFF\xFF\x03\x08\x00\x00\x00\x00\x00\x00\x00\
+  \x02\x00\x00\x00\x03\x02\x00\x00\x00\x02\x00\x93\x08\x11\x00\x00\x00\x00\x00\x00\
+  \x02\x00\x00\x00\x01\x00\x00\x00\x02\x00\x41\xFF\x02\x00\x00\x00\x00\x00";
+
+/// A log, the offset at which bytes are wrong, these bytes, and the number and the offset of the fault.
+const WRONG: [(&[u8], usize, &[u8], u8, u64); 32] = [
+    (FULL, 0, b"\x45", 2, 0),
+    (FULL, 4, b"\x02", 3, 4),
+    (FULL, 5, b"\x03", 4, 5),
+    (FULL, 7, b"\x01", 5, 6),
+    (FULL, 8, b"\x0F\x00", 5, 8),
+    (FULL, 8, b"\x01\x10", 5, 8),
+    (FULL, 12, b"\x01\x00\x00\x01", 5, 12),
+    (FULL, 16, b"\x04", 5, 16),
+    (FULL, 21, b"\x10", 5, 21),
+    (FULL, 26, b"\x0F", 5, 26),
+    (FULL, 31, b"\x00\x00", 5, 31),
+    (FULL, 31, b"\x01\x10", 5, 31),
+    (FULL, 33, b"\x00", 6, 33),
+    (FULL, 33, b"\x00\x04\x03\x02\x01", 6, 33),
+    (FULL, 44, b"\x0F", 5, 44),
+    (FULL, 54, b"\x07", 6, 53),
+    (FULL, 53, b"\x02", 6, 53),
+    (FULL, 66, b"\x01", 5, 66),
+    (FULL, 66, b"\x06", 5, 66),
+    (FULL, 71, b"\x01\x10", 5, 71),
+    (FULL, 90, b"\x01\x10", 5, 90),
+    (FULL, 94, b"\x01", 6, 94),
+    (EXITS, 16, b"\x03", 5, 16),
+    (EXITS, 21, b"\x01", 5, 21),
+    (EXITS, 25, b"\x65", 5, 25),
+    (TAKES_DMA, 12, b"\x01\x00\x00\x01", 5, 12),
+    (TAKES_DMA, 16, b"\x05", 5, 16),
+    (HALVED, 23, b"\x10", 5, 23),
     (
-        Recording::Exits,
-        b"DLRN\x01\x00\x00\x00\x64\x00\x00\x00\x02\x00\x00\x00\
-          \x02\x00\x00\x00\x00\
-          \x02\x00\x00\x00\x02\x00\x00\x00\
-          \x00\x00\x00\x00\
-          \x00\x00\x00\x00\
-          \x00\x00\x00\x00",
+        HALVED,
+        35,
+        b"\x01\x01\x00\x00\x00\x02\x00\x01\x00\x00\x00\x00\x02\x00",
+        6,
+        42,
     ),
-    (
-        Recording::ExitsInOrder,
-        b"DLRN\x01\x01\x00\x00\x64\x00\x00\x00\x02\x00\x00\x00\
-          \x02\x00\x00\x00\x00\
-          \x00\x00\x00\x00\
-          \x00\x00\x00\x00\
-          \x00\x00\x00\x00\
-          \x00\x00\x00\x00",
-    ),
-    (
-        Recording::ExitsInTurn,
-        b"DLRN\x01\x02\x00\x00\x64\x00\x00\x00\x02\x00\x00\x00\
-          \x00\x00\x00\x00\
-          \x00\x00\x00\x00\
-          \x00\x00\x00\x00\
-          \x00\x00\x00\x00\
-          \x00\x00\x00\x00",
-    ),
-    (
-        Recording::RunsTwice,
-        b"DLRN\x01\x00\x00\x00\x64\x00\x00\x00\x03\x00\x00\x00\
-          \x03\x00\x00\x00\x00\x00\
-          \x03\x00\x00\x00\x03\x00\x02\x00\x00\x00\
-          \x00\x00\x00\x00\
-          \x00\x00\x00\x00\
-          \x00\x00\x00\x00",
-    ),
-    (
-        Recording::Races,
-        b"DLRN\x01\x00\x00\x00\x64\x00\x00\x00\x06\x00\x00\x00\
-          \x06\x00\x00\x00\x00\x01\x10\
-          \x06\x00\x00\x00\x03\x00\x00\x00\x03\x00\x02\x00\x00\x00\x00\x00\
-          \x00\x00\x00\x00\
-          \x00\x00\x00\x00\
-          \x00\x00\x00\x00",
-    ),
-    (
-        Recording::ClosesEarly,
-        b"DLRN\x01\x01\x00\x00\x64\x00\x00\x00\x03\x00\x00\x00\
-          \x03\x00\x00\x00\x00\x00\
-          \x01\x00\x00\x00\x00\x00\x00\x00\x00\x03\x00\
-          \x00\x00\x00\x00\
-          \x00\x00\x00\x00\
-          \x00\x00\x00\x00",
-    ),
-    (
-        Recording::ReadsPipe,
-        b"DLRN\x01\x00\x00\x00\x64\x00\x00\x00\x04\x00\x00\x00\
-          \x04\x00\x00\x00\x00\x00\
-          \x04\x00\x00\x00\x03\x00\x00\x00\x02\x00\x00\x00\
-          \x00\x00\x00\x00\
-          \x01\x00\x00\x00\x03\x02\x00\x00\x00\x02\x00\x93\x08\
-          \x00\x00\x00\x00",
-    ),
-    (
-        Recording::TakesDma,
-        b"DLRN\x01\x02\x00\x00\x64\x00\x00\x00\x05\x00\x00\x00\
-          \x00\x00\x00\x00\
-          \x00\x00\x00\x00\
-          \x00\x00\x00\x00\
-          \x00\x00\x00\x00\
-          \x01\x00\x00\x00\x02\x00\x00\x00\x02\x00\x41\x42",
-    ),
-    (
-        Recording::TakesInterrupt,
-        b"DLRN\x01\x00\x00\x00\x64\x00\x00\x00\x02\x00\x00\x00\
-          \x02\x00\x00\x00\x00\
-          \x02\x00\x00\x00\x02\x00\x00\x00\
-          \x01\x00\x00\x00\x00\x02\x00\x00\x00\x05\x00\x00\x00\
-          \x00\x00\x00\x00\
-          \x00\x00\x00\x00",
-    ),
-    (
-        Recording::LoadsDeviceWords,
-        b"DLRN\x01\x00\x00\x00\x64\x00\x00\x00\x05\x00\x00\x00\
-          \x05\x00\x00\x00\x00\x00\x00\
-          \x05\x00\x00\x00\x01\x00\x00\x00\x00\x00\x00\x00\x00\x00\
-          \x00\x00\x00\x00\
-          \x02\x00\x00\x00\x10\x04\x00\x00\x00\x00\x00\x11\x41\x00\x00\x00\x00\x00\
-          \x00\x00\x00\x00",
-    ),
+    (FULL, 82, b"\x03", 1, 100),
+    (EXITS, 41, b"\x00", 7, 41),
+    (FULL, 100, b"\x00", 7, 100),
 ];

@@ -1,3 +1,4 @@
 mod Examples
+mod NotingExamples
 mod ReadingExamples
 pub mod Sections

@@ -2,5 +2,6 @@ pub mod Bytes
 pub mod Head
 pub mod Log
 pub mod Mode
+pub mod Noting
 pub mod Reading
 pub mod Size

@@ -1,7 +1,0 @@
-use Rattle.std.proofs.Common.{◌≡◌, ◌≤◌, All, length}
-use Rattle.spec_log.specs.Log.{IsActor}
-use Rattle.dl_logfmt.proofs.tests.order_size.Given as goal
-
-abbrev pub invariant-loop-actor : goal.invariant-loop-actor
-invariant-loop-actor l =
-    (length l.order ≡ l.actor-index) × All IsActor l.order × (length l.sizes ≡ l.actor-index) × All (λ size. size ≤ 100) l.sizes

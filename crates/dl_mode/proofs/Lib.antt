@@ -1,0 +1,2 @@
+mod EarlyLists
+mod SizeLookups

@@ -1,0 +1,9 @@
+-- The number of an actor's commits.
+use Rattle.std.specs.Prelude.{ℕ, List, slice_index}
+use Rattle.dl_entry.specs.declared.actor.Actor.{Actor}
+use Rattle.dl_entry.specs.declared.actor.Actor.TheVariants.{Thread, Dma}
+
+-- of a thread; a DMA's aren't counted
+abbrev pub done_by : List ℕ → Actor → ℕ
+done_by done (Thread thread) = slice_index done thread
+done_by done Dma = 0

@@ -1,0 +1,5 @@
+pub mod Counts
+pub mod Early
+pub mod Lists
+pub mod Logged
+pub mod Whole

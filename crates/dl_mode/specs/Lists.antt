@@ -1,0 +1,25 @@
+-- The lists of a log that depend on its mode.
+use Rattle.std.specs.Prelude.{◌≡◌, ℕ, ◌^◌, ◌≤◌}
+use Rattle.spec_log.specs.declared.mode_name.ModeName.{ModeName}
+use Rattle.spec_log.specs.Log.{IsChunkSize, IsOrder, IsSizes, AreShortSizes}
+use Rattle.spec_log.specs.declared.sizes.Sizes.{Sizes}
+use Rattle.spec_log.specs.declared.sizes.Sizes.TheVariants.{Each, Short}
+use Rattle.spec_log.specs.Noting.{Kept}
+use Rattle.dl_mode.specs.declared.lists.Lists.{Lists}
+
+-- the lists of what is kept
+abbrev pub lists_of : ModeName → Kept → Lists
+lists_of mode kept = record { mode = mode; s = kept.s; count = kept.count; order = kept.order; sizes = kept.sizes }
+
+-- lists of a mode, in a log's ranges and orders
+pub record AreLists (mode : ModeName) (lists : Lists) : Type 0 where
+  pub is_mode : lists.mode ≡ mode
+  pub s : IsChunkSize lists.s
+  pub count : lists.count ≤ 2 ^ 24
+  pub order : IsOrder mode lists.count lists.order
+  pub sizes : IsSizes mode lists.s lists.count lists.sizes
+
+-- the sizes are those of chunks that were closed early
+abbrev pub AreEarly : ℕ → Sizes → Type 0
+AreEarly s (Each sizes) = ⊥
+AreEarly s (Short sizes) = AreShortSizes s sizes

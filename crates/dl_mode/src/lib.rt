@@ -1,0 +1,15 @@
+//! What a log keeps of the order and the sizes of commits, in each of three modes.
+#![tactic(auto)]
+
+mod early;
+mod lists;
+mod mode;
+mod order_only;
+mod order_size;
+mod picolog;
+
+pub use lists::Lists;
+pub use mode::Mode;
+pub use order_only::{OrderOnly, OrderOnlyLog};
+pub use order_size::{OrderAndSize, OrderSizeLog};
+pub use picolog::{PicoLog, TurnLog};

@@ -1,0 +1,82 @@
+//! What each mode of recording does.
+ghost use Rattle.std.specs.Prelude.{◌≡◌, ◌+◌, ◌^◌, ◌<◌, ◌≤◌, length, IfOk, IsOk, IsTrue, OnOk, OnErr};
+ghost use Rattle.spec_log.specs.declared.mode_name.ModeName.{ModeName};
+ghost use Rattle.spec_log.specs.Log.{IsActor};
+ghost use Rattle.spec_log.specs.Noting.{nothing_kept, noted, kept_size, limit_by, sizes_used, kept_head};
+ghost use Rattle.dl_mode.specs.Counts.{done_by};
+ghost use Rattle.dl_mode.specs.Lists.{lists_of, AreLists};
+ghost use Rattle.dl_mode.specs.Logged.{Logged, note_of};
+
+use crate::lists::Lists;
+use dl_entry::{Actor, Commit, OutOfMemory};
+use spec_log::ModeName;
+use std::alloc::Global;
+
+/// A mode of recording: its log keeps what a replay needs of the order and the sizes of commits.
+pub trait Mode {
+    type Log: Drop;
+
+    ghost mode: { ModeName };
+
+    ghost logged: { Self.Log → Logged };
+
+    /// The mode's name.
+    fn name() -> ModeName
+        ensures { result ≡ mode };
+
+    /// The log of no commit, with standard chunks of `s` instructions.
+    fn new(alloc: Global, s: u32) -> Result<Self::Log, OutOfMemory>
+        ensures { IfOk result (λ log. (logged log).kept ≡ nothing_kept mode s) };
+
+    /// Makes room for one commit more.
+    fn reserve(log: &mut Self::Log) -> Result<(), OutOfMemory>
+        ensures kept { (logged log.new).kept ≡ (logged log.old).kept }
+        ensures ok { OnOk result (IsTrue (logged log.new).room) }
+        ensures room { IsTrue (logged log.old).room → IsOk result };
+
+    /// Notes a commit, and whether its chunk was closed early. With room it isn't refused.
+    fn note(log: &mut Self::Log, commit: &Commit, closed_short: bool) -> Result<(), OutOfMemory>
+        requires actor { IsActor commit.now.actor }
+        requires commits { (logged log.old).kept.count < 2 ^ 24 }
+        requires few { done_by (logged log.old).kept.done commit.now.actor + 1 < 2 ^ 32 }
+        ensures ok { OnOk result ((logged log.new).kept ≡ noted mode (logged log.old).kept (note_of commit.now closed_short)) }
+        ensures err { OnErr result ((logged log.new).kept ≡ (logged log.old).kept) }
+        ensures room { IsTrue (logged log.old).room → IsOk result };
+
+    /// The logged size of an actor's commit: of a thread by the number of its commits before, of a DMA by its position.
+    fn size(log: &Self::Log, actor: Actor, index: u32) -> Option<u32>
+        ensures { result ≡ kept_size (logged log.now).kept actor index };
+
+    /// How many instructions a chunk may run: the logged size, 1 in place of a logged 0, else a standard chunk's.
+    fn limit(log: &Self::Log, thread: u8, index: u32) -> u32
+        ensures { let kept = (logged log.now).kept in
+            result ≡ limit_by kept.s (kept_size kept (Actor.Thread thread) index) };
+
+    /// Whether every size is of a commit that its thread has done, by the number of each thread's commits.
+    fn used(log: &Self::Log, done: &[u32]) -> bool
+        ensures { let kept = (logged log.now).kept in result ≡ sizes_used kept.order kept.sizes done.now };
+
+    /// Whose commit stands at a position, told whether a DMA's slot is there, which thread committed last, and which are live.
+    fn head(log: &Self::Log, position: u32, slot: bool, last: Option<u8>, live: &[bool]) -> Option<Actor>
+        requires { length live.now ≤ 256 }
+        ensures { result ≡ kept_head mode (logged log.now).kept.order position slot last live.now };
+
+    /// The lists of a log.
+    fn lists(alloc: Global, log: &Self::Log) -> Result<Lists, OutOfMemory>
+        ensures { IfOk result (λ lists. lists ≡ lists_of mode (logged log.now).kept) };
+
+    /// The log of these lists.
+    fn from_lists(alloc: Global, lists: &Lists) -> Result<Self::Log, OutOfMemory>
+        requires { AreLists mode lists.now }
+        ensures { IfOk result (λ log. lists_of mode (logged log).kept ≡ lists.now) };
+}
+
+/// The limit of a chunk with this logged size.
+pub(crate) fn limit_of(s: u32, size: Option<u32>) -> u32
+    ensures { result ≡ limit_by s size }
+{
+    match size {
+        Some(size) => size.max(1),
+        None => s,
+    }
+}

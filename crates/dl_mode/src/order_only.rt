@@ -1,0 +1,108 @@
+//! Order-only: the order of commits, and the sizes of chunks that were closed early.
+ghost use Rattle.std.specs.Prelude.{◌≡◌};
+ghost use Rattle.spec_log.specs.declared.mode_name.ModeName.TheVariants.{OrderOnly as ByOrder};
+
+use crate::early::Early;
+use crate::lists::Lists;
+use crate::mode::{limit_of, Mode};
+use dl_entry::{Actor, Commit, OutOfMemory};
+use spec_log::{ModeName, Order, Sizes};
+use std::alloc::Global;
+use std::marker::Model;
+
+/// A log in order-only.
+#[derive(Debug, Drop)]
+pub struct OrderOnlyLog {
+    s: u32,
+    order: Vec<Actor>,
+    early: Early,
+}
+
+impl Model for OrderOnlyLog {
+    ghost use Rattle.std.specs.Prelude.{◌^◌, ◌≤◌, nat_lt, ◌&&◌, length, vec_len, vec_capacity};
+    ghost use Rattle.spec_log.specs.declared.sizes.Sizes.TheVariants.{Short};
+    ghost use Rattle.dl_mode.specs.Logged.{Logged};
+
+    ghost Value = { Logged };
+
+    ghost view = { λ l. record {
+        kept = record { s = l.s; count = length l.order.items; order = l.order.items; sizes = Short l.early.sizes; done = l.early.done };
+        room = nat_lt (vec_len l.order) (vec_capacity l.order) && l.early.room } };
+
+    ghost invariant = { λ l. length l.order.items ≤ 2 ^ 24 };
+}
+
+/// The mode that logs the order alone, and the sizes that a replay couldn't find.
+pub struct OrderOnly;
+
+impl Mode for OrderOnly {
+    type Log = OrderOnlyLog;
+
+    ghost mode = { ByOrder };
+
+    ghost logged = { λ log. log };
+
+    fn name() -> ModeName {
+        ModeName::OrderOnly
+    }
+
+    fn new(alloc: Global, s: u32) -> Result<OrderOnlyLog, OutOfMemory> {
+        Ok(OrderOnlyLog {
+            s,
+            order: Vec::new(alloc),
+            early: Early::new(alloc)?,
+        })
+    }
+
+    fn reserve(log: &mut OrderOnlyLog) -> Result<(), OutOfMemory> {
+        log.early.reserve()?;
+        log.order.reserve(1)?;
+        Ok(())
+    }
+
+    fn note(log: &mut OrderOnlyLog, commit: &Commit, closed_short: bool) -> Result<(), OutOfMemory> {
+        log.order.reserve(1)?;
+        log.early.note(commit.actor, commit.size, closed_short)?;
+        log.order.push_reserved(commit.actor);
+        Ok(())
+    }
+
+    fn size(log: &OrderOnlyLog, actor: Actor, index: u32) -> Option<u32> {
+        match actor {
+            Actor::Thread(thread) => log.early.size(thread, index),
+            Actor::Dma => None,
+        }
+    }
+
+    fn limit(log: &OrderOnlyLog, thread: u8, index: u32) -> u32 {
+        limit_of(log.s, log.early.size(thread, index))
+    }
+
+    fn used(log: &OrderOnlyLog, done: &[u32]) -> bool {
+        log.early.used(done)
+    }
+
+    fn head(log: &OrderOnlyLog, position: u32, _: bool, _: Option<u8>, _: &[bool]) -> Option<Actor> {
+        log.order.get(position as usize).copied()
+    }
+
+    fn lists(alloc: Global, log: &OrderOnlyLog) -> Result<Lists, OutOfMemory> {
+        Ok(Lists {
+            mode: ModeName::OrderOnly,
+            s: log.s,
+            count: log.order.len() as u32,
+            order: Order::from_slice(alloc, &log.order)?,
+            sizes: Sizes::Short(log.early.list(alloc)?),
+        })
+    }
+
+    fn from_lists(alloc: Global, lists: &Lists) -> Result<OrderOnlyLog, OutOfMemory> {
+        let order = Vec::from_slice(alloc, lists.order.as_slice())?;
+        let early = Early::from_sizes(alloc, &lists.sizes, lists.s)?;
+        Ok(OrderOnlyLog {
+            s: lists.s,
+            order,
+            early,
+        })
+    }
+}

@@ -1,0 +1,145 @@
+//! Picolog: no order, since threads take turns, and the sizes of chunks that were closed early.
+ghost use Rattle.std.specs.Prelude.{◌≡◌, ◌<◌, ◌≤◌, length, IfSome};
+ghost use Rattle.spec_log.specs.declared.mode_name.ModeName.TheVariants.{Picolog as ByTurn};
+ghost use Rattle.spec_log.specs.Head.{turn as turn_of, first_live as first_of, next_live as next_of};
+
+use crate::early::Early;
+use crate::lists::Lists;
+use crate::mode::{limit_of, Mode};
+use dl_entry::{Actor, Commit, OutOfMemory};
+use spec_log::{ModeName, Order, Sizes};
+use std::alloc::Global;
+use std::marker::Model;
+
+/// A log in picolog.
+#[derive(Debug, Drop)]
+pub struct TurnLog {
+    s: u32,
+    count: u32,
+    early: Early,
+}
+
+impl Model for TurnLog {
+    ghost use Rattle.std.specs.Prelude.{[]};
+    ghost use Rattle.spec_log.specs.declared.sizes.Sizes.TheVariants.{Short};
+    ghost use Rattle.dl_mode.specs.Logged.{Logged};
+
+    ghost Value = { Logged };
+
+    ghost view = { λ l. record {
+        kept = record { s = l.s; count = l.count; order = []; sizes = Short l.early.sizes; done = l.early.done };
+        room = l.early.room } };
+}
+
+/// The mode in which threads take turns.
+pub struct PicoLog;
+
+impl Mode for PicoLog {
+    type Log = TurnLog;
+
+    ghost mode = { ByTurn };
+
+    ghost logged = { λ log. log };
+
+    fn name() -> ModeName {
+        ModeName::Picolog
+    }
+
+    fn new(alloc: Global, s: u32) -> Result<TurnLog, OutOfMemory> {
+        Ok(TurnLog {
+            s,
+            count: 0,
+            early: Early::new(alloc)?,
+        })
+    }
+
+    fn reserve(log: &mut TurnLog) -> Result<(), OutOfMemory> {
+        log.early.reserve()
+    }
+
+    fn note(log: &mut TurnLog, commit: &Commit, closed_short: bool) -> Result<(), OutOfMemory> {
+        log.early.note(commit.actor, commit.size, closed_short)?;
+        log.count += 1;
+        Ok(())
+    }
+
+    fn size(log: &TurnLog, actor: Actor, index: u32) -> Option<u32> {
+        match actor {
+            Actor::Thread(thread) => log.early.size(thread, index),
+            Actor::Dma => None,
+        }
+    }
+
+    fn limit(log: &TurnLog, thread: u8, index: u32) -> u32 {
+        limit_of(log.s, log.early.size(thread, index))
+    }
+
+    fn used(log: &TurnLog, done: &[u32]) -> bool {
+        log.early.used(done)
+    }
+
+    fn head(_: &TurnLog, _: u32, slot: bool, last: Option<u8>, live: &[bool]) -> Option<Actor> {
+        if slot {
+            return Some(Actor::Dma);
+        }
+        Some(Actor::Thread(turn(last, live)?))
+    }
+
+    fn lists(alloc: Global, log: &TurnLog) -> Result<Lists, OutOfMemory> {
+        Ok(Lists {
+            mode: ModeName::Picolog,
+            s: log.s,
+            count: log.count,
+            order: Order::new(alloc),
+            sizes: Sizes::Short(log.early.list(alloc)?),
+        })
+    }
+
+    fn from_lists(alloc: Global, lists: &Lists) -> Result<TurnLog, OutOfMemory> {
+        Ok(TurnLog {
+            s: lists.s,
+            count: lists.count,
+            early: Early::from_sizes(alloc, &lists.sizes, lists.s)?,
+        })
+    }
+}
+
+/// The next live thread after the last that committed, cyclic; at first from thread 0 on.
+fn turn(last: Option<u8>, live: &[bool]) -> Option<u8>
+    requires { length live.now ≤ 256 }
+    ensures { result ≡ turn_of last live.now }
+{
+    match last {
+        Some(last) => match next_live(last, live) {
+            Some(thread) => Some(thread),
+            None => first_live(live),
+        },
+        None => first_live(live),
+    }
+}
+
+/// The first live thread of a higher number.
+fn next_live(last: u8, live: &[bool]) -> Option<u8>
+    requires { length live.now ≤ 256 }
+    ensures { result ≡ next_of last live.now }
+{
+    let start = usize::from(last) + 1;
+    let place = first(live.get(start..)?)?;
+    Some((start + place) as u8)
+}
+
+fn first_live(live: &[bool]) -> Option<u8>
+    requires { length live.now ≤ 256 }
+    ensures { result ≡ first_of live.now }
+{
+    let place = first(live)?;
+    Some(place as u8)
+}
+
+/// The place of the first that lives.
+fn first(live: &[bool]) -> Option<usize>
+    ensures value { result ≡ first_of live.now }
+    ensures within { IfSome result (λ place. place < length live.now) }
+{
+    live.iter().position(|lives| *lives)
+}

@@ -1,0 +1,66 @@
+-- The lists of all threads, of which one is changed.
+use Rattle.std.proofs.Common.{◌≡◌, ℕ, zero, suc, ◌+◌, ◌<◌, Bool, true, ◌&&◌, List, [], ◌∷◌, ◌++◌, length, map, get_or, replicate, inl, inr, refl, ap, sym, ◌∙◌, arith}
+use Rattle.std.proofs.Math.ListN.{set}
+use Rattle.std.specs.List.{list_all}
+use Rattle.std.proofs.lemmas.Bool.{cases_eq, and_parts}
+use Rattle.std.proofs.lemmas.List.{map-set, map-append, set-get_or, get_or_default, get_or-set_same, get_or-set_other, replicate_more}
+use Rattle.dl_moments.specs.declared.lane.Mark.{Mark}
+use Rattle.dl_moments.specs.Held.{Held}
+
+abbrev pub marks_of : {V : Type 0} → Held V → List (Mark V)
+marks_of held = held.marks
+
+get_or-map : {V : Type 0} (lanes : List (Held V)) (t : ℕ) (d : Held V) → t < length lanes → get_or (map marks_of lanes) t [] ≡ (get_or lanes t d).marks
+get_or-map [] t d h = absurd (omega arith)
+get_or-map (x ∷ xs) zero d h = refl
+get_or-map (x ∷ xs) (suc t) d h = get_or-map xs t d (omega arith)
+
+-- a list that becomes another by a function
+pub changed_lane : {V : Type 0} (lanes : List (Held V)) (t : ℕ) (old new : Held V) (f : List (Mark V) → List (Mark V)) → t < length lanes
+    → old ≡ get_or lanes t old → new.marks ≡ f old.marks
+    → map marks_of (set lanes t new) ≡ set (map marks_of lanes) t (f (get_or (map marks_of lanes) t []))
+changed_lane lanes t old new f h is e =
+    let was : old.marks ≡ get_or (map marks_of lanes) t [] = ap marks_of is ∙ sym (get_or-map lanes t old h) in
+    map-set marks_of lanes t new ∙ ap (λ (m : List (Mark _)). set (map marks_of lanes) t m) (e ∙ ap f was)
+
+-- a list that stays
+pub same_lane : {V : Type 0} (lanes : List (Held V)) (t : ℕ) (old new : Held V) → t < length lanes
+    → old ≡ get_or lanes t old → new.marks ≡ old.marks → map marks_of (set lanes t new) ≡ map marks_of lanes
+same_lane lanes t old new h is e =
+    changed_lane lanes t old new (λ m. m) h is e ∙ set-get_or (map marks_of lanes) t []
+
+-- one list more, which is empty
+pub empty_lane : {V : Type 0} (lanes : List (Held V)) (n : ℕ) (new : Held V) → map marks_of lanes ≡ replicate n [] → new.marks ≡ []
+    → map marks_of (lanes ++ new ∷ []) ≡ replicate (n + 1) []
+empty_lane lanes n new e none =
+    map-append marks_of lanes (new ∷ []) ∙ (rw (e, none) (replicate_more n []))
+
+abbrev pub Roomy : {V : Type 0} → List (Held V) → ℕ → Type 0
+Roomy {V} lanes n = (k : ℕ) (d : Held V) → k < n → (get_or lanes k d).room ≡ true
+
+-- room in one list more
+pub Roomy-more : {V : Type 0} (lanes : List (Held V)) (t : ℕ) (new : Held V) → t < length lanes → Roomy lanes t → new.room ≡ true → Roomy (set lanes t new) (t + 1)
+Roomy-more lanes t new h rooms room k d l =
+    elim (cases_eq k t) [
+      | inl same ↦ rw (same, get_or-set_same lanes t new d h) room
+      | inr other ↦ rw (get_or-set_other lanes t k new d other) (rooms k d (omega arith))
+    ]
+
+-- room in each
+pub all_room : {V : Type 0} (lanes : List (Held V)) → Roomy lanes (length lanes) → list_all (λ lane. lane.room) lanes ≡ true
+all_room [] h = refl
+all_room (x ∷ xs) h = rw (h 0 x (omega arith), all_room xs (λ k d l. h (suc k) d (omega arith))) refl
+
+-- room in a list where there is room in each
+pub room_at : {V : Type 0} (lanes : List (Held V)) (t : ℕ) (d : Held V) → t < length lanes → list_all (λ lane. lane.room) lanes ≡ true → (get_or lanes t d).room ≡ true
+room_at [] t d h e = absurd (omega arith)
+room_at (x ∷ xs) zero d h e = (and_parts x.room (list_all (λ lane. lane.room) xs) e).0
+room_at (x ∷ xs) (suc t) d h e = room_at xs t d (omega arith) (and_parts x.room (list_all (λ lane. lane.room) xs) e).1
+
+-- room in each, also after one was changed
+pub Roomy-set : {V : Type 0} (lanes : List (Held V)) (n t : ℕ) (new : Held V) → t < length lanes → Roomy lanes n → new.room ≡ true → Roomy (set lanes t new) n
+Roomy-set lanes n t new h rooms room k d l =
+    elim (cases_eq k t) [
+      | inl same ↦ rw (same, get_or-set_same lanes t new d h) room
+      | inr other ↦ rw (get_or-set_other lanes t k new d other) (rooms k d l)
+    ]

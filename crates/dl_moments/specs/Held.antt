@@ -1,0 +1,13 @@
+-- What a list of values by rising indices is seen as.
+use Rattle.std.specs.Prelude.{Bool, List}
+use Rattle.dl_moments.specs.declared.lane.Mark.{Mark}
+
+-- the values by rising indices, and whether there is room for one more
+pub record Held (V : Type 0) : Type 0 where
+  pub marks : List (Mark V)
+  pub room : Bool
+
+-- each thread's values by rising indices, and whether there is room for one more of any thread
+pub record By (V : Type 0) : Type 0 where
+  pub lanes : List (List (Mark V))
+  pub room : Bool

@@ -1,0 +1,98 @@
+//! Values by thread and index.
+ghost use Rattle.std.specs.Prelude.{◌≡◌, ◌≤◌, List, [], length, replicate, slice_set, slice_index_or, IfOk, IsOk, IsTrue, OnOk, OnErr};
+ghost use Rattle.dl_moments.specs.Held.{By};
+ghost use Rattle.dl_moments.specs.Marks.{Rises, with_mark, with_mark_if, value_at};
+
+use crate::lane::{Lane, Mark};
+use dl_entry::OutOfMemory;
+use std::alloc::Global;
+use std::marker::Model;
+
+/// How many threads there may be.
+pub const THREADS: usize = 15;
+
+/// Values of 15 threads, each thread's by rising indices, and whether there is room for one more of any thread.
+#[derive(Debug, Drop)]
+pub struct Moments<V> {
+    lanes: Vec<Lane<V>>,
+}
+
+impl<V> Model for Moments<V> {
+    ghost use Rattle.std.specs.Prelude.{◌≡◌, length, map};
+    ghost use Rattle.std.specs.List.{list_all};
+    ghost use Rattle.dl_moments.specs.Held.{By};
+
+    ghost Value = { By V };
+
+    ghost view = { λ m. record { lanes = map (λ lane. lane.marks) m.lanes.items; room = list_all (λ lane. lane.room) m.lanes.items } };
+
+    ghost invariant = { λ m. length m.lanes.items ≡ 15 };
+}
+
+impl<V: Copy> Moments<V> {
+    /// No value of any thread.
+    pub fn new(alloc: Global) -> Result<Self, OutOfMemory>
+        ensures { IfOk result (λ moments. moments.lanes ≡ replicate 15 []) }
+    {
+        let mut lanes = Vec::new(alloc);
+        for _ in 0..THREADS {
+            lanes.push(Lane::new(alloc))?;
+        }
+        Ok(Moments { lanes })
+    }
+
+    /// Makes room for one more value.
+    pub fn reserve(&mut self) -> Result<(), OutOfMemory>
+        ensures lanes { self.new.lanes ≡ self.old.lanes }
+        ensures ok { OnOk result (IsTrue self.new.room) }
+        ensures room { IsTrue self.old.room → IsOk result }
+    {
+        for thread in 0..self.lanes.len() {
+            let lane = &mut self.lanes[thread];
+            lane.reserve()?;
+        }
+        Ok(())
+    }
+
+    /// Puts a thread's value at an index, in place of another that stands there. With room it isn't refused.
+    pub fn put(&mut self, thread: u8, index: u32, value: V) -> Result<(), OutOfMemory>
+        requires { thread ≤ 14 }
+        ensures ok { let lane = slice_index_or self.old.lanes thread [] in
+            OnOk result (self.new.lanes ≡ slice_set self.old.lanes thread (with_mark index value lane)) }
+        ensures err { OnErr result (self.new.lanes ≡ self.old.lanes) }
+        ensures room { IsTrue self.old.room → IsOk result }
+    {
+        let lane = &mut self.lanes[usize::from(thread)];
+        lane.put(index, value)
+    }
+
+    /// Puts a value in place of a thread's that stands at an index, if there is one.
+    pub fn set(&mut self, thread: u8, index: u32, value: V)
+        ensures lanes { let lane = slice_index_or self.old.lanes thread [] in
+            self.new.lanes ≡ slice_set self.old.lanes thread (with_mark_if index value lane) }
+    {
+        if usize::from(thread) < THREADS {
+            let lane = &mut self.lanes[usize::from(thread)];
+            lane.set(index, value);
+        }
+    }
+
+    /// A thread's value at an index.
+    pub fn at(&self, thread: u8, index: u32) -> Option<V>
+        ensures { result ≡ value_at index (slice_index_or self.now.lanes thread []) }
+    {
+        self.lanes.get(usize::from(thread))?.at(index)
+    }
+
+    /// A thread's values by rising indices.
+    pub fn lane(&self, thread: u8) -> &[Mark<V>]
+        ensures marks { result.now ≡ slice_index_or self.now.lanes thread [] }
+        ensures threads { length self.now.lanes ≡ 15 }
+        ensures rises { Rises result.now }
+    {
+        match self.lanes.get(usize::from(thread)) {
+            Some(lane) => lane.marks(),
+            None => &[],
+        }
+    }
+}

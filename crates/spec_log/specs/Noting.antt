@@ -1,0 +1,119 @@
+-- What a log keeps of commits that are noted one after another.
+use Rattle.std.specs.Prelude.{ℕ, ◌+◌, ◌==◌, nat_lt, nat_le, Bool, ◌&&◌, List, [], ◌∷◌, ◌++◌, length, replicate, fold, slice_index, slice_set, slice_get, max, Option, Some, None, if◌then◌else◌}
+use Rattle.std.specs.List.{list_all, range_with_len}
+use Rattle.dl_entry.specs.declared.actor.Actor.{Actor}
+use Rattle.dl_entry.specs.declared.actor.Actor.TheVariants.{Thread, Dma}
+use Rattle.dl_entry.specs.declared.input.Input.{Input}
+use Rattle.spec_log.specs.declared.mode_name.ModeName.{ModeName}
+use Rattle.spec_log.specs.declared.mode_name.ModeName.TheVariants.{OrderSize, OrderOnly, Picolog}
+use Rattle.spec_log.specs.declared.records.Interrupt.{Interrupt}
+use Rattle.spec_log.specs.declared.records.DmaRecord.{DmaRecord}
+use Rattle.spec_log.specs.declared.sizes.ShortSize.{ShortSize}
+use Rattle.spec_log.specs.declared.sizes.Sizes.{Sizes}
+use Rattle.spec_log.specs.declared.sizes.Sizes.TheVariants.{Each, Short}
+use Rattle.spec_log.specs.declared.log.LogParts.{LogParts}
+use Rattle.spec_log.specs.Head.{head_by_turn}
+use Rattle.spec_log.specs.Reading.{is_earlier}
+use Rattle.spec_log.specs.Size.{thread_size, dma_size, sizes_of_thread}
+
+-- a commit as a log sees it: who commits, the size, and whether its chunk was closed early
+pub record Note : Type 0 where
+  pub actor : Actor
+  pub size : ℕ
+  pub early : Bool
+
+-- what is kept: the standard chunk size, the number of commits, the order, the sizes, and the number of each thread's commits
+pub record Kept : Type 0 where
+  pub s : ℕ
+  pub count : ℕ
+  pub order : List Actor
+  pub sizes : Sizes
+  pub done : List ℕ
+
+-- no size yet: of each commit, or of those that were closed early
+abbrev pub no_sizes : ModeName → Sizes
+no_sizes OrderSize = Each []
+no_sizes mode = Short []
+
+-- nothing is noted yet, of any of the 15 threads
+abbrev pub nothing_kept : ModeName → ℕ → Kept
+nothing_kept mode s = record { s = s; count = 0; order = []; sizes = no_sizes mode; done = replicate 15 0 }
+
+-- the order with an actor more; in picolog there is none
+abbrev pub order_with : ModeName → List Actor → Actor → List Actor
+order_with Picolog order actor = order
+order_with mode order actor = order ++ actor ∷ []
+
+-- a short size at its place by thread and index, instead of another of the same commit
+abbrev pub insert_size : ShortSize → List ShortSize → List ShortSize
+insert_size short [] = short ∷ []
+insert_size short (other ∷ sizes) =
+    if is_earlier other.thread other.index short.thread short.index then other ∷ insert_size short sizes
+    else if (other.thread == short.thread) && (other.index == short.index) then short ∷ sizes
+    else short ∷ other ∷ sizes
+
+-- the short sizes with a chunk of an actor more: of a thread, where it was closed early
+abbrev pub short_with : List ShortSize → List ℕ → Actor → ℕ → Bool → List ShortSize
+short_with sizes done (Thread thread) size early =
+    if early then insert_size (record { thread = thread; index = slice_index done thread; size = size }) sizes else sizes
+short_with sizes done Dma size early = sizes
+
+-- the sizes with a commit more
+abbrev pub sizes_with : Sizes → List ℕ → Note → Sizes
+sizes_with (Each sizes) done note = Each (sizes ++ note.size ∷ [])
+sizes_with (Short sizes) done note = Short (short_with sizes done note.actor note.size note.early)
+
+-- one commit of an actor more; a DMA is no thread's
+abbrev pub done_with : List ℕ → Actor → List ℕ
+done_with done (Thread thread) = slice_set done thread (slice_index done thread + 1)
+done_with done Dma = done
+
+-- a commit more is noted
+abbrev pub noted : ModeName → Kept → Note → Kept
+noted mode kept note =
+    record {
+      s = kept.s;
+      count = kept.count + 1;
+      order = order_with mode kept.order note.actor;
+      sizes = sizes_with kept.sizes kept.done note;
+      done = done_with kept.done note.actor;
+    }
+
+-- what is kept of these commits, from the first on
+abbrev pub kept_of : ModeName → ℕ → List Note → Kept
+kept_of mode s notes = fold (noted mode) (nothing_kept mode s) notes
+
+-- the size that is kept of an actor's commit: of a thread by the number of its commits before, of a DMA by its position
+abbrev pub kept_size : Kept → Actor → ℕ → Option ℕ
+kept_size kept (Thread thread) index = thread_size kept.order kept.sizes thread index
+kept_size kept Dma position = dma_size kept.sizes position
+
+-- how many instructions a chunk may run: the logged size, 1 in place of a logged 0, else a standard chunk's
+abbrev pub limit_by : ℕ → Option ℕ → ℕ
+limit_by s None = s
+limit_by s (Some size) = max 1 size
+
+-- whether every size of a thread is of a commit that it has done; a DMA's size counts as used
+abbrev pub sizes_used : List Actor → Sizes → List ℕ → Bool
+sizes_used order (Each sizes) done =
+    list_all (λ thread. nat_le (length (sizes_of_thread thread order sizes)) (slice_index done thread)) (range_with_len 0 15)
+sizes_used order (Short sizes) done = list_all (λ short. nat_lt short.index (slice_index done short.thread)) sizes
+
+-- whose commit is kept at a position, told whether a DMA's slot is there, which thread committed last, and which are live
+abbrev pub kept_head : ModeName → List Actor → ℕ → Bool → Option ℕ → List Bool → Option Actor
+kept_head Picolog order position slot last live = head_by_turn slot last live
+kept_head mode order position slot last live = slice_get order position
+
+-- the log of what is kept, with its records
+abbrev pub log_of : ModeName → Kept → List Interrupt → List Input → List DmaRecord → LogParts
+log_of mode kept interrupts inputs dmas =
+    record {
+      mode = mode;
+      s = kept.s;
+      count = kept.count;
+      order = kept.order;
+      sizes = kept.sizes;
+      interrupts = interrupts;
+      inputs = inputs;
+      dmas = dmas;
+    }
