@@ -1,5 +1,6 @@
 //! Steps chunks of 4,096 instructions, a third of which load or store, through buffers of 16 and of 4,096 words and signatures
-//! of 64 and of 2,048 bits, and prints what each came to. Its one word says how often each is stepped; without it once.
+//! of 64 and of 2,048 bits, and prints what each came to. Its first word says how often each is stepped, without it once; a
+//! second one leaves out the buffers of another size.
 #![tactic(auto)]
 
 ghost use Rattle.std.specs.Prelude.{◌≡◌, ◌≤◌, true};
@@ -16,42 +17,53 @@ use rounds::{Room, last_of};
 use std::env;
 
 fn main(rt: HostRuntime) -> anyhow::Result<()> {
-    let rounds = match env::args(&rt)?.nth(1) {
-        Some(word) => word.as_str().parse::<u32>()?,
-        None => 1,
-    };
-    print(
-        &rt,
-        Room {
-            words: 16,
-            bits: 64,
-        },
-        rounds,
-    )?;
-    print(
-        &rt,
-        Room {
-            words: 16,
-            bits: 2048,
-        },
-        rounds,
-    )?;
-    print(
-        &rt,
-        Room {
-            words: 4096,
-            bits: 64,
-        },
-        rounds,
-    )?;
-    print(
-        &rt,
-        Room {
-            words: 4096,
-            bits: 2048,
-        },
-        rounds,
-    )
+    let mut words = env::args(&rt)?.skip(1);
+    let rounds = number(words.next())?.unwrap_or(1);
+    let only = number(words.next())?;
+    if only != Some(4096) {
+        print(
+            &rt,
+            Room {
+                words: 16,
+                bits: 64,
+            },
+            rounds,
+        )?;
+        print(
+            &rt,
+            Room {
+                words: 16,
+                bits: 2048,
+            },
+            rounds,
+        )?;
+    }
+    if only != Some(16) {
+        print(
+            &rt,
+            Room {
+                words: 4096,
+                bits: 64,
+            },
+            rounds,
+        )?;
+        print(
+            &rt,
+            Room {
+                words: 4096,
+                bits: 2048,
+            },
+            rounds,
+        )?;
+    }
+    Ok(())
+}
+
+fn number(word: Option<String>) -> anyhow::Result<Option<u32>> {
+    match word {
+        Some(word) => Ok(Some(word.as_str().parse::<u32>()?)),
+        None => Ok(None),
+    }
 }
 
 fn print(rt: &(impl Print + AllocGlobal), room: Room, rounds: u32) -> anyhow::Result<()>

@@ -4,7 +4,8 @@ use Rattle.spec_isa.specs.declared.thread.Parts.{Parts}
 use Rattle.spec_isa.specs.declared.thread.Load.{Load}
 use Rattle.spec_isa.specs.Runs.{with_load}
 use Rattle.spec_engine.specs.declared.answers.How.{How}
-use Rattle.spec_engine.specs.Chunks.{Chunk, Engine}
+use Rattle.spec_engine.specs.Chunks.{Chunk, Engine, Stepping, fresh, step}
+use Rattle.spec_engine.specs.Flights.{Flight}
 use Rattle.dl_chunk.specs.Stores.{Notes}
 
 -- what the chunk has run
@@ -37,6 +38,14 @@ chunk_of t p n =
 
 abbrev pub engine_of : (most : ℕ) → Terms → Progress → Notes → Engine
 engine_of most t p n = record { most = most; capacity = n.words.capacity; chunk = chunk_of t p n }
+
+-- the chunk of this sphere begun again from its start, with its squashes
+abbrev pub restarted : (sphere : ℕ) → Chunk → Chunk
+restarted i ch = record (fresh ch.reads.bits i ch.start ch.limit ch.halves) { squashes = ch.squashes }
+
+-- a step of the engine's chunk, as core c
+abbrev pub stepped : List ℕ → List (Option Flight) → (core : ℕ) → Engine → Stepping
+stepped m slots c e = step e.capacity m slots c e.chunk
 
 -- the chunk with one instruction more, and its load
 abbrev pub with_ran : Chunk → Option Load → Chunk

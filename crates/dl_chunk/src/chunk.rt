@@ -1,6 +1,6 @@
 //! The chunk of one core. `new` makes room for the loads and the words of the largest chunk; no other call takes memory.
 ghost use Rattle.std.specs.Prelude.{◌≡◌, ◌≤◌, ◌<◌, true, None, IfOk};
-ghost use Rattle.spec_engine.specs.Chunks.{cut, fresh, new_engine, squash, step, with_chunk};
+ghost use Rattle.spec_engine.specs.Chunks.{cut, fresh, new_engine, squash, with_chunk};
 ghost use Rattle.spec_engine.specs.Signatures.{is_size};
 
 use crate::store::Store;
@@ -50,7 +50,7 @@ impl<G: Sig> Model for Chunk<G> {
 }
 
 impl<G: Sig> Chunk<G> {
-    ghost use Rattle.dl_chunk.specs.Engines.{with_ran};
+    ghost use Rattle.dl_chunk.specs.Engines.{restarted, stepped, with_ran};
     ghost use Rattle.spec_engine.specs.Chunks.{at_limit, closes};
 
     /// Room for chunks of `s` instructions and `c` words, each from 1 to 4,096, with signatures of `bits` bits, a power of two
@@ -82,7 +82,8 @@ impl<G: Sig> Chunk<G> {
     pub fn begin(&mut self, sphere: u8, thread: &Thread, limit: u32, halves: bool)
         requires least { 1 ≤ limit }
         requires most { limit ≤ self.old.most }
-        ensures { self.new ≡ with_chunk (fresh self.old.chunk.reads.bits sphere thread.now limit halves) self.old }
+        ensures { let bits = self.old.chunk.reads.bits in
+            self.new ≡ with_chunk (fresh bits sphere thread.now limit halves) self.old }
     {
         self.restart(sphere);
         self.start = *thread;
@@ -96,8 +97,9 @@ impl<G: Sig> Chunk<G> {
     /// chunk closes before it.
     pub fn step(&mut self, mem: &Memory, flights: &Flights<G>, core: u8) -> Stepped
         requires { self.old.chunk.closed ≡ None }
-        ensures reply { result ≡ (step self.old.capacity mem.now flights.now.slots core self.old.chunk).reply }
-        ensures chunk { self.new ≡ with_chunk (step self.old.capacity mem.now flights.now.slots core self.old.chunk).chunk self.old }
+        ensures reply { result ≡ (stepped mem.now flights.now.slots core self.old).reply }
+        ensures chunk { let s = stepped mem.now flights.now.slots core self.old in
+            self.new ≡ with_chunk s.chunk self.old }
     {
         match run_one(&mut self.state, &mut self.store, mem, flights, core) {
             Did::Next(load) => self.ran(load),
@@ -200,7 +202,7 @@ impl<G: Sig> Chunk<G> {
 
     // Begins at the start again.
     fn restart(&mut self, sphere: u8)
-        ensures { self.new ≡ with_chunk (record (fresh self.old.chunk.reads.bits sphere self.old.chunk.start self.old.chunk.limit self.old.chunk.halves) { squashes = self.old.chunk.squashes }) self.old }
+        ensures { self.new ≡ with_chunk (restarted sphere self.old.chunk) self.old }
     {
         self.state = self.start;
         self.loads.clear();

@@ -25,9 +25,13 @@ impl<'a, G: Sig> View for Seen<'a, G> {
 
     ghost sight = { λ v. shown v.memory.now v.flights.now.slots v.core v.store.now };
 
-    ghost Read = { λ v a w. IsSame v.memory.now w.memory.now v.flights.now w.flights.now v.core w.core v.store.ghost_name w.store.ghost_name × (w.store.now ≡ with_read (Some a) v.store.now) };
+    ghost Read = { λ v a w.
+        IsSame v.memory.now w.memory.now v.flights.now w.flights.now v.core w.core v.store.ghost_name w.store.ghost_name
+        × (w.store.now ≡ with_read (Some a) v.store.now) };
 
-    ghost Wrote = { λ v b w. IsSame v.memory.now w.memory.now v.flights.now w.flights.now v.core w.core v.store.ghost_name w.store.ghost_name × (w.store.now ≡ with_written (Some b) v.store.now) };
+    ghost Wrote = { λ v b w.
+        IsSame v.memory.now w.memory.now v.flights.now w.flights.now v.core w.core v.store.ghost_name w.store.ghost_name
+        × (w.store.now ≡ with_written (Some b) v.store.now) };
 
     #[tactic(auto, using(spec_isa::proofs::MemoryLaws::length_lays))]
     fn size(&self) -> u32 {
@@ -61,8 +65,10 @@ pub(crate) fn run_one<G: Sig>(
     core: u8,
 ) -> Did
     ensures did { result ≡ did (shown memory.now flights.now.slots core store.old) state.old }
-    ensures thread { state.new ≡ after result state.old (thread_next (shown memory.now flights.now.slots core store.old) state.old) }
-    ensures store { store.new ≡ left (shown memory.now flights.now.slots core store.old) state.old result store.old }
+    ensures thread { let s = shown memory.now flights.now.slots core store.old in
+        state.new ≡ after result state.old (thread_next s state.old) }
+    ensures store { let s = shown memory.now flights.now.slots core store.old in
+        store.new ≡ left s state.old result store.old }
 {
     let mut seen = Seen {
         memory,

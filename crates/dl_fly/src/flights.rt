@@ -1,5 +1,5 @@
 //! The slots of flights, all of which `new` makes. No other call takes memory.
-ghost use Rattle.std.specs.Prelude.{◌≡◌, ◌<◌, ◌≤◌, false, None, Some, IfOk, length, option_map, replicate, slice_set};
+ghost use Rattle.std.specs.Prelude.{◌≡◌, ◌<◌, ◌≤◌, false, None, Some, IfOk, length, option_map, replicate};
 ghost use Rattle.spec_engine.specs.Flights.{IsInside, IsOfSize, at, bounces, deliver, drain, fill, first_slot, free_slot, is_full, retire};
 
 use crate::flight::Flight;
@@ -33,6 +33,8 @@ impl<G: Sig> Model for Flights<G> {
 }
 
 impl<G: Sig> Flights<G> {
+    ghost use Rattle.dl_fly.specs.Slots.{set_slot};
+
     /// `window` free slots, from 1 to 8, of flights that are told to `cores` cores, from 1 to 8.
     pub fn new(alloc: Global, window: u8, cores: u8) -> Result<Flights<G>, AllocError>
         requires some_slot { 1 ≤ window }
@@ -108,7 +110,7 @@ impl<G: Sig> Flights<G> {
         requires slot { k < length self.old.slots }
         requires inside { IsInside (length mem.old) (at self.old.slots k) }
         ensures reply { result ≡ (drain mem.old (at self.old.slots k)).reply }
-        ensures slots { self.new ≡ record self.old { slots = slice_set self.old.slots k (drain mem.old (at self.old.slots k)).slot } }
+        ensures slots { self.new ≡ set_slot k (drain mem.old (at self.old.slots k)).slot self.old }
         ensures memory { mem.new ≡ (drain mem.old (at self.old.slots k)).memory }
     {
         slot::drain(&mut self.slots[k as usize], mem)
@@ -120,10 +122,10 @@ impl<G: Sig> Flights<G> {
         requires slot { k < length self.old.slots }
         requires reads { IsOfSize (G.marks reads.now).bits (at self.old.slots k) }
         requires writes { IsOfSize (G.marks writes.now).bits (at self.old.slots k) }
-        ensures reply { result ≡ (deliver core (G.marks reads.now) (G.marks writes.now) (at self.old.slots k)).reply }
-        ensures slots { self.new ≡ record self.old {
-          slots = slice_set self.old.slots k (deliver core (G.marks reads.now) (G.marks writes.now) (at self.old.slots k)).slot;
-        } }
+        ensures reply { let d = deliver core (G.marks reads.now) (G.marks writes.now) (at self.old.slots k) in
+            result ≡ d.reply }
+        ensures slots { let d = deliver core (G.marks reads.now) (G.marks writes.now) (at self.old.slots k) in
+            self.new ≡ set_slot k d.slot self.old }
     {
         slot::deliver(&mut self.slots[k as usize], core, reads, writes)
     }
@@ -132,7 +134,7 @@ impl<G: Sig> Flights<G> {
     pub fn retire(&mut self, k: u8) -> Retire
         requires { k < length self.old.slots }
         ensures reply { result ≡ (retire self.old.cores (at self.old.slots k)).reply }
-        ensures slots { self.new ≡ record self.old { slots = slice_set self.old.slots k (retire self.old.cores (at self.old.slots k)).slot } }
+        ensures slots { self.new ≡ set_slot k (retire self.old.cores (at self.old.slots k)).slot self.old }
     {
         slot::retire(&mut self.slots[k as usize], self.cores)
     }
