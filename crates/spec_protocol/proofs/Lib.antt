@@ -21,3 +21,4 @@ pub mod Schedules
 pub mod OnCounts
 pub mod OnPoints
 pub mod AsksGranted
+pub mod Keeping
