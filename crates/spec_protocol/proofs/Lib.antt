@@ -22,3 +22,4 @@ pub mod OnCounts
 pub mod OnPoints
 pub mod AsksGranted
 pub mod Keeping
+pub mod Lookups
