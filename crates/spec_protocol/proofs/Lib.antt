@@ -23,3 +23,4 @@ pub mod OnPoints
 pub mod AsksGranted
 pub mod Keeping
 pub mod Lookups
+pub mod Answering
