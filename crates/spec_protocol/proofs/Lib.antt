@@ -24,3 +24,4 @@ pub mod AsksGranted
 pub mod Keeping
 pub mod Lookups
 pub mod Answering
+pub mod Growing
