@@ -1,5 +1,5 @@
 -- What the devices answer, and what becomes of them.
-use Rattle.std.specs.Prelude.{ℕ, ◌%◌, ◌^◌, nat_eq, nat_lt, List, [], ◌∷◌, length, take, if◌then◌else◌}
+use Rattle.std.specs.Prelude.{ℕ, ◌%◌, ◌^◌, nat_eq, nat_lt, List, [], ◌∷◌, length, take, if◌then◌else◌, Option, Some, None}
 use Rattle.dl_entry.specs.declared.Input.{Input}
 use Rattle.dl_entry.specs.declared.Request.{Request}
 use Rattle.spec_kernel.specs.Devices.{Devices, input_taken, console_put, pipe_fitting, pipe_put, pipe_first, pipe_taken, random_bytes, random_taken}
@@ -78,6 +78,16 @@ answer d (Random buf len) moment = answer_random d len
 answer d Clock moment = answer_moment d 5 moment
 answer d MomentWord moment = answer_moment d 16 moment
 answer d InputWord moment = answer_input d
+
+-- what was taken from outside for a step, if it wanted something, and the devices then
+pub record Taken : Type 0 where
+  pub input : Option Input
+  pub devices : Devices
+
+abbrev pub taken : Option Need → Devices → (moment : ℕ) → Taken
+taken None devices moment = record { input = None; devices = devices }
+taken (Some need) devices moment =
+    let a = answer devices need moment in record { input = Some a.input; devices = a.devices }
 
 -- the bytes that a DMA takes of the input: those that are asked for, or what is left
 abbrev pub dma_bytes : Devices → Request → List ℕ

@@ -21,3 +21,7 @@ pub mod Schedules
 pub mod OnCounts
 pub mod OnPoints
 pub mod AsksGranted
+pub mod Keeping
+pub mod Lookups
+pub mod Answering
+pub mod Growing

@@ -28,9 +28,10 @@ use Rattle.spec_play.specs.Turns.{Now, Turn, TurnOfDma, Over}
 use Rattle.spec_play.specs.Verdicts.{Verdict, Goes, Fails, unless, interrupt_at, with_interrupted, chunk_why, chunk_verdict, Given, given, serial_why, served_verdict, serial_verdict}
 use Rattle.spec_play.specs.Plays.{with_threads}
 use Rattle.spec_protocol.specs.Spheres.{Book, Role, Plain, Record, Replay, Sphere, is_over, is_stopped, actor_of, head_in, whole_limit, pieces_of, limit_in, limit_of, halves}
-use Rattle.spec_protocol.specs.Commits.{Outcome, Granted, Piece, Diverged, Moved, granted_as, by_verdict, joined, piece_moved, replayed_chunk, chunk_in, chunk_moved, serial_in, serial_moved, taken, serial_noted}
+use Rattle.spec_protocol.specs.Commits.{Outcome, Granted, Piece, Diverged, Moved, granted_as, by_verdict, joined, piece_moved, replayed_chunk, chunk_in, chunk_moved, serial_in, serial_moved, serial_noted}
 use Rattle.spec_protocol.specs.Asking.{other_turn}
 use Rattle.spec_protocol.specs.Placing.{replays}
+use Rattle.spec_kernel.specs.Answers.{taken}
 
 -- ---- threads
 

@@ -1,7 +1,6 @@
 -- What a granted request makes of its sphere. The machine lets the words fly; the serial execution lays them at once.
 use Rattle.std.specs.Prelude.{ℕ, ◌+◌, Bool, true, false, List, [], ◌++◌, slice_set, Option, Some, None}
 use Rattle.dl_entry.specs.declared.End.{End}
-use Rattle.dl_entry.specs.declared.Input.{Input}
 use Rattle.dl_entry.specs.declared.Request.{Request}
 use Rattle.dl_entry.specs.declared.Why.{Why}
 use Rattle.spec_isa.specs.declared.thread.Parts.{Parts}
@@ -10,8 +9,8 @@ use Rattle.spec_isa.specs.Runs.{Run}
 use Rattle.spec_log.specs.declared.LogParts.{LogParts}
 use Rattle.spec_kernel.specs.Devices.{Devices}
 use Rattle.spec_kernel.specs.Copies.{dma_words}
-use Rattle.spec_kernel.specs.Needs.{Need, need}
-use Rattle.spec_kernel.specs.Answers.{answer, dma_bytes, dma_taken}
+use Rattle.spec_kernel.specs.Needs.{need}
+use Rattle.spec_kernel.specs.Answers.{dma_bytes, dma_taken, Taken, taken}
 use Rattle.spec_kernel.specs.Interrupts.{interrupted}
 use Rattle.spec_kernel.specs.Serving.{serve, console_told}
 use Rattle.spec_play.specs.Effects.{Effect, chunk_effect, serial_effect, dma_commit}
@@ -119,16 +118,6 @@ unfoldable pub chunk_moved : (thread : ℕ) → (is_piece short : Bool) → Run 
 chunk_moved k piece short r devices p = chunk_in p.role k piece short r devices p
 
 -- ---- serial steps
-
--- what was taken from outside, and the devices then
-pub record Taken : Type 0 where
-  pub input : Option Input
-  pub devices : Devices
-
-abbrev pub taken : Option Need → Devices → (moment : ℕ) → Taken
-taken None devices moment = record { input = None; devices = devices }
-taken (Some need) devices moment =
-    let a = answer devices need moment in record { input = Some a.input; devices = a.devices }
 
 -- a role's part in a step that real devices have answered
 abbrev pub served_as : Role → (thread : ℕ) → Parts → Taken → Sphere → Moved
