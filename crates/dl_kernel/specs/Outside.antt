@@ -1,11 +1,17 @@
 -- What an outside call or a device load leaves, and whether a record fits.
-use Rattle.std.specs.Prelude.{ℕ, Bool, true, false, Option, Some, None}
+use Rattle.std.specs.Prelude.{◌≡◌, ℕ, Bool, true, false, Option, Some, None, Result, Ok, Err}
 use Rattle.dl_entry.specs.declared.Input.{Input}
+use Rattle.dl_entry.specs.declared.OutOfMemory.{OutOfMemory}
 use Rattle.spec_kernel.specs.Devices.{Devices}
 use Rattle.spec_kernel.specs.Needs.{Need}
-use Rattle.spec_kernel.specs.Answers.{answer}
+use Rattle.spec_kernel.specs.Answers.{Answered, answer}
 use Rattle.dl_kernel.specs.declared.record.Injected.{Injected}
 use Rattle.dl_kernel.specs.declared.record.Injected.TheVariants.{Fits, Misfit}
+
+-- an answer's record and devices, or the devices as before where no memory was left for the record
+abbrev pub Leaves : Result Input OutOfMemory → (old new : Devices) → Answered → Type 0
+Leaves (Ok input) old new a = record { input = input; devices = new } ≡ a
+Leaves (Err error) old new a = new ≡ old
 
 -- the record, where something is wanted
 abbrev pub record_left : (moment : ℕ) → Devices → Option Need → Option Input

@@ -1,6 +1,7 @@
 //! What the devices answer to each want, as the record that it leaves. Memory is taken before a device changes.
-ghost use Rattle.std.specs.Prelude.{◌≡◌, ◌≤◌, ◌<◌, length, IfOk, OnErr, []};
-ghost use Rattle.spec_kernel.specs.Answers.{Answered, answer, answer_write, answer_read, answer_random, answer_moment, answer_input, went};
+ghost use Rattle.std.specs.Prelude.{◌≡◌, ◌≤◌, ◌<◌, length, []};
+ghost use Rattle.spec_kernel.specs.Answers.{answer, answer_write, answer_read, answer_random, answer_moment, answer_input, went};
+ghost use Rattle.dl_kernel.specs.Outside.{Leaves};
 ghost use Rattle.dl_kernel.specs.Wants.{wanted, IsShort};
 
 use crate::need::Want;
@@ -31,8 +32,7 @@ pub(crate) fn answer(
     moment: u32,
 ) -> Result<Input, OutOfMemory>
     requires { IsShort want }
-    ensures answered { IfOk result (λ input. record { input = input; devices = devices.new } ≡ answer devices.old (wanted want.entry) moment) }
-    ensures refused { OnErr result (devices.new ≡ devices.old) }
+    ensures { Leaves result devices.old devices.new (answer devices.old (wanted want.entry) moment) }
 {
     match want {
         Want::Write { channel, bytes } => write(alloc, devices, channel, bytes),
@@ -73,8 +73,7 @@ fn write(
     bytes: &[u8],
 ) -> Result<Input, OutOfMemory>
     requires { length bytes.now ≤ 4096 }
-    ensures answered { IfOk result (λ input. record { input = input; devices = devices.new } ≡ answer_write devices.old channel bytes.now) }
-    ensures refused { OnErr result (devices.new ≡ devices.old) }
+    ensures { Leaves result devices.old devices.new (answer_write devices.old channel bytes.now) }
 {
     let len = bytes.len() as u32;
     if channel < 8 {
@@ -90,8 +89,7 @@ fn write(
 
 fn read(alloc: Global, devices: &mut Devices, channel: u32, len: u32) -> Result<Input, OutOfMemory>
     requires { len ≤ 4096 }
-    ensures answered { IfOk result (λ input. record { input = input; devices = devices.new } ≡ answer_read devices.old channel len) }
-    ensures refused { OnErr result (devices.new ≡ devices.old) }
+    ensures { Leaves result devices.old devices.new (answer_read devices.old channel len) }
 {
     if channel < 8 {
         return read_pipe(alloc, devices, channel as u8, len);
@@ -105,8 +103,7 @@ fn read(alloc: Global, devices: &mut Devices, channel: u32, len: u32) -> Result<
 fn read_pipe(alloc: Global, devices: &mut Devices, pipe: u8, len: u32) -> Result<Input, OutOfMemory>
     requires pipe { pipe < 8 }
     requires len { len ≤ 4096 }
-    ensures answered { IfOk result (λ input. record { input = input; devices = devices.new } ≡ answer_read devices.old pipe len) }
-    ensures refused { OnErr result (devices.new ≡ devices.old) }
+    ensures { Leaves result devices.old devices.new (answer_read devices.old pipe len) }
 {
     let mut buffer = [0; 4096];
     let into = &mut buffer[..len as usize];
@@ -122,8 +119,7 @@ fn read_pipe(alloc: Global, devices: &mut Devices, pipe: u8, len: u32) -> Result
 
 fn read_input(alloc: Global, devices: &mut Devices, len: u32) -> Result<Input, OutOfMemory>
     requires { len ≤ 4096 }
-    ensures answered { IfOk result (λ input. record { input = input; devices = devices.new } ≡ answer_read devices.old 9 len) }
-    ensures refused { OnErr result (devices.new ≡ devices.old) }
+    ensures { Leaves result devices.old devices.new (answer_read devices.old 9 len) }
 {
     let count = devices.input_left().min(len);
     let bytes = Bytes::from_slice(alloc, &devices.input()[..count as usize])?;
@@ -137,8 +133,7 @@ fn read_input(alloc: Global, devices: &mut Devices, len: u32) -> Result<Input, O
 
 fn random(alloc: Global, devices: &mut Devices, len: u32) -> Result<Input, OutOfMemory>
     requires { len ≤ 4096 }
-    ensures answered { IfOk result (λ input. record { input = input; devices = devices.new } ≡ answer_random devices.old len) }
-    ensures refused { OnErr result (devices.new ≡ devices.old) }
+    ensures { Leaves result devices.old devices.new (answer_random devices.old len) }
 {
     let mut buffer = [0; 4096];
     let into = &mut buffer[..len as usize];

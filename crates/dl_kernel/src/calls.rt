@@ -4,13 +4,12 @@ ghost use Rattle.spec_isa.specs.Threads.{IsThread};
 ghost use Rattle.spec_kernel.specs.Calls.{called, with_result, gives, exit, spawn, spawned, set_handler, iret, returned, is_dma_buffer, request_dma, has_ended};
 ghost use Rattle.dl_kernel.specs.Calls.{called_in};
 
+use crate::need::MOST_BYTES;
 use crate::results::{BAD_BUFFER, REFUSED, UNKNOWN_CALL};
 use dl_entry::Request;
 use dl_thread::{Parts, Thread, ThreadStatus, Threads};
 
 const MOST_THREADS: u8 = 15;
-
-const MOST_BYTES: u32 = 4096;
 
 // The registers of the call's number and of its arguments.
 const A0: usize = 10;
@@ -45,7 +44,8 @@ pub(crate) fn call(
     caller: &Caller,
 ) -> Called
     requires { IsThread caller.now.thread }
-    ensures called { called_in result ≡ called size caller.now.number threads.now request caller.now.thread }
+    ensures called { called_in result
+        ≡ called size caller.now.number threads.now request caller.now.thread }
     ensures thread { IsThread result.thread }
     ensures room { OnSome result.made (length threads.now < 15) }
 {

@@ -13,10 +13,12 @@ use dl_thread::{Thread, Threads};
 pub fn sphere_call(threads: &mut Threads, thread: u8, request: &mut Option<Request>, size: u32)
     requires { thread < length threads.old }
     ensures threads { (t : Parts) → slice_get threads.old thread ≡ Some t →
-        let c = called size thread threads.old request.old t in threads.new ≡ slice_set threads.old thread c.thread ++ c.made }
+        let c = called size thread threads.old request.old t in
+        threads.new ≡ slice_set threads.old thread c.thread ++ c.made }
     ensures request { (t : Parts) → slice_get threads.old thread ≡ Some t →
         request.new ≡ (called size thread threads.old request.old t).request }
-    ensures others { (k : ℕ) → k < length threads.old → k ≢ thread → slice_get threads.new k ≡ slice_get threads.old k }
+    ensures others { (k : ℕ) → k < length threads.old → k ≢ thread →
+        slice_get threads.new k ≡ slice_get threads.old k }
     ensures kept { length threads.old ≤ length threads.new }
 {
     let Some(found) = threads.get(thread) else {

@@ -14,11 +14,13 @@ use dl_thread::{Did, Kind, Thread, one};
 use spec_isa::field::{Imm12, Reg};
 use spec_isa::instr::Instr;
 
-const MOST_BYTES: u32 = 4096;
+// Lengths are cut to it.
+pub(crate) const MOST_BYTES: u32 = 4096;
 
+// The device word of the moment.
 const MOMENT: u32 = 0xF000_0000;
 
-// What is wanted. Lengths are cut to 4,096 bytes.
+// What is wanted.
 #[derive(Clone, Copy)]
 pub(crate) enum Want<'a> {
     // To put these bytes on a channel.
