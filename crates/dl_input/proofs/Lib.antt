@@ -1,2 +1,2 @@
-mod HeldLists
+pub mod HeldLists
 mod Slots
