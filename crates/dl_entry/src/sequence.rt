@@ -35,6 +35,13 @@ impl<T> Sequence<T> {
         }
     }
 
+    /// The sequence of a vector's entries.
+    pub fn from_vec(entries: Vec<T>) -> Self
+        ensures { result ≡ entries.items }
+    {
+        Sequence { entries }
+    }
+
     pub fn len(&self) -> usize
         ensures { result ≡ length self.now }
     {

@@ -44,13 +44,19 @@ abbrev pub order_with : ModeName → List Actor → Actor → List Actor
 order_with Picolog order actor = order
 order_with mode order actor = order ++ actor ∷ []
 
--- a short size at its place by thread and index, instead of another of the same commit
+-- an entry at its place by thread and index, instead of another of the same moment
+abbrev pub insert_by : {X : Type 0} → (X → ℕ) → (X → ℕ) → X → List X → List X
+insert_by thread index x [] = x ∷ []
+insert_by thread index x (y ∷ ys) =
+    if is_earlier (thread y) (index y) (thread x) (index x) then y ∷ insert_by thread index x ys
+    else if (thread y == thread x) && (index y == index x) then x ∷ ys
+    else x ∷ y ∷ ys
+
 abbrev pub insert_size : ShortSize → List ShortSize → List ShortSize
-insert_size short [] = short ∷ []
-insert_size short (other ∷ sizes) =
-    if is_earlier other.thread other.index short.thread short.index then other ∷ insert_size short sizes
-    else if (other.thread == short.thread) && (other.index == short.index) then short ∷ sizes
-    else short ∷ other ∷ sizes
+insert_size = insert_by (λ s. s.thread) (λ s. s.index)
+
+abbrev pub insert_interrupt : Interrupt → List Interrupt → List Interrupt
+insert_interrupt = insert_by (λ i. i.thread) (λ i. i.index)
 
 -- the short sizes with a chunk of an actor more: of a thread, where it was closed early
 abbrev pub short_with : List ShortSize → List ℕ → Actor → ℕ → Bool → List ShortSize

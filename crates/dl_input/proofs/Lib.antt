@@ -1,0 +1,2 @@
+pub mod HeldLists
+mod Slots

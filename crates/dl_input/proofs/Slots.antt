@@ -1,0 +1,93 @@
+-- Where a slot stands among rising ones.
+use Rattle.std.proofs.Common.{◌≡◌, ℕ, zero, suc, ◌+◌, ◌-◌, ◌<◌, ◌≤◌, ◌==◌, nat_lt, Bool, true, false, List, [], ◌∷◌, ◌++◌, length, get_or, take, drop, Option, Some, None, inl, inr, refl, ap, sym, subst, ◌∙◌, arith, add-one}
+use Rattle.std.proofs.Math.ListN.{set}
+use Rattle.std.proofs.lemmas.List.{get_or_default}
+use Rattle.std.proofs.lemmas.Option.{none-some}
+use Rattle.std.proofs.lemmas.Bool.{ltb-true, lt-ltb, le-ltb, eq-eqb, ne_eqb, cases_lt, cases_eq}
+use Rattle.std.specs.List.Sorted.{IsPartitionedBy}
+use Rattle.spec_log.specs.declared.records.DmaRecord.{DmaRecord}
+use Rattle.dl_input.specs.Dmas.{Rises, bytes_at, taken_at}
+
+rises-far : (dmas : List (DmaRecord)) → Rises dmas → (i n : ℕ) (d : DmaRecord) → i + suc n < length dmas
+    → (get_or dmas i d).slot < (get_or dmas (i + suc n) d).slot
+rises-far dmas r i zero d h = r i d h
+rises-far dmas r i (suc n) d h =
+    let a = rises-far dmas r i n d (omega arith) in
+    let e : i + suc n + 1 ≡ i + suc (suc n) = omega arith in
+    let b = subst (λ (k : ℕ). (get_or dmas (i + suc n) d).slot < (get_or dmas k d).slot) e (r (i + suc n) d (omega arith)) in
+    omega arith
+
+rises-between : (dmas : List (DmaRecord)) → Rises dmas → (i j : ℕ) (d : DmaRecord) → i < j → j < length dmas
+    → (get_or dmas i d).slot < (get_or dmas j d).slot
+rises-between dmas r i j d h l =
+    let e : i + suc (j - i - 1) ≡ j = omega arith in
+    subst (λ (k : ℕ). (get_or dmas i d).slot < (get_or dmas k d).slot) e (rises-far dmas r i (j - i - 1) d (omega arith))
+
+pub partitioned : (dmas : List (DmaRecord)) (slot : ℕ) → Rises dmas → IsPartitionedBy (λ m. nat_lt m.slot slot) dmas
+partitioned dmas slot r i j d le below t =
+    elim (cases_lt i j) [
+      | inl less ↦ lt-ltb _ _ (omega (arith, rises-between dmas r i j d less below, ltb-true _ _ t))
+      | inr more ↦ let e : j ≡ i = omega arith in subst (λ (k : ℕ). nat_lt (get_or dmas k d).slot slot ≡ true) e t
+    ]
+
+abbrev pub Below : ℕ → List (DmaRecord) → ℕ → Type 0
+Below slot dmas p = (k : ℕ) (d : DmaRecord) → k < p → (get_or dmas k d).slot < slot
+
+below-rest : (slot : ℕ) (m : DmaRecord) (ms : List (DmaRecord)) (p : ℕ) → Below slot (m ∷ ms) (suc p) → Below slot ms p
+below-rest slot m ms p h k d l = h (suc k) d (omega arith)
+
+pub bytes_at-found : (slot : ℕ) (dmas : List (DmaRecord)) (p : ℕ) (x : DmaRecord) → p < length dmas → Below slot dmas p
+    → x ≡ get_or dmas p x → x.slot ≡ slot → Some x.bytes ≡ bytes_at slot dmas
+bytes_at-found slot [] p x within below is here = absurd (omega arith)
+bytes_at-found slot (m ∷ ms) zero x within below is here =
+    let same : m.slot ≡ slot = ap (λ (y : DmaRecord). y.slot) (sym is) ∙ here in
+    rw (eq-eqb m.slot slot same) (ap (λ (y : DmaRecord). Some y.bytes) is)
+bytes_at-found slot (m ∷ ms) (suc p) x within below is here =
+    let less : m.slot < slot = below 0 m (omega arith) in
+    rw (ne_eqb m.slot slot (λ e. omega arith)) (bytes_at-found slot ms p x (omega arith) (below-rest slot m ms p below) is here)
+
+pub bytes_at-none : (slot : ℕ) (dmas : List (DmaRecord)) → ((k : ℕ) (d : DmaRecord) → k < length dmas → (get_or dmas k d).slot ≡ slot → ⊥)
+    → None ≡ bytes_at slot dmas
+bytes_at-none slot [] h = refl
+bytes_at-none slot (m ∷ ms) h =
+    rw (ne_eqb m.slot slot (h 0 m (omega arith))) (bytes_at-none slot ms (λ k d l e. h (suc k) d (omega arith) e))
+
+-- behind a higher slot at a place, and before a lower one, the slot stands nowhere
+pub bytes_at-missed : (slot : ℕ) (dmas : List (DmaRecord)) (p : ℕ) → Rises dmas → Below slot dmas p
+    → ((d : DmaRecord) → p < length dmas → slot < (get_or dmas p d).slot) → None ≡ bytes_at slot dmas
+bytes_at-missed slot dmas p r below above =
+    bytes_at-none slot dmas
+    (λ k d l e. elim (cases_lt k p) [
+      | inl less ↦ omega (arith, below k d less)
+      | inr more ↦ elim (cases_lt p k) [
+        | inl past ↦ omega (arith, above d (omega arith), rises-between dmas r p k d past l)
+        | inr end ↦ let same : k ≡ p = omega arith in
+          let up = above d (omega arith) in
+          let there : (get_or dmas p d).slot ≡ slot = subst (λ (n : ℕ). (get_or dmas n d).slot ≡ slot) same e in
+          omega arith
+      ]
+    ])
+
+
+pub taken_at-found : (slot : ℕ) (dmas : List DmaRecord) (taken : List Bool) (p : ℕ) → length taken ≡ length dmas → p < length dmas → Below slot dmas p
+    → ((d : DmaRecord) → (get_or dmas p d).slot ≡ slot) → taken_at slot dmas taken ≡ set taken p true
+taken_at-found slot [] taken p same h below here = absurd (omega arith)
+taken_at-found slot (m ∷ ms) [] p same h below here = absurd (omega arith)
+taken_at-found slot (m ∷ ms) (x ∷ xs) zero same h below here = rw (eq-eqb m.slot slot (here m)) refl
+taken_at-found slot (m ∷ ms) (x ∷ xs) (suc p) same h below here =
+    let less : m.slot < slot = below 0 m (omega arith) in
+    rw (ne_eqb m.slot slot (λ e. omega arith), taken_at-found slot ms xs p (omega arith) (omega arith) (below-rest slot m ms p below) here) refl
+
+taken_at-none : (slot : ℕ) (dmas : List DmaRecord) (taken : List Bool) → length taken ≡ length dmas → None ≡ bytes_at slot dmas → taken_at slot dmas taken ≡ taken
+taken_at-none slot [] taken same h = refl
+taken_at-none slot (m ∷ ms) [] same h = absurd (omega arith)
+taken_at-none slot (m ∷ ms) (x ∷ xs) same h =
+    elim (cases_eq m.slot slot) [
+      | inl e ↦ absurd (none-some m.bytes (rw (eq-eqb m.slot slot e) at h))
+      | inr e ↦ rw (ne_eqb m.slot slot e) (ap (λ (ys : List Bool). x ∷ ys) (taken_at-none slot ms xs (omega arith) (rw (ne_eqb m.slot slot e) at h)))
+    ]
+
+pub taken_at-missed : (slot : ℕ) (dmas : List DmaRecord) (taken : List Bool) (p : ℕ) → length taken ≡ length dmas → Rises dmas → Below slot dmas p
+    → ((d : DmaRecord) → p < length dmas → slot < (get_or dmas p d).slot) → taken_at slot dmas taken ≡ taken
+taken_at-missed slot dmas taken p same rises below above =
+    taken_at-none slot dmas taken same (bytes_at-missed slot dmas p rises below above)

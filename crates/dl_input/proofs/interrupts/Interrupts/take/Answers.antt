@@ -1,0 +1,23 @@
+use Rattle.std.proofs.Common.{◌≡◌, ◌<◌, true, length, get_or, [], Some, None, refl, sym, ◌∙◌}
+use Rattle.dl_moments.specs.Marks.{value_at}
+use Rattle.dl_input.specs.Held.{held_from, raised_at}
+use Rattle.dl_input.proofs.HeldLists.{insert-put, raised_at-at, moment-within}
+use Rattle.dl_input.proofs.interrupts.Interrupts.take.Goals as goal
+
+pub returns-in-Some : goal.returns-in-Some
+returns-in-Some c =
+    let lanes = c.self.inside.moments.lanes in
+    let t = c.args.thread in
+    let i = c.args.index in
+    let raised = c.in-Some.raised in
+    let here : value_at i (get_or lanes t []) ≡ Some raised = sym c.at.ensures ∙ c.in-Some.is in
+    let seen : raised_at (held_from 0 lanes) t i ≡ Some raised = sym (raised_at-at lanes t i) ∙ here in
+    rw (← c.self.view_is, seen, c.set.ensures.lanes, here)
+    (insert-put lanes t i (record { value = raised.value; taken = true }) (moment-within lanes t i raised here))
+
+pub returns-in_default : goal.returns-in_default
+returns-in_default c =
+    let lanes = c.self.inside.moments.lanes in
+    let none : raised_at (held_from 0 lanes) c.args.thread c.args.index ≡ None =
+    sym (raised_at-at lanes c.args.thread c.args.index) ∙ (sym c.at.ensures ∙ c.in_default.is) in
+    rw (← c.self.view_is, none) refl

@@ -1,0 +1,3 @@
+pub mod Dmas
+pub mod Held
+pub mod Inputs

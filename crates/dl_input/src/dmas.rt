@@ -1,0 +1,155 @@
+//! The data of DMAs by their slots.
+ghost use Rattle.std.specs.Prelude.{◌≡◌, ℕ, ◌-◌, ◌<◌, ◌≤◌, false, [], ◌∷◌, ◌++◌, None, Some, length, slice_index_or, IfOk, IsOk, IsTrue, MatchOption, OnOk, OnErr};
+ghost use Rattle.std.specs.List.{list_all};
+ghost use Rattle.std.specs.Slice.{IsItemAt};
+ghost use Rattle.spec_log.specs.declared.records.DmaRecord.{DmaRecord as Record};
+ghost use Rattle.dl_input.specs.Dmas.{Rises, bytes_at, taken_at, Stands, Misses};
+
+use crate::copied::{copied, MOST};
+use dl_entry::{Bytes, OutOfMemory, Sequence};
+use spec_log::DmaRecord;
+use std::alloc::Global;
+use std::marker::Model;
+
+/// The data of DMAs by their slots, which are the indices of their commits.
+#[derive(Debug, Drop)]
+pub struct Dmas {
+    alloc: Global,
+    entries: Vec<DmaRecord>,
+    taken: Vec<bool>,
+    spare: Vec<u8>,
+}
+
+impl Model for Dmas {
+    ghost use Rattle.std.specs.Prelude.{◌≡◌, nat_lt, nat_le, ◌&&◌, [], length, vec_len, vec_capacity};
+    ghost use Rattle.dl_input.specs.Dmas.{DmaList, Rises};
+
+    ghost Value = { DmaList };
+
+    ghost view = { λ d. record {
+        dmas = d.entries.items;
+        taken = d.taken.items;
+        room = nat_lt (vec_len d.entries) (vec_capacity d.entries) && nat_lt (vec_len d.taken) (vec_capacity d.taken)
+            && nat_le 4096 (vec_capacity d.spare) } };
+
+    ghost invariant = { λ d. (length d.taken.items ≡ length d.entries.items) × Rises d.entries.items × (d.spare.items ≡ []) };
+}
+
+impl Dmas {
+    /// No DMA, which takes no memory yet.
+    pub fn new(alloc: Global) -> Dmas
+        ensures { result.dmas ≡ [] }
+    {
+        Dmas {
+            alloc,
+            entries: Vec::new(alloc),
+            taken: Vec::new(alloc),
+            spare: Vec::new(alloc),
+        }
+    }
+
+    /// Makes room for one DMA more.
+    pub fn reserve(&mut self) -> Result<(), OutOfMemory>
+        ensures dmas { self.new.dmas ≡ self.old.dmas }
+        ensures taken { self.new.taken ≡ self.old.taken }
+        ensures ok { OnOk result (IsTrue self.new.room) }
+        ensures room { IsTrue self.old.room → IsOk result }
+    {
+        self.entries.reserve(1)?;
+        self.taken.reserve(1)?;
+        self.spare.reserve(MOST)?;
+        Ok(())
+    }
+
+    /// Adds the data of a DMA with a greater slot at the end. With room it isn't refused.
+    pub fn note(&mut self, slot: u32, bytes: &[u8]) -> Result<(), OutOfMemory>
+        requires few { length bytes.now ≤ 4096 }
+        requires greater { (d : Record) → 0 < length self.old.dmas → (slice_index_or self.old.dmas (length self.old.dmas - 1) d).slot < slot }
+        ensures ok { OnOk result (self.new.dmas ≡ self.old.dmas ++ record { slot = slot; bytes = bytes.now } ∷ []) }
+        ensures taken { OnOk result (self.new.taken ≡ self.old.taken ++ false ∷ []) }
+        ensures err { OnErr result (self.new.dmas ≡ self.old.dmas) }
+        ensures taken_kept { OnErr result (self.new.taken ≡ self.old.taken) }
+        ensures room { IsTrue self.old.room → IsOk result }
+    {
+        self.entries.reserve(1)?;
+        self.taken.reserve(1)?;
+        let bytes = copied(self.alloc, bytes, &mut self.spare)?;
+        self.entries.push_reserved(DmaRecord { slot, bytes });
+        self.taken.push_reserved(false);
+        Ok(())
+    }
+
+    /// The bytes of the DMA at a slot, taken or not.
+    pub fn at(&self, slot: u32) -> Option<&[u8]>
+        ensures { MatchOption result (bytes_at slot self.now.dmas ≡ None) (λ bytes. bytes_at slot self.now.dmas ≡ Some bytes.now) }
+    {
+        let place = place_of(&self.entries, slot)?;
+        Some(self.entries[place].bytes.as_slice())
+    }
+
+    /// The i-th DMA by slot, from 0, taken or not.
+    pub fn nth(&self, i: u32) -> Option<&DmaRecord>
+        ensures { IsItemAt self.now.dmas i result }
+    {
+        self.entries.get(i as usize)
+    }
+
+    /// Takes the DMA at a slot, if there is one.
+    pub fn take(&mut self, slot: u32)
+        ensures dmas { self.new.dmas ≡ self.old.dmas }
+        ensures taken { self.new.taken ≡ taken_at slot self.old.dmas self.old.taken }
+    {
+        if let Some(place) = place_of(&self.entries, slot) {
+            self.taken[place] = true;
+        }
+    }
+
+    /// A copy of all.
+    pub fn list(&self, alloc: Global) -> Result<Sequence<DmaRecord>, OutOfMemory>
+        ensures { IfOk result (λ list. list ≡ self.now.dmas) }
+    {
+        let mut list = Sequence::new(alloc);
+        for dma in &self.entries {
+            list.push(DmaRecord {
+                slot: dma.slot,
+                bytes: Bytes::from_slice(alloc, dma.bytes.as_slice())?,
+            })?;
+        }
+        Ok(list)
+    }
+
+    /// Whether all are taken.
+    pub fn used(&self) -> bool
+        ensures { result ≡ list_all (λ t. t) self.now.taken }
+    {
+        for taken in &self.taken {
+            if !*taken {
+                return false;
+            }
+        }
+        true
+    }
+}
+
+/// The place at which a slot stands.
+fn place_of(dmas: &[DmaRecord], slot: u32) -> Option<usize>
+    requires { Rises dmas.now }
+    ensures { MatchOption result (Misses slot dmas.now) (Stands slot dmas.now) }
+{
+    let place = lowest(dmas, slot);
+    if place < dmas.len() && dmas[place].slot == slot {
+        Some(place)
+    } else {
+        None
+    }
+}
+
+/// The place of the first slot that isn't lower.
+fn lowest(dmas: &[DmaRecord], slot: u32) -> usize
+    requires { Rises dmas.now }
+    ensures within { result ≤ length dmas.now }
+    ensures below { (k : ℕ) (d : Record) → k < result → (slice_index_or dmas.now k d).slot < slot }
+    ensures above { (k : ℕ) (d : Record) → result ≤ k → k < length dmas.now → slot ≤ (slice_index_or dmas.now k d).slot }
+{
+    dmas.partition_point(|dma| dma.slot < slot)
+}

@@ -1,0 +1,164 @@
+//! Interrupts by thread and index.
+ghost use Rattle.std.specs.Prelude.{◌≡◌, ◌≤◌, ◌++◌, [], None, map, option_map, slice_get, IfOk, IsOk, IsTrue, OnOk, OnErr};
+ghost use Rattle.std.specs.List.{list_all};
+ghost use Rattle.dl_input.specs.Held.{held_of, new_held, raised_at, insert_held, interrupt_of, taken_at};
+
+use dl_entry::{OutOfMemory, Sequence};
+use dl_moments::{Mark, Moments};
+use spec_log::Interrupt;
+use std::alloc::Global;
+use std::marker::Model;
+
+/// What was raised, and whether it was taken.
+#[derive(Clone, Copy, Debug, PartialEq, Eq)]
+pub struct Raised {
+    pub value: u32,
+    pub taken: bool,
+}
+
+/// Interrupts by thread, and for one thread by the number of its commits before.
+#[derive(Debug, Drop)]
+pub struct Interrupts {
+    moments: Moments<Raised>,
+}
+
+impl Model for Interrupts {
+    ghost use Rattle.std.specs.Prelude.{◌≡◌, length};
+    ghost use Rattle.dl_input.specs.Held.{Noted, held_from};
+
+    ghost Value = { Noted };
+
+    ghost view = { λ i. record { entries = held_from 0 i.moments.lanes; room = i.moments.room } };
+
+    ghost invariant = { λ i. length i.moments.lanes ≡ 15 };
+}
+
+impl Interrupts {
+    /// No interrupt.
+    pub fn new(alloc: Global) -> Result<Interrupts, OutOfMemory>
+        ensures { IfOk result (λ interrupts. interrupts.entries ≡ []) }
+    {
+        Ok(Interrupts {
+            moments: Moments::new(alloc)?,
+        })
+    }
+
+    /// Makes room for one interrupt more.
+    pub fn reserve(&mut self) -> Result<(), OutOfMemory>
+        ensures entries { self.new.entries ≡ self.old.entries }
+        ensures ok { OnOk result (IsTrue self.new.room) }
+        ensures room { IsTrue self.old.room → IsOk result }
+    {
+        self.moments.reserve()
+    }
+
+    /// Notes an interrupt of a new moment. With room it isn't refused.
+    pub fn note(&mut self, thread: u8, index: u32, value: u32) -> Result<(), OutOfMemory>
+        requires thread { thread ≤ 14 }
+        requires fresh { raised_at self.old.entries thread index ≡ None }
+        ensures ok { OnOk result (self.new.entries ≡ insert_held (new_held thread index value) self.old.entries) }
+        ensures err { OnErr result (self.new.entries ≡ self.old.entries) }
+        ensures room { IsTrue self.old.room → IsOk result }
+    {
+        let raised = Raised {
+            value,
+            taken: false,
+        };
+        self.moments.put(thread, index, raised)
+    }
+
+    /// The value that was raised at a thread with so many of its commits before, taken or not.
+    pub fn at(&self, thread: u8, index: u32) -> Option<u32>
+        ensures { result ≡ option_map (λ r. r.value) (raised_at self.now.entries thread index) }
+    {
+        let raised = self.raised(thread, index)?;
+        Some(raised.value)
+    }
+
+    fn raised(&self, thread: u8, index: u32) -> Option<Raised>
+        ensures { result ≡ raised_at self.now.entries thread index }
+    {
+        self.moments.at(thread, index)
+    }
+
+    /// Takes the interrupt of a moment, if there is one.
+    pub fn take(&mut self, thread: u8, index: u32)
+        ensures { self.new.entries ≡ taken_at thread index self.old.entries }
+    {
+        if let Some(raised) = self.moments.at(thread, index) {
+            let taken = Raised {
+                value: raised.value,
+                taken: true,
+            };
+            self.moments.set(thread, index, taken);
+        }
+    }
+
+    /// Whether all are taken.
+    pub fn used(&self) -> bool
+        ensures { result ≡ list_all (λ s. s.raised.taken) self.now.entries }
+    {
+        for thread in 0..15u8 {
+            if !all_taken(self.moments.lane(thread)) {
+                return false;
+            }
+        }
+        true
+    }
+
+    /// The i-th interrupt by thread and index, from 0, taken or not.
+    pub fn nth(&self, i: u32) -> Option<Interrupt>
+        ensures { result ≡ option_map interrupt_of (slice_get self.now.entries i) }
+    {
+        let mut left = i as usize;
+        for thread in 0..15u8 {
+            let lane = self.moments.lane(thread);
+            if left < lane.len() {
+                return Some(seen(thread, &lane[left]));
+            }
+            left -= lane.len();
+        }
+        None
+    }
+
+    /// The interrupts by thread and index.
+    pub fn list(&self, alloc: Global) -> Result<Sequence<Interrupt>, OutOfMemory>
+        ensures { IfOk result (λ list. list ≡ map interrupt_of self.now.entries) }
+    {
+        let mut list = Sequence::new(alloc);
+        for thread in 0..15u8 {
+            add_lane(&mut list, thread, self.moments.lane(thread))?;
+        }
+        Ok(list)
+    }
+}
+
+fn seen(thread: u8, mark: &Mark<Raised>) -> Interrupt
+    ensures { result ≡ interrupt_of (held_of thread mark.now) }
+{
+    Interrupt {
+        thread,
+        index: mark.index,
+        value: mark.value.value,
+    }
+}
+
+fn all_taken(lane: &[Mark<Raised>]) -> bool
+    ensures { result ≡ list_all (λ m. m.value.taken) lane.now }
+{
+    for mark in lane {
+        if !mark.value.taken {
+            return false;
+        }
+    }
+    true
+}
+
+fn add_lane(list: &mut Sequence<Interrupt>, thread: u8, lane: &[Mark<Raised>]) -> Result<(), OutOfMemory>
+    ensures { OnOk result (list.new ≡ list.old ++ map interrupt_of (map (held_of thread) lane.now)) }
+{
+    for mark in lane {
+        list.push(seen(thread, mark))?;
+    }
+    Ok(())
+}

@@ -1,0 +1,2 @@
+mod Inserted
+mod Recordings

@@ -1,0 +1,166 @@
+-- What stands together in a recorder, with a commit or an interrupt more.
+use Rattle.std.proofs.Common.{◌≡◌, ℕ, ◌+◌, ◌-◌, ◌*◌, ◌^◌, ◌<◌, ◌≤◌, ◌==◌, ◌&&◌, Bool, true, false, List, [], ◌∷◌, ◌++◌, All, length, map, find, get_or, slice_index, Option, Some, None, IfSome, option_map, Result, Ok, Err, OnOk, OnErr, ◌⊎◌, inl, inr, refl, ap, sym, subst, ◌∙◌, arith}
+use Rattle.std.proofs.Math.ListN.{set}
+use Rattle.std.proofs.lemmas.Bool.{cases_lt, cases_eq, cases_Bool}
+use Rattle.std.proofs.lemmas.List.{length_push, get_or-set_same, get_or-set_other, set_past}
+use Rattle.std.proofs.lemmas.Option.{none-some}
+use Rattle.std.proofs.lemmas.List.Elements.{All-push, All-weaker, All-get_or}
+use Rattle.dl_entry.specs.declared.input.Input.{Input}
+use Rattle.dl_entry.specs.declared.commit.Commit.{Commit}
+use Rattle.dl_entry.specs.declared.actor.Actor.{Actor}
+use Rattle.dl_entry.specs.declared.actor.Actor.TheVariants.{Thread, Dma}
+use Rattle.spec_log.specs.declared.mode_name.ModeName.{ModeName}
+use Rattle.spec_log.specs.declared.mode_name.ModeName.TheVariants.{OrderSize, OrderOnly, Picolog}
+use Rattle.spec_log.specs.declared.records.Interrupt.{Interrupt}
+use Rattle.spec_log.specs.declared.records.DmaRecord.{DmaRecord}
+use Rattle.spec_log.specs.declared.sizes.ShortSize.{ShortSize}
+use Rattle.spec_log.specs.declared.sizes.Sizes.{Sizes}
+use Rattle.spec_log.specs.declared.sizes.Sizes.TheVariants.{Each, Short}
+use Rattle.spec_log.specs.Log.{ComesBefore, IsActor, IsOrder, IsSizes, IsShortSize, AreShortSizes, IsInterrupt, AreInterrupts, IsInput, AreInputs, IsDmaRecord, AreDmas, AreFewBytes, IsLog}
+use Rattle.spec_log.specs.Noting.{Kept, Note, noted, order_with, short_with, sizes_with, done_with, insert_size, insert_interrupt, log_of}
+use Rattle.spec_log.proofs.Sections.{IsSection-push}
+use Rattle.dl_input.specs.Held.{Held, raised_at, interrupt_of}
+use Rattle.dl_mode.specs.Logged.{note_of}
+use Rattle.dl_record.specs.Recording.{IsRecording, CanCommit, IsFresh, with_input, with_dma, short_sizes}
+use Rattle.dl_record.proofs.Inserted.{IsSection-insert, All-insert, length-insert, section-count}
+
+done_with-few : (done : List ℕ) (actor : Actor) (n : ℕ) → ((t : ℕ) → slice_index done t ≤ n) → (t : ℕ) → slice_index (done_with done actor) t ≤ n + 1
+done_with-few done Dma n h t = omega (arith, h t)
+done_with-few done (Thread u) n h t =
+    elim (cases_eq t u) [
+      | inr other ↦ rw (get_or-set_other done u t (get_or done u 0 + 1) 0 other) (omega (arith, h t))
+      | inl same ↦ elim (cases_lt u (length done)) [
+        | inl within ↦ rw (same, get_or-set_same done u (get_or done u 0 + 1) 0 within) (omega (arith, h u))
+        | inr past ↦ rw (set_past done u (get_or done u 0 + 1) past) (omega (arith, h t))
+      ]
+    ]
+
+order-noted : (mode : ModeName) (count : ℕ) (order : List Actor) (actor : Actor) → IsActor actor → IsOrder mode count order
+    → IsOrder mode (count + 1) (order_with mode order actor)
+order-noted OrderSize count order actor good o = (omega (arith, length_push order actor, o.0), All-push IsActor order actor o.1 good)
+order-noted OrderOnly count order actor good o = (omega (arith, length_push order actor, o.0), All-push IsActor order actor o.1 good)
+order-noted Picolog count order actor good o = o
+
+short-noted : (s count : ℕ) (sizes : List ShortSize) (done : List ℕ) (actor : Actor) (size : ℕ) (early : Bool) → IsActor actor → size ≤ s
+    → (early ≡ true → 1 ≤ size) → count < 2 ^ 24 → ((t : ℕ) → slice_index done t ≤ count) → length sizes ≤ count
+    → AreShortSizes s sizes → AreShortSizes s (short_with sizes done actor size early)
+short-noted s count sizes done Dma size early good fits over few counts room are = are
+short-noted s count sizes done (Thread t) size false good fits over few counts room are = are
+short-noted s count sizes done (Thread t) size true good fits over few counts room are =
+    IsSection-insert (λ x. x.thread) (λ x. x.index) (IsShortSize s) (record { thread = t; index = slice_index done t; size = size }) sizes
+    (omega arith) (good, omega (arith, counts t), over refl, fits) are
+
+sizes-noted : (mode : ModeName) (s count : ℕ) (sizes : Sizes) (done : List ℕ) (note : Note) → IsActor note.actor → note.size ≤ s
+    → (note.early ≡ true → 1 ≤ note.size) → count < 2 ^ 24 → ((t : ℕ) → slice_index done t ≤ count) → length (short_sizes sizes) ≤ count
+    → IsSizes mode s count sizes → IsSizes mode s (count + 1) (sizes_with sizes done note)
+sizes-noted OrderSize s count (Each sizes) done note good fits over few counts room are =
+    (omega (arith, length_push sizes note.size, are.0), All-push (λ size. size ≤ s) sizes note.size are.1 fits)
+sizes-noted OrderSize s count (Short sizes) done note good fits over few counts room are = absurd are
+sizes-noted OrderOnly s count (Each sizes) done note good fits over few counts room are = absurd are
+sizes-noted OrderOnly s count (Short sizes) done note good fits over few counts room are =
+    short-noted s count sizes done note.actor note.size note.early good fits over few counts room are
+sizes-noted Picolog s count (Each sizes) done note good fits over few counts room are = absurd are
+sizes-noted Picolog s count (Short sizes) done note good fits over few counts room are =
+    short-noted s count sizes done note.actor note.size note.early good fits over few counts room are
+
+short-length : (sizes : List ShortSize) (done : List ℕ) (actor : Actor) (size : ℕ) (early : Bool) → length (short_with sizes done actor size early) ≤ length sizes + 1
+short-length sizes done Dma size early = omega arith
+short-length sizes done (Thread t) size false = omega arith
+short-length sizes done (Thread t) size true =
+    length-insert (λ x. x.thread) (λ x. x.index) (record { thread = t; index = slice_index done t; size = size }) sizes
+
+sizes-length : (sizes : Sizes) (done : List ℕ) (note : Note) → length (short_sizes (sizes_with sizes done note)) ≤ length (short_sizes sizes) + 1
+sizes-length (Each sizes) done note = omega arith
+sizes-length (Short sizes) done note = short-length sizes done note.actor note.size note.early
+
+abbrev pub IfThere : {X : Type 0} → (X → Type 0) → Option X → Type 0
+IfThere P None = Unit {0}
+IfThere P (Some x) = P x
+
+inputs-with : (inputs : List Input) (input : Option Input) (n : ℕ) → n < 2 ^ 24 → length inputs ≤ n → IfThere IsInput input → AreInputs inputs
+    → AreInputs (with_input inputs input) × (length (with_input inputs input) ≤ n + 1)
+inputs-with inputs None n few h good are = (are, omega arith)
+inputs-with inputs (Some input) n few h good are =
+    (IsSection-push IsInput (λ x y. Unit {0}) inputs input are (omega arith) good (λ d l. tt), omega (arith, length_push inputs input))
+
+dmas-with : (dmas : List DmaRecord) (n : ℕ) (bytes : Option (List ℕ)) → n < 2 ^ 24 → length dmas ≤ n → IfThere AreFewBytes bytes
+    → All (λ dma. dma.slot < n) dmas → AreDmas dmas
+    → AreDmas (with_dma dmas n bytes) × (length (with_dma dmas n bytes) ≤ n + 1) × All (λ dma. dma.slot < n + 1) (with_dma dmas n bytes)
+dmas-with dmas n None few h good slots are =
+    (are, omega arith, All-weaker (λ dma. dma.slot < n) (λ dma. dma.slot < n + 1) (λ dma l. omega arith) dmas slots)
+dmas-with dmas n (Some bytes) few h good slots are =
+    let dma : DmaRecord = record { slot = n; bytes = bytes } in
+    (IsSection-push IsDmaRecord (λ x y. x.slot < y.slot) dmas dma are (omega arith) (omega arith, good)
+        (λ d l. All-get_or (λ dma. dma.slot < n) dmas (length dmas - 1) d (omega arith) slots),
+      omega (arith, length_push dmas dma),
+      All-push (λ dma. dma.slot < n + 1) dmas dma
+        (All-weaker (λ dma. dma.slot < n) (λ dma. dma.slot < n + 1) (λ dma l. omega arith) dmas slots) (omega arith))
+
+-- a commit more with its records
+pub IsRecording-commit : (mode : ModeName) (kept : Kept) (interrupts : List Interrupt) (inputs : List Input) (dmas : List DmaRecord)
+    (commit : Commit) (early : Bool) (input : Option Input) (bytes : Option (List ℕ))
+    → IsRecording mode kept interrupts inputs dmas → CanCommit kept commit early → IfThere IsInput input → IfThere AreFewBytes bytes
+    → IsRecording mode (noted mode kept (note_of commit early)) interrupts (with_input inputs input) (with_dma dmas kept.count bytes)
+IsRecording-commit mode kept interrupts inputs dmas commit early input bytes r can good few =
+    let i = inputs-with inputs input kept.count can.few r.few_inputs good r.log.inputs in
+    let d = dmas-with dmas kept.count bytes can.few r.few_dmas few r.slots r.log.dmas in
+    record {
+      log = record {
+        s = r.log.s;
+        count = omega (arith, can.few);
+        order = order-noted mode kept.count kept.order commit.actor can.actor r.log.order;
+        sizes = sizes-noted mode kept.s kept.count kept.sizes kept.done (note_of commit early) can.actor can.size can.over can.few r.done r.sizes r.log.sizes;
+        interrupts = r.log.interrupts;
+        inputs = i.0;
+        dmas = d.0;
+      };
+      done = done_with-few kept.done commit.actor kept.count r.done;
+      sizes = omega (arith, sizes-length kept.sizes kept.done (note_of commit early), r.sizes);
+      few_inputs = i.1;
+      few_dmas = d.1;
+      slots = d.2;
+      moments = r.moments;
+    }
+
+-- an interrupt more
+pub IsRecording-interrupt : (mode : ModeName) (kept : Kept) (interrupts : List Interrupt) (inputs : List Input) (dmas : List DmaRecord) (interrupt : Interrupt)
+    → IsRecording mode kept interrupts inputs dmas → IsInterrupt interrupt → interrupt.index ≤ 2 ^ 24
+    → IsRecording mode kept (insert_interrupt interrupt interrupts) inputs dmas
+IsRecording-interrupt mode kept interrupts inputs dmas interrupt r good early =
+    let threads = All-weaker IsInterrupt (λ i. i.thread ≤ 14) (λ i h. h.0) interrupts r.log.interrupts.each in
+    let few = section-count (λ i. i.thread) (λ i. i.index) IsInterrupt (2 ^ 24) interrupts r.log.interrupts threads r.moments in
+    record {
+      log = record {
+        s = r.log.s;
+        count = r.log.count;
+        order = r.log.order;
+        sizes = r.log.sizes;
+        interrupts = IsSection-insert (λ i. i.thread) (λ i. i.index) IsInterrupt interrupt interrupts (omega (arith, few)) good r.log.interrupts;
+        inputs = r.log.inputs;
+        dmas = r.log.dmas;
+      };
+      done = r.done;
+      sizes = r.sizes;
+      few_inputs = r.few_inputs;
+      few_dmas = r.few_dmas;
+      slots = r.slots;
+      moments = All-insert (λ i. i.thread) (λ i. i.index) (λ i. i.index ≤ 2 ^ 24) interrupt interrupts early r.moments;
+    }
+
+-- a moment that is new among interrupts is new among what they are seen of
+pub fresh : (entries : List Held) (t i : ℕ) → IsFresh (map interrupt_of entries) t i → raised_at entries t i ≡ None
+fresh [] t i h = refl
+fresh (x ∷ xs) t i h =
+    elim (cases_Bool ((x.thread == t) && (x.index == i))) [
+      | inl e ↦ absurd (none-some (interrupt_of x) (sym (rw e at h)))
+      | inr e ↦ rw e (fresh xs t i (rw e at h))
+    ]
+
+-- a call that either did it or left all as it was
+pub either : {X E A B : Type 0} (r : Result X E) → OnOk r A → OnErr r B → A ⊎ B
+either (Ok x) a b = inl a
+either (Err e) a b = inr b
+
+pub if_there : {X Y : Type 0} (f : X → Y) (P : Y → Type 0) (o : Option X) → IfSome o (λ x. P (f x)) → IfThere P (option_map f o)
+if_there f P None h = tt
+if_there f P (Some x) h = h

@@ -1,0 +1,59 @@
+-- What a recorder keeps.
+use Rattle.std.specs.Prelude.{◌≡◌, ℕ, ◌==◌, ◌&&◌, find, ◌+◌, ◌^◌, ◌<◌, ◌≤◌, Bool, true, List, [], ◌∷◌, ◌++◌, All, length, Option, Some, None, slice_index}
+use Rattle.dl_entry.specs.declared.input.Input.{Input}
+use Rattle.dl_entry.specs.declared.commit.Commit.{Commit}
+use Rattle.spec_log.specs.declared.mode_name.ModeName.{ModeName}
+use Rattle.spec_log.specs.declared.records.Interrupt.{Interrupt}
+use Rattle.spec_log.specs.declared.records.DmaRecord.{DmaRecord}
+use Rattle.spec_log.specs.declared.sizes.ShortSize.{ShortSize}
+use Rattle.spec_log.specs.declared.sizes.Sizes.{Sizes}
+use Rattle.spec_log.specs.declared.sizes.Sizes.TheVariants.{Each, Short}
+use Rattle.spec_log.specs.Log.{IsActor, IsInput, IsLog, AreFewBytes}
+use Rattle.spec_log.specs.Noting.{Kept, log_of}
+
+-- what is kept of the commits, the records, and whether there is room for one commit with its records and one interrupt
+pub record Recording : Type 0 where
+  pub kept : Kept
+  pub interrupts : List Interrupt
+  pub inputs : List Input
+  pub dmas : List DmaRecord
+  pub room : Bool
+
+-- a commit that can be noted: of an actor of a log, no larger than a standard chunk, over 0 where it was closed early, and
+-- not the 2^24th but one
+pub record CanCommit (kept : Kept) (commit : Commit) (early : Bool) : Type 0 where
+  pub actor : IsActor commit.actor
+  pub size : commit.size ≤ kept.s
+  pub over : early ≡ true → 1 ≤ commit.size
+  pub few : kept.count < 2 ^ 24
+
+-- the inputs with that of a commit, if it took one
+abbrev pub with_input : List Input → Option Input → List Input
+with_input inputs None = inputs
+with_input inputs (Some input) = inputs ++ input ∷ []
+
+-- the data of DMAs with those of the commit at a slot, if it is one
+abbrev pub with_dma : List DmaRecord → ℕ → Option (List ℕ) → List DmaRecord
+with_dma dmas slot None = dmas
+with_dma dmas slot (Some bytes) = dmas ++ record { slot = slot; bytes = bytes } ∷ []
+
+abbrev pub short_sizes : Sizes → List ShortSize
+short_sizes (Each sizes) = []
+short_sizes (Short sizes) = sizes
+
+-- what stands together in a recorder: a log, of which no part has more than there are commits
+pub record IsRecording (mode : ModeName) (kept : Kept) (interrupts : List Interrupt) (inputs : List Input) (dmas : List DmaRecord) : Type 0 where
+  pub log : IsLog (log_of mode kept interrupts inputs dmas)
+  pub done : (t : ℕ) → slice_index kept.done t ≤ kept.count
+  pub sizes : length (short_sizes kept.sizes) ≤ kept.count
+  pub few_inputs : length inputs ≤ kept.count
+  pub few_dmas : length dmas ≤ kept.count
+  pub slots : All (λ dma. dma.slot < kept.count) dmas
+  pub moments : All (λ interrupt. interrupt.index ≤ 2 ^ 24) interrupts
+
+-- no interrupt of this moment is kept
+abbrev pub IsFresh : List Interrupt → ℕ → ℕ → Type 0
+IsFresh interrupts thread index = find (λ i. (i.thread == thread) && (i.index == index)) interrupts ≡ None
+
+abbrev pub interrupt : ℕ → ℕ → ℕ → Interrupt
+interrupt thread index value = record { thread = thread; index = index; value = value }

@@ -1,0 +1,6 @@
+//! Recording: the log of the commits and interrupts that are noted, in any mode.
+#![tactic(auto)]
+
+mod recorder;
+
+pub use recorder::Recorder;

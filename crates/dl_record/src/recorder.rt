@@ -1,0 +1,165 @@
+//! The recorder of a sphere.
+ghost use Rattle.std.specs.Prelude.{◌≡◌, ◌^◌, ◌≤◌, ◌+◌, [], IfOk, IfSome, IsOk, IsTrue, OnOk, OnErr, ◌<◌, option_map, All};
+ghost use Rattle.spec_log.specs.Log.{IsChunkSize, IsInput, AreFewBytes};
+ghost use Rattle.spec_log.specs.Noting.{nothing_kept, noted, insert_interrupt, log_of};
+ghost use Rattle.dl_mode.specs.Logged.{note_of};
+ghost use Rattle.dl_record.specs.Recording.{CanCommit, IsFresh, interrupt, with_input, with_dma};
+
+use dl_entry::{Commit, Input, OutOfMemory};
+use dl_input::{Dmas, Inputs, Interrupts};
+use dl_mode::Mode;
+use spec_log::{Log, LogParts};
+use std::alloc::Global;
+use std::marker::Model;
+
+/// Notes a sphere's commits with their records, and its interrupts.
+#[derive(Drop)]
+pub struct Recorder<M: Mode> {
+    alloc: Global,
+    count: u32,
+    log: M::Log,
+    interrupts: Interrupts,
+    inputs: Inputs,
+    dmas: Dmas,
+}
+
+impl<M: Mode> Model for Recorder<M> {
+    ghost use Rattle.std.specs.Prelude.{◌≡◌, map, ◌&&◌};
+    ghost use Rattle.dl_input.specs.Held.{interrupt_of};
+    ghost use Rattle.dl_record.specs.Recording.{Recording, IsRecording};
+
+    ghost Value = { Recording };
+
+    ghost view = { λ r. record {
+        kept = (M.logged r.log).kept;
+        interrupts = map interrupt_of r.interrupts.entries;
+        inputs = r.inputs.inputs;
+        dmas = r.dmas.dmas;
+        room = (M.logged r.log).room && r.interrupts.room && r.inputs.room && r.dmas.room } };
+
+    ghost invariant = { λ r.
+        IsRecording M.mode (M.logged r.log).kept (map interrupt_of r.interrupts.entries) r.inputs.inputs r.dmas.dmas
+        × (r.count ≡ (M.logged r.log).kept.count) };
+}
+
+impl<M: Mode> Recorder<M> {
+    /// Nothing is noted yet; a standard chunk has `s` instructions.
+    pub fn new(alloc: Global, s: u32) -> Result<Recorder<M>, OutOfMemory>
+        requires { IsChunkSize s }
+        ensures kept { IfOk result (λ recorder. recorder.kept ≡ nothing_kept M.mode s) }
+        ensures interrupts { IfOk result (λ recorder. recorder.interrupts ≡ []) }
+        ensures inputs { IfOk result (λ recorder. recorder.inputs ≡ []) }
+        ensures dmas { IfOk result (λ recorder. recorder.dmas ≡ []) }
+    {
+        Ok(Recorder {
+            alloc,
+            count: 0,
+            log: M::new(alloc, s)?,
+            interrupts: Interrupts::new(alloc)?,
+            inputs: Inputs::new(alloc),
+            dmas: Dmas::new(alloc),
+        })
+    }
+
+    /// Makes room for one commit with its records, and one interrupt.
+    pub fn reserve(&mut self) -> Result<(), OutOfMemory>
+        ensures kept { self.new.kept ≡ self.old.kept }
+        ensures interrupts { self.new.interrupts ≡ self.old.interrupts }
+        ensures inputs { self.new.inputs ≡ self.old.inputs }
+        ensures dmas { self.new.dmas ≡ self.old.dmas }
+        ensures ok { OnOk result (IsTrue self.new.room) }
+        ensures room { IsTrue self.old.room → IsOk result }
+    {
+        M::reserve(&mut self.log)?;
+        self.interrupts.reserve()?;
+        self.inputs.reserve()?;
+        self.dmas.reserve()
+    }
+
+    /// Notes a commit, whether its chunk was closed early, and its record. With room it isn't refused.
+    pub fn commit(
+        &mut self,
+        commit: &Commit,
+        closed_short: bool,
+        input: Option<&Input>,
+        dma: Option<&[u8]>,
+    ) -> Result<(), OutOfMemory>
+        requires commit { CanCommit self.old.kept commit.now closed_short }
+        requires input { IfSome input (λ i. IsInput i.now) }
+        requires dma { IfSome dma (λ bytes. AreFewBytes bytes.now) }
+        ensures kept { OnOk result (self.new.kept ≡ noted M.mode self.old.kept (note_of commit.now closed_short)) }
+        ensures inputs { OnOk result (self.new.inputs ≡ with_input self.old.inputs (option_map (λ i. i.now) input.entry)) }
+        ensures dmas { OnOk result (self.new.dmas ≡ with_dma self.old.dmas self.old.kept.count (option_map (λ b. b.now) dma.entry)) }
+        ensures kept_still { OnErr result (self.new.kept ≡ self.old.kept) }
+        ensures inputs_still { OnErr result (self.new.inputs ≡ self.old.inputs) }
+        ensures dmas_still { OnErr result (self.new.dmas ≡ self.old.dmas) }
+        ensures interrupts { self.new.interrupts ≡ self.old.interrupts }
+        ensures room { IsTrue self.old.room → IsOk result }
+    {
+        self.inputs.reserve()?;
+        self.dmas.reserve()?;
+        M::note(&mut self.log, commit, closed_short)?;
+        note_input(&mut self.inputs, input)?;
+        note_dma(&mut self.dmas, self.count, dma)?;
+        self.count += 1;
+        Ok(())
+    }
+
+    /// Notes an interrupt of a new moment. With room it isn't refused.
+    pub fn interrupt(&mut self, thread: u8, index: u32, value: u32) -> Result<(), OutOfMemory>
+        requires thread { thread ≤ 14 }
+        requires index { index ≤ 2 ^ 24 }
+        requires fresh { IsFresh self.old.interrupts thread index }
+        ensures ok { let interrupt = interrupt thread index value in
+            OnOk result (self.new.interrupts ≡ insert_interrupt interrupt self.old.interrupts) }
+        ensures err { OnErr result (self.new.interrupts ≡ self.old.interrupts) }
+        ensures kept { self.new.kept ≡ self.old.kept }
+        ensures inputs { self.new.inputs ≡ self.old.inputs }
+        ensures dmas { self.new.dmas ≡ self.old.dmas }
+        ensures room { IsTrue self.old.room → IsOk result }
+    {
+        self.interrupts.note(thread, index, value)
+    }
+
+    /// The log of what was noted.
+    pub fn finish(&self) -> Result<Log, OutOfMemory>
+        ensures { IfOk result (λ log. log ≡ log_of M.mode self.now.kept self.now.interrupts self.now.inputs self.now.dmas) }
+    {
+        let lists = M::lists(self.alloc, &self.log)?;
+        Ok(Log::new(LogParts {
+            mode: lists.mode,
+            s: lists.s,
+            count: lists.count,
+            order: lists.order,
+            sizes: lists.sizes,
+            interrupts: self.interrupts.list(self.alloc)?,
+            inputs: self.inputs.list(self.alloc)?,
+            dmas: self.dmas.list(self.alloc)?,
+        }))
+    }
+}
+
+fn note_input(inputs: &mut Inputs, input: Option<&Input>) -> Result<(), OutOfMemory>
+    requires { IfSome input (λ i. IsInput i.now) }
+    ensures ok { OnOk result (inputs.new.inputs ≡ with_input inputs.old.inputs (option_map (λ i. i.now) input.entry)) }
+    ensures err { OnErr result (inputs.new.inputs ≡ inputs.old.inputs) }
+    ensures room { IsTrue inputs.old.room → IsOk result }
+{
+    match input {
+        Some(input) => inputs.note(input),
+        None => Ok(()),
+    }
+}
+
+fn note_dma(dmas: &mut Dmas, slot: u32, bytes: Option<&[u8]>) -> Result<(), OutOfMemory>
+    requires few { IfSome bytes (λ b. AreFewBytes b.now) }
+    requires slots { All (λ dma. dma.slot < slot) dmas.old.dmas }
+    ensures ok { OnOk result (dmas.new.dmas ≡ with_dma dmas.old.dmas slot (option_map (λ b. b.now) bytes.entry)) }
+    ensures err { OnErr result (dmas.new.dmas ≡ dmas.old.dmas) }
+    ensures room { IsTrue dmas.old.room → IsOk result }
+{
+    match bytes {
+        Some(bytes) => dmas.note(slot, bytes),
+        None => Ok(()),
+    }
+}
