@@ -100,12 +100,12 @@ Each-noted order sizes early done (Thread u) size h each counted t i =
     rw (sizes_of_thread-push t order sizes (Thread u) size h)
     (elim (cases_eq u t) [
       | inr other ↦ rw (ne_eqb u t other, append-nil (sizes_of_thread t order sizes))
-        (size_among-other early x t i (rw (ne_eqb u t other) refl) ∙ each t i)
+          (size_among-other early x t i (rw (ne_eqb u t other) refl) ∙ each t i)
       | inl same ↦ elim (cases_eq (slice_index done u) i) [
         | inl here ↦ rw (eq-eqb u t same, ← here, ← same, size_among-put early x)
-          (sym (slice_get-push (sizes_of_thread u order sizes) size (slice_index done u) (counted u)))
+            (sym (slice_get-push (sizes_of_thread u order sizes) size (slice_index done u) (counted u)))
         | inr there ↦ rw (eq-eqb u t same, size_among-other early x t i (rw (ne_eqb (slice_index done u) i there) (and-false (u == t))), each t i)
-          (sym (slice_get-before (sizes_of_thread t order sizes) size i (λ e. there (rw same (counted t ∙ sym e)))))
+            (sym (slice_get-before (sizes_of_thread t order sizes) size i (λ e. there (rw same (counted t ∙ sym e)))))
       ]
     ])
 
@@ -117,9 +117,9 @@ Done-noted order sizes done (Thread u) size h all good counted t =
     rw (sizes_of_thread-push t order sizes (Thread u) size h)
     (elim (cases_eq t u) [
       | inl same ↦ rw (same, eq-eqb u u refl, get_or-set_same done u (get_or done u 0 + 1) 0 (omega arith), counted u)
-        (sym (length_push (sizes_of_thread u order sizes) size))
+          (sym (length_push (sizes_of_thread u order sizes) size))
       | inr other ↦ rw (ne_eqb u t (λ e. other (sym e)), append-nil (sizes_of_thread t order sizes), get_or-set_other done u t (get_or done u 0 + 1) 0 other)
-        (counted t)
+          (counted t)
     ])
 
 -- no thread has more commits than there are

@@ -12,7 +12,7 @@ returns-clause-ok g c =
     rw (← c.self.view_is, c.from.ensures)
     (on_ok_weaker c.put.result
     (λ e. changed_lane lanes c.args.thread c.index_mut-lane.result.now c.put.new.self (λ m. with_mark c.args.index c.args.value m) within
-      (rw c.from.ensures at c.index_mut-lane.ensures.value) e)
+    (rw c.from.ensures at c.index_mut-lane.ensures.value) e)
     c.put.ensures.ok)
 
 pub returns-clause-err : goal.returns-clause-err
