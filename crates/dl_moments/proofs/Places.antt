@@ -1,5 +1,5 @@
 -- Where an index stands among rising ones.
-use Rattle.std.proofs.Common.{◌≡◌, ℕ, zero, suc, ◌+◌, ◌-◌, ◌<◌, ◌≤◌, ◌==◌, nat_lt, Bool, true, false, List, [], ◌∷◌, ◌++◌, length, get_or, take, drop, Option, Some, None, inl, inr, refl, ap, sym, subst, ◌∙◌, arith, add-one}
+use Rattle.std.proofs.Common.{◌≡◌, ℕ, zero, suc, ◌+◌, ◌-◌, ◌<◌, ◌≤◌, nat_lt, true, List, [], ◌∷◌, ◌++◌, length, get_or, take, drop, Some, None, inl, inr, refl, ap, sym, subst, ◌∙◌, arith, add-one}
 use Rattle.std.proofs.Math.ListN.{set}
 use Rattle.std.proofs.lemmas.List.{get_or_default}
 use Rattle.std.proofs.lemmas.Bool.{ltb-true, lt-ltb, le-ltb, eq-eqb, ne_eqb, cases_lt, cases_eq}
@@ -86,9 +86,9 @@ value_at-missed index marks p r below above =
       | inr more ↦ elim (cases_lt p k) [
         | inl past ↦ omega (arith, above d (omega arith), rises-between marks r p k d past l)
         | inr end ↦ let same : k ≡ p = omega arith in
-          let up = above d (omega arith) in
-          let there : (get_or marks p d).index ≡ index = subst (λ (n : ℕ). (get_or marks n d).index ≡ index) same e in
-          omega arith
+            let up = above d (omega arith) in
+            let there : (get_or marks p d).index ≡ index = subst (λ (n : ℕ). (get_or marks n d).index ≡ index) same e in
+            omega arith
       ]
     ])
 
@@ -116,9 +116,9 @@ chain-with low index value (m ∷ ms) h c =
       | inl less ↦ rw (lt-ltb m.index index less) (c.0, chain-with (suc m.index) index value ms (omega arith) c.1)
       | inr more ↦ elim (cases_eq m.index index) [
         | inl same ↦ rw (le-ltb m.index index more, eq-eqb m.index index same)
-          (h, subst (λ (n : ℕ). Chain (suc n) ms) same c.1)
+            (h, subst (λ (n : ℕ). Chain (suc n) ms) same c.1)
         | inr other ↦ let up : index < m.index = omega arith in
-          rw (le-ltb m.index index more, ne_eqb m.index index other) (h, (up, c.1))
+            rw (le-ltb m.index index more, ne_eqb m.index index other) (h, (up, c.1))
       ]
     ]
 
@@ -140,7 +140,7 @@ stands index marks place within below here =
       within = within;
       put = λ value. with_mark-set index value marks place within below here;
       value = λ d. sym (value_at-found index marks place (get_or marks place d) within below
-        (get_or_default marks place d (get_or marks place d) within) (here d));
+          (get_or_default marks place d (get_or marks place d) within) (here d));
     }
 
 pub misses : {V : Type 0} (index : ℕ) (marks : List (Mark V)) (place : ℕ) → Rises marks → place ≤ length marks → Below index marks place

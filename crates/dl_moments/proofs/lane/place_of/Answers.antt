@@ -1,4 +1,4 @@
-use Rattle.std.proofs.Common.{◌≡◌, ◌<◌, ◌≤◌, length, get_or, arith, ap, ◌∙◌}
+use Rattle.std.proofs.Common.{arith, ap, ◌∙◌}
 use Rattle.std.proofs.lemmas.List.{get_or_default}
 use Rattle.dl_moments.specs.declared.lane.Mark.{Mark}
 use Rattle.dl_moments.proofs.Places.{stands, misses}
@@ -19,7 +19,7 @@ returns-else-place-marks g c =
     misses c.args.index marks place c.requires c.lowest-place.ensures.within c.lowest-place.ensures.below
     (elim c.else-place-marks.branch [
       | else-place-marks-via-then-place-marks+else-marks-place w ↦
-        λ d h. let at = ap (λ (m : Mark _). m.index) (get_or_default marks place d w.index-marks-place.result h) in
+          λ d h. let at = ap (λ (m : Mark _). m.index) (get_or_default marks place d w.index-marks-place.result h) in
           omega (arith, c.lowest-place.ensures.above place d (omega arith) h, w.if-marks-place.false)
       | else-place-marks-via-else-place-marks w ↦ λ d h. absurd (omega (arith, w.if-place-marks.false))
     ])

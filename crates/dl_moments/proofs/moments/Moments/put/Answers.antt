@@ -1,6 +1,5 @@
-use Rattle.std.proofs.Common.{◌≡◌, ◌<◌, length, List, ap, sym, ◌∙◌, arith}
+use Rattle.std.proofs.Common.{◌<◌, length, arith}
 use Rattle.std.proofs.lemmas.Result.{on_ok_weaker, on_err_weaker}
-use Rattle.dl_moments.specs.declared.lane.Mark.{Mark}
 use Rattle.dl_moments.specs.Marks.{with_mark}
 use Rattle.dl_moments.proofs.Lanes.{changed_lane, same_lane}
 use Rattle.dl_moments.proofs.moments.Moments.put.Goals as goal
@@ -12,7 +11,7 @@ returns-clause-ok g c =
     rw (← c.self.view_is, c.from.ensures)
     (on_ok_weaker c.put.result
     (λ e. changed_lane lanes c.args.thread c.index_mut-lane.result.now c.put.new.self (λ m. with_mark c.args.index c.args.value m) within
-      (rw c.from.ensures at c.index_mut-lane.ensures.value) e)
+    (rw c.from.ensures at c.index_mut-lane.ensures.value) e)
     c.put.ensures.ok)
 
 pub returns-clause-err : goal.returns-clause-err

@@ -1,9 +1,9 @@
-use Rattle.std.proofs.Common.{◌≡◌, ◌<◌, length, ◌∙◌, ap, arith}
+use Rattle.std.proofs.Common.{◌<◌, length, ◌∙◌, ap, arith}
 use Rattle.std.proofs.lemmas.Grind.{common_steps}
 use Rattle.dl_moments.specs.Held.{By}
 use Rattle.std.proofs.lemmas.List.{length-set}
 use Rattle.std.proofs.lemmas.Bool.{false≢true}
-use Rattle.dl_moments.proofs.Lanes.{Roomy, same_lane, Roomy-more, Roomy-set, all_room, room_at}
+use Rattle.dl_moments.proofs.Lanes.{same_lane, Roomy-more, Roomy-set, all_room, room_at}
 use Rattle.dl_moments.proofs.moments.Moments.reserve.Goals as goal
 
 pub loop-thread-preserved : goal.loop-thread-preserved
@@ -12,11 +12,13 @@ loop-thread-preserved g c =
     let t = c.loop-thread.thread in
     let new = c.reserve.new.self in
     let i = c.loop-thread.invariant in
-    let within : t < length lanes = omega (arith, i.0, i.1) in
-    (length-set lanes t new ∙ i.0, i.1,
+    let within : t < length lanes = omega (arith, i.0, i.1) in (
+      length-set lanes t new ∙ i.0,
+      i.1,
       same_lane lanes t c.index_mut-lane.result.now new within c.index_mut-lane.ensures.value c.reserve.ensures.marks ∙ i.2,
       Roomy-more lanes t new within i.3 c.in_ok-reserve.ensures.ok,
-      λ h. Roomy-set lanes 15 t new within (i.4 h) c.in_ok-reserve.ensures.ok)
+      λ h. Roomy-set lanes 15 t new within (i.4 h) c.in_ok-reserve.ensures.ok,
+    )
 
 pub returns-in_err-reserve-clause-lanes : goal.returns-in_err-reserve-clause-lanes
 returns-in_err-reserve-clause-lanes g c =
@@ -33,9 +35,13 @@ returns-clause-ok g c =
 
 pub loop-thread-init : goal.loop-thread-init
 loop-thread-init g c =
-    let lanes = c.self.inside.lanes.items in
-    (c.self.invariant, grind (arith, common_steps), ap (λ (v : By _). v.lanes) c.self.view_is, λ k d h. absurd (omega arith),
-      λ h. λ k d l. room_at lanes k d (omega (arith, c.self.invariant)) (ap (λ (v : By _). v.room) c.self.view_is ∙ h))
+    let lanes = c.self.inside.lanes.items in (
+      c.self.invariant,
+      grind (arith, common_steps),
+      ap (λ (v : By _). v.lanes) c.self.view_is,
+      λ k d h. absurd (omega arith),
+      λ h. λ k d l. room_at lanes k d (omega (arith, c.self.invariant)) (ap (λ (v : By _). v.room) c.self.view_is ∙ h),
+    )
 
 pub returns-in_err-reserve-clause-room : goal.returns-in_err-reserve-clause-room
 returns-in_err-reserve-clause-room g c = λ h.

@@ -1,4 +1,4 @@
-use Rattle.std.proofs.Common.{◌≡◌, ◌<◌, length, arith}
+use Rattle.std.proofs.Common.{◌<◌, length, arith}
 use Rattle.dl_moments.specs.Marks.{with_mark_if}
 use Rattle.dl_moments.proofs.Lanes.{changed_lane}
 use Rattle.dl_moments.proofs.moments.Moments.set.Goals as goal
@@ -9,6 +9,6 @@ returns-then-from-lt-THREADS g c =
     let within : c.args.thread < length lanes = omega (arith, c.self.invariant) in
     record {
       lanes = rw (← c.self.view_is, c.from-then-from-lt-THREADS.ensures)
-        (changed_lane lanes c.args.thread c.index_mut-lane.result.now c.set.new.self (λ m. with_mark_if c.args.index c.args.value m) within
+          (changed_lane lanes c.args.thread c.index_mut-lane.result.now c.set.new.self (λ m. with_mark_if c.args.index c.args.value m) within
           (rw c.from-then-from-lt-THREADS.ensures at c.index_mut-lane.ensures.value) c.set.ensures.marks);
     }
