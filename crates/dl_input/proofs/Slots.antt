@@ -62,12 +62,11 @@ bytes_at-missed slot dmas p r below above =
       | inr more ↦ elim (cases_lt p k) [
         | inl past ↦ omega (arith, above d (omega arith), rises-between dmas r p k d past l)
         | inr end ↦ let same : k ≡ p = omega arith in
-          let up = above d (omega arith) in
-          let there : (get_or dmas p d).slot ≡ slot = subst (λ (n : ℕ). (get_or dmas n d).slot ≡ slot) same e in
-          omega arith
+            let up = above d (omega arith) in
+            let there : (get_or dmas p d).slot ≡ slot = subst (λ (n : ℕ). (get_or dmas n d).slot ≡ slot) same e in
+            omega arith
       ]
     ])
-
 
 pub taken_at-found : (slot : ℕ) (dmas : List DmaRecord) (taken : List Bool) (p : ℕ) → length taken ≡ length dmas → p < length dmas → Below slot dmas p
     → ((d : DmaRecord) → (get_or dmas p d).slot ≡ slot) → taken_at slot dmas taken ≡ set taken p true

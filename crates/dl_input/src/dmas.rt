@@ -5,7 +5,7 @@ ghost use Rattle.std.specs.Slice.{IsItemAt};
 ghost use Rattle.spec_log.specs.declared.records.DmaRecord.{DmaRecord as Record};
 ghost use Rattle.dl_input.specs.Dmas.{Rises, bytes_at, taken_at, Stands, Misses};
 
-use crate::copied::{copied, MOST};
+use crate::copied::{MOST, copied};
 use dl_entry::{Bytes, OutOfMemory, Sequence};
 use spec_log::DmaRecord;
 use std::alloc::Global;
@@ -27,10 +27,11 @@ impl Model for Dmas {
     ghost Value = { DmaList };
 
     ghost view = { λ d. record {
-        dmas = d.entries.items;
-        taken = d.taken.items;
-        room = nat_lt (vec_len d.entries) (vec_capacity d.entries) && nat_lt (vec_len d.taken) (vec_capacity d.taken)
-            && nat_le 4096 (vec_capacity d.spare) } };
+      dmas = d.entries.items;
+      taken = d.taken.items;
+      room = nat_lt (vec_len d.entries) (vec_capacity d.entries) && nat_lt (vec_len d.taken) (vec_capacity d.taken)
+          && nat_le 4096 (vec_capacity d.spare);
+    } };
 
     ghost invariant = { λ d. (length d.taken.items ≡ length d.entries.items) × Rises d.entries.items × (d.spare.items ≡ []) };
 }

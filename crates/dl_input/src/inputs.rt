@@ -3,7 +3,7 @@ ghost use Rattle.std.specs.Prelude.{◌≡◌, ◌==◌, ◌≤◌, [], ◌∷�
 ghost use Rattle.std.specs.Slice.{IsItemAt};
 ghost use Rattle.dl_input.specs.Inputs.{one_taken};
 
-use crate::copied::{copied, MOST};
+use crate::copied::{MOST, copied};
 use dl_entry::{Bytes, Input, OutOfMemory, Sequence};
 use std::alloc::Global;
 use std::marker::Model;
@@ -24,9 +24,10 @@ impl Model for Inputs {
     ghost Value = { InputList };
 
     ghost view = { λ i. record {
-        inputs = i.entries.items;
-        taken = i.taken;
-        room = nat_lt (vec_len i.entries) (vec_capacity i.entries) && nat_le 4096 (vec_capacity i.spare) } };
+      inputs = i.entries.items;
+      taken = i.taken;
+      room = nat_lt (vec_len i.entries) (vec_capacity i.entries) && nat_le 4096 (vec_capacity i.spare);
+    } };
 
     ghost invariant = { λ i. (i.taken ≤ length i.entries.items) × (i.spare.items ≡ []) };
 }

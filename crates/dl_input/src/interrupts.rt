@@ -154,7 +154,11 @@ fn all_taken(lane: &[Mark<Raised>]) -> bool
     true
 }
 
-fn add_lane(list: &mut Sequence<Interrupt>, thread: u8, lane: &[Mark<Raised>]) -> Result<(), OutOfMemory>
+fn add_lane(
+    list: &mut Sequence<Interrupt>,
+    thread: u8,
+    lane: &[Mark<Raised>],
+) -> Result<(), OutOfMemory>
     ensures { OnOk result (list.new ≡ list.old ++ map interrupt_of (map (held_of thread) lane.now)) }
 {
     for mark in lane {

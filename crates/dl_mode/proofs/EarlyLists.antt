@@ -131,12 +131,12 @@ insert-end : (x : ShortSize) (sizes : List ShortSize) → All (λ y. Before y x)
 insert-end x [] h = refl
 insert-end x (y ∷ sizes) h =
     rw (earlier-before y x (All-head (λ y. Before y x) y sizes h), insert-end x sizes (All-tail (λ y. Before y x) y sizes h)) refl where
-  earlier-before : (y x : ShortSize) → Before y x → is_earlier y.thread y.index x.thread x.index ≡ true
-  earlier-before y x b =
-      elim b [
-        | inl l ↦ earlier-lower y.thread y.index x.thread x.index l
-        | inr s ↦ rw (s.0, earlier-same x.thread y.index x.index) (lt-ltb y.index x.index s.1)
-      ]
+      earlier-before : (y x : ShortSize) → Before y x → is_earlier y.thread y.index x.thread x.index ≡ true
+      earlier-before y x b =
+          elim b [
+            | inl l ↦ earlier-lower y.thread y.index x.thread x.index l
+            | inr s ↦ rw (s.0, earlier-same x.thread y.index x.index) (lt-ltb y.index x.index s.1)
+          ]
 
 -- the next of a rising list is inserted at the end
 pub insert-next : (sizes : List ShortSize) → AllAdjacentBelow Before sizes (length sizes) → (n : ℕ) (x : ShortSize) → n < length sizes

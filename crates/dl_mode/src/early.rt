@@ -139,7 +139,11 @@ impl Early {
     }
 }
 
-fn add_lane(list: &mut Sequence<ShortSize>, thread: u8, lane: &[Mark<u32>]) -> Result<(), OutOfMemory>
+fn add_lane(
+    list: &mut Sequence<ShortSize>,
+    thread: u8,
+    lane: &[Mark<u32>],
+) -> Result<(), OutOfMemory>
     ensures { OnOk result (list.new ≡ list.old ++ map (short_of thread) lane.now) }
 {
     for mark in lane {

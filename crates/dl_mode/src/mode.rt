@@ -57,7 +57,13 @@ pub trait Mode {
         ensures { let kept = (logged log.now).kept in result ≡ sizes_used kept.order kept.sizes done.now };
 
     /// Whose commit stands at a position, told whether a DMA's slot is there, which thread committed last, and which are live.
-    fn head(log: &Self::Log, position: u32, slot: bool, last: Option<u8>, live: &[bool]) -> Option<Actor>
+    fn head(
+        log: &Self::Log,
+        position: u32,
+        slot: bool,
+        last: Option<u8>,
+        live: &[bool],
+    ) -> Option<Actor>
         requires { length live.now ≤ 256 }
         ensures { result ≡ kept_head mode (logged log.now).kept.order position slot last live.now };
 

@@ -4,7 +4,7 @@ ghost use Rattle.spec_log.specs.declared.mode_name.ModeName.TheVariants.{OrderOn
 
 use crate::early::Early;
 use crate::lists::Lists;
-use crate::mode::{limit_of, Mode};
+use crate::mode::{Mode, limit_of};
 use dl_entry::{Actor, Commit, OutOfMemory};
 use spec_log::{ModeName, Order, Sizes};
 use std::alloc::Global;
@@ -26,8 +26,9 @@ impl Model for OrderOnlyLog {
     ghost Value = { Logged };
 
     ghost view = { λ l. record {
-        kept = record { s = l.s; count = length l.order.items; order = l.order.items; sizes = Short l.early.sizes; done = l.early.done };
-        room = nat_lt (vec_len l.order) (vec_capacity l.order) && l.early.room } };
+      kept = record { s = l.s; count = length l.order.items; order = l.order.items; sizes = Short l.early.sizes; done = l.early.done };
+      room = nat_lt (vec_len l.order) (vec_capacity l.order) && l.early.room;
+    } };
 
     ghost invariant = { λ l. length l.order.items ≤ 2 ^ 24 };
 }
@@ -60,7 +61,11 @@ impl Mode for OrderOnly {
         Ok(())
     }
 
-    fn note(log: &mut OrderOnlyLog, commit: &Commit, closed_short: bool) -> Result<(), OutOfMemory> {
+    fn note(
+        log: &mut OrderOnlyLog,
+        commit: &Commit,
+        closed_short: bool,
+    ) -> Result<(), OutOfMemory> {
         log.order.reserve(1)?;
         log.early.note(commit.actor, commit.size, closed_short)?;
         log.order.push_reserved(commit.actor);
@@ -82,7 +87,13 @@ impl Mode for OrderOnly {
         log.early.used(done)
     }
 
-    fn head(log: &OrderOnlyLog, position: u32, _: bool, _: Option<u8>, _: &[bool]) -> Option<Actor> {
+    fn head(
+        log: &OrderOnlyLog,
+        position: u32,
+        _: bool,
+        _: Option<u8>,
+        _: &[bool],
+    ) -> Option<Actor> {
         log.order.get(position as usize).copied()
     }
 

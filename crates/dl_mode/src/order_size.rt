@@ -8,9 +8,9 @@ ghost use Rattle.dl_mode.specs.Lists.{AreLists};
 ghost use Rattle.dl_mode.specs.Logged.{note};
 ghost use Rattle.spec_log.specs.declared.sizes.Sizes.TheVariants.{Each};
 
-use crate::early::{count_of, Early};
+use crate::early::{Early, count_of};
 use crate::lists::Lists;
-use crate::mode::{limit_of, Mode};
+use crate::mode::{Mode, limit_of};
 use dl_entry::{Actor, Commit, OutOfMemory, Sequence};
 use spec_log::{ModeName, Order, Sizes};
 use std::alloc::Global;
@@ -34,8 +34,9 @@ impl Model for OrderSizeLog {
     ghost Value = { Logged };
 
     ghost view = { λ l. record {
-        kept = record { s = l.s; count = length l.order.items; order = l.order.items; sizes = Each l.sizes.items; done = l.threads.done };
-        room = nat_lt (vec_len l.order) (vec_capacity l.order) && nat_lt (vec_len l.sizes) (vec_capacity l.sizes) && l.threads.room } };
+      kept = record { s = l.s; count = length l.order.items; order = l.order.items; sizes = Each l.sizes.items; done = l.threads.done };
+      room = nat_lt (vec_len l.order) (vec_capacity l.order) && nat_lt (vec_len l.sizes) (vec_capacity l.sizes) && l.threads.room;
+    } };
 
     ghost invariant = { λ l. IsWhole l.order.items l.sizes.items l.threads };
 }
@@ -119,7 +120,13 @@ impl Mode for OrderAndSize {
         true
     }
 
-    fn head(log: &OrderSizeLog, position: u32, _: bool, _: Option<u8>, _: &[bool]) -> Option<Actor> {
+    fn head(
+        log: &OrderSizeLog,
+        position: u32,
+        _: bool,
+        _: Option<u8>,
+        _: &[bool],
+    ) -> Option<Actor> {
         log.order.get(position as usize).copied()
     }
 

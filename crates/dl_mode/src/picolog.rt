@@ -5,7 +5,7 @@ ghost use Rattle.spec_log.specs.Head.{turn as turn_of, first_live as first_of, n
 
 use crate::early::Early;
 use crate::lists::Lists;
-use crate::mode::{limit_of, Mode};
+use crate::mode::{Mode, limit_of};
 use dl_entry::{Actor, Commit, OutOfMemory};
 use spec_log::{ModeName, Order, Sizes};
 use std::alloc::Global;
@@ -27,8 +27,9 @@ impl Model for TurnLog {
     ghost Value = { Logged };
 
     ghost view = { λ l. record {
-        kept = record { s = l.s; count = l.count; order = []; sizes = Short l.early.sizes; done = l.early.done };
-        room = l.early.room } };
+      kept = record { s = l.s; count = l.count; order = []; sizes = Short l.early.sizes; done = l.early.done };
+      room = l.early.room;
+    } };
 }
 
 /// The mode in which threads take turns.

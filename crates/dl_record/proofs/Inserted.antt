@@ -25,30 +25,30 @@ module _ {X : Type 0} (thread index : X → ℕ) where
   pub data Placed (y x : X) : Type 0 where
     earlier : is_earlier (thread y) (index y) (thread x) (index x) ≡ true → Before y x → Placed y x
     same : is_earlier (thread y) (index y) (thread x) (index x) ≡ false → ((thread y == thread x) && (index y == index x)) ≡ true
-      → thread y ≡ thread x → index y ≡ index x → Placed y x
+        → thread y ≡ thread x → index y ≡ index x → Placed y x
     later : is_earlier (thread y) (index y) (thread x) (index x) ≡ false → ((thread y == thread x) && (index y == index x)) ≡ false
-      → Before x y → Placed y x
+        → Before x y → Placed y x
 
   placed : (y x : X) → Placed y x
   placed y x =
       elim (cases_order (thread y) (thread x)) [
         | inl t ↦ elim (cases_order (index y) (index x)) [
           | inl i ↦ same (rw (le-ltb (thread y) (thread x) (omega arith), le-ltb (index y) (index x) (omega arith)) (and-false (thread y == thread x)))
-            (rw (eq-eqb (thread y) (thread x) t, eq-eqb (index y) (index x) i) refl) t i
+              (rw (eq-eqb (thread y) (thread x) t, eq-eqb (index y) (index x) i) refl) t i
           | inr o ↦ elim o [
             | inl l ↦ earlier (rw (le-ltb (thread y) (thread x) (omega arith), eq-eqb (thread y) (thread x) t, lt-ltb (index y) (index x) l) refl) (inr (t, l))
             | inr g ↦ later (rw (le-ltb (thread y) (thread x) (omega arith), le-ltb (index y) (index x) (omega arith)) (and-false (thread y == thread x)))
-              (rw (ne_eqb (index y) (index x) (λ e. omega arith)) (and-false (thread y == thread x))) (inr (sym t, g))
+                (rw (ne_eqb (index y) (index x) (λ e. omega arith)) (and-false (thread y == thread x))) (inr (sym t, g))
           ]
         ]
         | inr o ↦ elim o [
           | inl l ↦ earlier (rw (lt-ltb (thread y) (thread x) l) refl) (inl l)
           | inr g ↦ later (rw (le-ltb (thread y) (thread x) (omega arith), ne_eqb (thread y) (thread x) (λ e. omega arith)) refl)
-            (rw (ne_eqb (thread y) (thread x) (λ e. omega arith)) refl) (inl g)
+              (rw (ne_eqb (thread y) (thread x) (λ e. omega arith)) refl) (inl g)
         ]
       ] where
-    and-false : (b : Bool) → (b && false) ≡ false
-    and-false b = elim b as (λ b. (b && false) ≡ false) [ true ↦ refl | false ↦ refl ]
+        and-false : (b : Bool) → (b && false) ≡ false
+        and-false b = elim b as (λ b. (b && false) ≡ false) [ true ↦ refl | false ↦ refl ]
 
   behind-insert : (t i : ℕ) (x : X) (xs : List X) → ComesBefore t i (thread x) (index x) → Behind t i xs → Behind t i (insert_by thread index x xs)
   behind-insert t i x [] h b = (h, tt)
@@ -128,7 +128,7 @@ module _ {X : Type 0} (thread index : X → ℕ) where
       let rest = behind-count c (thread y) (index y) ys b.1 (All-tail (λ y. thread y ≤ 14) y ys ts) (All-tail (λ y. index y ≤ c) y ys is) good_i good_t in
       elim b.0 [
         | inl less ↦ let up : (t + 1) * (c + 1) ≤ thread y * (c + 1) = mul-le-mul_right (c + 1) (omega arith) in
-          omega (arith, add-mul t 1 (c + 1))
+            omega (arith, add-mul t 1 (c + 1))
         | inr tie ↦ let e : t * (c + 1) ≡ thread y * (c + 1) = ap (λ (n : ℕ). n * (c + 1)) tie.0 in omega (arith, tie.1)
       ]
 
@@ -138,5 +138,5 @@ module _ {X : Type 0} (thread index : X → ℕ) where
   section-count good c [] s ts is = omega arith
   section-count good c (y ∷ ys) s ts is =
       let rest = behind-count c (thread y) (index y) ys (adjacent-rising (y ∷ ys) s.rising) (All-tail (λ y. thread y ≤ 14) y ys ts) (All-tail (λ y. index y ≤ c) y ys is)
-        (All-head (λ y. index y ≤ c) y ys is) (All-head (λ y. thread y ≤ 14) y ys ts) in
+      (All-head (λ y. index y ≤ c) y ys is) (All-head (λ y. thread y ≤ 14) y ys ts) in
       omega arith

@@ -89,12 +89,13 @@ dmas-with : (dmas : List DmaRecord) (n : ℕ) (bytes : Option (List ℕ)) → n 
 dmas-with dmas n None few h good slots are =
     (are, omega arith, All-weaker (λ dma. dma.slot < n) (λ dma. dma.slot < n + 1) (λ dma l. omega arith) dmas slots)
 dmas-with dmas n (Some bytes) few h good slots are =
-    let dma : DmaRecord = record { slot = n; bytes = bytes } in
-    (IsSection-push IsDmaRecord (λ x y. x.slot < y.slot) dmas dma are (omega arith) (omega arith, good)
-        (λ d l. All-get_or (λ dma. dma.slot < n) dmas (length dmas - 1) d (omega arith) slots),
+    let dma : DmaRecord = record { slot = n; bytes = bytes } in (
+      IsSection-push IsDmaRecord (λ x y. x.slot < y.slot) dmas dma are (omega arith) (omega arith, good)
+          (λ d l. All-get_or (λ dma. dma.slot < n) dmas (length dmas - 1) d (omega arith) slots),
       omega (arith, length_push dmas dma),
       All-push (λ dma. dma.slot < n + 1) dmas dma
-        (All-weaker (λ dma. dma.slot < n) (λ dma. dma.slot < n + 1) (λ dma l. omega arith) dmas slots) (omega arith))
+          (All-weaker (λ dma. dma.slot < n) (λ dma. dma.slot < n + 1) (λ dma l. omega arith) dmas slots) (omega arith),
+    )
 
 -- a commit more with its records
 pub IsRecording-commit : (mode : ModeName) (kept : Kept) (interrupts : List Interrupt) (inputs : List Input) (dmas : List DmaRecord)

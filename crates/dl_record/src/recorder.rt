@@ -31,11 +31,12 @@ impl<M: Mode> Model for Recorder<M> {
     ghost Value = { Recording };
 
     ghost view = { λ r. record {
-        kept = (M.logged r.log).kept;
-        interrupts = map interrupt_of r.interrupts.entries;
-        inputs = r.inputs.inputs;
-        dmas = r.dmas.dmas;
-        room = (M.logged r.log).room && r.interrupts.room && r.inputs.room && r.dmas.room } };
+      kept = (M.logged r.log).kept;
+      interrupts = map interrupt_of r.interrupts.entries;
+      inputs = r.inputs.inputs;
+      dmas = r.dmas.dmas;
+      room = (M.logged r.log).room && r.interrupts.room && r.inputs.room && r.dmas.room;
+    } };
 
     ghost invariant = { λ r.
         IsRecording M.mode (M.logged r.log).kept (map interrupt_of r.interrupts.entries) r.inputs.inputs r.dmas.dmas

@@ -15,7 +15,7 @@ returns-then-dmas-place c =
     record {
       within = within;
       bytes = λ d. sym (bytes_at-found c.args.slot dmas place (get_or dmas place d) within c.lowest-place.ensures.below
-        (get_or_default dmas place d (get_or dmas place d) within) (slot_at d));
+          (get_or_default dmas place d (get_or dmas place d) within) (slot_at d));
       take = λ taken same. taken_at-found c.args.slot dmas taken place same within c.lowest-place.ensures.below slot_at;
     }
 
@@ -26,7 +26,7 @@ returns-else-place-dmas c =
     let above : (d : DmaRecord) → place < length dmas → c.args.slot < (get_or dmas place d).slot =
     elim c.else-place-dmas.branch [
       | else-place-dmas-via-then-place-dmas+else-dmas-place w ↦
-        λ d h. let at = ap (λ (m : DmaRecord). m.slot) (get_or_default dmas place d w.index-dmas-place.result h) in
+          λ d h. let at = ap (λ (m : DmaRecord). m.slot) (get_or_default dmas place d w.index-dmas-place.result h) in
           omega (arith, c.lowest-place.ensures.above place d (omega arith) h, w.if-dmas-place.false)
       | else-place-dmas-via-else-place-dmas w ↦ λ d h. absurd (omega (arith, w.if-place-dmas.false))
     ] in

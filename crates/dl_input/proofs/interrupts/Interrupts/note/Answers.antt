@@ -10,5 +10,5 @@ returns-clause-ok c =
     let within : c.args.thread < length lanes = omega (arith, c.self.invariant, c.requires.thread) in
     rw (← c.self.view_is)
     (on_ok_weaker c.put.result
-      (λ e. ap (held_from 0) e ∙ insert-put lanes c.args.thread c.args.index (record { value = c.args.value; taken = false }) within)
-      c.put.ensures.ok)
+    (λ e. ap (held_from 0) e ∙ insert-put lanes c.args.thread c.args.index (record { value = c.args.value; taken = false }) within)
+    c.put.ensures.ok)

@@ -14,7 +14,7 @@ returns-then-left-lane c =
     let h : t < length lanes = omega (arith, c.self.invariant) in
     let l : left < length lane = rw c.lane-lane.ensures.marks at c.if-left-lane.true in
     let e = c.loop-thread.invariant ∙ (ap (λ (xs : List Held). slice_get xs left) (held_from-next lanes t h)
-      ∙ slice_get-lane lane (held_from (t + 1) (drop (t + 1) lanes)) t left (record { index = 0; value = record { value = 0; taken = false } }) l) in
+    ∙ slice_get-lane lane (held_from (t + 1) (drop (t + 1) lanes)) t left (record { index = 0; value = record { value = 0; taken = false } }) l) in
     rw (e, c.seen.ensures, c.lane-lane.ensures.marks) refl
 
 pub loop-thread-preserved : goal.loop-thread-preserved
@@ -27,4 +27,4 @@ loop-thread-preserved c =
     let l : length lane ≤ left = rw c.lane-lane.ensures.marks at c.if-left-lane.false in
     rw c.lane-lane.ensures.marks
     (c.loop-thread.invariant ∙ (ap (λ (xs : List Held). slice_get xs left) (held_from-next lanes t h)
-      ∙ slice_get-behind lane (held_from (t + 1) (drop (t + 1) lanes)) t left l))
+    ∙ slice_get-behind lane (held_from (t + 1) (drop (t + 1) lanes)) t left l))

@@ -13,7 +13,7 @@ returns-then-not-all_taken c =
     let f = rw c.lane.ensures.marks at c.all_taken.ensures in
     let no : c.all_taken.result ≡ false = search rules in
     sym (c.loop-thread.invariant ∙ (ap (list_all p) (held_from-next lanes t h)
-      ∙ (all-lane (get_or lanes t []) (held_from (t + 1) (drop (t + 1) lanes)) t ∙ rw (← f, no) refl)))
+    ∙ (all-lane (get_or lanes t []) (held_from (t + 1) (drop (t + 1) lanes)) t ∙ rw (← f, no) refl)))
 
 pub loop-thread-preserved : goal.loop-thread-preserved
 loop-thread-preserved c =
@@ -24,4 +24,4 @@ loop-thread-preserved c =
     let f = rw c.lane.ensures.marks at c.all_taken.ensures in
     let yes : c.all_taken.result ≡ true = search rules in
     c.loop-thread.invariant ∙ (ap (list_all p) (held_from-next lanes t h)
-      ∙ (all-lane (get_or lanes t []) (held_from (t + 1) (drop (t + 1) lanes)) t ∙ rw (← f, yes) refl))
+    ∙ (all-lane (get_or lanes t []) (held_from (t + 1) (drop (t + 1) lanes)) t ∙ rw (← f, yes) refl))

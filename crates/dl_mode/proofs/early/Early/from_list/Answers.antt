@@ -16,6 +16,7 @@ loop-short-preserved c =
     let h : k < length list = omega arith in
     let good = c.requires.each k none h in
     let within : x.thread < length lanes = omega (arith, good.0, i.0) in
-    rw c.in_ok-put.ensures.ok
-    (length-set lanes x.thread (with_mark x.index x.size (get_or lanes x.thread _)) ∙ i.0,
-      insert-put lanes x.thread x.index x.size within ∙ (rw i.1 (insert-next list c.requires.rising k x h (get_or_default list k none x h))))
+    rw c.in_ok-put.ensures.ok (
+      length-set lanes x.thread (with_mark x.index x.size (get_or lanes x.thread _)) ∙ i.0,
+      insert-put lanes x.thread x.index x.size within ∙ (rw i.1 (insert-next list c.requires.rising k x h (get_or_default list k none x h))),
+    )

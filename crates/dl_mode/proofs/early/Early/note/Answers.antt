@@ -11,6 +11,6 @@ returns-clause-sizes c =
     rw (← c.self.view_is, c.in-Thread.is)
     (elim c.if-early.branch [
       | then-early+in_ok-put w ↦ rw (w.self-inside-is, w.if-early.true, w.in_ok-put.ensures.ok, c.from.ensures)
-        (insert-put lanes t (get_or c.self.inside.done t 0) c.args.size within)
+          (insert-put lanes t (get_or c.self.inside.done t 0) c.args.size within)
       | else-early w ↦ rw (w.self-inside-is, w.if-early.false) refl
     ])

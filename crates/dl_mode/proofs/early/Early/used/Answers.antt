@@ -15,8 +15,8 @@ returns-then-not-all_below c =
     let f = rw (c.count_of.ensures, c.lane.ensures.marks) at c.all_below.ensures in
     let no : c.all_below.result ≡ false = search rules in
     sym (c.loop-thread.invariant ∙ (ap (list_all p) (sizes_from-next lanes t h)
-      ∙ (all-lane (get_or lanes t []) (sizes_from (t + 1) (drop (t + 1) lanes)) t done
-      ∙ rw (← f, no) refl)))
+    ∙ (all-lane (get_or lanes t []) (sizes_from (t + 1) (drop (t + 1) lanes)) t done
+    ∙ rw (← f, no) refl)))
 
 pub loop-thread-preserved : goal.loop-thread-preserved
 loop-thread-preserved c =
@@ -28,5 +28,5 @@ loop-thread-preserved c =
     let f = rw (c.count_of.ensures, c.lane.ensures.marks) at c.all_below.ensures in
     let yes : c.all_below.result ≡ true = search rules in
     c.loop-thread.invariant ∙ (ap (list_all p) (sizes_from-next lanes t h)
-      ∙ (all-lane (get_or lanes t []) (sizes_from (t + 1) (drop (t + 1) lanes)) t done
-      ∙ rw (← f, yes) refl))
+    ∙ (all-lane (get_or lanes t []) (sizes_from (t + 1) (drop (t + 1) lanes)) t done
+    ∙ rw (← f, yes) refl))

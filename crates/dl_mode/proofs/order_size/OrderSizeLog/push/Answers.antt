@@ -9,4 +9,4 @@ invariant_of-self-2 c =
     let few : length c.self.inside.order.items < 2 ^ 24 = omega (arith, count, c.requires.commits) in
     rw (c.push_reserved.ensures.items, c.push_reserved-2.ensures.items, c.reserve.ensures.items, c.reserve-2.ensures.items)
     (IsWhole-noted c.self.inside.order.items c.self.inside.sizes.items c.self.inside.threads c.note.new.self c.args.actor c.args.size
-      c.self.invariant c.requires.actor few c.in_ok-note.ensures.sizes c.in_ok-note.ensures.done)
+    c.self.invariant c.requires.actor few c.in_ok-note.ensures.sizes c.in_ok-note.ensures.done)

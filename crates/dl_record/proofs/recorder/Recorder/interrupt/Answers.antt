@@ -15,17 +15,19 @@ pub invariant_of-self : goal.invariant_of-self
 invariant_of-self g c =
     let entries = c.self.inside.interrupts.entries in
     let new = new_held c.args.thread c.args.index c.args.value in
-    let i = c.self.invariant in
-    (elim (either c.note.result c.note.ensures.ok c.note.ensures.err) [
-      | inl e ↦ rw (e, insert-map new entries)
-        (IsRecording-interrupt g.M.Mode.mode (g.M.Mode.logged c.self.inside.log).kept (map interrupt_of entries) c.self.inside.inputs.inputs c.self.inside.dmas.dmas
-          (interrupt c.args.thread c.args.index c.args.value) i.0 (c.requires.thread, c.ranges.index.fits, c.ranges.value.fits) c.requires.index)
-      | inr e ↦ rw e i.0
-    ], i.1)
+    let i = c.self.invariant in (
+      elim (either c.note.result c.note.ensures.ok c.note.ensures.err) [
+        | inl e ↦ rw (e, insert-map new entries)
+            (IsRecording-interrupt g.M.Mode.mode (g.M.Mode.logged c.self.inside.log).kept (map interrupt_of entries) c.self.inside.inputs.inputs c.self.inside.dmas.dmas
+            (interrupt c.args.thread c.args.index c.args.value) i.0 (c.requires.thread, c.ranges.index.fits, c.ranges.value.fits) c.requires.index)
+        | inr e ↦ rw e i.0
+      ],
+      i.1,
+    )
 
 pub returns-clause-ok : goal.returns-clause-ok
 returns-clause-ok g c =
     let entries = c.self.inside.interrupts.entries in
     rw (← c.self.view_is)
     (on_ok_weaker c.note.result
-      (λ e. ap (map interrupt_of) e ∙ insert-map (new_held c.args.thread c.args.index c.args.value) entries) c.note.ensures.ok)
+    (λ e. ap (map interrupt_of) e ∙ insert-map (new_held c.args.thread c.args.index c.args.value) entries) c.note.ensures.ok)
