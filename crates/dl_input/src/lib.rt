@@ -5,6 +5,8 @@ mod copied;
 mod dmas;
 mod inputs;
 mod interrupts;
+#[cfg(test)]
+mod tests;
 
 pub use dmas::Dmas;
 pub use inputs::Inputs;

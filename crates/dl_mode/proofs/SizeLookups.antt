@@ -6,13 +6,16 @@ use Rattle.std.proofs.lemmas.List.{length_push, length-set, get_or-set_same, get
 use Rattle.dl_entry.specs.declared.actor.Actor.{Actor}
 use Rattle.dl_entry.specs.declared.actor.Actor.TheVariants.{Thread, Dma}
 use Rattle.spec_log.specs.declared.sizes.ShortSize.{ShortSize}
-use Rattle.spec_log.specs.Noting.{Kept, noted, insert_size, short_with, done_with}
-use Rattle.spec_log.specs.Log.{IsActor}
+use Rattle.spec_log.specs.Noting.{Kept, nothing_kept, noted, insert_size, short_with, done_with}
+use Rattle.spec_log.specs.Log.{IsActor, IsSection, IsShortSize, ComesBefore}
+use Rattle.std.proofs.lemmas.List.Elements.{All-nil}
+use Rattle.dl_mode.specs.Lists.{AreLists, lists_of}
+use Rattle.spec_log.specs.declared.mode_name.ModeName.{ModeName}
 use Rattle.spec_log.specs.Reading.{is_earlier}
 use Rattle.spec_log.specs.Size.{is_thread, sizes_of_thread}
 use Rattle.dl_mode.specs.Early.{EarlySizes, size_among}
 use Rattle.dl_mode.specs.Whole.{IsWhole}
-use Rattle.spec_log.specs.declared.mode_name.ModeName.TheVariants.{OrderSize}
+use Rattle.spec_log.specs.declared.mode_name.ModeName.TheVariants.{OrderSize, OrderOnly, Picolog}
 use Rattle.spec_log.specs.declared.sizes.Sizes.TheVariants as Sizes
 
 abbrev Is : ℕ → ℕ → ShortSize → Bool
@@ -173,3 +176,15 @@ Begun-more s i order sizes kept new d h l b e =
       sizes_are = rw (e, b.sizes_are) (ap Sizes.Each (sym (take_more sizes i 0 l)));
       few = rw e (done_with-few kept.done (get_or order i d) i b.few);
     }
+
+-- the lists of no commit
+no_sizes-section : IsSection (IsShortSize 100) (λ x y. ComesBefore x.thread x.index y.thread y.index) []
+no_sizes-section = record { few = omega arith; each = All-nil (IsShortSize 100); rising = λ k d h. absurd (omega arith) }
+
+pub nothing-lists : (mode : ModeName) → AreLists mode (lists_of mode (nothing_kept mode 100))
+nothing-lists OrderSize =
+    record { is_mode = refl; s = (omega arith, omega arith); count = omega arith; order = (refl, All-nil IsActor); sizes = (refl, All-nil (λ size. size ≤ 100)) }
+nothing-lists OrderOnly =
+    record { is_mode = refl; s = (omega arith, omega arith); count = omega arith; order = (refl, All-nil IsActor); sizes = no_sizes-section }
+nothing-lists Picolog =
+    record { is_mode = refl; s = (omega arith, omega arith); count = omega arith; order = refl; sizes = no_sizes-section }

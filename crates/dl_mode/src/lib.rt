@@ -7,6 +7,8 @@ mod mode;
 mod order_only;
 mod order_size;
 mod picolog;
+#[cfg(test)]
+mod tests;
 
 pub use lists::Lists;
 pub use mode::Mode;

@@ -2,5 +2,7 @@
 #![tactic(auto)]
 
 mod recorder;
+#[cfg(test)]
+mod tests;
 
 pub use recorder::Recorder;

@@ -1,9 +1,9 @@
-use Rattle.std.proofs.Common.{◌≡◌, ◌<◌, length, ◌∙◌, ap, arith}
+use Rattle.std.proofs.Common.{◌<◌, length, ◌∙◌, ap, arith}
 use Rattle.std.proofs.lemmas.Grind.{common_steps}
 use Rattle.dl_moments.specs.Held.{By}
 use Rattle.std.proofs.lemmas.List.{length-set}
 use Rattle.std.proofs.lemmas.Bool.{false≢true}
-use Rattle.dl_moments.proofs.Lanes.{Roomy, same_lane, Roomy-more, Roomy-set, all_room, room_at}
+use Rattle.dl_moments.proofs.Lanes.{same_lane, Roomy-more, Roomy-set, all_room, room_at}
 use Rattle.dl_moments.proofs.moments.Moments.reserve.Goals as goal
 
 pub loop-thread-preserved : goal.loop-thread-preserved

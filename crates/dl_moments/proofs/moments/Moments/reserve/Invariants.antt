@@ -1,4 +1,4 @@
-use Rattle.std.proofs.Common.{◌≡◌, ◌≤◌, true, length, map}
+use Rattle.std.proofs.Common.{◌≡◌, true, length, map}
 use Rattle.dl_moments.proofs.Lanes.{marks_of, Roomy}
 use Rattle.dl_moments.proofs.moments.Moments.reserve.Given as goal
 

@@ -1,4 +1,4 @@
-use Rattle.std.proofs.Common.{◌≡◌, ◌<◌, length, arith}
+use Rattle.std.proofs.Common.{◌<◌, length, arith}
 use Rattle.dl_moments.specs.Marks.{with_mark_if}
 use Rattle.dl_moments.proofs.Lanes.{changed_lane}
 use Rattle.dl_moments.proofs.moments.Moments.set.Goals as goal
