@@ -249,21 +249,21 @@ committed-stands k short p q log qlog t u made c o d s =
     record {
       count = n.count ∙ (let a = s.count in let b = d.position_ in omega arith);
       order = subst (λ (m : ModeName). OrderStands m qlog.order (position q.progress) q.threads) (sym n.mode)
-      (subst (λ (as_ : List Actor). OrderStands log.mode as_ (position q.progress) q.threads) (sym n.order)
-      (subst (λ (x : ℕ). OrderStands log.mode (with_actor log.mode (Actor.Thread k) log.order) x q.threads) (sym d.position_)
-      (order_stands log.mode k log.order (position p.progress) p.threads q.threads t g s.order)));
+          (subst (λ (as_ : List Actor). OrderStands log.mode as_ (position q.progress) q.threads) (sym n.order)
+          (subst (λ (x : ℕ). OrderStands log.mode (with_actor log.mode (Actor.Thread k) log.order) x q.threads) (sym d.position_)
+          (order_stands log.mode k log.order (position p.progress) p.threads q.threads t g s.order)));
       sizes = subst (λ (m : ModeName). SizesStand m qlog.sizes (position q.progress) q.threads) (sym n.mode)
-      (subst (λ (z : Sizes). SizesStand log.mode z (position q.progress) q.threads) (sym n.sizes)
-      (subst (λ (x : ℕ). SizesStand log.mode (with_size log.sizes (Actor.Thread k) t.commits c.size short) x q.threads) (sym d.position_)
-      (sizes_stand log.mode log.sizes k short c.size (position p.progress) p.threads q.threads t g s.sizes)));
+          (subst (λ (z : Sizes). SizesStand log.mode z (position q.progress) q.threads) (sym n.sizes)
+          (subst (λ (x : ℕ). SizesStand log.mode (with_size log.sizes (Actor.Thread k) t.commits c.size short) x q.threads) (sym d.position_)
+          (sizes_stand log.mode log.sizes k short c.size (position p.progress) p.threads q.threads t g s.sizes)));
       past = λ j i l. ints j i ∙ s.past j i (let h = grown_least k p.threads q.threads t j g in omega arith);
       absent = λ j i e. ints j i ∙ s.absent j i (set_none p.threads k j u (append_none (set p.threads k u) made j (ap (λ (ts : List Parts). slice_get ts j) (sym d.threads) ∙ e)));
       unmasked = λ j x e open_. ints j x.commits ∙ elim (get_cases (set p.threads k u) made j x (ap (λ (ts : List Parts). slice_get ts j) (sym d.threads) ∙ e)) [
         | inl there ↦ elim (cases_eq j k) [
           | inl jk ↦ (
-            let ux : u ≡ x = (let h : Some u ≡ Some x = sym (get-set_same p.threads k u t d.start) ∙ ap (slice_get (set p.threads k u)) (sym jk) ∙ there in cc) in
-            s.past j x.commits (let a = ap commits_if (ap (slice_get p.threads) jk ∙ d.start) in let b = ap (λ (y : Parts). y.commits) ux in let h = d.commits in omega arith)
-          )
+              let ux : u ≡ x = (let h : Some u ≡ Some x = sym (get-set_same p.threads k u t d.start) ∙ ap (slice_get (set p.threads k u)) (sym jk) ∙ there in cc) in
+              s.past j x.commits (let a = ap commits_if (ap (slice_get p.threads) jk ∙ d.start) in let b = ap (λ (y : Parts). y.commits) ux in let h = d.commits in omega arith)
+              )
           | inr ne ↦ s.unmasked j x (sym (get-set_other p.threads k j u ne) ∙ there) open_
         ]
         | inr born ↦ s.absent j x.commits (set_none p.threads k j u born.0)
