@@ -1,7 +1,7 @@
 //! What the devices answer to each want, as the record that it leaves. Memory is taken before a device changes.
-ghost use Rattle.std.specs.Prelude.{◌≡◌, ◌≤◌, ◌<◌, length, []};
+ghost use Rattle.std.specs.Prelude.{◌≡◌, ◌≢◌, ◌≤◌, ◌<◌, false, length, [], Some, IsOk};
 ghost use Rattle.spec_kernel.specs.Answers.{answer, answer_write, answer_read, answer_random, answer_moment, answer_input, went};
-ghost use Rattle.dl_kernel.specs.Outside.{Leaves};
+ghost use Rattle.dl_kernel.specs.Outside.{Leaves, wants_memory};
 ghost use Rattle.dl_kernel.specs.Wants.{wanted, IsShort};
 
 use crate::need::Want;
@@ -32,7 +32,8 @@ pub(crate) fn answer(
     moment: u32,
 ) -> Result<Input, OutOfMemory>
     requires { IsShort want }
-    ensures { Leaves result devices.old devices.new (answer devices.old (wanted want.entry) moment) }
+    ensures left { Leaves result devices.old devices.new (answer devices.old (wanted want.entry) moment) }
+    ensures plenty { wants_memory (Some (wanted want.entry)) ≡ false → IsOk result }
 {
     match want {
         Want::Write { channel, bytes } => write(alloc, devices, channel, bytes),
@@ -73,7 +74,8 @@ fn write(
     bytes: &[u8],
 ) -> Result<Input, OutOfMemory>
     requires { length bytes.now ≤ 4096 }
-    ensures { Leaves result devices.old devices.new (answer_write devices.old channel bytes.now) }
+    ensures left { Leaves result devices.old devices.new (answer_write devices.old channel bytes.now) }
+    ensures plenty { channel ≢ 8 → IsOk result }
 {
     let len = bytes.len() as u32;
     if channel < 8 {

@@ -1,7 +1,7 @@
 //! Outside calls and device loads.
-ghost use Rattle.std.specs.Prelude.{◌≡◌, IfOk, OnOk, OnErr};
+ghost use Rattle.std.specs.Prelude.{◌≡◌, false, IfOk, IsOk, OnOk, OnErr};
 ghost use Rattle.spec_kernel.specs.Needs.{need};
-ghost use Rattle.dl_kernel.specs.Outside.{record_left, devices_left};
+ghost use Rattle.dl_kernel.specs.Outside.{record_left, devices_left, wants_memory};
 
 use crate::answering::answer;
 use crate::need::need;
@@ -24,6 +24,7 @@ pub fn outside_call(
     ensures left { IfOk result (λ input. input ≡ record_left moment devices.old (need thread.now memory.now)) }
     ensures devices { OnOk result (devices.new ≡ devices_left moment devices.old (need thread.now memory.now)) }
     ensures refused { OnErr result (devices.new ≡ devices.old) }
+    ensures plenty { wants_memory (need thread.now memory.now) ≡ false → IsOk result }
 {
     match need(thread, memory) {
         None => Ok(None),
