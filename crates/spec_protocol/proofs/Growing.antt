@@ -157,12 +157,12 @@ committed-parts k short p q log qlog t u made c o d =
     }
 
 -- how the commits have grown: the thread's by one, and no other's
-record Grows (k : ℕ) (ts us : List Parts) (t : Parts) : Type 0 where
-  same : commits_in us k ≡ suc t.commits
-  was : commits_in ts k ≡ t.commits
-  other : (j : ℕ) → j ≢ k → commits_in us j ≡ commits_in ts j
+pub record Grows (k : ℕ) (ts us : List Parts) (t : Parts) : Type 0 where
+  pub same : commits_in us k ≡ suc t.commits
+  pub was : commits_in ts k ≡ t.commits
+  pub other : (j : ℕ) → j ≢ k → commits_in us j ≡ commits_in ts j
 
-grows_of : (k : ℕ) (short : Bool) (p q : Sphere) (log qlog : LogParts) (t u : Parts) (made : List Parts) (c : Commit) (o : Option Input) → Committed k short p q log qlog t u made c o → Grows k p.threads q.threads t
+pub grows_of : (k : ℕ) (short : Bool) (p q : Sphere) (log qlog : LogParts) (t u : Parts) (made : List Parts) (c : Commit) (o : Option Input) → Committed k short p q log qlog t u made c o → Grows k p.threads q.threads t
 grows_of k short p q log qlog t u made c o d =
     record {
       same = ap (λ (ts : List Parts). commits_in ts k) d.threads ∙ commits-same p.threads made k t u d.start ∙ d.commits ∙ omega arith;
@@ -170,7 +170,7 @@ grows_of k short p q log qlog t u made c o d =
       other = λ j ne. ap (λ (ts : List Parts). commits_in ts j) d.threads ∙ commits-other p.threads made k j u d.new ne;
     }
 
-grown_least : (k : ℕ) (ts us : List Parts) (t : Parts) (j : ℕ) → Grows k ts us t → commits_in ts j ≤ commits_in us j
+pub grown_least : (k : ℕ) (ts us : List Parts) (t : Parts) (j : ℕ) → Grows k ts us t → commits_in ts j ≤ commits_in us j
 grown_least k ts us t j g =
     elim (cases_eq j k) [
       | inl e ↦ subst (λ (n : ℕ). commits_in ts n ≤ commits_in us n) (sym e) (let a = g.same in let b = g.was in omega arith)

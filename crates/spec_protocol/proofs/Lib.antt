@@ -25,3 +25,4 @@ pub mod Keeping
 pub mod Lookups
 pub mod Answering
 pub mod Growing
+pub mod Coming
