@@ -219,12 +219,12 @@ sizes_stand ModeName.Picolog (Sizes.Short xs) k true size n ts us t g s = shorts
 sizes_stand ModeName.Picolog (Sizes.Short xs) k false size n ts us t g s = shorts_kept k xs ts us t g s
 
 -- a thread that is there after the commit: the committer, one that was there, or a new one
-get_cases : (ts made : List Parts) (j : ℕ) (x : Parts) → slice_get (ts ++ made) j ≡ Some x → (slice_get ts j ≡ Some x) ⊎ ((slice_get ts j ≡ None) × ((i : ℕ) × (slice_get made i ≡ Some x)))
+pub get_cases : (ts made : List Parts) (j : ℕ) (x : Parts) → slice_get (ts ++ made) j ≡ Some x → (slice_get ts j ≡ Some x) ⊎ ((slice_get ts j ≡ None) × ((i : ℕ) × (slice_get made i ≡ Some x)))
 get_cases [] made j x e = inr (refl, (j, e))
 get_cases (t ∷ ts) made zero x e = inl e
 get_cases (t ∷ ts) made (suc j) x e = get_cases ts made j x e
 
-new_is : (made : List Parts) (i : ℕ) (x : Parts) → AreNew made → slice_get made i ≡ Some x → IsNew x
+pub new_is : (made : List Parts) (i : ℕ) (x : Parts) → AreNew made → slice_get made i ≡ Some x → IsNew x
 new_is [] i x new e = absurd (none-some x e)
 new_is (m ∷ made) zero x new e = subst IsNew (let h : m ≡ x = cc in h) new.0
 new_is (m ∷ made) (suc i) x new e = new_is made i x new.1 e

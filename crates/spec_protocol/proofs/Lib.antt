@@ -26,3 +26,4 @@ pub mod Lookups
 pub mod Answering
 pub mod Growing
 pub mod Coming
+pub mod Following
