@@ -1,7 +1,7 @@
 -- What a recorded log becomes: at each moment it is behind what it has, and what it says of the next commits is to come.
-use Rattle.std.proofs.Common.{◌≡◌, ◌≢◌, ℕ, zero, suc, ◌+◌, ◌<◌, ◌≤◌, ◌⊎◌, inl, inr, Bool, true, false, not, ◌&&◌, eqb, cond, List, [], ◌∷◌, ◌++◌, length, Option, Some, None, refl, sym, ap, ◌∙◌, subst, arith, set}
+use Rattle.std.proofs.Common.{◌≡◌, ℕ, zero, suc, ◌<◌, inl, inr, Bool, true, false, List, [], ◌∷◌, ◌++◌, length, Option, Some, None, refl, sym, ap, ◌∙◌, subst, arith, set}
 use Rattle.std.specs.Prelude.{slice_get}
-use Rattle.std.proofs.lemmas.Bool.{true≢false, cases_eq, and_parts, not-true}
+use Rattle.std.proofs.lemmas.Bool.{true≢false, cases_eq}
 use Rattle.std.proofs.lemmas.List.{append_assoc, append-nil, length-append}
 use Rattle.std.proofs.lemmas.Option.{none-some}
 use Rattle.dl_entry.specs.declared.Actor.{Actor}
@@ -14,15 +14,15 @@ use Rattle.spec_log.specs.declared.Interrupt.{Interrupt}
 use Rattle.spec_log.specs.declared.ShortSize.{ShortSize}
 use Rattle.spec_log.specs.declared.Sizes.{Sizes}
 use Rattle.spec_log.specs.declared.LogParts.{LogParts}
-use Rattle.spec_kernel.specs.Interrupts.{is_live, has_handler, takes_interrupt, interrupted}
+use Rattle.spec_kernel.specs.Interrupts.{takes_interrupt, interrupted}
 use Rattle.spec_play.specs.Effects.{dma_commit}
 use Rattle.spec_play.specs.Progress.{position}
 use Rattle.spec_play.specs.Verdicts.{interrupt_at}
 use Rattle.spec_play.specs.Recording.{with_actor, with_short, with_size, noted, input_noted, dma_noted, interrupt_noted}
 use Rattle.spec_protocol.specs.Spheres.{Sphere}
 use Rattle.spec_protocol.proofs.Moving.{get-set_other, get-set_same, get-append}
-use Rattle.spec_protocol.proofs.Lookups.{short_at, short-other, raised_to, interrupt-other, interrupt-same, count_of, count-append, SlotsBelow, SlotsFrom, SlotsFrom_less, SlotsBelow_more, SlotsBelow-push}
-use Rattle.spec_protocol.proofs.Growing.{commits_if, commits_in, OrderStands, SizesStand, Stands, SizesAhead, Behind, DmasBehind, Ahead, Committed, Parts', committed-parts, Grows, grows_of, grown_least}
+use Rattle.spec_protocol.proofs.Lookups.{short_at, short-other, interrupt-other, count_of, count-append, SlotsBelow, SlotsFrom, SlotsFrom_less, SlotsBelow_more, SlotsBelow-push}
+use Rattle.spec_protocol.proofs.Growing.{commits_if, commits_in, OrderStands, SizesStand, Stands, SizesAhead, Behind, Ahead, Committed, committed-parts, Grows, grows_of, grown_least}
 
 -- ---- lists that grow
 
@@ -87,9 +87,9 @@ committed-ahead L k short p q log qlog t u made c o d a =
       past = λ j i l. a.past j i (let h = grown_least k p.threads q.threads t j g in omega arith) ∙ ints j i;
       next = λ j x e. elim (cases_eq j k) [
         | inl jk ↦ (
-          let tx : t ≡ x = (let h : Some t ≡ Some x = sym d.start ∙ ap (slice_get p.threads) (sym jk) ∙ e in cc) in
-          inl (a.past j x.commits (subst (λ (m : ℕ). x.commits < commits_in q.threads m) (sym jk) (let h = g.same in let w = ap (λ (y : Parts). y.commits) tx in omega arith)) ∙ ints j x.commits)
-        )
+            let tx : t ≡ x = (let h : Some t ≡ Some x = sym d.start ∙ ap (slice_get p.threads) (sym jk) ∙ e in cc) in
+            inl (a.past j x.commits (subst (λ (m : ℕ). x.commits < commits_in q.threads m) (sym jk) (let h = g.same in let w = ap (λ (y : Parts). y.commits) tx in omega arith)) ∙ ints j x.commits)
+            )
         | inr ne ↦ elim (a.next j x (ap (λ (ts : List Parts). slice_get ts j) d.threads ∙ get-append (set p.threads k u) made j x (get-set_other p.threads k j u ne ∙ e))) [
           | inl h ↦ inl (h ∙ ints j x.commits)
           | inr takes ↦ inr takes
@@ -162,7 +162,7 @@ transferred-ahead L p q log qlog bytes d b =
       next = λ j x e. a.next j x (ap (λ (ts : List Parts). slice_get ts j) d.threads ∙ e);
       inputs = a.inputs;
       dmas = let c = a.dmas in
-      (record { slot = position p.progress; bytes = bytes } ∷ c.0, c.1 ∙ append_assoc log.dmas _ c.0, (omega arith, SlotsFrom_less (position q.progress) (position p.progress) c.0 (let h = d.position_ in omega arith) c.2));
+          (record { slot = position p.progress; bytes = bytes } ∷ c.0, c.1 ∙ append_assoc log.dmas _ c.0, (omega arith, SlotsFrom_less (position q.progress) (position p.progress) c.0 (let h = d.position_ in omega arith) c.2));
     }
 
 -- ---- an interrupt
@@ -215,18 +215,18 @@ raised-stands k value p q log qlog t d s =
       order = raised_order log.mode log.order (position q.progress) p.threads q.threads same (subst (λ (n : ℕ). OrderStands log.mode log.order n p.threads) (ap position (sym d.progress)) s.order);
       sizes = raised_sizes log.mode log.sizes (position q.progress) p.threads q.threads same (subst (λ (n : ℕ). SizesStand log.mode log.sizes n p.threads) (ap position (sym d.progress)) s.sizes);
       past = λ j i h.
-      let less : commits_in p.threads j < i = (let e = same j in omega arith) in
-      interrupt-other log.interrupts k t.commits value j i (λ e f. let w = subst (λ (n : ℕ). commits_in p.threads n ≡ t.commits) e was in omega arith) ∙ s.past j i less;
+          let less : commits_in p.threads j < i = (let e = same j in omega arith) in
+          interrupt-other log.interrupts k t.commits value j i (λ e f. let w = subst (λ (n : ℕ). commits_in p.threads n ≡ t.commits) e was in omega arith) ∙ s.past j i less;
       absent = λ j i e.
-      let none : slice_get p.threads j ≡ None = set_none p.threads k j (interrupted value t) (ap (λ (ts : List Parts). slice_get ts j) (sym d.threads) ∙ e) in
-      interrupt-other log.interrupts k t.commits value j i (λ kj f. none-some t (sym none ∙ ap (slice_get p.threads) (sym kj) ∙ d.start)) ∙ s.absent j i none;
+          let none : slice_get p.threads j ≡ None = set_none p.threads k j (interrupted value t) (ap (λ (ts : List Parts). slice_get ts j) (sym d.threads) ∙ e) in
+          interrupt-other log.interrupts k t.commits value j i (λ kj f. none-some t (sym none ∙ ap (slice_get p.threads) (sym kj) ∙ d.start)) ∙ s.absent j i none;
       unmasked = λ j x e m. elim (cases_eq j k) [
         | inl jk ↦ (
-          let ix : interrupted value t ≡ x = (let h : Some (interrupted value t) ≡ Some x = sym (get-set_same p.threads k (interrupted value t) t d.start) ∙ ap (slice_get (set p.threads k (interrupted value t))) (sym jk) ∙ ap (λ (ts : List Parts). slice_get ts j) (sym d.threads) ∙ e in cc) in
-          absurd (true≢false (ap (λ (y : Parts). y.mask) ix ∙ m))
-        )
+            let ix : interrupted value t ≡ x = (let h : Some (interrupted value t) ≡ Some x = sym (get-set_same p.threads k (interrupted value t) t d.start) ∙ ap (slice_get (set p.threads k (interrupted value t))) (sym jk) ∙ ap (λ (ts : List Parts). slice_get ts j) (sym d.threads) ∙ e in cc) in
+            absurd (true≢false (ap (λ (y : Parts). y.mask) ix ∙ m))
+            )
         | inr ne ↦ interrupt-other log.interrupts k t.commits value j x.commits (λ kj f. ne (sym kj))
-        ∙ s.unmasked j x (sym (get-set_other p.threads k j (interrupted value t) ne) ∙ ap (λ (ts : List Parts). slice_get ts j) (sym d.threads) ∙ e) m
+            ∙ s.unmasked j x (sym (get-set_other p.threads k j (interrupted value t) ne) ∙ ap (λ (ts : List Parts). slice_get ts j) (sym d.threads) ∙ e) m
       ];
       dmas = subst (λ (n : ℕ). SlotsBelow n log.dmas) (ap position (sym d.progress)) s.dmas;
     })
@@ -250,7 +250,7 @@ raised-ahead L k value p q log qlog t d b =
       order = a.order;
       sizes = raised_sizes_ahead L.sizes log.sizes p.threads q.threads same a.sizes;
       past = λ j i h.
-      a.past j i (let e = same j in omega arith) ∙ interrupt-other log.interrupts k t.commits value j i (λ e f. let w = subst (λ (n : ℕ). commits_in p.threads n ≡ t.commits) e was in omega arith);
+          a.past j i (let e = same j in omega arith) ∙ interrupt-other log.interrupts k t.commits value j i (λ e f. let w = subst (λ (n : ℕ). commits_in p.threads n ≡ t.commits) e was in omega arith);
       next = λ j x e. elim (cases_eq j k) [
         | inl jk ↦ inr (let h : t ≡ x = (let o : Some t ≡ Some x = sym d.start ∙ ap (slice_get p.threads) (sym jk) ∙ e in cc) in ap takes_interrupt (sym h) ∙ d.takes)
         | inr ne ↦ elim (a.next j x (ap (λ (ts : List Parts). slice_get ts j) d.threads ∙ get-set_other p.threads k j (interrupted value t) ne ∙ e)) [

@@ -1,36 +1,31 @@
 -- The play of a recorded log follows the recording, commit by commit: only that an interrupt, which came some time after a
 -- commit, comes with it in the play.
-use Rattle.std.proofs.Common.{◌≡◌, ◌≢◌, ℕ, zero, suc, ◌+◌, ◌<◌, ◌≤◌, ◌⊎◌, inl, inr, Bool, true, false, not, ◌&&◌, eqb, cond, List, [], ◌∷◌, ◌++◌, length, map, Option, Some, None, refl, sym, ap, ◌∙◌, subst, arith, set}
-use Rattle.std.specs.Prelude.{slice_get, nat_lt, option_map}
-use Rattle.std.proofs.Math.ListN.{length-set}
-use Rattle.std.proofs.lemmas.Bool.{true≢false, cases_eq, and_left, and_right, lt-ltb, le-ltb}
-use Rattle.std.proofs.lemmas.List.{length-append, append_assoc}
+use Rattle.std.proofs.Common.{◌≡◌, ◌≢◌, ℕ, zero, suc, ◌+◌, ◌<◌, ◌≤◌, Bool, true, false, not, ◌&&◌, eqb, cond, List, [], ◌∷◌, ◌++◌, length, map, Option, Some, None, refl, sym, ap, ◌∙◌, arith, set}
+use Rattle.std.specs.Prelude.{slice_get, option_map}
+use Rattle.std.proofs.lemmas.Bool.{and_left, and_right, lt-ltb}
+use Rattle.std.proofs.lemmas.List.{append_assoc}
 use Rattle.std.proofs.lemmas.Option.{none-some}
 use Rattle.dl_entry.specs.declared.Actor.{Actor}
-use Rattle.dl_entry.specs.declared.Commit.{Commit}
-use Rattle.dl_entry.specs.declared.Input.{Input}
 use Rattle.dl_entry.specs.declared.Why.{Why}
 use Rattle.spec_isa.specs.declared.thread.Parts.{Parts}
 use Rattle.spec_isa.specs.Words.{lays}
 use Rattle.spec_log.specs.declared.ModeName.{ModeName}
-use Rattle.spec_log.specs.declared.DmaRecord.{DmaRecord}
 use Rattle.spec_log.specs.declared.Interrupt.{Interrupt}
 use Rattle.spec_log.specs.declared.LogParts.{LogParts}
-use Rattle.spec_log.specs.Head.{turn, is_slot, head_by_turn, head_in, head}
+use Rattle.spec_log.specs.Head.{turn, is_slot, head_by_turn, head_in}
 use Rattle.spec_kernel.specs.Interrupts.{is_live, has_handler, takes_interrupt, interrupted}
 use Rattle.spec_kernel.specs.Needs.{next_kind}
 use Rattle.spec_kernel.specs.Calls.{has_ended}
 use Rattle.spec_play.specs.Effects.{Effect}
 use Rattle.spec_play.specs.Progress.{Progress, position, with_effect, Used, with_interrupt}
-use Rattle.spec_play.specs.Turns.{Now, Turn, turn_of, turn_of_thread, next_actor, at_end, has_left_over, now_at}
-use Rattle.spec_play.specs.Verdicts.{Verdict, Goes, Fails, interrupt_at, with_interrupted, ended}
+use Rattle.spec_play.specs.Turns.{Turn, turn_of, turn_of_thread, next_actor, at_end, has_left_over, now_at}
+use Rattle.spec_play.specs.Verdicts.{Goes, Fails, interrupt_at, with_interrupted, ended}
 use Rattle.spec_play.specs.Recording.{with_actor}
-use Rattle.spec_play.specs.Plays.{Played, with_threads, settled, thread_verdict, play_thread, play_now, play_one}
+use Rattle.spec_play.specs.Plays.{Played, thread_verdict}
 use Rattle.spec_protocol.specs.Spheres.{Sphere}
-use Rattle.spec_protocol.proofs.Moving.{get-set_other, get-set_same, get-append}
-use Rattle.spec_protocol.proofs.Keeping.{IsNew, AreNew, LookAlike}
-use Rattle.spec_protocol.proofs.Lookups.{get-behind, SlotsBelow, SlotsFrom, no_slot}
-use Rattle.spec_protocol.proofs.Growing.{commits_if, commits_in, OrderStands, Stands, Behind, DmasBehind, Ahead, Committed, Parts', committed-parts, get_cases, new_is}
+use Rattle.spec_protocol.proofs.Keeping.{IsNew, LookAlike}
+use Rattle.spec_protocol.proofs.Lookups.{get-behind}
+use Rattle.spec_protocol.proofs.Growing.{OrderStands, Behind}
 
 -- ---- an interrupt that comes with its commit
 
@@ -151,8 +146,8 @@ look-alike L p log y f =
     record {
       size = f.size;
       ended = λ j. ended_if (slice_get y.threads j) (slice_get p.threads j)
-      (λ t e. (early L.interrupts log.interrupts j t, f.threads j t e, early_lives (interrupt_at log.interrupts j t.commits) (interrupt_at L.interrupts j t.commits) t))
-      (λ e. past_end y.threads p.threads j f.size e);
+          (λ t e. (early L.interrupts log.interrupts j t, f.threads j t e, early_lives (interrupt_at log.interrupts j t.commits) (interrupt_at L.interrupts j t.commits) t))
+          (λ e. past_end y.threads p.threads j f.size e);
     }
 
 -- ---- whose turn it is
@@ -185,7 +180,7 @@ pub record Effects (L : LogParts) (k : ℕ) (p q : Sphere) (qlog : LogParts) (t 
   pub turn_ : L.mode ≡ ModeName.Picolog → turn p.progress.last (map is_live p.threads) ≡ Some k
   pub verdict : thread_verdict L y k t (next_kind t y.memory) ≡ ended L k e (record y.used { inputs = length qlog.inputs })
 
-get_past : (ts us made : List Parts) (j : ℕ) (x : Parts) → length us ≡ length ts → slice_get ts j ≡ None → slice_get (ts ++ made) j ≡ Some x → slice_get (us ++ made) j ≡ Some x
+pub get_past : (ts us made : List Parts) (j : ℕ) (x : Parts) → length us ≡ length ts → slice_get ts j ≡ None → slice_get (ts ++ made) j ≡ Some x → slice_get (us ++ made) j ≡ Some x
 get_past [] [] made j x size none e = e
 get_past [] (u ∷ us) made j x size none e = absurd (omega arith)
 get_past (t ∷ ts) [] made j x size none e = absurd (omega arith)
@@ -193,19 +188,19 @@ get_past (t ∷ ts) (u ∷ us) made zero x size none e = absurd (none-some t (sy
 get_past (t ∷ ts) (u ∷ us) made (suc j) x size none e = get_past ts us made j x (omega arith) none e
 
 -- a new thread takes no interrupt
-new_takes_none : (x : Parts) → IsNew x → takes_interrupt x ≡ false
+pub new_takes_none : (x : Parts) → IsNew x → takes_interrupt x ≡ false
 new_takes_none x new =
     and_left (is_live x && has_handler x) (not x.mask) (and_right (is_live x) (has_handler x) (ap (λ (n : ℕ). not (eqb n 0)) new.handler))
 
 -- the effect with the interrupt that comes with it, and what is used then
-abbrev early_effect : Option ℕ → Effect → Effect
+abbrev pub early_effect : Option ℕ → Effect → Effect
 early_effect None e = e
 early_effect (Some v) e = record e { thread = interrupted v e.thread }
 
-abbrev early_used : Option ℕ → Used → Used
+abbrev pub early_used : Option ℕ → Used → Used
 early_used None u = u
 early_used (Some v) u = with_interrupt u
 
-goes_so : (o : Option ℕ) (e : Effect) (u : Used) → ((v : ℕ) → o ≡ Some v → takes_interrupt e.thread ≡ true) → with_interrupted o e u ≡ Goes (early_effect o e) (early_used o u)
+pub goes_so : (o : Option ℕ) (e : Effect) (u : Used) → ((v : ℕ) → o ≡ Some v → takes_interrupt e.thread ≡ true) → with_interrupted o e u ≡ Goes (early_effect o e) (early_used o u)
 goes_so None e u takes = refl
 goes_so (Some v) e u takes = ap (λ (b : Bool). cond b (Goes (record e { thread = interrupted v e.thread }) (with_interrupt u)) (Fails Why.Interrupt)) (takes v refl)

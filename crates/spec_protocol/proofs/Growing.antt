@@ -1,9 +1,8 @@
 -- How a recorded log grows: what it has of the past stays, and what is to come stands behind.
-use Rattle.std.proofs.Common.{◌≡◌, ◌≢◌, ℕ, zero, suc, ◌+◌, ◌<◌, ◌≤◌, ◌⊎◌, inl, inr, Bool, true, false, not, ◌&&◌, eqb, cond, List, [], ◌∷◌, ◌++◌, length, Option, Some, None, refl, sym, ap, ◌∙◌, subst, arith, set}
-use Rattle.std.specs.Prelude.{slice_get, slice_set}
-use Rattle.std.proofs.Math.ListN.{length-set}
-use Rattle.std.proofs.lemmas.Bool.{true≢false, cases_eq, cases_lt, and_parts, eq-eqb, ne_eqb, not-true}
-use Rattle.std.proofs.lemmas.List.{length-append, append_assoc}
+use Rattle.std.proofs.Common.{◌≡◌, ◌≢◌, ℕ, zero, suc, ◌+◌, ◌<◌, ◌≤◌, ◌⊎◌, inl, inr, Bool, true, false, cond, List, [], ◌∷◌, ◌++◌, length, Option, Some, None, refl, sym, ap, ◌∙◌, subst, arith, set}
+use Rattle.std.specs.Prelude.{slice_get}
+use Rattle.std.proofs.lemmas.Bool.{cases_eq, eq-eqb, ne_eqb}
+use Rattle.std.proofs.lemmas.List.{length-append}
 use Rattle.std.proofs.lemmas.Option.{none-some}
 use Rattle.dl_entry.specs.declared.Actor.{Actor}
 use Rattle.dl_entry.specs.declared.Commit.{Commit}
@@ -14,16 +13,14 @@ use Rattle.spec_log.specs.declared.DmaRecord.{DmaRecord}
 use Rattle.spec_log.specs.declared.ShortSize.{ShortSize}
 use Rattle.spec_log.specs.declared.Sizes.{Sizes}
 use Rattle.spec_log.specs.declared.LogParts.{LogParts}
-use Rattle.spec_log.specs.Size.{is_thread}
-use Rattle.spec_kernel.specs.Interrupts.{is_live, has_handler, takes_interrupt, interrupted}
-use Rattle.spec_play.specs.Effects.{dma_commit}
+use Rattle.spec_kernel.specs.Interrupts.{takes_interrupt}
 use Rattle.spec_play.specs.Progress.{position}
 use Rattle.spec_play.specs.Verdicts.{interrupt_at}
-use Rattle.spec_play.specs.Recording.{with_actor, with_short, with_size, noted, input_noted, dma_noted, interrupt_noted}
+use Rattle.spec_play.specs.Recording.{with_actor, with_short, with_size, noted, input_noted}
 use Rattle.spec_protocol.specs.Spheres.{Sphere}
 use Rattle.spec_protocol.proofs.Moving.{get-set_other, get-set_same, get-append}
 use Rattle.spec_protocol.proofs.Keeping.{IsNew, AreNew}
-use Rattle.spec_protocol.proofs.Lookups.{short_at, short-other, short-same, raised_to, interrupt-other, interrupt-same, count_of, count-append, SlotsBelow, SlotsFrom, SlotsBelow_more, SlotsFrom_less, SlotsBelow-push}
+use Rattle.spec_protocol.proofs.Lookups.{short_at, short-other, count_of, count-append, SlotsBelow, SlotsFrom, SlotsBelow_more}
 
 -- ---- the commits of threads
 
@@ -229,7 +226,7 @@ new_is [] i x new e = absurd (none-some x e)
 new_is (m ∷ made) zero x new e = subst IsNew (let h : m ≡ x = cc in h) new.0
 new_is (m ∷ made) (suc i) x new e = new_is made i x new.1 e
 
-set_none : (ts : List Parts) (k j : ℕ) (u : Parts) → slice_get (set ts k u) j ≡ None → slice_get ts j ≡ None
+pub set_none : (ts : List Parts) (k j : ℕ) (u : Parts) → slice_get (set ts k u) j ≡ None → slice_get ts j ≡ None
 set_none [] k j u e = refl
 set_none (t ∷ ts) zero zero u e = absurd (none-some u (sym e))
 set_none (t ∷ ts) zero (suc j) u e = e
@@ -249,21 +246,21 @@ committed-stands k short p q log qlog t u made c o d s =
     record {
       count = n.count ∙ (let a = s.count in let b = d.position_ in omega arith);
       order = subst (λ (m : ModeName). OrderStands m qlog.order (position q.progress) q.threads) (sym n.mode)
-      (subst (λ (as_ : List Actor). OrderStands log.mode as_ (position q.progress) q.threads) (sym n.order)
-      (subst (λ (x : ℕ). OrderStands log.mode (with_actor log.mode (Actor.Thread k) log.order) x q.threads) (sym d.position_)
-      (order_stands log.mode k log.order (position p.progress) p.threads q.threads t g s.order)));
+          (subst (λ (as_ : List Actor). OrderStands log.mode as_ (position q.progress) q.threads) (sym n.order)
+          (subst (λ (x : ℕ). OrderStands log.mode (with_actor log.mode (Actor.Thread k) log.order) x q.threads) (sym d.position_)
+          (order_stands log.mode k log.order (position p.progress) p.threads q.threads t g s.order)));
       sizes = subst (λ (m : ModeName). SizesStand m qlog.sizes (position q.progress) q.threads) (sym n.mode)
-      (subst (λ (z : Sizes). SizesStand log.mode z (position q.progress) q.threads) (sym n.sizes)
-      (subst (λ (x : ℕ). SizesStand log.mode (with_size log.sizes (Actor.Thread k) t.commits c.size short) x q.threads) (sym d.position_)
-      (sizes_stand log.mode log.sizes k short c.size (position p.progress) p.threads q.threads t g s.sizes)));
+          (subst (λ (z : Sizes). SizesStand log.mode z (position q.progress) q.threads) (sym n.sizes)
+          (subst (λ (x : ℕ). SizesStand log.mode (with_size log.sizes (Actor.Thread k) t.commits c.size short) x q.threads) (sym d.position_)
+          (sizes_stand log.mode log.sizes k short c.size (position p.progress) p.threads q.threads t g s.sizes)));
       past = λ j i l. ints j i ∙ s.past j i (let h = grown_least k p.threads q.threads t j g in omega arith);
       absent = λ j i e. ints j i ∙ s.absent j i (set_none p.threads k j u (append_none (set p.threads k u) made j (ap (λ (ts : List Parts). slice_get ts j) (sym d.threads) ∙ e)));
       unmasked = λ j x e open_. ints j x.commits ∙ elim (get_cases (set p.threads k u) made j x (ap (λ (ts : List Parts). slice_get ts j) (sym d.threads) ∙ e)) [
         | inl there ↦ elim (cases_eq j k) [
           | inl jk ↦ (
-            let ux : u ≡ x = (let h : Some u ≡ Some x = sym (get-set_same p.threads k u t d.start) ∙ ap (slice_get (set p.threads k u)) (sym jk) ∙ there in cc) in
-            s.past j x.commits (let a = ap commits_if (ap (slice_get p.threads) jk ∙ d.start) in let b = ap (λ (y : Parts). y.commits) ux in let h = d.commits in omega arith)
-          )
+              let ux : u ≡ x = (let h : Some u ≡ Some x = sym (get-set_same p.threads k u t d.start) ∙ ap (slice_get (set p.threads k u)) (sym jk) ∙ there in cc) in
+              s.past j x.commits (let a = ap commits_if (ap (slice_get p.threads) jk ∙ d.start) in let b = ap (λ (y : Parts). y.commits) ux in let h = d.commits in omega arith)
+              )
           | inr ne ↦ s.unmasked j x (sym (get-set_other p.threads k j u ne) ∙ there) open_
         ]
         | inr born ↦ s.absent j x.commits (set_none p.threads k j u born.0)

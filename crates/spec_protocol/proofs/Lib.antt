@@ -27,3 +27,4 @@ pub mod Answering
 pub mod Growing
 pub mod Coming
 pub mod Following
+pub mod FollowingCommits
