@@ -28,3 +28,4 @@ pub mod Growing
 pub mod Coming
 pub mod Following
 pub mod FollowingCommits
+pub mod FollowingVerdicts
