@@ -29,3 +29,4 @@ pub mod Coming
 pub mod Following
 pub mod FollowingCommits
 pub mod FollowingVerdicts
+pub mod FollowingRest
