@@ -30,3 +30,4 @@ pub mod Following
 pub mod FollowingCommits
 pub mod FollowingVerdicts
 pub mod FollowingRest
+pub mod FollowingMoves
