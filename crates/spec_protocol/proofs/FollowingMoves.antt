@@ -277,7 +277,7 @@ serial-grown log p k moment t devices role is fits =
 
 -- ---- a DMA
 
-abbrev recorded_dma : LogParts → Sphere → Devices → Request → Moved
+abbrev pub recorded_dma : LogParts → Sphere → Devices → Request → Moved
 recorded_dma log p devices request = dma_as (Record (dma_log log devices p (Some request))) (dma_words request (dma_bytes devices request)) (dma_taken devices request) p
 
 pub dma-grown : (log : LogParts) (p : Sphere) (devices : Devices) (request : Request) → p.progress.request ≡ Some request → Grown p (laid (recorded_dma log p devices request)) log (dma_log log devices p (Some request))

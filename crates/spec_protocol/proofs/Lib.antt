@@ -31,3 +31,4 @@ pub mod FollowingCommits
 pub mod FollowingVerdicts
 pub mod FollowingRest
 pub mod FollowingMoves
+pub mod FollowingAll
