@@ -1,16 +1,15 @@
 -- What the devices answer fits what was wanted.
-use Rattle.std.proofs.Common.{◌≡◌, ℕ, zero, suc, ◌≤◌, Bool, true, false, ◌&&◌, ◌||◌, eqb, leb, cond, List, [], ◌∷◌, length, take, Option, Some, None, refl, sym, ap, ◌∙◌, subst, arith}
-use Rattle.std.proofs.lemmas.Bool.{true≢false, eq-eqb, eqb-true, le-leb, and_from, or_left}
+use Rattle.std.proofs.Common.{◌≡◌, ℕ, zero, suc, ◌≤◌, Bool, true, false, ◌&&◌, ◌||◌, eqb, leb, cond, List, [], length, take, refl, ap, arith}
+use Rattle.std.proofs.lemmas.Bool.{eq-eqb, le-leb, and_from, or_left}
 use Rattle.std.specs.Prelude.{nat_lt}
 use Rattle.std.proofs.lemmas.List.{length-take}
 use Rattle.rand_pcg.specs.Lcg.{Lcg}
 use Rattle.rand_pcg.specs.Pcg.{pcg32}
-use Rattle.dl_entry.specs.declared.Input.{Input}
 use Rattle.dl_entry.specs.declared.Request.{Request}
 use Rattle.spec_kernel.specs.Devices.{Devices, pipe_at, pipe_fitting, pipe_first, pipe_put, pipe_taken, input_taken, console_put, random_bytes}
 use Rattle.spec_kernel.specs.Needs.{Need, Write, Read, Random, Clock, MomentWord, InputWord}
 use Rattle.spec_kernel.specs.Answers.{nothing_now, refused, Answered, went, write_answer, answer_write, read_answer, answer_read, answer, dma_bytes}
-use Rattle.spec_kernel.specs.Records.{went_nowhere, fits_write, fits_read, fits_kind, fits}
+use Rattle.spec_kernel.specs.Records.{fits_write, fits_read, fits}
 
 or_second : (x y : Bool) → y ≡ true → (x || y) ≡ true
 or_second true y e = refl

@@ -1,9 +1,8 @@
 -- How a recorded log grows: what it has of the past stays, and what is to come stands behind.
-use Rattle.std.proofs.Common.{◌≡◌, ◌≢◌, ℕ, zero, suc, ◌+◌, ◌<◌, ◌≤◌, ◌⊎◌, inl, inr, Bool, true, false, not, ◌&&◌, eqb, cond, List, [], ◌∷◌, ◌++◌, length, Option, Some, None, refl, sym, ap, ◌∙◌, subst, arith, set}
-use Rattle.std.specs.Prelude.{slice_get, slice_set}
-use Rattle.std.proofs.Math.ListN.{length-set}
-use Rattle.std.proofs.lemmas.Bool.{true≢false, cases_eq, cases_lt, and_parts, eq-eqb, ne_eqb, not-true}
-use Rattle.std.proofs.lemmas.List.{length-append, append_assoc}
+use Rattle.std.proofs.Common.{◌≡◌, ◌≢◌, ℕ, zero, suc, ◌+◌, ◌<◌, ◌≤◌, ◌⊎◌, inl, inr, Bool, true, false, cond, List, [], ◌∷◌, ◌++◌, length, Option, Some, None, refl, sym, ap, ◌∙◌, subst, arith, set}
+use Rattle.std.specs.Prelude.{slice_get}
+use Rattle.std.proofs.lemmas.Bool.{cases_eq, eq-eqb, ne_eqb}
+use Rattle.std.proofs.lemmas.List.{length-append}
 use Rattle.std.proofs.lemmas.Option.{none-some}
 use Rattle.dl_entry.specs.declared.Actor.{Actor}
 use Rattle.dl_entry.specs.declared.Commit.{Commit}
@@ -14,16 +13,14 @@ use Rattle.spec_log.specs.declared.DmaRecord.{DmaRecord}
 use Rattle.spec_log.specs.declared.ShortSize.{ShortSize}
 use Rattle.spec_log.specs.declared.Sizes.{Sizes}
 use Rattle.spec_log.specs.declared.LogParts.{LogParts}
-use Rattle.spec_log.specs.Size.{is_thread}
-use Rattle.spec_kernel.specs.Interrupts.{is_live, has_handler, takes_interrupt, interrupted}
-use Rattle.spec_play.specs.Effects.{dma_commit}
+use Rattle.spec_kernel.specs.Interrupts.{takes_interrupt}
 use Rattle.spec_play.specs.Progress.{position}
 use Rattle.spec_play.specs.Verdicts.{interrupt_at}
-use Rattle.spec_play.specs.Recording.{with_actor, with_short, with_size, noted, input_noted, dma_noted, interrupt_noted}
+use Rattle.spec_play.specs.Recording.{with_actor, with_short, with_size, noted, input_noted}
 use Rattle.spec_protocol.specs.Spheres.{Sphere}
 use Rattle.spec_protocol.proofs.Moving.{get-set_other, get-set_same, get-append}
 use Rattle.spec_protocol.proofs.Keeping.{IsNew, AreNew}
-use Rattle.spec_protocol.proofs.Lookups.{short_at, short-other, short-same, raised_to, interrupt-other, interrupt-same, count_of, count-append, SlotsBelow, SlotsFrom, SlotsBelow_more, SlotsFrom_less, SlotsBelow-push}
+use Rattle.spec_protocol.proofs.Lookups.{short_at, short-other, count_of, count-append, SlotsBelow, SlotsFrom, SlotsBelow_more}
 
 -- ---- the commits of threads
 
@@ -157,12 +154,12 @@ committed-parts k short p q log qlog t u made c o d =
     }
 
 -- how the commits have grown: the thread's by one, and no other's
-record Grows (k : ℕ) (ts us : List Parts) (t : Parts) : Type 0 where
-  same : commits_in us k ≡ suc t.commits
-  was : commits_in ts k ≡ t.commits
-  other : (j : ℕ) → j ≢ k → commits_in us j ≡ commits_in ts j
+pub record Grows (k : ℕ) (ts us : List Parts) (t : Parts) : Type 0 where
+  pub same : commits_in us k ≡ suc t.commits
+  pub was : commits_in ts k ≡ t.commits
+  pub other : (j : ℕ) → j ≢ k → commits_in us j ≡ commits_in ts j
 
-grows_of : (k : ℕ) (short : Bool) (p q : Sphere) (log qlog : LogParts) (t u : Parts) (made : List Parts) (c : Commit) (o : Option Input) → Committed k short p q log qlog t u made c o → Grows k p.threads q.threads t
+pub grows_of : (k : ℕ) (short : Bool) (p q : Sphere) (log qlog : LogParts) (t u : Parts) (made : List Parts) (c : Commit) (o : Option Input) → Committed k short p q log qlog t u made c o → Grows k p.threads q.threads t
 grows_of k short p q log qlog t u made c o d =
     record {
       same = ap (λ (ts : List Parts). commits_in ts k) d.threads ∙ commits-same p.threads made k t u d.start ∙ d.commits ∙ omega arith;
@@ -170,7 +167,7 @@ grows_of k short p q log qlog t u made c o d =
       other = λ j ne. ap (λ (ts : List Parts). commits_in ts j) d.threads ∙ commits-other p.threads made k j u d.new ne;
     }
 
-grown_least : (k : ℕ) (ts us : List Parts) (t : Parts) (j : ℕ) → Grows k ts us t → commits_in ts j ≤ commits_in us j
+pub grown_least : (k : ℕ) (ts us : List Parts) (t : Parts) (j : ℕ) → Grows k ts us t → commits_in ts j ≤ commits_in us j
 grown_least k ts us t j g =
     elim (cases_eq j k) [
       | inl e ↦ subst (λ (n : ℕ). commits_in ts n ≤ commits_in us n) (sym e) (let a = g.same in let b = g.was in omega arith)
@@ -219,17 +216,17 @@ sizes_stand ModeName.Picolog (Sizes.Short xs) k true size n ts us t g s = shorts
 sizes_stand ModeName.Picolog (Sizes.Short xs) k false size n ts us t g s = shorts_kept k xs ts us t g s
 
 -- a thread that is there after the commit: the committer, one that was there, or a new one
-get_cases : (ts made : List Parts) (j : ℕ) (x : Parts) → slice_get (ts ++ made) j ≡ Some x → (slice_get ts j ≡ Some x) ⊎ ((slice_get ts j ≡ None) × ((i : ℕ) × (slice_get made i ≡ Some x)))
+pub get_cases : (ts made : List Parts) (j : ℕ) (x : Parts) → slice_get (ts ++ made) j ≡ Some x → (slice_get ts j ≡ Some x) ⊎ ((slice_get ts j ≡ None) × ((i : ℕ) × (slice_get made i ≡ Some x)))
 get_cases [] made j x e = inr (refl, (j, e))
 get_cases (t ∷ ts) made zero x e = inl e
 get_cases (t ∷ ts) made (suc j) x e = get_cases ts made j x e
 
-new_is : (made : List Parts) (i : ℕ) (x : Parts) → AreNew made → slice_get made i ≡ Some x → IsNew x
+pub new_is : (made : List Parts) (i : ℕ) (x : Parts) → AreNew made → slice_get made i ≡ Some x → IsNew x
 new_is [] i x new e = absurd (none-some x e)
 new_is (m ∷ made) zero x new e = subst IsNew (let h : m ≡ x = cc in h) new.0
 new_is (m ∷ made) (suc i) x new e = new_is made i x new.1 e
 
-set_none : (ts : List Parts) (k j : ℕ) (u : Parts) → slice_get (set ts k u) j ≡ None → slice_get ts j ≡ None
+pub set_none : (ts : List Parts) (k j : ℕ) (u : Parts) → slice_get (set ts k u) j ≡ None → slice_get ts j ≡ None
 set_none [] k j u e = refl
 set_none (t ∷ ts) zero zero u e = absurd (none-some u (sym e))
 set_none (t ∷ ts) zero (suc j) u e = e

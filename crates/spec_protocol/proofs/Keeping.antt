@@ -1,5 +1,5 @@
 -- What instructions and serial steps keep of a thread: the number of its commits. What a serial step spawns is new.
-use Rattle.std.proofs.Common.{◌≡◌, ℕ, zero, suc, Bool, true, false, ◌&&◌, eqb, cond, List, [], ◌∷◌, length, Option, Some, None, refl, sym, ap, ◌∙◌, subst}
+use Rattle.std.proofs.Common.{◌≡◌, ℕ, zero, suc, Bool, true, false, ◌&&◌, eqb, cond, List, [], ◌∷◌, length, Option, Some, None, refl, sym, ap, ◌∙◌}
 use Rattle.std.specs.Prelude.{slice_get, nat_lt, ◌%◌}
 use Rattle.dl_entry.specs.declared.Input.{Input}
 use Rattle.dl_entry.specs.declared.Request.{Request}
@@ -12,10 +12,9 @@ use Rattle.spec_isa.specs.Planned.{thread_then}
 use Rattle.spec_isa.specs.Instruction.{Outcome, Next, Serial, one, unless, plan_of, next_of}
 use Rattle.spec_isa.specs.Runs.{Run, followed, run}
 use Rattle.spec_kernel.specs.Needs.{Need, number_of, a0, a1, a2, cut, need}
-use Rattle.spec_kernel.specs.Interrupts.{is_live}
 use Rattle.spec_kernel.specs.Answers.{refused, unknown_call, bad_buffer}
 use Rattle.spec_kernel.specs.Calls.{Called, gives, exit, spawned, spawn, set_handler, iret, is_dma_buffer, request_dma, has_ended, called, with_result, returned}
-use Rattle.spec_kernel.specs.Serving.{Served, outside_called, is_outside, inside_called, device_loaded, device_stored, alone, serve_kind, serve}
+use Rattle.spec_kernel.specs.Serving.{Served, outside_called, is_outside, inside_called, device_loaded, device_stored, serve_kind, serve}
 
 -- ---- instructions
 

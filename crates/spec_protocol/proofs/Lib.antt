@@ -25,3 +25,10 @@ pub mod Keeping
 pub mod Lookups
 pub mod Answering
 pub mod Growing
+pub mod Coming
+pub mod Following
+pub mod FollowingCommits
+pub mod FollowingVerdicts
+pub mod FollowingRest
+pub mod FollowingMoves
+pub mod FollowingAll

@@ -1,8 +1,8 @@
 -- Entries of logs: how they are found again after others were added.
-use Rattle.std.proofs.Common.{◌≡◌, ◌≢◌, ℕ, zero, suc, ◌+◌, ◌<◌, ◌≤◌, ◌⊎◌, inl, inr, Bool, true, false, ◌&&◌, ◌||◌, eqb, cond, List, [], ◌∷◌, ◌++◌, length, Option, Some, None, refl, sym, ap, ◌∙◌, subst, arith, set}
-use Rattle.std.specs.Prelude.{slice_get, map, filter, find, nat_lt, option_map}
-use Rattle.std.specs.List.{zip, list_any}
-use Rattle.std.proofs.lemmas.Bool.{true≢false, eq-eqb, ne_eqb, and_left, and_right, cases_eq, or_from, or_left}
+use Rattle.std.proofs.Common.{◌≡◌, ℕ, zero, suc, ◌+◌, ◌<◌, ◌≤◌, inl, inr, Bool, true, false, ◌&&◌, ◌||◌, eqb, cond, List, [], ◌∷◌, ◌++◌, length, Option, Some, None, refl, sym, ap, ◌∙◌, arith}
+use Rattle.std.specs.Prelude.{slice_get, map, filter, find, option_map}
+use Rattle.std.specs.List.{zip}
+use Rattle.std.proofs.lemmas.Bool.{eq-eqb, ne_eqb, and_left, and_right, cases_eq, or_from, or_left}
 use Rattle.std.proofs.lemmas.Option.{none-some}
 use Rattle.dl_entry.specs.declared.Actor.{Actor}
 use Rattle.spec_log.specs.declared.Interrupt.{Interrupt}

@@ -42,7 +42,7 @@ one_inside seen t m n g touches e =
     (λ none. ap (next_with t (fetched t m)) (value_same m n (loads_of t (fetched t m)) (λ a some. Agree-read seen m n a g (touches.load none a some))))
     ∙ sym (one-outcome t m)
 
-serial_outcome : (t : Parts) (f w size : ℕ) (kind : Kind) → serial_of t f size ≡ Some kind → outcome_with t f w size ≡ Serial kind
+pub serial_outcome : (t : Parts) (f w size : ℕ) (kind : Kind) → serial_of t f size ≡ Some kind → outcome_with t f w size ≡ Serial kind
 serial_outcome t f w size kind e = ap (λ (o : Option Kind). unless o (next_with t f w)) e
 
 one_outside : (t : Parts) (m : List ℕ) → is_inside (length m) t.pc ≡ false → one t m ≡ Serial (Kind.Fault 1)

@@ -16,3 +16,4 @@ pub mod Currency
 pub mod Invariants
 pub mod Promises
 pub mod Replying
+pub mod PlayingBack

@@ -1,5 +1,6 @@
 //! What is promised of the protocol. Each promise is a clause of a function that does nothing.
 ghost use Rattle.spec_protocol.specs.Promises.{CommitsAreSerial, InvariantsHold, MovesAreSerial, SizesAreKept};
+ghost use Rattle.spec_protocol.specs.PlayingBack.{LogsPlayBack};
 ghost use Rattle.spec_protocol.specs.Replying.{AsksAreGranted, GrantsAreClear, PointsAreMade};
 
 /// For every setup and every list of events, in any order: the plain and recorded spheres, with their threads, requests,
@@ -45,4 +46,10 @@ pub fn asks_are_granted()
 /// in a flight of its sphere.
 pub fn grants_are_clear()
     ensures { GrantsAreClear }
+{}
+
+/// After every list of events: the log of a recorded sphere, as it then is, fits the sphere's image, and its play, one whole
+/// commit at a time, leaves the sphere's current memory, its threads, its commits and its request.
+pub fn logs_play_back()
+    ensures { LogsPlayBack }
 {}
