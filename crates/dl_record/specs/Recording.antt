@@ -11,13 +11,14 @@ use Rattle.spec_log.specs.declared.sizes.Sizes.TheVariants.{Each, Short}
 use Rattle.spec_log.specs.Log.{IsActor, IsInput, IsLog, AreFewBytes}
 use Rattle.spec_log.specs.Noting.{Kept, log_of}
 
--- what is kept of the commits, the records, and whether there is room for one commit with its records and one interrupt
+-- what is kept of the commits, the records, and whether there is room for one commit with its records, and for one interrupt
 pub record Recording : Type 0 where
   pub kept : Kept
   pub interrupts : List Interrupt
   pub inputs : List Input
   pub dmas : List DmaRecord
   pub room : Bool
+  pub interrupt_room : Bool
 
 -- a commit that can be noted: of an actor of a log, no larger than a standard chunk, over 0 where it was closed early, and
 -- not the 2^24th but one

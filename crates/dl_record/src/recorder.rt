@@ -35,7 +35,8 @@ impl<M: Mode> Model for Recorder<M> {
       interrupts = map interrupt_of r.interrupts.entries;
       inputs = r.inputs.inputs;
       dmas = r.dmas.dmas;
-      room = (M.logged r.log).room && r.interrupts.room && r.inputs.room && r.dmas.room;
+      room = (M.logged r.log).room && r.inputs.room && r.dmas.room;
+      interrupt_room = r.interrupts.room;
     } };
 
     ghost invariant = { λ r.
@@ -68,8 +69,8 @@ impl<M: Mode> Recorder<M> {
         ensures interrupts { self.new.interrupts ≡ self.old.interrupts }
         ensures inputs { self.new.inputs ≡ self.old.inputs }
         ensures dmas { self.new.dmas ≡ self.old.dmas }
-        ensures ok { OnOk result (IsTrue self.new.room) }
-        ensures room { IsTrue self.old.room → IsOk result }
+        ensures room { OnOk result (IsTrue self.new.room) }
+        ensures interrupt_room { OnOk result (IsTrue self.new.interrupt_room) }
     {
         M::reserve(&mut self.log)?;
         self.interrupts.reserve()?;
@@ -96,6 +97,7 @@ impl<M: Mode> Recorder<M> {
         ensures dmas_still { OnErr result (self.new.dmas ≡ self.old.dmas) }
         ensures interrupts { self.new.interrupts ≡ self.old.interrupts }
         ensures room { IsTrue self.old.room → IsOk result }
+        ensures interrupt_room { self.new.interrupt_room ≡ self.old.interrupt_room }
     {
         self.inputs.reserve()?;
         self.dmas.reserve()?;
@@ -117,7 +119,8 @@ impl<M: Mode> Recorder<M> {
         ensures kept { self.new.kept ≡ self.old.kept }
         ensures inputs { self.new.inputs ≡ self.old.inputs }
         ensures dmas { self.new.dmas ≡ self.old.dmas }
-        ensures room { IsTrue self.old.room → IsOk result }
+        ensures room { self.new.room ≡ self.old.room }
+        ensures interrupt_room { IsTrue self.old.interrupt_room → IsOk result }
     {
         self.interrupts.note(thread, index, value)
     }
