@@ -139,11 +139,11 @@ unfolding do_move
 move_comes z x m i p log buffer s is role fits =
     elim (cases_eq i m.sphere) [
       | inl e ↦ (
-        let there : slice_get x.spheres m.sphere ≡ Some p = ap (slice_get x.spheres) (sym e) ∙ is in
-        subst (λ (o : Option Sphere). Comes (do_at z x m o) i p log) (sym there)
-        (subst (λ (n : ℕ). Comes (do_what z x m.moment m.sphere p m.what) n p log) (sym e)
-        (what_comes z x m.moment m.sphere p log m.what buffer s there role (subst (FitsAt z x.devices m) there fits)))
-      )
+          let there : slice_get x.spheres m.sphere ≡ Some p = ap (slice_get x.spheres) (sym e) ∙ is in
+          subst (λ (o : Option Sphere). Comes (do_at z x m o) i p log) (sym there)
+          (subst (λ (n : ℕ). Comes (do_what z x m.moment m.sphere p m.what) n p log) (sym e)
+          (what_comes z x m.moment m.sphere p log m.what buffer s there role (subst (FitsAt z x.devices m) there fits)))
+          )
       | inr ne ↦ record { sphere = p; log = log; there = at_away z x m i (slice_get x.spheres m.sphere) ne ∙ is; role = role; grown = grown_refl p log }
     ]
 

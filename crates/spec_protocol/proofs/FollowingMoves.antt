@@ -124,8 +124,8 @@ taken_turn L log p k t role mode is live free pico =
     let some = turn_some p.progress.last p.threads k t is live in
     let head : other_turn (Some (Actor.Thread some.0)) k ≡ None =
     sym (
-      ap (λ (r : Role). other_turn (head_in r p) k) role ∙ ap (λ (m : ModeName). other_turn (recording_turn m p) k) (sym mode ∙ pico)
-      ∙ ap (λ (o : Option ℕ). other_turn (option_map Actor.Thread o) k) some.1
+    ap (λ (r : Role). other_turn (head_in r p) k) role ∙ ap (λ (m : ModeName). other_turn (recording_turn m p) k) (sym mode ∙ pico)
+    ∙ ap (λ (o : Option ℕ). other_turn (option_map Actor.Thread o) k) some.1
     )
     ∙ free
     in
@@ -174,7 +174,7 @@ chunk_log z log p k t how n limit =
 
 chunk_committed : (z : Numbers) (log : LogParts) (p : Sphere) (k : ℕ) (t : Parts) (how : How) (n limit : ℕ) (devices : Devices) → slice_get p.threads k ≡ Some t
     → let e = chunk_effect k p.progress.request (run p.memory t n) in
-      Committed k (is_short z.chunk how limit) p (laid (recorded_chunk z log p k t how n limit devices)) log (chunk_log z log p k t how n limit) t e.thread e.made e.commit None
+    Committed k (is_short z.chunk how limit) p (laid (recorded_chunk z log p k t how n limit devices)) log (chunk_log z log p k t how n limit) t e.thread e.made e.commit None
 chunk_committed z log p k t how n limit devices is =
     let r = run p.memory t n in
     let e = chunk_effect k p.progress.request r in
@@ -232,7 +232,7 @@ effect_of p k moment t devices = serial_effect k (serve k p.threads p.progress.r
 
 serial_committed : (log : LogParts) (p : Sphere) (k moment : ℕ) (t : Parts) (devices : Devices) → slice_get p.threads k ≡ Some t
     → let e = effect_of p k moment t devices in
-      Committed k false p (laid (recorded_serial log p k moment t devices)) log (serial_log log p k moment t devices) t e.thread e.made e.commit (taken (need t p.memory) devices moment).input
+    Committed k false p (laid (recorded_serial log p k moment t devices)) log (serial_log log p k moment t devices) t e.thread e.made e.commit (taken (need t p.memory) devices moment).input
 serial_committed log p k moment t devices is =
     let e = effect_of p k moment t devices in
     let h = serve-keeps k p.threads p.progress.request t p.memory (taken (need t p.memory) devices moment).input in

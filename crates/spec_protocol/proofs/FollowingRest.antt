@@ -141,11 +141,14 @@ raised_to_come : (L : LogParts) (k value : ℕ) (p q : Sphere) (log qlog : LogPa
 raised_to_come L k value p q log qlog t d sp aq =
     let none : interrupt_at log.interrupts k t.commits ≡ None = sp.unmasked k t d.start (open_takes t d.takes) in
     let some : interrupt_at qlog.interrupts k t.commits ≡ Some value = ap (λ (l : LogParts). interrupt_at l.interrupts k t.commits) d.log_ ∙ interrupt-same log.interrupts k t.commits value none in
-    let there : slice_get q.threads k ≡ Some (interrupted value t) = ap (λ (ts : List Parts). slice_get ts k) d.threads ∙ get-set_same p.threads k (interrupted value t) t d.start in
-    (none, elim (aq.next k (interrupted value t) there) [
-      | inl h ↦ h ∙ some
-      | inr takes ↦ absurd (masked_takes t value takes)
-    ], some)
+    let there : slice_get q.threads k ≡ Some (interrupted value t) = ap (λ (ts : List Parts). slice_get ts k) d.threads ∙ get-set_same p.threads k (interrupted value t) t d.start in (
+      none,
+      elim (aq.next k (interrupted value t) there) [
+        | inl h ↦ h ∙ some
+        | inr takes ↦ absurd (masked_takes t value takes)
+      ],
+      some,
+    )
 
 raised_threads : (L : LogParts) (k value : ℕ) (p q : Sphere) (log qlog : LogParts) (t : Parts) (y : Played) → WasRaised k value p q log qlog t → Stands p log → Ahead L q qlog → Follows L p log y
     → (j : ℕ) (x : Parts) → slice_get q.threads j ≡ Some x → slice_get y.threads j ≡ Some (early L.interrupts qlog.interrupts j x)
@@ -155,13 +158,13 @@ raised_threads L k value p q log qlog t y d sp aq f j x e =
     let is : slice_get (set p.threads k u) j ≡ Some x = ap (λ (ts : List Parts). slice_get ts j) (sym d.threads) ∙ e in
     elim (cases_eq j k) [
       | inl jk ↦ (
-        let ux : u ≡ x = (let o : Some u ≡ Some x = sym (get-set_same p.threads k u t d.start) ∙ ap (slice_get (set p.threads k u)) (sym jk) ∙ is in cc) in
-        let kj : k ≡ j = sym jk in
-        ap (slice_get y.threads) jk ∙ f.threads k t d.start
-        ∙ (λ i. Some (early_by (h.0 i) (h.1 i) t))
-        ∙ sym (ap (λ (o : Option ℕ). Some (early_by o (interrupt_at L.interrupts k t.commits) u)) h.2)
-        ∙ (λ i. Some (early L.interrupts qlog.interrupts (kj i) (ux i)))
-      )
+          let ux : u ≡ x = (let o : Some u ≡ Some x = sym (get-set_same p.threads k u t d.start) ∙ ap (slice_get (set p.threads k u)) (sym jk) ∙ is in cc) in
+          let kj : k ≡ j = sym jk in
+          ap (slice_get y.threads) jk ∙ f.threads k t d.start
+          ∙ (λ i. Some (early_by (h.0 i) (h.1 i) t))
+          ∙ sym (ap (λ (o : Option ℕ). Some (early_by o (interrupt_at L.interrupts k t.commits) u)) h.2)
+          ∙ (λ i. Some (early L.interrupts qlog.interrupts (kj i) (ux i)))
+          )
       | inr ne ↦ f.threads j x (sym (get-set_other p.threads k j u ne) ∙ is)
           ∙ ap (λ (o : Option ℕ). Some (early_by o (interrupt_at L.interrupts j x.commits) x))
           (sym (ap (λ (l : LogParts). interrupt_at l.interrupts j x.commits) d.log_ ∙ interrupt-other log.interrupts k t.commits value j x.commits (λ kj c. ne (sym kj))))

@@ -89,9 +89,9 @@ pub size-says : (mode : ModeName) (named order : List Actor) (y x : Sizes) (k n 
     → (thread_size named y k t.commits ≡ Some n) ⊎ ((thread_size named y k t.commits ≡ None) × (short ≡ false))
 size-says ModeName.OrderSize named order (Sizes.Each ys) (Sizes.Each xs) k n pos short ts us t g o s b a =
     inl (
-      ap (λ (c : ℕ). slice_get (sizes_of_thread k named ys) c) (sym (o.1 k ∙ g.was))
-      ∙ (λ i. slice_get (sizes_of_thread k ((b.1 ∙ append_assoc order (Actor.Thread k ∷ []) b.0) i) ((a.1 ∙ append_assoc xs (n ∷ []) a.0) i)) (count_of k order))
-      ∙ size-there k order xs n b.0 a.0 (s ∙ sym o.0)
+    ap (λ (c : ℕ). slice_get (sizes_of_thread k named ys) c) (sym (o.1 k ∙ g.was))
+    ∙ (λ i. slice_get (sizes_of_thread k ((b.1 ∙ append_assoc order (Actor.Thread k ∷ []) b.0) i) ((a.1 ∙ append_assoc xs (n ∷ []) a.0) i)) (count_of k order))
+    ∙ size-there k order xs n b.0 a.0 (s ∙ sym o.0)
     )
 size-says ModeName.OrderSize named order (Sizes.Short ys) (Sizes.Each xs) k n pos short ts us t g o s b a = absurd a
 size-says ModeName.OrderSize named order y (Sizes.Short xs) k n pos short ts us t g o s b a = absurd s
