@@ -1,42 +1,38 @@
 -- What each move makes of a recorded sphere and of its log; and that the play of the log, in the end, follows it.
-use Rattle.std.proofs.Common.{◌≡◌, ◌≢◌, ℕ, zero, suc, ◌+◌, ◌<◌, ◌≤◌, ◌⊎◌, inl, inr, Bool, true, false, not, eqb, cond, List, [], ◌∷◌, ◌++◌, length, map, Option, Some, None, refl, sym, ap, ◌∙◌, subst, arith, set}
-use Rattle.std.specs.Prelude.{slice_get, slice_set, nat_lt, IsSome, option_map}
+use Rattle.std.proofs.Common.{◌≡◌, ℕ, zero, suc, ◌+◌, ◌<◌, ◌≤◌, inl, inr, Bool, true, false, not, eqb, cond, List, [], ◌∷◌, ◌++◌, length, map, Option, Some, None, refl, sym, ap, ◌∙◌, subst, arith}
+use Rattle.std.specs.Prelude.{slice_get, nat_lt, option_map}
 use Rattle.std.specs.Option.{option_or}
-use Rattle.std.proofs.Math.ListN.{length-set}
 use Rattle.std.proofs.lemmas.Bool.{true≢false, cases_eq, eqb-true, lt-ltb, cases_lt}
-use Rattle.std.proofs.lemmas.List.{length-append, append-nil}
+use Rattle.std.proofs.lemmas.List.{length-append}
 use Rattle.std.proofs.lemmas.Option.{none-some}
 use Rattle.dl_entry.specs.declared.Actor.{Actor}
 use Rattle.dl_entry.specs.declared.Input.{Input}
 use Rattle.dl_entry.specs.declared.Request.{Request}
 use Rattle.spec_isa.specs.declared.thread.Parts.{Parts}
-use Rattle.spec_isa.specs.Words.{lays}
-use Rattle.spec_isa.specs.Runs.{Run, run}
+use Rattle.spec_isa.specs.Runs.{run}
 use Rattle.spec_log.specs.declared.ModeName.{ModeName}
 use Rattle.spec_log.specs.declared.LogParts.{LogParts}
 use Rattle.spec_log.specs.Head.{turn, first_live, next_live}
-use Rattle.spec_log.specs.Size.{size_in}
 use Rattle.spec_kernel.specs.Devices.{Devices}
 use Rattle.spec_kernel.specs.Copies.{dma_words}
-use Rattle.spec_kernel.specs.Needs.{need, next_kind}
-use Rattle.spec_kernel.specs.Answers.{Taken, taken, dma_bytes, dma_taken}
-use Rattle.spec_kernel.specs.Interrupts.{is_live, takes_interrupt, interrupted}
-use Rattle.spec_kernel.specs.Serving.{Served, serve}
+use Rattle.spec_kernel.specs.Needs.{need}
+use Rattle.spec_kernel.specs.Answers.{taken, dma_bytes, dma_taken}
+use Rattle.spec_kernel.specs.Interrupts.{is_live, takes_interrupt}
+use Rattle.spec_kernel.specs.Serving.{serve}
 use Rattle.spec_play.specs.Effects.{Effect, chunk_effect, serial_effect, dma_commit}
-use Rattle.spec_play.specs.Progress.{Progress, position, with_effect, with_dma, Used}
+use Rattle.spec_play.specs.Progress.{position}
 use Rattle.spec_play.specs.Recording.{noted, interrupt_noted}
-use Rattle.spec_play.specs.Plays.{Played, plays, play_one}
+use Rattle.spec_play.specs.Plays.{Played, plays}
 use Rattle.spec_engine.specs.declared.answers.How.{How}
-use Rattle.spec_protocol.specs.Spheres.{Role, Plain, Record, Replay, Sphere, recording_turn, head_in, head_of, limit_in, limit_of, is_in_pieces}
-use Rattle.spec_protocol.specs.Commits.{Moved, is_piece, chunk_in, chunk_moved, serial_noted, serial_in, serial_moved, dma_log, dma_in, dma_moved, raised, dma_as}
+use Rattle.spec_protocol.specs.Spheres.{Role, Record, Sphere, recording_turn, head_in, head_of, limit_in, limit_of, is_in_pieces}
+use Rattle.spec_protocol.specs.Commits.{Moved, is_piece, chunk_in, serial_noted, serial_in, dma_log, raised, dma_as}
 use Rattle.spec_protocol.specs.World.{Numbers}
 use Rattle.spec_protocol.specs.Asking.{is_short, other_turn}
 use Rattle.spec_protocol.specs.Serial.{laid}
-use Rattle.spec_protocol.specs.Moves.{ChunkFits, SerialFits, DmaFits, RaiseFits}
-use Rattle.spec_protocol.proofs.Moving.{get-set_same}
+use Rattle.spec_protocol.specs.Moves.{ChunkFits, SerialFits}
 use Rattle.spec_protocol.proofs.Keeping.{run-keeps, serve-keeps}
 use Rattle.spec_protocol.proofs.Answering.{dma-most}
-use Rattle.spec_protocol.proofs.Growing.{Stands, Ahead, Committed, committed-parts, Grows, grows_of, committed-stands, SizesAhead}
+use Rattle.spec_protocol.proofs.Growing.{Stands, Ahead, Committed, committed-parts, grows_of, committed-stands, SizesAhead}
 use Rattle.spec_protocol.proofs.Coming.{committed-ahead, Transferred, transferred-stands, transferred-ahead, WasRaised, raised-stands, raised-ahead}
 use Rattle.spec_protocol.proofs.Following.{Follows, Effects, look-alike}
 use Rattle.spec_protocol.proofs.FollowingCommits.{commit-follows}
@@ -124,8 +120,8 @@ taken_turn L log p k t role mode is live free pico =
     let some = turn_some p.progress.last p.threads k t is live in
     let head : other_turn (Some (Actor.Thread some.0)) k ≡ None =
     sym (
-      ap (λ (r : Role). other_turn (head_in r p) k) role ∙ ap (λ (m : ModeName). other_turn (recording_turn m p) k) (sym mode ∙ pico)
-      ∙ ap (λ (o : Option ℕ). other_turn (option_map Actor.Thread o) k) some.1
+    ap (λ (r : Role). other_turn (head_in r p) k) role ∙ ap (λ (m : ModeName). other_turn (recording_turn m p) k) (sym mode ∙ pico)
+    ∙ ap (λ (o : Option ℕ). other_turn (option_map Actor.Thread o) k) some.1
     )
     ∙ free
     in
@@ -174,7 +170,7 @@ chunk_log z log p k t how n limit =
 
 chunk_committed : (z : Numbers) (log : LogParts) (p : Sphere) (k : ℕ) (t : Parts) (how : How) (n limit : ℕ) (devices : Devices) → slice_get p.threads k ≡ Some t
     → let e = chunk_effect k p.progress.request (run p.memory t n) in
-      Committed k (is_short z.chunk how limit) p (laid (recorded_chunk z log p k t how n limit devices)) log (chunk_log z log p k t how n limit) t e.thread e.made e.commit None
+    Committed k (is_short z.chunk how limit) p (laid (recorded_chunk z log p k t how n limit devices)) log (chunk_log z log p k t how n limit) t e.thread e.made e.commit None
 chunk_committed z log p k t how n limit devices is =
     let r = run p.memory t n in
     let e = chunk_effect k p.progress.request r in
@@ -232,7 +228,7 @@ effect_of p k moment t devices = serial_effect k (serve k p.threads p.progress.r
 
 serial_committed : (log : LogParts) (p : Sphere) (k moment : ℕ) (t : Parts) (devices : Devices) → slice_get p.threads k ≡ Some t
     → let e = effect_of p k moment t devices in
-      Committed k false p (laid (recorded_serial log p k moment t devices)) log (serial_log log p k moment t devices) t e.thread e.made e.commit (taken (need t p.memory) devices moment).input
+    Committed k false p (laid (recorded_serial log p k moment t devices)) log (serial_log log p k moment t devices) t e.thread e.made e.commit (taken (need t p.memory) devices moment).input
 serial_committed log p k moment t devices is =
     let e = effect_of p k moment t devices in
     let h = serve-keeps k p.threads p.progress.request t p.memory (taken (need t p.memory) devices moment).input in

@@ -1,10 +1,9 @@
 -- The play of a recorded log follows a DMA, and stays where an interrupt comes.
-use Rattle.std.proofs.Common.{◌≡◌, ◌≢◌, ℕ, zero, suc, ◌+◌, ◌<◌, ◌≤◌, inl, inr, Bool, true, false, not, ◌&&◌, eqb, cond, List, [], ◌∷◌, ◌++◌, length, map, Option, Some, None, refl, sym, ap, ◌∙◌, subst, arith, set}
-use Rattle.std.specs.Prelude.{slice_get, nat_le, nat_lt}
+use Rattle.std.proofs.Common.{◌≡◌, ◌≢◌, ℕ, suc, ◌+◌, ◌<◌, ◌≤◌, inl, inr, Bool, true, false, not, ◌&&◌, eqb, cond, List, [], ◌∷◌, length, map, Option, Some, None, refl, sym, ap, ◌∙◌, subst, arith, set}
+use Rattle.std.specs.Prelude.{slice_get, nat_le}
 use Rattle.std.proofs.Math.ListN.{length-set}
 use Rattle.std.proofs.lemmas.Bool.{true≢false, cases_eq, and_from, and_parts, eq-eqb, lt-ltb, le-leb, not-true}
 use Rattle.std.proofs.lemmas.List.{length-append, append_assoc}
-use Rattle.std.proofs.lemmas.Option.{none-some}
 use Rattle.dl_entry.specs.declared.Actor.{Actor}
 use Rattle.dl_entry.specs.declared.Request.{Request}
 use Rattle.dl_entry.specs.declared.Why.{Why}
@@ -15,20 +14,20 @@ use Rattle.spec_log.specs.declared.DmaRecord.{DmaRecord}
 use Rattle.spec_log.specs.declared.Interrupt.{Interrupt}
 use Rattle.spec_log.specs.declared.Sizes.{Sizes}
 use Rattle.spec_log.specs.declared.LogParts.{LogParts}
-use Rattle.spec_log.specs.Head.{turn, is_slot, head_by_turn, head_in}
-use Rattle.spec_log.specs.Size.{dma_size, size_in}
+use Rattle.spec_log.specs.Head.{is_slot, head_by_turn, head_in}
+use Rattle.spec_log.specs.Size.{dma_size}
 use Rattle.spec_kernel.specs.Copies.{dma_words}
 use Rattle.spec_kernel.specs.Interrupts.{is_live, has_handler, takes_interrupt, interrupted}
 use Rattle.spec_play.specs.Effects.{dma_commit}
 use Rattle.spec_play.specs.Progress.{Progress, position, with_dma, Used}
-use Rattle.spec_play.specs.Turns.{Now, Turn, TurnOfDma, turn_of, next_actor, at_end, has_left_over, now_at}
+use Rattle.spec_play.specs.Turns.{TurnOfDma, turn_of, next_actor, at_end, has_left_over, now_at}
 use Rattle.spec_play.specs.Verdicts.{interrupt_at, serial_why}
-use Rattle.spec_play.specs.Recording.{with_actor, with_size, noted, dma_noted, interrupt_noted, comes_before}
-use Rattle.spec_play.specs.Transfers.{DmaVerdict, DmaGoes, DmaFails, is_for, transferred, dma_unless, dma_verdict}
+use Rattle.spec_play.specs.Recording.{with_actor, with_size, noted, dma_noted, comes_before}
+use Rattle.spec_play.specs.Transfers.{DmaGoes, DmaFails, is_for, transferred, dma_unless, dma_verdict}
 use Rattle.spec_play.specs.Plays.{Played, dma_settled, play_now, play_one}
 use Rattle.spec_protocol.specs.Spheres.{Sphere}
 use Rattle.spec_protocol.proofs.Moving.{get-set_other, get-set_same}
-use Rattle.spec_protocol.proofs.Lookups.{get-behind, a_slot, raised_to, interrupt-other, interrupt-same, length-placed, SlotsBelow, SlotsFrom}
+use Rattle.spec_protocol.proofs.Lookups.{get-behind, a_slot, interrupt-other, interrupt-same, length-placed}
 use Rattle.spec_protocol.proofs.Growing.{OrderStands, SizesStand, Stands, SizesAhead, Behind, Ahead}
 use Rattle.spec_protocol.proofs.Coming.{Transferred, WasRaised}
 use Rattle.spec_protocol.proofs.Following.{early_by, early, pending_by, pending, sum_from, sum-set, Follows}
@@ -141,11 +140,14 @@ raised_to_come : (L : LogParts) (k value : ℕ) (p q : Sphere) (log qlog : LogPa
 raised_to_come L k value p q log qlog t d sp aq =
     let none : interrupt_at log.interrupts k t.commits ≡ None = sp.unmasked k t d.start (open_takes t d.takes) in
     let some : interrupt_at qlog.interrupts k t.commits ≡ Some value = ap (λ (l : LogParts). interrupt_at l.interrupts k t.commits) d.log_ ∙ interrupt-same log.interrupts k t.commits value none in
-    let there : slice_get q.threads k ≡ Some (interrupted value t) = ap (λ (ts : List Parts). slice_get ts k) d.threads ∙ get-set_same p.threads k (interrupted value t) t d.start in
-    (none, elim (aq.next k (interrupted value t) there) [
-      | inl h ↦ h ∙ some
-      | inr takes ↦ absurd (masked_takes t value takes)
-    ], some)
+    let there : slice_get q.threads k ≡ Some (interrupted value t) = ap (λ (ts : List Parts). slice_get ts k) d.threads ∙ get-set_same p.threads k (interrupted value t) t d.start in (
+      none,
+      elim (aq.next k (interrupted value t) there) [
+        | inl h ↦ h ∙ some
+        | inr takes ↦ absurd (masked_takes t value takes)
+      ],
+      some,
+    )
 
 raised_threads : (L : LogParts) (k value : ℕ) (p q : Sphere) (log qlog : LogParts) (t : Parts) (y : Played) → WasRaised k value p q log qlog t → Stands p log → Ahead L q qlog → Follows L p log y
     → (j : ℕ) (x : Parts) → slice_get q.threads j ≡ Some x → slice_get y.threads j ≡ Some (early L.interrupts qlog.interrupts j x)
@@ -155,13 +157,13 @@ raised_threads L k value p q log qlog t y d sp aq f j x e =
     let is : slice_get (set p.threads k u) j ≡ Some x = ap (λ (ts : List Parts). slice_get ts j) (sym d.threads) ∙ e in
     elim (cases_eq j k) [
       | inl jk ↦ (
-        let ux : u ≡ x = (let o : Some u ≡ Some x = sym (get-set_same p.threads k u t d.start) ∙ ap (slice_get (set p.threads k u)) (sym jk) ∙ is in cc) in
-        let kj : k ≡ j = sym jk in
-        ap (slice_get y.threads) jk ∙ f.threads k t d.start
-        ∙ (λ i. Some (early_by (h.0 i) (h.1 i) t))
-        ∙ sym (ap (λ (o : Option ℕ). Some (early_by o (interrupt_at L.interrupts k t.commits) u)) h.2)
-        ∙ (λ i. Some (early L.interrupts qlog.interrupts (kj i) (ux i)))
-      )
+          let ux : u ≡ x = (let o : Some u ≡ Some x = sym (get-set_same p.threads k u t d.start) ∙ ap (slice_get (set p.threads k u)) (sym jk) ∙ is in cc) in
+          let kj : k ≡ j = sym jk in
+          ap (slice_get y.threads) jk ∙ f.threads k t d.start
+          ∙ (λ i. Some (early_by (h.0 i) (h.1 i) t))
+          ∙ sym (ap (λ (o : Option ℕ). Some (early_by o (interrupt_at L.interrupts k t.commits) u)) h.2)
+          ∙ (λ i. Some (early L.interrupts qlog.interrupts (kj i) (ux i)))
+          )
       | inr ne ↦ f.threads j x (sym (get-set_other p.threads k j u ne) ∙ is)
           ∙ ap (λ (o : Option ℕ). Some (early_by o (interrupt_at L.interrupts j x.commits) x))
           (sym (ap (λ (l : LogParts). interrupt_at l.interrupts j x.commits) d.log_ ∙ interrupt-other log.interrupts k t.commits value j x.commits (λ kj c. ne (sym kj))))
