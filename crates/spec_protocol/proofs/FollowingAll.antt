@@ -1,44 +1,38 @@
 -- The play of a recorded log follows the recording from its start to its end.
-use Rattle.std.proofs.Common.{◌≡◌, ◌≢◌, ℕ, zero, suc, ◌+◌, ◌<◌, ◌≤◌, inl, inr, Bool, true, false, not, ◌&&◌, eqb, cond, List, [], ◌∷◌, ◌++◌, length, map, Option, Some, None, refl, sym, ap, ◌∙◌, subst, arith, set}
-use Rattle.std.specs.Prelude.{slice_get, slice_set, nat_lt, IsSome, find, option_map}
+use Rattle.std.proofs.Common.{◌≡◌, ◌≢◌, ℕ, zero, suc, ◌+◌, ◌<◌, ◌≤◌, inl, inr, Bool, true, false, ◌&&◌, eqb, cond, List, [], ◌∷◌, length, map, Option, Some, None, refl, sym, ap, ◌∙◌, subst, arith}
+use Rattle.std.specs.Prelude.{slice_get, nat_lt, IsSome, find, option_map}
 use Rattle.std.specs.List.{list_all}
 use Rattle.std.proofs.lemmas.Bool.{true≢false, cases_eq, cases_lt, le-ltb, lt-ltb, and_from, eq-eqb}
 use Rattle.std.proofs.lemmas.Option.{none-some}
-use Rattle.dl_entry.specs.declared.Actor.{Actor}
 use Rattle.dl_entry.specs.declared.End.{End}
 use Rattle.dl_entry.specs.declared.Request.{Request}
 use Rattle.spec_isa.specs.declared.thread.Parts.{Parts}
 use Rattle.spec_isa.specs.Threads.{started}
 use Rattle.spec_isa.specs.Runs.{run}
 use Rattle.spec_log.specs.declared.ModeName.{ModeName}
-use Rattle.spec_log.specs.declared.Interrupt.{Interrupt}
 use Rattle.spec_log.specs.declared.ShortSize.{ShortSize}
 use Rattle.spec_log.specs.declared.Sizes.{Sizes}
 use Rattle.spec_log.specs.declared.LogParts.{LogParts}
-use Rattle.spec_kernel.specs.Devices.{Devices}
-use Rattle.spec_kernel.specs.Interrupts.{is_live, has_handler, takes_interrupt}
-use Rattle.spec_play.specs.Progress.{Progress, no_progress, position, Used}
-use Rattle.spec_play.specs.Turns.{Now, Over, is_size_used, are_sizes_used, has_left_over, at_end, turn_of, next_actor, now_at}
+use Rattle.spec_kernel.specs.Interrupts.{takes_interrupt}
+use Rattle.spec_play.specs.Progress.{Progress, position, Used}
+use Rattle.spec_play.specs.Turns.{Over, is_size_used, are_sizes_used, has_left_over, at_end, turn_of, next_actor, now_at}
 use Rattle.spec_play.specs.Verdicts.{interrupt_at}
 use Rattle.spec_play.specs.Recording.{new_log, no_sizes, interrupt_noted}
 use Rattle.spec_play.specs.Plays.{Played, opened, plays, play}
 use Rattle.spec_engine.specs.declared.answers.How.{How}
-use Rattle.spec_protocol.specs.declared.event.Event.{Event}
-use Rattle.spec_protocol.specs.Spheres.{Role, Plain, Record, Replay, Sphere}
+use Rattle.spec_protocol.specs.Spheres.{Role, Record, Sphere}
 use Rattle.spec_protocol.specs.Commits.{Moved, is_piece, chunk_in, chunk_moved, serial_in, serial_moved, dma_in, dma_moved, live_dma, dma_log, role_raised, raised}
 use Rattle.spec_protocol.specs.World.{Numbers, What, OfChunk, OfSerial, OfDma, OfRaise, Move}
 use Rattle.spec_protocol.specs.Asking.{is_short}
-use Rattle.spec_protocol.specs.Machine.{IsRecorded, SphereSetup, Setup, role_of, sphere_of, moves, world_of}
+use Rattle.spec_protocol.specs.Machine.{SphereSetup, role_of, sphere_of, moves, world_of}
 use Rattle.spec_protocol.specs.Serial.{Whole, whole_of, laid, do_moved, do_serial, do_dma, do_raise}
-use Rattle.spec_protocol.specs.Shown.{shown_of}
 use Rattle.spec_protocol.specs.Moves.{move_chunk, do_what, do_at, do_move, do_moves, FitsChunk, FitsSerial, FitsRaise, FitsWhat, FitsAt, Fits, FitAll}
-use Rattle.spec_protocol.specs.Promises.{IsSetup, after}
 use Rattle.spec_protocol.specs.PlayingBack.{PlaysBack, LogsPlayBack}
 use Rattle.spec_protocol.proofs.Moving.{get-set_other, get-set_same}
-use Rattle.spec_protocol.proofs.Lookups.{short_at, count_of}
+use Rattle.spec_protocol.proofs.Lookups.{short_at}
 use Rattle.spec_protocol.proofs.Growing.{commits_if, commits_in, OrderStands, SizesStand, Stands, Ahead}
 use Rattle.spec_protocol.proofs.Coming.{ahead-end}
-use Rattle.spec_protocol.proofs.Following.{early, early_same, pending, pending_same, sum_from, sum-zero, Follows}
+use Rattle.spec_protocol.proofs.Following.{early_same, pending, pending_same, sum_from, sum-zero, Follows}
 use Rattle.spec_protocol.proofs.FollowingMoves.{Reaches, Grown, grown_refl, grown_trans, chunk-grown, serial-grown, dma-grown, raise-grown, recorded_dma}
 use Rattle.spec_protocol.proofs.Schedules.{moves_are}
 

@@ -1,5 +1,5 @@
 -- The play of a recorded log follows a commit of a thread.
-use Rattle.std.proofs.Common.{◌≡◌, ℕ, ◌+◌, inl, inr, Bool, true, List, ◌++◌, length, Option, Some, None, refl, sym, ap, ◌∙◌, arith, set, ◌<◌, ◌≤◌, subst, false, [], ◌∷◌, not, map}
+use Rattle.std.proofs.Common.{◌≡◌, ℕ, ◌+◌, inl, inr, Bool, true, List, ◌++◌, length, Option, Some, None, refl, sym, ap, ◌∙◌, arith, set, ◌<◌, subst, false, map}
 use Rattle.std.specs.Prelude.{slice_get}
 use Rattle.std.proofs.Math.ListN.{length-set}
 use Rattle.std.proofs.lemmas.Bool.{true≢false, cases_eq}

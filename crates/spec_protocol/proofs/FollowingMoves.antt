@@ -1,42 +1,38 @@
 -- What each move makes of a recorded sphere and of its log; and that the play of the log, in the end, follows it.
-use Rattle.std.proofs.Common.{◌≡◌, ◌≢◌, ℕ, zero, suc, ◌+◌, ◌<◌, ◌≤◌, ◌⊎◌, inl, inr, Bool, true, false, not, eqb, cond, List, [], ◌∷◌, ◌++◌, length, map, Option, Some, None, refl, sym, ap, ◌∙◌, subst, arith, set}
-use Rattle.std.specs.Prelude.{slice_get, slice_set, nat_lt, IsSome, option_map}
+use Rattle.std.proofs.Common.{◌≡◌, ℕ, zero, suc, ◌+◌, ◌<◌, ◌≤◌, inl, inr, Bool, true, false, not, eqb, cond, List, [], ◌∷◌, ◌++◌, length, map, Option, Some, None, refl, sym, ap, ◌∙◌, subst, arith}
+use Rattle.std.specs.Prelude.{slice_get, nat_lt, option_map}
 use Rattle.std.specs.Option.{option_or}
-use Rattle.std.proofs.Math.ListN.{length-set}
 use Rattle.std.proofs.lemmas.Bool.{true≢false, cases_eq, eqb-true, lt-ltb, cases_lt}
-use Rattle.std.proofs.lemmas.List.{length-append, append-nil}
+use Rattle.std.proofs.lemmas.List.{length-append}
 use Rattle.std.proofs.lemmas.Option.{none-some}
 use Rattle.dl_entry.specs.declared.Actor.{Actor}
 use Rattle.dl_entry.specs.declared.Input.{Input}
 use Rattle.dl_entry.specs.declared.Request.{Request}
 use Rattle.spec_isa.specs.declared.thread.Parts.{Parts}
-use Rattle.spec_isa.specs.Words.{lays}
-use Rattle.spec_isa.specs.Runs.{Run, run}
+use Rattle.spec_isa.specs.Runs.{run}
 use Rattle.spec_log.specs.declared.ModeName.{ModeName}
 use Rattle.spec_log.specs.declared.LogParts.{LogParts}
 use Rattle.spec_log.specs.Head.{turn, first_live, next_live}
-use Rattle.spec_log.specs.Size.{size_in}
 use Rattle.spec_kernel.specs.Devices.{Devices}
 use Rattle.spec_kernel.specs.Copies.{dma_words}
-use Rattle.spec_kernel.specs.Needs.{need, next_kind}
-use Rattle.spec_kernel.specs.Answers.{Taken, taken, dma_bytes, dma_taken}
-use Rattle.spec_kernel.specs.Interrupts.{is_live, takes_interrupt, interrupted}
-use Rattle.spec_kernel.specs.Serving.{Served, serve}
+use Rattle.spec_kernel.specs.Needs.{need}
+use Rattle.spec_kernel.specs.Answers.{taken, dma_bytes, dma_taken}
+use Rattle.spec_kernel.specs.Interrupts.{is_live, takes_interrupt}
+use Rattle.spec_kernel.specs.Serving.{serve}
 use Rattle.spec_play.specs.Effects.{Effect, chunk_effect, serial_effect, dma_commit}
-use Rattle.spec_play.specs.Progress.{Progress, position, with_effect, with_dma, Used}
+use Rattle.spec_play.specs.Progress.{position}
 use Rattle.spec_play.specs.Recording.{noted, interrupt_noted}
-use Rattle.spec_play.specs.Plays.{Played, plays, play_one}
+use Rattle.spec_play.specs.Plays.{Played, plays}
 use Rattle.spec_engine.specs.declared.answers.How.{How}
-use Rattle.spec_protocol.specs.Spheres.{Role, Plain, Record, Replay, Sphere, recording_turn, head_in, head_of, limit_in, limit_of, is_in_pieces}
-use Rattle.spec_protocol.specs.Commits.{Moved, is_piece, chunk_in, chunk_moved, serial_noted, serial_in, serial_moved, dma_log, dma_in, dma_moved, raised, dma_as}
+use Rattle.spec_protocol.specs.Spheres.{Role, Record, Sphere, recording_turn, head_in, head_of, limit_in, limit_of, is_in_pieces}
+use Rattle.spec_protocol.specs.Commits.{Moved, is_piece, chunk_in, serial_noted, serial_in, dma_log, raised, dma_as}
 use Rattle.spec_protocol.specs.World.{Numbers}
 use Rattle.spec_protocol.specs.Asking.{is_short, other_turn}
 use Rattle.spec_protocol.specs.Serial.{laid}
-use Rattle.spec_protocol.specs.Moves.{ChunkFits, SerialFits, DmaFits, RaiseFits}
-use Rattle.spec_protocol.proofs.Moving.{get-set_same}
+use Rattle.spec_protocol.specs.Moves.{ChunkFits, SerialFits}
 use Rattle.spec_protocol.proofs.Keeping.{run-keeps, serve-keeps}
 use Rattle.spec_protocol.proofs.Answering.{dma-most}
-use Rattle.spec_protocol.proofs.Growing.{Stands, Ahead, Committed, committed-parts, Grows, grows_of, committed-stands, SizesAhead}
+use Rattle.spec_protocol.proofs.Growing.{Stands, Ahead, Committed, committed-parts, grows_of, committed-stands, SizesAhead}
 use Rattle.spec_protocol.proofs.Coming.{committed-ahead, Transferred, transferred-stands, transferred-ahead, WasRaised, raised-stands, raised-ahead}
 use Rattle.spec_protocol.proofs.Following.{Follows, Effects, look-alike}
 use Rattle.spec_protocol.proofs.FollowingCommits.{commit-follows}

@@ -1,10 +1,9 @@
 -- The play of a recorded log follows a DMA, and stays where an interrupt comes.
-use Rattle.std.proofs.Common.{◌≡◌, ◌≢◌, ℕ, zero, suc, ◌+◌, ◌<◌, ◌≤◌, inl, inr, Bool, true, false, not, ◌&&◌, eqb, cond, List, [], ◌∷◌, ◌++◌, length, map, Option, Some, None, refl, sym, ap, ◌∙◌, subst, arith, set}
-use Rattle.std.specs.Prelude.{slice_get, nat_le, nat_lt}
+use Rattle.std.proofs.Common.{◌≡◌, ◌≢◌, ℕ, suc, ◌+◌, ◌<◌, ◌≤◌, inl, inr, Bool, true, false, not, ◌&&◌, eqb, cond, List, [], ◌∷◌, length, map, Option, Some, None, refl, sym, ap, ◌∙◌, subst, arith, set}
+use Rattle.std.specs.Prelude.{slice_get, nat_le}
 use Rattle.std.proofs.Math.ListN.{length-set}
 use Rattle.std.proofs.lemmas.Bool.{true≢false, cases_eq, and_from, and_parts, eq-eqb, lt-ltb, le-leb, not-true}
 use Rattle.std.proofs.lemmas.List.{length-append, append_assoc}
-use Rattle.std.proofs.lemmas.Option.{none-some}
 use Rattle.dl_entry.specs.declared.Actor.{Actor}
 use Rattle.dl_entry.specs.declared.Request.{Request}
 use Rattle.dl_entry.specs.declared.Why.{Why}
@@ -15,20 +14,20 @@ use Rattle.spec_log.specs.declared.DmaRecord.{DmaRecord}
 use Rattle.spec_log.specs.declared.Interrupt.{Interrupt}
 use Rattle.spec_log.specs.declared.Sizes.{Sizes}
 use Rattle.spec_log.specs.declared.LogParts.{LogParts}
-use Rattle.spec_log.specs.Head.{turn, is_slot, head_by_turn, head_in}
-use Rattle.spec_log.specs.Size.{dma_size, size_in}
+use Rattle.spec_log.specs.Head.{is_slot, head_by_turn, head_in}
+use Rattle.spec_log.specs.Size.{dma_size}
 use Rattle.spec_kernel.specs.Copies.{dma_words}
 use Rattle.spec_kernel.specs.Interrupts.{is_live, has_handler, takes_interrupt, interrupted}
 use Rattle.spec_play.specs.Effects.{dma_commit}
 use Rattle.spec_play.specs.Progress.{Progress, position, with_dma, Used}
-use Rattle.spec_play.specs.Turns.{Now, Turn, TurnOfDma, turn_of, next_actor, at_end, has_left_over, now_at}
+use Rattle.spec_play.specs.Turns.{TurnOfDma, turn_of, next_actor, at_end, has_left_over, now_at}
 use Rattle.spec_play.specs.Verdicts.{interrupt_at, serial_why}
-use Rattle.spec_play.specs.Recording.{with_actor, with_size, noted, dma_noted, interrupt_noted, comes_before}
-use Rattle.spec_play.specs.Transfers.{DmaVerdict, DmaGoes, DmaFails, is_for, transferred, dma_unless, dma_verdict}
+use Rattle.spec_play.specs.Recording.{with_actor, with_size, noted, dma_noted, comes_before}
+use Rattle.spec_play.specs.Transfers.{DmaGoes, DmaFails, is_for, transferred, dma_unless, dma_verdict}
 use Rattle.spec_play.specs.Plays.{Played, dma_settled, play_now, play_one}
 use Rattle.spec_protocol.specs.Spheres.{Sphere}
 use Rattle.spec_protocol.proofs.Moving.{get-set_other, get-set_same}
-use Rattle.spec_protocol.proofs.Lookups.{get-behind, a_slot, raised_to, interrupt-other, interrupt-same, length-placed, SlotsBelow, SlotsFrom}
+use Rattle.spec_protocol.proofs.Lookups.{get-behind, a_slot, interrupt-other, interrupt-same, length-placed}
 use Rattle.spec_protocol.proofs.Growing.{OrderStands, SizesStand, Stands, SizesAhead, Behind, Ahead}
 use Rattle.spec_protocol.proofs.Coming.{Transferred, WasRaised}
 use Rattle.spec_protocol.proofs.Following.{early_by, early, pending_by, pending, sum_from, sum-set, Follows}

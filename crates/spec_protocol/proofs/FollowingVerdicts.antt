@@ -1,39 +1,35 @@
 -- What the play of a recorded log says of the next commit of a thread: that it goes as it was recorded.
-use Rattle.std.proofs.Common.{◌≡◌, ◌≢◌, ℕ, zero, suc, ◌+◌, ◌-◌, ◌<◌, ◌≤◌, ◌⊎◌, inl, inr, Bool, true, false, eqb, cond, List, [], ◌∷◌, ◌++◌, length, map, Option, Some, None, refl, sym, ap, ◌∙◌, subst, arith, set}
+use Rattle.std.proofs.Common.{◌≡◌, ℕ, zero, suc, ◌+◌, ◌-◌, ◌<◌, ◌≤◌, ◌⊎◌, inl, inr, Bool, true, false, cond, List, [], ◌∷◌, ◌++◌, length, Option, Some, None, refl, sym, ap, ◌∙◌, arith}
 use Rattle.std.specs.Prelude.{slice_get, nat_lt, IsSome}
 use Rattle.std.proofs.lemmas.Bool.{true≢false, le-ltb, ne_eqb}
 use Rattle.std.proofs.lemmas.List.{length-append, append_assoc}
-use Rattle.std.proofs.lemmas.Option.{none-some}
 use Rattle.dl_entry.specs.declared.Actor.{Actor}
 use Rattle.dl_entry.specs.declared.Input.{Input}
 use Rattle.dl_entry.specs.declared.Why.{Why}
-use Rattle.dl_entry.specs.declared.Request.{Request}
 use Rattle.spec_isa.specs.declared.thread.Parts.{Parts}
 use Rattle.spec_isa.specs.declared.thread.Kind.{Kind}
 use Rattle.spec_isa.specs.Words.{lays, Stored}
 use Rattle.spec_isa.specs.declared.thread.Load.{Load}
-use Rattle.spec_isa.specs.Instruction.{Outcome, Next, Serial, one, unless, value_at, outcome_with, loads_of}
+use Rattle.spec_isa.specs.Instruction.{Outcome, Next, Serial, one, unless, value_at, loads_of}
 use Rattle.spec_isa.specs.Runs.{Run, begun, followed, more, run}
 use Rattle.spec_log.specs.declared.ModeName.{ModeName}
-use Rattle.spec_log.specs.declared.ShortSize.{ShortSize}
 use Rattle.spec_log.specs.declared.Sizes.{Sizes}
 use Rattle.spec_log.specs.declared.LogParts.{LogParts}
 use Rattle.spec_log.specs.Size.{thread_size, size_in, sizes_of_thread}
 use Rattle.spec_kernel.specs.Devices.{Devices}
 use Rattle.spec_kernel.specs.Needs.{Need, fetched, next_kind, need}
 use Rattle.spec_kernel.specs.Answers.{answer, Taken, taken}
-use Rattle.spec_kernel.specs.Records.{fits}
 use Rattle.spec_kernel.specs.Serving.{serve}
-use Rattle.spec_play.specs.Effects.{Effect, chunk_effect, serial_effect}
+use Rattle.spec_play.specs.Effects.{chunk_effect, serial_effect}
 use Rattle.spec_play.specs.Progress.{Progress, Used}
-use Rattle.spec_play.specs.Verdicts.{Verdict, ended, chunk_why, chunk_verdict, serial_why, Given, given, served_verdict, serial_verdict, unless as unless_why}
-use Rattle.spec_play.specs.Recording.{with_actor, with_short, with_size, input_noted}
+use Rattle.spec_play.specs.Verdicts.{ended, chunk_why, chunk_verdict, serial_why, given, served_verdict, serial_verdict, unless as unless_why}
+use Rattle.spec_play.specs.Recording.{with_actor, with_size, input_noted}
 use Rattle.spec_play.specs.Plays.{Played, size_or_standard, thread_verdict}
 use Rattle.spec_protocol.proofs.Running.{one-outcome, serial_outcome}
 use Rattle.spec_protocol.proofs.Answering.{answer-fits}
 use Rattle.spec_protocol.proofs.Keeping.{run-keeps, LookAlike, serve-alike}
-use Rattle.spec_protocol.proofs.Lookups.{short_at, short-same, size-there, count_of, get-behind}
-use Rattle.spec_protocol.proofs.Growing.{commits_in, OrderStands, SizesStand, SizesAhead, Behind, Grows}
+use Rattle.spec_protocol.proofs.Lookups.{short-same, size-there, count_of, get-behind}
+use Rattle.spec_protocol.proofs.Growing.{OrderStands, SizesStand, SizesAhead, Behind, Grows}
 
 -- ---- runs
 
