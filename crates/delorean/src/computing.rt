@@ -1,7 +1,7 @@
 //! From the bytes of a plan's inputs to what is to be written and said: no file is touched here.
-ghost use Rattle.std.specs.Prelude.{◌≡◌, ◌≤◌, ◌^◌, ℕ, List, false, Ok, Some, IfOk, IfErr, length};
+ghost use Rattle.std.specs.Prelude.{◌≡◌, ◌≤◌, ◌^◌, ℕ, List, false, Ok, IfOk, IfErr, length};
 ghost use Rattle.dl_elf.specs.Images.{Image as Described};
-ghost use Rattle.dl_elf.specs.Short.{image_of};
+ghost use Rattle.dl_elf.specs.Loading.{image_of};
 ghost use Rattle.dl_plan.specs.Values.{PlanValues, plan_view, IsPlan};
 ghost use Rattle.dl_script.specs.Script.{script_of};
 ghost use Rattle.spec_program.specs.Outcomes.{Finishes, of_image, of_script};
@@ -43,7 +43,7 @@ pub fn compute(alloc: Global, plan: &Plan, inputs: &Inputs) -> Result<Job, Halt>
 
 fn load_image(alloc: Global, plan: &Plan, bytes: &[u8]) -> Result<Image, Halt>
     requires { IsPlan (plan_view plan.now) }
-    ensures image { IfOk result (λ image. image_of bytes.now plan.now.memory ≡ Some image) }
+    ensures image { IfOk result (λ image. image_of bytes.now plan.now.memory ≡ Ok image) }
     ensures halt { IfErr result (λ halt. (script : List ℕ) → Refused (of_image (plan_view plan.now) script (image_of bytes.now plan.now.memory)) halt) }
 {
     match load(alloc, bytes, plan.memory) {

@@ -1,7 +1,7 @@
 //! The files that a plan names to be read.
 ghost use Rattle.std.specs.Prelude.{◌≡◌, ◌≤◌, ◌∷◌, [], Some, IfOk, IfErr};
 ghost use Rattle.std.specs.FinMap.{get};
-ghost use Rattle.dl_elf.specs.Short.{image_of};
+ghost use Rattle.dl_elf.specs.Loading.{image_of};
 ghost use Rattle.dl_files.specs.Contents.{Contents};
 ghost use Rattle.dl_plan.specs.Values.{plan_view};
 ghost use Rattle.spec_program.specs.Outcomes.{of_script_file, of_image};

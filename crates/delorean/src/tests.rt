@@ -7,6 +7,8 @@ use std::fs;
 use std::process::Abort;
 use std::test::Fail;
 
+mod instructions;
+
 const PLAN: &[u8] =
     b"cores = 1\nchunk = 100\nbuffer = 16\nwindow = 2\nsignature = 64\nscript = \"s.txt\"\nreport = \"r.txt\"\n[[sphere]]\nimage = \"a.elf\"\nmemory = 4096\nrole = \"record\"\nmode = \"order-size\"\nlog = \"a.log\"\naccount = \"a.txt\"\n";
 
@@ -122,9 +124,9 @@ fn what_is_read_decides_the_answer(rt: HostRuntime) -> Result<(), Fail> {
         },
         Case {
             name: "a.elf",
-            bytes: b"\x7fELF\x01\x01\x01",
+            bytes: b"\x7fELF\x01\x01\x01\0\0\0\0\0\0\0\0\0\x02\0\xf3\0\x01\0\0\0\0\0\0\04\0\0\0\0\0\0\0\0\0\0\04\0 \0\x01\0\0\0\0\0\0",
             status: Status::Image,
-            said: b"refused image 0 0\n",
+            said: b"refused image 0 1\n",
         },
         Case {
             name: "plan.toml",

@@ -1,3 +1,6 @@
 pub mod Images
-pub mod Short
+pub mod Fields
+pub mod Segments
+pub mod Rules
+pub mod Loading
 pub mod Causes

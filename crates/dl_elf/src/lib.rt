@@ -1,8 +1,13 @@
-//! Images: a program laid out in the first bytes of a sphere's memory, as a file of ELF32 holds it.
+//! Images: what a file of ELF32 is loaded to, in a memory of a size, or the first rule that it breaks.
 #![tactic(auto)]
 
+mod header;
 pub mod image;
-pub mod short;
+mod loading;
+mod overlapping;
+mod segment;
+#[cfg(test)]
+mod tests;
 
 pub use image::{ElfError, Image};
-pub use short::load;
+pub use loading::load;

@@ -8,7 +8,7 @@ use Rattle.dl_entry.specs.declared.End.{End}
 use Rattle.dl_entry.specs.declared.SphereLine.{SphereLine}
 use Rattle.dl_files.specs.Contents.{Contents}
 use Rattle.dl_elf.specs.Images.{Image}
-use Rattle.dl_elf.specs.Short.{image_of}
+use Rattle.dl_elf.specs.Loading.{image_of}
 use Rattle.dl_plan.specs.Plans.{plan_of}
 use Rattle.dl_plan.specs.Values.{PlanValues}
 use Rattle.dl_script.specs.Script.{script_of}
@@ -79,9 +79,9 @@ abbrev pub of_script : PlanValues → Image → Result (List Event) ℕ → Outc
 of_script p image (Err number) = Refuses Refusal.Grammar (script_line number)
 of_script p image (Ok events) = recorded p (setup_of p image) events
 
-abbrev pub of_image : PlanValues → (script : List ℕ) → Option Image → Outcome
-of_image p script None = Refuses Refusal.Image (image_line 0 0)
-of_image p script (Some image) = of_script p image (script_of script)
+abbrev pub of_image : PlanValues → (script : List ℕ) → Result Image ℕ → Outcome
+of_image p script (Err rule) = Refuses Refusal.Image (image_line 0 rule)
+of_image p script (Ok image) = of_script p image (script_of script)
 
 -- the image's file, once the script is read
 abbrev pub of_image_file : PlanValues → (script : List ℕ) → Option (List ℕ) → Outcome
