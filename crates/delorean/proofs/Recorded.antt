@@ -11,7 +11,7 @@ use Rattle.spec_single.specs.Logged.{logged}
 use Rattle.spec_single.specs.Promise.{committed_part}
 use Rattle.spec_single.proofs.Bounding.{after_limit}
 use Rattle.spec_single.proofs.Commits.{commits_are_serial}
-use Rattle.dl_plan.specs.Values.{PlanValues}
+use Rattle.spec_program.specs.Built.{Recording}
 use Rattle.spec_program.specs.Writes.{Write}
 use Rattle.spec_program.specs.Outcomes.{ended, executed, spheres_of, account_of_whole, log_text, account_text, report_text, summary_text, writes_for}
 use Rattle.delorean.specs.declared.writing.NamedBytes.{NamedBytes}
@@ -38,7 +38,7 @@ report_is : (s : Setup) (es : List Event) (m : Machine) → m ≡ ended s es →
 unfolding report_text report_in
 report_is s es m e w = λ i. report_of (e i).points (e i).counts (spheres_are s es m w i)
 
-pub files_are : (p : PlanValues) (s : Setup) (es : List Event) (m : Machine) → 0 < s.limit → 0 < s.capacity → m ≡ ended s es → files_in p m ≡ writes_for p s es
+pub files_are : (p : Recording) (s : Setup) (es : List Event) (m : Machine) → 0 < s.limit → 0 < s.capacity → m ≡ ended s es → files_in p m ≡ writes_for p s es
 files_are p s es m limit capacity e =
     let w = whole_is s es m limit capacity e in
     let log = log_is s es m e in

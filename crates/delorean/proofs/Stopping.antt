@@ -1,11 +1,11 @@
 -- A file that could not be read stops the command that reads it.
-use Rattle.std.proofs.Common.{◌≡◌, ℕ, suc, ◌≤◌, List, [], ◌∷◌, Contains, Option, Some, None, refl, sym, ◌∙◌, ap, subst, arith}
+use Rattle.std.proofs.Common.{◌≡◌, ℕ, suc, ◌≤◌, List, [], ◌∷◌, Contains, Option, Some, None, Result, Ok, refl, sym, ◌∙◌, ap, subst, arith}
 use Rattle.std.specs.FinMap.{get}
 use Rattle.dl_files.specs.Contents.{Contents}
 use Rattle.spec_program.specs.declared.status.Refusal.{Refusal}
 use Rattle.spec_program.specs.Lines.{absent_line}
-use Rattle.spec_program.specs.Ends.{plan_at, inputs_of}
-use Rattle.dl_plan.specs.Values.{PlanValues}
+use Rattle.spec_program.specs.Ends.{asked_at, inputs_of}
+use Rattle.spec_program.specs.Built.{Recording}
 use Rattle.spec_program.specs.Outcomes.{Outcome, Refuses, of_script_file, of_image_file}
 use Rattle.delorean.specs.declared.halt.Halt.{Halt}
 use Rattle.delorean.specs.Halts.{Unread, Halts}
@@ -20,7 +20,7 @@ unread_halts told name outcome reads start old new last (Halt.Fault text) le abs
 unread_halts told name outcome reads start old new last Halt.OutOfMemory le absent read u = tt
 
 -- the image is absent, once the script is read
-pub image_absent : (m : Contents) (p : PlanValues) (script : List ℕ) → get m p.script ≡ Some script → get m p.image ≡ None
+pub image_absent : (m : Contents) (p : Recording) (script : List ℕ) → get m p.script ≡ Some script → get m p.image ≡ None
     → of_script_file m p (get m p.script) ≡ Refuses Refusal.Absent (absent_line p.image)
 image_absent m p script there absent = ap (of_script_file m p) there ∙ ap (of_image_file p script) absent
 
@@ -36,16 +36,16 @@ unread_at told seen name shown old new last h same named u =
 contains_more : (x n : List ℕ) (xs : List (List ℕ)) → Contains xs n → Contains (x ∷ xs) n
 contains_more x n xs c = (suc c.0, omega (arith, c.1), c.2)
 
-contains_read : (x n : List ℕ) (o : Option PlanValues) (p : PlanValues) → o ≡ Some p → Contains (p.script ∷ p.image ∷ []) n → Contains (x ∷ inputs_of o) n
-contains_read x n o p e c = subst (λ (q : Option PlanValues). Contains (x ∷ inputs_of q) n) (sym e) (contains_more x n (p.script ∷ p.image ∷ []) c)
+contains_read : (x n : List ℕ) (o : Option (Result Recording ℕ)) (p : Recording) → o ≡ Some (Ok p) → Contains (p.script ∷ p.image ∷ []) n → Contains (x ∷ inputs_of o) n
+contains_read x n o p e c = subst (λ (q : Option (Result Recording ℕ)). Contains (x ∷ inputs_of q) n) (sym e) (contains_more x n (p.script ∷ p.image ∷ []) c)
 
 -- a stop in reading the inputs is a stop of the whole command
-pub inputs_halt : (told seen : Option Contents) (outcome : Contents → Outcome) (name : List ℕ) (p : PlanValues) (start old new : ℕ) (last : Option (List ℕ)) (h : Halt)
-    → seen ≡ told → start ≤ old → ((m : Contents) → told ≡ Some m → outcome m ≡ of_script_file m p (get m p.script)) → ((m : Contents) → told ≡ Some m → plan_at m name ≡ Some p)
+pub inputs_halt : (told seen : Option Contents) (outcome : Contents → Outcome) (name : List ℕ) (p : Recording) (start old new : ℕ) (last : Option (List ℕ)) (h : Halt)
+    → seen ≡ told → start ≤ old → ((m : Contents) → told ≡ Some m → outcome m ≡ of_script_file m p (get m p.script)) → ((m : Contents) → told ≡ Some m → asked_at m name ≡ Some (Ok p))
     → Halts seen (λ m. of_script_file m p (get m p.script)) (λ m. p.script ∷ p.image ∷ []) old new last h
-    → Halts told outcome (λ m. name ∷ inputs_of (plan_at m name)) start new last h
+    → Halts told outcome (λ m. name ∷ inputs_of (asked_at m name)) start new last h
 inputs_halt told seen outcome name p start old new last (Halt.Refused why text) same le same_outcome plan u =
     ((λ m e. same_outcome m e ∙ u.0 m (same ∙ e)), (λ e a. omega (arith, u.1 (same ∙ e) a)))
 inputs_halt told seen outcome name p start old new last (Halt.Fault text) same le same_outcome plan u =
-    (omega (arith, u.0), (u.1.0, u.1.1, u.1.2, (λ m e. contains_read name u.1.0 (plan_at m name) p (plan m e) (u.1.3 m (same ∙ e)))))
+    (omega (arith, u.0), (u.1.0, u.1.1, u.1.2, (λ m e. contains_read name u.1.0 (asked_at m name) p (plan m e) (u.1.3 m (same ∙ e)))))
 inputs_halt told seen outcome name p start old new last Halt.OutOfMemory same le same_outcome plan u = tt

@@ -3,5 +3,6 @@ pub mod Halts
 pub mod Jobs
 pub mod Stops
 pub mod Recordings
+pub mod Asked
 pub mod Ended
 pub mod Performed

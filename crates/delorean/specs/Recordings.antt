@@ -3,11 +3,11 @@ use Rattle.std.specs.Prelude.{ℕ, List, [], ◌∷◌, length}
 use Rattle.dl_account.specs.Report.{report_of}
 use Rattle.dl_account.specs.Summary.{summary_of}
 use Rattle.dl_entry.specs.declared.SphereLine.{SphereLine}
-use Rattle.dl_plan.specs.Values.{PlanValues}
 use Rattle.spec_log.specs.Bytes.{log_bytes}
 use Rattle.spec_single.specs.Machine.{Machine}
 use Rattle.spec_single.specs.Logged.{logged}
 use Rattle.spec_single.specs.Promise.{committed_part}
+use Rattle.spec_program.specs.Built.{Recording}
 use Rattle.spec_program.specs.Outcomes.{account_of_whole}
 use Rattle.spec_program.specs.Writes.{Write}
 
@@ -27,6 +27,6 @@ unfoldable pub summary_in : Machine → List ℕ
 summary_in m = summary_of m.counts (spheres_in m)
 
 -- the log, the account and the report, under the plan's names
-abbrev pub files_in : PlanValues → Machine → List Write
+abbrev pub files_in : Recording → Machine → List Write
 files_in p m =
     record { name = p.log; bytes = log_in m } ∷ record { name = p.account; bytes = account_in m } ∷ record { name = p.report; bytes = report_in m } ∷ []

@@ -3,14 +3,14 @@ ghost use Rattle.std.specs.Prelude.{◌≡◌, ◌≤◌, ◌∷◌, [], Some, I
 ghost use Rattle.std.specs.FinMap.{get};
 ghost use Rattle.dl_elf.specs.Loading.{image_of};
 ghost use Rattle.dl_files.specs.Contents.{Contents};
-ghost use Rattle.dl_plan.specs.Values.{plan_view};
+ghost use Rattle.delorean.specs.Asked.{recording_view};
 ghost use Rattle.spec_program.specs.Outcomes.{of_script_file, of_image};
 ghost use Rattle.delorean.specs.Halts.{Halts, IsNotUsage};
 
+use crate::asked::Recording;
 use crate::halt::Halt;
 use crate::reading::read_file;
 use dl_files::Files;
-use dl_plan::Plan;
 use std::alloc::Global;
 
 /// The bytes of the script and of the image.
@@ -21,13 +21,13 @@ pub struct Inputs {
 }
 
 /// The files that the plan names, in the order script, image.
-pub fn load_inputs<F: Files>(alloc: Global, files: &mut F, plan: &Plan) -> Result<Inputs, Halt>
+pub fn load_inputs<F: Files>(alloc: Global, files: &mut F, plan: &Recording) -> Result<Inputs, Halt>
     ensures inputs { IfOk result (λ i. (m : Contents) → F.told files.old ≡ Some m
-        → of_script_file m (plan_view plan.now) (get m (plan_view plan.now).script)
-        ≡ of_image (plan_view plan.now) i.script.items (image_of i.image.items plan.now.memory)) }
+        → of_script_file m (recording_view plan.now) (get m (recording_view plan.now).script)
+        ≡ of_image (recording_view plan.now) i.script.items (image_of i.image.items plan.now.memory)) }
     ensures halt { IfErr result (Halts (F.told files.old)
-        (λ m. of_script_file m (plan_view plan.now) (get m (plan_view plan.now).script))
-        (λ m. (plan_view plan.now).script ∷ (plan_view plan.now).image ∷ [])
+        (λ m. of_script_file m (recording_view plan.now) (get m (recording_view plan.now).script))
+        (λ m. (recording_view plan.now).script ∷ (recording_view plan.now).image ∷ [])
         (F.count files.old) (F.count files.new) (F.last_fault files.new)) }
     ensures usage { IfErr result IsNotUsage }
     ensures kept { F.told files.new ≡ F.told files.old }

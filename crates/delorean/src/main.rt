@@ -1,6 +1,7 @@
 //! The program: it hands its words, the real files and the standard output to `delorean`, and ends with its status.
 #![tactic(auto)]
 
+mod asked;
 mod command;
 mod computing;
 mod ending;

@@ -3,7 +3,7 @@ ghost use Rattle.std.specs.Prelude.{◌≡◌, ◌≢◌, ◌≤◌, ◌∷◌, 
 ghost use Rattle.std.specs.FinMap.{get};
 ghost use Rattle.dl_files.specs.Contents.{Contents};
 ghost use Rattle.spec_program.specs.Commands.{command_of};
-ghost use Rattle.spec_program.specs.Ends.{plan_at, inputs_of, reads_of};
+ghost use Rattle.spec_program.specs.Ends.{asked_at, inputs_of, reads_of};
 ghost use Rattle.spec_program.specs.Outcomes.{Finishes, of_plan_file, outcome_of};
 ghost use Rattle.delorean.specs.Halts.{Halts, IsUsage};
 ghost use Rattle.delorean.specs.Jobs.{writes_of};
@@ -42,7 +42,7 @@ fn run<F: Files>(alloc: Global, files: &mut F, name: &str) -> Result<Job, Halt>
     ensures job { IfOk result (λ job. (m : Contents) → F.told files.old ≡ Some m
         → of_plan_file m name.now (get m name.now) ≡ Finishes false (writes_of job.writes.items) job.text.items) }
     ensures halt { IfErr result (Halts (F.told files.old) (λ m. of_plan_file m name.now (get m name.now))
-        (λ m. name.now ∷ inputs_of (plan_at m name.now)) (F.count files.old) (F.count files.new) (F.last_fault files.new)) }
+        (λ m. name.now ∷ inputs_of (asked_at m name.now)) (F.count files.old) (F.count files.new) (F.last_fault files.new)) }
     ensures usage { IfErr result (IsUsage (Some name.now)) }
     ensures kept { F.told files.new ≡ F.told files.old }
     ensures counted { F.count files.old ≤ F.count files.new }

@@ -1,18 +1,19 @@
 //! Recording: the machine takes the schedule, and what it comes to is put into texts. This file alone knows the machine.
 ghost use Rattle.std.specs.Prelude.{◌≡◌, ◌≤◌, ◌∷◌, [], ◌^◌, IfOk, length};
-ghost use Rattle.dl_plan.specs.Values.{plan_view, IsPlan};
+ghost use Rattle.spec_program.specs.Built.{IsRecording};
+ghost use Rattle.delorean.specs.Asked.{recording_view};
 ghost use Rattle.spec_log.specs.Log.{IsChunkSize};
 ghost use Rattle.spec_program.specs.Outcomes.{setup_of, summary_text as summary_for, writes_for};
 ghost use Rattle.delorean.specs.Jobs.{write_of, writes_of};
 ghost use Rattle.delorean.specs.Recordings.{log_in, account_in, report_in, summary_in, files_in};
 
+use crate::asked::Recording;
 use crate::job::Job;
 use crate::writing::NamedBytes;
 use dl_account::{account_text, report_text, summary_text};
 use dl_elf::Image;
 use dl_entry::{End, OutOfMemory, SphereLine};
 use dl_logfmt::write_log;
-use dl_plan::Plan;
 use dl_single::Machine;
 use dl_thread::Threads;
 use spec_single::event::Event;
@@ -21,15 +22,15 @@ use std::alloc::Global;
 /// The recording of a plan on its image, by a schedule of at most 2^24 events.
 pub fn record(
     alloc: Global,
-    plan: &Plan,
+    plan: &Recording,
     image: &Image,
     events: &[Event],
 ) -> Result<Job, OutOfMemory>
-    requires plan { IsPlan (plan_view plan.now) }
+    requires plan { IsRecording (recording_view plan.now) }
     requires few { length events.now ≤ 2 ^ 24 }
     ensures writes { IfOk result (λ job. writes_of job.writes.items
-        ≡ writes_for (plan_view plan.now) (setup_of (plan_view plan.now) image.now) events.now) }
-    ensures text { IfOk result (λ job. job.text.items ≡ summary_for (setup_of (plan_view plan.now) image.now) events.now) }
+        ≡ writes_for (recording_view plan.now) (setup_of (recording_view plan.now) image.now) events.now) }
+    ensures text { IfOk result (λ job. job.text.items ≡ summary_for (setup_of (recording_view plan.now) image.now) events.now) }
 {
     let mut machine = Machine::new(alloc, image, plan.chunk, plan.buffer)?;
     machine.run(events)?;
@@ -37,10 +38,10 @@ pub fn record(
 }
 
 // What a machine at its end comes to.
-fn job_of(alloc: Global, plan: &Plan, machine: &Machine) -> Result<Job, OutOfMemory>
+fn job_of(alloc: Global, plan: &Recording, machine: &Machine) -> Result<Job, OutOfMemory>
     requires chunk { IsChunkSize machine.now.limit }
     requires few { length machine.now.commits ≤ 2 ^ 24 }
-    ensures writes { IfOk result (λ job. writes_of job.writes.items ≡ files_in (plan_view plan.now) machine.now) }
+    ensures writes { IfOk result (λ job. writes_of job.writes.items ≡ files_in (recording_view plan.now) machine.now) }
     ensures text { IfOk result (λ job. job.text.items ≡ summary_in machine.now) }
 {
     let log = named(alloc, plan.log.as_str(), log_text(alloc, machine)?)?;

@@ -12,6 +12,9 @@ mod instructions;
 const PLAN: &[u8] =
     b"cores = 1\nchunk = 100\nbuffer = 16\nwindow = 2\nsignature = 64\nscript = \"s.txt\"\nreport = \"r.txt\"\n[[sphere]]\nimage = \"a.elf\"\nmemory = 4096\nrole = \"record\"\nmode = \"order-size\"\nlog = \"a.log\"\naccount = \"a.txt\"\n";
 
+const TWO_CORES: &[u8] =
+    b"cores = 2\nchunk = 100\nbuffer = 16\nwindow = 2\nsignature = 64\nscript = \"s.txt\"\nreport = \"r.txt\"\n[[sphere]]\nimage = \"a.elf\"\nmemory = 4096\nrole = \"record\"\nmode = \"order-size\"\nlog = \"a.log\"\naccount = \"a.txt\"\n";
+
 const SCRIPT: &[u8] = b"step 0\nstep 0\nstep 0\nask 0\nstep 0\nask 0\n";
 
 // addi x17, x0, 0; addi x10, x0, 7; ecall
@@ -131,6 +134,12 @@ fn what_is_read_decides_the_answer(rt: HostRuntime) -> Result<(), Fail> {
         Case {
             name: "plan.toml",
             bytes: b"cores = 9\n",
+            status: Status::Plan,
+            said: b"refused plan 3\n",
+        },
+        Case {
+            name: "plan.toml",
+            bytes: TWO_CORES,
             status: Status::Plan,
             said: b"refused plan 0\n",
         },

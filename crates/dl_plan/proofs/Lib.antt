@@ -1,2 +1,4 @@
+pub mod Counted
 pub mod Documents
+pub mod Each
 pub mod Texts

@@ -1,7 +1,10 @@
+pub mod Entries
 pub mod Keys
 pub mod Limits
 pub mod Names
+pub mod Optional
 pub mod Plans
 pub mod Refusal
+pub mod Sizes
 pub mod Values
 pub mod Views

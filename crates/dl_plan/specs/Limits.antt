@@ -1,6 +1,7 @@
 -- The limits of a plan's numbers.
 use Rattle.std.specs.Prelude.{ℕ, ◌==◌, ◌%◌, nat_le, ℤ, pos, negsuc, Bool, ◌&&◌, [], ◌∷◌, Option, Some, None, if◌then◌else◌}
 use Rattle.std.specs.List.{list_any}
+use Rattle.dl_plan.specs.Optional.{◌>>=◌}
 
 -- the number, where it stands from `low` to `high`
 abbrev pub limited : ℕ → ℕ → ℤ → Option ℕ
@@ -11,6 +12,10 @@ limited low high (negsuc n) = None
 abbrev pub is_signature : ℕ → Bool
 is_signature n = list_any (λ size. n == size) (64 ∷ 128 ∷ 256 ∷ 512 ∷ 1024 ∷ 2048 ∷ [])
 
--- a multiple of 4096
-abbrev pub is_paged : ℕ → Bool
-is_paged n = n % 4096 == 0
+-- the bits of a signature
+abbrev pub signature_of : ℤ → Option ℕ
+signature_of z = limited 64 2048 z >>= λ n. if is_signature n then Some n else None
+
+-- the bytes of a memory: a multiple of 4096, up to 2^24
+abbrev pub memory_of : ℤ → Option ℕ
+memory_of z = limited 4096 16777216 z >>= λ n. if n % 4096 == 0 then Some n else None

@@ -1,126 +1,109 @@
--- Which bytes are a plan, and what it asks for.
-use Rattle.std.specs.Prelude.{ℕ, ℤ, Bool, ◌&&◌, List, [], ◌∷◌, codes, bytes_eq, Option, Some, None, option_and_then, if◌then◌else◌}
+-- Which bytes are a plan, and what it asks for; and of any others, the first rule that the whole of them breaks.
+use Rattle.std.specs.Prelude.{ℕ, Bool, ◌&&◌, List, [], ◌∷◌, ◌++◌, flat_map, Option, Some, None, option_to_list, if◌then◌else◌, Result, Ok, Err, ok_or}
 use Rattle.std.specs.Str.{is_utf8}
-use Rattle.toml.specs.Data.{Members, get_member, as_array, as_table}
+use Rattle.toml.specs.Data.{Members}
 use Rattle.toml.specs.Parse.{parse_document}
-use Rattle.dl_plan.specs.Keys.{number, text, only_item, has_only}
-use Rattle.dl_plan.specs.Limits.{limited, is_signature, is_paged}
+use Rattle.dl_plan.specs.declared.plan.Mode.{Mode}
+use Rattle.dl_plan.specs.declared.sphere.RoleName.{RoleName}
+use Rattle.dl_plan.specs.Entries.{has_known_keys, TopEntries, SphereEntries, Entries, entries_of}
+use Rattle.dl_plan.specs.Limits.{memory_of}
 use Rattle.dl_plan.specs.Names.{none_is_empty, all_differ, none_is_one_of}
-use Rattle.dl_plan.specs.Values.{PlanValues, Sizes}
+use Rattle.dl_plan.specs.Optional.{◌>>=◌, ◌>>◌, each_of}
+use Rattle.dl_plan.specs.Sizes.{Sizes, sizes_in}
+use Rattle.dl_plan.specs.Values.{ScheduleValues, Script, Seeded, RoleValues, Plain, Record, Replay, SphereValues, PlanValues}
 
--- `o.and_then(f)`
-infixl 10 ◌>>=◌
-abbrev pub ◌>>=◌ : {A B : Type 0} → Option A → (A → Option B) → Option B
-o >>= f = option_and_then f o
+-- ---- rule 1: a TOML document
 
--- the keys of a plan at the top
-abbrev pub top_keys : List (List ℕ)
-top_keys = codes "cores" ∷ codes "chunk" ∷ codes "buffer" ∷ codes "window" ∷ codes "signature" ∷ codes "script" ∷ codes "report" ∷ codes "sphere" ∷ []
+abbrev pub document : List ℕ → Option Members
+document bytes = if is_utf8 bytes then parse_document bytes else None
 
--- the keys of a sphere
-abbrev pub sphere_keys : List (List ℕ)
-sphere_keys = codes "image" ∷ codes "memory" ∷ codes "role" ∷ codes "mode" ∷ codes "log" ∷ codes "account" ∷ []
+-- ---- rule 5: a number of events or a script, and not both
 
--- what a plan's top keys hold, but for its sphere
-pub record Top : Type 0 where
-  pub cores : ℤ
-  pub chunk : ℤ
-  pub buffer : ℤ
-  pub window : ℤ
-  pub signature : ℤ
-  pub script : List ℕ
-  pub report : List ℕ
+abbrev pub schedule_of : (seed : ℕ) → (events : Option ℕ) → (script : Option (List ℕ)) → Option ScheduleValues
+schedule_of seed (Some events) None = Some (Seeded seed events)
+schedule_of seed None (Some script) = Some (Script script)
+schedule_of _ _ _ = None
 
--- what a sphere's keys hold
-pub record Sphere : Type 0 where
-  pub image : List ℕ
-  pub memory : ℤ
-  pub role : List ℕ
-  pub mode : List ℕ
-  pub log : List ℕ
-  pub account : List ℕ
+-- ---- rule 6: a recorded sphere has a mode and a log, a replayed one a log alone, a plain one neither
 
--- a plan's top, where each key holds a value of its type
-abbrev pub top_of : Members → Option Top
-top_of ms =
-    number ms (codes "cores") >>= λ cores.
-    number ms (codes "chunk") >>= λ chunk.
-    number ms (codes "buffer") >>= λ buffer.
-    number ms (codes "window") >>= λ window.
-    number ms (codes "signature") >>= λ signature.
-    text ms (codes "script") >>= λ script.
-    text ms (codes "report") >>= λ report.
-    Some (record { cores = cores; chunk = chunk; buffer = buffer; window = window; signature = signature; script = script; report = report })
+abbrev pub role_of : RoleName → Option Mode → (log : Option (List ℕ)) → Option RoleValues
+role_of RoleName.Plain None None = Some Plain
+role_of RoleName.Record (Some mode) (Some log) = Some (Record mode log)
+role_of RoleName.Replay None (Some log) = Some (Replay log)
+role_of _ _ _ = None
 
--- a sphere, where each key holds a value of its type
-abbrev pub sphere_of : Members → Option Sphere
-sphere_of ms =
-    text ms (codes "image") >>= λ image.
-    number ms (codes "memory") >>= λ memory.
-    text ms (codes "role") >>= λ role.
-    text ms (codes "mode") >>= λ mode.
-    text ms (codes "log") >>= λ log.
-    text ms (codes "account") >>= λ account.
-    Some (record { image = image; memory = memory; role = role; mode = mode; log = log; account = account })
+abbrev pub sphere_asked : SphereEntries → Option SphereValues
+sphere_asked s =
+    role_of s.role s.mode s.log >>= λ role.
+    memory_of s.memory >>= λ memory.
+    Some (record { image = s.image; memory = memory; role = role; account = s.account })
 
--- the table of the plan's sphere, where an array of this one table stands there
-abbrev pub sphere_in : Members → Option Members
-sphere_in ms = get_member (codes "sphere") ms >>= as_array >>= only_item >>= as_table
+-- ---- rule 7: no name is empty, no two written names are equal, and none of them is read
 
--- the sizes, where each is in its limits
-abbrev pub sizes_of : Top → Sphere → Option Sizes
-sizes_of top sphere =
-    limited 1 1 top.cores >>= λ cores.
-    limited 16 4096 top.chunk >>= λ chunk.
-    limited 1 4096 top.buffer >>= λ buffer.
-    limited 1 8 top.window >>= λ window.
-    limited 64 2048 top.signature >>= λ signature.
-    limited 4096 16777216 sphere.memory >>= λ memory.
-    if is_signature signature && is_paged memory
-    then Some (record { chunk = chunk; buffer = buffer; window = window; signature = signature; memory = memory })
-    else None
+abbrev pub log_written : RoleValues → List (List ℕ)
+log_written (Record mode log) = log ∷ []
+log_written _ = []
 
--- the sphere is recorded in order-size
-abbrev pub is_recorded : Sphere → Bool
-is_recorded sphere = bytes_eq sphere.role (codes "record") && bytes_eq sphere.mode (codes "order-size")
+abbrev pub log_read : RoleValues → List (List ℕ)
+log_read (Replay log) = log ∷ []
+log_read _ = []
 
--- no name is empty, no two files that are written have one name, and none of them is read
-abbrev pub has_good_names : List ℕ → Top → Sphere → Bool
-has_good_names name top sphere =
-    let read = name ∷ top.script ∷ sphere.image ∷ [] in
-    let written = top.report ∷ sphere.log ∷ sphere.account ∷ [] in
-    none_is_empty (top.script ∷ sphere.image ∷ written) && all_differ written && none_is_one_of read written
+abbrev pub script_read : ScheduleValues → List (List ℕ)
+script_read (Script name) = name ∷ []
+script_read (Seeded seed events) = []
 
--- the sizes with the names
-abbrev pub values_of : Top → Sphere → Sizes → PlanValues
-values_of top sphere sizes = record {
+abbrev pub written_by : SphereValues → List (List ℕ)
+written_by s = log_written s.role ++ option_to_list s.account
+
+abbrev pub read_by : SphereValues → List (List ℕ)
+read_by s = s.image ∷ log_read s.role
+
+-- the names of the files that the plan has written
+abbrev pub written_names : PlanValues → List (List ℕ)
+written_names p = flat_map written_by p.spheres ++ (option_to_list p.console ++ option_to_list p.report)
+
+-- the names of the files that are read, the plan's own among them
+abbrev pub read_names : (name : List ℕ) → PlanValues → List (List ℕ)
+read_names name p = name ∷ (flat_map read_by p.spheres ++ (script_read p.schedule ++ option_to_list p.input))
+
+abbrev pub has_good_names : (name : List ℕ) → PlanValues → Bool
+has_good_names name p =
+    let written = written_names p in
+    let read = read_names name p in
+    none_is_empty written && none_is_empty read && all_differ written && none_is_one_of read written
+
+-- ---- the rules in their order
+
+-- rules 2 and 3
+abbrev pub entries_in : Members → Result Entries ℕ
+entries_in ms = if has_known_keys ms then ok_or (entries_of ms) 3 else Err 2
+
+abbrev pub values_of : TopEntries → Sizes → ScheduleValues → List SphereValues → PlanValues
+values_of top sizes schedule spheres = record {
+  cores = sizes.cores;
   chunk = sizes.chunk;
   buffer = sizes.buffer;
   window = sizes.window;
   signature = sizes.signature;
-  script = top.script;
+  schedule = schedule;
+  input = top.input;
+  console = top.console;
   report = top.report;
-  image = sphere.image;
-  memory = sizes.memory;
-  log = sphere.log;
-  account = sphere.account;
+  spheres = spheres;
 }
 
--- the table of a TOML document
-abbrev pub document : List ℕ → Option Members
-document bytes = if is_utf8 bytes then parse_document bytes else None
+-- rules 4, 5 and 6
+abbrev pub values_in : Entries → Result PlanValues ℕ
+values_in e =
+    ok_or (sizes_in e) 4 >> λ sizes.
+    ok_or (schedule_of sizes.seed sizes.events e.top.script) 5 >> λ schedule.
+    ok_or (each_of sphere_asked e.spheres) 6 >> λ spheres.
+    Ok (values_of e.top sizes schedule spheres)
 
--- the plan in the document of the file `name`, if it is one
-abbrev pub plan_in : List ℕ → Members → Option PlanValues
-plan_in name ms =
-    sphere_in ms >>= λ sphere_ms.
-    top_of ms >>= λ top.
-    sphere_of sphere_ms >>= λ sphere.
-    sizes_of top sphere >>= λ sizes.
-    if has_only top_keys ms && has_only sphere_keys sphere_ms && is_recorded sphere && has_good_names name top sphere
-    then Some (values_of top sphere sizes)
-    else None
+-- rule 7
+abbrev pub named_well : (name : List ℕ) → PlanValues → Result PlanValues ℕ
+named_well name p = if has_good_names name p then Ok p else Err 7
 
--- the plan in the bytes of the file `name`, if they are one
-unfoldable pub plan_of : List ℕ → List ℕ → Option PlanValues
-plan_of name bytes = document bytes >>= plan_in name
+-- the plan in the bytes of the file `name`, or the first rule that they break
+unfoldable pub plan_of : (name bytes : List ℕ) → Result PlanValues ℕ
+plan_of name bytes = ok_or (document bytes) 1 >> entries_in >> values_in >> named_well name

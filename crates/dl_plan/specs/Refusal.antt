@@ -1,9 +1,14 @@
 -- When a plan is refused.
-use Rattle.std.specs.Prelude.{◌≡◌, Option, None, ⊤}
+use Rattle.std.specs.Prelude.{◌≡◌, ℕ, Option, None, Result, Err, ⊤}
 use Rattle.dl_plan.specs.declared.error.PlanError.{PlanError}
 use Rattle.dl_plan.specs.declared.error.PlanError.TheVariants.{Refused, OutOfMemory}
 
--- a refusal says that there is no such thing, and has the number 0; a want of memory says nothing
-abbrev pub IsRefusal : {A : Type 0} → Option A → PlanError → Type 0
-IsRefusal sought (Refused rule) = (rule ≡ 0) × (sought ≡ None)
-IsRefusal sought OutOfMemory = ⊤
+-- a refusal has the number of the broken rule; a want of memory says nothing
+abbrev pub Says : {A : Type 0} → Result A ℕ → PlanError → Type 0
+Says sought (Refused rule) = sought ≡ Err rule
+Says sought OutOfMemory = ⊤
+
+-- a refusal by this rule says that there is no such thing; a want of memory says nothing
+abbrev pub IsBroken : {A : Type 0} → ℕ → Option A → PlanError → Type 0
+IsBroken broken sought (Refused rule) = (rule ≡ broken) × (sought ≡ None)
+IsBroken broken sought OutOfMemory = ⊤

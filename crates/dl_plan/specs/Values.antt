@@ -1,57 +1,92 @@
--- What an accepted plan asks for, and what is true of it.
-use Rattle.std.specs.Prelude.{◌≡◌, ℕ, ◌≤◌, ◌%◌, ◌^◌, IsTrue, List, string_bytes}
+-- What a plan asks for, and what is true of it.
+use Rattle.std.specs.Prelude.{◌≡◌, ℕ, ◌≤◌, ◌%◌, ◌^◌, IsTrue, List, map, length, string_bytes, Option, option_map}
+use Rattle.std.specs.List.{AllByRecursion}
+use Rattle.dl_plan.specs.declared.plan.Mode.{Mode}
 use Rattle.dl_plan.specs.declared.plan.Plan.{Plan}
+use Rattle.dl_plan.specs.declared.plan.Role.{Role}
+use Rattle.dl_plan.specs.declared.plan.Schedule.{Schedule}
+use Rattle.dl_plan.specs.declared.plan.Sphere.{Sphere}
 use Rattle.dl_plan.specs.Limits.{is_signature}
 
--- the sizes of a plan's machine, on one core
-pub record Sizes : Type 0 where
-  pub chunk : ℕ
-  pub buffer : ℕ
-  pub window : ℕ
-  pub signature : ℕ
-  pub memory : ℕ
+-- where the events come from: a script of that name, or so many from that seed
+pub data ScheduleValues : Type 0 where
+  Script : (name : List ℕ) → ScheduleValues
+  Seeded : (seed events : ℕ) → ScheduleValues
 
--- a plan: its sizes, and its names as bytes
-pub record PlanValues : Type 0 where
-  pub chunk : ℕ
-  pub buffer : ℕ
-  pub window : ℕ
-  pub signature : ℕ
-  pub script : List ℕ
-  pub report : List ℕ
+-- what a sphere does: it runs plainly, is recorded in a mode into the log of that name, or replays the log of that name
+pub data RoleValues : Type 0 where
+  Plain : RoleValues
+  Record : Mode → (log : List ℕ) → RoleValues
+  Replay : (log : List ℕ) → RoleValues
+
+pub record SphereValues : Type 0 where
   pub image : List ℕ
   pub memory : ℕ
-  pub log : List ℕ
-  pub account : List ℕ
+  pub role : RoleValues
+  pub account : Option (List ℕ)
 
--- what a `Plan` of the program holds
+-- a plan, with its names as bytes
+pub record PlanValues : Type 0 where
+  pub cores : ℕ
+  pub chunk : ℕ
+  pub buffer : ℕ
+  pub window : ℕ
+  pub signature : ℕ
+  pub schedule : ScheduleValues
+  pub input : Option (List ℕ)
+  pub console : Option (List ℕ)
+  pub report : Option (List ℕ)
+  pub spheres : List SphereValues
+
+-- ---- what a `Plan` of the program holds
+
+abbrev pub schedule_view : Schedule → ScheduleValues
+schedule_view (Schedule.Script name) = Script (string_bytes name)
+schedule_view (Schedule.Seeded seed events) = Seeded seed events
+
+abbrev pub role_view : Role → RoleValues
+role_view Role.Plain = Plain
+role_view (Role.Record mode log) = Record mode (string_bytes log)
+role_view (Role.Replay log) = Replay (string_bytes log)
+
+abbrev pub sphere_view : Sphere → SphereValues
+sphere_view s = record { image = string_bytes s.image; memory = s.memory; role = role_view s.role; account = option_map string_bytes s.account }
+
 abbrev pub plan_view : Plan → PlanValues
 plan_view p = record {
+  cores = p.cores;
   chunk = p.chunk;
   buffer = p.buffer;
   window = p.window;
   signature = p.signature;
-  script = string_bytes p.script;
-  report = string_bytes p.report;
-  image = string_bytes p.image;
-  memory = p.memory;
-  log = string_bytes p.log;
-  account = string_bytes p.account;
+  schedule = schedule_view p.schedule;
+  input = option_map string_bytes p.input;
+  console = option_map string_bytes p.console;
+  report = option_map string_bytes p.report;
+  spheres = map sphere_view p.spheres.items;
 }
 
--- each size is in its limits
-pub record AreSizes (s : Sizes) : Type 0 where
-  pub chunk : (16 ≤ s.chunk) × (s.chunk ≤ 4096)
-  pub buffer : (1 ≤ s.buffer) × (s.buffer ≤ 4096)
-  pub window : (1 ≤ s.window) × (s.window ≤ 8)
-  pub signature : IsTrue (is_signature s.signature)
-  pub memory : (4096 ≤ s.memory) × (s.memory ≤ 2 ^ 24)
-  pub paged : s.memory % 4096 ≡ 0
+-- ---- what is true of it
 
--- the sizes of a plan
-abbrev pub sizes_in : PlanValues → Sizes
-sizes_in p = record { chunk = p.chunk; buffer = p.buffer; window = p.window; signature = p.signature; memory = p.memory }
+-- a memory's bytes are in their limits
+pub record IsMemory (n : ℕ) : Type 0 where
+  pub within : (4096 ≤ n) × (n ≤ 2 ^ 24)
+  pub paged : n % 4096 ≡ 0
 
--- each size of the plan is in its limits
-abbrev pub IsPlan : PlanValues → Type 0
-IsPlan p = AreSizes (sizes_in p)
+-- c cores, chunks of s instructions, buffers of b words, w commits in flight and signatures of n bits are in their limits
+pub record AreSizes (c s b w n : ℕ) : Type 0 where
+  pub cores : (1 ≤ c) × (c ≤ 8)
+  pub chunk : (16 ≤ s) × (s ≤ 4096)
+  pub buffer : (1 ≤ b) × (b ≤ 4096)
+  pub window : (1 ≤ w) × (w ≤ 8)
+  pub signature : IsTrue (is_signature n)
+
+-- the memory of each sphere is in its limits
+abbrev pub AreMemories : List SphereValues → Type 0
+AreMemories spheres = AllByRecursion (λ (s : SphereValues). IsMemory s.memory) spheres
+
+-- each number of a plan is in its limits
+pub record IsPlan (p : PlanValues) : Type 0 where
+  pub sizes : AreSizes p.cores p.chunk p.buffer p.window p.signature
+  pub spheres : (1 ≤ length p.spheres) × (length p.spheres ≤ 8)
+  pub memories : AreMemories p.spheres

@@ -1,24 +1,36 @@
 -- What the program's own structs stand for.
-use Rattle.std.specs.Prelude.{ℕ, List, map}
+use Rattle.std.specs.Prelude.{ℕ, List, map, option_copied}
 use Rattle.std.specs.Borrow.{Bor}
-use Rattle.dl_plan.specs.declared.accepted.Accepted.{Accepted}
+use Rattle.dl_plan.specs.declared.entries.Entries.{Entries as EntriesStruct}
 use Rattle.dl_plan.specs.declared.sizes.Sizes.{Sizes as SizesStruct}
-use Rattle.dl_plan.specs.declared.sphere.Sphere.{Sphere as SphereStruct}
-use Rattle.dl_plan.specs.declared.top.Top.{Top as TopStruct}
-use Rattle.dl_plan.specs.Plans.{Top, Sphere, values_of}
-use Rattle.dl_plan.specs.Values.{PlanValues, Sizes}
+use Rattle.dl_plan.specs.declared.sphere.SphereEntries.{SphereEntries as SphereStruct}
+use Rattle.dl_plan.specs.declared.top.TopEntries.{TopEntries as TopStruct}
+use Rattle.dl_plan.specs.Entries.{TopEntries, SphereEntries, Entries}
+use Rattle.dl_plan.specs.Sizes.{Sizes}
 
-abbrev pub top_view : TopStruct → Top
-top_view t = record { cores = t.cores; chunk = t.chunk; buffer = t.buffer; window = t.window; signature = t.signature; script = t.script.now; report = t.report.now }
+abbrev pub top_view : TopStruct → TopEntries
+top_view t = record {
+  cores = t.cores;
+  chunk = t.chunk;
+  buffer = t.buffer;
+  window = t.window;
+  signature = t.signature;
+  seed = t.seed;
+  events = t.events;
+  script = option_copied t.script;
+  input = option_copied t.input;
+  console = option_copied t.console;
+  report = option_copied t.report;
+}
 
-abbrev pub sphere_view : SphereStruct → Sphere
-sphere_view s = record { image = s.image.now; memory = s.memory; role = s.role.now; mode = s.mode.now; log = s.log.now; account = s.account.now }
+abbrev pub entry_view : SphereStruct → SphereEntries
+entry_view s = record { image = s.image.now; memory = s.memory; role = s.role; mode = s.mode; log = option_copied s.log; account = option_copied s.account }
+
+abbrev pub entries_view : EntriesStruct → Entries
+entries_view e = record { top = top_view e.top; spheres = map entry_view e.spheres.items }
 
 abbrev pub sizes_view : SizesStruct → Sizes
-sizes_view s = record { chunk = s.chunk; buffer = s.buffer; window = s.window; signature = s.signature; memory = s.memory }
-
-abbrev pub accepted_view : Accepted → PlanValues
-accepted_view a = values_of (top_view a.top) (sphere_view a.sphere) (sizes_view a.sizes)
+sizes_view s = record { cores = s.cores; chunk = s.chunk; buffer = s.buffer; window = s.window; signature = s.signature; seed = s.seed; events = s.events }
 
 -- the bytes of some texts
 abbrev pub texts : List (Bor (List ℕ)) → List (List ℕ)

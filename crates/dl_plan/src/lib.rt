@@ -2,10 +2,12 @@
 //! plan's own name and of its bytes.
 #![tactic(auto)]
 
-mod accepted;
 mod document;
+mod entries;
 mod error;
+mod keys;
 mod names;
+mod naming;
 mod plan;
 mod read;
 mod sizes;
@@ -13,7 +15,8 @@ mod sphere;
 #[cfg(test)]
 mod tests;
 mod top;
+mod values;
 
 pub use error::PlanError;
-pub use plan::Plan;
+pub use plan::{Mode, Plan, Role, Schedule, Sphere};
 pub use read::read_plan;

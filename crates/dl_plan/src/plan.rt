@@ -1,8 +1,10 @@
-//! What a plan asks for: one core and one recorded sphere in order-size.
+//! What a plan asks for.
 
 /// An accepted plan. Its numbers are in their limits, and its names do not conflict.
 #[derive(Debug, Drop)]
 pub struct Plan {
+    /// Cores of the machine, 1 to 8.
+    pub cores: u8,
     /// Instructions in a standard chunk, 16 to 4096.
     pub chunk: u32,
     /// Words in a write buffer, 1 to 4096.
@@ -11,16 +13,54 @@ pub struct Plan {
     pub window: u8,
     /// Bits of a signature, a power of two from 64 to 2048.
     pub signature: u32,
-    /// The file of the schedule.
-    pub script: String,
+    /// Where the events come from.
+    pub schedule: Schedule,
+    /// The file of the device's input; without one it has no bytes.
+    pub input: Option<String>,
+    /// The file that takes the console's bytes.
+    pub console: Option<String>,
     /// The file that takes the report.
-    pub report: String,
+    pub report: Option<String>,
+    /// The spheres, 1 to 8.
+    pub spheres: Vec<Sphere>,
+}
+
+/// Where a run's events come from.
+#[derive(Debug, Drop)]
+pub enum Schedule {
+    /// The script in the file of that name.
+    Script(String),
+    /// So many events, up to 2^24, that are made from the seed, below 2^63.
+    Seeded { seed: u64, events: u32 },
+}
+
+/// One sphere: a program in a memory of its own.
+#[derive(Debug, Drop)]
+pub struct Sphere {
     /// The file of the program.
     pub image: String,
     /// Bytes of memory, a multiple of 4096 up to 2^24.
     pub memory: u32,
-    /// The file that takes the log.
-    pub log: String,
+    pub role: Role,
     /// The file that takes the account.
-    pub account: String,
+    pub account: Option<String>,
+}
+
+/// What a sphere does.
+#[derive(Debug, Drop)]
+pub enum Role {
+    /// It runs, and no log is written or read.
+    Plain,
+    /// It is recorded into the file `log`.
+    Record { mode: Mode, log: String },
+    /// It replays the log in the file `log`, in the log's own mode.
+    Replay { log: String },
+}
+
+/// What a log keeps of the chunks and of their order.
+#[derive(Clone, Copy, Debug, PartialEq, Eq)]
+pub enum Mode {
+    OrderSize,
+    OrderOnly,
+    Picolog,
 }

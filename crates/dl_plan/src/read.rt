@@ -1,25 +1,32 @@
 //! From the bytes of a plan to what it asks for.
-ghost use Rattle.std.specs.Prelude.{◌≡◌, Some, IfOk, IfErr};
-ghost use Rattle.dl_plan.specs.Plans.{plan_of};
-ghost use Rattle.dl_plan.specs.Refusal.{IsRefusal};
+ghost use Rattle.std.specs.Prelude.{◌≡◌, Ok, IfOk, IfErr};
+ghost use Rattle.dl_plan.specs.Plans.{plan_of, named_well};
+ghost use Rattle.dl_plan.specs.Refusal.{Says};
 ghost use Rattle.dl_plan.specs.Values.{plan_view, IsPlan};
 
-use crate::accepted::accept;
 use crate::document::read_document;
+use crate::entries::read_entries;
 use crate::error::PlanError;
+use crate::naming::has_good_names;
 use crate::plan::Plan;
+use crate::values::to_plan;
 use std::alloc::Global;
 
-/// Reads the plan in `bytes`, the bytes of the file `name`. Refused exactly where they are no plan.
+/// Reads the plan in `bytes`, the bytes of the file `name`. Refused is the first rule that the whole plan breaks:
+/// 1 it is no TOML, 2 it has another key, 3 a key is missing or its value is of another kind, 4 a number is outside
+/// its limits, 5 it has not one schedule, 6 a role has not what it needs, 7 its names conflict.
 #[tactic(auto, unfolding(crate::specs::Plans::plan_of))]
 pub fn read_plan(alloc: Global, name: &str, bytes: &[u8]) -> Result<Plan, PlanError>
-    ensures ok { IfOk result (λ p. plan_of name.now bytes.now ≡ Some (plan_view p)) }
+    ensures ok { IfOk result (λ p. plan_of name.now bytes.now ≡ Ok (plan_view p)) }
     ensures limits { IfOk result (λ p. IsPlan (plan_view p)) }
-    ensures refused { IfErr result (IsRefusal (plan_of name.now bytes.now)) }
+    ensures refused { IfErr result (Says (plan_of name.now bytes.now)) }
 {
     let table = read_document(alloc, bytes)?;
-    match accept(name, &table) {
-        Some(accepted) => Ok(accepted.to_plan(alloc)?),
-        None => Err(PlanError::Refused(0)),
+    let entries = read_entries(alloc, &table)?;
+    let plan = to_plan(alloc, &entries)?;
+    if has_good_names(alloc, name, &plan)? {
+        Ok(plan)
+    } else {
+        Err(PlanError::Refused(7))
     }
 }

@@ -1,53 +1,115 @@
-//! The sizes in a plan, each in its limits.
-ghost use Rattle.std.specs.Prelude.{◌≡◌, ◌≤◌, IfSome, option_map};
-ghost use Rattle.dl_plan.specs.Limits.{limited, is_signature};
-ghost use Rattle.dl_plan.specs.Plans.{sizes_of};
-ghost use Rattle.dl_plan.specs.Values.{AreSizes};
-ghost use Rattle.dl_plan.specs.Views.{top_view, sphere_view, sizes_view};
+//! The numbers in a plan, each in its limits.
+ghost use Rattle.std.specs.Prelude.{◌≡◌, ◌≤◌, IfSome, IsTrue, option_map, map};
+ghost use Rattle.dl_plan.specs.Limits.{limited, is_signature, signature_of, memory_of};
+ghost use Rattle.dl_plan.specs.Sizes.{sizes_of, sizes_in, has_good_spheres, have_memories};
+ghost use Rattle.dl_plan.specs.Optional.{if_there};
+ghost use Rattle.dl_plan.specs.Values.{AreSizes, IsMemory};
+ghost use Rattle.dl_plan.specs.Views.{top_view, entry_view, entries_view, sizes_view};
 
-use crate::sphere::Sphere;
-use crate::top::Top;
+use crate::entries::Entries;
+use crate::sphere::SphereEntries;
+use crate::top::TopEntries;
 
-/// The sizes of a machine of one core.
+/// The most events of a schedule, and the most bytes of a memory.
+const MOST: u64 = 1 << 24;
+
+/// The numbers at a plan's top.
 #[derive(Clone, Copy)]
 pub(crate) struct Sizes {
+    pub cores: u8,
     pub chunk: u32,
     pub buffer: u32,
     pub window: u8,
     pub signature: u32,
-    pub memory: u32,
+    pub seed: u64,
+    pub events: Option<u32>,
 }
 
-/// The sizes of a plan. `None` where one is outside its limits.
-pub(crate) fn sizes_of(top: &Top<'_>, sphere: &Sphere<'_>) -> Option<Sizes>
-    ensures value { option_map sizes_view result ≡ sizes_of (top_view top.now) (sphere_view sphere.now) }
-    ensures limits { IfSome result (λ s. AreSizes (sizes_view s)) }
+/// The numbers of a plan. `None` where one is outside its limits, or there are not 1 to 8 spheres.
+pub(crate) fn sizes_in(entries: &Entries<'_>) -> Option<Sizes>
+    ensures value { option_map sizes_view result ≡ sizes_in (entries_view entries.now) }
+    ensures limits { IfSome result (λ s. AreSizes s.cores s.chunk s.buffer s.window s.signature) }
+    ensures spheres { IfSome result (λ s. IsTrue (has_good_spheres (map entry_view entries.now.spheres.items))) }
 {
-    limited(top.cores, 1, 1)?;
-    let chunk = limited(top.chunk, 16, 4096)?;
-    let buffer = limited(top.buffer, 1, 4096)?;
-    let window = limited(top.window, 1, 8)? as u8;
-    let signature = limited(top.signature, 64, 2048)?;
-    let memory = limited(sphere.memory, 4096, 1 << 24)?;
-    if !is_signature(signature) || memory % 4096 != 0 {
-        return None;
+    if has_good_spheres(&entries.spheres) {
+        sizes_of(&entries.top)
+    } else {
+        None
     }
+}
+
+/// Whether there are 1 to 8 spheres, each with a memory in its limits.
+fn has_good_spheres(spheres: &[SphereEntries<'_>]) -> bool
+    ensures { result ≡ has_good_spheres (map entry_view spheres.now) }
+{
+    let count = spheres.len();
+    1 <= count && count <= 8 && have_memories(spheres)
+}
+
+/// Whether the memory of each sphere is in its limits.
+fn have_memories(spheres: &[SphereEntries<'_>]) -> bool
+    ensures { result ≡ have_memories (map entry_view spheres.now) }
+{
+    spheres
+        .iter()
+        .all(|sphere| memory_of(sphere.memory).is_some())
+}
+
+/// The numbers at a plan's top. `None` where one is outside its limits.
+fn sizes_of(top: &TopEntries<'_>) -> Option<Sizes>
+    ensures value { option_map sizes_view result ≡ sizes_of (top_view top.now) }
+    ensures limits { IfSome result (λ s. AreSizes s.cores s.chunk s.buffer s.window s.signature) }
+{
     Some(Sizes {
-        chunk,
-        buffer,
-        window,
-        signature,
-        memory,
+        cores: limited(top.cores, 1, 8)? as u8,
+        chunk: limited(top.chunk, 16, 4096)? as u32,
+        buffer: limited(top.buffer, 1, 4096)? as u32,
+        window: limited(top.window, 1, 8)? as u8,
+        signature: signature_of(top.signature)?,
+        seed: limited(top.seed.unwrap_or(0), 0, i64::MAX as u64)?,
+        events: events_of(top.events)?,
     })
 }
 
+/// The number of events, if one is there. `None` where it is outside its limits.
+fn events_of(number: Option<i64>) -> Option<Option<u32>>
+    ensures { result ≡ if_there (limited 0 16777216) number }
+{
+    match number {
+        Some(number) => Some(Some(limited(number, 0, MOST)? as u32)),
+        None => Some(None),
+    }
+}
+
+/// The bits of a signature.
+fn signature_of(number: i64) -> Option<u32>
+    ensures value { result ≡ signature_of number }
+    ensures within { IfSome result (λ n. IsTrue (is_signature n)) }
+{
+    let bits = limited(number, 64, 2048)? as u32;
+    if is_signature(bits) { Some(bits) } else { None }
+}
+
+/// The bytes of a memory.
+pub(crate) fn memory_of(number: i64) -> Option<u32>
+    ensures value { result ≡ memory_of number }
+    ensures within { IfSome result IsMemory }
+{
+    let bytes = limited(number, 4096, MOST)? as u32;
+    if bytes % 4096 == 0 { Some(bytes) } else { None }
+}
+
 /// The number, where it stands from `low` to `high`.
-fn limited(number: i64, low: u32, high: u32) -> Option<u32>
+fn limited(number: i64, low: u64, high: u64) -> Option<u64>
     ensures value { result ≡ limited low high number }
     ensures within { IfSome result (λ n. (low ≤ n) × (n ≤ high)) }
 {
-    if i64::from(low) <= number && number <= i64::from(high) {
-        Some(number as u32)
+    if number < 0 {
+        return None;
+    }
+    let number = number as u64;
+    if low <= number && number <= high {
+        Some(number)
     } else {
         None
     }

@@ -1,43 +1,90 @@
 //! What the keys of a plan's sphere hold.
 ghost use Rattle.std.specs.Prelude.{◌≡◌, option_map};
-ghost use Rattle.dl_plan.specs.Plans.{sphere_of, is_recorded};
-ghost use Rattle.dl_plan.specs.Views.{sphere_view};
-ghost use Rattle.toml.specs.View.{table_view};
+ghost use Rattle.dl_plan.specs.Entries.{sphere_of, sphere_in, role_named, mode_named, mode_at};
+ghost use Rattle.dl_plan.specs.Views.{entry_view};
+ghost use Rattle.toml.specs.View.{view, table_view};
 
-use crate::document::{number, text};
-use toml::Table;
+use crate::document::{number, optional_text, text};
+use crate::plan::Mode;
+use toml::{Table, Value};
 
-/// The keys of a sphere.
-pub(crate) const SPHERE_KEYS: [&str; 6] = ["image", "memory", "role", "mode", "log", "account"];
+/// A role without what it needs.
+#[derive(Clone, Copy)]
+pub(crate) enum RoleName {
+    Plain,
+    Record,
+    Replay,
+}
 
 /// The values at a sphere's keys, not yet judged.
 #[derive(Clone, Copy)]
-pub(crate) struct Sphere<'a> {
+pub(crate) struct SphereEntries<'a> {
     pub image: &'a str,
     pub memory: i64,
-    pub role: &'a str,
-    pub mode: &'a str,
-    pub log: &'a str,
-    pub account: &'a str,
+    pub role: RoleName,
+    pub mode: Option<Mode>,
+    pub log: Option<&'a str>,
+    pub account: Option<&'a str>,
 }
 
-/// Reads a sphere's keys. `None` where one is not there, or holds a value of another type.
-pub(crate) fn read_sphere(table: &Table) -> Option<Sphere<'_>>
-    ensures { option_map sphere_view result ≡ sphere_of (table_view table.now) }
+/// Reads a sphere, if the value is one.
+pub(crate) fn read_sphere(value: &Value) -> Option<SphereEntries<'_>>
+    ensures { option_map entry_view result ≡ sphere_in (view value.now) }
 {
-    Some(Sphere {
+    match value.as_table() {
+        Some(table) => read_keys(table),
+        None => None,
+    }
+}
+
+/// Reads a sphere's keys. `None` where a required one is not there, or one holds another kind of value.
+fn read_keys(table: &Table) -> Option<SphereEntries<'_>>
+    ensures { option_map entry_view result ≡ sphere_of (table_view table.now) }
+{
+    Some(SphereEntries {
         image: text(table, "image")?,
         memory: number(table, "memory")?,
-        role: text(table, "role")?,
-        mode: text(table, "mode")?,
-        log: text(table, "log")?,
-        account: text(table, "account")?,
+        role: role_named(text(table, "role")?)?,
+        mode: mode_at(table)?,
+        log: optional_text(table, "log")?,
+        account: optional_text(table, "account")?,
     })
 }
 
-/// Whether the sphere is recorded in order-size.
-pub(crate) fn is_recorded(sphere: &Sphere<'_>) -> bool
-    ensures { result ≡ is_recorded (sphere_view sphere.now) }
+/// The mode, if one is there. `None` where another kind of value is.
+fn mode_at(table: &Table) -> Option<Option<Mode>>
+    ensures { result ≡ mode_at (table_view table.now) }
 {
-    sphere.role == "record" && sphere.mode == "order-size"
+    match optional_text(table, "mode")? {
+        Some(name) => Some(Some(mode_named(name)?)),
+        None => Some(None),
+    }
+}
+
+fn role_named(name: &str) -> Option<RoleName>
+    ensures { result ≡ role_named name.now }
+{
+    if name == "plain" {
+        Some(RoleName::Plain)
+    } else if name == "record" {
+        Some(RoleName::Record)
+    } else if name == "replay" {
+        Some(RoleName::Replay)
+    } else {
+        None
+    }
+}
+
+fn mode_named(name: &str) -> Option<Mode>
+    ensures { result ≡ mode_named name.now }
+{
+    if name == "order-size" {
+        Some(Mode::OrderSize)
+    } else if name == "order-only" {
+        Some(Mode::OrderOnly)
+    } else if name == "picolog" {
+        Some(Mode::Picolog)
+    } else {
+        None
+    }
 }

@@ -1,4 +1,4 @@
-use crate::{PlanError, read_plan};
+use crate::{Plan, PlanError, read_plan};
 use std::alloc::Global;
 use std::test::Fail;
 
@@ -10,32 +10,94 @@ const PLAN: &str =
 const SPHERE: &str =
     "[[sphere]]\nimage = \"a.elf\"\nmemory = 4096\nrole = \"record\"\nmode = \"order-size\"\nlog = \"a.log\"\naccount = \"a.txt\"\n";
 
-/// Why the plan is refused once its first `from` is `to`, if it is.
-fn refusal(alloc: Global, from: &str, to: &str) -> Result<Option<PlanError>, Fail> {
+/// A plan with what the other has not.
+const OTHER: &str =
+    "cores = 8\nchunk = 64\nbuffer = 8\nwindow = 1\nsignature = 128\nseed = 9\nevents = 20000\ninput = \"i.bin\"\nconsole = \"c.bin\"\n[[sphere]]\nimage = \"a.elf\"\nmemory = 4096\nrole = \"plain\"\n[[sphere]]\nimage = \"b.elf\"\nmemory = 8192\nrole = \"record\"\nmode = \"picolog\"\nlog = \"b.log\"\n[[sphere]]\nimage = \"b.elf\"\nmemory = 16777216\nrole = \"replay\"\nlog = \"a.log\"\naccount = \"c.txt\"\n";
+
+/// What the plan reads as once its first `from` is `to`.
+fn changed(alloc: Global, from: &str, to: &str) -> Result<Result<Plan, PlanError>, Fail> {
     let (before, after) = PLAN.split_once(from).ok_or("nothing to change")?;
     let text = format!(in alloc; "{before}{to}{after}")?;
-    Ok(read_plan(alloc, "p.toml", text.as_bytes()).err())
+    Ok(read_plan(alloc, "p.toml", text.as_bytes()))
+}
+
+/// Why the plan is refused then, if it is.
+fn refusal(alloc: Global, from: &str, to: &str) -> Result<Option<PlanError>, Fail> {
+    Ok(changed(alloc, from, to)?.err())
 }
 
 #[test]
 fn reads_the_plan(rt: HostRuntime) -> Result<(), Fail> {
     let plan = read_plan(rt.alloc(), "p.toml", PLAN.as_bytes())?;
-    assert_eq!(rt; plan.chunk, 100);
-    assert_eq!(rt; plan.buffer, 16);
-    assert_eq!(rt; plan.window, 2);
-    assert_eq!(rt; plan.signature, 64);
-    assert_eq!(rt; plan.script.as_str(), "s.txt");
-    assert_eq!(rt; plan.report.as_str(), "r.txt");
-    assert_eq!(rt; plan.image.as_str(), "a.elf");
-    assert_eq!(rt; plan.memory, 4096);
-    assert_eq!(rt; plan.log.as_str(), "a.log");
-    assert_eq!(rt; plan.account.as_str(), "a.txt");
+    let expected = concat!(
+        "Plan { cores: 1, chunk: 100, buffer: 16, window: 2, signature: 64, schedule: Script(\"s.txt\"), ",
+        "input: None, console: None, report: Some(\"r.txt\"), spheres: [",
+        "Sphere { image: \"a.elf\", memory: 4096, role: Record { mode: OrderSize, log: \"a.log\" }, account: Some(\"a.txt\") }",
+        "] }"
+    );
+    assert_eq!(rt; format!(in rt.alloc(); "{plan:?}")?.as_str(), expected);
+    Ok(())
+}
+
+#[test]
+fn reads_the_other_keys(rt: HostRuntime) -> Result<(), Fail> {
+    let plan = read_plan(rt.alloc(), "p.toml", OTHER.as_bytes())?;
+    let expected = concat!(
+        "Plan { cores: 8, chunk: 64, buffer: 8, window: 1, signature: 128, schedule: Seeded { seed: 9, events: 20000 }, ",
+        "input: Some(\"i.bin\"), console: Some(\"c.bin\"), report: None, spheres: [",
+        "Sphere { image: \"a.elf\", memory: 4096, role: Plain, account: None }, ",
+        "Sphere { image: \"b.elf\", memory: 8192, role: Record { mode: Picolog, log: \"b.log\" }, account: None }, ",
+        "Sphere { image: \"b.elf\", memory: 16777216, role: Replay { log: \"a.log\" }, account: Some(\"c.txt\") }",
+        "] }"
+    );
+    assert_eq!(rt; format!(in rt.alloc(); "{plan:?}")?.as_str(), expected);
+    Ok(())
+}
+
+#[test]
+fn reads_each_spelling(rt: HostRuntime) -> Result<(), Fail> {
+    let plan = read_plan(rt.alloc(), "p.toml", PLAN.as_bytes())?;
+    let expected = format!(in rt.alloc(); "{plan:?}")?;
+    let table = [
+        ("cores = 1", "cores = 0x1"),
+        ("cores = 1", "\"cores\" = +1"),
+        ("cores = 1", "'cores'\t=\t0b1 # one"),
+        ("chunk = 100", "chunk = 1_00"),
+        ("chunk = 100", "chunk = 0x64"),
+        ("chunk = 100", "chunk = 0b110_0100"),
+        ("chunk = 100", "chunk = 0o144"),
+        (
+            "cores = 1\nchunk = 100\n",
+            "chunk = 100\r\n\r\ncores = 1\r\n",
+        ),
+        ("cores = 1\n", "\u{FEFF}cores = 1\n"),
+        ("buffer", "seed = 0\nbuffer"),
+        ("\"s.txt\"", "'s.txt'"),
+        ("\"s.txt\"", "\"\"\"s.txt\"\"\""),
+        ("\"s.txt\"", "'''\ns.txt'''"),
+        ("\"s.txt\"", "\"\\u0073.txt\""),
+        ("\"s.txt\"", "\"\"\"s.\\\n   txt\"\"\""),
+        ("[[sphere]]", "[[ \"sphere\" ]] # the only one"),
+        (
+            SPHERE,
+            "sphere = [{ image = \"a.elf\", memory = 4096, role = \"record\", mode = \"order-size\", log = \"a.log\", account = \"a.txt\" }]",
+        ),
+        (
+            SPHERE,
+            "[[sphere]]\naccount = \"a.txt\"\nlog = \"a.log\"\nmode = 'order-size'\nrole = \"\"\"record\"\"\"\nmemory = 4_096\nimage = \"a.elf\"",
+        ),
+    ];
+    for (from, to) in table {
+        let plan = changed(rt.alloc(), from, to)??;
+        assert_eq!(rt; format!(in rt.alloc(); "{plan:?}")?, expected, "{to}");
+    }
     Ok(())
 }
 
 #[test]
 fn accepts_each_limit(rt: HostRuntime) -> Result<(), Fail> {
-    let changes = [
+    let table = [
+        ("cores = 1", "cores = 8"),
         ("chunk = 100", "chunk = 16"),
         ("chunk = 100", "chunk = 4096"),
         ("buffer = 16", "buffer = 1"),
@@ -44,62 +106,230 @@ fn accepts_each_limit(rt: HostRuntime) -> Result<(), Fail> {
         ("window = 2", "window = 8"),
         ("signature = 64", "signature = 2048"),
         ("memory = 4096", "memory = 16777216"),
-        ("[[sphere]]\nimage", "[[sphere]] # the only one\n\nimage"),
+        ("cores", "seed = 9223372036854775807\ncores"),
+        ("script = \"s.txt\"", "events = 16777216"),
+        ("script = \"s.txt\"", "events = 0"),
+        ("report = \"r.txt\"\n", ""),
+        ("account = \"a.txt\"\n", ""),
+        (
+            "role = \"record\"\nmode = \"order-size\"\nlog = \"a.log\"\n",
+            "role = \"plain\"\n",
+        ),
+        (
+            "role = \"record\"\nmode = \"order-size\"",
+            "role = \"replay\"",
+        ),
+        ("order-size", "order-only"),
+        ("order-size", "picolog"),
+        ("cores", "input = \"s.txt\"\nconsole = \"c.bin\"\ncores"),
     ];
-    for (from, to) in changes {
-        assert_eq!(rt; refusal(rt.alloc(), from, to)?, None, "{to}");
+    for (from, to) in table {
+        assert_eq!(rt; changed(rt.alloc(), from, to)?.err(), None, "{to}");
     }
     Ok(())
 }
 
 #[test]
-fn refuses_each_change(rt: HostRuntime) -> Result<(), Fail> {
-    let two = format!(in rt.alloc(); "{SPHERE}{SPHERE}")?;
-    let changes = [
-        ("chunk = 100\n", ""),
-        ("account = \"a.txt\"\n", ""),
-        ("cores", "seed = 0\ncores"),
-        ("role", "input = \"i.bin\"\nrole"),
-        (SPHERE, two.as_str()),
-        (SPHERE, ""),
-        (SPHERE, "sphere = []"),
-        ("[[sphere]]", "[sphere]"),
-        ("cores = 1", "cores = 2"),
-        ("cores = 1", "cores = \"1\""),
-        ("script = \"s.txt\"", "script = 1"),
-        ("chunk = 100", "chunk = 15"),
-        ("chunk = 100", "chunk = 4097"),
-        ("chunk = 100", "chunk = 100.0"),
-        ("buffer = 16", "buffer = 0"),
-        ("window = 2", "window = 9"),
-        ("window = 2", "window = -1"),
-        ("signature = 64", "signature = 96"),
-        ("signature = 64", "signature = 32"),
-        ("memory = 4096", "memory = 4097"),
-        ("memory = 4096", "memory = 0"),
-        ("memory = 4096", "memory = 16781312"),
-        ("\"record\"", "\"plain\""),
-        ("order-size", "picolog"),
-        ("s.txt", ""),
-        ("a.txt", ""),
-        ("a.log", "a.txt"),
-        ("r.txt", "s.txt"),
-        ("a.log", "p.toml"),
-        ("a.txt", "a.elf"),
-        ("cores = 1", "cores 1"),
-        ("cores = 1", "cores = 1\ncores = 1"),
+fn refuses_what_is_no_document_or_has_other_keys(rt: HostRuntime) -> Result<(), Fail> {
+    let table = [
+        ("cores = 1", "cores 1", 1),
+        ("cores = 1", "cores = 1\ncores = 1", 1),
+        ("cores = 1", "cores = 01", 1),
+        ("cores = 1", "cores = 9223372036854775808", 1),
+        ("cores = 1", "Cores = 1\ncores = 1", 2),
+        ("cores = 1", "mode = \"order-size\"\ncores = 1", 2),
+        ("account", "more", 2),
+        ("\"a.txt\"\n", "\"a.txt\"\ncores = 1\n", 2),
+        (
+            SPHERE,
+            "sphere = [{ picture = \"a.elf\", memory = 4096, role = \"record\", mode = \"order-size\", log = \"a.log\", account = \"a.txt\" }]",
+            2,
+        ),
     ];
-    for (from, to) in changes {
+    for (from, to, rule) in table {
         assert_eq!(rt;
             refusal(rt.alloc(), from, to)?,
-            Some(PlanError::Refused(0)),
+            Some(PlanError::Refused(rule)),
             "{to}"
         );
     }
-    let bytes = b"cores = 1 # \xFF";
-    assert_eq!(rt;
-        read_plan(rt.alloc(), "p.toml", bytes).err(),
-        Some(PlanError::Refused(0))
-    );
+    Ok(())
+}
+
+#[test]
+fn refuses_missing_keys_and_other_kinds_of_values(rt: HostRuntime) -> Result<(), Fail> {
+    let table = [
+        ("cores = 1\n", "", 3),
+        ("signature = 64\n", "", 3),
+        ("role = \"record\"\n", "", 3),
+        ("cores = 1", "cores = \"1\"", 3),
+        ("chunk = 100", "chunk = 100.0", 3),
+        ("cores", "seed = \"0\"\ncores", 3),
+        ("cores", "events = true\ncores", 3),
+        ("cores", "input = 1979-05-27\ncores", 3),
+        ("4096", "\"4096\"", 3),
+        ("\"record\"", "\"Record\"", 3),
+        ("\"order-size\"", "\"order\"", 3),
+        ("\"a.log\"", "1", 3),
+        ("[[sphere]]", "[sphere]", 3),
+        (SPHERE, "sphere = [1]", 3),
+        (
+            SPHERE,
+            "sphere.image = \"a.elf\"\nsphere.memory = 4096\nsphere.role = \"plain\"",
+            3,
+        ),
+        (
+            SPHERE,
+            "sphere = [{ image = \"a.elf\", memory = 4096, role = \"record\", mode = \"order-size\", log = \"a.log\", account = \"a.txt\" }, []]",
+            3,
+        ),
+    ];
+    for (from, to, rule) in table {
+        assert_eq!(rt;
+            refusal(rt.alloc(), from, to)?,
+            Some(PlanError::Refused(rule)),
+            "{to}"
+        );
+    }
+    Ok(())
+}
+
+#[test]
+fn refuses_numbers_outside_their_limits(rt: HostRuntime) -> Result<(), Fail> {
+    let table = [
+        ("cores = 1", "cores = 0", 4),
+        ("cores = 1", "cores = 9", 4),
+        ("chunk = 100", "chunk = 15", 4),
+        ("buffer = 16", "buffer = 0", 4),
+        ("window = 2", "window = 9", 4),
+        ("window = 2", "window = -2", 4),
+        ("signature = 64", "signature = 32", 4),
+        ("signature = 64", "signature = 96", 4),
+        ("cores", "seed = -1\ncores", 4),
+        ("script = \"s.txt\"", "events = 16777217", 4),
+        ("memory = 4096", "memory = 4097", 4),
+        ("memory = 4096", "memory = 16781312", 4),
+        (SPHERE, "", 4),
+        (SPHERE, "sphere = []", 4),
+    ];
+    for (from, to, rule) in table {
+        assert_eq!(rt;
+            refusal(rt.alloc(), from, to)?,
+            Some(PlanError::Refused(rule)),
+            "{to}"
+        );
+    }
+    Ok(())
+}
+
+#[test]
+fn refuses_schedules_and_roles_that_lack_something(rt: HostRuntime) -> Result<(), Fail> {
+    let table = [
+        ("script = \"s.txt\"\n", "", 5),
+        ("cores", "events = 9\ncores", 5),
+        ("mode = \"order-size\"\n", "", 6),
+        ("log = \"a.log\"\n", "", 6),
+        ("\"record\"", "\"replay\"", 6),
+        (
+            "role = \"record\"\nmode = \"order-size\"\nlog = \"a.log\"",
+            "role = \"replay\"",
+            6,
+        ),
+        ("\"record\"", "\"plain\"", 6),
+        (
+            "role = \"record\"\nmode = \"order-size\"",
+            "role = \"plain\"",
+            6,
+        ),
+        (
+            "role = \"record\"\nmode = \"order-size\"\nlog = \"a.log\"",
+            "role = \"plain\"\nmode = \"picolog\"",
+            6,
+        ),
+    ];
+    for (from, to, rule) in table {
+        assert_eq!(rt;
+            refusal(rt.alloc(), from, to)?,
+            Some(PlanError::Refused(rule)),
+            "{to}"
+        );
+    }
+    Ok(())
+}
+
+#[test]
+fn refuses_names_in_conflict(rt: HostRuntime) -> Result<(), Fail> {
+    let table = [
+        ("\"s.txt\"", "\"\"", 7),
+        ("\"r.txt\"", "\"\"", 7),
+        ("\"a.elf\"", "\"\"", 7),
+        ("\"a.log\"", "\"\"", 7),
+        ("\"a.txt\"", "\"\"", 7),
+        ("\"a.log\"", "\"a.txt\"", 7),
+        ("cores", "console = \"r.txt\"\ncores", 7),
+        ("\"a.txt\"", "\"r.txt\"", 7),
+        ("\"r.txt\"", "\"s.txt\"", 7),
+        ("\"a.log\"", "\"p.toml\"", 7),
+        ("\"a.txt\"", "\"a.elf\"", 7),
+        ("cores", "input = \"a.txt\"\ncores", 7),
+        (
+            SPHERE,
+            "[[sphere]]\nimage = \"a.elf\"\nmemory = 4096\nrole = \"record\"\nmode = \"order-size\"\nlog = \"a.log\"\naccount = \"a.txt\"\n[[sphere]]\nimage = \"b.elf\"\nmemory = 8192\nrole = \"replay\"\nlog = \"a.log\"\n",
+            7,
+        ),
+        (
+            SPHERE,
+            "[[sphere]]\nimage = \"a.elf\"\nmemory = 4096\nrole = \"record\"\nmode = \"order-size\"\nlog = \"a.log\"\naccount = \"a.txt\"\n[[sphere]]\nimage = \"b.elf\"\nmemory = 8192\nrole = \"plain\"\naccount = \"a.txt\"\n",
+            7,
+        ),
+    ];
+    for (from, to, rule) in table {
+        assert_eq!(rt;
+            refusal(rt.alloc(), from, to)?,
+            Some(PlanError::Refused(rule)),
+            "{to}"
+        );
+    }
+    Ok(())
+}
+
+#[test]
+fn refuses_by_the_first_of_two_rules(rt: HostRuntime) -> Result<(), Fail> {
+    let table = [
+        ("account = \"a.txt\"\n", "account = \"\"\nmore = 1\n", 2),
+        ("cores = 1", "cores = 9\nchunks = 1", 2),
+        ("cores = 1", "cores = \"9\"\nevents = -1", 3),
+        ("cores = 1", "cores = 9\nevents = 1", 4),
+        (
+            "script = \"s.txt\"\nreport = \"r.txt\"",
+            "report = \"a.elf\"",
+            5,
+        ),
+        (
+            "mode = \"order-size\"\nlog = \"a.log\"\n",
+            "log = \"\"\n",
+            6,
+        ),
+    ];
+    for (from, to, rule) in table {
+        assert_eq!(rt;
+            refusal(rt.alloc(), from, to)?,
+            Some(PlanError::Refused(rule)),
+            "{to}"
+        );
+    }
+    Ok(())
+}
+
+#[test]
+fn refuses_what_no_change_makes(rt: HostRuntime) -> Result<(), Fail> {
+    let mut spheres = String::new(rt.alloc());
+    for _ in 0..9 {
+        spheres.push_str(SPHERE)?;
+    }
+    let nine = changed(rt.alloc(), SPHERE, spheres.as_str())?.err();
+    assert_eq!(rt; nine, Some(PlanError::Refused(4)));
+    let latin = read_plan(rt.alloc(), "p.toml", b"cores = 1 # \xFF").err();
+    assert_eq!(rt; latin, Some(PlanError::Refused(1)));
     Ok(())
 }

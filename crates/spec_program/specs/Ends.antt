@@ -1,11 +1,10 @@
 -- How the program may end, by its status, from what it was to do: what the files then hold, and what the sink took.
-use Rattle.std.specs.Prelude.{◌≡◌, ℕ, ◌≤◌, ◌⊎◌, Bool, true, false, List, [], ◌∷◌, length, take, slice_get, Contains, Option, Some, None, if◌then◌else◌, option_and_then}
+use Rattle.std.specs.Prelude.{◌≡◌, ℕ, ◌≤◌, ◌⊎◌, Bool, true, false, List, [], ◌∷◌, length, take, slice_get, Contains, Option, Some, None, if◌then◌else◌, option_map, Result, Ok, Err}
 use Rattle.std.specs.FinMap.{get}
 use Rattle.dl_files.specs.Contents.{Contents, SameBut, IsLast}
 use Rattle.dl_files.specs.Taken.{with_taken}
-use Rattle.dl_plan.specs.Plans.{plan_of}
-use Rattle.dl_plan.specs.Values.{PlanValues}
 use Rattle.spec_program.specs.declared.status.Status.{Status}
+use Rattle.spec_program.specs.Built.{Recording, asked_of}
 use Rattle.spec_program.specs.Statuses.{status_of}
 use Rattle.spec_program.specs.Lines.{fault_line}
 use Rattle.spec_program.specs.Writes.{Write, written}
@@ -29,16 +28,18 @@ text_in (Finishes diverged writes text) = text
 
 -- ---- the names that are read
 
-abbrev pub inputs_of : Option PlanValues → List (List ℕ)
+-- those that a plan names; of one that is refused none is read
+abbrev pub inputs_of : Option (Result Recording ℕ) → List (List ℕ)
 inputs_of None = []
-inputs_of (Some p) = p.script ∷ p.image ∷ []
+inputs_of (Some (Err rule)) = []
+inputs_of (Some (Ok p)) = p.script ∷ p.image ∷ []
 
-abbrev pub plan_at : Contents → (name : List ℕ) → Option PlanValues
-plan_at m name = option_and_then (plan_of name) (get m name)
+abbrev pub asked_at : Contents → (name : List ℕ) → Option (Result Recording ℕ)
+asked_at m name = option_map (asked_of name) (get m name)
 
 abbrev pub reads_of_command : Contents → Option (List ℕ) → List (List ℕ)
 reads_of_command m None = []
-reads_of_command m (Some name) = name ∷ inputs_of (plan_at m name)
+reads_of_command m (Some name) = name ∷ inputs_of (asked_at m name)
 
 -- the plan, and what it names
 abbrev pub reads_of : (words : List (List ℕ)) → Contents → List (List ℕ)

@@ -2,5 +2,6 @@ pub mod Statuses
 pub mod Lines
 pub mod Writes
 pub mod Commands
+pub mod Built
 pub mod Outcomes
 pub mod Ends

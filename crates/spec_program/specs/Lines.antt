@@ -7,7 +7,7 @@ line text = text ++ 10 ∷ []
 abbrev pub usage_line : List ℕ
 usage_line = line (codes "usage")
 
--- the plan breaks rule 0: it is of a form that isn't built
+-- the first rule that the plan breaks; 0 where it breaks none and isn't built
 abbrev pub plan_line : (rule : ℕ) → List ℕ
 plan_line rule = line (codes "refused plan " ++ decimal rule)
 

@@ -9,8 +9,6 @@ use Rattle.dl_entry.specs.declared.SphereLine.{SphereLine}
 use Rattle.dl_files.specs.Contents.{Contents}
 use Rattle.dl_elf.specs.Images.{Image}
 use Rattle.dl_elf.specs.Loading.{image_of}
-use Rattle.dl_plan.specs.Plans.{plan_of}
-use Rattle.dl_plan.specs.Values.{PlanValues}
 use Rattle.dl_script.specs.Script.{script_of}
 use Rattle.spec_log.specs.Bytes.{log_bytes}
 use Rattle.spec_single.specs.declared.event.Event.{Event}
@@ -18,6 +16,7 @@ use Rattle.spec_single.specs.Machine.{Setup, Machine, machine_of, after, points_
 use Rattle.spec_single.specs.Serial.{Whole, whole_of, do_points}
 use Rattle.spec_single.specs.Logged.{logged}
 use Rattle.spec_program.specs.declared.status.Refusal.{Refusal}
+use Rattle.spec_program.specs.Built.{Recording, asked_of}
 use Rattle.spec_program.specs.Lines.{usage_line, plan_line, image_line, script_line, absent_line}
 use Rattle.spec_program.specs.Writes.{Write}
 use Rattle.spec_program.specs.Commands.{command_of}
@@ -29,7 +28,7 @@ pub data Outcome : Type 0 where
   Finishes : Bool → List Write → List ℕ → Outcome
 
 -- the setup that a plan and its image give
-abbrev pub setup_of : PlanValues → Image → Setup
+abbrev pub setup_of : Recording → Image → Setup
 setup_of p image = record { limit = p.chunk; capacity = p.buffer; memory = image.bytes; entry = image.entry }
 
 -- the machine at the end of the schedule
@@ -62,7 +61,7 @@ report_text s events = report_of (points_of s events) (ended s events).counts (s
 unfoldable pub summary_text : Setup → List Event → List ℕ
 summary_text s events = summary_of (ended s events).counts (spheres_of s events)
 
-abbrev pub writes_for : PlanValues → Setup → List Event → List Write
+abbrev pub writes_for : Recording → Setup → List Event → List Write
 writes_for p s events =
     record { name = p.log; bytes = log_text s events }
     ∷ record { name = p.account; bytes = account_text s events }
@@ -70,35 +69,35 @@ writes_for p s events =
     ∷ []
 
 -- a recording writes its log, its account and the report, and says the summary
-abbrev pub recorded : PlanValues → Setup → List Event → Outcome
+abbrev pub recorded : Recording → Setup → List Event → Outcome
 recorded p s events = Finishes false (writes_for p s events) (summary_text s events)
 
 -- ---- the stages, in the order of the work
 
-abbrev pub of_script : PlanValues → Image → Result (List Event) ℕ → Outcome
+abbrev pub of_script : Recording → Image → Result (List Event) ℕ → Outcome
 of_script p image (Err number) = Refuses Refusal.Grammar (script_line number)
 of_script p image (Ok events) = recorded p (setup_of p image) events
 
-abbrev pub of_image : PlanValues → (script : List ℕ) → Result Image ℕ → Outcome
+abbrev pub of_image : Recording → (script : List ℕ) → Result Image ℕ → Outcome
 of_image p script (Err rule) = Refuses Refusal.Image (image_line 0 rule)
 of_image p script (Ok image) = of_script p image (script_of script)
 
 -- the image's file, once the script is read
-abbrev pub of_image_file : PlanValues → (script : List ℕ) → Option (List ℕ) → Outcome
+abbrev pub of_image_file : Recording → (script : List ℕ) → Option (List ℕ) → Outcome
 of_image_file p script None = Refuses Refusal.Absent (absent_line p.image)
 of_image_file p script (Some bytes) = of_image p script (image_of bytes p.memory)
 
-abbrev pub of_script_file : Contents → PlanValues → Option (List ℕ) → Outcome
+abbrev pub of_script_file : Contents → Recording → Option (List ℕ) → Outcome
 of_script_file m p None = Refuses Refusal.Absent (absent_line p.script)
 of_script_file m p (Some script) = of_image_file p script (get m p.image)
 
-abbrev pub of_plan : Contents → Option PlanValues → Outcome
-of_plan m None = Refuses Refusal.Plan (plan_line 0)
-of_plan m (Some p) = of_script_file m p (get m p.script)
+abbrev pub of_plan : Contents → Result Recording ℕ → Outcome
+of_plan m (Err rule) = Refuses Refusal.Plan (plan_line rule)
+of_plan m (Ok p) = of_script_file m p (get m p.script)
 
 abbrev pub of_plan_file : Contents → (name : List ℕ) → Option (List ℕ) → Outcome
 of_plan_file m name None = Refuses Refusal.Absent (absent_line name)
-of_plan_file m name (Some bytes) = of_plan m (plan_of name bytes)
+of_plan_file m name (Some bytes) = of_plan m (asked_of name bytes)
 
 abbrev pub of_command : Contents → Option (List ℕ) → Outcome
 of_command m None = Refuses Refusal.Usage usage_line

@@ -1,7 +1,7 @@
 use Rattle.std.proofs.Common.{◌≡◌, ℕ, List, Result, Ok, ap, ◌∙◌, sym, subst}
 use Rattle.dl_elf.specs.Images.{Image}
 use Rattle.dl_elf.specs.Loading.{image_of}
-use Rattle.dl_plan.specs.Values.{plan_view}
+use Rattle.delorean.specs.Asked.{recording_view}
 use Rattle.dl_script.specs.Script.{script_of}
 use Rattle.spec_program.specs.Outcomes.{of_image, of_script}
 use Rattle.delorean.specs.Halts.{Refused}
@@ -9,12 +9,12 @@ use Rattle.delorean.proofs.computing.compute.Goals as goal
 
 pub returns-in-Err-clause-halt : goal.returns-in-Err-clause-halt
 returns-in-Err-clause-halt c =
-    subst (λ (b : List ℕ). Refused (of_image (plan_view c.args.plan.now) c.args.inputs.now.script.items (image_of b c.args.plan.now.memory)) c.in-Err.halt) c.deref.ensures.value
+    subst (λ (b : List ℕ). Refused (of_image (recording_view c.args.plan.now) c.args.inputs.now.script.items (image_of b c.args.plan.now.memory)) c.in-Err.halt) c.deref.ensures.value
     (c.in-Err.ensures.halt c.args.inputs.now.script.items)
 
 pub returns-in-Err-read_events-clause-halt : goal.returns-in-Err-read_events-clause-halt
 returns-in-Err-read_events-clause-halt c =
-    let p = plan_view c.args.plan.now in
+    let p = recording_view c.args.plan.now in
     let image : image_of c.args.inputs.now.image.items c.args.plan.now.memory ≡ Ok c.in-Ok.image =
     ap (λ (b : List ℕ). image_of b c.args.plan.now.memory) (sym c.deref.ensures.value) ∙ c.in-Ok.ensures.image
     in

@@ -4,7 +4,7 @@ use Rattle.std.proofs.lemmas.Iterator.Consumers.{YieldsList-from_rest}
 use Rattle.dl_plan.proofs.Documents.{has_only-keys}
 use Rattle.dl_plan.specs.Names.{is_one_of}
 use Rattle.dl_plan.specs.Views.{texts}
-use Rattle.dl_plan.proofs.document.has_only.Goals as goal
+use Rattle.dl_plan.proofs.keys.has_only.Goals as goal
 
 pub returns : goal.returns
 returns c =

@@ -1,0 +1,38 @@
+-- Rule 4: each number is in its limits, and there are 1 to 8 spheres.
+use Rattle.std.specs.Prelude.{ℕ, pos, nat_le, Bool, ◌&&◌, List, length, is_some, Option, Some, None, unwrap_or, if◌then◌else◌}
+use Rattle.std.specs.List.{list_all}
+use Rattle.dl_plan.specs.Entries.{TopEntries, SphereEntries, Entries}
+use Rattle.dl_plan.specs.Limits.{limited, signature_of, memory_of}
+use Rattle.dl_plan.specs.Optional.{◌>>=◌, if_there}
+
+pub record Sizes : Type 0 where
+  pub cores : ℕ
+  pub chunk : ℕ
+  pub buffer : ℕ
+  pub window : ℕ
+  pub signature : ℕ
+  pub seed : ℕ
+  pub events : Option ℕ
+
+-- the numbers at the top; a seed that is absent is 0
+abbrev pub sizes_of : TopEntries → Option Sizes
+sizes_of top =
+    limited 1 8 top.cores >>= λ cores.
+    limited 16 4096 top.chunk >>= λ chunk.
+    limited 1 4096 top.buffer >>= λ buffer.
+    limited 1 8 top.window >>= λ window.
+    signature_of top.signature >>= λ signature.
+    limited 0 9223372036854775807 (unwrap_or top.seed (pos 0)) >>= λ seed.
+    if_there (limited 0 16777216) top.events >>= λ events.
+    Some (record { cores = cores; chunk = chunk; buffer = buffer; window = window; signature = signature; seed = seed; events = events })
+
+-- the memory of each sphere is in its limits
+abbrev pub have_memories : List SphereEntries → Bool
+have_memories spheres = list_all (λ (s : SphereEntries). is_some (memory_of s.memory)) spheres
+
+-- there are 1 to 8 spheres, each with its memory
+abbrev pub has_good_spheres : List SphereEntries → Bool
+has_good_spheres spheres = nat_le 1 (length spheres) && nat_le (length spheres) 8 && have_memories spheres
+
+abbrev pub sizes_in : Entries → Option Sizes
+sizes_in e = if has_good_spheres e.spheres then sizes_of e.top else None
