@@ -185,16 +185,16 @@ none_more k j as_ ne = count-append j as_ (Actor.Thread k ∷ []) ∙ ap (λ (b 
 pushed_length : {A : Type 0} (xs : List A) (x : A) (n : ℕ) → length xs ≡ n → length (xs ++ x ∷ []) ≡ suc n
 pushed_length xs x n e = let h = length-append xs (x ∷ []) in omega arith
 
-counts_stand : (k : ℕ) (order : List Actor) (ts us : List Parts) (t : Parts) → Grows k ts us t → ((j : ℕ) → count_of j order ≡ commits_in ts j) → (j : ℕ) → count_of j (order ++ Actor.Thread k ∷ []) ≡ commits_in us j
-counts_stand k order ts us t g each j =
+pub counts-stand : (k : ℕ) (order : List Actor) (ts us : List Parts) (t : Parts) → Grows k ts us t → ((j : ℕ) → count_of j order ≡ commits_in ts j) → (j : ℕ) → count_of j (order ++ Actor.Thread k ∷ []) ≡ commits_in us j
+counts-stand k order ts us t g each j =
     elim (cases_eq j k) [
       | inl e ↦ subst (λ (n : ℕ). count_of n (order ++ Actor.Thread k ∷ []) ≡ commits_in us n) (sym e) (one_more k order ∙ ap suc (each k ∙ g.was) ∙ sym g.same)
       | inr ne ↦ none_more k j order ne ∙ each j ∙ sym (g.other j ne)
     ]
 
 order_stands : (mode : ModeName) (k : ℕ) (order : List Actor) (n : ℕ) (ts us : List Parts) (t : Parts) → Grows k ts us t → OrderStands mode order n ts → OrderStands mode (with_actor mode (Actor.Thread k) order) (suc n) us
-order_stands ModeName.OrderSize k order n ts us t g s = (pushed_length order (Actor.Thread k) n s.0, counts_stand k order ts us t g s.1)
-order_stands ModeName.OrderOnly k order n ts us t g s = (pushed_length order (Actor.Thread k) n s.0, counts_stand k order ts us t g s.1)
+order_stands ModeName.OrderSize k order n ts us t g s = (pushed_length order (Actor.Thread k) n s.0, counts-stand k order ts us t g s.1)
+order_stands ModeName.OrderOnly k order n ts us t g s = (pushed_length order (Actor.Thread k) n s.0, counts-stand k order ts us t g s.1)
 order_stands ModeName.Picolog k order n ts us t g s = tt
 
 shorts_stand : (k : ℕ) (xs : List ShortSize) (size : ℕ) (ts us : List Parts) (t : Parts) → Grows k ts us t → ((j i : ℕ) → commits_in ts j ≤ i → short_at xs j i ≡ None) → (j i : ℕ) → commits_in us j ≤ i → short_at (with_short k t.commits size xs) j i ≡ None

@@ -32,3 +32,10 @@ pub mod FollowingVerdicts
 pub mod FollowingRest
 pub mod FollowingMoves
 pub mod FollowingAll
+pub mod Entries
+pub mod OnePointMore
+pub mod NotedPoints
+pub mod Spawning
+pub mod KeptLogs
+pub mod PointByPoint
+pub mod LogsOfPoints

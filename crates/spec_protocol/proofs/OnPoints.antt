@@ -21,12 +21,12 @@ use Rattle.spec_protocol.specs.Placing.{replays}
 use Rattle.spec_protocol.specs.Commits.{Moved, is_piece, joined, by_verdict, replayed_chunk, chunk_in, chunk_moved, serial_in, serial_moved, live_dma, dma_by_verdict, dma_in, dma_moved, dma_as, dma_log, role_raised, raised}
 use Rattle.spec_protocol.specs.Asking.{is_short}
 use Rattle.spec_protocol.specs.World.{Numbers, World, What, OfChunk, OfSerial, OfDma, OfRaise, Move, sphere_at}
-use Rattle.spec_protocol.specs.Machine.{world_of, with_point, act, happens, world_after}
+use Rattle.spec_protocol.specs.Machine.{Setup, world_of, with_point, act, happens, world_after}
 use Rattle.spec_protocol.specs.Serial.{Whole, whole_of, laid, do_moved, do_chunk, do_serial, do_dma, do_raise, in_live, do_commit, do_interrupt, do_point, do_points, CanChunk, CanSerial, CanTake, InLive, CanCommit, CanInterrupt, CanDo, CanDoAll}
 use Rattle.spec_protocol.specs.Shown.{shown, shown_from, shown_of}
 use Rattle.spec_engine.specs.Flights.{Flight}
 use Rattle.spec_protocol.specs.Moves.{move_chunk, do_what, do_at, do_move, do_if, ChunkFits, FitsChunk, FitsSerial, FitsRaise, FitsWhat, FitsAt, FitsIf}
-use Rattle.spec_protocol.specs.Promises.{CommitsAreSerial}
+use Rattle.spec_protocol.specs.Promises.{IsSetup, after, CommitsAreSerial}
 use Rattle.spec_protocol.proofs.Moving.{get-set_other, get-set_same}
 use Rattle.spec_protocol.proofs.Invariant.{point_for, sphere_of_point, IsOf, PointOf, PointIs, shown-get}
 use Rattle.spec_protocol.proofs.OnCounts.{act-untold}
@@ -92,10 +92,10 @@ chunk_whole k a b short r devices p e = chunk_in_whole p.role k a b short r devi
 
 -- ---- all spheres, and the plain and recorded ones
 
-record Agrees (x y : Whole) : Type 0 where
-  devices : x.devices ≡ y.devices
-  live : (i : ℕ) (p : Sphere) → slice_get x.spheres i ≡ Some p → replays p.role ≡ false → slice_get y.spheres i ≡ Some p
-  replayed : (i : ℕ) (p : Sphere) → slice_get x.spheres i ≡ Some p → replays p.role ≡ true → (q : Sphere) × (slice_get y.spheres i ≡ Some q) × (replays q.role ≡ true)
+pub record Agrees (x y : Whole) : Type 0 where
+  pub devices : x.devices ≡ y.devices
+  pub live : (i : ℕ) (p : Sphere) → slice_get x.spheres i ≡ Some p → replays p.role ≡ false → slice_get y.spheres i ≡ Some p
+  pub replayed : (i : ℕ) (p : Sphere) → slice_get x.spheres i ≡ Some p → replays p.role ≡ true → (q : Sphere) × (slice_get y.spheres i ≡ Some q) × (replays q.role ≡ true)
 
 agrees_itself : (x : Whole) → Agrees x x
 agrees_itself x = record { devices = refl; live = λ i p e r. e; replayed = λ i p e r. (p, e, r) }
@@ -426,9 +426,9 @@ with_point_can x ps None all one = all
 with_point_can x ps (Some p) all one = can_append x ps p all one
 
 -- the world shows what its points give
-record SerialSo (x : Whole) (w : World) : Type 0 where
-  agrees : Agrees (shown_of w) (do_points x w.points)
-  possible : CanDoAll x w.points
+pub record SerialSo (x : Whole) (w : World) : Type 0 where
+  pub agrees : Agrees (shown_of w) (do_points x w.points)
+  pub possible : CanDoAll x w.points
 
 points_kept : (w : World) (e : Event) → (happens w e).world.points ≡ with_point (happens w e).point (act w e).world.points
 unfolding happens
@@ -450,10 +450,14 @@ after_so : (x : Whole) (w : World) (es : List Event) → IsGood w → SerialSo x
 after_so x w [] good s = s
 after_so x w (e ∷ es) good s = after_so x (happens w e).world es (happens-kept w e good).good (serial_so x w e good s)
 
-pub commits_are : CommitsAreSerial
-commits_are s es is =
+pub serial-after : (s : Setup) (es : List Event) → IsSetup s → SerialSo (whole_of s) (after s es)
+serial-after s es is =
     let start : SerialSo (whole_of s) (world_of s) =
     record { agrees = subst (λ (u : Whole). Agrees u (whole_of s)) (sym (start-shown s)) (agrees_itself (whole_of s)); possible = tt }
     in
-    let r = after_so (whole_of s) (world_of s) es (start-good s is) start in
+    after_so (whole_of s) (world_of s) es (start-good s is) start
+
+pub commits_are : CommitsAreSerial
+commits_are s es is =
+    let r = serial-after s es is in
     record { spheres = r.agrees.live; devices = r.agrees.devices; possible = r.possible }

@@ -17,3 +17,4 @@ pub mod Invariants
 pub mod Promises
 pub mod Replying
 pub mod PlayingBack
+pub mod LogsOfPoints

@@ -1,23 +1,68 @@
--- The log of a recorded sphere, told by its points: the order and the sizes of its commits, and its interrupts.
-use Rattle.std.specs.Prelude.{ℕ, suc, Bool, nat_eq, List, [], ◌∷◌, length, if◌then◌else◌}
+-- The log of a recorded sphere, told by its points and by what came from outside at each: nothing else is in a log.
+use Rattle.std.specs.Prelude.{ℕ, suc, ◌+◌, Bool, false, nat_eq, List, [], ◌∷◌, ◌++◌, length, map, slice_get, slice_index_or, Option, Some, None, if◌then◌else◌}
 use Rattle.std.specs.List.{flat_map}
 use Rattle.dl_entry.specs.declared.Actor.{Actor}
+use Rattle.dl_entry.specs.declared.CommitKind.{CommitKind}
+use Rattle.dl_entry.specs.declared.Input.{Input}
 use Rattle.dl_entry.specs.declared.Point.{Point}
+use Rattle.dl_entry.specs.declared.Request.{Request}
+use Rattle.spec_isa.specs.declared.thread.Parts.{Parts}
 use Rattle.spec_log.specs.declared.ModeName.{ModeName}
 use Rattle.spec_log.specs.declared.Interrupt.{Interrupt}
+use Rattle.spec_log.specs.declared.DmaRecord.{DmaRecord}
 use Rattle.spec_log.specs.declared.ShortSize.{ShortSize}
 use Rattle.spec_log.specs.declared.Sizes.{Sizes}
 use Rattle.spec_log.specs.declared.LogParts.{LogParts}
 use Rattle.spec_log.specs.Size.{is_thread}
+use Rattle.spec_kernel.specs.Devices.{Devices}
+use Rattle.spec_kernel.specs.Needs.{need}
+use Rattle.spec_kernel.specs.Answers.{taken, dma_bytes}
+use Rattle.spec_protocol.specs.Spheres.{Sphere, no_sphere}
+use Rattle.spec_protocol.specs.Serial.{Whole, do_point}
+
+-- ---- what came from outside
+
+-- a point, with the record that answered its serial step and the bytes of its DMA
+pub record Supplied : Type 0 where
+  pub point : Point
+  pub input : Option Input
+  pub bytes : List ℕ
+
+-- what the devices answer to the next step of a thread; none where it wants nothing from outside
+abbrev pub answer_to : Devices → (moment : ℕ) → Sphere → Option Parts → Option Input
+answer_to devices moment p None = None
+answer_to devices moment p (Some t) = (taken (need t p.memory) devices moment).input
+
+-- the bytes of the input that an outstanding request gets
+abbrev pub bytes_for : Devices → Option Request → List ℕ
+bytes_for devices None = []
+bytes_for devices (Some request) = dma_bytes devices request
+
+abbrev pub sphere_in : Whole → (i : ℕ) → Sphere
+sphere_in x i = slice_index_or x.spheres i no_sphere
+
+-- only serial steps get a record
+abbrev pub input_at : Whole → Point → Option Input
+input_at x (Point.Commit moment i (Actor.Thread k) CommitKind.Serial size short) =
+    let p = sphere_in x i in answer_to x.devices moment p (slice_get p.threads k)
+input_at x _ = None
+
+-- only DMAs get bytes
+abbrev pub bytes_at : Whole → Point → List ℕ
+bytes_at x (Point.Commit moment i Actor.Dma kind size short) = bytes_for x.devices (sphere_in x i).progress.request
+bytes_at x _ = []
 
 -- the points of sphere i
 abbrev pub is_of : (i : ℕ) → Point → Bool
 is_of i (Point.Commit moment j actor kind size short) = nat_eq j i
 is_of i (Point.Raise moment j k value) = nat_eq j i
 
-abbrev pub points_in : (i : ℕ) → List Point → List Point
-points_in i [] = []
-points_in i (p ∷ ps) = if is_of i p then p ∷ points_in i ps else points_in i ps
+-- those among these, which are done one at a time, with what comes from outside at each
+abbrev pub supplied : (i : ℕ) → Whole → List Point → List Supplied
+supplied i x [] = []
+supplied i x (q ∷ qs) =
+    let rest = supplied i (do_point x q) qs in
+    if is_of i q then record { point = q; input = input_at x q; bytes = bytes_at x q } ∷ rest else rest
 
 -- ---- of the points of one sphere
 
@@ -33,12 +78,17 @@ sizes_of [] = []
 sizes_of (Point.Commit moment i actor kind size short ∷ ps) = size ∷ sizes_of ps
 sizes_of (Point.Raise moment i k value ∷ ps) = sizes_of ps
 
--- of thread k, after so many of its commits, the sizes of the short ones
+-- serial steps and DMAs are never short
+abbrev pub is_short_chunk : CommitKind → (short : Bool) → Bool
+is_short_chunk CommitKind.Chunk short = short
+is_short_chunk _ short = false
+
+-- of thread k, after so many of its commits, the sizes of the short chunks
 abbrev pub shorts_of : (thread commits : ℕ) → List Point → List ShortSize
 shorts_of k n [] = []
 shorts_of k n (Point.Commit moment i actor kind size short ∷ ps) =
     if is_thread k actor
-    then if short
+    then if is_short_chunk kind short
     then record { thread = k; index = n; size = size } ∷ shorts_of k (suc n) ps
     else shorts_of k (suc n) ps
     else shorts_of k n ps
@@ -53,6 +103,24 @@ interrupts_of k n (Point.Raise moment i j value ∷ ps) =
     if nat_eq j k
     then record { thread = k; index = n; value = value } ∷ interrupts_of k n ps
     else interrupts_of k n ps
+
+-- the records of its steps
+abbrev pub listed : Option Input → List Input
+listed None = []
+listed (Some r) = r ∷ []
+
+abbrev pub inputs_of : List Supplied → List Input
+inputs_of cs = flat_map (λ c. listed c.input) cs
+
+-- the data of a DMA, with the place of its commit
+abbrev pub data_at : (commits : ℕ) → Point → (bytes : List ℕ) → List DmaRecord
+data_at n (Point.Commit moment i Actor.Dma kind size short) bytes = record { slot = n; bytes = bytes } ∷ []
+data_at n _ bytes = []
+
+-- the data of its DMAs, after so many commits
+abbrev pub dmas_of : (commits : ℕ) → List Supplied → List DmaRecord
+dmas_of n [] = []
+dmas_of n (c ∷ cs) = data_at n c.point c.bytes ++ dmas_of (n + length (actors_of (c.point ∷ []))) cs
 
 -- the threads that a sphere can have
 abbrev pub threads : List ℕ
@@ -73,13 +141,20 @@ sizes_in ModeName.OrderSize ps = Sizes.Each (sizes_of ps)
 sizes_in ModeName.OrderOnly ps = Sizes.Short (all_shorts ps)
 sizes_in ModeName.Picolog ps = Sizes.Short (all_shorts ps)
 
--- sizes and interrupts stand thread by thread; what came from outside is as it was kept
-abbrev pub logged : (i : ℕ) → List Point → (kept : LogParts) → LogParts
-logged i points kept =
-    let ps = points_in i points in
-    record kept {
+abbrev pub all_interrupts : List Point → List Interrupt
+all_interrupts ps = flat_map (λ k. interrupts_of k 0 ps) threads
+
+-- short sizes and interrupts stand thread by thread; orders, records and DMA data in the order of the points
+abbrev pub logged : ModeName → (s : ℕ) → List Supplied → LogParts
+logged mode s cs =
+    let ps = map (λ c. c.point) cs in
+    record {
+      mode = mode;
+      s = s;
       count = length (actors_of ps);
-      order = order_in kept.mode ps;
-      sizes = sizes_in kept.mode ps;
-      interrupts = flat_map (λ k. interrupts_of k 0 ps) threads;
+      order = order_in mode ps;
+      sizes = sizes_in mode ps;
+      interrupts = all_interrupts ps;
+      inputs = inputs_of cs;
+      dmas = dmas_of 0 cs;
     }

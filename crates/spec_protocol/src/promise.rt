@@ -1,5 +1,6 @@
 //! What is promised of the protocol. Each promise is a clause of a function that does nothing.
 ghost use Rattle.spec_protocol.specs.Promises.{CommitsAreSerial, InvariantsHold, MovesAreSerial, SizesAreKept};
+ghost use Rattle.spec_protocol.specs.LogsOfPoints.{LogsAreOfPoints};
 ghost use Rattle.spec_protocol.specs.PlayingBack.{LogsPlayBack};
 ghost use Rattle.spec_protocol.specs.Replying.{AsksAreGranted, GrantsAreClear, PointsAreMade};
 
@@ -52,4 +53,10 @@ pub fn grants_are_clear()
 /// commit at a time, leaves the sphere's current memory, its threads, its commits and its request.
 pub fn logs_play_back()
     ensures { LogsPlayBack }
+{}
+
+/// After every list of events: the log that a recorded sphere has kept is the one of its serialisation points, with the
+/// records and the DMA data that came from outside as they were executed one at a time.
+pub fn logs_are_of_points()
+    ensures { LogsAreOfPoints }
 {}

@@ -1,0 +1,72 @@
+-- The log that a recording keeps is that of its points.
+use Rattle.std.proofs.Common.{◌≡◌, ℕ, zero, suc, ◌<◌, inl, inr, true, false, List, [], ◌∷◌, length, map, Some, refl, sym, ap, ◌∙◌, arith}
+use Rattle.std.specs.Prelude.{slice_get, option_map}
+use Rattle.std.proofs.lemmas.Bool.{true≢false, cases_Bool}
+use Rattle.std.proofs.lemmas.Option.{slice_get_within, slice_get-map}
+use Rattle.spec_isa.specs.Threads.{started}
+use Rattle.spec_log.specs.declared.ModeName.{ModeName}
+use Rattle.spec_log.specs.declared.LogParts.{LogParts}
+use Rattle.spec_play.specs.Recording.{new_log}
+use Rattle.spec_protocol.specs.Spheres.{Role, Record, Sphere}
+use Rattle.spec_protocol.specs.Placing.{replays}
+use Rattle.spec_protocol.specs.World.{World, sphere_at}
+use Rattle.spec_protocol.specs.Machine.{SphereSetup, role_of, sphere_of}
+use Rattle.spec_protocol.specs.Serial.{Whole, whole_of, do_points}
+use Rattle.spec_protocol.specs.Shown.{shown, shown_of}
+use Rattle.spec_protocol.specs.Logged.{Supplied, supplied, logged}
+use Rattle.spec_protocol.specs.Promises.{after}
+use Rattle.spec_protocol.specs.LogsOfPoints.{LogsAreOfPoints}
+use Rattle.spec_protocol.proofs.Invariant.{shown-get}
+use Rattle.spec_protocol.proofs.Growing.{commits_in}
+use Rattle.spec_protocol.proofs.Schedules.{sizes_kept}
+use Rattle.spec_protocol.proofs.OnPoints.{serial-after}
+use Rattle.spec_protocol.proofs.KeptLogs.{Keeps, KeepsIn}
+use Rattle.spec_protocol.proofs.PointByPoint.{points-kept}
+
+-- ---- the start
+
+no_points : (mode : ModeName) (s : ℕ) → new_log mode s ≡ logged mode s []
+no_points ModeName.OrderSize s = refl
+no_points ModeName.OrderOnly s = refl
+no_points ModeName.Picolog s = refl
+
+no_commits : (entry k : ℕ) → 0 ≡ commits_in (started entry ∷ []) k
+no_commits entry zero = refl
+no_commits entry (suc k) = refl
+
+start_keeps : (mode : ModeName) (s : ℕ) (image : SphereSetup) → role_of s (started image.entry ∷ []) image.role ≡ Record (new_log mode s) → Keeps mode s [] (sphere_of s image)
+start_keeps mode s image role =
+    record {
+      role = role ∙ ap (λ (log : LogParts). Record log) (no_points mode s);
+      commits = no_commits image.entry;
+      place = refl;
+      few = omega arith;
+    }
+
+-- ---- all
+
+pub logs_are : LogsAreOfPoints
+unfolding shown
+logs_are s es i image mode is there role =
+    let w : World = after s es in
+    let z : ℕ = s.numbers.chunk in
+    let so = serial-after s es is in
+    let k : KeepsIn mode z i (supplied i (whole_of s) w.points) (do_points (whole_of s) w.points) =
+    points-kept mode z i [] (whole_of s) w.points
+    (record { sphere = sphere_of z image; there = slice_get-map (sphere_of z) s.spheres i ∙ ap (option_map (sphere_of z)) there; keeps = start_keeps mode z image (ap (role_of z (started image.entry ∷ [])) role) })
+    so.possible
+    in
+    let p : Sphere = shown w.slots i (sphere_at w i) in
+    let l : i < length w.spheres = (let a = slice_get_within s.spheres i image there in let b = (sizes_kept s es is).spheres in omega arith) in
+    let e : slice_get (shown_of w).spheres i ≡ Some p = shown-get w.slots i w.spheres l in
+    elim (cases_Bool (replays p.role)) [
+      | inl replay ↦ (
+          let q = so.agrees.replayed i p e replay in
+          let same : k.sphere ≡ q.0 = (let h : Some k.sphere ≡ Some q.0 = sym k.there ∙ q.1 in cc) in
+          absurd (true≢false (sym q.2 ∙ ap (λ (r : Sphere). replays r.role) (sym same) ∙ ap replays k.keeps.role))
+          )
+      | inr live ↦ (
+          let same : p ≡ k.sphere = (let h : Some p ≡ Some k.sphere = sym (so.agrees.live i p e live) ∙ k.there in cc) in
+          ap (λ (r : Sphere). r.role) same ∙ k.keeps.role
+          )
+    ]

@@ -1,0 +1,5 @@
+use Rattle.spec_protocol.proofs.LogsOfPoints.{logs_are}
+use Rattle.spec_protocol.proofs.promise.logs_are_of_points.Goals as goal
+
+pub returns : goal.returns
+returns c = logs_are
