@@ -1,10 +1,10 @@
 -- Points done one at a time: the log that a recorded sphere keeps is that of its points.
-use Rattle.std.proofs.Common.{◌≡◌, ◌≢◌, ℕ, zero, suc, ◌+◌, ◌<◌, ◌≤◌, inl, inr, Bool, true, false, eqb, cond, List, [], ◌∷◌, ◌++◌, length, map, Option, Some, None, refl, sym, ap, ◌∙◌, subst, arith, set, get_or}
+use Rattle.std.proofs.Common.{◌≡◌, ℕ, suc, ◌+◌, ◌<◌, ◌≤◌, inl, inr, Bool, false, cond, List, [], ◌∷◌, ◌++◌, length, Option, Some, None, refl, sym, ap, ◌∙◌, arith, set}
 use Rattle.std.specs.Prelude.{slice_get}
 use Rattle.std.proofs.Math.ListN.{length-set}
-use Rattle.std.proofs.lemmas.Bool.{true≢false, cases_eq, cases_Bool, eqb-true, ne_eqb}
-use Rattle.std.proofs.lemmas.List.{append_assoc, append-nil, length-append}
-use Rattle.std.proofs.lemmas.Option.{none-some, slice_get_within, get_or_from_slice_get}
+use Rattle.std.proofs.lemmas.Bool.{cases_eq}
+use Rattle.std.proofs.lemmas.List.{append-nil, length-append}
+use Rattle.std.proofs.lemmas.Option.{slice_get_within}
 use Rattle.dl_entry.specs.declared.Actor.{Actor}
 use Rattle.dl_entry.specs.declared.CommitKind.{CommitKind}
 use Rattle.dl_entry.specs.declared.Commit.{Commit}
@@ -24,11 +24,11 @@ use Rattle.spec_kernel.specs.Interrupts.{interrupted}
 use Rattle.spec_kernel.specs.Serving.{serve}
 use Rattle.spec_play.specs.Effects.{chunk_effect, serial_effect, dma_commit}
 use Rattle.spec_play.specs.Progress.{position}
-use Rattle.spec_play.specs.Recording.{noted, input_noted, interrupt_noted}
-use Rattle.spec_protocol.specs.Spheres.{Role, Record, Sphere, no_sphere}
-use Rattle.spec_protocol.specs.Commits.{Moved, chunk_in, chunk_moved, serial_noted, serial_in, serial_moved, dma_as, dma_log, live_dma, dma_in, dma_moved, role_raised, raised}
-use Rattle.spec_protocol.specs.Serial.{Whole, laid, do_moved, do_chunk, do_serial, do_dma, do_raise, do_kind, in_live, do_commit, do_interrupt, do_point, do_points, CanChunk, CanSerial, CanTake, CanKind, InLive, CanCommit, CanInterrupt, CanDo, CanDoAll}
-use Rattle.spec_protocol.specs.Logged.{Supplied, answer_to, bytes_for, sphere_in, input_at, bytes_at, is_of, supplied, actors_of, is_short_chunk, logged}
+use Rattle.spec_play.specs.Recording.{noted}
+use Rattle.spec_protocol.specs.Spheres.{Record, Sphere}
+use Rattle.spec_protocol.specs.Commits.{Moved, chunk_in, serial_noted, serial_in, dma_as, dma_log, role_raised, raised}
+use Rattle.spec_protocol.specs.Serial.{Whole, laid}
+use Rattle.spec_protocol.specs.Logged.{Supplied, actors_of, is_short_chunk, logged}
 use Rattle.spec_protocol.proofs.Moving.{get-set_other, get-set_same}
 use Rattle.spec_protocol.proofs.Keeping.{run-keeps, serve-keeps}
 use Rattle.spec_protocol.proofs.Lookups.{count_of}

@@ -39,3 +39,4 @@ pub mod Spawning
 pub mod KeptLogs
 pub mod PointByPoint
 pub mod LogsOfPoints
+pub mod Pieces

@@ -1,5 +1,5 @@
 -- The log that a recording keeps is that of its points.
-use Rattle.std.proofs.Common.{◌≡◌, ℕ, zero, suc, ◌<◌, inl, inr, true, false, List, [], ◌∷◌, length, map, Some, refl, sym, ap, ◌∙◌, arith}
+use Rattle.std.proofs.Common.{◌≡◌, ℕ, zero, suc, ◌<◌, inl, inr, [], ◌∷◌, length, Some, refl, sym, ap, ◌∙◌, arith}
 use Rattle.std.specs.Prelude.{slice_get, option_map}
 use Rattle.std.proofs.lemmas.Bool.{true≢false, cases_Bool}
 use Rattle.std.proofs.lemmas.Option.{slice_get_within, slice_get-map}
@@ -7,13 +7,13 @@ use Rattle.spec_isa.specs.Threads.{started}
 use Rattle.spec_log.specs.declared.ModeName.{ModeName}
 use Rattle.spec_log.specs.declared.LogParts.{LogParts}
 use Rattle.spec_play.specs.Recording.{new_log}
-use Rattle.spec_protocol.specs.Spheres.{Role, Record, Sphere}
+use Rattle.spec_protocol.specs.Spheres.{Record, Sphere}
 use Rattle.spec_protocol.specs.Placing.{replays}
 use Rattle.spec_protocol.specs.World.{World, sphere_at}
 use Rattle.spec_protocol.specs.Machine.{SphereSetup, role_of, sphere_of}
-use Rattle.spec_protocol.specs.Serial.{Whole, whole_of, do_points}
+use Rattle.spec_protocol.specs.Serial.{whole_of, do_points}
 use Rattle.spec_protocol.specs.Shown.{shown, shown_of}
-use Rattle.spec_protocol.specs.Logged.{Supplied, supplied, logged}
+use Rattle.spec_protocol.specs.Logged.{supplied, logged}
 use Rattle.spec_protocol.specs.Promises.{after}
 use Rattle.spec_protocol.specs.LogsOfPoints.{LogsAreOfPoints}
 use Rattle.spec_protocol.proofs.Invariant.{shown-get}

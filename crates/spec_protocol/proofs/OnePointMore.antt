@@ -1,24 +1,18 @@
 -- The log that points tell, with one point more: what a recording notes.
-use Rattle.std.proofs.Common.{◌≡◌, ◌≢◌, ℕ, zero, suc, ◌+◌, ◌<◌, ◌≤◌, Bool, true, false, eqb, cond, List, [], ◌∷◌, ◌++◌, length, map, Option, Some, None, refl, sym, ap, ◌∙◌, arith}
+use Rattle.std.proofs.Common.{◌≡◌, ◌≢◌, ℕ, suc, ◌+◌, ◌≤◌, Bool, true, false, eqb, cond, List, [], ◌∷◌, ◌++◌, length, map, refl, sym, ap, ◌∙◌, arith}
 use Rattle.std.specs.List.{flat_map}
 use Rattle.std.proofs.lemmas.Bool.{eq-eqb, ne_eqb}
-use Rattle.std.proofs.lemmas.List.{append_assoc, append-nil, length-append, map-append}
-use Rattle.std.proofs.lemmas.Grind.{flat_map-append}
+use Rattle.std.proofs.lemmas.List.{append_assoc, append-nil, map-append}
 use Rattle.dl_entry.specs.declared.Actor.{Actor}
 use Rattle.dl_entry.specs.declared.CommitKind.{CommitKind}
-use Rattle.dl_entry.specs.declared.Input.{Input}
 use Rattle.dl_entry.specs.declared.Point.{Point}
-use Rattle.spec_log.specs.declared.ModeName.{ModeName}
 use Rattle.spec_log.specs.declared.Interrupt.{Interrupt}
 use Rattle.spec_log.specs.declared.DmaRecord.{DmaRecord}
 use Rattle.spec_log.specs.declared.ShortSize.{ShortSize}
-use Rattle.spec_log.specs.declared.Sizes.{Sizes}
-use Rattle.spec_log.specs.declared.LogParts.{LogParts}
 use Rattle.spec_log.specs.Size.{is_thread}
-use Rattle.spec_play.specs.Recording.{with_actor, with_size, with_short, input_noted, interrupt_noted}
-use Rattle.spec_protocol.specs.Logged.{Supplied, actors_of, sizes_of, is_short_chunk, shorts_of, interrupts_of, listed, inputs_of, data_at, dmas_of, threads, order_in, sizes_in, all_shorts, all_interrupts, logged}
+use Rattle.spec_protocol.specs.Logged.{Supplied, actors_of, sizes_of, is_short_chunk, shorts_of, interrupts_of, data_at, dmas_of, threads}
 use Rattle.spec_protocol.proofs.Lookups.{count_of}
-use Rattle.spec_protocol.proofs.Entries.{Are, placed-behind}
+use Rattle.spec_protocol.proofs.Entries.{Are}
 
 -- ---- the points so far, and one behind them
 

@@ -18,3 +18,4 @@ pub mod Promises
 pub mod Replying
 pub mod PlayingBack
 pub mod LogsOfPoints
+pub mod Pieces

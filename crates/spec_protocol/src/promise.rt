@@ -1,6 +1,7 @@
 //! What is promised of the protocol. Each promise is a clause of a function that does nothing.
 ghost use Rattle.spec_protocol.specs.Promises.{CommitsAreSerial, InvariantsHold, MovesAreSerial, SizesAreKept};
 ghost use Rattle.spec_protocol.specs.LogsOfPoints.{LogsAreOfPoints};
+ghost use Rattle.spec_protocol.specs.Pieces.{PiecesStayTogether, StoppedSpheresStay};
 ghost use Rattle.spec_protocol.specs.PlayingBack.{LogsPlayBack};
 ghost use Rattle.spec_protocol.specs.Replying.{AsksAreGranted, GrantsAreClear, PointsAreMade};
 
@@ -59,4 +60,17 @@ pub fn logs_play_back()
 /// records and the DMA data that came from outside as they were executed one at a time.
 pub fn logs_are_of_points()
     ensures { LogsAreOfPoints }
+{}
+
+/// After every list of events: where a replayed sphere that hasn't stopped has done pieces of a commit, it is one thread's
+/// turn, and whatever event comes, only chunks of that thread take effect in the sphere: no other commit, serial step, DMA
+/// or interrupt stands between two pieces.
+pub fn pieces_stay_together()
+    ensures { PiecesStayTogether }
+{}
+
+/// After every list of events: whatever event comes, nothing takes effect in a replayed sphere that is complete or has
+/// diverged.
+pub fn stopped_spheres_stay()
+    ensures { StoppedSpheresStay }
 {}

@@ -1,0 +1,5 @@
+use Rattle.spec_protocol.proofs.Pieces.{pieces_stay}
+use Rattle.spec_protocol.proofs.promise.pieces_stay_together.Goals as goal
+
+pub returns : goal.returns
+returns c = pieces_stay

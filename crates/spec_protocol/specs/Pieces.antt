@@ -1,0 +1,36 @@
+-- What is promised of replays: that nothing of a sphere comes between two pieces of a commit, and nothing after its end.
+use Rattle.std.specs.Prelude.{◌≡◌, ◌≢◌, ℕ, ◌<◌, true, false, List, Some}
+use Rattle.spec_play.specs.Turns.{Turn}
+use Rattle.spec_protocol.specs.declared.event.Event.{Event}
+use Rattle.spec_protocol.specs.Spheres.{Book, Replay, is_over, is_stopped}
+use Rattle.spec_protocol.specs.World.{World, What, OfChunk, OfSerial, OfDma, OfRaise, Move, sphere_at}
+use Rattle.spec_protocol.specs.Machine.{Setup, happens}
+use Rattle.spec_protocol.specs.Promises.{IsSetup, after}
+
+-- ---- in pieces
+
+-- a chunk of thread k: a further piece, the last part, or what leaves the log
+abbrev pub IsChunkOf : (thread : ℕ) → What → Type 0
+IsChunkOf k (OfChunk j how n limit) = j ≡ k
+IsChunkOf k (OfSerial j) = ⊥
+IsChunkOf k OfDma = ⊥
+IsChunkOf k (OfRaise j value) = ⊥
+
+-- the commit of sphere i is in pieces: it is thread k's turn, and whatever comes next, of this sphere only chunks of k
+-- take effect
+pub record GoesOn (w : World) (i : ℕ) (b : Book) (k : ℕ) : Type 0 where
+  pub turn : b.now ≡ Turn k
+  pub only : (e : Event) (m : Move) → (happens w e).move ≡ Some m → m.sphere ≡ i → IsChunkOf k m.what
+
+-- a replay that has not stopped, and of whose present commit earlier pieces have run instructions
+abbrev pub PiecesStayTogether : Type 0
+PiecesStayTogether =
+    (s : Setup) (es : List Event) (i : ℕ) (b : Book) → IsSetup s → let w = after s es in
+    (sphere_at w i).role ≡ Replay b → is_over b.now ≡ false → 0 < b.total → (k : ℕ) × GoesOn w i b k
+
+-- ---- stopped
+
+-- in a replay that is complete or has diverged nothing takes effect any more
+abbrev pub StoppedSpheresStay : Type 0
+StoppedSpheresStay =
+    (s : Setup) (es : List Event) (i : ℕ) → IsSetup s → let w = after s es in is_stopped (sphere_at w i).role ≡ true → (e : Event) (m : Move) → (happens w e).move ≡ Some m → m.sphere ≢ i
