@@ -1,5 +1,6 @@
 mod Scenes
 mod Recordings
+mod TwoThreads
 pub mod Laying
 pub mod Running
 pub mod Slots
