@@ -1,3 +1,4 @@
 pub mod Joining
 pub mod Standing
 pub mod Judging
+pub mod Done
