@@ -2,3 +2,4 @@ pub mod Joining
 pub mod Standing
 pub mod Judging
 pub mod Done
+pub mod Pieces
