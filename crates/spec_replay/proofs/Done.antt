@@ -1,5 +1,5 @@
 -- A whole commit of a replayed sphere is the play's next; and one that diverges ends both.
-use Rattle.std.proofs.Common.{◌≡◌, ℕ, zero, suc, ◌+◌, ◌<◌, inl, inr, List, [], ◌∷◌, ◌++◌, length, Option, Some, None, refl, sym, ap, ◌∙◌, subst, arith, set}
+use Rattle.std.proofs.Common.{◌≡◌, ℕ, suc, ◌<◌, inl, inr, List, [], ◌∷◌, ◌++◌, length, Some, refl, sym, ap, ◌∙◌, subst, arith, set}
 use Rattle.std.specs.Prelude.{slice_get}
 use Rattle.std.proofs.lemmas.List.{length-append}
 use Rattle.dl_entry.specs.declared.Commit.{Commit}
@@ -17,9 +17,9 @@ use Rattle.spec_play.specs.Verdicts.{Verdict, Goes, Fails}
 use Rattle.spec_play.specs.Transfers.{DmaVerdict, DmaGoes, DmaFails, dma_verdict}
 use Rattle.spec_play.specs.Plays.{Played, with_threads, settled, thread_verdict, play_thread, dma_settled, play_now, play_one, plays}
 use Rattle.spec_protocol.specs.Spheres.{Book, Replay, Sphere}
-use Rattle.spec_protocol.specs.Commits.{Moved, turned, diverged, granted_as, by_verdict, dma_as, dma_by_verdict}
+use Rattle.spec_protocol.specs.Commits.{turned, diverged, by_verdict, dma_by_verdict}
 use Rattle.spec_protocol.specs.Serial.{laid}
-use Rattle.spec_replay.specs.Following.{IsWhole, StandsAt, EndsWithin, Follows}
+use Rattle.spec_replay.specs.Following.{IsWhole, StandsAt, Follows}
 use Rattle.spec_replay.proofs.Standing.{set_twice, whole-stands}
 use Rattle.spec_replay.proofs.Judging.{AlikeEffects, AreAlike}
 

@@ -1,11 +1,11 @@
 -- A run in two parts, the second on the memory that the first one leaves, is one run.
-use Rattle.std.proofs.Common.{◌≡◌, ℕ, zero, suc, ◌+◌, ◌<◌, ◌≤◌, List, [], ◌∷◌, ◌++◌, Option, Some, None, refl, sym, ap, ◌∙◌, arith}
+use Rattle.std.proofs.Common.{◌≡◌, ℕ, zero, suc, ◌+◌, List, [], ◌∷◌, ◌++◌, Option, Some, None, refl, sym, ap, ◌∙◌, arith}
 use Rattle.std.proofs.lemmas.List.{append_assoc, append-nil}
 use Rattle.spec_isa.specs.declared.thread.Parts.{Parts}
 use Rattle.spec_isa.specs.declared.thread.Load.{Load}
 use Rattle.spec_isa.specs.Words.{Stored, lay, lays, Apart}
 use Rattle.spec_isa.specs.Instruction.{Outcome, Next, Serial, one}
-use Rattle.spec_isa.specs.Runs.{Run, begun, with_load, with_store, followed, more, run}
+use Rattle.spec_isa.specs.Runs.{Run, with_load, with_store, followed, more, run}
 use Rattle.spec_isa.proofs.BufferLaws.{lays_put}
 use Rattle.spec_protocol.proofs.Covering.{Apart-store}
 

@@ -3,3 +3,5 @@ pub mod Standing
 pub mod Judging
 pub mod Done
 pub mod Pieces
+pub mod Moved
+pub mod Replays

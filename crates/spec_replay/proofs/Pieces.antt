@@ -1,9 +1,8 @@
 -- A chunk of a replayed sphere: a piece moves the sphere on in the play's next commit, and the last part is that commit.
-use Rattle.std.proofs.Common.{◌≡◌, ◌≢◌, ℕ, zero, suc, ◌+◌, ◌-◌, ◌<◌, ◌≤◌, inl, inr, Bool, true, false, eqb, cond, List, [], ◌∷◌, ◌++◌, Option, Some, None, refl, sym, ap, ◌∙◌, subst, arith, set}
-use Rattle.std.specs.Prelude.{slice_get, nat_lt, max, IsSome}
+use Rattle.std.proofs.Common.{◌≡◌, ◌≢◌, ℕ, zero, suc, ◌+◌, ◌-◌, ◌<◌, inl, inr, Bool, true, false, cond, List, ◌++◌, Option, Some, None, refl, sym, ap, ◌∙◌, subst, arith, set}
+use Rattle.std.specs.Prelude.{slice_get, max, IsSome}
 use Rattle.std.proofs.lemmas.Bool.{true≢false, eq-eqb, ltb-true, cases_eq}
 use Rattle.dl_entry.specs.declared.Actor.{Actor}
-use Rattle.dl_entry.specs.declared.End.{End}
 use Rattle.dl_entry.specs.declared.Why.{Why}
 use Rattle.spec_isa.specs.declared.thread.Parts.{Parts}
 use Rattle.spec_isa.specs.declared.thread.Load.{Load}
@@ -13,15 +12,14 @@ use Rattle.spec_log.specs.declared.LogParts.{LogParts}
 use Rattle.spec_log.specs.Size.{size_in}
 use Rattle.spec_kernel.specs.Devices.{Devices}
 use Rattle.spec_kernel.specs.Needs.{next_kind}
-use Rattle.spec_kernel.specs.Interrupts.{is_live}
 use Rattle.spec_play.specs.Effects.{chunk_effect}
 use Rattle.spec_play.specs.Progress.{Progress, position, Used}
-use Rattle.spec_play.specs.Turns.{Now, Turn, Over}
-use Rattle.spec_play.specs.Verdicts.{Verdict, Goes, Fails, unless, ended, chunk_why, chunk_verdict}
+use Rattle.spec_play.specs.Turns.{Now, Turn}
+use Rattle.spec_play.specs.Verdicts.{Verdict, Fails, unless, ended, chunk_why, chunk_verdict}
 use Rattle.spec_play.specs.Plays.{Played, size_or_standard, thread_verdict, plays}
 use Rattle.spec_engine.specs.declared.answers.How.{How}
 use Rattle.spec_protocol.specs.Spheres.{Book, Role, Replay, Sphere, whole_limit, pieces_of, limit_in, limit_of, is_in_pieces}
-use Rattle.spec_protocol.specs.Commits.{Moved, is_piece, joined, piece_moved, replayed_chunk, by_verdict}
+use Rattle.spec_protocol.specs.Commits.{is_piece, joined, piece_moved, replayed_chunk, by_verdict}
 use Rattle.spec_protocol.specs.World.{Numbers}
 use Rattle.spec_protocol.specs.Serial.{laid}
 use Rattle.spec_protocol.specs.Moves.{ChunkFits}
@@ -33,7 +31,7 @@ use Rattle.spec_replay.specs.Following.{IsMovedOn, StandsAt, Follows}
 use Rattle.spec_replay.proofs.Joining.{IsJoined, rest_of, run-joined}
 use Rattle.spec_replay.proofs.Standing.{set_twice, limit_by, limit-is}
 use Rattle.spec_replay.proofs.Judging.{AreAlike, chunks-alike}
-use Rattle.spec_replay.proofs.Done.{Reaches, Beside, Judged, commit-reaches}
+use Rattle.spec_replay.proofs.Done.{Reaches, Beside, commit-reaches}
 
 -- ---- a part of a commit
 

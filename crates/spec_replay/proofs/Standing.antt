@@ -1,8 +1,6 @@
 -- Where a replayed sphere has no piece of its next commit, it stands where the play stands.
-use Rattle.std.proofs.Common.{◌≡◌, ℕ, zero, suc, ◌<◌, Bool, true, false, cond, List, [], ◌∷◌, length, Option, Some, None, refl, sym, ap, ◌∙◌, subst, arith, set}
+use Rattle.std.proofs.Common.{◌≡◌, ℕ, zero, suc, ◌<◌, Bool, true, false, cond, List, [], ◌∷◌, Option, Some, None, refl, sym, ap, ◌∙◌, subst, arith, set}
 use Rattle.std.specs.Prelude.{slice_get, nat_lt, max}
-use Rattle.std.proofs.lemmas.Bool.{true≢false}
-use Rattle.std.proofs.lemmas.Option.{none-some}
 use Rattle.dl_entry.specs.declared.Actor.{Actor}
 use Rattle.dl_entry.specs.declared.End.{End}
 use Rattle.dl_entry.specs.declared.Why.{Why}
@@ -14,7 +12,7 @@ use Rattle.spec_play.specs.Progress.{Progress, position, Used}
 use Rattle.spec_play.specs.Turns.{Now, Turn, TurnOfDma, Over, at_end, has_left_over, turn_of_thread, turn_of, next_actor, now_at}
 use Rattle.spec_play.specs.Plays.{Played}
 use Rattle.spec_protocol.specs.Spheres.{Book, Sphere, whole_limit}
-use Rattle.spec_replay.specs.Following.{IsWhole, IsMovedOn, StandsAt}
+use Rattle.spec_replay.specs.Following.{IsWhole, StandsAt}
 
 -- ---- threads
 
@@ -85,18 +83,19 @@ limit-some log k commits l = subst (λ (n : ℕ). 0 < n) (sym (limit-is log k co
 
 -- where no piece stands, what is moved on is the play's state itself
 moved_whole : (log : LogParts) (y : Played) (k : ℕ) (p : Sphere) (b : Book) → 0 < log.s → Lives y.threads k → IsWhole y p b → StandsAt log y (Turn k) p b
-moved_whole log y k p b s l w =
-    (l.thread,
-    rw w.total
-    record {
-      is = l.is;
-      live = l.live;
-      ran = refl;
-      memory = w.memory;
-      threads = w.threads ∙ sym (set_here y.threads k l.thread l.is);
-      loads = w.loads;
-      within = limit-some log k l.thread.commits s;
-    })
+moved_whole log y k p b s l w = (
+  l.thread,
+  rw w.total
+      record {
+        is = l.is;
+        live = l.live;
+        ran = refl;
+        memory = w.memory;
+        threads = w.threads ∙ sym (set_here y.threads k l.thread l.is);
+        loads = w.loads;
+        within = limit-some log k l.thread.commits s;
+      },
+)
 
 stands_now : (log : LogParts) (y : Played) (now : Now) (p : Sphere) (b : Book) → 0 < log.s → now_at log y.progress y.used y.threads ≡ now → IsWhole y p b → StandsAt log y now p b
 stands_now log y (Turn k) p b s e w = moved_whole log y k p b s (turn-lives log y.progress y.used y.threads k e) w
