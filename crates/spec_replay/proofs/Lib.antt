@@ -5,3 +5,5 @@ pub mod Done
 pub mod Pieces
 pub mod Moved
 pub mod Replays
+pub mod Ending
+pub mod Agreeing
