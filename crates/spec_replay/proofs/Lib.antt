@@ -6,4 +6,5 @@ pub mod Pieces
 pub mod Moved
 pub mod Replays
 pub mod Ending
+pub mod Stopping
 pub mod Agreeing
