@@ -1,3 +1,4 @@
+mod Examples
 pub mod Joining
 pub mod Standing
 pub mod Judging
