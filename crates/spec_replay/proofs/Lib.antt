@@ -4,6 +4,7 @@ pub mod Standing
 pub mod Judging
 pub mod Done
 pub mod Pieces
+pub mod LastParts
 pub mod Moved
 pub mod Replays
 pub mod Ending

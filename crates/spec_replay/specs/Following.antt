@@ -56,7 +56,7 @@ pub record Follows (log : LogParts) (y : Played) (p : Sphere) : Type 0 where
   -- the same whole commits, with their loads and outputs, the same request, and as much of the log is used
   pub progress : p.progress ≡ y.progress
   pub used : book.used ≡ y.used
-  -- it is the same actor's turn, or both have ended so; or the replay alone, within the play's next commit
+  -- it is the same actor's turn, or both have ended in the same way; or the replay has, within the play's next commit
   pub now : (book.now ≡ y.now) ⊎ EndsWithin log y book
   -- where the play has ended, so has the replay
   pub ended : (how : End) → y.now ≡ Over how → book.now ≡ Over how
