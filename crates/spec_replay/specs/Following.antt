@@ -21,8 +21,8 @@ pub record IsWhole (y : Played) (p : Sphere) (b : Book) : Type 0 where
   pub total : b.total ≡ 0
   pub loads : b.loads ≡ []
 
--- memory and threads are the play's, moved on by thread k, which is t there, over the instructions of the pieces of its present
--- commit, which has room for one more at least. Nothing else has come between, and the reservation stands
+-- memory and threads are the play's, moved on by thread k, which is t there, over the instructions of the pieces of its
+-- present commit, which has room for one more at least. Nothing else has come between, and the reservation stands
 pub record IsMovedOn (log : LogParts) (y : Played) (k : ℕ) (t : Parts) (p : Sphere) (b : Book) : Type 0 where
   pub is : slice_get y.threads k ≡ Some t
   pub live : is_live t ≡ true
