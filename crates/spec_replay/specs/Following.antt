@@ -1,0 +1,63 @@
+-- A replayed sphere beside the play of its log: it has done the play's whole commits so far, and maybe pieces of the next.
+use Rattle.std.specs.Prelude.{◌≡◌, ℕ, ◌<◌, ◌⊎◌, true, [], slice_get, slice_set, Some}
+use Rattle.dl_entry.specs.declared.End.{End}
+use Rattle.dl_entry.specs.declared.Why.{Why}
+use Rattle.spec_isa.specs.declared.thread.Parts.{Parts}
+use Rattle.spec_isa.specs.Words.{lays}
+use Rattle.spec_isa.specs.Runs.{run}
+use Rattle.spec_log.specs.declared.LogParts.{LogParts}
+use Rattle.spec_kernel.specs.Interrupts.{is_live}
+use Rattle.spec_play.specs.Progress.{position}
+use Rattle.spec_play.specs.Turns.{Now, Turn, TurnOfDma, Over}
+use Rattle.spec_play.specs.Plays.{Played, play_one}
+use Rattle.spec_protocol.specs.Spheres.{Book, Replay, Sphere, whole_limit}
+
+-- ---- the state
+
+-- no piece stands, and memory and threads are the play's
+pub record IsWhole (y : Played) (p : Sphere) (b : Book) : Type 0 where
+  pub memory : p.memory ≡ y.memory
+  pub threads : p.threads ≡ y.threads
+  pub total : b.total ≡ 0
+  pub loads : b.loads ≡ []
+
+-- memory and threads are the play's, moved on by thread k, which is t there, over the instructions of the pieces of its present
+-- commit, which has room for one more at least. Nothing else has come between, and the reservation stands
+pub record IsMovedOn (log : LogParts) (y : Played) (k : ℕ) (t : Parts) (p : Sphere) (b : Book) : Type 0 where
+  pub is : slice_get y.threads k ≡ Some t
+  pub live : is_live t ≡ true
+  pub ran : (run y.memory t b.total).n ≡ b.total
+  pub memory : p.memory ≡ lays y.memory (run y.memory t b.total).words
+  pub threads : p.threads ≡ slice_set y.threads k (run y.memory t b.total).thread
+  pub loads : b.loads ≡ (run y.memory t b.total).loads
+  pub within : b.total < whole_limit log k t.commits
+
+-- by whose turn it is in the play: only a thread's commits come in pieces
+abbrev pub StandsAt : LogParts → Played → Now → Sphere → Book → Type 0
+StandsAt log y (Turn k) p b = (t : Parts) × IsMovedOn log y k t p b
+StandsAt log y TurnOfDma p b = IsWhole y p b
+StandsAt log y (Over how) p b = IsWhole y p b
+
+-- ---- the end
+
+-- the replay has ended within the play's next commit, which diverges: it gives the play this end, and nothing else
+pub record EndsWithin (log : LogParts) (y : Played) (b : Book) : Type 0 where
+  pub why : Why
+  pub over : b.now ≡ Over (End.Diverged (position y.progress) why)
+  pub diverges : play_one log y ≡ record y { now = Over (End.Diverged (position y.progress) why) }
+
+-- ---- both
+
+-- the replayed sphere p, with its current memory, stands at y of the play
+pub record Follows (log : LogParts) (y : Played) (p : Sphere) : Type 0 where
+  pub book : Book
+  pub role : p.role ≡ Replay book
+  pub same_log : book.log ≡ log
+  -- the same whole commits, with their loads and outputs, the same request, and as much of the log is used
+  pub progress : p.progress ≡ y.progress
+  pub used : book.used ≡ y.used
+  -- it is the same actor's turn, or both have ended so; or the replay alone, within the play's next commit
+  pub now : (book.now ≡ y.now) ⊎ EndsWithin log y book
+  -- where the play has ended, so has the replay
+  pub ended : (how : End) → y.now ≡ Over how → book.now ≡ Over how
+  pub state : StandsAt log y y.now p book

@@ -1,0 +1,54 @@
+-- What is promised of replayed spheres, for every setup within its limits and every list of events.
+use Rattle.std.specs.Prelude.{◌≡◌, ℕ, ◌<◌, true, slice_get, Some, List}
+use Rattle.dl_entry.specs.declared.End.{End}
+use Rattle.spec_log.specs.declared.LogParts.{LogParts}
+use Rattle.spec_play.specs.Progress.{position}
+use Rattle.spec_play.specs.Turns.{Over}
+use Rattle.spec_play.specs.Plays.{opened, plays}
+use Rattle.spec_protocol.specs.declared.event.Event.{Event}
+use Rattle.spec_protocol.specs.Spheres.{Book, Replay, Sphere, is_over}
+use Rattle.spec_protocol.specs.Machine.{IsReplayed, SphereSetup, Setup}
+use Rattle.spec_protocol.specs.Shown.{shown_of}
+use Rattle.spec_protocol.specs.Promises.{IsSetup, after}
+use Rattle.spec_replay.specs.Following.{Follows}
+
+-- ---- every replay is its log's play
+
+-- sphere i was set up by the image, to replay the log, whose standard size is over 0; after the events it is p, with its
+-- current memory
+pub record IsReplay (image : SphereSetup) (log : LogParts) (s : Setup) (es : List Event) (i : ℕ) (p : Sphere) : Type 0 where
+  pub setup : IsSetup s
+  pub there : slice_get s.spheres i ≡ Some image
+  pub replays : image.role ≡ IsReplayed log
+  pub standard : 0 < log.s
+  pub shown : slice_get (shown_of (after s es)).spheres i ≡ Some p
+
+-- it stands in the play of its log on its image at the number of its whole commits
+abbrev pub ReplaysArePlays : Type 0
+ReplaysArePlays =
+    (image : SphereSetup) (log : LogParts) (s : Setup) (es : List Event) (i : ℕ) (p : Sphere) → IsReplay image log s es i p
+    → Follows log (plays log (opened log image.memory image.entry) (position p.progress)) p
+
+-- ---- all replays of one log on one image agree
+
+-- the same memory, with the stores of pieces, and the same threads
+pub record SameState (p q : Sphere) : Type 0 where
+  pub memory : p.memory ≡ q.memory
+  pub threads : p.threads ≡ q.threads
+
+pub record Agree (p q : Sphere) (b c : Book) : Type 0 where
+  -- after as many whole commits these are the same, with their loads and outputs
+  pub progress : position p.progress ≡ position q.progress → p.progress ≡ q.progress
+  -- and after as many instructions in pieces of the next commit, so are memory and threads
+  pub state : position p.progress ≡ position q.progress → b.total ≡ c.total → SameState p q
+  -- where both have stopped, they have done the same commits, and have ended in the same way
+  pub commits : is_over b.now ≡ true → is_over c.now ≡ true → p.progress ≡ q.progress
+  pub ends : is_over b.now ≡ true → is_over c.now ≡ true → b.now ≡ c.now
+  -- and where one is complete too, memory and threads are the same
+  pub complete : (n : ℕ) → b.now ≡ Over (End.Complete n) → is_over c.now ≡ true → SameState p q
+
+-- whatever else differs: cores, buffers, window, signatures, plan, input, events and the other spheres
+abbrev pub ReplaysAgree : Type 0
+ReplaysAgree =
+    (image : SphereSetup) (log : LogParts) (s z : Setup) (es fs : List Event) (i j : ℕ) (p q : Sphere) (b c : Book) → IsReplay image log s es i p → IsReplay image log z fs j q
+    → p.role ≡ Replay b → q.role ≡ Replay c → Agree p q b c
