@@ -33,7 +33,7 @@ untold-most (suc n) t = let h = one_none (told_at t n) in let r = untold-most n 
 untold_past : (n : ℕ) (f : Flight) (c : ℕ) → n ≤ c → untold_cores n (tell f c).told ≡ untold_cores n f.told
 untold_past zero f c l = refl
 untold_past (suc n) f c l =
-    let h = ap (λ (b : Bool). cond b 0 1) (told-tell_other f c n (λ e. omega arith)) in
+    let h = ap {B = ℕ} (λ (b : Bool). cond b 0 1) (told-tell_other f c n (λ e. omega arith)) in
     let r = untold_past n f c (omega arith) in
     omega (arith, h, r)
 
@@ -43,20 +43,20 @@ untold-tell zero f c l e = absurd (omega arith)
 untold-tell (suc n) f c l e =
     elim (cases_eq n c) [
       | inl same ↦ (
-          let was : cond (told_at f.told n) 0 1 ≡ 1 = ap (λ (d : ℕ). cond (told_at f.told d) 0 1) same ∙ ap (λ (b : Bool). cond b 0 1) e in
-          let now : cond (told_at (tell f c).told n) 0 1 ≡ 0 = ap (λ (d : ℕ). cond (told_at (tell f c).told d) 0 1) same ∙ ap (λ (b : Bool). cond b 0 1) (told-tell f c) in
+          let was : cond (told_at f.told n) 0 1 ≡ 1 = ap {B = ℕ} (λ (d : ℕ). cond (told_at f.told d) 0 1) same ∙ ap {B = ℕ} (λ (b : Bool). cond b 0 1) e in
+          let now : cond (told_at (tell f c).told n) 0 1 ≡ 0 = ap {B = ℕ} (λ (d : ℕ). cond (told_at (tell f c).told d) 0 1) same ∙ ap {B = ℕ} (λ (b : Bool). cond b 0 1) (told-tell f c) in
           let r = untold_past n f c (omega arith) in
           omega (arith, was, now, r)
       )
       | inr ne ↦ (
-          let h = ap (λ (b : Bool). cond b 0 1) (told-tell_other f c n ne) in
+          let h = ap {B = ℕ} (λ (b : Bool). cond b 0 1) (told-tell_other f c n ne) in
           let r = untold-tell n f c (omega arith) e in
           omega (arith, h, r)
       )
     ]
 
 told_less : (b d : Bool) → (b ≡ true → d ≡ true) → cond d 0 1 ≤ cond b 0 1
-told_less true d h = let e = ap (λ (b : Bool). cond b 0 1) (h refl) in omega (arith, e)
+told_less true d h = let e = ap {B = ℕ} (λ (b : Bool). cond b 0 1) (h refl) in omega (arith, e)
 told_less false d h = one_none d
 
 told_more : (f : Flight) (c d : ℕ) → told_at f.told d ≡ true → told_at (tell f c).told d ≡ true
