@@ -4,4 +4,6 @@ pub mod Flying
 pub mod FlyingNext
 pub mod Runs
 pub mod Affording
+pub mod Left
+pub mod GoingOn
 pub mod KindsKept
