@@ -6,4 +6,6 @@ pub mod Runs
 pub mod Affording
 pub mod Left
 pub mod GoingOn
+pub mod Rows
+pub mod Paying
 pub mod KindsKept
