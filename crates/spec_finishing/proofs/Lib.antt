@@ -8,4 +8,6 @@ pub mod Left
 pub mod GoingOn
 pub mod Rows
 pub mod Paying
+pub mod PayingSerial
+pub mod PayingMoves
 pub mod KindsKept

@@ -36,10 +36,10 @@ use Rattle.spec_finishing.proofs.Rows.{sphere_rest}
 -- ---- before and after
 
 -- the work of the next commit of the play
-abbrev next_work : SphereSetup → Sphere → Book → ℕ
+abbrev pub next_work : SphereSetup → Sphere → Book → ℕ
 next_work image p b = commit_work b.log (play_of image b p)
 
-abbrev behind : SphereSetup → Sphere → Book → ℕ
+abbrev pub behind : SphereSetup → Sphere → Book → ℕ
 behind image p b = later b.log (opened b.log image.memory image.entry) (position p.progress)
 
 pub rest-before : (c : ℕ) (image : SphereSetup) (p : Sphere) (b : Book) → p.role ≡ Replay b → is_over b.now ≡ false → GoesOn image p b → sphere_rest c image p ≡ price c ((next_work image p b + behind image p b) - b.total)
@@ -48,15 +48,15 @@ rest-before c image p b role going g =
     ∙ ap (price c) (left-going image b (position p.progress) going ∙ left-step b.log (opened b.log image.memory image.entry) (position p.progress) b.total g.ahead)
 
 -- a verdict on the whole commit
-verdict_pays : (c : ℕ) (image : SphereSetup) (p : Sphere) (b : Book) (k : ℕ) (x : Verdict) (devices : Devices) (l : ℕ) → p.role ≡ Replay b → is_over b.now ≡ false → GoesOn image p b → suc b.total ≤ next_work image p b → l ≤ price c (next_work image p b - b.total)
+pub verdict-pays : (c : ℕ) (image : SphereSetup) (p : Sphere) (b : Book) (k : ℕ) (x : Verdict) (devices : Devices) (l : ℕ) → p.role ≡ Replay b → is_over b.now ≡ false → GoesOn image p b → suc b.total ≤ next_work image p b → l ≤ price c (next_work image p b - b.total)
     → sphere_rest c image (laid (by_verdict b k x devices p)) + l ≤ sphere_rest c image p
-verdict_pays c image p b k (Fails why) devices l role going g some enough =
+verdict-pays c image p b k (Fails why) devices l role going g some enough =
     let before = rest-before c image p b role going g in
     let ended : Book = record b { now = Over (End.Diverged (position p.progress) why) } in
     let over = left-over image ended (position p.progress) refl in
     let pays = whole-pays c (next_work image p b) b.total (behind image p b) l some enough (replay_left image ended (position p.progress)) (omega (arith, over)) in
     omega (arith, before, pays)
-verdict_pays c image p b k (Goes e u) devices l role going g some enough =
+verdict-pays c image p b k (Goes e u) devices l role going g some enough =
     let before = rest-before c image p b role going g in
     let progress = with_effect k e p.progress in
     let size : position progress ≡ suc (position p.progress) = (let h = length-append p.progress.commits (e.commit ∷ []) in omega (arith, h)) in
@@ -89,7 +89,7 @@ part_rest : (c : ℕ) (image : SphereSetup) (p : Sphere) (b : Book) (k : ℕ) (p
     → sphere_rest c image (laid (replayed_chunk piece b k r devices p)) + paid c n ≤ sphere_rest c image p
 part_rest c image p b k true r n devices role going g is some afford = piece_rest c image p b k r n devices role going g is (some refl) afford
 part_rest c image p b k false r n devices role going g is some afford =
-    verdict_pays c image p b k (chunk_verdict b.log p.progress b.used k (joined b r)) devices (paid c n) role going g (afford-some (next_work image p b) b.total n afford)
+    verdict-pays c image p b k (chunk_verdict b.log p.progress b.used k (joined b r)) devices (paid c n) role going g (afford-some (next_work image p b) b.total n afford)
     (afford-paid c (next_work image p b) b.total n afford)
 
 how_most : (how : How) (n limit : ℕ) → (how ≡ How.Limit → n ≡ limit) → (how ≢ How.Limit → n < limit) → n ≤ limit
