@@ -10,4 +10,6 @@ pub mod Rows
 pub mod Paying
 pub mod PayingSerial
 pub mod PayingMoves
+pub mod Standing
+pub mod Knowing
 pub mod KindsKept

@@ -88,7 +88,7 @@ raise_own c images x i k value image p None there is live = omega arith
 raise_own c images x i k value image p (Some t) there is live =
     own_pays c images x.spheres i image p (raised k value t p) 0 (price c 0) there is (raised-kind k value t p ∙ live) (omega arith)
 
-what_own : (c : ℕ) (images : List SphereSetup) (z : Numbers) (x : Whole) (moment i : ℕ) (image : SphereSetup) (p : Sphere) (a : What) → slice_get images i ≡ Some image → slice_get x.spheres i ≡ Some p → replays p.role ≡ false
+pub what_own : (c : ℕ) (images : List SphereSetup) (z : Numbers) (x : Whole) (moment i : ℕ) (image : SphereSetup) (p : Sphere) (a : What) → slice_get images i ≡ Some image → slice_get x.spheres i ≡ Some p → replays p.role ≡ false
     → spheres_rest c images (do_what z x moment i p a).spheres + what_most c p x.devices moment a ≤ spheres_rest c images x.spheres + price c (what_work p x.devices moment a)
 what_own c images z x moment i image p (OfChunk k how n limit) there is live = chunk_own c images z x i k how n limit image p (slice_get p.threads k) there is live
 what_own c images z x moment i image p (OfSerial k) there is live = serial_own c images x i k moment image p (slice_get p.threads k) there is live
@@ -97,7 +97,7 @@ what_own c images z x moment i image p (OfRaise k value) there is live = raise_o
 
 -- ---- a replay
 
-chunk_paid : (c : ℕ) (images : List SphereSetup) (z : Numbers) (x : Whole) (i k : ℕ) (how : How) (n limit : ℕ) (image : SphereSetup) (p : Sphere) (b : Book) (o : Option Parts) → 0 < z.buffer → slice_get images i ≡ Some image → slice_get x.spheres i ≡ Some p → p.role ≡ Replay b
+pub chunk_paid : (c : ℕ) (images : List SphereSetup) (z : Numbers) (x : Whole) (i k : ℕ) (how : How) (n limit : ℕ) (image : SphereSetup) (p : Sphere) (b : Book) (o : Option Parts) → 0 < z.buffer → slice_get images i ≡ Some image → slice_get x.spheres i ≡ Some p → p.role ≡ Replay b
     → (is_over b.now ≡ false → GoesOn image p b) → slice_get p.threads k ≡ o → FitsChunk z p k how n limit o → spheres_rest c images (move_chunk z x i k how n limit p o).spheres + paid c n ≤ spheres_rest c images x.spheres + 0
 chunk_paid c images z x i k how n limit image p b None positive there is role goes thread fits = absurd fits
 chunk_paid c images z x i k how n limit image p b (Some t) positive there is role goes thread fits =
@@ -105,7 +105,7 @@ chunk_paid c images z x i k how n limit image p b (Some t) positive there is rol
     let pays = chunk-pays c image z p b k t how n limit (is_short z.chunk how limit) x.devices positive role going (goes going) thread fits in
     spheres-pay c images x.spheres i image p (laid (chunk_moved k (is_piece how) (is_short z.chunk how limit) (run p.memory t n) x.devices p)) (paid c n) 0 there is (omega (arith, pays))
 
-serial_paid : (c : ℕ) (images : List SphereSetup) (x : Whole) (i k moment : ℕ) (image : SphereSetup) (p : Sphere) (b : Book) (o : Option Parts) → slice_get images i ≡ Some image → slice_get x.spheres i ≡ Some p → p.role ≡ Replay b
+pub serial_paid : (c : ℕ) (images : List SphereSetup) (x : Whole) (i k moment : ℕ) (image : SphereSetup) (p : Sphere) (b : Book) (o : Option Parts) → slice_get images i ≡ Some image → slice_get x.spheres i ≡ Some p → p.role ≡ Replay b
     → (is_over b.now ≡ false → GoesOn image p b) → slice_get p.threads k ≡ o → FitsSerial p k o → spheres_rest c images (do_serial x i k moment p o).spheres + (serial_most c p x.devices moment k o + 3) ≤ spheres_rest c images x.spheres + 0
 serial_paid c images x i k moment image p b None there is role goes thread fits = absurd fits
 serial_paid c images x i k moment image p b (Some t) there is role goes thread fits =
@@ -114,7 +114,7 @@ serial_paid c images x i k moment image p b (Some t) there is role goes thread f
     let pays = serial-pays c image p b k moment t x.devices role going (goes going) thread fits in
     spheres-pay c images x.spheres i image p (laid v) ((length v.words + c + 1) + 3) 0 there is (omega (arith, pays))
 
-dma_none : (c : ℕ) (images : List SphereSetup) (x : Whole) (i : ℕ) (image : SphereSetup) (p : Sphere) (b : Book) (o : Option Moved) → slice_get images i ≡ Some image → slice_get x.spheres i ≡ Some p → DmaPays c image p o → (o ≡ None → ⊥)
+pub dma_none : (c : ℕ) (images : List SphereSetup) (x : Whole) (i : ℕ) (image : SphereSetup) (p : Sphere) (b : Book) (o : Option Moved) → slice_get images i ≡ Some image → slice_get x.spheres i ≡ Some p → DmaPays c image p o → (o ≡ None → ⊥)
     → spheres_rest c images (do_dma x i o).spheres + (dma_most c o + 3) ≤ spheres_rest c images x.spheres + 0
 dma_none c images x i image p b None there is pays some = absurd (some refl)
 dma_none c images x i image p b (Some v) there is pays some =

@@ -1,11 +1,12 @@
 -- What is promised of finishing: that it comes to an end, and how soon.
 use Rattle.std.specs.Prelude.{◌≡◌, ℕ, ◌+◌, ◌*◌, ◌<◌, ◌≤◌, Bool, true, false, List, [], ◌∷◌, length, slice_get, Some, None}
+use Rattle.spec_log.specs.declared.LogParts.{LogParts}
 use Rattle.spec_engine.specs.Flights.{at}
 use Rattle.spec_protocol.specs.declared.event.Event.{Event}
 use Rattle.spec_protocol.specs.declared.reply.Reply.{Reply}
 use Rattle.spec_protocol.specs.Spheres.{Role, Plain, Record, Replay, Sphere, is_over}
 use Rattle.spec_protocol.specs.World.{World}
-use Rattle.spec_protocol.specs.Machine.{Setup, world_of, happens, world_after, moves}
+use Rattle.spec_protocol.specs.Machine.{IsReplayed, SphereSetup, Setup, world_of, happens, world_after, moves}
 use Rattle.spec_protocol.specs.Serial.{whole_of}
 use Rattle.spec_protocol.specs.Finishing.{Finishes}
 use Rattle.spec_protocol.specs.Promises.{IsSetup, after}
@@ -56,7 +57,13 @@ pub record Ends (s : Setup) (es finishing : List Event) : Type 0 where
   pub falls : Falls s (after s es) finishing
   pub finished : IsFinished (world_after (after s es) finishing)
 
--- there are cores, and slots for flights
+-- there are cores, and slots for flights, and the standard size of each log that is replayed is over 0
+pub record CanFinish (s : Setup) : Type 0 where
+  pub setup : IsSetup s
+  pub cores : 0 < s.cores
+  pub window : 0 < s.window
+  pub standard : (i : ℕ) (image : SphereSetup) (log : LogParts) → slice_get s.spheres i ≡ Some image → image.role ≡ IsReplayed log → 0 < log.s
+
+-- after any schedule
 abbrev pub FinishingEnds : Type 0
-FinishingEnds =
-    (s : Setup) (es : List Event) → IsSetup s → 0 < s.cores → 0 < s.window → (finishing : List Event) × Ends s es finishing
+FinishingEnds = (s : Setup) (es : List Event) → CanFinish s → (finishing : List Event) × Ends s es finishing
