@@ -1,0 +1,9 @@
+pub mod Joining
+pub mod Standing
+pub mod Judging
+pub mod Done
+pub mod Pieces
+pub mod Moved
+pub mod Replays
+pub mod Ending
+pub mod Agreeing

@@ -1,6 +1,7 @@
 -- What is promised of replayed spheres, for every setup within its limits and every list of events.
-use Rattle.std.specs.Prelude.{◌≡◌, ℕ, ◌<◌, true, slice_get, Some, List}
+use Rattle.std.specs.Prelude.{◌≡◌, ℕ, ◌<◌, Bool, true, false, slice_get, Some, List}
 use Rattle.dl_entry.specs.declared.End.{End}
+use Rattle.dl_entry.specs.declared.Why.{Why}
 use Rattle.spec_log.specs.declared.LogParts.{LogParts}
 use Rattle.spec_play.specs.Progress.{position}
 use Rattle.spec_play.specs.Turns.{Over}
@@ -36,6 +37,17 @@ pub record SameState (p q : Sphere) : Type 0 where
   pub memory : p.memory ≡ q.memory
   pub threads : p.threads ≡ q.threads
 
+-- the reasons that come between two commits: no live thread has the turn, or something of the log is left over
+abbrev pub is_between : Why → Bool
+is_between Why.NoThread = true
+is_between Why.LeftOver = true
+is_between _ = false
+
+-- complete, or diverged between two commits and not within one
+abbrev pub ends_between : End → Bool
+ends_between (End.Complete commits) = true
+ends_between (End.Diverged commits why) = is_between why
+
 pub record Agree (p q : Sphere) (b c : Book) : Type 0 where
   -- after as many whole commits these are the same, with their loads and outputs
   pub progress : position p.progress ≡ position q.progress → p.progress ≡ q.progress
@@ -44,10 +56,10 @@ pub record Agree (p q : Sphere) (b c : Book) : Type 0 where
   -- where both have stopped, they have done the same commits, and have ended in the same way
   pub commits : is_over b.now ≡ true → is_over c.now ≡ true → p.progress ≡ q.progress
   pub ends : is_over b.now ≡ true → is_over c.now ≡ true → b.now ≡ c.now
-  -- and where one is complete too, memory and threads are the same
-  pub complete : (n : ℕ) → b.now ≡ Over (End.Complete n) → is_over c.now ≡ true → SameState p q
+  -- and with the same memory and threads, unless that was within a commit, of which they may have done other pieces
+  pub final : (how : End) → b.now ≡ Over how → ends_between how ≡ true → is_over c.now ≡ true → SameState p q
 
--- whatever else differs: cores, buffers, window, signatures, plan, input, events and the other spheres
+-- whatever else differs: cores, buffers, window, signatures, devices, events and the other spheres
 abbrev pub ReplaysAgree : Type 0
 ReplaysAgree =
     (image : SphereSetup) (log : LogParts) (s z : Setup) (es fs : List Event) (i j : ℕ) (p q : Sphere) (b c : Book) → IsReplay image log s es i p → IsReplay image log z fs j q

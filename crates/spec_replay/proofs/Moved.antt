@@ -1,0 +1,185 @@
+-- What each move makes of a replayed sphere: it stands in the play of its log again.
+use Rattle.std.proofs.Common.{◌≡◌, ℕ, ◌<◌, ◌≤◌, inl, inr, true, false, eqb, cond, List, Option, Some, None, refl, sym, ap, ◌∙◌, subst, arith, set}
+use Rattle.std.specs.Prelude.{slice_get, IsSome, ◌⊎◌}
+use Rattle.std.proofs.lemmas.Bool.{true≢false, ltb-false, eqb-true}
+use Rattle.std.proofs.lemmas.Option.{none-some}
+use Rattle.dl_entry.specs.declared.Actor.{Actor}
+use Rattle.spec_isa.specs.declared.thread.Parts.{Parts}
+use Rattle.spec_isa.specs.declared.thread.Kind.{Kind}
+use Rattle.spec_isa.specs.Words.{lays}
+use Rattle.spec_isa.specs.Runs.{run}
+use Rattle.spec_log.specs.declared.LogParts.{LogParts}
+use Rattle.spec_kernel.specs.Devices.{Devices}
+use Rattle.spec_kernel.specs.Needs.{next_kind}
+use Rattle.spec_play.specs.Progress.{position}
+use Rattle.spec_play.specs.Turns.{Now, Turn, TurnOfDma, Over}
+use Rattle.spec_play.specs.Verdicts.{Verdict, serial_verdict}
+use Rattle.spec_play.specs.Transfers.{DmaVerdict, dma_verdict}
+use Rattle.spec_play.specs.Plays.{Played, thread_verdict, plays}
+use Rattle.spec_engine.specs.declared.answers.How.{How}
+use Rattle.spec_protocol.specs.Spheres.{Book, Role, Replay, Sphere, is_over, is_stopped, actor_of, head_in, head_of, is_in_pieces}
+use Rattle.spec_protocol.specs.Commits.{Moved, is_piece, replayed_chunk, by_verdict, chunk_in, chunk_moved, serial_in, serial_moved, dma_by_verdict, dma_in, dma_moved}
+use Rattle.spec_protocol.specs.World.{Numbers, What, OfChunk, OfSerial, OfDma, OfRaise}
+use Rattle.spec_protocol.specs.Asking.{is_short, other_turn}
+use Rattle.spec_protocol.specs.Transferring.{not_of_dma, turn_before_dma}
+use Rattle.spec_protocol.specs.Placing.{replays}
+use Rattle.spec_protocol.specs.Serial.{Whole, laid, do_moved, do_serial, do_dma}
+use Rattle.spec_protocol.specs.Moves.{move_chunk, do_what, FitsChunk, SerialFits, FitsSerial, DmaFits, FitsRaise, FitsWhat}
+use Rattle.spec_protocol.proofs.Moving.{get-set_same}
+use Rattle.spec_replay.specs.Following.{IsMovedOn, StandsAt, EndsWithin, Follows}
+use Rattle.spec_replay.proofs.Standing.{set_here}
+use Rattle.spec_replay.proofs.Judging.{alike_same}
+use Rattle.spec_replay.proofs.Done.{Reaches, Beside, commit-reaches, transfer-reaches}
+use Rattle.spec_replay.proofs.Pieces.{chunk-reaches}
+
+-- ---- whose turn it is
+
+thread_turn : (now : Now) (k : ℕ) → is_over now ≡ false → other_turn (actor_of now) k ≡ None → now ≡ Turn k
+thread_turn (Turn j) k going e =
+    ap Turn (eqb-true j k (elim (eqb j k) as (λ b. cond b None (Some (Actor.Thread j)) ≡ None → b ≡ true) [
+      | true ↦ λ h. refl
+      | false ↦ λ h. absurd (none-some (Actor.Thread j) (sym h))
+    ] e))
+thread_turn TurnOfDma k going e = absurd (none-some Actor.Dma (sym e))
+thread_turn (Over how) k going e = absurd (true≢false going)
+
+dma_turn : (now : Now) → is_over now ≡ false → not_of_dma (actor_of now) ≡ None → now ≡ TurnOfDma
+dma_turn (Turn j) going e = absurd (none-some (Actor.Thread j) (sym e))
+dma_turn TurnOfDma going e = refl
+dma_turn (Over how) going e = absurd (true≢false going)
+
+-- a replay that goes on has the play's turn
+goes_with : (log : LogParts) (y : Played) (b : Book) (o : (b.now ≡ y.now) ⊎ EndsWithin log y b) → is_over b.now ≡ false → b.now ≡ y.now
+goes_with log y b (inl e) going = e
+goes_with log y b (inr w) going = absurd (true≢false (ap is_over (sym w.over) ∙ going))
+
+-- a replay that goes on, with that turn, beside its play
+record Going (log : LogParts) (y : Played) (p : Sphere) (b : Book) (now : Now) : Type 0 where
+  beside : Beside log y p b
+  same : b.now ≡ y.now
+  turn : y.now ≡ now
+  state : StandsAt log y now p b
+
+going_at : (log : LogParts) (y : Played) (p : Sphere) (now : Now) → 0 < log.s → (f : Follows log y p) → is_over f.book.now ≡ false → f.book.now ≡ now → Going log y p f.book now
+going_at log y p now s f going is =
+    let same : f.book.now ≡ y.now = goes_with log y f.book f.now going in
+    let turn : y.now ≡ now = sym same ∙ is in
+    record {
+      beside = record { role = f.role; same_log = f.same_log; progress = f.progress; used = f.used; standard = s };
+      same = same;
+      turn = turn;
+      state = subst (λ (n : Now). StandsAt log y n p f.book) turn f.state;
+    }
+
+not_over : (r : Role) (b : Book) → r ≡ Replay b → is_stopped r ≡ false → is_over b.now ≡ false
+not_over r b role going = ap is_stopped (sym role) ∙ going
+
+turn_of_thread : (p : Sphere) (b : Book) (k : ℕ) → p.role ≡ Replay b → is_stopped p.role ≡ false → other_turn (head_of p) k ≡ None → b.now ≡ Turn k
+unfolding head_of
+turn_of_thread p b k role going free =
+    thread_turn b.now k (not_over p.role b role going) (ap (λ (r : Role). other_turn (head_in r p) k) (sym role) ∙ free)
+
+turn_of_dma : (p : Sphere) (b : Book) → p.role ≡ Replay b → is_stopped p.role ≡ false → turn_before_dma p.role ≡ None → b.now ≡ TurnOfDma
+turn_of_dma p b role going free = dma_turn b.now (not_over p.role b role going) (ap turn_before_dma (sym role) ∙ free)
+
+-- ---- moves
+
+-- the sphere i stands in the play
+pub record Stands (log : LogParts) (start : Played) (x : Whole) (i : ℕ) : Type 0 where
+  pub sphere : Sphere
+  pub there : slice_get x.spheres i ≡ Some sphere
+  pub reaches : Reaches log start sphere
+
+moved_stands : (log : LogParts) (start : Played) (x : Whole) (i : ℕ) (p : Sphere) (v : Moved) → slice_get x.spheres i ≡ Some p → Reaches log start (laid v) → Stands log start (do_moved x i v) i
+moved_stands log start x i p v is r = record { sphere = laid v; there = get-set_same x.spheres i (laid v) p is; reaches = r }
+
+chunk_stands : (log : LogParts) (start : Played) (z : Numbers) (x : Whole) (i : ℕ) (p : Sphere) (k : ℕ) (how : How) (n limit : ℕ) (o : Option Parts) → 0 < log.s → slice_get x.spheres i ≡ Some p → Reaches log start p
+    → slice_get p.threads k ≡ o → FitsChunk z p k how n limit o → Stands log start (move_chunk z x i k how n limit p o) i
+unfolding chunk_moved
+chunk_stands log start z x i p k how n limit None s is f there fits = absurd fits
+chunk_stands log start z x i p k how n limit (Some u) s is f there fits =
+    let y : Played = plays log start (position p.progress) in
+    let b : Book = f.book in
+    let turn : b.now ≡ Turn k = turn_of_thread p b k f.role fits.going fits.turn in
+    let g : Going log y p b (Turn k) = going_at log y p (Turn k) s f (not_over p.role b f.role fits.going) turn in
+    subst (λ (v : Moved). Stands log start (do_moved x i v) i)
+    (sym (ap (λ (r : Role). chunk_in r k (is_piece how) (is_short z.chunk how limit) (run p.memory u n) x.devices p) f.role))
+    (moved_stands log start x i p (replayed_chunk (is_piece how) b k (run p.memory u n) x.devices p) is
+    (chunk-reaches log start y z p b k g.state.0 u how n limit x.devices refl g.beside g.same g.turn g.state.1 there fits))
+
+-- ---- a serial step
+
+serial_now : (b : Book) (r : Role) → r ≡ Replay b → is_in_pieces r ≡ false → b.total ≡ 0
+serial_now b r role none = let h : b.total ≤ 0 = ltb-false 0 b.total (ap is_in_pieces (sym role) ∙ none) in omega arith
+
+-- where no piece stands, memory and threads are the play's
+unmoved : (log : LogParts) (y : Played) (k : ℕ) (t : Parts) (p : Sphere) (b : Book) → IsMovedOn log y k t p b → b.total ≡ 0 → (p.memory ≡ y.memory) × (p.threads ≡ y.threads)
+unmoved log y k t p b m none = (
+  m.memory ∙ ap (λ (n : ℕ). lays y.memory (run y.memory t n).words) none,
+  m.threads ∙ ap (λ (n : ℕ). set y.threads k (run y.memory t n).thread) none ∙ set_here y.threads k t m.is,
+)
+
+serial_turn : (log : LogParts) (y : Played) (k : ℕ) (t : Parts) (o : Option Kind) → IsSome o → thread_verdict log y k t o ≡ serial_verdict log y.progress y.used k y.threads t y.memory
+serial_turn log y k t None some = absurd (true≢false (sym some))
+serial_turn log y k t (Some kind) some = refl
+
+serial_reaches : (log : LogParts) (start y : Played) (p : Sphere) (b : Book) (k : ℕ) (u : Parts) (devices : Devices) → y ≡ plays log start (position p.progress) → Going log y p b (Turn k) → slice_get p.threads k ≡ Some u → SerialFits p k u
+    → Reaches log start (laid (by_verdict b k (serial_verdict b.log p.progress b.used k p.threads u p.memory) devices p))
+serial_reaches log start y p b k u devices at_ g there f =
+    let t : Parts = g.state.0 in
+    let m : IsMovedOn log y k t p b = g.state.1 in
+    let none : b.total ≡ 0 = serial_now b p.role g.beside.role f.whole in
+    let same = unmoved log y k t p b m none in
+    let tu : t ≡ u = (let h : Some t ≡ Some u = sym m.is ∙ ap (λ (ts : List Parts). slice_get ts k) (sym same.1) ∙ there in cc) in
+    let v : Verdict = serial_verdict b.log p.progress b.used k p.threads u p.memory in
+    let w : Verdict = serial_verdict log y.progress y.used k y.threads t y.memory in
+    let vw : v ≡ w = (λ i. serial_verdict (g.beside.same_log i) (g.beside.progress i) (g.beside.used i) k (same.1 i) (sym tu i) (same.0 i)) in
+    let serial : IsSome (next_kind t y.memory) = subst IsSome (λ i. next_kind (sym tu i) (same.0 i)) f.serial in
+    commit-reaches log start y p b k t (run y.memory t b.total).thread v w devices at_ g.beside g.state
+    record {
+      turn = g.turn;
+      is = m.is;
+      threads = m.threads;
+      verdict = serial_turn log y k t (next_kind t y.memory) serial;
+      alike = rw vw (alike_same p.memory y.memory w same.0);
+    }
+
+serial_stands : (log : LogParts) (start : Played) (x : Whole) (i moment : ℕ) (p : Sphere) (k : ℕ) (o : Option Parts) → 0 < log.s → slice_get x.spheres i ≡ Some p → Reaches log start p
+    → slice_get p.threads k ≡ o → FitsSerial p k o → Stands log start (do_serial x i k moment p o) i
+unfolding serial_moved
+serial_stands log start x i moment p k None s is f there fits = absurd fits
+serial_stands log start x i moment p k (Some u) s is f there fits =
+    let y : Played = plays log start (position p.progress) in
+    let b : Book = f.book in
+    let turn : b.now ≡ Turn k = turn_of_thread p b k f.role fits.going fits.turn in
+    let g : Going log y p b (Turn k) = going_at log y p (Turn k) s f (not_over p.role b f.role fits.going) turn in
+    subst (λ (v : Moved). Stands log start (do_moved x i v) i)
+    (sym (ap (λ (r : Role). serial_in r k moment u x.devices p) f.role))
+    (moved_stands log start x i p (serial_in (Replay b) k moment u x.devices p) is (serial_reaches log start y p b k u x.devices refl g there fits))
+
+-- ---- a DMA
+
+dma_stands : (log : LogParts) (start : Played) (x : Whole) (i : ℕ) (p : Sphere) → 0 < log.s → slice_get x.spheres i ≡ Some p → Reaches log start p → DmaFits x.devices p → Stands log start (do_dma x i (dma_moved x.devices p)) i
+unfolding dma_moved
+dma_stands log start x i p s is f fits =
+    let y : Played = plays log start (position p.progress) in
+    let b : Book = f.book in
+    let turn : b.now ≡ TurnOfDma = turn_of_dma p b f.role fits.going fits.turn in
+    let g : Going log y p b TurnOfDma = going_at log y p TurnOfDma s f (not_over p.role b f.role fits.going) turn in
+    let v : DmaVerdict = dma_verdict b.log p.progress b.used in
+    subst (λ (o : Option Moved). Stands log start (do_dma x i o) i)
+    (sym (ap (λ (r : Role). dma_in r x.devices p) f.role))
+    (moved_stands log start x i p (dma_by_verdict b v x.devices p) is
+    (transfer-reaches log start y p b v x.devices refl g.beside g.turn g.state (λ j. dma_verdict (sym g.beside.same_log j) (sym g.beside.progress j) (sym g.beside.used j))))
+
+-- ---- any move
+
+no_raise : (p : Sphere) (b : Book) (o : Option Parts) → p.role ≡ Replay b → FitsRaise p o → ⊥
+no_raise p b None role fits = fits
+no_raise p b (Some t) role fits = true≢false (ap replays (sym role) ∙ fits.live)
+
+pub what-stands : (log : LogParts) (start : Played) (z : Numbers) (x : Whole) (moment i : ℕ) (p : Sphere) (what : What) → 0 < log.s → slice_get x.spheres i ≡ Some p → Reaches log start p → FitsWhat z x.devices p what → Stands log start (do_what z x moment i p what) i
+what-stands log start z x moment i p (OfChunk k how n limit) s is f fits = chunk_stands log start z x i p k how n limit (slice_get p.threads k) s is f refl fits
+what-stands log start z x moment i p (OfSerial k) s is f fits = serial_stands log start x i moment p k (slice_get p.threads k) s is f refl fits
+what-stands log start z x moment i p OfDma s is f fits = dma_stands log start x i p s is f fits
+what-stands log start z x moment i p (OfRaise k value) s is f fits = absurd (no_raise p f.book (slice_get p.threads k) f.role fits)

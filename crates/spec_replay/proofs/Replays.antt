@@ -1,0 +1,103 @@
+-- Every replay is its log's play.
+use Rattle.std.proofs.Common.{◌≡◌, ◌≢◌, ℕ, zero, suc, ◌<◌, inl, inr, List, [], ◌∷◌, map, Option, Some, None, refl, sym, ap, ◌∙◌, subst}
+use Rattle.std.specs.Prelude.{slice_get}
+use Rattle.std.proofs.lemmas.Bool.{cases_eq}
+use Rattle.std.proofs.lemmas.Option.{none-some}
+use Rattle.spec_isa.specs.declared.thread.Parts.{Parts}
+use Rattle.spec_isa.specs.Threads.{started}
+use Rattle.spec_log.specs.declared.LogParts.{LogParts}
+use Rattle.spec_play.specs.Progress.{no_progress, nothing_used}
+use Rattle.spec_play.specs.Plays.{Played, opened}
+use Rattle.spec_engine.specs.declared.answers.How.{How}
+use Rattle.spec_protocol.specs.Spheres.{Book, Sphere}
+use Rattle.spec_protocol.specs.Commits.{Moved, turned, dma_moved}
+use Rattle.spec_protocol.specs.World.{Numbers, What, OfChunk, OfSerial, OfDma, OfRaise, Move}
+use Rattle.spec_protocol.specs.Machine.{IsReplayed, SphereSetup, role_of, sphere_of, moves, world_of}
+use Rattle.spec_protocol.specs.Serial.{Whole, whole_of, do_serial, do_dma, do_raise}
+use Rattle.spec_protocol.specs.Moves.{move_chunk, do_what, do_at, do_move, do_moves, FitsAt, Fits, FitAll}
+use Rattle.spec_protocol.proofs.Moving.{get-set_other}
+use Rattle.spec_protocol.proofs.Schedules.{moves_are}
+use Rattle.spec_replay.specs.Promises.{ReplaysArePlays}
+use Rattle.spec_replay.proofs.Standing.{whole-stands}
+use Rattle.spec_replay.proofs.Done.{Reaches}
+use Rattle.spec_replay.proofs.Moved.{Stands, what-stands}
+
+-- ---- a move of another sphere
+
+chunk_away : (z : Numbers) (x : Whole) (i j k : ℕ) (how : How) (n limit : ℕ) (p : Sphere) (o : Option Parts) → j ≢ i → slice_get (move_chunk z x i k how n limit p o).spheres j ≡ slice_get x.spheres j
+chunk_away z x i j k how n limit p None ne = refl
+chunk_away z x i j k how n limit p (Some t) ne = get-set_other x.spheres i j _ ne
+
+serial_away : (x : Whole) (i j k moment : ℕ) (p : Sphere) (o : Option Parts) → j ≢ i → slice_get (do_serial x i k moment p o).spheres j ≡ slice_get x.spheres j
+serial_away x i j k moment p None ne = refl
+serial_away x i j k moment p (Some t) ne = get-set_other x.spheres i j _ ne
+
+dma_away : (x : Whole) (i j : ℕ) (o : Option Moved) → j ≢ i → slice_get (do_dma x i o).spheres j ≡ slice_get x.spheres j
+dma_away x i j None ne = refl
+dma_away x i j (Some v) ne = get-set_other x.spheres i j _ ne
+
+raise_away : (x : Whole) (i j k value : ℕ) (p : Sphere) (o : Option Parts) → j ≢ i → slice_get (do_raise x i k value p o).spheres j ≡ slice_get x.spheres j
+raise_away x i j k value p None ne = refl
+raise_away x i j k value p (Some t) ne = get-set_other x.spheres i j _ ne
+
+what_away : (z : Numbers) (x : Whole) (moment i j : ℕ) (p : Sphere) (what : What) → j ≢ i → slice_get (do_what z x moment i p what).spheres j ≡ slice_get x.spheres j
+what_away z x moment i j p (OfChunk k how n limit) ne = chunk_away z x i j k how n limit p (slice_get p.threads k) ne
+what_away z x moment i j p (OfSerial k) ne = serial_away x i j k moment p (slice_get p.threads k) ne
+what_away z x moment i j p OfDma ne = dma_away x i j (dma_moved x.devices p) ne
+what_away z x moment i j p (OfRaise k value) ne = raise_away x i j k value p (slice_get p.threads k) ne
+
+at_away : (z : Numbers) (x : Whole) (m : Move) (j : ℕ) (o : Option Sphere) → j ≢ m.sphere → slice_get (do_at z x m o).spheres j ≡ slice_get x.spheres j
+at_away z x m j None ne = refl
+at_away z x m j (Some p) ne = what_away z x m.moment m.sphere j p m.what ne
+
+-- ---- all moves
+
+move_stands : (log : LogParts) (start : Played) (z : Numbers) (x : Whole) (m : Move) (i : ℕ) → 0 < log.s → Stands log start x i → Fits z x m → Stands log start (do_move z x m) i
+unfolding do_move
+move_stands log start z x m i s a fits =
+    elim (cases_eq i m.sphere) [
+      | inl e ↦ (
+          let there : slice_get x.spheres m.sphere ≡ Some a.sphere = ap (slice_get x.spheres) (sym e) ∙ a.there in
+          subst (λ (o : Option Sphere). Stands log start (do_at z x m o) i) (sym there)
+          (subst (λ (n : ℕ). Stands log start (do_what z x m.moment m.sphere a.sphere m.what) n) (sym e)
+          (what-stands log start z x m.moment m.sphere a.sphere m.what s there a.reaches (subst (FitsAt z x.devices m) there fits)))
+          )
+      | inr ne ↦ record { sphere = a.sphere; there = at_away z x m i (slice_get x.spheres m.sphere) ne ∙ a.there; reaches = a.reaches }
+    ]
+
+moves_stand : (log : LogParts) (start : Played) (z : Numbers) (x : Whole) (ms : List Move) (i : ℕ) → 0 < log.s → Stands log start x i → FitAll z x ms → Stands log start (do_moves z x ms) i
+moves_stand log start z x [] i s a fits = a
+moves_stand log start z x (m ∷ ms) i s a fits = moves_stand log start z (do_move z x m) ms i s (move_stands log start z x m i s a fits.0) fits.1
+
+-- ---- the start
+
+start_sphere : (z : ℕ) (ds : List SphereSetup) (i : ℕ) (d : SphereSetup) → slice_get ds i ≡ Some d → slice_get (map (sphere_of z) ds) i ≡ Some (sphere_of z d)
+start_sphere z [] i d e = absurd (none-some d e)
+start_sphere z (c ∷ ds) zero d e = let h : c ≡ d = cc in ap (λ (x : SphereSetup). Some (sphere_of z x)) h
+start_sphere z (c ∷ ds) (suc i) d e = start_sphere z ds i d e
+
+start_reaches : (log : LogParts) (z : ℕ) (image : SphereSetup) → 0 < log.s → image.role ≡ IsReplayed log → Reaches log (opened log image.memory image.entry) (sphere_of z image)
+start_reaches log z image s role =
+    let b : Book = turned log no_progress nothing_used (started image.entry ∷ []) in
+    record {
+      book = b;
+      role = ap (role_of z (started image.entry ∷ [])) role;
+      same_log = refl;
+      progress = refl;
+      used = refl;
+      now = inl refl;
+      ended = λ how e. e;
+      state = whole-stands log (opened log image.memory image.entry) (sphere_of z image) b s refl (record { memory = refl; threads = refl; total = refl; loads = refl });
+    }
+
+-- ---- the promise
+
+pub replays_follow : ReplaysArePlays
+replays_follow image log s es i p r =
+    let m = moves_are s es r.setup in
+    let y0 : Played = opened log image.memory image.entry in
+    let z : ℕ = s.numbers.chunk in
+    let first : Stands log y0 (whole_of s) i = record { sphere = sphere_of z image; there = start_sphere z s.spheres i image r.there; reaches = start_reaches log z image r.standard r.replays } in
+    let last : Stands log y0 (do_moves s.numbers (whole_of s) (moves (world_of s) es)) i = moves_stand log y0 s.numbers (whole_of s) (moves (world_of s) es) i r.standard first m.possible in
+    let same : last.sphere ≡ p = (let h : Some last.sphere ≡ Some p = sym last.there ∙ ap (λ (x : Whole). slice_get x.spheres i) (sym m.same) ∙ r.shown in cc) in
+    subst (Reaches log y0) same last.reaches

@@ -1,0 +1,106 @@
+-- Where a replayed sphere has no piece of its next commit, it stands where the play stands.
+use Rattle.std.proofs.Common.{◌≡◌, ℕ, zero, suc, ◌<◌, Bool, true, false, cond, List, [], ◌∷◌, Option, Some, None, refl, sym, ap, ◌∙◌, subst, arith, set}
+use Rattle.std.specs.Prelude.{slice_get, nat_lt, max}
+use Rattle.dl_entry.specs.declared.Actor.{Actor}
+use Rattle.dl_entry.specs.declared.End.{End}
+use Rattle.dl_entry.specs.declared.Why.{Why}
+use Rattle.spec_isa.specs.declared.thread.Parts.{Parts}
+use Rattle.spec_log.specs.declared.LogParts.{LogParts}
+use Rattle.spec_log.specs.Size.{size_in}
+use Rattle.spec_kernel.specs.Interrupts.{is_live}
+use Rattle.spec_play.specs.Progress.{Progress, position, Used}
+use Rattle.spec_play.specs.Turns.{Now, Turn, TurnOfDma, Over, at_end, has_left_over, turn_of_thread, turn_of, next_actor, now_at}
+use Rattle.spec_play.specs.Plays.{Played}
+use Rattle.spec_protocol.specs.Spheres.{Book, Sphere, whole_limit}
+use Rattle.spec_replay.specs.Following.{IsWhole, StandsAt}
+
+-- ---- threads
+
+pub set_here : {A : Type 0} (xs : List A) (k : ℕ) (x : A) → slice_get xs k ≡ Some x → set xs k x ≡ xs
+set_here [] k x e = refl
+set_here (y ∷ ys) zero x e = let h : x ≡ y = cc in ap (λ (z : _). z ∷ ys) h
+set_here (y ∷ ys) (suc k) x e = ap (λ (zs : List _). y ∷ zs) (set_here ys k x e)
+
+pub set_twice : {A : Type 0} (xs : List A) (k : ℕ) (x y : A) → set (set xs k x) k y ≡ set xs k y
+set_twice [] k x y = refl
+set_twice (z ∷ zs) zero x y = refl
+set_twice (z ∷ zs) (suc k) x y = ap (λ (us : List _). z ∷ us) (set_twice zs k x y)
+
+-- ---- whose turn it is
+
+-- the thread of that number lives
+pub record Lives (ts : List Parts) (k : ℕ) : Type 0 where
+  pub thread : Parts
+  pub is : slice_get ts k ≡ Some thread
+  pub live : is_live thread ≡ true
+
+turn_live : (i j k : ℕ) (ts : List Parts) (t : Parts) (b : Bool) → slice_get ts j ≡ Some t → is_live t ≡ b → cond b (Turn j) (Over (End.Diverged i Why.NoThread)) ≡ Turn k → Lives ts k
+turn_live i j k ts t true is live e = let h : j ≡ k = cc in record { thread = t; is = ap (slice_get ts) (sym h) ∙ is; live = live }
+turn_live i j k ts t false is live e = cc
+
+turn_there : (i j k : ℕ) (ts : List Parts) (o : Option Parts) → slice_get ts j ≡ o → turn_of_thread i j o ≡ Turn k → Lives ts k
+turn_there i j k ts None is e = cc
+turn_there i j k ts (Some t) is e = turn_live i j k ts t (is_live t) is refl e
+
+turn_named : (i k : ℕ) (ts : List Parts) (o : Option Actor) → turn_of i ts o ≡ Turn k → Lives ts k
+turn_named i k ts None e = cc
+turn_named i k ts (Some Actor.Dma) e = cc
+turn_named i k ts (Some (Actor.Thread j)) e = turn_there i j k ts (slice_get ts j) refl e
+
+no_turn : (i k : ℕ) (left : Bool) → at_end i left ≡ Turn k → {A : Type 0} → A
+no_turn i k true e = cc
+no_turn i k false e = cc
+
+turn_below : (i k : ℕ) (ts : List Parts) (o : Option Actor) (below left : Bool) → cond below (turn_of i ts o) (at_end i left) ≡ Turn k → Lives ts k
+turn_below i k ts o true left e = turn_named i k ts o e
+turn_below i k ts o false left e = no_turn i k left e
+
+-- a thread that has the turn lives
+pub turn-lives : (log : LogParts) (p : Progress) (u : Used) (ts : List Parts) (k : ℕ) → now_at log p u ts ≡ Turn k → Lives ts k
+unfolding now_at
+turn-lives log p u ts k e = turn_below (position p) k ts (next_actor log p ts) (nat_lt (position p) log.count) (has_left_over log u ts) e
+
+-- ---- limits
+
+abbrev pub limit_by : Option ℕ → (s : ℕ) → ℕ
+limit_by None s = s
+limit_by (Some z) s = max 1 z
+
+limit_some : (o : Option ℕ) (s : ℕ) → 0 < s → 0 < limit_by o s
+limit_some None s l = l
+limit_some (Some z) s l = omega arith
+
+pub limit-is : (log : LogParts) (k commits : ℕ) → whole_limit log k commits ≡ limit_by (size_in log (Actor.Thread k) commits) log.s
+limit-is log k commits = elim (size_in log (Actor.Thread k) commits) as (λ (o : Option ℕ). elim o [ None ↦ log.s | Some z ↦ max 1 z ] ≡ limit_by o log.s) [
+  | None ↦ refl
+  | Some z ↦ refl
+]
+
+pub limit-some : (log : LogParts) (k commits : ℕ) → 0 < log.s → 0 < whole_limit log k commits
+limit-some log k commits l = subst (λ (n : ℕ). 0 < n) (sym (limit-is log k commits)) (limit_some (size_in log (Actor.Thread k) commits) log.s l)
+
+-- ---- without pieces
+
+-- where no piece stands, what is moved on is the play's state itself
+moved_whole : (log : LogParts) (y : Played) (k : ℕ) (p : Sphere) (b : Book) → 0 < log.s → Lives y.threads k → IsWhole y p b → StandsAt log y (Turn k) p b
+moved_whole log y k p b s l w = (
+  l.thread,
+  rw w.total
+      record {
+        is = l.is;
+        live = l.live;
+        ran = refl;
+        memory = w.memory;
+        threads = w.threads ∙ sym (set_here y.threads k l.thread l.is);
+        loads = w.loads;
+        within = limit-some log k l.thread.commits s;
+      },
+)
+
+stands_now : (log : LogParts) (y : Played) (now : Now) (p : Sphere) (b : Book) → 0 < log.s → now_at log y.progress y.used y.threads ≡ now → IsWhole y p b → StandsAt log y now p b
+stands_now log y (Turn k) p b s e w = moved_whole log y k p b s (turn-lives log y.progress y.used y.threads k e) w
+stands_now log y TurnOfDma p b s e w = w
+stands_now log y (Over how) p b s e w = w
+
+pub whole-stands : (log : LogParts) (y : Played) (p : Sphere) (b : Book) → 0 < log.s → now_at log y.progress y.used y.threads ≡ y.now → IsWhole y p b → StandsAt log y y.now p b
+whole-stands log y p b s e w = stands_now log y y.now p b s e w

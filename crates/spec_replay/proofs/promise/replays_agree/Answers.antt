@@ -1,0 +1,5 @@
+use Rattle.spec_replay.proofs.Agreeing.{replays_alike}
+use Rattle.spec_replay.proofs.promise.replays_agree.Goals as goal
+
+pub returns : goal.returns
+returns c = replays_alike
