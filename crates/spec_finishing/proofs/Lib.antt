@@ -12,4 +12,6 @@ pub mod PayingSerial
 pub mod PayingMoves
 pub mod Standing
 pub mod Knowing
+pub mod AnyEvent
+pub mod AnyAsk
 pub mod KindsKept
