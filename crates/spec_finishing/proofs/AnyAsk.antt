@@ -1,7 +1,8 @@
 -- The flight of a granted request has no more left than its move says; and what then happens.
-use Rattle.std.proofs.Common.{◌≡◌, ◌≢◌, ℕ, zero, suc, ◌+◌, ◌^◌, ◌<◌, ◌≤◌, Bool, true, false, eqb, cond, not, List, [], ◌∷◌, ◌++◌, length, Option, Some, None, refl, sym, ap, ◌∙◌, subst, arith}
+use Rattle.std.proofs.Common.{◌≡◌, ◌≢◌, ℕ, zero, suc, ◌+◌, ◌^◌, ◌<◌, ◌≤◌, inl, inr, Bool, true, false, eqb, cond, not, List, [], ◌∷◌, ◌++◌, length, Option, Some, None, refl, sym, ap, ◌∙◌, subst, arith}
 use Rattle.std.specs.Prelude.{slice_get, option_map}
-use Rattle.std.proofs.lemmas.Bool.{true≢false, eqb-false}
+use Rattle.std.proofs.lemmas.Bool.{true≢false, eqb-false, cases_lt}
+use Rattle.std.proofs.lemmas.List.{get_or_past}
 use Rattle.std.proofs.lemmas.Option.{none-some}
 use Rattle.dl_entry.specs.declared.Actor.{Actor}
 use Rattle.spec_isa.specs.declared.thread.Parts.{Parts}
@@ -13,8 +14,8 @@ use Rattle.spec_engine.specs.Flights.{Flight, at, is_full, first_slot, meets_chu
 use Rattle.spec_engine.specs.Asking.{ask, ask_serial, denied_by, busy_by}
 use Rattle.spec_engine.proofs.Searches.{first_none}
 use Rattle.spec_protocol.specs.declared.reply.Reply.{Reply}
-use Rattle.spec_protocol.specs.Spheres.{Sphere, is_stopped, head_of}
-use Rattle.spec_protocol.specs.Commits.{Outcome, Granted, Piece, Diverged, Moved, is_piece, chunk_moved, serial_moved, dma_moved}
+use Rattle.spec_protocol.specs.Spheres.{Sphere, no_sphere, is_stopped, head_of}
+use Rattle.spec_protocol.specs.Commits.{Outcome, Granted, Piece, Diverged, Moved, is_piece, chunk_moved, serial_moved, dma_in, dma_moved}
 use Rattle.spec_protocol.specs.World.{World, Held, Move, What, OfChunk, OfSerial, OfDma, After, moment, sphere_at, still, flown}
 use Rattle.spec_protocol.specs.Asking.{Request, move_at, granted, chunk_request, grant_chunk, serial_request, grant_serial, unless_denied, unless_busy, ask_arbiter, asks_serial, other_turn, unless_turn, ask_closed, ask_held, asking}
 use Rattle.spec_protocol.specs.Transferring.{dma_move, dma_done, transfer, dma_with, dma_if, turn_before_dma, transferring}
@@ -153,11 +154,22 @@ dma_if_flies : (c : ℕ) (w : World) (i : ℕ) (o : Option Moved) → dma_most c
 dma_if_flies c w i None l = still_flies c w Reply.NoDma
 dma_if_flies c w i (Some v) l = outcome_flies c w i v v.outcome l
 
-pub dma-flies : (c : ℕ) (w : World) (i : ℕ) → i < length w.spheres → Flies c w (transferring w i)
+-- where there is no such sphere, there is no DMA
+no_dma : (w : World) (i : ℕ) → length w.spheres ≤ i → dma_moved w.devices (sphere_at w i) ≡ None
+unfolding dma_moved
+no_dma w i past = ap (λ (p : Sphere). dma_in p.role w.devices p) (get_or_past w.spheres i no_sphere past)
+
+dma_most_bound : (c : ℕ) (w : World) (i : ℕ) → dma_most c (dma_moved w.devices (sphere_at w i)) ≤ move_most c (shown_of w) (dma_move w i)
+dma_most_bound c w i =
+    elim (cases_lt i (length w.spheres)) [
+      | inl within ↦ (let e = dma_most_is c w i within in omega (arith, e))
+      | inr past ↦ (let e = ap (dma_most c) (no_dma w i past) in omega (arith, e))
+    ]
+
+pub dma-flies : (c : ℕ) (w : World) (i : ℕ) → Flies c w (transferring w i)
 unfolding transferring
-dma-flies c w i within =
+dma-flies c w i =
     let p = sphere_at w i in
-    let e = dma_most_is c w i within in
     branch (Flies c w) (is_stopped p.role) (still w Reply.Stopped) (unless_turn (turn_before_dma p.role) w (dma_if w i (dma_moved w.devices p)))
     (λ _. still_flies c w Reply.Stopped)
-    (λ _. turn_flies c w (dma_if w i (dma_moved w.devices p)) (turn_before_dma p.role) (dma_if_flies c w i (dma_moved w.devices p) (omega (arith, e))))
+    (λ _. turn_flies c w (dma_if w i (dma_moved w.devices p)) (turn_before_dma p.role) (dma_if_flies c w i (dma_moved w.devices p) (dma_most_bound c w i)))

@@ -82,9 +82,9 @@ less_or_none : (o : Bool) (n : ℕ) → cond o 0 n ≤ n
 less_or_none true n = omega arith
 less_or_none false n = omega arith
 
-left_most : (image : SphereSetup) (b : Book) (i : ℕ) → replay_left image b i ≤ play_left b.log (opened b.log image.memory image.entry) i b.total
+pub left-most : (image : SphereSetup) (b : Book) (i : ℕ) → replay_left image b i ≤ play_left b.log (opened b.log image.memory image.entry) i b.total
 unfolding replay_left
-left_most image b i = less_or_none (is_over b.now) (play_left b.log (opened b.log image.memory image.entry) i b.total)
+left-most image b i = less_or_none (is_over b.now) (play_left b.log (opened b.log image.memory image.entry) i b.total)
 
 -- the commits behind the next one
 abbrev pub later : LogParts → Played → ℕ → ℕ
@@ -99,7 +99,7 @@ left-step log x i total l =
 pub left-turned : (image : SphereSetup) (log : LogParts) (p : Progress) (u : Used) (ts : List Parts) (i : ℕ) → position p ≡ suc i → replay_left image (turned log p u ts) (position p) ≤ later log (opened log image.memory image.entry) i
 left-turned image log p u ts i e =
     let x = opened log image.memory image.entry in
-    let most = left_most image (turned log p u ts) (position p) in
+    let most = left-most image (turned log p u ts) (position p) in
     let h : commits_work log x (position p) (log.count - position p) ≡ later log x i = ap (λ (n : ℕ). commits_work log x n (log.count - n)) e in
     omega (arith, most, h)
 

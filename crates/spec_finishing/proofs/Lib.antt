@@ -14,4 +14,8 @@ pub mod Standing
 pub mod Knowing
 pub mod AnyEvent
 pub mod AnyAsk
+pub mod Spending
+pub mod Bounding
+pub mod Turns
+pub mod Begun
 pub mod KindsKept
