@@ -45,3 +45,14 @@ live_none c image p (Replay b) e = absurd (true≢false e)
 
 pub sphere-live : (c : ℕ) (image : SphereSetup) (p : Sphere) → replays p.role ≡ false → sphere_rest c image p ≡ 0
 sphere-live c image p e = live_none c image p p.role e
+
+-- one sphere has no more left than all
+pub sphere-least : (c : ℕ) (images : List SphereSetup) (ps : List Sphere) (i : ℕ) (image : SphereSetup) (p : Sphere) → slice_get images i ≡ Some image → slice_get ps i ≡ Some p → sphere_rest c image p ≤ spheres_rest c images ps
+sphere-least c [] ps i image p there is = absurd (none-some image there)
+sphere-least c (a ∷ images) [] i image p there is = absurd (none-some p is)
+sphere-least c (a ∷ images) (x ∷ ps) zero image p there is =
+    let e : x ≡ p = cc in
+    let f : a ≡ image = cc in
+    let h : sphere_rest c a x ≡ sphere_rest c image p = (λ i. sphere_rest c (f i) (e i)) in
+    omega (arith, h)
+sphere-least c (a ∷ images) (x ∷ ps) (suc i) image p there is = let r = sphere-least c images ps i image p there is in omega (arith, r)
