@@ -18,4 +18,7 @@ pub mod Spending
 pub mod Bounding
 pub mod Turns
 pub mod Begun
+pub mod StepRises
+pub mod NextCores
+pub mod NextCommits
 pub mod KindsKept

@@ -4,8 +4,10 @@ use Rattle.std.proofs.lemmas.Bool.{cases_lt}
 use Rattle.spec_isa.specs.declared.thread.Parts.{Parts}
 use Rattle.spec_isa.specs.declared.thread.Load.{Load}
 use Rattle.spec_isa.specs.declared.thread.Kind.{Kind}
+use Rattle.spec_isa.specs.declared.plan.Plan.{Plan}
+use Rattle.spec_isa.specs.Planned.{thread_then}
 use Rattle.spec_isa.specs.Words.{Stored, lays, lay, put, Apart}
-use Rattle.spec_isa.specs.Instruction.{Outcome, Next, Serial, one}
+use Rattle.spec_isa.specs.Instruction.{Outcome, Next, Serial, one, unless, plan_of, next_of}
 use Rattle.spec_isa.specs.Runs.{Run, begun, with_load, with_store, followed, more, run}
 use Rattle.spec_isa.proofs.BufferLaws.{Apart-put, lays_put}
 use Rattle.spec_kernel.specs.Needs.{next_kind, fetched}
@@ -99,3 +101,35 @@ pub run-serial : (m : List ℕ) (t : Parts) (kind : Kind) (n : ℕ) → next_kin
 run-serial m t kind zero e = refl
 run-serial m t kind (suc n) e =
     ap (more m) (run-serial m t kind n e) ∙ ap (followed (begun t)) (one_is_serial t m kind e)
+
+-- ---- the thread stays live
+
+plan_status : (p : Plan) (t : Parts) (w : ℕ) → (thread_then p t w).status ≡ t.status
+plan_status (Plan.Go rd value pc) t w = refl
+plan_status (Plan.Stop kind) t w = refl
+plan_status (Plan.Load op rd a) t w = refl
+plan_status (Plan.Store op a v) t w = refl
+plan_status (Plan.LoadReserved rd a) t w = refl
+plan_status (Plan.StoreConditional rd a v) t w = refl
+plan_status (Plan.Amo op rd a v) t w = refl
+
+next_status : (t : Parts) (f w : ℕ) → (next_of t f w).status ≡ t.status
+unfolding next_of
+next_status t f w = plan_status (plan_of t f) t w
+
+unless_status : (t : Parts) (o : Option Kind) (next u : Parts) (made load : Option Load) (put_ store : Option Stored) → next.status ≡ t.status → unless o (Next next made put_) ≡ Next u load store → u.status ≡ t.status
+unless_status t None next u made load put_ store s e = let h : next ≡ u = cc in ap (λ (p : Parts). p.status) (sym h) ∙ s
+unless_status t (Some kind) next u made load put_ store s e = cc
+
+one_status : (t : Parts) (m : List ℕ) (u : Parts) (load : Option Load) (store : Option Stored) → one t m ≡ Next u load store → u.status ≡ t.status
+unfolding one
+one_status t m u load store e = unless_status t _ _ u _ load _ store (next_status t _ _) e
+
+followed_status : (r : Run) (m : List ℕ) (o : Outcome) → one r.thread m ≡ o → (followed r o).thread.status ≡ r.thread.status
+followed_status r m (Serial kind) e = refl
+followed_status r m (Next u load store) e = one_status r.thread m u load store e
+
+-- an instruction ends no thread
+pub run-status : (m : List ℕ) (t : Parts) (n : ℕ) → (run m t n).thread.status ≡ t.status
+run-status m t zero = refl
+run-status m t (suc n) = followed_status (run m t n) (lays m (run m t n).words) _ refl ∙ run-status m t n
