@@ -21,4 +21,6 @@ pub mod Begun
 pub mod StepRises
 pub mod NextCores
 pub mod NextCommits
+pub mod NextEvents
+pub mod FinishingAll
 pub mod KindsKept
