@@ -22,5 +22,6 @@ pub mod StepRises
 pub mod NextCores
 pub mod NextCommits
 pub mod NextEvents
+pub mod NextOfAll
 pub mod FinishingAll
 pub mod KindsKept

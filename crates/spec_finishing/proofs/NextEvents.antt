@@ -113,7 +113,7 @@ told_falls s w k f None known stands is words e = retire_act s w k f known stand
 told_falls s w k f (Some c) known stands is words e =
     deliver_act s w c k f known stands is (ap (λ (n : ℕ). untold 0 n f.told) (sym known.sizes.cores) ∙ e)
 
-words_fall : (s : Setup) (w : World) (k : ℕ) (f : Flight) (ws : List Stored) → Known s w → standing w ≡ Some k → at w.slots k ≡ Some f → f.words ≡ ws → Falls1 s w (for_flight (length w.cores) k f ws)
+pub words_fall : (s : Setup) (w : World) (k : ℕ) (f : Flight) (ws : List Stored) → Known s w → standing w ≡ Some k → at w.slots k ≡ Some f → f.words ≡ ws → Falls1 s w (for_flight (length w.cores) k f ws)
 words_fall s w k f [] known stands is words = told_falls s w k f (untold 0 (length w.cores) f.told) known stands is words refl
 words_fall s w k f (x ∷ xs) known stands is words = drain_act s w k f x xs known stands is words
 
@@ -137,14 +137,14 @@ reply_happens : (w : World) (e : Event) → (happens w e).reply ≡ (act w e).re
 unfolding happens
 reply_happens w e = refl
 
-rose_falls : (s : Setup) (w : World) (who : Who) (k : ℕ) (e : Event) → Known s w → Known s (happens w e).world → standing w ≡ None → least 0 w.spheres ≡ Some who → who.actor ≡ Actor.Thread k → (r : Rose w who.sphere k (act w e)) → begun w < held_begun (Some r.held) → Falls1 s w e
+pub rose_falls : (s : Setup) (w : World) (who : Who) (k : ℕ) (e : Event) → Known s w → Known s (happens w e).world → standing w ≡ None → least 0 w.spheres ≡ Some who → who.actor ≡ Actor.Thread k → (r : Rose w who.sphere k (act w e)) → begun w < held_begun (Some r.held) → Falls1 s w e
 rose_falls s w who k e known next_known none is thread r more =
     let now = ap begun (world_happens w e) ∙ rose_begun w who k (act w e) none is thread r in
     let same = ap (potential s) (world_happens w e) ∙ rose_potential s w who.sphere k (act w e) r in
     let most = begun-most s (happens w e).world next_known in
     record { done = ap is_done (reply_happens w e) ∙ r.done; less = omega (arith, now, same, most, more) }
 
-place_act : (s : Setup) (w : World) (who : Who) (k : ℕ) → Known s w → Known s (happens w (Event.Place 0 who.sphere k)).world → 0 < s.cores → standing w ≡ None → least 0 w.spheres ≡ Some who → who.actor ≡ Actor.Thread k → core_of w who.sphere k ≡ None → Falls1 s w (Event.Place 0 who.sphere k)
+pub place_act : (s : Setup) (w : World) (who : Who) (k : ℕ) → Known s w → Known s (happens w (Event.Place 0 who.sphere k)).world → 0 < s.cores → standing w ≡ None → least 0 w.spheres ≡ Some who → who.actor ≡ Actor.Thread k → core_of w who.sphere k ≡ None → Falls1 s w (Event.Place 0 who.sphere k)
 unfolding act
 place_act s w who k known next_known some none is thread free =
     let i = who.sphere in

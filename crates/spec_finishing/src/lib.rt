@@ -1,3 +1,6 @@
-//! That finishing ends: after any schedule the flights are made visible and the replays come to their ends, within a bound.
+//! That finishing ends: after any schedule flights are made visible and replays come to their ends, within a bound.
 #![tactic(auto)]
 
+mod promise;
+
+pub use promise::finishing_ends;
