@@ -1,7 +1,7 @@
 -- What a play's next commit has to do, beside what a replay has run of it: there is enough left to pay for it.
-use Rattle.std.proofs.Common.{◌≡◌, ℕ, zero, suc, ◌+◌, ◌-◌, ◌*◌, ◌<◌, ◌≤◌, ◌⊎◌, inl, inr, Bool, true, false, eqb, cond, List, [], ◌∷◌, Option, Some, None, refl, sym, ap, ◌∙◌, subst, arith}
+use Rattle.std.proofs.Common.{◌≡◌, ℕ, zero, suc, ◌+◌, ◌-◌, ◌<◌, ◌≤◌, ◌⊎◌, inl, inr, Bool, cond, List, Option, Some, None, refl, sym, ap, ◌∙◌, subst, arith}
 use Rattle.std.specs.Prelude.{slice_get, max}
-use Rattle.std.proofs.lemmas.Bool.{true≢false, eq-eqb, cases_lt}
+use Rattle.std.proofs.lemmas.Bool.{eq-eqb}
 use Rattle.std.proofs.Math.Nat.{max-le, max-eq_right}
 use Rattle.dl_entry.specs.declared.Actor.{Actor}
 use Rattle.spec_isa.specs.declared.thread.Parts.{Parts}
@@ -11,12 +11,12 @@ use Rattle.spec_isa.specs.Runs.{Run, run}
 use Rattle.spec_log.specs.declared.LogParts.{LogParts}
 use Rattle.spec_log.specs.Size.{size_in}
 use Rattle.spec_kernel.specs.Needs.{next_kind}
-use Rattle.spec_play.specs.Turns.{Now, Turn}
+use Rattle.spec_play.specs.Turns.{Turn}
 use Rattle.spec_play.specs.Plays.{Played, size_or_standard}
-use Rattle.spec_protocol.specs.Spheres.{whole_limit, pieces_of, limit_in, limit_of, Book, Replay}
+use Rattle.spec_protocol.specs.Spheres.{whole_limit, pieces_of, limit_of, Book, Replay}
 use Rattle.spec_protocol.proofs.Keeping.{run-keeps}
 use Rattle.spec_finishing.specs.Work.{thread_work, turn_work, now_work, commit_work}
-use Rattle.spec_finishing.proofs.Runs.{run-most, run-longer, run-joined, run-serial}
+use Rattle.spec_finishing.proofs.Runs.{run-longer, run-joined, run-serial}
 
 -- ---- the limit of a commit, and what its play runs
 
@@ -48,11 +48,11 @@ afford_chunk m t total n whole size ran more is within most =
           let joined = run-joined m t total n ran more in
           let longer = run-longer m t (total + n) size (omega arith) in
           Enough (omega (arith, joined, longer))
-      )
+          )
       | inr lone ↦ (
           let limit : max 1 (whole - total) ≤ 1 = max-le (omega arith) (let e = lone.1 in omega (arith, e)) in
           Lone (let e = lone.1 in omega (arith, e)) (omega arith) (omega arith)
-      )
+          )
     ]
 
 -- before a serial instruction nothing is run

@@ -1,32 +1,28 @@
 -- The flight of a granted request has no more left than its move says; and what then happens.
-use Rattle.std.proofs.Common.{◌≡◌, ◌≢◌, ℕ, zero, suc, ◌+◌, ◌^◌, ◌<◌, ◌≤◌, inl, inr, Bool, true, false, eqb, cond, not, List, [], ◌∷◌, ◌++◌, length, Option, Some, None, refl, sym, ap, ◌∙◌, subst, arith}
+use Rattle.std.proofs.Common.{◌≡◌, ◌≢◌, ℕ, suc, ◌+◌, ◌^◌, ◌<◌, ◌≤◌, inl, inr, Bool, true, false, cond, List, [], ◌∷◌, ◌++◌, length, Option, Some, None, refl, ap, ◌∙◌, arith}
 use Rattle.std.specs.Prelude.{slice_get, option_map}
-use Rattle.std.proofs.lemmas.Bool.{true≢false, eqb-false, cases_lt}
+use Rattle.std.proofs.lemmas.Bool.{eqb-false, cases_lt}
 use Rattle.std.proofs.lemmas.List.{get_or_past}
-use Rattle.std.proofs.lemmas.Option.{none-some}
 use Rattle.dl_entry.specs.declared.Actor.{Actor}
-use Rattle.spec_isa.specs.declared.thread.Parts.{Parts}
 use Rattle.spec_isa.specs.Words.{Stored, lays}
-use Rattle.spec_kernel.specs.Devices.{Devices}
 use Rattle.spec_engine.specs.declared.answers.How.{How}
 use Rattle.spec_engine.specs.Signatures.{Marks, nothing, signed}
 use Rattle.spec_engine.specs.Flights.{Flight, at, is_full, first_slot, meets_chunk, is_of_sphere}
-use Rattle.spec_engine.specs.Asking.{ask, ask_serial, denied_by, busy_by}
+use Rattle.spec_engine.specs.Asking.{ask, denied_by, busy_by}
 use Rattle.spec_engine.proofs.Searches.{first_none}
 use Rattle.spec_protocol.specs.declared.reply.Reply.{Reply}
 use Rattle.spec_protocol.specs.Spheres.{Sphere, no_sphere, is_stopped, head_of}
 use Rattle.spec_protocol.specs.Commits.{Outcome, Granted, Piece, Diverged, Moved, is_piece, chunk_moved, serial_moved, dma_in, dma_moved}
-use Rattle.spec_protocol.specs.World.{World, Held, Move, What, OfChunk, OfSerial, OfDma, After, moment, sphere_at, still, flown}
+use Rattle.spec_protocol.specs.World.{World, Held, Move, After, moment, sphere_at, still}
 use Rattle.spec_protocol.specs.Asking.{Request, move_at, granted, chunk_request, grant_chunk, serial_request, grant_serial, unless_denied, unless_busy, ask_arbiter, asks_serial, other_turn, unless_turn, ask_closed, ask_held, asking}
 use Rattle.spec_protocol.specs.Transferring.{dma_move, dma_done, transfer, dma_with, dma_if, turn_before_dma, transferring}
-use Rattle.spec_protocol.specs.Shown.{words_of, flying, shown, shown_of}
+use Rattle.spec_protocol.specs.Shown.{flying, shown_of}
 use Rattle.spec_protocol.specs.Invariants.{IsGoodHeld, IsGood, current}
 use Rattle.spec_protocol.proofs.Slots.{words-other}
 use Rattle.spec_protocol.proofs.Moving.{chunk-stores}
 use Rattle.spec_protocol.proofs.Relaying.{over, relaid, dma-relaid}
 use Rattle.spec_protocol.proofs.OnAsks.{shown_at, shown_over}
 use Rattle.spec_protocol.proofs.OnCores.{branch}
-use Rattle.spec_finishing.specs.Rest.{flights_rest}
 use Rattle.spec_finishing.proofs.Slots.{flown-most}
 use Rattle.spec_finishing.proofs.PayingMoves.{serial_most, dma_most, what_most, sphere_most, move_most}
 use Rattle.spec_finishing.proofs.AnyEvent.{Flies, still_flies}

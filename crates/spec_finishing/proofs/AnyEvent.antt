@@ -1,25 +1,23 @@
 -- Whatever the event, flights have no more left than before, but for the flight of its move.
-use Rattle.std.proofs.Common.{◌≡◌, ℕ, zero, suc, ◌+◌, ◌<◌, ◌≤◌, Bool, true, false, cond, List, [], ◌∷◌, length, Option, Some, None, refl, sym, ap, ◌∙◌, subst, arith}
+use Rattle.std.proofs.Common.{◌≡◌, ℕ, ◌+◌, ◌≤◌, cond, Option, Some, None, refl, ap, arith}
 use Rattle.std.specs.Prelude.{slice_get}
 use Rattle.spec_isa.specs.declared.thread.Parts.{Parts}
 use Rattle.spec_kernel.specs.Interrupts.{is_live, has_handler}
-use Rattle.spec_engine.specs.declared.answers.Deliver.{Deliver}
-use Rattle.spec_engine.specs.Flights.{at, deliver}
+use Rattle.spec_engine.specs.Flights.{at}
 use Rattle.spec_engine.specs.Chunks.{step, cut, is_open}
 use Rattle.spec_protocol.specs.declared.reply.Reply.{Reply}
-use Rattle.spec_protocol.specs.Spheres.{Sphere, is_stopped}
-use Rattle.spec_protocol.specs.World.{World, Held, Move, After, sphere_at, with_sphere, with_core, with_slot, begun, core_of, still, went_on}
+use Rattle.spec_protocol.specs.Spheres.{is_stopped}
+use Rattle.spec_protocol.specs.World.{World, Held, Move, After, sphere_at, with_sphere, with_core, begun, core_of, still, went_on}
 use Rattle.spec_protocol.specs.Serial.{Whole}
 use Rattle.spec_protocol.specs.Shown.{shown_of}
 use Rattle.spec_protocol.specs.Commits.{raised}
 use Rattle.spec_protocol.specs.Stepping.{stepped, step_held, stepping, cut_to, cut_held, cutting}
-use Rattle.spec_protocol.specs.Flying.{drain_slot, draining, told, deliver_to, delivering, reads_of, writes_of, retiring}
+use Rattle.spec_protocol.specs.Flying.{draining, delivering, retiring}
 use Rattle.spec_protocol.specs.Placing.{replays, unless_elsewhere, place_thread, placing, with_renewed, raise_in, raise_thread, raising}
 use Rattle.spec_protocol.proofs.OnCores.{branch}
 use Rattle.spec_finishing.specs.Rest.{flights_rest}
 use Rattle.spec_finishing.proofs.Flying.{drain-most, deliver-most, retire-most}
 use Rattle.spec_finishing.proofs.PayingMoves.{move_most}
-use Rattle.spec_engine.specs.Flights.{Flight}
 
 abbrev pub if_most : (c : ℕ) → Whole → Option Move → ℕ
 if_most c x None = 0

@@ -1,31 +1,29 @@
 -- What the thread whose turn it is has begun is no more than its replay has left: so what is left is never below 0.
-use Rattle.std.proofs.Common.{◌≡◌, ◌≢◌, ℕ, zero, suc, ◌+◌, ◌-◌, ◌<◌, ◌≤◌, Bool, true, false, eqb, cond, List, [], ◌∷◌, length, Option, Some, None, refl, sym, ap, ◌∙◌, subst, arith}
+use Rattle.std.proofs.Common.{◌≡◌, ℕ, ◌+◌, ◌-◌, ◌≤◌, Bool, true, false, eqb, cond, List, [], Option, Some, None, refl, sym, ap, ◌∙◌, subst, arith}
 use Rattle.std.specs.Prelude.{slice_get}
-use Rattle.std.proofs.lemmas.Bool.{true≢false, and_parts, eqb-true}
+use Rattle.std.proofs.lemmas.Bool.{and_parts, eqb-true}
 use Rattle.std.proofs.lemmas.Option.{none-some}
 use Rattle.dl_entry.specs.declared.Actor.{Actor}
-use Rattle.spec_isa.specs.declared.thread.Parts.{Parts}
 use Rattle.spec_isa.specs.Words.{lays}
 use Rattle.spec_isa.specs.Runs.{Run, run}
 use Rattle.spec_engine.specs.declared.answers.How.{How}
-use Rattle.spec_engine.specs.Flights.{Flight, at, first_slot}
+use Rattle.spec_engine.specs.Flights.{at}
 use Rattle.spec_engine.specs.Chunks.{Chunk, is_open}
 use Rattle.spec_engine.proofs.Searches.{first_some}
-use Rattle.spec_protocol.specs.Spheres.{Book, Role, Replay, Sphere, is_over, is_stopped, limit_of}
+use Rattle.spec_protocol.specs.Spheres.{Role, Replay, Sphere, is_stopped, limit_of}
 use Rattle.spec_protocol.specs.Placing.{replays}
 use Rattle.spec_protocol.specs.World.{World, Held, sphere_at, runs, core_of}
-use Rattle.spec_protocol.specs.Machine.{SphereSetup, Setup}
+use Rattle.spec_protocol.specs.Machine.{Setup}
 use Rattle.spec_protocol.specs.Shown.{flying}
-use Rattle.spec_protocol.specs.Invariants.{Closes, IsGoodHeld, current}
-use Rattle.spec_protocol.specs.Currency.{IsQuiet, IsCurrent}
+use Rattle.spec_protocol.specs.Invariants.{Closes, current}
+use Rattle.spec_protocol.specs.Currency.{IsCurrent}
 use Rattle.spec_protocol.specs.Finishing.{Who, least, standing}
-use Rattle.spec_finishing.specs.Work.{commit_work}
-use Rattle.spec_finishing.specs.Rest.{price, spheres_rest, flights_rest, potential, held_begun, core_begun, actor_begun, who_begun, standing_begun, begun}
+use Rattle.spec_finishing.specs.Rest.{spheres_rest, potential, held_begun, core_begun, actor_begun, who_begun, standing_begun, begun}
 use Rattle.spec_finishing.proofs.Pricing.{price-least}
 use Rattle.spec_finishing.proofs.Affording.{Afforded}
-use Rattle.spec_finishing.proofs.Left.{paid, afford-paid, afford-some}
-use Rattle.spec_finishing.proofs.GoingOn.{GoesOn, has-run, part-afforded}
-use Rattle.spec_finishing.proofs.Rows.{sphere_rest, sphere-least}
+use Rattle.spec_finishing.proofs.Left.{paid, afford-paid}
+use Rattle.spec_finishing.proofs.GoingOn.{has-run, part-afforded}
+use Rattle.spec_finishing.proofs.Rows.{sphere-least}
 use Rattle.spec_finishing.proofs.Paying.{next_work, behind, rest-before}
 use Rattle.spec_finishing.proofs.AnyAsk.{nothing_flies}
 use Rattle.spec_finishing.proofs.Knowing.{Known}

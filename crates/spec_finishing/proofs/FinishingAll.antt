@@ -1,5 +1,5 @@
 -- Finishing ends, within the bound: by what is left, which each event makes less.
-use Rattle.std.proofs.Common.{◌≡◌, ℕ, zero, suc, ◌+◌, ◌*◌, ◌<◌, ◌≤◌, List, [], ◌∷◌, ◌++◌, length, Option, Some, None, refl, sym, ap, ◌∙◌, subst, arith}
+use Rattle.std.proofs.Common.{◌≡◌, ℕ, zero, suc, ◌<◌, ◌≤◌, List, [], ◌∷◌, ◌++◌, length, Option, Some, None, refl, ap, subst, arith}
 use Rattle.spec_protocol.specs.declared.event.Event.{Event}
 use Rattle.spec_protocol.specs.World.{World}
 use Rattle.spec_protocol.specs.Machine.{Setup, world_of, happens, world_after}
@@ -7,12 +7,12 @@ use Rattle.spec_protocol.specs.Finishing.{next, Finishes}
 use Rattle.spec_protocol.specs.Promises.{after}
 use Rattle.spec_replay.specs.Promises.{ReplaysArePlays}
 use Rattle.spec_replay.proofs.Replays.{replays_follow}
-use Rattle.spec_finishing.specs.Rest.{potential, begun, rest}
-use Rattle.spec_finishing.specs.Ending.{work, Falls, IsFinished, CanFinish, Ends, FinishingEnds}
+use Rattle.spec_finishing.specs.Rest.{rest}
+use Rattle.spec_finishing.specs.Ending.{Falls, IsFinished, CanFinish, FinishingEnds}
 use Rattle.spec_finishing.proofs.Knowing.{Known, known-after, after-event}
 use Rattle.spec_finishing.proofs.Bounding.{potential-bounded}
 use Rattle.spec_finishing.proofs.Begun.{begun-most}
-use Rattle.spec_finishing.proofs.NextEvents.{Falls1}
+use Rattle.spec_finishing.proofs.NextEvents.{Lowers}
 use Rattle.spec_finishing.proofs.NextOfAll.{Goes, next-falls, next-none}
 
 -- events that finish a world, no more than what is left there
@@ -36,7 +36,7 @@ ended : (s : Setup) (w : World) → Known s w → next w ≡ None → Finishing 
 ended s w known none =
     record { events = []; finishes = none; few = omega arith; falls = begun-most s w known; finished = next-none w none }
 
-one_more : (s : Setup) (w : World) (e : Event) → Known s w → next w ≡ Some e → Falls1 s w e → Finishing s (happens w e).world → Finishing s w
+one_more : (s : Setup) (w : World) (e : Event) → Known s w → next w ≡ Some e → Lowers s w e → Finishing s (happens w e).world → Finishing s w
 one_more s w e known is falls f =
     record {
       events = e ∷ f.events;
@@ -63,5 +63,13 @@ finishing plays s can (suc n) es few =
 pub finishing_all : FinishingEnds
 finishing_all s es can =
     let f = finishing replays_follow s can (rest s (after s es)) es (omega arith) in
-    let bound = potential-bounded replays_follow s es can in
-    (f.events, record { finishes = f.finishes; few = (let l = f.few in omega (arith, l, bound)); falls = f.falls; finished = f.finished })
+    let bound = potential-bounded replays_follow s es can in (
+      f.events,
+      record {
+        finishes = f.finishes;
+        falls = f.falls;
+        first = omega (arith, bound);
+        few = (let l = f.few in omega (arith, l, bound));
+        finished = f.finished;
+      },
+    )

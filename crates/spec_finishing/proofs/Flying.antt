@@ -1,23 +1,17 @@
 -- Events of flights make less of what is left: always no more, and less where they are the next events of finishing.
-use Rattle.std.proofs.Common.{◌≡◌, ℕ, zero, suc, ◌+◌, ◌<◌, ◌≤◌, ◌%◌, inl, inr, Bool, true, false, cond, List, [], ◌∷◌, length, Option, Some, None, refl, sym, ap, ◌∙◌, subst, arith, set}
-use Rattle.std.proofs.lemmas.Bool.{true≢false, cases_eq, cases_lt, and_from}
-use Rattle.std.proofs.lemmas.Option.{none-some}
+use Rattle.std.proofs.Common.{◌≡◌, ℕ, zero, suc, ◌≤◌, cond, List, [], ◌∷◌, length, Option, Some, None, refl, ap, arith, set}
 use Rattle.spec_isa.specs.Words.{Stored}
 use Rattle.spec_engine.specs.declared.answers.Deliver.{Deliver}
 use Rattle.spec_engine.specs.declared.answers.Retire.{Retire}
 use Rattle.spec_engine.specs.Signatures.{Marks}
-use Rattle.spec_engine.specs.Flights.{Flight, at, told_at, all_told, tell, meets_chunk, drain_words, drain, deliver, Delivered, is_done, retire, Retired}
-use Rattle.spec_engine.proofs.Searches.{all_told-from}
-use Rattle.spec_protocol.specs.declared.event.Event.{Event}
+use Rattle.spec_engine.specs.Flights.{Flight, at, told_at, tell, meets_chunk, drain_words, deliver, Delivered, is_done, retire, Retired}
 use Rattle.spec_protocol.specs.declared.reply.Reply.{Reply}
-use Rattle.spec_protocol.specs.World.{World, Held, After, sphere_at, with_memory, with_core, with_slot, still, went_on}
-use Rattle.spec_protocol.specs.Flying.{reply_of_drain, drain_slot, draining, reads_of, writes_of, squashed, told, deliver_to, delivering, reply_of_retire, retiring}
-use Rattle.spec_protocol.specs.Finishing.{untold, deliver_or_retire, for_flight}
+use Rattle.spec_protocol.specs.World.{World, Held, After, sphere_at, with_slot, still}
+use Rattle.spec_protocol.specs.Flying.{drain_slot, draining, reads_of, writes_of, told, deliver_to, delivering, retiring}
 use Rattle.spec_protocol.proofs.Slots.{at_within}
 use Rattle.spec_protocol.proofs.OnCores.{branch}
-use Rattle.spec_finishing.specs.Rest.{untold_cores, flight_rest, flights_rest}
-use Rattle.spec_finishing.specs.Ending.{is_done as is_good}
-use Rattle.spec_finishing.proofs.Slots.{flights-set, untold-tell, untold-less}
+use Rattle.spec_finishing.specs.Rest.{flight_rest, flights_rest}
+use Rattle.spec_finishing.proofs.Slots.{flights-set, untold-less}
 
 -- ---- no more
 

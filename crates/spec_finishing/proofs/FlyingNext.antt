@@ -1,20 +1,17 @@
 -- Where a flight stands, the next event of finishing is done and makes less of what is left of the flights.
 use Rattle.std.proofs.Common.{◌≡◌, ℕ, zero, suc, ◌+◌, ◌<◌, ◌≤◌, inl, inr, Bool, true, false, cond, List, [], ◌∷◌, length, Option, Some, None, refl, sym, ap, ◌∙◌, subst, arith, set}
-use Rattle.std.proofs.lemmas.Bool.{true≢false, cases_eq, cases_lt, and_from}
+use Rattle.std.proofs.lemmas.Bool.{cases_eq, and_from}
 use Rattle.std.proofs.lemmas.Option.{none-some}
 use Rattle.spec_isa.specs.Words.{Stored}
 use Rattle.spec_engine.specs.declared.answers.Deliver.{Deliver}
 use Rattle.spec_engine.specs.declared.answers.Retire.{Retire}
-use Rattle.spec_engine.specs.Signatures.{Marks}
 use Rattle.spec_engine.specs.Flights.{Flight, at, told_at, all_told, tell, meets_chunk, has_none, deliver, Delivered, is_done, retire, Retired}
 use Rattle.spec_engine.proofs.Searches.{all_told-from}
-use Rattle.spec_protocol.specs.declared.reply.Reply.{Reply}
-use Rattle.spec_protocol.specs.World.{World, Held, After, sphere_at, with_memory, with_core, with_slot, went_on}
-use Rattle.spec_protocol.specs.Flying.{reply_of_drain, drain_slot, draining, reads_of, writes_of, told, deliver_to, delivering, reply_of_retire, retiring}
+use Rattle.spec_protocol.specs.World.{World, Held, After, with_slot, went_on}
+use Rattle.spec_protocol.specs.Flying.{drain_slot, draining, reads_of, writes_of, told, deliver_to, delivering, reply_of_retire, retiring}
 use Rattle.spec_protocol.specs.Finishing.{untold}
 use Rattle.spec_protocol.proofs.Slots.{at_within}
-use Rattle.spec_protocol.proofs.OnCores.{branch}
-use Rattle.spec_finishing.specs.Rest.{untold_cores, flight_rest, flights_rest}
+use Rattle.spec_finishing.specs.Rest.{flight_rest, flights_rest}
 use Rattle.spec_finishing.specs.Ending.{is_done as is_good}
 use Rattle.spec_finishing.proofs.Slots.{flights-set, untold-tell}
 use Rattle.spec_finishing.proofs.Flying.{told_world}

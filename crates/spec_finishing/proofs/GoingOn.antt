@@ -1,13 +1,12 @@
 -- A replay that goes on, beside its play: whose turn it is, and what its thread has run.
-use Rattle.std.proofs.Common.{◌≡◌, ℕ, zero, suc, ◌+◌, ◌-◌, ◌<◌, ◌≤◌, inl, inr, Bool, true, false, eqb, cond, List, [], ◌∷◌, length, Option, Some, None, refl, sym, ap, ◌∙◌, subst, arith, set}
-use Rattle.std.specs.Prelude.{slice_get, max}
+use Rattle.std.proofs.Common.{◌≡◌, ℕ, ◌<◌, ◌≤◌, inl, inr, true, false, eqb, cond, List, Some, None, refl, sym, ap, ◌∙◌, subst, set}
+use Rattle.std.specs.Prelude.{slice_get}
 use Rattle.std.proofs.lemmas.Bool.{true≢false, eqb-true}
 use Rattle.std.proofs.lemmas.Option.{none-some}
 use Rattle.dl_entry.specs.declared.Actor.{Actor}
-use Rattle.dl_entry.specs.declared.End.{End}
 use Rattle.spec_isa.specs.declared.thread.Parts.{Parts}
 use Rattle.spec_isa.specs.Words.{lays}
-use Rattle.spec_isa.specs.Runs.{Run, run}
+use Rattle.spec_isa.specs.Runs.{run}
 use Rattle.spec_kernel.specs.Interrupts.{is_live}
 use Rattle.spec_log.specs.declared.LogParts.{LogParts}
 use Rattle.spec_play.specs.Progress.{position}
@@ -18,7 +17,7 @@ use Rattle.spec_protocol.specs.Machine.{SphereSetup}
 use Rattle.spec_protocol.specs.Asking.{other_turn}
 use Rattle.spec_protocol.specs.Transferring.{not_of_dma, turn_before_dma}
 use Rattle.spec_protocol.proofs.Moving.{get-set_same}
-use Rattle.spec_replay.specs.Following.{IsWhole, IsMovedOn, StandsAt, EndsWithin, Follows}
+use Rattle.spec_replay.specs.Following.{IsWhole, StandsAt, Follows}
 use Rattle.spec_finishing.specs.Work.{commit_work}
 use Rattle.spec_finishing.proofs.Affording.{Afforded, afforded, part-limit}
 use Rattle.spec_finishing.proofs.Left.{plays-ahead}

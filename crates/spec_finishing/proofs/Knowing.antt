@@ -1,5 +1,5 @@
 -- What is known of every world of a run: that it is good, its sizes, and that its replays stand beside their plays.
-use Rattle.std.proofs.Common.{◌≡◌, ℕ, zero, suc, ◌+◌, ◌<◌, ◌≤◌, inl, inr, Bool, true, false, List, [], ◌∷◌, ◌++◌, length, Option, Some, None, refl, sym, ap, ◌∙◌, subst, arith}
+use Rattle.std.proofs.Common.{◌≡◌, ℕ, zero, suc, ◌<◌, true, false, List, [], ◌∷◌, ◌++◌, length, Option, Some, refl, sym, ap, ◌∙◌, subst, arith}
 use Rattle.std.specs.Prelude.{slice_get}
 use Rattle.std.proofs.lemmas.Bool.{true≢false}
 use Rattle.std.proofs.lemmas.Option.{none-some}
@@ -9,14 +9,13 @@ use Rattle.spec_protocol.specs.declared.event.Event.{Event}
 use Rattle.spec_protocol.specs.Spheres.{Book, Replay, Sphere, is_over}
 use Rattle.spec_protocol.specs.Placing.{replays}
 use Rattle.spec_protocol.specs.World.{World}
-use Rattle.spec_protocol.specs.Machine.{RoleSetup, IsPlain, IsRecorded, IsReplayed, SphereSetup, Setup, world_of, happens, world_after, moves, sphere_of}
+use Rattle.spec_protocol.specs.Machine.{RoleSetup, IsPlain, IsRecorded, IsReplayed, SphereSetup, Setup, world_of, happens, world_after, moves}
 use Rattle.spec_protocol.specs.Serial.{Whole, whole_of}
-use Rattle.spec_protocol.specs.Shown.{shown, shown_from, shown_of}
+use Rattle.spec_protocol.specs.Shown.{shown_from, shown_of}
 use Rattle.spec_protocol.specs.Invariants.{IsGood}
-use Rattle.spec_protocol.specs.Moves.{do_moves}
 use Rattle.spec_protocol.specs.Promises.{IsSetup, after, AreSizesKept}
 use Rattle.spec_protocol.proofs.Schedules.{start-good, after-good, sizes_kept, moves_are}
-use Rattle.spec_replay.specs.Promises.{IsReplay, ReplaysArePlays}
+use Rattle.spec_replay.specs.Promises.{ReplaysArePlays}
 use Rattle.spec_finishing.specs.Ending.{CanFinish}
 use Rattle.spec_finishing.proofs.GoingOn.{GoesOn, goes-on}
 use Rattle.spec_finishing.proofs.KindsKept.{is_replayed, AreOfKinds, kind-at, start-kinds, moves-kinds}

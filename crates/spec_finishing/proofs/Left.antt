@@ -1,8 +1,7 @@
 -- What a replay has left of its play, and how a commit or a piece pays for its events.
-use Rattle.std.proofs.Common.{◌≡◌, ℕ, zero, suc, ◌+◌, ◌-◌, ◌*◌, ◌<◌, ◌≤◌, ◌⊎◌, inl, inr, Bool, true, false, cond, List, [], ◌∷◌, ◌++◌, length, Option, Some, None, refl, sym, ap, ◌∙◌, subst, arith}
+use Rattle.std.proofs.Common.{◌≡◌, ℕ, zero, suc, ◌+◌, ◌-◌, ◌<◌, ◌≤◌, ◌⊎◌, inl, inr, Bool, true, false, cond, List, Option, Some, None, refl, sym, ap, ◌∙◌, arith}
 use Rattle.std.specs.Prelude.{slice_get}
-use Rattle.std.proofs.lemmas.Bool.{true≢false, cases_lt, lt-ltb, le-ltb}
-use Rattle.std.proofs.lemmas.List.{length-append}
+use Rattle.std.proofs.lemmas.Bool.{true≢false, cases_lt, le-ltb}
 use Rattle.spec_isa.specs.declared.thread.Parts.{Parts}
 use Rattle.spec_log.specs.declared.LogParts.{LogParts}
 use Rattle.spec_play.specs.Progress.{Progress, position, Used}
@@ -11,13 +10,12 @@ use Rattle.spec_play.specs.Verdicts.{Verdict, Goes, Fails}
 use Rattle.spec_play.specs.Transfers.{DmaVerdict, DmaGoes, DmaFails, dma_verdict}
 use Rattle.spec_play.specs.Plays.{Played, opened, settled, thread_verdict, play_thread, dma_settled, play_now, play_one, plays}
 use Rattle.spec_kernel.specs.Needs.{next_kind}
-use Rattle.spec_protocol.specs.Spheres.{Book, Role, Replay, Sphere, is_over}
+use Rattle.spec_protocol.specs.Spheres.{Book, is_over}
 use Rattle.spec_protocol.specs.Commits.{turned}
 use Rattle.spec_protocol.specs.Machine.{SphereSetup}
-use Rattle.spec_protocol.proofs.OnCores.{branch}
 use Rattle.spec_finishing.specs.Work.{commit_work, commits_work}
 use Rattle.spec_finishing.specs.Rest.{play_left, replay_left, price}
-use Rattle.spec_finishing.proofs.Pricing.{price-none, price-more, price-sum, price-least, price-most}
+use Rattle.spec_finishing.proofs.Pricing.{price-sum, price-least, price-most}
 use Rattle.spec_finishing.proofs.Affording.{Afforded, Enough, Lone}
 
 -- ---- a play that goes on has commits before it

@@ -1,8 +1,6 @@
 -- Where no flight stands and it is an actor's turn, its commit is done: a closed chunk's ask, or a DMA.
-use Rattle.std.proofs.Common.{◌≡◌, ◌≢◌, ℕ, zero, suc, ◌+◌, ◌<◌, ◌≤◌, Bool, true, false, eqb, cond, List, [], ◌∷◌, length, Option, Some, None, refl, sym, ap, ◌∙◌, subst, arith}
-use Rattle.std.specs.Prelude.{slice_get}
+use Rattle.std.proofs.Common.{◌≡◌, ℕ, ◌+◌, ◌<◌, ◌≤◌, Bool, true, false, eqb, cond, List, length, Option, Some, None, refl, sym, ap, ◌∙◌, subst, arith}
 use Rattle.std.proofs.lemmas.Bool.{true≢false, and_parts, eqb-true, eq-eqb}
-use Rattle.std.proofs.lemmas.Option.{none-some}
 use Rattle.dl_entry.specs.declared.Actor.{Actor}
 use Rattle.spec_engine.specs.declared.answers.How.{How}
 use Rattle.spec_engine.specs.Signatures.{Marks, nothing, signed}
@@ -10,11 +8,11 @@ use Rattle.spec_engine.specs.Flights.{Flight, at, is_none, free_slot, is_full, f
 use Rattle.spec_engine.specs.Chunks.{is_serial, is_empty_serial}
 use Rattle.spec_engine.specs.Asking.{ask, ask_serial, denied_by, busy_by}
 use Rattle.spec_engine.proofs.Searches.{full_at}
-use Rattle.spec_play.specs.Transfers.{DmaVerdict, DmaGoes, DmaFails, dma_verdict}
+use Rattle.spec_play.specs.Transfers.{dma_verdict}
 use Rattle.spec_protocol.specs.declared.reply.Reply.{Reply}
-use Rattle.spec_protocol.specs.Spheres.{Book, Role, Replay, Sphere, is_stopped, actor_of, head_in, head_of, is_in_pieces}
+use Rattle.spec_protocol.specs.Spheres.{Book, Role, Replay, Sphere, is_stopped, actor_of, head_in, head_of}
 use Rattle.spec_protocol.specs.Commits.{Outcome, Granted, Piece, Diverged, Moved, is_piece, chunk_moved, serial_moved, dma_by_verdict, dma_in, dma_moved}
-use Rattle.spec_protocol.specs.World.{World, Held, Move, After, moment, sphere_at, OfChunk, OfSerial, OfDma, still}
+use Rattle.spec_protocol.specs.World.{World, Held, Move, After, moment, sphere_at, still}
 use Rattle.spec_protocol.specs.Asking.{Request, move_at, granted, chunk_request, grant_chunk, serial_request, grant_serial, unless_denied, unless_busy, asks_serial, ask_arbiter, other_turn, unless_turn, ask_closed, ask_held, asking}
 use Rattle.spec_protocol.specs.Transferring.{dma_move, dma_done, transfer, dma_with, dma_if, not_of_dma, turn_before_dma, transferring}
 use Rattle.spec_protocol.specs.Machine.{Setup}

@@ -1,33 +1,30 @@
 -- Where no flight stands and it is a thread's turn, placing it or stepping its chunk makes less of what is left.
-use Rattle.std.proofs.Common.{◌≡◌, ◌≢◌, ℕ, zero, suc, ◌+◌, ◌-◌, ◌<◌, ◌≤◌, Bool, true, false, eqb, cond, List, [], ◌∷◌, length, Option, Some, None, refl, sym, ap, ◌∙◌, subst, arith, set}
+use Rattle.std.proofs.Common.{◌≡◌, ℕ, suc, ◌<◌, Bool, true, false, eqb, cond, List, length, Option, Some, None, refl, sym, ap, ◌∙◌, subst, arith, set}
 use Rattle.std.specs.Prelude.{slice_get}
 use Rattle.std.proofs.Math.ListN.{length-set}
-use Rattle.std.proofs.lemmas.Bool.{true≢false, and_from, eq-eqb}
-use Rattle.std.proofs.lemmas.Option.{none-some}
+use Rattle.std.proofs.lemmas.Bool.{and_from, eq-eqb}
 use Rattle.dl_entry.specs.declared.Actor.{Actor}
 use Rattle.spec_isa.specs.declared.thread.Parts.{Parts}
 use Rattle.spec_isa.specs.Runs.{run}
 use Rattle.spec_kernel.specs.Interrupts.{lives, is_live}
-use Rattle.spec_engine.specs.Flights.{Flight, at, passes, first_slot}
-use Rattle.spec_engine.specs.Chunks.{Chunk, Stepping, step, is_open, fresh}
-use Rattle.spec_engine.proofs.Searches.{first_none, first_least, first_is}
-use Rattle.spec_protocol.specs.declared.event.Event.{Event}
+use Rattle.spec_engine.specs.Flights.{at, passes, first_slot}
+use Rattle.spec_engine.specs.Chunks.{step, is_open, fresh}
+use Rattle.spec_engine.proofs.Searches.{first_least, first_is}
 use Rattle.spec_protocol.specs.declared.reply.Reply.{Reply}
 use Rattle.spec_protocol.specs.Spheres.{Sphere, is_stopped, limit_of, halves}
 use Rattle.spec_protocol.specs.World.{World, Held, After, sphere_at, with_core, begun_thread, begun as chunk_at, runs, core_of, still, went_on}
-use Rattle.spec_protocol.specs.Stepping.{stepped, step_held, stepping, with_chunk, reply_of_step}
+use Rattle.spec_protocol.specs.Stepping.{stepped, step_held, stepping}
 use Rattle.spec_protocol.specs.Placing.{unless_elsewhere, place_thread, placing}
-use Rattle.spec_protocol.specs.Machine.{Setup, kept}
-use Rattle.spec_protocol.specs.Finishing.{Who, least, standing}
+use Rattle.spec_protocol.specs.Machine.{Setup}
+use Rattle.spec_protocol.specs.Finishing.{standing}
 use Rattle.spec_protocol.proofs.Slots.{at-set_same, at-set_other, at_within}
-use Rattle.spec_finishing.specs.Rest.{potential, held_begun, core_begun, begun}
+use Rattle.spec_finishing.specs.Rest.{held_begun}
 use Rattle.spec_finishing.specs.Ending.{is_done}
 use Rattle.spec_finishing.proofs.Runs.{run-status}
-use Rattle.spec_finishing.proofs.GoingOn.{play_of, HasRun, has-run, thread-now}
-use Rattle.spec_finishing.proofs.Knowing.{Known}
-use Rattle.spec_finishing.proofs.Turns.{no-flight, HasActor, has-actor, turn-of}
-use Rattle.spec_finishing.proofs.Begun.{OnCore, on-core, begun-actor}
-use Rattle.spec_finishing.proofs.StepRises.{Rises, step-rises}
+use Rattle.spec_finishing.proofs.GoingOn.{play_of, has-run, thread-now}
+use Rattle.spec_finishing.proofs.Turns.{no-flight, HasActor, turn-of}
+use Rattle.spec_finishing.proofs.Begun.{OnCore}
+use Rattle.spec_finishing.proofs.StepRises.{step-rises}
 
 -- ---- the core of the thread
 

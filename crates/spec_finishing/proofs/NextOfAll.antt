@@ -1,5 +1,5 @@
 -- Whatever the next event of finishing is, it is done and makes less of what is left; and without one all is finished.
-use Rattle.std.proofs.Common.{◌≡◌, ◌≢◌, ℕ, zero, suc, ◌+◌, ◌-◌, ◌%◌, ◌<◌, ◌≤◌, Bool, true, false, cond, List, [], ◌∷◌, length, Option, Some, None, refl, sym, ap, ◌∙◌, subst, arith}
+use Rattle.std.proofs.Common.{◌≡◌, ℕ, ◌+◌, ◌<◌, ◌≤◌, Bool, true, false, cond, length, Option, Some, None, refl, sym, ap, ◌∙◌, subst, arith}
 use Rattle.std.specs.Prelude.{slice_get}
 use Rattle.std.proofs.Math.Nat.{mod-eq_of_lt}
 use Rattle.std.proofs.lemmas.Bool.{true≢false}
@@ -10,8 +10,7 @@ use Rattle.spec_engine.specs.Flights.{Flight, at}
 use Rattle.spec_engine.specs.Chunks.{Chunk, is_open}
 use Rattle.spec_engine.proofs.Searches.{first_some}
 use Rattle.spec_protocol.specs.declared.event.Event.{Event}
-use Rattle.spec_protocol.specs.Spheres.{Sphere}
-use Rattle.spec_protocol.specs.World.{World, Held, Move, core_of}
+use Rattle.spec_protocol.specs.World.{World, Held, core_of}
 use Rattle.spec_protocol.specs.Stepping.{stepping}
 use Rattle.spec_protocol.specs.Asking.{asking}
 use Rattle.spec_protocol.specs.Transferring.{transferring}
@@ -19,16 +18,15 @@ use Rattle.spec_protocol.specs.Machine.{Setup, core_no, sphere_no, act, happens}
 use Rattle.spec_protocol.specs.Shown.{shown_of}
 use Rattle.spec_protocol.specs.Finishing.{Who, least, standing, for_flight, for_held, for_core, for_actor, for_who, for_slot, for_standing, next}
 use Rattle.spec_protocol.proofs.Slots.{at_within}
-use Rattle.spec_finishing.specs.Rest.{potential, held_begun, core_begun, actor_begun, begun, rest}
-use Rattle.spec_finishing.specs.Ending.{is_done, IsFinished}
-use Rattle.spec_finishing.proofs.PayingMoves.{what_more}
+use Rattle.spec_finishing.specs.Rest.{held_begun, core_begun, actor_begun, begun}
+use Rattle.spec_finishing.specs.Ending.{IsFinished}
 use Rattle.spec_finishing.proofs.Knowing.{Known}
 use Rattle.spec_finishing.proofs.Spending.{happens-less}
 use Rattle.spec_finishing.proofs.Turns.{no-flight, least-none, HasActor, has-actor}
-use Rattle.spec_finishing.proofs.Begun.{OnCore, on-core, begun-most, begun-actor}
-use Rattle.spec_finishing.proofs.NextCores.{Rose, StepRose, step-rose}
+use Rattle.spec_finishing.proofs.Begun.{OnCore, on-core, begun-actor}
+use Rattle.spec_finishing.proofs.NextCores.{StepRose, step-rose}
 use Rattle.spec_finishing.proofs.NextCommits.{Commits, ask-commits, dma-commits}
-use Rattle.spec_finishing.proofs.NextEvents.{Falls1, words_fall, rose_falls, place_act}
+use Rattle.spec_finishing.proofs.NextEvents.{Lowers, words_fall, rose_falls, place_act}
 
 -- what is begun on the core of the thread whose turn it is
 begun_on : (w : World) (who : Who) (k c : ℕ) (h : Held) → standing w ≡ None → least 0 w.spheres ≡ Some who → who.actor ≡ Actor.Thread k → core_of w who.sphere k ≡ Some c → at w.cores c ≡ Some h → begun w ≡ held_begun (Some h)
@@ -41,7 +39,7 @@ core_is w c h there = mod-eq_of_lt (at_within w.cores c h there)
 -- ---- Step
 
 step_act : (s : Setup) (w : World) (who : Who) (k c : ℕ) (h : Held) → Known s w → Known s (happens w (Event.Step c)).world → standing w ≡ None → least 0 w.spheres ≡ Some who → who.actor ≡ Actor.Thread k → core_of w who.sphere k ≡ Some c → OnCore w who.sphere k c h → is_open h.chunk ≡ true
-    → Falls1 s w (Event.Step c)
+    → Lowers s w (Event.Step c)
 unfolding act
 step_act s w who k c h known next_known none is thread found on open_ =
     let a : HasActor s w who.sphere (Actor.Thread k) = subst (HasActor s w who.sphere) thread (has-actor s w who known none is) in
@@ -59,7 +57,7 @@ move_is : (w : World) (e : Event) (i n : ℕ) → Commits i n (act w e) → Comm
 unfolding happens
 move_is w e i n c = record { done = c.done; move = c.move; is = c.is; sphere = c.sphere; more = c.more }
 
-commit_falls : (s : Setup) (w : World) (e : Event) (who : Who) (n : ℕ) → Known s w → Known s (happens w e).world → standing w ≡ None → least 0 w.spheres ≡ Some who → Commits who.sphere n (act w e) → begun w ≤ n + 2 → Falls1 s w e
+commit_falls : (s : Setup) (w : World) (e : Event) (who : Who) (n : ℕ) → Known s w → Known s (happens w e).world → standing w ≡ None → least 0 w.spheres ≡ Some who → Commits who.sphere n (act w e) → begun w ≤ n + 2 → Lowers s w e
 commit_falls s w e who n known next_known none is commits few =
     let a = has-actor s w who known none is in
     let c = move_is w e who.sphere n commits in
@@ -79,7 +77,7 @@ closed_is ch e =
     ] e
 
 ask_act : (s : Setup) (w : World) (who : Who) (k c : ℕ) (h : Held) → Known s w → Known s (happens w (Event.Ask c)).world → 0 < s.window → standing w ≡ None → least 0 w.spheres ≡ Some who → who.actor ≡ Actor.Thread k → core_of w who.sphere k ≡ Some c → OnCore w who.sphere k c h → is_open h.chunk ≡ false
-    → Falls1 s w (Event.Ask c)
+    → Lowers s w (Event.Ask c)
 unfolding act
 ask_act s w who k c h known next_known window none is thread found on closed =
     let a : HasActor s w who.sphere (Actor.Thread k) = subst (HasActor s w who.sphere) thread (has-actor s w who known none is) in
@@ -92,7 +90,7 @@ ask_act s w who k c h known next_known window none is thread found on closed =
     let one = one_at_most (is_open h.chunk) in
     commit_falls s w (Event.Ask c) who h.chunk.done.n known next_known none is commits (omega (arith, was, one))
 
-dma_act : (s : Setup) (w : World) (who : Who) → Known s w → Known s (happens w (Event.Dma who.sphere)).world → 0 < s.window → standing w ≡ None → least 0 w.spheres ≡ Some who → who.actor ≡ Actor.Dma → Falls1 s w (Event.Dma who.sphere)
+dma_act : (s : Setup) (w : World) (who : Who) → Known s w → Known s (happens w (Event.Dma who.sphere)).world → 0 < s.window → standing w ≡ None → least 0 w.spheres ≡ Some who → who.actor ≡ Actor.Dma → Lowers s w (Event.Dma who.sphere)
 unfolding act
 dma_act s w who known next_known window none is dma =
     let a : HasActor s w who.sphere Actor.Dma = subst (HasActor s w who.sphere) dma (has-actor s w who known none is) in
@@ -113,37 +111,37 @@ pub record Goes (s : Setup) (w : World) : Type 0 where
   pub cores : 0 < s.cores
   pub window : 0 < s.window
 
-open_falls : (s : Setup) (w : World) (who : Who) (k c : ℕ) (h : Held) (e : Event) (b : Bool) → Goes s w → standing w ≡ None → least 0 w.spheres ≡ Some who → who.actor ≡ Actor.Thread k → core_of w who.sphere k ≡ Some c → OnCore w who.sphere k c h → is_open h.chunk ≡ b → cond b (Event.Step c) (Event.Ask c) ≡ e → Falls1 s w e
-open_falls s w who k c h e true g none is thread found on open_ same = subst (Falls1 s w) same (step_act s w who k c h g.known (g.next_known (Event.Step c)) none is thread found on open_)
-open_falls s w who k c h e false g none is thread found on open_ same = subst (Falls1 s w) same (ask_act s w who k c h g.known (g.next_known (Event.Ask c)) g.window none is thread found on open_)
+open_falls : (s : Setup) (w : World) (who : Who) (k c : ℕ) (h : Held) (e : Event) (b : Bool) → Goes s w → standing w ≡ None → least 0 w.spheres ≡ Some who → who.actor ≡ Actor.Thread k → core_of w who.sphere k ≡ Some c → OnCore w who.sphere k c h → is_open h.chunk ≡ b → cond b (Event.Step c) (Event.Ask c) ≡ e → Lowers s w e
+open_falls s w who k c h e true g none is thread found on open_ same = subst (Lowers s w) same (step_act s w who k c h g.known (g.next_known (Event.Step c)) none is thread found on open_)
+open_falls s w who k c h e false g none is thread found on open_ same = subst (Lowers s w) same (ask_act s w who k c h g.known (g.next_known (Event.Ask c)) g.window none is thread found on open_)
 
-core_falls : (s : Setup) (w : World) (who : Who) (k : ℕ) (e : Event) (o : Option ℕ) → Goes s w → standing w ≡ None → least 0 w.spheres ≡ Some who → who.actor ≡ Actor.Thread k → core_of w who.sphere k ≡ o → for_core w who.sphere k o ≡ Some e → Falls1 s w e
+core_falls : (s : Setup) (w : World) (who : Who) (k : ℕ) (e : Event) (o : Option ℕ) → Goes s w → standing w ≡ None → least 0 w.spheres ≡ Some who → who.actor ≡ Actor.Thread k → core_of w who.sphere k ≡ o → for_core w who.sphere k o ≡ Some e → Lowers s w e
 core_falls s w who k e None g none is thread found same =
     let h : Event.Place 0 who.sphere k ≡ e = cc in
-    subst (Falls1 s w) h (place_act s w who k g.known (g.next_known (Event.Place 0 who.sphere k)) g.cores none is thread found)
+    subst (Lowers s w) h (place_act s w who k g.known (g.next_known (Event.Place 0 who.sphere k)) g.cores none is thread found)
 core_falls s w who k e (Some c) g none is thread found same =
     let on = on-core w who.sphere k c found in
     let h : Some (cond (is_open on.0.chunk) (Event.Step c) (Event.Ask c)) ≡ Some e = sym (ap (for_held c) on.1.there) ∙ same in
     open_falls s w who k c on.0 e (is_open on.0.chunk) g none is thread found on.1 refl (let x : cond (is_open on.0.chunk) (Event.Step c) (Event.Ask c) ≡ e = cc in x)
 
-actor_falls : (s : Setup) (w : World) (who : Who) (e : Event) (actor : Actor) → Goes s w → standing w ≡ None → least 0 w.spheres ≡ Some who → who.actor ≡ actor → for_actor w who.sphere actor ≡ Some e → Falls1 s w e
+actor_falls : (s : Setup) (w : World) (who : Who) (e : Event) (actor : Actor) → Goes s w → standing w ≡ None → least 0 w.spheres ≡ Some who → who.actor ≡ actor → for_actor w who.sphere actor ≡ Some e → Lowers s w e
 actor_falls s w who e Actor.Dma g none is turn same =
     let h : Event.Dma who.sphere ≡ e = cc in
-    subst (Falls1 s w) h (dma_act s w who g.known (g.next_known (Event.Dma who.sphere)) g.window none is turn)
+    subst (Lowers s w) h (dma_act s w who g.known (g.next_known (Event.Dma who.sphere)) g.window none is turn)
 actor_falls s w who e (Actor.Thread k) g none is turn same = core_falls s w who k e (core_of w who.sphere k) g none is turn refl same
 
-who_falls : (s : Setup) (w : World) (e : Event) (o : Option Who) → Goes s w → standing w ≡ None → least 0 w.spheres ≡ o → for_who w o ≡ Some e → Falls1 s w e
+who_falls : (s : Setup) (w : World) (e : Event) (o : Option Who) → Goes s w → standing w ≡ None → least 0 w.spheres ≡ o → for_who w o ≡ Some e → Lowers s w e
 who_falls s w e None g none is same = absurd (none-some e same)
 who_falls s w e (Some who) g none is same = actor_falls s w who e who.actor g none is refl same
 
-standing_falls : (s : Setup) (w : World) (e : Event) (o : Option ℕ) → Goes s w → standing w ≡ o → for_standing w o ≡ Some e → Falls1 s w e
+standing_falls : (s : Setup) (w : World) (e : Event) (o : Option ℕ) → Goes s w → standing w ≡ o → for_standing w o ≡ Some e → Lowers s w e
 standing_falls s w e None g none same = who_falls s w e (least 0 w.spheres) g none refl same
 standing_falls s w e (Some k) g stands same =
     let f = first_some (λ (x : Flight). true) w.slots k stands in
     let h : Some (for_flight (length w.cores) k f.0 f.0.words) ≡ Some e = sym (ap (for_slot w k) f.1) ∙ same in
-    subst (Falls1 s w) (let x : for_flight (length w.cores) k f.0 f.0.words ≡ e = cc in x) (words_fall s w k f.0 f.0.words g.known stands f.1 refl)
+    subst (Lowers s w) (let x : for_flight (length w.cores) k f.0 f.0.words ≡ e = cc in x) (words_fall s w k f.0 f.0.words g.known stands f.1 refl)
 
-pub next-falls : (s : Setup) (w : World) (e : Event) → Goes s w → next w ≡ Some e → Falls1 s w e
+pub next-falls : (s : Setup) (w : World) (e : Event) → Goes s w → next w ≡ Some e → Lowers s w e
 unfolding next
 next-falls s w e g same = standing_falls s w e (standing w) g refl same
 

@@ -1,36 +1,29 @@
 -- A commit or a piece of a replay pays, with what its play has left less, for a new flight and for the events behind it.
-use Rattle.std.proofs.Common.{◌≡◌, ◌≢◌, ℕ, zero, suc, ◌+◌, ◌-◌, ◌<◌, ◌≤◌, inl, inr, Bool, true, false, ltb, List, [], ◌∷◌, ◌++◌, length, Option, Some, None, refl, sym, ap, ◌∙◌, subst, arith, set}
-use Rattle.std.specs.Prelude.{slice_get, IsSome}
-use Rattle.std.proofs.lemmas.Bool.{true≢false, lt-ltb, cases_lt}
-use Rattle.std.proofs.lemmas.Option.{none-some}
+use Rattle.std.proofs.Common.{◌≡◌, ◌≢◌, ℕ, suc, ◌+◌, ◌-◌, ◌<◌, ◌≤◌, Bool, true, false, [], ◌∷◌, ◌++◌, Some, refl, sym, ap, ◌∙◌, subst, arith}
+use Rattle.std.specs.Prelude.{slice_get}
+use Rattle.std.proofs.lemmas.Bool.{true≢false}
 use Rattle.std.proofs.lemmas.List.{length-append}
 use Rattle.dl_entry.specs.declared.End.{End}
 use Rattle.spec_isa.specs.declared.thread.Parts.{Parts}
-use Rattle.spec_isa.specs.declared.thread.Kind.{Kind}
-use Rattle.spec_isa.specs.Words.{lays}
 use Rattle.spec_isa.specs.Runs.{Run, run}
 use Rattle.spec_kernel.specs.Devices.{Devices}
-use Rattle.spec_kernel.specs.Needs.{next_kind}
-use Rattle.spec_play.specs.Progress.{position, with_effect, with_dma, with_dma_used}
-use Rattle.spec_play.specs.Turns.{Now, Turn, TurnOfDma, Over}
-use Rattle.spec_play.specs.Verdicts.{Verdict, Goes, Fails, chunk_verdict, serial_verdict}
-use Rattle.spec_play.specs.Transfers.{DmaVerdict, DmaGoes, DmaFails, dma_verdict}
+use Rattle.spec_play.specs.Progress.{position, with_effect}
+use Rattle.spec_play.specs.Turns.{Over}
+use Rattle.spec_play.specs.Verdicts.{Verdict, Goes, Fails, chunk_verdict}
 use Rattle.spec_play.specs.Plays.{opened, with_threads}
 use Rattle.spec_engine.specs.declared.answers.How.{How}
-use Rattle.spec_protocol.specs.Spheres.{Book, Role, Replay, Sphere, is_over, is_stopped, is_in_pieces, limit_of}
-use Rattle.spec_protocol.specs.Commits.{Moved, turned, is_piece, joined, by_verdict, replayed_chunk, chunk_in, chunk_moved, serial_in, serial_moved, dma_by_verdict, dma_in, dma_moved}
+use Rattle.spec_protocol.specs.Spheres.{Book, Role, Replay, Sphere, is_over, limit_of}
+use Rattle.spec_protocol.specs.Commits.{turned, is_piece, joined, by_verdict, replayed_chunk, chunk_in, chunk_moved}
 use Rattle.spec_protocol.specs.Placing.{replays}
 use Rattle.spec_protocol.specs.World.{Numbers}
 use Rattle.spec_protocol.specs.Machine.{SphereSetup}
 use Rattle.spec_protocol.specs.Serial.{laid}
-use Rattle.spec_protocol.specs.Moves.{ChunkFits, SerialFits, DmaFits}
-use Rattle.spec_protocol.proofs.Moving.{get-set_same}
-use Rattle.spec_replay.specs.Following.{IsWhole}
-use Rattle.spec_finishing.specs.Work.{stored, dma_stored, thread_work, turn_work, now_work, commit_work}
+use Rattle.spec_protocol.specs.Moves.{ChunkFits}
+use Rattle.spec_finishing.specs.Work.{commit_work}
 use Rattle.spec_finishing.specs.Rest.{replay_left, price}
 use Rattle.spec_finishing.proofs.Affording.{Afforded, Enough, Lone}
-use Rattle.spec_finishing.proofs.Left.{left-over, left-going, left-step, left-turned, later, paid, afford-paid, afford-some, words-paid, whole-pays, piece-pays}
-use Rattle.spec_finishing.proofs.GoingOn.{play_of, GoesOn, HasRun, has-run, is-whole, thread-now, part-afforded, head-turn, dma-turn}
+use Rattle.spec_finishing.proofs.Left.{left-over, left-going, left-step, left-turned, later, paid, afford-paid, afford-some, whole-pays, piece-pays}
+use Rattle.spec_finishing.proofs.GoingOn.{play_of, GoesOn, has-run, part-afforded, head-turn}
 use Rattle.spec_finishing.proofs.Rows.{sphere_rest}
 
 -- ---- before and after

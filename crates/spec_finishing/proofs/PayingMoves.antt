@@ -1,27 +1,26 @@
 -- Every move pays for its flight: in a replay with what its play has left less, else with its own work.
-use Rattle.std.proofs.Common.{◌≡◌, ◌≢◌, ℕ, zero, suc, ◌+◌, ◌<◌, ◌≤◌, inl, inr, Bool, true, false, List, [], ◌∷◌, length, Option, Some, None, refl, sym, ap, ◌∙◌, subst, arith, set}
+use Rattle.std.proofs.Common.{◌≡◌, ℕ, suc, ◌+◌, ◌<◌, ◌≤◌, false, List, length, Option, Some, None, refl, sym, ap, ◌∙◌, arith, set}
 use Rattle.std.specs.Prelude.{slice_get}
-use Rattle.std.proofs.lemmas.Bool.{true≢false}
 use Rattle.spec_isa.specs.declared.thread.Parts.{Parts}
 use Rattle.spec_isa.specs.Runs.{run}
 use Rattle.spec_kernel.specs.Devices.{Devices}
 use Rattle.spec_engine.specs.declared.answers.How.{How}
-use Rattle.spec_protocol.specs.Spheres.{Book, Role, Plain, Record, Replay, Sphere, is_over, is_stopped}
+use Rattle.spec_protocol.specs.Spheres.{Book, Replay, Sphere, is_over, is_stopped}
 use Rattle.spec_protocol.specs.Commits.{Moved, is_piece, chunk_moved, serial_moved, dma_moved, raised}
 use Rattle.spec_protocol.specs.Placing.{replays}
 use Rattle.spec_protocol.specs.World.{Numbers, What, OfChunk, OfSerial, OfDma, OfRaise, Move}
 use Rattle.spec_protocol.specs.Asking.{is_short}
 use Rattle.spec_protocol.specs.Machine.{SphereSetup}
-use Rattle.spec_protocol.specs.Serial.{Whole, laid, do_moved, do_serial, do_dma, do_raise}
-use Rattle.spec_protocol.specs.Moves.{move_chunk, do_what, do_at, do_move, FitsChunk, FitsSerial, DmaFits, FitsRaise, FitsWhat, FitsAt, Fits}
-use Rattle.spec_finishing.specs.Work.{serial_work, dma_work, what_work, role_work, sphere_work, move_work}
+use Rattle.spec_protocol.specs.Serial.{Whole, laid, do_serial, do_dma, do_raise}
+use Rattle.spec_protocol.specs.Moves.{move_chunk, do_what, FitsChunk, FitsSerial}
+use Rattle.spec_finishing.specs.Work.{serial_work, dma_work, what_work}
 use Rattle.spec_finishing.specs.Rest.{price, spheres_rest}
 use Rattle.spec_finishing.proofs.Left.{paid, words-paid}
 use Rattle.spec_finishing.proofs.GoingOn.{GoesOn}
 use Rattle.spec_finishing.proofs.KindsKept.{chunk-kind, serial-kind, DmaKind, dma-kind, raised-kind}
-use Rattle.spec_finishing.proofs.Rows.{sphere_rest, spheres-pay, sphere-live}
+use Rattle.spec_finishing.proofs.Rows.{spheres-pay, sphere-live}
 use Rattle.spec_finishing.proofs.Paying.{chunk-pays}
-use Rattle.spec_finishing.proofs.PayingSerial.{serial-pays, DmaPays, dma-pays}
+use Rattle.spec_finishing.proofs.PayingSerial.{serial-pays, DmaPays}
 
 -- ---- the most that a move's flight has left, with c cores
 

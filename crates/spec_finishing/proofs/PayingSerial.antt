@@ -1,24 +1,21 @@
 -- Serial steps and DMAs of a replay pay, as its chunks do.
-use Rattle.std.proofs.Common.{◌≡◌, ◌≢◌, ℕ, zero, suc, ◌+◌, ◌-◌, ◌<◌, ◌≤◌, inl, inr, Bool, true, false, ltb, List, [], ◌∷◌, ◌++◌, length, Option, Some, None, refl, sym, ap, ◌∙◌, subst, arith, set}
+use Rattle.std.proofs.Common.{◌≡◌, ℕ, zero, suc, ◌+◌, ◌-◌, ◌≤◌, inl, inr, false, List, [], ◌∷◌, length, Option, Some, None, refl, sym, ap, ◌∙◌, subst, arith, set}
 use Rattle.std.specs.Prelude.{slice_get, IsSome}
 use Rattle.std.proofs.lemmas.Bool.{true≢false, lt-ltb, cases_lt}
-use Rattle.std.proofs.lemmas.Option.{none-some}
 use Rattle.std.proofs.lemmas.List.{length-append}
 use Rattle.dl_entry.specs.declared.End.{End}
 use Rattle.spec_isa.specs.declared.thread.Parts.{Parts}
 use Rattle.spec_isa.specs.declared.thread.Kind.{Kind}
-use Rattle.spec_isa.specs.Words.{Stored, lays}
+use Rattle.spec_isa.specs.Words.{lays}
 use Rattle.spec_isa.specs.Runs.{Run, run}
 use Rattle.spec_kernel.specs.Devices.{Devices}
 use Rattle.spec_kernel.specs.Needs.{next_kind}
-use Rattle.spec_log.specs.declared.LogParts.{LogParts}
 use Rattle.spec_play.specs.Effects.{dma_commit}
 use Rattle.spec_play.specs.Progress.{position, with_dma, with_dma_used}
 use Rattle.spec_play.specs.Turns.{TurnOfDma, Over}
 use Rattle.spec_play.specs.Verdicts.{Verdict, Goes, Fails, serial_verdict}
 use Rattle.spec_play.specs.Transfers.{DmaVerdict, DmaGoes, DmaFails, dma_verdict}
-use Rattle.spec_play.specs.Plays.{opened}
-use Rattle.spec_protocol.specs.Spheres.{Book, Role, Replay, Sphere, is_over, is_stopped, is_in_pieces}
+use Rattle.spec_protocol.specs.Spheres.{Book, Role, Replay, Sphere, is_over, is_in_pieces}
 use Rattle.spec_protocol.specs.Commits.{Moved, turned, by_verdict, serial_in, serial_moved, dma_by_verdict, dma_in, dma_moved}
 use Rattle.spec_protocol.specs.Machine.{SphereSetup}
 use Rattle.spec_protocol.specs.Serial.{laid}

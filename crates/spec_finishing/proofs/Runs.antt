@@ -1,14 +1,14 @@
 -- Runs: how many instructions there are, a run that goes on after another one, and a run before a serial instruction.
-use Rattle.std.proofs.Common.{◌≡◌, ℕ, zero, suc, ◌+◌, ◌<◌, ◌≤◌, inl, inr, Option, Some, None, refl, sym, ap, ◌∙◌, subst, arith, List, [], ◌∷◌}
+use Rattle.std.proofs.Common.{◌≡◌, ℕ, zero, suc, ◌+◌, ◌≤◌, inl, inr, Option, Some, None, refl, sym, ap, ◌∙◌, subst, arith, List}
 use Rattle.std.proofs.lemmas.Bool.{cases_lt}
 use Rattle.spec_isa.specs.declared.thread.Parts.{Parts}
 use Rattle.spec_isa.specs.declared.thread.Load.{Load}
 use Rattle.spec_isa.specs.declared.thread.Kind.{Kind}
 use Rattle.spec_isa.specs.declared.plan.Plan.{Plan}
 use Rattle.spec_isa.specs.Planned.{thread_then}
-use Rattle.spec_isa.specs.Words.{Stored, lays, lay, put, Apart}
+use Rattle.spec_isa.specs.Words.{Stored, lays, lay, Apart}
 use Rattle.spec_isa.specs.Instruction.{Outcome, Next, Serial, one, unless, plan_of, next_of}
-use Rattle.spec_isa.specs.Runs.{Run, begun, with_load, with_store, followed, more, run}
+use Rattle.spec_isa.specs.Runs.{Run, begun, with_store, followed, more, run}
 use Rattle.spec_isa.proofs.BufferLaws.{Apart-put, lays_put}
 use Rattle.spec_kernel.specs.Needs.{next_kind, fetched}
 use Rattle.spec_protocol.proofs.Running.{one-outcome, serial_outcome}

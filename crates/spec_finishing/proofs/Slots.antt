@@ -1,9 +1,9 @@
 -- What is left to do of the flights, after a slot has changed, a core was told or a new flight stands.
-use Rattle.std.proofs.Common.{◌≡◌, ◌≢◌, ℕ, zero, suc, ◌+◌, ◌<◌, ◌≤◌, inl, inr, Bool, true, false, cond, List, [], ◌∷◌, length, Option, Some, None, refl, sym, ap, ◌∙◌, subst, arith, set}
-use Rattle.std.proofs.lemmas.Bool.{true≢false, cases_lt, cases_eq}
+use Rattle.std.proofs.Common.{◌≡◌, ℕ, zero, suc, ◌+◌, ◌<◌, ◌≤◌, inl, inr, Bool, true, false, cond, List, [], ◌∷◌, length, Option, Some, None, refl, ap, ◌∙◌, arith, set}
+use Rattle.std.proofs.lemmas.Bool.{cases_eq}
 use Rattle.spec_isa.specs.Words.{Stored}
 use Rattle.spec_engine.specs.Signatures.{Marks}
-use Rattle.spec_engine.specs.Flights.{Flight, at, told_at, tell, has_none, free_slot, fill, fill_at}
+use Rattle.spec_engine.specs.Flights.{Flight, at, told_at, tell, free_slot, fill_at}
 use Rattle.spec_engine.proofs.Searches.{told-tell, told-tell_other, free_slot-within, free_slot-free}
 use Rattle.spec_protocol.specs.World.{flown}
 use Rattle.spec_finishing.specs.Rest.{untold_cores, flight_rest, flights_rest}
@@ -47,12 +47,12 @@ untold-tell (suc n) f c l e =
           let now : cond (told_at (tell f c).told n) 0 1 ≡ 0 = ap {B = ℕ} (λ (d : ℕ). cond (told_at (tell f c).told d) 0 1) same ∙ ap {B = ℕ} (λ (b : Bool). cond b 0 1) (told-tell f c) in
           let r = untold_past n f c (omega arith) in
           omega (arith, was, now, r)
-      )
+          )
       | inr ne ↦ (
           let h = ap {B = ℕ} (λ (b : Bool). cond b 0 1) (told-tell_other f c n ne) in
           let r = untold-tell n f c (omega arith) e in
           omega (arith, h, r)
-      )
+          )
     ]
 
 told_less : (b d : Bool) → (b ≡ true → d ≡ true) → cond d 0 1 ≤ cond b 0 1

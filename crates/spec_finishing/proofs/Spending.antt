@@ -1,29 +1,24 @@
 -- No event makes more of what is left but by its own work, and a move of a replay makes it less.
-use Rattle.std.proofs.Common.{◌≡◌, ℕ, zero, suc, ◌+◌, ◌<◌, ◌≤◌, inl, inr, Bool, true, false, List, [], ◌∷◌, length, Option, Some, None, refl, sym, ap, ◌∙◌, subst, arith}
+use Rattle.std.proofs.Common.{◌≡◌, ℕ, ◌+◌, ◌<◌, ◌≤◌, Option, Some, None, refl, ap, ◌∙◌, subst, arith}
 use Rattle.std.specs.Prelude.{slice_get}
-use Rattle.std.proofs.lemmas.Bool.{cases_lt}
-use Rattle.std.proofs.lemmas.List.{get_or_past}
 use Rattle.std.proofs.lemmas.Option.{none-some}
-use Rattle.spec_kernel.specs.Devices.{Devices}
 use Rattle.spec_protocol.specs.declared.event.Event.{Event}
-use Rattle.spec_protocol.specs.Spheres.{Book, Replay, Sphere, no_sphere, is_stopped}
-use Rattle.spec_protocol.specs.Commits.{Moved, dma_moved}
-use Rattle.spec_protocol.specs.World.{Numbers, World, Move, After, sphere_at}
-use Rattle.spec_protocol.specs.Transferring.{dma_if, transferring}
+use Rattle.spec_protocol.specs.Spheres.{Book, Replay, Sphere}
+use Rattle.spec_protocol.specs.World.{Numbers, World, Move, After}
 use Rattle.spec_protocol.specs.Machine.{Setup, core_no, sphere_no, slot_no, act, happens}
 use Rattle.spec_protocol.specs.Serial.{Whole}
 use Rattle.spec_protocol.specs.Shown.{shown_of}
-use Rattle.spec_protocol.specs.Moves.{do_if, FitsIf, do_move, Fits}
+use Rattle.spec_protocol.specs.Moves.{do_if, FitsIf, Fits}
 use Rattle.spec_protocol.specs.Invariants.{IsGood}
 use Rattle.spec_protocol.proofs.Invariant.{Kept}
 use Rattle.spec_protocol.proofs.Schedules.{happens-kept}
 use Rattle.spec_finishing.specs.Work.{move_work}
-use Rattle.spec_finishing.specs.Rest.{flights_rest, spheres_rest, price, potential}
+use Rattle.spec_finishing.specs.Rest.{spheres_rest, price, potential}
 use Rattle.spec_finishing.proofs.Rows.{spheres-shown}
-use Rattle.spec_finishing.proofs.PayingMoves.{move_most, what_more}
+use Rattle.spec_finishing.proofs.PayingMoves.{what_more}
 use Rattle.spec_finishing.proofs.Standing.{Stands, move-pays, move-pays_more}
 use Rattle.spec_finishing.proofs.Knowing.{Known}
-use Rattle.spec_finishing.proofs.AnyEvent.{if_most, Flies, still_flies, step-flies, cut-flies, drain-flies, deliver-flies, retire-flies, place-flies, raise-flies}
+use Rattle.spec_finishing.proofs.AnyEvent.{if_most, Flies, step-flies, cut-flies, drain-flies, deliver-flies, retire-flies, place-flies, raise-flies}
 use Rattle.spec_finishing.proofs.AnyAsk.{ask-flies, dma-flies}
 
 -- ---- flights

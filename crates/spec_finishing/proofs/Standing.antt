@@ -1,17 +1,17 @@
 -- Each move of a run pays, where every replay that goes on stands beside its play.
-use Rattle.std.proofs.Common.{◌≡◌, ◌≢◌, ℕ, zero, suc, ◌+◌, ◌<◌, ◌≤◌, inl, inr, Bool, true, false, List, [], ◌∷◌, length, Option, Some, None, refl, sym, ap, ◌∙◌, subst, arith, set}
+use Rattle.std.proofs.Common.{◌≡◌, ℕ, ◌+◌, ◌<◌, ◌≤◌, Bool, true, false, List, Option, Some, None, refl, sym, ap, ◌∙◌, arith}
 use Rattle.std.specs.Prelude.{slice_get, IsSome}
 use Rattle.std.proofs.lemmas.Bool.{true≢false}
 use Rattle.std.proofs.lemmas.Option.{none-some}
 use Rattle.spec_isa.specs.declared.thread.Parts.{Parts}
 use Rattle.spec_kernel.specs.Devices.{Devices}
 use Rattle.spec_protocol.specs.Spheres.{Book, Role, Plain, Record, Replay, Sphere, is_over, is_stopped}
-use Rattle.spec_protocol.specs.Commits.{Moved, dma_moved}
+use Rattle.spec_protocol.specs.Commits.{dma_moved}
 use Rattle.spec_protocol.specs.Placing.{replays}
 use Rattle.spec_protocol.specs.World.{Numbers, What, OfChunk, OfSerial, OfDma, OfRaise, Move}
 use Rattle.spec_protocol.specs.Machine.{SphereSetup, Setup}
 use Rattle.spec_protocol.specs.Serial.{Whole}
-use Rattle.spec_protocol.specs.Moves.{do_what, do_at, do_move, FitsRaise, FitsWhat, FitsAt, Fits, DmaFits}
+use Rattle.spec_protocol.specs.Moves.{do_what, do_at, do_move, FitsRaise, FitsWhat, FitsAt, Fits}
 use Rattle.spec_finishing.specs.Work.{what_work, role_work, sphere_work, move_work}
 use Rattle.spec_finishing.specs.Rest.{price, spheres_rest}
 use Rattle.spec_finishing.proofs.GoingOn.{GoesOn}

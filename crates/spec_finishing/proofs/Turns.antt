@@ -1,22 +1,20 @@
 -- Where no flight stands: the replay whose turn it is, which is shown as it is.
-use Rattle.std.proofs.Common.{◌≡◌, ℕ, zero, suc, ◌+◌, ◌<◌, ◌≤◌, inl, inr, Bool, true, false, List, [], ◌∷◌, ◌++◌, length, Option, Some, None, refl, sym, ap, ◌∙◌, subst, arith, get_or}
+use Rattle.std.proofs.Common.{◌≡◌, ℕ, zero, suc, ◌+◌, ◌<◌, true, false, List, [], ◌∷◌, length, Option, Some, None, refl, sym, ap, ◌∙◌, subst, arith, get_or}
 use Rattle.std.specs.Prelude.{slice_get}
 use Rattle.std.proofs.lemmas.Bool.{true≢false}
 use Rattle.std.proofs.lemmas.Option.{none-some}
 use Rattle.dl_entry.specs.declared.Actor.{Actor}
 use Rattle.spec_isa.specs.Words.{lays}
-use Rattle.spec_engine.specs.Flights.{Flight, at, first_slot}
-use Rattle.spec_engine.proofs.Searches.{first_none, first_some}
+use Rattle.spec_engine.specs.Flights.{Flight, at}
+use Rattle.spec_engine.proofs.Searches.{first_none}
 use Rattle.spec_play.specs.Turns.{Now, Turn, TurnOfDma, Over}
 use Rattle.spec_protocol.specs.Spheres.{Book, Role, Plain, Record, Replay, Sphere, no_sphere, is_over, actor_of}
 use Rattle.spec_protocol.specs.World.{World, sphere_at}
 use Rattle.spec_protocol.specs.Machine.{SphereSetup, Setup}
-use Rattle.spec_protocol.specs.Shown.{words_of, flying, shown, shown_from, shown_of}
+use Rattle.spec_protocol.specs.Shown.{flying, shown, shown_from, shown_of}
 use Rattle.spec_protocol.specs.Finishing.{Who, who_in, who_of, least, standing}
-use Rattle.spec_finishing.specs.Rest.{spheres_rest}
 use Rattle.spec_finishing.specs.Ending.{IsAtEnd}
 use Rattle.spec_finishing.proofs.GoingOn.{GoesOn}
-use Rattle.spec_finishing.proofs.Rows.{sphere_rest}
 use Rattle.spec_finishing.proofs.AnyAsk.{nothing_flies}
 use Rattle.spec_finishing.proofs.Knowing.{Known}
 

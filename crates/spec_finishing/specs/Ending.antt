@@ -50,11 +50,13 @@ pub record IsFinished (w : World) : Type 0 where
   pub flights : (k : ℕ) → at w.slots k ≡ None
   pub replays : (i : ℕ) (p : Sphere) → slice_get w.spheres i ≡ Some p → IsAtEnd p.role
 
--- these events finish the world that this schedule leaves, and are no more than so many for each unit of work
+-- these events finish the world that this schedule leaves
 pub record Ends (s : Setup) (es finishing : List Event) : Type 0 where
   pub finishes : Finishes (after s es) finishing
-  pub few : length finishing ≤ (s.cores + 6) * work s es
   pub falls : Falls s (after s es) finishing
+  -- for each unit of the run's work there are as many events at most as there are cores, and six
+  pub first : rest s (after s es) ≤ (s.cores + 6) * work s es
+  pub few : length finishing ≤ (s.cores + 6) * work s es
   pub finished : IsFinished (world_after (after s es) finishing)
 
 -- there are cores, and slots for flights, and the standard size of each log that is replayed is over 0
