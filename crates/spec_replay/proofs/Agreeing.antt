@@ -1,7 +1,5 @@
 -- All replays of one log on one image agree, since each is the log's play.
-use Rattle.std.proofs.Common.{◌≡◌, ℕ, zero, suc, ◌+◌, inl, inr, true, Some, refl, sym, ap, ◌∙◌, subst, arith, set}
-use Rattle.std.specs.Prelude.{◌⊎◌}
-use Rattle.std.proofs.lemmas.Bool.{true≢false}
+use Rattle.std.proofs.Common.{◌≡◌, ℕ, suc, true, Some, sym, ap, ◌∙◌, subst, set}
 use Rattle.dl_entry.specs.declared.End.{End}
 use Rattle.spec_isa.specs.declared.thread.Parts.{Parts}
 use Rattle.spec_isa.specs.Words.{lays}
@@ -9,78 +7,12 @@ use Rattle.spec_isa.specs.Runs.{run}
 use Rattle.spec_log.specs.declared.LogParts.{LogParts}
 use Rattle.spec_play.specs.Progress.{position}
 use Rattle.spec_play.specs.Turns.{Now, Turn, TurnOfDma, Over}
-use Rattle.spec_play.specs.Plays.{Played, opened, play_now, play_one, plays}
-use Rattle.spec_protocol.specs.Spheres.{Book, Replay, Sphere, is_over}
-use Rattle.spec_replay.specs.Following.{IsWhole, IsMovedOn, StandsAt, EndsWithin, Follows}
+use Rattle.spec_play.specs.Plays.{Played, opened, plays}
+use Rattle.spec_protocol.specs.Spheres.{Book, Sphere, is_over}
+use Rattle.spec_replay.specs.Following.{IsWhole, IsMovedOn, StandsAt}
 use Rattle.spec_replay.specs.Promises.{SameState, ends_between, Agree, ReplaysAgree}
-use Rattle.spec_replay.proofs.Ending.{ends-between}
+use Rattle.spec_replay.proofs.Stopping.{IsLast, IsAt, is_at, Reached, last_of, meet, end_between, whole_now}
 use Rattle.spec_replay.proofs.Replays.{replays_follow}
-
--- ---- a play that has ended stays
-
-over_stays : (log : LogParts) (y : Played) (how : End) → y.now ≡ Over how → play_one log y ≡ y
-unfolding play_one
-over_stays log y how e = ap (play_now log y) e
-
-plays_stay : (log : LogParts) (y : Played) (i n : ℕ) (how : End) → (plays log y i).now ≡ Over how → plays log y (n + i) ≡ plays log y i
-plays_stay log y i zero how e = let h : 0 + i ≡ i = omega arith in ap (plays log y) h
-plays_stay log y i (suc n) how e =
-    let h : suc n + i ≡ suc (n + i) = omega arith in
-    ap (plays log y) h ∙ ap (play_one log) (plays_stay log y i n how e) ∙ over_stays log (plays log y i) how e
-
--- ---- the last state of a play, told by a replay that has stopped
-
--- this is how far the play comes
-record IsLast (log : LogParts) (start : Played) (n : ℕ) (p : Sphere) (b : Book) : Type 0 where
-  how : End
-  over : b.now ≡ Over how
-  now : (plays log start n).now ≡ Over how
-  progress : p.progress ≡ (plays log start n).progress
-
-stopped_how : (now : Now) → is_over now ≡ true → (how : End) × (now ≡ Over how)
-stopped_how (Turn k) e = absurd (true≢false (sym e))
-stopped_how TurnOfDma e = absurd (true≢false (sym e))
-stopped_how (Over how) e = (how, refl)
-
-last_with : (log : LogParts) (start : Played) (p : Sphere) (b : Book) (o : (b.now ≡ (plays log start (position p.progress)).now) ⊎ EndsWithin log (plays log start (position p.progress)) b) → is_over b.now ≡ true → p.progress ≡ (plays log start (position p.progress)).progress
-    → IsLast log start (suc (position p.progress)) p b
-last_with log start p b (inl e) stopped same =
-    let y : Played = plays log start (position p.progress) in
-    let h = stopped_how b.now stopped in
-    let stays : play_one log y ≡ y = over_stays log y h.0 (sym e ∙ h.1) in
-    record { how = h.0; over = h.1; now = ap (λ (x : Played). x.now) stays ∙ sym e ∙ h.1; progress = same ∙ ap (λ (x : Played). x.progress) (sym stays) }
-last_with log start p b (inr w) stopped same =
-    let y : Played = plays log start (position p.progress) in
-    record {
-      how = End.Diverged (position y.progress) w.why;
-      over = w.over;
-      now = ap (λ (x : Played). x.now) w.diverges;
-      progress = same ∙ ap (λ (x : Played). x.progress) (sym w.diverges);
-    }
-
--- ---- a replay that stands in the play, by its book
-
-record IsAt (log : LogParts) (y : Played) (p : Sphere) (b : Book) : Type 0 where
-  progress : p.progress ≡ y.progress
-  now : (b.now ≡ y.now) ⊎ EndsWithin log y b
-  state : StandsAt log y y.now p b
-
-is_at : (log : LogParts) (y : Played) (p : Sphere) (b : Book) → p.role ≡ Replay b → Follows log y p → IsAt log y p b
-is_at log y p b role f =
-    let e : f.book ≡ b = (let h : Replay f.book ≡ Replay b = sym f.role ∙ role in cc) in
-    subst (IsAt log y p) e (record { progress = f.progress; now = f.now; state = f.state })
-
-abbrev Reached : LogParts → Played → Sphere → Book → Type 0
-Reached log start p b = IsAt log (plays log start (position p.progress)) p b
-
-last_of : (log : LogParts) (start : Played) (p : Sphere) (b : Book) → Reached log start p b → is_over b.now ≡ true → IsLast log start (suc (position p.progress)) p b
-last_of log start p b k stopped = last_with log start p b k.now stopped k.progress
-
--- the play comes to one last state, from wherever it is looked at
-meet : (log : LogParts) (start : Played) (m n : ℕ) (how other : End) → (plays log start m).now ≡ Over how → (plays log start n).now ≡ Over other → plays log start m ≡ plays log start n
-meet log start m n how other a b =
-    let e : n + m ≡ m + n = omega arith in
-    sym (plays_stay log start m n how a) ∙ ap (plays log start) e ∙ plays_stay log start n m other b
 
 -- ---- states
 
@@ -100,19 +32,6 @@ state_same : (log : LogParts) (y : Played) (now : Now) (p q : Sphere) (b c : Boo
 state_same log y (Turn k) p q b c m n total = moved_same log y k m.0 n.0 p q b c m.1 n.1 total
 state_same log y TurnOfDma p q b c m n total = whole_same y p q b c m n
 state_same log y (Over how) p q b c m n total = whole_same y p q b c m n
-
-same_end : (a b : End) → Over a ≡ Over b → a ≡ b
-same_end a b e = cc
-
--- a replay that has ended between two commits stands where the play has ended
-end_between : (log : LogParts) (y : Played) (b : Book) (how : End) (o : (b.now ≡ y.now) ⊎ EndsWithin log y b) → b.now ≡ Over how → ends_between how ≡ true → y.now ≡ Over how
-end_between log y b how (inl e) is between = sym e ∙ is
-end_between log y b how (inr w) is between =
-    let h : End.Diverged (position y.progress) w.why ≡ how = same_end _ how (sym w.over ∙ is) in
-    ends-between log y w.why w.diverges (ap ends_between h ∙ between) ∙ ap Over h
-
-whole_now : (log : LogParts) (y : Played) (p : Sphere) (b : Book) (how : End) → y.now ≡ Over how → StandsAt log y y.now p b → IsWhole y p b
-whole_now log y p b how e s = subst (λ (now : Now). StandsAt log y now p b) e s
 
 -- ---- the promise
 

@@ -30,7 +30,7 @@ use Rattle.spec_replay.specs.Following.{IsMovedOn, StandsAt, EndsWithin, Follows
 use Rattle.spec_replay.proofs.Standing.{set_here}
 use Rattle.spec_replay.proofs.Judging.{alike_same}
 use Rattle.spec_replay.proofs.Done.{Reaches, Beside, commit-reaches, transfer-reaches}
-use Rattle.spec_replay.proofs.Pieces.{chunk-reaches}
+use Rattle.spec_replay.proofs.LastParts.{chunk-reaches}
 
 -- ---- whose turn it is
 

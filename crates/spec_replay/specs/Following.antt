@@ -21,8 +21,8 @@ pub record IsWhole (y : Played) (p : Sphere) (b : Book) : Type 0 where
   pub total : b.total ≡ 0
   pub loads : b.loads ≡ []
 
--- memory and threads are the play's, moved on by thread k, which is t there, over the instructions of the pieces of its present
--- commit, which has room for one more at least. Nothing else has come between, and the reservation stands
+-- memory and threads are the play's, moved on by thread k, which is t there, over the instructions of the pieces of its
+-- present commit, which has room for one more at least. Nothing else has come between, and the reservation stands
 pub record IsMovedOn (log : LogParts) (y : Played) (k : ℕ) (t : Parts) (p : Sphere) (b : Book) : Type 0 where
   pub is : slice_get y.threads k ≡ Some t
   pub live : is_live t ≡ true
@@ -56,7 +56,7 @@ pub record Follows (log : LogParts) (y : Played) (p : Sphere) : Type 0 where
   -- the same whole commits, with their loads and outputs, the same request, and as much of the log is used
   pub progress : p.progress ≡ y.progress
   pub used : book.used ≡ y.used
-  -- it is the same actor's turn, or both have ended so; or the replay alone, within the play's next commit
+  -- it is the same actor's turn, or both have ended in the same way; or the replay has, within the play's next commit
   pub now : (book.now ≡ y.now) ⊎ EndsWithin log y book
   -- where the play has ended, so has the replay
   pub ended : (how : End) → y.now ≡ Over how → book.now ≡ Over how

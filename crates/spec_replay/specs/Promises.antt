@@ -5,7 +5,7 @@ use Rattle.dl_entry.specs.declared.Why.{Why}
 use Rattle.spec_log.specs.declared.LogParts.{LogParts}
 use Rattle.spec_play.specs.Progress.{position}
 use Rattle.spec_play.specs.Turns.{Over}
-use Rattle.spec_play.specs.Plays.{opened, plays}
+use Rattle.spec_play.specs.Plays.{Played, opened, plays, play}
 use Rattle.spec_protocol.specs.declared.event.Event.{Event}
 use Rattle.spec_protocol.specs.Spheres.{Book, Replay, Sphere, is_over}
 use Rattle.spec_protocol.specs.Machine.{IsReplayed, SphereSetup, Setup}
@@ -30,12 +30,7 @@ ReplaysArePlays =
     (image : SphereSetup) (log : LogParts) (s : Setup) (es : List Event) (i : ℕ) (p : Sphere) → IsReplay image log s es i p
     → Follows log (plays log (opened log image.memory image.entry) (position p.progress)) p
 
--- ---- all replays of one log on one image agree
-
--- the same memory, with the stores of pieces, and the same threads
-pub record SameState (p q : Sphere) : Type 0 where
-  pub memory : p.memory ≡ q.memory
-  pub threads : p.threads ≡ q.threads
+-- ---- a replay that has stopped has done the whole play
 
 -- the reasons that come between two commits: no live thread has the turn, or something of the log is left over
 abbrev pub is_between : Why → Bool
@@ -47,6 +42,26 @@ is_between _ = false
 abbrev pub ends_between : End → Bool
 ends_between (End.Complete commits) = true
 ends_between (End.Diverged commits why) = is_between why
+
+-- it has the play's commits, with their loads and outputs, and the play's end; and its memory and threads, unless it has
+-- ended within a commit, of which pieces may stand
+pub record IsPlayed (y : Played) (p : Sphere) (b : Book) : Type 0 where
+  pub progress : p.progress ≡ y.progress
+  pub now : b.now ≡ y.now
+  pub memory : (how : End) → b.now ≡ Over how → ends_between how ≡ true → p.memory ≡ y.memory
+  pub threads : (how : End) → b.now ≡ Over how → ends_between how ≡ true → p.threads ≡ y.threads
+
+abbrev pub StoppedArePlayed : Type 0
+StoppedArePlayed =
+    (image : SphereSetup) (log : LogParts) (s : Setup) (es : List Event) (i : ℕ) (p : Sphere) (b : Book) → IsReplay image log s es i p → p.role ≡ Replay b → is_over b.now ≡ true
+    → IsPlayed (play log image.memory image.entry) p b
+
+-- ---- all replays of one log on one image agree
+
+-- the same memory, with the stores of pieces, and the same threads
+pub record SameState (p q : Sphere) : Type 0 where
+  pub memory : p.memory ≡ q.memory
+  pub threads : p.threads ≡ q.threads
 
 pub record Agree (p q : Sphere) (b c : Book) : Type 0 where
   -- after as many whole commits these are the same, with their loads and outputs

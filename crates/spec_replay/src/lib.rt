@@ -4,4 +4,4 @@
 
 mod promise;
 
-pub use promise::{replays_agree, replays_are_plays};
+pub use promise::{replays_agree, replays_are_plays, stopped_replays_are_played};

@@ -1,5 +1,5 @@
 //! What is promised of replays. Each promise is a clause of a function that does nothing.
-ghost use Rattle.spec_replay.specs.Promises.{ReplaysAgree, ReplaysArePlays};
+ghost use Rattle.spec_replay.specs.Promises.{ReplaysAgree, ReplaysArePlays, StoppedArePlayed};
 
 /// After every list of events, beside any other spheres and for logs of each mode: a replayed sphere has done whole commits of
 /// its log's play on its image, the same ones with the same loads and outputs, and maybe pieces of the next. Its threads and
@@ -7,6 +7,13 @@ ghost use Rattle.spec_replay.specs.Promises.{ReplaysAgree, ReplaysArePlays};
 /// within the next commit, where that diverges; and it has ended as the play then does.
 pub fn replays_are_plays()
     ensures { ReplaysArePlays }
+{}
+
+/// A replay that has stopped has done all commits of its log's whole play, with their loads and outputs, and has ended in the
+/// same way, for the same reason. Its memory and threads are those of the play, unless it has ended within a commit, of
+/// which pieces may stand.
+pub fn stopped_replays_are_played()
+    ensures { StoppedArePlayed }
 {}
 
 /// Two replays of one log on one image, after any events and whatever differs in cores, buffers, window, signatures, devices
