@@ -1,0 +1,132 @@
+-- What the thread whose turn it is has begun is no more than its replay has left: so what is left is never below 0.
+use Rattle.std.proofs.Common.{◌≡◌, ℕ, ◌+◌, ◌-◌, ◌≤◌, Bool, true, false, eqb, cond, List, [], Option, Some, None, refl, sym, ap, ◌∙◌, subst, arith}
+use Rattle.std.specs.Prelude.{slice_get}
+use Rattle.std.proofs.lemmas.Bool.{and_parts, eqb-true}
+use Rattle.std.proofs.lemmas.Option.{none-some}
+use Rattle.dl_entry.specs.declared.Actor.{Actor}
+use Rattle.spec_isa.specs.Words.{lays}
+use Rattle.spec_isa.specs.Runs.{Run, run}
+use Rattle.spec_engine.specs.declared.answers.How.{How}
+use Rattle.spec_engine.specs.Flights.{at}
+use Rattle.spec_engine.specs.Chunks.{Chunk, is_open}
+use Rattle.spec_engine.proofs.Searches.{first_some}
+use Rattle.spec_protocol.specs.Spheres.{Role, Replay, Sphere, is_stopped, limit_of}
+use Rattle.spec_protocol.specs.Placing.{replays}
+use Rattle.spec_protocol.specs.World.{World, Held, sphere_at, runs, core_of}
+use Rattle.spec_protocol.specs.Machine.{Setup}
+use Rattle.spec_protocol.specs.Shown.{flying}
+use Rattle.spec_protocol.specs.Invariants.{Closes, current}
+use Rattle.spec_protocol.specs.Currency.{IsCurrent}
+use Rattle.spec_protocol.specs.Finishing.{Who, least, standing}
+use Rattle.spec_finishing.specs.Rest.{spheres_rest, potential, held_begun, core_begun, actor_begun, who_begun, standing_begun, begun}
+use Rattle.spec_finishing.proofs.Pricing.{price-least}
+use Rattle.spec_finishing.proofs.Affording.{Afforded}
+use Rattle.spec_finishing.proofs.Left.{paid, afford-paid}
+use Rattle.spec_finishing.proofs.GoingOn.{has-run, part-afforded}
+use Rattle.spec_finishing.proofs.Rows.{sphere-least}
+use Rattle.spec_finishing.proofs.Paying.{next_work, behind, rest-before}
+use Rattle.spec_finishing.proofs.AnyAsk.{nothing_flies}
+use Rattle.spec_finishing.proofs.Knowing.{Known}
+use Rattle.spec_finishing.proofs.Turns.{no-flight, HasActor, has-actor, turn-of}
+
+-- ---- a running chunk
+
+closes_most : (capacity : ℕ) (ch : Chunk) (o : Option How) → ch.closed ≡ o → Closes capacity ch → ch.done.n ≤ ch.limit
+closes_most capacity ch None e closes = let l = closes.opened e in omega (arith, l)
+closes_most capacity ch (Some How.Limit) e closes = let l = closes.full e in omega (arith, l)
+closes_most capacity ch (Some How.Serial) e closes = let l = closes.early How.Serial e (λ h. cc) in omega (arith, l)
+closes_most capacity ch (Some How.Overflow) e closes = let l = closes.early How.Overflow e (λ h. cc) in omega (arith, l)
+closes_most capacity ch (Some How.Cut) e closes = let l = closes.early How.Cut e (λ h. cc) in omega (arith, l)
+
+-- with no flight standing, a chunk is what its instructions do on its sphere's memory
+chunk_ran : (s : Setup) (w : World) (c : ℕ) (h : Held) → Known s w → standing w ≡ None → at w.cores c ≡ Some h → (run (sphere_at w h.chunk.sphere).memory h.chunk.start h.chunk.done.n).n ≡ h.chunk.done.n
+chunk_ran s w c h known none is =
+    let i = h.chunk.sphere in
+    let empty : flying i w.slots ≡ [] = nothing_flies i w.slots (λ k f e. absurd (none-some f (sym (no-flight w none k) ∙ e))) in
+    let live : IsCurrent (current w i) h.chunk = (known.good.held c h is).chunk.live (record { misses = λ k f e same untold. absurd (none-some f (sym (no-flight w none k) ∙ e)) }) in
+    subst (λ (m : List ℕ). (run m h.chunk.start h.chunk.done.n).n ≡ h.chunk.done.n) (ap (lays (sphere_at w i).memory) empty) (ap (λ (r : Run). r.n) live.runs)
+
+held_affords : (s : Setup) (w : World) (c : ℕ) (h : Held) → Known s w → standing w ≡ None → at w.cores c ≡ Some h → (a : HasActor s w h.chunk.sphere (Actor.Thread h.thread)) → Afforded (next_work a.image a.sphere a.book) a.book.total h.chunk.done.n
+held_affords s w c h known none is a =
+    let held = known.good.held c h is in
+    let turn = turn-of s w h.chunk.sphere h.thread a in
+    let t = has-run a.image a.sphere a.book h.thread a.goes turn in
+    let role : (sphere_at w h.chunk.sphere).role ≡ Replay a.book = ap (λ (p : Sphere). p.role) a.at ∙ a.role in
+    let fits = held.limit (ap is_stopped role ∙ a.going) in
+    let limited : h.chunk.limit ≡ limit_of w.numbers.chunk (Replay a.book) h.thread h.chunk.start = fits.replayed (ap replays role) ∙ ap (λ (r : Role). limit_of w.numbers.chunk r h.thread h.chunk.start) role in
+    part-afforded a.image a.sphere a.book h.thread t.0 h.chunk.start w.numbers.chunk h.chunk.done.n turn t.1
+    (sym (ap (λ (p : Sphere). slice_get p.threads h.thread) a.at) ∙ held.start)
+    (subst (λ (p : Sphere). (run p.memory h.chunk.start h.chunk.done.n).n ≡ h.chunk.done.n) a.at (chunk_ran s w c h known none is))
+    (subst (λ (l : ℕ). h.chunk.done.n ≤ l) limited (closes_most w.numbers.buffer h.chunk h.chunk.closed refl held.chunk.closes))
+
+-- what a replay has left pays for its running chunk
+held_paid : (s : Setup) (w : World) (c : ℕ) (h : Held) → Known s w → standing w ≡ None → at w.cores c ≡ Some h → HasActor s w h.chunk.sphere (Actor.Thread h.thread) → paid s.cores h.chunk.done.n ≤ spheres_rest s.cores s.spheres w.spheres
+held_paid s w c h known none is a =
+    let n = h.chunk.done.n in
+    let work = next_work a.image a.sphere a.book in
+    let after = behind a.image a.sphere a.book in
+    let afford = held_affords s w c h known none is a in
+    let enough = afford-paid s.cores work a.book.total n afford in
+    let before = rest-before s.cores a.image a.sphere a.book a.role a.going a.goes in
+    let more = price-least s.cores (work - a.book.total) ((work + after) - a.book.total) (omega arith) in
+    let all = sphere-least s.cores s.spheres w.spheres h.chunk.sphere a.image a.sphere a.starts a.there in
+    omega (arith, enough, before, more, all)
+
+-- ---- the thread's core
+
+pub record OnCore (w : World) (i k c : ℕ) (h : Held) : Type 0 where
+  pub there : at w.cores c ≡ Some h
+  pub sphere : h.chunk.sphere ≡ i
+  pub thread : h.thread ≡ k
+
+pub on-core : (w : World) (i k c : ℕ) → core_of w i k ≡ Some c → (h : Held) × OnCore w i k c h
+on-core w i k c e =
+    let f = first_some (runs i k) w.cores c e in
+    let p = and_parts (eqb f.0.chunk.sphere i) (eqb f.0.thread k) f.2 in
+    (f.0, record { there = f.1; sphere = eqb-true f.0.chunk.sphere i p.0; thread = eqb-true f.0.thread k p.1 })
+
+pub core-paid : (s : Setup) (w : World) (i k c : ℕ) (h : Held) → Known s w → standing w ≡ None → HasActor s w i (Actor.Thread k) → OnCore w i k c h → paid s.cores h.chunk.done.n ≤ spheres_rest s.cores s.spheres w.spheres
+core-paid s w i k c h known none a on =
+    held_paid s w c h known none on.there
+    (subst (λ (j : ℕ). HasActor s w j (Actor.Thread h.thread)) (sym on.sphere) (subst (λ (j : ℕ). HasActor s w i (Actor.Thread j)) (sym on.thread) a))
+
+-- ---- what is begun
+
+one_at_most : (b : Bool) → cond b 0 1 ≤ 1
+one_at_most true = omega arith
+one_at_most false = omega arith
+
+core_most : (s : Setup) (w : World) (i k : ℕ) (o : Option ℕ) → Known s w → standing w ≡ None → HasActor s w i (Actor.Thread k) → core_of w i k ≡ o → core_begun w o ≤ potential s w
+core_most s w i k None known none a e = omega arith
+core_most s w i k (Some c) known none a e =
+    let on = on-core w i k c e in
+    let pays = core-paid s w i k c on.0 known none a on.1 in
+    let is : held_begun (at w.cores c) ≡ held_begun (Some on.0) = ap held_begun on.1.there in
+    let one = one_at_most (is_open on.0.chunk) in
+    omega (arith, pays, is, one)
+
+actor_most : (s : Setup) (w : World) (i : ℕ) (actor : Actor) → Known s w → standing w ≡ None → HasActor s w i actor → actor_begun w i actor ≤ potential s w
+actor_most s w i Actor.Dma known none a = omega arith
+actor_most s w i (Actor.Thread k) known none a = core_most s w i k (core_of w i k) known none a refl
+
+who_most : (s : Setup) (w : World) (o : Option Who) → Known s w → standing w ≡ None → least 0 w.spheres ≡ o → who_begun w o ≤ potential s w
+who_most s w None known none e = omega arith
+who_most s w (Some who) known none e = actor_most s w who.sphere who.actor known none (has-actor s w who known none e)
+
+standing_most : (s : Setup) (w : World) (o : Option ℕ) → Known s w → standing w ≡ o → standing_begun w o ≤ potential s w
+standing_most s w (Some k) known e = omega arith
+standing_most s w None known e = who_most s w (least 0 w.spheres) known e refl
+
+pub begun-most : (s : Setup) (w : World) → Known s w → begun w ≤ potential s w
+unfolding begun
+begun-most s w known = standing_most s w (standing w) known refl
+
+-- ---- how much is begun
+
+pub begun-flight : (w : World) (k : ℕ) → standing w ≡ Some k → begun w ≡ 0
+unfolding begun
+begun-flight w k e = ap (standing_begun w) e
+
+pub begun-actor : (w : World) (who : Who) → standing w ≡ None → least 0 w.spheres ≡ Some who → begun w ≡ actor_begun w who.sphere who.actor
+unfolding begun
+begun-actor w who none e = ap (standing_begun w) none ∙ ap (who_begun w) e

@@ -1,0 +1,89 @@
+-- The work of a run bounds what is left after its schedule.
+use Rattle.std.proofs.Common.{◌≡◌, ℕ, zero, suc, ◌+◌, ◌-◌, ◌*◌, ◌≤◌, List, [], ◌∷◌, ◌++◌, map, replicate, Option, Some, None, refl, sym, ap, ◌∙◌, subst, arith}
+use Rattle.spec_play.specs.Progress.{no_progress, nothing_used}
+use Rattle.spec_play.specs.Plays.{opened}
+use Rattle.spec_protocol.specs.declared.event.Event.{Event}
+use Rattle.spec_protocol.specs.World.{Numbers, World, Move}
+use Rattle.spec_protocol.specs.Commits.{turned}
+use Rattle.spec_protocol.specs.Machine.{RoleSetup, IsPlain, IsRecorded, IsReplayed, SphereSetup, Setup, role_of, sphere_of, world_of, happens, world_after, with_move, moves}
+use Rattle.spec_isa.specs.Threads.{started}
+use Rattle.spec_protocol.specs.Serial.{Whole, whole_of}
+use Rattle.spec_protocol.specs.Shown.{shown_of}
+use Rattle.spec_protocol.specs.Moves.{do_if}
+use Rattle.spec_protocol.specs.Promises.{after}
+use Rattle.spec_protocol.proofs.Schedules.{happens-kept, start-shown}
+use Rattle.spec_replay.specs.Promises.{ReplaysArePlays}
+use Rattle.spec_finishing.specs.Work.{commits_work, setup_work, plays_work, moves_work}
+use Rattle.spec_finishing.specs.Rest.{play_left, replay_left, price, role_rest, flights_rest, spheres_rest, potential}
+use Rattle.spec_finishing.specs.Ending.{work, CanFinish}
+use Rattle.spec_finishing.proofs.Pricing.{price-none, price-sum, price-least}
+use Rattle.spec_finishing.proofs.Left.{left-most}
+use Rattle.spec_finishing.proofs.Knowing.{Known, known-after, after-event}
+use Rattle.spec_finishing.proofs.Spending.{if_work, happens-spends}
+
+-- ---- the start
+
+free_none : (c n : ℕ) → flights_rest c (replicate n None) ≡ 0
+free_none c zero = refl
+free_none c (suc n) = let r = free_none c n in omega (arith, r)
+
+start_role : (c s : ℕ) (image : SphereSetup) (r : RoleSetup) → role_rest c image (sphere_of s image) (role_of s (started image.entry ∷ []) r) ≤ price c (setup_work image r)
+start_role c s image IsPlain = omega arith
+start_role c s image (IsRecorded mode) = omega arith
+start_role c s image (IsReplayed log) =
+    let x = opened log image.memory image.entry in
+    let l = left-most image (turned log no_progress nothing_used (started image.entry ∷ [])) 0 in
+    let none : log.count - 0 ≡ log.count = omega arith in
+    let e : play_left log x 0 0 ≡ commits_work log x 0 log.count - 0 = ap (λ (n : ℕ). commits_work log x 0 n - 0) none in
+    price-least c (replay_left image (turned log no_progress nothing_used (started image.entry ∷ [])) 0) (commits_work log x 0 log.count) (omega (arith, l, e))
+
+start_spheres : (c s : ℕ) (images : List SphereSetup) → spheres_rest c images (map (sphere_of s) images) ≤ price c (plays_work images)
+start_spheres c s [] = let e = price-none c in omega (arith, e)
+start_spheres c s (image ∷ images) =
+    let h = start_role c s image image.role in
+    let r = start_spheres c s images in
+    let e = price-sum c (setup_work image image.role) (plays_work images) in
+    omega (arith, h, r, e)
+
+start_potential : (s : Setup) → potential s (world_of s) ≤ price s.cores (plays_work s.spheres)
+start_potential s =
+    let e = free_none s.cores s.window in let r = start_spheres s.cores s.numbers.chunk s.spheres in omega (arith, e, r)
+
+-- ---- a schedule
+
+with_work : (z : Numbers) (x : Whole) (o : Option Move) (ms : List Move) → moves_work z x (with_move o ms) ≡ if_work x o + moves_work z (do_if z x o) ms
+with_work z x None ms = omega arith
+with_work z x (Some m) ms = refl
+
+-- an event's work, and that of the others
+event_work : (s : Setup) (w : World) (e : Event) (es : List Event) → Known s w → let a = happens w e in moves_work s.numbers (shown_of w) (moves w (e ∷ es)) ≡ if_work (shown_of w) a.move + moves_work s.numbers (shown_of a.world) (moves a.world es)
+event_work s w e es known =
+    let a = happens w e in
+    let kept = happens-kept w e known.good in
+    let x = if_work (shown_of w) a.move in
+    with_work s.numbers (shown_of w) a.move (moves a.world es)
+    ∙ ap (λ (z : Numbers). x + moves_work s.numbers (do_if z (shown_of w) a.move) (moves a.world es)) (sym known.sizes.numbers)
+    ∙ ap (λ (y : Whole). x + moves_work s.numbers y (moves a.world es)) (sym kept.whole)
+
+abbrev Bounded : Setup → World → List Event → Type 0
+Bounded s w es = potential s (world_after w es) ≤ potential s w + price s.cores (moves_work s.numbers (shown_of w) (moves w es))
+
+schedule_bounded : ReplaysArePlays → (s : Setup) → CanFinish s → (before es : List Event) → Bounded s (after s before) es
+schedule_bounded plays s can before [] = omega arith
+schedule_bounded plays s can before (e ∷ es) =
+    let w = after s before in
+    let a = happens w e in
+    let known = known-after plays s before can in
+    let r = subst (λ (v : World). Bounded s v es) (after-event (world_of s) before e) (schedule_bounded plays s can (before ++ e ∷ []) es) in
+    let spends = happens-spends s w e known in
+    let split = ap (price s.cores) (event_work s w e es known) ∙ price-sum s.cores (if_work (shown_of w) a.move) (moves_work s.numbers (shown_of a.world) (moves a.world es)) in
+    omega (arith, r, spends, split)
+
+pub potential-bounded : ReplaysArePlays → (s : Setup) (es : List Event) → CanFinish s → potential s (after s es) ≤ (s.cores + 6) * work s es
+unfolding price
+potential-bounded plays s es can =
+    let r = schedule_bounded plays s can [] es in
+    let start = start_potential s in
+    let same = ap (λ (x : Whole). price s.cores (moves_work s.numbers x (moves (world_of s) es))) (start-shown s) in
+    let sum = price-sum s.cores (plays_work s.spheres) (moves_work s.numbers (whole_of s) (moves (world_of s) es)) in
+    omega (arith, r, start, same, sum)

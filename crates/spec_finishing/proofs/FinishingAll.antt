@@ -1,0 +1,75 @@
+-- Finishing ends, within the bound: by what is left, which each event makes less.
+use Rattle.std.proofs.Common.{◌≡◌, ℕ, zero, suc, ◌<◌, ◌≤◌, List, [], ◌∷◌, ◌++◌, length, Option, Some, None, refl, ap, subst, arith}
+use Rattle.spec_protocol.specs.declared.event.Event.{Event}
+use Rattle.spec_protocol.specs.World.{World}
+use Rattle.spec_protocol.specs.Machine.{Setup, world_of, happens, world_after}
+use Rattle.spec_protocol.specs.Finishing.{next, Finishes}
+use Rattle.spec_protocol.specs.Promises.{after}
+use Rattle.spec_replay.specs.Promises.{ReplaysArePlays}
+use Rattle.spec_replay.proofs.Replays.{replays_follow}
+use Rattle.spec_finishing.specs.Rest.{rest}
+use Rattle.spec_finishing.specs.Ending.{Falls, IsFinished, CanFinish, FinishingEnds}
+use Rattle.spec_finishing.proofs.Knowing.{Known, known-after, after-event}
+use Rattle.spec_finishing.proofs.Bounding.{potential-bounded}
+use Rattle.spec_finishing.proofs.Begun.{begun-most}
+use Rattle.spec_finishing.proofs.NextEvents.{Lowers}
+use Rattle.spec_finishing.proofs.NextOfAll.{Goes, next-falls, next-none}
+
+-- events that finish a world, no more than what is left there
+record Finishing (s : Setup) (w : World) : Type 0 where
+  events : List Event
+  finishes : Finishes w events
+  few : length events ≤ rest s w
+  falls : Falls s w events
+  finished : IsFinished (world_after w events)
+
+goes_after : ReplaysArePlays → (s : Setup) (es : List Event) → CanFinish s → Goes s (after s es)
+goes_after plays s es can =
+    record {
+      known = known-after plays s es can;
+      next_known = λ e. subst (Known s) (after-event (world_of s) es e) (known-after plays s (es ++ e ∷ []) can);
+      cores = can.cores;
+      window = can.window;
+    }
+
+ended : (s : Setup) (w : World) → Known s w → next w ≡ None → Finishing s w
+ended s w known none =
+    record { events = []; finishes = none; few = omega arith; falls = begun-most s w known; finished = next-none w none }
+
+one_more : (s : Setup) (w : World) (e : Event) → Known s w → next w ≡ Some e → Lowers s w e → Finishing s (happens w e).world → Finishing s w
+one_more s w e known is falls f =
+    record {
+      events = e ∷ f.events;
+      finishes = (is, f.finishes);
+      few = (let l = f.few in let m = falls.less in omega (arith, l, m));
+      falls = (begun-most s w known, falls.done, falls.less, f.falls);
+      finished = f.finished;
+    }
+
+finishing_by : (s : Setup) (w : World) (o : Option Event) → Goes s w → next w ≡ o → ((e : Event) → rest s (happens w e).world < rest s w → Finishing s (happens w e).world) → Finishing s w
+finishing_by s w None g none deeper = ended s w g.known none
+finishing_by s w (Some e) g is deeper =
+    let falls = next-falls s w e g is in one_more s w e g.known is falls (deeper e falls.less)
+
+finishing : ReplaysArePlays → (s : Setup) → CanFinish s → (n : ℕ) (es : List Event) → rest s (after s es) ≤ n → Finishing s (after s es)
+finishing plays s can zero es few =
+    finishing_by s (after s es) (next (after s es)) (goes_after plays s es can) refl (λ e less. absurd (omega (arith, less, few)))
+finishing plays s can (suc n) es few =
+    finishing_by s (after s es) (next (after s es)) (goes_after plays s es can) refl
+    (λ e less.
+    let same = after-event (world_of s) es e in
+    subst (Finishing s) same (finishing plays s can n (es ++ e ∷ []) (let h = ap (rest s) same in omega (arith, h, less, few))))
+
+pub finishing_all : FinishingEnds
+finishing_all s es can =
+    let f = finishing replays_follow s can (rest s (after s es)) es (omega arith) in
+    let bound = potential-bounded replays_follow s es can in (
+      f.events,
+      record {
+        finishes = f.finishes;
+        falls = f.falls;
+        first = omega (arith, bound);
+        few = (let l = f.few in omega (arith, l, bound));
+        finished = f.finished;
+      },
+    )

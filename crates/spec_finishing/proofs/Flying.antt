@@ -1,0 +1,85 @@
+-- Events of flights make less of what is left: always no more, and less where they are the next events of finishing.
+use Rattle.std.proofs.Common.{◌≡◌, ℕ, zero, suc, ◌≤◌, cond, List, [], ◌∷◌, length, Option, Some, None, refl, ap, arith, set}
+use Rattle.spec_isa.specs.Words.{Stored}
+use Rattle.spec_engine.specs.declared.answers.Deliver.{Deliver}
+use Rattle.spec_engine.specs.declared.answers.Retire.{Retire}
+use Rattle.spec_engine.specs.Signatures.{Marks}
+use Rattle.spec_engine.specs.Flights.{Flight, at, told_at, tell, meets_chunk, drain_words, deliver, Delivered, is_done, retire, Retired}
+use Rattle.spec_protocol.specs.declared.reply.Reply.{Reply}
+use Rattle.spec_protocol.specs.World.{World, Held, After, sphere_at, with_slot, still}
+use Rattle.spec_protocol.specs.Flying.{drain_slot, draining, reads_of, writes_of, told, deliver_to, delivering, retiring}
+use Rattle.spec_protocol.proofs.Slots.{at_within}
+use Rattle.spec_protocol.proofs.OnCores.{branch}
+use Rattle.spec_finishing.specs.Rest.{flight_rest, flights_rest}
+use Rattle.spec_finishing.proofs.Slots.{flights-set, untold-less}
+
+-- ---- no more
+
+-- the flights have no more left than before
+abbrev pub NoMore : (cores : ℕ) → World → After → Type 0
+NoMore c w a = flights_rest c a.world.slots ≤ flights_rest c w.slots
+
+same_most : (c : ℕ) (w : World) → NoMore c w (still w Reply.Idle)
+same_most c w = omega arith
+
+-- a slot that holds a flight has no more left
+set_most : (c : ℕ) (xs : List (Option Flight)) (k : ℕ) (f : Flight) (v : Option Flight) → at xs k ≡ Some f → flight_rest c v ≤ flight_rest c (Some f) → flights_rest c (set xs k v) ≤ flights_rest c xs
+set_most c xs k f v is less =
+    let r = flights-set c xs k v (at_within xs k f is) in
+    let h = ap (flight_rest c) is in
+    omega (arith, r, h, less)
+
+drained_most : (c : ℕ) (m : List ℕ) (f : Flight) (ws : List Stored) → f.words ≡ ws → flight_rest c (drain_words m f ws).slot ≤ flight_rest c (Some f)
+drained_most c m f [] e = omega arith
+drained_most c m f (w ∷ ws) e = let h = ap (λ (us : List Stored). length us) e in omega (arith, h)
+
+drain_slot_most : (c : ℕ) (w : World) (k : ℕ) (o : Option Flight) → at w.slots k ≡ o → NoMore c w (drain_slot w k o)
+drain_slot_most c w k None e = omega arith
+drain_slot_most c w k (Some f) e =
+    set_most c w.slots k f _ e (drained_most c (sphere_at w f.sphere).memory f f.words refl)
+
+pub drain-most : (c : ℕ) (w : World) (k : ℕ) → NoMore c w (draining w k)
+unfolding draining
+drain-most c w k = drain_slot_most c w k (at w.slots k) refl
+
+set_none : (c : ℕ) (xs : List (Option Flight)) (k : ℕ) → at xs k ≡ None → flights_rest c (set xs k None) ≤ flights_rest c xs
+set_none c [] k e = omega arith
+set_none c (x ∷ xs) zero e = omega arith
+set_none c (x ∷ xs) (suc k) e = let r = set_none c xs k e in omega (arith, r)
+
+pub told_world : (P : List (Option Flight) → Type 0) (w : World) (d : ℕ) (held : Option Held) (reply : Deliver) → P w.slots → P (told w d held reply).world.slots
+told_world P w d held Deliver.NoCommit p = p
+told_world P w d held Deliver.Already p = p
+told_world P w d held Deliver.Squashed p = p
+told_world P w d held Deliver.Delivered p = p
+
+deliver_most : (c d : ℕ) (reads writes : Marks) (xs : List (Option Flight)) (k : ℕ) (o : Option Flight) → at xs k ≡ o → flights_rest c (set xs k (deliver d reads writes o).slot) ≤ flights_rest c xs
+deliver_most c d reads writes xs k None e = set_none c xs k e
+deliver_most c d reads writes xs k (Some f) e =
+    set_most c xs k f _ e
+    (branch (λ (v : Delivered). flight_rest c v.slot ≤ flight_rest c (Some f)) (told_at f.told d) (record { reply = Deliver.Already; slot = Some f })
+    (record { reply = cond (meets_chunk reads writes f) Deliver.Squashed Deliver.Delivered; slot = Some (tell f d) })
+    (λ _. omega arith)
+    (λ _. let h = untold-less c f d in omega (arith, h)))
+
+deliver_to_most : (c : ℕ) (w : World) (d k : ℕ) (held : Option Held) → NoMore c w (deliver_to w d k held)
+deliver_to_most c w d k held =
+    let v = deliver d (reads_of w held) (writes_of w held) (at w.slots k) in
+    told_world (λ xs. flights_rest c xs ≤ flights_rest c w.slots) (with_slot w k v.slot) d held v.reply
+    (deliver_most c d (reads_of w held) (writes_of w held) w.slots k (at w.slots k) refl)
+
+pub deliver-most : (c : ℕ) (w : World) (d k : ℕ) → NoMore c w (delivering w d k)
+unfolding delivering
+deliver-most c w d k = deliver_to_most c w d k (at w.cores d)
+
+retire_set : (c n : ℕ) (xs : List (Option Flight)) (k : ℕ) (o : Option Flight) → at xs k ≡ o → flights_rest c (set xs k (retire n o).slot) ≤ flights_rest c xs
+retire_set c n xs k None e = set_none c xs k e
+retire_set c n xs k (Some f) e =
+    set_most c xs k f _ e
+    (branch (λ (v : Retired). flight_rest c v.slot ≤ flight_rest c (Some f)) (is_done n f) (record { reply = Retire.Retired; slot = None }) (record { reply = Retire.NotDone; slot = Some f })
+    (λ _. omega arith)
+    (λ _. omega arith))
+
+pub retire-most : (c : ℕ) (w : World) (k : ℕ) → NoMore c w (retiring w k)
+unfolding retiring
+retire-most c w k = retire_set c (length w.cores) w.slots k (at w.slots k) refl

@@ -1,0 +1,154 @@
+-- A replay that goes on, beside its play: whose turn it is, and what its thread has run.
+use Rattle.std.proofs.Common.{◌≡◌, ℕ, ◌<◌, ◌≤◌, inl, inr, true, false, eqb, cond, List, Some, None, refl, sym, ap, ◌∙◌, subst, set}
+use Rattle.std.specs.Prelude.{slice_get}
+use Rattle.std.proofs.lemmas.Bool.{true≢false, eqb-true}
+use Rattle.std.proofs.lemmas.Option.{none-some}
+use Rattle.dl_entry.specs.declared.Actor.{Actor}
+use Rattle.spec_isa.specs.declared.thread.Parts.{Parts}
+use Rattle.spec_isa.specs.Words.{lays}
+use Rattle.spec_isa.specs.Runs.{run}
+use Rattle.spec_kernel.specs.Interrupts.{is_live}
+use Rattle.spec_log.specs.declared.LogParts.{LogParts}
+use Rattle.spec_play.specs.Progress.{position}
+use Rattle.spec_play.specs.Turns.{Now, Turn, TurnOfDma, Over}
+use Rattle.spec_play.specs.Plays.{Played, opened, plays}
+use Rattle.spec_protocol.specs.Spheres.{Book, Role, Replay, Sphere, is_over, is_stopped, actor_of, head_of, head_in, whole_limit, limit_of}
+use Rattle.spec_protocol.specs.Machine.{SphereSetup}
+use Rattle.spec_protocol.specs.Asking.{other_turn}
+use Rattle.spec_protocol.specs.Transferring.{not_of_dma, turn_before_dma}
+use Rattle.spec_protocol.proofs.Moving.{get-set_same}
+use Rattle.spec_replay.specs.Following.{IsWhole, StandsAt, Follows}
+use Rattle.spec_finishing.specs.Work.{commit_work}
+use Rattle.spec_finishing.proofs.Affording.{Afforded, afforded, part-limit}
+use Rattle.spec_finishing.proofs.Left.{plays-ahead}
+
+-- ---- beside its play
+
+-- where the play of its log stands after the replay's whole commits
+abbrev pub play_of : SphereSetup → Book → Sphere → Played
+play_of image b p = plays b.log (opened b.log image.memory image.entry) (position p.progress)
+
+record Beside (log : LogParts) (y : Played) (p : Sphere) (b : Book) : Type 0 where
+  now : b.now ≡ y.now
+  progress : p.progress ≡ y.progress
+  used : b.used ≡ y.used
+  state : StandsAt log y y.now p b
+
+-- the replay p, with book b, goes on
+pub record GoesOn (image : SphereSetup) (p : Sphere) (b : Book) : Type 0 where
+  pub now : b.now ≡ (play_of image b p).now
+  pub progress : p.progress ≡ (play_of image b p).progress
+  pub used : b.used ≡ (play_of image b p).used
+  pub state : StandsAt b.log (play_of image b p) (play_of image b p).now p b
+  pub ahead : position p.progress < b.log.count
+
+beside_book : (log : LogParts) (y : Played) (p : Sphere) → (f : Follows log y p) → is_over f.book.now ≡ false → Beside log y p f.book
+beside_book log y p f going =
+    record {
+      now = elim f.now [
+        | inl e ↦ e
+        | inr within ↦ absurd (true≢false (sym (ap is_over within.over) ∙ going))
+      ];
+      progress = f.progress;
+      used = f.used;
+      state = f.state;
+    }
+
+goes_with : (image : SphereSetup) (p : Sphere) (b : Book) → is_over b.now ≡ false → Beside b.log (play_of image b p) p b → GoesOn image p b
+goes_with image p b going s =
+    let y = play_of image b p in
+    record {
+      now = s.now;
+      progress = s.progress;
+      used = s.used;
+      state = s.state;
+      ahead = subst (λ (n : ℕ). n < b.log.count) (sym (ap position s.progress)) (plays-ahead b.log image.memory image.entry (position p.progress) (sym (ap is_over s.now) ∙ going));
+    }
+
+goes_book : (image : SphereSetup) (log : LogParts) (p : Sphere) → (f : Follows log (plays log (opened log image.memory image.entry) (position p.progress)) p) → is_over f.book.now ≡ false → GoesOn image p f.book
+goes_book image log p f going =
+    goes_with image p f.book going
+    (subst (λ (l : LogParts). Beside l (plays l (opened l image.memory image.entry) (position p.progress)) p f.book) (sym f.same_log)
+    (beside_book log (plays log (opened log image.memory image.entry) (position p.progress)) p f going))
+
+pub goes-on : (image : SphereSetup) (log : LogParts) (p : Sphere) (b : Book) → Follows log (plays log (opened log image.memory image.entry) (position p.progress)) p → p.role ≡ Replay b → is_over b.now ≡ false → GoesOn image p b
+goes-on image log p b f role going =
+    let e : f.book ≡ b = (let h : Replay f.book ≡ Replay b = sym f.role ∙ role in cc) in
+    subst (λ (c : Book). is_over c.now ≡ false → GoesOn image p c) e (goes_book image log p f) going
+
+-- ---- whose turn
+
+-- the thread has the turn in a replay that hasn't stopped
+pub turn-is : (now : Now) (k : ℕ) → is_over now ≡ false → other_turn (actor_of now) k ≡ None → now ≡ Turn k
+turn-is (Turn j) k going e =
+    ap Turn (eqb-true j k (elim (eqb j k) as (λ b. cond b None (Some (Actor.Thread j)) ≡ None → b ≡ true) [
+      | true ↦ λ h. refl
+      | false ↦ λ h. absurd (none-some (Actor.Thread j) (sym h))
+    ] e))
+turn-is TurnOfDma k going e = absurd (none-some Actor.Dma (sym e))
+turn-is (Over how) k going e = absurd (true≢false going)
+
+pub dma-is : (now : Now) → is_over now ≡ false → not_of_dma (actor_of now) ≡ None → now ≡ TurnOfDma
+dma-is (Turn j) going e = absurd (none-some (Actor.Thread j) (sym e))
+dma-is TurnOfDma going e = refl
+dma-is (Over how) going e = absurd (true≢false going)
+
+pub head-turn : (p : Sphere) (b : Book) (k : ℕ) → p.role ≡ Replay b → is_stopped p.role ≡ false → other_turn (head_of p) k ≡ None → b.now ≡ Turn k
+unfolding head_of
+head-turn p b k role going turn =
+    turn-is b.now k (sym (ap is_stopped role) ∙ going) (sym (ap (λ (r : Role). other_turn (head_in r p) k) role) ∙ turn)
+
+pub dma-turn : (p : Sphere) (b : Book) → p.role ≡ Replay b → is_stopped p.role ≡ false → turn_before_dma p.role ≡ None → b.now ≡ TurnOfDma
+dma-turn p b role going turn = dma-is b.now (sym (ap is_stopped role) ∙ going) (sym (ap turn_before_dma role) ∙ turn)
+
+-- ---- the thread whose turn it is
+
+-- thread k, which was t in the play, has run b.total instructions of its present commit
+pub record HasRun (image : SphereSetup) (p : Sphere) (b : Book) (k : ℕ) (t : Parts) : Type 0 where
+  pub turn : (play_of image b p).now ≡ Turn k
+  pub is : slice_get (play_of image b p).threads k ≡ Some t
+  pub live : is_live t ≡ true
+  pub ran : (run (play_of image b p).memory t b.total).n ≡ b.total
+  pub memory : p.memory ≡ lays (play_of image b p).memory (run (play_of image b p).memory t b.total).words
+  pub threads : p.threads ≡ set (play_of image b p).threads k (run (play_of image b p).memory t b.total).thread
+  pub within : b.total < whole_limit b.log k t.commits
+
+moved_on : (image : SphereSetup) (p : Sphere) (b : Book) (k : ℕ) → (play_of image b p).now ≡ Turn k → StandsAt b.log (play_of image b p) (Turn k) p b → (t : Parts) × HasRun image p b k t
+moved_on image p b k turn s =
+    let m = s.1 in (
+      s.0,
+      record {
+        turn = turn;
+        is = m.is;
+        live = m.live;
+        ran = m.ran;
+        memory = m.memory;
+        threads = m.threads;
+        within = m.within;
+      },
+    )
+
+pub has-run : (image : SphereSetup) (p : Sphere) (b : Book) (k : ℕ) → GoesOn image p b → b.now ≡ Turn k → (t : Parts) × HasRun image p b k t
+has-run image p b k g turn =
+    let now = sym g.now ∙ turn in
+    moved_on image p b k now (subst (λ (n : Now). StandsAt b.log (play_of image b p) n p b) now g.state)
+
+pub is-whole : (image : SphereSetup) (p : Sphere) (b : Book) → GoesOn image p b → b.now ≡ TurnOfDma → IsWhole (play_of image b p) p b
+is-whole image p b g turn = subst (λ (n : Now). StandsAt b.log (play_of image b p) n p b) (sym g.now ∙ turn) g.state
+
+-- the thread as it is now
+pub thread-now : (image : SphereSetup) (p : Sphere) (b : Book) (k : ℕ) (t : Parts) → HasRun image p b k t → slice_get p.threads k ≡ Some (run (play_of image b p).memory t b.total).thread
+thread-now image p b k t h =
+    ap (λ (ts : List Parts). slice_get ts k) h.threads
+    ∙ get-set_same (play_of image b p).threads k (run (play_of image b p).memory t b.total).thread t h.is
+
+-- a part of n instructions more is paid for
+pub part-afforded : (image : SphereSetup) (p : Sphere) (b : Book) (k : ℕ) (t u : Parts) (s n : ℕ) → b.now ≡ Turn k → HasRun image p b k t → slice_get p.threads k ≡ Some u → (run p.memory u n).n ≡ n → n ≤ limit_of s (Replay b) k u
+    → Afforded (commit_work b.log (play_of image b p)) b.total n
+part-afforded image p b k t u s n turn h is ran most =
+    let y = play_of image b p in
+    let r = run y.memory t b.total in
+    let e : u ≡ r.thread = (let f : Some u ≡ Some r.thread = sym is ∙ thread-now image p b k t h in cc) in
+    afforded b.log y k t b.total n h.turn h.is h.ran
+    (subst (λ (m : List ℕ). (run m r.thread n).n ≡ n) h.memory (subst (λ (v : Parts). (run p.memory v n).n ≡ n) e ran)) h.within
+    (subst (λ (l : ℕ). n ≤ l) (ap (limit_of s (Replay b) k) e ∙ part-limit s b k y.memory t turn) most)

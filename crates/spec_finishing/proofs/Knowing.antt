@@ -1,0 +1,87 @@
+-- What is known of every world of a run: that it is good, its sizes, and that its replays stand beside their plays.
+use Rattle.std.proofs.Common.{◌≡◌, ℕ, zero, suc, ◌<◌, true, false, List, [], ◌∷◌, ◌++◌, length, Option, Some, refl, sym, ap, ◌∙◌, subst, arith}
+use Rattle.std.specs.Prelude.{slice_get}
+use Rattle.std.proofs.lemmas.Bool.{true≢false}
+use Rattle.std.proofs.lemmas.Option.{none-some}
+use Rattle.spec_log.specs.declared.LogParts.{LogParts}
+use Rattle.spec_engine.specs.Flights.{Flight}
+use Rattle.spec_protocol.specs.declared.event.Event.{Event}
+use Rattle.spec_protocol.specs.Spheres.{Book, Replay, Sphere, is_over}
+use Rattle.spec_protocol.specs.Placing.{replays}
+use Rattle.spec_protocol.specs.World.{World}
+use Rattle.spec_protocol.specs.Machine.{RoleSetup, IsPlain, IsRecorded, IsReplayed, SphereSetup, Setup, world_of, happens, world_after, moves}
+use Rattle.spec_protocol.specs.Serial.{Whole, whole_of}
+use Rattle.spec_protocol.specs.Shown.{shown_from, shown_of}
+use Rattle.spec_protocol.specs.Invariants.{IsGood}
+use Rattle.spec_protocol.specs.Promises.{IsSetup, after, AreSizesKept}
+use Rattle.spec_protocol.proofs.Schedules.{start-good, after-good, sizes_kept, moves_are}
+use Rattle.spec_replay.specs.Promises.{ReplaysArePlays}
+use Rattle.spec_finishing.specs.Ending.{CanFinish}
+use Rattle.spec_finishing.proofs.GoingOn.{GoesOn, goes-on}
+use Rattle.spec_finishing.proofs.KindsKept.{is_replayed, AreOfKinds, kind-at, start-kinds, moves-kinds}
+use Rattle.spec_finishing.proofs.Standing.{Stands}
+
+pub record Known (s : Setup) (w : World) : Type 0 where
+  pub good : IsGood w
+  pub sizes : AreSizesKept s w
+  pub stands : Stands s (shown_of w)
+
+-- ---- images
+
+within : {A : Type 0} (xs : List A) (i : ℕ) (x : A) → slice_get xs i ≡ Some x → i < length xs
+within [] i x is = absurd (none-some x is)
+within (y ∷ ys) zero x is = omega arith
+within (y ∷ ys) (suc i) x is = let l = within ys i x is in omega (arith, l)
+
+there_is : {A : Type 0} (xs : List A) (i : ℕ) → i < length xs → (x : A) × (slice_get xs i ≡ Some x)
+there_is [] i l = absurd (omega arith)
+there_is (y ∷ ys) zero l = (y, refl)
+there_is (y ∷ ys) (suc i) l = there_is ys i (omega arith)
+
+shown_length : (xs : List (Option Flight)) (n : ℕ) (ps : List Sphere) → length (shown_from xs n ps) ≡ length ps
+shown_length xs n [] = refl
+shown_length xs n (p ∷ ps) = ap suc (shown_length xs (suc n) ps)
+
+image_of : (s : Setup) (w : World) → AreSizesKept s w → (i : ℕ) (p : Sphere) → slice_get (shown_of w).spheres i ≡ Some p → (image : SphereSetup) × (slice_get s.spheres i ≡ Some image)
+image_of s w sizes i p is =
+    let l = within (shown_of w).spheres i p is in
+    let e = shown_length w.slots 0 w.spheres in
+    let f = sizes.spheres in
+    there_is s.spheres i (omega (arith, l, e, f))
+
+-- ---- replays
+
+kinds_after : (s : Setup) (es : List Event) → IsSetup s → AreOfKinds s.spheres (shown_of (after s es)).spheres
+kinds_after s es is =
+    subst (λ (x : Whole). AreOfKinds s.spheres x.spheres) (sym (moves_are s es is).same)
+    (moves-kinds s.numbers s.spheres (whole_of s) (moves (world_of s) es) (start-kinds s.numbers.chunk s.spheres))
+
+replayed_is : (r : RoleSetup) → is_replayed r ≡ true → (log : LogParts) × (r ≡ IsReplayed log)
+replayed_is IsPlain e = absurd (true≢false (sym e))
+replayed_is (IsRecorded mode) e = absurd (true≢false (sym e))
+replayed_is (IsReplayed log) e = (log, refl)
+
+goes_after : ReplaysArePlays → (s : Setup) (es : List Event) → CanFinish s → (i : ℕ) (image : SphereSetup) (p : Sphere) (b : Book) → slice_get s.spheres i ≡ Some image → slice_get (shown_of (after s es)).spheres i ≡ Some p → p.role ≡ Replay b → is_over b.now ≡ false → GoesOn image p b
+goes_after plays s es can i image p b there is role going =
+    let kind = kind-at s.spheres (shown_of (after s es)).spheres i image p there is (kinds_after s es can.setup) in
+    let log = replayed_is image.role (sym kind ∙ ap replays role) in
+    goes-on image log.0 p b
+    (plays image log.0 s es i p
+    (record { setup = can.setup; there = there; replays = log.1; standard = can.standard i image log.0 there log.1; shown = is })) role going
+
+pub known-after : ReplaysArePlays → (s : Setup) (es : List Event) → CanFinish s → Known s (after s es)
+known-after plays s es can =
+    record {
+      good = after-good (world_of s) es (start-good s can.setup);
+      sizes = sizes_kept s es can.setup;
+      stands = record {
+        images = image_of s (after s es) (sizes_kept s es can.setup);
+        goes = goes_after plays s es can;
+      };
+    }
+
+-- ---- one event more
+
+pub after-event : (w : World) (es : List Event) (e : Event) → world_after w (es ++ e ∷ []) ≡ (happens (world_after w es) e).world
+after-event w [] e = refl
+after-event w (f ∷ es) e = after-event (happens w f).world es e

@@ -1,0 +1,120 @@
+-- Every move pays for its flight: in a replay with what its play has left less, else with its own work.
+use Rattle.std.proofs.Common.{◌≡◌, ℕ, suc, ◌+◌, ◌<◌, ◌≤◌, false, List, length, Option, Some, None, refl, sym, ap, ◌∙◌, arith, set}
+use Rattle.std.specs.Prelude.{slice_get}
+use Rattle.spec_isa.specs.declared.thread.Parts.{Parts}
+use Rattle.spec_isa.specs.Runs.{run}
+use Rattle.spec_kernel.specs.Devices.{Devices}
+use Rattle.spec_engine.specs.declared.answers.How.{How}
+use Rattle.spec_protocol.specs.Spheres.{Book, Replay, Sphere, is_over, is_stopped}
+use Rattle.spec_protocol.specs.Commits.{Moved, is_piece, chunk_moved, serial_moved, dma_moved, raised}
+use Rattle.spec_protocol.specs.Placing.{replays}
+use Rattle.spec_protocol.specs.World.{Numbers, What, OfChunk, OfSerial, OfDma, OfRaise, Move}
+use Rattle.spec_protocol.specs.Asking.{is_short}
+use Rattle.spec_protocol.specs.Machine.{SphereSetup}
+use Rattle.spec_protocol.specs.Serial.{Whole, laid, do_serial, do_dma, do_raise}
+use Rattle.spec_protocol.specs.Moves.{move_chunk, do_what, FitsChunk, FitsSerial}
+use Rattle.spec_finishing.specs.Work.{serial_work, dma_work, what_work}
+use Rattle.spec_finishing.specs.Rest.{price, spheres_rest}
+use Rattle.spec_finishing.proofs.Left.{paid, words-paid}
+use Rattle.spec_finishing.proofs.GoingOn.{GoesOn}
+use Rattle.spec_finishing.proofs.KindsKept.{chunk-kind, serial-kind, DmaKind, dma-kind, raised-kind}
+use Rattle.spec_finishing.proofs.Rows.{spheres-pay, sphere-live}
+use Rattle.spec_finishing.proofs.Paying.{chunk-pays}
+use Rattle.spec_finishing.proofs.PayingSerial.{serial-pays, DmaPays}
+
+-- ---- the most that a move's flight has left, with c cores
+
+abbrev pub serial_most : (c : ℕ) → Sphere → Devices → (moment thread : ℕ) → Option Parts → ℕ
+serial_most c p devices moment k None = 0
+serial_most c p devices moment k (Some t) = length (serial_moved k moment t devices p).words + c + 1
+
+abbrev pub dma_most : (c : ℕ) → Option Moved → ℕ
+dma_most c None = 0
+dma_most c (Some v) = length v.words + c + 1
+
+abbrev pub what_most : (c : ℕ) → Sphere → Devices → (moment : ℕ) → What → ℕ
+what_most c p devices moment (OfChunk k how n limit) = n + c + 1
+what_most c p devices moment (OfSerial k) = serial_most c p devices moment k (slice_get p.threads k)
+what_most c p devices moment OfDma = dma_most c (dma_moved devices p)
+what_most c p devices moment (OfRaise k value) = 0
+
+abbrev pub sphere_most : (c : ℕ) → Devices → Move → Option Sphere → ℕ
+sphere_most c devices m None = 0
+sphere_most c devices m (Some p) = what_most c p devices m.moment m.what
+
+abbrev pub move_most : (c : ℕ) → Whole → Move → ℕ
+move_most c x m = sphere_most c x.devices m (slice_get x.spheres m.sphere)
+
+-- what a replay pays more: for a chunk's instructions, and three
+abbrev pub what_more : What → ℕ
+what_more (OfChunk k how n limit) = n + 3
+what_more (OfSerial k) = 3
+what_more OfDma = 3
+what_more (OfRaise k value) = 0
+
+-- ---- a plain or recorded sphere
+
+own_pays : (c : ℕ) (images : List SphereSetup) (ps : List Sphere) (i : ℕ) (image : SphereSetup) (p q : Sphere) (l n : ℕ) → slice_get images i ≡ Some image → slice_get ps i ≡ Some p → replays q.role ≡ false → l ≤ n
+    → spheres_rest c images (set ps i q) + l ≤ spheres_rest c images ps + n
+own_pays c images ps i image p q l n there is live enough =
+    spheres-pay c images ps i image p q l n there is (let e = sphere-live c image q live in omega (arith, e, enough))
+
+chunk_own : (c : ℕ) (images : List SphereSetup) (z : Numbers) (x : Whole) (i k : ℕ) (how : How) (n limit : ℕ) (image : SphereSetup) (p : Sphere) (o : Option Parts) → slice_get images i ≡ Some image → slice_get x.spheres i ≡ Some p → replays p.role ≡ false
+    → spheres_rest c images (move_chunk z x i k how n limit p o).spheres + (n + c + 1) ≤ spheres_rest c images x.spheres + price c (suc n)
+chunk_own c images z x i k how n limit image p None there is live = let h = words-paid c n in omega (arith, h)
+chunk_own c images z x i k how n limit image p (Some t) there is live =
+    own_pays c images x.spheres i image p (laid (chunk_moved k (is_piece how) (is_short z.chunk how limit) (run p.memory t n) x.devices p)) (n + c + 1) (price c (suc n)) there is
+    (chunk-kind k (is_piece how) (is_short z.chunk how limit) (run p.memory t n) x.devices p ∙ live) (let h = words-paid c n in omega (arith, h))
+
+serial_own : (c : ℕ) (images : List SphereSetup) (x : Whole) (i k moment : ℕ) (image : SphereSetup) (p : Sphere) (o : Option Parts) → slice_get images i ≡ Some image → slice_get x.spheres i ≡ Some p → replays p.role ≡ false
+    → spheres_rest c images (do_serial x i k moment p o).spheres + serial_most c p x.devices moment k o ≤ spheres_rest c images x.spheres + price c (serial_work p x.devices moment k o)
+serial_own c images x i k moment image p None there is live = omega arith
+serial_own c images x i k moment image p (Some t) there is live =
+    let v = serial_moved k moment t x.devices p in
+    own_pays c images x.spheres i image p (laid v) (length v.words + c + 1) (price c (suc (length v.words))) there is
+    (serial-kind k moment t x.devices p ∙ live) (let h = words-paid c (length v.words) in omega (arith, h))
+
+dma_own : (c : ℕ) (images : List SphereSetup) (x : Whole) (i : ℕ) (image : SphereSetup) (p : Sphere) (o : Option Moved) → slice_get images i ≡ Some image → slice_get x.spheres i ≡ Some p → replays p.role ≡ false → DmaKind p.role o
+    → spheres_rest c images (do_dma x i o).spheres + dma_most c o ≤ spheres_rest c images x.spheres + price c (dma_work o)
+dma_own c images x i image p None there is live kind = omega arith
+dma_own c images x i image p (Some v) there is live kind =
+    own_pays c images x.spheres i image p (laid v) (length v.words + c + 1) (price c (suc (length v.words))) there is (kind ∙ live)
+    (let h = words-paid c (length v.words) in omega (arith, h))
+
+raise_own : (c : ℕ) (images : List SphereSetup) (x : Whole) (i k value : ℕ) (image : SphereSetup) (p : Sphere) (o : Option Parts) → slice_get images i ≡ Some image → slice_get x.spheres i ≡ Some p → replays p.role ≡ false
+    → spheres_rest c images (do_raise x i k value p o).spheres + 0 ≤ spheres_rest c images x.spheres + price c 0
+raise_own c images x i k value image p None there is live = omega arith
+raise_own c images x i k value image p (Some t) there is live =
+    own_pays c images x.spheres i image p (raised k value t p) 0 (price c 0) there is (raised-kind k value t p ∙ live) (omega arith)
+
+pub what_own : (c : ℕ) (images : List SphereSetup) (z : Numbers) (x : Whole) (moment i : ℕ) (image : SphereSetup) (p : Sphere) (a : What) → slice_get images i ≡ Some image → slice_get x.spheres i ≡ Some p → replays p.role ≡ false
+    → spheres_rest c images (do_what z x moment i p a).spheres + what_most c p x.devices moment a ≤ spheres_rest c images x.spheres + price c (what_work p x.devices moment a)
+what_own c images z x moment i image p (OfChunk k how n limit) there is live = chunk_own c images z x i k how n limit image p (slice_get p.threads k) there is live
+what_own c images z x moment i image p (OfSerial k) there is live = serial_own c images x i k moment image p (slice_get p.threads k) there is live
+what_own c images z x moment i image p OfDma there is live = dma_own c images x i image p (dma_moved x.devices p) there is live (dma-kind x.devices p)
+what_own c images z x moment i image p (OfRaise k value) there is live = raise_own c images x i k value image p (slice_get p.threads k) there is live
+
+-- ---- a replay
+
+pub chunk_paid : (c : ℕ) (images : List SphereSetup) (z : Numbers) (x : Whole) (i k : ℕ) (how : How) (n limit : ℕ) (image : SphereSetup) (p : Sphere) (b : Book) (o : Option Parts) → 0 < z.buffer → slice_get images i ≡ Some image → slice_get x.spheres i ≡ Some p → p.role ≡ Replay b
+    → (is_over b.now ≡ false → GoesOn image p b) → slice_get p.threads k ≡ o → FitsChunk z p k how n limit o → spheres_rest c images (move_chunk z x i k how n limit p o).spheres + paid c n ≤ spheres_rest c images x.spheres + 0
+chunk_paid c images z x i k how n limit image p b None positive there is role goes thread fits = absurd fits
+chunk_paid c images z x i k how n limit image p b (Some t) positive there is role goes thread fits =
+    let going : is_over b.now ≡ false = sym (ap is_stopped role) ∙ fits.going in
+    let pays = chunk-pays c image z p b k t how n limit (is_short z.chunk how limit) x.devices positive role going (goes going) thread fits in
+    spheres-pay c images x.spheres i image p (laid (chunk_moved k (is_piece how) (is_short z.chunk how limit) (run p.memory t n) x.devices p)) (paid c n) 0 there is (omega (arith, pays))
+
+pub serial_paid : (c : ℕ) (images : List SphereSetup) (x : Whole) (i k moment : ℕ) (image : SphereSetup) (p : Sphere) (b : Book) (o : Option Parts) → slice_get images i ≡ Some image → slice_get x.spheres i ≡ Some p → p.role ≡ Replay b
+    → (is_over b.now ≡ false → GoesOn image p b) → slice_get p.threads k ≡ o → FitsSerial p k o → spheres_rest c images (do_serial x i k moment p o).spheres + (serial_most c p x.devices moment k o + 3) ≤ spheres_rest c images x.spheres + 0
+serial_paid c images x i k moment image p b None there is role goes thread fits = absurd fits
+serial_paid c images x i k moment image p b (Some t) there is role goes thread fits =
+    let going : is_over b.now ≡ false = sym (ap is_stopped role) ∙ fits.going in
+    let v = serial_moved k moment t x.devices p in
+    let pays = serial-pays c image p b k moment t x.devices role going (goes going) thread fits in
+    spheres-pay c images x.spheres i image p (laid v) ((length v.words + c + 1) + 3) 0 there is (omega (arith, pays))
+
+pub dma_none : (c : ℕ) (images : List SphereSetup) (x : Whole) (i : ℕ) (image : SphereSetup) (p : Sphere) (b : Book) (o : Option Moved) → slice_get images i ≡ Some image → slice_get x.spheres i ≡ Some p → DmaPays c image p o → (o ≡ None → ⊥)
+    → spheres_rest c images (do_dma x i o).spheres + (dma_most c o + 3) ≤ spheres_rest c images x.spheres + 0
+dma_none c images x i image p b None there is pays some = absurd (some refl)
+dma_none c images x i image p b (Some v) there is pays some =
+    spheres-pay c images x.spheres i image p (laid v) ((length v.words + c + 1) + 3) 0 there is (omega (arith, pays))

@@ -1,0 +1,30 @@
+-- The laws of the price of work.
+use Rattle.std.proofs.Common.{◌≡◌, ℕ, zero, suc, ◌+◌, ◌*◌, ◌≤◌, inl, inr, ap, arith}
+use Rattle.std.proofs.lemmas.Bool.{cases_lt}
+use Rattle.spec_finishing.specs.Rest.{price}
+
+pub price-none : (c : ℕ) → price c 0 ≡ 0
+unfolding price
+price-none c = omega arith
+
+pub price-more : (c n : ℕ) → price c (suc n) ≡ price c n + (c + 6)
+unfolding price
+price-more c n = grind arith
+
+pub price-sum : (c n m : ℕ) → price c (n + m) ≡ price c n + price c m
+unfolding price
+price-sum c n m = grind arith
+
+pub price-least : (c n m : ℕ) → n ≤ m → price c n ≤ price c m
+price-least c n zero l = let e : n ≡ 0 = omega arith in let r = ap (price c) e in omega (arith, r)
+price-least c n (suc m) l =
+    let h = price-more c m in
+    elim (cases_lt n (suc m)) [
+      | inl k ↦ (let r = price-least c n m (omega arith) in omega (arith, r, h))
+      | inr k ↦ (let e : n ≡ suc m = omega arith in let r = ap (price c) e in omega (arith, r))
+    ]
+
+-- enough for a flight of n words, the n instructions and four more
+pub price-most : (c n : ℕ) → 6 * n + c + 6 ≤ price c (suc n)
+price-most c zero = let a = price-more c 0 in let b = price-none c in omega (arith, a, b)
+price-most c (suc n) = let a = price-more c (suc n) in let b = price-most c n in omega (arith, a, b)

@@ -1,0 +1,84 @@
+-- No event makes more of what is left but by its own work, and a move of a replay makes it less.
+use Rattle.std.proofs.Common.{◌≡◌, ℕ, ◌+◌, ◌<◌, ◌≤◌, Option, Some, None, refl, ap, ◌∙◌, subst, arith}
+use Rattle.std.specs.Prelude.{slice_get}
+use Rattle.std.proofs.lemmas.Option.{none-some}
+use Rattle.spec_protocol.specs.declared.event.Event.{Event}
+use Rattle.spec_protocol.specs.Spheres.{Book, Replay, Sphere}
+use Rattle.spec_protocol.specs.World.{Numbers, World, Move, After}
+use Rattle.spec_protocol.specs.Machine.{Setup, core_no, sphere_no, slot_no, act, happens}
+use Rattle.spec_protocol.specs.Serial.{Whole}
+use Rattle.spec_protocol.specs.Shown.{shown_of}
+use Rattle.spec_protocol.specs.Moves.{do_if, FitsIf, Fits}
+use Rattle.spec_protocol.specs.Invariants.{IsGood}
+use Rattle.spec_protocol.proofs.Invariant.{Kept}
+use Rattle.spec_protocol.proofs.Schedules.{happens-kept}
+use Rattle.spec_finishing.specs.Work.{move_work}
+use Rattle.spec_finishing.specs.Rest.{spheres_rest, price, potential}
+use Rattle.spec_finishing.proofs.Rows.{spheres-shown}
+use Rattle.spec_finishing.proofs.PayingMoves.{what_more}
+use Rattle.spec_finishing.proofs.Standing.{Stands, move-pays, move-pays_more}
+use Rattle.spec_finishing.proofs.Knowing.{Known}
+use Rattle.spec_finishing.proofs.AnyEvent.{if_most, Flies, step-flies, cut-flies, drain-flies, deliver-flies, retire-flies, place-flies, raise-flies}
+use Rattle.spec_finishing.proofs.AnyAsk.{ask-flies, dma-flies}
+
+-- ---- flights
+
+act_flies : (c : ℕ) (w : World) (e : Event) → IsGood w → Flies c w (act w e)
+unfolding act
+act_flies c w (Event.Step d) good = step-flies c w (core_no w d)
+act_flies c w (Event.Cut d) good = cut-flies c w (core_no w d)
+act_flies c w (Event.Ask d) good = ask-flies c w (core_no w d) good
+act_flies c w (Event.Drain k) good = drain-flies c w (slot_no w k)
+act_flies c w (Event.Deliver d k) good = deliver-flies c w (core_no w d) (slot_no w k)
+act_flies c w (Event.Retire k) good = retire-flies c w (slot_no w k)
+act_flies c w (Event.Place d i k) good = place-flies c w (core_no w d) (sphere_no w i) k
+act_flies c w (Event.Raise i k value) good = raise-flies c w (sphere_no w i) k value
+act_flies c w (Event.Dma i) good = dma-flies c w (sphere_no w i)
+
+pub happens-flies : (c : ℕ) (w : World) (e : Event) → IsGood w → Flies c w (happens w e)
+unfolding happens
+happens-flies c w e good = act_flies c w e good
+
+-- ---- both
+
+abbrev pub if_work : Whole → Option Move → ℕ
+if_work x None = 0
+if_work x (Some m) = move_work x m
+
+if_pays : (s : Setup) (z : Numbers) (x : Whole) (o : Option Move) → 0 < z.buffer → Stands s x → FitsIf z x o
+    → spheres_rest s.cores s.spheres (do_if z x o).spheres + if_most s.cores x o ≤ spheres_rest s.cores s.spheres x.spheres + price s.cores (if_work x o)
+if_pays s z x None positive stands fits = omega arith
+if_pays s z x (Some m) positive stands fits = move-pays s.cores s z x m positive stands fits
+
+-- what is left of the spheres is that of what is shown of them
+shown_rest : (s : Setup) (w : World) → spheres_rest s.cores s.spheres (shown_of w).spheres ≡ spheres_rest s.cores s.spheres w.spheres
+shown_rest s w = spheres-shown s.cores s.spheres w.slots 0 w.spheres
+
+pub happens-spends : (s : Setup) (w : World) (e : Event) → Known s w → potential s (happens w e).world ≤ potential s w + price s.cores (if_work (shown_of w) (happens w e).move)
+happens-spends s w e known =
+    let a = happens w e in
+    let kept = happens-kept w e known.good in
+    let flies = happens-flies s.cores w e known.good in
+    let pays = if_pays s w.numbers (shown_of w) a.move known.good.buffer known.stands kept.fits in
+    let now = shown_rest s a.world in
+    let was = shown_rest s w in
+    let same = ap (λ (x : Whole). spheres_rest s.cores s.spheres x.spheres) kept.whole in
+    omega (arith, flies, pays, now, was, same)
+
+moves_more : (s : Setup) (w : World) (a : After) (m : Move) (o : Option Move) (p : Sphere) (b : Book) → o ≡ Some m → a.move ≡ o → Known s w → Kept w a → Flies s.cores w a → slice_get (shown_of w).spheres m.sphere ≡ Some p → p.role ≡ Replay b
+    → potential s a.world + what_more m.what ≤ potential s w
+moves_more s w a m None p b e move known kept flies is role = absurd (none-some m e)
+moves_more s w a m (Some n) p b e move known kept flies is role =
+    let fits : Fits w.numbers (shown_of w) m = subst (λ (x : Option Move). FitsIf w.numbers (shown_of w) x) (move ∙ e) kept.fits in
+    let pays = move-pays_more s.cores s w.numbers (shown_of w) m p b known.good.buffer known.stands is role fits in
+    let most = ap (if_most s.cores (shown_of w)) (move ∙ e) in
+    let now = shown_rest s a.world in
+    let was = shown_rest s w in
+    let same = ap (λ (x : Whole). spheres_rest s.cores s.spheres x.spheres) (kept.whole ∙ ap (do_if w.numbers (shown_of w)) (move ∙ e)) in
+    omega (arith, flies, pays, now, was, same, most)
+
+-- a move of a replay makes it less, by the events behind it
+pub happens-less : (s : Setup) (w : World) (e : Event) (m : Move) (p : Sphere) (b : Book) → Known s w → (happens w e).move ≡ Some m → slice_get (shown_of w).spheres m.sphere ≡ Some p → p.role ≡ Replay b
+    → potential s (happens w e).world + what_more m.what ≤ potential s w
+happens-less s w e m p b known move is role =
+    moves_more s w (happens w e) m (Some m) p b refl move known (happens-kept w e known.good) (happens-flies s.cores w e known.good) is role

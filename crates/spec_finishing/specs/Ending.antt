@@ -1,0 +1,71 @@
+-- What is promised of finishing: that it comes to an end, and how soon.
+use Rattle.std.specs.Prelude.{◌≡◌, ℕ, ◌+◌, ◌*◌, ◌<◌, ◌≤◌, Bool, true, false, List, [], ◌∷◌, length, slice_get, Some, None}
+use Rattle.spec_log.specs.declared.LogParts.{LogParts}
+use Rattle.spec_engine.specs.Flights.{at}
+use Rattle.spec_protocol.specs.declared.event.Event.{Event}
+use Rattle.spec_protocol.specs.declared.reply.Reply.{Reply}
+use Rattle.spec_protocol.specs.Spheres.{Role, Plain, Record, Replay, Sphere, is_over}
+use Rattle.spec_protocol.specs.World.{World}
+use Rattle.spec_protocol.specs.Machine.{IsReplayed, SphereSetup, Setup, world_of, happens, world_after, moves}
+use Rattle.spec_protocol.specs.Serial.{whole_of}
+use Rattle.spec_protocol.specs.Finishing.{Finishes}
+use Rattle.spec_protocol.specs.Promises.{IsSetup, after}
+use Rattle.spec_finishing.specs.Work.{plays_work, moves_work}
+use Rattle.spec_finishing.specs.Rest.{potential, begun, rest}
+
+-- the work of a run: of the plays of its replayed spheres, and of what its schedule did in the others
+abbrev pub work : Setup → List Event → ℕ
+work s es = plays_work s.spheres + moves_work s.numbers (whole_of s) (moves (world_of s) es)
+
+-- the replies of events that did what they are for: none is bounced, denied, busy, full or out of turn
+abbrev pub is_done : Reply → Bool
+is_done Reply.Ran = true
+is_done (Reply.Closed how) = true
+is_done Reply.Granted = true
+is_done Reply.Piece = true
+is_done Reply.Drained = true
+is_done Reply.Delivered = true
+is_done Reply.Squashed = true
+is_done Reply.Retired = true
+is_done Reply.Placed = true
+is_done Reply.DmaDone = true
+is_done (Reply.Diverged i why) = true
+is_done _ = false
+
+-- each of these events is done and makes less what is left, which is never below 0
+abbrev pub Falls : Setup → World → List Event → Type 0
+Falls s w [] = begun w ≤ potential s w
+Falls s w (e ∷ es) =
+    let a = happens w e in
+    (begun w ≤ potential s w) × (is_done a.reply ≡ true) × (rest s a.world < rest s w) × Falls s a.world es
+
+-- a replay that goes on no more; plain and recorded spheres have no end
+abbrev pub IsAtEnd : Role → Type 0
+IsAtEnd Plain = Unit {0}
+IsAtEnd (Record log) = Unit {0}
+IsAtEnd (Replay b) = is_over b.now ≡ true
+
+-- no flight stands, and every replay is complete or has diverged
+pub record IsFinished (w : World) : Type 0 where
+  pub flights : (k : ℕ) → at w.slots k ≡ None
+  pub replays : (i : ℕ) (p : Sphere) → slice_get w.spheres i ≡ Some p → IsAtEnd p.role
+
+-- these events finish the world that this schedule leaves
+pub record Ends (s : Setup) (es finishing : List Event) : Type 0 where
+  pub finishes : Finishes (after s es) finishing
+  pub falls : Falls s (after s es) finishing
+  -- for each unit of the run's work there are as many events at most as there are cores, and six
+  pub first : rest s (after s es) ≤ (s.cores + 6) * work s es
+  pub few : length finishing ≤ (s.cores + 6) * work s es
+  pub finished : IsFinished (world_after (after s es) finishing)
+
+-- there are cores, and slots for flights, and the standard size of each log that is replayed is over 0
+pub record CanFinish (s : Setup) : Type 0 where
+  pub setup : IsSetup s
+  pub cores : 0 < s.cores
+  pub window : 0 < s.window
+  pub standard : (i : ℕ) (image : SphereSetup) (log : LogParts) → slice_get s.spheres i ≡ Some image → image.role ≡ IsReplayed log → 0 < log.s
+
+-- after any schedule
+abbrev pub FinishingEnds : Type 0
+FinishingEnds = (s : Setup) (es : List Event) → CanFinish s → (finishing : List Event) × Ends s es finishing

@@ -1,0 +1,91 @@
+-- What is left to do before a world is finished, as a number that each event of finishing makes less.
+use Rattle.std.specs.Prelude.{ℕ, zero, suc, ◌+◌, ◌-◌, ◌*◌, List, [], ◌∷◌, length, Option, Some, None, if◌then◌else◌}
+use Rattle.dl_entry.specs.declared.Actor.{Actor}
+use Rattle.spec_log.specs.declared.LogParts.{LogParts}
+use Rattle.spec_play.specs.Progress.{position}
+use Rattle.spec_play.specs.Plays.{Played, opened}
+use Rattle.spec_engine.specs.Flights.{Flight, at, told_at}
+use Rattle.spec_engine.specs.Chunks.{is_open}
+use Rattle.spec_protocol.specs.Spheres.{Book, Role, Plain, Record, Replay, Sphere, is_over}
+use Rattle.spec_protocol.specs.World.{World, Held, core_of}
+use Rattle.spec_protocol.specs.Machine.{SphereSetup, Setup}
+use Rattle.spec_protocol.specs.Finishing.{Who, least, standing}
+use Rattle.spec_finishing.specs.Work.{commits_work}
+
+-- ---- flights
+
+-- how many of the first n cores were not told
+abbrev pub untold_cores : (n told : ℕ) → ℕ
+untold_cores zero t = 0
+untold_cores (suc n) t = (if told_at t n then 0 else 1) + untold_cores n t
+
+-- one, the words left, and the cores that were not told
+abbrev pub flight_rest : (cores : ℕ) → Option Flight → ℕ
+flight_rest cores None = 0
+flight_rest cores (Some f) = suc (length f.words + untold_cores cores f.told)
+
+abbrev pub flights_rest : (cores : ℕ) → List (Option Flight) → ℕ
+flights_rest cores [] = 0
+flights_rest cores (slot ∷ slots) = flight_rest cores slot + flights_rest cores slots
+
+-- ---- replays
+
+-- the work that the log's play has left behind the commits that a replay has done, without the pieces of its present commit
+abbrev pub play_left : LogParts → Played → (i total : ℕ) → ℕ
+play_left log y i total = commits_work log y i (log.count - i) - total
+
+-- after so many commits of a replay of that image; none where it has stopped
+unfoldable pub replay_left : SphereSetup → Book → (commits : ℕ) → ℕ
+replay_left image b i =
+    if is_over b.now then 0 else play_left b.log (opened b.log image.memory image.entry) i b.total
+
+-- how many events are allowed for so much work
+unfoldable pub price : (cores work : ℕ) → ℕ
+price cores work = (cores + 6) * work
+
+abbrev pub role_rest : (cores : ℕ) → SphereSetup → Sphere → Role → ℕ
+role_rest cores image p Plain = 0
+role_rest cores image p (Record log) = 0
+role_rest cores image p (Replay b) = price cores (replay_left image b (position p.progress))
+
+-- of the spheres that began as these images
+abbrev pub spheres_rest : (cores : ℕ) → List SphereSetup → List Sphere → ℕ
+spheres_rest cores [] ps = 0
+spheres_rest cores (image ∷ images) [] = 0
+spheres_rest cores (image ∷ images) (p ∷ ps) = role_rest cores image p p.role + spheres_rest cores images ps
+
+-- of flights and replays
+abbrev pub potential : Setup → World → ℕ
+potential s w = flights_rest s.cores w.slots + spheres_rest s.cores s.spheres w.spheres
+
+-- ---- what is begun
+
+-- one where the thread is on a core, its chunk's instructions, and one where the chunk is closed
+abbrev pub held_begun : Option Held → ℕ
+held_begun None = 0
+held_begun (Some h) = suc (h.chunk.done.n + (if is_open h.chunk then 0 else 1))
+
+abbrev pub core_begun : World → Option ℕ → ℕ
+core_begun w None = 0
+core_begun w (Some c) = held_begun (at w.cores c)
+
+abbrev pub actor_begun : World → (i : ℕ) → Actor → ℕ
+actor_begun w i Actor.Dma = 0
+actor_begun w i (Actor.Thread k) = core_begun w (core_of w i k)
+
+abbrev pub who_begun : World → Option Who → ℕ
+who_begun w None = 0
+who_begun w (Some who) = actor_begun w who.sphere who.actor
+
+abbrev pub standing_begun : World → Option ℕ → ℕ
+standing_begun w (Some k) = 0
+standing_begun w None = who_begun w (least 0 w.spheres)
+
+-- where no flight stands, by the thread whose turn it is in the least replay that goes on
+unfoldable pub begun : World → ℕ
+begun w = standing_begun w (standing w)
+
+-- ---- both
+
+abbrev pub rest : Setup → World → ℕ
+rest s w = potential s w - begun w

@@ -1,0 +1,6 @@
+//! That finishing ends: after any schedule flights are made visible and replays come to their ends, within a bound.
+#![tactic(auto)]
+
+mod promise;
+
+pub use promise::finishing_ends;
