@@ -25,3 +25,4 @@ pub mod NextEvents
 pub mod NextOfAll
 pub mod FinishingAll
 pub mod KindsKept
+mod Examples
