@@ -166,3 +166,7 @@ unfolding next
 next-none w e =
     let r = standing_next w (standing w) refl e in
     record { flights = no-flight w r.0; replays = least-none 0 w.spheres r.1 }
+
+pub next-stands : (w : World) → next w ≡ None → standing w ≡ None
+unfolding next
+next-stands w e = (standing_next w (standing w) refl e).0
