@@ -1,5 +1,5 @@
 -- What the thread whose turn it is has begun is no more than its replay has left: so what is left is never below 0.
-use Rattle.std.proofs.Common.{◌≡◌, ℕ, ◌+◌, ◌-◌, ◌≤◌, Bool, true, false, eqb, cond, List, [], Option, Some, None, refl, sym, ap, ◌∙◌, subst, arith}
+use Rattle.std.proofs.Common.{◌≡◌, ℕ, ◌+◌, ◌-◌, ◌≤◌, eqb, List, [], Option, Some, None, refl, sym, ap, ◌∙◌, subst, arith}
 use Rattle.std.specs.Prelude.{slice_get}
 use Rattle.std.proofs.lemmas.Bool.{and_parts, eqb-true}
 use Rattle.std.proofs.lemmas.Option.{none-some}
@@ -19,6 +19,7 @@ use Rattle.spec_protocol.specs.Invariants.{Closes, current}
 use Rattle.spec_protocol.specs.Currency.{IsCurrent}
 use Rattle.spec_protocol.specs.Finishing.{Who, least, standing}
 use Rattle.spec_finishing.specs.Rest.{spheres_rest, potential, held_begun, core_begun, actor_begun, who_begun, standing_begun, begun}
+use Rattle.spec_finishing.proofs.Slots.{one_at_most}
 use Rattle.spec_finishing.proofs.Pricing.{price-least}
 use Rattle.spec_finishing.proofs.Affording.{Afforded}
 use Rattle.spec_finishing.proofs.Left.{paid, afford-paid}
@@ -91,10 +92,6 @@ core-paid s w i k c h known none a on =
     (subst (λ (j : ℕ). HasActor s w j (Actor.Thread h.thread)) (sym on.sphere) (subst (λ (j : ℕ). HasActor s w i (Actor.Thread j)) (sym on.thread) a))
 
 -- ---- what is begun
-
-one_at_most : (b : Bool) → cond b 0 1 ≤ 1
-one_at_most true = omega arith
-one_at_most false = omega arith
 
 core_most : (s : Setup) (w : World) (i k : ℕ) (o : Option ℕ) → Known s w → standing w ≡ None → HasActor s w i (Actor.Thread k) → core_of w i k ≡ o → core_begun w o ≤ potential s w
 core_most s w i k None known none a e = omega arith

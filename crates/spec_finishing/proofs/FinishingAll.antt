@@ -1,5 +1,6 @@
 -- Finishing ends, within the bound: by what is left, which each event makes less.
-use Rattle.std.proofs.Common.{◌≡◌, ℕ, zero, suc, ◌<◌, ◌≤◌, List, [], ◌∷◌, ◌++◌, length, Option, Some, None, refl, ap, subst, arith}
+use Rattle.std.proofs.Common.{◌≡◌, ℕ, zero, suc, ◌<◌, ◌≤◌, List, [], ◌∷◌, ◌++◌, length, Option, Some, None, refl, sym, ap, ◌∙◌, subst, arith}
+use Rattle.std.proofs.lemmas.Option.{none-some}
 use Rattle.spec_protocol.specs.declared.event.Event.{Event}
 use Rattle.spec_protocol.specs.World.{World}
 use Rattle.spec_protocol.specs.Machine.{Setup, world_of, happens, world_after}
@@ -14,6 +15,17 @@ use Rattle.spec_finishing.proofs.Bounding.{potential-bounded}
 use Rattle.spec_finishing.proofs.Begun.{begun-most}
 use Rattle.spec_finishing.proofs.NextEvents.{Lowers}
 use Rattle.spec_finishing.proofs.NextOfAll.{Goes, next-falls, next-none}
+
+-- at most one list of events finishes a world
+finishing_one : (w : World) (es fs : List Event) → Finishes w es → Finishes w fs → es ≡ fs
+finishing_one w [] [] e f = refl
+finishing_one w [] (x ∷ fs) e f = absurd (none-some x (sym e ∙ f.0))
+finishing_one w (x ∷ es) [] e f = absurd (none-some x (sym f ∙ e.0))
+finishing_one w (x ∷ es) (y ∷ fs) e f =
+    let h : Some x ≡ Some y = sym e.0 ∙ f.0 in
+    let same : x ≡ y = cc in
+    let rest_ = finishing_one (happens w x).world es fs e.1 (subst (λ (z : Event). Finishes (happens w z).world fs) (sym same) f.1) in
+    (λ i. same i ∷ rest_ i)
 
 -- events that finish a world, no more than what is left there
 record Finishing (s : Setup) (w : World) : Type 0 where
@@ -67,6 +79,7 @@ finishing_all s es can =
       f.events,
       record {
         finishes = f.finishes;
+        only = λ others finishes. finishing_one (after s es) others f.events finishes f.finishes;
         falls = f.falls;
         first = omega (arith, bound);
         few = (let l = f.few in omega (arith, l, bound));

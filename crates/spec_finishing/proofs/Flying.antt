@@ -5,8 +5,7 @@ use Rattle.spec_engine.specs.declared.answers.Deliver.{Deliver}
 use Rattle.spec_engine.specs.declared.answers.Retire.{Retire}
 use Rattle.spec_engine.specs.Signatures.{Marks}
 use Rattle.spec_engine.specs.Flights.{Flight, at, told_at, tell, meets_chunk, drain_words, deliver, Delivered, is_done, retire, Retired}
-use Rattle.spec_protocol.specs.declared.reply.Reply.{Reply}
-use Rattle.spec_protocol.specs.World.{World, Held, After, sphere_at, with_slot, still}
+use Rattle.spec_protocol.specs.World.{World, Held, After, sphere_at, with_slot}
 use Rattle.spec_protocol.specs.Flying.{drain_slot, draining, reads_of, writes_of, told, deliver_to, delivering, retiring}
 use Rattle.spec_protocol.proofs.Slots.{at_within}
 use Rattle.spec_protocol.proofs.OnCores.{branch}
@@ -18,9 +17,6 @@ use Rattle.spec_finishing.proofs.Slots.{flights-set, untold-less}
 -- the flights have no more left than before
 abbrev pub NoMore : (cores : ℕ) → World → After → Type 0
 NoMore c w a = flights_rest c a.world.slots ≤ flights_rest c w.slots
-
-same_most : (c : ℕ) (w : World) → NoMore c w (still w Reply.Idle)
-same_most c w = omega arith
 
 -- a slot that holds a flight has no more left
 set_most : (c : ℕ) (xs : List (Option Flight)) (k : ℕ) (f : Flight) (v : Option Flight) → at xs k ≡ Some f → flight_rest c v ≤ flight_rest c (Some f) → flights_rest c (set xs k v) ≤ flights_rest c xs

@@ -28,12 +28,12 @@ pub record Known (s : Setup) (w : World) : Type 0 where
 
 -- ---- images
 
-within : {A : Type 0} (xs : List A) (i : ℕ) (x : A) → slice_get xs i ≡ Some x → i < length xs
+pub within : {A : Type 0} (xs : List A) (i : ℕ) (x : A) → slice_get xs i ≡ Some x → i < length xs
 within [] i x is = absurd (none-some x is)
 within (y ∷ ys) zero x is = omega arith
 within (y ∷ ys) (suc i) x is = let l = within ys i x is in omega (arith, l)
 
-there_is : {A : Type 0} (xs : List A) (i : ℕ) → i < length xs → (x : A) × (slice_get xs i ≡ Some x)
+pub there_is : {A : Type 0} (xs : List A) (i : ℕ) → i < length xs → (x : A) × (slice_get xs i ≡ Some x)
 there_is [] i l = absurd (omega arith)
 there_is (y ∷ ys) zero l = (y, refl)
 there_is (y ∷ ys) (suc i) l = there_is ys i (omega arith)
@@ -51,7 +51,7 @@ image_of s w sizes i p is =
 
 -- ---- replays
 
-kinds_after : (s : Setup) (es : List Event) → IsSetup s → AreOfKinds s.spheres (shown_of (after s es)).spheres
+pub kinds_after : (s : Setup) (es : List Event) → IsSetup s → AreOfKinds s.spheres (shown_of (after s es)).spheres
 kinds_after s es is =
     subst (λ (x : Whole). AreOfKinds s.spheres x.spheres) (sym (moves_are s es is).same)
     (moves-kinds s.numbers s.spheres (whole_of s) (moves (world_of s) es) (start-kinds s.numbers.chunk s.spheres))

@@ -25,3 +25,5 @@ pub mod NextEvents
 pub mod NextOfAll
 pub mod FinishingAll
 pub mod KindsKept
+pub mod Played
+mod Examples

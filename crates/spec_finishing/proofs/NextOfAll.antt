@@ -20,6 +20,7 @@ use Rattle.spec_protocol.specs.Finishing.{Who, least, standing, for_flight, for_
 use Rattle.spec_protocol.proofs.Slots.{at_within}
 use Rattle.spec_finishing.specs.Rest.{held_begun, core_begun, actor_begun, begun}
 use Rattle.spec_finishing.specs.Ending.{IsFinished}
+use Rattle.spec_finishing.proofs.Slots.{one_unless, one_at_most}
 use Rattle.spec_finishing.proofs.Knowing.{Known}
 use Rattle.spec_finishing.proofs.Spending.{happens-less}
 use Rattle.spec_finishing.proofs.Turns.{no-flight, least-none, HasActor, has-actor}
@@ -47,7 +48,7 @@ step_act s w who k c h known next_known none is thread found on open_ =
     subst (λ (d : ℕ). StepRose w who.sphere k h.chunk.done.n (stepping w d)) (sym (core_is w c h on.there)) (step-rose s w who.sphere k c h none a on found open_)
     ) in
     let was = begun_on w who k c h none is thread found on.there in
-    let zero_ = ap {B = ℕ} (λ (b : Bool). cond b 0 1) open_ in
+    let zero_ = ap one_unless open_ in
     let more = r.more in
     rose_falls s w who k (Event.Step c) known next_known none is thread r.rose (omega (arith, was, zero_, more))
 
@@ -64,10 +65,6 @@ commit_falls s w e who n known next_known none is commits few =
     let less = happens-less s w e c.move a.sphere a.book known c.is (ap (slice_get (shown_of w).spheres) c.sphere ∙ a.shows) a.role in
     let more = c.more in
     record { done = c.done; less = omega (arith, less, more, few) }
-
-one_at_most : (b : Bool) → cond b 0 1 ≤ 1
-one_at_most true = omega arith
-one_at_most false = omega arith
 
 closed_is : (ch : Chunk) → is_open ch ≡ false → (how : How) × (ch.closed ≡ Some how)
 closed_is ch e =
@@ -169,3 +166,7 @@ unfolding next
 next-none w e =
     let r = standing_next w (standing w) refl e in
     record { flights = no-flight w r.0; replays = least-none 0 w.spheres r.1 }
+
+pub next-stands : (w : World) → next w ≡ None → standing w ≡ None
+unfolding next
+next-stands w e = (standing_next w (standing w) refl e).0

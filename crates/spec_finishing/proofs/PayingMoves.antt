@@ -113,8 +113,8 @@ serial_paid c images x i k moment image p b (Some t) there is role goes thread f
     let pays = serial-pays c image p b k moment t x.devices role going (goes going) thread fits in
     spheres-pay c images x.spheres i image p (laid v) ((length v.words + c + 1) + 3) 0 there is (omega (arith, pays))
 
-pub dma_none : (c : ℕ) (images : List SphereSetup) (x : Whole) (i : ℕ) (image : SphereSetup) (p : Sphere) (b : Book) (o : Option Moved) → slice_get images i ≡ Some image → slice_get x.spheres i ≡ Some p → DmaPays c image p o → (o ≡ None → ⊥)
+pub dma_paid : (c : ℕ) (images : List SphereSetup) (x : Whole) (i : ℕ) (image : SphereSetup) (p : Sphere) (o : Option Moved) → slice_get images i ≡ Some image → slice_get x.spheres i ≡ Some p → DmaPays c image p o → (o ≡ None → ⊥)
     → spheres_rest c images (do_dma x i o).spheres + (dma_most c o + 3) ≤ spheres_rest c images x.spheres + 0
-dma_none c images x i image p b None there is pays some = absurd (some refl)
-dma_none c images x i image p b (Some v) there is pays some =
+dma_paid c images x i image p None there is pays some = absurd (some refl)
+dma_paid c images x i image p (Some v) there is pays some =
     spheres-pay c images x.spheres i image p (laid v) ((length v.words + c + 1) + 3) 0 there is (omega (arith, pays))

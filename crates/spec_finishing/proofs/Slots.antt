@@ -22,18 +22,21 @@ flights-none c (x ∷ xs) none =
 
 -- ---- the cores told
 
-one_none : (b : Bool) → cond b 0 1 ≤ 1
-one_none true = omega arith
-one_none false = omega arith
+abbrev pub one_unless : Bool → ℕ
+one_unless b = cond b 0 1
+
+pub one_at_most : (b : Bool) → one_unless b ≤ 1
+one_at_most true = omega arith
+one_at_most false = omega arith
 
 pub untold-most : (n t : ℕ) → untold_cores n t ≤ n
 untold-most zero t = omega arith
-untold-most (suc n) t = let h = one_none (told_at t n) in let r = untold-most n t in omega (arith, h, r)
+untold-most (suc n) t = let h = one_at_most (told_at t n) in let r = untold-most n t in omega (arith, h, r)
 
 untold_past : (n : ℕ) (f : Flight) (c : ℕ) → n ≤ c → untold_cores n (tell f c).told ≡ untold_cores n f.told
 untold_past zero f c l = refl
 untold_past (suc n) f c l =
-    let h = ap {B = ℕ} (λ (b : Bool). cond b 0 1) (told-tell_other f c n (λ e. omega arith)) in
+    let h = ap one_unless (told-tell_other f c n (λ e. omega arith)) in
     let r = untold_past n f c (omega arith) in
     omega (arith, h, r)
 
@@ -43,21 +46,21 @@ untold-tell zero f c l e = absurd (omega arith)
 untold-tell (suc n) f c l e =
     elim (cases_eq n c) [
       | inl same ↦ (
-          let was : cond (told_at f.told n) 0 1 ≡ 1 = ap {B = ℕ} (λ (d : ℕ). cond (told_at f.told d) 0 1) same ∙ ap {B = ℕ} (λ (b : Bool). cond b 0 1) e in
-          let now : cond (told_at (tell f c).told n) 0 1 ≡ 0 = ap {B = ℕ} (λ (d : ℕ). cond (told_at (tell f c).told d) 0 1) same ∙ ap {B = ℕ} (λ (b : Bool). cond b 0 1) (told-tell f c) in
+          let was : one_unless (told_at f.told n) ≡ 1 = ap (λ (d : ℕ). one_unless (told_at f.told d)) same ∙ ap one_unless e in
+          let now : one_unless (told_at (tell f c).told n) ≡ 0 = ap (λ (d : ℕ). one_unless (told_at (tell f c).told d)) same ∙ ap one_unless (told-tell f c) in
           let r = untold_past n f c (omega arith) in
           omega (arith, was, now, r)
           )
       | inr ne ↦ (
-          let h = ap {B = ℕ} (λ (b : Bool). cond b 0 1) (told-tell_other f c n ne) in
+          let h = ap one_unless (told-tell_other f c n ne) in
           let r = untold-tell n f c (omega arith) e in
           omega (arith, h, r)
           )
     ]
 
-told_less : (b d : Bool) → (b ≡ true → d ≡ true) → cond d 0 1 ≤ cond b 0 1
-told_less true d h = let e = ap {B = ℕ} (λ (b : Bool). cond b 0 1) (h refl) in omega (arith, e)
-told_less false d h = one_none d
+told_less : (b d : Bool) → (b ≡ true → d ≡ true) → one_unless d ≤ one_unless b
+told_less true d h = let e = ap one_unless (h refl) in omega (arith, e)
+told_less false d h = one_at_most d
 
 told_more : (f : Flight) (c d : ℕ) → told_at f.told d ≡ true → told_at (tell f c).told d ≡ true
 told_more f c d e =

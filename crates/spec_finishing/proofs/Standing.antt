@@ -16,7 +16,7 @@ use Rattle.spec_finishing.specs.Work.{what_work, role_work, sphere_work, move_wo
 use Rattle.spec_finishing.specs.Rest.{price, spheres_rest}
 use Rattle.spec_finishing.proofs.GoingOn.{GoesOn}
 use Rattle.spec_finishing.proofs.PayingSerial.{dma-pays}
-use Rattle.spec_finishing.proofs.PayingMoves.{what_most, sphere_most, move_most, what_more, what_own, chunk_paid, serial_paid, dma_none}
+use Rattle.spec_finishing.proofs.PayingMoves.{what_most, sphere_most, move_most, what_more, what_own, chunk_paid, serial_paid, dma_paid}
 
 -- every sphere has its image, and every replay that goes on stands beside its play
 pub record Stands (s : Setup) (x : Whole) : Type 0 where
@@ -39,7 +39,7 @@ what_paid c images z x moment i image p b (OfChunk k how n limit) positive there
 what_paid c images z x moment i image p b (OfSerial k) positive there is role goes fits = serial_paid c images x i k moment image p b (slice_get p.threads k) there is role goes refl fits
 what_paid c images z x moment i image p b OfDma positive there is role goes fits =
     let going : is_over b.now ≡ false = sym (ap is_stopped role) ∙ fits.going in
-    dma_none c images x i image p b (dma_moved x.devices p) there is (dma-pays c image p b x.devices role going (goes going) fits) (not_none (dma_moved x.devices p) fits.moves)
+    dma_paid c images x i image p (dma_moved x.devices p) there is (dma-pays c image p b x.devices role going (goes going) fits) (not_none (dma_moved x.devices p) fits.moves)
 what_paid c images z x moment i image p b (OfRaise k value) positive there is role goes fits = absurd (raise_fits p b (slice_get p.threads k) role fits)
 
 -- ---- in any sphere

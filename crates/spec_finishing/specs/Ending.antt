@@ -50,9 +50,10 @@ pub record IsFinished (w : World) : Type 0 where
   pub flights : (k : ℕ) → at w.slots k ≡ None
   pub replays : (i : ℕ) (p : Sphere) → slice_get w.spheres i ≡ Some p → IsAtEnd p.role
 
--- these events finish the world that this schedule leaves
+-- these events and no others finish the world that this schedule leaves
 pub record Ends (s : Setup) (es finishing : List Event) : Type 0 where
   pub finishes : Finishes (after s es) finishing
+  pub only : (others : List Event) → Finishes (after s es) others → others ≡ finishing
   pub falls : Falls s (after s es) finishing
   -- for each unit of the run's work there are as many events at most as there are cores, and six
   pub first : rest s (after s es) ≤ (s.cores + 6) * work s es

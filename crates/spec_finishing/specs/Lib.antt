@@ -1,3 +1,4 @@
 pub mod Work
 pub mod Rest
 pub mod Ending
+pub mod Finished

@@ -3,4 +3,4 @@
 
 mod promise;
 
-pub use promise::finishing_ends;
+pub use promise::{finishing_ends, replays_are_finished};

@@ -1,5 +1,6 @@
-//! What is promised of finishing. The promise is a clause of a function that does nothing.
+//! What is promised of finishing. Each promise is a clause of a function that does nothing.
 ghost use Rattle.spec_finishing.specs.Ending.{FinishingEnds};
+ghost use Rattle.spec_finishing.specs.Finished.{ReplaysAreFinished};
 
 /// After every list of events, where there are cores and slots and each replayed log has a standard size over 0: the events
 /// of finishing come to an end, and then no flight stands and every replay is complete or has diverged. Each of them is
@@ -8,4 +9,11 @@ ghost use Rattle.spec_finishing.specs.Ending.{FinishingEnds};
 /// the words stored by the kernel and by DMAs, of the replays' plays and of what the schedule did in the other spheres.
 pub fn finishing_ends()
     ensures { FinishingEnds }
+{}
+
+/// Whatever the schedule, after the events that finish it every replayed sphere has done its log's whole play on its image:
+/// it has the play's commits, with their loads and outputs, and the play's end. Its memory, with no word in flight, and its
+/// threads are those of the play, unless that end is within a commit, of which pieces may stand.
+pub fn replays_are_finished()
+    ensures { ReplaysAreFinished }
 {}

@@ -1,0 +1,108 @@
+-- What is left of small replays, and which events finish them.
+use Rattle.std.proofs.Common.{◌≡◌, ℕ, List, [], ◌∷◌, ◌++◌, length, replicate, ◌-◌, None, refl}
+use Rattle.std.specs.Int.{bytes_low_first}
+use Rattle.dl_entry.specs.declared.Actor.{Actor}
+use Rattle.spec_log.specs.declared.ModeName.{ModeName}
+use Rattle.spec_log.specs.declared.Sizes.{Sizes}
+use Rattle.spec_log.specs.declared.LogParts.{LogParts}
+use Rattle.spec_protocol.specs.declared.event.Event.{Event}
+use Rattle.spec_isa.specs.Instruction.{serial_of, loads_of, next_of, load_of, store_of, one}
+use Rattle.spec_isa.specs.Words.{lay, read, merged}
+use Rattle.spec_kernel.specs.Answers.{answer}
+use Rattle.spec_kernel.specs.Calls.{called}
+use Rattle.spec_kernel.specs.Copies.{bytes_put}
+use Rattle.spec_kernel.specs.Devices.{random_bytes, random_after}
+use Rattle.spec_kernel.specs.Needs.{next_kind, next_plan, need}
+use Rattle.spec_kernel.specs.Records.{fits}
+use Rattle.spec_kernel.specs.Serving.{serve, console_told}
+use Rattle.spec_play.specs.Plays.{play_one}
+use Rattle.spec_play.specs.Transfers.{dma_verdict}
+use Rattle.spec_play.specs.Turns.{has_left_over, now_at}
+use Rattle.spec_play.specs.Verdicts.{chunk_verdict, serial_verdict}
+use Rattle.spec_engine.specs.Choices.{on_option, choose}
+use Rattle.spec_engine.specs.Chunks.{at_limit, reading, storing, loading, running, step}
+use Rattle.spec_engine.specs.Flights.{first_slot, free_slot}
+use Rattle.spec_engine.specs.Signatures.{meets}
+use Rattle.spec_protocol.specs.Asking.{grant_chunk, grant_serial, asking}
+use Rattle.spec_protocol.specs.Commits.{chunk_moved, serial_moved, dma_moved, raised}
+use Rattle.spec_protocol.specs.Finishing.{next, Finishes}
+use Rattle.spec_protocol.specs.Flying.{draining, delivering, retiring}
+use Rattle.spec_protocol.specs.Machine.{IsReplayed, Setup, world_of, act, happens}
+use Rattle.spec_protocol.specs.Placing.{placing, raising}
+use Rattle.spec_protocol.specs.Spheres.{head_of, limit_of}
+use Rattle.spec_protocol.specs.Stepping.{stepping, cutting}
+use Rattle.spec_protocol.specs.Transferring.{transfer, transferring}
+use Rattle.spec_finishing.specs.Work.{commit_work, plays_work}
+use Rattle.spec_finishing.specs.Rest.{replay_left, price, begun, rest}
+
+-- ---- scenes
+
+abbrev bytes_of : List ℕ → List ℕ
+bytes_of [] = []
+bytes_of (w ∷ ws) = bytes_low_first 0 4 w ++ bytes_of ws
+
+-- code in a memory of 512 bytes
+abbrev image : List ℕ → List ℕ
+image ws = let bytes = bytes_of ws in bytes ++ replicate (512 - length bytes) 0
+
+-- two instructions, and then the call that ends the thread
+abbrev exits : List ℕ
+exits = 0x00000893 ∷ 0x00700513 ∷ 0x00000073 ∷ []
+
+-- a store, a load that reserves, a store on its condition, and then the call that ends the thread
+abbrev reserves : List ℕ
+reserves = 0x10400293 ∷ 0x10502023 ∷ 0x1002A32F ∷ 0x1852A3AF ∷ 0x00000893 ∷ 0x00000073 ∷ []
+
+-- one core replays the log, with chunks of 100, a buffer of one word, a window of 2 and signatures of 64
+abbrev replay : List ℕ → LogParts → Setup
+replay code log =
+    record {
+      cores = 1;
+      window = 2;
+      numbers = record { chunk = 100; buffer = 1; signature = 64 };
+      seed = 0;
+      input = [];
+      spheres = record { memory = image code; entry = 0; role = IsReplayed log } ∷ [];
+    }
+
+-- in order-only, without sizes, of thread 0
+abbrev unsized : (count : ℕ) → List Actor → LogParts
+unsized count order =
+    record { mode = ModeName.OrderOnly; s = 100; count = count; order = order; sizes = Sizes.Short []; interrupts = []; inputs = []; dmas = [] }
+
+abbrev empty_log : LogParts
+empty_log = unsized 0 []
+
+abbrev two_log : LogParts
+two_log = unsized 2 (Actor.Thread 0 ∷ Actor.Thread 0 ∷ [])
+
+-- both instructions, the call that closes the chunk, its commit, the call again, and its commit
+abbrev exits_events : List Event
+exits_events =
+    Event.Step 0 ∷ Event.Step 0 ∷ Event.Step 0 ∷ Event.Ask 0 ∷ Event.Step 0 ∷ Event.Ask 0 ∷ []
+
+-- ---- rows
+
+pub record AreFinished : Type 0 where
+  -- of a log without commits nothing is left
+  pub empty_next : next (world_of (replay exits empty_log)) ≡ None
+  pub empty_rest : rest (replay exits empty_log) (world_of (replay exits empty_log)) ≡ 0
+  -- two instructions and two commits
+  pub exits_work : plays_work (replay exits two_log).spheres ≡ 4
+  pub exits_finish : Finishes (world_of (replay exits two_log)) exits_events
+  -- seven for each, less one for the thread that is on a core
+  pub exits_rest : rest (replay exits two_log) (world_of (replay exits two_log)) ≡ 27
+  -- five instructions and two commits
+  pub reserves_work : plays_work (replay reserves two_log).spheres ≡ 7
+
+pub replays_finish : AreFinished
+unfolding serial_of loads_of next_of load_of store_of one lay read merged answer called bytes_put random_bytes random_after next_kind next_plan need fits serve console_told play_one dma_verdict has_left_over now_at chunk_verdict serial_verdict on_option choose at_limit reading storing loading running step first_slot free_slot meets grant_chunk grant_serial asking chunk_moved serial_moved dma_moved raised next draining delivering retiring act happens placing raising head_of limit_of stepping cutting transfer transferring commit_work replay_left price begun
+replays_finish =
+    record {
+      empty_next = refl;
+      empty_rest = refl;
+      exits_work = refl;
+      exits_finish = (refl, (refl, (refl, (refl, (refl, (refl, refl))))));
+      exits_rest = refl;
+      reserves_work = refl;
+    }

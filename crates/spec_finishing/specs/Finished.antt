@@ -1,0 +1,25 @@
+-- What is promised of replays once finishing has ended.
+use Rattle.std.specs.Prelude.{◌≡◌, ℕ, List, ◌++◌, slice_get, Some}
+use Rattle.spec_log.specs.declared.LogParts.{LogParts}
+use Rattle.spec_play.specs.Plays.{play}
+use Rattle.spec_protocol.specs.declared.event.Event.{Event}
+use Rattle.spec_protocol.specs.Spheres.{Book, Replay, Sphere}
+use Rattle.spec_protocol.specs.Machine.{IsReplayed, SphereSetup, Setup}
+use Rattle.spec_protocol.specs.Finishing.{FinishesAfter}
+use Rattle.spec_protocol.specs.Promises.{after}
+use Rattle.spec_replay.specs.Promises.{IsPlayed}
+use Rattle.spec_finishing.specs.Ending.{CanFinish}
+
+-- sphere i, which was set up by the image to replay the log, has done its log's whole play. Its words are in memory: none flies
+pub record HasPlayed (image : SphereSetup) (log : LogParts) (s : Setup) (es : List Event) (i : ℕ) : Type 0 where
+  pub sphere : Sphere
+  pub book : Book
+  pub there : slice_get (after s es).spheres i ≡ Some sphere
+  pub role : sphere.role ≡ Replay book
+  pub played : IsPlayed (play log image.memory image.entry) sphere book
+
+-- whatever the schedule, after the events that finish it
+abbrev pub ReplaysAreFinished : Type 0
+ReplaysAreFinished =
+    (image : SphereSetup) (log : LogParts) (s : Setup) (es finishing : List Event) (i : ℕ) → CanFinish s → FinishesAfter s es finishing → slice_get s.spheres i ≡ Some image → image.role ≡ IsReplayed log
+    → HasPlayed image log s (es ++ finishing) i
