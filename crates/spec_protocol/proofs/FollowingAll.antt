@@ -29,12 +29,13 @@ use Rattle.spec_protocol.specs.Serial.{Whole, whole_of, laid, do_moved, do_seria
 use Rattle.spec_protocol.specs.Moves.{move_chunk, do_what, do_at, do_move, do_moves, FitsChunk, FitsSerial, FitsRaise, FitsWhat, FitsAt, Fits, FitAll}
 use Rattle.spec_protocol.specs.PlayingBack.{PlaysBack, LogsPlayBack}
 use Rattle.spec_protocol.proofs.Moving.{get-set_other, get-set_same}
+use Rattle.spec_protocol.proofs.Elsewhere.{at-away}
 use Rattle.spec_protocol.proofs.Lookups.{short_at}
 use Rattle.spec_protocol.proofs.Growing.{commits_if, commits_in, OrderStands, SizesStand, Stands, Ahead}
 use Rattle.spec_protocol.proofs.Coming.{ahead-end}
 use Rattle.spec_protocol.proofs.Following.{early_same, pending, pending_same, sum_from, sum-zero, Follows}
 use Rattle.spec_protocol.proofs.FollowingMoves.{Reaches, Grown, grown_refl, grown_trans, chunk-grown, serial-grown, dma-grown, raise-grown, recorded_dma}
-use Rattle.spec_protocol.proofs.Schedules.{moves_are}
+use Rattle.spec_protocol.proofs.Schedules.{start-sphere, moves_are}
 
 -- ---- the recorded sphere after a move
 
@@ -98,34 +99,6 @@ what_comes z x moment i p log (OfSerial k) buffer s is role fits = serial_comes 
 what_comes z x moment i p log OfDma buffer s is role fits = dma_comes x i p log p.progress.request is role refl fits.moves
 what_comes z x moment i p log (OfRaise k value) buffer s is role fits = raise_comes x i p log k value (slice_get p.threads k) is role refl fits
 
--- ---- a move of another sphere
-
-chunk_away : (z : Numbers) (x : Whole) (i j k : ℕ) (how : How) (n limit : ℕ) (p : Sphere) (o : Option Parts) → j ≢ i → slice_get (move_chunk z x i k how n limit p o).spheres j ≡ slice_get x.spheres j
-chunk_away z x i j k how n limit p None ne = refl
-chunk_away z x i j k how n limit p (Some t) ne = get-set_other x.spheres i j _ ne
-
-serial_away : (x : Whole) (i j k moment : ℕ) (p : Sphere) (o : Option Parts) → j ≢ i → slice_get (do_serial x i k moment p o).spheres j ≡ slice_get x.spheres j
-serial_away x i j k moment p None ne = refl
-serial_away x i j k moment p (Some t) ne = get-set_other x.spheres i j _ ne
-
-dma_away : (x : Whole) (i j : ℕ) (o : Option Moved) → j ≢ i → slice_get (do_dma x i o).spheres j ≡ slice_get x.spheres j
-dma_away x i j None ne = refl
-dma_away x i j (Some v) ne = get-set_other x.spheres i j _ ne
-
-raise_away : (x : Whole) (i j k value : ℕ) (p : Sphere) (o : Option Parts) → j ≢ i → slice_get (do_raise x i k value p o).spheres j ≡ slice_get x.spheres j
-raise_away x i j k value p None ne = refl
-raise_away x i j k value p (Some t) ne = get-set_other x.spheres i j _ ne
-
-what_away : (z : Numbers) (x : Whole) (moment i j : ℕ) (p : Sphere) (what : What) → j ≢ i → slice_get (do_what z x moment i p what).spheres j ≡ slice_get x.spheres j
-what_away z x moment i j p (OfChunk k how n limit) ne = chunk_away z x i j k how n limit p (slice_get p.threads k) ne
-what_away z x moment i j p (OfSerial k) ne = serial_away x i j k moment p (slice_get p.threads k) ne
-what_away z x moment i j p OfDma ne = dma_away x i j (dma_moved x.devices p) ne
-what_away z x moment i j p (OfRaise k value) ne = raise_away x i j k value p (slice_get p.threads k) ne
-
-at_away : (z : Numbers) (x : Whole) (m : Move) (j : ℕ) (o : Option Sphere) → j ≢ m.sphere → slice_get (do_at z x m o).spheres j ≡ slice_get x.spheres j
-at_away z x m j None ne = refl
-at_away z x m j (Some p) ne = what_away z x m.moment m.sphere j p m.what ne
-
 -- ---- moves
 
 move_comes : (z : Numbers) (x : Whole) (m : Move) (i : ℕ) (p : Sphere) (log : LogParts) → 0 < z.buffer → log.s ≡ z.chunk → slice_get x.spheres i ≡ Some p → p.role ≡ Record log → Fits z x m → Comes (do_move z x m) i p log
@@ -138,7 +111,7 @@ move_comes z x m i p log buffer s is role fits =
           (subst (λ (n : ℕ). Comes (do_what z x m.moment m.sphere p m.what) n p log) (sym e)
           (what_comes z x m.moment m.sphere p log m.what buffer s there role (subst (FitsAt z x.devices m) there fits)))
           )
-      | inr ne ↦ record { sphere = p; log = log; there = at_away z x m i (slice_get x.spheres m.sphere) ne ∙ is; role = role; grown = grown_refl p log }
+      | inr ne ↦ record { sphere = p; log = log; there = at-away z x m i (slice_get x.spheres m.sphere) ne ∙ is; role = role; grown = grown_refl p log }
     ]
 
 moves_come : (z : Numbers) (x : Whole) (ms : List Move) (i : ℕ) (p : Sphere) (log : LogParts) → 0 < z.buffer → log.s ≡ z.chunk → slice_get x.spheres i ≡ Some p → p.role ≡ Record log → FitAll z x ms → Comes (do_moves z x ms) i p log
@@ -275,16 +248,11 @@ ends L image q s r =
 
 -- ---- all
 
-start_sphere : (z : ℕ) (ds : List SphereSetup) (i : ℕ) (d : SphereSetup) → slice_get ds i ≡ Some d → slice_get (map (sphere_of z) ds) i ≡ Some (sphere_of z d)
-start_sphere z [] i d e = absurd (none-some d e)
-start_sphere z (c ∷ ds) zero d e = let h : c ≡ d = cc in ap (λ (x : SphereSetup). Some (sphere_of z x)) h
-start_sphere z (c ∷ ds) (suc i) d e = start_sphere z ds i d e
-
 pub logs_play_back : LogsPlayBack
 logs_play_back s es i image mode p log is there role shown log_ =
     let m = moves_are s es is in
     let z : ℕ = s.numbers.chunk in
-    let c = moves_come s.numbers (whole_of s) (moves (world_of s) es) i (sphere_of z image) (new_log mode z) is.buffer refl (start_sphere z s.spheres i image there)
+    let c = moves_come s.numbers (whole_of s) (moves (world_of s) es) i (sphere_of z image) (new_log mode z) is.buffer refl (start-sphere z s.spheres i image there)
     (ap (role_of z (started image.entry ∷ [])) role) m.possible in
     let q : Sphere = c.sphere in
     let L : LogParts = c.log in

@@ -8,6 +8,7 @@ pub mod Covering
 pub mod Steps
 pub mod Current
 pub mod Moving
+pub mod Elsewhere
 pub mod Relaying
 pub mod Transfers
 pub mod Invariant

@@ -70,14 +70,14 @@ pieces_other : (k j total : ℕ) → j ≢ k → pieces_of (Turn k) j total ≡ 
 pieces_other k j total ne = ap (λ (b : Bool). pieces_if b total) (ne_eqb k j (λ e. ne (sym e)))
 
 -- the thread has the turn in a replay that hasn't stopped
-turn_is : (now : Now) (k : ℕ) → is_over now ≡ false → other_turn (actor_of now) k ≡ None → now ≡ Turn k
-turn_is (Turn j) k going e =
+pub turn-is : (now : Now) (k : ℕ) → is_over now ≡ false → other_turn (actor_of now) k ≡ None → now ≡ Turn k
+turn-is (Turn j) k going e =
     ap Turn (eqb-true j k (elim (eqb j k) as (λ b. cond b None (Some (Actor.Thread j)) ≡ None → b ≡ true) [
       | true ↦ λ h. refl
       | false ↦ λ h. absurd (none-some (Actor.Thread j) (sym h))
     ] e))
-turn_is TurnOfDma k going e = absurd (none-some Actor.Dma (sym e))
-turn_is (Over how) k going e = absurd (true≢false going)
+turn-is TurnOfDma k going e = absurd (none-some Actor.Dma (sym e))
+turn-is (Over how) k going e = absurd (true≢false going)
 
 -- ---- what a commit of thread k keeps of its sphere
 
@@ -204,7 +204,7 @@ chunk_in_moves k Plain piece short r devices p is turn apart =
 chunk_in_moves k (Record log) piece short r devices p is turn apart =
     granted_moves k (Record _) (chunk_effect k p.progress.request r) devices devices p (ap halves (sym is)) (ap replays (sym is)) (λ s j t. ap (λ (q : Role). limit_in q s j t.commits) (sym is)) apart
 chunk_in_moves k (Replay b) piece short r devices p is turn apart =
-    replayed_moves k b piece r devices p is (turn_is b.now k turn.going turn.turn) apart
+    replayed_moves k b piece r devices p is (turn-is b.now k turn.going turn.turn) apart
 
 pub chunk-moves : (k : ℕ) (piece short : Bool) (r : Run) (devices : Devices) (p : Sphere) → HasTurn k p.role p → Apart r.words → MovesOnly k devices p (chunk_moved k piece short r devices p)
 unfolding chunk_moved
@@ -313,7 +313,7 @@ serial_in_moves k moment (Record log) t devices p is turn =
     let v = serve k p.threads p.progress.request t p.memory g.input in
     granted_moves k (Record (serial_noted k t g log p)) (serial_effect k v) devices (console_told t p.memory v.outputs g.devices) p (ap halves (sym is)) (ap replays (sym is)) (λ s j u. ap (λ (q : Role). limit_in q s j u.commits) (sym is)) (serve-apart k p.threads p.progress.request t p.memory g.input)
 serial_in_moves k moment (Replay b) t devices p is turn =
-    verdict_moves k b (serial_verdict b.log p.progress b.used k p.threads t p.memory) devices p is (turn_is b.now k turn.going turn.turn)
+    verdict_moves k b (serial_verdict b.log p.progress b.used k p.threads t p.memory) devices p is (turn-is b.now k turn.going turn.turn)
     (λ e u h. serial_apart b.log p.progress b.used k p.threads t p.memory e u h)
 
 pub serial-moves : (k moment : ℕ) (t : Parts) (devices : Devices) (p : Sphere) → HasTurn k p.role p → MovesOnly k devices p (serial_moved k moment t devices p)

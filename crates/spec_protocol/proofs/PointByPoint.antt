@@ -18,6 +18,7 @@ use Rattle.spec_protocol.specs.Commits.{Moved, chunk_in, chunk_moved, serial_in,
 use Rattle.spec_protocol.specs.Serial.{Whole, laid, do_moved, do_chunk, do_serial, do_dma, do_raise, do_kind, in_live, do_commit, do_interrupt, do_point, do_points, CanChunk, CanSerial, CanTake, CanKind, InLive, CanCommit, CanInterrupt, CanDo, CanDoAll}
 use Rattle.spec_protocol.specs.Logged.{Supplied, answer_to, bytes_for, sphere_in, input_at, bytes_at, is_of, supplied, logged}
 use Rattle.spec_protocol.proofs.Moving.{get-set_other, get-set_same}
+use Rattle.spec_protocol.proofs.Elsewhere.{serial-away, dma-away, raise-away}
 use Rattle.spec_protocol.proofs.Invariant.{sphere_of_point}
 use Rattle.spec_protocol.proofs.KeptLogs.{Keeps, KeepsIn, recorded_chunk, chunk-keeps, recorded_serial, serial-keeps, recorded_dma, dma-keeps, raise-keeps}
 
@@ -113,27 +114,15 @@ chunk_away : (x : Whole) (i j k size : ℕ) (short : Bool) (p : Sphere) (o : Opt
 chunk_away x i j k size short p None ne = refl
 chunk_away x i j k size short p (Some t) ne = get-set_other x.spheres i j _ ne
 
-serial_away : (x : Whole) (i j k moment : ℕ) (p : Sphere) (o : Option Parts) → j ≢ i → slice_get (do_serial x i k moment p o).spheres j ≡ slice_get x.spheres j
-serial_away x i j k moment p None ne = refl
-serial_away x i j k moment p (Some t) ne = get-set_other x.spheres i j _ ne
-
-dma_away : (x : Whole) (i j : ℕ) (o : Option Moved) → j ≢ i → slice_get (do_dma x i o).spheres j ≡ slice_get x.spheres j
-dma_away x i j None ne = refl
-dma_away x i j (Some v) ne = get-set_other x.spheres i j _ ne
-
-raise_away : (x : Whole) (i j k value : ℕ) (p : Sphere) (o : Option Parts) → j ≢ i → slice_get (do_raise x i k value p o).spheres j ≡ slice_get x.spheres j
-raise_away x i j k value p None ne = refl
-raise_away x i j k value p (Some t) ne = get-set_other x.spheres i j _ ne
-
 kind_away : (x : Whole) (moment i j : ℕ) (actor : Actor) (kind : CommitKind) (size : ℕ) (short : Bool) (p : Sphere) → j ≢ i → slice_get (do_kind x moment i actor kind size short p).spheres j ≡ slice_get x.spheres j
 kind_away x moment i j (Actor.Thread k) CommitKind.Chunk size short p ne = chunk_away x i j k size short p (slice_get p.threads k) ne
-kind_away x moment i j (Actor.Thread k) CommitKind.Serial size short p ne = serial_away x i j k moment p (slice_get p.threads k) ne
+kind_away x moment i j (Actor.Thread k) CommitKind.Serial size short p ne = serial-away x i j k moment p (slice_get p.threads k) ne
 kind_away x moment i j (Actor.Thread k) CommitKind.Dma size short p ne = refl
 kind_away x moment i j (Actor.Thread k) CommitKind.Piece size short p ne = refl
 kind_away x moment i j Actor.Dma CommitKind.Chunk size short p ne = refl
 kind_away x moment i j Actor.Dma CommitKind.Serial size short p ne = refl
 kind_away x moment i j Actor.Dma CommitKind.Piece size short p ne = refl
-kind_away x moment i j Actor.Dma CommitKind.Dma size short p ne = dma_away x i j (dma_moved x.devices p) ne
+kind_away x moment i j Actor.Dma CommitKind.Dma size short p ne = dma-away x i j (dma_moved x.devices p) ne
 
 commit_away : (x : Whole) (moment i j : ℕ) (actor : Actor) (kind : CommitKind) (size : ℕ) (short : Bool) (o : Option Sphere) → j ≢ i → slice_get (do_commit x moment i actor kind size short o).spheres j ≡ slice_get x.spheres j
 commit_away x moment i j actor kind size short None ne = refl
@@ -141,7 +130,7 @@ commit_away x moment i j actor kind size short (Some p) ne = live_away p.role x 
 
 interrupt_away : (x : Whole) (i j k value : ℕ) (o : Option Sphere) → j ≢ i → slice_get (do_interrupt x i k value o).spheres j ≡ slice_get x.spheres j
 interrupt_away x i j k value None ne = refl
-interrupt_away x i j k value (Some p) ne = live_away p.role x _ j (raise_away x i j k value p (slice_get p.threads k) ne)
+interrupt_away x i j k value (Some p) ne = live_away p.role x _ j (raise-away x i j k value p (slice_get p.threads k) ne)
 
 point_away : (x : Whole) (q : Point) (j : ℕ) → j ≢ sphere_of_point q → slice_get (do_point x q).spheres j ≡ slice_get x.spheres j
 unfolding do_point

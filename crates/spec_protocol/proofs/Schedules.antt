@@ -1,12 +1,12 @@
 -- Every event keeps the invariant, and the start has it: so it holds after every schedule.
-use Rattle.std.proofs.Common.{◌≡◌, ℕ, zero, suc, ◌+◌, ◌<◌, List, [], ◌∷◌, length, replicate, Option, Some, None, refl, sym, ap, ◌∙◌, subst, arith, get_or}
+use Rattle.std.proofs.Common.{◌≡◌, ℕ, zero, suc, ◌+◌, ◌<◌, List, [], ◌∷◌, length, replicate, Option, Some, None, refl, sym, ap, ◌∙◌, subst, arith, get_or, slice_get, map}
 use Rattle.std.proofs.lemmas.Option.{none-some}
 use Rattle.spec_isa.specs.Words.{lays, Apart}
 use Rattle.spec_engine.specs.Flights.{Flight, at}
 use Rattle.spec_protocol.specs.declared.event.Event.{Event}
 use Rattle.spec_protocol.specs.Spheres.{Sphere, no_sphere}
 use Rattle.spec_protocol.specs.World.{Numbers, Held, World, Move, After, begun, sphere_at}
-use Rattle.spec_protocol.specs.Machine.{Setup, first_cores, world_of, core_no, sphere_no, slot_no, act, kept, happens, world_after, with_move, moves, sphere_of}
+use Rattle.spec_protocol.specs.Machine.{SphereSetup, Setup, first_cores, world_of, core_no, sphere_no, slot_no, act, kept, happens, world_after, with_move, moves, sphere_of}
 use Rattle.spec_protocol.specs.Serial.{Whole, whole_of}
 use Rattle.spec_protocol.specs.Shown.{flying, shown, shown_from, shown_of}
 use Rattle.spec_protocol.specs.Moves.{do_if, do_moves, FitsIf, FitAll}
@@ -109,6 +109,12 @@ start-good s is =
           (begun-begins s.numbers c 0 (sphere_at w c) h (sym (ap (λ (j : ℕ). begun s.numbers j 0 (sphere_at w c)) k) ∙ r.1));
       alone = λ c d h g eh eg same thread. sym (first_sphere s.numbers s.cores c w.spheres h eh) ∙ same ∙ first_sphere s.numbers s.cores d w.spheres g eg;
     }
+
+-- what sphere i is at first
+pub start-sphere : (z : ℕ) (ds : List SphereSetup) (i : ℕ) (d : SphereSetup) → slice_get ds i ≡ Some d → slice_get (map (sphere_of z) ds) i ≡ Some (sphere_of z d)
+start-sphere z [] i d e = absurd (none-some d e)
+start-sphere z (c ∷ ds) zero d e = let h : c ≡ d = cc in ap (λ (x : SphereSetup). Some (sphere_of z x)) h
+start-sphere z (c ∷ ds) (suc i) d e = start-sphere z ds i d e
 
 shown_itself : (n i : ℕ) (ps : List Sphere) → shown_from (replicate n None) i ps ≡ ps
 unfolding shown

@@ -37,10 +37,10 @@ words_apart : (request : Request) (bytes : List ℕ) → Apart (dma_words reques
 words_apart request bytes = bytes_apart _ request.buf _ tt
 
 -- it is the DMA's turn in a replay that hasn't stopped
-dma_turn_is : (now : Now) → is_over now ≡ false → not_of_dma (actor_of now) ≡ None → now ≡ TurnOfDma
-dma_turn_is (Turn k) going e = absurd (none-some (Actor.Thread k) (sym e))
-dma_turn_is TurnOfDma going e = refl
-dma_turn_is (Over how) going e = absurd (true≢false going)
+pub dma-turn_is : (now : Now) → is_over now ≡ false → not_of_dma (actor_of now) ≡ None → now ≡ TurnOfDma
+dma-turn_is (Turn k) going e = absurd (none-some (Actor.Thread k) (sym e))
+dma-turn_is TurnOfDma going e = refl
+dma-turn_is (Over how) going e = absurd (true≢false going)
 
 as_moves : (role : Role) (words : List Stored) (ds devices : Devices) (p : Sphere) → halves role ≡ halves p.role → replays role ≡ replays p.role → ((s j : ℕ) (t : Parts) → limit_of s role j t ≡ limit_of s p.role j t) → Apart words
     → DmaMoves ds p (dma_as role words devices p)
@@ -110,7 +110,7 @@ in_moves (Record log) devices p v is going turn e =
     live_moves (Record (dma_log log devices p p.progress.request)) devices p p.progress.request v (ap halves (sym is)) (ap replays (sym is)) (λ s j t. ap (λ (q : Role). limit_in q s j t.commits) (sym is)) e
 in_moves (Replay b) devices p v is going turn e =
     subst (DmaMoves devices p) (let h : dma_by_verdict b (dma_verdict b.log p.progress b.used) devices p ≡ v = cc in h)
-    (verdict_moves b (dma_verdict b.log p.progress b.used) devices p is (dma_turn_is b.now going turn) (λ ws h. verdict_apart b.log p.progress b.used ws h))
+    (verdict_moves b (dma_verdict b.log p.progress b.used) devices p is (dma-turn_is b.now going turn) (λ ws h. verdict_apart b.log p.progress b.used ws h))
 
 pub dma-moves : (devices : Devices) (p : Sphere) (v : Moved) → is_stopped p.role ≡ false → turn_before_dma p.role ≡ None → dma_moved devices p ≡ Some v → DmaMoves devices p v
 unfolding dma_moved

@@ -25,7 +25,8 @@ use Rattle.spec_protocol.specs.Transferring.{not_of_dma, turn_before_dma}
 use Rattle.spec_protocol.specs.Placing.{replays}
 use Rattle.spec_protocol.specs.Serial.{Whole, laid, do_moved, do_serial, do_dma}
 use Rattle.spec_protocol.specs.Moves.{move_chunk, do_what, FitsChunk, SerialFits, FitsSerial, DmaFits, FitsRaise, FitsWhat}
-use Rattle.spec_protocol.proofs.Moving.{get-set_same}
+use Rattle.spec_protocol.proofs.Moving.{get-set_same, turn-is}
+use Rattle.spec_protocol.proofs.Transfers.{dma-turn_is}
 use Rattle.spec_replay.specs.Following.{IsMovedOn, StandsAt, EndsWithin, Follows}
 use Rattle.spec_replay.proofs.Standing.{set_here}
 use Rattle.spec_replay.proofs.Judging.{alike_same}
@@ -33,20 +34,6 @@ use Rattle.spec_replay.proofs.Done.{Reaches, Beside, commit-reaches, transfer-re
 use Rattle.spec_replay.proofs.LastParts.{chunk-reaches}
 
 -- ---- whose turn it is
-
-thread_turn : (now : Now) (k : ℕ) → is_over now ≡ false → other_turn (actor_of now) k ≡ None → now ≡ Turn k
-thread_turn (Turn j) k going e =
-    ap Turn (eqb-true j k (elim (eqb j k) as (λ b. cond b None (Some (Actor.Thread j)) ≡ None → b ≡ true) [
-      | true ↦ λ h. refl
-      | false ↦ λ h. absurd (none-some (Actor.Thread j) (sym h))
-    ] e))
-thread_turn TurnOfDma k going e = absurd (none-some Actor.Dma (sym e))
-thread_turn (Over how) k going e = absurd (true≢false going)
-
-dma_turn : (now : Now) → is_over now ≡ false → not_of_dma (actor_of now) ≡ None → now ≡ TurnOfDma
-dma_turn (Turn j) going e = absurd (none-some (Actor.Thread j) (sym e))
-dma_turn TurnOfDma going e = refl
-dma_turn (Over how) going e = absurd (true≢false going)
 
 -- a replay that goes on has the play's turn
 goes_with : (log : LogParts) (y : Played) (b : Book) (o : (b.now ≡ y.now) ⊎ EndsWithin log y b) → is_over b.now ≡ false → b.now ≡ y.now
@@ -77,10 +64,10 @@ not_over r b role going = ap is_stopped (sym role) ∙ going
 turn_of_thread : (p : Sphere) (b : Book) (k : ℕ) → p.role ≡ Replay b → is_stopped p.role ≡ false → other_turn (head_of p) k ≡ None → b.now ≡ Turn k
 unfolding head_of
 turn_of_thread p b k role going free =
-    thread_turn b.now k (not_over p.role b role going) (ap (λ (r : Role). other_turn (head_in r p) k) (sym role) ∙ free)
+    turn-is b.now k (not_over p.role b role going) (ap (λ (r : Role). other_turn (head_in r p) k) (sym role) ∙ free)
 
 turn_of_dma : (p : Sphere) (b : Book) → p.role ≡ Replay b → is_stopped p.role ≡ false → turn_before_dma p.role ≡ None → b.now ≡ TurnOfDma
-turn_of_dma p b role going free = dma_turn b.now (not_over p.role b role going) (ap turn_before_dma (sym role) ∙ free)
+turn_of_dma p b role going free = dma-turn_is b.now (not_over p.role b role going) (ap turn_before_dma (sym role) ∙ free)
 
 -- ---- moves
 

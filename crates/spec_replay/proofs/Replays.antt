@@ -15,42 +15,14 @@ use Rattle.spec_protocol.specs.World.{Numbers, What, OfChunk, OfSerial, OfDma, O
 use Rattle.spec_protocol.specs.Machine.{IsReplayed, SphereSetup, role_of, sphere_of, moves, world_of}
 use Rattle.spec_protocol.specs.Serial.{Whole, whole_of, do_serial, do_dma, do_raise}
 use Rattle.spec_protocol.specs.Moves.{move_chunk, do_what, do_at, do_move, do_moves, FitsAt, Fits, FitAll}
-use Rattle.spec_protocol.proofs.Moving.{get-set_other}
-use Rattle.spec_protocol.proofs.Schedules.{moves_are}
+use Rattle.spec_protocol.proofs.Elsewhere.{at-away}
+use Rattle.spec_protocol.proofs.Schedules.{start-sphere, moves_are}
 use Rattle.spec_replay.specs.Promises.{ReplaysArePlays}
 use Rattle.spec_replay.proofs.Standing.{whole-stands}
 use Rattle.spec_replay.proofs.Done.{Reaches}
 use Rattle.spec_replay.proofs.Moved.{Stands, what-stands}
 
--- ---- a move of another sphere
-
-chunk_away : (z : Numbers) (x : Whole) (i j k : ℕ) (how : How) (n limit : ℕ) (p : Sphere) (o : Option Parts) → j ≢ i → slice_get (move_chunk z x i k how n limit p o).spheres j ≡ slice_get x.spheres j
-chunk_away z x i j k how n limit p None ne = refl
-chunk_away z x i j k how n limit p (Some t) ne = get-set_other x.spheres i j _ ne
-
-serial_away : (x : Whole) (i j k moment : ℕ) (p : Sphere) (o : Option Parts) → j ≢ i → slice_get (do_serial x i k moment p o).spheres j ≡ slice_get x.spheres j
-serial_away x i j k moment p None ne = refl
-serial_away x i j k moment p (Some t) ne = get-set_other x.spheres i j _ ne
-
-dma_away : (x : Whole) (i j : ℕ) (o : Option Moved) → j ≢ i → slice_get (do_dma x i o).spheres j ≡ slice_get x.spheres j
-dma_away x i j None ne = refl
-dma_away x i j (Some v) ne = get-set_other x.spheres i j _ ne
-
-raise_away : (x : Whole) (i j k value : ℕ) (p : Sphere) (o : Option Parts) → j ≢ i → slice_get (do_raise x i k value p o).spheres j ≡ slice_get x.spheres j
-raise_away x i j k value p None ne = refl
-raise_away x i j k value p (Some t) ne = get-set_other x.spheres i j _ ne
-
-what_away : (z : Numbers) (x : Whole) (moment i j : ℕ) (p : Sphere) (what : What) → j ≢ i → slice_get (do_what z x moment i p what).spheres j ≡ slice_get x.spheres j
-what_away z x moment i j p (OfChunk k how n limit) ne = chunk_away z x i j k how n limit p (slice_get p.threads k) ne
-what_away z x moment i j p (OfSerial k) ne = serial_away x i j k moment p (slice_get p.threads k) ne
-what_away z x moment i j p OfDma ne = dma_away x i j (dma_moved x.devices p) ne
-what_away z x moment i j p (OfRaise k value) ne = raise_away x i j k value p (slice_get p.threads k) ne
-
-at_away : (z : Numbers) (x : Whole) (m : Move) (j : ℕ) (o : Option Sphere) → j ≢ m.sphere → slice_get (do_at z x m o).spheres j ≡ slice_get x.spheres j
-at_away z x m j None ne = refl
-at_away z x m j (Some p) ne = what_away z x m.moment m.sphere j p m.what ne
-
--- ---- all moves
+-- ---- moves
 
 move_stands : (log : LogParts) (start : Played) (z : Numbers) (x : Whole) (m : Move) (i : ℕ) → 0 < log.s → Stands log start x i → Fits z x m → Stands log start (do_move z x m) i
 unfolding do_move
@@ -62,7 +34,7 @@ move_stands log start z x m i s a fits =
           (subst (λ (n : ℕ). Stands log start (do_what z x m.moment m.sphere a.sphere m.what) n) (sym e)
           (what-stands log start z x m.moment m.sphere a.sphere m.what s there a.reaches (subst (FitsAt z x.devices m) there fits)))
           )
-      | inr ne ↦ record { sphere = a.sphere; there = at_away z x m i (slice_get x.spheres m.sphere) ne ∙ a.there; reaches = a.reaches }
+      | inr ne ↦ record { sphere = a.sphere; there = at-away z x m i (slice_get x.spheres m.sphere) ne ∙ a.there; reaches = a.reaches }
     ]
 
 moves_stand : (log : LogParts) (start : Played) (z : Numbers) (x : Whole) (ms : List Move) (i : ℕ) → 0 < log.s → Stands log start x i → FitAll z x ms → Stands log start (do_moves z x ms) i
@@ -70,11 +42,6 @@ moves_stand log start z x [] i s a fits = a
 moves_stand log start z x (m ∷ ms) i s a fits = moves_stand log start z (do_move z x m) ms i s (move_stands log start z x m i s a fits.0) fits.1
 
 -- ---- the start
-
-start_sphere : (z : ℕ) (ds : List SphereSetup) (i : ℕ) (d : SphereSetup) → slice_get ds i ≡ Some d → slice_get (map (sphere_of z) ds) i ≡ Some (sphere_of z d)
-start_sphere z [] i d e = absurd (none-some d e)
-start_sphere z (c ∷ ds) zero d e = let h : c ≡ d = cc in ap (λ (x : SphereSetup). Some (sphere_of z x)) h
-start_sphere z (c ∷ ds) (suc i) d e = start_sphere z ds i d e
 
 start_reaches : (log : LogParts) (z : ℕ) (image : SphereSetup) → 0 < log.s → image.role ≡ IsReplayed log → Reaches log (opened log image.memory image.entry) (sphere_of z image)
 start_reaches log z image s role =
@@ -97,7 +64,7 @@ replays_follow image log s es i p r =
     let m = moves_are s es r.setup in
     let y0 : Played = opened log image.memory image.entry in
     let z : ℕ = s.numbers.chunk in
-    let first : Stands log y0 (whole_of s) i = record { sphere = sphere_of z image; there = start_sphere z s.spheres i image r.there; reaches = start_reaches log z image r.standard r.replays } in
+    let first : Stands log y0 (whole_of s) i = record { sphere = sphere_of z image; there = start-sphere z s.spheres i image r.there; reaches = start_reaches log z image r.standard r.replays } in
     let last : Stands log y0 (do_moves s.numbers (whole_of s) (moves (world_of s) es)) i = moves_stand log y0 s.numbers (whole_of s) (moves (world_of s) es) i r.standard first m.possible in
     let same : last.sphere ≡ p = (let h : Some last.sphere ≡ Some p = sym last.there ∙ ap (λ (x : Whole). slice_get x.spheres i) (sym m.same) ∙ r.shown in cc) in
     subst (Reaches log y0) same last.reaches
