@@ -30,16 +30,16 @@ flights_rest cores (slot ∷ slots) = flight_rest cores slot + flights_rest core
 
 -- ---- replays
 
--- the work that the log's play has left behind the commits that a replay has done, without the pieces of its present commit
+-- the work that a play has left behind its first i commits, without the instructions that pieces of the next have run
 abbrev pub play_left : LogParts → Played → (i total : ℕ) → ℕ
 play_left log y i total = commits_work log y i (log.count - i) - total
 
--- after so many commits of a replay of that image; none where it has stopped
+-- what a replay of the image has left after so many commits: none where it has stopped
 unfoldable pub replay_left : SphereSetup → Book → (commits : ℕ) → ℕ
 replay_left image b i =
     if is_over b.now then 0 else play_left b.log (opened b.log image.memory image.entry) i b.total
 
--- how many events are allowed for so much work
+-- how many events there may be for so much work
 unfoldable pub price : (cores work : ℕ) → ℕ
 price cores work = (cores + 6) * work
 

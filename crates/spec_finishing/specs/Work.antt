@@ -24,11 +24,12 @@ abbrev pub stored : Verdict → ℕ
 stored (Goes e u) = length e.words
 stored (Fails why) = 0
 
+-- those of a DMA
 abbrev pub dma_stored : DmaVerdict → ℕ
 dma_stored (DmaGoes words) = length words
 dma_stored (DmaFails why) = 0
 
--- a serial step's words, or a chunk's instructions, also where it diverges
+-- of the next commit of thread k, which is t: a serial step's words, or a chunk's instructions, also where that diverges
 abbrev pub thread_work : LogParts → Played → (thread : ℕ) → Parts → Option Kind → ℕ
 thread_work log y k t (Some kind) = stored (serial_verdict log y.progress y.used k y.threads t y.memory)
 thread_work log y k t None = (run y.memory t (size_or_standard log k t.commits)).n
@@ -42,7 +43,7 @@ now_work log y (Over how) = 0
 now_work log y TurnOfDma = suc (dma_stored (dma_verdict log y.progress y.used))
 now_work log y (Turn k) = turn_work log y k (slice_get y.threads k)
 
--- of a play's next commit, which counts as one, also where it diverges
+-- of a play's next commit, which counts as one itself, also where it diverges
 unfoldable pub commit_work : LogParts → Played → ℕ
 commit_work log y = now_work log y y.now
 
@@ -51,6 +52,7 @@ abbrev pub commits_work : LogParts → Played → (i commits : ℕ) → ℕ
 commits_work log y i zero = 0
 commits_work log y i (suc n) = commit_work log (plays log y i) + commits_work log y (suc i) n
 
+-- of a sphere that is replayed, its log's play
 abbrev pub setup_work : SphereSetup → RoleSetup → ℕ
 setup_work image IsPlain = 0
 setup_work image (IsRecorded mode) = 0
