@@ -1,4 +1,5 @@
 mod Putting
+mod Gathering
 mod Stopping
 mod Storing
 mod Recorded

@@ -1,8 +1,10 @@
 -- What the machine comes to at the end of a schedule, as the outcome says it.
-use Rattle.std.proofs.Common.{◌≡◌, ℕ, ◌<◌, List, [], ◌∷◌, length, sym, ◌∙◌, ap}
+use Rattle.std.proofs.Common.{◌≡◌, ℕ, ◌<◌, List, [], ◌∷◌, length, refl, sym, ◌∙◌, ap}
 use Rattle.dl_account.specs.Report.{report_of}
 use Rattle.dl_account.specs.Summary.{summary_of}
 use Rattle.dl_entry.specs.declared.SphereLine.{SphereLine}
+use Rattle.dl_plan.specs.declared.Product.{Product}
+use Rattle.dl_plan.specs.Values.{PlanValues}
 use Rattle.spec_log.specs.Bytes.{log_bytes}
 use Rattle.spec_single.specs.declared.event.Event.{Event}
 use Rattle.spec_single.specs.Machine.{Setup, Machine, machine_of, points_of}
@@ -11,12 +13,9 @@ use Rattle.spec_single.specs.Logged.{logged}
 use Rattle.spec_single.specs.Promise.{committed_part}
 use Rattle.spec_single.proofs.Bounding.{after_limit}
 use Rattle.spec_single.proofs.Commits.{commits_are_serial}
-use Rattle.spec_program.specs.Built.{Recording}
-use Rattle.spec_program.specs.Writes.{Write}
-use Rattle.spec_program.specs.Outcomes.{ended, executed, spheres_of, account_of_whole, log_text, account_text, report_text, summary_text, writes_for}
-use Rattle.delorean.specs.declared.writing.NamedBytes.{NamedBytes}
-use Rattle.delorean.specs.Jobs.{write_of, writes_of}
-use Rattle.delorean.specs.Recordings.{spheres_in, log_in, account_in, report_in, summary_in, files_in}
+use Rattle.spec_program.specs.Writes.{Write, outputs_filled}
+use Rattle.spec_program.specs.Outcomes.{ended, executed, spheres_of, account_of_whole, log_text, account_text, report_text, summary_text, product_for, writes_for}
+use Rattle.delorean.specs.Recordings.{spheres_in, log_in, account_in, report_in, summary_in, product_in, files_in}
 
 log_is : (s : Setup) (es : List Event) (m : Machine) → m ≡ ended s es → log_in m ≡ log_text s es
 unfolding log_text log_in
@@ -38,13 +37,14 @@ report_is : (s : Setup) (es : List Event) (m : Machine) → m ≡ ended s es →
 unfolding report_text report_in
 report_is s es m e w = λ i. report_of (e i).points (e i).counts (spheres_are s es m w i)
 
-pub files_are : (p : Recording) (s : Setup) (es : List Event) (m : Machine) → 0 < s.limit → 0 < s.capacity → m ≡ ended s es → files_in p m ≡ writes_for p s es
-files_are p s es m limit capacity e =
-    let w = whole_is s es m limit capacity e in
-    let log = log_is s es m e in
-    let account = account_is s es m w in
-    let report = report_is s es m e w in
-    λ i. record { name = p.log; bytes = log i } ∷ record { name = p.account; bytes = account i } ∷ record { name = p.report; bytes = report i } ∷ []
+product_is : (s : Setup) (es : List Event) (m : Machine) → 0 < s.limit → 0 < s.capacity → m ≡ ended s es → (made : Product) → product_in m made ≡ product_for s es made
+product_is s es m limit capacity e (Product.Log sphere) = log_is s es m e
+product_is s es m limit capacity e (Product.Account sphere) = account_is s es m (whole_is s es m limit capacity e)
+product_is s es m limit capacity e Product.Console = refl
+product_is s es m limit capacity e Product.Report = report_is s es m e (whole_is s es m limit capacity e)
+
+pub files_are : (p : PlanValues) (s : Setup) (es : List Event) (m : Machine) → 0 < s.limit → 0 < s.capacity → m ≡ ended s es → files_in p m ≡ writes_for p s es
+files_are p s es m limit capacity e = λ i. outputs_filled (λ made. product_is s es m limit capacity e made i) p
 
 pub summary_is : (s : Setup) (es : List Event) (m : Machine) → 0 < s.limit → 0 < s.capacity → m ≡ ended s es → summary_in m ≡ summary_text s es
 unfolding summary_text summary_in
@@ -54,9 +54,3 @@ summary_is s es m limit capacity e =
 
 pub limit_is : (s : Setup) (es : List Event) (m : Machine) → m ≡ ended s es → m.limit ≡ s.limit
 limit_is s es m e = ap (λ (x : Machine). x.limit) e ∙ after_limit (machine_of s) es
-
-pub three_files : {a b c : NamedBytes} {v w x : Write} (files : List NamedBytes) → files ≡ a ∷ b ∷ c ∷ [] → write_of a ≡ v → write_of b ≡ w → write_of c ≡ x → writes_of files ≡ v ∷ w ∷ x ∷ []
-three_files files e p q r = ap writes_of e ∙ (λ i. p i ∷ q i ∷ r i ∷ [])
-
-pub named_is : (file : NamedBytes) {n k b d : List ℕ} → write_of file ≡ record { name = n; bytes = b } → n ≡ k → b ≡ d → write_of file ≡ record { name = k; bytes = d }
-named_is file e p q = e ∙ (λ i. record { name = p i; bytes = q i })

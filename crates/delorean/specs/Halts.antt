@@ -1,10 +1,11 @@
 -- Why a command stops before its end, and what that shows.
-use Rattle.std.specs.Prelude.{◌≡◌, ◌≢◌, ◌↔◌, ℕ, List, Contains, Option, Some, None}
+use Rattle.std.specs.Prelude.{◌≡◌, ◌≢◌, ◌↔◌, ℕ, List, Contains, Option, Some, None, Err}
 use Rattle.std.specs.FinMap.{get}
 use Rattle.dl_files.specs.Contents.{Contents, IsLast}
 use Rattle.dl_files.specs.Count.{Rose}
 use Rattle.spec_program.specs.declared.status.Refusal.{Refusal}
 use Rattle.spec_program.specs.Lines.{absent_line, fault_line}
+use Rattle.spec_program.specs.Reads.{read_each}
 use Rattle.spec_program.specs.Outcomes.{Outcome, Refuses}
 use Rattle.delorean.specs.declared.halt.Halt.{Halt}
 
@@ -14,6 +15,14 @@ Unread told name old new last (Halt.Refused why text) =
     (why ≡ Refusal.Absent) × (text.items ≡ absent_line name) × ((m : Contents) → told ≡ Some m → get m name ≡ None) × (told ≡ None → Rose old new)
 Unread told name old new last (Halt.Fault text) = Rose old new × (text.items ≡ fault_line name) × IsLast last name
 Unread told name old new last Halt.OutOfMemory = Unit {0}
+
+-- of files that are read in the order of these names, one could not be read: it is absent, the first that is, or failed
+abbrev pub UnreadOf : (told : Option Contents) → (names : List (List ℕ)) → (old new : ℕ) → (last : Option (List ℕ)) → Halt → Type 0
+UnreadOf told names old new last (Halt.Refused why text) =
+    (why ≡ Refusal.Absent) × ((name : List ℕ) × (text.items ≡ absent_line name) × Contains names name × ((m : Contents) → told ≡ Some m → read_each m names ≡ Err name)) × (told ≡ None → Rose old new)
+UnreadOf told names old new last (Halt.Fault text) =
+    Rose old new × ((name : List ℕ) × (text.items ≡ fault_line name) × IsLast last name × Contains names name)
+UnreadOf told names old new last Halt.OutOfMemory = Unit {0}
 
 -- the command of that outcome is refused as it says, or one of the files that it reads failed
 abbrev pub Halts : (told : Option Contents) → (outcome : Contents → Outcome) → (reads : Contents → List (List ℕ)) → (old new : ℕ) → (last : Option (List ℕ)) → Halt → Type 0

@@ -1,4 +1,5 @@
 pub mod Texts
+pub mod Inputs
 pub mod Halts
 pub mod Jobs
 pub mod Stops

@@ -1,68 +1,61 @@
 //! What a plan asks for, where it is built: one core, and one sphere that is recorded in order-size by a script.
-ghost use Rattle.std.specs.Prelude.{◌≡◌, Some, IfOk, IfSome, OnSome, option_map, map, string_bytes};
-ghost use Rattle.dl_plan.specs.Values.{IsPlan, IsMemory, AreMemories, plan_view, schedule_view, sphere_view};
+ghost use Rattle.std.specs.Prelude.{◌≡◌, Some, IfSome, option_map, map};
+ghost use Rattle.dl_plan.specs.Values.{IsPlan, IsMemory, AreMemories, plan_view, sphere_view};
 ghost use Rattle.spec_program.specs.Built.{only, of_sphere, recording_in, IsRecording};
 ghost use Rattle.delorean.specs.Asked.{recording_view};
 
 use dl_plan::{Mode, Plan, Role, Schedule, Sphere};
-use std::alloc::{AllocError, Global};
 
-/// What such a plan asks for.
-#[derive(Drop)]
-pub struct Recording {
+/// What such a plan asks of the machine, and the names of its script and its image.
+#[derive(Clone, Copy)]
+pub struct Recording<'a> {
     pub chunk: u32,
     pub buffer: u32,
-    pub script: String,
-    pub report: String,
-    pub image: String,
+    pub script: &'a str,
+    pub image: &'a str,
     pub memory: u32,
-    pub log: String,
-    pub account: String,
 }
 
 /// What the plan asks for. `None` where that isn't built.
-pub fn recording_in(alloc: Global, plan: &Plan) -> Result<Option<Recording>, AllocError>
+pub fn recording_in(plan: &Plan) -> Option<Recording<'_>>
     requires { IsPlan (plan_view plan.now) }
-    ensures value { IfOk result (λ r. option_map recording_view r ≡ recording_in (plan_view plan.now)) }
-    ensures limits { IfOk result (λ r. IfSome r (λ x. IsRecording (recording_view x))) }
+    ensures value { option_map recording_view result ≡ recording_in (plan_view plan.now) }
+    ensures limits { IfSome result (λ r. IsRecording (recording_view r)) }
 {
     if plan.cores != 1 || plan.input.is_some() || plan.console.is_some() {
-        return Ok(None);
+        return None;
     }
     match only(&plan.spheres) {
-        Some(sphere) => of_sphere(alloc, plan, sphere),
-        None => Ok(None),
+        Some(sphere) => of_sphere(plan, sphere),
+        None => None,
     }
 }
 
 // What is asked of the plan's only sphere.
-fn of_sphere(alloc: Global, plan: &Plan, sphere: &Sphere) -> Result<Option<Recording>, AllocError>
+fn of_sphere<'a>(plan: &'a Plan, sphere: &'a Sphere) -> Option<Recording<'a>>
     requires plan { IsPlan (plan_view plan.now) }
     requires sphere { IsMemory sphere.now.memory }
-    ensures value { IfOk result (λ r. option_map recording_view r
-        ≡ of_sphere (plan_view plan.now) (plan_view plan.now).schedule (plan_view plan.now).report (Some (sphere_view sphere.now))) }
-    ensures limits { IfOk result (λ r. IfSome r (λ x. IsRecording (recording_view x))) }
+    ensures value { option_map recording_view result
+        ≡ of_sphere (plan_view plan.now) (plan_view plan.now).schedule (plan_view plan.now).report (Some (sphere_view sphere.now)) }
+    ensures limits { IfSome result (λ r. IsRecording (recording_view r)) }
 {
     match (&plan.schedule, &plan.report, &sphere.role, &sphere.account) {
         (
             Schedule::Script(script),
-            Some(report),
+            Some(_),
             Role::Record {
                 mode: Mode::OrderSize,
-                log,
+                ..
             },
-            Some(account),
-        ) => Ok(Some(Recording {
+            Some(_),
+        ) => Some(Recording {
             chunk: plan.chunk,
             buffer: plan.buffer,
-            script: String::from_str(alloc, script.as_str())?,
-            report: String::from_str(alloc, report.as_str())?,
-            image: String::from_str(alloc, sphere.image.as_str())?,
+            script: script.as_str(),
+            image: sphere.image.as_str(),
             memory: sphere.memory,
-            log: String::from_str(alloc, log.as_str())?,
-            account: String::from_str(alloc, account.as_str())?,
-        })),
-        _ => Ok(None),
+        }),
+        _ => None,
     }
 }
 

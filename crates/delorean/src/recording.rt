@@ -1,11 +1,14 @@
 //! Recording: the machine takes the schedule, and what it comes to is put into texts. This file alone knows the machine.
-ghost use Rattle.std.specs.Prelude.{◌≡◌, ◌≤◌, ◌∷◌, [], ◌^◌, IfOk, length};
+ghost use Rattle.std.specs.Prelude.{◌≡◌, ◌≤◌, ◌^◌, IfOk, length, map};
+ghost use Rattle.dl_plan.specs.Values.{plan_view};
+ghost use Rattle.dl_plan.specs.Views.{output_view};
 ghost use Rattle.spec_program.specs.Built.{IsRecording};
 ghost use Rattle.delorean.specs.Asked.{recording_view};
 ghost use Rattle.spec_log.specs.Log.{IsChunkSize};
 ghost use Rattle.spec_program.specs.Outcomes.{setup_of, summary_text as summary_for, writes_for};
+ghost use Rattle.spec_program.specs.Writes.{filled};
 ghost use Rattle.delorean.specs.Jobs.{write_of, writes_of};
-ghost use Rattle.delorean.specs.Recordings.{log_in, account_in, report_in, summary_in, files_in};
+ghost use Rattle.delorean.specs.Recordings.{log_in, account_in, report_in, summary_in, product_in, files_in};
 
 use crate::asked::Recording;
 use crate::job::Job;
@@ -14,6 +17,7 @@ use dl_account::{account_text, report_text, summary_text};
 use dl_elf::Image;
 use dl_entry::{End, OutOfMemory, SphereLine};
 use dl_logfmt::write_log;
+use dl_plan::{Output, Plan, Product, outputs_of};
 use dl_single::Machine;
 use dl_thread::Threads;
 use spec_single::event::Event;
@@ -22,36 +26,83 @@ use std::alloc::Global;
 /// The recording of a plan on its image, by a schedule of at most 2^24 events.
 pub fn record(
     alloc: Global,
-    plan: &Recording,
+    plan: &Plan,
+    recording: &Recording<'_>,
     image: &Image,
     events: &[Event],
 ) -> Result<Job, OutOfMemory>
-    requires plan { IsRecording (recording_view plan.now) }
+    requires plan { IsRecording (recording_view recording.now) }
     requires few { length events.now ≤ 2 ^ 24 }
     ensures writes { IfOk result (λ job. writes_of job.writes.items
-        ≡ writes_for (recording_view plan.now) (setup_of (recording_view plan.now) image.now) events.now) }
-    ensures text { IfOk result (λ job. job.text.items ≡ summary_for (setup_of (recording_view plan.now) image.now) events.now) }
+        ≡ writes_for (plan_view plan.now) (setup_of (recording_view recording.now) image.now) events.now) }
+    ensures text { IfOk result (λ job. job.text.items ≡ summary_for (setup_of (recording_view recording.now) image.now) events.now) }
 {
-    let mut machine = Machine::new(alloc, image, plan.chunk, plan.buffer)?;
+    let mut machine = Machine::new(alloc, image, recording.chunk, recording.buffer)?;
     machine.run(events)?;
     job_of(alloc, plan, &machine)
 }
 
 // What a machine at its end comes to.
-fn job_of(alloc: Global, plan: &Recording, machine: &Machine) -> Result<Job, OutOfMemory>
+fn job_of(alloc: Global, plan: &Plan, machine: &Machine) -> Result<Job, OutOfMemory>
     requires chunk { IsChunkSize machine.now.limit }
     requires few { length machine.now.commits ≤ 2 ^ 24 }
-    ensures writes { IfOk result (λ job. writes_of job.writes.items ≡ files_in (recording_view plan.now) machine.now) }
+    ensures writes { IfOk result (λ job. writes_of job.writes.items ≡ files_in (plan_view plan.now) machine.now) }
     ensures text { IfOk result (λ job. job.text.items ≡ summary_in machine.now) }
 {
-    let log = named(alloc, plan.log.as_str(), log_text(alloc, machine)?)?;
-    let account = named(alloc, plan.account.as_str(), account_of(alloc, machine)?)?;
-    let report = named(alloc, plan.report.as_str(), report_of(alloc, machine)?)?;
+    let outputs = outputs_of(alloc, plan)?;
+    let writes = writes_to(alloc, &outputs, machine)?;
     let text = summary_of(alloc, machine)?;
-    Ok(Job {
-        writes: three(alloc, log, account, report)?,
-        text,
+    Ok(Job { writes, text })
+}
+
+// Each of these files, with what the machine makes for it.
+fn writes_to(
+    alloc: Global,
+    outputs: &[Output<'_>],
+    machine: &Machine,
+) -> Result<Vec<NamedBytes>, OutOfMemory>
+    requires chunk { IsChunkSize machine.now.limit }
+    requires few { length machine.now.commits ≤ 2 ^ 24 }
+    ensures { IfOk result (λ writes. writes_of writes.items ≡ map (filled (product_in machine.now)) (map output_view outputs.now)) }
+{
+    let mut writes = Vec::new(alloc);
+    for output in outputs {
+        let write = write_to(alloc, output, machine)?;
+        match writes.push(write) {
+            Ok(()) => {}
+            Err(_) => return Err(OutOfMemory),
+        }
+    }
+    Ok(writes)
+}
+
+fn write_to(
+    alloc: Global,
+    output: &Output<'_>,
+    machine: &Machine,
+) -> Result<NamedBytes, OutOfMemory>
+    requires chunk { IsChunkSize machine.now.limit }
+    requires few { length machine.now.commits ≤ 2 ^ 24 }
+    ensures { IfOk result (λ write. write_of write ≡ filled (product_in machine.now) (output_view output.now)) }
+{
+    let bytes = product_of(alloc, output.product, machine)?;
+    Ok(NamedBytes {
+        name: String::from_str(alloc, output.name)?,
+        bytes,
     })
+}
+
+fn product_of(alloc: Global, product: Product, machine: &Machine) -> Result<Vec<u8>, OutOfMemory>
+    requires chunk { IsChunkSize machine.now.limit }
+    requires few { length machine.now.commits ≤ 2 ^ 24 }
+    ensures { IfOk result (λ bytes. bytes.items ≡ product_in machine.now product) }
+{
+    match product {
+        Product::Log(_) => log_text(alloc, machine),
+        Product::Account(_) => account_of(alloc, machine),
+        Product::Console => Ok(Vec::new(alloc)),
+        Product::Report => report_of(alloc, machine),
+    }
 }
 
 #[tactic(auto, unfolding(crate::specs::Recordings::log_in))]
@@ -91,24 +142,4 @@ fn summary_of(alloc: Global, machine: &Machine) -> Result<Vec<u8>, OutOfMemory>
 {
     let spheres = [SphereLine::Record(machine.commits().len() as u32)];
     summary_text(alloc, machine.counts(), &spheres)
-}
-
-fn named(alloc: Global, name: &str, bytes: Vec<u8>) -> Result<NamedBytes, OutOfMemory>
-    ensures { IfOk result (λ file. write_of file ≡ record { name = name.now; bytes = bytes.items }) }
-{
-    Ok(NamedBytes {
-        name: String::from_str(alloc, name)?,
-        bytes,
-    })
-}
-
-fn three(
-    alloc: Global,
-    a: NamedBytes,
-    b: NamedBytes,
-    c: NamedBytes,
-) -> Result<Vec<NamedBytes>, OutOfMemory>
-    ensures { IfOk result (λ files. files.items ≡ a ∷ b ∷ c ∷ []) }
-{
-    Ok(vec![in alloc; a, b, c]?)
 }

@@ -1,4 +1,5 @@
 pub mod Entries
+pub mod Files
 pub mod Keys
 pub mod Limits
 pub mod Names

@@ -1,11 +1,12 @@
 -- Which bytes are a plan, and what it asks for; and of any others, the first rule that the whole of them breaks.
-use Rattle.std.specs.Prelude.{ℕ, Bool, ◌&&◌, List, [], ◌∷◌, ◌++◌, flat_map, Option, Some, None, option_to_list, if◌then◌else◌, Result, Ok, Err, ok_or}
+use Rattle.std.specs.Prelude.{ℕ, Bool, ◌&&◌, List, Option, Some, None, if◌then◌else◌, Result, Ok, Err, ok_or}
 use Rattle.std.specs.Str.{is_utf8}
 use Rattle.toml.specs.Data.{Members}
 use Rattle.toml.specs.Parse.{parse_document}
 use Rattle.dl_plan.specs.declared.plan.Mode.{Mode}
 use Rattle.dl_plan.specs.declared.sphere.RoleName.{RoleName}
 use Rattle.dl_plan.specs.Entries.{has_known_keys, TopEntries, SphereEntries, Entries, entries_of}
+use Rattle.dl_plan.specs.Files.{written_names, read_names}
 use Rattle.dl_plan.specs.Limits.{memory_of}
 use Rattle.dl_plan.specs.Names.{none_is_empty, all_differ, none_is_one_of}
 use Rattle.dl_plan.specs.Optional.{◌>>=◌, ◌>>◌, each_of}
@@ -39,32 +40,6 @@ sphere_asked s =
     Some (record { image = s.image; memory = memory; role = role; account = s.account })
 
 -- ---- rule 7: no name is empty, no two written names are equal, and none of them is read
-
-abbrev pub log_written : RoleValues → List (List ℕ)
-log_written (Record mode log) = log ∷ []
-log_written _ = []
-
-abbrev pub log_read : RoleValues → List (List ℕ)
-log_read (Replay log) = log ∷ []
-log_read _ = []
-
-abbrev pub script_read : ScheduleValues → List (List ℕ)
-script_read (Script name) = name ∷ []
-script_read (Seeded seed events) = []
-
-abbrev pub written_by : SphereValues → List (List ℕ)
-written_by s = log_written s.role ++ option_to_list s.account
-
-abbrev pub read_by : SphereValues → List (List ℕ)
-read_by s = s.image ∷ log_read s.role
-
--- the names of the files that the plan has written
-abbrev pub written_names : PlanValues → List (List ℕ)
-written_names p = flat_map written_by p.spheres ++ (option_to_list p.console ++ option_to_list p.report)
-
--- the names of the files that are read, the plan's own among them
-abbrev pub read_names : (name : List ℕ) → PlanValues → List (List ℕ)
-read_names name p = name ∷ (flat_map read_by p.spheres ++ (script_read p.schedule ++ option_to_list p.input))
 
 abbrev pub has_good_names : (name : List ℕ) → PlanValues → Bool
 has_good_names name p =

@@ -5,9 +5,11 @@
 mod document;
 mod entries;
 mod error;
+mod inputs;
 mod keys;
 mod names;
 mod naming;
+mod outputs;
 mod plan;
 mod read;
 mod sizes;
@@ -18,5 +20,7 @@ mod top;
 mod values;
 
 pub use error::PlanError;
+pub use inputs::input_names;
+pub use outputs::{Output, Product, outputs_of};
 pub use plan::{Mode, Plan, Role, Schedule, Sphere};
 pub use read::read_plan;

@@ -1,43 +1,32 @@
 -- Which plans are built: one core, and one sphere that is recorded in order-size by a script.
-use Rattle.std.specs.Prelude.{ℕ, ◌≤◌, ◌==◌, ◌&&◌, List, [], ◌∷◌, Option, Some, None, is_none, ok_or, if◌then◌else◌, Result}
+use Rattle.std.specs.Prelude.{ℕ, ◌≤◌, ◌==◌, ◌&&◌, List, [], ◌∷◌, Option, Some, None, is_none, if◌then◌else◌}
 use Rattle.dl_plan.specs.declared.Mode.{Mode}
-use Rattle.dl_plan.specs.Optional.{◌>>◌}
-use Rattle.dl_plan.specs.Plans.{plan_of}
 use Rattle.dl_plan.specs.Values.{ScheduleValues, Script, RoleValues, Record, SphereValues, PlanValues, IsMemory}
 
--- what such a plan asks for
+-- what such a plan asks of the machine, by the names of its script and its image
 pub record Recording : Type 0 where
   pub chunk : ℕ
   pub buffer : ℕ
   pub script : List ℕ
-  pub report : List ℕ
   pub image : List ℕ
   pub memory : ℕ
-  pub log : List ℕ
-  pub account : List ℕ
 
 -- the sphere, where there is one
 abbrev pub only : List SphereValues → Option SphereValues
 only (s ∷ []) = Some s
 only _ = None
 
-abbrev pub by_script : PlanValues → (script report : List ℕ) → SphereValues → RoleValues → Option (List ℕ) → Option Recording
-by_script p script report s (Record Mode.OrderSize log) (Some account) =
-    Some (record { chunk = p.chunk; buffer = p.buffer; script = script; report = report; image = s.image; memory = s.memory; log = log; account = account })
-by_script p script report s _ _ = None
+abbrev pub by_script : PlanValues → (script : List ℕ) → SphereValues → RoleValues → (account : Option (List ℕ)) → Option Recording
+by_script p script s (Record Mode.OrderSize log) (Some account) = Some (record { chunk = p.chunk; buffer = p.buffer; script = script; image = s.image; memory = s.memory })
+by_script p script s _ _ = None
 
 abbrev pub of_sphere : PlanValues → ScheduleValues → (report : Option (List ℕ)) → Option SphereValues → Option Recording
-of_sphere p (Script script) (Some report) (Some s) = by_script p script report s s.role s.account
+of_sphere p (Script script) (Some report) (Some s) = by_script p script s s.role s.account
 of_sphere p _ _ _ = None
 
 -- what the plan asks for, where it is built: nothing else is asked, and a log, an account and a report are
 abbrev pub recording_in : PlanValues → Option Recording
 recording_in p = if p.cores == 1 && is_none p.input && is_none p.console then of_sphere p p.schedule p.report (only p.spheres) else None
-
--- what the plan in the bytes of the file `name` asks for, or the number by which it is refused: that of the first rule
--- that it breaks, or 0 where it breaks none and isn't built
-abbrev pub asked_of : (name bytes : List ℕ) → Result Recording ℕ
-asked_of name bytes = plan_of name bytes >> λ p. ok_or (recording_in p) 0
 
 -- each number is in its limits
 pub record IsRecording (r : Recording) : Type 0 where

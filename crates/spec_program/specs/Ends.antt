@@ -3,8 +3,11 @@ use Rattle.std.specs.Prelude.{◌≡◌, ℕ, ◌≤◌, ◌⊎◌, Bool, true, 
 use Rattle.std.specs.FinMap.{get}
 use Rattle.dl_files.specs.Contents.{Contents, SameBut, IsLast}
 use Rattle.dl_files.specs.Taken.{with_taken}
+use Rattle.dl_plan.specs.Files.{input_names}
+use Rattle.dl_plan.specs.Plans.{plan_of}
+use Rattle.dl_plan.specs.Values.{PlanValues}
 use Rattle.spec_program.specs.declared.status.Status.{Status}
-use Rattle.spec_program.specs.Built.{Recording, asked_of}
+use Rattle.spec_program.specs.Built.{Recording, recording_in}
 use Rattle.spec_program.specs.Statuses.{status_of}
 use Rattle.spec_program.specs.Lines.{fault_line}
 use Rattle.spec_program.specs.Writes.{Write, written}
@@ -28,20 +31,25 @@ text_in (Finishes diverged writes text) = text
 
 -- ---- the names that are read
 
--- those that a plan names; of one that is refused none is read
-abbrev pub inputs_of : Option (Result Recording ℕ) → List (List ℕ)
+-- those that a plan has read; of one that isn't built none is read
+abbrev pub inputs_asked : PlanValues → Option Recording → List (List ℕ)
+inputs_asked p None = []
+inputs_asked p (Some r) = input_names p
+
+-- of a plan that is absent or refused none is read
+abbrev pub inputs_of : Option (Result PlanValues ℕ) → List (List ℕ)
 inputs_of None = []
 inputs_of (Some (Err rule)) = []
-inputs_of (Some (Ok p)) = p.script ∷ p.image ∷ []
+inputs_of (Some (Ok p)) = inputs_asked p (recording_in p)
 
-abbrev pub asked_at : Contents → (name : List ℕ) → Option (Result Recording ℕ)
-asked_at m name = option_map (asked_of name) (get m name)
+abbrev pub plan_at : Contents → (name : List ℕ) → Option (Result PlanValues ℕ)
+plan_at m name = option_map (plan_of name) (get m name)
 
 abbrev pub reads_of_command : Contents → Option (List ℕ) → List (List ℕ)
 reads_of_command m None = []
-reads_of_command m (Some name) = name ∷ inputs_of (asked_at m name)
+reads_of_command m (Some name) = name ∷ inputs_of (plan_at m name)
 
--- the plan, and what it names
+-- the plan, and the names that it has read
 abbrev pub reads_of : (words : List (List ℕ)) → Contents → List (List ℕ)
 reads_of words m = reads_of_command m (command_of words)
 

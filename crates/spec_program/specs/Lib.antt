@@ -1,5 +1,6 @@
 pub mod Statuses
 pub mod Lines
+pub mod Reads
 pub mod Writes
 pub mod Commands
 pub mod Built

@@ -9,6 +9,10 @@ use Rattle.dl_entry.specs.declared.SphereLine.{SphereLine}
 use Rattle.dl_files.specs.Contents.{Contents}
 use Rattle.dl_elf.specs.Images.{Image}
 use Rattle.dl_elf.specs.Loading.{image_of}
+use Rattle.dl_plan.specs.declared.Product.{Product}
+use Rattle.dl_plan.specs.Files.{input_names}
+use Rattle.dl_plan.specs.Plans.{plan_of}
+use Rattle.dl_plan.specs.Values.{PlanValues}
 use Rattle.dl_script.specs.Script.{script_of}
 use Rattle.spec_log.specs.Bytes.{log_bytes}
 use Rattle.spec_single.specs.declared.event.Event.{Event}
@@ -16,9 +20,10 @@ use Rattle.spec_single.specs.Machine.{Setup, Machine, machine_of, after, points_
 use Rattle.spec_single.specs.Serial.{Whole, whole_of, do_points}
 use Rattle.spec_single.specs.Logged.{logged}
 use Rattle.spec_program.specs.declared.status.Refusal.{Refusal}
-use Rattle.spec_program.specs.Built.{Recording, asked_of}
+use Rattle.spec_program.specs.Built.{Recording, recording_in}
 use Rattle.spec_program.specs.Lines.{usage_line, plan_line, image_line, script_line, absent_line}
-use Rattle.spec_program.specs.Writes.{Write}
+use Rattle.spec_program.specs.Reads.{Input, read_each, bytes_in}
+use Rattle.spec_program.specs.Writes.{Write, outputs_filled}
 use Rattle.spec_program.specs.Commands.{command_of}
 
 pub data Outcome : Type 0 where
@@ -29,7 +34,7 @@ pub data Outcome : Type 0 where
 
 -- the setup that a plan and its image give
 abbrev pub setup_of : Recording → Image → Setup
-setup_of p image = record { limit = p.chunk; capacity = p.buffer; memory = image.bytes; entry = image.entry }
+setup_of r image = record { limit = r.chunk; capacity = r.buffer; memory = image.bytes; entry = image.entry }
 
 -- the machine at the end of the schedule
 abbrev pub ended : Setup → List Event → Machine
@@ -61,43 +66,50 @@ report_text s events = report_of (points_of s events) (ended s events).counts (s
 unfoldable pub summary_text : Setup → List Event → List ℕ
 summary_text s events = summary_of (ended s events).counts (spheres_of s events)
 
-abbrev pub writes_for : Recording → Setup → List Event → List Write
-writes_for p s events =
-    record { name = p.log; bytes = log_text s events }
-    ∷ record { name = p.account; bytes = account_text s events }
-    ∷ record { name = p.report; bytes = report_text s events }
-    ∷ []
+-- what the machine makes for a file; it has no console
+abbrev pub product_for : Setup → List Event → Product → List ℕ
+product_for s events (Product.Log sphere) = log_text s events
+product_for s events (Product.Account sphere) = account_text s events
+product_for s events Product.Console = []
+product_for s events Product.Report = report_text s events
 
--- a recording writes its log, its account and the report, and says the summary
-abbrev pub recorded : Recording → Setup → List Event → Outcome
+abbrev pub writes_for : PlanValues → Setup → List Event → List Write
+writes_for p s events = outputs_filled (product_for s events) p
+
+-- a recording writes the plan's files, and says the summary
+abbrev pub recorded : PlanValues → Setup → List Event → Outcome
 recorded p s events = Finishes false (writes_for p s events) (summary_text s events)
 
 -- ---- the stages, in the order of the work
 
-abbrev pub of_script : Recording → Image → Result (List Event) ℕ → Outcome
-of_script p image (Err number) = Refuses Refusal.Grammar (script_line number)
-of_script p image (Ok events) = recorded p (setup_of p image) events
+abbrev pub of_script : PlanValues → Setup → Result (List Event) ℕ → Outcome
+of_script p s (Err number) = Refuses Refusal.Grammar (script_line number)
+of_script p s (Ok events) = recorded p s events
 
-abbrev pub of_image : Recording → (script : List ℕ) → Result Image ℕ → Outcome
-of_image p script (Err rule) = Refuses Refusal.Image (image_line 0 rule)
-of_image p script (Ok image) = of_script p image (script_of script)
+abbrev pub of_image : PlanValues → Recording → (script : List ℕ) → Result Image ℕ → Outcome
+of_image p r script (Err rule) = Refuses Refusal.Image (image_line 0 rule)
+of_image p r script (Ok image) = of_script p (setup_of r image) (script_of script)
 
--- the image's file, once the script is read
-abbrev pub of_image_file : Recording → (script : List ℕ) → Option (List ℕ) → Outcome
-of_image_file p script None = Refuses Refusal.Absent (absent_line p.image)
-of_image_file p script (Some bytes) = of_image p script (image_of bytes p.memory)
+-- the image is looked at once each file is read
+abbrev pub of_files : PlanValues → Recording → List Input → Outcome
+of_files p r inputs = of_image p r (bytes_in inputs r.script) (image_of (bytes_in inputs r.image) r.memory)
 
-abbrev pub of_script_file : Contents → Recording → Option (List ℕ) → Outcome
-of_script_file m p None = Refuses Refusal.Absent (absent_line p.script)
-of_script_file m p (Some script) = of_image_file p script (get m p.image)
+abbrev pub of_inputs : PlanValues → Recording → Result (List Input) (List ℕ) → Outcome
+of_inputs p r (Err name) = Refuses Refusal.Absent (absent_line name)
+of_inputs p r (Ok inputs) = of_files p r inputs
 
-abbrev pub of_plan : Contents → Result Recording ℕ → Outcome
+-- a plan that breaks no rule and isn't built is refused by 0
+abbrev pub of_asked : Contents → PlanValues → Option Recording → Outcome
+of_asked m p None = Refuses Refusal.Plan (plan_line 0)
+of_asked m p (Some r) = of_inputs p r (read_each m (input_names p))
+
+abbrev pub of_plan : Contents → Result PlanValues ℕ → Outcome
 of_plan m (Err rule) = Refuses Refusal.Plan (plan_line rule)
-of_plan m (Ok p) = of_script_file m p (get m p.script)
+of_plan m (Ok p) = of_asked m p (recording_in p)
 
 abbrev pub of_plan_file : Contents → (name : List ℕ) → Option (List ℕ) → Outcome
 of_plan_file m name None = Refuses Refusal.Absent (absent_line name)
-of_plan_file m name (Some bytes) = of_plan m (asked_of name bytes)
+of_plan_file m name (Some bytes) = of_plan m (plan_of name bytes)
 
 abbrev pub of_command : Contents → Option (List ℕ) → Outcome
 of_command m None = Refuses Refusal.Usage usage_line
