@@ -41,3 +41,4 @@ pub mod KeptLogs
 pub mod PointByPoint
 pub mod LogsOfPoints
 pub mod Pieces
+pub mod CountingPieces
