@@ -42,3 +42,4 @@ pub mod KeptLogs
 pub mod PointByPoint
 pub mod LogsOfPoints
 pub mod Pieces
+pub mod CountingPieces

@@ -218,8 +218,8 @@ nothing_there z devices p (OfRaise k value) stopped fits = no_raise_there p (sli
 
 -- ---- all
 
-there_is : (w : World) (i : ℕ) → replays (sphere_at w i).role ≡ true → i < length w.spheres
-there_is w i replay = elim (cases_lt i (length w.spheres)) [
+pub there-is : (w : World) (i : ℕ) → replays (sphere_at w i).role ≡ true → i < length w.spheres
+there-is w i replay = elim (cases_lt i (length w.spheres)) [
   | inl l ↦ l
   | inr l ↦ absurd (true≢false (sym replay ∙ ap (λ (p : Sphere). replays p.role) (get_or_past w.spheres i no_sphere l)))
 ]
@@ -229,7 +229,7 @@ unfolding shown
 pieces_stay s es i b is role going some =
     let w : World = after s es in
     let p : Sphere = shown w.slots i (sphere_at w i) in
-    let e : slice_get (shown_of w).spheres i ≡ Some p = shown-get w.slots i w.spheres (there_is w i (ap replays role)) in
+    let e : slice_get (shown_of w).spheres i ≡ Some p = shown-get w.slots i w.spheres (there-is w i (ap replays role)) in
     let m = moves_are s es is in
     let all : AllInTurn (do_moves s.numbers (whole_of s) (moves (world_of s) es)) = moves_keep_turn s.numbers (whole_of s) (moves (world_of s) es) (start_turn s.numbers.chunk s.spheres) m.possible in
     let k = subst InTurn role (all i p (ap (λ (x : Whole). slice_get x.spheres i) (sym m.same) ∙ e)) going some in (
@@ -248,6 +248,6 @@ unfolding shown
 stopped_stay s es i is stopped event move is_move of_i =
     let w : World = after s es in
     let p : Sphere = shown w.slots i (sphere_at w i) in
-    let e : slice_get (shown_of w).spheres i ≡ Some p = shown-get w.slots i w.spheres (there_is w i (stopped_replays p.role stopped)) in
+    let e : slice_get (shown_of w).spheres i ≡ Some p = shown-get w.slots i w.spheres (there-is w i (stopped_replays p.role stopped)) in
     let fits : Fits w.numbers (shown_of w) move = subst (FitsIf w.numbers (shown_of w)) is_move (happens-kept w event (invariants_hold s es is)).fits in
     nothing_there w.numbers w.devices p move.what stopped (subst (FitsAt w.numbers w.devices move) (ap (slice_get (shown_of w).spheres) of_i ∙ e) fits)

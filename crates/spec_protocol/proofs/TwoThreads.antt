@@ -1,7 +1,7 @@
 -- Two threads in turn, with a DMA: the log that the points tell, and its play. A request stands until its DMA, which moves no
 -- turn; the spawned thread has its turn; short chunks of both stand thread by thread; and a reservation ends with its
 -- commit, so that the store behind it fails.
-use Rattle.std.proofs.Common.{◌≡◌, ℕ, true, false, List, [], ◌∷◌, map, Option, Some, None, refl}
+use Rattle.std.proofs.Common.{◌≡◌, ℕ, true, false, List, [], ◌∷◌, map, Option, Some, refl}
 use Rattle.std.specs.Prelude.{slice_get}
 use Rattle.dl_entry.specs.declared.Actor.{Actor}
 use Rattle.dl_entry.specs.declared.CommitKind.{CommitKind}

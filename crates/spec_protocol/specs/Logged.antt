@@ -38,6 +38,7 @@ abbrev pub bytes_for : Devices → Option Request → List ℕ
 bytes_for devices None = []
 bytes_for devices (Some request) = dma_bytes devices request
 
+-- sphere i between two points
 abbrev pub sphere_in : Whole → (i : ℕ) → Sphere
 sphere_in x i = slice_index_or x.spheres i no_sphere
 
@@ -104,11 +105,12 @@ interrupts_of k n (Point.Raise moment i j value ∷ ps) =
     then record { thread = k; index = n; value = value } ∷ interrupts_of k n ps
     else interrupts_of k n ps
 
--- the records of its steps
+-- the record of one point, if it has one
 abbrev pub listed : Option Input → List Input
 listed None = []
 listed (Some r) = r ∷ []
 
+-- the records of its steps
 abbrev pub inputs_of : List Supplied → List Input
 inputs_of cs = flat_map (λ c. listed c.input) cs
 
@@ -128,19 +130,23 @@ threads = 0 ∷ 1 ∷ 2 ∷ 3 ∷ 4 ∷ 5 ∷ 6 ∷ 7 ∷ 8 ∷ 9 ∷ 10 ∷ 11 
 
 -- ---- the log
 
+-- the order, which picolog has none of
 abbrev pub order_in : ModeName → List Point → List Actor
 order_in ModeName.OrderSize ps = actors_of ps
 order_in ModeName.OrderOnly ps = actors_of ps
 order_in ModeName.Picolog ps = []
 
+-- of all threads
 abbrev pub all_shorts : List Point → List ShortSize
 all_shorts ps = flat_map (λ k. shorts_of k 0 ps) threads
 
+-- in order-size each commit has a size, else each short chunk
 abbrev pub sizes_in : ModeName → List Point → Sizes
 sizes_in ModeName.OrderSize ps = Sizes.Each (sizes_of ps)
 sizes_in ModeName.OrderOnly ps = Sizes.Short (all_shorts ps)
 sizes_in ModeName.Picolog ps = Sizes.Short (all_shorts ps)
 
+-- of all threads
 abbrev pub all_interrupts : List Point → List Interrupt
 all_interrupts ps = flat_map (λ k. interrupts_of k 0 ps) threads
 

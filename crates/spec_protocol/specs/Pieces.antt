@@ -1,8 +1,11 @@
--- What is promised of replays: that nothing of a sphere comes between two pieces of a commit, and nothing after its end.
+-- What is promised of replays: that nothing of a sphere comes between two pieces of a commit, and nothing after its end; and
+-- that a piece counts as no commit.
 use Rattle.std.specs.Prelude.{◌≡◌, ◌≢◌, ℕ, ◌<◌, true, false, List, Some}
 use Rattle.spec_play.specs.Turns.{Turn}
+use Rattle.spec_engine.specs.declared.answers.How.{How}
 use Rattle.spec_protocol.specs.declared.event.Event.{Event}
-use Rattle.spec_protocol.specs.Spheres.{Book, Replay, is_over, is_stopped}
+use Rattle.spec_protocol.specs.Spheres.{Book, Replay, Sphere, is_over, is_stopped}
+use Rattle.spec_protocol.specs.Commits.{is_piece}
 use Rattle.spec_protocol.specs.World.{World, What, OfChunk, OfSerial, OfDma, OfRaise, Move, sphere_at}
 use Rattle.spec_protocol.specs.Machine.{Setup, happens}
 use Rattle.spec_protocol.specs.Promises.{IsSetup, after}
@@ -34,3 +37,19 @@ PiecesStayTogether =
 abbrev pub StoppedSpheresStay : Type 0
 StoppedSpheresStay =
     (s : Setup) (es : List Event) (i : ℕ) → IsSetup s → let w = after s es in is_stopped (sphere_at w i).role ≡ true → (e : Event) (m : Move) → (happens w e).move ≡ Some m → m.sphere ≢ i
+
+-- ---- counted
+
+-- the sphere, which was p and is q, has the same commits, last thread and request, and whose turn it was, it is
+pub record CountsNothing (b : Book) (p q : Sphere) : Type 0 where
+  pub book : Book
+  pub role : q.role ≡ Replay book
+  pub turn : book.now ≡ b.now
+  pub progress : q.progress ≡ p.progress
+
+-- so it is after a chunk of a replay that was closed by want of room or by Cut
+abbrev pub PiecesCountNothing : Type 0
+PiecesCountNothing =
+    (s : Setup) (es : List Event) (i : ℕ) (b : Book) → IsSetup s → let w = after s es in (sphere_at w i).role ≡ Replay b
+    → (e : Event) (m : Move) (k : ℕ) (how : How) (n limit : ℕ) → (happens w e).move ≡ Some m → m.sphere ≡ i → m.what ≡ OfChunk k how n limit → is_piece how ≡ true
+    → CountsNothing b (sphere_at w i) (sphere_at (happens w e).world i)

@@ -1,7 +1,7 @@
 //! What is promised of the protocol. Each promise is a clause of a function that does nothing.
 ghost use Rattle.spec_protocol.specs.Promises.{CommitsAreSerial, InvariantsHold, MovesAreSerial, SizesAreKept};
 ghost use Rattle.spec_protocol.specs.LogsOfPoints.{LogsAreOfPoints};
-ghost use Rattle.spec_protocol.specs.Pieces.{PiecesStayTogether, StoppedSpheresStay};
+ghost use Rattle.spec_protocol.specs.Pieces.{PiecesCountNothing, PiecesStayTogether, StoppedSpheresStay};
 ghost use Rattle.spec_protocol.specs.PlayingBack.{LogsPlayBack};
 ghost use Rattle.spec_protocol.specs.Replying.{AsksAreGranted, GrantsAreClear, PointsAreMade};
 
@@ -73,4 +73,10 @@ pub fn pieces_stay_together()
 /// diverged.
 pub fn stopped_spheres_stay()
     ensures { StoppedSpheresStay }
+{}
+
+/// After every list of events: a piece of a replayed sphere's commit counts as no commit, and leaves the request and the
+/// turn as they are.
+pub fn pieces_count_nothing()
+    ensures { PiecesCountNothing }
 {}
