@@ -27,6 +27,7 @@ use Rattle.spec_finishing.proofs.NextCores.{Rose, place-rose}
 
 -- ---- what is shown
 
+-- the event is done, and less is left after it
 pub record Lowers (s : Setup) (w : World) (e : Event) : Type 0 where
   pub done : is_done (happens w e).reply ≡ true
   pub less : rest s (happens w e).world < rest s w
