@@ -1,5 +1,5 @@
 -- The play of a recorded log follows the recording from its start to its end.
-use Rattle.std.proofs.Common.{◌≡◌, ◌≢◌, ℕ, zero, suc, ◌+◌, ◌<◌, ◌≤◌, inl, inr, Bool, true, false, ◌&&◌, eqb, cond, List, [], ◌∷◌, length, map, Option, Some, None, refl, sym, ap, ◌∙◌, subst, arith}
+use Rattle.std.proofs.Common.{◌≡◌, ℕ, zero, suc, ◌+◌, ◌<◌, ◌≤◌, inl, inr, Bool, true, false, ◌&&◌, eqb, cond, List, [], ◌∷◌, length, Option, Some, None, refl, sym, ap, ◌∙◌, subst, arith}
 use Rattle.std.specs.Prelude.{slice_get, nat_lt, IsSome, find, option_map}
 use Rattle.std.specs.List.{list_all}
 use Rattle.std.proofs.lemmas.Bool.{true≢false, cases_eq, cases_lt, le-ltb, lt-ltb, and_from, eq-eqb}
@@ -28,7 +28,7 @@ use Rattle.spec_protocol.specs.Machine.{SphereSetup, role_of, sphere_of, moves, 
 use Rattle.spec_protocol.specs.Serial.{Whole, whole_of, laid, do_moved, do_serial, do_dma, do_raise}
 use Rattle.spec_protocol.specs.Moves.{move_chunk, do_what, do_at, do_move, do_moves, FitsChunk, FitsSerial, FitsRaise, FitsWhat, FitsAt, Fits, FitAll}
 use Rattle.spec_protocol.specs.PlayingBack.{PlaysBack, LogsPlayBack}
-use Rattle.spec_protocol.proofs.Moving.{get-set_other, get-set_same}
+use Rattle.spec_protocol.proofs.Moving.{get-set_same}
 use Rattle.spec_protocol.proofs.Elsewhere.{at-away}
 use Rattle.spec_protocol.proofs.Lookups.{short_at}
 use Rattle.spec_protocol.proofs.Growing.{commits_if, commits_in, OrderStands, SizesStand, Stands, Ahead}

@@ -1,9 +1,7 @@
 -- What each move makes of a replayed sphere: it stands in the play of its log again.
-use Rattle.std.proofs.Common.{◌≡◌, ℕ, ◌<◌, ◌≤◌, inl, inr, true, false, eqb, cond, List, Option, Some, None, refl, sym, ap, ◌∙◌, subst, arith, set}
+use Rattle.std.proofs.Common.{◌≡◌, ℕ, ◌<◌, ◌≤◌, inl, inr, false, List, Option, Some, None, refl, sym, ap, ◌∙◌, subst, arith, set}
 use Rattle.std.specs.Prelude.{slice_get, IsSome, ◌⊎◌}
-use Rattle.std.proofs.lemmas.Bool.{true≢false, ltb-false, eqb-true}
-use Rattle.std.proofs.lemmas.Option.{none-some}
-use Rattle.dl_entry.specs.declared.Actor.{Actor}
+use Rattle.std.proofs.lemmas.Bool.{true≢false, ltb-false}
 use Rattle.spec_isa.specs.declared.thread.Parts.{Parts}
 use Rattle.spec_isa.specs.declared.thread.Kind.{Kind}
 use Rattle.spec_isa.specs.Words.{lays}
@@ -12,16 +10,16 @@ use Rattle.spec_log.specs.declared.LogParts.{LogParts}
 use Rattle.spec_kernel.specs.Devices.{Devices}
 use Rattle.spec_kernel.specs.Needs.{next_kind}
 use Rattle.spec_play.specs.Progress.{position}
-use Rattle.spec_play.specs.Turns.{Now, Turn, TurnOfDma, Over}
+use Rattle.spec_play.specs.Turns.{Now, Turn, TurnOfDma}
 use Rattle.spec_play.specs.Verdicts.{Verdict, serial_verdict}
 use Rattle.spec_play.specs.Transfers.{DmaVerdict, dma_verdict}
 use Rattle.spec_play.specs.Plays.{Played, thread_verdict, plays}
 use Rattle.spec_engine.specs.declared.answers.How.{How}
-use Rattle.spec_protocol.specs.Spheres.{Book, Role, Replay, Sphere, is_over, is_stopped, actor_of, head_in, head_of, is_in_pieces}
+use Rattle.spec_protocol.specs.Spheres.{Book, Role, Replay, Sphere, is_over, is_stopped, head_in, head_of, is_in_pieces}
 use Rattle.spec_protocol.specs.Commits.{Moved, is_piece, replayed_chunk, by_verdict, chunk_in, chunk_moved, serial_in, serial_moved, dma_by_verdict, dma_in, dma_moved}
 use Rattle.spec_protocol.specs.World.{Numbers, What, OfChunk, OfSerial, OfDma, OfRaise}
 use Rattle.spec_protocol.specs.Asking.{is_short, other_turn}
-use Rattle.spec_protocol.specs.Transferring.{not_of_dma, turn_before_dma}
+use Rattle.spec_protocol.specs.Transferring.{turn_before_dma}
 use Rattle.spec_protocol.specs.Placing.{replays}
 use Rattle.spec_protocol.specs.Serial.{Whole, laid, do_moved, do_serial, do_dma}
 use Rattle.spec_protocol.specs.Moves.{move_chunk, do_what, FitsChunk, SerialFits, FitsSerial, DmaFits, FitsRaise, FitsWhat}

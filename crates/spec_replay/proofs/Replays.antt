@@ -1,20 +1,17 @@
 -- Every replay is its log's play.
-use Rattle.std.proofs.Common.{◌≡◌, ◌≢◌, ℕ, zero, suc, ◌<◌, inl, inr, List, [], ◌∷◌, map, Option, Some, None, refl, sym, ap, ◌∙◌, subst}
+use Rattle.std.proofs.Common.{◌≡◌, ℕ, ◌<◌, inl, inr, List, [], ◌∷◌, Option, Some, refl, sym, ap, ◌∙◌, subst}
 use Rattle.std.specs.Prelude.{slice_get}
 use Rattle.std.proofs.lemmas.Bool.{cases_eq}
-use Rattle.std.proofs.lemmas.Option.{none-some}
-use Rattle.spec_isa.specs.declared.thread.Parts.{Parts}
 use Rattle.spec_isa.specs.Threads.{started}
 use Rattle.spec_log.specs.declared.LogParts.{LogParts}
 use Rattle.spec_play.specs.Progress.{no_progress, nothing_used}
 use Rattle.spec_play.specs.Plays.{Played, opened}
-use Rattle.spec_engine.specs.declared.answers.How.{How}
 use Rattle.spec_protocol.specs.Spheres.{Book, Sphere}
-use Rattle.spec_protocol.specs.Commits.{Moved, turned, dma_moved}
-use Rattle.spec_protocol.specs.World.{Numbers, What, OfChunk, OfSerial, OfDma, OfRaise, Move}
+use Rattle.spec_protocol.specs.Commits.{turned}
+use Rattle.spec_protocol.specs.World.{Numbers, Move}
 use Rattle.spec_protocol.specs.Machine.{IsReplayed, SphereSetup, role_of, sphere_of, moves, world_of}
-use Rattle.spec_protocol.specs.Serial.{Whole, whole_of, do_serial, do_dma, do_raise}
-use Rattle.spec_protocol.specs.Moves.{move_chunk, do_what, do_at, do_move, do_moves, FitsAt, Fits, FitAll}
+use Rattle.spec_protocol.specs.Serial.{Whole, whole_of}
+use Rattle.spec_protocol.specs.Moves.{do_what, do_at, do_move, do_moves, FitsAt, Fits, FitAll}
 use Rattle.spec_protocol.proofs.Elsewhere.{at-away}
 use Rattle.spec_protocol.proofs.Schedules.{start-sphere, moves_are}
 use Rattle.spec_replay.specs.Promises.{ReplaysArePlays}
