@@ -1,4 +1,4 @@
--- Events of flights make less of what is left: always no more, and less where they are the next events of finishing.
+-- Events of flights never make more of what is left of the flights.
 use Rattle.std.proofs.Common.{◌≡◌, ℕ, zero, suc, ◌≤◌, cond, List, [], ◌∷◌, length, Option, Some, None, refl, ap, arith, set}
 use Rattle.spec_isa.specs.Words.{Stored}
 use Rattle.spec_engine.specs.declared.answers.Deliver.{Deliver}
