@@ -13,7 +13,7 @@ use Rattle.spec_single.specs.Logged.{logged}
 use Rattle.spec_single.specs.Promise.{committed_part}
 use Rattle.spec_single.proofs.Bounding.{after_limit}
 use Rattle.spec_single.proofs.Commits.{commits_are_serial}
-use Rattle.spec_program.specs.Writes.{Write, outputs_filled}
+use Rattle.spec_program.specs.Writes.{outputs_filled}
 use Rattle.spec_program.specs.Outcomes.{ended, executed, spheres_of, account_of_whole, log_text, account_text, report_text, summary_text, product_for, writes_for}
 use Rattle.delorean.specs.Recordings.{spheres_in, log_in, account_in, report_in, summary_in, product_in, files_in}
 

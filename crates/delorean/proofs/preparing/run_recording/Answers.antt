@@ -1,9 +1,8 @@
-use Rattle.std.proofs.Common.{◌≡◌, ℕ, List, Result, Some, Ok, ap, ◌∙◌, sym}
-use Rattle.dl_files.specs.Contents.{Contents}
+use Rattle.std.proofs.Common.{◌≡◌, ℕ, List, ap, ◌∙◌, sym}
 use Rattle.dl_plan.specs.Files.{input_names}
 use Rattle.dl_plan.specs.Values.{plan_view}
 use Rattle.spec_program.specs.Outcomes.{of_inputs, of_files}
-use Rattle.spec_program.specs.Reads.{Input, read_each}
+use Rattle.spec_program.specs.Reads.{read_each}
 use Rattle.delorean.specs.declared.inputs.Input.{Input as InputStruct}
 use Rattle.delorean.specs.Asked.{recording_view}
 use Rattle.delorean.specs.Inputs.{inputs_view}
