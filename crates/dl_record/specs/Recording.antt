@@ -50,7 +50,6 @@ pub record IsRecording (mode : ModeName) (kept : Kept) (interrupts : List Interr
   pub few_inputs : length inputs ≤ kept.count
   pub few_dmas : length dmas ≤ kept.count
   pub slots : All (λ dma. dma.slot < kept.count) dmas
-  pub moments : All (λ interrupt. interrupt.index ≤ 2 ^ 24) interrupts
 
 -- no interrupt of this moment is kept
 abbrev pub IsFresh : List Interrupt → ℕ → ℕ → Type 0

@@ -111,7 +111,6 @@ impl<M: Mode> Recorder<M> {
     /// Notes an interrupt of a new moment. With room it isn't refused.
     pub fn interrupt(&mut self, thread: u8, index: u32, value: u32) -> Result<(), OutOfMemory>
         requires thread { thread ≤ 14 }
-        requires index { index ≤ 2 ^ 24 }
         requires fresh { IsFresh self.old.interrupts thread index }
         ensures ok { let interrupt = interrupt thread index value in
             OnOk result (self.new.interrupts ≡ insert_interrupt interrupt self.old.interrupts) }
