@@ -1,4 +1,4 @@
-use Rattle.std.proofs.Common.{◌≡◌, ◌<◌, ◌∙◌, false, None, length, get_or, ap, arith}
+use Rattle.std.proofs.Common.{◌≡◌, ◌<◌, ◌∙◌, false, None, length, ap, arith}
 use Rattle.std.proofs.lemmas.List.{length-set}
 use Rattle.dl_input.specs.Held.{Noted, held_from, raised_at}
 use Rattle.dl_input.proofs.HeldLists.{insert-put, many-put}
