@@ -1,6 +1,6 @@
 -- Looking up a size after another was put.
-use Rattle.std.proofs.Common.{◌≡◌, ℕ, zero, suc, ◌+◌, ◌||◌, nat_lt, cond, get_or, slice_index, append-nil, ◌<◌, ◌≤◌, ◌^◌, take, ◌==◌, Bool, true, false, ◌&&◌, List, [], ◌∷◌, ◌++◌, length, map, filter, Option, Some, None, slice_get, option_map, find, inl, inr, refl, ap, sym, ◌∙◌, arith}
-use Rattle.std.specs.List.{zip, range_with_len}
+use Rattle.std.proofs.Common.{◌≡◌, ℕ, zero, suc, ◌+◌, cond, get_or, slice_index, append-nil, ◌<◌, ◌≤◌, ◌^◌, take, ◌==◌, Bool, true, false, ◌&&◌, List, [], ◌∷◌, ◌++◌, length, Some, slice_get, inl, inr, refl, ap, sym, ◌∙◌, arith}
+use Rattle.std.specs.List.{range_with_len}
 use Rattle.std.proofs.lemmas.Bool.{eq-eqb, ne_eqb, cases_lt, cases_eq, cases_Bool, eqb-true, and_parts, both_ways, le-ltb}
 use Rattle.std.proofs.lemmas.List.{length_push, length-set, get_or-set_same, get_or-set_other, set_past, take_more}
 use Rattle.dl_entry.specs.declared.actor.Actor.{Actor}

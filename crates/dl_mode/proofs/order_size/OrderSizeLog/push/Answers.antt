@@ -1,4 +1,4 @@
-use Rattle.std.proofs.Common.{◌≡◌, ◌<◌, ◌^◌, length, ap, arith}
+use Rattle.std.proofs.Common.{◌<◌, ◌^◌, length, ap, arith}
 use Rattle.dl_mode.specs.Logged.{Logged}
 use Rattle.dl_mode.proofs.SizeLookups.{IsWhole-noted, IsWhole-few, done_by-few}
 use Rattle.dl_mode.proofs.order_size.OrderSizeLog.push.Goals as goal
