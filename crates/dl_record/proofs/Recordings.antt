@@ -1,6 +1,5 @@
 -- What stands together in a recorder, with a commit or an interrupt more.
-use Rattle.std.proofs.Common.{◌≡◌, ℕ, ◌+◌, ◌-◌, ◌*◌, ◌^◌, ◌<◌, ◌≤◌, ◌==◌, ◌&&◌, Bool, true, false, List, [], ◌∷◌, ◌++◌, All, length, map, find, get_or, slice_index, Option, Some, None, IfSome, option_map, Result, Ok, Err, OnOk, OnErr, ◌⊎◌, inl, inr, refl, ap, sym, subst, ◌∙◌, arith}
-use Rattle.std.proofs.Math.ListN.{set}
+use Rattle.std.proofs.Common.{◌≡◌, ℕ, ◌+◌, ◌-◌, ◌^◌, ◌<◌, ◌≤◌, ◌==◌, ◌&&◌, Bool, true, false, List, [], ◌∷◌, All, length, map, get_or, slice_index, Option, Some, None, IfSome, option_map, Result, Ok, Err, OnOk, OnErr, ◌⊎◌, inl, inr, refl, sym, arith}
 use Rattle.std.proofs.lemmas.Bool.{cases_lt, cases_eq, cases_Bool}
 use Rattle.std.proofs.lemmas.List.{length_push, get_or-set_same, get_or-set_other, set_past}
 use Rattle.std.proofs.lemmas.Option.{none-some}
@@ -16,8 +15,8 @@ use Rattle.spec_log.specs.declared.records.DmaRecord.{DmaRecord}
 use Rattle.spec_log.specs.declared.sizes.ShortSize.{ShortSize}
 use Rattle.spec_log.specs.declared.sizes.Sizes.{Sizes}
 use Rattle.spec_log.specs.declared.sizes.Sizes.TheVariants.{Each, Short}
-use Rattle.spec_log.specs.Log.{ComesBefore, IsActor, IsOrder, IsSizes, IsShortSize, AreShortSizes, IsInterrupt, AreInterrupts, IsInput, AreInputs, IsDmaRecord, AreDmas, AreFewBytes, IsLog}
-use Rattle.spec_log.specs.Noting.{Kept, Note, noted, order_with, short_with, sizes_with, done_with, insert_size, insert_interrupt, log_of}
+use Rattle.spec_log.specs.Log.{IsActor, IsOrder, IsSizes, IsShortSize, AreShortSizes, IsInterrupt, IsInput, AreInputs, IsDmaRecord, AreDmas, AreFewBytes}
+use Rattle.spec_log.specs.Noting.{Kept, Note, noted, order_with, short_with, sizes_with, done_with, insert_interrupt}
 use Rattle.spec_log.proofs.Sections.{IsSection-push}
 use Rattle.dl_input.specs.Held.{Held, raised_at, interrupt_of}
 use Rattle.dl_mode.specs.Logged.{note_of}
