@@ -1,11 +1,10 @@
 -- Interrupts by thread and index, as lists of threads.
-use Rattle.std.proofs.Common.{◌≡◌, ℕ, zero, suc, ◌+◌, ◌-◌, ◌<◌, ◌≤◌, ◌⊎◌, ◌==◌, nat_lt, Bool, true, false, ◌&&◌, ◌||◌, cond, List, [], ◌∷◌, ◌++◌, All, length, map, take, drop, get_or, slice_index, slice_get, Option, Some, None, option_map, find, inl, inr, refl, ap, sym, subst, ◌∙◌, append_assoc, arith, add-one}
+use Rattle.std.proofs.Common.{◌≡◌, ℕ, zero, suc, ◌+◌, ◌-◌, ◌<◌, ◌≤◌, ◌==◌, nat_lt, Bool, true, false, ◌&&◌, List, [], ◌∷◌, ◌++◌, length, map, drop, get_or, slice_get, Option, Some, None, option_map, find, inl, inr, refl, ap, sym, ◌∙◌, arith, add-one}
 use Rattle.std.proofs.Math.ListN.{set}
-use Rattle.std.specs.List.{AllAdjacentBelow, list_all}
+use Rattle.std.specs.List.{list_all}
 use Rattle.std.proofs.lemmas.Bool.{lt-ltb, le-ltb, eq-eqb, ne_eqb, cases_lt, cases_eq, cases_Bool}
-use Rattle.std.proofs.lemmas.List.{get_or_default, get_or-take, length-take-le, take_more, drop_more, get_or_past}
+use Rattle.std.proofs.lemmas.List.{drop_more, get_or_past, get_or-set_same, length-append, length-map}
 use Rattle.std.proofs.lemmas.Option.{none-some}
-use Rattle.std.proofs.lemmas.List.Elements.{All-head}
 use Rattle.dl_input.specs.declared.interrupts.Raised.{Raised}
 use Rattle.spec_log.specs.Reading.{is_earlier}
 use Rattle.dl_moments.specs.declared.lane.Mark.{Mark}
@@ -134,6 +133,45 @@ slice_get-behind (m ∷ lane) rest t zero h = absurd (omega arith)
 slice_get-behind (m ∷ lane) rest t (suc i) h =
     let e : suc i - length (m ∷ lane) ≡ i - length lane = omega arith in
     slice_get-behind lane rest t i (omega arith) ∙ ap (slice_get rest) (sym e)
+
+-- one more of a new moment
+pub insert-fresh : (x : Held) (xs : List Held) → raised_at xs x.thread x.index ≡ None → length (insert_held x xs) ≡ length xs + 1
+insert-fresh x [] h = omega arith
+insert-fresh x (y ∷ ys) h =
+    elim (cases_Bool ((y.thread == x.thread) && (y.index == x.index))) [
+      | inl f ↦ absurd (none-some y.raised (sym (rw f at h)))
+      | inr f ↦ let rest : raised_at ys x.thread x.index ≡ None = rw f at h in
+          elim (cases_Bool (is_earlier y.thread y.index x.thread x.index)) [
+            | inl e ↦ rw e (omega (arith, insert-fresh x ys rest))
+            | inr e ↦ rw (e, f) (omega arith)
+          ]
+    ]
+
+pub many-put : (lanes new : List (List (Mark Raised))) (t i : ℕ) (v : Raised) → t < length lanes → new ≡ set lanes t (with_mark i v (get_or lanes t []))
+    → raised_at (held_from 0 lanes) t i ≡ None → length (held_from 0 new) ≡ length (held_from 0 lanes) + 1
+many-put lanes new t i v h e none =
+    let there = ap (held_from 0) e ∙ insert-put lanes t i v h in
+    ap length there ∙ insert-fresh (short t i v) (held_from 0 lanes) none
+
+-- as many with another lane that is as long
+count-lane : (lanes : List (List (Mark Raised))) (base t : ℕ) (lane : List (Mark Raised)) → length lane ≡ length (get_or lanes t [])
+    → length (held_from base (set lanes t lane)) ≡ length (held_from base lanes)
+count-lane [] base t lane h = refl
+count-lane (l ∷ lanes) base zero lane h =
+    let rest = held_from (suc base) lanes in
+    omega (arith, h, length-append (map (held_of base) lane) rest, length-append (map (held_of base) l) rest, length-map lane (held_of base), length-map l (held_of base))
+count-lane (l ∷ lanes) base (suc t) lane h =
+    omega (
+      arith,
+      count-lane lanes (suc base) t lane h,
+      length-append (map (held_of base) l) (held_from (suc base) (set lanes t lane)),
+      length-append (map (held_of base) l) (held_from (suc base) lanes),
+    )
+
+pub count-set : (lanes new : List (List (Mark Raised))) (t : ℕ) (lane : List (Mark Raised)) → t < length lanes → new ≡ set lanes t lane
+    → length (get_or new t []) ≡ length (get_or lanes t []) → length (held_from 0 new) ≡ length (held_from 0 lanes)
+count-set lanes new t lane h e same =
+    rw e (count-lane lanes 0 t lane (sym (ap length (get_or-set_same lanes t lane [] h)) ∙ (rw e at same)))
 
 -- an entry seen as an interrupt
 pub insert-map : (x : Held) (xs : List Held) → map interrupt_of (insert_held x xs) ≡ insert_interrupt (interrupt_of x) (map interrupt_of xs)

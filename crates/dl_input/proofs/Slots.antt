@@ -1,9 +1,8 @@
 -- Where a slot stands among rising ones.
-use Rattle.std.proofs.Common.{◌≡◌, ℕ, zero, suc, ◌+◌, ◌-◌, ◌<◌, ◌≤◌, ◌==◌, nat_lt, Bool, true, false, List, [], ◌∷◌, ◌++◌, length, get_or, take, drop, Option, Some, None, inl, inr, refl, ap, sym, subst, ◌∙◌, arith, add-one}
+use Rattle.std.proofs.Common.{◌≡◌, ℕ, zero, suc, ◌+◌, ◌-◌, ◌<◌, nat_lt, Bool, true, List, [], ◌∷◌, length, get_or, Some, None, inl, inr, refl, ap, sym, subst, ◌∙◌, arith}
 use Rattle.std.proofs.Math.ListN.{set}
-use Rattle.std.proofs.lemmas.List.{get_or_default}
 use Rattle.std.proofs.lemmas.Option.{none-some}
-use Rattle.std.proofs.lemmas.Bool.{ltb-true, lt-ltb, le-ltb, eq-eqb, ne_eqb, cases_lt, cases_eq}
+use Rattle.std.proofs.lemmas.Bool.{ltb-true, lt-ltb, eq-eqb, ne_eqb, cases_lt, cases_eq}
 use Rattle.std.specs.List.Sorted.{IsPartitionedBy}
 use Rattle.spec_log.specs.declared.records.DmaRecord.{DmaRecord}
 use Rattle.dl_input.specs.Dmas.{Rises, bytes_at, taken_at}

@@ -1,5 +1,5 @@
 -- The data of DMAs by their slots.
-use Rattle.std.specs.Prelude.{◌≡◌, ℕ, slice_set, slice_index_or, ◌<◌, ◌==◌, nat_lt, Bool, true, List, [], ◌∷◌, length, Option, Some, None, if◌then◌else◌}
+use Rattle.std.specs.Prelude.{◌≡◌, ℕ, slice_set, slice_index_or, ◌<◌, ◌==◌, Bool, true, List, [], ◌∷◌, length, Option, Some, None, if◌then◌else◌}
 use Rattle.std.specs.List.{AllAdjacentBelow}
 use Rattle.spec_log.specs.declared.records.DmaRecord.{DmaRecord}
 

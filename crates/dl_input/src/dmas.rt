@@ -39,7 +39,8 @@ impl Model for Dmas {
 impl Dmas {
     /// No DMA, which takes no memory yet.
     pub fn new(alloc: Global) -> Dmas
-        ensures { result.dmas ≡ [] }
+        ensures dmas { result.dmas ≡ [] }
+        ensures taken { result.taken ≡ [] }
     {
         Dmas {
             alloc,

@@ -1,5 +1,5 @@
 //! Interrupts by thread and index.
-ghost use Rattle.std.specs.Prelude.{◌≡◌, ◌≤◌, ◌++◌, [], None, map, option_map, slice_get, IfOk, IsOk, IsTrue, OnOk, OnErr};
+ghost use Rattle.std.specs.Prelude.{◌≡◌, ◌^◌, ◌<◌, ◌≤◌, ◌++◌, [], None, length, map, option_map, slice_get, IfOk, IsOk, IsTrue, OnOk, OnErr};
 ghost use Rattle.std.specs.List.{list_all};
 ghost use Rattle.dl_input.specs.Held.{held_of, new_held, raised_at, insert_held, interrupt_of, taken_at};
 
@@ -16,21 +16,26 @@ pub struct Raised {
     pub taken: bool,
 }
 
-/// Interrupts by thread, and for one thread by the number of its commits before.
+/// Interrupts by thread, and for one thread by the number of its commits before. 32 bits count them: beyond that there is
+/// no room.
 #[derive(Debug, Drop)]
 pub struct Interrupts {
     moments: Moments<Raised>,
+    count: u32,
 }
 
 impl Model for Interrupts {
-    ghost use Rattle.std.specs.Prelude.{◌≡◌, length};
+    ghost use Rattle.std.specs.Prelude.{◌≡◌, ◌-◌, ◌^◌, nat_lt, ◌&&◌, length};
     ghost use Rattle.dl_input.specs.Held.{Noted, held_from};
 
     ghost Value = { Noted };
 
-    ghost view = { λ i. record { entries = held_from 0 i.moments.lanes; room = i.moments.room } };
+    ghost view = { λ i. record {
+      entries = held_from 0 i.moments.lanes;
+      room = i.moments.room && nat_lt i.count (2 ^ 32 - 1);
+    } };
 
-    ghost invariant = { λ i. length i.moments.lanes ≡ 15 };
+    ghost invariant = { λ i. (length i.moments.lanes ≡ 15) × (i.count ≡ length (held_from 0 i.moments.lanes)) };
 }
 
 impl Interrupts {
@@ -40,6 +45,7 @@ impl Interrupts {
     {
         Ok(Interrupts {
             moments: Moments::new(alloc)?,
+            count: 0,
         })
     }
 
@@ -49,6 +55,9 @@ impl Interrupts {
         ensures ok { OnOk result (IsTrue self.new.room) }
         ensures room { IsTrue self.old.room → IsOk result }
     {
+        if self.count == u32::MAX {
+            return Err(OutOfMemory);
+        }
         self.moments.reserve()
     }
 
@@ -58,13 +67,19 @@ impl Interrupts {
         requires fresh { raised_at self.old.entries thread index ≡ None }
         ensures ok { OnOk result (self.new.entries ≡ insert_held (new_held thread index value) self.old.entries) }
         ensures err { OnErr result (self.new.entries ≡ self.old.entries) }
+        ensures few { length self.new.entries < 2 ^ 32 }
         ensures room { IsTrue self.old.room → IsOk result }
     {
+        if self.count == u32::MAX {
+            return Err(OutOfMemory);
+        }
         let raised = Raised {
             value,
             taken: false,
         };
-        self.moments.put(thread, index, raised)
+        self.moments.put(thread, index, raised)?;
+        self.count += 1;
+        Ok(())
     }
 
     /// The value that was raised at a thread with so many of its commits before, taken or not.

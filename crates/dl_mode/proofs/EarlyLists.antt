@@ -1,12 +1,12 @@
 -- Short sizes by thread and index, as lists of threads.
-use Rattle.std.proofs.Common.{◌≡◌, ℕ, zero, suc, ◌+◌, ◌-◌, ◌<◌, ◌≤◌, ◌⊎◌, ◌==◌, nat_lt, Bool, true, false, ◌&&◌, ◌||◌, cond, List, [], ◌∷◌, ◌++◌, All, length, map, take, drop, get_or, slice_index, Option, Some, None, option_map, find, inl, inr, refl, ap, sym, subst, ◌∙◌, append_assoc, arith, add-one}
+use Rattle.std.proofs.Common.{◌≡◌, ℕ, zero, suc, ◌+◌, ◌-◌, ◌<◌, ◌==◌, nat_lt, Bool, true, false, ◌&&◌, List, [], ◌∷◌, ◌++◌, All, length, map, take, drop, get_or, slice_index, Option, None, option_map, find, inl, inr, refl, ap, sym, subst, ◌∙◌, arith, add-one}
 use Rattle.std.proofs.Math.ListN.{set}
 use Rattle.std.specs.List.{AllAdjacentBelow, list_all}
 use Rattle.std.proofs.lemmas.Bool.{lt-ltb, le-ltb, eq-eqb, ne_eqb, cases_lt, cases_eq, cases_Bool}
 use Rattle.std.proofs.lemmas.List.{get_or_default, get_or-take, length-take-le, take_more, drop_more}
-use Rattle.std.proofs.lemmas.List.Elements.{All-head, All-tail, All-take}
+use Rattle.std.proofs.lemmas.List.Elements.{All-head, All-tail}
 use Rattle.spec_log.specs.declared.sizes.ShortSize.{ShortSize}
-use Rattle.spec_log.specs.Log.{ComesBefore, AreShortSizes}
+use Rattle.spec_log.specs.Log.{ComesBefore}
 use Rattle.spec_log.specs.Noting.{insert_size}
 use Rattle.spec_log.specs.Reading.{is_earlier}
 use Rattle.dl_moments.specs.declared.lane.Mark.{Mark}

@@ -1,6 +1,6 @@
 -- Looking up a size after another was put.
-use Rattle.std.proofs.Common.{◌≡◌, ℕ, zero, suc, ◌+◌, ◌||◌, nat_lt, cond, get_or, slice_index, append-nil, ◌<◌, ◌≤◌, ◌^◌, take, ◌==◌, Bool, true, false, ◌&&◌, List, [], ◌∷◌, ◌++◌, length, map, filter, Option, Some, None, slice_get, option_map, find, inl, inr, refl, ap, sym, ◌∙◌, arith}
-use Rattle.std.specs.List.{zip, range_with_len}
+use Rattle.std.proofs.Common.{◌≡◌, ℕ, zero, suc, ◌+◌, cond, get_or, slice_index, append-nil, ◌<◌, ◌≤◌, ◌^◌, take, ◌==◌, Bool, true, false, ◌&&◌, List, [], ◌∷◌, ◌++◌, length, Some, slice_get, inl, inr, refl, ap, sym, ◌∙◌, arith}
+use Rattle.std.specs.List.{range_with_len}
 use Rattle.std.proofs.lemmas.Bool.{eq-eqb, ne_eqb, cases_lt, cases_eq, cases_Bool, eqb-true, and_parts, both_ways, le-ltb}
 use Rattle.std.proofs.lemmas.List.{length_push, length-set, get_or-set_same, get_or-set_other, set_past, take_more}
 use Rattle.dl_entry.specs.declared.actor.Actor.{Actor}
@@ -9,6 +9,7 @@ use Rattle.spec_log.specs.declared.sizes.ShortSize.{ShortSize}
 use Rattle.spec_log.specs.Noting.{Kept, nothing_kept, noted, insert_size, short_with, done_with}
 use Rattle.spec_log.specs.Log.{IsActor, IsSection, IsShortSize, ComesBefore}
 use Rattle.std.proofs.lemmas.List.Elements.{All-nil}
+use Rattle.dl_mode.specs.Counts.{done_by, AreAmong}
 use Rattle.dl_mode.specs.Lists.{AreLists, lists_of}
 use Rattle.spec_log.specs.declared.mode_name.ModeName.{ModeName}
 use Rattle.spec_log.specs.Reading.{is_earlier}
@@ -125,8 +126,8 @@ Done-noted order sizes done (Thread u) size h all good counted t =
           (counted t)
     ])
 
--- no thread has more commits than there are
-pub done_with-few : (done : List ℕ) (actor : Actor) (n : ℕ) → ((t : ℕ) → slice_index done t ≤ n) → (t : ℕ) → slice_index (done_with done actor) t ≤ n + 1
+-- no thread has more commits than there are, also with one more
+pub done_with-few : (done : List ℕ) (actor : Actor) (n : ℕ) → AreAmong n done → AreAmong (n + 1) (done_with done actor)
 done_with-few done Dma n h t = omega (arith, h t)
 done_with-few done (Thread u) n h t =
     elim (cases_eq t u) [
@@ -136,6 +137,21 @@ done_with-few done (Thread u) n h t =
         | inr past ↦ rw (set_past done u (get_or done u 0 + 1) past) (omega (arith, h t))
       ]
     ]
+
+pub done_by-few : (done : List ℕ) (actor : Actor) (n : ℕ) → AreAmong n done → done_by done actor ≤ n
+done_by-few done (Thread t) n h = h t
+done_by-few done Dma n h = omega arith
+
+sizes_of_thread-few : (t : ℕ) (order : List Actor) (sizes : List ℕ) → length (sizes_of_thread t order sizes) ≤ length order
+sizes_of_thread-few t [] [] = omega arith
+sizes_of_thread-few t [] (z ∷ sizes) = omega arith
+sizes_of_thread-few t (a ∷ order) [] = omega arith
+sizes_of_thread-few t (a ∷ order) (z ∷ sizes) =
+    let rest = sizes_of_thread-few t order sizes in
+    elim (cases_Bool (is_thread t a)) [ inl e ↦ rw e (omega (arith, rest)) | inr e ↦ rw e (omega (arith, rest)) ]
+
+pub IsWhole-few : (order : List Actor) (sizes : List ℕ) (threads : EarlySizes) → IsWhole order sizes threads → AreAmong (length order) threads.done
+IsWhole-few order sizes threads w t = omega (arith, w.counted t, sizes_of_thread-few t order sizes)
 
 length-done_with : (done : List ℕ) (actor : Actor) → length (done_with done actor) ≡ length done
 length-done_with done (Thread u) = length-set done u (get_or done u 0 + 1)
@@ -163,7 +179,6 @@ pub record Begun (s i : ℕ) (order : List Actor) (sizes : List ℕ) (kept : Kep
   pub count : kept.count ≡ i
   pub order_is : kept.order ≡ take i order
   pub sizes_are : kept.sizes ≡ Sizes.Each (take i sizes)
-  pub few : (t : ℕ) → slice_index kept.done t ≤ i
 
 pub Begun-more : (s i : ℕ) (order : List Actor) (sizes : List ℕ) (kept new : Kept) (d : Actor) → i < length order → i < length sizes
     → Begun s i order sizes kept → new ≡ noted OrderSize kept (record { actor = get_or order i d; size = get_or sizes i 0; early = false })
@@ -174,7 +189,6 @@ Begun-more s i order sizes kept new d h l b e =
       count = rw (e, b.count) refl;
       order_is = rw (e, b.order_is) (sym (take_more order i d h));
       sizes_are = rw (e, b.sizes_are) (ap Sizes.Each (sym (take_more sizes i 0 l)));
-      few = rw e (done_with-few kept.done (get_or order i d) i b.few);
     }
 
 -- the lists of no commit

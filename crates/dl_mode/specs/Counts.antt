@@ -1,5 +1,5 @@
 -- The number of an actor's commits.
-use Rattle.std.specs.Prelude.{ℕ, List, slice_index}
+use Rattle.std.specs.Prelude.{ℕ, ◌≤◌, List, slice_index}
 use Rattle.dl_entry.specs.declared.actor.Actor.{Actor}
 use Rattle.dl_entry.specs.declared.actor.Actor.TheVariants.{Thread, Dma}
 
@@ -7,3 +7,7 @@ use Rattle.dl_entry.specs.declared.actor.Actor.TheVariants.{Thread, Dma}
 abbrev pub done_by : List ℕ → Actor → ℕ
 done_by done (Thread thread) = slice_index done thread
 done_by done Dma = 0
+
+-- no thread has done more commits than there are
+abbrev pub AreAmong : ℕ → List ℕ → Type 0
+AreAmong count done = (thread : ℕ) → slice_index done thread ≤ count

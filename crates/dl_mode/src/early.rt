@@ -63,6 +63,7 @@ impl Early {
     pub fn from_sizes(alloc: Global, sizes: &Sizes, s: u32) -> Result<Early, OutOfMemory>
         requires { AreEarly s sizes.now }
         ensures sizes { IfOk result (λ early. sizes.now ≡ Short early.sizes) }
+        ensures done { IfOk result (λ early. early.done ≡ replicate 15 0) }
     {
         match sizes {
             Sizes::Short(sizes) => Early::from_list(alloc, sizes.as_slice(), s),

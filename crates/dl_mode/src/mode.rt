@@ -1,9 +1,8 @@
 //! What each mode of recording does.
-ghost use Rattle.std.specs.Prelude.{◌≡◌, ◌+◌, ◌^◌, ◌<◌, ◌≤◌, length, IfOk, IsOk, IsTrue, OnOk, OnErr};
+ghost use Rattle.std.specs.Prelude.{◌≡◌, ◌^◌, ◌<◌, take, IfOk, IsOk, IsTrue, OnOk, OnErr};
 ghost use Rattle.spec_log.specs.declared.mode_name.ModeName.{ModeName};
 ghost use Rattle.spec_log.specs.Log.{IsActor};
 ghost use Rattle.spec_log.specs.Noting.{nothing_kept, noted, kept_size, limit_by, sizes_used, kept_head};
-ghost use Rattle.dl_mode.specs.Counts.{done_by};
 ghost use Rattle.dl_mode.specs.Lists.{lists_of, AreLists};
 ghost use Rattle.dl_mode.specs.Logged.{Logged, note_of};
 
@@ -38,7 +37,6 @@ pub trait Mode {
     fn note(log: &mut Self::Log, commit: &Commit, closed_short: bool) -> Result<(), OutOfMemory>
         requires actor { IsActor commit.now.actor }
         requires commits { (logged log.old).kept.count < 2 ^ 24 }
-        requires few { done_by (logged log.old).kept.done commit.now.actor + 1 < 2 ^ 32 }
         ensures ok { OnOk result ((logged log.new).kept ≡ noted mode (logged log.old).kept (note_of commit.now closed_short)) }
         ensures err { OnErr result ((logged log.new).kept ≡ (logged log.old).kept) }
         ensures room { IsTrue (logged log.old).room → IsOk result };
@@ -56,7 +54,8 @@ pub trait Mode {
     fn used(log: &Self::Log, done: &[u32]) -> bool
         ensures { let kept = (logged log.now).kept in result ≡ sizes_used kept.order kept.sizes done.now };
 
-    /// Whose commit stands at a position, told whether a DMA's slot is there, which thread committed last, and which are live.
+    /// Whose commit stands at a position, told whether a DMA's slot is there, which thread committed last, and which are live,
+    /// of which no more than 15 are looked at: a log names no other thread.
     fn head(
         log: &Self::Log,
         position: u32,
@@ -64,8 +63,7 @@ pub trait Mode {
         last: Option<u8>,
         live: &[bool],
     ) -> Option<Actor>
-        requires { length live.now ≤ 256 }
-        ensures { result ≡ kept_head mode (logged log.now).kept.order position slot last live.now };
+        ensures { result ≡ kept_head mode (logged log.now).kept.order position slot last (take 15 live.now) };
 
     /// The lists of a log.
     fn lists(alloc: Global, log: &Self::Log) -> Result<Lists, OutOfMemory>

@@ -21,6 +21,7 @@ pub struct OrderOnlyLog {
 impl Model for OrderOnlyLog {
     ghost use Rattle.std.specs.Prelude.{◌^◌, ◌≤◌, nat_lt, ◌&&◌, length, vec_len, vec_capacity};
     ghost use Rattle.spec_log.specs.declared.sizes.Sizes.TheVariants.{Short};
+    ghost use Rattle.dl_mode.specs.Counts.{AreAmong};
     ghost use Rattle.dl_mode.specs.Logged.{Logged};
 
     ghost Value = { Logged };
@@ -30,7 +31,7 @@ impl Model for OrderOnlyLog {
       room = nat_lt (vec_len l.order) (vec_capacity l.order) && l.early.room;
     } };
 
-    ghost invariant = { λ l. length l.order.items ≤ 2 ^ 24 };
+    ghost invariant = { λ l. (length l.order.items ≤ 2 ^ 24) × AreAmong (length l.order.items) l.early.done };
 }
 
 /// The mode that logs the order alone, and the sizes that a replay couldn't find.

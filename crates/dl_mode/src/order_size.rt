@@ -1,9 +1,8 @@
 //! Order-size: the order of commits, and the size of each.
-ghost use Rattle.std.specs.Prelude.{◌≡◌, ◌+◌, ◌^◌, ◌<◌, Bool, IfOk, IsOk, IsTrue, OnOk, OnErr};
+ghost use Rattle.std.specs.Prelude.{◌≡◌, ◌^◌, ◌<◌, Bool, IfOk, IsOk, IsTrue, OnOk, OnErr};
 ghost use Rattle.spec_log.specs.declared.mode_name.ModeName.TheVariants.{OrderSize as BySize};
 ghost use Rattle.spec_log.specs.Log.{IsActor};
 ghost use Rattle.spec_log.specs.Noting.{noted, nothing_kept};
-ghost use Rattle.dl_mode.specs.Counts.{done_by};
 ghost use Rattle.dl_mode.specs.Lists.{AreLists};
 ghost use Rattle.dl_mode.specs.Logged.{note};
 ghost use Rattle.spec_log.specs.declared.sizes.Sizes.TheVariants.{Each};
@@ -57,7 +56,6 @@ impl OrderSizeLog {
     fn push(&mut self, actor: Actor, size: u32) -> Result<(), OutOfMemory>
         requires actor { IsActor actor }
         requires commits { self.old.kept.count < 2 ^ 24 }
-        requires few { done_by self.old.kept.done actor + 1 < 2 ^ 32 }
         ensures ok { (early : Bool) → OnOk result (self.new.kept ≡ noted BySize self.old.kept (note actor size early)) }
         ensures err { OnErr result (self.new.kept ≡ self.old.kept) }
         ensures room { IsTrue self.old.room → IsOk result }

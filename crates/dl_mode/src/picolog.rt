@@ -1,5 +1,5 @@
 //! Picolog: no order, since threads take turns, and the sizes of chunks that were closed early.
-ghost use Rattle.std.specs.Prelude.{◌≡◌, ◌<◌, ◌≤◌, length, IfSome};
+ghost use Rattle.std.specs.Prelude.{◌≡◌, ◌<◌, ◌≤◌, length, take, IfSome};
 ghost use Rattle.spec_log.specs.declared.mode_name.ModeName.TheVariants.{Picolog as ByTurn};
 ghost use Rattle.spec_log.specs.Head.{turn as turn_of, first_live as first_of, next_live as next_of};
 
@@ -7,6 +7,7 @@ use crate::early::Early;
 use crate::lists::Lists;
 use crate::mode::{Mode, limit_of};
 use dl_entry::{Actor, Commit, OutOfMemory};
+use dl_moments::THREADS;
 use spec_log::{ModeName, Order, Sizes};
 use std::alloc::Global;
 use std::marker::Model;
@@ -22,6 +23,7 @@ pub struct TurnLog {
 impl Model for TurnLog {
     ghost use Rattle.std.specs.Prelude.{[]};
     ghost use Rattle.spec_log.specs.declared.sizes.Sizes.TheVariants.{Short};
+    ghost use Rattle.dl_mode.specs.Counts.{AreAmong};
     ghost use Rattle.dl_mode.specs.Logged.{Logged};
 
     ghost Value = { Logged };
@@ -30,6 +32,8 @@ impl Model for TurnLog {
       kept = record { s = l.s; count = l.count; order = []; sizes = Short l.early.sizes; done = l.early.done };
       room = l.early.room;
     } };
+
+    ghost invariant = { λ l. AreAmong l.count l.early.done };
 }
 
 /// The mode in which threads take turns.
@@ -83,7 +87,7 @@ impl Mode for PicoLog {
         if slot {
             return Some(Actor::Dma);
         }
-        Some(Actor::Thread(turn(last, live)?))
+        Some(Actor::Thread(turn(last, named(live))?))
     }
 
     fn lists(alloc: Global, log: &TurnLog) -> Result<Lists, OutOfMemory> {
@@ -105,9 +109,19 @@ impl Mode for PicoLog {
     }
 }
 
+/// Those that a log can name.
+fn named(live: &[bool]) -> &[bool]
+    ensures { result.now ≡ take 15 live.now }
+{
+    match live.get(..THREADS) {
+        Some(named) => named,
+        None => live,
+    }
+}
+
 /// The next live thread after the last that committed, cyclic; at first from thread 0 on.
 fn turn(last: Option<u8>, live: &[bool]) -> Option<u8>
-    requires { length live.now ≤ 256 }
+    requires { length live.now ≤ 15 }
     ensures { result ≡ turn_of last live.now }
 {
     match last {
@@ -121,7 +135,7 @@ fn turn(last: Option<u8>, live: &[bool]) -> Option<u8>
 
 /// The first live thread of a higher number.
 fn next_live(last: u8, live: &[bool]) -> Option<u8>
-    requires { length live.now ≤ 256 }
+    requires { length live.now ≤ 15 }
     ensures { result ≡ next_of last live.now }
 {
     let start = usize::from(last) + 1;
@@ -130,7 +144,7 @@ fn next_live(last: u8, live: &[bool]) -> Option<u8>
 }
 
 fn first_live(live: &[bool]) -> Option<u8>
-    requires { length live.now ≤ 256 }
+    requires { length live.now ≤ 15 }
     ensures { result ≡ first_of live.now }
 {
     let place = first(live)?;

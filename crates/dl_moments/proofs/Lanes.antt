@@ -3,7 +3,7 @@ use Rattle.std.proofs.Common.{◌≡◌, ℕ, zero, suc, ◌+◌, ◌<◌, true,
 use Rattle.std.proofs.Math.ListN.{set}
 use Rattle.std.specs.List.{list_all}
 use Rattle.std.proofs.lemmas.Bool.{cases_eq, and_parts}
-use Rattle.std.proofs.lemmas.List.{map-set, map-append, set-get_or, get_or-set_same, get_or-set_other, replicate_more}
+use Rattle.std.proofs.lemmas.List.{map-set, map-append, length-set, set-get_or, get_or-set_same, get_or-set_other, replicate_more}
 use Rattle.dl_moments.specs.declared.lane.Mark.{Mark}
 use Rattle.dl_moments.specs.Held.{Held}
 
@@ -28,6 +28,16 @@ pub same_lane : {V : Type 0} (lanes : List (Held V)) (t : ℕ) (old new : Held V
     → old ≡ get_or lanes t old → new.marks ≡ old.marks → map marks_of (set lanes t new) ≡ map marks_of lanes
 same_lane lanes t old new h is e =
     changed_lane lanes t old new (λ m. m) h is e ∙ set-get_or (map marks_of lanes) t []
+
+-- a list that stays as long
+pub same_count : {V : Type 0} (lanes : List (Held V)) (t : ℕ) (old new : Held V) → t < length lanes
+    → old ≡ get_or lanes t old → length new.marks ≡ length old.marks
+    → length (get_or (map marks_of (set lanes t new)) t []) ≡ length (get_or (map marks_of lanes) t [])
+same_count lanes t old new h is e =
+    let now : get_or (map marks_of (set lanes t new)) t [] ≡ new.marks =
+    get_or-map (set lanes t new) t new (omega (arith, length-set lanes t new)) ∙ ap marks_of (get_or-set_same lanes t new new h) in
+    let was : old.marks ≡ get_or (map marks_of lanes) t [] = ap marks_of is ∙ sym (get_or-map lanes t old h) in
+    ap length now ∙ (e ∙ ap length was)
 
 -- one list more, which is empty
 pub empty_lane : {V : Type 0} (lanes : List (Held V)) (n : ℕ) (new : Held V) → map marks_of lanes ≡ replicate n [] → new.marks ≡ []

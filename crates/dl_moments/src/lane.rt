@@ -67,6 +67,7 @@ impl<V: Copy> Lane<V> {
     /// Puts a value in place of the one that stands at an index, if there is one.
     pub fn set(&mut self, index: u32, value: V)
         ensures marks { self.new.marks ≡ with_mark_if index value self.old.marks }
+        ensures count { length self.new.marks ≡ length self.old.marks }
         ensures room { self.new.room ≡ self.old.room }
     {
         if let Ok(place) = place_of(&self.marks, index) {

@@ -1,8 +1,7 @@
 -- Entries in the order of their moments, and one more at its place.
-use Rattle.std.proofs.Common.{◌≡◌, ℕ, zero, suc, ◌+◌, ◌*◌, ◌^◌, ◌<◌, ◌≤◌, ◌⊎◌, ◌==◌, nat_lt, Bool, true, false, ◌&&◌, ◌||◌, List, [], ◌∷◌, ◌++◌, All, length, get_or, inl, inr, refl, ap, sym, subst, ◌∙◌, arith, add-one}
-use Rattle.std.proofs.Math.Nat.{mul-le-mul_right, add-mul}
+use Rattle.std.proofs.Common.{◌≡◌, ℕ, zero, suc, ◌+◌, ◌^◌, ◌<◌, ◌≤◌, ◌==◌, Bool, true, false, ◌&&◌, List, [], ◌∷◌, All, length, get_or, inl, inr, refl, sym, subst, arith, add-one}
 use Rattle.std.specs.List.{AllAdjacentBelow}
-use Rattle.std.proofs.lemmas.Bool.{lt-ltb, le-ltb, eq-eqb, ne_eqb, cases_lt, cases_eq, cases_order}
+use Rattle.std.proofs.lemmas.Bool.{lt-ltb, le-ltb, eq-eqb, ne_eqb, cases_order}
 use Rattle.std.proofs.lemmas.List.Elements.{All-nil, All-cons, All-head, All-tail}
 use Rattle.spec_log.specs.Log.{ComesBefore, IsSection}
 use Rattle.spec_log.specs.Noting.{insert_by}
@@ -108,35 +107,11 @@ module _ {X : Type 0} (thread index : X → ℕ) where
       ]
 
   -- a good entry makes a section of good entries again
-  pub IsSection-insert : (good : X → Type 0) (x : X) (xs : List X) → length xs + 1 < 2 ^ 32 → good x
+  pub IsSection-insert : (good : X → Type 0) (x : X) (xs : List X) → length (insert_by thread index x xs) < 2 ^ 32 → good x
       → IsSection good Before xs → IsSection good Before (insert_by thread index x xs)
   IsSection-insert good x xs few g s =
       record {
-        few = omega (arith, length-insert x xs);
+        few = few;
         each = All-insert good x xs g s.each;
         rising = rising-adjacent (insert_by thread index x xs) (rising-insert x xs (adjacent-rising xs s.rising));
       }
-
-  -- rising moments of 15 threads with indices up to a bound are no more than these
-  behind-count : (c t i : ℕ) (xs : List X) → Behind t i xs → All (λ y. thread y ≤ 14) xs → All (λ y. index y ≤ c) xs → i ≤ c → t ≤ 14
-      → t * (c + 1) + i + length xs < 15 * (c + 1)
-  behind-count c t i [] b ts is h l =
-      let most : t * (c + 1) ≤ 14 * (c + 1) = mul-le-mul_right (c + 1) l in omega arith
-  behind-count c t i (y ∷ ys) b ts is h l =
-      let good_t : thread y ≤ 14 = All-head (λ y. thread y ≤ 14) y ys ts in
-      let good_i : index y ≤ c = All-head (λ y. index y ≤ c) y ys is in
-      let rest = behind-count c (thread y) (index y) ys b.1 (All-tail (λ y. thread y ≤ 14) y ys ts) (All-tail (λ y. index y ≤ c) y ys is) good_i good_t in
-      elim b.0 [
-        | inl less ↦ let up : (t + 1) * (c + 1) ≤ thread y * (c + 1) = mul-le-mul_right (c + 1) (omega arith) in
-            omega (arith, add-mul t 1 (c + 1))
-        | inr tie ↦ let e : t * (c + 1) ≡ thread y * (c + 1) = ap (λ (n : ℕ). n * (c + 1)) tie.0 in omega (arith, tie.1)
-      ]
-
-  -- there are no more of them than moments
-  pub section-count : (good : X → Type 0) (c : ℕ) (xs : List X) → IsSection good Before xs → All (λ y. thread y ≤ 14) xs → All (λ y. index y ≤ c) xs
-      → length xs ≤ 15 * (c + 1)
-  section-count good c [] s ts is = omega arith
-  section-count good c (y ∷ ys) s ts is =
-      let rest = behind-count c (thread y) (index y) ys (adjacent-rising (y ∷ ys) s.rising) (All-tail (λ y. thread y ≤ 14) y ys ts) (All-tail (λ y. index y ≤ c) y ys is)
-      (All-head (λ y. index y ≤ c) y ys is) (All-head (λ y. thread y ≤ 14) y ys ts) in
-      omega arith

@@ -1,6 +1,5 @@
 -- What stands together in a recorder, with a commit or an interrupt more.
-use Rattle.std.proofs.Common.{◌≡◌, ℕ, ◌+◌, ◌-◌, ◌*◌, ◌^◌, ◌<◌, ◌≤◌, ◌==◌, ◌&&◌, Bool, true, false, List, [], ◌∷◌, ◌++◌, All, length, map, find, get_or, slice_index, Option, Some, None, IfSome, option_map, Result, Ok, Err, OnOk, OnErr, ◌⊎◌, inl, inr, refl, ap, sym, subst, ◌∙◌, arith}
-use Rattle.std.proofs.Math.ListN.{set}
+use Rattle.std.proofs.Common.{◌≡◌, ℕ, ◌+◌, ◌-◌, ◌^◌, ◌<◌, ◌≤◌, ◌==◌, ◌&&◌, Bool, true, false, List, [], ◌∷◌, All, length, map, get_or, slice_index, Option, Some, None, IfSome, option_map, Result, Ok, Err, OnOk, OnErr, ◌⊎◌, inl, inr, refl, sym, arith}
 use Rattle.std.proofs.lemmas.Bool.{cases_lt, cases_eq, cases_Bool}
 use Rattle.std.proofs.lemmas.List.{length_push, get_or-set_same, get_or-set_other, set_past}
 use Rattle.std.proofs.lemmas.Option.{none-some}
@@ -16,13 +15,13 @@ use Rattle.spec_log.specs.declared.records.DmaRecord.{DmaRecord}
 use Rattle.spec_log.specs.declared.sizes.ShortSize.{ShortSize}
 use Rattle.spec_log.specs.declared.sizes.Sizes.{Sizes}
 use Rattle.spec_log.specs.declared.sizes.Sizes.TheVariants.{Each, Short}
-use Rattle.spec_log.specs.Log.{ComesBefore, IsActor, IsOrder, IsSizes, IsShortSize, AreShortSizes, IsInterrupt, AreInterrupts, IsInput, AreInputs, IsDmaRecord, AreDmas, AreFewBytes, IsLog}
-use Rattle.spec_log.specs.Noting.{Kept, Note, noted, order_with, short_with, sizes_with, done_with, insert_size, insert_interrupt, log_of}
+use Rattle.spec_log.specs.Log.{IsActor, IsOrder, IsSizes, IsShortSize, AreShortSizes, IsInterrupt, IsInput, AreInputs, IsDmaRecord, AreDmas, AreFewBytes}
+use Rattle.spec_log.specs.Noting.{Kept, Note, noted, order_with, short_with, sizes_with, done_with, insert_interrupt}
 use Rattle.spec_log.proofs.Sections.{IsSection-push}
 use Rattle.dl_input.specs.Held.{Held, raised_at, interrupt_of}
 use Rattle.dl_mode.specs.Logged.{note_of}
 use Rattle.dl_record.specs.Recording.{IsRecording, CanCommit, IsFresh, with_input, with_dma, short_sizes}
-use Rattle.dl_record.proofs.Inserted.{IsSection-insert, All-insert, length-insert, section-count}
+use Rattle.dl_record.proofs.Inserted.{IsSection-insert, length-insert}
 
 done_with-few : (done : List ℕ) (actor : Actor) (n : ℕ) → ((t : ℕ) → slice_index done t ≤ n) → (t : ℕ) → slice_index (done_with done actor) t ≤ n + 1
 done_with-few done Dma n h t = omega (arith, h t)
@@ -48,7 +47,8 @@ short-noted s count sizes done Dma size early good fits over few counts room are
 short-noted s count sizes done (Thread t) size false good fits over few counts room are = are
 short-noted s count sizes done (Thread t) size true good fits over few counts room are =
     IsSection-insert (λ x. x.thread) (λ x. x.index) (IsShortSize s) (record { thread = t; index = slice_index done t; size = size }) sizes
-    (omega arith) (good, omega (arith, counts t), over refl, fits) are
+    (omega (arith, few, room, length-insert (λ x. x.thread) (λ x. x.index) (record { thread = t; index = slice_index done t; size = size }) sizes))
+    (good, omega (arith, counts t), over refl, fits) are
 
 sizes-noted : (mode : ModeName) (s count : ℕ) (sizes : Sizes) (done : List ℕ) (note : Note) → IsActor note.actor → note.size ≤ s
     → (note.early ≡ true → 1 ≤ note.size) → count < 2 ^ 24 → ((t : ℕ) → slice_index done t ≤ count) → length (short_sizes sizes) ≤ count
@@ -120,23 +120,20 @@ IsRecording-commit mode kept interrupts inputs dmas commit early input bytes r c
       few_inputs = i.1;
       few_dmas = d.1;
       slots = d.2;
-      moments = r.moments;
     }
 
 -- an interrupt more
 pub IsRecording-interrupt : (mode : ModeName) (kept : Kept) (interrupts : List Interrupt) (inputs : List Input) (dmas : List DmaRecord) (interrupt : Interrupt)
-    → IsRecording mode kept interrupts inputs dmas → IsInterrupt interrupt → interrupt.index ≤ 2 ^ 24
+    → IsRecording mode kept interrupts inputs dmas → IsInterrupt interrupt → length (insert_interrupt interrupt interrupts) < 2 ^ 32
     → IsRecording mode kept (insert_interrupt interrupt interrupts) inputs dmas
-IsRecording-interrupt mode kept interrupts inputs dmas interrupt r good early =
-    let threads = All-weaker IsInterrupt (λ i. i.thread ≤ 14) (λ i h. h.0) interrupts r.log.interrupts.each in
-    let few = section-count (λ i. i.thread) (λ i. i.index) IsInterrupt (2 ^ 24) interrupts r.log.interrupts threads r.moments in
+IsRecording-interrupt mode kept interrupts inputs dmas interrupt r good few =
     record {
       log = record {
         s = r.log.s;
         count = r.log.count;
         order = r.log.order;
         sizes = r.log.sizes;
-        interrupts = IsSection-insert (λ i. i.thread) (λ i. i.index) IsInterrupt interrupt interrupts (omega (arith, few)) good r.log.interrupts;
+        interrupts = IsSection-insert (λ i. i.thread) (λ i. i.index) IsInterrupt interrupt interrupts few good r.log.interrupts;
         inputs = r.log.inputs;
         dmas = r.log.dmas;
       };
@@ -145,7 +142,6 @@ IsRecording-interrupt mode kept interrupts inputs dmas interrupt r good early =
       few_inputs = r.few_inputs;
       few_dmas = r.few_dmas;
       slots = r.slots;
-      moments = All-insert (λ i. i.thread) (λ i. i.index) (λ i. i.index ≤ 2 ^ 24) interrupt interrupts early r.moments;
     }
 
 -- a moment that is new among interrupts is new among what they are seen of

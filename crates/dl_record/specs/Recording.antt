@@ -1,5 +1,5 @@
 -- What a recorder keeps.
-use Rattle.std.specs.Prelude.{◌≡◌, ℕ, ◌==◌, ◌&&◌, find, ◌+◌, ◌^◌, ◌<◌, ◌≤◌, Bool, true, List, [], ◌∷◌, ◌++◌, All, length, Option, Some, None, slice_index}
+use Rattle.std.specs.Prelude.{◌≡◌, ℕ, ◌==◌, ◌&&◌, find, ◌^◌, ◌<◌, ◌≤◌, Bool, true, List, [], ◌∷◌, ◌++◌, All, length, Option, Some, None, slice_index}
 use Rattle.dl_entry.specs.declared.input.Input.{Input}
 use Rattle.dl_entry.specs.declared.commit.Commit.{Commit}
 use Rattle.spec_log.specs.declared.mode_name.ModeName.{ModeName}
@@ -8,7 +8,7 @@ use Rattle.spec_log.specs.declared.records.DmaRecord.{DmaRecord}
 use Rattle.spec_log.specs.declared.sizes.ShortSize.{ShortSize}
 use Rattle.spec_log.specs.declared.sizes.Sizes.{Sizes}
 use Rattle.spec_log.specs.declared.sizes.Sizes.TheVariants.{Each, Short}
-use Rattle.spec_log.specs.Log.{IsActor, IsInput, IsLog, AreFewBytes}
+use Rattle.spec_log.specs.Log.{IsActor, IsLog}
 use Rattle.spec_log.specs.Noting.{Kept, log_of}
 
 -- what is kept of the commits, the records, and whether there is room for one commit with its records, and for one interrupt
@@ -50,7 +50,6 @@ pub record IsRecording (mode : ModeName) (kept : Kept) (interrupts : List Interr
   pub few_inputs : length inputs ≤ kept.count
   pub few_dmas : length dmas ≤ kept.count
   pub slots : All (λ dma. dma.slot < kept.count) dmas
-  pub moments : All (λ interrupt. interrupt.index ≤ 2 ^ 24) interrupts
 
 -- no interrupt of this moment is kept
 abbrev pub IsFresh : List Interrupt → ℕ → ℕ → Type 0

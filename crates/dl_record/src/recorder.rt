@@ -63,7 +63,7 @@ impl<M: Mode> Recorder<M> {
         })
     }
 
-    /// Makes room for one commit with its records, and one interrupt.
+    /// Makes room for one commit with its records, and one interrupt. Where there is room for both it isn't refused.
     pub fn reserve(&mut self) -> Result<(), OutOfMemory>
         ensures kept { self.new.kept ≡ self.old.kept }
         ensures interrupts { self.new.interrupts ≡ self.old.interrupts }
@@ -71,6 +71,7 @@ impl<M: Mode> Recorder<M> {
         ensures dmas { self.new.dmas ≡ self.old.dmas }
         ensures room { OnOk result (IsTrue self.new.room) }
         ensures interrupt_room { OnOk result (IsTrue self.new.interrupt_room) }
+        ensures room_before { IsTrue self.old.room → IsTrue self.old.interrupt_room → IsOk result }
     {
         M::reserve(&mut self.log)?;
         self.interrupts.reserve()?;
@@ -111,7 +112,6 @@ impl<M: Mode> Recorder<M> {
     /// Notes an interrupt of a new moment. With room it isn't refused.
     pub fn interrupt(&mut self, thread: u8, index: u32, value: u32) -> Result<(), OutOfMemory>
         requires thread { thread ≤ 14 }
-        requires index { index ≤ 2 ^ 24 }
         requires fresh { IsFresh self.old.interrupts thread index }
         ensures ok { let interrupt = interrupt thread index value in
             OnOk result (self.new.interrupts ≡ insert_interrupt interrupt self.old.interrupts) }

@@ -1,7 +1,7 @@
-use Rattle.std.proofs.Common.{◌≡◌, ◌<◌, ◌≤◌, ◌+◌, ℕ, List, Option, false, length, get_or, drop, slice_get, option_map, [], refl, ap, ◌∙◌, arith}
+use Rattle.std.proofs.Common.{◌<◌, ◌≤◌, ◌+◌, List, false, length, get_or, drop, slice_get, [], refl, ap, ◌∙◌, arith}
 use Rattle.dl_moments.specs.declared.lane.Mark.{Mark}
 use Rattle.dl_input.specs.declared.interrupts.Raised.{Raised}
-use Rattle.dl_input.specs.Held.{Held, held_from, interrupt_of}
+use Rattle.dl_input.specs.Held.{Held, held_from}
 use Rattle.dl_input.proofs.HeldLists.{held_from-next, slice_get-lane, slice_get-behind}
 use Rattle.dl_input.proofs.interrupts.Interrupts.nth.Goals as goal
 

@@ -1,7 +1,8 @@
-use Rattle.std.proofs.Common.{◌≡◌, ◌<◌, true, length, get_or, [], Some, None, refl, sym, ◌∙◌}
-use Rattle.dl_moments.specs.Marks.{value_at}
+use Rattle.std.proofs.Common.{◌≡◌, true, get_or, [], Some, None, refl, sym, ◌∙◌, arith}
+use Rattle.std.proofs.lemmas.List.{length-set}
+use Rattle.dl_moments.specs.Marks.{value_at, with_mark_if}
 use Rattle.dl_input.specs.Held.{held_from, raised_at}
-use Rattle.dl_input.proofs.HeldLists.{insert-put, raised_at-at, moment-within}
+use Rattle.dl_input.proofs.HeldLists.{insert-put, raised_at-at, moment-within, count-set}
 use Rattle.dl_input.proofs.interrupts.Interrupts.take.Goals as goal
 
 pub returns-in-Some : goal.returns-in-Some
@@ -21,3 +22,15 @@ returns-in_default c =
     let none : raised_at (held_from 0 lanes) c.args.thread c.args.index ≡ None =
     sym (raised_at-at lanes c.args.thread c.args.index) ∙ (sym c.at.ensures ∙ c.in_default.is) in
     rw (← c.self.view_is, none) refl
+
+pub invariant_of-self : goal.invariant_of-self
+invariant_of-self c =
+    let lanes = c.self.inside.moments.lanes in
+    let t = c.args.thread in
+    let raised = c.in-Some.raised in
+    let lane = with_mark_if c.args.index (record { value = raised.value; taken = true }) (get_or lanes t []) in
+    let here : value_at c.args.index (get_or lanes t []) ≡ Some raised = sym c.at.ensures ∙ c.in-Some.is in
+    let within = moment-within lanes t c.args.index raised here in (
+      rw c.set.ensures.lanes (length-set lanes t lane ∙ c.self.invariant.0),
+      omega (arith, c.self.invariant.1, count-set lanes c.set.new.self.lanes t lane within c.set.ensures.lanes c.set.ensures.count),
+    )

@@ -1,4 +1,4 @@
-use Rattle.std.proofs.Common.{◌≡◌, ◌<◌, length, get_or, arith, ◌∙◌}
+use Rattle.std.proofs.Common.{◌<◌, length, get_or, arith, ◌∙◌}
 use Rattle.std.proofs.lemmas.List.{length-set, get_or_default}
 use Rattle.spec_log.specs.declared.sizes.ShortSize.{ShortSize}
 use Rattle.dl_moments.specs.Marks.{with_mark}

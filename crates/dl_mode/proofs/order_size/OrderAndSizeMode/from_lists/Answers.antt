@@ -1,4 +1,4 @@
-use Rattle.std.proofs.Common.{◌≡◌, ◌<◌, false, length, ap, arith}
+use Rattle.std.proofs.Common.{◌<◌, false, length, ap, arith}
 use Rattle.dl_entry.specs.declared.actor.Actor.TheVariants.{Thread}
 use Rattle.dl_mode.proofs.SizeLookups.{Begun-more}
 use Rattle.dl_mode.proofs.order_size.OrderAndSizeMode.from_lists.Goals as goal

@@ -1,6 +1,5 @@
 use Rattle.std.proofs.Common.{ap, refl, option_map}
 use Rattle.spec_log.specs.Log.{IsInput, AreFewBytes}
-use Rattle.dl_input.specs.Held.{interrupt_of}
 use Rattle.dl_record.specs.Recording.{Recording, CanCommit}
 use Rattle.dl_record.proofs.Recordings.{IsRecording-commit, if_there}
 use Rattle.dl_record.proofs.recorder.Recorder.commit.Goals as goal

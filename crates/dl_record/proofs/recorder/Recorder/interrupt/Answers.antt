@@ -1,6 +1,7 @@
-use Rattle.std.proofs.Common.{◌≡◌, map, ap, inl, inr, ◌∙◌, arith}
+use Rattle.std.proofs.Common.{◌<◌, ◌^◌, length, map, ap, inl, inr, ◌∙◌}
+use Rattle.std.proofs.lemmas.List.{length-map}
 use Rattle.std.proofs.lemmas.Result.{on_ok_weaker}
-use Rattle.dl_input.specs.Held.{interrupt_of, new_held}
+use Rattle.dl_input.specs.Held.{interrupt_of, insert_held, new_held}
 use Rattle.dl_input.proofs.HeldLists.{insert-map}
 use Rattle.dl_record.specs.Recording.{Recording, interrupt}
 use Rattle.dl_record.proofs.Recordings.{IsRecording-interrupt, fresh, either}
@@ -17,9 +18,11 @@ invariant_of-self g c =
     let new = new_held c.args.thread c.args.index c.args.value in
     let i = c.self.invariant in (
       elim (either c.note.result c.note.ensures.ok c.note.ensures.err) [
-        | inl e ↦ rw (e, insert-map new entries)
+        | inl e ↦ let few : length (insert_held new entries) < 2 ^ 32 = rw e at c.note.ensures.few in
+            rw (e, insert-map new entries)
             (IsRecording-interrupt g.M.Mode.mode (g.M.Mode.logged c.self.inside.log).kept (map interrupt_of entries) c.self.inside.inputs.inputs c.self.inside.dmas.dmas
-            (interrupt c.args.thread c.args.index c.args.value) i.0 (c.requires.thread, c.ranges.index.fits, c.ranges.value.fits) c.requires.index)
+            (interrupt c.args.thread c.args.index c.args.value) i.0 (c.requires.thread, c.ranges.index.fits, c.ranges.value.fits)
+            (rw (← insert-map new entries, length-map (insert_held new entries) interrupt_of) few))
         | inr e ↦ rw e i.0
       ],
       i.1,
