@@ -1,6 +1,5 @@
 -- What is left of small replays, and which events finish them.
-use Rattle.std.proofs.Common.{◌≡◌, ℕ, List, [], ◌∷◌, ◌++◌, length, replicate, ◌-◌, None, refl}
-use Rattle.std.specs.Int.{bytes_low_first}
+use Rattle.std.proofs.Common.{◌≡◌, ℕ, List, [], ◌∷◌, None, refl}
 use Rattle.dl_entry.specs.declared.Actor.{Actor}
 use Rattle.spec_log.specs.declared.ModeName.{ModeName}
 use Rattle.spec_log.specs.declared.Sizes.{Sizes}
@@ -32,18 +31,11 @@ use Rattle.spec_protocol.specs.Placing.{placing, raising}
 use Rattle.spec_protocol.specs.Spheres.{head_of, limit_of}
 use Rattle.spec_protocol.specs.Stepping.{stepping, cutting}
 use Rattle.spec_protocol.specs.Transferring.{transfer, transferring}
+use Rattle.spec_play.proofs.Programs.{image}
 use Rattle.spec_finishing.specs.Work.{commit_work, plays_work}
 use Rattle.spec_finishing.specs.Rest.{replay_left, price, begun, rest}
 
 -- ---- scenes
-
-abbrev bytes_of : List ℕ → List ℕ
-bytes_of [] = []
-bytes_of (w ∷ ws) = bytes_low_first 0 4 w ++ bytes_of ws
-
--- code in a memory of 512 bytes
-abbrev image : List ℕ → List ℕ
-image ws = let bytes = bytes_of ws in bytes ++ replicate (512 - length bytes) 0
 
 -- two instructions, and then the call that ends the thread
 abbrev exits : List ℕ
@@ -62,7 +54,7 @@ replay code log =
       numbers = record { chunk = 100; buffer = 1; signature = 64 };
       seed = 0;
       input = [];
-      spheres = record { memory = image code; entry = 0; role = IsReplayed log } ∷ [];
+      spheres = record { memory = image 512 code; entry = 0; role = IsReplayed log } ∷ [];
     }
 
 -- in order-only, without sizes, of thread 0

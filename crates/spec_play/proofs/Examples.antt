@@ -1,6 +1,5 @@
 -- Plays of small logs: one that fits, and one for each reason to diverge.
-use Rattle.std.proofs.Common.{◌≡◌, ℕ, List, [], ◌∷◌, ◌++◌, refl}
-use Rattle.std.specs.Int.{bytes_low_first}
+use Rattle.std.proofs.Common.{◌≡◌, [], ◌∷◌, refl}
 use Rattle.dl_entry.specs.declared.Actor.{Actor}
 use Rattle.dl_entry.specs.declared.End.{End}
 use Rattle.dl_entry.specs.declared.Why.{Why}
@@ -22,19 +21,7 @@ use Rattle.spec_play.specs.Plays.{play_one}
 use Rattle.spec_play.specs.Transfers.{dma_verdict}
 use Rattle.spec_play.specs.Turns.{has_left_over, now_at}
 use Rattle.spec_play.specs.Verdicts.{chunk_verdict, serial_verdict}
-
--- words of code, from address 0 on
-abbrev bytes_of : List ℕ → List ℕ
-bytes_of [] = []
-bytes_of (w ∷ ws) = bytes_low_first 0 4 w ++ bytes_of ws
-
--- two instructions, and the call that ends the thread
-abbrev exits_code : List ℕ
-exits_code = bytes_of (0x00000893 ∷ 0x00700513 ∷ 0x00000073 ∷ [])
-
--- one instruction, and the call that asks for the moment
-abbrev clock_code : List ℕ
-clock_code = bytes_of (0x00500893 ∷ 0x00000073 ∷ [])
+use Rattle.spec_play.proofs.Programs.{exits_code, clock_code}
 
 -- a log of its own image
 abbrev complete_log : LogParts

@@ -1,1 +1,3 @@
+pub mod Programs
 mod Examples
+mod Records

@@ -1,21 +1,12 @@
 -- Small machines for worked examples.
-use Rattle.std.proofs.Common.{ℕ, List, [], ◌∷◌, ◌++◌, replicate, ◌-◌, length}
+use Rattle.std.proofs.Common.{ℕ, List, [], ◌∷◌}
 use Rattle.spec_log.specs.Bytes.{log_bytes}
 use Rattle.spec_protocol.specs.Spheres.{Role, Plain, Record, Replay}
-use Rattle.std.specs.Int.{bytes_low_first}
+use Rattle.spec_play.proofs.Programs.{image}
 use Rattle.spec_protocol.specs.declared.event.Event.{Event}
 use Rattle.spec_protocol.specs.declared.reply.Reply.{Reply}
 use Rattle.spec_protocol.specs.World.{World, sphere_at}
 use Rattle.spec_protocol.specs.Machine.{RoleSetup, Setup, happens}
-
--- words of code, from address 0 on
-abbrev pub bytes_of : List ℕ → List ℕ
-bytes_of [] = []
-bytes_of (w ∷ ws) = bytes_low_first 0 4 w ++ bytes_of ws
-
--- code in a memory of so many bytes
-abbrev pub image : (size : ℕ) → List ℕ → List ℕ
-image size ws = let bytes = bytes_of ws in bytes ++ replicate (size - length bytes) 0
 
 -- one sphere on so many cores, with chunks of 100, buffers of 16, a window of 2 and signatures of 64
 abbrev pub alone : (cores : ℕ) → RoleSetup → (size : ℕ) → List ℕ → Setup

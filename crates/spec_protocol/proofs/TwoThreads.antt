@@ -26,7 +26,8 @@ use Rattle.spec_protocol.specs.Commits.{chunk_moved, serial_moved, dma_moved}
 use Rattle.spec_protocol.specs.Machine.{IsRecorded, Setup}
 use Rattle.spec_protocol.specs.Serial.{whole_of, do_point}
 use Rattle.spec_protocol.specs.Logged.{supplied, logged}
-use Rattle.spec_protocol.proofs.Scenes.{alone, image}
+use Rattle.spec_play.proofs.Programs.{image}
+use Rattle.spec_protocol.proofs.Scenes.{alone}
 
 abbrev code : List ℕ
 code =

@@ -1,6 +1,5 @@
 -- Replays of small logs, event by event: what each answers, and where the sphere then stands.
-use Rattle.std.proofs.Common.{◌≡◌, ℕ, true, false, List, [], ◌∷◌, ◌++◌, replicate, Option, Some, None, refl}
-use Rattle.std.specs.Int.{bytes_low_first}
+use Rattle.std.proofs.Common.{◌≡◌, ℕ, true, false, List, [], ◌∷◌, Option, Some, None, refl}
 use Rattle.dl_entry.specs.declared.Actor.{Actor}
 use Rattle.dl_entry.specs.declared.Commit.{Commit}
 use Rattle.dl_entry.specs.declared.CommitKind.{CommitKind}
@@ -26,6 +25,7 @@ use Rattle.spec_play.specs.Plays.{play_one}
 use Rattle.spec_play.specs.Transfers.{dma_verdict}
 use Rattle.spec_play.specs.Turns.{Now, Turn, Over, has_left_over, now_at}
 use Rattle.spec_play.specs.Verdicts.{chunk_verdict, serial_verdict}
+use Rattle.spec_play.proofs.Programs.{image}
 use Rattle.spec_engine.specs.Choices.{on_option, choose}
 use Rattle.spec_engine.specs.Chunks.{at_limit, reading, storing, loading, running, step}
 use Rattle.spec_engine.specs.Flights.{first_slot, free_slot}
@@ -47,8 +47,7 @@ use Rattle.spec_protocol.specs.World.{World, sphere_at}
 
 -- two instructions, and then the call that ends the thread
 abbrev code : List ℕ
-code =
-    bytes_low_first 0 4 0x00000893 ++ bytes_low_first 0 4 0x00700513 ++ bytes_low_first 0 4 0x00000073 ++ replicate 4 0
+code = image 16 (0x00000893 ∷ 0x00700513 ∷ 0x00000073 ∷ [])
 
 -- one core replays the log, with chunks of 100, buffers of 16, a window of 2 and signatures of 64
 abbrev replay : LogParts → World
