@@ -1,123 +1,25 @@
 -- Interrupts by thread and index, as lists of threads.
-use Rattle.std.proofs.Common.{◌≡◌, ℕ, zero, suc, ◌+◌, ◌-◌, ◌<◌, ◌≤◌, ◌==◌, nat_lt, Bool, true, false, ◌&&◌, List, [], ◌∷◌, ◌++◌, length, map, drop, get_or, slice_get, Option, Some, None, option_map, find, inl, inr, refl, ap, sym, ◌∙◌, arith, add-one}
+use Rattle.std.proofs.Common.{◌≡◌, ℕ, zero, suc, ◌+◌, ◌-◌, ◌<◌, ◌≤◌, ◌==◌, ◌&&◌, List, [], ◌∷◌, ◌++◌, length, map, get_or, slice_get, Some, None, inl, inr, refl, ap, sym, ◌∙◌, arith}
 use Rattle.std.proofs.Math.ListN.{set}
-use Rattle.std.specs.List.{list_all}
-use Rattle.std.proofs.lemmas.Bool.{lt-ltb, le-ltb, eq-eqb, ne_eqb, cases_lt, cases_eq, cases_Bool}
-use Rattle.std.proofs.lemmas.List.{drop_more, get_or_past, get_or-set_same, length-append, length-map}
+use Rattle.std.proofs.lemmas.Bool.{cases_lt, cases_Bool}
+use Rattle.std.proofs.lemmas.List.{get_or_past, get_or-set_same, length-append, length-map}
 use Rattle.std.proofs.lemmas.Option.{none-some}
 use Rattle.dl_input.specs.declared.interrupts.Raised.{Raised}
 use Rattle.spec_log.specs.Reading.{is_earlier}
 use Rattle.dl_moments.specs.declared.lane.Mark.{Mark}
 use Rattle.dl_moments.specs.Marks.{with_mark, value_at}
+use Rattle.dl_moments.proofs.Entries as entries
 use Rattle.dl_input.specs.Held.{Held, held_of, held_from, raised_at, insert_held, interrupt_of}
 use Rattle.spec_log.specs.Noting.{insert_interrupt}
 
-abbrev short : ℕ → ℕ → Raised → Held
-short t i v = record { thread = t; index = i; raised = v }
-
--- what comes before is earlier, what is the same or comes after isn't
-earlier-lower : (t i u j : ℕ) → t < u → is_earlier t i u j ≡ true
-earlier-lower t i u j h = rw (lt-ltb t u h) refl
-
-earlier-same : (t i j : ℕ) → is_earlier t i t j ≡ nat_lt i j
-earlier-same t i j = rw (le-ltb t t (omega arith), eq-eqb t t refl) refl
-
-earlier-higher : (t i u j : ℕ) → u < t → is_earlier t i u j ≡ false
-earlier-higher t i u j h = rw (le-ltb t u (omega arith), ne_eqb t u (λ e. omega arith)) refl
-
--- a size of a lower thread stands in front
-insert-front : (lanes : List (List (Mark Raised))) (t u i : ℕ) (v : Raised) → u < t → insert_held (short u i v) (held_from t lanes) ≡ short u i v ∷ held_from t lanes
-insert-front [] t u i v h = refl
-insert-front ([] ∷ lanes) t u i v h = insert-front lanes (suc t) u i v (omega arith)
-insert-front ((m ∷ lane) ∷ lanes) t u i v h =
-    rw (earlier-higher t m.index u i h, ne_eqb t u (λ e. omega arith)) refl
-
--- a size of a higher thread goes past a lane
-insert-past : (lane : List (Mark Raised)) (rest : List Held) (t u i : ℕ) (v : Raised) → t < u
-    → insert_held (short u i v) (map (held_of t) lane ++ rest) ≡ map (held_of t) lane ++ insert_held (short u i v) rest
-insert-past [] rest t u i v h = refl
-insert-past (m ∷ lane) rest t u i v h = rw (earlier-lower t m.index u i h, insert-past lane rest t u i v h) refl
-
--- a size of this thread finds its place in the lane
-insert-within : (lane : List (Mark Raised)) (lanes : List (List (Mark Raised))) (t i : ℕ) (v : Raised)
-    → map (held_of t) (with_mark i v lane) ++ held_from (suc t) lanes ≡ insert_held (short t i v) (map (held_of t) lane ++ held_from (suc t) lanes)
-insert-within [] lanes t i v = sym (insert-front lanes (suc t) t i v (omega arith))
-insert-within (m ∷ lane) lanes t i v =
-    elim (cases_lt m.index i) [
-      | inl less ↦ rw (earlier-same t m.index i, lt-ltb m.index i less, ← insert-within lane lanes t i v) refl
-      | inr more ↦ elim (cases_eq m.index i) [
-        | inl same ↦ rw (earlier-same t m.index i, le-ltb m.index i more, eq-eqb m.index i same, eq-eqb t t refl) refl
-        | inr other ↦ rw (earlier-same t m.index i, le-ltb m.index i more, ne_eqb m.index i other, eq-eqb t t refl) refl
-      ]
-    ]
-
-insert-lane : (lanes : List (List (Mark Raised))) (base t u i : ℕ) (v : Raised) → u ≡ base + t → t < length lanes
-    → held_from base (set lanes t (with_mark i v (get_or lanes t []))) ≡ insert_held (short u i v) (held_from base lanes)
-insert-lane [] base t u i v e h = absurd (omega arith)
-insert-lane (lane ∷ lanes) base zero u i v e h =
-    let same : u ≡ base = omega arith in rw same (insert-within lane lanes base i v)
-insert-lane (lane ∷ lanes) base (suc t) u i v e h =
-    rw (insert-lane lanes (suc base) t u i v (omega arith) (omega arith))
-    (sym (insert-past lane (held_from (suc base) lanes) base u i v (omega arith)))
-
--- a size put into its thread's lane is inserted into the list
+-- an interrupt put into its thread's lane is inserted into the list
 pub insert-put : (lanes : List (List (Mark Raised))) (t i : ℕ) (v : Raised) → t < length lanes
     → held_from 0 (set lanes t (with_mark i v (get_or lanes t []))) ≡ insert_held (record { thread = t; index = i; raised = v }) (held_from 0 lanes)
-insert-put lanes t i v h = insert-lane lanes 0 t t i v (omega arith) h
+insert-put = entries.insert-put (λ s. s.thread) (λ s. s.index) held_of (λ t m. refl) (λ t m. refl)
 
--- looking up
-
-abbrev found : List Held → ℕ → ℕ → Option Held
-found sizes u i = find (λ s. (s.thread == u) && (s.index == i)) sizes
-
-found-past : (lane : List (Mark Raised)) (rest : List Held) (t u i : ℕ) → t < u → found (map (held_of t) lane ++ rest) u i ≡ found rest u i
-found-past [] rest t u i h = refl
-found-past (m ∷ lane) rest t u i h = rw (ne_eqb t u (λ e. omega arith)) (found-past lane rest t u i h)
-
-found-none : (lanes : List (List (Mark Raised))) (t u i : ℕ) → u < t → found (held_from t lanes) u i ≡ None
-found-none [] t u i h = refl
-found-none ([] ∷ lanes) t u i h = found-none lanes (suc t) u i (omega arith)
-found-none ((m ∷ lane) ∷ lanes) t u i h =
-    rw (ne_eqb t u (λ e. omega arith)) (found-none (lane ∷ lanes) t u i h)
-
-found-within : (lane : List (Mark Raised)) (lanes : List (List (Mark Raised))) (t i : ℕ)
-    → option_map (λ s. s.raised) (found (map (held_of t) lane ++ held_from (suc t) lanes) t i) ≡ value_at i lane
-found-within [] lanes t i = rw (found-none lanes (suc t) t i (omega arith)) refl
-found-within (m ∷ lane) lanes t i =
-    elim (cases_eq m.index i) [
-      | inl same ↦ rw (eq-eqb t t refl, eq-eqb m.index i same) refl
-      | inr other ↦ rw (eq-eqb t t refl, ne_eqb m.index i other) (found-within lane lanes t i)
-    ]
-
-raised_at-lane : (lanes : List (List (Mark Raised))) (base t u i : ℕ) → u ≡ base + t → raised_at (held_from base lanes) u i ≡ value_at i (get_or lanes t [])
-raised_at-lane [] base t u i e = refl
-raised_at-lane (lane ∷ lanes) base zero u i e = let same : u ≡ base = omega arith in rw same (found-within lane lanes base i)
-raised_at-lane (lane ∷ lanes) base (suc t) u i e =
-    rw (found-past lane (held_from (suc base) lanes) base u i (omega arith)) (raised_at-lane lanes (suc base) t u i (omega arith))
-
+-- what was raised at an index of a thread's lane is found in the list
 pub raised_at-at : (lanes : List (List (Mark Raised))) (t i : ℕ) → value_at i (get_or lanes t []) ≡ raised_at (held_from 0 lanes) t i
-raised_at-at lanes t i = sym (raised_at-lane lanes 0 t t i (omega arith))
-
--- the lanes from a thread on
-pub held_from-next : (lanes : List (List (Mark Raised))) (t : ℕ) → t < length lanes
-    → held_from t (drop t lanes) ≡ map (held_of t) (get_or lanes t []) ++ held_from (t + 1) (drop (t + 1) lanes)
-held_from-next lanes t h = rw (drop_more lanes t [] h, add-one t) refl
-
--- whether all pass, from a place on
-pub all-drop : {X : Type 0} (p : X → Bool) (xs : List X) (k : ℕ) (d : X) → k < length xs
-    → list_all p (drop k xs) ≡ (p (get_or xs k d) && list_all p (drop (k + 1) xs))
-all-drop p xs k d h = ap (list_all p) (drop_more xs k d h)
-
--- whether all were taken, of a thread and of those behind it
-pub all-lane : (lane : List (Mark Raised)) (rest : List Held) (t : ℕ)
-    → list_all (λ s. s.raised.taken) (map (held_of t) lane ++ rest)
-    ≡ (list_all (λ m. m.value.taken) lane && list_all (λ s. s.raised.taken) rest)
-all-lane [] rest t = refl
-all-lane (m ∷ lane) rest t =
-    elim (cases_Bool m.value.taken) [
-      | inl e ↦ rw e (all-lane lane rest t)
-      | inr e ↦ rw e refl
-    ]
+raised_at-at = entries.value-found (λ s. s.thread) (λ s. s.index) held_of (λ t m. refl) (λ t m. refl) (λ s. s.raised) (λ t m. refl)
 
 -- the entry at a place, of a thread's or behind them
 pub slice_get-lane : (lane : List (Mark Raised)) (rest : List Held) (t i : ℕ) (d : Mark Raised) → i < length lane
@@ -151,7 +53,7 @@ pub many-put : (lanes new : List (List (Mark Raised))) (t i : ℕ) (v : Raised) 
     → raised_at (held_from 0 lanes) t i ≡ None → length (held_from 0 new) ≡ length (held_from 0 lanes) + 1
 many-put lanes new t i v h e none =
     let there = ap (held_from 0) e ∙ insert-put lanes t i v h in
-    ap length there ∙ insert-fresh (short t i v) (held_from 0 lanes) none
+    ap length there ∙ insert-fresh (record { thread = t; index = i; raised = v }) (held_from 0 lanes) none
 
 -- as many with another lane that is as long
 count-lane : (lanes : List (List (Mark Raised))) (base t : ℕ) (lane : List (Mark Raised)) → length lane ≡ length (get_or lanes t [])

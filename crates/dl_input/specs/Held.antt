@@ -1,8 +1,9 @@
 -- Interrupts by thread and index, each with whether it was taken.
-use Rattle.std.specs.Prelude.{ℕ, suc, ◌==◌, Bool, true, false, ◌&&◌, List, [], ◌∷◌, ◌++◌, map, find, Option, Some, None, option_map}
+use Rattle.std.specs.Prelude.{ℕ, ◌==◌, Bool, true, false, ◌&&◌, List, find, Option, Some, None, option_map}
 use Rattle.spec_log.specs.declared.records.Interrupt.{Interrupt}
 use Rattle.spec_log.specs.Noting.{insert_by}
 use Rattle.dl_moments.specs.declared.lane.Mark.{Mark}
+use Rattle.dl_moments.specs.Entries.{entries_from}
 use Rattle.dl_input.specs.declared.interrupts.Raised.{Raised}
 
 -- an interrupt, with its value and whether it was taken
@@ -20,8 +21,7 @@ new_held thread index value = record { thread = thread; index = index; raised = 
 
 -- those of a thread, and of the threads behind it
 abbrev pub held_from : ℕ → List (List (Mark Raised)) → List Held
-held_from thread [] = []
-held_from thread (lane ∷ lanes) = map (held_of thread) lane ++ held_from (suc thread) lanes
+held_from = entries_from held_of
 
 -- what was raised at a thread with so many of its commits before
 abbrev pub raised_at : List Held → ℕ → ℕ → Option Raised

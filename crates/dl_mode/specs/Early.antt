@@ -1,15 +1,15 @@
 -- Sizes by thread and index, and the number of each thread's commits.
-use Rattle.std.specs.Prelude.{ℕ, suc, ◌==◌, Bool, ◌&&◌, List, [], ◌∷◌, ◌++◌, map, find, Option, option_map}
+use Rattle.std.specs.Prelude.{ℕ, ◌==◌, Bool, ◌&&◌, List, find, Option, option_map}
 use Rattle.spec_log.specs.declared.sizes.ShortSize.{ShortSize}
 use Rattle.dl_moments.specs.declared.lane.Mark.{Mark}
+use Rattle.dl_moments.specs.Entries.{entries_from}
 
 -- the sizes of one thread, and of this thread and those behind it
 abbrev pub short_of : ℕ → Mark ℕ → ShortSize
 short_of thread mark = record { thread = thread; index = mark.index; size = mark.value }
 
 abbrev pub sizes_from : ℕ → List (List (Mark ℕ)) → List ShortSize
-sizes_from thread [] = []
-sizes_from thread (lane ∷ lanes) = map (short_of thread) lane ++ sizes_from (suc thread) lanes
+sizes_from = entries_from short_of
 
 -- the size of a thread's commit among these
 abbrev pub size_among : List ShortSize → ℕ → ℕ → Option ℕ

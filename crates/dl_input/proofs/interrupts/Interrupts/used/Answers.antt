@@ -1,7 +1,7 @@
 use Rattle.std.proofs.Common.{◌≡◌, ◌<◌, ◌+◌, true, false, [], length, get_or, drop, refl, ap, sym, ◌∙◌, arith, rules}
 use Rattle.std.specs.List.{list_all}
-use Rattle.dl_input.specs.Held.{Held, held_from}
-use Rattle.dl_input.proofs.HeldLists.{held_from-next, all-lane}
+use Rattle.dl_input.specs.Held.{Held, held_of, held_from}
+use Rattle.dl_moments.proofs.Entries.{entries-next, all-lane}
 use Rattle.dl_input.proofs.interrupts.Interrupts.used.Goals as goal
 
 pub returns-then-not-all_taken : goal.returns-then-not-all_taken
@@ -12,8 +12,8 @@ returns-then-not-all_taken c =
     let h : t < length lanes = omega (arith, c.self.invariant) in
     let f = rw c.lane.ensures.marks at c.all_taken.ensures in
     let no : c.all_taken.result ≡ false = search rules in
-    sym (c.loop-thread.invariant ∙ (ap (list_all p) (held_from-next lanes t h)
-    ∙ (all-lane (get_or lanes t []) (held_from (t + 1) (drop (t + 1) lanes)) t ∙ rw (← f, no) refl)))
+    sym (c.loop-thread.invariant ∙ (ap (list_all p) (entries-next held_of lanes t h)
+    ∙ (all-lane held_of p (get_or lanes t []) (held_from (t + 1) (drop (t + 1) lanes)) t ∙ rw (← f, no) refl)))
 
 pub loop-thread-preserved : goal.loop-thread-preserved
 loop-thread-preserved c =
@@ -23,5 +23,5 @@ loop-thread-preserved c =
     let h : t < length lanes = omega (arith, c.self.invariant) in
     let f = rw c.lane.ensures.marks at c.all_taken.ensures in
     let yes : c.all_taken.result ≡ true = search rules in
-    c.loop-thread.invariant ∙ (ap (list_all p) (held_from-next lanes t h)
-    ∙ (all-lane (get_or lanes t []) (held_from (t + 1) (drop (t + 1) lanes)) t ∙ rw (← f, yes) refl))
+    c.loop-thread.invariant ∙ (ap (list_all p) (entries-next held_of lanes t h)
+    ∙ (all-lane held_of p (get_or lanes t []) (held_from (t + 1) (drop (t + 1) lanes)) t ∙ rw (← f, yes) refl))

@@ -1,8 +1,8 @@
 use Rattle.std.proofs.Common.{◌≡◌, ◌<◌, ◌+◌, nat_lt, true, false, [], length, get_or, slice_index, drop, refl, ap, sym, ◌∙◌, arith, rules}
 use Rattle.std.specs.List.{list_all}
 use Rattle.spec_log.specs.declared.sizes.ShortSize.{ShortSize}
-use Rattle.dl_mode.specs.Early.{sizes_from}
-use Rattle.dl_mode.proofs.EarlyLists.{sizes_from-next, all-lane}
+use Rattle.dl_mode.specs.Early.{short_of, sizes_from}
+use Rattle.dl_moments.proofs.Entries.{entries-next, all-lane}
 use Rattle.dl_mode.proofs.early.Early.used.Goals as goal
 
 pub returns-then-not-all_below : goal.returns-then-not-all_below
@@ -14,8 +14,8 @@ returns-then-not-all_below c =
     let h : t < length lanes = omega (arith, c.self.invariant) in
     let f = rw (c.count_of.ensures, c.lane.ensures.marks) at c.all_below.ensures in
     let no : c.all_below.result ≡ false = search rules in
-    sym (c.loop-thread.invariant ∙ (ap (list_all p) (sizes_from-next lanes t h)
-    ∙ (all-lane (get_or lanes t []) (sizes_from (t + 1) (drop (t + 1) lanes)) t done
+    sym (c.loop-thread.invariant ∙ (ap (list_all p) (entries-next short_of lanes t h)
+    ∙ (all-lane short_of p (get_or lanes t []) (sizes_from (t + 1) (drop (t + 1) lanes)) t
     ∙ rw (← f, no) refl)))
 
 pub loop-thread-preserved : goal.loop-thread-preserved
@@ -27,6 +27,6 @@ loop-thread-preserved c =
     let h : t < length lanes = omega (arith, c.self.invariant) in
     let f = rw (c.count_of.ensures, c.lane.ensures.marks) at c.all_below.ensures in
     let yes : c.all_below.result ≡ true = search rules in
-    c.loop-thread.invariant ∙ (ap (list_all p) (sizes_from-next lanes t h)
-    ∙ (all-lane (get_or lanes t []) (sizes_from (t + 1) (drop (t + 1) lanes)) t done
+    c.loop-thread.invariant ∙ (ap (list_all p) (entries-next short_of lanes t h)
+    ∙ (all-lane short_of p (get_or lanes t []) (sizes_from (t + 1) (drop (t + 1) lanes)) t
     ∙ rw (← f, yes) refl))
