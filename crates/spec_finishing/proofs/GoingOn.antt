@@ -1,21 +1,17 @@
 -- A replay that goes on, beside its play: whose turn it is, and what its thread has run.
-use Rattle.std.proofs.Common.{◌≡◌, ℕ, ◌<◌, ◌≤◌, inl, inr, true, false, eqb, cond, List, Some, None, refl, sym, ap, ◌∙◌, subst, set}
+use Rattle.std.proofs.Common.{◌≡◌, ℕ, ◌<◌, ◌≤◌, inl, inr, true, false, List, Some, sym, ap, ◌∙◌, subst, set}
 use Rattle.std.specs.Prelude.{slice_get}
-use Rattle.std.proofs.lemmas.Bool.{true≢false, eqb-true}
-use Rattle.std.proofs.lemmas.Option.{none-some}
-use Rattle.dl_entry.specs.declared.Actor.{Actor}
+use Rattle.std.proofs.lemmas.Bool.{true≢false}
 use Rattle.spec_isa.specs.declared.thread.Parts.{Parts}
 use Rattle.spec_isa.specs.Words.{lays}
 use Rattle.spec_isa.specs.Runs.{run}
 use Rattle.spec_kernel.specs.Interrupts.{is_live}
 use Rattle.spec_log.specs.declared.LogParts.{LogParts}
 use Rattle.spec_play.specs.Progress.{position}
-use Rattle.spec_play.specs.Turns.{Now, Turn, TurnOfDma, Over}
+use Rattle.spec_play.specs.Turns.{Now, Turn, TurnOfDma}
 use Rattle.spec_play.specs.Plays.{Played, opened, plays}
-use Rattle.spec_protocol.specs.Spheres.{Book, Role, Replay, Sphere, is_over, is_stopped, actor_of, head_of, head_in, whole_limit, limit_of}
+use Rattle.spec_protocol.specs.Spheres.{Book, Replay, Sphere, is_over, whole_limit, limit_of}
 use Rattle.spec_protocol.specs.Machine.{SphereSetup}
-use Rattle.spec_protocol.specs.Asking.{other_turn}
-use Rattle.spec_protocol.specs.Transferring.{not_of_dma, turn_before_dma}
 use Rattle.spec_protocol.proofs.Moving.{get-set_same}
 use Rattle.spec_replay.specs.Following.{IsWhole, StandsAt, Follows}
 use Rattle.spec_finishing.specs.Work.{commit_work}
@@ -75,31 +71,6 @@ pub goes-on : (image : SphereSetup) (log : LogParts) (p : Sphere) (b : Book) →
 goes-on image log p b f role going =
     let e : f.book ≡ b = (let h : Replay f.book ≡ Replay b = sym f.role ∙ role in cc) in
     subst (λ (c : Book). is_over c.now ≡ false → GoesOn image p c) e (goes_book image log p f) going
-
--- ---- whose turn
-
--- the thread has the turn in a replay that hasn't stopped
-pub turn-is : (now : Now) (k : ℕ) → is_over now ≡ false → other_turn (actor_of now) k ≡ None → now ≡ Turn k
-turn-is (Turn j) k going e =
-    ap Turn (eqb-true j k (elim (eqb j k) as (λ b. cond b None (Some (Actor.Thread j)) ≡ None → b ≡ true) [
-      | true ↦ λ h. refl
-      | false ↦ λ h. absurd (none-some (Actor.Thread j) (sym h))
-    ] e))
-turn-is TurnOfDma k going e = absurd (none-some Actor.Dma (sym e))
-turn-is (Over how) k going e = absurd (true≢false going)
-
-pub dma-is : (now : Now) → is_over now ≡ false → not_of_dma (actor_of now) ≡ None → now ≡ TurnOfDma
-dma-is (Turn j) going e = absurd (none-some (Actor.Thread j) (sym e))
-dma-is TurnOfDma going e = refl
-dma-is (Over how) going e = absurd (true≢false going)
-
-pub head-turn : (p : Sphere) (b : Book) (k : ℕ) → p.role ≡ Replay b → is_stopped p.role ≡ false → other_turn (head_of p) k ≡ None → b.now ≡ Turn k
-unfolding head_of
-head-turn p b k role going turn =
-    turn-is b.now k (sym (ap is_stopped role) ∙ going) (sym (ap (λ (r : Role). other_turn (head_in r p) k) role) ∙ turn)
-
-pub dma-turn : (p : Sphere) (b : Book) → p.role ≡ Replay b → is_stopped p.role ≡ false → turn_before_dma p.role ≡ None → b.now ≡ TurnOfDma
-dma-turn p b role going turn = dma-is b.now (sym (ap is_stopped role) ∙ going) (sym (ap turn_before_dma role) ∙ turn)
 
 -- ---- the thread whose turn it is
 

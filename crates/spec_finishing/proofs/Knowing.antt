@@ -1,17 +1,16 @@
 -- What is known of every world of a run: that it is good, its sizes, and that its replays stand beside their plays.
-use Rattle.std.proofs.Common.{◌≡◌, ℕ, zero, suc, ◌<◌, true, false, List, [], ◌∷◌, ◌++◌, length, Option, Some, refl, sym, ap, ◌∙◌, subst, arith}
+use Rattle.std.proofs.Common.{◌≡◌, ℕ, zero, suc, ◌<◌, true, false, List, [], ◌∷◌, ◌++◌, length, Some, refl, sym, ap, ◌∙◌, subst, arith}
 use Rattle.std.specs.Prelude.{slice_get}
 use Rattle.std.proofs.lemmas.Bool.{true≢false}
 use Rattle.std.proofs.lemmas.Option.{none-some}
 use Rattle.spec_log.specs.declared.LogParts.{LogParts}
-use Rattle.spec_engine.specs.Flights.{Flight}
 use Rattle.spec_protocol.specs.declared.event.Event.{Event}
 use Rattle.spec_protocol.specs.Spheres.{Book, Replay, Sphere, is_over}
 use Rattle.spec_protocol.specs.Placing.{replays}
 use Rattle.spec_protocol.specs.World.{World}
 use Rattle.spec_protocol.specs.Machine.{RoleSetup, IsPlain, IsRecorded, IsReplayed, SphereSetup, Setup, world_of, happens, world_after, moves}
 use Rattle.spec_protocol.specs.Serial.{Whole, whole_of}
-use Rattle.spec_protocol.specs.Shown.{shown_from, shown_of}
+use Rattle.spec_protocol.specs.Shown.{shown_of}
 use Rattle.spec_protocol.specs.Invariants.{IsGood}
 use Rattle.spec_protocol.specs.Promises.{IsSetup, after, AreSizesKept}
 use Rattle.spec_protocol.proofs.Schedules.{start-good, after-good, sizes_kept, moves_are}
@@ -20,6 +19,7 @@ use Rattle.spec_finishing.specs.Ending.{CanFinish}
 use Rattle.spec_finishing.proofs.GoingOn.{GoesOn, goes-on}
 use Rattle.spec_finishing.proofs.KindsKept.{is_replayed, AreOfKinds, kind-at, start-kinds, moves-kinds}
 use Rattle.spec_finishing.proofs.Standing.{Stands}
+use Rattle.spec_protocol.proofs.OnPoints.{shown_length}
 
 pub record Known (s : Setup) (w : World) : Type 0 where
   pub good : IsGood w
@@ -37,10 +37,6 @@ pub there_is : {A : Type 0} (xs : List A) (i : ℕ) → i < length xs → (x : A
 there_is [] i l = absurd (omega arith)
 there_is (y ∷ ys) zero l = (y, refl)
 there_is (y ∷ ys) (suc i) l = there_is ys i (omega arith)
-
-shown_length : (xs : List (Option Flight)) (n : ℕ) (ps : List Sphere) → length (shown_from xs n ps) ≡ length ps
-shown_length xs n [] = refl
-shown_length xs n (p ∷ ps) = ap suc (shown_length xs (suc n) ps)
 
 image_of : (s : Setup) (w : World) → AreSizesKept s w → (i : ℕ) (p : Sphere) → slice_get (shown_of w).spheres i ≡ Some p → (image : SphereSetup) × (slice_get s.spheres i ≡ Some image)
 image_of s w sizes i p is =

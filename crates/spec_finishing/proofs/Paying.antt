@@ -23,8 +23,9 @@ use Rattle.spec_finishing.specs.Work.{commit_work}
 use Rattle.spec_finishing.specs.Rest.{replay_left, price}
 use Rattle.spec_finishing.proofs.Affording.{Afforded, Enough, Lone}
 use Rattle.spec_finishing.proofs.Left.{left-over, left-going, left-step, left-turned, later, paid, afford-paid, afford-some, whole-pays, piece-pays}
-use Rattle.spec_finishing.proofs.GoingOn.{play_of, GoesOn, has-run, part-afforded, head-turn}
+use Rattle.spec_finishing.proofs.GoingOn.{play_of, GoesOn, has-run, part-afforded}
 use Rattle.spec_finishing.proofs.Rows.{sphere_rest}
+use Rattle.spec_replay.proofs.Moved.{turn_of_thread}
 
 -- ---- before and after
 
@@ -102,7 +103,7 @@ pub chunk-pays : (c : ℕ) (image : SphereSetup) (z : Numbers) (p : Sphere) (b :
     → slice_get p.threads k ≡ Some u → ChunkFits z p k u how n limit → sphere_rest c image (laid (chunk_moved k (is_piece how) short (run p.memory u n) devices p)) + paid c n ≤ sphere_rest c image p
 unfolding chunk_moved
 chunk-pays c image z p b k u how n limit short devices positive role going g is fits =
-    let turn = head-turn p b k role fits.going fits.turn in
+    let turn = turn_of_thread p b k role fits.going fits.turn in
     let h = has-run image p b k g turn in
     let limited : limit ≡ limit_of z.chunk (Replay b) k u = fits.replayed (ap replays role) ∙ ap (λ (r : Role). limit_of z.chunk r k u) role in
     let most : n ≤ limit_of z.chunk (Replay b) k u = subst (λ (l : ℕ). n ≤ l) limited (how_most how n limit fits.full fits.early) in

@@ -1,5 +1,5 @@
 -- Serial steps and DMAs of a replay pay, as its chunks do.
-use Rattle.std.proofs.Common.{◌≡◌, ℕ, zero, suc, ◌+◌, ◌-◌, ◌≤◌, inl, inr, false, List, [], ◌∷◌, length, Option, Some, None, refl, sym, ap, ◌∙◌, subst, arith, set}
+use Rattle.std.proofs.Common.{◌≡◌, ℕ, suc, ◌+◌, ◌-◌, ◌≤◌, inl, inr, false, [], ◌∷◌, length, Option, Some, None, refl, sym, ap, ◌∙◌, subst, arith, set}
 use Rattle.std.specs.Prelude.{slice_get, IsSome}
 use Rattle.std.proofs.lemmas.Bool.{true≢false, lt-ltb, cases_lt}
 use Rattle.std.proofs.lemmas.List.{length-append}
@@ -23,16 +23,13 @@ use Rattle.spec_protocol.specs.Moves.{SerialFits, DmaFits}
 use Rattle.spec_finishing.specs.Work.{stored, dma_stored, thread_work, turn_work, now_work, commit_work}
 use Rattle.spec_finishing.specs.Rest.{replay_left, price}
 use Rattle.spec_finishing.proofs.Left.{left-over, left-turned, words-paid, whole-pays}
-use Rattle.spec_finishing.proofs.GoingOn.{play_of, GoesOn, HasRun, has-run, is-whole, thread-now, head-turn, dma-turn}
+use Rattle.spec_finishing.proofs.GoingOn.{play_of, GoesOn, HasRun, has-run, is-whole, thread-now}
 use Rattle.spec_finishing.proofs.Rows.{sphere_rest}
 use Rattle.spec_finishing.proofs.Paying.{next_work, behind, rest-before, verdict-pays}
+use Rattle.spec_replay.proofs.Moved.{turn_of_thread, turn_of_dma}
+use Rattle.spec_replay.proofs.Standing.{set_here}
 
 -- ---- serial steps
-
-set_there : {A : Type 0} (xs : List A) (k : ℕ) (x : A) → slice_get xs k ≡ Some x → set xs k x ≡ xs
-set_there [] k x is = refl
-set_there (y ∷ ys) zero x is = let e : y ≡ x = cc in ap (λ (z : _). z ∷ ys) (sym e)
-set_there (y ∷ ys) (suc k) x is = ap (λ (zs : List _). y ∷ zs) (set_there ys k x is)
 
 verdict_words : (b : Book) (k : ℕ) (x : Verdict) (devices : Devices) (p : Sphere) → length (by_verdict b k x devices p).words ≡ stored x
 verdict_words b k (Goes e u) devices p = refl
@@ -58,7 +55,7 @@ unmoved image p b k t u h none is =
     record {
       thread = (let f : Some u ≡ Some t = sym is ∙ thread-now image p b k t h ∙ ap (λ (r : Run). Some r.thread) start in cc);
       memory = h.memory ∙ ap (λ (r : Run). lays y.memory r.words) start;
-      threads = h.threads ∙ ap (λ (r : Run). set y.threads k r.thread) start ∙ set_there y.threads k t h.is;
+      threads = h.threads ∙ ap (λ (r : Run). set y.threads k r.thread) start ∙ set_here y.threads k t h.is;
     }
 
 kind_is : (o : Option Kind) → IsSome o → (kind : Kind) × (o ≡ Some kind)
@@ -89,7 +86,7 @@ pub serial-pays : (c : ℕ) (image : SphereSetup) (p : Sphere) (b : Book) (k mom
     → let v = serial_moved k moment u devices p in sphere_rest c image (laid v) + ((length v.words + c + 1) + 3) ≤ sphere_rest c image p
 unfolding serial_moved
 serial-pays c image p b k moment u devices role going g is fits =
-    let turn = head-turn p b k role fits.going fits.turn in
+    let turn = turn_of_thread p b k role fits.going fits.turn in
     let h = has-run image p b k g turn in
     let none = no_pieces p b role fits.whole in
     let s = unmoved image p b k h.0 u h.1 none is in
@@ -136,7 +133,7 @@ DmaPays c image p (Some v) = sphere_rest c image (laid v) + ((length v.words + c
 pub dma-pays : (c : ℕ) (image : SphereSetup) (p : Sphere) (b : Book) (devices : Devices) → p.role ≡ Replay b → is_over b.now ≡ false → GoesOn image p b → DmaFits devices p → DmaPays c image p (dma_moved devices p)
 unfolding dma_moved
 dma-pays c image p b devices role going g fits =
-    let turn = dma-turn p b role fits.going fits.turn in
+    let turn = turn_of_dma p b role fits.going fits.turn in
     let whole = is-whole image p b g turn in
     subst (λ (r : Role). DmaPays c image p (dma_in r devices p)) (sym role)
     (dma_rest c image p b (dma_verdict b.log p.progress b.used) devices role going g whole.total (dma_is image p b g turn))

@@ -9,9 +9,10 @@ use Rattle.spec_isa.specs.Planned.{thread_then}
 use Rattle.spec_isa.specs.Words.{Stored, lays, lay, Apart}
 use Rattle.spec_isa.specs.Instruction.{Outcome, Next, Serial, one, unless, plan_of, next_of}
 use Rattle.spec_isa.specs.Runs.{Run, begun, with_store, followed, more, run}
-use Rattle.spec_isa.proofs.BufferLaws.{Apart-put, lays_put}
+use Rattle.spec_isa.proofs.BufferLaws.{lays_put}
 use Rattle.spec_kernel.specs.Needs.{next_kind, fetched}
 use Rattle.spec_protocol.proofs.Running.{one-outcome, serial_outcome}
+use Rattle.spec_replay.proofs.Joining.{apart_followed}
 
 -- ---- how many
 
@@ -41,17 +42,9 @@ run-longer m t a (suc b) l =
 
 -- ---- one run after another
 
-store_apart : (ws : List Stored) (store : Option Stored) → Apart ws → Apart (with_store ws store)
-store_apart ws None apart = apart
-store_apart ws (Some s) apart = Apart-put ws s apart
-
-followed_apart : (r : Run) (o : Outcome) → Apart r.words → Apart (followed r o).words
-followed_apart r (Serial kind) apart = apart
-followed_apart r (Next t load store) apart = store_apart r.words store apart
-
 run_apart : (m : List ℕ) (t : Parts) (n : ℕ) → Apart (run m t n).words
 run_apart m t zero = tt
-run_apart m t (suc n) = let r = run m t n in followed_apart r (one r.thread (lays m r.words)) (run_apart m t n)
+run_apart m t (suc n) = let r = run m t n in apart_followed r (one r.thread (lays m r.words)) (run_apart m t n)
 
 -- two runs that are at the same thread and the same memory, the first after a instructions more
 record Same (m l : List ℕ) (a : ℕ) (r q : Run) : Type 0 where

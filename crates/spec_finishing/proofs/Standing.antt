@@ -3,7 +3,6 @@ use Rattle.std.proofs.Common.{◌≡◌, ℕ, ◌+◌, ◌<◌, ◌≤◌, Bool,
 use Rattle.std.specs.Prelude.{slice_get, IsSome}
 use Rattle.std.proofs.lemmas.Bool.{true≢false}
 use Rattle.std.proofs.lemmas.Option.{none-some}
-use Rattle.spec_isa.specs.declared.thread.Parts.{Parts}
 use Rattle.spec_kernel.specs.Devices.{Devices}
 use Rattle.spec_protocol.specs.Spheres.{Book, Role, Plain, Record, Replay, Sphere, is_over, is_stopped}
 use Rattle.spec_protocol.specs.Commits.{dma_moved}
@@ -11,12 +10,13 @@ use Rattle.spec_protocol.specs.Placing.{replays}
 use Rattle.spec_protocol.specs.World.{Numbers, What, OfChunk, OfSerial, OfDma, OfRaise, Move}
 use Rattle.spec_protocol.specs.Machine.{SphereSetup, Setup}
 use Rattle.spec_protocol.specs.Serial.{Whole}
-use Rattle.spec_protocol.specs.Moves.{do_what, do_at, do_move, FitsRaise, FitsWhat, FitsAt, Fits}
+use Rattle.spec_protocol.specs.Moves.{do_what, do_at, do_move, FitsWhat, FitsAt, Fits}
 use Rattle.spec_finishing.specs.Work.{what_work, role_work, sphere_work, move_work}
 use Rattle.spec_finishing.specs.Rest.{price, spheres_rest}
 use Rattle.spec_finishing.proofs.GoingOn.{GoesOn}
 use Rattle.spec_finishing.proofs.PayingSerial.{dma-pays}
 use Rattle.spec_finishing.proofs.PayingMoves.{what_most, sphere_most, move_most, what_more, what_own, chunk_paid, serial_paid, dma_paid}
+use Rattle.spec_protocol.proofs.Pieces.{no_raise}
 
 -- every sphere has its image, and every replay that goes on stands beside its play
 pub record Stands (s : Setup) (x : Whole) : Type 0 where
@@ -29,10 +29,6 @@ not_none : {A : Type 0} (o : Option A) → IsSome o → o ≡ None → ⊥
 not_none None some e = true≢false (sym some)
 not_none (Some x) some e = none-some x (sym e)
 
-raise_fits : (p : Sphere) (b : Book) (o : Option Parts) → p.role ≡ Replay b → FitsRaise p o → ⊥
-raise_fits p b None role fits = fits
-raise_fits p b (Some t) role fits = true≢false (sym (ap replays role) ∙ fits.live)
-
 what_paid : (c : ℕ) (images : List SphereSetup) (z : Numbers) (x : Whole) (moment i : ℕ) (image : SphereSetup) (p : Sphere) (b : Book) (a : What) → 0 < z.buffer → slice_get images i ≡ Some image → slice_get x.spheres i ≡ Some p → p.role ≡ Replay b
     → (is_over b.now ≡ false → GoesOn image p b) → FitsWhat z x.devices p a → spheres_rest c images (do_what z x moment i p a).spheres + (what_most c p x.devices moment a + what_more a) ≤ spheres_rest c images x.spheres + 0
 what_paid c images z x moment i image p b (OfChunk k how n limit) positive there is role goes fits = chunk_paid c images z x i k how n limit image p b (slice_get p.threads k) positive there is role goes refl fits
@@ -40,7 +36,7 @@ what_paid c images z x moment i image p b (OfSerial k) positive there is role go
 what_paid c images z x moment i image p b OfDma positive there is role goes fits =
     let going : is_over b.now ≡ false = sym (ap is_stopped role) ∙ fits.going in
     dma_paid c images x i image p (dma_moved x.devices p) there is (dma-pays c image p b x.devices role going (goes going) fits) (not_none (dma_moved x.devices p) fits.moves)
-what_paid c images z x moment i image p b (OfRaise k value) positive there is role goes fits = absurd (raise_fits p b (slice_get p.threads k) role fits)
+what_paid c images z x moment i image p b (OfRaise k value) positive there is role goes fits = absurd (no_raise p b (slice_get p.threads k) role fits)
 
 -- ---- in any sphere
 

@@ -1,8 +1,8 @@
 -- What a recorded log becomes: at each moment it is behind what it has, and what it says of the next commits is to come.
-use Rattle.std.proofs.Common.{◌≡◌, ℕ, zero, suc, ◌<◌, inl, inr, Bool, true, false, List, [], ◌∷◌, ◌++◌, length, Option, Some, None, refl, sym, ap, ◌∙◌, subst, arith, set}
+use Rattle.std.proofs.Common.{◌≡◌, ℕ, suc, ◌<◌, inl, inr, Bool, true, false, List, [], ◌∷◌, ◌++◌, Option, Some, None, refl, sym, ap, ◌∙◌, subst, arith, set}
 use Rattle.std.specs.Prelude.{slice_get}
 use Rattle.std.proofs.lemmas.Bool.{true≢false, cases_eq}
-use Rattle.std.proofs.lemmas.List.{append_assoc, append-nil, length-append}
+use Rattle.std.proofs.lemmas.List.{append_assoc, append-nil}
 use Rattle.std.proofs.lemmas.Option.{none-some}
 use Rattle.dl_entry.specs.declared.Actor.{Actor}
 use Rattle.dl_entry.specs.declared.Commit.{Commit}
@@ -22,7 +22,7 @@ use Rattle.spec_play.specs.Recording.{with_actor, with_short, with_size, noted, 
 use Rattle.spec_protocol.specs.Spheres.{Sphere}
 use Rattle.spec_protocol.proofs.Moving.{get-set_other, get-set_same, get-append}
 use Rattle.spec_protocol.proofs.Lookups.{short_at, short-other, interrupt-other, count_of, count-append, SlotsBelow, SlotsFrom, SlotsFrom_less, SlotsBelow_more, SlotsBelow-push}
-use Rattle.spec_protocol.proofs.Growing.{commits_if, commits_in, OrderStands, SizesStand, Stands, SizesAhead, Behind, Ahead, Committed, committed-parts, Grows, grows_of, grown_least}
+use Rattle.spec_protocol.proofs.Growing.{commits_if, commits_in, OrderStands, SizesStand, Stands, SizesAhead, Behind, Ahead, Committed, committed-parts, Grows, grows_of, grown_least, pushed_length, set_none}
 
 -- ---- lists that grow
 
@@ -109,9 +109,6 @@ pub record Transferred (p q : Sphere) (log qlog : LogParts) (bytes : List ℕ) :
 dma_more : (j : ℕ) (as_ : List Actor) → count_of j (as_ ++ Actor.Dma ∷ []) ≡ count_of j as_
 dma_more j as_ = count-append j as_ (Actor.Dma ∷ []) ∙ omega arith
 
-pushed_length : {A : Type 0} (xs : List A) (x : A) (n : ℕ) → length xs ≡ n → length (xs ++ x ∷ []) ≡ suc n
-pushed_length xs x n e = let h = length-append xs (x ∷ []) in omega arith
-
 dma_order_stands : (mode : ModeName) (order : List Actor) (n : ℕ) (ts : List Parts) → OrderStands mode order n ts → OrderStands mode (with_actor mode Actor.Dma order) (suc n) ts
 dma_order_stands ModeName.OrderSize order n ts s = (pushed_length order Actor.Dma n s.0, λ j. dma_more j order ∙ s.1 j)
 dma_order_stands ModeName.OrderOnly order n ts s = (pushed_length order Actor.Dma n s.0, λ j. dma_more j order ∙ s.1 j)
@@ -196,13 +193,6 @@ raised_sizes ModeName.Picolog (Sizes.Short xs) n ts us same s = λ k i l. s k i 
 
 abbrev raised_same : (k value : ℕ) (p q : Sphere) (t : Parts) → slice_get p.threads k ≡ Some t → q.threads ≡ set p.threads k (interrupted value t) → (j : ℕ) → commits_in q.threads j ≡ commits_in p.threads j
 raised_same k value p q t start threads j = ap (λ (ts : List Parts). commits_in ts j) threads ∙ set_commits p.threads k j value t start
-
-set_none : (ts : List Parts) (k j : ℕ) (u : Parts) → slice_get (set ts k u) j ≡ None → slice_get ts j ≡ None
-set_none [] k j u e = refl
-set_none (t ∷ ts) zero zero u e = absurd (none-some u (sym e))
-set_none (t ∷ ts) zero (suc j) u e = e
-set_none (t ∷ ts) (suc k) zero u e = e
-set_none (t ∷ ts) (suc k) (suc j) u e = set_none ts k j u e
 
 pub raised-stands : (k value : ℕ) (p q : Sphere) (log qlog : LogParts) (t : Parts) → WasRaised k value p q log qlog t → Stands p log → Stands q qlog
 raised-stands k value p q log qlog t d s =

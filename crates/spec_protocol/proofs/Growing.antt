@@ -182,7 +182,7 @@ one_more k as_ = count-append k as_ (Actor.Thread k ∷ []) ∙ ap (λ (b : Bool
 none_more : (k j : ℕ) (as_ : List Actor) → j ≢ k → count_of j (as_ ++ Actor.Thread k ∷ []) ≡ count_of j as_
 none_more k j as_ ne = count-append j as_ (Actor.Thread k ∷ []) ∙ ap (λ (b : Bool). count_of j as_ + cond b 1 0) (ne_eqb k j (λ e. ne (sym e))) ∙ omega arith
 
-pushed_length : {A : Type 0} (xs : List A) (x : A) (n : ℕ) → length xs ≡ n → length (xs ++ x ∷ []) ≡ suc n
+pub pushed_length : {A : Type 0} (xs : List A) (x : A) (n : ℕ) → length xs ≡ n → length (xs ++ x ∷ []) ≡ suc n
 pushed_length xs x n e = let h = length-append xs (x ∷ []) in omega arith
 
 pub counts-stand : (k : ℕ) (order : List Actor) (ts us : List Parts) (t : Parts) → Grows k ts us t → ((j : ℕ) → count_of j order ≡ commits_in ts j) → (j : ℕ) → count_of j (order ++ Actor.Thread k ∷ []) ≡ commits_in us j

@@ -15,6 +15,7 @@ use Rattle.spec_kernel.specs.Needs.{Need, number_of, a0, a1, a2, cut, need}
 use Rattle.spec_kernel.specs.Answers.{refused, unknown_call, bad_buffer}
 use Rattle.spec_kernel.specs.Calls.{Called, gives, exit, spawned, spawn, set_handler, iret, is_dma_buffer, request_dma, has_ended, called, with_result, returned}
 use Rattle.spec_kernel.specs.Serving.{Served, outside_called, is_outside, inside_called, device_loaded, device_stored, serve_kind, serve}
+use Rattle.spec_protocol.proofs.Moving.{either_serve}
 
 -- ---- instructions
 
@@ -120,10 +121,6 @@ called_keeps size k ts request t =
 
 abbrev ServeKeeps : Parts → Served → Type 0
 ServeKeeps t v = KeepsCommits t v.thread v.made
-
-either_serve : (P : Served → Type 0) (b : Bool) (x y : Served) → P x → P y → P (cond b x y)
-either_serve P true x y p q = p
-either_serve P false x y p q = q
 
 outside_keeps : (o : Option Need) (request : Option Request) (t : Parts) (input : Option Input) → ServeKeeps t (outside_called o request t input)
 outside_keeps o request t None = record { commits = refl; fresh = tt }

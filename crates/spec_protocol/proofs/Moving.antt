@@ -269,14 +269,14 @@ stored_apart request t (Plan.LoadReserved rd a) = tt
 stored_apart request t (Plan.StoreConditional rd a v) = tt
 stored_apart request t (Plan.Amo op rd a v) = tt
 
-either : (P : Served → Type 0) (b : Bool) (x y : Served) → P x → P y → P (cond b x y)
-either P true x y p q = p
-either P false x y p q = q
+pub either_serve : (P : Served → Type 0) (b : Bool) (x y : Served) → P x → P y → P (cond b x y)
+either_serve P true x y p q = p
+either_serve P false x y p q = q
 
 kind_apart : (o : Option Kind) (k : ℕ) (ts : List Parts) (request : Option Request) (t : Parts) (m : List ℕ) (input : Option Input) → Apart (serve_kind o k ts request t m input).words
 kind_apart None k ts request t m input = tt
 kind_apart (Some Kind.Call) k ts request t m input =
-    either (λ (v : Served). Apart v.words) (is_outside t) (outside_called (need t m) request t input) (inside_called (called (length m) k ts request t)) (outside_apart (need t m) request t input) tt
+    either_serve (λ (v : Served). Apart v.words) (is_outside t) (outside_called (need t m) request t input) (inside_called (called (length m) k ts request t)) (outside_apart (need t m) request t input) tt
 kind_apart (Some Kind.Break) k ts request t m input = tt
 kind_apart (Some Kind.DeviceLoad) k ts request t m input = loaded_apart request t _ input
 kind_apart (Some Kind.DeviceStore) k ts request t m input = stored_apart request t _

@@ -383,7 +383,7 @@ live_follows z x y m p o a xi live buffer fits is =
       can = live_can z x y m.moment m.sphere p m.what a xi live buffer fits;
     })
 
-shown_length : (xs : List (Option Flight)) (n : ℕ) (ps : List Sphere) → length (shown_from xs n ps) ≡ length ps
+pub shown_length : (xs : List (Option Flight)) (n : ℕ) (ps : List Sphere) → length (shown_from xs n ps) ≡ length ps
 shown_length xs n [] = refl
 shown_length xs n (p ∷ ps) = ap suc (shown_length xs (suc n) ps)
 

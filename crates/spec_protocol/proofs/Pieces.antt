@@ -1,7 +1,7 @@
 -- Pieces of a commit stay together: in a sphere that has done some it is their thread's turn, until the last part is done.
-use Rattle.std.proofs.Common.{◌≡◌, ℕ, zero, suc, ◌<◌, inl, inr, Bool, true, false, eqb, cond, List, [], ◌∷◌, length, map, Option, Some, None, refl, sym, ap, ◌∙◌, subst, arith, set}
+use Rattle.std.proofs.Common.{◌≡◌, ℕ, zero, suc, ◌<◌, inl, inr, Bool, true, false, List, [], ◌∷◌, length, map, Option, Some, None, refl, sym, ap, ◌∙◌, subst, arith, set}
 use Rattle.std.specs.Prelude.{slice_get}
-use Rattle.std.proofs.lemmas.Bool.{true≢false, cases_eq, cases_lt, eqb-true, lt-ltb}
+use Rattle.std.proofs.lemmas.Bool.{true≢false, cases_eq, cases_lt, lt-ltb}
 use Rattle.std.proofs.lemmas.List.{get_or_past}
 use Rattle.std.proofs.lemmas.Option.{none-some}
 use Rattle.dl_entry.specs.declared.Actor.{Actor}
@@ -26,7 +26,7 @@ use Rattle.spec_protocol.specs.Shown.{shown, shown_of}
 use Rattle.spec_protocol.specs.Moves.{move_chunk, do_what, do_at, do_move, do_moves, FitsChunk, FitsSerial, FitsRaise, FitsWhat, FitsAt, Fits, FitsIf, FitAll}
 use Rattle.spec_protocol.specs.Promises.{after}
 use Rattle.spec_protocol.specs.Pieces.{IsChunkOf, PiecesStayTogether, StoppedSpheresStay}
-use Rattle.spec_protocol.proofs.Moving.{get-set_other, get-set_same}
+use Rattle.spec_protocol.proofs.Moving.{get-set_other, get-set_same, turn-is}
 use Rattle.spec_protocol.proofs.Invariant.{shown-get}
 use Rattle.spec_protocol.proofs.Schedules.{happens-kept, moves_are, invariants_hold}
 
@@ -41,16 +41,6 @@ InTurn (Replay b) = is_over b.now ≡ false → 0 < b.total → (k : ℕ) × (b.
 abbrev AllInTurn : Whole → Type 0
 AllInTurn x = (i : ℕ) (p : Sphere) → slice_get x.spheres i ≡ Some p → InTurn p.role
 
--- nobody else's turn, and not over: it is the thread's
-own_turn : (now : Now) (k : ℕ) → is_over now ≡ false → other_turn (actor_of now) k ≡ None → now ≡ Turn k
-own_turn (Turn j) k going free =
-    ap (λ (n : ℕ). Turn n) (eqb-true j k (elim (eqb j k) as (λ b. cond b None (Some (Actor.Thread j)) ≡ None → b ≡ true) [
-      | true ↦ λ h. refl
-      | false ↦ λ h. absurd (none-some (Actor.Thread j) (sym h))
-    ] free))
-own_turn TurnOfDma k going free = absurd (none-some Actor.Dma (sym free))
-own_turn (Over how) k going free = absurd (true≢false going)
-
 -- ---- what a move leaves
 
 verdict_turn : (b : Book) (k : ℕ) (verdict : Verdict) (devices : Devices) (p : Sphere) → InTurn (by_verdict b k verdict devices p).sphere.role
@@ -64,7 +54,7 @@ replayed_turn false b k r devices p turn = verdict_turn b k (chunk_verdict b.log
 chunk_in_turn : (role : Role) (k : ℕ) (piece short : Bool) (r : Run) (devices : Devices) (p : Sphere) → is_stopped role ≡ false → other_turn (head_in role p) k ≡ None → InTurn (chunk_in role k piece short r devices p).sphere.role
 chunk_in_turn Plain k piece short r devices p going free = tt
 chunk_in_turn (Record log) k piece short r devices p going free = tt
-chunk_in_turn (Replay b) k piece short r devices p going free = replayed_turn piece b k r devices p (own_turn b.now k going free)
+chunk_in_turn (Replay b) k piece short r devices p going free = replayed_turn piece b k r devices p (turn-is b.now k going free)
 
 chunk_turn : (z : Numbers) (k : ℕ) (how : How) (n limit : ℕ) (t : Parts) (devices : Devices) (p : Sphere) → is_stopped p.role ≡ false → other_turn (head_of p) k ≡ None → InTurn (laid (chunk_moved k (is_piece how) (is_short z.chunk how limit) (run p.memory t n) devices p)).role
 unfolding chunk_moved head_of
@@ -174,14 +164,14 @@ own_chunk : (z : Numbers) (p : Sphere) (b : Book) (k j : ℕ) (how : How) (n lim
 unfolding head_of
 own_chunk z p b k j how n limit None role turn fits = absurd fits
 own_chunk z p b k j how n limit (Some t) role turn fits =
-    let same : Turn k ≡ Turn j = sym turn ∙ own_turn b.now j (sym (ap is_stopped role) ∙ fits.going) (sym (ap (λ (r : Role). other_turn (head_in r p) j) role) ∙ fits.turn) in
+    let same : Turn k ≡ Turn j = sym turn ∙ turn-is b.now j (sym (ap is_stopped role) ∙ fits.going) (sym (ap (λ (r : Role). other_turn (head_in r p) j) role) ∙ fits.turn) in
     sym (ap (λ (now : Now). elim now [ Turn i ↦ i | TurnOfDma ↦ 0 | Over how ↦ 0 ]) same)
 
 no_serial : (p : Sphere) (b : Book) (k : ℕ) (o : Option Parts) → p.role ≡ Replay b → 0 < b.total → FitsSerial p k o → ⊥
 no_serial p b k None role some fits = fits
 no_serial p b k (Some t) role some fits = true≢false (sym (some_total b p.role role some) ∙ fits.whole)
 
-no_raise : (p : Sphere) (b : Book) (o : Option Parts) → p.role ≡ Replay b → FitsRaise p o → ⊥
+pub no_raise : (p : Sphere) (b : Book) (o : Option Parts) → p.role ≡ Replay b → FitsRaise p o → ⊥
 no_raise p b None role fits = fits
 no_raise p b (Some t) role fits = true≢false (sym (ap replays role) ∙ fits.live)
 

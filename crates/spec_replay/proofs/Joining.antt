@@ -11,7 +11,7 @@ use Rattle.spec_protocol.proofs.Covering.{Apart-store}
 
 -- ---- stores and loads
 
-apart_followed : (r : Run) (o : Outcome) → Apart r.words → Apart (followed r o).words
+pub apart_followed : (r : Run) (o : Outcome) → Apart r.words → Apart (followed r o).words
 apart_followed r (Serial kind) a = a
 apart_followed r (Next u load store) a = Apart-store r.words store a
 

@@ -20,9 +20,8 @@ use Rattle.spec_protocol.specs.Commits.{Moved, is_piece, replayed_chunk, by_verd
 use Rattle.spec_protocol.specs.World.{Numbers, What, OfChunk, OfSerial, OfDma, OfRaise}
 use Rattle.spec_protocol.specs.Asking.{is_short, other_turn}
 use Rattle.spec_protocol.specs.Transferring.{turn_before_dma}
-use Rattle.spec_protocol.specs.Placing.{replays}
 use Rattle.spec_protocol.specs.Serial.{Whole, laid, do_moved, do_serial, do_dma}
-use Rattle.spec_protocol.specs.Moves.{move_chunk, do_what, FitsChunk, SerialFits, FitsSerial, DmaFits, FitsRaise, FitsWhat}
+use Rattle.spec_protocol.specs.Moves.{move_chunk, do_what, FitsChunk, SerialFits, FitsSerial, DmaFits, FitsWhat}
 use Rattle.spec_protocol.proofs.Moving.{get-set_same, turn-is}
 use Rattle.spec_protocol.proofs.Transfers.{dma-turn_is}
 use Rattle.spec_replay.specs.Following.{IsMovedOn, StandsAt, EndsWithin, Follows}
@@ -30,6 +29,7 @@ use Rattle.spec_replay.proofs.Standing.{set_here}
 use Rattle.spec_replay.proofs.Judging.{alike_same}
 use Rattle.spec_replay.proofs.Done.{Reaches, Beside, commit-reaches, transfer-reaches}
 use Rattle.spec_replay.proofs.LastParts.{chunk-reaches}
+use Rattle.spec_protocol.proofs.Pieces.{no_raise}
 
 -- ---- whose turn it is
 
@@ -59,12 +59,12 @@ going_at log y p now s f going is =
 not_over : (r : Role) (b : Book) → r ≡ Replay b → is_stopped r ≡ false → is_over b.now ≡ false
 not_over r b role going = ap is_stopped (sym role) ∙ going
 
-turn_of_thread : (p : Sphere) (b : Book) (k : ℕ) → p.role ≡ Replay b → is_stopped p.role ≡ false → other_turn (head_of p) k ≡ None → b.now ≡ Turn k
+pub turn_of_thread : (p : Sphere) (b : Book) (k : ℕ) → p.role ≡ Replay b → is_stopped p.role ≡ false → other_turn (head_of p) k ≡ None → b.now ≡ Turn k
 unfolding head_of
 turn_of_thread p b k role going free =
     turn-is b.now k (not_over p.role b role going) (ap (λ (r : Role). other_turn (head_in r p) k) (sym role) ∙ free)
 
-turn_of_dma : (p : Sphere) (b : Book) → p.role ≡ Replay b → is_stopped p.role ≡ false → turn_before_dma p.role ≡ None → b.now ≡ TurnOfDma
+pub turn_of_dma : (p : Sphere) (b : Book) → p.role ≡ Replay b → is_stopped p.role ≡ false → turn_before_dma p.role ≡ None → b.now ≡ TurnOfDma
 turn_of_dma p b role going free = dma-turn_is b.now (not_over p.role b role going) (ap turn_before_dma (sym role) ∙ free)
 
 -- ---- moves
@@ -158,10 +158,6 @@ dma_stands log start x i p s is f fits =
     (transfer-reaches log start y p b v x.devices refl g.beside g.turn g.state (λ j. dma_verdict (sym g.beside.same_log j) (sym g.beside.progress j) (sym g.beside.used j))))
 
 -- ---- any move
-
-no_raise : (p : Sphere) (b : Book) (o : Option Parts) → p.role ≡ Replay b → FitsRaise p o → ⊥
-no_raise p b None role fits = fits
-no_raise p b (Some t) role fits = true≢false (ap replays (sym role) ∙ fits.live)
 
 pub what-stands : (log : LogParts) (start : Played) (z : Numbers) (x : Whole) (moment i : ℕ) (p : Sphere) (what : What) → 0 < log.s → slice_get x.spheres i ≡ Some p → Reaches log start p → FitsWhat z x.devices p what → Stands log start (do_what z x moment i p what) i
 what-stands log start z x moment i p (OfChunk k how n limit) s is f fits = chunk_stands log start z x i p k how n limit (slice_get p.threads k) s is f refl fits
