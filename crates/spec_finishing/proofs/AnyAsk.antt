@@ -12,9 +12,9 @@ use Rattle.spec_engine.specs.Asking.{ask, denied_by, busy_by}
 use Rattle.spec_engine.proofs.Searches.{first_none}
 use Rattle.spec_protocol.specs.declared.reply.Reply.{Reply}
 use Rattle.spec_protocol.specs.Spheres.{Sphere, no_sphere, is_stopped, head_of}
-use Rattle.spec_protocol.specs.Commits.{Outcome, Granted, Piece, Diverged, Moved, is_piece, chunk_moved, serial_moved, dma_in, dma_moved}
-use Rattle.spec_protocol.specs.World.{World, Held, Move, After, moment, sphere_at, still}
-use Rattle.spec_protocol.specs.Asking.{Request, move_at, granted, chunk_request, grant_chunk, serial_request, grant_serial, unless_denied, unless_busy, ask_arbiter, asks_serial, other_turn, unless_turn, ask_closed, ask_held, asking}
+use Rattle.spec_protocol.specs.Commits.{CommitOutcome, Granted, Piece, Diverged, Moved, is_piece, chunk_moved, serial_moved, dma_in, dma_moved}
+use Rattle.spec_protocol.specs.World.{World, Held, Move, After, moment, sphere_at, answered}
+use Rattle.spec_protocol.specs.Asking.{CommitRequest, move_at, granted, chunk_request, grant_chunk, serial_request, grant_serial, unless_denied, unless_busy, ask_arbiter, asks_serial, other_turn, unless_turn, ask_closed, ask_held, asking}
 use Rattle.spec_protocol.specs.Transferring.{dma_move, dma_done, transfer, dma_with, dma_if, turn_before_dma, transferring}
 use Rattle.spec_protocol.specs.Shown.{flying, shown_of}
 use Rattle.spec_protocol.specs.Invariants.{IsGoodHeld, IsGood, current}
@@ -34,7 +34,7 @@ most_at c w m within = ap (sphere_most c w.devices m) (shown_at w m.sphere withi
 
 -- ---- granted
 
-granted_flies : (c : ℕ) (w : World) (d : ℕ) (q : Request) (writes : Marks) (v : Moved) (o : Outcome) → length v.words + c + 1 ≤ move_most c (shown_of w) (move_at (moment w) q) → Flies c w (granted w d q writes v o)
+granted_flies : (c : ℕ) (w : World) (d : ℕ) (q : CommitRequest) (writes : Marks) (v : Moved) (o : CommitOutcome) → length v.words + c + 1 ≤ move_most c (shown_of w) (move_at (moment w) q) → Flies c w (granted w d q writes v o)
 granted_flies c w d q writes v Granted l = let r = flown-most c q.sphere v.words writes (2 ^ d) w.slots in omega (arith, r, l)
 granted_flies c w d q writes v Piece l = let r = flown-most c q.sphere v.words writes (2 ^ d) w.slots in omega (arith, r, l)
 granted_flies c w d q writes v (Diverged i why) l = omega arith
@@ -103,11 +103,11 @@ closed_flies c w d h (Some how) held =
     let p = sphere_at w h.chunk.sphere in
     let turn = other_turn (head_of p) h.thread in
     let arbiter = ask_arbiter w d h how (asks_serial h.chunk p.role) in
-    let room = cond (is_full w.slots) (still w Reply.WindowFull) arbiter in
-    branch (Flies c w) (is_stopped p.role) (still w Reply.Stopped) (unless_turn turn w room)
+    let room = cond (is_full w.slots) (answered w Reply.WindowFull) arbiter in
+    branch (Flies c w) (is_stopped p.role) (answered w Reply.Stopped) (unless_turn turn w room)
     (λ _. still_flies c w Reply.Stopped)
     (λ _. turn_flies c w room turn
-    (branch (Flies c w) (is_full w.slots) (still w Reply.WindowFull) arbiter
+    (branch (Flies c w) (is_full w.slots) (answered w Reply.WindowFull) arbiter
     (λ _. still_flies c w Reply.WindowFull)
     (λ _. arbiter_flies c w d h how (asks_serial h.chunk p.role) held)))
 
@@ -136,12 +136,12 @@ transfer_flies : (c : ℕ) (w : World) (i : ℕ) (v : Moved) → length v.words 
 unfolding transfer
 transfer_flies c w i v l =
     let writes = signed i v.words (nothing w.numbers.signature) in
-    branch (Flies c w) (is_full w.slots) (still w Reply.WindowFull) (unless_denied (ask writes writes w.slots) w (dma_done w i writes v))
+    branch (Flies c w) (is_full w.slots) (answered w Reply.WindowFull) (unless_denied (ask writes writes w.slots) w (dma_done w i writes v))
     (λ _. still_flies c w Reply.WindowFull)
     (λ _. denied_flies c w (dma_done w i writes v) (first_slot (meets_chunk writes writes) w.slots)
     (λ _. let r = flown-most c i v.words writes 0 w.slots in omega (arith, r, l)))
 
-outcome_flies : (c : ℕ) (w : World) (i : ℕ) (v : Moved) (o : Outcome) → length v.words + c + 1 ≤ move_most c (shown_of w) (dma_move w i) → Flies c w (dma_with w i v o)
+outcome_flies : (c : ℕ) (w : World) (i : ℕ) (v : Moved) (o : CommitOutcome) → length v.words + c + 1 ≤ move_most c (shown_of w) (dma_move w i) → Flies c w (dma_with w i v o)
 outcome_flies c w i v Granted l = transfer_flies c w i v l
 outcome_flies c w i v Piece l = transfer_flies c w i v l
 outcome_flies c w i v (Diverged j why) l = omega arith
@@ -166,6 +166,6 @@ pub dma-flies : (c : ℕ) (w : World) (i : ℕ) → Flies c w (transferring w i)
 unfolding transferring
 dma-flies c w i =
     let p = sphere_at w i in
-    branch (Flies c w) (is_stopped p.role) (still w Reply.Stopped) (unless_turn (turn_before_dma p.role) w (dma_if w i (dma_moved w.devices p)))
+    branch (Flies c w) (is_stopped p.role) (answered w Reply.Stopped) (unless_turn (turn_before_dma p.role) w (dma_if w i (dma_moved w.devices p)))
     (λ _. still_flies c w Reply.Stopped)
     (λ _. turn_flies c w (dma_if w i (dma_moved w.devices p)) (turn_before_dma p.role) (dma_if_flies c w i (dma_moved w.devices p) (dma_most_bound c w i)))

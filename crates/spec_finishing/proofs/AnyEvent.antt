@@ -7,7 +7,7 @@ use Rattle.spec_engine.specs.Flights.{at}
 use Rattle.spec_engine.specs.Chunks.{step, cut, is_open}
 use Rattle.spec_protocol.specs.declared.reply.Reply.{Reply}
 use Rattle.spec_protocol.specs.Spheres.{is_stopped}
-use Rattle.spec_protocol.specs.World.{World, Held, Move, After, sphere_at, with_sphere, with_core, begun, core_of, still, went_on}
+use Rattle.spec_protocol.specs.World.{World, Held, Move, After, sphere_at, with_sphere, with_core, held_afresh, core_of, answered}
 use Rattle.spec_protocol.specs.Serial.{Whole}
 use Rattle.spec_protocol.specs.Shown.{shown_of}
 use Rattle.spec_protocol.specs.Commits.{raised}
@@ -27,7 +27,7 @@ if_most c x (Some m) = move_most c x m
 abbrev pub Flies : (c : ℕ) → World → After → Type 0
 Flies c w a = flights_rest c a.world.slots ≤ flights_rest c w.slots + if_most c (shown_of w) a.move
 
-pub still_flies : (c : ℕ) (w : World) (r : Reply) → Flies c w (still w r)
+pub still_flies : (c : ℕ) (w : World) (r : Reply) → Flies c w (answered w r)
 still_flies c w r = omega arith
 
 -- ---- running chunks
@@ -37,9 +37,9 @@ step_held_flies c w d None = still_flies c w Reply.Idle
 step_held_flies c w d (Some h) =
     let p = sphere_at w h.chunk.sphere in
     let s = step w.numbers.buffer p.memory w.slots d h.chunk in
-    branch (Flies c w) (is_stopped p.role) (still w Reply.Stopped) (cond (is_open h.chunk) (stepped w d h s) (still w Reply.Waiting))
+    branch (Flies c w) (is_stopped p.role) (answered w Reply.Stopped) (cond (is_open h.chunk) (stepped w d h s) (answered w Reply.Waiting))
     (λ _. still_flies c w Reply.Stopped)
-    (λ _. branch (Flies c w) (is_open h.chunk) (stepped w d h s) (still w Reply.Waiting) (λ _. omega arith) (λ _. still_flies c w Reply.Waiting))
+    (λ _. branch (Flies c w) (is_open h.chunk) (stepped w d h s) (answered w Reply.Waiting) (λ _. omega arith) (λ _. still_flies c w Reply.Waiting))
 
 pub step-flies : (c : ℕ) (w : World) (d : ℕ) → Flies c w (stepping w d)
 unfolding stepping
@@ -48,7 +48,7 @@ step-flies c w d = step_held_flies c w d (at w.cores d)
 cut_held_flies : (c : ℕ) (w : World) (d : ℕ) (o : Option Held) → Flies c w (cut_held w d o)
 cut_held_flies c w d None = still_flies c w Reply.Idle
 cut_held_flies c w d (Some h) =
-    branch (Flies c w) (is_stopped (sphere_at w h.chunk.sphere).role) (still w Reply.Stopped) (cut_to w d h (cut h.chunk))
+    branch (Flies c w) (is_stopped (sphere_at w h.chunk.sphere).role) (answered w Reply.Stopped) (cut_to w d h (cut h.chunk))
     (λ _. still_flies c w Reply.Stopped)
     (λ _. omega arith)
 
@@ -79,8 +79,8 @@ elsewhere_flies c w (Some d) a f = still_flies c w (Reply.Elsewhere d)
 place_thread_flies : (c : ℕ) (w : World) (d i k : ℕ) (o : Option Parts) → Flies c w (place_thread w d i k o)
 place_thread_flies c w d i k None = still_flies c w Reply.NoThread
 place_thread_flies c w d i k (Some t) =
-    let placed = went_on (with_core w d (begun w.numbers i k (sphere_at w i))) Reply.Placed in
-    branch (Flies c w) (is_live t) (unless_elsewhere (core_of w i k) w placed) (still w Reply.Ended)
+    let placed = answered (with_core w d (held_afresh w.numbers i k (sphere_at w i))) Reply.Placed in
+    branch (Flies c w) (is_live t) (unless_elsewhere (core_of w i k) w placed) (answered w Reply.Ended)
     (λ _. elsewhere_flies c w (core_of w i k) placed (omega arith))
     (λ _. still_flies c w Reply.Ended)
 
@@ -100,10 +100,10 @@ raise_thread_flies : (c : ℕ) (w : World) (i k value : ℕ) (o : Option Parts) 
 raise_thread_flies c w i k value None = still_flies c w Reply.NoThread
 raise_thread_flies c w i k value (Some t) =
     let raised_ = raise_in w i k value t in
-    let masked = cond t.mask (still w Reply.Masked) raised_ in
-    branch (Flies c w) (is_live t) (cond (has_handler t) masked (still w Reply.NoHandler)) (still w Reply.Ended)
-    (λ _. branch (Flies c w) (has_handler t) masked (still w Reply.NoHandler)
-    (λ _. branch (Flies c w) t.mask (still w Reply.Masked) raised_ (λ _. still_flies c w Reply.Masked) (λ _. raise_in_flies c w i k value t))
+    let masked = cond t.mask (answered w Reply.Masked) raised_ in
+    branch (Flies c w) (is_live t) (cond (has_handler t) masked (answered w Reply.NoHandler)) (answered w Reply.Ended)
+    (λ _. branch (Flies c w) (has_handler t) masked (answered w Reply.NoHandler)
+    (λ _. branch (Flies c w) t.mask (answered w Reply.Masked) raised_ (λ _. still_flies c w Reply.Masked) (λ _. raise_in_flies c w i k value t))
     (λ _. still_flies c w Reply.NoHandler))
     (λ _. still_flies c w Reply.Ended)
 
@@ -111,6 +111,6 @@ pub raise-flies : (c : ℕ) (w : World) (i k value : ℕ) → Flies c w (raising
 unfolding raising
 raise-flies c w i k value =
     let p = sphere_at w i in
-    branch (Flies c w) (replays p.role) (still w Reply.FromLog) (raise_thread w i k value (slice_get p.threads k))
+    branch (Flies c w) (replays p.role) (answered w Reply.FromLog) (raise_thread w i k value (slice_get p.threads k))
     (λ _. still_flies c w Reply.FromLog)
     (λ _. raise_thread_flies c w i k value (slice_get p.threads k))

@@ -12,7 +12,7 @@ use Rattle.spec_finishing.specs.Rest.{rest}
 use Rattle.spec_finishing.specs.Ending.{Falls, IsFinished, CanFinish, FinishingEnds}
 use Rattle.spec_finishing.proofs.Knowing.{Known, known-after, after-event}
 use Rattle.spec_finishing.proofs.Bounding.{potential-bounded}
-use Rattle.spec_finishing.proofs.Begun.{begun-most}
+use Rattle.spec_finishing.proofs.UnderWay.{under_way-most}
 use Rattle.spec_finishing.proofs.NextEvents.{Lowers}
 use Rattle.spec_finishing.proofs.NextOfAll.{Goes, next-falls, next-none}
 
@@ -46,7 +46,7 @@ goes_after plays s es can =
 
 ended : (s : Setup) (w : World) → Known s w → next w ≡ None → Finishing s w
 ended s w known none =
-    record { events = []; finishes = none; few = omega arith; falls = begun-most s w known; finished = next-none w none }
+    record { events = []; finishes = none; few = omega arith; falls = under_way-most s w known; finished = next-none w none }
 
 one_more : (s : Setup) (w : World) (e : Event) → Known s w → next w ≡ Some e → Lowers s w e → Finishing s (happens w e).world → Finishing s w
 one_more s w e known is falls f =
@@ -54,7 +54,7 @@ one_more s w e known is falls f =
       events = e ∷ f.events;
       finishes = (is, f.finishes);
       few = (let l = f.few in let m = falls.less in omega (arith, l, m));
-      falls = (begun-most s w known, falls.done, falls.less, f.falls);
+      falls = (under_way-most s w known, falls.done, falls.less, f.falls);
       finished = f.finished;
     }
 

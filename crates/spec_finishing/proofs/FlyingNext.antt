@@ -7,7 +7,7 @@ use Rattle.spec_engine.specs.declared.answers.Deliver.{Deliver}
 use Rattle.spec_engine.specs.declared.answers.Retire.{Retire}
 use Rattle.spec_engine.specs.Flights.{Flight, at, told_at, all_told, tell, meets_chunk, has_none, deliver, Delivered, is_done, retire, Retired}
 use Rattle.spec_engine.proofs.Searches.{all_told-from}
-use Rattle.spec_protocol.specs.World.{World, Held, After, with_slot, went_on}
+use Rattle.spec_protocol.specs.World.{World, Held, After, with_slot, answered}
 use Rattle.spec_protocol.specs.Flying.{drain_slot, draining, reads_of, writes_of, told, deliver_to, delivering, reply_of_retire, retiring}
 use Rattle.spec_protocol.specs.Finishing.{untold}
 use Rattle.spec_protocol.proofs.Slots.{at_within}
@@ -84,15 +84,15 @@ untold_none c zero d t e l m = absurd (omega arith)
 untold_none c (suc n) d t e l m =
     told_if (told_at t c) c n d t refl e l m (λ f h. untold_none (suc c) n d t f h (omega arith))
 
-retired : (c : ℕ) (w : World) (k : ℕ) (f : Flight) → at w.slots k ≡ Some f → is_done (length w.cores) f ≡ true → FlightFalls c w (let d = retire (length w.cores) (Some f) in went_on (with_slot w k d.slot) (reply_of_retire d.reply))
+retired : (c : ℕ) (w : World) (k : ℕ) (f : Flight) → at w.slots k ≡ Some f → is_done (length w.cores) f ≡ true → FlightFalls c w (let d = retire (length w.cores) (Some f) in answered (with_slot w k d.slot) (reply_of_retire d.reply))
 retired c w k f is done =
-    subst (λ (b : Bool). FlightFalls c w (let d = cond {A = Retired} b (record { reply = Retire.Retired; slot = None }) (record { reply = Retire.NotDone; slot = Some f }) in went_on (with_slot w k d.slot) (reply_of_retire d.reply))) (sym done)
+    subst (λ (b : Bool). FlightFalls c w (let d = cond {A = Retired} b (record { reply = Retire.Retired; slot = None }) (record { reply = Retire.NotDone; slot = Some f }) in answered (with_slot w k d.slot) (reply_of_retire d.reply))) (sym done)
     (record { done = refl; less = set_less c w.slots k f None is (omega arith) })
 
 pub retire-falls : (c : ℕ) (w : World) (k : ℕ) (f : Flight) → at w.slots k ≡ Some f → f.words ≡ [] → untold 0 (length w.cores) f.told ≡ None → FlightFalls c w (retiring w k)
 unfolding retiring
 retire-falls c w k f is words none =
-    subst (λ (o : Option Flight). FlightFalls c w (let d = retire (length w.cores) o in went_on (with_slot w k d.slot) (reply_of_retire d.reply))) (sym is)
+    subst (λ (o : Option Flight). FlightFalls c w (let d = retire (length w.cores) o in answered (with_slot w k d.slot) (reply_of_retire d.reply))) (sym is)
     (retired c w k f is
     (and_from (has_none f.words) (all_told (length w.cores) f.told) (ap has_none words)
     (all_told-from (length w.cores) f.told (λ d l. untold_none 0 (length w.cores) d f.told none (omega arith) (omega arith)))))

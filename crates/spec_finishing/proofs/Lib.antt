@@ -17,7 +17,7 @@ pub mod AnyAsk
 pub mod Spending
 pub mod Bounding
 pub mod Turns
-pub mod Begun
+pub mod UnderWay
 pub mod StepRises
 pub mod NextCores
 pub mod NextCommits

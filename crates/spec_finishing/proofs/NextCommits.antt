@@ -11,16 +11,16 @@ use Rattle.spec_engine.proofs.Searches.{full_at}
 use Rattle.spec_play.specs.Transfers.{dma_verdict}
 use Rattle.spec_protocol.specs.declared.reply.Reply.{Reply}
 use Rattle.spec_protocol.specs.Spheres.{Book, Role, Replay, Sphere, is_stopped, actor_of, head_in, head_of}
-use Rattle.spec_protocol.specs.Commits.{Outcome, Granted, Piece, Diverged, Moved, is_piece, chunk_moved, serial_moved, dma_by_verdict, dma_in, dma_moved}
-use Rattle.spec_protocol.specs.World.{World, Held, Move, After, moment, sphere_at, still}
-use Rattle.spec_protocol.specs.Asking.{Request, move_at, granted, chunk_request, grant_chunk, serial_request, grant_serial, unless_denied, unless_busy, asks_serial, ask_arbiter, other_turn, unless_turn, ask_closed, ask_held, asking}
+use Rattle.spec_protocol.specs.Commits.{CommitOutcome, Granted, Piece, Diverged, Moved, is_piece, chunk_moved, serial_moved, dma_by_verdict, dma_in, dma_moved}
+use Rattle.spec_protocol.specs.World.{World, Held, Move, After, moment, sphere_at, answered}
+use Rattle.spec_protocol.specs.Asking.{CommitRequest, move_at, granted, chunk_request, grant_chunk, serial_request, grant_serial, unless_denied, unless_busy, asks_serial, ask_arbiter, other_turn, unless_turn, ask_closed, ask_held, asking}
 use Rattle.spec_protocol.specs.Transferring.{dma_move, dma_done, transfer, dma_with, dma_if, not_of_dma, turn_before_dma, transferring}
 use Rattle.spec_protocol.specs.Machine.{Setup}
 use Rattle.spec_protocol.specs.Finishing.{standing}
 use Rattle.spec_finishing.specs.Ending.{is_done}
 use Rattle.spec_finishing.proofs.PayingMoves.{what_more}
 use Rattle.spec_finishing.proofs.Turns.{no-flight, HasActor}
-use Rattle.spec_finishing.proofs.Begun.{OnCore}
+use Rattle.spec_finishing.proofs.UnderWay.{OnCore}
 use Rattle.spec_finishing.proofs.StepRises.{none_found}
 
 -- the event is done, and has a move in sphere i, which pays for n events and three
@@ -50,7 +50,7 @@ not_busy w a i none =
 
 -- ---- Ask
 
-granted_commits : (w : World) (c : ℕ) (q : Request) (writes : Marks) (v : Moved) (o : Outcome) (n : ℕ) → n + 3 ≤ what_more q.what → Commits q.sphere n (granted w c q writes v o)
+granted_commits : (w : World) (c : ℕ) (q : CommitRequest) (writes : Marks) (v : Moved) (o : CommitOutcome) (n : ℕ) → n + 3 ≤ what_more q.what → Commits q.sphere n (granted w c q writes v o)
 granted_commits w c q writes v Granted n l = record { done = refl; move = move_at (moment w) q; is = refl; sphere = refl; more = l }
 granted_commits w c q writes v Piece n l = record { done = refl; move = move_at (moment w) q; is = refl; sphere = refl; more = l }
 granted_commits w c q writes v (Diverged i why) n l = record { done = refl; move = move_at (moment w) q; is = refl; sphere = refl; more = l }
@@ -94,12 +94,12 @@ unfolding asking
 ask_is w c h how is closed going turn free =
     let p = sphere_at w h.chunk.sphere in
     let arbiter = ask_arbiter w c h how (asks_serial h.chunk p.role) in
-    let room = cond (is_full w.slots) (still w Reply.WindowFull) arbiter in
+    let room = cond (is_full w.slots) (answered w Reply.WindowFull) arbiter in
     ap (ask_held w c) is
     ∙ ap (ask_closed w c h) closed
-    ∙ ap {A = Bool} (λ b. cond b (still w Reply.Stopped) (unless_turn (other_turn (head_of p) h.thread) w room)) going
+    ∙ ap {A = Bool} (λ b. cond b (answered w Reply.Stopped) (unless_turn (other_turn (head_of p) h.thread) w room)) going
     ∙ ap (λ (o : Option Actor). unless_turn o w room) turn
-    ∙ ap {A = Bool} (λ b. cond b (still w Reply.WindowFull) arbiter) free
+    ∙ ap {A = Bool} (λ b. cond b (answered w Reply.WindowFull) arbiter) free
 
 pub ask-commits : (s : Setup) (w : World) (i k c : ℕ) (h : Held) (how : How) → standing w ≡ None → 0 < length w.slots → HasActor s w i (Actor.Thread k) → OnCore w i k c h → h.chunk.closed ≡ Some how → Commits i h.chunk.done.n (asking w c)
 ask-commits s w i k c h how none l a on closed =
@@ -121,11 +121,11 @@ unfolding transfer
 done_commits w i v none l =
     let writes = signed i v.words (nothing w.numbers.signature) in
     subst (Commits i 0)
-    (sym (ap {A = Bool} (λ b. cond b (still w Reply.WindowFull) (unless_denied (ask writes writes w.slots) w (dma_done w i writes v))) (room_there w.slots none l)
+    (sym (ap {A = Bool} (λ b. cond b (answered w Reply.WindowFull) (unless_denied (ask writes writes w.slots) w (dma_done w i writes v))) (room_there w.slots none l)
     ∙ not_denied w (dma_done w i writes v) writes writes none))
     (record { done = refl; move = dma_move w i; is = refl; sphere = refl; more = omega arith })
 
-outcome_commits : (w : World) (i : ℕ) (v : Moved) (o : Outcome) → ((k : ℕ) → at w.slots k ≡ None) → 0 < length w.slots → Commits i 0 (dma_with w i v o)
+outcome_commits : (w : World) (i : ℕ) (v : Moved) (o : CommitOutcome) → ((k : ℕ) → at w.slots k ≡ None) → 0 < length w.slots → Commits i 0 (dma_with w i v o)
 outcome_commits w i v Granted none l = done_commits w i v none l
 outcome_commits w i v Piece none l = done_commits w i v none l
 outcome_commits w i v (Diverged j why) none l = record { done = refl; move = dma_move w i; is = refl; sphere = refl; more = omega arith }
@@ -134,9 +134,9 @@ dma_is : (w : World) (i : ℕ) (p : Sphere) (b : Book) → sphere_at w i ≡ p �
     → transferring w i ≡ dma_if w i (dma_in (Replay b) w.devices p)
 unfolding transferring dma_moved
 dma_is w i p b at role going turn =
-    let by = λ (q : Sphere) (r : Role). cond (is_stopped r) (still w Reply.Stopped) (unless_turn (turn_before_dma r) w (dma_if w i (dma_in r w.devices q))) in
+    let by = λ (q : Sphere) (r : Role). cond (is_stopped r) (answered w Reply.Stopped) (unless_turn (turn_before_dma r) w (dma_if w i (dma_in r w.devices q))) in
     (λ j. by (at j) (at j).role) ∙ ap (by p) role
-    ∙ ap {A = Bool} (λ c. cond c (still w Reply.Stopped) (unless_turn (turn_before_dma (Replay b)) w (dma_if w i (dma_in (Replay b) w.devices p)))) going
+    ∙ ap {A = Bool} (λ c. cond c (answered w Reply.Stopped) (unless_turn (turn_before_dma (Replay b)) w (dma_if w i (dma_in (Replay b) w.devices p)))) going
     ∙ ap (λ (o : Option Actor). unless_turn (not_of_dma o) w (dma_if w i (dma_in (Replay b) w.devices p))) turn
 
 pub dma-commits : (s : Setup) (w : World) (i : ℕ) → standing w ≡ None → 0 < length w.slots → HasActor s w i Actor.Dma → Commits i 0 (transferring w i)

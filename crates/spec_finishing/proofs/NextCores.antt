@@ -12,18 +12,18 @@ use Rattle.spec_engine.specs.Chunks.{step, is_open, fresh}
 use Rattle.spec_engine.proofs.Searches.{first_least, first_is}
 use Rattle.spec_protocol.specs.declared.reply.Reply.{Reply}
 use Rattle.spec_protocol.specs.Spheres.{Sphere, is_stopped, limit_of, halves}
-use Rattle.spec_protocol.specs.World.{World, Held, After, sphere_at, with_core, begun_thread, begun as chunk_at, runs, core_of, still, went_on}
+use Rattle.spec_protocol.specs.World.{World, Held, After, sphere_at, with_core, thread_afresh, held_afresh, runs, core_of, answered}
 use Rattle.spec_protocol.specs.Stepping.{stepped, step_held, stepping}
 use Rattle.spec_protocol.specs.Placing.{unless_elsewhere, place_thread, placing}
 use Rattle.spec_protocol.specs.Machine.{Setup}
 use Rattle.spec_protocol.specs.Finishing.{standing}
 use Rattle.spec_protocol.proofs.Slots.{at-set_same, at-set_other, at_within}
-use Rattle.spec_finishing.specs.Rest.{held_begun}
+use Rattle.spec_finishing.specs.Rest.{held_under_way}
 use Rattle.spec_finishing.specs.Ending.{is_done}
 use Rattle.spec_finishing.proofs.Runs.{run-status}
 use Rattle.spec_finishing.proofs.GoingOn.{play_of, has-run, thread-now}
 use Rattle.spec_finishing.proofs.Turns.{no-flight, HasActor, turn-of}
-use Rattle.spec_finishing.proofs.Begun.{OnCore}
+use Rattle.spec_finishing.proofs.UnderWay.{OnCore}
 use Rattle.spec_finishing.proofs.StepRises.{step-rises}
 
 -- ---- the core of the thread
@@ -49,7 +49,7 @@ runs_it i k h sphere thread = and_from (eqb h.chunk.sphere i) (eqb h.thread k) (
 
 -- ---- one core changes
 
--- the event is done, changes core c alone, which runs the thread then, and more is begun
+-- the event is done, changes core c alone, which runs the thread then, and more is under way
 pub record Rose (w : World) (i k : ℕ) (a : After) : Type 0 where
   pub done : is_done a.reply ≡ true
   pub core : ℕ
@@ -66,13 +66,13 @@ unfolding stepping
 step_is w c h is going open_ =
     let s = step w.numbers.buffer (sphere_at w h.chunk.sphere).memory w.slots c h.chunk in
     ap (step_held w c) is
-    ∙ ap {A = Bool} (λ b. cond b (still w Reply.Stopped) (cond (is_open h.chunk) (stepped w c h s) (still w Reply.Waiting))) going
-    ∙ ap {A = Bool} (λ b. cond b (stepped w c h s) (still w Reply.Waiting)) open_
+    ∙ ap {A = Bool} (λ b. cond b (answered w Reply.Stopped) (cond (is_open h.chunk) (stepped w c h s) (answered w Reply.Waiting))) going
+    ∙ ap {A = Bool} (λ b. cond b (stepped w c h s) (answered w Reply.Waiting)) open_
 
 -- the step's chunk is begun further
 pub record StepRose (w : World) (i k : ℕ) (n : ℕ) (a : After) : Type 0 where
   pub rose : Rose w i k a
-  pub more : suc n < held_begun (Some rose.held)
+  pub more : suc n < held_under_way (Some rose.held)
 
 step_rose : (w : World) (i k c : ℕ) (h : Held) → standing w ≡ None → OnCore w i k c h → core_of w i k ≡ Some c → StepRose w i k h.chunk.done.n (stepped w c h (step w.numbers.buffer (sphere_at w h.chunk.sphere).memory w.slots c h.chunk))
 step_rose w i k c h none on found =
@@ -112,21 +112,21 @@ new_held w i k t =
     let p = sphere_at w i in
     record { thread = k; chunk = fresh w.numbers.signature i t (limit_of w.numbers.chunk p.role k t) (halves p.role) }
 
-chunk_is : (w : World) (i k : ℕ) (t : Parts) → slice_get (sphere_at w i).threads k ≡ Some t → is_live t ≡ true → chunk_at w.numbers i k (sphere_at w i) ≡ Some (new_held w i k t)
+chunk_is : (w : World) (i k : ℕ) (t : Parts) → slice_get (sphere_at w i).threads k ≡ Some t → is_live t ≡ true → held_afresh w.numbers i k (sphere_at w i) ≡ Some (new_held w i k t)
 chunk_is w i k t is live =
-    ap (begun_thread w.numbers i k (sphere_at w i)) is ∙ ap {A = Bool} (λ b. cond b (Some (new_held w i k t)) None) live
+    ap (thread_afresh w.numbers i k (sphere_at w i)) is ∙ ap {A = Bool} (λ b. cond b (Some (new_held w i k t)) None) live
 
-place_is : (w : World) (c i k : ℕ) (t : Parts) → slice_get (sphere_at w i).threads k ≡ Some t → is_live t ≡ true → core_of w i k ≡ None → placing w c i k ≡ went_on (with_core w c (Some (new_held w i k t))) Reply.Placed
+place_is : (w : World) (c i k : ℕ) (t : Parts) → slice_get (sphere_at w i).threads k ≡ Some t → is_live t ≡ true → core_of w i k ≡ None → placing w c i k ≡ answered (with_core w c (Some (new_held w i k t))) Reply.Placed
 unfolding placing
 place_is w c i k t is live none =
-    let placed = λ (o : Option Held). went_on (with_core w c o) Reply.Placed in
-    let new = chunk_at w.numbers i k (sphere_at w i) in
+    let placed = λ (o : Option Held). answered (with_core w c o) Reply.Placed in
+    let new = held_afresh w.numbers i k (sphere_at w i) in
     ap (place_thread w c i k) is
-    ∙ ap {A = Bool} (λ b. cond b (unless_elsewhere (core_of w i k) w (placed new)) (still w Reply.Ended)) live
+    ∙ ap {A = Bool} (λ b. cond b (unless_elsewhere (core_of w i k) w (placed new)) (answered w Reply.Ended)) live
     ∙ ap (λ (o : Option ℕ). unless_elsewhere o w (placed new)) none
     ∙ ap placed (chunk_is w i k t is live)
 
-place_rose : (w : World) (i k : ℕ) (t : Parts) → 0 < length w.cores → Rose w i k (went_on (with_core w 0 (Some (new_held w i k t))) Reply.Placed)
+place_rose : (w : World) (i k : ℕ) (t : Parts) → 0 < length w.cores → Rose w i k (answered (with_core w 0 (Some (new_held w i k t))) Reply.Placed)
 place_rose w i k t l =
     let g = new_held w i k t in
     record {

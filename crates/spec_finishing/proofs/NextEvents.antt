@@ -16,13 +16,13 @@ use Rattle.spec_protocol.specs.Moves.{do_if}
 use Rattle.spec_protocol.specs.Finishing.{untold, deliver_or_retire, for_flight, Who, least, standing}
 use Rattle.spec_protocol.proofs.Slots.{at_within}
 use Rattle.spec_protocol.proofs.Schedules.{happens-kept}
-use Rattle.spec_finishing.specs.Rest.{spheres_rest, potential, held_begun, core_begun, actor_begun, begun, rest}
+use Rattle.spec_finishing.specs.Rest.{spheres_rest, potential, held_under_way, core_under_way, actor_under_way, under_way, rest}
 use Rattle.spec_finishing.specs.Ending.{is_done}
 use Rattle.spec_finishing.proofs.FlyingNext.{FlightFalls, drain-falls, deliver-falls, untold-core, retire-falls}
 use Rattle.spec_finishing.proofs.Rows.{spheres-shown}
 use Rattle.spec_finishing.proofs.Knowing.{Known}
 use Rattle.spec_finishing.proofs.Turns.{HasActor, has-actor}
-use Rattle.spec_finishing.proofs.Begun.{begun-most, begun-flight, begun-actor}
+use Rattle.spec_finishing.proofs.UnderWay.{under_way-most, under_way-flight, under_way-actor}
 use Rattle.spec_finishing.proofs.NextCores.{Rose, place-rose}
 
 -- ---- what is shown
@@ -54,7 +54,7 @@ flight_falls : (s : Setup) (w : World) (e : Event) (k : ℕ) → Known s w → s
 flight_falls s w e k known stands f none =
     let g = flight_happens s.cores w e f in
     let same = no_move_spheres s w e known (move_happens w e none) in
-    let zero_ = begun-flight w k stands in
+    let zero_ = under_way-flight w k stands in
     let less = g.less in
     record { done = g.done; less = omega (arith, same, zero_, less) }
 
@@ -107,12 +107,12 @@ words_fall s w k f (x ∷ xs) known stands is words = drain_act s w k f x xs kno
 
 -- ---- a thread's core
 
-rose_begun : (w : World) (who : Who) (k : ℕ) (a : After) → standing w ≡ None → least 0 w.spheres ≡ Some who → who.actor ≡ Actor.Thread k → (r : Rose w who.sphere k a) → begun (kept a) ≡ held_begun (Some r.held)
-rose_begun w who k a none e thread r =
-    begun-actor (kept a) who (ap standing r.is ∙ none) (ap (λ (v : World). least 0 v.spheres) r.is ∙ e)
-    ∙ ap (actor_begun (kept a) who.sphere) thread
-    ∙ ap (core_begun (kept a)) r.found
-    ∙ ap held_begun r.there
+rose_under_way : (w : World) (who : Who) (k : ℕ) (a : After) → standing w ≡ None → least 0 w.spheres ≡ Some who → who.actor ≡ Actor.Thread k → (r : Rose w who.sphere k a) → under_way (kept a) ≡ held_under_way (Some r.held)
+rose_under_way w who k a none e thread r =
+    under_way-actor (kept a) who (ap standing r.is ∙ none) (ap (λ (v : World). least 0 v.spheres) r.is ∙ e)
+    ∙ ap (actor_under_way (kept a) who.sphere) thread
+    ∙ ap (core_under_way (kept a)) r.found
+    ∙ ap held_under_way r.there
 
 rose_potential : (s : Setup) (w : World) (i k : ℕ) (a : After) → Rose w i k a → potential s (kept a) ≡ potential s w
 rose_potential s w i k a r = ap (potential s) r.is
@@ -125,11 +125,11 @@ reply_happens : (w : World) (e : Event) → (happens w e).reply ≡ (act w e).re
 unfolding happens
 reply_happens w e = refl
 
-pub rose_falls : (s : Setup) (w : World) (who : Who) (k : ℕ) (e : Event) → Known s w → Known s (happens w e).world → standing w ≡ None → least 0 w.spheres ≡ Some who → who.actor ≡ Actor.Thread k → (r : Rose w who.sphere k (act w e)) → begun w < held_begun (Some r.held) → Lowers s w e
+pub rose_falls : (s : Setup) (w : World) (who : Who) (k : ℕ) (e : Event) → Known s w → Known s (happens w e).world → standing w ≡ None → least 0 w.spheres ≡ Some who → who.actor ≡ Actor.Thread k → (r : Rose w who.sphere k (act w e)) → under_way w < held_under_way (Some r.held) → Lowers s w e
 rose_falls s w who k e known next_known none is thread r more =
-    let now = ap begun (world_happens w e) ∙ rose_begun w who k (act w e) none is thread r in
+    let now = ap under_way (world_happens w e) ∙ rose_under_way w who k (act w e) none is thread r in
     let same = ap (potential s) (world_happens w e) ∙ rose_potential s w who.sphere k (act w e) r in
-    let most = begun-most s (happens w e).world next_known in
+    let most = under_way-most s (happens w e).world next_known in
     record { done = ap is_done (reply_happens w e) ∙ r.done; less = omega (arith, now, same, most, more) }
 
 pub place_act : (s : Setup) (w : World) (who : Who) (k : ℕ) → Known s w → Known s (happens w (Event.Place 0 who.sphere k)).world → 0 < s.cores → standing w ≡ None → least 0 w.spheres ≡ Some who → who.actor ≡ Actor.Thread k → core_of w who.sphere k ≡ None → Lowers s w (Event.Place 0 who.sphere k)
@@ -145,5 +145,5 @@ place_act s w who k known next_known some none is thread free =
     subst (λ (c : ℕ). Rose w i k (placing w c (sphere_no w i) k)) (sym core)
     (subst (λ (j : ℕ). Rose w i k (placing w 0 j k)) (sym sphere) (place-rose s w i k cores b free))
     ) in
-    let was = begun-actor w who none is ∙ ap (actor_begun w i) thread ∙ ap (core_begun w) free in
+    let was = under_way-actor w who none is ∙ ap (actor_under_way w i) thread ∙ ap (core_under_way w) free in
     rose_falls s w who k (Event.Place 0 i k) known next_known none is thread r (omega (arith, was))

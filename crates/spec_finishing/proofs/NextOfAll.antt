@@ -18,21 +18,21 @@ use Rattle.spec_protocol.specs.Machine.{Setup, core_no, sphere_no, act, happens}
 use Rattle.spec_protocol.specs.Shown.{shown_of}
 use Rattle.spec_protocol.specs.Finishing.{Who, least, standing, for_flight, for_held, for_core, for_actor, for_who, for_slot, for_standing, next}
 use Rattle.spec_protocol.proofs.Slots.{at_within}
-use Rattle.spec_finishing.specs.Rest.{held_begun, core_begun, actor_begun, begun}
+use Rattle.spec_finishing.specs.Rest.{held_under_way, core_under_way, actor_under_way, under_way}
 use Rattle.spec_finishing.specs.Ending.{IsFinished}
 use Rattle.spec_finishing.proofs.Slots.{one_unless, one_at_most}
 use Rattle.spec_finishing.proofs.Knowing.{Known}
 use Rattle.spec_finishing.proofs.Spending.{happens-less}
 use Rattle.spec_finishing.proofs.Turns.{no-flight, least-none, HasActor, has-actor}
-use Rattle.spec_finishing.proofs.Begun.{OnCore, on-core, begun-actor}
+use Rattle.spec_finishing.proofs.UnderWay.{OnCore, on-core, under_way-actor}
 use Rattle.spec_finishing.proofs.NextCores.{StepRose, step-rose}
 use Rattle.spec_finishing.proofs.NextCommits.{Commits, ask-commits, dma-commits}
 use Rattle.spec_finishing.proofs.NextEvents.{Lowers, words_fall, rose_falls, place_act}
 
--- what is begun on the core of the thread whose turn it is
-begun_on : (w : World) (who : Who) (k c : ℕ) (h : Held) → standing w ≡ None → least 0 w.spheres ≡ Some who → who.actor ≡ Actor.Thread k → core_of w who.sphere k ≡ Some c → at w.cores c ≡ Some h → begun w ≡ held_begun (Some h)
-begun_on w who k c h none is thread found there =
-    begun-actor w who none is ∙ ap (actor_begun w who.sphere) thread ∙ ap (core_begun w) found ∙ ap held_begun there
+-- what is under way on the core of the thread whose turn it is
+under_way_on : (w : World) (who : Who) (k c : ℕ) (h : Held) → standing w ≡ None → least 0 w.spheres ≡ Some who → who.actor ≡ Actor.Thread k → core_of w who.sphere k ≡ Some c → at w.cores c ≡ Some h → under_way w ≡ held_under_way (Some h)
+under_way_on w who k c h none is thread found there =
+    under_way-actor w who none is ∙ ap (actor_under_way w who.sphere) thread ∙ ap (core_under_way w) found ∙ ap held_under_way there
 
 core_is : (w : World) (c : ℕ) (h : Held) → at w.cores c ≡ Some h → core_no w c ≡ c
 core_is w c h there = mod-eq_of_lt (at_within w.cores c h there)
@@ -47,7 +47,7 @@ step_act s w who k c h known next_known none is thread found on open_ =
     let r : StepRose w who.sphere k h.chunk.done.n (act w (Event.Step c)) = (
     subst (λ (d : ℕ). StepRose w who.sphere k h.chunk.done.n (stepping w d)) (sym (core_is w c h on.there)) (step-rose s w who.sphere k c h none a on found open_)
     ) in
-    let was = begun_on w who k c h none is thread found on.there in
+    let was = under_way_on w who k c h none is thread found on.there in
     let zero_ = ap one_unless open_ in
     let more = r.more in
     rose_falls s w who k (Event.Step c) known next_known none is thread r.rose (omega (arith, was, zero_, more))
@@ -58,7 +58,7 @@ move_is : (w : World) (e : Event) (i n : ℕ) → Commits i n (act w e) → Comm
 unfolding happens
 move_is w e i n c = record { done = c.done; move = c.move; is = c.is; sphere = c.sphere; more = c.more }
 
-commit_falls : (s : Setup) (w : World) (e : Event) (who : Who) (n : ℕ) → Known s w → Known s (happens w e).world → standing w ≡ None → least 0 w.spheres ≡ Some who → Commits who.sphere n (act w e) → begun w ≤ n + 2 → Lowers s w e
+commit_falls : (s : Setup) (w : World) (e : Event) (who : Who) (n : ℕ) → Known s w → Known s (happens w e).world → standing w ≡ None → least 0 w.spheres ≡ Some who → Commits who.sphere n (act w e) → under_way w ≤ n + 2 → Lowers s w e
 commit_falls s w e who n known next_known none is commits few =
     let a = has-actor s w who known none is in
     let c = move_is w e who.sphere n commits in
@@ -83,7 +83,7 @@ ask_act s w who k c h known next_known window none is thread found on closed =
     let commits : Commits who.sphere h.chunk.done.n (act w (Event.Ask c)) = (
     subst (λ (d : ℕ). Commits who.sphere h.chunk.done.n (asking w d)) (sym (core_is w c h on.there)) (ask-commits s w who.sphere k c h how.0 none slots a on how.1)
     ) in
-    let was = begun_on w who k c h none is thread found on.there in
+    let was = under_way_on w who k c h none is thread found on.there in
     let one = one_at_most (is_open h.chunk) in
     commit_falls s w (Event.Ask c) who h.chunk.done.n known next_known none is commits (omega (arith, was, one))
 
@@ -96,7 +96,7 @@ dma_act s w who known next_known window none is dma =
     let commits : Commits who.sphere 0 (act w (Event.Dma who.sphere)) = (
     subst (λ (j : ℕ). Commits who.sphere 0 (transferring w j)) (sym sphere) (dma-commits s w who.sphere none slots a)
     ) in
-    let was = begun-actor w who none is ∙ ap (actor_begun w who.sphere) dma in
+    let was = under_way-actor w who none is ∙ ap (actor_under_way w who.sphere) dma in
     commit_falls s w (Event.Dma who.sphere) who 0 known next_known none is commits (omega (arith, was))
 
 -- ---- the next event

@@ -11,7 +11,7 @@ use Rattle.spec_protocol.specs.Serial.{whole_of}
 use Rattle.spec_protocol.specs.Finishing.{Finishes}
 use Rattle.spec_protocol.specs.Promises.{IsSetup, after}
 use Rattle.spec_finishing.specs.Work.{plays_work, moves_work}
-use Rattle.spec_finishing.specs.Rest.{potential, begun, rest}
+use Rattle.spec_finishing.specs.Rest.{potential, under_way, rest}
 
 -- the work of a run: of the plays of its replayed spheres, and of what its schedule did in the others
 abbrev pub work : Setup → List Event → ℕ
@@ -34,10 +34,10 @@ is_done _ = false
 
 -- each of these events is done and makes less what is left, which is never below 0
 abbrev pub Falls : Setup → World → List Event → Type 0
-Falls s w [] = begun w ≤ potential s w
+Falls s w [] = under_way w ≤ potential s w
 Falls s w (e ∷ es) =
     let a = happens w e in
-    (begun w ≤ potential s w) × (is_done a.reply ≡ true) × (rest s a.world < rest s w) × Falls s a.world es
+    (under_way w ≤ potential s w) × (is_done a.reply ≡ true) × (rest s a.world < rest s w) × Falls s a.world es
 
 -- a replay that goes on no more; plain and recorded spheres have no end
 abbrev pub IsAtEnd : Role → Type 0

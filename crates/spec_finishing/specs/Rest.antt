@@ -58,34 +58,34 @@ spheres_rest cores (image ∷ images) (p ∷ ps) = role_rest cores image p p.rol
 abbrev pub potential : Setup → World → ℕ
 potential s w = flights_rest s.cores w.slots + spheres_rest s.cores s.spheres w.spheres
 
--- ---- what is begun
+-- ---- what is under way
 
 -- one where the thread is on a core, its chunk's instructions, and one where the chunk is closed
-abbrev pub held_begun : Option Held → ℕ
-held_begun None = 0
-held_begun (Some h) = suc (h.chunk.done.n + (if is_open h.chunk then 0 else 1))
+abbrev pub held_under_way : Option Held → ℕ
+held_under_way None = 0
+held_under_way (Some h) = suc (h.chunk.done.n + (if is_open h.chunk then 0 else 1))
 
-abbrev pub core_begun : World → Option ℕ → ℕ
-core_begun w None = 0
-core_begun w (Some c) = held_begun (at w.cores c)
+abbrev pub core_under_way : World → Option ℕ → ℕ
+core_under_way w None = 0
+core_under_way w (Some c) = held_under_way (at w.cores c)
 
-abbrev pub actor_begun : World → (i : ℕ) → Actor → ℕ
-actor_begun w i Actor.Dma = 0
-actor_begun w i (Actor.Thread k) = core_begun w (core_of w i k)
+abbrev pub actor_under_way : World → (i : ℕ) → Actor → ℕ
+actor_under_way w i Actor.Dma = 0
+actor_under_way w i (Actor.Thread k) = core_under_way w (core_of w i k)
 
-abbrev pub who_begun : World → Option Who → ℕ
-who_begun w None = 0
-who_begun w (Some who) = actor_begun w who.sphere who.actor
+abbrev pub who_under_way : World → Option Who → ℕ
+who_under_way w None = 0
+who_under_way w (Some who) = actor_under_way w who.sphere who.actor
 
-abbrev pub standing_begun : World → Option ℕ → ℕ
-standing_begun w (Some k) = 0
-standing_begun w None = who_begun w (least 0 w.spheres)
+abbrev pub standing_under_way : World → Option ℕ → ℕ
+standing_under_way w (Some k) = 0
+standing_under_way w None = who_under_way w (least 0 w.spheres)
 
 -- where no flight stands, by the thread whose turn it is in the least replay that goes on
-unfoldable pub begun : World → ℕ
-begun w = standing_begun w (standing w)
+unfoldable pub under_way : World → ℕ
+under_way w = standing_under_way w (standing w)
 
 -- ---- both
 
 abbrev pub rest : Setup → World → ℕ
-rest s w = potential s w - begun w
+rest s w = potential s w - under_way w

@@ -10,17 +10,17 @@ use Rattle.spec_engine.specs.declared.answers.How.{How}
 use Rattle.spec_engine.specs.Signatures.{Marks, hits, covers, line, nothing, signed}
 use Rattle.spec_engine.specs.Flights.{Flight, at, is_none, first_slot, free_slot, is_full, meets_chunk, is_of_sphere}
 use Rattle.spec_engine.specs.Asking.{denied_by, busy_by}
+use Rattle.spec_engine.specs.Laws.{CoversLoads, CoversWords}
 use Rattle.spec_engine.proofs.Marking.{covers_hit}
 use Rattle.spec_engine.proofs.Searches.{first_none, first_some, full_at}
 use Rattle.spec_protocol.specs.declared.event.Event.{Event}
 use Rattle.spec_protocol.specs.declared.reply.Reply.{Reply}
 use Rattle.spec_protocol.specs.Spheres.{Role, Plain, Record, Replay, Sphere, is_stopped, recording_turn, head_in, head_of}
 use Rattle.spec_protocol.specs.Placing.{replays}
-use Rattle.spec_protocol.specs.Commits.{Outcome, Granted, Piece, Diverged, Moved, is_piece, chunk_moved, serial_moved}
-use Rattle.spec_protocol.specs.World.{Held, World, moment, sphere_at, After, still}
-use Rattle.spec_protocol.specs.Asking.{Request, chunk_request, granted, grant_chunk, unless_denied, serial_request, grant_serial, unless_busy, asks_serial, ask_arbiter, other_turn, unless_turn, ask_closed, ask_held, asking}
+use Rattle.spec_protocol.specs.Commits.{CommitOutcome, Granted, Piece, Diverged, Moved, is_piece, chunk_moved, serial_moved}
+use Rattle.spec_protocol.specs.World.{Held, World, moment, sphere_at, After, answered}
+use Rattle.spec_protocol.specs.Asking.{CommitRequest, chunk_request, granted, grant_chunk, unless_denied, serial_request, grant_serial, unless_busy, asks_serial, ask_arbiter, other_turn, unless_turn, ask_closed, ask_held, asking}
 use Rattle.spec_protocol.specs.Machine.{world_of, core_no, act, happens, world_after}
-use Rattle.spec_protocol.specs.Currency.{CoversLoads, CoversAll}
 use Rattle.spec_protocol.specs.Invariants.{IsGoodHeld, IsGood}
 use Rattle.spec_protocol.specs.Replying.{makes_point, IsInTurns, AsksAreGranted, LoadsLack, IsClearOf, GrantsAreClear}
 use Rattle.spec_protocol.proofs.Laying.{AllLack_flip}
@@ -47,7 +47,7 @@ not_full w (Some k) e m = refl
 abbrev IsGrantedOr : World → Held → After → Type 0
 IsGrantedOr w h a = (a.reply ≡ Reply.Granted) ⊎ ((actor : Actor) × (a.reply ≡ Reply.NotTurn actor) × IsInTurns (sphere_at w h.chunk.sphere).role)
 
-granted_reply : (w : World) (c : ℕ) (q : Request) (writes : Marks) (v : Moved) (o : Outcome) → o ≡ Granted → (granted w c q writes v o).reply ≡ Reply.Granted
+granted_reply : (w : World) (c : ℕ) (q : CommitRequest) (writes : Marks) (v : Moved) (o : CommitOutcome) → o ≡ Granted → (granted w c q writes v o).reply ≡ Reply.Granted
 granted_reply w c q writes v Granted e = refl
 granted_reply w c q writes v Piece e = cc
 granted_reply w c q writes v (Diverged i why) e = cc
@@ -107,10 +107,10 @@ closed_reply w c h how m live =
     let p = sphere_at w h.chunk.sphere in
     let turn = other_turn (head_of p) h.thread in
     let arbiter = ask_arbiter w c h how (asks_serial h.chunk p.role) in
-    branch (IsGrantedOr w h) (is_stopped p.role) (still w Reply.Stopped) (unless_turn turn w (cond (is_full w.slots) (still w Reply.WindowFull) arbiter))
+    branch (IsGrantedOr w h) (is_stopped p.role) (answered w Reply.Stopped) (unless_turn turn w (cond (is_full w.slots) (answered w Reply.WindowFull) arbiter))
     (λ stopped. absurd (true≢false (sym stopped ∙ live_going p.role live)))
-    (λ _. turn_reply w h (cond (is_full w.slots) (still w Reply.WindowFull) arbiter) turn (λ actor e. turns_of p h.thread actor live e)
-    (branch (IsGrantedOr w h) (is_full w.slots) (still w Reply.WindowFull) arbiter
+    (λ _. turn_reply w h (cond (is_full w.slots) (answered w Reply.WindowFull) arbiter) turn (λ actor e. turns_of p h.thread actor live e)
+    (branch (IsGrantedOr w h) (is_full w.slots) (answered w Reply.WindowFull) arbiter
     (λ full. absurd (true≢false (sym full ∙ not_full w (free_slot w.slots) refl m)))
     (λ _. inl (arbiter_reply w c h how (asks_serial h.chunk p.role) m live))))
 
@@ -143,7 +143,7 @@ uncovered_loads i g f (l ∷ ls) ws size c lacks e = (
 chunk_clear : (w : World) (c : ℕ) (h : Held) (k : ℕ) (f : Flight) → IsGood w → IsGoodHeld w c h → at w.slots k ≡ Some f → f.sphere ≡ h.chunk.sphere → first_slot (meets_chunk h.chunk.reads h.chunk.writes) w.slots ≡ None → IsClearOf h f
 chunk_clear w c h k f good held there same none =
     let cov = good.covered k f there in
-    let words = subst (λ (n : ℕ). CoversAll n f.writes f.words) same cov.words in
+    let words = subst (λ (n : ℕ). CoversWords n f.writes f.words) same cov.words in
     let miss = never_hits w h.chunk none k f there in
     record {
       stores = AllLack_flip f.words h.chunk.done.words (apart-covered h.chunk.sphere f.writes h.chunk.writes f.words h.chunk.done.words (held.chunk.writes_size ∙ sym cov.size) words held.chunk.writes miss.1);
@@ -179,10 +179,10 @@ closed_clear w c h (Some how) good held =
     let p = sphere_at w h.chunk.sphere in
     let turn = other_turn (head_of p) h.thread in
     let arbiter = ask_arbiter w c h how (asks_serial h.chunk p.role) in
-    branch (Clear w h) (is_stopped p.role) (still w Reply.Stopped) (unless_turn turn w (cond (is_full w.slots) (still w Reply.WindowFull) arbiter))
+    branch (Clear w h) (is_stopped p.role) (answered w Reply.Stopped) (unless_turn turn w (cond (is_full w.slots) (answered w Reply.WindowFull) arbiter))
     (λ _ e. absurd (true≢false (sym e)))
-    (λ _. turn_clear w h (cond (is_full w.slots) (still w Reply.WindowFull) arbiter) turn
-    (branch (Clear w h) (is_full w.slots) (still w Reply.WindowFull) arbiter
+    (λ _. turn_clear w h (cond (is_full w.slots) (answered w Reply.WindowFull) arbiter) turn
+    (branch (Clear w h) (is_full w.slots) (answered w Reply.WindowFull) arbiter
     (λ _ e. absurd (true≢false (sym e)))
     (λ _. arbiter_clear w c h how (asks_serial h.chunk p.role) good held)))
 

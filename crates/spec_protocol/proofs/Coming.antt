@@ -22,7 +22,7 @@ use Rattle.spec_play.specs.Recording.{with_actor, with_short, with_size, noted, 
 use Rattle.spec_protocol.specs.Spheres.{Sphere}
 use Rattle.spec_protocol.proofs.Moving.{get-set_other, get-set_same, get-append}
 use Rattle.spec_protocol.proofs.Lookups.{short_at, short-other, interrupt-other, count_of, count-append, SlotsBelow, SlotsFrom, SlotsFrom_less, SlotsBelow_more, SlotsBelow-push}
-use Rattle.spec_protocol.proofs.Growing.{commits_if, commits_in, OrderStands, SizesStand, Stands, SizesAhead, Behind, Ahead, Committed, committed-parts, Grows, grows_of, grown_least, pushed_length, set_none}
+use Rattle.spec_protocol.proofs.Growing.{commits_if, commits_in, OrderStands, SizesStand, Stands, SizesAhead, Behind, Ahead, HasCommitted, has_committed-parts, Grows, grows_of, grown_least, pushed_length, set_none}
 
 -- ---- lists that grow
 
@@ -73,9 +73,9 @@ inputs_ahead : (o : Option Input) (log : LogParts) (ys : List Input) → Behind 
 inputs_ahead None log ys b = b
 inputs_ahead (Some r) log ys b = behind_step ys log.inputs r b
 
-pub committed-ahead : (L : LogParts) (k : ℕ) (short : Bool) (p q : Sphere) (log qlog : LogParts) (t u : Parts) (made : List Parts) (c : Commit) (o : Option Input) → Committed k short p q log qlog t u made c o → Ahead L q qlog → Ahead L p log
-committed-ahead L k short p q log qlog t u made c o d a =
-    let n = committed-parts k short p q log qlog t u made c o d in
+pub has_committed-ahead : (L : LogParts) (k : ℕ) (short : Bool) (p q : Sphere) (log qlog : LogParts) (t u : Parts) (made : List Parts) (c : Commit) (o : Option Input) → HasCommitted k short p q log qlog t u made c o → Ahead L q qlog → Ahead L p log
+has_committed-ahead L k short p q log qlog t u made c o d a =
+    let n = has_committed-parts k short p q log qlog t u made c o d in
     let g = grows_of k short p q log qlog t u made c o d in
     let ints : (j i : ℕ) → interrupt_at qlog.interrupts j i ≡ interrupt_at log.interrupts j i = (λ j i. ap (λ (is : List Interrupt). interrupt_at is j i) n.interrupts) in
     record {

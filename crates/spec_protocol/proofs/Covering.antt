@@ -15,31 +15,32 @@ use Rattle.spec_isa.proofs.BufferLaws.{Apart-put}
 use Rattle.spec_engine.specs.Signatures.{Marks, insert, covers, hits, line, signed}
 use Rattle.spec_engine.specs.Flights.{Flight, at, is_none, first_slot, told_at, bounces}
 use Rattle.spec_engine.specs.Chunks.{Chunk, with_line}
+use Rattle.spec_engine.specs.Laws.{CoversLoads, CoversWords}
 use Rattle.spec_engine.proofs.Marking.{covers_insert, covers_more, covers_hit}
 use Rattle.spec_engine.proofs.Searches.{first_none}
 use Rattle.spec_protocol.specs.Shown.{words_of, flying}
 use Rattle.spec_protocol.proofs.Laying.{Lacks-append, Unseen}
-use Rattle.spec_protocol.specs.Currency.{CoversLoads, seen_by, IsQuiet, CoversAll, AllLack}
-use Rattle.spec_protocol.specs.Invariants.{IsCovered, AreCovered}
+use Rattle.spec_protocol.specs.Currency.{seen_by, IsQuiet, AllLack}
+use Rattle.spec_protocol.specs.Invariants.{IsFlightCovered, AreCovered}
 
-pub CoversAll_more : (i l : ℕ) (g : Marks) (ws : List Stored) → CoversAll i g ws → CoversAll i (insert l g) ws
-CoversAll_more i l g [] c = tt
-CoversAll_more i l g (w ∷ ws) c = (covers_more l (line i w.word) g c.0, CoversAll_more i l g ws c.1)
+pub CoversWords_more : (i l : ℕ) (g : Marks) (ws : List Stored) → CoversWords i g ws → CoversWords i (insert l g) ws
+CoversWords_more i l g [] c = tt
+CoversWords_more i l g (w ∷ ws) c = (covers_more l (line i w.word) g c.0, CoversWords_more i l g ws c.1)
 
-put_covered : (i : ℕ) (g : Marks) (s : Stored) (ws : List Stored) → covers g (line i s.word) ≡ true → CoversAll i g ws → CoversAll i g (put ws s)
+put_covered : (i : ℕ) (g : Marks) (s : Stored) (ws : List Stored) → covers g (line i s.word) ≡ true → CoversWords i g ws → CoversWords i g (put ws s)
 unfolding merged
 put_covered i g s [] h c = (h, tt)
 put_covered i g s (w ∷ ws) h c =
-    elim (eqb w.word s.word) as (λ b. CoversAll i g (cond b (merged w s ∷ ws) (w ∷ put ws s))) [
+    elim (eqb w.word s.word) as (λ b. CoversWords i g (cond b (merged w s ∷ ws) (w ∷ put ws s))) [
       | true ↦ (c.0, c.1)
       | false ↦ (c.0, put_covered i g s ws h c.1)
     ]
 
 -- a store's line is marked with it
-pub CoversAll-store : (i : ℕ) (g : Marks) (ws : List Stored) (store : Option Stored) → CoversAll i g ws → CoversAll i (with_line i store g) (with_store ws store)
-CoversAll-store i g ws None c = c
-CoversAll-store i g ws (Some s) c =
-    put_covered i (insert (line i s.word) g) s ws (covers_insert (line i s.word) g) (CoversAll_more i (line i s.word) g ws c)
+pub CoversWords-store : (i : ℕ) (g : Marks) (ws : List Stored) (store : Option Stored) → CoversWords i g ws → CoversWords i (with_line i store g) (with_store ws store)
+CoversWords-store i g ws None c = c
+CoversWords-store i g ws (Some s) c =
+    put_covered i (insert (line i s.word) g) s ws (covers_insert (line i s.word) g) (CoversWords_more i (line i s.word) g ws c)
 
 pub Apart-store : (ws : List Stored) (store : Option Stored) → Apart ws → Apart (with_store ws store)
 Apart-store ws None a = a
@@ -103,20 +104,20 @@ signed_more : (i l : ℕ) (ws : List Stored) (g : Marks) → covers g l ≡ true
 signed_more i l [] g e = e
 signed_more i l (w ∷ ws) g e = signed_more i l ws (insert (line i w.word) g) (covers_more (line i w.word) l g e)
 
-pub CoversAll-signed : (i : ℕ) (ws : List Stored) (g : Marks) → CoversAll i (signed i ws g) ws
-CoversAll-signed i [] g = tt
-CoversAll-signed i (w ∷ ws) g =
-    (signed_more i (line i w.word) ws (insert (line i w.word) g) (covers_insert (line i w.word) g), CoversAll-signed i ws (insert (line i w.word) g))
+pub CoversWords-signed : (i : ℕ) (ws : List Stored) (g : Marks) → CoversWords i (signed i ws g) ws
+CoversWords-signed i [] g = tt
+CoversWords-signed i (w ∷ ws) g =
+    (signed_more i (line i w.word) ws (insert (line i w.word) g) (covers_insert (line i w.word) g), CoversWords-signed i ws (insert (line i w.word) g))
 
 -- ---- words that are not among those covered
 
-pub uncovered-lacks : (i a : ℕ) (g : Marks) (ws : List Stored) → CoversAll i g ws → covers g (line i a) ≡ false → Lacks a ws
+pub uncovered-lacks : (i a : ℕ) (g : Marks) (ws : List Stored) → CoversWords i g ws → covers g (line i a) ≡ false → Lacks a ws
 uncovered-lacks i a g [] c e = tt
 uncovered-lacks i a g (w ∷ ws) c e =
     ((λ same. true≢false (sym c.0 ∙ ap (λ (b : ℕ). covers g (line i b)) same ∙ e)), uncovered-lacks i a g ws c.1 e)
 
 -- two signatures of one size that do not hit: no word of the one is a word of the other
-pub apart-covered : (i : ℕ) (g h : Marks) (xs ys : List Stored) → h.bits ≡ g.bits → CoversAll i g xs → CoversAll i h ys → hits g h ≡ false → AllLack xs ys
+pub apart-covered : (i : ℕ) (g h : Marks) (xs ys : List Stored) → h.bits ≡ g.bits → CoversWords i g xs → CoversWords i h ys → hits g h ≡ false → AllLack xs ys
 apart-covered i g h [] ys size cx cy e = tt
 apart-covered i g h (x ∷ xs) ys size cx cy e = (
   uncovered-lacks i x.word h ys cy (false_from_ne_true (covers h (line i x.word)) (λ c. true≢false (sym (covers_hit g h (line i x.word) size cx.0 c) ∙ e))),
@@ -152,7 +153,7 @@ unbounced xs c l e =
       | Some k ↦ λ h. absurd (let g : false ≡ true = h in grind arith)
     ] e
 
-lacking : (bits : ℕ) (xs : List (Option Flight)) (c : ℕ) (ch : Chunk) (a : ℕ) (f : Flight) → IsCovered bits f → ch.reads.bits ≡ bits → covers ch.reads (line ch.sphere a) ≡ true
+lacking : (bits : ℕ) (xs : List (Option Flight)) (c : ℕ) (ch : Chunk) (a : ℕ) (f : Flight) → IsFlightCovered bits f → ch.reads.bits ≡ bits → covers ch.reads (line ch.sphere a) ≡ true
     → bounces c (line ch.sphere a) f ≡ false → f.sphere ≡ ch.sphere → (told_at f.told c ≡ false → hits f.writes ch.reads ≡ false) → covers f.writes (line ch.sphere a) ≡ false
 lacking bits xs c ch a f cov size seen free same misses =
     elim (cases_Bool (told_at f.told c)) [
@@ -168,7 +169,7 @@ clear-lacks bits xs c ch a cov size quiet e =
     flying-lacks ch.sphere a xs
     (λ k f is same.
     let cf = cov k f is in
-    uncovered-lacks ch.sphere a f.writes f.words (subst (λ (j : ℕ). CoversAll j f.writes f.words) same cf.words)
+    uncovered-lacks ch.sphere a f.writes f.words (subst (λ (j : ℕ). CoversWords j f.writes f.words) same cf.words)
     (lacking bits xs c ch a f cf size p.0 (first_none (bounces c (line ch.sphere a)) xs none k f is) same (quiet.misses k f is same)))
 
 -- words of a list, each of which is not clear where it is among them

@@ -16,7 +16,7 @@ use Rattle.spec_play.specs.Verdicts.{Goes, interrupt_at, with_interrupted}
 use Rattle.spec_play.specs.Plays.{Played, settled, play_thread, play_now, play_one}
 use Rattle.spec_protocol.specs.Spheres.{Sphere}
 use Rattle.spec_protocol.proofs.Moving.{get-set_other, get-set_same, get-append}
-use Rattle.spec_protocol.proofs.Growing.{Stands, Ahead, Committed, committed-parts, get_cases, new_is, grows_of, set_none, Behind}
+use Rattle.spec_protocol.proofs.Growing.{Stands, Ahead, HasCommitted, has_committed-parts, get_cases, new_is, grows_of, set_none, Behind}
 use Rattle.spec_protocol.proofs.Following.{early_by, early, pending_by, pending, early_same, pending_same, sum_from, sum-set, sum-append, Follows, get_past, new_takes_none, early_effect, early_used, same-flags, turn-at, named, Effects, goes_so}
 use Rattle.spec_protocol.proofs.Keeping.{IsNew}
 use Rattle.spec_play.specs.Turns.{Turn, next_actor}
@@ -64,9 +64,9 @@ record Says (L : LogParts) (k : ℕ) (p q : Sphere) (log qlog : LogParts) (t u :
   takes : (v : ℕ) → interrupt_at L.interrupts k u.commits ≡ Some v → takes_interrupt u ≡ true
   there : slice_get q.threads k ≡ Some u
 
-says : (L : LogParts) (k : ℕ) (short : Bool) (p q : Sphere) (log qlog : LogParts) (t u : Parts) (made : List Parts) (c : Commit) (o : Option Input) → Committed k short p q log qlog t u made c o → Stands p log → Ahead L q qlog → Says L k p q log qlog t u
+says : (L : LogParts) (k : ℕ) (short : Bool) (p q : Sphere) (log qlog : LogParts) (t u : Parts) (made : List Parts) (c : Commit) (o : Option Input) → HasCommitted k short p q log qlog t u made c o → Stands p log → Ahead L q qlog → Says L k p q log qlog t u
 says L k short p q log qlog t u made c o d sp aq =
-    let n = committed-parts k short p q log qlog t u made c o d in
+    let n = has_committed-parts k short p q log qlog t u made c o d in
     let g = grows_of k short p q log qlog t u made c o d in
     let ints : (j i : ℕ) → interrupt_at qlog.interrupts j i ≡ interrupt_at log.interrupts j i = (λ j i. ap (λ (is : List Interrupt). interrupt_at is j i) n.interrupts) in
     let there : slice_get q.threads k ≡ Some u = ap (λ (ts : List Parts). slice_get ts k) d.threads ∙ get-append (set p.threads k u) made k u (get-set_same p.threads k u t d.start) in
@@ -86,10 +86,10 @@ says L k short p q log qlog t u made c o d sp aq =
 abbrev after_commit : LogParts → Played → ℕ → Effect → Used → Played
 after_commit L y k e u = settled L y k (Goes e u)
 
-threads_follow : (L : LogParts) (k : ℕ) (short : Bool) (p q : Sphere) (log qlog : LogParts) (t u : Parts) (made : List Parts) (c : Commit) (o : Option Input) (y : Played) (eu : Parts) → Committed k short p q log qlog t u made c o → Stands p log → Stands q qlog → Ahead L q qlog → Follows L p log y
+threads_follow : (L : LogParts) (k : ℕ) (short : Bool) (p q : Sphere) (log qlog : LogParts) (t u : Parts) (made : List Parts) (c : Commit) (o : Option Input) (y : Played) (eu : Parts) → HasCommitted k short p q log qlog t u made c o → Stands p log → Stands q qlog → Ahead L q qlog → Follows L p log y
     → eu ≡ early L.interrupts qlog.interrupts k u → (j : ℕ) (x : Parts) → slice_get q.threads j ≡ Some x → slice_get (set y.threads k eu ++ made) j ≡ Some (early L.interrupts qlog.interrupts j x)
 threads_follow L k short p q log qlog t u made c o y eu d sp sq aq f is j x e =
-    let n = committed-parts k short p q log qlog t u made c o d in
+    let n = has_committed-parts k short p q log qlog t u made c o d in
     let sizes : length (set y.threads k eu) ≡ length (set p.threads k u) = length-set y.threads k eu ∙ f.size ∙ sym (length-set p.threads k u) in
     elim (get_cases (set p.threads k u) made j x (ap (λ (ts : List Parts). slice_get ts j) (sym d.threads) ∙ e)) [
       | inl there ↦ elim (cases_eq j k) [
@@ -115,10 +115,10 @@ threads_follow L k short p q log qlog t u made c o y eu d sp sq aq f is j x e =
           )
     ]
 
-sums_follow : (L : LogParts) (k : ℕ) (short : Bool) (p q : Sphere) (log qlog : LogParts) (t u : Parts) (made : List Parts) (c : Commit) (o : Option Input) → Committed k short p q log qlog t u made c o → Stands p log → Ahead L q qlog
+sums_follow : (L : LogParts) (k : ℕ) (short : Bool) (p q : Sphere) (log qlog : LogParts) (t u : Parts) (made : List Parts) (c : Commit) (o : Option Input) → HasCommitted k short p q log qlog t u made c o → Stands p log → Ahead L q qlog
     → sum_from (pending L.interrupts qlog.interrupts) 0 q.threads ≡ sum_from (pending L.interrupts log.interrupts) 0 p.threads + pending_by None (interrupt_at L.interrupts k u.commits)
 sums_follow L k short p q log qlog t u made c o d sp aq =
-    let n = committed-parts k short p q log qlog t u made c o d in
+    let n = has_committed-parts k short p q log qlog t u made c o d in
     let s = says L k short p q log qlog t u made c o d sp aq in
     let f = pending L.interrupts log.interrupts in
     let g = pending L.interrupts qlog.interrupts in
@@ -146,10 +146,10 @@ sums_follow L k short p q log qlog t u made c o d sp aq =
 
 -- ---- the play does it too
 
-turn_follows : (L : LogParts) (k : ℕ) (short : Bool) (p q : Sphere) (log qlog : LogParts) (t u : Parts) (made : List Parts) (c : Commit) (o : Option Input) (y : Played) (e : Effect) → Committed k short p q log qlog t u made c o → Stands p log → Ahead L p log → Ahead L q qlog → Follows L p log y → Effects L k p q qlog t u made y e
+turn_follows : (L : LogParts) (k : ℕ) (short : Bool) (p q : Sphere) (log qlog : LogParts) (t u : Parts) (made : List Parts) (c : Commit) (o : Option Input) (y : Played) (e : Effect) → HasCommitted k short p q log qlog t u made c o → Stands p log → Ahead L p log → Ahead L q qlog → Follows L p log y → Effects L k p q qlog t u made y e
     → (y.now ≡ Turn k) × (slice_get y.threads k ≡ Some t)
 turn_follows L k short p q log qlog t u made c o y e d sp ap_ aq f es =
-    let n = committed-parts k short p q log qlog t u made c o d in
+    let n = has_committed-parts k short p q log qlog t u made c o d in
     let s : Says L k p q log qlog t u = says L k short p q log qlog t u made c o d sp aq in
     let is : slice_get y.threads k ≡ Some t = f.threads k t d.start ∙ ap Some (early_same (interrupt_at log.interrupts k t.commits) (interrupt_at L.interrupts k t.commits) t s.before_) in
     let at_ : position y.progress ≡ position p.progress = ap position f.progress in
@@ -168,10 +168,10 @@ turn_follows L k short p q log qlog t u made c o y e d sp ap_ aq f es =
     in
     (f.now ∙ turn-at L y.progress y.used y.threads k t below actor is es.live, is)
 
-goes_follow : (L : LogParts) (k : ℕ) (short : Bool) (p q : Sphere) (log qlog : LogParts) (t u : Parts) (made : List Parts) (c : Commit) (o : Option Input) (y : Played) (e e2 : Effect) (u2 : Used) → Committed k short p q log qlog t u made c o → Stands p log → Stands q qlog → Ahead L q qlog → Follows L p log y → Effects L k p q qlog t u made y e
+goes_follow : (L : LogParts) (k : ℕ) (short : Bool) (p q : Sphere) (log qlog : LogParts) (t u : Parts) (made : List Parts) (c : Commit) (o : Option Input) (y : Played) (e e2 : Effect) (u2 : Used) → HasCommitted k short p q log qlog t u made c o → Stands p log → Stands q qlog → Ahead L q qlog → Follows L p log y → Effects L k p q qlog t u made y e
     → e2 ≡ early_effect (interrupt_at L.interrupts k u.commits) e → u2 ≡ early_used (interrupt_at L.interrupts k u.commits) (record y.used { inputs = length qlog.inputs }) → Follows L q qlog (settled L y k (Goes e2 u2))
 goes_follow L k short p q log qlog t u made c o y e e2 u2 d sp sq aq f es is_e is_u =
-    let n = committed-parts k short p q log qlog t u made c o d in
+    let n = has_committed-parts k short p q log qlog t u made c o d in
     let s : Says L k p q log qlog t u = says L k short p q log qlog t u made c o d sp aq in
     let oe : Option ℕ = interrupt_at L.interrupts k u.commits in
     let used1 : Used = record y.used { inputs = length qlog.inputs } in
@@ -195,7 +195,7 @@ goes_follow L k short p q log qlog t u made c o y e e2 u2 d sp sq aq f es is_e i
       now = refl;
     }
 
-pub commit-follows : (L : LogParts) (k : ℕ) (short : Bool) (p q : Sphere) (log qlog : LogParts) (t u : Parts) (made : List Parts) (c : Commit) (o : Option Input) (y : Played) (e : Effect) → Committed k short p q log qlog t u made c o → Stands p log → Stands q qlog → Ahead L p log → Ahead L q qlog → Follows L p log y → Effects L k p q qlog t u made y e
+pub commit-follows : (L : LogParts) (k : ℕ) (short : Bool) (p q : Sphere) (log qlog : LogParts) (t u : Parts) (made : List Parts) (c : Commit) (o : Option Input) (y : Played) (e : Effect) → HasCommitted k short p q log qlog t u made c o → Stands p log → Stands q qlog → Ahead L p log → Ahead L q qlog → Follows L p log y → Effects L k p q qlog t u made y e
     → Follows L q qlog (play_one L y)
 unfolding play_one
 commit-follows L k short p q log qlog t u made c o y e d sp sq ap_ aq f es =

@@ -32,8 +32,8 @@ use Rattle.spec_protocol.specs.Serial.{laid}
 use Rattle.spec_protocol.specs.Moves.{ChunkFits, SerialFits}
 use Rattle.spec_protocol.proofs.Keeping.{run-keeps, serve-keeps}
 use Rattle.spec_protocol.proofs.Answering.{dma-most}
-use Rattle.spec_protocol.proofs.Growing.{Stands, Ahead, Committed, committed-parts, grows_of, committed-stands, SizesAhead}
-use Rattle.spec_protocol.proofs.Coming.{committed-ahead, Transferred, transferred-stands, transferred-ahead, WasRaised, raised-stands, raised-ahead}
+use Rattle.spec_protocol.proofs.Growing.{Stands, Ahead, HasCommitted, has_committed-parts, grows_of, has_committed-stands, SizesAhead}
+use Rattle.spec_protocol.proofs.Coming.{has_committed-ahead, Transferred, transferred-stands, transferred-ahead, WasRaised, raised-stands, raised-ahead}
 use Rattle.spec_protocol.proofs.Following.{Follows, Effects, look-alike}
 use Rattle.spec_protocol.proofs.FollowingCommits.{commit-follows}
 use Rattle.spec_protocol.proofs.FollowingVerdicts.{run-stops, size-says, chunk-goes, serial-goes}
@@ -66,19 +66,19 @@ grown_trans p q r plog qlog rlog a b =
 
 -- ---- a commit of a thread
 
-commit_grown : (k : ℕ) (short : Bool) (p q : Sphere) (log qlog : LogParts) (t : Parts) (e : Effect) (o : Option Input) → Committed k short p q log qlog t e.thread e.made e.commit o
+commit_grown : (k : ℕ) (short : Bool) (p q : Sphere) (log qlog : LogParts) (t : Parts) (e : Effect) (o : Option Input) → HasCommitted k short p q log qlog t e.thread e.made e.commit o
     → ((L : LogParts) (y : Played) → Stands p log → Ahead L p log → Ahead L q qlog → Follows L p log y → Effects L k p q qlog t e.thread e.made y e) → Grown p q log qlog
 commit_grown k short p q log qlog t e o d effects =
     record {
-      stands = committed-stands k short p q log qlog t e.thread e.made e.commit o d;
-      s = (committed-parts k short p q log qlog t e.thread e.made e.commit o d).s;
-      ahead = λ L a. committed-ahead L k short p q log qlog t e.thread e.made e.commit o d a;
+      stands = has_committed-stands k short p q log qlog t e.thread e.made e.commit o d;
+      s = (has_committed-parts k short p q log qlog t e.thread e.made e.commit o d).s;
+      ahead = λ L a. has_committed-ahead L k short p q log qlog t e.thread e.made e.commit o d a;
       reaches = λ L y s a f.
-          let ap_ : Ahead L p log = committed-ahead L k short p q log qlog t e.thread e.made e.commit o d a in
+          let ap_ : Ahead L p log = has_committed-ahead L k short p q log qlog t e.thread e.made e.commit o d a in
           let y2 : Played = plays L y (position p.progress) in
           subst (λ (n : ℕ). Follows L q qlog (plays L y n)) (sym d.position_)
           (commit-follows L k short p q log qlog t e.thread e.made e.commit o y2 e d s
-          (committed-stands k short p q log qlog t e.thread e.made e.commit o d s) ap_ a f (effects L y2 s ap_ a f));
+          (has_committed-stands k short p q log qlog t e.thread e.made e.commit o d s) ap_ a f (effects L y2 s ap_ a f));
     }
 
 -- ---- turns
@@ -170,7 +170,7 @@ chunk_log z log p k t how n limit =
 
 chunk_committed : (z : Numbers) (log : LogParts) (p : Sphere) (k : ℕ) (t : Parts) (how : How) (n limit : ℕ) (devices : Devices) → slice_get p.threads k ≡ Some t
     → let e = chunk_effect k p.progress.request (run p.memory t n) in
-    Committed k (is_short z.chunk how limit) p (laid (recorded_chunk z log p k t how n limit devices)) log (chunk_log z log p k t how n limit) t e.thread e.made e.commit None
+    HasCommitted k (is_short z.chunk how limit) p (laid (recorded_chunk z log p k t how n limit devices)) log (chunk_log z log p k t how n limit) t e.thread e.made e.commit None
 chunk_committed z log p k t how n limit devices is =
     let r = run p.memory t n in
     let e = chunk_effect k p.progress.request r in
@@ -196,7 +196,7 @@ chunk-grown z log p k t how n limit devices role s buffer is fits =
     let some = some_ran z log p k t how n limit role buffer fits in
     commit_grown k short p q log qlog t e None d
     (λ L y sp ap_ aq f.
-    let parts = committed-parts k short p q log qlog t e.thread e.made e.commit None d in
+    let parts = has_committed-parts k short p q log qlog t e.thread e.made e.commit None d in
     let g = grows_of k short p q log qlog t e.thread e.made e.commit None d in
     let size = size-says log.mode L.order log.order L.sizes log.sizes k r.n (position p.progress) short p.threads q.threads t g sp.order sp.sizes
     (subst (λ (os : List Actor). (rest : List Actor) × (L.order ≡ os ++ rest)) parts.order aq.order)
@@ -228,7 +228,7 @@ effect_of p k moment t devices = serial_effect k (serve k p.threads p.progress.r
 
 serial_committed : (log : LogParts) (p : Sphere) (k moment : ℕ) (t : Parts) (devices : Devices) → slice_get p.threads k ≡ Some t
     → let e = effect_of p k moment t devices in
-    Committed k false p (laid (recorded_serial log p k moment t devices)) log (serial_log log p k moment t devices) t e.thread e.made e.commit (taken (need t p.memory) devices moment).input
+    HasCommitted k false p (laid (recorded_serial log p k moment t devices)) log (serial_log log p k moment t devices) t e.thread e.made e.commit (taken (need t p.memory) devices moment).input
 serial_committed log p k moment t devices is =
     let e = effect_of p k moment t devices in
     let h = serve-keeps k p.threads p.progress.request t p.memory (taken (need t p.memory) devices moment).input in
@@ -252,7 +252,7 @@ serial-grown log p k moment t devices role is fits =
     let d = serial_committed log p k moment t devices is in
     commit_grown k false p q log qlog t e o d
     (λ L y sp ap_ aq f.
-    let parts = committed-parts k false p q log qlog t e.thread e.made e.commit o d in
+    let parts = has_committed-parts k false p q log qlog t e.thread e.made e.commit o d in
     let g = grows_of k false p q log qlog t e.thread e.made e.commit o d in
     let size = size-says log.mode L.order log.order L.sizes log.sizes k 0 (position p.progress) false p.threads q.threads t g sp.order sp.sizes
     (subst (λ (os : List Actor). (rest : List Actor) × (L.order ≡ os ++ rest)) parts.order aq.order)

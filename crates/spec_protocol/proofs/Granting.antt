@@ -11,9 +11,9 @@ use Rattle.spec_engine.specs.Signatures.{Marks, nothing}
 use Rattle.spec_engine.specs.Flights.{Flight, at, is_full}
 use Rattle.spec_protocol.specs.Spheres.{Sphere, is_stopped, halves}
 use Rattle.spec_protocol.specs.Placing.{replays}
-use Rattle.spec_protocol.specs.Commits.{Outcome, Granted, Piece, Diverged, Moved}
-use Rattle.spec_protocol.specs.World.{Held, World, moment, sphere_at, with_sphere, begun, flown}
-use Rattle.spec_protocol.specs.Asking.{Request, point_at, move_at, world_with, granted}
+use Rattle.spec_protocol.specs.Commits.{CommitOutcome, Granted, Piece, Diverged, Moved}
+use Rattle.spec_protocol.specs.World.{Held, World, moment, sphere_at, with_sphere, held_afresh, flown}
+use Rattle.spec_protocol.specs.Asking.{CommitRequest, point_at, move_at, world_with, granted}
 use Rattle.spec_protocol.specs.Serial.{do_moved}
 use Rattle.spec_protocol.specs.Shown.{flying, shown_of}
 use Rattle.spec_protocol.specs.Moves.{do_move, Fits}
@@ -23,17 +23,17 @@ use Rattle.spec_protocol.proofs.Moving.{Divergence, MovesOnly}
 use Rattle.spec_protocol.proofs.Relaying.{relaid}
 use Rattle.spec_protocol.proofs.Invariant.{SameSizes, point_for, PointOf, Kept, point-made, point-other, sphere-same}
 use Rattle.spec_protocol.proofs.OnCores.{set-cases, alone-set}
-use Rattle.spec_protocol.proofs.Landing.{begun-begins, begun-held, moved_world, Lands, landed-held, elsewhere-held, moved-shown}
-use Rattle.spec_protocol.specs.Invariants.{IsCovered, IsGoodChunk, current, IsGoodHeld, IsGood}
+use Rattle.spec_protocol.proofs.Landing.{afresh-begins, afresh-held, moved_world, Lands, landed-held, elsewhere-held, moved-shown}
+use Rattle.spec_protocol.specs.Invariants.{IsFlightCovered, IsGoodChunk, current, IsGoodHeld, IsGood}
 use Rattle.spec_protocol.specs.Currency.{AllLack}
 
 -- ---- a request that is granted, or diverges
 
-abbrev pub request_flight : World → (core : ℕ) → Request → Marks → Moved → Flight
+abbrev pub request_flight : World → (core : ℕ) → CommitRequest → Marks → Moved → Flight
 request_flight w c q writes v = record { sphere = q.sphere; words = v.words; writes = writes; told = 2 ^ c }
 
 -- core c holds h, whose request q moves its sphere by v; its stores meet no flight, and v is what it gives on current memory
-pub record Grants (w : World) (c : ℕ) (h : Held) (q : Request) (writes : Marks) (v : Moved) : Type 0 where
+pub record Grants (w : World) (c : ℕ) (h : Held) (q : CommitRequest) (writes : Marks) (v : Moved) : Type 0 where
   pub is : at w.cores c ≡ Some h
   pub sphere : h.chunk.sphere ≡ q.sphere
   pub thread : h.thread ≡ q.thread
@@ -41,7 +41,7 @@ pub record Grants (w : World) (c : ℕ) (h : Held) (q : Request) (writes : Marks
   pub going : is_stopped (sphere_at w q.sphere).role ≡ false
   pub moves : MovesOnly q.thread w.devices (sphere_at w q.sphere) v
   pub free : is_full w.slots ≡ false
-  pub covered : IsCovered w.numbers.signature (request_flight w c q writes v)
+  pub covered : IsFlightCovered w.numbers.signature (request_flight w c q writes v)
   pub lack : AllLack v.words (flying q.sphere w.slots)
   -- a plain or recorded sphere grants it, and the point tells it
   pub lives : replays (sphere_at w q.sphere).role ≡ false → v.outcome ≡ Granted
@@ -49,17 +49,17 @@ pub record Grants (w : World) (c : ℕ) (h : Held) (q : Request) (writes : Marks
   pub whole : do_move w.numbers (shown_of w) (move_at (moment w) q) ≡ do_moved (shown_of w) q.sphere (relaid (current w q.sphere) v)
   pub fits : Fits w.numbers (shown_of w) (move_at (moment w) q)
 
-grant_flew : (w : World) (c : ℕ) (h : Held) (q : Request) (writes : Marks) (v : Moved) → IsGood w → Grants w c h q writes v
+grant_flew : (w : World) (c : ℕ) (h : Held) (q : CommitRequest) (writes : Marks) (v : Moved) → IsGood w → Grants w c h q writes v
     → Flew q.sphere (request_flight w c q writes v) w.slots (flown q.sphere v.words writes (2 ^ c) w.slots)
 grant_flew w c h q writes v good g =
     flown-flew q.sphere v.words writes (2 ^ c) w.slots g.free (good.apart q.sphere) g.moves.apart g.lack
 
 -- another core's thread in the sphere is another thread
-other_thread : (w : World) (c d : ℕ) (h x : Held) (q : Request) (writes : Marks) (v : Moved) → IsGood w → Grants w c h q writes v → d ≢ c → at w.cores d ≡ Some x → x.chunk.sphere ≡ q.sphere → x.thread ≢ q.thread
+other_thread : (w : World) (c d : ℕ) (h x : Held) (q : CommitRequest) (writes : Marks) (v : Moved) → IsGood w → Grants w c h q writes v → d ≢ c → at w.cores d ≡ Some x → x.chunk.sphere ≡ q.sphere → x.thread ≢ q.thread
 other_thread w c d h x q writes v good g ne there same e =
     ne (good.alone d c x h there g.is (same ∙ sym g.sphere) (e ∙ sym g.thread))
 
-granted_lands : (w : World) (c d : ℕ) (h x : Held) (q : Request) (writes : Marks) (v : Moved) → IsGood w → Grants w c h q writes v → d ≢ c → at w.cores d ≡ Some x → x.chunk.sphere ≡ q.sphere
+granted_lands : (w : World) (c d : ℕ) (h x : Held) (q : CommitRequest) (writes : Marks) (v : Moved) → IsGood w → Grants w c h q writes v → d ≢ c → at w.cores d ≡ Some x → x.chunk.sphere ≡ q.sphere
     → Lands w q.sphere v.sphere (request_flight w c q writes v) (flown q.sphere v.words writes (2 ^ c) w.slots) d x
 granted_lands w c d h x q writes v good g ne there same =
     let other = other_thread w c d h x q writes v good g ne there same in
@@ -78,12 +78,12 @@ granted_lands w c d h x q writes v good g ne there same =
       limits = keeps.limits w.numbers.chunk x.thread x.chunk.start other;
     }
 
-granted_good : (w : World) (c : ℕ) (h : Held) (q : Request) (writes : Marks) (v : Moved) → IsGood w → Grants w c h q writes v → IsGood (world_with w c q writes v)
+granted_good : (w : World) (c : ℕ) (h : Held) (q : CommitRequest) (writes : Marks) (v : Moved) → IsGood w → Grants w c h q writes v → IsGood (world_with w c q writes v)
 granted_good w c h q writes v good g =
     let flew = grant_flew w c h q writes v good g in
     let f = request_flight w c q writes v in
     let u = world_with w c q writes v in
-    let o = begun w.numbers q.sphere q.thread v.sphere in
+    let o = held_afresh w.numbers q.sphere q.thread v.sphere in
     let count = length-set w.spheres q.sphere v.sphere in
     let there : sphere_at u q.sphere ≡ v.sphere = sphere-same w.spheres q.sphere v.sphere g.within in
     record {
@@ -95,7 +95,7 @@ granted_good w c h q writes v good g =
       ];
       covered = λ k x e. elim (flew.stood k x e) [
         | inl p ↦ good.covered k x p
-        | inr p ↦ subst (IsCovered w.numbers.signature) (sym p) g.covered
+        | inr p ↦ subst (IsFlightCovered w.numbers.signature) (sym p) g.covered
       ];
       flights = λ k x e. subst (λ (n : ℕ). x.sphere < n) (sym count) (elim (flew.stood k x e) [
         | inl p ↦ good.flights k x p
@@ -103,7 +103,7 @@ granted_good w c h q writes v good g =
       ]);
       held = λ d x e. elim (set-cases w.cores c d o x e) [
         | inl p ↦ subst (λ (n : ℕ). IsGoodHeld u n x) (sym p.0)
-            (begun-held u q.sphere q.thread c v.sphere x (subst (λ (n : ℕ). q.sphere < n) (sym count) g.within) good.standard there (begun-begins w.numbers q.sphere q.thread v.sphere x p.1))
+            (afresh-held u q.sphere q.thread c v.sphere x (subst (λ (n : ℕ). q.sphere < n) (sym count) g.within) good.standard there (afresh-begins w.numbers q.sphere q.thread v.sphere x p.1))
         | inr p ↦ elim (cases_eq x.chunk.sphere q.sphere) [
           | inl same ↦ landed-held w q.sphere v.sphere f u.slots u.cores v.devices d x same (granted_lands w c d h x q writes v good g p.0 p.1 same) (good.held d x p.1)
           | inr ne ↦ elsewhere-held w q.sphere v.sphere f u.slots u.cores v.devices d x ne flew (good.held d x p.1)
@@ -111,22 +111,22 @@ granted_good w c h q writes v good g =
       ];
       alone = alone-set w.cores c o good.alone
           (λ y e d x ne there sphere thread.
-          let b = begun-begins w.numbers q.sphere q.thread v.sphere y e in
+          let b = afresh-begins w.numbers q.sphere q.thread v.sphere y e in
           other_thread w c d h x q writes v good g ne there (sym sphere ∙ ap (λ (z : Held). z.chunk.sphere) (sym b.is)) (sym thread ∙ ap (λ (z : Held). z.thread) (sym b.is)));
     }
 
-granted_sizes : (w : World) (c : ℕ) (h : Held) (q : Request) (writes : Marks) (v : Moved) → IsGood w → Grants w c h q writes v → SameSizes w (world_with w c q writes v)
+granted_sizes : (w : World) (c : ℕ) (h : Held) (q : CommitRequest) (writes : Marks) (v : Moved) → IsGood w → Grants w c h q writes v → SameSizes w (world_with w c q writes v)
 granted_sizes w c h q writes v good g =
     record {
       numbers = refl;
       spheres = length-set w.spheres q.sphere v.sphere;
-      cores = length-set w.cores c (begun w.numbers q.sphere q.thread v.sphere);
+      cores = length-set w.cores c (held_afresh w.numbers q.sphere q.thread v.sphere);
       slots = (grant_flew w c h q writes v good g).size;
     }
 
-granted_whole : (w : World) (c : ℕ) (h : Held) (q : Request) (writes : Marks) (v : Moved) → IsGood w → Grants w c h q writes v → shown_of (world_with w c q writes v) ≡ do_move w.numbers (shown_of w) (move_at (moment w) q)
+granted_whole : (w : World) (c : ℕ) (h : Held) (q : CommitRequest) (writes : Marks) (v : Moved) → IsGood w → Grants w c h q writes v → shown_of (world_with w c q writes v) ≡ do_move w.numbers (shown_of w) (move_at (moment w) q)
 granted_whole w c h q writes v good g =
-    moved-shown w q.sphere v (request_flight w c q writes v) (flown q.sphere v.words writes (2 ^ c) w.slots) (set w.cores c (begun w.numbers q.sphere q.thread v.sphere)) g.moves.keeps.memory refl (grant_flew w c h q writes v good g)
+    moved-shown w q.sphere v (request_flight w c q writes v) (flown q.sphere v.words writes (2 ^ c) w.slots) (set w.cores c (held_afresh w.numbers q.sphere q.thread v.sphere)) g.moves.keeps.memory refl (grant_flew w c h q writes v good g)
     ∙ sym g.whole
 
 -- ---- a divergence, which stops the sphere
@@ -188,7 +188,7 @@ stopped-shown w i v good memory words devices =
     sym (λ j. shown_of (moved_world w i v.sphere w.slots w.cores (devices j)))
     ∙ moved-shown w i v f w.slots w.cores memory refl (unflown w i f good words)
 
-pub granted-kept : (w : World) (c : ℕ) (h : Held) (q : Request) (writes : Marks) (v : Moved) (o : Outcome) → v.outcome ≡ o → IsGood w → Grants w c h q writes v → Kept w (granted w c q writes v o)
+pub granted-kept : (w : World) (c : ℕ) (h : Held) (q : CommitRequest) (writes : Marks) (v : Moved) (o : CommitOutcome) → v.outcome ≡ o → IsGood w → Grants w c h q writes v → Kept w (granted w c q writes v o)
 granted-kept w c h q writes v Granted is good g =
     let m = move_at (moment w) q in
     let b = replays (sphere_at w q.sphere).role in

@@ -99,7 +99,7 @@ pub record Ahead (L : LogParts) (p : Sphere) (log : LogParts) : Type 0 where
 -- ---- a commit of a thread
 
 -- thread k, which was t and is u, commits c; its step spawns these threads and takes this input
-pub record Committed (k : ℕ) (short : Bool) (p q : Sphere) (log qlog : LogParts) (t u : Parts) (spawned : List Parts) (c : Commit) (o : Option Input) : Type 0 where
+pub record HasCommitted (k : ℕ) (short : Bool) (p q : Sphere) (log qlog : LogParts) (t u : Parts) (spawned : List Parts) (c : Commit) (o : Option Input) : Type 0 where
   pub start : slice_get p.threads k ≡ Some t
   pub threads : q.threads ≡ set p.threads k u ++ spawned
   pub commits : u.commits ≡ t.commits + 1
@@ -140,8 +140,8 @@ pub record Parts' (k : ℕ) (short : Bool) (log qlog : LogParts) (i n : ℕ) (o 
   pub interrupts : qlog.interrupts ≡ log.interrupts
   pub dmas : qlog.dmas ≡ log.dmas
 
-pub committed-parts : (k : ℕ) (short : Bool) (p q : Sphere) (log qlog : LogParts) (t u : Parts) (made : List Parts) (c : Commit) (o : Option Input) → Committed k short p q log qlog t u made c o → Parts' k short log qlog t.commits c.size o
-committed-parts k short p q log qlog t u made c o d =
+pub has_committed-parts : (k : ℕ) (short : Bool) (p q : Sphere) (log qlog : LogParts) (t u : Parts) (made : List Parts) (c : Commit) (o : Option Input) → HasCommitted k short p q log qlog t u made c o → Parts' k short log qlog t.commits c.size o
+has_committed-parts k short p q log qlog t u made c o d =
     let a = inputs_apart o (noted c t.commits short log) in
     record {
       mode = ap (λ (l : LogParts). l.mode) d.log_ ∙ a.mode;
@@ -159,7 +159,7 @@ pub record Grows (k : ℕ) (ts us : List Parts) (t : Parts) : Type 0 where
   pub was : commits_in ts k ≡ t.commits
   pub other : (j : ℕ) → j ≢ k → commits_in us j ≡ commits_in ts j
 
-pub grows_of : (k : ℕ) (short : Bool) (p q : Sphere) (log qlog : LogParts) (t u : Parts) (made : List Parts) (c : Commit) (o : Option Input) → Committed k short p q log qlog t u made c o → Grows k p.threads q.threads t
+pub grows_of : (k : ℕ) (short : Bool) (p q : Sphere) (log qlog : LogParts) (t u : Parts) (made : List Parts) (c : Commit) (o : Option Input) → HasCommitted k short p q log qlog t u made c o → Grows k p.threads q.threads t
 grows_of k short p q log qlog t u made c o d =
     record {
       same = ap (λ (ts : List Parts). commits_in ts k) d.threads ∙ commits-same p.threads made k t u d.start ∙ d.commits ∙ omega arith;
@@ -238,9 +238,9 @@ append_none [] made j e = refl
 append_none (t ∷ ts) made zero e = e
 append_none (t ∷ ts) made (suc j) e = append_none ts made j e
 
-pub committed-stands : (k : ℕ) (short : Bool) (p q : Sphere) (log qlog : LogParts) (t u : Parts) (made : List Parts) (c : Commit) (o : Option Input) → Committed k short p q log qlog t u made c o → Stands p log → Stands q qlog
-committed-stands k short p q log qlog t u made c o d s =
-    let n = committed-parts k short p q log qlog t u made c o d in
+pub has_committed-stands : (k : ℕ) (short : Bool) (p q : Sphere) (log qlog : LogParts) (t u : Parts) (made : List Parts) (c : Commit) (o : Option Input) → HasCommitted k short p q log qlog t u made c o → Stands p log → Stands q qlog
+has_committed-stands k short p q log qlog t u made c o d s =
+    let n = has_committed-parts k short p q log qlog t u made c o d in
     let g = grows_of k short p q log qlog t u made c o d in
     let ints : (j i : ℕ) → interrupt_at qlog.interrupts j i ≡ interrupt_at log.interrupts j i = (λ j i. ap (λ (is : _). interrupt_at is j i) n.interrupts) in
     record {

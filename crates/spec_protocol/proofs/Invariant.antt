@@ -139,8 +139,8 @@ point-other z false m o replayed is = absurd (replayed refl)
 
 -- ---- an event that answers and does nothing
 
-pub still-kept : (w : World) (a : After) → a.world ≡ w → a.move ≡ None → a.point ≡ None → IsGood w → Kept w a
-still-kept w a world move point good =
+pub unchanged-kept : (w : World) (a : After) → a.world ≡ w → a.move ≡ None → a.point ≡ None → IsGood w → Kept w a
+unchanged-kept w a world move point good =
     record {
       good = subst IsGood (sym world) good;
       sizes = subst (SameSizes w) (sym world) (same_sizes w);

@@ -32,7 +32,7 @@ use Rattle.spec_protocol.specs.Logged.{Supplied, actors_of, is_short_chunk, logg
 use Rattle.spec_protocol.proofs.Moving.{get-set_other, get-set_same}
 use Rattle.spec_protocol.proofs.Keeping.{run-keeps, serve-keeps}
 use Rattle.spec_protocol.proofs.Lookups.{count_of}
-use Rattle.spec_protocol.proofs.Growing.{commits_in, commits_if, Committed, Grows, grows_of, counts-stand}
+use Rattle.spec_protocol.proofs.Growing.{commits_in, commits_if, HasCommitted, Grows, grows_of, counts-stand}
 use Rattle.spec_protocol.proofs.OnePointMore.{points_so, points-more, commits_of, actors-append}
 use Rattle.spec_protocol.proofs.NotedPoints.{commit-told, dma-told, raise-told}
 use Rattle.spec_protocol.proofs.Spawning.{AreFew, serve-few}
@@ -57,7 +57,7 @@ more_actors cs c = ap actors_of (points-more cs c) ∙ actors-append (points_so 
 -- ---- a commit of a thread
 
 commit_keeps : (mode : ModeName) (s : ℕ) (cs : List Supplied) (moment i k size : ℕ) (kind : CommitKind) (short : Bool) (o : Option Input) (bytes : List ℕ) (p q : Sphere) (qlog : LogParts) (t u : Parts) (made : List Parts) (commit : Commit)
-    → Keeps mode s cs p → Committed k (is_short_chunk kind short) p q (logged mode s cs) qlog t u made commit o → q.role ≡ Record qlog → commit.size ≡ size → AreFew p.threads made
+    → Keeps mode s cs p → HasCommitted k (is_short_chunk kind short) p q (logged mode s cs) qlog t u made commit o → q.role ≡ Record qlog → commit.size ≡ size → AreFew p.threads made
     → Keeps mode s (cs ++ record { point = Point.Commit moment i (Actor.Thread k) kind size short; input = o; bytes = bytes } ∷ []) q
 commit_keeps mode s cs moment i k size kind short o bytes p q qlog t u made commit keeps d role sized few =
     let ps = points_so cs in
@@ -82,7 +82,7 @@ chunk-keeps mode s cs moment i k size short p t devices keeps is ran =
     let e = chunk_effect k p.progress.request r in
     let log = logged mode s cs in
     let q = laid (recorded_chunk log k short r devices p) in
-    let d : Committed k short p q log (noted e.commit r.thread.commits short log) t e.thread e.made e.commit None =
+    let d : HasCommitted k short p q log (noted e.commit r.thread.commits short log) t e.thread e.made e.commit None =
     record {
       start = is;
       threads = refl;
@@ -106,7 +106,7 @@ serial-keeps mode s cs moment i k size short p t devices keeps is empty =
     let h = serve-keeps k p.threads p.progress.request t p.memory g.input in
     let log = logged mode s cs in
     let q = laid (recorded_serial log k moment t devices p) in
-    let d : Committed k false p q log (serial_noted k t g log p) t e.thread e.made e.commit g.input =
+    let d : HasCommitted k false p q log (serial_noted k t g log p) t e.thread e.made e.commit g.input =
     record {
       start = is;
       threads = refl;

@@ -12,11 +12,12 @@ use Rattle.spec_kernel.specs.Interrupts.{is_live}
 use Rattle.spec_engine.specs.Signatures.{Marks, covers, hits, line}
 use Rattle.spec_engine.specs.Flights.{Flight, told_at}
 use Rattle.spec_engine.specs.Chunks.{Chunk, fresh}
+use Rattle.spec_engine.specs.Laws.{CoversWords}
 use Rattle.spec_engine.proofs.Marking.{covers_hit}
 use Rattle.spec_protocol.specs.Spheres.{Role, Plain, Record, Replay, Sphere, is_stopped, limit_of, halves}
 use Rattle.spec_protocol.specs.Placing.{replays}
 use Rattle.spec_protocol.specs.Commits.{Moved}
-use Rattle.spec_protocol.specs.World.{Numbers, Held, World, sphere_at, begun_thread, begun}
+use Rattle.spec_protocol.specs.World.{Numbers, Held, World, sphere_at, thread_afresh, held_afresh}
 use Rattle.spec_protocol.specs.Serial.{do_moved}
 use Rattle.spec_protocol.specs.Shown.{flying, shown, shown_from, shown_of}
 use Rattle.spec_protocol.proofs.Laying.{Agree-unseen, Unseen}
@@ -25,8 +26,8 @@ use Rattle.spec_protocol.proofs.Running.{Live_local}
 use Rattle.spec_protocol.proofs.Relaying.{relaid}
 use Rattle.spec_protocol.proofs.Invariant.{sphere-same, sphere-other, shown-set}
 use Rattle.spec_protocol.proofs.OnFlights.{held-beside}
-use Rattle.spec_protocol.specs.Currency.{seen_by, CoversAll}
-use Rattle.spec_protocol.specs.Invariants.{IsCovered, IsGoodChunk, current, IsGoodHeld}
+use Rattle.spec_protocol.specs.Currency.{seen_by}
+use Rattle.spec_protocol.specs.Invariants.{IsFlightCovered, IsGoodChunk, current, IsGoodHeld}
 
 -- ---- a chunk at its beginning
 
@@ -57,30 +58,30 @@ fresh-good capacity bits xs c m i t limit halving positive =
       live = λ q. record { runs = refl; touches = λ j l. absurd (omega arith); next_touches = λ e. absurd (none-some _ e); next_serial = λ e. absurd (none-some _ e) };
     }
 
-abbrev begun_as : Numbers → (i k : ℕ) → Sphere → Parts → Held
-begun_as z i k p t = record { thread = k; chunk = fresh z.signature i t (limit_of z.chunk p.role k t) (halves p.role) }
+abbrev afresh : Numbers → (i k : ℕ) → Sphere → Parts → Held
+afresh z i k p t = record { thread = k; chunk = fresh z.signature i t (limit_of z.chunk p.role k t) (halves p.role) }
 
 -- what a core begins with, if it does: a live thread of the sphere
 pub record Begins (z : Numbers) (i k : ℕ) (p : Sphere) (h : Held) : Type 0 where
   pub state : Parts
   pub start : slice_get p.threads k ≡ Some state
   pub lives : is_live state ≡ true
-  pub is : begun_as z i k p state ≡ h
+  pub is : afresh z i k p state ≡ h
 
-begins_if : (z : Numbers) (i k : ℕ) (p : Sphere) (h : Held) (t : Parts) (b : Bool) → slice_get p.threads k ≡ Some t → is_live t ≡ b → cond b (Some (begun_as z i k p t)) None ≡ Some h → Begins z i k p h
-begins_if z i k p h t true start lives e = record { state = t; start = start; lives = lives; is = (let q : begun_as z i k p t ≡ h = cc in q) }
+begins_if : (z : Numbers) (i k : ℕ) (p : Sphere) (h : Held) (t : Parts) (b : Bool) → slice_get p.threads k ≡ Some t → is_live t ≡ b → cond b (Some (afresh z i k p t)) None ≡ Some h → Begins z i k p h
+begins_if z i k p h t true start lives e = record { state = t; start = start; lives = lives; is = (let q : afresh z i k p t ≡ h = cc in q) }
 begins_if z i k p h t false start lives e = absurd (none-some h e)
 
-begins_thread : (z : Numbers) (i k : ℕ) (p : Sphere) (h : Held) (o : Option Parts) → slice_get p.threads k ≡ o → begun_thread z i k p o ≡ Some h → Begins z i k p h
+begins_thread : (z : Numbers) (i k : ℕ) (p : Sphere) (h : Held) (o : Option Parts) → slice_get p.threads k ≡ o → thread_afresh z i k p o ≡ Some h → Begins z i k p h
 begins_thread z i k p h None start e = absurd (none-some h e)
 begins_thread z i k p h (Some t) start e = begins_if z i k p h t (is_live t) start refl e
 
-pub begun-begins : (z : Numbers) (i k : ℕ) (p : Sphere) (h : Held) → begun z i k p ≡ Some h → Begins z i k p h
-begun-begins z i k p h e = begins_thread z i k p h (slice_get p.threads k) refl e
+pub afresh-begins : (z : Numbers) (i k : ℕ) (p : Sphere) (h : Held) → held_afresh z i k p ≡ Some h → Begins z i k p h
+afresh-begins z i k p h e = begins_thread z i k p h (slice_get p.threads k) refl e
 
 -- in a world whose sphere i is p
-pub begun-held : (v : World) (i k c : ℕ) (p : Sphere) (h : Held) → i < length v.spheres → 0 < v.numbers.chunk → sphere_at v i ≡ p → Begins v.numbers i k p h → IsGoodHeld v c h
-begun-held v i k c p h within positive there b =
+pub afresh-held : (v : World) (i k c : ℕ) (p : Sphere) (h : Held) → i < length v.spheres → 0 < v.numbers.chunk → sphere_at v i ≡ p → Begins v.numbers i k p h → IsGoodHeld v c h
+afresh-held v i k c p h within positive there b =
     let t = b.state in
     subst (IsGoodHeld v c) b.is
     (record {
@@ -100,7 +101,7 @@ abbrev pub moved_world : World → (i : ℕ) → Sphere → List (Option Flight)
 moved_world w i q ys cores devices = record w { spheres = set w.spheres i q; slots = ys; cores = cores; devices = devices }
 
 -- words of a signature that does not hit these reads
-pub unhit-unseen : (i : ℕ) (g : Marks) (ch : Chunk) (ws : List Stored) → ch.sphere ≡ i → ch.reads.bits ≡ g.bits → CoversAll i g ws → hits g ch.reads ≡ false → Unseen (seen_by ch) ws
+pub unhit-unseen : (i : ℕ) (g : Marks) (ch : Chunk) (ws : List Stored) → ch.sphere ≡ i → ch.reads.bits ≡ g.bits → CoversWords i g ws → hits g ch.reads ≡ false → Unseen (seen_by ch) ws
 unhit-unseen i g ch [] same size c e = tt
 unhit-unseen i g ch (w ∷ ws) same size c e = (
   false_from_ne_true (seen_by ch w.word)
@@ -108,7 +109,7 @@ unhit-unseen i g ch (w ∷ ws) same size c e = (
   unhit-unseen i g ch ws same size c.1 e,
 )
 
-landed_chunk : (capacity bits : ℕ) (xs ys : List (Option Flight)) (d : ℕ) (m : List ℕ) (ch : Chunk) (f : Flight) → Flew ch.sphere f xs ys → f.sphere ≡ ch.sphere → IsCovered bits f → told_at f.told d ≡ false → IsGoodChunk capacity bits xs d m ch
+landed_chunk : (capacity bits : ℕ) (xs ys : List (Option Flight)) (d : ℕ) (m : List ℕ) (ch : Chunk) (f : Flight) → Flew ch.sphere f xs ys → f.sphere ≡ ch.sphere → IsFlightCovered bits f → told_at f.told d ≡ false → IsGoodChunk capacity bits xs d m ch
     → IsGoodChunk capacity bits ys d (lays m f.words) ch
 landed_chunk capacity bits xs ys d m ch f flew same cov untold good =
     record {
@@ -133,7 +134,7 @@ pub record Lands (w : World) (i : ℕ) (q : Sphere) (f : Flight) (ys : List (Opt
   pub within : i < length w.spheres
   pub flew : Flew i f w.slots ys
   pub sphere : f.sphere ≡ i
-  pub covered : IsCovered w.numbers.signature f
+  pub covered : IsFlightCovered w.numbers.signature f
   pub untold : told_at f.told d ≡ false
   pub memory : q.memory ≡ (sphere_at w i).memory
   pub going : is_stopped (sphere_at w i).role ≡ false

@@ -28,7 +28,7 @@ use Rattle.spec_play.specs.Turns.{Now, Turn, TurnOfDma, Over}
 use Rattle.spec_play.specs.Verdicts.{Verdict, Goes, Fails, unless, interrupt_at, with_interrupted, chunk_why, chunk_verdict, Given, given, serial_why, served_verdict, serial_verdict}
 use Rattle.spec_play.specs.Plays.{with_threads}
 use Rattle.spec_protocol.specs.Spheres.{Book, Role, Plain, Record, Replay, Sphere, is_over, is_stopped, actor_of, head_in, whole_limit, pieces_of, limit_in, limit_of, halves}
-use Rattle.spec_protocol.specs.Commits.{Outcome, Granted, Piece, Diverged, Moved, granted_as, by_verdict, joined, piece_moved, replayed_chunk, chunk_in, chunk_moved, serial_in, serial_moved, serial_noted}
+use Rattle.spec_protocol.specs.Commits.{CommitOutcome, Granted, Piece, Diverged, Moved, granted_as, by_verdict, joined, piece_moved, replayed_chunk, chunk_in, chunk_moved, serial_in, serial_moved, serial_noted}
 use Rattle.spec_protocol.specs.Asking.{other_turn}
 use Rattle.spec_protocol.specs.Placing.{replays}
 use Rattle.spec_kernel.specs.Answers.{taken}
@@ -89,7 +89,7 @@ pub record KeepsOthers (k : ℕ) (p q : Sphere) : Type 0 where
   pub limits : (s j : ℕ) (t : Parts) → j ≢ k → is_stopped q.role ≡ false → limit_of s q.role j t ≡ limit_of s p.role j t
 
 -- a divergence stores nothing, changes no thread and no device, and stops the sphere
-abbrev pub Divergence : Devices → Sphere → Moved → Outcome → Type 0
+abbrev pub Divergence : Devices → Sphere → Moved → CommitOutcome → Type 0
 Divergence devices p v Granted = Unit {0}
 Divergence devices p v Piece = Unit {0}
 Divergence devices p v (Diverged i why) = (v.words ≡ []) × (v.devices ≡ devices) × (v.sphere.threads ≡ p.threads) × (is_stopped v.sphere.role ≡ true)

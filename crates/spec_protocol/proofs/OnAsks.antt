@@ -4,7 +4,7 @@ use Rattle.std.specs.Prelude.{slice_get, IsSome}
 use Rattle.std.proofs.lemmas.Bool.{true≢false, and_parts, and_from, or_parts, eqb-true, eqb-false, eq-eqb, not-true, not-false}
 use Rattle.dl_entry.specs.declared.Actor.{Actor}
 use Rattle.spec_isa.specs.Words.{Stored, lays}
-use Rattle.spec_isa.specs.Runs.{Run, begun as run_begun, run}
+use Rattle.spec_isa.specs.Runs.{Run, begun, run}
 use Rattle.spec_log.specs.declared.ModeName.{ModeName}
 use Rattle.spec_kernel.specs.Needs.{next_kind}
 use Rattle.spec_engine.specs.declared.answers.How.{How}
@@ -12,24 +12,25 @@ use Rattle.spec_engine.specs.Signatures.{hits, nothing, signed}
 use Rattle.spec_engine.specs.Flights.{Flight, at, first_slot, is_full, meets_chunk, is_of_sphere}
 use Rattle.spec_engine.specs.Chunks.{Chunk, is_serial, is_empty_serial}
 use Rattle.spec_engine.specs.Asking.{denied_by, busy_by}
+use Rattle.spec_engine.specs.Laws.{CoversWords}
 use Rattle.spec_engine.proofs.Searches.{first_none}
 use Rattle.spec_protocol.specs.declared.reply.Reply.{Reply}
 use Rattle.spec_protocol.specs.Spheres.{Role, Plain, Record, Replay, Sphere, is_stopped, recording_turn, head_in, head_of, is_in_pieces}
 use Rattle.spec_protocol.specs.Commits.{Moved, is_piece, chunk_moved, serial_moved}
-use Rattle.spec_protocol.specs.World.{Held, World, moment, sphere_at, After, still}
+use Rattle.spec_protocol.specs.World.{Held, World, moment, sphere_at, After, answered}
 use Rattle.spec_protocol.specs.Asking.{move_at, is_short, chunk_request, grant_chunk, unless_denied, serial_request, grant_serial, unless_busy, asks_serial, ask_arbiter, other_turn, unless_turn, ask_closed, ask_held, asking}
 use Rattle.spec_protocol.specs.Serial.{do_moved, do_serial}
 use Rattle.spec_protocol.specs.Shown.{flying, shown, shown_of}
 use Rattle.spec_protocol.specs.Moves.{move_chunk, do_at, do_move, ChunkFits, SerialFits, FitsChunk, FitsSerial, FitsAt, Fits}
 use Rattle.spec_protocol.proofs.Laying.{AllLack_nil, AllLack_flip}
 use Rattle.spec_protocol.proofs.Slots.{words-other}
-use Rattle.spec_protocol.proofs.Covering.{bits-signed, CoversAll-signed, apart-covered, flying-all_lack}
+use Rattle.spec_protocol.proofs.Covering.{bits-signed, CoversWords-signed, apart-covered, flying-all_lack}
 use Rattle.spec_protocol.proofs.Moving.{HasTurn, chunk-stores, chunk-lives, serial-lives, chunk-moves, serial-moves}
 use Rattle.spec_protocol.proofs.Relaying.{over, relaid, chunk-relaid}
-use Rattle.spec_protocol.proofs.Invariant.{Kept, shown-get, still-kept}
+use Rattle.spec_protocol.proofs.Invariant.{Kept, shown-get, unchanged-kept}
 use Rattle.spec_protocol.proofs.OnCores.{branch}
 use Rattle.spec_protocol.proofs.Granting.{Grants, granted-kept}
-use Rattle.spec_protocol.specs.Currency.{IsCurrent, CoversAll, AllLack}
+use Rattle.spec_protocol.specs.Currency.{IsCurrent, AllLack}
 use Rattle.spec_protocol.specs.Invariants.{current, IsGoodHeld, IsGood}
 
 -- ---- what is shown of the sphere that asks
@@ -73,7 +74,7 @@ chunk_lacks w c h good held none =
     (λ k f is same.
     let cov = good.covered k f is in
     AllLack_flip f.words h.chunk.done.words
-    (apart-covered h.chunk.sphere f.writes h.chunk.writes f.words h.chunk.done.words (held.chunk.writes_size ∙ sym cov.size) (subst (λ (n : ℕ). CoversAll n f.writes f.words) same cov.words) held.chunk.writes
+    (apart-covered h.chunk.sphere f.writes h.chunk.writes f.words h.chunk.done.words (held.chunk.writes_size ∙ sym cov.size) (subst (λ (n : ℕ). CoversWords n f.writes f.words) same cov.words) held.chunk.writes
     (never_hits w h.chunk none k f is).1))
 
 chunk_live : (w : World) (c : ℕ) (h : Held) → IsGoodHeld w c h → first_slot (meets_chunk h.chunk.reads h.chunk.writes) w.slots ≡ None → IsCurrent (current w h.chunk.sphere) h.chunk
@@ -158,7 +159,7 @@ chunk_grants w c h how good is closed going turn free chunk none =
       free = free;
       covered = record {
         size = held.chunk.writes_size;
-        words = chunk-stores (CoversAll i h.chunk.writes) h.thread (is_piece how) short h.chunk.done w.devices p tt held.chunk.writes;
+        words = chunk-stores (CoversWords i h.chunk.writes) h.thread (is_piece how) short h.chunk.done w.devices p tt held.chunk.writes;
       };
       lack = chunk-stores (λ (ws : List Stored). AllLack ws (flying i w.slots)) h.thread (is_piece how) short h.chunk.done w.devices p tt (chunk_lacks w c h good held none);
       lives = λ e. chunk-lives h.thread (is_piece how) short h.chunk.done w.devices p e;
@@ -200,7 +201,7 @@ serial_whole w h within start none memory =
 -- the thread has run nothing, and its next instruction is serial
 serial_next : (m : List ℕ) (ch : Chunk) → IsCurrent m ch → ch.closed ≡ Some How.Serial → ch.done.n ≡ 0 → IsSome (next_kind ch.start m)
 serial_next m ch live closed none =
-    let e : run_begun ch.start ≡ ch.done = subst (λ (n : ℕ). run m ch.start n ≡ ch.done) none live.runs in
+    let e : begun ch.start ≡ ch.done = subst (λ (n : ℕ). run m ch.start n ≡ ch.done) none live.runs in
     subst (λ (r : Run). IsSome (next_kind r.thread (lays m r.words))) (sym e) (live.next_serial closed)
 
 serial_closed : (o : Option How) → is_serial o ≡ true → o ≡ Some How.Serial
@@ -240,7 +241,7 @@ serial_grants w c h good is going turn free serial none =
       free = free;
       covered = record {
         size = bits-signed i v.words (nothing w.numbers.signature);
-        words = CoversAll-signed i v.words (nothing w.numbers.signature);
+        words = CoversWords-signed i v.words (nothing w.numbers.signature);
       };
       lack = subst (AllLack v.words) (sym empty) (AllLack_nil v.words);
       lives = λ e. serial-lives h.thread (moment w) h.chunk.start w.devices p e;
@@ -268,11 +269,11 @@ grant_serial_kept w c h good g = granted-kept w c h (serial_request h) _ (serial
 
 pub denied_kept : (w : World) (a : After) (o : Option ℕ) → IsGood w → (o ≡ None → Kept w a) → Kept w (unless_denied (denied_by o) w a)
 denied_kept w a None good kept = kept refl
-denied_kept w a (Some k) good kept = still-kept w (still w (Reply.Denied k)) refl refl refl good
+denied_kept w a (Some k) good kept = unchanged-kept w (answered w (Reply.Denied k)) refl refl refl good
 
 busy_kept : (w : World) (a : After) (o : Option ℕ) → IsGood w → (o ≡ None → Kept w a) → Kept w (unless_busy (busy_by o) w a)
 busy_kept w a None good kept = kept refl
-busy_kept w a (Some k) good kept = still-kept w (still w (Reply.SphereBusy k)) refl refl refl good
+busy_kept w a (Some k) good kept = unchanged-kept w (answered w (Reply.SphereBusy k)) refl refl refl good
 
 arbiter_kept : (w : World) (c : ℕ) (h : Held) (how : How) (serial : Bool) → IsGood w → at w.cores c ≡ Some h → h.chunk.closed ≡ Some how → is_stopped (sphere_at w h.chunk.sphere).role ≡ false → other_turn (head_of (sphere_at w h.chunk.sphere)) h.thread ≡ None
     → is_full w.slots ≡ false → asks_serial h.chunk (sphere_at w h.chunk.sphere).role ≡ serial → Kept w (ask_arbiter w c h how serial)
@@ -285,23 +286,23 @@ arbiter_kept w c h how false good is closed going turn free chunk =
 
 pub turn-kept : (w : World) (a : After) (o : Option Actor) → IsGood w → (o ≡ None → Kept w a) → Kept w (unless_turn o w a)
 turn-kept w a None good kept = kept refl
-turn-kept w a (Some actor) good kept = still-kept w (still w (Reply.NotTurn actor)) refl refl refl good
+turn-kept w a (Some actor) good kept = unchanged-kept w (answered w (Reply.NotTurn actor)) refl refl refl good
 
 closed_kept : (w : World) (c : ℕ) (h : Held) (o : Option How) → IsGood w → at w.cores c ≡ Some h → h.chunk.closed ≡ o → Kept w (ask_closed w c h o)
-closed_kept w c h None good is closed = still-kept w (still w Reply.NotClosed) refl refl refl good
+closed_kept w c h None good is closed = unchanged-kept w (answered w Reply.NotClosed) refl refl refl good
 closed_kept w c h (Some how) good is closed =
     let p = sphere_at w h.chunk.sphere in
     let turn = other_turn (head_of p) h.thread in
     let arbiter = ask_arbiter w c h how (asks_serial h.chunk p.role) in
-    branch (Kept w) (is_stopped p.role) (still w Reply.Stopped) (unless_turn turn w (cond (is_full w.slots) (still w Reply.WindowFull) arbiter))
-    (λ _. still-kept w (still w Reply.Stopped) refl refl refl good)
-    (λ going. turn-kept w (cond (is_full w.slots) (still w Reply.WindowFull) arbiter) turn good
-    (λ mine. branch (Kept w) (is_full w.slots) (still w Reply.WindowFull) arbiter
-    (λ _. still-kept w (still w Reply.WindowFull) refl refl refl good)
+    branch (Kept w) (is_stopped p.role) (answered w Reply.Stopped) (unless_turn turn w (cond (is_full w.slots) (answered w Reply.WindowFull) arbiter))
+    (λ _. unchanged-kept w (answered w Reply.Stopped) refl refl refl good)
+    (λ going. turn-kept w (cond (is_full w.slots) (answered w Reply.WindowFull) arbiter) turn good
+    (λ mine. branch (Kept w) (is_full w.slots) (answered w Reply.WindowFull) arbiter
+    (λ _. unchanged-kept w (answered w Reply.WindowFull) refl refl refl good)
     (λ free. arbiter_kept w c h how (asks_serial h.chunk p.role) good is closed going mine free refl)))
 
 ask_held_kept : (w : World) (c : ℕ) (o : Option Held) → IsGood w → at w.cores c ≡ o → Kept w (ask_held w c o)
-ask_held_kept w c None good is = still-kept w (still w Reply.Idle) refl refl refl good
+ask_held_kept w c None good is = unchanged-kept w (answered w Reply.Idle) refl refl refl good
 ask_held_kept w c (Some h) good is = closed_kept w c h h.chunk.closed good is refl
 
 pub ask-kept : (w : World) (c : ℕ) → IsGood w → Kept w (asking w c)

@@ -13,14 +13,14 @@ use Rattle.spec_engine.specs.Chunks.{Chunk, step, Cutting, cut_open, cut, is_ope
 use Rattle.spec_protocol.specs.declared.reply.Reply.{Reply}
 use Rattle.spec_protocol.specs.Spheres.{is_stopped, limit_of, halves}
 use Rattle.spec_protocol.specs.Placing.{replays}
-use Rattle.spec_protocol.specs.World.{Held, World, Move, After, sphere_at, with_core, still}
+use Rattle.spec_protocol.specs.World.{Held, World, Move, After, sphere_at, with_core, answered}
 use Rattle.spec_protocol.specs.Shown.{shown_of}
 use Rattle.spec_protocol.specs.Moves.{do_if, FitsIf}
 use Rattle.spec_protocol.specs.Stepping.{with_chunk, stepped, step_held, stepping, cut_to, cut_held, cutting}
 use Rattle.spec_protocol.proofs.Slots.{at-set_same, at-set_other}
 use Rattle.spec_protocol.proofs.Steps.{SameBase}
 use Rattle.spec_protocol.proofs.Current.{step-good}
-use Rattle.spec_protocol.proofs.Invariant.{SameSizes, PointIs, Kept, still-kept}
+use Rattle.spec_protocol.proofs.Invariant.{SameSizes, PointIs, Kept, unchanged-kept}
 use Rattle.spec_protocol.specs.Currency.{IsCurrent}
 use Rattle.spec_protocol.specs.Invariants.{IsGoodChunk, current, IsGoodHeld, IsAlone, IsGood}
 
@@ -140,17 +140,17 @@ open_is ch e =
     ] e
 
 step_held_kept : (w : World) (c : ℕ) (o : Option Held) → at w.cores c ≡ o → IsGood w → Kept w (step_held w c o)
-step_held_kept w c None is good = still-kept w (still w Reply.Idle) refl refl refl good
+step_held_kept w c None is good = unchanged-kept w (answered w Reply.Idle) refl refl refl good
 step_held_kept w c (Some h) is good =
     let p = sphere_at w h.chunk.sphere in
     let s = step w.numbers.buffer p.memory w.slots c h.chunk in
-    branch (Kept w) (is_stopped p.role) (still w Reply.Stopped) (cond (is_open h.chunk) (stepped w c h s) (still w Reply.Waiting))
-    (λ _. still-kept w (still w Reply.Stopped) refl refl refl good)
-    (λ _. branch (Kept w) (is_open h.chunk) (stepped w c h s) (still w Reply.Waiting)
+    branch (Kept w) (is_stopped p.role) (answered w Reply.Stopped) (cond (is_open h.chunk) (stepped w c h s) (answered w Reply.Waiting))
+    (λ _. unchanged-kept w (answered w Reply.Stopped) refl refl refl good)
+    (λ _. branch (Kept w) (is_open h.chunk) (stepped w c h s) (answered w Reply.Waiting)
     (λ e.
     let r = step-good w.numbers.buffer w.numbers.signature w.slots c p.memory h.chunk good.covered (open_is h.chunk e) (good.held c h is).chunk in
     chunk_kept w c h s.chunk (stepped w c h s) good is r.1 r.0 refl refl refl)
-    (λ _. still-kept w (still w Reply.Waiting) refl refl refl good))
+    (λ _. unchanged-kept w (answered w Reply.Waiting) refl refl refl good))
 
 pub step-kept : (w : World) (c : ℕ) → IsGood w → Kept w (stepping w c)
 unfolding stepping
@@ -204,10 +204,10 @@ cut_open_kept w c h None is closed good =
     (cut_good w.numbers.buffer w.numbers.signature w.slots c (current w h.chunk.sphere) h.chunk closed (positive h.chunk.done.n e) (good.held c h is).chunk) refl refl refl)
 
 cut_held_kept : (w : World) (c : ℕ) (o : Option Held) → at w.cores c ≡ o → IsGood w → Kept w (cut_held w c o)
-cut_held_kept w c None is good = still-kept w (still w Reply.Idle) refl refl refl good
+cut_held_kept w c None is good = unchanged-kept w (answered w Reply.Idle) refl refl refl good
 cut_held_kept w c (Some h) is good =
-    branch (Kept w) (is_stopped (sphere_at w h.chunk.sphere).role) (still w Reply.Stopped) (cut_to w c h (cut h.chunk))
-    (λ _. still-kept w (still w Reply.Stopped) refl refl refl good)
+    branch (Kept w) (is_stopped (sphere_at w h.chunk.sphere).role) (answered w Reply.Stopped) (cut_to w c h (cut h.chunk))
+    (λ _. unchanged-kept w (answered w Reply.Stopped) refl refl refl good)
     (λ _. cut_open_kept w c h h.chunk.closed is refl good)
 
 pub cut-kept : (w : World) (c : ℕ) → IsGood w → Kept w (cutting w c)

@@ -13,10 +13,10 @@ use Rattle.spec_engine.specs.Asking.{denied_by, busy_by, ask}
 use Rattle.spec_protocol.specs.declared.event.Event.{Event}
 use Rattle.spec_protocol.specs.declared.reply.Reply.{Reply}
 use Rattle.spec_protocol.specs.Spheres.{is_stopped, head_of}
-use Rattle.spec_protocol.specs.Commits.{Outcome, Granted, Piece, Diverged, Moved, is_piece, chunk_moved, serial_moved, dma_moved}
-use Rattle.spec_protocol.specs.World.{Held, World, After, moment, sphere_at, with_sphere, with_core, with_slot, begun, core_of, still, went_on}
+use Rattle.spec_protocol.specs.Commits.{CommitOutcome, Granted, Piece, Diverged, Moved, is_piece, chunk_moved, serial_moved, dma_moved}
+use Rattle.spec_protocol.specs.World.{Held, World, After, moment, sphere_at, with_sphere, with_core, with_slot, held_afresh, core_of, answered}
 use Rattle.spec_protocol.specs.Stepping.{stepped, step_held, stepping, cut_to, cut_held, cutting, reply_of_step, reply_of_cut}
-use Rattle.spec_protocol.specs.Asking.{Request, chunk_request, granted, grant_chunk, unless_denied, grant_serial, unless_busy, asks_serial, ask_arbiter, other_turn, unless_turn, ask_closed, ask_held, asking}
+use Rattle.spec_protocol.specs.Asking.{CommitRequest, chunk_request, granted, grant_chunk, unless_denied, grant_serial, unless_busy, asks_serial, ask_arbiter, other_turn, unless_turn, ask_closed, ask_held, asking}
 use Rattle.spec_protocol.specs.Flying.{drain_slot, draining, told, delivering, retiring, reply_of_drain, reply_of_retire}
 use Rattle.spec_protocol.specs.Placing.{unless_elsewhere, place_thread, placing, replays, with_renewed, raise_in, raise_thread, raising}
 use Rattle.spec_protocol.specs.Transferring.{dma_done, transfer, dma_with, dma_if, turn_before_dma, transferring}
@@ -62,18 +62,18 @@ step_untold w c None = record { points = refl; counts = refl; exactly = refl; mo
 step_untold w c (Some h) =
     let p = sphere_at w h.chunk.sphere in
     let s = step w.numbers.buffer p.memory w.slots c h.chunk in
-    branch (Untold w) (is_stopped p.role) (still w Reply.Stopped) (cond (is_open h.chunk) (stepped w c h s) (still w Reply.Waiting))
+    branch (Untold w) (is_stopped p.role) (answered w Reply.Stopped) (cond (is_open h.chunk) (stepped w c h s) (answered w Reply.Waiting))
     (λ _. record { points = refl; counts = refl; exactly = refl; moment = tt })
-    (λ _. branch (Untold w) (is_open h.chunk) (stepped w c h s) (still w Reply.Waiting) (λ _. record { points = refl; counts = refl; exactly = step_none s.reply; moment = tt }) (λ _. record { points = refl; counts = refl; exactly = refl; moment = tt }))
+    (λ _. branch (Untold w) (is_open h.chunk) (stepped w c h s) (answered w Reply.Waiting) (λ _. record { points = refl; counts = refl; exactly = step_none s.reply; moment = tt }) (λ _. record { points = refl; counts = refl; exactly = refl; moment = tt }))
 
 cut_untold : (w : World) (c : ℕ) (o : Option Held) → Untold w (cut_held w c o)
 cut_untold w c None = record { points = refl; counts = refl; exactly = refl; moment = tt }
 cut_untold w c (Some h) =
-    branch (Untold w) (is_stopped (sphere_at w h.chunk.sphere).role) (still w Reply.Stopped) (cut_to w c h (cut h.chunk))
+    branch (Untold w) (is_stopped (sphere_at w h.chunk.sphere).role) (answered w Reply.Stopped) (cut_to w c h (cut h.chunk))
     (λ _. record { points = refl; counts = refl; exactly = refl; moment = tt })
     (λ _. record { points = refl; counts = refl; exactly = cut_none (cut h.chunk).reply; moment = tt })
 
-granted_untold : (w : World) (c : ℕ) (q : Request) (writes : Marks) (v : Moved) (o : Outcome) → Untold w (granted w c q writes v o)
+granted_untold : (w : World) (c : ℕ) (q : CommitRequest) (writes : Marks) (v : Moved) (o : CommitOutcome) → Untold w (granted w c q writes v o)
 granted_untold w c q writes v Granted = record { points = refl; counts = refl; exactly = refl; moment = refl }
 granted_untold w c q writes v Piece = record { points = refl; counts = refl; exactly = refl; moment = refl }
 granted_untold w c q writes v (Diverged i why) = record { points = refl; counts = refl; exactly = refl; moment = tt }
@@ -110,10 +110,10 @@ closed_untold w c h (Some how) =
     let p = sphere_at w h.chunk.sphere in
     let turn = other_turn (head_of p) h.thread in
     let arbiter = ask_arbiter w c h how (asks_serial h.chunk p.role) in
-    branch (Untold w) (is_stopped p.role) (still w Reply.Stopped) (unless_turn turn w (cond (is_full w.slots) (still w Reply.WindowFull) arbiter))
+    branch (Untold w) (is_stopped p.role) (answered w Reply.Stopped) (unless_turn turn w (cond (is_full w.slots) (answered w Reply.WindowFull) arbiter))
     (λ _. record { points = refl; counts = refl; exactly = refl; moment = tt })
-    (λ _. turn_untold w (cond (is_full w.slots) (still w Reply.WindowFull) arbiter) turn
-    (branch (Untold w) (is_full w.slots) (still w Reply.WindowFull) arbiter (λ _. record { points = refl; counts = refl; exactly = refl; moment = tt }) (λ _. arbiter_untold w c h how (asks_serial h.chunk p.role))))
+    (λ _. turn_untold w (cond (is_full w.slots) (answered w Reply.WindowFull) arbiter) turn
+    (branch (Untold w) (is_full w.slots) (answered w Reply.WindowFull) arbiter (λ _. record { points = refl; counts = refl; exactly = refl; moment = tt }) (λ _. arbiter_untold w c h how (asks_serial h.chunk p.role))))
 
 ask_untold : (w : World) (c : ℕ) (o : Option Held) → Untold w (ask_held w c o)
 ask_untold w c None = record { points = refl; counts = refl; exactly = refl; moment = tt }
@@ -136,8 +136,8 @@ elsewhere_untold w a (Some d) u = record { points = refl; counts = refl; exactly
 place_untold : (w : World) (c i k : ℕ) (o : Option Parts) → Untold w (place_thread w c i k o)
 place_untold w c i k None = record { points = refl; counts = refl; exactly = refl; moment = tt }
 place_untold w c i k (Some t) =
-    let placed = went_on (with_core w c (begun w.numbers i k (sphere_at w i))) Reply.Placed in
-    branch (Untold w) (is_live t) (unless_elsewhere (core_of w i k) w placed) (still w Reply.Ended)
+    let placed = answered (with_core w c (held_afresh w.numbers i k (sphere_at w i))) Reply.Placed in
+    branch (Untold w) (is_live t) (unless_elsewhere (core_of w i k) w placed) (answered w Reply.Ended)
     (λ _. elsewhere_untold w placed (core_of w i k) (record { points = refl; counts = refl; exactly = refl; moment = tt }))
     (λ _. record { points = refl; counts = refl; exactly = refl; moment = tt })
 
@@ -153,11 +153,11 @@ raise_untold : (w : World) (i k value : ℕ) (o : Option Parts) → Untold w (ra
 raise_untold w i k value None = record { points = refl; counts = refl; exactly = refl; moment = tt }
 raise_untold w i k value (Some t) =
     let raised_ = raise_in w i k value t in
-    let masked = cond t.mask (still w Reply.Masked) raised_ in
-    let handled = cond (has_handler t) masked (still w Reply.NoHandler) in
-    branch (Untold w) (is_live t) handled (still w Reply.Ended)
-    (λ _. branch (Untold w) (has_handler t) masked (still w Reply.NoHandler)
-    (λ _. branch (Untold w) t.mask (still w Reply.Masked) raised_ (λ _. record { points = refl; counts = refl; exactly = refl; moment = tt }) (λ _. raise_in_untold w i k value t))
+    let masked = cond t.mask (answered w Reply.Masked) raised_ in
+    let handled = cond (has_handler t) masked (answered w Reply.NoHandler) in
+    branch (Untold w) (is_live t) handled (answered w Reply.Ended)
+    (λ _. branch (Untold w) (has_handler t) masked (answered w Reply.NoHandler)
+    (λ _. branch (Untold w) t.mask (answered w Reply.Masked) raised_ (λ _. record { points = refl; counts = refl; exactly = refl; moment = tt }) (λ _. raise_in_untold w i k value t))
     (λ _. record { points = refl; counts = refl; exactly = refl; moment = tt }))
     (λ _. record { points = refl; counts = refl; exactly = refl; moment = tt })
 
@@ -166,11 +166,11 @@ unfolding transfer
 transfer_untold w i v =
     let g = signed i v.words (nothing w.numbers.signature) in
     let done = dma_done w i g v in
-    branch (Untold w) (is_full w.slots) (still w Reply.WindowFull) (unless_denied (ask g g w.slots) w done)
+    branch (Untold w) (is_full w.slots) (answered w Reply.WindowFull) (unless_denied (ask g g w.slots) w done)
     (λ _. record { points = refl; counts = refl; exactly = refl; moment = tt })
     (λ _. denied_untold w done (first_slot (meets_chunk g g) w.slots) (record { points = refl; counts = refl; exactly = refl; moment = refl }))
 
-with_untold : (w : World) (i : ℕ) (v : Moved) (o : Outcome) → Untold w (dma_with w i v o)
+with_untold : (w : World) (i : ℕ) (v : Moved) (o : CommitOutcome) → Untold w (dma_with w i v o)
 with_untold w i v Granted = transfer_untold w i v
 with_untold w i v Piece = transfer_untold w i v
 with_untold w i v (Diverged j why) = record { points = refl; counts = refl; exactly = refl; moment = tt }
@@ -190,13 +190,13 @@ act-untold w (Event.Retire k) = record { points = refl; counts = refl; exactly =
 act-untold w (Event.Place c i k) = place_untold w (core_no w c) (sphere_no w i) k (slice_get (sphere_at w (sphere_no w i)).threads k)
 act-untold w (Event.Raise i k value) =
     let p = sphere_at w (sphere_no w i) in
-    branch (Untold w) (replays p.role) (still w Reply.FromLog) (raise_thread w (sphere_no w i) k value (slice_get p.threads k))
+    branch (Untold w) (replays p.role) (answered w Reply.FromLog) (raise_thread w (sphere_no w i) k value (slice_get p.threads k))
     (λ _. record { points = refl; counts = refl; exactly = refl; moment = tt })
     (λ _. raise_untold w (sphere_no w i) k value (slice_get p.threads k))
 act-untold w (Event.Dma i) =
     let p = sphere_at w (sphere_no w i) in
     let rest = dma_if w (sphere_no w i) (dma_moved w.devices p) in
-    branch (Untold w) (is_stopped p.role) (still w Reply.Stopped) (unless_turn (turn_before_dma p.role) w rest)
+    branch (Untold w) (is_stopped p.role) (answered w Reply.Stopped) (unless_turn (turn_before_dma p.role) w rest)
     (λ _. record { points = refl; counts = refl; exactly = refl; moment = tt })
     (λ _. turn_untold w rest (turn_before_dma p.role) (dma_untold w (sphere_no w i) (dma_moved w.devices p)))
 

@@ -12,20 +12,21 @@ use Rattle.spec_engine.specs.declared.answers.Retire.{Retire}
 use Rattle.spec_engine.specs.Signatures.{Marks, hits}
 use Rattle.spec_engine.specs.Flights.{Flight, at, told_at, all_told, meets_chunk, drain_words, Delivered, tell, deliver, has_none, is_done, Retired, retire}
 use Rattle.spec_engine.specs.Chunks.{Chunk, squash, is_fourth, halved}
+use Rattle.spec_engine.specs.Laws.{CoversWords}
 use Rattle.spec_engine.proofs.Searches.{told-tell_other, all_told-at}
 use Rattle.spec_protocol.specs.declared.reply.Reply.{Reply}
 use Rattle.spec_protocol.specs.Spheres.{Role, Plain, Record, Replay, Sphere, is_stopped, limit_of, halves}
 use Rattle.spec_protocol.specs.Placing.{replays}
-use Rattle.spec_protocol.specs.World.{Held, World, Move, After, sphere_at, with_memory, with_core, with_slot, still, went_on}
+use Rattle.spec_protocol.specs.World.{Held, World, Move, After, sphere_at, with_memory, with_core, with_slot, answered}
 use Rattle.spec_protocol.specs.Shown.{words_of, flying, shown, shown_of}
 use Rattle.spec_protocol.specs.Moves.{do_if, FitsIf}
 use Rattle.spec_protocol.specs.Flying.{reply_of_drain, drain_slot, draining, reads_of, writes_of, squashed, told, delivering, reply_of_retire, retiring}
 use Rattle.spec_protocol.proofs.Laying.{lays_append, AllLack_flip, Apart_lack, Apart_first, Apart_last, Apart-append, lays-lay}
 use Rattle.spec_protocol.proofs.Slots.{at-set_same, at-set_other, at_within, before, behind, flying-at, flying-set, flying_same, words-same, words-other}
-use Rattle.spec_protocol.proofs.Invariant.{SameSizes, PointIs, Kept, sphere-same, sphere-other, shown_from-same, shown-unmoved, set-itself, still-kept}
+use Rattle.spec_protocol.proofs.Invariant.{SameSizes, PointIs, Kept, sphere-same, sphere-other, shown_from-same, shown-unmoved, set-itself, unchanged-kept}
 use Rattle.spec_protocol.proofs.OnCores.{set-cases, alone-set, held_there, others-differ, branch}
-use Rattle.spec_protocol.specs.Currency.{IsCurrent, IsQuiet, CoversAll}
-use Rattle.spec_protocol.specs.Invariants.{IsCovered, IsGoodChunk, current, IsGoodHeld, IsGood}
+use Rattle.spec_protocol.specs.Currency.{IsCurrent, IsQuiet}
+use Rattle.spec_protocol.specs.Invariants.{IsFlightCovered, IsGoodChunk, current, IsGoodHeld, IsGood}
 
 -- ---- a chunk beside other slots
 
@@ -172,7 +173,7 @@ drained_kept w k f s ss a good is words world move point =
           | inl p ↦ (
               let c = good.covered k f is in
               let gx : g ≡ x = (let o : Some g ≡ Some x = p.1 in cc) in
-              subst (IsCovered w.numbers.signature) gx (record { size = c.size; words = (subst (CoversAll f.sphere f.writes) words c.words).1 })
+              subst (IsFlightCovered w.numbers.signature) gx (record { size = c.size; words = (subst (CoversWords f.sphere f.writes) words c.words).1 })
               )
           | inr p ↦ good.covered j x p.1
         ];
@@ -196,13 +197,13 @@ clean_world w k i v is =
     (λ j. record w { spheres = set-itself w.spheres i j; slots = (ap (set w.slots k) (sym is) ∙ set-get_or w.slots k None) j })
 
 drain_words_kept : (w : World) (k : ℕ) (f : Flight) (ws : List Stored) → IsGood w → at w.slots k ≡ Some f → f.words ≡ ws
-    → let d = drain_words (sphere_at w f.sphere).memory f ws in Kept w (went_on (with_slot (with_memory w f.sphere d.memory) k d.slot) (reply_of_drain d.reply))
+    → let d = drain_words (sphere_at w f.sphere).memory f ws in Kept w (answered (with_slot (with_memory w f.sphere d.memory) k d.slot) (reply_of_drain d.reply))
 unfolding drained_world
-drain_words_kept w k f [] good is words = still-kept w _ (clean_world w k f.sphere (Some f) is) refl refl good
+drain_words_kept w k f [] good is words = unchanged-kept w _ (clean_world w k f.sphere (Some f) is) refl refl good
 drain_words_kept w k f (s ∷ ss) good is words = drained_kept w k f s ss _ good is words refl refl refl
 
 drain_slot_kept : (w : World) (k : ℕ) (o : Option Flight) → at w.slots k ≡ o → IsGood w → Kept w (drain_slot w k o)
-drain_slot_kept w k None is good = still-kept w (still w Reply.NoCommit) refl refl refl good
+drain_slot_kept w k None is good = unchanged-kept w (answered w Reply.NoCommit) refl refl refl good
 drain_slot_kept w k (Some f) is good = drain_words_kept w k f f.words good is refl
 
 pub drain-kept : (w : World) (k : ℕ) → IsGood w → Kept w (draining w k)
@@ -214,7 +215,7 @@ drain-kept w k good = drain_slot_kept w k (at w.slots k) refl good
 -- only what is told has changed, or the flight had no word left
 record SlotKept (w : World) (k : ℕ) (v : Option Flight) : Type 0 where
   words : (i : ℕ) → words_of i v ≡ words_of i (at w.slots k)
-  covered : (x : Flight) → v ≡ Some x → IsCovered w.numbers.signature x
+  covered : (x : Flight) → v ≡ Some x → IsFlightCovered w.numbers.signature x
   flights : (x : Flight) → v ≡ Some x → x.sphere < length w.spheres
 
 slot_beside : (w : World) (k : ℕ) (v : Option Flight) (c : ℕ) (x : Held) → k < length w.slots → SlotKept w k v → (IsQuiet (set w.slots k v) x.chunk.sphere c x.chunk.reads → IsQuiet w.slots x.chunk.sphere c x.chunk.reads) → Beside w (with_slot w k v) c x
@@ -289,13 +290,13 @@ retired_kept w k f a good is done world move point =
       fits = subst (FitsIf w.numbers (shown_of w)) (sym move) tt;
     }
 
-retire_slot_kept : (w : World) (k : ℕ) (o : Option Flight) → at w.slots k ≡ o → IsGood w → let d = retire (length w.cores) o in Kept w (went_on (with_slot w k d.slot) (reply_of_retire d.reply))
-retire_slot_kept w k None is good = still-kept w _ (unchanged w k None is) refl refl good
+retire_slot_kept : (w : World) (k : ℕ) (o : Option Flight) → at w.slots k ≡ o → IsGood w → let d = retire (length w.cores) o in Kept w (answered (with_slot w k d.slot) (reply_of_retire d.reply))
+retire_slot_kept w k None is good = unchanged-kept w _ (unchanged w k None is) refl refl good
 retire_slot_kept w k (Some f) is good =
-    branch (λ (d : Retired). Kept w (went_on (with_slot w k d.slot) (reply_of_retire d.reply))) (is_done (length w.cores) f)
+    branch (λ (d : Retired). Kept w (answered (with_slot w k d.slot) (reply_of_retire d.reply))) (is_done (length w.cores) f)
     (record { reply = Retire.Retired; slot = None }) (record { reply = Retire.NotDone; slot = Some f })
     (λ done. retired_kept w k f _ good is done refl refl refl)
-    (λ _. still-kept w _ (unchanged w k (Some f) is) refl refl good)
+    (λ _. unchanged-kept w _ (unchanged w k (Some f) is) refl refl good)
 
 pub retire-kept : (w : World) (k : ℕ) → IsGood w → Kept w (retiring w k)
 unfolding retiring
@@ -326,7 +327,7 @@ told_slot w k c f good is =
       covered = λ x e.
           let cov = good.covered k f is in
           let q : tell f c ≡ x = cc in
-          subst (IsCovered w.numbers.signature) q (record { size = cov.size; words = cov.words });
+          subst (IsFlightCovered w.numbers.signature) q (record { size = cov.size; words = cov.words });
       flights = λ x e. let q : tell f c ≡ x = cc in subst (λ (y : Flight). y.sphere < length w.spheres) q (good.flights k f is);
     }
 
@@ -398,7 +399,7 @@ told_held w k c f d x good is free there =
 told_sizes : (w : World) (k c : ℕ) (f : Flight) → SameSizes w (tell_in w k c f)
 told_sizes w k c f = record { numbers = refl; spheres = refl; cores = refl; slots = length-set w.slots k (Some (tell f c)) }
 
-delivered_kept : (w : World) (k c : ℕ) (f : Flight) (held : Option Held) → IsGood w → at w.slots k ≡ Some f → at w.cores c ≡ held → meets_chunk (reads_of w held) (writes_of w held) f ≡ false → Kept w (went_on (tell_in w k c f) Reply.Delivered)
+delivered_kept : (w : World) (k c : ℕ) (f : Flight) (held : Option Held) → IsGood w → at w.slots k ≡ Some f → at w.cores c ≡ held → meets_chunk (reads_of w held) (writes_of w held) f ≡ false → Kept w (answered (tell_in w k c f) Reply.Delivered)
 delivered_kept w k c f held good is there free =
     record {
       good = slot_good w k (Some (tell f c)) (at_within w.slots k f is) good (told_slot w k c f good is)
@@ -440,7 +441,7 @@ squashed_good w k c f (Some h) good is there =
     (λ x e. subst (IsGoodHeld (tell_in w k c f) c) (let q : record h { chunk = squash h.chunk } ≡ x = cc in q) (squash_held w k c (Some (tell f c)) h (good.held c h there)))
     (others-differ w c h (squash h.chunk) good there refl)
 
-squashed_kept : (w : World) (k c : ℕ) (f : Flight) (held : Option Held) → IsGood w → at w.slots k ≡ Some f → at w.cores c ≡ held → Kept w (went_on (with_core (tell_in w k c f) c (squashed held)) Reply.Squashed)
+squashed_kept : (w : World) (k c : ℕ) (f : Flight) (held : Option Held) → IsGood w → at w.slots k ≡ Some f → at w.cores c ≡ held → Kept w (answered (with_core (tell_in w k c f) c (squashed held)) Reply.Squashed)
 squashed_kept w k c f held good is there =
     record {
       good = squashed_good w k c f held good is there;
@@ -452,12 +453,12 @@ squashed_kept w k c f held good is there =
 
 deliver_slot_kept : (w : World) (c k : ℕ) (held : Option Held) (o : Option Flight) → at w.cores c ≡ held → at w.slots k ≡ o → IsGood w
     → let d = deliver c (reads_of w held) (writes_of w held) o in Kept w (told (with_slot w k d.slot) c held d.reply)
-deliver_slot_kept w c k held None there is good = still-kept w _ (unchanged w k None is) refl refl good
+deliver_slot_kept w c k held None there is good = unchanged-kept w _ (unchanged w k None is) refl refl good
 deliver_slot_kept w c k held (Some f) there is good =
     branch (λ (d : Delivered). Kept w (told (with_slot w k d.slot) c held d.reply)) (told_at f.told c)
     (record { reply = Deliver.Already; slot = Some f })
     (record { reply = cond (meets_chunk (reads_of w held) (writes_of w held) f) Deliver.Squashed Deliver.Delivered; slot = Some (tell f c) })
-    (λ _. still-kept w _ (unchanged w k (Some f) is) refl refl good)
+    (λ _. unchanged-kept w _ (unchanged w k (Some f) is) refl refl good)
     (λ _. branch (λ (r : Deliver). Kept w (told (tell_in w k c f) c held r)) (meets_chunk (reads_of w held) (writes_of w held) f) Deliver.Squashed Deliver.Delivered
     (λ _. squashed_kept w k c f held good is there)
     (λ free. delivered_kept w k c f held good is there free))

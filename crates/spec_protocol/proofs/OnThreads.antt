@@ -14,16 +14,16 @@ use Rattle.spec_engine.proofs.Searches.{first_none, first_some}
 use Rattle.spec_protocol.specs.declared.reply.Reply.{Reply}
 use Rattle.spec_protocol.specs.Spheres.{Role, Plain, Record, Replay, Sphere, no_sphere, is_stopped, limit_of, halves}
 use Rattle.spec_protocol.specs.Commits.{role_raised, raised}
-use Rattle.spec_protocol.specs.World.{Held, World, moment, sphere_at, with_sphere, with_core, begun, runs, core_of, OfRaise, still, went_on}
+use Rattle.spec_protocol.specs.World.{Held, World, moment, sphere_at, with_sphere, with_core, held_afresh, runs, core_of, OfRaise, answered}
 use Rattle.spec_protocol.specs.Placing.{unless_elsewhere, place_thread, placing, replays, with_renewed, raise_in, raise_thread, raising}
 use Rattle.spec_protocol.specs.Serial.{do_raise}
 use Rattle.spec_protocol.specs.Shown.{flying, shown, shown_of}
 use Rattle.spec_protocol.specs.Moves.{do_at, do_move, FitsRaise, FitsAt, Fits}
 use Rattle.spec_protocol.proofs.Moving.{get-set_other}
 use Rattle.spec_protocol.proofs.Relaying.{over}
-use Rattle.spec_protocol.proofs.Invariant.{SameSizes, Kept, point-made, sphere-same, shown-set, still-kept}
+use Rattle.spec_protocol.proofs.Invariant.{SameSizes, Kept, point-made, sphere-same, shown-set, unchanged-kept}
 use Rattle.spec_protocol.proofs.OnCores.{set-cases, alone-set, held_there, core-good, core-kept, branch}
-use Rattle.spec_protocol.proofs.Landing.{begun-begins, begun-held, elsewhere-held}
+use Rattle.spec_protocol.proofs.Landing.{afresh-begins, afresh-held, elsewhere-held}
 use Rattle.spec_protocol.proofs.Granting.{unflown}
 use Rattle.spec_protocol.proofs.OnAsks.{shown_at, shown_over}
 use Rattle.spec_protocol.specs.Invariants.{IsGoodChunk, current, IsGoodHeld, IsGood}
@@ -43,27 +43,27 @@ nobody w i k none d g there sphere thread =
 
 -- ---- Place
 
-placed_good : (w : World) (c i k : ℕ) → IsGood w → i < length w.spheres → ((d : ℕ) (g : Held) → d ≢ c → at w.cores d ≡ Some g → g.chunk.sphere ≡ i → g.thread ≡ k → ⊥) → IsGood (with_core w c (begun w.numbers i k (sphere_at w i)))
+placed_good : (w : World) (c i k : ℕ) → IsGood w → i < length w.spheres → ((d : ℕ) (g : Held) → d ≢ c → at w.cores d ≡ Some g → g.chunk.sphere ≡ i → g.thread ≡ k → ⊥) → IsGood (with_core w c (held_afresh w.numbers i k (sphere_at w i)))
 placed_good w c i k good within free =
-    core-good w c (begun w.numbers i k (sphere_at w i)) good
-    (λ h e. begun-held w i k c (sphere_at w i) h within good.standard refl (begun-begins w.numbers i k (sphere_at w i) h e))
+    core-good w c (held_afresh w.numbers i k (sphere_at w i)) good
+    (λ h e. afresh-held w i k c (sphere_at w i) h within good.standard refl (afresh-begins w.numbers i k (sphere_at w i) h e))
     (λ h e d g ne there sphere thread.
-    let b = begun-begins w.numbers i k (sphere_at w i) h e in
+    let b = afresh-begins w.numbers i k (sphere_at w i) h e in
     free d g ne there (sym sphere ∙ ap (λ (x : Held). x.chunk.sphere) (sym b.is)) (sym thread ∙ ap (λ (x : Held). x.thread) (sym b.is)))
 
-elsewhere_kept : (w : World) (c i k : ℕ) (t : Parts) (o : Option ℕ) → IsGood w → slice_get (sphere_at w i).threads k ≡ Some t → core_of w i k ≡ o → Kept w (unless_elsewhere o w (went_on (with_core w c (begun w.numbers i k (sphere_at w i))) Reply.Placed))
+elsewhere_kept : (w : World) (c i k : ℕ) (t : Parts) (o : Option ℕ) → IsGood w → slice_get (sphere_at w i).threads k ≡ Some t → core_of w i k ≡ o → Kept w (unless_elsewhere o w (answered (with_core w c (held_afresh w.numbers i k (sphere_at w i))) Reply.Placed))
 elsewhere_kept w c i k t None good is none =
-    core-kept w c (begun w.numbers i k (sphere_at w i)) _ refl refl refl
+    core-kept w c (held_afresh w.numbers i k (sphere_at w i)) _ refl refl refl
     (placed_good w c i k good (inside w i k t is) (λ d g ne there sphere thread. nobody w i k none d g there sphere thread))
-elsewhere_kept w c i k t (Some d) good is some = still-kept w (still w (Reply.Elsewhere d)) refl refl refl good
+elsewhere_kept w c i k t (Some d) good is some = unchanged-kept w (answered w (Reply.Elsewhere d)) refl refl refl good
 
 place_thread_kept : (w : World) (c i k : ℕ) (o : Option Parts) → IsGood w → slice_get (sphere_at w i).threads k ≡ o → Kept w (place_thread w c i k o)
-place_thread_kept w c i k None good is = still-kept w (still w Reply.NoThread) refl refl refl good
+place_thread_kept w c i k None good is = unchanged-kept w (answered w Reply.NoThread) refl refl refl good
 place_thread_kept w c i k (Some t) good is =
-    let placed = unless_elsewhere (core_of w i k) w (went_on (with_core w c (begun w.numbers i k (sphere_at w i))) Reply.Placed) in
-    branch (Kept w) (is_live t) placed (still w Reply.Ended)
+    let placed = unless_elsewhere (core_of w i k) w (answered (with_core w c (held_afresh w.numbers i k (sphere_at w i))) Reply.Placed) in
+    branch (Kept w) (is_live t) placed (answered w Reply.Ended)
     (λ _. elsewhere_kept w c i k t (core_of w i k) good is refl)
-    (λ _. still-kept w (still w Reply.Ended) refl refl refl good)
+    (λ _. unchanged-kept w (answered w Reply.Ended) refl refl refl good)
 
 pub place-kept : (w : World) (c i k : ℕ) → IsGood w → Kept w (placing w c i k)
 unfolding placing
@@ -166,10 +166,10 @@ renewed_good w i k value t None good within is = raised_alone w i k value t good
 renewed_good w i k value t (Some c) good within is =
     let q = raised k value t (sphere_at w i) in
     let v = raised_world w i k value t in
-    raised_good w i k value t c (begun v.numbers i k (sphere_at v i)) good within (only_core w i k c good is)
+    raised_good w i k value t c (held_afresh v.numbers i k (sphere_at v i)) good within (only_core w i k c good is)
     (λ h e.
-    let b = begun-begins v.numbers i k (sphere_at v i) h e in (
-      begun-held v i k c (sphere_at v i) h (subst (λ (n : ℕ). i < n) (sym (length-set w.spheres i q)) within) good.standard refl b,
+    let b = afresh-begins v.numbers i k (sphere_at v i) h e in (
+      afresh-held v i k c (sphere_at v i) h (subst (λ (n : ℕ). i < n) (sym (length-set w.spheres i q)) within) good.standard refl b,
       ap (λ (x : Held). x.chunk.sphere) (sym b.is),
       ap (λ (x : Held). x.thread) (sym b.is),
     ))
@@ -181,7 +181,7 @@ renewed_shown v i k (Some c) = refl
 renewed_sizes : (w v : World) (i k : ℕ) (o : Option ℕ) → SameSizes w v → SameSizes w (with_renewed v i k o)
 renewed_sizes w v i k None s = s
 renewed_sizes w v i k (Some c) s =
-    record { numbers = s.numbers; spheres = s.spheres; cores = length-set v.cores c (begun v.numbers i k (sphere_at v i)) ∙ s.cores; slots = s.slots }
+    record { numbers = s.numbers; spheres = s.spheres; cores = length-set v.cores c (held_afresh v.numbers i k (sphere_at v i)) ∙ s.cores; slots = s.slots }
 
 raise_shown : (w : World) (i k value : ℕ) (t : Parts) → i < length w.spheres → slice_get (sphere_at w i).threads k ≡ Some t
     → shown_of (raised_world w i k value t) ≡ do_move w.numbers (shown_of w) (record { moment = moment w; sphere = i; what = OfRaise k value })
@@ -214,23 +214,23 @@ taken_by : (t : Parts) → is_live t ≡ true → has_handler t ≡ true → t.m
 taken_by t live handler mask = and_from _ _ (and_from _ _ live handler) (ap not mask)
 
 raise_thread_kept : (w : World) (i k value : ℕ) (o : Option Parts) → IsGood w → slice_get (sphere_at w i).threads k ≡ o → replays (sphere_at w i).role ≡ false → Kept w (raise_thread w i k value o)
-raise_thread_kept w i k value None good is live = still-kept w (still w Reply.NoThread) refl refl refl good
+raise_thread_kept w i k value None good is live = unchanged-kept w (answered w Reply.NoThread) refl refl refl good
 raise_thread_kept w i k value (Some t) good is live =
     let raised_ = raise_in w i k value t in
-    let masked = cond t.mask (still w Reply.Masked) raised_ in
-    let handled = cond (has_handler t) masked (still w Reply.NoHandler) in
-    branch (Kept w) (is_live t) handled (still w Reply.Ended)
-    (λ lives. branch (Kept w) (has_handler t) masked (still w Reply.NoHandler)
-    (λ handler. branch (Kept w) t.mask (still w Reply.Masked) raised_
-    (λ _. still-kept w (still w Reply.Masked) refl refl refl good)
+    let masked = cond t.mask (answered w Reply.Masked) raised_ in
+    let handled = cond (has_handler t) masked (answered w Reply.NoHandler) in
+    branch (Kept w) (is_live t) handled (answered w Reply.Ended)
+    (λ lives. branch (Kept w) (has_handler t) masked (answered w Reply.NoHandler)
+    (λ handler. branch (Kept w) t.mask (answered w Reply.Masked) raised_
+    (λ _. unchanged-kept w (answered w Reply.Masked) refl refl refl good)
     (λ mask. raise_in_kept w i k value t good (record { start = is; live = live; takes = taken_by t lives handler mask })))
-    (λ _. still-kept w (still w Reply.NoHandler) refl refl refl good))
-    (λ _. still-kept w (still w Reply.Ended) refl refl refl good)
+    (λ _. unchanged-kept w (answered w Reply.NoHandler) refl refl refl good))
+    (λ _. unchanged-kept w (answered w Reply.Ended) refl refl refl good)
 
 pub raise-kept : (w : World) (i k value : ℕ) → IsGood w → Kept w (raising w i k value)
 unfolding raising
 raise-kept w i k value good =
     let p = sphere_at w i in
-    branch (Kept w) (replays p.role) (still w Reply.FromLog) (raise_thread w i k value (slice_get p.threads k))
-    (λ _. still-kept w (still w Reply.FromLog) refl refl refl good)
+    branch (Kept w) (replays p.role) (answered w Reply.FromLog) (raise_thread w i k value (slice_get p.threads k))
+    (λ _. unchanged-kept w (answered w Reply.FromLog) refl refl refl good)
     (λ live. raise_thread_kept w i k value (slice_get p.threads k) good refl live)

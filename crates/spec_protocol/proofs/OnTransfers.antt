@@ -10,12 +10,13 @@ use Rattle.spec_isa.specs.Words.{Apart}
 use Rattle.spec_engine.specs.Signatures.{Marks, hits, nothing, signed}
 use Rattle.spec_engine.specs.Flights.{Flight, first_slot, is_full, meets_chunk}
 use Rattle.spec_engine.specs.Asking.{ask}
+use Rattle.spec_engine.specs.Laws.{CoversWords}
 use Rattle.spec_protocol.specs.Asking.{unless_denied, unless_turn}
 use Rattle.spec_engine.proofs.Searches.{first_none, told-zero}
 use Rattle.spec_protocol.specs.declared.reply.Reply.{Reply}
 use Rattle.spec_protocol.specs.Spheres.{Sphere, no_sphere, is_stopped}
-use Rattle.spec_protocol.specs.Commits.{Outcome, Granted, Piece, Diverged, Moved, dma_in, dma_moved}
-use Rattle.spec_protocol.specs.World.{World, sphere_at, flown, still}
+use Rattle.spec_protocol.specs.Commits.{CommitOutcome, Granted, Piece, Diverged, Moved, dma_in, dma_moved}
+use Rattle.spec_protocol.specs.World.{World, sphere_at, flown, answered}
 use Rattle.spec_protocol.specs.Transferring.{dma_move, dma_done, transfer, dma_with, dma_if, turn_before_dma, transferring}
 use Rattle.spec_protocol.specs.Placing.{replays}
 use Rattle.spec_protocol.specs.Serial.{do_moved, do_dma}
@@ -23,17 +24,17 @@ use Rattle.spec_protocol.specs.Shown.{flying, shown_of}
 use Rattle.spec_protocol.specs.Moves.{do_at, do_move, FitsAt, Fits}
 use Rattle.spec_protocol.proofs.Laying.{AllLack_flip}
 use Rattle.spec_protocol.proofs.Slots.{flown-flew}
-use Rattle.spec_protocol.proofs.Covering.{bits-signed, CoversAll-signed, apart-covered, flying-all_lack}
+use Rattle.spec_protocol.proofs.Covering.{bits-signed, CoversWords-signed, apart-covered, flying-all_lack}
 use Rattle.spec_protocol.proofs.Moving.{Divergence}
 use Rattle.spec_protocol.proofs.Relaying.{relaid, dma-relaid}
 use Rattle.spec_protocol.proofs.Transfers.{DmaMoves, dma-lives, dma-moves}
-use Rattle.spec_protocol.proofs.Invariant.{Kept, point-made, point-other, still-kept}
+use Rattle.spec_protocol.proofs.Invariant.{Kept, point-made, point-other, unchanged-kept}
 use Rattle.spec_protocol.proofs.OnCores.{branch}
 use Rattle.spec_protocol.proofs.Landing.{landed-held, elsewhere-held, moved-shown}
 use Rattle.spec_protocol.proofs.Granting.{stopped-good, stopped-shown}
 use Rattle.spec_protocol.proofs.OnAsks.{shown_at, shown_over, denied_kept, turn-kept}
-use Rattle.spec_protocol.specs.Currency.{CoversAll, AllLack}
-use Rattle.spec_protocol.specs.Invariants.{IsCovered, current, IsGood}
+use Rattle.spec_protocol.specs.Currency.{AllLack}
+use Rattle.spec_protocol.specs.Invariants.{IsFlightCovered, current, IsGood}
 
 -- sphere i moves by v, whose stores meet no flight
 record Transfers (w : World) (i : ℕ) (v : Moved) : Type 0 where
@@ -51,11 +52,11 @@ marks_of w i v = signed i v.words (nothing w.numbers.signature)
 abbrev dma_flight : World → (i : ℕ) → Moved → Flight
 dma_flight w i v = record { sphere = i; words = v.words; writes = marks_of w i v; told = 0 }
 
-dma_covered : (w : World) (i : ℕ) (v : Moved) → IsCovered w.numbers.signature (dma_flight w i v)
+dma_covered : (w : World) (i : ℕ) (v : Moved) → IsFlightCovered w.numbers.signature (dma_flight w i v)
 dma_covered w i v =
     record {
       size = bits-signed i v.words (nothing w.numbers.signature);
-      words = CoversAll-signed i v.words (nothing w.numbers.signature);
+      words = CoversWords-signed i v.words (nothing w.numbers.signature);
     }
 
 dma_lacks : (w : World) (i : ℕ) (v : Moved) → IsGood w → first_slot (meets_chunk (marks_of w i v) (marks_of w i v)) w.slots ≡ None → AllLack v.words (flying i w.slots)
@@ -66,7 +67,7 @@ dma_lacks w i v good none =
     (λ k f is same.
     let cov = good.covered k f is in
     AllLack_flip f.words v.words
-    (apart-covered i f.writes g f.words v.words (c.size ∙ sym cov.size) (subst (λ (n : ℕ). CoversAll n f.writes f.words) same cov.words) c.words
+    (apart-covered i f.writes g f.words v.words (c.size ∙ sym cov.size) (subst (λ (n : ℕ). CoversWords n f.writes f.words) same cov.words) c.words
     (or_parts (hits f.writes g) (hits f.writes g) (first_none (meets_chunk g g) w.slots none k f is)).0))
 
 -- ---- done whole
@@ -102,7 +103,7 @@ done_good w i v good t free none =
       ];
       covered = λ k x e. elim (flew.stood k x e) [
         | inl p ↦ good.covered k x p
-        | inr p ↦ subst (IsCovered w.numbers.signature) (sym p) (dma_covered w i v)
+        | inr p ↦ subst (IsFlightCovered w.numbers.signature) (sym p) (dma_covered w i v)
       ];
       flights = λ k x e. subst (λ (n : ℕ). x.sphere < n) (sym count) (elim (flew.stood k x e) [
         | inl p ↦ good.flights k x p
@@ -147,11 +148,11 @@ transfer_kept w i v good t =
     let g = marks_of w i v in
     let done = dma_done w i g v in
     let asked = unless_denied (ask g g w.slots) w done in
-    branch (Kept w) (is_full w.slots) (still w Reply.WindowFull) asked
-    (λ _. still-kept w (still w Reply.WindowFull) refl refl refl good)
+    branch (Kept w) (is_full w.slots) (answered w Reply.WindowFull) asked
+    (λ _. unchanged-kept w (answered w Reply.WindowFull) refl refl refl good)
     (λ free. denied_kept w done (first_slot (meets_chunk g g) w.slots) good (λ none. done_kept w i v good t free none))
 
-with_kept : (w : World) (i : ℕ) (v : Moved) (o : Outcome) → v.outcome ≡ o → IsGood w → Transfers w i v → Kept w (dma_with w i v o)
+with_kept : (w : World) (i : ℕ) (v : Moved) (o : CommitOutcome) → v.outcome ≡ o → IsGood w → Transfers w i v → Kept w (dma_with w i v o)
 with_kept w i v Granted is good t = transfer_kept w i v good t
 with_kept w i v Piece is good t = transfer_kept w i v good t
 with_kept w i v (Diverged j why) is good t =
@@ -176,7 +177,7 @@ dma_inside w i v e =
     ]
 
 if_kept : (w : World) (i : ℕ) (o : Option Moved) → IsGood w → is_stopped (sphere_at w i).role ≡ false → turn_before_dma (sphere_at w i).role ≡ None → dma_moved w.devices (sphere_at w i) ≡ o → Kept w (dma_if w i o)
-if_kept w i None good going turn is = still-kept w (still w Reply.NoDma) refl refl refl good
+if_kept w i None good going turn is = unchanged-kept w (answered w Reply.NoDma) refl refl refl good
 if_kept w i (Some v) good going turn is = with_kept w i v v.outcome refl good (record { within = dma_inside w i v is; going = going; turn = turn; is = is })
 
 pub dma-kept : (w : World) (i : ℕ) → IsGood w → Kept w (transferring w i)
@@ -184,6 +185,6 @@ unfolding transferring
 dma-kept w i good =
     let p = sphere_at w i in
     let rest = dma_if w i (dma_moved w.devices p) in
-    branch (Kept w) (is_stopped p.role) (still w Reply.Stopped) (unless_turn (turn_before_dma p.role) w rest)
-    (λ _. still-kept w (still w Reply.Stopped) refl refl refl good)
+    branch (Kept w) (is_stopped p.role) (answered w Reply.Stopped) (unless_turn (turn_before_dma p.role) w rest)
+    (λ _. unchanged-kept w (answered w Reply.Stopped) refl refl refl good)
     (λ going. turn-kept w rest (turn_before_dma p.role) good (λ turn. if_kept w i (dma_moved w.devices p) good going turn refl))

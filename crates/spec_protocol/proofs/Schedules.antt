@@ -5,7 +5,7 @@ use Rattle.spec_isa.specs.Words.{lays, Apart}
 use Rattle.spec_engine.specs.Flights.{Flight, at}
 use Rattle.spec_protocol.specs.declared.event.Event.{Event}
 use Rattle.spec_protocol.specs.Spheres.{Sphere, no_sphere}
-use Rattle.spec_protocol.specs.World.{Numbers, Held, World, Move, After, begun, sphere_at}
+use Rattle.spec_protocol.specs.World.{Numbers, Held, World, Move, After, held_afresh, sphere_at}
 use Rattle.spec_protocol.specs.Machine.{SphereSetup, Setup, first_cores, world_of, core_no, sphere_no, slot_no, act, kept, happens, world_after, with_move, moves, sphere_of}
 use Rattle.spec_protocol.specs.Serial.{Whole, whole_of}
 use Rattle.spec_protocol.specs.Shown.{flying, shown, shown_from, shown_of}
@@ -14,7 +14,7 @@ use Rattle.spec_protocol.specs.Promises.{IsSetup, MovesAreSerial, InvariantsHold
 use Rattle.spec_protocol.proofs.Invariant.{Kept, SameSizes, same_sizes}
 use Rattle.spec_protocol.proofs.OnCores.{step-kept, cut-kept}
 use Rattle.spec_protocol.proofs.OnFlights.{drain-kept, deliver-kept, retire-kept}
-use Rattle.spec_protocol.proofs.Landing.{begun-begins, begun-held}
+use Rattle.spec_protocol.proofs.Landing.{afresh-begins, afresh-held}
 use Rattle.spec_protocol.proofs.OnAsks.{ask-kept}
 use Rattle.spec_protocol.proofs.OnThreads.{place-kept, raise-kept}
 use Rattle.spec_protocol.proofs.OnTransfers.{dma-kept}
@@ -76,20 +76,20 @@ none_flies zero i = refl
 none_flies (suc n) i = none_flies n i
 
 -- what core c holds at first
-first_held : (z : Numbers) (i n c : ℕ) (ps : List Sphere) (h : Held) → at (first_cores z i n ps) c ≡ Some h → (c < length ps) × (begun z (i + c) 0 (get_or ps c no_sphere) ≡ Some h)
+first_held : (z : Numbers) (i n c : ℕ) (ps : List Sphere) (h : Held) → at (first_cores z i n ps) c ≡ Some h → (c < length ps) × (held_afresh z (i + c) 0 (get_or ps c no_sphere) ≡ Some h)
 first_held z i zero c ps h e = absurd (none-some h e)
 first_held z i (suc n) zero [] h e = absurd (none-some h e)
 first_held z i (suc n) (suc c) [] h e = absurd (omega (arith, (first_held z (suc i) n c [] h e).0))
-first_held z i (suc n) zero (p ∷ ps) h e = let k : i + 0 ≡ i = omega arith in (omega arith, ap (λ (j : ℕ). begun z j 0 p) k ∙ e)
+first_held z i (suc n) zero (p ∷ ps) h e = let k : i + 0 ≡ i = omega arith in (omega arith, ap (λ (j : ℕ). held_afresh z j 0 p) k ∙ e)
 first_held z i (suc n) (suc c) (p ∷ ps) h e =
     let r = first_held z (suc i) n c ps h e in
     let k : i + suc c ≡ suc i + c = omega arith in
-    (omega (arith, r.0), ap (λ (j : ℕ). begun z j 0 (get_or ps c no_sphere)) k ∙ r.1)
+    (omega (arith, r.0), ap (λ (j : ℕ). held_afresh z j 0 (get_or ps c no_sphere)) k ∙ r.1)
 
 first_sphere : (z : Numbers) (n c : ℕ) (ps : List Sphere) (h : Held) → at (first_cores z 0 n ps) c ≡ Some h → h.chunk.sphere ≡ c
 first_sphere z n c ps h e =
     let r = first_held z 0 n c ps h e in
-    let b = begun-begins z (0 + c) 0 (get_or ps c no_sphere) h r.1 in
+    let b = afresh-begins z (0 + c) 0 (get_or ps c no_sphere) h r.1 in
     let k : 0 + c ≡ c = omega arith in
     ap (λ (x : Held). x.chunk.sphere) (sym b.is) ∙ k
 
@@ -105,8 +105,8 @@ start-good s is =
       held = λ c h e.
           let r = first_held s.numbers 0 s.cores c w.spheres h e in
           let k : 0 + c ≡ c = omega arith in
-          begun-held w c 0 c (sphere_at w c) h r.0 is.chunk refl
-          (begun-begins s.numbers c 0 (sphere_at w c) h (sym (ap (λ (j : ℕ). begun s.numbers j 0 (sphere_at w c)) k) ∙ r.1));
+          afresh-held w c 0 c (sphere_at w c) h r.0 is.chunk refl
+          (afresh-begins s.numbers c 0 (sphere_at w c) h (sym (ap (λ (j : ℕ). held_afresh s.numbers j 0 (sphere_at w c)) k) ∙ r.1));
       alone = λ c d h g eh eg same thread. sym (first_sphere s.numbers s.cores c w.spheres h eh) ∙ same ∙ first_sphere s.numbers s.cores d w.spheres g eg;
     }
 

@@ -15,11 +15,12 @@ use Rattle.spec_engine.specs.declared.answers.Stepped.{Stepped}
 use Rattle.spec_engine.specs.Signatures.{Marks, insert, covers, hits, line}
 use Rattle.spec_engine.specs.Flights.{Flight, is_none, first_slot, bounces}
 use Rattle.spec_engine.specs.Chunks.{Chunk, Stepping, closes, marked, ran, at_limit, has_room, reading, storing, loading, running, step}
+use Rattle.spec_engine.specs.Laws.{CoversLoads, CoversWords}
 use Rattle.spec_engine.proofs.Choosing.{keep_option, keep_choose}
 use Rattle.spec_engine.proofs.Marking.{covers_insert, covers_more, hits_more}
 use Rattle.spec_protocol.proofs.Running.{outside_serial}
-use Rattle.spec_protocol.proofs.Covering.{CoversLoads_more, CoversLoads-load, length-load, load-word, CoversAll-store, Apart-store, length-store, bits-with_line, clear}
-use Rattle.spec_protocol.specs.Currency.{CoversLoads, Touches, seen_by, CoversAll}
+use Rattle.spec_protocol.proofs.Covering.{CoversLoads_more, CoversLoads-load, length-load, load-word, CoversWords-store, Apart-store, length-store, bits-with_line, clear}
+use Rattle.spec_protocol.specs.Currency.{Touches, seen_by}
 use Rattle.spec_protocol.specs.Invariants.{Closes}
 
 -- ---- what is kept
@@ -47,7 +48,7 @@ pub record Stays (capacity : ℕ) (xs : List (Option Flight)) (c : ℕ) (m : Lis
   pub more_reads : (a : ℕ) → seen_by ch a ≡ true → seen_by s.chunk a ≡ true
   pub less_hits : (g : Marks) → hits g ch.reads ≡ true → hits g s.chunk.reads ≡ true
   pub apart : Apart s.chunk.done.words
-  pub writes : CoversAll s.chunk.sphere s.chunk.writes s.chunk.done.words
+  pub writes : CoversWords s.chunk.sphere s.chunk.writes s.chunk.done.words
   pub loads : CoversLoads s.chunk.sphere s.chunk.reads s.chunk.done.loads
   pub closes : Closes capacity s.chunk
   pub looks : Looks xs c m ch s.chunk s.reply
@@ -58,7 +59,7 @@ pub record IsOpen (capacity : ℕ) (ch : Chunk) : Type 0 where
   pub open_ : ch.closed ≡ None
   pub closes : Closes capacity ch
   pub apart : Apart ch.done.words
-  pub writes : CoversAll ch.sphere ch.writes ch.done.words
+  pub writes : CoversWords ch.sphere ch.writes ch.done.words
   pub loads : CoversLoads ch.sphere ch.reads ch.done.loads
 
 -- g has the chunk's reads and maybe more
@@ -157,7 +158,7 @@ stays_ran capacity xs c m ch g t load store o n looked touches =
       more_reads = n.more_;
       less_hits = n.hits_;
       apart = Apart-store ch.done.words store o.apart;
-      writes = CoversAll-store ch.sphere ch.writes ch.done.words store o.writes;
+      writes = CoversWords-store ch.sphere ch.writes ch.done.words store o.writes;
       loads = CoversLoads-load ch.sphere g ch.done.loads load looked (CoversLoads_more ch.sphere ch.reads g ch.done.loads n.more_ o.loads);
       closes = ran_full capacity ch g t load store o e;
       looks = (refl, touches);
@@ -167,7 +168,7 @@ stays_ran capacity xs c m ch g t load store o n looked touches =
       more_reads = n.more_;
       less_hits = n.hits_;
       apart = Apart-store ch.done.words store o.apart;
-      writes = CoversAll-store ch.sphere ch.writes ch.done.words store o.writes;
+      writes = CoversWords-store ch.sphere ch.writes ch.done.words store o.writes;
       loads = CoversLoads-load ch.sphere g ch.done.loads load looked (CoversLoads_more ch.sphere ch.reads g ch.done.loads n.more_ o.loads);
       closes = ran_open capacity ch g t load store o e;
       looks = (o.open_, touches);

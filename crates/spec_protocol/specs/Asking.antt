@@ -12,14 +12,14 @@ use Rattle.spec_engine.specs.Chunks.{Chunk, is_empty_serial}
 use Rattle.spec_engine.specs.Asking.{ask, ask_serial}
 use Rattle.spec_protocol.specs.declared.reply.Reply.{Reply}
 use Rattle.spec_protocol.specs.Spheres.{Role, is_stopped, head_of, is_in_pieces}
-use Rattle.spec_protocol.specs.Commits.{Outcome, Granted, Piece, Diverged, Moved, is_piece, chunk_moved, serial_moved}
-use Rattle.spec_protocol.specs.World.{World, Held, moment, sphere_at, with_sphere, with_core, begun, flown, What, OfChunk, OfSerial, Move, After, still}
+use Rattle.spec_protocol.specs.Commits.{CommitOutcome, Granted, Piece, Diverged, Moved, is_piece, chunk_moved, serial_moved}
+use Rattle.spec_protocol.specs.World.{World, Held, moment, sphere_at, with_sphere, with_core, held_afresh, flown, What, OfChunk, OfSerial, Move, After, answered}
 
 -- ---- a granted request
 
 -- a request of a core: its sphere and thread, what it is in full, its kind as a point, its instructions, and whether its
 -- chunk was closed before its standard size
-pub record Request : Type 0 where
+pub record CommitRequest : Type 0 where
   pub sphere : ℕ
   pub thread : ℕ
   pub what : What
@@ -27,23 +27,23 @@ pub record Request : Type 0 where
   pub n : ℕ
   pub short : Bool
 
-abbrev pub point_at : (moment : ℕ) → Request → CommitKind → Point
+abbrev pub point_at : (moment : ℕ) → CommitRequest → CommitKind → Point
 point_at now q kind = Point.Commit now q.sphere (Actor.Thread q.thread) kind q.n q.short
 
-abbrev pub move_at : (moment : ℕ) → Request → Move
+abbrev pub move_at : (moment : ℕ) → CommitRequest → Move
 move_at now q = record { moment = now; sphere = q.sphere; what = q.what }
 
 -- the words fly, and the core, which is told, goes on with its thread as it is now
-abbrev pub world_with : World → (core : ℕ) → Request → Marks → Moved → World
+abbrev pub world_with : World → (core : ℕ) → CommitRequest → Marks → Moved → World
 world_with w c q writes v =
     record w {
       spheres = (with_sphere w q.sphere v.sphere).spheres;
       slots = flown q.sphere v.words writes (2 ^ c) w.slots;
-      cores = (with_core w c (begun w.numbers q.sphere q.thread v.sphere)).cores;
+      cores = (with_core w c (held_afresh w.numbers q.sphere q.thread v.sphere)).cores;
       devices = v.devices;
     }
 
-abbrev pub granted : World → (core : ℕ) → Request → Marks → Moved → Outcome → After
+abbrev pub granted : World → (core : ℕ) → CommitRequest → Marks → Moved → CommitOutcome → After
 granted w c q writes v Granted =
     record {
       reply = Reply.Granted;
@@ -75,7 +75,7 @@ is_short s How.Serial limit = false
 is_short s How.Overflow limit = true
 is_short s How.Cut limit = true
 
-abbrev pub chunk_request : World → Held → How → Request
+abbrev pub chunk_request : World → Held → How → CommitRequest
 chunk_request w h how =
     let ch = h.chunk in
     record {
@@ -95,11 +95,11 @@ grant_chunk w c h how =
 
 abbrev pub unless_denied : Asked → World → After → After
 unless_denied Asked.Grant w a = a
-unless_denied (Asked.Denied k) w a = still w (Reply.Denied k)
+unless_denied (Asked.Denied k) w a = answered w (Reply.Denied k)
 
 -- ---- a serial step
 
-abbrev pub serial_request : Held → Request
+abbrev pub serial_request : Held → CommitRequest
 serial_request h =
     record {
       sphere = h.chunk.sphere;
@@ -119,7 +119,7 @@ grant_serial w c h =
 
 abbrev pub unless_busy : AskedSerial → World → After → After
 unless_busy AskedSerial.Grant w a = a
-unless_busy (AskedSerial.SphereBusy k) w a = still w (Reply.SphereBusy k)
+unless_busy (AskedSerial.SphereBusy k) w a = answered w (Reply.SphereBusy k)
 
 -- ---- the event
 
@@ -139,19 +139,19 @@ other_turn (Some (Actor.Thread j)) k = if nat_eq j k then None else Some (Actor.
 
 abbrev pub unless_turn : Option Actor → World → After → After
 unless_turn None w a = a
-unless_turn (Some actor) w a = still w (Reply.NotTurn actor)
+unless_turn (Some actor) w a = answered w (Reply.NotTurn actor)
 
 abbrev pub ask_closed : World → (core : ℕ) → Held → Option How → After
-ask_closed w c h None = still w Reply.NotClosed
+ask_closed w c h None = answered w Reply.NotClosed
 ask_closed w c h (Some how) =
     let p = sphere_at w h.chunk.sphere in
-    if is_stopped p.role then still w Reply.Stopped
+    if is_stopped p.role then answered w Reply.Stopped
     else unless_turn (other_turn (head_of p) h.thread) w
-    (if is_full w.slots then still w Reply.WindowFull
+    (if is_full w.slots then answered w Reply.WindowFull
     else ask_arbiter w c h how (asks_serial h.chunk p.role))
 
 abbrev pub ask_held : World → (core : ℕ) → Option Held → After
-ask_held w c None = still w Reply.Idle
+ask_held w c None = answered w Reply.Idle
 ask_held w c (Some h) = ask_closed w c h h.chunk.closed
 
 -- the core asks

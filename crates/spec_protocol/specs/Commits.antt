@@ -23,17 +23,17 @@ use Rattle.spec_play.specs.Recording.{noted, input_noted, dma_noted, interrupt_n
 use Rattle.spec_engine.specs.declared.answers.How.{How}
 use Rattle.spec_protocol.specs.Spheres.{Book, Role, Plain, Record, Replay, Sphere}
 
-pub data Outcome : Type 0 where
+pub data CommitOutcome : Type 0 where
   -- a whole commit, or the last part of one
-  Granted : Outcome
+  Granted : CommitOutcome
   -- a piece of a commit
-  Piece : Outcome
+  Piece : CommitOutcome
   -- the replay leaves its log after so many commits
-  Diverged : (commits : ℕ) (why : Why) → Outcome
+  Diverged : (commits : ℕ) (why : Why) → CommitOutcome
 
 -- the sphere with its memory as before, the words to be stored, and the devices
 pub record Moved : Type 0 where
-  pub outcome : Outcome
+  pub outcome : CommitOutcome
   pub sphere : Sphere
   pub words : List Stored
   pub devices : Devices

@@ -2,7 +2,6 @@
 -- what its instructions do on the current memory.
 use Rattle.std.specs.Prelude.{◌≡◌, ℕ, ◌<◌, ◌/◌, Bool, true, false, List, [], ◌∷◌, length, Option, Some, None, IsSome}
 use Rattle.spec_isa.specs.declared.thread.Parts.{Parts}
-use Rattle.spec_isa.specs.declared.thread.Load.{Load}
 use Rattle.spec_isa.specs.Words.{Stored, lays, Lacks, is_inside}
 use Rattle.spec_isa.specs.Instruction.{serial_of, loads_of}
 use Rattle.spec_isa.specs.Runs.{run}
@@ -41,17 +40,7 @@ pub record IsCurrent (m : List ℕ) (ch : Chunk) : Type 0 where
 pub record IsQuiet (slots : List (Option Flight)) (i c : ℕ) (reads : Marks) : Type 0 where
   pub misses : (k : ℕ) (f : Flight) → at slots k ≡ Some f → f.sphere ≡ i → told_at f.told c ≡ false → hits f.writes reads ≡ false
 
--- ---- what signatures cover
-
--- the lines of these words of sphere i
-abbrev pub CoversAll : (i : ℕ) → Marks → List Stored → Type 0
-CoversAll i g [] = Unit {0}
-CoversAll i g (w ∷ ws) = (covers g (line i w.word) ≡ true) × CoversAll i g ws
-
--- the lines of the words of these loads
-abbrev pub CoversLoads : (i : ℕ) → Marks → List Load → Type 0
-CoversLoads i g [] = Unit {0}
-CoversLoads i g (l ∷ ls) = (covers g (line i (l.addr / 4)) ≡ true) × CoversLoads i g ls
+-- ---- words apart
 
 -- no store of the first list is of a word of the second
 abbrev pub AllLack : List Stored → List Stored → Type 0

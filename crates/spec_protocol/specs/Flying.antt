@@ -7,7 +7,7 @@ use Rattle.spec_engine.specs.Signatures.{Marks, nothing}
 use Rattle.spec_engine.specs.Flights.{Flight, at, drain, deliver, retire}
 use Rattle.spec_engine.specs.Chunks.{squash}
 use Rattle.spec_protocol.specs.declared.reply.Reply.{Reply}
-use Rattle.spec_protocol.specs.World.{World, Held, sphere_at, with_memory, with_core, with_slot, After, still, went_on}
+use Rattle.spec_protocol.specs.World.{World, Held, sphere_at, with_memory, with_core, with_slot, After, answered}
 
 -- ---- Drain
 
@@ -17,10 +17,10 @@ reply_of_drain Drain.Clean = Reply.Clean
 reply_of_drain Drain.Drained = Reply.Drained
 
 abbrev pub drain_slot : World → (slot : ℕ) → Option Flight → After
-drain_slot w k None = still w Reply.NoCommit
+drain_slot w k None = answered w Reply.NoCommit
 drain_slot w k (Some f) =
     let d = drain (sphere_at w f.sphere).memory (Some f) in
-    went_on (with_slot (with_memory w f.sphere d.memory) k d.slot) (reply_of_drain d.reply)
+    answered (with_slot (with_memory w f.sphere d.memory) k d.slot) (reply_of_drain d.reply)
 
 -- the first word left of the slot's flight goes to the memory of its sphere
 unfoldable pub draining : World → (slot : ℕ) → After
@@ -42,10 +42,10 @@ squashed None = None
 squashed (Some h) = Some (record h { chunk = squash h.chunk })
 
 abbrev pub told : World → (core : ℕ) → Option Held → Deliver → After
-told w c held Deliver.NoCommit = still w Reply.NoCommit
-told w c held Deliver.Already = still w Reply.Already
-told w c held Deliver.Squashed = went_on (with_core w c (squashed held)) Reply.Squashed
-told w c held Deliver.Delivered = went_on w Reply.Delivered
+told w c held Deliver.NoCommit = answered w Reply.NoCommit
+told w c held Deliver.Already = answered w Reply.Already
+told w c held Deliver.Squashed = answered (with_core w c (squashed held)) Reply.Squashed
+told w c held Deliver.Delivered = answered w Reply.Delivered
 
 abbrev pub deliver_to : World → (core slot : ℕ) → Option Held → After
 deliver_to w c k held =
@@ -67,4 +67,4 @@ reply_of_retire Retire.Retired = Reply.Retired
 unfoldable pub retiring : World → (slot : ℕ) → After
 retiring w k =
     let d = retire (length w.cores) (at w.slots k) in
-    went_on (with_slot w k d.slot) (reply_of_retire d.reply)
+    answered (with_slot w k d.slot) (reply_of_retire d.reply)

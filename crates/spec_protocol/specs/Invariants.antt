@@ -6,21 +6,22 @@ use Rattle.spec_kernel.specs.Interrupts.{is_live}
 use Rattle.spec_engine.specs.declared.answers.How.{How}
 use Rattle.spec_engine.specs.Flights.{Flight, at}
 use Rattle.spec_engine.specs.Chunks.{Chunk}
+use Rattle.spec_engine.specs.Laws.{CoversWords, CoversLoads}
 use Rattle.spec_protocol.specs.Spheres.{Role, is_stopped, limit_of, halves}
 use Rattle.spec_protocol.specs.Placing.{replays}
 use Rattle.spec_protocol.specs.World.{Held, World, sphere_at}
 use Rattle.spec_protocol.specs.Shown.{flying}
-use Rattle.spec_protocol.specs.Currency.{IsCurrent, IsQuiet, CoversAll, CoversLoads}
+use Rattle.spec_protocol.specs.Currency.{IsCurrent, IsQuiet}
 
 -- ---- flights
 
 -- a flight's signature covers the lines of its words, and has the machine's size
-pub record IsCovered (bits : ℕ) (f : Flight) : Type 0 where
+pub record IsFlightCovered (bits : ℕ) (f : Flight) : Type 0 where
   pub size : f.writes.bits ≡ bits
-  pub words : CoversAll f.sphere f.writes f.words
+  pub words : CoversWords f.sphere f.writes f.words
 
 abbrev pub AreCovered : (bits : ℕ) → List (Option Flight) → Type 0
-AreCovered bits slots = (k : ℕ) (f : Flight) → at slots k ≡ Some f → IsCovered bits f
+AreCovered bits slots = (k : ℕ) (f : Flight) → at slots k ≡ Some f → IsFlightCovered bits f
 
 -- ---- chunks
 
@@ -41,7 +42,7 @@ pub record IsGoodChunk (capacity bits : ℕ) (slots : List (Option Flight)) (c :
   pub reads_size : ch.reads.bits ≡ bits
   pub writes_size : ch.writes.bits ≡ bits
   pub apart : Apart ch.done.words
-  pub writes : CoversAll ch.sphere ch.writes ch.done.words
+  pub writes : CoversWords ch.sphere ch.writes ch.done.words
   pub loads : CoversLoads ch.sphere ch.reads ch.done.loads
   pub closes : Closes capacity ch
   pub live : IsQuiet slots ch.sphere c ch.reads → IsCurrent m ch

@@ -6,20 +6,20 @@ use Rattle.spec_kernel.specs.Interrupts.{is_live, has_handler}
 use Rattle.spec_protocol.specs.declared.reply.Reply.{Reply}
 use Rattle.spec_protocol.specs.Spheres.{Role, Plain, Record, Replay}
 use Rattle.spec_protocol.specs.Commits.{raised}
-use Rattle.spec_protocol.specs.World.{World, moment, sphere_at, with_sphere, with_core, begun, core_of, OfRaise, After, still, went_on}
+use Rattle.spec_protocol.specs.World.{World, moment, sphere_at, with_sphere, with_core, held_afresh, core_of, OfRaise, After, answered}
 
 -- ---- Place
 
 abbrev pub unless_elsewhere : Option ℕ → World → After → After
 unless_elsewhere None w a = a
-unless_elsewhere (Some d) w a = still w (Reply.Elsewhere d)
+unless_elsewhere (Some d) w a = answered w (Reply.Elsewhere d)
 
 abbrev pub place_thread : World → (core i thread : ℕ) → Option Parts → After
-place_thread w c i k None = still w Reply.NoThread
+place_thread w c i k None = answered w Reply.NoThread
 place_thread w c i k (Some t) =
     if is_live t
-    then unless_elsewhere (core_of w i k) w (went_on (with_core w c (begun w.numbers i k (sphere_at w i))) Reply.Placed)
-    else still w Reply.Ended
+    then unless_elsewhere (core_of w i k) w (answered (with_core w c (held_afresh w.numbers i k (sphere_at w i))) Reply.Placed)
+    else answered w Reply.Ended
 
 -- core c takes thread k of sphere i; what it ran is abandoned
 unfoldable pub placing : World → (core i thread : ℕ) → After
@@ -35,7 +35,7 @@ replays (Replay b) = true
 -- a core that runs the thread abandons its chunk
 abbrev pub with_renewed : World → (i thread : ℕ) → Option ℕ → World
 with_renewed w i k None = w
-with_renewed w i k (Some c) = with_core w c (begun w.numbers i k (sphere_at w i))
+with_renewed w i k (Some c) = with_core w c (held_afresh w.numbers i k (sphere_at w i))
 
 abbrev pub raise_in : World → (i thread value : ℕ) → Parts → After
 raise_in w i k value t =
@@ -47,16 +47,16 @@ raise_in w i k value t =
     }
 
 abbrev pub raise_thread : World → (i thread value : ℕ) → Option Parts → After
-raise_thread w i k value None = still w Reply.NoThread
+raise_thread w i k value None = answered w Reply.NoThread
 raise_thread w i k value (Some t) =
     if is_live t
     then if has_handler t
-    then if t.mask then still w Reply.Masked else raise_in w i k value t
-    else still w Reply.NoHandler
-    else still w Reply.Ended
+    then if t.mask then answered w Reply.Masked else raise_in w i k value t
+    else answered w Reply.NoHandler
+    else answered w Reply.Ended
 
 -- thread k of sphere i is interrupted with the value
 unfoldable pub raising : World → (i thread value : ℕ) → After
 raising w i k value =
     let p = sphere_at w i in
-    if replays p.role then still w Reply.FromLog else raise_thread w i k value (slice_get p.threads k)
+    if replays p.role then answered w Reply.FromLog else raise_thread w i k value (slice_get p.threads k)

@@ -8,8 +8,8 @@ use Rattle.spec_engine.specs.Flights.{is_full}
 use Rattle.spec_engine.specs.Asking.{ask}
 use Rattle.spec_protocol.specs.declared.reply.Reply.{Reply}
 use Rattle.spec_protocol.specs.Spheres.{Role, Plain, Record, Replay, is_stopped, actor_of}
-use Rattle.spec_protocol.specs.Commits.{Outcome, Granted, Piece, Diverged, Moved, dma_moved}
-use Rattle.spec_protocol.specs.World.{World, moment, sphere_at, with_sphere, flown, OfDma, Move, After, still}
+use Rattle.spec_protocol.specs.Commits.{CommitOutcome, Granted, Piece, Diverged, Moved, dma_moved}
+use Rattle.spec_protocol.specs.World.{World, moment, sphere_at, with_sphere, flown, OfDma, Move, After, answered}
 use Rattle.spec_protocol.specs.Asking.{unless_denied, unless_turn}
 
 abbrev pub dma_move : World → (i : ℕ) → Move
@@ -33,10 +33,10 @@ dma_done w i writes v =
 unfoldable pub transfer : World → (i : ℕ) → Moved → After
 transfer w i v =
     let writes = signed i v.words (nothing w.numbers.signature) in
-    if is_full w.slots then still w Reply.WindowFull
+    if is_full w.slots then answered w Reply.WindowFull
     else unless_denied (ask writes writes w.slots) w (dma_done w i writes v)
 
-abbrev pub dma_with : World → (i : ℕ) → Moved → Outcome → After
+abbrev pub dma_with : World → (i : ℕ) → Moved → CommitOutcome → After
 dma_with w i v Granted = transfer w i v
 dma_with w i v Piece = transfer w i v
 dma_with w i v (Diverged j why) =
@@ -48,7 +48,7 @@ dma_with w i v (Diverged j why) =
     }
 
 abbrev pub dma_if : World → (i : ℕ) → Option Moved → After
-dma_if w i None = still w Reply.NoDma
+dma_if w i None = answered w Reply.NoDma
 dma_if w i (Some v) = dma_with w i v v.outcome
 
 -- in a replay a DMA has its turn
@@ -66,5 +66,5 @@ turn_before_dma (Replay b) = not_of_dma (actor_of b.now)
 unfoldable pub transferring : World → (i : ℕ) → After
 transferring w i =
     let p = sphere_at w i in
-    if is_stopped p.role then still w Reply.Stopped
+    if is_stopped p.role then answered w Reply.Stopped
     else unless_turn (turn_before_dma p.role) w (dma_if w i (dma_moved w.devices p))

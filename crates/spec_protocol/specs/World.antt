@@ -59,15 +59,15 @@ with_slot w k slot = record w { slots = slice_set w.slots k slot }
 -- ---- threads on cores
 
 -- a chunk of thread k of sphere i, which is p, with a fresh limit; none where the thread isn't live
-abbrev pub begun_thread : Numbers → (i thread : ℕ) → Sphere → Option Parts → Option Held
-begun_thread z i k p None = None
-begun_thread z i k p (Some t) =
+abbrev pub thread_afresh : Numbers → (i thread : ℕ) → Sphere → Option Parts → Option Held
+thread_afresh z i k p None = None
+thread_afresh z i k p (Some t) =
     if is_live t
     then Some (record { thread = k; chunk = fresh z.signature i t (limit_of z.chunk p.role k t) (halves p.role) })
     else None
 
-abbrev pub begun : Numbers → (i thread : ℕ) → Sphere → Option Held
-begun z i k p = begun_thread z i k p (slice_get p.threads k)
+abbrev pub held_afresh : Numbers → (i thread : ℕ) → Sphere → Option Held
+held_afresh z i k p = thread_afresh z i k p (slice_get p.threads k)
 
 -- whether a core runs thread k of sphere i
 abbrev pub runs : (i thread : ℕ) → Held → Bool
@@ -107,10 +107,6 @@ pub record After : Type 0 where
   pub point : Option Point
   pub move : Option Move
 
--- nothing has changed
-abbrev pub still : World → Reply → After
-still w reply = record { reply = reply; world = w; point = None; move = None }
-
--- no commit and no interrupt took effect
-abbrev pub went_on : World → Reply → After
-went_on w reply = record { reply = reply; world = w; point = None; move = None }
+-- an answer, and the world that it leaves: no commit and no interrupt took effect
+abbrev pub answered : World → Reply → After
+answered w reply = record { reply = reply; world = w; point = None; move = None }

@@ -18,7 +18,7 @@ use Rattle.spec_protocol.specs.Shown.{flying}
 use Rattle.spec_protocol.specs.Invariants.{Closes, current}
 use Rattle.spec_protocol.specs.Currency.{IsCurrent}
 use Rattle.spec_protocol.specs.Finishing.{Who, least, standing}
-use Rattle.spec_finishing.specs.Rest.{spheres_rest, potential, held_begun, core_begun, actor_begun, who_begun, standing_begun, begun}
+use Rattle.spec_finishing.specs.Rest.{spheres_rest, potential, held_under_way, core_under_way, actor_under_way, who_under_way, standing_under_way, under_way}
 use Rattle.spec_finishing.proofs.Slots.{one_at_most}
 use Rattle.spec_finishing.proofs.Pricing.{price-least}
 use Rattle.spec_finishing.proofs.Affording.{Afforded}
@@ -91,39 +91,39 @@ core-paid s w i k c h known none a on =
     held_paid s w c h known none on.there
     (subst (λ (j : ℕ). HasActor s w j (Actor.Thread h.thread)) (sym on.sphere) (subst (λ (j : ℕ). HasActor s w i (Actor.Thread j)) (sym on.thread) a))
 
--- ---- what is begun
+-- ---- what is under way
 
-core_most : (s : Setup) (w : World) (i k : ℕ) (o : Option ℕ) → Known s w → standing w ≡ None → HasActor s w i (Actor.Thread k) → core_of w i k ≡ o → core_begun w o ≤ potential s w
+core_most : (s : Setup) (w : World) (i k : ℕ) (o : Option ℕ) → Known s w → standing w ≡ None → HasActor s w i (Actor.Thread k) → core_of w i k ≡ o → core_under_way w o ≤ potential s w
 core_most s w i k None known none a e = omega arith
 core_most s w i k (Some c) known none a e =
     let on = on-core w i k c e in
     let pays = core-paid s w i k c on.0 known none a on.1 in
-    let is : held_begun (at w.cores c) ≡ held_begun (Some on.0) = ap held_begun on.1.there in
+    let is : held_under_way (at w.cores c) ≡ held_under_way (Some on.0) = ap held_under_way on.1.there in
     let one = one_at_most (is_open on.0.chunk) in
     omega (arith, pays, is, one)
 
-actor_most : (s : Setup) (w : World) (i : ℕ) (actor : Actor) → Known s w → standing w ≡ None → HasActor s w i actor → actor_begun w i actor ≤ potential s w
+actor_most : (s : Setup) (w : World) (i : ℕ) (actor : Actor) → Known s w → standing w ≡ None → HasActor s w i actor → actor_under_way w i actor ≤ potential s w
 actor_most s w i Actor.Dma known none a = omega arith
 actor_most s w i (Actor.Thread k) known none a = core_most s w i k (core_of w i k) known none a refl
 
-who_most : (s : Setup) (w : World) (o : Option Who) → Known s w → standing w ≡ None → least 0 w.spheres ≡ o → who_begun w o ≤ potential s w
+who_most : (s : Setup) (w : World) (o : Option Who) → Known s w → standing w ≡ None → least 0 w.spheres ≡ o → who_under_way w o ≤ potential s w
 who_most s w None known none e = omega arith
 who_most s w (Some who) known none e = actor_most s w who.sphere who.actor known none (has-actor s w who known none e)
 
-standing_most : (s : Setup) (w : World) (o : Option ℕ) → Known s w → standing w ≡ o → standing_begun w o ≤ potential s w
+standing_most : (s : Setup) (w : World) (o : Option ℕ) → Known s w → standing w ≡ o → standing_under_way w o ≤ potential s w
 standing_most s w (Some k) known e = omega arith
 standing_most s w None known e = who_most s w (least 0 w.spheres) known e refl
 
-pub begun-most : (s : Setup) (w : World) → Known s w → begun w ≤ potential s w
-unfolding begun
-begun-most s w known = standing_most s w (standing w) known refl
+pub under_way-most : (s : Setup) (w : World) → Known s w → under_way w ≤ potential s w
+unfolding under_way
+under_way-most s w known = standing_most s w (standing w) known refl
 
--- ---- how much is begun
+-- ---- how much is under way
 
-pub begun-flight : (w : World) (k : ℕ) → standing w ≡ Some k → begun w ≡ 0
-unfolding begun
-begun-flight w k e = ap (standing_begun w) e
+pub under_way-flight : (w : World) (k : ℕ) → standing w ≡ Some k → under_way w ≡ 0
+unfolding under_way
+under_way-flight w k e = ap (standing_under_way w) e
 
-pub begun-actor : (w : World) (who : Who) → standing w ≡ None → least 0 w.spheres ≡ Some who → begun w ≡ actor_begun w who.sphere who.actor
-unfolding begun
-begun-actor w who none e = ap (standing_begun w) none ∙ ap (who_begun w) e
+pub under_way-actor : (w : World) (who : Who) → standing w ≡ None → least 0 w.spheres ≡ Some who → under_way w ≡ actor_under_way w who.sphere who.actor
+unfolding under_way
+under_way-actor w who none e = ap (standing_under_way w) none ∙ ap (who_under_way w) e
