@@ -43,3 +43,4 @@ pub mod PointByPoint
 pub mod LogsOfPoints
 pub mod Pieces
 pub mod CountingPieces
+pub mod Changing
