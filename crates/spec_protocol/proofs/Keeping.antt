@@ -19,7 +19,7 @@ use Rattle.spec_protocol.proofs.Moving.{either_serve}
 
 -- ---- instructions
 
-plan_keeps : (p : Plan) (t : Parts) (w : ℕ) → (thread_then p t w).commits ≡ t.commits
+pub plan_keeps : (p : Plan) (t : Parts) (w : ℕ) → (thread_then p t w).commits ≡ t.commits
 plan_keeps (Plan.Go rd value pc) t w = refl
 plan_keeps (Plan.Stop kind) t w = refl
 plan_keeps (Plan.Load op rd a) t w = refl
@@ -28,7 +28,7 @@ plan_keeps (Plan.LoadReserved rd a) t w = refl
 plan_keeps (Plan.StoreConditional rd a v) t w = refl
 plan_keeps (Plan.Amo op rd a v) t w = refl
 
-next_keeps : (t : Parts) (f w : ℕ) → (next_of t f w).commits ≡ t.commits
+pub next_keeps : (t : Parts) (f w : ℕ) → (next_of t f w).commits ≡ t.commits
 unfolding next_of
 next_keeps t f w = plan_keeps (plan_of t f) t w
 

@@ -44,3 +44,5 @@ pub mod LogsOfPoints
 pub mod Pieces
 pub mod CountingPieces
 pub mod Changing
+pub mod SoundWords
+pub mod SoundThreads

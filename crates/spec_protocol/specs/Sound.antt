@@ -8,8 +8,9 @@ use Rattle.spec_log.specs.Log.{IsChunkSize, IsLog}
 use Rattle.spec_kernel.specs.Devices.{Devices}
 use Rattle.spec_engine.specs.Signatures.{is_size}
 use Rattle.spec_engine.specs.Flights.{Flight, AreInside, at}
+use Rattle.spec_engine.specs.Chunks.{Chunk}
 use Rattle.spec_protocol.specs.Spheres.{Sphere}
-use Rattle.spec_protocol.specs.World.{Numbers, Held, World, moment, sphere_at}
+use Rattle.spec_protocol.specs.World.{Held, World, sphere_at}
 use Rattle.spec_protocol.specs.Machine.{RoleSetup, IsPlain, IsRecorded, IsReplayed, SphereSetup, Setup}
 use Rattle.spec_protocol.specs.Promises.{AreSizesKept}
 
@@ -109,15 +110,15 @@ pub record IsSoundSphere (image : SphereSetup) (p : Sphere) : Type 0 where
 -- ---- a core
 
 -- a running chunk: its words lie in the memory of its sphere and find room in the buffer; its limit is a size that a log
--- can have, and squashes are counted to 3
-pub record IsSoundHeld (z : Numbers) (size : ℕ) (h : Held) : Type 0 where
-  pub words : AreSoundWords size h.chunk.done.words
-  pub room : length h.chunk.done.words ≤ z.buffer
-  pub limit : h.chunk.limit ≤ 4096
-  pub squashes : h.chunk.squashes < 4
-  pub start : IsThread h.chunk.start
-  pub thread : IsThread h.chunk.done.thread
-  pub commits : h.chunk.done.thread.commits ≡ h.chunk.start.commits
+-- can have; squashes are counted to 3; and its thread has as many commits as at its start
+pub record IsSoundChunk (buffer size : ℕ) (ch : Chunk) : Type 0 where
+  pub words : AreSoundWords size ch.done.words
+  pub room : length ch.done.words ≤ buffer
+  pub limit : ch.limit ≤ 4096
+  pub squashes : ch.squashes < 4
+  pub start : IsThread ch.start
+  pub thread : IsThread ch.done.thread
+  pub commits : ch.done.thread.commits ≡ ch.start.commits
 
 -- ---- devices
 
@@ -133,4 +134,4 @@ pub record IsSound (s : Setup) (w : World) : Type 0 where
   pub devices : HaveByteInput w.devices
   pub spheres : (i : ℕ) → i < length w.spheres → IsSoundSphere (image_at s i) (sphere_at w i)
   pub flights : (k : ℕ) (f : Flight) → at w.slots k ≡ Some f → AreSoundWords (size_of s f.sphere) f.words
-  pub held : (c : ℕ) (h : Held) → at w.cores c ≡ Some h → IsSoundHeld s.numbers (size_of s h.chunk.sphere) h
+  pub held : (c : ℕ) (h : Held) → at w.cores c ≡ Some h → IsSoundChunk s.numbers.buffer (size_of s h.chunk.sphere) h.chunk
