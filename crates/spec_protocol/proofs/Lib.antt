@@ -46,3 +46,4 @@ pub mod CountingPieces
 pub mod Changing
 pub mod SoundWords
 pub mod SoundThreads
+pub mod SoundChunks
