@@ -22,11 +22,11 @@ use Rattle.spec_engine.specs.Asking.{ask, denied_by, busy_by}
 use Rattle.spec_protocol.specs.declared.event.Event.{Event}
 use Rattle.spec_protocol.specs.declared.reply.Reply.{Reply}
 use Rattle.spec_protocol.specs.Spheres.{Sphere, no_sphere, is_stopped, head_of, limit_of, halves}
-use Rattle.spec_protocol.specs.Commits.{Outcome, Granted, Piece, Diverged, Moved, is_piece, chunk_moved, serial_moved, dma_in, dma_moved, raised}
-use Rattle.spec_protocol.specs.World.{Numbers, Held, World, After, moment, sphere_at, with_sphere, with_memory, with_core, with_slot, begun_thread, begun, core_of, flown, still, went_on}
+use Rattle.spec_protocol.specs.Commits.{CommitOutcome, Granted, Piece, Diverged, Moved, is_piece, chunk_moved, serial_moved, dma_in, dma_moved, raised}
+use Rattle.spec_protocol.specs.World.{Numbers, Held, World, After, moment, sphere_at, with_sphere, with_memory, with_core, with_slot, thread_afresh, held_afresh, core_of, flown, answered}
 use Rattle.spec_protocol.specs.Stepping.{with_chunk, stepped, step_held, stepping, cut_to, cut_held, cutting}
 use Rattle.spec_protocol.specs.Flying.{reply_of_drain, drain_slot, draining, reads_of, writes_of, squashed, told, deliver_to, delivering, reply_of_retire, retiring}
-use Rattle.spec_protocol.specs.Asking.{Request, granted, is_short, chunk_request, grant_chunk, serial_request, grant_serial, unless_denied, unless_busy, asks_serial, ask_arbiter, other_turn, unless_turn, ask_closed, ask_held, asking}
+use Rattle.spec_protocol.specs.Asking.{CommitRequest, granted, is_short, chunk_request, grant_chunk, serial_request, grant_serial, unless_denied, unless_busy, asks_serial, ask_arbiter, other_turn, unless_turn, ask_closed, ask_held, asking}
 use Rattle.spec_protocol.specs.Transferring.{dma_done, transfer, dma_with, dma_if, turn_before_dma, transferring}
 use Rattle.spec_protocol.specs.Placing.{unless_elsewhere, place_thread, placing, replays, with_renewed, raise_in, raise_thread, raising}
 use Rattle.spec_protocol.specs.Machine.{core_no, sphere_no, slot_no, act}
@@ -84,7 +84,7 @@ pub record Keeps (z : Numbers) (P : Properties) : Type 0 where
   pub stepped : (now c : ℕ) (p : Sphere) (slots : List (Option Flight)) (h : Held) → P.sphere now h.chunk.sphere p → h.chunk.closed ≡ None → P.held h → P.held (record h { chunk = (step z.buffer p.memory slots c h.chunk).chunk })
   pub cut : (h : Held) → P.held h → P.held (record h { chunk = (cut h.chunk).chunk })
   pub squashed : (h : Held) → P.held h → P.held (record h { chunk = squash h.chunk })
-  pub begun : (now i k : ℕ) (p : Sphere) (t : Parts) → P.sphere now i p → slice_get p.threads k ≡ Some t → is_live t ≡ true → P.held (record { thread = k; chunk = fresh z.signature i t (limit_of z.chunk p.role k t) (halves p.role) })
+  pub afresh : (now i k : ℕ) (p : Sphere) (t : Parts) → P.sphere now i p → slice_get p.threads k ≡ Some t → is_live t ≡ true → P.held (record { thread = k; chunk = fresh z.signature i t (limit_of z.chunk p.role k t) (halves p.role) })
   pub told : (f : Flight) (c : ℕ) → P.flight f → P.flight (tell f c)
   pub drained : (now : ℕ) (f : Flight) (s : Stored) (ss : List Stored) (p : Sphere) → f.words ≡ s ∷ ss → P.flight f → P.sphere now f.sphere p → P.flight (record f { words = ss }) × P.sphere now f.sphere (record p { memory = lay p.memory s })
   pub chunk : (w : World) (c : ℕ) (h : Held) (how : How) → w.numbers ≡ z → Asks w c h how → Holds P (moment w) w
@@ -135,16 +135,16 @@ later-holds P z w keeps h =
 
 -- ---- a chunk that begins
 
-begun-property : (P : Properties) (z : Numbers) (now i k : ℕ) (p : Sphere) (o : Option Parts) → Keeps z P → P.sphere now i p → slice_get p.threads k ≡ o → (h : Held) → begun_thread z i k p o ≡ Some h → P.held h
-begun-property P z now i k p None keeps sphere is h e = absurd (none-some h e)
-begun-property P z now i k p (Some t) keeps sphere is h e =
+afresh-property : (P : Properties) (z : Numbers) (now i k : ℕ) (p : Sphere) (o : Option Parts) → Keeps z P → P.sphere now i p → slice_get p.threads k ≡ o → (h : Held) → thread_afresh z i k p o ≡ Some h → P.held h
+afresh-property P z now i k p None keeps sphere is h e = absurd (none-some h e)
+afresh-property P z now i k p (Some t) keeps sphere is h e =
     branch (λ (o : Option Held). o ≡ Some h → P.held h) (is_live t) (Some (record { thread = k; chunk = fresh z.signature i t (limit_of z.chunk p.role k t) (halves p.role) })) None
-    (λ live q. subst P.held (let r : record { thread = k; chunk = fresh z.signature i t (limit_of z.chunk p.role k t) (halves p.role) } ≡ h = cc in r) (keeps.begun now i k p t sphere is live))
+    (λ live q. subst P.held (let r : record { thread = k; chunk = fresh z.signature i t (limit_of z.chunk p.role k t) (halves p.role) } ≡ h = cc in r) (keeps.afresh now i k p t sphere is live))
     (λ _ q. absurd (none-some h q)) e
 
-begun-holds : (P : Properties) (now : ℕ) (w : World) (c i k : ℕ) (p : Sphere) → Keeps w.numbers P → P.sphere now i p → Holds P now w → Holds P now (with_core w c (begun w.numbers i k p))
-begun-holds P now w c i k p keeps sphere h =
-    core-holds P now w c (begun w.numbers i k p) (λ x e. begun-property P w.numbers now i k p (slice_get p.threads k) keeps sphere refl x e) h
+afresh-holds : (P : Properties) (now : ℕ) (w : World) (c i k : ℕ) (p : Sphere) → Keeps w.numbers P → P.sphere now i p → Holds P now w → Holds P now (with_core w c (held_afresh w.numbers i k p))
+afresh-holds P now w c i k p keeps sphere h =
+    core-holds P now w c (held_afresh w.numbers i k p) (λ x e. afresh-property P w.numbers now i k p (slice_get p.threads k) keeps sphere refl x e) h
 
 -- ---- Step and Cut
 
@@ -172,9 +172,9 @@ step-then P w c (Some h) keeps good is k =
     let p = sphere_at w h.chunk.sphere in
     let s = step w.numbers.buffer p.memory w.slots c h.chunk in
     let same = later-holds P w.numbers w keeps k in
-    branch (Then P w) (is_stopped p.role) (still w Reply.Stopped) (cond (is_open h.chunk) (stepped w c h s) (still w Reply.Waiting))
+    branch (Then P w) (is_stopped p.role) (answered w Reply.Stopped) (cond (is_open h.chunk) (stepped w c h s) (answered w Reply.Waiting))
     (λ _. same)
-    (λ _. branch (Then P w) (is_open h.chunk) (stepped w c h s) (still w Reply.Waiting)
+    (λ _. branch (Then P w) (is_open h.chunk) (stepped w c h s) (answered w Reply.Waiting)
     (λ e. core-holds P (suc (moment w)) w c (Some (record h { chunk = s.chunk }))
     (λ x q. held-is P (record h { chunk = s.chunk }) x q (keeps.stepped (moment w) c p w.slots h (k.spheres h.chunk.sphere (within-core w c h good is)) (open-is h.chunk e) (k.held c h is))) same)
     (λ _. same))
@@ -183,7 +183,7 @@ cut-then : (P : Properties) (w : World) (c : ℕ) (o : Option Held) → Keeps w.
 cut-then P w c None keeps is k = later-holds P w.numbers w keeps k
 cut-then P w c (Some h) keeps is k =
     let same = later-holds P w.numbers w keeps k in
-    branch (Then P w) (is_stopped (sphere_at w h.chunk.sphere).role) (still w Reply.Stopped) (cut_to w c h (cut h.chunk))
+    branch (Then P w) (is_stopped (sphere_at w h.chunk.sphere).role) (answered w Reply.Stopped) (cut_to w c h (cut h.chunk))
     (λ _. same)
     (λ _. core-holds P (suc (moment w)) w c (Some (record h { chunk = (cut h.chunk).chunk }))
     (λ x q. held-is P (record h { chunk = (cut h.chunk).chunk }) x q (keeps.cut h (k.held c h is))) same)
@@ -200,15 +200,15 @@ moved-holds P w i v writes t cores lands held k =
       devices = lands.devices;
     }
 
-granted-then : (P : Properties) (w : World) (c : ℕ) (q : Request) (writes : Marks) (v : Moved) (o : Outcome) → Keeps w.numbers P → Lands P (suc (moment w)) q.sphere v → Holds P (moment w) w → Then P w (granted w c q writes v o)
+granted-then : (P : Properties) (w : World) (c : ℕ) (q : CommitRequest) (writes : Marks) (v : Moved) (o : CommitOutcome) → Keeps w.numbers P → Lands P (suc (moment w)) q.sphere v → Holds P (moment w) w → Then P w (granted w c q writes v o)
 granted-then P w c q writes v Granted keeps lands k =
     let same = later-holds P w.numbers w keeps k in
-    moved-holds P w q.sphere v writes (2 ^ c) (with_core w c (begun w.numbers q.sphere q.thread v.sphere)).cores lands
-    (begun-holds P (suc (moment w)) w c q.sphere q.thread v.sphere keeps lands.sphere same).held same
+    moved-holds P w q.sphere v writes (2 ^ c) (with_core w c (held_afresh w.numbers q.sphere q.thread v.sphere)).cores lands
+    (afresh-holds P (suc (moment w)) w c q.sphere q.thread v.sphere keeps lands.sphere same).held same
 granted-then P w c q writes v Piece keeps lands k =
     let same = later-holds P w.numbers w keeps k in
-    moved-holds P w q.sphere v writes (2 ^ c) (with_core w c (begun w.numbers q.sphere q.thread v.sphere)).cores lands
-    (begun-holds P (suc (moment w)) w c q.sphere q.thread v.sphere keeps lands.sphere same).held same
+    moved-holds P w q.sphere v writes (2 ^ c) (with_core w c (held_afresh w.numbers q.sphere q.thread v.sphere)).cores lands
+    (afresh-holds P (suc (moment w)) w c q.sphere q.thread v.sphere keeps lands.sphere same).held same
 granted-then P w c q writes v (Diverged i why) keeps lands k =
     sphere-holds P (suc (moment w)) w q.sphere v.sphere lands.sphere (later-holds P w.numbers w keeps k)
 
@@ -224,15 +224,15 @@ unfolding grant_serial
 serial-then P w c h how keeps asks k =
     granted-then P w c (serial_request h) _ (serial_moved h.thread (moment w) h.chunk.start w.devices (sphere_at w h.chunk.sphere)) _ keeps (keeps.serial w c h how asks k) k
 
-denied-then : (P : Properties) (w : World) (a : After) (o : Option ℕ) → Then P w (still w Reply.Idle) → Then P w a → Then P w (unless_denied (denied_by o) w a)
+denied-then : (P : Properties) (w : World) (a : After) (o : Option ℕ) → Then P w (answered w Reply.Idle) → Then P w a → Then P w (unless_denied (denied_by o) w a)
 denied-then P w a None same k = k
 denied-then P w a (Some j) same k = same
 
-busy-then : (P : Properties) (w : World) (a : After) (o : Option ℕ) → Then P w (still w Reply.Idle) → Then P w a → Then P w (unless_busy (busy_by o) w a)
+busy-then : (P : Properties) (w : World) (a : After) (o : Option ℕ) → Then P w (answered w Reply.Idle) → Then P w a → Then P w (unless_busy (busy_by o) w a)
 busy-then P w a None same k = k
 busy-then P w a (Some j) same k = same
 
-turn-then : (P : Properties) (w : World) (a : After) (o : Option Actor) → Then P w (still w Reply.Idle) → (o ≡ None → Then P w a) → Then P w (unless_turn o w a)
+turn-then : (P : Properties) (w : World) (a : After) (o : Option Actor) → Then P w (answered w Reply.Idle) → (o ≡ None → Then P w a) → Then P w (unless_turn o w a)
 turn-then P w a None same k = k refl
 turn-then P w a (Some actor) same k = same
 
@@ -249,10 +249,10 @@ closed-then P w c h (Some how) keeps good is closed k =
     let turn = other_turn (head_of p) h.thread in
     let arbiter = ask_arbiter w c h how (asks_serial h.chunk p.role) in
     let same = later-holds P w.numbers w keeps k in
-    branch (Then P w) (is_stopped p.role) (still w Reply.Stopped) (unless_turn turn w (cond (is_full w.slots) (still w Reply.WindowFull) arbiter))
+    branch (Then P w) (is_stopped p.role) (answered w Reply.Stopped) (unless_turn turn w (cond (is_full w.slots) (answered w Reply.WindowFull) arbiter))
     (λ _. same)
-    (λ going. turn-then P w (cond (is_full w.slots) (still w Reply.WindowFull) arbiter) turn same
-    (λ mine. branch (Then P w) (is_full w.slots) (still w Reply.WindowFull) arbiter (λ _. same)
+    (λ going. turn-then P w (cond (is_full w.slots) (answered w Reply.WindowFull) arbiter) turn same
+    (λ mine. branch (Then P w) (is_full w.slots) (answered w Reply.WindowFull) arbiter (λ _. same)
     (λ _. arbiter-then P w c h how (asks_serial h.chunk p.role) keeps (record { good = good; is = is; closed = closed; going = going; turn = mine }) k)))
 
 ask-then : (P : Properties) (w : World) (c : ℕ) (o : Option Held) → Keeps w.numbers P → IsGood w → at w.cores c ≡ o → Holds P (moment w) w → Then P w (ask_held w c o)
@@ -265,7 +265,7 @@ flight-is : (P : Properties) (f x : Flight) → Some f ≡ Some x → P.flight f
 flight-is P f x e p = subst P.flight (let q : f ≡ x = cc in q) p
 
 drain-words-then : (P : Properties) (w : World) (k : ℕ) (f : Flight) (ws : List Stored) → Keeps w.numbers P → IsGood w → at w.slots k ≡ Some f → f.words ≡ ws → Holds P (moment w) w
-    → let d = drain_words (sphere_at w f.sphere).memory f ws in Then P w (went_on (with_slot (with_memory w f.sphere d.memory) k d.slot) (reply_of_drain d.reply))
+    → let d = drain_words (sphere_at w f.sphere).memory f ws in Then P w (answered (with_slot (with_memory w f.sphere d.memory) k d.slot) (reply_of_drain d.reply))
 drain-words-then P w k f [] keeps good is words h =
     let same = later-holds P w.numbers w keeps h in
     slot-holds P (suc (moment w)) (with_memory w f.sphere (sphere_at w f.sphere).memory) k (Some f) (λ x q. flight-is P f x q (h.flights k f is))
@@ -326,7 +326,7 @@ within-sphere w i k t e =
       | inr past ↦ absurd (none-some t (sym (ap (λ (p : Sphere). slice_get p.threads k) (get_or_past w.spheres i no_sphere past)) ∙ e))
     ]
 
-elsewhere-then : (P : Properties) (w : World) (a : After) (o : Option ℕ) → Then P w (still w Reply.Idle) → Then P w a → Then P w (unless_elsewhere o w a)
+elsewhere-then : (P : Properties) (w : World) (a : After) (o : Option ℕ) → Then P w (answered w Reply.Idle) → Then P w a → Then P w (unless_elsewhere o w a)
 elsewhere-then P w a None same k = k
 elsewhere-then P w a (Some d) same k = same
 
@@ -334,14 +334,14 @@ place-then : (P : Properties) (w : World) (c i k : ℕ) (o : Option Parts) → K
 place-then P w c i k None keeps is h = later-holds P w.numbers w keeps h
 place-then P w c i k (Some t) keeps is h =
     let same = later-holds P w.numbers w keeps h in
-    let placed = went_on (with_core w c (begun w.numbers i k (sphere_at w i))) Reply.Placed in
-    branch (Then P w) (is_live t) (unless_elsewhere (core_of w i k) w placed) (still w Reply.Ended)
-    (λ _. elsewhere-then P w placed (core_of w i k) same (begun-holds P (suc (moment w)) w c i k (sphere_at w i) keeps (same.spheres i (within-sphere w i k t is)) same))
+    let placed = answered (with_core w c (held_afresh w.numbers i k (sphere_at w i))) Reply.Placed in
+    branch (Then P w) (is_live t) (unless_elsewhere (core_of w i k) w placed) (answered w Reply.Ended)
+    (λ _. elsewhere-then P w placed (core_of w i k) same (afresh-holds P (suc (moment w)) w c i k (sphere_at w i) keeps (same.spheres i (within-sphere w i k t is)) same))
     (λ _. same)
 
 renewed-then : (P : Properties) (now : ℕ) (v : World) (i k : ℕ) (o : Option ℕ) → Keeps v.numbers P → P.sphere now i (sphere_at v i) → Holds P now v → Holds P now (with_renewed v i k o)
 renewed-then P now v i k None keeps sphere h = h
-renewed-then P now v i k (Some c) keeps sphere h = begun-holds P now v c i k (sphere_at v i) keeps sphere h
+renewed-then P now v i k (Some c) keeps sphere h = afresh-holds P now v c i k (sphere_at v i) keeps sphere h
 
 raise-in-then : (P : Properties) (w : World) (i k value : ℕ) (t : Parts) → Keeps w.numbers P → Raises k t (sphere_at w i) → Holds P (moment w) w → Then P w (raise_in w i k value t)
 raise-in-then P w i k value t keeps raises h =
@@ -357,10 +357,10 @@ raise-then P w i k value None keeps role is h = later-holds P w.numbers w keeps 
 raise-then P w i k value (Some t) keeps role is h =
     let same = later-holds P w.numbers w keeps h in
     let raised_ = raise_in w i k value t in
-    let masked = cond t.mask (still w Reply.Masked) raised_ in
-    branch (Then P w) (is_live t) (cond (has_handler t) masked (still w Reply.NoHandler)) (still w Reply.Ended)
-    (λ live. branch (Then P w) (has_handler t) masked (still w Reply.NoHandler)
-    (λ handler. branch (Then P w) t.mask (still w Reply.Masked) raised_ (λ _. same)
+    let masked = cond t.mask (answered w Reply.Masked) raised_ in
+    branch (Then P w) (is_live t) (cond (has_handler t) masked (answered w Reply.NoHandler)) (answered w Reply.Ended)
+    (λ live. branch (Then P w) (has_handler t) masked (answered w Reply.NoHandler)
+    (λ handler. branch (Then P w) t.mask (answered w Reply.Masked) raised_ (λ _. same)
     (λ mask. raise-in-then P w i k value t keeps (record { is = is; live = live; handler = handler; mask = mask; role = role }) h))
     (λ _. same))
     (λ _. same)
@@ -373,11 +373,11 @@ transfer-then P w i v keeps lands h =
     let same = later-holds P w.numbers w keeps h in
     let g = signed i v.words (nothing w.numbers.signature) in
     let done = dma_done w i g v in
-    branch (Then P w) (is_full w.slots) (still w Reply.WindowFull) (unless_denied (ask g g w.slots) w done)
+    branch (Then P w) (is_full w.slots) (answered w Reply.WindowFull) (unless_denied (ask g g w.slots) w done)
     (λ _. same)
     (λ _. denied-then P w done (first_slot (meets_chunk g g) w.slots) same (moved-holds P w i v g 0 w.cores lands same.held same))
 
-dma-with-then : (P : Properties) (w : World) (i : ℕ) (v : Moved) (o : Outcome) → Keeps w.numbers P → Lands P (suc (moment w)) i v → Holds P (moment w) w → Then P w (dma_with w i v o)
+dma-with-then : (P : Properties) (w : World) (i : ℕ) (v : Moved) (o : CommitOutcome) → Keeps w.numbers P → Lands P (suc (moment w)) i v → Holds P (moment w) w → Then P w (dma_with w i v o)
 dma-with-then P w i v Granted keeps lands h = transfer-then P w i v keeps lands h
 dma-with-then P w i v Piece keeps lands h = transfer-then P w i v keeps lands h
 dma-with-then P w i v (Diverged j why) keeps lands h = sphere-holds P (suc (moment w)) w i v.sphere lands.sphere (later-holds P w.numbers w keeps h)
@@ -402,7 +402,7 @@ dma-then P w i keeps h =
     let p = sphere_at w i in
     let same = later-holds P w.numbers w keeps h in
     let rest = dma_if w i (dma_moved w.devices p) in
-    branch (Then P w) (is_stopped p.role) (still w Reply.Stopped) (unless_turn (turn_before_dma p.role) w rest)
+    branch (Then P w) (is_stopped p.role) (answered w Reply.Stopped) (unless_turn (turn_before_dma p.role) w rest)
     (λ _. same)
     (λ going. turn-then P w rest (turn_before_dma p.role) same (λ turn. dma-if-then P w i (dma_moved w.devices p) keeps going turn refl h))
 
@@ -421,7 +421,7 @@ act-holds P w (Event.Raise i k value) keeps good h =
     let j = sphere_no w i in
     let p = sphere_at w j in
     let rest = raise_thread w j k value (slice_get p.threads k) in
-    branch (Then P w) (replays p.role) (still w Reply.FromLog) rest
+    branch (Then P w) (replays p.role) (answered w Reply.FromLog) rest
     (λ _. later-holds P w.numbers w keeps h)
     (λ role. raise-then P w j k value (slice_get p.threads k) keeps role refl h)
 act-holds P w (Event.Dma i) keeps good h = dma-then P w (sphere_no w i) keeps h
