@@ -47,3 +47,4 @@ pub mod Changing
 pub mod SoundWords
 pub mod SoundThreads
 pub mod SoundChunks
+pub mod SoundUses

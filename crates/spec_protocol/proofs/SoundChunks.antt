@@ -8,7 +8,8 @@ use Rattle.spec_isa.specs.declared.thread.Kind.{Kind}
 use Rattle.spec_isa.specs.declared.thread.Load.{Load}
 use Rattle.spec_isa.specs.Words.{Stored, lays, read, put, holds, is_inside}
 use Rattle.spec_isa.specs.Instruction.{plan_of, serial_of, loads_of, next_of, load_of, store_of}
-use Rattle.spec_isa.specs.Planned.{refuses}
+use Rattle.spec_isa.specs.declared.plan.Plan.{Plan}
+use Rattle.spec_isa.specs.Planned.{refuses, thread_then}
 use Rattle.spec_isa.specs.Runs.{with_store}
 use Rattle.spec_isa.specs.Threads.{IsThread}
 use Rattle.spec_isa.proofs.MemoryLaws.{length_lays}
@@ -42,6 +43,20 @@ next-store : (t : Parts) (f w size : ℕ) → serial_of t f size ≡ None → (s
 unfolding store_of
 next-store t f w size e s is = store-sound size (plan_of t f) t w (not-refused t f size e) s is
 
+-- it leaves the status
+plan_status : (p : Plan) (t : Parts) (w : ℕ) → (thread_then p t w).status ≡ t.status
+plan_status (Plan.Go rd value pc) t w = refl
+plan_status (Plan.Stop kind) t w = refl
+plan_status (Plan.Load op rd a) t w = refl
+plan_status (Plan.Store op a v) t w = refl
+plan_status (Plan.LoadReserved rd a) t w = refl
+plan_status (Plan.StoreConditional rd a v) t w = refl
+plan_status (Plan.Amo op rd a v) t w = refl
+
+next_status : (t : Parts) (f w : ℕ) → (next_of t f w).status ≡ t.status
+unfolding next_of
+next_status t f w = plan_status (plan_of t f) t w
+
 with-words : (size : ℕ) (ws : List Stored) (o : Option Stored) → ((s : Stored) → o ≡ Some s → IsSoundWord size s) → AreSoundWords size ws → AreSoundWords size (with_store ws o)
 with-words size ws None each all = all
 with-words size ws (Some s) each all = sound-put size ws s all (each s refl)
@@ -59,7 +74,7 @@ with-room capacity ws (Some s) e few =
 -- lines read and closing are no part of it
 as-closed : (capacity size : ℕ) (ch : Chunk) (g : Marks) (o : Option How) → IsSoundChunk capacity size ch → IsSoundChunk capacity size (record ch { reads = g; closed = o })
 as-closed capacity size ch g o c =
-    record { words = c.words; room = c.room; limit = c.limit; squashes = c.squashes; start = c.start; thread = c.thread; commits = c.commits }
+    record { words = c.words; room = c.room; limit = c.limit; squashes = c.squashes; start = c.start; thread = c.thread; commits = c.commits; status = c.status }
 
 abbrev Steps : (capacity size : ℕ) → Stepping → Type 0
 Steps capacity size s = IsSoundChunk capacity size s.chunk
@@ -81,6 +96,7 @@ storing-sound capacity size f w ch g e c =
       start = c.start;
       thread = next-thread t f w size e c.thread;
       commits = next_keeps t f w ∙ c.commits;
+      status = next_status t f w ∙ c.status;
     }
     in
     keep_choose (Steps capacity size) (eqb next.done.n next.limit) (closes How.Limit next) (record { reply = Stepped.Ran; chunk = next })
@@ -137,7 +153,7 @@ cut-sound capacity size ch c = cut-open-sound capacity size ch ch.closed c
 
 pub fresh-sound : (capacity size bits i : ℕ) (t : Parts) (limit : ℕ) (halves : Bool) → limit ≤ 4096 → IsThread t → IsSoundChunk capacity size (fresh bits i t limit halves)
 fresh-sound capacity size bits i t limit halves l is =
-    record { words = sound-none size; room = omega arith; limit = l; squashes = omega arith; start = is; thread = is; commits = refl }
+    record { words = sound-none size; room = omega arith; limit = l; squashes = omega arith; start = is; thread = is; commits = refl; status = refl }
 
 squash-limit : (b : Bool) (limit : ℕ) → limit ≤ 4096 → cond b (halved limit) limit ≤ 4096
 squash-limit true limit l = omega (arith, l)
@@ -162,6 +178,7 @@ squash-sound capacity size ch c =
       start = c.start;
       thread = c.start;
       commits = refl;
+      status = refl;
     }
 
 -- ---- no more instructions than the limit

@@ -1,16 +1,21 @@
 -- What is sound: sizes and ranges that hold of every world which a setup within its limits comes to, beside the invariant.
-use Rattle.std.specs.Prelude.{◌≡◌, ℕ, ◌+◌, ◌%◌, ◌^◌, ◌<◌, ◌≤◌, true, List, [], ◌∷◌, length, slice_get, slice_index_or, All, Option, Some, None}
+use Rattle.std.specs.Prelude.{◌≡◌, ℕ, ◌+◌, ◌%◌, ◌^◌, ◌<◌, ◌≤◌, Bool, true, false, nat_le, if◌then◌else◌, List, [], ◌∷◌, length, slice_get, slice_index_or, All, Option, Some, None}
 use Rattle.dl_entry.specs.declared.Request.{Request}
 use Rattle.spec_isa.specs.declared.thread.Parts.{Parts}
 use Rattle.spec_isa.specs.Words.{Stored, IsBytes}
 use Rattle.spec_isa.specs.Threads.{IsThread}
+use Rattle.spec_log.specs.declared.Interrupt.{Interrupt}
+use Rattle.spec_log.specs.declared.LogParts.{LogParts}
 use Rattle.spec_log.specs.Log.{IsChunkSize, IsLog}
 use Rattle.spec_kernel.specs.Devices.{Devices}
+use Rattle.spec_kernel.specs.Interrupts.{is_live}
+use Rattle.spec_play.specs.Progress.{position}
+use Rattle.spec_play.specs.Turns.{Turn}
 use Rattle.spec_engine.specs.Signatures.{is_size}
 use Rattle.spec_engine.specs.Flights.{Flight, AreInside, at}
 use Rattle.spec_engine.specs.Chunks.{Chunk}
-use Rattle.spec_protocol.specs.Spheres.{Sphere}
-use Rattle.spec_protocol.specs.World.{Held, World, sphere_at}
+use Rattle.spec_protocol.specs.Spheres.{Book, Role, Plain, Record, Replay, Sphere, is_over, whole_limit}
+use Rattle.spec_protocol.specs.World.{Held, World, moment, sphere_at}
 use Rattle.spec_protocol.specs.Machine.{RoleSetup, IsPlain, IsRecorded, IsReplayed, SphereSetup, Setup}
 use Rattle.spec_protocol.specs.Promises.{AreSizesKept}
 
@@ -98,19 +103,70 @@ abbrev pub IsSoundIf : (size : ℕ) → Option Request → Type 0
 IsSoundIf size None = Unit {0}
 IsSoundIf size (Some request) = IsSoundRequest size request
 
--- a sphere that began as the image: its memory has the image's length, and it has 1 to 15 threads
-pub record IsSoundSphere (image : SphereSetup) (p : Sphere) : Type 0 where
+-- ---- a replay
+
+-- an interrupt of the log is due once its thread has as many commits
+abbrev pub is_due : Interrupt → Option Parts → Bool
+is_due i None = false
+is_due i (Some t) = nat_le i.index t.commits
+
+-- how many of these are due
+abbrev pub due : List Parts → List Interrupt → ℕ
+due threads [] = 0
+due threads (i ∷ is) = (if is_due i (slice_get threads i.thread) then 1 else 0) + due threads is
+
+-- the thread whose turn it is is there and lives, and its commit has room for an instruction more than its pieces have
+pub record HasThread (b : Book) (threads : List Parts) (k : ℕ) : Type 0 where
+  pub thread : Parts
+  pub there : slice_get threads k ≡ Some thread
+  pub live : is_live thread ≡ true
+  pub room : b.total < whole_limit b.log k thread.commits
+
+-- a replay after so many commits: it has no more than its log, and before its end fewer; no more of the log is used than
+-- there is, and no interrupt before it is due; and pieces load no more often than they run instructions
+pub record IsSoundBook (commits : ℕ) (threads : List Parts) (b : Book) : Type 0 where
+  pub log : IsLog b.log
+  pub within : commits ≤ b.log.count
+  pub going : is_over b.now ≡ false → commits < b.log.count
+  pub inputs : b.used.inputs ≤ length b.log.inputs
+  pub dmas : b.used.dmas ≤ length b.log.dmas
+  pub interrupts : b.used.interrupts ≤ due threads b.log.interrupts
+  pub loads : length b.loads ≤ b.total
+  pub turn : (k : ℕ) → b.now ≡ Turn k → HasThread b threads k
+
+-- a recording has as many commits as its sphere, and the plan's standard size
+pub record IsSoundLog (s commits : ℕ) (log : LogParts) : Type 0 where
+  pub size : log.s ≡ s
+  pub count : log.count ≡ commits
+
+abbrev pub IsSoundRole : (s commits : ℕ) → List Parts → Role → Type 0
+IsSoundRole s commits threads Plain = Unit {0}
+IsSoundRole s commits threads (Record log) = IsSoundLog s commits log
+IsSoundRole s commits threads (Replay b) = IsSoundBook commits threads b
+
+-- ---- a sphere
+
+-- a thread has no more commits than its sphere
+pub record IsSoundThread (commits : ℕ) (t : Parts) : Type 0 where
+  pub thread : IsThread t
+  pub few : t.commits ≤ commits
+
+-- a sphere that began as the image, after so many events: its memory has the image's length, it has 1 to 15 threads, and
+-- no more commits than there were events
+pub record IsSoundSphere (s : ℕ) (image : SphereSetup) (events : ℕ) (p : Sphere) : Type 0 where
   pub size : length p.memory ≡ length image.memory
   pub bytes : IsBytes p.memory
   pub request : IsSoundIf (length image.memory) p.progress.request
   pub some : 1 ≤ length p.threads
   pub few : length p.threads ≤ 15
-  pub threads : (k : ℕ) (t : Parts) → slice_get p.threads k ≡ Some t → IsThread t
+  pub threads : (k : ℕ) (t : Parts) → slice_get p.threads k ≡ Some t → IsSoundThread (position p.progress) t
+  pub commits : position p.progress ≤ events
+  pub role : IsSoundRole s (position p.progress) p.threads p.role
 
 -- ---- a core
 
 -- a running chunk: its words lie in the memory of its sphere and find room in the buffer; its limit is a size that a log
--- can have; squashes are counted to 3; and its thread has as many commits as at its start
+-- can have; squashes are counted to 3; and its thread has the commits and the status that it began with
 pub record IsSoundChunk (buffer size : ℕ) (ch : Chunk) : Type 0 where
   pub words : AreSoundWords size ch.done.words
   pub room : length ch.done.words ≤ buffer
@@ -119,6 +175,7 @@ pub record IsSoundChunk (buffer size : ℕ) (ch : Chunk) : Type 0 where
   pub start : IsThread ch.start
   pub thread : IsThread ch.done.thread
   pub commits : ch.done.thread.commits ≡ ch.start.commits
+  pub status : ch.done.thread.status ≡ ch.start.status
 
 -- ---- devices
 
@@ -132,6 +189,6 @@ pub record HaveByteInput (d : Devices) : Type 0 where
 pub record IsSound (s : Setup) (w : World) : Type 0 where
   pub sizes : AreSizesKept s w
   pub devices : HaveByteInput w.devices
-  pub spheres : (i : ℕ) → i < length w.spheres → IsSoundSphere (image_at s i) (sphere_at w i)
+  pub spheres : (i : ℕ) → i < length w.spheres → IsSoundSphere s.numbers.chunk (image_at s i) (moment w) (sphere_at w i)
   pub flights : (k : ℕ) (f : Flight) → at w.slots k ≡ Some f → AreSoundWords (size_of s f.sphere) f.words
   pub held : (c : ℕ) (h : Held) → at w.cores c ≡ Some h → IsSoundChunk s.numbers.buffer (size_of s h.chunk.sphere) h.chunk
