@@ -48,3 +48,4 @@ pub mod SoundWords
 pub mod SoundThreads
 pub mod SoundChunks
 pub mod SoundUses
+pub mod SoundDevices
