@@ -49,3 +49,5 @@ pub mod SoundThreads
 pub mod SoundChunks
 pub mod SoundUses
 pub mod SoundDevices
+pub mod SoundLimits
+pub mod SoundMoves
