@@ -1,8 +1,9 @@
 -- What a granted request, a DMA or an interrupt makes of a sound sphere is sound.
 use Rattle.std.proofs.Common.{◌≡◌, ◌≢◌, ℕ, zero, suc, ◌+◌, ◌-◌, ◌%◌, ◌<◌, ◌≤◌, ◌⊎◌, inl, inr, Bool, true, false, eqb, cond, List, [], ◌∷◌, ◌++◌, length, Option, Some, None, refl, sym, ap, ◌∙◌, subst, set, arith}
-use Rattle.std.specs.Prelude.{slice_get, slice_set, nat_lt, nat_le, ◌&&◌, max}
+use Rattle.std.specs.Prelude.{slice_get, slice_set, nat_lt, nat_le, ◌&&◌, ◌||◌}
 use Rattle.std.proofs.Math.ListN.{length-set, length-append}
-use Rattle.std.proofs.lemmas.Bool.{true≢false, ltb-true, leb-true, and_parts}
+use Rattle.std.proofs.lemmas.Bool.{true≢false, ltb-true, leb-true, eqb-true, and_parts}
+use Rattle.std.proofs.lemmas.List.{append-nil}
 use Rattle.std.proofs.lemmas.Option.{none-some}
 use Rattle.dl_entry.specs.declared.Actor.{Actor}
 use Rattle.dl_entry.specs.declared.End.{End}
@@ -19,15 +20,16 @@ use Rattle.spec_log.specs.Log.{IsLog}
 use Rattle.spec_log.specs.Size.{size_in}
 use Rattle.spec_kernel.specs.Devices.{Devices}
 use Rattle.spec_kernel.specs.Copies.{dma_words}
-use Rattle.spec_kernel.specs.Needs.{Need, need}
+use Rattle.spec_kernel.specs.Needs.{Need, Write, Read, Random, Clock, MomentWord, InputWord, need}
 use Rattle.spec_kernel.specs.Answers.{dma_bytes, dma_taken, Taken, taken}
-use Rattle.spec_kernel.specs.Records.{fits, fits_read, fits_random}
-use Rattle.spec_kernel.specs.Interrupts.{is_live, takes_interrupt, interrupted}
+use Rattle.spec_kernel.specs.Records.{has_no_bytes, went_nowhere, fits_read, fits_random, fits}
+use Rattle.spec_kernel.specs.Interrupts.{lives, is_live, takes_interrupt, interrupted}
 use Rattle.spec_kernel.specs.Serving.{Served, serve, console_told}
-use Rattle.spec_play.specs.Effects.{Effect, counted, chunk_effect, serial_effect}
+use Rattle.spec_play.specs.Effects.{Effect, chunk_effect, serial_effect, dma_commit}
 use Rattle.spec_play.specs.Progress.{Progress, position, with_effect, with_dma, Used, with_interrupt, with_input, with_dma_used}
 use Rattle.spec_play.specs.Turns.{Now, Turn, TurnOfDma, Over, has_left_over, at_end, turn_of_thread, turn_of, next_actor, now_at}
 use Rattle.spec_play.specs.Plays.{with_threads}
+use Rattle.spec_play.specs.Recording.{noted, input_noted}
 use Rattle.spec_play.specs.Verdicts.{Verdict, Goes, Fails, unless, interrupt_at, with_interrupted, ended, chunk_why, chunk_verdict, Given, given, serial_why, served_verdict, serial_verdict}
 use Rattle.spec_play.specs.Transfers.{DmaVerdict, DmaGoes, DmaFails, is_for, transferred, dma_unless, dma_verdict}
 use Rattle.spec_protocol.specs.Spheres.{Book, Role, Plain, Record, Replay, Sphere, is_over, whole_limit}
@@ -332,6 +334,288 @@ chunk-goes size k log p u ts t r is thread commits words request few uses =
 book-uses : (commits : ℕ) (threads : List Parts) (b : Book) → IsSoundBook commits threads b → Uses b.log threads b.used
 book-uses commits threads b s = record { inputs = s.inputs; dmas = s.dmas; interrupts = s.interrupts }
 
-piece-threads : (n k : ℕ) (ts : List Parts) (u : Parts) → IsSoundThread n u → ((j : ℕ) (x : Parts) → slice_get ts j ≡ Some x → IsSoundThread n x) → (j : ℕ) (x : Parts) → slice_get (slice_set ts k u) j ≡ Some x → IsSoundThread n x
-piece-threads n k ts u new old j x e = set-all (IsSoundThread n) ts k u new old j x e
+-- a piece leaves the thread's commits, and room for an instruction more
+piece-sound : (s : ℕ) (image : SphereSetup) (now k : ℕ) (b : Book) (t : Parts) (r : Run) (devices : Devices) (p : Sphere) → IsSoundBook (position p.progress) p.threads b → b.now ≡ Turn k → is_live t ≡ true → IsSoundSphere s image now p → slice_get p.threads k ≡ Some t
+    → IsSoundRun (length image.memory) t r → b.total + r.n < whole_limit b.log k t.commits → HaveByteInput devices → IsSoundMoved s image (suc now) (piece_moved b k r devices p)
+piece-sound s image now k b t r devices p book turn live sound is run room d =
+    let n = position p.progress in
+    let us = set p.threads k r.thread in
+    let c = run.commits in
+    let goes : GoOn p.threads us = subst (GoOn p.threads) (append-nil us) (commit-goes_on p.threads [] k t r.thread is (omega (arith, c))) in
+    let lives : is_live r.thread ≡ true = ap lives run.status ∙ live in
+    let there = get-set_same p.threads k r.thread t is in
+    record {
+      sphere = record {
+        size = sound.size;
+        bytes = sound.bytes;
+        request = sound.request;
+        some = (let a = sound.some in let l = length-set p.threads k r.thread in omega (arith, l, a));
+        few = (let a = sound.few in let l = length-set p.threads k r.thread in omega (arith, l, a));
+        threads = set-all (IsSoundThread n) p.threads k r.thread (record { thread = run.thread; few = (let l = (sound.threads k t is).few in omega (arith, l, c)) }) sound.threads;
+        commits = (let l = sound.commits in omega (arith, l));
+        role = record {
+          log = book.log;
+          within = book.within;
+          going = book.going;
+          inputs = book.inputs;
+          dmas = book.dmas;
+          interrupts = (let l = due-more b.log.interrupts p.threads us goes in let a = book.interrupts in omega (arith, a, l));
+          loads = (let l = length-append b.loads r.loads in let a = book.loads in let q = run.loads in omega (arith, l, a, q));
+          turn = λ j e. subst (HasThread (record b { total = b.total + r.n; loads = b.loads ++ r.loads }) us) (let q : Turn k ≡ Turn j = sym turn ∙ e in let h : k ≡ j = cc in h)
+              (record { thread = r.thread; there = there; live = lives; room = subst (λ (m : ℕ). b.total + r.n < whole_limit b.log k m) (sym c) room });
+        };
+      };
+      words = run.words;
+      devices = d;
+    }
 
+-- where it is a piece, its commit has room for it and an instruction more
+pub record FitsRole (k : ℕ) (t : Parts) (piece : Bool) (r : Run) (role : Role) : Type 0 where
+  pub live : is_live t ≡ true
+  pub going : (b : Book) → role ≡ Replay b → is_over b.now ≡ false
+  pub turn : (b : Book) → role ≡ Replay b → b.now ≡ Turn k
+  pub room : (b : Book) → role ≡ Replay b → piece ≡ true → b.total + r.n < whole_limit b.log k t.commits
+
+replayed-sound : (s : ℕ) (image : SphereSetup) (now k : ℕ) (b : Book) (t : Parts) (piece : Bool) (r : Run) (devices : Devices) (p : Sphere) → IsSoundBook (position p.progress) p.threads b → FitsRole k t piece r (Replay b) → IsSoundSphere s image now p
+    → slice_get p.threads k ≡ Some t → IsSoundRun (length image.memory) t r → HaveByteInput devices → IsSoundMoved s image (suc now) (replayed_chunk piece b k r devices p)
+replayed-sound s image now k b t true r devices p book fits sound is run d =
+    piece-sound s image now k b t r devices p book (fits.turn b refl) fits.live sound is run (fits.room b refl refl) d
+replayed-sound s image now k b t false r devices p book fits sound is run d =
+    verdict-sound s image now k b t (chunk_verdict b.log p.progress b.used k (joined b r)) devices p book (fits.going b refl) sound is
+    (chunk-goes (length image.memory) k b.log p.progress b.used p.threads t (joined b r) is run.thread run.commits run.words sound.request sound.few (book-uses (position p.progress) p.threads b book)) d
+
+chunk-in-sound : (s : ℕ) (image : SphereSetup) (now k : ℕ) (role : Role) (t : Parts) (piece short : Bool) (r : Run) (devices : Devices) (p : Sphere) → IsSoundRole s (position p.progress) p.threads role → FitsRole k t piece r role → IsSoundSphere s image now p
+    → slice_get p.threads k ≡ Some t → IsSoundRun (length image.memory) t r → HaveByteInput devices → IsSoundMoved s image (suc now) (chunk_in role k piece short r devices p)
+chunk-in-sound s image now k Plain t piece short r devices p role fits sound is run d =
+    granted-sound s image now k Plain t (chunk_effect k p.progress.request r) devices p sound is
+    (chunk-effect (length image.memory) k p.threads t p.progress.request r run.thread run.commits run.words sound.request sound.few) tt d
+chunk-in-sound s image now k (Record log) t piece short r devices p role fits sound is run d =
+    let e = chunk_effect k p.progress.request r in
+    let n = next-position k e p.progress in
+    let c = role.count in
+    granted-sound s image now k (Record (noted e.commit r.thread.commits short log)) t e devices p sound is
+    (chunk-effect (length image.memory) k p.threads t p.progress.request r run.thread run.commits run.words sound.request sound.few)
+    (record { size = role.size; count = omega (arith, n, c) }) d
+chunk-in-sound s image now k (Replay b) t piece short r devices p role fits sound is run d = replayed-sound s image now k b t piece r devices p role fits sound is run d
+
+pub chunk-sound : (s : ℕ) (image : SphereSetup) (now k : ℕ) (t : Parts) (piece short : Bool) (r : Run) (devices : Devices) (p : Sphere) → FitsRole k t piece r p.role → IsSoundSphere s image now p
+    → slice_get p.threads k ≡ Some t → IsSoundRun (length image.memory) t r → HaveByteInput devices → IsSoundMoved s image (suc now) (chunk_moved k piece short r devices p)
+unfolding chunk_moved
+chunk-sound s image now k t piece short r devices p fits sound is run d = chunk-in-sound s image now k p.role t piece short r devices p sound.role fits sound is run d
+
+-- ---- serial steps
+
+read-brings : (len : ℕ) (r : Input) → fits_read len r ≡ true → length r.bytes ≤ len
+read-brings len r e =
+    elim (nat_le r.result len && eqb (length r.bytes) r.result) as (λ (b : Bool). (nat_le r.result len && eqb (length r.bytes) r.result) ≡ b → (b || (went_nowhere r && has_no_bytes r)) ≡ true → length r.bytes ≤ len) [
+      | true ↦ λ h _. (
+          let q = and_parts (nat_le r.result len) (eqb (length r.bytes) r.result) h in
+          let a = leb-true r.result len q.0 in
+          let c = eqb-true (length r.bytes) r.result q.1 in
+          omega (arith, a, c)
+          )
+      | false ↦ λ _ h. (let c = eqb-true (length r.bytes) 0 (and_parts (went_nowhere r) (has_no_bytes r) h).1 in omega (arith, c))
+    ] refl e
+
+-- the record that a log gives is no longer than what is wanted
+fits-brings : (n : Need) (r : Input) → fits n r ≡ true → Brings (Some n) r
+unfolding fits
+fits-brings (Write channel bytes) r e = tt
+fits-brings (Read channel buf len) r e = read-brings len r (and_parts (eqb r.kind 3) (fits_read len r) e).1
+fits-brings (Random buf len) r e =
+    let q = and_parts (eqb r.kind 4) (fits_random len r) e in
+    let c = eqb-true (length r.bytes) len (and_parts (eqb r.result len) (eqb (length r.bytes) len) q.1).1 in
+    omega (arith, c)
+fits-brings Clock r e = tt
+fits-brings MomentWord r e = tt
+fits-brings InputWord r e = tt
+
+pub get-within : {X : Type 0} (xs : List X) (k : ℕ) (x : X) → slice_get xs k ≡ Some x → k < length xs
+get-within [] k x e = absurd (none-some x e)
+get-within (y ∷ xs) zero x e = omega arith
+get-within (y ∷ xs) (suc k) x e = let l = get-within xs k x e in omega (arith, l)
+
+-- what is given fits, and is among the records
+record IsGiven (log : LogParts) (threads : List Parts) (o : Option Need) (g : Given) : Type 0 where
+  brings : BringsIf o g.input
+  uses : Uses log threads g.used
+
+abbrev IfGiven : (log : LogParts) (threads : List Parts) → Option Need → Option Given → Type 0
+IfGiven log threads o None = Unit {0}
+IfGiven log threads o (Some g) = IsGiven log threads o g
+
+given-sound : (log : LogParts) (threads : List Parts) (o : Option Need) (next : Option Input) (u : Used) → slice_get log.inputs u.inputs ≡ next → Uses log threads u → IfGiven log threads o (given o next u)
+given-sound log threads None next u is uses = record { brings = tt; uses = uses }
+given-sound log threads (Some n) None u is uses = tt
+given-sound log threads (Some n) (Some r) u is uses =
+    branch (IfGiven log threads (Some n)) (fits n r) (Some (record { input = Some r; used = with_input u })) None
+    (λ e. record { brings = fits-brings n r e; uses = record { inputs = (let l = get-within log.inputs u.inputs r is in omega (arith, l)); dmas = uses.dmas; interrupts = uses.interrupts } })
+    (λ _. tt)
+
+served-goes : (size k : ℕ) (log : LogParts) (p : Progress) (ts : List Parts) (t : Parts) (m : List ℕ) (o : Option Given) → slice_get ts k ≡ Some t → IfGiven log ts (need t m) o → length m ≡ size → size % 4 ≡ 0 → IsThread t → IsSoundIf size p.request → length ts ≤ 15
+    → IfGoes (SoundlyIn size log k ts t) (served_verdict log p k ts t m o)
+served-goes size k log p ts t m None is each same whole thread request few = tt
+served-goes size k log p ts t m (Some g) is each same whole thread request few =
+    ended-goes size log k ts t (serial_effect k (serve k ts p.request t m g.input)) g.used is (serial-effect size k ts p.request t m g.input same whole each.brings thread request few) each.uses
+
+serial-goes : (size k : ℕ) (log : LogParts) (p : Progress) (u : Used) (ts : List Parts) (t : Parts) (m : List ℕ) → slice_get ts k ≡ Some t → Uses log ts u → length m ≡ size → size % 4 ≡ 0 → IsThread t → IsSoundIf size p.request → length ts ≤ 15
+    → IfGoes (SoundlyIn size log k ts t) (serial_verdict log p u k ts t m)
+unfolding serial_verdict
+serial-goes size k log p u ts t m is uses same whole thread request few =
+    let g = given (need t m) (slice_get log.inputs u.inputs) u in
+    unless-goes (SoundlyIn size log k ts t) (serial_why (size_in log (Actor.Thread k) t.commits)) (served_verdict log p k ts t m g)
+    (served-goes size k log p ts t m g is (given-sound log ts (need t m) (slice_get log.inputs u.inputs) u refl uses) same whole thread request few)
+
+-- the log keeps its standard size, and an input is no commit
+input-log : (s n : ℕ) (o : Option Input) (log : LogParts) → IsSoundLog s n log → IsSoundLog s n (input_noted o log)
+input-log s n None log h = h
+input-log s n (Some r) log h = record { size = h.size; count = h.count }
+
+served-sound : (s : ℕ) (image : SphereSetup) (now k : ℕ) (role : Role) (t : Parts) (g : Taken) (p : Sphere) → length image.memory % 4 ≡ 0 → IsSoundSphere s image now p → slice_get p.threads k ≡ Some t → IsSoundTaken (need t p.memory) g
+    → IsSoundRole s (position (with_effect k (serial_effect k (serve k p.threads p.progress.request t p.memory g.input)) p.progress)) (with_threads k (serial_effect k (serve k p.threads p.progress.request t p.memory g.input)) p.threads) role
+    → IsSoundMoved s image (suc now) (served_as role k t g p)
+served-sound s image now k role t g p whole sound is taken_ role_sound =
+    let v = serve k p.threads p.progress.request t p.memory g.input in
+    granted-sound s image now k role t (serial_effect k v) (console_told t p.memory v.outputs g.devices) p sound is
+    (serial-effect (length image.memory) k p.threads p.progress.request t p.memory g.input sound.size whole taken_.brings (sound.threads k t is).thread sound.request sound.few)
+    role_sound (told-devices t p.memory v.outputs g.devices taken_.devices)
+
+serial-in-sound : (s : ℕ) (image : SphereSetup) (now k moment : ℕ) (role : Role) (t : Parts) (devices : Devices) (p : Sphere) → length image.memory % 4 ≡ 0 → IsSoundRole s (position p.progress) p.threads role → ((b : Book) → role ≡ Replay b → is_over b.now ≡ false)
+    → IsSoundSphere s image now p → slice_get p.threads k ≡ Some t → HaveByteInput devices → IsSoundMoved s image (suc now) (serial_in role k moment t devices p)
+serial-in-sound s image now k moment Plain t devices p whole role going sound is d =
+    served-sound s image now k Plain t (taken (need t p.memory) devices moment) p whole sound is (taken-sound t p.memory devices moment sound.bytes d) tt
+serial-in-sound s image now k moment (Record log) t devices p whole role going sound is d =
+    let g = taken (need t p.memory) devices moment in
+    let e = serial_effect k (serve k p.threads p.progress.request t p.memory g.input) in
+    let n = next-position k e p.progress in
+    let c = role.count in
+    served-sound s image now k (Record (serial_noted k t g log p)) t g p whole sound is (taken-sound t p.memory devices moment sound.bytes d)
+    (input-log s (position (with_effect k e p.progress)) g.input (noted e.commit t.commits false log) (record { size = role.size; count = omega (arith, n, c) }))
+serial-in-sound s image now k moment (Replay b) t devices p whole role going sound is d =
+    verdict-sound s image now k b t (serial_verdict b.log p.progress b.used k p.threads t p.memory) devices p role (going b refl) sound is
+    (serial-goes (length image.memory) k b.log p.progress b.used p.threads t p.memory is (book-uses (position p.progress) p.threads b role) sound.size whole (sound.threads k t is).thread sound.request sound.few) d
+
+pub serial-sound : (s : ℕ) (image : SphereSetup) (now k moment : ℕ) (t : Parts) (devices : Devices) (p : Sphere) → length image.memory % 4 ≡ 0 → ((b : Book) → p.role ≡ Replay b → is_over b.now ≡ false)
+    → IsSoundSphere s image now p → slice_get p.threads k ≡ Some t → HaveByteInput devices → IsSoundMoved s image (suc now) (serial_moved k moment t devices p)
+unfolding serial_moved
+serial-sound s image now k moment t devices p whole going sound is d = serial-in-sound s image now k moment p.role t devices p whole sound.role going sound is d
+
+-- ---- DMAs
+
+dma-position : (p : Progress) → position (with_dma p) ≡ suc (position p)
+dma-position p = pushed_length p.commits dma_commit (length p.commits) refl
+
+dma-as-sound : (s : ℕ) (image : SphereSetup) (now : ℕ) (role : Role) (words : List Stored) (devices : Devices) (p : Sphere) → IsSoundSphere s image now p → AreSoundWords (length image.memory) words → IsSoundRole s (position (with_dma p.progress)) p.threads role
+    → HaveByteInput devices → IsSoundMoved s image (suc now) (dma_as role words devices p)
+dma-as-sound s image now role words devices p sound words_sound role_sound d =
+    let n = dma-position p.progress in
+    record {
+      sphere = record {
+        size = sound.size;
+        bytes = sound.bytes;
+        request = tt;
+        some = sound.some;
+        few = sound.few;
+        threads = λ j x h. later-thread (position p.progress) (position (with_dma p.progress)) x (omega (arith, n)) (sound.threads j x h);
+        commits = (let l = sound.commits in omega (arith, n, l));
+        role = role_sound;
+      };
+      words = words_sound;
+      devices = d;
+    }
+
+abbrev IfMoved : (s : ℕ) (image : SphereSetup) (now : ℕ) → Option Moved → Type 0
+IfMoved s image now None = Unit {0}
+IfMoved s image now (Some v) = IsSoundMoved s image now v
+
+live-dma-sound : (s : ℕ) (image : SphereSetup) (now : ℕ) (role : Role) (devices : Devices) (p : Sphere) (o : Option Request) → length image.memory % 4 ≡ 0 → IsSoundSphere s image now p → IsSoundIf (length image.memory) o → IsSoundRole s (position (with_dma p.progress)) p.threads role
+    → HaveByteInput devices → IfMoved s image (suc now) (live_dma role devices p o)
+live-dma-sound s image now role devices p None whole sound request role_sound d = tt
+live-dma-sound s image now role devices p (Some q) whole sound request role_sound d =
+    dma-as-sound s image now role (dma_words q (dma_bytes devices q)) (dma_taken devices q) p sound (dma-sound (length image.memory) q (dma_bytes devices q) whole request (dma-few devices q)) role_sound (dma-devices devices q d)
+
+dma-log-sound : (s n m : ℕ) (log : LogParts) (devices : Devices) (p : Sphere) (o : Option Request) → m ≡ suc n → (o ≡ None → ⊥) → IsSoundLog s n log → IsSoundLog s m (dma_log log devices p o)
+dma-log-sound s n m log devices p None e some h = absurd (some refl)
+dma-log-sound s n m log devices p (Some q) e some h = record { size = h.size; count = (let c = h.count in omega (arith, c, e)) }
+
+recorded-dma-sound : (s : ℕ) (image : SphereSetup) (now : ℕ) (log : LogParts) (devices : Devices) (p : Sphere) (o : Option Request) → length image.memory % 4 ≡ 0 → IsSoundSphere s image now p → IsSoundIf (length image.memory) o → IsSoundLog s (position p.progress) log
+    → HaveByteInput devices → IfMoved s image (suc now) (live_dma (Record (dma_log log devices p o)) devices p o)
+recorded-dma-sound s image now log devices p None whole sound request role d = tt
+recorded-dma-sound s image now log devices p (Some q) whole sound request role d =
+    live-dma-sound s image now (Record (dma_log log devices p (Some q))) devices p (Some q) whole sound request
+    (dma-log-sound s (position p.progress) (position (with_dma p.progress)) log devices p (Some q) (dma-position p.progress) (λ e. none-some q (sym e)) role) d
+
+-- what the log says of it
+record DmaUses (size : ℕ) (log : LogParts) (u : Used) (words : List Stored) : Type 0 where
+  words_sound : AreSoundWords size words
+  among : u.dmas < length log.dmas
+
+abbrev IfDmaGoes : (size : ℕ) (log : LogParts) (u : Used) → DmaVerdict → Type 0
+IfDmaGoes size log u (DmaGoes words) = DmaUses size log u words
+IfDmaGoes size log u (DmaFails why) = Unit {0}
+
+transferred-goes : (size : ℕ) (log : LogParts) (u : Used) (i : ℕ) (o : Option Request) (next : Option DmaRecord) → size % 4 ≡ 0 → IsSoundIf size o → slice_get log.dmas u.dmas ≡ next → IfDmaGoes size log u (transferred i o next)
+transferred-goes size log u i None next whole request is = tt
+transferred-goes size log u i (Some q) None whole request is = tt
+transferred-goes size log u i (Some q) (Some dma) whole request is =
+    branch (IfDmaGoes size log u) (is_for i q dma) (DmaGoes (dma_words q dma.bytes)) (DmaFails Why.Dma)
+    (λ e. record {
+      words_sound = dma-sound size q dma.bytes whole request (leb-true (length dma.bytes) q.len (and_parts (eqb dma.slot i) (nat_le (length dma.bytes) q.len) e).1);
+      among = get-within log.dmas u.dmas dma is;
+    })
+    (λ _. tt)
+
+dma-unless-goes : (size : ℕ) (log : LogParts) (u : Used) (o : Option Why) (x : DmaVerdict) → IfDmaGoes size log u x → IfDmaGoes size log u (dma_unless o x)
+dma-unless-goes size log u None x h = h
+dma-unless-goes size log u (Some why) x h = tt
+
+dma-goes : (size : ℕ) (log : LogParts) (p : Progress) (u : Used) → size % 4 ≡ 0 → IsSoundIf size p.request → IfDmaGoes size log u (dma_verdict log p u)
+unfolding dma_verdict
+dma-goes size log p u whole request =
+    dma-unless-goes size log u (serial_why (size_in log Actor.Dma (position p))) (transferred (position p) p.request (slice_get log.dmas u.dmas))
+    (transferred-goes size log u (position p) p.request (slice_get log.dmas u.dmas) whole request refl)
+
+dma-verdict-sound : (s : ℕ) (image : SphereSetup) (now : ℕ) (b : Book) (x : DmaVerdict) (devices : Devices) (p : Sphere) → IsSoundBook (position p.progress) p.threads b → is_over b.now ≡ false → IsSoundSphere s image now p → IfDmaGoes (length image.memory) b.log b.used x
+    → HaveByteInput devices → IsSoundMoved s image (suc now) (dma_by_verdict b x devices p)
+dma-verdict-sound s image now b (DmaFails why) devices p book going sound goes d = diverged-sound s image now b why devices p book sound d
+dma-verdict-sound s image now b (DmaGoes words) devices p book going sound goes d =
+    let n = dma-position p.progress in
+    let l = book.going going in
+    dma-as-sound s image now _ words devices p sound goes.words_sound
+    (turned-sound b.log (with_dma p.progress) (with_dma_used b.used) p.threads book.log (omega (arith, n, l)) book.inputs goes.among book.interrupts) d
+
+dma-in-sound : (s : ℕ) (image : SphereSetup) (now : ℕ) (role : Role) (devices : Devices) (p : Sphere) → length image.memory % 4 ≡ 0 → IsSoundRole s (position p.progress) p.threads role → ((b : Book) → role ≡ Replay b → is_over b.now ≡ false) → IsSoundSphere s image now p
+    → HaveByteInput devices → IfMoved s image (suc now) (dma_in role devices p)
+dma-in-sound s image now Plain devices p whole role going sound d = live-dma-sound s image now Plain devices p p.progress.request whole sound sound.request tt d
+dma-in-sound s image now (Record log) devices p whole role going sound d = recorded-dma-sound s image now log devices p p.progress.request whole sound sound.request role d
+dma-in-sound s image now (Replay b) devices p whole role going sound d =
+    dma-verdict-sound s image now b (dma_verdict b.log p.progress b.used) devices p role (going b refl) sound (dma-goes (length image.memory) b.log p.progress b.used whole sound.request) d
+
+pub dma-moved-sound : (s : ℕ) (image : SphereSetup) (now : ℕ) (devices : Devices) (p : Sphere) (v : Moved) → length image.memory % 4 ≡ 0 → ((b : Book) → p.role ≡ Replay b → is_over b.now ≡ false) → IsSoundSphere s image now p
+    → HaveByteInput devices → dma_moved devices p ≡ Some v → IsSoundMoved s image (suc now) v
+unfolding dma_moved
+dma-moved-sound s image now devices p v whole going sound d is = subst (IfMoved s image (suc now)) is (dma-in-sound s image now p.role devices p whole sound.role going sound d)
+
+-- ---- interrupts
+
+role-raised-sound : (s n k c value : ℕ) (threads us : List Parts) (role : Role) → replays role ≡ false → IsSoundRole s n threads role → IsSoundRole s n us (role_raised k c value role)
+role-raised-sound s n k c value threads us Plain live h = tt
+role-raised-sound s n k c value threads us (Record log) live h = record { size = h.size; count = h.count }
+role-raised-sound s n k c value threads us (Replay b) live h = absurd (true≢false live)
+
+pub raised-sound : (s : ℕ) (image : SphereSetup) (now k value : ℕ) (t : Parts) (p : Sphere) → replays p.role ≡ false → slice_get p.threads k ≡ Some t → IsSoundSphere s image now p → IsSoundSphere s image (suc now) (raised k value t p)
+unfolding raised
+raised-sound s image now k value t p live is sound =
+    let us = set p.threads k (interrupted value t) in
+    let l = length-set p.threads k (interrupted value t) in
+    let th = sound.threads k t is in
+    record {
+      size = sound.size;
+      bytes = sound.bytes;
+      request = sound.request;
+      some = (let a = sound.some in omega (arith, l, a));
+      few = (let a = sound.few in omega (arith, l, a));
+      threads = set-all (IsSoundThread (position p.progress)) p.threads k (interrupted value t) (record { thread = interrupted-thread value t th.thread; few = th.few }) sound.threads;
+      commits = (let a = sound.commits in omega (arith, a));
+      role = role-raised-sound s (position p.progress) k t.commits value p.threads us p.role live sound.role;
+    }
