@@ -1,6 +1,6 @@
 -- What an event may change of a world, taken apart once: where spheres, flights, chunks and devices have properties that each
 -- change keeps, every event keeps them.
-use Rattle.std.proofs.Common.{◌≡◌, ◌≢◌, ℕ, suc, ◌^◌, ◌<◌, ◌⊎◌, inl, inr, Bool, true, false, eqb, cond, List, [], ◌∷◌, length, Option, Some, None, refl, sym, ap, ◌∙◌, subst, set, get_or}
+use Rattle.std.proofs.Common.{◌≡◌, ℕ, suc, ◌^◌, ◌<◌, inl, inr, Bool, true, false, cond, List, [], ◌∷◌, length, Option, Some, None, refl, sym, ap, ◌∙◌, subst, set, get_or}
 use Rattle.std.specs.Prelude.{slice_get}
 use Rattle.std.proofs.Math.ListN.{length-set}
 use Rattle.std.proofs.lemmas.Bool.{true≢false, cases_eq, cases_lt}
@@ -13,10 +13,9 @@ use Rattle.spec_kernel.specs.Devices.{Devices}
 use Rattle.spec_kernel.specs.Interrupts.{is_live, has_handler}
 use Rattle.spec_engine.specs.declared.answers.How.{How}
 use Rattle.spec_engine.specs.declared.answers.Deliver.{Deliver}
-use Rattle.spec_engine.specs.declared.answers.CutReply.{CutReply}
 use Rattle.spec_engine.specs.declared.answers.Retire.{Retire}
 use Rattle.spec_engine.specs.Signatures.{Marks, nothing, signed}
-use Rattle.spec_engine.specs.Flights.{Flight, at, is_full, first_slot, free_slot, fill_at, has_none, meets_chunk, is_of_sphere, told_at, drain_words, tell, Delivered, deliver, is_done, Retired, retire}
+use Rattle.spec_engine.specs.Flights.{Flight, at, is_full, first_slot, free_slot, fill_at, meets_chunk, is_of_sphere, told_at, drain_words, tell, Delivered, deliver, is_done, Retired, retire}
 use Rattle.spec_engine.specs.Chunks.{Chunk, fresh, step, cut, squash, is_open}
 use Rattle.spec_engine.specs.Asking.{ask, denied_by, busy_by}
 use Rattle.spec_protocol.specs.declared.event.Event.{Event}
@@ -24,14 +23,13 @@ use Rattle.spec_protocol.specs.declared.reply.Reply.{Reply}
 use Rattle.spec_protocol.specs.Spheres.{Sphere, no_sphere, is_stopped, head_of, limit_of, halves}
 use Rattle.spec_protocol.specs.Commits.{CommitOutcome, Granted, Piece, Diverged, Moved, is_piece, chunk_moved, serial_moved, dma_in, dma_moved, raised}
 use Rattle.spec_protocol.specs.World.{Numbers, Held, World, After, moment, sphere_at, with_sphere, with_memory, with_core, with_slot, thread_afresh, held_afresh, core_of, flown, answered}
-use Rattle.spec_protocol.specs.Stepping.{with_chunk, stepped, step_held, stepping, cut_to, cut_held, cutting}
-use Rattle.spec_protocol.specs.Flying.{reply_of_drain, drain_slot, draining, reads_of, writes_of, squashed, told, deliver_to, delivering, reply_of_retire, retiring}
+use Rattle.spec_protocol.specs.Stepping.{stepped, step_held, stepping, cut_to, cut_held, cutting}
+use Rattle.spec_protocol.specs.Flying.{reply_of_drain, drain_slot, draining, reads_of, writes_of, squashed, told, deliver_to, delivering, retiring}
 use Rattle.spec_protocol.specs.Asking.{CommitRequest, granted, is_short, chunk_request, grant_chunk, serial_request, grant_serial, unless_denied, unless_busy, asks_serial, ask_arbiter, other_turn, unless_turn, ask_closed, ask_held, asking}
 use Rattle.spec_protocol.specs.Transferring.{dma_done, transfer, dma_with, dma_if, turn_before_dma, transferring}
 use Rattle.spec_protocol.specs.Placing.{unless_elsewhere, place_thread, placing, replays, with_renewed, raise_in, raise_thread, raising}
 use Rattle.spec_protocol.specs.Machine.{core_no, sphere_no, slot_no, act}
 use Rattle.spec_protocol.specs.Invariants.{IsGood}
-use Rattle.spec_protocol.proofs.Slots.{at_within}
 use Rattle.spec_protocol.proofs.Invariant.{sphere-same, sphere-other}
 use Rattle.spec_protocol.proofs.OnCores.{set-cases, branch}
 
@@ -135,7 +133,7 @@ later-holds P z w keeps h =
 
 -- ---- a chunk that begins
 
-afresh-property : (P : Properties) (z : Numbers) (now i k : ℕ) (p : Sphere) (o : Option Parts) → Keeps z P → P.sphere now i p → slice_get p.threads k ≡ o → (h : Held) → thread_afresh z i k p o ≡ Some h → P.held h
+pub afresh-property : (P : Properties) (z : Numbers) (now i k : ℕ) (p : Sphere) (o : Option Parts) → Keeps z P → P.sphere now i p → slice_get p.threads k ≡ o → (h : Held) → thread_afresh z i k p o ≡ Some h → P.held h
 afresh-property P z now i k p None keeps sphere is h e = absurd (none-some h e)
 afresh-property P z now i k p (Some t) keeps sphere is h e =
     branch (λ (o : Option Held). o ≡ Some h → P.held h) (is_live t) (Some (record { thread = k; chunk = fresh z.signature i t (limit_of z.chunk p.role k t) (halves p.role) })) None

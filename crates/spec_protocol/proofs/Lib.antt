@@ -51,3 +51,4 @@ pub mod SoundUses
 pub mod SoundDevices
 pub mod SoundLimits
 pub mod SoundMoves
+pub mod Sounding

@@ -66,7 +66,7 @@ happens-kept w e good =
 
 -- ---- the start
 
-free_slots : (n k : ℕ) (f : Flight) → at (replicate n None) k ≡ Some f → ⊥
+pub free_slots : (n k : ℕ) (f : Flight) → at (replicate n None) k ≡ Some f → ⊥
 free_slots zero k f e = none-some f e
 free_slots (suc n) zero f e = none-some f e
 free_slots (suc n) (suc k) f e = free_slots n k f e
@@ -76,7 +76,7 @@ none_flies zero i = refl
 none_flies (suc n) i = none_flies n i
 
 -- what core c holds at first
-first_held : (z : Numbers) (i n c : ℕ) (ps : List Sphere) (h : Held) → at (first_cores z i n ps) c ≡ Some h → (c < length ps) × (held_afresh z (i + c) 0 (get_or ps c no_sphere) ≡ Some h)
+pub first_held : (z : Numbers) (i n c : ℕ) (ps : List Sphere) (h : Held) → at (first_cores z i n ps) c ≡ Some h → (c < length ps) × (held_afresh z (i + c) 0 (get_or ps c no_sphere) ≡ Some h)
 first_held z i zero c ps h e = absurd (none-some h e)
 first_held z i (suc n) zero [] h e = absurd (none-some h e)
 first_held z i (suc n) (suc c) [] h e = absurd (omega (arith, (first_held z (suc i) n c [] h e).0))

@@ -1,11 +1,10 @@
 -- Running chunks stay sound: at a step, at a cut and at a squash.
-use Rattle.std.proofs.Common.{◌≡◌, ℕ, suc, ◌+◌, ◌/◌, ◌<◌, ◌≤◌, Bool, true, false, eqb, cond, List, length, Option, Some, None, refl, sym, ap, ◌∙◌, subst, arith}
+use Rattle.std.proofs.Common.{◌≡◌, ℕ, suc, ◌/◌, ◌<◌, ◌≤◌, Bool, true, false, eqb, cond, List, length, Option, Some, None, refl, sym, ap, ◌∙◌, arith}
 use Rattle.std.specs.Prelude.{nat_lt, ◌&&◌, ◌||◌}
-use Rattle.std.proofs.lemmas.Bool.{true≢false, ltb-true, eqb-false}
+use Rattle.std.proofs.lemmas.Bool.{true≢false, ltb-true}
 use Rattle.std.proofs.lemmas.Option.{none-some}
 use Rattle.spec_isa.specs.declared.thread.Parts.{Parts}
 use Rattle.spec_isa.specs.declared.thread.Kind.{Kind}
-use Rattle.spec_isa.specs.declared.thread.Load.{Load}
 use Rattle.spec_isa.specs.Words.{Stored, lays, read, put, holds, is_inside}
 use Rattle.spec_isa.specs.Instruction.{plan_of, serial_of, loads_of, next_of, load_of, store_of}
 use Rattle.spec_isa.specs.declared.plan.Plan.{Plan}
@@ -71,83 +70,96 @@ with-room capacity ws (Some s) e few =
 
 -- ---- a step
 
+-- a sound chunk of sphere i
+pub record IsSoundIn (capacity size i : ℕ) (ch : Chunk) : Type 0 where
+  pub sphere : ch.sphere ≡ i
+  pub sound : IsSoundChunk capacity size ch
+
 -- lines read and closing are no part of it
-as-closed : (capacity size : ℕ) (ch : Chunk) (g : Marks) (o : Option How) → IsSoundChunk capacity size ch → IsSoundChunk capacity size (record ch { reads = g; closed = o })
-as-closed capacity size ch g o c =
-    record { words = c.words; room = c.room; limit = c.limit; squashes = c.squashes; start = c.start; thread = c.thread; commits = c.commits; status = c.status }
+as-closed : (capacity size i : ℕ) (ch : Chunk) (g : Marks) (o : Option How) → IsSoundIn capacity size i ch → IsSoundIn capacity size i (record ch { reads = g; closed = o })
+as-closed capacity size i ch g o k =
+    let c = k.sound in
+    record {
+      sphere = k.sphere;
+      sound = record { words = c.words; room = c.room; limit = c.limit; squashes = c.squashes; start = c.start; thread = c.thread; commits = c.commits; status = c.status };
+    }
 
-abbrev Steps : (capacity size : ℕ) → Stepping → Type 0
-Steps capacity size s = IsSoundChunk capacity size s.chunk
+abbrev Steps : (capacity size i : ℕ) → Stepping → Type 0
+Steps capacity size i s = IsSoundIn capacity size i s.chunk
 
-storing-sound : (capacity size f w : ℕ) (ch : Chunk) (g : Marks) → serial_of ch.done.thread f size ≡ None → IsSoundChunk capacity size ch → Steps capacity size (storing capacity f w (record ch { reads = g }))
+storing-sound : (capacity size i f w : ℕ) (ch : Chunk) (g : Marks) → serial_of ch.done.thread f size ≡ None → IsSoundIn capacity size i ch → Steps capacity size i (storing capacity f w (record ch { reads = g }))
 unfolding storing at_limit
-storing-sound capacity size f w ch g e c =
+storing-sound capacity size i f w ch g e c =
     let t = ch.done.thread in
     let dh = record ch { reads = g } in
     let next = ran dh (next_of t f w) (load_of t f w) (store_of t f w) in
-    keep_choose (Steps capacity size) (has_room capacity ch.done.words (store_of t f w)) (at_limit next) (closes How.Overflow dh)
+    keep_choose (Steps capacity size i) (has_room capacity ch.done.words (store_of t f w)) (at_limit next) (closes How.Overflow dh)
     (λ room.
-    let k : IsSoundChunk capacity size next =
+    let was = c.sound in
+    let k : IsSoundIn capacity size i next =
     record {
-      words = with-words size ch.done.words (store_of t f w) (next-store t f w size e) c.words;
-      room = with-room capacity ch.done.words (store_of t f w) room c.room;
-      limit = c.limit;
-      squashes = c.squashes;
-      start = c.start;
-      thread = next-thread t f w size e c.thread;
-      commits = next_keeps t f w ∙ c.commits;
-      status = next_status t f w ∙ c.status;
+      sphere = c.sphere;
+      sound = record {
+        words = with-words size ch.done.words (store_of t f w) (next-store t f w size e) was.words;
+        room = with-room capacity ch.done.words (store_of t f w) room was.room;
+        limit = was.limit;
+        squashes = was.squashes;
+        start = was.start;
+        thread = next-thread t f w size e was.thread;
+        commits = next_keeps t f w ∙ was.commits;
+        status = next_status t f w ∙ was.status;
+      };
     }
     in
-    keep_choose (Steps capacity size) (eqb next.done.n next.limit) (closes How.Limit next) (record { reply = Stepped.Ran; chunk = next })
-    (λ _. as-closed capacity size next next.reads (Some How.Limit) k)
+    keep_choose (Steps capacity size i) (eqb next.done.n next.limit) (closes How.Limit next) (record { reply = Stepped.Ran; chunk = next })
+    (λ _. as-closed capacity size i next next.reads (Some How.Limit) k)
     (λ _. k))
-    (λ _. as-closed capacity size ch g (Some How.Overflow) c)
+    (λ _. as-closed capacity size i ch g (Some How.Overflow) c)
 
-reading-sound : (capacity size : ℕ) (slots : List (Option Flight)) (core : ℕ) (ch : Chunk) (g : Marks) (a : ℕ) (then_ : Chunk → Stepping) → ((h : Marks) → Steps capacity size (then_ (record ch { reads = h }))) → IsSoundChunk capacity size ch
-    → Steps capacity size (reading slots core (record ch { reads = g }) a then_)
+reading-sound : (capacity size i : ℕ) (slots : List (Option Flight)) (core : ℕ) (ch : Chunk) (g : Marks) (a : ℕ) (then_ : Chunk → Stepping) → ((h : Marks) → Steps capacity size i (then_ (record ch { reads = h }))) → IsSoundIn capacity size i ch
+    → Steps capacity size i (reading slots core (record ch { reads = g }) a then_)
 unfolding reading
-reading-sound capacity size slots core ch g a then_ each c =
-    keep_option (Steps capacity size) (first_slot (bounces core (line ch.sphere a)) slots) (then_ (marked (record ch { reads = g }) a)) (λ k. record { reply = Stepped.Bounced k; chunk = record ch { reads = g } })
+reading-sound capacity size i slots core ch g a then_ each c =
+    keep_option (Steps capacity size i) (first_slot (bounces core (line ch.sphere a)) slots) (then_ (marked (record ch { reads = g }) a)) (λ k. record { reply = Stepped.Bounced k; chunk = record ch { reads = g } })
     (λ _. each (insert (line ch.sphere a) g))
-    (λ k _. as-closed capacity size ch g ch.closed c)
+    (λ k _. as-closed capacity size i ch g ch.closed c)
 
-loading-sound : (capacity size : ℕ) (shown : List ℕ) (slots : List (Option Flight)) (core f : ℕ) (ch : Chunk) (g : Marks) → serial_of ch.done.thread f size ≡ None → IsSoundChunk capacity size ch
-    → Steps capacity size (loading capacity shown slots core f (record ch { reads = g }))
+loading-sound : (capacity size i : ℕ) (shown : List ℕ) (slots : List (Option Flight)) (core f : ℕ) (ch : Chunk) (g : Marks) → serial_of ch.done.thread f size ≡ None → IsSoundIn capacity size i ch
+    → Steps capacity size i (loading capacity shown slots core f (record ch { reads = g }))
 unfolding loading
-loading-sound capacity size shown slots core f ch g e c =
-    keep_option (Steps capacity size) (loads_of ch.done.thread f) (storing capacity f 0 (record ch { reads = g })) (λ a. reading slots core (record ch { reads = g }) a (storing capacity f (read shown a)))
-    (λ _. storing-sound capacity size f 0 ch g e c)
-    (λ a _. reading-sound capacity size slots core ch g a (storing capacity f (read shown a)) (λ h. storing-sound capacity size f (read shown a) ch h e c) c)
+loading-sound capacity size i shown slots core f ch g e c =
+    keep_option (Steps capacity size i) (loads_of ch.done.thread f) (storing capacity f 0 (record ch { reads = g })) (λ a. reading slots core (record ch { reads = g }) a (storing capacity f (read shown a)))
+    (λ _. storing-sound capacity size i f 0 ch g e c)
+    (λ a _. reading-sound capacity size i slots core ch g a (storing capacity f (read shown a)) (λ h. storing-sound capacity size i f (read shown a) ch h e c) c)
 
-running-sound : (capacity size : ℕ) (shown : List ℕ) (slots : List (Option Flight)) (core f : ℕ) (ch : Chunk) (g : Marks) → length shown ≡ size → IsSoundChunk capacity size ch
-    → Steps capacity size (running capacity shown slots core f (record ch { reads = g }))
+running-sound : (capacity size i : ℕ) (shown : List ℕ) (slots : List (Option Flight)) (core f : ℕ) (ch : Chunk) (g : Marks) → length shown ≡ size → IsSoundIn capacity size i ch
+    → Steps capacity size i (running capacity shown slots core f (record ch { reads = g }))
 unfolding running
-running-sound capacity size shown slots core f ch g same c =
-    keep_option (Steps capacity size) (serial_of ch.done.thread f (length shown)) (loading capacity shown slots core f (record ch { reads = g })) (λ kind. closes How.Serial (record ch { reads = g }))
-    (λ none. loading-sound capacity size shown slots core f ch g (ap (serial_of ch.done.thread f) (sym same) ∙ none) c)
-    (λ kind _. as-closed capacity size ch g (Some How.Serial) c)
+running-sound capacity size i shown slots core f ch g same c =
+    keep_option (Steps capacity size i) (serial_of ch.done.thread f (length shown)) (loading capacity shown slots core f (record ch { reads = g })) (λ kind. closes How.Serial (record ch { reads = g }))
+    (λ none. loading-sound capacity size i shown slots core f ch g (ap (serial_of ch.done.thread f) (sym same) ∙ none) c)
+    (λ kind _. as-closed capacity size i ch g (Some How.Serial) c)
 
-pub step-sound : (capacity size : ℕ) (m : List ℕ) (slots : List (Option Flight)) (core : ℕ) (ch : Chunk) → length m ≡ size → IsSoundChunk capacity size ch → IsSoundChunk capacity size (step capacity m slots core ch).chunk
+pub step-sound : (capacity size i : ℕ) (m : List ℕ) (slots : List (Option Flight)) (core : ℕ) (ch : Chunk) → length m ≡ size → IsSoundIn capacity size i ch → IsSoundIn capacity size i (step capacity m slots core ch).chunk
 unfolding step
-step-sound capacity size m slots core ch same c =
+step-sound capacity size i m slots core ch same c =
     let shown = lays m ch.done.words in
     let pc = ch.done.thread.pc in
-    keep_choose (Steps capacity size) (is_inside (length shown) pc) (reading slots core ch (pc / 4) (running capacity shown slots core (read shown (pc / 4)))) (closes How.Serial ch)
-    (λ _. reading-sound capacity size slots core ch ch.reads (pc / 4) (running capacity shown slots core (read shown (pc / 4)))
-    (λ h. running-sound capacity size shown slots core (read shown (pc / 4)) ch h (length_lays m ch.done.words ∙ same) c) c)
-    (λ _. as-closed capacity size ch ch.reads (Some How.Serial) c)
+    keep_choose (Steps capacity size i) (is_inside (length shown) pc) (reading slots core ch (pc / 4) (running capacity shown slots core (read shown (pc / 4)))) (closes How.Serial ch)
+    (λ _. reading-sound capacity size i slots core ch ch.reads (pc / 4) (running capacity shown slots core (read shown (pc / 4)))
+    (λ h. running-sound capacity size i shown slots core (read shown (pc / 4)) ch h (length_lays m ch.done.words ∙ same) c) c)
+    (λ _. as-closed capacity size i ch ch.reads (Some How.Serial) c)
 
 -- ---- a cut
 
-cut-open-sound : (capacity size : ℕ) (ch : Chunk) (o : Option How) → IsSoundChunk capacity size ch → IsSoundChunk capacity size (cut_open ch o).chunk
-cut-open-sound capacity size ch (Some how) c = c
-cut-open-sound capacity size ch None c =
-    branch (λ (s : Cutting). IsSoundChunk capacity size s.chunk) (eqb ch.done.n 0) (record { reply = CutReply.NothingRun; chunk = ch }) (record { reply = CutReply.Closed; chunk = record ch { closed = Some How.Cut } })
-    (λ _. c) (λ _. as-closed capacity size ch ch.reads (Some How.Cut) c)
+cut-open-sound : (capacity size i : ℕ) (ch : Chunk) (o : Option How) → IsSoundIn capacity size i ch → IsSoundIn capacity size i (cut_open ch o).chunk
+cut-open-sound capacity size i ch (Some how) c = c
+cut-open-sound capacity size i ch None c =
+    branch (λ (s : Cutting). IsSoundIn capacity size i s.chunk) (eqb ch.done.n 0) (record { reply = CutReply.NothingRun; chunk = ch }) (record { reply = CutReply.Closed; chunk = record ch { closed = Some How.Cut } })
+    (λ _. c) (λ _. as-closed capacity size i ch ch.reads (Some How.Cut) c)
 
-pub cut-sound : (capacity size : ℕ) (ch : Chunk) → IsSoundChunk capacity size ch → IsSoundChunk capacity size (cut ch).chunk
-cut-sound capacity size ch c = cut-open-sound capacity size ch ch.closed c
+pub cut-sound : (capacity size i : ℕ) (ch : Chunk) → IsSoundIn capacity size i ch → IsSoundIn capacity size i (cut ch).chunk
+cut-sound capacity size i ch c = cut-open-sound capacity size i ch ch.closed c
 
 -- ---- a beginning, and a squash
 

@@ -1,6 +1,6 @@
 -- What devices hold and answer are bytes: of the input, of pipes, and of what is written to them out of a memory.
-use Rattle.std.proofs.Common.{◌≡◌, ◌≢◌, ℕ, zero, suc, ◌+◌, ◌-◌, ◌%◌, ◌^◌, ◌<◌, ◌≤◌, inl, inr, Bool, true, false, eqb, cond, List, [], ◌∷◌, ◌++◌, length, Option, Some, None, refl, sym, ap, ◌∙◌, subst, arith, get_or, set, take, drop, get_or-set_same, get_or-set_other}
-use Rattle.std.specs.Prelude.{slice_index, slice_index_or, slice_set, nat_le, nat_lt, replicate, All, Contains}
+use Rattle.std.proofs.Common.{◌≡◌, ℕ, zero, suc, ◌+◌, ◌-◌, ◌%◌, ◌^◌, ◌<◌, ◌≤◌, inl, inr, eqb, cond, List, [], ◌∷◌, ◌++◌, length, Option, Some, None, refl, sym, ap, ◌∙◌, subst, arith, get_or, set, take, drop, get_or-set_same, get_or-set_other}
+use Rattle.std.specs.Prelude.{nat_le, nat_lt, replicate, All, Contains}
 use Rattle.std.proofs.Math.ListN.{length-set}
 use Rattle.std.proofs.lemmas.Bool.{cases_eq, cases_lt}
 use Rattle.std.proofs.lemmas.List.{get_or_past, length-take}
@@ -13,10 +13,10 @@ use Rattle.spec_isa.specs.declared.thread.Kind.{Kind}
 use Rattle.spec_isa.specs.declared.plan.Plan.{Plan}
 use Rattle.spec_isa.specs.Words.{IsBytes}
 use Rattle.spec_log.specs.Log.{IsInput, AreFewBytes, input_kinds}
-use Rattle.spec_kernel.specs.Devices.{Devices, devices_of, input_taken, console_put, pipe_at, with_pipe, pipe_fitting, pipe_put, pipe_first, pipe_taken, random_bytes, random_taken}
+use Rattle.spec_kernel.specs.Devices.{Devices, devices_of, input_taken, console_put, pipe_at, with_pipe, pipe_fitting, pipe_put, pipe_first, pipe_taken, random_bytes}
 use Rattle.spec_kernel.specs.Needs.{Need, Write, Read, Random, Clock, MomentWord, InputWord, a0, a1, a2, cut, number_of, if_inside, need_of_write, need_of_read, need_of_random, need_of_call, need_of_load, need_of, next_kind, next_plan, need}
-use Rattle.spec_kernel.specs.Answers.{went, write_answer, answer_write, read_answer, answer_read, answer_random, answer_moment, first_byte, answer_input, Answered, answer, Taken, taken, dma_bytes, dma_taken, refused, nothing_now}
-use Rattle.spec_kernel.specs.Serving.{store_told, bytes_out, console_told}
+use Rattle.spec_kernel.specs.Answers.{went, write_answer, answer_write, read_answer, answer_read, answer_random, first_byte, Answered, answer, Taken, taken, dma_bytes, dma_taken, refused, nothing_now}
+use Rattle.spec_kernel.specs.Serving.{store_told, console_told}
 use Rattle.dl_entry.specs.declared.Output.{Output}
 use Rattle.spec_protocol.specs.Sound.{AreBytes, HaveByteInput}
 use Rattle.spec_protocol.proofs.OnCores.{branch}

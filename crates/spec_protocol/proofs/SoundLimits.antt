@@ -1,5 +1,5 @@
 -- The limits of chunks: over 0, and no more than a log can say.
-use Rattle.std.proofs.Common.{◌≡◌, ℕ, zero, suc, ◌-◌, ◌<◌, ◌≤◌, Bool, true, false, eqb, cond, List, [], ◌∷◌, length, Option, Some, None, refl, sym, ap, ◌∙◌, subst, arith}
+use Rattle.std.proofs.Common.{◌≡◌, ℕ, zero, suc, ◌<◌, ◌≤◌, Bool, eqb, List, [], ◌∷◌, Option, Some, None, refl, subst, arith}
 use Rattle.std.specs.Prelude.{slice_get, max, All, map, filter, find, option_map, ◌&&◌}
 use Rattle.std.specs.List.{zip}
 use Rattle.std.proofs.lemmas.Option.{none-some}
@@ -11,7 +11,7 @@ use Rattle.spec_log.specs.declared.Sizes.{Sizes}
 use Rattle.spec_log.specs.declared.LogParts.{LogParts}
 use Rattle.spec_log.specs.Log.{IsSizes, IsShortSize, IsLog}
 use Rattle.spec_log.specs.Size.{is_thread, sizes_of_thread, thread_size, size_in}
-use Rattle.spec_protocol.specs.Spheres.{Role, Plain, Record, Replay, whole_limit, pieces_of, limit_in, limit_of}
+use Rattle.spec_protocol.specs.Spheres.{Role, Plain, Record, Replay, whole_limit, limit_of}
 use Rattle.spec_protocol.specs.Sound.{IsSoundRole}
 use Rattle.spec_protocol.proofs.OnCores.{branch}
 

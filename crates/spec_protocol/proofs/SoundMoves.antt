@@ -1,5 +1,5 @@
 -- What a granted request, a DMA or an interrupt makes of a sound sphere is sound.
-use Rattle.std.proofs.Common.{◌≡◌, ◌≢◌, ℕ, zero, suc, ◌+◌, ◌-◌, ◌%◌, ◌<◌, ◌≤◌, ◌⊎◌, inl, inr, Bool, true, false, eqb, cond, List, [], ◌∷◌, ◌++◌, length, Option, Some, None, refl, sym, ap, ◌∙◌, subst, set, arith}
+use Rattle.std.proofs.Common.{◌≡◌, ℕ, zero, suc, ◌+◌, ◌%◌, ◌<◌, ◌≤◌, ◌⊎◌, inl, inr, Bool, true, false, eqb, List, [], ◌∷◌, ◌++◌, length, Option, Some, None, refl, sym, ap, ◌∙◌, subst, set, arith}
 use Rattle.std.specs.Prelude.{slice_get, slice_set, nat_lt, nat_le, ◌&&◌, ◌||◌}
 use Rattle.std.proofs.Math.ListN.{length-set, length-append}
 use Rattle.std.proofs.lemmas.Bool.{true≢false, ltb-true, leb-true, eqb-true, and_parts}
@@ -24,7 +24,7 @@ use Rattle.spec_kernel.specs.Needs.{Need, Write, Read, Random, Clock, MomentWord
 use Rattle.spec_kernel.specs.Answers.{dma_bytes, dma_taken, Taken, taken}
 use Rattle.spec_kernel.specs.Records.{has_no_bytes, went_nowhere, fits_read, fits_random, fits}
 use Rattle.spec_kernel.specs.Interrupts.{lives, is_live, takes_interrupt, interrupted}
-use Rattle.spec_kernel.specs.Serving.{Served, serve, console_told}
+use Rattle.spec_kernel.specs.Serving.{serve, console_told}
 use Rattle.spec_play.specs.Effects.{Effect, chunk_effect, serial_effect, dma_commit}
 use Rattle.spec_play.specs.Progress.{Progress, position, with_effect, with_dma, Used, with_interrupt, with_input, with_dma_used}
 use Rattle.spec_play.specs.Turns.{Now, Turn, TurnOfDma, Over, has_left_over, at_end, turn_of_thread, turn_of, next_actor, now_at}
@@ -36,8 +36,8 @@ use Rattle.spec_protocol.specs.Spheres.{Book, Role, Plain, Record, Replay, Spher
 use Rattle.spec_protocol.specs.Commits.{Moved, granted_as, diverged, turned, by_verdict, joined, piece_moved, replayed_chunk, chunk_in, chunk_moved, served_as, serial_noted, serial_in, serial_moved, dma_as, live_dma, dma_log, dma_by_verdict, dma_in, dma_moved, role_raised, raised}
 use Rattle.spec_protocol.specs.Placing.{replays}
 use Rattle.spec_protocol.specs.Machine.{SphereSetup}
-use Rattle.spec_protocol.specs.Sound.{due, AreSoundWords, IsSoundRequest, IsSoundIf, HasThread, IsSoundBook, IsSoundLog, IsSoundRole, IsSoundThread, IsSoundSphere, HaveByteInput}
-use Rattle.spec_protocol.proofs.Keeping.{IsNew, AreNew, serve-keeps}
+use Rattle.spec_protocol.specs.Sound.{due, AreSoundWords, IsSoundIf, HasThread, IsSoundBook, IsSoundLog, IsSoundRole, IsSoundThread, IsSoundSphere, HaveByteInput}
+use Rattle.spec_protocol.proofs.Keeping.{AreNew, serve-keeps}
 use Rattle.spec_protocol.proofs.Growing.{get_cases, pushed_length}
 use Rattle.spec_protocol.proofs.Moving.{get-set_same, get-append}
 use Rattle.spec_protocol.proofs.OnCores.{branch}
@@ -284,7 +284,7 @@ over-sound commits threads b how s =
     }
 
 -- the same sphere an event later, in another role
-as-role : (s : ℕ) (image : SphereSetup) (now : ℕ) (role : Role) (p : Sphere) → IsSoundRole s (position p.progress) p.threads role → IsSoundSphere s image now p → IsSoundSphere s image (suc now) (record p { role = role })
+pub as-role : (s : ℕ) (image : SphereSetup) (now : ℕ) (role : Role) (p : Sphere) → IsSoundRole s (position p.progress) p.threads role → IsSoundSphere s image now p → IsSoundSphere s image (suc now) (record p { role = role })
 as-role s image now role p new sound =
     record {
       size = sound.size;

@@ -1,9 +1,9 @@
 -- Threads stay threads: an instruction, a serial step and an interrupt keep their places in the code multiples of 4 and
 -- register 0 at 0.
-use Rattle.std.proofs.Common.{◌≡◌, ◌≢◌, ℕ, suc, ◌+◌, ◌%◌, ◌^◌, ◌<◌, ◌≤◌, Bool, true, false, ◌&&◌, eqb, cond, List, [], ◌∷◌, length, Option, Some, None, refl, sym, ap, ◌∙◌, subst, arith, get_or-set_other}
-use Rattle.std.specs.Prelude.{slice_index, slice_set, slice_get, replicate, nat_le, nat_lt, take, drop, min}
+use Rattle.std.proofs.Common.{◌≡◌, ℕ, ◌+◌, ◌%◌, ◌≤◌, true, ◌&&◌, eqb, cond, List, [], ◌∷◌, length, Option, Some, None, refl, sym, ◌∙◌, arith, get_or-set_other}
+use Rattle.std.specs.Prelude.{slice_index, slice_set, slice_get, replicate, nat_le, nat_lt, take, drop}
 use Rattle.std.proofs.Math.ListN.{length-set}
-use Rattle.std.proofs.lemmas.Bool.{true≢false, eqb-true, eqb-false, and_parts, or_parts, leb-true}
+use Rattle.std.proofs.lemmas.Bool.{eqb-true, eqb-false, and_parts, leb-true}
 use Rattle.std.proofs.lemmas.Option.{none-some}
 use Rattle.dl_entry.specs.declared.Input.{Input}
 use Rattle.dl_entry.specs.declared.Request.{Request}

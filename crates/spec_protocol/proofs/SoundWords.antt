@@ -1,9 +1,9 @@
 -- Words that are stored: those of instructions and of copies lie inside the memory, and store bytes.
-use Rattle.std.proofs.Common.{◌≡◌, ◌≢◌, ℕ, suc, ◌+◌, ◌*◌, ◌/◌, ◌%◌, ◌^◌, ◌<◌, ◌≤◌, inl, inr, Bool, true, false, eqb, cond, List, [], ◌∷◌, ◌++◌, length, Option, Some, None, refl, sym, ap, ◌∙◌, subst, arith, get_or-set_other, get_or-set_same}
-use Rattle.std.specs.Prelude.{slice_index, slice_set, nat_le, nat_lt, All}
+use Rattle.std.proofs.Common.{◌≡◌, ℕ, suc, ◌+◌, ◌*◌, ◌/◌, ◌%◌, ◌^◌, ◌<◌, ◌≤◌, inl, inr, Bool, true, false, eqb, cond, List, [], ◌∷◌, ◌++◌, length, Option, Some, None, refl, sym, ap, ◌∙◌, subst, arith, get_or-set_other, get_or-set_same}
+use Rattle.std.specs.Prelude.{slice_index, slice_set}
 use Rattle.std.specs.Int.{bytes_low_first}
 use Rattle.std.proofs.Math.ListN.{length-set}
-use Rattle.std.proofs.lemmas.Bool.{true≢false, cases_eq, cases_lt, eqb-true, leb-true, ltb-true}
+use Rattle.std.proofs.lemmas.Bool.{true≢false, cases_eq, cases_lt, leb-true}
 use Rattle.std.proofs.lemmas.List.{get_or_past}
 use Rattle.std.proofs.lemmas.Option.{none-some}
 use Rattle.dl_entry.specs.declared.Request.{Request}
@@ -16,7 +16,7 @@ use Rattle.spec_isa.specs.Planned.{stored, refusal, refuses, store_size, is_devi
 use Rattle.spec_isa.specs.Arithmetic.{amo_result}
 use Rattle.spec_kernel.specs.Copies.{bytes_put, copied, dma_words}
 use Rattle.spec_engine.specs.Flights.{AreInside}
-use Rattle.spec_protocol.specs.Sound.{AreBytes, IsByte, HasBytes, HaveBytes, AreSoundWords, IsSoundRequest}
+use Rattle.spec_protocol.specs.Sound.{IsByte, HasBytes, HaveBytes, AreSoundWords, IsSoundRequest}
 use Rattle.spec_protocol.proofs.OnCores.{branch}
 
 -- ---- put

@@ -1,5 +1,5 @@
 -- What is sound: sizes and ranges that hold of every world which a setup within its limits comes to, beside the invariant.
-use Rattle.std.specs.Prelude.{◌≡◌, ℕ, ◌+◌, ◌%◌, ◌^◌, ◌<◌, ◌≤◌, Bool, true, false, nat_le, if◌then◌else◌, List, [], ◌∷◌, length, slice_get, slice_index_or, All, Option, Some, None}
+use Rattle.std.specs.Prelude.{◌≡◌, ℕ, ◌+◌, ◌%◌, ◌^◌, ◌<◌, ◌≤◌, Bool, true, false, nat_le, if◌then◌else◌, List, [], ◌∷◌, length, slice_get, slice_index, slice_index_or, All, Option, Some, None}
 use Rattle.dl_entry.specs.declared.Request.{Request}
 use Rattle.spec_isa.specs.declared.thread.Parts.{Parts}
 use Rattle.spec_isa.specs.Words.{Stored, IsBytes}
@@ -14,10 +14,12 @@ use Rattle.spec_play.specs.Turns.{Turn}
 use Rattle.spec_engine.specs.Signatures.{is_size}
 use Rattle.spec_engine.specs.Flights.{Flight, AreInside, at}
 use Rattle.spec_engine.specs.Chunks.{Chunk}
+use Rattle.spec_protocol.specs.declared.event.Event.{Event}
 use Rattle.spec_protocol.specs.Spheres.{Book, Role, Plain, Record, Replay, Sphere, is_over, whole_limit}
 use Rattle.spec_protocol.specs.World.{Held, World, moment, sphere_at}
-use Rattle.spec_protocol.specs.Machine.{RoleSetup, IsPlain, IsRecorded, IsReplayed, SphereSetup, Setup}
-use Rattle.spec_protocol.specs.Promises.{AreSizesKept}
+use Rattle.spec_protocol.specs.Machine.{RoleSetup, IsPlain, IsRecorded, IsReplayed, SphereSetup, Setup, happens}
+use Rattle.spec_protocol.specs.Promises.{AreSizesKept, after}
+use Rattle.spec_protocol.specs.Invariants.{IsGood}
 
 -- ---- the limits of a setup
 
@@ -189,6 +191,18 @@ pub record HaveByteInput (d : Devices) : Type 0 where
 pub record IsSound (s : Setup) (w : World) : Type 0 where
   pub sizes : AreSizesKept s w
   pub devices : HaveByteInput w.devices
+  -- no reply was given more often than there were events
+  pub replies : (k : ℕ) → slice_index w.counts.replies k ≤ moment w
   pub spheres : (i : ℕ) → i < length w.spheres → IsSoundSphere s.numbers.chunk (image_at s i) (moment w) (sphere_at w i)
   pub flights : (k : ℕ) (f : Flight) → at w.slots k ≡ Some f → AreSoundWords (size_of s f.sphere) f.words
   pub held : (c : ℕ) (h : Held) → at w.cores c ≡ Some h → IsSoundChunk s.numbers.buffer (size_of s h.chunk.sphere) h.chunk
+
+-- ---- the promises
+
+-- so is each world that a setup within its limits comes to
+abbrev pub WorldsAreSound : Type 0
+WorldsAreSound = (s : Setup) (es : List Event) → IsWithinLimits s → IsSound s (after s es)
+
+-- and any event keeps it, where the invariant holds
+abbrev pub EventsKeepSound : Type 0
+EventsKeepSound = (s : Setup) (w : World) (e : Event) → IsWithinLimits s → IsGood w → IsSound s w → IsSound s (happens w e).world

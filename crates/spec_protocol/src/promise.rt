@@ -4,6 +4,7 @@ ghost use Rattle.spec_protocol.specs.LogsOfPoints.{LogsAreOfPoints};
 ghost use Rattle.spec_protocol.specs.Pieces.{PiecesCountNothing, PiecesStayTogether, StoppedSpheresStay};
 ghost use Rattle.spec_protocol.specs.PlayingBack.{LogsPlayBack};
 ghost use Rattle.spec_protocol.specs.Replying.{AsksAreGranted, GrantsAreClear, PointsAreMade};
+ghost use Rattle.spec_protocol.specs.Sound.{EventsKeepSound, WorldsAreSound};
 
 /// For every setup and every list of events, in any order: the plain and recorded spheres, with their threads, requests,
 /// current memories, commits and logs, and the devices with the console, are those of executing the serialisation points
@@ -30,6 +31,18 @@ pub fn invariants_hold()
 /// After every list of events there are as many spheres, cores and slots as at first, and the sizes are the same.
 pub fn sizes_are_kept()
     ensures { SizesAreKept }
+{}
+
+/// Every event keeps what is sound of a world, for a setup within its limits, where the invariant holds.
+pub fn events_keep_sound()
+    ensures { EventsKeepSound }
+{}
+
+/// For every setup within its limits and every list of events: flying and held words lie inside the memory of their sphere
+/// and store bytes; a memory keeps its length and holds bytes, and an outstanding request lies inside it; a sphere has 1 to 15
+/// threads, and no more commits than there were events; and a replay uses no more of its log than there is.
+pub fn worlds_are_sound()
+    ensures { WorldsAreSound }
 {}
 
 /// Whatever the world and the event: a point is made exactly where the reply is Granted, Piece, DmaDone or Raised; it is of

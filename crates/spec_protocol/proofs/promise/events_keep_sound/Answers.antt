@@ -1,0 +1,5 @@
+use Rattle.spec_protocol.proofs.Sounding.{happens-sound}
+use Rattle.spec_protocol.proofs.promise.events_keep_sound.Goals as goal
+
+pub returns : goal.returns
+returns c = happens-sound
