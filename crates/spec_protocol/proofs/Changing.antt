@@ -317,7 +317,7 @@ retire-then P w k keeps h =
 
 -- ---- Place and Raise
 
-within-sphere : (w : World) (i k : ℕ) (t : Parts) → slice_get (sphere_at w i).threads k ≡ Some t → i < length w.spheres
+pub within-sphere : (w : World) (i k : ℕ) (t : Parts) → slice_get (sphere_at w i).threads k ≡ Some t → i < length w.spheres
 within-sphere w i k t e =
     elim (cases_lt i (length w.spheres)) [
       | inl l ↦ l

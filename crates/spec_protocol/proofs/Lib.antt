@@ -52,3 +52,4 @@ pub mod SoundDevices
 pub mod SoundLimits
 pub mod SoundMoves
 pub mod Sounding
+pub mod Notable

@@ -18,6 +18,7 @@ use Rattle.spec_kernel.specs.Needs.{Need, Write, Read, Random, Clock, MomentWord
 use Rattle.spec_kernel.specs.Answers.{went, write_answer, answer_write, read_answer, answer_read, answer_random, first_byte, Answered, answer, Taken, taken, dma_bytes, dma_taken, refused, nothing_now}
 use Rattle.spec_kernel.specs.Serving.{store_told, console_told}
 use Rattle.dl_entry.specs.declared.Output.{Output}
+use Rattle.spec_protocol.specs.Notable.{IsInputIf}
 use Rattle.spec_protocol.specs.Sound.{AreBytes, HaveByteInput}
 use Rattle.spec_protocol.proofs.OnCores.{branch}
 use Rattle.spec_protocol.proofs.SoundThreads.{Brings, BringsIf}
@@ -256,10 +257,6 @@ answer-sound d MomentWord moment few h = record { input = (kind-16, omega arith,
 answer-sound d InputWord moment few h = record { input = (kind-17, first-few d.input h.input, no-bytes); brings = tt; devices = input-taken 1 d h }
 
 -- ---- what is taken for a step
-
-abbrev pub IsInputIf : Option Input → Type 0
-IsInputIf None = Unit {0}
-IsInputIf (Some r) = IsInput r
 
 pub record IsSoundTaken (o : Option Need) (g : Taken) : Type 0 where
   pub input : IsInputIf g.input

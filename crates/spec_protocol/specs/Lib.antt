@@ -20,3 +20,4 @@ pub mod PlayingBack
 pub mod LogsOfPoints
 pub mod Pieces
 pub mod Sound
+pub mod Notable

@@ -1,6 +1,7 @@
 //! What is promised of the protocol. Each promise is a clause of a function that does nothing.
 ghost use Rattle.spec_protocol.specs.Promises.{CommitsAreSerial, InvariantsHold, MovesAreSerial, SizesAreKept};
 ghost use Rattle.spec_protocol.specs.LogsOfPoints.{LogsAreOfPoints};
+ghost use Rattle.spec_protocol.specs.Notable.{NotesFitLogs};
 ghost use Rattle.spec_protocol.specs.Pieces.{PiecesCountNothing, PiecesStayTogether, StoppedSpheresStay};
 ghost use Rattle.spec_protocol.specs.PlayingBack.{LogsPlayBack};
 ghost use Rattle.spec_protocol.specs.Replying.{AsksAreGranted, GrantsAreClear, PointsAreMade};
@@ -43,6 +44,13 @@ pub fn events_keep_sound()
 /// threads, and no more commits than there were events; and a replay uses no more of its log than there is.
 pub fn worlds_are_sound()
     ensures { WorldsAreSound }
+{}
+
+/// Where a world is sound and the invariant holds: what is noted of the next commit of a plain or recorded sphere fits a log.
+/// Its thread is one of 15, its chunk no larger than a standard one and over 0 where it is short; what the devices answer to
+/// its step is an input of a log, and what they give a DMA are at most 4,096 bytes.
+pub fn notes_fit_logs()
+    ensures { NotesFitLogs }
 {}
 
 /// Whatever the world and the event: a point is made exactly where the reply is Granted, Piece, DmaDone or Raised; it is of

@@ -1,0 +1,37 @@
+-- What is noted of commits, and what comes for them from outside, fits a log.
+use Rattle.std.specs.Prelude.{◌≡◌, ℕ, ◌≤◌, true, false, slice_get, Option, Some, None}
+use Rattle.dl_entry.specs.declared.Input.{Input}
+use Rattle.dl_entry.specs.declared.Request.{Request}
+use Rattle.spec_isa.specs.declared.thread.Parts.{Parts}
+use Rattle.spec_log.specs.Log.{IsInput, AreFewBytes}
+use Rattle.spec_kernel.specs.Needs.{need}
+use Rattle.spec_kernel.specs.Answers.{taken, dma_bytes}
+use Rattle.spec_engine.specs.declared.answers.How.{How}
+use Rattle.spec_engine.specs.Flights.{at}
+use Rattle.spec_protocol.specs.Asking.{is_short}
+use Rattle.spec_protocol.specs.Placing.{replays}
+use Rattle.spec_protocol.specs.World.{Held, World, moment, sphere_at}
+use Rattle.spec_protocol.specs.Machine.{Setup}
+use Rattle.spec_protocol.specs.Invariants.{IsGood}
+use Rattle.spec_protocol.specs.Sound.{IsWithinLimits, IsSound}
+
+-- a chunk that was closed so: it is no larger than a standard chunk, and over 0 where it is short
+pub record IsNotable (s : ℕ) (h : Held) (how : How) : Type 0 where
+  pub size : h.chunk.done.n ≤ s
+  pub over : is_short s how h.chunk.limit ≡ true → 1 ≤ h.chunk.done.n
+
+-- a record from outside, if there is one, is one of a log
+abbrev pub IsInputIf : Option Input → Type 0
+IsInputIf None = Unit {0}
+IsInputIf (Some r) = IsInput r
+
+-- in each sphere: its threads have the numbers of a log's actors; the closed chunks of plain and recorded spheres have its
+-- sizes; what the devices answer to a thread's next step is one of its inputs, and what they give a DMA are its bytes
+pub record FitsLogs (w : World) : Type 0 where
+  pub threads : (i k : ℕ) (t : Parts) → slice_get (sphere_at w i).threads k ≡ Some t → k ≤ 14
+  pub chunks : (c : ℕ) (h : Held) (how : How) → at w.cores c ≡ Some h → h.chunk.closed ≡ Some how → replays (sphere_at w h.chunk.sphere).role ≡ false → IsNotable w.numbers.chunk h how
+  pub inputs : (i k : ℕ) (t : Parts) → slice_get (sphere_at w i).threads k ≡ Some t → IsInputIf (taken (need t (sphere_at w i).memory) w.devices (moment w)).input
+  pub bytes : (i : ℕ) (request : Request) → (sphere_at w i).progress.request ≡ Some request → AreFewBytes (dma_bytes w.devices request)
+
+abbrev pub NotesFitLogs : Type 0
+NotesFitLogs = (s : Setup) (w : World) → IsWithinLimits s → IsGood w → IsSound s w → FitsLogs w
