@@ -53,3 +53,4 @@ pub mod SoundLimits
 pub mod SoundMoves
 pub mod Sounding
 pub mod Notable
+pub mod SeenAlike

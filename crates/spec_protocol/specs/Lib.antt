@@ -21,3 +21,4 @@ pub mod LogsOfPoints
 pub mod Pieces
 pub mod Sound
 pub mod Notable
+pub mod Judging

@@ -1,6 +1,7 @@
 //! What is promised of the protocol. Each promise is a clause of a function that does nothing.
 ghost use Rattle.spec_protocol.specs.Promises.{CommitsAreSerial, InvariantsHold, MovesAreSerial, SizesAreKept};
 ghost use Rattle.spec_protocol.specs.LogsOfPoints.{LogsAreOfPoints};
+ghost use Rattle.spec_protocol.specs.Judging.{LogsAreSeenAlike};
 ghost use Rattle.spec_protocol.specs.Notable.{NotesFitLogs};
 ghost use Rattle.spec_protocol.specs.Pieces.{PiecesCountNothing, PiecesStayTogether, StoppedSpheresStay};
 ghost use Rattle.spec_protocol.specs.PlayingBack.{LogsPlayBack};
@@ -81,6 +82,13 @@ pub fn logs_play_back()
 /// records and the DMA data that came from outside as they were executed one at a time.
 pub fn logs_are_of_points()
     ensures { LogsAreOfPoints }
+{}
+
+/// Recordings and plays look at a log in the same way: whether a chunk goes as logged hangs on its thread's end and its number
+/// of instructions alone; the log of what is kept has its sizes, its heads and the limits of these sizes; and short sizes are
+/// used by the numbers of the threads' commits as they are by the threads.
+pub fn logs_are_seen_alike()
+    ensures { LogsAreSeenAlike }
 {}
 
 /// After every list of events: where a replayed sphere that hasn't stopped has done pieces of a commit, it is one thread's

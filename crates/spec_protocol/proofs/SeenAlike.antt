@@ -1,0 +1,90 @@
+-- Recordings and plays look at a log in the same way.
+use Rattle.std.proofs.Common.{◌≡◌, ℕ, zero, suc, ◌+◌, Bool, true, false, ◌&&◌, cond, List, [], ◌∷◌, Option, Some, None, refl, sym, ap, ◌∙◌, subst, arith}
+use Rattle.std.specs.Prelude.{slice_index, slice_get, nat_lt, max}
+use Rattle.std.specs.List.{list_all}
+use Rattle.std.specs.Option.{option_or}
+use Rattle.std.proofs.lemmas.Bool.{lt-ltb, le-ltb}
+use Rattle.dl_entry.specs.declared.Actor.{Actor}
+use Rattle.dl_entry.specs.declared.Input.{Input}
+use Rattle.dl_entry.specs.declared.Why.{Why}
+use Rattle.spec_isa.specs.declared.thread.Parts.{Parts}
+use Rattle.spec_isa.specs.Runs.{Run}
+use Rattle.spec_log.specs.declared.ModeName.{ModeName}
+use Rattle.spec_log.specs.declared.Interrupt.{Interrupt}
+use Rattle.spec_log.specs.declared.DmaRecord.{DmaRecord}
+use Rattle.spec_log.specs.declared.ShortSize.{ShortSize}
+use Rattle.spec_log.specs.declared.Sizes.{Sizes}
+use Rattle.spec_log.specs.declared.LogParts.{LogParts}
+use Rattle.spec_log.specs.Head.{is_slot, head}
+use Rattle.spec_log.specs.Size.{size_in}
+use Rattle.spec_log.specs.Noting.{Kept, kept_size, limit_by, sizes_used, kept_head, log_of}
+use Rattle.spec_kernel.specs.Interrupts.{takes_interrupt, interrupted}
+use Rattle.spec_play.specs.Effects.{Effect, chunk_effect}
+use Rattle.spec_play.specs.Progress.{Progress, Used, with_interrupt}
+use Rattle.spec_play.specs.Turns.{is_size_used, are_sizes_used}
+use Rattle.spec_play.specs.Verdicts.{Verdict, Goes, Fails, unless, interrupt_at, with_interrupted, ended, chunk_why, chunk_verdict}
+use Rattle.spec_protocol.specs.Judging.{why_of, interrupt_why, why_not, ChunksAreJudged, KeptIsLogged, commits_of, AreCommits, ShortSizesAreUsed, LogsAreSeenAlike}
+use Rattle.spec_protocol.specs.Spheres.{whole_limit}
+
+-- ---- verdicts
+
+unless-why : (o : Option Why) (x : Verdict) (y : Option Why) → why_of x ≡ y → why_of (unless o x) ≡ option_or o y
+unless-why None x y e = e
+unless-why (Some why) x y e = refl
+
+taken-why : (b : Bool) (e f : Effect) (u : Used) → why_of (cond b (Goes f u) (Fails Why.Interrupt)) ≡ cond b None (Some Why.Interrupt)
+taken-why true e f u = refl
+taken-why false e f u = refl
+
+interrupted-why : (o : Option ℕ) (e : Effect) (u : Used) (t : Parts) → takes_interrupt e.thread ≡ takes_interrupt t → why_of (with_interrupted o e u) ≡ interrupt_why o t
+interrupted-why None e u t same = refl
+interrupted-why (Some value) e u t same =
+    taken-why (takes_interrupt e.thread) e (record e { thread = interrupted value e.thread }) (with_interrupt u) ∙ ap (λ (b : Bool). cond b None (Some Why.Interrupt)) same
+
+chunks_judged : ChunksAreJudged
+unfolding chunk_verdict
+chunks_judged log p u k r =
+    unless-why (chunk_why (size_in log (Actor.Thread k) r.thread.commits) r.n) (ended log k (chunk_effect k p.request r) u) _
+    (interrupted-why (interrupt_at log.interrupts k (r.thread.commits + 1)) (chunk_effect k p.request r) u r.thread refl)
+
+-- ---- what is kept
+
+size_kept : (mode : ModeName) (kept : Kept) (interrupts : List Interrupt) (inputs : List Input) (dmas : List DmaRecord) (actor : Actor) (i : ℕ) → size_in (log_of mode kept interrupts inputs dmas) actor i ≡ kept_size kept actor i
+size_kept mode kept interrupts inputs dmas (Actor.Thread k) i = refl
+size_kept mode kept interrupts inputs dmas Actor.Dma i = refl
+
+head_kept : (mode : ModeName) (kept : Kept) (interrupts : List Interrupt) (inputs : List Input) (dmas : List DmaRecord) (i : ℕ) (last : Option ℕ) (live : List Bool)
+    → head (log_of mode kept interrupts inputs dmas) i last live ≡ kept_head mode kept.order i (is_slot dmas i) last live
+head_kept ModeName.OrderSize kept interrupts inputs dmas i last live = refl
+head_kept ModeName.OrderOnly kept interrupts inputs dmas i last live = refl
+head_kept ModeName.Picolog kept interrupts inputs dmas i last live = refl
+
+abbrev limit_with : (s : ℕ) → Option ℕ → ℕ
+limit_with s o = elim o [ None ↦ s | Some z ↦ max 1 z ]
+
+limit_same : (s : ℕ) (o : Option ℕ) → limit_with s o ≡ limit_by s o
+limit_same s None = refl
+limit_same s (Some z) = refl
+
+-- ---- short sizes
+
+used_by : (short : ShortSize) (o : Option Parts) → nat_lt short.index (commits_of o) ≡ is_size_used o short
+used_by short None = le-ltb short.index 0 (omega arith)
+used_by short (Some t) = refl
+
+shorts_used : ShortSizesAreUsed
+shorts_used done threads order [] same = refl
+shorts_used done threads order (x ∷ xs) same =
+    (λ i. (ap (nat_lt x.index) (same x.thread) ∙ used_by x (slice_get threads x.thread)) i && shorts_used done threads order xs same i)
+
+pub seen_alike : LogsAreSeenAlike
+seen_alike =
+    record {
+      chunks = chunks_judged;
+      kept = record {
+        size = size_kept;
+        head = head_kept;
+        limit = λ log k i. limit_same log.s (size_in log (Actor.Thread k) i);
+      };
+      shorts = shorts_used;
+    }

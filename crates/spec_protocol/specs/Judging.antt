@@ -1,0 +1,73 @@
+-- What is promised of logs as recordings and plays look at them: that both see the same.
+use Rattle.std.specs.Prelude.{◌≡◌, ℕ, ◌+◌, Bool, List, slice_index, slice_get, Option, Some, None, if◌then◌else◌}
+use Rattle.std.specs.Option.{option_or}
+use Rattle.dl_entry.specs.declared.Actor.{Actor}
+use Rattle.dl_entry.specs.declared.Input.{Input}
+use Rattle.dl_entry.specs.declared.Why.{Why}
+use Rattle.spec_isa.specs.declared.thread.Parts.{Parts}
+use Rattle.spec_isa.specs.Runs.{Run}
+use Rattle.spec_log.specs.declared.ModeName.{ModeName}
+use Rattle.spec_log.specs.declared.Interrupt.{Interrupt}
+use Rattle.spec_log.specs.declared.DmaRecord.{DmaRecord}
+use Rattle.spec_log.specs.declared.ShortSize.{ShortSize}
+use Rattle.spec_log.specs.declared.Sizes.{Sizes}
+use Rattle.spec_log.specs.declared.LogParts.{LogParts}
+use Rattle.spec_log.specs.Head.{is_slot, head}
+use Rattle.spec_log.specs.Size.{size_in}
+use Rattle.spec_log.specs.Noting.{Kept, kept_size, limit_by, sizes_used, kept_head, log_of}
+use Rattle.spec_kernel.specs.Interrupts.{takes_interrupt}
+use Rattle.spec_play.specs.Progress.{Progress, Used}
+use Rattle.spec_play.specs.Turns.{are_sizes_used}
+use Rattle.spec_play.specs.Verdicts.{Verdict, Goes, Fails, interrupt_at, chunk_why, chunk_verdict}
+use Rattle.spec_protocol.specs.Spheres.{whole_limit}
+
+-- ---- a chunk's verdict
+
+-- the reason, where it fails
+abbrev pub why_of : Verdict → Option Why
+why_of (Goes e u) = None
+why_of (Fails why) = Some why
+
+-- an interrupt is logged that the thread can't take
+abbrev pub interrupt_why : Option ℕ → Parts → Option Why
+interrupt_why None t = None
+interrupt_why (Some value) t = if takes_interrupt t then None else Some Why.Interrupt
+
+-- of n instructions that have left thread k as t
+abbrev pub why_not : LogParts → (thread : ℕ) → Parts → (n : ℕ) → Option Why
+why_not log k t n =
+    option_or (chunk_why (size_in log (Actor.Thread k) t.commits) n)
+    (interrupt_why (interrupt_at log.interrupts k (t.commits + 1)) t)
+
+-- whether a chunk goes as logged hangs on its thread's end and its number of instructions alone
+abbrev pub ChunksAreJudged : Type 0
+ChunksAreJudged = (log : LogParts) (p : Progress) (u : Used) (k : ℕ) (r : Run) → why_of (chunk_verdict log p u k r) ≡ why_not log k r.thread r.n
+
+-- ---- what is kept of a log
+
+-- the log of what is kept has its sizes and its heads, and a commit's limit is that of its size
+pub record KeptIsLogged : Type 0 where
+  pub size : (mode : ModeName) (kept : Kept) (interrupts : List Interrupt) (inputs : List Input) (dmas : List DmaRecord) (actor : Actor) (i : ℕ) → size_in (log_of mode kept interrupts inputs dmas) actor i ≡ kept_size kept actor i
+  pub head : (mode : ModeName) (kept : Kept) (interrupts : List Interrupt) (inputs : List Input) (dmas : List DmaRecord) (i : ℕ) (last : Option ℕ) (live : List Bool)
+      → head (log_of mode kept interrupts inputs dmas) i last live ≡ kept_head mode kept.order i (is_slot dmas i) last live
+  pub limit : (log : LogParts) (k i : ℕ) → whole_limit log k i ≡ limit_by log.s (size_in log (Actor.Thread k) i)
+
+-- ---- sizes that are used
+
+-- the number of a thread's commits, none where there is no thread
+abbrev pub commits_of : Option Parts → ℕ
+commits_of None = 0
+commits_of (Some t) = t.commits
+
+-- these are the numbers of the threads' commits
+abbrev pub AreCommits : (done : List ℕ) → (threads : List Parts) → Type 0
+AreCommits done threads = (k : ℕ) → slice_index done k ≡ commits_of (slice_get threads k)
+
+-- short sizes are used by the numbers of commits as they are by the threads
+abbrev pub ShortSizesAreUsed : Type 0
+ShortSizesAreUsed = (done : List ℕ) (threads : List Parts) (order : List Actor) (sizes : List ShortSize) → AreCommits done threads → sizes_used order (Sizes.Short sizes) done ≡ are_sizes_used threads (Sizes.Short sizes)
+
+pub record LogsAreSeenAlike : Type 0 where
+  pub chunks : ChunksAreJudged
+  pub kept : KeptIsLogged
+  pub shorts : ShortSizesAreUsed
