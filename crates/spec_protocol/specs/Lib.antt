@@ -19,3 +19,4 @@ pub mod Replying
 pub mod PlayingBack
 pub mod LogsOfPoints
 pub mod Pieces
+pub mod Logs
