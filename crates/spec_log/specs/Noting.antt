@@ -5,7 +5,7 @@ use Rattle.dl_entry.specs.declared.actor.Actor.{Actor}
 use Rattle.dl_entry.specs.declared.actor.Actor.TheVariants.{Thread, Dma}
 use Rattle.dl_entry.specs.declared.input.Input.{Input}
 use Rattle.spec_log.specs.declared.mode_name.ModeName.{ModeName}
-use Rattle.spec_log.specs.declared.mode_name.ModeName.TheVariants.{OrderSize, OrderOnly, Picolog}
+use Rattle.spec_log.specs.declared.mode_name.ModeName.TheVariants.{OrderSize, Picolog}
 use Rattle.spec_log.specs.declared.records.Interrupt.{Interrupt}
 use Rattle.spec_log.specs.declared.records.DmaRecord.{DmaRecord}
 use Rattle.spec_log.specs.declared.sizes.ShortSize.{ShortSize}
@@ -58,16 +58,27 @@ insert_size = insert_by (λ s. s.thread) (λ s. s.index)
 abbrev pub insert_interrupt : Interrupt → List Interrupt → List Interrupt
 insert_interrupt = insert_by (λ i. i.thread) (λ i. i.index)
 
--- the short sizes with a chunk of an actor more: of a thread, where it was closed early
-abbrev pub short_with : List ShortSize → List ℕ → Actor → ℕ → Bool → List ShortSize
-short_with sizes done (Thread thread) size early =
-    if early then insert_size (record { thread = thread; index = slice_index done thread; size = size }) sizes else sizes
-short_with sizes done Dma size early = sizes
+-- the number of an actor's commits before; those of DMAs aren't counted
+abbrev pub index_of : List ℕ → Actor → ℕ
+index_of done (Thread thread) = slice_index done thread
+index_of done Dma = 0
 
--- the sizes with a commit more
+-- the short sizes with a chunk more, of an actor with so many commits before: of a thread, where it was closed early
+abbrev pub short_at : List ShortSize → (index : ℕ) → Actor → ℕ → Bool → List ShortSize
+short_at sizes index (Thread thread) size early =
+    if early then insert_size (record { thread = thread; index = index; size = size }) sizes else sizes
+short_at sizes index Dma size early = sizes
+
+abbrev pub short_with : List ShortSize → List ℕ → Actor → ℕ → Bool → List ShortSize
+short_with sizes done actor size early = short_at sizes (index_of done actor) actor size early
+
+-- the sizes with a commit more, of an actor with so many before
+abbrev pub sizes_at : Sizes → (index : ℕ) → Note → Sizes
+sizes_at (Each sizes) index note = Each (sizes ++ note.size ∷ [])
+sizes_at (Short sizes) index note = Short (short_at sizes index note.actor note.size note.early)
+
 abbrev pub sizes_with : Sizes → List ℕ → Note → Sizes
-sizes_with (Each sizes) done note = Each (sizes ++ note.size ∷ [])
-sizes_with (Short sizes) done note = Short (short_with sizes done note.actor note.size note.early)
+sizes_with sizes done note = sizes_at sizes (index_of done note.actor) note
 
 -- one commit of an actor more; a DMA is no thread's
 abbrev pub done_with : List ℕ → Actor → List ℕ

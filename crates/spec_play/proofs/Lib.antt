@@ -1,3 +1,4 @@
 pub mod Programs
+pub mod Keeping
 mod Examples
 mod Records

@@ -5,3 +5,4 @@ pub mod Verdicts
 pub mod Transfers
 pub mod Plays
 pub mod Recording
+pub mod Noted

@@ -1,3 +1,7 @@
 //! The play of a log as definitions: its commits done whole, one at a time, on plain memory, in any of the three modes;
 //! the eight reasons for which a play leaves its log; and when a log fits an image.
 #![tactic(auto)]
+
+mod promise;
+
+pub use promise::recorders_keep_logs;

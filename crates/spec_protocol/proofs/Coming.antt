@@ -18,8 +18,10 @@ use Rattle.spec_kernel.specs.Interrupts.{takes_interrupt, interrupted}
 use Rattle.spec_play.specs.Effects.{dma_commit}
 use Rattle.spec_play.specs.Progress.{position}
 use Rattle.spec_play.specs.Verdicts.{interrupt_at}
-use Rattle.spec_play.specs.Recording.{with_actor, with_short, with_size, noted, input_noted, dma_noted, interrupt_noted}
+use Rattle.spec_log.specs.Noting.{order_with}
+use Rattle.spec_play.specs.Recording.{noted, input_noted, dma_noted, interrupt_noted}
 use Rattle.spec_protocol.specs.Spheres.{Sphere}
+use Rattle.spec_protocol.proofs.Inserting.{with_short, with_size}
 use Rattle.spec_protocol.proofs.Moving.{get-set_other, get-set_same, get-append}
 use Rattle.spec_protocol.proofs.Lookups.{short_at, short-other, interrupt-other, count_of, count-append, SlotsBelow, SlotsFrom, SlotsFrom_less, SlotsBelow_more, SlotsBelow-push}
 use Rattle.spec_protocol.proofs.Growing.{commits_if, commits_in, OrderStands, SizesStand, Stands, SizesAhead, Behind, Ahead, HasCommitted, has_committed-parts, Grows, grows_of, grown_least, pushed_length, set_none}
@@ -51,7 +53,7 @@ ahead-end p log =
 
 -- ---- a commit
 
-order_ahead : (mode : ModeName) (a : Actor) (ys order : List Actor) → Behind ys (with_actor mode a order) → Behind ys order
+order_ahead : (mode : ModeName) (a : Actor) (ys order : List Actor) → Behind ys (order_with mode order a) → Behind ys order
 order_ahead ModeName.OrderSize a ys order b = behind_step ys order a b
 order_ahead ModeName.OrderOnly a ys order b = behind_step ys order a b
 order_ahead ModeName.Picolog a ys order b = b
@@ -109,7 +111,7 @@ pub record Transferred (p q : Sphere) (log qlog : LogParts) (bytes : List ℕ) :
 dma_more : (j : ℕ) (as_ : List Actor) → count_of j (as_ ++ Actor.Dma ∷ []) ≡ count_of j as_
 dma_more j as_ = count-append j as_ (Actor.Dma ∷ []) ∙ omega arith
 
-dma_order_stands : (mode : ModeName) (order : List Actor) (n : ℕ) (ts : List Parts) → OrderStands mode order n ts → OrderStands mode (with_actor mode Actor.Dma order) (suc n) ts
+dma_order_stands : (mode : ModeName) (order : List Actor) (n : ℕ) (ts : List Parts) → OrderStands mode order n ts → OrderStands mode (order_with mode order Actor.Dma) (suc n) ts
 dma_order_stands ModeName.OrderSize order n ts s = (pushed_length order Actor.Dma n s.0, λ j. dma_more j order ∙ s.1 j)
 dma_order_stands ModeName.OrderOnly order n ts s = (pushed_length order Actor.Dma n s.0, λ j. dma_more j order ∙ s.1 j)
 dma_order_stands ModeName.Picolog order n ts s = tt

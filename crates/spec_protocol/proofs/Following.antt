@@ -20,7 +20,7 @@ use Rattle.spec_play.specs.Effects.{Effect}
 use Rattle.spec_play.specs.Progress.{Progress, position, with_effect, Used, with_interrupt}
 use Rattle.spec_play.specs.Turns.{Turn, turn_of, turn_of_thread, next_actor, at_end, has_left_over, now_at}
 use Rattle.spec_play.specs.Verdicts.{Goes, Fails, interrupt_at, with_interrupted, ended}
-use Rattle.spec_play.specs.Recording.{with_actor}
+use Rattle.spec_log.specs.Noting.{order_with}
 use Rattle.spec_play.specs.Plays.{Played, thread_verdict}
 use Rattle.spec_protocol.specs.Spheres.{Sphere}
 use Rattle.spec_protocol.proofs.Keeping.{IsNew, LookAlike}
@@ -159,7 +159,7 @@ turn-at L p u ts k t below actor is live =
     ∙ ap (turn_of (position p) ts) actor ∙ ap (turn_of_thread (position p) k) is ∙ ap (λ (b : Bool). cond b (Turn k) (turn_of_thread (position p) k None)) live
 
 -- the log names the actor that committed: in its order, or by its turn
-pub named : (mode : ModeName) (L : LogParts) (n : ℕ) (last : Option ℕ) (flags : List Bool) (k : ℕ) (order : List Actor) → (ts : List Parts) → OrderStands mode order n ts → Behind L.order (with_actor mode (Actor.Thread k) order) → is_slot L.dmas n ≡ false → (mode ≡ ModeName.Picolog → turn last flags ≡ Some k)
+pub named : (mode : ModeName) (L : LogParts) (n : ℕ) (last : Option ℕ) (flags : List Bool) (k : ℕ) (order : List Actor) → (ts : List Parts) → OrderStands mode order n ts → Behind L.order (order_with mode order (Actor.Thread k)) → is_slot L.dmas n ≡ false → (mode ≡ ModeName.Picolog → turn last flags ≡ Some k)
     → head_in mode L n last flags ≡ Some (Actor.Thread k)
 named ModeName.OrderSize L n last flags k order ts s b slot turns =
     ap (λ (as_ : List Actor). slice_get as_ n) (b.1 ∙ append_assoc order (Actor.Thread k ∷ []) b.0) ∙ get-behind order (Actor.Thread k) b.0 n s.0

@@ -17,7 +17,8 @@ use Rattle.spec_kernel.specs.Interrupts.{takes_interrupt}
 use Rattle.spec_play.specs.Progress.{Progress, position, Used}
 use Rattle.spec_play.specs.Turns.{Over, is_size_used, are_sizes_used, has_left_over, at_end, turn_of, next_actor, now_at}
 use Rattle.spec_play.specs.Verdicts.{interrupt_at}
-use Rattle.spec_play.specs.Recording.{new_log, no_sizes, interrupt_noted}
+use Rattle.spec_log.specs.Noting.{no_sizes}
+use Rattle.spec_play.specs.Recording.{new_log, interrupt_noted}
 use Rattle.spec_play.specs.Plays.{Played, opened, plays, play}
 use Rattle.spec_engine.specs.declared.answers.How.{How}
 use Rattle.spec_protocol.specs.Spheres.{Role, Record, Sphere}
@@ -137,8 +138,8 @@ start_sizes ModeName.OrderSize entry = refl
 start_sizes ModeName.OrderOnly entry = λ k i l. refl
 start_sizes ModeName.Picolog entry = λ k i l. refl
 
-start_stands : (s : ℕ) (image : SphereSetup) (mode : ModeName) → Stands (sphere_of s image) (new_log mode s)
-start_stands s image mode =
+pub start-stands : (s : ℕ) (image : SphereSetup) (mode : ModeName) → Stands (sphere_of s image) (new_log mode s)
+start-stands s image mode =
     record {
       count = refl;
       order = start_order mode image.entry;
@@ -258,7 +259,7 @@ logs_play_back s es i image mode p log is there role shown log_ =
     let L : LogParts = c.log in
     let same : q ≡ p = (let h : Some q ≡ Some p = sym c.there ∙ ap (λ (x : Whole). slice_get x.spheres i) (sym m.same) ∙ shown in cc) in
     let logs : L ≡ log = (let h : Record L ≡ Record log = sym c.role ∙ ap (λ (x : Sphere). x.role) same ∙ log_ in cc) in
-    let st = start_stands z image mode in
+    let st = start-stands z image mode in
     let last : Ahead L q L = ahead-end q L in
     let done : PlaysBack L image q = ends L image q (c.grown.stands st) (c.grown.reaches L (opened L image.memory image.entry) st last (start_reaches L z image mode (c.grown.ahead L last))) in
     subst (λ (l : LogParts). PlaysBack l image p) logs (subst (PlaysBack L image) same done)

@@ -20,7 +20,7 @@ use Rattle.spec_protocol.proofs.Growing.{Stands, Ahead, HasCommitted, has_commit
 use Rattle.spec_protocol.proofs.Following.{early_by, early, pending_by, pending, early_same, pending_same, sum_from, sum-set, sum-append, Follows, get_past, new_takes_none, early_effect, early_used, same-flags, turn-at, named, Effects, goes_so}
 use Rattle.spec_protocol.proofs.Keeping.{IsNew}
 use Rattle.spec_play.specs.Turns.{Turn, next_actor}
-use Rattle.spec_play.specs.Recording.{with_actor}
+use Rattle.spec_log.specs.Noting.{order_with}
 use Rattle.spec_protocol.proofs.Lookups.{SlotsFrom, no_slot}
 use Rattle.spec_log.specs.Head.{turn, is_slot, head_in}
 use Rattle.spec_isa.specs.Words.{lays}
@@ -154,7 +154,7 @@ turn_follows L k short p q log qlog t u made c o y e d sp ap_ aq f es =
     let is : slice_get y.threads k ≡ Some t = f.threads k t d.start ∙ ap Some (early_same (interrupt_at log.interrupts k t.commits) (interrupt_at L.interrupts k t.commits) t s.before_) in
     let at_ : position y.progress ≡ position p.progress = ap position f.progress in
     let below : position y.progress < L.count = (let a = sp.count in let b = n.count in let h = aq.count in omega arith) in
-    let behind : Behind L.order (with_actor log.mode (Actor.Thread k) log.order) = subst (Behind L.order) n.order aq.order in
+    let behind : Behind L.order (order_with log.mode log.order (Actor.Thread k)) = subst (Behind L.order) n.order aq.order in
     let rest = aq.dmas in
     let slot : is_slot L.dmas (position p.progress) ≡ false =
     ap (λ (ds : List DmaRecord). is_slot ds (position p.progress)) (rest.1 ∙ ap (λ (ds : List DmaRecord). ds ++ rest.0) n.dmas)

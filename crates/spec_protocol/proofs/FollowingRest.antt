@@ -11,7 +11,6 @@ use Rattle.spec_isa.specs.declared.thread.Parts.{Parts}
 use Rattle.spec_isa.specs.Words.{lays}
 use Rattle.spec_log.specs.declared.ModeName.{ModeName}
 use Rattle.spec_log.specs.declared.DmaRecord.{DmaRecord}
-use Rattle.spec_log.specs.declared.Interrupt.{Interrupt}
 use Rattle.spec_log.specs.declared.Sizes.{Sizes}
 use Rattle.spec_log.specs.declared.LogParts.{LogParts}
 use Rattle.spec_log.specs.Head.{is_slot, head_by_turn, head_in}
@@ -22,19 +21,21 @@ use Rattle.spec_play.specs.Effects.{dma_commit}
 use Rattle.spec_play.specs.Progress.{Progress, position, with_dma, Used}
 use Rattle.spec_play.specs.Turns.{TurnOfDma, turn_of, next_actor, at_end, has_left_over, now_at}
 use Rattle.spec_play.specs.Verdicts.{interrupt_at, serial_why}
-use Rattle.spec_play.specs.Recording.{with_actor, with_size, noted, dma_noted, comes_before}
+use Rattle.spec_log.specs.Noting.{order_with}
+use Rattle.spec_play.specs.Recording.{noted, dma_noted}
 use Rattle.spec_play.specs.Transfers.{DmaGoes, DmaFails, is_for, transferred, dma_unless, dma_verdict}
 use Rattle.spec_play.specs.Plays.{Played, dma_settled, play_now, play_one}
 use Rattle.spec_protocol.specs.Spheres.{Sphere}
+use Rattle.spec_protocol.proofs.Inserting.{with_size}
 use Rattle.spec_protocol.proofs.Moving.{get-set_other, get-set_same}
-use Rattle.spec_protocol.proofs.Lookups.{get-behind, a_slot, interrupt-other, interrupt-same, length-placed}
+use Rattle.spec_protocol.proofs.Lookups.{get-behind, a_slot, interrupt-other, interrupt-same, length-raised}
 use Rattle.spec_protocol.proofs.Growing.{OrderStands, SizesStand, Stands, SizesAhead, Behind, Ahead}
 use Rattle.spec_protocol.proofs.Coming.{Transferred, WasRaised}
 use Rattle.spec_protocol.proofs.Following.{early_by, early, pending_by, pending, sum_from, sum-set, Follows}
 
 -- ---- whose turn it is
 
-dma_named : (mode : ModeName) (L : LogParts) (n : ℕ) (last : Option ℕ) (flags : List Bool) (order : List Actor) → (ts : List Parts) → OrderStands mode order n ts → Behind L.order (with_actor mode Actor.Dma order) → is_slot L.dmas n ≡ true
+dma_named : (mode : ModeName) (L : LogParts) (n : ℕ) (last : Option ℕ) (flags : List Bool) (order : List Actor) → (ts : List Parts) → OrderStands mode order n ts → Behind L.order (order_with mode order Actor.Dma) → is_slot L.dmas n ≡ true
     → head_in mode L n last flags ≡ Some Actor.Dma
 dma_named ModeName.OrderSize L n last flags order ts s b slot =
     ap (λ (as_ : List Actor). slice_get as_ n) (b.1 ∙ append_assoc order (Actor.Dma ∷ []) b.0) ∙ get-behind order Actor.Dma b.0 n s.0
@@ -129,16 +130,16 @@ transferred-follows L p q log qlog bytes request y d mem progress asked most sp 
 
 -- ---- an interrupt
 
-open_takes : (t : Parts) → takes_interrupt t ≡ true → t.mask ≡ false
-open_takes t e = not-true t.mask ((and_parts (is_live t && has_handler t) (not t.mask) e).1)
+pub open-takes : (t : Parts) → takes_interrupt t ≡ true → t.mask ≡ false
+open-takes t e = not-true t.mask ((and_parts (is_live t && has_handler t) (not t.mask) e).1)
 
 masked_takes : (t : Parts) (value : ℕ) → takes_interrupt (interrupted value t) ≡ true → ⊥
-masked_takes t value e = true≢false (open_takes (interrupted value t) e)
+masked_takes t value e = true≢false (open-takes (interrupted value t) e)
 
 raised_to_come : (L : LogParts) (k value : ℕ) (p q : Sphere) (log qlog : LogParts) (t : Parts) → WasRaised k value p q log qlog t → Stands p log → Ahead L q qlog
     → (interrupt_at log.interrupts k t.commits ≡ None) × (interrupt_at L.interrupts k t.commits ≡ Some value) × (interrupt_at qlog.interrupts k t.commits ≡ Some value)
 raised_to_come L k value p q log qlog t d sp aq =
-    let none : interrupt_at log.interrupts k t.commits ≡ None = sp.unmasked k t d.start (open_takes t d.takes) in
+    let none : interrupt_at log.interrupts k t.commits ≡ None = sp.unmasked k t d.start (open-takes t d.takes) in
     let some : interrupt_at qlog.interrupts k t.commits ≡ Some value = ap (λ (l : LogParts). interrupt_at l.interrupts k t.commits) d.log_ ∙ interrupt-same log.interrupts k t.commits value none in
     let there : slice_get q.threads k ≡ Some (interrupted value t) = ap (λ (ts : List Parts). slice_get ts k) d.threads ∙ get-set_same p.threads k (interrupted value t) t d.start in (
       none,
@@ -185,7 +186,7 @@ raised_sums L k value p q log qlog t d sp aq =
     let ft : f (0 + k) t ≡ 1 = ap (λ (n : ℕ). f n t) kz ∙ (λ i. pending_by (h.0 i) (h.1 i)) in
     let gu : g (0 + k) u ≡ 0 = ap (λ (n : ℕ). g n u) kz ∙ ap (λ (o : Option ℕ). pending_by o (interrupt_at L.interrupts k t.commits)) h.2 in
     let b : sum_from g 0 q.threads ≡ sum_from g 0 (set p.threads k u) = ap (sum_from g 0) d.threads in
-    let c : length qlog.interrupts ≡ suc (length log.interrupts) = ap (λ (m : LogParts). length m.interrupts) d.log_ ∙ length-placed (λ (a b : Interrupt). comes_before a.thread a.index b.thread b.index) (record { thread = k; index = t.commits; value = value }) log.interrupts in
+    let c : length qlog.interrupts ≡ suc (length log.interrupts) = ap (λ (m : LogParts). length m.interrupts) d.log_ ∙ length-raised log.interrupts k t.commits value h.0 in
     omega arith
 
 pub raised-follows : (L : LogParts) (k value : ℕ) (p q : Sphere) (log qlog : LogParts) (t : Parts) (y : Played) → WasRaised k value p q log qlog t → q.memory ≡ p.memory → Stands p log → Ahead L q qlog → Follows L p log y → Follows L q qlog y

@@ -23,8 +23,10 @@ use Rattle.spec_kernel.specs.Serving.{serve}
 use Rattle.spec_play.specs.Effects.{chunk_effect, serial_effect}
 use Rattle.spec_play.specs.Progress.{Progress, Used}
 use Rattle.spec_play.specs.Verdicts.{ended, chunk_why, chunk_verdict, serial_why, given, served_verdict, serial_verdict, unless as unless_why}
-use Rattle.spec_play.specs.Recording.{with_actor, with_size, input_noted}
+use Rattle.spec_log.specs.Noting.{order_with}
+use Rattle.spec_play.specs.Recording.{input_noted}
 use Rattle.spec_play.specs.Plays.{Played, size_or_standard, thread_verdict}
+use Rattle.spec_protocol.proofs.Inserting.{with_size}
 use Rattle.spec_protocol.proofs.Running.{one-outcome, serial_outcome}
 use Rattle.spec_protocol.proofs.Answering.{answer-fits}
 use Rattle.spec_protocol.proofs.Keeping.{run-keeps, LookAlike, serve-alike}
@@ -81,7 +83,7 @@ run-stops m t n s l some =
 -- ---- what the log says of the size
 
 pub size-says : (mode : ModeName) (named order : List Actor) (y x : Sizes) (k n pos : ℕ) (short : Bool) (ts us : List Parts) (t : Parts) → Grows k ts us t → OrderStands mode order pos ts → SizesStand mode x pos ts
-    → Behind named (with_actor mode (Actor.Thread k) order) → SizesAhead y (with_size x (Actor.Thread k) t.commits n short) us
+    → Behind named (order_with mode order (Actor.Thread k)) → SizesAhead y (with_size x (Actor.Thread k) t.commits n short) us
     → (thread_size named y k t.commits ≡ Some n) ⊎ ((thread_size named y k t.commits ≡ None) × (short ≡ false))
 size-says ModeName.OrderSize named order (Sizes.Each ys) (Sizes.Each xs) k n pos short ts us t g o s b a =
     inl (

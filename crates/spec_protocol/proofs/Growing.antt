@@ -16,8 +16,10 @@ use Rattle.spec_log.specs.declared.LogParts.{LogParts}
 use Rattle.spec_kernel.specs.Interrupts.{takes_interrupt}
 use Rattle.spec_play.specs.Progress.{position}
 use Rattle.spec_play.specs.Verdicts.{interrupt_at}
-use Rattle.spec_play.specs.Recording.{with_actor, with_short, with_size, noted, input_noted}
+use Rattle.spec_log.specs.Noting.{order_with}
+use Rattle.spec_play.specs.Recording.{noted, input_noted}
 use Rattle.spec_protocol.specs.Spheres.{Sphere}
+use Rattle.spec_protocol.proofs.Inserting.{with_short, with_size}
 use Rattle.spec_protocol.proofs.Moving.{get-set_other, get-set_same, get-append}
 use Rattle.spec_protocol.proofs.Keeping.{IsNew, AreNew}
 use Rattle.spec_protocol.proofs.Lookups.{short_at, short-other, count_of, count-append, SlotsBelow, SlotsFrom, SlotsBelow_more}
@@ -113,7 +115,7 @@ abbrev noted_as : LogParts → ℕ → ℕ → ℕ → Bool → LogParts
 noted_as log k i n short =
     record log {
       count = log.count + 1;
-      order = with_actor log.mode (Actor.Thread k) log.order;
+      order = order_with log.mode log.order (Actor.Thread k);
       sizes = with_size log.sizes (Actor.Thread k) i n short;
     }
 
@@ -135,7 +137,7 @@ pub record Parts' (k : ℕ) (short : Bool) (log qlog : LogParts) (i n : ℕ) (o 
   pub mode : qlog.mode ≡ log.mode
   pub s : qlog.s ≡ log.s
   pub count : qlog.count ≡ log.count + 1
-  pub order : qlog.order ≡ with_actor log.mode (Actor.Thread k) log.order
+  pub order : qlog.order ≡ order_with log.mode log.order (Actor.Thread k)
   pub sizes : qlog.sizes ≡ with_size log.sizes (Actor.Thread k) i n short
   pub interrupts : qlog.interrupts ≡ log.interrupts
   pub dmas : qlog.dmas ≡ log.dmas
@@ -147,7 +149,7 @@ has_committed-parts k short p q log qlog t u made c o d =
       mode = ap (λ (l : LogParts). l.mode) d.log_ ∙ a.mode;
       s = ap (λ (l : LogParts). l.s) d.log_ ∙ a.s;
       count = ap (λ (l : LogParts). l.count) d.log_ ∙ a.count;
-      order = ap (λ (l : LogParts). l.order) d.log_ ∙ a.order ∙ ap (λ (x : Actor). with_actor log.mode x log.order) d.actor;
+      order = ap (λ (l : LogParts). l.order) d.log_ ∙ a.order ∙ ap (λ (x : Actor). order_with log.mode log.order x) d.actor;
       sizes = ap (λ (l : LogParts). l.sizes) d.log_ ∙ a.sizes ∙ ap (λ (x : Actor). with_size log.sizes x t.commits c.size short) d.actor;
       interrupts = ap (λ (l : LogParts). l.interrupts) d.log_ ∙ a.interrupts;
       dmas = ap (λ (l : LogParts). l.dmas) d.log_ ∙ a.dmas;
@@ -192,7 +194,7 @@ counts-stand k order ts us t g each j =
       | inr ne ↦ none_more k j order ne ∙ each j ∙ sym (g.other j ne)
     ]
 
-order_stands : (mode : ModeName) (k : ℕ) (order : List Actor) (n : ℕ) (ts us : List Parts) (t : Parts) → Grows k ts us t → OrderStands mode order n ts → OrderStands mode (with_actor mode (Actor.Thread k) order) (suc n) us
+order_stands : (mode : ModeName) (k : ℕ) (order : List Actor) (n : ℕ) (ts us : List Parts) (t : Parts) → Grows k ts us t → OrderStands mode order n ts → OrderStands mode (order_with mode order (Actor.Thread k)) (suc n) us
 order_stands ModeName.OrderSize k order n ts us t g s = (pushed_length order (Actor.Thread k) n s.0, counts-stand k order ts us t g s.1)
 order_stands ModeName.OrderOnly k order n ts us t g s = (pushed_length order (Actor.Thread k) n s.0, counts-stand k order ts us t g s.1)
 order_stands ModeName.Picolog k order n ts us t g s = tt
@@ -247,7 +249,7 @@ has_committed-stands k short p q log qlog t u made c o d s =
       count = n.count ∙ (let a = s.count in let b = d.position_ in omega arith);
       order = subst (λ (m : ModeName). OrderStands m qlog.order (position q.progress) q.threads) (sym n.mode)
           (subst (λ (as_ : List Actor). OrderStands log.mode as_ (position q.progress) q.threads) (sym n.order)
-          (subst (λ (x : ℕ). OrderStands log.mode (with_actor log.mode (Actor.Thread k) log.order) x q.threads) (sym d.position_)
+          (subst (λ (x : ℕ). OrderStands log.mode (order_with log.mode log.order (Actor.Thread k)) x q.threads) (sym d.position_)
           (order_stands log.mode k log.order (position p.progress) p.threads q.threads t g s.order)));
       sizes = subst (λ (m : ModeName). SizesStand m qlog.sizes (position q.progress) q.threads) (sym n.mode)
           (subst (λ (z : Sizes). SizesStand log.mode z (position q.progress) q.threads) (sym n.sizes)

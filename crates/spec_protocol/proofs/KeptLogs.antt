@@ -1,5 +1,5 @@
 -- Points done one at a time: the log that a recorded sphere keeps is that of its points.
-use Rattle.std.proofs.Common.{◌≡◌, ℕ, suc, ◌+◌, ◌<◌, ◌≤◌, inl, inr, Bool, false, cond, List, [], ◌∷◌, ◌++◌, length, Option, Some, None, refl, sym, ap, ◌∙◌, arith, set}
+use Rattle.std.proofs.Common.{◌≡◌, ℕ, suc, ◌+◌, ◌<◌, ◌≤◌, inl, inr, Bool, true, false, cond, List, [], ◌∷◌, ◌++◌, length, Option, Some, None, refl, sym, ap, ◌∙◌, subst, arith, set}
 use Rattle.std.specs.Prelude.{slice_get}
 use Rattle.std.proofs.Math.ListN.{length-set}
 use Rattle.std.proofs.lemmas.Bool.{cases_eq}
@@ -20,11 +20,11 @@ use Rattle.spec_kernel.specs.Devices.{Devices}
 use Rattle.spec_kernel.specs.Copies.{dma_words}
 use Rattle.spec_kernel.specs.Needs.{need}
 use Rattle.spec_kernel.specs.Answers.{Taken, taken, dma_bytes, dma_taken}
-use Rattle.spec_kernel.specs.Interrupts.{interrupted}
+use Rattle.spec_kernel.specs.Interrupts.{takes_interrupt, interrupted}
 use Rattle.spec_kernel.specs.Serving.{serve}
 use Rattle.spec_play.specs.Effects.{chunk_effect, serial_effect, dma_commit}
 use Rattle.spec_play.specs.Progress.{position}
-use Rattle.spec_play.specs.Recording.{noted}
+use Rattle.spec_play.specs.Recording.{noted, interrupt_noted}
 use Rattle.spec_protocol.specs.Spheres.{Record, Sphere}
 use Rattle.spec_protocol.specs.Commits.{Moved, chunk_in, serial_noted, serial_in, dma_as, dma_log, role_raised, raised}
 use Rattle.spec_protocol.specs.Serial.{Whole, laid}
@@ -32,7 +32,9 @@ use Rattle.spec_protocol.specs.Logged.{Supplied, actors_of, is_short_chunk, logg
 use Rattle.spec_protocol.proofs.Moving.{get-set_other, get-set_same}
 use Rattle.spec_protocol.proofs.Keeping.{run-keeps, serve-keeps}
 use Rattle.spec_protocol.proofs.Lookups.{count_of}
-use Rattle.spec_protocol.proofs.Growing.{commits_in, commits_if, HasCommitted, Grows, grows_of, counts-stand}
+use Rattle.spec_protocol.proofs.Growing.{commits_in, commits_if, HasCommitted, has_committed-stands, Grows, grows_of, Stands, counts-stand}
+use Rattle.spec_protocol.proofs.Coming.{transferred-stands, raised-stands}
+use Rattle.spec_protocol.proofs.FollowingRest.{open-takes}
 use Rattle.spec_protocol.proofs.OnePointMore.{points_so, points-more, commits_of, actors-append}
 use Rattle.spec_protocol.proofs.NotedPoints.{commit-told, dma-told, raise-told}
 use Rattle.spec_protocol.proofs.Spawning.{AreFew, serve-few}
@@ -44,6 +46,7 @@ pub record Keeps (mode : ModeName) (s : ℕ) (cs : List Supplied) (p : Sphere) :
   pub role : p.role ≡ Record (logged mode s cs)
   pub commits : (k : ℕ) → commits_of k (points_so cs) ≡ commits_in p.threads k
   pub place : length (actors_of (points_so cs)) ≡ position p.progress
+  pub stands : Stands p (logged mode s cs)
   pub few : length p.threads ≤ 15
 
 pub record KeepsIn (mode : ModeName) (s i : ℕ) (cs : List Supplied) (x : Whole) : Type 0 where
@@ -65,8 +68,10 @@ commit_keeps mode s cs moment i k size kind short o bytes p q qlog t u made comm
     let g : Grows k p.threads q.threads t = grows_of k (is_short_chunk kind short) p q (logged mode s cs) qlog t u made commit o d in
     let below : k < 15 = (let h = slice_get_within p.threads k t d.start in let l = keeps.few in omega arith) in
     let before_ : t.commits ≡ commits_of k ps = sym (keeps.commits k ∙ g.was) in
+    let now : qlog ≡ logged mode s (cs ++ c ∷ []) = d.log_ ∙ commit-told mode s cs moment i k t.commits size kind short o bytes commit below before_ d.actor sized in
     record {
-      role = role ∙ ap (λ (log : LogParts). Record log) (d.log_ ∙ commit-told mode s cs moment i k t.commits size kind short o bytes commit below before_ d.actor sized);
+      role = role ∙ ap (λ (log : LogParts). Record log) now;
+      stands = subst (Stands q) now (has_committed-stands k (is_short_chunk kind short) p q (logged mode s cs) qlog t u made commit o d keeps.stands);
       commits = λ j. ap (count_of j) (more_actors cs c) ∙ counts-stand k (actors_of ps) p.threads q.threads t g keeps.commits j;
       place = (let a = ap (λ (as_ : List Actor). length as_) (more_actors cs c) in let b = length-append (actors_of ps) (Actor.Thread k ∷ []) in let h = keeps.place in let e = d.position_ in omega arith);
       few = (let a = ap (λ (ts : List Parts). length ts) d.threads in let b = length-append (set p.threads k u) made in let h = length-set p.threads k u in omega (arith, few));
@@ -134,8 +139,13 @@ dma-keeps mode s cs moment i short p request devices keeps =
     let bytes = dma_bytes devices request in
     let ps = points_so cs in
     let c : Supplied = record { point = Point.Commit moment i Actor.Dma CommitKind.Dma 0 short; input = None; bytes = bytes } in
+    let log = logged mode s cs in
+    let q = laid (recorded_dma log devices request p) in
+    let now : dma_log log devices p (Some request) ≡ logged mode s (cs ++ c ∷ []) = dma-told mode s cs moment i (position p.progress) CommitKind.Dma short bytes (sym keeps.place) in
+    let one : position q.progress ≡ suc (position p.progress) = (let h = length-append p.progress.commits (dma_commit ∷ []) in omega arith) in
     record {
-      role = ap (λ (log : LogParts). Record log) (dma-told mode s cs moment i (position p.progress) CommitKind.Dma short bytes (sym keeps.place));
+      role = ap (λ (log : LogParts). Record log) now;
+      stands = subst (Stands q) now (transferred-stands p q log (dma_log log devices p (Some request)) bytes (record { threads = refl; position_ = one; log_ = refl }) keeps.stands);
       commits = λ j. ap (count_of j) (more_actors cs c) ∙ no_thread_more j (actors_of ps) ∙ keeps.commits j;
       place = (let a = ap (λ (as_ : List Actor). length as_) (more_actors cs c) in let b = length-append (actors_of ps) (Actor.Dma ∷ []) in let h = keeps.place in let l = length-append p.progress.commits (dma_commit ∷ []) in omega arith);
       few = keeps.few;
@@ -143,17 +153,22 @@ dma-keeps mode s cs moment i short p request devices keeps =
 
 -- ---- an interrupt
 
-pub raise-keeps : (mode : ModeName) (s : ℕ) (cs : List Supplied) (moment i k value : ℕ) (p : Sphere) (t : Parts) → Keeps mode s cs p → slice_get p.threads k ≡ Some t
+pub raise-keeps : (mode : ModeName) (s : ℕ) (cs : List Supplied) (moment i k value : ℕ) (p : Sphere) (t : Parts) → Keeps mode s cs p → slice_get p.threads k ≡ Some t → takes_interrupt t ≡ true
     → Keeps mode s (cs ++ record { point = Point.Raise moment i k value; input = None; bytes = [] } ∷ []) (raised k value t p)
 unfolding raised
-raise-keeps mode s cs moment i k value p t keeps is =
+raise-keeps mode s cs moment i k value p t keeps is takes =
     let ps = points_so cs in
     let u : Parts = interrupted value t in
     let c : Supplied = record { point = Point.Raise moment i k value; input = None; bytes = [] } in
     let below : k < 15 = (let h = slice_get_within p.threads k t is in let l = keeps.few in omega arith) in
     let same : actors_of (points_so (cs ++ c ∷ [])) ≡ actors_of ps = more_actors cs c ∙ append-nil (actors_of ps) in
+    let log = logged mode s cs in
+    let fresh = keeps.stands.unmasked k t is (open-takes t takes) in
+    let now : interrupt_noted k t.commits value log ≡ logged mode s (cs ++ c ∷ []) = raise-told mode s cs moment i k t.commits value below (sym (keeps.commits k ∙ ap commits_if is)) fresh in
     record {
-      role = ap (role_raised k t.commits value) keeps.role ∙ ap (λ (log : LogParts). Record log) (raise-told mode s cs moment i k t.commits value below (sym (keeps.commits k ∙ ap commits_if is)));
+      role = ap (role_raised k t.commits value) keeps.role ∙ ap (λ (log : LogParts). Record log) now;
+      stands = subst (Stands (raised k value t p)) now
+          (raised-stands k value p (raised k value t p) log (interrupt_noted k t.commits value log) t (record { start = is; takes = takes; threads = refl; progress = refl; log_ = refl }) keeps.stands);
       commits = λ j. ap (count_of j) same ∙ keeps.commits j ∙ elim (cases_eq j k) [
         | inl e ↦ ap (commits_in p.threads) e ∙ ap commits_if is ∙ sym (ap (commits_in (set p.threads k u)) e ∙ ap commits_if (get-set_same p.threads k u t is))
         | inr ne ↦ sym (ap commits_if (get-set_other p.threads k j u ne))

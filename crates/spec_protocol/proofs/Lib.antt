@@ -24,6 +24,7 @@ pub mod OnCounts
 pub mod OnPoints
 pub mod AsksGranted
 pub mod Keeping
+pub mod Inserting
 pub mod Lookups
 pub mod Answering
 pub mod Growing

@@ -1,8 +1,8 @@
 -- Entries of logs: how they are found again after others were added.
-use Rattle.std.proofs.Common.{◌≡◌, ℕ, zero, suc, ◌+◌, ◌<◌, ◌≤◌, inl, inr, Bool, true, false, ◌&&◌, ◌||◌, eqb, cond, List, [], ◌∷◌, ◌++◌, length, Option, Some, None, refl, sym, ap, ◌∙◌, arith}
+use Rattle.std.proofs.Common.{◌≡◌, ℕ, zero, suc, ◌+◌, ◌<◌, ◌≤◌, Bool, true, false, ◌&&◌, ◌||◌, eqb, cond, List, [], ◌∷◌, ◌++◌, length, Option, Some, None, refl, sym, ap, arith}
 use Rattle.std.specs.Prelude.{slice_get, map, filter, find, option_map}
 use Rattle.std.specs.List.{zip}
-use Rattle.std.proofs.lemmas.Bool.{eq-eqb, ne_eqb, and_left, and_right, cases_eq, or_from, or_left}
+use Rattle.std.proofs.lemmas.Bool.{eq-eqb, ne_eqb, or_from, or_left}
 use Rattle.std.proofs.lemmas.Option.{none-some}
 use Rattle.dl_entry.specs.declared.Actor.{Actor}
 use Rattle.spec_log.specs.declared.Interrupt.{Interrupt}
@@ -11,65 +11,17 @@ use Rattle.spec_log.specs.declared.ShortSize.{ShortSize}
 use Rattle.spec_log.specs.Size.{is_thread, sizes_of_thread}
 use Rattle.spec_log.specs.Head.{is_slot}
 use Rattle.spec_play.specs.Verdicts.{interrupt_at}
-use Rattle.spec_play.specs.Recording.{in_place, with_short, comes_before}
-
--- ---- entries that are put in their place
-
-place_cond : {X : Type 0} (test : X → Bool) (x y : X) (ys : List X) (before : X → X → Bool) (b : Bool) → (find test (in_place before x ys) ≡ find test ys) → test x ≡ false
-    → find test (cond b (x ∷ y ∷ ys) (y ∷ in_place before x ys)) ≡ find test (y ∷ ys)
-place_cond test x y ys before true ih e = ap (λ (c : Bool). cond c (Some x) (find test (y ∷ ys))) e
-place_cond test x y ys before false ih e = ap (cond (test y) (Some y)) ih
-
--- another entry is found as before
-pub find-placed_other : {X : Type 0} (test : X → Bool) (before : X → X → Bool) (x : X) (ys : List X) → test x ≡ false → find test (in_place before x ys) ≡ find test ys
-find-placed_other test before x [] e = ap (λ (c : Bool). cond c (Some x) None) e
-find-placed_other test before x (y ∷ ys) e = place_cond test x y ys before (before x y) (find-placed_other test before x ys e) e
-
-found_first : {X : Type 0} (test : X → Bool) (y : X) (ys : List X) → find test (y ∷ ys) ≡ None → (test y ≡ false) × (find test ys ≡ None)
-found_first test y ys e =
-    elim (test y) as (λ (b : Bool). cond b (Some y) (find test ys) ≡ None → (b ≡ false) × (find test ys ≡ None)) [
-      | true ↦ λ h. absurd (none-some y (sym h))
-      | false ↦ λ h. (refl, h)
-    ] e
-
-place_hit : {X : Type 0} (test : X → Bool) (x y : X) (ys : List X) (before : X → X → Bool) (b : Bool) → (find test (in_place before x ys) ≡ Some x) → test x ≡ true → test y ≡ false
-    → find test (cond b (x ∷ y ∷ ys) (y ∷ in_place before x ys)) ≡ Some x
-place_hit test x y ys before true ih e ne = ap (λ (c : Bool). cond c (Some x) (find test (y ∷ ys))) e
-place_hit test x y ys before false ih e ne = ap (λ (c : Bool). cond c (Some y) (find test (in_place before x ys))) ne ∙ ih
-
--- the entry itself is found, where none was
-pub find-placed : {X : Type 0} (test : X → Bool) (before : X → X → Bool) (x : X) (ys : List X) → test x ≡ true → find test ys ≡ None → find test (in_place before x ys) ≡ Some x
-find-placed test before x [] e none = ap (λ (c : Bool). cond c (Some x) None) e
-find-placed test before x (y ∷ ys) e none =
-    let p = found_first test y ys none in
-    place_hit test x y ys before (before x y) (find-placed test before x ys e p.1) e p.0
-
-length_cond : {X : Type 0} (before : X → X → Bool) (x y : X) (ys : List X) (b : Bool) → length (in_place before x ys) ≡ suc (length ys) → length (cond b (x ∷ y ∷ ys) (y ∷ in_place before x ys)) ≡ suc (suc (length ys))
-length_cond before x y ys true ih = refl
-length_cond before x y ys false ih = ap suc ih
-
-pub length-placed : {X : Type 0} (before : X → X → Bool) (x : X) (ys : List X) → length (in_place before x ys) ≡ suc (length ys)
-length-placed before x [] = refl
-length-placed before x (y ∷ ys) = length_cond before x y ys (before x y) (length-placed before x ys)
+use Rattle.spec_log.specs.Noting.{insert_interrupt}
+use Rattle.spec_protocol.proofs.Inserting.{with_short, find-inserted_other, find-inserted, length-inserted}
 
 -- ---- by thread and commits
-
-both_tests : (a b c d : ℕ) → (a ≡ c → b ≡ d → ⊥) → (eqb a c && eqb b d) ≡ false
-both_tests a b c d ne =
-    elim (cases_eq a c) [
-      | inl e ↦ and_right (eqb a c) (eqb b d) (ne_eqb b d (ne e))
-      | inr h ↦ and_left (eqb a c) (eqb b d) (ne_eqb a c h)
-    ]
-
-same_tests : (a b : ℕ) → (eqb a a && eqb b b) ≡ true
-same_tests a b = (λ i. eq-eqb a a refl i && eq-eqb b b refl i)
 
 abbrev pub short_at : List ShortSize → (thread index : ℕ) → Option ℕ
 short_at sizes k i = option_map (λ (s : ShortSize). s.size) (find (λ (s : ShortSize). eqb s.thread k && eqb s.index i) sizes)
 
 pub short-other : (sizes : List ShortSize) (k i n l j : ℕ) → (k ≡ l → i ≡ j → ⊥) → short_at (with_short k i n sizes) l j ≡ short_at sizes l j
 short-other sizes k i n l j ne =
-    ap (option_map (λ (s : ShortSize). s.size)) (find-placed_other _ (λ (x y : ShortSize). comes_before x.thread x.index y.thread y.index) (record { thread = k; index = i; size = n }) sizes (both_tests k i l j ne))
+    ap (option_map (λ (s : ShortSize). s.size)) (find-inserted_other (λ (s : ShortSize). s.thread) (λ (s : ShortSize). s.index) (record { thread = k; index = i; size = n }) l j sizes ne)
 
 unmapped : {X : Type 0} (f : X → ℕ) (o : Option X) → option_map f o ≡ None → o ≡ None
 unmapped f None e = refl
@@ -78,19 +30,27 @@ unmapped f (Some x) e = absurd (none-some (f x) (sym e))
 pub short-same : (sizes : List ShortSize) (k i n : ℕ) → short_at sizes k i ≡ None → short_at (with_short k i n sizes) k i ≡ Some n
 short-same sizes k i n none =
     ap (option_map (λ (s : ShortSize). s.size))
-    (find-placed _ (λ (x y : ShortSize). comes_before x.thread x.index y.thread y.index) (record { thread = k; index = i; size = n }) sizes (same_tests k i) (unmapped (λ (s : ShortSize). s.size) _ none))
+    (find-inserted (λ (s : ShortSize). s.thread) (λ (s : ShortSize). s.index) (record { thread = k; index = i; size = n }) sizes (unmapped (λ (s : ShortSize). s.size) _ none))
 
 abbrev pub raised_to : (thread index value : ℕ) → List Interrupt → List Interrupt
-raised_to k i v is = in_place (λ (x y : Interrupt). comes_before x.thread x.index y.thread y.index) (record { thread = k; index = i; value = v }) is
+raised_to k i v is = insert_interrupt (record { thread = k; index = i; value = v }) is
 
 pub interrupt-other : (is : List Interrupt) (k i v l j : ℕ) → (k ≡ l → i ≡ j → ⊥) → interrupt_at (raised_to k i v is) l j ≡ interrupt_at is l j
 interrupt-other is k i v l j ne =
-    ap (option_map (λ (s : Interrupt). s.value)) (find-placed_other _ (λ (x y : Interrupt). comes_before x.thread x.index y.thread y.index) (record { thread = k; index = i; value = v }) is (both_tests k i l j ne))
+    ap (option_map (λ (s : Interrupt). s.value)) (find-inserted_other (λ (s : Interrupt). s.thread) (λ (s : Interrupt). s.index) (record { thread = k; index = i; value = v }) l j is ne)
+
+-- where none is logged at this moment, none stands
+pub none-there : (is : List Interrupt) (k i : ℕ) → interrupt_at is k i ≡ None → find (λ (s : Interrupt). eqb s.thread k && eqb s.index i) is ≡ None
+none-there is k i none = unmapped (λ (s : Interrupt). s.value) _ none
 
 pub interrupt-same : (is : List Interrupt) (k i v : ℕ) → interrupt_at is k i ≡ None → interrupt_at (raised_to k i v is) k i ≡ Some v
 interrupt-same is k i v none =
     ap (option_map (λ (s : Interrupt). s.value))
-    (find-placed _ (λ (x y : Interrupt). comes_before x.thread x.index y.thread y.index) (record { thread = k; index = i; value = v }) is (same_tests k i) (unmapped (λ (s : Interrupt). s.value) _ none))
+    (find-inserted (λ (s : Interrupt). s.thread) (λ (s : Interrupt). s.index) (record { thread = k; index = i; value = v }) is (none-there is k i none))
+
+pub length-raised : (is : List Interrupt) (k i v : ℕ) → interrupt_at is k i ≡ None → length (raised_to k i v is) ≡ suc (length is)
+length-raised is k i v none =
+    length-inserted (λ (s : Interrupt). s.thread) (λ (s : Interrupt). s.index) (record { thread = k; index = i; value = v }) is (none-there is k i none)
 
 -- ---- the size of each commit
 

@@ -1,5 +1,5 @@
 -- What a recording notes of a commit, a DMA and an interrupt is what the point adds to the log.
-use Rattle.std.proofs.Common.{◌≡◌, ℕ, ◌+◌, ◌<◌, Bool, true, false, List, [], ◌∷◌, ◌++◌, length, Option, Some, None, refl, sym, ap, ◌∙◌, arith}
+use Rattle.std.proofs.Common.{◌≡◌, ℕ, suc, ◌+◌, ◌<◌, Bool, true, false, ◌&&◌, eqb, List, [], ◌∷◌, ◌++◌, length, Option, Some, None, refl, sym, ap, ◌∙◌, arith}
 use Rattle.std.proofs.lemmas.List.{append-nil, length-append}
 use Rattle.std.proofs.lemmas.Grind.{flat_map-append}
 use Rattle.dl_entry.specs.declared.Actor.{Actor}
@@ -14,14 +14,18 @@ use Rattle.spec_log.specs.declared.ShortSize.{ShortSize}
 use Rattle.spec_log.specs.declared.Sizes.{Sizes}
 use Rattle.spec_log.specs.declared.LogParts.{LogParts}
 use Rattle.spec_play.specs.Effects.{dma_commit}
-use Rattle.spec_play.specs.Recording.{with_actor, with_size, noted, input_noted, dma_noted, interrupt_noted}
+use Rattle.spec_log.specs.Noting.{order_with}
+use Rattle.spec_play.specs.Verdicts.{interrupt_at}
+use Rattle.spec_play.specs.Recording.{noted, input_noted, dma_noted, interrupt_noted}
 use Rattle.spec_protocol.specs.Logged.{Supplied, actors_of, is_short_chunk, shorts_of, interrupts_of, listed, inputs_of, data_at, dmas_of, order_in, sizes_in, all_shorts, all_interrupts, logged}
-use Rattle.spec_protocol.proofs.Entries.{placed-behind}
+use Rattle.spec_protocol.proofs.Inserting.{with_size}
+use Rattle.spec_protocol.proofs.Lookups.{none-there}
+use Rattle.spec_protocol.proofs.Entries.{are-below, placed-behind, part-none}
 use Rattle.spec_protocol.proofs.OnePointMore.{points_so, points-more, commits_of, actors-append, sizes-append, shorts-append, are-shorts, interrupts-append, are-ints, dmas-append, unchanged, nothing_behind, shorts_of_other, shorts_of_own, shorts_of_whole, ints_of_commit, ints_of_other, ints_of_own}
 
 -- ---- order and count
 
-order_more : (mode : ModeName) (actor : Actor) (ps : List Point) (q : Point) → actors_of (q ∷ []) ≡ actor ∷ [] → with_actor mode actor (order_in mode ps) ≡ order_in mode (ps ++ q ∷ [])
+order_more : (mode : ModeName) (actor : Actor) (ps : List Point) (q : Point) → actors_of (q ∷ []) ≡ actor ∷ [] → order_with mode (order_in mode ps) actor ≡ order_in mode (ps ++ q ∷ [])
 order_more ModeName.OrderSize actor ps q is = sym (actors-append ps (q ∷ []) ∙ ap (λ (as_ : List Actor). actors_of ps ++ as_) is)
 order_more ModeName.OrderOnly actor ps q is = sym (actors-append ps (q ∷ []) ∙ ap (λ (as_ : List Actor). actors_of ps ++ as_) is)
 order_more ModeName.Picolog actor ps q is = refl
@@ -45,7 +49,7 @@ shorts_more true ps moment i k n size kind short l is e =
     let q = by_thread moment i k kind size short in
     ap (λ (ss : List ShortSize). Sizes.Short ss)
     (placed-behind (λ (s : ShortSize). s.thread) (λ (s : ShortSize). s.index) (λ (j : ℕ). shorts_of j 0 ps) (λ (j : ℕ). shorts_of j 0 (ps ++ q ∷ [])) (λ (j : ℕ). commits_of j ps)
-    (record { thread = k; index = n; size = size }) l (omega arith) (λ j. are-shorts j 0 (commits_of j ps) ps (omega arith))
+    (record { thread = k; index = n; size = size }) l (are-shorts k 0 n ps (omega arith)) (λ j. are-shorts j 0 (commits_of j ps) ps (omega arith))
     (λ j ne. nothing_behind (shorts_of j 0 ps) _ _ (shorts-append j 0 ps (q ∷ [])) (shorts_of_other k j (0 + commits_of j ps) moment i size kind short ne))
     (shorts-append k 0 ps (q ∷ [])
     ∙ ap (λ (ss : List ShortSize). shorts_of k 0 ps ++ ss)
@@ -86,13 +90,14 @@ no_interrupts ps moment i size actor kind short =
     unchanged (λ (j : ℕ). interrupts_of j 0 ps) (λ (j : ℕ). interrupts_of j 0 (ps ++ q ∷ []))
     (λ j. nothing_behind (interrupts_of j 0 ps) _ _ (interrupts-append j 0 ps (q ∷ [])) (ints_of_commit j (0 + commits_of j ps) moment i size actor kind short))
 
-interrupts_more : (mode : ModeName) (s : ℕ) (log : LogParts) (ps : List Point) (moment i k n value : ℕ) → k < 15 → n ≡ commits_of k ps → log.interrupts ≡ all_interrupts ps
+interrupts_more : (mode : ModeName) (s : ℕ) (log : LogParts) (ps : List Point) (moment i k n value : ℕ) → k < 15 → n ≡ commits_of k ps → log.interrupts ≡ all_interrupts ps → interrupt_at (all_interrupts ps) k n ≡ None
     → (interrupt_noted k n value log).interrupts ≡ all_interrupts (ps ++ Point.Raise moment i k value ∷ [])
-interrupts_more mode s log ps moment i k n value l is e =
+interrupts_more mode s log ps moment i k n value l is e none =
     let q = Point.Raise moment i k value in
+    let own = part-none (λ (r : Interrupt). eqb r.thread k && eqb r.index n) (λ (j : ℕ). interrupts_of j 0 ps) k l (none-there (all_interrupts ps) k n none) in
     (λ h. (interrupt_noted k n value (record log { interrupts = e h })).interrupts)
-    ∙ placed-behind (λ (r : Interrupt). r.thread) (λ (r : Interrupt). r.index) (λ (j : ℕ). interrupts_of j 0 ps) (λ (j : ℕ). interrupts_of j 0 (ps ++ q ∷ [])) (λ (j : ℕ). commits_of j ps)
-    (record { thread = k; index = n; value = value }) l (omega arith) (λ j. are-ints j 0 (commits_of j ps) ps (omega arith))
+    ∙ placed-behind (λ (r : Interrupt). r.thread) (λ (r : Interrupt). r.index) (λ (j : ℕ). interrupts_of j 0 ps) (λ (j : ℕ). interrupts_of j 0 (ps ++ q ∷ [])) (λ (j : ℕ). suc (commits_of j ps))
+    (record { thread = k; index = n; value = value }) l (are-below (λ (r : Interrupt). r.thread) (λ (r : Interrupt). r.index) k n (interrupts_of k 0 ps) (are-ints k 0 (suc n) ps (omega arith)) own) (λ j. are-ints j 0 (suc (commits_of j ps)) ps (omega arith))
     (λ j ne. nothing_behind (interrupts_of j 0 ps) _ _ (interrupts-append j 0 ps (q ∷ [])) (ints_of_other k j (0 + commits_of j ps) moment i value ne))
     (interrupts-append k 0 ps (q ∷ [])
     ∙ ap (λ (rs : List Interrupt). interrupts_of k 0 ps ++ rs)
@@ -133,7 +138,7 @@ commit-told mode s cs moment i k n size kind short o bytes commit l is actor siz
       mode = mode;
       s = s;
       count = (count_of_more ps q 1 refl ∙ ap (λ (qs : List Point). length (actors_of qs)) all) h;
-      order = (ap (λ (a : Actor). with_actor mode a (order_in mode ps)) actor ∙ order_more mode (Actor.Thread k) ps q refl ∙ ap (order_in mode) all) h;
+      order = (ap (λ (a : Actor). order_with mode (order_in mode ps) a) actor ∙ order_more mode (Actor.Thread k) ps q refl ∙ ap (order_in mode) all) h;
       sizes = ((λ j. with_size (sizes_in mode ps) (actor j) n (sized j) (is_short_chunk kind short)) ∙ sizes_more mode ps moment i k n size kind short l is ∙ ap (sizes_in mode) all) h;
       interrupts = (no_interrupts ps moment i size (Actor.Thread k) kind short ∙ ap all_interrupts all) h;
       inputs = inputs_more cs c h;
@@ -161,9 +166,9 @@ dma-told mode s cs moment i n kind short bytes is =
     })
 
 -- of an interrupt of thread k, after so many of its commits
-pub raise-told : (mode : ModeName) (s : ℕ) (cs : List Supplied) (moment i k n value : ℕ) → k < 15 → n ≡ commits_of k (points_so cs)
+pub raise-told : (mode : ModeName) (s : ℕ) (cs : List Supplied) (moment i k n value : ℕ) → k < 15 → n ≡ commits_of k (points_so cs) → interrupt_at (all_interrupts (points_so cs)) k n ≡ None
     → interrupt_noted k n value (logged mode s cs) ≡ logged mode s (cs ++ record { point = Point.Raise moment i k value; input = None; bytes = [] } ∷ [])
-raise-told mode s cs moment i k n value l is =
+raise-told mode s cs moment i k n value l is none =
     let ps = points_so cs in
     let q = Point.Raise moment i k value in
     let c : Supplied = record { point = q; input = None; bytes = [] } in
@@ -174,7 +179,7 @@ raise-told mode s cs moment i k n value l is =
       count = (sym (ap (λ (as_ : List Actor). length as_) (nothing_behind (actors_of ps) _ (actors_of (q ∷ [])) (actors-append ps (q ∷ [])) refl)) ∙ ap (λ (qs : List Point). length (actors_of qs)) all) h;
       order = (order_same mode ps q refl ∙ ap (order_in mode) all) h;
       sizes = (sizes_same mode ps moment i k value ∙ ap (sizes_in mode) all) h;
-      interrupts = (interrupts_more mode s (logged mode s cs) ps moment i k n value l is refl ∙ ap all_interrupts all) h;
+      interrupts = (interrupts_more mode s (logged mode s cs) ps moment i k n value l is refl none ∙ ap all_interrupts all) h;
       inputs = inputs_same cs c refl h;
       dmas = dmas_same cs c refl h;
     })

@@ -1,5 +1,5 @@
 -- The log that points tell, with one point more: what a recording notes.
-use Rattle.std.proofs.Common.{◌≡◌, ◌≢◌, ℕ, suc, ◌+◌, ◌≤◌, Bool, true, false, eqb, cond, List, [], ◌∷◌, ◌++◌, length, map, refl, sym, ap, ◌∙◌, arith}
+use Rattle.std.proofs.Common.{◌≡◌, ◌≢◌, ℕ, suc, ◌+◌, ◌<◌, ◌≤◌, Bool, true, false, eqb, cond, List, [], ◌∷◌, ◌++◌, length, map, refl, sym, ap, ◌∙◌, arith}
 use Rattle.std.specs.List.{flat_map}
 use Rattle.std.proofs.lemmas.Bool.{eq-eqb, ne_eqb}
 use Rattle.std.proofs.lemmas.List.{append_assoc, append-nil, map-append}
@@ -93,15 +93,15 @@ interrupts-append k n (Point.Raise moment i j value ∷ ps) qs =
 abbrev pub AreInts : (k n : ℕ) → List Interrupt → Type 0
 AreInts k n rs = Are (λ (r : Interrupt). r.thread) (λ (r : Interrupt). r.index) k n rs
 
-are_ints_cond : (k n m c : ℕ) (b : Bool) (more same : List Interrupt) → n + cond b (suc c) c ≤ m → (suc n + c ≤ m → AreInts k m more) → (n + c ≤ m → AreInts k m same) → AreInts k m (cond b more same)
+are_ints_cond : (k n m c : ℕ) (b : Bool) (more same : List Interrupt) → n + cond b (suc c) c < m → (suc n + c < m → AreInts k m more) → (n + c < m → AreInts k m same) → AreInts k m (cond b more same)
 are_ints_cond k n m c true more same l a b = a (omega (arith, l))
 are_ints_cond k n m c false more same l a b = b l
 
-are_raise_cond : (k n m : ℕ) (b : Bool) (value : ℕ) (rest : List Interrupt) → n ≤ m → AreInts k m rest → AreInts k m (cond b (record { thread = k; index = n; value = value } ∷ rest) rest)
+are_raise_cond : (k n m : ℕ) (b : Bool) (value : ℕ) (rest : List Interrupt) → n < m → AreInts k m rest → AreInts k m (cond b (record { thread = k; index = n; value = value } ∷ rest) rest)
 are_raise_cond k n m true value rest l a = (refl, l, a)
 are_raise_cond k n m false value rest l a = a
 
-pub are-ints : (k n m : ℕ) (ps : List Point) → n + commits_of k ps ≤ m → AreInts k m (interrupts_of k n ps)
+pub are-ints : (k n m : ℕ) (ps : List Point) → n + commits_of k ps < m → AreInts k m (interrupts_of k n ps)
 are-ints k n m [] l = tt
 are-ints k n m (Point.Commit moment i actor kind size short ∷ ps) l =
     are_ints_cond k n m (commits_of k ps) (is_thread k actor) (interrupts_of k (suc n) ps) (interrupts_of k n ps) l (λ h. are-ints k (suc n) m ps h) (λ h. are-ints k n m ps h)

@@ -62,7 +62,7 @@ raise_kept : (mode : ModeName) (s : ℕ) (cs : List Supplied) (x : Whole) (momen
     → KeepsIn mode s i (cs ++ record { point = Point.Raise moment i k value; input = None; bytes = [] } ∷ []) (do_raise x i k value p o)
 raise_kept mode s cs x moment i k value p None is keeps thread can = absurd can
 raise_kept mode s cs x moment i k value p (Some t) is keeps thread can =
-    record { sphere = raised k value t p; there = get-set_same x.spheres i (raised k value t p) p is; keeps = raise-keeps mode s cs moment i k value p t keeps thread }
+    record { sphere = raised k value t p; there = get-set_same x.spheres i (raised k value t p) p is; keeps = raise-keeps mode s cs moment i k value p t keeps thread can }
 
 -- a point, with what comes from outside at it
 abbrev told_at : Whole → Point → Supplied

@@ -22,3 +22,4 @@ pub mod Pieces
 pub mod Sound
 pub mod Notable
 pub mod Judging
+pub mod Logs

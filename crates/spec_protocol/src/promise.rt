@@ -1,5 +1,6 @@
 //! What is promised of the protocol. Each promise is a clause of a function that does nothing.
 ghost use Rattle.spec_protocol.specs.Promises.{CommitsAreSerial, InvariantsHold, MovesAreSerial, SizesAreKept};
+ghost use Rattle.spec_protocol.specs.Logs.{LogsAreFresh};
 ghost use Rattle.spec_protocol.specs.LogsOfPoints.{LogsAreOfPoints};
 ghost use Rattle.spec_protocol.specs.Judging.{LogsAreSeenAlike};
 ghost use Rattle.spec_protocol.specs.Notable.{NotesFitLogs};
@@ -89,6 +90,13 @@ pub fn logs_are_of_points()
 /// used by the numbers of the threads' commits as they are by the threads.
 pub fn logs_are_seen_alike()
     ensures { LogsAreSeenAlike }
+{}
+
+/// After every list of events: the log that a recorded sphere has kept counts the sphere's commits, has no interrupt of a
+/// thread at a later number of commits than the thread's, and at that number only where the thread is masked. So the next
+/// interrupt is of a moment that the log doesn't have.
+pub fn logs_are_fresh()
+    ensures { LogsAreFresh }
 {}
 
 /// After every list of events: where a replayed sphere that hasn't stopped has done pieces of a commit, it is one thread's
