@@ -9,7 +9,7 @@ use Rattle.spec_protocol.specs.Promises.{after}
 use Rattle.spec_replay.specs.Promises.{ReplaysArePlays}
 use Rattle.spec_replay.proofs.Replays.{replays_follow}
 use Rattle.spec_finishing.specs.Rest.{rest}
-use Rattle.spec_finishing.specs.Ending.{Falls, IsFinished, CanFinish, FinishingEnds}
+use Rattle.spec_finishing.specs.Ending.{Falls, OfReplays, IsFinished, CanFinish, FinishingEnds}
 use Rattle.spec_finishing.proofs.Knowing.{Known, known-after, after-event}
 use Rattle.spec_finishing.proofs.Bounding.{potential-bounded}
 use Rattle.spec_finishing.proofs.UnderWay.{under_way-most}
@@ -33,6 +33,7 @@ record Finishing (s : Setup) (w : World) : Type 0 where
   finishes : Finishes w events
   few : length events ≤ rest s w
   falls : Falls s w events
+  alone : OfReplays w events
   finished : IsFinished (world_after w events)
 
 goes_after : ReplaysArePlays → (s : Setup) (es : List Event) → CanFinish s → Goes s (after s es)
@@ -46,7 +47,7 @@ goes_after plays s es can =
 
 ended : (s : Setup) (w : World) → Known s w → next w ≡ None → Finishing s w
 ended s w known none =
-    record { events = []; finishes = none; few = omega arith; falls = under_way-most s w known; finished = next-none w none }
+    record { events = []; finishes = none; few = omega arith; falls = under_way-most s w known; alone = tt; finished = next-none w none }
 
 one_more : (s : Setup) (w : World) (e : Event) → Known s w → next w ≡ Some e → Lowers s w e → Finishing s (happens w e).world → Finishing s w
 one_more s w e known is falls f =
@@ -55,6 +56,7 @@ one_more s w e known is falls f =
       finishes = (is, f.finishes);
       few = (let l = f.few in let m = falls.less in omega (arith, l, m));
       falls = (under_way-most s w known, falls.done, falls.less, f.falls);
+      alone = (falls.alone, f.alone);
       finished = f.finished;
     }
 
@@ -81,6 +83,7 @@ finishing_all s es can =
         finishes = f.finishes;
         only = λ others finishes. finishing_one (after s es) others f.events finishes f.finishes;
         falls = f.falls;
+        alone = f.alone;
         first = omega (arith, bound);
         few = (let l = f.few in omega (arith, l, bound));
         finished = f.finished;

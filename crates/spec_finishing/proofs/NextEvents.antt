@@ -1,23 +1,28 @@
 -- Where a flight stands, or a thread is on no core, the next event of finishing is done and makes less of what is left.
 use Rattle.std.proofs.Common.{◌≡◌, ℕ, ◌<◌, true, List, [], ◌∷◌, length, Option, Some, None, refl, sym, ap, ◌∙◌, subst, arith}
+use Rattle.std.specs.Prelude.{slice_get}
 use Rattle.std.proofs.Math.Nat.{mod-eq_of_lt}
 use Rattle.dl_entry.specs.declared.Actor.{Actor}
+use Rattle.spec_isa.specs.declared.thread.Parts.{Parts}
 use Rattle.spec_isa.specs.Words.{Stored}
+use Rattle.spec_kernel.specs.Interrupts.{is_live}
 use Rattle.spec_engine.specs.declared.answers.Deliver.{Deliver}
 use Rattle.spec_engine.specs.Flights.{Flight, at, deliver}
 use Rattle.spec_protocol.specs.declared.event.Event.{Event}
-use Rattle.spec_protocol.specs.World.{World, Held, After, with_slot, core_of}
+use Rattle.spec_protocol.specs.declared.reply.Reply.{Reply}
+use Rattle.spec_protocol.specs.World.{World, Held, After, sphere_at, with_slot, with_core, held_afresh, core_of, answered}
 use Rattle.spec_protocol.specs.Flying.{drain_slot, draining, told, delivering, reads_of, writes_of, retiring}
-use Rattle.spec_protocol.specs.Placing.{placing}
+use Rattle.spec_protocol.specs.Placing.{unless_elsewhere, place_thread, placing}
 use Rattle.spec_protocol.specs.Machine.{Setup, core_no, sphere_no, slot_no, act, kept, happens}
 use Rattle.spec_protocol.specs.Serial.{Whole}
 use Rattle.spec_protocol.specs.Shown.{shown_of}
 use Rattle.spec_protocol.specs.Moves.{do_if}
 use Rattle.spec_protocol.specs.Finishing.{untold, deliver_or_retire, for_flight, Who, least, standing}
 use Rattle.spec_protocol.proofs.Slots.{at_within}
+use Rattle.spec_protocol.proofs.OnCores.{branch}
 use Rattle.spec_protocol.proofs.Schedules.{happens-kept}
 use Rattle.spec_finishing.specs.Rest.{spheres_rest, potential, held_under_way, core_under_way, actor_under_way, under_way, rest}
-use Rattle.spec_finishing.specs.Ending.{is_done}
+use Rattle.spec_finishing.specs.Ending.{is_done, OfReplay}
 use Rattle.spec_finishing.proofs.FlyingNext.{FlightFalls, drain-falls, deliver-falls, untold-core, retire-falls}
 use Rattle.spec_finishing.proofs.Rows.{spheres-shown}
 use Rattle.spec_finishing.proofs.Knowing.{Known}
@@ -27,10 +32,11 @@ use Rattle.spec_finishing.proofs.NextCores.{Rose, place-rose}
 
 -- ---- what is shown
 
--- the event is done, and less is left after it
+-- the event is done, less is left after it, and what it does is of a replay
 pub record Lowers (s : Setup) (w : World) (e : Event) : Type 0 where
   pub done : is_done (happens w e).reply ≡ true
   pub less : rest s (happens w e).world < rest s w
+  pub alone : OfReplay w (happens w e).move
 
 -- ---- a flight stands
 
@@ -50,13 +56,17 @@ move_happens : (w : World) (e : Event) → (act w e).move ≡ None → (happens 
 unfolding happens
 move_happens w e none = none
 
+-- nothing took effect
+nothing_alone : (w : World) (e : Event) → (act w e).move ≡ None → OfReplay w (happens w e).move
+nothing_alone w e none = subst (OfReplay w) (sym (move_happens w e none)) tt
+
 flight_falls : (s : Setup) (w : World) (e : Event) (k : ℕ) → Known s w → standing w ≡ Some k → FlightFalls s.cores w (act w e) → (act w e).move ≡ None → Lowers s w e
 flight_falls s w e k known stands f none =
     let g = flight_happens s.cores w e f in
     let same = no_move_spheres s w e known (move_happens w e none) in
     let zero_ = under_way-flight w k stands in
     let less = g.less in
-    record { done = g.done; less = omega (arith, same, zero_, less) }
+    record { done = g.done; less = omega (arith, same, zero_, less); alone = nothing_alone w e none }
 
 drain_move : (w : World) (k : ℕ) (o : Option Flight) → (drain_slot w k o).move ≡ None
 drain_move w k None = refl
@@ -125,12 +135,27 @@ reply_happens : (w : World) (e : Event) → (happens w e).reply ≡ (act w e).re
 unfolding happens
 reply_happens w e = refl
 
-pub rose_falls : (s : Setup) (w : World) (who : Who) (k : ℕ) (e : Event) → Known s w → Known s (happens w e).world → standing w ≡ None → least 0 w.spheres ≡ Some who → who.actor ≡ Actor.Thread k → (r : Rose w who.sphere k (act w e)) → under_way w < held_under_way (Some r.held) → Lowers s w e
-rose_falls s w who k e known next_known none is thread r more =
+pub rose_falls : (s : Setup) (w : World) (who : Who) (k : ℕ) (e : Event) → Known s w → Known s (happens w e).world → standing w ≡ None → least 0 w.spheres ≡ Some who → who.actor ≡ Actor.Thread k → (r : Rose w who.sphere k (act w e)) → (act w e).move ≡ None → under_way w < held_under_way (Some r.held) → Lowers s w e
+rose_falls s w who k e known next_known none is thread r no_move more =
     let now = ap under_way (world_happens w e) ∙ rose_under_way w who k (act w e) none is thread r in
     let same = ap (potential s) (world_happens w e) ∙ rose_potential s w who.sphere k (act w e) r in
     let most = under_way-most s (happens w e).world next_known in
-    record { done = ap is_done (reply_happens w e) ∙ r.done; less = omega (arith, now, same, most, more) }
+    record { done = ap is_done (reply_happens w e) ∙ r.done; less = omega (arith, now, same, most, more); alone = nothing_alone w e no_move }
+
+elsewhere_move : (w : World) (a : After) (o : Option ℕ) → a.move ≡ None → (unless_elsewhere o w a).move ≡ None
+elsewhere_move w a None e = e
+elsewhere_move w a (Some d) e = refl
+
+place_thread_move : (w : World) (c i k : ℕ) (o : Option Parts) → (place_thread w c i k o).move ≡ None
+place_thread_move w c i k None = refl
+place_thread_move w c i k (Some t) =
+    let placed = answered (with_core w c (held_afresh w.numbers i k (sphere_at w i))) Reply.Placed in
+    branch (λ (a : After). a.move ≡ None) (is_live t) (unless_elsewhere (core_of w i k) w placed) (answered w Reply.Ended)
+    (λ _. elsewhere_move w placed (core_of w i k) refl) (λ _. refl)
+
+place_move : (w : World) (c i k : ℕ) → (placing w c i k).move ≡ None
+unfolding placing
+place_move w c i k = place_thread_move w c i k (slice_get (sphere_at w i).threads k)
 
 pub place_act : (s : Setup) (w : World) (who : Who) (k : ℕ) → Known s w → Known s (happens w (Event.Place 0 who.sphere k)).world → 0 < s.cores → standing w ≡ None → least 0 w.spheres ≡ Some who → who.actor ≡ Actor.Thread k → core_of w who.sphere k ≡ None → Lowers s w (Event.Place 0 who.sphere k)
 unfolding act
@@ -146,4 +171,4 @@ place_act s w who k known next_known some none is thread free =
     (subst (λ (j : ℕ). Rose w i k (placing w 0 j k)) (sym sphere) (place-rose s w i k cores b free))
     ) in
     let was = under_way-actor w who none is ∙ ap (actor_under_way w i) thread ∙ ap (core_under_way w) free in
-    rose_falls s w who k (Event.Place 0 i k) known next_known none is thread r (omega (arith, was))
+    rose_falls s w who k (Event.Place 0 i k) known next_known none is thread r (place_move w (core_no w 0) (sphere_no w i) k) (omega (arith, was))

@@ -1,11 +1,12 @@
 -- What is promised of finishing: that it comes to an end, and how soon.
-use Rattle.std.specs.Prelude.{◌≡◌, ℕ, ◌+◌, ◌*◌, ◌<◌, ◌≤◌, Bool, true, false, List, [], ◌∷◌, length, slice_get, Some, None}
+use Rattle.std.specs.Prelude.{◌≡◌, ℕ, ◌+◌, ◌*◌, ◌<◌, ◌≤◌, Bool, true, false, List, [], ◌∷◌, length, slice_get, Option, Some, None}
 use Rattle.spec_log.specs.declared.LogParts.{LogParts}
 use Rattle.spec_engine.specs.Flights.{at}
 use Rattle.spec_protocol.specs.declared.event.Event.{Event}
 use Rattle.spec_protocol.specs.declared.reply.Reply.{Reply}
 use Rattle.spec_protocol.specs.Spheres.{Role, Plain, Record, Replay, Sphere, is_over}
-use Rattle.spec_protocol.specs.World.{World}
+use Rattle.spec_protocol.specs.World.{World, Move, sphere_at}
+use Rattle.spec_protocol.specs.Placing.{replays}
 use Rattle.spec_protocol.specs.Machine.{IsReplayed, SphereSetup, Setup, world_of, happens, world_after, moves}
 use Rattle.spec_protocol.specs.Serial.{whole_of}
 use Rattle.spec_protocol.specs.Finishing.{Finishes}
@@ -39,6 +40,16 @@ Falls s w (e ∷ es) =
     let a = happens w e in
     (under_way w ≤ potential s w) × (is_done a.reply ≡ true) × (rest s a.world < rest s w) × Falls s a.world es
 
+-- what took effect, if anything did, was of a replayed sphere
+abbrev pub OfReplay : World → Option Move → Type 0
+OfReplay w None = Unit {0}
+OfReplay w (Some m) = replays (sphere_at w m.sphere).role ≡ true
+
+-- so it is at each of these events
+abbrev pub OfReplays : World → List Event → Type 0
+OfReplays w [] = Unit {0}
+OfReplays w (e ∷ es) = let a = happens w e in OfReplay w a.move × OfReplays a.world es
+
 -- a replay that goes on no more; plain and recorded spheres have no end
 abbrev pub IsAtEnd : Role → Type 0
 IsAtEnd Plain = Unit {0}
@@ -55,6 +66,7 @@ pub record Ends (s : Setup) (es finishing : List Event) : Type 0 where
   pub finishes : Finishes (after s es) finishing
   pub only : (others : List Event) → Finishes (after s es) others → others ≡ finishing
   pub falls : Falls s (after s es) finishing
+  pub alone : OfReplays (after s es) finishing
   -- for each unit of the run's work there are as many events at most as there are cores, and six
   pub first : rest s (after s es) ≤ (s.cores + 6) * work s es
   pub few : length finishing ≤ (s.cores + 6) * work s es
