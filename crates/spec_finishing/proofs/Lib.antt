@@ -27,3 +27,5 @@ pub mod FinishingAll
 pub mod KindsKept
 pub mod Played
 mod Examples
+pub mod Function
+pub mod Short

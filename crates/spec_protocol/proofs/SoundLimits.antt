@@ -61,7 +61,7 @@ short-size s k n z sizes all e =
     (λ x h. find-in (IsShortSize s) (λ short. eqb short.thread k && eqb short.index n) sizes x (all-in (IsShortSize s) sizes all) h) e
 
 -- no thread's commit is larger than a standard chunk
-size-most : (mode : ModeName) (s count k n z : ℕ) (order : List Actor) (sizes : Sizes) → IsSizes mode s count sizes → thread_size order sizes k n ≡ Some z → z ≤ s
+pub size-most : (mode : ModeName) (s count k n z : ℕ) (order : List Actor) (sizes : Sizes) → IsSizes mode s count sizes → thread_size order sizes k n ≡ Some z → z ≤ s
 size-most ModeName.OrderSize s count k n z order (Sizes.Each sizes) is e = each-size s k n z order sizes is.1 e
 size-most ModeName.OrderSize s count k n z order (Sizes.Short sizes) is e = absurd is
 size-most ModeName.OrderOnly s count k n z order (Sizes.Each sizes) is e = absurd is

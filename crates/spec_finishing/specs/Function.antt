@@ -1,0 +1,39 @@
+-- Finishing as a function of the world: so what a run comes to is one of its setup and its schedule.
+use Rattle.std.specs.Prelude.{◌≡◌, ℕ, zero, suc, ◌+◌, ◌*◌, ◌^◌, ◌<◌, ◌≤◌, List, [], ◌∷◌, length, Option, Some, None}
+use Rattle.spec_protocol.specs.declared.event.Event.{Event}
+use Rattle.spec_protocol.specs.World.{World}
+use Rattle.spec_protocol.specs.Machine.{Setup, happens, world_after}
+use Rattle.spec_protocol.specs.Finishing.{next, Finishes}
+use Rattle.spec_protocol.specs.Promises.{after}
+use Rattle.spec_protocol.specs.Sound.{IsWithinLimits}
+use Rattle.spec_finishing.specs.Ending.{work, CanFinish}
+
+-- the next events, each after the one before, until none is left or there were so many
+abbrev pub finishing : (fuel : ℕ) → World → List Event
+finishing zero w = []
+finishing (suc n) w = elim (next w) [ None ↦ [] | Some e ↦ e ∷ finishing n (happens w e).world ]
+
+-- no more events than these finish a run
+abbrev pub most_events : Setup → List Event → ℕ
+most_events s es = (s.cores + 6) * work s es
+
+-- the events that finish what a schedule leaves, and the world then, with the points and the replies of the whole run
+abbrev pub finishing_of : Setup → (schedule : List Event) → List Event
+finishing_of s es = finishing (most_events s es) (after s es)
+
+abbrev pub finished : Setup → (schedule : List Event) → World
+finished s es = world_after (after s es) (finishing_of s es)
+
+-- whatever more there may be than the bound
+abbrev pub FinishingIsAFunction : Type 0
+FinishingIsAFunction = (s : Setup) (es : List Event) (fuel : ℕ) → CanFinish s → most_events s es ≤ fuel → Finishes (after s es) (finishing fuel (after s es))
+
+-- ---- the bound
+
+-- within the limits of a setup, a schedule of up to 2^32 events and those that finish it are fewer than 2^63
+abbrev pub RunsAreShort : Type 0
+RunsAreShort = (s : Setup) (es : List Event) → IsWithinLimits s → length es ≤ 2 ^ 32 → length es + most_events s es < 2 ^ 63
+
+-- and can be finished
+abbrev pub SetupsCanFinish : Type 0
+SetupsCanFinish = (s : Setup) → IsWithinLimits s → CanFinish s
