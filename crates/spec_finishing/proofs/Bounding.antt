@@ -56,7 +56,7 @@ with_work z x None ms = omega arith
 with_work z x (Some m) ms = refl
 
 -- an event's work, and that of the others
-event_work : (s : Setup) (w : World) (e : Event) (es : List Event) → Known s w → let a = happens w e in moves_work s.numbers (shown_of w) (moves w (e ∷ es)) ≡ if_work (shown_of w) a.move + moves_work s.numbers (shown_of a.world) (moves a.world es)
+pub event_work : (s : Setup) (w : World) (e : Event) (es : List Event) → Known s w → let a = happens w e in moves_work s.numbers (shown_of w) (moves w (e ∷ es)) ≡ if_work (shown_of w) a.move + moves_work s.numbers (shown_of a.world) (moves a.world es)
 event_work s w e es known =
     let a = happens w e in
     let kept = happens-kept w e known.good in

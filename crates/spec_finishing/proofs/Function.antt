@@ -3,7 +3,7 @@ use Rattle.std.proofs.Common.{◌≡◌, ℕ, zero, suc, ◌≤◌, List, [], �
 use Rattle.spec_protocol.specs.declared.event.Event.{Event}
 use Rattle.spec_protocol.specs.World.{World}
 use Rattle.spec_protocol.specs.Machine.{happens}
-use Rattle.spec_protocol.specs.Finishing.{next, Finishes}
+use Rattle.spec_protocol.specs.Finishing.{Finishes}
 use Rattle.spec_protocol.specs.Promises.{after}
 use Rattle.spec_finishing.specs.Function.{finishing, FinishingIsAFunction}
 use Rattle.spec_finishing.proofs.FinishingAll.{finishing_all}

@@ -29,3 +29,4 @@ pub mod Played
 mod Examples
 pub mod Function
 pub mod Short
+pub mod ShortRuns

@@ -1,9 +1,7 @@
 -- Within the limits of a setup a run is short: each commit of a play and each event of a schedule has little work.
-use Rattle.std.proofs.Common.{◌≡◌, ℕ, zero, suc, ◌+◌, ◌*◌, ◌^◌, ◌<◌, ◌≤◌, Bool, true, false, eqb, cond, List, [], ◌∷◌, ◌++◌, length, Option, Some, None, refl, sym, ap, ◌∙◌, subst, arith}
-use Rattle.std.specs.Prelude.{slice_get, nat_le, take, drop, max}
+use Rattle.std.proofs.Common.{◌≡◌, ℕ, zero, suc, ◌+◌, ◌*◌, ◌≤◌, List, [], ◌∷◌, ◌++◌, length, Option, Some, None, refl, arith}
+use Rattle.std.specs.Prelude.{slice_get}
 use Rattle.std.specs.Int.{bytes_low_first}
-use Rattle.std.proofs.lemmas.Bool.{true≢false}
-use Rattle.std.proofs.lemmas.Option.{none-some}
 use Rattle.dl_entry.specs.declared.Actor.{Actor}
 use Rattle.dl_entry.specs.declared.Input.{Input}
 use Rattle.dl_entry.specs.declared.Request.{Request}
@@ -13,29 +11,26 @@ use Rattle.spec_isa.specs.declared.thread.Kind.{Kind}
 use Rattle.spec_isa.specs.declared.plan.Plan.{Plan}
 use Rattle.spec_isa.specs.Words.{Stored, put}
 use Rattle.spec_isa.specs.Planned.{stored}
-use Rattle.spec_isa.specs.Runs.{run}
 use Rattle.spec_log.specs.declared.DmaRecord.{DmaRecord}
 use Rattle.spec_log.specs.declared.LogParts.{LogParts}
 use Rattle.spec_log.specs.Log.{IsInput, IsDmaRecord, IsLog}
 use Rattle.spec_log.specs.Size.{size_in}
-use Rattle.spec_kernel.specs.Devices.{Devices}
 use Rattle.spec_kernel.specs.Copies.{bytes_put, copied, dma_words}
 use Rattle.spec_kernel.specs.Needs.{Need, Write, Read, Random, Clock, MomentWord, InputWord, need, next_kind, next_plan}
-use Rattle.spec_kernel.specs.Answers.{Taken, taken, dma_bytes}
 use Rattle.spec_kernel.specs.Calls.{called}
 use Rattle.spec_kernel.specs.Serving.{Served, copy_of, outside_called, inside_called, is_outside, device_loaded, device_stored, serve_kind, serve}
 use Rattle.spec_play.specs.Effects.{Effect, serial_effect}
 use Rattle.spec_play.specs.Progress.{Progress, position, Used}
 use Rattle.spec_play.specs.Turns.{Now, Turn, TurnOfDma, Over}
-use Rattle.spec_play.specs.Verdicts.{Verdict, Goes, Fails, unless, interrupt_at, with_interrupted, ended, Given, given, serial_why, served_verdict, serial_verdict}
+use Rattle.spec_play.specs.Verdicts.{Verdict, Goes, Fails, unless, interrupt_at, with_interrupted, Given, given, serial_why, served_verdict, serial_verdict}
 use Rattle.spec_play.specs.Transfers.{DmaVerdict, DmaGoes, DmaFails, is_for, transferred, dma_unless, dma_verdict}
-use Rattle.spec_play.specs.Plays.{Played, opened, size_or_standard, plays}
+use Rattle.spec_play.specs.Plays.{Played, size_or_standard, plays}
 use Rattle.spec_kernel.specs.Records.{fits}
 use Rattle.spec_protocol.proofs.OnCores.{branch}
 use Rattle.spec_protocol.proofs.Moving.{either_serve}
 use Rattle.spec_protocol.proofs.SoundWords.{put-length}
-use Rattle.spec_protocol.proofs.SoundLimits.{AllIn, all-in, get-in, size-most}
-use Rattle.spec_finishing.specs.Work.{stored as words_stored, dma_stored, thread_work, turn_work, now_work, commit_work, commits_work, setup_work, plays_work}
+use Rattle.spec_protocol.proofs.SoundLimits.{all-in, get-in, size-most}
+use Rattle.spec_finishing.specs.Work.{stored as words_stored, dma_stored, thread_work, turn_work, now_work, commit_work, commits_work}
 use Rattle.spec_finishing.proofs.Runs.{run-most}
 
 -- ---- copies
@@ -197,7 +192,7 @@ commit-few : (log : LogParts) (y : Played) → IsLog log → commit_work log y �
 unfolding commit_work
 commit-few log y is = now-few log y y.now is
 
-commits-few : (log : LogParts) (y : Played) (i n : ℕ) → IsLog log → commits_work log y i n ≤ 4101 * n
+pub commits-few : (log : LogParts) (y : Played) (i n : ℕ) → IsLog log → commits_work log y i n ≤ 4101 * n
 commits-few log y i zero is = omega arith
 commits-few log y i (suc n) is =
     let a = commit-few log (plays log y i) is in let b = commits-few log y (suc i) n is in omega (arith, a, b)

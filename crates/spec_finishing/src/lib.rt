@@ -3,4 +3,7 @@
 
 mod promise;
 
-pub use promise::{finishing_ends, replays_are_finished};
+pub use promise::{
+    finishing_ends, finishing_is_a_function, replays_are_finished, runs_are_short,
+    setups_can_finish,
+};

@@ -1,21 +1,18 @@
 -- What is noted of a sound world fits a log.
-use Rattle.std.proofs.Common.{◌≡◌, ℕ, ◌<◌, ◌≤◌, inl, inr, Bool, true, false, List, length, Option, Some, None, refl, sym, ap, ◌∙◌, subst, arith}
-use Rattle.std.specs.Prelude.{slice_get}
-use Rattle.std.proofs.lemmas.Bool.{true≢false, ltb-true, cases_lt}
+use Rattle.std.proofs.Common.{◌≡◌, ℕ, ◌<◌, ◌≤◌, inl, inr, true, false, length, Some, refl, sym, ap, ◌∙◌, subst, arith}
+use Rattle.std.proofs.lemmas.Bool.{true≢false, cases_lt}
 use Rattle.std.proofs.lemmas.List.{get_or_past}
 use Rattle.std.proofs.lemmas.Option.{none-some}
 use Rattle.dl_entry.specs.declared.Request.{Request}
 use Rattle.spec_isa.specs.declared.thread.Parts.{Parts}
 use Rattle.spec_engine.specs.declared.answers.How.{How}
-use Rattle.spec_engine.specs.Flights.{at}
 use Rattle.spec_protocol.specs.Spheres.{Role, Plain, Record, Replay, Sphere, no_sphere, is_stopped, limit_of}
 use Rattle.spec_protocol.specs.Asking.{is_short}
 use Rattle.spec_protocol.specs.Placing.{replays}
 use Rattle.spec_protocol.specs.World.{Held, World, sphere_at}
-use Rattle.spec_protocol.specs.Machine.{Setup}
-use Rattle.spec_protocol.specs.Invariants.{Closes, IsGood}
-use Rattle.spec_protocol.specs.Sound.{IsSoundRequest, IsSoundIf, image_at, IsWithinLimits, IsSound}
-use Rattle.spec_protocol.specs.Notable.{IsNotable, NotesFitLogs}
+use Rattle.spec_protocol.specs.Invariants.{Closes}
+use Rattle.spec_protocol.specs.Sound.{IsSoundRequest, IsSoundIf, image_at}
+use Rattle.spec_protocol.specs.Notable.{NotesFitLogs}
 use Rattle.spec_protocol.proofs.Changing.{within-sphere}
 use Rattle.spec_protocol.proofs.SoundChunks.{within-limit}
 use Rattle.spec_protocol.proofs.SoundDevices.{taken-sound, dma-bytes}

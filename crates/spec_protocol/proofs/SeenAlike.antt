@@ -1,30 +1,25 @@
 -- Recordings and plays look at a log in the same way.
-use Rattle.std.proofs.Common.{◌≡◌, ℕ, zero, suc, ◌+◌, Bool, true, false, ◌&&◌, cond, List, [], ◌∷◌, Option, Some, None, refl, sym, ap, ◌∙◌, subst, arith}
-use Rattle.std.specs.Prelude.{slice_index, slice_get, nat_lt, max}
-use Rattle.std.specs.List.{list_all}
+use Rattle.std.proofs.Common.{◌≡◌, ℕ, ◌+◌, Bool, true, false, ◌&&◌, cond, List, [], ◌∷◌, Option, Some, None, refl, ap, ◌∙◌, arith}
+use Rattle.std.specs.Prelude.{slice_get, nat_lt, max}
 use Rattle.std.specs.Option.{option_or}
-use Rattle.std.proofs.lemmas.Bool.{lt-ltb, le-ltb}
+use Rattle.std.proofs.lemmas.Bool.{le-ltb}
 use Rattle.dl_entry.specs.declared.Actor.{Actor}
 use Rattle.dl_entry.specs.declared.Input.{Input}
 use Rattle.dl_entry.specs.declared.Why.{Why}
 use Rattle.spec_isa.specs.declared.thread.Parts.{Parts}
-use Rattle.spec_isa.specs.Runs.{Run}
 use Rattle.spec_log.specs.declared.ModeName.{ModeName}
 use Rattle.spec_log.specs.declared.Interrupt.{Interrupt}
 use Rattle.spec_log.specs.declared.DmaRecord.{DmaRecord}
 use Rattle.spec_log.specs.declared.ShortSize.{ShortSize}
-use Rattle.spec_log.specs.declared.Sizes.{Sizes}
-use Rattle.spec_log.specs.declared.LogParts.{LogParts}
 use Rattle.spec_log.specs.Head.{is_slot, head}
 use Rattle.spec_log.specs.Size.{size_in}
-use Rattle.spec_log.specs.Noting.{Kept, kept_size, limit_by, sizes_used, kept_head, log_of}
+use Rattle.spec_log.specs.Noting.{Kept, kept_size, limit_by, kept_head, log_of}
 use Rattle.spec_kernel.specs.Interrupts.{takes_interrupt, interrupted}
 use Rattle.spec_play.specs.Effects.{Effect, chunk_effect}
-use Rattle.spec_play.specs.Progress.{Progress, Used, with_interrupt}
-use Rattle.spec_play.specs.Turns.{is_size_used, are_sizes_used}
+use Rattle.spec_play.specs.Progress.{Used, with_interrupt}
+use Rattle.spec_play.specs.Turns.{is_size_used}
 use Rattle.spec_play.specs.Verdicts.{Verdict, Goes, Fails, unless, interrupt_at, with_interrupted, ended, chunk_why, chunk_verdict}
-use Rattle.spec_protocol.specs.Judging.{why_of, interrupt_why, why_not, ChunksAreJudged, KeptIsLogged, commits_of, AreCommits, ShortSizesAreUsed, LogsAreSeenAlike}
-use Rattle.spec_protocol.specs.Spheres.{whole_limit}
+use Rattle.spec_protocol.specs.Judging.{why_of, interrupt_why, ChunksAreJudged, commits_of, ShortSizesAreUsed, LogsAreSeenAlike}
 
 -- ---- verdicts
 
