@@ -1,13 +1,15 @@
 -- Plays of small logs: one that fits, and one for each reason to diverge.
-use Rattle.std.proofs.Common.{◌≡◌, [], ◌∷◌, refl}
+use Rattle.std.proofs.Common.{◌≡◌, ℕ, List, [], ◌∷◌, length, refl}
 use Rattle.dl_entry.specs.declared.Actor.{Actor}
 use Rattle.dl_entry.specs.declared.End.{End}
 use Rattle.dl_entry.specs.declared.Why.{Why}
 use Rattle.spec_log.specs.declared.ModeName.{ModeName}
 use Rattle.spec_log.specs.declared.Sizes.{Sizes}
 use Rattle.spec_log.specs.declared.LogParts.{LogParts}
+use Rattle.spec_play.specs.declared.walk_end.WalkEnd.{WalkEnd}
 use Rattle.spec_play.specs.Turns.{Over}
 use Rattle.spec_play.specs.Plays.{play}
+use Rattle.spec_play.specs.Walks.{walked}
 use Rattle.spec_isa.specs.Instruction.{serial_of, loads_of, next_of, load_of, store_of, one}
 use Rattle.spec_isa.specs.Words.{lay, read, merged}
 use Rattle.spec_kernel.specs.Answers.{answer}
@@ -148,4 +150,41 @@ plays_end =
       ended_at_once = refl;
       goes_on = refl;
       none_live = refl;
+    }
+
+-- ---- walks
+
+abbrev how_walked : LogParts → (memory : List ℕ) → (to : ℕ) → WalkEnd
+how_walked log memory to = (walked log memory 0 to).end
+
+pub record AreWalked : Type 0 where
+  pub not_begun : how_walked complete_log exits_code 0 ≡ WalkEnd.Stopped 0
+  pub one : how_walked complete_log exits_code 1 ≡ WalkEnd.Stopped 1
+  pub one_commit : length (walked complete_log exits_code 0 1).commits ≡ 1
+  -- at the count the end is looked at, and it is no other for more
+  pub all : how_walked complete_log exits_code 2 ≡ WalkEnd.Ended (End.Complete 2)
+  pub more : how_walked complete_log exits_code 5 ≡ WalkEnd.Ended (End.Complete 2)
+  pub none : how_walked ended_at_once_log exits_code 0 ≡ WalkEnd.Ended (End.Complete 0)
+  pub left_over : how_walked left_over_log exits_code 2 ≡ WalkEnd.Ended (End.Diverged 2 Why.LeftOver)
+  -- a thread that isn't live is looked at below the number alone
+  pub before_no_thread : how_walked goes_on_log exits_code 2 ≡ WalkEnd.Stopped 2
+  pub at_no_thread : how_walked goes_on_log exits_code 3 ≡ WalkEnd.Ended (End.Diverged 2 Why.NoThread)
+  pub before_short : how_walked short_log exits_code 0 ≡ WalkEnd.Stopped 0
+  pub at_short : how_walked short_log exits_code 1 ≡ WalkEnd.Ended (End.Diverged 0 (Why.Short 3 2))
+
+pub walks_end : AreWalked
+unfolding serial_of loads_of next_of load_of store_of one lay read merged answer called bytes_put random_bytes random_after next_kind next_plan need fits serve console_told play_one dma_verdict has_left_over now_at chunk_verdict serial_verdict
+walks_end =
+    record {
+      not_begun = refl;
+      one = refl;
+      one_commit = refl;
+      all = refl;
+      more = refl;
+      none = refl;
+      left_over = refl;
+      before_no_thread = refl;
+      at_no_thread = refl;
+      before_short = refl;
+      at_short = refl;
     }

@@ -26,3 +26,7 @@ dma_code = image 24 (0x00800893 ∷ 0x01000513 ∷ 0x00400593 ∷ 0x00000073 ∷
 -- the call that sets a handler at 20, and jumps to themselves behind it and in the handler
 abbrev pub handler_code : List ℕ
 handler_code = bytes_of (0x00600893 ∷ 0x01400513 ∷ 0x00000073 ∷ 0x0000006F ∷ 0x00000013 ∷ 0x0000006F ∷ [])
+
+-- the call that sets a handler at 20, the call that ends the thread, and the handler
+abbrev pub handler_exits_code : List ℕ
+handler_exits_code = bytes_of (0x00600893 ∷ 0x01400513 ∷ 0x00000073 ∷ 0x00000893 ∷ 0x00000073 ∷ 0x0000006F ∷ [])

@@ -1,5 +1,5 @@
 -- Plays of small logs with records of DMAs and interrupts: what is asked of them, and which reason comes first.
-use Rattle.std.proofs.Common.{◌≡◌, ℕ, List, [], ◌∷◌, refl}
+use Rattle.std.proofs.Common.{◌≡◌, ℕ, List, [], ◌∷◌, length, map, refl}
 use Rattle.dl_entry.specs.declared.Actor.{Actor}
 use Rattle.dl_entry.specs.declared.End.{End}
 use Rattle.dl_entry.specs.declared.Why.{Why}
@@ -23,7 +23,7 @@ use Rattle.spec_play.specs.Plays.{play_one}
 use Rattle.spec_play.specs.Transfers.{dma_verdict}
 use Rattle.spec_play.specs.Turns.{has_left_over, now_at}
 use Rattle.spec_play.specs.Verdicts.{chunk_verdict, serial_verdict}
-use Rattle.spec_play.proofs.Programs.{exits_code, clock_code, dma_code, handler_code}
+use Rattle.spec_play.proofs.Programs.{exits_code, clock_code, dma_code, handler_code, handler_exits_code}
 
 -- ---- logs
 
@@ -50,6 +50,11 @@ abbrev of_two : List ℕ → List Interrupt → LogParts
 of_two sizes interrupts =
     record { mode = ModeName.OrderSize; s = 100; count = 2; order = Actor.Thread 0 ∷ Actor.Thread 0 ∷ []; sizes = Sizes.Each sizes; interrupts = interrupts; inputs = []; dmas = [] }
 
+-- as many commits of a thread as there are sizes
+abbrev of_sizes : List ℕ → List Interrupt → LogParts
+of_sizes sizes interrupts =
+    record { mode = ModeName.OrderSize; s = 100; count = length sizes; order = map (λ (n : ℕ). Actor.Thread 0) sizes; sizes = Sizes.Each sizes; interrupts = interrupts; inputs = []; dmas = [] }
+
 abbrev data_at : (slot : ℕ) → List ℕ → DmaRecord
 data_at slot bytes = record { slot = slot; bytes = bytes }
 
@@ -66,11 +71,17 @@ pub record AreRead : Type 0 where
   pub dma_of_another_index : (play (of_dma (data_at 1 (65 ∷ 66 ∷ []) ∷ [])) dma_code 0).now ≡ Over (End.Diverged 2 Why.Dma)
   pub dma_missing : (play (of_dma []) dma_code 0).now ≡ Over (End.Diverged 2 Why.Dma)
   pub dma_without_request : (play (of_two_dmas (data_at 2 (65 ∷ 66 ∷ []) ∷ data_at 3 (65 ∷ 66 ∷ []) ∷ [])) dma_code 0).now ≡ Over (End.Diverged 3 Why.Dma)
+  pub dma_unused : (play (of_dmas 2 (Actor.Thread 0 ∷ Actor.Thread 0 ∷ []) (2 ∷ 0 ∷ []) (data_at 1 (65 ∷ []) ∷ [])) exits_code 0).now ≡ Over (End.Diverged 2 Why.LeftOver)
   pub dma_in_turn : (play (of_dma_in_turn (data_at 2 (65 ∷ 66 ∷ []) ∷ [])) dma_code 0).now ≡ Over (End.Complete 3)
   -- an interrupt comes after as many commits of its thread as it says
   pub interrupt_taken : (play (of_two (2 ∷ 0 ∷ []) (interrupt_after 2 ∷ [])) handler_code 0).now ≡ Over (End.Complete 2)
   pub interrupt_early : (play (of_two (2 ∷ 0 ∷ []) (interrupt_after 1 ∷ [])) handler_code 0).now ≡ Over (End.Diverged 0 Why.Interrupt)
   pub interrupt_late : (play (of_two (2 ∷ 0 ∷ []) (interrupt_after 3 ∷ [])) handler_code 0).now ≡ Over (End.Diverged 2 Why.LeftOver)
+  -- a thread with a handler takes none while it handles one, and none once it has ended
+  pub interrupt_masked : (play (of_sizes (2 ∷ 0 ∷ 1 ∷ []) (interrupt_after 2 ∷ interrupt_after 3 ∷ [])) handler_code 0).now ≡ Over (End.Diverged 2 Why.Interrupt)
+  pub not_masked : (play (of_sizes (2 ∷ 0 ∷ 1 ∷ []) (interrupt_after 3 ∷ [])) handler_code 0).now ≡ Over (End.Complete 3)
+  pub interrupt_ended : (play (of_sizes (2 ∷ 0 ∷ 1 ∷ 0 ∷ []) (interrupt_after 4 ∷ [])) handler_exits_code 0).now ≡ Over (End.Diverged 3 Why.Interrupt)
+  pub not_ended : (play (of_sizes (2 ∷ 0 ∷ 1 ∷ []) (interrupt_after 3 ∷ [])) handler_exits_code 0).now ≡ Over (End.Complete 3)
   -- a wrong size comes before a missing record, and a wrong interrupt last
   pub size_before_input : (play (of_two (1 ∷ 1 ∷ []) []) clock_code 0).now ≡ Over (End.Diverged 1 (Why.SizeOfSerial 1))
   pub input_before_interrupt : (play (of_two (1 ∷ 0 ∷ []) (interrupt_after 2 ∷ [])) clock_code 0).now ≡ Over (End.Diverged 1 Why.Input)
@@ -87,10 +98,15 @@ records_are_read =
       dma_of_another_index = refl;
       dma_missing = refl;
       dma_without_request = refl;
+      dma_unused = refl;
       dma_in_turn = refl;
       interrupt_taken = refl;
       interrupt_early = refl;
       interrupt_late = refl;
+      interrupt_masked = refl;
+      not_masked = refl;
+      interrupt_ended = refl;
+      not_ended = refl;
       size_before_input = refl;
       input_before_interrupt = refl;
       short_before_interrupt = refl;

@@ -6,3 +6,4 @@ pub mod Transfers
 pub mod Plays
 pub mod Recording
 pub mod Noted
+pub mod Walks

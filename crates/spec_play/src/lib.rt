@@ -3,5 +3,7 @@
 #![tactic(auto)]
 
 mod promise;
+mod walk_end;
 
-pub use promise::recorders_keep_logs;
+pub use promise::{recorders_keep_logs, walks_are_plays};
+pub use walk_end::WalkEnd;

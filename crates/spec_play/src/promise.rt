@@ -1,7 +1,15 @@
 //! What is promised of plays and logs. Each promise is a clause of a function that does nothing.
 ghost use Rattle.spec_play.specs.Noted.{RecordersKeepLogs};
+ghost use Rattle.spec_play.specs.Walks.{WalksArePlays};
 
 /// With each commit, record and interrupt that is noted, the log of what a recorder keeps grows as the log of a recording.
 pub fn recorders_keep_logs()
     ensures { RecordersKeepLogs }
+{}
+
+/// A walk of up to so many commits does the first ones of the log's play. It has ended, and as the play does, exactly where
+/// the play ends below that number of commits, or where the log has no more commits than that; and then it leaves what the
+/// play leaves. Else it has stopped with that number of commits done.
+pub fn walks_are_plays()
+    ensures { WalksArePlays }
 {}

@@ -55,7 +55,7 @@ fresh-good capacity bits xs c m i t limit halving positive =
         few = omega arith;
         few_loads = omega arith;
       };
-      live = λ q. record { runs = refl; touches = λ j l. absurd (omega arith); next_touches = λ e. absurd (none-some _ e); next_serial = λ e. absurd (none-some _ e) };
+      live = λ q. record { runs = refl; touches = λ j l. absurd (omega arith); next_touches = λ e. absurd (none-some _ e); next_serial = λ e. absurd (none-some _ e); store_touches = λ e. absurd (none-some _ e); store_anew = λ e. absurd (none-some _ e) };
     }
 
 abbrev afresh : Numbers → (i k : ℕ) → Sphere → Parts → Held

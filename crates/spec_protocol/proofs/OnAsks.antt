@@ -1,5 +1,5 @@
 -- The event Ask keeps the invariant.
-use Rattle.std.proofs.Common.{◌≡◌, ℕ, zero, suc, ◌<◌, Bool, true, false, not, ◌&&◌, eqb, cond, List, [], ◌∷◌, ◌++◌, length, Option, Some, None, refl, sym, ap, ◌∙◌, subst}
+use Rattle.std.proofs.Common.{◌≡◌, ℕ, zero, suc, ◌<◌, Bool, true, false, not, ◌&&◌, eqb, cond, List, [], ◌∷◌, ◌++◌, length, Option, Some, None, refl, sym, ap, ◌∙◌, subst, arith}
 use Rattle.std.specs.Prelude.{slice_get, IsSome}
 use Rattle.std.proofs.lemmas.Bool.{true≢false, and_parts, and_from, or_parts, eqb-true, eqb-false, eq-eqb, not-true, not-false}
 use Rattle.dl_entry.specs.declared.Actor.{Actor}
@@ -128,7 +128,7 @@ chunk_fits w c h how held live closed going turn chunk =
       serial = λ e. subst (λ (r : Run). IsSome (next_kind r.thread (lays m r.words))) (sym live.runs) (live.next_serial (closed ∙ ap Some e));
       some = λ e none. pieces_before h.chunk p.role chunk (closed ∙ ap Some e) none;
       cut = λ e. closes.cut (closed ∙ ap Some e);
-      room = λ e. closes.room (closed ∙ ap Some e);
+      room = λ e. (let a = closes.room (closed ∙ ap Some e) in let b = closes.few in omega arith);
     }
 
 chunk_fits_at : (w : World) (h : Held) (how : How) → h.chunk.sphere < length w.spheres → slice_get (sphere_at w h.chunk.sphere).threads h.thread ≡ Some h.chunk.start

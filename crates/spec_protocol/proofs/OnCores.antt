@@ -189,6 +189,8 @@ cut_good capacity bits xs c m ch open_ some good =
             touches = live.touches;
             next_touches = λ e. absurd (let h : How.Cut ≡ How.Serial = cc in cc);
             next_serial = λ e. absurd (let h : How.Cut ≡ How.Serial = cc in cc);
+            store_touches = λ e. absurd (let h : How.Cut ≡ How.Overflow = cc in cc);
+            store_anew = λ e. absurd (let h : How.Cut ≡ How.Overflow = cc in cc);
           };
     }
 

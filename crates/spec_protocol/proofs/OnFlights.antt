@@ -358,7 +358,7 @@ squash_good capacity xs c m ch bits positive size =
         few = omega arith;
         few_loads = omega arith;
       };
-      live = λ q. record { runs = refl; touches = λ i l. absurd (omega arith); next_touches = λ e. absurd (none-some _ e); next_serial = λ e. absurd (none-some _ e) };
+      live = λ q. record { runs = refl; touches = λ i l. absurd (omega arith); next_touches = λ e. absurd (none-some _ e); next_serial = λ e. absurd (none-some _ e); store_touches = λ e. absurd (none-some _ e); store_anew = λ e. absurd (none-some _ e) };
     }
 
 not_both : (role : Role) → replays role ≡ true → halves role ≡ false

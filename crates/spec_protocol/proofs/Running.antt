@@ -124,4 +124,8 @@ Live_local m n ch g live =
       touches = RunTouches_local (seen_by ch) m n ch.start ch.done.n g live.touches;
       next_touches = λ e. Touches_local (seen_by ch) ch.done.thread _ _ later (live.next_touches e);
       next_serial = λ e. subst IsSome (sym (kind_local (seen_by ch) ch.done.thread _ _ later (live.next_touches e))) (live.next_serial e);
+      store_touches = λ e. Touches_local (seen_by ch) ch.done.thread _ _ later (live.store_touches e);
+      store_anew = λ e.
+          let a = live.store_anew e in
+          record { thread = a.thread; load = a.load; store = a.store; next = one_local (seen_by ch) ch.done.thread _ _ later (live.store_touches e) ∙ a.next; new = a.new };
     }

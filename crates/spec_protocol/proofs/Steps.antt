@@ -7,7 +7,7 @@ use Rattle.spec_isa.specs.declared.thread.Parts.{Parts}
 use Rattle.spec_isa.specs.declared.thread.Kind.{Kind}
 use Rattle.spec_isa.specs.declared.thread.Load.{Load}
 use Rattle.spec_isa.specs.Words.{Stored, lays, read, holds, is_inside, Apart}
-use Rattle.spec_isa.specs.Instruction.{serial_of, loads_of, next_of, load_of, store_of}
+use Rattle.spec_isa.specs.Instruction.{Next, serial_of, loads_of, next_of, load_of, store_of, unless, value_at, one}
 use Rattle.spec_isa.specs.Runs.{with_load, with_store}
 use Rattle.spec_kernel.specs.Needs.{fetched}
 use Rattle.spec_engine.specs.declared.answers.How.{How}
@@ -20,7 +20,7 @@ use Rattle.spec_engine.proofs.Choosing.{keep_option, keep_choose}
 use Rattle.spec_engine.proofs.Marking.{covers_insert, covers_more, hits_more}
 use Rattle.spec_protocol.proofs.Running.{outside_serial}
 use Rattle.spec_protocol.proofs.Covering.{CoversLoads_more, CoversLoads-load, length-load, load-word, CoversWords-store, Apart-store, length-store, bits-with_line, clear}
-use Rattle.spec_protocol.specs.Currency.{Touches, seen_by}
+use Rattle.spec_protocol.specs.Currency.{Touches, seen_by, StoresAnew}
 use Rattle.spec_protocol.specs.Invariants.{Closes}
 
 -- ---- what is kept
@@ -34,12 +34,12 @@ pub record SameBase (ch dh : Chunk) : Type 0 where
   pub reads : dh.reads.bits ≡ ch.reads.bits
   pub writes : dh.writes.bits ≡ ch.writes.bits
 
--- the instruction was run, or is the serial one that comes next: what it looks at is clear
+-- the instruction was run, or is the serial one that comes next, or the one that finds no room: what it looks at is clear
 abbrev pub Looks : List (Option Flight) → (core : ℕ) → List ℕ → Chunk → Chunk → Stepped → Type 0
 Looks xs c m ch dh Stepped.Ran = (dh.closed ≡ None) × Touches (clear xs c dh) ch.done.thread m
 Looks xs c m ch dh (Stepped.Closed How.Limit) = (dh.closed ≡ Some How.Limit) × Touches (clear xs c dh) ch.done.thread m
 Looks xs c m ch dh (Stepped.Closed How.Serial) = (dh.closed ≡ Some How.Serial) × Touches (clear xs c dh) ch.done.thread m
-Looks xs c m ch dh (Stepped.Closed How.Overflow) = (dh.closed ≡ Some How.Overflow)
+Looks xs c m ch dh (Stepped.Closed How.Overflow) = (dh.closed ≡ Some How.Overflow) × Touches (clear xs c dh) ch.done.thread m × StoresAnew ch.done.thread m ch.done.words
 Looks xs c m ch dh (Stepped.Closed How.Cut) = ⊥
 Looks xs c m ch dh (Stepped.Bounced k) = (dh.closed ≡ None)
 
@@ -86,7 +86,7 @@ abbrev base_with : (ch : Chunk) (g : Marks) → Grown ch g → SameBase ch (with
 base_with ch g n = record { sphere = refl; start = refl; limit = refl; halves = refl; reads = n.size; writes = refl }
 
 -- closing changes nothing else
-closed_closes : (capacity : ℕ) (ch : Chunk) (g : Marks) (how : How) → IsOpen capacity ch → how ≢ How.Limit → how ≢ How.Cut → (how ≡ How.Overflow → capacity ≤ ch.done.n) → Closes capacity (record (with_reads ch g) { closed = Some how })
+closed_closes : (capacity : ℕ) (ch : Chunk) (g : Marks) (how : How) → IsOpen capacity ch → how ≢ How.Limit → how ≢ How.Cut → (how ≡ How.Overflow → capacity ≤ length ch.done.words) → Closes capacity (record (with_reads ch g) { closed = Some how })
 closed_closes capacity ch g how o limit cut room =
     record {
       positive = o.closes.positive;
@@ -99,7 +99,7 @@ closed_closes capacity ch g how o limit cut room =
       few_loads = o.closes.few_loads;
     }
 
-stays_closed : (capacity : ℕ) (xs : List (Option Flight)) (c : ℕ) (m : List ℕ) (ch : Chunk) (g : Marks) (how : How) → IsOpen capacity ch → Grown ch g → how ≢ How.Limit → how ≢ How.Cut → (how ≡ How.Overflow → capacity ≤ ch.done.n)
+stays_closed : (capacity : ℕ) (xs : List (Option Flight)) (c : ℕ) (m : List ℕ) (ch : Chunk) (g : Marks) (how : How) → IsOpen capacity ch → Grown ch g → how ≢ How.Limit → how ≢ How.Cut → (how ≡ How.Overflow → capacity ≤ length ch.done.words)
     → Looks xs c m ch (record (with_reads ch g) { closed = Some how }) (Stepped.Closed how) → Stays capacity xs c m ch (closes how (with_reads ch g))
 stays_closed capacity xs c m ch g how o n limit cut room looks =
     record {
@@ -178,16 +178,29 @@ no_room : (capacity : ℕ) (ws : List Stored) (store : Option Stored) → has_ro
 no_room capacity ws None e = absurd (true≢false e)
 no_room capacity ws (Some s) e = ltb-false (length ws) capacity (or_parts (holds ws s.word) _ e).1
 
+-- a store that finds no room is of a word that isn't held
+new_word : (capacity : ℕ) (t u : Parts) (m : List ℕ) (ws : List Stored) (load : Option Load) (store : Option Stored) → one t m ≡ Next u load store → has_room capacity ws store ≡ false → StoresAnew t m ws
+new_word capacity t u m ws load None is e = absurd (true≢false e)
+new_word capacity t u m ws load (Some s) is e = record { thread = u; load = load; store = s; next = is; new = (or_parts (holds ws s.word) _ e).0 }
+
+-- the next instruction, where it isn't serial
+next_one : (t : Parts) (m : List ℕ) (o : Option ℕ) → serial_of t (fetched t m) (length m) ≡ None → loads_of t (fetched t m) ≡ o
+    → let f = fetched t m in let w = value_at m o in one t m ≡ Next (next_of t f w) (load_of t f w) (store_of t f w)
+unfolding one
+next_one t m o plain is =
+    let f = fetched t m in
+    (λ i. unless (plain i) (Next (next_of t f (value_at m (is i))) (load_of t f (value_at m (is i))) (store_of t f (value_at m (is i)))))
+
 stays_storing : (capacity : ℕ) (xs : List (Option Flight)) (c : ℕ) (m : List ℕ) (f w : ℕ) (ch : Chunk) (g : Marks) → IsOpen capacity ch → Grown ch g → ((a : ℕ) → loads_of ch.done.thread f ≡ Some a → covers g (line ch.sphere a) ≡ true)
-    → Touches (clear xs c (with_reads ch g)) ch.done.thread m → Stays capacity xs c m ch (storing capacity f w (with_reads ch g))
+    → let t = ch.done.thread in one t m ≡ Next (next_of t f w) (load_of t f w) (store_of t f w) → Touches (clear xs c (with_reads ch g)) ch.done.thread m → Stays capacity xs c m ch (storing capacity f w (with_reads ch g))
 unfolding storing
-stays_storing capacity xs c m f w ch g o n looked touches =
+stays_storing capacity xs c m f w ch g o n looked is touches =
     let t = ch.done.thread in
     keep_choose (Stays capacity xs c m ch) (has_room capacity ch.done.words (store_of t f w)) (at_limit (ran (with_reads ch g) (next_of t f w) (load_of t f w) (store_of t f w))) (closes How.Overflow (with_reads ch g))
     (λ e. stays_ran capacity xs c m ch g (next_of t f w) (load_of t f w) (store_of t f w) o n (λ l e. looked (l.addr / 4) (load-word t f w l e)) touches)
     (λ e. stays_closed capacity xs c m ch g How.Overflow o n (λ h. cc) (λ h. cc)
-    (λ h. let r = no_room capacity ch.done.words (store_of t f w) e in let k = o.closes.few in omega arith)
-    refl)
+    (λ h. no_room capacity ch.done.words (store_of t f w) e)
+    (refl, touches, new_word capacity t (next_of t f w) m ch.done.words (load_of t f w) (store_of t f w) is e))
 
 -- ---- the load
 
@@ -252,16 +265,17 @@ touches_serial : (xs : List (Option Flight)) (c : ℕ) (m : List ℕ) (ch dh : C
     → Touches (clear xs c dh) ch.done.thread (shown_in m ch)
 touches_serial xs c m ch dh kind e some = record { fetch = e; load = λ none a is. absurd (none-some kind (sym none ∙ some)) }
 
-stays_loading : (capacity : ℕ) (xs : List (Option Flight)) (c : ℕ) (m : List ℕ) (ch : Chunk) (g : Marks) → IsOpen capacity ch → Grown ch g → clear xs c (with_reads ch g) (ch.done.thread.pc / 4) ≡ true
+stays_loading : (capacity : ℕ) (xs : List (Option Flight)) (c : ℕ) (m : List ℕ) (ch : Chunk) (g : Marks) → IsOpen capacity ch → Grown ch g → serial_of ch.done.thread (fetched_by m ch) (length (shown_in m ch)) ≡ None → clear xs c (with_reads ch g) (ch.done.thread.pc / 4) ≡ true
     → Stays capacity xs c (shown_in m ch) ch (loading capacity (shown_in m ch) xs c (fetched_by m ch) (with_reads ch g))
 unfolding loading
-stays_loading capacity xs c m ch g o n e =
+stays_loading capacity xs c m ch g o n plain e =
     let f = fetched_by m ch in
     keep_option (Stays capacity xs c (shown_in m ch) ch) (loads_of ch.done.thread f) (storing capacity f 0 (with_reads ch g)) (λ a. reading xs c (with_reads ch g) a (storing capacity f (read (shown_in m ch) a)))
-    (λ none. stays_storing capacity xs c (shown_in m ch) f 0 ch g o n (λ a some. absurd (none-some a (sym none ∙ some))) (touches_none xs c m ch g e none))
+    (λ none. stays_storing capacity xs c (shown_in m ch) f 0 ch g o n (λ a some. absurd (none-some a (sym none ∙ some))) (next_one ch.done.thread (shown_in m ch) None plain none) (touches_none xs c m ch g e none))
     (λ a some. stays_reading capacity xs c (shown_in m ch) ch g a (storing capacity f (read (shown_in m ch) a)) o n
     (λ free. stays_storing capacity xs c (shown_in m ch) f (read (shown_in m ch) a) ch (insert (line ch.sphere a) g) o (grown_insert ch g (line ch.sphere a) n)
     (λ b is. let same : a ≡ b = (let q : Some a ≡ Some b = sym some ∙ is in cc) in subst (λ (d : ℕ). covers (insert (line ch.sphere a) g) (line ch.sphere d) ≡ true) same (covers_insert (line ch.sphere a) g))
+    (next_one ch.done.thread (shown_in m ch) (Some a) plain some)
     (touches_some xs c m ch g a e some free)))
 
 -- ---- the whole step
@@ -272,7 +286,7 @@ unfolding running
 stays_running capacity xs c m ch g o n e =
     let f = fetched_by m ch in
     keep_option (Stays capacity xs c (shown_in m ch) ch) (serial_of ch.done.thread f (length (shown_in m ch))) (loading capacity (shown_in m ch) xs c f (with_reads ch g)) (λ kind. closes How.Serial (with_reads ch g))
-    (λ none. stays_loading capacity xs c m ch g o n e)
+    (λ none. stays_loading capacity xs c m ch g o n none e)
     (λ kind some. stays_closed capacity xs c (shown_in m ch) ch g How.Serial o n (λ h. cc) (λ h. cc) (λ h. cc)
     (refl, touches_serial xs c m ch (record (with_reads ch g) { closed = Some How.Serial }) kind (λ _. e) some))
 

@@ -2,8 +2,9 @@
 -- what its instructions do on the current memory.
 use Rattle.std.specs.Prelude.{◌≡◌, ℕ, ◌<◌, ◌/◌, Bool, true, false, List, [], ◌∷◌, length, Option, Some, None, IsSome}
 use Rattle.spec_isa.specs.declared.thread.Parts.{Parts}
-use Rattle.spec_isa.specs.Words.{Stored, lays, Lacks, is_inside}
-use Rattle.spec_isa.specs.Instruction.{serial_of, loads_of}
+use Rattle.spec_isa.specs.declared.thread.Load.{Load}
+use Rattle.spec_isa.specs.Words.{Stored, lays, holds, Lacks, is_inside}
+use Rattle.spec_isa.specs.Instruction.{Next, serial_of, loads_of, one}
 use Rattle.spec_isa.specs.Runs.{run}
 use Rattle.spec_kernel.specs.Needs.{fetched, next_kind}
 use Rattle.spec_engine.specs.declared.answers.How.{How}
@@ -28,13 +29,24 @@ seen_by ch a = covers ch.reads (line ch.sphere a)
 
 -- ---- a current chunk
 
--- on this memory the chunk's instructions, from its start, give what it has; its reads cover what they fetch and load, and
--- what the serial instruction does that it was closed before; and that one comes next
+-- on this memory the next instruction of a thread is run, and stores to a word that is not among these
+pub record StoresAnew (t : Parts) (m : List ℕ) (ws : List Stored) : Type 0 where
+  pub thread : Parts
+  pub load : Option Load
+  pub store : Stored
+  pub next : one t m ≡ Next thread load (Some store)
+  pub new : holds ws store.word ≡ false
+
+-- on this memory the chunk's instructions, from its start, give what it has, and its reads cover what they fetch and load.
+-- Where it was closed before a serial instruction, or before one whose store finds no room, they cover that one's too, and
+-- it comes next
 pub record IsCurrent (m : List ℕ) (ch : Chunk) : Type 0 where
   pub runs : run m ch.start ch.done.n ≡ ch.done
   pub touches : RunTouches (seen_by ch) m ch.start ch.done.n
   pub next_touches : ch.closed ≡ Some How.Serial → Touches (seen_by ch) ch.done.thread (lays m ch.done.words)
   pub next_serial : ch.closed ≡ Some How.Serial → IsSome (next_kind ch.done.thread (lays m ch.done.words))
+  pub store_touches : ch.closed ≡ Some How.Overflow → Touches (seen_by ch) ch.done.thread (lays m ch.done.words)
+  pub store_anew : ch.closed ≡ Some How.Overflow → StoresAnew ch.done.thread (lays m ch.done.words) ch.done.words
 
 -- no flight of sphere i that core c was not told of hits these reads
 pub record IsQuiet (slots : List (Option Flight)) (i c : ℕ) (reads : Marks) : Type 0 where

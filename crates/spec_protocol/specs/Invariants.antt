@@ -32,7 +32,7 @@ pub record Closes (capacity : ℕ) (ch : Chunk) : Type 0 where
   pub full : ch.closed ≡ Some How.Limit → ch.done.n ≡ ch.limit
   pub early : (how : How) → ch.closed ≡ Some how → how ≢ How.Limit → ch.done.n < ch.limit
   pub cut : ch.closed ≡ Some How.Cut → 0 < ch.done.n
-  pub room : ch.closed ≡ Some How.Overflow → capacity ≤ ch.done.n
+  pub room : ch.closed ≡ Some How.Overflow → capacity ≤ length ch.done.words
   pub few : length ch.done.words ≤ ch.done.n
   pub few_loads : length ch.done.loads ≤ ch.done.n
 

@@ -13,7 +13,7 @@ use Rattle.spec_protocol.specs.Promises.{IsSetup, after}
 
 -- it counts the sphere's commits; and of a thread it has no interrupt at a later number of commits than the thread's, and
 -- at that number only where the thread is masked: so the next one is of a new moment
-pub record IsFresh (log : LogParts) (p : Sphere) : Type 0 where
+pub record IsLogFresh (log : LogParts) (p : Sphere) : Type 0 where
   pub count : log.count ≡ position p.progress
   pub later : (k i : ℕ) (t : Parts) → slice_get p.threads k ≡ Some t → t.commits < i → interrupt_at log.interrupts k i ≡ None
   pub unmasked : (k : ℕ) (t : Parts) → slice_get p.threads k ≡ Some t → t.mask ≡ false → interrupt_at log.interrupts k t.commits ≡ None
@@ -22,4 +22,4 @@ pub record IsFresh (log : LogParts) (p : Sphere) : Type 0 where
 abbrev pub LogsAreFresh : Type 0
 LogsAreFresh =
     (s : Setup) (es : List Event) (i : ℕ) (image : SphereSetup) (mode : ModeName) (log : LogParts) → IsSetup s → slice_get s.spheres i ≡ Some image → image.role ≡ IsRecorded mode
-    → let p = sphere_at (after s es) i in p.role ≡ Record log → IsFresh log p
+    → let p = sphere_at (after s es) i in p.role ≡ Record log → IsLogFresh log p

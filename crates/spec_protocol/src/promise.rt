@@ -26,7 +26,8 @@ pub fn moves_are_serial()
 /// After every list of events: no two flying words of a sphere are one, and a flight's signature covers the lines of its
 /// words; a core's thread is on no other core, and its chunk began from the thread's state, has signatures that cover
 /// what it loaded and stored, stands to its limit as its closing says, and is current where no flight of its sphere that
-/// the core was not told of hits its reads.
+/// the core was not told of hits its reads: its run is that of the current memory, and where it was closed before a serial
+/// instruction, or before a store that finds no room, that instruction comes next.
 pub fn invariants_hold()
     ensures { InvariantsHold }
 {}

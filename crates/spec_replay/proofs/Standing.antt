@@ -1,16 +1,12 @@
 -- Where a replayed sphere has no piece of its next commit, it stands where the play stands.
-use Rattle.std.proofs.Common.{◌≡◌, ℕ, zero, suc, ◌<◌, Bool, true, false, cond, List, [], ◌∷◌, Option, Some, None, refl, sym, ap, ◌∙◌, subst, arith, set}
-use Rattle.std.specs.Prelude.{slice_get, nat_lt, max}
+use Rattle.std.proofs.Common.{◌≡◌, ℕ, zero, suc, ◌<◌, List, [], ◌∷◌, Option, Some, None, refl, sym, ap, ◌∙◌, subst, arith, set}
+use Rattle.std.specs.Prelude.{slice_get, max}
 use Rattle.dl_entry.specs.declared.Actor.{Actor}
-use Rattle.dl_entry.specs.declared.End.{End}
-use Rattle.dl_entry.specs.declared.Why.{Why}
-use Rattle.spec_isa.specs.declared.thread.Parts.{Parts}
 use Rattle.spec_log.specs.declared.LogParts.{LogParts}
 use Rattle.spec_log.specs.Size.{size_in}
-use Rattle.spec_kernel.specs.Interrupts.{is_live}
-use Rattle.spec_play.specs.Progress.{Progress, position, Used}
-use Rattle.spec_play.specs.Turns.{Now, Turn, TurnOfDma, Over, at_end, has_left_over, turn_of_thread, turn_of, next_actor, now_at}
+use Rattle.spec_play.specs.Turns.{Now, Turn, TurnOfDma, Over, now_at}
 use Rattle.spec_play.specs.Plays.{Played}
+use Rattle.spec_play.proofs.Going.{Lives, turn-lives}
 use Rattle.spec_protocol.specs.Spheres.{Book, Sphere, whole_limit}
 use Rattle.spec_replay.specs.Following.{IsWhole, StandsAt}
 
@@ -25,40 +21,6 @@ pub set_twice : {A : Type 0} (xs : List A) (k : ℕ) (x y : A) → set (set xs k
 set_twice [] k x y = refl
 set_twice (z ∷ zs) zero x y = refl
 set_twice (z ∷ zs) (suc k) x y = ap (λ (us : List _). z ∷ us) (set_twice zs k x y)
-
--- ---- whose turn it is
-
--- the thread of that number lives
-pub record Lives (ts : List Parts) (k : ℕ) : Type 0 where
-  pub thread : Parts
-  pub is : slice_get ts k ≡ Some thread
-  pub live : is_live thread ≡ true
-
-turn_live : (i j k : ℕ) (ts : List Parts) (t : Parts) (b : Bool) → slice_get ts j ≡ Some t → is_live t ≡ b → cond b (Turn j) (Over (End.Diverged i Why.NoThread)) ≡ Turn k → Lives ts k
-turn_live i j k ts t true is live e = let h : j ≡ k = cc in record { thread = t; is = ap (slice_get ts) (sym h) ∙ is; live = live }
-turn_live i j k ts t false is live e = cc
-
-turn_there : (i j k : ℕ) (ts : List Parts) (o : Option Parts) → slice_get ts j ≡ o → turn_of_thread i j o ≡ Turn k → Lives ts k
-turn_there i j k ts None is e = cc
-turn_there i j k ts (Some t) is e = turn_live i j k ts t (is_live t) is refl e
-
-turn_named : (i k : ℕ) (ts : List Parts) (o : Option Actor) → turn_of i ts o ≡ Turn k → Lives ts k
-turn_named i k ts None e = cc
-turn_named i k ts (Some Actor.Dma) e = cc
-turn_named i k ts (Some (Actor.Thread j)) e = turn_there i j k ts (slice_get ts j) refl e
-
-no_turn : (i k : ℕ) (left : Bool) → at_end i left ≡ Turn k → {A : Type 0} → A
-no_turn i k true e = cc
-no_turn i k false e = cc
-
-turn_below : (i k : ℕ) (ts : List Parts) (o : Option Actor) (below left : Bool) → cond below (turn_of i ts o) (at_end i left) ≡ Turn k → Lives ts k
-turn_below i k ts o true left e = turn_named i k ts o e
-turn_below i k ts o false left e = no_turn i k left e
-
--- a thread that has the turn lives
-pub turn-lives : (log : LogParts) (p : Progress) (u : Used) (ts : List Parts) (k : ℕ) → now_at log p u ts ≡ Turn k → Lives ts k
-unfolding now_at
-turn-lives log p u ts k e = turn_below (position p) k ts (next_actor log p ts) (nat_lt (position p) log.count) (has_left_over log u ts) e
 
 -- ---- limits
 

@@ -1,0 +1,68 @@
+-- A log walked: the first commits of its play, up to a number that is asked for.
+use Rattle.std.specs.Prelude.{◌≡◌, ℕ, ◌<◌, ◌≤◌, ◌⊎◌, ◌||◌, Bool, nat_le, nat_lt, List, length, take, Option, if◌then◌else◌}
+use Rattle.dl_entry.specs.declared.Commit.{Commit}
+use Rattle.dl_entry.specs.declared.End.{End}
+use Rattle.dl_entry.specs.declared.Request.{Request}
+use Rattle.spec_isa.specs.declared.thread.Parts.{Parts}
+use Rattle.spec_log.specs.declared.LogParts.{LogParts}
+use Rattle.spec_play.specs.declared.walk_end.WalkEnd.{WalkEnd}
+use Rattle.spec_play.specs.Progress.{position}
+use Rattle.spec_play.specs.Turns.{Now, Turn, TurnOfDma, Over}
+use Rattle.spec_play.specs.Plays.{Played, opened, plays, play}
+
+-- what a walk leaves
+pub record Walked : Type 0 where
+  pub commits : List Commit
+  pub threads : List Parts
+  pub memory : List ℕ
+  pub request : Option Request
+  pub end : WalkEnd
+
+-- with `to` commits done where the log has more, the end isn't looked at
+abbrev pub is_looked_at : LogParts → (to done : ℕ) → Bool
+is_looked_at log to done = nat_lt done to || nat_le log.count to
+
+abbrev pub walk_end : LogParts → (to done : ℕ) → Now → WalkEnd
+walk_end log to done (Over how) = if is_looked_at log to done then WalkEnd.Ended how else WalkEnd.Stopped done
+walk_end log to done (Turn k) = WalkEnd.Stopped done
+walk_end log to done TurnOfDma = WalkEnd.Stopped done
+
+-- the play's state after a walk of up to `to` commits
+abbrev pub walked_at : LogParts → (to : ℕ) → Played → Walked
+walked_at log to y =
+    record {
+      commits = y.progress.commits;
+      threads = y.threads;
+      memory = y.memory;
+      request = y.progress.request;
+      end = walk_end log to (position y.progress) y.now;
+    }
+
+-- the log is walked on an image, up to `to` commits
+abbrev pub walked : LogParts → (memory : List ℕ) → (entry to : ℕ) → Walked
+walked log memory entry to = walked_at log to (plays log (opened log memory entry) to)
+
+-- ---- what is promised
+
+-- what a walk that has ended leaves is what the play leaves
+pub record HasEnded (v : Walked) (y : Played) (how : End) : Type 0 where
+  pub now : y.now ≡ Over how
+  pub threads : v.threads ≡ y.threads
+  pub memory : v.memory ≡ y.memory
+  pub request : v.request ≡ y.progress.request
+
+pub record HasStopped (log : LogParts) (v : Walked) (to done : ℕ) : Type 0 where
+  pub all : done ≡ to
+  pub commits : length v.commits ≡ to
+  pub more : to < log.count
+
+pub record IsWalk (log : LogParts) (v : Walked) (y : Played) (to : ℕ) : Type 0 where
+  pub commits : v.commits ≡ take to y.progress.commits
+  pub ended : (how : End) → v.end ≡ WalkEnd.Ended how → HasEnded v y how
+  pub stopped : (done : ℕ) → v.end ≡ WalkEnd.Stopped done → HasStopped log v to done
+  -- it ends where the play ends at fewer commits, or the log has no more
+  pub ends : (how : End) → y.now ≡ Over how → (position y.progress < to) ⊎ (log.count ≤ to) → v.end ≡ WalkEnd.Ended how
+
+abbrev pub WalksArePlays : Type 0
+WalksArePlays =
+    (log : LogParts) (memory : List ℕ) (entry to : ℕ) → IsWalk log (walked log memory entry to) (play log memory entry) to
