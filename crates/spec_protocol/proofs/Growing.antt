@@ -235,7 +235,7 @@ set_none (t ∷ ts) zero (suc j) u e = e
 set_none (t ∷ ts) (suc k) zero u e = e
 set_none (t ∷ ts) (suc k) (suc j) u e = set_none ts k j u e
 
-append_none : (ts made : List Parts) (j : ℕ) → slice_get (ts ++ made) j ≡ None → slice_get ts j ≡ None
+pub append_none : (ts made : List Parts) (j : ℕ) → slice_get (ts ++ made) j ≡ None → slice_get ts j ≡ None
 append_none [] made j e = refl
 append_none (t ∷ ts) made zero e = e
 append_none (t ∷ ts) made (suc j) e = append_none ts made j e

@@ -55,3 +55,4 @@ pub mod SoundMoves
 pub mod Sounding
 pub mod Notable
 pub mod SeenAlike
+pub mod SoundFresh

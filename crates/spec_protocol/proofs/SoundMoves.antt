@@ -1,5 +1,5 @@
 -- What a granted request, a DMA or an interrupt makes of a sound sphere is sound.
-use Rattle.std.proofs.Common.{◌≡◌, ℕ, zero, suc, ◌+◌, ◌%◌, ◌<◌, ◌≤◌, ◌⊎◌, inl, inr, Bool, true, false, eqb, List, [], ◌∷◌, ◌++◌, length, Option, Some, None, refl, sym, ap, ◌∙◌, subst, set, arith}
+use Rattle.std.proofs.Common.{◌≡◌, ℕ, zero, suc, ◌+◌, ◌%◌, ◌<◌, ◌≤◌, inl, inr, Bool, true, false, eqb, List, [], ◌∷◌, ◌++◌, length, Option, Some, None, refl, sym, ap, ◌∙◌, subst, set, arith}
 use Rattle.std.specs.Prelude.{slice_get, slice_set, nat_lt, nat_le, ◌&&◌, ◌||◌}
 use Rattle.std.proofs.Math.ListN.{length-set, length-append}
 use Rattle.std.proofs.lemmas.Bool.{true≢false, ltb-true, leb-true, eqb-true, and_parts}
@@ -46,19 +46,13 @@ use Rattle.spec_protocol.proofs.SoundWords.{sound-none, dma-sound}
 use Rattle.spec_protocol.proofs.SoundThreads.{AreThreads, Brings, BringsIf, interrupted-thread, IsSoundServed, serve-sound}
 use Rattle.spec_protocol.proofs.SoundDevices.{IsSoundTaken, taken-sound, told-devices, dma-few, dma-devices}
 use Rattle.spec_protocol.proofs.SoundLimits.{whole-positive}
+use Rattle.spec_protocol.proofs.SoundFresh.{at-set_parts, fresh-commit, fresh-raise}
 use Rattle.spec_protocol.proofs.SoundUses.{GoOn, commit-goes_on, due-more, taken-due}
 
 -- ---- rows of threads
 
-get-set_cases : (ts : List Parts) (k j : ℕ) (u x : Parts) → slice_get (set ts k u) j ≡ Some x → (u ≡ x) ⊎ (slice_get ts j ≡ Some x)
-get-set_cases [] k j u x e = absurd (none-some x e)
-get-set_cases (t ∷ ts) zero zero u x e = inl (let q : u ≡ x = cc in q)
-get-set_cases (t ∷ ts) zero (suc j) u x e = inr e
-get-set_cases (t ∷ ts) (suc k) zero u x e = inr e
-get-set_cases (t ∷ ts) (suc k) (suc j) u x e = get-set_cases ts k j u x e
-
 pub set-all : (P : Parts → Type 0) (ts : List Parts) (k : ℕ) (u : Parts) → P u → ((j : ℕ) (x : Parts) → slice_get ts j ≡ Some x → P x) → (j : ℕ) (x : Parts) → slice_get (set ts k u) j ≡ Some x → P x
-set-all P ts k u new old j x e = elim (get-set_cases ts k j u x e) [ inl q ↦ subst P q new | inr q ↦ old j x q ]
+set-all P ts k u new old j x e = elim (at-set_parts ts k j u x e) [ inl q ↦ subst P q.1 new | inr q ↦ old j x q.1 ]
 
 made-sound : (n : ℕ) (made : List Parts) (j : ℕ) (x : Parts) → AreThreads made → AreNew made → slice_get made j ≡ Some x → IsSoundThread n x
 made-sound n [] j x threads new e = absurd (none-some x e)
@@ -168,6 +162,16 @@ interrupted-effect size value ts t e s =
       request = s.request;
       words = s.words;
     }
+
+-- ---- recordings
+
+-- a commit is noted, and nothing else of the log that matters here changes
+noted-sound : (s k i : ℕ) (short : Bool) (log : LogParts) (t : Parts) (e : Effect) (p : Sphere) → slice_get p.threads k ≡ Some t → e.thread.commits ≡ t.commits + 1 → IsSoundLog s (position p.progress) p.threads log
+    → IsSoundLog s (position (with_effect k e p.progress)) (with_threads k e p.threads) (noted e.commit i short log)
+noted-sound s k i short log t e p is commits role =
+    let n = next-position k e p.progress in
+    let c = role.count in
+    record { size = role.size; count = omega (arith, n, c); interrupts = fresh-commit p.threads e.made k t e.thread log.interrupts is commits role.interrupts }
 
 -- ---- books
 
@@ -391,11 +395,9 @@ chunk-in-sound s image now k Plain t piece short r devices p role fits sound is 
     (chunk-effect (length image.memory) k p.threads t p.progress.request r run.thread run.commits run.words sound.request sound.few) tt d
 chunk-in-sound s image now k (Record log) t piece short r devices p role fits sound is run d =
     let e = chunk_effect k p.progress.request r in
-    let n = next-position k e p.progress in
-    let c = role.count in
-    granted-sound s image now k (Record (noted e.commit r.thread.commits short log)) t e devices p sound is
-    (chunk-effect (length image.memory) k p.threads t p.progress.request r run.thread run.commits run.words sound.request sound.few)
-    (record { size = role.size; count = omega (arith, n, c) }) d
+    let effect = chunk-effect (length image.memory) k p.threads t p.progress.request r run.thread run.commits run.words sound.request sound.few in
+    granted-sound s image now k (Record (noted e.commit r.thread.commits short log)) t e devices p sound is effect
+    (noted-sound s k r.thread.commits short log t e p is effect.commits role) d
 chunk-in-sound s image now k (Replay b) t piece short r devices p role fits sound is run d = replayed-sound s image now k b t piece r devices p role fits sound is run d
 
 pub chunk-sound : (s : ℕ) (image : SphereSetup) (now k : ℕ) (t : Parts) (piece short : Bool) (r : Run) (devices : Devices) (p : Sphere) → FitsRole k t piece r p.role → IsSoundSphere s image now p
@@ -467,9 +469,9 @@ serial-goes size k log p u ts t m is uses same whole thread request few =
     (served-goes size k log p ts t m g is (given-sound log ts (need t m) (slice_get log.inputs u.inputs) u refl uses) same whole thread request few)
 
 -- the log keeps its standard size, and an input is no commit
-input-log : (s n : ℕ) (o : Option Input) (log : LogParts) → IsSoundLog s n log → IsSoundLog s n (input_noted o log)
-input-log s n None log h = h
-input-log s n (Some r) log h = record { size = h.size; count = h.count }
+input-log : (s n : ℕ) (threads : List Parts) (o : Option Input) (log : LogParts) → IsSoundLog s n threads log → IsSoundLog s n threads (input_noted o log)
+input-log s n threads None log h = h
+input-log s n threads (Some r) log h = record { size = h.size; count = h.count; interrupts = h.interrupts }
 
 served-sound : (s : ℕ) (image : SphereSetup) (now k : ℕ) (role : Role) (t : Parts) (g : Taken) (p : Sphere) → length image.memory % 4 ≡ 0 → IsSoundSphere s image now p → slice_get p.threads k ≡ Some t → IsSoundTaken (need t p.memory) g
     → IsSoundRole s (position (with_effect k (serial_effect k (serve k p.threads p.progress.request t p.memory g.input)) p.progress)) (with_threads k (serial_effect k (serve k p.threads p.progress.request t p.memory g.input)) p.threads) role
@@ -487,10 +489,10 @@ serial-in-sound s image now k moment Plain t devices p whole role going sound is
 serial-in-sound s image now k moment (Record log) t devices p whole role going sound is d =
     let g = taken (need t p.memory) devices moment in
     let e = serial_effect k (serve k p.threads p.progress.request t p.memory g.input) in
-    let n = next-position k e p.progress in
-    let c = role.count in
-    served-sound s image now k (Record (serial_noted k t g log p)) t g p whole sound is (taken-sound t p.memory devices moment sound.bytes d)
-    (input-log s (position (with_effect k e p.progress)) g.input (noted e.commit t.commits false log) (record { size = role.size; count = omega (arith, n, c) }))
+    let taken_ = taken-sound t p.memory devices moment sound.bytes d in
+    let effect = serial-effect (length image.memory) k p.threads p.progress.request t p.memory g.input sound.size whole taken_.brings (sound.threads k t is).thread sound.request sound.few in
+    served-sound s image now k (Record (serial_noted k t g log p)) t g p whole sound is taken_
+    (input-log s (position (with_effect k e p.progress)) (with_threads k e p.threads) g.input (noted e.commit t.commits false log) (noted-sound s k t.commits false log t e p is effect.commits role))
 serial-in-sound s image now k moment (Replay b) t devices p whole role going sound is d =
     verdict-sound s image now k b t (serial_verdict b.log p.progress b.used k p.threads t p.memory) devices p role (going b refl) sound is
     (serial-goes (length image.memory) k b.log p.progress b.used p.threads t p.memory is (book-uses (position p.progress) p.threads b role) sound.size whole (sound.threads k t is).thread sound.request sound.few) d
@@ -534,11 +536,11 @@ live-dma-sound s image now role devices p None whole sound request role_sound d 
 live-dma-sound s image now role devices p (Some q) whole sound request role_sound d =
     dma-as-sound s image now role (dma_words q (dma_bytes devices q)) (dma_taken devices q) p sound (dma-sound (length image.memory) q (dma_bytes devices q) whole request (dma-few devices q)) role_sound (dma-devices devices q d)
 
-dma-log-sound : (s n m : ℕ) (log : LogParts) (devices : Devices) (p : Sphere) (o : Option Request) → m ≡ suc n → (o ≡ None → ⊥) → IsSoundLog s n log → IsSoundLog s m (dma_log log devices p o)
+dma-log-sound : (s n m : ℕ) (log : LogParts) (devices : Devices) (p : Sphere) (o : Option Request) → m ≡ suc n → (o ≡ None → ⊥) → IsSoundLog s n p.threads log → IsSoundLog s m p.threads (dma_log log devices p o)
 dma-log-sound s n m log devices p None e some h = absurd (some refl)
-dma-log-sound s n m log devices p (Some q) e some h = record { size = h.size; count = (let c = h.count in omega (arith, c, e)) }
+dma-log-sound s n m log devices p (Some q) e some h = record { size = h.size; count = (let c = h.count in omega (arith, c, e)); interrupts = h.interrupts }
 
-recorded-dma-sound : (s : ℕ) (image : SphereSetup) (now : ℕ) (log : LogParts) (devices : Devices) (p : Sphere) (o : Option Request) → length image.memory % 4 ≡ 0 → IsSoundSphere s image now p → IsSoundIf (length image.memory) o → IsSoundLog s (position p.progress) log
+recorded-dma-sound : (s : ℕ) (image : SphereSetup) (now : ℕ) (log : LogParts) (devices : Devices) (p : Sphere) (o : Option Request) → length image.memory % 4 ≡ 0 → IsSoundSphere s image now p → IsSoundIf (length image.memory) o → IsSoundLog s (position p.progress) p.threads log
     → HaveByteInput devices → IfMoved s image (suc now) (live_dma (Record (dma_log log devices p o)) devices p o)
 recorded-dma-sound s image now log devices p None whole sound request role d = tt
 recorded-dma-sound s image now log devices p (Some q) whole sound request role d =
@@ -598,15 +600,14 @@ dma-moved-sound s image now devices p v whole going sound d is = subst (IfMoved 
 
 -- ---- interrupts
 
-role-raised-sound : (s n k c value : ℕ) (threads us : List Parts) (role : Role) → replays role ≡ false → IsSoundRole s n threads role → IsSoundRole s n us (role_raised k c value role)
-role-raised-sound s n k c value threads us Plain live h = tt
-role-raised-sound s n k c value threads us (Record log) live h = record { size = h.size; count = h.count }
-role-raised-sound s n k c value threads us (Replay b) live h = absurd (true≢false live)
+role-raised-sound : (s n k value : ℕ) (t : Parts) (threads : List Parts) (role : Role) → replays role ≡ false → slice_get threads k ≡ Some t → IsSoundRole s n threads role → IsSoundRole s n (set threads k (interrupted value t)) (role_raised k t.commits value role)
+role-raised-sound s n k value t threads Plain live is h = tt
+role-raised-sound s n k value t threads (Record log) live is h = record { size = h.size; count = h.count; interrupts = fresh-raise threads k value t log.interrupts is h.interrupts }
+role-raised-sound s n k value t threads (Replay b) live is h = absurd (true≢false live)
 
 pub raised-sound : (s : ℕ) (image : SphereSetup) (now k value : ℕ) (t : Parts) (p : Sphere) → replays p.role ≡ false → slice_get p.threads k ≡ Some t → IsSoundSphere s image now p → IsSoundSphere s image (suc now) (raised k value t p)
 unfolding raised
 raised-sound s image now k value t p live is sound =
-    let us = set p.threads k (interrupted value t) in
     let l = length-set p.threads k (interrupted value t) in
     let th = sound.threads k t is in
     record {
@@ -617,5 +618,5 @@ raised-sound s image now k value t p live is sound =
       few = (let a = sound.few in omega (arith, l, a));
       threads = set-all (IsSoundThread (position p.progress)) p.threads k (interrupted value t) (record { thread = interrupted-thread value t th.thread; few = th.few }) sound.threads;
       commits = (let a = sound.commits in omega (arith, a));
-      role = role-raised-sound s (position p.progress) k t.commits value p.threads us p.role live sound.role;
+      role = role-raised-sound s (position p.progress) k value t p.threads p.role live is sound.role;
     }

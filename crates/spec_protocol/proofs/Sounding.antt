@@ -38,6 +38,7 @@ use Rattle.spec_protocol.proofs.SoundThreads.{started-thread}
 use Rattle.spec_protocol.proofs.SoundDevices.{bytes-all, start-bytes}
 use Rattle.spec_protocol.proofs.SoundChunks.{IsSoundIn, step-sound, cut-sound, squash-sound, fresh-sound}
 use Rattle.spec_protocol.proofs.SoundLimits.{limit-most}
+use Rattle.spec_protocol.proofs.SoundFresh.{fresh-none}
 use Rattle.spec_protocol.proofs.SoundMoves.{IsSoundMoved, as-role, turned-sound, chunk-sound, serial-sound, dma-moved-sound, raised-sound}
 
 -- ---- the properties
@@ -251,7 +252,7 @@ first-thread entry (suc k) t aligned e = absurd (none-some t e)
 
 first-role : (s : ℕ) (threads : List Parts) (r : RoleSetup) → IsRole r → IsSoundRole s 0 threads (role_of s threads r)
 first-role s threads IsPlain is = tt
-first-role s threads (IsRecorded mode) is = record { size = refl; count = refl }
+first-role s threads (IsRecorded mode) is = record { size = refl; count = refl; interrupts = fresh-none threads }
 first-role s threads (IsReplayed log) is = turned-sound log no_progress nothing_used threads is (omega arith) (omega arith) (omega arith) (omega arith)
 
 first-sphere : (s : ℕ) (image : SphereSetup) → IsImage image → IsSoundSphere s image 0 (sphere_of s image)

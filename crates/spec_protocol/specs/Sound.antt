@@ -11,6 +11,7 @@ use Rattle.spec_kernel.specs.Devices.{Devices}
 use Rattle.spec_kernel.specs.Interrupts.{is_live}
 use Rattle.spec_play.specs.Progress.{position}
 use Rattle.spec_play.specs.Turns.{Turn}
+use Rattle.spec_play.specs.Verdicts.{interrupt_at}
 use Rattle.spec_engine.specs.Signatures.{is_size}
 use Rattle.spec_engine.specs.Flights.{Flight, AreInside, at}
 use Rattle.spec_engine.specs.Chunks.{Chunk}
@@ -136,14 +137,22 @@ pub record IsSoundBook (commits : ℕ) (threads : List Parts) (b : Book) : Type 
   pub loads : length b.loads ≤ b.total
   pub turn : (k : ℕ) → b.now ≡ Turn k → HasThread b threads k
 
+-- no interrupt is logged of a thread after more commits than it has, nor after as many unless it is masked; and none of a
+-- thread that isn't there. So the next interrupt is of a new moment
+pub record AreFresh (threads : List Parts) (interrupts : List Interrupt) : Type 0 where
+  pub later : (k i : ℕ) (t : Parts) → slice_get threads k ≡ Some t → t.commits < i → interrupt_at interrupts k i ≡ None
+  pub unmasked : (k : ℕ) (t : Parts) → slice_get threads k ≡ Some t → t.mask ≡ false → interrupt_at interrupts k t.commits ≡ None
+  pub absent : (k i : ℕ) → slice_get threads k ≡ None → interrupt_at interrupts k i ≡ None
+
 -- a recording has as many commits as its sphere, and the plan's standard size
-pub record IsSoundLog (s commits : ℕ) (log : LogParts) : Type 0 where
+pub record IsSoundLog (s commits : ℕ) (threads : List Parts) (log : LogParts) : Type 0 where
   pub size : log.s ≡ s
   pub count : log.count ≡ commits
+  pub interrupts : AreFresh threads log.interrupts
 
 abbrev pub IsSoundRole : (s commits : ℕ) → List Parts → Role → Type 0
 IsSoundRole s commits threads Plain = Unit {0}
-IsSoundRole s commits threads (Record log) = IsSoundLog s commits log
+IsSoundRole s commits threads (Record log) = IsSoundLog s commits threads log
 IsSoundRole s commits threads (Replay b) = IsSoundBook commits threads b
 
 -- ---- a sphere
