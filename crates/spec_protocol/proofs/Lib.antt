@@ -56,3 +56,4 @@ pub mod Sounding
 pub mod Notable
 pub mod SeenAlike
 pub mod SoundFresh
+pub mod SoundOrder

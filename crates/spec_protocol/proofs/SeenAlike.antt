@@ -1,8 +1,10 @@
 -- Recordings and plays look at a log in the same way.
-use Rattle.std.proofs.Common.{◌≡◌, ℕ, ◌+◌, Bool, true, false, ◌&&◌, cond, List, [], ◌∷◌, Option, Some, None, refl, ap, ◌∙◌, arith}
-use Rattle.std.specs.Prelude.{slice_get, nat_lt, max}
+use Rattle.std.proofs.Common.{◌≡◌, ℕ, ◌+◌, Bool, true, false, ◌&&◌, cond, List, [], ◌∷◌, length, take, map, Option, Some, None, refl, sym, ap, ◌∙◌, arith}
+use Rattle.std.specs.Prelude.{slice_get, slice_index, nat_lt, nat_le, max, filter}
+use Rattle.std.specs.List.{list_all, range_with_len, zip}
 use Rattle.std.specs.Option.{option_or}
-use Rattle.std.proofs.lemmas.Bool.{le-ltb}
+use Rattle.std.proofs.lemmas.Bool.{le-ltb, le-leb}
+use Rattle.std.proofs.lemmas.List.{take_all}
 use Rattle.dl_entry.specs.declared.Actor.{Actor}
 use Rattle.dl_entry.specs.declared.Input.{Input}
 use Rattle.dl_entry.specs.declared.Why.{Why}
@@ -11,15 +13,18 @@ use Rattle.spec_log.specs.declared.ModeName.{ModeName}
 use Rattle.spec_log.specs.declared.Interrupt.{Interrupt}
 use Rattle.spec_log.specs.declared.DmaRecord.{DmaRecord}
 use Rattle.spec_log.specs.declared.ShortSize.{ShortSize}
+use Rattle.spec_log.specs.declared.Sizes.{Sizes}
+use Rattle.spec_log.specs.Log.{IsOrder, IsSizes}
 use Rattle.spec_log.specs.Head.{is_slot, head}
-use Rattle.spec_log.specs.Size.{size_in}
-use Rattle.spec_log.specs.Noting.{Kept, kept_size, limit_by, kept_head, log_of}
+use Rattle.spec_log.specs.Size.{is_thread, sizes_of_thread, size_in}
+use Rattle.spec_log.specs.Noting.{Kept, kept_size, limit_by, sizes_used, kept_head, log_of}
 use Rattle.spec_kernel.specs.Interrupts.{takes_interrupt, interrupted}
 use Rattle.spec_play.specs.Effects.{Effect, chunk_effect}
 use Rattle.spec_play.specs.Progress.{Used, with_interrupt}
-use Rattle.spec_play.specs.Turns.{is_size_used}
+use Rattle.spec_play.specs.Turns.{is_size_used, are_sizes_used}
 use Rattle.spec_play.specs.Verdicts.{Verdict, Goes, Fails, unless, interrupt_at, with_interrupted, ended, chunk_why, chunk_verdict}
-use Rattle.spec_protocol.specs.Judging.{why_of, interrupt_why, ChunksAreJudged, commits_of, ShortSizesAreUsed, LogsAreSeenAlike}
+use Rattle.spec_protocol.specs.Judging.{why_of, interrupt_why, ChunksAreJudged, AreCommits, ShortSizesAreUsed, SizesAreUsed, LogsAreSeenAlike}
+use Rattle.spec_protocol.specs.Sound.{commits_of, commits_among, IsDoneInOrder}
 
 -- ---- verdicts
 
@@ -72,6 +77,47 @@ shorts_used done threads order [] same = refl
 shorts_used done threads order (x ∷ xs) same =
     (λ i. (ap (nat_lt x.index) (same x.thread) ∙ used_by x (slice_get threads x.thread)) i && shorts_used done threads order xs same i)
 
+-- ---- all sizes
+
+one_length : (k z : ℕ) (a : Actor) (b : Bool) (rest : List (Actor × ℕ)) → length (map (λ (p : Actor × ℕ). p.1) (cond b ((a, z) ∷ rest) rest)) ≡ cond b 1 0 + length (map (λ (p : Actor × ℕ). p.1) rest)
+one_length k z a true rest = omega arith
+one_length k z a false rest = omega arith
+
+-- a thread has as many sizes as commits in the order
+sizes_length : (k : ℕ) (order : List Actor) (sizes : List ℕ) → length sizes ≡ length order → length (sizes_of_thread k order sizes) ≡ commits_among k order
+sizes_length k [] sizes e = refl
+sizes_length k (a ∷ order) [] e = absurd (omega arith)
+sizes_length k (a ∷ order) (z ∷ sizes) e =
+    let one_ = one_length k z a (is_thread k a) (filter (λ (p : Actor × ℕ). is_thread k p.0) (zip order sizes)) in
+    let rest = sizes_length k order sizes (omega arith) in
+    omega (arith, one_, rest)
+
+all_true : (p : ℕ → Bool) (xs : List ℕ) → ((x : ℕ) → p x ≡ true) → list_all p xs ≡ true
+all_true p [] each = refl
+all_true p (x ∷ xs) each = (λ i. each x i && all_true p xs each i)
+
+each_used : (order : List Actor) (sizes done : List ℕ) (threads : List Parts) (count : ℕ) → length order ≡ count → length sizes ≡ count → ((k : ℕ) → commits_of (slice_get threads k) ≡ commits_among k (take count order)) → AreCommits done threads
+    → sizes_used order (Sizes.Each sizes) done ≡ true
+each_used order sizes done threads count long each ordered same =
+    all_true (λ k. nat_le (length (sizes_of_thread k order sizes)) (slice_index done k)) (range_with_len 0 15)
+    (λ k.
+    let all : take count order ≡ order = take_all count order (omega (arith, long)) in
+    let n = sizes_length k order sizes (each ∙ sym long) in
+    let m = same k ∙ ordered k ∙ ap (commits_among k) all in
+    le-leb (length (sizes_of_thread k order sizes)) (slice_index done k) (omega (arith, n, m)))
+
+by_mode : (mode : ModeName) (s count : ℕ) (order : List Actor) (sizes : Sizes) (done : List ℕ) (threads : List Parts) → IsOrder mode count order → IsSizes mode s count sizes → IsDoneInOrder mode order count threads → AreCommits done threads
+    → sizes_used order sizes done ≡ are_sizes_used threads sizes
+by_mode ModeName.OrderSize s count order (Sizes.Each sizes) done threads is each ordered same = each_used order sizes done threads count is.0 each.0 ordered same
+by_mode ModeName.OrderSize s count order (Sizes.Short sizes) done threads is each ordered same = absurd each
+by_mode ModeName.OrderOnly s count order (Sizes.Each sizes) done threads is each ordered same = absurd each
+by_mode ModeName.OrderOnly s count order (Sizes.Short sizes) done threads is each ordered same = shorts_used done threads order sizes same
+by_mode ModeName.Picolog s count order (Sizes.Each sizes) done threads is each ordered same = absurd each
+by_mode ModeName.Picolog s count order (Sizes.Short sizes) done threads is each ordered same = shorts_used done threads order sizes same
+
+sizes_alike : SizesAreUsed
+sizes_alike log done threads is ordered same = by_mode log.mode log.s log.count log.order log.sizes done threads is.order is.sizes ordered same
+
 pub seen_alike : LogsAreSeenAlike
 seen_alike =
     record {
@@ -82,4 +128,5 @@ seen_alike =
         limit = λ log k i. limit_same log.s (size_in log (Actor.Thread k) i);
       };
       shorts = shorts_used;
+      sizes = sizes_alike;
     }

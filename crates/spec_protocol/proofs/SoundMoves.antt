@@ -32,11 +32,11 @@ use Rattle.spec_play.specs.Plays.{with_threads}
 use Rattle.spec_play.specs.Recording.{noted, input_noted}
 use Rattle.spec_play.specs.Verdicts.{Verdict, Goes, Fails, unless, interrupt_at, with_interrupted, ended, chunk_why, chunk_verdict, Given, given, serial_why, served_verdict, serial_verdict}
 use Rattle.spec_play.specs.Transfers.{DmaVerdict, DmaGoes, DmaFails, is_for, transferred, dma_unless, dma_verdict}
-use Rattle.spec_protocol.specs.Spheres.{Book, Role, Plain, Record, Replay, Sphere, is_over, whole_limit}
+use Rattle.spec_protocol.specs.Spheres.{Book, Role, Plain, Record, Replay, Sphere, is_over, actor_of, whole_limit}
 use Rattle.spec_protocol.specs.Commits.{Moved, granted_as, diverged, turned, by_verdict, joined, piece_moved, replayed_chunk, chunk_in, chunk_moved, served_as, serial_noted, serial_in, serial_moved, dma_as, live_dma, dma_log, dma_by_verdict, dma_in, dma_moved, role_raised, raised}
 use Rattle.spec_protocol.specs.Placing.{replays}
 use Rattle.spec_protocol.specs.Machine.{SphereSetup}
-use Rattle.spec_protocol.specs.Sound.{due, AreSoundWords, IsSoundIf, HasThread, IsSoundBook, IsSoundLog, IsSoundRole, IsSoundThread, IsSoundSphere, HaveByteInput}
+use Rattle.spec_protocol.specs.Sound.{IsDoneInOrder, due, AreSoundWords, IsSoundIf, HasThread, IsSoundBook, IsSoundLog, IsSoundRole, IsSoundThread, IsSoundSphere, HaveByteInput}
 use Rattle.spec_protocol.proofs.Keeping.{AreNew, serve-keeps}
 use Rattle.spec_protocol.proofs.Growing.{get_cases, pushed_length}
 use Rattle.spec_protocol.proofs.Moving.{get-set_same, get-append}
@@ -47,6 +47,7 @@ use Rattle.spec_protocol.proofs.SoundThreads.{AreThreads, Brings, BringsIf, inte
 use Rattle.spec_protocol.proofs.SoundDevices.{IsSoundTaken, taken-sound, told-devices, dma-few, dma-devices}
 use Rattle.spec_protocol.proofs.SoundLimits.{whole-positive}
 use Rattle.spec_protocol.proofs.SoundFresh.{at-set_parts, fresh-commit, fresh-raise}
+use Rattle.spec_protocol.proofs.SoundOrder.{done-commit, done-dma, done-piece, now-named}
 use Rattle.spec_protocol.proofs.SoundUses.{GoOn, commit-goes_on, due-more, taken-due}
 
 -- ---- rows of threads
@@ -259,12 +260,14 @@ now-going log p u threads e =
     (λ l _. ltb-true (position p) log.count l)
     (λ _ h. absurd (true≢false (sym (end-over (position p) (has_left_over log u threads)) ∙ h))) e
 
-pub turned-sound : (log : LogParts) (p : Progress) (u : Used) (threads : List Parts) → IsLog log → position p ≤ log.count → u.inputs ≤ length log.inputs → u.dmas ≤ length log.dmas → u.interrupts ≤ due threads log.interrupts → IsSoundBook (position p) threads (turned log p u threads)
-turned-sound log p u threads is within inputs dmas interrupts =
+pub turned-sound : (log : LogParts) (p : Progress) (u : Used) (threads : List Parts) → IsLog log → position p ≤ log.count → IsDoneInOrder log.mode log.order (position p) threads → u.inputs ≤ length log.inputs → u.dmas ≤ length log.dmas → u.interrupts ≤ due threads log.interrupts → IsSoundBook (position p) threads (turned log p u threads)
+turned-sound log p u threads is within done inputs dmas interrupts =
     record {
       log = is;
       within = within;
       going = now-going log p u threads;
+      done = done;
+      named = now-named log p u threads;
       inputs = inputs;
       dmas = dmas;
       interrupts = interrupts;
@@ -280,6 +283,8 @@ over-sound commits threads b how s =
       log = s.log;
       within = s.within;
       going = λ e. absurd (true≢false e);
+      done = s.done;
+      named = λ actor e. absurd (none-some actor e);
       inputs = s.inputs;
       dmas = s.dmas;
       interrupts = s.interrupts;
@@ -309,14 +314,17 @@ diverged-sound s image now b why devices p book sound d =
       devices = d;
     }
 
-verdict-sound : (s : ℕ) (image : SphereSetup) (now k : ℕ) (b : Book) (t : Parts) (x : Verdict) (devices : Devices) (p : Sphere) → IsSoundBook (position p.progress) p.threads b → is_over b.now ≡ false → IsSoundSphere s image now p → slice_get p.threads k ≡ Some t
+verdict-sound : (s : ℕ) (image : SphereSetup) (now k : ℕ) (b : Book) (t : Parts) (x : Verdict) (devices : Devices) (p : Sphere) → IsSoundBook (position p.progress) p.threads b → b.now ≡ Turn k → IsSoundSphere s image now p → slice_get p.threads k ≡ Some t
     → IfGoes (SoundlyIn (length image.memory) b.log k p.threads t) x → HaveByteInput devices → IsSoundMoved s image (suc now) (by_verdict b k x devices p)
-verdict-sound s image now k b t (Fails why) devices p book going sound is goes d = diverged-sound s image now b why devices p book sound d
-verdict-sound s image now k b t (Goes e u) devices p book going sound is goes d =
+verdict-sound s image now k b t (Fails why) devices p book turn sound is goes d = diverged-sound s image now b why devices p book sound d
+verdict-sound s image now k b t (Goes e u) devices p book turn sound is goes d =
     let n = next-position k e p.progress in
-    let l = book.going going in
-    granted-sound s image now k _ t e devices p sound is goes.0
-    (turned-sound b.log (with_effect k e p.progress) u (with_threads k e p.threads) book.log (omega (arith, n, l)) goes.1.inputs goes.1.dmas goes.1.interrupts) d
+    let l = book.going (ap is_over turn) in
+    let effect = goes.0 in
+    let done = done-commit b.log.mode b.log.order (position p.progress) k p.threads e.made t e.thread is effect.commits effect.fresh (book.named (Actor.Thread k) (ap actor_of turn)) book.done in
+    granted-sound s image now k _ t e devices p sound is effect
+    (turned-sound b.log (with_effect k e p.progress) u (with_threads k e p.threads) book.log (omega (arith, n, l))
+    (subst (λ (m : ℕ). IsDoneInOrder b.log.mode b.log.order m (with_threads k e p.threads)) (sym n) done) goes.1.inputs goes.1.dmas goes.1.interrupts) d
 
 -- ---- chunks
 
@@ -361,6 +369,8 @@ piece-sound s image now k b t r devices p book turn live sound is run room d =
           log = book.log;
           within = book.within;
           going = book.going;
+          done = subst (IsDoneInOrder b.log.mode b.log.order n) (append-nil us) (done-piece b.log.mode b.log.order n k p.threads t r.thread is c book.done);
+          named = book.named;
           inputs = book.inputs;
           dmas = book.dmas;
           interrupts = (let l = due-more b.log.interrupts p.threads us goes in let a = book.interrupts in omega (arith, a, l));
@@ -376,7 +386,6 @@ piece-sound s image now k b t r devices p book turn live sound is run room d =
 -- where it is a piece, its commit has room for it and an instruction more
 pub record FitsRole (k : ℕ) (t : Parts) (piece : Bool) (r : Run) (role : Role) : Type 0 where
   pub live : is_live t ≡ true
-  pub going : (b : Book) → role ≡ Replay b → is_over b.now ≡ false
   pub turn : (b : Book) → role ≡ Replay b → b.now ≡ Turn k
   pub room : (b : Book) → role ≡ Replay b → piece ≡ true → b.total + r.n < whole_limit b.log k t.commits
 
@@ -385,7 +394,7 @@ replayed-sound : (s : ℕ) (image : SphereSetup) (now k : ℕ) (b : Book) (t : P
 replayed-sound s image now k b t true r devices p book fits sound is run d =
     piece-sound s image now k b t r devices p book (fits.turn b refl) fits.live sound is run (fits.room b refl refl) d
 replayed-sound s image now k b t false r devices p book fits sound is run d =
-    verdict-sound s image now k b t (chunk_verdict b.log p.progress b.used k (joined b r)) devices p book (fits.going b refl) sound is
+    verdict-sound s image now k b t (chunk_verdict b.log p.progress b.used k (joined b r)) devices p book (fits.turn b refl) sound is
     (chunk-goes (length image.memory) k b.log p.progress b.used p.threads t (joined b r) is run.thread run.commits run.words sound.request sound.few (book-uses (position p.progress) p.threads b book)) d
 
 chunk-in-sound : (s : ℕ) (image : SphereSetup) (now k : ℕ) (role : Role) (t : Parts) (piece short : Bool) (r : Run) (devices : Devices) (p : Sphere) → IsSoundRole s (position p.progress) p.threads role → FitsRole k t piece r role → IsSoundSphere s image now p
@@ -482,7 +491,7 @@ served-sound s image now k role t g p whole sound is taken_ role_sound =
     (serial-effect (length image.memory) k p.threads p.progress.request t p.memory g.input sound.size whole taken_.brings (sound.threads k t is).thread sound.request sound.few)
     role_sound (told-devices t p.memory v.outputs g.devices taken_.devices)
 
-serial-in-sound : (s : ℕ) (image : SphereSetup) (now k moment : ℕ) (role : Role) (t : Parts) (devices : Devices) (p : Sphere) → length image.memory % 4 ≡ 0 → IsSoundRole s (position p.progress) p.threads role → ((b : Book) → role ≡ Replay b → is_over b.now ≡ false)
+serial-in-sound : (s : ℕ) (image : SphereSetup) (now k moment : ℕ) (role : Role) (t : Parts) (devices : Devices) (p : Sphere) → length image.memory % 4 ≡ 0 → IsSoundRole s (position p.progress) p.threads role → ((b : Book) → role ≡ Replay b → b.now ≡ Turn k)
     → IsSoundSphere s image now p → slice_get p.threads k ≡ Some t → HaveByteInput devices → IsSoundMoved s image (suc now) (serial_in role k moment t devices p)
 serial-in-sound s image now k moment Plain t devices p whole role going sound is d =
     served-sound s image now k Plain t (taken (need t p.memory) devices moment) p whole sound is (taken-sound t p.memory devices moment sound.bytes d) tt
@@ -497,7 +506,7 @@ serial-in-sound s image now k moment (Replay b) t devices p whole role going sou
     verdict-sound s image now k b t (serial_verdict b.log p.progress b.used k p.threads t p.memory) devices p role (going b refl) sound is
     (serial-goes (length image.memory) k b.log p.progress b.used p.threads t p.memory is (book-uses (position p.progress) p.threads b role) sound.size whole (sound.threads k t is).thread sound.request sound.few) d
 
-pub serial-sound : (s : ℕ) (image : SphereSetup) (now k moment : ℕ) (t : Parts) (devices : Devices) (p : Sphere) → length image.memory % 4 ≡ 0 → ((b : Book) → p.role ≡ Replay b → is_over b.now ≡ false)
+pub serial-sound : (s : ℕ) (image : SphereSetup) (now k moment : ℕ) (t : Parts) (devices : Devices) (p : Sphere) → length image.memory % 4 ≡ 0 → ((b : Book) → p.role ≡ Replay b → b.now ≡ Turn k)
     → IsSoundSphere s image now p → slice_get p.threads k ≡ Some t → HaveByteInput devices → IsSoundMoved s image (suc now) (serial_moved k moment t devices p)
 unfolding serial_moved
 serial-sound s image now k moment t devices p whole going sound is d = serial-in-sound s image now k moment p.role t devices p whole sound.role going sound is d
@@ -577,23 +586,25 @@ dma-goes size log p u whole request =
     dma-unless-goes size log u (serial_why (size_in log Actor.Dma (position p))) (transferred (position p) p.request (slice_get log.dmas u.dmas))
     (transferred-goes size log u (position p) p.request (slice_get log.dmas u.dmas) whole request refl)
 
-dma-verdict-sound : (s : ℕ) (image : SphereSetup) (now : ℕ) (b : Book) (x : DmaVerdict) (devices : Devices) (p : Sphere) → IsSoundBook (position p.progress) p.threads b → is_over b.now ≡ false → IsSoundSphere s image now p → IfDmaGoes (length image.memory) b.log b.used x
+dma-verdict-sound : (s : ℕ) (image : SphereSetup) (now : ℕ) (b : Book) (x : DmaVerdict) (devices : Devices) (p : Sphere) → IsSoundBook (position p.progress) p.threads b → b.now ≡ TurnOfDma → IsSoundSphere s image now p → IfDmaGoes (length image.memory) b.log b.used x
     → HaveByteInput devices → IsSoundMoved s image (suc now) (dma_by_verdict b x devices p)
-dma-verdict-sound s image now b (DmaFails why) devices p book going sound goes d = diverged-sound s image now b why devices p book sound d
-dma-verdict-sound s image now b (DmaGoes words) devices p book going sound goes d =
+dma-verdict-sound s image now b (DmaFails why) devices p book turn sound goes d = diverged-sound s image now b why devices p book sound d
+dma-verdict-sound s image now b (DmaGoes words) devices p book turn sound goes d =
     let n = dma-position p.progress in
-    let l = book.going going in
+    let l = book.going (ap is_over turn) in
+    let done = done-dma b.log.mode b.log.order (position p.progress) p.threads (book.named Actor.Dma (ap actor_of turn)) book.done in
     dma-as-sound s image now _ words devices p sound goes.words_sound
-    (turned-sound b.log (with_dma p.progress) (with_dma_used b.used) p.threads book.log (omega (arith, n, l)) book.inputs goes.among book.interrupts) d
+    (turned-sound b.log (with_dma p.progress) (with_dma_used b.used) p.threads book.log (omega (arith, n, l))
+    (subst (λ (m : ℕ). IsDoneInOrder b.log.mode b.log.order m p.threads) (sym n) done) book.inputs goes.among book.interrupts) d
 
-dma-in-sound : (s : ℕ) (image : SphereSetup) (now : ℕ) (role : Role) (devices : Devices) (p : Sphere) → length image.memory % 4 ≡ 0 → IsSoundRole s (position p.progress) p.threads role → ((b : Book) → role ≡ Replay b → is_over b.now ≡ false) → IsSoundSphere s image now p
+dma-in-sound : (s : ℕ) (image : SphereSetup) (now : ℕ) (role : Role) (devices : Devices) (p : Sphere) → length image.memory % 4 ≡ 0 → IsSoundRole s (position p.progress) p.threads role → ((b : Book) → role ≡ Replay b → b.now ≡ TurnOfDma) → IsSoundSphere s image now p
     → HaveByteInput devices → IfMoved s image (suc now) (dma_in role devices p)
 dma-in-sound s image now Plain devices p whole role going sound d = live-dma-sound s image now Plain devices p p.progress.request whole sound sound.request tt d
 dma-in-sound s image now (Record log) devices p whole role going sound d = recorded-dma-sound s image now log devices p p.progress.request whole sound sound.request role d
 dma-in-sound s image now (Replay b) devices p whole role going sound d =
     dma-verdict-sound s image now b (dma_verdict b.log p.progress b.used) devices p role (going b refl) sound (dma-goes (length image.memory) b.log p.progress b.used whole sound.request) d
 
-pub dma-moved-sound : (s : ℕ) (image : SphereSetup) (now : ℕ) (devices : Devices) (p : Sphere) (v : Moved) → length image.memory % 4 ≡ 0 → ((b : Book) → p.role ≡ Replay b → is_over b.now ≡ false) → IsSoundSphere s image now p
+pub dma-moved-sound : (s : ℕ) (image : SphereSetup) (now : ℕ) (devices : Devices) (p : Sphere) (v : Moved) → length image.memory % 4 ≡ 0 → ((b : Book) → p.role ≡ Replay b → b.now ≡ TurnOfDma) → IsSoundSphere s image now p
     → HaveByteInput devices → dma_moved devices p ≡ Some v → IsSoundMoved s image (suc now) v
 unfolding dma_moved
 dma-moved-sound s image now devices p v whole going sound d is = subst (IfMoved s image (suc now)) is (dma-in-sound s image now p.role devices p whole sound.role going sound d)

@@ -14,7 +14,7 @@ use Rattle.spec_isa.specs.Words.{Stored, lay}
 use Rattle.spec_isa.specs.Threads.{started}
 use Rattle.spec_isa.proofs.MemoryLaws.{length_lay}
 use Rattle.spec_play.specs.Progress.{position, no_progress, nothing_used}
-use Rattle.spec_play.specs.Turns.{Now, Turn}
+use Rattle.spec_play.specs.Turns.{Now, Turn, TurnOfDma}
 use Rattle.spec_engine.specs.declared.answers.How.{How}
 use Rattle.spec_engine.specs.Flights.{Flight, at}
 use Rattle.spec_engine.specs.Chunks.{Chunk, step, cut}
@@ -24,12 +24,14 @@ use Rattle.spec_protocol.specs.Commits.{Moved, is_piece, chunk_moved, serial_mov
 use Rattle.spec_protocol.specs.Asking.{is_short, other_turn}
 use Rattle.spec_protocol.specs.World.{Numbers, Held, World, After, moment, sphere_at}
 use Rattle.spec_protocol.specs.Placing.{replays}
+use Rattle.spec_protocol.specs.Transferring.{turn_before_dma}
 use Rattle.spec_protocol.specs.Machine.{RoleSetup, IsPlain, IsRecorded, IsReplayed, SphereSetup, Setup, role_of, sphere_of, world_of, act, name_of, kept, happens, world_after}
 use Rattle.spec_protocol.specs.Invariants.{IsGood}
 use Rattle.spec_protocol.specs.Promises.{IsSetup, AreSizesKept}
 use Rattle.spec_protocol.specs.Sound.{IsRole, IsImage, IsWithinLimits, AreSoundWords, no_image, image_at, size_of, IsSoundBook, IsSoundRole, IsSoundThread, IsSoundSphere, IsSoundChunk, HaveByteInput, IsSound, WorldsAreSound, EventsKeepSound}
 use Rattle.spec_protocol.proofs.Invariant.{SameSizes}
 use Rattle.spec_protocol.proofs.Moving.{turn-is}
+use Rattle.spec_protocol.proofs.Transfers.{dma-turn_is}
 use Rattle.spec_protocol.proofs.OnCounts.{act-untold}
 use Rattle.spec_protocol.proofs.Schedules.{happens-kept, free_slots, first_held, start-good, sizes_kept}
 use Rattle.spec_protocol.proofs.Changing.{Properties, Holds, Lands, Asks, Keeps, afresh-property, act-holds}
@@ -39,6 +41,7 @@ use Rattle.spec_protocol.proofs.SoundDevices.{bytes-all, start-bytes}
 use Rattle.spec_protocol.proofs.SoundChunks.{IsSoundIn, step-sound, cut-sound, squash-sound, fresh-sound}
 use Rattle.spec_protocol.proofs.SoundLimits.{limit-most}
 use Rattle.spec_protocol.proofs.SoundFresh.{fresh-none}
+use Rattle.spec_protocol.proofs.SoundOrder.{done-none}
 use Rattle.spec_protocol.proofs.SoundMoves.{IsSoundMoved, as-role, turned-sound, chunk-sound, serial-sound, dma-moved-sound, raised-sound}
 
 -- ---- the properties
@@ -95,6 +98,9 @@ unfolding head_of
 has-turn p k going turn b e =
     turn-is b.now k (going-on p going b e) (ap (λ (r : Role). other_turn (head_in r p) k) (sym e) ∙ turn)
 
+dma-has-turn : (p : Sphere) → is_stopped p.role ≡ false → turn_before_dma p.role ≡ None → (b : Book) → p.role ≡ Replay b → b.now ≡ TurnOfDma
+dma-has-turn p going turn b e = dma-turn_is b.now (going-on p going b e) (ap turn_before_dma (sym e) ∙ turn)
+
 -- before its limit a chunk is a piece that leaves room for an instruction
 piece-how : (how : How) → is_piece how ≡ true → how ≢ How.Limit
 piece-how How.Limit e h = true≢false (sym e)
@@ -147,7 +153,7 @@ sound-chunk s w c h how asks k =
     let sphere = k.spheres i held.sphere in
     landed s (suc (moment w)) i _
     (chunk-sound s.numbers.chunk (image_at s i) (moment w) h.thread h.chunk.start (is_piece how) (is_short w.numbers.chunk how h.chunk.limit) h.chunk.done w.devices p
-    (record { live = held.lives; going = going-on p asks.going; turn = has-turn p h.thread asks.going asks.turn; room = piece-room s w c h how asks sphere })
+    (record { live = held.lives; turn = has-turn p h.thread asks.going asks.turn; room = piece-room s w c h how asks sphere })
     sphere held.start
     (record { thread = ch.thread; commits = ch.commits; status = ch.status; words = ch.words; loads = held.chunk.closes.few_loads })
     k.devices)
@@ -159,7 +165,7 @@ sound-serial s w c h how limits asks k =
     let p = sphere_at w i in
     let held = asks.good.held c h asks.is in
     landed s (suc (moment w)) i _
-    (serial-sound s.numbers.chunk (image_at s i) (moment w) h.thread (moment w) h.chunk.start w.devices p (whole s i limits) (going-on p asks.going) (k.spheres i held.sphere) held.start k.devices)
+    (serial-sound s.numbers.chunk (image_at s i) (moment w) h.thread (moment w) h.chunk.start w.devices p (whole s i limits) (has-turn p h.thread asks.going asks.turn) (k.spheres i held.sphere) held.start k.devices)
 
 -- ---- every change
 
@@ -185,7 +191,7 @@ sound-keeps s limits =
       serial = λ w c h how asks k. sound-serial s w c h how limits asks k;
       dma = λ w i v t k.
           landed s (suc (moment w)) i v
-          (dma-moved-sound s.numbers.chunk (image_at s i) (moment w) w.devices (sphere_at w i) v (whole s i limits) (going-on (sphere_at w i) t.going) (k.spheres i t.within) k.devices t.is);
+          (dma-moved-sound s.numbers.chunk (image_at s i) (moment w) w.devices (sphere_at w i) v (whole s i limits) (dma-has-turn (sphere_at w i) t.going t.turn) (k.spheres i t.within) k.devices t.is);
       raised = λ now i k value t p r sphere. raised-sound s.numbers.chunk (image_at s i) now k value t p r.role r.is sphere;
     }
 
@@ -250,10 +256,11 @@ first-thread entry zero t aligned e =
     subst (IsSoundThread 0) (let q : started entry ≡ t = cc in q) (record { thread = started-thread entry aligned; few = omega arith })
 first-thread entry (suc k) t aligned e = absurd (none-some t e)
 
-first-role : (s : ℕ) (threads : List Parts) (r : RoleSetup) → IsRole r → IsSoundRole s 0 threads (role_of s threads r)
-first-role s threads IsPlain is = tt
-first-role s threads (IsRecorded mode) is = record { size = refl; count = refl; interrupts = fresh-none threads }
-first-role s threads (IsReplayed log) is = turned-sound log no_progress nothing_used threads is (omega arith) (omega arith) (omega arith) (omega arith)
+first-role : (s entry : ℕ) (r : RoleSetup) → IsRole r → let threads = started entry ∷ [] in IsSoundRole s 0 threads (role_of s threads r)
+first-role s entry IsPlain is = tt
+first-role s entry (IsRecorded mode) is = record { size = refl; count = refl; interrupts = fresh-none (started entry ∷ []) }
+first-role s entry (IsReplayed log) is =
+    turned-sound log no_progress nothing_used (started entry ∷ []) is (omega arith) (done-none log.mode log.order (started entry) refl) (omega arith) (omega arith) (omega arith)
 
 first-sphere : (s : ℕ) (image : SphereSetup) → IsImage image → IsSoundSphere s image 0 (sphere_of s image)
 first-sphere s image is =
@@ -265,7 +272,7 @@ first-sphere s image is =
       few = omega arith;
       threads = λ k t e. first-thread image.entry k t is.aligned e;
       commits = omega arith;
-      role = first-role s (started image.entry ∷ []) image.role is.role;
+      role = first-role s image.entry image.role is.role;
     }
 
 first-spheres : (s : ℕ) (ds : List SphereSetup) (i : ℕ) → ((d : SphereSetup) → slice_get ds i ≡ Some d → IsImage d) → i < length ds → IsSoundSphere s (get_or ds i no_image) 0 (get_or (map (sphere_of s) ds) i no_sphere)

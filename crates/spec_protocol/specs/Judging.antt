@@ -12,6 +12,7 @@ use Rattle.spec_log.specs.declared.DmaRecord.{DmaRecord}
 use Rattle.spec_log.specs.declared.ShortSize.{ShortSize}
 use Rattle.spec_log.specs.declared.Sizes.{Sizes}
 use Rattle.spec_log.specs.declared.LogParts.{LogParts}
+use Rattle.spec_log.specs.Log.{IsLog}
 use Rattle.spec_log.specs.Head.{is_slot, head}
 use Rattle.spec_log.specs.Size.{size_in}
 use Rattle.spec_log.specs.Noting.{Kept, kept_size, limit_by, sizes_used, kept_head, log_of}
@@ -20,6 +21,7 @@ use Rattle.spec_play.specs.Progress.{Progress, Used}
 use Rattle.spec_play.specs.Turns.{are_sizes_used}
 use Rattle.spec_play.specs.Verdicts.{Verdict, Goes, Fails, interrupt_at, chunk_why, chunk_verdict}
 use Rattle.spec_protocol.specs.Spheres.{whole_limit}
+use Rattle.spec_protocol.specs.Sound.{commits_of, IsDoneInOrder}
 
 -- ---- a chunk's verdict
 
@@ -54,11 +56,6 @@ pub record KeptIsLogged : Type 0 where
 
 -- ---- sizes that are used
 
--- the number of a thread's commits, none where there is no thread
-abbrev pub commits_of : Option Parts → ℕ
-commits_of None = 0
-commits_of (Some t) = t.commits
-
 -- these are the numbers of the threads' commits
 abbrev pub AreCommits : (done : List ℕ) → (threads : List Parts) → Type 0
 AreCommits done threads = (k : ℕ) → slice_index done k ≡ commits_of (slice_get threads k)
@@ -67,7 +64,12 @@ AreCommits done threads = (k : ℕ) → slice_index done k ≡ commits_of (slice
 abbrev pub ShortSizesAreUsed : Type 0
 ShortSizesAreUsed = (done : List ℕ) (threads : List Parts) (order : List Actor) (sizes : List ShortSize) → AreCommits done threads → sizes_used order (Sizes.Short sizes) done ≡ are_sizes_used threads (Sizes.Short sizes)
 
+-- so are all sizes at the end of a play, where each thread has done its commits
+abbrev pub SizesAreUsed : Type 0
+SizesAreUsed = (log : LogParts) (done : List ℕ) (threads : List Parts) → IsLog log → IsDoneInOrder log.mode log.order log.count threads → AreCommits done threads → sizes_used log.order log.sizes done ≡ are_sizes_used threads log.sizes
+
 pub record LogsAreSeenAlike : Type 0 where
   pub chunks : ChunksAreJudged
   pub kept : KeptIsLogged
   pub shorts : ShortSizesAreUsed
+  pub sizes : SizesAreUsed

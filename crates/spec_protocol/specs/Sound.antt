@@ -1,12 +1,15 @@
 -- What is sound: sizes and ranges that hold of every world which a setup within its limits comes to, beside the invariant.
-use Rattle.std.specs.Prelude.{◌≡◌, ℕ, ◌+◌, ◌%◌, ◌^◌, ◌<◌, ◌≤◌, Bool, true, false, nat_le, if◌then◌else◌, List, [], ◌∷◌, length, slice_get, slice_index, slice_index_or, All, Option, Some, None}
+use Rattle.std.specs.Prelude.{◌≡◌, ℕ, ◌+◌, ◌%◌, ◌^◌, ◌<◌, ◌≤◌, Bool, true, false, nat_le, if◌then◌else◌, List, [], ◌∷◌, length, take, slice_get, slice_index, slice_index_or, All, Option, Some, None}
+use Rattle.dl_entry.specs.declared.Actor.{Actor}
 use Rattle.dl_entry.specs.declared.Request.{Request}
 use Rattle.spec_isa.specs.declared.thread.Parts.{Parts}
 use Rattle.spec_isa.specs.Words.{Stored, IsBytes}
 use Rattle.spec_isa.specs.Threads.{IsThread}
+use Rattle.spec_log.specs.declared.ModeName.{ModeName}
 use Rattle.spec_log.specs.declared.Interrupt.{Interrupt}
 use Rattle.spec_log.specs.declared.LogParts.{LogParts}
 use Rattle.spec_log.specs.Log.{IsChunkSize, IsLog}
+use Rattle.spec_log.specs.Size.{is_thread}
 use Rattle.spec_kernel.specs.Devices.{Devices}
 use Rattle.spec_kernel.specs.Interrupts.{is_live}
 use Rattle.spec_play.specs.Progress.{position}
@@ -16,7 +19,7 @@ use Rattle.spec_engine.specs.Signatures.{is_size}
 use Rattle.spec_engine.specs.Flights.{Flight, AreInside, at}
 use Rattle.spec_engine.specs.Chunks.{Chunk}
 use Rattle.spec_protocol.specs.declared.event.Event.{Event}
-use Rattle.spec_protocol.specs.Spheres.{Book, Role, Plain, Record, Replay, Sphere, is_over, whole_limit}
+use Rattle.spec_protocol.specs.Spheres.{Book, Role, Plain, Record, Replay, Sphere, is_over, actor_of, whole_limit}
 use Rattle.spec_protocol.specs.World.{Held, World, moment, sphere_at}
 use Rattle.spec_protocol.specs.Machine.{RoleSetup, IsPlain, IsRecorded, IsReplayed, SphereSetup, Setup, happens}
 use Rattle.spec_protocol.specs.Promises.{AreSizesKept, after}
@@ -118,6 +121,28 @@ abbrev pub due : List Parts → List Interrupt → ℕ
 due threads [] = 0
 due threads (i ∷ is) = (if is_due i (slice_get threads i.thread) then 1 else 0) + due threads is
 
+-- the number of a thread's commits, none where there is no thread
+abbrev pub commits_of : Option Parts → ℕ
+commits_of None = 0
+commits_of (Some t) = t.commits
+
+-- how many of these commits are the thread's
+abbrev pub commits_among : (thread : ℕ) → List Actor → ℕ
+commits_among k [] = 0
+commits_among k (actor ∷ actors) = (if is_thread k actor then 1 else 0) + commits_among k actors
+
+-- each thread has done its commits among the first ones of the order, where there is an order
+abbrev pub IsDoneInOrder : ModeName → (order : List Actor) → (commits : ℕ) → List Parts → Type 0
+IsDoneInOrder ModeName.OrderSize order n threads = (k : ℕ) → commits_of (slice_get threads k) ≡ commits_among k (take n order)
+IsDoneInOrder ModeName.OrderOnly order n threads = (k : ℕ) → commits_of (slice_get threads k) ≡ commits_among k (take n order)
+IsDoneInOrder ModeName.Picolog order n threads = Unit {0}
+
+-- the order names the actor after so many commits
+abbrev pub IsNamed : ModeName → (order : List Actor) → (commits : ℕ) → Actor → Type 0
+IsNamed ModeName.OrderSize order n actor = slice_get order n ≡ Some actor
+IsNamed ModeName.OrderOnly order n actor = slice_get order n ≡ Some actor
+IsNamed ModeName.Picolog order n actor = Unit {0}
+
 -- the thread whose turn it is is there and lives, and its commit has room for an instruction more than its pieces have
 pub record HasThread (b : Book) (threads : List Parts) (k : ℕ) : Type 0 where
   pub thread : Parts
@@ -125,12 +150,14 @@ pub record HasThread (b : Book) (threads : List Parts) (k : ℕ) : Type 0 where
   pub live : is_live thread ≡ true
   pub room : b.total < whole_limit b.log k thread.commits
 
--- a replay after so many commits: it has no more than its log, and before its end fewer; no more of the log is used than
--- there is, and no interrupt before it is due; and pieces load no more often than they run instructions
+-- a replay after so many commits: it has no more than its log, and before its end fewer, in the log's order; no more of the
+-- log is used than there is, and no interrupt before it is due; and pieces load no more often than they run instructions
 pub record IsSoundBook (commits : ℕ) (threads : List Parts) (b : Book) : Type 0 where
   pub log : IsLog b.log
   pub within : commits ≤ b.log.count
   pub going : is_over b.now ≡ false → commits < b.log.count
+  pub done : IsDoneInOrder b.log.mode b.log.order commits threads
+  pub named : (actor : Actor) → actor_of b.now ≡ Some actor → IsNamed b.log.mode b.log.order commits actor
   pub inputs : b.used.inputs ≤ length b.log.inputs
   pub dmas : b.used.dmas ≤ length b.log.dmas
   pub interrupts : b.used.interrupts ≤ due threads b.log.interrupts

@@ -87,8 +87,8 @@ pub fn logs_are_of_points()
 {}
 
 /// Recordings and plays look at a log in the same way: whether a chunk goes as logged hangs on its thread's end and its number
-/// of instructions alone; the log of what is kept has its sizes, its heads and the limits of these sizes; and short sizes are
-/// used by the numbers of the threads' commits as they are by the threads.
+/// of instructions alone; the log of what is kept has its sizes, its heads and the limits of these sizes; and at the end of a
+/// play sizes are used by the numbers of the threads' commits as they are by the threads, short ones at any time.
 pub fn logs_are_seen_alike()
     ensures { LogsAreSeenAlike }
 {}
