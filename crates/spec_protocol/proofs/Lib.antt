@@ -44,3 +44,5 @@ pub mod PointByPoint
 pub mod LogsOfPoints
 pub mod Pieces
 pub mod CountingPieces
+pub mod AsRecorded
+pub mod Committers

@@ -20,3 +20,5 @@ pub mod PlayingBack
 pub mod LogsOfPoints
 pub mod Pieces
 pub mod Logs
+pub mod AsRecorded
+pub mod Committers
