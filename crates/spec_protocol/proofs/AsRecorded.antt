@@ -1,5 +1,5 @@
 -- What a move leaves doesn't hang on whether the sphere is plain or recorded, but for the log.
-use Rattle.std.proofs.Common.{◌≡◌, Option, Some, None, refl}
+use Rattle.std.proofs.Common.{Option, Some, None, refl}
 use Rattle.dl_entry.specs.declared.Request.{Request}
 use Rattle.spec_log.specs.declared.LogParts.{LogParts}
 use Rattle.spec_kernel.specs.Devices.{Devices}

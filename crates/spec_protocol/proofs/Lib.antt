@@ -46,3 +46,4 @@ pub mod Pieces
 pub mod CountingPieces
 pub mod AsRecorded
 pub mod Committers
+pub mod Lasts

@@ -22,3 +22,4 @@ pub mod Pieces
 pub mod Logs
 pub mod AsRecorded
 pub mod Committers
+pub mod Lasts

@@ -11,6 +11,6 @@ pub use promise::{
     asks_are_granted, commits_are_serial, committers_are_told, grants_are_clear, invariants_hold,
     logs_are_fresh, logs_are_of_points, logs_play_back, moves_are_serial, pieces_count_nothing,
     pieces_stay_together, plain_moves_as_recorded, points_are_made, sizes_are_kept,
-    stopped_spheres_stay,
+    spheres_keep_lasts, stopped_spheres_stay,
 };
 pub use reply::Reply;

@@ -1,6 +1,7 @@
 //! What is promised of the protocol. Each promise is a clause of a function that does nothing.
 ghost use Rattle.spec_protocol.specs.AsRecorded.{PlainMovesAsRecorded};
 ghost use Rattle.spec_protocol.specs.Committers.{CommittersAreTold};
+ghost use Rattle.spec_protocol.specs.Lasts.{SpheresKeepLasts};
 ghost use Rattle.spec_protocol.specs.Promises.{CommitsAreSerial, InvariantsHold, MovesAreSerial, SizesAreKept};
 ghost use Rattle.spec_protocol.specs.Logs.{LogsAreFresh};
 ghost use Rattle.spec_protocol.specs.LogsOfPoints.{LogsAreOfPoints};
@@ -102,4 +103,10 @@ pub fn plain_moves_as_recorded()
 /// no core is.
 pub fn committers_are_told()
     ensures { CommittersAreTold }
+{}
+
+/// After every list of events: of each sphere, plain, recorded or replayed, the thread that committed last is the last one
+/// among its commits, DMAs passed over.
+pub fn spheres_keep_lasts()
+    ensures { SpheresKeepLasts }
 {}
