@@ -5,6 +5,7 @@ use Rattle.spec_protocol.specs.World.{World}
 use Rattle.spec_protocol.specs.Machine.{happens}
 use Rattle.spec_protocol.specs.Finishing.{Finishes}
 use Rattle.spec_protocol.specs.Promises.{after}
+use Rattle.spec_finishing.specs.Ending.{Ends}
 use Rattle.spec_finishing.specs.Function.{finishing, FinishingIsAFunction}
 use Rattle.spec_finishing.proofs.FinishingAll.{finishing_all}
 
@@ -23,4 +24,4 @@ pub function_finishes : FinishingIsAFunction
 function_finishes s es fuel can enough =
     let f = finishing_all s es can in
     let ends = f.1 in
-    subst (Finishes (after s es)) (sym (finishing-is fuel (after s es) f.0 ends.finishes (let l = ends.few in omega (arith, l, enough)))) ends.finishes
+    subst (Ends s es) (sym (finishing-is fuel (after s es) f.0 ends.finishes (let l = ends.few in omega (arith, l, enough)))) ends

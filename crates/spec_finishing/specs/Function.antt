@@ -3,10 +3,10 @@ use Rattle.std.specs.Prelude.{ℕ, zero, suc, ◌+◌, ◌*◌, ◌^◌, ◌<◌
 use Rattle.spec_protocol.specs.declared.event.Event.{Event}
 use Rattle.spec_protocol.specs.World.{World}
 use Rattle.spec_protocol.specs.Machine.{Setup, happens, world_after}
-use Rattle.spec_protocol.specs.Finishing.{next, Finishes}
+use Rattle.spec_protocol.specs.Finishing.{next}
 use Rattle.spec_protocol.specs.Promises.{after}
 use Rattle.spec_protocol.specs.Sound.{IsWithinLimits}
-use Rattle.spec_finishing.specs.Ending.{work, CanFinish}
+use Rattle.spec_finishing.specs.Ending.{work, Ends, CanFinish}
 
 -- the next events, each after the one before, until none is left or there were so many
 abbrev pub finishing : (fuel : ℕ) → World → List Event
@@ -24,9 +24,9 @@ finishing_of s es = finishing (most_events s es) (after s es)
 abbrev pub finished : Setup → (schedule : List Event) → World
 finished s es = world_after (after s es) (finishing_of s es)
 
--- whatever more there may be than the bound
+-- with the bound, or more, these are the events that finish it: all that is promised of them holds
 abbrev pub FinishingIsAFunction : Type 0
-FinishingIsAFunction = (s : Setup) (es : List Event) (fuel : ℕ) → CanFinish s → most_events s es ≤ fuel → Finishes (after s es) (finishing fuel (after s es))
+FinishingIsAFunction = (s : Setup) (es : List Event) (fuel : ℕ) → CanFinish s → most_events s es ≤ fuel → Ends s es (finishing fuel (after s es))
 
 -- ---- the bound
 

@@ -21,7 +21,7 @@ pub fn replays_are_finished()
 {}
 
 /// The events that finish a run are a function of its setup and its schedule, and so are its points, its replies and its last
-/// world: the next events one after another, no more than the bound or any greater number, leave none behind them.
+/// world: the next events one after another, no more than the bound or any greater number, are those of `finishing_ends`.
 pub fn finishing_is_a_function()
     ensures { FinishingIsAFunction }
 {}

@@ -2,5 +2,6 @@ pub mod Programs
 pub mod Keeping
 pub mod Going
 pub mod Walking
+pub mod Lasts
 mod Examples
 mod Records

@@ -7,3 +7,4 @@ pub mod Plays
 pub mod Recording
 pub mod Noted
 pub mod Walks
+pub mod Lasts

@@ -1,5 +1,7 @@
 -- How far a sphere has come, and how much of a log is used.
 use Rattle.std.specs.Prelude.{ℕ, suc, List, [], ◌∷◌, ◌++◌, length, Option, Some, None}
+use Rattle.std.specs.Option.{option_or}
+use Rattle.dl_entry.specs.declared.Actor.{Actor}
 use Rattle.dl_entry.specs.declared.Commit.{Commit}
 use Rattle.dl_entry.specs.declared.Request.{Request}
 use Rattle.spec_play.specs.Effects.{Effect, dma_commit}
@@ -12,6 +14,16 @@ pub record Progress : Type 0 where
 
 abbrev pub no_progress : Progress
 no_progress = record { commits = []; last = None; request = None }
+
+-- the thread of an actor that is one
+abbrev pub thread_of : Actor → Option ℕ
+thread_of (Actor.Thread k) = Some k
+thread_of Actor.Dma = None
+
+-- the last thread among those of these commits; DMAs are passed over
+abbrev pub last_thread : List Commit → Option ℕ
+last_thread [] = None
+last_thread (c ∷ cs) = option_or (last_thread cs) (thread_of c.actor)
 
 -- how many commits are done: the index of the next
 abbrev pub position : Progress → ℕ

@@ -1,4 +1,5 @@
 //! What is promised of plays and logs. Each promise is a clause of a function that does nothing.
+ghost use Rattle.spec_play.specs.Lasts.{PlaysKeepLasts};
 ghost use Rattle.spec_play.specs.Noted.{RecordersKeepLogs};
 ghost use Rattle.spec_play.specs.Walks.{WalksArePlays};
 
@@ -12,4 +13,10 @@ pub fn recorders_keep_logs()
 /// play leaves. Else it has stopped with that number of commits done.
 pub fn walks_are_plays()
     ensures { WalksArePlays }
+{}
+
+/// After any number of commits of a play: the thread that committed last is the last one among the commits, DMAs passed
+/// over.
+pub fn plays_keep_lasts()
+    ensures { PlaysKeepLasts }
 {}

@@ -57,3 +57,6 @@ pub mod Notable
 pub mod SeenAlike
 pub mod SoundFresh
 pub mod SoundOrder
+pub mod AsRecorded
+pub mod Committers
+pub mod Lasts

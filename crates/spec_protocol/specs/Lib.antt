@@ -23,3 +23,6 @@ pub mod Sound
 pub mod Notable
 pub mod Judging
 pub mod Logs
+pub mod AsRecorded
+pub mod Committers
+pub mod Lasts

@@ -1,4 +1,7 @@
 //! What is promised of the protocol. Each promise is a clause of a function that does nothing.
+ghost use Rattle.spec_protocol.specs.AsRecorded.{PlainMovesAsRecorded};
+ghost use Rattle.spec_protocol.specs.Committers.{CommittersAreTold};
+ghost use Rattle.spec_protocol.specs.Lasts.{SpheresKeepLasts};
 ghost use Rattle.spec_protocol.specs.Promises.{CommitsAreSerial, InvariantsHold, MovesAreSerial, SizesAreKept};
 ghost use Rattle.spec_protocol.specs.Logs.{LogsAreFresh};
 ghost use Rattle.spec_protocol.specs.LogsOfPoints.{LogsAreOfPoints};
@@ -117,4 +120,22 @@ pub fn stopped_spheres_stay()
 /// turn as they are.
 pub fn pieces_count_nothing()
     ensures { PiecesCountNothing }
+{}
+
+/// Whatever its threads, memory and log: a chunk, a serial step, a DMA or an interrupt leaves in a plain sphere what it
+/// leaves in a recorded one, but for the log, and stores the same words and leaves the same devices.
+pub fn plain_moves_as_recorded()
+    ensures { PlainMovesAsRecorded }
+{}
+
+/// Whatever the world: of a flight that an ask begins the core that asks is told, and no other; of one that a DMA begins
+/// no core is.
+pub fn committers_are_told()
+    ensures { CommittersAreTold }
+{}
+
+/// After every list of events: of each sphere, plain, recorded or replayed, the thread that committed last is the last one
+/// among its commits, DMAs passed over.
+pub fn spheres_keep_lasts()
+    ensures { SpheresKeepLasts }
 {}

@@ -1,0 +1,5 @@
+use Rattle.spec_protocol.proofs.Lasts.{spheres_keep_lasts}
+use Rattle.spec_protocol.proofs.promise.spheres_keep_lasts.Goals as goal
+
+pub returns : goal.returns
+returns c = spheres_keep_lasts

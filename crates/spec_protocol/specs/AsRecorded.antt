@@ -1,0 +1,37 @@
+-- A plain sphere moves as a recorded one but for its log: recording leaves no other mark.
+use Rattle.std.specs.Prelude.{◌≡◌, ℕ, Bool, Option, Some, None}
+use Rattle.spec_isa.specs.declared.thread.Parts.{Parts}
+use Rattle.spec_isa.specs.Runs.{Run}
+use Rattle.spec_log.specs.declared.LogParts.{LogParts}
+use Rattle.spec_kernel.specs.Devices.{Devices}
+use Rattle.spec_protocol.specs.Spheres.{Role, Plain, Record, Sphere}
+use Rattle.spec_protocol.specs.Commits.{Moved, chunk_moved, serial_moved, dma_moved, raised}
+
+abbrev pub in_role : Role → Sphere → Sphere
+in_role role p = record p { role = role }
+
+-- the two spheres are one but for their roles
+abbrev pub AreAlike : Sphere → Sphere → Type 0
+AreAlike p q = in_role Plain p ≡ in_role Plain q
+
+pub record MoveAlike (v u : Moved) : Type 0 where
+  pub outcome : v.outcome ≡ u.outcome
+  pub spheres : AreAlike v.sphere u.sphere
+  pub words : v.words ≡ u.words
+  pub devices : v.devices ≡ u.devices
+
+-- both, or neither
+abbrev pub MoveAlikeIf : Option Moved → Option Moved → Type 0
+MoveAlikeIf None None = Unit {0}
+MoveAlikeIf (Some v) (Some u) = MoveAlike v u
+MoveAlikeIf _ _ = ⊥
+
+-- whatever the log so far: a chunk, a serial step, a DMA and an interrupt
+pub record MovesAsRecorded (p : Sphere) (log : LogParts) : Type 0 where
+  pub chunk : (k : ℕ) (piece short : Bool) (r : Run) (devices : Devices) → MoveAlike (chunk_moved k piece short r devices (in_role Plain p)) (chunk_moved k piece short r devices (in_role (Record log) p))
+  pub serial : (k moment : ℕ) (t : Parts) (devices : Devices) → MoveAlike (serial_moved k moment t devices (in_role Plain p)) (serial_moved k moment t devices (in_role (Record log) p))
+  pub dma : (devices : Devices) → MoveAlikeIf (dma_moved devices (in_role Plain p)) (dma_moved devices (in_role (Record log) p))
+  pub raise : (k value : ℕ) (t : Parts) → AreAlike (raised k value t (in_role Plain p)) (raised k value t (in_role (Record log) p))
+
+abbrev pub PlainMovesAsRecorded : Type 0
+PlainMovesAsRecorded = (p : Sphere) (log : LogParts) → MovesAsRecorded p log
