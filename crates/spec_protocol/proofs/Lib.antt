@@ -1,6 +1,7 @@
 mod Scenes
 mod Recordings
 mod TwoThreads
+mod SoundExample
 pub mod Laying
 pub mod Running
 pub mod Slots

@@ -1,0 +1,82 @@
+-- The limits can be met: by a setup with a sphere of each role.
+use Rattle.std.proofs.Common.{◌≡◌, ℕ, zero, suc, ◌+◌, ◌^◌, ◌<◌, List, [], ◌∷◌, length, replicate, Option, Some, None, refl, sym, ap, ◌∙◌, subst, arith}
+use Rattle.std.specs.Prelude.{slice_get, slice_index}
+use Rattle.std.proofs.lemmas.Option.{none-some}
+use Rattle.std.proofs.lemmas.List.{length-replicate}
+use Rattle.spec_isa.specs.Words.{IsBytes}
+use Rattle.spec_log.specs.declared.ModeName.{ModeName}
+use Rattle.spec_log.specs.Log.{IsSection, IsLog}
+use Rattle.spec_play.specs.Recording.{new_log}
+use Rattle.spec_protocol.specs.Machine.{RoleSetup, IsPlain, IsRecorded, IsReplayed, SphereSetup, Setup}
+use Rattle.spec_protocol.specs.Sound.{IsRole, IsImage, IsWithinLimits}
+
+abbrev with_role : RoleSetup → SphereSetup
+with_role role = record { memory = replicate 4096 0; entry = 0; role = role }
+
+abbrev least : Setup
+least =
+    record {
+      cores = 1;
+      window = 1;
+      numbers = record { chunk = 16; buffer = 1; signature = 64 };
+      seed = 0;
+      input = [];
+      spheres = with_role IsPlain ∷ with_role (IsRecorded ModeName.Picolog) ∷ with_role (IsReplayed (new_log ModeName.OrderSize 16)) ∷ [];
+    }
+
+zeros : (n i : ℕ) → slice_index (replicate n 0) i ≡ 0
+zeros zero i = refl
+zeros (suc n) zero = refl
+zeros (suc n) (suc i) = zeros n i
+
+none : {X : Type 0} (good : X → Type 0) (before : X → X → Type 0) → IsSection good before []
+none good before = record { few = omega arith; each = λ k d l. absurd (omega (arith, l)); rising = λ k d l. absurd (omega (arith, l)) }
+
+empty_log : IsLog (new_log ModeName.OrderSize 16)
+empty_log =
+    record {
+      s = (omega arith, omega arith);
+      count = omega arith;
+      order = (refl, λ k d l. absurd (omega (arith, l)));
+      sizes = (refl, λ k d l. absurd (omega (arith, l)));
+      interrupts = none _ _;
+      inputs = none _ _;
+      dmas = none _ _;
+    }
+
+image : (role : RoleSetup) → IsRole role → IsImage (with_role role)
+image role is =
+    let z : ℕ = 0 in
+    let n : length (replicate 4096 z) ≡ 4096 = length-replicate 4096 z in
+    record {
+      least = omega (arith, n);
+      most = omega (arith, n);
+      pages = omega (arith, n);
+      bytes = record { each = λ i. let e = zeros 4096 i in omega (arith, e) };
+      aligned = refl;
+      inside = omega (arith, n);
+      role = is;
+    }
+
+image_is : (i : ℕ) (x : SphereSetup) → slice_get least.spheres i ≡ Some x → IsImage x
+image_is zero x e = subst IsImage (let q : with_role IsPlain ≡ x = cc in q) (image IsPlain tt)
+image_is (suc zero) x e =
+    subst IsImage (let q : with_role (IsRecorded ModeName.Picolog) ≡ x = cc in q) (image (IsRecorded ModeName.Picolog) tt)
+image_is (suc (suc zero)) x e =
+    let r = IsReplayed (new_log ModeName.OrderSize 16) in
+    subst IsImage (let q : with_role r ≡ x = cc in q) (image r empty_log)
+image_is (suc (suc (suc i))) x e = absurd (none-some x e)
+
+within_limits : IsWithinLimits least
+within_limits =
+    record {
+      cores = (omega arith, omega arith);
+      window = (omega arith, omega arith);
+      few = (omega arith, omega arith);
+      chunk = (omega arith, omega arith);
+      buffer = omega arith;
+      most_buffer = omega arith;
+      signature = refl;
+      input = λ k d l. absurd (omega (arith, l));
+      images = image_is;
+    }
