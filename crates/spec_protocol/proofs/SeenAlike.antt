@@ -1,9 +1,9 @@
 -- Recordings and plays look at a log in the same way.
-use Rattle.std.proofs.Common.{◌≡◌, ℕ, ◌+◌, Bool, true, false, ◌&&◌, cond, List, [], ◌∷◌, length, take, map, Option, Some, None, refl, sym, ap, ◌∙◌, arith}
+use Rattle.std.proofs.Common.{◌≡◌, ℕ, suc, ◌+◌, ◌<◌, inl, inr, not, Bool, true, false, ◌&&◌, cond, List, [], ◌∷◌, length, take, map, Option, Some, None, refl, sym, ap, ◌∙◌, arith}
 use Rattle.std.specs.Prelude.{slice_get, slice_index, nat_lt, nat_le, max, filter}
 use Rattle.std.specs.List.{list_all, range_with_len, zip}
 use Rattle.std.specs.Option.{option_or}
-use Rattle.std.proofs.lemmas.Bool.{le-ltb, le-leb}
+use Rattle.std.proofs.lemmas.Bool.{true≢false, lt-ltb, le-ltb, le-leb, and_parts, cases_Bool}
 use Rattle.std.proofs.lemmas.List.{take_all}
 use Rattle.dl_entry.specs.declared.Actor.{Actor}
 use Rattle.dl_entry.specs.declared.Input.{Input}
@@ -23,8 +23,10 @@ use Rattle.spec_play.specs.Effects.{Effect, chunk_effect}
 use Rattle.spec_play.specs.Progress.{Used, with_interrupt}
 use Rattle.spec_play.specs.Turns.{is_size_used, are_sizes_used}
 use Rattle.spec_play.specs.Verdicts.{Verdict, Goes, Fails, unless, interrupt_at, with_interrupted, ended, chunk_why, chunk_verdict}
-use Rattle.spec_protocol.specs.Judging.{why_of, interrupt_why, ChunksAreJudged, AreCommits, ShortSizesAreUsed, SizesAreUsed, LogsAreSeenAlike}
-use Rattle.spec_protocol.specs.Sound.{commits_of, commits_among, IsDoneInOrder}
+use Rattle.spec_protocol.specs.Judging.{why_of, interrupt_why, ChunksAreJudged, AreCommits, ShortSizesAreUsed, SizesAreUsed, DueAreCounted, LogsAreSeenAlike}
+use Rattle.spec_protocol.specs.Sound.{commits_of, is_due_in, due, commits_among, IsDoneInOrder}
+use Rattle.spec_protocol.proofs.OnCores.{branch}
+use Rattle.spec_protocol.proofs.SoundUses.{due-most}
 
 -- ---- verdicts
 
@@ -118,6 +120,33 @@ by_mode ModeName.Picolog s count order (Sizes.Short sizes) done threads is each 
 sizes_alike : SizesAreUsed
 sizes_alike log done threads is ordered same = by_mode log.mode log.s log.count log.order log.sizes done threads is.order is.sizes ordered same
 
+-- ---- interrupts
+
+abbrev one_if : Bool → ℕ
+one_if b = cond b 1 0
+
+all_due : (threads : List Parts) (is : List Interrupt) → list_all (is_due_in threads) is ≡ true → due threads is ≡ length is
+all_due threads [] e = refl
+all_due threads (i ∷ is) e =
+    let p = and_parts (is_due_in threads i) (list_all (is_due_in threads) is) e in
+    let a = ap one_if p.0 in
+    let r = all_due threads is p.1 in
+    omega (arith, a, r)
+
+not_all_due : (threads : List Parts) (is : List Interrupt) → list_all (is_due_in threads) is ≡ false → due threads is < length is
+not_all_due threads [] e = absurd (true≢false e)
+not_all_due threads (i ∷ is) e =
+    branch (λ (n : ℕ). n + due threads is < suc (length is)) (is_due_in threads i) 1 0
+    (λ h. let r = not_all_due threads is (ap (λ (b : Bool). b && list_all (is_due_in threads) is) (sym h) ∙ e) in omega (arith, r))
+    (λ _. let m = due-most is threads in omega (arith, m))
+
+due_counted : DueAreCounted
+due_counted threads is =
+    elim (cases_Bool (list_all (is_due_in threads) is)) [
+      | inl all ↦ le-ltb (due threads is) (length is) (let e = all_due threads is all in omega (arith, e)) ∙ sym (ap not all)
+      | inr some ↦ lt-ltb (due threads is) (length is) (not_all_due threads is some) ∙ sym (ap not some)
+    ]
+
 pub seen_alike : LogsAreSeenAlike
 seen_alike =
     record {
@@ -129,4 +158,5 @@ seen_alike =
       };
       shorts = shorts_used;
       sizes = sizes_alike;
+      interrupts = due_counted;
     }

@@ -39,7 +39,7 @@ use Rattle.spec_protocol.specs.Machine.{SphereSetup}
 use Rattle.spec_protocol.specs.Sound.{IsDoneInOrder, due, AreSoundWords, IsSoundIf, HasThread, IsSoundBook, IsSoundLog, IsSoundRole, IsSoundThread, IsSoundSphere, HaveByteInput}
 use Rattle.spec_protocol.proofs.Keeping.{AreNew, serve-keeps}
 use Rattle.spec_protocol.proofs.Growing.{get_cases, pushed_length}
-use Rattle.spec_protocol.proofs.Moving.{get-set_same, get-append}
+use Rattle.spec_protocol.proofs.Moving.{get-set_same}
 use Rattle.spec_protocol.proofs.OnCores.{branch}
 use Rattle.spec_protocol.proofs.Spawning.{serve-few}
 use Rattle.spec_protocol.proofs.SoundWords.{sound-none, dma-sound}
@@ -48,7 +48,7 @@ use Rattle.spec_protocol.proofs.SoundDevices.{IsSoundTaken, taken-sound, told-de
 use Rattle.spec_protocol.proofs.SoundLimits.{whole-positive}
 use Rattle.spec_protocol.proofs.SoundFresh.{at-set_parts, fresh-commit, fresh-raise}
 use Rattle.spec_protocol.proofs.SoundOrder.{done-commit, done-dma, done-piece, now-named}
-use Rattle.spec_protocol.proofs.SoundUses.{GoOn, commit-goes_on, due-more, taken-due}
+use Rattle.spec_protocol.proofs.SoundUses.{Rising, rising-of, once-more, same-due, one-due, due-still, piece-commits}
 
 -- ---- rows of threads
 
@@ -176,11 +176,12 @@ noted-sound s k i short log t e p is commits role =
 
 -- ---- books
 
--- no more of the log is used than there is, and no interrupt before it is due
+-- no more of the log is used than there is, and of its interrupts those that are due
 record Uses (log : LogParts) (threads : List Parts) (u : Used) : Type 0 where
+  rising : Rising log.interrupts
   inputs : u.inputs ≤ length log.inputs
   dmas : u.dmas ≤ length log.dmas
-  interrupts : u.interrupts ≤ due threads log.interrupts
+  interrupts : u.interrupts ≡ due threads log.interrupts
 
 -- what it comes to where it goes
 abbrev IfGoes : (Effect → Used → Type 0) → Verdict → Type 0
@@ -197,16 +198,17 @@ SoundlyIn size log k ts t e u = IsSoundEffect size ts t e × Uses log (with_thre
 interrupted-goes : (size : ℕ) (log : LogParts) (k : ℕ) (ts : List Parts) (t : Parts) (e : Effect) (u : Used) (o : Option ℕ) → interrupt_at log.interrupts k e.thread.commits ≡ o → slice_get ts k ≡ Some t → IsSoundEffect size ts t e → Uses log ts u
     → IfGoes (SoundlyIn size log k ts t) (with_interrupted o e u)
 interrupted-goes size log k ts t e u None at is sound uses =
-    let goes = commit-goes_on ts e.made k t e.thread is (let c = sound.commits in omega (arith, c)) in
-    let d = due-more log.interrupts ts (with_threads k e ts) goes in
-    (sound, record { inputs = uses.inputs; dmas = uses.dmas; interrupts = (let a = uses.interrupts in omega (arith, a, d)) })
+    let m = once-more ts e.made k t e.thread is sound.commits sound.fresh in
+    let c : suc t.commits ≡ e.thread.commits = (let h = sound.commits in omega (arith, h)) in
+    let d = same-due log.interrupts ts (with_threads k e ts) k t.commits m (ap (interrupt_at log.interrupts k) c ∙ at) in
+    (sound, record { rising = uses.rising; inputs = uses.inputs; dmas = uses.dmas; interrupts = uses.interrupts ∙ sym d })
 interrupted-goes size log k ts t e u (Some value) at is sound uses =
     let f = record e { thread = interrupted value e.thread } in
-    let c = sound.commits in
-    let goes = commit-goes_on ts e.made k t f.thread is (omega (arith, c)) in
-    let d = taken-due log.interrupts ts (with_threads k f ts) k e.thread.commits value t f.thread goes is (get-append (set ts k f.thread) e.made k f.thread (get-set_same ts k f.thread t is)) (omega (arith, c)) (omega arith) at in
+    let m = once-more ts f.made k t f.thread is sound.commits sound.fresh in
+    let c : suc t.commits ≡ e.thread.commits = (let h = sound.commits in omega (arith, h)) in
+    let d = one-due log.interrupts ts (with_threads k f ts) k t.commits value uses.rising m (ap (interrupt_at log.interrupts k) c ∙ at) in
     branch (IfGoes (SoundlyIn size log k ts t)) (takes_interrupt e.thread) (Goes f (with_interrupt u)) (Fails Why.Interrupt)
-    (λ _. (interrupted-effect size value ts t e sound, record { inputs = uses.inputs; dmas = uses.dmas; interrupts = (let a = uses.interrupts in omega (arith, a, d)) }))
+    (λ _. (interrupted-effect size value ts t e sound, record { rising = uses.rising; inputs = uses.inputs; dmas = uses.dmas; interrupts = ap suc uses.interrupts ∙ sym d }))
     (λ _. tt)
 
 ended-goes : (size : ℕ) (log : LogParts) (k : ℕ) (ts : List Parts) (t : Parts) (e : Effect) (u : Used) → slice_get ts k ≡ Some t → IsSoundEffect size ts t e → Uses log ts u → IfGoes (SoundlyIn size log k ts t) (ended log k e u)
@@ -260,7 +262,7 @@ now-going log p u threads e =
     (λ l _. ltb-true (position p) log.count l)
     (λ _ h. absurd (true≢false (sym (end-over (position p) (has_left_over log u threads)) ∙ h))) e
 
-pub turned-sound : (log : LogParts) (p : Progress) (u : Used) (threads : List Parts) → IsLog log → position p ≤ log.count → IsDoneInOrder log.mode log.order (position p) threads → u.inputs ≤ length log.inputs → u.dmas ≤ length log.dmas → u.interrupts ≤ due threads log.interrupts → IsSoundBook (position p) threads (turned log p u threads)
+pub turned-sound : (log : LogParts) (p : Progress) (u : Used) (threads : List Parts) → IsLog log → position p ≤ log.count → IsDoneInOrder log.mode log.order (position p) threads → u.inputs ≤ length log.inputs → u.dmas ≤ length log.dmas → u.interrupts ≡ due threads log.interrupts → IsSoundBook (position p) threads (turned log p u threads)
 turned-sound log p u threads is within done inputs dmas interrupts =
     record {
       log = is;
@@ -344,7 +346,7 @@ chunk-goes size k log p u ts t r is thread commits words request few uses =
     (ended-goes size log k ts t (chunk_effect k p.request r) u is (chunk-effect size k ts t p.request r thread commits words request few) uses)
 
 book-uses : (commits : ℕ) (threads : List Parts) (b : Book) → IsSoundBook commits threads b → Uses b.log threads b.used
-book-uses commits threads b s = record { inputs = s.inputs; dmas = s.dmas; interrupts = s.interrupts }
+book-uses commits threads b s = record { rising = rising-of b.log.interrupts s.log.interrupts.rising; inputs = s.inputs; dmas = s.dmas; interrupts = s.interrupts }
 
 -- a piece leaves the thread's commits, and room for an instruction more
 piece-sound : (s : ℕ) (image : SphereSetup) (now k : ℕ) (b : Book) (t : Parts) (r : Run) (devices : Devices) (p : Sphere) → IsSoundBook (position p.progress) p.threads b → b.now ≡ Turn k → is_live t ≡ true → IsSoundSphere s image now p → slice_get p.threads k ≡ Some t
@@ -353,7 +355,6 @@ piece-sound s image now k b t r devices p book turn live sound is run room d =
     let n = position p.progress in
     let us = set p.threads k r.thread in
     let c = run.commits in
-    let goes : GoOn p.threads us = subst (GoOn p.threads) (append-nil us) (commit-goes_on p.threads [] k t r.thread is (omega (arith, c))) in
     let lives : is_live r.thread ≡ true = ap lives run.status ∙ live in
     let there = get-set_same p.threads k r.thread t is in
     record {
@@ -373,7 +374,7 @@ piece-sound s image now k b t r devices p book turn live sound is run room d =
           named = book.named;
           inputs = book.inputs;
           dmas = book.dmas;
-          interrupts = (let l = due-more b.log.interrupts p.threads us goes in let a = book.interrupts in omega (arith, a, l));
+          interrupts = book.interrupts ∙ sym (due-still b.log.interrupts p.threads us (piece-commits p.threads k t r.thread is c));
           loads = (let l = length-append b.loads r.loads in let a = book.loads in let q = run.loads in omega (arith, l, a, q));
           turn = λ j e. subst (HasThread (record b { total = b.total + r.n; loads = b.loads ++ r.loads }) us) (let q : Turn k ≡ Turn j = sym turn ∙ e in let h : k ≡ j = cc in h)
               (record { thread = r.thread; there = there; live = lives; room = subst (λ (m : ℕ). b.total + r.n < whole_limit b.log k m) (sym c) room });
@@ -460,7 +461,7 @@ given-sound log threads None next u is uses = record { brings = tt; uses = uses 
 given-sound log threads (Some n) None u is uses = tt
 given-sound log threads (Some n) (Some r) u is uses =
     branch (IfGiven log threads (Some n)) (fits n r) (Some (record { input = Some r; used = with_input u })) None
-    (λ e. record { brings = fits-brings n r e; uses = record { inputs = (let l = get-within log.inputs u.inputs r is in omega (arith, l)); dmas = uses.dmas; interrupts = uses.interrupts } })
+    (λ e. record { brings = fits-brings n r e; uses = record { rising = uses.rising; inputs = (let l = get-within log.inputs u.inputs r is in omega (arith, l)); dmas = uses.dmas; interrupts = uses.interrupts } })
     (λ _. tt)
 
 served-goes : (size k : ℕ) (log : LogParts) (p : Progress) (ts : List Parts) (t : Parts) (m : List ℕ) (o : Option Given) → slice_get ts k ≡ Some t → IfGiven log ts (need t m) o → length m ≡ size → size % 4 ≡ 0 → IsThread t → IsSoundIf size p.request → length ts ≤ 15

@@ -42,6 +42,7 @@ use Rattle.spec_protocol.proofs.SoundChunks.{IsSoundIn, step-sound, cut-sound, s
 use Rattle.spec_protocol.proofs.SoundLimits.{limit-most}
 use Rattle.spec_protocol.proofs.SoundFresh.{fresh-none}
 use Rattle.spec_protocol.proofs.SoundOrder.{done-none}
+use Rattle.spec_protocol.proofs.SoundUses.{none-due_first}
 use Rattle.spec_protocol.proofs.SoundMoves.{IsSoundMoved, as-role, turned-sound, chunk-sound, serial-sound, dma-moved-sound, raised-sound}
 
 -- ---- the properties
@@ -260,7 +261,8 @@ first-role : (s entry : ℕ) (r : RoleSetup) → IsRole r → let threads = star
 first-role s entry IsPlain is = tt
 first-role s entry (IsRecorded mode) is = record { size = refl; count = refl; interrupts = fresh-none (started entry ∷ []) }
 first-role s entry (IsReplayed log) is =
-    turned-sound log no_progress nothing_used (started entry ∷ []) is (omega arith) (done-none log.mode log.order (started entry) refl) (omega arith) (omega arith) (omega arith)
+    turned-sound log no_progress nothing_used (started entry ∷ []) is (omega arith) (done-none log.mode log.order (started entry) refl) (omega arith) (omega arith)
+    (sym (none-due_first (started entry) log.interrupts refl))
 
 first-sphere : (s : ℕ) (image : SphereSetup) → IsImage image → IsSoundSphere s image 0 (sphere_of s image)
 first-sphere s image is =

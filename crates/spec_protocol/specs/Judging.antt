@@ -1,5 +1,6 @@
 -- What is promised of logs as recordings and plays look at them: that both see the same.
-use Rattle.std.specs.Prelude.{◌≡◌, ℕ, ◌+◌, Bool, List, slice_index, slice_get, Option, Some, None, if◌then◌else◌}
+use Rattle.std.specs.Prelude.{◌≡◌, ℕ, ◌+◌, Bool, not, nat_lt, List, length, slice_index, slice_get, Option, Some, None, if◌then◌else◌}
+use Rattle.std.specs.List.{list_all}
 use Rattle.std.specs.Option.{option_or}
 use Rattle.dl_entry.specs.declared.Actor.{Actor}
 use Rattle.dl_entry.specs.declared.Input.{Input}
@@ -21,7 +22,7 @@ use Rattle.spec_play.specs.Progress.{Progress, Used}
 use Rattle.spec_play.specs.Turns.{are_sizes_used}
 use Rattle.spec_play.specs.Verdicts.{Verdict, Goes, Fails, interrupt_at, chunk_why, chunk_verdict}
 use Rattle.spec_protocol.specs.Spheres.{whole_limit}
-use Rattle.spec_protocol.specs.Sound.{commits_of, IsDoneInOrder}
+use Rattle.spec_protocol.specs.Sound.{commits_of, is_due_in, due, IsDoneInOrder}
 
 -- ---- a chunk's verdict
 
@@ -68,8 +69,15 @@ ShortSizesAreUsed = (done : List ℕ) (threads : List Parts) (order : List Actor
 abbrev pub SizesAreUsed : Type 0
 SizesAreUsed = (log : LogParts) (done : List ℕ) (threads : List Parts) → IsLog log → IsDoneInOrder log.mode log.order log.count threads → AreCommits done threads → sizes_used log.order log.sizes done ≡ are_sizes_used threads log.sizes
 
+-- ---- interrupts that are taken
+
+-- those that a replay has used are those that are due, as many as its book counts: so one is left over where not all are due
+abbrev pub DueAreCounted : Type 0
+DueAreCounted = (threads : List Parts) (interrupts : List Interrupt) → nat_lt (due threads interrupts) (length interrupts) ≡ not (list_all (is_due_in threads) interrupts)
+
 pub record LogsAreSeenAlike : Type 0 where
   pub chunks : ChunksAreJudged
   pub kept : KeptIsLogged
   pub shorts : ShortSizesAreUsed
   pub sizes : SizesAreUsed
+  pub interrupts : DueAreCounted

@@ -1,5 +1,5 @@
 -- What is sound: sizes and ranges that hold of every world which a setup within its limits comes to, beside the invariant.
-use Rattle.std.specs.Prelude.{◌≡◌, ℕ, ◌+◌, ◌%◌, ◌^◌, ◌<◌, ◌≤◌, Bool, true, false, nat_le, if◌then◌else◌, List, [], ◌∷◌, length, take, slice_get, slice_index, slice_index_or, All, Option, Some, None}
+use Rattle.std.specs.Prelude.{◌≡◌, ℕ, ◌+◌, ◌%◌, ◌^◌, ◌<◌, ◌≤◌, Bool, true, false, ◌&&◌, nat_le, nat_lt, if◌then◌else◌, List, [], ◌∷◌, length, take, slice_get, slice_index, slice_index_or, All, Option, Some, None}
 use Rattle.dl_entry.specs.declared.Actor.{Actor}
 use Rattle.dl_entry.specs.declared.Request.{Request}
 use Rattle.spec_isa.specs.declared.thread.Parts.{Parts}
@@ -111,20 +111,22 @@ IsSoundIf size (Some request) = IsSoundRequest size request
 
 -- ---- a replay
 
--- an interrupt of the log is due once its thread has as many commits
-abbrev pub is_due : Interrupt → Option Parts → Bool
-is_due i None = false
-is_due i (Some t) = nat_le i.index t.commits
-
--- how many of these are due
-abbrev pub due : List Parts → List Interrupt → ℕ
-due threads [] = 0
-due threads (i ∷ is) = (if is_due i (slice_get threads i.thread) then 1 else 0) + due threads is
-
 -- the number of a thread's commits, none where there is no thread
 abbrev pub commits_of : Option Parts → ℕ
 commits_of None = 0
 commits_of (Some t) = t.commits
+
+-- an interrupt is due once its thread, which has done so many commits, has done as many as it says, and one at least
+abbrev pub is_due : Interrupt → (commits : ℕ) → Bool
+is_due i n = nat_lt 0 i.index && nat_le i.index n
+
+abbrev pub is_due_in : List Parts → Interrupt → Bool
+is_due_in threads i = is_due i (commits_of (slice_get threads i.thread))
+
+-- how many of these are due
+abbrev pub due : List Parts → List Interrupt → ℕ
+due threads [] = 0
+due threads (i ∷ is) = (if is_due_in threads i then 1 else 0) + due threads is
 
 -- how many of these commits are the thread's
 abbrev pub commits_among : (thread : ℕ) → List Actor → ℕ
@@ -151,7 +153,7 @@ pub record HasThread (b : Book) (threads : List Parts) (k : ℕ) : Type 0 where
   pub room : b.total < whole_limit b.log k thread.commits
 
 -- a replay after so many commits: it has no more than its log, and before its end fewer, in the log's order; no more of the
--- log is used than there is, and no interrupt before it is due; and pieces load no more often than they run instructions
+-- log is used than there is, of its interrupts those that are due; and pieces load no more often than they run instructions
 pub record IsSoundBook (commits : ℕ) (threads : List Parts) (b : Book) : Type 0 where
   pub log : IsLog b.log
   pub within : commits ≤ b.log.count
@@ -160,7 +162,7 @@ pub record IsSoundBook (commits : ℕ) (threads : List Parts) (b : Book) : Type 
   pub named : (actor : Actor) → actor_of b.now ≡ Some actor → IsNamed b.log.mode b.log.order commits actor
   pub inputs : b.used.inputs ≤ length b.log.inputs
   pub dmas : b.used.dmas ≤ length b.log.dmas
-  pub interrupts : b.used.interrupts ≤ due threads b.log.interrupts
+  pub interrupts : b.used.interrupts ≡ due threads b.log.interrupts
   pub loads : length b.loads ≤ b.total
   pub turn : (k : ℕ) → b.now ≡ Turn k → HasThread b threads k
 

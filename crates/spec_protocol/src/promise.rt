@@ -91,7 +91,8 @@ pub fn logs_are_of_points()
 
 /// Recordings and plays look at a log in the same way: whether a chunk goes as logged hangs on its thread's end and its number
 /// of instructions alone; the log of what is kept has its sizes, its heads and the limits of these sizes; and at the end of a
-/// play sizes are used by the numbers of the threads' commits as they are by the threads, short ones at any time.
+/// play sizes are used by the numbers of the threads' commits as they are by the threads, short ones at any time; and an
+/// interrupt is left over where not all are due.
 pub fn logs_are_seen_alike()
     ensures { LogsAreSeenAlike }
 {}
