@@ -9,10 +9,11 @@ use Rattle.spec_engine.specs.declared.answers.How.{How}
 use Rattle.spec_protocol.specs.Spheres.{Role, Plain, Record, Replay, Sphere, no_sphere, is_stopped, limit_of}
 use Rattle.spec_protocol.specs.Asking.{is_short}
 use Rattle.spec_protocol.specs.Placing.{replays}
-use Rattle.spec_protocol.specs.World.{Held, World, sphere_at}
-use Rattle.spec_protocol.specs.Invariants.{Closes}
-use Rattle.spec_protocol.specs.Sound.{IsSoundRequest, IsSoundIf, image_at}
-use Rattle.spec_protocol.specs.Notable.{NotesFitLogs}
+use Rattle.spec_protocol.specs.World.{Held, World, moment, sphere_at}
+use Rattle.spec_protocol.specs.Machine.{Setup}
+use Rattle.spec_protocol.specs.Invariants.{Closes, IsGood}
+use Rattle.spec_protocol.specs.Sound.{IsSoundRequest, IsSoundIf, image_at, IsSound}
+use Rattle.spec_protocol.specs.Notable.{IsNotable, FitsLog, IsClosed, NotesFitLogs}
 use Rattle.spec_protocol.proofs.Changing.{within-sphere}
 use Rattle.spec_protocol.proofs.SoundChunks.{within-limit}
 use Rattle.spec_protocol.proofs.SoundDevices.{taken-sound, dma-bytes}
@@ -42,23 +43,30 @@ request-within w i request e =
       | inr past ↦ absurd (none-some request (sym (ap (λ (p : Sphere). p.progress.request) (get_or_past w.spheres i no_sphere past)) ∙ e))
     ]
 
-pub notes_fit : NotesFitLogs
-notes_fit s w limits good sound =
+fits_log : (s : Setup) (w : World) (i : ℕ) → IsSound s w → FitsLog (moment w) w.devices (sphere_at w i)
+fits_log s w i sound =
+    let p = sphere_at w i in
     record {
-      threads = λ i k t e.
+      threads = λ k t e.
           let few = (sound.spheres i (within-sphere w i k t e)).few in
-          let l = get-within (sphere_at w i).threads k t e in
+          let l = get-within p.threads k t e in
           omega (arith, few, l);
-      chunks = λ c h how is closed live.
-          let held = good.held c h is in
-          let role = (sphere_at w h.chunk.sphere).role in
-          let most = (held.limit (live-going role live)).most in
-          let n = within-limit w.numbers.buffer h.chunk held.chunk.closes in
-          let e = live-limit w.numbers.chunk h.thread h.chunk.start role live in
-          record { size = omega (arith, most, n, e); over = short-over w.numbers.buffer w.numbers.chunk h how closed good.buffer held.chunk.closes };
-      inputs = λ i k t e. (taken-sound t (sphere_at w i).memory w.devices _ (sound.spheres i (within-sphere w i k t e)).bytes sound.devices).input;
-      bytes = λ i request e.
-          let p = sound.spheres i (request-within w i request e) in
-          let r : IsSoundRequest (length (image_at s i).memory) request = subst (IsSoundIf (length (image_at s i).memory)) e p.request in
+      inputs = λ k t e. (taken-sound t p.memory w.devices (moment w) (sound.spheres i (within-sphere w i k t e)).bytes sound.devices).input;
+      bytes = λ request e.
+          let size = length (image_at s i).memory in
+          let r : IsSoundRequest size request = subst (IsSoundIf size) e (sound.spheres i (request-within w i request e)).request in
           dma-bytes w.devices request r.few sound.devices;
     }
+
+fits_chunk : (w : World) (c : ℕ) (h : Held) (how : How) → IsGood w → IsClosed w c h how → IsNotable w.numbers.chunk h how
+fits_chunk w c h how good is =
+    let held = good.held c h is.is in
+    let role = (sphere_at w h.chunk.sphere).role in
+    let most = (held.limit (live-going role is.live)).most in
+    let n = within-limit w.numbers.buffer h.chunk held.chunk.closes in
+    let e = live-limit w.numbers.chunk h.thread h.chunk.start role is.live in
+    record { size = omega (arith, most, n, e); over = short-over w.numbers.buffer w.numbers.chunk h how is.closed good.buffer held.chunk.closes }
+
+pub notes_fit : NotesFitLogs
+notes_fit s w limits good sound =
+    record { spheres = λ i. fits_log s w i sound; chunks = λ c h how is. fits_chunk w c h how good is }

@@ -75,9 +75,9 @@ used_by short None = le-ltb short.index 0 (omega arith)
 used_by short (Some t) = refl
 
 shorts_used : ShortSizesAreUsed
-shorts_used done threads order [] same = refl
-shorts_used done threads order (x ∷ xs) same =
-    (λ i. (ap (nat_lt x.index) (same x.thread) ∙ used_by x (slice_get threads x.thread)) i && shorts_used done threads order xs same i)
+shorts_used order [] threads done same = refl
+shorts_used order (x ∷ xs) threads done same =
+    (λ i. (ap (nat_lt x.index) (same x.thread) ∙ used_by x (slice_get threads x.thread)) i && shorts_used order xs threads done same i)
 
 -- ---- all sizes
 
@@ -113,12 +113,12 @@ by_mode : (mode : ModeName) (s count : ℕ) (order : List Actor) (sizes : Sizes)
 by_mode ModeName.OrderSize s count order (Sizes.Each sizes) done threads is each ordered same = each_used order sizes done threads count is.0 each.0 ordered same
 by_mode ModeName.OrderSize s count order (Sizes.Short sizes) done threads is each ordered same = absurd each
 by_mode ModeName.OrderOnly s count order (Sizes.Each sizes) done threads is each ordered same = absurd each
-by_mode ModeName.OrderOnly s count order (Sizes.Short sizes) done threads is each ordered same = shorts_used done threads order sizes same
+by_mode ModeName.OrderOnly s count order (Sizes.Short sizes) done threads is each ordered same = shorts_used order sizes threads done same
 by_mode ModeName.Picolog s count order (Sizes.Each sizes) done threads is each ordered same = absurd each
-by_mode ModeName.Picolog s count order (Sizes.Short sizes) done threads is each ordered same = shorts_used done threads order sizes same
+by_mode ModeName.Picolog s count order (Sizes.Short sizes) done threads is each ordered same = shorts_used order sizes threads done same
 
 sizes_alike : SizesAreUsed
-sizes_alike log done threads is ordered same = by_mode log.mode log.s log.count log.order log.sizes done threads is.order is.sizes ordered same
+sizes_alike log threads is ordered done same = by_mode log.mode log.s log.count log.order log.sizes done threads is.order is.sizes ordered same
 
 -- ---- interrupts
 
@@ -151,11 +151,11 @@ pub seen_alike : LogsAreSeenAlike
 seen_alike =
     record {
       chunks = chunks_judged;
-      kept = record {
-        size = size_kept;
-        head = head_kept;
-        limit = λ log k i. limit_same log.s (size_in log (Actor.Thread k) i);
+      kept = λ mode kept interrupts inputs dmas. record {
+        size = size_kept mode kept interrupts inputs dmas;
+        head = head_kept mode kept interrupts inputs dmas;
       };
+      limits = λ log k i. limit_same log.s (size_in log (Actor.Thread k) i);
       shorts = shorts_used;
       sizes = sizes_alike;
       interrupts = due_counted;

@@ -22,7 +22,7 @@ use Rattle.spec_play.specs.Progress.{Progress, Used}
 use Rattle.spec_play.specs.Turns.{are_sizes_used}
 use Rattle.spec_play.specs.Verdicts.{Verdict, Goes, Fails, interrupt_at, chunk_why, chunk_verdict}
 use Rattle.spec_protocol.specs.Spheres.{whole_limit}
-use Rattle.spec_protocol.specs.Sound.{commits_of, is_due_in, due, IsDoneInOrder}
+use Rattle.spec_protocol.specs.Sound.{commits_in, is_due_in, due, IsDoneInOrder}
 
 -- ---- a chunk's verdict
 
@@ -44,40 +44,57 @@ why_not log k t n =
 
 -- whether a chunk goes as logged hangs on its thread's end and its number of instructions alone
 abbrev pub ChunksAreJudged : Type 0
-ChunksAreJudged = (log : LogParts) (p : Progress) (u : Used) (k : ℕ) (r : Run) → why_of (chunk_verdict log p u k r) ≡ why_not log k r.thread r.n
+ChunksAreJudged =
+    (log : LogParts) (p : Progress) (u : Used) (k : ℕ) (r : Run) → why_of (chunk_verdict log p u k r) ≡ why_not log k r.thread r.n
 
 -- ---- what is kept of a log
 
--- the log of what is kept has its sizes and its heads, and a commit's limit is that of its size
-pub record KeptIsLogged : Type 0 where
-  pub size : (mode : ModeName) (kept : Kept) (interrupts : List Interrupt) (inputs : List Input) (dmas : List DmaRecord) (actor : Actor) (i : ℕ) → size_in (log_of mode kept interrupts inputs dmas) actor i ≡ kept_size kept actor i
-  pub head : (mode : ModeName) (kept : Kept) (interrupts : List Interrupt) (inputs : List Input) (dmas : List DmaRecord) (i : ℕ) (last : Option ℕ) (live : List Bool)
-      → head (log_of mode kept interrupts inputs dmas) i last live ≡ kept_head mode kept.order i (is_slot dmas i) last live
-  pub limit : (log : LogParts) (k i : ℕ) → whole_limit log k i ≡ limit_by log.s (size_in log (Actor.Thread k) i)
+-- the log has the sizes and the heads of what is kept
+pub record IsLogged (mode : ModeName) (kept : Kept) (log : LogParts) : Type 0 where
+  pub size : (actor : Actor) (i : ℕ) → size_in log actor i ≡ kept_size kept actor i
+  pub head : (i : ℕ) (last : Option ℕ) (live : List Bool) → head log i last live ≡ kept_head mode kept.order i (is_slot log.dmas i) last live
+
+-- so has the log of what is kept, whatever its records
+abbrev pub KeptIsLogged : Type 0
+KeptIsLogged =
+    (mode : ModeName) (kept : Kept) (interrupts : List Interrupt) (inputs : List Input) (dmas : List DmaRecord) → IsLogged mode kept (log_of mode kept interrupts inputs dmas)
+
+-- the limit of a commit is that of its size
+abbrev pub LimitsAreOfSizes : Type 0
+LimitsAreOfSizes = (log : LogParts) (k i : ℕ) → whole_limit log k i ≡ limit_by log.s (size_in log (Actor.Thread k) i)
 
 -- ---- sizes that are used
 
 -- these are the numbers of the threads' commits
 abbrev pub AreCommits : (done : List ℕ) → (threads : List Parts) → Type 0
-AreCommits done threads = (k : ℕ) → slice_index done k ≡ commits_of (slice_get threads k)
+AreCommits done threads = (k : ℕ) → slice_index done k ≡ commits_in threads k
 
--- short sizes are used by the numbers of commits as they are by the threads
+-- sizes are used by the numbers of commits as they are by the threads
+abbrev pub AreUsedAlike : List Actor → Sizes → List Parts → Type 0
+AreUsedAlike order sizes threads =
+    (done : List ℕ) → AreCommits done threads → sizes_used order sizes done ≡ are_sizes_used threads sizes
+
+-- short ones at any time
 abbrev pub ShortSizesAreUsed : Type 0
-ShortSizesAreUsed = (done : List ℕ) (threads : List Parts) (order : List Actor) (sizes : List ShortSize) → AreCommits done threads → sizes_used order (Sizes.Short sizes) done ≡ are_sizes_used threads (Sizes.Short sizes)
+ShortSizesAreUsed =
+    (order : List Actor) (sizes : List ShortSize) (threads : List Parts) → AreUsedAlike order (Sizes.Short sizes) threads
 
--- so are all sizes at the end of a play, where each thread has done its commits
+-- and all at the end of a play, where each thread has done its commits
 abbrev pub SizesAreUsed : Type 0
-SizesAreUsed = (log : LogParts) (done : List ℕ) (threads : List Parts) → IsLog log → IsDoneInOrder log.mode log.order log.count threads → AreCommits done threads → sizes_used log.order log.sizes done ≡ are_sizes_used threads log.sizes
+SizesAreUsed =
+    (log : LogParts) (threads : List Parts) → IsLog log → IsDoneInOrder log.mode log.order log.count threads → AreUsedAlike log.order log.sizes threads
 
 -- ---- interrupts that are taken
 
 -- those that a replay has used are those that are due, as many as its book counts: so one is left over where not all are due
 abbrev pub DueAreCounted : Type 0
-DueAreCounted = (threads : List Parts) (interrupts : List Interrupt) → nat_lt (due threads interrupts) (length interrupts) ≡ not (list_all (is_due_in threads) interrupts)
+DueAreCounted =
+    (threads : List Parts) (interrupts : List Interrupt) → nat_lt (due threads interrupts) (length interrupts) ≡ not (list_all (is_due_in threads) interrupts)
 
 pub record LogsAreSeenAlike : Type 0 where
   pub chunks : ChunksAreJudged
   pub kept : KeptIsLogged
+  pub limits : LimitsAreOfSizes
   pub shorts : ShortSizesAreUsed
   pub sizes : SizesAreUsed
   pub interrupts : DueAreCounted

@@ -4,10 +4,12 @@ use Rattle.dl_entry.specs.declared.Input.{Input}
 use Rattle.dl_entry.specs.declared.Request.{Request}
 use Rattle.spec_isa.specs.declared.thread.Parts.{Parts}
 use Rattle.spec_log.specs.Log.{IsInput, AreFewBytes}
+use Rattle.spec_kernel.specs.Devices.{Devices}
 use Rattle.spec_kernel.specs.Needs.{need}
 use Rattle.spec_kernel.specs.Answers.{taken, dma_bytes}
 use Rattle.spec_engine.specs.declared.answers.How.{How}
 use Rattle.spec_engine.specs.Flights.{at}
+use Rattle.spec_protocol.specs.Spheres.{Sphere}
 use Rattle.spec_protocol.specs.Asking.{is_short}
 use Rattle.spec_protocol.specs.Placing.{replays}
 use Rattle.spec_protocol.specs.World.{Held, World, moment, sphere_at}
@@ -25,13 +27,22 @@ abbrev pub IsInputIf : Option Input → Type 0
 IsInputIf None = Unit {0}
 IsInputIf (Some r) = IsInput r
 
--- in each sphere: its threads have the numbers of a log's actors; the closed chunks of plain and recorded spheres have its
--- sizes; what the devices answer to a thread's next step is one of its inputs, and what they give a DMA are its bytes
+-- of a sphere at a moment: its threads have the numbers of a log's actors, what the devices answer to a thread's next step is
+-- one of its inputs, and what they give a DMA are its bytes
+pub record FitsLog (now : ℕ) (d : Devices) (p : Sphere) : Type 0 where
+  pub threads : (k : ℕ) (t : Parts) → slice_get p.threads k ≡ Some t → k ≤ 14
+  pub inputs : (k : ℕ) (t : Parts) → slice_get p.threads k ≡ Some t → IsInputIf (taken (need t p.memory) d now).input
+  pub bytes : (request : Request) → p.progress.request ≡ Some request → AreFewBytes (dma_bytes d request)
+
+-- core c holds h, which was closed so, of a plain or recorded sphere
+pub record IsClosed (w : World) (c : ℕ) (h : Held) (how : How) : Type 0 where
+  pub is : at w.cores c ≡ Some h
+  pub closed : h.chunk.closed ≡ Some how
+  pub live : replays (sphere_at w h.chunk.sphere).role ≡ false
+
 pub record FitsLogs (w : World) : Type 0 where
-  pub threads : (i k : ℕ) (t : Parts) → slice_get (sphere_at w i).threads k ≡ Some t → k ≤ 14
-  pub chunks : (c : ℕ) (h : Held) (how : How) → at w.cores c ≡ Some h → h.chunk.closed ≡ Some how → replays (sphere_at w h.chunk.sphere).role ≡ false → IsNotable w.numbers.chunk h how
-  pub inputs : (i k : ℕ) (t : Parts) → slice_get (sphere_at w i).threads k ≡ Some t → IsInputIf (taken (need t (sphere_at w i).memory) w.devices (moment w)).input
-  pub bytes : (i : ℕ) (request : Request) → (sphere_at w i).progress.request ≡ Some request → AreFewBytes (dma_bytes w.devices request)
+  pub spheres : (i : ℕ) → FitsLog (moment w) w.devices (sphere_at w i)
+  pub chunks : (c : ℕ) (h : Held) (how : How) → IsClosed w c h how → IsNotable w.numbers.chunk h how
 
 abbrev pub NotesFitLogs : Type 0
 NotesFitLogs = (s : Setup) (w : World) → IsWithinLimits s → IsGood w → IsSound s w → FitsLogs w

@@ -116,12 +116,15 @@ abbrev pub commits_of : Option Parts → ℕ
 commits_of None = 0
 commits_of (Some t) = t.commits
 
+abbrev pub commits_in : List Parts → (thread : ℕ) → ℕ
+commits_in threads k = commits_of (slice_get threads k)
+
 -- an interrupt is due once its thread, which has done so many commits, has done as many as it says, and one at least
 abbrev pub is_due : Interrupt → (commits : ℕ) → Bool
 is_due i n = nat_lt 0 i.index && nat_le i.index n
 
 abbrev pub is_due_in : List Parts → Interrupt → Bool
-is_due_in threads i = is_due i (commits_of (slice_get threads i.thread))
+is_due_in threads i = is_due i (commits_in threads i.thread)
 
 -- how many of these are due
 abbrev pub due : List Parts → List Interrupt → ℕ
@@ -135,8 +138,8 @@ commits_among k (actor ∷ actors) = (if is_thread k actor then 1 else 0) + comm
 
 -- each thread has done its commits among the first ones of the order, where there is an order
 abbrev pub IsDoneInOrder : ModeName → (order : List Actor) → (commits : ℕ) → List Parts → Type 0
-IsDoneInOrder ModeName.OrderSize order n threads = (k : ℕ) → commits_of (slice_get threads k) ≡ commits_among k (take n order)
-IsDoneInOrder ModeName.OrderOnly order n threads = (k : ℕ) → commits_of (slice_get threads k) ≡ commits_among k (take n order)
+IsDoneInOrder ModeName.OrderSize order n threads = (k : ℕ) → commits_in threads k ≡ commits_among k (take n order)
+IsDoneInOrder ModeName.OrderOnly order n threads = (k : ℕ) → commits_in threads k ≡ commits_among k (take n order)
 IsDoneInOrder ModeName.Picolog order n threads = Unit {0}
 
 -- the order names the actor after so many commits
@@ -168,10 +171,10 @@ pub record IsSoundBook (commits : ℕ) (threads : List Parts) (b : Book) : Type 
 
 -- no interrupt is logged of a thread after more commits than it has, nor after as many unless it is masked; and none of a
 -- thread that isn't there. So the next interrupt is of a new moment
-pub record AreFresh (threads : List Parts) (interrupts : List Interrupt) : Type 0 where
-  pub later : (k i : ℕ) (t : Parts) → slice_get threads k ≡ Some t → t.commits < i → interrupt_at interrupts k i ≡ None
-  pub unmasked : (k : ℕ) (t : Parts) → slice_get threads k ≡ Some t → t.mask ≡ false → interrupt_at interrupts k t.commits ≡ None
-  pub absent : (k i : ℕ) → slice_get threads k ≡ None → interrupt_at interrupts k i ≡ None
+pub record AreFresh (threads : List Parts) (is : List Interrupt) : Type 0 where
+  pub later : (k i : ℕ) (t : Parts) → slice_get threads k ≡ Some t → t.commits < i → interrupt_at is k i ≡ None
+  pub unmasked : (k : ℕ) (t : Parts) → slice_get threads k ≡ Some t → t.mask ≡ false → interrupt_at is k t.commits ≡ None
+  pub absent : (k i : ℕ) → slice_get threads k ≡ None → interrupt_at is k i ≡ None
 
 -- a recording has as many commits as its sphere, and the plan's standard size
 pub record IsSoundLog (s commits : ℕ) (threads : List Parts) (log : LogParts) : Type 0 where
@@ -243,4 +246,5 @@ WorldsAreSound = (s : Setup) (es : List Event) → IsWithinLimits s → IsSound 
 
 -- and any event keeps it, where the invariant holds
 abbrev pub EventsKeepSound : Type 0
-EventsKeepSound = (s : Setup) (w : World) (e : Event) → IsWithinLimits s → IsGood w → IsSound s w → IsSound s (happens w e).world
+EventsKeepSound =
+    (s : Setup) (w : World) (e : Event) → IsWithinLimits s → IsGood w → IsSound s w → IsSound s (happens w e).world
