@@ -19,19 +19,13 @@ use Rattle.spec_play.specs.Verdicts.{interrupt_at}
 use Rattle.spec_log.specs.Noting.{order_with}
 use Rattle.spec_play.specs.Recording.{noted, input_noted}
 use Rattle.spec_protocol.specs.Spheres.{Sphere}
+pub use Rattle.spec_protocol.specs.Sound.{commits_if, commits_in}
 use Rattle.spec_protocol.proofs.Inserting.{with_short, with_size}
 use Rattle.spec_protocol.proofs.Moving.{get-set_other, get-set_same, get-append}
 use Rattle.spec_protocol.proofs.Keeping.{IsNew, AreNew}
 use Rattle.spec_protocol.proofs.Lookups.{short_at, short-other, count_of, count-append, SlotsBelow, SlotsFrom, SlotsBelow_more}
 
 -- ---- the commits of threads
-
-abbrev pub commits_if : Option Parts → ℕ
-commits_if None = 0
-commits_if (Some t) = t.commits
-
-abbrev pub commits_in : List Parts → (thread : ℕ) → ℕ
-commits_in ts k = commits_if (slice_get ts k)
 
 new_commits : (made : List Parts) (j : ℕ) → AreNew made → commits_in made j ≡ 0
 new_commits [] j new = refl

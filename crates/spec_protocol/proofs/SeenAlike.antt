@@ -24,7 +24,7 @@ use Rattle.spec_play.specs.Progress.{Used, with_interrupt}
 use Rattle.spec_play.specs.Turns.{is_size_used, are_sizes_used}
 use Rattle.spec_play.specs.Verdicts.{Verdict, Goes, Fails, unless, interrupt_at, with_interrupted, ended, chunk_why, chunk_verdict}
 use Rattle.spec_protocol.specs.Judging.{why_of, interrupt_why, ChunksAreJudged, AreCommits, ShortSizesAreUsed, SizesAreUsed, DueAreCounted, LogsAreSeenAlike}
-use Rattle.spec_protocol.specs.Sound.{commits_of, is_due_in, due, commits_among, IsDoneInOrder}
+use Rattle.spec_protocol.specs.Sound.{commits_if, is_due_in, due, commits_among, IsDoneInOrder}
 use Rattle.spec_protocol.proofs.OnCores.{branch}
 use Rattle.spec_protocol.proofs.SoundUses.{due-most}
 
@@ -70,7 +70,7 @@ limit_same s (Some z) = refl
 
 -- ---- short sizes
 
-used_by : (short : ShortSize) (o : Option Parts) → nat_lt short.index (commits_of o) ≡ is_size_used o short
+used_by : (short : ShortSize) (o : Option Parts) → nat_lt short.index (commits_if o) ≡ is_size_used o short
 used_by short None = le-ltb short.index 0 (omega arith)
 used_by short (Some t) = refl
 
@@ -98,7 +98,7 @@ all_true : (p : ℕ → Bool) (xs : List ℕ) → ((x : ℕ) → p x ≡ true) �
 all_true p [] each = refl
 all_true p (x ∷ xs) each = (λ i. each x i && all_true p xs each i)
 
-each_used : (order : List Actor) (sizes done : List ℕ) (threads : List Parts) (count : ℕ) → length order ≡ count → length sizes ≡ count → ((k : ℕ) → commits_of (slice_get threads k) ≡ commits_among k (take count order)) → AreCommits done threads
+each_used : (order : List Actor) (sizes done : List ℕ) (threads : List Parts) (count : ℕ) → length order ≡ count → length sizes ≡ count → ((k : ℕ) → commits_if (slice_get threads k) ≡ commits_among k (take count order)) → AreCommits done threads
     → sizes_used order (Sizes.Each sizes) done ≡ true
 each_used order sizes done threads count long each ordered same =
     all_true (λ k. nat_le (length (sizes_of_thread k order sizes)) (slice_index done k)) (range_with_len 0 15)

@@ -15,7 +15,7 @@ use Rattle.spec_kernel.specs.Interrupts.{is_live}
 use Rattle.spec_play.specs.Progress.{Progress, position, Used}
 use Rattle.spec_play.specs.Turns.{Now, Turn, Over, has_left_over, at_end, turn_of_thread, turn_of, next_actor, now_at}
 use Rattle.spec_protocol.specs.Spheres.{actor_of}
-use Rattle.spec_protocol.specs.Sound.{commits_of, commits_among, IsDoneInOrder, IsNamed}
+use Rattle.spec_protocol.specs.Sound.{commits_if, commits_among, IsDoneInOrder, IsNamed}
 use Rattle.spec_protocol.proofs.Keeping.{AreNew}
 use Rattle.spec_protocol.proofs.Growing.{commits-other, commits-same}
 use Rattle.spec_protocol.proofs.OnCores.{branch}
@@ -46,7 +46,7 @@ other j k ne = ap one_if (ne_eqb k j (λ e. ne (sym e)))
 -- ---- a commit of a thread, and a DMA
 
 abbrev InOrder : (order : List Actor) → (n : ℕ) → List Parts → Type 0
-InOrder order n threads = (k : ℕ) → commits_of (slice_get threads k) ≡ commits_among k (take n order)
+InOrder order n threads = (k : ℕ) → commits_if (slice_get threads k) ≡ commits_among k (take n order)
 
 in-order-commit : (order : List Actor) (n k : ℕ) (ts made : List Parts) (t u : Parts) → slice_get ts k ≡ Some t → u.commits ≡ t.commits + 1 → AreNew made → slice_get order n ≡ Some (Actor.Thread k) → InOrder order n ts → InOrder order (suc n) (set ts k u ++ made)
 in-order-commit order n k ts made t u there commits new named was j =
@@ -54,8 +54,8 @@ in-order-commit order n k ts made t u there commits new named was j =
     let old = was j in
     elim (cases_eq j k) [
       | inl e ↦ (
-          let here = ap (λ (i : ℕ). commits_of (slice_get (set ts k u ++ made) i)) e ∙ commits-same ts made k t u there in
-          let before = ap (λ (i : ℕ). commits_of (slice_get ts i)) e ∙ ap commits_of there in
+          let here = ap (λ (i : ℕ). commits_if (slice_get (set ts k u ++ made) i)) e ∙ commits-same ts made k t u there in
+          let before = ap (λ (i : ℕ). commits_if (slice_get ts i)) e ∙ ap commits_if there in
           let one_ = ap (λ (i : ℕ). one_if (is_thread i (Actor.Thread k))) e ∙ own k in
           omega (arith, next, old, here, before, one_, commits)
           )
@@ -81,8 +81,8 @@ in-order-piece : (order : List Actor) (n k : ℕ) (ts : List Parts) (t u : Parts
 in-order-piece order n k ts t u there commits was j =
     elim (cases_eq j k) [
       | inl e ↦ (
-          ap (λ (i : ℕ). commits_of (slice_get (set ts k u ++ []) i)) e ∙ commits-same ts [] k t u there
-          ∙ commits ∙ sym (ap commits_of there) ∙ sym (ap (λ (i : ℕ). commits_of (slice_get ts i)) e) ∙ was j
+          ap (λ (i : ℕ). commits_if (slice_get (set ts k u ++ []) i)) e ∙ commits-same ts [] k t u there
+          ∙ commits ∙ sym (ap commits_if there) ∙ sym (ap (λ (i : ℕ). commits_if (slice_get ts i)) e) ∙ was j
           )
       | inr ne ↦ commits-other ts [] k j u tt ne ∙ was j
     ]

@@ -8,7 +8,7 @@ use Rattle.spec_isa.specs.declared.thread.Parts.{Parts}
 use Rattle.spec_log.specs.declared.Interrupt.{Interrupt}
 use Rattle.spec_log.specs.Log.{ComesBefore}
 use Rattle.spec_play.specs.Verdicts.{interrupt_at}
-use Rattle.spec_protocol.specs.Sound.{commits_of, is_due, is_due_in, due}
+use Rattle.spec_protocol.specs.Sound.{commits_if, is_due, is_due_in, due}
 use Rattle.spec_protocol.proofs.Inserting.{both_tests}
 use Rattle.spec_protocol.proofs.Keeping.{AreNew}
 use Rattle.spec_protocol.proofs.Growing.{commits-other, commits-same}
@@ -92,14 +92,14 @@ due-not_yet i c e = and_right (nat_lt 0 i.index) (nat_le i.index c) (lt-leb i.in
 
 -- thread k, which was t, has one commit more as u, and new threads have none
 pub record OnceMore (ts us : List Parts) (k c : ℕ) : Type 0 where
-  pub before : commits_of (slice_get ts k) ≡ c
-  pub after : commits_of (slice_get us k) ≡ suc c
-  pub others : (j : ℕ) → j ≢ k → commits_of (slice_get us j) ≡ commits_of (slice_get ts j)
+  pub before : commits_if (slice_get ts k) ≡ c
+  pub after : commits_if (slice_get us k) ≡ suc c
+  pub others : (j : ℕ) → j ≢ k → commits_if (slice_get us j) ≡ commits_if (slice_get ts j)
 
 pub once-more : (ts made : List Parts) (k : ℕ) (t u : Parts) → slice_get ts k ≡ Some t → u.commits ≡ t.commits + 1 → AreNew made → OnceMore ts (set ts k u ++ made) k t.commits
 once-more ts made k t u there commits new =
     record {
-      before = ap commits_of there;
+      before = ap commits_if there;
       after = commits-same ts made k t u there ∙ (omega (arith, commits));
       others = λ j ne. commits-other ts made k j u new ne;
     }
@@ -111,8 +111,8 @@ one-same i ts us k c m miss =
       | inr ne ↦ ap (is_due i) (m.others i.thread ne)
       | inl e ↦ (
           let ne : i.index ≢ suc c = (λ f. true≢false (sym (and_from (eqb i.thread k) (eqb i.index (suc c)) (eq-eqb i.thread k e) (eq-eqb i.index (suc c) f)) ∙ miss)) in
-          ap (is_due i) (ap (λ (j : ℕ). commits_of (slice_get us j)) e ∙ m.after) ∙ due-step i c ne
-          ∙ sym (ap (is_due i) (ap (λ (j : ℕ). commits_of (slice_get ts j)) e ∙ m.before))
+          ap (is_due i) (ap (λ (j : ℕ). commits_if (slice_get us j)) e ∙ m.after) ∙ due-step i c ne
+          ∙ sym (ap (is_due i) (ap (λ (j : ℕ). commits_if (slice_get ts j)) e ∙ m.before))
           )
     ]
 
@@ -136,8 +136,8 @@ hit-due x is ts us k c m later hit =
     let p = and_parts (eqb x.thread k) (eqb x.index (suc c)) hit in
     let thread = eqb-true x.thread k p.0 in
     let index = eqb-true x.index (suc c) p.1 in
-    let was = ap one_if (ap (is_due x) (ap (λ (j : ℕ). commits_of (slice_get ts j)) thread ∙ m.before) ∙ due-not_yet x c index) in
-    let now = ap one_if (ap (is_due x) (ap (λ (j : ℕ). commits_of (slice_get us j)) thread ∙ m.after) ∙ due-now x c index) in
+    let was = ap one_if (ap (is_due x) (ap (λ (j : ℕ). commits_if (slice_get ts j)) thread ∙ m.before) ∙ due-not_yet x c index) in
+    let now = ap one_if (ap (is_due x) (ap (λ (j : ℕ). commits_if (slice_get us j)) thread ∙ m.after) ∙ due-now x c index) in
     let none : find (is_at k (suc c)) is ≡ None = sym (λ i. find (is_at (thread i) (index i)) is) ∙ none-behind x is later in
     let rest = none-due is ts us k c m none in
     omega (arith, was, now, rest)
@@ -164,20 +164,20 @@ one-due is ts us k c value rising m e =
 
 -- ---- no commit
 
-pub due-still : (is : List Interrupt) (ts us : List Parts) → ((j : ℕ) → commits_of (slice_get us j) ≡ commits_of (slice_get ts j)) → due us is ≡ due ts is
+pub due-still : (is : List Interrupt) (ts us : List Parts) → ((j : ℕ) → commits_if (slice_get us j) ≡ commits_if (slice_get ts j)) → due us is ≡ due ts is
 due-still [] ts us same = refl
 due-still (i ∷ is) ts us same =
     let a = ap one_if (ap (is_due i) (same i.thread)) in let b = due-still is ts us same in omega (arith, a, b)
 
 -- a piece counts no commit
-pub piece-commits : (ts : List Parts) (k : ℕ) (t u : Parts) → slice_get ts k ≡ Some t → u.commits ≡ t.commits → (j : ℕ) → commits_of (slice_get (set ts k u) j) ≡ commits_of (slice_get ts j)
+pub piece-commits : (ts : List Parts) (k : ℕ) (t u : Parts) → slice_get ts k ≡ Some t → u.commits ≡ t.commits → (j : ℕ) → commits_if (slice_get (set ts k u) j) ≡ commits_if (slice_get ts j)
 piece-commits ts k t u there same j =
     elim (cases_eq j k) [
       | inl e ↦ (
-          ap (λ (i : ℕ). commits_of (slice_get (set ts k u) i)) e ∙ ap commits_of (get-set_same ts k u t there) ∙ same
-          ∙ sym (ap commits_of there) ∙ sym (ap (λ (i : ℕ). commits_of (slice_get ts i)) e)
+          ap (λ (i : ℕ). commits_if (slice_get (set ts k u) i)) e ∙ ap commits_if (get-set_same ts k u t there) ∙ same
+          ∙ sym (ap commits_if there) ∙ sym (ap (λ (i : ℕ). commits_if (slice_get ts i)) e)
           )
-      | inr ne ↦ ap commits_of (get-set_other ts k j u ne)
+      | inr ne ↦ ap commits_if (get-set_other ts k j u ne)
     ]
 
 -- ---- no more than there are
@@ -191,7 +191,7 @@ due-most (i ∷ is) ts =
 -- ---- the start
 
 -- thread 0 alone has done nothing
-nothing-done : (ts : List Parts) → ((j : ℕ) → commits_of (slice_get ts j) ≡ 0) → (is : List Interrupt) → due ts is ≡ 0
+nothing-done : (ts : List Parts) → ((j : ℕ) → commits_if (slice_get ts j) ≡ 0) → (is : List Interrupt) → due ts is ≡ 0
 nothing-done ts none [] = refl
 nothing-done ts none (i ∷ is) =
     let a = ap one_if (ap (is_due i) (none i.thread) ∙ never i) in let b = nothing-done ts none is in omega (arith, a, b)
@@ -202,7 +202,7 @@ nothing-done ts none (i ∷ is) =
       | inr ne ↦ and_right (nat_lt 0 i.index) (nat_le i.index 0) (lt-leb i.index 0 (omega (arith, ne)))
     ]
 
-first-commits : (t : Parts) (j : ℕ) → t.commits ≡ 0 → commits_of (slice_get (t ∷ []) j) ≡ 0
+first-commits : (t : Parts) (j : ℕ) → t.commits ≡ 0 → commits_if (slice_get (t ∷ []) j) ≡ 0
 first-commits t zero e = e
 first-commits t (suc j) e = refl
 

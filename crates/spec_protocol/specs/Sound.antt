@@ -112,12 +112,12 @@ IsSoundIf size (Some request) = IsSoundRequest size request
 -- ---- a replay
 
 -- the number of a thread's commits, none where there is no thread
-abbrev pub commits_of : Option Parts → ℕ
-commits_of None = 0
-commits_of (Some t) = t.commits
+abbrev pub commits_if : Option Parts → ℕ
+commits_if None = 0
+commits_if (Some t) = t.commits
 
 abbrev pub commits_in : List Parts → (thread : ℕ) → ℕ
-commits_in threads k = commits_of (slice_get threads k)
+commits_in threads k = commits_if (slice_get threads k)
 
 -- an interrupt is due once its thread, which has done so many commits, has done as many as it says, and one at least
 abbrev pub is_due : Interrupt → (commits : ℕ) → Bool
