@@ -47,3 +47,5 @@ pub mod CountingPieces
 pub mod AsRecorded
 pub mod Committers
 pub mod Lasts
+pub mod Consoles
+pub mod PuttingOut
