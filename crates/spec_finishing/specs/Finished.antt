@@ -21,5 +21,7 @@ pub record HasPlayed (image : SphereSetup) (log : LogParts) (s : Setup) (es : Li
 -- whatever the schedule, after the events that finish it
 abbrev pub ReplaysAreFinished : Type 0
 ReplaysAreFinished =
-    (image : SphereSetup) (log : LogParts) (s : Setup) (es finishing : List Event) (i : ℕ) → CanFinish s → FinishesAfter s es finishing → slice_get s.spheres i ≡ Some image → image.role ≡ IsReplayed log
+    (image : SphereSetup) (log : LogParts) (s : Setup) (es finishing : List Event) (i : ℕ)
+    → CanFinish s → FinishesAfter s es finishing → slice_get s.spheres i ≡ Some image
+    → image.role ≡ IsReplayed log
     → HasPlayed image log s (es ++ finishing) i

@@ -9,4 +9,6 @@ IsOfCommits p = p.last ≡ last_thread p.commits
 
 -- after any number of commits of a play
 abbrev pub PlaysKeepLasts : Type 0
-PlaysKeepLasts = (log : LogParts) (memory : List ℕ) (entry i : ℕ) → IsOfCommits (plays log (opened log memory entry) i).progress
+PlaysKeepLasts =
+    (log : LogParts) (memory : List ℕ) (entry i : ℕ)
+    → IsOfCommits (plays log (opened log memory entry) i).progress

@@ -6,20 +6,56 @@ use Rattle.dl_entry.specs.declared.Input.{Input}
 use Rattle.spec_log.specs.declared.ModeName.{ModeName}
 use Rattle.spec_log.specs.declared.Interrupt.{Interrupt}
 use Rattle.spec_log.specs.declared.DmaRecord.{DmaRecord}
+use Rattle.spec_log.specs.declared.LogParts.{LogParts}
 use Rattle.spec_log.specs.Noting.{Kept, nothing_kept, noted as kept_with, index_of, insert_interrupt, log_of}
 use Rattle.spec_play.specs.Effects.{dma_commit}
 use Rattle.spec_play.specs.Recording.{new_log, note_of, noted, input_noted, dma_noted, interrupt_noted}
 
--- the log of what is kept grows as what is kept does
-pub record IsKept (mode : ModeName) (kept : Kept) (interrupts : List Interrupt) (inputs : List Input) (dmas : List DmaRecord) : Type 0 where
+-- what a recorder keeps in a mode: of the commits, and the records
+pub record Recorded : Type 0 where
+  pub mode : ModeName
+  pub kept : Kept
+  pub interrupts : List Interrupt
+  pub inputs : List Input
+  pub dmas : List DmaRecord
+
+-- as a log
+abbrev pub as_log : Recorded → LogParts
+as_log r = log_of r.mode r.kept r.interrupts r.inputs r.dmas
+
+-- nothing yet
+abbrev pub nothing_recorded : ModeName → (s : ℕ) → Recorded
+nothing_recorded mode s =
+    record { mode = mode; kept = nothing_kept mode s; interrupts = []; inputs = []; dmas = [] }
+
+-- with one more of each
+abbrev pub commit_kept : Commit → (short : Bool) → Recorded → Recorded
+commit_kept c short r = record r { kept = kept_with r.mode r.kept (note_of c short) }
+
+abbrev pub interrupt_kept : (thread commits value : ℕ) → Recorded → Recorded
+interrupt_kept k i value r =
+    record r { interrupts = insert_interrupt (record { thread = k; index = i; value = value }) r.interrupts }
+
+abbrev pub input_kept : Input → Recorded → Recorded
+input_kept input r = record r { inputs = r.inputs ++ input ∷ [] }
+
+abbrev pub data_kept : (slot : ℕ) → (bytes : List ℕ) → Recorded → Recorded
+data_kept slot bytes r = record r { dmas = r.dmas ++ record { slot = slot; bytes = bytes } ∷ [] }
+
+-- the log grows as what is kept does
+pub record GrowsAlike (r : Recorded) : Type 0 where
   -- the index of a thread's commit is the number of its commits that are kept
-  pub commit : (c : Commit) (short : Bool) → log_of mode (kept_with mode kept (note_of c short)) interrupts inputs dmas ≡ noted c (index_of kept.done c.actor) short (log_of mode kept interrupts inputs dmas)
+  pub commit : (c : Commit) (short : Bool)
+      → as_log (commit_kept c short r) ≡ noted c (index_of r.kept.done c.actor) short (as_log r)
   -- a DMA's index is of no account
-  pub dma_commit : (i : ℕ) → log_of mode (kept_with mode kept (note_of dma_commit false)) interrupts inputs dmas ≡ noted dma_commit i false (log_of mode kept interrupts inputs dmas)
-  pub interrupt : (k i value : ℕ) → log_of mode kept (insert_interrupt (record { thread = k; index = i; value = value }) interrupts) inputs dmas ≡ interrupt_noted k i value (log_of mode kept interrupts inputs dmas)
-  pub input : (r : Input) → log_of mode kept interrupts (inputs ++ r ∷ []) dmas ≡ input_noted (Some r) (log_of mode kept interrupts inputs dmas)
-  pub dma : (slot : ℕ) (bytes : List ℕ) → log_of mode kept interrupts inputs (dmas ++ record { slot = slot; bytes = bytes } ∷ []) ≡ dma_noted slot bytes (log_of mode kept interrupts inputs dmas)
+  pub dma_commit : (i : ℕ)
+      → as_log (commit_kept dma_commit false r) ≡ noted dma_commit i false (as_log r)
+  pub interrupt : (k i value : ℕ)
+      → as_log (interrupt_kept k i value r) ≡ interrupt_noted k i value (as_log r)
+  pub input : (input : Input) → as_log (input_kept input r) ≡ input_noted (Some input) (as_log r)
+  pub dma : (slot : ℕ) (bytes : List ℕ)
+      → as_log (data_kept slot bytes r) ≡ dma_noted slot bytes (as_log r)
 
 pub record RecordersKeepLogs : Type 0 where
-  pub first : (mode : ModeName) (s : ℕ) → log_of mode (nothing_kept mode s) [] [] [] ≡ new_log mode s
-  pub kept : (mode : ModeName) (kept : Kept) (interrupts : List Interrupt) (inputs : List Input) (dmas : List DmaRecord) → IsKept mode kept interrupts inputs dmas
+  pub first : (mode : ModeName) (s : ℕ) → as_log (nothing_recorded mode s) ≡ new_log mode s
+  pub grows : (r : Recorded) → GrowsAlike r

@@ -61,8 +61,10 @@ pub record IsWalk (log : LogParts) (v : Walked) (y : Played) (to : ℕ) : Type 0
   pub ended : (how : End) → v.end ≡ WalkEnd.Ended how → HasEnded v y how
   pub stopped : (done : ℕ) → v.end ≡ WalkEnd.Stopped done → HasStopped log v to done
   -- it ends where the play ends at fewer commits, or the log has no more
-  pub ends : (how : End) → y.now ≡ Over how → (position y.progress < to) ⊎ (log.count ≤ to) → v.end ≡ WalkEnd.Ended how
+  pub ends : (how : End) → y.now ≡ Over how → (position y.progress < to) ⊎ (log.count ≤ to)
+      → v.end ≡ WalkEnd.Ended how
 
 abbrev pub WalksArePlays : Type 0
 WalksArePlays =
-    (log : LogParts) (memory : List ℕ) (entry to : ℕ) → IsWalk log (walked log memory entry to) (play log memory entry) to
+    (log : LogParts) (memory : List ℕ) (entry to : ℕ)
+    → IsWalk log (walked log memory entry to) (play log memory entry) to

@@ -22,7 +22,7 @@ use Rattle.spec_protocol.specs.World.{Held, World, moment, sphere_at, After, ans
 use Rattle.spec_protocol.specs.Asking.{CommitRequest, chunk_request, granted, grant_chunk, unless_denied, serial_request, grant_serial, unless_busy, asks_serial, ask_arbiter, other_turn, unless_turn, ask_closed, ask_held, asking}
 use Rattle.spec_protocol.specs.Machine.{world_of, core_no, act, happens, world_after}
 use Rattle.spec_protocol.specs.Invariants.{IsGoodHeld, IsGood}
-use Rattle.spec_protocol.specs.Replying.{makes_point, IsInTurns, AsksAreGranted, LoadsLack, IsClearOf, GrantsAreClear}
+use Rattle.spec_protocol.specs.Replying.{makes_point, IsInTurns, IsGranted, AsksAreGranted, LoadsLack, IsClearOf, GrantsAreClear}
 use Rattle.spec_protocol.proofs.Laying.{AllLack_flip}
 use Rattle.spec_protocol.proofs.Covering.{uncovered-lacks, apart-covered}
 use Rattle.spec_protocol.proofs.Moving.{chunk-lives, serial-lives}
@@ -124,11 +124,11 @@ unfolding happens act asking
 happens_reply w c = refl
 
 pub asks_granted : AsksAreGranted
-asks_granted s es is window c h how there closed live none =
+asks_granted s es is window c h how can =
     let w = world_after (world_of s) es in
-    let m : Empty w = record { none = none; some_slot = (let e = (sizes_kept s es is).slots in omega (arith, e)) } in
-    subst (λ (r : Reply). (r ≡ Reply.Granted) ⊎ ((actor : Actor) × (r ≡ Reply.NotTurn actor) × IsInTurns (sphere_at w h.chunk.sphere).role)) (sym (happens_reply w c))
-    (ask_reply w (core_no w c) h how (at w.cores (core_no w c)) None there closed m live)
+    let m : Empty w = record { none = can.clear; some_slot = (let e = (sizes_kept s es is).slots in omega (arith, e)) } in
+    subst (λ (r : Reply). IsGranted r (sphere_at w h.chunk.sphere).role) (sym (happens_reply w c))
+    (ask_reply w (core_no w c) h how (at w.cores (core_no w c)) None can.there can.closed m can.live)
 
 -- ---- what a granted chunk is clear of
 

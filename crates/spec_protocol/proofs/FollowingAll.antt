@@ -250,7 +250,10 @@ ends L image q s r =
 -- ---- all
 
 pub logs_play_back : LogsPlayBack
-logs_play_back s es i image mode p log is there role shown log_ =
+logs_play_back s es i image mode will p log shown log_ =
+    let is = will.setup in
+    let there = will.there in
+    let role = will.role in
     let m = moves_are s es is in
     let z : ℕ = s.numbers.chunk in
     let c = moves_come s.numbers (whole_of s) (moves (world_of s) es) i (sphere_of z image) (new_log mode z) is.buffer refl (start-sphere z s.spheres i image there)

@@ -61,3 +61,5 @@ pub mod SoundOrder
 pub mod AsRecorded
 pub mod Committers
 pub mod Lasts
+pub mod Consoles
+pub mod PuttingOut

@@ -85,12 +85,12 @@ log_kept s es i image mode is there role =
 
 pub logs_are : LogsAreOfPoints
 unfolding shown
-logs_are s es i image mode is there role = (log_kept s es i image mode is there role).role
+logs_are s es i image mode will = (log_kept s es i image mode will.setup will.there will.role).role
 
 pub logs_are_fresh : LogsAreFresh
 unfolding shown
-logs_are_fresh s es i image mode log is there role kept =
-    let k = log_kept s es i image mode is there role in
+logs_are_fresh s es i image mode will log kept =
+    let k = log_kept s es i image mode will.setup will.there will.role in
     let same : logged mode s.numbers.chunk (supplied i (whole_of s) (after s es).points) ≡ log =
     (let h : Record (logged mode s.numbers.chunk (supplied i (whole_of s) (after s es).points)) ≡ Record log = sym k.role ∙ kept in cc) in
     let st : Stands (sphere_at (after s es) i) log = stands_shown s es i log (subst (Stands (shown (after s es).slots i (sphere_at (after s es) i))) same k.stands) in

@@ -26,12 +26,16 @@ MoveAlikeIf None None = Unit {0}
 MoveAlikeIf (Some v) (Some u) = MoveAlike v u
 MoveAlikeIf _ _ = ⊥
 
--- whatever the log so far: a chunk, a serial step, a DMA and an interrupt
-pub record MovesAsRecorded (p : Sphere) (log : LogParts) : Type 0 where
-  pub chunk : (k : ℕ) (piece short : Bool) (r : Run) (devices : Devices) → MoveAlike (chunk_moved k piece short r devices (in_role Plain p)) (chunk_moved k piece short r devices (in_role (Record log) p))
-  pub serial : (k moment : ℕ) (t : Parts) (devices : Devices) → MoveAlike (serial_moved k moment t devices (in_role Plain p)) (serial_moved k moment t devices (in_role (Record log) p))
-  pub dma : (devices : Devices) → MoveAlikeIf (dma_moved devices (in_role Plain p)) (dma_moved devices (in_role (Record log) p))
-  pub raise : (k value : ℕ) (t : Parts) → AreAlike (raised k value t (in_role Plain p)) (raised k value t (in_role (Record log) p))
+-- a chunk, a serial step, a DMA and an interrupt leave in p what they leave in q, but for the roles
+pub record MovesAlike (p q : Sphere) : Type 0 where
+  pub chunk : (k : ℕ) (piece short : Bool) (r : Run) (devices : Devices)
+      → MoveAlike (chunk_moved k piece short r devices p) (chunk_moved k piece short r devices q)
+  pub serial : (k moment : ℕ) (t : Parts) (devices : Devices)
+      → MoveAlike (serial_moved k moment t devices p) (serial_moved k moment t devices q)
+  pub dma : (devices : Devices) → MoveAlikeIf (dma_moved devices p) (dma_moved devices q)
+  pub raise : (k value : ℕ) (t : Parts) → AreAlike (raised k value t p) (raised k value t q)
 
+-- whatever the log so far
 abbrev pub PlainMovesAsRecorded : Type 0
-PlainMovesAsRecorded = (p : Sphere) (log : LogParts) → MovesAsRecorded p log
+PlainMovesAsRecorded =
+    (p : Sphere) (log : LogParts) → MovesAlike (in_role Plain p) (in_role (Record log) p)

@@ -12,7 +12,10 @@ pub record Begins (w : World) (e : Event) (k : ℕ) (f : Flight) : Type 0 where
 
 pub record CommittersAreTold : Type 0 where
   -- of an ask the core that asks, whole or as a piece
-  pub asks : (w : World) (c k : ℕ) (f : Flight) → Begins w (Event.Ask c) k f → told_at f.told (core_no w c) ≡ true
-  pub others : (w : World) (c k : ℕ) (f : Flight) → Begins w (Event.Ask c) k f → (d : ℕ) → d ≢ core_no w c → told_at f.told d ≡ false
+  pub asks : (w : World) (c k : ℕ) (f : Flight) → Begins w (Event.Ask c) k f
+      → told_at f.told (core_no w c) ≡ true
+  pub others : (w : World) (c k : ℕ) (f : Flight) → Begins w (Event.Ask c) k f → (d : ℕ)
+      → d ≢ core_no w c → told_at f.told d ≡ false
   -- of a DMA no core
-  pub dmas : (w : World) (i k : ℕ) (f : Flight) → Begins w (Event.Dma i) k f → (d : ℕ) → told_at f.told d ≡ false
+  pub dmas : (w : World) (i k : ℕ) (f : Flight) → Begins w (Event.Dma i) k f → (d : ℕ)
+      → told_at f.told d ≡ false

@@ -17,7 +17,8 @@ use Rattle.spec_engine.specs.Chunks.{Chunk}
 -- the words that the next instruction of a thread fetches and loads are among those seen
 pub record Touches (seen : ℕ → Bool) (t : Parts) (m : List ℕ) : Type 0 where
   pub fetch : is_inside (length m) t.pc ≡ true → seen (t.pc / 4) ≡ true
-  pub load : serial_of t (fetched t m) (length m) ≡ None → (a : ℕ) → loads_of t (fetched t m) ≡ Some a → seen a ≡ true
+  pub load : serial_of t (fetched t m) (length m) ≡ None → (a : ℕ)
+      → loads_of t (fetched t m) ≡ Some a → seen a ≡ true
 
 -- so are those of the first n instructions of a run
 abbrev pub RunTouches : (seen : ℕ → Bool) → List ℕ → Parts → (n : ℕ) → Type 0
@@ -43,14 +44,19 @@ pub record StoresAnew (t : Parts) (m : List ℕ) (ws : List Stored) : Type 0 whe
 pub record IsCurrent (m : List ℕ) (ch : Chunk) : Type 0 where
   pub runs : run m ch.start ch.done.n ≡ ch.done
   pub touches : RunTouches (seen_by ch) m ch.start ch.done.n
-  pub next_touches : ch.closed ≡ Some How.Serial → Touches (seen_by ch) ch.done.thread (lays m ch.done.words)
-  pub next_serial : ch.closed ≡ Some How.Serial → IsSome (next_kind ch.done.thread (lays m ch.done.words))
-  pub store_touches : ch.closed ≡ Some How.Overflow → Touches (seen_by ch) ch.done.thread (lays m ch.done.words)
-  pub store_anew : ch.closed ≡ Some How.Overflow → StoresAnew ch.done.thread (lays m ch.done.words) ch.done.words
+  pub next_touches : ch.closed ≡ Some How.Serial
+      → Touches (seen_by ch) ch.done.thread (lays m ch.done.words)
+  pub next_serial : ch.closed ≡ Some How.Serial
+      → IsSome (next_kind ch.done.thread (lays m ch.done.words))
+  pub store_touches : ch.closed ≡ Some How.Overflow
+      → Touches (seen_by ch) ch.done.thread (lays m ch.done.words)
+  pub store_anew : ch.closed ≡ Some How.Overflow
+      → StoresAnew ch.done.thread (lays m ch.done.words) ch.done.words
 
 -- no flight of sphere i that core c was not told of hits these reads
 pub record IsQuiet (slots : List (Option Flight)) (i c : ℕ) (reads : Marks) : Type 0 where
-  pub misses : (k : ℕ) (f : Flight) → at slots k ≡ Some f → f.sphere ≡ i → told_at f.told c ≡ false → hits f.writes reads ≡ false
+  pub misses : (k : ℕ) (f : Flight) → at slots k ≡ Some f → f.sphere ≡ i → told_at f.told c ≡ false
+      → hits f.writes reads ≡ false
 
 -- ---- words apart
 

@@ -8,4 +8,6 @@ use Rattle.spec_protocol.specs.Promises.{IsSetup, after}
 
 -- plain, recorded or replayed
 abbrev pub SpheresKeepLasts : Type 0
-SpheresKeepLasts = (s : Setup) (es : List Event) (i : ℕ) (p : Sphere) → IsSetup s → slice_get (after s es).spheres i ≡ Some p → IsOfCommits p.progress
+SpheresKeepLasts =
+    (s : Setup) (es : List Event) (i : ℕ) (p : Sphere) → IsSetup s
+    → slice_get (after s es).spheres i ≡ Some p → IsOfCommits p.progress

@@ -26,3 +26,4 @@ pub mod Logs
 pub mod AsRecorded
 pub mod Committers
 pub mod Lasts
+pub mod ConsoleBytes

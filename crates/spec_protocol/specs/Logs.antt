@@ -8,18 +8,23 @@ use Rattle.spec_play.specs.Verdicts.{interrupt_at}
 use Rattle.spec_protocol.specs.declared.event.Event.{Event}
 use Rattle.spec_protocol.specs.Spheres.{Record, Sphere}
 use Rattle.spec_protocol.specs.World.{sphere_at}
-use Rattle.spec_protocol.specs.Machine.{IsRecorded, SphereSetup, Setup}
-use Rattle.spec_protocol.specs.Promises.{IsSetup, after}
+use Rattle.spec_protocol.specs.Machine.{SphereSetup, Setup}
+use Rattle.spec_protocol.specs.Promises.{WillRecord, after}
 
 -- it counts the sphere's commits; and of a thread it has no interrupt at a later number of commits than the thread's, and
 -- at that number only where the thread is masked: so the next one is of a new moment
 pub record IsLogFresh (log : LogParts) (p : Sphere) : Type 0 where
   pub count : log.count ≡ position p.progress
-  pub later : (k i : ℕ) (t : Parts) → slice_get p.threads k ≡ Some t → t.commits < i → interrupt_at log.interrupts k i ≡ None
-  pub unmasked : (k : ℕ) (t : Parts) → slice_get p.threads k ≡ Some t → t.mask ≡ false → interrupt_at log.interrupts k t.commits ≡ None
+  pub later : (k i : ℕ) (t : Parts) → slice_get p.threads k ≡ Some t → t.commits < i
+      → interrupt_at log.interrupts k i ≡ None
+  pub unmasked : (k : ℕ) (t : Parts) → slice_get p.threads k ≡ Some t → t.mask ≡ false
+      → interrupt_at log.interrupts k t.commits ≡ None
 
--- sphere i was to be recorded, and has kept this log
+-- so it is of the log that a sphere has kept
 abbrev pub LogsAreFresh : Type 0
 LogsAreFresh =
-    (s : Setup) (es : List Event) (i : ℕ) (image : SphereSetup) (mode : ModeName) (log : LogParts) → IsSetup s → slice_get s.spheres i ≡ Some image → image.role ≡ IsRecorded mode
-    → let p = sphere_at (after s es) i in p.role ≡ Record log → IsLogFresh log p
+    (s : Setup) (es : List Event) (i : ℕ) (image : SphereSetup) (mode : ModeName)
+    → WillRecord s i image mode
+    → (log : LogParts)
+    → (sphere_at (after s es) i).role ≡ Record log
+    → IsLogFresh log (sphere_at (after s es) i)

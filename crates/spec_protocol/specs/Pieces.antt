@@ -23,7 +23,8 @@ IsChunkOf k (OfRaise j value) = ⊥
 -- take effect
 pub record GoesOn (w : World) (i : ℕ) (b : Book) (k : ℕ) : Type 0 where
   pub turn : b.now ≡ Turn k
-  pub only : (e : Event) (m : Move) → (happens w e).move ≡ Some m → m.sphere ≡ i → IsChunkOf k m.what
+  pub only : (e : Event) (m : Move) → (happens w e).move ≡ Some m → m.sphere ≡ i
+      → IsChunkOf k m.what
 
 -- a replay that has not stopped, and of whose present commit earlier pieces have run instructions
 abbrev pub PiecesStayTogether : Type 0
@@ -36,7 +37,9 @@ PiecesStayTogether =
 -- in a replay that is complete or has diverged nothing takes effect any more
 abbrev pub StoppedSpheresStay : Type 0
 StoppedSpheresStay =
-    (s : Setup) (es : List Event) (i : ℕ) → IsSetup s → let w = after s es in is_stopped (sphere_at w i).role ≡ true → (e : Event) (m : Move) → (happens w e).move ≡ Some m → m.sphere ≢ i
+    (s : Setup) (es : List Event) (i : ℕ) → IsSetup s
+    → let w = after s es in is_stopped (sphere_at w i).role ≡ true → (e : Event) (m : Move)
+    → (happens w e).move ≡ Some m → m.sphere ≢ i
 
 -- ---- counted
 
@@ -50,6 +53,8 @@ pub record CountsNothing (b : Book) (p q : Sphere) : Type 0 where
 -- so it is after a chunk of a replay that was closed by want of room or by Cut
 abbrev pub PiecesCountNothing : Type 0
 PiecesCountNothing =
-    (s : Setup) (es : List Event) (i : ℕ) (b : Book) → IsSetup s → let w = after s es in (sphere_at w i).role ≡ Replay b
-    → (e : Event) (m : Move) (k : ℕ) (how : How) (n limit : ℕ) → (happens w e).move ≡ Some m → m.sphere ≡ i → m.what ≡ OfChunk k how n limit → is_piece how ≡ true
+    (s : Setup) (es : List Event) (i : ℕ) (b : Book) → IsSetup s
+    → let w = after s es in (sphere_at w i).role ≡ Replay b
+    → (e : Event) (m : Move) (k : ℕ) (how : How) (n limit : ℕ) → (happens w e).move ≡ Some m
+    → m.sphere ≡ i → m.what ≡ OfChunk k how n limit → is_piece how ≡ true
     → CountsNothing b (sphere_at w i) (sphere_at (happens w e).world i)

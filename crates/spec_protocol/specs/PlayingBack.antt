@@ -5,9 +5,9 @@ use Rattle.spec_log.specs.declared.LogParts.{LogParts}
 use Rattle.spec_play.specs.Plays.{play, FitsImage}
 use Rattle.spec_protocol.specs.declared.event.Event.{Event}
 use Rattle.spec_protocol.specs.Spheres.{Record, Sphere}
-use Rattle.spec_protocol.specs.Machine.{IsRecorded, SphereSetup, Setup}
+use Rattle.spec_protocol.specs.Machine.{SphereSetup, Setup}
 use Rattle.spec_protocol.specs.Shown.{shown_of}
-use Rattle.spec_protocol.specs.Promises.{IsSetup, after}
+use Rattle.spec_protocol.specs.Promises.{WillRecord, after}
 
 -- the log fits the image, and its play leaves this memory, these threads, and these commits with this request
 pub record PlaysBack (log : LogParts) (image : SphereSetup) (p : Sphere) : Type 0 where
@@ -16,8 +16,12 @@ pub record PlaysBack (log : LogParts) (image : SphereSetup) (p : Sphere) : Type 
   pub threads : (play log image.memory image.entry).threads ≡ p.threads
   pub progress : (play log image.memory image.entry).progress ≡ p.progress
 
--- sphere i was to be recorded, and is now p, with its current memory and its log so far
+-- the sphere is p now, with its current memory and its log so far
 abbrev pub LogsPlayBack : Type 0
 LogsPlayBack =
-    (s : Setup) (es : List Event) (i : ℕ) (image : SphereSetup) (mode : ModeName) (p : Sphere) (log : LogParts) → IsSetup s → slice_get s.spheres i ≡ Some image → image.role ≡ IsRecorded mode
-    → slice_get (shown_of (after s es)).spheres i ≡ Some p → p.role ≡ Record log → PlaysBack log image p
+    (s : Setup) (es : List Event) (i : ℕ) (image : SphereSetup) (mode : ModeName)
+    → WillRecord s i image mode
+    → (p : Sphere) (log : LogParts)
+    → slice_get (shown_of (after s es)).spheres i ≡ Some p
+    → p.role ≡ Record log
+    → PlaysBack log image p

@@ -1,10 +1,11 @@
 -- What is promised of these definitions, for every setup within its limits and every list of events.
 use Rattle.std.specs.Prelude.{◌≡◌, ℕ, ◌<◌, false, List, length, slice_get, Some}
+use Rattle.spec_log.specs.declared.ModeName.{ModeName}
 use Rattle.spec_protocol.specs.declared.event.Event.{Event}
 use Rattle.spec_protocol.specs.Spheres.{Sphere}
 use Rattle.spec_protocol.specs.Placing.{replays}
 use Rattle.spec_protocol.specs.World.{World}
-use Rattle.spec_protocol.specs.Machine.{Setup, world_of, world_after, moves}
+use Rattle.spec_protocol.specs.Machine.{IsRecorded, SphereSetup, Setup, world_of, world_after, moves}
 use Rattle.spec_protocol.specs.Serial.{whole_of, serial, CanDoAll}
 use Rattle.spec_protocol.specs.Shown.{shown_of}
 use Rattle.spec_protocol.specs.Invariants.{IsGood}
@@ -15,6 +16,12 @@ pub record IsSetup (s : Setup) : Type 0 where
   pub chunk : 0 < s.numbers.chunk
   pub buffer : 0 < s.numbers.buffer
 
+-- sphere i is set up by the image, to be recorded in this mode
+pub record WillRecord (s : Setup) (i : ℕ) (image : SphereSetup) (mode : ModeName) : Type 0 where
+  pub setup : IsSetup s
+  pub there : slice_get s.spheres i ≡ Some image
+  pub role : image.role ≡ IsRecorded mode
+
 -- the world of a schedule
 abbrev pub after : Setup → List Event → World
 after s es = world_after (world_of s) es
@@ -24,7 +31,10 @@ after s es = world_after (world_of s) es
 -- the plain and recorded spheres, with their threads, requests, current memories, commits and logs, and the devices with the
 -- console, are those of executing the points whole, one at a time; and each point can be done as it says
 pub record IsSerialAfter (s : Setup) (es : List Event) : Type 0 where
-  pub spheres : (i : ℕ) (p : Sphere) → slice_get (shown_of (after s es)).spheres i ≡ Some p → replays p.role ≡ false → slice_get (serial s (after s es).points).spheres i ≡ Some p
+  pub spheres : (i : ℕ) (p : Sphere)
+      → slice_get (shown_of (after s es)).spheres i ≡ Some p
+      → replays p.role ≡ false
+      → slice_get (serial s (after s es).points).spheres i ≡ Some p
   pub devices : (after s es).devices ≡ (serial s (after s es).points).devices
   pub possible : CanDoAll (whole_of s) (after s es).points
 

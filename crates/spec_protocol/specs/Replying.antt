@@ -52,13 +52,23 @@ IsInTurns Plain = ⊥
 IsInTurns (Record log) = log.mode ≡ ModeName.Picolog
 IsInTurns (Replay b) = ⊥
 
--- with no flight standing, a plain or recorded sphere's closed chunk is granted; in picolog unless it is another's turn
+-- core c holds a closed chunk of a plain or recorded sphere, and no flight stands
+pub record CanAsk (w : World) (c : ℕ) (h : Held) (how : How) : Type 0 where
+  pub there : at w.cores (core_no w c) ≡ Some h
+  pub closed : h.chunk.closed ≡ Some how
+  pub live : replays (sphere_at w h.chunk.sphere).role ≡ false
+  pub clear : (k : ℕ) → at w.slots k ≡ None
+
+-- granted, or it is another's turn in such a recording
+abbrev pub IsGranted : Reply → Role → Type 0
+IsGranted reply role =
+    (reply ≡ Reply.Granted) ⊎ ((actor : Actor) × (reply ≡ Reply.NotTurn actor) × IsInTurns role)
+
 abbrev pub AsksAreGranted : Type 0
 AsksAreGranted =
-    (s : Setup) (es : List Event) → IsSetup s → 0 < s.window → let w = after s es in
-    (c : ℕ) (h : Held) (how : How) → at w.cores (core_no w c) ≡ Some h → h.chunk.closed ≡ Some how → replays (sphere_at w h.chunk.sphere).role ≡ false → ((k : ℕ) → at w.slots k ≡ None) →
-    let reply = (happens w (Event.Ask c)).reply in
-    (reply ≡ Reply.Granted) ⊎ ((actor : Actor) × (reply ≡ Reply.NotTurn actor) × IsInTurns (sphere_at w h.chunk.sphere).role)
+    (s : Setup) (es : List Event) → IsSetup s → 0 < s.window
+    → let w = after s es in (c : ℕ) (h : Held) (how : How) → CanAsk w c h how
+    → IsGranted (happens w (Event.Ask c)).reply (sphere_at w h.chunk.sphere).role
 
 -- no load is of a word among these
 abbrev pub LoadsLack : List Load → List Stored → Type 0
@@ -73,6 +83,7 @@ pub record IsClearOf (h : Held) (f : Flight) : Type 0 where
 -- no ask is granted where a word that the chunk loaded or stored is left in a flight of its sphere
 abbrev pub GrantsAreClear : Type 0
 GrantsAreClear =
-    (s : Setup) (es : List Event) → IsSetup s → let w = after s es in
-    (c : ℕ) (h : Held) → at w.cores (core_no w c) ≡ Some h → makes_point (happens w (Event.Ask c)).reply ≡ true →
-    (k : ℕ) (f : Flight) → at w.slots k ≡ Some f → f.sphere ≡ h.chunk.sphere → IsClearOf h f
+    (s : Setup) (es : List Event) → IsSetup s
+    → let w = after s es in (c : ℕ) (h : Held) → at w.cores (core_no w c) ≡ Some h
+    → makes_point (happens w (Event.Ask c)).reply ≡ true
+    → (k : ℕ) (f : Flight) → at w.slots k ≡ Some f → f.sphere ≡ h.chunk.sphere → IsClearOf h f

@@ -1,6 +1,7 @@
 //! What is promised of the protocol. Each promise is a clause of a function that does nothing.
 ghost use Rattle.spec_protocol.specs.AsRecorded.{PlainMovesAsRecorded};
 ghost use Rattle.spec_protocol.specs.Committers.{CommittersAreTold};
+ghost use Rattle.spec_protocol.specs.ConsoleBytes.{ConsoleIsPutOut};
 ghost use Rattle.spec_protocol.specs.Lasts.{SpheresKeepLasts};
 ghost use Rattle.spec_protocol.specs.Promises.{CommitsAreSerial, InvariantsHold, MovesAreSerial, SizesAreKept};
 ghost use Rattle.spec_protocol.specs.Logs.{LogsAreFresh};
@@ -139,4 +140,10 @@ pub fn committers_are_told()
 /// among its commits, DMAs passed over.
 pub fn spheres_keep_lasts()
     ensures { SpheresKeepLasts }
+{}
+
+/// After every list of events: the bytes of the console are those that the commits of plain and recorded spheres have put
+/// out on channel 8, in the order of the points.
+pub fn console_is_put_out()
+    ensures { ConsoleIsPutOut }
 {}

@@ -27,7 +27,8 @@ pub record IsReplay (image : SphereSetup) (log : LogParts) (s : Setup) (es : Lis
 -- it stands in the play of its log on its image at the number of its whole commits
 abbrev pub ReplaysArePlays : Type 0
 ReplaysArePlays =
-    (image : SphereSetup) (log : LogParts) (s : Setup) (es : List Event) (i : ℕ) (p : Sphere) → IsReplay image log s es i p
+    (image : SphereSetup) (log : LogParts) (s : Setup) (es : List Event) (i : ℕ) (p : Sphere)
+    → IsReplay image log s es i p
     → Follows log (plays log (opened log image.memory image.entry) (position p.progress)) p
 
 -- ---- a replay that has stopped has done the whole play
@@ -53,7 +54,8 @@ pub record IsPlayed (y : Played) (p : Sphere) (b : Book) : Type 0 where
 
 abbrev pub StoppedArePlayed : Type 0
 StoppedArePlayed =
-    (image : SphereSetup) (log : LogParts) (s : Setup) (es : List Event) (i : ℕ) (p : Sphere) (b : Book) → IsReplay image log s es i p → p.role ≡ Replay b → is_over b.now ≡ true
+    (image : SphereSetup) (log : LogParts) (s : Setup) (es : List Event) (i : ℕ) (p : Sphere) (b : Book)
+    → IsReplay image log s es i p → p.role ≡ Replay b → is_over b.now ≡ true
     → IsPlayed (play log image.memory image.entry) p b
 
 -- ---- all replays of one log on one image agree
@@ -72,10 +74,12 @@ pub record Agree (p q : Sphere) (b c : Book) : Type 0 where
   pub commits : is_over b.now ≡ true → is_over c.now ≡ true → p.progress ≡ q.progress
   pub ends : is_over b.now ≡ true → is_over c.now ≡ true → b.now ≡ c.now
   -- and with the same memory and threads, unless that was within a commit, of which they may have done other pieces
-  pub final : (how : End) → b.now ≡ Over how → ends_between how ≡ true → is_over c.now ≡ true → SameState p q
+  pub final : (how : End) → b.now ≡ Over how → ends_between how ≡ true → is_over c.now ≡ true
+      → SameState p q
 
 -- whatever else differs: cores, buffers, window, signatures, devices, events and the other spheres
 abbrev pub ReplaysAgree : Type 0
 ReplaysAgree =
-    (image : SphereSetup) (log : LogParts) (s z : Setup) (es fs : List Event) (i j : ℕ) (p q : Sphere) (b c : Book) → IsReplay image log s es i p → IsReplay image log z fs j q
+    (image : SphereSetup) (log : LogParts) (s z : Setup) (es fs : List Event) (i j : ℕ) (p q : Sphere) (b c : Book)
+    → IsReplay image log s es i p → IsReplay image log z fs j q
     → p.role ≡ Replay b → q.role ≡ Replay c → Agree p q b c

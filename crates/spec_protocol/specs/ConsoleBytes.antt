@@ -1,0 +1,39 @@
+-- The bytes of the console: what commits put out on its channel, in the order of the points.
+use Rattle.std.specs.Prelude.{◌≡◌, ℕ, nat_eq, List, [], ◌∷◌, ◌++◌, drop, if◌then◌else◌}
+use Rattle.std.specs.List.{flat_map}
+use Rattle.dl_entry.specs.declared.Commit.{Commit}
+use Rattle.dl_entry.specs.declared.Output.{Output}
+use Rattle.dl_entry.specs.declared.Point.{Point}
+use Rattle.spec_play.specs.Progress.{position}
+use Rattle.spec_protocol.specs.declared.event.Event.{Event}
+use Rattle.spec_protocol.specs.Machine.{Setup}
+use Rattle.spec_protocol.specs.Serial.{Whole, whole_of, do_point}
+use Rattle.spec_protocol.specs.Logged.{sphere_in}
+use Rattle.spec_protocol.specs.Promises.{IsSetup, after}
+
+-- channel 8 is the console's
+abbrev pub on_console : Output → List ℕ
+on_console o = if nat_eq o.channel 8 then o.bytes else []
+
+-- what these commits put out on it, in their order
+abbrev pub put_out : List Commit → List ℕ
+put_out cs = flat_map (λ c. flat_map on_console c.outputs) cs
+
+abbrev pub place_of : Point → ℕ
+place_of (Point.Commit moment i actor kind size short) = i
+place_of (Point.Raise moment i k value) = i
+
+-- the commits of sphere i in y behind those in x
+abbrev pub new_commits : (i : ℕ) → (x y : Whole) → List Commit
+new_commits i x y = drop (position (sphere_in x i).progress) (sphere_in y i).progress.commits
+
+-- what the commits of these points put out, done one at a time; those of replayed spheres put out nothing
+abbrev pub console_of : Whole → List Point → List ℕ
+console_of x [] = []
+console_of x (q ∷ qs) = let y = do_point x q in put_out (new_commits (place_of q) x y) ++ console_of y qs
+
+-- after any events
+abbrev pub ConsoleIsPutOut : Type 0
+ConsoleIsPutOut =
+    (s : Setup) (es : List Event) → IsSetup s
+    → (after s es).devices.console ≡ console_of (whole_of s) (after s es).points
