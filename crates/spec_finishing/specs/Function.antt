@@ -26,13 +26,21 @@ finished s es = world_after (after s es) (finishing_of s es)
 
 -- with the bound, or more, these are the events that finish it: all that is promised of them holds
 abbrev pub FinishingIsAFunction : Type 0
-FinishingIsAFunction = (s : Setup) (es : List Event) (fuel : ℕ) → CanFinish s → most_events s es ≤ fuel → Ends s es (finishing fuel (after s es))
+FinishingIsAFunction =
+    (s : Setup) (es : List Event) (fuel : ℕ)
+    → CanFinish s
+    → most_events s es ≤ fuel
+    → Ends s es (finishing fuel (after s es))
 
 -- ---- the bound
 
 -- within the limits of a setup, a schedule of up to 2^32 events and those that finish it are fewer than 2^63
 abbrev pub RunsAreShort : Type 0
-RunsAreShort = (s : Setup) (es : List Event) → IsWithinLimits s → length es ≤ 2 ^ 32 → length es + most_events s es < 2 ^ 63
+RunsAreShort =
+    (s : Setup) (es : List Event)
+    → IsWithinLimits s
+    → length es ≤ 2 ^ 32
+    → length es + most_events s es < 2 ^ 63
 
 -- and can be finished
 abbrev pub SetupsCanFinish : Type 0

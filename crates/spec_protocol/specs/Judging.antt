@@ -45,23 +45,28 @@ why_not log k t n =
 -- whether a chunk goes as logged hangs on its thread's end and its number of instructions alone
 abbrev pub ChunksAreJudged : Type 0
 ChunksAreJudged =
-    (log : LogParts) (p : Progress) (u : Used) (k : ℕ) (r : Run) → why_of (chunk_verdict log p u k r) ≡ why_not log k r.thread r.n
+    (log : LogParts) (p : Progress) (u : Used) (k : ℕ) (r : Run)
+    → why_of (chunk_verdict log p u k r) ≡ why_not log k r.thread r.n
 
 -- ---- what is kept of a log
 
 -- the log has the sizes and the heads of what is kept
 pub record IsLogged (mode : ModeName) (kept : Kept) (log : LogParts) : Type 0 where
   pub size : (actor : Actor) (i : ℕ) → size_in log actor i ≡ kept_size kept actor i
-  pub head : (i : ℕ) (last : Option ℕ) (live : List Bool) → head log i last live ≡ kept_head mode kept.order i (is_slot log.dmas i) last live
+  pub head : (i : ℕ) (last : Option ℕ) (live : List Bool)
+      → head log i last live ≡ kept_head mode kept.order i (is_slot log.dmas i) last live
 
 -- so has the log of what is kept, whatever its records
 abbrev pub KeptIsLogged : Type 0
 KeptIsLogged =
-    (mode : ModeName) (kept : Kept) (interrupts : List Interrupt) (inputs : List Input) (dmas : List DmaRecord) → IsLogged mode kept (log_of mode kept interrupts inputs dmas)
+    (mode : ModeName) (kept : Kept) (interrupts : List Interrupt) (inputs : List Input) (dmas : List DmaRecord)
+    → IsLogged mode kept (log_of mode kept interrupts inputs dmas)
 
 -- the limit of a commit is that of its size
 abbrev pub LimitsAreOfSizes : Type 0
-LimitsAreOfSizes = (log : LogParts) (k i : ℕ) → whole_limit log k i ≡ limit_by log.s (size_in log (Actor.Thread k) i)
+LimitsAreOfSizes =
+    (log : LogParts) (k i : ℕ)
+    → whole_limit log k i ≡ limit_by log.s (size_in log (Actor.Thread k) i)
 
 -- ---- sizes that are used
 
@@ -72,24 +77,31 @@ AreCommits done threads = (k : ℕ) → slice_index done k ≡ commits_in thread
 -- sizes are used by the numbers of commits as they are by the threads
 abbrev pub AreUsedAlike : List Actor → Sizes → List Parts → Type 0
 AreUsedAlike order sizes threads =
-    (done : List ℕ) → AreCommits done threads → sizes_used order sizes done ≡ are_sizes_used threads sizes
+    (done : List ℕ)
+    → AreCommits done threads
+    → sizes_used order sizes done ≡ are_sizes_used threads sizes
 
 -- short ones at any time
 abbrev pub ShortSizesAreUsed : Type 0
 ShortSizesAreUsed =
-    (order : List Actor) (sizes : List ShortSize) (threads : List Parts) → AreUsedAlike order (Sizes.Short sizes) threads
+    (order : List Actor) (sizes : List ShortSize) (threads : List Parts)
+    → AreUsedAlike order (Sizes.Short sizes) threads
 
 -- and all at the end of a play, where each thread has done its commits
 abbrev pub SizesAreUsed : Type 0
 SizesAreUsed =
-    (log : LogParts) (threads : List Parts) → IsLog log → IsDoneInOrder log.mode log.order log.count threads → AreUsedAlike log.order log.sizes threads
+    (log : LogParts) (threads : List Parts)
+    → IsLog log
+    → IsDoneInOrder log.mode log.order log.count threads
+    → AreUsedAlike log.order log.sizes threads
 
 -- ---- interrupts that are taken
 
 -- those that a replay has used are those that are due, as many as its book counts: so one is left over where not all are due
 abbrev pub DueAreCounted : Type 0
 DueAreCounted =
-    (threads : List Parts) (interrupts : List Interrupt) → nat_lt (due threads interrupts) (length interrupts) ≡ not (list_all (is_due_in threads) interrupts)
+    (threads : List Parts) (interrupts : List Interrupt)
+    → nat_lt (due threads interrupts) (length interrupts) ≡ not (list_all (is_due_in threads) interrupts)
 
 pub record LogsAreSeenAlike : Type 0 where
   pub chunks : ChunksAreJudged

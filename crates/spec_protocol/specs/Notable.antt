@@ -31,8 +31,12 @@ IsInputIf (Some r) = IsInput r
 -- one of its inputs, and what they give a DMA are its bytes
 pub record FitsLog (now : ℕ) (d : Devices) (p : Sphere) : Type 0 where
   pub threads : (k : ℕ) (t : Parts) → slice_get p.threads k ≡ Some t → k ≤ 14
-  pub inputs : (k : ℕ) (t : Parts) → slice_get p.threads k ≡ Some t → IsInputIf (taken (need t p.memory) d now).input
-  pub bytes : (request : Request) → p.progress.request ≡ Some request → AreFewBytes (dma_bytes d request)
+  pub inputs : (k : ℕ) (t : Parts)
+      → slice_get p.threads k ≡ Some t
+      → IsInputIf (taken (need t p.memory) d now).input
+  pub bytes : (request : Request)
+      → p.progress.request ≡ Some request
+      → AreFewBytes (dma_bytes d request)
 
 -- core c holds h, which was closed so, of a plain or recorded sphere
 pub record IsClosed (w : World) (c : ℕ) (h : Held) (how : How) : Type 0 where

@@ -136,10 +136,14 @@ abbrev pub commits_among : (thread : ℕ) → List Actor → ℕ
 commits_among k [] = 0
 commits_among k (actor ∷ actors) = (if is_thread k actor then 1 else 0) + commits_among k actors
 
--- each thread has done its commits among the first ones of the order, where there is an order
+-- each thread has done its commits among these
+abbrev pub HaveDone : List Actor → List Parts → Type 0
+HaveDone actors threads = (k : ℕ) → commits_in threads k ≡ commits_among k actors
+
+-- among the first ones of the order, where there is an order
 abbrev pub IsDoneInOrder : ModeName → (order : List Actor) → (commits : ℕ) → List Parts → Type 0
-IsDoneInOrder ModeName.OrderSize order n threads = (k : ℕ) → commits_in threads k ≡ commits_among k (take n order)
-IsDoneInOrder ModeName.OrderOnly order n threads = (k : ℕ) → commits_in threads k ≡ commits_among k (take n order)
+IsDoneInOrder ModeName.OrderSize order n threads = HaveDone (take n order) threads
+IsDoneInOrder ModeName.OrderOnly order n threads = HaveDone (take n order) threads
 IsDoneInOrder ModeName.Picolog order n threads = Unit {0}
 
 -- the order names the actor after so many commits
@@ -162,7 +166,9 @@ pub record IsSoundBook (commits : ℕ) (threads : List Parts) (b : Book) : Type 
   pub within : commits ≤ b.log.count
   pub going : is_over b.now ≡ false → commits < b.log.count
   pub done : IsDoneInOrder b.log.mode b.log.order commits threads
-  pub named : (actor : Actor) → actor_of b.now ≡ Some actor → IsNamed b.log.mode b.log.order commits actor
+  pub named : (actor : Actor)
+      → actor_of b.now ≡ Some actor
+      → IsNamed b.log.mode b.log.order commits actor
   pub inputs : b.used.inputs ≤ length b.log.inputs
   pub dmas : b.used.dmas ≤ length b.log.dmas
   pub interrupts : b.used.interrupts ≡ due threads b.log.interrupts
@@ -172,8 +178,14 @@ pub record IsSoundBook (commits : ℕ) (threads : List Parts) (b : Book) : Type 
 -- no interrupt is logged of a thread after more commits than it has, nor after as many unless it is masked; and none of a
 -- thread that isn't there. So the next interrupt is of a new moment
 pub record AreFresh (threads : List Parts) (is : List Interrupt) : Type 0 where
-  pub later : (k i : ℕ) (t : Parts) → slice_get threads k ≡ Some t → t.commits < i → interrupt_at is k i ≡ None
-  pub unmasked : (k : ℕ) (t : Parts) → slice_get threads k ≡ Some t → t.mask ≡ false → interrupt_at is k t.commits ≡ None
+  pub later : (k i : ℕ) (t : Parts)
+      → slice_get threads k ≡ Some t
+      → t.commits < i
+      → interrupt_at is k i ≡ None
+  pub unmasked : (k : ℕ) (t : Parts)
+      → slice_get threads k ≡ Some t
+      → t.mask ≡ false
+      → interrupt_at is k t.commits ≡ None
   pub absent : (k i : ℕ) → slice_get threads k ≡ None → interrupt_at is k i ≡ None
 
 -- a recording has as many commits as its sphere, and the plan's standard size
@@ -202,7 +214,9 @@ pub record IsSoundSphere (s : ℕ) (image : SphereSetup) (events : ℕ) (p : Sph
   pub request : IsSoundIf (length image.memory) p.progress.request
   pub some : 1 ≤ length p.threads
   pub few : length p.threads ≤ 15
-  pub threads : (k : ℕ) (t : Parts) → slice_get p.threads k ≡ Some t → IsSoundThread (position p.progress) t
+  pub threads : (k : ℕ) (t : Parts)
+      → slice_get p.threads k ≡ Some t
+      → IsSoundThread (position p.progress) t
   pub commits : position p.progress ≤ events
   pub role : IsSoundRole s (position p.progress) p.threads p.role
 
@@ -234,9 +248,15 @@ pub record IsSound (s : Setup) (w : World) : Type 0 where
   pub devices : HaveByteInput w.devices
   -- no reply was given more often than there were events
   pub replies : (k : ℕ) → slice_index w.counts.replies k ≤ moment w
-  pub spheres : (i : ℕ) → i < length w.spheres → IsSoundSphere s.numbers.chunk (image_at s i) (moment w) (sphere_at w i)
-  pub flights : (k : ℕ) (f : Flight) → at w.slots k ≡ Some f → AreSoundWords (size_of s f.sphere) f.words
-  pub held : (c : ℕ) (h : Held) → at w.cores c ≡ Some h → IsSoundChunk s.numbers.buffer (size_of s h.chunk.sphere) h.chunk
+  pub spheres : (i : ℕ)
+      → i < length w.spheres
+      → IsSoundSphere s.numbers.chunk (image_at s i) (moment w) (sphere_at w i)
+  pub flights : (k : ℕ) (f : Flight)
+      → at w.slots k ≡ Some f
+      → AreSoundWords (size_of s f.sphere) f.words
+  pub held : (c : ℕ) (h : Held)
+      → at w.cores c ≡ Some h
+      → IsSoundChunk s.numbers.buffer (size_of s h.chunk.sphere) h.chunk
 
 -- ---- the promises
 
@@ -247,4 +267,8 @@ WorldsAreSound = (s : Setup) (es : List Event) → IsWithinLimits s → IsSound 
 -- and any event keeps it, where the invariant holds
 abbrev pub EventsKeepSound : Type 0
 EventsKeepSound =
-    (s : Setup) (w : World) (e : Event) → IsWithinLimits s → IsGood w → IsSound s w → IsSound s (happens w e).world
+    (s : Setup) (w : World) (e : Event)
+    → IsWithinLimits s
+    → IsGood w
+    → IsSound s w
+    → IsSound s (happens w e).world
