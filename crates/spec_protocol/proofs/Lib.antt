@@ -52,7 +52,11 @@ pub mod SoundChunks
 pub mod SoundUses
 pub mod SoundDevices
 pub mod SoundLimits
+pub mod SoundCommits
+pub mod SoundTurns
+pub mod SoundVerdicts
 pub mod SoundMoves
+pub mod SoundTransfers
 pub mod Sounding
 pub mod Notable
 pub mod SeenAlike

@@ -2,7 +2,7 @@
 use Rattle.std.proofs.Common.{◌≡◌, ℕ, ◌<◌, ◌≤◌, inl, inr, true, false, length, Some, refl, sym, ap, ◌∙◌, subst, arith}
 use Rattle.std.proofs.lemmas.Bool.{true≢false, cases_lt}
 use Rattle.std.proofs.lemmas.List.{get_or_past}
-use Rattle.std.proofs.lemmas.Option.{none-some}
+use Rattle.std.proofs.lemmas.Option.{none-some, slice_get_within}
 use Rattle.dl_entry.specs.declared.Request.{Request}
 use Rattle.spec_isa.specs.declared.thread.Parts.{Parts}
 use Rattle.spec_engine.specs.declared.answers.How.{How}
@@ -17,7 +17,6 @@ use Rattle.spec_protocol.specs.Notable.{IsNotable, FitsLog, IsClosed, NotesFitLo
 use Rattle.spec_protocol.proofs.Changing.{within-sphere}
 use Rattle.spec_protocol.proofs.SoundChunks.{within-limit}
 use Rattle.spec_protocol.proofs.SoundDevices.{taken-sound, dma-bytes}
-use Rattle.spec_protocol.proofs.SoundMoves.{get-within}
 
 live-going : (role : Role) → replays role ≡ false → is_stopped role ≡ false
 live-going Plain e = refl
@@ -49,7 +48,7 @@ fits_log s w i sound =
     record {
       threads = λ k t e.
           let few = (sound.spheres i (within-sphere w i k t e)).few in
-          let l = get-within p.threads k t e in
+          let l = slice_get_within p.threads k t e in
           omega (arith, few, l);
       inputs = λ k t e. (taken-sound t p.memory w.devices (moment w) (sound.spheres i (within-sphere w i k t e)).bytes sound.devices).input;
       bytes = λ request e.

@@ -43,7 +43,11 @@ use Rattle.spec_protocol.proofs.SoundLimits.{limit-most}
 use Rattle.spec_protocol.proofs.SoundFresh.{fresh-none}
 use Rattle.spec_protocol.proofs.SoundOrder.{done-none}
 use Rattle.spec_protocol.proofs.SoundUses.{none-due_first}
-use Rattle.spec_protocol.proofs.SoundMoves.{IsSoundMoved, as-role, turned-sound, chunk-sound, serial-sound, dma-moved-sound, raised-sound}
+use Rattle.spec_protocol.proofs.SoundCommits.{IsSoundMoved}
+use Rattle.spec_protocol.proofs.SoundVerdicts.{as-role}
+use Rattle.spec_protocol.proofs.SoundTurns.{turned-sound}
+use Rattle.spec_protocol.proofs.SoundMoves.{chunk-sound, serial-sound}
+use Rattle.spec_protocol.proofs.SoundTransfers.{dma-moved-sound, raised-sound}
 
 -- ---- the properties
 
