@@ -44,3 +44,12 @@ inside-by false refused is = cc
 pub device_inside : (m : List ℕ) (t : Parts) → next_kind t m ≡ Some Kind.DeviceLoad → is_inside (length m) t.pc ≡ true
 unfolding next_kind serial_of
 device_inside m t is = inside-by (is_inside (length m) t.pc) (refuses (length m) (plan_of t (fetched t m))) is
+
+inside-to-store : (inside : Bool) (refused : Option Kind) → cond inside refused (Some (Kind.Fault 1)) ≡ Some Kind.DeviceStore → inside ≡ true
+inside-to-store true refused is = refl
+inside-to-store false refused is = cc
+
+-- so is one that stores to a device word
+pub device_stored_inside : (m : List ℕ) (t : Parts) → next_kind t m ≡ Some Kind.DeviceStore → is_inside (length m) t.pc ≡ true
+unfolding next_kind serial_of
+device_stored_inside m t is = inside-to-store (is_inside (length m) t.pc) (refuses (length m) (plan_of t (fetched t m))) is

@@ -1,5 +1,5 @@
 -- What a step wants from outside, as the code keeps it.
-use Rattle.std.specs.Prelude.{◌≤◌, length}
+use Rattle.std.specs.Prelude.{ℕ, ◌+◌, ◌≤◌, length}
 use Rattle.spec_kernel.specs.Needs as needs
 use Rattle.dl_kernel.specs.declared.need.Want.{Want}
 
@@ -19,3 +19,12 @@ IsShort (Want.Random buf len) = len ≤ 4096
 IsShort Want.Clock = Unit {0}
 IsShort Want.MomentWord = Unit {0}
 IsShort Want.InputWord = Unit {0}
+
+-- its buffer lies in a memory of that size
+abbrev pub IsIn : (size : ℕ) → Want → Type 0
+IsIn size (Want.Write channel bytes) = Unit {0}
+IsIn size (Want.Read channel buf len) = buf + len ≤ size
+IsIn size (Want.Random buf len) = buf + len ≤ size
+IsIn size Want.Clock = Unit {0}
+IsIn size Want.MomentWord = Unit {0}
+IsIn size Want.InputWord = Unit {0}

@@ -1,6 +1,7 @@
-//! What the devices answer to each want, as the record that it leaves. Memory is taken before a device changes.
-ghost use Rattle.std.specs.Prelude.{◌≡◌, ◌≢◌, ◌≤◌, ◌<◌, false, length, [], Some, IsOk};
+//! What the devices answer to each want: the record that the answer leaves, and what it takes of the devices.
+ghost use Rattle.std.specs.Prelude.{◌≡◌, ◌≢◌, ◌≤◌, ◌<◌, ◌-◌, ℕ, min, false, length, [], Some, IfOk, IsOk, OnOk, OnErr};
 ghost use Rattle.spec_kernel.specs.Answers.{answer, answer_write, answer_read, answer_random, answer_moment, answer_input, went};
+ghost use Rattle.spec_kernel.specs.Devices.{pipe_at};
 ghost use Rattle.dl_kernel.specs.Outside.{Leaves, wants_memory};
 ghost use Rattle.dl_kernel.specs.Wants.{wanted, IsShort};
 
@@ -24,7 +25,6 @@ pub(crate) const MOMENT_WORD: u8 = 16;
 pub(crate) const INPUT_WORD: u8 = 17;
 
 // The answer at a moment.
-#[tactic(auto, unfolding(spec_kernel::specs::Answers::answer))]
 pub(crate) fn answer(
     alloc: Global,
     want: Want<'_>,
@@ -35,13 +35,47 @@ pub(crate) fn answer(
     ensures left { Leaves result devices.old devices.new (answer devices.old (wanted want.entry) moment) }
     ensures plenty { wants_memory (Some (wanted want.entry)) ≡ false → IsOk result }
 {
+    let input = noted(alloc, want, devices, moment)?;
+    take(want, devices)?;
+    Ok(input)
+}
+
+// The record that the answer at a moment leaves.
+#[tactic(auto, unfolding(spec_kernel::specs::Answers::answer))]
+pub(crate) fn noted(
+    alloc: Global,
+    want: Want<'_>,
+    devices: &Devices,
+    moment: u32,
+) -> Result<Input, OutOfMemory>
+    requires { IsShort want }
+    ensures value { IfOk result (λ input. input ≡ (answer devices.now (wanted want.entry) moment).input) }
+    ensures plenty { wants_memory (Some (wanted want.entry)) ≡ false → IsOk result }
+{
     match want {
-        Want::Write { channel, bytes } => write(alloc, devices, channel, bytes),
+        Want::Write { channel, bytes } => Ok(write(alloc, devices, channel, bytes)),
         Want::Read { channel, len, .. } => read(alloc, devices, channel, len),
         Want::Random { len, .. } => random(alloc, devices, len),
         Want::Clock => Ok(bare(alloc, CLOCK, moment)),
         Want::MomentWord => Ok(bare(alloc, MOMENT_WORD, moment)),
         Want::InputWord => Ok(next_input(alloc, devices)),
+    }
+}
+
+// What the answer takes of the devices, or puts there, at any moment.
+#[tactic(auto, unfolding(spec_kernel::specs::Answers::answer))]
+pub(crate) fn take(want: Want<'_>, devices: &mut Devices) -> Result<(), OutOfMemory>
+    requires { IsShort want }
+    ensures ok { (moment : ℕ) → OnOk result (devices.new ≡ (answer devices.old (wanted want.entry) moment).devices) }
+    ensures err { OnErr result (devices.new ≡ devices.old) }
+    ensures plenty { wants_memory (Some (wanted want.entry)) ≡ false → IsOk result }
+{
+    match want {
+        Want::Write { channel, bytes } => put(devices, channel, bytes),
+        Want::Read { channel, len, .. } => Ok(take_bytes(devices, channel, len)),
+        Want::Random { len, .. } => Ok(devices.random(&mut [0; 4096][..len as usize])),
+        Want::Clock | Want::MomentWord => Ok(()),
+        Want::InputWord => Ok(devices.input_take(1)),
     }
 }
 
@@ -67,31 +101,49 @@ fn went(count: u32, len: u32) -> u32
     }
 }
 
-fn write(
-    alloc: Global,
-    devices: &mut Devices,
-    channel: u32,
-    bytes: &[u8],
-) -> Result<Input, OutOfMemory>
+fn write(alloc: Global, devices: &Devices, channel: u32, bytes: &[u8]) -> Input
     requires { length bytes.now ≤ 4096 }
-    ensures left { Leaves result devices.old devices.new (answer_write devices.old channel bytes.now) }
-    ensures plenty { channel ≢ 8 → IsOk result }
+    ensures { result ≡ (answer_write devices.now channel bytes.now).input }
 {
     let len = bytes.len() as u32;
     if channel < 8 {
-        let count = devices.pipe_put(channel as u8, bytes);
-        return Ok(bare(alloc, WRITE, went(count, len)));
+        return bare(
+            alloc,
+            WRITE,
+            went(fitting(devices, channel as u8, len), len),
+        );
     }
     if channel == 8 {
-        devices.console_put(bytes)?;
-        return Ok(bare(alloc, WRITE, len));
+        return bare(alloc, WRITE, len);
     }
-    Ok(bare(alloc, WRITE, REFUSED))
+    bare(alloc, WRITE, REFUSED)
 }
 
-fn read(alloc: Global, devices: &mut Devices, channel: u32, len: u32) -> Result<Input, OutOfMemory>
+// How many of so many bytes find room in a pipe.
+fn fitting(devices: &Devices, pipe: u8, len: u32) -> u32
+    requires { pipe < 8 }
+    ensures { result ≡ min (256 - length (pipe_at devices.now pipe)) len }
+{
+    let held = devices.pipe_first(pipe, &mut [0; 256]);
+    len.min(256 - held)
+}
+
+fn put(devices: &mut Devices, channel: u32, bytes: &[u8]) -> Result<(), OutOfMemory>
+    ensures ok { OnOk result (devices.new ≡ (answer_write devices.old channel bytes.now).devices) }
+    ensures err { OnErr result (devices.new ≡ devices.old) }
+    ensures plenty { channel ≢ 8 → IsOk result }
+{
+    if channel < 8 {
+        devices.pipe_put(channel as u8, bytes);
+    } else if channel == 8 {
+        devices.console_put(bytes)?;
+    }
+    Ok(())
+}
+
+fn read(alloc: Global, devices: &Devices, channel: u32, len: u32) -> Result<Input, OutOfMemory>
     requires { len ≤ 4096 }
-    ensures { Leaves result devices.old devices.new (answer_read devices.old channel len) }
+    ensures { IfOk result (λ input. input ≡ (answer_read devices.now channel len).input) }
 {
     if channel < 8 {
         return read_pipe(alloc, devices, channel as u8, len);
@@ -102,57 +154,67 @@ fn read(alloc: Global, devices: &mut Devices, channel: u32, len: u32) -> Result<
     Ok(bare(alloc, READ, REFUSED))
 }
 
-fn read_pipe(alloc: Global, devices: &mut Devices, pipe: u8, len: u32) -> Result<Input, OutOfMemory>
+fn read_pipe(alloc: Global, devices: &Devices, pipe: u8, len: u32) -> Result<Input, OutOfMemory>
     requires pipe { pipe < 8 }
     requires len { len ≤ 4096 }
-    ensures { Leaves result devices.old devices.new (answer_read devices.old pipe len) }
+    ensures { IfOk result (λ input. input ≡ (answer_read devices.now pipe len).input) }
 {
     let mut buffer = [0; 4096];
     let into = &mut buffer[..len as usize];
     let count = devices.pipe_first(pipe, into);
-    let bytes = Bytes::from_slice(alloc, &into[..count as usize])?;
-    devices.pipe_get(pipe, into);
     Ok(Input {
         kind: READ,
         result: went(count, len),
-        bytes,
+        bytes: Bytes::from_slice(alloc, &into[..count as usize])?,
     })
 }
 
-fn read_input(alloc: Global, devices: &mut Devices, len: u32) -> Result<Input, OutOfMemory>
+fn read_input(alloc: Global, devices: &Devices, len: u32) -> Result<Input, OutOfMemory>
     requires { len ≤ 4096 }
-    ensures { Leaves result devices.old devices.new (answer_read devices.old 9 len) }
+    ensures { IfOk result (λ input. input ≡ (answer_read devices.now 9 len).input) }
 {
     let count = devices.input_left().min(len);
-    let bytes = Bytes::from_slice(alloc, &devices.input()[..count as usize])?;
-    devices.input_take(len);
     Ok(Input {
         kind: READ,
         result: went(count, len),
-        bytes,
+        bytes: Bytes::from_slice(alloc, &devices.input()[..count as usize])?,
     })
 }
 
-fn random(alloc: Global, devices: &mut Devices, len: u32) -> Result<Input, OutOfMemory>
+// Takes at most `len` bytes of a channel.
+fn take_bytes(devices: &mut Devices, channel: u32, len: u32)
     requires { len ≤ 4096 }
-    ensures { Leaves result devices.old devices.new (answer_random devices.old len) }
+    ensures { devices.new ≡ (answer_read devices.old channel len).devices }
+{
+    if channel < 8 {
+        devices.pipe_get(channel as u8, &mut [0; 4096][..len as usize]);
+    } else if channel == 9 {
+        devices.input_take(len);
+    }
+}
+
+fn random(alloc: Global, devices: &Devices, len: u32) -> Result<Input, OutOfMemory>
+    requires { len ≤ 4096 }
+    ensures { IfOk result (λ input. input ≡ (answer_random devices.now len).input) }
 {
     let mut buffer = [0; 4096];
     let into = &mut buffer[..len as usize];
     devices.random_first(into);
-    let bytes = Bytes::from_slice(alloc, into)?;
-    devices.random(into);
     Ok(Input {
         kind: RANDOM,
         result: len,
-        bytes,
+        bytes: Bytes::from_slice(alloc, into)?,
     })
 }
 
 // A word of all ones stands for no byte.
-fn next_input(alloc: Global, devices: &mut Devices) -> Input
-    ensures { record { input = result; devices = devices.new } ≡ answer_input devices.old }
+fn next_input(alloc: Global, devices: &Devices) -> Input
+    ensures { result ≡ (answer_input devices.now).input }
 {
-    let byte = devices.input_byte();
-    bare(alloc, INPUT_WORD, byte.map_or(u32::MAX, u32::from))
+    let byte = devices.input().first();
+    bare(
+        alloc,
+        INPUT_WORD,
+        byte.map_or(u32::MAX, |byte| u32::from(*byte)),
+    )
 }

@@ -4,15 +4,19 @@
 
 mod answering;
 mod calls;
+mod copying;
 mod inside;
 mod need;
 mod outside;
 mod peek;
 mod record;
 mod results;
+mod serving;
 #[cfg(test)]
 mod tests;
 
+pub use copying::{copied, dma_words};
 pub use inside::sphere_call;
-pub use outside::outside_call;
+pub use outside::{outside_call, outside_record, outside_take};
 pub use record::{Injected, inject};
+pub use serving::{Served, Step, serve};

@@ -1,11 +1,11 @@
 //! What a thread's next step, where it is serial, wants from outside.
-ghost use Rattle.std.specs.Prelude.{◌≡◌, ◌+◌, true, nat_le, length, IfSome};
+ghost use Rattle.std.specs.Prelude.{◌≡◌, ◌+◌, ℕ, true, nat_le, length, IfSome};
 ghost use Rattle.std.specs.Option.{option_map};
 ghost use Rattle.spec_isa.specs.Arithmetic.{add, extended};
 ghost use Rattle.spec_isa.specs.Planned.{plan, register};
 ghost use Rattle.spec_isa.specs.Words.{is_inside};
 ghost use Rattle.spec_kernel.specs.Needs.{need, need_of_call, need_of_load, need_of_write, need_of_read, need_of_random, next_kind, next_plan};
-ghost use Rattle.dl_kernel.specs.Wants.{wanted, IsShort};
+ghost use Rattle.dl_kernel.specs.Wants.{wanted, IsShort, IsIn};
 
 use crate::peek::Peek;
 use dl_isa::decode;
@@ -41,6 +41,7 @@ pub(crate) enum Want<'a> {
 pub(crate) fn need<'a>(thread: &Thread, memory: &'a Memory) -> Option<Want<'a>>
     ensures want { option_map wanted result ≡ need thread.now memory.now }
     ensures short { IfSome result IsShort }
+    ensures inside { IfSome result (IsIn (length memory.now)) }
 {
     match next_kind(thread, memory) {
         Some(Kind::Call) => need_of_call(thread, memory),
@@ -51,7 +52,7 @@ pub(crate) fn need<'a>(thread: &Thread, memory: &'a Memory) -> Option<Want<'a>>
 
 // Why the thread's next step is serial, or none where it is not.
 #[tactic(auto, using(crate::proofs::Causes::kind_found))]
-fn next_kind(thread: &Thread, memory: &Memory) -> Option<Kind>
+pub(crate) fn next_kind(thread: &Thread, memory: &Memory) -> Option<Kind>
     ensures { result ≡ next_kind thread.now memory.now }
 {
     let mut probe = *thread;
@@ -64,6 +65,7 @@ fn next_kind(thread: &Thread, memory: &Memory) -> Option<Kind>
 fn need_of_call<'a>(thread: &Thread, memory: &'a Memory) -> Option<Want<'a>>
     ensures want { option_map wanted result ≡ need_of_call thread.now memory.now }
     ensures short { IfSome result IsShort }
+    ensures inside { IfSome result (IsIn (length memory.now)) }
 {
     match thread.x()[17] {
         2 => need_of_write(thread, memory),
@@ -77,6 +79,7 @@ fn need_of_call<'a>(thread: &Thread, memory: &'a Memory) -> Option<Want<'a>>
 fn need_of_write<'a>(thread: &Thread, memory: &'a Memory) -> Option<Want<'a>>
     ensures want { option_map wanted result ≡ need_of_write thread.now memory.now }
     ensures short { IfSome result IsShort }
+    ensures inside { IfSome result (IsIn (length memory.now)) }
 {
     let x = thread.x();
     let (channel, buf, len) = (x[10], x[11], x[12].min(MOST_BYTES));
@@ -90,6 +93,7 @@ fn need_of_write<'a>(thread: &Thread, memory: &'a Memory) -> Option<Want<'a>>
 fn need_of_read<'a>(thread: &Thread, memory: &'a Memory) -> Option<Want<'a>>
     ensures want { option_map wanted result ≡ need_of_read thread.now memory.now }
     ensures short { IfSome result IsShort }
+    ensures inside { IfSome result (IsIn (length memory.now)) }
 {
     let x = thread.x();
     let (channel, buf, len) = (x[10], x[11], x[12].min(MOST_BYTES));
@@ -102,6 +106,7 @@ fn need_of_read<'a>(thread: &Thread, memory: &'a Memory) -> Option<Want<'a>>
 fn need_of_random<'a>(thread: &Thread, memory: &'a Memory) -> Option<Want<'a>>
     ensures want { option_map wanted result ≡ need_of_random thread.now memory.now }
     ensures short { IfSome result IsShort }
+    ensures inside { IfSome result (IsIn (length memory.now)) }
 {
     let x = thread.x();
     let (buf, len) = (x[10], x[11].min(MOST_BYTES));
@@ -124,6 +129,7 @@ fn need_of_load<'a>(thread: &Thread, memory: &'a Memory) -> Option<Want<'a>>
     requires { is_inside (length memory.now) thread.now.pc ≡ true }
     ensures want { option_map wanted result ≡ need_of_load (next_plan thread.now memory.now) }
     ensures short { IfSome result IsShort }
+    ensures inside { IfSome result (IsIn (length memory.now)) }
 {
     match decode(memory.word(thread.pc())) {
         Some(instr) => device_word(instr, thread),
@@ -135,6 +141,7 @@ fn need_of_load<'a>(thread: &Thread, memory: &'a Memory) -> Option<Want<'a>>
 fn device_word<'a>(instr: Instr, thread: &Thread) -> Option<Want<'a>>
     ensures want { option_map wanted result ≡ need_of_load (plan instr thread.now) }
     ensures short { IfSome result IsShort }
+    ensures inside { (size : ℕ) → IfSome result (IsIn size) }
 {
     match instr {
         Instr::Load { rs1, offset, .. } => {
@@ -148,7 +155,7 @@ fn device_word<'a>(instr: Instr, thread: &Thread) -> Option<Want<'a>>
 }
 
 // A register and an offset, the offset's sign copied into the bits above.
-fn address(thread: &Thread, rs1: Reg, offset: Imm12) -> u32
+pub(crate) fn address(thread: &Thread, rs1: Reg, offset: Imm12) -> u32
     ensures { result ≡ add (register thread.now rs1) (extended 12 offset) }
 {
     let bits = offset.bits();
