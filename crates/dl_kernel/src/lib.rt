@@ -18,5 +18,5 @@ mod tests;
 pub use copying::{copied, dma_words};
 pub use inside::sphere_call;
 pub use outside::{outside_call, outside_record, outside_take};
-pub use record::{Injected, inject};
+pub use record::{Injected, inject, wants_record};
 pub use serving::{Served, Step, serve};

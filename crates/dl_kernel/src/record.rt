@@ -1,5 +1,5 @@
 //! Records of a log, which stand for what came from outside.
-ghost use Rattle.std.specs.Prelude.{◌≡◌};
+ghost use Rattle.std.specs.Prelude.{◌≡◌, is_some};
 ghost use Rattle.spec_kernel.specs.Needs.{need};
 ghost use Rattle.spec_kernel.specs.Records.{fits, fits_if, fits_write, fits_read, fits_random, went_nowhere};
 ghost use Rattle.dl_kernel.specs.Outside.{injected};
@@ -17,6 +17,13 @@ use dl_thread::Thread;
 pub enum Injected {
     Fits,
     Misfit,
+}
+
+/// Whether the thread's next step wants a record from outside.
+pub fn wants_record(thread: &Thread, memory: &Memory) -> bool
+    ensures { result ≡ is_some (need thread.now memory.now) }
+{
+    need(thread, memory).is_some()
 }
 
 /// Whether a record of a log is of the kind that the thread's next step wants, and could have been its answer. No record

@@ -1,0 +1,200 @@
+-- One commit more: the threads behind it, and how far the replay has come.
+use Rattle.std.proofs.Common.{◌≡◌, ℕ, zero, suc, ◌+◌, ◌<◌, ◌≤◌, Bool, true, false, List, [], ◌∷◌, ◌++◌, length, slice_get, slice_index, nat_lt, cond, Option, Some, None, Ok, refl, ap, sym, subst, ◌∙◌, arith, add-one}
+use Rattle.std.specs.Prelude.{slice_set}
+use Rattle.std.specs.Option.{OnSome}
+use Rattle.std.proofs.lemmas.List.{length_push, length-append, length-set}
+use Rattle.dl_entry.specs.declared.commit.Commit.{Commit}
+use Rattle.spec_isa.specs.declared.thread.Parts.{Parts}
+use Rattle.dl_entry.specs.declared.actor.Actor.{Actor}
+use Rattle.dl_entry.specs.declared.input.Request.{Request}
+use Rattle.dl_wbuf.specs.Buffers.{Words}
+use Rattle.spec_isa.specs.Threads.{started}
+use Rattle.spec_isa.specs.Runs.{Run}
+use Rattle.spec_log.specs.Head.{head}
+use Rattle.spec_log.specs.declared.sizes.ShortSize.{ShortSize}
+use Rattle.spec_log.specs.declared.sizes.Sizes.{Sizes}
+use Rattle.spec_log.specs.declared.sizes.Sizes.TheVariants.{Each, Short}
+use Rattle.spec_log.specs.declared.log.LogParts.{LogParts}
+use Rattle.spec_play.specs.Effects.{Effect, dma_commit, chunk_effect, serial_effect}
+use Rattle.spec_play.specs.Progress.{Progress, position, no_progress, with_effect, with_dma, Used, nothing_used, with_dma_used}
+use Rattle.spec_play.specs.Transfers.{DmaVerdict, DmaGoes}
+use Rattle.spec_play.specs.Turns.{Now, now_at, turn_of, at_end, is_size_used, are_sizes_used, has_left_over}
+use Rattle.spec_play.specs.Verdicts.{Verdict, Goes}
+use Rattle.spec_protocol.proofs.Keeping.{AreNew}
+use Rattle.dl_kernel.specs.Calls.{made_list}
+use Rattle.dl_replay.specs.Replaying.{Replaying, Agrees, begun, commits_at, commits_of}
+use Rattle.dl_replay.specs.Kept.{now_for, advanced}
+use Rattle.dl_kernel.specs.Served.{served_in}
+use Rattle.dl_replay.specs.declared.asking.Verdict.{Verdict as Answer}
+use Rattle.dl_replay.specs.declared.asking.Verdict.TheVariants.{Went}
+use Rattle.dl_replay.specs.declared.judging.Done.{Done}
+use Rattle.dl_replay.specs.declared.judging.Finish.{Finish}
+use Rattle.dl_replay.specs.declared.served.Served.{Served}
+use Rattle.dl_replay.specs.Seen.{used_seen}
+use Rattle.dl_replay.specs.Judging.{verdict_of, step_verdict, transfer_verdict}
+use Rattle.dl_replay.specs.Judged.{HasRun, committed, transferred, chunk_judged, serial_judged, dma_judged}
+use Rattle.dl_replay.proofs.Counts.{commits-found}
+
+-- ---- how far
+
+now-is : (log : LogParts) (p : Progress) (u : Used) (ts : List Parts) (done : ℕ) (last : Option ℕ) → position p ≡ done → p.last ≡ last
+    → now_for log done last u ts ≡ now_at log p u ts
+unfolding now_at
+now-is log p u ts done last d l = rw (← d, ← l) refl
+
+one-more : (commits : List Commit) (c : Commit) (done : ℕ) → length commits ≡ done → length (commits ++ c ∷ []) ≡ done + 1
+one-more commits c done d = omega (arith, length_push commits c)
+
+pub committed-is : (r : Replaying) (p : Progress) (k : ℕ) (e : Effect) (u : Used) (ts : List Parts) → Agrees r p
+    → advanced r.log (r.done + 1) (Some k) u ts ≡ committed r p k e u ts
+committed-is r p k e u ts a =
+    ap (λ (n : Now). record { log = r.log; used = u; now = n; total = 0; done = r.done + 1; last = Some k; commits = commits_of ts })
+    (now-is r.log (with_effect k e p) u ts (r.done + 1) (Some k) (one-more p.commits e.commit r.done a.done) refl)
+
+pub transferred-is : (r : Replaying) (p : Progress) (ts : List Parts) → Agrees r p → advanced r.log (r.done + 1) r.last (with_dma_used r.used) ts ≡ transferred r p ts
+transferred-is r p ts a =
+    ap (λ (n : Now). record { log = r.log; used = with_dma_used r.used; now = n; total = 0; done = r.done + 1; last = r.last; commits = commits_of ts })
+    (now-is r.log (with_dma p) (with_dma_used r.used) ts (r.done + 1) r.last (one-more p.commits dma_commit r.done a.done) a.last)
+
+one-used : (u : Used) → record u { dmas = u.dmas + 1 } ≡ with_dma_used u
+one-used u = ap (λ (n : ℕ). record u { dmas = n }) (add-one u.dmas)
+
+-- of a replay that is the same
+pub advanced-same : (r same new : Replaying) (ts : List Parts) → same ≡ r → new ≡ advanced r.log (r.done + 1) same.last (record same.used { dmas = same.used.dmas + 1 }) ts
+    → new ≡ advanced r.log (r.done + 1) r.last (with_dma_used r.used) ts
+advanced-same r same new ts e m =
+    m ∙ ap (λ (x : Replaying). advanced r.log (r.done + 1) x.last (record x.used { dmas = x.used.dmas + 1 }) ts) e
+    ∙ ap (λ (u : Used). advanced r.log (r.done + 1) r.last u ts) (one-used r.used)
+
+-- ---- the threads
+
+abbrev AreBelow : ℕ → List Parts → Type 0
+AreBelow n ts = (j : ℕ) → commits_at (slice_get ts j) ≤ n
+
+made-below : (n : ℕ) (made : Option Parts) → AreNew (made_list made) → AreBelow n (made_list made)
+made-below n None new j = omega arith
+made-below n (Some t) new zero = omega (arith, new.0.commits)
+made-below n (Some t) new (suc j) = omega arith
+
+append-below : (n : ℕ) (ts us : List Parts) → AreBelow n ts → AreBelow n us → AreBelow n (ts ++ us)
+append-below n [] us h l j = l j
+append-below n (t ∷ ts) us h l zero = h 0
+append-below n (t ∷ ts) us h l (suc j) = append-below n ts us (λ i. h (suc i)) l j
+
+set-below : (n : ℕ) (ts : List Parts) (k : ℕ) (t : Parts) → AreBelow n ts → t.commits ≤ n + 1 → AreBelow (n + 1) (slice_set ts k t)
+set-below n [] k t h l j = omega arith
+set-below n (x ∷ ts) zero t h l zero = l
+set-below n (x ∷ ts) zero t h l (suc j) = omega (arith, h (suc j))
+set-below n (x ∷ ts) (suc k) t h l zero = omega (arith, h 0)
+set-below n (x ∷ ts) (suc k) t h l (suc j) = set-below n ts k t (λ i. h (suc i)) l j
+
+pub thread-below : (n : ℕ) (ts : List Parts) (commits : List ℕ) (k : ℕ) (t : Parts) → length ts ≤ 15 → commits ≡ commits_of ts → ((j : ℕ) → slice_index commits j ≤ n)
+    → slice_get ts k ≡ Some t → t.commits ≤ n
+thread-below n ts commits k t few e h is =
+    let same : slice_index commits k ≡ t.commits = ap (λ (xs : List ℕ). slice_index xs k) e ∙ commits-found ts k few ∙ ap commits_at is in
+    omega (arith, same, h k)
+
+settled-few : (ts : List Parts) (k : ℕ) (t : Parts) (made : Option Parts) → length ts ≤ 15 → OnSome made (length ts < 15) → length (slice_set ts k t ++ made_list made) ≤ 15
+settled-few ts k t None few room = omega (arith, length-append (slice_set ts k t) [], length-set ts k t)
+settled-few ts k t (Some u) few room = omega (arith, length-append (slice_set ts k t) (u ∷ []), length-set ts k t)
+
+-- no thread has done more than one commit more than before
+pub settled-below : (n : ℕ) (ts us : List Parts) (commits : List ℕ) (k : ℕ) (t : Parts) (made : Option Parts) → length ts ≤ 15 → OnSome made (length ts < 15) → commits ≡ commits_of ts
+    → ((j : ℕ) → slice_index commits j ≤ n) → t.commits ≤ n + 1 → AreNew (made_list made) → us ≡ slice_set ts k t ++ made_list made
+    → (j : ℕ) → slice_index (commits_of us) j ≤ n + 1
+settled-below n ts us commits k t made few room e h l new is j =
+    let before : AreBelow n ts = λ i. let same : slice_index commits i ≡ commits_at (slice_get ts i) = ap (λ (xs : List ℕ). slice_index xs i) e ∙ commits-found ts i few in omega (arith, same, h i) in
+    let after : AreBelow (n + 1) us = subst (AreBelow (n + 1)) (sym is) (append-below (n + 1) (slice_set ts k t) (made_list made) (set-below n ts k t before l) (made-below (n + 1) made new)) in
+    let few2 : length us ≤ 15 = rw is (settled-few ts k t made few room) in
+    omega (arith, commits-found us j few2, after j)
+
+-- ---- what is answered
+
+pub some-same : {X : Type 0} {x y : X} → Some x ≡ Some y → x ≡ y
+some-same e = cc
+
+pub set-got : (ts : List Parts) (k : ℕ) (t : Parts) → k < length (slice_set ts k t) → slice_get (slice_set ts k t) k ≡ Some t
+set-got [] k t h = absurd (omega arith)
+set-got (x ∷ ts) zero t h = refl
+set-got (x ∷ ts) (suc k) t h = set-got ts k t (omega arith)
+
+set-again : (ts : List Parts) (k : ℕ) (t u : Parts) → slice_set (slice_set ts k t) k u ≡ slice_set ts k u
+set-again [] k t u = refl
+set-again (x ∷ ts) zero t u = refl
+set-again (x ∷ ts) (suc k) t u = ap (λ (xs : List Parts). x ∷ xs) (set-again ts k t u)
+
+pub chunk-goes : (r : Replaying) (p : Progress) (k n : ℕ) (before ts us : List Parts) (request : Option Request) (served : Served) (f : Finish) (run : Run) (new : Replaying) (v : Verdict) (out : Answer)
+    → Agrees r p → p.request ≡ request → HasRun before ts k n run → verdict_of (Ok f) (chunk_effect k p.request run) ≡ v → out ≡ Went
+    → us ≡ slice_set ts k f.thread ++ [] → new ≡ advanced r.log (r.done + 1) (Some k) (used_seen f.used) us
+    → record { verdict = out; replay = new; threads = us; request = request; served = served } ≡ chunk_judged r p k before ts request served v
+chunk-goes r p k n before ts us request served f run new v out a q h e o t m =
+    let effect : Effect = record (chunk_effect k p.request run) { thread = f.thread } in
+    let u = used_seen f.used in
+    let after = slice_set before k f.thread ++ [] in
+    let settled : us ≡ after = t ∙ ap (λ (xs : List Parts). slice_set xs k f.thread ++ []) h.after ∙ ap (λ (xs : List Parts). xs ++ []) (set-again before k run.thread f.thread) in
+    let replay : new ≡ committed r p k effect u after =
+    m ∙ ap (λ (xs : List Parts). advanced r.log (r.done + 1) (Some k) u xs) settled ∙ committed-is r p k effect u after a in
+    let judged : record { verdict = out; replay = new; threads = us; request = request; served = served } ≡ chunk_judged r p k before ts request served (Goes effect u) =
+    λ i. record { verdict = o i; replay = replay i; threads = settled i; request = sym q i; served = served } in
+    judged ∙ ap (chunk_judged r p k before ts request served) e
+
+pub step-goes : (r : Replaying) (p : Progress) (k : ℕ) (ts us : List Parts) (request : Option Request) (served now : Served) (d : Done) (new : Replaying) (v : Verdict) (out : Answer)
+    → Agrees r p → step_verdict k (Ok d) ≡ v → out ≡ Went → us ≡ slice_set ts k d.finish.thread ++ made_list d.left.made
+    → new ≡ advanced r.log (r.done + 1) (Some k) (used_seen d.finish.used) us
+    → now.words ≡ served.words ++ d.left.words.words → now.loads ≡ served.loads ++ d.left.loads → now.outputs ≡ served.outputs ++ d.left.outputs
+    → record { verdict = out; replay = new; threads = us; request = d.left.request; served = now } ≡ serial_judged r p k ts request served v
+step-goes r p k ts us request served now d new v out a e o t m w l x =
+    let effect : Effect = record (serial_effect k (served_in d.left)) { thread = d.finish.thread } in
+    let u = used_seen d.finish.used in
+    let after = slice_set ts k d.finish.thread ++ made_list d.left.made in
+    let replay : new ≡ committed r p k effect u after =
+    m ∙ ap (λ (xs : List Parts). advanced r.log (r.done + 1) (Some k) u xs) t ∙ committed-is r p k effect u after a in
+    let judged : record { verdict = out; replay = new; threads = us; request = d.left.request; served = now } ≡ serial_judged r p k ts request served (Goes effect u) =
+    λ i. record { verdict = o i; replay = replay i; threads = t i; request = d.left.request; served = record { words = w i; loads = l i; outputs = x i } } in
+    judged ∙ ap (serial_judged r p k ts request served) e
+
+pub dma-goes : (r : Replaying) (p : Progress) (ts : List Parts) (request : Option Request) (served now : Served) (words : Words) (new : Replaying) (v : DmaVerdict) (out : Answer)
+    → Agrees r p → transfer_verdict (Ok words) ≡ v → out ≡ Went → new ≡ advanced r.log (r.done + 1) r.last (with_dma_used r.used) ts
+    → now ≡ record served { words = served.words ++ words.words }
+    → record { verdict = out; replay = new; threads = ts; request = None; served = now } ≡ dma_judged r p ts request served v
+dma-goes r p ts request served now words new v out a e o m s =
+    let replay : new ≡ transferred r p ts = m ∙ transferred-is r p ts a in
+    let judged : record { verdict = out; replay = new; threads = ts; request = None; served = now } ≡ dma_judged r p ts request served (DmaGoes words.words) =
+    λ i. record { verdict = o i; replay = replay i; threads = ts; request = None; served = s i } in
+    judged ∙ ap (dma_judged r p ts request served) e
+
+-- ---- the first commit
+
+turn-any : (entry : ℕ) (o : Option Actor) → turn_of 0 (started 0 ∷ []) o ≡ turn_of 0 (started entry ∷ []) o
+turn-any entry None = refl
+turn-any entry (Some Actor.Dma) = refl
+turn-any entry (Some (Actor.Thread zero)) = refl
+turn-any entry (Some (Actor.Thread (suc k))) = refl
+
+size-any : (entry k : ℕ) (short : ShortSize) → is_size_used (slice_get (started 0 ∷ []) k) short ≡ is_size_used (slice_get (started entry ∷ []) k) short
+size-any entry zero short = refl
+size-any entry (suc k) short = refl
+
+short-any : (entry : ℕ) (sizes : List ShortSize) → are_sizes_used (started 0 ∷ []) (Short sizes) ≡ are_sizes_used (started entry ∷ []) (Short sizes)
+short-any entry [] = refl
+short-any entry (short ∷ sizes) = rw (size-any entry short.thread short, short-any entry sizes) refl
+
+sizes-any : (entry : ℕ) (sizes : Sizes) → are_sizes_used (started 0 ∷ []) sizes ≡ are_sizes_used (started entry ∷ []) sizes
+sizes-any entry (Each sizes) = refl
+sizes-any entry (Short sizes) = short-any entry sizes
+
+left-any : (entry : ℕ) (log : LogParts) (u : Used) → has_left_over log u (started 0 ∷ []) ≡ has_left_over log u (started entry ∷ [])
+unfolding has_left_over
+left-any entry log u = rw (sizes-any entry log.sizes) refl
+
+now-any : (entry : ℕ) (log : LogParts) (b : Bool) (o : Option Actor)
+    → cond b (turn_of 0 (started 0 ∷ []) o) (at_end 0 (has_left_over log nothing_used (started 0 ∷ [])))
+    ≡ cond b (turn_of 0 (started entry ∷ []) o) (at_end 0 (has_left_over log nothing_used (started entry ∷ [])))
+now-any entry log true o = turn-any entry o
+now-any entry log false o = ap (at_end 0) (left-any entry log nothing_used)
+
+-- the entry is of no account
+pub begun-is : (log : LogParts) (entry : ℕ) → advanced log 0 None nothing_used (started 0 ∷ []) ≡ begun log entry
+begun-is log entry =
+    ap (λ (n : Now). record { log = log; used = nothing_used; now = n; total = 0; done = 0; last = None; commits = 0 ∷ 0 ∷ 0 ∷ 0 ∷ 0 ∷ 0 ∷ 0 ∷ 0 ∷ 0 ∷ 0 ∷ 0 ∷ 0 ∷ 0 ∷ 0 ∷ 0 ∷ [] })
+    (now-any entry log (nat_lt 0 log.count) (head log 0 None (true ∷ [])) ∙ now-is log no_progress nothing_used (started entry ∷ []) 0 None refl refl)

@@ -1,0 +1,8 @@
+mod Rising
+mod Lookups
+mod Counts
+mod Turns
+mod Verdicts
+mod Lists
+mod Limits
+mod Advancing

@@ -1,0 +1,83 @@
+-- No whole chunk is larger than a standard chunk can be.
+use Rattle.std.proofs.Common.{◌≡◌, ℕ, zero, suc, ◌+◌, ◌-◌, ◌<◌, ◌≤◌, ◌^◌, ◌==◌, ◌&&◌, max, List, [], ◌∷◌, All, length, find, option_map, slice_get, slice_index, Option, Some, None, inl, inr, refl, ap, ◌∙◌, arith}
+use Rattle.std.proofs.lemmas.Bool.{cases_Bool, eq-eqb}
+use Rattle.std.proofs.lemmas.List.Elements.{All-head, All-tail}
+use Rattle.dl_entry.specs.declared.actor.Actor.{Actor}
+use Rattle.spec_isa.specs.declared.thread.Parts.{Parts}
+use Rattle.spec_isa.specs.declared.thread.Load.{Load}
+use Rattle.spec_log.specs.declared.log.LogParts.{LogParts}
+use Rattle.spec_log.specs.declared.mode_name.ModeName.{ModeName}
+use Rattle.spec_log.specs.declared.mode_name.ModeName.TheVariants.{OrderSize, OrderOnly, Picolog}
+use Rattle.spec_log.specs.declared.sizes.ShortSize.{ShortSize}
+use Rattle.spec_log.specs.declared.sizes.Sizes.{Sizes}
+use Rattle.spec_log.specs.declared.sizes.Sizes.TheVariants.{Each, Short}
+use Rattle.spec_log.specs.Log.{IsLog, IsSizes, IsShortSize}
+use Rattle.spec_log.specs.Size.{is_thread, sizes_of_thread, thread_size}
+use Rattle.spec_play.specs.Turns.{Turn}
+use Rattle.spec_protocol.specs.Spheres.{Replay, limit_in, limit_of, whole_limit, pieces_of}
+use Rattle.dl_replay.specs.Replaying.{Replaying, book_of, commits_at, commits_of}
+use Rattle.dl_replay.proofs.Counts.{commits-found}
+
+first-few : (s x z : ℕ) (xs : List ℕ) (i : ℕ) → x ≤ s → ((j : ℕ) → slice_get xs j ≡ Some z → z ≤ s) → slice_get (x ∷ xs) i ≡ Some z → z ≤ s
+first-few s x z xs zero head tail e = let same : x ≡ z = cc in omega arith
+first-few s x z xs (suc i) head tail e = tail i e
+
+each-few : (s k : ℕ) (order : List Actor) (sizes : List ℕ) (i z : ℕ) → All (λ size. size ≤ s) sizes → slice_get (sizes_of_thread k order sizes) i ≡ Some z → z ≤ s
+each-few s k [] sizes i z all e = cc
+each-few s k (a ∷ order) [] i z all e = cc
+each-few s k (a ∷ order) (x ∷ sizes) i z all e =
+    let P : ℕ → Type 0 = λ size. size ≤ s in
+    let head = All-head P x sizes all in
+    let tail = All-tail P x sizes all in
+    elim (cases_Bool (is_thread k a)) [
+      | inl own ↦ first-few s x z (sizes_of_thread k order sizes) i head (λ j. each-few s k order sizes j z tail) (rw own at e)
+      | inr other ↦ each-few s k order sizes i z tail (rw other at e)
+    ]
+
+short-few : (s k i z : ℕ) (sizes : List ShortSize) → All (IsShortSize s) sizes
+    → option_map (λ short. short.size) (find (λ short. (short.thread == k) && (short.index == i)) sizes) ≡ Some z → z ≤ s
+short-few s k i z [] all e = cc
+short-few s k i z (short ∷ sizes) all e =
+    let head = All-head (IsShortSize s) short sizes all in
+    let tail = All-tail (IsShortSize s) short sizes all in
+    elim (cases_Bool ((short.thread == k) && (short.index == i))) [
+      | inl own ↦ let f = rw own at e in let same : short.size ≡ z = cc in omega (arith, head.3)
+      | inr other ↦ short-few s k i z sizes tail (rw other at e)
+    ]
+
+sizes-few : (mode : ModeName) (s count : ℕ) (order : List Actor) (sizes : Sizes) (k i z : ℕ) → IsSizes mode s count sizes → thread_size order sizes k i ≡ Some z → z ≤ s
+sizes-few OrderSize s count order (Each sizes) k i z are e = each-few s k order sizes i z are.1 e
+sizes-few OrderSize s count order (Short sizes) k i z are e = absurd are
+sizes-few OrderOnly s count order (Each sizes) k i z are e = absurd are
+sizes-few OrderOnly s count order (Short sizes) k i z are e = short-few s k i z sizes are.each e
+sizes-few Picolog s count order (Each sizes) k i z are e = absurd are
+sizes-few Picolog s count order (Short sizes) k i z are e = short-few s k i z sizes are.each e
+
+limit-by : (s : ℕ) (o : Option ℕ) → 1 ≤ s → ((z : ℕ) → o ≡ Some z → z ≤ s) → elim o [ None ↦ s | Some z ↦ max 1 z ] ≤ s
+limit-by s None one few = omega arith
+limit-by s (Some z) one few = omega (arith, few z refl)
+
+limit-few : (log : LogParts) (k i : ℕ) → IsLog log → whole_limit log k i ≤ 4096
+limit-few log k i is =
+    omega (
+      arith,
+      is.s.0,
+      is.s.1,
+      limit-by log.s (thread_size log.order log.sizes k i) (omega (arith, is.s.0))
+          (λ z e. sizes-few log.mode log.s log.count log.order log.sizes k i z is.sizes e),
+    )
+
+-- the pieces of a commit have fewer
+pub pieces-fit : (r : Replaying) (k i n : ℕ) → IsLog r.log → r.now ≡ Turn k → 1 ≤ n → n < limit_in (Replay (book_of r [])) 0 k i → r.total + n < 2 ^ 32
+pieces-fit r k i n is e one few =
+    let own : pieces_of r.now k r.total ≡ r.total = rw (e, eq-eqb k k refl) refl in
+    omega (arith, limit-few r.log k i is, own, few)
+
+pub limit-is : (r : Replaying) (s k : ℕ) (loads : List Load) (ts : List Parts) (t : Parts) (commits whole pieces rest limit : ℕ) → commits ≡ slice_index r.commits k
+    → whole ≡ whole_limit r.log k commits → pieces ≡ pieces_of r.now k r.total → rest ≡ whole - pieces → limit ≡ max rest 1
+    → length ts ≤ 15 → r.commits ≡ commits_of ts → slice_get ts k ≡ Some t → limit ≡ limit_of s (Replay (book_of r loads)) k t
+unfolding limit_of
+limit-is r s k loads ts t commits whole pieces rest limit c w p d m few e is =
+    let own : commits ≡ t.commits = c ∙ ap (λ (xs : List ℕ). slice_index xs k) e ∙ commits-found ts k few ∙ ap commits_at is in
+    let size : whole ≡ whole_limit r.log k t.commits = w ∙ ap (whole_limit r.log k) own in
+    omega (arith, size, p, d, m)

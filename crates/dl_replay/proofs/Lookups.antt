@@ -1,0 +1,53 @@
+-- What a mode's log and the stores of records give back is what the log says.
+use Rattle.std.proofs.Common.{◌≡◌, ℕ, ◌==◌, ◌&&◌, Bool, List, [], ◌∷◌, map, Option, Some, None, option_map, is_some, inl, inr, refl, ap, sym, ◌∙◌}
+use Rattle.std.specs.Option.{MatchOption}
+use Rattle.std.proofs.lemmas.Bool.{cases_Bool}
+use Rattle.dl_entry.specs.declared.actor.Actor.{Actor}
+use Rattle.dl_entry.specs.declared.input.Input.{Input}
+use Rattle.spec_log.specs.declared.mode_name.ModeName.{ModeName}
+use Rattle.spec_log.specs.declared.mode_name.ModeName.TheVariants.{OrderSize, OrderOnly, Picolog}
+use Rattle.spec_log.specs.declared.records.Interrupt.{Interrupt}
+use Rattle.spec_log.specs.declared.records.DmaRecord.{DmaRecord}
+use Rattle.spec_log.specs.Head.{head, is_slot}
+use Rattle.spec_log.specs.Noting.{Kept, kept_size, kept_head, log_of}
+use Rattle.spec_log.specs.Size.{size_in}
+use Rattle.spec_play.specs.Verdicts.{interrupt_at}
+use Rattle.dl_input.specs.Dmas.{bytes_at}
+use Rattle.dl_input.specs.Held.{Held, raised_at, interrupt_of}
+
+pub size-is : (mode : ModeName) (kept : Kept) (interrupts : List Interrupt) (inputs : List Input) (dmas : List DmaRecord) (actor : Actor) (index : ℕ)
+    → kept_size kept actor index ≡ size_in (log_of mode kept interrupts inputs dmas) actor index
+size-is mode kept interrupts inputs dmas (Actor.Thread thread) index = refl
+size-is mode kept interrupts inputs dmas Actor.Dma index = refl
+
+pub interrupt-is : (entries : List Held) (thread commits : ℕ)
+    → option_map (λ r. r.value) (raised_at entries thread commits) ≡ interrupt_at (map interrupt_of entries) thread commits
+interrupt-is [] thread commits = refl
+interrupt-is (held ∷ entries) thread commits =
+    elim (cases_Bool ((held.thread == thread) && (held.index == commits))) [
+      | inl e ↦ rw e refl
+      | inr e ↦ rw e (interrupt-is entries thread commits)
+    ]
+
+slot-found : (slot : ℕ) (dmas : List DmaRecord) → is_some (bytes_at slot dmas) ≡ is_slot dmas slot
+slot-found slot [] = refl
+slot-found slot (dma ∷ dmas) =
+    elim (cases_Bool (dma.slot == slot)) [
+      | inl e ↦ rw e refl
+      | inr e ↦ rw e (slot-found slot dmas)
+    ]
+
+abbrev Holds : (slot : ℕ) → List DmaRecord → {B : Type 0} → (B → List ℕ) → Option B → Type 0
+Holds slot dmas now found = MatchOption found (bytes_at slot dmas ≡ None) (λ b. bytes_at slot dmas ≡ Some (now b))
+
+pub slot-is : (slot : ℕ) (dmas : List DmaRecord) {B : Type 0} (now : B → List ℕ) (found : Option B) → Holds slot dmas now found
+    → is_some found ≡ is_slot dmas slot
+slot-is slot dmas now None h = sym (ap is_some h) ∙ slot-found slot dmas
+slot-is slot dmas now (Some b) h = sym (ap is_some h) ∙ slot-found slot dmas
+
+pub head-is : (mode : ModeName) (kept : Kept) (interrupts : List Interrupt) (inputs : List Input) (dmas : List DmaRecord)
+    (position : ℕ) (last : Option ℕ) (live : List Bool)
+    → kept_head mode kept.order position (is_slot dmas position) last live ≡ head (log_of mode kept interrupts inputs dmas) position last live
+head-is OrderSize kept interrupts inputs dmas position last live = refl
+head-is OrderOnly kept interrupts inputs dmas position last live = refl
+head-is Picolog kept interrupts inputs dmas position last live = refl

@@ -1,0 +1,43 @@
+-- Whose turn it is: with commits left, and at the end.
+use Rattle.std.proofs.Common.{◌≡◌, ℕ, ◌<◌, ◌≤◌, true, List, length, map, Option, refl}
+use Rattle.std.proofs.lemmas.Bool.{lt-ltb, le-ltb}
+use Rattle.spec_isa.specs.declared.thread.Parts.{Parts}
+use Rattle.spec_kernel.specs.Interrupts.{is_live}
+use Rattle.spec_log.specs.declared.mode_name.ModeName.{ModeName}
+use Rattle.spec_log.specs.declared.mode_name.ModeName.TheVariants.{OrderSize, OrderOnly, Picolog}
+use Rattle.spec_log.specs.declared.log.LogParts.{LogParts}
+use Rattle.spec_log.specs.declared.sizes.Sizes.{Sizes}
+use Rattle.spec_log.specs.declared.sizes.Sizes.TheVariants.{Each, Short}
+use Rattle.spec_log.specs.Head.{head}
+use Rattle.spec_log.specs.Log.{IsSizes}
+use Rattle.spec_log.specs.Noting.{sizes_used}
+use Rattle.dl_entry.specs.declared.actor.Actor.{Actor}
+use Rattle.spec_play.specs.Progress.{Progress, position, Used}
+use Rattle.spec_play.specs.Turns.{now_at, turn_of, at_end, has_left_over, are_sizes_used}
+use Rattle.dl_replay.specs.Replaying.{commits_of}
+use Rattle.dl_replay.proofs.Counts.{sizes-used}
+
+pub now-before : (log : LogParts) (p : Progress) (u : Used) (ts : List Parts) (done : ℕ) (last : Option ℕ) → position p ≡ done → p.last ≡ last → done < log.count
+    → now_at log p u ts ≡ turn_of done ts (head log done last (map is_live ts))
+unfolding now_at
+now-before log p u ts done last d l h = rw (d, l, lt-ltb done log.count h) refl
+
+pub now-at-end : (log : LogParts) (p : Progress) (u : Used) (ts : List Parts) (done : ℕ) → position p ≡ done → log.count ≤ done
+    → now_at log p u ts ≡ at_end done (has_left_over log u ts)
+unfolding now_at
+now-at-end log p u ts done d h = rw (d, le-ltb done log.count h) refl
+
+-- where each commit has its size, all are used
+pub each-used : (mode : ModeName) (s count : ℕ) (sizes : Sizes) (ts : List Parts) → mode ≡ OrderSize → IsSizes mode s count sizes → are_sizes_used ts sizes ≡ true
+each-used OrderSize s count (Each sizes) ts e are = refl
+each-used OrderSize s count (Short sizes) ts e are = absurd are
+each-used OrderOnly s count sizes ts e are = cc
+each-used Picolog s count sizes ts e are = cc
+
+pub short-used : (mode : ModeName) (s count : ℕ) (sizes : Sizes) (order : List Actor) (commits : List ℕ) (ts : List Parts) → (mode ≡ OrderSize → ⊥)
+    → IsSizes mode s count sizes → length ts ≤ 15 → commits ≡ commits_of ts → sizes_used order sizes commits ≡ are_sizes_used ts sizes
+short-used OrderSize s count sizes order commits ts e are h is = absurd (e refl)
+short-used OrderOnly s count (Each sizes) order commits ts e are h is = absurd are
+short-used OrderOnly s count (Short sizes) order commits ts e are h is = rw is (sizes-used ts sizes h)
+short-used Picolog s count (Each sizes) order commits ts e are h is = absurd are
+short-used Picolog s count (Short sizes) order commits ts e are h is = rw is (sizes-used ts sizes h)

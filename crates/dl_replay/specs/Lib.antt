@@ -1,0 +1,7 @@
+pub mod Seen
+pub mod Lists
+pub mod Judging
+pub mod Replaying
+pub mod Kept
+pub mod Judged
+pub mod Left

@@ -1,0 +1,70 @@
+-- How a replay stands: its log, how far it is in it, and of its sphere's progress what the log asks for.
+use Rattle.std.specs.Prelude.{◌≡◌, ℕ, ◌-◌, Bool, false, List, [], ◌∷◌, ◌++◌, length, map, replicate, Option, Some, None}
+use Rattle.dl_entry.specs.declared.Actor.{Actor}
+use Rattle.dl_entry.specs.declared.End.{End}
+use Rattle.spec_isa.specs.declared.thread.Parts.{Parts}
+use Rattle.spec_isa.specs.declared.thread.Load.{Load}
+use Rattle.spec_isa.specs.Threads.{started}
+use Rattle.spec_log.specs.declared.LogParts.{LogParts}
+use Rattle.spec_kernel.specs.Interrupts.{is_live}
+use Rattle.spec_play.specs.Progress.{Progress, no_progress, position, Used, nothing_used}
+use Rattle.spec_play.specs.Turns.{Now, Turn, TurnOfDma, Over, now_at}
+use Rattle.spec_protocol.specs.Spheres.{Book}
+
+pub record Replaying : Type 0 where
+  pub log : LogParts
+  pub used : Used
+  pub now : Now
+  -- the instructions of the pieces of the present commit
+  pub total : ℕ
+  -- the whole commits that are done, the thread that committed last, and how many each thread has done
+  pub done : ℕ
+  pub last : Option ℕ
+  pub commits : List ℕ
+
+-- how many commits each of 15 threads has done, 0 where there is none
+abbrev pub commits_of : List Parts → List ℕ
+commits_of threads = map (λ t. t.commits) threads ++ replicate (15 - length threads) 0
+
+abbrev pub commits_at : Option Parts → ℕ
+commits_at None = 0
+commits_at (Some t) = t.commits
+
+-- a thread that is there lives
+abbrev pub lives : Option Parts → Bool
+lives None = false
+lives (Some t) = is_live t
+
+-- the book of the replayed sphere, with the loads of the pieces
+abbrev pub book_of : Replaying → List Load → Book
+book_of r loads = record { log = r.log; used = r.used; now = r.now; total = r.total; loads = loads }
+
+-- the sphere has come as far
+pub record Agrees (r : Replaying) (p : Progress) : Type 0 where
+  pub done : position p ≡ r.done
+  pub last : p.last ≡ r.last
+
+-- before the first commit, where thread 0 stands alone at an entry
+abbrev pub begun : LogParts → (entry : ℕ) → Replaying
+begun log entry =
+    let threads = started entry ∷ [] in
+    record {
+      log = log;
+      used = nothing_used;
+      now = now_at log no_progress nothing_used threads;
+      total = 0;
+      done = 0;
+      last = None;
+      commits = commits_of threads;
+    }
+
+-- how it ended, if it did
+abbrev pub end_of : Now → Option End
+end_of (Turn thread) = None
+end_of TurnOfDma = None
+end_of (Over how) = Some how
+
+-- it is this actor's turn
+abbrev pub IsTurnOf : Actor → Now → Type 0
+IsTurnOf (Actor.Thread thread) now = now ≡ Turn thread
+IsTurnOf Actor.Dma now = now ≡ TurnOfDma

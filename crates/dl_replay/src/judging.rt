@@ -1,0 +1,236 @@
+//! What the log says of a commit: it goes as logged, or why it doesn't.
+ghost use Rattle.std.specs.Prelude.{◌≡◌, Some, ℕ, ◌+◌, ◌<◌, ◌≤◌, ◌^◌, length, slice_get, IfOk, OnOk, IfSome, OnSome, option_map};
+ghost use Rattle.spec_isa.specs.Runs.{Run};
+ghost use Rattle.spec_kernel.specs.Needs.{need};
+ghost use Rattle.spec_play.specs.Effects.{Effect, chunk_effect};
+ghost use Rattle.spec_play.specs.Progress.{Progress, position};
+ghost use Rattle.spec_play.specs.Verdicts.{ended, chunk_why, chunk_verdict, serial_why, given, serial_verdict};
+ghost use Rattle.spec_play.specs.Transfers.{is_for, dma_verdict};
+ghost use Rattle.spec_protocol.proofs.Keeping.{AreNew};
+ghost use Rattle.dl_kernel.specs.Calls.{made_list};
+ghost use Rattle.dl_replay.specs.Seen.{used_seen};
+ghost use Rattle.dl_replay.specs.Judging.{verdict_of, given_by, step_verdict, transfer_seen, transfer_verdict};
+
+use crate::counting::{counted, interrupted, takes_interrupt};
+use crate::lookup::Lookup;
+use crate::place::{Place, Used};
+use dl_entry::{Actor, Input, OutOfMemory, Request, Why};
+use dl_kernel::{Injected, Served, Step, dma_words, inject, serve, wants_record};
+use dl_mem::Memory;
+use dl_mode::Mode;
+use dl_thread::Thread;
+use dl_wbuf::Buffer;
+use spec_log::DmaRecord;
+use std::alloc::Global;
+
+/// The thread at the end of its commit, and what of the log is used then.
+#[derive(Clone, Copy)]
+pub struct Finish {
+    pub thread: Thread,
+    pub used: Used,
+}
+
+// An interrupt that is logged for the end of a thread's commit must be one that the thread takes.
+fn ended<M: Mode>(log: &Lookup<M>, number: u8, thread: &Thread, used: Used) -> Result<Finish, Why>
+    requires { used.interrupts + 1 < 2 ^ 32 }
+    ensures verdict { (e : Effect) → e.thread ≡ thread.now → verdict_of result e ≡ ended log.now number e (used_seen used) }
+    ensures commits { IfOk result (λ f. f.thread.commits ≡ thread.now.commits) }
+    ensures interrupts { IfOk result (λ f. f.used.interrupts ≤ used.interrupts + 1) }
+{
+    let Some(value) = log.interrupt(number, thread.commits()) else {
+        return Ok(Finish {
+            thread: *thread,
+            used,
+        });
+    };
+    if !takes_interrupt(thread) {
+        return Err(Why::Interrupt);
+    }
+    Ok(Finish {
+        thread: interrupted(value, thread),
+        used: Used {
+            interrupts: used.interrupts + 1,
+            ..used
+        },
+    })
+}
+
+// ---- chunks
+
+/// Judges a chunk of a thread, which has run it, of so many instructions.
+pub fn judge_chunk<M: Mode>(
+    log: &Lookup<M>,
+    used: Used,
+    number: u8,
+    thread: &Thread,
+    total: u32,
+) -> Result<Finish, Why>
+    requires few { used.interrupts + 1 < 2 ^ 32 }
+    requires commits { thread.now.commits + 1 < 2 ^ 32 }
+    ensures verdict { (p : Progress) (r : Run) → r.thread ≡ thread.now → r.n ≡ total →
+        verdict_of result (chunk_effect number p.request r) ≡ chunk_verdict log.now p (used_seen used) number r }
+    ensures commits { IfOk result (λ f. f.thread.commits ≡ thread.now.commits + 1) }
+    ensures interrupts { IfOk result (λ f. f.used.interrupts ≤ used.interrupts + 1) }
+{
+    let size = log.size(Actor::Thread(number), thread.commits());
+    match chunk_why(size, total) {
+        Some(why) => Err(why),
+        None => ended(log, number, &counted(thread), used),
+    }
+}
+
+// Why a chunk isn't the one that is logged: a serial step is, or a longer one.
+fn chunk_why(size: Option<u32>, total: u32) -> Option<Why>
+    ensures { result ≡ chunk_why size total }
+{
+    match size {
+        Some(0) => Some(Why::NotSerial),
+        Some(size) if total < size => Some(Why::Short(size, total)),
+        Some(_) | None => None,
+    }
+}
+
+// ---- serial steps
+
+/// What a serial step leaves, and the end of its commit.
+#[derive(Drop)]
+pub struct Done {
+    pub left: Served,
+    pub finish: Finish,
+}
+
+/// The record that a serial step takes, if it wants one, and what of the log is used then.
+#[derive(Clone, Copy)]
+pub struct Taken<'a> {
+    pub input: Option<&'a Input>,
+    pub used: Used,
+}
+
+/// Judges a serial step, and does it apart from the sphere.
+pub fn judge_step<M: Mode>(
+    alloc: Global,
+    log: &Lookup<M>,
+    used: Used,
+    step: &Step<'_>,
+) -> Result<Result<Done, Why>, OutOfMemory>
+    requires few { used.interrupts + 1 < 2 ^ 32 }
+    requires commits { step.now.thread.commits + 1 < 2 ^ 32 }
+    ensures verdict { let s = step.now in (p : Progress) → p.request ≡ s.request →
+        IfOk result (λ r. step_verdict s.number r ≡ serial_verdict log.now p (used_seen used) s.number s.threads.now s.thread s.memory.now) }
+    ensures commits { IfOk result (λ r. IfOk r (λ d. d.finish.thread.commits ≡ step.now.thread.commits + 1)) }
+    ensures interrupts { IfOk result (λ r. IfOk r (λ d. d.finish.used.interrupts ≤ used.interrupts + 1)) }
+    ensures made { IfOk result (λ r. IfOk r (λ d. AreNew (made_list d.left.made))) }
+    ensures room { IfOk result (λ r. IfOk r (λ d. OnSome d.left.made (length step.now.threads.now < 15))) }
+{
+    let size = log.size(Actor::Thread(step.number), step.thread.commits());
+    if let Some(why) = serial_why(size) {
+        return Ok(Err(why));
+    }
+    let Some(given) = given(log, used, &step.thread, step.memory) else {
+        return Ok(Err(Why::Input));
+    };
+    let left = serve(alloc, step, given.input)?;
+    match ended(log, step.number, &counted(&left.thread), given.used) {
+        Ok(finish) => Ok(Ok(Done { left, finish })),
+        Err(why) => Ok(Err(why)),
+    }
+}
+
+// A size over 0 is that of a chunk.
+fn serial_why(size: Option<u32>) -> Option<Why>
+    ensures { result ≡ serial_why size }
+{
+    match size {
+        Some(0) | None => None,
+        Some(size) => Some(Why::SizeOfSerial(size)),
+    }
+}
+
+// The next record, if the step wants one and this one fits.
+fn given<'a, M: Mode>(
+    log: &'a Lookup<M>,
+    used: Used,
+    thread: &Thread,
+    memory: &Memory,
+) -> Option<Taken<'a>>
+    ensures value { option_map given_by result ≡ given (need thread.now memory.now) (slice_get log.now.inputs used.inputs) (used_seen used) }
+    ensures few { IfSome result (λ g. IfSome g.input (λ r. length r.now.bytes ≤ 4096)) }
+    ensures interrupts { IfSome result (λ g. g.used.interrupts ≡ used.interrupts) }
+{
+    if !wants_record(thread, memory) {
+        return Some(Taken { input: None, used });
+    }
+    let input = log.input(used.inputs)?;
+    match inject(input, thread, memory) {
+        Injected::Misfit => None,
+        Injected::Fits => Some(Taken {
+            input: Some(input),
+            used: Used {
+                inputs: used.inputs + 1,
+                ..used
+            },
+        }),
+    }
+}
+
+// ---- DMAs
+
+/// A DMA that goes as it is logged: its request, and the bytes of its record.
+#[derive(Clone, Copy)]
+pub struct Transfer<'a> {
+    pub request: Request,
+    pub bytes: &'a [u8],
+}
+
+/// Judges a DMA.
+pub fn transfer_of<'a, M: Mode>(
+    log: &'a Lookup<M>,
+    place: &Place,
+    request: Option<Request>,
+) -> Result<Transfer<'a>, Why>
+    ensures verdict { (p : Progress) → position p ≡ place.now.done → p.request ≡ request →
+        transfer_seen result ≡ dma_verdict log.now p (used_seen place.now.used) }
+    ensures few { OnOk result (place.now.used.dmas + 1 < 2 ^ 32) }
+    ensures request { IfOk result (λ t. request ≡ Some t.request) }
+    ensures bytes { IfOk result (λ t. length t.bytes.now ≤ t.request.len) }
+    ensures short { IfOk result (λ t. length t.bytes.now ≤ 4096) }
+{
+    if let Some(why) = serial_why(log.size(Actor::Dma, place.done)) {
+        return Err(why);
+    }
+    let (Some(request), Some(dma)) = (request, log.dma(place.used.dmas)) else {
+        return Err(Why::Dma);
+    };
+    if !is_for(place.done, request, dma) {
+        return Err(Why::Dma);
+    }
+    Ok(Transfer {
+        request,
+        bytes: dma.bytes.as_slice(),
+    })
+}
+
+/// Judges a DMA, and makes the words that it stores.
+pub fn judge_dma<M: Mode>(
+    alloc: Global,
+    log: &Lookup<M>,
+    place: &Place,
+    request: Option<Request>,
+) -> Result<Result<Buffer, Why>, OutOfMemory>
+    requires { IfSome request (λ q. q.buf + 4 + q.len < 2 ^ 32) }
+    ensures verdict { (p : Progress) → position p ≡ place.now.done → p.request ≡ request →
+        IfOk result (λ r. transfer_verdict r ≡ dma_verdict log.now p (used_seen place.now.used)) }
+    ensures few { IfOk result (λ r. OnOk r (place.now.used.dmas + 1 < 2 ^ 32)) }
+{
+    match transfer_of(log, place, request) {
+        Ok(transfer) => Ok(Ok(dma_words(alloc, &transfer.request, transfer.bytes)?)),
+        Err(why) => Ok(Err(why)),
+    }
+}
+
+// The record is for this commit, and no longer than the request.
+fn is_for(done: u32, request: Request, dma: &DmaRecord) -> bool
+    ensures { result ≡ is_for done request dma.now }
+{
+    dma.slot == done && dma.bytes.len() <= request.len as usize
+}

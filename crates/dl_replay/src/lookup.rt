@@ -1,0 +1,138 @@
+//! A log as a replay looks things up in it.
+ghost use Rattle.std.specs.Prelude.{◌≡◌, ℕ, ◌≤◌, ◌+◌, ◌<◌, ◌^◌, nat_lt, List, length, IfOk, IfSome, OnSome, is_some, slice_get, option_copied};
+ghost use Rattle.spec_isa.specs.declared.thread.Parts.{Parts};
+ghost use Rattle.spec_log.specs.Log.{IsLog};
+ghost use Rattle.spec_log.specs.Size.{size_in};
+ghost use Rattle.spec_log.specs.Head.{head};
+ghost use Rattle.spec_play.specs.Turns.{are_sizes_used};
+ghost use Rattle.spec_play.specs.Verdicts.{interrupt_at};
+ghost use Rattle.spec_protocol.specs.Spheres.{whole_limit};
+ghost use Rattle.dl_replay.specs.Replaying.{commits_of};
+
+use crate::copying::{dmas_of, inputs_of, interrupts_of, kept_of};
+use dl_entry::{Actor, Input, OutOfMemory};
+use dl_input::{Dmas, Inputs, Interrupts};
+use dl_mode::Mode;
+use spec_log::{DmaRecord, Log, ModeName};
+use std::alloc::Global;
+use std::marker::Model;
+
+/// A log of a mode, seen as its parts.
+#[derive(Drop)]
+pub struct Lookup<M: Mode> {
+    log: M::Log,
+    count: u32,
+    interrupts: Interrupts,
+    inputs: Inputs,
+    dmas: Dmas,
+}
+
+impl<M: Mode> Model for Lookup<M> {
+    ghost use Rattle.std.specs.Prelude.{◌≡◌, map};
+    ghost use Rattle.spec_log.specs.declared.log.LogParts.{LogParts};
+    ghost use Rattle.spec_log.specs.Log.{IsLog};
+    ghost use Rattle.spec_log.specs.Noting.{log_of};
+    ghost use Rattle.dl_input.specs.Held.{interrupt_of};
+
+    ghost Value = { LogParts };
+
+    ghost view = { λ l. log_of M.mode (M.logged l.log).kept (map interrupt_of l.interrupts.entries) l.inputs.inputs l.dmas.dmas };
+
+    ghost invariant = { λ l.
+        IsLog (log_of M.mode (M.logged l.log).kept (map interrupt_of l.interrupts.entries) l.inputs.inputs l.dmas.dmas)
+        × (l.count ≡ (M.logged l.log).kept.count) };
+}
+
+impl<M: Mode> Lookup<M> {
+    pub fn new(alloc: Global, log: &Log) -> Result<Lookup<M>, OutOfMemory>
+        requires { log.now.mode ≡ M.mode }
+        ensures { IfOk result (λ lookup. lookup ≡ log.now) }
+    {
+        let parts = log.parts();
+        Ok(Lookup {
+            log: kept_of::<M>(alloc, parts)?,
+            count: parts.count,
+            interrupts: interrupts_of(alloc, parts.interrupts.as_slice())?,
+            inputs: inputs_of(alloc, parts.inputs.as_slice())?,
+            dmas: dmas_of(alloc, parts.dmas.as_slice())?,
+        })
+    }
+
+    /// The number of its commits.
+    pub fn count(&self) -> u32
+        ensures value { result ≡ self.now.count }
+        ensures log { IsLog self.now }
+        ensures mode { self.now.mode ≡ M.mode }
+    {
+        self.count
+    }
+
+    /// The logged size of an actor's commit: of a thread by the number of its commits before, of a DMA by its position.
+    pub fn size(&self, actor: Actor, index: u32) -> Option<u32>
+        ensures { result ≡ size_in self.now actor index }
+    {
+        M::size(&self.log, actor, index)
+    }
+
+    /// How many instructions a whole chunk may run: the logged size, 1 in place of a logged 0, else a standard chunk's.
+    pub fn limit(&self, thread: u8, index: u32) -> u32
+        ensures { result ≡ whole_limit self.now thread index }
+    {
+        M::limit(&self.log, thread, index)
+    }
+
+    /// The actor of the commit at a position, by the thread that committed last and which threads are live.
+    pub fn head(&self, position: u32, last: Option<u8>, live: &[bool]) -> Option<Actor>
+        requires { length live.now ≤ 15 }
+        ensures { result ≡ head self.now position last live.now }
+    {
+        let slot = self.dmas.at(position).is_some();
+        M::head(&self.log, position, slot, last, live)
+    }
+
+    /// Whether no size is left, once all commits are done and each thread has done so many. Where each commit has its size,
+    /// each is used then.
+    pub fn are_sizes_used(&self, commits: &[u32]) -> bool
+        ensures { (threads : List Parts) → length threads ≤ 15 → commits.now ≡ commits_of threads →
+            result ≡ are_sizes_used threads self.now.sizes }
+    {
+        match M::name() {
+            ModeName::OrderSize => true,
+            ModeName::OrderOnly | ModeName::Picolog => M::used(&self.log, commits),
+        }
+    }
+
+    /// The value of the interrupt that a thread takes after so many of its commits.
+    pub fn interrupt(&self, thread: u8, commits: u32) -> Option<u32>
+        ensures { result ≡ interrupt_at self.now.interrupts thread commits }
+    {
+        self.interrupts.at(thread, commits)
+    }
+
+    /// Whether there is an i-th interrupt.
+    pub fn has_interrupt(&self, i: u32) -> bool
+        ensures { result ≡ nat_lt i (length self.now.interrupts) }
+    {
+        self.interrupts.nth(i).is_some()
+    }
+
+    /// The i-th input.
+    pub fn input(&self, i: u32) -> Option<&Input>
+        ensures input { option_copied result ≡ slice_get self.now.inputs i }
+        ensures there { is_some result ≡ nat_lt i (length self.now.inputs) }
+        ensures next { OnSome result (i + 1 < 2 ^ 32) }
+        ensures few { IfSome result (λ input. length input.now.bytes ≤ 4096) }
+    {
+        self.inputs.nth(i)
+    }
+
+    /// The i-th DMA.
+    pub fn dma(&self, i: u32) -> Option<&DmaRecord>
+        ensures dma { option_copied result ≡ slice_get self.now.dmas i }
+        ensures there { is_some result ≡ nat_lt i (length self.now.dmas) }
+        ensures next { OnSome result (i + 1 < 2 ^ 32) }
+        ensures few { IfSome result (λ dma. length dma.now.bytes ≤ 4096) }
+    {
+        self.dmas.nth(i)
+    }
+}

@@ -1,0 +1,450 @@
+//! The replayer of a sphere.
+ghost use Rattle.std.specs.Prelude.{◌≡◌, ℕ, List, Option, ◌+◌, ◌<◌, ◌≤◌, ◌^◌, [], ◌++◌, false, true, length, slice_get, slice_index, slice_set, Some, IfOk, IsOk, OnErr, OnSome};
+ghost use Rattle.spec_isa.specs.declared.thread.Parts.{Parts};
+ghost use Rattle.spec_isa.specs.declared.thread.Load.{Load};
+ghost use Rattle.spec_isa.specs.Runs.{Run};
+ghost use Rattle.dl_entry.specs.declared.Why.{Why};
+ghost use Rattle.spec_play.specs.Progress.{Progress};
+ghost use Rattle.spec_play.specs.Turns.{Turn, TurnOfDma};
+ghost use Rattle.spec_play.specs.Verdicts.{chunk_verdict, serial_verdict};
+ghost use Rattle.spec_play.specs.Transfers.{dma_verdict};
+ghost use Rattle.spec_protocol.specs.Spheres.{Replay, actor_of, limit_in, limit_of, pieces_of};
+ghost use Rattle.spec_protocol.proofs.Keeping.{AreNew};
+ghost use Rattle.dl_kernel.specs.Calls.{made_list};
+ghost use Rattle.dl_replay.specs.Seen.{used_seen};
+ghost use Rattle.dl_replay.specs.Replaying.{Agrees, IsTurnOf, begun, book_of, commits_of, end_of};
+ghost use Rattle.dl_replay.specs.Kept.{advanced};
+ghost use Rattle.dl_replay.specs.Judging.{transfer_verdict};
+ghost use Rattle.dl_replay.specs.Left.{SaysSize, nothing_served, served_left, served_stored, verdict_left, verdict_stored};
+ghost use Rattle.dl_replay.specs.Judged.{HasRun, IsAmong, IsInside, chunk_judged, diverged, dma_judged, is_serial_step, serial_judged};
+
+use crate::asking::{Asking, Verdict};
+use crate::counting::{commits_of, settle, thread_at};
+use crate::judging::{Finish, judge_chunk, judge_dma, judge_step, transfer_of};
+use crate::lookup::Lookup;
+use crate::now::Now;
+use crate::place::{Place, Used};
+use crate::served::Served;
+use crate::turning::now_at;
+use dl_entry::{Actor, End, OutOfMemory, Request, Why};
+use dl_kernel::{Served as Left, Step};
+use dl_mem::Memory;
+use dl_mode::Mode;
+use dl_thread::{Thread, Threads};
+use dl_wbuf::Buffer;
+use spec_log::Log;
+use std::alloc::Global;
+use std::marker::Model;
+
+/// Follows a log, by which its sphere's commits are judged.
+#[derive(Drop)]
+pub struct Replayer<M: Mode> {
+    alloc: Global,
+    log: Lookup<M>,
+    place: Place,
+    turn: Now,
+    total: u32,
+    commits: [u32; 15],
+}
+
+impl<M: Mode> Model for Replayer<M> {
+    ghost use Rattle.dl_replay.specs.Replaying.{Replaying};
+    ghost use Rattle.dl_replay.specs.Kept.{replaying, IsReplaying};
+
+    ghost Value = { Replaying };
+
+    ghost view = { λ r. replaying r.log r.place r.turn r.total r.commits };
+
+    ghost invariant = { λ r. IsReplaying (replaying r.log r.place r.turn r.total r.commits) };
+}
+
+impl<M: Mode> Replayer<M> {
+    /// The replay of a log from its first commit on. Thread 0 stands alone, at whatever entry.
+    pub fn new(alloc: Global, log: &Log) -> Result<Replayer<M>, OutOfMemory>
+        requires mode { log.now.mode ≡ M.mode }
+        ensures { (entry : ℕ) → IfOk result (λ replayer. replayer ≡ begun log.now entry) }
+    {
+        let log = Lookup::new(alloc, log)?;
+        let place = Place::first();
+        let threads = Threads::start(0);
+        let turn = now_at(&log, &place, &threads);
+        Ok(Replayer {
+            alloc,
+            log,
+            place,
+            turn,
+            total: 0,
+            commits: commits_of(&threads),
+        })
+    }
+
+    /// Whose commit is next, unless the replay has ended.
+    pub fn head(&self) -> Option<Actor>
+        ensures { result ≡ actor_of self.now.now }
+    {
+        match self.turn {
+            Now::Turn(thread) => Some(Actor::Thread(thread)),
+            Now::TurnOfDma => Some(Actor::Dma),
+            Now::Over(_) => None,
+        }
+    }
+
+    /// How the replay ended, if it did.
+    pub fn ended(&self) -> Option<End>
+        ensures { result ≡ end_of self.now.now }
+    {
+        match self.turn {
+            Now::Over(end) => Some(end),
+            Now::Turn(_) | Now::TurnOfDma => None,
+        }
+    }
+
+    /// How many instructions a new chunk of the thread may run: the logged size, or else a standard chunk's, less those of
+    /// the pieces before it, and 1 at least.
+    pub fn limit(&self, thread: u8) -> u32
+        ensures value { (s : ℕ) (loads : List Load) →
+            result ≡ limit_in (Replay (book_of self.now loads)) s thread (slice_index self.now.commits thread) }
+        ensures of_thread { (s : ℕ) (loads : List Load) (threads : List Parts) (t : Parts) →
+            length threads ≤ 15 → self.now.commits ≡ commits_of threads → slice_get threads thread ≡ Some t →
+            result ≡ limit_of s (Replay (book_of self.now loads)) thread t }
+    {
+        let whole = self.log.limit(thread, self.commits_of(thread));
+        whole.saturating_sub(self.pieces_of(thread)).max(1)
+    }
+
+    fn commits_of(&self, thread: u8) -> u32
+        ensures { result ≡ slice_index self.now.commits thread }
+    {
+        match self.commits.get(usize::from(thread)) {
+            Some(commits) => *commits,
+            None => 0,
+        }
+    }
+
+    // The instructions of the pieces of the thread's present commit.
+    fn pieces_of(&self, thread: u8) -> u32
+        ensures { result ≡ pieces_of self.now.now thread self.now.total }
+    {
+        match self.turn {
+            Now::Turn(head) if head == thread => self.total,
+            Now::Turn(_) | Now::TurnOfDma | Now::Over(_) => 0,
+        }
+    }
+
+    /// A piece of the present commit went, of `n` instructions.
+    pub fn accept_piece(&mut self, thread: u8, n: u32)
+        requires turn { self.old.now ≡ Turn thread }
+        requires some { 1 ≤ n }
+        requires few { n < limit_in (Replay (book_of self.old [])) 0 thread (slice_index self.old.commits thread) }
+        ensures { self.new ≡ record self.old { total = self.old.total + n } }
+    {
+        self.total += n;
+    }
+
+    /// Judges a granted request of the actor whose turn it is. Where a chunk asks, the threads hold the state behind it
+    /// already, which ends here as a commit does. A serial step and a DMA are done here, and add what they serve at the end
+    /// of its lists. Where the replay diverges, only its end is noted; after want of memory all is as before.
+    pub fn accept(
+        &mut self,
+        asking: &Asking,
+        threads: &mut Threads,
+        request: &mut Option<Request>,
+        memory: &Memory,
+        served: &mut Served,
+    ) -> Result<Verdict, OutOfMemory>
+        requires turn { IsTurnOf asking.now.actor self.old.now }
+        requires thread { IsAmong asking.now.actor threads.old }
+        requires commits { self.old.commits ≡ commits_of threads.old }
+        requires request { IsInside (length memory.now) request.old }
+        ensures chunk { (p : Progress) (k : ℕ) (before : List Parts) (r : Run) →
+            asking.now.actor ≡ Actor.Thread k → is_serial_step asking.now ≡ false → Agrees self.old p →
+            p.request ≡ request.old → HasRun before threads.old k asking.now.total r →
+            let v = chunk_verdict self.old.log p self.old.used k r in
+            IfOk result (λ verdict. record { verdict = verdict; replay = self.new; threads = threads.new; request = request.new; served = served.new }
+            ≡ chunk_judged self.old p k before threads.old request.old served.old v) }
+        ensures serial { (p : Progress) (k : ℕ) (t : Parts) →
+            asking.now.actor ≡ Actor.Thread k → is_serial_step asking.now ≡ true → Agrees self.old p →
+            p.request ≡ request.old → slice_get threads.old k ≡ Some t →
+            let v = serial_verdict self.old.log p self.old.used k threads.old t memory.now in
+            IfOk result (λ verdict. record { verdict = verdict; replay = self.new; threads = threads.new; request = request.new; served = served.new }
+            ≡ serial_judged self.old p k threads.old request.old served.old v) }
+        ensures dma { (p : Progress) →
+            asking.now.actor ≡ Actor.Dma → Agrees self.old p → p.request ≡ request.old →
+            let v = dma_verdict self.old.log p self.old.used in
+            IfOk result (λ verdict. record { verdict = verdict; replay = self.new; threads = threads.new; request = request.new; served = served.new }
+            ≡ dma_judged self.old p threads.old request.old served.old v) }
+        ensures threads_left { (why : Why) → IfOk result (λ v. v ≡ Verdict.Diverged why → threads.new ≡ threads.old) }
+        ensures plenty { (k : ℕ) → asking.now.actor ≡ Actor.Thread k → is_serial_step asking.now ≡ false → IsOk result }
+        ensures replay_still { OnErr result (self.new ≡ self.old) }
+        ensures threads_still { OnErr result (threads.new ≡ threads.old) }
+        ensures request_still { OnErr result (request.new ≡ request.old) }
+        ensures served_still { OnErr result (served.new ≡ served.old) }
+    {
+        match asking.actor {
+            Actor::Dma => self.transfer(threads, request, memory, served),
+            Actor::Thread(thread) if asking.serial && asking.total == 0 => {
+                self.serve(thread, threads, request, memory, served)
+            }
+            Actor::Thread(thread) => Ok(self.end_chunk(thread, asking.total, threads)),
+        }
+    }
+
+    // Ends a chunk, which its thread has run.
+    fn end_chunk(&mut self, number: u8, total: u32, threads: &mut Threads) -> Verdict
+        requires turn { self.old.now ≡ Turn number }
+        requires thread { number < length threads.old }
+        requires commits { self.old.commits ≡ commits_of threads.old }
+        ensures threads_left { (why : Why) → result ≡ Verdict.Diverged why → threads.new ≡ threads.old }
+        ensures judged { (p : Progress) (before : List Parts) (r : Run) (request : Option Request) (served : Served) →
+            Agrees self.old p → p.request ≡ request → HasRun before threads.old number total r →
+            record { verdict = result; replay = self.new; threads = threads.new; request = request; served = served }
+            ≡ chunk_judged self.old p number before threads.old request served (chunk_verdict self.old.log p self.old.used number r) }
+    {
+        let thread = thread_at(threads, number);
+        match judge_chunk(&self.log, self.place.used, number, &thread, total) {
+            Ok(finish) => self.commit(number, &finish, None, threads),
+            Err(why) => self.diverge(why),
+        }
+    }
+
+    // Does a serial step.
+    fn serve(
+        &mut self,
+        number: u8,
+        threads: &mut Threads,
+        request: &mut Option<Request>,
+        memory: &Memory,
+        served: &mut Served,
+    ) -> Result<Verdict, OutOfMemory>
+        requires turn { self.old.now ≡ Turn number }
+        requires thread { number < length threads.old }
+        requires commits { self.old.commits ≡ commits_of threads.old }
+        ensures serial { (p : Progress) (t : Parts) → Agrees self.old p →
+            p.request ≡ request.old → slice_get threads.old number ≡ Some t →
+            let v = serial_verdict self.old.log p self.old.used number threads.old t memory.now in
+            IfOk result (λ verdict. record { verdict = verdict; replay = self.new; threads = threads.new; request = request.new; served = served.new }
+            ≡ serial_judged self.old p number threads.old request.old served.old v) }
+        ensures threads_left { (why : Why) → IfOk result (λ v. v ≡ Verdict.Diverged why → threads.new ≡ threads.old) }
+        ensures replay_still { OnErr result (self.new ≡ self.old) }
+        ensures threads_still { OnErr result (threads.new ≡ threads.old) }
+        ensures request_still { OnErr result (request.new ≡ request.old) }
+        ensures served_still { OnErr result (served.new ≡ served.old) }
+    {
+        let step = Step {
+            number,
+            thread: thread_at(threads, number),
+            threads,
+            request: *request,
+            memory,
+        };
+        match judge_step(self.alloc, &self.log, self.place.used, &step)? {
+            Ok(done) => {
+                served.add(self.alloc, &done.left)?;
+                *request = done.left.request;
+                Ok(self.commit(number, &done.finish, done.left.made, threads))
+            }
+            Err(why) => Ok(self.diverge(why)),
+        }
+    }
+
+    /// Judges the serial step of a thread whose turn it is, and does it. It gives what the step leaves, of which the thread at
+    /// the end of its commit, a spawned one and the request stand in the sphere already; or why the replay leaves its log,
+    /// of which only the end is noted. After want of memory all is as before.
+    pub fn serve_step(
+        &mut self,
+        number: u8,
+        threads: &mut Threads,
+        request: &mut Option<Request>,
+        memory: &Memory,
+    ) -> Result<Result<Left, Why>, OutOfMemory>
+        requires turn { self.old.now ≡ Turn number }
+        requires thread { number < length threads.old }
+        requires commits { self.old.commits ≡ commits_of threads.old }
+        ensures judged { (p : Progress) (t : Parts) → Agrees self.old p →
+            p.request ≡ request.old → slice_get threads.old number ≡ Some t →
+            let v = serial_verdict self.old.log p self.old.used number threads.old t memory.now in
+            IfOk result (λ r. record { verdict = verdict_left r; replay = self.new; threads = threads.new; request = request.new; served = served_left r }
+            ≡ serial_judged self.old p number threads.old request.old nothing_served v) }
+        ensures replay_still { OnErr result (self.new ≡ self.old) }
+        ensures threads_still { OnErr result (threads.new ≡ threads.old) }
+        ensures request_still { OnErr result (request.new ≡ request.old) }
+    {
+        let step = Step {
+            number,
+            thread: thread_at(threads, number),
+            threads,
+            request: *request,
+            memory,
+        };
+        match judge_step(self.alloc, &self.log, self.place.used, &step)? {
+            Ok(done) => {
+                *request = done.left.request;
+                self.commit(number, &done.finish, done.left.made, threads);
+                Ok(Ok(done.left))
+            }
+            Err(why) => {
+                self.diverge(why);
+                Ok(Err(why))
+            }
+        }
+    }
+
+    /// Judges a DMA whose turn it is, and gives the words that it stores, or why the replay leaves its log. After want of
+    /// memory all is as before.
+    pub fn serve_dma(
+        &mut self,
+        threads: &Threads,
+        request: &mut Option<Request>,
+        memory: &Memory,
+    ) -> Result<Result<Buffer, Why>, OutOfMemory>
+        requires turn { self.old.now ≡ TurnOfDma }
+        requires commits { self.old.commits ≡ commits_of threads.now }
+        requires request { IsInside (length memory.now) request.old }
+        ensures judged { (p : Progress) → Agrees self.old p → p.request ≡ request.old →
+            let v = dma_verdict self.old.log p self.old.used in
+            IfOk result (λ r. record { verdict = verdict_stored r; replay = self.new; threads = threads.now; request = request.new; served = served_stored r }
+            ≡ dma_judged self.old p threads.now request.old nothing_served v) }
+        ensures replay_still { OnErr result (self.new ≡ self.old) }
+        ensures request_still { OnErr result (request.new ≡ request.old) }
+    {
+        // a memory ends below 2^32
+        let _ = memory.size();
+        let place = self.place;
+        match judge_dma(self.alloc, &self.log, &place, *request)? {
+            Ok(words) => {
+                *request = None;
+                let used = Used {
+                    dmas: place.used.dmas + 1,
+                    ..place.used
+                };
+                self.advance(used, place.last, threads);
+                Ok(Ok(words))
+            }
+            Err(why) => {
+                self.diverge(why);
+                Ok(Err(why))
+            }
+        }
+    }
+
+    /// The words that the DMA whose turn it is stores, or why the replay leaves its log there. Nothing changes.
+    pub fn dma_words(
+        &self,
+        request: Option<Request>,
+        memory: &Memory,
+    ) -> Result<Result<Buffer, Why>, OutOfMemory>
+        requires { IsInside (length memory.now) request }
+        ensures { (p : Progress) → Agrees self.now p → p.request ≡ request →
+            IfOk result (λ r. transfer_verdict r ≡ dma_verdict self.now.log p self.now.used) }
+    {
+        let _ = memory.size();
+        judge_dma(self.alloc, &self.log, &self.place, request)
+    }
+
+    /// How many bytes the DMA whose turn it is stores behind their number, or why the replay leaves its log there. Nothing
+    /// changes.
+    pub fn dma_size(&self, request: Option<Request>) -> Result<u32, Why>
+        ensures { (p : Progress) → Agrees self.now p → p.request ≡ request →
+            SaysSize result request (dma_verdict self.now.log p self.now.used) }
+    {
+        match transfer_of(&self.log, &self.place, request) {
+            Ok(transfer) => Ok(transfer.bytes.len() as u32),
+            Err(why) => Err(why),
+        }
+    }
+
+    /// The instructions of the present commit's pieces.
+    pub fn pieces(&self) -> u32
+        ensures { result ≡ self.now.total }
+    {
+        self.total
+    }
+
+    // Does a DMA.
+    fn transfer(
+        &mut self,
+        threads: &Threads,
+        request: &mut Option<Request>,
+        memory: &Memory,
+        served: &mut Served,
+    ) -> Result<Verdict, OutOfMemory>
+        requires turn { self.old.now ≡ TurnOfDma }
+        requires commits { self.old.commits ≡ commits_of threads.now }
+        requires request { IsInside (length memory.now) request.old }
+        ensures dma { (p : Progress) → Agrees self.old p → p.request ≡ request.old →
+            let v = dma_verdict self.old.log p self.old.used in
+            IfOk result (λ verdict. record { verdict = verdict; replay = self.new; threads = threads.now; request = request.new; served = served.new }
+            ≡ dma_judged self.old p threads.now request.old served.old v) }
+        ensures replay_still { OnErr result (self.new ≡ self.old) }
+        ensures request_still { OnErr result (request.new ≡ request.old) }
+        ensures served_still { OnErr result (served.new ≡ served.old) }
+    {
+        // a memory ends below 2^32
+        let _ = memory.size();
+        let place = self.place;
+        match judge_dma(self.alloc, &self.log, &place, *request)? {
+            Ok(words) => {
+                served.add_words(&words)?;
+                *request = None;
+                let used = Used {
+                    dmas: place.used.dmas + 1,
+                    ..place.used
+                };
+                Ok(self.advance(used, place.last, threads))
+            }
+            Err(why) => Ok(self.diverge(why)),
+        }
+    }
+
+    // A thread's commit went: here is its end, and the thread that it spawned.
+    fn commit(
+        &mut self,
+        number: u8,
+        finish: &Finish,
+        made: Option<Thread>,
+        threads: &mut Threads,
+    ) -> Verdict
+        requires left { self.old.done < self.old.log.count }
+        requires thread { number < length threads.old }
+        requires few { length threads.old ≤ 15 }
+        requires commits { self.old.commits ≡ commits_of threads.old }
+        requires below { (k : ℕ) → slice_index self.old.commits k ≤ self.old.done }
+        requires counted { finish.now.thread.commits ≤ self.old.done + 1 }
+        requires interrupts { finish.now.used.interrupts ≤ self.old.used.interrupts + 1 }
+        requires made { AreNew (made_list made) }
+        requires room { OnSome made (length threads.old < 15) }
+        ensures verdict { result ≡ Verdict.Went }
+        ensures threads { threads.new ≡ slice_set threads.old number finish.now.thread ++ made_list made }
+        ensures replay { self.new ≡ advanced self.old.log (self.old.done + 1) (Some number) (used_seen finish.now.used) threads.new }
+    {
+        settle(threads, number, &finish.thread, made);
+        self.advance(finish.used, Some(number), threads)
+    }
+
+    // One commit more, behind which the end is looked at.
+    fn advance(&mut self, used: Used, last: Option<u8>, threads: &Threads) -> Verdict
+        requires left { self.old.done < self.old.log.count }
+        requires commits { (k : ℕ) → slice_index (commits_of threads.now) k ≤ self.old.done + 1 }
+        requires interrupts { used.interrupts ≤ self.old.used.interrupts + 1 }
+        ensures verdict { result ≡ Verdict.Went }
+        ensures replay { self.new ≡ advanced self.old.log (self.old.done + 1) last (used_seen used) threads.now }
+    {
+        self.place = Place {
+            used,
+            done: self.place.done + 1,
+            last,
+        };
+        self.total = 0;
+        self.commits = commits_of(threads);
+        self.turn = now_at(&self.log, &self.place, threads);
+        Verdict::Went
+    }
+
+    fn diverge(&mut self, why: Why) -> Verdict
+        ensures verdict { result ≡ Verdict.Diverged why }
+        ensures replay { self.new ≡ diverged why self.old }
+    {
+        self.turn = Now::Over(End::Diverged(self.place.done, why));
+        Verdict::Diverged(why)
+    }
+}
