@@ -27,6 +27,9 @@ pub trait Files {
         ensures there { IfErr result (λ e. e ≢ FileError.Absent → IsThere (told self.old) name.now) }
         ensures failed { IsErrOf result FileError.Failed → Rose (count self.old) (count self.new) }
         ensures last { IsErrOf result FileError.Failed → IsLast (last_fault self.new) name.now }
+        ensures ok_steady { OnOk result (count self.new ≡ count self.old) }
+        ensures memory_steady { IsErrOf result FileError.OutOfMemory
+            → count self.new ≡ count self.old }
         ensures kept { told self.new ≡ told self.old }
         ensures counted { count self.old ≤ count self.new };
 
@@ -39,5 +42,8 @@ pub trait Files {
         ensures not_absent { IfErr result (λ e. e ≢ FileError.Absent) }
         ensures failed { IsErrOf result FileError.Failed → Rose (count self.old) (count self.new) }
         ensures last { IsErrOf result FileError.Failed → IsLast (last_fault self.new) name.now }
+        ensures ok_steady { OnOk result (count self.new ≡ count self.old) }
+        ensures memory_steady { IsErrOf result FileError.OutOfMemory
+            → count self.new ≡ count self.old }
         ensures counted { count self.old ≤ count self.new };
 }

@@ -14,7 +14,7 @@ const LARGEST: usize = 1 << 30;
 const PIECE: usize = 1 << 16;
 
 /// The files of the system that `R` reaches, seen as their count of faults. Each refusal but for memory
-/// is counted, also that of an absent file. To read a file of more than 2^30 bytes is a fault.
+/// is counted, also that of an absent file. A file of more than 2^30 bytes is a fault, once so many are read.
 #[derive(Drop)]
 pub struct RealFiles<R> {
     rt: R,

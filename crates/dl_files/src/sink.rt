@@ -1,5 +1,5 @@
 //! A sink of bytes.
-ghost use Rattle.std.specs.Prelude.{◌≡◌, ℕ, ◌<◌, ◌≤◌, List, length, Option, IfOk, OnErr, IsErrOf};
+ghost use Rattle.std.specs.Prelude.{◌≡◌, ℕ, ◌<◌, ◌≤◌, List, length, Option, IfOk, OnOk, OnErr, IsErrOf};
 ghost use Rattle.dl_files.specs.Count.{Rose};
 ghost use Rattle.dl_files.specs.Taken.{with_taken};
 
@@ -24,5 +24,8 @@ pub trait Sink {
         ensures some { IfOk result (λ n. 0 < length bytes.now → 0 < n) }
         ensures same { OnErr result (taken self.new ≡ taken self.old) }
         ensures failed { IsErrOf result SinkError.Failed → Rose (count self.old) (count self.new) }
+        ensures ok_steady { OnOk result (count self.new ≡ count self.old) }
+        ensures memory_steady { IsErrOf result SinkError.OutOfMemory
+            → count self.new ≡ count self.old }
         ensures counted { count self.old ≤ count self.new };
 }
