@@ -8,7 +8,7 @@ use thiserror::Error;
 /// Why a plan was not read.
 #[derive(Clone, Copy, Debug, PartialEq, Eq, Error)]
 pub enum PlanError {
-    /// It is no plan, with the number of the rule that it breaks, or 0 where the rules are not told apart.
+    /// It is no plan, with the number of the first rule that the whole of it breaks, from 1 to 7.
     #[error("the plan breaks rule {0}")]
     Refused(u8),
     #[error("out of memory")]
