@@ -1,101 +1,115 @@
 -- From the ways in which a command is done or stops to what its status says.
-use Rattle.std.proofs.Common.{◌≡◌, ℕ, false, List, [], length, Option, Some, None, inl, inr, refl, sym, ◌∙◌, ap, subst, arith, append-nil}
-use Rattle.std.proofs.Math.Seq.{take-length}
+use Rattle.std.proofs.Common.{◌≡◌, ℕ, false, List, Option, Some, None, inl, inr, refl, sym, ◌∙◌, ap, subst, arith, append-nil}
 use Rattle.dl_files.specs.Contents.{Contents}
+use Rattle.dl_files.specs.Count.{Rose}
 use Rattle.spec_program.specs.declared.status.Status.{Status}
 use Rattle.spec_program.specs.declared.status.Refusal.{Refusal}
 use Rattle.spec_program.specs.Statuses.{status_of}
 use Rattle.spec_program.specs.Lines.{fault_line}
+use Rattle.spec_program.specs.Outside.{Outside}
 use Rattle.spec_program.specs.Writes.{Write, written}
 use Rattle.spec_program.specs.Outcomes.{Outcome, Refuses, Finishes}
 use Rattle.spec_program.specs.Ends.{Took, Partly, Stands, IsFaulted, IsShort}
 use Rattle.delorean.specs.declared.halt.Halt.{Halt}
-use Rattle.delorean.specs.Halts.{Halts}
+use Rattle.delorean.specs.Halts.{Halts, IsFault}
 use Rattle.delorean.specs.Ended.{Said, Stopped}
-use Rattle.delorean.specs.Performed.{Outside, IsBroken, IsPerformed}
+use Rattle.delorean.specs.Performed.{IsCut, IsPerformed}
 
--- ---- what a sink took
+memory_stands : (o : Outcome) (reads : List (List ℕ)) (m : Contents) (before after : Outside) (s : Status) → s ≡ Status.Memory → IsShort o reads m before after → Stands o reads m before after s
+memory_stands o reads m before after s e short = subst (Stands o reads m before after) (sym e) short
 
-pub took_none : (text : List ℕ) (old new : Option (List ℕ)) → new ≡ old → Took text old new
-took_none text None new e = (0, omega arith, e)
-took_none text (Some t) new e = (0, omega arith, e ∙ ap Some (sym (append-nil t)))
+fault_stands : (o : Outcome) (reads : List (List ℕ)) (m : Contents) (before after : Outside) (s : Status) (name : List ℕ) → s ≡ Status.Fault → IsFaulted o reads m before after name → Stands o reads m before after s
+fault_stands o reads m before after s name e faulted = subst (Stands o reads m before after) (sym e) (name, faulted)
 
 -- ---- a command that is done
 
-all_written : (ws : List Write) (m : Contents) (told : Option Contents) → told ≡ Some (written ws m) → Partly ws m told
-all_written ws m told e = (length ws, omega arith, e ∙ ap (λ (xs : List Write). Some (written xs m)) (sym (take-length ws)))
+said_stands : (ws : List Write) (text : List ℕ) (reads : List (List ℕ)) (m : Contents) (before after : Outside) (s : Status)
+    → after.told ≡ Some (written ws m) → after.faults ≡ before.faults → Said text before.taken after.taken before.sink_faults after.sink_faults s
+    → Stands (Finishes false ws text) reads m before after s
+said_stands ws text reads m before after Status.Done e n said = record { status = refl; files = e; counted = n; output = said.0 }
+said_stands ws text reads m before after Status.Sink e n said = (tt, record { files = e; counted = n; output = said.0 })
+said_stands ws text reads m before after Status.Memory e n said = inr (inl (record { files = e; counted = n; output = said.0 }))
+said_stands ws text reads m before after Status.Diverged e n said = absurd said
+said_stands ws text reads m before after Status.Usage e n said = absurd said
+said_stands ws text reads m before after Status.Plan e n said = absurd said
+said_stands ws text reads m before after Status.Image e n said = absurd said
+said_stands ws text reads m before after Status.Grammar e n said = absurd said
+said_stands ws text reads m before after Status.Fault e n said = absurd said
+said_stands ws text reads m before after Status.Absent e n said = absurd said
 
-said_stands : (ws : List Write) (text : List ℕ) (reads : List (List ℕ)) (m : Contents) (told : Option Contents) (last old new : Option (List ℕ)) (from to : ℕ) (s : Status)
-    → told ≡ Some (written ws m) → Said text old new from to s → Stands (Finishes false ws text) reads m told last old new s
-said_stands ws text reads m told last old new from to Status.Done e said = record { status = refl; files = e; output = said }
-said_stands ws text reads m told last old new from to Status.Sink e said = record { files = e; output = said.0 }
-said_stands ws text reads m told last old new from to Status.Memory e said = record { files = inl (all_written ws m told e); output = inl said }
-said_stands ws text reads m told last old new from to Status.Diverged e said = absurd said
-said_stands ws text reads m told last old new from to Status.Usage e said = absurd said
-said_stands ws text reads m told last old new from to Status.Plan e said = absurd said
-said_stands ws text reads m told last old new from to Status.Image e said = absurd said
-said_stands ws text reads m told last old new from to Status.Grammar e said = absurd said
-said_stands ws text reads m told last old new from to Status.Fault e said = absurd said
-said_stands ws text reads m told last old new from to Status.Absent e said = absurd said
-
-memory_stands : (o : Outcome) (reads : List (List ℕ)) (m : Contents) (told : Option Contents) (last old new : Option (List ℕ)) (s : Status) → s ≡ Status.Memory → IsShort o m told old new → Stands o reads m told last old new s
-memory_stands o reads m told last old new s e short = subst (Stands o reads m told last old new) (sym e) short
-
-fault_stands : (o : Outcome) (reads : List (List ℕ)) (m : Contents) (told : Option Contents) (last old new : Option (List ℕ)) (s : Status) (name : List ℕ) → s ≡ Status.Fault
-    → IsFaulted o reads m told last old new name → Stands o reads m told last old new s
-fault_stands o reads m told last old new s name e faulted = subst (Stands o reads m told last old new) (sym e) (name, faulted)
-
-broken_stands : (ws : List Write) (text : List ℕ) (reads : List (List ℕ)) (m : Contents) (old new : Outside) (s : Status) (name : List ℕ) → old.told ≡ Some m → IsBroken ws name old new s
-    → Stands (Finishes false ws text) reads m new.told new.last old.taken new.taken s
-broken_stands ws text reads m old new s name e b =
+cut_stands : (ws : List Write) (text : List ℕ) (reads : List (List ℕ)) (m : Contents) (before old after : Outside) (s : Status) (name : List ℕ)
+    → old.told ≡ Some m → old.faults ≡ before.faults → old.taken ≡ before.taken → IsCut ws name old after s → Stands (Finishes false ws text) reads m before after s
+cut_stands ws text reads m before old after s name e n took b =
+    let faulted : IsFaulted (Finishes false ws text) reads m before after name =
+    record { counted = subst (λ (x : ℕ). Rose x after.faults) n b.counted; named = b.named; files = inr (b.files m e); output = subst (λ (x : Option (List ℕ)). Took (fault_line name) x after.taken) took b.said.1 } in
     elim b.said.0 [
-      | inl due ↦ fault_stands (Finishes false ws text) reads m new.told new.last old.taken new.taken s name due.0 (record { named = b.named; files = inr (b.files m e); output = b.said.1 })
-      | inr memory ↦ memory_stands (Finishes false ws text) reads m new.told new.last old.taken new.taken s memory (record { files = inr (name, b.files m e); output = inr (name, b.said.1) })
+      | inl due ↦ fault_stands (Finishes false ws text) reads m before after s name due.0 faulted
+      | inr memory ↦ memory_stands (Finishes false ws text) reads m before after s memory.0 (inr (inr (name, faulted)))
     ]
 
-pub performed_stands : (ws : List Write) (text : List ℕ) (reads : List (List ℕ)) (m : Contents) (old new : Outside) (s : Status) → old.told ≡ Some m → IsPerformed ws text old new s
-    → Stands (Finishes false ws text) reads m new.told new.last old.taken new.taken s
-performed_stands ws text reads m old new s e (inl w) = said_stands ws text reads m new.told new.last old.taken new.taken old.sink_faults new.sink_faults s (w.files m e) w.said
-performed_stands ws text reads m old new s e (inr (inl (name, b))) = broken_stands ws text reads m old new s name e b
-performed_stands ws text reads m old new s e (inr (inr k)) =
-    memory_stands (Finishes false ws text) reads m new.told new.last old.taken new.taken s k.status
-    (record { files = inl (k.files m e); output = inl (took_none text old.taken new.taken k.output) })
+finishing_stands : (ws : List Write) (text : List ℕ) (reads : List (List ℕ)) (m : Contents) (before old after : Outside) (s : Status)
+    → old.told ≡ Some m → old.faults ≡ before.faults → old.taken ≡ before.taken → old.sink_faults ≡ before.sink_faults → IsPerformed ws text old after s → Stands (Finishes false ws text) reads m before after s
+finishing_stands ws text reads m before old after s e n took k (inl w) =
+    said_stands ws text reads m before after s (w.files m e) (w.counted ∙ n)
+    (subst (λ (x : Option (List ℕ)). Said text x after.taken before.sink_faults after.sink_faults s) took (subst (λ (x : ℕ). Said text old.taken after.taken x after.sink_faults s) k w.said))
+finishing_stands ws text reads m before old after s e n took k (inr (inl (name, b))) = cut_stands ws text reads m before old after s name e n took b
+finishing_stands ws text reads m before old after s e n took k (inr (inr u)) =
+    memory_stands (Finishes false ws text) reads m before after s u.status (inl (record { files = u.files m e; counted = u.counted ∙ n; output = u.output ∙ took }))
+
+-- what was outside when the writing began is what was before, but for the last fault
+pub performed_stands : (o : Outcome) (ws : List Write) (text : List ℕ) (reads : List (List ℕ)) (m : Contents) (before old after : Outside) (s : Status)
+    → o ≡ Finishes false ws text → old.told ≡ Some m → old.faults ≡ before.faults → old.taken ≡ before.taken → old.sink_faults ≡ before.sink_faults → IsPerformed ws text old after s → Stands o reads m before after s
+performed_stands o ws text reads m before old after s is e n took k performed =
+    subst (λ (x : Outcome). Stands x reads m before after s) (sym is) (finishing_stands ws text reads m before old after s e n took k performed)
 
 -- ---- a command that stops
 
 -- a refusal's status stands by its line
-refused_stands : (why : Refusal) (text : List ℕ) (reads : List (List ℕ)) (m : Contents) (told : Option Contents) (last old new : Option (List ℕ)) → told ≡ Some m → Took text old new
-    → Stands (Refuses why text) reads m told last old new (status_of why)
-refused_stands Refusal.Usage text reads m told last old new e took = record { status = refl; files = e; output = took }
-refused_stands Refusal.Plan text reads m told last old new e took = record { status = refl; files = e; output = took }
-refused_stands Refusal.Image text reads m told last old new e took = record { status = refl; files = e; output = took }
-refused_stands Refusal.Grammar text reads m told last old new e took = record { status = refl; files = e; output = took }
-refused_stands Refusal.Absent text reads m told last old new e took = record { status = refl; files = e; output = took }
+refused_stands : (why : Refusal) (text : List ℕ) (reads : List (List ℕ)) (m : Contents) (before after : Outside) → after.told ≡ Some m → after.faults ≡ before.faults → Took text before.taken after.taken
+    → Stands (Refuses why text) reads m before after (status_of why)
+refused_stands Refusal.Usage text reads m before after e n took = record { status = refl; files = e; counted = n; output = took }
+refused_stands Refusal.Plan text reads m before after e n took = record { status = refl; files = e; counted = n; output = took }
+refused_stands Refusal.Image text reads m before after e n took = record { status = refl; files = e; counted = n; output = took }
+refused_stands Refusal.Grammar text reads m before after e n took = record { status = refl; files = e; counted = n; output = took }
+refused_stands Refusal.Absent text reads m before after e n took = record { status = refl; files = e; counted = n; output = took }
 
 none_written : (ws : List Write) (m : Contents) (told : Option Contents) → told ≡ Some m → Partly ws m told
 none_written ws m told e = (0, omega arith, e)
 
-pub halted_stands : (outcome : Contents → Outcome) (reads : Contents → List (List ℕ)) (m : Contents) (was told : Option Contents) (counted count : ℕ) (last old new : Option (List ℕ)) (from to : ℕ) (h : Halt) (s : Status)
-    → was ≡ Some m → told ≡ was → Halts was outcome reads counted count last h → Stopped h old new from to s → Stands (outcome m) (reads m) m told last old new s
-halted_stands outcome reads m was told counted count last old new from to (Halt.Refused why text) s e same halts stopped =
+took_none : (text : List ℕ) (old new : Option (List ℕ)) → new ≡ old → Took text old new
+took_none text None new e = (0, omega arith, e)
+took_none text (Some t) new e = (0, omega arith, e ∙ ap Some (sym (append-nil t)))
+
+-- a read that failed, before anything was written
+fault_is : (told : Option Contents) (o : Outcome) (reads : Contents → List (List ℕ)) (m : Contents) (before after : Outside) (name : List ℕ) → told ≡ Some m → after.told ≡ Some m
+    → IsFault told reads before.faults after.faults after.last name → Took (fault_line name) before.taken after.taken → IsFaulted o (reads m) m before after name
+fault_is told o reads m before after name e same f took = record { counted = f.counted; named = f.named; files = inl (same, f.next m e); output = took }
+
+pub halted_stands : (outcome : Contents → Outcome) (reads : Contents → List (List ℕ)) (m : Contents) (before after : Outside) (h : Halt) (s : Status)
+    → before.told ≡ Some m → after.told ≡ before.told → Halts before.told outcome reads before.faults after.faults after.last h
+    → Stopped h before.taken after.taken before.sink_faults after.sink_faults s → Stands (outcome m) (reads m) m before after s
+halted_stands outcome reads m before after (Halt.Refused why text) s e same halts stopped =
     let o = halts.0 m e in
+    let n = halts.1 m e in
     elim stopped.0 [
       | inl due ↦
-          subst (Stands (outcome m) (reads m) m told last old new) (sym due.0)
-          (subst (λ (x : Outcome). Stands x (reads m) m told last old new (status_of why)) (sym o) (refused_stands why text.items (reads m) m told last old new (same ∙ e) stopped.1))
+          subst (Stands (outcome m) (reads m) m before after) (sym due.0)
+          (subst (λ (x : Outcome). Stands x (reads m) m before after (status_of why)) (sym o) (refused_stands why text.items (reads m) m before after (same ∙ e) n stopped.1))
       | inr memory ↦
-          memory_stands (outcome m) (reads m) m told last old new s memory
-          (subst (λ (x : Outcome). IsShort x m told old new) (sym o) (record { files = inl (none_written [] m told (same ∙ e)); output = inl stopped.1 }))
+          memory_stands (outcome m) (reads m) m before after s memory.0
+          (subst (λ (x : Outcome). IsShort x (reads m) m before after) (sym o) (inr (inl (record { files = same ∙ e; counted = n; output = stopped.1 }))))
     ]
-halted_stands outcome reads m was told counted count last old new from to (Halt.Fault text) s e same halts stopped =
-    let name = halts.1.0 in
-    let took : Took (fault_line name) old new = subst (λ (x : List ℕ). Took x old new) halts.1.1 stopped.1 in
+halted_stands outcome reads m before after (Halt.Fault text) s e same halts stopped =
+    let name = halts.0 in
+    let took : Took (fault_line name) before.taken after.taken = subst (λ (x : List ℕ). Took x before.taken after.taken) halts.1 stopped.1 in
+    let faulted = fault_is before.told (outcome m) reads m before after name e (same ∙ e) halts.2 took in
     elim stopped.0 [
-      | inl due ↦
-          fault_stands (outcome m) (reads m) m told last old new s name due.0
-          (record { named = halts.1.2; files = inl (same ∙ e, halts.1.3 m e); output = took })
-      | inr memory ↦ memory_stands (outcome m) (reads m) m told last old new s memory (record { files = inl (none_written _ m told (same ∙ e)); output = inr (name, took) })
+      | inl due ↦ fault_stands (outcome m) (reads m) m before after s name due.0 faulted
+      | inr memory ↦ memory_stands (outcome m) (reads m) m before after s memory.0 (inr (inr (name, faulted)))
     ]
-halted_stands outcome reads m was told counted count last old new from to Halt.OutOfMemory s e same halts stopped =
-    memory_stands (outcome m) (reads m) m told last old new s stopped.0
-    (record { files = inl (none_written _ m told (same ∙ e)); output = inl (took_none _ old new stopped.1) })
+halted_stands outcome reads m before after Halt.OutOfMemory s e same (inl steady) stopped =
+    memory_stands (outcome m) (reads m) m before after s stopped.0
+    (inl (record { files = none_written _ m after.told (same ∙ e); counted = steady m e; output = stopped.1 }))
+halted_stands outcome reads m before after Halt.OutOfMemory s e same (inr (name, f)) stopped =
+    memory_stands (outcome m) (reads m) m before after s stopped.0
+    (inr (inr (name, fault_is before.told (outcome m) reads m before after name e (same ∙ e) f (took_none (fault_line name) before.taken after.taken stopped.1))))

@@ -1,39 +1,35 @@
 -- How the writes and the text of a command are done.
-use Rattle.std.specs.Prelude.{◌≡◌, ◌⊎◌, ℕ, List, Option, Some}
+use Rattle.std.specs.Prelude.{◌≡◌, ◌⊎◌, ℕ, List, Some}
 use Rattle.dl_files.specs.Contents.{Contents, IsLast}
 use Rattle.dl_files.specs.Count.{Rose}
 use Rattle.spec_program.specs.declared.status.Status.{Status}
 use Rattle.spec_program.specs.Lines.{fault_line}
+use Rattle.spec_program.specs.Outside.{Outside}
 use Rattle.spec_program.specs.Writes.{Write, written}
 use Rattle.spec_program.specs.Ends.{Partly, CutAt}
 use Rattle.delorean.specs.Ended.{Said, Told}
 
--- what files tell and count, and what a sink took and counts, before and after
-pub record Outside : Type 0 where
-  pub told : Option Contents
-  pub faults : ℕ
-  pub last : Option (List ℕ)
-  pub taken : Option (List ℕ)
-  pub sink_faults : ℕ
-
 -- every file is written, and the text is said
 pub record IsWritten (writes : List Write) (text : List ℕ) (old new : Outside) (s : Status) : Type 0 where
   pub files : (m : Contents) → old.told ≡ Some m → new.told ≡ Some (written writes m)
+  pub counted : new.faults ≡ old.faults
   pub said : Said text old.taken new.taken old.sink_faults new.sink_faults s
 
 -- the write to that name failed, and this is said
-pub record IsBroken (writes : List Write) (name : List ℕ) (old new : Outside) (s : Status) : Type 0 where
-  pub rose : Rose old.faults new.faults
+pub record IsCut (writes : List Write) (name : List ℕ) (old new : Outside) (s : Status) : Type 0 where
+  pub counted : Rose old.faults new.faults
   pub named : IsLast new.last name
   pub files : (m : Contents) → old.told ≡ Some m → CutAt writes m new.told name
   pub said : Told Status.Fault (fault_line name) old.taken new.taken old.sink_faults new.sink_faults s
 
 -- memory ran out in writing
-pub record IsStarved (writes : List Write) (old new : Outside) (s : Status) : Type 0 where
+pub record IsUnwritten (writes : List Write) (old new : Outside) (s : Status) : Type 0 where
   pub files : (m : Contents) → old.told ≡ Some m → Partly writes m new.told
+  pub counted : new.faults ≡ old.faults
   pub status : s ≡ Status.Memory
   pub output : new.taken ≡ old.taken
+  pub steady : new.sink_faults ≡ old.sink_faults
 
 abbrev pub IsPerformed : List Write → (text : List ℕ) → (old new : Outside) → Status → Type 0
 IsPerformed writes text old new s =
-    IsWritten writes text old new s ⊎ (((name : List ℕ) × IsBroken writes name old new s) ⊎ IsStarved writes old new s)
+    IsWritten writes text old new s ⊎ (((name : List ℕ) × IsCut writes name old new s) ⊎ IsUnwritten writes old new s)

@@ -10,4 +10,4 @@ use Rattle.delorean.specs.declared.writing.Stop.{Stop}
 abbrev pub Stopped : (told : Option Contents) → List Write → (after : Option Contents) → (old new : ℕ) → (last : Option (List ℕ)) → Stop → Type 0
 Stopped told writes after old new last (Stop.Failed i) =
     Rose old new × ((w : Write) × (slice_get writes i ≡ Some w) × IsLast last w.name × ((m : Contents) → told ≡ Some m → SameBut w.name (Some (written (take i writes) m)) after))
-Stopped told writes after old new last Stop.OutOfMemory = (m : Contents) → told ≡ Some m → Partly writes m after
+Stopped told writes after old new last Stop.OutOfMemory = (new ≡ old) × ((m : Contents) → told ≡ Some m → Partly writes m after)

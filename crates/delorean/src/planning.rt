@@ -1,11 +1,12 @@
 //! The plan of a command.
-ghost use Rattle.std.specs.Prelude.{◌≡◌, ◌≤◌, ◌∷◌, Some, Ok, IfOk, IfErr};
+ghost use Rattle.std.specs.Prelude.{◌≡◌, ◌∷◌, Some, Ok, IfOk, IfErr, OnOk};
 ghost use Rattle.std.specs.FinMap.{get};
 ghost use Rattle.dl_files.specs.Contents.{Contents};
 ghost use Rattle.dl_plan.specs.Values.{IsPlan, plan_view};
 ghost use Rattle.spec_program.specs.Built.{recording_in};
-ghost use Rattle.spec_program.specs.Ends.{plan_at, inputs_of};
+ghost use Rattle.spec_program.specs.Ends.{inputs_of};
 ghost use Rattle.spec_program.specs.Outcomes.{of_plan_file, of_asked};
+ghost use Rattle.spec_program.specs.Tasks.{plan_at};
 ghost use Rattle.delorean.specs.Halts.{Halts, IsNotUsage};
 
 use crate::halt::Halt;
@@ -26,7 +27,7 @@ pub fn load_plan<F: Files>(alloc: Global, files: &mut F, name: &str) -> Result<P
         (λ m. name.now ∷ inputs_of (plan_at m name.now)) (F.count files.old) (F.count files.new) (F.last_fault files.new)) }
     ensures usage { IfErr result IsNotUsage }
     ensures kept { F.told files.new ≡ F.told files.old }
-    ensures counted { F.count files.old ≤ F.count files.new }
+    ensures steady { OnOk result (F.count files.new ≡ F.count files.old) }
 {
     let bytes = match read_file(alloc, files, name) {
         Ok(bytes) => bytes,

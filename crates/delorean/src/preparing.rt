@@ -1,14 +1,15 @@
 //! From the words of a command to what is to be written and said, over the files.
-ghost use Rattle.std.specs.Prelude.{◌≡◌, ◌≢◌, ◌≤◌, ◌∷◌, false, None, Some, IfOk, IfErr, IsOk};
+ghost use Rattle.std.specs.Prelude.{◌≡◌, ◌≢◌, ◌∷◌, false, None, Some, IfOk, IfErr, IsOk, OnOk};
 ghost use Rattle.std.specs.FinMap.{get};
 ghost use Rattle.dl_files.specs.Contents.{Contents};
 ghost use Rattle.dl_plan.specs.Files.{input_names};
 ghost use Rattle.dl_plan.specs.Values.{IsPlan, plan_view};
 ghost use Rattle.spec_program.specs.Built.{recording_in, IsRecording};
 ghost use Rattle.spec_program.specs.Commands.{command_of};
-ghost use Rattle.spec_program.specs.Ends.{inputs_asked, inputs_of, plan_at, reads_of};
+ghost use Rattle.spec_program.specs.Ends.{inputs_asked, inputs_of, reads_of};
 ghost use Rattle.spec_program.specs.Outcomes.{Finishes, of_asked, of_inputs, of_plan_file, outcome_of};
 ghost use Rattle.spec_program.specs.Reads.{read_each};
+ghost use Rattle.spec_program.specs.Tasks.{plan_at};
 ghost use Rattle.delorean.specs.Asked.{recording_view};
 ghost use Rattle.delorean.specs.Halts.{Halts, IsNotUsage, IsUsage};
 ghost use Rattle.delorean.specs.Jobs.{writes_of};
@@ -36,7 +37,7 @@ pub fn prepare<F: Files>(alloc: Global, words: &[&str], files: &mut F) -> Result
         (F.count files.old) (F.count files.new) (F.last_fault files.new)) }
     ensures usage { IfErr result (IsUsage (command_of (texts words.now))) }
     ensures kept { F.told files.new ≡ F.told files.old }
-    ensures counted { F.count files.old ≤ F.count files.new }
+    ensures steady { OnOk result (F.count files.new ≡ F.count files.old) }
 {
     match command(words) {
         Some(name) => run(alloc, files, name),
@@ -52,7 +53,7 @@ fn run<F: Files>(alloc: Global, files: &mut F, name: &str) -> Result<Job, Halt>
         (λ m. name.now ∷ inputs_of (plan_at m name.now)) (F.count files.old) (F.count files.new) (F.last_fault files.new)) }
     ensures usage { IfErr result (IsUsage (Some name.now)) }
     ensures kept { F.told files.new ≡ F.told files.old }
-    ensures counted { F.count files.old ≤ F.count files.new }
+    ensures steady { OnOk result (F.count files.new ≡ F.count files.old) }
 {
     let plan = match load_plan(alloc, files, name) {
         Ok(plan) => plan,
@@ -73,7 +74,7 @@ fn run_plan<F: Files>(alloc: Global, files: &mut F, plan: &Plan) -> Result<Job, 
         (λ m. inputs_asked (plan_view plan.now) (recording_in (plan_view plan.now))) (F.count files.old) (F.count files.new) (F.last_fault files.new)) }
     ensures usage { IfErr result IsNotUsage }
     ensures kept { F.told files.new ≡ F.told files.old }
-    ensures counted { F.count files.old ≤ F.count files.new }
+    ensures steady { OnOk result (F.count files.new ≡ F.count files.old) }
 {
     match recording_in(plan) {
         Some(recording) => run_recording(alloc, files, plan, &recording),
@@ -97,7 +98,7 @@ fn run_recording<F: Files>(
         (λ m. input_names (plan_view plan.now)) (F.count files.old) (F.count files.new) (F.last_fault files.new)) }
     ensures usage { IfErr result IsNotUsage }
     ensures kept { F.told files.new ≡ F.told files.old }
-    ensures counted { F.count files.old ≤ F.count files.new }
+    ensures steady { OnOk result (F.count files.new ≡ F.count files.old) }
 {
     let names = match input_names(alloc, plan) {
         Ok(names) => names,

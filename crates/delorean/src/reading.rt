@@ -1,5 +1,5 @@
 //! Reading the files that a command names.
-ghost use Rattle.std.specs.Prelude.{◌≡◌, ◌≤◌, Some, Ok, IfOk, IfErr};
+ghost use Rattle.std.specs.Prelude.{◌≡◌, Some, Ok, IfOk, IfErr, OnOk};
 ghost use Rattle.std.specs.FinMap.{get};
 ghost use Rattle.dl_files.specs.Contents.{Contents};
 ghost use Rattle.spec_program.specs.Reads.{read_each};
@@ -24,7 +24,7 @@ pub fn read_all<'a, F: Files>(
         → read_each m (texts names.now) ≡ Ok (inputs_view inputs.items)) }
     ensures halt { IfErr result (UnreadOf (F.told files.old) (texts names.now) (F.count files.old) (F.count files.new) (F.last_fault files.new)) }
     ensures kept { F.told files.new ≡ F.told files.old }
-    ensures counted { F.count files.old ≤ F.count files.new }
+    ensures steady { OnOk result (F.count files.new ≡ F.count files.old) }
 {
     let mut inputs = Vec::new(alloc);
     for name in names {
@@ -45,7 +45,7 @@ pub fn read_file<F: Files>(alloc: Global, files: &mut F, name: &str) -> Result<V
     ensures bytes { IfOk result (λ bytes. (m : Contents) → F.told files.old ≡ Some m → get m name.now ≡ Some bytes.items) }
     ensures halt { IfErr result (Unread (F.told files.old) name.now (F.count files.old) (F.count files.new) (F.last_fault files.new)) }
     ensures kept { F.told files.new ≡ F.told files.old }
-    ensures counted { F.count files.old ≤ F.count files.new }
+    ensures steady { OnOk result (F.count files.new ≡ F.count files.old) }
 {
     match files.read(alloc, name) {
         Ok(bytes) => Ok(bytes),

@@ -15,6 +15,9 @@ const PLAN: &[u8] =
 const TWO_CORES: &[u8] =
     b"cores = 2\nchunk = 100\nbuffer = 16\nwindow = 2\nsignature = 64\nscript = \"s.txt\"\nreport = \"r.txt\"\n[[sphere]]\nimage = \"a.elf\"\nmemory = 4096\nrole = \"record\"\nmode = \"order-size\"\nlog = \"a.log\"\naccount = \"a.txt\"\n";
 
+const NINE_CORES: &[u8] =
+    b"cores = 9\nchunk = 100\nbuffer = 16\nwindow = 2\nsignature = 64\nscript = \"s.txt\"\nreport = \"r.txt\"\n[[sphere]]\nimage = \"a.elf\"\nmemory = 4096\nrole = \"record\"\nmode = \"order-size\"\nlog = \"a.log\"\naccount = \"a.txt\"\n";
+
 const SCRIPT: &[u8] = b"step 0\nstep 0\nstep 0\nask 0\nstep 0\nask 0\n";
 
 // addi x17, x0, 0; addi x10, x0, 7; ecall
@@ -31,6 +34,11 @@ const REPORT: &[u8] =
     b"g 3 0 0 chunk 2\ng 5 0 0 serial 0\nr Ran 2\nr Closed 2\nr Granted 2\nevents 6\ncommits 2\ns 0 record 2\n";
 
 const SUMMARY: &[u8] = b"events 6\ncommits 2\ns 0 record 2\n";
+
+const EMPTY_LOG: &[u8] = b"DLRN\x01\0\0\0d\0\0\0\0\0\0\0\0\0\0\0\0\0\0\0\0\0\0\0\0\0\0\0\0\0\0\0";
+
+const EMPTY_ACCOUNT: &[u8] =
+    b"t 0 00000000 live 00000000 0 00000000 00000000 00000000 00000000 00000000 00000000 00000000 00000000 00000000 00000000 00000000 00000000 00000000 00000000 00000000 00000000 00000000 00000000 00000000 00000000 00000000 00000000 00000000 00000000 00000000 00000000 00000000 00000000 00000000 00000000 00000000\nm 00000000 9308000013057000730000000000000000000000000000000000000000000000\nend complete 0\n";
 
 const EMPTY_SUMMARY: &[u8] = b"events 0\ncommits 0\ns 0 record 0\n";
 
@@ -77,6 +85,28 @@ fn three_instructions_are_recorded(rt: HostRuntime) -> Result<(), Fail> {
     Ok(())
 }
 
+// No event comes, so nothing is committed, and the report is its summary.
+#[test]
+fn an_empty_script_records_nothing(rt: HostRuntime) -> Result<(), Fail> {
+    let alloc = rt.alloc();
+    let mut files = three_instructions(alloc)?;
+    files.write("s.txt", b"")?;
+    let mut out = GoodSink::new(alloc);
+    assert_eq!(rt;
+        delorean_in_memory(alloc, &RUN, &mut files, &mut out),
+        Status::Done
+    );
+    assert_eq!(rt; out.taken(), EMPTY_SUMMARY);
+    for (name, want) in [
+        ("a.log", EMPTY_LOG),
+        ("a.txt", EMPTY_ACCOUNT),
+        ("r.txt", EMPTY_SUMMARY),
+    ] {
+        holds(&rt, alloc, &mut files, name, want);
+    }
+    Ok(())
+}
+
 // The row of a store that finds no room: each of the three asks lays its words at once.
 #[test]
 fn an_overflow_closes_the_chunk(rt: HostRuntime) -> Result<(), Fail> {
@@ -109,12 +139,6 @@ fn what_is_read_decides_the_answer(rt: HostRuntime) -> Result<(), Fail> {
     for case in [
         Case {
             name: "s.txt",
-            bytes: b"",
-            status: Status::Done,
-            said: EMPTY_SUMMARY,
-        },
-        Case {
-            name: "s.txt",
             bytes: b"step x",
             status: Status::Grammar,
             said: b"refused script 1\n",
@@ -136,6 +160,12 @@ fn what_is_read_decides_the_answer(rt: HostRuntime) -> Result<(), Fail> {
             bytes: b"cores = 9\n",
             status: Status::Plan,
             said: b"refused plan 3\n",
+        },
+        Case {
+            name: "plan.toml",
+            bytes: NINE_CORES,
+            status: Status::Plan,
+            said: b"refused plan 4\n",
         },
         Case {
             name: "plan.toml",

@@ -4,9 +4,11 @@ ghost use Rattle.dl_files.specs.Contents.{Contents, IsLast};
 ghost use Rattle.dl_files.specs.Count.{Rose};
 ghost use Rattle.spec_program.specs.declared.status.Status.{Status};
 ghost use Rattle.spec_program.specs.Commands.{command_of};
-ghost use Rattle.spec_program.specs.Ends.{Stands, TookAll, is_refusal, reads_of, status_in, text_in};
-ghost use Rattle.spec_program.specs.Lines.{fault_line as fault_text};
+ghost use Rattle.spec_program.specs.Ends.{Stands, Took, TookAll, is_done, is_refusal, is_of_files, is_of_sink, reads_of, status_in, text_in};
+ghost use Rattle.spec_program.specs.Headline.{Headline};
+ghost use Rattle.spec_program.specs.Lines.{fault_line as fault_text, usage_line as usage_text};
 ghost use Rattle.spec_program.specs.Outcomes.{Finishes, outcome_of};
+ghost use Rattle.spec_program.specs.Outside.{in_memory};
 ghost use Rattle.delorean.specs.Jobs.{writes_of};
 ghost use Rattle.delorean.specs.Performed.{IsPerformed};
 ghost use Rattle.delorean.specs.Texts.{texts};
@@ -29,9 +31,28 @@ pub fn delorean<F: Files, O: Sink>(
     files: &mut F,
     out: &mut O,
 ) -> Status
+    // What 0 and 1 say.
+    ensures headline { (m : Contents) → F.told files.old ≡ Some m → is_done result ≡ true
+        → Headline (texts words.now) m (F.told files.new) (O.taken out.old) (O.taken out.new) result }
+
+    // What each answer says.
     ensures stands { (m : Contents) → F.told files.old ≡ Some m
         → Stands (outcome_of (texts words.now) m) (reads_of (texts words.now) m) m
-        (F.told files.new) (F.last_fault files.new) (O.taken out.old) (O.taken out.new) result }
+        (record {
+          told = F.told files.old;
+          faults = F.count files.old;
+          last = F.last_fault files.old;
+          taken = O.taken out.old;
+          sink_faults = O.count out.old;
+        })
+        (record {
+          told = F.told files.new;
+          faults = F.count files.new;
+          last = F.last_fault files.new;
+          taken = O.taken out.new;
+          sink_faults = O.count out.new;
+        })
+        result }
 
     // The line of a refusal, and of a fault, is said whole where the sink's count did not rise.
     ensures whole { (m : Contents) → F.told files.old ≡ Some m
@@ -42,6 +63,11 @@ pub fn delorean<F: Files, O: Sink>(
         × TookAll (fault_text name) (O.taken out.old) (O.taken out.new) }
 
     // What each answer shows, also where no contents are told.
+    ensures files_steady { is_of_files result ≡ false → F.count files.new ≡ F.count files.old }
+    ensures sink_steady { is_of_sink result ≡ false → O.count out.new ≡ O.count out.old }
+    ensures usage_said { result ≡ Status.Usage → Took usage_text (O.taken out.old) (O.taken out.new) }
+    ensures usage_whole { result ≡ Status.Usage → (Rose (O.count out.old) (O.count out.new) → ⊥)
+        → TookAll usage_text (O.taken out.old) (O.taken out.new) }
     ensures usage { result ≡ Status.Usage → command_of (texts words.now) ≡ None }
     ensures no_command { command_of (texts words.now) ≡ None
         → (result ≡ Status.Usage) ⊎ (result ≡ Status.Memory) }
@@ -69,6 +95,12 @@ pub fn delorean_in_memory(
     files: &mut GoodFiles,
     out: &mut GoodSink,
 ) -> Status
+    ensures headline { is_done result ≡ true
+        → Headline (texts words.now) files.old (Some files.new) (Some out.old) (Some out.new) result }
+    ensures stands { Stands (outcome_of (texts words.now) files.old) (reads_of (texts words.now) files.old) files.old
+        (in_memory files.old out.old) (in_memory files.new out.new) result }
+    ensures whole { is_refusal result ≡ true
+        → TookAll (text_in (outcome_of (texts words.now) files.old)) (Some out.old) (Some out.new) }
     ensures outcome { (result ≡ status_in (outcome_of (texts words.now) files.old))
         ⊎ (result ≡ Status.Memory) }
     ensures no_fault { result ≡ Status.Fault → ⊥ }

@@ -1,18 +1,20 @@
 -- How the program may end, by its status, from what it was to do: what the files then hold, and what the sink took.
-use Rattle.std.specs.Prelude.{◌≡◌, ℕ, ◌≤◌, ◌⊎◌, Bool, true, false, List, [], ◌∷◌, length, take, slice_get, Contains, Option, Some, None, if◌then◌else◌, option_map, Result, Ok, Err}
-use Rattle.std.specs.FinMap.{get}
+use Rattle.std.specs.Prelude.{◌≡◌, ℕ, suc, ◌≤◌, ◌⊎◌, Bool, true, false, List, [], ◌∷◌, length, take, slice_get, Option, Some, None, if◌then◌else◌, Result, Ok, Err, IsOk}
 use Rattle.dl_files.specs.Contents.{Contents, SameBut, IsLast}
+use Rattle.dl_files.specs.Count.{Rose}
 use Rattle.dl_files.specs.Taken.{with_taken}
 use Rattle.dl_plan.specs.Files.{input_names}
-use Rattle.dl_plan.specs.Plans.{plan_of}
 use Rattle.dl_plan.specs.Values.{PlanValues}
 use Rattle.spec_program.specs.declared.status.Status.{Status}
 use Rattle.spec_program.specs.Built.{Recording, recording_in}
 use Rattle.spec_program.specs.Statuses.{status_of}
 use Rattle.spec_program.specs.Lines.{fault_line}
+use Rattle.spec_program.specs.Reads.{read_each}
 use Rattle.spec_program.specs.Writes.{Write, written}
 use Rattle.spec_program.specs.Commands.{command_of}
 use Rattle.spec_program.specs.Outcomes.{Outcome, Refuses, Finishes}
+use Rattle.spec_program.specs.Outside.{Outside}
+use Rattle.spec_program.specs.Tasks.{plan_at}
 
 -- ---- the parts of an outcome
 
@@ -29,6 +31,10 @@ abbrev pub text_in : Outcome → List ℕ
 text_in (Refuses why text) = text
 text_in (Finishes diverged writes text) = text
 
+abbrev pub DoesFinish : Outcome → Type 0
+DoesFinish (Refuses why text) = ⊥
+DoesFinish (Finishes diverged writes text) = Unit {0}
+
 -- ---- the names that are read
 
 -- those that a plan has read; of one that isn't built none is read
@@ -42,16 +48,17 @@ inputs_of None = []
 inputs_of (Some (Err rule)) = []
 inputs_of (Some (Ok p)) = inputs_asked p (recording_in p)
 
-abbrev pub plan_at : Contents → (name : List ℕ) → Option (Result PlanValues ℕ)
-plan_at m name = option_map (plan_of name) (get m name)
-
 abbrev pub reads_of_command : Contents → Option (List ℕ) → List (List ℕ)
 reads_of_command m None = []
 reads_of_command m (Some name) = name ∷ inputs_of (plan_at m name)
 
--- the plan, and the names that it has read
+-- the plan, and the names that it has read, in the order of the work
 abbrev pub reads_of : (words : List (List ℕ)) → Contents → List (List ℕ)
 reads_of words m = reads_of_command m (command_of words)
+
+-- it is the turn of that name to be read: it is there, and so is each name before it
+abbrev pub IsReadNext : (reads : List (List ℕ)) → Contents → (name : List ℕ) → Type 0
+IsReadNext reads m name = (i : ℕ) × (slice_get reads i ≡ Some name) × IsOk (read_each m (take (suc i) reads))
 
 -- ---- what the sink took
 
@@ -73,50 +80,75 @@ abbrev pub CutAt : List Write → Contents → (told : Option Contents) → (nam
 CutAt writes m told name =
     (i : ℕ) × ((w : Write) × (slice_get writes i ≡ Some w) × (w.name ≡ name) × SameBut name (Some (written (take i writes) m)) told)
 
--- ---- the ends
+-- ---- the ends: o is what was to be done with the contents m, of which `reads` are read
 
--- what was to be done, where its status is this one, is done and said
-pub record IsFinished (o : Outcome) (m : Contents) (told : Option Contents) (old new : Option (List ℕ)) (s : Status) : Type 0 where
+-- what was to be done, where its status is this one, is done and said, and no file failed
+pub record IsFinished (o : Outcome) (m : Contents) (before after : Outside) (s : Status) : Type 0 where
   pub status : s ≡ status_in o
-  pub files : told ≡ Some (written (writes_in o) m)
-  pub output : TookAll (text_in o) old new
+  pub files : after.told ≡ Some (written (writes_in o) m)
+  pub counted : after.faults ≡ before.faults
+  pub output : TookAll (text_in o) before.taken after.taken
 
--- it was to be refused so, no file has changed, and the sink took the first bytes of its line
-pub record IsRefused (o : Outcome) (m : Contents) (told : Option Contents) (old new : Option (List ℕ)) (s : Status) : Type 0 where
+-- it was to be refused so, no file has changed or failed, and the sink took the first bytes of its line
+pub record IsRefused (o : Outcome) (m : Contents) (before after : Outside) (s : Status) : Type 0 where
   pub status : s ≡ status_in o
-  pub files : told ≡ Some m
-  pub output : Took (text_in o) old new
+  pub files : after.told ≡ Some m
+  pub counted : after.faults ≡ before.faults
+  pub output : Took (text_in o) before.taken after.taken
 
--- a file failed, by its last fault: one of those that are read, before any was written, or one of those that are written
-pub record IsFaulted (o : Outcome) (reads : List (List ℕ)) (m : Contents) (told : Option Contents) (last : Option (List ℕ)) (old new : Option (List ℕ)) (name : List ℕ) : Type 0 where
-  pub named : IsLast last name
-  pub files : ((told ≡ Some m) × Contains reads name) ⊎ CutAt (writes_in o) m told name
-  pub output : Took (fault_line name) old new
+-- a file failed, by its last fault: one of those that are read, whose turn it was, before any was written, or one of those
+-- that are written; the sink took the first bytes of the line on that name
+pub record IsFaulted (o : Outcome) (reads : List (List ℕ)) (m : Contents) (before after : Outside) (name : List ℕ) : Type 0 where
+  pub counted : Rose before.faults after.faults
+  pub named : IsLast after.last name
+  pub files : ((after.told ≡ Some m) × IsReadNext reads m name) ⊎ CutAt (writes_in o) m after.told name
+  pub output : Took (fault_line name) before.taken after.taken
 
--- every file is written, and the sink failed on the text
-pub record IsUnsaid (o : Outcome) (m : Contents) (told : Option Contents) (old new : Option (List ℕ)) : Type 0 where
-  pub files : told ≡ Some (written (writes_in o) m)
-  pub output : Took (text_in o) old new
+-- every file is written and none failed, and the sink took the first bytes of the text, or of the line of a refusal
+pub record IsUnsaid (o : Outcome) (m : Contents) (before after : Outside) : Type 0 where
+  pub files : after.told ≡ Some (written (writes_in o) m)
+  pub counted : after.faults ≡ before.faults
+  pub output : Took (text_in o) before.taken after.taken
 
--- memory ran out: after the first writes, or after a write that failed; the sink may have taken first bytes of what it was to get
-pub record IsShort (o : Outcome) (m : Contents) (told : Option Contents) (old new : Option (List ℕ)) : Type 0 where
-  pub files : Partly (writes_in o) m told ⊎ ((name : List ℕ) × CutAt (writes_in o) m told name)
-  pub output : Took (text_in o) old new ⊎ ((name : List ℕ) × Took (fault_line name) old new)
+-- the first files are written and none failed, and nothing was said
+pub record IsUndone (o : Outcome) (m : Contents) (before after : Outside) : Type 0 where
+  pub files : Partly (writes_in o) m after.told
+  pub counted : after.faults ≡ before.faults
+  pub output : after.taken ≡ before.taken
 
--- o is what was to be done with the contents m, of which `reads` are read
-abbrev pub Stands : Outcome → (reads : List (List ℕ)) → Contents → (told : Option Contents) → (last : Option (List ℕ)) → (old new : Option (List ℕ)) → Status → Type 0
-Stands o reads m told last old new Status.Done = IsFinished o m told old new Status.Done
-Stands o reads m told last old new Status.Diverged = IsFinished o m told old new Status.Diverged
-Stands o reads m told last old new Status.Usage = IsRefused o m told old new Status.Usage
-Stands o reads m told last old new Status.Plan = IsRefused o m told old new Status.Plan
-Stands o reads m told last old new Status.Image = IsRefused o m told old new Status.Image
-Stands o reads m told last old new Status.Grammar = IsRefused o m told old new Status.Grammar
-Stands o reads m told last old new Status.Absent = IsRefused o m told old new Status.Absent
-Stands o reads m told last old new Status.Fault = (name : List ℕ) × IsFaulted o reads m told last old new name
-Stands o reads m told last old new Status.Sink = IsUnsaid o m told old new
-Stands o reads m told last old new Status.Memory = IsShort o m told old new
+-- memory ran out before anything was said, while the text was, or while a fault was
+abbrev pub IsShort : Outcome → (reads : List (List ℕ)) → Contents → (before after : Outside) → Type 0
+IsShort o reads m before after =
+    IsUndone o m before after ⊎ (IsUnsaid o m before after ⊎ ((name : List ℕ) × IsFaulted o reads m before after name))
 
--- the statuses of refusals, whose line the sink takes whole where it doesn't fail
+abbrev pub Stands : Outcome → (reads : List (List ℕ)) → Contents → (before after : Outside) → Status → Type 0
+Stands o reads m before after Status.Done = IsFinished o m before after Status.Done
+Stands o reads m before after Status.Diverged = IsFinished o m before after Status.Diverged
+Stands o reads m before after Status.Usage = IsRefused o m before after Status.Usage
+Stands o reads m before after Status.Plan = IsRefused o m before after Status.Plan
+Stands o reads m before after Status.Image = IsRefused o m before after Status.Image
+Stands o reads m before after Status.Grammar = IsRefused o m before after Status.Grammar
+Stands o reads m before after Status.Absent = IsRefused o m before after Status.Absent
+Stands o reads m before after Status.Fault = (name : List ℕ) × IsFaulted o reads m before after name
+Stands o reads m before after Status.Sink = DoesFinish o × IsUnsaid o m before after
+Stands o reads m before after Status.Memory = IsShort o reads m before after
+
+-- ---- kinds of statuses
+
+-- what was asked for is done
+abbrev pub is_done : Status → Bool
+is_done Status.Done = true
+is_done Status.Diverged = true
+is_done Status.Usage = false
+is_done Status.Plan = false
+is_done Status.Image = false
+is_done Status.Grammar = false
+is_done Status.Absent = false
+is_done Status.Fault = false
+is_done Status.Sink = false
+is_done Status.Memory = false
+
+-- refusals, whose line the sink takes whole where it doesn't fail
 abbrev pub is_refusal : Status → Bool
 is_refusal Status.Usage = true
 is_refusal Status.Plan = true
@@ -128,3 +160,29 @@ is_refusal Status.Diverged = false
 is_refusal Status.Fault = false
 is_refusal Status.Sink = false
 is_refusal Status.Memory = false
+
+-- those that may come where a file failed, or is said to be absent by files that tell no contents
+abbrev pub is_of_files : Status → Bool
+is_of_files Status.Fault = true
+is_of_files Status.Memory = true
+is_of_files Status.Absent = true
+is_of_files Status.Done = false
+is_of_files Status.Diverged = false
+is_of_files Status.Usage = false
+is_of_files Status.Plan = false
+is_of_files Status.Image = false
+is_of_files Status.Grammar = false
+is_of_files Status.Sink = false
+
+-- those that may come where the sink failed: on the text, or on the line of a refusal or of a fault
+abbrev pub is_of_sink : Status → Bool
+is_of_sink Status.Done = false
+is_of_sink Status.Diverged = false
+is_of_sink Status.Memory = false
+is_of_sink Status.Usage = true
+is_of_sink Status.Plan = true
+is_of_sink Status.Image = true
+is_of_sink Status.Grammar = true
+is_of_sink Status.Absent = true
+is_of_sink Status.Fault = true
+is_of_sink Status.Sink = true

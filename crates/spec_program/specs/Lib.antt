@@ -5,4 +5,8 @@ pub mod Writes
 pub mod Commands
 pub mod Built
 pub mod Outcomes
+pub mod Tasks
+pub mod Outside
 pub mod Ends
+pub mod Headline
+pub mod Promise

@@ -2,4 +2,7 @@
 //! what each status says where one does.
 #![tactic(auto)]
 
+mod promise;
 pub mod status;
+
+pub use promise::tasks_are_recorded;

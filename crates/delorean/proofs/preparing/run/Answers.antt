@@ -12,4 +12,4 @@ pub returns-clause-halt : goal.returns-clause-halt
 returns-clause-halt g c =
     plan_halts (g.F.Files.told c.args.files.now) _ (λ m. of_plan_file m c.args.name.now (get m c.args.name.now)) c.args.name.now (plan_view c.in-Ok.plan)
     (g.F.Files.count c.args.files.now) _ _ _ c.in-Err-run_plan.halt
-    c.load_plan.ensures.kept c.load_plan.ensures.counted c.in-Ok.ensures.outcome c.in-Ok.ensures.plan c.in-Err-run_plan.ensures.halt
+    c.load_plan.ensures.kept c.in-Ok.ensures.steady c.in-Ok.ensures.outcome c.in-Ok.ensures.plan c.in-Err-run_plan.ensures.halt

@@ -34,4 +34,4 @@ returns-clause-halt g c =
     ap (λ (ns : List (List ℕ)). of_inputs p r (read_each m ns)) (sym (ap texts c.deref.ensures.value ∙ c.in-Ok.ensures))
     ∙ ap (of_inputs p r) (c.in-Ok-read_all.ensures.inputs m e)
     ∙ ap (λ (is : List InputStruct). of_files p r (inputs_view is)) (sym c.deref-2.ensures.value))
-    c.in-Err-compute.ensures.halt
+    c.in-Ok-read_all.ensures.steady c.in-Err-compute.ensures.halt

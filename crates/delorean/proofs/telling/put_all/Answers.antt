@@ -11,5 +11,5 @@ loop-done-preserved g c = record {
       c.in-Ok.ensures.took ∙ ap (λ (piece : List ℕ). with_taken c.in-Ok.n piece (g.O.Sink.taken c.loop-done.out)) (take_rest c.args.text.now c.loop-done.done)
       ∙ ap (with_taken c.in-Ok.n _) c.loop-done.invariant.taken
       ∙ with_taken_more c.in-Ok.n c.loop-done.done c.args.text.now (g.O.Sink.taken c.args.out.now);
-  counted = omega (arith, c.in-Ok.ensures.counted, c.loop-done.invariant.counted);
+  steady = c.in-Ok.ensures.ok_steady ∙ c.loop-done.invariant.steady;
 }

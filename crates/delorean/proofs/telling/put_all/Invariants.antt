@@ -6,7 +6,7 @@ abbrev pub invariant-loop-done : goal.invariant-loop-done
 invariant-loop-done g l = record {
   within : l.done ≤ length l.text;
   taken : g.O.Sink.taken l.out ≡ with_taken l.done l.text (g.O.Sink.taken l.fn.out);
-  counted : g.O.Sink.count l.fn.out ≤ g.O.Sink.count l.out;
+  steady : g.O.Sink.count l.out ≡ g.O.Sink.count l.fn.out;
 }
 
 abbrev pub decreases-loop-done : goal.decreases-loop-done

@@ -1,7 +1,8 @@
-use Rattle.std.proofs.Common.{◌<◌, length, Some, Err, ap, sym, ◌∙◌, subst, arith}
+use Rattle.std.proofs.Common.{ℕ, ◌<◌, length, Some, Err, ap, sym, ◌∙◌, subst, arith}
 use Rattle.std.specs.Prelude.{IsErrOf}
 use Rattle.dl_files.specs.declared.FileError.{FileError}
 use Rattle.dl_files.specs.Contents.{IsLast}
+use Rattle.dl_files.specs.Count.{Rose}
 use Rattle.delorean.specs.Jobs.{write_of}
 use Rattle.delorean.proofs.Storing.{write_at, written_more, with_file_same, same_but_at}
 use Rattle.delorean.proofs.written.write_all.Goals as goal
@@ -10,7 +11,7 @@ pub returns-in-Err-Failed-clause-stop : goal.returns-in-Err-Failed-clause-stop
 returns-in-Err-Failed-clause-stop g c =
     let within : c.loop-i.i < length c.args.writes.now = omega arith in
     let is : IsErrOf {T = Unit {0}} {E = FileError} (Err c.in-Err-Failed.field-0) FileError.Failed = ap Err c.in-Err-Failed.field-0-is in (
-      omega (arith, c.in-Err-Failed.ensures.failed is, c.loop-i.invariant.counted),
+      subst (λ (n : ℕ). Rose n (g.F.Files.count c.write.new.self)) c.loop-i.invariant.steady (c.in-Err-Failed.ensures.failed is),
       (
         write_of c.index-writes-i.result,
         write_at c.args.writes.now c.loop-i.i c.index-writes-i.result within c.index-writes-i.is,
@@ -29,5 +30,5 @@ loop-i-preserved g c =
           c.in-Ok.ensures.written
           ∙ with_file_same c.as_str.ensures.value c.deref.ensures.value (c.loop-i.invariant.told m e)
           ∙ ap Some (sym (written_more c.args.writes.now c.loop-i.i c.index-writes-i.result m within c.index-writes-i.is));
-      counted = omega (arith, c.in-Ok.ensures.counted, c.loop-i.invariant.counted);
+      steady = c.in-Ok.ensures.ok_steady ∙ c.loop-i.invariant.steady;
     }
