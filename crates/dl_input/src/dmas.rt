@@ -100,6 +100,7 @@ impl Dmas {
     pub fn take(&mut self, slot: u32)
         ensures dmas { self.new.dmas ≡ self.old.dmas }
         ensures taken { self.new.taken ≡ taken_at slot self.old.dmas self.old.taken }
+        ensures room { self.new.room ≡ self.old.room }
     {
         if let Some(place) = place_of(&self.entries, slot) {
             self.taken[place] = true;

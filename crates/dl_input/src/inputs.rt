@@ -87,6 +87,7 @@ impl Inputs {
     pub fn take(&mut self)
         ensures inputs { self.new.inputs ≡ self.old.inputs }
         ensures taken { self.new.taken ≡ one_taken self.old }
+        ensures room { self.new.room ≡ self.old.room }
     {
         if self.taken < self.entries.len() {
             self.taken += 1;

@@ -98,7 +98,8 @@ impl Interrupts {
 
     /// Takes the interrupt of a moment, if there is one.
     pub fn take(&mut self, thread: u8, index: u32)
-        ensures { self.new.entries ≡ taken_at thread index self.old.entries }
+        ensures entries { self.new.entries ≡ taken_at thread index self.old.entries }
+        ensures room { self.new.room ≡ self.old.room }
     {
         if let Some(raised) = self.moments.at(thread, index) {
             let taken = Raised {

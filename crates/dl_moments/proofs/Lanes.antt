@@ -1,5 +1,5 @@
 -- The lists of all threads, of which one is changed.
-use Rattle.std.proofs.Common.{◌≡◌, ℕ, zero, suc, ◌+◌, ◌<◌, true, List, [], ◌∷◌, ◌++◌, length, map, get_or, replicate, inl, inr, refl, ap, sym, ◌∙◌, arith}
+use Rattle.std.proofs.Common.{◌≡◌, ℕ, zero, suc, ◌+◌, ◌<◌, Bool, true, ◌&&◌, List, [], ◌∷◌, ◌++◌, length, map, get_or, replicate, inl, inr, refl, ap, sym, ◌∙◌, arith}
 use Rattle.std.proofs.Math.ListN.{set}
 use Rattle.std.specs.List.{list_all}
 use Rattle.std.proofs.lemmas.Bool.{cases_eq, and_parts}
@@ -66,6 +66,14 @@ pub room_at : {V : Type 0} (lanes : List (Held V)) (t : ℕ) (d : Held V) → t 
 room_at [] t d h e = absurd (omega arith)
 room_at (x ∷ xs) zero d h e = (and_parts x.room (list_all (λ lane. lane.room) xs) e).0
 room_at (x ∷ xs) (suc t) d h e = room_at xs t d (omega arith) (and_parts x.room (list_all (λ lane. lane.room) xs) e).1
+
+-- as much room with another list that has as much
+pub same_room : {V : Type 0} (lanes : List (Held V)) (t : ℕ) (old new : Held V) → t < length lanes → old ≡ get_or lanes t old → new.room ≡ old.room
+    → list_all (λ lane. lane.room) (set lanes t new) ≡ list_all (λ lane. lane.room) lanes
+same_room [] t old new h is e = absurd (omega arith)
+same_room (x ∷ xs) zero old new h is e =
+    ap (λ (b : Bool). b && list_all (λ lane. lane.room) xs) (e ∙ ap (λ (held : Held _). held.room) is)
+same_room (x ∷ xs) (suc t) old new h is e = ap (λ (b : Bool). x.room && b) (same_room xs t old new (omega arith) is e)
 
 -- room in each, also after one was changed
 pub Roomy-set : {V : Type 0} (lanes : List (Held V)) (n t : ℕ) (new : Held V) → t < length lanes → Roomy lanes n → new.room ≡ true → Roomy (set lanes t new) n

@@ -71,6 +71,7 @@ impl<V: Copy> Moments<V> {
         ensures lanes { let lane = slice_index_or self.old.lanes thread [] in
             self.new.lanes ≡ slice_set self.old.lanes thread (with_mark_if index value lane) }
         ensures count { length (slice_index_or self.new.lanes thread []) ≡ length (slice_index_or self.old.lanes thread []) }
+        ensures room { self.new.room ≡ self.old.room }
     {
         if usize::from(thread) < THREADS {
             let lane = &mut self.lanes[usize::from(thread)];

@@ -5,8 +5,8 @@ use Rattle.dl_input.specs.Held.{held_from, raised_at}
 use Rattle.dl_input.proofs.HeldLists.{insert-put, raised_at-at, moment-within, count-set}
 use Rattle.dl_input.proofs.interrupts.Interrupts.take.Goals as goal
 
-pub returns-in-Some : goal.returns-in-Some
-returns-in-Some c =
+pub returns-in-Some-clause-entries : goal.returns-in-Some-clause-entries
+returns-in-Some-clause-entries c =
     let lanes = c.self.inside.moments.lanes in
     let t = c.args.thread in
     let i = c.args.index in
@@ -16,8 +16,8 @@ returns-in-Some c =
     rw (← c.self.view_is, seen, c.set.ensures.lanes, here)
     (insert-put lanes t i (record { value = raised.value; taken = true }) (moment-within lanes t i raised here))
 
-pub returns-in_default : goal.returns-in_default
-returns-in_default c =
+pub returns-in_default-clause-entries : goal.returns-in_default-clause-entries
+returns-in_default-clause-entries c =
     let lanes = c.self.inside.moments.lanes in
     let none : raised_at (held_from 0 lanes) c.args.thread c.args.index ≡ None =
     sym (raised_at-at lanes c.args.thread c.args.index) ∙ (sym c.at.ensures ∙ c.in_default.is) in

@@ -1,6 +1,6 @@
 use Rattle.std.proofs.Common.{◌<◌, length, arith}
 use Rattle.dl_moments.specs.Marks.{with_mark_if}
-use Rattle.dl_moments.proofs.Lanes.{changed_lane, same_count}
+use Rattle.dl_moments.proofs.Lanes.{changed_lane, same_count, same_room}
 use Rattle.dl_moments.proofs.moments.Moments.set.Goals as goal
 
 pub returns-then-from-lt-THREADS : goal.returns-then-from-lt-THREADS
@@ -14,4 +14,7 @@ returns-then-from-lt-THREADS g c =
       count = rw (← c.self.view_is, c.from-then-from-lt-THREADS.ensures)
           (same_count lanes c.args.thread c.index_mut-lane.result.now c.set.new.self within
           (rw c.from-then-from-lt-THREADS.ensures at c.index_mut-lane.ensures.value) c.set.ensures.count);
+      room = rw (← c.self.view_is, c.from-then-from-lt-THREADS.ensures)
+          (same_room lanes c.args.thread c.index_mut-lane.result.now c.set.new.self within
+          (rw c.from-then-from-lt-THREADS.ensures at c.index_mut-lane.ensures.value) c.set.ensures.room);
     }
