@@ -1,22 +1,20 @@
 -- Looking up a size after another was put.
-use Rattle.std.proofs.Common.{◌≡◌, ℕ, zero, suc, ◌+◌, cond, get_or, slice_index, append-nil, ◌<◌, ◌≤◌, ◌^◌, take, ◌==◌, Bool, true, false, ◌&&◌, List, [], ◌∷◌, ◌++◌, length, Some, slice_get, inl, inr, refl, ap, sym, ◌∙◌, arith}
+use Rattle.std.proofs.Common.{◌≡◌, ℕ, zero, suc, ◌+◌, cond, get_or, slice_index, replicate, append-nil, ◌<◌, ◌≤◌, ◌^◌, take, ◌==◌, Bool, true, false, ◌&&◌, List, [], ◌∷◌, ◌++◌, length, Some, slice_get, inl, inr, refl, ap, sym, ◌∙◌, arith}
 use Rattle.std.specs.List.{range_with_len}
 use Rattle.std.proofs.lemmas.Bool.{eq-eqb, ne_eqb, cases_lt, cases_eq, cases_Bool, eqb-true, and_parts, both_ways, le-ltb}
 use Rattle.std.proofs.lemmas.List.{length_push, length-set, get_or-set_same, get_or-set_other, set_past, take_more}
 use Rattle.dl_entry.specs.declared.actor.Actor.{Actor}
 use Rattle.dl_entry.specs.declared.actor.Actor.TheVariants.{Thread, Dma}
 use Rattle.spec_log.specs.declared.sizes.ShortSize.{ShortSize}
-use Rattle.spec_log.specs.Noting.{Kept, nothing_kept, noted, insert_size, short_with, done_with}
-use Rattle.spec_log.specs.Log.{IsActor, IsSection, IsShortSize, ComesBefore}
-use Rattle.std.proofs.lemmas.List.Elements.{All-nil}
-use Rattle.dl_mode.specs.Counts.{done_by, AreAmong}
-use Rattle.dl_mode.specs.Lists.{AreLists, lists_of}
-use Rattle.spec_log.specs.declared.mode_name.ModeName.{ModeName}
+use Rattle.spec_log.specs.Noting.{Kept, noted, insert_size, short_with, done_with}
+use Rattle.spec_log.specs.Log.{IsActor}
+use Rattle.std.proofs.lemmas.List.Sums.{fold_more}
+use Rattle.dl_mode.specs.Counts.{done_by, AreAmong, counted}
 use Rattle.spec_log.specs.Reading.{is_earlier}
 use Rattle.spec_log.specs.Size.{is_thread, sizes_of_thread}
 use Rattle.dl_mode.specs.Early.{EarlySizes, size_among}
 use Rattle.dl_mode.specs.Whole.{IsWhole}
-use Rattle.spec_log.specs.declared.mode_name.ModeName.TheVariants.{OrderSize, OrderOnly, Picolog}
+use Rattle.spec_log.specs.declared.mode_name.ModeName.TheVariants.{OrderSize}
 use Rattle.spec_log.specs.declared.sizes.Sizes.TheVariants as Sizes
 
 abbrev Is : ℕ → ℕ → ShortSize → Bool
@@ -170,6 +168,10 @@ IsWhole-noted order sizes threads new actor size w good few e d =
       counted = rw d (Done-noted order sizes threads.done actor size w.same w.all good w.counted);
     }
 
+-- the commits of an order that were counted
+pub counted-more : (order : List Actor) (i : ℕ) (d : Actor) → i < length order → counted (take (i + 1) order) ≡ done_with (counted (take i order)) (get_or order i d)
+counted-more order i d h = fold_more done_with (replicate 15 0) order i d h
+
 pub range-next : (t n m : ℕ) → n ≡ suc m → range_with_len t n ≡ t ∷ range_with_len (t + 1) m
 range-next t n m e = rw e refl
 
@@ -179,6 +181,7 @@ pub record Begun (s i : ℕ) (order : List Actor) (sizes : List ℕ) (kept : Kep
   pub count : kept.count ≡ i
   pub order_is : kept.order ≡ take i order
   pub sizes_are : kept.sizes ≡ Sizes.Each (take i sizes)
+  pub done_is : kept.done ≡ counted (take i order)
 
 pub Begun-more : (s i : ℕ) (order : List Actor) (sizes : List ℕ) (kept new : Kept) (d : Actor) → i < length order → i < length sizes
     → Begun s i order sizes kept → new ≡ noted OrderSize kept (record { actor = get_or order i d; size = get_or sizes i 0; early = false })
@@ -189,16 +192,5 @@ Begun-more s i order sizes kept new d h l b e =
       count = rw (e, b.count) refl;
       order_is = rw (e, b.order_is) (sym (take_more order i d h));
       sizes_are = rw (e, b.sizes_are) (ap Sizes.Each (sym (take_more sizes i 0 l)));
+      done_is = rw (e, b.done_is) (sym (counted-more order i d h));
     }
-
--- the lists of no commit
-no_sizes-section : IsSection (IsShortSize 100) (λ x y. ComesBefore x.thread x.index y.thread y.index) []
-no_sizes-section = record { few = omega arith; each = All-nil (IsShortSize 100); rising = λ k d h. absurd (omega arith) }
-
-pub nothing-lists : (mode : ModeName) → AreLists mode (lists_of mode (nothing_kept mode 100))
-nothing-lists OrderSize =
-    record { is_mode = refl; s = (omega arith, omega arith); count = omega arith; order = (refl, All-nil IsActor); sizes = (refl, All-nil (λ size. size ≤ 100)) }
-nothing-lists OrderOnly =
-    record { is_mode = refl; s = (omega arith, omega arith); count = omega arith; order = (refl, All-nil IsActor); sizes = no_sizes-section }
-nothing-lists Picolog =
-    record { is_mode = refl; s = (omega arith, omega arith); count = omega arith; order = refl; sizes = no_sizes-section }

@@ -1,7 +1,8 @@
 -- The number of an actor's commits.
-use Rattle.std.specs.Prelude.{ℕ, ◌≤◌, List, slice_index}
+use Rattle.std.specs.Prelude.{ℕ, ◌≤◌, List, fold, replicate, slice_index}
 use Rattle.dl_entry.specs.declared.actor.Actor.{Actor}
 use Rattle.dl_entry.specs.declared.actor.Actor.TheVariants.{Thread, Dma}
+use Rattle.spec_log.specs.Noting.{done_with}
 
 -- of a thread; a DMA's aren't counted
 abbrev pub done_by : List ℕ → Actor → ℕ
@@ -11,3 +12,7 @@ done_by done Dma = 0
 -- no thread has done more commits than there are
 abbrev pub AreAmong : ℕ → List ℕ → Type 0
 AreAmong count done = (thread : ℕ) → slice_index done thread ≤ count
+
+-- the number of each thread's commits in an order
+abbrev pub counted : List Actor → List ℕ
+counted order = fold done_with (replicate 15 0) order

@@ -3,6 +3,7 @@ ghost use Rattle.std.specs.Prelude.{◌≡◌, ◌^◌, ◌<◌, take, IfOk, IsO
 ghost use Rattle.spec_log.specs.declared.mode_name.ModeName.{ModeName};
 ghost use Rattle.spec_log.specs.Log.{IsActor};
 ghost use Rattle.spec_log.specs.Noting.{nothing_kept, noted, kept_size, limit_by, sizes_used, kept_head};
+ghost use Rattle.dl_mode.specs.Counts.{counted};
 ghost use Rattle.dl_mode.specs.Lists.{lists_of, AreLists};
 ghost use Rattle.dl_mode.specs.Logged.{Logged, note_of};
 
@@ -69,10 +70,11 @@ pub trait Mode {
     fn lists(alloc: Global, log: &Self::Log) -> Result<Lists, OutOfMemory>
         ensures { IfOk result (λ lists. lists ≡ lists_of mode (logged log.now).kept) };
 
-    /// The log of these lists.
+    /// The log of these lists, in which the commits of their order are counted: in picolog, which has no order, none.
     fn from_lists(alloc: Global, lists: &Lists) -> Result<Self::Log, OutOfMemory>
         requires { AreLists mode lists.now }
-        ensures { IfOk result (λ log. lists_of mode (logged log).kept ≡ lists.now) };
+        ensures lists { IfOk result (λ log. lists_of mode (logged log).kept ≡ lists.now) }
+        ensures done { IfOk result (λ log. (logged log).kept.done ≡ counted lists.now.order) };
 }
 
 /// The limit of a chunk with this logged size.

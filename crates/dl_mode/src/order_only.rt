@@ -110,7 +110,11 @@ impl Mode for OrderOnly {
 
     fn from_lists(alloc: Global, lists: &Lists) -> Result<OrderOnlyLog, OutOfMemory> {
         let order = Vec::from_slice(alloc, lists.order.as_slice())?;
-        let early = Early::from_sizes(alloc, &lists.sizes, lists.s)?;
+        let mut early = Early::from_sizes(alloc, &lists.sizes, lists.s)?;
+        // The sizes stand already: this counts the commits.
+        for actor in &order {
+            early.note(*actor, 0, false)?;
+        }
         Ok(OrderOnlyLog {
             s: lists.s,
             order,

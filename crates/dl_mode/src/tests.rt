@@ -1,9 +1,12 @@
 //! The lists of small recordings in each mode.
+ghost use Rattle.std.specs.Prelude.{◌≡◌, IfOk};
 ghost use Rattle.spec_log.specs.Log.{IsActor};
+ghost use Rattle.spec_log.specs.declared.sizes.Sizes.TheVariants.{Short};
+ghost use Rattle.dl_mode.specs.Lists.{AreLists};
 
 use super::*;
-use dl_entry::{Actor, Commit, CommitKind, Loads, OutOfMemory, Outputs};
-use spec_log::{ModeName, ShortSize, Sizes};
+use dl_entry::{Actor, Commit, CommitKind, Loads, OutOfMemory, Outputs, Sequence};
+use spec_log::{ModeName, Order, ShortSize, Sizes};
 use std::alloc::Global;
 use std::test::Fail;
 
@@ -28,7 +31,7 @@ fn order_size_keeps_every_size(rt: HostRuntime) -> Result<(), Fail> {
     );
     assert!(rt; lists.order.as_slice() == ORDER);
     match &lists.sizes {
-        Sizes::Each(sizes) => assert_eq!(rt; sizes.as_slice(), [2, 0, 100, 8, 3, 0].as_slice()),
+        Sizes::Each(sizes) => assert_eq!(rt; sizes.as_slice(), SIZES),
         Sizes::Short(_) => assert!(rt; false),
     }
     for (actor, index, size) in [
@@ -93,13 +96,18 @@ fn picolog_takes_turns(rt: HostRuntime) -> Result<(), Fail> {
 }
 
 #[test]
-fn logs_of_no_commit_are_made_of_their_lists(rt: HostRuntime) -> Result<(), Fail> {
-    let log = emptied::<OrderAndSize>(rt.alloc())?;
-    assert_eq!(rt; OrderAndSize::limit(&log, 0, 0), 100);
-    let log = emptied::<OrderOnly>(rt.alloc())?;
-    assert_eq!(rt; OrderOnly::limit(&log, 0, 0), 100);
-    let log = emptied::<PicoLog>(rt.alloc())?;
-    assert_eq!(rt; PicoLog::limit(&log, 0, 0), 100);
+fn logs_are_made_of_their_lists(rt: HostRuntime) -> Result<(), Fail> {
+    let each = Sizes::Each(Sequence::from_slice(rt.alloc(), SIZES)?);
+    let log = made::<OrderAndSize>(rt.alloc(), ORDER, each)?;
+    assert_eq!(rt; OrderAndSize::size(&log, Actor::Thread(1), 1), Some(3));
+    assert_eq!(rt; OrderAndSize::limit(&log, 0, 2), 1);
+    assert!(rt; !OrderAndSize::used(&log, &[3, 1]));
+    let log = made::<OrderOnly>(rt.alloc(), ORDER, early(rt.alloc())?)?;
+    assert_eq!(rt; OrderOnly::limit(&log, 0, 1), 8);
+    assert!(rt; OrderOnly::head(&log, 1, false, None, &[]) == Some(Actor::Dma));
+    let log = made::<PicoLog>(rt.alloc(), &[], early(rt.alloc())?)?;
+    assert_eq!(rt; PicoLog::limit(&log, 1, 1), 3);
+    assert!(rt; PicoLog::used(&log, &[2, 2]));
     Ok(())
 }
 
@@ -111,6 +119,8 @@ const ORDER: &[Actor] = &[
     Actor::Thread(1),
     Actor::Thread(0),
 ];
+
+const SIZES: &[u32] = &[2, 0, 100, 8, 3, 0];
 
 const EARLY: &[ShortSize] = &[
     ShortSize {
@@ -156,9 +166,22 @@ fn actor_of(code: u8) -> Actor
     }
 }
 
-/// A log of the lists of an empty one.
-fn emptied<M: Mode>(alloc: Global) -> Result<M::Log, OutOfMemory> {
-    let log = M::new(alloc, 100)?;
-    let lists = M::lists(alloc, &log)?;
+/// A log of the lists of six commits.
+fn made<M: Mode>(alloc: Global, order: &[Actor], sizes: Sizes) -> Result<M::Log, OutOfMemory>
+    requires { AreLists M.mode (record { mode = M.mode; s = 100; count = 6; order = order.now; sizes = sizes }) }
+{
+    let lists = Lists {
+        mode: M::name(),
+        s: 100,
+        count: 6,
+        order: Order::from_slice(alloc, order)?,
+        sizes,
+    };
     M::from_lists(alloc, &lists)
+}
+
+fn early(alloc: Global) -> Result<Sizes, OutOfMemory>
+    ensures { IfOk result (λ sizes. sizes ≡ Short EARLY.now) }
+{
+    Ok(Sizes::Short(Sequence::from_slice(alloc, EARLY)?))
 }
