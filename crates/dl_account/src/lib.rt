@@ -12,5 +12,8 @@ mod text;
 mod threads;
 
 pub use account::account_text;
+pub use dl_entry::{Commit, Counts, End, OutOfMemory, Point, Request, SphereLine};
+pub use dl_mem::Memory;
+pub use dl_thread::Threads;
 pub use report::report_text;
 pub use summary::summary_text;

@@ -6,4 +6,6 @@ pub mod arbiter;
 mod tests;
 
 pub use arbiter::{ask, ask_serial};
+pub use dl_fly::Flights;
+pub use dl_sig::Sig;
 pub use spec_engine::answers::{Asked, AskedSerial};

@@ -9,4 +9,9 @@ mod tests;
 mod view;
 
 pub use chunk::Chunk;
+pub use dl_fly::Flights;
+pub use dl_mem::Memory;
+pub use dl_sig::Sig;
+pub use dl_thread::{Load, Thread};
+pub use dl_wbuf::Buffer;
 pub use spec_engine::answers::{CutReply, How, Stepped};

@@ -7,6 +7,9 @@ mod slot;
 #[cfg(test)]
 mod tests;
 
+pub use dl_mem::Memory;
+pub use dl_sig::Sig;
+pub use dl_wbuf::Buffer;
 pub use flight::Flight;
 pub use flights::Flights;
 pub use spec_engine::answers::{Deliver, Drain, Retire};

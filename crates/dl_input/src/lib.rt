@@ -8,6 +8,8 @@ mod interrupts;
 #[cfg(test)]
 mod tests;
 
+pub use dl_entry::{Input, OutOfMemory, Sequence};
 pub use dmas::Dmas;
 pub use inputs::Inputs;
 pub use interrupts::{Interrupts, Raised};
+pub use spec_log::{DmaRecord, Interrupt};

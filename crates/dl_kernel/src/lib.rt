@@ -16,6 +16,10 @@ mod serving;
 mod tests;
 
 pub use copying::{copied, dma_words};
+pub use dl_dev::Devices;
+pub use dl_entry::{Input, OutOfMemory, Request};
+pub use dl_mem::Memory;
+pub use dl_thread::{Thread, Threads};
 pub use inside::sphere_call;
 pub use outside::{outside_call, outside_record, outside_take};
 pub use record::{Injected, inject, wants_record};

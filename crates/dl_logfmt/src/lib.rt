@@ -14,6 +14,7 @@ mod section;
 mod tests;
 mod write;
 
+pub use dl_entry::OutOfMemory;
 pub use error::LogError;
 pub use law::reading_undoes_writing;
 pub use read::read_log;

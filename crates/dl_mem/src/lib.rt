@@ -3,4 +3,5 @@
 
 pub mod memory;
 
+pub use dl_elf::Image;
 pub use memory::Memory;

@@ -10,8 +10,10 @@ mod picolog;
 #[cfg(test)]
 mod tests;
 
+pub use dl_entry::{Actor, Commit, OutOfMemory};
 pub use lists::Lists;
 pub use mode::Mode;
 pub use order_only::{OrderOnly, OrderOnlyLog};
 pub use order_size::{OrderAndSize, OrderSizeLog};
 pub use picolog::{PicoLog, TurnLog};
+pub use spec_log::{ModeName, Order, Sizes};

@@ -4,5 +4,6 @@
 mod lane;
 mod moments;
 
+pub use dl_entry::OutOfMemory;
 pub use lane::{Lane, Mark};
 pub use moments::{Moments, THREADS};

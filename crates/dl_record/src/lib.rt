@@ -5,4 +5,7 @@ mod recorder;
 #[cfg(test)]
 mod tests;
 
+pub use dl_entry::{Commit, Input, OutOfMemory};
+pub use dl_mode::Mode;
 pub use recorder::Recorder;
+pub use spec_log::Log;

@@ -7,3 +7,4 @@ pub mod script;
 
 pub use error::ScriptError;
 pub use script::parse_script;
+pub use spec_single::event::Event;

@@ -12,4 +12,10 @@ mod still;
 #[cfg(test)]
 mod tests;
 
+pub use dl_elf::Image;
+pub use dl_entry::{Commit, Counts, OutOfMemory, Point};
+pub use dl_mem::Memory;
+pub use dl_thread::Thread;
 pub use machine::Machine;
+pub use spec_log::Log;
+pub use spec_single::event::{Event, Reply};
