@@ -1,12 +1,28 @@
-//! Slots as they are made, and the least free one.
-use crate::{Flight, Flights, Retire};
-use dl_sig::{PlainSet, Sig};
-use dl_wbuf::Buffer;
+//! Slots as they are made, the least free one, and what is done to a flight that stands.
+ghost use Rattle.std.specs.Prelude.{◌≡◌, ◌∷◌, [], ◌≤◌, ℕ, Some, IfOk};
+ghost use Rattle.spec_engine.specs.Flights.{IsInside, IsOfSize};
+
+use super::*;
+use dl_elf::load;
+use dl_sig::PlainSet;
 use std::alloc::{AllocError, Global};
 use std::test::Fail;
 
+// A file whose code is the words 00700513 (a0 := 7) and 00000073 (a call).
+const FILE: [u8; 92] = [
+    0x7f, 0x45, 0x4c, 0x46, 0x01, 0x01, 0x01, 0x00, 0x00, 0x00, 0x00, 0x00, 0x00, 0x00, 0x00, 0x00,
+    0x02, 0x00, 0xf3, 0x00, 0x01, 0x00, 0x00, 0x00, 0x00, 0x00, 0x00, 0x00, 0x34, 0x00, 0x00, 0x00,
+    0x00, 0x00, 0x00, 0x00, 0x00, 0x00, 0x00, 0x00, 0x34, 0x00, 0x20, 0x00, 0x01, 0x00, 0x00, 0x00,
+    0x00, 0x00, 0x00, 0x00, 0x01, 0x00, 0x00, 0x00, 0x54, 0x00, 0x00, 0x00, 0x00, 0x00, 0x00, 0x00,
+    0x00, 0x00, 0x00, 0x00, 0x08, 0x00, 0x00, 0x00, 0x08, 0x00, 0x00, 0x00, 0x07, 0x00, 0x00, 0x00,
+    0x04, 0x00, 0x00, 0x00, 0x13, 0x05, 0x70, 0x00, 0x73, 0x00, 0x00, 0x00,
+];
+
 // A flight of no words.
-fn empty_flight(alloc: Global, sphere: u8) -> Result<Flight<PlainSet>, AllocError> {
+fn empty_flight(alloc: Global, sphere: u8) -> Result<Flight<PlainSet>, AllocError>
+    ensures words { IfOk result (λ f. f.words ≡ []) }
+    ensures bits { IfOk result (λ f. IsOfSize 64 (Some f)) }
+{
     Ok(Flight {
         sphere,
         words: Buffer::new(alloc, 1)?,
@@ -26,5 +42,56 @@ fn takes_the_least_free_slot(rt: HostRuntime) -> Result<(), Fail> {
         assert_eq!(rt; slot, if sphere == 3 { 0 } else { 1 });
     }
     assert!(rt; flights.is_full());
+    Ok(())
+}
+
+// A flight of one word, which is 7, at address 4.
+#[tactic(auto, unfolding(spec_isa::specs::Masks::bytes_of))]
+fn storing(alloc: Global) -> Result<Flight<PlainSet>, Fail>
+    ensures inside { IfOk result (λ f. (size : ℕ) → 4096 ≤ size → IsInside size (Some f)) }
+    ensures bits { IfOk result (λ f. IsOfSize 64 (Some f)) }
+{
+    let mut flight = empty_flight(alloc, 0)?;
+    flight.words.put(4, 15, 7)?;
+    flight.writes.insert(0);
+    Ok(flight)
+}
+
+// One slot, in which this flight stands, which is told to one core.
+#[tactic(auto, unfolding(spec_engine::specs::Flights::free_slot))]
+fn standing(alloc: Global, flight: Flight<PlainSet>) -> Result<Flights<PlainSet>, AllocError>
+    ensures { IfOk result (λ f. f ≡ record { cores = 1; slots = Some flight ∷ [] }) }
+{
+    let mut flights = Flights::new(alloc, 1, 1)?;
+    flights.add(flight);
+    Ok(flights)
+}
+
+#[test]
+fn a_word_drains_to_memory(rt: HostRuntime) -> Result<(), Fail> {
+    let mut mem = Memory::new(rt.alloc(), &load(rt.alloc(), &FILE, 4096)?)?;
+    let mut flights = standing(rt.alloc(), storing(rt.alloc())?)?;
+    assert_eq!(rt; flights.drain(0, &mut mem), Drain::Drained);
+    assert!(rt; mem.bytes().starts_with(&[0x13, 0x05, 0x70, 0, 7, 0, 0, 0]));
+    Ok(())
+}
+
+#[test]
+fn a_core_whose_chunk_is_hit_is_squashed(rt: HostRuntime) -> Result<(), Fail> {
+    let mut flights = standing(rt.alloc(), storing(rt.alloc())?)?;
+    let mut reads = PlainSet::empty(rt.alloc(), 64)?;
+    let writes = PlainSet::empty(rt.alloc(), 64)?;
+    reads.insert(0);
+    assert_eq!(rt; flights.deliver(0, 0, &reads, &writes), Deliver::Squashed);
+    Ok(())
+}
+
+#[test]
+fn a_flight_that_is_done_retires(rt: HostRuntime) -> Result<(), Fail> {
+    let mut flight = empty_flight(rt.alloc(), 0)?;
+    flight.told = 1;
+    let mut flights = standing(rt.alloc(), flight)?;
+    assert_eq!(rt; flights.retire(0), Retire::Retired);
+    assert_eq!(rt; flights.retire(0), Retire::NoCommit);
     Ok(())
 }
