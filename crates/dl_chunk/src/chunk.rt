@@ -1,7 +1,7 @@
 //! The chunk of one core. `new` makes room for the loads and the words of the largest chunk; no other call takes memory.
 ghost use Rattle.std.specs.Prelude.{◌≡◌, ◌≤◌, ◌<◌, true, None, IfOk};
 ghost use Rattle.spec_engine.specs.Chunks.{cut, fresh, new_engine, squash, with_chunk};
-ghost use Rattle.spec_engine.specs.Signatures.{is_size};
+ghost use Rattle.spec_engine.specs.Signatures.{is_size, nothing};
 
 use crate::store::Store;
 use crate::view::run_one;
@@ -170,6 +170,13 @@ impl<G: Sig> Chunk<G> {
         self.n
     }
 
+    /// The sphere that the chunk is of.
+    pub fn sphere(&self) -> u8
+        ensures { result ≡ self.now.chunk.sphere }
+    {
+        self.store.sphere()
+    }
+
     /// How the chunk was closed, if it was.
     pub fn closed(&self) -> Option<How>
         ensures { result ≡ self.now.chunk.closed }
@@ -198,6 +205,16 @@ impl<G: Sig> Chunk<G> {
         ensures { G.marks result.now ≡ self.now.chunk.writes }
     {
         self.store.writes()
+    }
+
+    /// Gives up the lines stored to, for a signature of no line in their place.
+    pub fn hand_over(&mut self, writes: G) -> G
+        requires { G.marks writes ≡ nothing self.old.chunk.reads.bits }
+        ensures given { G.marks result ≡ self.old.chunk.writes }
+        ensures chunk { let bits = self.old.chunk.reads.bits in
+            self.new ≡ with_chunk (record self.old.chunk { writes = nothing bits }) self.old }
+    {
+        self.store.hand_over(writes)
     }
 
     // Begins at the start again.

@@ -3,13 +3,14 @@ ghost use Rattle.std.specs.Prelude.{◌≡◌, ◌≤◌, ◌/◌, ◌%◌, ◌+
 ghost use Rattle.spec_isa.specs.Masks.{bytes_of, over};
 ghost use Rattle.spec_isa.specs.Words.{Apart};
 ghost use Rattle.dl_wbuf.specs.Buffers.{has_room};
-ghost use Rattle.spec_engine.specs.Signatures.{is_size, line};
+ghost use Rattle.spec_engine.specs.Signatures.{is_size, line, nothing};
 
 use dl_sig::Sig;
 use dl_thread::Full;
 use dl_wbuf::Buffer;
 use std::alloc::{AllocError, Global};
 use std::marker::Model;
+use std::mem;
 
 // The words that a chunk of a sphere has stored, and the lines that it has read and stored to.
 #[derive(Drop)]
@@ -84,6 +85,15 @@ impl<G: Sig> Store<G> {
         ensures { G.marks result.now ≡ self.now.writes }
     {
         &self.writes
+    }
+
+    // Gives up the lines stored to, for a signature of no line.
+    pub(crate) fn hand_over(&mut self, writes: G) -> G
+        requires { G.marks writes ≡ nothing self.old.reads.bits }
+        ensures given { G.marks result ≡ self.old.writes }
+        ensures left { self.new ≡ record self.old { writes = nothing self.old.reads.bits } }
+    {
+        mem::replace(&mut self.writes, writes)
     }
 
     // The line of an address.
