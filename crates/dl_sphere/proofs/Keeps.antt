@@ -1,0 +1,223 @@
+-- What is true of every sphere stays true as it commits, transfers and takes interrupts.
+use Rattle.std.proofs.Common.{◌≡◌, ℕ, suc, ◌+◌, ◌<◌, ◌≤◌, Bool, true, false, ◌&&◌, not, List, [], ◌∷◌, ◌++◌, length, Option, Some, None, slice_index, refl, sym, ap, ◌∙◌, subst, arith, inl, inr, set, get_or-set_same, get_or-set_other, length-set, length-append, append-nil}
+use Rattle.std.specs.Prelude.{slice_get, OnSome}
+use Rattle.dl_kernel.specs.Calls.{made_list}
+use Rattle.std.proofs.lemmas.Bool.{cases_eq, and_parts, true≢false}
+use Rattle.dl_entry.specs.declared.Actor.{Actor}
+use Rattle.dl_entry.specs.declared.Commit.{Commit}
+use Rattle.dl_entry.specs.declared.Input.{Input}
+use Rattle.spec_isa.specs.declared.thread.Parts.{Parts}
+use Rattle.spec_log.specs.Noting.{noted as kept_with, index_of, done_with}
+use Rattle.spec_kernel.specs.Interrupts.{is_live, has_handler, takes_interrupt, interrupted}
+use Rattle.spec_play.specs.Effects.{dma_commit}
+use Rattle.spec_play.specs.Progress.{position}
+use Rattle.spec_play.specs.Recording.{note_of, noted, input_noted, dma_noted, interrupt_noted}
+use Rattle.spec_play.proofs.Keeping.{grows-alike}
+use Rattle.spec_log.specs.declared.LogParts.{LogParts}
+use Rattle.spec_protocol.specs.Spheres.{Sphere, Record}
+use Rattle.spec_protocol.specs.Commits.{role_raised}
+use Rattle.spec_protocol.proofs.Keeping.{AreNew}
+use Rattle.spec_protocol.proofs.Growing.{commits_in, commits_if, commits-other, commits-same, Stands, HasCommitted, has_committed-stands}
+use Rattle.spec_protocol.proofs.Lookups.{none-there}
+use Rattle.spec_protocol.proofs.Coming.{Transferred, transferred-stands, WasRaised, raised-stands}
+use Rattle.spec_play.specs.Noted.{Recorded, as_log, interrupt_kept}
+use Rattle.dl_sphere.specs.Recorded.{with_commit}
+use Rattle.dl_sphere.specs.Roles.{Keeping, Plain, Recording, Replaying, role_of, HasFew, IsLive, with_noted, with_raised, CanRaise, IsKept, AreKept, IsStanding}
+
+-- ---- the commit of a thread
+
+-- thread k, which was t and is u, has committed c, with a record or without, and has made these threads
+pub record Commits (p q : Sphere) (k : ℕ) (t u : Parts) (made : List Parts) (c : Commit) : Type 0 where
+  pub start : slice_get p.threads k ≡ Some t
+  pub within : k ≤ 14
+  pub threads : q.threads ≡ set p.threads k u ++ made
+  pub few : length q.threads ≤ 15
+  pub commits : u.commits ≡ t.commits + 1
+  pub new : AreNew made
+  pub position_ : position q.progress ≡ suc (position p.progress)
+  pub actor : c.actor ≡ Actor.Thread k
+
+pub log_with : (r : Recorded) (c : Commit) (early : Bool) (o : Option Input) → as_log (with_commit c early o None r) ≡ input_noted o (noted c (index_of r.kept.done c.actor) early (as_log r))
+log_with r c early None = refl
+log_with r c early (Some i) = refl
+
+pub commits_noted : (p q : Sphere) (k : ℕ) (t u : Parts) (made : List Parts) (c : Commit) (s : ℕ) (r : Recorded) (early : Bool) (o : Option Input) → Commits p q k t u made c → IsKept s p r
+    → as_log (with_commit c early o None r) ≡ input_noted o (noted c t.commits early (as_log r))
+commits_noted p q k t u made c s r early o d h =
+    let index : index_of r.kept.done c.actor ≡ t.commits = ap (index_of r.kept.done) d.actor ∙ h.done k ∙ ap commits_if d.start in
+    log_with r c early o ∙ ap (λ n. input_noted o (noted c n early (as_log r))) index
+
+done-after : (p q : Sphere) (k : ℕ) (t u : Parts) (made : List Parts) (c : Commit) (s : ℕ) (r : Recorded) → Commits p q k t u made c → IsKept s p r
+    → (j : ℕ) → slice_index (done_with r.kept.done c.actor) j ≡ commits_in q.threads j
+done-after p q k t u made c s r d h j =
+    let done = r.kept.done in
+    let within : k < length done = let n = h.all in let w = d.within in omega arith in
+    let more : List ℕ = set done k (slice_index done k + 1) in
+    let is : done_with done c.actor ≡ more = ap (done_with done) d.actor in
+    let was : slice_index done k ≡ t.commits = h.done k ∙ ap commits_if d.start in
+    ap (λ ds. slice_index ds j) is
+    ∙ elim (cases_eq j k) as (λ _. slice_index more j ≡ commits_in q.threads j) [
+      | inl e ↦
+          subst (λ (n : ℕ). slice_index more n ≡ commits_in q.threads n) (sym e)
+          (get_or-set_same done k (slice_index done k + 1) 0 within ∙ ap (λ n. n + 1) was ∙ sym d.commits ∙ sym (ap (λ ts. commits_in ts k) d.threads ∙ commits-same p.threads made k t u d.start))
+      | inr ne ↦
+          get_or-set_other done k j (slice_index done k + 1) 0 ne ∙ h.done j ∙ sym (ap (λ ts. commits_in ts j) d.threads ∙ commits-other p.threads made k j u d.new ne)
+    ]
+
+few-at : (p q : Sphere) (k : ℕ) (t u : Parts) (made : List Parts) (c : Commit) → Commits p q k t u made c → ((j : ℕ) → commits_in p.threads j ≤ position p.progress)
+    → (j : ℕ) → commits_in q.threads j ≤ position q.progress
+few-at p q k t u made c d few j =
+    elim (cases_eq j k) [
+      | inl e ↦
+          subst (λ (n : ℕ). commits_in q.threads n ≤ position q.progress) (sym e)
+          (let is : commits_in q.threads k ≡ u.commits = ap (λ ts. commits_in ts k) d.threads ∙ commits-same p.threads made k t u d.start in
+          let was : commits_in p.threads k ≡ t.commits = ap commits_if d.start in
+          let f = few k in let more = d.commits in let n = d.position_ in omega arith)
+      | inr ne ↦
+          let is : commits_in q.threads j ≡ commits_in p.threads j = ap (λ ts. commits_in ts j) d.threads ∙ commits-other p.threads made k j u d.new ne in
+          let f = few j in let n = d.position_ in omega arith
+    ]
+
+few-after : (p q : Sphere) (k : ℕ) (t u : Parts) (made : List Parts) (c : Commit) → Commits p q k t u made c → HasFew p → HasFew q
+few-after p q k t u made c d h = record { few = few-at p q k t u made c d h.few }
+
+kept-after : (p q : Sphere) (k : ℕ) (t u : Parts) (made : List Parts) (c : Commit) (s : ℕ) (early : Bool) (o : Option Input) (x : Keeping) → IsLive x → Commits p q k t u made c → AreKept s p x
+    → AreKept s q (with_noted c early o None x)
+kept-after p q k t u made c s early o Plain live d h = few-after p q k t u made c d h
+kept-after p q k t u made c s early o (Replaying r loads) live d h = absurd live
+kept-after p q k t u made c s early o (Recording r) live d h =
+    let has : HasCommitted k early p q (as_log r) (as_log (with_commit c early o None r)) t u made c o =
+    record {
+      start = d.start;
+      threads = d.threads;
+      commits = d.commits;
+      new = d.new;
+      position_ = d.position_;
+      actor = d.actor;
+      log_ = commits_noted p q k t u made c s r early o d h;
+    }
+    in
+    record {
+      few = few-after p q k t u made c d h.few;
+      s = h.s;
+      all = ap length (ap (done_with r.kept.done) d.actor) ∙ length-set r.kept.done k (slice_index r.kept.done k + 1) ∙ h.all;
+      done = done-after p q k t u made c s r d h;
+      stands = has_committed-stands k early p q (as_log r) (as_log (with_commit c early o None r)) t u made c o has h.stands;
+    }
+
+pub commits_stand : (p q : Sphere) (k : ℕ) (t u : Parts) (made : List Parts) (c : Commit) (s : ℕ) (early : Bool) (o : Option Input) (x : Keeping) → IsLive x → Commits p q k t u made c → IsStanding s p x
+    → IsStanding s q (with_noted c early o None x)
+commits_stand p q k t u made c s early o x live d h =
+    record {
+      size = h.size;
+      threads = d.few;
+      kept = kept-after p q k t u made c s early o x live d h.kept;
+    }
+
+-- ---- an interrupt
+
+few-same : (p q : Sphere) → q.progress ≡ p.progress → ((j : ℕ) → commits_in q.threads j ≡ commits_in p.threads j) → HasFew p → HasFew q
+few-same p q progress same h =
+    record { few = λ j. let e = same j in let f = h.few j in let n : position q.progress ≡ position p.progress = ap position progress in omega arith }
+
+kept-raised : (p q : Sphere) (k value : ℕ) (t : Parts) (s : ℕ) (x : Keeping) → slice_get p.threads k ≡ Some t → takes_interrupt t ≡ true → q.threads ≡ set p.threads k (interrupted value t) → q.progress ≡ p.progress
+    → ((j : ℕ) → commits_in q.threads j ≡ commits_in p.threads j) → IsLive x → AreKept s p x → AreKept s q (with_raised k t.commits value x)
+kept-raised p q k value t s Plain start takes threads progress same live h = few-same p q progress same h
+kept-raised p q k value t s (Replaying r loads) start takes threads progress same live h = absurd live
+kept-raised p q k value t s (Recording r) start takes threads progress same live h =
+    let was : WasRaised k value p q (as_log r) (as_log (interrupt_kept k t.commits value r)) t =
+    record { start = start; takes = takes; threads = threads; progress = progress; log_ = refl }
+    in
+    record {
+      few = few-same p q progress same h.few;
+      s = h.s;
+      all = h.all;
+      done = λ j. h.done j ∙ sym (same j);
+      stands = raised-stands k value p q (as_log r) (as_log (interrupt_kept k t.commits value r)) t was h.stands;
+    }
+
+same-raised : (ts : List Parts) (k j value : ℕ) (t : Parts) → slice_get ts k ≡ Some t → commits_in (set ts k (interrupted value t)) j ≡ commits_in ts j
+same-raised ts k j value t start =
+    let none : set ts k (interrupted value t) ++ [] ≡ set ts k (interrupted value t) = append-nil (set ts k (interrupted value t)) in
+    elim (cases_eq j k) [
+      | inl e ↦
+          subst (λ (n : ℕ). commits_in (set ts k (interrupted value t)) n ≡ commits_in ts n) (sym e)
+          (sym (ap (λ xs. commits_in xs k) none) ∙ commits-same ts [] k t (interrupted value t) start ∙ sym (ap commits_if start))
+      | inr ne ↦ sym (ap (λ xs. commits_in xs j) none) ∙ commits-other ts [] k j (interrupted value t) tt ne
+    ]
+
+pub raised_stand : (p q : Sphere) (k value : ℕ) (t : Parts) (s : ℕ) (x : Keeping) → slice_get p.threads k ≡ Some t → takes_interrupt t ≡ true → q.threads ≡ set p.threads k (interrupted value t) → q.progress ≡ p.progress
+    → IsLive x → IsStanding s p x → IsStanding s q (with_raised k t.commits value x)
+raised_stand p q k value t s x start takes threads progress live h =
+    let same : (j : ℕ) → commits_in q.threads j ≡ commits_in p.threads j =
+    λ j. ap (λ ts. commits_in ts j) threads ∙ same-raised p.threads k j value t start
+    in
+    record {
+      size = h.size;
+      threads = let n : length q.threads ≡ length p.threads = ap length threads ∙ length-set p.threads k (interrupted value t) in let m = h.threads in omega arith;
+      kept = kept-raised p q k value t s x start takes threads progress same live h.kept;
+    }
+
+unmasked : (t : Parts) → takes_interrupt t ≡ true → t.mask ≡ false
+unmasked t takes =
+    let last = and_parts (is_live t && has_handler t) (not t.mask) takes in
+    elim (t.mask) as (λ (m : Bool). not m ≡ true → m ≡ false) [ true ↦ λ no. absurd (true≢false (sym no)) | false ↦ λ _. refl ] last.1
+
+-- an interrupt that its thread takes is of a new moment
+pub can_raise : (p : Sphere) (k : ℕ) (t : Parts) (s : ℕ) (x : Keeping) → slice_get p.threads k ≡ Some t → takes_interrupt t ≡ true → IsStanding s p x → CanRaise k t.commits x
+can_raise p k t s Plain start takes h = tt
+can_raise p k t s (Replaying r loads) start takes h = tt
+can_raise p k t s (Recording r) start takes h =
+    none-there r.interrupts k t.commits (h.kept.stands.unmasked k t start (unmasked t takes))
+
+pub raised_role : (k i value : ℕ) (x : Keeping) → role_of (with_raised k i value x) ≡ role_raised k i value (role_of x)
+raised_role k i value Plain = refl
+raised_role k i value (Recording r) = refl
+raised_role k i value (Replaying r loads) = refl
+
+-- a thread is made only where there is a place for it
+pub threads_few : (ts : List Parts) (k : ℕ) (u : Parts) (made : Option Parts) (after : List Parts) → after ≡ set ts k u ++ made_list made → OnSome made (length ts < 15) → length ts ≤ 15 → length after ≤ 15
+threads_few ts k u None after is room few =
+    let n : length after ≡ length ts = ap length is ∙ ap length (append-nil (set ts k u)) ∙ length-set ts k u in omega arith
+threads_few ts k u (Some made) after is room few =
+    let n : length after ≡ length ts + 1 = ap length is ∙ length-append (set ts k u) (made ∷ []) ∙ ap (λ n. n + 1) (length-set ts k u) in
+    let l : length ts < 15 = room in
+    omega arith
+
+-- ---- a DMA
+
+dma_log_at : (r : Recorded) (bytes : List ℕ) (n : ℕ) → r.kept.count ≡ n → as_log (with_commit dma_commit false None (Some bytes) r) ≡ dma_noted n bytes (noted dma_commit n false (as_log r))
+dma_log_at r bytes n is =
+    ap (λ (l : LogParts). dma_noted r.kept.count bytes l) ((grows-alike r).dma_commit n)
+    ∙ ap (λ m. dma_noted m bytes (noted dma_commit n false (as_log r))) is
+
+few-more : (p q : Sphere) → q.threads ≡ p.threads → position q.progress ≡ suc (position p.progress) → HasFew p → HasFew q
+few-more p q threads more h =
+    record { few = λ j. let e : commits_in q.threads j ≡ commits_in p.threads j = ap (λ ts. commits_in ts j) threads in let f = h.few j in omega arith }
+
+kept-transferred : (p q : Sphere) (s : ℕ) (bytes : List ℕ) (x : Keeping) → IsLive x → q.threads ≡ p.threads → position q.progress ≡ suc (position p.progress) → AreKept s p x → AreKept s q (with_noted dma_commit false None (Some bytes) x)
+kept-transferred p q s bytes Plain live threads more h = few-more p q threads more h
+kept-transferred p q s bytes (Replaying r loads) live threads more h = absurd live
+kept-transferred p q s bytes (Recording r) live threads more h =
+    let count : r.kept.count ≡ position p.progress = h.stands.count in
+    let was : Transferred p q (as_log r) (as_log (with_commit dma_commit false None (Some bytes) r)) bytes =
+    record { threads = threads; position_ = more; log_ = dma_log_at r bytes (position p.progress) count }
+    in
+    record {
+      few = few-more p q threads more h.few;
+      s = h.s;
+      all = h.all;
+      done = λ j. h.done j ∙ sym (ap (λ ts. commits_in ts j) threads);
+      stands = transferred-stands p q (as_log r) (as_log (with_commit dma_commit false None (Some bytes) r)) bytes was h.stands;
+    }
+
+pub transferred_stand : (p q : Sphere) (s : ℕ) (bytes : List ℕ) (x : Keeping) → IsLive x → q.threads ≡ p.threads → position q.progress ≡ suc (position p.progress) → IsStanding s p x → IsStanding s q (with_noted dma_commit false None (Some bytes) x)
+transferred_stand p q s bytes x live threads more h =
+    record {
+      size = h.size;
+      threads = let n : length q.threads ≡ length p.threads = ap length threads in let m = h.threads in omega arith;
+      kept = kept-transferred p q s bytes x live threads more h.kept;
+    }
+
+pub transferred_role : (p : Sphere) (s : ℕ) (bytes : List ℕ) (r : Recorded) → IsKept s p r → role_of (with_noted dma_commit false None (Some bytes) (Recording r)) ≡ Record (dma_noted (position p.progress) bytes (noted dma_commit (position p.progress) false (as_log r)))
+transferred_role p s bytes r h = ap Record (dma_log_at r bytes (position p.progress) h.stands.count)

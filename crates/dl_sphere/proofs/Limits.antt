@@ -1,0 +1,68 @@
+-- A replay stands with its sphere, which limits its chunks; and the sizes of requests.
+use Rattle.std.proofs.Common.{◌≡◌, ℕ, Bool, true, false, zero, suc, ◌+◌, ◌^◌, ◌<◌, ◌≤◌, List, [], ◌∷◌, length, Option, Some, None, refl, subst, arith}
+use Rattle.std.specs.Prelude.{slice_get, IfSome}
+use Rattle.std.proofs.lemmas.Bool.{true≢false}
+use Rattle.dl_entry.specs.declared.Request.{Request}
+use Rattle.spec_isa.specs.declared.thread.Parts.{Parts}
+use Rattle.spec_log.specs.Log.{IsLog}
+use Rattle.spec_protocol.specs.Sound.{IsSoundRequest}
+use Rattle.spec_protocol.specs.Placing.{replays}
+use Rattle.spec_protocol.specs.Spheres.{Book, Replay, Sphere, limit_in, limit_of, whole_limit}
+use Rattle.spec_protocol.proofs.SoundLimits.{whole-most}
+use Rattle.dl_sphere.specs.Inside.{sphere_in}
+use Rattle.dl_sphere.specs.Roles.{role_of, keeping_of, Keeping, Plain, Recording, Replaying as Replays, HasFew, AreKept, IsLive, IsReplayed, IsStanding}
+use Rattle.dl_sphere.specs.declared.part.Part.{Part}
+use Rattle.dl_sphere.specs.declared.part.Replay.{Replay as Replaying}
+use Rattle.dl_sphere.specs.declared.sphere.Sphere.TheInside.{Inside}
+
+pub replayed : (a : Inside) (r : Replaying) → a.part ≡ Part.Replayed r → IsStanding a.standard (sphere_in a) (keeping_of a.part) → IsReplayed (sphere_in a) r.player
+replayed a r is h = subst (λ (part : Part). AreKept a.standard (sphere_in a) (keeping_of part)) is h.kept
+
+pub stands_replayed : (a : Inside) (r : Replaying) → a.part ≡ Part.Replayed r → IsStanding a.standard (sphere_in a) (keeping_of a.part)
+    → IsStanding a.standard (sphere_in a) (Replays r.player r.loads.items)
+stands_replayed a r is h = subst (λ (part : Part). IsStanding a.standard (sphere_in a) (keeping_of part)) is h
+
+pub live_part : (part : Part) → ((r : Replaying) → part ≡ Part.Replayed r → ⊥) → IsLive (keeping_of part)
+live_part Part.Plain other = tt
+live_part (Part.Recorded r) other = tt
+live_part (Part.Replayed r) other = other r refl
+
+pub live_role : (x : Keeping) → replays (role_of x) ≡ false → IsLive x
+live_role Plain other = tt
+live_role (Recording r) other = tt
+live_role (Replays r loads) other = absurd (true≢false other)
+
+-- no thread of a sphere that isn't replayed has more commits than the sphere
+pub few_live : (s : ℕ) (p : Sphere) (x : Keeping) → IsLive x → AreKept s p x → HasFew p
+few_live s p Plain live h = h
+few_live s p (Recording r) live h = h.few
+few_live s p (Replays r loads) live h = absurd live
+
+-- a part and those before it are few enough to be counted
+pub part-fits : (b : Book) (k n : ℕ) (t : Parts) → IsLog b.log → b.total < whole_limit b.log k t.commits → n ≤ limit_in (Replay b) 0 k t.commits → b.total + n < 2 ^ 32
+part-fits b k n t is room within = let a = whole-most b.log k t.commits is in let c = is.s.1 in omega (arith, a, c, room, within)
+
+-- a thread that there is
+pub record There (ts : List Parts) (k : ℕ) : Type 0 where
+  pub thread : Parts
+  pub is : slice_get ts k ≡ Some thread
+
+pub there : (ts : List Parts) (k : ℕ) → k < length ts → There ts k
+there [] k l = absurd (omega arith)
+there (t ∷ ts) zero l = record { thread = t; is = refl }
+there (t ∷ ts) (suc k) l = let h = there ts k (omega arith) in record { thread = h.thread; is = h.is }
+
+pub replay-least : (s : ℕ) (b : Book) (k : ℕ) (t : Parts) → 1 ≤ limit_of s (Replay b) k t
+unfolding limit_of
+replay-least s b k t = omega arith
+
+pub replay-most : (s : ℕ) (b : Book) (k : ℕ) (t : Parts) → IsLog b.log → limit_of s (Replay b) k t ≤ 4096
+unfolding limit_of
+replay-most s b k t is = let a = whole-most b.log k t.commits is in let c = is.s.1 in omega (arith, a, c)
+
+-- a request inside a memory is inside the largest
+pub sound-within : (size most : ℕ) (o : Option Request) → size ≤ most → IfSome o (IsSoundRequest size) → IfSome o (IsSoundRequest most)
+sound-within size most None l h = tt
+sound-within size most (Some r) l h =
+    let i = h.inside in
+    record { aligned = h.aligned; inside = omega (arith, l, i); few = h.few }

@@ -1,0 +1,67 @@
+-- What is true of every sphere is true before its first commit.
+use Rattle.std.proofs.Common.{◌≡◌, ℕ, zero, suc, ◌≤◌, List, [], ◌∷◌, replicate, slice_index, None, refl, arith}
+use Rattle.std.proofs.Math.ListN.{get_or}
+use Rattle.dl_entry.specs.declared.Commit.{Commit}
+use Rattle.spec_isa.specs.declared.thread.Parts.{Parts}
+use Rattle.spec_isa.specs.Threads.{started}
+use Rattle.spec_log.specs.Log.{IsChunkSize}
+use Rattle.spec_protocol.specs.Machine.{RoleSetup, IsPlain, IsRecorded, IsReplayed, SphereSetup, sphere_of, role_of as role_at}
+use Rattle.spec_protocol.specs.Sound.{IsRole}
+use Rattle.spec_protocol.proofs.FollowingAll.{start-stands}
+use Rattle.spec_protocol.proofs.Growing.{commits_in}
+use Rattle.dl_sphere.specs.Inside.{sphere_with}
+use Rattle.dl_sphere.specs.Roles.{Keeping, role_of, AreKept, IsStanding}
+use Rattle.dl_sphere.specs.Standing.{Standing}
+use Rattle.dl_sphere.specs.Starting.{keeping_at}
+
+no-commits : (entry k : ℕ) → commits_in (started entry ∷ []) k ≡ 0
+no-commits entry zero = refl
+no-commits entry (suc k) = refl
+
+zeros : (n k : ℕ) → let none : ℕ = 0 in get_or (replicate n none) k none ≡ none
+zeros zero k = refl
+zeros (suc n) zero = refl
+zeros (suc n) (suc k) = zeros n k
+
+no-more : (entry k : ℕ) → commits_in (started entry ∷ []) k ≤ 0
+no-more entry k = let e = no-commits entry k in omega arith
+
+none-done : (entry k : ℕ) → slice_index (let none : ℕ = 0 in replicate 15 none) k ≡ commits_in (started entry ∷ []) k
+none-done entry zero = refl
+none-done entry (suc k) = zeros 14 k
+
+start_role : (s entry : ℕ) (role : RoleSetup) → role_of (keeping_at entry s role) ≡ role_at s (started entry ∷ []) role
+start_role s entry IsPlain = refl
+start_role s entry (IsRecorded mode) = refl
+start_role s entry (IsReplayed log) = refl
+
+start_kept : (s entry : ℕ) (m : List ℕ) (role : RoleSetup) → IsRole role → AreKept s (sphere_with m (started entry ∷ []) [] None None (role_of (keeping_at entry s role))) (keeping_at entry s role)
+start_kept s entry m IsPlain is = record { few = no-more entry }
+start_kept s entry m (IsRecorded mode) is =
+    record {
+      few = record { few = no-more entry };
+      s = refl;
+      all = refl;
+      done = none-done entry;
+      stands = start-stands s (record { memory = m; entry = entry; role = IsRecorded mode }) mode;
+    }
+start_kept s entry m (IsReplayed log) is =
+    record { is_log = is; agrees = record { done = refl; last = refl }; commits = refl }
+
+-- a sphere of these parts is at the start of its setup
+pub record Starts (s : ℕ) (setup : SphereSetup) (m : List ℕ) (ts : List Parts) (cs : List Commit) (x : Keeping) : Type 0 where
+  pub memory : m ≡ setup.memory
+  pub threads : ts ≡ started setup.entry ∷ []
+  pub commits : cs ≡ []
+  pub kept : x ≡ keeping_at setup.entry s setup.role
+
+pub start_standing : (s : ℕ) (setup : SphereSetup) (m : List ℕ) (ts : List Parts) (cs : List Commit) (x : Keeping) → IsChunkSize s → IsRole setup.role → Starts s setup m ts cs x
+    → IsStanding s (sphere_with m ts cs None None (role_of x)) x
+start_standing s setup m ts cs x size is h =
+    rw (h.threads, h.commits, h.kept)
+    (record { size = size; threads = omega arith; kept = start_kept s setup.entry m setup.role is })
+
+pub start_seen : (s : ℕ) (setup : SphereSetup) (m : List ℕ) (ts : List Parts) (cs : List Commit) (x : Keeping) → Starts s setup m ts cs x
+    → let v : Standing = record { standard = s; sphere = sphere_with m ts cs None None (role_of x) } in v ≡ record { standard = s; sphere = sphere_of s setup }
+start_seen s setup m ts cs x h =
+    rw (h.memory, h.threads, h.commits, h.kept, start_role s setup.entry setup.role) refl

@@ -1,0 +1,40 @@
+-- What the kernel's calls take of the devices is what the definitions take.
+use Rattle.std.proofs.Common.{◌≡◌, ◌≤◌, ℕ, length, Bor, List, Option, Some, None, refl}
+use Rattle.std.specs.Prelude.{IfSome}
+use Rattle.std.specs.Option.{option_copied}
+use Rattle.dl_entry.specs.declared.Input.{Input}
+use Rattle.spec_isa.specs.declared.thread.Parts.{Parts}
+use Rattle.spec_isa.specs.Words.{IsBytes}
+use Rattle.spec_kernel.specs.Devices.{Devices}
+use Rattle.spec_kernel.specs.Needs.{Need, need}
+use Rattle.spec_kernel.specs.Answers.{taken}
+use Rattle.spec_log.specs.Log.{IsInput}
+use Rattle.spec_protocol.specs.Sound.{HaveByteInput}
+use Rattle.spec_protocol.specs.Notable.{IsInputIf}
+use Rattle.spec_protocol.proofs.SoundDevices.{taken-sound}
+use Rattle.dl_kernel.specs.Outside.{record_left, devices_left}
+
+pub record_taken : (moment : ℕ) (d : Devices) (n : Option Need) → record_left moment d n ≡ (taken n d moment).input
+record_taken moment d None = refl
+record_taken moment d (Some n) = refl
+
+pub devices_taken : (moment : ℕ) (d : Devices) (n : Option Need) → devices_left moment d n ≡ (taken n d moment).devices
+devices_taken moment d None = refl
+devices_taken moment d (Some n) = refl
+
+input-if : (o : Option Input) → IsInputIf o → IfSome o IsInput
+input-if None h = tt
+input-if (Some i) h = h
+
+-- the record is an input of a log
+pub input_taken : (t : Parts) (m : List ℕ) (d : Devices) (moment : ℕ) → IsBytes m → HaveByteInput d → IfSome (taken (need t m) d moment).input IsInput
+input_taken t m d moment bytes h = input-if (taken (need t m) d moment).input (taken-sound t m d moment bytes h).input
+
+-- a fact of a record that is looked at through a reference
+pub if_copied : (P : Input → Type 0) (o : Option (Bor Input)) → IfSome (option_copied o) P → IfSome o (λ r. P r.now)
+if_copied P None h = tt
+if_copied P (Some r) h = h
+
+pub few_bytes : (o : Option Input) → IfSome o IsInput → IfSome o (λ r. length r.bytes ≤ 4096)
+few_bytes None h = tt
+few_bytes (Some r) h = h.2.0

@@ -1,0 +1,195 @@
+use Rattle.std.proofs.Common.{◌≡◌, ◌+◌, ◌^◌, ◌<◌, ◌≤◌, Bool, false, [], length, Some, None, sym, ap, ◌∙◌, subst, refl, set, length-set, append-nil, arith}
+use Rattle.std.specs.Prelude.{slice_get}
+use Rattle.spec_isa.specs.declared.thread.Parts.{Parts}
+use Rattle.dl_entry.specs.declared.Commit.{Commit}
+use Rattle.spec_log.specs.Log.{IsLog}
+use Rattle.spec_play.specs.Effects.{Effect}
+use Rattle.spec_play.specs.Progress.{Used}
+use Rattle.spec_play.specs.Verdicts.{Goes, chunk_verdict}
+use Rattle.spec_protocol.specs.Asking.{is_short}
+use Rattle.spec_protocol.specs.Commits.{Diverged, is_piece, joined, chunk_moved}
+use Rattle.spec_protocol.specs.Spheres.{Book, Replay, Sphere}
+use Rattle.dl_replay.specs.Replaying.{Replaying, book_of, commits_of}
+use Rattle.dl_sphere.specs.declared.part.Part.{Part}
+use Rattle.dl_sphere.specs.Moving.{IsPart, IsPartIn}
+use Rattle.dl_sphere.specs.Replayed.{before}
+use Rattle.spec_protocol.proofs.Growing.{pushed_length}
+use Rattle.dl_sphere.specs.Roles.{keeping_of, role_in, IsReplayed, IsStanding}
+use Rattle.dl_sphere.specs.Inside.{sphere_in, sphere_with}
+use Rattle.dl_sphere.specs.Standing.{Standing}
+use Rattle.dl_sphere.proofs.Keeps.{Commits, commits_stand}
+use Rattle.dl_sphere.proofs.Comes.{granted, left, left_commits, stands_granted, stands_left}
+use Rattle.dl_sphere.proofs.Judges.{chunk_words, same_commits}
+use Rattle.dl_sphere.proofs.Limits.{replayed, stands_replayed, live_part, part-fits}
+use Rattle.dl_sphere.proofs.sphere.Sphere.commit_chunk.Goals as goal
+
+pub invariant_of-self-2 : goal.invariant_of-self-2
+invariant_of-self-2 g c =
+    let a = c.self.inside in
+    let k = c.args.thread in
+    let t = c.thread_at-after.result in
+    let u = c.counted-after.result in
+    let commit = c.in_ok-commit.commit in
+    let h = c.self.invariant in
+    let q : Sphere = sphere_with a.memory c.set.new.self c.keep.new.commits.items (Some k) a.request (role_in c.keep.new.part) in
+    let start : slice_get c.args.self.now.sphere.threads k ≡ Some t =
+    sym (ap (λ (v : Standing). slice_get v.sphere.threads k) c.self.view_is) ∙ c.thread_at-after.ensures.value
+    in
+    let d : Commits (sphere_in a) q k t u [] commit =
+    record {
+      start = c.thread_at-after.ensures.value;
+      within = c.thread_at-after.ensures.few;
+      threads = c.set.ensures ∙ sym (append-nil (set a.threads k u));
+      few =
+          let n : length c.set.new.self ≡ length a.threads = ap length c.set.ensures ∙ length-set a.threads k u in
+          let m = h.threads in
+          omega arith;
+      commits =
+          ap (λ (v : Parts). v.commits) (c.counted-after.ensures)
+          ∙ ap (λ (v : Parts). v.commits + 1) c.state.ensures
+          ∙ ap (λ n. n + 1) (c.requires.1.1.0.commits t start);
+      new = tt;
+      position_ = ap length c.in_ok-keep.ensures.commits ∙ pushed_length a.commits.items commit (length a.commits.items) refl;
+      actor = ap (λ (v : Commit). v.actor) c.in_ok-commit.ensures;
+    }
+    in
+    subst (IsStanding a.standard q) (sym c.in_ok-keep.ensures.noted)
+    (commits_stand (sphere_in a) q k t u [] commit a.standard c.is_short-short.result None (keeping_of a.part) (live_part a.part c.in_default.not-Replayed) d h)
+
+pub invariant_of-self-then-is_piece : goal.invariant_of-self-then-is_piece
+invariant_of-self-then-is_piece g c =
+    let a = c.self.inside in
+    let k = c.args.thread in
+    let r = c.in-Replayed.replay in
+    let t = c.thread_at-after.result in
+    let s = c.state-state.result.now in
+    let h = c.self.invariant in
+    let kept : IsReplayed (sphere_in a) r.player = replayed a r c.in-Replayed.is h in
+    let e = c.in_ok-commit_piece.ensures in
+    let start : slice_get c.args.self.now.sphere.threads k ≡ Some t =
+    sym (ap (λ (v : Standing). slice_get v.sphere.threads k) c.self.view_is) ∙ c.thread_at-after.ensures.value
+    in
+    let same : s.commits ≡ t.commits = ap (λ (v : Parts). v.commits) c.state-state.ensures ∙ c.requires.1.1.0.commits t start in
+    record {
+      size = h.size;
+      threads =
+          let n : length c.commit_piece.new.threads ≡ length a.threads = ap length e.threads ∙ length-set a.threads k s in
+          let m = h.threads in
+          omega (arith, n, m);
+      kept = record {
+        is_log = subst (λ (x : Replaying). IsLog x.log) (sym e.replay) kept.is_log;
+        agrees = record {
+          done = kept.agrees.done ∙ sym (ap (λ (x : Replaying). x.done) e.replay);
+          last = kept.agrees.last ∙ sym (ap (λ (x : Replaying). x.last) e.replay);
+        };
+        commits =
+            ap (λ (x : Replaying). x.commits) e.replay
+            ∙ kept.commits
+            ∙ sym (same_commits a.threads k s t c.thread_at-after.ensures.value same)
+            ∙ sym (ap commits_of e.threads);
+      };
+    }
+
+pub commit_last-requires-clause-few : goal.commit_last-requires-clause-few
+commit_last-requires-clause-few g c =
+    let a = c.self.inside in
+    let k = c.args.thread in
+    let r = c.in-Replayed.replay in
+    let ch = c.args.chunk.now.chunk in
+    let kept : IsReplayed (sphere_in a) r.player = replayed a r c.in-Replayed.is c.self.invariant in
+    let here : IsPartIn (role_in a.part) k g.how ch = subst (λ (v : Standing). IsPartIn v.sphere.role k g.how ch) (sym c.self.view_is) c.requires.1.1.0.part in
+    let part : IsPart (book_of r.player r.loads.items) k g.how ch = subst (λ (x : Part). IsPartIn (role_in x) k g.how ch) c.in-Replayed.is here in
+    part-fits (book_of r.player r.loads.items) k ch.done.n ch.done.thread kept.is_log part.room (subst (λ n. ch.done.n ≤ n) part.limit part.most)
+
+pub invariant_of-self-in-Some : goal.invariant_of-self-in-Some
+invariant_of-self-in-Some g c =
+    let a = c.self.inside in
+    let k = c.args.thread in
+    let r = c.in-Replayed.replay in
+    let b : Book = book_of r.player r.loads.items in
+    let kept : IsReplayed (sphere_in a) r.player = replayed a r c.in-Replayed.is c.self.invariant in
+    let said = rw c.in-Some.is at (c.in_ok-left.ensures.judged (sphere_in a).progress kept.agrees refl) in
+    let n = c.commit_last.new in
+    stands_left a.standard a.memory a.threads a.commits.items a.last a.request (role_in a.part) (role_in (Part.Replayed n.replay)) r.player r.loads.items k
+    (chunk_verdict b.log (sphere_in a).progress b.used k (joined b c.args.chunk.now.chunk.done)) c.in-Some.why n.replay.player n.replay.loads.items n.threads n.request n.commits.items said
+    (stands_replayed a r c.in-Replayed.is c.self.invariant)
+
+pub invariant_of-self-in-Replayed : goal.invariant_of-self-in-Replayed
+invariant_of-self-in-Replayed g c =
+    let a = c.self.inside in
+    let k = c.args.thread in
+    let r = c.in-Replayed.replay in
+    let b : Book = book_of r.player r.loads.items in
+    let kept : IsReplayed (sphere_in a) r.player = replayed a r c.in-Replayed.is c.self.invariant in
+    let said = rw c.in_default-left.is at (c.in_ok-left.ensures.judged (sphere_in a).progress kept.agrees refl) in
+    let n = c.commit_last.new in
+    stands_granted a.standard a.memory a.threads a.commits.items a.last a.request (role_in a.part) (role_in (Part.Replayed n.replay)) r.player r.loads.items k
+    (chunk_verdict b.log (sphere_in a).progress b.used k (joined b c.args.chunk.now.chunk.done)) n.replay.player n.replay.loads.items n.threads n.request n.commits.items
+    (subst (λ x. x ≤ 15) c.len.ensures.value c.len.ensures.few) said (stands_replayed a r c.in-Replayed.is c.self.invariant)
+
+pub returns-in-Replayed-clause-ok : goal.returns-in-Replayed-clause-ok
+unfolding chunk_moved
+returns-in-Replayed-clause-ok g c d =
+    let a = c.self.inside in
+    let k = c.args.thread in
+    let how = g.how in
+    let ch = c.args.chunk.now.chunk in
+    let run = ch.done in
+    let r = c.in-Replayed.replay in
+    let b : Book = book_of r.player r.loads.items in
+    let p = (sphere_in a).progress in
+    let kept : IsReplayed (sphere_in a) r.player = replayed a r c.in-Replayed.is c.self.invariant in
+    let said = rw c.in_default-left.is at (c.in_ok-left.ensures.judged p kept.agrees refl) in
+    let n = c.commit_last.new in
+    let v = chunk_verdict b.log p b.used k (joined b run) in
+    let words : (e : Effect) (u : Used) → v ≡ Goes e u → e.words ≡ c.in_ok-words.words.words =
+    λ e u is. chunk_words b.log p b.used k (joined b run) e u is ∙ sym (c.in_ok-words.ensures ∙ c.words.ensures.words)
+    in
+    let short : Bool = is_short a.standard how ch.limit in
+    let whole : false ≡ is_piece how = sym c.if-is_piece.false ∙ c.is_piece.ensures how c.requires.1.1.0.closed in
+    granted a.memory a.threads a.commits.items a.last a.request r.player r.loads.items k v d n.replay.player n.replay.loads.items n.threads n.request n.commits.items c.in_ok-words.words.words words said
+    ∙ ap (λ (x : Bool). chunk_moved k x short run d (sphere_with a.memory a.threads a.commits.items a.last a.request (Replay b))) whole
+    ∙ ap (λ (x : Part). chunk_moved k (is_piece how) short run d (sphere_with a.memory a.threads a.commits.items a.last a.request (role_in x))) (sym c.in-Replayed.is)
+    ∙ ap (λ (x : Standing). chunk_moved k (is_piece how) (is_short x.standard how ch.limit) run d x.sphere) c.self.view_is
+
+pub count-requires : goal.count-requires
+count-requires g c =
+    let a = c.self.inside in
+    let k = c.args.thread in
+    let r = c.in-Replayed.replay in
+    let b : Book = book_of r.player r.loads.items in
+    let p = (sphere_in a).progress in
+    let kept : IsReplayed (sphere_in a) r.player = replayed a r c.in-Replayed.is c.self.invariant in
+    let said = rw c.in-Some.is at (c.in_ok-left.ensures.judged p kept.agrees refl) in
+    let n = c.commit_last.new in
+    let v = chunk_verdict b.log p b.used k (joined b c.args.chunk.now.chunk.done) in
+    let same : length n.commits.items ≡ length a.commits.items = left_commits p k (before r a.threads a.request a.commits.items) v c.in-Some.why n.replay.player n.replay.loads.items n.threads n.request n.commits.items said in
+    let few : length a.commits.items < 2 ^ 24 =
+    subst (λ n. n < 2 ^ 24) (sym (ap (λ (s : Standing). length s.sphere.progress.commits) c.self.view_is)) c.requires.1.1.1.0
+    in
+    let here : length c.deref.result.now ≡ length n.commits.items = ap length c.deref.ensures.value in
+    omega (arith, same, few, here)
+
+pub returns-in-Some-clause-ok : goal.returns-in-Some-clause-ok
+unfolding chunk_moved
+returns-in-Some-clause-ok g c d =
+    let a = c.self.inside in
+    let k = c.args.thread in
+    let r = c.in-Replayed.replay in
+    let b : Book = book_of r.player r.loads.items in
+    let p = (sphere_in a).progress in
+    let kept : IsReplayed (sphere_in a) r.player = replayed a r c.in-Replayed.is c.self.invariant in
+    let said = rw c.in-Some.is at (c.in_ok-left.ensures.judged p kept.agrees refl) in
+    let n = c.commit_last.new in
+    let how = g.how in
+    let ch = c.args.chunk.now.chunk in
+    let run = ch.done in
+    let v = chunk_verdict b.log p b.used k (joined b run) in
+    let short : Bool = is_short a.standard how ch.limit in
+    let whole : false ≡ is_piece how = sym c.if-is_piece.false ∙ c.is_piece.ensures how c.requires.1.1.0.closed in
+    let len : c.count.result ≡ length n.commits.items = c.count.ensures ∙ ap length c.deref.ensures.value in
+    ap (λ m. record { outcome = Diverged m c.in-Some.why; sphere = sphere_with a.memory n.threads n.commits.items a.last n.request (Replay (book_of n.replay.player n.replay.loads.items)); words = []; devices = d }) len
+    ∙ left a.memory a.threads a.commits.items a.last a.request r.player r.loads.items k v d c.in-Some.why n.replay.player n.replay.loads.items n.threads n.request n.commits.items kept.agrees.done said
+    ∙ ap (λ (x : Bool). chunk_moved k x short run d (sphere_with a.memory a.threads a.commits.items a.last a.request (Replay b))) whole
+    ∙ ap (λ (x : Part). chunk_moved k (is_piece how) short run d (sphere_with a.memory a.threads a.commits.items a.last a.request (role_in x))) (sym c.in-Replayed.is)
+    ∙ ap (λ (x : Standing). chunk_moved k (is_piece how) (is_short x.standard how ch.limit) run d x.sphere) c.self.view_is

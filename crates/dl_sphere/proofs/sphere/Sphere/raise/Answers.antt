@@ -1,0 +1,58 @@
+use Rattle.std.proofs.Common.{◌≡◌, ◌∙◌, Some, true, sym, ap, subst, refl, set, List}
+use Rattle.std.specs.Prelude.{slice_get}
+use Rattle.spec_isa.specs.declared.thread.Parts.{Parts}
+use Rattle.spec_kernel.specs.Interrupts.{interrupted}
+use Rattle.spec_protocol.specs.Spheres.{Sphere, Role}
+use Rattle.spec_protocol.specs.Commits.{raised, role_raised}
+use Rattle.spec_protocol.specs.Placing.{replays}
+use Rattle.dl_sphere.specs.Roles.{keeping_of, role_in, role_of, with_raised, CanRaise, IsLive, IsStanding}
+use Rattle.dl_sphere.specs.Inside.{sphere_in, sphere_with}
+use Rattle.dl_sphere.specs.Standing.{Standing}
+use Rattle.dl_sphere.proofs.Keeps.{can_raise, raised_stand, raised_role}
+use Rattle.dl_sphere.proofs.Limits.{live_role}
+use Rattle.dl_sphere.proofs.sphere.Sphere.raise.Goals as goal
+
+pub note_interrupt-requires-clause-fresh : goal.note_interrupt-requires-clause-fresh
+note_interrupt-requires-clause-fresh c =
+    let a = c.self.inside in
+    let k = c.args.thread in
+    let t = c.thread_at-found.result in
+    let start : slice_get c.args.self.now.sphere.threads k ≡ Some t =
+    sym (ap (λ (v : Standing). slice_get v.sphere.threads k) c.self.view_is) ∙ c.thread_at-found.ensures.value
+    in
+    subst (λ n. CanRaise k n (keeping_of a.part)) (sym c.commits.ensures)
+    (can_raise (sphere_in a) k t a.standard (keeping_of a.part) c.thread_at-found.ensures.value (c.requires.there t start) c.self.invariant)
+
+pub invariant_of-self-2 : goal.invariant_of-self-2
+invariant_of-self-2 c =
+    let a = c.self.inside in
+    let k = c.args.thread in
+    let t = c.thread_at-found.result in
+    let q : Sphere = sphere_with a.memory c.set.new.self a.commits.items a.last a.request (role_in c.note_interrupt.new.part) in
+    let start : slice_get c.args.self.now.sphere.threads k ≡ Some t =
+    sym (ap (λ (v : Standing). slice_get v.sphere.threads k) c.self.view_is) ∙ c.thread_at-found.ensures.value
+    in
+    let live : IsLive (keeping_of a.part) = live_role (keeping_of a.part) (ap (λ (v : Standing). replays v.sphere.role) c.self.view_is ∙ c.requires.recorded) in
+    let noted = c.in_ok-note_interrupt.ensures.noted ∙ ap (λ n. with_raised k n c.args.value (keeping_of a.part)) c.commits.ensures in
+    subst (IsStanding a.standard q) (sym noted)
+    (raised_stand (sphere_in a) q k c.args.value t a.standard (keeping_of a.part) c.thread_at-found.ensures.value (c.requires.there t start) (c.set.ensures ∙ ap (set a.threads k) c.interrupted.ensures) refl live c.self.invariant)
+
+pub returns-clause-ok : goal.returns-clause-ok
+unfolding raised
+returns-clause-ok c =
+    λ (t : Parts) is.
+    let a = c.self.inside in
+    let k = c.args.thread in
+    let v = c.args.value in
+    let x = c.thread_at-found.result in
+    let start : slice_get c.args.self.now.sphere.threads k ≡ Some x =
+    sym (ap (λ (s : Standing). slice_get s.sphere.threads k) c.self.view_is) ∙ c.thread_at-found.ensures.value
+    in
+    let same : x ≡ t = (let e : Some x ≡ Some t = sym start ∙ is in cc) in
+    let made : List Parts → Role → Sphere = λ us role. sphere_with a.memory us a.commits.items a.last a.request role in
+    let threads : c.set.new.self ≡ set a.threads k (interrupted v t) = c.set.ensures ∙ ap (set a.threads k) (c.interrupted.ensures ∙ ap (interrupted v) same) in
+    let role : role_in c.note_interrupt.new.part ≡ role_raised k t.commits v (role_in a.part) =
+    ap role_of (c.in_ok-note_interrupt.ensures.noted ∙ ap (λ n. with_raised k n v (keeping_of a.part)) (c.commits.ensures ∙ ap (λ (y : Parts). y.commits) same))
+    ∙ raised_role k t.commits v (keeping_of a.part)
+    in
+    ap (λ us. made us (role_in c.note_interrupt.new.part)) threads ∙ ap (made (set a.threads k (interrupted v t))) role ∙ ap (λ (s : Standing). raised k v t s.sphere) c.self.view_is

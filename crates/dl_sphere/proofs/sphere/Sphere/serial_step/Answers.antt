@@ -1,0 +1,211 @@
+use Rattle.std.proofs.Common.{◌≡◌, ◌<◌, ◌^◌, ◌+◌, ◌≤◌, false, [], ◌∷◌, ◌++◌, List, length, Option, Some, None, refl, sym, ap, ◌∙◌, subst, set, arith}
+use Rattle.std.specs.Prelude.{slice_get}
+use Rattle.dl_entry.specs.declared.Commit.{Commit}
+use Rattle.dl_entry.specs.declared.Request.{Request}
+use Rattle.spec_isa.specs.declared.thread.Parts.{Parts}
+use Rattle.spec_isa.specs.Words.{Stored}
+use Rattle.spec_kernel.specs.Devices.{Devices}
+use Rattle.spec_kernel.specs.Needs.{need}
+use Rattle.spec_kernel.specs.Answers.{taken}
+use Rattle.spec_kernel.specs.Serving.{serve}
+use Rattle.spec_play.specs.Effects.{Effect, counted, serial_commit}
+use Rattle.spec_play.specs.Progress.{Used}
+use Rattle.spec_play.specs.Verdicts.{Goes, serial_verdict}
+use Rattle.spec_protocol.specs.Spheres.{Replay, Sphere, Role}
+use Rattle.dl_replay.specs.Replaying.{book_of}
+use Rattle.dl_sphere.specs.declared.part.Part.{Part}
+use Rattle.dl_sphere.specs.Replayed.{before}
+use Rattle.spec_protocol.specs.Commits.{Diverged, Granted, Moved, serial_moved}
+use Rattle.spec_protocol.proofs.Growing.{commits_if, pushed_length}
+use Rattle.spec_protocol.proofs.Keeping.{serve-keeps}
+use Rattle.dl_kernel.specs.Calls.{made_list}
+use Rattle.dl_sphere.specs.Roles.{keeping_of, role_in, role_of, with_noted, IsReplayed, IsStanding}
+use Rattle.dl_sphere.specs.Inside.{sphere_in, sphere_with}
+use Rattle.dl_sphere.specs.Standing.{Standing}
+use Rattle.dl_sphere.proofs.Keeps.{Commits, commits_stand, threads_few}
+use Rattle.dl_sphere.proofs.Comes.{granted, goes_words, left, left_commits, stands_granted, stands_left}
+use Rattle.dl_sphere.proofs.Limits.{few_live, live_part, replayed, stands_replayed}
+use Rattle.dl_sphere.proofs.Steps.{step_is_moved}
+use Rattle.dl_sphere.proofs.sphere.Sphere.serial_step.Goals as goal
+
+pub counted-after-requires : goal.counted-after-requires
+counted-after-requires c =
+    let a = c.self.inside in
+    let k = c.args.thread in
+    let t = c.thread_at-found.result in
+    let g = taken (need t a.memory) c.args.devices.now c.args.moment in
+    let keeps = serve-keeps k a.threads a.request t a.memory g.input in
+    let same : c.in_ok-left.left.thread.commits ≡ t.commits = ap (λ (v : Parts). v.commits) c.in_ok-left.ensures.thread ∙ keeps.commits in
+    let most : t.commits ≤ length a.commits.items = subst (λ n. n ≤ length a.commits.items) (ap commits_if c.thread_at-found.ensures.value) ((few_live a.standard (sphere_in a) (keeping_of a.part) (live_part a.part c.in_default.not-Replayed) c.self.invariant.kept).few k) in
+    let few : length a.commits.items < 2 ^ 24 =
+    subst (λ n. n < 2 ^ 24) (sym (ap (λ (v : Standing). length v.sphere.progress.commits) c.self.view_is)) c.requires.few
+    in
+    omega arith
+
+pub invariant_of-self-2 : goal.invariant_of-self-2
+invariant_of-self-2 c =
+    let a = c.self.inside in
+    let k = c.args.thread in
+    let t = c.thread_at-found.result in
+    let g = taken (need t a.memory) c.args.devices.now c.args.moment in
+    let v = serve k a.threads a.request t a.memory g.input in
+    let keeps = serve-keeps k a.threads a.request t a.memory g.input in
+    let u = c.counted-after.result in
+    let left = c.in_ok-left.left in
+    let commit : Commit = serial_commit k v.loads v.outputs in
+    let h = c.self.invariant in
+    let q : Sphere = sphere_with a.memory c.settle.new.threads c.live_step.new.commits.items (Some k) left.request (role_in c.live_step.new.part) in
+    let threads : c.settle.new.threads ≡ set a.threads k u ++ v.made = c.settle.ensures ∙ ap (λ made. set a.threads k u ++ made) c.in_ok-left.ensures.made in
+    let d : Commits (sphere_in a) q k t u v.made commit =
+    record {
+      start = c.thread_at-found.ensures.value;
+      within = c.thread_at-found.ensures.few;
+      threads = threads;
+      few = threads_few a.threads k u left.made c.settle.new.threads c.settle.ensures c.in_ok-left.ensures.room h.threads;
+      commits =
+          ap (λ (x : Parts). x.commits) c.counted-after.ensures
+          ∙ ap (λ (x : Parts). x.commits + 1) c.in_ok-left.ensures.thread
+          ∙ ap (λ n. n + 1) keeps.commits;
+      new = keeps.fresh;
+      position_ = ap length c.in_ok-left.ensures.commits ∙ pushed_length a.commits.items commit (length a.commits.items) refl;
+      actor = refl;
+    }
+    in
+    subst (IsStanding a.standard q) (sym c.in_ok-left.ensures.noted)
+    (commits_stand (sphere_in a) q k t u v.made commit a.standard false g.input (keeping_of a.part) (live_part a.part c.in_default.not-Replayed) d h)
+
+pub returns-clause-ok : goal.returns-clause-ok
+returns-clause-ok c =
+    λ (t : Parts) is.
+    let a = c.self.inside in
+    let k = c.args.thread in
+    let moment = c.args.moment in
+    let d = c.args.devices.now in
+    let x = c.thread_at-found.result in
+    let start : slice_get c.args.self.now.sphere.threads k ≡ Some x =
+    sym (ap (λ (s : Standing). slice_get s.sphere.threads k) c.self.view_is) ∙ c.thread_at-found.ensures.value
+    in
+    let same : x ≡ t = (let e : Some x ≡ Some t = sym start ∙ is in cc) in
+    let g = taken (need x a.memory) d moment in
+    let v = serve k a.threads a.request x a.memory g.input in
+    let commit : Commit = serial_commit k v.loads v.outputs in
+    let left = c.in_ok-left.left in
+    let l = c.in_ok-left.ensures in
+    let made : List Parts → List Commit → Option Request → Role → List Stored → Devices → Moved =
+    λ us cs rq role ws e. record { outcome = Granted; sphere = sphere_with a.memory us cs (Some k) rq role; words = ws; devices = e }
+    in
+    let threads : c.settle.new.threads ≡ set a.threads k (counted v.thread) ++ v.made =
+    c.settle.ensures ∙ ap (λ u. set a.threads k u ++ made_list left.made) (c.counted-after.ensures ∙ ap counted l.thread) ∙ ap (λ xs. set a.threads k (counted v.thread) ++ xs) l.made
+    in
+    let role : role_in c.live_step.new.part ≡ role_of (with_noted commit false g.input None (keeping_of a.part)) = ap role_of l.noted in
+    ap (λ us. made us c.live_step.new.commits.items left.request (role_in c.live_step.new.part) left.words.words c.live_step.new.devices) threads
+    ∙ ap (λ cs. made (set a.threads k (counted v.thread) ++ v.made) cs left.request (role_in c.live_step.new.part) left.words.words c.live_step.new.devices) l.commits
+    ∙ ap (λ rq. made (set a.threads k (counted v.thread) ++ v.made) (a.commits.items ++ commit ∷ []) rq (role_in c.live_step.new.part) left.words.words c.live_step.new.devices) l.request
+    ∙ ap (λ r. made (set a.threads k (counted v.thread) ++ v.made) (a.commits.items ++ commit ∷ []) v.request r left.words.words c.live_step.new.devices) role
+    ∙ ap (λ ws. made (set a.threads k (counted v.thread) ++ v.made) (a.commits.items ++ commit ∷ []) v.request (role_of (with_noted commit false g.input None (keeping_of a.part))) ws c.live_step.new.devices) l.words
+    ∙ ap (made (set a.threads k (counted v.thread) ++ v.made) (a.commits.items ++ commit ∷ []) v.request (role_of (with_noted commit false g.input None (keeping_of a.part))) v.words) l.devices
+    ∙ step_is_moved a.standard (keeping_of a.part) a.memory a.threads a.commits.items a.last a.request k moment x d (live_part a.part c.in_default.not-Replayed) c.thread_at-found.ensures.value c.self.invariant.kept
+    ∙ ap (λ (y : Parts). serial_moved k moment y d (sphere_in a)) same
+    ∙ ap (λ (s : Standing). serial_moved k moment t d s.sphere) c.self.view_is
+
+pub invariant_of-self-in-Replayed : goal.invariant_of-self-in-Replayed
+invariant_of-self-in-Replayed c =
+    let a = c.self.inside in
+    let k = c.args.thread in
+    let r = c.in-Replayed.replay in
+    let x = c.thread_at-found.result in
+    let p = (sphere_in a).progress in
+    let v = serial_verdict r.player.log p r.player.used k a.threads x a.memory in
+    let n = c.serve_step.new in
+    let kept : IsReplayed (sphere_in a) r.player = replayed a r c.in-Replayed.is c.self.invariant in
+    let said = rw c.in-Ok.is at (c.in_ok-served.ensures.judged p x kept.agrees refl c.thread_at-found.ensures.value) in
+    stands_granted a.standard a.memory a.threads a.commits.items a.last a.request (role_in a.part) (role_in (Part.Replayed n.replay)) r.player r.loads.items k v
+    n.replay.player n.replay.loads.items n.threads n.request n.commits.items
+    (subst (λ x. x ≤ 15) c.len.ensures.value c.len.ensures.few) (λ i. record (said i) { words = [] }) (stands_replayed a r c.in-Replayed.is c.self.invariant)
+
+pub invariant_of-self-in-Err : goal.invariant_of-self-in-Err
+invariant_of-self-in-Err c =
+    let a = c.self.inside in
+    let k = c.args.thread in
+    let r = c.in-Replayed.replay in
+    let x = c.thread_at-found.result in
+    let p = (sphere_in a).progress in
+    let v = serial_verdict r.player.log p r.player.used k a.threads x a.memory in
+    let n = c.serve_step.new in
+    let kept : IsReplayed (sphere_in a) r.player = replayed a r c.in-Replayed.is c.self.invariant in
+    let said = rw c.in-Err.is at (c.in_ok-served.ensures.judged p x kept.agrees refl c.thread_at-found.ensures.value) in
+    stands_left a.standard a.memory a.threads a.commits.items a.last a.request (role_in a.part) (role_in (Part.Replayed n.replay)) r.player r.loads.items k v
+    c.in-Err.why n.replay.player n.replay.loads.items n.threads n.request n.commits.items (λ i. record (said i) { words = [] }) (stands_replayed a r c.in-Replayed.is c.self.invariant)
+
+pub count-requires : goal.count-requires
+count-requires c =
+    let a = c.self.inside in
+    let k = c.args.thread in
+    let r = c.in-Replayed.replay in
+    let x = c.thread_at-found.result in
+    let p = (sphere_in a).progress in
+    let v = serial_verdict r.player.log p r.player.used k a.threads x a.memory in
+    let n = c.serve_step.new in
+    let kept : IsReplayed (sphere_in a) r.player = replayed a r c.in-Replayed.is c.self.invariant in
+    let said = rw c.in-Err.is at (c.in_ok-served.ensures.judged p x kept.agrees refl c.thread_at-found.ensures.value) in
+    let same : length n.commits.items ≡ length a.commits.items = left_commits p k (before r a.threads a.request a.commits.items) v c.in-Err.why n.replay.player n.replay.loads.items n.threads n.request n.commits.items (λ i. record (said i) { words = [] }) in
+    let few : length a.commits.items < 2 ^ 24 =
+    subst (λ n. n < 2 ^ 24) (sym (ap (λ (s : Standing). length s.sphere.progress.commits) c.self.view_is)) c.requires.few
+    in
+    let here : length c.deref.result.now ≡ length n.commits.items = ap length c.deref.ensures.value in
+    omega (arith, same, few, here)
+
+pub returns-in-Err-clause-ok : goal.returns-in-Err-clause-ok
+unfolding serial_moved
+returns-in-Err-clause-ok c =
+    λ (t : Parts) there.
+    let moment = c.args.moment in
+    let d = c.args.devices.now in
+    let a = c.self.inside in
+    let k = c.args.thread in
+    let r = c.in-Replayed.replay in
+    let x = c.thread_at-found.result in
+    let p = (sphere_in a).progress in
+    let v = serial_verdict r.player.log p r.player.used k a.threads x a.memory in
+    let n = c.serve_step.new in
+    let kept : IsReplayed (sphere_in a) r.player = replayed a r c.in-Replayed.is c.self.invariant in
+    let said = rw c.in-Err.is at (c.in_ok-served.ensures.judged p x kept.agrees refl c.thread_at-found.ensures.value) in
+    let start : slice_get c.args.self.now.sphere.threads k ≡ Some x =
+    sym (ap (λ (s : Standing). slice_get s.sphere.threads k) c.self.view_is) ∙ c.thread_at-found.ensures.value
+    in
+    let same : x ≡ t = (let e : Some x ≡ Some t = sym start ∙ there in cc) in
+    let len : c.count.result ≡ length n.commits.items = c.count.ensures ∙ ap length c.deref.ensures.value in
+    ap (λ m. record { outcome = Diverged m c.in-Err.why; sphere = sphere_with a.memory n.threads n.commits.items a.last n.request (Replay (book_of n.replay.player n.replay.loads.items)); words = []; devices = d }) len
+    ∙ left a.memory a.threads a.commits.items a.last a.request r.player r.loads.items k v d c.in-Err.why n.replay.player n.replay.loads.items n.threads n.request n.commits.items
+    kept.agrees.done (λ i. record (said i) { words = [] })
+    ∙ ap (λ (y : Part). serial_moved k moment x d (sphere_with a.memory a.threads a.commits.items a.last a.request (role_in y))) (sym c.in-Replayed.is)
+    ∙ ap (λ (y : Parts). serial_moved k moment y d (sphere_in a)) same
+    ∙ ap (λ (s : Standing). serial_moved k moment t d s.sphere) c.self.view_is
+
+pub returns-in-Replayed-clause-ok : goal.returns-in-Replayed-clause-ok
+unfolding serial_moved
+returns-in-Replayed-clause-ok c =
+    λ (t : Parts) there.
+    let moment = c.args.moment in
+    let d = c.args.devices.now in
+    let a = c.self.inside in
+    let k = c.args.thread in
+    let r = c.in-Replayed.replay in
+    let x = c.thread_at-found.result in
+    let p = (sphere_in a).progress in
+    let v = serial_verdict r.player.log p r.player.used k a.threads x a.memory in
+    let n = c.serve_step.new in
+    let kept : IsReplayed (sphere_in a) r.player = replayed a r c.in-Replayed.is c.self.invariant in
+    let said = rw c.in-Ok.is at (c.in_ok-served.ensures.judged p x kept.agrees refl c.thread_at-found.ensures.value) in
+    let start : slice_get c.args.self.now.sphere.threads k ≡ Some x =
+    sym (ap (λ (s : Standing). slice_get s.sphere.threads k) c.self.view_is) ∙ c.thread_at-found.ensures.value
+    in
+    let same : x ≡ t = (let e : Some x ≡ Some t = sym start ∙ there in cc) in
+    let words : (e : Effect) (u : Used) → v ≡ Goes e u → e.words ≡ c.in-Ok.words.words =
+    λ e u goes. goes_words p k (before r a.threads a.request a.commits.items) v _ e u said goes
+    in
+    granted a.memory a.threads a.commits.items a.last a.request r.player r.loads.items k v d n.replay.player n.replay.loads.items n.threads n.request n.commits.items c.in-Ok.words.words words
+    (λ i. record (said i) { words = [] })
+    ∙ ap (λ (y : Part). serial_moved k moment x d (sphere_with a.memory a.threads a.commits.items a.last a.request (role_in y))) (sym c.in-Replayed.is)
+    ∙ ap (λ (y : Parts). serial_moved k moment y d (sphere_in a)) same
+    ∙ ap (λ (s : Standing). serial_moved k moment t d s.sphere) c.self.view_is

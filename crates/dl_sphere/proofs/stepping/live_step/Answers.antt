@@ -1,0 +1,45 @@
+use Rattle.std.proofs.Common.{◌≡◌, ◌≤◌, ◌∙◌, length, sym, ap, subst}
+use Rattle.std.specs.Prelude.{IfSome}
+use Rattle.dl_entry.specs.declared.Commit.{Commit}
+use Rattle.spec_kernel.specs.Devices.{Devices}
+use Rattle.spec_kernel.specs.Needs.{need}
+use Rattle.spec_kernel.specs.Answers.{taken}
+use Rattle.spec_kernel.specs.Serving.{Served, serve, console_told}
+use Rattle.spec_log.specs.Log.{IsInput}
+use Rattle.dl_kernel.specs.Served.{served_in}
+use Rattle.dl_kernel.specs.Outside.{devices_left}
+use Rattle.dl_sphere.proofs.Taking.{record_taken, devices_taken, input_taken, if_copied, few_bytes}
+use Rattle.dl_sphere.proofs.stepping.live_step.Goals as goal
+
+pub serve-requires : goal.serve-requires
+serve-requires c =
+    let s = c.args.step.now in
+    let d = c.args.devices.now in
+    let n = need s.thread s.memory.now in
+    let is = c.as_ref.ensures.value ∙ c.in_ok-input.ensures.left ∙ record_taken c.args.moment d n in
+    if_copied (λ r. length r.bytes ≤ 4096) c.as_ref.result
+    (subst (λ o. IfSome o (λ r. length r.bytes ≤ 4096)) (sym is) (few_bytes (taken n d c.args.moment).input (input_taken s.thread s.memory.now d c.args.moment c.requires.bytes c.requires.devices)))
+
+pub note_reserved-requires-clause-input : goal.note_reserved-requires-clause-input
+note_reserved-requires-clause-input c =
+    let s = c.args.step.now in
+    let d = c.args.devices.now in
+    let n = need s.thread s.memory.now in
+    let is = c.as_ref-2.ensures.value ∙ c.in_ok-input.ensures.left ∙ record_taken c.args.moment d n in
+    if_copied IsInput c.as_ref-2.result
+    (subst (λ o. IfSome o IsInput) (sym is) (input_taken s.thread s.memory.now d c.args.moment c.requires.bytes c.requires.devices))
+
+pub returns-clause-devices : goal.returns-clause-devices
+returns-clause-devices c =
+    let s = c.args.step.now in
+    let d = c.args.devices.now in
+    let n = need s.thread s.memory.now in
+    let g = taken n d c.args.moment in
+    let is = c.as_ref.ensures.value ∙ c.in_ok-input.ensures.left ∙ record_taken c.args.moment d n in
+    let served : served_in c.in_ok-served.served ≡ serve s.number s.threads.now s.request s.thread s.memory.now g.input =
+    c.in_ok-served.ensures.served ∙ ap (λ o. serve s.number s.threads.now s.request s.thread s.memory.now o) is
+    in
+    c.in_ok-outside_take.ensures.devices c.args.moment
+    ∙ ap (λ (x : Commit). console_told s.thread s.memory.now x.outputs (devices_left c.args.moment d n)) c.serial_commit-commit.ensures
+    ∙ ap (λ (v : Served). console_told s.thread s.memory.now v.outputs (devices_left c.args.moment d n)) served
+    ∙ ap (λ (e : Devices). console_told s.thread s.memory.now (serve s.number s.threads.now s.request s.thread s.memory.now g.input).outputs e) (devices_taken c.args.moment d n)

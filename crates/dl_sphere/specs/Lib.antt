@@ -1,0 +1,12 @@
+pub mod Standing
+pub mod Recorded
+pub mod Roles
+pub mod Setups
+pub mod Moving
+pub mod Inside
+pub mod Stepping
+pub mod Played
+pub mod Judging
+pub mod Reading
+pub mod Starting
+pub mod Replayed

@@ -1,0 +1,64 @@
+-- What requests come to.
+use Rattle.std.specs.Prelude.{◌≡◌, ℕ, ◌+◌, ◌<◌, ◌≤◌, ◌^◌, true, false, [], length, slice_get, Option, Some, None, All}
+use Rattle.spec_isa.specs.declared.thread.Parts.{Parts}
+use Rattle.spec_engine.specs.declared.answers.How.{How}
+use Rattle.spec_engine.specs.Chunks.{Chunk}
+use Rattle.spec_kernel.specs.Devices.{Devices}
+use Rattle.spec_play.specs.Turns.{Turn, TurnOfDma}
+use Rattle.spec_protocol.specs.Spheres.{Book, Role, Plain, Record, Replay, Sphere, limit_in, whole_limit}
+use Rattle.spec_protocol.specs.Placing.{replays}
+use Rattle.spec_protocol.specs.Asking.{is_short}
+use Rattle.spec_protocol.specs.Commits as commits
+use Rattle.spec_protocol.specs.Commits.{is_piece}
+use Rattle.dl_sphere.specs.declared.moved.DmaSize.{DmaSize}
+use Rattle.dl_sphere.specs.declared.moved.Moved.{Moved}
+
+-- an answer, with the sphere and the devices that it left
+abbrev pub came : Moved → Sphere → Devices → commits.Moved
+came (Moved.Granted words) p d = record { outcome = commits.Granted; sphere = p; words = words.words; devices = d }
+came (Moved.Piece words) p d = record { outcome = commits.Piece; sphere = p; words = words.words; devices = d }
+came (Moved.Diverged i why) p d = record { outcome = commits.Diverged i why; sphere = p; words = []; devices = d }
+
+-- what a size says of the outcome of a DMA, where so many commits are done
+abbrev pub SaysOutcome : DmaSize → (done : ℕ) → Option commits.Moved → Type 0
+SaysOutcome s i None = ⊥
+SaysOutcome (DmaSize.Bytes n) i (Some v) = v.outcome ≡ commits.Granted
+SaysOutcome (DmaSize.Diverged why) i (Some v) = v.outcome ≡ commits.Diverged i why
+
+-- a part of the replayed commit whose turn it is, of thread k: the commit has room for an instruction more than the pieces
+-- before have, the chunk has the limit that its thread has now, below which a piece stays, and the commit isn't empty
+pub record IsPart (b : Book) (k : ℕ) (how : How) (ch : Chunk) : Type 0 where
+  pub turn : b.now ≡ Turn k
+  pub room : b.total < whole_limit b.log k ch.done.thread.commits
+  pub limit : ch.limit ≡ limit_in (Replay b) 0 k ch.done.thread.commits
+  pub most : ch.done.n ≤ ch.limit
+  pub early : is_piece how ≡ true → ch.done.n < ch.limit
+  pub some : 1 ≤ b.total + ch.done.n
+
+-- it is thread k's turn, where the sphere is replayed
+abbrev pub IsTurnOf : (thread : ℕ) → Role → Type 0
+IsTurnOf k Plain = Unit {0}
+IsTurnOf k (Record log) = Unit {0}
+IsTurnOf k (Replay b) = b.now ≡ Turn k
+
+-- it is the turn of a DMA, where the sphere is replayed
+abbrev pub IsTurnOfDma : Role → Type 0
+IsTurnOfDma Plain = Unit {0}
+IsTurnOfDma (Record log) = Unit {0}
+IsTurnOfDma (Replay b) = b.now ≡ TurnOfDma
+
+-- in a replay the chunk is a part of the commit whose turn it is
+abbrev pub IsPartIn : Role → (thread : ℕ) → How → Chunk → Type 0
+IsPartIn Plain k how ch = Unit {0}
+IsPartIn (Record log) k how ch = Unit {0}
+IsPartIn (Replay b) k how ch = IsPart b k how ch
+
+-- a chunk of thread k, closed so, that can be committed: it began from the thread's own number of commits; in a sphere that
+-- isn't replayed it has no more than a standard chunk's instructions; it has some where it is short; and in one that is
+-- replayed it is a part of the commit whose turn it is
+pub record CanCommit (standard : ℕ) (p : Sphere) (k : ℕ) (how : How) (ch : Chunk) : Type 0 where
+  pub closed : ch.closed ≡ Some how
+  pub commits : (t : Parts) → slice_get p.threads k ≡ Some t → ch.done.thread.commits ≡ t.commits
+  pub size : replays p.role ≡ false → ch.done.n ≤ standard
+  pub some : is_short standard how ch.limit ≡ true → 1 ≤ ch.done.n
+  pub part : IsPartIn p.role k how ch

@@ -1,0 +1,35 @@
+-- What a role says of its sphere: how its replay ended, how much of a commit has gone in pieces, and the log so far.
+use Rattle.std.specs.Prelude.{ℕ, Option, Some, None}
+use Rattle.dl_entry.specs.declared.End.{End}
+use Rattle.dl_entry.specs.declared.Request.{Request}
+use Rattle.spec_log.specs.declared.LogParts.{LogParts}
+use Rattle.spec_protocol.specs.Spheres.{Role, Plain, Record, Replay}
+use Rattle.spec_play.specs.Transfers.{DmaGoes}
+use Rattle.spec_protocol.specs.Commits.{Moved}
+use Rattle.dl_replay.specs.Replaying.{end_of}
+use Rattle.dl_replay.specs.Left.{Stores}
+use Rattle.dl_sphere.specs.declared.moved.DmaSize.{DmaSize}
+
+-- how a replay ended, if it did
+abbrev pub end_in : Role → Option End
+end_in Plain = None
+end_in (Record log) = None
+end_in (Replay b) = end_of b.now
+
+-- the instructions of the pieces of a replay's present commit
+abbrev pub pieces_in : Role → ℕ
+pieces_in Plain = 0
+pieces_in (Record log) = 0
+pieces_in (Replay b) = b.total
+
+-- the log of a recording so far
+abbrev pub log_in : Role → Option LogParts
+log_in Plain = None
+log_in (Record log) = Some log
+log_in (Replay b) = None
+
+-- a size is the number of the bytes that a DMA stores behind it
+abbrev pub SaysBytes : DmaSize → Option Request → Option Moved → Type 0
+SaysBytes (DmaSize.Bytes n) request None = ⊥
+SaysBytes (DmaSize.Bytes n) request (Some v) = Stores n request (DmaGoes v.words)
+SaysBytes (DmaSize.Diverged why) request v = Unit {0}

@@ -1,0 +1,127 @@
+//! Commits as accounts tell them.
+ghost use Rattle.std.specs.Prelude.{◌≡◌, ◌+◌, ◌^◌, ◌<◌, ◌++◌, IfOk, OnOk, length, map, Some};
+ghost use Rattle.spec_engine.specs.declared.answers.How.{How};
+ghost use Rattle.spec_play.specs.Effects.{chunk_commit, serial_commit, dma_commit, entry_of};
+ghost use Rattle.spec_protocol.specs.Commits.{is_piece, joined};
+ghost use Rattle.spec_protocol.specs.Spheres.{Book};
+ghost use Rattle.spec_protocol.specs.Asking.{is_short};
+
+use dl_chunk::Chunk;
+use dl_entry::{Actor, Commit, CommitKind, Load, Loads, OutOfMemory, Outputs};
+use dl_sig::Sig;
+use spec_engine::answers::How;
+use std::alloc::Global;
+
+// The commit of a thread's chunk.
+pub(crate) fn chunk_commit<G: Sig>(
+    alloc: Global,
+    thread: u8,
+    chunk: &Chunk<G>,
+) -> Result<Commit, OutOfMemory>
+    ensures { IfOk result (λ c. c ≡ chunk_commit thread chunk.now.chunk.done) }
+{
+    Ok(Commit {
+        actor: Actor::Thread(thread),
+        kind: CommitKind::Chunk,
+        size: chunk.n(),
+        loads: entries(alloc, chunk.loads())?,
+        outputs: Outputs::new(alloc),
+    })
+}
+
+// The commit of a thread's chunk in pieces, of which the loads of the earlier ones are given.
+pub(crate) fn joined_commit<G: Sig>(
+    alloc: Global,
+    thread: u8,
+    size: u32,
+    earlier: &[dl_thread::Load],
+    last: &Chunk<G>,
+) -> Result<Commit, OutOfMemory>
+    ensures { IfOk result (λ c. (b : Book) → b.loads ≡ earlier.now → size ≡ b.total + last.now.chunk.done.n →
+        c ≡ chunk_commit thread (joined b last.now.chunk.done)) }
+{
+    let mut loads = entries(alloc, earlier)?;
+    add_entries(&mut loads, last.loads())?;
+    Ok(Commit {
+        actor: Actor::Thread(thread),
+        kind: CommitKind::Chunk,
+        size,
+        loads,
+        outputs: Outputs::new(alloc),
+    })
+}
+
+// The commit of a thread's serial step.
+pub(crate) fn serial_commit(thread: u8, loads: Loads, outputs: Outputs) -> Commit
+    ensures { result ≡ serial_commit thread loads outputs }
+{
+    Commit {
+        actor: Actor::Thread(thread),
+        kind: CommitKind::Serial,
+        size: 0,
+        loads,
+        outputs,
+    }
+}
+
+// A DMA, which has no size.
+pub(crate) fn dma_commit(alloc: Global) -> Commit
+    ensures { result ≡ dma_commit }
+{
+    Commit {
+        actor: Actor::Dma,
+        kind: CommitKind::Dma,
+        size: 0,
+        loads: Loads::new(alloc),
+        outputs: Outputs::new(alloc),
+    }
+}
+
+fn entries(alloc: Global, loads: &[dl_thread::Load]) -> Result<Loads, OutOfMemory>
+    ensures { IfOk result (λ entries. entries ≡ map entry_of loads.now) }
+{
+    let mut entries = Loads::new(alloc);
+    add_entries(&mut entries, loads)?;
+    Ok(entries)
+}
+
+fn add_entries(entries: &mut Loads, loads: &[dl_thread::Load]) -> Result<(), OutOfMemory>
+    ensures { OnOk result (entries.new ≡ entries.old ++ map entry_of loads.now) }
+{
+    for load in loads {
+        entries.push(Load {
+            address: load.addr,
+            value: load.value,
+        })?;
+    }
+    Ok(())
+}
+
+// How many there are.
+pub(crate) fn count(commits: &[Commit]) -> u32
+    requires { length commits.now < 2 ^ 24 }
+    ensures { result ≡ length commits.now }
+{
+    commits.len() as u32
+}
+
+// Whether the closed chunk was closed before its standard size.
+pub(crate) fn is_short<G: Sig>(standard: u32, chunk: &Chunk<G>) -> bool
+    ensures { (how : How) → chunk.now.chunk.closed ≡ Some how → result ≡ is_short standard how chunk.now.chunk.limit }
+{
+    match chunk.closed() {
+        Some(How::Limit) => chunk.limit() < standard,
+        Some(How::Overflow | How::Cut) => true,
+        Some(How::Serial) | None => false,
+    }
+}
+
+// Whether the closed chunk is a piece of a replayed commit.
+pub(crate) fn is_piece<G: Sig>(chunk: &Chunk<G>) -> bool
+    ensures { (how : How) → chunk.now.chunk.closed ≡ Some how → result ≡ is_piece how }
+{
+    match chunk.closed() {
+        Some(How::Overflow | How::Cut) => true,
+        Some(How::Limit | How::Serial) | None => false,
+    }
+}

@@ -1,0 +1,58 @@
+//! A sphere before its first commit.
+ghost use Rattle.std.specs.Prelude.{◌≡◌, ℕ, IfOk};
+ghost use Rattle.spec_log.specs.Log.{IsChunkSize};
+ghost use Rattle.spec_protocol.specs.Machine.{sphere_of};
+ghost use Rattle.spec_protocol.specs.Sound.{IsImage, IsRole};
+ghost use Rattle.dl_sphere.specs.Roles.{keeping_of};
+ghost use Rattle.dl_sphere.specs.Setups.{role_setup, setup_of};
+ghost use Rattle.dl_sphere.specs.Starting.{keeping_at};
+
+use crate::part::{Part, Replay};
+use crate::player::Player;
+use crate::recording::Recording;
+use crate::setup::{Role, SphereSetup};
+use crate::sphere::Sphere;
+use dl_entry::OutOfMemory;
+use dl_mem::Memory;
+use dl_thread::Threads;
+use std::alloc::Global;
+
+impl Sphere {
+    /// A sphere of this plan, with standard chunks of so many instructions.
+    pub fn new(alloc: Global, setup: &SphereSetup, s: u32) -> Result<Sphere, OutOfMemory>
+        requires { IsChunkSize s }
+        ensures made { IfOk result (λ p. p ≡ record { standard = s; sphere = sphere_of s (setup_of setup.now) }) }
+        ensures image { IfOk result (λ p. IsImage (setup_of setup.now)) }
+    {
+        let image = &setup.image;
+        Ok(Sphere {
+            alloc,
+            standard: s,
+            memory: Memory::new(alloc, image)?,
+            threads: Threads::start(image.entry()),
+            commits: Vec::new(alloc),
+            last: None,
+            request: None,
+            part: part_of(alloc, &setup.role, s)?,
+        })
+    }
+}
+
+// What is kept for a role at first.
+fn part_of(alloc: Global, role: &Role, s: u32) -> Result<Part, OutOfMemory>
+    requires { IsChunkSize s }
+    ensures kept { (entry : ℕ) → IfOk result (λ part. keeping_of part ≡ keeping_at entry s (role_setup role.now)) }
+    ensures role { IfOk result (λ part. IsRole (role_setup role.now)) }
+{
+    match role {
+        Role::Plain => Ok(Part::Plain),
+        Role::Record(mode) => Ok(Part::Recorded(Recording::new(alloc, *mode, s)?)),
+        Role::Replay(log) => {
+            let _ = log.parts();
+            Ok(Part::Replayed(Replay {
+                player: Player::new(alloc, log)?,
+                loads: Vec::new(alloc),
+            }))
+        }
+    }
+}

@@ -1,0 +1,235 @@
+//! The replay of a log in any of the three modes.
+ghost use Rattle.std.specs.Prelude.{◌≡◌, ℕ, List, ◌<◌, ◌≤◌, ◌+◌, [], Some, false, IfOk, OnErr, length, slice_get, slice_index};
+ghost use Rattle.spec_isa.specs.declared.thread.Parts.{Parts};
+ghost use Rattle.spec_isa.specs.declared.thread.Load.{Load};
+ghost use Rattle.dl_entry.specs.declared.Why.{Why};
+ghost use Rattle.spec_isa.specs.Runs.{Run};
+ghost use Rattle.spec_play.specs.Progress.{Progress};
+ghost use Rattle.spec_play.specs.Turns.{Turn, TurnOfDma};
+ghost use Rattle.spec_play.specs.Transfers.{dma_verdict};
+ghost use Rattle.spec_play.specs.Verdicts.{chunk_verdict, serial_verdict};
+ghost use Rattle.spec_protocol.specs.Spheres.{Replay, actor_of, limit_in, limit_of};
+ghost use Rattle.dl_replay.specs.Judged.{HasRun, IsInside, chunk_judged, dma_judged, is_serial_step, serial_judged};
+ghost use Rattle.dl_replay.specs.Judging.{transfer_verdict};
+ghost use Rattle.dl_replay.specs.Left.{SaysSize, nothing_served, served_left, served_stored, verdict_left, verdict_stored};
+ghost use Rattle.dl_replay.specs.Replaying.{Agrees, begun, book_of, commits_of, end_of};
+
+use dl_entry::{Actor, End, OutOfMemory, Request, Why};
+use dl_kernel::Served as Left;
+use dl_mem::Memory;
+use dl_mode::{OrderAndSize, OrderOnly, PicoLog};
+use dl_replay::{Asking, Replayer, Served, Verdict};
+use dl_thread::Threads;
+use dl_wbuf::Buffer;
+use spec_log::{Log, ModeName};
+use std::alloc::Global;
+use std::marker::Model;
+
+#[derive(Drop)]
+pub(crate) enum Players {
+    OrderSize(Replayer<OrderAndSize>),
+    OrderOnly(Replayer<OrderOnly>),
+    Picolog(Replayer<PicoLog>),
+}
+
+// A replayer of one of the modes.
+#[derive(Drop)]
+pub(crate) struct Player {
+    players: Players,
+}
+
+impl Model for Player {
+    ghost use Rattle.dl_replay.specs.Replaying.{Replaying};
+    ghost use Rattle.dl_sphere.specs.Played.{replaying_of};
+
+    ghost Value = { Replaying };
+
+    ghost view = { λ p. replaying_of p.players };
+}
+
+impl Player {
+    // The replay of a log from its first commit on.
+    pub(crate) fn new(alloc: Global, log: &Log) -> Result<Player, OutOfMemory>
+        ensures { (entry : ℕ) → IfOk result (λ player. player ≡ begun log.now entry) }
+    {
+        let players = match log.parts().mode {
+            ModeName::OrderSize => Players::OrderSize(Replayer::new(alloc, log)?),
+            ModeName::OrderOnly => Players::OrderOnly(Replayer::new(alloc, log)?),
+            ModeName::Picolog => Players::Picolog(Replayer::new(alloc, log)?),
+        };
+        Ok(Player { players })
+    }
+
+    pub(crate) fn head(&self) -> Option<Actor>
+        ensures { result ≡ actor_of self.now.now }
+    {
+        match &self.players {
+            Players::OrderSize(replayer) => replayer.head(),
+            Players::OrderOnly(replayer) => replayer.head(),
+            Players::Picolog(replayer) => replayer.head(),
+        }
+    }
+
+    pub(crate) fn ended(&self) -> Option<End>
+        ensures { result ≡ end_of self.now.now }
+    {
+        match &self.players {
+            Players::OrderSize(replayer) => replayer.ended(),
+            Players::OrderOnly(replayer) => replayer.ended(),
+            Players::Picolog(replayer) => replayer.ended(),
+        }
+    }
+
+    pub(crate) fn pieces(&self) -> u32
+        ensures { result ≡ self.now.total }
+    {
+        match &self.players {
+            Players::OrderSize(replayer) => replayer.pieces(),
+            Players::OrderOnly(replayer) => replayer.pieces(),
+            Players::Picolog(replayer) => replayer.pieces(),
+        }
+    }
+
+    pub(crate) fn limit(&self, thread: u8) -> u32
+        ensures { (s : ℕ) (loads : List Load) (threads : List Parts) (t : Parts) →
+            length threads ≤ 15 → self.now.commits ≡ commits_of threads → slice_get threads thread ≡ Some t →
+            result ≡ limit_of s (Replay (book_of self.now loads)) thread t }
+    {
+        match &self.players {
+            Players::OrderSize(replayer) => replayer.limit(thread),
+            Players::OrderOnly(replayer) => replayer.limit(thread),
+            Players::Picolog(replayer) => replayer.limit(thread),
+        }
+    }
+
+    // A piece of the present commit went, of `n` instructions.
+    pub(crate) fn accept_piece(&mut self, thread: u8, n: u32)
+        requires turn { self.old.now ≡ Turn thread }
+        requires some { 1 ≤ n }
+        requires few { n < limit_in (Replay (book_of self.old [])) 0 thread (slice_index self.old.commits thread) }
+        ensures { self.new ≡ record self.old { total = self.old.total + n } }
+    {
+        match &mut self.players {
+            Players::OrderSize(replayer) => replayer.accept_piece(thread, n),
+            Players::OrderOnly(replayer) => replayer.accept_piece(thread, n),
+            Players::Picolog(replayer) => replayer.accept_piece(thread, n),
+        }
+    }
+
+    // Judges the last part of a chunk, which its thread has run.
+    pub(crate) fn end_chunk(
+        &mut self,
+        thread: u8,
+        asking: &Asking,
+        threads: &mut Threads,
+        request: &mut Option<Request>,
+        memory: &Memory,
+        served: &mut Served,
+    ) -> Result<Verdict, OutOfMemory>
+        requires actor { asking.now.actor ≡ Actor.Thread thread }
+        requires chunk { is_serial_step asking.now ≡ false }
+        requires turn { self.old.now ≡ Turn thread }
+        requires thread { thread < length threads.old }
+        requires commits { self.old.commits ≡ commits_of threads.old }
+        requires request { IsInside (length memory.now) request.old }
+        ensures chunk { (p : Progress) (before : List Parts) (r : Run) → Agrees self.old p →
+            p.request ≡ request.old → HasRun before threads.old thread asking.now.total r →
+            let v = chunk_verdict self.old.log p self.old.used thread r in
+            IfOk result (λ verdict. record { verdict = verdict; replay = self.new; threads = threads.new; request = request.new; served = served.new }
+            ≡ chunk_judged self.old p thread before threads.old request.old served.old v) }
+        ensures threads_left { (why : Why) → IfOk result (λ v. v ≡ Verdict.Diverged why → threads.new ≡ threads.old) }
+        ensures replay_still { OnErr result (self.new ≡ self.old) }
+        ensures threads_still { OnErr result (threads.new ≡ threads.old) }
+        ensures request_still { OnErr result (request.new ≡ request.old) }
+    {
+        match &mut self.players {
+            Players::OrderSize(replayer) => {
+                replayer.accept(asking, threads, request, memory, served)
+            }
+            Players::OrderOnly(replayer) => {
+                replayer.accept(asking, threads, request, memory, served)
+            }
+            Players::Picolog(replayer) => replayer.accept(asking, threads, request, memory, served),
+        }
+    }
+
+    // Judges a serial step, and does it.
+    pub(crate) fn serve_step(
+        &mut self,
+        thread: u8,
+        threads: &mut Threads,
+        request: &mut Option<Request>,
+        memory: &Memory,
+    ) -> Result<Result<Left, Why>, OutOfMemory>
+        requires turn { self.old.now ≡ Turn thread }
+        requires thread { thread < length threads.old }
+        requires commits { self.old.commits ≡ commits_of threads.old }
+        ensures judged { (p : Progress) (t : Parts) → Agrees self.old p →
+            p.request ≡ request.old → slice_get threads.old thread ≡ Some t →
+            let v = serial_verdict self.old.log p self.old.used thread threads.old t memory.now in
+            IfOk result (λ r. record { verdict = verdict_left r; replay = self.new; threads = threads.new; request = request.new; served = served_left r }
+            ≡ serial_judged self.old p thread threads.old request.old nothing_served v) }
+        ensures replay_still { OnErr result (self.new ≡ self.old) }
+        ensures threads_still { OnErr result (threads.new ≡ threads.old) }
+        ensures request_still { OnErr result (request.new ≡ request.old) }
+    {
+        match &mut self.players {
+            Players::OrderSize(replayer) => replayer.serve_step(thread, threads, request, memory),
+            Players::OrderOnly(replayer) => replayer.serve_step(thread, threads, request, memory),
+            Players::Picolog(replayer) => replayer.serve_step(thread, threads, request, memory),
+        }
+    }
+
+    // Judges a DMA, and gives the words that it stores.
+    pub(crate) fn serve_dma(
+        &mut self,
+        threads: &Threads,
+        request: &mut Option<Request>,
+        memory: &Memory,
+    ) -> Result<Result<Buffer, Why>, OutOfMemory>
+        requires turn { self.old.now ≡ TurnOfDma }
+        requires commits { self.old.commits ≡ commits_of threads.now }
+        requires request { IsInside (length memory.now) request.old }
+        ensures judged { (p : Progress) → Agrees self.old p → p.request ≡ request.old →
+            let v = dma_verdict self.old.log p self.old.used in
+            IfOk result (λ r. record { verdict = verdict_stored r; replay = self.new; threads = threads.now; request = request.new; served = served_stored r }
+            ≡ dma_judged self.old p threads.now request.old nothing_served v) }
+        ensures replay_still { OnErr result (self.new ≡ self.old) }
+        ensures request_still { OnErr result (request.new ≡ request.old) }
+    {
+        match &mut self.players {
+            Players::OrderSize(replayer) => replayer.serve_dma(threads, request, memory),
+            Players::OrderOnly(replayer) => replayer.serve_dma(threads, request, memory),
+            Players::Picolog(replayer) => replayer.serve_dma(threads, request, memory),
+        }
+    }
+
+    // The words that a DMA would store, or why it diverges.
+    pub(crate) fn dma_words(
+        &self,
+        request: Option<Request>,
+        memory: &Memory,
+    ) -> Result<Result<Buffer, Why>, OutOfMemory>
+        requires { IsInside (length memory.now) request }
+        ensures { (p : Progress) → Agrees self.now p → p.request ≡ request →
+            IfOk result (λ r. transfer_verdict r ≡ dma_verdict self.now.log p self.now.used) }
+    {
+        match &self.players {
+            Players::OrderSize(replayer) => replayer.dma_words(request, memory),
+            Players::OrderOnly(replayer) => replayer.dma_words(request, memory),
+            Players::Picolog(replayer) => replayer.dma_words(request, memory),
+        }
+    }
+
+    // How many bytes a DMA would store, or why it diverges.
+    pub(crate) fn dma_size(&self, request: Option<Request>) -> Result<u32, Why>
+        ensures { (p : Progress) → Agrees self.now p → p.request ≡ request →
+            SaysSize result request (dma_verdict self.now.log p self.now.used) }
+    {
+        match &self.players {
+            Players::OrderSize(replayer) => replayer.dma_size(request),
+            Players::OrderOnly(replayer) => replayer.dma_size(request),
+            Players::Picolog(replayer) => replayer.dma_size(request),
+        }
+    }
+}

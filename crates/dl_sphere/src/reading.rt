@@ -1,0 +1,196 @@
+//! What a sphere tells of itself, and the words of a flight that are laid into its memory.
+ghost use Rattle.std.specs.Prelude.{◌≡◌, ◌<◌, ◌≤◌, ◌⊎◌, true, IfOk, IfSome, IsSome, Some, length, slice_get};
+ghost use Rattle.spec_isa.specs.declared.thread.Parts.{Parts};
+ghost use Rattle.spec_engine.specs.Flights.{IsInside, at, drain};
+ghost use Rattle.spec_kernel.specs.Devices.{Devices};
+ghost use Rattle.spec_play.specs.Progress.{position};
+ghost use Rattle.spec_protocol.specs.Commits.{Moved as Made, dma_moved};
+ghost use Rattle.spec_protocol.specs.Placing.{replays};
+ghost use Rattle.spec_protocol.specs.Sound.{IsSoundRequest};
+ghost use Rattle.spec_protocol.specs.Spheres.{limit_of, head_of, is_stopped, halves, is_in_pieces};
+ghost use Rattle.dl_fly.specs.Slots.{set_slot};
+ghost use Rattle.dl_sphere.specs.Moving.{SaysOutcome};
+ghost use Rattle.dl_sphere.specs.Reading.{end_in, pieces_in, log_in, SaysBytes};
+
+use crate::moved::DmaSize;
+use crate::part::Part;
+use crate::peeking::{live_size, live_words};
+use crate::sphere::Sphere;
+use crate::turning::turn;
+use dl_dev::Devices;
+use dl_entry::{Actor, Commit, End, OutOfMemory, Request};
+use dl_fly::{Drain, Flights};
+use dl_mem::Memory;
+use dl_sig::Sig;
+use dl_thread::Threads;
+use dl_wbuf::Buffer;
+use spec_log::{Log, ModeName};
+
+impl Sphere {
+    /// How many instructions a new chunk of a thread may run.
+    #[tactic(auto, unfolding(spec_protocol::specs::Spheres::limit_of))]
+    pub fn limit(&self, thread: u8) -> u32
+        requires { thread < length self.now.sphere.threads }
+        ensures value { (t : Parts) → slice_get self.now.sphere.threads thread ≡ Some t →
+            result ≡ limit_of self.now.standard self.now.sphere.role thread t }
+        ensures least { 1 ≤ result }
+        ensures most { result ≤ 4096 }
+    {
+        match &self.part {
+            Part::Plain | Part::Recorded(_) => self.standard,
+            Part::Replayed(replay) => replay.player.limit(thread),
+        }
+    }
+
+    /// The actor whose turn it is to commit, where not every one may.
+    #[tactic(auto, unfolding(spec_protocol::specs::Spheres::head_of))]
+    pub fn head(&self) -> Option<Actor>
+        ensures { result ≡ head_of self.now.sphere }
+    {
+        match &self.part {
+            Part::Plain => None,
+            Part::Recorded(recording) => match recording.mode() {
+                ModeName::Picolog => Some(Actor::Thread(turn(self.last, &self.threads)?)),
+                ModeName::OrderSize | ModeName::OrderOnly => None,
+            },
+            Part::Replayed(replay) => replay.player.head(),
+        }
+    }
+
+    /// Whether the replay is complete or has left its log.
+    pub fn stopped(&self) -> bool
+        ensures { result ≡ is_stopped self.now.sphere.role }
+    {
+        self.end().is_some()
+    }
+
+    /// How the replay ended, if it did.
+    pub fn end(&self) -> Option<End>
+        ensures { result ≡ end_in self.now.sphere.role }
+    {
+        match &self.part {
+            Part::Plain | Part::Recorded(_) => None,
+            Part::Replayed(replay) => replay.player.ended(),
+        }
+    }
+
+    pub fn replays(&self) -> bool
+        ensures { result ≡ replays self.now.sphere.role }
+    {
+        match &self.part {
+            Part::Plain | Part::Recorded(_) => false,
+            Part::Replayed(_) => true,
+        }
+    }
+
+    /// Whether squashes halve a chunk's limit.
+    pub fn halves(&self) -> bool
+        ensures { result ≡ halves self.now.sphere.role }
+    {
+        match &self.part {
+            Part::Plain | Part::Replayed(_) => false,
+            Part::Recorded(_) => true,
+        }
+    }
+
+    /// The instructions of the pieces of a replay's present commit.
+    pub fn pieces(&self) -> u32
+        ensures { result ≡ pieces_in self.now.sphere.role }
+    {
+        match &self.part {
+            Part::Plain | Part::Recorded(_) => 0,
+            Part::Replayed(replay) => replay.player.pieces(),
+        }
+    }
+
+    /// Whether the present commit has pieces already.
+    pub fn in_pieces(&self) -> bool
+        ensures { result ≡ is_in_pieces self.now.sphere.role }
+    {
+        self.pieces() > 0
+    }
+
+    pub fn threads(&self) -> &Threads
+        ensures { result.now ≡ self.now.sphere.threads }
+    {
+        &self.threads
+    }
+
+    /// The outstanding DMA request.
+    pub fn request(&self) -> Option<Request>
+        ensures { result ≡ self.now.sphere.progress.request }
+    {
+        self.request
+    }
+
+    pub fn memory(&self) -> &Memory
+        ensures { result.now ≡ self.now.sphere.memory }
+    {
+        &self.memory
+    }
+
+    /// The whole commits so far, the first one first.
+    pub fn commits(&self) -> &[Commit]
+        ensures { result.now ≡ self.now.sphere.progress.commits }
+    {
+        &self.commits
+    }
+
+    /// The log of a recording so far.
+    pub fn log(&self) -> Result<Log, OutOfMemory>
+        requires { IsSome (log_in self.now.sphere.role) }
+        ensures { IfOk result (λ log. log_in self.now.sphere.role ≡ Some log) }
+    {
+        match &self.part {
+            Part::Plain | Part::Replayed(_) => unreachable!(),
+            Part::Recorded(recording) => recording.finish(),
+        }
+    }
+
+    /// Lays a word of the flight in slot `k` into the memory.
+    pub fn drain<G: Sig>(&mut self, flights: &mut Flights<G>, k: u8) -> Drain
+        requires slot { k < length flights.old.slots }
+        requires inside { IsInside (length self.old.sphere.memory) (at flights.old.slots k) }
+        ensures reply { result ≡ (drain self.old.sphere.memory (at flights.old.slots k)).reply }
+        ensures slots { flights.new ≡ set_slot k (drain self.old.sphere.memory (at flights.old.slots k)).slot flights.old }
+        ensures memory { let m = (drain self.old.sphere.memory (at flights.old.slots k)).memory in
+            self.new ≡ record self.old { sphere = record self.old.sphere { memory = m } } }
+    {
+        flights.drain(k, &mut self.memory)
+    }
+
+    /// How many bytes a DMA would store behind its count, where so many of the input are left; or why the replay leaves
+    /// its log there.
+    #[tactic(auto, unfolding(spec_protocol::specs::Commits::dma_moved))]
+    pub fn dma_size(&self, input_left: u32) -> DmaSize
+        requires { replays self.now.sphere.role ≡ true ⊎ IsSome self.now.sphere.progress.request }
+        ensures bytes { (d : Devices) → length d.input ≡ input_left →
+            SaysBytes result self.now.sphere.progress.request (dma_moved d self.now.sphere) }
+        ensures outcome { (d : Devices) → length d.input ≡ input_left →
+            SaysOutcome result (position self.now.sphere.progress) (dma_moved d self.now.sphere) }
+    {
+        match &self.part {
+            Part::Plain | Part::Recorded(_) => DmaSize::Bytes(live_size(self.request, input_left)),
+            Part::Replayed(replay) => match replay.player.dma_size(self.request) {
+                Ok(bytes) => DmaSize::Bytes(bytes),
+                Err(why) => DmaSize::Diverged(why),
+            },
+        }
+    }
+
+    /// The words that a DMA would store, none where the replay leaves its log there.
+    #[tactic(auto, unfolding(spec_protocol::specs::Commits::dma_moved))]
+    pub fn dma_words(&self, devices: &Devices) -> Result<Buffer, OutOfMemory>
+        requires request { IfSome self.now.sphere.progress.request (IsSoundRequest (length self.now.sphere.memory)) }
+        ensures { IfOk result (λ words. (v : Made) → dma_moved devices.now self.now.sphere ≡ Some v → words.words ≡ v.words) }
+    {
+        let _ = self.memory.size();
+        match &self.part {
+            Part::Plain | Part::Recorded(_) => live_words(self.alloc, self.request, devices),
+            Part::Replayed(replay) => match replay.player.dma_words(self.request, &self.memory)? {
+                Ok(words) => Ok(words),
+                Err(_) => Ok(Buffer::new(self.alloc, 1)?),
+            },
+        }
+    }
+}

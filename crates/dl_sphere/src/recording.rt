@@ -1,0 +1,125 @@
+//! A recording in any of the three modes.
+ghost use Rattle.std.specs.Prelude.{◌≡◌, ◌≤◌, [], IfOk, IfSome, IsOk, IsTrue, OnOk, OnErr, option_map};
+ghost use Rattle.spec_log.specs.Log.{IsChunkSize, IsInput, AreFewBytes};
+ghost use Rattle.dl_record.specs.Recording.{CanCommit, IsFresh};
+ghost use Rattle.spec_play.specs.Noted.{nothing_recorded, interrupt_kept, as_log};
+ghost use Rattle.dl_sphere.specs.Recorded.{with_commit};
+
+use dl_entry::{Commit, Input, OutOfMemory};
+use dl_mode::{OrderAndSize, OrderOnly, PicoLog};
+use dl_record::Recorder;
+use spec_log::{Log, ModeName};
+use std::alloc::Global;
+use std::marker::Model;
+
+#[derive(Drop)]
+pub(crate) enum Recorders {
+    OrderSize(Recorder<OrderAndSize>),
+    OrderOnly(Recorder<OrderOnly>),
+    Picolog(Recorder<PicoLog>),
+}
+
+// A recorder of one of the modes.
+#[derive(Drop)]
+pub(crate) struct Recording {
+    recorders: Recorders,
+}
+
+impl Model for Recording {
+    ghost use Rattle.dl_sphere.specs.Recorded.{Recording, recording_of};
+
+    ghost Value = { Recording };
+
+    ghost view = { λ r. recording_of r.recorders };
+}
+
+impl Recording {
+    // Nothing is noted yet.
+    pub(crate) fn new(alloc: Global, mode: ModeName, s: u32) -> Result<Recording, OutOfMemory>
+        requires { IsChunkSize s }
+        ensures { IfOk result (λ r. r.recorded ≡ nothing_recorded mode s) }
+    {
+        let recorders = match mode {
+            ModeName::OrderSize => Recorders::OrderSize(Recorder::new(alloc, s)?),
+            ModeName::OrderOnly => Recorders::OrderOnly(Recorder::new(alloc, s)?),
+            ModeName::Picolog => Recorders::Picolog(Recorder::new(alloc, s)?),
+        };
+        Ok(Recording { recorders })
+    }
+
+    pub(crate) fn mode(&self) -> ModeName
+        ensures { result ≡ self.now.recorded.mode }
+    {
+        match &self.recorders {
+            Recorders::OrderSize(_) => ModeName::OrderSize,
+            Recorders::OrderOnly(_) => ModeName::OrderOnly,
+            Recorders::Picolog(_) => ModeName::Picolog,
+        }
+    }
+
+    // Makes room for one commit with its records, and one interrupt.
+    pub(crate) fn reserve(&mut self) -> Result<(), OutOfMemory>
+        ensures same { self.new.recorded ≡ self.old.recorded }
+        ensures room { OnOk result (IsTrue self.new.room) }
+        ensures interrupt_room { OnOk result (IsTrue self.new.interrupt_room) }
+    {
+        match &mut self.recorders {
+            Recorders::OrderSize(recorder) => recorder.reserve(),
+            Recorders::OrderOnly(recorder) => recorder.reserve(),
+            Recorders::Picolog(recorder) => recorder.reserve(),
+        }
+    }
+
+    // Notes a commit with its record or its data. With room it isn't refused.
+    pub(crate) fn commit(
+        &mut self,
+        commit: &Commit,
+        early: bool,
+        input: Option<&Input>,
+        dma: Option<&[u8]>,
+    ) -> Result<(), OutOfMemory>
+        requires commit { CanCommit self.old.recorded.kept commit.now early }
+        requires input { IfSome input (λ i. IsInput i.now) }
+        requires dma { IfSome dma (λ bytes. AreFewBytes bytes.now) }
+        ensures ok { OnOk result (self.new.recorded ≡ with_commit commit.now early (option_map (λ i. i.now) input.entry) (option_map (λ b. b.now) dma.entry) self.old.recorded) }
+        ensures err { OnErr result (self.new.recorded ≡ self.old.recorded) }
+        ensures room { IsTrue self.old.room → IsOk result }
+    {
+        match &mut self.recorders {
+            Recorders::OrderSize(recorder) => recorder.commit(commit, early, input, dma),
+            Recorders::OrderOnly(recorder) => recorder.commit(commit, early, input, dma),
+            Recorders::Picolog(recorder) => recorder.commit(commit, early, input, dma),
+        }
+    }
+
+    // Notes an interrupt of a new moment. With room it isn't refused.
+    pub(crate) fn interrupt(
+        &mut self,
+        thread: u8,
+        index: u32,
+        value: u32,
+    ) -> Result<(), OutOfMemory>
+        requires thread { thread ≤ 14 }
+        requires fresh { IsFresh self.old.recorded.interrupts thread index }
+        ensures ok { OnOk result (self.new.recorded ≡ interrupt_kept thread index value self.old.recorded) }
+        ensures err { OnErr result (self.new.recorded ≡ self.old.recorded) }
+        ensures room { IsTrue self.old.interrupt_room → IsOk result }
+    {
+        match &mut self.recorders {
+            Recorders::OrderSize(recorder) => recorder.interrupt(thread, index, value),
+            Recorders::OrderOnly(recorder) => recorder.interrupt(thread, index, value),
+            Recorders::Picolog(recorder) => recorder.interrupt(thread, index, value),
+        }
+    }
+
+    // The log of what was noted.
+    pub(crate) fn finish(&self) -> Result<Log, OutOfMemory>
+        ensures { IfOk result (λ log. log ≡ as_log self.now.recorded) }
+    {
+        match &self.recorders {
+            Recorders::OrderSize(recorder) => recorder.finish(),
+            Recorders::OrderOnly(recorder) => recorder.finish(),
+            Recorders::Picolog(recorder) => recorder.finish(),
+        }
+    }
+}

@@ -1,0 +1,228 @@
+//! The sphere.
+ghost use Rattle.std.specs.Prelude.{◌≡◌, ◌^◌, ◌<◌, ◌≤◌, ◌∷◌, [], ℕ, Some, None, IfOk, IfSome, IsSome, OnOk, OnErr, length, slice_get, true, false};
+ghost use Rattle.spec_isa.specs.declared.thread.Parts.{Parts};
+ghost use Rattle.spec_engine.specs.declared.answers.How.{How};
+ghost use Rattle.spec_kernel.specs.Devices.{Devices};
+ghost use Rattle.spec_kernel.specs.Interrupts.{takes_interrupt};
+ghost use Rattle.spec_log.specs.Log.{IsChunkSize};
+ghost use Rattle.spec_protocol.specs.Asking.{is_short};
+ghost use Rattle.spec_protocol.specs.Commits.{is_piece, chunk_moved, serial_moved, dma_moved, raised};
+ghost use Rattle.spec_protocol.specs.Machine.{sphere_of};
+ghost use Rattle.spec_protocol.specs.Placing.{replays};
+ghost use Rattle.spec_protocol.specs.Spheres.{limit_of, head_of, is_stopped, halves};
+ghost use Rattle.spec_isa.specs.Words.{IsBytes};
+ghost use Rattle.spec_protocol.specs.Sound.{HaveByteInput, IsSoundRequest};
+ghost use Rattle.dl_sphere.specs.Moving.{came, CanCommit, IsTurnOf, IsTurnOfDma};
+ghost use Rattle.dl_sphere.specs.Setups.{setup_of};
+
+use crate::commits::{chunk_commit, count, is_piece, is_short};
+use crate::moved::Moved;
+use crate::part::{Part, keep, note_interrupt};
+use crate::replaying::{commit_last, commit_piece, serve_dma, serve_step};
+use crate::stepping::live_step;
+use crate::thread::{counted, interrupted, settle, thread_at};
+use crate::transferring::live_dma;
+use crate::words;
+use dl_chunk::Chunk;
+use dl_dev::Devices;
+use dl_entry::{Commit, OutOfMemory, Request};
+use dl_kernel::Step;
+use dl_mem::Memory;
+use dl_sig::Sig;
+use dl_thread::Threads;
+use std::alloc::Global;
+use std::marker::Model;
+
+/// A sphere in its role.
+#[derive(Drop)]
+pub struct Sphere {
+    pub(crate) alloc: Global,
+    pub(crate) standard: u32,
+    pub(crate) memory: Memory,
+    pub(crate) threads: Threads,
+    pub(crate) commits: Vec<Commit>,
+    pub(crate) last: Option<u8>,
+    pub(crate) request: Option<Request>,
+    pub(crate) part: Part,
+}
+
+impl Model for Sphere {
+    ghost use Rattle.dl_sphere.specs.Standing.{Standing};
+    ghost use Rattle.dl_sphere.specs.Roles.{keeping_of, IsStanding};
+    ghost use Rattle.dl_sphere.specs.Inside.{sphere_in};
+
+    ghost Value = { Standing };
+
+    ghost view = { λ p. record { standard = p.standard; sphere = sphere_in p } };
+
+    ghost invariant = { λ p. IsStanding p.standard (sphere_in p) (keeping_of p.part) };
+}
+
+impl Sphere {
+    /// Commits the closed chunk of a thread, whole or as a piece of a replayed commit, unless the replay leaves its log.
+    #[tactic(auto, unfolding(spec_protocol::specs::Commits::chunk_moved))]
+    pub fn commit_chunk<G: Sig>(
+        &mut self,
+        thread: u8,
+        chunk: &Chunk<G>,
+    ) -> Result<Moved, OutOfMemory>
+        ghost how: { How }
+        requires thread { thread < length self.old.sphere.threads }
+        requires chunk { CanCommit self.old.standard self.old.sphere thread how chunk.now.chunk }
+        requires few { length self.old.sphere.progress.commits < 2 ^ 24 }
+        requires request { IfSome self.old.sphere.progress.request (IsSoundRequest (length self.old.sphere.memory)) }
+        ensures ok { IfOk result (λ m. (d : Devices) →
+            came m self.new.sphere d ≡ chunk_moved thread (is_piece how) (is_short self.old.standard how chunk.now.chunk.limit) chunk.now.chunk.done d self.old.sphere) }
+        ensures standard { self.new.standard ≡ self.old.standard }
+        ensures err { OnErr result (self.new ≡ self.old) }
+    {
+        let _ = thread_at(&self.threads, thread);
+        let words = words::copied(self.alloc, chunk.words())?;
+        if let Part::Replayed(replay) = &mut self.part {
+            if is_piece(chunk) {
+                let (state, n) = (chunk.state(), chunk.n());
+                commit_piece(replay, &mut self.threads, thread, state, chunk.loads(), n)?;
+                return Ok(Moved::Piece(words));
+            }
+            let left = commit_last(
+                self.alloc,
+                replay,
+                &mut self.commits,
+                &mut self.threads,
+                &mut self.request,
+                &self.memory,
+                thread,
+                chunk,
+            )?;
+            if let Some(why) = left {
+                return Ok(Moved::Diverged(count(&self.commits), why));
+            }
+            self.last = Some(thread);
+            let _ = self.threads.len();
+            return Ok(Moved::Granted(words));
+        }
+        let commit = chunk_commit(self.alloc, thread, chunk)?;
+        let short = is_short(self.standard, chunk);
+        keep(&mut self.commits, &mut self.part, commit, short, None)?;
+        let after = counted(chunk.state());
+        self.threads.set(thread, &after);
+        self.last = Some(thread);
+        Ok(Moved::Granted(words))
+    }
+
+    /// Does the serial step of a thread, whose next instruction is serial, at a moment modulo 2^32.
+    pub fn serial_step(
+        &mut self,
+        thread: u8,
+        devices: &mut Devices,
+        moment: u32,
+    ) -> Result<Moved, OutOfMemory>
+        requires thread { thread < length self.old.sphere.threads }
+        requires turn { IsTurnOf thread self.old.sphere.role }
+        requires few { length self.old.sphere.progress.commits < 2 ^ 24 }
+        requires bytes { IsBytes self.old.sphere.memory }
+        requires devices { HaveByteInput devices.old }
+        ensures ok { IfOk result (λ m. (t : Parts) → slice_get self.old.sphere.threads thread ≡ Some t →
+            came m self.new.sphere devices.new ≡ serial_moved thread moment t devices.old self.old.sphere) }
+        ensures standard { self.new.standard ≡ self.old.standard }
+        ensures err { OnErr result (self.new ≡ self.old) }
+        ensures devices { OnErr result (devices.new ≡ devices.old) }
+    {
+        let found = thread_at(&self.threads, thread);
+        if let Part::Replayed(replay) = &mut self.part {
+            let served = serve_step(
+                replay,
+                &mut self.commits,
+                &mut self.threads,
+                &mut self.request,
+                &self.memory,
+                thread,
+            )?;
+            let words = match served {
+                Ok(words) => words,
+                Err(why) => return Ok(Moved::Diverged(count(&self.commits), why)),
+            };
+            self.last = Some(thread);
+            let _ = self.threads.len();
+            return Ok(Moved::Granted(words));
+        }
+        let step = Step {
+            number: thread,
+            thread: found,
+            threads: &self.threads,
+            request: self.request,
+            memory: &self.memory,
+        };
+        let left = live_step(
+            self.alloc,
+            &mut self.commits,
+            &mut self.part,
+            &step,
+            devices,
+            moment,
+        )?;
+        let after = counted(&left.thread);
+        settle(&mut self.threads, thread, &after, left.made);
+        self.request = left.request;
+        self.last = Some(thread);
+        Ok(Moved::Granted(left.words))
+    }
+
+    /// Does the outstanding DMA request with the bytes of the input, as many as are asked for or are left.
+    pub fn dma(&mut self, devices: &mut Devices) -> Result<Moved, OutOfMemory>
+        requires request { IfSome self.old.sphere.progress.request (IsSoundRequest (length self.old.sphere.memory)) }
+        requires turn { IsTurnOfDma self.old.sphere.role }
+        requires some { IsSome (dma_moved devices.old self.old.sphere) }
+        requires few { length self.old.sphere.progress.commits < 2 ^ 24 }
+        requires devices { HaveByteInput devices.old }
+        ensures ok { IfOk result (λ m. dma_moved devices.old self.old.sphere ≡ Some (came m self.new.sphere devices.new)) }
+        ensures standard { self.new.standard ≡ self.old.standard }
+        ensures err { OnErr result (self.new ≡ self.old) }
+        ensures devices { OnErr result (devices.new ≡ devices.old) }
+    {
+        let _ = self.memory.size();
+        if let Part::Replayed(replay) = &mut self.part {
+            let served = serve_dma(
+                self.alloc,
+                replay,
+                &mut self.commits,
+                &self.threads,
+                &mut self.request,
+                &self.memory,
+            )?;
+            let words = match served {
+                Ok(words) => words,
+                Err(why) => return Ok(Moved::Diverged(count(&self.commits), why)),
+            };
+            return Ok(Moved::Granted(words));
+        }
+        let Some(request) = self.request else {
+            unreachable!();
+        };
+        let words = live_dma(
+            self.alloc,
+            &mut self.commits,
+            &mut self.part,
+            &request,
+            devices,
+        )?;
+        self.request = None;
+        Ok(Moved::Granted(words))
+    }
+
+    /// A live thread with a handler, which handles no interrupt, takes one with this value.
+    pub fn raise(&mut self, thread: u8, value: u32) -> Result<(), OutOfMemory>
+        requires there { (t : Parts) → slice_get self.old.sphere.threads thread ≡ Some t → takes_interrupt t ≡ true }
+        requires thread { thread < length self.old.sphere.threads }
+        requires recorded { replays self.old.sphere.role ≡ false }
+        ensures ok { OnOk result ((t : Parts) → slice_get self.old.sphere.threads thread ≡ Some t →
+            self.new.sphere ≡ raised thread value t self.old.sphere) }
+        ensures standard { self.new.standard ≡ self.old.standard }
+        ensures err { OnErr result (self.new ≡ self.old) }
+    {
+        let found = thread_at(&self.threads, thread);
+        note_interrupt(&mut self.part, thread, found.commits(), value)?;
+        self.threads.set(thread, &interrupted(value, &found));
+        Ok(())
+    }
+}

@@ -1,0 +1,80 @@
+//! The serial step of a sphere that isn't replayed.
+ghost use Rattle.std.specs.Prelude.{◌≡◌, ◌^◌, ◌<◌, ◌∷◌, ◌++◌, [], ℕ, None, false, IfOk, OnOk, OnErr, OnSome, IfSome, length, option_map, IsTrue};
+ghost use Rattle.spec_isa.specs.Words.{IsBytes};
+ghost use Rattle.spec_kernel.specs.Serving.{console_told};
+ghost use Rattle.spec_log.specs.Log.{IsInput};
+ghost use Rattle.spec_play.specs.Effects.{serial_commit};
+ghost use Rattle.spec_protocol.specs.Sound.{HaveByteInput};
+ghost use Rattle.dl_kernel.specs.Calls.{made_list};
+ghost use Rattle.dl_sphere.specs.Roles.{keeping_of, with_noted, CanNote};
+ghost use Rattle.dl_sphere.specs.Stepping.{taken_by, served_by, commit_by};
+
+use crate::commits::serial_commit;
+use crate::part::{Part, note_reserved, reserve};
+use dl_dev::Devices;
+use dl_entry::{Commit, Input, OutOfMemory, Request};
+use dl_kernel::{Served, Step, outside_record, outside_take, serve};
+use dl_thread::Thread;
+use dl_wbuf::Buffer;
+use std::alloc::Global;
+
+// What a step leaves of its sphere, but for the commit: its thread, the thread that it made, the outstanding DMA request, and
+// the words to fly.
+#[derive(Drop)]
+pub(crate) struct Left {
+    pub(crate) thread: Thread,
+    pub(crate) made: Option<Thread>,
+    pub(crate) request: Option<Request>,
+    pub(crate) words: Buffer,
+}
+
+// Does the step, keeps its commit and notes it where the sphere is recorded; or nothing of all that.
+#[tactic(auto, using(crate::proofs::Taking::record_taken, crate::proofs::Taking::devices_taken, crate::proofs::Taking::input_taken))]
+pub(crate) fn live_step(
+    alloc: Global,
+    commits: &mut Vec<Commit>,
+    part: &mut Part,
+    step: &Step<'_>,
+    devices: &mut Devices,
+    moment: u32,
+) -> Result<Left, OutOfMemory>
+    requires note { CanNote (commit_by step.now devices.old moment) false (keeping_of part.old) }
+    requires bytes { IsBytes step.now.memory.now }
+    requires devices { HaveByteInput devices.old }
+    ensures thread { IfOk result (λ l. l.thread ≡ (served_by step.now devices.old moment).thread) }
+    ensures made { IfOk result (λ l. made_list l.made ≡ (served_by step.now devices.old moment).made) }
+    ensures room { IfOk result (λ l. OnSome l.made (length step.now.threads.now < 15)) }
+    ensures request { IfOk result (λ l. l.request ≡ (served_by step.now devices.old moment).request) }
+    ensures words { IfOk result (λ l. l.words.words ≡ (served_by step.now devices.old moment).words) }
+    ensures commits { OnOk result (commits.new.items ≡ commits.old.items ++ commit_by step.now devices.old moment ∷ []) }
+    ensures noted { OnOk result (keeping_of part.new
+        ≡ with_noted (commit_by step.now devices.old moment) false (taken_by step.now devices.old moment).input None (keeping_of part.old)) }
+    ensures devices { let s = step.now in
+        OnOk result (devices.new ≡ console_told s.thread s.memory.now (served_by s devices.old moment).outputs (taken_by s devices.old moment).devices) }
+    ensures commits_still { OnErr result (commits.new.items ≡ commits.old.items) }
+    ensures part_still { OnErr result (keeping_of part.new ≡ keeping_of part.old) }
+    ensures devices_still { OnErr result (devices.new ≡ devices.old) }
+{
+    let input = outside_record(alloc, &step.thread, step.memory, devices, moment)?;
+    let served = serve(alloc, step, input.as_ref())?;
+    let Served {
+        thread,
+        made,
+        request,
+        words,
+        loads,
+        outputs,
+    } = served;
+    let commit = serial_commit(step.number, loads, outputs);
+    commits.reserve(1)?;
+    reserve(part)?;
+    outside_take(&step.thread, step.memory, &commit.outputs, devices)?;
+    note_reserved(part, &commit, input.as_ref());
+    commits.push_reserved(commit);
+    Ok(Left {
+        thread,
+        made,
+        request,
+        words,
+    })
+}
