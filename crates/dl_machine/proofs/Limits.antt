@@ -1,0 +1,43 @@
+-- A setup within the limits.
+use Rattle.std.proofs.Common.{◌≡◌, ℕ, zero, suc, ◌^◌, ◌<◌, All, List, [], ◌∷◌, length, map, Some, arith, subst}
+use Rattle.std.specs.Prelude.{slice_get}
+use Rattle.std.proofs.lemmas.Grind.{common_steps}
+use Rattle.std.proofs.lemmas.Option.{same_Some}
+use Rattle.spec_protocol.specs.Machine as protocol
+use Rattle.spec_protocol.specs.Machine.{world_of}
+use Rattle.spec_protocol.specs.Promises.{IsSetup}
+use Rattle.spec_protocol.specs.Sound.{IsImage, IsWithinLimits}
+use Rattle.spec_protocol.proofs.Schedules.{start-good}
+use Rattle.spec_protocol.proofs.Sounding.{worlds_sound}
+use Rattle.dl_sphere.specs.declared.setup.SphereSetup.{SphereSetup}
+use Rattle.dl_sphere.specs.Setups.{setup_of}
+use Rattle.dl_machine.specs.declared.setup.Setup.{Setup}
+use Rattle.dl_machine.specs.Ready.{IsReady}
+use Rattle.dl_machine.specs.Setups.{IsWithin, setup_in}
+
+image_at : (xs : List SphereSetup) → All (λ x. IsImage (setup_of x)) xs → (i : ℕ) (image : protocol.SphereSetup) → slice_get (map setup_of xs) i ≡ Some image → IsImage image
+image_at [] all zero image e = cc
+image_at [] all (suc i) image e = cc
+image_at (x ∷ xs) all zero image e = subst IsImage (same_Some _ _ e) (all 0 x (omega arith))
+image_at (x ∷ xs) all (suc i) image e = image_at xs (λ k d l. all (suc k) d (omega arith)) i image e
+
+pub limits_within : (s : Setup) → IsWithin s → All (λ x. IsImage (setup_of x)) s.spheres → All (λ byte. byte < 2 ^ 8) s.input → IsWithinLimits (setup_in s)
+limits_within s within images input =
+    record {
+      cores = within.cores;
+      window = within.window;
+      few = let n : length (map setup_of s.spheres) ≡ length s.spheres = grind (arith, common_steps) in let f = within.few in (omega arith, omega arith);
+      chunk = within.chunk;
+      buffer = within.least;
+      most_buffer = within.most;
+      signature = within.signature;
+      input = input;
+      images = image_at s.spheres images;
+    }
+
+pub setup_within : (s : protocol.Setup) → IsWithinLimits s → IsSetup s
+setup_within s limits = record { chunk = let c = limits.chunk in omega arith; buffer = let b = limits.buffer in omega arith }
+
+-- what a setup comes to is ready
+pub ready_first : (s : protocol.Setup) → IsWithinLimits s → IsReady (world_of s)
+ready_first s limits = record { setup = s; limits = limits; good = start-good s (setup_within s limits); sound = worlds_sound s [] limits }

@@ -1,0 +1,18 @@
+use Rattle.std.proofs.Common.{◌<◌, length, arith, option_map, Option}
+use Rattle.std.proofs.lemmas.Grind.{common_steps}
+use Rattle.dl_machine.specs.Cores.{Core, to_chunk}
+use Rattle.spec_engine.specs.Chunks.{cut}
+use Rattle.spec_protocol.specs.World.{Held}
+use Rattle.dl_machine.proofs.Alike.{cores_set, row_left}
+use Rattle.dl_machine.proofs.cores.Cores.cut.Goals as goal
+
+pub invariant_of-self : goal.invariant_of-self
+invariant_of-self g c =
+    let within : c.args.core < length c.self.inside.row.items = grind (arith, common_steps) in
+    cores_set _ _ _ _ _ _ _ c.self.invariant within c.index_mut-core.ensures.value c.cut.ensures.core
+
+pub returns-clause-core : goal.returns-clause-core
+returns-clause-core g c =
+    let within : c.args.core < length c.self.inside.row.items = grind (arith, common_steps) in
+    let f : Core → Option Held = λ r. option_map (to_chunk (λ ch. (cut ch).chunk)) r.held in
+    row_left _ _ _ _ _ _ f _ c.self.invariant c.self.view_is within c.index_mut-core.ensures.value c.cut.ensures.core

@@ -1,0 +1,30 @@
+use Rattle.std.proofs.Common.{◌∷◌, ◌++◌, [], List, Option, map, refl, sym, ap, ◌∙◌, arith}
+use Rattle.std.proofs.lemmas.Grind.{common_steps}
+use Rattle.std.proofs.lemmas.List.{map-append}
+use Rattle.std.proofs.lemmas.List.Elements.{All-push}
+use Rattle.spec_protocol.specs.World.{Held}
+use Rattle.spec_protocol.specs.Machine.{first_cores}
+use Rattle.dl_machine.specs.Cores.{Core}
+use Rattle.dl_machine.specs.Rows.{IsAlike, held_by}
+use Rattle.dl_machine.specs.Setups.{numbers_with}
+use Rattle.dl_machine.proofs.Starting.{first_more}
+use Rattle.dl_machine.proofs.cores.Cores.new.Goals as goal
+
+pub loop-core-preserved : goal.loop-core-preserved
+loop-core-preserved g c =
+    let s = c.args.setup.now in
+    let new : IsAlike s.buffer s.signature c.in_ok-first.field-0 = rw c.in_ok-first.ensures (record { most = refl; capacity = refl; bits = refl }) in
+    let z = numbers_with s c.args.spheres.now in
+    let ps = c.args.spheres.now.spheres in
+    let k = c.loop-core.core in
+    record {
+      held =
+          ap (λ (row : List Core). map held_by row) c.push_reserved.ensures.items
+          ∙ map-append held_by c.loop-core.row.items (c.in_ok-first.field-0 ∷ [])
+          ∙ ap (λ (hs : List (Option Held)). hs ++ held_by c.in_ok-first.field-0 ∷ []) c.loop-core.invariant.held
+          ∙ ap (λ (d : Core). first_cores z 0 k ps ++ held_by d ∷ []) c.in_ok-first.ensures
+          ∙ sym (first_more z k ps);
+      each = rw c.push_reserved.ensures.items (All-push (IsAlike s.buffer s.signature) _ _ c.loop-core.invariant.each new);
+      len = grind (arith, common_steps);
+      room = grind (arith, common_steps);
+    }

@@ -1,0 +1,16 @@
+use Rattle.std.proofs.Common.{sym, subst}
+use Rattle.dl_machine.specs.Ready.{IsReady}
+use Rattle.dl_machine.specs.Setups.{setup_in}
+use Rattle.dl_machine.proofs.Limits.{limits_within, ready_first}
+use Rattle.dl_machine.proofs.Promised.{run_first}
+use Rattle.dl_machine.proofs.machine.Machine.new.Goals as goal
+
+pub invariant_of-result : goal.invariant_of-result
+invariant_of-result g c =
+    let limits = limits_within c.args.setup.now c.requires c.in_ok-new.ensures.images c.in_ok-new.ensures.input in
+    subst IsReady (sym c.in_ok-new.ensures.made) (ready_first (setup_in c.args.setup.now) limits)
+
+pub returns-clause-run : goal.returns-clause-run
+returns-clause-run g c =
+    let limits = limits_within c.args.setup.now c.requires c.in_ok-new.ensures.images c.in_ok-new.ensures.input in
+    run_first (setup_in c.args.setup.now) _ limits c.in_ok-new.ensures.made

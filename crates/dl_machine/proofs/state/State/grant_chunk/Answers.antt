@@ -1,0 +1,79 @@
+use Rattle.std.proofs.Common.{◌≡◌, [], ◌∷◌, ◌++◌, ◌<◌, false, length, None, Some, refl, sym, ap, ◌∙◌, subst}
+use Rattle.std.specs.Prelude.{option_map}
+use Rattle.dl_entry.specs.declared.CommitKind.{CommitKind}
+use Rattle.spec_engine.specs.Flights.{at}
+use Rattle.spec_protocol.specs.Spheres.{Sphere, head_of, is_stopped}
+use Rattle.spec_protocol.specs.Commits.{Moved}
+use Rattle.spec_protocol.specs.World.{World, sphere_at}
+use Rattle.spec_protocol.specs.Asking.{asks_serial, grant_chunk, is_short, other_turn}
+use Rattle.dl_sphere.specs.declared.moved.Moved.{Moved as CodeMoved}
+use Rattle.dl_sphere.specs.declared.moved.Moved.TheVariants as moved_as
+use Rattle.dl_sphere.specs.Moving.{came}
+use Rattle.dl_machine.specs.Cores.{seen}
+use Rattle.dl_machine.specs.Ready.{HasRoom, IsReady}
+use Rattle.dl_machine.specs.Requests.{closed_by}
+use Rattle.dl_machine.specs.Rows.{nth_sphere}
+use Rattle.dl_machine.specs.States.{left, world_in}
+use Rattle.dl_machine.proofs.Able.{can_commit, few_commits}
+use Rattle.dl_machine.proofs.Granting.{point_in, moved_by, grant_done, held_after, closed_is, chunk_after}
+use Rattle.dl_machine.proofs.state.State.grant_chunk.Goals as goal
+
+pub commit_chunk-requires-clause-chunk : goal.commit_chunk-requires-clause-chunk
+commit_chunk-requires-clause-chunk g c =
+    let x = c.self.inside in
+    let w : World = world_in x.cores x.spheres x.flights x.devices x.counts x.points.items in
+    let view : w ≡ c.args.self.now = c.self.view_is in
+    let core = c.args.core in
+    let ready : IsReady w = subst IsReady (sym view) c.requires.ready in
+    let held : option_map seen (at w.cores core) ≡ Some c.args.held = subst (λ (u : World). option_map seen (at u.cores core) ≡ Some c.args.held) (sym view) c.requires.held in
+    let closed : option_map closed_by (at w.cores core) ≡ Some (Some c.args.how) = subst (λ (u : World). option_map closed_by (at u.cores core) ≡ Some (Some c.args.how)) (sym view) c.requires.closed in
+    let going : is_stopped (sphere_at w c.args.held.sphere).role ≡ false = subst (λ (u : World). is_stopped (sphere_at u c.args.held.sphere).role ≡ false) (sym view) c.requires.going in
+    let free : other_turn (head_of (sphere_at w c.args.held.sphere)) c.args.held.thread ≡ None = subst (λ (u : World). other_turn (head_of (sphere_at u c.args.held.sphere)) c.args.held.thread ≡ None) (sym view) c.requires.turn in
+    let whole : Some false ≡ option_map (λ h. asks_serial h.chunk (sphere_at w c.args.held.sphere).role) (at w.cores core) = subst (λ (u : World). Some false ≡ option_map (λ h. asks_serial h.chunk (sphere_at u c.args.held.sphere).role) (at u.cores core)) (sym view) c.requires.chunk in
+    (c.args.how, can_commit w core _ c.args.held c.args.how c.chunk-chunk.result.now.chunk ready refl held closed c.chunk-chunk.ensures going free whole)
+
+pub commit_chunk-requires-clause-few : goal.commit_chunk-requires-clause-few
+commit_chunk-requires-clause-few g c =
+    let view = sym c.self.view_is in
+    few_commits _ c.args.held.sphere (subst IsReady view c.requires.ready) (subst HasRoom view c.requires.room) (subst (λ (u : World). c.args.held.sphere < length u.spheres) view c.requires.good.sphere)
+    (subst (λ (u : World). is_stopped (sphere_at u c.args.held.sphere).role ≡ false) view c.requires.going)
+
+pub returns-in-Granted-clause-world : goal.returns-in-Granted-clause-world
+returns-in-Granted-clause-world g c =
+    let x = c.self.inside in
+    let w : World = world_in x.cores x.spheres x.flights x.devices x.counts x.points.items in
+    let view : w ≡ c.args.self.now = c.self.view_is in
+    let core = c.args.core in
+    let how = c.args.how in
+    let ch = c.chunk-chunk.result.now.chunk in
+    let p : Sphere = nth_sphere c.args.held.sphere c.commit_chunk.new.self in
+    let v : Moved = came (moved_as.Granted c.in-Granted.words) p x.devices in
+    let held : option_map seen (at w.cores core) ≡ Some c.args.held = subst (λ (u : World). option_map seen (at u.cores core) ≡ Some c.args.held) (sym view) c.requires.held in
+    let closed : option_map closed_by (at w.cores core) ≡ Some (Some how) = subst (λ (u : World). option_map closed_by (at u.cores core) ≡ Some (Some how)) (sym view) c.requires.closed in
+    let shut : ch.closed ≡ Some how = closed_is (at w.cores core) ch how closed c.chunk-chunk.ensures in
+    let moved : v ≡ moved_by w c.args.held how ch = subst (λ (m : CodeMoved). came m p x.devices ≡ moved_by w c.args.held how ch) c.in-Granted.is (c.in_ok-moved.ensures.ok x.devices how shut) in
+    let after = chunk_after w core how (at w.cores core) c.args.held ch _ v held c.chunk-chunk.ensures c.hand_over-writes.ensures.given moved in
+    let point : c.push_reserved.new.self.items ≡ x.points.items ++ point_in w c.args.held CommitKind.Chunk ch.done.n (is_short w.numbers.chunk how ch.limit) ∷ [] = cc in
+    let done = grant_done x.cores c.hand_over-writes.new.self x.spheres c.commit_chunk.new.self x.flights x.devices x.counts x.points.items _ core c.args.held c.in-Granted.words.words _ _ c.hand_over-writes.ensures.core c.in_ok-moved.ensures.others point in
+    subst (λ (u : World). Some c.go_on.new.self ≡ option_map (λ h. left (grant_chunk u core h how)) (at u.cores core)) view
+    (ap (λ (u : World). Some u) (c.go_on.ensures ∙ done) ∙ held_after left (λ h. grant_chunk w core h how) (at w.cores core) _ after)
+
+pub returns-in-Piece-clause-world : goal.returns-in-Piece-clause-world
+returns-in-Piece-clause-world g c =
+    let x = c.self.inside in
+    let w : World = world_in x.cores x.spheres x.flights x.devices x.counts x.points.items in
+    let view : w ≡ c.args.self.now = c.self.view_is in
+    let core = c.args.core in
+    let how = c.args.how in
+    let ch = c.chunk-chunk.result.now.chunk in
+    let p : Sphere = nth_sphere c.args.held.sphere c.commit_chunk.new.self in
+    let v : Moved = came (moved_as.Piece c.in-Piece.words) p x.devices in
+    let held : option_map seen (at w.cores core) ≡ Some c.args.held = subst (λ (u : World). option_map seen (at u.cores core) ≡ Some c.args.held) (sym view) c.requires.held in
+    let closed : option_map closed_by (at w.cores core) ≡ Some (Some how) = subst (λ (u : World). option_map closed_by (at u.cores core) ≡ Some (Some how)) (sym view) c.requires.closed in
+    let shut : ch.closed ≡ Some how = closed_is (at w.cores core) ch how closed c.chunk-chunk.ensures in
+    let moved : v ≡ moved_by w c.args.held how ch = subst (λ (m : CodeMoved). came m p x.devices ≡ moved_by w c.args.held how ch) c.in-Piece.is (c.in_ok-moved.ensures.ok x.devices how shut) in
+    let after = chunk_after w core how (at w.cores core) c.args.held ch _ v held c.chunk-chunk.ensures c.hand_over-writes-in-Piece.ensures.given moved in
+    let point : c.push_reserved-in-Piece.new.self.items ≡ x.points.items ++ point_in w c.args.held CommitKind.Piece ch.done.n (is_short w.numbers.chunk how ch.limit) ∷ [] = cc in
+    let done = grant_done x.cores c.hand_over-writes-in-Piece.new.self x.spheres c.commit_chunk.new.self x.flights x.devices x.counts x.points.items _ core c.args.held c.in-Piece.words.words _ _ c.hand_over-writes-in-Piece.ensures.core c.in_ok-moved.ensures.others point in
+    subst (λ (u : World). Some c.go_on-in-Piece.new.self ≡ option_map (λ h. left (grant_chunk u core h how)) (at u.cores core)) view
+    (ap (λ (u : World). Some u) (c.go_on-in-Piece.ensures ∙ done) ∙ held_after left (λ h. grant_chunk w core h how) (at w.cores core) _ after)

@@ -1,0 +1,63 @@
+-- A core in code.
+use Rattle.std.specs.Prelude.{◌≡◌, ℕ, Bool, true, false, not, Option, Some, None}
+use Rattle.spec_engine.specs.Signatures.{Marks, nothing}
+use Rattle.spec_engine.specs.Chunks.{Chunk, Engine, is_open}
+use Rattle.spec_protocol.specs.World.{Held, Numbers, held_afresh}
+use Rattle.dl_sphere.specs.Standing.{Standing}
+use Rattle.dl_machine.specs.declared.one_core.Held.{Held as Seen}
+
+-- how large its chunks and their signatures may be, and what it holds
+pub record Core : Type 0 where
+  pub most : ℕ
+  pub capacity : ℕ
+  pub bits : ℕ
+  pub held : Option Held
+
+abbrev pub held_if : (busy : Bool) → (thread : ℕ) → Chunk → Option Held
+held_if false k ch = None
+held_if true k ch = Some (record { thread = k; chunk = ch })
+
+abbrev pub core_of : (busy : Bool) → (thread : ℕ) → Engine → Core
+core_of busy k e = record { most = e.most; capacity = e.capacity; bits = e.chunk.reads.bits; held = held_if busy k e.chunk }
+
+-- an idle core has noted nothing
+abbrev pub IsAtRest : (busy : Bool) → Chunk → Type 0
+IsAtRest true ch = Unit {0}
+IsAtRest false ch = (ch.reads ≡ nothing ch.reads.bits) × (ch.writes ≡ nothing ch.reads.bits)
+
+abbrev pub idle : (most capacity bits : ℕ) → Core
+idle most capacity bits = record { most = most; capacity = capacity; bits = bits; held = None }
+
+-- with this in its hold
+abbrev pub holding : Option Held → Core → Core
+holding held c = record c { held = held }
+
+-- what is seen of what a core holds
+abbrev pub seen : Held → Seen
+seen h = record { sphere = h.chunk.sphere; thread = h.thread; closed = not (is_open h.chunk) }
+
+-- the numbers of a core and a sphere
+abbrev pub numbers_of : Core → Standing → Numbers
+numbers_of c p = record { chunk = p.standard; buffer = c.capacity; signature = c.bits }
+
+-- thread k of sphere i, which is p, with a fresh chunk
+abbrev pub afresh : Core → Standing → (i thread : ℕ) → Option Held
+afresh c p i k = held_afresh (numbers_of c p) i k p.sphere
+
+-- the lines that are noted
+abbrev pub reads_in : (bits : ℕ) → Option Held → Marks
+reads_in bits None = nothing bits
+reads_in bits (Some h) = h.chunk.reads
+
+abbrev pub writes_in : (bits : ℕ) → Option Held → Marks
+writes_in bits None = nothing bits
+writes_in bits (Some h) = h.chunk.writes
+
+-- the chunk goes on
+abbrev pub IsOpen : Option Held → Type 0
+IsOpen None = ⊥
+IsOpen (Some h) = h.chunk.closed ≡ None
+
+-- with this done to the chunk
+abbrev pub to_chunk : (Chunk → Chunk) → Held → Held
+to_chunk f h = record h { chunk = f h.chunk }

@@ -1,0 +1,10 @@
+pub mod Cores
+pub mod Rows
+pub mod States
+pub mod Ready
+pub mod Held
+pub mod Requests
+pub mod Transfers
+pub mod Events
+pub mod Setups
+pub mod Runs

@@ -1,0 +1,19 @@
+-- What the code asks of the world before an event.
+use Rattle.std.specs.Prelude.{◌≡◌, ℕ, ◌<◌, ◌^◌, false, length}
+use Rattle.spec_play.specs.Progress.{position}
+use Rattle.spec_protocol.specs.Placing.{replays}
+use Rattle.spec_protocol.specs.World.{World, sphere_at}
+use Rattle.spec_protocol.specs.Machine.{Setup}
+use Rattle.spec_protocol.specs.Invariants.{IsGood}
+use Rattle.spec_protocol.specs.Sound.{IsWithinLimits, IsSound}
+
+-- a setup within the limits has come to it, and the invariant holds
+pub record IsReady (w : World) : Type 0 where
+  pub setup : Setup
+  pub limits : IsWithinLimits setup
+  pub good : IsGood w
+  pub sound : IsSound setup w
+
+-- each plain and recorded sphere has fewer commits than a log may have
+pub record HasRoom (w : World) : Type 0 where
+  pub few : (i : ℕ) → i < length w.spheres → replays (sphere_at w i).role ≡ false → position (sphere_at w i).progress < 2 ^ 24

@@ -1,0 +1,18 @@
+-- What a core asks for.
+use Rattle.std.specs.Prelude.{◌≡◌, ℕ, Option, Some, option_map}
+use Rattle.spec_engine.specs.declared.answers.How.{How}
+use Rattle.spec_engine.specs.Flights.{at}
+use Rattle.spec_protocol.specs.World.{Held, World}
+use Rattle.dl_machine.specs.declared.one_core.Held.{Held as Seen}
+use Rattle.dl_machine.specs.Cores.{seen}
+
+-- core c holds this
+abbrev pub Holds : World → (core : ℕ) → Seen → Type 0
+Holds w c h = option_map seen (at w.cores c) ≡ Some h
+
+abbrev pub closed_by : Held → Option How
+closed_by h = h.chunk.closed
+
+-- its chunk was closed so
+abbrev pub IsClosedBy : World → (core : ℕ) → How → Type 0
+IsClosedBy w c how = option_map closed_by (at w.cores c) ≡ Some (Some how)

@@ -1,0 +1,61 @@
+-- The rows of cores and of spheres in code.
+use Rattle.std.specs.Prelude.{◌≡◌, ℕ, ◌≤◌, true, All, length, List, Option, slice_set, slice_index_or}
+use Rattle.spec_engine.specs.Signatures.{is_size}
+use Rattle.spec_protocol.specs.Spheres.{Sphere, no_sphere}
+use Rattle.spec_protocol.specs.World.{Held, Numbers}
+use Rattle.dl_sphere.specs.Standing.{Standing}
+use Rattle.dl_machine.specs.Cores.{Core}
+
+-- the words that a buffer holds, the bits of a signature, and what each core holds
+pub record Cores : Type 0 where
+  pub capacity : ℕ
+  pub bits : ℕ
+  pub held : List (Option Held)
+
+-- the cores are alike
+pub record IsAlike (words lines : ℕ) (c : Core) : Type 0 where
+  pub most : c.most ≡ 4096
+  pub capacity : c.capacity ≡ words
+  pub bits : c.bits ≡ lines
+
+pub record AreCores (capacity bits : ℕ) (row : List Core) : Type 0 where
+  pub some_core : 1 ≤ length row
+  pub most_cores : length row ≤ 8
+  pub least : 1 ≤ capacity
+  pub most : capacity ≤ 4096
+  pub size : is_size bits ≡ true
+  pub each : All (IsAlike capacity bits) row
+
+abbrev pub held_by : Core → Option Held
+held_by c = c.held
+
+-- with this held by core c
+abbrev pub with_held : (core : ℕ) → Option Held → Cores → Cores
+with_held c held r = record r { held = slice_set r.held c held }
+
+-- the standard size of a chunk, and the spheres
+pub record Spheres : Type 0 where
+  pub standard : ℕ
+  pub spheres : List Sphere
+
+abbrev pub sphere_in : Standing → Sphere
+sphere_in p = p.sphere
+
+-- the spheres have one standard size
+pub record IsOfStandard (s : ℕ) (p : Standing) : Type 0 where
+  pub standard : p.standard ≡ s
+
+pub record AreSpheres (standard : ℕ) (row : List Standing) : Type 0 where
+  pub some_sphere : 1 ≤ length row
+  pub most_spheres : length row ≤ 8
+  pub each : All (IsOfStandard standard) row
+
+abbrev pub nth_sphere : (i : ℕ) → Spheres → Sphere
+nth_sphere i r = slice_index_or r.spheres i no_sphere
+
+abbrev pub with_nth : (i : ℕ) → Sphere → Spheres → Spheres
+with_nth i p r = record r { spheres = slice_set r.spheres i p }
+
+-- the numbers of the cores and a sphere
+abbrev pub numbers_in : Cores → Standing → Numbers
+numbers_in r p = record { chunk = p.standard; buffer = r.capacity; signature = r.bits }

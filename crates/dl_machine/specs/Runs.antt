@@ -1,0 +1,43 @@
+-- What is promised of a machine that began as a setup and took some events.
+use Rattle.std.specs.Prelude.{◌≡◌, ℕ, true, false, List, slice_get, Some}
+use Rattle.dl_entry.specs.declared.Point.{Point}
+use Rattle.spec_log.specs.declared.ModeName.{ModeName}
+use Rattle.spec_log.specs.declared.LogParts.{LogParts}
+use Rattle.spec_play.specs.Progress.{position}
+use Rattle.spec_play.specs.Plays.{opened, play, plays}
+use Rattle.spec_protocol.specs.declared.event.Event.{Event}
+use Rattle.spec_protocol.specs.Spheres.{Book, Record, Replay, Sphere, is_over}
+use Rattle.spec_protocol.specs.Placing.{replays}
+use Rattle.spec_protocol.specs.World.{World}
+use Rattle.spec_protocol.specs.Machine.{IsRecorded, IsReplayed, Setup, SphereSetup}
+use Rattle.spec_protocol.specs.Serial.{CanDoAll, serial, whole_of}
+use Rattle.spec_protocol.specs.Shown.{shown_of}
+use Rattle.spec_protocol.specs.Promises.{after}
+use Rattle.spec_protocol.specs.PlayingBack.{PlaysBack}
+use Rattle.spec_protocol.specs.Sound.{IsWithinLimits}
+use Rattle.spec_replay.specs.Following.{Follows}
+use Rattle.spec_replay.specs.Promises.{IsPlayed}
+
+-- the setup is within the limits, and these events have come to the world
+pub record IsRun (s : Setup) (es : List Event) (w : World) : Type 0 where
+  pub limits : IsWithinLimits s
+  pub here : w ≡ after s es
+
+-- the plain and recorded spheres, with their current memories, and the devices are those of doing these points whole, one
+-- at a time; and each point can be done as it says
+pub record IsSerial (s : Setup) (w : World) (points : List Point) : Type 0 where
+  pub spheres : (i : ℕ) (p : Sphere) → slice_get (shown_of w).spheres i ≡ Some p → replays p.role ≡ false → slice_get (serial s points).spheres i ≡ Some p
+  pub devices : w.devices ≡ (serial s points).devices
+  pub possible : CanDoAll (whole_of s) points
+
+-- sphere i was set up so, and is now p, with its current memory
+pub record IsNow (s : Setup) (i : ℕ) (w : World) (image : SphereSetup) (p : Sphere) : Type 0 where
+  pub there : slice_get s.spheres i ≡ Some image
+  pub shown : slice_get (shown_of w).spheres i ≡ Some p
+
+-- where sphere i is recorded, its log so far fits its image and plays back; where it is replayed, it stands in the play of
+-- its log, and once it has stopped it has done the whole play
+pub record IsPromised (s : Setup) (i : ℕ) (w : World) : Type 0 where
+  pub recorded : (image : SphereSetup) (mode : ModeName) (p : Sphere) (log : LogParts) → IsNow s i w image p → image.role ≡ IsRecorded mode → p.role ≡ Record log → PlaysBack log image p
+  pub replayed : (image : SphereSetup) (log : LogParts) (p : Sphere) → IsNow s i w image p → image.role ≡ IsReplayed log → Follows log (plays log (opened log image.memory image.entry) (position p.progress)) p
+  pub stopped : (image : SphereSetup) (log : LogParts) (p : Sphere) (b : Book) → IsNow s i w image p → image.role ≡ IsReplayed log → p.role ≡ Replay b → is_over b.now ≡ true → IsPlayed (play log image.memory image.entry) p b

@@ -1,0 +1,42 @@
+-- What a machine is made of.
+use Rattle.std.specs.Prelude.{◌≡◌, ℕ, ◌≤◌, true, map, length, Option, Some, None}
+use Rattle.spec_log.specs.Log.{IsChunkSize}
+use Rattle.spec_engine.specs.Signatures.{is_size}
+use Rattle.spec_protocol.specs.Spheres.{Sphere}
+use Rattle.spec_protocol.specs.World.{Held, Numbers, held_afresh}
+use Rattle.spec_protocol.specs.Machine as protocol
+use Rattle.spec_protocol.specs.Sound.{AreFew}
+use Rattle.dl_sphere.specs.Setups.{setup_of}
+use Rattle.dl_machine.specs.declared.setup.Setup.{Setup}
+use Rattle.dl_machine.specs.Rows.{Spheres}
+
+-- as the definitions have it
+abbrev pub setup_in : Setup → protocol.Setup
+setup_in s =
+    record {
+      cores = s.cores;
+      window = s.window;
+      numbers = record { chunk = s.chunk; buffer = s.buffer; signature = s.signature };
+      seed = s.seed;
+      input = s.input;
+      spheres = map setup_of s.spheres;
+    }
+
+-- its numbers are within the limits
+pub record IsWithin (s : Setup) : Type 0 where
+  pub cores : AreFew s.cores
+  pub window : AreFew s.window
+  pub few : AreFew (length s.spheres)
+  pub chunk : IsChunkSize s.chunk
+  pub least : 1 ≤ s.buffer
+  pub most : s.buffer ≤ 4096
+  pub signature : is_size s.signature ≡ true
+
+-- the numbers of a setup whose spheres are made
+abbrev pub numbers_with : Setup → Spheres → Numbers
+numbers_with s r = record { chunk = r.standard; buffer = s.buffer; signature = s.signature }
+
+-- what core i holds at first: thread 0 of its own sphere, if there is one
+abbrev pub first_held : Numbers → (i : ℕ) → Option Sphere → Option Held
+first_held z i None = None
+first_held z i (Some p) = held_afresh z i 0 p

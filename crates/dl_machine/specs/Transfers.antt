@@ -1,0 +1,8 @@
+-- What a DMA comes to.
+use Rattle.std.specs.Prelude.{◌≡◌, Option, Some, None}
+use Rattle.spec_protocol.specs.Commits.{CommitOutcome, Moved}
+
+-- there is one, with that outcome
+abbrev pub ComesTo : CommitOutcome → Option Moved → Type 0
+ComesTo o None = ⊥
+ComesTo o (Some v) = v.outcome ≡ o

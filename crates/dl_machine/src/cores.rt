@@ -1,0 +1,232 @@
+//! The row of cores.
+ghost use Rattle.std.specs.Prelude.{◌≡◌, ◌≤◌, ◌<◌, true, None, Some, IfOk, IfSome, IsSome, length, option_map, slice_get};
+ghost use Rattle.std.specs.List.{position};
+ghost use Rattle.spec_engine.specs.Chunks.{cut, step};
+ghost use Rattle.spec_engine.specs.Flights.{at, first_slot, passes};
+ghost use Rattle.spec_engine.specs.Signatures.{is_size, nothing};
+ghost use Rattle.spec_protocol.specs.Flying.{squashed};
+ghost use Rattle.spec_protocol.specs.Machine.{first_cores};
+ghost use Rattle.spec_protocol.specs.World.{held_afresh, runs};
+ghost use Rattle.dl_machine.specs.Cores.{holding, idle};
+ghost use Rattle.dl_machine.specs.Setups.{IsWithin, first_held, numbers_with};
+
+use crate::one_core::{Core, Held};
+use crate::setup::Setup;
+use crate::spheres::Spheres;
+use dl_chunk::{Chunk, CutReply, Stepped};
+use dl_fly::Flights;
+use dl_mem::Memory;
+use dl_sig::Sig;
+use dl_sphere::Sphere;
+use std::alloc::{AllocError, Global};
+use std::marker::Model;
+
+// From 1 to 8 cores, which are alike: their chunks may store `capacity` words, and have signatures of `bits` bits.
+#[derive(Drop)]
+pub(crate) struct Cores<G: Sig> {
+    capacity: u32,
+    bits: u32,
+    row: Vec<Core<G>>,
+}
+
+impl<G: Sig> Model for Cores<G> {
+    ghost use Rattle.std.specs.Prelude.{map};
+    ghost use Rattle.std.specs.Coded.{codes};
+    ghost use Rattle.spec_engine.specs.Signatures.{places_code};
+    ghost use Rattle.dl_machine.specs.Rows.{AreCores, Cores, held_by};
+
+    ghost Value = { Cores };
+
+    ghost coded = { Prim.hlevel (codes, places_code) };
+
+    ghost view = { λ c. record { capacity = c.capacity; bits = c.bits; held = map held_by c.row.items } };
+
+    ghost invariant = { λ c. AreCores c.capacity c.bits c.row.items };
+}
+
+impl<G: Sig> Cores<G> {
+    ghost use Rattle.dl_machine.specs.Cores.{IsOpen, reads_in, seen, to_chunk, writes_in};
+    ghost use Rattle.dl_machine.specs.Rows.{numbers_in, with_held};
+
+    /// The cores of a setup, each with thread 0 of its own sphere, or idle where there is none.
+    pub(crate) fn new(
+        alloc: Global,
+        setup: &Setup,
+        spheres: &Spheres,
+    ) -> Result<Cores<G>, AllocError>
+        requires { IsWithin setup.now }
+        ensures { let z = numbers_with setup.now spheres.now in
+            IfOk result (λ c. c ≡ record { capacity = setup.now.buffer; bits = setup.now.signature; held = first_cores z 0 setup.now.cores spheres.now.spheres }) }
+    {
+        let mut row = Vec::with_capacity(alloc, setup.cores as usize)?;
+        for core in 0..setup.cores {
+            row.push_reserved(first(alloc, setup, core, spheres)?);
+        }
+        Ok(Cores {
+            capacity: setup.buffer,
+            bits: setup.signature,
+            row,
+        })
+    }
+
+    /// How many there are, from 1 to 8.
+    pub(crate) fn len(&self) -> u8
+        ensures value { result ≡ length self.now.held }
+        ensures least { 1 ≤ result }
+        ensures most { result ≤ 8 }
+    {
+        self.row.len() as u8
+    }
+
+    /// How many words a chunk may store.
+    pub(crate) fn capacity(&self) -> u32
+        ensures value { result ≡ self.now.capacity }
+        ensures least { 1 ≤ result }
+        ensures most { result ≤ 4096 }
+    {
+        self.capacity
+    }
+
+    /// How many bits a signature has.
+    pub(crate) fn bits(&self) -> u32
+        ensures value { result ≡ self.now.bits }
+        ensures size { is_size result ≡ true }
+    {
+        self.bits
+    }
+
+    /// What a core holds, if it isn't idle.
+    pub(crate) fn held(&self, core: u8) -> Option<Held>
+        requires { core < length self.now.held }
+        ensures { result ≡ option_map seen (at self.now.held core) }
+    {
+        self.row[core as usize].held()
+    }
+
+    /// The least core that holds that thread of the sphere.
+    #[tactic(auto, using(crate::proofs::Alike::position_held), unfolding(spec_engine::specs::Flights::first_slot))]
+    pub(crate) fn find(&self, sphere: u8, thread: u8) -> Option<u8>
+        ensures value { result ≡ first_slot (runs sphere thread) self.now.held }
+        ensures within { IfSome result (λ c. c < length self.now.held) }
+    {
+        match place_of(&self.row, sphere, thread) {
+            Some(place) => Some(place as u8),
+            None => None,
+        }
+    }
+
+    /// A core goes on with thread `thread` of sphere `sphere`, which is `of`, or is idle where there is no such live thread.
+    pub(crate) fn begin(&mut self, core: u8, sphere: u8, thread: u8, of: &Sphere)
+        requires { core < length self.old.held }
+        ensures { let z = numbers_in self.old of.now in
+            self.new ≡ with_held core (held_afresh z sphere thread of.now.sphere) self.old }
+    {
+        let core = &mut self.row[core as usize];
+        core.begin(sphere, thread, of);
+    }
+
+    /// A core is idle.
+    pub(crate) fn rest(&mut self, core: u8)
+        requires { core < length self.old.held }
+        ensures { self.new ≡ with_held core None self.old }
+    {
+        let core = &mut self.row[core as usize];
+        core.rest();
+    }
+
+    /// A core runs one instruction of its chunk.
+    pub(crate) fn step(&mut self, core: u8, memory: &Memory, flights: &Flights<G>) -> Stepped
+        requires core { core < length self.old.held }
+        requires open { IsOpen (at self.old.held core) }
+        ensures reply { let f = step self.old.capacity memory.now flights.now.slots core in
+            Some result ≡ option_map (λ h. (f h.chunk).reply) (at self.old.held core) }
+        ensures core { let f = step self.old.capacity memory.now flights.now.slots core in
+            self.new ≡ with_held core (option_map (to_chunk (λ ch. (f ch).chunk)) (at self.old.held core)) self.old }
+    {
+        let runner = &mut self.row[core as usize];
+        runner.step(memory, flights, core)
+    }
+
+    /// A core's chunk is cut off.
+    pub(crate) fn cut(&mut self, core: u8) -> CutReply
+        requires core { core < length self.old.held }
+        requires held { IsSome (at self.old.held core) }
+        ensures reply { Some result ≡ option_map (λ h. (cut h.chunk).reply) (at self.old.held core) }
+        ensures core { let cut_off = to_chunk (λ ch. (cut ch).chunk) in
+            self.new ≡ with_held core (option_map cut_off (at self.old.held core)) self.old }
+    {
+        let core = &mut self.row[core as usize];
+        core.cut()
+    }
+
+    /// A core's chunk begins again, if it isn't idle.
+    pub(crate) fn squash(&mut self, core: u8)
+        requires { core < length self.old.held }
+        ensures { self.new ≡ with_held core (squashed (at self.old.held core)) self.old }
+    {
+        let core = &mut self.row[core as usize];
+        core.squash();
+    }
+
+    /// The chunk that a core holds.
+    pub(crate) fn chunk(&self, core: u8) -> &Chunk<G>
+        requires core { core < length self.now.held }
+        requires held { IsSome (at self.now.held core) }
+        ensures { Some result.now.chunk ≡ option_map (λ h. h.chunk) (at self.now.held core) }
+    {
+        self.row[core as usize].chunk()
+    }
+
+    /// The lines that a core's chunk has read.
+    pub(crate) fn reads(&self, core: u8) -> &G
+        requires { core < length self.now.held }
+        ensures { G.marks result.now ≡ reads_in self.now.bits (at self.now.held core) }
+    {
+        self.row[core as usize].reads()
+    }
+
+    /// The lines that a core's chunk has stored to.
+    pub(crate) fn writes(&self, core: u8) -> &G
+        requires { core < length self.now.held }
+        ensures { G.marks result.now ≡ writes_in self.now.bits (at self.now.held core) }
+    {
+        self.row[core as usize].writes()
+    }
+
+    /// A core gives up the lines that its chunk has stored to, and is idle.
+    pub(crate) fn hand_over(&mut self, core: u8, writes: G) -> G
+        requires core { core < length self.old.held }
+        requires empty { G.marks writes ≡ nothing self.old.bits }
+        ensures given { G.marks result ≡ writes_in self.old.bits (at self.old.held core) }
+        ensures core { self.new ≡ with_held core None self.old }
+    {
+        let core = &mut self.row[core as usize];
+        core.hand_over(writes)
+    }
+}
+
+// The core of that number at first.
+fn first<G: Sig>(
+    alloc: Global,
+    setup: &Setup,
+    core: u8,
+    spheres: &Spheres,
+) -> Result<Core<G>, AllocError>
+    requires { IsWithin setup.now }
+    ensures { let z = numbers_with setup.now spheres.now in
+        IfOk result (λ c. c ≡ holding (first_held z core (slice_get spheres.now.spheres core)) (idle 4096 setup.now.buffer setup.now.signature)) }
+{
+    let mut made = Core::new(alloc, setup.buffer, setup.signature)?;
+    if core < spheres.len() {
+        made.begin(core, 0, spheres.get(core));
+    }
+    Ok(made)
+}
+
+// The least core of a row that holds that thread of the sphere.
+fn place_of<G: Sig>(row: &[Core<G>], sphere: u8, thread: u8) -> Option<usize>
+    ensures value { result ≡ position (λ c. passes (runs sphere thread) c.held) row.now }
+    ensures within { IfSome result (λ k. k < length row.now) }
+{
+    row.iter().position(|core| core.runs(sphere, thread))
+}

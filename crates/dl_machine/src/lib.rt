@@ -1,0 +1,19 @@
+//! The machine: callers see it as the world of the definitions, and each event answers and leaves what is said there.
+#![tactic(auto)]
+
+mod asking;
+mod cores;
+mod counting;
+mod flying;
+mod machine;
+mod one_core;
+mod placing;
+mod setup;
+mod spheres;
+mod state;
+mod stepping;
+mod transferring;
+
+pub use machine::Machine;
+pub use one_core::Held;
+pub use setup::Setup;

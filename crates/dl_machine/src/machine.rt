@@ -1,0 +1,143 @@
+//! The machine.
+ghost use Rattle.std.specs.Prelude.{◌≡◌, ◌≤◌, ◌<◌, ◌^◌, ◌∷◌, ◌++◌, [], List, false, IfOk, IsOk, OnErr, OnOk, length, option_map};
+ghost use Rattle.spec_engine.specs.Flights.{at};
+ghost use Rattle.spec_protocol.specs.declared.event.Event.{Event};
+ghost use Rattle.spec_protocol.specs.Machine.{Setup as SetupOf, happens, world_of};
+ghost use Rattle.spec_protocol.specs.Serial.{serial};
+ghost use Rattle.spec_protocol.specs.World.{sphere_at};
+
+use crate::one_core::Held;
+use crate::setup::Setup;
+use crate::state::State;
+use dl_entry::{Counts, OutOfMemory, Point};
+use dl_fly::Flights;
+use dl_sig::Sig;
+use dl_sphere::Sphere;
+use spec_protocol::{Event, Reply};
+use std::alloc::Global;
+use std::marker::Model;
+
+/// The machine: cores, spheres, flights and devices, with the counts of events and the serialisation points so far.
+#[derive(Drop)]
+pub struct Machine<G: Sig> {
+    state: State<G>,
+}
+
+impl<G: Sig> Model for Machine<G> {
+    ghost use Rattle.std.specs.Coded.{codes};
+    ghost use Rattle.spec_engine.specs.Signatures.{places_code};
+    ghost use Rattle.spec_protocol.specs.Sound.{IsWithinLimits};
+    ghost use Rattle.spec_protocol.specs.World.{World};
+    ghost use Rattle.dl_machine.specs.Ready.{IsReady};
+
+    ghost Value = { World };
+
+    ghost coded = { Prim.hlevel (codes, places_code) };
+
+    ghost view = { λ m. m.state };
+
+    ghost invariant = { λ m. IsReady m.state };
+}
+
+impl<G: Sig> Machine<G> {
+    ghost use Rattle.dl_machine.specs.Cores.{seen};
+    ghost use Rattle.dl_machine.specs.Ready.{HasRoom};
+    ghost use Rattle.dl_machine.specs.Events.{IsWanted, wants_memory};
+    ghost use Rattle.dl_machine.specs.Runs.{IsPromised, IsRun, IsSerial};
+    ghost use Rattle.dl_machine.specs.Setups.{IsWithin, setup_in};
+
+    /// The machine of a setup, before the first event.
+    pub fn new(alloc: Global, setup: &Setup) -> Result<Machine<G>, OutOfMemory>
+        requires { IsWithin setup.now }
+        ensures made { IfOk result (λ m. m ≡ world_of (setup_in setup.now)) }
+        ensures run { IfOk result (λ m. IsRun (setup_in setup.now) [] m) }
+    {
+        Ok(Machine {
+            state: State::new(alloc, setup)?,
+        })
+    }
+
+    /// Takes one event.
+    #[tactic(auto, using(crate::proofs::Events::ready_after, crate::proofs::Events::act_counts, crate::proofs::Events::happens_world, crate::proofs::Events::happens_reply, crate::proofs::Events::replies_few))]
+    pub fn apply(&mut self, event: Event) -> Result<Reply, OutOfMemory>
+        requires events { self.old.counts.events < 2 ^ 63 }
+        requires commits { HasRoom self.old }
+        ensures done { IfOk result (λ r. r ≡ (happens self.old event).reply) }
+        ensures world { OnOk result (self.new ≡ (happens self.old event).world) }
+        ensures run { OnOk result ((s : SetupOf) (es : List Event) → IsRun s es self.old → IsRun s (es ++ event ∷ []) self.new) }
+        ensures refused { OnErr result (self.new ≡ self.old) }
+        ensures plenty { wants_memory event ≡ false → IsOk result }
+        ensures wanted { OnErr result (IsWanted event (happens self.old event).reply) }
+    {
+        let reply = self.state.act(event)?;
+        self.state.count(reply);
+        Ok(reply)
+    }
+
+    /// The serialisation points so far. The plain and recorded spheres and the devices are those of doing them one at a time.
+    pub fn points(&self) -> &[Point]
+        ensures value { result.now ≡ self.now.points }
+        ensures serial { (s : SetupOf) (es : List Event) → IsRun s es self.now → IsSerial s self.now result.now }
+    {
+        &self.state.points
+    }
+
+    /// How many events there were, and how often each reply was given.
+    pub fn counts(&self) -> &Counts
+        ensures { result.now ≡ self.now.counts }
+    {
+        &self.state.counts
+    }
+
+    /// All bytes that were put on the console.
+    pub fn console(&self) -> &[u8]
+        ensures value { result.now ≡ self.now.devices.console }
+        ensures serial { (s : SetupOf) (es : List Event) → IsRun s es self.now →
+            result.now ≡ (serial s self.now.points).devices.console }
+    {
+        self.state.devices.console()
+    }
+
+    /// A sphere. A recorded one's log plays back, and a replayed one stands in its log's play.
+    pub fn sphere(&self, number: u8) -> &Sphere
+        requires { number < length self.now.spheres }
+        ensures sphere { result.now.sphere ≡ sphere_at self.now number }
+        ensures standard { result.now.standard ≡ self.now.numbers.chunk }
+        ensures promised { (s : SetupOf) (es : List Event) → IsRun s es self.now → IsPromised s number self.now }
+    {
+        self.state.spheres.get(number)
+    }
+
+    /// How many spheres there are, from 1 to 8.
+    pub fn spheres(&self) -> u8
+        ensures value { result ≡ length self.now.spheres }
+        ensures least { 1 ≤ result }
+        ensures most { result ≤ 8 }
+    {
+        self.state.spheres.len()
+    }
+
+    /// How many cores there are, from 1 to 8.
+    pub fn cores(&self) -> u8
+        ensures value { result ≡ length self.now.cores }
+        ensures least { 1 ≤ result }
+        ensures most { result ≤ 8 }
+    {
+        self.state.cores.len()
+    }
+
+    /// The flights in their slots.
+    pub fn flights(&self) -> &Flights<G>
+        ensures { result.now ≡ record { cores = length self.now.cores; slots = self.now.slots } }
+    {
+        &self.state.flights
+    }
+
+    /// What a core holds, if it isn't idle.
+    pub fn holds(&self, core: u8) -> Option<Held>
+        requires { core < length self.now.cores }
+        ensures { result ≡ option_map seen (at self.now.cores core) }
+    {
+        self.state.cores.held(core)
+    }
+}

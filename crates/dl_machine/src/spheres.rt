@@ -1,0 +1,186 @@
+//! The row of spheres.
+ghost use Rattle.std.specs.Prelude.{◌≡◌, ◌≤◌, ◌<◌, ◌^◌, IfOk, IfSome, OnOk, OnErr, IsSome, Some, false, true, length, map, slice_get, All};
+ghost use Rattle.spec_isa.specs.declared.thread.Parts.{Parts};
+ghost use Rattle.spec_engine.specs.declared.answers.How.{How};
+ghost use Rattle.spec_engine.specs.Flights.{IsInside, at, drain};
+ghost use Rattle.spec_isa.specs.Words.{IsBytes};
+ghost use Rattle.spec_kernel.specs.Devices.{Devices};
+ghost use Rattle.spec_kernel.specs.Interrupts.{takes_interrupt};
+ghost use Rattle.spec_protocol.specs.Placing.{replays};
+ghost use Rattle.spec_protocol.specs.Sound.{AreFew, HaveByteInput, IsImage, IsSoundRequest};
+ghost use Rattle.spec_protocol.specs.Asking.{is_short};
+ghost use Rattle.spec_protocol.specs.Commits.{chunk_moved, dma_moved, is_piece, raised, serial_moved};
+ghost use Rattle.dl_fly.specs.Slots.{set_slot};
+ghost use Rattle.spec_log.specs.Log.{IsChunkSize};
+ghost use Rattle.spec_protocol.specs.Machine.{sphere_of};
+ghost use Rattle.dl_sphere.specs.Setups.{setup_of};
+ghost use Rattle.dl_sphere.specs.Moving.{CanCommit, IsTurnOf, IsTurnOfDma, came};
+
+use dl_chunk::Chunk;
+use dl_dev::Devices;
+use dl_entry::OutOfMemory;
+use dl_fly::{Drain, Flights};
+use dl_sig::Sig;
+use dl_sphere::{Moved, Sphere, SphereSetup};
+use std::alloc::Global;
+use std::marker::Model;
+
+// From 1 to 8 spheres, of one standard size of a chunk.
+#[derive(Drop)]
+pub(crate) struct Spheres {
+    standard: u32,
+    row: Vec<Sphere>,
+}
+
+impl Model for Spheres {
+    ghost use Rattle.std.specs.Prelude.{map};
+    ghost use Rattle.dl_machine.specs.Rows.{AreSpheres, Spheres, sphere_in};
+
+    ghost Value = { Spheres };
+
+    ghost view = { λ s. record { standard = s.standard; spheres = map sphere_in s.row.items } };
+
+    ghost invariant = { λ s. AreSpheres s.standard s.row.items };
+}
+
+impl Spheres {
+    ghost use Rattle.dl_machine.specs.Rows.{nth_sphere, with_nth};
+
+    /// The spheres of these setups, from 1 to 8.
+    pub(crate) fn new(
+        alloc: Global,
+        setups: &[SphereSetup],
+        standard: u32,
+    ) -> Result<Spheres, OutOfMemory>
+        requires few { AreFew (length setups.now) }
+        requires size { IsChunkSize standard }
+        ensures made { IfOk result (λ s. s ≡ record { standard = standard; spheres = map (sphere_of standard) (map setup_of setups.now) }) }
+        ensures images { IfOk result (λ s. All (λ setup. IsImage (setup_of setup)) setups.now) }
+    {
+        let mut row = Vec::with_capacity(alloc, setups.len())?;
+        for setup in setups {
+            row.push_reserved(Sphere::new(alloc, setup, standard)?);
+        }
+        Ok(Spheres { standard, row })
+    }
+
+    /// How many there are, from 1 to 8.
+    pub(crate) fn len(&self) -> u8
+        ensures value { result ≡ length self.now.spheres }
+        ensures least { 1 ≤ result }
+        ensures most { result ≤ 8 }
+    {
+        self.row.len() as u8
+    }
+
+    /// The standard size of a chunk.
+    pub(crate) fn standard(&self) -> u32
+        ensures { result ≡ self.now.standard }
+    {
+        self.standard
+    }
+
+    /// The i-th.
+    pub(crate) fn get(&self, i: u8) -> &Sphere
+        requires { i < length self.now.spheres }
+        ensures { result.now ≡ record { standard = self.now.standard; sphere = nth_sphere i self.now } }
+    {
+        &self.row[i as usize]
+    }
+
+    /// The i-th does the first word left of a flight.
+    pub(crate) fn drain<G: Sig>(&mut self, i: u8, flights: &mut Flights<G>, k: u8) -> Drain
+        requires sphere { i < length self.old.spheres }
+        requires slot { k < length flights.old.slots }
+        requires inside { IsInside (length (nth_sphere i self.old).memory) (at flights.old.slots k) }
+        ensures reply { let d = drain (nth_sphere i self.old).memory (at flights.old.slots k) in result ≡ d.reply }
+        ensures slots { let d = drain (nth_sphere i self.old).memory (at flights.old.slots k) in
+            flights.new ≡ set_slot k d.slot flights.old }
+        ensures memory { let p = nth_sphere i self.old in let d = drain p.memory (at flights.old.slots k) in
+            self.new ≡ with_nth i (record p { memory = d.memory }) self.old }
+    {
+        let sphere = &mut self.row[i as usize];
+        sphere.drain(flights, k)
+    }
+
+    /// The i-th commits a closed chunk of one of its threads.
+    pub(crate) fn commit_chunk<G: Sig>(
+        &mut self,
+        i: u8,
+        thread: u8,
+        chunk: &Chunk<G>,
+    ) -> Result<Moved, OutOfMemory>
+        requires sphere { i < length self.old.spheres }
+        requires thread { thread < length (nth_sphere i self.old).threads }
+        requires chunk { (how : How) × CanCommit self.old.standard (nth_sphere i self.old) thread how chunk.now.chunk }
+        requires few { length (nth_sphere i self.old).progress.commits < 2 ^ 24 }
+        requires request { let p = nth_sphere i self.old in IfSome p.progress.request (IsSoundRequest (length p.memory)) }
+        ensures ok { IfOk result (λ m. (d : Devices) (how : How) → chunk.now.chunk.closed ≡ Some how →
+            let p = nth_sphere i self.old in
+            let short = is_short self.old.standard how chunk.now.chunk.limit in
+            came m (nth_sphere i self.new) d ≡ chunk_moved thread (is_piece how) short chunk.now.chunk.done d p) }
+        ensures others { self.new ≡ with_nth i (nth_sphere i self.new) self.old }
+        ensures err { OnErr result (self.new ≡ self.old) }
+    {
+        let sphere = &mut self.row[i as usize];
+        sphere.commit_chunk(thread, chunk)
+    }
+
+    /// The i-th does the serial step of one of its threads.
+    pub(crate) fn serial_step(
+        &mut self,
+        i: u8,
+        thread: u8,
+        devices: &mut Devices,
+        moment: u32,
+    ) -> Result<Moved, OutOfMemory>
+        requires sphere { i < length self.old.spheres }
+        requires thread { thread < length (nth_sphere i self.old).threads }
+        requires turn { IsTurnOf thread (nth_sphere i self.old).role }
+        requires few { length (nth_sphere i self.old).progress.commits < 2 ^ 24 }
+        requires bytes { IsBytes (nth_sphere i self.old).memory }
+        requires devices { HaveByteInput devices.old }
+        ensures ok { IfOk result (λ m. (t : Parts) → slice_get (nth_sphere i self.old).threads thread ≡ Some t →
+            let p = nth_sphere i self.old in
+            came m (nth_sphere i self.new) devices.new ≡ serial_moved thread moment t devices.old p) }
+        ensures others { self.new ≡ with_nth i (nth_sphere i self.new) self.old }
+        ensures err { OnErr result (self.new ≡ self.old) }
+        ensures devices { OnErr result (devices.new ≡ devices.old) }
+    {
+        let sphere = &mut self.row[i as usize];
+        sphere.serial_step(thread, devices, moment)
+    }
+
+    /// One of the i-th sphere's threads is interrupted.
+    pub(crate) fn raise(&mut self, i: u8, thread: u8, value: u32) -> Result<(), OutOfMemory>
+        requires sphere { i < length self.old.spheres }
+        requires thread { thread < length (nth_sphere i self.old).threads }
+        requires there { (t : Parts) → slice_get (nth_sphere i self.old).threads thread ≡ Some t → takes_interrupt t ≡ true }
+        requires recorded { replays (nth_sphere i self.old).role ≡ false }
+        ensures ok { OnOk result ((t : Parts) → slice_get (nth_sphere i self.old).threads thread ≡ Some t →
+            nth_sphere i self.new ≡ raised thread value t (nth_sphere i self.old)) }
+        ensures others { self.new ≡ with_nth i (nth_sphere i self.new) self.old }
+        ensures err { OnErr result (self.new ≡ self.old) }
+    {
+        let sphere = &mut self.row[i as usize];
+        sphere.raise(thread, value)
+    }
+
+    /// The i-th does its DMA.
+    pub(crate) fn dma(&mut self, i: u8, devices: &mut Devices) -> Result<Moved, OutOfMemory>
+        requires sphere { i < length self.old.spheres }
+        requires request { let p = nth_sphere i self.old in IfSome p.progress.request (IsSoundRequest (length p.memory)) }
+        requires turn { IsTurnOfDma (nth_sphere i self.old).role }
+        requires some { IsSome (dma_moved devices.old (nth_sphere i self.old)) }
+        requires few { length (nth_sphere i self.old).progress.commits < 2 ^ 24 }
+        requires devices { HaveByteInput devices.old }
+        ensures ok { IfOk result (λ m. let p = nth_sphere i self.old in
+            dma_moved devices.old p ≡ Some (came m (nth_sphere i self.new) devices.new)) }
+        ensures others { self.new ≡ with_nth i (nth_sphere i self.new) self.old }
+        ensures err { OnErr result (self.new ≡ self.old) }
+        ensures devices { OnErr result (devices.new ≡ devices.old) }
+    {
+        let sphere = &mut self.row[i as usize];
+        sphere.dma(devices)
+    }
+}
