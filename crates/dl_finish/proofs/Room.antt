@@ -1,0 +1,108 @@
+-- Where what takes effect is of a replayed sphere, the others keep their commits.
+use Rattle.std.proofs.Common.{◌≡◌, ◌≢◌, ℕ, ◌<◌, ◌^◌, true, false, List, [], ◌∷◌, ◌++◌, length, inl, inr, Option, Some, None, refl, sym, ap, ◌∙◌, subst, arith}
+use Rattle.std.specs.Prelude.{slice_get}
+use Rattle.std.proofs.lemmas.Bool.{true≢false, cases_eq}
+use Rattle.spec_isa.specs.declared.thread.Parts.{Parts}
+use Rattle.spec_play.specs.Progress.{position}
+use Rattle.spec_engine.specs.declared.answers.How.{How}
+use Rattle.spec_engine.specs.Flights.{Flight}
+use Rattle.spec_protocol.specs.declared.event.Event.{Event}
+use Rattle.spec_protocol.specs.Spheres.{Sphere}
+use Rattle.spec_protocol.specs.Commits.{Moved, dma_moved}
+use Rattle.spec_protocol.specs.Placing.{replays}
+use Rattle.spec_protocol.specs.World.{Numbers, What, OfChunk, OfSerial, OfDma, OfRaise, Move, World, sphere_at}
+use Rattle.spec_protocol.specs.Machine.{SphereSetup, Setup, world_of, happens}
+use Rattle.spec_protocol.specs.Serial.{Whole, do_serial, do_dma, do_raise}
+use Rattle.spec_protocol.specs.Shown.{shown, shown_of}
+use Rattle.spec_protocol.specs.Moves.{move_chunk, do_what, do_at, do_move, do_if}
+use Rattle.spec_protocol.specs.Promises.{IsSetup, after}
+use Rattle.spec_protocol.proofs.Invariant.{shown-get}
+use Rattle.spec_protocol.proofs.Moving.{get-set_other}
+use Rattle.spec_protocol.proofs.Schedules.{happens-kept, start-good, after-good, sizes_kept}
+use Rattle.spec_finishing.specs.Ending.{OfReplay}
+use Rattle.spec_finishing.proofs.Knowing.{after-event, kinds_after, there_is}
+use Rattle.spec_finishing.proofs.KindsKept.{is_replayed, kind-at}
+use Rattle.dl_machine.specs.Ready.{HasRoom}
+
+-- ---- a move leaves the other spheres
+
+chunk_others : (z : Numbers) (x : Whole) (i j k : ℕ) (how : How) (n limit : ℕ) (p : Sphere) (o : Option Parts) → j ≢ i → slice_get (move_chunk z x i k how n limit p o).spheres j ≡ slice_get x.spheres j
+chunk_others z x i j k how n limit p None ne = refl
+chunk_others z x i j k how n limit p (Some t) ne = get-set_other x.spheres i j _ ne
+
+serial_others : (x : Whole) (i j k moment : ℕ) (p : Sphere) (o : Option Parts) → j ≢ i → slice_get (do_serial x i k moment p o).spheres j ≡ slice_get x.spheres j
+serial_others x i j k moment p None ne = refl
+serial_others x i j k moment p (Some t) ne = get-set_other x.spheres i j _ ne
+
+dma_others : (x : Whole) (i j : ℕ) (o : Option Moved) → j ≢ i → slice_get (do_dma x i o).spheres j ≡ slice_get x.spheres j
+dma_others x i j None ne = refl
+dma_others x i j (Some v) ne = get-set_other x.spheres i j _ ne
+
+raise_others : (x : Whole) (i j k value : ℕ) (p : Sphere) (o : Option Parts) → j ≢ i → slice_get (do_raise x i k value p o).spheres j ≡ slice_get x.spheres j
+raise_others x i j k value p None ne = refl
+raise_others x i j k value p (Some t) ne = get-set_other x.spheres i j _ ne
+
+what_others : (z : Numbers) (x : Whole) (moment i j : ℕ) (p : Sphere) (a : What) → j ≢ i → slice_get (do_what z x moment i p a).spheres j ≡ slice_get x.spheres j
+what_others z x moment i j p (OfChunk k how n limit) ne = chunk_others z x i j k how n limit p (slice_get p.threads k) ne
+what_others z x moment i j p (OfSerial k) ne = serial_others x i j k moment p (slice_get p.threads k) ne
+what_others z x moment i j p OfDma ne = dma_others x i j (dma_moved x.devices p) ne
+what_others z x moment i j p (OfRaise k value) ne = raise_others x i j k value p (slice_get p.threads k) ne
+
+at_others : (z : Numbers) (x : Whole) (m : Move) (j : ℕ) (o : Option Sphere) → j ≢ m.sphere → slice_get (do_at z x m o).spheres j ≡ slice_get x.spheres j
+at_others z x m j None ne = refl
+at_others z x m j (Some p) ne = what_others z x m.moment m.sphere j p m.what ne
+
+move_others : (z : Numbers) (x : Whole) (m : Move) (j : ℕ) → j ≢ m.sphere → slice_get (do_move z x m).spheres j ≡ slice_get x.spheres j
+unfolding do_move
+move_others z x m j ne = at_others z x m j (slice_get x.spheres m.sphere) ne
+
+-- ---- a sphere that is not replayed
+
+-- that the sphere of that number is replayed stays as the setup says
+kind_of : (s : Setup) (es : List Event) (i : ℕ) (image : SphereSetup) → IsSetup s → i < length (after s es).spheres → slice_get s.spheres i ≡ Some image → replays (sphere_at (after s es) i).role ≡ is_replayed image.role
+unfolding shown
+kind_of s es i image is l there =
+    let w = after s es in
+    kind-at s.spheres (shown_of w).spheres i image (shown w.slots i (sphere_at w i)) there (shown-get w.slots i w.spheres l) (kinds_after s es is)
+
+same_kind : (s : Setup) (es : List Event) (e : Event) (i : ℕ) → IsSetup s → i < length (happens (after s es) e).world.spheres → i < length (after s es).spheres → replays (sphere_at (happens (after s es) e).world i).role ≡ replays (sphere_at (after s es) i).role
+same_kind s es e i is l m =
+    let sizes = sizes_kept s es is in
+    let image = there_is s.spheres i (let n = sizes.spheres in omega (arith, m, n)) in
+    let next = after-event (world_of s) es e in
+    let after_ : replays (sphere_at (after s (es ++ e ∷ [])) i).role ≡ is_replayed image.0.role = kind_of s (es ++ e ∷ []) i image.0 is (subst (λ (w : World). i < length w.spheres) (sym next) l) image.1 in
+    ap (λ (w : World). replays (sphere_at w i).role) (sym next) ∙ after_ ∙ sym (kind_of s es i image.0 is m image.1)
+
+-- it shows what it showed
+unmoved : (s : Setup) (es : List Event) (e : Event) (i : ℕ) (o : Option Move) → IsSetup s → OfReplay (after s es) o → shown_of (happens (after s es) e).world ≡ do_if (after s es).numbers (shown_of (after s es)) o → i < length (happens (after s es) e).world.spheres → i < length (after s es).spheres → replays (sphere_at (happens (after s es) e).world i).role ≡ false
+    → slice_get (shown_of (happens (after s es) e).world).spheres i ≡ slice_get (shown_of (after s es)).spheres i
+unmoved s es e i None is of whole l m live = ap (λ (x : Whole). slice_get x.spheres i) whole
+unmoved s es e i (Some mv) is of whole l m live =
+    let w = after s es in
+    elim (cases_eq i mv.sphere) [
+      | inl same ↦ (
+          let there : replays (sphere_at w i).role ≡ true = ap (λ (j : ℕ). replays (sphere_at w j).role) same ∙ of in
+          absurd (true≢false (sym there ∙ sym (same_kind s es e i is l m) ∙ live))
+          )
+      | inr ne ↦ ap (λ (x : Whole). slice_get x.spheres i) whole ∙ move_others w.numbers (shown_of w) mv i ne
+    ]
+
+shown_position : (xs ys : List (Option Flight)) (i : ℕ) (p q : Sphere) → Some (shown xs i p) ≡ Some (shown ys i q) → (position p.progress ≡ position q.progress) × (replays p.role ≡ replays q.role)
+unfolding shown
+shown_position xs ys i p q e =
+    let same : shown xs i p ≡ shown ys i q = cc in
+    (ap (λ (r : Sphere). position r.progress) same, ap (λ (r : Sphere). replays r.role) same)
+
+-- the others have room for a commit more still
+pub room_kept : (s : Setup) (es : List Event) (e : Event) → IsSetup s → OfReplay (after s es) (happens (after s es) e).move → HasRoom (after s es) → HasRoom (happens (after s es) e).world
+room_kept s es e is of room =
+    let w = after s es in
+    let k = happens-kept w e (after-good (world_of s) es (start-good s is)) in
+    record {
+      few = λ i l live.
+          let v = (happens w e).world in
+          let m : i < length w.spheres = (let n = k.sizes.spheres in omega (arith, l, n)) in
+          let same = unmoved s es e i (happens w e).move is of k.whole l m live in
+          let both = shown_position v.slots w.slots i (sphere_at v i) (sphere_at w i) (sym (shown-get v.slots i v.spheres l) ∙ same ∙ shown-get w.slots i w.spheres m) in
+          subst (λ (n : ℕ). n < 2 ^ 24) (sym both.0) (room.few i m (sym both.1 ∙ live));
+    }
