@@ -17,9 +17,14 @@ pub record SignaturesCover : Type 0 where
   pub inserted : (l : ℕ) (g : Marks) → covers (insert l g) l ≡ true
   pub earlier : (l k : ℕ) (g : Marks) → covers g k ≡ true → covers (insert l g) k ≡ true
 
--- two signatures of one size that cover one line hit, an insert loses no hit, and a line hits as the signature of that line alone
+-- two signatures of one size that cover one line hit, an insert loses no hit, and a line hits as the signature of that
+-- line alone
 pub record SignaturesHit : Type 0 where
-  pub shared : (g h : Marks) (l : ℕ) → h.bits ≡ g.bits → covers g l ≡ true → covers h l ≡ true → hits g h ≡ true
+  pub shared : (g h : Marks) (l : ℕ)
+      → h.bits ≡ g.bits
+      → covers g l ≡ true
+      → covers h l ≡ true
+      → hits g h ≡ true
   pub kept : (l : ℕ) (g h : Marks) → hits g h ≡ true → hits g (insert l h) ≡ true
   pub kept_left : (l : ℕ) (g h : Marks) → hits g h ≡ true → hits (insert l g) h ≡ true
   pub alone : (g : Marks) (l : ℕ) → hits g (insert l (nothing g.bits)) ≡ covers g l
@@ -34,9 +39,20 @@ pub record CoresAreTold : Type 0 where
 
 -- the slot that is found passes the test, and no lesser one does
 pub record FindsTheLeast : Type 0 where
-  pub none : (p : Flight → Bool) (xs : List (Option Flight)) → first_slot p xs ≡ None → (k : ℕ) (f : Flight) → at xs k ≡ Some f → p f ≡ false
-  pub some : (p : Flight → Bool) (xs : List (Option Flight)) (k : ℕ) → first_slot p xs ≡ Some k → (f : Flight) × (at xs k ≡ Some f) × (p f ≡ true)
-  pub least : (p : Flight → Bool) (xs : List (Option Flight)) (k : ℕ) → first_slot p xs ≡ Some k → (j : ℕ) (f : Flight) → j < k → at xs j ≡ Some f → p f ≡ false
+  pub none : (p : Flight → Bool) (xs : List (Option Flight))
+      → first_slot p xs ≡ None
+      → (k : ℕ) (f : Flight)
+      → at xs k ≡ Some f
+      → p f ≡ false
+  pub some : (p : Flight → Bool) (xs : List (Option Flight)) (k : ℕ)
+      → first_slot p xs ≡ Some k
+      → (f : Flight) × (at xs k ≡ Some f) × (p f ≡ true)
+  pub least : (p : Flight → Bool) (xs : List (Option Flight)) (k : ℕ)
+      → first_slot p xs ≡ Some k
+      → (j : ℕ) (f : Flight)
+      → j < k
+      → at xs j ≡ Some f
+      → p f ≡ false
 
 -- a step that ran has done one instruction of the run; one that closed the chunk for a serial instruction met one on the
 -- memory that it sees; any other step leaves the run as it was
@@ -44,7 +60,8 @@ abbrev pub StepAgrees : List ℕ → Chunk → Stepping → Stepped → Type 0
 StepAgrees m ch s Stepped.Ran = s.chunk.done ≡ more m ch.done
 StepAgrees m ch s (Stepped.Closed How.Limit) = s.chunk.done ≡ more m ch.done
 StepAgrees m ch s (Stepped.Closed How.Serial) =
-    (s.chunk.done ≡ ch.done) × ((kind : Kind) × (one ch.done.thread (lays m ch.done.words) ≡ Serial kind))
+    (s.chunk.done ≡ ch.done)
+    × ((kind : Kind) × (one ch.done.thread (lays m ch.done.words) ≡ Serial kind))
 StepAgrees m ch s (Stepped.Closed How.Overflow) = s.chunk.done ≡ ch.done
 StepAgrees m ch s (Stepped.Closed How.Cut) = ⊥
 StepAgrees m ch s (Stepped.Bounced k) = s.chunk ≡ record ch { reads = s.chunk.reads }
@@ -73,6 +90,9 @@ pub record IsCovered (ch : Chunk) : Type 0 where
 
 -- that is so of a fresh chunk, and stays so
 pub record ChunksAreCovered : Type 0 where
-  pub begun : (bits i : ℕ) (t : Parts) (limit : ℕ) (halves : Bool) → IsCovered (fresh bits i t limit halves)
+  pub begun : (bits i : ℕ) (t : Parts) (limit : ℕ) (halves : Bool)
+      → IsCovered (fresh bits i t limit halves)
   pub squashed : (ch : Chunk) → IsCovered (squash ch)
-  pub stepped : (capacity : ℕ) (m : List ℕ) (slots : List (Option Flight)) (c : ℕ) (ch : Chunk) → IsCovered ch → IsCovered (step capacity m slots c ch).chunk
+  pub stepped : (capacity : ℕ) (m : List ℕ) (slots : List (Option Flight)) (c : ℕ) (ch : Chunk)
+      → IsCovered ch
+      → IsCovered (step capacity m slots c ch).chunk

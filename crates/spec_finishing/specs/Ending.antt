@@ -38,7 +38,10 @@ abbrev pub Falls : Setup → World → List Event → Type 0
 Falls s w [] = under_way w ≤ potential s w
 Falls s w (e ∷ es) =
     let a = happens w e in
-    (under_way w ≤ potential s w) × (is_done a.reply ≡ true) × (rest s a.world < rest s w) × Falls s a.world es
+    (under_way w ≤ potential s w)
+    × (is_done a.reply ≡ true)
+    × (rest s a.world < rest s w)
+    × Falls s a.world es
 
 -- what took effect, if anything did, was of a replayed sphere
 abbrev pub OfReplay : World → Option Move → Type 0
@@ -77,8 +80,12 @@ pub record CanFinish (s : Setup) : Type 0 where
   pub setup : IsSetup s
   pub cores : 0 < s.cores
   pub window : 0 < s.window
-  pub standard : (i : ℕ) (image : SphereSetup) (log : LogParts) → slice_get s.spheres i ≡ Some image → image.role ≡ IsReplayed log → 0 < log.s
+  pub standard : (i : ℕ) (image : SphereSetup) (log : LogParts)
+      → slice_get s.spheres i ≡ Some image
+      → image.role ≡ IsReplayed log
+      → 0 < log.s
 
 -- after any schedule
 abbrev pub FinishingEnds : Type 0
-FinishingEnds = (s : Setup) (es : List Event) → CanFinish s → (finishing : List Event) × Ends s es finishing
+FinishingEnds =
+    (s : Setup) (es : List Event) → CanFinish s → (finishing : List Event) × Ends s es finishing

@@ -139,7 +139,7 @@ read-brings len r e =
     ] refl e
 
 -- the record that a log gives is no longer than what is wanted
-fits-brings : (n : Need) (r : Input) → fits n r ≡ true → Brings (Some n) r
+pub fits-brings : (n : Need) (r : Input) → fits n r ≡ true → Brings (Some n) r
 unfolding fits
 fits-brings (Write channel bytes) r e = tt
 fits-brings (Read channel buf len) r e = read-brings len r (and_parts (eqb r.kind 3) (fits_read len r) e).1

@@ -83,11 +83,11 @@ recorded-dma-sound s image now log devices p (Some q) whole sound request role d
     (dma-log-sound s (position p.progress) (position (with_dma p.progress)) log devices p (Some q) (dma-position p.progress) (λ e. none-some q (sym e)) role) d
 
 -- what the log says of it
-record DmaUses (size : ℕ) (log : LogParts) (u : Used) (words : List Stored) : Type 0 where
-  words_sound : AreSoundWords size words
-  among : u.dmas < length log.dmas
+pub record DmaUses (size : ℕ) (log : LogParts) (u : Used) (words : List Stored) : Type 0 where
+  pub words_sound : AreSoundWords size words
+  pub among : u.dmas < length log.dmas
 
-abbrev IfDmaGoes : (size : ℕ) (log : LogParts) (u : Used) → DmaVerdict → Type 0
+abbrev pub IfDmaGoes : (size : ℕ) (log : LogParts) (u : Used) → DmaVerdict → Type 0
 IfDmaGoes size log u (DmaGoes words) = DmaUses size log u words
 IfDmaGoes size log u (DmaFails why) = Unit {0}
 
@@ -106,7 +106,7 @@ dma-unless-goes : (size : ℕ) (log : LogParts) (u : Used) (o : Option Why) (x :
 dma-unless-goes size log u None x h = h
 dma-unless-goes size log u (Some why) x h = tt
 
-dma-goes : (size : ℕ) (log : LogParts) (p : Progress) (u : Used) → size % 4 ≡ 0 → IsSoundIf size p.request → IfDmaGoes size log u (dma_verdict log p u)
+pub dma-goes : (size : ℕ) (log : LogParts) (p : Progress) (u : Used) → size % 4 ≡ 0 → IsSoundIf size p.request → IfDmaGoes size log u (dma_verdict log p u)
 unfolding dma_verdict
 dma-goes size log p u whole request =
     dma-unless-goes size log u (serial_why (size_in log Actor.Dma (position p))) (transferred (position p) p.request (slice_get log.dmas u.dmas))

@@ -64,12 +64,22 @@ pub record IsGoodHeld (w : World) (c : ℕ) (h : Held) : Type 0 where
   pub start : slice_get (sphere_at w h.chunk.sphere).threads h.thread ≡ Some h.chunk.start
   pub lives : is_live h.chunk.start ≡ true
   pub halving : h.chunk.halves ≡ halves (sphere_at w h.chunk.sphere).role
-  pub limit : is_stopped (sphere_at w h.chunk.sphere).role ≡ false → LimitFits w.numbers.chunk (sphere_at w h.chunk.sphere).role h.thread h.chunk.start h.chunk.limit
-  pub chunk : IsGoodChunk w.numbers.buffer w.numbers.signature w.slots c (current w h.chunk.sphere) h.chunk
+  pub limit : is_stopped (sphere_at w h.chunk.sphere).role ≡ false
+      → (let role = (sphere_at w h.chunk.sphere).role in
+      LimitFits w.numbers.chunk role h.thread h.chunk.start h.chunk.limit)
+  pub chunk :
+      IsGoodChunk w.numbers.buffer w.numbers.signature w.slots c
+      (current w h.chunk.sphere) h.chunk
 
 -- a thread is on one core at most
 abbrev pub IsAlone : List (Option Held) → Type 0
-IsAlone cores = (c d : ℕ) (h g : Held) → at cores c ≡ Some h → at cores d ≡ Some g → h.chunk.sphere ≡ g.chunk.sphere → h.thread ≡ g.thread → c ≡ d
+IsAlone cores =
+    (c d : ℕ) (h g : Held)
+    → at cores c ≡ Some h
+    → at cores d ≡ Some g
+    → h.chunk.sphere ≡ g.chunk.sphere
+    → h.thread ≡ g.thread
+    → c ≡ d
 
 -- ---- the world
 

@@ -17,7 +17,9 @@ use Rattle.spec_replay.specs.Following.{Follows}
 
 -- sphere i was set up by the image, to replay the log, whose standard size is over 0; after the events it is p, with its
 -- current memory
-pub record IsReplay (image : SphereSetup) (log : LogParts) (s : Setup) (es : List Event) (i : ℕ) (p : Sphere) : Type 0 where
+pub record IsReplay
+    (image : SphereSetup) (log : LogParts) (s : Setup) (es : List Event) (i : ℕ) (p : Sphere)
+    : Type 0 where
   pub setup : IsSetup s
   pub there : slice_get s.spheres i ≡ Some image
   pub replays : image.role ≡ IsReplayed log
@@ -54,7 +56,8 @@ pub record IsPlayed (y : Played) (p : Sphere) (b : Book) : Type 0 where
 
 abbrev pub StoppedArePlayed : Type 0
 StoppedArePlayed =
-    (image : SphereSetup) (log : LogParts) (s : Setup) (es : List Event) (i : ℕ) (p : Sphere) (b : Book)
+    (image : SphereSetup) (log : LogParts)
+    (s : Setup) (es : List Event) (i : ℕ) (p : Sphere) (b : Book)
     → IsReplay image log s es i p → p.role ≡ Replay b → is_over b.now ≡ true
     → IsPlayed (play log image.memory image.entry) p b
 
@@ -73,13 +76,15 @@ pub record Agree (p q : Sphere) (b c : Book) : Type 0 where
   -- where both have stopped, they have done the same commits, and have ended in the same way
   pub commits : is_over b.now ≡ true → is_over c.now ≡ true → p.progress ≡ q.progress
   pub ends : is_over b.now ≡ true → is_over c.now ≡ true → b.now ≡ c.now
-  -- and with the same memory and threads, unless that was within a commit, of which they may have done other pieces
+  -- and with the same memory and threads, unless that was within a commit, of which they may have done other
+  -- pieces
   pub final : (how : End) → b.now ≡ Over how → ends_between how ≡ true → is_over c.now ≡ true
       → SameState p q
 
 -- whatever else differs: cores, buffers, window, signatures, devices, events and the other spheres
 abbrev pub ReplaysAgree : Type 0
 ReplaysAgree =
-    (image : SphereSetup) (log : LogParts) (s z : Setup) (es fs : List Event) (i j : ℕ) (p q : Sphere) (b c : Book)
+    (image : SphereSetup) (log : LogParts)
+    (s z : Setup) (es fs : List Event) (i j : ℕ) (p q : Sphere) (b c : Book)
     → IsReplay image log s es i p → IsReplay image log z fs j q
     → p.role ≡ Replay b → q.role ≡ Replay c → Agree p q b c
