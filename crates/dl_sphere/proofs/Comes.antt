@@ -1,5 +1,5 @@
 -- From what becomes of a replayed sphere in the code to what the definitions make of it, and that it stands.
-use Rattle.std.proofs.Common.{◌≡◌, ℕ, suc, ◌+◌, ◌≤◌, length, Bool, true, false, List, [], ◌∷◌, ◌++◌, Option, Some, None, refl, sym, ap, ◌∙◌, subst, arith}
+use Rattle.std.proofs.Common.{◌≡◌, ℕ, suc, ◌+◌, ◌≤◌, length, Bool, true, false, List, [], Option, Some, None, refl, sym, ap, ◌∙◌, subst, arith}
 use Rattle.std.proofs.lemmas.Bool.{true≢false}
 use Rattle.dl_entry.specs.declared.Commit.{Commit}
 use Rattle.dl_entry.specs.declared.End.{End}
@@ -11,7 +11,6 @@ use Rattle.spec_isa.specs.Words.{Stored}
 use Rattle.spec_log.specs.Log.{IsLog}
 use Rattle.spec_kernel.specs.Devices.{Devices}
 use Rattle.spec_play.specs.Effects.{Effect, dma_commit}
-use Rattle.spec_play.specs.Plays.{with_threads}
 use Rattle.spec_play.specs.Progress.{Progress, Used}
 use Rattle.spec_play.specs.Transfers.{DmaVerdict, DmaGoes, DmaFails}
 use Rattle.spec_play.specs.Turns.{Over}
@@ -20,8 +19,6 @@ use Rattle.spec_protocol.specs.Commits as commits
 use Rattle.spec_protocol.specs.Commits.{Moved, by_verdict, dma_by_verdict}
 use Rattle.spec_protocol.specs.Spheres.{Replay, Role}
 use Rattle.spec_protocol.proofs.Growing.{pushed_length}
-use Rattle.dl_replay.specs.Judged.{committed, transferred}
-use Rattle.dl_replay.specs.Judged as replay
 use Rattle.dl_replay.specs.Replaying.{Replaying, book_of, commits_of}
 use Rattle.dl_sphere.specs.Inside.{sphere_with}
 use Rattle.dl_sphere.specs.Judging.{Judged, Before, judged_by, dma_judged_by}

@@ -1,35 +1,31 @@
 -- From the replayer's answer to what becomes of the sphere.
-use Rattle.std.proofs.Common.{◌≡◌, ℕ, zero, suc, ◌+◌, ◌-◌, length, map, set, get_or, length-set, Bool, true, false, List, [], ◌∷◌, ◌++◌, Option, Some, None, Result, Ok, Err, refl, sym, ap, ◌∙◌, subst, cond}
+use Rattle.std.proofs.Common.{◌≡◌, ℕ, zero, suc, ◌-◌, length, map, set, get_or, length-set, Bool, true, false, List, [], ◌∷◌, ◌++◌, Option, Some, None, Ok, refl, sym, ap, ◌∙◌, cond}
 use Rattle.std.specs.Prelude.{slice_get, replicate}
 use Rattle.std.proofs.lemmas.Bool.{true≢false}
 use Rattle.std.proofs.lemmas.Option.{get_or_from_slice_get}
 use Rattle.std.proofs.Math.Seq.{map-set_same}
 use Rattle.dl_entry.specs.declared.Commit.{Commit}
-use Rattle.dl_entry.specs.declared.Load.{Load as EntryLoad}
-use Rattle.dl_entry.specs.declared.Output.{Output}
 use Rattle.dl_entry.specs.declared.Request.{Request}
 use Rattle.dl_entry.specs.declared.Why.{Why}
 use Rattle.spec_isa.specs.declared.thread.Load.{Load}
 use Rattle.spec_isa.specs.declared.thread.Parts.{Parts}
 use Rattle.spec_isa.specs.Runs.{Run}
-use Rattle.spec_isa.specs.Words.{Stored}
 use Rattle.spec_log.specs.declared.LogParts.{LogParts}
 use Rattle.spec_kernel.specs.Interrupts.{takes_interrupt, interrupted}
 use Rattle.spec_play.specs.Effects.{Effect, chunk_commit, chunk_effect, serial_commit, serial_effect, dma_commit}
 use Rattle.spec_kernel.specs.Serving.{serve}
-use Rattle.spec_play.specs.Plays.{with_threads}
 use Rattle.spec_play.specs.Progress.{Progress, Used, with_interrupt}
 use Rattle.spec_play.specs.Transfers.{DmaVerdict, DmaGoes, DmaFails}
-use Rattle.spec_play.specs.Verdicts.{Verdict, Goes, Fails, Given, with_interrupted, interrupt_at, ended, chunk_why, chunk_verdict, unless, served_verdict, serial_verdict, serial_why, given}
+use Rattle.spec_play.specs.Verdicts.{Verdict, Goes, Fails, Given, with_interrupted, interrupt_at, chunk_verdict, unless, served_verdict, serial_verdict}
 use Rattle.dl_wbuf.specs.Buffers.{Words}
 use Rattle.dl_kernel.specs.declared.serving.Served.{Served as Left}
 use Rattle.dl_replay.specs.declared.served.Served.{Served}
 use Rattle.dl_replay.specs.declared.asking.Verdict.{Verdict as Answer}
 use Rattle.dl_replay.specs.Judged as replay
 use Rattle.dl_replay.specs.Judged.{chunk_judged, serial_judged, dma_judged, committed, diverged, transferred}
-use Rattle.dl_replay.specs.Left.{nothing_served, served_left, verdict_left, served_stored, verdict_stored}
+use Rattle.dl_replay.specs.Left.{nothing_served, served_left, served_stored}
 use Rattle.dl_replay.specs.Replaying.{Replaying, commits_of}
-use Rattle.dl_sphere.specs.Judging.{Judged, Before, judged_by, dma_judged_by}
+use Rattle.dl_sphere.specs.Judging.{judged_by, dma_judged_by}
 
 -- ---- the commit of a verdict
 

@@ -7,17 +7,17 @@ use Rattle.dl_entry.specs.declared.Actor.{Actor}
 use Rattle.dl_entry.specs.declared.Commit.{Commit}
 use Rattle.dl_entry.specs.declared.Input.{Input}
 use Rattle.spec_isa.specs.declared.thread.Parts.{Parts}
-use Rattle.spec_log.specs.Noting.{noted as kept_with, index_of, done_with}
+use Rattle.spec_log.specs.Noting.{index_of, done_with}
 use Rattle.spec_kernel.specs.Interrupts.{is_live, has_handler, takes_interrupt, interrupted}
 use Rattle.spec_play.specs.Effects.{dma_commit}
 use Rattle.spec_play.specs.Progress.{position}
-use Rattle.spec_play.specs.Recording.{note_of, noted, input_noted, dma_noted, interrupt_noted}
+use Rattle.spec_play.specs.Recording.{noted, input_noted, dma_noted}
 use Rattle.spec_play.proofs.Keeping.{grows-alike}
 use Rattle.spec_log.specs.declared.LogParts.{LogParts}
 use Rattle.spec_protocol.specs.Spheres.{Sphere, Record}
 use Rattle.spec_protocol.specs.Commits.{role_raised}
 use Rattle.spec_protocol.proofs.Keeping.{AreNew}
-use Rattle.spec_protocol.proofs.Growing.{commits_in, commits_if, commits-other, commits-same, Stands, HasCommitted, has_committed-stands}
+use Rattle.spec_protocol.proofs.Growing.{commits_in, commits_if, commits-other, commits-same, HasCommitted, has_committed-stands}
 use Rattle.spec_protocol.proofs.Lookups.{none-there}
 use Rattle.spec_protocol.proofs.Coming.{Transferred, transferred-stands, WasRaised, raised-stands}
 use Rattle.spec_play.specs.Noted.{Recorded, as_log, interrupt_kept}

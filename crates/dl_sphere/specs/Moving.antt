@@ -1,5 +1,5 @@
 -- What requests come to.
-use Rattle.std.specs.Prelude.{◌≡◌, ℕ, ◌+◌, ◌<◌, ◌≤◌, ◌^◌, true, false, [], length, slice_get, Option, Some, None, All}
+use Rattle.std.specs.Prelude.{◌≡◌, ℕ, ◌+◌, ◌<◌, ◌≤◌, true, false, [], slice_get, Option, Some, None}
 use Rattle.spec_isa.specs.declared.thread.Parts.{Parts}
 use Rattle.spec_engine.specs.declared.answers.How.{How}
 use Rattle.spec_engine.specs.Chunks.{Chunk}

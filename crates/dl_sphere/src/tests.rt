@@ -1,20 +1,15 @@
-//! How spheres stand before their first commit.
+//! Spheres in each of their roles.
+ghost use Rattle.std.specs.Prelude.{◌≡◌, IfOk, length};
+ghost use Rattle.spec_log.specs.Log.{IsChunkSize};
+
+mod beginnings;
+mod moves;
+
 use super::*;
-use dl_entry::{Actor, End, Why};
 use dl_logfmt::read_log;
 use spec_log::ModeName;
 use std::alloc::Global;
 use std::test::Fail;
-
-// A file whose code is `ecall`.
-const FILE: [u8; 88] = [
-    0x7f, 0x45, 0x4c, 0x46, 0x01, 0x01, 0x01, 0x00, 0x00, 0x00, 0x00, 0x00, 0x00, 0x00, 0x00, 0x00,
-    0x02, 0x00, 0xf3, 0x00, 0x01, 0x00, 0x00, 0x00, 0x00, 0x00, 0x00, 0x00, 0x34, 0x00, 0x00, 0x00,
-    0x00, 0x00, 0x00, 0x00, 0x00, 0x00, 0x00, 0x00, 0x34, 0x00, 0x20, 0x00, 0x01, 0x00, 0x00, 0x00,
-    0x00, 0x00, 0x00, 0x00, 0x01, 0x00, 0x00, 0x00, 0x54, 0x00, 0x00, 0x00, 0x00, 0x00, 0x00, 0x00,
-    0x00, 0x00, 0x00, 0x00, 0x04, 0x00, 0x00, 0x00, 0x04, 0x00, 0x00, 0x00, 0x07, 0x00, 0x00, 0x00,
-    0x04, 0x00, 0x00, 0x00, 0x73, 0x00, 0x00, 0x00,
-];
 
 #[derive(Clone, Copy)]
 enum Begins {
@@ -23,28 +18,15 @@ enum Begins {
     Replayed(&'static [u8]),
 }
 
-/// A role with standard chunks of 1,000 instructions: the limit of thread 0, whose turn it is, and the end.
-#[derive(Clone, Copy)]
-struct Row {
-    role: Begins,
-    limit: u32,
-    head: Option<Actor>,
-    end: Option<End>,
-}
-
-#[test]
-fn spheres_begin_in_their_roles(rt: HostRuntime) -> Result<(), Fail> {
-    for row in ROWS {
-        let setup = SphereSetup {
-            image: dl_elf::load(rt.alloc(), &FILE, 4096)?,
-            role: role(rt.alloc(), row.role)?,
-        };
-        let sphere = Sphere::new(rt.alloc(), &setup, 1000)?;
-        assert!(rt; sphere.limit(0) == row.limit);
-        assert!(rt; sphere.head() == row.head);
-        assert!(rt; sphere.end() == row.end);
-    }
-    Ok(())
+fn begin(alloc: Global, file: &[u8], begins: Begins, standard: u32) -> Result<Sphere, Fail>
+    requires { IsChunkSize standard }
+    ensures { IfOk result (λ p. length p.sphere.threads ≡ 1) }
+{
+    let setup = SphereSetup {
+        image: dl_elf::load(alloc, file, 4096)?,
+        role: role(alloc, begins)?,
+    };
+    Ok(Sphere::new(alloc, &setup, standard)?)
 }
 
 fn role(alloc: Global, begins: Begins) -> Result<Role, Fail> {
@@ -54,60 +36,3 @@ fn role(alloc: Global, begins: Begins) -> Result<Role, Fail> {
         Begins::Replayed(bytes) => Ok(Role::Replay(read_log(alloc, bytes)?)),
     }
 }
-
-const ROWS: &[Row] = &[
-    Row {
-        role: Begins::Plain,
-        limit: 1000,
-        head: None,
-        end: None,
-    },
-    Row {
-        role: Begins::Recorded(ModeName::OrderOnly),
-        limit: 1000,
-        head: None,
-        end: None,
-    },
-    Row {
-        role: Begins::Recorded(ModeName::Picolog),
-        limit: 1000,
-        head: Some(Actor::Thread(0)),
-        end: None,
-    },
-    // A chunk of two instructions is logged.
-    Row {
-        role: Begins::Replayed(
-            b"\x44\x4C\x52\x4E\x01\x00\x00\x00\x64\x00\x00\x00\x01\x00\x00\x00\
-              \x01\x00\x00\x00\x00\
-              \x01\x00\x00\x00\x02\x00\
-              \x00\x00\x00\x00\x00\x00\x00\x00\x00\x00\x00\x00",
-        ),
-        limit: 2,
-        head: Some(Actor::Thread(0)),
-        end: None,
-    },
-    // A chunk of thread 5 is logged, which there isn't.
-    Row {
-        role: Begins::Replayed(
-            b"\x44\x4C\x52\x4E\x01\x00\x00\x00\x64\x00\x00\x00\x01\x00\x00\x00\
-              \x01\x00\x00\x00\x05\
-              \x01\x00\x00\x00\x02\x00\
-              \x00\x00\x00\x00\x00\x00\x00\x00\x00\x00\x00\x00",
-        ),
-        limit: 100,
-        head: None,
-        end: Some(End::Diverged(0, Why::NoThread)),
-    },
-    // Nothing is logged.
-    Row {
-        role: Begins::Replayed(
-            b"\x44\x4C\x52\x4E\x01\x00\x00\x00\x64\x00\x00\x00\x00\x00\x00\x00\
-              \x00\x00\x00\x00\
-              \x00\x00\x00\x00\
-              \x00\x00\x00\x00\x00\x00\x00\x00\x00\x00\x00\x00",
-        ),
-        limit: 100,
-        head: None,
-        end: Some(End::Complete(0)),
-    },
-];
