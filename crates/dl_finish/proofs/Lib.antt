@@ -1,3 +1,3 @@
 mod Searching
-mod Room
+pub mod Room
 mod Going

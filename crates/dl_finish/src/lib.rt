@@ -3,6 +3,8 @@
 
 mod finishing;
 mod next;
+#[cfg(test)]
+mod tests;
 
 pub use finishing::finish;
 pub use next::next_event;

@@ -1,5 +1,5 @@
 -- What readiness gives of one core, slot or sphere.
-use Rattle.std.proofs.Common.{◌≡◌, ℕ, ◌<◌, length, Option, Some, None, refl, sym, ap, ◌∙◌, subst}
+use Rattle.std.proofs.Common.{◌≡◌, ℕ, ◌<◌, ◌^◌, length, Option, Some, None, refl, sym, ap, ◌∙◌, subst, arith}
 use Rattle.std.specs.Prelude.{IfSome, option_map}
 use Rattle.std.proofs.lemmas.Option.{none-some, same_Some, slice_get_within}
 use Rattle.spec_engine.specs.Flights.{Flight, AreInside, AreOfSize, IsInside, IsOfSize, at}
@@ -8,7 +8,7 @@ use Rattle.spec_protocol.specs.World.{Held, World, sphere_at}
 use Rattle.dl_machine.specs.Cores.{seen, reads_in, writes_in}
 use Rattle.dl_machine.specs.declared.one_core.Held.{Held as Seen}
 use Rattle.dl_machine.specs.Held.{IsOf, sphere_of}
-use Rattle.dl_machine.specs.Ready.{IsReady}
+use Rattle.dl_machine.specs.Ready.{HasRoom, IsReady}
 
 seen_of : (w : World) (c : ℕ) (o : Option Held) → IsReady w → at w.cores c ≡ o → IfSome (option_map seen o) (IsOf w)
 seen_of w c None ready is = tt
@@ -57,3 +57,7 @@ pub chunk_writes : (w : World) (c : ℕ) (o : Option Held) (ch : Chunk) → IsRe
 chunk_writes w c None ch ready is e = absurd (none-some ch (sym e))
 chunk_writes w c (Some h) ch ready is e =
     subst (λ (n : ℕ). AreOfSize n w.slots) (sym (ap (λ (d : Chunk). d.writes.bits) (same_Some _ _ e) ∙ (ready.good.held c h is).chunk.writes_size)) (slots_size w ready)
+
+-- a sphere has no more commits than there were events
+pub young_has_room : (w : World) → IsReady w → w.counts.events < 2 ^ 24 → HasRoom w
+young_has_room w ready young = record { few = λ i there live. let c = (ready.sound.spheres i there).commits in omega (arith, c, young) }

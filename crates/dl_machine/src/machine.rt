@@ -82,9 +82,11 @@ impl<G: Sig> Machine<G> {
         &self.state.points
     }
 
-    /// How many events there were, and how often each reply was given.
+    /// How many events there were, and how often each reply was given. Before 2^24 events there is room for another commit.
+    #[tactic(auto, using(crate::proofs::Ready::young_has_room))]
     pub fn counts(&self) -> &Counts
-        ensures { result.now ≡ self.now.counts }
+        ensures value { result.now ≡ self.now.counts }
+        ensures room { self.now.counts.events < 2 ^ 24 → HasRoom self.now }
     {
         &self.state.counts
     }

@@ -1,0 +1,200 @@
+//! Worked machines: what each event answers, and what the spheres and the console then hold.
+ghost use Rattle.std.specs.Prelude.{◌≡◌, true};
+ghost use Rattle.spec_protocol.specs.Sound.{AreFew};
+ghost use Rattle.dl_machine.specs.Setups.{IsWithin};
+
+use super::*;
+use dl_elf::load;
+use dl_entry::{Actor, Bytes, Commit, End, Load, OutOfMemory, Sequence};
+use dl_logfmt::{read_log, write_log};
+use dl_sig::Banked;
+use dl_sphere::{Role, Sphere, SphereSetup};
+use spec_log::ModeName;
+use spec_protocol::{Event, Reply};
+use std::alloc::{AllocError, Global};
+use std::process::Abort;
+use std::test::Fail;
+
+mod programs;
+mod recordings;
+mod replays;
+
+/// A machine with chunks of 100 instructions and signatures of 64 bits: its events with their replies, and what it then holds.
+#[derive(Clone, Copy)]
+struct Row {
+    name: &'static str,
+    cores: u8,
+    window: u8,
+    buffer: u32,
+    input: &'static [u8],
+    spheres: &'static [Life],
+    events: &'static [(Event, Reply)],
+    console: &'static [u8],
+}
+
+/// A sphere: its code and role, and its commits at the end by their actors and sizes, with all that they loaded.
+#[derive(Clone, Copy)]
+struct Life {
+    code: &'static [u32],
+    role: Lived,
+    commits: &'static [(Actor, u32)],
+    loads: &'static [Load],
+}
+
+/// A role, with the log that is recorded or replayed, and the end of a replay.
+#[derive(Clone, Copy)]
+enum Lived {
+    Plain,
+    Recorded {
+        mode: ModeName,
+        log: &'static [u8],
+    },
+    Replayed {
+        log: &'static [u8],
+        end: Option<End>,
+    },
+}
+
+const T0: Actor = Actor::Thread(0);
+
+const T1: Actor = Actor::Thread(1);
+
+#[test]
+fn recordings_go_as_they_were_worked(rt: HostRuntime) -> Result<(), Fail> {
+    for row in recordings::ROWS {
+        goes_as_worked(&rt, rt.alloc(), row)?;
+    }
+    Ok(())
+}
+
+#[test]
+fn replays_go_as_they_were_worked(rt: HostRuntime) -> Result<(), Fail> {
+    for row in replays::ROWS {
+        goes_as_worked(&rt, rt.alloc(), row)?;
+    }
+    Ok(())
+}
+
+fn goes_as_worked(rt: &impl Abort, alloc: Global, row: &Row) -> Result<(), Fail> {
+    let mut machine = machine_of(alloc, row)?;
+    for &(event, reply) in row.events {
+        let answered = reply_to(&mut machine, event)?;
+        assert!(rt; answered == Some(reply), "{}: {event:?}", row.name);
+    }
+    assert!(rt; machine.console() == row.console, "{}", row.name);
+    for (i, life) in row.spheres.iter().enumerate() {
+        let number = (i % 8) as u8;
+        if number >= machine.spheres() {
+            return Err("a sphere is missing".into());
+        }
+        let sphere = machine.sphere(number);
+        assert!(rt; has_lived(alloc, sphere, life)?, "{} {i}", row.name);
+    }
+    Ok(())
+}
+
+// The reply, if the machine is young enough.
+fn reply_to(machine: &mut Machine<Banked>, event: Event) -> Result<Option<Reply>, OutOfMemory> {
+    if machine.counts().events >= 1 << 24 {
+        return Ok(None);
+    }
+    Ok(Some(machine.apply(event)?))
+}
+
+// Whether the sphere has come to what is said of it.
+fn has_lived(alloc: Global, sphere: &Sphere, life: &Life) -> Result<bool, OutOfMemory> {
+    let has_ended = match life.role {
+        Lived::Plain => sphere.end().is_none(),
+        Lived::Recorded { log, .. } => log_of(alloc, sphere)?.as_slice() == log,
+        Lived::Replayed { end, .. } => sphere.end() == end,
+    };
+    Ok(has_ended && has_done(alloc, sphere.commits(), life)?)
+}
+
+// The bytes of its log, if it is recorded.
+fn log_of(alloc: Global, sphere: &Sphere) -> Result<Vec<u8>, OutOfMemory> {
+    if !sphere.halves() {
+        return Ok(Vec::new(alloc));
+    }
+    write_log(alloc, &sphere.log()?)
+}
+
+fn has_done(alloc: Global, commits: &[Commit], life: &Life) -> Result<bool, AllocError> {
+    let mut done = Vec::new(alloc);
+    let mut loads = Vec::new(alloc);
+    for commit in commits {
+        done.push((commit.actor, commit.size))?;
+        loads.extend_from_slice(commit.loads.as_slice())?;
+    }
+    Ok(done.as_slice() == life.commits && loads.as_slice() == life.loads)
+}
+
+fn machine_of(alloc: Global, row: &Row) -> Result<Machine<Banked>, Fail> {
+    let setup = setup_of(alloc, row)?;
+    if !is_within(&setup) {
+        return Err("a number is out of its limits".into());
+    }
+    Ok(Machine::new(alloc, &setup)?)
+}
+
+fn is_within(setup: &Setup) -> bool
+    ensures { result ≡ true → IsWithin setup.now }
+{
+    are_few(setup.cores as usize)
+        && are_few(setup.window as usize)
+        && are_few(setup.spheres.len())
+        && (16..=4096).contains(&setup.chunk)
+        && (1..=4096).contains(&setup.buffer)
+        && setup.signature == 64
+}
+
+fn are_few(count: usize) -> bool
+    ensures { result ≡ true → AreFew count }
+{
+    1 <= count && count <= 8
+}
+
+fn setup_of(alloc: Global, row: &Row) -> Result<Setup, Fail> {
+    let mut spheres = Sequence::new(alloc);
+    for life in row.spheres {
+        spheres.push(SphereSetup {
+            image: load(alloc, &file_of(alloc, life.code)?, 4096)?,
+            role: role_of(alloc, life.role)?,
+        })?;
+    }
+    Ok(Setup {
+        cores: row.cores,
+        window: row.window,
+        chunk: 100,
+        buffer: row.buffer,
+        signature: 64,
+        seed: 0,
+        input: Bytes::from_slice(alloc, row.input)?,
+        spheres,
+    })
+}
+
+fn role_of(alloc: Global, lived: Lived) -> Result<Role, Fail> {
+    match lived {
+        Lived::Plain => Ok(Role::Plain),
+        Lived::Recorded { mode, .. } => Ok(Role::Record(mode)),
+        Lived::Replayed { log, .. } => Ok(Role::Replay(read_log(alloc, log)?)),
+    }
+}
+
+// What stands in a file of 16 words of code before them.
+const HEAD: [u8; 84] = [
+    0x7F, 0x45, 0x4C, 0x46, 1, 1, 1, 0, 0, 0, 0, 0, 0, 0, 0, 0, 2, 0, 0xF3, 0, 1, 0, 0, 0, 0, 0, 0,
+    0, 0x34, 0, 0, 0, 0, 0, 0, 0, 0, 0, 0, 0, 0x34, 0, 0x20, 0, 1, 0, 0, 0, 0, 0, 0, 0, 1, 0, 0, 0,
+    0x54, 0, 0, 0, 0, 0, 0, 0, 0, 0, 0, 0, 0x40, 0, 0, 0, 0x40, 0, 0, 0, 7, 0, 0, 0, 4, 0, 0, 0,
+];
+
+// The file of that code, with zeros behind it.
+fn file_of(alloc: Global, code: &[u32]) -> Result<Vec<u8>, AllocError> {
+    let mut file = Vec::from_slice(alloc, &HEAD)?;
+    for i in 0..16 {
+        let word = code.get(i).copied().unwrap_or(0);
+        file.extend_from_slice(&word.to_le_bytes())?;
+    }
+    Ok(file)
+}
