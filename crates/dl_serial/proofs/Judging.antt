@@ -1,0 +1,183 @@
+-- What a verdict came to, from the answer of the replayer: a commit went, or the play ends before it.
+use Rattle.std.proofs.Common.{◌≡◌, ℕ, zero, suc, ◌-◌, Bool, true, false, List, [], ◌∷◌, ◌++◌, length, map, set, get_or, length-set, Option, Some, None, Ok, refl, sym, ap, ◌∙◌}
+use Rattle.std.specs.Prelude.{slice_get, replicate}
+use Rattle.std.proofs.lemmas.Bool.{true≢false}
+use Rattle.std.proofs.lemmas.Option.{get_or_from_slice_get}
+use Rattle.std.proofs.Math.Seq.{map-set_same}
+use Rattle.dl_entry.specs.declared.Request.{Request}
+use Rattle.dl_entry.specs.declared.Why.{Why}
+use Rattle.spec_isa.specs.declared.thread.Parts.{Parts}
+use Rattle.spec_isa.specs.Words.{Stored}
+use Rattle.spec_play.specs.Effects.{Effect}
+use Rattle.spec_play.specs.Progress.{Progress, Used}
+use Rattle.spec_play.specs.Plays.{with_threads}
+use Rattle.spec_play.specs.Transfers.{DmaVerdict, DmaGoes, DmaFails}
+use Rattle.spec_play.specs.Verdicts.{Verdict, Goes, Fails}
+use Rattle.dl_kernel.specs.declared.serving.Served.{Served as Left}
+use Rattle.dl_wbuf.specs.Buffers.{Words}
+use Rattle.dl_replay.specs.declared.served.Served.{Served}
+use Rattle.dl_replay.specs.declared.asking.Verdict.{Verdict as Answer}
+use Rattle.dl_replay.specs.Judged as replay
+use Rattle.dl_replay.specs.Judged.{chunk_judged, serial_judged, dma_judged, committed, diverged, transferred}
+use Rattle.dl_replay.specs.Left.{nothing_served, served_left, served_stored}
+use Rattle.dl_replay.specs.Replaying.{Replaying, commits_of}
+
+went : Answer → Bool
+went Answer.Went = true
+went (Answer.Diverged why) = false
+
+why_in : Why → Answer → Why
+why_in d Answer.Went = d
+why_in d (Answer.Diverged why) = why
+
+-- ---- a commit of a thread went
+
+-- as its effect says
+pub record HasGone (r : Replaying) (p : Progress) (k : ℕ) (ts : List Parts) (v : Verdict) (new : Replaying) (us : List Parts) (q : Option Request) : Type 0 where
+  pub effect : Effect
+  pub used : Used
+  pub verdict : v ≡ Goes effect used
+  pub replay : new ≡ committed r p k effect used (with_threads k effect ts)
+  pub threads : us ≡ with_threads k effect ts
+  pub request : q ≡ effect.request
+
+pub chunk-gone : (r : Replaying) (p : Progress) (k : ℕ) (ts : List Parts) (rq : Option Request) (served s : Served) (v : Verdict) (new : Replaying) (us : List Parts) (q : Option Request)
+    → record { verdict = Answer.Went; replay = new; threads = us; request = q; served = s } ≡ chunk_judged r p k ts ts rq served v
+    → HasGone r p k ts v new us q
+unfolding went
+chunk-gone r p k ts rq served s (Fails why) new us q is = absurd (true≢false (ap (λ (j : replay.Judged). went j.verdict) is))
+chunk-gone r p k ts rq served s (Goes e u) new us q is =
+    record {
+      effect = e;
+      used = u;
+      verdict = refl;
+      replay = ap (λ (j : replay.Judged). j.replay) is;
+      threads = ap (λ (j : replay.Judged). j.threads) is;
+      request = ap (λ (j : replay.Judged). j.request) is;
+    }
+
+-- with what was served
+pub record HasServed (r : Replaying) (p : Progress) (k : ℕ) (ts : List Parts) (v : Verdict) (new : Replaying) (us : List Parts) (q : Option Request) (left : Left) : Type 0 where
+  pub gone : HasGone r p k ts v new us q
+  pub words : left.words.words ≡ gone.effect.words
+  pub loads : left.loads ≡ gone.effect.commit.loads
+  pub outputs : left.outputs ≡ gone.effect.commit.outputs
+
+pub step-gone : (r : Replaying) (p : Progress) (k : ℕ) (ts : List Parts) (rq : Option Request) (v : Verdict) (new : Replaying) (us : List Parts) (q : Option Request) (left : Left)
+    → record { verdict = Answer.Went; replay = new; threads = us; request = q; served = served_left (Ok left) } ≡ serial_judged r p k ts rq nothing_served v
+    → HasServed r p k ts v new us q left
+unfolding went
+step-gone r p k ts rq (Fails why) new us q left is = absurd (true≢false (ap (λ (j : replay.Judged). went j.verdict) is))
+step-gone r p k ts rq (Goes e u) new us q left is =
+    record {
+      gone = record {
+        effect = e;
+        used = u;
+        verdict = refl;
+        replay = ap (λ (j : replay.Judged). j.replay) is;
+        threads = ap (λ (j : replay.Judged). j.threads) is;
+        request = ap (λ (j : replay.Judged). j.request) is;
+      };
+      words = ap (λ (j : replay.Judged). j.served.words) is;
+      loads = ap (λ (j : replay.Judged). j.served.loads) is;
+      outputs = ap (λ (j : replay.Judged). j.served.outputs) is;
+    }
+
+-- ---- it didn't
+
+-- only the end is noted, with the verdict's reason
+pub record Fell (r : Replaying) (ts : List Parts) (rq : Option Request) (v : Verdict) (new : Replaying) (us : List Parts) (q : Option Request) : Type 0 where
+  pub why : Why
+  pub verdict : v ≡ Fails why
+  pub replay : new ≡ diverged why r
+  pub threads : us ≡ ts
+  pub request : q ≡ rq
+
+pub chunk-fell : (r : Replaying) (p : Progress) (k : ℕ) (ts : List Parts) (rq : Option Request) (served s : Served) (v : Verdict) (because : Why) (new : Replaying) (us : List Parts) (q : Option Request)
+    → record { verdict = Answer.Diverged because; replay = new; threads = us; request = q; served = s } ≡ chunk_judged r p k ts ts rq served v
+    → Fell r ts rq v new us q
+unfolding went
+chunk-fell r p k ts rq served s (Goes e u) because new us q is = absurd (true≢false (sym (ap (λ (j : replay.Judged). went j.verdict) is)))
+chunk-fell r p k ts rq served s (Fails why) because new us q is =
+    record {
+      why = why;
+      verdict = refl;
+      replay = ap (λ (j : replay.Judged). j.replay) is;
+      threads = ap (λ (j : replay.Judged). j.threads) is;
+      request = ap (λ (j : replay.Judged). j.request) is;
+    }
+
+pub step-fell : (r : Replaying) (p : Progress) (k : ℕ) (ts : List Parts) (rq : Option Request) (served s : Served) (v : Verdict) (because : Why) (new : Replaying) (us : List Parts) (q : Option Request)
+    → record { verdict = Answer.Diverged because; replay = new; threads = us; request = q; served = s } ≡ serial_judged r p k ts rq served v
+    → Fell r ts rq v new us q
+unfolding went
+step-fell r p k ts rq served s (Goes e u) because new us q is = absurd (true≢false (sym (ap (λ (j : replay.Judged). went j.verdict) is)))
+step-fell r p k ts rq served s (Fails why) because new us q is =
+    record {
+      why = why;
+      verdict = refl;
+      replay = ap (λ (j : replay.Judged). j.replay) is;
+      threads = ap (λ (j : replay.Judged). j.threads) is;
+      request = ap (λ (j : replay.Judged). j.request) is;
+    }
+
+-- ---- DMAs
+
+-- it stores these words
+pub record HasTransferred (r : Replaying) (p : Progress) (ts : List Parts) (v : DmaVerdict) (new : Replaying) (q : Option Request) (words : List Stored) : Type 0 where
+  pub verdict : v ≡ DmaGoes words
+  pub replay : new ≡ transferred r p ts
+  pub request : q ≡ None
+
+pub dma-gone : (r : Replaying) (p : Progress) (ts us : List Parts) (rq : Option Request) (v : DmaVerdict) (new : Replaying) (q : Option Request) (words : Words)
+    → record { verdict = Answer.Went; replay = new; threads = us; request = q; served = served_stored (Ok words) } ≡ dma_judged r p ts rq nothing_served v
+    → HasTransferred r p ts v new q words.words
+unfolding went
+dma-gone r p ts us rq (DmaFails why) new q words is = absurd (true≢false (ap (λ (j : replay.Judged). went j.verdict) is))
+dma-gone r p ts us rq (DmaGoes ws) new q words is =
+    record {
+      verdict = ap DmaGoes (sym (ap (λ (j : replay.Judged). j.served.words) is));
+      replay = ap (λ (j : replay.Judged). j.replay) is;
+      request = ap (λ (j : replay.Judged). j.request) is;
+    }
+
+pub dma-fell : (r : Replaying) (p : Progress) (ts us : List Parts) (rq : Option Request) (served s : Served) (v : DmaVerdict) (because : Why) (new : Replaying) (q : Option Request)
+    → record { verdict = Answer.Diverged because; replay = new; threads = us; request = q; served = s } ≡ dma_judged r p ts rq served v
+    → (v ≡ DmaFails because) × (new ≡ diverged because r) × (q ≡ rq)
+unfolding went why_in
+dma-fell r p ts us rq served s (DmaGoes ws) because new q is = absurd (true≢false (sym (ap (λ (j : replay.Judged). went j.verdict) is)))
+dma-fell r p ts us rq served s (DmaFails why) because new q is =
+    let same : because ≡ why = ap (λ (j : replay.Judged). why_in because j.verdict) is in
+    (ap DmaFails (sym same), ap (λ (j : replay.Judged). j.replay) is ∙ ap (λ (w : Why). diverged w r) (sym same), ap (λ (j : replay.Judged). j.request) is)
+
+-- ---- the threads while a chunk is judged
+
+-- nothing is served by a chunk, and its thread is put back where the play leaves its log
+pub went-judged : (r : Replaying) (p : Progress) (k : ℕ) (ts mid : List Parts) (rq : Option Request) (served s : Served) (v : Verdict) (new : Replaying) (us : List Parts) (q : Option Request)
+    → record { verdict = Answer.Went; replay = new; threads = us; request = q; served = s } ≡ chunk_judged r p k ts mid rq served v
+    → record { verdict = Answer.Went; replay = new; threads = us; request = q; served = nothing_served } ≡ chunk_judged r p k ts ts rq nothing_served v
+unfolding went
+went-judged r p k ts mid rq served s (Fails why) new us q is = absurd (true≢false (ap (λ (j : replay.Judged). went j.verdict) is))
+went-judged r p k ts mid rq served s (Goes e u) new us q is =
+    λ i. record { verdict = Answer.Went; replay = (is i).replay; threads = (is i).threads; request = (is i).request; served = nothing_served }
+
+pub left-judged : (r : Replaying) (p : Progress) (k : ℕ) (ts mid back : List Parts) (rq : Option Request) (served s : Served) (v : Verdict) (why : Why) (new : Replaying) (us : List Parts) (q : Option Request) → back ≡ ts
+    → record { verdict = Answer.Diverged why; replay = new; threads = us; request = q; served = s } ≡ chunk_judged r p k ts mid rq served v
+    → record { verdict = Answer.Diverged why; replay = new; threads = back; request = q; served = nothing_served } ≡ chunk_judged r p k ts ts rq nothing_served v
+unfolding went
+left-judged r p k ts mid back rq served s (Goes e u) why new us q same is = absurd (true≢false (sym (ap (λ (j : replay.Judged). went j.verdict) is)))
+left-judged r p k ts mid back rq served s (Fails because) why new us q same is =
+    λ i. record { verdict = (is i).verdict; replay = (is i).replay; threads = same i; request = (is i).request; served = nothing_served }
+
+-- with this state of thread k, and then its own again
+pub put_back : (ts : List Parts) (k : ℕ) (s t : Parts) → slice_get ts k ≡ Some t → set (set ts k s) k t ≡ ts
+put_back [] k s t is = refl
+put_back (x ∷ xs) zero s t is = let same : x ≡ t = (let e : Some x ≡ Some t = is in cc) in ap (λ y. y ∷ xs) (sym same)
+put_back (x ∷ xs) (suc k) s t is = ap (λ ys. x ∷ ys) (put_back xs k s t is)
+
+-- a thread's state moves on, and its number of commits stays
+pub same_commits : (ts : List Parts) (k : ℕ) (s t : Parts) → slice_get ts k ≡ Some t → s.commits ≡ t.commits → commits_of (set ts k s) ≡ commits_of ts
+same_commits ts k s t is same =
+    let f : Parts → ℕ = λ p. p.commits in
+    let at : f s ≡ f (get_or ts k t) = same ∙ sym (ap f (get_or_from_slice_get ts k t t is)) in
+    ap (λ xs. xs ++ replicate (15 - length (set ts k s)) 0) (map-set_same f ts k s t at) ∙ ap (λ n. map f ts ++ replicate (15 - n) 0) (length-set ts k s)

@@ -1,0 +1,88 @@
+-- Words over a memory, and words that are laid into it.
+use Rattle.std.proofs.Common.{Result, Ok, Err, OnOk, is_ok, is_err, ◌≡◌, ℕ, ◌+◌, ◌*◌, ◌/◌, ◌%◌, ◌<◌, ◌≤◌, Bool, true, false, nat_eq, List, [], ◌∷◌, length, drop, slice_get, Some, None, if◌then◌else◌, refl, sym, ◌∙◌, ap, subst, arith}
+use Rattle.spec_isa.specs.Words.{Stored, Apart, IsBytes, lay, lays, merged, put, read}
+use Rattle.spec_isa.specs.Masks.{over, bytes_of}
+use Rattle.spec_isa.proofs.MemoryLaws.{length_lay, length_lays}
+use Rattle.spec_isa.proofs.BufferLaws.{read_over, lays_put}
+use Rattle.dl_wbuf.specs.Buffers.{Words, has_room}
+use Rattle.dl_thread.specs.Sight.{Lays}
+use Rattle.spec_engine.specs.Flights.{AreInside}
+use Rattle.dl_serial.specs.Overlays.{room, sight_of}
+
+merged_word : (r s : Stored) → (merged r s).word ≡ r.word
+unfolding merged
+merged_word r s = refl
+
+put_first : (size : ℕ) (r : Stored) (rs : List Stored) (s : Stored) → AreInside size (r ∷ rs) → AreInside size (put rs s) → (b : Bool)
+    → AreInside size (if b then merged r s ∷ rs else r ∷ put rs s)
+put_first size r rs s all rest true = (subst (λ (w : ℕ). 4 * w + 4 ≤ size) (sym (merged_word r s)) all.0, all.1)
+put_first size r rs s all rest false = (all.0, rest)
+
+pub inside_put : (size : ℕ) (ws : List Stored) (s : Stored) → AreInside size ws → 4 * s.word + 4 ≤ size → AreInside size (put ws s)
+inside_put size [] s all one_ = (one_, tt)
+inside_put size (r ∷ rs) s all one_ = put_first size r rs s all (inside_put size rs s all.1 one_) (nat_eq r.word s.word)
+
+pub first_inside : (size : ℕ) (ws : List Stored) (s : Stored) → slice_get ws 0 ≡ Some s → AreInside size ws → 4 * s.word + 4 ≤ size
+first_inside size [] s e all = cc
+first_inside size (r ∷ rs) s e all = subst (λ (q : Stored). 4 * q.word + 4 ≤ size) (let h : r ≡ s = cc in h) all.0
+
+pub first_laid : (m : List ℕ) (ws : List Stored) (s : Stored) → slice_get ws 0 ≡ Some s → lays (lay m s) (drop 1 ws) ≡ lays m ws
+first_laid m [] s e = cc
+first_laid m (r ∷ rs) s e = ap (λ (q : Stored). lays (lay m q) rs) (let h : s ≡ r = cc in h)
+
+rest_inside : (size : ℕ) (ws : List Stored) → AreInside size ws → AreInside size (drop 1 ws)
+rest_inside size [] all = tt
+rest_inside size (r ∷ rs) all = all.1
+
+pub first_rest_inside : (m : List ℕ) (ws : List Stored) (s : Stored) → AreInside (length m) ws → AreInside (length (lay m s)) (drop 1 ws)
+first_rest_inside m ws s all = subst (λ (n : ℕ). AreInside n (drop 1 ws)) (sym (length_lay m s)) (rest_inside (length m) ws all)
+
+pub shorter : (ws : List Stored) (s : Stored) → slice_get ws 0 ≡ Some s → length (drop 1 ws) < length ws
+shorter [] s e = cc
+shorter (r ∷ rs) s e = omega arith
+
+pub no_first : (ws : List Stored) → slice_get ws 0 ≡ None → ws ≡ []
+no_first [] e = refl
+no_first (r ∷ rs) e = cc
+
+-- a word of the memory with the words over it
+pub word_shown : (m : List ℕ) (ws : List Stored) (addr : ℕ) → Apart ws → IsBytes m → addr % 4 ≡ 0 → addr + 4 ≤ length m
+    → over ws (addr / 4) (read m (addr / 4)) ≡ read (lays m ws) (addr / 4)
+word_shown m ws addr apart bytes aligned inside = sym (read_over m ws (addr / 4) apart bytes (omega arith))
+
+pub within : (m : List ℕ) (ws : List Stored) (addr : ℕ) → addr + 4 ≤ length (lays m ws) → addr + 4 ≤ length m
+within m ws addr h = omega (arith, length_lays m ws)
+
+-- a store that was taken lies over what was shown, and in the memory
+pub shown_put : (m : List ℕ) (o n : Words) (a mask value : ℕ) → Apart o.words → has_room o a ≡ true → o.capacity ≡ room → n ≡ record { capacity = o.capacity; words = put o.words (bytes_of a mask value) }
+    → Lays (sight_of (record { memory = m; words = o.words })) (bytes_of a mask value) (sight_of (record { memory = m; words = n.words }))
+unfolding bytes_of
+shown_put m o n a mask value apart taken capacity e =
+    record {
+      room = subst (λ (c : ℕ). has_room (record { capacity = c; words = o.words }) a ≡ true) capacity taken;
+      bytes = ap (λ (w : Words). lays m w.words) e ∙ lays_put m o.words (bytes_of a mask value) apart;
+    }
+
+pub inside_after : (m : List ℕ) (o n : Words) (b : Stored) → AreInside (length m) o.words → 4 * b.word + 4 ≤ length m → n ≡ record { capacity = o.capacity; words = put o.words b } → AreInside (length m) n.words
+inside_after m o n b all one_ e = subst (λ (w : Words). AreInside (length m) w.words) (sym e) (inside_put (length m) o.words b all one_)
+
+bytes_of_word : (word mask value : ℕ) → (bytes_of word mask value).word ≡ word
+unfolding bytes_of
+bytes_of_word word mask value = refl
+
+pub store_inside : (m : List ℕ) (ws : List Stored) (addr mask value : ℕ) → addr % 4 ≡ 0 → addr + 4 ≤ length (lays m ws) → 4 * (bytes_of (addr / 4) mask value).word + 4 ≤ length m
+store_inside m ws addr mask value aligned inside =
+    let h = bytes_of_word (addr / 4) mask value in omega (arith, h, within m ws addr inside)
+
+pub still_inside : (m : List ℕ) (ws : List Stored) (n : List ℕ) (w : Words) {capacity : ℕ} (s : Stored) → n ≡ lay m s → w ≡ record { capacity = capacity; words = drop 1 ws }
+    → AreInside (length m) ws → AreInside (length n) w.words
+still_inside m ws n w s e f all =
+    subst (λ (x : List ℕ). AreInside (length x) w.words) (sym e) (subst (λ (x : Words). AreInside (length (lay m s)) x.words) (sym f) (first_rest_inside m ws s all))
+
+pub stored_if : {A E : Type 0} (r : Result A E) (P : Type 0) → OnOk r P → is_err r ≡ false → P
+stored_if (Ok x) P h e = h
+stored_if (Err x) P h e = cc
+
+pub ok_if : {A E : Type 0} (r : Result A E) → is_err r ≡ false → is_ok r ≡ true
+ok_if (Ok x) e = refl
+ok_if (Err x) e = cc

@@ -1,0 +1,68 @@
+-- Runs: how many words they store, and when they have no instruction.
+use Rattle.std.proofs.Common.{◌≡◌, ℕ, zero, suc, ◌<◌, ◌≤◌, List, length, Option, Some, None, refl, sym, ◌∙◌, ap, subst, arith}
+use Rattle.std.specs.Prelude.{IsSome}
+use Rattle.spec_isa.specs.declared.thread.Parts.{Parts}
+use Rattle.spec_isa.specs.Words.{Stored, lays}
+use Rattle.spec_isa.specs.Instruction.{Outcome, Next, Serial, one}
+use Rattle.spec_isa.specs.Runs.{Run, begun, followed, run, with_store}
+use Rattle.spec_kernel.specs.Needs.{next_kind}
+use Rattle.spec_protocol.proofs.Running.{one_serial}
+use Rattle.spec_protocol.proofs.FollowingVerdicts.{run-stops}
+use Rattle.spec_protocol.proofs.SoundWords.{put-length}
+use Rattle.dl_serial.specs.Chunks.{HasRun, chunk_of}
+use Rattle.dl_serial.specs.declared.chunk.Chunk.{Chunk}
+
+store_few : (ws : List Stored) (o : Option Stored) (n : ℕ) → length ws ≤ n → length (with_store ws o) ≤ suc n
+store_few ws None n l = omega arith
+store_few ws (Some s) n l = let h = put-length ws s in omega arith
+
+follow_few : (r : Run) (o : Outcome) → length r.words ≤ r.n → length (followed r o).words ≤ (followed r o).n
+follow_few r (Serial kind) l = l
+follow_few r (Next t load store) l = store_few r.words store r.n l
+
+-- no more words than instructions
+pub run-few : (m : List ℕ) (t : Parts) (n : ℕ) → length (run m t n).words ≤ (run m t n).n
+run-few m t zero = omega arith
+run-few m t (suc n) = follow_few (run m t n) (one (run m t n).thread (lays m (run m t n).words)) (run-few m t n)
+
+none_before : (r : Run) (o : Outcome) → (followed r o).n ≡ 0 → r.n ≡ 0
+none_before r (Serial kind) e = e
+none_before r (Next t load store) e = absurd (omega arith)
+
+first_serial : (t : Parts) (m : List ℕ) (o : Outcome) → one t m ≡ o → (followed (begun t) o).n ≡ 0 → IsSome (next_kind t m)
+first_serial t m (Serial kind) is e = subst IsSome (sym (one_serial t m kind is)) refl
+first_serial t m (Next u load store) is e = absurd (omega arith)
+
+-- a run that has none of its instructions was to begin with a serial one
+pub none-run : (m : List ℕ) (t : Parts) (n : ℕ) → 0 < n → (run m t n).n ≡ 0 → IsSome (next_kind t m)
+none-run m t zero l e = absurd (omega arith)
+none-run m t (suc zero) l e = first_serial t m (one t m) refl e
+none-run m t (suc (suc n)) l e =
+    none-run m t (suc n) (omega arith) (none_before (run m t (suc n)) (one (run m t (suc n)).thread (lays m (run m t (suc n)).words)) e)
+
+-- ---- a run that was stopped
+
+-- before a serial instruction
+pub stopped-run : (m : List ℕ) (t : Parts) (n limit : ℕ) (c : Chunk) (words : List Stored) → n ≤ limit → 0 < limit → (run m t n).n ≡ n → IsSome (next_kind (run m t n).thread (lays m (run m t n).words))
+    → c ≡ chunk_of (run m t (suc n)) → words ≡ (run m t (suc n)).words → HasRun m t limit c words
+stopped-run m t n limit c words most some ran serial is stored =
+    let more_ : run m t (suc n) ≡ run m t n = run-stops m t n (suc n) (omega arith) serial in
+    let all : run m t limit ≡ run m t n = run-stops m t n limit most serial in
+    let size : c.n ≡ n = ap (λ (x : Chunk). x.n) is ∙ ap (λ (r : Run). r.n) more_ ∙ ran in
+    record {
+      chunk = is ∙ ap chunk_of (more_ ∙ sym all);
+      words_stored = stored ∙ ap (λ (r : Run). r.words) (more_ ∙ sym all);
+      ran = all ∙ ap (run m t) (sym size);
+      serial = λ none. none-run m t limit some (ap (λ (r : Run). r.n) all ∙ ran ∙ sym size ∙ none);
+    }
+
+-- at its limit
+pub full-run : (m : List ℕ) (t : Parts) (limit : ℕ) (c : Chunk) (words : List Stored) → 0 < limit → c.n ≡ limit → c ≡ chunk_of (run m t c.n) → words ≡ (run m t c.n).words → HasRun m t limit c words
+full-run m t limit c words some size is stored =
+    let same : run m t c.n ≡ run m t limit = ap (run m t) size in
+    record {
+      chunk = is ∙ ap chunk_of same;
+      words_stored = stored ∙ ap (λ (r : Run). r.words) same;
+      ran = sym same;
+      serial = λ none. absurd (let none_ : limit ≡ 0 = sym size ∙ none in omega arith);
+    }

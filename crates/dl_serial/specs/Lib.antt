@@ -1,0 +1,4 @@
+pub mod Overlays
+pub mod Chunks
+pub mod Playing
+pub mod Walked

@@ -1,0 +1,41 @@
+-- A memory with a chunk's own stores over it.
+use Rattle.std.specs.Prelude.{◌≡◌, ℕ, List, [], None}
+use Rattle.spec_isa.specs.Words.{Stored, lays, put}
+use Rattle.dl_wbuf.specs.Buffers.{has_room}
+use Rattle.dl_thread.specs.Sight.{Sight}
+
+pub record Overlaid : Type 0 where
+  pub memory : List ℕ
+  pub words : List Stored
+
+-- for how many words there is room: a chunk stores no more, as none has more instructions
+abbrev pub room : ℕ
+room = 4096
+
+-- a memory, and no words over it yet
+abbrev pub bare : List ℕ → Overlaid
+bare memory = record { memory = memory; words = [] }
+
+-- its words are laid into memory
+abbrev pub laid : Overlaid → Overlaid
+laid o = bare (lays o.memory o.words)
+
+-- no flight holds it up, and there is room where the buffer has it
+abbrev pub sight_of : Overlaid → Sight
+sight_of o =
+    record {
+      bytes = lays o.memory o.words;
+      held = λ _. None;
+      room = λ a. has_room (record { capacity = room; words = o.words }) a;
+    }
+
+-- reading leaves it as it is
+abbrev pub ReadBy : Overlaid → (word : ℕ) → Overlaid → Type 0
+ReadBy o a after = after ≡ o
+
+-- a store goes to the buffer
+abbrev pub with_word : Overlaid → Stored → Overlaid
+with_word o b = record o { words = put o.words b }
+
+abbrev pub WrittenBy : Overlaid → Stored → Overlaid → Type 0
+WrittenBy o b after = after ≡ with_word o b

@@ -1,0 +1,13 @@
+//! What a log is played on.
+use crate::overlay::Overlay;
+use dl_entry::{Commit, Request};
+use dl_thread::Threads;
+
+/// A memory with its threads, the outstanding DMA request, and the whole commits so far.
+#[derive(Drop)]
+pub struct Sphere {
+    pub store: Overlay,
+    pub threads: Threads,
+    pub request: Option<Request>,
+    pub commits: Vec<Commit>,
+}

@@ -1,0 +1,18 @@
+//! What a walk leaves.
+use dl_entry::{Commit, Request, Sequence};
+use dl_mem::Memory;
+use dl_thread::Threads;
+use spec_play::WalkEnd;
+
+/// Commits, the first one first.
+pub type Commits = Sequence<Commit>;
+
+/// The commits of a walk; behind the last one the threads, the memory and the outstanding DMA request; and how it ended.
+#[derive(Debug, Drop)]
+pub struct Walked {
+    pub commits: Commits,
+    pub threads: Threads,
+    pub memory: Memory,
+    pub request: Option<Request>,
+    pub end: WalkEnd,
+}
