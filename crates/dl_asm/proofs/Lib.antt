@@ -1,0 +1,10 @@
+mod Places
+mod Digits
+mod Commas
+mod Reach
+mod Tables
+mod Splits
+mod Exactness
+mod Counting
+mod Coding
+mod Loading

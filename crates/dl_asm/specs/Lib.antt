@@ -1,0 +1,15 @@
+pub mod Characters
+pub mod Texts
+pub mod Numbers
+pub mod Mnemonics
+pub mod Operands
+pub mod Fields
+pub mod Values
+pub mod Lines
+pub mod Seen
+pub mod Sources
+pub mod Labels
+pub mod Numbering
+pub mod File
+pub mod Checked
+pub mod Promise
