@@ -1,0 +1,63 @@
+-- Runs that agree where it matters have the same texts.
+use Rattle.std.proofs.Common.{◌≡◌, ℕ, List, refl, ap, ◌∙◌, sym, get_or}
+use Rattle.spec_log.specs.declared.ModeName.{ModeName}
+use Rattle.spec_kernel.specs.Devices.{devices_of}
+use Rattle.spec_protocol.specs.declared.event.Event.{Event}
+use Rattle.spec_protocol.specs.Machine.{RoleSetup, IsPlain, IsRecorded, IsReplayed, SphereSetup, Setup, sphere_of}
+use Rattle.spec_protocol.specs.Serial.{Whole, whole_of, do_points}
+use Rattle.spec_protocol.specs.Logged.{sphere_in, supplied, logged}
+use Rattle.spec_protocol.specs.Sound.{image_at, no_image}
+use Rattle.std.proofs.Common.{map}
+use Rattle.spec_log.specs.Bytes.{log_bytes}
+use Rattle.spec_run.specs.Runs.{points_of, executed}
+use Rattle.spec_run.specs.Texts.{account_as, account_text, console_text, log_as, log_told, log_text}
+use Rattle.spec_run.specs.Promise.{AccountsAgree, AreAlike, TextsAreOfPoints}
+
+pub accounts_agree : AccountsAgree
+unfolding account_text
+accounts_agree s z es fs i j log role same =
+    ap (λ (image : SphereSetup). account_as image (sphere_in (executed z fs) j) image.role) same
+    ∙ ap (account_as (image_at s i) (sphere_in (executed z fs) j)) role
+    ∙ sym (ap (account_as (image_at s i) (sphere_in (executed s es) i)) role)
+
+-- ---- the points executed
+
+whole_same : (s z : Setup) → AreAlike s z → whole_of s ≡ whole_of z
+whole_same s z a =
+    let chunk = a.chunk in
+    let seed = a.seed in
+    let input = a.input in
+    let spheres = a.spheres in
+    (λ k. record { spheres = map (sphere_of (chunk k)) (spheres k); devices = devices_of (input k) (seed k) })
+
+executed_same : (s z : Setup) (es fs : List Event) → AreAlike s z → points_of s es ≡ points_of z fs → executed s es ≡ executed z fs
+executed_same s z es fs a points =
+    let whole = whole_same s z a in
+    (λ k. do_points (whole k) (points k))
+
+told_same : (s z : Setup) (es fs : List Event) (i : ℕ) (mode : ModeName) → AreAlike s z → points_of s es ≡ points_of z fs → log_told s es i mode ≡ log_told z fs i mode
+told_same s z es fs i mode a points =
+    let whole = whole_same s z a in
+    let chunk = a.chunk in
+    (λ k. logged mode (chunk k) (supplied i (whole k) (points k)))
+
+log_same : (s z : Setup) (es fs : List Event) (i : ℕ) (role : RoleSetup) → AreAlike s z → points_of s es ≡ points_of z fs → log_as s es i role ≡ log_as z fs i role
+log_same s z es fs i IsPlain a points = refl
+log_same s z es fs i (IsRecorded mode) a points = ap log_bytes (told_same s z es fs i mode a points)
+log_same s z es fs i (IsReplayed log) a points = refl
+
+image_same : (s z : Setup) (i : ℕ) → AreAlike s z → image_at s i ≡ image_at z i
+image_same s z i a = ap (λ (images : List SphereSetup). get_or images i no_image) a.spheres
+
+pub texts_of_points : TextsAreOfPoints
+unfolding log_text account_text console_text
+texts_of_points s z es fs a points =
+    let image : (i : ℕ) → image_at s i ≡ image_at z i = λ i. image_same s z i a in
+    let x = executed_same s z es fs a points in
+    record {
+      logs = λ i.
+          log_same s z es fs i (image_at s i).role a points
+          ∙ ap (λ (d : SphereSetup). log_as z fs i d.role) (image i);
+      accounts = λ i. (λ k. account_as (image i k) (sphere_in (x k) i) (image i k).role);
+      console = ap (λ (y : Whole). y.devices.console) x;
+    }

@@ -1,0 +1,436 @@
+-- The first event of a schedule commits nothing in a plain or recorded sphere, and each further one at most once: such a
+-- sphere has fewer commits than there were events.
+use Rattle.std.proofs.Common.{◌≡◌, ℕ, zero, suc, ◌+◌, ◌<◌, Bool, true, false, cond, List, [], ◌∷◌, length, Option, Some, None, refl, sym, ap, ◌∙◌, subst, arith, map, set, get_or}
+use Rattle.std.specs.Prelude.{slice_get}
+use Rattle.std.proofs.lemmas.Bool.{true≢false}
+use Rattle.std.proofs.lemmas.Option.{none-some}
+use Rattle.dl_entry.specs.declared.Actor.{Actor}
+use Rattle.dl_entry.specs.declared.Counts.{Counts}
+use Rattle.dl_entry.specs.declared.Request.{Request}
+use Rattle.spec_isa.specs.declared.thread.Parts.{Parts}
+use Rattle.spec_isa.specs.Runs.{Run}
+use Rattle.spec_kernel.specs.Devices.{Devices}
+use Rattle.spec_kernel.specs.Answers.{taken}
+use Rattle.spec_kernel.specs.Interrupts.{is_live, has_handler}
+use Rattle.spec_kernel.specs.Needs.{need}
+use Rattle.spec_kernel.specs.Serving.{serve}
+use Rattle.spec_play.specs.Effects.{Effect, chunk_effect, serial_effect, dma_commit}
+use Rattle.spec_play.specs.Progress.{Progress, position, no_progress}
+use Rattle.spec_play.specs.Verdicts.{Verdict, Goes, Fails, chunk_verdict, serial_verdict}
+use Rattle.spec_play.specs.Transfers.{DmaVerdict, DmaGoes, DmaFails, dma_verdict}
+use Rattle.spec_engine.specs.declared.answers.How.{How}
+use Rattle.spec_engine.specs.declared.answers.Deliver.{Deliver}
+use Rattle.spec_engine.specs.Signatures.{nothing, signed}
+use Rattle.spec_engine.specs.Flights.{Flight, at, is_full, first_slot, meets_chunk, drain, deliver}
+use Rattle.spec_engine.specs.Chunks.{fresh, step, cut, is_open}
+use Rattle.spec_engine.specs.Asking.{ask, denied_by}
+use Rattle.spec_protocol.specs.declared.event.Event.{Event}
+use Rattle.spec_protocol.specs.declared.reply.Reply.{Reply}
+use Rattle.spec_protocol.specs.Spheres.{Book, Role, Plain, Record, Replay, Sphere, no_sphere, is_stopped, limit_of, halves}
+use Rattle.spec_protocol.specs.Commits.{CommitOutcome, Granted, Piece, Diverged, Moved, granted_as, by_verdict, joined, replayed_chunk, chunk_in, chunk_moved, serial_in, serial_moved, live_dma, dma_log, dma_by_verdict, dma_in, dma_moved, role_raised, raised}
+use Rattle.spec_protocol.specs.World.{Numbers, Held, World, After, moment, sphere_at, with_sphere, with_core, thread_afresh, held_afresh, core_of, answered}
+use Rattle.spec_protocol.specs.Stepping.{stepped, step_held, stepping, cut_to, cut_held, cutting}
+use Rattle.spec_protocol.specs.Flying.{drain_slot, draining, reads_of, writes_of, told, deliver_to, delivering, retiring}
+use Rattle.spec_protocol.specs.Asking.{unless_denied, unless_turn, ask_held, ask_closed, asking}
+use Rattle.spec_protocol.specs.Transferring.{dma_done, transfer, dma_with, dma_if, turn_before_dma, transferring}
+use Rattle.spec_protocol.specs.Placing.{unless_elsewhere, place_thread, placing, replays, with_renewed, raise_in, raise_thread, raising}
+use Rattle.spec_protocol.specs.Machine.{SphereSetup, Setup, sphere_of, world_of, core_no, sphere_no, slot_no, act, happens, world_after}
+use Rattle.spec_protocol.specs.Invariants.{IsGood}
+use Rattle.spec_protocol.specs.Promises.{after}
+use Rattle.spec_protocol.specs.Sound.{IsWithinLimits}
+use Rattle.spec_protocol.proofs.OnCores.{branch}
+use Rattle.spec_protocol.proofs.OnCounts.{act-untold}
+use Rattle.spec_protocol.proofs.Schedules.{happens-kept, first_held, start-good}
+use Rattle.spec_protocol.proofs.Growing.{pushed_length}
+use Rattle.spec_protocol.proofs.SoundCommits.{next-position}
+use Rattle.spec_protocol.proofs.Sounding.{setup-within}
+use Rattle.spec_protocol.proofs.Changing.{Properties, Holds, Lands, Keeps, act-holds}
+use Rattle.spec_run.specs.Promise.{SchedulesLeaveRoom}
+
+-- ---- fewer commits than events
+
+-- a sphere that replays no log has fewer commits than this
+abbrev Few : (now : ℕ) → Sphere → Type 0
+Few now p = replays p.role ≡ false → position p.progress < now
+
+few-later : (now : ℕ) (p : Sphere) → Few now p → Few (suc now) p
+few-later now p few live = let l = few live in omega (arith, l)
+
+granted-few : (now k : ℕ) (role : Role) (e : Effect) (devices : Devices) (p : Sphere) → position p.progress < now → Few (suc now) (granted_as role k e devices p).sphere
+granted-few now k role e devices p few live = let n = next-position k e p.progress in omega (arith, n, few)
+
+verdict-few : (now k : ℕ) (b : Book) (v : Verdict) (devices : Devices) (p : Sphere) → Few now (by_verdict b k v devices p).sphere
+verdict-few now k b (Fails why) devices p live = absurd (true≢false live)
+verdict-few now k b (Goes e u) devices p live = absurd (true≢false live)
+
+replayed-few : (now k : ℕ) (b : Book) (piece : Bool) (r : Run) (devices : Devices) (p : Sphere) → Few now (replayed_chunk piece b k r devices p).sphere
+replayed-few now k b true r devices p live = absurd (true≢false live)
+replayed-few now k b false r devices p live = verdict-few now k b (chunk_verdict b.log p.progress b.used k (joined b r)) devices p live
+
+chunk-few : (now k : ℕ) (role : Role) (piece short : Bool) (r : Run) (devices : Devices) (p : Sphere) → (replays role ≡ false → position p.progress < now) → Few (suc now) (chunk_in role k piece short r devices p).sphere
+chunk-few now k Plain piece short r devices p few live = granted-few now k Plain (chunk_effect k p.progress.request r) devices p (few refl) refl
+chunk-few now k (Record log) piece short r devices p few live = granted-few now k (Record log) (chunk_effect k p.progress.request r) devices p (few refl) refl
+chunk-few now k (Replay b) piece short r devices p few live = replayed-few (suc now) k b piece r devices p live
+
+serial-few : (now k m : ℕ) (role : Role) (t : Parts) (devices : Devices) (p : Sphere) → (replays role ≡ false → position p.progress < now) → Few (suc now) (serial_in role k m t devices p).sphere
+serial-few now k m Plain t devices p few live =
+    let g = taken (need t p.memory) devices m in
+    granted-few now k Plain (serial_effect k (serve k p.threads p.progress.request t p.memory g.input)) devices p (few refl) refl
+serial-few now k m (Record log) t devices p few live =
+    let g = taken (need t p.memory) devices m in
+    granted-few now k (Record log) (serial_effect k (serve k p.threads p.progress.request t p.memory g.input)) devices p (few refl) refl
+serial-few now k m (Replay b) t devices p few live =
+    verdict-few (suc now) k b (serial_verdict b.log p.progress b.used k p.threads t p.memory) devices p live
+
+-- a live DMA is one commit more
+live-few : (now : ℕ) (role : Role) (devices : Devices) (p : Sphere) (request : Option Request) (v : Moved) → position p.progress < now → live_dma role devices p request ≡ Some v → Few (suc now) v.sphere
+live-few now role devices p None v few e live = absurd (none-some v e)
+live-few now role devices p (Some request) v few e live =
+    let q = ap (λ (o : Option Moved). elim o as (λ (x : Option Moved). ℕ) [ None ↦ 0 | Some x ↦ position x.sphere.progress ]) e in
+    let n = pushed_length p.progress.commits dma_commit (position p.progress) refl in
+    omega (arith, q, n, few)
+
+dma-verdict_few : (now : ℕ) (b : Book) (d : DmaVerdict) (devices : Devices) (p : Sphere) → Few now (dma_by_verdict b d devices p).sphere
+dma-verdict_few now b (DmaFails why) devices p live = absurd (true≢false live)
+dma-verdict_few now b (DmaGoes words) devices p live = absurd (true≢false live)
+
+moved-is : (P : Sphere → Type 0) (x v : Moved) → Some x ≡ Some v → P x.sphere → P v.sphere
+moved-is P x v e k = subst (λ (y : Moved). P y.sphere) (let q : x ≡ v = cc in q) k
+
+dma-few : (now : ℕ) (role : Role) (devices : Devices) (p : Sphere) (v : Moved) → (replays role ≡ false → position p.progress < now) → dma_in role devices p ≡ Some v → Few (suc now) v.sphere
+dma-few now Plain devices p v few e live = live-few now Plain devices p p.progress.request v (few refl) e live
+dma-few now (Record log) devices p v few e live = live-few now (Record (dma_log log devices p p.progress.request)) devices p p.progress.request v (few refl) e live
+dma-few now (Replay b) devices p v few e live =
+    let d = dma_verdict b.log p.progress b.used in
+    moved-is (Few (suc now)) (dma_by_verdict b d devices p) v e (dma-verdict_few (suc now) b d devices p) live
+
+-- an interrupt leaves a sphere what it is
+still-live : (k commits value : ℕ) (role : Role) → replays (role_raised k commits value role) ≡ replays role
+still-live k commits value Plain = refl
+still-live k commits value (Record log) = refl
+still-live k commits value (Replay b) = refl
+
+-- ---- each further event
+
+abbrev fewer : Properties
+fewer =
+    record {
+      sphere = λ now i p. Few now p;
+      flight = λ f. Unit {0};
+      held = λ h. Unit {0};
+      devices = λ d. Unit {0};
+    }
+
+landed : (now i : ℕ) (v : Moved) → Few now v.sphere → Lands fewer now i v
+landed now i v few = record { sphere = few; flight = λ writes told. tt; devices = tt }
+
+chunk-lands : (w : World) (i k : ℕ) (piece short : Bool) (r : Run) → Few (moment w) (sphere_at w i) → Lands fewer (suc (moment w)) i (chunk_moved k piece short r w.devices (sphere_at w i))
+unfolding chunk_moved
+chunk-lands w i k piece short r few =
+    let p = sphere_at w i in
+    landed (suc (moment w)) i (chunk_in p.role k piece short r w.devices p) (chunk-few (moment w) k p.role piece short r w.devices p few)
+
+serial-lands : (w : World) (i k : ℕ) (t : Parts) → Few (moment w) (sphere_at w i) → Lands fewer (suc (moment w)) i (serial_moved k (moment w) t w.devices (sphere_at w i))
+unfolding serial_moved
+serial-lands w i k t few =
+    let p = sphere_at w i in
+    landed (suc (moment w)) i (serial_in p.role k (moment w) t w.devices p) (serial-few (moment w) k (moment w) p.role t w.devices p few)
+
+dma-lands : (w : World) (i : ℕ) (v : Moved) → dma_moved w.devices (sphere_at w i) ≡ Some v → Few (moment w) (sphere_at w i) → Lands fewer (suc (moment w)) i v
+unfolding dma_moved
+dma-lands w i v e few =
+    let p = sphere_at w i in
+    landed (suc (moment w)) i v (dma-few (moment w) p.role w.devices p v few e)
+
+raised-few : (now k value : ℕ) (t : Parts) (p : Sphere) → Few now p → Few now (raised k value t p)
+unfolding raised
+raised-few now k value t p few live = few (sym (still-live k t.commits value p.role) ∙ live)
+
+fewer-keeps : (z : Numbers) → Keeps z fewer
+fewer-keeps z =
+    record {
+      later = λ now i p k. few-later now p k;
+      stepped = λ now c p slots h sphere opened k. tt;
+      cut = λ h k. tt;
+      squashed = λ h k. tt;
+      afresh = λ now i k p t sphere is live. tt;
+      told = λ f c k. tt;
+      drained = λ now f s ss p e k few. (tt, few);
+      chunk = λ w c h how numbers asks k.
+          chunk-lands w h.chunk.sphere h.thread _ _ h.chunk.done (k.spheres h.chunk.sphere (asks.good.held c h asks.is).sphere);
+      serial = λ w c h how asks k.
+          serial-lands w h.chunk.sphere h.thread h.chunk.start (k.spheres h.chunk.sphere (asks.good.held c h asks.is).sphere);
+      dma = λ w i v t k. dma-lands w i v t.is (k.spheres i t.within);
+      raised = λ now i k value t p r few. few-later now (raised k value t p) (raised-few now k value t p few);
+    }
+
+-- ---- the first event
+
+-- a sphere that replays no log has come nowhere
+abbrev IsNew : Sphere → Type 0
+IsNew p = replays p.role ≡ false → p.progress ≡ no_progress
+
+abbrev AreNew : List Sphere → Type 0
+AreNew ps = (i : ℕ) → IsNew (get_or ps i no_sphere)
+
+-- no chunk is closed yet
+record HasBegun (w : World) : Type 0 where
+  spheres : AreNew w.spheres
+  cores : (c : ℕ) (h : Held) → at w.cores c ≡ Some h → h.chunk.closed ≡ None
+
+new-set : (ps : List Sphere) (i : ℕ) (q : Sphere) → IsNew q → AreNew ps → AreNew (set ps i q)
+new-set [] i q new old j = old j
+new-set (p ∷ ps) zero q new old zero = new
+new-set (p ∷ ps) zero q new old (suc j) = old (suc j)
+new-set (p ∷ ps) (suc i) q new old zero = old zero
+new-set (p ∷ ps) (suc i) q new old (suc j) = new-set ps i q new (λ n. old (suc n)) j
+
+-- the spheres after the event are
+abbrev Then : After → Type 0
+Then a = AreNew a.world.spheres
+
+step-then : (w : World) (c : ℕ) (o : Option Held) → AreNew w.spheres → Then (step_held w c o)
+step-then w c None new = new
+step-then w c (Some h) new =
+    let p = sphere_at w h.chunk.sphere in
+    let s = step w.numbers.buffer p.memory w.slots c h.chunk in
+    branch Then (is_stopped p.role) (answered w Reply.Stopped) (cond (is_open h.chunk) (stepped w c h s) (answered w Reply.Waiting))
+    (λ _. new)
+    (λ _. branch Then (is_open h.chunk) (stepped w c h s) (answered w Reply.Waiting) (λ _. new) (λ _. new))
+
+cut-then : (w : World) (c : ℕ) (o : Option Held) → AreNew w.spheres → Then (cut_held w c o)
+cut-then w c None new = new
+cut-then w c (Some h) new =
+    branch Then (is_stopped (sphere_at w h.chunk.sphere).role) (answered w Reply.Stopped) (cut_to w c h (cut h.chunk)) (λ _. new) (λ _. new)
+
+closed-then : (w : World) (c : ℕ) (h : Held) (o : Option How) → o ≡ None → AreNew w.spheres → Then (ask_closed w c h o)
+closed-then w c h None still new = new
+closed-then w c h (Some how) still new = absurd (none-some how (sym still))
+
+ask-then : (w : World) (c : ℕ) (o : Option Held) → at w.cores c ≡ o → HasBegun w → Then (ask_held w c o)
+ask-then w c None is k = k.spheres
+ask-then w c (Some h) is k = closed-then w c h h.chunk.closed (k.cores c h is) k.spheres
+
+drain-then : (w : World) (k : ℕ) (o : Option Flight) → AreNew w.spheres → Then (drain_slot w k o)
+drain-then w k None new = new
+drain-then w k (Some f) new =
+    let p = sphere_at w f.sphere in
+    new-set w.spheres f.sphere (record p { memory = (drain p.memory (Some f)).memory }) (new f.sphere) new
+
+told-then : (w : World) (c : ℕ) (o : Option Held) (d : Deliver) → AreNew w.spheres → Then (told w c o d)
+told-then w c o Deliver.NoCommit new = new
+told-then w c o Deliver.Already new = new
+told-then w c o Deliver.Squashed new = new
+told-then w c o Deliver.Delivered new = new
+
+deliver-then : (w : World) (c k : ℕ) (o : Option Held) → AreNew w.spheres → Then (deliver_to w c k o)
+deliver-then w c k o new =
+    let d = deliver c (reads_of w o) (writes_of w o) (at w.slots k) in
+    told-then (record w { slots = set w.slots k d.slot }) c o d.reply new
+
+elsewhere-then : (w : World) (a : After) (o : Option ℕ) → AreNew w.spheres → Then a → Then (unless_elsewhere o w a)
+elsewhere-then w a None same k = k
+elsewhere-then w a (Some d) same k = same
+
+place-then : (w : World) (c i k : ℕ) (o : Option Parts) → AreNew w.spheres → Then (place_thread w c i k o)
+place-then w c i k None new = new
+place-then w c i k (Some t) new =
+    let placed = answered (with_core w c (held_afresh w.numbers i k (sphere_at w i))) Reply.Placed in
+    branch Then (is_live t) (unless_elsewhere (core_of w i k) w placed) (answered w Reply.Ended)
+    (λ _. elsewhere-then w placed (core_of w i k) new new)
+    (λ _. new)
+
+renewed-then : (w : World) (i k : ℕ) (o : Option ℕ) → AreNew w.spheres → AreNew (with_renewed w i k o).spheres
+renewed-then w i k None new = new
+renewed-then w i k (Some c) new = new
+
+raised-new : (k value : ℕ) (t : Parts) (p : Sphere) → IsNew p → IsNew (raised k value t p)
+unfolding raised
+raised-new k value t p new live = new (sym (still-live k t.commits value p.role) ∙ live)
+
+raise-in-then : (w : World) (i k value : ℕ) (t : Parts) → AreNew w.spheres → Then (raise_in w i k value t)
+raise-in-then w i k value t new =
+    let q = raised k value t (sphere_at w i) in
+    renewed-then (with_sphere w i q) i k (core_of w i k) (new-set w.spheres i q (raised-new k value t (sphere_at w i) (new i)) new)
+
+raise-then : (w : World) (i k value : ℕ) (o : Option Parts) → AreNew w.spheres → Then (raise_thread w i k value o)
+raise-then w i k value None new = new
+raise-then w i k value (Some t) new =
+    let raised_ = raise_in w i k value t in
+    let masked = cond t.mask (answered w Reply.Masked) raised_ in
+    branch Then (is_live t) (cond (has_handler t) masked (answered w Reply.NoHandler)) (answered w Reply.Ended)
+    (λ _. branch Then (has_handler t) masked (answered w Reply.NoHandler)
+    (λ _. branch Then t.mask (answered w Reply.Masked) raised_ (λ _. new) (λ _. raise-in-then w i k value t new))
+    (λ _. new))
+    (λ _. new)
+
+-- a live DMA needs a request
+no-live : (role : Role) (devices : Devices) (p : Sphere) (v : Moved) → p.progress ≡ no_progress → live_dma role devices p p.progress.request ≡ Some v → ⊥
+no-live role devices p v new e =
+    none-some v (sym (ap (λ (y : Progress). live_dma role devices p y.request) new) ∙ e)
+
+replays-still : (b : Book) (d : DmaVerdict) (devices : Devices) (p : Sphere) → replays (dma_by_verdict b d devices p).sphere.role ≡ false → ⊥
+replays-still b (DmaFails why) devices p live = true≢false live
+replays-still b (DmaGoes words) devices p live = true≢false live
+
+dma-new : (role : Role) (devices : Devices) (p : Sphere) (v : Moved) → (replays role ≡ false → p.progress ≡ no_progress) → dma_in role devices p ≡ Some v → IsNew v.sphere
+dma-new Plain devices p v new e live = absurd (no-live Plain devices p v (new refl) e)
+dma-new (Record log) devices p v new e live = absurd (no-live (Record (dma_log log devices p p.progress.request)) devices p v (new refl) e)
+dma-new (Replay b) devices p v new e live =
+    let d = dma_verdict b.log p.progress b.used in
+    absurd (moved-is (λ (q : Sphere). replays q.role ≡ false → ⊥) (dma_by_verdict b d devices p) v e (replays-still b d devices p) live)
+
+denied-then : (w : World) (a : After) (o : Option ℕ) → AreNew w.spheres → Then a → Then (unless_denied (denied_by o) w a)
+denied-then w a None same k = k
+denied-then w a (Some j) same k = same
+
+turn-then : (w : World) (a : After) (o : Option Actor) → AreNew w.spheres → Then a → Then (unless_turn o w a)
+turn-then w a None same k = k
+turn-then w a (Some actor) same k = same
+
+transfer-then : (w : World) (i : ℕ) (v : Moved) → AreNew w.spheres → IsNew v.sphere → Then (transfer w i v)
+unfolding transfer
+transfer-then w i v new moved =
+    let g = signed i v.words (nothing w.numbers.signature) in
+    let done = dma_done w i g v in
+    branch Then (is_full w.slots) (answered w Reply.WindowFull) (unless_denied (ask g g w.slots) w done)
+    (λ _. new)
+    (λ _. denied-then w done (first_slot (meets_chunk g g) w.slots) new (new-set w.spheres i v.sphere moved new))
+
+dma-with-then : (w : World) (i : ℕ) (v : Moved) (o : CommitOutcome) → AreNew w.spheres → IsNew v.sphere → Then (dma_with w i v o)
+dma-with-then w i v Granted new moved = transfer-then w i v new moved
+dma-with-then w i v Piece new moved = transfer-then w i v new moved
+dma-with-then w i v (Diverged j why) new moved = new-set w.spheres i v.sphere moved new
+
+dma-if-then : (w : World) (i : ℕ) (o : Option Moved) → dma_moved w.devices (sphere_at w i) ≡ o → AreNew w.spheres → Then (dma_if w i o)
+unfolding dma_moved
+dma-if-then w i None is new = new
+dma-if-then w i (Some v) is new =
+    dma-with-then w i v v.outcome new (dma-new (sphere_at w i).role w.devices (sphere_at w i) v (new i) is)
+
+dma-then : (w : World) (i : ℕ) → AreNew w.spheres → Then (transferring w i)
+unfolding transferring
+dma-then w i new =
+    let p = sphere_at w i in
+    let rest = dma_if w i (dma_moved w.devices p) in
+    branch Then (is_stopped p.role) (answered w Reply.Stopped) (unless_turn (turn_before_dma p.role) w rest)
+    (λ _. new)
+    (λ _. turn-then w rest (turn_before_dma p.role) new (dma-if-then w i (dma_moved w.devices p) refl new))
+
+first-then : (w : World) (e : Event) → HasBegun w → Then (act w e)
+unfolding act stepping cutting asking draining delivering retiring placing raising
+first-then w (Event.Step c) k = step-then w (core_no w c) (at w.cores (core_no w c)) k.spheres
+first-then w (Event.Cut c) k = cut-then w (core_no w c) (at w.cores (core_no w c)) k.spheres
+first-then w (Event.Ask c) k = ask-then w (core_no w c) (at w.cores (core_no w c)) refl k
+first-then w (Event.Drain j) k = drain-then w (slot_no w j) (at w.slots (slot_no w j)) k.spheres
+first-then w (Event.Deliver c j) k = deliver-then w (core_no w c) (slot_no w j) (at w.cores (core_no w c)) k.spheres
+first-then w (Event.Retire j) k = k.spheres
+first-then w (Event.Place c i j) k = place-then w (core_no w c) (sphere_no w i) j (slice_get (sphere_at w (sphere_no w i)).threads j) k.spheres
+first-then w (Event.Raise i j value) k =
+    let n = sphere_no w i in
+    let p = sphere_at w n in
+    let rest = raise_thread w n j value (slice_get p.threads j) in
+    branch Then (replays p.role) (answered w Reply.FromLog) rest (λ _. k.spheres) (λ _. raise-then w n j value (slice_get p.threads j) k.spheres)
+first-then w (Event.Dma i) k = dma-then w (sphere_no w i) k.spheres
+
+-- ---- the start
+
+first-new : (s : ℕ) (d : SphereSetup) → IsNew (sphere_of s d)
+first-new s d live = refl
+
+start-new : (s : ℕ) (ds : List SphereSetup) → AreNew (map (sphere_of s) ds)
+start-new s [] i live = refl
+start-new s (d ∷ ds) zero live = refl
+start-new s (d ∷ ds) (suc i) live = start-new s ds i live
+
+afresh-open : (z : Numbers) (i k : ℕ) (p : Sphere) (o : Option Parts) (h : Held) → thread_afresh z i k p o ≡ Some h → h.chunk.closed ≡ None
+afresh-open z i k p None h e = absurd (none-some h e)
+afresh-open z i k p (Some t) h e =
+    let new : Held = record { thread = k; chunk = fresh z.signature i t (limit_of z.chunk p.role k t) (halves p.role) } in
+    branch (λ (o : Option Held). o ≡ Some h → h.chunk.closed ≡ None) (is_live t) (Some new) None
+    (λ _ q. subst (λ (x : Held). x.chunk.closed ≡ None) (let r : new ≡ h = cc in r) refl)
+    (λ _ q. absurd (none-some h q)) e
+
+start-begun : (s : Setup) → HasBegun (world_of s)
+start-begun s =
+    let ps = (world_of s).spheres in
+    record {
+      spheres = start-new s.numbers.chunk s.spheres;
+      cores = λ c h e.
+          afresh-open s.numbers (0 + c) 0 (get_or ps c no_sphere) (slice_get (get_or ps c no_sphere).threads 0) h (first_held s.numbers 0 s.cores c ps h e).1;
+    }
+
+-- ---- schedules
+
+counted-moment : (w : World) (e : Event) → moment (happens w e).world ≡ suc (moment w)
+unfolding happens
+counted-moment w e = let h = ap (λ (n : Counts). n.events) (act-untold w e).counts in omega (arith, h)
+
+-- after so many events
+record IsRoomy (n : ℕ) (w : World) : Type 0 where
+  good : IsGood w
+  count : moment w ≡ n
+  few : Holds fewer n w
+
+at-moment : (m n : ℕ) (w : World) → m ≡ n → Holds fewer m w → Holds fewer n w
+at-moment m n w e k = subst (λ (x : ℕ). Holds fewer x w) e k
+
+happens-holds : (w : World) (e : Event) → IsGood w → Holds fewer (moment w) w → Holds fewer (suc (moment w)) (happens w e).world
+unfolding happens
+happens-holds w e good k =
+    let h = act-holds fewer w e (fewer-keeps w.numbers) good k in
+    record { spheres = h.spheres; flights = λ j f q. tt; held = λ c x q. tt; devices = tt }
+
+next-roomy : (n : ℕ) (w : World) (e : Event) → IsRoomy n w → IsRoomy (suc n) (happens w e).world
+next-roomy n w e k =
+    record {
+      good = (happens-kept w e k.good).good;
+      count = counted-moment w e ∙ ap suc k.count;
+      few = at-moment (suc (moment w)) (suc n) (happens w e).world (ap suc k.count)
+          (happens-holds w e k.good (at-moment n (moment w) w (sym k.count) k.few));
+    }
+
+new-few : (p : Sphere) → IsNew p → Few 1 p
+new-few p new live = let e = ap position (new live) in omega (arith, e)
+
+first-holds : (w : World) (e : Event) → HasBegun w → Holds fewer 1 (happens w e).world
+unfolding happens
+first-holds w e k =
+    record {
+      spheres = λ i l. new-few (sphere_at (act w e).world i) (first-then w e k i);
+      flights = λ j f q. tt;
+      held = λ c h q. tt;
+      devices = tt;
+    }
+
+first-roomy : (s : Setup) (e : Event) → IsWithinLimits s → IsRoomy 1 (happens (world_of s) e).world
+first-roomy s e limits =
+    record {
+      good = (happens-kept (world_of s) e (start-good s (setup-within s limits))).good;
+      count = counted-moment (world_of s) e;
+      few = first-holds (world_of s) e (start-begun s);
+    }
+
+after-roomy : (n : ℕ) (w : World) (es : List Event) → IsRoomy n w → IsRoomy (n + length es) (world_after w es)
+after-roomy n w [] k = let e : n ≡ n + 0 = omega arith in subst (λ (m : ℕ). IsRoomy m w) e k
+after-roomy n w (e ∷ es) k =
+    let q : suc n + length es ≡ n + suc (length es) = omega arith in
+    subst (λ (m : ℕ). IsRoomy m (world_after (happens w e).world es)) q (after-roomy (suc n) (happens w e).world es (next-roomy n w e k))
+
+all-counted : (w : World) (es : List Event) → moment (world_after w es) ≡ moment w + length es
+all-counted w [] = omega arith
+all-counted w (e ∷ es) =
+    let a = counted-moment w e in let b = all-counted (happens w e).world es in omega (arith, a, b)
+
+-- as many events are counted as the schedule has
+pub schedule_counted : (s : Setup) (es : List Event) → moment (after s es) ≡ length es
+schedule_counted s es = let a = all-counted (world_of s) es in omega (arith, a)
+
+-- after at most 2^24 events a plain or recorded sphere has fewer commits
+pub leaves_room : SchedulesLeaveRoom
+leaves_room s [] i limits few within live =
+    let e = ap position (start-new s.numbers.chunk s.spheres i live) in omega (arith, e)
+leaves_room s (e ∷ es) i limits few within live =
+    let w = (happens (world_of s) e).world in
+    let l = (after-roomy 1 w es (first-roomy s e limits)).few.spheres i within live in
+    omega (arith, l, few)

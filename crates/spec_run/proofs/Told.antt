@@ -1,0 +1,291 @@
+-- Once a run is over, the machine holds what the texts of the run tell.
+use Rattle.std.proofs.Common.{◌≡◌, ℕ, zero, suc, ◌<◌, true, false, List, [], ◌∷◌, ◌++◌, length, Some, None, refl, sym, ap, ◌∙◌, subst, arith, get_or}
+use Rattle.std.specs.Prelude.{slice_get}
+use Rattle.std.proofs.lemmas.Bool.{true≢false}
+use Rattle.std.proofs.lemmas.Option.{none-some}
+use Rattle.dl_account.specs.Account.{account_of}
+use Rattle.dl_entry.specs.declared.End.{End}
+use Rattle.spec_log.specs.declared.ModeName.{ModeName}
+use Rattle.spec_log.specs.declared.LogParts.{LogParts}
+use Rattle.spec_play.specs.Progress.{position}
+use Rattle.spec_play.specs.Turns.{Now, Turn, TurnOfDma, Over}
+use Rattle.spec_play.specs.Plays.{Played, play}
+use Rattle.spec_protocol.specs.declared.event.Event.{Event}
+use Rattle.spec_protocol.specs.Spheres.{Role, Plain, Record, Replay, Book, Sphere, no_sphere, is_over}
+use Rattle.spec_protocol.specs.Placing.{replays}
+use Rattle.spec_protocol.specs.World.{World, sphere_at}
+use Rattle.spec_protocol.specs.Machine.{RoleSetup, IsPlain, IsRecorded, IsReplayed, SphereSetup, Setup, world_of, happens, world_after}
+use Rattle.spec_protocol.specs.Serial.{whole_of, serial, CanDoAll}
+use Rattle.spec_protocol.specs.Logged.{sphere_in, supplied, logged}
+use Rattle.spec_protocol.specs.Logs.{IsLogFresh}
+use Rattle.spec_protocol.specs.Shown.{shown_of}
+use Rattle.spec_protocol.specs.Finishing.{next, Finishes}
+use Rattle.spec_protocol.specs.Promises.{after, WillRecord}
+use Rattle.spec_protocol.specs.PlayingBack.{PlaysBack}
+use Rattle.spec_replay.specs.Promises.{IsPlayed}
+use Rattle.spec_finishing.specs.Ending.{Ends, CanFinish, IsAtEnd}
+use Rattle.spec_finishing.specs.Function.{finished, finishing_of, most_events}
+use Rattle.spec_protocol.proofs.OnPoints.{commits_are}
+use Rattle.spec_protocol.proofs.LogsOfPoints.{logs_are, logs_are_fresh}
+use Rattle.spec_protocol.proofs.FollowingAll.{logs_play_back}
+use Rattle.spec_protocol.proofs.Schedules.{sizes_kept}
+use Rattle.spec_finishing.proofs.Function.{function_finishes}
+use Rattle.spec_finishing.proofs.KindsKept.{is_replayed, AreOfKinds, kind-at}
+use Rattle.spec_finishing.proofs.Knowing.{within, there_is, kinds_after}
+use Rattle.spec_finishing.proofs.NextOfAll.{next-stands}
+use Rattle.spec_finishing.proofs.Played.{replays_finished}
+use Rattle.spec_finishing.proofs.ShortRuns.{setups_finish}
+use Rattle.spec_finishing.proofs.Turns.{shown-itself}
+use Rattle.spec_run.specs.Runs.{executed, played, end_of}
+use Rattle.spec_run.specs.Texts.{account_as, executed_account, log_told, played_account}
+use Rattle.spec_run.specs.Promise.{end_as, account_held, HasRole, SpheresAreTold, RunsAreTold, RecordingsAreReproduced}
+
+-- ---- lists of events
+
+-- the last world has no next event
+last_next : (w : World) (es : List Event) → Finishes w es → next (world_after w es) ≡ None
+last_next w [] f = f
+last_next w (e ∷ es) f = last_next (happens w e).world es f.1
+
+after_both : (w : World) (es fs : List Event) → world_after w (es ++ fs) ≡ world_after (world_after w es) fs
+after_both w [] fs = refl
+after_both w (e ∷ es) fs = after_both (happens w e).world es fs
+
+get_is : (ps : List Sphere) (i : ℕ) (p : Sphere) → slice_get ps i ≡ Some p → get_or ps i no_sphere ≡ p
+get_is [] i p e = absurd (none-some p e)
+get_is (q ∷ ps) zero p e = cc
+get_is (q ∷ ps) (suc i) p e = get_is ps i p e
+
+-- ---- what is known of the last world
+
+-- whatever it is by its list of events: its spheres are the executed ones, of the kinds of the setup, and so are its devices
+record IsKnown (s : Setup) (w : World) : Type 0 where
+  executes : (i : ℕ) (p : Sphere)
+      → slice_get (shown_of w).spheres i ≡ Some p
+      → replays p.role ≡ false
+      → slice_get (serial s w.points).spheres i ≡ Some p
+  devices : w.devices ≡ (serial s w.points).devices
+  possible : CanDoAll (whole_of s) w.points
+  kinds : AreOfKinds s.spheres (shown_of w).spheres
+  sizes : length w.spheres ≡ length s.spheres
+  logs : (i : ℕ) (image : SphereSetup) (mode : ModeName)
+      → WillRecord s i image mode
+      → (sphere_at w i).role ≡ Record (logged mode s.numbers.chunk (supplied i (whole_of s) w.points))
+  fresh : (i : ℕ) (image : SphereSetup) (mode : ModeName)
+      → WillRecord s i image mode
+      → (log : LogParts)
+      → (sphere_at w i).role ≡ Record log
+      → IsLogFresh log (sphere_at w i)
+  plays_back : (i : ℕ) (image : SphereSetup) (mode : ModeName)
+      → WillRecord s i image mode
+      → (p : Sphere) (log : LogParts)
+      → slice_get (shown_of w).spheres i ≡ Some p
+      → p.role ≡ Record log
+      → PlaysBack log image p
+
+known-after : (s : Setup) (es : List Event) → CanFinish s → IsKnown s (after s es)
+known-after s es can =
+    let c = commits_are s es can.setup in
+    record {
+      executes = c.spheres;
+      devices = c.devices;
+      possible = c.possible;
+      kinds = kinds_after s es can.setup;
+      sizes = (sizes_kept s es can.setup).spheres;
+      logs = logs_are s es;
+      fresh = logs_are_fresh s es;
+      plays_back = logs_play_back s es;
+    }
+
+known : (s : Setup) (es : List Event) → CanFinish s → IsKnown s (finished s es)
+known s es can = subst (IsKnown s) (after_both (world_of s) es (finishing_of s es)) (known-after s (es ++ finishing_of s es) can)
+
+ends : (s : Setup) (es : List Event) → CanFinish s → Ends s es (finishing_of s es)
+ends s es can = function_finishes s es (most_events s es) can (omega arith)
+
+-- no word flies, so what is shown is there
+shown : (s : Setup) (es : List Event) → CanFinish s → (shown_of (finished s es)).spheres ≡ (finished s es).spheres
+shown s es can =
+    let w : World = finished s es in
+    shown-itself w (next-stands w (last_next (after s es) (finishing_of s es) (ends s es can).finishes))
+
+-- the sphere that is there
+record IsThere (s : Setup) (es : List Event) (i : ℕ) (image : SphereSetup) (p : Sphere) : Type 0 where
+  there : slice_get (finished s es).spheres i ≡ Some p
+  shows : slice_get (shown_of (finished s es)).spheres i ≡ Some p
+  at : sphere_at (finished s es) i ≡ p
+  kind : replays p.role ≡ is_replayed image.role
+
+sphere-there : (s : Setup) (es : List Event) (i : ℕ) (image : SphereSetup) → CanFinish s → slice_get s.spheres i ≡ Some image → (p : Sphere) × IsThere s es i image p
+sphere-there s es i image can is =
+    let w : World = finished s es in
+    let k = known s es can in
+    let inside : i < length w.spheres = (let l = within s.spheres i image is in let e = k.sizes in omega (arith, l, e)) in
+    let p = there_is w.spheres i inside in
+    let shows = ap (λ (ps : List Sphere). slice_get ps i) (shown s es can) ∙ p.1 in (
+      p.0,
+      record {
+        there = p.1;
+        shows = shows;
+        at = get_is w.spheres i p.0 p.1;
+        kind = kind-at s.spheres (shown_of w).spheres i image p.0 is shows k.kinds;
+      },
+    )
+
+-- a plain or recorded one is executed
+executed-is : (s : Setup) (es : List Event) (i : ℕ) (image : SphereSetup) (p : Sphere) → CanFinish s → IsThere s es i image p → replays p.role ≡ false → sphere_in (executed s es) i ≡ p
+executed-is s es i image p can t live = get_is (executed s es).spheres i p ((known s es can).executes i p t.shows live)
+
+-- ---- accounts
+
+live_end : (role : Role) (n : ℕ) → replays role ≡ false → end_as role n ≡ End.Complete n
+live_end Plain n e = refl
+live_end (Record log) n e = refl
+live_end (Replay b) n e = absurd (true≢false e)
+
+held_executed : (p : Sphere) → replays p.role ≡ false → account_held p ≡ executed_account p
+held_executed p live =
+    ap (account_of p.progress.commits p.threads p.progress.request p.memory) (live_end p.role (position p.progress) live)
+
+over_how : (now : Now) → is_over now ≡ true → (how : End) × (now ≡ Over how)
+over_how (Turn k) e = absurd (true≢false (sym e))
+over_how TurnOfDma e = absurd (true≢false (sym e))
+over_how (Over how) e = (how, refl)
+
+-- a play that is complete leaves its state; of one that diverged none is told
+held_played : (y : Played) (p : Sphere) (b : Book) (how : End) → IsPlayed y p b → b.now ≡ Over how → account_of p.progress.commits p.threads p.progress.request p.memory (end_of b.now) ≡ played_account y
+held_played y p b (End.Complete n) is over =
+    let progress = is.progress in
+    let threads = is.threads (End.Complete n) over refl in
+    let memory = is.memory (End.Complete n) over refl in
+    let now = is.now in
+    (λ j. account_of (progress j).commits (threads j) (progress j).request (memory j) (end_of (now j)))
+held_played y p b (End.Diverged n why) is over =
+    let progress = is.progress in
+    let told : end_of b.now ≡ End.Diverged n why = ap end_of over in
+    let tells : End.Diverged n why ≡ end_of y.now = ap end_of (sym over ∙ is.now) in
+    ap (account_of p.progress.commits p.threads p.progress.request p.memory) told
+    ∙ (λ j. account_of (progress j).commits p.threads p.progress.request p.memory (End.Diverged n why))
+    ∙ ap (account_of y.progress.commits y.threads y.progress.request y.memory) tells
+
+-- ---- by the role
+
+live_told : (s : Setup) (es : List Event) (i : ℕ) (image : SphereSetup) (p : Sphere) → CanFinish s → IsThere s es i image p → replays p.role ≡ false → account_held (sphere_at (finished s es) i) ≡ executed_account (sphere_in (executed s es) i)
+live_told s es i image p can t live =
+    ap account_held t.at ∙ held_executed p live ∙ ap executed_account (sym (executed-is s es i image p can t live))
+
+-- what is known of a replay at its end
+record IsReplayedTo (s : Setup) (es : List Event) (i : ℕ) (image : SphereSetup) (log : LogParts) (p : Sphere) : Type 0 where
+  book : Book
+  role : p.role ≡ Replay book
+  played : IsPlayed (play log image.memory image.entry) p book
+  over : (how : End) × (book.now ≡ Over how)
+
+same_sphere : (p q : Sphere) → Some p ≡ Some q → p ≡ q
+same_sphere p q e = cc
+
+abbrev HasPlayedIn : (image : SphereSetup) (log : LogParts) (i : ℕ) → World → Type 0
+HasPlayedIn image log i w =
+    (p : Sphere) × ((b : Book) × ((slice_get w.spheres i ≡ Some p) × ((p.role ≡ Replay b) × IsPlayed (play log image.memory image.entry) p b)))
+
+has_played : (s : Setup) (es : List Event) (i : ℕ) (image : SphereSetup) (log : LogParts) → CanFinish s → slice_get s.spheres i ≡ Some image → image.role ≡ IsReplayed log → HasPlayedIn image log i (finished s es)
+has_played s es i image log can is role =
+    let h = replays_finished image log s es (finishing_of s es) i can (ends s es can).finishes is role in
+    subst (HasPlayedIn image log i) (after_both (world_of s) es (finishing_of s es)) (h.sphere, (h.book, (h.there, (h.role, h.played))))
+
+replayed-to : (s : Setup) (es : List Event) (i : ℕ) (image : SphereSetup) (log : LogParts) (p : Sphere) → CanFinish s → slice_get s.spheres i ≡ Some image → IsThere s es i image p → image.role ≡ IsReplayed log → IsReplayedTo s es i image log p
+replayed-to s es i image log p can is t role =
+    let h = has_played s es i image log can is role in
+    let b : Book = h.1.0 in
+    let same : h.0 ≡ p = same_sphere h.0 p (sym h.1.1.0 ∙ t.there) in
+    let end : IsAtEnd h.0.role = (ends s es can).finished.replays i h.0 h.1.1.0 in
+    let over : is_over b.now ≡ true = subst IsAtEnd h.1.1.1.0 end in
+    record {
+      book = b;
+      role = ap (λ (q : Sphere). q.role) (sym same) ∙ h.1.1.1.0;
+      played = subst (λ (q : Sphere). IsPlayed (play log image.memory image.entry) q b) same h.1.1.1.1;
+      over = over_how b.now over;
+    }
+
+replayed_told : (s : Setup) (es : List Event) (i : ℕ) (image : SphereSetup) (log : LogParts) (p : Sphere) → IsThere s es i image p → IsReplayedTo s es i image log p → account_held (sphere_at (finished s es) i) ≡ played_account (played log image)
+replayed_told s es i image log p t r =
+    ap account_held t.at
+    ∙ ap (λ (role : Role). account_of p.progress.commits p.threads p.progress.request p.memory (end_as role (position p.progress))) r.role
+    ∙ held_played (played log image) p r.book r.over.0 r.played r.over.1
+
+-- ---- a sphere
+
+will_record : (s : Setup) (i : ℕ) (image : SphereSetup) (mode : ModeName) → CanFinish s → slice_get s.spheres i ≡ Some image → image.role ≡ IsRecorded mode → WillRecord s i image mode
+will_record s i image mode can is role = record { setup = can.setup; there = is; role = role }
+
+has_role : (s : Setup) (es : List Event) (i : ℕ) (image : SphereSetup) (p : Sphere) (role : RoleSetup) → CanFinish s → slice_get s.spheres i ≡ Some image → IsThere s es i image p → image.role ≡ role → HasRole s es i role (sphere_at (finished s es) i).role
+has_role s es i image p IsPlain can is t role =
+    ap (λ (q : Sphere). replays q.role) t.at ∙ t.kind ∙ ap is_replayed role
+has_role s es i image p (IsRecorded mode) can is t role =
+    (known s es can).logs i image mode (will_record s i image mode can is role)
+has_role s es i image p (IsReplayed log) can is t role =
+    let r = replayed-to s es i image log p can is t role in
+    (r.book, ap (λ (q : Sphere). q.role) t.at ∙ r.role)
+
+account_told : (s : Setup) (es : List Event) (i : ℕ) (image : SphereSetup) (p : Sphere) (role : RoleSetup) → CanFinish s → slice_get s.spheres i ≡ Some image → IsThere s es i image p → image.role ≡ role → account_held (sphere_at (finished s es) i) ≡ account_as image (sphere_in (executed s es) i) role
+account_told s es i image p IsPlain can is t role = live_told s es i image p can t (t.kind ∙ ap is_replayed role)
+account_told s es i image p (IsRecorded mode) can is t role = live_told s es i image p can t (t.kind ∙ ap is_replayed role)
+account_told s es i image p (IsReplayed log) can is t role = replayed_told s es i image log p t (replayed-to s es i image log p can is t role)
+
+same_book : (b c : Book) → Replay b ≡ Replay c → b ≡ c
+same_book b c e = cc
+
+played_to : (s : Setup) (es : List Event) (i : ℕ) (image : SphereSetup) (p : Sphere) (log : LogParts) (b : Book) → CanFinish s → slice_get s.spheres i ≡ Some image → IsThere s es i image p → image.role ≡ IsReplayed log → (sphere_at (finished s es) i).role ≡ Replay b → b.now ≡ (played log image).now
+played_to s es i image p log b can is t role replay =
+    let r = replayed-to s es i image log p can is t role in
+    let same : b ≡ r.book = same_book b r.book (sym replay ∙ ap (λ (q : Sphere). q.role) t.at ∙ r.role) in
+    ap (λ (c : Book). c.now) same ∙ r.played.now
+
+pub spheres_told : SpheresAreTold
+spheres_told s es i image limits is =
+    let can = setups_finish s limits in
+    let p = sphere-there s es i image can is in
+    let t = p.1 in
+    record {
+      role = has_role s es i image p.0 image.role can is t refl;
+      account = account_told s es i image p.0 image.role can is t refl;
+      executed = λ live.
+          let l : replays p.0.role ≡ false = ap (λ (q : Sphere). replays q.role) (sym t.at) ∙ live in
+          ap (λ (q : Sphere). q.progress) (t.at ∙ sym (executed-is s es i image p.0 can t l));
+      over = subst IsAtEnd (ap (λ (q : Sphere). q.role) (sym t.at)) ((ends s es can).finished.replays i p.0 t.there);
+      played = λ log b role replay. played_to s es i image p.0 log b can is t role replay;
+    }
+
+-- ---- the run
+
+pub runs_told : RunsAreTold
+runs_told s es limits =
+    let k = known s es (setups_finish s limits) in
+    record { spheres = k.sizes; devices = k.devices; possible = k.possible }
+
+-- ---- what follows
+
+-- a play that is complete has the account of what it leaves
+play_account : (y : Played) (p : Sphere) (n : ℕ) → y.now ≡ Over (End.Complete n) → n ≡ position p.progress → y.memory ≡ p.memory → y.threads ≡ p.threads → y.progress ≡ p.progress → played_account y ≡ executed_account p
+play_account y p n now few memory threads progress =
+    let told : end_of y.now ≡ End.Complete (position p.progress) = ap end_of now ∙ ap End.Complete few in
+    (λ j. account_of (progress j).commits (threads j) (progress j).request (memory j) (told j))
+
+pub recordings_reproduced : RecordingsAreReproduced
+recordings_reproduced s es i image mode limits is role =
+    let can = setups_finish s limits in
+    let t = sphere-there s es i image can is in
+    let p : Sphere = t.0 in
+    let log : LogParts = log_told s es i mode in
+    let k = known s es can in
+    let will = will_record s i image mode can is role in
+    let recorded : p.role ≡ Record log = ap (λ (q : Sphere). q.role) (sym t.1.at) ∙ k.logs i image mode will in
+    let back = k.plays_back i image mode will p log t.1.shows recorded in
+    let live : replays p.role ≡ false = ap replays recorded in
+    let x = executed-is s es i image p can t.1 live in
+    let fresh = k.fresh i image mode will log (k.logs i image mode will) in
+    let count : log.count ≡ position p.progress = fresh.count ∙ ap (λ (q : Sphere). position q.progress) t.1.at in
+    record {
+      fits = back.fit;
+      account = play_account (played log image) p log.count back.fit count back.memory back.threads back.progress ∙ ap executed_account (sym x);
+    }

@@ -1,0 +1,5 @@
+use Rattle.spec_run.proofs.Told.{recordings_reproduced}
+use Rattle.spec_run.proofs.promise.recordings_are_reproduced.Goals as goal
+
+pub returns : goal.returns
+returns c = recordings_reproduced

@@ -1,0 +1,131 @@
+-- What is promised of a machine once its run is over: what it holds is what the texts of the run tell.
+use Rattle.std.specs.Prelude.{◌≡◌, ℕ, ◌<◌, ◌≤◌, ◌^◌, false, List, length, Some, slice_get}
+use Rattle.dl_account.specs.Account.{account_of}
+use Rattle.dl_entry.specs.declared.End.{End}
+use Rattle.spec_log.specs.declared.ModeName.{ModeName}
+use Rattle.spec_log.specs.declared.LogParts.{LogParts}
+use Rattle.spec_play.specs.Progress.{position}
+use Rattle.spec_play.specs.Plays.{FitsImage}
+use Rattle.spec_protocol.specs.declared.event.Event.{Event}
+use Rattle.spec_protocol.specs.Spheres.{Role, Plain, Record, Replay, Book, Sphere}
+use Rattle.spec_protocol.specs.Placing.{replays}
+use Rattle.spec_protocol.specs.World.{sphere_at}
+use Rattle.spec_protocol.specs.Machine.{RoleSetup, IsPlain, IsRecorded, IsReplayed, SphereSetup, Setup}
+use Rattle.spec_protocol.specs.Serial.{whole_of, CanDoAll}
+use Rattle.spec_protocol.specs.Logged.{sphere_in}
+use Rattle.spec_protocol.specs.Sound.{IsWithinLimits, image_at}
+use Rattle.spec_protocol.specs.Promises.{after}
+use Rattle.spec_finishing.specs.Ending.{IsAtEnd}
+use Rattle.spec_finishing.specs.Function.{finished}
+use Rattle.spec_run.specs.Runs.{points_of, executed, played, end_of}
+use Rattle.spec_run.specs.Texts.{account_as, account_text, console_text, executed_account, log_text, log_told, played_account}
+
+-- ---- a sphere
+
+-- how a sphere's run ended: a replay as its book says; the others are complete
+abbrev pub end_as : Role → (commits : ℕ) → End
+end_as Plain n = End.Complete n
+end_as (Record log) n = End.Complete n
+end_as (Replay b) n = end_of b.now
+
+-- the account of what a sphere holds
+abbrev pub account_held : Sphere → List ℕ
+account_held p =
+    account_of p.progress.commits p.threads p.progress.request p.memory (end_as p.role (position p.progress))
+
+-- a sphere is replayed where it was set up so; and a recording has this log
+abbrev pub HasRole : Setup → (schedule : List Event) → (i : ℕ) → RoleSetup → Role → Type 0
+HasRole s es i IsPlain role = replays role ≡ false
+HasRole s es i (IsRecorded mode) role = role ≡ Record (log_told s es i mode)
+HasRole s es i (IsReplayed log) role = (b : Book) × (role ≡ Replay b)
+
+-- sphere i of the finished machine, which was set up by the image
+pub record IsTold (s : Setup) (es : List Event) (i : ℕ) (image : SphereSetup) : Type 0 where
+  pub role : HasRole s es i image.role (sphere_at (finished s es) i).role
+  pub account : account_held (sphere_at (finished s es) i)
+      ≡ account_as image (sphere_in (executed s es) i) image.role
+  -- a plain or recorded one has the commits that are executed
+  pub executed : replays (sphere_at (finished s es) i).role ≡ false
+      → (sphere_at (finished s es) i).progress ≡ (sphere_in (executed s es) i).progress
+  -- a replayed one has ended, as its log's play
+  pub over : IsAtEnd (sphere_at (finished s es) i).role
+  pub played : (log : LogParts) (b : Book)
+      → image.role ≡ IsReplayed log
+      → (sphere_at (finished s es) i).role ≡ Replay b
+      → b.now ≡ (played log image).now
+
+-- for every setup within its limits and every schedule
+abbrev pub SpheresAreTold : Type 0
+SpheresAreTold =
+    (s : Setup) (es : List Event) (i : ℕ) (image : SphereSetup)
+    → IsWithinLimits s
+    → slice_get s.spheres i ≡ Some image
+    → IsTold s es i image
+
+-- ---- the whole run
+
+-- there are as many spheres as were set up, the devices are the executed ones, and each point can be done as it says
+pub record IsRunTold (s : Setup) (es : List Event) : Type 0 where
+  pub spheres : length (finished s es).spheres ≡ length s.spheres
+  pub devices : (finished s es).devices ≡ (executed s es).devices
+  pub possible : CanDoAll (whole_of s) (points_of s es)
+
+abbrev pub RunsAreTold : Type 0
+RunsAreTold = (s : Setup) (es : List Event) → IsWithinLimits s → IsRunTold s es
+
+-- ---- what follows
+
+-- a recorded log fits its image, and the account of its play there is the recorded one, byte for byte
+pub record IsReproduced (image : SphereSetup) (log : LogParts) (p : Sphere) : Type 0 where
+  pub fits : FitsImage log image.memory image.entry
+  pub account : played_account (played log image) ≡ executed_account p
+
+abbrev pub RecordingsAreReproduced : Type 0
+RecordingsAreReproduced =
+    (s : Setup) (es : List Event) (i : ℕ) (image : SphereSetup) (mode : ModeName)
+    → IsWithinLimits s
+    → slice_get s.spheres i ≡ Some image
+    → image.role ≡ IsRecorded mode
+    → IsReproduced image (log_told s es i mode) (sphere_in (executed s es) i)
+
+-- two runs that agree on a sphere's image, memory size and log write equal accounts of it, whatever else differs: cores,
+-- buffers, windows, signatures, schedules, devices and the other spheres
+abbrev pub AccountsAgree : Type 0
+AccountsAgree =
+    (s z : Setup) (es fs : List Event) (i j : ℕ) (log : LogParts)
+    → (image_at s i).role ≡ IsReplayed log
+    → image_at z j ≡ image_at s i
+    → account_text z fs j ≡ account_text s es i
+
+-- the setups differ in cores, windows, buffers and signatures at most
+pub record AreAlike (s z : Setup) : Type 0 where
+  pub chunk : s.numbers.chunk ≡ z.numbers.chunk
+  pub seed : s.seed ≡ z.seed
+  pub input : s.input ≡ z.input
+  pub spheres : s.spheres ≡ z.spheres
+
+pub record HaveSameTexts (s z : Setup) (es fs : List Event) : Type 0 where
+  pub logs : (i : ℕ) → log_text s es i ≡ log_text z fs i
+  pub accounts : (i : ℕ) → account_text s es i ≡ account_text z fs i
+  pub console : console_text s es ≡ console_text z fs
+
+-- where the points of two such runs are the same, so are the logs, the accounts and the console: a false hit of signatures
+-- changes them only by the order of commits
+abbrev pub TextsAreOfPoints : Type 0
+TextsAreOfPoints =
+    (s z : Setup) (es fs : List Event)
+    → AreAlike s z
+    → points_of s es ≡ points_of z fs
+    → HaveSameTexts s z es fs
+
+-- ---- room
+
+-- after a schedule of at most 2^24 events a plain or recorded sphere has fewer commits: the first event commits nothing
+abbrev pub SchedulesLeaveRoom : Type 0
+SchedulesLeaveRoom =
+    (s : Setup) (es : List Event) (i : ℕ)
+    → IsWithinLimits s
+    → length es ≤ 2 ^ 24
+    → i < length (after s es).spheres
+    → replays (sphere_at (after s es) i).role ≡ false
+    → position (sphere_at (after s es) i).progress < 2 ^ 24

@@ -1,0 +1,55 @@
+-- What a run comes to: the points of its schedule and of finishing; the spheres and devices that executing these points
+-- leaves; and what each log that is replayed plays to.
+use Rattle.std.specs.Prelude.{Bool, true, false, ◌||◌, List, [], ◌∷◌}
+use Rattle.dl_entry.specs.declared.End.{End}
+use Rattle.dl_entry.specs.declared.Point.{Point}
+use Rattle.dl_entry.specs.declared.Counts.{Counts}
+use Rattle.spec_log.specs.declared.LogParts.{LogParts}
+use Rattle.spec_play.specs.Turns.{Now, Turn, TurnOfDma, Over}
+use Rattle.spec_play.specs.Plays.{Played, play}
+use Rattle.spec_protocol.specs.declared.event.Event.{Event}
+use Rattle.spec_protocol.specs.Machine.{RoleSetup, IsPlain, IsRecorded, IsReplayed, SphereSetup, Setup}
+use Rattle.spec_protocol.specs.Serial.{Whole, serial}
+use Rattle.spec_finishing.specs.Function.{finished}
+
+-- ---- the machine
+
+-- the serialisation points of the whole run, in the order in which they were made
+abbrev pub points_of : Setup → (schedule : List Event) → List Point
+points_of s es = (finished s es).points
+
+-- its events and their replies
+abbrev pub counts_of : Setup → (schedule : List Event) → Counts
+counts_of s es = (finished s es).counts
+
+-- ---- the points executed whole, one at a time
+
+abbrev pub executed : Setup → (schedule : List Event) → Whole
+executed s es = serial s (points_of s es)
+
+-- ---- the logs played
+
+-- the play of a log on an image
+abbrev pub played : LogParts → SphereSetup → Played
+played log image = play log image.memory image.entry
+
+-- how a whole play ended; each has
+abbrev pub end_of : Now → End
+end_of (Over how) = how
+end_of (Turn thread) = End.Complete 0
+end_of TurnOfDma = End.Complete 0
+
+abbrev pub has_diverged : End → Bool
+has_diverged (End.Complete commits) = false
+has_diverged (End.Diverged index why) = true
+
+-- whether the play of what is replayed on the image diverges
+abbrev pub diverges_as : SphereSetup → RoleSetup → Bool
+diverges_as image IsPlain = false
+diverges_as image (IsRecorded mode) = false
+diverges_as image (IsReplayed log) = has_diverged (end_of (played log image).now)
+
+-- whether that of any sphere does
+abbrev pub diverges : List SphereSetup → Bool
+diverges [] = false
+diverges (image ∷ images) = diverges_as image image.role || diverges images

@@ -1,0 +1,87 @@
+-- The texts of a run: the log and the account of each sphere, the console, the report and the summary. Every value in them
+-- is one of executing the points whole, one at a time, or of playing a log on its image.
+use Rattle.std.specs.Prelude.{ℕ, suc, List, [], ◌∷◌}
+use Rattle.dl_account.specs.Account.{account_of}
+use Rattle.dl_account.specs.Report.{report_of}
+use Rattle.dl_account.specs.Summary.{summary_of}
+use Rattle.dl_entry.specs.declared.End.{End}
+use Rattle.dl_entry.specs.declared.SphereLine.{SphereLine}
+use Rattle.spec_log.specs.declared.ModeName.{ModeName}
+use Rattle.spec_log.specs.declared.LogParts.{LogParts}
+use Rattle.spec_log.specs.Bytes.{log_bytes}
+use Rattle.spec_play.specs.Progress.{position}
+use Rattle.spec_play.specs.Plays.{Played}
+use Rattle.spec_protocol.specs.declared.event.Event.{Event}
+use Rattle.spec_protocol.specs.Spheres.{Sphere}
+use Rattle.spec_protocol.specs.Machine.{RoleSetup, IsPlain, IsRecorded, IsReplayed, SphereSetup, Setup}
+use Rattle.spec_protocol.specs.Serial.{Whole, whole_of}
+use Rattle.spec_protocol.specs.Logged.{sphere_in, supplied, logged}
+use Rattle.spec_protocol.specs.Sound.{image_at}
+use Rattle.spec_run.specs.Runs.{points_of, counts_of, executed, played, end_of}
+
+-- ---- logs
+
+-- the log that the points of sphere i tell, in this mode
+abbrev pub log_told : Setup → (schedule : List Event) → (i : ℕ) → ModeName → LogParts
+log_told s es i mode = logged mode s.numbers.chunk (supplied i (whole_of s) (points_of s es))
+
+-- a recorded sphere's log as bytes; no other sphere has one
+abbrev pub log_as : Setup → (schedule : List Event) → (i : ℕ) → RoleSetup → List ℕ
+log_as s es i IsPlain = []
+log_as s es i (IsRecorded mode) = log_bytes (log_told s es i mode)
+log_as s es i (IsReplayed log) = []
+
+unfoldable pub log_text : Setup → (schedule : List Event) → (i : ℕ) → List ℕ
+log_text s es i = log_as s es i (image_at s i).role
+
+-- ---- accounts
+
+-- of a sphere that was executed
+abbrev pub executed_account : Sphere → List ℕ
+executed_account p =
+    account_of p.progress.commits p.threads p.progress.request p.memory (End.Complete (position p.progress))
+
+-- of a play
+abbrev pub played_account : Played → List ℕ
+played_account y = account_of y.progress.commits y.threads y.progress.request y.memory (end_of y.now)
+
+-- a replayed sphere's account is that of its log's play on its image, and no more is told of it
+abbrev pub account_as : SphereSetup → (executed : Sphere) → RoleSetup → List ℕ
+account_as image p IsPlain = executed_account p
+account_as image p (IsRecorded mode) = executed_account p
+account_as image p (IsReplayed log) = played_account (played log image)
+
+unfoldable pub account_text : Setup → (schedule : List Event) → (i : ℕ) → List ℕ
+account_text s es i = let image = image_at s i in account_as image (sphere_in (executed s es) i) image.role
+
+-- ---- the console
+
+unfoldable pub console_text : Setup → (schedule : List Event) → List ℕ
+console_text s es = (executed s es).devices.console
+
+-- ---- the report and the summary
+
+abbrev pub line_of_end : End → SphereLine
+line_of_end (End.Complete commits) = SphereLine.Complete commits
+line_of_end (End.Diverged index why) = SphereLine.Diverged index why
+
+-- what the summary says of a sphere: its commits, or how its log's play ended
+abbrev pub line_as : SphereSetup → (executed : Sphere) → RoleSetup → SphereLine
+line_as image p IsPlain = SphereLine.Plain (position p.progress)
+line_as image p (IsRecorded mode) = SphereLine.Record (position p.progress)
+line_as image p (IsReplayed log) = line_of_end (end_of (played log image).now)
+
+-- of the spheres from number i on
+abbrev pub lines_from : Whole → (i : ℕ) → List SphereSetup → List SphereLine
+lines_from x i [] = []
+lines_from x i (image ∷ images) = line_as image (sphere_in x i) image.role ∷ lines_from x (suc i) images
+
+abbrev pub lines_of : Setup → (schedule : List Event) → List SphereLine
+lines_of s es = lines_from (executed s es) 0 s.spheres
+
+-- the report tells the points in their order, and how often each reply was given
+unfoldable pub report_text : Setup → (schedule : List Event) → List ℕ
+report_text s es = report_of (points_of s es) (counts_of s es) (lines_of s es)
+
+unfoldable pub summary_text : Setup → (schedule : List Event) → List ℕ
+summary_text s es = summary_of (counts_of s es) (lines_of s es)

@@ -1,0 +1,10 @@
+//! What a run of the whole machine comes to: the texts of its spheres, its console, its report and its summary, and the
+//! promises that the machine holds what they tell.
+#![tactic(auto)]
+
+mod promise;
+
+pub use promise::{
+    accounts_agree, recordings_are_reproduced, runs_are_told, schedules_leave_room,
+    spheres_are_told, texts_are_of_points,
+};

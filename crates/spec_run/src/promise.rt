@@ -1,0 +1,37 @@
+//! What is promised of runs. Each promise is a clause of a function that does nothing.
+ghost use Rattle.spec_run.specs.Promise.{AccountsAgree, RecordingsAreReproduced, RunsAreTold, SchedulesLeaveRoom, SpheresAreTold, TextsAreOfPoints};
+
+/// Once a run is over, what a sphere of the machine holds is what its account tells: a plain or recorded one has the
+/// commits, threads, request and memory of executing the points whole, one at a time, and a recorded one the log of
+/// these points; a replayed one has the commits and the end of its log's play, and where it is complete the play's
+/// threads, request and memory.
+pub fn spheres_are_told()
+    ensures { SpheresAreTold }
+{}
+
+/// Once a run is over, the devices are those of executing the points whole, one at a time, and each point can be done as
+/// it says.
+pub fn runs_are_told()
+    ensures { RunsAreTold }
+{}
+
+/// The log of a recorded sphere fits its image, and the account of its play there is the recorded sphere's, byte for byte.
+pub fn recordings_are_reproduced()
+    ensures { RecordingsAreReproduced }
+{}
+
+/// Two runs that agree on a sphere's image, memory size and log write equal accounts of it, whatever else differs.
+pub fn accounts_agree()
+    ensures { AccountsAgree }
+{}
+
+/// Two runs that differ in cores, windows, buffers and signatures at most, and make the same points, have the same logs,
+/// accounts and console.
+pub fn texts_are_of_points()
+    ensures { TextsAreOfPoints }
+{}
+
+/// After a schedule of at most 2^24 events each plain or recorded sphere has fewer than 2^24 commits.
+pub fn schedules_leave_room()
+    ensures { SchedulesLeaveRoom }
+{}
