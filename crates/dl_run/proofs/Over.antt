@@ -1,0 +1,241 @@
+-- What a run that is over tells, sphere by sphere: in the words of its texts, and in those of the machine.
+use Rattle.std.proofs.Common.{◌≡◌, ℕ, zero, suc, ◌+◌, ◌<◌, ◌≤◌, ◌^◌, Bool, true, false, List, [], ◌∷◌, ◌++◌, length, Some, None, refl, sym, ap, ◌∙◌, subst, arith, get_or, inl, inr}
+use Rattle.std.specs.Prelude.{◌⊎◌, ◌||◌, slice_get, drop}
+use Rattle.std.proofs.lemmas.List.{append_assoc}
+use Rattle.std.proofs.lemmas.Bool.{true≢false}
+use Rattle.std.proofs.lemmas.Option.{none-some}
+use Rattle.dl_account.specs.Report.{report_of}
+use Rattle.dl_account.specs.Summary.{summary_of}
+use Rattle.dl_entry.specs.declared.End.{End}
+use Rattle.dl_entry.specs.declared.SphereLine.{SphereLine}
+use Rattle.spec_log.specs.declared.ModeName.{ModeName}
+use Rattle.spec_log.specs.declared.LogParts.{LogParts}
+use Rattle.spec_log.specs.Bytes.{log_bytes}
+use Rattle.spec_kernel.specs.Devices.{Devices}
+use Rattle.spec_play.specs.Progress.{position}
+use Rattle.spec_play.specs.Turns.{Now, Turn, TurnOfDma, Over}
+use Rattle.spec_protocol.specs.declared.event.Event.{Event}
+use Rattle.spec_protocol.specs.Spheres.{Role, Plain, Record, Replay, Book, is_over}
+use Rattle.spec_protocol.specs.Placing.{replays}
+use Rattle.spec_protocol.specs.World.{World, sphere_at}
+use Rattle.spec_protocol.specs.Machine.{RoleSetup, IsPlain, IsRecorded, IsReplayed, SphereSetup, Setup, world_of, world_after}
+use Rattle.spec_protocol.specs.Logged.{sphere_in}
+use Rattle.spec_protocol.specs.Serial.{Whole}
+use Rattle.spec_protocol.specs.Promises.{IsSetup, after}
+use Rattle.spec_protocol.specs.Sound.{no_image, image_at}
+use Rattle.spec_finishing.specs.Ending.{IsAtEnd, OfReplays}
+use Rattle.spec_finishing.specs.Function.{finished, finishing_of, most_events}
+use Rattle.spec_finishing.proofs.Function.{function_finishes}
+use Rattle.spec_finishing.proofs.Knowing.{after-event}
+use Rattle.spec_finishing.proofs.KindsKept.{is_replayed}
+use Rattle.spec_finishing.proofs.ShortRuns.{setups_finish}
+use Rattle.spec_run.specs.Runs.{executed, played, end_of, diverges, diverges_as, has_diverged}
+use Rattle.spec_run.specs.Texts.{account_text, console_text, line_as, line_of_end, lines_from, lines_of, log_as, log_told, log_text, report_text, summary_text}
+use Rattle.spec_run.specs.Promise.{end_as, account_held, HasRole, IsTold}
+use Rattle.spec_run.proofs.Room.{leaves_room}
+use Rattle.spec_run.proofs.Told.{spheres_told, runs_told}
+use Rattle.dl_machine.specs.Ready.{HasRoom}
+use Rattle.dl_finish.proofs.Room.{room_kept}
+use Rattle.dl_sphere.specs.Reading.{end_in, log_in}
+use Rattle.dl_run.specs.Ran.{Ran, IsOver}
+
+-- ---- rows
+
+image_there : (xs : List SphereSetup) (i : ℕ) → i < length xs → slice_get xs i ≡ Some (get_or xs i no_image)
+image_there [] i l = absurd (omega (arith, l))
+image_there (x ∷ xs) zero l = refl
+image_there (x ∷ xs) (suc i) l = image_there xs i (omega (arith, l))
+
+-- there are as many spheres as were set up
+pub as_many : (es : List Event) (r : Ran) → IsOver es r → length r.world.spheres ≡ length r.setup.spheres
+as_many es r over = ap (λ (w : World). length w.spheres) over.world ∙ (runs_told r.setup es over.limits).spheres
+
+-- ---- a sphere
+
+-- within the limits of a setup
+pub few_spheres : (es : List Event) (r : Ran) → IsOver es r → length r.setup.spheres ≤ 8
+few_spheres es r over = over.limits.few.1
+
+pub told : (es : List Event) (r : Ran) (i : ℕ) → IsOver es r → i < length r.setup.spheres → IsTold r.setup es i (image_at r.setup i)
+told es r i over inside =
+    spheres_told r.setup es i (image_at r.setup i) over.limits (image_there r.setup.spheres i inside)
+
+-- the role of the machine's sphere
+has_role : (es : List Event) (r : Ran) (i : ℕ) (role : RoleSetup) → IsOver es r → i < length r.setup.spheres → (image_at r.setup i).role ≡ role → HasRole r.setup es i role (sphere_at r.world i).role
+has_role es r i role over inside is =
+    subst (λ (x : RoleSetup). HasRole r.setup es i x (sphere_at r.world i).role) is
+    (subst (λ (w : World). HasRole r.setup es i (image_at r.setup i).role (sphere_at w i).role) (sym over.world) (told es r i over inside).role)
+
+-- it has ended
+pub at_end : (es : List Event) (r : Ran) (i : ℕ) → IsOver es r → i < length r.setup.spheres → IsAtEnd (sphere_at r.world i).role
+at_end es r i over inside =
+    subst (λ (w : World). IsAtEnd (sphere_at w i).role) (sym over.world) (told es r i over inside).over
+
+-- ---- room
+
+room_all : (s : Setup) (es fs : List Event) → IsSetup s → OfReplays (after s es) fs → HasRoom (after s es) → HasRoom (world_after (after s es) fs)
+room_all s es [] is of room = room
+room_all s es (e ∷ fs) is of room =
+    let same = after-event (world_of s) es e in
+    let kept = room_kept s es e is of.0 room in
+    subst (λ (w : World). HasRoom (world_after w fs)) same
+    (room_all s (es ++ e ∷ []) fs is (subst (λ (w : World). OfReplays w fs) (sym same) of.1) (subst HasRoom (sym same) kept))
+
+-- a plain or recorded sphere has fewer than 2^24 commits
+pub few_commits : (es : List Event) (r : Ran) (i : ℕ) → IsOver es r → i < length r.setup.spheres → replays (sphere_at r.world i).role ≡ false → position (sphere_at r.world i).progress < 2 ^ 24
+few_commits es r i over inside live =
+    let can = setups_finish r.setup over.limits in
+    let alone = (function_finishes r.setup es (most_events r.setup es) can (omega arith)).alone in
+    let start : HasRoom (after r.setup es) = record { few = λ j l live. leaves_room r.setup es j over.limits over.few l live } in
+    let room : HasRoom r.world = subst HasRoom (sym over.world) (room_all r.setup es (finishing_of r.setup es) can.setup alone start) in
+    let many = as_many es r over in
+    room.few i (omega (arith, inside, many)) live
+
+-- ---- ends
+
+end_now : (b : Book) (now : Now) (how : End) → end_in (Replay (record b { now = now })) ≡ Some how → how ≡ end_of now
+end_now b (Turn k) how e = absurd (none-some how e)
+end_now b TurnOfDma how e = absurd (none-some how e)
+end_now b (Over x) how e = cc
+
+pub end-some : (role : Role) (n : ℕ) (how : End) → end_in role ≡ Some how → how ≡ end_as role n
+end-some Plain n how e = absurd (none-some how e)
+end-some (Record log) n how e = absurd (none-some how e)
+end-some (Replay b) n how e = end_now b b.now how e
+
+none_now : (b : Book) (now : Now) → is_over now ≡ true → end_in (Replay (record b { now = now })) ≡ None → ⊥
+none_now b (Turn k) end e = true≢false (sym end)
+none_now b TurnOfDma end e = true≢false (sym end)
+none_now b (Over x) end e = none-some x (sym e)
+
+pub end-none : (role : Role) → IsAtEnd role → end_in role ≡ None → replays role ≡ false
+end-none Plain end e = refl
+end-none (Record log) end e = refl
+end-none (Replay b) end e = absurd (none_now b b.now end e)
+
+pub live-end : (role : Role) (n : ℕ) → replays role ≡ false → end_as role n ≡ End.Complete n
+live-end Plain n e = refl
+live-end (Record log) n e = refl
+live-end (Replay b) n e = absurd (true≢false e)
+
+-- ---- logs
+
+pub recorded-role : (es : List Event) (r : Ran) (i : ℕ) (mode : ModeName) → IsOver es r → i < length r.setup.spheres → (image_at r.setup i).role ≡ IsRecorded mode → (sphere_at r.world i).role ≡ Record (log_told r.setup es i mode)
+recorded-role es r i mode over inside is = has_role es r i (IsRecorded mode) over inside is
+
+pub log-is : (es : List Event) (r : Ran) (i : ℕ) (mode : ModeName) (log : LogParts) → IsOver es r → i < length r.setup.spheres → (image_at r.setup i).role ≡ IsRecorded mode → log_in (sphere_at r.world i).role ≡ Some log → log_bytes log ≡ log_text r.setup es i
+unfolding log_text
+log-is es r i mode log over inside is there =
+    let role = recorded-role es r i mode over inside is in
+    let same : log ≡ log_told r.setup es i mode = (let e : Some log ≡ Some (log_told r.setup es i mode) = sym there ∙ ap log_in role in cc) in
+    ap log_bytes same ∙ ap (log_as r.setup es i) (sym is)
+
+-- a sphere that isn't recorded has none
+pub no-log : (s : Setup) (es : List Event) (i : ℕ) → ((image_at s i).role ≡ IsPlain) ⊎ ((log : LogParts) × ((image_at s i).role ≡ IsReplayed log)) → [] ≡ log_text s es i
+unfolding log_text
+no-log s es i (inl is) = ap (log_as s es i) (sym is)
+no-log s es i (inr is) = ap (log_as s es i) (sym is.1)
+
+-- ---- accounts and the console
+
+pub account-is : (es : List Event) (r : Ran) (i : ℕ) → IsOver es r → i < length r.setup.spheres → account_held (sphere_at r.world i) ≡ account_text r.setup es i
+unfolding account_text
+account-is es r i over inside =
+    ap (λ (w : World). account_held (sphere_at w i)) over.world ∙ (told es r i over inside).account
+
+pub console-is : (es : List Event) (r : Ran) → IsOver es r → r.world.devices.console ≡ console_text r.setup es
+unfolding console_text
+console-is es r over =
+    ap (λ (w : World). w.devices.console) over.world
+    ∙ ap (λ (d : Devices). d.console) (runs_told r.setup es over.limits).devices
+
+-- ---- lines
+
+pub not-replayed : (es : List Event) (r : Ran) (i : ℕ) (role : RoleSetup) → IsOver es r → i < length r.setup.spheres → (image_at r.setup i).role ≡ role → is_replayed role ≡ false → replays (sphere_at r.world i).role ≡ false
+not-replayed es r i IsPlain over inside is live = has_role es r i IsPlain over inside is
+not-replayed es r i (IsRecorded mode) over inside is live = ap replays (has_role es r i (IsRecorded mode) over inside is)
+not-replayed es r i (IsReplayed log) over inside is live = absurd (true≢false live)
+
+-- the commits of a plain or recorded sphere are the executed ones
+pub commits-are : (es : List Event) (r : Ran) (i : ℕ) → IsOver es r → i < length r.setup.spheres → replays (sphere_at r.world i).role ≡ false → position (sphere_at r.world i).progress ≡ position (sphere_in (executed r.setup es) i).progress
+commits-are es r i over inside live =
+    let l : replays (sphere_at (finished r.setup es) i).role ≡ false = subst (λ (w : World). replays (sphere_at w i).role ≡ false) over.world live in
+    ap (λ (w : World). position (sphere_at w i).progress) over.world ∙ ap position ((told es r i over inside).executed l)
+
+-- a replayed one ends as its log's play
+pub ends-as-played : (es : List Event) (r : Ran) (i : ℕ) (log : LogParts) (n : ℕ) → IsOver es r → i < length r.setup.spheres → (image_at r.setup i).role ≡ IsReplayed log → end_as (sphere_at r.world i).role n ≡ end_of (played log (image_at r.setup i)).now
+ends-as-played es r i log n over inside is =
+    let h = has_role es r i (IsReplayed log) over inside is in
+    let there : (sphere_at (finished r.setup es) i).role ≡ Replay h.0 = subst (λ (w : World). (sphere_at w i).role ≡ Replay h.0) over.world h.1 in
+    ap (λ (x : Role). end_as x n) h.1 ∙ ap end_of ((told es r i over inside).played log h.0 is there)
+
+pub line-plain : (es : List Event) (r : Ran) (i : ℕ) → IsOver es r → i < length r.setup.spheres → (image_at r.setup i).role ≡ IsPlain → SphereLine.Plain (position (sphere_at r.world i).progress) ≡ line_as (image_at r.setup i) (sphere_in (executed r.setup es) i) (image_at r.setup i).role
+line-plain es r i over inside is =
+    ap SphereLine.Plain (commits-are es r i over inside (not-replayed es r i IsPlain over inside is refl))
+    ∙ ap (line_as (image_at r.setup i) (sphere_in (executed r.setup es) i)) (sym is)
+
+pub line-recorded : (es : List Event) (r : Ran) (i : ℕ) (mode : ModeName) → IsOver es r → i < length r.setup.spheres → (image_at r.setup i).role ≡ IsRecorded mode → SphereLine.Record (position (sphere_at r.world i).progress) ≡ line_as (image_at r.setup i) (sphere_in (executed r.setup es) i) (image_at r.setup i).role
+line-recorded es r i mode over inside is =
+    ap SphereLine.Record (commits-are es r i over inside (not-replayed es r i (IsRecorded mode) over inside is refl))
+    ∙ ap (line_as (image_at r.setup i) (sphere_in (executed r.setup es) i)) (sym is)
+
+pub line-replayed : (es : List Event) (r : Ran) (i : ℕ) (log : LogParts) (how : End) → IsOver es r → i < length r.setup.spheres → (image_at r.setup i).role ≡ IsReplayed log → how ≡ end_as (sphere_at r.world i).role (position (sphere_at r.world i).progress) → line_of_end how ≡ line_as (image_at r.setup i) (sphere_in (executed r.setup es) i) (image_at r.setup i).role
+line-replayed es r i log how over inside is ended =
+    ap line_of_end (ended ∙ ends-as-played es r i log (position (sphere_at r.world i).progress) over inside is)
+    ∙ ap (line_as (image_at r.setup i) (sphere_in (executed r.setup es) i)) (sym is)
+
+pub diverges-replayed : (es : List Event) (r : Ran) (i : ℕ) (log : LogParts) (how : End) → IsOver es r → i < length r.setup.spheres → (image_at r.setup i).role ≡ IsReplayed log → how ≡ end_as (sphere_at r.world i).role (position (sphere_at r.world i).progress) → has_diverged how ≡ diverges_as (image_at r.setup i) (image_at r.setup i).role
+diverges-replayed es r i log how over inside is ended =
+    ap has_diverged (ended ∙ ends-as-played es r i log (position (sphere_at r.world i).progress) over inside is)
+    ∙ ap (diverges_as (image_at r.setup i)) (sym is)
+
+-- ---- rows of spheres
+
+pub image-next : (xs : List SphereSetup) (i : ℕ) → i < length xs → drop i xs ≡ get_or xs i no_image ∷ drop (suc i) xs
+image-next [] i l = absurd (omega (arith, l))
+image-next (x ∷ xs) zero l = refl
+image-next (x ∷ xs) (suc i) l = image-next xs i (omega (arith, l))
+
+pub none-left : (xs : List SphereSetup) (i : ℕ) → length xs ≤ i → drop i xs ≡ []
+none-left [] zero l = refl
+none-left [] (suc i) l = refl
+none-left (x ∷ xs) zero l = absurd (omega (arith, l))
+none-left (x ∷ xs) (suc i) l = none-left xs i (omega (arith, l))
+
+-- a line more
+lines-more : (x : Whole) (xs : List SphereSetup) (i : ℕ) (ls : List SphereLine) (line : SphereLine) → i < length xs → line ≡ line_as (get_or xs i no_image) (sphere_in x i) (get_or xs i no_image).role → (ls ++ line ∷ []) ++ lines_from x (suc i) (drop (suc i) xs) ≡ ls ++ lines_from x i (drop i xs)
+lines-more x xs i ls line inside is =
+    append_assoc ls (line ∷ []) (lines_from x (suc i) (drop (suc i) xs))
+    ∙ ap (λ (l : SphereLine). ls ++ l ∷ lines_from x (suc i) (drop (suc i) xs)) is
+    ∙ ap (λ (ys : List SphereSetup). ls ++ lines_from x i ys) (sym (image-next xs i inside))
+
+one_more : (i : ℕ) → i + 1 ≡ suc i
+one_more i = omega arith
+
+pub lines-after : (x : Whole) (xs : List SphereSetup) (i : ℕ) (ls : List SphereLine) (line : SphereLine) → i < length xs → line ≡ line_as (get_or xs i no_image) (sphere_in x i) (get_or xs i no_image).role → (ls ++ line ∷ []) ++ lines_from x (i + 1) (drop (i + 1) xs) ≡ ls ++ lines_from x i (drop i xs)
+lines-after x xs i ls line inside is =
+    ap (λ (n : ℕ). (ls ++ line ∷ []) ++ lines_from x n (drop n xs)) (one_more i) ∙ lines-more x xs i ls line inside is
+
+abbrev here : List SphereSetup → ℕ → Bool
+here xs i = diverges_as (get_or xs i no_image) (get_or xs i no_image).role
+
+pub diverges-later : (xs : List SphereSetup) (i : ℕ) → i < length xs → here xs i ≡ false → diverges (drop (suc i) xs) ≡ diverges (drop i xs)
+diverges-later xs i inside is =
+    ap (λ (b : Bool). b || diverges (drop (suc i) xs)) (sym is) ∙ ap diverges (sym (image-next xs i inside))
+
+pub diverges-here : (xs : List SphereSetup) (i : ℕ) → i < length xs → here xs i ≡ true → true ≡ diverges (drop i xs)
+diverges-here xs i inside is =
+    ap (λ (b : Bool). b || diverges (drop (suc i) xs)) (sym is) ∙ ap diverges (sym (image-next xs i inside))
+
+-- ---- the report and the summary
+
+pub report-is : (es : List Event) (r : Ran) (lines : List SphereLine) → IsOver es r → lines ≡ lines_of r.setup es → report_of r.world.points r.world.counts lines ≡ report_text r.setup es
+unfolding report_text
+report-is es r lines over is =
+    ap (λ (w : World). report_of w.points w.counts lines) over.world
+    ∙ ap (report_of (finished r.setup es).points (finished r.setup es).counts) is
+
+pub summary-is : (es : List Event) (r : Ran) (lines : List SphereLine) → IsOver es r → lines ≡ lines_of r.setup es → summary_of r.world.counts lines ≡ summary_text r.setup es
+unfolding summary_text
+summary-is es r lines over is =
+    ap (λ (w : World). summary_of w.counts lines) over.world ∙ ap (summary_of (finished r.setup es).counts) is

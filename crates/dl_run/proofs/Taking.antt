@@ -1,0 +1,88 @@
+-- A machine that takes a schedule one event at a time has room before each, and has taken it once none is left.
+use Rattle.std.proofs.Common.{◌≡◌, ℕ, suc, ◌^◌, ◌<◌, ◌≤◌, ◌+◌, List, [], ◌∷◌, ◌++◌, length, drop, get_or, refl, sym, ap, ◌∙◌, subst, arith, append_assoc}
+use Rattle.std.proofs.Math.Seq.{drop-cons}
+use Rattle.std.proofs.Math.ListN.{length-append}
+use Rattle.std.proofs.lemmas.Grind.{common_steps}
+use Rattle.spec_protocol.specs.declared.event.Event.{Event}
+use Rattle.spec_protocol.specs.World.{World}
+use Rattle.spec_protocol.specs.Machine.{Setup}
+use Rattle.rand_pcg.specs.Lcg.{Lcg}
+use Rattle.dl_event.specs.Seeded.{schedule}
+use Rattle.spec_run.proofs.Room.{leaves_room, schedule_counted}
+use Rattle.dl_machine.specs.Ready.{HasRoom}
+use Rattle.dl_machine.specs.Runs.{IsRun}
+use Rattle.dl_finish.specs.Runs.{HasEnded}
+use Rattle.dl_run.specs.Ran.{IsOver}
+use Rattle.dl_run.specs.Taken.{IsNew, HasTaken}
+
+-- ---- runs
+
+-- a short run's world has room for one commit more
+pub run_room : (s : Setup) (es : List Event) (w : World) → IsRun s es w → length es ≤ 2 ^ 24 → HasRoom w
+run_room s es w run few =
+    subst HasRoom (sym run.here) (record { few = λ i within live. leaves_room s es i run.limits few within live })
+
+pub run_events : (s : Setup) (es : List Event) (w : World) → IsRun s es w → w.counts.events ≡ length es
+run_events s es w run = ap (λ (v : World). v.counts.events) run.here ∙ schedule_counted s es
+
+-- a run that was finished is over
+pub run_over : (s : Setup) (es : List Event) (w ended : World) → IsRun s es w → length es ≤ 2 ^ 24 → HasEnded s es ended → IsOver es (record { setup = s; world = ended })
+run_over s es w ended run few has = record { limits = run.limits; few = few; world = has.world }
+
+-- ---- how far the machine is
+
+-- of all the events some have led from the new world to this one, and these are left
+pub record Driving (all left : List Event) (new now : World) : Type 0 where
+  pub setup : Setup
+  pub first : IsRun setup [] new
+  pub done : List Event
+  pub both : done ++ left ≡ all
+  pub taken : HasTaken done new now
+
+pub driving_start : (all : List Event) (w : World) → IsNew w → Driving all all w w
+driving_start all w new = record { setup = new.setup; first = new.run; done = []; both = refl; taken = λ s run. run }
+
+pub driving_next : (all left : List Event) (e : Event) (new now next : World) → Driving all (e ∷ left) new now → ((s : Setup) (es : List Event) → IsRun s es now → IsRun s (es ++ e ∷ []) next) → Driving all left new next
+driving_next all left e new now next d on =
+    record {
+      setup = d.setup;
+      first = d.first;
+      done = d.done ++ e ∷ [];
+      both = append_assoc d.done (e ∷ []) left ∙ d.both;
+      taken = λ s run. on s d.done (d.taken s run);
+    }
+
+done_few : (all left : List Event) (new now : World) → (d : Driving all left new now) → length all ≤ 2 ^ 24 → length d.done ≤ 2 ^ 24
+done_few all left new now d few =
+    let both = ap length d.both in let l = length-append d.done left in omega (arith, both, l, few)
+
+pub driving_room : (all left : List Event) (new now : World) → Driving all left new now → length all ≤ 2 ^ 24 → HasRoom now
+driving_room all left new now d few =
+    run_room d.setup d.done now (d.taken d.setup d.first) (done_few all left new now d few)
+
+pub driving_events : (all left : List Event) (new now : World) → Driving all left new now → length all ≤ 2 ^ 24 → now.counts.events < 2 ^ 63
+driving_events all left new now d few =
+    let e = run_events d.setup d.done now (d.taken d.setup d.first) in
+    let l = done_few all left new now d few in
+    omega (arith, e, l)
+
+nothing_behind : (xs : List Event) → xs ++ [] ≡ xs
+nothing_behind xs = grind (arith, common_steps)
+
+pub driving_end : (all : List Event) (new now : World) → Driving all [] new now → HasTaken all new now
+driving_end all new now d =
+    subst (λ (es : List Event). HasTaken es new now) (sym (nothing_behind d.done) ∙ d.both) d.taken
+
+-- ---- a list
+
+-- at an index within it the list goes on with what stands there
+pub left_here : (es : List Event) (i : ℕ) (e : Event) → i < length es → drop i es ≡ get_or es i e ∷ drop (i + 1) es
+left_here es i e l =
+    let next : suc i ≡ i + 1 = omega arith in
+    drop-cons es i e l ∙ ap (λ (n : ℕ). get_or es i e ∷ drop n es) next
+
+-- ---- events that are drawn
+
+pub none_drawn : (n : ℕ) (g : Lcg) → n ≡ 0 → schedule n g ≡ []
+unfolding schedule
+none_drawn n g e = ap (λ (m : ℕ). schedule m g) e

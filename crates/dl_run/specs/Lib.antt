@@ -1,0 +1,3 @@
+pub mod Schedules
+pub mod Ran
+pub mod Taken

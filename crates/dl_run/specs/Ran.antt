@@ -1,0 +1,17 @@
+-- A machine whose run is over, beside the setup that it was made of.
+use Rattle.std.specs.Prelude.{◌≡◌, ◌≤◌, ◌^◌, List, length}
+use Rattle.spec_protocol.specs.declared.event.Event.{Event}
+use Rattle.spec_protocol.specs.World.{World}
+use Rattle.spec_protocol.specs.Machine.{Setup}
+use Rattle.spec_protocol.specs.Sound.{IsWithinLimits}
+use Rattle.spec_finishing.specs.Function.{finished}
+
+pub record Ran : Type 0 where
+  pub setup : Setup
+  pub world : World
+
+-- the setup is within its limits, and its machine has taken the schedule and then the events that finish it
+pub record IsOver (schedule : List Event) (r : Ran) : Type 0 where
+  pub limits : IsWithinLimits r.setup
+  pub few : length schedule ≤ 2 ^ 24
+  pub world : r.world ≡ finished r.setup schedule

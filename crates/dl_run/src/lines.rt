@@ -1,0 +1,81 @@
+//! What the summary says of each sphere.
+ghost use Rattle.std.specs.Prelude.{◌≡◌, ◌<◌, List, IfOk, length};
+ghost use Rattle.spec_protocol.specs.declared.event.Event.{Event};
+ghost use Rattle.spec_protocol.specs.Logged.{sphere_in};
+ghost use Rattle.spec_protocol.specs.Sound.{image_at};
+ghost use Rattle.spec_run.specs.Runs.{diverges, diverges_as, executed, has_diverged};
+ghost use Rattle.spec_run.specs.Texts.{line_as, line_of_end, lines_of};
+ghost use Rattle.dl_run.specs.Ran.{IsOver};
+
+use crate::run::Run;
+use dl_entry::{End, OutOfMemory, SphereLine};
+use dl_sphere::Role;
+use std::alloc::Global;
+
+impl Run {
+    /// Whether a replayed sphere has left its log.
+    pub fn diverged(&self) -> bool
+        ensures { result ≡ diverges self.now.setup.spheres }
+    {
+        for sphere in 0..self.setup.spheres.len() {
+            if self.has_diverged(sphere) {
+                return true;
+            }
+        }
+        false
+    }
+
+    // Whether this one has.
+    fn has_diverged(&self, sphere: usize) -> bool
+        requires { sphere < length self.now.setup.spheres }
+        ensures { let image = image_at self.now.setup sphere in result ≡ diverges_as image image.role }
+    {
+        match self.role(sphere) {
+            Role::Plain | Role::Record(_) => false,
+            Role::Replay(_) => is_divergence(self.end(sphere)),
+        }
+    }
+
+    /// The line of each sphere.
+    pub(crate) fn lines(&self, alloc: Global) -> Result<Vec<SphereLine>, OutOfMemory>
+        ensures { IfOk result (λ lines. (es : List Event) → IsOver es self.now → lines.items ≡ lines_of self.now.setup es) }
+    {
+        let mut lines = Vec::new(alloc);
+        for sphere in 0..self.setup.spheres.len() {
+            lines.push(self.line(sphere))?;
+        }
+        Ok(lines)
+    }
+
+    // The line of one sphere.
+    fn line(&self, sphere: usize) -> SphereLine
+        requires { sphere < length self.now.setup.spheres }
+        ensures { (es : List Event) → IsOver es self.now →
+            let image = image_at self.now.setup sphere in
+            result ≡ line_as image (sphere_in (executed self.now.setup es) sphere) image.role }
+    {
+        match self.role(sphere) {
+            Role::Plain => SphereLine::Plain(self.commits(sphere)),
+            Role::Record(_) => SphereLine::Record(self.commits(sphere)),
+            Role::Replay(_) => line_of_end(self.end(sphere)),
+        }
+    }
+}
+
+fn line_of_end(end: End) -> SphereLine
+    ensures { result ≡ line_of_end end }
+{
+    match end {
+        End::Complete(commits) => SphereLine::Complete(commits),
+        End::Diverged(index, why) => SphereLine::Diverged(index, why),
+    }
+}
+
+fn is_divergence(end: End) -> bool
+    ensures { result ≡ has_diverged end }
+{
+    match end {
+        End::Complete(_) => false,
+        End::Diverged(..) => true,
+    }
+}

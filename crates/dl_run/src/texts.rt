@@ -1,0 +1,79 @@
+//! The texts of a run that is over.
+ghost use Rattle.std.specs.Prelude.{◌≡◌, ◌<◌, List, IfOk, length};
+ghost use Rattle.spec_log.specs.declared.ModeName.{ModeName};
+ghost use Rattle.spec_protocol.specs.declared.event.Event.{Event};
+ghost use Rattle.spec_protocol.specs.Machine.{IsRecorded};
+ghost use Rattle.spec_protocol.specs.Sound.{image_at};
+ghost use Rattle.spec_run.specs.Texts.{account_text as account_of, console_text, log_text, report_text as report_of, summary_text as summary_of};
+ghost use Rattle.dl_run.specs.Ran.{IsOver};
+
+use crate::run::Run;
+use dl_account::{account_text, report_text, summary_text};
+use dl_entry::OutOfMemory;
+use dl_logfmt::write_log;
+use dl_sphere::Role;
+use std::alloc::Global;
+
+impl Run {
+    /// The bytes of a sphere's log; none where the sphere isn't recorded.
+    pub fn log(&self, alloc: Global, sphere: usize) -> Result<Vec<u8>, OutOfMemory>
+        requires { sphere < length self.now.setup.spheres }
+        ensures { IfOk result (λ text. (es : List Event) → IsOver es self.now → text.items ≡ log_text self.now.setup es sphere) }
+    {
+        match self.role(sphere) {
+            Role::Record(_) => self.recorded_log(alloc, sphere),
+            Role::Plain => Ok(Vec::new(alloc)),
+            Role::Replay(_) => Ok(Vec::new(alloc)),
+        }
+    }
+
+    // That of a recorded sphere.
+    fn recorded_log(&self, alloc: Global, sphere: usize) -> Result<Vec<u8>, OutOfMemory>
+        requires inside { sphere < length self.now.setup.spheres }
+        requires recorded { (mode : ModeName) × ((image_at self.now.setup sphere).role ≡ IsRecorded mode) }
+        ensures { IfOk result (λ text. (es : List Event) → IsOver es self.now → text.items ≡ log_text self.now.setup es sphere) }
+    {
+        let log = self.sphere(sphere).log()?;
+        write_log(alloc, &log)
+    }
+
+    /// The account of a sphere.
+    pub fn account(&self, alloc: Global, sphere: usize) -> Result<Vec<u8>, OutOfMemory>
+        requires { sphere < length self.now.setup.spheres }
+        ensures { IfOk result (λ text. (es : List Event) → IsOver es self.now → text.items ≡ account_of self.now.setup es sphere) }
+    {
+        let end = self.end(sphere);
+        let sphere = self.sphere(sphere);
+        account_text(
+            alloc,
+            sphere.commits(),
+            sphere.threads(),
+            &sphere.request(),
+            sphere.memory(),
+            &end,
+        )
+    }
+
+    /// The bytes of the console.
+    pub fn console(&self, alloc: Global) -> Result<Vec<u8>, OutOfMemory>
+        ensures { IfOk result (λ text. (es : List Event) → IsOver es self.now → text.items ≡ console_text self.now.setup es) }
+    {
+        Ok(Vec::from_slice(alloc, self.machine.console())?)
+    }
+
+    /// The report: the points, the replies and the summary.
+    pub fn report(&self, alloc: Global) -> Result<Vec<u8>, OutOfMemory>
+        ensures { IfOk result (λ text. (es : List Event) → IsOver es self.now → text.items ≡ report_of self.now.setup es) }
+    {
+        let lines = self.lines(alloc)?;
+        report_text(alloc, self.machine.points(), self.machine.counts(), &lines)
+    }
+
+    /// The summary.
+    pub fn summary(&self, alloc: Global) -> Result<Vec<u8>, OutOfMemory>
+        ensures { IfOk result (λ text. (es : List Event) → IsOver es self.now → text.items ≡ summary_of self.now.setup es) }
+    {
+        let lines = self.lines(alloc)?;
+        summary_text(alloc, self.machine.counts(), &lines)
+    }
+}
