@@ -8,7 +8,7 @@ use Rattle.dl_plan.specs.Values.{ScheduleValues, Script, Seeded, RoleValues, Rec
 -- the script, where the events come from one
 abbrev pub script_read : ScheduleValues → List (List ℕ)
 script_read (Script name) = name ∷ []
-script_read (Seeded seed events) = []
+script_read (Seeded events) = []
 
 -- the log, where one is replayed
 abbrev pub log_read : RoleValues → List (List ℕ)

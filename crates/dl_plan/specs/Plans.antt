@@ -20,10 +20,10 @@ document bytes = if is_utf8 bytes then parse_document bytes else None
 
 -- ---- rule 5: a number of events or a script, and not both
 
-abbrev pub schedule_of : (seed : ℕ) → (events : Option ℕ) → (script : Option (List ℕ)) → Option ScheduleValues
-schedule_of seed (Some events) None = Some (Seeded seed events)
-schedule_of seed None (Some script) = Some (Script script)
-schedule_of _ _ _ = None
+abbrev pub schedule_of : (events : Option ℕ) → (script : Option (List ℕ)) → Option ScheduleValues
+schedule_of (Some events) None = Some (Seeded events)
+schedule_of None (Some script) = Some (Script script)
+schedule_of _ _ = None
 
 -- ---- rule 6: a recorded sphere has a mode and a log, a replayed one a log alone, a plain one neither
 
@@ -60,6 +60,7 @@ values_of top sizes schedule spheres = record {
   buffer = sizes.buffer;
   window = sizes.window;
   signature = sizes.signature;
+  seed = sizes.seed;
   schedule = schedule;
   input = top.input;
   console = top.console;
@@ -71,7 +72,7 @@ values_of top sizes schedule spheres = record {
 abbrev pub values_in : Entries → Result PlanValues ℕ
 values_in e =
     ok_or (sizes_in e) 4 >> λ sizes.
-    ok_or (schedule_of sizes.seed sizes.events e.top.script) 5 >> λ schedule.
+    ok_or (schedule_of sizes.events e.top.script) 5 >> λ schedule.
     ok_or (each_of sphere_asked e.spheres) 6 >> λ spheres.
     Ok (values_of e.top sizes schedule spheres)
 

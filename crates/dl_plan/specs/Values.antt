@@ -1,5 +1,5 @@
 -- What a plan asks for, and what is true of it.
-use Rattle.std.specs.Prelude.{◌≡◌, ℕ, ◌≤◌, ◌%◌, ◌^◌, IsTrue, List, map, length, string_bytes, Option, option_map}
+use Rattle.std.specs.Prelude.{◌≡◌, ℕ, ◌<◌, ◌≤◌, ◌%◌, ◌^◌, ⊤, IsTrue, List, map, length, string_bytes, Option, option_map}
 use Rattle.std.specs.List.{AllByRecursion}
 use Rattle.dl_plan.specs.declared.plan.Mode.{Mode}
 use Rattle.dl_plan.specs.declared.plan.Plan.{Plan}
@@ -8,10 +8,10 @@ use Rattle.dl_plan.specs.declared.plan.Schedule.{Schedule}
 use Rattle.dl_plan.specs.declared.plan.Sphere.{Sphere}
 use Rattle.dl_plan.specs.Limits.{is_signature}
 
--- where the events come from: a script of that name, or so many from that seed
+-- where the events come from: a script of that name, or so many that are drawn from the plan's seed
 pub data ScheduleValues : Type 0 where
   Script : (name : List ℕ) → ScheduleValues
-  Seeded : (seed events : ℕ) → ScheduleValues
+  Seeded : (events : ℕ) → ScheduleValues
 
 -- what a sphere does: it runs plainly, is recorded in a mode into the log of that name, or replays the log of that name
 pub data RoleValues : Type 0 where
@@ -32,6 +32,7 @@ pub record PlanValues : Type 0 where
   pub buffer : ℕ
   pub window : ℕ
   pub signature : ℕ
+  pub seed : ℕ
   pub schedule : ScheduleValues
   pub input : Option (List ℕ)
   pub console : Option (List ℕ)
@@ -42,7 +43,7 @@ pub record PlanValues : Type 0 where
 
 abbrev pub schedule_view : Schedule → ScheduleValues
 schedule_view (Schedule.Script name) = Script (string_bytes name)
-schedule_view (Schedule.Seeded seed events) = Seeded seed events
+schedule_view (Schedule.Seeded events) = Seeded events
 
 abbrev pub role_view : Role → RoleValues
 role_view Role.Plain = Plain
@@ -59,6 +60,7 @@ plan_view p = record {
   buffer = p.buffer;
   window = p.window;
   signature = p.signature;
+  seed = p.seed;
   schedule = schedule_view p.schedule;
   input = option_map string_bytes p.input;
   console = option_map string_bytes p.console;
@@ -81,6 +83,11 @@ pub record AreSizes (c s b w n : ℕ) : Type 0 where
   pub window : (1 ≤ w) × (w ≤ 8)
   pub signature : IsTrue (is_signature n)
 
+-- the events that are drawn are in their limits
+abbrev pub IsSchedule : ScheduleValues → Type 0
+IsSchedule (Script name) = ⊤
+IsSchedule (Seeded events) = events ≤ 2 ^ 24
+
 -- the memory of each sphere is in its limits
 abbrev pub AreMemories : List SphereValues → Type 0
 AreMemories spheres = AllByRecursion (λ (s : SphereValues). IsMemory s.memory) spheres
@@ -88,5 +95,7 @@ AreMemories spheres = AllByRecursion (λ (s : SphereValues). IsMemory s.memory) 
 -- each number of a plan is in its limits
 pub record IsPlan (p : PlanValues) : Type 0 where
   pub sizes : AreSizes p.cores p.chunk p.buffer p.window p.signature
+  pub seed : p.seed < 2 ^ 63
+  pub schedule : IsSchedule p.schedule
   pub spheres : (1 ≤ length p.spheres) × (length p.spheres ≤ 8)
   pub memories : AreMemories p.spheres

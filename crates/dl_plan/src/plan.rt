@@ -13,6 +13,8 @@ pub struct Plan {
     pub window: u8,
     /// Bits of a signature, a power of two from 64 to 2048.
     pub signature: u32,
+    /// The seed of the devices' random bytes and of a schedule that is drawn, below 2^63.
+    pub seed: u64,
     /// Where the events come from.
     pub schedule: Schedule,
     /// The file of the device's input; without one it has no bytes.
@@ -30,8 +32,8 @@ pub struct Plan {
 pub enum Schedule {
     /// The script in the file of that name.
     Script(String),
-    /// So many events, up to 2^24, that are made from the seed, below 2^63.
-    Seeded { seed: u64, events: u32 },
+    /// So many events, up to 2^24, that are drawn from the plan's seed.
+    Seeded { events: u32 },
 }
 
 /// One sphere: a program in a memory of its own.

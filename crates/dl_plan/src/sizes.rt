@@ -1,5 +1,5 @@
 //! The numbers in a plan, each in its limits.
-ghost use Rattle.std.specs.Prelude.{◌≡◌, ◌≤◌, IfSome, IsTrue, option_map, map};
+ghost use Rattle.std.specs.Prelude.{◌≡◌, ◌<◌, ◌≤◌, ◌^◌, IfSome, IsTrue, option_map, map};
 ghost use Rattle.dl_plan.specs.Limits.{limited, is_signature, signature_of, memory_of};
 ghost use Rattle.dl_plan.specs.Sizes.{sizes_of, sizes_in, has_good_spheres, have_memories};
 ghost use Rattle.dl_plan.specs.Optional.{if_there};
@@ -29,6 +29,8 @@ pub(crate) struct Sizes {
 pub(crate) fn sizes_in(entries: &Entries<'_>) -> Option<Sizes>
     ensures value { option_map sizes_view result ≡ sizes_in (entries_view entries.now) }
     ensures limits { IfSome result (λ s. AreSizes s.cores s.chunk s.buffer s.window s.signature) }
+    ensures seed { IfSome result (λ s. s.seed < 2 ^ 63) }
+    ensures events { IfSome result (λ s. IfSome s.events (λ n. n ≤ 2 ^ 24)) }
     ensures spheres { IfSome result (λ s. IsTrue (has_good_spheres (map entry_view entries.now.spheres.items))) }
 {
     if has_good_spheres(&entries.spheres) {
@@ -59,6 +61,8 @@ fn have_memories(spheres: &[SphereEntries<'_>]) -> bool
 fn sizes_of(top: &TopEntries<'_>) -> Option<Sizes>
     ensures value { option_map sizes_view result ≡ sizes_of (top_view top.now) }
     ensures limits { IfSome result (λ s. AreSizes s.cores s.chunk s.buffer s.window s.signature) }
+    ensures seed { IfSome result (λ s. s.seed < 2 ^ 63) }
+    ensures events { IfSome result (λ s. IfSome s.events (λ n. n ≤ 2 ^ 24)) }
 {
     Some(Sizes {
         cores: limited(top.cores, 1, 8)? as u8,
@@ -73,7 +77,8 @@ fn sizes_of(top: &TopEntries<'_>) -> Option<Sizes>
 
 /// The number of events, if one is there. `None` where it is outside its limits.
 fn events_of(number: Option<i64>) -> Option<Option<u32>>
-    ensures { result ≡ if_there (limited 0 16777216) number }
+    ensures value { result ≡ if_there (limited 0 16777216) number }
+    ensures within { IfSome result (λ events. IfSome events (λ n. n ≤ 2 ^ 24)) }
 {
     match number {
         Some(number) => Some(Some(limited(number, 0, MOST)? as u32)),

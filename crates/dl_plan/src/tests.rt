@@ -30,7 +30,7 @@ fn refusal(alloc: Global, from: &str, to: &str) -> Result<Option<PlanError>, Fai
 fn reads_the_plan(rt: HostRuntime) -> Result<(), Fail> {
     let plan = read_plan(rt.alloc(), "p.toml", PLAN.as_bytes())?;
     let expected = concat!(
-        "Plan { cores: 1, chunk: 100, buffer: 16, window: 2, signature: 64, schedule: Script(\"s.txt\"), ",
+        "Plan { cores: 1, chunk: 100, buffer: 16, window: 2, signature: 64, seed: 0, schedule: Script(\"s.txt\"), ",
         "input: None, console: None, report: Some(\"r.txt\"), spheres: [",
         "Sphere { image: \"a.elf\", memory: 4096, role: Record { mode: OrderSize, log: \"a.log\" }, account: Some(\"a.txt\") }",
         "] }"
@@ -43,7 +43,7 @@ fn reads_the_plan(rt: HostRuntime) -> Result<(), Fail> {
 fn reads_the_other_keys(rt: HostRuntime) -> Result<(), Fail> {
     let plan = read_plan(rt.alloc(), "p.toml", OTHER.as_bytes())?;
     let expected = concat!(
-        "Plan { cores: 8, chunk: 64, buffer: 8, window: 1, signature: 128, schedule: Seeded { seed: 9, events: 20000 }, ",
+        "Plan { cores: 8, chunk: 64, buffer: 8, window: 1, signature: 128, seed: 9, schedule: Seeded { events: 20000 }, ",
         "input: Some(\"i.bin\"), console: Some(\"c.bin\"), report: None, spheres: [",
         "Sphere { image: \"a.elf\", memory: 4096, role: Plain, account: None }, ",
         "Sphere { image: \"b.elf\", memory: 8192, role: Record { mode: Picolog, log: \"b.log\" }, account: None }, ",

@@ -1,9 +1,9 @@
 //! From what a plan's keys hold to what it asks for.
-ghost use Rattle.std.specs.Prelude.{◌≡◌, Ok, Some, IfOk, IfErr, map, option_map, option_copied, string_bytes};
+ghost use Rattle.std.specs.Prelude.{◌≡◌, ◌≤◌, ◌^◌, Ok, Some, IfOk, IfErr, IfSome, map, option_map, option_copied, string_bytes};
 ghost use Rattle.dl_plan.specs.Optional.{each_of};
 ghost use Rattle.dl_plan.specs.Plans.{schedule_of, role_of, sphere_asked, values_in};
 ghost use Rattle.dl_plan.specs.Refusal.{Says, IsBroken};
-ghost use Rattle.dl_plan.specs.Values.{plan_view, schedule_view, role_view, sphere_view, IsPlan, IsMemory, AreMemories};
+ghost use Rattle.dl_plan.specs.Values.{plan_view, schedule_view, role_view, sphere_view, IsPlan, IsSchedule, IsMemory, AreMemories};
 ghost use Rattle.dl_plan.specs.Views.{entry_view, entries_view};
 
 use crate::entries::Entries;
@@ -32,6 +32,7 @@ pub(crate) fn to_plan(alloc: Global, entries: &Entries<'_>) -> Result<Plan, Plan
         buffer: sizes.buffer,
         window: sizes.window,
         signature: sizes.signature,
+        seed: sizes.seed,
         schedule,
         input: owned(alloc, entries.top.input)?,
         console: owned(alloc, entries.top.console)?,
@@ -42,14 +43,13 @@ pub(crate) fn to_plan(alloc: Global, entries: &Entries<'_>) -> Result<Plan, Plan
 
 /// The schedule. Refused by rule 5 where there is not one.
 fn schedule_of(alloc: Global, sizes: &Sizes, script: Option<&str>) -> Result<Schedule, PlanError>
-    ensures ok { IfOk result (λ s. schedule_of sizes.now.seed sizes.now.events (option_copied script.entry) ≡ Some (schedule_view s)) }
-    ensures refused { IfErr result (IsBroken 5 (schedule_of sizes.now.seed sizes.now.events (option_copied script.entry))) }
+    requires { IfSome sizes.now.events (λ n. n ≤ 2 ^ 24) }
+    ensures ok { IfOk result (λ s. schedule_of sizes.now.events (option_copied script.entry) ≡ Some (schedule_view s)) }
+    ensures limits { IfOk result (λ s. IsSchedule (schedule_view s)) }
+    ensures refused { IfErr result (IsBroken 5 (schedule_of sizes.now.events (option_copied script.entry))) }
 {
     match (sizes.events, script) {
-        (Some(events), None) => Ok(Schedule::Seeded {
-            seed: sizes.seed,
-            events,
-        }),
+        (Some(events), None) => Ok(Schedule::Seeded { events }),
         (None, Some(name)) => Ok(Schedule::Script(String::from_str(alloc, name)?)),
         _ => Err(PlanError::Refused(5)),
     }
