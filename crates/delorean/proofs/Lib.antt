@@ -1,6 +1,8 @@
 mod Putting
-mod Gathering
+mod Stages
 mod Stopping
 mod Storing
-mod Recorded
 mod Finishing
+mod Making
+mod Spheres
+mod Building

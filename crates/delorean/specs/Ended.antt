@@ -1,24 +1,24 @@
 -- How a command's text, or the line that says why it stops, is said: by the status that is then answered. The sink took
 -- `old` before and has `new`, and its count of faults went from one number to the other.
-use Rattle.std.specs.Prelude.{◌≡◌, ◌⊎◌, ℕ, List, Option}
+use Rattle.std.specs.Prelude.{◌≡◌, ◌⊎◌, ℕ, Bool, true, false, List, Option}
 use Rattle.dl_files.specs.Count.{Rose}
 use Rattle.spec_program.specs.declared.status.Status.{Status}
 use Rattle.spec_program.specs.Statuses.{status_of}
 use Rattle.spec_program.specs.Ends.{Took, TookAll}
 use Rattle.delorean.specs.declared.halt.Halt.{Halt}
 
--- the text of a command that is done
-abbrev pub Said : (text : List ℕ) → (old new : Option (List ℕ)) → (from to : ℕ) → Status → Type 0
-Said text old new from to Status.Done = TookAll text old new × (to ≡ from)
-Said text old new from to Status.Sink = Took text old new × Rose from to
-Said text old new from to Status.Memory = Took text old new × (to ≡ from)
-Said text old new from to Status.Diverged = ⊥
-Said text old new from to Status.Usage = ⊥
-Said text old new from to Status.Plan = ⊥
-Said text old new from to Status.Image = ⊥
-Said text old new from to Status.Grammar = ⊥
-Said text old new from to Status.Fault = ⊥
-Said text old new from to Status.Absent = ⊥
+-- the text of a command that is done, whose replays diverged or not
+abbrev pub Said : (diverged : Bool) → (text : List ℕ) → (old new : Option (List ℕ)) → (from to : ℕ) → Status → Type 0
+Said diverged text old new from to Status.Done = (diverged ≡ false) × TookAll text old new × (to ≡ from)
+Said diverged text old new from to Status.Diverged = (diverged ≡ true) × TookAll text old new × (to ≡ from)
+Said diverged text old new from to Status.Sink = Took text old new × Rose from to
+Said diverged text old new from to Status.Memory = Took text old new × (to ≡ from)
+Said diverged text old new from to Status.Usage = ⊥
+Said diverged text old new from to Status.Plan = ⊥
+Said diverged text old new from to Status.Image = ⊥
+Said diverged text old new from to Status.Grammar = ⊥
+Said diverged text old new from to Status.Fault = ⊥
+Said diverged text old new from to Status.Absent = ⊥
 
 -- it is said, whole where the sink's count did not rise
 abbrev pub IsDue : (text : List ℕ) → (old new : Option (List ℕ)) → (from to : ℕ) → Type 0

@@ -1,6 +1,16 @@
 -- What is left to be done, once it is computed.
-use Rattle.std.specs.Prelude.{List, map, string_bytes}
+use Rattle.std.specs.Prelude.{◌≡◌, List, map, string_bytes, Result, Ok}
+use Rattle.dl_plan.specs.Values.{PlanValues}
+use Rattle.spec_protocol.specs.declared.event.Event.{Event}
+use Rattle.spec_protocol.specs.Machine.{Setup}
+use Rattle.spec_protocol.specs.Sound.{IsWithinLimits}
+use Rattle.spec_run.specs.Runs.{diverges}
+use Rattle.spec_run.specs.Texts.{summary_text}
+use Rattle.spec_program.specs.Outcomes.{writes_for}
+use Rattle.spec_program.specs.Stages.{Refused}
+use Rattle.spec_program.specs.Tasks.{Task, setup_in}
 use Rattle.spec_program.specs.Writes.{Write}
+use Rattle.delorean.specs.declared.job.Job.{Job}
 use Rattle.delorean.specs.declared.writing.NamedBytes.{NamedBytes}
 
 abbrev pub write_of : NamedBytes → Write
@@ -8,3 +18,14 @@ write_of w = record { name = string_bytes w.name; bytes = w.bytes.items }
 
 abbrev pub writes_of : List NamedBytes → List Write
 writes_of ws = map write_of ws
+
+-- what the run of that schedule comes to, on a machine within its limits
+pub record IsRunOf (p : PlanValues) (s : Setup) (es : List Event) (job : Job) : Type 0 where
+  pub limits : IsWithinLimits s
+  pub writes : writes_of job.writes.items ≡ writes_for p s es
+  pub text : job.text.items ≡ summary_text s es
+  pub diverged : job.diverged ≡ diverges s.spheres
+
+-- there is a task, and this is what its run comes to
+abbrev pub IsJobOf : Result Task Refused → Job → Type 0
+IsJobOf task job = (t : Task) × (task ≡ Ok t) × IsRunOf t.plan (setup_in t) t.events job

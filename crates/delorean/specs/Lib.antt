@@ -3,7 +3,6 @@ pub mod Inputs
 pub mod Halts
 pub mod Jobs
 pub mod Stops
-pub mod Recordings
-pub mod Asked
+pub mod Products
 pub mod Ended
 pub mod Performed

@@ -1,5 +1,5 @@
 -- How the writes and the text of a command are done.
-use Rattle.std.specs.Prelude.{◌≡◌, ◌⊎◌, ℕ, List, Some}
+use Rattle.std.specs.Prelude.{◌≡◌, ◌⊎◌, ℕ, Bool, List, Some}
 use Rattle.dl_files.specs.Contents.{Contents, IsLast}
 use Rattle.dl_files.specs.Count.{Rose}
 use Rattle.spec_program.specs.declared.status.Status.{Status}
@@ -10,10 +10,10 @@ use Rattle.spec_program.specs.Ends.{Partly, CutAt}
 use Rattle.delorean.specs.Ended.{Said, Told}
 
 -- every file is written, and the text is said
-pub record IsWritten (writes : List Write) (text : List ℕ) (old new : Outside) (s : Status) : Type 0 where
+pub record IsWritten (diverged : Bool) (writes : List Write) (text : List ℕ) (old new : Outside) (s : Status) : Type 0 where
   pub files : (m : Contents) → old.told ≡ Some m → new.told ≡ Some (written writes m)
   pub counted : new.faults ≡ old.faults
-  pub said : Said text old.taken new.taken old.sink_faults new.sink_faults s
+  pub said : Said diverged text old.taken new.taken old.sink_faults new.sink_faults s
 
 -- the write to that name failed, and this is said
 pub record IsCut (writes : List Write) (name : List ℕ) (old new : Outside) (s : Status) : Type 0 where
@@ -30,6 +30,7 @@ pub record IsUnwritten (writes : List Write) (old new : Outside) (s : Status) : 
   pub output : new.taken ≡ old.taken
   pub steady : new.sink_faults ≡ old.sink_faults
 
-abbrev pub IsPerformed : List Write → (text : List ℕ) → (old new : Outside) → Status → Type 0
-IsPerformed writes text old new s =
-    IsWritten writes text old new s ⊎ (((name : List ℕ) × IsCut writes name old new s) ⊎ IsUnwritten writes old new s)
+-- of a command whose replays diverged or not
+abbrev pub IsPerformed : (diverged : Bool) → List Write → (text : List ℕ) → (old new : Outside) → Status → Type 0
+IsPerformed diverged writes text old new s =
+    IsWritten diverged writes text old new s ⊎ (((name : List ℕ) × IsCut writes name old new s) ⊎ IsUnwritten writes old new s)

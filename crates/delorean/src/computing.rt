@@ -1,82 +1,69 @@
 //! From the files that a plan has read to what is to be written and said: no file is touched here.
-ghost use Rattle.std.specs.Prelude.{◌≡◌, ◌≤◌, ◌^◌, ℕ, List, false, Ok, IfOk, IfErr, length};
-ghost use Rattle.dl_elf.specs.Loading.{image_of};
-ghost use Rattle.dl_plan.specs.Values.{PlanValues, plan_view};
-ghost use Rattle.dl_script.specs.Script.{script_of};
-ghost use Rattle.spec_program.specs.Built.{IsRecording};
-ghost use Rattle.spec_program.specs.Outcomes.{Finishes, of_files, of_image, of_script};
-ghost use Rattle.spec_single.specs.Machine.{Setup};
-ghost use Rattle.delorean.specs.Asked.{recording_view};
-ghost use Rattle.delorean.specs.Halts.{Refused};
-ghost use Rattle.delorean.specs.Inputs.{inputs_view};
-ghost use Rattle.delorean.specs.Jobs.{writes_of};
+ghost use Rattle.std.specs.Prelude.{◌≡◌, IfOk, IfErr, length, map};
+ghost use Rattle.dl_machine.specs.Setups.{IsWithin, setup_in};
+ghost use Rattle.dl_plan.specs.Values.{IsPlan, plan_view};
+ghost use Rattle.dl_sphere.specs.Setups.{setup_of as sphere_setup};
+ghost use Rattle.spec_program.specs.Built.{setup_of};
+ghost use Rattle.spec_program.specs.Tasks.{task_read};
+ghost use Rattle.delorean.specs.Halts.{Refuses};
+ghost use Rattle.delorean.specs.Inputs.{AreOf, inputs_view};
+ghost use Rattle.delorean.specs.Jobs.{IsJobOf};
 
-use crate::asked::Recording;
+use crate::events::read_events;
 use crate::halt::Halt;
-use crate::inputs::{Input, bytes_in};
+use crate::images::load_spheres;
+use crate::inputs::Inputs;
 use crate::job::Job;
-use crate::lines::{image_line, script_line};
-use crate::recording::record;
-use dl_elf::{ElfError, Image, load};
+use crate::roles::give_roles;
+use crate::running::run;
+use dl_entry::{Bytes, Sequence};
+use dl_machine::Setup;
 use dl_plan::Plan;
-use dl_script::{ScriptError, parse_script};
-use spec_program::status::Refusal;
-use spec_single::event::Event;
+use dl_sphere::SphereSetup;
 use std::alloc::Global;
 
-/// What the plan comes to on the files that it has read.
-pub fn compute(
-    alloc: Global,
-    plan: &Plan,
-    recording: &Recording<'_>,
-    inputs: &[Input<'_>],
-) -> Result<Job, Halt>
-    requires { IsRecording (recording_view recording.now) }
-    ensures job { IfOk result (λ job. of_files (plan_view plan.now) (recording_view recording.now) (inputs_view inputs.now)
-        ≡ Finishes false (writes_of job.writes.items) job.text.items) }
-    ensures halt { IfErr result (Refused (of_files (plan_view plan.now) (recording_view recording.now) (inputs_view inputs.now))) }
+/// What the plan comes to on the files that it has read: first each image is looked at, then each log, then the script.
+pub fn compute(alloc: Global, plan: &Plan, inputs: Inputs) -> Result<Job, Halt>
+    requires plan { IsPlan (plan_view plan.now) }
+    requires inputs { AreOf (plan_view plan.now) (inputs_view inputs) }
+    ensures job { IfOk result (IsJobOf (task_read (plan_view plan.now) (inputs_view inputs))) }
+    ensures halt { IfErr result (Refuses (task_read (plan_view plan.now) (inputs_view inputs))) }
 {
-    let image = match load_image(alloc, recording, bytes_in(inputs, recording.image)) {
-        Ok(image) => image,
+    let mut spheres = match load_spheres(alloc, &inputs.spheres) {
+        Ok(spheres) => spheres,
         Err(halt) => return Err(halt),
     };
-    let events = match read_events(alloc, bytes_in(inputs, recording.script)) {
-        Ok(events) => events,
+    match give_roles(alloc, &inputs.spheres, &mut spheres) {
+        Ok(()) => {}
+        Err(halt) => return Err(halt),
+    }
+    let schedule = match read_events(alloc, plan.seed, inputs.source) {
+        Ok(schedule) => schedule,
         Err(halt) => return Err(halt),
     };
-    match record(alloc, plan, recording, &image, &events) {
+    let setup = setup_of(plan, inputs.input, spheres);
+    match run(alloc, plan, setup, &schedule) {
         Ok(job) => Ok(job),
         Err(_) => Err(Halt::OutOfMemory),
     }
 }
 
-fn load_image(alloc: Global, recording: &Recording<'_>, bytes: &[u8]) -> Result<Image, Halt>
-    requires { IsRecording (recording_view recording.now) }
-    ensures image { IfOk result (λ image. image_of bytes.now recording.now.memory ≡ Ok image) }
-    ensures halt { IfErr result (λ halt. (p : PlanValues) (script : List ℕ)
-        → Refused (of_image p (recording_view recording.now) script (image_of bytes.now recording.now.memory)) halt) }
+// The setup of the plan's machine.
+fn setup_of(plan: &Plan, input: Vec<u8>, spheres: Vec<SphereSetup>) -> Setup
+    requires plan { IsPlan (plan_view plan.now) }
+    requires spheres { length spheres.items ≡ length (plan_view plan.now).spheres }
+    ensures value { setup_in result ≡ setup_of (plan_view plan.now) input.items (map sphere_setup spheres.items) }
+    ensures within { IsWithin result }
+    ensures count { length result.spheres ≡ length (plan_view plan.now).spheres }
 {
-    match load(alloc, bytes, recording.memory) {
-        Ok(image) => Ok(image),
-        Err(ElfError::Refused(rule)) => Err(Halt::Refused(
-            Refusal::Image,
-            image_line(alloc, 0, rule)?,
-        )),
-        Err(ElfError::OutOfMemory) => Err(Halt::OutOfMemory),
-    }
-}
-
-fn read_events(alloc: Global, bytes: &[u8]) -> Result<Vec<Event>, Halt>
-    ensures events { IfOk result (λ events. script_of bytes.now ≡ Ok events.items) }
-    ensures few { IfOk result (λ events. length events.items ≤ 2 ^ 24) }
-    ensures halt { IfErr result (λ halt. (p : PlanValues) (s : Setup) → Refused (of_script p s (script_of bytes.now)) halt) }
-{
-    match parse_script(alloc, bytes) {
-        Ok(events) => Ok(events),
-        Err(ScriptError::Refused(line)) => Err(Halt::Refused(
-            Refusal::Grammar,
-            script_line(alloc, line)?,
-        )),
-        Err(ScriptError::OutOfMemory) => Err(Halt::OutOfMemory),
+    Setup {
+        cores: plan.cores,
+        window: plan.window,
+        chunk: plan.chunk,
+        buffer: plan.buffer,
+        signature: plan.signature,
+        seed: plan.seed,
+        input: Bytes::from_vec(input),
+        spheres: Sequence::from_vec(spheres),
     }
 }

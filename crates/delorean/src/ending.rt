@@ -6,17 +6,19 @@ ghost use Rattle.spec_program.specs.Statuses.{status_of as status_due};
 ghost use Rattle.delorean.specs.Ended.{Said, Told, Stopped};
 
 use crate::halt::Halt;
+use crate::job::Job;
 use crate::lines::fault_line;
 use crate::telling::put_all;
 use dl_files::{Sink, SinkError};
 use spec_program::status::{Refusal, Status};
 use std::alloc::Global;
 
-/// Says the text of a command that is done.
-pub fn say<O: Sink>(out: &mut O, text: &[u8]) -> Status
-    ensures { Said text.now (O.taken out.old) (O.taken out.new) (O.count out.old) (O.count out.new) result }
+/// Says the text of a job whose files are written.
+pub fn say<O: Sink>(out: &mut O, job: &Job) -> Status
+    ensures { Said job.now.diverged job.now.text.items (O.taken out.old) (O.taken out.new) (O.count out.old) (O.count out.new) result }
 {
-    match put_all(out, text) {
+    match put_all(out, &job.text) {
+        Ok(()) if job.diverged => Status::Diverged,
         Ok(()) => Status::Done,
         Err(SinkError::Failed) => Status::Sink,
         Err(SinkError::OutOfMemory) => Status::Memory,

@@ -1,23 +1,37 @@
 //! The files that a plan has read.
-ghost use Rattle.std.specs.Prelude.{◌≡◌};
-ghost use Rattle.spec_program.specs.Reads.{bytes_in};
-ghost use Rattle.delorean.specs.Inputs.{inputs_view};
+use dl_plan::Mode;
 
-/// A file that was read.
+/// What a plan has read.
 #[derive(Drop)]
-pub struct Input<'a> {
-    pub name: &'a str,
-    pub bytes: Vec<u8>,
+pub struct Inputs {
+    pub source: Source,
+    /// The devices' input.
+    pub input: Vec<u8>,
+    pub spheres: Vec<SphereInputs>,
 }
 
-/// The bytes of the file of that name, which is one of these.
-pub fn bytes_in<'b>(inputs: &'b [Input<'_>], name: &str) -> &'b [u8]
-    ensures { result.now ≡ bytes_in (inputs_view inputs.now) name.now }
-{
-    for input in inputs {
-        if input.name == name {
-            return &input.bytes;
-        }
-    }
-    &[]
+/// Where the events come from.
+#[derive(Drop)]
+pub enum Source {
+    /// The bytes of a script.
+    Script(Vec<u8>),
+    /// So many, which are drawn from the plan's seed.
+    Drawn(u32),
+}
+
+/// What a sphere has read, and the bytes of its memory.
+#[derive(Drop)]
+pub struct SphereInputs {
+    pub image: Vec<u8>,
+    pub memory: u32,
+    pub role: RoleInputs,
+}
+
+/// What the role of a sphere has read.
+#[derive(Drop)]
+pub enum RoleInputs {
+    Plain,
+    Record(Mode),
+    /// The bytes of a log.
+    Replay(Vec<u8>),
 }

@@ -1,6 +1,6 @@
 //! The lines that say why a command stops.
 ghost use Rattle.std.specs.Prelude.{◌≡◌, IfOk};
-ghost use Rattle.spec_program.specs.Lines.{usage_line as usage_text, plan_line as plan_text, image_line as image_text, script_line as script_text, absent_line as absent_text, fault_line as fault_text};
+ghost use Rattle.spec_program.specs.Lines.{usage_line as usage_text, plan_line as plan_text, image_line as image_text, log_line as log_text, script_line as script_text, absent_line as absent_text, fault_line as fault_text};
 
 use std::alloc::{AllocError, Global};
 
@@ -16,10 +16,21 @@ pub fn plan_line(alloc: Global, rule: u8) -> Result<Vec<u8>, AllocError>
     Ok(format!(in alloc; "refused plan {rule}\n")?.into_bytes())
 }
 
-pub fn image_line(alloc: Global, sphere: u8, rule: u8) -> Result<Vec<u8>, AllocError>
+pub fn image_line(alloc: Global, sphere: usize, rule: u8) -> Result<Vec<u8>, AllocError>
     ensures { IfOk result (λ line. line.items ≡ image_text sphere rule) }
 {
     Ok(format!(in alloc; "refused image {sphere} {rule}\n")?.into_bytes())
+}
+
+pub fn log_line(
+    alloc: Global,
+    sphere: usize,
+    number: u8,
+    offset: u64,
+) -> Result<Vec<u8>, AllocError>
+    ensures { IfOk result (λ line. line.items ≡ log_text sphere number offset) }
+{
+    Ok(format!(in alloc; "refused log {sphere} {number} {offset}\n")?.into_bytes())
 }
 
 pub fn script_line(alloc: Global, number: u64) -> Result<Vec<u8>, AllocError>

@@ -1,18 +1,21 @@
 //! The program: it hands its words, the real files and the standard output to `delorean`, and ends with its status.
 #![tactic(auto)]
 
-mod asked;
 mod command;
 mod computing;
 mod ending;
+mod events;
+mod gathering;
 mod halt;
+mod images;
 mod inputs;
 mod job;
 mod lines;
 mod planning;
 mod preparing;
 mod reading;
-mod recording;
+mod roles;
+mod running;
 mod telling;
 #[cfg(test)]
 mod tests;

@@ -1,11 +1,8 @@
 //! The plan of a command.
 ghost use Rattle.std.specs.Prelude.{◌≡◌, ◌∷◌, Some, Ok, IfOk, IfErr, OnOk};
-ghost use Rattle.std.specs.FinMap.{get};
 ghost use Rattle.dl_files.specs.Contents.{Contents};
 ghost use Rattle.dl_plan.specs.Values.{IsPlan, plan_view};
-ghost use Rattle.spec_program.specs.Built.{recording_in};
 ghost use Rattle.spec_program.specs.Ends.{inputs_of};
-ghost use Rattle.spec_program.specs.Outcomes.{of_plan_file, of_asked};
 ghost use Rattle.spec_program.specs.Tasks.{plan_at};
 ghost use Rattle.delorean.specs.Halts.{Halts, IsNotUsage};
 
@@ -19,11 +16,10 @@ use std::alloc::Global;
 
 /// The plan in the file `name`.
 pub fn load_plan<F: Files>(alloc: Global, files: &mut F, name: &str) -> Result<Plan, Halt>
-    ensures plan { IfOk result (λ p. (m : Contents) → F.told files.old ≡ Some m → plan_at m name.now ≡ Some (Ok (plan_view p))) }
-    ensures outcome { IfOk result (λ p. (m : Contents) → F.told files.old ≡ Some m
-        → of_plan_file m name.now (get m name.now) ≡ of_asked m (plan_view p) (recording_in (plan_view p))) }
+    ensures plan { IfOk result (λ p. (m : Contents) → F.told files.old ≡ Some m
+        → plan_at m name.now ≡ Ok (plan_view p)) }
     ensures limits { IfOk result (λ p. IsPlan (plan_view p)) }
-    ensures halt { IfErr result (Halts (F.told files.old) (λ m. of_plan_file m name.now (get m name.now))
+    ensures halt { IfErr result (Halts (F.told files.old) (λ m. plan_at m name.now)
         (λ m. name.now ∷ inputs_of (plan_at m name.now)) (F.count files.old) (F.count files.new) (F.last_fault files.new)) }
     ensures usage { IfErr result IsNotUsage }
     ensures kept { F.told files.new ≡ F.told files.old }

@@ -8,12 +8,10 @@ use std::process::Abort;
 use std::test::Fail;
 
 mod instructions;
+mod rows;
 
 const PLAN: &[u8] =
     b"cores = 1\nchunk = 100\nbuffer = 16\nwindow = 2\nsignature = 64\nscript = \"s.txt\"\nreport = \"r.txt\"\n[[sphere]]\nimage = \"a.elf\"\nmemory = 4096\nrole = \"record\"\nmode = \"order-size\"\nlog = \"a.log\"\naccount = \"a.txt\"\n";
-
-const TWO_CORES: &[u8] =
-    b"cores = 2\nchunk = 100\nbuffer = 16\nwindow = 2\nsignature = 64\nscript = \"s.txt\"\nreport = \"r.txt\"\n[[sphere]]\nimage = \"a.elf\"\nmemory = 4096\nrole = \"record\"\nmode = \"order-size\"\nlog = \"a.log\"\naccount = \"a.txt\"\n";
 
 const NINE_CORES: &[u8] =
     b"cores = 9\nchunk = 100\nbuffer = 16\nwindow = 2\nsignature = 64\nscript = \"s.txt\"\nreport = \"r.txt\"\n[[sphere]]\nimage = \"a.elf\"\nmemory = 4096\nrole = \"record\"\nmode = \"order-size\"\nlog = \"a.log\"\naccount = \"a.txt\"\n";
@@ -41,19 +39,6 @@ const EMPTY_ACCOUNT: &[u8] =
     b"t 0 00000000 live 00000000 0 00000000 00000000 00000000 00000000 00000000 00000000 00000000 00000000 00000000 00000000 00000000 00000000 00000000 00000000 00000000 00000000 00000000 00000000 00000000 00000000 00000000 00000000 00000000 00000000 00000000 00000000 00000000 00000000 00000000 00000000 00000000\nm 00000000 9308000013057000730000000000000000000000000000000000000000000000\nend complete 0\n";
 
 const EMPTY_SUMMARY: &[u8] = b"events 0\ncommits 0\ns 0 record 0\n";
-
-const SMALL_BUFFER: &[u8] =
-    b"cores = 1\nchunk = 100\nbuffer = 1\nwindow = 2\nsignature = 64\nscript = \"s.txt\"\nreport = \"r.txt\"\n[[sphere]]\nimage = \"a.elf\"\nmemory = 4096\nrole = \"record\"\nmode = \"order-size\"\nlog = \"a.log\"\naccount = \"a.txt\"\n";
-
-const OVERFLOW_SCRIPT: &[u8] =
-    b"step 0\nstep 0\nstep 0\nstep 0\nask 0\nstep 0\nstep 0\nstep 0\nask 0\nstep 0\nask 0\n";
-
-// addi x5, x0, 260; sw x5, 256(x0); lr.w x6, (x5); sc.w x7, x5, (x5); addi x17, x0, 0; ecall
-const OVERFLOW_IMAGE: &[u8] =
-    b"\x7fELF\x01\x01\x01\0\0\0\0\0\0\0\0\0\x02\0\xf3\0\x01\0\0\0\0\0\0\04\0\0\0\0\0\0\0\0\0\0\04\0 \0\x01\0\0\0\0\0\0\0\x01\0\0\0T\0\0\0\0\0\0\0\0\0\0\0\x18\0\0\0\x18\0\0\0\x07\0\0\0\x04\0\0\0\x93\x02@\x10# P\x10/\xa3\x02\x10\xaf\xa3R\x18\x93\x08\0\0s\0\0\0";
-
-const OVERFLOW_LOG: &[u8] =
-    b"DLRN\x01\0\0\0d\0\0\0\x03\0\0\0\x03\0\0\0\0\0\x03\0\0\0\x03\0\x02\0\0\0\0\0\0\0\0\0\0\0\0\0\0\0";
 
 const RUN: [&str; 2] = ["run", "plan.toml"];
 
@@ -107,23 +92,6 @@ fn an_empty_script_records_nothing(rt: HostRuntime) -> Result<(), Fail> {
     Ok(())
 }
 
-// The row of a store that finds no room: each of the three asks lays its words at once.
-#[test]
-fn an_overflow_closes_the_chunk(rt: HostRuntime) -> Result<(), Fail> {
-    let alloc = rt.alloc();
-    let mut files = three_instructions(alloc)?;
-    files.write("plan.toml", SMALL_BUFFER)?;
-    files.write("s.txt", OVERFLOW_SCRIPT)?;
-    files.write("a.elf", OVERFLOW_IMAGE)?;
-    let mut out = GoodSink::new(alloc);
-    assert_eq!(rt;
-        delorean_in_memory(alloc, &RUN, &mut files, &mut out),
-        Status::Done
-    );
-    holds(&rt, alloc, &mut files, "a.log", OVERFLOW_LOG);
-    Ok(())
-}
-
 #[derive(Clone, Copy)]
 struct Case {
     name: &'static str,
@@ -145,7 +113,7 @@ fn what_is_read_decides_the_answer(rt: HostRuntime) -> Result<(), Fail> {
         },
         Case {
             name: "s.txt",
-            bytes: b"step 0\n\ncut 0\n",
+            bytes: b"step 0\n\nhalt 0\n",
             status: Status::Grammar,
             said: b"refused script 3\n",
         },
@@ -166,12 +134,6 @@ fn what_is_read_decides_the_answer(rt: HostRuntime) -> Result<(), Fail> {
             bytes: NINE_CORES,
             status: Status::Plan,
             said: b"refused plan 4\n",
-        },
-        Case {
-            name: "plan.toml",
-            bytes: TWO_CORES,
-            status: Status::Plan,
-            said: b"refused plan 0\n",
         },
     ] {
         let mut files = three_instructions(alloc)?;

@@ -7,7 +7,7 @@ ghost use Rattle.spec_program.specs.Commands.{command_of};
 ghost use Rattle.spec_program.specs.Ends.{Stands, Took, TookAll, is_done, is_refusal, is_of_files, is_of_sink, reads_of, status_in, text_in};
 ghost use Rattle.spec_program.specs.Headline.{Headline};
 ghost use Rattle.spec_program.specs.Lines.{fault_line as fault_text, usage_line as usage_text};
-ghost use Rattle.spec_program.specs.Outcomes.{Finishes, outcome_of};
+ghost use Rattle.spec_program.specs.Outcomes.{outcome_of};
 ghost use Rattle.spec_program.specs.Outside.{in_memory};
 ghost use Rattle.delorean.specs.Jobs.{writes_of};
 ghost use Rattle.delorean.specs.Performed.{IsPerformed};
@@ -24,7 +24,8 @@ use std::alloc::Global;
 
 /// Does what the words ask for, over the files and the sink, and answers how that ended.
 ///
-/// `run PLAN` records the plan: it writes the log, the account and the report, and puts the summary into the sink.
+/// `run PLAN` runs the machine of the plan: it writes the logs, the accounts, the console and the report that the plan names,
+/// and puts the summary into the sink.
 pub fn delorean<F: Files, O: Sink>(
     alloc: Global,
     words: &[&str],
@@ -111,7 +112,7 @@ pub fn delorean_in_memory(
 
 // Writes the files, and then says the text.
 fn perform<F: Files, O: Sink>(alloc: Global, job: &Job, files: &mut F, out: &mut O) -> Status
-    ensures { IsPerformed (writes_of job.now.writes.items) job.now.text.items
+    ensures { IsPerformed job.now.diverged (writes_of job.now.writes.items) job.now.text.items
         (record {
           told = F.told files.old;
           faults = F.count files.old;
@@ -129,7 +130,7 @@ fn perform<F: Files, O: Sink>(alloc: Global, job: &Job, files: &mut F, out: &mut
         result }
 {
     match write_all(files, &job.writes) {
-        Ok(()) => say(out, &job.text),
+        Ok(()) => say(out, job),
         Err(Stop::Failed(i)) => fail(alloc, out, job.writes[i].name.as_str()),
         Err(Stop::OutOfMemory) => Status::Memory,
     }

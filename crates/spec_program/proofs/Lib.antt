@@ -1,6 +1,5 @@
-pub mod Sizing
-pub mod Building
-pub mod Reading
+pub mod Turns
 pub mod Finishing
-pub mod Tasking
 pub mod Heading
+pub mod Made
+pub mod Agreeing

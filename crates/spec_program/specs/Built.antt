@@ -1,35 +1,76 @@
--- Which plans are built: one core, and one sphere that is recorded in order-size by a script.
-use Rattle.std.specs.Prelude.{ℕ, ◌≤◌, ◌==◌, ◌&&◌, List, [], ◌∷◌, Option, Some, None, is_none, if◌then◌else◌}
+-- What is built of the files that a plan has read: the images, the roles with their logs, the events, and the setup of the
+-- machine; or the first of them that is refused.
+use Rattle.std.specs.Prelude.{ℕ, suc, List, [], ◌∷◌, Result, Ok}
+use Rattle.dl_elf.specs.Images.{Image}
+use Rattle.dl_elf.specs.Loading.{image_of}
+use Rattle.dl_event.specs.Script.{script_of}
+use Rattle.dl_event.specs.Seeded.{seeded, schedule}
 use Rattle.dl_plan.specs.declared.Mode.{Mode}
-use Rattle.dl_plan.specs.Values.{ScheduleValues, Script, RoleValues, Record, SphereValues, PlanValues, IsMemory}
+use Rattle.dl_plan.specs.Values.{PlanValues}
+use Rattle.spec_log.specs.declared.ModeName.{ModeName}
+use Rattle.spec_log.specs.Reading.{Fault, read_of}
+use Rattle.spec_protocol.specs.declared.event.Event.{Event}
+use Rattle.spec_protocol.specs.Machine.{RoleSetup, IsPlain, IsRecorded, IsReplayed, SphereSetup, Setup}
+use Rattle.spec_program.specs.declared.status.Refusal.{Refusal}
+use Rattle.spec_program.specs.Files.{ScheduleRead, ScriptRead, EventsDrawn, RoleRead, PlainRead, RecordRead, ReplayRead, SphereRead}
+use Rattle.spec_program.specs.Lines.{image_line, log_line, script_line}
+use Rattle.spec_program.specs.Stages.{Refused, refusing, ◌>>◌}
 
--- what such a plan asks of the machine, by the names of its script and its image
-pub record Recording : Type 0 where
-  pub chunk : ℕ
-  pub buffer : ℕ
-  pub script : List ℕ
-  pub image : List ℕ
-  pub memory : ℕ
+-- ---- images, of the spheres from number i on
 
--- the sphere, where there is one
-abbrev pub only : List SphereValues → Option SphereValues
-only (s ∷ []) = Some s
-only _ = None
+abbrev pub bad_image : (sphere rule : ℕ) → Refused
+bad_image i rule = record { why = Refusal.Image; line = image_line i rule }
 
-abbrev pub by_script : PlanValues → (script : List ℕ) → SphereValues → RoleValues → (account : Option (List ℕ)) → Option Recording
-by_script p script s (Record Mode.OrderSize log) (Some account) = Some (record { chunk = p.chunk; buffer = p.buffer; script = script; image = s.image; memory = s.memory })
-by_script p script s _ _ = None
+abbrev pub image_read : (i : ℕ) → SphereRead → Result Image Refused
+image_read i s = refusing (bad_image i) (image_of s.image s.memory)
 
-abbrev pub of_sphere : PlanValues → ScheduleValues → (report : Option (List ℕ)) → Option SphereValues → Option Recording
-of_sphere p (Script script) (Some report) (Some s) = by_script p script s s.role s.account
-of_sphere p _ _ _ = None
+abbrev pub images_of : (i : ℕ) → List SphereRead → Result (List Image) Refused
+images_of i [] = Ok []
+images_of i (s ∷ ss) =
+    image_read i s >> λ image.
+    images_of (suc i) ss >> λ images.
+    Ok (image ∷ images)
 
--- what the plan asks for, where it is built: nothing else is asked, and a log, an account and a report are
-abbrev pub recording_in : PlanValues → Option Recording
-recording_in p = if p.cores == 1 && is_none p.input && is_none p.console then of_sphere p p.schedule p.report (only p.spheres) else None
+-- ---- spheres, once there are images of all
 
--- each number is in its limits
-pub record IsRecording (r : Recording) : Type 0 where
-  pub chunk : (16 ≤ r.chunk) × (r.chunk ≤ 4096)
-  pub buffer : (1 ≤ r.buffer) × (r.buffer ≤ 4096)
-  pub memory : IsMemory r.memory
+abbrev pub bad_log : (sphere : ℕ) → Fault → Refused
+bad_log i fault = record { why = Refusal.Grammar; line = log_line i fault.number fault.offset }
+
+abbrev pub mode_named : Mode → ModeName
+mode_named Mode.OrderSize = ModeName.OrderSize
+mode_named Mode.OrderOnly = ModeName.OrderOnly
+mode_named Mode.Picolog = ModeName.Picolog
+
+abbrev pub role_of : (i : ℕ) → RoleRead → Result RoleSetup Refused
+role_of i PlainRead = Ok IsPlain
+role_of i (RecordRead mode) = Ok (IsRecorded (mode_named mode))
+role_of i (ReplayRead bytes) = refusing (bad_log i) (read_of bytes) >> λ log. Ok (IsReplayed log)
+
+abbrev pub spheres_of : (i : ℕ) → List SphereRead → List Image → Result (List SphereSetup) Refused
+spheres_of i (s ∷ ss) (image ∷ images) =
+    role_of i s.role >> λ role.
+    spheres_of (suc i) ss images >> λ spheres.
+    Ok (record { memory = image.bytes; entry = image.entry; role = role } ∷ spheres)
+spheres_of i _ _ = Ok []
+
+-- ---- events: those of the script, or so many that are drawn from the plan's seed
+
+abbrev pub bad_script : (number : ℕ) → Refused
+bad_script number = record { why = Refusal.Grammar; line = script_line number }
+
+abbrev pub events_of : (seed : ℕ) → ScheduleRead → Result (List Event) Refused
+events_of seed (ScriptRead bytes) = refusing bad_script (script_of bytes)
+events_of seed (EventsDrawn n) = Ok (schedule n (seeded seed))
+
+-- ---- the machine's setup
+
+abbrev pub setup_of : PlanValues → (input : List ℕ) → List SphereSetup → Setup
+setup_of p input spheres =
+    record {
+      cores = p.cores;
+      window = p.window;
+      numbers = record { chunk = p.chunk; buffer = p.buffer; signature = p.signature };
+      seed = p.seed;
+      input = input;
+      spheres = spheres;
+    }

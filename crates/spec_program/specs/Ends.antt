@@ -1,19 +1,19 @@
 -- How the program may end, by its status, from what it was to do: what the files then hold, and what the sink took.
-use Rattle.std.specs.Prelude.{◌≡◌, ℕ, suc, ◌≤◌, ◌⊎◌, Bool, true, false, List, [], ◌∷◌, length, take, slice_get, Option, Some, None, if◌then◌else◌, Result, Ok, Err, IsOk}
+use Rattle.std.specs.Prelude.{◌≡◌, ℕ, ◌≤◌, ◌⊎◌, Bool, true, false, List, [], ◌∷◌, length, take, slice_get, Option, Some, None, IsSome, if◌then◌else◌, Result, Ok, Err}
+use Rattle.std.specs.FinMap.{get}
 use Rattle.dl_files.specs.Contents.{Contents, SameBut, IsLast}
 use Rattle.dl_files.specs.Count.{Rose}
 use Rattle.dl_files.specs.Taken.{with_taken}
 use Rattle.dl_plan.specs.Files.{input_names}
 use Rattle.dl_plan.specs.Values.{PlanValues}
 use Rattle.spec_program.specs.declared.status.Status.{Status}
-use Rattle.spec_program.specs.Built.{Recording, recording_in}
 use Rattle.spec_program.specs.Statuses.{status_of}
 use Rattle.spec_program.specs.Lines.{fault_line}
-use Rattle.spec_program.specs.Reads.{read_each}
 use Rattle.spec_program.specs.Writes.{Write, written}
 use Rattle.spec_program.specs.Commands.{command_of}
 use Rattle.spec_program.specs.Outcomes.{Outcome, Refuses, Finishes}
 use Rattle.spec_program.specs.Outside.{Outside}
+use Rattle.spec_program.specs.Stages.{Refused}
 use Rattle.spec_program.specs.Tasks.{plan_at}
 
 -- ---- the parts of an outcome
@@ -37,16 +37,10 @@ DoesFinish (Finishes diverged writes text) = Unit {0}
 
 -- ---- the names that are read
 
--- those that a plan has read; of one that isn't built none is read
-abbrev pub inputs_asked : PlanValues → Option Recording → List (List ℕ)
-inputs_asked p None = []
-inputs_asked p (Some r) = input_names p
-
--- of a plan that is absent or refused none is read
-abbrev pub inputs_of : Option (Result PlanValues ℕ) → List (List ℕ)
-inputs_of None = []
-inputs_of (Some (Err rule)) = []
-inputs_of (Some (Ok p)) = inputs_asked p (recording_in p)
+-- those that a plan has read; of one that is absent or refused none is read
+abbrev pub inputs_of : Result PlanValues Refused → List (List ℕ)
+inputs_of (Err refused) = []
+inputs_of (Ok p) = input_names p
 
 abbrev pub reads_of_command : Contents → Option (List ℕ) → List (List ℕ)
 reads_of_command m None = []
@@ -58,7 +52,8 @@ reads_of words m = reads_of_command m (command_of words)
 
 -- it is the turn of that name to be read: it is there, and so is each name before it
 abbrev pub IsReadNext : (reads : List (List ℕ)) → Contents → (name : List ℕ) → Type 0
-IsReadNext reads m name = (i : ℕ) × (slice_get reads i ≡ Some name) × IsOk (read_each m (take (suc i) reads))
+IsReadNext [] m name = ⊥
+IsReadNext (read ∷ reads) m name = IsSome (get m read) × ((read ≡ name) ⊎ IsReadNext reads m name)
 
 -- ---- what the sink took
 

@@ -1,12 +1,14 @@
 pub mod Statuses
 pub mod Lines
-pub mod Reads
+pub mod Stages
+pub mod Files
 pub mod Writes
 pub mod Commands
 pub mod Built
-pub mod Outcomes
 pub mod Tasks
+pub mod Outcomes
 pub mod Outside
 pub mod Ends
 pub mod Headline
 pub mod Promise
+pub mod Agreement

@@ -7,12 +7,17 @@ line text = text ++ 10 ∷ []
 abbrev pub usage_line : List ℕ
 usage_line = line (codes "usage")
 
--- the first rule that the plan breaks; 0 where it breaks none and isn't built
+-- the first rule that the plan breaks
 abbrev pub plan_line : (rule : ℕ) → List ℕ
 plan_line rule = line (codes "refused plan " ++ decimal rule)
 
 abbrev pub image_line : (sphere rule : ℕ) → List ℕ
 image_line sphere rule = line (codes "refused image " ++ decimal sphere ++ codes " " ++ decimal rule)
+
+-- the first field of a sphere's log that isn't good, by what is wrong with it and where it stands
+abbrev pub log_line : (sphere number offset : ℕ) → List ℕ
+log_line sphere number offset =
+    line (codes "refused log " ++ decimal sphere ++ codes " " ++ decimal number ++ codes " " ++ decimal offset)
 
 abbrev pub script_line : (number : ℕ) → List ℕ
 script_line number = line (codes "refused script " ++ decimal number)

@@ -1,19 +1,21 @@
--- A command has something to do exactly where it has a task, and this is then done.
+-- A command has something to do exactly where it has a task, and this is then run.
 use Rattle.std.specs.Prelude.{◌≡◌, ℕ, List}
 use Rattle.dl_files.specs.Contents.{Contents}
-use Rattle.spec_single.specs.Serial.{whole_of, CanDoAll}
+use Rattle.spec_protocol.specs.Serial.{whole_of, CanDoAll}
+use Rattle.spec_protocol.specs.Sound.{IsWithinLimits}
 use Rattle.spec_program.specs.Ends.{DoesFinish}
-use Rattle.spec_program.specs.Outcomes.{outcome_of, recorded}
+use Rattle.spec_program.specs.Outcomes.{outcome_of, ran}
 use Rattle.spec_program.specs.Tasks.{Task, IsTask, setup_in, points_in}
 
--- its outcome is that of recording the task, and each of the task's points can be done whole, as it says
-pub record IsRecorded (words : List (List ℕ)) (m : Contents) (t : Task) : Type 0 where
-  pub outcome : outcome_of words m ≡ recorded t.plan (setup_in t) t.events
-  pub possible : CanDoAll (whole_of (setup_in t)) (points_in t)
+-- its outcome is that of running the task, and each of the task's points can be done whole, as it says; the limits are
+-- those of every task over files of bytes
+pub record IsRun (words : List (List ℕ)) (m : Contents) (t : Task) : Type 0 where
+  pub outcome : outcome_of words m ≡ ran t.plan (setup_in t) t.events
+  pub possible : IsWithinLimits (setup_in t) → CanDoAll (whole_of (setup_in t)) (points_in t)
 
 -- for all words, and whatever the files hold
-pub record TasksAreRecorded : Type 0 where
-  -- what has a task is recorded
-  pub recorded : (words : List (List ℕ)) (m : Contents) (t : Task) → IsTask words m t → IsRecorded words m t
+pub record TasksAreRun : Type 0 where
+  -- what has a task is run
+  pub run : (words : List (List ℕ)) (m : Contents) (t : Task) → IsTask words m t → IsRun words m t
   -- what isn't refused has a task
   pub finishing : (words : List (List ℕ)) (m : Contents) → DoesFinish (outcome_of words m) → (t : Task) × IsTask words m t

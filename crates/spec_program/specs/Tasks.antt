@@ -1,46 +1,66 @@
--- What a command is to record, as its words and the files say it.
-use Rattle.std.specs.Prelude.{◌≡◌, ℕ, List, Option, Some, option_map, option_and_then, Result, Ok}
-use Rattle.std.specs.FinMap.{get}
-use Rattle.dl_elf.specs.Images.{Image}
-use Rattle.dl_elf.specs.Loading.{image_of}
+-- What a command is to run, as its words and the files say it.
+use Rattle.std.specs.Prelude.{◌≡◌, ℕ, List, Result, Ok, ok_or}
 use Rattle.dl_entry.specs.declared.Point.{Point}
 use Rattle.dl_files.specs.Contents.{Contents}
 use Rattle.dl_plan.specs.Plans.{plan_of}
 use Rattle.dl_plan.specs.Values.{PlanValues}
-use Rattle.dl_script.specs.Script.{script_of}
-use Rattle.spec_single.specs.declared.event.Event.{Event}
-use Rattle.spec_single.specs.Machine.{Setup, points_of}
-use Rattle.spec_program.specs.Built.{Recording, recording_in}
+use Rattle.spec_protocol.specs.declared.event.Event.{Event}
+use Rattle.spec_protocol.specs.Machine.{SphereSetup, Setup}
+use Rattle.spec_run.specs.Runs.{points_of}
+use Rattle.spec_program.specs.declared.status.Refusal.{Refusal}
+use Rattle.spec_program.specs.Built.{images_of, spheres_of, events_of, setup_of}
 use Rattle.spec_program.specs.Commands.{command_of}
-use Rattle.spec_program.specs.Outcomes.{setup_of}
+use Rattle.spec_program.specs.Files.{PlanRead, read_at, plan_read}
+use Rattle.spec_program.specs.Lines.{usage_line, plan_line, absent_line}
+use Rattle.spec_program.specs.Stages.{Refused, refusing, ◌>>◌}
 
--- a plan, what it asks of the machine, the image of its sphere, and its schedule
+-- a plan, the files that it has read, the spheres of its machine, and its schedule
 pub record Task : Type 0 where
   pub plan : PlanValues
-  pub recording : Recording
-  pub image : Image
+  pub read : PlanRead
+  pub spheres : List SphereSetup
   pub events : List Event
 
--- the machine of the task, and the serialisation points that its schedule makes
+-- the setup of the task's machine, and the serialisation points of its run
 abbrev pub setup_in : Task → Setup
-setup_in t = setup_of t.recording t.image
+setup_in t = setup_of t.plan t.read.input t.spheres
 
 abbrev pub points_in : Task → List Point
 points_in t = points_of (setup_in t) t.events
 
--- what the file of that name is as a plan, where it is there
-abbrev pub plan_at : Contents → (name : List ℕ) → Option (Result PlanValues ℕ)
-plan_at m name = option_map (plan_of name) (get m name)
+-- ---- the stages, the last first
 
-abbrev pub image_at : Contents → Recording → Option (Result Image ℕ)
-image_at m r = option_map (λ bytes. image_of bytes r.memory) (get m r.image)
+-- once each file is read: the images, then the logs, then the script
+abbrev pub task_read : PlanValues → PlanRead → Result Task Refused
+task_read p read =
+    images_of 0 read.spheres >> λ images.
+    spheres_of 0 read.spheres images >> λ spheres.
+    events_of p.seed read.schedule >> λ events.
+    Ok (record { plan = p; read = read; spheres = spheres; events = events })
 
-abbrev pub events_at : Contents → Recording → Option (Result (List Event) ℕ)
-events_at m r = option_map script_of (get m r.script)
+abbrev pub absent : (name : List ℕ) → Refused
+absent name = record { why = Refusal.Absent; line = absent_line name }
 
--- the file that the words name is the plan, it is built, and the files that it names are the image and the schedule
-pub record IsTask (words : List (List ℕ)) (m : Contents) (t : Task) : Type 0 where
-  pub plan : option_and_then (plan_at m) (command_of words) ≡ Some (Ok t.plan)
-  pub recording : recording_in t.plan ≡ Some t.recording
-  pub image : image_at m t.recording ≡ Some (Ok t.image)
-  pub events : events_at m t.recording ≡ Some (Ok t.events)
+abbrev pub task_planned : Contents → PlanValues → Result Task Refused
+task_planned m p = refusing absent (plan_read m p) >> task_read p
+
+abbrev pub bad_plan : (rule : ℕ) → Refused
+bad_plan rule = record { why = Refusal.Plan; line = plan_line rule }
+
+-- the plan in the file of that name
+abbrev pub plan_at : Contents → (name : List ℕ) → Result PlanValues Refused
+plan_at m name = refusing absent (read_at m name) >> λ bytes. refusing bad_plan (plan_of name bytes)
+
+abbrev pub task_named : Contents → (name : List ℕ) → Result Task Refused
+task_named m name = plan_at m name >> task_planned m
+
+abbrev pub usage : Refused
+usage = record { why = Refusal.Usage; line = usage_line }
+
+-- what the words ask for over these files, or why that is refused
+abbrev pub task_of : (words : List (List ℕ)) → Contents → Result Task Refused
+task_of words m = ok_or (command_of words) usage >> task_named m
+
+-- the words and the files give this task
+abbrev pub IsTask : (words : List (List ℕ)) → Contents → Task → Type 0
+IsTask words m t = task_of words m ≡ Ok t

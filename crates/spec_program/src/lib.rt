@@ -5,4 +5,4 @@
 mod promise;
 pub mod status;
 
-pub use promise::tasks_are_recorded;
+pub use promise::{accounts_agree, recordings_are_replayed, tasks_are_run};

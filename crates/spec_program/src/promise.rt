@@ -1,8 +1,20 @@
-//! The promise that a command is refused, or has a task that is recorded.
-ghost use Rattle.spec_program.specs.Promise.{TasksAreRecorded};
+//! What is promised of commands. Each promise is a clause of a function that does nothing.
+ghost use Rattle.spec_program.specs.Agreement.{AccountsAgree, RecordingsAreReplayed};
+ghost use Rattle.spec_program.specs.Promise.{TasksAreRun};
 
-/// For all words and contents of files: where the words and the files give a task, the outcome is that of recording it, and
+/// For all words and contents of files: where the words and the files give a task, the outcome is that of running it, and
 /// each of its points can be done whole, as it says; and where the outcome is no refusal, there is a task.
-pub fn tasks_are_recorded()
-    ensures { TasksAreRecorded }
+pub fn tasks_are_run()
+    ensures { TasksAreRun }
+{}
+
+/// Two tasks that replay a sphere of the same image, memory size and log write equal accounts of it, whatever else their
+/// plans and files say.
+pub fn accounts_agree()
+    ensures { AccountsAgree }
+{}
+
+/// Where one task records a sphere and another replays that log on the same image, both write the same account.
+pub fn recordings_are_replayed()
+    ensures { RecordingsAreReplayed }
 {}

@@ -1,0 +1,66 @@
+//! The roles of a plan's spheres, with their logs.
+ghost use Rattle.std.specs.Prelude.{◌≡◌, Ok, IfOk, IfErr, OnOk, length, map};
+ghost use Rattle.dl_sphere.specs.Setups.{setup_of, role_setup};
+ghost use Rattle.spec_program.specs.Built.{mode_named, role_of, spheres_of};
+ghost use Rattle.delorean.specs.Halts.{Refuses};
+ghost use Rattle.delorean.specs.Inputs.{image_in, role_view, sphere_view};
+
+use crate::halt::Halt;
+use crate::inputs::{RoleInputs, SphereInputs};
+use crate::lines::log_line;
+use dl_logfmt::{LogError, ModeName, read_log};
+use dl_plan::Mode;
+use dl_sphere::{Role, SphereSetup};
+use spec_program::status::Refusal;
+use std::alloc::Global;
+
+/// Gives each sphere its role; the first log that has a bad field is refused.
+pub fn give_roles(
+    alloc: Global,
+    inputs: &[SphereInputs],
+    spheres: &mut [SphereSetup],
+) -> Result<(), Halt>
+    requires { length spheres.old ≡ length inputs.now }
+    ensures roles { OnOk result (spheres_of 0 (map sphere_view inputs.now) (map image_in spheres.old)
+        ≡ Ok (map setup_of spheres.new)) }
+    ensures count { length spheres.new ≡ length spheres.old }
+    ensures halt { IfErr result (Refuses (spheres_of 0 (map sphere_view inputs.now) (map image_in spheres.old))) }
+{
+    for (i, input) in inputs.iter().enumerate() {
+        match read_role(alloc, i, &input.role) {
+            Ok(role) => spheres[i].role = role,
+            Err(halt) => return Err(halt),
+        }
+    }
+    Ok(())
+}
+
+// The role of the sphere of that number.
+fn read_role(alloc: Global, sphere: usize, role: &RoleInputs) -> Result<Role, Halt>
+    ensures role { IfOk result (λ r. role_of sphere (role_view role.now) ≡ Ok (role_setup r)) }
+    ensures halt { IfErr result (Refuses (role_of sphere (role_view role.now))) }
+{
+    match role {
+        RoleInputs::Plain => Ok(Role::Plain),
+        RoleInputs::Record(mode) => Ok(Role::Record(mode_named(*mode))),
+        RoleInputs::Replay(bytes) => match read_log(alloc, bytes) {
+            Ok(log) => Ok(Role::Replay(log)),
+            Err(LogError::Malformed(number, offset)) => Err(Halt::Refused(
+                Refusal::Grammar,
+                log_line(alloc, sphere, number, offset)?,
+            )),
+            Err(LogError::OutOfMemory) => Err(Halt::OutOfMemory),
+        },
+    }
+}
+
+// The mode, as logs name it.
+fn mode_named(mode: Mode) -> ModeName
+    ensures { result ≡ mode_named mode }
+{
+    match mode {
+        Mode::OrderSize => ModeName::OrderSize,
+        Mode::OrderOnly => ModeName::OrderOnly,
+        Mode::Picolog => ModeName::Picolog,
+    }
+}

@@ -1,6 +1,0 @@
-mod Laying
-mod Stepping
-mod Serving
-mod Committing
-mod Noting
-mod Events

@@ -1,0 +1,76 @@
+-- Tasks that agree on a sphere write the same account of it.
+use Rattle.std.proofs.Common.{◌≡◌, ℕ, List, Result, Ok, Err, refl, sym, ap, ◌∙◌}
+use Rattle.dl_elf.specs.Images.{Image}
+use Rattle.dl_elf.specs.Loading.{image_of}
+use Rattle.spec_log.specs.declared.LogParts.{LogParts}
+use Rattle.spec_log.specs.Reading.{Fault, read_of}
+use Rattle.spec_protocol.specs.Logged.{sphere_in}
+use Rattle.spec_protocol.specs.Machine.{RoleSetup, IsRecorded, IsReplayed, SphereSetup}
+use Rattle.spec_run.specs.Runs.{executed}
+use Rattle.spec_run.specs.Texts.{account_as, account_text, log_told}
+use Rattle.spec_run.proofs.Told.{recordings_reproduced}
+use Rattle.spec_program.specs.Agreement.{AccountsAgree, RecordingsAreReplayed}
+use Rattle.spec_program.specs.Built.{bad_log, mode_named, role_of}
+use Rattle.spec_program.specs.Files.{ReplayRead, SphereRead}
+use Rattle.spec_program.specs.Stages.{refusing, ◌>>◌}
+use Rattle.spec_program.specs.Tasks.{setup_in}
+use Rattle.spec_program.proofs.Made.{IsMade, sphere_of_task}
+
+same_Ok : {A E : Type 0} (a b : A) → ◌≡◌ {A = Result A E} (Ok a) (Ok b) → a ≡ b
+same_Ok a b e = cc
+
+-- ---- what is made of the same is the same
+
+same_image : (s r : SphereRead) (x y : SphereSetup) → s.image ≡ r.image → s.memory ≡ r.memory → (a : IsMade s x) → (b : IsMade r y) → a.image ≡ b.image
+same_image s r x y file size a b = same_Ok a.image b.image (sym a.loaded ∙ (λ k. image_of (file k) (size k)) ∙ b.loaded)
+
+replayed_by : (i : ℕ) (o : Result LogParts Fault) (r : RoleSetup) → (refusing (bad_log i) o >> λ log. Ok (IsReplayed log)) ≡ Ok r → (parts : LogParts) × (o ≡ Ok parts) × (r ≡ IsReplayed parts)
+replayed_by i (Err fault) r e = absurd cc
+replayed_by i (Ok parts) r e = (parts, refl, sym (same_Ok (IsReplayed parts) r e))
+
+-- the role that replays a log
+replayed : (log : List ℕ) (s : SphereRead) (x : SphereSetup) → s.role ≡ ReplayRead log → IsMade s x → (parts : LogParts) × (read_of log ≡ Ok parts) × (x.role ≡ IsReplayed parts)
+replayed log s x role made = replayed_by 0 (read_of log) x.role (ap (role_of 0) (sym role) ∙ made.role)
+
+-- ---- accounts
+
+pub accounts_agree : AccountsAgree
+unfolding account_text
+accounts_agree words others m n t u i j s log is other role at there =
+    let a = sphere_of_task words m t i s is at in
+    let b = sphere_of_task others n u j s other there in
+    let image = same_image s s a.setup b.setup refl refl a.made b.made in
+    let p = replayed log s a.setup role a.made in
+    let q = replayed log s b.setup role b.made in
+    let parts : p.0 ≡ q.0 = same_Ok p.0 q.0 (sym p.1 ∙ q.1) in
+    let setup : a.setup ≡ b.setup = (λ k. record { memory = (a.made.memory ∙ ap (λ (x : Image). x.bytes) image ∙ sym b.made.memory) k; entry = (a.made.entry ∙ ap (λ (x : Image). x.entry) image ∙ sym b.made.entry) k; role = (p.2 ∙ ap IsReplayed parts ∙ sym q.2) k }) in
+    let x = sphere_in (executed (setup_in t) t.events) i in
+    let y = sphere_in (executed (setup_in u) u.events) j in
+    ap (λ (d : SphereSetup). account_as d x d.role) a.at
+    ∙ ap (account_as a.setup x) p.2
+    ∙ ap (λ (d : SphereSetup). account_as d y (IsReplayed p.0)) setup
+    ∙ ap (account_as b.setup y) (ap IsReplayed parts ∙ sym q.2)
+    ∙ ap (λ (d : SphereSetup). account_as d y d.role) (sym b.at)
+
+pub recordings_replayed : RecordingsAreReplayed
+unfolding account_text
+recordings_replayed words others m n t u i j s mode log is other limits role at there reads =
+    let r : SphereRead = record s { role = ReplayRead log } in
+    let a = sphere_of_task words m t i s is at in
+    let b = sphere_of_task others n u j r other there in
+    let image = same_image s r a.setup b.setup refl refl a.made b.made in
+    let told = log_told (setup_in t) t.events i (mode_named mode) in
+    let recorded : a.setup.role ≡ IsRecorded (mode_named mode) = sym (same_Ok (IsRecorded (mode_named mode)) a.setup.role (ap (role_of 0) (sym role) ∙ a.made.role)) in
+    let q = replayed log r b.setup refl b.made in
+    let parts : q.0 ≡ told = same_Ok q.0 told (sym q.1 ∙ reads) in
+    let x = sphere_in (executed (setup_in t) t.events) i in
+    let y = sphere_in (executed (setup_in u) u.events) j in
+    let plays : account_as a.setup y (IsReplayed told) ≡ account_as b.setup y (IsReplayed told) =
+    (λ k. account_as (record { memory = (a.made.memory ∙ ap (λ (d : Image). d.bytes) image ∙ sym b.made.memory) k; entry = (a.made.entry ∙ ap (λ (d : Image). d.entry) image ∙ sym b.made.entry) k; role = IsReplayed told }) y (IsReplayed told))
+    in
+    ap (λ (d : SphereSetup). account_as d x d.role) a.at
+    ∙ ap (account_as a.setup x) recorded
+    ∙ sym (recordings_reproduced (setup_in t) t.events i a.setup (mode_named mode) limits a.there recorded).account
+    ∙ plays
+    ∙ ap (account_as b.setup y) (ap IsReplayed (sym parts) ∙ sym q.2)
+    ∙ ap (λ (d : SphereSetup). account_as d y d.role) (sym b.at)

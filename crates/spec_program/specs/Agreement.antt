@@ -1,0 +1,42 @@
+-- What tasks have in common that agree on a sphere.
+use Rattle.std.specs.Prelude.{◌≡◌, ℕ, List, slice_get, Some, Ok}
+use Rattle.dl_files.specs.Contents.{Contents}
+use Rattle.dl_plan.specs.declared.Mode.{Mode}
+use Rattle.dl_plan.specs.declared.Product.{Product}
+use Rattle.spec_log.specs.Reading.{read_of}
+use Rattle.spec_protocol.specs.Sound.{IsWithinLimits}
+use Rattle.spec_run.specs.Texts.{log_told}
+use Rattle.spec_program.specs.Built.{mode_named}
+use Rattle.spec_program.specs.Files.{RecordRead, ReplayRead, SphereRead}
+use Rattle.spec_program.specs.Outcomes.{product_for}
+use Rattle.spec_program.specs.Tasks.{Task, IsTask, setup_in}
+
+-- the account of sphere i, as the task has it written
+abbrev pub account_in : Task → (i : ℕ) → List ℕ
+account_in t i = product_for (setup_in t) t.events (Product.Account i)
+
+-- two tasks that replay a sphere of the same image, memory size and log write equal accounts of it, whatever else their words,
+-- plans and files say
+abbrev pub AccountsAgree : Type 0
+AccountsAgree =
+    (words others : List (List ℕ)) (m n : Contents) (t u : Task) (i j : ℕ) (s : SphereRead) (log : List ℕ)
+    → IsTask words m t
+    → IsTask others n u
+    → s.role ≡ ReplayRead log
+    → slice_get t.read.spheres i ≡ Some s
+    → slice_get u.read.spheres j ≡ Some s
+    → account_in t i ≡ account_in u j
+
+-- where one task records a sphere, and another replays what it recorded on the same image in a memory of the same size, both
+-- write the same account
+abbrev pub RecordingsAreReplayed : Type 0
+RecordingsAreReplayed =
+    (words others : List (List ℕ)) (m n : Contents) (t u : Task) (i j : ℕ) (s : SphereRead) (mode : Mode) (log : List ℕ)
+    → IsTask words m t
+    → IsTask others n u
+    → IsWithinLimits (setup_in t)
+    → s.role ≡ RecordRead mode
+    → slice_get t.read.spheres i ≡ Some s
+    → slice_get u.read.spheres j ≡ Some (record s { role = ReplayRead log })
+    → read_of log ≡ Ok (log_told (setup_in t) t.events i (mode_named mode))
+    → account_in t i ≡ account_in u j

@@ -1,0 +1,68 @@
+-- What a plan has read: the bytes of its files, each where the plan names it, or the first name that is absent.
+use Rattle.std.specs.Prelude.{ℕ, List, [], ◌∷◌, Option, Some, None, Result, Ok, ok_or}
+use Rattle.std.specs.FinMap.{get}
+use Rattle.dl_files.specs.Contents.{Contents}
+use Rattle.dl_plan.specs.declared.Mode.{Mode}
+use Rattle.dl_plan.specs.Values.{ScheduleValues, Script, Seeded, RoleValues, Plain, Record, Replay, SphereValues, PlanValues}
+use Rattle.spec_program.specs.Stages.{◌>>◌}
+
+-- a script, or how many events are to be drawn
+pub data ScheduleRead : Type 0 where
+  ScriptRead : (bytes : List ℕ) → ScheduleRead
+  EventsDrawn : (events : ℕ) → ScheduleRead
+
+-- of what is replayed, the log
+pub data RoleRead : Type 0 where
+  PlainRead : RoleRead
+  RecordRead : Mode → RoleRead
+  ReplayRead : (log : List ℕ) → RoleRead
+
+pub record SphereRead : Type 0 where
+  pub image : List ℕ
+  pub memory : ℕ
+  pub role : RoleRead
+
+pub record PlanRead : Type 0 where
+  pub schedule : ScheduleRead
+  pub input : List ℕ
+  pub spheres : List SphereRead
+
+-- ---- in the order of the work
+
+-- the bytes of the file of that name, or the name
+abbrev pub read_at : Contents → (name : List ℕ) → Result (List ℕ) (List ℕ)
+read_at m name = ok_or (get m name) name
+
+abbrev pub schedule_read : Contents → ScheduleValues → Result ScheduleRead (List ℕ)
+schedule_read m (Script name) = read_at m name >> λ bytes. Ok (ScriptRead bytes)
+schedule_read m (Seeded events) = Ok (EventsDrawn events)
+
+-- without a file there are no bytes
+abbrev pub input_read : Contents → Option (List ℕ) → Result (List ℕ) (List ℕ)
+input_read m None = Ok []
+input_read m (Some name) = read_at m name
+
+abbrev pub role_read : Contents → RoleValues → Result RoleRead (List ℕ)
+role_read m Plain = Ok PlainRead
+role_read m (Record mode log) = Ok (RecordRead mode)
+role_read m (Replay log) = read_at m log >> λ bytes. Ok (ReplayRead bytes)
+
+abbrev pub sphere_read : Contents → SphereValues → Result SphereRead (List ℕ)
+sphere_read m s =
+    read_at m s.image >> λ image.
+    role_read m s.role >> λ role.
+    Ok (record { image = image; memory = s.memory; role = role })
+
+abbrev pub spheres_read : Contents → List SphereValues → Result (List SphereRead) (List ℕ)
+spheres_read m [] = Ok []
+spheres_read m (s ∷ ss) =
+    sphere_read m s >> λ sphere.
+    spheres_read m ss >> λ spheres.
+    Ok (sphere ∷ spheres)
+
+abbrev pub plan_read : Contents → PlanValues → Result PlanRead (List ℕ)
+plan_read m p =
+    schedule_read m p.schedule >> λ schedule.
+    input_read m p.input >> λ input.
+    spheres_read m p.spheres >> λ spheres.
+    Ok (record { schedule = schedule; input = input; spheres = spheres })

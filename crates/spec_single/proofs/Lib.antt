@@ -1,3 +1,0 @@
-pub mod Commits
-pub mod Bounding
-pub mod Logs
