@@ -48,7 +48,7 @@ image_there (x ∷ xs) (suc i) l = image_there xs i (omega (arith, l))
 
 -- there are as many spheres as were set up
 pub as_many : (es : List Event) (r : Ran) → IsOver es r → length r.world.spheres ≡ length r.setup.spheres
-as_many es r over = ap (λ (w : World). length w.spheres) over.world ∙ (runs_told r.setup es over.limits).spheres
+as_many es r over = ap (λ (w : World). length w.spheres) over.world ∙ (runs_told r.setup es (setups_finish r.setup over.limits).setup).spheres
 
 -- ---- a sphere
 
@@ -58,7 +58,7 @@ few_spheres es r over = over.limits.few.1
 
 pub told : (es : List Event) (r : Ran) (i : ℕ) → IsOver es r → i < length r.setup.spheres → IsTold r.setup es i (image_at r.setup i)
 told es r i over inside =
-    spheres_told r.setup es i (image_at r.setup i) over.limits (image_there r.setup.spheres i inside)
+    spheres_told r.setup es i (image_at r.setup i) (setups_finish r.setup over.limits) (image_there r.setup.spheres i inside)
 
 -- the role of the machine's sphere
 has_role : (es : List Event) (r : Ran) (i : ℕ) (role : RoleSetup) → IsOver es r → i < length r.setup.spheres → (image_at r.setup i).role ≡ role → HasRole r.setup es i role (sphere_at r.world i).role
@@ -147,7 +147,7 @@ pub console-is : (es : List Event) (r : Ran) → IsOver es r → r.world.devices
 unfolding console_text
 console-is es r over =
     ap (λ (w : World). w.devices.console) over.world
-    ∙ ap (λ (d : Devices). d.console) (runs_told r.setup es over.limits).devices
+    ∙ ap (λ (d : Devices). d.console) (runs_told r.setup es (setups_finish r.setup over.limits).setup).devices
 
 -- ---- lines
 

@@ -14,6 +14,7 @@ use Rattle.spec_program.specs.Built.{bad_log, mode_named, role_of}
 use Rattle.spec_program.specs.Files.{ReplayRead, SphereRead}
 use Rattle.spec_program.specs.Stages.{refusing, ◌>>◌}
 use Rattle.spec_program.specs.Tasks.{setup_in}
+use Rattle.spec_program.proofs.Able.{task_can_finish}
 use Rattle.spec_program.proofs.Made.{IsMade, sphere_of_task}
 
 same_Ok : {A E : Type 0} (a b : A) → ◌≡◌ {A = Result A E} (Ok a) (Ok b) → a ≡ b
@@ -54,7 +55,7 @@ accounts_agree words others m n t u i j s log is other role at there =
 
 pub recordings_replayed : RecordingsAreReplayed
 unfolding account_text
-recordings_replayed words others m n t u i j s mode log is other limits role at there reads =
+recordings_replayed words others m n t u i j s mode log is other role at there reads =
     let r : SphereRead = record s { role = ReplayRead log } in
     let a = sphere_of_task words m t i s is at in
     let b = sphere_of_task others n u j r other there in
@@ -70,7 +71,7 @@ recordings_replayed words others m n t u i j s mode log is other limits role at 
     in
     ap (λ (d : SphereSetup). account_as d x d.role) a.at
     ∙ ap (account_as a.setup x) recorded
-    ∙ sym (recordings_reproduced (setup_in t) t.events i a.setup (mode_named mode) limits a.there recorded).account
+    ∙ sym (recordings_reproduced (setup_in t) t.events i a.setup (mode_named mode) (task_can_finish words m t is) a.there recorded).account
     ∙ plays
     ∙ ap (account_as b.setup y) (ap IsReplayed (sym parts) ∙ sym q.2)
     ∙ ap (λ (d : SphereSetup). account_as d y d.role) (sym b.at)

@@ -5,21 +5,22 @@ use Rattle.std.proofs.lemmas.Option.{none-some, same_Some}
 use Rattle.dl_elf.specs.Images.{Image}
 use Rattle.dl_elf.specs.Loading.{image_of}
 use Rattle.dl_files.specs.Contents.{Contents}
+use Rattle.dl_plan.specs.Plans.{plan_of}
 use Rattle.spec_log.specs.declared.LogParts.{LogParts}
 use Rattle.spec_log.specs.Reading.{Fault, read_of}
 use Rattle.spec_protocol.specs.Machine.{RoleSetup, IsReplayed, SphereSetup}
 use Rattle.spec_protocol.specs.Sound.{no_image, image_at}
 use Rattle.spec_program.specs.Built.{bad_image, bad_log, images_of, role_of, spheres_of, events_of}
 use Rattle.spec_program.specs.Commands.{command_of}
-use Rattle.spec_program.specs.Files.{RoleRead, PlainRead, RecordRead, ReplayRead, SphereRead, plan_read}
+use Rattle.spec_program.specs.Files.{RoleRead, PlainRead, RecordRead, ReplayRead, SphereRead, read_at, plan_read}
 use Rattle.spec_program.specs.Stages.{Refused, refusing, ◌>>◌}
-use Rattle.spec_program.specs.Tasks.{Task, IsTask, setup_in, absent, usage, plan_at, task_read, task_planned, task_named}
+use Rattle.spec_program.specs.Tasks.{Task, IsTask, setup_in, absent, bad_plan, usage, plan_at, task_read, task_planned, task_named}
 
-then_ok : {A B E : Type 0} (o : Result A E) (f : A → Result B E) (b : B) → (o >> f) ≡ Ok b → (a : A) × (o ≡ Ok a) × (f a ≡ Ok b)
+pub then_ok : {A B E : Type 0} (o : Result A E) (f : A → Result B E) (b : B) → (o >> f) ≡ Ok b → (a : A) × (o ≡ Ok a) × (f a ≡ Ok b)
 then_ok (Err x) f b e = absurd cc
 then_ok (Ok a) f b e = (a, refl, e)
 
-not_refused : {A E : Type 0} (told : E → Refused) (o : Result A E) (a : A) → refusing told o ≡ Ok a → o ≡ Ok a
+pub not_refused : {A E : Type 0} (told : E → Refused) (o : Result A E) (a : A) → refusing told o ≡ Ok a → o ≡ Ok a
 not_refused told (Err x) a e = absurd cc
 not_refused told (Ok b) a e = cc
 
@@ -78,23 +79,34 @@ sphere_made k (suc i) (r ∷ ss) images xs s are made at =
 
 -- ---- a task
 
--- its spheres are made of what was read
-record IsBuilt (t : Task) : Type 0 where
-  images : List Image
-  are : images_of 0 t.read.spheres ≡ Ok images
-  spheres : spheres_of 0 t.read.spheres images ≡ Ok t.spheres
+-- its plan is in a file, and its spheres are made of what was read
+pub record IsBuilt (t : Task) : Type 0 where
+  pub name : List ℕ
+  pub bytes : List ℕ
+  pub planned : plan_of name bytes ≡ Ok t.plan
+  pub images : List Image
+  pub are : images_of 0 t.read.spheres ≡ Ok images
+  pub spheres : spheres_of 0 t.read.spheres images ≡ Ok t.spheres
 
-task_built : (words : List (List ℕ)) (m : Contents) (t : Task) → IsTask words m t → IsBuilt t
+pub task_built : (words : List (List ℕ)) (m : Contents) (t : Task) → IsTask words m t → IsBuilt t
 task_built words m t is =
     let name = then_ok (ok_or (command_of words) usage) (task_named m) t is in
     let plan = then_ok (plan_at m name.0) (task_planned m) t name.2 in
+    let file = then_ok (refusing absent (read_at m name.0)) _ plan.0 plan.1 in
     let read = then_ok (refusing absent (plan_read m plan.0)) (task_read plan.0) t plan.2 in
     let images = then_ok (images_of 0 read.0.spheres) _ t read.2 in
     let spheres = then_ok (spheres_of 0 read.0.spheres images.0) _ t images.2 in
     let events = then_ok (events_of plan.0.seed read.0.schedule) _ t spheres.2 in
     let made : Task = record { plan = plan.0; read = read.0; spheres = spheres.0; events = events.0 } in
     let same : made ≡ t = cc in
-    subst IsBuilt same (record { images = images.0; are = images.1; spheres = spheres.1 })
+    subst IsBuilt same (record {
+      name = name.0;
+      bytes = file.0;
+      planned = not_refused bad_plan (plan_of name.0 file.0) plan.0 file.2;
+      images = images.0;
+      are = images.1;
+      spheres = spheres.1;
+    })
 
 index_is : (xs : List SphereSetup) (i : ℕ) (x : SphereSetup) → slice_get xs i ≡ Some x → slice_index_or xs i no_image ≡ x
 index_is [] i x e = absurd (none-some x e)

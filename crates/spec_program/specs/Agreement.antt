@@ -4,7 +4,6 @@ use Rattle.dl_files.specs.Contents.{Contents}
 use Rattle.dl_plan.specs.declared.Mode.{Mode}
 use Rattle.dl_plan.specs.declared.Product.{Product}
 use Rattle.spec_log.specs.Reading.{read_of}
-use Rattle.spec_protocol.specs.Sound.{IsWithinLimits}
 use Rattle.spec_run.specs.Texts.{log_told}
 use Rattle.spec_program.specs.Built.{mode_named}
 use Rattle.spec_program.specs.Files.{RecordRead, ReplayRead, SphereRead}
@@ -34,7 +33,6 @@ RecordingsAreReplayed =
     (words others : List (List ℕ)) (m n : Contents) (t u : Task) (i j : ℕ) (s : SphereRead) (mode : Mode) (log : List ℕ)
     → IsTask words m t
     → IsTask others n u
-    → IsWithinLimits (setup_in t)
     → s.role ≡ RecordRead mode
     → slice_get t.read.spheres i ≡ Some s
     → slice_get u.read.spheres j ≡ Some (record s { role = ReplayRead log })

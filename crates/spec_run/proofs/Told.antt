@@ -20,7 +20,7 @@ use Rattle.spec_protocol.specs.Logged.{sphere_in, supplied, logged}
 use Rattle.spec_protocol.specs.Logs.{IsLogFresh}
 use Rattle.spec_protocol.specs.Shown.{shown_of}
 use Rattle.spec_protocol.specs.Finishing.{next, Finishes}
-use Rattle.spec_protocol.specs.Promises.{after, WillRecord}
+use Rattle.spec_protocol.specs.Promises.{IsSetup, after, WillRecord}
 use Rattle.spec_protocol.specs.PlayingBack.{PlaysBack}
 use Rattle.spec_replay.specs.Promises.{IsPlayed}
 use Rattle.spec_finishing.specs.Ending.{Ends, CanFinish, IsAtEnd}
@@ -34,7 +34,6 @@ use Rattle.spec_finishing.proofs.KindsKept.{is_replayed, AreOfKinds, kind-at}
 use Rattle.spec_finishing.proofs.Knowing.{within, there_is, kinds_after}
 use Rattle.spec_finishing.proofs.NextOfAll.{next-stands}
 use Rattle.spec_finishing.proofs.Played.{replays_finished}
-use Rattle.spec_finishing.proofs.ShortRuns.{setups_finish}
 use Rattle.spec_finishing.proofs.Turns.{shown-itself}
 use Rattle.spec_run.specs.Runs.{executed, played, end_of}
 use Rattle.spec_run.specs.Texts.{account_as, executed_account, log_told, played_account}
@@ -83,22 +82,23 @@ record IsKnown (s : Setup) (w : World) : Type 0 where
       → p.role ≡ Record log
       → PlaysBack log image p
 
-known-after : (s : Setup) (es : List Event) → CanFinish s → IsKnown s (after s es)
-known-after s es can =
-    let c = commits_are s es can.setup in
+known-after : (s : Setup) (es : List Event) → IsSetup s → IsKnown s (after s es)
+known-after s es is =
+    let c = commits_are s es is in
     record {
       executes = c.spheres;
       devices = c.devices;
       possible = c.possible;
-      kinds = kinds_after s es can.setup;
-      sizes = (sizes_kept s es can.setup).spheres;
+      kinds = kinds_after s es is;
+      sizes = (sizes_kept s es is).spheres;
       logs = logs_are s es;
       fresh = logs_are_fresh s es;
       plays_back = logs_play_back s es;
     }
 
-known : (s : Setup) (es : List Event) → CanFinish s → IsKnown s (finished s es)
-known s es can = subst (IsKnown s) (after_both (world_of s) es (finishing_of s es)) (known-after s (es ++ finishing_of s es) can)
+-- a finished run is a run after more events
+known : (s : Setup) (es : List Event) → IsSetup s → IsKnown s (finished s es)
+known s es is = subst (IsKnown s) (after_both (world_of s) es (finishing_of s es)) (known-after s (es ++ finishing_of s es) is)
 
 ends : (s : Setup) (es : List Event) → CanFinish s → Ends s es (finishing_of s es)
 ends s es can = function_finishes s es (most_events s es) can (omega arith)
@@ -119,7 +119,7 @@ record IsThere (s : Setup) (es : List Event) (i : ℕ) (image : SphereSetup) (p 
 sphere-there : (s : Setup) (es : List Event) (i : ℕ) (image : SphereSetup) → CanFinish s → slice_get s.spheres i ≡ Some image → (p : Sphere) × IsThere s es i image p
 sphere-there s es i image can is =
     let w : World = finished s es in
-    let k = known s es can in
+    let k = known s es can.setup in
     let inside : i < length w.spheres = (let l = within s.spheres i image is in let e = k.sizes in omega (arith, l, e)) in
     let p = there_is w.spheres i inside in
     let shows = ap (λ (ps : List Sphere). slice_get ps i) (shown s es can) ∙ p.1 in (
@@ -134,7 +134,7 @@ sphere-there s es i image can is =
 
 -- a plain or recorded one is executed
 executed-is : (s : Setup) (es : List Event) (i : ℕ) (image : SphereSetup) (p : Sphere) → CanFinish s → IsThere s es i image p → replays p.role ≡ false → sphere_in (executed s es) i ≡ p
-executed-is s es i image p can t live = get_is (executed s es).spheres i p ((known s es can).executes i p t.shows live)
+executed-is s es i image p can t live = get_is (executed s es).spheres i p ((known s es can.setup).executes i p t.shows live)
 
 -- ---- accounts
 
@@ -222,7 +222,7 @@ has_role : (s : Setup) (es : List Event) (i : ℕ) (image : SphereSetup) (p : Sp
 has_role s es i image p IsPlain can is t role =
     ap (λ (q : Sphere). replays q.role) t.at ∙ t.kind ∙ ap is_replayed role
 has_role s es i image p (IsRecorded mode) can is t role =
-    (known s es can).logs i image mode (will_record s i image mode can is role)
+    (known s es can.setup).logs i image mode (will_record s i image mode can is role)
 has_role s es i image p (IsReplayed log) can is t role =
     let r = replayed-to s es i image log p can is t role in
     (r.book, ap (λ (q : Sphere). q.role) t.at ∙ r.role)
@@ -242,8 +242,7 @@ played_to s es i image p log b can is t role replay =
     ap (λ (c : Book). c.now) same ∙ r.played.now
 
 pub spheres_told : SpheresAreTold
-spheres_told s es i image limits is =
-    let can = setups_finish s limits in
+spheres_told s es i image can is =
     let p = sphere-there s es i image can is in
     let t = p.1 in
     record {
@@ -259,8 +258,8 @@ spheres_told s es i image limits is =
 -- ---- the run
 
 pub runs_told : RunsAreTold
-runs_told s es limits =
-    let k = known s es (setups_finish s limits) in
+runs_told s es is =
+    let k = known s es is in
     record { spheres = k.sizes; devices = k.devices; possible = k.possible }
 
 -- ---- what follows
@@ -272,12 +271,11 @@ play_account y p n now few memory threads progress =
     (λ j. account_of (progress j).commits (threads j) (progress j).request (memory j) (told j))
 
 pub recordings_reproduced : RecordingsAreReproduced
-recordings_reproduced s es i image mode limits is role =
-    let can = setups_finish s limits in
+recordings_reproduced s es i image mode can is role =
     let t = sphere-there s es i image can is in
     let p : Sphere = t.0 in
     let log : LogParts = log_told s es i mode in
-    let k = known s es can in
+    let k = known s es can.setup in
     let will = will_record s i image mode can is role in
     let recorded : p.role ≡ Record log = ap (λ (q : Sphere). q.role) (sym t.1.at) ∙ k.logs i image mode will in
     let back = k.plays_back i image mode will p log t.1.shows recorded in

@@ -14,8 +14,8 @@ use Rattle.spec_protocol.specs.Machine.{RoleSetup, IsPlain, IsRecorded, IsReplay
 use Rattle.spec_protocol.specs.Serial.{whole_of, CanDoAll}
 use Rattle.spec_protocol.specs.Logged.{sphere_in}
 use Rattle.spec_protocol.specs.Sound.{IsWithinLimits, image_at}
-use Rattle.spec_protocol.specs.Promises.{after}
-use Rattle.spec_finishing.specs.Ending.{IsAtEnd}
+use Rattle.spec_protocol.specs.Promises.{IsSetup, after}
+use Rattle.spec_finishing.specs.Ending.{CanFinish, IsAtEnd}
 use Rattle.spec_finishing.specs.Function.{finished}
 use Rattle.spec_run.specs.Runs.{points_of, executed, played, end_of}
 use Rattle.spec_run.specs.Texts.{account_as, account_text, console_text, executed_account, log_text, log_told, played_account}
@@ -54,11 +54,11 @@ pub record IsTold (s : Setup) (es : List Event) (i : ℕ) (image : SphereSetup) 
       → (sphere_at (finished s es) i).role ≡ Replay b
       → b.now ≡ (played log image).now
 
--- for every setup within its limits and every schedule
+-- for every setup that can be finished and every schedule
 abbrev pub SpheresAreTold : Type 0
 SpheresAreTold =
     (s : Setup) (es : List Event) (i : ℕ) (image : SphereSetup)
-    → IsWithinLimits s
+    → CanFinish s
     → slice_get s.spheres i ≡ Some image
     → IsTold s es i image
 
@@ -71,7 +71,7 @@ pub record IsRunTold (s : Setup) (es : List Event) : Type 0 where
   pub possible : CanDoAll (whole_of s) (points_of s es)
 
 abbrev pub RunsAreTold : Type 0
-RunsAreTold = (s : Setup) (es : List Event) → IsWithinLimits s → IsRunTold s es
+RunsAreTold = (s : Setup) (es : List Event) → IsSetup s → IsRunTold s es
 
 -- ---- what follows
 
@@ -83,7 +83,7 @@ pub record IsReproduced (image : SphereSetup) (log : LogParts) (p : Sphere) : Ty
 abbrev pub RecordingsAreReproduced : Type 0
 RecordingsAreReproduced =
     (s : Setup) (es : List Event) (i : ℕ) (image : SphereSetup) (mode : ModeName)
-    → IsWithinLimits s
+    → CanFinish s
     → slice_get s.spheres i ≡ Some image
     → image.role ≡ IsRecorded mode
     → IsReproduced image (log_told s es i mode) (sphere_in (executed s es) i)

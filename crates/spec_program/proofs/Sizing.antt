@@ -1,0 +1,97 @@
+-- The numbers of a plan are over 0.
+use Rattle.std.proofs.Common.{◌≡◌, ℕ, ◌<◌, ◌≤◌, ◌&&◌, pos, negsuc, ℤ, Bool, true, false, nat_le, List, Option, Some, None, if◌then◌else◌, Result, Ok, Err, ok_or, refl, subst, leb-true, arith, unwrap_or}
+use Rattle.std.proofs.lemmas.Option.{none-some, same_Some}
+use Rattle.dl_plan.specs.Entries.{Entries}
+use Rattle.dl_plan.specs.Limits.{limited, signature_of}
+use Rattle.dl_plan.specs.Optional.{◌>>=◌, ◌>>◌, each_of, if_there}
+use Rattle.dl_plan.specs.Plans.{plan_of, document, entries_in, values_in, values_of, named_well, has_good_names, schedule_of, sphere_asked}
+use Rattle.dl_plan.specs.Sizes.{Sizes, sizes_in, sizes_of, has_good_spheres}
+use Rattle.dl_plan.specs.Values.{PlanValues}
+
+then_some : {A B : Type 0} (o : Option A) (f : A → Option B) (b : B) → (o >>= f) ≡ Some b → (a : A) × (o ≡ Some a) × (f a ≡ Some b)
+then_some None f b e = absurd (none-some b e)
+then_some (Some a) f b e = (a, refl, e)
+
+then_ok : {A B : Type 0} (o : Result A ℕ) (f : A → Result B ℕ) (b : B) → (o >> f) ≡ Ok b → (a : A) × (o ≡ Ok a) × (f a ≡ Ok b)
+then_ok (Err rule) f b e = absurd cc
+then_ok (Ok a) f b e = (a, refl, e)
+
+if_some : {A : Type 0} (b : Bool) (o : Option A) (x : A) → (if b then o else None) ≡ Some x → o ≡ Some x
+if_some true o x e = e
+if_some false o x e = absurd (none-some x e)
+
+some_ok : {A : Type 0} (o : Option A) (rule : ℕ) (a : A) → ok_or o rule ≡ Ok a → o ≡ Some a
+some_ok None rule a e = absurd cc
+some_ok (Some b) rule a e = cc
+
+-- ---- the numbers of a plan
+
+-- there is a core and a slot, a chunk runs an instruction, and a buffer holds a word
+pub record IsSized (p : PlanValues) : Type 0 where
+  pub cores : 0 < p.cores
+  pub chunk : 0 < p.chunk
+  pub buffer : 0 < p.buffer
+  pub window : 0 < p.window
+
+and_first : (a b : Bool) → (a && b) ≡ true → a ≡ true
+and_first true b e = refl
+and_first false b e = e
+
+taken : (b : Bool) (k n : ℕ) → (if b then Some k else None) ≡ Some n → (b ≡ true) × (k ≡ n)
+taken true k n e = (refl, same_Some k n e)
+taken false k n e = absurd (none-some n e)
+
+limited_low : (low high : ℕ) (z : ℤ) (n : ℕ) → limited low high z ≡ Some n → low ≤ n
+limited_low low high (pos k) n e =
+    let t = taken (nat_le low k && nat_le k high) k n e in
+    subst (λ (x : ℕ). low ≤ x) t.1 (leb-true low k (and_first (nat_le low k) (nat_le k high) t.0))
+limited_low low high (negsuc k) n e = absurd (none-some n e)
+
+record AreLeast (s : Sizes) : Type 0 where
+  cores : 1 ≤ s.cores
+  chunk : 16 ≤ s.chunk
+  buffer : 1 ≤ s.buffer
+  window : 1 ≤ s.window
+
+sizes_least : (en : Entries) (s : Sizes) → sizes_in en ≡ Some s → AreLeast s
+sizes_least en s e =
+    let cores = then_some (limited 1 8 en.top.cores) _ s (if_some (has_good_spheres en.spheres) (sizes_of en.top) s e) in
+    let chunk = then_some (limited 16 4096 en.top.chunk) _ s cores.2 in
+    let buffer = then_some (limited 1 4096 en.top.buffer) _ s chunk.2 in
+    let window = then_some (limited 1 8 en.top.window) _ s buffer.2 in
+    let signature = then_some (signature_of en.top.signature) _ s window.2 in
+    let seed = then_some (limited 0 9223372036854775807 (unwrap_or en.top.seed (pos 0))) _ s signature.2 in
+    let events = then_some (if_there (limited 0 16777216) en.top.events) _ s seed.2 in
+    subst AreLeast (same_Some _ s events.2) (record {
+      cores = limited_low 1 8 en.top.cores cores.0 cores.1;
+      chunk = limited_low 16 4096 en.top.chunk chunk.0 chunk.1;
+      buffer = limited_low 1 4096 en.top.buffer buffer.0 buffer.1;
+      window = limited_low 1 8 en.top.window window.0 window.1;
+    })
+
+same_ok : {A : Type 0} (a b : A) → ◌≡◌ {A = Result A ℕ} (Ok a) (Ok b) → a ≡ b
+same_ok a b e = cc
+
+named_same : (b : Bool) (q p : PlanValues) → ◌≡◌ {A = Result PlanValues ℕ} (if b then Ok q else Err 7) (Ok p) → q ≡ p
+named_same true q p e = cc
+named_same false q p e = absurd cc
+
+values_sized : (en : Entries) (p : PlanValues) → values_in en ≡ Ok p → IsSized p
+values_sized en p e =
+    let sizes = then_ok (ok_or (sizes_in en) 4) _ p e in
+    let schedule = then_ok (ok_or (schedule_of sizes.0.events en.top.script) 5) _ p sizes.2 in
+    let spheres = then_ok (ok_or (each_of sphere_asked en.spheres) 6) _ p schedule.2 in
+    let least = sizes_least en sizes.0 (some_ok (sizes_in en) 4 sizes.0 sizes.1) in
+    subst IsSized (same_ok (values_of en.top sizes.0 schedule.0 spheres.0) p spheres.2) (record {
+      cores = let l = least.cores in omega (arith, l);
+      chunk = let l = least.chunk in omega (arith, l);
+      buffer = let l = least.buffer in omega (arith, l);
+      window = let l = least.window in omega (arith, l);
+    })
+
+pub plan_sized : (name bytes : List ℕ) (p : PlanValues) → plan_of name bytes ≡ Ok p → IsSized p
+unfolding plan_of
+plan_sized name bytes p e =
+    let values = then_ok (ok_or (document bytes) 1 >> entries_in >> values_in) (named_well name) p e in
+    let entries = then_ok (ok_or (document bytes) 1 >> entries_in) values_in values.0 values.1 in
+    subst IsSized (named_same (has_good_names name values.0) values.0 p values.2) (values_sized entries.0 values.0 entries.2)
