@@ -31,26 +31,26 @@ role_sized i (ReplayRead bytes) log e =
     let same = same_log p.0 log (same_role (IsReplayed p.0) (IsReplayed log) p.2) in
     subst (λ (l : LogParts). 0 < l.s) same (log_sized bytes p.0 (not_refused (bad_log i) (read_of bytes) p.0 p.1))
 
-no_spheres : (i : ℕ) (xs : List SphereSetup) (x : SphereSetup) → ◌≡◌ {A = Result (List SphereSetup) Refused} (Ok []) (Ok xs) → slice_get xs i ≡ Some x → [] ≡ xs
-no_spheres i xs x e at = cc
+same_spheres : (ys xs : List SphereSetup) → ◌≡◌ {A = Result (List SphereSetup) Refused} (Ok ys) (Ok xs) → ys ≡ xs
+same_spheres ys xs e = cc
 
 spheres_sized : (k i : ℕ) (ss : List SphereRead) (images : List Image) (xs : List SphereSetup) (x : SphereSetup) (log : LogParts) → spheres_of k ss images ≡ Ok xs → slice_get xs i ≡ Some x → x.role ≡ IsReplayed log → 0 < log.s
 spheres_sized k i [] images xs x log made at is =
-    absurd (none-some x (ap (λ (ys : List SphereSetup). slice_get ys i) (no_spheres i xs x made at) ∙ at))
+    absurd (none-some x (ap (λ (ys : List SphereSetup). slice_get ys i) (same_spheres [] xs made) ∙ at))
 spheres_sized k i (s ∷ ss) [] xs x log made at is =
-    absurd (none-some x (ap (λ (ys : List SphereSetup). slice_get ys i) (no_spheres i xs x made at) ∙ at))
+    absurd (none-some x (ap (λ (ys : List SphereSetup). slice_get ys i) (same_spheres [] xs made) ∙ at))
 spheres_sized k zero (s ∷ ss) (image ∷ images) xs x log made at is =
     let here = then_ok (role_of k s.role) _ xs made in
     let rest = then_ok (spheres_of (suc k) ss images) _ xs here.2 in
     let first : SphereSetup = record { memory = image.bytes; entry = image.entry; role = here.0 } in
-    let all : first ∷ rest.0 ≡ xs = cc in
+    let all = same_spheres (first ∷ rest.0) xs rest.2 in
     let same = same_Some first x (ap (λ (ys : List SphereSetup). slice_get ys 0) all ∙ at) in
     role_sized k s.role log (here.1 ∙ ap Ok (ap (λ (y : SphereSetup). y.role) same ∙ is))
 spheres_sized k (suc i) (s ∷ ss) (image ∷ images) xs x log made at is =
     let here = then_ok (role_of k s.role) _ xs made in
     let rest = then_ok (spheres_of (suc k) ss images) _ xs here.2 in
     let first : SphereSetup = record { memory = image.bytes; entry = image.entry; role = here.0 } in
-    let all : first ∷ rest.0 ≡ xs = cc in
+    let all = same_spheres (first ∷ rest.0) xs rest.2 in
     spheres_sized (suc k) i ss images rest.0 x log rest.1 (ap (λ (ys : List SphereSetup). slice_get ys (suc i)) all ∙ at) is
 
 pub task_can_finish : (words : List (List ℕ)) (m : Contents) (t : Task) → IsTask words m t → CanFinish (setup_in t)
