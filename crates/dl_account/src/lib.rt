@@ -17,3 +17,4 @@ pub use dl_mem::Memory;
 pub use dl_thread::Threads;
 pub use report::report_text;
 pub use summary::summary_text;
+pub use text::Text;

@@ -1,4 +1,4 @@
-//! A text that is being written, seen as the bytes so far. What is there after a want of memory is of no use.
+//! A text that is being written.
 ghost use Rattle.std.specs.Prelude.{◌≡◌, ◌<◌, [], ◌∷◌, ◌++◌, true, decimal, OnOk};
 ghost use Rattle.std.specs.Fmt.{digit_glyph};
 ghost use Rattle.dl_account.specs.Lines.{spaced, hex_byte, hex_bytes, hex_word};
@@ -7,8 +7,9 @@ use dl_entry::OutOfMemory;
 use std::alloc::Global;
 use std::marker::Model;
 
+/// A text that grows at its end, seen as its bytes. After a want of memory it may have a part of what was put.
 #[derive(Drop)]
-pub(crate) struct Text {
+pub struct Text {
     bytes: Vec<u8>,
 }
 
@@ -21,8 +22,8 @@ impl Model for Text {
 }
 
 impl Text {
-    // A text with nothing in it.
-    pub(crate) fn new(alloc: Global) -> Text
+    /// A text with nothing in it.
+    pub fn new(alloc: Global) -> Text
         ensures { result ≡ [] }
     {
         Text {
@@ -30,63 +31,63 @@ impl Text {
         }
     }
 
-    // The text as it is.
-    pub(crate) fn into_bytes(self) -> Vec<u8>
+    /// The text as it is.
+    pub fn into_bytes(self) -> Vec<u8>
         ensures { result.items ≡ self }
     {
         let Text { bytes } = self;
         bytes
     }
 
-    // These bytes as they are: a line's name, or a line feed.
-    pub(crate) fn put(&mut self, bytes: &[u8]) -> Result<(), OutOfMemory>
+    /// These bytes as they are: a line's name, or a line feed.
+    pub fn put(&mut self, bytes: &[u8]) -> Result<(), OutOfMemory>
         ensures { OnOk result (self.new ≡ self.old ++ bytes.now) }
     {
         self.bytes.extend_from_slice(bytes)?;
         Ok(())
     }
 
-    // A field that is a word.
-    pub(crate) fn put_word(&mut self, word: &[u8]) -> Result<(), OutOfMemory>
+    /// A field that is a word.
+    pub fn put_word(&mut self, word: &[u8]) -> Result<(), OutOfMemory>
         ensures { OnOk result (self.new ≡ self.old ++ spaced word.now) }
     {
         self.put_byte(b' ')?;
         self.put(word)
     }
 
-    // A field that is a number.
-    pub(crate) fn put_number(&mut self, n: u64) -> Result<(), OutOfMemory>
+    /// A field that is a number.
+    pub fn put_number(&mut self, n: u64) -> Result<(), OutOfMemory>
         ensures { OnOk result (self.new ≡ self.old ++ spaced (decimal n)) }
     {
         self.put_large_number(u128::from(n))
     }
 
-    // A field that is a number past 64 bits.
-    pub(crate) fn put_large_number(&mut self, n: u128) -> Result<(), OutOfMemory>
+    /// A field that is a number past 64 bits.
+    pub fn put_large_number(&mut self, n: u128) -> Result<(), OutOfMemory>
         ensures { OnOk result (self.new ≡ self.old ++ spaced (decimal n)) }
     {
         self.put_byte(b' ')?;
         self.put_digits(n)
     }
 
-    // Two fields: a word, and a number of what it names.
-    pub(crate) fn put_count(&mut self, word: &[u8], n: u32) -> Result<(), OutOfMemory>
+    /// Two fields: a word, and a number of what it names.
+    pub fn put_count(&mut self, word: &[u8], n: u32) -> Result<(), OutOfMemory>
         ensures { OnOk result (self.new ≡ self.old ++ spaced word.now ++ spaced (decimal n)) }
     {
         self.put_word(word)?;
         self.put_number(u64::from(n))
     }
 
-    // A field that is an address or a register.
+    /// A field that is an address or a register.
     #[tactic(auto, unfolding(crate::specs::Lines::hex_word))]
-    pub(crate) fn put_hex_word(&mut self, word: u32) -> Result<(), OutOfMemory>
+    pub fn put_hex_word(&mut self, word: u32) -> Result<(), OutOfMemory>
         ensures { OnOk result (self.new ≡ self.old ++ spaced (hex_word word)) }
     {
         self.put_hex_bytes(&word.to_be_bytes())
     }
 
-    // A field that is bytes.
-    pub(crate) fn put_hex_bytes(&mut self, bytes: &[u8]) -> Result<(), OutOfMemory>
+    /// A field that is bytes.
+    pub fn put_hex_bytes(&mut self, bytes: &[u8]) -> Result<(), OutOfMemory>
         ensures { OnOk result (self.new ≡ self.old ++ spaced (hex_bytes bytes.now)) }
     {
         self.put_byte(b' ')?;
@@ -96,8 +97,8 @@ impl Text {
         Ok(())
     }
 
-    // The decimal digits of a number: those before the last one, and that.
-    pub(crate) fn put_digits(&mut self, n: u128) -> Result<(), OutOfMemory>
+    /// The decimal digits of a number: those before the last one, and that.
+    pub fn put_digits(&mut self, n: u128) -> Result<(), OutOfMemory>
         ensures { OnOk result (self.new ≡ self.old ++ decimal n) }
     {
         if n >= 10 {

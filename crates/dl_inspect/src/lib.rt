@@ -1,0 +1,13 @@
+//! A log as text, for a reader: its mode and counts, and a line for each entry.
+#![tactic(auto)]
+
+mod entry;
+mod inspect;
+mod order;
+mod sizes;
+#[cfg(test)]
+mod tests;
+
+pub use dl_entry::OutOfMemory;
+pub use inspect::inspect_text;
+pub use spec_log::Log;
