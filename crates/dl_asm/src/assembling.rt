@@ -4,7 +4,7 @@ ghost use Rattle.dl_asm.specs.Promise.{Assembles, Refuses};
 
 use crate::code::code;
 use crate::error::AsmError;
-use crate::file::file;
+use crate::file::image_file;
 use crate::labels::labels_of;
 use std::alloc::Global;
 
@@ -21,7 +21,7 @@ pub fn assemble(alloc: Global, source: &[u8]) -> Result<Vec<u8>, AsmError>
         Ok(words) => words,
         Err(error) => return Err(error),
     };
-    match file(alloc, &words) {
+    match image_file(alloc, &words) {
         Ok(file) => Ok(file),
         Err(_) => Err(AsmError::OutOfMemory),
     }

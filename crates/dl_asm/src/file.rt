@@ -17,7 +17,7 @@ const FRONT: [u8; 68] = [
 const ALLOWED: [u8; 8] = [7, 0, 0, 0, 4, 0, 0, 0];
 
 /// The file whose image is the words from address 0 on.
-pub fn file(alloc: Global, words: &[u32]) -> Result<Vec<u8>, AllocError>
+pub fn image_file(alloc: Global, words: &[u32]) -> Result<Vec<u8>, AllocError>
     requires { length words.now ≤ 4194304 }
     ensures bytes { IfOk result (λ file. file.items ≡ file_of words.now) }
     ensures loaded { IfOk result (λ file. (size : ℕ) → IsSize size → length (code_of words.now) ≤ size

@@ -24,3 +24,4 @@ mod value;
 
 pub use assembling::assemble;
 pub use error::{AsmError, Rule};
+pub use file::image_file;

@@ -1,0 +1,11 @@
+//! Generated images: for each number the file of a program whose threads all store to one word.
+#![tactic(auto)]
+
+mod image;
+mod instruction;
+mod program;
+#[cfg(test)]
+mod tests;
+
+pub use dl_entry::OutOfMemory;
+pub use image::make;
