@@ -15,7 +15,7 @@ use Rattle.delorean.specs.declared.inputs.SphereInputs.{SphereInputs}
 use Rattle.delorean.specs.declared.job.Job.{Job}
 use Rattle.delorean.specs.Halts.{Refuses}
 use Rattle.delorean.specs.Inputs.{image_in, role_view, sphere_view}
-use Rattle.delorean.specs.Jobs.{IsRunOf, IsJobOf}
+use Rattle.delorean.specs.Jobs.{IsRunOf, IsTaskJob}
 use Rattle.delorean.proofs.Stages.{after, one_more, none_made}
 use Rattle.delorean.proofs.Stopping.{ok_then, refuses_in}
 
@@ -55,7 +55,7 @@ role_refused inputs i d first now h inside there is refuses =
 -- the task, whose run comes to the job
 pub job_is : (p : PlanValues) (r : PlanRead) (images : List Image) (spheres : List protocol.SphereSetup) (es : List Event) (s : protocol.Setup) (job : Job)
     → images_of 0 r.spheres ≡ Ok images → spheres_of 0 r.spheres images ≡ Ok spheres → events_of p.seed r.schedule ≡ Ok es → s ≡ setup_of p r.input spheres → IsRunOf p s es job
-    → IsJobOf (task_read p r) job
+    → IsTaskJob (task_read p r) job
 job_is p r images spheres es s job are made events same run = (
   record { plan = p; read = r; spheres = spheres; events = es },
   ok_then (images_of 0 r.spheres) _ images are ∙ ok_then (spheres_of 0 r.spheres images) _ spheres made ∙ ok_then (events_of p.seed r.schedule) _ es events,

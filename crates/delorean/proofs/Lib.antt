@@ -3,6 +3,9 @@ mod Stages
 mod Stopping
 mod Storing
 mod Finishing
-mod Making
+mod Planned
 mod Spheres
 mod Building
+mod Assembled
+mod Filing
+mod Walks

@@ -18,6 +18,7 @@ Said diverged text old new from to Status.Plan = ⊥
 Said diverged text old new from to Status.Image = ⊥
 Said diverged text old new from to Status.Grammar = ⊥
 Said diverged text old new from to Status.Fault = ⊥
+Said diverged text old new from to Status.Source = ⊥
 Said diverged text old new from to Status.Absent = ⊥
 
 -- it is said, whole where the sink's count did not rise

@@ -3,6 +3,7 @@
 use Rattle.std.specs.Prelude.{◌≡◌, ◌≢◌, ◌↔◌, ◌⊎◌, ℕ, List, Option, Some, None, Result, Err}
 use Rattle.dl_files.specs.Contents.{Contents, IsLast}
 use Rattle.dl_files.specs.Count.{Rose}
+use Rattle.dl_words.specs.Commands.{CommandValues}
 use Rattle.spec_program.specs.declared.status.Refusal.{Refusal}
 use Rattle.spec_program.specs.Ends.{IsReadNext}
 use Rattle.spec_program.specs.Lines.{usage_line, absent_line, fault_line}
@@ -45,7 +46,7 @@ Refuses stage (Halt.Fault text) = ⊥
 Refuses stage Halt.OutOfMemory = Unit {0}
 
 -- words that mean no command, and no others, are refused as usage, with its line; a want of memory may come first
-abbrev pub IsUsage : (command : Option (List ℕ)) → Halt → Type 0
+abbrev pub IsUsage : (command : Option CommandValues) → Halt → Type 0
 IsUsage command (Halt.Refused why text) = ((why ≡ Refusal.Usage) ↔ (command ≡ None)) × (why ≡ Refusal.Usage → text.items ≡ usage_line)
 IsUsage command (Halt.Fault text) = command ≢ None
 IsUsage command Halt.OutOfMemory = Unit {0}

@@ -6,9 +6,10 @@ use Rattle.spec_protocol.specs.Machine.{Setup}
 use Rattle.spec_protocol.specs.Sound.{IsWithinLimits}
 use Rattle.spec_run.specs.Runs.{diverges}
 use Rattle.spec_run.specs.Texts.{summary_text}
-use Rattle.spec_program.specs.Outcomes.{writes_for}
+use Rattle.spec_program.specs.Outcomes.{Finishes, outcome_for, writes_for}
 use Rattle.spec_program.specs.Stages.{Refused}
 use Rattle.spec_program.specs.Tasks.{Task, setup_in}
+use Rattle.spec_program.specs.Works.{Work, IsWithin}
 use Rattle.spec_program.specs.Writes.{Write}
 use Rattle.delorean.specs.declared.job.Job.{Job}
 use Rattle.delorean.specs.declared.writing.NamedBytes.{NamedBytes}
@@ -27,5 +28,14 @@ pub record IsRunOf (p : PlanValues) (s : Setup) (es : List Event) (job : Job) : 
   pub diverged : job.diverged ≡ diverges s.spheres
 
 -- there is a task, and this is what its run comes to
-abbrev pub IsJobOf : Result Task Refused → Job → Type 0
-IsJobOf task job = (t : Task) × (task ≡ Ok t) × IsRunOf t.plan (setup_in t) t.events job
+abbrev pub IsTaskJob : Result Task Refused → Job → Type 0
+IsTaskJob task job = (t : Task) × (task ≡ Ok t) × IsRunOf t.plan (setup_in t) t.events job
+
+-- what a command is to do is computed: what its outcome writes and says, and it is within the limits
+pub record IsJob (work : Work) (job : Job) : Type 0 where
+  pub within : IsWithin work
+  pub outcome : outcome_for work ≡ Finishes job.diverged (writes_of job.writes.items) job.text.items
+
+-- there is something to do, and this is what it comes to
+abbrev pub IsJobOf : Result Work Refused → Job → Type 0
+IsJobOf work job = (w : Work) × (work ≡ Ok w) × IsJob w job

@@ -6,3 +6,4 @@ pub mod Stops
 pub mod Products
 pub mod Ended
 pub mod Performed
+pub mod Walks

@@ -7,7 +7,7 @@ ghost use Rattle.spec_program.specs.Built.{setup_of};
 ghost use Rattle.spec_program.specs.Tasks.{task_read};
 ghost use Rattle.delorean.specs.Halts.{Refuses};
 ghost use Rattle.delorean.specs.Inputs.{AreOf, inputs_view};
-ghost use Rattle.delorean.specs.Jobs.{IsJobOf};
+ghost use Rattle.delorean.specs.Jobs.{IsTaskJob};
 
 use crate::events::read_events;
 use crate::halt::Halt;
@@ -26,7 +26,7 @@ use std::alloc::Global;
 pub fn compute(alloc: Global, plan: &Plan, inputs: Inputs) -> Result<Job, Halt>
     requires plan { IsPlan (plan_view plan.now) }
     requires inputs { AreOf (plan_view plan.now) (inputs_view inputs) }
-    ensures job { IfOk result (IsJobOf (task_read (plan_view plan.now) (inputs_view inputs))) }
+    ensures job { IfOk result (IsTaskJob (task_read (plan_view plan.now) (inputs_view inputs))) }
     ensures halt { IfErr result (Refuses (task_read (plan_view plan.now) (inputs_view inputs))) }
 {
     let mut spheres = match load_spheres(alloc, &inputs.spheres) {

@@ -63,6 +63,7 @@ fn status_of(why: Refusal) -> Status
         Refusal::Plan => Status::Plan,
         Refusal::Image => Status::Image,
         Refusal::Grammar => Status::Grammar,
+        Refusal::Source => Status::Source,
         Refusal::Absent => Status::Absent,
     }
 }

@@ -1,14 +1,16 @@
 //! The images of a plan's spheres.
 ghost use Rattle.std.specs.Prelude.{◌≡◌, Ok, IfOk, IfErr, length, map};
 ghost use Rattle.dl_plan.specs.Values.{IsMemory};
-ghost use Rattle.spec_program.specs.Built.{image_read, images_of};
+ghost use Rattle.dl_elf.specs.Loading.{image_of};
+ghost use Rattle.spec_program.specs.Built.{bad_image, image_read, images_of};
+ghost use Rattle.spec_program.specs.Stages.{refusing};
 ghost use Rattle.delorean.specs.Halts.{Refuses};
 ghost use Rattle.delorean.specs.Inputs.{HaveMemories, image_in, sphere_view};
 
 use crate::halt::Halt;
 use crate::inputs::SphereInputs;
 use crate::lines::image_line;
-use dl_elf::{ElfError, load};
+use dl_elf::{ElfError, Image, load};
 use dl_sphere::{Role, SphereSetup};
 use spec_program::status::Refusal;
 use std::alloc::Global;
@@ -40,11 +42,23 @@ fn load_sphere(alloc: Global, number: usize, input: &SphereInputs) -> Result<Sph
     ensures image { IfOk result (λ s. image_read number (sphere_view input.now) ≡ Ok (image_in s)) }
     ensures halt { IfErr result (Refuses (image_read number (sphere_view input.now))) }
 {
-    match load(alloc, &input.image, input.memory) {
+    match load_image(alloc, number, &input.image, input.memory) {
         Ok(image) => Ok(SphereSetup {
             image,
             role: Role::Plain,
         }),
+        Err(halt) => Err(halt),
+    }
+}
+
+/// The image of the sphere of that number, in a memory of that size; the first rule that the file breaks is refused.
+pub fn load_image(alloc: Global, number: usize, file: &[u8], memory: u32) -> Result<Image, Halt>
+    requires { IsMemory memory }
+    ensures image { IfOk result (λ image. refusing (bad_image number) (image_of file.now memory) ≡ Ok image) }
+    ensures halt { IfErr result (Refuses (refusing (bad_image number) (image_of file.now memory))) }
+{
+    match load(alloc, file, memory) {
+        Ok(image) => Ok(image),
         Err(ElfError::Refused(rule)) => Err(Halt::Refused(
             Refusal::Image,
             image_line(alloc, number, rule)?,

@@ -1,10 +1,48 @@
 //! What a command is to write and to say, once it is computed.
-use crate::writing::NamedBytes;
+ghost use Rattle.std.specs.Prelude.{◌≡◌, ◌∷◌, [], false, IfOk};
+ghost use Rattle.delorean.specs.Jobs.{writes_of};
 
-/// The files to be written, in their order, the text for the sink, and whether a replayed sphere diverged.
+use crate::writing::NamedBytes;
+use dl_entry::OutOfMemory;
+use std::alloc::Global;
+
+/// The files to be written, in their order, the text for the sink, and whether a replayed log diverged.
 #[derive(Drop)]
 pub struct Job {
     pub writes: Vec<NamedBytes>,
     pub text: Vec<u8>,
     pub diverged: bool,
+}
+
+/// A text is said, and no file is written.
+pub fn said(alloc: Global, text: Vec<u8>, diverged: bool) -> Job
+    ensures writes { result.writes.items ≡ [] }
+    ensures text { result.text.items ≡ text.items }
+    ensures diverged { result.diverged ≡ diverged }
+{
+    Job {
+        writes: Vec::new(alloc),
+        text,
+        diverged,
+    }
+}
+
+/// One file is written, and then a text said.
+pub fn written(alloc: Global, name: &str, bytes: Vec<u8>, text: Vec<u8>) -> Result<Job, OutOfMemory>
+    ensures writes { IfOk result (λ job. writes_of job.writes.items
+        ≡ record { name = name.now; bytes = bytes.items } ∷ []) }
+    ensures text { IfOk result (λ job. job.text.items ≡ text.items) }
+    ensures diverged { IfOk result (λ job. job.diverged ≡ false) }
+{
+    let mut writes = Vec::new(alloc);
+    let name = String::from_str(alloc, name)?;
+    match writes.push(NamedBytes { name, bytes }) {
+        Ok(()) => {}
+        Err(_) => return Err(OutOfMemory),
+    }
+    Ok(Job {
+        writes,
+        text,
+        diverged: false,
+    })
 }

@@ -1,6 +1,6 @@
 //! The lines that say why a command stops.
 ghost use Rattle.std.specs.Prelude.{◌≡◌, IfOk};
-ghost use Rattle.spec_program.specs.Lines.{usage_line as usage_text, plan_line as plan_text, image_line as image_text, log_line as log_text, script_line as script_text, absent_line as absent_text, fault_line as fault_text};
+ghost use Rattle.spec_program.specs.Lines.{usage_line as usage_text, plan_line as plan_text, image_line as image_text, log_line as log_text, script_line as script_text, source_line as source_text, absent_line as absent_text, fault_line as fault_text, made_line as made_text, assembled_line as assembled_text};
 
 use std::alloc::{AllocError, Global};
 
@@ -39,6 +39,12 @@ pub fn script_line(alloc: Global, number: u64) -> Result<Vec<u8>, AllocError>
     Ok(format!(in alloc; "refused script {number}\n")?.into_bytes())
 }
 
+pub fn source_line(alloc: Global, number: u64, rule: u8) -> Result<Vec<u8>, AllocError>
+    ensures { IfOk result (λ line. line.items ≡ source_text number rule) }
+{
+    Ok(format!(in alloc; "refused source {number} {rule}\n")?.into_bytes())
+}
+
 pub fn absent_line(alloc: Global, name: &str) -> Result<Vec<u8>, AllocError>
     ensures { IfOk result (λ line. line.items ≡ absent_text name.now) }
 {
@@ -49,4 +55,16 @@ pub fn fault_line(alloc: Global, name: &str) -> Result<Vec<u8>, AllocError>
     ensures { IfOk result (λ line. line.items ≡ fault_text name.now) }
 {
     Ok(format!(in alloc; "fault {name}\n")?.into_bytes())
+}
+
+pub fn made_line(alloc: Global, bytes: usize) -> Result<Vec<u8>, AllocError>
+    ensures { IfOk result (λ line. line.items ≡ made_text bytes) }
+{
+    Ok(format!(in alloc; "made {bytes}\n")?.into_bytes())
+}
+
+pub fn assembled_line(alloc: Global, bytes: usize) -> Result<Vec<u8>, AllocError>
+    ensures { IfOk result (λ line. line.items ≡ assembled_text bytes) }
+{
+    Ok(format!(in alloc; "assembled {bytes}\n")?.into_bytes())
 }

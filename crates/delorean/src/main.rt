@@ -1,16 +1,20 @@
 //! The program: it hands its words, the real files and the standard output to `delorean`, and ends with its status.
 #![tactic(auto)]
 
-mod command;
+mod assembling;
 mod computing;
+mod drilling;
 mod ending;
 mod events;
 mod gathering;
 mod halt;
 mod images;
 mod inputs;
+mod inspecting;
 mod job;
 mod lines;
+mod logs;
+mod making;
 mod planning;
 mod preparing;
 mod reading;
@@ -20,6 +24,7 @@ mod telling;
 #[cfg(test)]
 mod tests;
 mod top;
+mod walking;
 mod writing;
 mod written;
 

@@ -7,11 +7,10 @@ ghost use Rattle.delorean.specs.Inputs.{image_in, role_view, sphere_view};
 
 use crate::halt::Halt;
 use crate::inputs::{RoleInputs, SphereInputs};
-use crate::lines::log_line;
-use dl_logfmt::{LogError, ModeName, read_log};
+use crate::logs::load_log;
+use dl_logfmt::ModeName;
 use dl_plan::Mode;
 use dl_sphere::{Role, SphereSetup};
-use spec_program::status::Refusal;
 use std::alloc::Global;
 
 /// Gives each sphere its role; the first log that has a bad field is refused.
@@ -43,13 +42,9 @@ fn read_role(alloc: Global, sphere: usize, role: &RoleInputs) -> Result<Role, Ha
     match role {
         RoleInputs::Plain => Ok(Role::Plain),
         RoleInputs::Record(mode) => Ok(Role::Record(mode_named(*mode))),
-        RoleInputs::Replay(bytes) => match read_log(alloc, bytes) {
+        RoleInputs::Replay(bytes) => match load_log(alloc, sphere, bytes) {
             Ok(log) => Ok(Role::Replay(log)),
-            Err(LogError::Malformed(number, offset)) => Err(Halt::Refused(
-                Refusal::Grammar,
-                log_line(alloc, sphere, number, offset)?,
-            )),
-            Err(LogError::OutOfMemory) => Err(Halt::OutOfMemory),
+            Err(halt) => Err(halt),
         },
     }
 }

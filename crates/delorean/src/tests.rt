@@ -9,6 +9,7 @@ use std::test::Fail;
 
 mod instructions;
 mod rows;
+mod tools;
 
 const PLAN: &[u8] =
     b"cores = 1\nchunk = 100\nbuffer = 16\nwindow = 2\nsignature = 64\nscript = \"s.txt\"\nreport = \"r.txt\"\n[[sphere]]\nimage = \"a.elf\"\nmemory = 4096\nrole = \"record\"\nmode = \"order-size\"\nlog = \"a.log\"\naccount = \"a.txt\"\n";
@@ -54,6 +55,19 @@ fn holds<F: Files>(rt: &impl Abort, alloc: Global, files: &mut F, name: &str, wa
     match files.read(alloc, name) {
         Ok(bytes) => assert_eq!(rt; bytes.as_slice(), want, "{name}"),
         Err(error) => panic!(rt; "{name}: {error}"),
+    }
+}
+
+fn write_all(files: &mut GoodFiles, read: &[(&str, &[u8])]) -> Result<(), Fail> {
+    for (name, bytes) in read {
+        files.write(name, bytes)?;
+    }
+    Ok(())
+}
+
+fn hold_all(rt: &impl Abort, alloc: Global, files: &mut GoodFiles, written: &[(&str, &[u8])]) {
+    for (name, want) in written {
+        holds(rt, alloc, files, name, want);
     }
 }
 

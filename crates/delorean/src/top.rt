@@ -3,7 +3,8 @@ ghost use Rattle.std.specs.Prelude.{◌≡◌, ◌⊎◌, ℕ, List, None, Some,
 ghost use Rattle.dl_files.specs.Contents.{Contents, IsLast};
 ghost use Rattle.dl_files.specs.Count.{Rose};
 ghost use Rattle.spec_program.specs.declared.status.Status.{Status};
-ghost use Rattle.spec_program.specs.Commands.{command_of};
+ghost use Rattle.dl_words.specs.Commands.{CommandValues, Run, Drill, command_of};
+ghost use Rattle.spec_program.specs.Done.{IsDone};
 ghost use Rattle.spec_program.specs.Ends.{Stands, Took, TookAll, is_done, is_refusal, is_of_files, is_of_sink, reads_of, status_in, text_in};
 ghost use Rattle.spec_program.specs.Headline.{Headline};
 ghost use Rattle.spec_program.specs.Lines.{fault_line as fault_text, usage_line as usage_text};
@@ -25,16 +26,29 @@ use std::alloc::Global;
 /// Does what the words ask for, over the files and the sink, and answers how that ended.
 ///
 /// `run PLAN` runs the machine of the plan: it writes the logs, the accounts, the console and the report that the plan names,
-/// and puts the summary into the sink.
+/// and puts the summary into the sink. `inspect LOG` puts the log as text, and `walk IMAGE MEMORY LOG` the account of the
+/// log's play on the image. `make NUMBER NAME` writes a generated image, and `drill NUMBER` records and replays one in memory.
+/// `asm SOURCE NAME` writes the image of a source.
 pub fn delorean<F: Files, O: Sink>(
     alloc: Global,
     words: &[&str],
     files: &mut F,
     out: &mut O,
 ) -> Status
-    // What 0 and 1 say.
-    ensures headline { (m : Contents) → F.told files.old ≡ Some m → is_done result ≡ true
-        → Headline (texts words.now) m (F.told files.new) (O.taken out.old) (O.taken out.new) result }
+    // What 0 and 1 say of a run.
+    ensures headline { (plan : List ℕ) (m : Contents)
+        → command_of (texts words.now) ≡ Some (Run plan) → F.told files.old ≡ Some m → is_done result ≡ true
+        → Headline plan m (F.told files.new) (O.taken out.old) (O.taken out.new) result }
+
+    // What they say of each command, of `inspect`, `walk`, `make`, `drill` and `asm` too.
+    ensures done { (command : CommandValues) (m : Contents)
+        → command_of (texts words.now) ≡ Some command → F.told files.old ≡ Some m → is_done result ≡ true
+        → IsDone command m (F.told files.new) (O.taken out.old) (O.taken out.new) result }
+
+    // A drill is done, for every number, but where memory or the sink is wanting.
+    ensures drill { (number : ℕ) (m : Contents)
+        → command_of (texts words.now) ≡ Some (Drill number) → F.told files.old ≡ Some m
+        → (result ≡ Status.Done) ⊎ ((result ≡ Status.Sink) ⊎ (result ≡ Status.Memory)) }
 
     // What each answer says.
     ensures stands { (m : Contents) → F.told files.old ≡ Some m
@@ -96,8 +110,9 @@ pub fn delorean_in_memory(
     files: &mut GoodFiles,
     out: &mut GoodSink,
 ) -> Status
-    ensures headline { is_done result ≡ true
-        → Headline (texts words.now) files.old (Some files.new) (Some out.old) (Some out.new) result }
+    ensures done { (command : CommandValues)
+        → command_of (texts words.now) ≡ Some command → is_done result ≡ true
+        → IsDone command files.old (Some files.new) (Some out.old) (Some out.new) result }
     ensures stands { Stands (outcome_of (texts words.now) files.old) (reads_of (texts words.now) files.old) files.old
         (in_memory files.old out.old) (in_memory files.new out.new) result }
     ensures whole { is_refusal result ≡ true

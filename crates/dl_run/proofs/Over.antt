@@ -123,12 +123,15 @@ live-end (Replay b) n e = absurd (true≢false e)
 pub recorded-role : (es : List Event) (r : Ran) (i : ℕ) (mode : ModeName) → IsOver es r → i < length r.setup.spheres → (image_at r.setup i).role ≡ IsRecorded mode → (sphere_at r.world i).role ≡ Record (log_told r.setup es i mode)
 recorded-role es r i mode over inside is = has_role es r i (IsRecorded mode) over inside is
 
-pub log-is : (es : List Event) (r : Ran) (i : ℕ) (mode : ModeName) (log : LogParts) → IsOver es r → i < length r.setup.spheres → (image_at r.setup i).role ≡ IsRecorded mode → log_in (sphere_at r.world i).role ≡ Some log → log_bytes log ≡ log_text r.setup es i
-unfolding log_text
-log-is es r i mode log over inside is there =
+pub log-told : (es : List Event) (r : Ran) (i : ℕ) (mode : ModeName) (log : LogParts) → IsOver es r → i < length r.setup.spheres → (image_at r.setup i).role ≡ IsRecorded mode → log_in (sphere_at r.world i).role ≡ Some log → log ≡ log_told r.setup es i mode
+log-told es r i mode log over inside is there =
     let role = recorded-role es r i mode over inside is in
-    let same : log ≡ log_told r.setup es i mode = (let e : Some log ≡ Some (log_told r.setup es i mode) = sym there ∙ ap log_in role in cc) in
-    ap log_bytes same ∙ ap (log_as r.setup es i) (sym is)
+    let e : Some log ≡ Some (log_told r.setup es i mode) = sym there ∙ ap log_in role in
+    cc
+
+pub log-is : (s : Setup) (es : List Event) (i : ℕ) (mode : ModeName) (log : LogParts) → (image_at s i).role ≡ IsRecorded mode → log ≡ log_told s es i mode → log_bytes log ≡ log_text s es i
+unfolding log_text
+log-is s es i mode log is same = ap log_bytes same ∙ ap (log_as s es i) (sym is)
 
 -- a sphere that isn't recorded has none
 pub no-log : (s : Setup) (es : List Event) (i : ℕ) → ((image_at s i).role ≡ IsPlain) ⊎ ((log : LogParts) × ((image_at s i).role ≡ IsReplayed log)) → [] ≡ log_text s es i

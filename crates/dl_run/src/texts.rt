@@ -4,13 +4,13 @@ ghost use Rattle.spec_log.specs.declared.ModeName.{ModeName};
 ghost use Rattle.spec_protocol.specs.declared.event.Event.{Event};
 ghost use Rattle.spec_protocol.specs.Machine.{IsRecorded};
 ghost use Rattle.spec_protocol.specs.Sound.{image_at};
-ghost use Rattle.spec_run.specs.Texts.{account_text as account_of, console_text, log_text, report_text as report_of, summary_text as summary_of};
+ghost use Rattle.spec_run.specs.Texts.{account_text as account_of, console_text, log_told, log_text, report_text as report_of, summary_text as summary_of};
 ghost use Rattle.dl_run.specs.Ran.{IsOver};
 
 use crate::run::Run;
 use dl_account::{account_text, report_text, summary_text};
 use dl_entry::OutOfMemory;
-use dl_logfmt::write_log;
+use dl_logfmt::{Log, write_log};
 use dl_sphere::Role;
 use std::alloc::Global;
 
@@ -33,8 +33,18 @@ impl Run {
         requires recorded { (mode : ModeName) × ((image_at self.now.setup sphere).role ≡ IsRecorded mode) }
         ensures { IfOk result (λ text. (es : List Event) → IsOver es self.now → text.items ≡ log_text self.now.setup es sphere) }
     {
-        let log = self.sphere(sphere).log()?;
+        let log = self.recording(sphere)?;
         write_log(alloc, &log)
+    }
+
+    /// The log of a recorded sphere, as a value.
+    pub fn recording(&self, sphere: usize) -> Result<Log, OutOfMemory>
+        requires inside { sphere < length self.now.setup.spheres }
+        requires recorded { (mode : ModeName) × ((image_at self.now.setup sphere).role ≡ IsRecorded mode) }
+        ensures { IfOk result (λ log. (es : List Event) (mode : ModeName) → IsOver es self.now
+            → (image_at self.now.setup sphere).role ≡ IsRecorded mode → log ≡ log_told self.now.setup es sphere mode) }
+    {
+        self.sphere(sphere).log()
     }
 
     /// The account of a sphere.

@@ -53,9 +53,9 @@ spheres_sized k (suc i) (s ∷ ss) (image ∷ images) xs x log made at is =
     let all = same_spheres (first ∷ rest.0) xs rest.2 in
     spheres_sized (suc k) i ss images rest.0 x log rest.1 (ap (λ (ys : List SphereSetup). slice_get ys (suc i)) all ∙ at) is
 
-pub task_can_finish : (words : List (List ℕ)) (m : Contents) (t : Task) → IsTask words m t → CanFinish (setup_in t)
-task_can_finish words m t is =
-    let built = task_built words m t is in
+pub task_can_finish : (plan : List ℕ) (m : Contents) (t : Task) → IsTask plan m t → CanFinish (setup_in t)
+task_can_finish plan m t is =
+    let built = task_built plan m t is in
     let sized = plan_sized built.name built.bytes t.plan built.planned in
     record {
       setup = record { chunk = sized.chunk; buffer = sized.buffer };

@@ -37,9 +37,9 @@ replayed log s x role made = replayed_by 0 (read_of log) x.role (ap (role_of 0) 
 
 pub accounts_agree : AccountsAgree
 unfolding account_text
-accounts_agree words others m n t u i j s log is other role at there =
-    let a = sphere_of_task words m t i s is at in
-    let b = sphere_of_task others n u j s other there in
+accounts_agree plan other m n t u i j s log is is_too role at there =
+    let a = sphere_of_task plan m t i s is at in
+    let b = sphere_of_task other n u j s is_too there in
     let image = same_image s s a.setup b.setup refl refl a.made b.made in
     let p = replayed log s a.setup role a.made in
     let q = replayed log s b.setup role b.made in
@@ -55,10 +55,10 @@ accounts_agree words others m n t u i j s log is other role at there =
 
 pub recordings_replayed : RecordingsAreReplayed
 unfolding account_text
-recordings_replayed words others m n t u i j s mode log is other role at there reads =
+recordings_replayed plan other m n t u i j s mode log is is_too role at there reads =
     let r : SphereRead = record s { role = ReplayRead log } in
-    let a = sphere_of_task words m t i s is at in
-    let b = sphere_of_task others n u j r other there in
+    let a = sphere_of_task plan m t i s is at in
+    let b = sphere_of_task other n u j r is_too there in
     let image = same_image s r a.setup b.setup refl refl a.made b.made in
     let told = log_told (setup_in t) t.events i (mode_named mode) in
     let recorded : a.setup.role ≡ IsRecorded (mode_named mode) = sym (same_Ok (IsRecorded (mode_named mode)) a.setup.role (ap (role_of 0) (sym role) ∙ a.made.role)) in
@@ -71,7 +71,7 @@ recordings_replayed words others m n t u i j s mode log is other role at there r
     in
     ap (λ (d : SphereSetup). account_as d x d.role) a.at
     ∙ ap (account_as a.setup x) recorded
-    ∙ sym (recordings_reproduced (setup_in t) t.events i a.setup (mode_named mode) (task_can_finish words m t is) a.there recorded).account
+    ∙ sym (recordings_reproduced (setup_in t) t.events i a.setup (mode_named mode) (task_can_finish plan m t is) a.there recorded).account
     ∙ plays
     ∙ ap (account_as b.setup y) (ap IsReplayed (sym parts) ∙ sym q.2)
     ∙ ap (λ (d : SphereSetup). account_as d y d.role) (sym b.at)

@@ -4,5 +4,6 @@ pub mod LogRead
 pub mod Made
 pub mod Able
 pub mod Finishing
-pub mod Heading
 pub mod Agreeing
+pub mod Drilling
+pub mod Doing

@@ -1,5 +1,5 @@
 -- A sphere of a task's machine is made of what the sphere of that number has read, and of nothing else.
-use Rattle.std.proofs.Common.{◌≡◌, ℕ, zero, suc, List, [], ◌∷◌, Some, Result, Ok, Err, ok_or, refl, sym, ap, ◌∙◌, subst}
+use Rattle.std.proofs.Common.{◌≡◌, ℕ, zero, suc, List, [], ◌∷◌, Some, Result, Ok, Err, refl, sym, ap, ◌∙◌, subst}
 use Rattle.std.specs.Prelude.{slice_get, slice_index_or}
 use Rattle.std.proofs.lemmas.Option.{none-some, same_Some}
 use Rattle.dl_elf.specs.Images.{Image}
@@ -11,10 +11,9 @@ use Rattle.spec_log.specs.Reading.{Fault, read_of}
 use Rattle.spec_protocol.specs.Machine.{RoleSetup, IsReplayed, SphereSetup}
 use Rattle.spec_protocol.specs.Sound.{no_image, image_at}
 use Rattle.spec_program.specs.Built.{bad_image, bad_log, images_of, role_of, spheres_of, events_of}
-use Rattle.spec_program.specs.Commands.{command_of}
 use Rattle.spec_program.specs.Files.{RoleRead, PlainRead, RecordRead, ReplayRead, SphereRead, read_at, plan_read}
 use Rattle.spec_program.specs.Stages.{Refused, refusing, ◌>>◌}
-use Rattle.spec_program.specs.Tasks.{Task, IsTask, setup_in, absent, bad_plan, usage, plan_at, task_read, task_planned, task_named}
+use Rattle.spec_program.specs.Tasks.{Task, IsTask, setup_in, absent, bad_plan, plan_at, task_read, task_planned}
 
 pub then_ok : {A B E : Type 0} (o : Result A E) (f : A → Result B E) (b : B) → (o >> f) ≡ Ok b → (a : A) × (o ≡ Ok a) × (f a ≡ Ok b)
 then_ok (Err x) f b e = absurd cc
@@ -88,11 +87,10 @@ pub record IsBuilt (t : Task) : Type 0 where
   pub are : images_of 0 t.read.spheres ≡ Ok images
   pub spheres : spheres_of 0 t.read.spheres images ≡ Ok t.spheres
 
-pub task_built : (words : List (List ℕ)) (m : Contents) (t : Task) → IsTask words m t → IsBuilt t
-task_built words m t is =
-    let name = then_ok (ok_or (command_of words) usage) (task_named m) t is in
-    let plan = then_ok (plan_at m name.0) (task_planned m) t name.2 in
-    let file = then_ok (refusing absent (read_at m name.0)) _ plan.0 plan.1 in
+pub task_built : (name : List ℕ) (m : Contents) (t : Task) → IsTask name m t → IsBuilt t
+task_built name m t is =
+    let plan = then_ok (plan_at m name) (task_planned m) t is in
+    let file = then_ok (refusing absent (read_at m name)) _ plan.0 plan.1 in
     let read = then_ok (refusing absent (plan_read m plan.0)) (task_read plan.0) t plan.2 in
     let images = then_ok (images_of 0 read.0.spheres) _ t read.2 in
     let spheres = then_ok (spheres_of 0 read.0.spheres images.0) _ t images.2 in
@@ -100,9 +98,9 @@ task_built words m t is =
     let made : Task = record { plan = plan.0; read = read.0; spheres = spheres.0; events = events.0 } in
     let same : made ≡ t = cc in
     subst IsBuilt same (record {
-      name = name.0;
+      name = name;
       bytes = file.0;
-      planned = not_refused bad_plan (plan_of name.0 file.0) plan.0 file.2;
+      planned = not_refused bad_plan (plan_of name file.0) plan.0 file.2;
       images = images.0;
       are = images.1;
       spheres = spheres.1;
@@ -120,8 +118,8 @@ pub record IsSphereOf (t : Task) (i : ℕ) (s : SphereRead) : Type 0 where
   pub at : image_at (setup_in t) i ≡ setup
   pub made : IsMade s setup
 
-pub sphere_of_task : (words : List (List ℕ)) (m : Contents) (t : Task) (i : ℕ) (s : SphereRead) → IsTask words m t → slice_get t.read.spheres i ≡ Some s → IsSphereOf t i s
-sphere_of_task words m t i s is at =
-    let built = task_built words m t is in
+pub sphere_of_task : (name : List ℕ) (m : Contents) (t : Task) (i : ℕ) (s : SphereRead) → IsTask name m t → slice_get t.read.spheres i ≡ Some s → IsSphereOf t i s
+sphere_of_task name m t i s is at =
+    let built = task_built name m t is in
     let x = sphere_made 0 i t.read.spheres built.images t.spheres s built.are built.spheres at in
     record { setup = x.0; there = x.1; at = index_is t.spheres i x.0 x.1; made = x.2 }

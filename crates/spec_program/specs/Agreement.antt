@@ -14,13 +14,13 @@ use Rattle.spec_program.specs.Tasks.{Task, IsTask, setup_in}
 abbrev pub account_in : Task → (i : ℕ) → List ℕ
 account_in t i = product_for (setup_in t) t.events (Product.Account i)
 
--- two tasks that replay a sphere of the same image, memory size and log write equal accounts of it, whatever else their words,
+-- two tasks that replay a sphere of the same image, memory size and log write equal accounts of it, whatever else their
 -- plans and files say
 abbrev pub AccountsAgree : Type 0
 AccountsAgree =
-    (words others : List (List ℕ)) (m n : Contents) (t u : Task) (i j : ℕ) (s : SphereRead) (log : List ℕ)
-    → IsTask words m t
-    → IsTask others n u
+    (plan other : List ℕ) (m n : Contents) (t u : Task) (i j : ℕ) (s : SphereRead) (log : List ℕ)
+    → IsTask plan m t
+    → IsTask other n u
     → s.role ≡ ReplayRead log
     → slice_get t.read.spheres i ≡ Some s
     → slice_get u.read.spheres j ≡ Some s
@@ -30,9 +30,9 @@ AccountsAgree =
 -- write the same account
 abbrev pub RecordingsAreReplayed : Type 0
 RecordingsAreReplayed =
-    (words others : List (List ℕ)) (m n : Contents) (t u : Task) (i j : ℕ) (s : SphereRead) (mode : Mode) (log : List ℕ)
-    → IsTask words m t
-    → IsTask others n u
+    (plan other : List ℕ) (m n : Contents) (t u : Task) (i j : ℕ) (s : SphereRead) (mode : Mode) (log : List ℕ)
+    → IsTask plan m t
+    → IsTask other n u
     → s.role ≡ RecordRead mode
     → slice_get t.read.spheres i ≡ Some s
     → slice_get u.read.spheres j ≡ Some (record s { role = ReplayRead log })

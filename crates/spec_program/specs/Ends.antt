@@ -6,11 +6,11 @@ use Rattle.dl_files.specs.Count.{Rose}
 use Rattle.dl_files.specs.Taken.{with_taken}
 use Rattle.dl_plan.specs.Files.{input_names}
 use Rattle.dl_plan.specs.Values.{PlanValues}
+use Rattle.dl_words.specs.Commands.{CommandValues, Run, Inspect, Walk, Make, Drill, Asm, command_of}
 use Rattle.spec_program.specs.declared.status.Status.{Status}
 use Rattle.spec_program.specs.Statuses.{status_of}
 use Rattle.spec_program.specs.Lines.{fault_line}
 use Rattle.spec_program.specs.Writes.{Write, written}
-use Rattle.spec_program.specs.Commands.{command_of}
 use Rattle.spec_program.specs.Outcomes.{Outcome, Refuses, Finishes}
 use Rattle.spec_program.specs.Outside.{Outside}
 use Rattle.spec_program.specs.Stages.{Refused}
@@ -42,11 +42,19 @@ abbrev pub inputs_of : Result PlanValues Refused → List (List ℕ)
 inputs_of (Err refused) = []
 inputs_of (Ok p) = input_names p
 
-abbrev pub reads_of_command : Contents → Option (List ℕ) → List (List ℕ)
-reads_of_command m None = []
-reads_of_command m (Some name) = name ∷ inputs_of (plan_at m name)
+-- in the order of the work: a plan, and then the names that it has read
+abbrev pub reads_for : Contents → CommandValues → List (List ℕ)
+reads_for m (Run plan) = plan ∷ inputs_of (plan_at m plan)
+reads_for m (Inspect log) = log ∷ []
+reads_for m (Walk image memory log) = image ∷ log ∷ []
+reads_for m (Make number name) = []
+reads_for m (Drill number) = []
+reads_for m (Asm source name) = source ∷ []
 
--- the plan, and the names that it has read, in the order of the work
+abbrev pub reads_of_command : Contents → Option CommandValues → List (List ℕ)
+reads_of_command m None = []
+reads_of_command m (Some command) = reads_for m command
+
 abbrev pub reads_of : (words : List (List ℕ)) → Contents → List (List ℕ)
 reads_of words m = reads_of_command m (command_of words)
 
@@ -123,6 +131,7 @@ Stands o reads m before after Status.Usage = IsRefused o m before after Status.U
 Stands o reads m before after Status.Plan = IsRefused o m before after Status.Plan
 Stands o reads m before after Status.Image = IsRefused o m before after Status.Image
 Stands o reads m before after Status.Grammar = IsRefused o m before after Status.Grammar
+Stands o reads m before after Status.Source = IsRefused o m before after Status.Source
 Stands o reads m before after Status.Absent = IsRefused o m before after Status.Absent
 Stands o reads m before after Status.Fault = (name : List ℕ) × IsFaulted o reads m before after name
 Stands o reads m before after Status.Sink = DoesFinish o × IsUnsaid o m before after
@@ -138,6 +147,7 @@ is_done Status.Usage = false
 is_done Status.Plan = false
 is_done Status.Image = false
 is_done Status.Grammar = false
+is_done Status.Source = false
 is_done Status.Absent = false
 is_done Status.Fault = false
 is_done Status.Sink = false
@@ -149,6 +159,7 @@ is_refusal Status.Usage = true
 is_refusal Status.Plan = true
 is_refusal Status.Image = true
 is_refusal Status.Grammar = true
+is_refusal Status.Source = true
 is_refusal Status.Absent = true
 is_refusal Status.Done = false
 is_refusal Status.Diverged = false
@@ -167,6 +178,7 @@ is_of_files Status.Usage = false
 is_of_files Status.Plan = false
 is_of_files Status.Image = false
 is_of_files Status.Grammar = false
+is_of_files Status.Source = false
 is_of_files Status.Sink = false
 
 -- those that may come where the sink failed: on the text, or on the line of a refusal or of a fault
@@ -178,6 +190,7 @@ is_of_sink Status.Usage = true
 is_of_sink Status.Plan = true
 is_of_sink Status.Image = true
 is_of_sink Status.Grammar = true
+is_of_sink Status.Source = true
 is_of_sink Status.Absent = true
 is_of_sink Status.Fault = true
 is_of_sink Status.Sink = true

@@ -1,4 +1,4 @@
--- The headline. What is done is the task that the words and the files give, and every byte that it leaves is a function of
+-- The headline. What is done is the task that the plan and the files give, and every byte that it leaves is a function of
 -- that task: the machine's commits can be executed whole, one at a time, in the order of its points; the accounts and logs
 -- of plain and recorded spheres, the console, the report and the summary tell that execution; and the account of a replayed
 -- sphere tells the play of its log on its image, and nothing else.
@@ -14,11 +14,11 @@ use Rattle.spec_program.specs.Outcomes.{writes_for}
 use Rattle.spec_program.specs.Tasks.{Task, IsTask, setup_in, points_in}
 use Rattle.spec_program.specs.Writes.{written}
 
--- of a command over files that held m: what the files then tell, what the sink had taken and now has, and the status
-pub record Headline (words : List (List ℕ)) (m : Contents) (told : Option Contents) (old new : Option (List ℕ)) (s : Status) : Type 0 where
-  -- the plan, the files that it has read, its spheres and its schedule are those that the words and the files give
+-- of `run PLAN` over files that held m: what the files then tell, what the sink had taken and now has, and the status
+pub record Headline (plan : List ℕ) (m : Contents) (told : Option Contents) (old new : Option (List ℕ)) (s : Status) : Type 0 where
+  -- the plan, the files that it has read, its spheres and its schedule are those that this plan and the files give
   pub task : Task
-  pub asked : IsTask words m task
+  pub asked : IsTask plan m task
   -- its numbers, images and logs are within the limits of the machine, so that all that is promised of runs is so of it
   pub limits : IsWithinLimits (setup_in task)
   -- each of the machine's points can be done whole, as it says: a chunk runs its instructions, and a serial step is one

@@ -3,12 +3,16 @@ pub mod Lines
 pub mod Stages
 pub mod Files
 pub mod Writes
-pub mod Commands
 pub mod Built
 pub mod Tasks
+pub mod Sources
+pub mod Works
+pub mod Drills
 pub mod Outcomes
 pub mod Outside
 pub mod Ends
 pub mod Headline
+pub mod Done
 pub mod Promise
 pub mod Agreement
+pub mod Drilled

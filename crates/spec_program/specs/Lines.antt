@@ -22,8 +22,19 @@ log_line sphere number offset =
 abbrev pub script_line : (number : ℕ) → List ℕ
 script_line number = line (codes "refused script " ++ decimal number)
 
+-- the first line of a source that breaks a rule, and the first rule that it breaks
+abbrev pub source_line : (number rule : ℕ) → List ℕ
+source_line number rule = line (codes "refused source " ++ decimal number ++ codes " " ++ decimal rule)
+
 abbrev pub absent_line : (name : List ℕ) → List ℕ
 absent_line name = line (codes "absent " ++ name)
 
 abbrev pub fault_line : (name : List ℕ) → List ℕ
 fault_line name = line (codes "fault " ++ name)
+
+-- how many bytes the file has that is written
+abbrev pub made_line : (bytes : ℕ) → List ℕ
+made_line bytes = line (codes "made " ++ decimal bytes)
+
+abbrev pub assembled_line : (bytes : ℕ) → List ℕ
+assembled_line bytes = line (codes "assembled " ++ decimal bytes)

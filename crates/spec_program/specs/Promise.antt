@@ -1,6 +1,7 @@
--- A command has something to do exactly where it has a task, and this is then run.
-use Rattle.std.specs.Prelude.{◌≡◌, ℕ, List}
+-- A command that runs a plan has something to do exactly where the plan has a task, and this is then run.
+use Rattle.std.specs.Prelude.{◌≡◌, ℕ, List, Some}
 use Rattle.dl_files.specs.Contents.{Contents}
+use Rattle.dl_words.specs.Commands.{Run, command_of}
 use Rattle.spec_protocol.specs.Serial.{whole_of, CanDoAll}
 use Rattle.spec_program.specs.Ends.{DoesFinish}
 use Rattle.spec_program.specs.Outcomes.{outcome_of, ran}
@@ -11,9 +12,15 @@ pub record IsRun (words : List (List ℕ)) (m : Contents) (t : Task) : Type 0 wh
   pub outcome : outcome_of words m ≡ ran t.plan (setup_in t) t.events
   pub possible : CanDoAll (whole_of (setup_in t)) (points_in t)
 
--- for all words, and whatever the files hold
+-- for all words that run a plan, and whatever the files hold
 pub record TasksAreRun : Type 0 where
   -- what has a task is run
-  pub run : (words : List (List ℕ)) (m : Contents) (t : Task) → IsTask words m t → IsRun words m t
+  pub run : (words : List (List ℕ)) (m : Contents) (plan : List ℕ) (t : Task)
+      → command_of words ≡ Some (Run plan)
+      → IsTask plan m t
+      → IsRun words m t
   -- what isn't refused has a task
-  pub finishing : (words : List (List ℕ)) (m : Contents) → DoesFinish (outcome_of words m) → (t : Task) × IsTask words m t
+  pub finishing : (words : List (List ℕ)) (m : Contents) (plan : List ℕ)
+      → command_of words ≡ Some (Run plan)
+      → DoesFinish (outcome_of words m)
+      → (t : Task) × IsTask plan m t

@@ -13,6 +13,7 @@ code_of Status.Grammar = 5
 code_of Status.Fault = 6
 code_of Status.Sink = 7
 code_of Status.Memory = 8
+code_of Status.Source = 9
 code_of Status.Absent = 10
 
 abbrev pub status_of : Refusal → Status
@@ -20,4 +21,5 @@ status_of Refusal.Usage = Status.Usage
 status_of Refusal.Plan = Status.Plan
 status_of Refusal.Image = Status.Image
 status_of Refusal.Grammar = Status.Grammar
+status_of Refusal.Source = Status.Source
 status_of Refusal.Absent = Status.Absent

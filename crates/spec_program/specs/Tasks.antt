@@ -1,5 +1,5 @@
--- What a command is to run, as its words and the files say it.
-use Rattle.std.specs.Prelude.{◌≡◌, ℕ, List, Result, Ok, ok_or}
+-- What a plan asks for, as the files say it.
+use Rattle.std.specs.Prelude.{◌≡◌, ℕ, List, Result, Ok}
 use Rattle.dl_entry.specs.declared.Point.{Point}
 use Rattle.dl_files.specs.Contents.{Contents}
 use Rattle.dl_plan.specs.Plans.{plan_of}
@@ -9,9 +9,8 @@ use Rattle.spec_protocol.specs.Machine.{SphereSetup, Setup}
 use Rattle.spec_run.specs.Runs.{points_of}
 use Rattle.spec_program.specs.declared.status.Refusal.{Refusal}
 use Rattle.spec_program.specs.Built.{images_of, spheres_of, events_of, setup_of}
-use Rattle.spec_program.specs.Commands.{command_of}
 use Rattle.spec_program.specs.Files.{PlanRead, read_at, plan_read}
-use Rattle.spec_program.specs.Lines.{usage_line, plan_line, absent_line}
+use Rattle.spec_program.specs.Lines.{plan_line, absent_line}
 use Rattle.spec_program.specs.Stages.{Refused, refusing, ◌>>◌}
 
 -- a plan, the files that it has read, the spheres of its machine, and its schedule
@@ -51,16 +50,10 @@ bad_plan rule = record { why = Refusal.Plan; line = plan_line rule }
 abbrev pub plan_at : Contents → (name : List ℕ) → Result PlanValues Refused
 plan_at m name = refusing absent (read_at m name) >> λ bytes. refusing bad_plan (plan_of name bytes)
 
+-- what the plan in the file of that name asks for over these files, or why that is refused
 abbrev pub task_named : Contents → (name : List ℕ) → Result Task Refused
 task_named m name = plan_at m name >> task_planned m
 
-abbrev pub usage : Refused
-usage = record { why = Refusal.Usage; line = usage_line }
-
--- what the words ask for over these files, or why that is refused
-abbrev pub task_of : (words : List (List ℕ)) → Contents → Result Task Refused
-task_of words m = ok_or (command_of words) usage >> task_named m
-
--- the words and the files give this task
-abbrev pub IsTask : (words : List (List ℕ)) → Contents → Task → Type 0
-IsTask words m t = task_of words m ≡ Ok t
+-- the plan of that name and the files give this task
+abbrev pub IsTask : (plan : List ℕ) → Contents → Task → Type 0
+IsTask plan m t = task_named m plan ≡ Ok t

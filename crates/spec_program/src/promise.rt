@@ -1,9 +1,10 @@
 //! What is promised of commands. Each promise is a clause of a function that does nothing.
 ghost use Rattle.spec_program.specs.Agreement.{AccountsAgree, RecordingsAreReplayed};
+ghost use Rattle.spec_program.specs.Drilled.{DrillsAreReproduced};
 ghost use Rattle.spec_program.specs.Promise.{TasksAreRun};
 
-/// For all words and contents of files: where the words and the files give a task, the outcome is that of running it, and
-/// each of its points can be done whole, as it says; and where the outcome is no refusal, there is a task.
+/// For all words that run a plan, and all contents of files: where the plan and the files give a task, the outcome is that of
+/// running it, and each of its points can be done whole, as it says; and where the outcome is no refusal, there is a task.
 pub fn tasks_are_run()
     ensures { TasksAreRun }
 {}
@@ -17,4 +18,9 @@ pub fn accounts_agree()
 /// Where one task records a sphere and another replays that log on the same image, both write the same account.
 pub fn recordings_are_replayed()
     ensures { RecordingsAreReplayed }
+{}
+
+/// For every number, the replay of a drill has the account of its recording, and its log's play is complete.
+pub fn drills_are_reproduced()
+    ensures { DrillsAreReproduced }
 {}

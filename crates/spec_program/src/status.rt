@@ -23,6 +23,8 @@ pub enum Status {
     Sink,
     /// Memory ran out.
     Memory,
+    /// A line of the source breaks a rule.
+    Source,
     /// A file that is to be read is not there.
     Absent,
 }
@@ -42,6 +44,7 @@ impl Status {
             Status::Fault => 6,
             Status::Sink => 7,
             Status::Memory => 8,
+            Status::Source => 9,
             Status::Absent => 10,
         }
     }
@@ -54,5 +57,6 @@ pub enum Refusal {
     Plan,
     Image,
     Grammar,
+    Source,
     Absent,
 }

@@ -1,11 +1,9 @@
 //! Worked recordings and replays, each with every file that is read and every byte that is to be written. They are from
 //! outside the code.
-use super::{RUN, holds};
+use super::{RUN, hold_all, write_all};
 use crate::top::delorean_in_memory;
-use dl_files::{Files, GoodFiles, GoodSink};
+use dl_files::{GoodFiles, GoodSink};
 use spec_program::status::Status;
-use std::alloc::Global;
-use std::process::Abort;
 use std::test::Fail;
 
 #[derive(Clone, Copy)]
@@ -1133,17 +1131,4 @@ fn worked_runs_come_out_byte_for_byte(rt: HostRuntime) -> Result<(), Fail> {
         hold_all(&rt, alloc, &mut files, worked.written);
     }
     Ok(())
-}
-
-fn write_all(files: &mut GoodFiles, read: &[(&str, &[u8])]) -> Result<(), Fail> {
-    for (name, bytes) in read {
-        files.write(name, bytes)?;
-    }
-    Ok(())
-}
-
-fn hold_all(rt: &impl Abort, alloc: Global, files: &mut GoodFiles, written: &[(&str, &[u8])]) {
-    for (name, want) in written {
-        holds(rt, alloc, files, name, want);
-    }
 }

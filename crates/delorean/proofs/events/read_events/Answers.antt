@@ -6,7 +6,7 @@ use Rattle.spec_program.specs.Stages.{refusing}
 use Rattle.delorean.specs.declared.inputs.Source.{Source}
 use Rattle.delorean.specs.Halts.{Refuses}
 use Rattle.delorean.specs.Inputs.{IsSource, source_view}
-use Rattle.delorean.proofs.Making.{schedule_length}
+use Rattle.dl_run.proofs.Drawn.{schedule_length}
 use Rattle.delorean.proofs.events.read_events.Goals as goal
 
 pub returns-clause-few : goal.returns-clause-few

@@ -8,7 +8,7 @@ use Rattle.delorean.specs.declared.inputs.SphereInputs.{SphereInputs}
 use Rattle.delorean.specs.Inputs.{HaveMemories, sphere_view as sphere_inputs}
 use Rattle.delorean.specs.Halts.{Unread}
 use Rattle.delorean.proofs.Spheres.{sphere_part, spheres_more, turns_more}
-use Rattle.delorean.proofs.Making.{length_pushed, more_memories, planned_memory}
+use Rattle.delorean.proofs.Planned.{length_pushed, more_memories, planned_memory}
 use Rattle.delorean.proofs.Stages.{after}
 use Rattle.delorean.proofs.Stopping.{unread_in}
 use Rattle.delorean.proofs.gathering.read_spheres.Goals as goal

@@ -5,7 +5,7 @@ use Rattle.spec_program.specs.Built.{image_read, images_of}
 use Rattle.delorean.specs.declared.inputs.SphereInputs.{SphereInputs}
 use Rattle.delorean.specs.Inputs.{image_in, sphere_view}
 use Rattle.delorean.proofs.Stages.{after}
-use Rattle.delorean.proofs.Making.{memory_at, length_pushed}
+use Rattle.delorean.proofs.Planned.{memory_at, length_pushed}
 use Rattle.delorean.proofs.Building.{images_more}
 use Rattle.delorean.proofs.images.load_spheres.Goals as goal
 

@@ -2,7 +2,7 @@ use Rattle.std.proofs.Common.{ℕ, length, map, ap, ◌∙◌, sym, subst}
 use Rattle.dl_plan.specs.Values.{plan_view}
 use Rattle.dl_plan.specs.Views.{output_view}
 use Rattle.delorean.specs.Products.{AreProducts}
-use Rattle.delorean.proofs.Making.{plan_products}
+use Rattle.delorean.proofs.Planned.{plan_products}
 use Rattle.delorean.proofs.running.job_of.Goals as goal
 
 pub writes_to-requires : goal.writes_to-requires

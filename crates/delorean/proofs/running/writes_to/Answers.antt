@@ -1,6 +1,6 @@
 use Rattle.std.proofs.Common.{[], length}
 use Rattle.dl_plan.specs.declared.Product.{Product}
-use Rattle.delorean.proofs.Making.{product_at}
+use Rattle.delorean.proofs.Planned.{product_at}
 use Rattle.delorean.proofs.running.writes_to.Goals as goal
 
 pub write_to-requires : goal.write_to-requires

@@ -1,9 +1,6 @@
 -- What is made of a plan's parts: its products, its memories and its events.
-use Rattle.std.proofs.Common.{◌≡◌, ℕ, zero, suc, ◌+◌, ◌<◌, ◌≤◌, List, [], ◌∷◌, ◌++◌, length, map, get_or, Option, Some, None, refl, ap, arith}
+use Rattle.std.proofs.Common.{◌≡◌, ℕ, zero, suc, ◌+◌, ◌<◌, ◌≤◌, List, [], ◌∷◌, ◌++◌, length, map, get_or, Option, Some, None, refl, arith}
 use Rattle.std.specs.List.{AllByRecursion}
-use Rattle.rand_pcg.specs.Lcg.{Lcg}
-use Rattle.rand_pcg.specs.Pcg.{pcg32}
-use Rattle.dl_event.specs.Seeded.{schedule}
 use Rattle.dl_plan.specs.declared.Output.{Output}
 use Rattle.dl_plan.specs.declared.Product.{Product}
 use Rattle.dl_plan.specs.declared.Sphere.{Sphere}
@@ -73,8 +70,3 @@ more_memories (y ∷ ys) x have is = (have.0, more_memories ys x have.1 is)
 pub length_pushed : {X : Type 0} (xs : List X) (x : X) → length (xs ++ x ∷ []) ≡ length xs + 1
 length_pushed [] x = refl
 length_pushed (y ∷ ys) x = let rest = length_pushed ys x in omega (arith, rest)
-
-pub schedule_length : (n : ℕ) (g : Lcg) → length (schedule n g) ≡ n
-unfolding schedule
-schedule_length zero g = refl
-schedule_length (suc n) g = ap suc (schedule_length n (pcg32 g).1)

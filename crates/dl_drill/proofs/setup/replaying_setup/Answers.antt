@@ -1,0 +1,20 @@
+use Rattle.std.proofs.Common.{◌∙◌, [], ◌∷◌, ap, refl, rules, arith}
+use Rattle.spec_log.specs.declared.LogParts.{LogParts}
+use Rattle.spec_protocol.specs.Machine.{IsReplayed}
+use Rattle.spec_program.specs.Drills.{drill_sphere}
+use Rattle.dl_drill.proofs.setup.replaying_setup.Goals as goal
+
+pub returns-clause-value : goal.returns-clause-value
+returns-clause-value c = λ i. record { cores = 1; window = 1; numbers = record { chunk = 64; buffer = 1; signature = 64 }; seed = 0; input = c.new.ensures i; spheres = (c.in_ok-spheres.ensures.value ∙ ap (λ (log : LogParts). drill_sphere c.args.number (IsReplayed log) ∷ []) c.requires) i }
+
+pub returns-clause-within : goal.returns-clause-within
+returns-clause-within c =
+    record {
+      cores = (omega arith, omega arith);
+      window = (omega arith, omega arith);
+      few = (omega (arith, c.in_ok-spheres.ensures.count), omega (arith, c.in_ok-spheres.ensures.count));
+      chunk = search rules;
+      least = omega arith;
+      most = omega arith;
+      signature = refl;
+    }

@@ -1,0 +1,31 @@
+use Rattle.std.proofs.Common.{◌∙◌, ◌≡◌, List, ap, refl, sym, subst}
+use Rattle.std.specs.Prelude.{IsSome, Some}
+use Rattle.std.proofs.lemmas.Result.{IfOk-weaker}
+use Rattle.spec_log.specs.declared.ModeName.{ModeName}
+use Rattle.spec_protocol.specs.declared.event.Event.{Event}
+use Rattle.spec_protocol.specs.Machine.{IsRecorded}
+use Rattle.spec_protocol.specs.Sound.{image_at}
+use Rattle.spec_protocol.specs.Spheres.{Role, Sphere}
+use Rattle.spec_run.specs.Texts.{log_told}
+use Rattle.dl_sphere.specs.Reading.{log_in}
+use Rattle.dl_run.specs.Ran.{IsOver}
+use Rattle.dl_run.proofs.Over.{log-told, recorded-role}
+use Rattle.dl_run.proofs.run.Run.recording.Goals as goal
+
+pub log-requires : goal.log-requires
+log-requires c =
+    let over = c.sphere.ensures.over in
+    let role = recorded-role over.0 c.args.self.now c.args.sphere c.requires.recorded.0 over.1 c.requires.inside c.requires.recorded.1 in
+    subst (λ (x : Role). IsSome (log_in x)) (sym (ap (λ (q : Sphere). q.role) c.sphere.ensures.value ∙ role)) refl
+
+pub returns : goal.returns
+returns c =
+    let r = c.args.self.now in
+    let i = c.args.sphere in
+    IfOk-weaker c.log.result
+    (λ log. log_in c.sphere.result.now.sphere.role ≡ Some log)
+    (λ log. (es : List Event) (mode : ModeName) → IsOver es r → (image_at r.setup i).role ≡ IsRecorded mode → log ≡ log_told r.setup es i mode)
+    (λ log e es mode over is.
+    log-told es r i mode log over c.requires.inside is
+    (ap (λ (q : Sphere). log_in q.role) (sym c.sphere.ensures.value) ∙ e))
+    c.log.ensures

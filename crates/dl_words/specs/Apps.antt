@@ -1,0 +1,53 @@
+-- The command line as `clap` is told it: a program of six subcommands with their operands, each of which has to be there. It
+-- has no options, and neither help nor a version.
+use Rattle.std.specs.Prelude.{true, List, [], ◌∷◌, codes}
+use Rattle.clap.specs.Words.{Text, Rule, App, new_rule, new_app, with_rule, with_subcommand}
+
+abbrev pub operand : (name : Text) → Rule
+operand name = record (new_rule name) { required = true }
+
+abbrev pub with_operands : App → (names : List Text) → App
+with_operands app [] = app
+with_operands app (name ∷ names) = with_operands (with_rule app (operand name)) names
+
+abbrev pub subcommand : (name : Text) → (operands : List Text) → App
+subcommand name operands = with_operands (new_app name) operands
+
+abbrev pub run_app : App
+run_app = subcommand (codes "run") (codes "PLAN" ∷ [])
+
+abbrev pub inspect_app : App
+inspect_app = subcommand (codes "inspect") (codes "LOG" ∷ [])
+
+abbrev pub walk_app : App
+walk_app = subcommand (codes "walk") (codes "IMAGE" ∷ codes "MEMORY" ∷ codes "LOG" ∷ [])
+
+abbrev pub make_app : App
+make_app = subcommand (codes "make") (codes "NUMBER" ∷ codes "NAME" ∷ [])
+
+abbrev pub drill_app : App
+drill_app = subcommand (codes "drill") (codes "NUMBER" ∷ [])
+
+abbrev pub asm_app : App
+asm_app = subcommand (codes "asm") (codes "SOURCE" ∷ codes "NAME" ∷ [])
+
+-- words are those after the program's name, and one of them names a subcommand
+abbrev pub bare : App → App
+bare app = record app {
+  top = record app.top {
+    no_binary_name = true;
+    subcommand_required = true;
+    disable_help_flag = true;
+    disable_help_subcommand = true;
+    disable_version_flag = true;
+  };
+}
+
+abbrev pub with_subcommands : App → List App → App
+with_subcommands app [] = app
+with_subcommands app (sub ∷ subs) = with_subcommands (with_subcommand app sub.top) subs
+
+abbrev pub command_line : App
+command_line =
+    with_subcommands (bare (new_app (codes "delorean")))
+    (run_app ∷ inspect_app ∷ walk_app ∷ make_app ∷ drill_app ∷ asm_app ∷ [])

@@ -1,0 +1,89 @@
+-- What the words mean: a command with its operands, or none.
+use Rattle.std.specs.Prelude.{◌≡◌, true, ℕ, List, [], ◌∷◌, Option, None, codes, if◌then◌else◌}
+use Rattle.std.specs.Option.{option_and_then, option_map}
+use Rattle.std.specs.Str.{bytes_eq}
+use Rattle.clap.specs.Words.{Kinds, Row, Text, fault_of, first_of, subcommand_of}
+use Rattle.dl_words.specs.Apps.{command_line}
+use Rattle.dl_words.specs.Numbers.{is_size, number_of, memory_of}
+use Rattle.dl_words.specs.declared.command.Command.{Command}
+use Rattle.dl_words.specs.declared.command.Command.TheVariants as command
+
+pub data CommandValues : Type 0 where
+  Run : (plan : Text) → CommandValues
+  Inspect : (log : Text) → CommandValues
+  Walk : (image : Text) → (memory : ℕ) → (log : Text) → CommandValues
+  Make : (number : ℕ) → (name : Text) → CommandValues
+  Drill : (number : ℕ) → CommandValues
+  Asm : (source : Text) → (name : Text) → CommandValues
+
+-- ---- each subcommand, from what was found for its operands
+
+abbrev pub run_of : List Row → Option CommandValues
+run_of rows = option_map Run (first_of (codes "PLAN") rows)
+
+abbrev pub inspect_of : List Row → Option CommandValues
+inspect_of rows = option_map Inspect (first_of (codes "LOG") rows)
+
+abbrev pub walk_of : List Row → Option CommandValues
+walk_of rows =
+    option_and_then (λ image. option_and_then (λ memory. option_map (λ log. Walk image memory log)
+    (first_of (codes "LOG") rows))
+    (option_and_then memory_of (first_of (codes "MEMORY") rows)))
+    (first_of (codes "IMAGE") rows)
+
+abbrev pub make_of : List Row → Option CommandValues
+make_of rows =
+    option_and_then (λ number. option_map (λ name. Make number name) (first_of (codes "NAME") rows))
+    (option_and_then number_of (first_of (codes "NUMBER") rows))
+
+abbrev pub drill_of : List Row → Option CommandValues
+drill_of rows = option_map Drill (option_and_then number_of (first_of (codes "NUMBER") rows))
+
+abbrev pub asm_of : List Row → Option CommandValues
+asm_of rows =
+    option_and_then (λ source. option_map (λ name. Asm source name) (first_of (codes "NAME") rows))
+    (first_of (codes "SOURCE") rows)
+
+abbrev pub named : (subcommand : Text) → List Row → Option CommandValues
+named name rows =
+    if bytes_eq name (codes "run") then run_of rows
+    else if bytes_eq name (codes "inspect") then inspect_of rows
+    else if bytes_eq name (codes "walk") then walk_of rows
+    else if bytes_eq name (codes "make") then make_of rows
+    else if bytes_eq name (codes "drill") then drill_of rows
+    else if bytes_eq name (codes "asm") then asm_of rows
+    else None
+
+-- ---- the words
+
+-- where `clap` finds no fault: the subcommand, and what it finds for its operands
+abbrev pub matched : Kinds → Option (Text × List Row) → Option (Text × List Row)
+matched [] found = found
+matched (kind ∷ kinds) found = None
+
+abbrev pub found_in : (words : List Text) → Option (Text × List Row)
+found_in words = matched (fault_of command_line words) (subcommand_of command_line words)
+
+abbrev pub command_of : (words : List Text) → Option CommandValues
+command_of words = option_and_then (λ found. named found.0 found.1) (found_in words)
+
+-- ---- commands of the code
+
+abbrev pub command_view : Command → CommandValues
+command_view (command.Run plan) = Run plan.now
+command_view (command.Inspect log) = Inspect log.now
+command_view (command.Walk image memory log) = Walk image.now memory log.now
+command_view (command.Make number name) = Make number name.now
+command_view (command.Drill number) = Drill number
+command_view (command.Asm source name) = Asm source.now name.now
+
+-- ---- limits
+
+-- the memory of a walk has a size
+abbrev pub HasMemory : CommandValues → Type 0
+HasMemory (Walk image memory log) = is_size memory ≡ true
+HasMemory (Run plan) = Unit {0}
+HasMemory (Inspect log) = Unit {0}
+HasMemory (Make number name) = Unit {0}
+HasMemory (Drill number) = Unit {0}
+HasMemory (Asm source name) = Unit {0}

@@ -1,0 +1,34 @@
+//! Commands, with their operands.
+
+/// What the words ask for.
+#[derive(Clone, Copy, Debug, PartialEq, Eq)]
+pub enum Command<'a> {
+    /// `run PLAN`
+    Run {
+        plan: &'a str,
+    },
+    /// `inspect LOG`
+    Inspect {
+        log: &'a str,
+    },
+    /// `walk IMAGE MEMORY LOG`
+    Walk {
+        image: &'a str,
+        memory: u32,
+        log: &'a str,
+    },
+    /// `make NUMBER NAME`
+    Make {
+        number: u32,
+        name: &'a str,
+    },
+    /// `drill NUMBER`
+    Drill {
+        number: u32,
+    },
+    /// `asm SOURCE NAME`
+    Asm {
+        source: &'a str,
+        name: &'a str,
+    },
+}

@@ -1,0 +1,14 @@
+//! The words of a command line: which command they mean, with its operands, or none.
+#![tactic(auto)]
+
+mod apps;
+pub mod command;
+mod matching;
+mod number;
+mod reading;
+#[cfg(test)]
+mod tests;
+
+pub use command::Command;
+pub use dl_entry::OutOfMemory;
+pub use reading::read_words;

@@ -1,0 +1,39 @@
+-- A drill's replay gives the account of its recording.
+use Rattle.std.proofs.Common.{◌≡◌, ℕ, zero, suc, ◌<◌, ◌||◌, false, [], ◌∷◌, Some, refl, ap, ◌∙◌, arith}
+use Rattle.std.specs.Prelude.{slice_get}
+use Rattle.std.proofs.lemmas.Option.{none-some, same_Some}
+use Rattle.spec_log.specs.declared.LogParts.{LogParts}
+use Rattle.spec_log.specs.declared.ModeName.{ModeName}
+use Rattle.spec_play.specs.Turns.{Now}
+use Rattle.spec_protocol.specs.Machine.{IsRecorded, IsReplayed, SphereSetup}
+use Rattle.spec_finishing.specs.Ending.{CanFinish}
+use Rattle.spec_run.specs.Runs.{end_of, has_diverged}
+use Rattle.spec_run.specs.Texts.{account_text}
+use Rattle.spec_run.proofs.Told.{recordings_reproduced}
+use Rattle.spec_program.specs.Drilled.{IsReproduced}
+use Rattle.spec_program.specs.Drills.{drill_sphere, recording, recording_events}
+
+abbrev recorded : (number : ℕ) → SphereSetup
+recorded v = drill_sphere v (IsRecorded ModeName.OrderOnly)
+
+-- nothing is replayed
+none_replayed : (v i : ℕ) (image : SphereSetup) (log : LogParts) → slice_get (recorded v ∷ []) i ≡ Some image → image.role ≡ IsReplayed log → 0 < log.s
+none_replayed v zero image log is role =
+    let other : IsRecorded ModeName.OrderOnly ≡ IsReplayed log = ap (λ (x : SphereSetup). x.role) (same_Some (recorded v) image is) ∙ role in
+    absurd cc
+none_replayed v (suc i) image log is role = absurd (none-some image is)
+
+can_finish : (v : ℕ) → CanFinish (recording v)
+can_finish v =
+    record {
+      setup = record { chunk = omega arith; buffer = omega arith };
+      cores = omega arith;
+      window = omega arith;
+      standard = none_replayed v;
+    }
+
+pub drill_reproduced : (v : ℕ) → IsReproduced v
+unfolding account_text
+drill_reproduced v =
+    let told = recordings_reproduced (recording v) (recording_events v) 0 (recorded v) ModeName.OrderOnly (can_finish v) refl refl in
+    record { account = told.account; complete = ap (λ (n : Now). has_diverged (end_of n) || false) told.fits }
