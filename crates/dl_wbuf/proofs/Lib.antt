@@ -1,4 +1,7 @@
 pub mod LaneLaws
 pub mod Lasts
+pub mod Opens
 pub mod Places
+pub mod Positions
+pub mod Probes
 pub mod Puts

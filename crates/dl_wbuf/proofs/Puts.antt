@@ -55,8 +55,27 @@ IsKept-missing c r ws new s e lt h =
       made = h.made;
     }
 
+pub IsKept-drained : (capacity room left : ℕ) (ws : List Stored) (s : Stored) (ss : List Stored) → ws ≡ s ∷ ss → left ≡ room → IsKept capacity room ws → IsKept capacity left ss
+IsKept-drained c r l ws s ss e same h =
+    let was = rw e at h in
+    record {
+      apart = was.apart.1;
+      within = omega (arith, was.within);
+      least = was.least;
+      most = was.most;
+      made = rw same was.made;
+    }
+
 pub room_found : (capacity : ℕ) (ws : List Stored) (a i : ℕ) → position (is_of a) ws ≡ Some i → has_room (record { capacity = capacity; words = ws }) a ≡ true
 room_found c ws a i place = rw ((IsFound-place ws a i place).held) refl
 
 pub room_missing : (capacity : ℕ) (ws : List Stored) (a : ℕ) → position (is_of a) ws ≡ None → has_room (record { capacity = capacity; words = ws }) a ≡ nat_lt (length ws) capacity
 room_missing c ws a place = rw ((IsMissing-place ws a place).held) refl
+
+pub same_word : (ws : List Stored) (i : ℕ) (old new s : Stored) → old ≡ get_or ws i old → new ≡ merged old s → new.word ≡ (get_or ws i old).word
+unfolding merged
+same_word ws i old new s was is = ap (λ w. w.word) is ∙ ap (λ w. w.word) was
+
+pub new_word : (a m v : ℕ) (none new : Stored) → none ≡ bytes_of a 0 0 → new ≡ merged none (bytes_of none.word m v) → new.word ≡ a
+unfolding merged bytes_of
+new_word a m v none new empty is = ap (λ w. w.word) is ∙ ap (λ w. w.word) empty

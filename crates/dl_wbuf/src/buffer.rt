@@ -1,11 +1,14 @@
 //! The buffer itself. It has room for a number of words, which `new` makes; no other call takes memory.
-ghost use Rattle.std.specs.Prelude.{◌≡◌, ◌/◌, ◌%◌, ◌≤◌, ◌==◌, [], length, drop, IfOk, OnOk, OnErr, is_ok};
+ghost use Rattle.std.specs.Prelude.{◌≡◌, ℕ, ◌/◌, ◌%◌, ◌≤◌, ◌==◌, [], length, drop, IfOk, OnOk, OnErr, is_ok};
 ghost use Rattle.std.specs.List.{slice_get, position};
 ghost use Rattle.spec_isa.specs.Words.{Apart};
 ghost use Rattle.spec_isa.specs.Masks.{bytes_of, over};
 ghost use Rattle.dl_wbuf.specs.Buffers.{has_room, after_store, byte_held, IsLast};
+ghost use Rattle.dl_wbuf.specs.Kept.{left};
+ghost use Rattle.dl_wbuf.specs.Tables.{place};
 
 use crate::stored::Stored;
+use crate::table::Table;
 use std::alloc::{AllocError, Global};
 use std::collections::VecDeque;
 use std::marker::Model;
@@ -21,18 +24,22 @@ pub struct Full;
 pub struct Buffer {
     capacity: u32,
     words: VecDeque<Stored>,
+    // where each word stands, counted from the first that came since the table was last emptied
+    table: Table,
+    // how many have been taken out since
+    drained: u32,
 }
 
 impl Model for Buffer {
     ghost use Rattle.std.specs.VecDeque.{deque_capacity};
     ghost use Rattle.dl_wbuf.specs.Buffers.{Words};
-    ghost use Rattle.dl_wbuf.specs.Kept.{IsKept};
+    ghost use Rattle.dl_wbuf.specs.Kept.{IsKept, IsPlaced};
 
     ghost Value = { Words };
 
     ghost view = { λ b. record { capacity = b.capacity; words = b.words.items } };
 
-    ghost invariant = { λ b. IsKept b.capacity (deque_capacity b.words) b.words.items };
+    ghost invariant = { λ b. IsKept b.capacity (deque_capacity b.words) b.words.items × IsPlaced b.capacity b.drained b.table b.words.items };
 }
 
 impl Buffer {
@@ -45,6 +52,8 @@ impl Buffer {
         Ok(Buffer {
             capacity: c,
             words: VecDeque::with_capacity(alloc, c as usize)?,
+            table: Table::new(alloc, 2 * c)?,
+            drained: 0,
         })
     }
 
@@ -78,7 +87,7 @@ impl Buffer {
     pub fn has_room(&self, word: u32) -> bool
         ensures { result ≡ has_room self.now (word / 4) }
     {
-        self.place(word / 4).is_some() || self.words.len() < self.capacity as usize
+        self.words.len() < self.capacity as usize || self.place(word / 4).is_some()
     }
 
     /// The byte last stored at an address.
@@ -116,7 +125,13 @@ impl Buffer {
         ensures rest { self.new ≡ record self.old { words = drop 1 self.old.words } }
         ensures apart { Apart self.old.words }
     {
-        self.words.pop_front()
+        let first = self.words.pop_front()?;
+        self.drained += 1;
+        if self.drained == self.capacity || self.words.is_empty() {
+            fill(&mut self.table, &self.words);
+            self.drained = 0;
+        }
+        Some(first)
     }
 
     /// Forgets every word.
@@ -124,6 +139,8 @@ impl Buffer {
         ensures { self.new ≡ record self.old { words = [] } }
     {
         self.words.clear();
+        self.table.clear();
+        self.drained = 0;
     }
 
     /// Stores the masked bytes of a value in a word. `Full`: the word is new, and as many words stand as there may; nothing
@@ -135,7 +152,8 @@ impl Buffer {
         ensures err { OnErr result (self.new ≡ self.old) }
         ensures apart { Apart self.old.words }
     {
-        if let Some(i) = self.place(word / 4) {
+        let slot = self.table.slot(word / 4);
+        if let Some(i) = left(self.table.place_in(slot), self.drained) {
             let stored = self.words[i];
             self.words[i] = stored.then(mask, value);
             return Ok(());
@@ -143,6 +161,8 @@ impl Buffer {
         if self.words.len() >= self.capacity as usize {
             return Err(Full);
         }
+        let place = self.drained + self.words.len() as u32;
+        self.table.set(slot, word / 4, place);
         self.words
             .push_back_reserved(Stored::none(word).then(mask, value));
         Ok(())
@@ -153,51 +173,31 @@ impl Buffer {
         ensures value { result ≡ position (λ s. s.word == number) self.now.words }
         ensures apart { Apart self.now.words }
     {
-        self.words.iter().position(|s| s.is_of(number))
+        left(self.table.place(number), self.drained)
     }
 }
 
-#[cfg(test)]
-mod tests {
-    use super::*;
-    use std::test::Fail;
+// Which of the words left it is that came at this place, if it is one.
+fn left(place: Option<u32>, drained: u32) -> Option<usize>
+    ensures { result ≡ left drained place }
+{
+    let i = place?.checked_sub(drained)?;
+    Some(i as usize)
+}
 
-    fn parts(stored: Stored) -> (u32, u8, u32) {
-        (stored.word, stored.mask, stored.value)
-    }
-
-    #[test]
-    fn merges_a_held_word_in_its_place(rt: HostRuntime) -> Result<(), Fail> {
-        let mut buffer = Buffer::new(rt.alloc(), 2)?;
-        for (word, mask, value, answer) in [
-            (8, 0b0001, 0xFFFF_FF11, Ok(())),
-            (4, 0b1111, 0x0102_0304, Ok(())),
-            (8, 0b1111_0100, 0x4422_3300, Ok(())),
-            (12, 0b0001, 0x55, Err(Full)),
-            (4, 0b0010, 0x6600, Ok(())),
-        ] {
-            assert_eq!(rt;
-                buffer.put(word, mask, value),
-                answer,
-                "word {word}, mask {mask}"
-            );
-        }
-        let first = Some((8, 0b0101, 0x0022_0011));
-        assert_eq!(rt; buffer.nth(0).map(parts), first);
-        assert_eq!(rt; buffer.nth(2), None);
-        assert_eq!(rt;
-            (buffer.get(8), buffer.get(9), buffer.get(10)),
-            (Some(0x11), None, Some(0x22))
-        );
-        assert_eq!(rt;
-            (buffer.over(8, 0xAABB_CCDD), buffer.over(12, 7)),
-            (0xAA22_CC11, 7)
-        );
-        assert_eq!(rt; (buffer.has_room(4), buffer.has_room(12)), (true, false));
-        assert_eq!(rt; buffer.drain_next().map(parts), first);
-        assert_eq!(rt; buffer.get(5), Some(0x66));
-        buffer.clear();
-        assert_eq!(rt; (buffer.drain_next(), buffer.len()), (None, 0));
-        Ok(())
+// Empties the table, and gives it the place of each word.
+fn fill(table: &mut Table, words: &VecDeque<Stored>)
+    requires apart { Apart words.now.items }
+    requires room { length words.now.items ≤ table.old.room }
+    requires most { length words.now.items ≤ 4096 }
+    ensures places { (a : ℕ) → place table.new a ≡ position (λ s. s.word == a) words.now.items }
+    ensures taken { length table.new.taken ≤ length words.now.items }
+    ensures room { table.new.room ≡ table.old.room }
+{
+    table.clear();
+    for i in 0..words.len() {
+        let number = words[i].number();
+        let slot = table.slot(number);
+        table.set(slot, number, i as u32);
     }
 }

@@ -2,8 +2,12 @@
 #![tactic(auto)]
 
 pub mod buffer;
+mod entry;
 mod lanes;
 pub mod stored;
+mod table;
+#[cfg(test)]
+mod tests;
 
 pub use buffer::{Buffer, Full};
 pub use stored::Stored;

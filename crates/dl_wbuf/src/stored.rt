@@ -31,7 +31,7 @@ impl Model for Stored {
 }
 
 impl Stored {
-    ghost use Rattle.std.specs.Prelude.{◌≡◌, ◌/◌, ◌%◌, ◌<◌, nat_eq};
+    ghost use Rattle.std.specs.Prelude.{◌≡◌, ◌/◌, ◌%◌, ◌<◌};
     ghost use Rattle.spec_isa.specs.Words.{merged};
     ghost use Rattle.spec_isa.specs.Masks.{bytes_of, word_over};
     ghost use Rattle.dl_wbuf.specs.Buffers.{lane};
@@ -78,10 +78,10 @@ impl Stored {
         }
     }
 
-    /// Whether the word is that of this number, a quarter of its address.
-    pub(crate) fn is_of(&self, number: u32) -> bool
-        ensures { result ≡ nat_eq self.now.word number }
+    /// The number of the word, a quarter of its address.
+    pub(crate) fn number(&self) -> u32
+        ensures { result ≡ self.now.word }
     {
-        self.word / 4 == number
+        self.word / 4
     }
 }

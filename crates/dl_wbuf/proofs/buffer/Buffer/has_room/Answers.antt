@@ -1,18 +1,23 @@
--- A word that stands is taken, and a new one where there is room.
-use Rattle.std.proofs.Common.{◌≡◌, ◌/◌, true, false, sym, ap, ◌∙◌, rules}
+-- A new word is taken where there is room, and one that stands always.
+use Rattle.std.proofs.Common.{◌≡◌, ◌/◌, ◌||◌, true, false, Bool, length, nat_lt, refl, sym, ap, ◌∙◌, rules}
 use Rattle.std.specs.Option.{is_some}
+use Rattle.std.proofs.lemmas.Bool.{lt-ltb, or_right}
 use Rattle.spec_isa.specs.Words.{holds}
 use Rattle.dl_wbuf.proofs.Places.{holds-place}
 use Rattle.dl_wbuf.proofs.buffer.Buffer.has_room.Goals as goal
 
-pub returns-then-is_some : goal.returns-then-is_some
-returns-then-is_some c =
-    let words = c.args.self.now.words in
-    let h : holds words (c.args.word / 4) ≡ true = holds-place words (c.args.word / 4) ∙ sym (ap is_some c.place.ensures.value) ∙ sym c.if-is_some.ensures in
-    rw h c.if-is_some.true
+or_false : (b : Bool) → (b || false) ≡ b
+or_false true = refl
+or_false false = refl
 
-pub returns-else-is_some : goal.returns-else-is_some
-returns-else-is_some c =
+pub returns-then-len-self : goal.returns-then-len-self
+returns-then-len-self c =
+    let room : nat_lt (length c.self.inside.words.items) c.self.inside.capacity ≡ true = search rules in
+    rw (← c.self.view_is) (lt-ltb _ _ c.if-len-self.true ∙ sym (or_right (holds c.self.inside.words.items (c.args.word / 4)) _ room))
+
+pub returns-else-len-self : goal.returns-else-len-self
+returns-else-len-self c =
     let words = c.args.self.now.words in
-    let h : holds words (c.args.word / 4) ≡ false = holds-place words (c.args.word / 4) ∙ sym (ap is_some c.place.ensures.value) ∙ sym c.if-is_some.ensures in
-    rw (h, ← c.self.view_is) (search rules)
+    let full : nat_lt (length c.self.inside.words.items) c.self.inside.capacity ≡ false = search rules in
+    let stands : c.is_some.result ≡ holds words (c.args.word / 4) = c.is_some.ensures ∙ ap is_some c.place.ensures.value ∙ sym (holds-place words (c.args.word / 4)) in
+    rw (← c.self.view_is, full) (rw (← c.self.view_is) at stands ∙ sym (or_false _))
