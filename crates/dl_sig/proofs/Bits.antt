@@ -1,13 +1,22 @@
 -- Banks as words of 32 bits.
-use Rattle.std.proofs.Common.{◌≡◌, ◌≢◌, ℕ, ◌+◌, ◌*◌, ◌/◌, ◌%◌, ◌^◌, ◌<◌, inl, inr, true, false, ◌&&◌, ◌||◌, eqb, List, length, get_or, set, replicate, sym, ◌∙◌, ap, arith, bit_and, bit_or, w32}
-use Rattle.std.proofs.lemmas.Bool.{eq-eqb, ne_eqb, eqb-true, cases_eq, cases_lt, and_parts, false_from_ne_true}
+use Rattle.std.proofs.Common.{◌≡◌, ◌≢◌, ℕ, zero, suc, ◌+◌, ◌*◌, ◌/◌, ◌%◌, ◌^◌, ◌<◌, inl, inr, true, false, not, ◌&&◌, ◌||◌, eqb, max, List, [], ◌∷◌, length, get_or, set, replicate, refl, sym, ◌∙◌, ap, arith, bit_and, bit_or, w32, Fits}
+use Rattle.std.proofs.lemmas.Bool.{true≢false, eq-eqb, ne_eqb, eqb-true, not-false, cases_eq, cases_lt, cases_Bool, and_parts, or_parts, false_from_ne_true}
 use Rattle.std.proofs.lemmas.List.{length-set, get_or-set_same, get_or-set_other, length-replicate, get_or-replicate, get_or_past}
 use Rattle.std.proofs.lemmas.Nat.{and_le_l}
-use Rattle.std.proofs.lemmas.Nat.Bits.{bit_at_and, bit_at-lt, bit_at-zero, bit_at_set_same, bit_at_set_other, bit_at-trailing_zeros}
+use Rattle.std.proofs.lemmas.Simd.{length-zip2, get_or-zip2}
+use Rattle.std.proofs.lemmas.Nat.Bits.{bit_at_and, bit_at_or, bit_at-lt, bit_at-zero, bit_at_set_same, bit_at_set_other, bit_at-trailing_zeros}
+use Rattle.std.specs.FinSet.{union}
 use Rattle.std.specs.Int.{bit_at, trailing_zeros}
 use Rattle.spec_engine.specs.Signatures.{meets}
-use Rattle.dl_sig.specs.Banks.{no_place, with_place, set_below, has_bit, of_words}
-use Rattle.dl_sig.proofs.Sets.{none_below, one_more, meet_at, apart_below}
+use Rattle.dl_sig.specs.Banks.{Places, no_place, with_place, with_places, set_below, has_bit, of_words}
+use Rattle.dl_sig.specs.Words.{share, joined}
+use Rattle.dl_sig.proofs.Sets.{none_below, one_more, either_below, meet_at, apart_below}
+
+-- banks of one size have as many words
+pub same_words : (ws vs : List ℕ) (b other : Places) → of_words ws ≡ b → of_words vs ≡ other → other.size ≡ b.size → length vs ≡ length ws
+same_words ws vs b other e f same =
+    let sizes : 32 * length vs ≡ 32 * length ws = ap (λ (p : Places). p.size) f ∙ same ∙ sym (ap (λ (p : Places). p.size) e) in
+    omega arith
 
 -- ---- a new bank
 
@@ -55,6 +64,33 @@ words_set ws p l =
     (λ i. record { size = 32 * same i; set = set_below (has_bit (with_bit ws p)) (32 * same i) })
     ∙ (λ i. record { size = 32 * length ws; set = one_more (has_bit ws) (has_bit (with_bit ws p)) (32 * length ws) p l (λ q. bit_after ws p q (omega arith)) i })
 
+-- ---- the bits of either
+
+either_digit : (a b : ℕ) → a < 2 → b < 2 → eqb (max a b) 1 ≡ (eqb a 1 || eqb b 1)
+either_digit zero zero l m = refl
+either_digit zero (suc zero) l m = refl
+either_digit (suc zero) zero l m = refl
+either_digit (suc zero) (suc zero) l m = refl
+either_digit (suc (suc a)) b l m = absurd (omega arith)
+either_digit a (suc (suc b)) l m = absurd (omega arith)
+
+either_bit : (a b k : ℕ) → eqb (bit_at (bit_or a b) k) 1 ≡ (eqb (bit_at a k) 1 || eqb (bit_at b k) 1)
+either_bit a b k = ap (λ (n : ℕ). eqb n 1) (bit_at_or a b k) ∙ either_digit (bit_at a k) (bit_at b k) (bit_at-lt a k) (bit_at-lt b k)
+
+bit_of_either : (ws vs : List ℕ) (p : ℕ) → p / 32 < length ws → p / 32 < length vs → has_bit (joined ws vs) p ≡ (has_bit ws p || has_bit vs p)
+bit_of_either ws vs p l m =
+    ap (λ (w : ℕ). eqb (bit_at w (p % 32)) 1) (get_or-zip2 bit_or ws vs (p / 32) 0 0 0 l m) ∙ either_bit (get_or ws (p / 32) 0) (get_or vs (p / 32) 0) (p % 32)
+
+pub words_joined : (ws vs : List ℕ) → length vs ≡ length ws → of_words (joined ws vs) ≡ with_places (of_words vs) (of_words ws)
+words_joined ws vs same =
+    let long : length (joined ws vs) ≡ length ws = length-zip2 bit_or ws vs (sym same) in
+    (λ i. record { size = 32 * long i; set = set_below (has_bit (joined ws vs)) (32 * long i) })
+    ∙ (λ i. record {
+      size = 32 * length ws;
+      set = either_below (has_bit ws) (has_bit vs) (has_bit (joined ws vs)) (32 * length ws) (λ q l. bit_of_either ws vs q (omega arith) (omega arith)) i;
+    })
+    ∙ (λ i. record { size = 32 * length ws; set = union (of_words ws).set (set_below (has_bit vs) (32 * sym same i)) })
+
 -- ---- bits in common
 
 word_meets : (ws vs : List ℕ) (i : ℕ) → i < length ws → get_or ws i 0 < 2 ^ 32 → bit_and (get_or ws i 0) (get_or vs i 0) ≢ 0 → true ≡ meets (of_words ws).set (set_below (has_bit vs) (32 * length ws))
@@ -95,10 +131,35 @@ word_apart ws vs none =
 
 -- two banks of one size
 
-pub words_meet : (ws vs : List ℕ) → (of_words vs).size ≡ (of_words ws).size → (i : ℕ) → i < length ws → get_or ws i 0 < 2 ^ 32 → bit_and (get_or ws i 0) (get_or vs i 0) ≢ 0 → true ≡ meets (of_words ws).set (of_words vs).set
+words_meet : (ws vs : List ℕ) → (of_words vs).size ≡ (of_words ws).size → (i : ℕ) → i < length ws → get_or ws i 0 < 2 ^ 32 → bit_and (get_or ws i 0) (get_or vs i 0) ≢ 0 → true ≡ meets (of_words ws).set (of_words vs).set
 words_meet ws vs same i l small ne =
     word_meets ws vs i l small ne ∙ ap (λ (n : ℕ). meets (of_words ws).set (set_below (has_bit vs) n)) (sym same)
 
-pub words_apart : (ws vs : List ℕ) → (of_words vs).size ≡ (of_words ws).size → ((i : ℕ) → i < length ws → bit_and (get_or ws i 0) (get_or vs i 0) ≡ 0) → false ≡ meets (of_words ws).set (of_words vs).set
+words_apart : (ws vs : List ℕ) → (of_words vs).size ≡ (of_words ws).size → ((i : ℕ) → i < length ws → bit_and (get_or ws i 0) (get_or vs i 0) ≡ 0) → false ≡ meets (of_words ws).set (of_words vs).set
 words_apart ws vs same none =
     word_apart ws vs none ∙ ap (λ (n : ℕ). meets (of_words ws).set (set_below (has_bit vs) n)) (sym same)
+
+some_shared : (ws vs : List ℕ) → share ws vs ≡ true → (i : ℕ) × (i < length ws) × (bit_and (get_or ws i 0) (get_or vs i 0) ≢ 0)
+some_shared [] vs e = absurd (true≢false (sym e))
+some_shared (w ∷ ws) [] e = absurd (true≢false (sym e))
+some_shared (w ∷ ws) (v ∷ vs) e =
+    elim (cases_eq (bit_and w v) 0) [
+      | inl z ↦
+          let later = some_shared ws vs (sym (λ j. not (eq-eqb (bit_and w v) 0 z j) || share ws vs) ∙ e) in
+          (suc later.0, omega (arith, later.1), later.2)
+      | inr ne ↦ (0, omega arith, ne)
+    ]
+
+none_shared : (ws vs : List ℕ) → share ws vs ≡ false → length vs ≡ length ws → (i : ℕ) → i < length ws → bit_and (get_or ws i 0) (get_or vs i 0) ≡ 0
+none_shared [] vs e same i l = absurd (omega arith)
+none_shared (w ∷ ws) [] e same i l = absurd (omega arith)
+none_shared (w ∷ ws) (v ∷ vs) e same zero l = eqb-true (bit_and w v) 0 (not-false _ (or_parts (not (eqb (bit_and w v) 0)) (share ws vs) e).0)
+none_shared (w ∷ ws) (v ∷ vs) e same (suc i) l = none_shared ws vs (or_parts (not (eqb (bit_and w v) 0)) (share ws vs) e).1 (omega arith) i (omega arith)
+
+pub words_share : (ws vs : List ℕ) → length vs ≡ length ws → ((i : ℕ) → Fits w32 (get_or ws i 0)) → share ws vs ≡ meets (of_words ws).set (of_words vs).set
+words_share ws vs same small =
+    let sizes : 32 * length vs ≡ 32 * length ws = ap (λ (n : ℕ). 32 * n) same in
+    elim (cases_Bool (share ws vs)) [
+      | inl e ↦ let found = some_shared ws vs e in e ∙ words_meet ws vs sizes found.0 found.1 (let fits = small found.0 in omega arith) found.2
+      | inr e ↦ e ∙ words_apart ws vs sizes (none_shared ws vs e same)
+    ]

@@ -1,10 +1,13 @@
 -- Banks as flags.
-use Rattle.std.proofs.Common.{◌≡◌, ℕ, ◌<◌, inl, inr, Bool, true, false, ◌&&◌, ◌||◌, eqb, List, length, set, replicate, sym, ◌∙◌, ap}
+use Rattle.std.proofs.Common.{◌≡◌, ℕ, ◌<◌, inl, inr, Bool, true, false, ◌&&◌, ◌||◌, eqb, List, length, set, replicate, sym, ◌∙◌, ap, arith}
 use Rattle.std.proofs.lemmas.Bool.{eq-eqb, ne_eqb, cases_eq, cases_lt}
 use Rattle.std.proofs.lemmas.List.{length-set, get_or-set_same, get_or-set_other, length-replicate, get_or-replicate, get_or_past}
+use Rattle.std.proofs.lemmas.Simd.{length-zip2, get_or-zip2}
+use Rattle.std.specs.FinSet.{union}
+use Rattle.std.specs.Simd.Lanes.{zip2}
 use Rattle.spec_engine.specs.Signatures.{meets}
-use Rattle.dl_sig.specs.Banks.{no_place, with_place, set_below, has_flag, of_flags}
-use Rattle.dl_sig.proofs.Sets.{none_below, one_more, meet_at, apart_below}
+use Rattle.dl_sig.specs.Banks.{no_place, with_place, with_places, set_below, has_flag, of_flags}
+use Rattle.dl_sig.proofs.Sets.{none_below, one_more, either_below, meet_at, apart_below}
 
 no_flag : (n p : ℕ) → has_flag (replicate n false) p ≡ false
 no_flag n p =
@@ -35,3 +38,16 @@ flags_meet xs ys same i l a b =
 pub flags_apart : (xs ys : List Bool) → (of_flags ys).size ≡ (of_flags xs).size → ((i : ℕ) → i < length xs → (has_flag xs i && has_flag ys i) ≡ false) → false ≡ meets (of_flags xs).set (of_flags ys).set
 flags_apart xs ys same none =
     apart_below (has_flag xs) (has_flag ys) (length xs) none ∙ ap (λ (n : ℕ). meets (of_flags xs).set (set_below (has_flag ys) n)) (sym same)
+
+abbrev pub either_flags : (xs ys : List Bool) → List Bool
+either_flags xs ys = zip2 ◌||◌ xs ys
+
+pub flags_joined : (xs ys : List Bool) → (of_flags ys).size ≡ (of_flags xs).size → of_flags (either_flags xs ys) ≡ with_places (of_flags ys) (of_flags xs)
+flags_joined xs ys same =
+    let long : length (either_flags xs ys) ≡ length xs = length-zip2 ◌||◌ xs ys (sym same) in
+    (λ i. record { size = long i; set = set_below (has_flag (either_flags xs ys)) (long i) })
+    ∙ (λ i. record {
+      size = length xs;
+      set = either_below (has_flag xs) (has_flag ys) (has_flag (either_flags xs ys)) (length xs) (λ q l. get_or-zip2 ◌||◌ xs ys q false false false l (omega arith)) i;
+    })
+    ∙ (λ i. record { size = length xs; set = union (of_flags xs).set (set_below (has_flag ys) (sym same i)) })

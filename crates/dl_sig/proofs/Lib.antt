@@ -1,3 +1,5 @@
 pub mod Sets
 pub mod Bits
 pub mod Flagged
+pub mod Lanes
+pub mod Merged

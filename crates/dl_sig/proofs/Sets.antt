@@ -3,7 +3,7 @@ use Rattle.std.proofs.Common.{◌≡◌, ℕ, zero, suc, ◌<◌, inl, inr, Bool
 use Rattle.std.proofs.lemmas.Bool.{cases_lt, lt-ltb, le-ltb, eq-eqb, ne_eqb, cases_eq}
 use Rattle.std.specs.Cmp.{nat_cmp_total}
 use Rattle.std.specs.FinSet as set
-use Rattle.std.specs.FinSet.{members, contains-empty, same_set, nat_cmp-IsAntisymmetric}
+use Rattle.std.specs.FinSet.{members, contains-empty, contains-union, same_set, nat_cmp-IsAntisymmetric}
 use Rattle.std.specs.Ordering.{nat_cmp}
 use Rattle.spec_engine.specs.Signatures.{meets}
 use Rattle.spec_engine.proofs.Marking.{apart_from, meets_at}
@@ -68,6 +68,18 @@ pub one_more : (has after : ℕ → Bool) (n p : ℕ) → p < n → ((q : ℕ) �
 one_more has after n p l same =
     same_set nat_cmp_total nat_cmp-IsAntisymmetric _ _
     (λ q. member after n q ∙ more_step has after n p l q (same q) ∙ sym (inserted (set_below has n) p q ∙ ap (λ (b : Bool). eqb q p || b) (member has n q)))
+
+either_step : (has other after : ℕ → Bool) (n q : ℕ) → (q < n → after q ≡ (has q || other q)) → (ltb q n && after q) ≡ ((ltb q n && has q) || (ltb q n && other q))
+either_step has other after n q same =
+    elim (cases_lt q n) [
+      | inl l ↦ (λ i. lt-ltb q n l i && after q) ∙ same l ∙ sym (λ i. (lt-ltb q n l i && has q) || (lt-ltb q n l i && other q))
+      | inr l ↦ (λ i. le-ltb q n l i && after q) ∙ sym (λ i. (le-ltb q n l i && has q) || (le-ltb q n l i && other q))
+    ]
+
+pub either_below : (has other after : ℕ → Bool) (n : ℕ) → ((q : ℕ) → q < n → after q ≡ (has q || other q)) → set_below after n ≡ set.union (set_below has n) (set_below other n)
+either_below has other after n same =
+    same_set nat_cmp_total nat_cmp-IsAntisymmetric _ _
+    (λ q. member after n q ∙ either_step has other after n q (same q) ∙ sym (contains-union nat_cmp_total (set_below has n) (set_below other n) q ∙ (λ i. member has n q i || member other n q i)))
 
 -- ---- two sets
 

@@ -14,6 +14,9 @@ no_place n = record { size = n; set = set.empty }
 abbrev pub with_place : (place : ℕ) → Places → Places
 with_place p b = record b { set = set.insert b.set p }
 
+abbrev pub with_places : (others : Places) → Places → Places
+with_places others b = record b { set = set.union b.set others.set }
+
 -- the numbers below n that pass a test
 unfoldable pub set_below : (ℕ → Bool) → (n : ℕ) → set.FinSet nat_cmp
 set_below has zero = set.empty

@@ -3,6 +3,7 @@ ghost use Rattle.std.specs.Prelude.{◌≡◌, ◌≤◌, ◌<◌, ◌*◌, ◌%
 ghost use Rattle.std.specs.FinSet as set;
 ghost use Rattle.spec_engine.specs.Signatures.{meets};
 
+use crate::words;
 use std::alloc::{AllocError, Global};
 use std::marker::Model;
 
@@ -25,7 +26,7 @@ impl Model for Bank {
 }
 
 impl Bank {
-    ghost use Rattle.dl_sig.specs.Banks.{no_place, with_place};
+    ghost use Rattle.dl_sig.specs.Banks.{no_place, with_place, with_places};
 
     // No place is set of `size`, a multiple of 32.
     pub(crate) fn new(alloc: Global, size: u32) -> Result<Bank, AllocError>
@@ -62,11 +63,14 @@ impl Bank {
         requires { other.now.size ≡ self.now.size }
         ensures { result ≡ meets self.now.set other.now.set }
     {
-        for i in 0..self.words.len() {
-            if self.words[i] & other.words[i] != 0 {
-                return true;
-            }
-        }
-        false
+        words::share(&self.words, &other.words)
+    }
+
+    // Sets the places of the other too.
+    pub(crate) fn join(&mut self, other: &Bank)
+        requires { other.now.size ≡ self.old.size }
+        ensures { self.new ≡ with_places other.now self.old }
+    {
+        words::join(&mut self.words, &other.words);
     }
 }

@@ -50,6 +50,11 @@ impl Sig for Banked {
         self.high.clear();
     }
 
+    fn join(&mut self, other: &Banked) {
+        self.low.join(&other.low);
+        self.high.join(&other.high);
+    }
+
     fn hits(&self, other: &Banked) -> bool {
         self.low.meets(&other.low) && self.high.meets(&other.high)
     }

@@ -25,7 +25,7 @@ impl Model for Flags {
 }
 
 impl Flags {
-    ghost use Rattle.dl_sig.specs.Banks.{no_place, with_place};
+    ghost use Rattle.dl_sig.specs.Banks.{no_place, with_place, with_places};
 
     // No place of `size` is set.
     pub(crate) fn new(alloc: Global, size: u32) -> Result<Flags, AllocError>
@@ -67,5 +67,15 @@ impl Flags {
             }
         }
         false
+    }
+
+    // Sets the places of the other too.
+    pub(crate) fn join(&mut self, other: &Flags)
+        requires { other.now.size ≡ self.old.size }
+        ensures { self.new ≡ with_places other.now self.old }
+    {
+        for i in 0..self.flags.len() {
+            self.flags[i] |= other.flags[i];
+        }
     }
 }

@@ -9,6 +9,7 @@ pub mod plain_set;
 pub mod sig;
 #[cfg(test)]
 mod tests;
+mod words;
 
 pub use banked::Banked;
 pub use plain_set::PlainSet;

@@ -50,6 +50,11 @@ impl Sig for PlainSet {
         self.high.clear();
     }
 
+    fn join(&mut self, other: &PlainSet) {
+        self.low.join(&other.low);
+        self.high.join(&other.high);
+    }
+
     fn hits(&self, other: &PlainSet) -> bool {
         self.low.meets(&other.low) && self.high.meets(&other.high)
     }

@@ -1,6 +1,7 @@
 //! What every kind of signature does.
 ghost use Rattle.std.specs.Prelude.{◌≡◌, true, IfOk};
 ghost use Rattle.spec_engine.specs.Signatures.{Marks, is_size, nothing, insert as with_line, covers, hits};
+ghost use Rattle.dl_sig.specs.Unions.{union};
 
 use std::alloc::{AllocError, Global};
 
@@ -21,6 +22,11 @@ pub trait Sig: Drop {
     /// Forgets every line.
     fn clear(&mut self)
         ensures { marks self.new ≡ nothing (marks self.old).bits };
+
+    /// Marks what another signature of the same size has marked: both banks take the union.
+    fn join(&mut self, other: &Self)
+        requires { (marks other.now).bits ≡ (marks self.old).bits }
+        ensures { marks self.new ≡ union (marks self.old) (marks other.now) };
 
     /// Whether both banks share a place with those of another signature of the same size.
     fn hits(&self, other: &Self) -> bool
