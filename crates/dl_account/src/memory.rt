@@ -1,5 +1,5 @@
 //! The lines of a memory: its rows of 32 bytes that are not all zero.
-ghost use Rattle.std.specs.Prelude.{◌≡◌, ◌*◌, ◌^◌, ◌<◌, ◌++◌, length, OnOk};
+ghost use Rattle.std.specs.Prelude.{◌≡◌, ◌*◌, ◌^◌, ◌<◌, ◌++◌, OnOk};
 ghost use Rattle.dl_account.specs.Lines.{numbered};
 ghost use Rattle.dl_account.specs.States.{is_zero, row_line, rows};
 
@@ -10,16 +10,10 @@ use dl_mem::Memory;
 pub(crate) fn put_memory(text: &mut Text, memory: &Memory) -> Result<(), OutOfMemory>
     ensures { OnOk result (text.new ≡ text.old ++ numbered row_line 0 (rows memory.now)) }
 {
-    let (rows, _) = memory.bytes().as_chunks::<32>();
-    put_rows(text, rows)
-}
-
-fn put_rows(text: &mut Text, rows: &[[u8; 32]]) -> Result<(), OutOfMemory>
-    requires { 32 * length rows.now < 2 ^ 32 }
-    ensures { OnOk result (text.new ≡ text.old ++ numbered row_line 0 rows.now) }
-{
-    for (number, row) in rows.iter().enumerate() {
-        put_row(text, number as u32, row)?;
+    let mut row = [0; 32];
+    for number in 0..memory.size() / 32 {
+        memory.copy_to(32 * number, &mut row);
+        put_row(text, number, &row)?;
     }
     Ok(())
 }

@@ -72,7 +72,8 @@ fn a_word_drains_to_memory(rt: HostRuntime) -> Result<(), Fail> {
     let mut mem = Memory::new(rt.alloc(), &load(rt.alloc(), &FILE, 4096)?)?;
     let mut flights = standing(rt.alloc(), storing(rt.alloc())?)?;
     assert_eq!(rt; flights.drain(0, &mut mem), Drain::Drained);
-    assert!(rt; mem.bytes().starts_with(&[0x13, 0x05, 0x70, 0, 7, 0, 0, 0]));
+    assert_eq!(rt; mem.size(), 4096);
+    assert_eq!(rt; [mem.word(0), mem.word(4)], [0x0070_0513, 7]);
     Ok(())
 }
 

@@ -36,15 +36,19 @@ pub(crate) enum Want<'a> {
     InputWord,
 }
 
-// What the thread's next step wants, if anything.
+// What the thread's next step wants, if anything. The bytes of a write are copied to the buffer.
 #[tactic(auto, using(crate::proofs::Causes::device_inside), unfolding(spec_kernel::specs::Needs::need))]
-pub(crate) fn need<'a>(thread: &Thread, memory: &'a Memory) -> Option<Want<'a>>
+pub(crate) fn need<'a>(
+    thread: &Thread,
+    memory: &Memory,
+    buffer: &'a mut [u8; 4096],
+) -> Option<Want<'a>>
     ensures want { option_map wanted result ≡ need thread.now memory.now }
     ensures short { IfSome result IsShort }
     ensures inside { IfSome result (IsIn (length memory.now)) }
 {
     match next_kind(thread, memory) {
-        Some(Kind::Call) => need_of_call(thread, memory),
+        Some(Kind::Call) => need_of_call(thread, memory, buffer),
         Some(Kind::DeviceLoad) => need_of_load(thread, memory),
         Some(Kind::Break | Kind::DeviceStore | Kind::Fault(_)) | None => None,
     }
@@ -62,13 +66,17 @@ pub(crate) fn next_kind(thread: &Thread, memory: &Memory) -> Option<Kind>
     }
 }
 
-fn need_of_call<'a>(thread: &Thread, memory: &'a Memory) -> Option<Want<'a>>
+fn need_of_call<'a>(
+    thread: &Thread,
+    memory: &Memory,
+    buffer: &'a mut [u8; 4096],
+) -> Option<Want<'a>>
     ensures want { option_map wanted result ≡ need_of_call thread.now memory.now }
     ensures short { IfSome result IsShort }
     ensures inside { IfSome result (IsIn (length memory.now)) }
 {
     match thread.x()[17] {
-        2 => need_of_write(thread, memory),
+        2 => need_of_write(thread, memory, buffer),
         3 => need_of_read(thread, memory),
         4 => need_of_random(thread, memory),
         5 => Some(Want::Clock),
@@ -76,7 +84,11 @@ fn need_of_call<'a>(thread: &Thread, memory: &'a Memory) -> Option<Want<'a>>
     }
 }
 
-fn need_of_write<'a>(thread: &Thread, memory: &'a Memory) -> Option<Want<'a>>
+fn need_of_write<'a>(
+    thread: &Thread,
+    memory: &Memory,
+    buffer: &'a mut [u8; 4096],
+) -> Option<Want<'a>>
     ensures want { option_map wanted result ≡ need_of_write thread.now memory.now }
     ensures short { IfSome result IsShort }
     ensures inside { IfSome result (IsIn (length memory.now)) }
@@ -86,11 +98,12 @@ fn need_of_write<'a>(thread: &Thread, memory: &'a Memory) -> Option<Want<'a>>
     if !has_buffer(memory, buf, len) {
         return None;
     }
-    let bytes = &memory.bytes()[buf as usize..][..len as usize];
+    let bytes = &mut buffer[..len as usize];
+    memory.copy_to(buf, bytes);
     Some(Want::Write { channel, bytes })
 }
 
-fn need_of_read<'a>(thread: &Thread, memory: &'a Memory) -> Option<Want<'a>>
+fn need_of_read<'a>(thread: &Thread, memory: &Memory) -> Option<Want<'a>>
     ensures want { option_map wanted result ≡ need_of_read thread.now memory.now }
     ensures short { IfSome result IsShort }
     ensures inside { IfSome result (IsIn (length memory.now)) }
@@ -103,7 +116,7 @@ fn need_of_read<'a>(thread: &Thread, memory: &'a Memory) -> Option<Want<'a>>
     Some(Want::Read { channel, buf, len })
 }
 
-fn need_of_random<'a>(thread: &Thread, memory: &'a Memory) -> Option<Want<'a>>
+fn need_of_random<'a>(thread: &Thread, memory: &Memory) -> Option<Want<'a>>
     ensures want { option_map wanted result ≡ need_of_random thread.now memory.now }
     ensures short { IfSome result IsShort }
     ensures inside { IfSome result (IsIn (length memory.now)) }
@@ -125,7 +138,7 @@ fn has_buffer(memory: &Memory, buf: u32, len: u32) -> bool
 
 // What a device load wants.
 #[tactic(auto, unfolding(spec_kernel::specs::Needs::next_plan))]
-fn need_of_load<'a>(thread: &Thread, memory: &'a Memory) -> Option<Want<'a>>
+fn need_of_load<'a>(thread: &Thread, memory: &Memory) -> Option<Want<'a>>
     requires { is_inside (length memory.now) thread.now.pc ≡ true }
     ensures want { option_map wanted result ≡ need_of_load (next_plan thread.now memory.now) }
     ensures short { IfSome result IsShort }

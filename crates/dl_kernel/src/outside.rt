@@ -28,7 +28,7 @@ pub fn outside_call(
     ensures refused { OnErr result (devices.new ≡ devices.old) }
     ensures plenty { wants_memory (need thread.now memory.now) ≡ false → IsOk result }
 {
-    match need(thread, memory) {
+    match need(thread, memory, &mut [0; 4096]) {
         None => Ok(None),
         Some(want) => match answer(alloc, want, devices, moment) {
             Ok(input) => Ok(Some(input)),
@@ -48,7 +48,7 @@ pub fn outside_record(
     ensures left { IfOk result (λ input. input ≡ record_left moment devices.now (need thread.now memory.now)) }
     ensures plenty { wants_memory (need thread.now memory.now) ≡ false → IsOk result }
 {
-    match need(thread, memory) {
+    match need(thread, memory, &mut [0; 4096]) {
         None => Ok(None),
         Some(want) => match noted(alloc, want, devices, moment) {
             Ok(input) => Ok(Some(input)),
@@ -81,7 +81,7 @@ fn take_wanted(thread: &Thread, memory: &Memory, devices: &mut Devices) -> Resul
     ensures devices { (moment : ℕ) → OnOk result (devices.new ≡ devices_left moment devices.old (need thread.now memory.now)) }
     ensures refused { OnErr result (devices.new ≡ devices.old) }
 {
-    match need(thread, memory) {
+    match need(thread, memory, &mut [0; 4096]) {
         None => Ok(()),
         Some(want) => take(want, devices),
     }

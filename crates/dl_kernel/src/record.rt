@@ -23,7 +23,7 @@ pub enum Injected {
 pub fn wants_record(thread: &Thread, memory: &Memory) -> bool
     ensures { result ≡ is_some (need thread.now memory.now) }
 {
-    need(thread, memory).is_some()
+    need(thread, memory, &mut [0; 4096]).is_some()
 }
 
 /// Whether a record of a log is of the kind that the thread's next step wants, and could have been its answer. No record
@@ -31,7 +31,8 @@ pub fn wants_record(thread: &Thread, memory: &Memory) -> bool
 pub fn inject(input: &Input, thread: &Thread, memory: &Memory) -> Injected
     ensures { result ≡ injected (fits_if (need thread.now memory.now) input.now) }
 {
-    let Some(want) = need(thread, memory) else {
+    let mut buffer = [0; 4096];
+    let Some(want) = need(thread, memory, &mut buffer) else {
         return Injected::Misfit;
     };
     if fits(want, input) {

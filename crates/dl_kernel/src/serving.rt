@@ -127,7 +127,8 @@ fn outside_called(
         let thread = Thread::from_parts(&with_result(BAD_BUFFER, &step.thread.parts()));
         return alone(alloc, step.request, thread);
     };
-    let want = need(&step.thread, step.memory);
+    let mut buffer = [0; 4096];
+    let want = need(&step.thread, step.memory, &mut buffer);
     Ok(Served {
         thread: Thread::from_parts(&with_result(input.result, &step.thread.parts())),
         made: None,

@@ -1,5 +1,6 @@
 -- What is true of every memory.
-use Rattle.std.specs.Prelude.{ℕ, List, length}
+use Rattle.std.specs.Prelude.{◌≡◌, ℕ, List, [], length, slice_index_or, Option, None, IfSome}
+use Rattle.std.specs.List.{All, concat}
 use Rattle.dl_elf.specs.Images.{IsSize}
 use Rattle.spec_isa.specs.Words.{IsBytes}
 
@@ -7,3 +8,12 @@ use Rattle.spec_isa.specs.Words.{IsBytes}
 pub record IsMemory (memory : List ℕ) : Type 0 where
   pub size : IsSize (length memory)
   pub bytes : IsBytes memory
+
+-- these pages are whole, and a memory one after another
+pub record IsPaged (pages : List (List ℕ)) : Type 0 where
+  pub whole : All (λ page. length page ≡ 4096) pages
+  pub memory : IsMemory (concat pages)
+
+-- what is there for a page has the page's bytes
+abbrev pub Renews : (pages : List (List ℕ)) → List (Option (List ℕ)) → Type 0
+Renews pages renewals = (i : ℕ) → IfSome (slice_index_or renewals i None) (λ shared. shared ≡ slice_index_or pages i [])

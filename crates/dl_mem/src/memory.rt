@@ -1,8 +1,13 @@
 //! The bytes of one sphere. They are read and written by the word: four bytes from a multiple of 4 on, the least one first.
-ghost use Rattle.std.specs.Prelude.{◌≡◌, ◌+◌, ◌/◌, ◌%◌, ◌<◌, ◌≤◌, length, IfOk};
-ghost use Rattle.spec_isa.specs.Words.{lay, with_byte};
-ghost use Rattle.spec_isa.specs.Masks.{bytes_of, some_if};
+ghost use Rattle.std.specs.Prelude.{◌≡◌, ◌+◌, ◌/◌, ◌%◌, ◌<◌, ◌≤◌, length, take, drop, IfOk};
+ghost use Rattle.std.specs.List.{concat};
+ghost use Rattle.spec_isa.specs.Words.{lay, read};
+ghost use Rattle.spec_isa.specs.Masks.{bytes_of};
+ghost use Rattle.dl_mem.specs.Memories.{IsMemory, IsPaged};
 
+use crate::page::{PAGE, Page, word_at};
+use crate::pages::{copy_pages, keep, new_pages, renewals, restored_pages, shared_pages};
+use crate::snapshot::Snapshot;
 use dl_elf::Image;
 use std::alloc::{AllocError, Global};
 use std::marker::Model;
@@ -10,31 +15,39 @@ use std::marker::Model;
 /// The memory of a sphere, from 4,096 to 16,777,216 bytes in whole pages of 4,096.
 #[derive(Debug, Drop)]
 pub struct Memory {
-    bytes: Vec<u8>,
+    pages: Vec<Page>,
 }
 
 impl Model for Memory {
     ghost use Rattle.std.specs.Prelude.{ℕ, List};
-    ghost use Rattle.dl_mem.specs.Memories.{IsMemory};
+    ghost use Rattle.std.specs.List.{concat};
+    ghost use Rattle.dl_mem.specs.Memories.{IsPaged};
 
     ghost Value = { List ℕ };
 
-    ghost view = { λ m. m.bytes.items };
+    ghost view = { λ m. concat m.pages.items };
 
-    ghost invariant = { λ m. IsMemory m.bytes.items };
+    ghost invariant = { λ m. IsPaged m.pages.items };
 }
 
 impl Memory {
-    ghost use Rattle.dl_mem.specs.Memories.{IsMemory};
-    ghost use Rattle.spec_isa.specs.Words.{read};
-
     /// A memory of an image's bytes.
     pub fn new(alloc: Global, image: &Image) -> Result<Memory, AllocError>
         ensures { IfOk result (λ memory. memory ≡ image.now.bytes) }
     {
         let bytes = image.bytes();
+        let (pages, _) = bytes.as_chunks::<PAGE>();
         Ok(Memory {
-            bytes: Vec::from_slice(alloc, bytes)?,
+            pages: new_pages(alloc, pages)?,
+        })
+    }
+
+    /// A memory of a snapshot's bytes, which shares them until they are put to.
+    pub fn from_snapshot(alloc: Global, from: &Snapshot) -> Result<Memory, AllocError>
+        ensures { IfOk result (λ memory. memory ≡ from.now) }
+    {
+        Ok(Memory {
+            pages: restored_pages(alloc, from.pages())?,
         })
     }
 
@@ -43,15 +56,7 @@ impl Memory {
         ensures value { result ≡ length self.now }
         ensures memory { IsMemory self.now }
     {
-        self.bytes.len() as u32
-    }
-
-    /// Every byte, the one at address 0 first.
-    pub fn bytes(&self) -> &[u8]
-        ensures value { result.now ≡ self.now }
-        ensures memory { IsMemory self.now }
-    {
-        &self.bytes
+        (self.pages.len() * PAGE) as u32
     }
 
     /// The word at an address inside.
@@ -62,8 +67,15 @@ impl Memory {
         ensures memory { IsMemory self.now }
     {
         let at = addr as usize;
-        let bytes: &[u8] = &self.bytes;
-        u32::from_le_bytes([bytes[at], bytes[at + 1], bytes[at + 2], bytes[at + 3]])
+        word_at(self.pages[at / PAGE].bytes(), at % PAGE)
+    }
+
+    /// Copies the bytes from an address on, as many as the slice has room for.
+    pub fn copy_to(&self, addr: u32, into: &mut [u8])
+        requires inside { addr + length into.old ≤ length self.now }
+        ensures { into.new ≡ take (length into.old) (drop addr self.now) }
+    {
+        copy_pages(&self.pages, addr as usize, into);
     }
 
     /// Writes those bytes of the value whose bits of the mask are set into the word at an address inside.
@@ -74,29 +86,20 @@ impl Memory {
         ensures before { IsMemory self.old }
         ensures after { IsMemory self.new }
     {
-        put_masked(&mut self.bytes, addr as usize, mask, value);
+        let at = addr as usize;
+        self.pages[at / PAGE].put(at % PAGE, mask, value);
     }
-}
 
-// Lays the masked bytes of a value into the four from that place on.
-fn put_masked(bytes: &mut [u8], at: usize, mask: u8, value: u32)
-    requires aligned { at % 4 ≡ 0 }
-    requires inside { at + 4 ≤ length bytes.old }
-    ensures { bytes.new ≡ lay bytes.old (bytes_of (at / 4) mask value) }
-{
-    let [b0, b1, b2, b3] = value.to_le_bytes();
-    put_if(bytes, at, mask % 2 == 1, b0);
-    put_if(bytes, at + 1, mask / 2 % 2 == 1, b1);
-    put_if(bytes, at + 2, mask / 4 % 2 == 1, b2);
-    put_if(bytes, at + 3, mask / 8 % 2 == 1, b3);
-}
-
-fn put_if(bytes: &mut [u8], at: usize, is_put: bool, byte: u8)
-    requires { at < length bytes.old }
-    ensures { bytes.new ≡ with_byte bytes.old at (some_if is_put byte) }
-{
-    if is_put {
-        bytes[at] = byte;
+    /// The memory as it is now. It copies the pages that were put to since the last snapshot, and shares the others with that.
+    pub fn snapshot(&mut self) -> Result<Snapshot, AllocError>
+        ensures ok { IfOk result (λ snapshot. snapshot ≡ self.old) }
+        ensures unchanged { self.new ≡ self.old }
+    {
+        let alloc = *self.pages.allocator();
+        let shared = shared_pages(alloc, &self.pages)?;
+        let renewals = renewals(alloc, &self.pages, &shared)?;
+        keep(&mut self.pages, renewals);
+        Ok(Snapshot::from_pages(shared))
     }
 }
 
@@ -133,6 +136,43 @@ mod tests {
         assert_eq!(rt; memory.size(), 4096);
         assert_eq!(rt; memory.word(4), 0x73);
         assert_eq!(rt; memory.word(4092), 0);
+        Ok(())
+    }
+
+    #[test]
+    fn snapshots_show_their_moments(rt: HostRuntime) -> Result<(), Fail> {
+        let mut file = FILE;
+        file[84..].fill(0);
+        let image = dl_elf::load(rt.alloc(), &file, 8192)?;
+        let mut memory = Memory::new(rt.alloc(), &image)?;
+        assert_eq!(rt; memory.size(), 8192);
+        let first = memory.snapshot()?;
+        memory.put(4, 0b1111, 7);
+        let second = memory.snapshot()?;
+        memory.put(4, 0b1111, 9);
+        let restored = Memory::from_snapshot(rt.alloc(), &second)?;
+        let words = [
+            first.word(4),
+            second.word(4),
+            memory.word(4),
+            restored.word(4),
+        ];
+        assert_eq!(rt; words, [0, 7, 9, 7]);
+        Ok(())
+    }
+
+    #[test]
+    fn copies_the_bytes_of_two_pages(rt: HostRuntime) -> Result<(), Fail> {
+        let image = dl_elf::load(rt.alloc(), &FILE, 8192)?;
+        let mut memory = Memory::new(rt.alloc(), &image)?;
+        assert_eq!(rt; memory.size(), 8192);
+        memory.put(4092, 0b1111, 0x0403_0201);
+        assert_eq!(rt; memory.size(), 8192);
+        memory.put(4096, 0b1111, 0x0807_0605);
+        assert_eq!(rt; memory.size(), 8192);
+        let mut bytes = [0; 5];
+        memory.copy_to(4093, &mut bytes);
+        assert_eq!(rt; bytes, [2, 3, 4, 5, 6]);
         Ok(())
     }
 }

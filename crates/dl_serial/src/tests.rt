@@ -48,8 +48,10 @@ fn walks_end_where_their_logs_say(rt: HostRuntime) -> Result<(), Fail> {
 #[test]
 fn a_transfer_is_stored_and_loaded(rt: HostRuntime) -> Result<(), Fail> {
     let walked = walked(rt.alloc(), DMA, TRANSFERRED, 5)?;
-    let stored = walked.memory.bytes().get(256..262);
-    assert!(rt; stored == Some([2, 0, 0, 0, 0x41, 0x42].as_slice()));
+    assert_eq!(rt; walked.memory.size(), 4096);
+    let mut stored = [0; 6];
+    walked.memory.copy_to(256, &mut stored);
+    assert_eq!(rt; stored, [2, 0, 0, 0, 0x41, 0x42]);
     let thread = walked.threads.get(0);
     assert!(rt; thread.is_some_and(|thread| thread.x()[5] == 0x4241));
     assert!(rt; walked.request.is_none());

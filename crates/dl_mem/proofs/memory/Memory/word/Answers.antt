@@ -1,10 +1,13 @@
--- The four bytes from the address on are those of the word.
-use Rattle.std.proofs.Common.{◌≡◌, ◌*◌, ◌/◌, arith, rules}
-use Rattle.spec_isa.specs.Words.{read}
+-- The word is one of its page.
+use Rattle.std.proofs.Common.{rules}
+use Rattle.dl_mem.proofs.Paged.{page_inside, read_paged}
 use Rattle.dl_mem.proofs.memory.Memory.word.Goals as goal
 
+pub index-requires : goal.index-requires
+index-requires c =
+    let lt = page_inside c.self.inside.pages.items c.args.addr c.self.invariant (rw c.self.view_is c.requires.inside) in search rules
+
 pub returns-clause-value : goal.returns-clause-value
-unfolding read
 returns-clause-value c =
-    let place : 4 * (c.args.addr / 4) ≡ c.args.addr = omega (arith, c.requires.aligned) in
-    rw place (search rules)
+    rw (c.word_at.ensures, c.bytes.ensures, ← c.self.view_is)
+    (read_paged c.self.inside.pages.items c.args.addr c.index.result.now c.self.invariant c.requires.aligned (rw c.self.view_is c.requires.inside) c.index.ensures)

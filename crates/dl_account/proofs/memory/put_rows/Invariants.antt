@@ -1,7 +1,0 @@
-use Rattle.std.proofs.Common.{◌≡◌, ◌++◌, take}
-use Rattle.dl_account.specs.Lines.{numbered}
-use Rattle.dl_account.specs.States.{row_line}
-use Rattle.dl_account.proofs.memory.put_rows.Given as goal
-
-abbrev pub invariant-loop-number : goal.invariant-loop-number
-invariant-loop-number l = l.text ≡ l.initial.text ++ numbered row_line 0 (take l.number l.rows)
