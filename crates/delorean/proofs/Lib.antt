@@ -3,6 +3,8 @@ mod Stages
 mod Stopping
 mod Storing
 mod Finishing
+mod Growing
+mod Named
 mod Planned
 mod Spheres
 mod Building

@@ -3,7 +3,6 @@ use Rattle.std.proofs.Common.{◌≡◌, ℕ, List, Option, Some, None, option_t
 use Rattle.std.specs.FinMap.{get}
 use Rattle.dl_files.specs.Contents.{Contents}
 use Rattle.dl_files.specs.Count.{Rose}
-use Rattle.dl_plan.specs.Files.{script_read, log_read, read_by}
 use Rattle.dl_plan.specs.Values.{ScheduleValues, Script, Seeded, RoleValues, Plain, Record, Replay, SphereValues}
 use Rattle.spec_program.specs.Ends.{IsReadNext}
 use Rattle.spec_program.specs.Files.{ScheduleRead, RoleRead, SphereRead, read_at, schedule_read, input_read, role_read, sphere_read}
@@ -12,6 +11,7 @@ use Rattle.spec_program.specs.Tasks.{absent}
 use Rattle.spec_program.proofs.Turns.{AreThere}
 use Rattle.delorean.specs.declared.halt.Halt.{Halt}
 use Rattle.delorean.specs.Halts.{IsFault, Unread, Halts, Refuses, IsNotUsage}
+use Rattle.delorean.specs.Reads.{read_for_schedule, read_for_role, read_for_sphere}
 
 -- ---- one stage after another
 
@@ -117,20 +117,20 @@ then_ok : {A B E : Type 0} (o : Result A E) (f : A → Result B E) (b : B) → (
 then_ok (Err x) f b e = absurd cc
 then_ok (Ok a) f b e = (a, refl, e)
 
-pub source_there : (m : Contents) (s : ScheduleValues) (r : ScheduleRead) → schedule_read m s ≡ Ok r → AreThere m (script_read s)
-source_there m (Script name) r e = let t = then_ok (read_at m name) _ r e in (file_there m name t.0 t.1, tt)
-source_there m (Seeded n) r e = tt
+pub schedule_there : (m : Contents) (s : ScheduleValues) (r : ScheduleRead) → schedule_read m s ≡ Ok r → AreThere m (read_for_schedule s)
+schedule_there m (Script name) r e = let t = then_ok (read_at m name) _ r e in (file_there m name t.0 t.1, tt)
+schedule_there m (Seeded n) r e = tt
 
 pub input_there : (m : Contents) (o : Option (List ℕ)) (bytes : List ℕ) → input_read m o ≡ Ok bytes → AreThere m (option_to_list o)
 input_there m None bytes e = tt
 input_there m (Some name) bytes e = (file_there m name bytes e, tt)
 
-role_there : (m : Contents) (role : RoleValues) (r : RoleRead) → role_read m role ≡ Ok r → AreThere m (log_read role)
+role_there : (m : Contents) (role : RoleValues) (r : RoleRead) → role_read m role ≡ Ok r → AreThere m (read_for_role role)
 role_there m Plain r e = tt
 role_there m (Record mode log) r e = tt
 role_there m (Replay log) r e = let t = then_ok (read_at m log) _ r e in (file_there m log t.0 t.1, tt)
 
-pub sphere_there : (m : Contents) (s : SphereValues) (r : SphereRead) → sphere_read m s ≡ Ok r → AreThere m (read_by s)
+pub sphere_there : (m : Contents) (s : SphereValues) (r : SphereRead) → sphere_read m s ≡ Ok r → AreThere m (read_for_sphere s)
 sphere_there m s r e =
     let image = then_ok (read_at m s.image) _ r e in
     let role = then_ok (role_read m s.role) _ r image.2 in

@@ -5,14 +5,14 @@ use Rattle.dl_elf.specs.Images.{Image}
 use Rattle.dl_plan.specs.Values.{PlanValues, IsMemory}
 use Rattle.dl_sphere.specs.declared.setup.SphereSetup.{SphereSetup}
 use Rattle.spec_program.specs.Files.{ScheduleRead, ScriptRead, EventsDrawn, RoleRead, PlainRead, RecordRead, ReplayRead, SphereRead, PlanRead}
-use Rattle.delorean.specs.declared.inputs.Source.{Source}
+use Rattle.delorean.specs.declared.inputs.ScheduleInputs.{ScheduleInputs}
 use Rattle.delorean.specs.declared.inputs.RoleInputs.{RoleInputs}
 use Rattle.delorean.specs.declared.inputs.SphereInputs.{SphereInputs}
 use Rattle.delorean.specs.declared.inputs.Inputs.{Inputs}
 
-abbrev pub source_view : Source → ScheduleRead
-source_view (Source.Script bytes) = ScriptRead bytes.items
-source_view (Source.Drawn events) = EventsDrawn events
+abbrev pub schedule_view : ScheduleInputs → ScheduleRead
+schedule_view (ScheduleInputs.Script bytes) = ScriptRead bytes.items
+schedule_view (ScheduleInputs.Drawn events) = EventsDrawn events
 
 abbrev pub role_view : RoleInputs → RoleRead
 role_view RoleInputs.Plain = PlainRead
@@ -23,7 +23,7 @@ abbrev pub sphere_view : SphereInputs → SphereRead
 sphere_view s = record { image = s.image.items; memory = s.memory; role = role_view s.role }
 
 abbrev pub inputs_view : Inputs → PlanRead
-inputs_view r = record { schedule = source_view r.source; input = r.input.items; spheres = map sphere_view r.spheres.items }
+inputs_view r = record { schedule = schedule_view r.schedule; input = r.input.items; spheres = map sphere_view r.spheres.items }
 
 -- the image of a sphere before it starts
 abbrev pub image_in : SphereSetup → Image
@@ -32,9 +32,9 @@ image_in s = s.image
 -- ---- what is true of them
 
 -- the events that are drawn are at most 2^24
-abbrev pub IsSource : ScheduleRead → Type 0
-IsSource (ScriptRead bytes) = ⊤
-IsSource (EventsDrawn events) = events ≤ 2 ^ 24
+abbrev pub IsScheduleRead : ScheduleRead → Type 0
+IsScheduleRead (ScriptRead bytes) = ⊤
+IsScheduleRead (EventsDrawn events) = events ≤ 2 ^ 24
 
 -- each memory has a size
 abbrev pub HaveMemories : List SphereRead → Type 0
@@ -42,6 +42,6 @@ HaveMemories spheres = AllByRecursion (λ (s : SphereRead). IsMemory s.memory) s
 
 -- the plan's numbers are within their limits, and each of its spheres is read
 pub record AreOf (p : PlanValues) (r : PlanRead) : Type 0 where
-  pub source : IsSource r.schedule
+  pub schedule : IsScheduleRead r.schedule
   pub count : length r.spheres ≡ length p.spheres
   pub memories : HaveMemories r.spheres

@@ -7,3 +7,4 @@ pub mod Products
 pub mod Ended
 pub mod Performed
 pub mod Walks
+pub mod Reads

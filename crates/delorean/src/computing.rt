@@ -37,7 +37,7 @@ pub fn compute(alloc: Global, plan: &Plan, inputs: Inputs) -> Result<Job, Halt>
         Ok(()) => {}
         Err(halt) => return Err(halt),
     }
-    let schedule = match read_events(alloc, plan.seed, inputs.source) {
+    let schedule = match read_events(alloc, plan.seed, inputs.schedule) {
         Ok(schedule) => schedule,
         Err(halt) => return Err(halt),
     };

@@ -5,10 +5,10 @@ ghost use Rattle.dl_event.specs.Script.{script_of};
 ghost use Rattle.spec_program.specs.Built.{bad_script, events_of};
 ghost use Rattle.spec_program.specs.Stages.{refusing};
 ghost use Rattle.delorean.specs.Halts.{Refuses};
-ghost use Rattle.delorean.specs.Inputs.{IsSource, source_view};
+ghost use Rattle.delorean.specs.Inputs.{IsScheduleRead, schedule_view};
 
 use crate::halt::Halt;
-use crate::inputs::Source;
+use crate::inputs::ScheduleInputs;
 use crate::lines::script_line;
 use dl_event::{Event, ScriptError, parse_script};
 use dl_run::Schedule;
@@ -16,18 +16,18 @@ use spec_program::status::Refusal;
 use std::alloc::Global;
 
 /// The events of the script, or as many as are to be drawn from the seed.
-pub fn read_events(alloc: Global, seed: u64, source: Source) -> Result<Schedule, Halt>
-    requires { IsSource (source_view source) }
-    ensures events { IfOk result (λ s. events_of seed (source_view source) ≡ Ok (events_in s)) }
+pub fn read_events(alloc: Global, seed: u64, inputs: ScheduleInputs) -> Result<Schedule, Halt>
+    requires { IsScheduleRead (schedule_view inputs) }
+    ensures events { IfOk result (λ s. events_of seed (schedule_view inputs) ≡ Ok (events_in s)) }
     ensures few { IfOk result (λ s. AreFew (events_in s)) }
-    ensures halt { IfErr result (Refuses (events_of seed (source_view source))) }
+    ensures halt { IfErr result (Refuses (events_of seed (schedule_view inputs))) }
 {
-    match source {
-        Source::Script(bytes) => match read_script(alloc, &bytes) {
+    match inputs {
+        ScheduleInputs::Script(bytes) => match read_script(alloc, &bytes) {
             Ok(events) => Ok(Schedule::Script(events)),
             Err(halt) => Err(halt),
         },
-        Source::Drawn(events) => Ok(Schedule::Seeded { seed, events }),
+        ScheduleInputs::Drawn(events) => Ok(Schedule::Seeded { seed, events }),
     }
 }
 

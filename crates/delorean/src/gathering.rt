@@ -1,14 +1,15 @@
 //! Reading what a plan names, part after part in the order of the work, and nothing after a file that is absent or fails.
 ghost use Rattle.std.specs.Prelude.{◌≡◌, Some, Ok, IfOk, IfErr, OnOk, flat_map, length, map, option_map, option_to_list, string_bytes};
 ghost use Rattle.dl_files.specs.Contents.{Contents};
-ghost use Rattle.dl_plan.specs.Files.{input_names, script_read, log_read, read_by};
+ghost use Rattle.dl_plan.specs.Files.{input_names};
 ghost use Rattle.dl_plan.specs.Values.{IsPlan, IsSchedule, AreMemories, plan_view, schedule_view, role_view, sphere_view};
 ghost use Rattle.spec_program.specs.Files.{plan_read, schedule_read, input_read, role_read, sphere_read, spheres_read};
 ghost use Rattle.delorean.specs.Halts.{Unread};
-ghost use Rattle.delorean.specs.Inputs.{AreOf, IsSource, HaveMemories, inputs_view, source_view, role_view as role_inputs, sphere_view as sphere_inputs};
+ghost use Rattle.delorean.specs.Inputs.{AreOf, IsScheduleRead, HaveMemories, inputs_view, schedule_view as schedule_inputs, role_view as role_inputs, sphere_view as sphere_inputs};
+ghost use Rattle.delorean.specs.Reads.{read_for_schedule, read_for_role, read_for_sphere};
 
 use crate::halt::Halt;
-use crate::inputs::{Inputs, RoleInputs, Source, SphereInputs};
+use crate::inputs::{Inputs, RoleInputs, ScheduleInputs, SphereInputs};
 use crate::reading::read_file;
 use dl_files::Files;
 use dl_plan::{Plan, Role, Schedule, Sphere};
@@ -25,8 +26,8 @@ pub fn read_inputs<F: Files>(alloc: Global, files: &mut F, plan: &Plan) -> Resul
     ensures kept { F.told files.new ≡ F.told files.old }
     ensures steady { OnOk result (F.count files.new ≡ F.count files.old) }
 {
-    let source = match read_source(alloc, files, &plan.schedule) {
-        Ok(source) => source,
+    let schedule = match read_schedule(alloc, files, &plan.schedule) {
+        Ok(schedule) => schedule,
         Err(halt) => return Err(halt),
     };
     let input = match read_input(alloc, files, &plan.input) {
@@ -38,28 +39,32 @@ pub fn read_inputs<F: Files>(alloc: Global, files: &mut F, plan: &Plan) -> Resul
         Err(halt) => return Err(halt),
     };
     Ok(Inputs {
-        source,
+        schedule,
         input,
         spheres,
     })
 }
 
-fn read_source<F: Files>(alloc: Global, files: &mut F, schedule: &Schedule) -> Result<Source, Halt>
+fn read_schedule<F: Files>(
+    alloc: Global,
+    files: &mut F,
+    schedule: &Schedule,
+) -> Result<ScheduleInputs, Halt>
     requires { IsSchedule (schedule_view schedule.now) }
     ensures read { IfOk result (λ s. (m : Contents) → F.told files.old ≡ Some m
-        → schedule_read m (schedule_view schedule.now) ≡ Ok (source_view s)) }
-    ensures few { IfOk result (λ s. IsSource (source_view s)) }
-    ensures halt { IfErr result (Unread (F.told files.old) (script_read (schedule_view schedule.now))
+        → schedule_read m (schedule_view schedule.now) ≡ Ok (schedule_inputs s)) }
+    ensures few { IfOk result (λ s. IsScheduleRead (schedule_inputs s)) }
+    ensures halt { IfErr result (Unread (F.told files.old) (read_for_schedule (schedule_view schedule.now))
         (λ m. schedule_read m (schedule_view schedule.now)) (F.count files.old) (F.count files.new) (F.last_fault files.new)) }
     ensures kept { F.told files.new ≡ F.told files.old }
     ensures steady { OnOk result (F.count files.new ≡ F.count files.old) }
 {
     match schedule {
         Schedule::Script(name) => match read_file(alloc, files, name.as_str()) {
-            Ok(bytes) => Ok(Source::Script(bytes)),
+            Ok(bytes) => Ok(ScheduleInputs::Script(bytes)),
             Err(halt) => Err(halt),
         },
-        Schedule::Seeded { events } => Ok(Source::Drawn(*events)),
+        Schedule::Seeded { events } => Ok(ScheduleInputs::Drawn(*events)),
     }
 }
 
@@ -94,7 +99,7 @@ fn read_spheres<F: Files>(
         → spheres_read m (map sphere_view spheres.now) ≡ Ok (map sphere_inputs ss.items)) }
     ensures count { IfOk result (λ ss. length ss.items ≡ length spheres.now) }
     ensures memories { IfOk result (λ ss. HaveMemories (map sphere_inputs ss.items)) }
-    ensures halt { IfErr result (Unread (F.told files.old) (flat_map read_by (map sphere_view spheres.now))
+    ensures halt { IfErr result (Unread (F.told files.old) (flat_map read_for_sphere (map sphere_view spheres.now))
         (λ m. spheres_read m (map sphere_view spheres.now)) (F.count files.old) (F.count files.new) (F.last_fault files.new)) }
     ensures kept { F.told files.new ≡ F.told files.old }
     ensures steady { OnOk result (F.count files.new ≡ F.count files.old) }
@@ -121,7 +126,7 @@ fn read_sphere<F: Files>(
     ensures read { IfOk result (λ s. (m : Contents) → F.told files.old ≡ Some m
         → sphere_read m (sphere_view sphere.now) ≡ Ok (sphere_inputs s)) }
     ensures memory { IfOk result (λ s. s.memory ≡ sphere.now.memory) }
-    ensures halt { IfErr result (Unread (F.told files.old) (read_by (sphere_view sphere.now))
+    ensures halt { IfErr result (Unread (F.told files.old) (read_for_sphere (sphere_view sphere.now))
         (λ m. sphere_read m (sphere_view sphere.now)) (F.count files.old) (F.count files.new) (F.last_fault files.new)) }
     ensures kept { F.told files.new ≡ F.told files.old }
     ensures steady { OnOk result (F.count files.new ≡ F.count files.old) }
@@ -144,7 +149,7 @@ fn read_sphere<F: Files>(
 fn read_role<F: Files>(alloc: Global, files: &mut F, role: &Role) -> Result<RoleInputs, Halt>
     ensures read { IfOk result (λ r. (m : Contents) → F.told files.old ≡ Some m
         → role_read m (role_view role.now) ≡ Ok (role_inputs r)) }
-    ensures halt { IfErr result (Unread (F.told files.old) (log_read (role_view role.now))
+    ensures halt { IfErr result (Unread (F.told files.old) (read_for_role (role_view role.now))
         (λ m. role_read m (role_view role.now)) (F.count files.old) (F.count files.new) (F.last_fault files.new)) }
     ensures kept { F.told files.new ≡ F.told files.old }
     ensures steady { OnOk result (F.count files.new ≡ F.count files.old) }

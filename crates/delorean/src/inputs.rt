@@ -4,7 +4,7 @@ use dl_plan::Mode;
 /// What a plan has read.
 #[derive(Drop)]
 pub struct Inputs {
-    pub source: Source,
+    pub schedule: ScheduleInputs,
     /// The devices' input.
     pub input: Vec<u8>,
     pub spheres: Vec<SphereInputs>,
@@ -12,7 +12,7 @@ pub struct Inputs {
 
 /// Where the events come from.
 #[derive(Drop)]
-pub enum Source {
+pub enum ScheduleInputs {
     /// The bytes of a script.
     Script(Vec<u8>),
     /// So many, which are drawn from the plan's seed.

@@ -1,27 +1,48 @@
 -- The files that a plan has read and written, in the order of the work.
-use Rattle.std.specs.Prelude.{ℕ, suc, List, [], ◌∷◌, ◌++◌, map, flat_map, Option, Some, None, option_to_list}
+use Rattle.std.specs.Prelude.{ℕ, suc, List, [], ◌∷◌, ◌++◌, map, Option, Some, None}
+use Rattle.dl_plan.specs.declared.inputs.Source.{Source}
 use Rattle.dl_plan.specs.declared.outputs.Product.{Product}
-use Rattle.dl_plan.specs.Values.{ScheduleValues, Script, Seeded, RoleValues, Record, Replay, SphereValues, PlanValues}
+use Rattle.dl_plan.specs.Values.{ScheduleValues, Script, Seeded, RoleValues, Plain, Record, Replay, SphereValues, PlanValues}
 
 -- ---- those that are read
 
+-- a name, and what the file of that name is read for
+pub record InputValues : Type 0 where
+  pub name : List ℕ
+  pub source : Source
+
+-- the file of that name is the source, where one is named
+abbrev pub from : Source → Option (List ℕ) → List InputValues
+from source None = []
+from source (Some name) = record { name = name; source = source } ∷ []
+
 -- the script, where the events come from one
-abbrev pub script_read : ScheduleValues → List (List ℕ)
-script_read (Script name) = name ∷ []
+abbrev pub script_read : ScheduleValues → List InputValues
+script_read (Script name) = record { name = name; source = Source.Script } ∷ []
 script_read (Seeded events) = []
 
--- the log, where one is replayed
-abbrev pub log_read : RoleValues → List (List ℕ)
-log_read (Replay log) = log ∷ []
-log_read _ = []
+-- the log, where the sphere of that number replays one
+abbrev pub log_read : (sphere : ℕ) → RoleValues → List InputValues
+log_read i Plain = []
+log_read i (Record mode log) = []
+log_read i (Replay log) = record { name = log; source = Source.Log i } ∷ []
 
--- of a sphere, its image and then its log
-abbrev pub read_by : SphereValues → List (List ℕ)
-read_by s = s.image ∷ log_read s.role
+-- of the sphere of that number, its image and then its log
+abbrev pub read_by : (sphere : ℕ) → SphereValues → List InputValues
+read_by i s = record { name = s.image; source = Source.Image i } ∷ log_read i s.role
 
--- the names that a plan has read: the script, the input, and those of each sphere
+-- of the spheres from that number on
+abbrev pub read_from : (sphere : ℕ) → List SphereValues → List InputValues
+read_from i [] = []
+read_from i (s ∷ ss) = read_by i s ++ read_from (suc i) ss
+
+-- the files that a plan has read: the script, the input, and those of each sphere
+abbrev pub inputs_of : PlanValues → List InputValues
+inputs_of p = script_read p.schedule ++ (from Source.Input p.input ++ read_from 0 p.spheres)
+
+-- their names
 abbrev pub input_names : PlanValues → List (List ℕ)
-input_names p = script_read p.schedule ++ (option_to_list p.input ++ flat_map read_by p.spheres)
+input_names p = map (λ i. i.name) (inputs_of p)
 
 -- all names that are read, the plan's own first
 abbrev pub read_names : (name : List ℕ) → PlanValues → List (List ℕ)
@@ -41,8 +62,9 @@ into product (Some name) = record { name = name; product = product } ∷ []
 
 -- the log, where the sphere of that number is recorded
 abbrev pub log_written : (sphere : ℕ) → RoleValues → List OutputValues
+log_written i Plain = []
 log_written i (Record mode log) = record { name = log; product = Product.Log i } ∷ []
-log_written i _ = []
+log_written i (Replay log) = []
 
 -- of the sphere of that number, its log and then its account
 abbrev pub written_by : (sphere : ℕ) → SphereValues → List OutputValues

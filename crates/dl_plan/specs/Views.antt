@@ -1,13 +1,14 @@
 -- What the program's own structs stand for.
 use Rattle.std.specs.Prelude.{ℕ, List, map, option_copied}
 use Rattle.std.specs.Borrow.{Bor}
+use Rattle.dl_plan.specs.declared.inputs.Input.{Input}
 use Rattle.dl_plan.specs.declared.outputs.Output.{Output}
 use Rattle.dl_plan.specs.declared.entries.Entries.{Entries as EntriesStruct}
 use Rattle.dl_plan.specs.declared.sizes.Sizes.{Sizes as SizesStruct}
 use Rattle.dl_plan.specs.declared.sphere.SphereEntries.{SphereEntries as SphereStruct}
 use Rattle.dl_plan.specs.declared.top.TopEntries.{TopEntries as TopStruct}
 use Rattle.dl_plan.specs.Entries.{TopEntries, SphereEntries, Entries}
-use Rattle.dl_plan.specs.Files.{OutputValues}
+use Rattle.dl_plan.specs.Files.{InputValues, OutputValues}
 use Rattle.dl_plan.specs.Sizes.{Sizes}
 
 abbrev pub top_view : TopStruct → TopEntries
@@ -37,6 +38,9 @@ sizes_view s = record { cores = s.cores; chunk = s.chunk; buffer = s.buffer; win
 -- the bytes of some texts
 abbrev pub texts : List (Bor (List ℕ)) → List (List ℕ)
 texts names = map (λ n. n.now) names
+
+abbrev pub input_view : Input → InputValues
+input_view i = record { name = i.name.now; source = i.source }
 
 abbrev pub output_view : Output → OutputValues
 output_view o = record { name = o.name.now; product = o.product }

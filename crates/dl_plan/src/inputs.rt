@@ -1,86 +1,99 @@
-//! The names of the files that a plan has read.
-ghost use Rattle.std.specs.Prelude.{◌≡◌, ◌∷◌, ◌++◌, [], IfOk, OnOk, map, flat_map, option_map, option_to_list, string_bytes};
-ghost use Rattle.dl_plan.specs.Files.{read_by, log_read, script_read, input_names, read_names};
+//! The files that a plan has read.
+ghost use Rattle.std.specs.Prelude.{◌≡◌, ◌∷◌, ◌++◌, [], IfOk, OnOk, map, option_map, string_bytes};
+ghost use Rattle.dl_plan.specs.Files.{InputValues, from, script_read, read_by, read_from, inputs_of};
 ghost use Rattle.dl_plan.specs.Values.{plan_view, schedule_view, sphere_view, role_view};
-ghost use Rattle.dl_plan.specs.Views.{texts};
+ghost use Rattle.dl_plan.specs.Views.{input_view};
 
 use crate::plan::{Plan, Role, Schedule, Sphere};
 use std::alloc::{AllocError, Global};
 
-/// The names that the plan has read, in their order: the script, the input, and of each sphere its image and its log.
-pub fn input_names(alloc: Global, plan: &Plan) -> Result<Vec<&str>, AllocError>
-    ensures { IfOk result (λ names. texts names.items ≡ input_names (plan_view plan.now)) }
-{
-    let mut names = Vec::new(alloc);
-    add_inputs(&mut names, plan)?;
-    Ok(names)
+/// What a file is read for. Spheres are numbered from 0.
+#[derive(Clone, Copy, Debug, PartialEq, Eq)]
+pub enum Source {
+    /// The script, which has the events.
+    Script,
+    /// The input of the devices.
+    Input,
+    /// The image of the sphere of that number.
+    Image(usize),
+    /// The log that the sphere of that number replays.
+    Log(usize),
 }
 
-/// All names that are read: the plan's own, and those that it has read.
-pub(crate) fn read_names<'a>(
-    alloc: Global,
-    name: &'a str,
-    plan: &'a Plan,
-) -> Result<Vec<&'a str>, AllocError>
-    ensures { IfOk result (λ names. texts names.items ≡ read_names name.now (plan_view plan.now)) }
-{
-    let mut names = Vec::new(alloc);
-    add(&mut names, name)?;
-    add_inputs(&mut names, plan)?;
-    Ok(names)
+/// A file that is read.
+#[derive(Clone, Copy, Debug)]
+pub struct Input<'a> {
+    pub name: &'a str,
+    pub source: Source,
 }
 
-fn add_inputs<'a>(names: &mut Vec<&'a str>, plan: &'a Plan) -> Result<(), AllocError>
-    ensures { OnOk result (texts names.new.items ≡ texts names.old.items ++ input_names (plan_view plan.now)) }
+/// The files that the plan has read, in their order: the script, the input, and of each sphere its image and its log.
+pub fn inputs_of(alloc: Global, plan: &Plan) -> Result<Vec<Input<'_>>, AllocError>
+    ensures { IfOk result (λ inputs. map input_view inputs.items ≡ inputs_of (plan_view plan.now)) }
 {
-    add_script(names, &plan.schedule)?;
-    add_optional(names, &plan.input)?;
-    add_spheres(names, &plan.spheres)
+    let mut inputs = Vec::new(alloc);
+    add_script(&mut inputs, &plan.schedule)?;
+    add_optional(&mut inputs, Source::Input, &plan.input)?;
+    add_spheres(&mut inputs, &plan.spheres)?;
+    Ok(inputs)
 }
 
-fn add_script<'a>(names: &mut Vec<&'a str>, schedule: &'a Schedule) -> Result<(), AllocError>
-    ensures { OnOk result (texts names.new.items ≡ texts names.old.items ++ script_read (schedule_view schedule.now)) }
+fn add_script<'a>(inputs: &mut Vec<Input<'a>>, schedule: &'a Schedule) -> Result<(), AllocError>
+    ensures { OnOk result (map input_view inputs.new.items
+        ≡ map input_view inputs.old.items ++ script_read (schedule_view schedule.now)) }
 {
     match schedule {
-        Schedule::Script(name) => add(names, name.as_str()),
+        Schedule::Script(name) => add(inputs, Source::Script, name.as_str()),
         Schedule::Seeded { .. } => Ok(()),
     }
 }
 
-fn add_spheres<'a>(names: &mut Vec<&'a str>, spheres: &'a [Sphere]) -> Result<(), AllocError>
-    ensures { OnOk result (texts names.new.items ≡ texts names.old.items ++ flat_map read_by (map sphere_view spheres.now)) }
+fn add_spheres<'a>(inputs: &mut Vec<Input<'a>>, spheres: &'a [Sphere]) -> Result<(), AllocError>
+    ensures { OnOk result (map input_view inputs.new.items
+        ≡ map input_view inputs.old.items ++ read_from 0 (map sphere_view spheres.now)) }
 {
-    for sphere in spheres {
-        add_sphere(names, sphere)?;
+    for (i, sphere) in spheres.iter().enumerate() {
+        add_sphere(inputs, i, sphere)?;
     }
     Ok(())
 }
 
-/// Adds the names that a sphere has read.
-fn add_sphere<'a>(names: &mut Vec<&'a str>, sphere: &'a Sphere) -> Result<(), AllocError>
-    ensures { OnOk result (texts names.new.items ≡ texts names.old.items ++ read_by (sphere_view sphere.now)) }
+/// Adds the files that the sphere of that number has read.
+fn add_sphere<'a>(
+    inputs: &mut Vec<Input<'a>>,
+    number: usize,
+    sphere: &'a Sphere,
+) -> Result<(), AllocError>
+    ensures { OnOk result (map input_view inputs.new.items
+        ≡ map input_view inputs.old.items ++ read_by number (sphere_view sphere.now)) }
 {
-    add(names, sphere.image.as_str())?;
+    add(inputs, Source::Image(number), sphere.image.as_str())?;
     match &sphere.role {
-        Role::Replay { log } => add(names, log.as_str()),
-        _ => Ok(()),
+        Role::Plain => Ok(()),
+        Role::Record { .. } => Ok(()),
+        Role::Replay { log } => add(inputs, Source::Log(number), log.as_str()),
     }
 }
 
-fn add_optional<'a>(names: &mut Vec<&'a str>, name: &'a Option<String>) -> Result<(), AllocError>
-    ensures { OnOk result (texts names.new.items ≡ texts names.old.items ++ option_to_list (option_map string_bytes name.now)) }
+fn add_optional<'a>(
+    inputs: &mut Vec<Input<'a>>,
+    source: Source,
+    name: &'a Option<String>,
+) -> Result<(), AllocError>
+    ensures { OnOk result (map input_view inputs.new.items
+        ≡ map input_view inputs.old.items ++ from source (option_map string_bytes name.now)) }
 {
     match name {
-        Some(name) => add(names, name.as_str()),
+        Some(name) => add(inputs, source, name.as_str()),
         None => Ok(()),
     }
 }
 
-/// Adds one name.
-pub(crate) fn add<'a>(names: &mut Vec<&'a str>, name: &'a str) -> Result<(), AllocError>
-    ensures { OnOk result (texts names.new.items ≡ texts names.old.items ++ (name.now ∷ [])) }
+fn add<'a>(inputs: &mut Vec<Input<'a>>, source: Source, name: &'a str) -> Result<(), AllocError>
+    ensures { OnOk result (map input_view inputs.new.items
+        ≡ map input_view inputs.old.items ++ (record { name = name.now; source = source } ∷ [])) }
 {
-    match names.push(name) {
+    match inputs.push(Input { name, source }) {
         Ok(()) => Ok(()),
         Err(_) => Err(AllocError),
     }

@@ -20,7 +20,7 @@ mod top;
 mod values;
 
 pub use error::PlanError;
-pub use inputs::input_names;
+pub use inputs::{Input, Source, inputs_of};
 pub use outputs::{Output, Product, outputs_of};
 pub use plan::{Mode, Plan, Role, Schedule, Sphere};
 pub use read::read_plan;

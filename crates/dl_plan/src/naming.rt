@@ -1,11 +1,11 @@
 //! Whether the names of a plan's files are in conflict.
-ghost use Rattle.std.specs.Prelude.{◌≡◌, IfOk, map};
-ghost use Rattle.dl_plan.specs.Files.{OutputValues, written_names};
+ghost use Rattle.std.specs.Prelude.{◌≡◌, ◌∷◌, ◌++◌, [], IfOk, OnOk, map};
+ghost use Rattle.dl_plan.specs.Files.{InputValues, OutputValues, read_names, written_names};
 ghost use Rattle.dl_plan.specs.Plans.{has_good_names};
 ghost use Rattle.dl_plan.specs.Values.{plan_view};
-ghost use Rattle.dl_plan.specs.Views.{texts, output_view};
+ghost use Rattle.dl_plan.specs.Views.{texts, input_view, output_view};
 
-use crate::inputs::{add, read_names};
+use crate::inputs::{Input, inputs_of};
 use crate::names::{all_differ, none_is_empty, none_is_one_of};
 use crate::outputs::{Output, outputs_of};
 use crate::plan::Plan;
@@ -25,6 +25,27 @@ pub(crate) fn has_good_names(alloc: Global, name: &str, plan: &Plan) -> Result<b
     )
 }
 
+/// The names of the files that are read: the plan's own, and those that it has read.
+fn read_names<'a>(alloc: Global, name: &'a str, plan: &'a Plan) -> Result<Vec<&'a str>, AllocError>
+    ensures { IfOk result (λ names. texts names.items ≡ read_names name.now (plan_view plan.now)) }
+{
+    let inputs = inputs_of(alloc, plan)?;
+    let mut names = Vec::new(alloc);
+    add(&mut names, name)?;
+    add_inputs(&mut names, &inputs)?;
+    Ok(names)
+}
+
+fn add_inputs<'a>(names: &mut Vec<&'a str>, inputs: &[Input<'a>]) -> Result<(), AllocError>
+    ensures { OnOk result (texts names.new.items
+        ≡ texts names.old.items ++ map (λ (i : InputValues). i.name) (map input_view inputs.now)) }
+{
+    for input in inputs {
+        add(names, input.name)?;
+    }
+    Ok(())
+}
+
 /// The names of the files that the plan has written.
 fn written_names(alloc: Global, plan: &Plan) -> Result<Vec<&str>, AllocError>
     ensures { IfOk result (λ names. texts names.items ≡ written_names (plan_view plan.now)) }
@@ -41,4 +62,13 @@ fn names_of<'a>(alloc: Global, outputs: &[Output<'a>]) -> Result<Vec<&'a str>, A
         add(&mut names, output.name)?;
     }
     Ok(names)
+}
+
+fn add<'a>(names: &mut Vec<&'a str>, name: &'a str) -> Result<(), AllocError>
+    ensures { OnOk result (texts names.new.items ≡ texts names.old.items ++ (name.now ∷ [])) }
+{
+    match names.push(name) {
+        Ok(()) => Ok(()),
+        Err(_) => Err(AllocError),
+    }
 }

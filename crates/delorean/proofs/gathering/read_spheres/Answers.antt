@@ -1,12 +1,12 @@
 use Rattle.std.proofs.Common.{◌≡◌, ℕ, ◌+◌, List, [], ◌∷◌, ◌++◌, length, map, drop, get_or, flat_map, Some, Ok, ap, ◌∙◌, sym, subst}
 use Rattle.dl_files.specs.Contents.{Contents}
 use Rattle.dl_plan.specs.declared.Sphere.{Sphere}
-use Rattle.dl_plan.specs.Files.{read_by}
 use Rattle.dl_plan.specs.Values.{SphereValues, IsMemory, sphere_view}
 use Rattle.spec_program.specs.Files.{sphere_read, spheres_read}
 use Rattle.delorean.specs.declared.inputs.SphereInputs.{SphereInputs}
 use Rattle.delorean.specs.Inputs.{HaveMemories, sphere_view as sphere_inputs}
 use Rattle.delorean.specs.Halts.{Unread}
+use Rattle.delorean.specs.Reads.{read_for_sphere}
 use Rattle.delorean.proofs.Spheres.{sphere_part, spheres_more, turns_more}
 use Rattle.delorean.proofs.Planned.{length_pushed, more_memories, planned_memory}
 use Rattle.delorean.proofs.Stages.{after}
@@ -25,9 +25,9 @@ returns-in-Err-clause-halt g c =
     let old = g.F.Files.count c.loop-sphere.files in
     let new = g.F.Files.count c.read_sphere.new.files in
     let last = g.F.Files.last_fault c.read_sphere.new.files in
-    unread_in told seen (read_by here) (flat_map read_by (map sphere_view ss)) (λ m. sphere_read m here) (λ m. spheres_read m (map sphere_view ss)) (g.F.Files.count c.args.files.now) old new last c.in-Err.halt
+    unread_in told seen (read_for_sphere here) (flat_map read_for_sphere (map sphere_view ss)) (λ m. sphere_read m here) (λ m. spheres_read m (map sphere_view ss)) (g.F.Files.count c.args.files.now) old new last c.in-Err.halt
     inv.kept inv.steady (sphere_part told ss i d c.loop-sphere.read.items c.loop-sphere-test.true inv.read inv.turns)
-    (subst (λ (s : Sphere). Unread seen (read_by (sphere_view s)) (λ m. sphere_read m (sphere_view s)) old new last c.in-Err.halt) c.sphere-item.is c.in-Err.ensures.halt)
+    (subst (λ (s : Sphere). Unread seen (read_for_sphere (sphere_view s)) (λ m. sphere_read m (sphere_view s)) old new last c.in-Err.halt) c.sphere-item.is c.in-Err.ensures.halt)
 
 pub loop-sphere-preserved : goal.loop-sphere-preserved
 loop-sphere-preserved g c =
