@@ -3,8 +3,6 @@
 
 mod finishing;
 mod next;
-#[cfg(test)]
-mod tests;
 
 pub use finishing::finish;
 pub use next::next_event;

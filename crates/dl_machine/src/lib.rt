@@ -12,8 +12,6 @@ mod setup;
 mod spheres;
 mod state;
 mod stepping;
-#[cfg(test)]
-mod tests;
 mod transferring;
 
 pub use machine::Machine;

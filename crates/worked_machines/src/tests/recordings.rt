@@ -1,11 +1,11 @@
 //! Worked recordings.
 use super::programs::{
-    EXITS, HANDLES, RACE, READS_FROM_PIPE, RESERVES, STORES_BESIDE, TRANSFERS, USES_DEVICES,
-    WRITES_ITS_NEXT, WRITES_TO_PIPE,
+    EXITS, HANDLES, LOADS_AND_STORES, RACE, READS_FROM_PIPE, RESERVES, SHARES_BITS, STORES_BESIDE,
+    TRANSFERS, USES_DEVICES, WRITES_ITS_NEXT, WRITES_TO_PIPE,
 };
 use super::{Life, Lived, Row, T0, T1};
-use dl_chunk::How::{self, Overflow, Serial};
 use dl_entry::{Actor, Load};
+use spec_engine::answers::How::{self, Limit, Overflow, Serial};
 use spec_log::ModeName;
 use spec_protocol::Event::{Ask, Cut, Deliver, Dma, Drain, Place, Raise, Retire, Step};
 use spec_protocol::Reply::{
@@ -16,8 +16,14 @@ use spec_protocol::Reply::{
 
 pub(crate) const ROWS: &[Row] = &[
     SPAWN_AND_RACE,
+    FALSE_HIT,
     TURNS,
+    TURNS_IN_A_FULL_WINDOW,
+    TWO_THREADS_ON_ONE_CORE,
     RESERVATION_LOST,
+    RESERVATION_KEPT,
+    BUSY_SPHERE,
+    HALVED_LIMIT,
     PIPE,
     DMA,
     INTERRUPT,
@@ -25,6 +31,7 @@ pub(crate) const ROWS: &[Row] = &[
     DEVICE_WORDS,
     NEXT_INSTRUCTION,
     STORE_BESIDE,
+    FLIGHT_LEFT,
 ];
 
 // A thread makes another one, which stores on a second core while the first loads: the load is denied, squashed and bounced,
@@ -33,6 +40,7 @@ const SPAWN_AND_RACE: Row = Row {
     name: "spawn and race",
     cores: 2,
     window: 2,
+    chunk: 100,
     buffer: 16,
     input: b"",
     spheres: &[Life {
@@ -81,14 +89,131 @@ const SPAWN_AND_RACE: Row = Row {
         (Step(1), Closed(Serial)),
         (Ask(1), Granted),
     ],
+    finishing: &[],
+    console: b"",
+};
+
+// The same where the two words are in other lines with the same bits: the load is denied though nothing is stored to its word.
+const FALSE_HIT: Row = Row {
+    name: "false hit",
+    cores: 2,
+    window: 2,
+    chunk: 100,
+    buffer: 16,
+    input: b"",
+    spheres: &[Life {
+        code: SHARES_BITS,
+        role: Lived::Recorded {
+            mode: ModeName::OrderSize,
+            log: b"\x44\x4C\x52\x4E\x01\x00\x00\x00\x64\x00\x00\x00\x06\x00\x00\x00\
+                  \x06\x00\x00\x00\x00\x01\x10\x06\x00\x00\x00\x03\x00\x00\x00\x03\
+                  \x00\x02\x00\x00\x00\x00\x00\x00\x00\x00\x00\x00\x00\x00\x00\x00\
+                  \x00\x00\x00",
+        },
+        commits: &[(T0, 3), (T0, 0), (T1, 3), (T0, 2), (T0, 0), (T1, 0)],
+        loads: &[Load {
+            address: 0x100,
+            value: 0,
+        }],
+    }],
+    events: &[
+        (Step(0), Ran),
+        (Step(0), Ran),
+        (Step(0), Ran),
+        (Step(0), Closed(Serial)),
+        (Ask(0), Granted),
+        (Step(0), Closed(Serial)),
+        (Ask(0), Granted),
+        (Place(1, 0, 1), Placed),
+        (Step(1), Ran),
+        (Step(1), Ran),
+        (Step(1), Ran),
+        (Step(1), Closed(Serial)),
+        (Ask(1), Granted),
+        (Step(0), Ran),
+        (Step(0), Ran),
+        (Step(0), Closed(Serial)),
+        (Ask(0), Denied(0)),
+        (Deliver(0, 0), Squashed),
+        (Step(0), Bounced(0)),
+        (Drain(0), Drained),
+        (Retire(0), Retired),
+        (Step(0), Ran),
+        (Step(0), Ran),
+        (Step(0), Closed(Serial)),
+        (Ask(0), Granted),
+        (Step(0), Closed(Serial)),
+        (Ask(0), Granted),
+        (Step(1), Closed(Serial)),
+        (Ask(1), Granted),
+    ],
+    finishing: &[],
+    console: b"",
+};
+
+// In picolog the new thread has its turn before the first goes on.
+const TURNS: Row = Row {
+    name: "turns",
+    cores: 2,
+    window: 2,
+    chunk: 100,
+    buffer: 16,
+    input: b"",
+    spheres: &[Life {
+        code: RACE,
+        role: Lived::Recorded {
+            mode: ModeName::Picolog,
+            log: b"\x44\x4C\x52\x4E\x01\x02\x00\x00\x64\x00\x00\x00\x05\x00\x00\x00\
+                  \x00\x00\x00\x00\x00\x00\x00\x00\x00\x00\x00\x00\x00\x00\x00\x00\
+                  \x00\x00\x00\x00",
+        },
+        commits: &[(T0, 3), (T0, 0), (T1, 3), (T0, 2), (T1, 0)],
+        loads: &[Load {
+            address: 0x100,
+            value: 9,
+        }],
+    }],
+    events: &[
+        (Step(0), Ran),
+        (Step(0), Ran),
+        (Step(0), Ran),
+        (Step(0), Closed(Serial)),
+        (Ask(0), Granted),
+        (Step(0), Closed(Serial)),
+        (Ask(0), Granted),
+        (Place(1, 0, 1), Placed),
+        (Step(1), Ran),
+        (Step(1), Ran),
+        (Step(1), Ran),
+        (Step(1), Closed(Serial)),
+        (Ask(1), Granted),
+        (Step(0), Ran),
+        (Step(0), Ran),
+        (Step(0), Closed(Serial)),
+        (Ask(0), Denied(0)),
+        (Deliver(0, 0), Squashed),
+        (Step(0), Bounced(0)),
+        (Drain(0), Drained),
+        (Retire(0), Retired),
+        (Step(0), Ran),
+        (Step(0), Ran),
+        (Step(0), Closed(Serial)),
+        (Ask(0), Granted),
+        (Step(0), Closed(Serial)),
+        (Ask(0), NotTurn(T1)),
+        (Step(1), Closed(Serial)),
+        (Ask(1), Granted),
+    ],
+    finishing: &[],
     console: b"",
 };
 
 // The same in picolog and with one flight at most: the window is full where the load was denied, and the new thread has its turn.
-const TURNS: Row = Row {
-    name: "turns",
+const TURNS_IN_A_FULL_WINDOW: Row = Row {
+    name: "turns in a full window",
     cores: 2,
     window: 1,
+    chunk: 100,
     buffer: 16,
     input: b"",
     spheres: &[Life {
@@ -136,6 +261,62 @@ const TURNS: Row = Row {
         (Step(1), Closed(Serial)),
         (Ask(1), Granted),
     ],
+    finishing: &[],
+    console: b"",
+};
+
+// The new thread is placed on the one core, and runs until it exits; then the first is placed there again.
+const TWO_THREADS_ON_ONE_CORE: Row = Row {
+    name: "two threads on one core",
+    cores: 1,
+    window: 2,
+    chunk: 100,
+    buffer: 16,
+    input: b"",
+    spheres: &[Life {
+        code: RACE,
+        role: Lived::Recorded {
+            mode: ModeName::OrderSize,
+            log: b"\x44\x4C\x52\x4E\x01\x00\x00\x00\x64\x00\x00\x00\x06\x00\x00\x00\
+                  \x06\x00\x00\x00\x00\x11\x00\x06\x00\x00\x00\x03\x00\x00\x00\x03\
+                  \x00\x00\x00\x02\x00\x00\x00\x00\x00\x00\x00\x00\x00\x00\x00\x00\
+                  \x00\x00\x00",
+        },
+        commits: &[(T0, 3), (T0, 0), (T1, 3), (T1, 0), (T0, 2), (T0, 0)],
+        loads: &[Load {
+            address: 0x100,
+            value: 9,
+        }],
+    }],
+    events: &[
+        (Step(0), Ran),
+        (Step(0), Ran),
+        (Step(0), Ran),
+        (Step(0), Closed(Serial)),
+        (Ask(0), Granted),
+        (Step(0), Closed(Serial)),
+        (Ask(0), Granted),
+        (Place(0, 0, 1), Placed),
+        (Step(0), Ran),
+        (Step(0), Ran),
+        (Step(0), Ran),
+        (Step(0), Closed(Serial)),
+        (Ask(0), Granted),
+        (Step(0), Closed(Serial)),
+        (Ask(0), SphereBusy(0)),
+        (Drain(0), Drained),
+        (Retire(0), Retired),
+        (Ask(0), Granted),
+        (Step(0), Idle),
+        (Place(0, 0, 0), Placed),
+        (Step(0), Ran),
+        (Step(0), Ran),
+        (Step(0), Closed(Serial)),
+        (Ask(0), Granted),
+        (Step(0), Closed(Serial)),
+        (Ask(0), Granted),
+    ],
+    finishing: &[],
     console: b"",
 };
 
@@ -144,6 +325,7 @@ const RESERVATION_LOST: Row = Row {
     name: "reservation lost",
     cores: 1,
     window: 2,
+    chunk: 100,
     buffer: 1,
     input: b"",
     spheres: &[Life {
@@ -176,6 +358,190 @@ const RESERVATION_LOST: Row = Row {
         (Retire(0), Retired),
         (Ask(0), Granted),
     ],
+    finishing: &[],
+    console: b"",
+};
+
+// With room for both words the chunk isn't cut, and the store is done.
+const RESERVATION_KEPT: Row = Row {
+    name: "reservation kept",
+    cores: 1,
+    window: 2,
+    chunk: 100,
+    buffer: 16,
+    input: b"",
+    spheres: &[Life {
+        code: RESERVES,
+        role: Lived::Recorded {
+            mode: ModeName::OrderOnly,
+            log: b"\x44\x4C\x52\x4E\x01\x01\x00\x00\x64\x00\x00\x00\x02\x00\x00\x00\
+                  \x02\x00\x00\x00\x00\x00\x00\x00\x00\x00\x00\x00\x00\x00\x00\x00\
+                  \x00\x00\x00\x00\x00",
+        },
+        commits: &[(T0, 5), (T0, 0)],
+        loads: &[Load {
+            address: 0x104,
+            value: 0,
+        }],
+    }],
+    events: &[
+        (Step(0), Ran),
+        (Step(0), Ran),
+        (Step(0), Ran),
+        (Step(0), Ran),
+        (Step(0), Ran),
+        (Step(0), Closed(Serial)),
+        (Ask(0), Granted),
+        (Drain(0), Drained),
+        (Drain(0), Drained),
+        (Retire(0), Retired),
+        (Step(0), Closed(Serial)),
+        (Ask(0), Granted),
+    ],
+    finishing: &[],
+    console: b"",
+};
+
+// A serial step waits until the flight of its sphere is gone.
+const BUSY_SPHERE: Row = Row {
+    name: "busy sphere",
+    cores: 1,
+    window: 2,
+    chunk: 100,
+    buffer: 1,
+    input: b"",
+    spheres: &[Life {
+        code: RESERVES,
+        role: Lived::Recorded {
+            mode: ModeName::OrderSize,
+            log: b"\x44\x4C\x52\x4E\x01\x00\x00\x00\x64\x00\x00\x00\x03\x00\x00\x00\
+                  \x03\x00\x00\x00\x00\x00\x03\x00\x00\x00\x03\x00\x02\x00\x00\x00\
+                  \x00\x00\x00\x00\x00\x00\x00\x00\x00\x00\x00\x00",
+        },
+        commits: &[(T0, 3), (T0, 2), (T0, 0)],
+        loads: &[Load {
+            address: 0x104,
+            value: 0,
+        }],
+    }],
+    events: &[
+        (Step(0), Ran),
+        (Step(0), Ran),
+        (Step(0), Ran),
+        (Step(0), Closed(Overflow)),
+        (Ask(0), Granted),
+        (Step(0), Ran),
+        (Step(0), Ran),
+        (Step(0), Closed(Serial)),
+        (Ask(0), Granted),
+        (Step(0), Closed(Serial)),
+        (Ask(0), SphereBusy(0)),
+        (Drain(0), Drained),
+        (Retire(0), Retired),
+        (Ask(0), Granted),
+    ],
+    finishing: &[],
+    console: b"",
+};
+
+// A chunk that is squashed four times has half of its limit, and its size is logged.
+const HALVED_LIMIT: Row = Row {
+    name: "halved limit",
+    cores: 2,
+    window: 2,
+    chunk: 16,
+    buffer: 16,
+    input: b"",
+    spheres: &[Life {
+        code: LOADS_AND_STORES,
+        role: Lived::Recorded {
+            mode: ModeName::OrderOnly,
+            log: b"\x44\x4C\x52\x4E\x01\x01\x00\x00\x10\x00\x00\x00\x07\x00\x00\x00\
+                  \x07\x00\x00\x00\x00\x11\x11\x00\x05\x00\x00\x00\x00\x02\x00\x00\
+                  \x00\x08\x00\x01\x00\x00\x00\x00\x02\x00\x01\x01\x00\x00\x00\x02\
+                  \x00\x01\x02\x00\x00\x00\x02\x00\x01\x03\x00\x00\x00\x02\x00\x00\
+                  \x00\x00\x00\x00\x00\x00\x00\x00\x00\x00\x00",
+        },
+        commits: &[
+            (T0, 3),
+            (T0, 0),
+            (T1, 2),
+            (T1, 2),
+            (T1, 2),
+            (T1, 2),
+            (T0, 8),
+        ],
+        loads: &[
+            Load {
+                address: 0x100,
+                value: 0,
+            },
+            Load {
+                address: 0x100,
+                value: 0,
+            },
+            Load {
+                address: 0x100,
+                value: 0,
+            },
+            Load {
+                address: 0x100,
+                value: 0,
+            },
+        ],
+    }],
+    events: &[
+        (Step(0), Ran),
+        (Step(0), Ran),
+        (Step(0), Ran),
+        (Step(0), Closed(Serial)),
+        (Ask(0), Granted),
+        (Step(0), Closed(Serial)),
+        (Ask(0), Granted),
+        (Place(1, 0, 1), Placed),
+        (Step(0), Ran),
+        (Step(1), Ran),
+        (Step(1), Ran),
+        (Cut(1), Closed(How::Cut)),
+        (Ask(1), Granted),
+        (Deliver(0, 0), Squashed),
+        (Drain(0), Drained),
+        (Retire(0), Retired),
+        (Step(0), Ran),
+        (Step(1), Ran),
+        (Step(1), Ran),
+        (Cut(1), Closed(How::Cut)),
+        (Ask(1), Granted),
+        (Deliver(0, 0), Squashed),
+        (Drain(0), Drained),
+        (Retire(0), Retired),
+        (Step(0), Ran),
+        (Step(1), Ran),
+        (Step(1), Ran),
+        (Cut(1), Closed(How::Cut)),
+        (Ask(1), Granted),
+        (Deliver(0, 0), Squashed),
+        (Drain(0), Drained),
+        (Retire(0), Retired),
+        (Step(0), Ran),
+        (Step(1), Ran),
+        (Step(1), Ran),
+        (Cut(1), Closed(How::Cut)),
+        (Ask(1), Granted),
+        (Deliver(0, 0), Squashed),
+        (Drain(0), Drained),
+        (Retire(0), Retired),
+        (Step(0), Ran),
+        (Step(0), Ran),
+        (Step(0), Ran),
+        (Step(0), Ran),
+        (Step(0), Ran),
+        (Step(0), Ran),
+        (Step(0), Ran),
+        (Step(0), Closed(Limit)),
+        (Ask(0), Granted),
+    ],
+    finishing: &[],
     console: b"",
 };
 
@@ -184,6 +550,7 @@ const PIPE: Row = Row {
     name: "pipe",
     cores: 2,
     window: 2,
+    chunk: 100,
     buffer: 16,
     input: b"",
     spheres: &[
@@ -233,6 +600,7 @@ const PIPE: Row = Row {
         (Step(1), Closed(Serial)),
         (Ask(1), Granted),
     ],
+    finishing: &[],
     console: b"",
 };
 
@@ -241,6 +609,7 @@ const DMA: Row = Row {
     name: "dma",
     cores: 1,
     window: 2,
+    chunk: 100,
     buffer: 16,
     input: b"AB",
     spheres: &[Life {
@@ -279,6 +648,7 @@ const DMA: Row = Row {
         (Step(0), Closed(Serial)),
         (Ask(0), Granted),
     ],
+    finishing: &[],
     console: b"",
 };
 
@@ -287,6 +657,7 @@ const INTERRUPT: Row = Row {
     name: "interrupt",
     cores: 1,
     window: 2,
+    chunk: 100,
     buffer: 16,
     input: b"",
     spheres: &[Life {
@@ -311,6 +682,7 @@ const INTERRUPT: Row = Row {
         (Raise(0, 0, 5), Raised),
         (Raise(0, 0, 6), Masked),
     ],
+    finishing: &[],
     console: b"",
 };
 
@@ -319,6 +691,7 @@ const SMALL_ANSWERS: Row = Row {
     name: "small answers",
     cores: 1,
     window: 2,
+    chunk: 100,
     buffer: 16,
     input: b"",
     spheres: &[Life {
@@ -347,6 +720,7 @@ const SMALL_ANSWERS: Row = Row {
         (Step(0), Waiting),
         (Ask(0), Granted),
     ],
+    finishing: &[],
     console: b"",
 };
 
@@ -355,6 +729,7 @@ const DEVICE_WORDS: Row = Row {
     name: "device words",
     cores: 1,
     window: 2,
+    chunk: 100,
     buffer: 16,
     input: b"A",
     spheres: &[Life {
@@ -369,11 +744,11 @@ const DEVICE_WORDS: Row = Row {
         commits: &[(T0, 1), (T0, 0), (T0, 0), (T0, 0), (T0, 0)],
         loads: &[
             Load {
-                address: 0xF000_0000,
+                address: 0xF0000000,
                 value: 4,
             },
             Load {
-                address: 0xF000_0004,
+                address: 0xF0000004,
                 value: 0x41,
             },
         ],
@@ -391,6 +766,7 @@ const DEVICE_WORDS: Row = Row {
         (Step(0), Closed(Serial)),
         (Ask(0), Granted),
     ],
+    finishing: &[],
     console: b"A",
 };
 
@@ -399,6 +775,7 @@ const NEXT_INSTRUCTION: Row = Row {
     name: "next instruction",
     cores: 1,
     window: 2,
+    chunk: 100,
     buffer: 16,
     input: b"",
     spheres: &[Life {
@@ -426,6 +803,7 @@ const NEXT_INSTRUCTION: Row = Row {
         (Step(0), Closed(Serial)),
         (Ask(0), Granted),
     ],
+    finishing: &[],
     console: b"",
 };
 
@@ -434,6 +812,7 @@ const STORE_BESIDE: Row = Row {
     name: "store beside",
     cores: 1,
     window: 2,
+    chunk: 100,
     buffer: 16,
     input: b"AB",
     spheres: &[Life {
@@ -479,5 +858,39 @@ const STORE_BESIDE: Row = Row {
         (Place(0, 0, 0), Ended),
         (Raise(0, 0, 1), Ended),
     ],
+    finishing: &[],
+    console: b"",
+};
+
+// A flight that stands after the schedule is drained and retired.
+const FLIGHT_LEFT: Row = Row {
+    name: "flight left",
+    cores: 1,
+    window: 2,
+    chunk: 100,
+    buffer: 1,
+    input: b"",
+    spheres: &[Life {
+        code: RESERVES,
+        role: Lived::Recorded {
+            mode: ModeName::OrderSize,
+            log: b"\x44\x4C\x52\x4E\x01\x00\x00\x00\x64\x00\x00\x00\x01\x00\x00\x00\
+                  \x01\x00\x00\x00\x00\x01\x00\x00\x00\x03\x00\x00\x00\x00\x00\x00\
+                  \x00\x00\x00\x00\x00\x00\x00",
+        },
+        commits: &[(T0, 3)],
+        loads: &[Load {
+            address: 0x104,
+            value: 0,
+        }],
+    }],
+    events: &[
+        (Step(0), Ran),
+        (Step(0), Ran),
+        (Step(0), Ran),
+        (Step(0), Closed(Overflow)),
+        (Ask(0), Granted),
+    ],
+    finishing: &[(Drain(0), Drained), (Retire(0), Retired)],
     console: b"",
 };

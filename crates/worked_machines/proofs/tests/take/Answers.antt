@@ -1,5 +1,5 @@
 use Rattle.std.proofs.Common.{[], ◌∷◌, ◌++◌}
-use Rattle.dl_finish.proofs.tests.take.Goals as goal
+use Rattle.worked_machines.proofs.tests.take.Goals as goal
 
 -- the run of before, and the event
 pub returns : goal.returns

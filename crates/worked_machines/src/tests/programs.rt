@@ -99,3 +99,33 @@ pub(crate) const STORES_BESIDE: &[u32] = &[
     0x0000_0893,
     0x0000_0073,
 ];
+
+// It makes a thread at 32, loads a word and exits with 1; the thread stores to a word whose line has both bits of the first's.
+pub(crate) const SHARES_BITS: &[u32] = &[
+    0x0010_0893,
+    0x0200_0513,
+    0x0000_0613,
+    0x0000_0073,
+    0x1000_2283,
+    0x0000_0893,
+    0x0000_0073,
+    0x0000_0013,
+    0x0000_2337,
+    0x5063_2023,
+    0x0000_0893,
+    0x0000_0073,
+];
+
+// It makes a thread at 32 and loads a word over and over; the thread stores to it over and over.
+pub(crate) const LOADS_AND_STORES: &[u32] = &[
+    0x0010_0893,
+    0x0200_0513,
+    0x0000_0613,
+    0x0000_0073,
+    0x1000_2283,
+    0xFFDF_F06F,
+    0x0000_0013,
+    0x0000_0013,
+    0x10A0_2023,
+    0xFFDF_F06F,
+];

@@ -1,12 +1,14 @@
-//! Worked machines: what each event answers, and what the spheres and the console then hold.
-ghost use Rattle.std.specs.Prelude.{◌≡◌, true};
+//! Machines that were worked out event by event.
+ghost use Rattle.std.specs.Prelude.{◌≡◌, true, IfOk};
 ghost use Rattle.spec_protocol.specs.Sound.{AreFew};
 ghost use Rattle.dl_machine.specs.Setups.{IsWithin};
+ghost use Rattle.dl_finish.specs.Runs.{HasRun};
 
-use super::*;
 use dl_elf::load;
 use dl_entry::{Actor, Bytes, Commit, End, Load, OutOfMemory, Sequence};
+use dl_finish::{finish, next_event};
 use dl_logfmt::{read_log, write_log};
+use dl_machine::{Machine, Setup};
 use dl_sig::Banked;
 use dl_sphere::{Role, Sphere, SphereSetup};
 use spec_log::ModeName;
@@ -19,16 +21,19 @@ mod programs;
 mod recordings;
 mod replays;
 
-/// A machine with chunks of 100 instructions and signatures of 64 bits: its events with their replies, and what it then holds.
+/// A machine with signatures of 64 bits: its events and those that then finish it, with their replies, and what it then
+/// holds.
 #[derive(Clone, Copy)]
 struct Row {
     name: &'static str,
     cores: u8,
     window: u8,
+    chunk: u32,
     buffer: u32,
     input: &'static [u8],
     spheres: &'static [Life],
     events: &'static [(Event, Reply)],
+    finishing: &'static [(Event, Reply)],
     console: &'static [u8],
 }
 
@@ -55,6 +60,9 @@ enum Lived {
     },
 }
 
+// The bytes of every memory.
+const MEMORY: u32 = 12_288;
+
 const T0: Actor = Actor::Thread(0);
 
 const T1: Actor = Actor::Thread(1);
@@ -75,12 +83,58 @@ fn replays_go_as_they_were_worked(rt: HostRuntime) -> Result<(), Fail> {
     Ok(())
 }
 
+// Once by the events that are told, and once more by `finish`, which comes to as many.
 fn goes_as_worked(rt: &impl Abort, alloc: Global, row: &Row) -> Result<(), Fail> {
-    let mut machine = machine_of(alloc, row)?;
+    let mut stepped = machine_of(alloc, row)?;
     for &(event, reply) in row.events {
-        let answered = reply_to(&mut machine, event)?;
+        let answered = take(&mut stepped, event)?;
         assert!(rt; answered == Some(reply), "{}: {event:?}", row.name);
     }
+    for &(event, reply) in row.finishing {
+        assert!(rt;
+            next_event(&stepped) == Some(event),
+            "{}: {event:?}",
+            row.name
+        );
+        let answered = take(&mut stepped, event)?;
+        assert!(rt; answered == Some(reply), "{}: {event:?}", row.name);
+    }
+    assert!(rt; next_event(&stepped).is_none(), "{}", row.name);
+    let finished = finished(alloc, row)?;
+    assert!(rt; finished.counts() == stepped.counts(), "{}", row.name);
+    have_lived(rt, alloc, &stepped, row)
+}
+
+// The machine once its events are taken and it is finished.
+fn finished(alloc: Global, row: &Row) -> Result<Machine<Banked>, Fail> {
+    let mut machine = machine_of(alloc, row)?;
+    for &(event, _) in row.events {
+        take(&mut machine, event)?;
+    }
+    if machine.counts().events >= 1 << 24 {
+        return Err("too many events".into());
+    }
+    finish(&mut machine)?;
+    Ok(machine)
+}
+
+// The reply, if the machine is young enough.
+fn take(machine: &mut Machine<Banked>, event: Event) -> Result<Option<Reply>, OutOfMemory>
+    requires { HasRun machine.old }
+    ensures { HasRun machine.new }
+{
+    if machine.counts().events >= 1 << 24 {
+        return Ok(None);
+    }
+    Ok(Some(machine.apply(event)?))
+}
+
+fn have_lived(
+    rt: &impl Abort,
+    alloc: Global,
+    machine: &Machine<Banked>,
+    row: &Row,
+) -> Result<(), Fail> {
     assert!(rt; machine.console() == row.console, "{}", row.name);
     for (i, life) in row.spheres.iter().enumerate() {
         let number = (i % 8) as u8;
@@ -91,14 +145,6 @@ fn goes_as_worked(rt: &impl Abort, alloc: Global, row: &Row) -> Result<(), Fail>
         assert!(rt; has_lived(alloc, sphere, life)?, "{} {i}", row.name);
     }
     Ok(())
-}
-
-// The reply, if the machine is young enough.
-fn reply_to(machine: &mut Machine<Banked>, event: Event) -> Result<Option<Reply>, OutOfMemory> {
-    if machine.counts().events >= 1 << 24 {
-        return Ok(None);
-    }
-    Ok(Some(machine.apply(event)?))
 }
 
 // Whether the sphere has come to what is said of it.
@@ -129,7 +175,9 @@ fn has_done(alloc: Global, commits: &[Commit], life: &Life) -> Result<bool, Allo
     Ok(done.as_slice() == life.commits && loads.as_slice() == life.loads)
 }
 
-fn machine_of(alloc: Global, row: &Row) -> Result<Machine<Banked>, Fail> {
+fn machine_of(alloc: Global, row: &Row) -> Result<Machine<Banked>, Fail>
+    ensures { IfOk result HasRun }
+{
     let setup = setup_of(alloc, row)?;
     if !is_within(&setup) {
         return Err("a number is out of its limits".into());
@@ -158,14 +206,14 @@ fn setup_of(alloc: Global, row: &Row) -> Result<Setup, Fail> {
     let mut spheres = Sequence::new(alloc);
     for life in row.spheres {
         spheres.push(SphereSetup {
-            image: load(alloc, &file_of(alloc, life.code)?, 4096)?,
+            image: load(alloc, &file_of(alloc, life.code)?, MEMORY)?,
             role: role_of(alloc, life.role)?,
         })?;
     }
     Ok(Setup {
         cores: row.cores,
         window: row.window,
-        chunk: 100,
+        chunk: row.chunk,
         buffer: row.buffer,
         signature: 64,
         seed: 0,

@@ -1,0 +1,6 @@
+//! Worked machines: what each event answers, what the spheres and the console then hold, and which events finish them.
+//! There is nothing here but tests, which so cost no second proof of the crates that they try.
+#![tactic(auto)]
+
+#[cfg(test)]
+mod tests;
