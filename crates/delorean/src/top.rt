@@ -80,6 +80,7 @@ pub fn delorean<F: Files, O: Sink>(
     // What each answer shows, also where no contents are told.
     ensures files_steady { is_of_files result ≡ false → F.count files.new ≡ F.count files.old }
     ensures sink_steady { is_of_sink result ≡ false → O.count out.new ≡ O.count out.old }
+    ensures said { (text : List ℕ) × Took text (O.taken out.old) (O.taken out.new) }
     ensures usage_said { result ≡ Status.Usage → Took usage_text (O.taken out.old) (O.taken out.new) }
     ensures usage_whole { result ≡ Status.Usage → (Rose (O.count out.old) (O.count out.new) → ⊥)
         → TookAll usage_text (O.taken out.old) (O.taken out.new) }

@@ -1,5 +1,5 @@
 //! A text that is being written.
-ghost use Rattle.std.specs.Prelude.{◌≡◌, ◌<◌, [], ◌∷◌, ◌++◌, true, decimal, OnOk};
+ghost use Rattle.std.specs.Prelude.{◌≡◌, ◌<◌, [], ◌∷◌, ◌++◌, true, take, decimal, OnOk, OnErr};
 ghost use Rattle.std.specs.Fmt.{digit_glyph};
 ghost use Rattle.dl_account.specs.Lines.{spaced, hex_byte, hex_bytes, hex_word};
 
@@ -7,7 +7,7 @@ use dl_entry::OutOfMemory;
 use std::alloc::Global;
 use std::marker::Model;
 
-/// A text that grows at its end, seen as its bytes. After a want of memory it may have a part of what was put.
+/// A text that grows at its end, seen as its bytes. After a want of memory it is as before the call.
 #[derive(Drop)]
 pub struct Text {
     bytes: Vec<u8>,
@@ -41,7 +41,8 @@ impl Text {
 
     /// These bytes as they are: a line's name, or a line feed.
     pub fn put(&mut self, bytes: &[u8]) -> Result<(), OutOfMemory>
-        ensures { OnOk result (self.new ≡ self.old ++ bytes.now) }
+        ensures ok { OnOk result (self.new ≡ self.old ++ bytes.now) }
+        ensures err { OnErr result (self.new ≡ self.old) }
     {
         self.bytes.extend_from_slice(bytes)?;
         Ok(())
@@ -49,78 +50,108 @@ impl Text {
 
     /// A field that is a word.
     pub fn put_word(&mut self, word: &[u8]) -> Result<(), OutOfMemory>
-        ensures { OnOk result (self.new ≡ self.old ++ spaced word.now) }
+        ensures ok { OnOk result (self.new ≡ self.old ++ spaced word.now) }
+        ensures err { OnErr result (self.new ≡ self.old) }
     {
+        let len = self.bytes.len();
         self.put_byte(b' ')?;
-        self.put(word)
+        let put = self.put(word);
+        self.cut_on_err(len, put)
     }
 
     /// A field that is a number.
     pub fn put_number(&mut self, n: u64) -> Result<(), OutOfMemory>
-        ensures { OnOk result (self.new ≡ self.old ++ spaced (decimal n)) }
+        ensures ok { OnOk result (self.new ≡ self.old ++ spaced (decimal n)) }
+        ensures err { OnErr result (self.new ≡ self.old) }
     {
         self.put_large_number(u128::from(n))
     }
 
     /// A field that is a number past 64 bits.
     pub fn put_large_number(&mut self, n: u128) -> Result<(), OutOfMemory>
-        ensures { OnOk result (self.new ≡ self.old ++ spaced (decimal n)) }
+        ensures ok { OnOk result (self.new ≡ self.old ++ spaced (decimal n)) }
+        ensures err { OnErr result (self.new ≡ self.old) }
     {
+        let len = self.bytes.len();
         self.put_byte(b' ')?;
-        self.put_digits(n)
+        let put = self.put_digits(n);
+        self.cut_on_err(len, put)
     }
 
     /// Two fields: a word, and a number of what it names.
     pub fn put_count(&mut self, word: &[u8], n: u32) -> Result<(), OutOfMemory>
-        ensures { OnOk result (self.new ≡ self.old ++ spaced word.now ++ spaced (decimal n)) }
+        ensures ok { OnOk result (self.new ≡ self.old ++ spaced word.now ++ spaced (decimal n)) }
+        ensures err { OnErr result (self.new ≡ self.old) }
     {
+        let len = self.bytes.len();
         self.put_word(word)?;
-        self.put_number(u64::from(n))
+        let put = self.put_number(u64::from(n));
+        self.cut_on_err(len, put)
     }
 
     /// A field that is an address or a register.
     #[tactic(auto, unfolding(crate::specs::Lines::hex_word))]
     pub fn put_hex_word(&mut self, word: u32) -> Result<(), OutOfMemory>
-        ensures { OnOk result (self.new ≡ self.old ++ spaced (hex_word word)) }
+        ensures ok { OnOk result (self.new ≡ self.old ++ spaced (hex_word word)) }
+        ensures err { OnErr result (self.new ≡ self.old) }
     {
         self.put_hex_bytes(&word.to_be_bytes())
     }
 
     /// A field that is bytes.
     pub fn put_hex_bytes(&mut self, bytes: &[u8]) -> Result<(), OutOfMemory>
-        ensures { OnOk result (self.new ≡ self.old ++ spaced (hex_bytes bytes.now)) }
+        ensures ok { OnOk result (self.new ≡ self.old ++ spaced (hex_bytes bytes.now)) }
+        ensures err { OnErr result (self.new ≡ self.old) }
     {
+        let len = self.bytes.len();
         self.put_byte(b' ')?;
         for byte in bytes {
-            self.put_hex_byte(*byte)?;
+            let put = self.put_hex_byte(*byte);
+            self.cut_on_err(len, put)?;
         }
         Ok(())
     }
 
     /// The decimal digits of a number: those before the last one, and that.
     pub fn put_digits(&mut self, n: u128) -> Result<(), OutOfMemory>
-        ensures { OnOk result (self.new ≡ self.old ++ decimal n) }
+        ensures ok { OnOk result (self.new ≡ self.old ++ decimal n) }
+        ensures err { OnErr result (self.new ≡ self.old) }
     {
+        let len = self.bytes.len();
         if n >= 10 {
             self.put_digits(n / 10)?;
         }
-        self.put_byte(b'0' + (n % 10) as u8)
+        let put = self.put_byte(b'0' + (n % 10) as u8);
+        self.cut_on_err(len, put)
     }
 
     // The two hexadecimal digits of a byte.
     fn put_hex_byte(&mut self, byte: u8) -> Result<(), OutOfMemory>
-        ensures { OnOk result (self.new ≡ self.old ++ hex_byte byte) }
+        ensures ok { OnOk result (self.new ≡ self.old ++ hex_byte byte) }
+        ensures err { OnErr result (self.new ≡ self.old) }
     {
-        self.put_byte(hex_digit(byte / 16))?;
-        self.put_byte(hex_digit(byte % 16))
+        self.put(&[hex_digit(byte / 16), hex_digit(byte % 16)])
     }
 
     // One byte.
     fn put_byte(&mut self, byte: u8) -> Result<(), OutOfMemory>
-        ensures { OnOk result (self.new ≡ self.old ++ byte ∷ []) }
+        ensures ok { OnOk result (self.new ≡ self.old ++ byte ∷ []) }
+        ensures err { OnErr result (self.new ≡ self.old) }
     {
         self.bytes.push(byte)?;
         Ok(())
+    }
+
+    // The outcome of a put, after which only the first `len` bytes stay if it failed.
+    fn cut_on_err(&mut self, len: usize, put: Result<(), OutOfMemory>) -> Result<(), OutOfMemory>
+        ensures outcome { result ≡ put }
+        ensures ok { OnOk put (self.new ≡ self.old) }
+        ensures err { OnErr put (self.new ≡ take len self.old) }
+    {
+        if put.is_err() {
+            self.bytes.truncate(len);
+        }
+        put
     }
 }
 

@@ -30,6 +30,8 @@ pub trait Files {
         ensures ok_steady { OnOk result (count self.new ≡ count self.old) }
         ensures memory_steady { IsErrOf result FileError.OutOfMemory
             → count self.new ≡ count self.old }
+        ensures memory_last { IsErrOf result FileError.OutOfMemory
+            → last_fault self.new ≡ last_fault self.old }
         ensures kept { told self.new ≡ told self.old }
         ensures counted { count self.old ≤ count self.new };
 
@@ -45,5 +47,7 @@ pub trait Files {
         ensures ok_steady { OnOk result (count self.new ≡ count self.old) }
         ensures memory_steady { IsErrOf result FileError.OutOfMemory
             → count self.new ≡ count self.old }
+        ensures memory_last { IsErrOf result FileError.OutOfMemory
+            → last_fault self.new ≡ last_fault self.old }
         ensures counted { count self.old ≤ count self.new };
 }

@@ -4,6 +4,7 @@ use Rattle.spec_program.specs.Ends.{reads_of}
 use Rattle.spec_program.specs.Works.{work_of}
 use Rattle.delorean.specs.Texts.{texts}
 use Rattle.delorean.proofs.Finishing.{done_is, drill_ends, performed_fault, stopped_fault, performed_stands, halted_stands, stopped_undone}
+use Rattle.delorean.proofs.Growing.{performed_took, stopped_took}
 use Rattle.delorean.proofs.top.delorean.Goals as goal
 
 pub returns-in-Ok-clause-stands : goal.returns-in-Ok-clause-stands
@@ -42,3 +43,9 @@ returns-in-Ok-clause-fault_said g c = λ e whole. performed_fault _ _ _ _ _ c.pe
 
 pub returns-in-Err-clause-fault_said : goal.returns-in-Err-clause-fault_said
 returns-in-Err-clause-fault_said g c = λ e whole. stopped_fault _ _ _ _ _ _ c.in-Err.halt _ _ _ _ c.stop.result c.in-Err.ensures.halt c.stop.ensures e whole
+
+pub returns-in-Ok-clause-said : goal.returns-in-Ok-clause-said
+returns-in-Ok-clause-said g c = performed_took _ _ _ _ _ c.perform.result c.perform.ensures
+
+pub returns-in-Err-clause-said : goal.returns-in-Err-clause-said
+returns-in-Err-clause-said g c = stopped_took c.in-Err.halt _ _ _ _ c.stop.result c.stop.ensures
