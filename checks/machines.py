@@ -1,0 +1,250 @@
+"""What the checks of hostile use share: the worked machines that they run, and how the program is run on a folder."""
+
+import argparse
+import os
+import pathlib
+import struct
+import subprocess
+import tempfile
+import threading
+import time
+from dataclasses import dataclass, field
+
+TOP = pathlib.Path(__file__).resolve().parent.parent
+EXAMPLES = TOP / "examples"
+OLD = b"as it was before\n"  # what written names hold before a run
+
+
+@dataclass
+class Machine:
+    """A command with the files that it reads and the names that it writes, in their order, and the status that it ends with."""
+
+    name: str
+    files: dict
+    writes: list
+    words: list = field(default_factory=lambda: ["run", "plan.toml"])
+    status: int = 0
+    folders: list = field(default_factory=list)  # written names that are folders
+    spared: int = 0  # requests for memory that it does without: for a record's bytes there is room in reserve
+
+    def lay(self, folder):
+        """Puts what is read into the folder, and old bytes under the written names."""
+        for name in self.writes:
+            (folder / name).mkdir() if name in self.folders else (folder / name).write_bytes(OLD)
+        for name, data in self.files.items():
+            (folder / name).write_bytes(data)
+
+
+def image(*words):
+    """A file of the short form: the header, one loaded segment, and the code."""
+    code = struct.pack(f"<{len(words)}I", *words)
+    ident = b"\x7fELF\x01\x01\x01" + bytes(9)
+    header = struct.pack("<HHIIIIIHHH6x", 2, 243, 1, 0, 52, 0, 0, 52, 32, 1)
+    segment = struct.pack("<8I", 1, 84, 0, 0, len(code), len(code), 7, 4)
+    return ident + header + segment + code
+
+
+def script(*events):
+    return "".join(f"{event}\n" for event in events).encode()
+
+
+def plan(sphere, cores=1, buffer=16, top=""):
+    """A plan of one sphere, whose role, log and account are lines."""
+    return f"""\
+cores = {cores}
+chunk = 100
+buffer = {buffer}
+window = 2
+signature = 64
+script = "s.txt"
+report = "r.txt"
+{top}[[sphere]]
+image = "a.elf"
+memory = 4096
+{sphere}""".encode()
+
+
+def recorded(mode):
+    return f'role = "record"\nmode = "{mode}"\nlog = "a.log"\naccount = "a.txt"\n'
+
+
+REPLAYED = 'role = "replay"\nlog = "a.log"\naccount = "b.txt"\n'
+RECORDING = ["a.log", "a.txt", "r.txt"]
+
+# addi x17, x0, 0; addi x10, x0, 7; ecall: a chunk of two, and an exit
+EXIT = image(0x00000893, 0x00700513, 0x00000073)
+
+STEPS = ("step 0", "step 0", "step 0")
+CALL = ("ask 0", "step 0", "ask 0")
+
+THREE = Machine(
+    "three-instructions",
+    {"plan.toml": plan(recorded("order-size")), "a.elf": EXIT, "s.txt": script(*STEPS, *CALL)},
+    RECORDING,
+)
+
+# thread 0 spawns thread 1 at 20 (hex) and loads the word into which that one stores
+RACE = Machine(
+    "two-threads-race",
+    {
+        "plan.toml": plan(recorded("order-size"), cores=2),
+        "a.elf": image(
+            0x00100893, 0x02000513, 0x00000613, 0x00000073, 0x10002283, 0x00000893,
+            0x00000073, 0x00000013, 0x00900313, 0x10602023, 0x00000893, 0x00000073,
+        ),
+        "s.txt": script(
+            *STEPS, "step 0", *CALL, "place 1 0 1", "step 1", "step 1", "step 1", "step 1", "ask 1", *STEPS, "ask 0",
+            "deliver 0 0", "step 0", "drain 0", "retire 0", *STEPS, *CALL, "step 1", "ask 1",
+        ),
+    },
+    RECORDING,
+)
+
+# a store, LR and SC, and an exit; with a buffer of one word the chunk of five is replayed in two pieces
+PIECES = Machine(
+    "replayed-in-pieces",
+    {
+        "plan.toml": plan(REPLAYED, buffer=1),
+        "a.elf": image(0x10400293, 0x10502023, 0x1002A32F, 0x1852A3AF, 0x00000893, 0x00000073),
+        "a.log": struct.pack("<4sBBHIIIBIIII", b"DLRN", 1, 1, 0, 100, 2, 2, 0, 0, 0, 0, 0),
+        "s.txt": b"",
+    },
+    ["b.txt", "r.txt"],
+)
+
+# a request of four bytes, and a load of them that the DMA squashes
+DMA = Machine(
+    "dma",
+    {
+        "plan.toml": plan(recorded("picolog"), top='input = "in"\n'),
+        "a.elf": image(0x00800893, 0x10000513, 0x00400593, 0x00000073, 0x10402283, 0x00000893, 0x00000073),
+        "in": b"AB",
+        "s.txt": script(
+            *STEPS, "step 0", *CALL, "dma 0", "step 0", "deliver 0 0", "drain 0", "drain 0", "drain 0", "retire 0",
+            *STEPS, *CALL,
+        ),
+    },
+    RECORDING,
+    spared=1,
+)
+
+# a handler is set, the thread is interrupted, and a second interrupt is masked
+INTERRUPT = Machine(
+    "interrupt",
+    {
+        "plan.toml": plan(recorded("order-size")),
+        "a.elf": image(0x00600893, 0x01400513, 0x00000073, 0x0000006F, 0x00000013, 0x0000006F),
+        "s.txt": script(*STEPS, *CALL, "raise 0 0 5", "raise 0 0 6"),
+    },
+    RECORDING,
+)
+
+# loads of the moment and of an input byte, which is put on the console; then a load of a byte there, which faults
+CONSOLE = Machine(
+    "console",
+    {
+        "plan.toml": plan(recorded("order-size"), top='input = "in"\nconsole = "c.txt"\n'),
+        "a.elf": image(0xF00002B7, 0x0002A303, 0x0042A383, 0x0072A423, 0x00028403),
+        "in": b"A",
+        "s.txt": script("step 0", *["step 0", "ask 0"] * 5),
+    },
+    ["a.log", "a.txt", "c.txt", "r.txt"],
+)
+
+LOG = struct.pack("<4sBBHIIIBI2HIII", b"DLRN", 1, 0, 0, 100, 2, 2, 0, 2, 2, 0, 0, 0, 0)  # that of THREE
+SHORT_LOG = LOG[:25] + b"\x03" + LOG[26:]  # its chunk has an instruction more than can be run
+
+DIVERGED = Machine(
+    "diverged",
+    {"plan.toml": plan(REPLAYED), "a.elf": EXIT, "a.log": SHORT_LOG, "s.txt": b""},
+    ["b.txt", "r.txt"],
+    status=1,
+)
+
+PIPE = Machine(
+    "two-spheres",
+    {name: (EXAMPLES / "pipe" / name).read_bytes() for name in ("plan.toml", "s.txt", "a.elf", "x.elf")},
+    ["x.txt", "a.log", "a.txt", "r.txt"],
+    spared=1,
+)
+
+SOURCE = (EXAMPLES / "two-threads" / "a.s").read_bytes()
+INSPECT = Machine("inspect", {"a.log": LOG}, [], ["inspect", "a.log"])
+WALK = Machine("walk", {"a.elf": EXIT, "a.log": LOG}, [], ["walk", "a.elf", "4096", "a.log"])
+MAKE = Machine("make", {}, ["x.elf"], ["make", "6", "x.elf"])
+ASM = Machine("asm", {"a.s": SOURCE}, ["x.elf"], ["asm", "a.s", "x.elf"])
+
+MACHINES = [THREE, RACE, PIECES, DMA, INTERRUPT, CONSOLE, DIVERGED, PIPE, INSPECT, WALK, MAKE, ASM]
+
+
+def refused(name, status, **files):
+    """The least recording with another of its files."""
+    other = {file.replace("_", "."): data for file, data in files.items()}
+    return Machine(name, {**THREE.files, **other}, RECORDING, status=status)
+
+
+REFUSED = [
+    Machine("usage", {}, [], ["walk", "a.elf"], 2),
+    refused("wrong-plan", 3, plan_toml=THREE.files["plan.toml"].replace(b"cores = 1", b"cores = 9")),
+    refused("wrong-image", 4, a_elf=EXIT[:51]),
+    Machine("wrong-log", {"a.log": LOG + b"\0"}, [], ["inspect", "a.log"], 5),
+    refused("wrong-script", 5, s_txt=b"step 0\nstep x\n"),
+    Machine("failed-write", THREE.files, RECORDING, status=6, folders=["a.txt"]),
+    Machine("wrong-source", {"a.s": b"addi x1, x0, 2048\n"}, ["x.elf"], ["asm", "a.s", "x.elf"], 9),
+    refused("absent-input", 10, plan_toml=DMA.files["plan.toml"]),
+]
+
+
+def contents(folder):
+    """What each file of the folder holds, by its name."""
+    return {file.name: file.read_bytes() for file in folder.iterdir() if file.is_file()}
+
+
+@dataclass
+class Ended:
+    """How a run ended: status is None where it was stopped after its seconds, and below 0 where a signal ended it.
+    `peak` is in bytes, and at least what the calling script had itself."""
+
+    status: int
+    output: bytes
+    errors: bytes
+    seconds: float
+    peak: int
+
+
+def run(program, words, folder, seconds=60, output=None, **how):
+    """Runs the program in the folder. Standard output is kept, or goes to the file `output`."""
+    with tempfile.TemporaryFile() as kept, tempfile.TemporaryFile() as errors:
+        began = time.monotonic()
+        process = subprocess.Popen(
+            [program, *words], cwd=folder, stdin=how.pop("stdin", subprocess.DEVNULL), stdout=output or kept,
+            stderr=errors, **how,
+        )
+        late = threading.Event()
+        timer = threading.Timer(seconds, lambda: (late.set(), process.kill()))
+        timer.start()
+        _, status, used = os.wait4(process.pid, 0)
+        timer.cancel()
+        process.returncode = os.waitstatus_to_exitcode(status)
+        kept.seek(0)
+        errors.seek(0)
+        return Ended(
+            None if late.is_set() else process.returncode, kept.read(), errors.read(), time.monotonic() - began,
+            used.ru_maxrss * 1024,
+        )
+
+
+def options(text):
+    """The parser of a check's words, whose help is its docstring."""
+    parser = argparse.ArgumentParser(description=text, formatter_class=argparse.RawDescriptionHelpFormatter)
+    parser.add_argument(
+        "--program", type=lambda path: str(pathlib.Path(path).resolve()), default=str(TOP / "bin" / "delorean"),
+        help="another program than bin/delorean",
+    )
+    return parser
+
+
+def ready(program):
+    """The first call may build the program, which says so on the standard error."""
+    if subprocess.run([program], stdout=subprocess.DEVNULL).returncode != 2:
+        raise SystemExit(f"no words aren't answered by status 2: {program}")
