@@ -5,7 +5,7 @@ use Rattle.std.specs.Option.{option_or}
 use Rattle.dl_entry.specs.declared.actor.Actor.{Actor}
 use Rattle.dl_entry.specs.declared.actor.Actor.TheVariants.{Thread, Dma}
 use Rattle.spec_log.specs.declared.mode_name.ModeName.{ModeName}
-use Rattle.spec_log.specs.declared.mode_name.ModeName.TheVariants.{Picolog}
+use Rattle.spec_log.specs.declared.mode_name.ModeName.TheVariants.{OrderSize, OrderOnly, Picolog}
 use Rattle.spec_log.specs.declared.records.DmaRecord.{DmaRecord}
 use Rattle.spec_log.specs.declared.log.LogParts.{LogParts}
 
@@ -32,8 +32,9 @@ head_by_turn slot last live = if slot then Some Dma else option_map Thread (turn
 
 -- the actor of the commit at a position, by the thread that committed last and which threads are live
 abbrev pub head_in : ModeName → LogParts → ℕ → Option ℕ → List Bool → Option Actor
+head_in OrderSize log position last live = slice_get log.order position
+head_in OrderOnly log position last live = slice_get log.order position
 head_in Picolog log position last live = head_by_turn (is_slot log.dmas position) last live
-head_in mode log position last live = slice_get log.order position
 
 abbrev pub head : LogParts → ℕ → Option ℕ → List Bool → Option Actor
 head log position last live = head_in log.mode log position last live

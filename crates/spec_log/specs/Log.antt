@@ -20,8 +20,9 @@ IsActor Dma = Unit {0}
 
 -- the order names the actor of each commit; in picolog, where threads take turns, it is empty
 abbrev pub IsOrder : ModeName → ℕ → List Actor → Type 0
+IsOrder OrderSize count order = (length order ≡ count) × All IsActor order
+IsOrder OrderOnly count order = (length order ≡ count) × All IsActor order
 IsOrder Picolog count order = order ≡ []
-IsOrder mode count order = (length order ≡ count) × All IsActor order
 
 -- a thread's moment comes before another: of an earlier thread, or earlier in the same thread
 abbrev pub ComesBefore : (thread index later_thread later_index : ℕ) → Type 0

@@ -5,7 +5,7 @@ use Rattle.dl_entry.specs.declared.actor.Actor.{Actor}
 use Rattle.dl_entry.specs.declared.actor.Actor.TheVariants.{Thread, Dma}
 use Rattle.dl_entry.specs.declared.input.Input.{Input}
 use Rattle.spec_log.specs.declared.mode_name.ModeName.{ModeName}
-use Rattle.spec_log.specs.declared.mode_name.ModeName.TheVariants.{OrderSize, Picolog}
+use Rattle.spec_log.specs.declared.mode_name.ModeName.TheVariants.{OrderSize, OrderOnly, Picolog}
 use Rattle.spec_log.specs.declared.records.Interrupt.{Interrupt}
 use Rattle.spec_log.specs.declared.records.DmaRecord.{DmaRecord}
 use Rattle.spec_log.specs.declared.sizes.ShortSize.{ShortSize}
@@ -33,7 +33,8 @@ pub record Kept : Type 0 where
 -- no size yet: of each commit, or of those that were closed early
 abbrev pub no_sizes : ModeName → Sizes
 no_sizes OrderSize = Each []
-no_sizes mode = Short []
+no_sizes OrderOnly = Short []
+no_sizes Picolog = Short []
 
 -- nothing is noted yet, of any of the 15 threads
 abbrev pub nothing_kept : ModeName → ℕ → Kept
@@ -41,8 +42,9 @@ nothing_kept mode s = record { s = s; count = 0; order = []; sizes = no_sizes mo
 
 -- the order with an actor more; in picolog there is none
 abbrev pub order_with : ModeName → List Actor → Actor → List Actor
+order_with OrderSize order actor = order ++ actor ∷ []
+order_with OrderOnly order actor = order ++ actor ∷ []
 order_with Picolog order actor = order
-order_with mode order actor = order ++ actor ∷ []
 
 -- an entry at its place by thread and index, instead of another of the same moment
 abbrev pub insert_by : {X : Type 0} → (X → ℕ) → (X → ℕ) → X → List X → List X
@@ -118,8 +120,9 @@ sizes_used order (Short sizes) done = list_all (λ short. nat_lt short.index (sl
 
 -- whose commit is kept at a position, told whether a DMA's slot is there, which thread committed last, and which are live
 abbrev pub kept_head : ModeName → List Actor → ℕ → Bool → Option ℕ → List Bool → Option Actor
+kept_head OrderSize order position slot last live = slice_get order position
+kept_head OrderOnly order position slot last live = slice_get order position
 kept_head Picolog order position slot last live = head_by_turn slot last live
-kept_head mode order position slot last live = slice_get order position
 
 -- the log of what is kept, with its records
 abbrev pub log_of : ModeName → Kept → List Interrupt → List Input → List DmaRecord → LogParts

@@ -108,8 +108,9 @@ actors (suc (suc n)) =
 
 -- the number of actors is that of the commits, but in picolog 0
 abbrev pub ordered : ModeName → ℕ → ℕ
+ordered OrderSize count = count
+ordered OrderOnly count = count
 ordered Picolog count = 0
-ordered mode count = count
 
 abbrev pub order_of : ModeName → ℕ → Reader (List Actor)
 order_of mode count = read (field 4 (λ n. n == ordered mode count)) actors
@@ -137,7 +138,8 @@ each_size s count =
 
 abbrev pub sizes_of : ModeName → ℕ → ℕ → Reader Sizes
 sizes_of OrderSize s count = each_size s count
-sizes_of mode s count = short_sizes s
+sizes_of OrderOnly s count = short_sizes s
+sizes_of Picolog s count = short_sizes s
 
 abbrev pub interrupt : Reader Interrupt
 interrupt =
