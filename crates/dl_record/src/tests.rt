@@ -4,7 +4,7 @@ ghost use Rattle.spec_log.specs.Log.{IsActor, IsInput, AreFewBytes, input_kinds}
 
 use super::*;
 use dl_entry::{Actor, Bytes, Commit, CommitKind, Input, Loads, Outputs};
-use dl_logfmt::write_log;
+use dl_logbytes::write_log;
 use dl_mode::{Mode, OrderAndSize, OrderOnly, PicoLog};
 use spec_log::ModeName;
 use std::alloc::Global;

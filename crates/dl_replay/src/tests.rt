@@ -3,7 +3,7 @@ ghost use Rattle.std.specs.Prelude.{◌≡◌};
 
 use super::*;
 use dl_entry::{Actor, End, Why};
-use dl_logfmt::read_log;
+use dl_logbytes::read_log;
 use dl_mem::Memory;
 use dl_mode::{Mode, OrderAndSize, OrderOnly, PicoLog};
 use dl_thread::Threads;

@@ -6,7 +6,7 @@ mod beginnings;
 mod moves;
 
 use super::*;
-use dl_logfmt::read_log;
+use dl_logbytes::read_log;
 use spec_log::ModeName;
 use std::alloc::Global;
 use std::test::Fail;
