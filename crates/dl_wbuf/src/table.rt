@@ -26,7 +26,7 @@ impl Model for Table {
 }
 
 impl Table {
-    // A table of no number, with room for `room`, from 1 to 8,192. Its slots are a power of two, at least four times as many.
+    // A table of no number, with room for `room`, from 1 to 8,192. Its slots are a power of two, at least twice as many.
     pub(crate) fn new(alloc: Global, room: u32) -> Result<Table, AllocError>
         requires least { 1 ≤ room }
         requires most { room ≤ 8192 }
@@ -34,7 +34,7 @@ impl Table {
         ensures taken { IfOk result (λ t. length t.taken ≡ 0) }
         ensures room { IfOk result (λ t. t.room ≡ room) }
     {
-        let bits = (4 * room - 1).ilog2();
+        let bits = (2 * room).ilog2();
         Ok(Table {
             slots: vec![in alloc; None; 2 << bits]?,
             taken: Vec::with_capacity(alloc, room as usize)?,

@@ -28,7 +28,7 @@ pub invariant_of-result : goal.invariant_of-result
 invariant_of-result c =
     let bits : ℕ = c.ilog2-bits.result in
     let few : 2 ^ bits < 2 ^ 15 = omega (arith, c.ilog2-bits.ensures.power_le) in
-    let many : 4 * c.args.room ≤ 2 * 2 ^ bits = omega (arith, c.ilog2-bits.ensures.next_power_gt) in
+    let many : 2 * c.args.room < 2 * 2 ^ bits = omega (arith, c.ilog2-bits.ensures.next_power_gt) in
     let some : 1 ≤ bits = positive_bits bits (omega arith) in
     let room : vec_capacity c.in_ok-with_capacity.field-0 ≡ c.args.room = c.in_ok-with_capacity.ensures.exact in
     let slots : length c.in_ok-vec.field-0.items ≡ 2 * 2 ^ bits = omega (arith, c.in_ok-vec.ensures.len) in
