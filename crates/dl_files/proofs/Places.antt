@@ -1,5 +1,5 @@
 -- Where a name stands in a list of entries, and what the list then holds at each name.
-use Rattle.std.proofs.Common.{◌≡◌, ◌≢◌, ℕ, zero, suc, ◌<◌, ◌≤◌, List, [], ◌∷◌, ◌++◌, length, set, get_or, Bool, true, false, cond, Option, None, Some, refl, sym, ap, subst, ◌∙◌, arith, length-append}
+use Rattle.std.proofs.Common.{◌≡◌, ◌≢◌, ℕ, zero, suc, ◌<◌, ◌≤◌, List, [], ◌∷◌, ◌++◌, length, set, get_or, Bool, true, false, cond, Option, None, Some, refl, sym, ap, subst, ◌∙◌, arith, length-append, Result, Ok, Err, OnOk, unwrap_or, is_ok, if◌then◌else◌}
 use Rattle.std.specs.Prelude.{is_some, nat_lt, IfSome, IfNone}
 use Rattle.std.specs.List.{position_or_len}
 use Rattle.std.proofs.lemmas.Bool.{ltb-true, ltb-false}
@@ -10,7 +10,7 @@ use Rattle.std.specs.Cmp.Lexicographic.{slice_cmp, nat_list_cmp_total}
 use Rattle.std.specs.FinMap.{find, get, insert, get-insert, get-from_entries, same_map, slice_cmp-IsAntisymmetric, nat_cmp-IsAntisymmetric}
 use Rattle.std.proofs.lemmas.Map.Text.{is_eq-slice_cmp}
 use Rattle.std.proofs.lemmas.Slice.Eq.{bytes_eq-Decides}
-use Rattle.dl_files.specs.Contents.{SameBut}
+use Rattle.dl_files.specs.Contents.{SameBut, more}
 use Rattle.dl_files.specs.Entries.{Entry, contents_of, place_of, name_at, bytes_at, with_name, NamesStay}
 
 -- two names are the same, as the map's order tests it
@@ -232,6 +232,28 @@ NamesStay-IsWrite name bytes old new i entry w j h =
     ∙ name_at-set name bytes new i j first
     ∙ ap (λ es. name_at es j) w.added
     ∙ NamesStay-with_name name old j h
+
+-- a list that has the name stays as the name is added
+pub with_name-there : (name : List ℕ) (es : List Entry) (i : ℕ) → place_of name es ≡ Some i → es ≡ with_name name es
+with_name-there name es i e = sym (ap (λ p. if is_some p then es else es ++ (name, []) ∷ []) e)
+
+-- the entry that was read at a name's place has the name's bytes
+bytes-read : (name : List ℕ) (es : List Entry) (i : ℕ) (entry : Entry) → FirstAt es name i → entry ≡ get_or es i entry → Some entry.1 ≡ bytes_at es i
+bytes-read name [] i entry h e = absurd h
+bytes-read name (x ∷ es) zero entry h e = ap (λ (v : Entry). Some v.1) e
+bytes-read name (x ∷ es) (suc i) entry h e = bytes-read name es i entry h.1 e
+
+-- bytes that were put after those at a name's place are more bytes of the name
+pub contents_of-extended : {T E : Type 0} (name bytes items : List ℕ) (old new : List Entry) (i : ℕ) (entry : Entry) (r : Result T E)
+    → IsWrite name old new i entry → new ≡ old → items ≡ (if is_ok r then entry.1 ++ bytes else entry.1)
+    → OnOk r (contents_of (set new i (entry.0, items)) ≡ more name bytes (contents_of old))
+contents_of-extended name bytes items old new i entry (Err e) w same at = tt
+contents_of-extended name bytes items old new i entry (Ok u) w same at =
+    let first = FirstAt-place name new i w.place in
+    let held = bytes-read name new i entry first w.read ∙ sym (found-first name new i first) ∙ sym (get-contents_of name new)
+    ∙ ap (λ es. get (contents_of es) name) same in
+    contents_of-IsWrite name items old new i entry w
+    ∙ ap (insert (contents_of old) name) (at ∙ ap (λ b. unwrap_or b [] ++ bytes) held)
 
 -- what a place that was looked up shows
 pub named-place : (name : List ℕ) (es : List Entry) (r : Option ℕ) → r ≡ place_of name es → IfSome r (λ i. name_at es i ≡ Some name)

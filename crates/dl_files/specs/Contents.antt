@@ -1,5 +1,5 @@
 -- What files hold, where it is told: a finite map from names to bytes.
-use Rattle.std.specs.Prelude.{◌≡◌, ◌≢◌, ℕ, List, Option, None, Some, IsSome, IfSome, option_map}
+use Rattle.std.specs.Prelude.{◌≡◌, ◌≢◌, ℕ, List, [], ◌++◌, take, drop, Option, None, Some, IsSome, IfSome, option_map, unwrap_or}
 use Rattle.std.specs.Ordering.{nat_cmp}
 use Rattle.std.specs.Cmp.Lexicographic.{slice_cmp}
 use Rattle.std.specs.FinMap.{FinMap, code, get, insert}
@@ -18,6 +18,14 @@ contents_code = code (coded_list coded_ℕ) (coded_list coded_ℕ)
 abbrev pub Holds : Option Contents → List ℕ → List ℕ → Type 0
 Holds told name bytes = IfSome told (λ m. get m name ≡ Some bytes)
 
+-- the name's bytes from an offset on, as many as fit in a piece of that room
+abbrev pub part_of : Contents → (name : List ℕ) → (offset room : ℕ) → Option (List ℕ)
+part_of m name offset room = option_map (λ bytes. take room (drop offset bytes)) (get m name)
+
+-- where told, these are the name's bytes from an offset on, as many as fit in a piece of that room
+abbrev pub HoldsAt : Option Contents → (name : List ℕ) → (offset room : ℕ) → (bytes : List ℕ) → Type 0
+HoldsAt told name offset room bytes = IfSome told (λ m. part_of m name offset room ≡ Some bytes)
+
 -- where told, the name is there
 abbrev pub IsThere : Option Contents → List ℕ → Type 0
 IsThere told name = IfSome told (λ m. IsSome (get m name))
@@ -30,6 +38,14 @@ IsAbsent (Some m) name old new = (get m name ≡ None) × (new ≡ old)
 -- the contents once the name holds these bytes
 abbrev pub with_file : List ℕ → List ℕ → Option Contents → Option Contents
 with_file name bytes told = option_map (λ m. insert m name bytes) told
+
+-- the contents once these bytes follow those of the name, which is made where it isn't there
+abbrev pub more : List ℕ → List ℕ → Contents → Contents
+more name bytes m = insert m name (unwrap_or (get m name) [] ++ bytes)
+
+-- the same, where told
+abbrev pub with_more : List ℕ → List ℕ → Option Contents → Option Contents
+with_more name bytes told = option_map (more name bytes) told
 
 -- every other name holds what it held
 abbrev pub SameBut : List ℕ → Option Contents → Option Contents → Type 0

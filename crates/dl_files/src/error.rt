@@ -2,7 +2,7 @@
 use std::alloc::AllocError;
 use thiserror::Error;
 
-/// Why a call of `Files` was refused. Only `read` answers `Absent`.
+/// Why a call of `Files` was refused. Only `read` and `read_at` answer `Absent`.
 #[derive(Clone, Copy, Debug, PartialEq, Eq, Error)]
 pub enum FileError {
     /// The call failed, and the count of faults rose.

@@ -1,8 +1,10 @@
 //! Files in memory that never fail.
-ghost use Rattle.std.specs.Prelude.{◌≡◌, ◌↔◌, None, Some, IfOk, IfErr, OnOk, OnErr, IsErrOf};
+ghost use Rattle.std.specs.Prelude.{◌≡◌, ◌↔◌, ◌≤◌, [], length, take, None, Some, IfOk, IfErr, OnOk, OnErr, IsErrOf};
 ghost use Rattle.std.specs.FinMap.{empty, get, insert};
+ghost use Rattle.dl_files.specs.Contents.{part_of, more};
 ghost use Rattle.dl_files.specs.Entries.{contents_of};
 
+use crate::part::copy_part;
 use crate::store::Store;
 use crate::{FileError, Files};
 use std::alloc::Global;
@@ -68,12 +70,43 @@ impl Files for GoodFiles {
         }
     }
 
+    fn read_at(&mut self, name: &str, offset: u64, into: &mut [u8]) -> Result<usize, FileError>
+        ensures bytes { IfOk result (λ n.
+            part_of self.old name.now offset (length into.old) ≡ Some (take n into.new)) }
+        ensures most { IfOk result (λ n. n ≤ length into.old) }
+        ensures absent { IsErrOf result FileError.Absent ↔ (get self.old name.now ≡ None) }
+        ensures only { IfErr result (λ e. e ≡ FileError.Absent) }
+        ensures kept { self.new ≡ self.old }
+    {
+        let Some(place) = self.store.place(name) else {
+            return Err(FileError::Absent);
+        };
+        Ok(copy_part(self.store.bytes(place), offset, into))
+    }
+
     fn write(&mut self, name: &str, bytes: &[u8]) -> Result<(), FileError>
         ensures written { OnOk result (self.new ≡ insert self.old name.now bytes.now) }
         ensures only { IfErr result (λ e. e ≡ FileError.OutOfMemory) }
         ensures same { OnErr result (self.new ≡ self.old) }
     {
         self.store.put(name, bytes)?;
+        Ok(())
+    }
+
+    fn create(&mut self, name: &str) -> Result<(), FileError>
+        ensures created { OnOk result (self.new ≡ insert self.old name.now []) }
+        ensures only { IfErr result (λ e. e ≡ FileError.OutOfMemory) }
+        ensures same { OnErr result (self.new ≡ self.old) }
+    {
+        self.write(name, b"")
+    }
+
+    fn append(&mut self, name: &str, bytes: &[u8]) -> Result<(), FileError>
+        ensures appended { OnOk result (self.new ≡ more name.now bytes.now self.old) }
+        ensures only { IfErr result (λ e. e ≡ FileError.OutOfMemory) }
+        ensures same { OnErr result (self.new ≡ self.old) }
+    {
+        self.store.append(name, bytes)?;
         Ok(())
     }
 }

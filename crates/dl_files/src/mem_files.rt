@@ -1,18 +1,19 @@
 //! Files in memory whose calls fail as a list says.
-ghost use Rattle.std.specs.Prelude.{◌≡◌, ◌≢◌, ◌↔◌, None, Some, IsSome, IfOk, IfErr, OnOk, IsErrOf};
+ghost use Rattle.std.specs.Prelude.{◌≡◌, ◌≢◌, ◌↔◌, ◌≤◌, [], length, take, None, Some, IsSome, IfOk, IfErr, OnOk, OnErr, IsErrOf};
 ghost use Rattle.std.specs.FinMap.{get, insert};
 ghost use Rattle.dl_files.specs.Calls.{unmade, FailsNext, passed, faulted};
-ghost use Rattle.dl_files.specs.Contents.{SameBut};
+ghost use Rattle.dl_files.specs.Contents.{part_of, more, SameBut};
 
 use crate::calls::Calls;
+use crate::part::copy_part;
 use crate::store::Store;
 use crate::{FileError, Files, GoodFiles};
-use std::alloc::Global;
+use std::alloc::{AllocError, Global};
 use std::marker::Model;
 
-/// Files in memory some of whose calls fail. Calls of `read` and `write` are numbered together, from 0
-/// in the order in which they are made. A read of an absent name takes no number, since the name is
-/// looked up first, and nor does a call that finds no memory.
+/// Files in memory some of whose calls fail. Calls that read, write, create or append are numbered
+/// together, from 0 in the order in which they are made. A read of an absent name takes no number, since
+/// the name is looked up first, and nor does a call that finds no memory.
 #[derive(Drop)]
 pub struct MemFiles {
     store: Store,
@@ -56,6 +57,22 @@ impl MemFiles {
             last: None,
         })
     }
+
+    // The call that comes fails at the name, which is added without bytes where it is new.
+    fn fault(&mut self, name: &str) -> Result<(), AllocError>
+        ensures others { OnOk result
+            (SameBut name.now (Some self.old.contents) (Some self.new.contents)) }
+        ensures fault { OnOk result (self.new ≡ record self.new {
+          calls = faulted self.old.calls;
+          last_fault = Some name.now;
+        }) }
+        ensures same { OnErr result (self.new ≡ self.old) }
+    {
+        let place = self.store.touch(name)?;
+        self.calls.fault();
+        self.last = Some(place);
+        Ok(())
+    }
 }
 
 impl Files for MemFiles {
@@ -94,6 +111,34 @@ impl Files for MemFiles {
         Ok(bytes)
     }
 
+    fn read_at(&mut self, name: &str, offset: u64, into: &mut [u8]) -> Result<usize, FileError>
+        ensures bytes { IfOk result (λ n.
+            part_of self.old.contents name.now offset (length into.old) ≡ Some (take n into.new)) }
+        ensures most { IfOk result (λ n. n ≤ length into.old) }
+        ensures absent { IsErrOf result FileError.Absent ↔ (get self.old.contents name.now ≡ None) }
+        ensures no_memory { IfErr result (λ e. e ≢ FileError.OutOfMemory) }
+        ensures passes { OnOk result (FailsNext self.old.calls → ⊥) }
+        ensures fails { IsErrOf result FileError.Failed → FailsNext self.old.calls }
+        ensures ok { OnOk result (self.new ≡ record self.old { calls = passed self.old.calls }) }
+        ensures fault { IsErrOf result FileError.Failed → self.new ≡ record self.old {
+          calls = faulted self.old.calls;
+          last_fault = Some name.now;
+        } }
+        ensures same { IfErr result (λ e. e ≢ FileError.Failed → self.new ≡ self.old) }
+    {
+        let Some(place) = self.store.place(name) else {
+            return Err(FileError::Absent);
+        };
+        if self.calls.fails_next() {
+            self.calls.fault();
+            self.last = Some(place);
+            return Err(FileError::Failed);
+        }
+        let count = copy_part(self.store.bytes(place), offset, into);
+        self.calls.pass();
+        Ok(count)
+    }
+
     fn write(&mut self, name: &str, bytes: &[u8]) -> Result<(), FileError>
         ensures passes { OnOk result (FailsNext self.old.calls → ⊥) }
         ensures fails { IsErrOf result FileError.Failed → FailsNext self.old.calls }
@@ -111,12 +156,54 @@ impl Files for MemFiles {
         ensures not_absent { IfErr result (λ e. e ≢ FileError.Absent) }
     {
         if self.calls.fails_next() {
-            let place = self.store.touch(name)?;
-            self.calls.fault();
-            self.last = Some(place);
+            self.fault(name)?;
             return Err(FileError::Failed);
         }
         self.store.put(name, bytes)?;
+        self.calls.pass();
+        Ok(())
+    }
+
+    fn create(&mut self, name: &str) -> Result<(), FileError>
+        ensures passes { OnOk result (FailsNext self.old.calls → ⊥) }
+        ensures fails { IsErrOf result FileError.Failed → FailsNext self.old.calls }
+        ensures created { OnOk result (self.new ≡ record self.old {
+          contents = insert self.old.contents name.now [];
+          calls = passed self.old.calls;
+        }) }
+        ensures others { IsErrOf result FileError.Failed
+            → SameBut name.now (Some self.old.contents) (Some self.new.contents) }
+        ensures fault { IsErrOf result FileError.Failed → self.new ≡ record self.new {
+          calls = faulted self.old.calls;
+          last_fault = Some name.now;
+        } }
+        ensures same { IsErrOf result FileError.OutOfMemory → self.new ≡ self.old }
+        ensures not_absent { IfErr result (λ e. e ≢ FileError.Absent) }
+    {
+        self.write(name, b"")
+    }
+
+    fn append(&mut self, name: &str, bytes: &[u8]) -> Result<(), FileError>
+        ensures passes { OnOk result (FailsNext self.old.calls → ⊥) }
+        ensures fails { IsErrOf result FileError.Failed → FailsNext self.old.calls }
+        ensures appended { OnOk result (self.new ≡ record self.old {
+          contents = more name.now bytes.now self.old.contents;
+          calls = passed self.old.calls;
+        }) }
+        ensures others { IsErrOf result FileError.Failed
+            → SameBut name.now (Some self.old.contents) (Some self.new.contents) }
+        ensures fault { IsErrOf result FileError.Failed → self.new ≡ record self.new {
+          calls = faulted self.old.calls;
+          last_fault = Some name.now;
+        } }
+        ensures same { IsErrOf result FileError.OutOfMemory → self.new ≡ self.old }
+        ensures not_absent { IfErr result (λ e. e ≢ FileError.Absent) }
+    {
+        if self.calls.fails_next() {
+            self.fault(name)?;
+            return Err(FileError::Failed);
+        }
+        self.store.append(name, bytes)?;
         self.calls.pass();
         Ok(())
     }

@@ -1,20 +1,18 @@
 //! The files of the system: the trusted edge, which tells nothing of their contents.
-ghost use Rattle.std.specs.Prelude.{◌≡◌, ◌≢◌, None, ◌≤◌, ◌^◌, vec_len, IfOk, IfErr, OnOk, IsErrOf};
+ghost use Rattle.std.specs.Prelude.{◌≡◌, ◌≢◌, None, ◌≤◌, ◌^◌, length, vec_len, IfOk, IfErr, OnOk, IsErrOf};
 ghost use Rattle.dl_files.specs.Count.{next};
 
+use crate::real_reads::{read_named, read_part};
 use crate::{FileError, Files};
 use std::alloc::Global;
-use std::io::{ErrorKind, Read};
+use std::fs::OpenOptions;
+use std::io::Write;
 use std::marker::Model;
-use std::{fs, rt};
-
-/// The greatest file that is read, in bytes.
-const LARGEST: usize = 1 << 30;
-
-const PIECE: usize = 1 << 16;
+use std::{fs, io, rt};
 
 /// The files of the system that `R` reaches, seen as their count of faults. Each refusal but for memory
-/// is counted, also that of an absent file. A file of more than 2^30 bytes is a fault, once so many are read.
+/// is counted, also that of an absent file. To read a file of more than 2^30 bytes whole is a fault, once
+/// so many are read; a part is read of a file of any size.
 #[derive(Drop)]
 pub struct RealFiles<R> {
     rt: R,
@@ -41,6 +39,20 @@ impl<R: rt::Files> RealFiles<R> {
         ensures { self.new ≡ next self.old }
     {
         self.faults = self.faults.saturating_add(1);
+    }
+
+    fn settle(&mut self, done: io::Result<()>) -> Result<(), FileError>
+        ensures ok { OnOk result (self.new ≡ self.old) }
+        ensures only { IfErr result (λ e. e ≡ FileError.Failed) }
+        ensures refused { IfErr result (λ _. self.new ≡ next self.old) }
+    {
+        match done {
+            Ok(()) => Ok(()),
+            Err(_) => {
+                self.fault();
+                Err(FileError::Failed)
+            }
+        }
     }
 }
 
@@ -71,48 +83,49 @@ impl<R: rt::Files> Files for RealFiles<R> {
         }
     }
 
+    fn read_at(&mut self, name: &str, offset: u64, into: &mut [u8]) -> Result<usize, FileError>
+        ensures most { IfOk result (λ n. n ≤ length into.old) }
+        ensures ok { OnOk result (self.new ≡ self.old) }
+        ensures no_memory { IfErr result (λ e. e ≢ FileError.OutOfMemory) }
+        ensures refused { IfErr result (λ _. self.new ≡ next self.old) }
+    {
+        match read_part(&self.rt, name, offset, into) {
+            Ok(count) => Ok(count),
+            Err(error) => {
+                self.fault();
+                Err(error)
+            }
+        }
+    }
+
     fn write(&mut self, name: &str, bytes: &[u8]) -> Result<(), FileError>
         ensures ok { OnOk result (self.new ≡ self.old) }
         ensures only { IfErr result (λ e. e ≡ FileError.Failed) }
         ensures refused { IfErr result (λ _. self.new ≡ next self.old) }
     {
-        match fs::write(&self.rt, name, bytes) {
-            Ok(()) => Ok(()),
-            Err(_) => {
-                self.fault();
-                Err(FileError::Failed)
-            }
-        }
+        let done = fs::write(&self.rt, name, bytes);
+        self.settle(done)
+    }
+
+    fn create(&mut self, name: &str) -> Result<(), FileError>
+        ensures ok { OnOk result (self.new ≡ self.old) }
+        ensures only { IfErr result (λ e. e ≡ FileError.Failed) }
+        ensures refused { IfErr result (λ _. self.new ≡ next self.old) }
+    {
+        self.write(name, b"")
+    }
+
+    fn append(&mut self, name: &str, bytes: &[u8]) -> Result<(), FileError>
+        ensures ok { OnOk result (self.new ≡ self.old) }
+        ensures only { IfErr result (λ e. e ≡ FileError.Failed) }
+        ensures refused { IfErr result (λ _. self.new ≡ next self.old) }
+    {
+        let done = append_to(&self.rt, name, bytes);
+        self.settle(done)
     }
 }
 
-fn read_named(rt: &impl rt::Files, alloc: Global, name: &str) -> Result<Vec<u8>, FileError>
-    ensures { IfOk result (λ bytes. vec_len bytes ≤ 2 ^ 30) }
-{
-    match fs::open(rt, name) {
-        Ok(mut file) => read_whole(&mut file, alloc),
-        Err(error) if error.kind() == ErrorKind::NotFound => Err(FileError::Absent),
-        Err(_) => Err(FileError::Failed),
-    }
-}
-
-fn read_whole(file: &mut impl Read, alloc: Global) -> Result<Vec<u8>, FileError>
-    ensures { IfOk result (λ bytes. vec_len bytes ≤ 2 ^ 30) }
-{
-    let mut bytes = Vec::new(alloc);
-    let mut piece = [0u8; PIECE];
-    // Each turn but the last takes a byte, so these are enough for the greatest file.
-    for _ in 0..=LARGEST {
-        let Ok(n) = file.read(&mut piece) else {
-            return Err(FileError::Failed);
-        };
-        if n == 0 {
-            return Ok(bytes);
-        }
-        bytes.extend_from_slice(&piece[..n])?;
-        if bytes.len() > LARGEST {
-            return Err(FileError::Failed);
-        }
-    }
-    Err(FileError::Failed)
+fn append_to(rt: &impl rt::Files, name: &str, bytes: &[u8]) -> io::Result<()> {
+    let mut file = OpenOptions::new().append(true).create(true).open(rt, name)?;
+    file.write_all(bytes)
 }

@@ -1,7 +1,7 @@
 //! A list of files in memory, seen as its entries: each name with its bytes.
 ghost use Rattle.std.specs.Prelude.{◌≡◌, ◌<◌, ◌≤◌, [], ◌∷◌, ◌++◌, length, None, Some, IfOk, IfSome, IfNone, OnOk, OnErr};
 ghost use Rattle.dl_files.specs.Entries.{place_of, name_at, bytes_at, with_name, contents_of, NamesStay};
-ghost use Rattle.dl_files.specs.Contents.{SameBut};
+ghost use Rattle.dl_files.specs.Contents.{SameBut, more};
 ghost use Rattle.std.specs.FinMap.{get, insert};
 
 use std::alloc::{AllocError, Global};
@@ -115,6 +115,33 @@ impl Store {
         let file = &mut self.files[place];
         file.bytes = bytes;
         Ok(())
+    }
+
+    // A new name is added with its bytes at once, so that it is not there where its bytes find no room.
+    pub(crate) fn append(&mut self, name: &str, bytes: &[u8]) -> Result<(), AllocError>
+        ensures ok { OnOk result
+            (contents_of self.new ≡ more name.now bytes.now (contents_of self.old)) }
+        ensures names { NamesStay self.old self.new }
+        ensures grows { length self.old ≤ length self.new }
+        ensures err { OnErr result (self.new ≡ self.old) }
+    {
+        match self.place(name) {
+            Some(place) => self.extend(name, place, bytes),
+            None => self.put(name, bytes),
+        }
+    }
+
+    fn extend(&mut self, name: &str, place: usize, bytes: &[u8]) -> Result<(), AllocError>
+        requires within { place < length self.old }
+        requires placed { place_of name.now self.old ≡ Some place }
+        ensures ok { OnOk result
+            (contents_of self.new ≡ more name.now bytes.now (contents_of self.old)) }
+        ensures names { NamesStay self.old self.new }
+        ensures grows { length self.old ≤ length self.new }
+        ensures err { OnErr result (self.new ≡ self.old) }
+    {
+        let file = &mut self.files[place];
+        file.bytes.extend_from_slice(bytes)
     }
 }
 

@@ -1,4 +1,4 @@
-//! Runs of each kind of files and of sink through the traits, and tables of the calls that fail.
+//! Tables of calls of each kind of files and of sink through the traits, some of which fail.
 ghost use Rattle.std.specs.Prelude.{IsErrOf};
 ghost use Rattle.dl_files.specs.Count.{Rose};
 
@@ -24,63 +24,14 @@ fn copy_good(alloc: Global, files: &mut GoodFiles, from: &str, to: &str) -> Resu
     copy(alloc, files, from, to)
 }
 
-fn reads<F: Files>(rt: &impl Abort, alloc: Global, files: &mut F, name: &str, want: &[u8]) {
-    match files.read(alloc, name) {
-        Ok(bytes) => assert_eq!(rt; bytes.as_slice(), want, "{name}"),
-        Err(error) => panic!(rt; "{name}: {error}"),
-    }
-}
-
-// Writes one file, then copies it over another.
-fn keep_what_is_written<F: Files>(rt: &impl Abort, alloc: Global, files: &mut F, names: [&str; 2]) {
-    let [first, second] = names;
-    assert_eq!(rt; files.write(first, b"one"), Ok(()));
-    assert_eq!(rt; files.write(second, b"longer"), Ok(()));
-    reads(rt, alloc, files, second, b"longer");
-    assert_eq!(rt; copy(alloc, files, first, second), Ok(()));
-    reads(rt, alloc, files, first, b"one");
-    reads(rt, alloc, files, second, b"one");
-    assert_eq!(rt; files.faults(), 0);
-}
-
-#[test]
-fn files_keep_what_is_written(rt: HostRuntime) -> Result<(), Fail> {
-    let alloc = rt.alloc();
-    let mut good = GoodFiles::new(alloc);
-    keep_what_is_written(&rt, alloc, &mut good, ["a", "b"]);
-    assert_eq!(rt; copy_good(alloc, &mut good, "a", "c"), Ok(()));
-    assert_eq!(rt;
-        copy_good(alloc, &mut good, "z", "c"),
-        Err(FileError::Absent)
-    );
-    let mut mem = MemFiles::new(alloc, good, &[])?;
-    reads(&rt, alloc, &mut mem, "c", b"one");
-    keep_what_is_written(&rt, alloc, &mut mem, ["b", "d"]);
-    Ok(())
-}
-
-#[test]
-fn real_files_are_read_written_and_counted(rt: HostRuntime) -> Result<(), Fail> {
-    let alloc = rt.alloc();
-    let mut real = RealFiles::new(rt.clone()?);
-    keep_what_is_written(&rt, alloc, &mut real, ["dl_files_a", "dl_files_b"]);
-    let long = vec![in alloc; 7; 200_000]?;
-    assert_eq!(rt; real.write("dl_files_a", long.as_slice()), Ok(()));
-    reads(&rt, alloc, &mut real, "dl_files_a", long.as_slice());
-    fs::remove_file(&rt, "dl_files_a")?;
-    fs::remove_file(&rt, "dl_files_b")?;
-    assert!(rt; matches!(real.read(alloc, "dl_files_a"), Err(FileError::Absent)));
-    assert_eq!(rt; real.faults(), 1);
-    assert!(rt; matches!(real.read(alloc, "."), Err(FileError::Failed)));
-    assert_eq!(rt; real.write("dl_files_a/b", b""), Err(FileError::Failed));
-    assert_eq!(rt; real.faults(), 3);
-    Ok(())
-}
-
 #[derive(Clone, Copy)]
 enum Call {
     Read,
+    ReadAt(u64),
     Write(&'static [u8]),
+    Create,
+    Append(&'static [u8]),
+    CopyTo(&'static str),
 }
 
 fn answer<F: Files>(
@@ -91,10 +42,29 @@ fn answer<F: Files>(
 ) -> Result<Vec<u8>, FileError> {
     match call {
         Call::Read => files.read(alloc, name),
-        Call::Write(bytes) => {
-            files.write(name, bytes)?;
-            Ok(Vec::new(alloc))
-        }
+        Call::ReadAt(offset) => read_four(alloc, files, name, offset),
+        Call::Write(bytes) => no_bytes(alloc, files.write(name, bytes)),
+        Call::Create => no_bytes(alloc, files.create(name)),
+        Call::Append(bytes) => no_bytes(alloc, files.append(name, bytes)),
+        Call::CopyTo(other) => no_bytes(alloc, copy(alloc, files, name, other)),
+    }
+}
+
+fn read_four<F: Files>(
+    alloc: Global,
+    files: &mut F,
+    name: &str,
+    offset: u64,
+) -> Result<Vec<u8>, FileError> {
+    let mut piece = [0; 4];
+    let count = files.read_at(name, offset, &mut piece)?;
+    Ok(Vec::from_slice(alloc, &piece[..count])?)
+}
+
+fn no_bytes(alloc: Global, done: Result<(), FileError>) -> Result<Vec<u8>, FileError> {
+    match done {
+        Ok(()) => Ok(Vec::new(alloc)),
+        Err(error) => Err(error),
     }
 }
 
@@ -106,28 +76,107 @@ fn is_answer(got: &Result<Vec<u8>, FileError>, want: Result<&[u8], FileError>) -
     }
 }
 
+// A call, its name, what it answers, and the count of faults after it.
+type Step = (Call, &'static str, Result<&'static [u8], FileError>, u64);
+
+fn follow<F: Files>(rt: &impl Abort, alloc: Global, files: &mut F, steps: &[Step]) {
+    for (call, name, want, faults) in steps {
+        let got = answer(alloc, files, *call, name);
+        let is_so = is_answer(&got, *want) && files.faults() == *faults;
+        assert!(rt; is_so, "{name}, {faults} faults");
+    }
+}
+
+// Any files that had none of these names.
+const KEPT: [Step; 17] = [
+    (Call::Write(b"one"), "dl_files_a", Ok(b""), 0),
+    (Call::Write(b"longer"), "dl_files_b", Ok(b""), 0),
+    (Call::Read, "dl_files_b", Ok(b"longer"), 0),
+    (Call::CopyTo("dl_files_b"), "dl_files_a", Ok(b""), 0),
+    (Call::Read, "dl_files_b", Ok(b"one"), 0),
+    (Call::Append(b"two"), "dl_files_a", Ok(b""), 0),
+    (Call::Read, "dl_files_a", Ok(b"onetwo"), 0),
+    (Call::ReadAt(1), "dl_files_a", Ok(b"netw"), 0),
+    (Call::ReadAt(4), "dl_files_a", Ok(b"wo"), 0),
+    (Call::ReadAt(6), "dl_files_a", Ok(b""), 0),
+    (Call::ReadAt(u64::MAX), "dl_files_a", Ok(b""), 0),
+    (Call::Create, "dl_files_a", Ok(b""), 0),
+    (Call::Read, "dl_files_a", Ok(b""), 0),
+    (Call::Append(b"new"), "dl_files_c", Ok(b""), 0),
+    (Call::Read, "dl_files_c", Ok(b"new"), 0),
+    (Call::Create, "dl_files_d", Ok(b""), 0),
+    (Call::Read, "dl_files_b", Ok(b"one"), 0),
+];
+
+fn keep_what_is_written<F: Files>(rt: &impl Abort, alloc: Global, files: &mut F) {
+    follow(rt, alloc, files, &KEPT);
+}
+
+#[test]
+fn files_keep_what_is_written(rt: HostRuntime) -> Result<(), Fail> {
+    let alloc = rt.alloc();
+    let mut good = GoodFiles::new(alloc);
+    keep_what_is_written(&rt, alloc, &mut good);
+    assert!(rt; copy_good(alloc, &mut good, "dl_files_c", "a") == Ok(()));
+    assert!(rt; copy_good(alloc, &mut good, "z", "a") == Err(FileError::Absent));
+    let mut mem = MemFiles::new(alloc, GoodFiles::new(alloc), &[])?;
+    keep_what_is_written(&rt, alloc, &mut mem);
+    Ok(())
+}
+
+// Real files without these names, once nothing was refused.
+const REFUSED: [Step; 7] = [
+    (Call::Read, "dl_files_a", Err(FileError::Absent), 1),
+    (Call::Read, ".", Err(FileError::Failed), 2),
+    (Call::ReadAt(0), "dl_files_a", Err(FileError::Absent), 3),
+    (Call::ReadAt(0), ".", Err(FileError::Failed), 4),
+    (Call::Write(b""), "dl_files_a/b", Err(FileError::Failed), 5),
+    (Call::Create, "dl_files_a/b", Err(FileError::Failed), 6),
+    (Call::Append(b""), "dl_files_a/b", Err(FileError::Failed), 7),
+];
+
+#[test]
+fn real_files_are_read_written_and_counted(rt: HostRuntime) -> Result<(), Fail> {
+    let alloc = rt.alloc();
+    let mut real = RealFiles::new(rt.clone()?);
+    keep_what_is_written(&rt, alloc, &mut real);
+    let long = vec![in alloc; 7; 200_000]?;
+    assert!(rt; real.write("dl_files_a", long.as_slice()) == Ok(()));
+    assert!(rt; is_answer(&real.read(alloc, "dl_files_a"), Ok(long.as_slice())));
+    for name in ["dl_files_a", "dl_files_b", "dl_files_c", "dl_files_d"] {
+        fs::remove_file(&rt, name)?;
+    }
+    follow(&rt, alloc, &mut real, &REFUSED);
+    Ok(())
+}
+
+// Files of which "a" alone is there, and whose listed calls fail.
+const LISTED: [Step; 16] = [
+    (Call::Write(b"xy"), "b", Ok(b""), 0),
+    (Call::Read, "z", Err(FileError::Absent), 0),
+    (Call::Read, "a", Err(FileError::Failed), 1),
+    (Call::Read, "a", Ok(b"1"), 1),
+    (Call::Write(b"q"), "b", Err(FileError::Failed), 2),
+    (Call::Read, "a", Ok(b"1"), 2),
+    (Call::Write(b"q"), "b", Ok(b""), 2),
+    (Call::Read, "b", Ok(b"q"), 2),
+    (Call::ReadAt(0), "z", Err(FileError::Absent), 2),
+    (Call::ReadAt(0), "a", Err(FileError::Failed), 3),
+    (Call::ReadAt(0), "a", Ok(b"1"), 3),
+    (Call::Create, "b", Err(FileError::Failed), 4),
+    (Call::Create, "b", Ok(b""), 4),
+    (Call::Append(b"q"), "b", Err(FileError::Failed), 5),
+    (Call::Append(b"q"), "z", Ok(b""), 5),
+    (Call::Read, "z", Ok(b"q"), 5),
+];
+
 #[test]
 fn listed_calls_of_files_fail(rt: HostRuntime) -> Result<(), Fail> {
     let alloc = rt.alloc();
     let mut good = GoodFiles::new(alloc);
-    assert_eq!(rt; good.write("a", b"1"), Ok(()));
-    let mut files = MemFiles::new(alloc, good, &[1, 3])?;
-    // The call, its name, what it answers, and the count of faults after it.
-    let steps: [(Call, &str, Result<&[u8], FileError>, u64); 8] = [
-        (Call::Write(b"xy"), "b", Ok(b""), 0),
-        (Call::Read, "z", Err(FileError::Absent), 0),
-        (Call::Read, "a", Err(FileError::Failed), 1),
-        (Call::Read, "a", Ok(b"1"), 1),
-        (Call::Write(b"q"), "b", Err(FileError::Failed), 2),
-        (Call::Read, "a", Ok(b"1"), 2),
-        (Call::Write(b"q"), "b", Ok(b""), 2),
-        (Call::Read, "b", Ok(b"q"), 2),
-    ];
-    for (call, name, want, faults) in steps {
-        let got = answer(alloc, &mut files, call, name);
-        assert!(rt; is_answer(&got, want), "{name}, {faults} faults");
-        assert_eq!(rt; files.faults(), faults, "{name}");
-    }
+    good.write("a", b"1")?;
+    let mut files = MemFiles::new(alloc, good, &[1, 3, 7, 9, 11])?;
+    follow(&rt, alloc, &mut files, &LISTED);
     Ok(())
 }
 
