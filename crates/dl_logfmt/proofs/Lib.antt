@@ -1,10 +1,9 @@
-mod Behind
-mod ByteNumbers
-mod Codes
-mod EntryLaws
-mod Exits
-mod LogLaws
-mod Nibbles
-mod OrderLaws
+mod DraftLaws
+mod FeedLaws
+mod FieldLaws
+pub mod Lasting
+mod ListLaws
 mod SectionLaws
-mod SizeLaws
+mod StartLaws
+mod StreamLaws
+mod Written

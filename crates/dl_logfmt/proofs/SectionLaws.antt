@@ -1,115 +1,234 @@
--- Sections, as they are read and written.
-use Rattle.std.proofs.Common.{◌≡◌, ℕ, zero, suc, ◌<◌, ◌^◌, Bool, true, List, [], ◌∷◌, ◌++◌, length, drop, get_or, Option, Some, None, Result, refl, ap, subst, append-nil, add-one, arith}
-use Rattle.std.specs.List.{flat_map, AllByRecursion, AllAdjacentBelow}
-use Rattle.std.proofs.lemmas.List.{nil_from_length}
-use Rattle.std.proofs.lemmas.List.Elements.{All-from_recursion, recursion_from_All}
-use Rattle.std.specs.Bool.{Decides}
-use Rattle.spec_log.specs.Log.{IsSection}
-use Rattle.spec_log.specs.Bytes.{little, section}
-use Rattle.spec_log.specs.Reading.{Fault, Read, Reader, read, gives, any, passes, comes_after, entries, section_of}
-use Rattle.dl_logfmt.proofs.Codes.{Codes, Codes-as, Codes-read, Codes-then, Codes-gives, Codes-number, continued, tested, found_as}
+-- The sections of a draft, as they are read on.
+use Rattle.std.proofs.Common.{◌≡◌, ℕ, ◌+◌, ◌≤◌, true, nat_lt, List, Result, Ok, Err, refl, ap, sym, ◌∙◌, arith}
+use Rattle.dl_entry.specs.declared.actor.Actor.{Actor}
+use Rattle.dl_entry.specs.declared.input.Input.{Input}
+use Rattle.spec_log.specs.declared.log.LogParts.{LogParts}
+use Rattle.spec_log.specs.declared.mode_name.ModeName.{ModeName}
+use Rattle.spec_log.specs.declared.mode_name.ModeName.TheVariants.{OrderSize, OrderOnly, Picolog}
+use Rattle.spec_log.specs.declared.records.DmaRecord.{DmaRecord}
+use Rattle.spec_log.specs.declared.records.Interrupt.{Interrupt}
+use Rattle.spec_log.specs.declared.sizes.ShortSize.{ShortSize}
+use Rattle.spec_log.specs.Reading.{Fault, Read, Reader, continues, read, gives, field, at_most, is_earlier, short_size, interrupt, input, dma}
+use Rattle.dl_logbytes.specs.declared.error.LogError.{LogError}
+use Rattle.dl_logbytes.specs.declared.error.LogError.TheVariants.{Malformed, OutOfMemory}
+use Rattle.dl_logfmt.specs.declared.stage.Stage.{Stage}
+use Rattle.dl_logfmt.specs.declared.stage.Stage.TheVariants.{Order, SizeCount, Sizes as SizesOf, InterruptCount, Interrupts, InputCount, Inputs, DmaCount, Dmas, Nothing}
+use Rattle.dl_logfmt.specs.declared.draft.Draft.{Draft}
+use Rattle.dl_logfmt.specs.Drafts.{Came, CameIn, IsFew, ReadsIn, ReadsSection, reach}
+use Rattle.dl_logfmt.specs.Remaining.{more, more_actors, more_sizes, log_of, remaining, remaining_at, rank, from_size_count, from_interrupt_count, from_input_count, from_dma_count}
+use Rattle.dl_logfmt.specs.Streams.{Leads}
+use Rattle.dl_logfmt.proofs.StreamLaws.{Leads-read, Stops-read}
 
--- each entry comes after the one before it
-abbrev pub Rises : {X : Type 0} → (X → X → Bool) → Option X → List X → Type 0
-Rises earlier before [] = Unit {0}
-Rises earlier before (x ∷ xs) = (comes_after earlier before x ≡ true) × Rises earlier (Some x) xs
+-- two readers answer the same
+abbrev Same : {X : Type 0} → Reader X → Reader X → Type 0
+Same first second = (bytes : List ℕ) (at : ℕ) → first bytes at ≡ second bytes at
 
-abbrev pub AreEntries : {X : Type 0} → (X → X → Bool) → (X → Type 0) → Option X → ℕ → List X → Type 0
-AreEntries earlier good before n xs = (length xs ≡ n) × AllByRecursion good xs × Rises earlier before xs
-
--- an entry that comes after the one before it
-abbrev judged : {X : Type 0} → (X → X → Bool) → Reader X → Option X → Reader X
-judged earlier entry before bytes start = read entry (λ x. passes (comes_after earlier before x) 6 start x) bytes start
-
-Codes-judged : {X : Type 0} (earlier : X → X → Bool) (entry : Reader X) (bytes_of : X → List ℕ) (good : X → Type 0) (last : Option X)
-    → Codes entry bytes_of good → Codes (judged earlier entry last) bytes_of (λ x. good x × (comes_after earlier last x ≡ true))
-Codes-judged {X} earlier entry bytes_of good last codes =
+-- a section that was read to its end
+section-came : {X : Type 0} (bytes : List ℕ) (d e : Draft) (at after : ℕ) (xs ys : List X) (all : List X → Reader (List X)) (next : List X → Reader LogParts)
+    → Same (remaining d) (read (all xs) next) → Same (next ys) (remaining e)
+    → CameIn bytes xs at ys after × Leads bytes (all xs) at (gives ys) after → IsFew e → after + reach d ≤ at + reach e → Came bytes d at e after
+section-came bytes d e at after xs ys all next from to (came, leads) few cost =
     record {
-      reads = λ x g before rest. rw (codes.reads x g.0 before rest, g.1) refl;
-      finds = λ before bytes x after are e.
-          let all = before ++ bytes in
-          let next : X → ℕ → Result (Read X) Fault = λ (y : X) (at : ℕ). passes (comes_after earlier last y) 6 (length before) y all at in
-          let s = continued (entry all (length before)) next (record { value = x; after = after }) e in
-          let f = codes.finds before bytes s.0.value s.0.after are s.1 in
-          let t = tested (comes_after earlier last s.0.value) s.0 (record { value = x; after = after }) (record { number = 6; offset = length before }) s.2 in
-          found_as bytes_of good before bytes s.0.value s.0.after (λ x. good x × (comes_after earlier last x ≡ true)) x after f (λ g. (g, t.0)) (ap (λ (z : Read X). z.value) t.1) (ap (λ (z : Read X). z.after) t.1);
+      leads = λ before behind. from _ _ ∙ (Leads-read bytes (all xs) (gives ys) at after next leads before behind ∙ to _ _);
+      within = came.within;
+      few = few;
+      cost = cost;
     }
 
--- a first entry, and the others
-Codes-others : {X : Type 0} (n : ℕ) (earlier : X → X → Bool) (entry : Reader X) (bytes_of : X → List ℕ) (good : X → Type 0) (x : X)
-    → Codes (entries earlier entry (Some x) n) (flat_map bytes_of) (AreEntries earlier good (Some x) n)
-    → Codes (read (entries earlier entry (Some x) n) (λ xs. gives (x ∷ xs))) (λ y. flat_map bytes_of (drop 1 y))
-    (λ y. (xs : List X) × (y ≡ x ∷ xs) × AreEntries earlier good (Some x) n xs)
-Codes-others {X} n earlier entry bytes_of good x codes =
-    Codes-then (entries earlier entry (Some x) n) (λ xs. gives (x ∷ xs)) (flat_map bytes_of) (AreEntries earlier good (Some x) n)
-    (λ xs y. []) (λ xs y. y ≡ x ∷ xs) _ _ codes
-    (λ xs g. Codes-gives (x ∷ xs) (λ y. y ≡ x ∷ xs) refl (λ y e. e))
-    (λ y g. (g.0, g.2, g.1, rw (g.1, append-nil (flat_map bytes_of g.0)) refl))
-    (λ xs y g e. ((xs, e, g), rw (e, append-nil (flat_map bytes_of xs)) refl))
-
-pub Codes-entries : {X : Type 0} (n : ℕ) (earlier : X → X → Bool) (entry : Reader X) (bytes_of : X → List ℕ) (good : X → Type 0) (before : Option X)
-    → Codes entry bytes_of good → Codes (entries earlier entry before n) (flat_map bytes_of) (AreEntries earlier good before n)
-Codes-entries {X} zero earlier entry bytes_of good before codes =
-    Codes-as (gives []) (λ xs. []) (flat_map bytes_of) (λ xs. xs ≡ []) _
-    (Codes-gives [] (λ xs. xs ≡ []) refl (λ y e. e))
-    (λ xs e. rw e refl) (λ xs e. rw e (refl, tt, tt)) (λ xs g. nil_from_length xs g.0)
-Codes-entries {X} (suc n) earlier entry bytes_of good before codes =
-    Codes-then (judged earlier entry before) (λ x. read (entries earlier entry (Some x) n) (λ xs. gives (x ∷ xs)))
-    bytes_of (λ x. good x × (comes_after earlier before x ≡ true))
-    (λ x y. flat_map bytes_of (drop 1 y)) (λ x y. (xs : List X) × (y ≡ x ∷ xs) × AreEntries earlier good (Some x) n xs)
-    (flat_map bytes_of) (AreEntries earlier good before (suc n))
-    (Codes-judged earlier entry bytes_of good before codes)
-    (λ x g. Codes-others n earlier entry bytes_of good x (Codes-entries n earlier entry bytes_of good (Some x) codes))
-    (entries_split n) entries_join where
-      entries_split : (n : ℕ) (y : List X) → AreEntries earlier good before (suc n) y
-          → (x : X) × (good x × (comes_after earlier before x ≡ true)) × ((xs : List X) × (y ≡ x ∷ xs) × AreEntries earlier good (Some x) n xs) × (flat_map bytes_of y ≡ bytes_of x ++ flat_map bytes_of (drop 1 y))
-      entries_split n [] g = absurd (omega (arith, g.0))
-      entries_split n (x ∷ xs) g = (x, (g.1.0, g.2.0), (xs, refl, (omega (arith, g.0), g.1.1, g.2.1)), refl)
-
-      entries_join : (x : X) (y : List X) → good x × (comes_after earlier before x ≡ true)
-          → (xs : List X) × (y ≡ x ∷ xs) × AreEntries earlier good (Some x) n xs
-          → AreEntries earlier good before (suc n) y × (flat_map bytes_of y ≡ bytes_of x ++ flat_map bytes_of (drop 1 y))
-      entries_join x y g r = rw r.1 ((ap suc r.2.0, (g.0, r.2.1), (g.1, r.2.2)), refl)
-
--- each entry of a section comes before the next
-Rises-adjacent : {X : Type 0} (earlier : X → X → Bool) (before : X → X → Type 0) → ((x y : X) → Decides (earlier x y) (before x y))
-    → (xs : List X) (last : Option X) → Rises earlier last xs → (k : ℕ) (d : X) → suc k < length xs → before (get_or xs k d) (get_or xs (suc k) d)
-Rises-adjacent earlier before decides [] last r k d h = absurd (omega arith)
-Rises-adjacent earlier before decides (x ∷ []) last r k d h = absurd (omega arith)
-Rises-adjacent earlier before decides (x ∷ y ∷ ys) last r zero d h = (decides x y).0 r.1.0
-Rises-adjacent earlier before decides (x ∷ y ∷ ys) last r (suc k) d h =
-    Rises-adjacent earlier before decides (y ∷ ys) (Some x) r.1 k d (omega arith)
-
-Rises-behind : {X : Type 0} (earlier : X → X → Bool) (before : X → X → Type 0) → ((x y : X) → Decides (earlier x y) (before x y))
-    → (xs : List X) (x : X) → ((k : ℕ) (d : X) → suc k < length (x ∷ xs) → before (get_or (x ∷ xs) k d) (get_or (x ∷ xs) (suc k) d)) → Rises earlier (Some x) xs
-Rises-behind earlier before decides [] x h = tt
-Rises-behind earlier before decides (y ∷ ys) x h =
-    ((decides x y).1 (h 0 x (omega arith)), Rises-behind earlier before decides ys y (λ k d l. h (suc k) d (omega arith)))
-
-Rises-first : {X : Type 0} (earlier : X → X → Bool) (before : X → X → Type 0) → ((x y : X) → Decides (earlier x y) (before x y))
-    → (xs : List X) → AllAdjacentBelow before xs (length xs) → Rises earlier None xs
-Rises-first earlier before decides [] h = tt
-Rises-first earlier before decides (x ∷ xs) h = (
-  refl,
-  Rises-behind earlier before decides xs x (λ k d l.
-      subst (λ (n : ℕ). before (get_or (x ∷ xs) k d) (get_or (x ∷ xs) n d)) (add-one k) (h k d (omega arith))),
+-- a section that was read in part
+section-stops : {X : Type 0} (bytes : List ℕ) (d e : Draft) (at after : ℕ) (xs ys : List X) (all : List X → Reader (List X)) (next : List X → Reader LogParts) (error : LogError)
+    → Same (remaining d) (read (all xs) next) → Same (remaining e) (read (all ys) next)
+    → ReadsIn all bytes xs at (Err error) ys after → (CameIn bytes xs at ys after → IsFew e × (after + reach d ≤ at + reach e))
+    → ReadsSection bytes d at (Err error) e after
+section-stops bytes d e at after xs ys all next (Malformed number offset) from to (came, leads, stops) known = (
+  record {
+    leads = λ before behind. from _ _ ∙ (Leads-read bytes (all xs) (all ys) at after next leads before behind ∙ sym (to _ _));
+    within = came.within;
+    few = (known came).0;
+    cost = (known came).1;
+  },
+  λ before behind.
+      let s = Stops-read bytes (all ys) after next (record { number = number; offset = offset }) stops before behind in
+      record { within = s.within; short = s.short; same = λ k. to _ _ ∙ s.same k },
 )
+section-stops bytes d e at after xs ys all next OutOfMemory from to h known = tt
 
--- a count, and so many entries
-pub Codes-section : {X : Type 0} (earlier : X → X → Bool) (before : X → X → Type 0) (entry : Reader X) (bytes_of : X → List ℕ) (good : X → Type 0)
-    → ((x y : X) → Decides (earlier x y) (before x y)) → Codes entry bytes_of good
-    → Codes (section_of earlier entry) (section bytes_of) (IsSection good before)
-Codes-section {X} earlier before entry bytes_of good decides codes =
-    Codes-as (section_of earlier entry) _ (section bytes_of) _ (IsSection good before)
-    (Codes-read (any 4) (λ count. entries earlier entry None count) length (little 4) (λ x. (x < 256 ^ 4) × (true ≡ true))
-    (flat_map bytes_of) (λ xs. AllByRecursion good xs × Rises earlier None xs)
-    (Codes-number 4 5 (λ x. true))
-    (λ n g. Codes-as (entries earlier entry None n) (flat_map bytes_of) (flat_map bytes_of) (AreEntries earlier good None n) _
-    (Codes-entries n earlier entry bytes_of good None codes) (λ xs h. refl) (λ xs h. (h.0, (h.1, h.2))) (λ xs h. (h.0, h.1.0, h.1.1))))
-    (λ xs h. refl)
-    (λ xs h. record {
-      few = h.0.0;
-      each = All-from_recursion good xs h.1.0;
-      rising = λ k d l. rw add-one (Rises-adjacent earlier before decides xs None h.1.1 k d (omega arith));
-    })
-    (λ xs h. ((h.few, refl), (recursion_from_All good xs h.each, Rises-first earlier before decides xs h.rising)))
+order-from : (d : Draft) (count : ℕ) → d.head.stage ≡ Order count → Same (remaining d) (read (more_actors count d.order) (λ xs. from_size_count (record d { order = xs })))
+order-from d count is bytes at = ap (λ (s : Stage). remaining_at s d bytes at) is
+
+order-few : (bytes : List ℕ) (d : Draft) (at after : ℕ) (xs : List Actor) → IsFew d → CameIn bytes d.order at xs after → IsFew (record d { order = xs })
+order-few bytes d at after xs few came = record { order = came.few; each = few.each; short = few.short; interrupts = few.interrupts; inputs = few.inputs; dmas = few.dmas }
+
+pub order-read : (bytes : List ℕ) (d : Draft) (at after count : ℕ) (xs : List Actor) → d.head.stage ≡ Order count → IsFew d
+    → CameIn bytes d.order at xs after × Leads bytes (more_actors count d.order) at (gives xs) after
+    → ReadsSection bytes d at (Ok tt) (record d { head = record d.head { stage = SizeCount }; order = xs }) after
+order-read bytes d at after count xs is few (came, leads) =
+    let ranked : rank d.head.stage ≡ 4 = ap rank is in
+    let rest = order-few bytes d at after xs few came in (
+      section-came bytes d (record d { head = record d.head { stage = SizeCount }; order = xs }) at after d.order xs (more_actors count) (λ xs. from_size_count (record d { order = xs }))
+          (order-from d count is) (λ bytes at. refl) (came, leads)
+          (record { order = rest.order; each = rest.each; short = rest.short; interrupts = rest.interrupts; inputs = rest.inputs; dmas = rest.dmas })
+          (omega (arith, came.cost)),
+      omega arith,
+      λ k. omega arith,
+    )
+
+pub order-unread : (bytes : List ℕ) (d : Draft) (at after count : ℕ) (xs : List Actor) (error : LogError) → d.head.stage ≡ Order count → IsFew d
+    → ReadsIn (more_actors count) bytes d.order at (Err error) xs after
+    → ReadsSection bytes d at (Err error) (record d { order = xs }) after
+order-unread bytes d at after count xs error is few h =
+    section-stops bytes d (record d { order = xs }) at after d.order xs (more_actors count) (λ xs. from_size_count (record d { order = xs })) error
+    (order-from d count is) (order-from (record d { order = xs }) count is) h (λ came. (order-few bytes d at after xs few came, omega (arith, came.cost)))
+
+interrupts-from : (d : Draft) (count : ℕ) → d.head.stage ≡ Interrupts count → Same (remaining d) (read (more (λ x y. is_earlier x.thread x.index y.thread y.index) interrupt count d.interrupts) (λ xs. from_input_count (record d { interrupts = xs })))
+interrupts-from d count is bytes at = ap (λ (s : Stage). remaining_at s d bytes at) is
+
+interrupts-few : (bytes : List ℕ) (d : Draft) (at after : ℕ) (xs : List Interrupt) → IsFew d → CameIn bytes d.interrupts at xs after → IsFew (record d { interrupts = xs })
+interrupts-few bytes d at after xs few came = record { order = few.order; each = few.each; short = few.short; interrupts = came.few; inputs = few.inputs; dmas = few.dmas }
+
+pub interrupts-read : (bytes : List ℕ) (d : Draft) (at after count : ℕ) (xs : List Interrupt) → d.head.stage ≡ Interrupts count → IsFew d
+    → CameIn bytes d.interrupts at xs after × Leads bytes (more (λ x y. is_earlier x.thread x.index y.thread y.index) interrupt count d.interrupts) at (gives xs) after
+    → ReadsSection bytes d at (Ok tt) (record d { head = record d.head { stage = InputCount }; interrupts = xs }) after
+interrupts-read bytes d at after count xs is few (came, leads) =
+    let ranked : rank d.head.stage ≡ 8 = ap rank is in
+    let rest = interrupts-few bytes d at after xs few came in (
+      section-came bytes d (record d { head = record d.head { stage = InputCount }; interrupts = xs }) at after d.interrupts xs (more (λ x y. is_earlier x.thread x.index y.thread y.index) interrupt count) (λ xs. from_input_count (record d { interrupts = xs }))
+          (interrupts-from d count is) (λ bytes at. refl) (came, leads)
+          (record { order = rest.order; each = rest.each; short = rest.short; interrupts = rest.interrupts; inputs = rest.inputs; dmas = rest.dmas })
+          (omega (arith, came.cost)),
+      omega arith,
+      λ k. omega arith,
+    )
+
+pub interrupts-unread : (bytes : List ℕ) (d : Draft) (at after count : ℕ) (xs : List Interrupt) (error : LogError) → d.head.stage ≡ Interrupts count → IsFew d
+    → ReadsIn (more (λ x y. is_earlier x.thread x.index y.thread y.index) interrupt count) bytes d.interrupts at (Err error) xs after
+    → ReadsSection bytes d at (Err error) (record d { interrupts = xs }) after
+interrupts-unread bytes d at after count xs error is few h =
+    section-stops bytes d (record d { interrupts = xs }) at after d.interrupts xs (more (λ x y. is_earlier x.thread x.index y.thread y.index) interrupt count) (λ xs. from_input_count (record d { interrupts = xs })) error
+    (interrupts-from d count is) (interrupts-from (record d { interrupts = xs }) count is) h (λ came. (interrupts-few bytes d at after xs few came, omega (arith, came.cost)))
+
+inputs-from : (d : Draft) (count : ℕ) → d.head.stage ≡ Inputs count → Same (remaining d) (read (more (λ x y. true) input count d.inputs) (λ xs. from_dma_count (record d { inputs = xs })))
+inputs-from d count is bytes at = ap (λ (s : Stage). remaining_at s d bytes at) is
+
+inputs-few : (bytes : List ℕ) (d : Draft) (at after : ℕ) (xs : List Input) → IsFew d → CameIn bytes d.inputs at xs after → IsFew (record d { inputs = xs })
+inputs-few bytes d at after xs few came = record { order = few.order; each = few.each; short = few.short; interrupts = few.interrupts; inputs = came.few; dmas = few.dmas }
+
+pub inputs-read : (bytes : List ℕ) (d : Draft) (at after count : ℕ) (xs : List Input) → d.head.stage ≡ Inputs count → IsFew d
+    → CameIn bytes d.inputs at xs after × Leads bytes (more (λ x y. true) input count d.inputs) at (gives xs) after
+    → ReadsSection bytes d at (Ok tt) (record d { head = record d.head { stage = DmaCount }; inputs = xs }) after
+inputs-read bytes d at after count xs is few (came, leads) =
+    let ranked : rank d.head.stage ≡ 10 = ap rank is in
+    let rest = inputs-few bytes d at after xs few came in (
+      section-came bytes d (record d { head = record d.head { stage = DmaCount }; inputs = xs }) at after d.inputs xs (more (λ x y. true) input count) (λ xs. from_dma_count (record d { inputs = xs }))
+          (inputs-from d count is) (λ bytes at. refl) (came, leads)
+          (record { order = rest.order; each = rest.each; short = rest.short; interrupts = rest.interrupts; inputs = rest.inputs; dmas = rest.dmas })
+          (omega (arith, came.cost)),
+      omega arith,
+      λ k. omega arith,
+    )
+
+pub inputs-unread : (bytes : List ℕ) (d : Draft) (at after count : ℕ) (xs : List Input) (error : LogError) → d.head.stage ≡ Inputs count → IsFew d
+    → ReadsIn (more (λ x y. true) input count) bytes d.inputs at (Err error) xs after
+    → ReadsSection bytes d at (Err error) (record d { inputs = xs }) after
+inputs-unread bytes d at after count xs error is few h =
+    section-stops bytes d (record d { inputs = xs }) at after d.inputs xs (more (λ x y. true) input count) (λ xs. from_dma_count (record d { inputs = xs })) error
+    (inputs-from d count is) (inputs-from (record d { inputs = xs }) count is) h (λ came. (inputs-few bytes d at after xs few came, omega (arith, came.cost)))
+
+dmas-from : (d : Draft) (count : ℕ) → d.head.stage ≡ Dmas count → Same (remaining d) (read (more (λ x y. nat_lt x.slot y.slot) dma count d.dmas) (λ xs. gives (log_of (record d { dmas = xs }))))
+dmas-from d count is bytes at = ap (λ (s : Stage). remaining_at s d bytes at) is
+
+dmas-few : (bytes : List ℕ) (d : Draft) (at after : ℕ) (xs : List DmaRecord) → IsFew d → CameIn bytes d.dmas at xs after → IsFew (record d { dmas = xs })
+dmas-few bytes d at after xs few came = record { order = few.order; each = few.each; short = few.short; interrupts = few.interrupts; inputs = few.inputs; dmas = came.few }
+
+pub dmas-read : (bytes : List ℕ) (d : Draft) (at after count : ℕ) (xs : List DmaRecord) → d.head.stage ≡ Dmas count → IsFew d
+    → CameIn bytes d.dmas at xs after × Leads bytes (more (λ x y. nat_lt x.slot y.slot) dma count d.dmas) at (gives xs) after
+    → ReadsSection bytes d at (Ok tt) (record d { head = record d.head { stage = Nothing }; dmas = xs }) after
+dmas-read bytes d at after count xs is few (came, leads) =
+    let ranked : rank d.head.stage ≡ 12 = ap rank is in
+    let rest = dmas-few bytes d at after xs few came in (
+      section-came bytes d (record d { head = record d.head { stage = Nothing }; dmas = xs }) at after d.dmas xs (more (λ x y. nat_lt x.slot y.slot) dma count) (λ xs. gives (log_of (record d { dmas = xs })))
+          (dmas-from d count is) (λ bytes at. refl) (came, leads)
+          (record { order = rest.order; each = rest.each; short = rest.short; interrupts = rest.interrupts; inputs = rest.inputs; dmas = rest.dmas })
+          (omega (arith, came.cost)),
+      omega arith,
+      λ k. omega arith,
+    )
+
+pub dmas-unread : (bytes : List ℕ) (d : Draft) (at after count : ℕ) (xs : List DmaRecord) (error : LogError) → d.head.stage ≡ Dmas count → IsFew d
+    → ReadsIn (more (λ x y. nat_lt x.slot y.slot) dma count) bytes d.dmas at (Err error) xs after
+    → ReadsSection bytes d at (Err error) (record d { dmas = xs }) after
+dmas-unread bytes d at after count xs error is few h =
+    section-stops bytes d (record d { dmas = xs }) at after d.dmas xs (more (λ x y. nat_lt x.slot y.slot) dma count) (λ xs. gives (log_of (record d { dmas = xs }))) error
+    (dmas-from d count is) (dmas-from (record d { dmas = xs }) count is) h (λ came. (dmas-few bytes d at after xs few came, omega (arith, came.cost)))
+
+-- the lists of sizes, of which one stays
+made-next : {X Y : Type 0} (r : Result (Read X) Fault) (make : X → Y) (bytes : List ℕ) (next : Y → ℕ → Result (Read LogParts) Fault)
+    → continues (continues r (λ x. gives (make x) bytes)) next ≡ continues r (λ x. next (make x))
+made-next (Ok r) make bytes next = refl
+made-next (Err fault) make bytes next = refl
+
+each-from : (d : Draft) (count : ℕ) → d.head.stage ≡ SizesOf count → d.head.mode ≡ OrderSize → Same (remaining d) (read (more (λ x y. true) (field 2 (at_most d.head.s)) count d.each) (λ xs. from_interrupt_count (record d { each = xs })))
+each-from d count is mode bytes at =
+    ap (λ (s : Stage). remaining_at s d bytes at) is
+    ∙ (ap (λ (m : ModeName). continues (more_sizes m d.head.s count d.each d.short bytes at) (λ sizes. from_interrupt_count (record d { each = sizes.0; short = sizes.1 }) bytes)) mode
+    ∙ made-next (more (λ x y. true) (field 2 (at_most d.head.s)) count d.each bytes at) (λ each. (each, d.short)) bytes (λ sizes. from_interrupt_count (record d { each = sizes.0; short = sizes.1 }) bytes))
+
+each-few : (bytes : List ℕ) (d : Draft) (at after : ℕ) (xs : List ℕ) → IsFew d → CameIn bytes d.each at xs after → IsFew (record d { each = xs })
+each-few bytes d at after xs few came = record { order = few.order; each = came.few; short = few.short; interrupts = few.interrupts; inputs = few.inputs; dmas = few.dmas }
+
+pub each-read : (bytes : List ℕ) (d : Draft) (at after count : ℕ) (xs : List ℕ) → d.head.stage ≡ SizesOf count → d.head.mode ≡ OrderSize → IsFew d
+    → CameIn bytes d.each at xs after × Leads bytes (more (λ x y. true) (field 2 (at_most d.head.s)) count d.each) at (gives xs) after
+    → ReadsSection bytes d at (Ok tt) (record d { head = record d.head { stage = InterruptCount }; each = xs }) after
+each-read bytes d at after count xs is mode few (came, leads) =
+    let ranked : rank d.head.stage ≡ 6 = ap rank is in
+    let rest = each-few bytes d at after xs few came in (
+      section-came bytes d (record d { head = record d.head { stage = InterruptCount }; each = xs }) at after d.each xs (more (λ x y. true) (field 2 (at_most d.head.s)) count) (λ xs. from_interrupt_count (record d { each = xs }))
+          (each-from d count is mode) (λ bytes at. refl) (came, leads)
+          (record { order = rest.order; each = rest.each; short = rest.short; interrupts = rest.interrupts; inputs = rest.inputs; dmas = rest.dmas })
+          (omega (arith, came.cost)),
+      omega arith,
+      λ k. omega arith,
+    )
+
+pub each-unread : (bytes : List ℕ) (d : Draft) (at after count : ℕ) (xs : List ℕ) (error : LogError) → d.head.stage ≡ SizesOf count → d.head.mode ≡ OrderSize → IsFew d
+    → ReadsIn (more (λ x y. true) (field 2 (at_most d.head.s)) count) bytes d.each at (Err error) xs after
+    → ReadsSection bytes d at (Err error) (record d { each = xs }) after
+each-unread bytes d at after count xs error is mode few h =
+    section-stops bytes d (record d { each = xs }) at after d.each xs (more (λ x y. true) (field 2 (at_most d.head.s)) count) (λ xs. from_interrupt_count (record d { each = xs })) error
+    (each-from d count is mode) (each-from (record d { each = xs }) count is mode) h (λ came. (each-few bytes d at after xs few came, omega (arith, came.cost)))
+
+short-sizes : (m : ModeName) (s count : ℕ) (each : List ℕ) (short : List ShortSize) (bytes : List ℕ) (at : ℕ) → (m ≡ OrderSize → ⊥)
+    → more_sizes m s count each short bytes at ≡ more_sizes OrderOnly s count each short bytes at
+short-sizes OrderSize s count each short bytes at other = absurd (other refl)
+short-sizes OrderOnly s count each short bytes at other = refl
+short-sizes Picolog s count each short bytes at other = refl
+
+short-from : (d : Draft) (count : ℕ) → d.head.stage ≡ SizesOf count → (d.head.mode ≡ OrderSize → ⊥) → Same (remaining d) (read (more (λ x y. is_earlier x.thread x.index y.thread y.index) (short_size d.head.s) count d.short) (λ xs. from_interrupt_count (record d { short = xs })))
+short-from d count is mode bytes at =
+    ap (λ (s : Stage). remaining_at s d bytes at) is
+    ∙ (ap (λ (r : Result (Read (List ℕ × List ShortSize)) Fault). continues r (λ sizes. from_interrupt_count (record d { each = sizes.0; short = sizes.1 }) bytes)) (short-sizes d.head.mode d.head.s count d.each d.short bytes at mode)
+    ∙ made-next (more (λ x y. is_earlier x.thread x.index y.thread y.index) (short_size d.head.s) count d.short bytes at) (λ short. (d.each, short)) bytes (λ sizes. from_interrupt_count (record d { each = sizes.0; short = sizes.1 }) bytes))
+
+short-few : (bytes : List ℕ) (d : Draft) (at after : ℕ) (xs : List ShortSize) → IsFew d → CameIn bytes d.short at xs after → IsFew (record d { short = xs })
+short-few bytes d at after xs few came = record { order = few.order; each = few.each; short = came.few; interrupts = few.interrupts; inputs = few.inputs; dmas = few.dmas }
+
+pub short-read : (bytes : List ℕ) (d : Draft) (at after count : ℕ) (xs : List ShortSize) → d.head.stage ≡ SizesOf count → (d.head.mode ≡ OrderSize → ⊥) → IsFew d
+    → CameIn bytes d.short at xs after × Leads bytes (more (λ x y. is_earlier x.thread x.index y.thread y.index) (short_size d.head.s) count d.short) at (gives xs) after
+    → ReadsSection bytes d at (Ok tt) (record d { head = record d.head { stage = InterruptCount }; short = xs }) after
+short-read bytes d at after count xs is mode few (came, leads) =
+    let ranked : rank d.head.stage ≡ 6 = ap rank is in
+    let rest = short-few bytes d at after xs few came in (
+      section-came bytes d (record d { head = record d.head { stage = InterruptCount }; short = xs }) at after d.short xs (more (λ x y. is_earlier x.thread x.index y.thread y.index) (short_size d.head.s) count) (λ xs. from_interrupt_count (record d { short = xs }))
+          (short-from d count is mode) (λ bytes at. refl) (came, leads)
+          (record { order = rest.order; each = rest.each; short = rest.short; interrupts = rest.interrupts; inputs = rest.inputs; dmas = rest.dmas })
+          (omega (arith, came.cost)),
+      omega arith,
+      λ k. omega arith,
+    )
+
+pub short-unread : (bytes : List ℕ) (d : Draft) (at after count : ℕ) (xs : List ShortSize) (error : LogError) → d.head.stage ≡ SizesOf count → (d.head.mode ≡ OrderSize → ⊥) → IsFew d
+    → ReadsIn (more (λ x y. is_earlier x.thread x.index y.thread y.index) (short_size d.head.s) count) bytes d.short at (Err error) xs after
+    → ReadsSection bytes d at (Err error) (record d { short = xs }) after
+short-unread bytes d at after count xs error is mode few h =
+    section-stops bytes d (record d { short = xs }) at after d.short xs (more (λ x y. is_earlier x.thread x.index y.thread y.index) (short_size d.head.s) count) (λ xs. from_interrupt_count (record d { short = xs })) error
+    (short-from d count is mode) (short-from (record d { short = xs }) count is mode) h (λ came. (short-few bytes d at after xs few came, omega (arith, came.cost)))

@@ -1,10 +1,11 @@
-//! The entries of a log's sections, as bytes.
-ghost use Rattle.std.specs.Prelude.{◌≡◌, ℕ, ◌^◌, ◌<◌, ◌≤◌, List, ◌++◌, length, All, OnOk};
-ghost use Rattle.spec_log.specs.Bytes.{section, u16 as size_bytes, short_size_bytes, interrupt_bytes, input_bytes, dma_bytes};
+//! The entries of a log's sections, each as a unit.
+ghost use Rattle.std.specs.Prelude.{◌≡◌, ℕ, ◌<◌, ◌≤◌, List, length};
+ghost use Rattle.spec_log.specs.Bytes.{u16 as size_bytes, short_size_bytes, interrupt_bytes, input_bytes, dma_bytes};
 ghost use Rattle.spec_log.specs.Log.{IsShortSize, IsInterrupt, IsInput, IsDmaRecord};
 
-use crate::fields::{put_bytes, put_u8, put_u16, put_u32};
-use dl_entry::{Input, OutOfMemory};
+use crate::fixed::Fixed;
+use crate::unit::Unit;
+use dl_entry::Input;
 use spec_log::{DmaRecord, Interrupt, ShortSize};
 
 /// What stands in a section.
@@ -13,22 +14,10 @@ pub trait Entry {
 
     ghost bytes: { Self → List ℕ };
 
-    fn put(&self, out: &mut Vec<u8>) -> Result<(), OutOfMemory>
+    fn unit(&self) -> Unit<'_>
         requires { good self.now }
-        ensures { OnOk result (out.new.items ≡ out.old.items ++ bytes self.now) };
-}
-
-/// Puts the number of the entries, and then the entries.
-pub fn put_section<E: Entry>(out: &mut Vec<u8>, entries: &[E]) -> Result<(), OutOfMemory>
-    requires few { length entries.now < 2 ^ 32 }
-    requires each { All E.good entries.now }
-    ensures { OnOk result (out.new.items ≡ out.old.items ++ section E.bytes entries.now) }
-{
-    put_u32(out, entries.len() as u32)?;
-    for entry in entries {
-        entry.put(out)?;
-    }
-    Ok(())
+        ensures bytes { result ≡ bytes self.now }
+        ensures some { 0 < length result };
 }
 
 /// The size of a commit, where each commit has one.
@@ -37,8 +26,10 @@ impl Entry for u32 {
 
     ghost bytes = { size_bytes };
 
-    fn put(&self, out: &mut Vec<u8>) -> Result<(), OutOfMemory> {
-        put_u16(out, *self as u16)
+    fn unit(&self) -> Unit<'_> {
+        let mut fixed = Fixed::new();
+        fixed.put_u16(*self as u16);
+        Unit::new(fixed, &[])
     }
 }
 
@@ -47,10 +38,12 @@ impl Entry for ShortSize {
 
     ghost bytes = { short_size_bytes };
 
-    fn put(&self, out: &mut Vec<u8>) -> Result<(), OutOfMemory> {
-        put_u8(out, self.thread)?;
-        put_u32(out, self.index)?;
-        put_u16(out, self.size as u16)
+    fn unit(&self) -> Unit<'_> {
+        let mut fixed = Fixed::new();
+        fixed.put_u8(self.thread);
+        fixed.put_u32(self.index);
+        fixed.put_u16(self.size as u16);
+        Unit::new(fixed, &[])
     }
 }
 
@@ -59,10 +52,12 @@ impl Entry for Interrupt {
 
     ghost bytes = { interrupt_bytes };
 
-    fn put(&self, out: &mut Vec<u8>) -> Result<(), OutOfMemory> {
-        put_u8(out, self.thread)?;
-        put_u32(out, self.index)?;
-        put_u32(out, self.value)
+    fn unit(&self) -> Unit<'_> {
+        let mut fixed = Fixed::new();
+        fixed.put_u8(self.thread);
+        fixed.put_u32(self.index);
+        fixed.put_u32(self.value);
+        Unit::new(fixed, &[])
     }
 }
 
@@ -71,10 +66,12 @@ impl Entry for Input {
 
     ghost bytes = { input_bytes };
 
-    fn put(&self, out: &mut Vec<u8>) -> Result<(), OutOfMemory> {
-        put_u8(out, self.kind)?;
-        put_u32(out, self.result)?;
-        put_bytes(out, self.bytes.as_slice())
+    fn unit(&self) -> Unit<'_> {
+        let mut fixed = Fixed::new();
+        fixed.put_u8(self.kind);
+        fixed.put_u32(self.result);
+        fixed.put_u16(self.bytes.len() as u16);
+        Unit::new(fixed, self.bytes.as_slice())
     }
 }
 
@@ -83,8 +80,10 @@ impl Entry for DmaRecord {
 
     ghost bytes = { dma_bytes };
 
-    fn put(&self, out: &mut Vec<u8>) -> Result<(), OutOfMemory> {
-        put_u32(out, self.slot)?;
-        put_bytes(out, self.bytes.as_slice())
+    fn unit(&self) -> Unit<'_> {
+        let mut fixed = Fixed::new();
+        fixed.put_u32(self.slot);
+        fixed.put_u16(self.bytes.len() as u16);
+        Unit::new(fixed, self.bytes.as_slice())
     }
 }

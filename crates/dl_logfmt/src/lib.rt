@@ -1,22 +1,25 @@
-//! The bytes of logs.
+//! Logs as bytes: whole, or in pieces.
 #![tactic(auto)]
 
+mod draft;
 mod entry;
-mod error;
-mod fields;
-mod law;
-mod numbers;
-mod order;
-mod read;
-mod recorded;
-mod section;
+mod fixed;
+mod head;
+mod list;
+mod mark;
+mod order_left;
+mod reader;
+mod refusal;
+mod section_left;
+mod sections;
+mod stage;
 #[cfg(test)]
-mod tests;
-mod write;
+mod tests_of_writing;
+mod unit;
+mod units;
+mod writer;
 
-pub use dl_entry::OutOfMemory;
-pub use error::LogError;
-pub use law::reading_undoes_writing;
-pub use read::read_log;
+pub use dl_logbytes::{LogError, OutOfMemory, read_log, write_log};
+pub use reader::LogReader;
 pub use spec_log::{DmaRecord, Interrupt, Log, LogParts, ModeName, Order, ShortSize, Sizes};
-pub use write::write_log;
+pub use writer::LogWriter;

@@ -1,0 +1,17 @@
+use Rattle.std.proofs.Common.{arith}
+use Rattle.std.proofs.lemmas.Result.{err_from_is_err_and}
+use Rattle.dl_logfmt.proofs.StreamLaws.{Streams-interrupt, Streams-wider}
+use Rattle.dl_logfmt.proofs.SectionLaws.{interrupts-read, interrupts-unread}
+use Rattle.dl_logfmt.proofs.draft.Draft.read_interrupts.Goals as goal
+
+pub read_more-requires-clause-streams : goal.read_more-requires-clause-streams
+read_more-requires-clause-streams c = Streams-wider 9 4103 _ (omega arith) Streams-interrupt
+
+pub returns-in_err-read_more-clause-reads : goal.returns-in_err-read_more-clause-reads
+returns-in_err-read_more-clause-reads c =
+    let p = err_from_is_err_and c.from_residual.result c.from_residual.ensures.1 in
+    rw (p.1, p.2) (interrupts-unread c.args.source.now.bytes.now c.args.self.now c.args.at.now _ c.args.count _ _ c.requires.stage c.requires.few c.in_err-read_more.ensures.reads)
+
+pub returns-clause-reads : goal.returns-clause-reads
+returns-clause-reads c =
+    interrupts-read c.args.source.now.bytes.now c.args.self.now c.args.at.now _ c.args.count _ c.requires.stage c.requires.few c.in_ok-read_more.ensures.reads

@@ -1,0 +1,54 @@
+-- A log that is read from its bytes in pieces.
+use Rattle.std.specs.Prelude.{◌≡◌, ℕ, ◌≤◌, ◌==◌, List, ◌++◌, length, Option, Some, None, Result, Ok, Err, if◌then◌else◌}
+use Rattle.spec_log.specs.declared.log.LogParts.{LogParts}
+use Rattle.spec_log.specs.Reading.{Fault, fails, read_of}
+use Rattle.dl_logbytes.specs.declared.error.LogError.{LogError}
+use Rattle.dl_logbytes.specs.declared.error.LogError.TheVariants.{Malformed, OutOfMemory}
+use Rattle.dl_logfmt.specs.declared.draft.Draft.{Draft}
+use Rattle.dl_logfmt.specs.declared.refusal.Refusal.{Refusal}
+use Rattle.dl_logfmt.specs.Drafts.{IsFew, reach, ended, said}
+use Rattle.dl_logfmt.specs.Remaining.{remaining}
+
+-- what is said of bytes that may go on: their fault, unless they end inside a field
+abbrev pub fed : Result LogParts Fault → Result (Unit {0}) Fault
+fed (Ok log) = Ok tt
+fed (Err fault) = if fault.number == 1 then Ok tt else Err fault
+
+-- a call answered this; want of memory alone has no cause
+abbrev pub IsFeeding : Result (Unit {0}) Fault → Result (Unit {0}) LogError → Type 0
+IsFeeding said (Ok x) = said ≡ Ok tt
+IsFeeding said (Err (Malformed number offset)) = said ≡ Err (record { number = number; offset = offset })
+IsFeeding said (Err OutOfMemory) = Unit {0}
+
+-- a reader: what it has read, the bytes that it couldn't yet use and the offset of the first of them, or the fault
+pub record Feeding : Type 0 where
+  pub draft : Draft
+  pub pending : List ℕ
+  pub start : ℕ
+  pub refusal : Option Refusal
+
+-- the bytes are those that were used and the pending ones; they say what the draft is, and whatever follows, they and
+-- it are read as the reader reads on
+pub record Holding (bytes : List ℕ) (r : Feeding) : Type 0 where
+  pub used : List ℕ
+  pub split : bytes ≡ used ++ r.pending
+  pub start : r.start ≡ length used
+  pub few : IsFew r.draft
+  pub low : r.start ≤ reach r.draft
+  pub now : read_of bytes ≡ said r.draft bytes
+  pub later : (rest : List ℕ)
+      → read_of (bytes ++ rest) ≡ ended (bytes ++ rest) (remaining r.draft (bytes ++ rest) (length used))
+
+-- whatever follows, the bytes have this fault, which isn't that they end inside a field
+pub record Refused (bytes : List ℕ) (refusal : Refusal) : Type 0 where
+  pub lasting : refusal.number ≡ 1 → ⊥
+  pub later : (rest : List ℕ) → read_of (bytes ++ rest) ≡ fails refusal.number refusal.offset
+
+-- a reader that refused, or that reads on
+abbrev pub FedTo : List ℕ → Feeding → Option Refusal → Type 0
+FedTo bytes r (Some refusal) = Refused bytes refusal
+FedTo bytes r None = Holding bytes r
+
+-- the reader was fed these bytes
+abbrev pub HasFed : List ℕ → Feeding → Type 0
+HasFed bytes r = FedTo bytes r r.refusal

@@ -1,0 +1,130 @@
+//! A log of which a part was read.
+ghost use Rattle.std.specs.Prelude.{◌≡◌, ◌≢◌, ◌≤◌, length, MatchResult};
+ghost use Rattle.dl_logfmt.specs.Drafts.{Grew, IsFew, Feeds, Reads, ReadsField, blank};
+ghost use Rattle.dl_logfmt.specs.Remaining.{log_of};
+
+use crate::head::Head;
+use crate::stage::Stage;
+use dl_entry::{Input, Sequence};
+use dl_logbytes::{LogError, Source, judge};
+use spec_log::{DmaRecord, Interrupt, LogParts, ModeName, Order, ShortSize, Sizes};
+use std::alloc::Global;
+
+/// What was read of a log so far. Either each commit has a size or those that were closed early have: by the mode, one
+/// of the two lists stays empty.
+#[derive(Drop)]
+pub struct Draft {
+    pub head: Head,
+    pub order: Order,
+    pub each: Sequence<u32>,
+    pub short: Sequence<ShortSize>,
+    pub interrupts: Sequence<Interrupt>,
+    pub inputs: Sequence<Input>,
+    pub dmas: Sequence<DmaRecord>,
+}
+
+impl Draft {
+    /// A draft of which nothing was read.
+    pub fn new(alloc: Global) -> Draft
+        ensures { result ≡ blank }
+    {
+        Draft {
+            head: Head {
+                stage: Stage::Mode,
+                mode: ModeName::OrderSize,
+                s: 0,
+                count: 0,
+            },
+            order: Order::new(alloc),
+            each: Sequence::new(alloc),
+            short: Sequence::new(alloc),
+            interrupts: Sequence::new(alloc),
+            inputs: Sequence::new(alloc),
+            dmas: Sequence::new(alloc),
+        }
+    }
+
+    /// Reads on as far as the bytes go. An error is a fault that stays whatever follows, or want of memory.
+    pub fn feed(&mut self, source: &Source<'_>, at: &mut usize) -> Result<(), LogError>
+        requires within { at.old ≤ length source.now.bytes.now }
+        requires few { IsFew self.old }
+        ensures reads { Feeds source.now.bytes.now self.old at.old result self.new at.new }
+        ensures grown { Grew self.old self.new }
+    {
+        match self.read(source, at) {
+            Ok(()) => judge(*at == source.bytes.len(), 7, *at),
+            Err(LogError::Malformed(number, offset)) => lasting(number, offset),
+            Err(LogError::OutOfMemory) => Err(LogError::OutOfMemory),
+        }
+    }
+
+    /// Reads on until the log is whole, or a field isn't.
+    fn read(&mut self, source: &Source<'_>, at: &mut usize) -> Result<(), LogError>
+        requires within { at.old ≤ length source.now.bytes.now }
+        requires few { IsFew self.old }
+        ensures reads { Reads source.now.bytes.now self.old at.old result self.new at.new }
+        ensures grown { Grew self.old self.new }
+    {
+        while self.head.stage != Stage::Nothing {
+            self.read_field(source.bytes, at)?;
+            self.read_section(source, at)?;
+        }
+        Ok(())
+    }
+
+    /// Reads the next field, unless entries come next.
+    fn read_field(&mut self, bytes: &[u8], at: &mut usize) -> Result<(), LogError>
+        requires stage { self.old.head.stage ≢ Stage.Nothing }
+        requires within { at.old ≤ length bytes.now }
+        requires few { IsFew self.old }
+        ensures reads { ReadsField bytes.now self.old at.old result self.new at.new }
+        ensures grown { Grew self.old self.new }
+    {
+        let mut after = *at;
+        self.head = self.head.next(bytes, &mut after)?;
+        *at = after;
+        Ok(())
+    }
+
+    /// The log that was read.
+    pub fn into_parts(self) -> LogParts
+        ensures { result ≡ log_of self }
+    {
+        let Draft {
+            head,
+            order,
+            each,
+            short,
+            interrupts,
+            inputs,
+            dmas,
+        } = self;
+        let sizes = match head.mode {
+            ModeName::OrderSize => Sizes::Each(each),
+            ModeName::OrderOnly | ModeName::Picolog => Sizes::Short(short),
+        };
+        LogParts {
+            mode: head.mode,
+            s: head.s,
+            count: head.count,
+            order,
+            sizes,
+            interrupts,
+            inputs,
+            dmas,
+        }
+    }
+}
+
+/// A fault that stays whatever follows: one that isn't that the bytes end inside a field.
+fn lasting(number: u8, offset: u64) -> Result<(), LogError>
+    ensures { MatchResult result
+        (λ _. number ≡ 1)
+        (λ error. (number ≢ 1) × (error ≡ LogError.Malformed number offset)) }
+{
+    if number == 1 {
+        Ok(())
+    } else {
+        Err(LogError::Malformed(number, offset))
+    }
+}

@@ -1,0 +1,209 @@
+//! A log read from its bytes in pieces.
+ghost use Rattle.std.specs.Prelude.{◌≡◌, ℕ, ◌<◌, ◌^◌, List, [], ◌++◌, ◌≤◌, length, drop, IsErrOf, OnOk};
+ghost use Rattle.spec_log.specs.Reading.{read_of};
+ghost use Rattle.dl_logbytes.specs.Answer.{IsReading};
+ghost use Rattle.dl_logfmt.specs.Feeding.{HasFed, IsFeeding, fed};
+
+use crate::draft::Draft;
+use crate::refusal::Refusal;
+use crate::stage::Stage;
+use dl_logbytes::{LogError, OutOfMemory, Source};
+use spec_log::Log;
+use std::alloc::Global;
+use std::marker::Model;
+
+/// A reader of a log that comes in pieces. Beside the log it keeps the bytes of at most one entry that isn't whole.
+#[derive(Drop)]
+pub struct LogReader {
+    alloc: Global,
+    draft: Draft,
+    pending: Vec<u8>,
+    start: u64,
+    refusal: Option<Refusal>,
+}
+
+impl Model for LogReader {
+    ghost use Rattle.std.specs.Prelude.{◌<◌, ℕ, List, All};
+    ghost use Rattle.dl_logfmt.specs.Feeding.{Feeding, HasFed};
+
+    ghost Value = { Feeding };
+
+    ghost view = { λ r. record { draft = r.draft; pending = r.pending.items; start = r.start; refusal = r.refusal } };
+
+    ghost invariant = { λ r. (bytes : List ℕ) × All (λ byte. byte < 256) bytes
+        × HasFed bytes (record { draft = r.draft; pending = r.pending.items; start = r.start; refusal = r.refusal }) };
+}
+
+impl LogReader {
+    /// A reader that was fed nothing, which takes no memory.
+    pub fn new(alloc: Global) -> LogReader
+        ensures { HasFed [] result }
+    {
+        LogReader {
+            alloc,
+            draft: Draft::new(alloc),
+            pending: Vec::new(alloc),
+            start: 0,
+            refusal: None,
+        }
+    }
+
+    /// Reads the log's next bytes: Ok as long as every field that is whole is good and no byte follows the last
+    /// section, else what `read_log` answers of the bytes so far, and the same at later calls. Where no memory is
+    /// left, nothing of the piece is taken.
+    pub fn feed(&mut self, piece: &[u8]) -> Result<(), LogError>
+        ensures answer { (bytes : List ℕ) → HasFed bytes self.old
+            → IsFeeding (fed (read_of (bytes ++ piece.now))) result }
+        ensures fed { (bytes : List ℕ) → HasFed bytes self.old → ¬ (IsErrOf result LogError.OutOfMemory)
+            → HasFed (bytes ++ piece.now) self.new }
+        ensures memory { IsErrOf result LogError.OutOfMemory → self.new ≡ self.old }
+        ensures few { OnOk result ((bytes : List ℕ) → HasFed bytes self.old → length (bytes ++ piece.now) < 2 ^ 64) }
+    {
+        if let Some(refusal) = self.refusal {
+            return Err(LogError::Malformed(refusal.number, refusal.offset));
+        }
+        let mark = self.draft.mark();
+        let held = self.pending.len();
+        self.pending
+            .extend_from_slice(piece)
+            .map_err(OutOfMemory::from)?;
+        let source = Source {
+            alloc: self.alloc,
+            bytes: &self.pending,
+        };
+        let mut at = 0;
+        match self.draft.feed(&source, &mut at) {
+            Ok(()) => {
+                drop_front(&mut self.pending, at);
+                self.start += at as u64;
+                Ok(())
+            }
+            Err(LogError::Malformed(number, offset)) => {
+                let offset = self.start + offset;
+                self.refusal = Some(Refusal { number, offset });
+                Err(LogError::Malformed(number, offset))
+            }
+            Err(LogError::OutOfMemory) => {
+                self.pending.truncate(held);
+                self.draft.cut(mark);
+                Err(LogError::OutOfMemory)
+            }
+        }
+    }
+
+    /// The log whose bytes it was fed: what `read_log` answers of them. It takes no memory.
+    pub fn end(self) -> Result<Log, LogError>
+        ensures log { (bytes : List ℕ) → HasFed bytes self → IsReading (read_of bytes) result }
+        ensures no_memory { ¬ (IsErrOf result LogError.OutOfMemory) }
+    {
+        if let Some(refusal) = self.refusal {
+            return Err(LogError::Malformed(refusal.number, refusal.offset));
+        }
+        if self.draft.head.stage != Stage::Nothing {
+            return Err(LogError::Malformed(1, self.start + self.pending.len() as u64));
+        }
+        Ok(Log::new(self.draft.into_parts()))
+    }
+}
+
+/// Takes so many bytes away from the front.
+fn drop_front(bytes: &mut Vec<u8>, count: usize)
+    requires { count ≤ length bytes.old.items }
+    ensures rest { bytes.new.items ≡ drop count bytes.old.items }
+    ensures few { length bytes.new.items < 2 ^ 63 }
+{
+    let left = bytes.len() - count;
+    bytes.copy_within(count.., 0);
+    bytes.truncate(left);
+}
+
+#[cfg(test)]
+mod tests {
+    use super::*;
+    use crate::write_log;
+    use std::test::Fail;
+
+    #[test]
+    fn pieces_give_the_log_of_their_bytes(rt: HostRuntime) -> Result<(), Fail> {
+        for bytes in [EXITS, FULL] {
+            for size in [1, 7, 4096] {
+                match fed(rt.alloc(), bytes, size) {
+                    Ok(log) => assert_eq!(rt; write_log(rt.alloc(), &log)?.as_slice(), bytes),
+                    Err(error) => assert!(rt; false, "{error}"),
+                }
+            }
+        }
+        Ok(())
+    }
+
+    fn fed(alloc: Global, bytes: &[u8], size: usize) -> Result<Log, LogError> {
+        let mut reader = LogReader::new(alloc);
+        for piece in bytes.chunks(size.max(1)) {
+            reader.feed(piece)?;
+        }
+        reader.end()
+    }
+
+    #[test]
+    fn cut_logs_are_refused_at_their_end_alone(rt: HostRuntime) {
+        for length in 0..FULL.len() {
+            let mut reader = LogReader::new(rt.alloc());
+            assert_eq!(rt; reader.feed(&FULL[..length]), Ok(()));
+            assert_eq!(rt;
+                reader.end().err(),
+                Some(LogError::Malformed(1, length as u64))
+            );
+        }
+    }
+
+    #[test]
+    fn faults_stay_whatever_follows(rt: HostRuntime) {
+        for (bytes, number, offset) in WRONG {
+            let malformed = LogError::Malformed(number, offset);
+            let mut reader = LogReader::new(rt.alloc());
+            assert_eq!(rt; reader.feed(bytes), Err(malformed));
+            for piece in [&[], EXITS] {
+                assert_eq!(rt; reader.feed(piece), Err(malformed));
+            }
+            assert_eq!(rt; reader.end().err(), Some(malformed));
+        }
+    }
+
+    /// A thread runs two instructions and exits.
+    const EXITS: &[u8] = b"\x44\x4C\x52\x4E\x01\x00\x00\x00\x64\x00\x00\x00\x02\x00\x00\x00\
+      \x02\x00\x00\x00\x00\
+      \x02\x00\x00\x00\x02\x00\x00\x00\
+      \x00\x00\x00\x00\
+      \x00\x00\x00\x00\
+      \x00\x00\x00\x00";
+
+    /// Entries in each section.
+    const FULL: &[u8] = b"\x44\x4C\x52\x4E\x01\x01\x00\x00\x00\x10\x00\x00\x03\x00\x00\x00\
+      \x03\x00\x00\x00\xFE\x00\
+      \x02\x00\x00\x00\x00\x04\x03\x02\x01\x00\x10\x0E\x00\x00\x00\x00\x01\x00\
+      \x02\x00\x00\x00\x03\x07\x00\x00\x00\xFF\xFF\xFF\xFF\x03\x08\x00\x00\x00\x00\x00\x00\x00\
+      \x02\x00\x00\x00\x03\x02\x00\x00\x00\x02\x00\x93\x08\x11\x00\x00\x00\x00\x00\x00\
+      \x02\x00\x00\x00\x01\x00\x00\x00\x02\x00\x41\xFF\x02\x00\x00\x00\x00\x00";
+
+    /// Bytes with the number and the offset of their fault: another version, a header that claims too many commits,
+    /// and a byte behind the log.
+    const WRONG: [(&[u8], u8, u64); 3] = [
+        (b"\x44\x4C\x52\x4E\x02", 3, 4),
+        (
+            b"\x44\x4C\x52\x4E\x01\x00\x00\x00\x64\x00\x00\x00\x01\x00\x00\x01",
+            5,
+            12,
+        ),
+        (
+            b"\x44\x4C\x52\x4E\x01\x02\x00\x00\x64\x00\x00\x00\x02\x00\x00\x00\
+              \x00\x00\x00\x00\
+              \x00\x00\x00\x00\
+              \x00\x00\x00\x00\
+              \x00\x00\x00\x00\
+              \x00\x00\x00\x00\
+              \x00",
+            7,
+            36,
+        ),
+    ];
+}

@@ -1,0 +1,57 @@
+//! Worked logs, written in pieces.
+ghost use Rattle.std.specs.Prelude.{◌<◌, length};
+
+use crate::writer::LogWriter;
+use dl_logbytes::read_log;
+use spec_log::Log;
+use std::process::Abort;
+
+#[test]
+fn pieces_join_to_the_log(rt: HostRuntime) {
+    for bytes in LOGS {
+        match read_log(rt.alloc(), bytes) {
+            Ok(log) => {
+                writes(&rt, &log, bytes, &mut [0; 1]);
+                writes(&rt, &log, bytes, &mut [0; 7]);
+                writes(&rt, &log, bytes, &mut [0; 4096]);
+            }
+            Err(error) => assert!(rt; false, "{error}"),
+        }
+    }
+}
+
+// The pieces that fill this room are the bytes, and then there is none.
+fn writes(rt: &impl Abort, log: &Log, bytes: &[u8], room: &mut [u8])
+    requires { 0 < length room.old }
+{
+    let mut writer = LogWriter::new(log);
+    for piece in bytes.chunks(room.len()) {
+        let count = writer.next(room);
+        assert_eq!(rt; &room[..count], piece);
+    }
+    assert_eq!(rt; writer.next(room), 0);
+}
+
+const LOGS: [&[u8]; 3] = [
+    // Each commit has its size: a thread runs two instructions and exits.
+    b"\x44\x4C\x52\x4E\x01\x00\x00\x00\x64\x00\x00\x00\x02\x00\x00\x00\
+      \x02\x00\x00\x00\x00\
+      \x02\x00\x00\x00\x02\x00\x00\x00\
+      \x00\x00\x00\x00\
+      \x00\x00\x00\x00\
+      \x00\x00\x00\x00",
+    // No order, and a DMA as the third commit.
+    b"\x44\x4C\x52\x4E\x01\x02\x00\x00\x64\x00\x00\x00\x05\x00\x00\x00\
+      \x00\x00\x00\x00\
+      \x00\x00\x00\x00\
+      \x00\x00\x00\x00\
+      \x00\x00\x00\x00\
+      \x01\x00\x00\x00\x02\x00\x00\x00\x02\x00\x41\x42",
+    // Entries in each section.
+    b"\x44\x4C\x52\x4E\x01\x01\x00\x00\x00\x10\x00\x00\x03\x00\x00\x00\
+      \x03\x00\x00\x00\xFE\x00\
+      \x02\x00\x00\x00\x00\x04\x03\x02\x01\x00\x10\x0E\x00\x00\x00\x00\x01\x00\
+      \x02\x00\x00\x00\x03\x07\x00\x00\x00\xFF\xFF\xFF\xFF\x03\x08\x00\x00\x00\x00\x00\x00\x00\
+      \x02\x00\x00\x00\x03\x02\x00\x00\x00\x02\x00\x93\x08\x11\x00\x00\x00\x00\x00\x00\
+      \x02\x00\x00\x00\x01\x00\x00\x00\x02\x00\x41\xFF\x02\x00\x00\x00\x00\x00",
+];
