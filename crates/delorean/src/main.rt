@@ -1,40 +1,13 @@
-//! The program: it hands its words, the real files and the standard output to `delorean`, and ends with its status.
+//! The program: it hands its words, the real files and the standard output to the one call `delorean`, and ends with its status.
 #![tactic(auto)]
 
-mod assembling;
-mod computing;
-mod drilling;
-mod ending;
-mod events;
-mod gathering;
-mod halt;
-mod images;
-mod inputs;
-mod inspecting;
-mod job;
-mod lines;
-mod logs;
-mod making;
-mod planning;
-mod preparing;
-mod reading;
-mod roles;
-mod running;
-mod telling;
-#[cfg(test)]
-mod tests;
-mod top;
-mod walking;
-mod writing;
-mod written;
-
+use dl_commands::delorean;
 use dl_files::{RealFiles, StdSink};
 use spec_program::status::Status;
 use std::io::ErrorKind;
 use std::process::ExitCode;
 use std::rt::Env;
 use std::{env, io};
-use top::delorean;
 
 fn main(rt: HostRuntime) -> ExitCode {
     let status = match run(rt) {

@@ -1,3 +1,4 @@
 pub mod Schedules
 pub mod Ran
 pub mod Taken
+pub mod Logs

@@ -5,39 +5,30 @@ ghost use Rattle.spec_protocol.specs.declared.event.Event.{Event};
 ghost use Rattle.spec_protocol.specs.Machine.{IsRecorded};
 ghost use Rattle.spec_protocol.specs.Sound.{image_at};
 ghost use Rattle.spec_run.specs.Texts.{account_text as account_of, console_text, log_told, log_text, report_text as report_of, summary_text as summary_of};
+ghost use Rattle.dl_run.specs.Logs.{bytes_told};
 ghost use Rattle.dl_run.specs.Ran.{IsOver};
 
 use crate::run::Run;
 use dl_account::{account_text, report_text, summary_text};
 use dl_entry::OutOfMemory;
-use dl_logfmt::{Log, write_log};
 use dl_sphere::Role;
+use spec_log::Log;
 use std::alloc::Global;
 
 impl Run {
-    /// The bytes of a sphere's log; none where the sphere isn't recorded.
-    pub fn log(&self, alloc: Global, sphere: usize) -> Result<Vec<u8>, OutOfMemory>
+    /// A sphere's log; none where the sphere isn't recorded.
+    pub fn log(&self, sphere: usize) -> Result<Option<Log>, OutOfMemory>
         requires { sphere < length self.now.setup.spheres }
-        ensures { IfOk result (λ text. (es : List Event) → IsOver es self.now → text.items ≡ log_text self.now.setup es sphere) }
+        ensures { IfOk result (λ log. (es : List Event) → IsOver es self.now → bytes_told log ≡ log_text self.now.setup es sphere) }
     {
         match self.role(sphere) {
-            Role::Record(_) => self.recorded_log(alloc, sphere),
-            Role::Plain => Ok(Vec::new(alloc)),
-            Role::Replay(_) => Ok(Vec::new(alloc)),
+            Role::Record(_) => Ok(Some(self.recording(sphere)?)),
+            Role::Plain => Ok(None),
+            Role::Replay(_) => Ok(None),
         }
     }
 
-    // That of a recorded sphere.
-    fn recorded_log(&self, alloc: Global, sphere: usize) -> Result<Vec<u8>, OutOfMemory>
-        requires inside { sphere < length self.now.setup.spheres }
-        requires recorded { (mode : ModeName) × ((image_at self.now.setup sphere).role ≡ IsRecorded mode) }
-        ensures { IfOk result (λ text. (es : List Event) → IsOver es self.now → text.items ≡ log_text self.now.setup es sphere) }
-    {
-        let log = self.recording(sphere)?;
-        write_log(alloc, &log)
-    }
-
-    /// The log of a recorded sphere, as a value.
+    /// The log of a recorded sphere.
     pub fn recording(&self, sphere: usize) -> Result<Log, OutOfMemory>
         requires inside { sphere < length self.now.setup.spheres }
         requires recorded { (mode : ModeName) × ((image_at self.now.setup sphere).role ≡ IsRecorded mode) }

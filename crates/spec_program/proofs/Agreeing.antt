@@ -1,9 +1,9 @@
 -- Tasks that agree on a sphere write the same account of it.
-use Rattle.std.proofs.Common.{◌≡◌, ℕ, List, Result, Ok, Err, refl, sym, ap, ◌∙◌}
+use Rattle.std.proofs.Common.{◌≡◌, ℕ, Result, Ok, Err, refl, sym, ap, ◌∙◌}
 use Rattle.dl_elf.specs.Images.{Image}
 use Rattle.dl_elf.specs.Loading.{image_of}
 use Rattle.spec_log.specs.declared.LogParts.{LogParts}
-use Rattle.spec_log.specs.Reading.{Fault, read_of}
+use Rattle.spec_log.specs.Reading.{Fault}
 use Rattle.spec_protocol.specs.Logged.{sphere_in}
 use Rattle.spec_protocol.specs.Machine.{RoleSetup, IsRecorded, IsReplayed, SphereSetup}
 use Rattle.spec_run.specs.Runs.{executed}
@@ -30,8 +30,8 @@ replayed_by i (Err fault) r e = absurd cc
 replayed_by i (Ok parts) r e = (parts, refl, sym (same_Ok (IsReplayed parts) r e))
 
 -- the role that replays a log
-replayed : (log : List ℕ) (s : SphereRead) (x : SphereSetup) → s.role ≡ ReplayRead log → IsMade s x → (parts : LogParts) × (read_of log ≡ Ok parts) × (x.role ≡ IsReplayed parts)
-replayed log s x role made = replayed_by 0 (read_of log) x.role (ap (role_of 0) (sym role) ∙ made.role)
+replayed : (log : Result LogParts Fault) (s : SphereRead) (x : SphereSetup) → s.role ≡ ReplayRead log → IsMade s x → (parts : LogParts) × (log ≡ Ok parts) × (x.role ≡ IsReplayed parts)
+replayed log s x role made = replayed_by 0 log x.role (ap (role_of 0) (sym role) ∙ made.role)
 
 -- ---- accounts
 
@@ -55,7 +55,8 @@ accounts_agree plan other m n t u i j s log is is_too role at there =
 
 pub recordings_replayed : RecordingsAreReplayed
 unfolding account_text
-recordings_replayed plan other m n t u i j s mode log is is_too role at there reads =
+recordings_replayed plan other m n t u i j s mode is is_too role at there =
+    let log : Result LogParts Fault = Ok (log_told (setup_in t) t.events i (mode_named mode)) in
     let r : SphereRead = record s { role = ReplayRead log } in
     let a = sphere_of_task plan m t i s is at in
     let b = sphere_of_task other n u j r is_too there in
@@ -63,7 +64,7 @@ recordings_replayed plan other m n t u i j s mode log is is_too role at there re
     let told = log_told (setup_in t) t.events i (mode_named mode) in
     let recorded : a.setup.role ≡ IsRecorded (mode_named mode) = sym (same_Ok (IsRecorded (mode_named mode)) a.setup.role (ap (role_of 0) (sym role) ∙ a.made.role)) in
     let q = replayed log r b.setup refl b.made in
-    let parts : q.0 ≡ told = same_Ok q.0 told (sym q.1 ∙ reads) in
+    let parts : q.0 ≡ told = same_Ok q.0 told (sym q.1) in
     let x = sphere_in (executed (setup_in t) t.events) i in
     let y = sphere_in (executed (setup_in u) u.events) j in
     let plays : account_as a.setup y (IsReplayed told) ≡ account_as b.setup y (IsReplayed told) =

@@ -7,7 +7,7 @@ use Rattle.dl_elf.specs.Loading.{image_of}
 use Rattle.dl_files.specs.Contents.{Contents}
 use Rattle.dl_plan.specs.Plans.{plan_of}
 use Rattle.spec_log.specs.declared.LogParts.{LogParts}
-use Rattle.spec_log.specs.Reading.{Fault, read_of}
+use Rattle.spec_log.specs.Reading.{Fault}
 use Rattle.spec_protocol.specs.Machine.{RoleSetup, IsReplayed, SphereSetup}
 use Rattle.spec_protocol.specs.Sound.{no_image, image_at}
 use Rattle.spec_program.specs.Built.{bad_image, bad_log, images_of, role_of, spheres_of, events_of}
@@ -41,7 +41,7 @@ log_any i j (Ok log) r e = e
 role_any : (i j : ℕ) (role : RoleRead) (r : RoleSetup) → role_of i role ≡ Ok r → role_of j role ≡ Ok r
 role_any i j PlainRead r e = e
 role_any i j (RecordRead mode) r e = e
-role_any i j (ReplayRead bytes) r e = log_any i j (read_of bytes) r e
+role_any i j (ReplayRead read) r e = log_any i j read r e
 
 pub sphere_made : (k i : ℕ) (ss : List SphereRead) (images : List Image) (xs : List SphereSetup) (s : SphereRead) → images_of k ss ≡ Ok images → spheres_of k ss images ≡ Ok xs → slice_get ss i ≡ Some s
     → (x : SphereSetup) × (slice_get xs i ≡ Some x) × IsMade s x
@@ -79,15 +79,16 @@ sphere_made k (suc i) (r ∷ ss) images xs s are made at =
 -- ---- a task
 
 -- its plan is in a file, and its spheres are made of what was read
-pub record IsBuilt (t : Task) : Type 0 where
+pub record IsBuilt (m : Contents) (t : Task) : Type 0 where
   pub name : List ℕ
   pub bytes : List ℕ
   pub planned : plan_of name bytes ≡ Ok t.plan
+  pub read : plan_read m t.plan ≡ Ok t.read
   pub images : List Image
   pub are : images_of 0 t.read.spheres ≡ Ok images
   pub spheres : spheres_of 0 t.read.spheres images ≡ Ok t.spheres
 
-pub task_built : (name : List ℕ) (m : Contents) (t : Task) → IsTask name m t → IsBuilt t
+pub task_built : (name : List ℕ) (m : Contents) (t : Task) → IsTask name m t → IsBuilt m t
 task_built name m t is =
     let plan = then_ok (plan_at m name) (task_planned m) t is in
     let file = then_ok (refusing absent (read_at m name)) _ plan.0 plan.1 in
@@ -97,10 +98,11 @@ task_built name m t is =
     let events = then_ok (events_of plan.0.seed read.0.schedule) _ t spheres.2 in
     let made : Task = record { plan = plan.0; read = read.0; spheres = spheres.0; events = events.0 } in
     let same : made ≡ t = cc in
-    subst IsBuilt same (record {
+    subst (IsBuilt m) same (record {
       name = name;
       bytes = file.0;
       planned = not_refused bad_plan (plan_of name file.0) plan.0 file.2;
+      read = not_refused absent (plan_read m plan.0) read.0 read.1;
       images = images.0;
       are = images.1;
       spheres = spheres.1;

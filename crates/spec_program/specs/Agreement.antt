@@ -1,9 +1,10 @@
 -- What tasks have in common that agree on a sphere.
-use Rattle.std.specs.Prelude.{◌≡◌, ℕ, List, slice_get, Some, Ok}
+use Rattle.std.specs.Prelude.{◌≡◌, ℕ, List, slice_get, Some, Result, Ok}
 use Rattle.dl_files.specs.Contents.{Contents}
 use Rattle.dl_plan.specs.declared.Mode.{Mode}
 use Rattle.dl_plan.specs.declared.Product.{Product}
-use Rattle.spec_log.specs.Reading.{read_of}
+use Rattle.spec_log.specs.declared.LogParts.{LogParts}
+use Rattle.spec_log.specs.Reading.{Fault}
 use Rattle.spec_run.specs.Texts.{log_told}
 use Rattle.spec_program.specs.Built.{mode_named}
 use Rattle.spec_program.specs.Files.{RecordRead, ReplayRead, SphereRead}
@@ -18,7 +19,7 @@ account_in t i = product_for (setup_in t) t.events (Product.Account i)
 -- plans and files say
 abbrev pub AccountsAgree : Type 0
 AccountsAgree =
-    (plan other : List ℕ) (m n : Contents) (t u : Task) (i j : ℕ) (s : SphereRead) (log : List ℕ)
+    (plan other : List ℕ) (m n : Contents) (t u : Task) (i j : ℕ) (s : SphereRead) (log : Result LogParts Fault)
     → IsTask plan m t
     → IsTask other n u
     → s.role ≡ ReplayRead log
@@ -30,11 +31,11 @@ AccountsAgree =
 -- write the same account
 abbrev pub RecordingsAreReplayed : Type 0
 RecordingsAreReplayed =
-    (plan other : List ℕ) (m n : Contents) (t u : Task) (i j : ℕ) (s : SphereRead) (mode : Mode) (log : List ℕ)
+    (plan other : List ℕ) (m n : Contents) (t u : Task) (i j : ℕ) (s : SphereRead) (mode : Mode)
     → IsTask plan m t
     → IsTask other n u
     → s.role ≡ RecordRead mode
     → slice_get t.read.spheres i ≡ Some s
-    → slice_get u.read.spheres j ≡ Some (record s { role = ReplayRead log })
-    → read_of log ≡ Ok (log_told (setup_in t) t.events i (mode_named mode))
+    → slice_get u.read.spheres j
+    ≡ Some (record s { role = ReplayRead (Ok (log_told (setup_in t) t.events i (mode_named mode))) })
     → account_in t i ≡ account_in u j

@@ -8,7 +8,7 @@ use Rattle.dl_event.specs.Seeded.{seeded, schedule}
 use Rattle.dl_plan.specs.declared.Mode.{Mode}
 use Rattle.dl_plan.specs.Values.{PlanValues}
 use Rattle.spec_log.specs.declared.ModeName.{ModeName}
-use Rattle.spec_log.specs.Reading.{Fault, read_of}
+use Rattle.spec_log.specs.Reading.{Fault}
 use Rattle.spec_protocol.specs.declared.event.Event.{Event}
 use Rattle.spec_protocol.specs.Machine.{RoleSetup, IsPlain, IsRecorded, IsReplayed, SphereSetup, Setup}
 use Rattle.spec_program.specs.declared.status.Refusal.{Refusal}
@@ -44,7 +44,7 @@ mode_named Mode.Picolog = ModeName.Picolog
 abbrev pub role_of : (i : ℕ) → RoleRead → Result RoleSetup Refused
 role_of i PlainRead = Ok IsPlain
 role_of i (RecordRead mode) = Ok (IsRecorded (mode_named mode))
-role_of i (ReplayRead bytes) = refusing (bad_log i) (read_of bytes) >> λ log. Ok (IsReplayed log)
+role_of i (ReplayRead read) = refusing (bad_log i) read >> λ log. Ok (IsReplayed log)
 
 abbrev pub spheres_of : (i : ℕ) → List SphereRead → List Image → Result (List SphereSetup) Refused
 spheres_of i (s ∷ ss) (image ∷ images) =

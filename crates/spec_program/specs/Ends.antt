@@ -1,6 +1,6 @@
 -- How the program may end, by its status, from what it was to do: what the files then hold, and what the sink took.
 use Rattle.std.specs.Prelude.{◌≡◌, ℕ, ◌≤◌, ◌⊎◌, Bool, true, false, List, [], ◌∷◌, length, take, slice_get, Option, Some, None, IsSome, if◌then◌else◌, Result, Ok, Err}
-use Rattle.std.specs.FinMap.{get}
+use Rattle.std.specs.FinMap.{get, insert}
 use Rattle.dl_files.specs.Contents.{Contents, SameBut, IsLast}
 use Rattle.dl_files.specs.Count.{Rose}
 use Rattle.dl_files.specs.Taken.{with_taken}
@@ -74,9 +74,15 @@ TookAll text old new = new ≡ with_taken (length text) text old
 
 -- ---- what the files hold
 
--- the first writes are done, each whole, and nothing else has changed
+-- a write in pieces is begun: the name holds the first of its bytes
+abbrev pub IsBegun : Option Write → Contents → (told : Option Contents) → Type 0
+IsBegun None m told = ⊥
+IsBegun (Some w) m told = (w.in_pieces ≡ true) × (k : ℕ) × (told ≡ Some (insert m w.name (take k w.bytes)))
+
+-- the first writes are done, each whole, the next one may be begun, and nothing else has changed
 abbrev pub Partly : List Write → Contents → (told : Option Contents) → Type 0
-Partly writes m told = (n : ℕ) × (n ≤ length writes) × (told ≡ Some (written (take n writes) m))
+Partly writes m told =
+    (n : ℕ) × (n ≤ length writes) × ((told ≡ Some (written (take n writes) m)) ⊎ IsBegun (slice_get writes n) (written (take n writes) m) told)
 
 -- the first writes are done, each whole; the next one, to that name, failed, and nothing but that name has changed further
 abbrev pub CutAt : List Write → Contents → (told : Option Contents) → (name : List ℕ) → Type 0

@@ -1,9 +1,11 @@
--- What a plan has read: the bytes of its files, each where the plan names it, or the first name that is absent.
+-- What a plan has read: the bytes of its files, and its logs, each where the plan names it, or the first name that is absent.
 use Rattle.std.specs.Prelude.{ℕ, List, [], ◌∷◌, Option, Some, None, Result, Ok, ok_or}
 use Rattle.std.specs.FinMap.{get}
 use Rattle.dl_files.specs.Contents.{Contents}
 use Rattle.dl_plan.specs.declared.Mode.{Mode}
 use Rattle.dl_plan.specs.Values.{ScheduleValues, Script, Seeded, RoleValues, Plain, Record, Replay, SphereValues, PlanValues}
+use Rattle.spec_log.specs.declared.LogParts.{LogParts}
+use Rattle.spec_log.specs.Reading.{Fault, read_of}
 use Rattle.spec_program.specs.Stages.{◌>>◌}
 
 -- a script, or how many events are to be drawn
@@ -11,11 +13,11 @@ pub data ScheduleRead : Type 0 where
   ScriptRead : (bytes : List ℕ) → ScheduleRead
   EventsDrawn : (events : ℕ) → ScheduleRead
 
--- of what is replayed, the log
+-- of what is replayed, the log, or the first of its fields that isn't good
 pub data RoleRead : Type 0 where
   PlainRead : RoleRead
   RecordRead : Mode → RoleRead
-  ReplayRead : (log : List ℕ) → RoleRead
+  ReplayRead : (log : Result LogParts Fault) → RoleRead
 
 pub record SphereRead : Type 0 where
   pub image : List ℕ
@@ -33,6 +35,10 @@ pub record PlanRead : Type 0 where
 abbrev pub read_at : Contents → (name : List ℕ) → Result (List ℕ) (List ℕ)
 read_at m name = ok_or (get m name) name
 
+-- what the file of that name says as a log
+abbrev pub log_at : Contents → (name : List ℕ) → Result (Result LogParts Fault) (List ℕ)
+log_at m name = read_at m name >> λ bytes. Ok (read_of bytes)
+
 abbrev pub schedule_read : Contents → ScheduleValues → Result ScheduleRead (List ℕ)
 schedule_read m (Script name) = read_at m name >> λ bytes. Ok (ScriptRead bytes)
 schedule_read m (Seeded events) = Ok (EventsDrawn events)
@@ -45,7 +51,7 @@ input_read m (Some name) = read_at m name
 abbrev pub role_read : Contents → RoleValues → Result RoleRead (List ℕ)
 role_read m Plain = Ok PlainRead
 role_read m (Record mode log) = Ok (RecordRead mode)
-role_read m (Replay log) = read_at m log >> λ bytes. Ok (ReplayRead bytes)
+role_read m (Replay log) = log_at m log >> λ read. Ok (ReplayRead read)
 
 abbrev pub sphere_read : Contents → SphereValues → Result SphereRead (List ℕ)
 sphere_read m s =

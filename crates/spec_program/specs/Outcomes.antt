@@ -18,7 +18,7 @@ use Rattle.spec_program.specs.Lines.{assembled_line, made_line}
 use Rattle.spec_program.specs.Stages.{Refused}
 use Rattle.spec_program.specs.Tasks.{setup_in}
 use Rattle.spec_program.specs.Works.{Work, Running, Inspecting, Walking, Making, Drilling, Assembling, work_of}
-use Rattle.spec_program.specs.Writes.{Write, outputs_filled}
+use Rattle.spec_program.specs.Writes.{Write, at_once, outputs_filled}
 
 pub data Outcome : Type 0 where
   -- why, and the line that says so
@@ -48,9 +48,9 @@ outcome_for (Running t) = ran t.plan (setup_in t) t.events
 outcome_for (Inspecting log) = Finishes false [] (inspection_of log)
 outcome_for (Walking image log) = Finishes (has_diverged (end_of (walk_of image log).now)) [] (played_account (walk_of image log))
 outcome_for (Making number name) =
-    Finishes false (record { name = name; bytes = made number } ∷ []) (made_line (length (made number)))
+    Finishes false (at_once name (made number) ∷ []) (made_line (length (made number)))
 outcome_for (Drilling number) = Finishes false [] (drill_text number)
-outcome_for (Assembling file name) = Finishes false (record { name = name; bytes = file } ∷ []) (assembled_line (length file))
+outcome_for (Assembling file name) = Finishes false (at_once name file ∷ []) (assembled_line (length file))
 
 abbrev pub outcome_in : Result Work Refused → Outcome
 outcome_in (Err refused) = Refuses refused.why refused.line

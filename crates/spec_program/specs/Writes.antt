@@ -1,18 +1,30 @@
 -- What is written: names with their bytes, in order.
-use Rattle.std.specs.Prelude.{ℕ, List, [], ◌∷◌, map}
+use Rattle.std.specs.Prelude.{ℕ, Bool, true, false, List, [], ◌∷◌, map}
 use Rattle.std.specs.FinMap.{insert}
 use Rattle.dl_files.specs.Contents.{Contents}
 use Rattle.dl_plan.specs.declared.Product.{Product}
 use Rattle.dl_plan.specs.Files.{OutputValues, outputs_of}
 use Rattle.dl_plan.specs.Values.{PlanValues}
 
+-- a file is written at once, or in pieces from its front on
 pub record Write : Type 0 where
   pub name : List ℕ
   pub bytes : List ℕ
+  pub in_pieces : Bool
+
+abbrev pub at_once : (name bytes : List ℕ) → Write
+at_once name bytes = record { name = name; bytes = bytes; in_pieces = false }
+
+-- logs are written in pieces
+abbrev pub is_log : Product → Bool
+is_log (Product.Log sphere) = true
+is_log (Product.Account sphere) = false
+is_log Product.Console = false
+is_log Product.Report = false
 
 -- a file that is to be written, with what is made for it
 abbrev pub filled : (made : Product → List ℕ) → OutputValues → Write
-filled made o = record { name = o.name; bytes = made o.product }
+filled made o = record { name = o.name; bytes = made o.product; in_pieces = is_log o.product }
 
 -- each file that the plan has written, in its order
 abbrev pub outputs_filled : (made : Product → List ℕ) → PlanValues → List Write

@@ -1,0 +1,9 @@
+pub mod Assembled
+pub mod Building
+pub mod Filing
+pub mod Finishing
+pub mod Growing
+pub mod Planned
+pub mod Putting
+pub mod Storing
+pub mod Walks

@@ -1,0 +1,16 @@
+-- A walk of as many commits as the log has comes to the log's end.
+use Rattle.std.proofs.Common.{◌≡◌, ℕ, List, refl, sym, subst, arith}
+use Rattle.spec_log.specs.declared.LogParts.{LogParts}
+use Rattle.spec_play.specs.declared.WalkEnd.{WalkEnd}
+use Rattle.spec_play.specs.Walks.{Walked, walked}
+use Rattle.spec_play.proofs.Walking.{walks_are_plays}
+use Rattle.dl_commands.specs.Walks.{HasEnded}
+
+ended : (e : WalkEnd) → ((done : ℕ) → e ≡ WalkEnd.Stopped done → ⊥) → HasEnded e
+ended (WalkEnd.Ended how) not_stopped = tt
+ended (WalkEnd.Stopped done) not_stopped = not_stopped done refl
+
+pub whole_walk : (log : LogParts) (memory : List ℕ) (entry to : ℕ) (w : Walked) → w ≡ walked log memory entry to → to ≡ log.count → HasEnded w.end
+whole_walk log memory entry to w is all =
+    subst (λ (x : Walked). HasEnded x.end) (sym is)
+    (ended (walked log memory entry to).end (λ done e. let more = ((walks_are_plays log memory entry to).stopped done e).more in omega (arith, more, all)))

@@ -1,0 +1,53 @@
+-- What is left to be done, once it is computed.
+use Rattle.std.specs.Prelude.{◌≡◌, ℕ, Bool, true, false, List, map, string_bytes, Result, Ok}
+use Rattle.dl_plan.specs.Values.{PlanValues}
+use Rattle.dl_run.specs.Logs.{bytes_told}
+use Rattle.spec_protocol.specs.declared.event.Event.{Event}
+use Rattle.spec_protocol.specs.Machine.{Setup}
+use Rattle.spec_protocol.specs.Sound.{IsWithinLimits}
+use Rattle.spec_run.specs.Runs.{diverges}
+use Rattle.spec_run.specs.Texts.{summary_text}
+use Rattle.spec_program.specs.Outcomes.{Finishes, outcome_for, writes_for}
+use Rattle.spec_program.specs.Stages.{Refused}
+use Rattle.spec_program.specs.Tasks.{Task, setup_in}
+use Rattle.spec_program.specs.Works.{Work, IsWithin}
+use Rattle.spec_program.specs.Writes.{Write}
+use Rattle.dl_commands.specs.declared.job.Job.{Job}
+use Rattle.dl_commands.specs.declared.writing.Content.{Content}
+use Rattle.dl_commands.specs.declared.writing.NamedContent.{NamedContent}
+
+-- the bytes that a file is to hold
+abbrev pub bytes_in : Content → List ℕ
+bytes_in (Content.Bytes bytes) = bytes.items
+bytes_in (Content.Log log) = bytes_told log
+
+-- logs are written in pieces
+abbrev pub is_in_pieces : Content → Bool
+is_in_pieces (Content.Bytes bytes) = false
+is_in_pieces (Content.Log log) = true
+
+abbrev pub write_of : NamedContent → Write
+write_of w = record { name = string_bytes w.name; bytes = bytes_in w.content; in_pieces = is_in_pieces w.content }
+
+abbrev pub writes_of : List NamedContent → List Write
+writes_of ws = map write_of ws
+
+-- what the run of that schedule comes to, on a machine within its limits
+pub record IsRunOf (p : PlanValues) (s : Setup) (es : List Event) (job : Job) : Type 0 where
+  pub limits : IsWithinLimits s
+  pub writes : writes_of job.writes.items ≡ writes_for p s es
+  pub text : job.text.items ≡ summary_text s es
+  pub diverged : job.diverged ≡ diverges s.spheres
+
+-- there is a task, and this is what its run comes to
+abbrev pub IsTaskJob : Result Task Refused → Job → Type 0
+IsTaskJob task job = (t : Task) × (task ≡ Ok t) × IsRunOf t.plan (setup_in t) t.events job
+
+-- what a command is to do is computed: what its outcome writes and says, and it is within the limits
+pub record IsJob (work : Work) (job : Job) : Type 0 where
+  pub within : IsWithin work
+  pub outcome : outcome_for work ≡ Finishes job.diverged (writes_of job.writes.items) job.text.items
+
+-- there is something to do, and this is what it comes to
+abbrev pub IsJobOf : Result Work Refused → Job → Type 0
+IsJobOf work job = (w : Work) × (work ≡ Ok w) × IsJob w job

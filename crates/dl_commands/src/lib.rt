@@ -1,0 +1,21 @@
+//! The commands: what the words of one ask for is computed from the files that it names, written, and said. Its one call is the
+//! program's.
+#![tactic(auto)]
+
+mod assembling;
+mod computing;
+mod drilling;
+mod ending;
+mod inspecting;
+mod job;
+mod making;
+mod preparing;
+mod roles;
+mod running;
+mod telling;
+mod top;
+mod walking;
+mod writing;
+mod written;
+
+pub use top::{delorean, delorean_in_memory};

@@ -1,0 +1,153 @@
+//! The program's one call.
+ghost use Rattle.std.specs.Prelude.{◌≡◌, ◌⊎◌, ℕ, List, None, Some, true, false};
+ghost use Rattle.dl_files.specs.Contents.{Contents, IsLast};
+ghost use Rattle.dl_files.specs.Count.{Rose};
+ghost use Rattle.spec_program.specs.declared.status.Status.{Status};
+ghost use Rattle.dl_words.specs.Commands.{CommandValues, Run, Drill, command_of};
+ghost use Rattle.spec_program.specs.Done.{IsDone};
+ghost use Rattle.spec_program.specs.Ends.{Stands, Took, TookAll, is_done, is_refusal, is_of_files, is_of_sink, reads_of, status_in, text_in};
+ghost use Rattle.spec_program.specs.Headline.{Headline};
+ghost use Rattle.spec_program.specs.Lines.{fault_line as fault_text, usage_line as usage_text};
+ghost use Rattle.spec_program.specs.Outcomes.{outcome_of};
+ghost use Rattle.spec_program.specs.Outside.{in_memory};
+ghost use Rattle.dl_commands.specs.Jobs.{writes_of};
+ghost use Rattle.dl_commands.specs.Performed.{IsPerformed};
+ghost use Rattle.dl_commands.specs.Texts.{texts};
+
+use crate::ending::{fail, say, stop};
+use crate::job::Job;
+use crate::preparing::prepare;
+use crate::writing::Stop;
+use crate::written::write_all;
+use dl_files::{Files, GoodFiles, GoodSink, Sink};
+use spec_program::status::Status;
+use std::alloc::Global;
+
+/// Does what the words ask for, over the files and the sink, and answers how that ended.
+///
+/// `run PLAN` runs the machine of the plan: it writes the logs, the accounts, the console and the report that the plan names,
+/// and puts the summary into the sink. `inspect LOG` puts the log as text, and `walk IMAGE MEMORY LOG` the account of the
+/// log's play on the image. `make NUMBER NAME` writes a generated image, and `drill NUMBER` records and replays one in memory.
+/// `asm SOURCE NAME` writes the image of a source.
+pub fn delorean<F: Files, O: Sink>(
+    alloc: Global,
+    words: &[&str],
+    files: &mut F,
+    out: &mut O,
+) -> Status
+    // What 0 and 1 say of a run.
+    ensures headline { (plan : List ℕ) (m : Contents)
+        → command_of (texts words.now) ≡ Some (Run plan) → F.told files.old ≡ Some m → is_done result ≡ true
+        → Headline plan m (F.told files.new) (O.taken out.old) (O.taken out.new) result }
+
+    // What they say of each command, of `inspect`, `walk`, `make`, `drill` and `asm` too.
+    ensures done { (command : CommandValues) (m : Contents)
+        → command_of (texts words.now) ≡ Some command → F.told files.old ≡ Some m → is_done result ≡ true
+        → IsDone command m (F.told files.new) (O.taken out.old) (O.taken out.new) result }
+
+    // A drill is done, for every number, but where memory or the sink is wanting.
+    ensures drill { (number : ℕ) (m : Contents)
+        → command_of (texts words.now) ≡ Some (Drill number) → F.told files.old ≡ Some m
+        → (result ≡ Status.Done) ⊎ ((result ≡ Status.Sink) ⊎ (result ≡ Status.Memory)) }
+
+    // What each answer says.
+    ensures stands { (m : Contents) → F.told files.old ≡ Some m
+        → Stands (outcome_of (texts words.now) m) (reads_of (texts words.now) m) m
+        (record {
+          told = F.told files.old;
+          faults = F.count files.old;
+          last = F.last_fault files.old;
+          taken = O.taken out.old;
+          sink_faults = O.count out.old;
+        })
+        (record {
+          told = F.told files.new;
+          faults = F.count files.new;
+          last = F.last_fault files.new;
+          taken = O.taken out.new;
+          sink_faults = O.count out.new;
+        })
+        result }
+
+    // The line of a refusal, and of a fault, is said whole where the sink's count did not rise.
+    ensures whole { (m : Contents) → F.told files.old ≡ Some m
+        → is_refusal result ≡ true → (Rose (O.count out.old) (O.count out.new) → ⊥)
+        → TookAll (text_in (outcome_of (texts words.now) m)) (O.taken out.old) (O.taken out.new) }
+    ensures fault_said { result ≡ Status.Fault → (Rose (O.count out.old) (O.count out.new) → ⊥)
+        → (name : List ℕ) × IsLast (F.last_fault files.new) name
+        × TookAll (fault_text name) (O.taken out.old) (O.taken out.new) }
+
+    // What each answer shows, also where no contents are told.
+    ensures files_steady { is_of_files result ≡ false → F.count files.new ≡ F.count files.old }
+    ensures sink_steady { is_of_sink result ≡ false → O.count out.new ≡ O.count out.old }
+    ensures said { (text : List ℕ) × Took text (O.taken out.old) (O.taken out.new) }
+    ensures usage_said { result ≡ Status.Usage → Took usage_text (O.taken out.old) (O.taken out.new) }
+    ensures usage_whole { result ≡ Status.Usage → (Rose (O.count out.old) (O.count out.new) → ⊥)
+        → TookAll usage_text (O.taken out.old) (O.taken out.new) }
+    ensures usage { result ≡ Status.Usage → command_of (texts words.now) ≡ None }
+    ensures no_command { command_of (texts words.now) ≡ None
+        → (result ≡ Status.Usage) ⊎ (result ≡ Status.Memory) }
+    ensures fault { result ≡ Status.Fault → Rose (F.count files.old) (F.count files.new) }
+    ensures sink { result ≡ Status.Sink → Rose (O.count out.old) (O.count out.new) }
+    ensures absent { F.told files.old ≡ None → result ≡ Status.Absent
+        → Rose (F.count files.old) (F.count files.new) }
+
+    // Where no count rose, the answer is the outcome's, or memory ran out.
+    ensures complete { (m : Contents) → F.told files.old ≡ Some m
+        → (Rose (F.count files.old) (F.count files.new) → ⊥)
+        → (Rose (O.count out.old) (O.count out.new) → ⊥)
+        → (result ≡ status_in (outcome_of (texts words.now) m)) ⊎ (result ≡ Status.Memory) }
+{
+    match prepare(alloc, words, files) {
+        Ok(job) => perform(alloc, &job, files, out),
+        Err(halt) => stop(out, halt),
+    }
+}
+
+/// The same over files and a sink in memory that never fail: then no fault is answered, of a file or of the sink.
+pub fn delorean_in_memory(
+    alloc: Global,
+    words: &[&str],
+    files: &mut GoodFiles,
+    out: &mut GoodSink,
+) -> Status
+    ensures done { (command : CommandValues)
+        → command_of (texts words.now) ≡ Some command → is_done result ≡ true
+        → IsDone command files.old (Some files.new) (Some out.old) (Some out.new) result }
+    ensures stands { Stands (outcome_of (texts words.now) files.old) (reads_of (texts words.now) files.old) files.old
+        (in_memory files.old out.old) (in_memory files.new out.new) result }
+    ensures whole { is_refusal result ≡ true
+        → TookAll (text_in (outcome_of (texts words.now) files.old)) (Some out.old) (Some out.new) }
+    ensures outcome { (result ≡ status_in (outcome_of (texts words.now) files.old))
+        ⊎ (result ≡ Status.Memory) }
+    ensures no_fault { result ≡ Status.Fault → ⊥ }
+    ensures no_sink { result ≡ Status.Sink → ⊥ }
+{
+    delorean(alloc, words, files, out)
+}
+
+// Writes the files, and then says the text.
+fn perform<F: Files, O: Sink>(alloc: Global, job: &Job, files: &mut F, out: &mut O) -> Status
+    ensures { IsPerformed job.now.diverged (writes_of job.now.writes.items) job.now.text.items
+        (record {
+          told = F.told files.old;
+          faults = F.count files.old;
+          last = F.last_fault files.old;
+          taken = O.taken out.old;
+          sink_faults = O.count out.old;
+        })
+        (record {
+          told = F.told files.new;
+          faults = F.count files.new;
+          last = F.last_fault files.new;
+          taken = O.taken out.new;
+          sink_faults = O.count out.new;
+        })
+        result }
+{
+    match write_all(files, &job.writes) {
+        Ok(()) => say(out, job),
+        Err(Stop::Failed(i)) => fail(alloc, out, job.writes[i].name.as_str()),
+        Err(Stop::OutOfMemory) => Status::Memory,
+    }
+}

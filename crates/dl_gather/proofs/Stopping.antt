@@ -1,0 +1,140 @@
+-- A part that could not be read, or is refused, stops the whole that it is of.
+use Rattle.std.proofs.Common.{◌≡◌, ℕ, List, Option, Some, None, option_to_list, IsSome, Result, Ok, Err, ok_or, inl, inr, refl, sym, ◌∙◌, ap, subst}
+use Rattle.std.specs.FinMap.{get}
+use Rattle.dl_files.specs.Contents.{Contents}
+use Rattle.dl_files.specs.Count.{Rose}
+use Rattle.dl_plan.specs.Values.{ScheduleValues, Script, Seeded, RoleValues, Plain, Record, Replay, SphereValues}
+use Rattle.spec_program.specs.Ends.{IsReadNext}
+use Rattle.spec_program.specs.Files.{ScheduleRead, RoleRead, SphereRead, log_at, read_at, schedule_read, input_read, role_read, sphere_read}
+use Rattle.spec_program.specs.Stages.{Refused, refusing, ◌>>◌}
+use Rattle.spec_program.specs.Tasks.{absent}
+use Rattle.spec_program.proofs.Turns.{AreThere}
+use Rattle.dl_gather.specs.declared.halt.Halt.{Halt}
+use Rattle.dl_gather.specs.Halts.{IsFault, Unread, Halts, Refuses, IsNotUsage}
+use Rattle.dl_gather.specs.Reads.{read_for_schedule, read_for_role, read_for_sphere}
+
+-- ---- one stage after another
+
+pub err_then : {A B E : Type 0} (o : Result A E) (f : A → Result B E) (e : E) → o ≡ Err e → (o >> f) ≡ Err e
+err_then o f e is = ap (λ x. x >> f) is
+
+pub ok_then : {A B E : Type 0} (o : Result A E) (f : A → Result B E) (a : A) → o ≡ Ok a → (o >> f) ≡ f a
+ok_then o f a is = ap (λ x. x >> f) is
+
+-- ---- parts
+
+-- what is absent in the part is so in the whole, and the turns of the part's names are turns in the whole
+pub record IsPart {A B : Type 0} (told : Option Contents) (names all : List (List ℕ)) (part : Contents → Result A (List ℕ)) (whole : Contents → Result B (List ℕ)) : Type 0 where
+  pub absent : (m : Contents) → told ≡ Some m → (name : List ℕ) → part m ≡ Err name → whole m ≡ Err name
+  pub next : (m : Contents) → told ≡ Some m → (name : List ℕ) → IsReadNext names m name → IsReadNext all m name
+
+part_fault : (told seen : Option Contents) (reads all : Contents → List (List ℕ)) (start old new : ℕ) (last : Option (List ℕ)) (name : List ℕ) → seen ≡ told → old ≡ start
+    → ((m : Contents) → told ≡ Some m → IsReadNext (reads m) m name → IsReadNext (all m) m name) → IsFault seen reads old new last name → IsFault told all start new last name
+part_fault told seen reads all start old new last name same from next f = record {
+  counted = subst (λ (x : ℕ). Rose x new) from f.counted;
+  named = f.named;
+  next = λ m e. next m e (f.next m (same ∙ e));
+}
+
+pub unread_in : {A B : Type 0} (told seen : Option Contents) (names all : List (List ℕ)) (part : Contents → Result A (List ℕ)) (whole : Contents → Result B (List ℕ)) (start old new : ℕ) (last : Option (List ℕ)) (h : Halt)
+    → seen ≡ told → old ≡ start → IsPart told names all part whole → Unread seen names part old new last h → Unread told all whole start new last h
+unread_in told seen names all part whole start old new last (Halt.Refused why text) same from p u = (
+  u.0,
+  (u.1.0, u.1.1, (λ m e. p.absent m e u.1.0 (u.1.2 m (same ∙ e)))),
+  (λ m e. u.2 m (same ∙ e) ∙ from),
+  (λ e. subst (λ (x : ℕ). Rose x new) from (u.3 (same ∙ e))),
+)
+unread_in told seen names all part whole start old new last (Halt.Fault text) same from p u =
+    (u.0, u.1, part_fault told seen (λ _. names) (λ _. all) start old new last u.0 same from (λ m e. p.next m e u.0) u.2)
+unread_in told seen names all part whole start old new last Halt.OutOfMemory same from p (inl steady) = inl (λ m e. steady m (same ∙ e) ∙ from)
+unread_in told seen names all part whole start old new last Halt.OutOfMemory same from p (inr (name, f)) =
+    inr (name, part_fault told seen (λ _. names) (λ _. all) start old new last name same from (λ m e. p.next m e name) f)
+
+-- ---- the command
+
+-- a file that could not be read stops the stage that begins with reading it, where its turns are turns there
+pub unread_halts : {A B : Type 0} (told : Option Contents) (names : List (List ℕ)) (reads : Contents → List (List ℕ)) (part : Contents → Result A (List ℕ)) (next : Contents → A → Result B Refused) (old new : ℕ) (last : Option (List ℕ)) (h : Halt)
+    → ((m : Contents) (name : List ℕ) → told ≡ Some m → IsReadNext names m name → IsReadNext (reads m) m name)
+    → Unread told names part old new last h → Halts told (λ m. refusing absent (part m) >> next m) reads old new last h
+unread_halts told names reads part next old new last (Halt.Refused why text) turns u = (
+  (λ m e.
+      ap (λ o. refusing absent o >> next m) (u.1.2 m e)
+      ∙ (λ i. Err (record { why = sym u.0 i; line = sym u.1.1 i }))),
+  u.2,
+  (λ other. absurd (other u.0)),
+  (λ e _. u.3 e),
+)
+unread_halts told names reads part next old new last (Halt.Fault text) turns u = (u.0, u.1, part_fault told told (λ _. names) reads old old new last u.0 refl refl (λ m e. turns m u.0 e) u.2)
+unread_halts told names reads part next old new last Halt.OutOfMemory turns (inl steady) = inl steady
+unread_halts told names reads part next old new last Halt.OutOfMemory turns (inr (name, f)) = inr (name, part_fault told told (λ _. names) reads old old new last name refl refl (λ m e. turns m name e) f)
+
+-- a stop of the stage is one of the whole, after what gave no stop
+pub halts_in : {A B : Type 0} (told seen : Option Contents) (stage : Contents → Result A Refused) (whole : Contents → Result B Refused) (reads all : Contents → List (List ℕ)) (start old new : ℕ) (last : Option (List ℕ)) (h : Halt)
+    → seen ≡ told → old ≡ start → ((m : Contents) → told ≡ Some m → (r : Refused) → stage m ≡ Err r → whole m ≡ Err r)
+    → ((m : Contents) (name : List ℕ) → told ≡ Some m → IsReadNext (reads m) m name → IsReadNext (all m) m name)
+    → Halts seen stage reads old new last h → Halts told whole all start new last h
+halts_in told seen stage whole reads all start old new last (Halt.Refused why text) same from errs turns u = (
+  (λ m e. errs m e _ (u.0 m (same ∙ e))),
+  (λ m e. u.1 m (same ∙ e) ∙ from),
+  (λ other. u.2 other ∙ from),
+  (λ e a. subst (λ (x : ℕ). Rose x new) from (u.3 (same ∙ e) a)),
+)
+halts_in told seen stage whole reads all start old new last (Halt.Fault text) same from errs turns u =
+    (u.0, u.1, part_fault told seen reads all start old new last u.0 same from (λ m e. turns m u.0 e) u.2)
+halts_in told seen stage whole reads all start old new last Halt.OutOfMemory same from errs turns (inl steady) = inl (λ m e. steady m (same ∙ e) ∙ from)
+halts_in told seen stage whole reads all start old new last Halt.OutOfMemory same from errs turns (inr (name, f)) =
+    inr (name, part_fault told seen reads all start old new last name same from (λ m e. turns m name e) f)
+
+-- what is refused once the files are read stops the whole
+pub refused_halts : {A B : Type 0} (told : Option Contents) (stage : Result A Refused) (whole : Contents → Result B Refused) (reads : Contents → List (List ℕ)) (old new : ℕ) (last : Option (List ℕ)) (h : Halt)
+    → ((m : Contents) → told ≡ Some m → (r : Refused) → stage ≡ Err r → whole m ≡ Err r) → new ≡ old → Refuses stage h → Halts told whole reads old new last h
+refused_halts told stage whole reads old new last (Halt.Refused why text) errs steady u = ((λ m e. errs m e _ u.0), (λ m e. steady), (λ other. steady), (λ e a. absurd (u.1 a)))
+refused_halts told stage whole reads old new last (Halt.Fault text) errs steady u = absurd u
+refused_halts told stage whole reads old new last Halt.OutOfMemory errs steady u = inl (λ m e. steady)
+
+-- a stage that is refused stops the stages after it
+pub refuses_in : {A B : Type 0} (stage : Result A Refused) (whole : Result B Refused) (h : Halt) → ((r : Refused) → stage ≡ Err r → whole ≡ Err r) → Refuses stage h → Refuses whole h
+refuses_in stage whole (Halt.Refused why text) errs u = (errs _ u.0, u.1, u.2)
+refuses_in stage whole (Halt.Fault text) errs u = absurd u
+refuses_in stage whole Halt.OutOfMemory errs u = tt
+
+-- files that could not be read are no usage
+pub unread_not_usage : {A : Type 0} (told : Option Contents) (names : List (List ℕ)) (part : Contents → Result A (List ℕ)) (old new : ℕ) (last : Option (List ℕ)) (h : Halt) → Unread told names part old new last h → IsNotUsage h
+unread_not_usage told names part old new last (Halt.Refused why text) u = λ e. absurd (cc)
+unread_not_usage told names part old new last (Halt.Fault text) u = tt
+unread_not_usage told names part old new last Halt.OutOfMemory u = tt
+
+-- ---- what is there, once a part is read
+
+there_at : (m : Contents) (name bytes : List ℕ) (o : Option (List ℕ)) → ok_or o name ≡ Ok bytes → IsSome o
+there_at m name bytes None e = absurd cc
+there_at m name bytes (Some b) e = refl
+
+pub file_there : (m : Contents) (name bytes : List ℕ) → read_at m name ≡ Ok bytes → IsSome (get m name)
+file_there m name bytes e = there_at m name bytes (get m name) e
+
+then_ok : {A B E : Type 0} (o : Result A E) (f : A → Result B E) (b : B) → (o >> f) ≡ Ok b → (a : A) × (o ≡ Ok a) × (f a ≡ Ok b)
+then_ok (Err x) f b e = absurd cc
+then_ok (Ok a) f b e = (a, refl, e)
+
+pub schedule_there : (m : Contents) (s : ScheduleValues) (r : ScheduleRead) → schedule_read m s ≡ Ok r → AreThere m (read_for_schedule s)
+schedule_there m (Script name) r e = let t = then_ok (read_at m name) _ r e in (file_there m name t.0 t.1, tt)
+schedule_there m (Seeded n) r e = tt
+
+pub input_there : (m : Contents) (o : Option (List ℕ)) (bytes : List ℕ) → input_read m o ≡ Ok bytes → AreThere m (option_to_list o)
+input_there m None bytes e = tt
+input_there m (Some name) bytes e = (file_there m name bytes e, tt)
+
+role_there : (m : Contents) (role : RoleValues) (r : RoleRead) → role_read m role ≡ Ok r → AreThere m (read_for_role role)
+role_there m Plain r e = tt
+role_there m (Record mode log) r e = tt
+role_there m (Replay log) r e =
+    let read = then_ok (log_at m log) _ r e in
+    let t = then_ok (read_at m log) _ read.0 read.1 in
+    (file_there m log t.0 t.1, tt)
+
+pub sphere_there : (m : Contents) (s : SphereValues) (r : SphereRead) → sphere_read m s ≡ Ok r → AreThere m (read_for_sphere s)
+sphere_there m s r e =
+    let image = then_ok (read_at m s.image) _ r e in
+    let role = then_ok (role_read m s.role) _ r image.2 in
+    (file_there m s.image image.0 image.1, role_there m s.role role.0 role.1)

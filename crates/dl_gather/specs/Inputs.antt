@@ -1,0 +1,48 @@
+-- The files that a plan has read, as the definitions see them, and what is true of them.
+use Rattle.std.specs.Prelude.{◌≡◌, ◌≤◌, ◌^◌, ⊤, List, map, length}
+use Rattle.std.specs.List.{AllByRecursion}
+use Rattle.dl_elf.specs.Images.{Image}
+use Rattle.dl_logio.specs.Files.{read_view}
+use Rattle.dl_plan.specs.Values.{PlanValues, IsMemory}
+use Rattle.dl_sphere.specs.declared.setup.SphereSetup.{SphereSetup}
+use Rattle.spec_program.specs.Files.{ScheduleRead, ScriptRead, EventsDrawn, RoleRead, PlainRead, RecordRead, ReplayRead, SphereRead, PlanRead}
+use Rattle.dl_gather.specs.declared.inputs.ScheduleInputs.{ScheduleInputs}
+use Rattle.dl_gather.specs.declared.inputs.RoleInputs.{RoleInputs}
+use Rattle.dl_gather.specs.declared.inputs.SphereInputs.{SphereInputs}
+use Rattle.dl_gather.specs.declared.inputs.Inputs.{Inputs}
+
+abbrev pub schedule_view : ScheduleInputs → ScheduleRead
+schedule_view (ScheduleInputs.Script bytes) = ScriptRead bytes.items
+schedule_view (ScheduleInputs.Drawn events) = EventsDrawn events
+
+abbrev pub role_view : RoleInputs → RoleRead
+role_view RoleInputs.Plain = PlainRead
+role_view (RoleInputs.Record mode) = RecordRead mode
+role_view (RoleInputs.Replay log) = ReplayRead (read_view log)
+
+abbrev pub sphere_view : SphereInputs → SphereRead
+sphere_view s = record { image = s.image.items; memory = s.memory; role = role_view s.role }
+
+abbrev pub inputs_view : Inputs → PlanRead
+inputs_view r = record { schedule = schedule_view r.schedule; input = r.input.items; spheres = map sphere_view r.spheres.items }
+
+-- the image of a sphere before it starts
+abbrev pub image_in : SphereSetup → Image
+image_in s = s.image
+
+-- ---- what is true of them
+
+-- the events that are drawn are at most 2^24
+abbrev pub IsScheduleRead : ScheduleRead → Type 0
+IsScheduleRead (ScriptRead bytes) = ⊤
+IsScheduleRead (EventsDrawn events) = events ≤ 2 ^ 24
+
+-- each memory has a size
+abbrev pub HaveMemories : List SphereRead → Type 0
+HaveMemories spheres = AllByRecursion (λ (s : SphereRead). IsMemory s.memory) spheres
+
+-- the plan's numbers are within their limits, and each of its spheres is read
+pub record AreOf (p : PlanValues) (r : PlanRead) : Type 0 where
+  pub schedule : IsScheduleRead r.schedule
+  pub count : length r.spheres ≡ length p.spheres
+  pub memories : HaveMemories r.spheres

@@ -1,0 +1,47 @@
+//! The events of a plan.
+ghost use Rattle.std.specs.Prelude.{◌≡◌, Ok, IfOk, IfErr};
+ghost use Rattle.dl_run.specs.Schedules.{AreFew, events_in};
+ghost use Rattle.dl_event.specs.Script.{script_of};
+ghost use Rattle.spec_program.specs.Built.{bad_script, events_of};
+ghost use Rattle.spec_program.specs.Stages.{refusing};
+ghost use Rattle.dl_gather.specs.Halts.{Refuses};
+ghost use Rattle.dl_gather.specs.Inputs.{IsScheduleRead, schedule_view};
+
+use crate::halt::Halt;
+use crate::inputs::ScheduleInputs;
+use crate::lines::script_line;
+use dl_event::{Event, ScriptError, parse_script};
+use dl_run::Schedule;
+use spec_program::status::Refusal;
+use std::alloc::Global;
+
+/// The events of the script, or as many as are to be drawn from the seed.
+pub fn read_events(alloc: Global, seed: u64, inputs: ScheduleInputs) -> Result<Schedule, Halt>
+    requires { IsScheduleRead (schedule_view inputs) }
+    ensures events { IfOk result (λ s. events_of seed (schedule_view inputs) ≡ Ok (events_in s)) }
+    ensures few { IfOk result (λ s. AreFew (events_in s)) }
+    ensures halt { IfErr result (Refuses (events_of seed (schedule_view inputs))) }
+{
+    match inputs {
+        ScheduleInputs::Script(bytes) => match read_script(alloc, &bytes) {
+            Ok(events) => Ok(Schedule::Script(events)),
+            Err(halt) => Err(halt),
+        },
+        ScheduleInputs::Drawn(events) => Ok(Schedule::Seeded { seed, events }),
+    }
+}
+
+fn read_script(alloc: Global, bytes: &[u8]) -> Result<Vec<Event>, Halt>
+    ensures events { IfOk result (λ events. script_of bytes.now ≡ Ok events.items) }
+    ensures few { IfOk result (λ events. AreFew events.items) }
+    ensures halt { IfErr result (Refuses (refusing bad_script (script_of bytes.now))) }
+{
+    match parse_script(alloc, bytes) {
+        Ok(events) => Ok(events),
+        Err(ScriptError::Refused(line)) => Err(Halt::Refused(
+            Refusal::Grammar,
+            script_line(alloc, line)?,
+        )),
+        Err(ScriptError::OutOfMemory) => Err(Halt::OutOfMemory),
+    }
+}

@@ -1,0 +1,165 @@
+//! Reading what a plan names, part after part in the order of the work, and nothing after a file that is absent or fails.
+ghost use Rattle.std.specs.Prelude.{◌≡◌, Some, Ok, IfOk, IfErr, OnOk, flat_map, length, map, option_map, option_to_list, string_bytes};
+ghost use Rattle.dl_files.specs.Contents.{Contents};
+ghost use Rattle.dl_plan.specs.Files.{input_names};
+ghost use Rattle.dl_plan.specs.Values.{IsPlan, IsSchedule, AreMemories, plan_view, schedule_view, role_view, sphere_view};
+ghost use Rattle.spec_program.specs.Files.{plan_read, schedule_read, input_read, role_read, sphere_read, spheres_read};
+ghost use Rattle.dl_gather.specs.Halts.{Unread};
+ghost use Rattle.dl_gather.specs.Inputs.{AreOf, IsScheduleRead, HaveMemories, inputs_view, schedule_view as schedule_inputs, role_view as role_inputs, sphere_view as sphere_inputs};
+ghost use Rattle.dl_gather.specs.Reads.{read_for_schedule, read_for_role, read_for_sphere};
+
+use crate::halt::Halt;
+use crate::inputs::{Inputs, RoleInputs, ScheduleInputs, SphereInputs};
+use crate::reading::{read_file, read_log};
+use dl_files::Files;
+use dl_plan::{Plan, Role, Schedule, Sphere};
+use std::alloc::Global;
+
+/// The files that the plan has read: the script, the input, and of each sphere its image and its log.
+pub fn read_inputs<F: Files>(alloc: Global, files: &mut F, plan: &Plan) -> Result<Inputs, Halt>
+    requires { IsPlan (plan_view plan.now) }
+    ensures read { IfOk result (λ r. (m : Contents) → F.told files.old ≡ Some m
+        → plan_read m (plan_view plan.now) ≡ Ok (inputs_view r)) }
+    ensures limits { IfOk result (λ r. AreOf (plan_view plan.now) (inputs_view r)) }
+    ensures halt { IfErr result (Unread (F.told files.old) (input_names (plan_view plan.now))
+        (λ m. plan_read m (plan_view plan.now)) (F.count files.old) (F.count files.new) (F.last_fault files.new)) }
+    ensures kept { F.told files.new ≡ F.told files.old }
+    ensures steady { OnOk result (F.count files.new ≡ F.count files.old) }
+{
+    let schedule = match read_schedule(alloc, files, &plan.schedule) {
+        Ok(schedule) => schedule,
+        Err(halt) => return Err(halt),
+    };
+    let input = match read_input(alloc, files, &plan.input) {
+        Ok(input) => input,
+        Err(halt) => return Err(halt),
+    };
+    let spheres = match read_spheres(alloc, files, &plan.spheres) {
+        Ok(spheres) => spheres,
+        Err(halt) => return Err(halt),
+    };
+    Ok(Inputs {
+        schedule,
+        input,
+        spheres,
+    })
+}
+
+fn read_schedule<F: Files>(
+    alloc: Global,
+    files: &mut F,
+    schedule: &Schedule,
+) -> Result<ScheduleInputs, Halt>
+    requires { IsSchedule (schedule_view schedule.now) }
+    ensures read { IfOk result (λ s. (m : Contents) → F.told files.old ≡ Some m
+        → schedule_read m (schedule_view schedule.now) ≡ Ok (schedule_inputs s)) }
+    ensures few { IfOk result (λ s. IsScheduleRead (schedule_inputs s)) }
+    ensures halt { IfErr result (Unread (F.told files.old) (read_for_schedule (schedule_view schedule.now))
+        (λ m. schedule_read m (schedule_view schedule.now)) (F.count files.old) (F.count files.new) (F.last_fault files.new)) }
+    ensures kept { F.told files.new ≡ F.told files.old }
+    ensures steady { OnOk result (F.count files.new ≡ F.count files.old) }
+{
+    match schedule {
+        Schedule::Script(name) => match read_file(alloc, files, name.as_str()) {
+            Ok(bytes) => Ok(ScheduleInputs::Script(bytes)),
+            Err(halt) => Err(halt),
+        },
+        Schedule::Seeded { events } => Ok(ScheduleInputs::Drawn(*events)),
+    }
+}
+
+fn read_input<F: Files>(
+    alloc: Global,
+    files: &mut F,
+    name: &Option<String>,
+) -> Result<Vec<u8>, Halt>
+    ensures read { IfOk result (λ bytes. (m : Contents) → F.told files.old ≡ Some m
+        → input_read m (option_map string_bytes name.now) ≡ Ok bytes.items) }
+    ensures halt { IfErr result (Unread (F.told files.old) (option_to_list (option_map string_bytes name.now))
+        (λ m. input_read m (option_map string_bytes name.now)) (F.count files.old) (F.count files.new) (F.last_fault files.new)) }
+    ensures kept { F.told files.new ≡ F.told files.old }
+    ensures steady { OnOk result (F.count files.new ≡ F.count files.old) }
+{
+    match name {
+        Some(name) => match read_file(alloc, files, name.as_str()) {
+            Ok(bytes) => Ok(bytes),
+            Err(halt) => Err(halt),
+        },
+        None => Ok(Vec::new(alloc)),
+    }
+}
+
+fn read_spheres<F: Files>(
+    alloc: Global,
+    files: &mut F,
+    spheres: &[Sphere],
+) -> Result<Vec<SphereInputs>, Halt>
+    requires { AreMemories (map sphere_view spheres.now) }
+    ensures read { IfOk result (λ ss. (m : Contents) → F.told files.old ≡ Some m
+        → spheres_read m (map sphere_view spheres.now) ≡ Ok (map sphere_inputs ss.items)) }
+    ensures count { IfOk result (λ ss. length ss.items ≡ length spheres.now) }
+    ensures memories { IfOk result (λ ss. HaveMemories (map sphere_inputs ss.items)) }
+    ensures halt { IfErr result (Unread (F.told files.old) (flat_map read_for_sphere (map sphere_view spheres.now))
+        (λ m. spheres_read m (map sphere_view spheres.now)) (F.count files.old) (F.count files.new) (F.last_fault files.new)) }
+    ensures kept { F.told files.new ≡ F.told files.old }
+    ensures steady { OnOk result (F.count files.new ≡ F.count files.old) }
+{
+    let mut read = Vec::new(alloc);
+    for sphere in spheres {
+        let sphere = match read_sphere(alloc, files, sphere) {
+            Ok(sphere) => sphere,
+            Err(halt) => return Err(halt),
+        };
+        match read.push(sphere) {
+            Ok(()) => {}
+            Err(_) => return Err(Halt::OutOfMemory),
+        }
+    }
+    Ok(read)
+}
+
+fn read_sphere<F: Files>(
+    alloc: Global,
+    files: &mut F,
+    sphere: &Sphere,
+) -> Result<SphereInputs, Halt>
+    ensures read { IfOk result (λ s. (m : Contents) → F.told files.old ≡ Some m
+        → sphere_read m (sphere_view sphere.now) ≡ Ok (sphere_inputs s)) }
+    ensures memory { IfOk result (λ s. s.memory ≡ sphere.now.memory) }
+    ensures halt { IfErr result (Unread (F.told files.old) (read_for_sphere (sphere_view sphere.now))
+        (λ m. sphere_read m (sphere_view sphere.now)) (F.count files.old) (F.count files.new) (F.last_fault files.new)) }
+    ensures kept { F.told files.new ≡ F.told files.old }
+    ensures steady { OnOk result (F.count files.new ≡ F.count files.old) }
+{
+    let image = match read_file(alloc, files, sphere.image.as_str()) {
+        Ok(image) => image,
+        Err(halt) => return Err(halt),
+    };
+    let role = match read_role(alloc, files, &sphere.role) {
+        Ok(role) => role,
+        Err(halt) => return Err(halt),
+    };
+    Ok(SphereInputs {
+        image,
+        memory: sphere.memory,
+        role,
+    })
+}
+
+fn read_role<F: Files>(alloc: Global, files: &mut F, role: &Role) -> Result<RoleInputs, Halt>
+    ensures read { IfOk result (λ r. (m : Contents) → F.told files.old ≡ Some m
+        → role_read m (role_view role.now) ≡ Ok (role_inputs r)) }
+    ensures halt { IfErr result (Unread (F.told files.old) (read_for_role (role_view role.now))
+        (λ m. role_read m (role_view role.now)) (F.count files.old) (F.count files.new) (F.last_fault files.new)) }
+    ensures kept { F.told files.new ≡ F.told files.old }
+    ensures steady { OnOk result (F.count files.new ≡ F.count files.old) }
+{
+    match role {
+        Role::Plain => Ok(RoleInputs::Plain),
+        Role::Record { mode, .. } => Ok(RoleInputs::Record(*mode)),
+        Role::Replay { log } => match read_log(alloc, files, log.as_str()) {
+            Ok(read) => Ok(RoleInputs::Replay(read)),
+            Err(halt) => Err(halt),
+        },
+    }
+}

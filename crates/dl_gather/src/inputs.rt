@@ -1,0 +1,38 @@
+//! The files that a plan has read.
+use dl_logio::LogRead;
+use dl_plan::Mode;
+
+/// What a plan has read.
+#[derive(Drop)]
+pub struct Inputs {
+    pub schedule: ScheduleInputs,
+    /// The devices' input.
+    pub input: Vec<u8>,
+    pub spheres: Vec<SphereInputs>,
+}
+
+/// Where the events come from.
+#[derive(Drop)]
+pub enum ScheduleInputs {
+    /// The bytes of a script.
+    Script(Vec<u8>),
+    /// So many, which are drawn from the plan's seed.
+    Drawn(u32),
+}
+
+/// What a sphere has read, and the bytes of its memory.
+#[derive(Drop)]
+pub struct SphereInputs {
+    pub image: Vec<u8>,
+    pub memory: u32,
+    pub role: RoleInputs,
+}
+
+/// What the role of a sphere has read.
+#[derive(Drop)]
+pub enum RoleInputs {
+    Plain,
+    Record(Mode),
+    /// What the file of a log says.
+    Replay(LogRead),
+}

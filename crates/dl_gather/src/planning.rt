@@ -1,0 +1,37 @@
+//! The plan of a command.
+ghost use Rattle.std.specs.Prelude.{◌≡◌, ◌∷◌, Some, Ok, IfOk, IfErr, OnOk};
+ghost use Rattle.dl_files.specs.Contents.{Contents};
+ghost use Rattle.dl_plan.specs.Values.{IsPlan, plan_view};
+ghost use Rattle.spec_program.specs.Ends.{inputs_of};
+ghost use Rattle.spec_program.specs.Tasks.{plan_at};
+ghost use Rattle.dl_gather.specs.Halts.{Halts, IsNotUsage};
+
+use crate::halt::Halt;
+use crate::lines::plan_line;
+use crate::reading::read_file;
+use dl_files::Files;
+use dl_plan::{Plan, PlanError, read_plan};
+use spec_program::status::Refusal;
+use std::alloc::Global;
+
+/// The plan in the file `name`.
+pub fn load_plan<F: Files>(alloc: Global, files: &mut F, name: &str) -> Result<Plan, Halt>
+    ensures plan { IfOk result (λ p. (m : Contents) → F.told files.old ≡ Some m
+        → plan_at m name.now ≡ Ok (plan_view p)) }
+    ensures limits { IfOk result (λ p. IsPlan (plan_view p)) }
+    ensures halt { IfErr result (Halts (F.told files.old) (λ m. plan_at m name.now)
+        (λ m. name.now ∷ inputs_of (plan_at m name.now)) (F.count files.old) (F.count files.new) (F.last_fault files.new)) }
+    ensures usage { IfErr result IsNotUsage }
+    ensures kept { F.told files.new ≡ F.told files.old }
+    ensures steady { OnOk result (F.count files.new ≡ F.count files.old) }
+{
+    let bytes = match read_file(alloc, files, name) {
+        Ok(bytes) => bytes,
+        Err(halt) => return Err(halt),
+    };
+    match read_plan(alloc, name, &bytes) {
+        Ok(plan) => Ok(plan),
+        Err(PlanError::Refused(rule)) => Err(Halt::Refused(Refusal::Plan, plan_line(alloc, rule)?)),
+        Err(PlanError::OutOfMemory) => Err(Halt::OutOfMemory),
+    }
+}

@@ -1,0 +1,68 @@
+//! A log read from its file.
+ghost use Rattle.std.specs.Prelude.{◌≡◌, ◌≢◌, ◌≤◌, ℕ, List, IfOk, IfErr, OnOk, IsErrOf};
+ghost use Rattle.dl_files.specs.Contents.{IsAbsent, IsLast, IsThere};
+ghost use Rattle.dl_files.specs.Count.{Rose};
+ghost use Rattle.dl_logfmt.specs.Feeding.{HasFed};
+ghost use Rattle.dl_logio.specs.Files.{SaysLog, read_view};
+ghost use Rattle.spec_log.specs.Reading.{read_of};
+
+use crate::PIECE;
+use dl_files::{FileError, Files};
+use dl_logfmt::{Log, LogError, LogReader};
+use std::alloc::Global;
+
+/// What a file says as a log.
+#[derive(Drop)]
+pub enum LogRead {
+    /// The log.
+    Good(Log),
+    /// The number of what is wrong, and the offset of the field or entry where it is, in bytes, as in `LogError`.
+    Malformed(u8, u64),
+}
+
+/// What the file `name` says as a log, in memory of `alloc`. Nothing is read behind a field that isn't good.
+pub fn read_log_file<F: Files>(
+    alloc: Global,
+    files: &mut F,
+    name: &str,
+) -> Result<LogRead, FileError>
+    ensures read { IfOk result (λ r. SaysLog (F.told files.old) name.now (read_view r)) }
+    ensures absent { IsErrOf result FileError.Absent
+        → IsAbsent (F.told files.old) name.now (F.count files.old) (F.count files.new) }
+    ensures there { IfErr result (λ e. e ≢ FileError.Absent → IsThere (F.told files.old) name.now) }
+    ensures failed { IsErrOf result FileError.Failed → Rose (F.count files.old) (F.count files.new) }
+    ensures last { IsErrOf result FileError.Failed → IsLast (F.last_fault files.new) name.now }
+    ensures ok_steady { OnOk result (F.count files.new ≡ F.count files.old) }
+    ensures memory_steady { IsErrOf result FileError.OutOfMemory
+        → F.count files.new ≡ F.count files.old }
+    ensures kept { F.told files.new ≡ F.told files.old }
+    ensures counted { F.count files.old ≤ F.count files.new }
+{
+    let mut reader = LogReader::new(alloc);
+    let mut piece = [0; PIECE];
+    let mut offset = 0;
+    loop {
+        let n = files.read_at(name, offset, &mut piece)?;
+        if n == 0 {
+            return end_of(reader);
+        }
+        match reader.feed(&piece[..n]) {
+            Ok(()) => {}
+            Err(LogError::Malformed(number, at)) => return Ok(LogRead::Malformed(number, at)),
+            Err(LogError::OutOfMemory) => return Err(FileError::OutOfMemory),
+        }
+        offset += n as u64;
+    }
+}
+
+// What the bytes say that a reader was fed, once they are all of the file's.
+fn end_of(reader: LogReader) -> Result<LogRead, FileError>
+    ensures read { IfOk result (λ r. (b : List ℕ) → HasFed b reader → read_of b ≡ read_view r) }
+    ensures memory { IfErr result (λ e. e ≡ FileError.OutOfMemory) }
+{
+    match reader.end() {
+        Ok(log) => Ok(LogRead::Good(log)),
+        Err(LogError::Malformed(number, at)) => Ok(LogRead::Malformed(number, at)),
+        Err(LogError::OutOfMemory) => Err(FileError::OutOfMemory),
+    }
+}

@@ -1,0 +1,9 @@
+-- The bytes of the log that a sphere has.
+use Rattle.std.specs.Prelude.{ℕ, List, [], Option, None, Some}
+use Rattle.spec_log.specs.Bytes.{log_bytes}
+use Rattle.spec_log.specs.declared.LogParts.{LogParts}
+
+-- none, where there is no log
+abbrev pub bytes_told : Option LogParts → List ℕ
+bytes_told None = []
+bytes_told (Some log) = log_bytes log

@@ -1,0 +1,71 @@
+//! Recordings whose instructions meet their edges.
+use super::{PLAN, RUN, holds};
+use dl_commands::delorean_in_memory;
+use dl_files::{Files, GoodFiles, GoodSink};
+use spec_program::status::Status;
+use std::test::Fail;
+
+// DIV and REM of -2^31 by -1; DIV, DIVU, REM and REMU of 7 by 0; MULHSU twice and MULHU. The results stand in x11 to x20.
+const DIVISION_IMAGE: &[u8] =
+    b"\x7fELF\x01\x01\x01\0\0\0\0\0\0\0\0\0\x02\0\xf3\0\x01\0\0\0\0\0\0\04\0\0\0\0\0\0\0\0\0\0\04\0 \0\x01\0\0\0\0\0\0\0\x01\0\0\0T\0\0\0\0\0\0\0\0\0\0\0\xbc\0\0\0\xbc\0\0\0\x07\0\0\0\x04\0\0\0\xb7\x02\0\x80\x93\x82\x02\07\x03\0\0\x13\x03\xf3\xff\xb3\xc5b\x02\xb7\x02\0\x80\x93\x82\x02\07\x03\0\0\x13\x03\xf3\xff3\xe6b\x02\xb7\x02\0\0\x93\x82r\07\x03\0\0\x13\x03\x03\0\xb3\xc6b\x02\xb7\x02\0\0\x93\x82r\07\x03\0\0\x13\x03\x03\03\xd7b\x02\xb7\x02\0\0\x93\x82r\07\x03\0\0\x13\x03\x03\0\xb3\xe7b\x02\xb7\x02\0\0\x93\x82r\07\x03\0\0\x13\x03\x03\03\xf8b\x02\xb7\x02\0\x80\x93\x82\x02\07\x03\0\0\x13\x03\xf3\xff\xb3\xa8b\x02\xb7\x02\0\0\x93\x82\xf2\xff7\x03\0\0\x13\x03\xf3\xff3\xa9b\x02\xb7\x02\0\0\x93\x82\xf2\xff7\x03\0\0\x13\x03\xf3\xff\xb3\xb9b\x02\x93\x08\0\0s\0\0\0";
+
+const DIVISION_SCRIPT: &[u8] =
+    b"step 0\nstep 0\nstep 0\nstep 0\nstep 0\nstep 0\nstep 0\nstep 0\nstep 0\nstep 0\nstep 0\nstep 0\nstep 0\nstep 0\nstep 0\nstep 0\nstep 0\nstep 0\nstep 0\nstep 0\nstep 0\nstep 0\nstep 0\nstep 0\nstep 0\nstep 0\nstep 0\nstep 0\nstep 0\nstep 0\nstep 0\nstep 0\nstep 0\nstep 0\nstep 0\nstep 0\nstep 0\nstep 0\nstep 0\nstep 0\nstep 0\nstep 0\nstep 0\nstep 0\nstep 0\nstep 0\nstep 0\nask 0\nstep 0\nask 0\n";
+
+const DIVISION_LOG: &[u8] =
+    b"DLRN\x01\0\0\0d\0\0\0\x02\0\0\0\x02\0\0\0\0\x02\0\0\0.\0\0\0\0\0\0\0\0\0\0\0\0\0\0\0";
+
+const DIVISION_ACCOUNT: &[u8] =
+    b"c 0 0 46\nc 1 0 0\nt 0 000000BC ended:0 00000000 0 00000000 00000000 00000000 00000000 FFFFFFFF FFFFFFFF 00000000 00000000 00000000 00000000 80000000 00000000 FFFFFFFF FFFFFFFF 00000007 00000007 00000000 FFFFFFFF FFFFFFFE 00000000 00000000 00000000 00000000 00000000 00000000 00000000 00000000 00000000 00000000 00000000 00000000\nm 00000000 B702008093820200370300001303F3FFB3C56202B70200809382020037030000\nm 00000020 1303F3FF33E66202B7020000938272003703000013030300B3C66202B7020000\nm 00000040 93827200370300001303030033D76202B7020000938272003703000013030300\nm 00000060 B3E76202B702000093827200370300001303030033F86202B702008093820200\nm 00000080 370300001303F3FFB3A86202B70200009382F2FF370300001303F3FF33A96202\nm 000000A0 B70200009382F2FF370300001303F3FFB3B96202930800007300000000000000\nend complete 2\n";
+
+// addi x5, x0, 6; jalr x1, 0(x5): it faults with cause 0, and x1 isn't written.
+const JUMP_IMAGE: &[u8] =
+    b"\x7fELF\x01\x01\x01\0\0\0\0\0\0\0\0\0\x02\0\xf3\0\x01\0\0\0\0\0\0\04\0\0\0\0\0\0\0\0\0\0\04\0 \0\x01\0\0\0\0\0\0\0\x01\0\0\0T\0\0\0\0\0\0\0\0\0\0\0\x08\0\0\0\x08\0\0\0\x07\0\0\0\x04\0\0\0\x93\x02`\0\xe7\x80\x02\0";
+
+const JUMP_SCRIPT: &[u8] = b"step 0\nstep 0\nask 0\nstep 0\nask 0\n";
+
+const JUMP_LOG: &[u8] =
+    b"DLRN\x01\0\0\0d\0\0\0\x02\0\0\0\x02\0\0\0\0\x02\0\0\0\x01\0\0\0\0\0\0\0\0\0\0\0\0\0\0\0";
+
+const JUMP_ACCOUNT: &[u8] =
+    b"c 0 0 1\nc 1 0 0\nt 0 00000004 fault:0 00000000 0 00000000 00000000 00000000 00000000 00000006 00000000 00000000 00000000 00000000 00000000 00000000 00000000 00000000 00000000 00000000 00000000 00000000 00000000 00000000 00000000 00000000 00000000 00000000 00000000 00000000 00000000 00000000 00000000 00000000 00000000 00000000\nm 00000000 93026000E7800200000000000000000000000000000000000000000000000000\nend complete 2\n";
+
+#[derive(Clone, Copy)]
+struct Recording {
+    image: &'static [u8],
+    script: &'static [u8],
+    log: &'static [u8],
+    account: &'static [u8],
+}
+
+#[test]
+fn instructions_at_their_edges(rt: HostRuntime) -> Result<(), Fail> {
+    let alloc = rt.alloc();
+    for recording in [
+        Recording {
+            image: DIVISION_IMAGE,
+            script: DIVISION_SCRIPT,
+            log: DIVISION_LOG,
+            account: DIVISION_ACCOUNT,
+        },
+        Recording {
+            image: JUMP_IMAGE,
+            script: JUMP_SCRIPT,
+            log: JUMP_LOG,
+            account: JUMP_ACCOUNT,
+        },
+    ] {
+        let mut files = GoodFiles::new(alloc);
+        files.write("plan.toml", PLAN)?;
+        files.write("s.txt", recording.script)?;
+        files.write("a.elf", recording.image)?;
+        let mut out = GoodSink::new(alloc);
+        assert_eq!(rt;
+            delorean_in_memory(alloc, &RUN, &mut files, &mut out),
+            Status::Done
+        );
+        holds(&rt, alloc, &mut files, "a.log", recording.log);
+        holds(&rt, alloc, &mut files, "a.txt", recording.account);
+    }
+    Ok(())
+}
