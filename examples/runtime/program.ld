@@ -1,14 +1,16 @@
-/* Code, data and zeros one behind the other from address 0 on, in one loaded segment. The stacks are among the zeros, so
-   the plan's memory covers all where it isn't less than the segment. */
+/* Code and constants from address 0 on, then, from a multiple of 256 on, data and zeros: so a small change of the code moves
+   no data, and accounts before and after it can be compared. The stacks are among the zeros, so the plan's memory covers
+   all where it isn't less than the two loaded segments. */
 ENTRY(_start)
-PHDRS { program PT_LOAD FLAGS(7); }
+PHDRS { code PT_LOAD FLAGS(5); data PT_LOAD FLAGS(6); }
 SECTIONS
 {
     . = 0;
-    .text : { KEEP(*(.text.start)) *(.text .text.*) } :program
-    .rodata : { *(.rodata .rodata.* .srodata .srodata.*) } :program
-    .data : { *(.data .data.* .sdata .sdata.*) } :program
-    .bss : { *(.sbss .sbss.* .bss .bss.* COMMON) } :program
+    .text : { KEEP(*(.text.start)) *(.text .text.*) } :code
+    .rodata : { *(.rodata .rodata.* .srodata .srodata.*) } :code
+    . = ALIGN(256);
+    .data : { *(.data .data.* .sdata .sdata.*) } :data
+    .bss : { *(.sbss .sbss.* .bss .bss.* COMMON) } :data
     memory_used = .;
     /DISCARD/ : { *(.comment) *(.note .note.*) *(.eh_frame .eh_frame_hdr) *(.riscv.attributes) }
 }

@@ -1,6 +1,8 @@
 # Where the program, its threads and its interrupts begin, and the one way into the kernel. No code here or in the
 # program may rest on a7: the call that ends an interrupt leaves its own number there.
 
+    .file "start.S" # without this the image has the name of a temporary file
+
     .section .text.start, "ax"
 
 # The first thread starts here with every register 0. What main returns is its exit code.
