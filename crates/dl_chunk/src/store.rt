@@ -112,6 +112,7 @@ impl<G: Sig> Store<G> {
     }
 
     // Stores the masked bytes of a value in a word, and marks its line. `Full`: the word is new, and there is no room.
+    #[inline(always)]
     #[tactic(auto, unfolding(spec_isa::specs::Masks::bytes_of))]
     pub(crate) fn put(&mut self, word: u32, mask: u8, value: u32) -> Result<(), Full>
         requires { word % 4 ≡ 0 }

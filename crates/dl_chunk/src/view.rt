@@ -38,6 +38,7 @@ impl<'a, G: Sig> View for Seen<'a, G> {
         self.memory.size()
     }
 
+    #[inline(always)]
     fn fetch(&mut self, addr: u32) -> Result<u32, u8> {
         if let Some(flight) = self.flights.holder(self.core, self.store.line(addr)) {
             return Err(flight);
@@ -47,10 +48,12 @@ impl<'a, G: Sig> View for Seen<'a, G> {
         Ok(word)
     }
 
+    #[inline(always)]
     fn load(&mut self, word: u32) -> Result<u32, u8> {
         self.fetch(word)
     }
 
+    #[inline(always)]
     fn store(&mut self, word: u32, mask: u8, value: u32) -> Result<(), Full> {
         self.store.put(word, mask, value)
     }

@@ -9,6 +9,7 @@ use crate::word::Word;
 use spec_isa::instr::Instr;
 
 /// The instruction that a word denotes, or none where it is outside the table.
+#[inline(always)]
 pub fn decode(w: u32) -> Option<Instr>
     ensures value { result ≡ denoted w }
     ensures meaning { IsMeaning w result }
@@ -17,6 +18,7 @@ pub fn decode(w: u32) -> Option<Instr>
     by_opcode(Word(w))
 }
 
+#[inline(always)]
 fn by_opcode(w: Word) -> Option<Instr>
     ensures { result ≡ denoted w.0 }
 {
@@ -59,6 +61,7 @@ fn jump_register(w: Word) -> Option<Instr>
     }
 }
 
+#[inline(always)]
 fn branch(w: Word) -> Option<Instr>
     ensures { result ≡ instr_under 0x63 w.0 }
 {
@@ -71,6 +74,7 @@ fn branch(w: Word) -> Option<Instr>
     })
 }
 
+#[inline(always)]
 fn load(w: Word) -> Option<Instr>
     ensures { result ≡ instr_under 0x03 w.0 }
 {
@@ -83,6 +87,7 @@ fn load(w: Word) -> Option<Instr>
     })
 }
 
+#[inline(always)]
 fn store(w: Word) -> Option<Instr>
     ensures { result ≡ instr_under 0x23 w.0 }
 {
@@ -95,6 +100,7 @@ fn store(w: Word) -> Option<Instr>
     })
 }
 
+#[inline(always)]
 fn immediate(w: Word) -> Option<Instr>
     ensures { result ≡ instr_under 0x13 w.0 }
 {
@@ -109,6 +115,7 @@ fn immediate(w: Word) -> Option<Instr>
     }
 }
 
+#[inline(always)]
 fn shift(w: Word) -> Option<Instr>
     ensures { result ≡ shift_in w.0 }
 {
@@ -121,6 +128,7 @@ fn shift(w: Word) -> Option<Instr>
     })
 }
 
+#[inline(always)]
 fn register(w: Word) -> Option<Instr>
     ensures { result ≡ instr_under 0x33 w.0 }
 {

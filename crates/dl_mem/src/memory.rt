@@ -60,6 +60,7 @@ impl Memory {
     }
 
     /// The word at an address inside.
+    #[inline(always)]
     pub fn word(&self, addr: u32) -> u32
         requires aligned { addr % 4 ≡ 0 }
         requires inside { addr + 4 ≤ length self.now }

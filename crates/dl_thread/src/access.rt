@@ -10,6 +10,7 @@ use crate::sight::{Full, View};
 use spec_isa::instr::{LoadOp, StoreOp};
 
 // The word of the byte at `addr`, or the flight that holds it up.
+#[inline(always)]
 pub(crate) fn load_word<V: View>(addr: u32, v: &mut V) -> Result<u32, u8>
     requires { is_inside (length (V.sight v.old).bytes) addr ≡ true }
     ensures value { Answers (V.sight v.old) (addr / 4) result }
@@ -35,6 +36,7 @@ pub(crate) fn taken(op: LoadOp, word: u32, addr: u32) -> u32
 }
 
 // Stores the low byte, half or word of `value` at `addr`.
+#[inline(always)]
 pub(crate) fn store_part<V: View>(op: StoreOp, addr: u32, value: u32, v: &mut V) -> Result<(), Full>
     requires inside { is_inside (length (V.sight v.old).bytes) addr ≡ true }
     requires aligned { addr % store_size op ≡ 0 }

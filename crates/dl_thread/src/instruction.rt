@@ -19,6 +19,7 @@ use spec_isa::thread::{Kind, Load};
 
 /// One instruction of a thread over a view, in the order of its checks: a fetch outside memory, a fetch that is held up, a
 /// serial instruction, a load that is held up, a store without room. Where one of them stands, the thread is unchanged.
+#[inline(always)]
 #[tactic(auto, unfolding(spec_isa::specs::Instruction::serial_of, spec_isa::specs::Instruction::loads_of, spec_isa::specs::Instruction::next_of, spec_isa::specs::Instruction::load_of, spec_isa::specs::Instruction::store_of))]
 pub fn one<V: View>(t: &mut Thread, v: &mut V) -> Did
     ensures did { result ≡ did (V.sight v.old) t.old }
@@ -38,6 +39,7 @@ pub fn one<V: View>(t: &mut Thread, v: &mut V) -> Did
 }
 
 // Runs a word that was fetched, unless it is serial.
+#[inline(always)]
 fn run<V: View>(word: u32, t: &mut Thread, v: &mut V) -> Did
     ensures did { let s = V.sight v.old in let p = plan_of t.old word in
         result ≡ unless_serial (refuses (length s.bytes) p) (did_for s p t.old) }
@@ -54,6 +56,7 @@ fn run<V: View>(word: u32, t: &mut Thread, v: &mut V) -> Did
 }
 
 // Carries out a plan that is not serial.
+#[inline(always)]
 fn perform<V: View>(plan: Plan, t: &mut Thread, v: &mut V) -> Did
     requires { refuses (length (V.sight v.old).bytes) plan ≡ None }
     ensures did { result ≡ did_for (V.sight v.old) plan t.old }

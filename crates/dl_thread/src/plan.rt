@@ -13,6 +13,7 @@ use spec_isa::plan::Plan;
 use spec_isa::thread::Kind;
 
 // What a fetched word is to do; one outside the table is illegal.
+#[inline(always)]
 pub(crate) fn plan_word(word: u32, t: &Thread) -> Plan
     ensures { result ≡ plan_of t.now word }
 {
@@ -23,6 +24,7 @@ pub(crate) fn plan_word(word: u32, t: &Thread) -> Plan
 }
 
 // What an instruction is to do.
+#[inline(always)]
 fn planned(instr: Instr, t: &Thread) -> Plan
     ensures { result ≡ plan instr t.now }
 {

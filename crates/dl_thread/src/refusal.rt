@@ -8,6 +8,7 @@ use spec_isa::plan::Plan;
 use spec_isa::thread::Kind;
 
 // Why a plan is serial in a memory of `size` bytes.
+#[inline(always)]
 pub(crate) fn refusal(plan: &Plan, size: u32) -> Option<Kind>
     ensures { result ≡ refuses size plan.now }
 {

@@ -101,6 +101,7 @@ impl Buffer {
     }
 
     /// The word at an address as it is seen through the buffer, `below` being what lies below.
+    #[inline(always)]
     pub fn over(&self, word: u32, below: u32) -> u32
         ensures value { result ≡ over self.now.words (word / 4) below }
         ensures apart { Apart self.now.words }
@@ -145,6 +146,7 @@ impl Buffer {
 
     /// Stores the masked bytes of a value in a word. `Full`: the word is new, and as many words stand as there may; nothing
     /// is stored.
+    #[inline(always)]
     pub fn put(&mut self, word: u32, mask: u8, value: u32) -> Result<(), Full>
         requires { word % 4 ≡ 0 }
         ensures taken { is_ok result ≡ has_room self.old (word / 4) }
@@ -169,6 +171,7 @@ impl Buffer {
     }
 
     // Where the word of that number stands.
+    #[inline(always)]
     fn place(&self, number: u32) -> Option<usize>
         ensures value { result ≡ position (λ s. s.word == number) self.now.words }
         ensures apart { Apart self.now.words }
