@@ -1,5 +1,5 @@
 //! Numbers read from a log's bytes. Each call reads at an offset, which it moves behind what it has read.
-ghost use Rattle.std.specs.Prelude.{◌≡◌, true, false, MatchResult};
+ghost use Rattle.std.specs.Prelude.{◌≡◌, ◌≢◌, true, false, MatchResult, IfErr};
 ghost use Rattle.dl_logbytes.specs.Answer.{Answers};
 ghost use Rattle.spec_log.specs.Reading.{raw, any, thread};
 
@@ -11,9 +11,10 @@ pub const FIELD: u8 = 5;
 
 /// The next so many bytes, as they are.
 pub fn read_raw<'a>(bytes: &'a [u8], at: &mut usize, width: usize) -> Result<&'a [u8], LogError>
-    ensures { MatchResult result
+    ensures value { MatchResult result
         (λ field. Answers (raw width bytes.now at.old) (Ok field.now) at.new)
         (λ error. Answers (raw width bytes.now at.old) (Err error) at.new) }
+    ensures no_memory { IfErr result (λ e. e ≢ LogError.OutOfMemory) }
 {
     let short = LogError::Malformed(1, bytes.len() as u64);
     let Some(left) = bytes.get(*at..) else {
@@ -27,21 +28,24 @@ pub fn read_raw<'a>(bytes: &'a [u8], at: &mut usize, width: usize) -> Result<&'a
 }
 
 pub fn read_u8(bytes: &[u8], at: &mut usize) -> Result<u8, LogError>
-    ensures { Answers (any 1 bytes.now at.old) result at.new }
+    ensures value { Answers (any 1 bytes.now at.old) result at.new }
+    ensures no_memory { IfErr result (λ e. e ≢ LogError.OutOfMemory) }
 {
     let field = read_raw(bytes, at, 1)?;
     Ok(field[0])
 }
 
 pub fn read_u16(bytes: &[u8], at: &mut usize) -> Result<u16, LogError>
-    ensures { Answers (any 2 bytes.now at.old) result at.new }
+    ensures value { Answers (any 2 bytes.now at.old) result at.new }
+    ensures no_memory { IfErr result (λ e. e ≢ LogError.OutOfMemory) }
 {
     let field = read_raw(bytes, at, 2)?;
     Ok(LittleEndian::read_u16(field))
 }
 
 pub fn read_u32(bytes: &[u8], at: &mut usize) -> Result<u32, LogError>
-    ensures { Answers (any 4 bytes.now at.old) result at.new }
+    ensures value { Answers (any 4 bytes.now at.old) result at.new }
+    ensures no_memory { IfErr result (λ e. e ≢ LogError.OutOfMemory) }
 {
     let field = read_raw(bytes, at, 4)?;
     Ok(LittleEndian::read_u32(field))
@@ -62,7 +66,8 @@ pub fn judge(good: bool, number: u8, start: usize) -> Result<(), LogError>
 
 /// A thread's number.
 pub fn read_thread(bytes: &[u8], at: &mut usize) -> Result<u8, LogError>
-    ensures { Answers (thread bytes.now at.old) result at.new }
+    ensures value { Answers (thread bytes.now at.old) result at.new }
+    ensures no_memory { IfErr result (λ e. e ≢ LogError.OutOfMemory) }
 {
     let start = *at;
     let thread = read_u8(bytes, at)?;

@@ -1,5 +1,5 @@
 //! The order of a log, as it is read.
-ghost use Rattle.std.specs.Prelude.{◌≡◌, ◌==◌, ◌<◌};
+ghost use Rattle.std.specs.Prelude.{◌≡◌, ◌≢◌, ◌==◌, ◌<◌, IfErr};
 ghost use Rattle.dl_logbytes.specs.Answer.{Answers};
 ghost use Rattle.spec_log.specs.Reading.{actors, actor_of as actor_in, order_of, ordered, field, at_most};
 
@@ -24,7 +24,8 @@ pub fn read_order(
 
 /// The number of actors.
 pub fn read_named(bytes: &[u8], at: &mut usize, mode: ModeName, count: u32) -> Result<u32, LogError>
-    ensures { Answers (field 4 (λ n. n == ordered mode count) bytes.now at.old) result at.new }
+    ensures value { Answers (field 4 (λ n. n == ordered mode count) bytes.now at.old) result at.new }
+    ensures no_memory { IfErr result (λ e. e ≢ LogError.OutOfMemory) }
 {
     let start = *at;
     let named = read_u32(bytes, at)?;
@@ -52,7 +53,8 @@ fn read_actors(source: &Source<'_>, at: &mut usize, count: u32) -> Result<Order,
 
 /// A byte without a high half.
 pub fn read_half(bytes: &[u8], at: &mut usize) -> Result<u8, LogError>
-    ensures { Answers (field 1 (at_most 15) bytes.now at.old) result at.new }
+    ensures value { Answers (field 1 (at_most 15) bytes.now at.old) result at.new }
+    ensures no_memory { IfErr result (λ e. e ≢ LogError.OutOfMemory) }
 {
     let start = *at;
     let half = read_u8(bytes, at)?;

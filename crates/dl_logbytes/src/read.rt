@@ -1,5 +1,5 @@
 //! A log read from its bytes.
-ghost use Rattle.std.specs.Prelude.{◌≡◌, ◌^◌, ◌==◌};
+ghost use Rattle.std.specs.Prelude.{◌≡◌, ◌≢◌, ◌^◌, ◌==◌, IfErr};
 ghost use Rattle.dl_logbytes.specs.Answer.{Answers, IsReading};
 ghost use Rattle.spec_log.specs.Reading.{number, field, at_most, from_to, mode as mode_field, mode_of as mode_by, sizes_of, each_size, parts as log_parts, read_of};
 
@@ -56,7 +56,8 @@ struct Header {
 
 /// The magic word, the version, the mode and two zero bytes.
 pub fn read_mode(bytes: &[u8], at: &mut usize) -> Result<ModeName, LogError>
-    ensures { Answers (mode_field bytes.now at.old) result at.new }
+    ensures value { Answers (mode_field bytes.now at.old) result at.new }
+    ensures no_memory { IfErr result (λ e. e ≢ LogError.OutOfMemory) }
 {
     read_magic(bytes, at)?;
     read_version(bytes, at)?;
@@ -66,7 +67,8 @@ pub fn read_mode(bytes: &[u8], at: &mut usize) -> Result<ModeName, LogError>
 }
 
 fn read_magic(bytes: &[u8], at: &mut usize) -> Result<u32, LogError>
-    ensures { Answers (number 4 2 (λ word. word == 0x4E524C44) bytes.now at.old) result at.new }
+    ensures value { Answers (number 4 2 (λ word. word == 0x4E524C44) bytes.now at.old) result at.new }
+    ensures no_memory { IfErr result (λ e. e ≢ LogError.OutOfMemory) }
 {
     let start = *at;
     let word = read_u32(bytes, at)?;
@@ -75,7 +77,8 @@ fn read_magic(bytes: &[u8], at: &mut usize) -> Result<u32, LogError>
 }
 
 fn read_version(bytes: &[u8], at: &mut usize) -> Result<u8, LogError>
-    ensures { Answers (number 1 3 (λ version. version == 1) bytes.now at.old) result at.new }
+    ensures value { Answers (number 1 3 (λ version. version == 1) bytes.now at.old) result at.new }
+    ensures no_memory { IfErr result (λ e. e ≢ LogError.OutOfMemory) }
 {
     let start = *at;
     let version = read_u8(bytes, at)?;
@@ -84,7 +87,8 @@ fn read_version(bytes: &[u8], at: &mut usize) -> Result<u8, LogError>
 }
 
 fn read_code(bytes: &[u8], at: &mut usize) -> Result<u8, LogError>
-    ensures { Answers (number 1 4 (at_most 2) bytes.now at.old) result at.new }
+    ensures value { Answers (number 1 4 (at_most 2) bytes.now at.old) result at.new }
+    ensures no_memory { IfErr result (λ e. e ≢ LogError.OutOfMemory) }
 {
     let start = *at;
     let code = read_u8(bytes, at)?;
@@ -93,7 +97,8 @@ fn read_code(bytes: &[u8], at: &mut usize) -> Result<u8, LogError>
 }
 
 fn read_spare(bytes: &[u8], at: &mut usize) -> Result<u16, LogError>
-    ensures { Answers (field 2 (λ spare. spare == 0) bytes.now at.old) result at.new }
+    ensures value { Answers (field 2 (λ spare. spare == 0) bytes.now at.old) result at.new }
+    ensures no_memory { IfErr result (λ e. e ≢ LogError.OutOfMemory) }
 {
     let start = *at;
     let spare = read_u16(bytes, at)?;
@@ -113,7 +118,8 @@ fn mode_of(code: u8) -> ModeName
 
 /// The standard chunk size.
 pub fn read_chunk_size(bytes: &[u8], at: &mut usize) -> Result<u32, LogError>
-    ensures { Answers (field 4 (from_to 16 4096) bytes.now at.old) result at.new }
+    ensures value { Answers (field 4 (from_to 16 4096) bytes.now at.old) result at.new }
+    ensures no_memory { IfErr result (λ e. e ≢ LogError.OutOfMemory) }
 {
     let start = *at;
     let s = read_u32(bytes, at)?;
@@ -123,7 +129,8 @@ pub fn read_chunk_size(bytes: &[u8], at: &mut usize) -> Result<u32, LogError>
 
 /// The number of commits.
 pub fn read_count(bytes: &[u8], at: &mut usize) -> Result<u32, LogError>
-    ensures { Answers (field 4 (at_most (2 ^ 24)) bytes.now at.old) result at.new }
+    ensures value { Answers (field 4 (at_most (2 ^ 24)) bytes.now at.old) result at.new }
+    ensures no_memory { IfErr result (λ e. e ≢ LogError.OutOfMemory) }
 {
     let start = *at;
     let count = read_u32(bytes, at)?;
@@ -151,7 +158,8 @@ fn read_each(source: &Source<'_>, at: &mut usize, s: u32, count: u32) -> Result<
 
 /// The number of sizes, where each commit has one.
 pub fn read_sized(bytes: &[u8], at: &mut usize, count: u32) -> Result<u32, LogError>
-    ensures { Answers (field 4 (λ n. n == count) bytes.now at.old) result at.new }
+    ensures value { Answers (field 4 (λ n. n == count) bytes.now at.old) result at.new }
+    ensures no_memory { IfErr result (λ e. e ≢ LogError.OutOfMemory) }
 {
     let start = *at;
     let sized = read_u32(bytes, at)?;

@@ -1,5 +1,5 @@
 -- A fault that a reader was fed stays, whatever follows.
-use Rattle.std.proofs.Common.{◌≡◌, ℕ, List, ◌++◌, Option, Some, None, Result, Ok, Err, sym, ap, ◌∙◌}
+use Rattle.std.proofs.Common.{◌≡◌, ℕ, List, ◌++◌, Option, Some, None, Result, Err, sym, ap, ◌∙◌}
 use Rattle.spec_log.specs.Reading.{Fault, read_of}
 use Rattle.dl_logfmt.specs.declared.refusal.Refusal.{Refusal}
 use Rattle.dl_logfmt.specs.Feeding.{Feeding, FedTo, HasFed, fed}
