@@ -8,7 +8,7 @@ use Rattle.spec_protocol.specs.declared.event.Event.{Event}
 use Rattle.spec_protocol.specs.World.{World}
 use Rattle.spec_protocol.specs.Machine.{Setup, world_of, happens, world_after}
 use Rattle.spec_protocol.specs.Finishing.{next, Finishes}
-use Rattle.spec_protocol.proofs.OnCounts.{act-untold}
+use Rattle.spec_protocol.proofs.Points.Counts.{act-untold}
 use Rattle.spec_finishing.specs.Ending.{OfReplay, OfReplays, IsFinished, Ends}
 use Rattle.spec_finishing.specs.Function.{most_events, finishing_of}
 use Rattle.spec_finishing.proofs.Function.{function_finishes}

@@ -16,9 +16,9 @@ use Rattle.spec_protocol.specs.Serial.{Whole, do_serial, do_dma, do_raise}
 use Rattle.spec_protocol.specs.Shown.{shown, shown_of}
 use Rattle.spec_protocol.specs.Moves.{move_chunk, do_what, do_at, do_move, do_if}
 use Rattle.spec_protocol.specs.Promises.{IsSetup, after}
-use Rattle.spec_protocol.proofs.Invariant.{shown-get}
-use Rattle.spec_protocol.proofs.Moving.{get-set_other}
-use Rattle.spec_protocol.proofs.Schedules.{happens-kept, start-good, after-good, sizes_kept}
+use Rattle.spec_protocol.proofs.Invariants.Kept.{shown-get}
+use Rattle.spec_protocol.proofs.Moves.Granted.{get-set_other}
+use Rattle.spec_protocol.proofs.Invariants.Schedules.{happens-kept, start-good, after-good, sizes_kept}
 use Rattle.spec_finishing.specs.Ending.{OfReplay}
 use Rattle.spec_finishing.proofs.Knowing.{after-event, kinds_after, there_is}
 use Rattle.spec_finishing.proofs.KindsKept.{is_replayed, kind-at}

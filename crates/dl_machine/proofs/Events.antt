@@ -6,9 +6,9 @@ use Rattle.spec_protocol.specs.declared.event.Event.{Event}
 use Rattle.spec_protocol.specs.declared.reply.Reply.{Reply}
 use Rattle.spec_protocol.specs.World.{World}
 use Rattle.spec_protocol.specs.Machine.{act, happens, name_of}
-use Rattle.spec_protocol.proofs.OnCounts.{act-untold}
-use Rattle.spec_protocol.proofs.Schedules.{happens-kept}
-use Rattle.spec_protocol.proofs.Sounding.{happens-sound}
+use Rattle.spec_protocol.proofs.Points.Counts.{act-untold}
+use Rattle.spec_protocol.proofs.Invariants.Schedules.{happens-kept}
+use Rattle.spec_protocol.proofs.Sound.Schedules.{happens-sound}
 use Rattle.dl_machine.specs.Ready.{IsReady}
 use Rattle.dl_machine.specs.States.{left}
 

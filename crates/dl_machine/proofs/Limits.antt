@@ -7,8 +7,8 @@ use Rattle.spec_protocol.specs.Machine as protocol
 use Rattle.spec_protocol.specs.Machine.{world_of}
 use Rattle.spec_protocol.specs.Promises.{IsSetup}
 use Rattle.spec_protocol.specs.Sound.{IsImage, IsWithinLimits}
-use Rattle.spec_protocol.proofs.Schedules.{start-good}
-use Rattle.spec_protocol.proofs.Sounding.{worlds_sound}
+use Rattle.spec_protocol.proofs.Invariants.Schedules.{start-good}
+use Rattle.spec_protocol.proofs.Sound.Schedules.{worlds_sound}
 use Rattle.dl_sphere.specs.declared.setup.SphereSetup.{SphereSetup}
 use Rattle.dl_sphere.specs.Setups.{setup_of}
 use Rattle.dl_machine.specs.declared.setup.Setup.{Setup}

@@ -8,8 +8,8 @@ use Rattle.spec_protocol.specs.World.{World}
 use Rattle.spec_protocol.specs.Machine.{RoleSetup, IsReplayed, Setup, SphereSetup, happens, world_after, world_of}
 use Rattle.spec_protocol.specs.Promises.{after}
 use Rattle.spec_protocol.specs.Sound.{IsRole, IsWithinLimits}
-use Rattle.spec_protocol.proofs.OnPoints.{commits_are}
-use Rattle.spec_protocol.proofs.FollowingAll.{logs_play_back}
+use Rattle.spec_protocol.proofs.Points.Serial.{commits_are}
+use Rattle.spec_protocol.proofs.PlayingBack.All.{logs_play_back}
 use Rattle.spec_replay.proofs.Replays.{replays_follow}
 use Rattle.spec_replay.proofs.Stopping.{stopped_played}
 use Rattle.dl_machine.specs.Runs.{IsRun, IsSerial, IsPromised}

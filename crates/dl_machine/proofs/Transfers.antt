@@ -9,7 +9,7 @@ use Rattle.spec_protocol.specs.Spheres.{Role, Plain, Record, Replay, Sphere}
 use Rattle.spec_protocol.specs.Placing.{replays}
 use Rattle.spec_protocol.specs.Commits.{CommitOutcome, Moved, live_dma, dma_in, dma_moved}
 use Rattle.spec_protocol.specs.World.{World}
-use Rattle.spec_protocol.proofs.Covering.{bits-signed}
+use Rattle.spec_protocol.proofs.Memory.Covering.{bits-signed}
 use Rattle.dl_machine.specs.Ready.{IsReady}
 use Rattle.dl_machine.specs.Transfers.{ComesTo}
 use Rattle.dl_machine.proofs.Ready.{slots_size}

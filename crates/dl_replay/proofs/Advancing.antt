@@ -20,7 +20,7 @@ use Rattle.spec_play.specs.Progress.{Progress, position, no_progress, with_effec
 use Rattle.spec_play.specs.Transfers.{DmaVerdict, DmaGoes}
 use Rattle.spec_play.specs.Turns.{Now, now_at, turn_of, at_end, is_size_used, are_sizes_used, has_left_over}
 use Rattle.spec_play.specs.Verdicts.{Verdict, Goes}
-use Rattle.spec_protocol.proofs.Keeping.{AreNew}
+use Rattle.spec_protocol.proofs.Moves.Threads.{AreNew}
 use Rattle.dl_kernel.specs.Calls.{made_list}
 use Rattle.dl_replay.specs.Replaying.{Replaying, Agrees, begun, commits_at, commits_of}
 use Rattle.dl_replay.specs.Kept.{now_for, advanced}

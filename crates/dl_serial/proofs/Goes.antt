@@ -22,11 +22,11 @@ use Rattle.spec_play.specs.Progress.{Progress, Used, with_input, with_interrupt}
 use Rattle.spec_play.specs.Transfers.{DmaVerdict, DmaGoes, dma_verdict}
 use Rattle.spec_play.specs.Verdicts.{Verdict, Goes, Fails, Given, given, with_interrupted, interrupt_at, chunk_verdict, unless, served_verdict, serial_verdict}
 use Rattle.spec_protocol.specs.Sound.{IsSoundIf}
-use Rattle.spec_protocol.proofs.OnCores.{branch}
-use Rattle.spec_protocol.proofs.SoundThreads.{BringsIf}
-use Rattle.spec_protocol.proofs.SoundCommits.{IsSoundEffect, serial-effect}
-use Rattle.spec_protocol.proofs.SoundMoves.{fits-brings}
-use Rattle.spec_protocol.proofs.SoundTransfers.{IfDmaGoes, dma-goes}
+use Rattle.spec_protocol.proofs.Invariants.Cores.{branch}
+use Rattle.spec_protocol.proofs.Sound.Threads.{BringsIf}
+use Rattle.spec_protocol.proofs.Sound.Commits.{IsSoundEffect, serial-effect}
+use Rattle.spec_protocol.proofs.Sound.Moves.{fits-brings}
+use Rattle.spec_protocol.proofs.Sound.Transfers.{IfDmaGoes, dma-goes}
 
 goes : Verdict → Bool
 goes (Goes e u) = true

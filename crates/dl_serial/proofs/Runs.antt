@@ -6,9 +6,9 @@ use Rattle.spec_isa.specs.Words.{Stored, lays}
 use Rattle.spec_isa.specs.Instruction.{Outcome, Next, Serial, one}
 use Rattle.spec_isa.specs.Runs.{Run, begun, followed, run, with_store}
 use Rattle.spec_kernel.specs.Needs.{next_kind}
-use Rattle.spec_protocol.proofs.Running.{one_serial}
-use Rattle.spec_protocol.proofs.FollowingVerdicts.{run-stops}
-use Rattle.spec_protocol.proofs.SoundWords.{put-length}
+use Rattle.spec_protocol.proofs.Memory.Running.{one_serial}
+use Rattle.spec_protocol.proofs.PlayingBack.Verdicts.{run-stops}
+use Rattle.spec_protocol.proofs.Sound.Words.{put-length}
 use Rattle.dl_serial.specs.Chunks.{HasRun, chunk_of}
 use Rattle.dl_serial.specs.declared.chunk.Chunk.{Chunk}
 

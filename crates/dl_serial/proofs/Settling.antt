@@ -20,7 +20,7 @@ use Rattle.spec_play.proofs.Going.{turn-lives}
 use Rattle.spec_play.specs.Transfers.{DmaVerdict, DmaFails}
 use Rattle.spec_play.specs.Verdicts.{Verdict, Fails, chunk_verdict, serial_verdict}
 use Rattle.spec_protocol.specs.Sound.{IsSoundIf}
-use Rattle.spec_protocol.proofs.Growing.{pushed_length}
+use Rattle.spec_protocol.proofs.Logs.Growing.{pushed_length}
 use Rattle.dl_kernel.specs.declared.serving.Served.{Served as Left}
 use Rattle.dl_replay.specs.Judged.{diverged}
 use Rattle.dl_replay.specs.Replaying.{Replaying, commits_of}

@@ -16,8 +16,8 @@ use Rattle.spec_play.specs.Turns.{Now, Turn, TurnOfDma, Over}
 use Rattle.spec_play.specs.Verdicts.{Fails, unless, ended, chunk_why, chunk_verdict, serial_verdict}
 use Rattle.spec_play.specs.Plays.{Played, size_or_standard, thread_verdict}
 use Rattle.spec_protocol.specs.Spheres.{Book, Replay, whole_limit, pieces_of, limit_of}
-use Rattle.spec_protocol.proofs.Keeping.{run-keeps}
-use Rattle.spec_protocol.proofs.FollowingVerdicts.{run-first}
+use Rattle.spec_protocol.proofs.Moves.Threads.{run-keeps}
+use Rattle.spec_protocol.proofs.PlayingBack.Verdicts.{run-first}
 
 -- ---- the limit
 

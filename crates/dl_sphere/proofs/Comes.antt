@@ -18,7 +18,7 @@ use Rattle.spec_play.specs.Verdicts.{Verdict, Goes, Fails}
 use Rattle.spec_protocol.specs.Commits as commits
 use Rattle.spec_protocol.specs.Commits.{Moved, by_verdict, dma_by_verdict}
 use Rattle.spec_protocol.specs.Spheres.{Replay, Role}
-use Rattle.spec_protocol.proofs.Growing.{pushed_length}
+use Rattle.spec_protocol.proofs.Logs.Growing.{pushed_length}
 use Rattle.dl_replay.specs.Replaying.{Replaying, book_of, commits_of}
 use Rattle.dl_sphere.specs.Inside.{sphere_with}
 use Rattle.dl_sphere.specs.Judging.{Judged, Before, judged_by, dma_judged_by}

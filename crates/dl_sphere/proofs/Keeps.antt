@@ -16,10 +16,10 @@ use Rattle.spec_play.proofs.Keeping.{grows-alike}
 use Rattle.spec_log.specs.declared.LogParts.{LogParts}
 use Rattle.spec_protocol.specs.Spheres.{Sphere, Record}
 use Rattle.spec_protocol.specs.Commits.{role_raised}
-use Rattle.spec_protocol.proofs.Keeping.{AreNew}
-use Rattle.spec_protocol.proofs.Growing.{commits_in, commits_if, commits-other, commits-same, HasCommitted, has_committed-stands}
-use Rattle.spec_protocol.proofs.Lookups.{none-there}
-use Rattle.spec_protocol.proofs.Coming.{Transferred, transferred-stands, WasRaised, raised-stands}
+use Rattle.spec_protocol.proofs.Moves.Threads.{AreNew}
+use Rattle.spec_protocol.proofs.Logs.Growing.{commits_in, commits_if, commits-other, commits-same, HasCommitted, has_committed-stands}
+use Rattle.spec_protocol.proofs.Logs.Lookups.{none-there}
+use Rattle.spec_protocol.proofs.Logs.Coming.{Transferred, transferred-stands, WasRaised, raised-stands}
 use Rattle.spec_play.specs.Noted.{Recorded, as_log, interrupt_kept}
 use Rattle.dl_sphere.specs.Recorded.{with_commit}
 use Rattle.dl_sphere.specs.Roles.{Keeping, Plain, Recording, Replaying, role_of, HasFew, IsLive, with_noted, with_raised, CanRaise, IsKept, AreKept, IsStanding}

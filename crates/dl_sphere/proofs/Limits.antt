@@ -8,7 +8,7 @@ use Rattle.spec_log.specs.Log.{IsLog}
 use Rattle.spec_protocol.specs.Sound.{IsSoundRequest}
 use Rattle.spec_protocol.specs.Placing.{replays}
 use Rattle.spec_protocol.specs.Spheres.{Book, Replay, Sphere, limit_in, limit_of, whole_limit}
-use Rattle.spec_protocol.proofs.SoundLimits.{whole-most}
+use Rattle.spec_protocol.proofs.Sound.Limits.{whole-most}
 use Rattle.dl_sphere.specs.Inside.{sphere_in}
 use Rattle.dl_sphere.specs.Roles.{role_of, keeping_of, Keeping, Plain, Recording, Replaying as Replays, HasFew, AreKept, IsLive, IsReplayed, IsStanding}
 use Rattle.dl_sphere.specs.declared.part.Part.{Part}

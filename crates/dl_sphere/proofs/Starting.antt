@@ -7,8 +7,8 @@ use Rattle.spec_isa.specs.Threads.{started}
 use Rattle.spec_log.specs.Log.{IsChunkSize}
 use Rattle.spec_protocol.specs.Machine.{RoleSetup, IsPlain, IsRecorded, IsReplayed, SphereSetup, sphere_of, role_of as role_at}
 use Rattle.spec_protocol.specs.Sound.{IsRole}
-use Rattle.spec_protocol.proofs.FollowingAll.{start-stands}
-use Rattle.spec_protocol.proofs.Growing.{commits_in}
+use Rattle.spec_protocol.proofs.PlayingBack.All.{start-stands}
+use Rattle.spec_protocol.proofs.Logs.Growing.{commits_in}
 use Rattle.dl_sphere.specs.Inside.{sphere_with}
 use Rattle.dl_sphere.specs.Roles.{Keeping, role_of, AreKept, IsStanding}
 use Rattle.dl_sphere.specs.Standing.{Standing}

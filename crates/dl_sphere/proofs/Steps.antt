@@ -13,7 +13,7 @@ use Rattle.spec_play.specs.Effects.{counted, dma_commit, serial_commit}
 use Rattle.spec_play.specs.Recording.{noted, input_noted}
 use Rattle.spec_protocol.specs.Spheres as protocol
 use Rattle.spec_protocol.specs.Commits.{Granted, Moved, dma_moved, serial_moved}
-use Rattle.spec_protocol.proofs.Growing.{commits_if}
+use Rattle.spec_protocol.proofs.Logs.Growing.{commits_if}
 use Rattle.dl_sphere.specs.Inside.{sphere_with}
 use Rattle.spec_play.specs.Noted.{as_log}
 use Rattle.dl_sphere.specs.Roles.{Keeping, Plain, Recording, Replaying, role_of, with_noted, AreKept, IsLive}

@@ -11,7 +11,7 @@ use Rattle.spec_kernel.specs.Answers.{taken}
 use Rattle.spec_log.specs.Log.{IsInput}
 use Rattle.spec_protocol.specs.Sound.{HaveByteInput}
 use Rattle.spec_protocol.specs.Notable.{IsInputIf}
-use Rattle.spec_protocol.proofs.SoundDevices.{taken-sound}
+use Rattle.spec_protocol.proofs.Sound.Devices.{taken-sound}
 use Rattle.dl_kernel.specs.Outside.{record_left, devices_left}
 
 pub record_taken : (moment : ℕ) (d : Devices) (n : Option Need) → record_left moment d n ≡ (taken n d moment).input

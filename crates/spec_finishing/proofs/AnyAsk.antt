@@ -18,11 +18,11 @@ use Rattle.spec_protocol.specs.Asking.{CommitRequest, move_at, granted, chunk_re
 use Rattle.spec_protocol.specs.Transferring.{dma_move, dma_done, transfer, dma_with, dma_if, turn_before_dma, transferring}
 use Rattle.spec_protocol.specs.Shown.{flying, shown_of}
 use Rattle.spec_protocol.specs.Invariants.{IsGoodHeld, IsGood, current}
-use Rattle.spec_protocol.proofs.Slots.{words-other}
-use Rattle.spec_protocol.proofs.Moving.{chunk-stores}
-use Rattle.spec_protocol.proofs.Relaying.{over, relaid, dma-relaid}
-use Rattle.spec_protocol.proofs.OnAsks.{shown_at, shown_over}
-use Rattle.spec_protocol.proofs.OnCores.{branch}
+use Rattle.spec_protocol.proofs.Memory.Slots.{words-other}
+use Rattle.spec_protocol.proofs.Moves.Granted.{chunk-stores}
+use Rattle.spec_protocol.proofs.Moves.AnyMemory.{over, relaid, dma-relaid}
+use Rattle.spec_protocol.proofs.Invariants.Asks.{shown_at, shown_over}
+use Rattle.spec_protocol.proofs.Invariants.Cores.{branch}
 use Rattle.spec_finishing.proofs.Slots.{flown-most}
 use Rattle.spec_finishing.proofs.PayingMoves.{serial_most, dma_most, what_most, sphere_most, move_most}
 use Rattle.spec_finishing.proofs.AnyEvent.{Flies, still_flies}

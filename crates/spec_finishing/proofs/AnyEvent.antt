@@ -14,7 +14,7 @@ use Rattle.spec_protocol.specs.Commits.{raised}
 use Rattle.spec_protocol.specs.Stepping.{stepped, step_held, stepping, cut_to, cut_held, cutting}
 use Rattle.spec_protocol.specs.Flying.{draining, delivering, retiring}
 use Rattle.spec_protocol.specs.Placing.{replays, unless_elsewhere, place_thread, placing, with_renewed, raise_in, raise_thread, raising}
-use Rattle.spec_protocol.proofs.OnCores.{branch}
+use Rattle.spec_protocol.proofs.Invariants.Cores.{branch}
 use Rattle.spec_finishing.specs.Rest.{flights_rest}
 use Rattle.spec_finishing.proofs.Flying.{drain-most, deliver-most, retire-most}
 use Rattle.spec_finishing.proofs.PayingMoves.{move_most}

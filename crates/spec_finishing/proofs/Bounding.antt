@@ -11,7 +11,7 @@ use Rattle.spec_protocol.specs.Serial.{Whole, whole_of}
 use Rattle.spec_protocol.specs.Shown.{shown_of}
 use Rattle.spec_protocol.specs.Moves.{do_if}
 use Rattle.spec_protocol.specs.Promises.{after}
-use Rattle.spec_protocol.proofs.Schedules.{happens-kept, start-shown}
+use Rattle.spec_protocol.proofs.Invariants.Schedules.{happens-kept, start-shown}
 use Rattle.spec_replay.specs.Promises.{ReplaysArePlays}
 use Rattle.spec_finishing.specs.Work.{commits_work, setup_work, plays_work, moves_work}
 use Rattle.spec_finishing.specs.Rest.{play_left, replay_left, price, role_rest, flights_rest, spheres_rest, potential}

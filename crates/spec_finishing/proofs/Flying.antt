@@ -7,8 +7,8 @@ use Rattle.spec_engine.specs.Signatures.{Marks}
 use Rattle.spec_engine.specs.Flights.{Flight, at, told_at, tell, meets_chunk, drain_words, deliver, Delivered, is_done, retire, Retired}
 use Rattle.spec_protocol.specs.World.{World, Held, After, sphere_at, with_slot}
 use Rattle.spec_protocol.specs.Flying.{drain_slot, draining, reads_of, writes_of, told, deliver_to, delivering, retiring}
-use Rattle.spec_protocol.proofs.Slots.{at_within}
-use Rattle.spec_protocol.proofs.OnCores.{branch}
+use Rattle.spec_protocol.proofs.Memory.Slots.{at_within}
+use Rattle.spec_protocol.proofs.Invariants.Cores.{branch}
 use Rattle.spec_finishing.specs.Rest.{flight_rest, flights_rest}
 use Rattle.spec_finishing.proofs.Slots.{flights-set, untold-less}
 

@@ -10,7 +10,7 @@ use Rattle.spec_engine.proofs.Searches.{all_told-from}
 use Rattle.spec_protocol.specs.World.{World, Held, After, with_slot, answered}
 use Rattle.spec_protocol.specs.Flying.{drain_slot, draining, reads_of, writes_of, told, deliver_to, delivering, reply_of_retire, retiring}
 use Rattle.spec_protocol.specs.Finishing.{untold}
-use Rattle.spec_protocol.proofs.Slots.{at_within}
+use Rattle.spec_protocol.proofs.Memory.Slots.{at_within}
 use Rattle.spec_finishing.specs.Rest.{flight_rest, flights_rest}
 use Rattle.spec_finishing.specs.Ending.{is_done as is_good}
 use Rattle.spec_finishing.proofs.Slots.{flights-set, untold-tell}

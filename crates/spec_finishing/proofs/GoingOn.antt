@@ -12,7 +12,7 @@ use Rattle.spec_play.specs.Turns.{Now, Turn, TurnOfDma}
 use Rattle.spec_play.specs.Plays.{Played, opened, plays}
 use Rattle.spec_protocol.specs.Spheres.{Book, Replay, Sphere, is_over, whole_limit, limit_of}
 use Rattle.spec_protocol.specs.Machine.{SphereSetup}
-use Rattle.spec_protocol.proofs.Moving.{get-set_same}
+use Rattle.spec_protocol.proofs.Moves.Granted.{get-set_same}
 use Rattle.spec_replay.specs.Following.{IsWhole, StandsAt, Follows}
 use Rattle.spec_finishing.specs.Work.{commit_work}
 use Rattle.spec_finishing.proofs.Affording.{Afforded, afforded, part-limit}

@@ -18,9 +18,9 @@ use Rattle.spec_protocol.specs.Serial.{Whole}
 use Rattle.spec_protocol.specs.Shown.{shown_of}
 use Rattle.spec_protocol.specs.Moves.{do_if}
 use Rattle.spec_protocol.specs.Finishing.{untold, deliver_or_retire, for_flight, Who, least, standing}
-use Rattle.spec_protocol.proofs.Slots.{at_within}
-use Rattle.spec_protocol.proofs.OnCores.{branch}
-use Rattle.spec_protocol.proofs.Schedules.{happens-kept}
+use Rattle.spec_protocol.proofs.Memory.Slots.{at_within}
+use Rattle.spec_protocol.proofs.Invariants.Cores.{branch}
+use Rattle.spec_protocol.proofs.Invariants.Schedules.{happens-kept}
 use Rattle.spec_finishing.specs.Rest.{spheres_rest, potential, held_under_way, core_under_way, actor_under_way, under_way, rest}
 use Rattle.spec_finishing.specs.Ending.{is_done, OfReplay}
 use Rattle.spec_finishing.proofs.FlyingNext.{FlightFalls, drain-falls, deliver-falls, untold-core, retire-falls}

@@ -12,7 +12,7 @@ use Rattle.spec_protocol.specs.Promises.{after}
 use Rattle.spec_replay.proofs.Stopping.{stopped_played}
 use Rattle.spec_finishing.specs.Ending.{IsAtEnd, CanFinish}
 use Rattle.spec_finishing.specs.Finished.{HasPlayed, ReplaysAreFinished}
-use Rattle.spec_protocol.proofs.Schedules.{sizes_kept}
+use Rattle.spec_protocol.proofs.Invariants.Schedules.{sizes_kept}
 use Rattle.spec_finishing.proofs.KindsKept.{is_replayed, kind-at}
 use Rattle.spec_finishing.proofs.Knowing.{within, there_is, kinds_after}
 use Rattle.spec_finishing.proofs.Standing.{replay-role}

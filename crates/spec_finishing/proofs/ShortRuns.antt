@@ -26,15 +26,15 @@ use Rattle.spec_protocol.specs.Invariants.{current}
 use Rattle.spec_protocol.specs.Promises.{after}
 use Rattle.spec_protocol.specs.Notable.{IsInputIf}
 use Rattle.spec_protocol.specs.Sound.{IsRole, IsImage, IsWithinLimits, HaveBytes, IsSoundRequest, IsSoundIf, IsSoundRole, image_at, HaveByteInput, IsSound}
-use Rattle.spec_protocol.proofs.Schedules.{happens-kept, start-shown}
-use Rattle.spec_protocol.proofs.OnAsks.{shown_at, shown_over}
-use Rattle.spec_protocol.proofs.Relaying.{over}
-use Rattle.spec_protocol.proofs.OnCores.{branch}
-use Rattle.spec_protocol.proofs.OnPoints.{shown_length}
-use Rattle.spec_protocol.proofs.SoundWords.{lay-bytes}
-use Rattle.spec_protocol.proofs.SoundDevices.{IsSoundTaken, taken-sound, dma-few}
-use Rattle.spec_protocol.proofs.SoundLimits.{limit-most}
-use Rattle.spec_protocol.proofs.Sounding.{setup-within, worlds_sound}
+use Rattle.spec_protocol.proofs.Invariants.Schedules.{happens-kept, start-shown}
+use Rattle.spec_protocol.proofs.Invariants.Asks.{shown_at, shown_over}
+use Rattle.spec_protocol.proofs.Moves.AnyMemory.{over}
+use Rattle.spec_protocol.proofs.Invariants.Cores.{branch}
+use Rattle.spec_protocol.proofs.Points.Serial.{shown_length}
+use Rattle.spec_protocol.proofs.Sound.Words.{lay-bytes}
+use Rattle.spec_protocol.proofs.Sound.Devices.{IsSoundTaken, taken-sound, dma-few}
+use Rattle.spec_protocol.proofs.Sound.Limits.{limit-most}
+use Rattle.spec_protocol.proofs.Sound.Schedules.{setup-within, worlds_sound}
 use Rattle.spec_replay.proofs.Replays.{replays_follow}
 use Rattle.spec_finishing.specs.Work.{setup_work, plays_work, serial_work, dma_work, what_work, role_work, sphere_work, moves_work}
 use Rattle.spec_finishing.specs.Rest.{price}

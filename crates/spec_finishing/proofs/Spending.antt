@@ -10,8 +10,8 @@ use Rattle.spec_protocol.specs.Serial.{Whole}
 use Rattle.spec_protocol.specs.Shown.{shown_of}
 use Rattle.spec_protocol.specs.Moves.{do_if, FitsIf, Fits}
 use Rattle.spec_protocol.specs.Invariants.{IsGood}
-use Rattle.spec_protocol.proofs.Invariant.{Kept}
-use Rattle.spec_protocol.proofs.Schedules.{happens-kept}
+use Rattle.spec_protocol.proofs.Invariants.Kept.{Kept}
+use Rattle.spec_protocol.proofs.Invariants.Schedules.{happens-kept}
 use Rattle.spec_finishing.specs.Work.{move_work}
 use Rattle.spec_finishing.specs.Rest.{spheres_rest, price, potential}
 use Rattle.spec_finishing.proofs.Rows.{spheres-shown}

@@ -16,7 +16,7 @@ use Rattle.spec_finishing.specs.Rest.{price, spheres_rest}
 use Rattle.spec_finishing.proofs.GoingOn.{GoesOn}
 use Rattle.spec_finishing.proofs.PayingSerial.{dma-pays}
 use Rattle.spec_finishing.proofs.PayingMoves.{what_most, sphere_most, move_most, what_more, what_own, chunk_paid, serial_paid, dma_paid}
-use Rattle.spec_protocol.proofs.Pieces.{no_raise}
+use Rattle.spec_protocol.proofs.Replays.Pieces.{no_raise}
 
 -- every sphere has its image, and every replay that goes on stands beside its play
 pub record Stands (s : Setup) (x : Whole) : Type 0 where

@@ -7,7 +7,7 @@ use Rattle.spec_isa.specs.Words.{Stored, lay, lays, Apart}
 use Rattle.spec_isa.specs.Instruction.{Outcome, Next, Serial, one}
 use Rattle.spec_isa.specs.Runs.{Run, with_load, with_store, followed, more, run}
 use Rattle.spec_isa.proofs.BufferLaws.{lays_put}
-use Rattle.spec_protocol.proofs.Covering.{Apart-store}
+use Rattle.spec_protocol.proofs.Memory.Covering.{Apart-store}
 
 -- ---- stores and loads
 

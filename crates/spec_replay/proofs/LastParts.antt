@@ -22,8 +22,8 @@ use Rattle.spec_protocol.specs.World.{Numbers}
 use Rattle.spec_protocol.specs.Serial.{laid}
 use Rattle.spec_protocol.specs.Moves.{ChunkFits}
 use Rattle.spec_protocol.specs.Placing.{replays}
-use Rattle.spec_protocol.proofs.Keeping.{run-keeps}
-use Rattle.spec_protocol.proofs.FollowingVerdicts.{run-first, run-stops}
+use Rattle.spec_protocol.proofs.Moves.Threads.{run-keeps}
+use Rattle.spec_protocol.proofs.PlayingBack.Verdicts.{run-first, run-stops}
 use Rattle.spec_replay.specs.Following.{IsMovedOn}
 use Rattle.spec_replay.proofs.Standing.{limit_by, limit-is}
 use Rattle.spec_replay.proofs.Judging.{AreAlike, chunks-alike}

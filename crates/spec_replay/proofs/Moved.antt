@@ -22,14 +22,14 @@ use Rattle.spec_protocol.specs.Asking.{is_short, other_turn}
 use Rattle.spec_protocol.specs.Transferring.{turn_before_dma}
 use Rattle.spec_protocol.specs.Serial.{Whole, laid, do_moved, do_serial, do_dma}
 use Rattle.spec_protocol.specs.Moves.{move_chunk, do_what, FitsChunk, SerialFits, FitsSerial, DmaFits, FitsWhat}
-use Rattle.spec_protocol.proofs.Moving.{get-set_same, turn-is}
-use Rattle.spec_protocol.proofs.Transfers.{dma-turn_is}
+use Rattle.spec_protocol.proofs.Moves.Granted.{get-set_same, turn-is}
+use Rattle.spec_protocol.proofs.Moves.Transfers.{dma-turn_is}
 use Rattle.spec_replay.specs.Following.{IsMovedOn, StandsAt, EndsWithin, Follows}
 use Rattle.spec_replay.proofs.Standing.{set_here}
 use Rattle.spec_replay.proofs.Judging.{alike_same}
 use Rattle.spec_replay.proofs.Done.{Reaches, Beside, commit-reaches, transfer-reaches}
 use Rattle.spec_replay.proofs.LastParts.{chunk-reaches}
-use Rattle.spec_protocol.proofs.Pieces.{no_raise}
+use Rattle.spec_protocol.proofs.Replays.Pieces.{no_raise}
 
 -- ---- whose turn it is
 

@@ -15,8 +15,8 @@ use Rattle.spec_protocol.specs.Spheres.{Book, Role, Replay, Sphere, whole_limit,
 use Rattle.spec_protocol.specs.Commits.{piece_moved}
 use Rattle.spec_protocol.specs.World.{Numbers}
 use Rattle.spec_protocol.specs.Serial.{laid}
-use Rattle.spec_protocol.proofs.Moving.{get-set_same}
-use Rattle.spec_protocol.proofs.Keeping.{run-keeps}
+use Rattle.spec_protocol.proofs.Moves.Granted.{get-set_same}
+use Rattle.spec_protocol.proofs.Moves.Threads.{run-keeps}
 use Rattle.spec_replay.specs.Following.{IsMovedOn, StandsAt, Follows}
 use Rattle.spec_replay.proofs.Joining.{IsJoined, rest_of, run-joined}
 use Rattle.spec_replay.proofs.Standing.{set_twice}

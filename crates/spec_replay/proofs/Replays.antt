@@ -12,8 +12,8 @@ use Rattle.spec_protocol.specs.World.{Numbers, Move}
 use Rattle.spec_protocol.specs.Machine.{IsReplayed, SphereSetup, role_of, sphere_of, moves, world_of}
 use Rattle.spec_protocol.specs.Serial.{Whole, whole_of}
 use Rattle.spec_protocol.specs.Moves.{do_what, do_at, do_move, do_moves, FitsAt, Fits, FitAll}
-use Rattle.spec_protocol.proofs.Elsewhere.{at-away}
-use Rattle.spec_protocol.proofs.Schedules.{start-sphere, moves_are}
+use Rattle.spec_protocol.proofs.Moves.Elsewhere.{at-away}
+use Rattle.spec_protocol.proofs.Invariants.Schedules.{start-sphere, moves_are}
 use Rattle.spec_replay.specs.Promises.{ReplaysArePlays}
 use Rattle.spec_replay.proofs.Standing.{whole-stands}
 use Rattle.spec_replay.proofs.Done.{Reaches}

@@ -38,13 +38,13 @@ use Rattle.spec_protocol.specs.Machine.{SphereSetup, Setup, sphere_of, world_of,
 use Rattle.spec_protocol.specs.Invariants.{IsGood}
 use Rattle.spec_protocol.specs.Promises.{after}
 use Rattle.spec_protocol.specs.Sound.{IsWithinLimits}
-use Rattle.spec_protocol.proofs.OnCores.{branch}
-use Rattle.spec_protocol.proofs.OnCounts.{act-untold}
-use Rattle.spec_protocol.proofs.Schedules.{happens-kept, first_held, start-good}
-use Rattle.spec_protocol.proofs.Growing.{pushed_length}
-use Rattle.spec_protocol.proofs.SoundCommits.{next-position}
-use Rattle.spec_protocol.proofs.Sounding.{setup-within}
-use Rattle.spec_protocol.proofs.Changing.{Properties, Holds, Lands, Keeps, act-holds}
+use Rattle.spec_protocol.proofs.Invariants.Cores.{branch}
+use Rattle.spec_protocol.proofs.Points.Counts.{act-untold}
+use Rattle.spec_protocol.proofs.Invariants.Schedules.{happens-kept, first_held, start-good}
+use Rattle.spec_protocol.proofs.Logs.Growing.{pushed_length}
+use Rattle.spec_protocol.proofs.Sound.Commits.{next-position}
+use Rattle.spec_protocol.proofs.Sound.Schedules.{setup-within}
+use Rattle.spec_protocol.proofs.Sound.Changes.{Properties, Holds, Lands, Keeps, act-holds}
 use Rattle.spec_run.specs.Promise.{SchedulesLeaveRoom}
 
 -- ---- fewer commits than events

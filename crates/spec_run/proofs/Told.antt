@@ -25,10 +25,10 @@ use Rattle.spec_protocol.specs.PlayingBack.{PlaysBack}
 use Rattle.spec_replay.specs.Promises.{IsPlayed}
 use Rattle.spec_finishing.specs.Ending.{Ends, CanFinish, IsAtEnd}
 use Rattle.spec_finishing.specs.Function.{finished, finishing_of, most_events}
-use Rattle.spec_protocol.proofs.OnPoints.{commits_are}
-use Rattle.spec_protocol.proofs.LogsOfPoints.{logs_are, logs_are_fresh}
-use Rattle.spec_protocol.proofs.FollowingAll.{logs_play_back}
-use Rattle.spec_protocol.proofs.Schedules.{sizes_kept}
+use Rattle.spec_protocol.proofs.Points.Serial.{commits_are}
+use Rattle.spec_protocol.proofs.Points.Logs.{logs_are, logs_are_fresh}
+use Rattle.spec_protocol.proofs.PlayingBack.All.{logs_play_back}
+use Rattle.spec_protocol.proofs.Invariants.Schedules.{sizes_kept}
 use Rattle.spec_finishing.proofs.Function.{function_finishes}
 use Rattle.spec_finishing.proofs.KindsKept.{is_replayed, AreOfKinds, kind-at}
 use Rattle.spec_finishing.proofs.Knowing.{within, there_is, kinds_after}

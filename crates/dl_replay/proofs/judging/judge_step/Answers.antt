@@ -6,7 +6,7 @@ use Rattle.spec_log.specs.Size.{size_in}
 use Rattle.spec_kernel.specs.Serving.{Served}
 use Rattle.spec_play.specs.Effects.{serial_effect}
 use Rattle.spec_play.specs.Verdicts.{Given, serial_why}
-use Rattle.spec_protocol.proofs.Keeping.{AreNew, KeepsCommits, serve-keeps}
+use Rattle.spec_protocol.proofs.Moves.Threads.{AreNew, KeepsCommits, serve-keeps}
 use Rattle.dl_kernel.specs.Served.{served_in}
 use Rattle.dl_replay.specs.Seen.{used_seen}
 use Rattle.dl_replay.specs.Judging.{given_by}

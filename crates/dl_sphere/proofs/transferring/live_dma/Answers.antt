@@ -2,7 +2,7 @@ use Rattle.std.proofs.Common.{◌≡◌, ◌∙◌, min, sym, ap, subst, take}
 use Rattle.std.proofs.lemmas.List.{take_min}
 use Rattle.spec_log.specs.Log.{AreFewBytes}
 use Rattle.spec_kernel.specs.Answers.{dma_bytes}
-use Rattle.spec_protocol.proofs.SoundDevices.{dma-bytes}
+use Rattle.spec_protocol.proofs.Sound.Devices.{dma-bytes}
 use Rattle.dl_sphere.proofs.transferring.live_dma.Goals as goal
 
 pub keep-requires-clause-dma : goal.keep-requires-clause-dma

@@ -1,4 +1,4 @@
-use Rattle.spec_protocol.proofs.OnPoints.{commits_are}
+use Rattle.spec_protocol.proofs.Points.Serial.{commits_are}
 use Rattle.spec_protocol.proofs.promise.commits_are_serial.Goals as goal
 
 pub returns : goal.returns

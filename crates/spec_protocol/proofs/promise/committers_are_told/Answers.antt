@@ -1,4 +1,4 @@
-use Rattle.spec_protocol.proofs.Committers.{committers_told}
+use Rattle.spec_protocol.proofs.Moves.Committers.{committers_told}
 use Rattle.spec_protocol.proofs.promise.committers_are_told.Goals as goal
 
 pub returns : goal.returns

@@ -1,4 +1,4 @@
-use Rattle.spec_protocol.proofs.Schedules.{invariants_hold as all_good}
+use Rattle.spec_protocol.proofs.Invariants.Schedules.{invariants_hold as all_good}
 use Rattle.spec_protocol.proofs.promise.invariants_hold.Goals as goal
 
 pub returns : goal.returns

@@ -1,4 +1,4 @@
-use Rattle.spec_protocol.proofs.SeenAlike.{seen_alike}
+use Rattle.spec_protocol.proofs.Logs.SeenAlike.{seen_alike}
 use Rattle.spec_protocol.proofs.promise.logs_are_seen_alike.Goals as goal
 
 pub returns : goal.returns

@@ -1,4 +1,4 @@
-use Rattle.spec_protocol.proofs.FollowingAll.{logs_play_back}
+use Rattle.spec_protocol.proofs.PlayingBack.All.{logs_play_back}
 use Rattle.spec_protocol.proofs.promise.logs_play_back.Goals as goal
 
 pub returns : goal.returns

@@ -1,4 +1,4 @@
-use Rattle.spec_protocol.proofs.Schedules.{moves_are}
+use Rattle.spec_protocol.proofs.Invariants.Schedules.{moves_are}
 use Rattle.spec_protocol.proofs.promise.moves_are_serial.Goals as goal
 
 pub returns : goal.returns

@@ -1,4 +1,4 @@
-use Rattle.spec_protocol.proofs.Notable.{notes_fit}
+use Rattle.spec_protocol.proofs.Sound.Notable.{notes_fit}
 use Rattle.spec_protocol.proofs.promise.notes_fit_logs.Goals as goal
 
 pub returns : goal.returns

@@ -1,4 +1,4 @@
-use Rattle.spec_protocol.proofs.CountingPieces.{pieces_count}
+use Rattle.spec_protocol.proofs.Replays.CountingPieces.{pieces_count}
 use Rattle.spec_protocol.proofs.promise.pieces_count_nothing.Goals as goal
 
 pub returns : goal.returns

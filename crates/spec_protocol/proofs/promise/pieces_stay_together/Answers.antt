@@ -1,4 +1,4 @@
-use Rattle.spec_protocol.proofs.Pieces.{pieces_stay}
+use Rattle.spec_protocol.proofs.Replays.Pieces.{pieces_stay}
 use Rattle.spec_protocol.proofs.promise.pieces_stay_together.Goals as goal
 
 pub returns : goal.returns

@@ -1,4 +1,4 @@
-use Rattle.spec_protocol.proofs.AsRecorded.{plain_moves}
+use Rattle.spec_protocol.proofs.Moves.AsRecorded.{plain_moves}
 use Rattle.spec_protocol.proofs.promise.plain_moves_as_recorded.Goals as goal
 
 pub returns : goal.returns

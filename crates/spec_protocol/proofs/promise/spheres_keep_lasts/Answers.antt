@@ -1,4 +1,4 @@
-use Rattle.spec_protocol.proofs.Lasts.{spheres_keep_lasts}
+use Rattle.spec_protocol.proofs.Invariants.Lasts.{spheres_keep_lasts}
 use Rattle.spec_protocol.proofs.promise.spheres_keep_lasts.Goals as goal
 
 pub returns : goal.returns

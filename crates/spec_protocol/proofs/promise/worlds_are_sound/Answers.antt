@@ -1,4 +1,4 @@
-use Rattle.spec_protocol.proofs.Sounding.{worlds_sound}
+use Rattle.spec_protocol.proofs.Sound.Schedules.{worlds_sound}
 use Rattle.spec_protocol.proofs.promise.worlds_are_sound.Goals as goal
 
 pub returns : goal.returns

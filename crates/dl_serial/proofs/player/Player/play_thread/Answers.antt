@@ -5,8 +5,8 @@ use Rattle.spec_play.specs.Plays.{settled}
 use Rattle.spec_play.specs.Verdicts.{chunk_verdict, serial_verdict}
 use Rattle.spec_play.specs.Turns.{Turn}
 use Rattle.spec_protocol.specs.Spheres.{whole_limit}
-use Rattle.spec_protocol.proofs.Keeping.{run-keeps}
-use Rattle.spec_protocol.proofs.SoundLimits.{whole-positive, whole-most}
+use Rattle.spec_protocol.proofs.Moves.Threads.{run-keeps}
+use Rattle.spec_protocol.proofs.Sound.Limits.{whole-positive, whole-most}
 use Rattle.dl_replay.specs.Replaying.{book_of}
 use Rattle.dl_serial.specs.declared.chunk.Chunk.{Chunk}
 use Rattle.dl_serial.specs.declared.sphere.Sphere.{Sphere}

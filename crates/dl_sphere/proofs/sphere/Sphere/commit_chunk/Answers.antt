@@ -13,7 +13,7 @@ use Rattle.dl_replay.specs.Replaying.{Replaying, book_of, commits_of}
 use Rattle.dl_sphere.specs.declared.part.Part.{Part}
 use Rattle.dl_sphere.specs.Moving.{IsPart, IsPartIn}
 use Rattle.dl_sphere.specs.Replayed.{before}
-use Rattle.spec_protocol.proofs.Growing.{pushed_length}
+use Rattle.spec_protocol.proofs.Logs.Growing.{pushed_length}
 use Rattle.dl_sphere.specs.Roles.{keeping_of, role_in, IsReplayed, IsStanding}
 use Rattle.dl_sphere.specs.Inside.{sphere_in, sphere_with}
 use Rattle.dl_sphere.specs.Standing.{Standing}

@@ -7,7 +7,7 @@ use Rattle.spec_play.specs.Effects.{dma_commit}
 use Rattle.spec_play.specs.Transfers.{dma_verdict}
 use Rattle.spec_protocol.specs.Commits.{Diverged, Granted, Moved, dma_moved}
 use Rattle.spec_protocol.specs.Spheres.{Replay, Sphere}
-use Rattle.spec_protocol.proofs.Growing.{pushed_length}
+use Rattle.spec_protocol.proofs.Logs.Growing.{pushed_length}
 use Rattle.dl_replay.specs.Replaying.{book_of}
 use Rattle.dl_sphere.specs.declared.part.Part.{Part}
 use Rattle.dl_sphere.specs.Inside.{sphere_in, sphere_with}

@@ -16,8 +16,8 @@ use Rattle.dl_replay.specs.Replaying.{book_of}
 use Rattle.dl_sphere.specs.declared.part.Part.{Part}
 use Rattle.dl_sphere.specs.Replayed.{before}
 use Rattle.spec_protocol.specs.Commits.{Diverged, Granted, Moved, serial_moved}
-use Rattle.spec_protocol.proofs.Growing.{commits_if, pushed_length}
-use Rattle.spec_protocol.proofs.Keeping.{serve-keeps}
+use Rattle.spec_protocol.proofs.Logs.Growing.{commits_if, pushed_length}
+use Rattle.spec_protocol.proofs.Moves.Threads.{serve-keeps}
 use Rattle.dl_kernel.specs.Calls.{made_list}
 use Rattle.dl_sphere.specs.Roles.{keeping_of, role_in, role_of, with_noted, IsReplayed, IsStanding}
 use Rattle.dl_sphere.specs.Inside.{sphere_in, sphere_with}

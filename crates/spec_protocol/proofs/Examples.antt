@@ -1,0 +1,5 @@
+-- Small machines, event by event, and a setup within the limits.
+pub mod Scenes
+pub mod Recordings
+pub mod TwoThreads
+pub mod Limits

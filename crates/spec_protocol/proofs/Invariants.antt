@@ -1,0 +1,12 @@
+-- What holds of every world that the machine comes to: the start has it, and each event keeps it.
+pub mod Kept
+pub mod Cores
+pub mod Flights
+pub mod Landing
+pub mod Granting
+pub mod Asks
+pub mod Threads
+pub mod Transfers
+pub mod Schedules
+pub mod AsksGranted
+pub mod Lasts

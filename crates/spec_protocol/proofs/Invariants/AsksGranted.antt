@@ -1,0 +1,194 @@
+-- Which asks are granted.
+use Rattle.std.proofs.Common.{◌≡◌, ℕ, ◌<◌, ◌/◌, ◌⊎◌, inl, inr, Bool, true, false, cond, List, [], ◌∷◌, length, Option, Some, None, refl, sym, ap, ◌∙◌, subst, arith}
+use Rattle.std.proofs.lemmas.Bool.{true≢false, eqb-false, false_from_ne_true}
+use Rattle.std.proofs.lemmas.Option.{none-some}
+use Rattle.dl_entry.specs.declared.Actor.{Actor}
+use Rattle.spec_isa.specs.declared.thread.Load.{Load}
+use Rattle.spec_isa.specs.Words.{Stored, Lacks}
+use Rattle.spec_log.specs.declared.ModeName.{ModeName}
+use Rattle.spec_engine.specs.declared.answers.How.{How}
+use Rattle.spec_engine.specs.Signatures.{Marks, hits, covers, line, nothing, signed}
+use Rattle.spec_engine.specs.Flights.{Flight, at, is_none, first_slot, free_slot, is_full, meets_chunk, is_of_sphere}
+use Rattle.spec_engine.specs.Asking.{denied_by, busy_by}
+use Rattle.spec_engine.specs.Laws.{CoversLoads, CoversWords}
+use Rattle.spec_engine.proofs.Marking.{covers_hit}
+use Rattle.spec_engine.proofs.Searches.{first_none, first_some, full_at}
+use Rattle.spec_protocol.specs.declared.event.Event.{Event}
+use Rattle.spec_protocol.specs.declared.reply.Reply.{Reply}
+use Rattle.spec_protocol.specs.Spheres.{Role, Plain, Record, Replay, Sphere, is_stopped, recording_turn, head_in, head_of}
+use Rattle.spec_protocol.specs.Placing.{replays}
+use Rattle.spec_protocol.specs.Commits.{CommitOutcome, Granted, Piece, Diverged, Moved, is_piece, chunk_moved, serial_moved}
+use Rattle.spec_protocol.specs.World.{Held, World, moment, sphere_at, After, answered}
+use Rattle.spec_protocol.specs.Asking.{CommitRequest, chunk_request, granted, grant_chunk, unless_denied, serial_request, grant_serial, unless_busy, asks_serial, ask_arbiter, other_turn, unless_turn, ask_closed, ask_held, asking}
+use Rattle.spec_protocol.specs.Machine.{world_of, core_no, act, happens, world_after}
+use Rattle.spec_protocol.specs.Invariants.{IsGoodHeld, IsGood}
+use Rattle.spec_protocol.specs.Replying.{makes_point, IsInTurns, IsGranted, AsksAreGranted, LoadsLack, IsClearOf, GrantsAreClear}
+use Rattle.spec_protocol.proofs.Memory.Laying.{AllLack_flip}
+use Rattle.spec_protocol.proofs.Memory.Covering.{uncovered-lacks, apart-covered}
+use Rattle.spec_protocol.proofs.Moves.Granted.{chunk-lives, serial-lives}
+use Rattle.spec_protocol.proofs.Invariants.Cores.{branch}
+use Rattle.spec_protocol.proofs.Invariants.Asks.{never_hits}
+use Rattle.spec_protocol.proofs.Invariants.Schedules.{start-good, after-good, sizes_kept}
+
+-- ---- with no flight standing
+
+record Empty (w : World) : Type 0 where
+  none : (k : ℕ) → at w.slots k ≡ None
+  some_slot : 0 < length w.slots
+
+not_found : (w : World) (p : Flight → Bool) (o : Option ℕ) → first_slot p w.slots ≡ o → ((k : ℕ) → at w.slots k ≡ None) → o ≡ None
+not_found w p None e none = refl
+not_found w p (Some k) e none = let f = first_some p w.slots k e in absurd (none-some f.0 (sym (none k) ∙ f.1))
+
+not_full : (w : World) (o : Option ℕ) → free_slot w.slots ≡ o → Empty w → is_none o ≡ false
+not_full w None e m = absurd (true≢false (sym (ap is_none (m.none 0)) ∙ full_at w.slots e 0 m.some_slot))
+not_full w (Some k) e m = refl
+
+abbrev IsGrantedOr : World → Held → After → Type 0
+IsGrantedOr w h a = (a.reply ≡ Reply.Granted) ⊎ ((actor : Actor) × (a.reply ≡ Reply.NotTurn actor) × IsInTurns (sphere_at w h.chunk.sphere).role)
+
+granted_reply : (w : World) (c : ℕ) (q : CommitRequest) (writes : Marks) (v : Moved) (o : CommitOutcome) → o ≡ Granted → (granted w c q writes v o).reply ≡ Reply.Granted
+granted_reply w c q writes v Granted e = refl
+granted_reply w c q writes v Piece e = cc
+granted_reply w c q writes v (Diverged i why) e = cc
+
+chunk_reply : (w : World) (c : ℕ) (h : Held) (how : How) → replays (sphere_at w h.chunk.sphere).role ≡ false → (grant_chunk w c h how).reply ≡ Reply.Granted
+unfolding grant_chunk
+chunk_reply w c h how live =
+    let q = chunk_request w h how in
+    granted_reply w c q h.chunk.writes (chunk_moved h.thread (is_piece how) q.short h.chunk.done w.devices (sphere_at w h.chunk.sphere)) _
+    (chunk-lives h.thread (is_piece how) q.short h.chunk.done w.devices (sphere_at w h.chunk.sphere) live)
+
+serial_reply : (w : World) (c : ℕ) (h : Held) → replays (sphere_at w h.chunk.sphere).role ≡ false → (grant_serial w c h).reply ≡ Reply.Granted
+unfolding grant_serial
+serial_reply w c h live =
+    let v = serial_moved h.thread (moment w) h.chunk.start w.devices (sphere_at w h.chunk.sphere) in
+    granted_reply w c (serial_request h) (signed h.chunk.sphere v.words (nothing w.numbers.signature)) v _ (serial-lives h.thread (moment w) h.chunk.start w.devices (sphere_at w h.chunk.sphere) live)
+
+denied_reply : (w : World) (a : After) (o : Option ℕ) → o ≡ None → a.reply ≡ Reply.Granted → (unless_denied (denied_by o) w a).reply ≡ Reply.Granted
+denied_reply w a None e g = g
+denied_reply w a (Some k) e g = absurd (none-some k (sym e))
+
+busy_reply : (w : World) (a : After) (o : Option ℕ) → o ≡ None → a.reply ≡ Reply.Granted → (unless_busy (busy_by o) w a).reply ≡ Reply.Granted
+busy_reply w a None e g = g
+busy_reply w a (Some k) e g = absurd (none-some k (sym e))
+
+arbiter_reply : (w : World) (c : ℕ) (h : Held) (how : How) (serial : Bool) → Empty w → replays (sphere_at w h.chunk.sphere).role ≡ false → (ask_arbiter w c h how serial).reply ≡ Reply.Granted
+arbiter_reply w c h how true m live =
+    busy_reply w (grant_serial w c h) (first_slot (is_of_sphere h.chunk.sphere) w.slots) (not_found w (is_of_sphere h.chunk.sphere) _ refl m.none) (serial_reply w c h live)
+arbiter_reply w c h how false m live =
+    denied_reply w (grant_chunk w c h how) (first_slot (meets_chunk h.chunk.reads h.chunk.writes) w.slots) (not_found w (meets_chunk h.chunk.reads h.chunk.writes) _ refl m.none) (chunk_reply w c h how live)
+
+live_going : (role : Role) → replays role ≡ false → is_stopped role ≡ false
+live_going Plain e = refl
+live_going (Record log) e = refl
+live_going (Replay b) e = absurd (true≢false e)
+
+recorded_turn : (mode : ModeName) (p : Sphere) (k : ℕ) (actor : Actor) → other_turn (recording_turn mode p) k ≡ Some actor → mode ≡ ModeName.Picolog
+recorded_turn ModeName.Picolog p k actor e = refl
+recorded_turn ModeName.OrderSize p k actor e = absurd (none-some actor e)
+recorded_turn ModeName.OrderOnly p k actor e = absurd (none-some actor e)
+
+in_turns : (role : Role) (p : Sphere) (k : ℕ) (actor : Actor) → replays role ≡ false → other_turn (head_in role p) k ≡ Some actor → IsInTurns role
+in_turns Plain p k actor live e = none-some actor e
+in_turns (Record log) p k actor live e = recorded_turn log.mode p k actor e
+in_turns (Replay b) p k actor live e = absurd (true≢false live)
+
+turn_reply : (w : World) (h : Held) (a : After) (o : Option Actor) → ((actor : Actor) → o ≡ Some actor → IsInTurns (sphere_at w h.chunk.sphere).role) → IsGrantedOr w h a → IsGrantedOr w h (unless_turn o w a)
+turn_reply w h a None turns g = g
+turn_reply w h a (Some actor) turns g = inr (actor, refl, turns actor refl)
+
+turns_of : (p : Sphere) (k : ℕ) (actor : Actor) → replays p.role ≡ false → other_turn (head_of p) k ≡ Some actor → IsInTurns p.role
+unfolding head_of
+turns_of p k actor live e = in_turns p.role p k actor live e
+
+closed_reply : (w : World) (c : ℕ) (h : Held) (how : How) → Empty w → replays (sphere_at w h.chunk.sphere).role ≡ false → IsGrantedOr w h (ask_closed w c h (Some how))
+closed_reply w c h how m live =
+    let p = sphere_at w h.chunk.sphere in
+    let turn = other_turn (head_of p) h.thread in
+    let arbiter = ask_arbiter w c h how (asks_serial h.chunk p.role) in
+    branch (IsGrantedOr w h) (is_stopped p.role) (answered w Reply.Stopped) (unless_turn turn w (cond (is_full w.slots) (answered w Reply.WindowFull) arbiter))
+    (λ stopped. absurd (true≢false (sym stopped ∙ live_going p.role live)))
+    (λ _. turn_reply w h (cond (is_full w.slots) (answered w Reply.WindowFull) arbiter) turn (λ actor e. turns_of p h.thread actor live e)
+    (branch (IsGrantedOr w h) (is_full w.slots) (answered w Reply.WindowFull) arbiter
+    (λ full. absurd (true≢false (sym full ∙ not_full w (free_slot w.slots) refl m)))
+    (λ _. inl (arbiter_reply w c h how (asks_serial h.chunk p.role) m live))))
+
+ask_reply : (w : World) (c : ℕ) (h : Held) (how : How) (o : Option Held) (q : Option How) → o ≡ Some h → h.chunk.closed ≡ Some how → Empty w → replays (sphere_at w h.chunk.sphere).role ≡ false → IsGrantedOr w h (ask_held w c o)
+ask_reply w c h how o q is closed m live =
+    subst (λ (x : Option Held). IsGrantedOr w h (ask_held w c x)) (sym is)
+    (subst (λ (x : Option How). IsGrantedOr w h (ask_closed w c h x)) (sym closed) (closed_reply w c h how m live))
+
+happens_reply : (w : World) (c : ℕ) → (happens w (Event.Ask c)).reply ≡ (ask_held w (core_no w c) (at w.cores (core_no w c))).reply
+unfolding happens act asking
+happens_reply w c = refl
+
+pub asks_granted : AsksAreGranted
+asks_granted s es is window c h how can =
+    let w = world_after (world_of s) es in
+    let m : Empty w = record { none = can.clear; some_slot = (let e = (sizes_kept s es is).slots in omega (arith, e)) } in
+    subst (λ (r : Reply). IsGranted r (sphere_at w h.chunk.sphere).role) (sym (happens_reply w c))
+    (ask_reply w (core_no w c) h how (at w.cores (core_no w c)) None can.there can.closed m can.live)
+
+-- ---- what a granted chunk is clear of
+
+uncovered_loads : (i : ℕ) (g f : Marks) (ls : List Load) (ws : List Stored) → g.bits ≡ f.bits → CoversLoads i g ls → ((a : ℕ) → covers f (line i a) ≡ false → Lacks a ws) → hits f g ≡ false → LoadsLack ls ws
+uncovered_loads i g f [] ws size c lacks e = tt
+uncovered_loads i g f (l ∷ ls) ws size c lacks e = (
+  lacks (l.addr / 4) (false_from_ne_true (covers f (line i (l.addr / 4))) (λ h. true≢false (sym (covers_hit f g (line i (l.addr / 4)) size h c.0) ∙ e))),
+  uncovered_loads i g f ls ws size c.1 lacks e,
+)
+
+-- no flight of its sphere shares a word with the chunk, where none hits it
+chunk_clear : (w : World) (c : ℕ) (h : Held) (k : ℕ) (f : Flight) → IsGood w → IsGoodHeld w c h → at w.slots k ≡ Some f → f.sphere ≡ h.chunk.sphere → first_slot (meets_chunk h.chunk.reads h.chunk.writes) w.slots ≡ None → IsClearOf h f
+chunk_clear w c h k f good held there same none =
+    let cov = good.covered k f there in
+    let words = subst (λ (n : ℕ). CoversWords n f.writes f.words) same cov.words in
+    let miss = never_hits w h.chunk none k f there in
+    record {
+      stores = AllLack_flip f.words h.chunk.done.words (apart-covered h.chunk.sphere f.writes h.chunk.writes f.words h.chunk.done.words (held.chunk.writes_size ∙ sym cov.size) words held.chunk.writes miss.1);
+      loads = uncovered_loads h.chunk.sphere h.chunk.reads f.writes h.chunk.done.loads f.words (held.chunk.reads_size ∙ sym cov.size) held.chunk.loads (λ a e. uncovered-lacks h.chunk.sphere a f.writes f.words words e) miss.0;
+    }
+
+abbrev Clear : World → Held → After → Type 0
+Clear w h a = makes_point a.reply ≡ true → (k : ℕ) (f : Flight) → at w.slots k ≡ Some f → f.sphere ≡ h.chunk.sphere → IsClearOf h f
+
+denied_clear : (w : World) (h : Held) (a : After) (o : Option ℕ) → (o ≡ None → Clear w h a) → Clear w h (unless_denied (denied_by o) w a)
+denied_clear w h a None clear = clear refl
+denied_clear w h a (Some k) clear = λ e. absurd (true≢false (sym e))
+
+busy_clear : (w : World) (h : Held) (a : After) (o : Option ℕ) → (o ≡ None → Clear w h a) → Clear w h (unless_busy (busy_by o) w a)
+busy_clear w h a None clear = clear refl
+busy_clear w h a (Some k) clear = λ e. absurd (true≢false (sym e))
+
+arbiter_clear : (w : World) (c : ℕ) (h : Held) (how : How) (serial : Bool) → IsGood w → IsGoodHeld w c h → Clear w h (ask_arbiter w c h how serial)
+arbiter_clear w c h how true good held =
+    busy_clear w h (grant_serial w c h) (first_slot (is_of_sphere h.chunk.sphere) w.slots)
+    (λ none e k f there same. absurd (eqb-false f.sphere h.chunk.sphere (first_none (is_of_sphere h.chunk.sphere) w.slots none k f there) same))
+arbiter_clear w c h how false good held =
+    denied_clear w h (grant_chunk w c h how) (first_slot (meets_chunk h.chunk.reads h.chunk.writes) w.slots)
+    (λ none e k f there same. chunk_clear w c h k f good held there same none)
+
+turn_clear : (w : World) (h : Held) (a : After) (o : Option Actor) → Clear w h a → Clear w h (unless_turn o w a)
+turn_clear w h a None clear = clear
+turn_clear w h a (Some actor) clear = λ e. absurd (true≢false (sym e))
+
+closed_clear : (w : World) (c : ℕ) (h : Held) (o : Option How) → IsGood w → IsGoodHeld w c h → Clear w h (ask_closed w c h o)
+closed_clear w c h None good held = λ e. absurd (true≢false (sym e))
+closed_clear w c h (Some how) good held =
+    let p = sphere_at w h.chunk.sphere in
+    let turn = other_turn (head_of p) h.thread in
+    let arbiter = ask_arbiter w c h how (asks_serial h.chunk p.role) in
+    branch (Clear w h) (is_stopped p.role) (answered w Reply.Stopped) (unless_turn turn w (cond (is_full w.slots) (answered w Reply.WindowFull) arbiter))
+    (λ _ e. absurd (true≢false (sym e)))
+    (λ _. turn_clear w h (cond (is_full w.slots) (answered w Reply.WindowFull) arbiter) turn
+    (branch (Clear w h) (is_full w.slots) (answered w Reply.WindowFull) arbiter
+    (λ _ e. absurd (true≢false (sym e)))
+    (λ _. arbiter_clear w c h how (asks_serial h.chunk p.role) good held)))
+
+pub grants_clear : GrantsAreClear
+grants_clear s es is c h there made =
+    let w = world_after (world_of s) es in
+    let good = after-good (world_of s) es (start-good s is) in
+    subst (λ (o : Option Held). Clear w h (ask_held w (core_no w c) o)) (sym there) (closed_clear w (core_no w c) h h.chunk.closed good (good.held (core_no w c) h there))
+    (ap makes_point (sym (happens_reply w c)) ∙ made)

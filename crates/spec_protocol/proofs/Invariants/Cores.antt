@@ -1,0 +1,217 @@
+-- The events of running chunks keep the invariant: Step and Cut.
+use Rattle.std.proofs.Common.{◌≡◌, ◌≢◌, ℕ, ◌<◌, ◌≤◌, ◌⊎◌, inl, inr, Bool, true, false, eqb, cond, List, length, Option, Some, None, refl, sym, ap, ◌∙◌, subst, arith, set}
+use Rattle.std.specs.Prelude.{slice_get}
+use Rattle.std.proofs.Math.ListN.{length-set}
+use Rattle.std.proofs.lemmas.Bool.{true≢false, eqb-false, cases_lt, cases_eq}
+use Rattle.std.proofs.lemmas.List.{get_or_past}
+use Rattle.std.proofs.lemmas.Option.{none-some}
+use Rattle.spec_kernel.specs.Interrupts.{is_live}
+use Rattle.spec_engine.specs.declared.answers.How.{How}
+use Rattle.spec_engine.specs.declared.answers.CutReply.{CutReply}
+use Rattle.spec_engine.specs.Flights.{Flight, at}
+use Rattle.spec_engine.specs.Chunks.{Chunk, step, Cutting, cut_open, cut, is_open}
+use Rattle.spec_protocol.specs.declared.reply.Reply.{Reply}
+use Rattle.spec_protocol.specs.Spheres.{is_stopped, limit_of, halves}
+use Rattle.spec_protocol.specs.Placing.{replays}
+use Rattle.spec_protocol.specs.World.{Held, World, Move, After, sphere_at, with_core, answered}
+use Rattle.spec_protocol.specs.Shown.{shown_of}
+use Rattle.spec_protocol.specs.Moves.{do_if, FitsIf}
+use Rattle.spec_protocol.specs.Stepping.{with_chunk, stepped, step_held, stepping, cut_to, cut_held, cutting}
+use Rattle.spec_protocol.proofs.Memory.Slots.{at-set_same, at-set_other}
+use Rattle.spec_protocol.proofs.Memory.Steps.{SameBase}
+use Rattle.spec_protocol.proofs.Memory.Current.{step-good}
+use Rattle.spec_protocol.proofs.Invariants.Kept.{SameSizes, PointIs, Kept, unchanged-kept}
+use Rattle.spec_protocol.specs.Currency.{IsCurrent}
+use Rattle.spec_protocol.specs.Invariants.{IsGoodChunk, current, IsGoodHeld, IsAlone, IsGood}
+
+-- ---- rows of cores and slots
+
+-- what stands at j after a change at k is that, or stood there
+pub set-cases : {A : Type 0} (xs : List (Option A)) (k j : ℕ) (v : Option A) (x : A) → at (set xs k v) j ≡ Some x → ((j ≡ k) × (v ≡ Some x)) ⊎ ((j ≢ k) × (at xs j ≡ Some x))
+set-cases xs k j v x e =
+    elim (cases_eq j k) [
+      | inr ne ↦ inr (ne, sym (at-set_other xs k j v ne) ∙ e)
+      | inl same ↦ elim (cases_lt k (length xs)) [
+        | inl l ↦ inl (same, sym (at-set_same xs k v l) ∙ ap (at (set xs k v)) (sym same) ∙ e)
+        | inr past ↦ absurd (none-some x (sym (get_or_past (set xs k v) j None (let h = length-set xs k v in omega arith)) ∙ e))
+      ]
+    ]
+
+pub alone-set : (cores : List (Option Held)) (c : ℕ) (o : Option Held) → IsAlone cores → ((h : Held) → o ≡ Some h → (d : ℕ) (g : Held) → d ≢ c → at cores d ≡ Some g → h.chunk.sphere ≡ g.chunk.sphere → h.thread ≡ g.thread → ⊥) → IsAlone (set cores c o)
+alone-set cores c o alone new a b h g ah bg sphere thread =
+    elim (set-cases cores c a o h ah) [
+      | inl p ↦ elim (set-cases cores c b o g bg) [
+        | inl q ↦ p.0 ∙ sym q.0
+        | inr q ↦ absurd (new h p.1 b g q.0 q.1 sphere thread)
+      ]
+      | inr p ↦ elim (set-cases cores c b o g bg) [
+        | inl q ↦ absurd (new g q.1 a h p.0 p.1 (sym sphere) (sym thread))
+        | inr q ↦ alone a b h g p.1 q.1 sphere thread
+      ]
+    ]
+
+-- ---- one core changes
+
+pub held_there : (w : World) (c d : ℕ) (o : Option Held) (g : Held) → IsGoodHeld w d g → IsGoodHeld (with_core w c o) d g
+held_there w c d o g good =
+    record {
+      sphere = good.sphere;
+      start = good.start;
+      lives = good.lives;
+      halving = good.halving;
+      limit = good.limit;
+      chunk = good.chunk;
+    }
+
+pub core-good : (w : World) (c : ℕ) (o : Option Held) → IsGood w → ((h : Held) → o ≡ Some h → IsGoodHeld w c h)
+    → ((h : Held) → o ≡ Some h → (d : ℕ) (g : Held) → d ≢ c → at w.cores d ≡ Some g → h.chunk.sphere ≡ g.chunk.sphere → h.thread ≡ g.thread → ⊥) → IsGood (with_core w c o)
+core-good w c o good new other =
+    record {
+      buffer = good.buffer;
+      standard = good.standard;
+      apart = good.apart;
+      covered = good.covered;
+      flights = good.flights;
+      held = λ d g e. elim (set-cases w.cores c d o g e) [
+        | inl p ↦ held_there w c d o g (subst (λ (k : ℕ). IsGoodHeld w k g) (sym p.0) (new g p.1))
+        | inr p ↦ held_there w c d o g (good.held d g p.1)
+      ];
+      alone = alone-set w.cores c o good.alone other;
+    }
+
+pub core-kept : (w : World) (c : ℕ) (o : Option Held) (a : After) → a.world ≡ with_core w c o → a.move ≡ None → a.point ≡ None → IsGood (with_core w c o) → Kept w a
+core-kept w c o a world move point good =
+    record {
+      good = subst IsGood (sym world) good;
+      sizes = subst (SameSizes w) (sym world) (record { numbers = refl; spheres = refl; cores = length-set w.cores c o; slots = refl });
+      point = subst (λ (m : Option Move). PointIs w m a.point) (sym move) point;
+      whole = ap shown_of world ∙ sym (ap (do_if w.numbers (shown_of w)) move);
+      fits = subst (FitsIf w.numbers (shown_of w)) (sym move) tt;
+    }
+
+-- ---- the core's chunk changes, and its base does not
+
+pub held-same : (w : World) (c : ℕ) (h : Held) (dh : Chunk) → IsGoodHeld w c h → SameBase h.chunk dh → IsGoodChunk w.numbers.buffer w.numbers.signature w.slots c (current w h.chunk.sphere) dh → IsGoodHeld w c (record h { chunk = dh })
+held-same w c h dh good base chunk =
+    let limits : limit_of w.numbers.chunk (sphere_at w dh.sphere).role h.thread dh.start ≡ limit_of w.numbers.chunk (sphere_at w h.chunk.sphere).role h.thread h.chunk.start =
+    (λ j. limit_of w.numbers.chunk (sphere_at w (base.sphere j)).role h.thread (base.start j))
+    in
+    record {
+      sphere = subst (λ (i : ℕ). i < length w.spheres) (sym base.sphere) good.sphere;
+      start = ap (λ (i : ℕ). slice_get (sphere_at w i).threads h.thread) base.sphere ∙ good.start ∙ ap Some (sym base.start);
+      lives = ap is_live base.start ∙ good.lives;
+      halving = base.halves ∙ good.halving ∙ ap (λ (i : ℕ). halves (sphere_at w i).role) (sym base.sphere);
+      limit = λ going.
+          let l = good.limit (ap (λ (i : ℕ). is_stopped (sphere_at w i).role) (sym base.sphere) ∙ going) in
+          record {
+            most = subst (λ (n : ℕ). n ≤ limit_of w.numbers.chunk (sphere_at w dh.sphere).role h.thread dh.start) (sym base.limit) (subst (λ (n : ℕ). h.chunk.limit ≤ n) (sym limits) l.most);
+            replayed = λ r. base.limit ∙ l.replayed (ap (λ (i : ℕ). replays (sphere_at w i).role) (sym base.sphere) ∙ r) ∙ sym limits;
+          };
+      chunk = subst (λ (i : ℕ). IsGoodChunk w.numbers.buffer w.numbers.signature w.slots c (current w i) dh) (sym base.sphere) chunk;
+    }
+
+-- nobody else runs the thread of core c's chunk
+pub others-differ : (w : World) (c : ℕ) (h : Held) (dh : Chunk) → IsGood w → at w.cores c ≡ Some h → dh.sphere ≡ h.chunk.sphere → (k : Held) → Some (record h { chunk = dh }) ≡ Some k → (d : ℕ) (g : Held) → d ≢ c → at w.cores d ≡ Some g → k.chunk.sphere ≡ g.chunk.sphere → k.thread ≡ g.thread → ⊥
+others-differ w c h dh good is same k e d g ne there sphere thread =
+    let q : record h { chunk = dh } ≡ k = cc in
+    ne (good.alone d c g h there is (sym sphere ∙ ap (λ (x : Held). x.chunk.sphere) (sym q) ∙ same) (sym thread ∙ ap (λ (x : Held). x.thread) (sym q)))
+
+chunk_kept : (w : World) (c : ℕ) (h : Held) (dh : Chunk) (a : After) → IsGood w → at w.cores c ≡ Some h → SameBase h.chunk dh → IsGoodChunk w.numbers.buffer w.numbers.signature w.slots c (current w h.chunk.sphere) dh
+    → a.world ≡ with_chunk w c h dh → a.move ≡ None → a.point ≡ None → Kept w a
+chunk_kept w c h dh a good is base chunk world move point =
+    core-kept w c (Some (record h { chunk = dh })) a world move point
+    (core-good w c (Some (record h { chunk = dh })) good
+    (λ k e. subst (IsGoodHeld w c) (let q : record h { chunk = dh } ≡ k = cc in q) (held-same w c h dh (good.held c h is) base chunk))
+    (others-differ w c h dh good is base.sphere))
+
+-- ---- choices
+
+pub branch : {A : Type 0} (P : A → Type 0) (b : Bool) (x y : A) → (b ≡ true → P x) → (b ≡ false → P y) → P (cond b x y)
+branch P true x y p q = p refl
+branch P false x y p q = q refl
+
+-- ---- Step
+
+open_is : (ch : Chunk) → is_open ch ≡ true → ch.closed ≡ None
+open_is ch e =
+    elim ch.closed as (λ (o : Option How). elim o as (λ (q : Option How). Bool) [ None ↦ true | Some how ↦ false ] ≡ true → o ≡ None) [
+      | None ↦ λ h. refl
+      | Some how ↦ λ h. absurd (true≢false (sym h))
+    ] e
+
+step_held_kept : (w : World) (c : ℕ) (o : Option Held) → at w.cores c ≡ o → IsGood w → Kept w (step_held w c o)
+step_held_kept w c None is good = unchanged-kept w (answered w Reply.Idle) refl refl refl good
+step_held_kept w c (Some h) is good =
+    let p = sphere_at w h.chunk.sphere in
+    let s = step w.numbers.buffer p.memory w.slots c h.chunk in
+    branch (Kept w) (is_stopped p.role) (answered w Reply.Stopped) (cond (is_open h.chunk) (stepped w c h s) (answered w Reply.Waiting))
+    (λ _. unchanged-kept w (answered w Reply.Stopped) refl refl refl good)
+    (λ _. branch (Kept w) (is_open h.chunk) (stepped w c h s) (answered w Reply.Waiting)
+    (λ e.
+    let r = step-good w.numbers.buffer w.numbers.signature w.slots c p.memory h.chunk good.covered (open_is h.chunk e) (good.held c h is).chunk in
+    chunk_kept w c h s.chunk (stepped w c h s) good is r.1 r.0 refl refl refl)
+    (λ _. unchanged-kept w (answered w Reply.Waiting) refl refl refl good))
+
+pub step-kept : (w : World) (c : ℕ) → IsGood w → Kept w (stepping w c)
+unfolding stepping
+step-kept w c good = step_held_kept w c (at w.cores c) refl good
+
+-- ---- Cut
+
+same_base : (ch : Chunk) → SameBase ch ch
+same_base ch = record { sphere = refl; start = refl; limit = refl; halves = refl; reads = refl; writes = refl }
+
+positive : (n : ℕ) → eqb n 0 ≡ false → 0 < n
+positive n e = let h = eqb-false n 0 e in omega (arith, h)
+
+cut_good : (capacity bits : ℕ) (xs : List (Option Flight)) (c : ℕ) (m : List ℕ) (ch : Chunk) → ch.closed ≡ None → 0 < ch.done.n → IsGoodChunk capacity bits xs c m ch → IsGoodChunk capacity bits xs c m (record ch { closed = Some How.Cut })
+cut_good capacity bits xs c m ch open_ some good =
+    record {
+      reads_size = good.reads_size;
+      writes_size = good.writes_size;
+      apart = good.apart;
+      writes = good.writes;
+      loads = good.loads;
+      closes = record {
+        positive = good.closes.positive;
+        opened = λ e. absurd (none-some How.Cut (sym e));
+        full = λ e. cc;
+        early = λ how e ne. good.closes.opened open_;
+        cut = λ e. some;
+        room = λ e. cc;
+        few = good.closes.few;
+        few_loads = good.closes.few_loads;
+      };
+      live = λ quiet.
+          let live : IsCurrent m ch = good.live quiet in
+          record {
+            runs = live.runs;
+            touches = live.touches;
+            next_touches = λ e. absurd (let h : How.Cut ≡ How.Serial = cc in cc);
+            next_serial = λ e. absurd (let h : How.Cut ≡ How.Serial = cc in cc);
+            store_touches = λ e. absurd (let h : How.Cut ≡ How.Overflow = cc in cc);
+            store_anew = λ e. absurd (let h : How.Cut ≡ How.Overflow = cc in cc);
+          };
+    }
+
+cut_open_kept : (w : World) (c : ℕ) (h : Held) (o : Option How) → at w.cores c ≡ Some h → h.chunk.closed ≡ o → IsGood w → Kept w (cut_to w c h (cut_open h.chunk o))
+cut_open_kept w c h (Some how) is closed good =
+    chunk_kept w c h h.chunk (cut_to w c h (cut_open h.chunk (Some how))) good is (same_base h.chunk) (good.held c h is).chunk refl refl refl
+cut_open_kept w c h None is closed good =
+    branch (λ (s : Cutting). Kept w (cut_to w c h s)) (eqb h.chunk.done.n 0) (record { reply = CutReply.NothingRun; chunk = h.chunk }) (record { reply = CutReply.Closed; chunk = record h.chunk { closed = Some How.Cut } })
+    (λ _. chunk_kept w c h h.chunk (cut_to w c h (record { reply = CutReply.NothingRun; chunk = h.chunk })) good is (same_base h.chunk) (good.held c h is).chunk refl refl refl)
+    (λ e. let dh = record h.chunk { closed = Some How.Cut } in
+    chunk_kept w c h dh (cut_to w c h (record { reply = CutReply.Closed; chunk = dh })) good is
+    (record { sphere = refl; start = refl; limit = refl; halves = refl; reads = refl; writes = refl })
+    (cut_good w.numbers.buffer w.numbers.signature w.slots c (current w h.chunk.sphere) h.chunk closed (positive h.chunk.done.n e) (good.held c h is).chunk) refl refl refl)
+
+cut_held_kept : (w : World) (c : ℕ) (o : Option Held) → at w.cores c ≡ o → IsGood w → Kept w (cut_held w c o)
+cut_held_kept w c None is good = unchanged-kept w (answered w Reply.Idle) refl refl refl good
+cut_held_kept w c (Some h) is good =
+    branch (Kept w) (is_stopped (sphere_at w h.chunk.sphere).role) (answered w Reply.Stopped) (cut_to w c h (cut h.chunk))
+    (λ _. unchanged-kept w (answered w Reply.Stopped) refl refl refl good)
+    (λ _. cut_open_kept w c h h.chunk.closed is refl good)
+
+pub cut-kept : (w : World) (c : ℕ) → IsGood w → Kept w (cutting w c)
+unfolding cutting
+cut-kept w c good = cut_held_kept w c (at w.cores c) refl good

@@ -1,0 +1,468 @@
+-- The events of flights keep the invariant: Drain, Deliver and Retire.
+use Rattle.std.proofs.Common.{◌≡◌, ◌≢◌, ℕ, ◌<◌, ◌≤◌, inl, inr, Bool, true, false, eqb, cond, ◌&&◌, List, [], ◌∷◌, ◌++◌, length, Option, Some, None, refl, sym, ap, ◌∙◌, subst, arith, set}
+use Rattle.std.specs.Prelude.{slice_get}
+use Rattle.std.proofs.Math.ListN.{length-set}
+use Rattle.std.proofs.lemmas.Bool.{true≢false, and_parts, or_parts, cases_eq}
+use Rattle.std.proofs.lemmas.List.{set-get_or}
+use Rattle.std.proofs.lemmas.Option.{none-some}
+use Rattle.spec_isa.specs.declared.thread.Parts.{Parts}
+use Rattle.spec_isa.specs.Words.{Stored, lay, lays, Lacks, Apart}
+use Rattle.spec_engine.specs.declared.answers.Deliver.{Deliver}
+use Rattle.spec_engine.specs.declared.answers.Retire.{Retire}
+use Rattle.spec_engine.specs.Signatures.{Marks, hits}
+use Rattle.spec_engine.specs.Flights.{Flight, at, told_at, all_told, meets_chunk, drain_words, Delivered, tell, deliver, has_none, is_done, Retired, retire}
+use Rattle.spec_engine.specs.Chunks.{Chunk, squash, is_fourth, halved}
+use Rattle.spec_engine.specs.Laws.{CoversWords}
+use Rattle.spec_engine.proofs.Searches.{told-tell_other, all_told-at}
+use Rattle.spec_protocol.specs.declared.reply.Reply.{Reply}
+use Rattle.spec_protocol.specs.Spheres.{Role, Plain, Record, Replay, Sphere, is_stopped, limit_of, halves}
+use Rattle.spec_protocol.specs.Placing.{replays}
+use Rattle.spec_protocol.specs.World.{Held, World, Move, After, sphere_at, with_memory, with_core, with_slot, answered}
+use Rattle.spec_protocol.specs.Shown.{words_of, flying, shown, shown_of}
+use Rattle.spec_protocol.specs.Moves.{do_if, FitsIf}
+use Rattle.spec_protocol.specs.Flying.{reply_of_drain, drain_slot, draining, reads_of, writes_of, squashed, told, delivering, reply_of_retire, retiring}
+use Rattle.spec_protocol.proofs.Memory.Laying.{lays_append, AllLack_flip, Apart_lack, Apart_first, Apart_last, Apart-append, lays-lay}
+use Rattle.spec_protocol.proofs.Memory.Slots.{at-set_same, at-set_other, at_within, before, behind, flying-at, flying-set, flying_same, words-same, words-other}
+use Rattle.spec_protocol.proofs.Invariants.Kept.{SameSizes, PointIs, Kept, sphere-same, sphere-other, shown_from-same, shown-unmoved, set-itself, unchanged-kept}
+use Rattle.spec_protocol.proofs.Invariants.Cores.{set-cases, alone-set, held_there, others-differ, branch}
+use Rattle.spec_protocol.specs.Currency.{IsCurrent, IsQuiet}
+use Rattle.spec_protocol.specs.Invariants.{IsFlightCovered, IsGoodChunk, current, IsGoodHeld, IsGood}
+
+-- ---- a chunk beside other slots
+
+pub chunk-beside : (capacity bits : ℕ) (xs ys : List (Option Flight)) (c : ℕ) (m n : List ℕ) (ch : Chunk) → n ≡ m → (IsQuiet ys ch.sphere c ch.reads → IsQuiet xs ch.sphere c ch.reads) → IsGoodChunk capacity bits xs c m ch → IsGoodChunk capacity bits ys c n ch
+chunk-beside capacity bits xs ys c m n ch same quiet good =
+    record {
+      reads_size = good.reads_size;
+      writes_size = good.writes_size;
+      apart = good.apart;
+      writes = good.writes;
+      loads = good.loads;
+      closes = good.closes;
+      live = λ q. subst (λ (k : List ℕ). IsCurrent k ch) (sym same) (good.live (quiet q));
+    }
+
+-- a world in which the core's sphere has the same threads, role and current memory
+pub record Beside (w v : World) (c : ℕ) (h : Held) : Type 0 where
+  pub numbers : v.numbers ≡ w.numbers
+  pub spheres : length v.spheres ≡ length w.spheres
+  pub threads : (sphere_at v h.chunk.sphere).threads ≡ (sphere_at w h.chunk.sphere).threads
+  pub role : (sphere_at v h.chunk.sphere).role ≡ (sphere_at w h.chunk.sphere).role
+  pub memory : current v h.chunk.sphere ≡ current w h.chunk.sphere
+  pub quiet : IsQuiet v.slots h.chunk.sphere c h.chunk.reads → IsQuiet w.slots h.chunk.sphere c h.chunk.reads
+
+pub held-beside : (w v : World) (c : ℕ) (h : Held) → Beside w v c h → IsGoodHeld w c h → IsGoodHeld v c h
+held-beside w v c h b good =
+    let limits : limit_of v.numbers.chunk (sphere_at v h.chunk.sphere).role h.thread h.chunk.start ≡ limit_of w.numbers.chunk (sphere_at w h.chunk.sphere).role h.thread h.chunk.start =
+    (λ j. limit_of (b.numbers j).chunk (b.role j) h.thread h.chunk.start)
+    in
+    record {
+      sphere = subst (λ (n : ℕ). h.chunk.sphere < n) (sym b.spheres) good.sphere;
+      start = ap (λ (ts : List Parts). slice_get ts h.thread) b.threads ∙ good.start;
+      lives = good.lives;
+      halving = good.halving ∙ ap halves (sym b.role);
+      limit = λ going.
+          let l = good.limit (ap is_stopped (sym b.role) ∙ going) in
+          record {
+            most = subst (λ (n : ℕ). h.chunk.limit ≤ n) (sym limits) l.most;
+            replayed = λ r. l.replayed (ap replays (sym b.role) ∙ r) ∙ sym limits;
+          };
+      chunk = subst (λ (z : _). IsGoodChunk z.buffer z.signature v.slots c (current v h.chunk.sphere) h.chunk) (sym b.numbers)
+          (chunk-beside w.numbers.buffer w.numbers.signature w.slots v.slots c (current w h.chunk.sphere) (current v h.chunk.sphere) h.chunk b.memory b.quiet good.chunk);
+    }
+
+-- ---- a slot is set to what stands there
+
+slot_itself : (w : World) (k : ℕ) → with_slot w k (at w.slots k) ≡ w
+slot_itself w k = (λ j. record w { slots = set-get_or w.slots k None j })
+
+abbrev set_to : World → ℕ → Option Flight → World
+set_to w k v = with_slot w k v
+
+unchanged : (w : World) (k : ℕ) (v : Option Flight) → at w.slots k ≡ v → with_slot w k v ≡ w
+unchanged w k v e = ap (set_to w k) (sym e) ∙ slot_itself w k
+
+-- ---- Drain
+
+drain_lays : (m : List ℕ) (b h ss : List Stored) (s : Stored) → Lacks s.word b → lays (lay m s) (b ++ (ss ++ h)) ≡ lays m (b ++ ((s ∷ ss) ++ h))
+drain_lays m b h ss s lacks =
+    lays_append (lay m s) b (ss ++ h) ∙ ap (λ (n : List ℕ). lays n (ss ++ h)) (lays-lay m s b lacks) ∙ sym (lays_append m b ((s ∷ ss) ++ h))
+
+-- flights of which one has a word less
+shorter_quiet : (xs : List (Option Flight)) (k : ℕ) (f : Flight) (ss : List Stored) (i c : ℕ) (reads : Marks) → at xs k ≡ Some f → IsQuiet (set xs k (Some (record f { words = ss }))) i c reads → IsQuiet xs i c reads
+shorter_quiet xs k f ss i c reads is q =
+    record {
+      misses = λ j g there same untold. elim (cases_eq j k) [
+        | inl e ↦ (
+            let fg : f ≡ g = (let o : Some f ≡ Some g = sym is ∙ ap (at xs) (sym e) ∙ there in cc) in
+            subst (λ (x : Flight). hits x.writes reads ≡ false) fg
+            (q.misses k (record f { words = ss }) (at-set_same xs k (Some (record f { words = ss })) (at_within xs k f is))
+            (ap (λ (x : Flight). x.sphere) fg ∙ same) (ap (λ (x : Flight). told_at x.told c) fg ∙ untold))
+            )
+        | inr ne ↦ q.misses j g (at-set_other xs k j (Some (record f { words = ss })) ne ∙ there) same untold
+      ];
+    }
+
+lacks_before : (b h : List Stored) (s : Stored) (ss : List Stored) → Apart (b ++ ((s ∷ ss) ++ h)) → Lacks s.word b
+lacks_before b h s ss apart = (AllLack_flip b ((s ∷ ss) ++ h) (Apart_lack b ((s ∷ ss) ++ h) apart)).0
+
+without_first : (b h : List Stored) (s : Stored) (ss : List Stored) → Apart (b ++ ((s ∷ ss) ++ h)) → Apart (b ++ (ss ++ h))
+without_first b h s ss apart =
+    let last = Apart_last b ((s ∷ ss) ++ h) apart in
+    Apart-append b (ss ++ h) (Apart_first b ((s ∷ ss) ++ h) apart) last.1
+    (AllLack_flip (ss ++ h) b (AllLack_flip b ((s ∷ ss) ++ h) (Apart_lack b ((s ∷ ss) ++ h) apart)).1)
+
+drained_world : World → ℕ → Flight → Stored → List Stored → World
+drained_world w k f s ss = with_slot (with_memory w f.sphere (lay (sphere_at w f.sphere).memory s)) k (Some (record f { words = ss }))
+
+drained_kept : (w : World) (k : ℕ) (f : Flight) (s : Stored) (ss : List Stored) (a : After) → IsGood w → at w.slots k ≡ Some f → f.words ≡ s ∷ ss → a.world ≡ drained_world w k f s ss → a.move ≡ None → a.point ≡ None → Kept w a
+unfolding drained_world shown
+drained_kept w k f s ss a good is words world move point =
+    let i = f.sphere in
+    let m = (sphere_at w i).memory in
+    let b = before i w.slots k in
+    let h = behind i w.slots k in
+    let g = record f { words = ss } in
+    let ys = set w.slots k (Some g) in
+    let within = at_within w.slots k f is in
+    let inside = good.flights k f is in
+    let was : flying i w.slots ≡ b ++ ((s ∷ ss) ++ h) =
+    flying-at i w.slots k ∙ ap (λ (o : Option Flight). b ++ (words_of i o ++ h)) is ∙ ap (λ (ws : List Stored). b ++ (ws ++ h)) (words-same i f refl ∙ words)
+    in
+    let now : flying i ys ≡ b ++ (ss ++ h) =
+    flying-set i w.slots k (Some g) within ∙ ap (λ (ws : List Stored). b ++ (ws ++ h)) (words-same i g refl)
+    in
+    let apart : Apart (b ++ ((s ∷ ss) ++ h)) = subst Apart was (good.apart i) in
+    let memory : lays (lay m s) (flying i ys) ≡ lays m (flying i w.slots) =
+    ap (lays (lay m s)) now ∙ drain_lays m b h ss s (lacks_before b h s ss apart) ∙ sym (ap (lays m) was)
+    in
+    let others : (j : ℕ) → j ≢ i → flying j ys ≡ flying j w.slots =
+    (λ j ne. flying_same j w.slots k (Some g) within (words-other j g (λ e. ne (sym e)) ∙ sym (ap (words_of j) is ∙ words-other j f (λ e. ne (sym e)))))
+    in
+    let v = drained_world w k f s ss in
+    let there : sphere_at v i ≡ record (sphere_at w i) { memory = lay m s } = sphere-same w.spheres i (record (sphere_at w i) { memory = lay m s }) inside in
+    let elsewhere : (j : ℕ) → j ≢ i → sphere_at v j ≡ sphere_at w j = (λ j ne. sphere-other w.spheres i j (record (sphere_at w i) { memory = lay m s }) ne) in
+    let beside : (c : ℕ) (x : Held) → Beside w v c x =
+    (λ c x. record {
+      numbers = refl;
+      spheres = length-set w.spheres i (record (sphere_at w i) { memory = lay m s });
+      threads = elim (cases_eq x.chunk.sphere i) [
+        | inl e ↦ (λ j. (sphere_at v (e j)).threads) ∙ ap (λ (p : Sphere). p.threads) there ∙ sym (λ j. (sphere_at w (e j)).threads)
+        | inr ne ↦ ap (λ (p : Sphere). p.threads) (elsewhere x.chunk.sphere ne)
+      ];
+      role = elim (cases_eq x.chunk.sphere i) [
+        | inl e ↦ (λ j. (sphere_at v (e j)).role) ∙ ap (λ (p : Sphere). p.role) there ∙ sym (λ j. (sphere_at w (e j)).role)
+        | inr ne ↦ ap (λ (p : Sphere). p.role) (elsewhere x.chunk.sphere ne)
+      ];
+      memory = elim (cases_eq x.chunk.sphere i) [
+        | inl e ↦ (λ j. current v (e j)) ∙ ap (λ (p : Sphere). lays p.memory (flying i ys)) there ∙ memory ∙ sym (λ j. current w (e j))
+        | inr ne ↦ (λ j. lays (elsewhere x.chunk.sphere ne j).memory (others x.chunk.sphere ne j))
+      ];
+      quiet = shorter_quiet w.slots k f ss x.chunk.sphere c x.chunk.reads is;
+    })
+    in
+    record {
+      good = subst IsGood (sym world) (record {
+        buffer = good.buffer;
+        standard = good.standard;
+        apart = λ j. elim (cases_eq j i) [
+          | inl e ↦ subst (λ (n : ℕ). Apart (flying n ys)) (sym e) (subst Apart (sym now) (without_first b h s ss apart))
+          | inr ne ↦ subst Apart (sym (others j ne)) (good.apart j)
+        ];
+        covered = λ j x e. elim (set-cases w.slots k j (Some g) x e) [
+          | inl p ↦ (
+              let c = good.covered k f is in
+              let gx : g ≡ x = (let o : Some g ≡ Some x = p.1 in cc) in
+              subst (IsFlightCovered w.numbers.signature) gx (record { size = c.size; words = (subst (CoversWords f.sphere f.writes) words c.words).1 })
+              )
+          | inr p ↦ good.covered j x p.1
+        ];
+        flights = λ j x e. subst (λ (n : ℕ). x.sphere < n) (sym (length-set w.spheres i (record (sphere_at w i) { memory = lay m s }))) (elim (set-cases w.slots k j (Some g) x e) [
+          | inl p ↦ (let gx : g ≡ x = (let o : Some g ≡ Some x = p.1 in cc) in subst (λ (y : Flight). y.sphere < length w.spheres) gx inside)
+          | inr p ↦ good.flights j x p.1
+        ]);
+        held = λ c x e. held-beside w v c x (beside c x) (good.held c x e);
+        alone = good.alone;
+      });
+      sizes = subst (SameSizes w) (sym world) (record { numbers = refl; spheres = length-set w.spheres i (record (sphere_at w i) { memory = lay m s }); cores = refl; slots = length-set w.slots k (Some g) });
+      point = subst (λ (m : Option Move). PointIs w m a.point) (sym move) point;
+      whole = ap shown_of world
+          ∙ (λ j. record { spheres = shown-unmoved w.slots ys i w.spheres (record (sphere_at w i) { memory = lay m s }) others (λ n. record (sphere_at w i) { memory = memory n }) j; devices = w.devices })
+          ∙ sym (ap (do_if w.numbers (shown_of w)) move);
+      fits = subst (FitsIf w.numbers (shown_of w)) (sym move) tt;
+    }
+
+clean_world : (w : World) (k i : ℕ) (v : Option Flight) → at w.slots k ≡ v → with_slot (with_memory w i (sphere_at w i).memory) k v ≡ w
+clean_world w k i v is =
+    (λ j. record w { spheres = set-itself w.spheres i j; slots = (ap (set w.slots k) (sym is) ∙ set-get_or w.slots k None) j })
+
+drain_words_kept : (w : World) (k : ℕ) (f : Flight) (ws : List Stored) → IsGood w → at w.slots k ≡ Some f → f.words ≡ ws
+    → let d = drain_words (sphere_at w f.sphere).memory f ws in Kept w (answered (with_slot (with_memory w f.sphere d.memory) k d.slot) (reply_of_drain d.reply))
+unfolding drained_world
+drain_words_kept w k f [] good is words = unchanged-kept w _ (clean_world w k f.sphere (Some f) is) refl refl good
+drain_words_kept w k f (s ∷ ss) good is words = drained_kept w k f s ss _ good is words refl refl refl
+
+drain_slot_kept : (w : World) (k : ℕ) (o : Option Flight) → at w.slots k ≡ o → IsGood w → Kept w (drain_slot w k o)
+drain_slot_kept w k None is good = unchanged-kept w (answered w Reply.NoCommit) refl refl refl good
+drain_slot_kept w k (Some f) is good = drain_words_kept w k f f.words good is refl
+
+pub drain-kept : (w : World) (k : ℕ) → IsGood w → Kept w (draining w k)
+unfolding draining
+drain-kept w k good = drain_slot_kept w k (at w.slots k) refl good
+
+-- ---- a slot whose flight keeps its words
+
+-- only what is told has changed, or the flight had no word left
+record SlotKept (w : World) (k : ℕ) (v : Option Flight) : Type 0 where
+  words : (i : ℕ) → words_of i v ≡ words_of i (at w.slots k)
+  covered : (x : Flight) → v ≡ Some x → IsFlightCovered w.numbers.signature x
+  flights : (x : Flight) → v ≡ Some x → x.sphere < length w.spheres
+
+slot_beside : (w : World) (k : ℕ) (v : Option Flight) (c : ℕ) (x : Held) → k < length w.slots → SlotKept w k v → (IsQuiet (set w.slots k v) x.chunk.sphere c x.chunk.reads → IsQuiet w.slots x.chunk.sphere c x.chunk.reads) → Beside w (with_slot w k v) c x
+slot_beside w k v c x within s quiet =
+    record {
+      numbers = refl;
+      spheres = refl;
+      threads = refl;
+      role = refl;
+      memory = ap (lays (sphere_at w x.chunk.sphere).memory) (flying_same x.chunk.sphere w.slots k v within (s.words x.chunk.sphere));
+      quiet = quiet;
+    }
+
+slot_good : (w : World) (k : ℕ) (v : Option Flight) → k < length w.slots → IsGood w → SlotKept w k v → ((c : ℕ) (x : Held) → at w.cores c ≡ Some x → IsGoodHeld (with_slot w k v) c x) → IsGood (with_slot w k v)
+slot_good w k v within good s held =
+    record {
+      buffer = good.buffer;
+      standard = good.standard;
+      apart = λ i. subst Apart (sym (flying_same i w.slots k v within (s.words i))) (good.apart i);
+      covered = λ j x e. elim (set-cases w.slots k j v x e) [ inl p ↦ s.covered x p.1 | inr p ↦ good.covered j x p.1 ];
+      flights = λ j x e. elim (set-cases w.slots k j v x e) [ inl p ↦ s.flights x p.1 | inr p ↦ good.flights j x p.1 ];
+      held = held;
+      alone = good.alone;
+    }
+
+slot_shown : (w : World) (k : ℕ) (v : Option Flight) → k < length w.slots → SlotKept w k v → shown_of (with_slot w k v) ≡ shown_of w
+slot_shown w k v within s =
+    (λ j. record { spheres = shown_from-same w.slots (set w.slots k v) 0 w.spheres (λ i l. flying_same i w.slots k v within (s.words i)) j; devices = w.devices })
+
+-- ---- Retire
+
+no_word : (ws : List Stored) → has_none ws ≡ true → ws ≡ []
+no_word [] e = refl
+no_word (s ∷ ss) e = absurd (true≢false (sym e))
+
+empty_words : (i : ℕ) (f : Flight) → f.words ≡ [] → [] ≡ words_of i (Some f)
+empty_words i f e =
+    elim (eqb f.sphere i) as (λ (b : Bool). [] ≡ cond b f.words []) [
+      | true ↦ sym e
+      | false ↦ refl
+    ]
+
+retired_quiet : (w : World) (k : ℕ) (f : Flight) (i c : ℕ) (reads : Marks) → at w.slots k ≡ Some f → all_told (length w.cores) f.told ≡ true → c < length w.cores → IsQuiet (set w.slots k None) i c reads → IsQuiet w.slots i c reads
+retired_quiet w k f i c reads is all l q =
+    record {
+      misses = λ j g there same untold. elim (cases_eq j k) [
+        | inl e ↦ (
+            let fg : f ≡ g = (let o : Some f ≡ Some g = sym is ∙ ap (at w.slots) (sym e) ∙ there in cc) in
+            absurd (true≢false (sym (all_told-at (length w.cores) f.told c all l) ∙ ap (λ (x : Flight). told_at x.told c) fg ∙ untold))
+            )
+        | inr ne ↦ q.misses j g (at-set_other w.slots k j None ne ∙ there) same untold
+      ];
+    }
+
+retired_kept : (w : World) (k : ℕ) (f : Flight) (a : After) → IsGood w → at w.slots k ≡ Some f → is_done (length w.cores) f ≡ true → a.world ≡ with_slot w k None → a.move ≡ None → a.point ≡ None → Kept w a
+retired_kept w k f a good is done world move point =
+    let p = and_parts (has_none f.words) (all_told (length w.cores) f.told) done in
+    let within = at_within w.slots k f is in
+    let s : SlotKept w k None = record {
+      words = λ i. empty_words i f (no_word f.words p.0) ∙ ap (words_of i) (sym is);
+      covered = λ x e. absurd (none-some x e);
+      flights = λ x e. absurd (none-some x e);
+    }
+    in
+    record {
+      good = subst IsGood (sym world) (slot_good w k None within good s
+          (λ c x e. held-beside w (with_slot w k None) c x
+          (slot_beside w k None c x within s (retired_quiet w k f x.chunk.sphere c x.chunk.reads is p.1 (at_within w.cores c x e))) (good.held c x e)));
+      sizes = subst (SameSizes w) (sym world) (record { numbers = refl; spheres = refl; cores = refl; slots = length-set w.slots k None });
+      point = subst (λ (m : Option Move). PointIs w m a.point) (sym move) point;
+      whole = ap shown_of world ∙ slot_shown w k None within s ∙ sym (ap (do_if w.numbers (shown_of w)) move);
+      fits = subst (FitsIf w.numbers (shown_of w)) (sym move) tt;
+    }
+
+retire_slot_kept : (w : World) (k : ℕ) (o : Option Flight) → at w.slots k ≡ o → IsGood w → let d = retire (length w.cores) o in Kept w (answered (with_slot w k d.slot) (reply_of_retire d.reply))
+retire_slot_kept w k None is good = unchanged-kept w _ (unchanged w k None is) refl refl good
+retire_slot_kept w k (Some f) is good =
+    branch (λ (d : Retired). Kept w (answered (with_slot w k d.slot) (reply_of_retire d.reply))) (is_done (length w.cores) f)
+    (record { reply = Retire.Retired; slot = None }) (record { reply = Retire.NotDone; slot = Some f })
+    (λ done. retired_kept w k f _ good is done refl refl refl)
+    (λ _. unchanged-kept w _ (unchanged w k (Some f) is) refl refl good)
+
+pub retire-kept : (w : World) (k : ℕ) → IsGood w → Kept w (retiring w k)
+unfolding retiring
+retire-kept w k good = retire_slot_kept w k (at w.slots k) refl good
+
+-- ---- Deliver
+
+told_quiet : (xs : List (Option Flight)) (k : ℕ) (f : Flight) (c d i : ℕ) (reads : Marks) → at xs k ≡ Some f → (d ≡ c → hits f.writes reads ≡ false) → IsQuiet (set xs k (Some (tell f c))) i d reads → IsQuiet xs i d reads
+told_quiet xs k f c d i reads is free q =
+    record {
+      misses = λ j g there same untold. elim (cases_eq j k) [
+        | inl e ↦ (
+            let fg : f ≡ g = (let o : Some f ≡ Some g = sym is ∙ ap (at xs) (sym e) ∙ there in cc) in
+            subst (λ (x : Flight). hits x.writes reads ≡ false) fg (elim (cases_eq d c) [
+              | inl dc ↦ free dc
+              | inr ne ↦ q.misses k (tell f c) (at-set_same xs k (Some (tell f c)) (at_within xs k f is)) (ap (λ (x : Flight). x.sphere) fg ∙ same)
+                  (told-tell_other f c d ne ∙ ap (λ (x : Flight). told_at x.told d) fg ∙ untold)
+            ])
+            )
+        | inr ne ↦ q.misses j g (at-set_other xs k j (Some (tell f c)) ne ∙ there) same untold
+      ];
+    }
+
+told_slot : (w : World) (k c : ℕ) (f : Flight) → IsGood w → at w.slots k ≡ Some f → SlotKept w k (Some (tell f c))
+told_slot w k c f good is =
+    record {
+      words = λ i. ap (words_of i) (sym is);
+      covered = λ x e.
+          let cov = good.covered k f is in
+          let q : tell f c ≡ x = cc in
+          subst (IsFlightCovered w.numbers.signature) q (record { size = cov.size; words = cov.words });
+      flights = λ x e. let q : tell f c ≡ x = cc in subst (λ (y : Flight). y.sphere < length w.spheres) q (good.flights k f is);
+    }
+
+either_positive : (b : Bool) (limit : ℕ) → 0 < limit → 0 < cond b (halved limit) limit
+either_positive true limit positive = omega arith
+either_positive false limit positive = positive
+
+either_most : (b : Bool) (limit most : ℕ) → 0 < limit → limit ≤ most → cond b (halved limit) limit ≤ most
+either_most true limit most positive l = omega arith
+either_most false limit most positive l = l
+
+-- a chunk that begins again from its start
+squash_good : (capacity : ℕ) (xs : List (Option Flight)) (c : ℕ) (m : List ℕ) (ch : Chunk) (bits : ℕ) → 0 < ch.limit → ch.reads.bits ≡ bits → IsGoodChunk capacity bits xs c m (squash ch)
+squash_good capacity xs c m ch bits positive size =
+    record {
+      reads_size = size;
+      writes_size = size;
+      apart = tt;
+      writes = tt;
+      loads = tt;
+      closes = record {
+        positive = either_positive (is_fourth ch) ch.limit positive;
+        opened = λ e. either_positive (is_fourth ch) ch.limit positive;
+        full = λ e. absurd (none-some _ e);
+        early = λ how e. absurd (none-some how e);
+        cut = λ e. absurd (none-some _ e);
+        room = λ e. absurd (none-some _ e);
+        few = omega arith;
+        few_loads = omega arith;
+      };
+      live = λ q. record { runs = refl; touches = λ i l. absurd (omega arith); next_touches = λ e. absurd (none-some _ e); next_serial = λ e. absurd (none-some _ e); store_touches = λ e. absurd (none-some _ e); store_anew = λ e. absurd (none-some _ e) };
+    }
+
+not_both : (role : Role) → replays role ≡ true → halves role ≡ false
+not_both Plain r = refl
+not_both (Record log) r = absurd (true≢false (sym r))
+not_both (Replay b) r = refl
+
+-- of a sphere that is not recorded no squash changes the limit
+not_halved : (ch : Chunk) (role : Role) → ch.halves ≡ halves role → replays role ≡ true → cond (is_fourth ch) (halved ch.limit) ch.limit ≡ ch.limit
+not_halved ch role e r = ap (λ (b : Bool). cond (b && eqb ch.squashes 3) (halved ch.limit) ch.limit) (e ∙ not_both role r)
+
+squash_held : (w : World) (k c : ℕ) (o : Option Flight) (h : Held) → IsGoodHeld w c h → IsGoodHeld (with_slot w k o) c (record h { chunk = squash h.chunk })
+squash_held w k c o h good =
+    let positive = good.chunk.closes.positive in
+    record {
+      sphere = good.sphere;
+      start = good.start;
+      lives = good.lives;
+      halving = good.halving;
+      limit = λ going.
+          let l = good.limit going in
+          record {
+            most = either_most (is_fourth h.chunk) h.chunk.limit _ positive l.most;
+            replayed = λ r. not_halved h.chunk (sphere_at w h.chunk.sphere).role good.halving r ∙ l.replayed r;
+          };
+      chunk = squash_good w.numbers.buffer (set w.slots k o) c (current (with_slot w k o) h.chunk.sphere) h.chunk w.numbers.signature positive good.chunk.reads_size;
+    }
+
+abbrev tell_in : World → (slot core : ℕ) → Flight → World
+tell_in w k c f = with_slot w k (Some (tell f c))
+
+told_held : (w : World) (k c : ℕ) (f : Flight) (d : ℕ) (x : Held) → IsGood w → at w.slots k ≡ Some f → (d ≡ c → hits f.writes x.chunk.reads ≡ false) → at w.cores d ≡ Some x → IsGoodHeld (tell_in w k c f) d x
+told_held w k c f d x good is free there =
+    held-beside w (tell_in w k c f) d x
+    (slot_beside w k (Some (tell f c)) d x (at_within w.slots k f is) (told_slot w k c f good is) (told_quiet w.slots k f c d x.chunk.sphere x.chunk.reads is free))
+    (good.held d x there)
+
+told_sizes : (w : World) (k c : ℕ) (f : Flight) → SameSizes w (tell_in w k c f)
+told_sizes w k c f = record { numbers = refl; spheres = refl; cores = refl; slots = length-set w.slots k (Some (tell f c)) }
+
+delivered_kept : (w : World) (k c : ℕ) (f : Flight) (held : Option Held) → IsGood w → at w.slots k ≡ Some f → at w.cores c ≡ held → meets_chunk (reads_of w held) (writes_of w held) f ≡ false → Kept w (answered (tell_in w k c f) Reply.Delivered)
+delivered_kept w k c f held good is there free =
+    record {
+      good = slot_good w k (Some (tell f c)) (at_within w.slots k f is) good (told_slot w k c f good is)
+          (λ d x e. told_held w k c f d x good is
+          (λ dc.
+          let h : held ≡ Some x = sym there ∙ ap (at w.cores) (sym dc) ∙ e in
+          (or_parts (hits f.writes x.chunk.reads) (hits f.writes x.chunk.writes) (ap (λ (o : Option Held). meets_chunk (reads_of w o) (writes_of w o) f) (sym h) ∙ free)).0)
+          e);
+      sizes = told_sizes w k c f;
+      point = refl;
+      whole = slot_shown w k (Some (tell f c)) (at_within w.slots k f is) (told_slot w k c f good is);
+      fits = tt;
+    }
+
+-- core c is told, and what it holds changes
+told_good : (w : World) (k c : ℕ) (f : Flight) (o : Option Held) → IsGood w → at w.slots k ≡ Some f → ((x : Held) → o ≡ Some x → IsGoodHeld (tell_in w k c f) c x)
+    → ((h : Held) → o ≡ Some h → (d : ℕ) (g : Held) → d ≢ c → at w.cores d ≡ Some g → h.chunk.sphere ≡ g.chunk.sphere → h.thread ≡ g.thread → ⊥) → IsGood (with_core (tell_in w k c f) c o)
+told_good w k c f o good is new other =
+    let within = at_within w.slots k f is in
+    let s = told_slot w k c f good is in
+    record {
+      buffer = good.buffer;
+      standard = good.standard;
+      apart = λ i. subst Apart (sym (flying_same i w.slots k (Some (tell f c)) within (s.words i))) (good.apart i);
+      covered = λ j x e. elim (set-cases w.slots k j (Some (tell f c)) x e) [ inl p ↦ s.covered x p.1 | inr p ↦ good.covered j x p.1 ];
+      flights = λ j x e. elim (set-cases w.slots k j (Some (tell f c)) x e) [ inl p ↦ s.flights x p.1 | inr p ↦ good.flights j x p.1 ];
+      held = λ d x e. elim (set-cases w.cores c d o x e) [
+        | inl p ↦ held_there (tell_in w k c f) c d o x (subst (λ (n : ℕ). IsGoodHeld (tell_in w k c f) n x) (sym p.0) (new x p.1))
+        | inr p ↦ held_there (tell_in w k c f) c d o x (told_held w k c f d x good is (λ dc. absurd (p.0 dc)) p.1)
+      ];
+      alone = alone-set w.cores c o good.alone other;
+    }
+
+squashed_good : (w : World) (k c : ℕ) (f : Flight) (held : Option Held) → IsGood w → at w.slots k ≡ Some f → at w.cores c ≡ held → IsGood (with_core (tell_in w k c f) c (squashed held))
+squashed_good w k c f None good is there =
+    told_good w k c f None good is (λ x e. absurd (none-some x e)) (λ h e. absurd (none-some h e))
+squashed_good w k c f (Some h) good is there =
+    told_good w k c f (Some (record h { chunk = squash h.chunk })) good is
+    (λ x e. subst (IsGoodHeld (tell_in w k c f) c) (let q : record h { chunk = squash h.chunk } ≡ x = cc in q) (squash_held w k c (Some (tell f c)) h (good.held c h there)))
+    (others-differ w c h (squash h.chunk) good there refl)
+
+squashed_kept : (w : World) (k c : ℕ) (f : Flight) (held : Option Held) → IsGood w → at w.slots k ≡ Some f → at w.cores c ≡ held → Kept w (answered (with_core (tell_in w k c f) c (squashed held)) Reply.Squashed)
+squashed_kept w k c f held good is there =
+    record {
+      good = squashed_good w k c f held good is there;
+      sizes = record { numbers = refl; spheres = refl; cores = length-set w.cores c (squashed held); slots = length-set w.slots k (Some (tell f c)) };
+      point = refl;
+      whole = slot_shown w k (Some (tell f c)) (at_within w.slots k f is) (told_slot w k c f good is);
+      fits = tt;
+    }
+
+deliver_slot_kept : (w : World) (c k : ℕ) (held : Option Held) (o : Option Flight) → at w.cores c ≡ held → at w.slots k ≡ o → IsGood w
+    → let d = deliver c (reads_of w held) (writes_of w held) o in Kept w (told (with_slot w k d.slot) c held d.reply)
+deliver_slot_kept w c k held None there is good = unchanged-kept w _ (unchanged w k None is) refl refl good
+deliver_slot_kept w c k held (Some f) there is good =
+    branch (λ (d : Delivered). Kept w (told (with_slot w k d.slot) c held d.reply)) (told_at f.told c)
+    (record { reply = Deliver.Already; slot = Some f })
+    (record { reply = cond (meets_chunk (reads_of w held) (writes_of w held) f) Deliver.Squashed Deliver.Delivered; slot = Some (tell f c) })
+    (λ _. unchanged-kept w _ (unchanged w k (Some f) is) refl refl good)
+    (λ _. branch (λ (r : Deliver). Kept w (told (tell_in w k c f) c held r)) (meets_chunk (reads_of w held) (writes_of w held) f) Deliver.Squashed Deliver.Delivered
+    (λ _. squashed_kept w k c f held good is there)
+    (λ free. delivered_kept w k c f held good is there free))
+
+pub deliver-kept : (w : World) (c k : ℕ) → IsGood w → Kept w (delivering w c k)
+unfolding delivering
+deliver-kept w c k good = deliver_slot_kept w c k (at w.cores c) (at w.slots k) refl refl good

@@ -1,0 +1,221 @@
+-- A granted request keeps the invariant, where its stores meet no flight and it gives what it would on the current memory.
+use Rattle.std.proofs.Common.{◌≡◌, ◌≢◌, ℕ, ◌<◌, ◌^◌, inl, inr, true, false, eqb, List, [], length, Some, refl, sym, ap, ◌∙◌, subst, set}
+use Rattle.std.specs.Prelude.{slice_get}
+use Rattle.std.proofs.Math.ListN.{length-set}
+use Rattle.std.proofs.lemmas.Bool.{true≢false, cases_eq}
+use Rattle.std.proofs.lemmas.Nat.Bits.{bit_at-pow_other}
+use Rattle.dl_entry.specs.declared.Point.{Point}
+use Rattle.spec_isa.specs.declared.thread.Parts.{Parts}
+use Rattle.spec_isa.specs.Words.{lays, Apart}
+use Rattle.spec_engine.specs.Signatures.{Marks, nothing}
+use Rattle.spec_engine.specs.Flights.{Flight, at, is_full}
+use Rattle.spec_protocol.specs.Spheres.{Sphere, is_stopped, halves}
+use Rattle.spec_protocol.specs.Placing.{replays}
+use Rattle.spec_protocol.specs.Commits.{CommitOutcome, Granted, Piece, Diverged, Moved}
+use Rattle.spec_protocol.specs.World.{Held, World, moment, sphere_at, with_sphere, held_afresh, flown}
+use Rattle.spec_protocol.specs.Asking.{CommitRequest, point_at, move_at, world_with, granted}
+use Rattle.spec_protocol.specs.Serial.{do_moved}
+use Rattle.spec_protocol.specs.Shown.{flying, shown_of}
+use Rattle.spec_protocol.specs.Moves.{do_move, Fits}
+use Rattle.spec_protocol.specs.Shown.{flying}
+use Rattle.spec_protocol.proofs.Memory.Slots.{Flew, flown-flew}
+use Rattle.spec_protocol.proofs.Moves.Granted.{Divergence, MovesOnly}
+use Rattle.spec_protocol.proofs.Moves.AnyMemory.{relaid}
+use Rattle.spec_protocol.proofs.Invariants.Kept.{SameSizes, point_for, PointOf, Kept, point-made, point-other, sphere-same}
+use Rattle.spec_protocol.proofs.Invariants.Cores.{set-cases, alone-set}
+use Rattle.spec_protocol.proofs.Invariants.Landing.{afresh-begins, afresh-held, moved_world, Lands, landed-held, elsewhere-held, moved-shown}
+use Rattle.spec_protocol.specs.Invariants.{IsFlightCovered, IsGoodChunk, current, IsGoodHeld, IsGood}
+use Rattle.spec_protocol.specs.Currency.{AllLack}
+
+-- ---- a request that is granted, or diverges
+
+abbrev pub request_flight : World → (core : ℕ) → CommitRequest → Marks → Moved → Flight
+request_flight w c q writes v = record { sphere = q.sphere; words = v.words; writes = writes; told = 2 ^ c }
+
+-- core c holds h, whose request q moves its sphere by v; its stores meet no flight, and v is what it gives on current memory
+pub record Grants (w : World) (c : ℕ) (h : Held) (q : CommitRequest) (writes : Marks) (v : Moved) : Type 0 where
+  pub is : at w.cores c ≡ Some h
+  pub sphere : h.chunk.sphere ≡ q.sphere
+  pub thread : h.thread ≡ q.thread
+  pub within : q.sphere < length w.spheres
+  pub going : is_stopped (sphere_at w q.sphere).role ≡ false
+  pub moves : MovesOnly q.thread w.devices (sphere_at w q.sphere) v
+  pub free : is_full w.slots ≡ false
+  pub covered : IsFlightCovered w.numbers.signature (request_flight w c q writes v)
+  pub lack : AllLack v.words (flying q.sphere w.slots)
+  -- a plain or recorded sphere grants it, and the point tells it
+  pub lives : replays (sphere_at w q.sphere).role ≡ false → v.outcome ≡ Granted
+  pub tells : point_at (moment w) q q.kind ≡ point_for w.numbers (moment w) q.sphere q.what
+  pub whole : do_move w.numbers (shown_of w) (move_at (moment w) q) ≡ do_moved (shown_of w) q.sphere (relaid (current w q.sphere) v)
+  pub fits : Fits w.numbers (shown_of w) (move_at (moment w) q)
+
+grant_flew : (w : World) (c : ℕ) (h : Held) (q : CommitRequest) (writes : Marks) (v : Moved) → IsGood w → Grants w c h q writes v
+    → Flew q.sphere (request_flight w c q writes v) w.slots (flown q.sphere v.words writes (2 ^ c) w.slots)
+grant_flew w c h q writes v good g =
+    flown-flew q.sphere v.words writes (2 ^ c) w.slots g.free (good.apart q.sphere) g.moves.apart g.lack
+
+-- another core's thread in the sphere is another thread
+other_thread : (w : World) (c d : ℕ) (h x : Held) (q : CommitRequest) (writes : Marks) (v : Moved) → IsGood w → Grants w c h q writes v → d ≢ c → at w.cores d ≡ Some x → x.chunk.sphere ≡ q.sphere → x.thread ≢ q.thread
+other_thread w c d h x q writes v good g ne there same e =
+    ne (good.alone d c x h there g.is (same ∙ sym g.sphere) (e ∙ sym g.thread))
+
+granted_lands : (w : World) (c d : ℕ) (h x : Held) (q : CommitRequest) (writes : Marks) (v : Moved) → IsGood w → Grants w c h q writes v → d ≢ c → at w.cores d ≡ Some x → x.chunk.sphere ≡ q.sphere
+    → Lands w q.sphere v.sphere (request_flight w c q writes v) (flown q.sphere v.words writes (2 ^ c) w.slots) d x
+granted_lands w c d h x q writes v good g ne there same =
+    let other = other_thread w c d h x q writes v good g ne there same in
+    let keeps = g.moves.keeps in
+    record {
+      within = g.within;
+      flew = grant_flew w c h q writes v good g;
+      sphere = refl;
+      covered = g.covered;
+      untold = ap (λ (b : ℕ). eqb b 1) (bit_at-pow_other c d ne);
+      memory = keeps.memory;
+      going = g.going;
+      threads = keeps.threads x.thread x.chunk.start other;
+      halving = keeps.halving;
+      replaying = keeps.replaying;
+      limits = keeps.limits w.numbers.chunk x.thread x.chunk.start other;
+    }
+
+granted_good : (w : World) (c : ℕ) (h : Held) (q : CommitRequest) (writes : Marks) (v : Moved) → IsGood w → Grants w c h q writes v → IsGood (world_with w c q writes v)
+granted_good w c h q writes v good g =
+    let flew = grant_flew w c h q writes v good g in
+    let f = request_flight w c q writes v in
+    let u = world_with w c q writes v in
+    let o = held_afresh w.numbers q.sphere q.thread v.sphere in
+    let count = length-set w.spheres q.sphere v.sphere in
+    let there : sphere_at u q.sphere ≡ v.sphere = sphere-same w.spheres q.sphere v.sphere g.within in
+    record {
+      buffer = good.buffer;
+      standard = good.standard;
+      apart = λ i. elim (cases_eq i q.sphere) [
+        | inl e ↦ subst (λ (n : ℕ). Apart (flying n u.slots)) (sym e) flew.apart
+        | inr ne ↦ subst Apart (sym (flew.others i ne)) (good.apart i)
+      ];
+      covered = λ k x e. elim (flew.stood k x e) [
+        | inl p ↦ good.covered k x p
+        | inr p ↦ subst (IsFlightCovered w.numbers.signature) (sym p) g.covered
+      ];
+      flights = λ k x e. subst (λ (n : ℕ). x.sphere < n) (sym count) (elim (flew.stood k x e) [
+        | inl p ↦ good.flights k x p
+        | inr p ↦ subst (λ (y : Flight). y.sphere < length w.spheres) (sym p) g.within
+      ]);
+      held = λ d x e. elim (set-cases w.cores c d o x e) [
+        | inl p ↦ subst (λ (n : ℕ). IsGoodHeld u n x) (sym p.0)
+            (afresh-held u q.sphere q.thread c v.sphere x (subst (λ (n : ℕ). q.sphere < n) (sym count) g.within) good.standard there (afresh-begins w.numbers q.sphere q.thread v.sphere x p.1))
+        | inr p ↦ elim (cases_eq x.chunk.sphere q.sphere) [
+          | inl same ↦ landed-held w q.sphere v.sphere f u.slots u.cores v.devices d x same (granted_lands w c d h x q writes v good g p.0 p.1 same) (good.held d x p.1)
+          | inr ne ↦ elsewhere-held w q.sphere v.sphere f u.slots u.cores v.devices d x ne flew (good.held d x p.1)
+        ]
+      ];
+      alone = alone-set w.cores c o good.alone
+          (λ y e d x ne there sphere thread.
+          let b = afresh-begins w.numbers q.sphere q.thread v.sphere y e in
+          other_thread w c d h x q writes v good g ne there (sym sphere ∙ ap (λ (z : Held). z.chunk.sphere) (sym b.is)) (sym thread ∙ ap (λ (z : Held). z.thread) (sym b.is)));
+    }
+
+granted_sizes : (w : World) (c : ℕ) (h : Held) (q : CommitRequest) (writes : Marks) (v : Moved) → IsGood w → Grants w c h q writes v → SameSizes w (world_with w c q writes v)
+granted_sizes w c h q writes v good g =
+    record {
+      numbers = refl;
+      spheres = length-set w.spheres q.sphere v.sphere;
+      cores = length-set w.cores c (held_afresh w.numbers q.sphere q.thread v.sphere);
+      slots = (grant_flew w c h q writes v good g).size;
+    }
+
+granted_whole : (w : World) (c : ℕ) (h : Held) (q : CommitRequest) (writes : Marks) (v : Moved) → IsGood w → Grants w c h q writes v → shown_of (world_with w c q writes v) ≡ do_move w.numbers (shown_of w) (move_at (moment w) q)
+granted_whole w c h q writes v good g =
+    moved-shown w q.sphere v (request_flight w c q writes v) (flown q.sphere v.words writes (2 ^ c) w.slots) (set w.cores c (held_afresh w.numbers q.sphere q.thread v.sphere)) g.moves.keeps.memory refl (grant_flew w c h q writes v good g)
+    ∙ sym g.whole
+
+-- ---- a divergence, which stops the sphere
+
+pub unflown : (w : World) (i : ℕ) (f : Flight) → IsGood w → f.words ≡ [] → Flew i f w.slots w.slots
+unflown w i f good e =
+    record {
+      size = refl;
+      lands = λ m. ap (lays (lays m (flying i w.slots))) (sym e);
+      apart = good.apart i;
+      others = λ j ne. refl;
+      stays = λ k g h. h;
+      stood = λ k g h. inl h;
+      stands = inl e;
+    }
+
+-- a sphere that stops, with the same memory and threads
+pub record Stops (w : World) (i : ℕ) (p : Sphere) : Type 0 where
+  pub within : i < length w.spheres
+  pub memory : p.memory ≡ (sphere_at w i).memory
+  pub threads : p.threads ≡ (sphere_at w i).threads
+  pub halving : halves p.role ≡ halves (sphere_at w i).role
+  pub stopped : is_stopped p.role ≡ true
+
+stopped_here : (w : World) (p : Sphere) (c : ℕ) (x : Held) → Stops w x.chunk.sphere p → IsGoodHeld w c x → IsGoodHeld (with_sphere w x.chunk.sphere p) c x
+stopped_here w p c x s good =
+    let i = x.chunk.sphere in
+    let v = with_sphere w i p in
+    let there : sphere_at v i ≡ p = sphere-same w.spheres i p s.within in
+    record {
+      sphere = subst (λ (n : ℕ). i < n) (sym (length-set w.spheres i p)) good.sphere;
+      start = ap (λ (q : Sphere). slice_get q.threads x.thread) there ∙ ap (λ (ts : List Parts). slice_get ts x.thread) s.threads ∙ good.start;
+      lives = good.lives;
+      halving = good.halving ∙ sym s.halving ∙ ap (λ (q : Sphere). halves q.role) (sym there);
+      limit = λ going. absurd (true≢false (sym s.stopped ∙ ap (λ (q : Sphere). is_stopped q.role) (sym there) ∙ going));
+      chunk = subst (λ (m : List ℕ). IsGoodChunk w.numbers.buffer w.numbers.signature w.slots c m x.chunk)
+          (ap (λ (m : List ℕ). lays m (flying i w.slots)) (sym s.memory) ∙ ap (λ (q : Sphere). lays q.memory (flying i w.slots)) (sym there)) good.chunk;
+    }
+
+pub stopped-good : (w : World) (i : ℕ) (p : Sphere) → IsGood w → Stops w i p → IsGood (with_sphere w i p)
+stopped-good w i p good s =
+    let f : Flight = record { sphere = i; words = []; writes = nothing w.numbers.signature; told = 0 } in
+    record {
+      buffer = good.buffer;
+      standard = good.standard;
+      apart = good.apart;
+      covered = good.covered;
+      flights = λ k x e. subst (λ (n : ℕ). x.sphere < n) (sym (length-set w.spheres i p)) (good.flights k x e);
+      held = λ d x e. elim (cases_eq x.chunk.sphere i) [
+        | inl same ↦ subst (λ (n : ℕ). Stops w n p → IsGoodHeld (with_sphere w n p) d x) same (λ t. stopped_here w p d x t (good.held d x e)) s
+        | inr ne ↦ elsewhere-held w i p f w.slots w.cores w.devices d x ne (unflown w i f good refl) (good.held d x e)
+      ];
+      alone = good.alone;
+    }
+
+pub stopped-shown : (w : World) (i : ℕ) (v : Moved) → IsGood w → v.sphere.memory ≡ (sphere_at w i).memory → v.words ≡ [] → v.devices ≡ w.devices → shown_of (with_sphere w i v.sphere) ≡ do_moved (shown_of w) i (relaid (current w i) v)
+stopped-shown w i v good memory words devices =
+    let f : Flight = record { sphere = i; words = v.words; writes = nothing w.numbers.signature; told = 0 } in
+    sym (λ j. shown_of (moved_world w i v.sphere w.slots w.cores (devices j)))
+    ∙ moved-shown w i v f w.slots w.cores memory refl (unflown w i f good words)
+
+pub granted-kept : (w : World) (c : ℕ) (h : Held) (q : CommitRequest) (writes : Marks) (v : Moved) (o : CommitOutcome) → v.outcome ≡ o → IsGood w → Grants w c h q writes v → Kept w (granted w c q writes v o)
+granted-kept w c h q writes v Granted is good g =
+    let m = move_at (moment w) q in
+    let b = replays (sphere_at w q.sphere).role in
+    record {
+      good = granted_good w c h q writes v good g;
+      sizes = granted_sizes w c h q writes v good g;
+      point = subst (λ (p : Point). PointOf w.numbers b m (Some p)) (sym g.tells) (point-made w.numbers b m);
+      whole = granted_whole w c h q writes v good g;
+      fits = g.fits;
+    }
+granted-kept w c h q writes v Piece is good g =
+    record {
+      good = granted_good w c h q writes v good g;
+      sizes = granted_sizes w c h q writes v good g;
+      point = point-other w.numbers (replays (sphere_at w q.sphere).role) (move_at (moment w) q) _
+          (λ live. let e : Granted ≡ Piece = sym (g.lives live) ∙ is in cc) refl;
+      whole = granted_whole w c h q writes v good g;
+      fits = g.fits;
+    }
+granted-kept w c h q writes v (Diverged i why) is good g =
+    let d : Divergence w.devices (sphere_at w q.sphere) v (Diverged i why) = subst (Divergence w.devices (sphere_at w q.sphere) v) is g.moves.divergence in
+    record {
+      good = stopped-good w q.sphere v.sphere good
+          (record { within = g.within; memory = g.moves.keeps.memory; threads = d.2; halving = g.moves.keeps.halving; stopped = d.3 });
+      sizes = record { numbers = refl; spheres = length-set w.spheres q.sphere v.sphere; cores = refl; slots = refl };
+      point = point-other w.numbers (replays (sphere_at w q.sphere).role) (move_at (moment w) q) _
+          (λ live. let e : Granted ≡ Diverged i why = sym (g.lives live) ∙ is in cc) tt;
+      whole = stopped-shown w q.sphere v good g.moves.keeps.memory d.0 d.1 ∙ sym g.whole;
+      fits = g.fits;
+    }

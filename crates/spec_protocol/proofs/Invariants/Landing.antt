@@ -1,0 +1,206 @@
+-- A commit moves one sphere: its words land on the current memory, every chunk that goes on stays current, and the world
+-- shows what the commit, done whole, gives.
+use Rattle.std.proofs.Common.{◌≡◌, ◌≢◌, ℕ, ◌<◌, ◌≤◌, inl, inr, Bool, true, false, cond, List, [], ◌∷◌, length, Option, Some, None, refl, sym, ap, ◌∙◌, subst, arith, set}
+use Rattle.std.specs.Prelude.{slice_get}
+use Rattle.std.proofs.Math.ListN.{length-set}
+use Rattle.std.proofs.lemmas.Bool.{true≢false, false_from_ne_true}
+use Rattle.std.proofs.lemmas.Option.{none-some}
+use Rattle.spec_isa.specs.declared.thread.Parts.{Parts}
+use Rattle.spec_isa.specs.Words.{Stored, lays}
+use Rattle.spec_kernel.specs.Devices.{Devices}
+use Rattle.spec_kernel.specs.Interrupts.{is_live}
+use Rattle.spec_engine.specs.Signatures.{Marks, covers, hits, line}
+use Rattle.spec_engine.specs.Flights.{Flight, told_at}
+use Rattle.spec_engine.specs.Chunks.{Chunk, fresh}
+use Rattle.spec_engine.specs.Laws.{CoversWords}
+use Rattle.spec_engine.proofs.Marking.{covers_hit}
+use Rattle.spec_protocol.specs.Spheres.{Role, Plain, Record, Replay, Sphere, is_stopped, limit_of, halves}
+use Rattle.spec_protocol.specs.Placing.{replays}
+use Rattle.spec_protocol.specs.Commits.{Moved}
+use Rattle.spec_protocol.specs.World.{Numbers, Held, World, sphere_at, thread_afresh, held_afresh}
+use Rattle.spec_protocol.specs.Serial.{do_moved}
+use Rattle.spec_protocol.specs.Shown.{flying, shown, shown_from, shown_of}
+use Rattle.spec_protocol.proofs.Memory.Laying.{Agree-unseen, Unseen}
+use Rattle.spec_protocol.proofs.Memory.Slots.{Flew}
+use Rattle.spec_protocol.proofs.Memory.Running.{Live_local}
+use Rattle.spec_protocol.proofs.Moves.AnyMemory.{relaid}
+use Rattle.spec_protocol.proofs.Invariants.Kept.{sphere-same, sphere-other, shown-set}
+use Rattle.spec_protocol.proofs.Invariants.Flights.{held-beside}
+use Rattle.spec_protocol.specs.Currency.{seen_by}
+use Rattle.spec_protocol.specs.Invariants.{IsFlightCovered, IsGoodChunk, current, IsGoodHeld}
+
+-- ---- a chunk at its beginning
+
+pub limit-positive : (s : ℕ) (role : Role) (k : ℕ) (t : Parts) → 0 < s → 0 < limit_of s role k t
+unfolding limit_of
+limit-positive s Plain k t positive = positive
+limit-positive s (Record log) k t positive = positive
+limit-positive s (Replay b) k t positive = omega arith
+
+pub fresh-good : (capacity bits : ℕ) (xs : List (Option Flight)) (c : ℕ) (m : List ℕ) (i : ℕ) (t : Parts) (limit : ℕ) (halving : Bool) → 0 < limit → IsGoodChunk capacity bits xs c m (fresh bits i t limit halving)
+fresh-good capacity bits xs c m i t limit halving positive =
+    record {
+      reads_size = refl;
+      writes_size = refl;
+      apart = tt;
+      writes = tt;
+      loads = tt;
+      closes = record {
+        positive = positive;
+        opened = λ e. positive;
+        full = λ e. absurd (none-some _ e);
+        early = λ how e. absurd (none-some how e);
+        cut = λ e. absurd (none-some _ e);
+        room = λ e. absurd (none-some _ e);
+        few = omega arith;
+        few_loads = omega arith;
+      };
+      live = λ q. record { runs = refl; touches = λ j l. absurd (omega arith); next_touches = λ e. absurd (none-some _ e); next_serial = λ e. absurd (none-some _ e); store_touches = λ e. absurd (none-some _ e); store_anew = λ e. absurd (none-some _ e) };
+    }
+
+abbrev afresh : Numbers → (i k : ℕ) → Sphere → Parts → Held
+afresh z i k p t = record { thread = k; chunk = fresh z.signature i t (limit_of z.chunk p.role k t) (halves p.role) }
+
+-- what a core begins with, if it does: a live thread of the sphere
+pub record Begins (z : Numbers) (i k : ℕ) (p : Sphere) (h : Held) : Type 0 where
+  pub state : Parts
+  pub start : slice_get p.threads k ≡ Some state
+  pub lives : is_live state ≡ true
+  pub is : afresh z i k p state ≡ h
+
+begins_if : (z : Numbers) (i k : ℕ) (p : Sphere) (h : Held) (t : Parts) (b : Bool) → slice_get p.threads k ≡ Some t → is_live t ≡ b → cond b (Some (afresh z i k p t)) None ≡ Some h → Begins z i k p h
+begins_if z i k p h t true start lives e = record { state = t; start = start; lives = lives; is = (let q : afresh z i k p t ≡ h = cc in q) }
+begins_if z i k p h t false start lives e = absurd (none-some h e)
+
+begins_thread : (z : Numbers) (i k : ℕ) (p : Sphere) (h : Held) (o : Option Parts) → slice_get p.threads k ≡ o → thread_afresh z i k p o ≡ Some h → Begins z i k p h
+begins_thread z i k p h None start e = absurd (none-some h e)
+begins_thread z i k p h (Some t) start e = begins_if z i k p h t (is_live t) start refl e
+
+pub afresh-begins : (z : Numbers) (i k : ℕ) (p : Sphere) (h : Held) → held_afresh z i k p ≡ Some h → Begins z i k p h
+afresh-begins z i k p h e = begins_thread z i k p h (slice_get p.threads k) refl e
+
+-- in a world whose sphere i is p
+pub afresh-held : (v : World) (i k c : ℕ) (p : Sphere) (h : Held) → i < length v.spheres → 0 < v.numbers.chunk → sphere_at v i ≡ p → Begins v.numbers i k p h → IsGoodHeld v c h
+afresh-held v i k c p h within positive there b =
+    let t = b.state in
+    subst (IsGoodHeld v c) b.is
+    (record {
+      sphere = within;
+      start = ap (λ (q : Sphere). slice_get q.threads k) there ∙ b.start;
+      lives = b.lives;
+      halving = ap (λ (q : Sphere). halves q.role) (sym there);
+      limit = λ going.
+          let e : limit_of v.numbers.chunk p.role k t ≡ limit_of v.numbers.chunk (sphere_at v i).role k t = ap (λ (q : Sphere). limit_of v.numbers.chunk q.role k t) (sym there) in
+          record { most = omega (arith, e); replayed = λ r. e };
+      chunk = fresh-good v.numbers.buffer v.numbers.signature v.slots c (current v i) i t (limit_of v.numbers.chunk p.role k t) (halves p.role) (limit-positive v.numbers.chunk p.role k t positive);
+    })
+
+-- ---- the other chunks
+
+abbrev pub moved_world : World → (i : ℕ) → Sphere → List (Option Flight) → List (Option Held) → Devices → World
+moved_world w i q ys cores devices = record w { spheres = set w.spheres i q; slots = ys; cores = cores; devices = devices }
+
+-- words of a signature that does not hit these reads
+pub unhit-unseen : (i : ℕ) (g : Marks) (ch : Chunk) (ws : List Stored) → ch.sphere ≡ i → ch.reads.bits ≡ g.bits → CoversWords i g ws → hits g ch.reads ≡ false → Unseen (seen_by ch) ws
+unhit-unseen i g ch [] same size c e = tt
+unhit-unseen i g ch (w ∷ ws) same size c e = (
+  false_from_ne_true (seen_by ch w.word)
+      (λ h. true≢false (sym (covers_hit g ch.reads (line ch.sphere w.word) size (ap (λ (n : ℕ). covers g (line n w.word)) same ∙ c.0) h) ∙ e)),
+  unhit-unseen i g ch ws same size c.1 e,
+)
+
+landed_chunk : (capacity bits : ℕ) (xs ys : List (Option Flight)) (d : ℕ) (m : List ℕ) (ch : Chunk) (f : Flight) → Flew ch.sphere f xs ys → f.sphere ≡ ch.sphere → IsFlightCovered bits f → told_at f.told d ≡ false → IsGoodChunk capacity bits xs d m ch
+    → IsGoodChunk capacity bits ys d (lays m f.words) ch
+landed_chunk capacity bits xs ys d m ch f flew same cov untold good =
+    record {
+      reads_size = good.reads_size;
+      writes_size = good.writes_size;
+      apart = good.apart;
+      writes = good.writes;
+      loads = good.loads;
+      closes = good.closes;
+      live = λ quiet.
+          let unseen : Unseen (seen_by ch) f.words = elim flew.stands [
+            | inl none ↦ subst (Unseen (seen_by ch)) (sym none) tt
+            | inr at_k ↦ unhit-unseen f.sphere f.writes ch f.words (sym same) (good.reads_size ∙ sym cov.size) cov.words (quiet.misses at_k.0 f at_k.1 same untold)
+          ]
+          in
+          Live_local m (lays m f.words) ch (Agree-unseen (seen_by ch) m f.words unseen)
+          (good.live (record { misses = λ k g there gs gu. quiet.misses k g (flew.stays k g there) gs gu }));
+    }
+
+-- all that the chunk of a core d needs in the sphere that moves
+pub record Lands (w : World) (i : ℕ) (q : Sphere) (f : Flight) (ys : List (Option Flight)) (d : ℕ) (x : Held) : Type 0 where
+  pub within : i < length w.spheres
+  pub flew : Flew i f w.slots ys
+  pub sphere : f.sphere ≡ i
+  pub covered : IsFlightCovered w.numbers.signature f
+  pub untold : told_at f.told d ≡ false
+  pub memory : q.memory ≡ (sphere_at w i).memory
+  pub going : is_stopped (sphere_at w i).role ≡ false
+  pub threads : slice_get (sphere_at w i).threads x.thread ≡ Some x.chunk.start → slice_get q.threads x.thread ≡ Some x.chunk.start
+  pub halving : halves q.role ≡ halves (sphere_at w i).role
+  pub replaying : replays q.role ≡ replays (sphere_at w i).role
+  pub limits : is_stopped q.role ≡ false → limit_of w.numbers.chunk q.role x.thread x.chunk.start ≡ limit_of w.numbers.chunk (sphere_at w i).role x.thread x.chunk.start
+
+landed_here : (w : World) (q : Sphere) (f : Flight) (ys : List (Option Flight)) (cores : List (Option Held)) (devices : Devices) (d : ℕ) (x : Held) → Lands w x.chunk.sphere q f ys d x → IsGoodHeld w d x
+    → IsGoodHeld (moved_world w x.chunk.sphere q ys cores devices) d x
+landed_here w q f ys cores devices d x l good =
+    let i = x.chunk.sphere in
+    let v = moved_world w i q ys cores devices in
+    let there : sphere_at v i ≡ q = sphere-same w.spheres i q l.within in
+    let memory : lays (lays (sphere_at w i).memory (flying i w.slots)) f.words ≡ current v i =
+    sym (l.flew.lands (sphere_at w i).memory) ∙ ap (λ (m : List ℕ). lays m (flying i ys)) (sym l.memory) ∙ ap (λ (p : Sphere). lays p.memory (flying i ys)) (sym there)
+    in
+    let limits : is_stopped q.role ≡ false → limit_of w.numbers.chunk (sphere_at v i).role x.thread x.chunk.start ≡ limit_of w.numbers.chunk (sphere_at w i).role x.thread x.chunk.start =
+    (λ going. ap (λ (p : Sphere). limit_of w.numbers.chunk p.role x.thread x.chunk.start) there ∙ l.limits going)
+    in
+    record {
+      sphere = subst (λ (n : ℕ). i < n) (sym (length-set w.spheres i q)) good.sphere;
+      start = ap (λ (p : Sphere). slice_get p.threads x.thread) there ∙ l.threads good.start;
+      lives = good.lives;
+      halving = good.halving ∙ sym l.halving ∙ ap (λ (p : Sphere). halves p.role) (sym there);
+      limit = λ going.
+          let g : is_stopped q.role ≡ false = ap (λ (p : Sphere). is_stopped p.role) (sym there) ∙ going in
+          let fit = good.limit l.going in
+          record {
+            most = subst (λ (n : ℕ). x.chunk.limit ≤ n) (sym (limits g)) fit.most;
+            replayed = λ r. fit.replayed (sym l.replaying ∙ ap (λ (p : Sphere). replays p.role) (sym there) ∙ r) ∙ sym (limits g);
+          };
+      chunk = subst (λ (m : List ℕ). IsGoodChunk w.numbers.buffer w.numbers.signature ys d m x.chunk) memory
+          (landed_chunk w.numbers.buffer w.numbers.signature w.slots ys d (current w i) x.chunk f l.flew l.sphere l.covered l.untold good.chunk);
+    }
+
+pub landed-held : (w : World) (i : ℕ) (q : Sphere) (f : Flight) (ys : List (Option Flight)) (cores : List (Option Held)) (devices : Devices) (d : ℕ) (x : Held) → x.chunk.sphere ≡ i → Lands w i q f ys d x → IsGoodHeld w d x
+    → IsGoodHeld (moved_world w i q ys cores devices) d x
+landed-held w i q f ys cores devices d x e l good =
+    subst (λ (n : ℕ). Lands w n q f ys d x → IsGoodHeld (moved_world w n q ys cores devices) d x) e (λ k. landed_here w q f ys cores devices d x k good) l
+
+-- a chunk of another sphere
+pub elsewhere-held : (w : World) (i : ℕ) (q : Sphere) (f : Flight) (ys : List (Option Flight)) (cores : List (Option Held)) (devices : Devices) (d : ℕ) (x : Held) → x.chunk.sphere ≢ i → Flew i f w.slots ys → IsGoodHeld w d x
+    → IsGoodHeld (moved_world w i q ys cores devices) d x
+elsewhere-held w i q f ys cores devices d x ne flew good =
+    let v = moved_world w i q ys cores devices in
+    let there : sphere_at v x.chunk.sphere ≡ sphere_at w x.chunk.sphere = sphere-other w.spheres i x.chunk.sphere q ne in
+    held-beside w v d x
+    (record {
+      numbers = refl;
+      spheres = length-set w.spheres i q;
+      threads = ap (λ (p : Sphere). p.threads) there;
+      role = ap (λ (p : Sphere). p.role) there;
+      memory = (λ j. lays (there j).memory (flew.others x.chunk.sphere ne j));
+      quiet = λ quiet. record { misses = λ k g at_k gs gu. quiet.misses k g (flew.stays k g at_k) gs gu };
+    })
+    good
+
+-- ---- what is shown
+
+pub moved-shown : (w : World) (i : ℕ) (v : Moved) (f : Flight) (ys : List (Option Flight)) (cores : List (Option Held)) → v.sphere.memory ≡ (sphere_at w i).memory → f.words ≡ v.words → Flew i f w.slots ys
+    → shown_of (moved_world w i v.sphere ys cores v.devices) ≡ do_moved (shown_of w) i (relaid (current w i) v)
+unfolding shown
+moved-shown w i v f ys cores memory words flew =
+    let lands : lays v.sphere.memory (flying i ys) ≡ lays (current w i) v.words =
+    ap (λ (m : List ℕ). lays m (flying i ys)) memory ∙ flew.lands (sphere_at w i).memory ∙ ap (lays (current w i)) words
+    in
+    (λ j. record { spheres = shown-set w.slots ys i w.spheres v.sphere flew.others j; devices = v.devices })
+    ∙ (λ j. record { spheres = set (shown_from w.slots 0 w.spheres) i (record v.sphere { memory = lands j }); devices = v.devices })

@@ -1,0 +1,199 @@
+-- Every event keeps the invariant, and the start has it: so it holds after every schedule.
+use Rattle.std.proofs.Common.{◌≡◌, ℕ, zero, suc, ◌+◌, ◌<◌, List, [], ◌∷◌, length, replicate, Option, Some, None, refl, sym, ap, ◌∙◌, subst, arith, get_or, slice_get, map}
+use Rattle.std.proofs.lemmas.Option.{none-some}
+use Rattle.spec_isa.specs.Words.{lays, Apart}
+use Rattle.spec_engine.specs.Flights.{Flight, at}
+use Rattle.spec_protocol.specs.declared.event.Event.{Event}
+use Rattle.spec_protocol.specs.Spheres.{Sphere, no_sphere}
+use Rattle.spec_protocol.specs.World.{Numbers, Held, World, Move, After, held_afresh, sphere_at}
+use Rattle.spec_protocol.specs.Machine.{SphereSetup, Setup, first_cores, world_of, core_no, sphere_no, slot_no, act, kept, happens, world_after, with_move, moves, sphere_of}
+use Rattle.spec_protocol.specs.Serial.{Whole, whole_of}
+use Rattle.spec_protocol.specs.Shown.{flying, shown, shown_from, shown_of}
+use Rattle.spec_protocol.specs.Moves.{do_if, do_moves, FitsIf, FitAll}
+use Rattle.spec_protocol.specs.Promises.{IsSetup, MovesAreSerial, InvariantsHold, SizesAreKept}
+use Rattle.spec_protocol.proofs.Invariants.Kept.{Kept, SameSizes, same_sizes}
+use Rattle.spec_protocol.proofs.Invariants.Cores.{step-kept, cut-kept}
+use Rattle.spec_protocol.proofs.Invariants.Flights.{drain-kept, deliver-kept, retire-kept}
+use Rattle.spec_protocol.proofs.Invariants.Landing.{afresh-begins, afresh-held}
+use Rattle.spec_protocol.proofs.Invariants.Asks.{ask-kept}
+use Rattle.spec_protocol.proofs.Invariants.Threads.{place-kept, raise-kept}
+use Rattle.spec_protocol.proofs.Invariants.Transfers.{dma-kept}
+use Rattle.spec_protocol.specs.Invariants.{IsGoodHeld, IsGood}
+use Rattle.std.proofs.lemmas.List.{length-replicate, length-map}
+
+-- ---- one event
+
+act_kept : (w : World) (e : Event) → IsGood w → Kept w (act w e)
+unfolding act
+act_kept w (Event.Step c) good = step-kept w (core_no w c) good
+act_kept w (Event.Cut c) good = cut-kept w (core_no w c) good
+act_kept w (Event.Ask c) good = ask-kept w (core_no w c) good
+act_kept w (Event.Drain k) good = drain-kept w (slot_no w k) good
+act_kept w (Event.Deliver c k) good = deliver-kept w (core_no w c) (slot_no w k) good
+act_kept w (Event.Retire k) good = retire-kept w (slot_no w k) good
+act_kept w (Event.Place c i k) good = place-kept w (core_no w c) (sphere_no w i) k good
+act_kept w (Event.Raise i k value) good = raise-kept w (sphere_no w i) k value good
+act_kept w (Event.Dma i) good = dma-kept w (sphere_no w i) good
+
+-- counts and points are no part of what is kept
+held_counted : (a : After) (c : ℕ) (h : Held) → IsGoodHeld a.world c h → IsGoodHeld (kept a) c h
+held_counted a c h g =
+    record { sphere = g.sphere; start = g.start; lives = g.lives; halving = g.halving; limit = g.limit; chunk = g.chunk }
+
+good_counted : (a : After) → IsGood a.world → IsGood (kept a)
+good_counted a g =
+    record {
+      buffer = g.buffer;
+      standard = g.standard;
+      apart = g.apart;
+      covered = g.covered;
+      flights = g.flights;
+      held = λ c h e. held_counted a c h (g.held c h e);
+      alone = g.alone;
+    }
+
+pub happens-kept : (w : World) (e : Event) → IsGood w → Kept w (happens w e)
+unfolding happens
+happens-kept w e good =
+    let k = act_kept w e good in
+    record {
+      good = good_counted (act w e) k.good;
+      sizes = record { numbers = k.sizes.numbers; spheres = k.sizes.spheres; cores = k.sizes.cores; slots = k.sizes.slots };
+      point = k.point;
+      whole = k.whole;
+      fits = k.fits;
+    }
+
+-- ---- the start
+
+pub free_slots : (n k : ℕ) (f : Flight) → at (replicate n None) k ≡ Some f → ⊥
+free_slots zero k f e = none-some f e
+free_slots (suc n) zero f e = none-some f e
+free_slots (suc n) (suc k) f e = free_slots n k f e
+
+none_flies : (n i : ℕ) → flying i (replicate n None) ≡ []
+none_flies zero i = refl
+none_flies (suc n) i = none_flies n i
+
+-- what core c holds at first
+pub first_held : (z : Numbers) (i n c : ℕ) (ps : List Sphere) (h : Held) → at (first_cores z i n ps) c ≡ Some h → (c < length ps) × (held_afresh z (i + c) 0 (get_or ps c no_sphere) ≡ Some h)
+first_held z i zero c ps h e = absurd (none-some h e)
+first_held z i (suc n) zero [] h e = absurd (none-some h e)
+first_held z i (suc n) (suc c) [] h e = absurd (omega (arith, (first_held z (suc i) n c [] h e).0))
+first_held z i (suc n) zero (p ∷ ps) h e = let k : i + 0 ≡ i = omega arith in (omega arith, ap (λ (j : ℕ). held_afresh z j 0 p) k ∙ e)
+first_held z i (suc n) (suc c) (p ∷ ps) h e =
+    let r = first_held z (suc i) n c ps h e in
+    let k : i + suc c ≡ suc i + c = omega arith in
+    (omega (arith, r.0), ap (λ (j : ℕ). held_afresh z j 0 (get_or ps c no_sphere)) k ∙ r.1)
+
+first_sphere : (z : Numbers) (n c : ℕ) (ps : List Sphere) (h : Held) → at (first_cores z 0 n ps) c ≡ Some h → h.chunk.sphere ≡ c
+first_sphere z n c ps h e =
+    let r = first_held z 0 n c ps h e in
+    let b = afresh-begins z (0 + c) 0 (get_or ps c no_sphere) h r.1 in
+    let k : 0 + c ≡ c = omega arith in
+    ap (λ (x : Held). x.chunk.sphere) (sym b.is) ∙ k
+
+pub start-good : (s : Setup) → IsSetup s → IsGood (world_of s)
+start-good s is =
+    let w = world_of s in
+    record {
+      buffer = is.buffer;
+      standard = is.chunk;
+      apart = λ i. subst Apart (sym (none_flies s.window i)) tt;
+      covered = λ k f e. absurd (free_slots s.window k f e);
+      flights = λ k f e. absurd (free_slots s.window k f e);
+      held = λ c h e.
+          let r = first_held s.numbers 0 s.cores c w.spheres h e in
+          let k : 0 + c ≡ c = omega arith in
+          afresh-held w c 0 c (sphere_at w c) h r.0 is.chunk refl
+          (afresh-begins s.numbers c 0 (sphere_at w c) h (sym (ap (λ (j : ℕ). held_afresh s.numbers j 0 (sphere_at w c)) k) ∙ r.1));
+      alone = λ c d h g eh eg same thread. sym (first_sphere s.numbers s.cores c w.spheres h eh) ∙ same ∙ first_sphere s.numbers s.cores d w.spheres g eg;
+    }
+
+-- what sphere i is at first
+pub start-sphere : (z : ℕ) (ds : List SphereSetup) (i : ℕ) (d : SphereSetup) → slice_get ds i ≡ Some d → slice_get (map (sphere_of z) ds) i ≡ Some (sphere_of z d)
+start-sphere z [] i d e = absurd (none-some d e)
+start-sphere z (c ∷ ds) zero d e = let h : c ≡ d = cc in ap (λ (x : SphereSetup). Some (sphere_of z x)) h
+start-sphere z (c ∷ ds) (suc i) d e = start-sphere z ds i d e
+
+shown_itself : (n i : ℕ) (ps : List Sphere) → shown_from (replicate n None) i ps ≡ ps
+unfolding shown
+shown_itself n i [] = refl
+shown_itself n i (p ∷ ps) = (λ j. record p { memory = lays p.memory (none_flies n i j) } ∷ shown_itself n (suc i) ps j)
+
+pub start-shown : (s : Setup) → shown_of (world_of s) ≡ whole_of s
+start-shown s = (λ j. record { spheres = shown_itself s.window 0 (world_of s).spheres j; devices = (world_of s).devices })
+
+-- ---- schedules
+
+pub after-good : (w : World) (es : List Event) → IsGood w → IsGood (world_after w es)
+after-good w [] good = good
+after-good w (e ∷ es) good = after-good (happens w e).world es (happens-kept w e good).good
+
+with_moves : (z : Numbers) (x : Whole) (o : Option Move) (ms : List Move) → do_moves z x (with_move o ms) ≡ do_moves z (do_if z x o) ms
+with_moves z x None ms = refl
+with_moves z x (Some m) ms = refl
+
+with_fits : (z : Numbers) (x : Whole) (o : Option Move) (ms : List Move) → FitsIf z x o → FitAll z (do_if z x o) ms → FitAll z x (with_move o ms)
+with_fits z x None ms fits all = all
+with_fits z x (Some m) ms fits all = (fits, all)
+
+record Serial (w : World) (es : List Event) : Type 0 where
+  same : shown_of (world_after w es) ≡ do_moves w.numbers (shown_of w) (moves w es)
+  possible : FitAll w.numbers (shown_of w) (moves w es)
+
+moves_serial : (w : World) (es : List Event) → IsGood w → Serial w es
+moves_serial w [] good = record { same = refl; possible = tt }
+moves_serial w (e ∷ es) good =
+    let a = happens w e in
+    let k = happens-kept w e good in
+    let r = moves_serial a.world es k.good in
+    record {
+      same = r.same ∙ (λ j. do_moves (k.sizes.numbers j) (k.whole j) (moves a.world es)) ∙ sym (with_moves w.numbers (shown_of w) a.move (moves a.world es));
+      possible = with_fits w.numbers (shown_of w) a.move (moves a.world es) k.fits
+          (subst (λ (x : Whole). FitAll w.numbers x (moves a.world es)) k.whole
+          (subst (λ (z : Numbers). FitAll z (shown_of a.world) (moves a.world es)) k.sizes.numbers r.possible));
+    }
+
+pub moves_are : MovesAreSerial
+moves_are s es is =
+    let r = moves_serial (world_of s) es (start-good s is) in
+    record {
+      same = r.same ∙ ap (λ (x : Whole). do_moves s.numbers x (moves (world_of s) es)) (start-shown s);
+      possible = subst (λ (x : Whole). FitAll s.numbers x (moves (world_of s) es)) (start-shown s) r.possible;
+    }
+
+pub invariants_hold : InvariantsHold
+invariants_hold s es is = after-good (world_of s) es (start-good s is)
+
+-- ---- the numbers
+
+abbrev both_sizes : (w v u : World) → SameSizes w v → SameSizes v u → SameSizes w u
+both_sizes w v u a b =
+    record {
+      numbers = b.numbers ∙ a.numbers;
+      spheres = b.spheres ∙ a.spheres;
+      cores = b.cores ∙ a.cores;
+      slots = b.slots ∙ a.slots;
+    }
+
+after_sizes : (w : World) (es : List Event) → IsGood w → SameSizes w (world_after w es)
+after_sizes w [] good = same_sizes w
+after_sizes w (e ∷ es) good =
+    let k = happens-kept w e good in
+    both_sizes w (happens w e).world (world_after w (e ∷ es)) k.sizes (after_sizes (happens w e).world es k.good)
+
+first_length : (z : Numbers) (i n : ℕ) (ps : List Sphere) → length (first_cores z i n ps) ≡ n
+first_length z i zero ps = refl
+first_length z i (suc n) [] = ap suc (first_length z (suc i) n [])
+first_length z i (suc n) (p ∷ ps) = ap suc (first_length z (suc i) n ps)
+
+pub sizes_kept : SizesAreKept
+sizes_kept s es is =
+    let a = after_sizes (world_of s) es (start-good s is) in
+    record {
+      numbers = a.numbers;
+      spheres = a.spheres ∙ length-map s.spheres (sphere_of s.numbers.chunk);
+      cores = a.cores ∙ first_length s.numbers 0 s.cores (world_of s).spheres;
+      slots = a.slots ∙ length-replicate s.window None;
+    }

@@ -1,0 +1,236 @@
+-- The events of threads keep the invariant: Place and Raise.
+use Rattle.std.proofs.Common.{◌≡◌, ◌≢◌, ℕ, ◌<◌, ◌≤◌, inl, inr, true, false, not, eqb, cond, List, [], length, Option, Some, None, refl, sym, ap, ◌∙◌, subst}
+use Rattle.std.specs.Prelude.{slice_get}
+use Rattle.std.proofs.Math.ListN.{length-set}
+use Rattle.std.proofs.lemmas.Bool.{true≢false, and_parts, and_from, eqb-true, eq-eqb, cases_eq, cases_lt}
+use Rattle.std.proofs.lemmas.Option.{none-some}
+use Rattle.std.proofs.lemmas.List.{get_or_past}
+use Rattle.spec_isa.specs.declared.thread.Parts.{Parts}
+use Rattle.spec_isa.specs.Words.{lays}
+use Rattle.spec_kernel.specs.Interrupts.{is_live, has_handler, takes_interrupt, interrupted}
+use Rattle.spec_engine.specs.Signatures.{nothing}
+use Rattle.spec_engine.specs.Flights.{Flight, at}
+use Rattle.spec_engine.proofs.Searches.{first_none, first_some}
+use Rattle.spec_protocol.specs.declared.reply.Reply.{Reply}
+use Rattle.spec_protocol.specs.Spheres.{Role, Plain, Record, Replay, Sphere, no_sphere, is_stopped, limit_of, halves}
+use Rattle.spec_protocol.specs.Commits.{role_raised, raised}
+use Rattle.spec_protocol.specs.World.{Held, World, moment, sphere_at, with_sphere, with_core, held_afresh, runs, core_of, OfRaise, answered}
+use Rattle.spec_protocol.specs.Placing.{unless_elsewhere, place_thread, placing, replays, with_renewed, raise_in, raise_thread, raising}
+use Rattle.spec_protocol.specs.Serial.{do_raise}
+use Rattle.spec_protocol.specs.Shown.{flying, shown, shown_of}
+use Rattle.spec_protocol.specs.Moves.{do_at, do_move, FitsRaise, FitsAt, Fits}
+use Rattle.spec_protocol.proofs.Moves.Granted.{get-set_other}
+use Rattle.spec_protocol.proofs.Moves.AnyMemory.{over}
+use Rattle.spec_protocol.proofs.Invariants.Kept.{SameSizes, Kept, point-made, sphere-same, shown-set, unchanged-kept}
+use Rattle.spec_protocol.proofs.Invariants.Cores.{set-cases, alone-set, held_there, core-good, core-kept, branch}
+use Rattle.spec_protocol.proofs.Invariants.Landing.{afresh-begins, afresh-held, elsewhere-held}
+use Rattle.spec_protocol.proofs.Invariants.Granting.{unflown}
+use Rattle.spec_protocol.proofs.Invariants.Asks.{shown_at, shown_over}
+use Rattle.spec_protocol.specs.Invariants.{IsGoodChunk, current, IsGoodHeld, IsGood}
+
+-- a sphere with a thread is one of the spheres
+inside : (w : World) (i k : ℕ) (t : Parts) → slice_get (sphere_at w i).threads k ≡ Some t → i < length w.spheres
+inside w i k t e =
+    elim (cases_lt i (length w.spheres)) [
+      | inl l ↦ l
+      | inr past ↦ absurd (none-some t (sym (ap (λ (p : Sphere). slice_get p.threads k) (get_or_past w.spheres i no_sphere past)) ∙ e))
+    ]
+
+-- no core runs the thread, where none is found
+nobody : (w : World) (i k : ℕ) → core_of w i k ≡ None → (d : ℕ) (g : Held) → at w.cores d ≡ Some g → g.chunk.sphere ≡ i → g.thread ≡ k → ⊥
+nobody w i k none d g there sphere thread =
+    true≢false (sym (and_from (eqb g.chunk.sphere i) (eqb g.thread k) (eq-eqb g.chunk.sphere i sphere) (eq-eqb g.thread k thread)) ∙ first_none (runs i k) w.cores none d g there)
+
+-- ---- Place
+
+placed_good : (w : World) (c i k : ℕ) → IsGood w → i < length w.spheres → ((d : ℕ) (g : Held) → d ≢ c → at w.cores d ≡ Some g → g.chunk.sphere ≡ i → g.thread ≡ k → ⊥) → IsGood (with_core w c (held_afresh w.numbers i k (sphere_at w i)))
+placed_good w c i k good within free =
+    core-good w c (held_afresh w.numbers i k (sphere_at w i)) good
+    (λ h e. afresh-held w i k c (sphere_at w i) h within good.standard refl (afresh-begins w.numbers i k (sphere_at w i) h e))
+    (λ h e d g ne there sphere thread.
+    let b = afresh-begins w.numbers i k (sphere_at w i) h e in
+    free d g ne there (sym sphere ∙ ap (λ (x : Held). x.chunk.sphere) (sym b.is)) (sym thread ∙ ap (λ (x : Held). x.thread) (sym b.is)))
+
+elsewhere_kept : (w : World) (c i k : ℕ) (t : Parts) (o : Option ℕ) → IsGood w → slice_get (sphere_at w i).threads k ≡ Some t → core_of w i k ≡ o → Kept w (unless_elsewhere o w (answered (with_core w c (held_afresh w.numbers i k (sphere_at w i))) Reply.Placed))
+elsewhere_kept w c i k t None good is none =
+    core-kept w c (held_afresh w.numbers i k (sphere_at w i)) _ refl refl refl
+    (placed_good w c i k good (inside w i k t is) (λ d g ne there sphere thread. nobody w i k none d g there sphere thread))
+elsewhere_kept w c i k t (Some d) good is some = unchanged-kept w (answered w (Reply.Elsewhere d)) refl refl refl good
+
+place_thread_kept : (w : World) (c i k : ℕ) (o : Option Parts) → IsGood w → slice_get (sphere_at w i).threads k ≡ o → Kept w (place_thread w c i k o)
+place_thread_kept w c i k None good is = unchanged-kept w (answered w Reply.NoThread) refl refl refl good
+place_thread_kept w c i k (Some t) good is =
+    let placed = unless_elsewhere (core_of w i k) w (answered (with_core w c (held_afresh w.numbers i k (sphere_at w i))) Reply.Placed) in
+    branch (Kept w) (is_live t) placed (answered w Reply.Ended)
+    (λ _. elsewhere_kept w c i k t (core_of w i k) good is refl)
+    (λ _. unchanged-kept w (answered w Reply.Ended) refl refl refl good)
+
+pub place-kept : (w : World) (c i k : ℕ) → IsGood w → Kept w (placing w c i k)
+unfolding placing
+place-kept w c i k good = place_thread_kept w c i k (slice_get (sphere_at w i).threads k) good refl
+
+-- ---- Raise
+
+-- the thread's chunk, where a core has one, is to begin again: any other chunk goes on
+record Raises (w : World) (i k value : ℕ) (t : Parts) : Type 0 where
+  start : slice_get (sphere_at w i).threads k ≡ Some t
+  live : replays (sphere_at w i).role ≡ false
+  takes : takes_interrupt t ≡ true
+
+raised_role : (k n value : ℕ) (role : Role) → (halves (role_raised k n value role) ≡ halves role) × (replays (role_raised k n value role) ≡ replays role) × ((s j : ℕ) (u : Parts) → limit_of s (role_raised k n value role) j u ≡ limit_of s role j u) × (is_stopped (role_raised k n value role) ≡ is_stopped role)
+unfolding limit_of
+raised_role k n value Plain = (refl, refl, λ s j u. refl, refl)
+raised_role k n value (Record log) = (refl, refl, λ s j u. refl, refl)
+raised_role k n value (Replay b) = (refl, refl, λ s j u. refl, refl)
+
+raised_here : (w : World) (k value : ℕ) (t : Parts) (d : ℕ) (x : Held) → x.chunk.sphere < length w.spheres → x.thread ≢ k → IsGoodHeld w d x → IsGoodHeld (with_sphere w x.chunk.sphere (raised k value t (sphere_at w x.chunk.sphere))) d x
+unfolding raised
+raised_here w k value t d x within ne good =
+    let i = x.chunk.sphere in
+    let p = sphere_at w i in
+    let q = raised k value t p in
+    let v = with_sphere w i q in
+    let there : sphere_at v i ≡ q = sphere-same w.spheres i q within in
+    let r = raised_role k t.commits value p.role in
+    let limits : limit_of w.numbers.chunk (sphere_at v i).role x.thread x.chunk.start ≡ limit_of w.numbers.chunk p.role x.thread x.chunk.start =
+    ap (λ (y : Sphere). limit_of w.numbers.chunk y.role x.thread x.chunk.start) there ∙ r.2 w.numbers.chunk x.thread x.chunk.start
+    in
+    record {
+      sphere = subst (λ (n : ℕ). i < n) (sym (length-set w.spheres i q)) good.sphere;
+      start = ap (λ (y : Sphere). slice_get y.threads x.thread) there ∙ get-set_other p.threads k x.thread (interrupted value t) ne ∙ good.start;
+      lives = good.lives;
+      halving = good.halving ∙ sym r.0 ∙ ap (λ (y : Sphere). halves y.role) (sym there);
+      limit = λ going.
+          let fit = good.limit (sym r.3 ∙ ap (λ (y : Sphere). is_stopped y.role) (sym there) ∙ going) in
+          record {
+            most = subst (λ (n : ℕ). x.chunk.limit ≤ n) (sym limits) fit.most;
+            replayed = λ h. fit.replayed (sym r.1 ∙ ap (λ (y : Sphere). replays y.role) (sym there) ∙ h) ∙ sym limits;
+          };
+      chunk = subst (λ (m : List ℕ). IsGoodChunk w.numbers.buffer w.numbers.signature w.slots d m x.chunk) (ap (λ (y : Sphere). lays y.memory (flying i w.slots)) (sym there)) good.chunk;
+    }
+
+raised_held : (w : World) (i k value : ℕ) (t : Parts) (d : ℕ) (x : Held) → IsGood w → i < length w.spheres → (x.chunk.sphere ≡ i → x.thread ≢ k) → IsGoodHeld w d x → IsGoodHeld (with_sphere w i (raised k value t (sphere_at w i))) d x
+raised_held w i k value t d x good within other held =
+    let f : Flight = record { sphere = i; words = []; writes = nothing w.numbers.signature; told = 0 } in
+    elim (cases_eq x.chunk.sphere i) [
+      | inl same ↦ subst (λ (n : ℕ). n < length w.spheres → IsGoodHeld (with_sphere w n (raised k value t (sphere_at w n))) d x) same (λ l. raised_here w k value t d x l (other same) held) within
+      | inr ne ↦ elsewhere-held w i (raised k value t (sphere_at w i)) f w.slots w.cores w.devices d x ne (unflown w i f good refl) held
+    ]
+
+-- each chunk but the thread's goes on, and this one is as it should be
+raised_good : (w : World) (i k value : ℕ) (t : Parts) (c : ℕ) (o : Option Held) → IsGood w → i < length w.spheres → ((d : ℕ) (x : Held) → d ≢ c → at w.cores d ≡ Some x → x.chunk.sphere ≡ i → x.thread ≢ k)
+    → ((h : Held) → o ≡ Some h → IsGoodHeld (with_sphere w i (raised k value t (sphere_at w i))) c h × (h.chunk.sphere ≡ i) × (h.thread ≡ k)) → IsGood (with_core (with_sphere w i (raised k value t (sphere_at w i))) c o)
+raised_good w i k value t c o good within others new =
+    let q = raised k value t (sphere_at w i) in
+    let v = with_sphere w i q in
+    record {
+      buffer = good.buffer;
+      standard = good.standard;
+      apart = good.apart;
+      covered = good.covered;
+      flights = λ j x e. subst (λ (n : ℕ). x.sphere < n) (sym (length-set w.spheres i q)) (good.flights j x e);
+      held = λ d x e. elim (set-cases w.cores c d o x e) [
+        | inl p ↦ held_there v c d o x (subst (λ (n : ℕ). IsGoodHeld v n x) (sym p.0) (new x p.1).0)
+        | inr p ↦ held_there v c d o x (raised_held w i k value t d x good within (others d x p.0 p.1) (good.held d x p.1))
+      ];
+      alone = alone-set w.cores c o good.alone
+          (λ h e d g ne there sphere thread. let n = new h e in others d g ne there (sym sphere ∙ n.1) (sym thread ∙ n.2));
+    }
+
+-- where no core runs the thread
+raised_alone : (w : World) (i k value : ℕ) (t : Parts) → IsGood w → i < length w.spheres → core_of w i k ≡ None → IsGood (with_sphere w i (raised k value t (sphere_at w i)))
+raised_alone w i k value t good within none =
+    let q = raised k value t (sphere_at w i) in
+    record {
+      buffer = good.buffer;
+      standard = good.standard;
+      apart = good.apart;
+      covered = good.covered;
+      flights = λ j x e. subst (λ (n : ℕ). x.sphere < n) (sym (length-set w.spheres i q)) (good.flights j x e);
+      held = λ d x e. raised_held w i k value t d x good within (λ same thread. nobody w i k none d x e same thread) (good.held d x e);
+      alone = good.alone;
+    }
+
+-- the core that is found runs the thread, and no other one does
+only_core : (w : World) (i k c : ℕ) → IsGood w → core_of w i k ≡ Some c → (d : ℕ) (x : Held) → d ≢ c → at w.cores d ≡ Some x → x.chunk.sphere ≡ i → x.thread ≢ k
+only_core w i k c good some d x ne there same thread =
+    let f = first_some (runs i k) w.cores c some in
+    let p = and_parts (eqb f.0.chunk.sphere i) (eqb f.0.thread k) f.2 in
+    ne (good.alone d c x f.0 there f.1 (same ∙ sym (eqb-true f.0.chunk.sphere i p.0)) (thread ∙ sym (eqb-true f.0.thread k p.1)))
+
+abbrev raised_world : World → (i k value : ℕ) → Parts → World
+raised_world w i k value t = with_sphere w i (raised k value t (sphere_at w i))
+
+renewed_good : (w : World) (i k value : ℕ) (t : Parts) (o : Option ℕ) → IsGood w → i < length w.spheres → core_of w i k ≡ o → IsGood (with_renewed (raised_world w i k value t) i k o)
+renewed_good w i k value t None good within is = raised_alone w i k value t good within is
+renewed_good w i k value t (Some c) good within is =
+    let q = raised k value t (sphere_at w i) in
+    let v = raised_world w i k value t in
+    raised_good w i k value t c (held_afresh v.numbers i k (sphere_at v i)) good within (only_core w i k c good is)
+    (λ h e.
+    let b = afresh-begins v.numbers i k (sphere_at v i) h e in (
+      afresh-held v i k c (sphere_at v i) h (subst (λ (n : ℕ). i < n) (sym (length-set w.spheres i q)) within) good.standard refl b,
+      ap (λ (x : Held). x.chunk.sphere) (sym b.is),
+      ap (λ (x : Held). x.thread) (sym b.is),
+    ))
+
+renewed_shown : (v : World) (i k : ℕ) (o : Option ℕ) → shown_of (with_renewed v i k o) ≡ shown_of v
+renewed_shown v i k None = refl
+renewed_shown v i k (Some c) = refl
+
+renewed_sizes : (w v : World) (i k : ℕ) (o : Option ℕ) → SameSizes w v → SameSizes w (with_renewed v i k o)
+renewed_sizes w v i k None s = s
+renewed_sizes w v i k (Some c) s =
+    record { numbers = s.numbers; spheres = s.spheres; cores = length-set v.cores c (held_afresh v.numbers i k (sphere_at v i)) ∙ s.cores; slots = s.slots }
+
+raise_shown : (w : World) (i k value : ℕ) (t : Parts) → i < length w.spheres → slice_get (sphere_at w i).threads k ≡ Some t
+    → shown_of (raised_world w i k value t) ≡ do_move w.numbers (shown_of w) (record { moment = moment w; sphere = i; what = OfRaise k value })
+unfolding do_move shown raised
+raise_shown w i k value t within start =
+    let p = sphere_at w i in
+    let q = raised k value t p in
+    (λ j. record { spheres = shown-set w.slots w.slots i w.spheres q (λ n ne. refl) j; devices = w.devices })
+    ∙ sym (ap (do_raise (shown_of w) i k value (over (current w i) p)) start)
+    ∙ sym (ap (do_at w.numbers (shown_of w) (record { moment = moment w; sphere = i; what = OfRaise k value })) (shown_at w i within))
+
+raise_fits : (w : World) (i k value : ℕ) (t : Parts) → i < length w.spheres → Raises w i k value t → Fits w.numbers (shown_of w) (record { moment = moment w; sphere = i; what = OfRaise k value })
+raise_fits w i k value t within r =
+    subst (FitsAt w.numbers w.devices (record { moment = moment w; sphere = i; what = OfRaise k value })) (sym (shown_at w i within ∙ ap Some (shown_over w i)))
+    (subst (FitsRaise (over (current w i) (sphere_at w i))) (sym r.start) (record { live = r.live; takes = r.takes }))
+
+raise_in_kept : (w : World) (i k value : ℕ) (t : Parts) → IsGood w → Raises w i k value t → Kept w (raise_in w i k value t)
+raise_in_kept w i k value t good r =
+    let within = inside w i k t r.start in
+    record {
+      good = renewed_good w i k value t (core_of w i k) good within refl;
+      sizes = renewed_sizes w (raised_world w i k value t) i k (core_of w i k)
+          (record { numbers = refl; spheres = length-set w.spheres i (raised k value t (sphere_at w i)); cores = refl; slots = refl });
+      point = point-made w.numbers (replays (sphere_at w i).role) (record { moment = moment w; sphere = i; what = OfRaise k value });
+      whole = renewed_shown (raised_world w i k value t) i k (core_of w i k) ∙ raise_shown w i k value t within r.start;
+      fits = raise_fits w i k value t within r;
+    }
+
+taken_by : (t : Parts) → is_live t ≡ true → has_handler t ≡ true → t.mask ≡ false → takes_interrupt t ≡ true
+taken_by t live handler mask = and_from _ _ (and_from _ _ live handler) (ap not mask)
+
+raise_thread_kept : (w : World) (i k value : ℕ) (o : Option Parts) → IsGood w → slice_get (sphere_at w i).threads k ≡ o → replays (sphere_at w i).role ≡ false → Kept w (raise_thread w i k value o)
+raise_thread_kept w i k value None good is live = unchanged-kept w (answered w Reply.NoThread) refl refl refl good
+raise_thread_kept w i k value (Some t) good is live =
+    let raised_ = raise_in w i k value t in
+    let masked = cond t.mask (answered w Reply.Masked) raised_ in
+    let handled = cond (has_handler t) masked (answered w Reply.NoHandler) in
+    branch (Kept w) (is_live t) handled (answered w Reply.Ended)
+    (λ lives. branch (Kept w) (has_handler t) masked (answered w Reply.NoHandler)
+    (λ handler. branch (Kept w) t.mask (answered w Reply.Masked) raised_
+    (λ _. unchanged-kept w (answered w Reply.Masked) refl refl refl good)
+    (λ mask. raise_in_kept w i k value t good (record { start = is; live = live; takes = taken_by t lives handler mask })))
+    (λ _. unchanged-kept w (answered w Reply.NoHandler) refl refl refl good))
+    (λ _. unchanged-kept w (answered w Reply.Ended) refl refl refl good)
+
+pub raise-kept : (w : World) (i k value : ℕ) → IsGood w → Kept w (raising w i k value)
+unfolding raising
+raise-kept w i k value good =
+    let p = sphere_at w i in
+    branch (Kept w) (replays p.role) (answered w Reply.FromLog) (raise_thread w i k value (slice_get p.threads k))
+    (λ _. unchanged-kept w (answered w Reply.FromLog) refl refl refl good)
+    (λ live. raise_thread_kept w i k value (slice_get p.threads k) good refl live)

@@ -1,0 +1,265 @@
+-- How a recorded log grows: what it has of the past stays, and what is to come stands behind.
+use Rattle.std.proofs.Common.{◌≡◌, ◌≢◌, ℕ, zero, suc, ◌+◌, ◌<◌, ◌≤◌, ◌⊎◌, inl, inr, Bool, true, false, cond, List, [], ◌∷◌, ◌++◌, length, Option, Some, None, refl, sym, ap, ◌∙◌, subst, arith, set}
+use Rattle.std.specs.Prelude.{slice_get}
+use Rattle.std.proofs.lemmas.Bool.{cases_eq, eq-eqb, ne_eqb}
+use Rattle.std.proofs.lemmas.List.{length-append}
+use Rattle.std.proofs.lemmas.Option.{none-some}
+use Rattle.dl_entry.specs.declared.Actor.{Actor}
+use Rattle.dl_entry.specs.declared.Commit.{Commit}
+use Rattle.dl_entry.specs.declared.Input.{Input}
+use Rattle.spec_isa.specs.declared.thread.Parts.{Parts}
+use Rattle.spec_log.specs.declared.ModeName.{ModeName}
+use Rattle.spec_log.specs.declared.DmaRecord.{DmaRecord}
+use Rattle.spec_log.specs.declared.ShortSize.{ShortSize}
+use Rattle.spec_log.specs.declared.Sizes.{Sizes}
+use Rattle.spec_log.specs.declared.LogParts.{LogParts}
+use Rattle.spec_kernel.specs.Interrupts.{takes_interrupt}
+use Rattle.spec_play.specs.Progress.{position}
+use Rattle.spec_play.specs.Verdicts.{interrupt_at}
+use Rattle.spec_log.specs.Noting.{order_with}
+use Rattle.spec_play.specs.Recording.{noted, input_noted}
+use Rattle.spec_protocol.specs.Spheres.{Sphere}
+pub use Rattle.spec_protocol.specs.Sound.{commits_if, commits_in}
+use Rattle.spec_protocol.proofs.Logs.Inserting.{with_short, with_size}
+use Rattle.spec_protocol.proofs.Moves.Granted.{get-set_other, get-set_same, get-append}
+use Rattle.spec_protocol.proofs.Moves.Threads.{IsNew, AreNew}
+use Rattle.spec_protocol.proofs.Logs.Lookups.{short_at, short-other, count_of, count-append, SlotsBelow, SlotsFrom, SlotsBelow_more}
+
+-- ---- the commits of threads
+
+new_commits : (made : List Parts) (j : ℕ) → AreNew made → commits_in made j ≡ 0
+new_commits [] j new = refl
+new_commits (m ∷ made) zero new = new.0.commits
+new_commits (m ∷ made) (suc j) new = new_commits made j new.1
+
+append_commits : (ts made : List Parts) (j : ℕ) → AreNew made → commits_in (ts ++ made) j ≡ commits_in ts j
+append_commits [] made j new = new_commits made j new
+append_commits (t ∷ ts) made zero new = refl
+append_commits (t ∷ ts) made (suc j) new = append_commits ts made j new
+
+pub commits-other : (ts made : List Parts) (k j : ℕ) (u : Parts) → AreNew made → j ≢ k → commits_in (set ts k u ++ made) j ≡ commits_in ts j
+commits-other ts made k j u new ne = append_commits (set ts k u) made j new ∙ ap commits_if (get-set_other ts k j u ne)
+
+pub commits-same : (ts made : List Parts) (k : ℕ) (t u : Parts) → slice_get ts k ≡ Some t → commits_in (set ts k u ++ made) k ≡ u.commits
+commits-same ts made k t u is = ap commits_if (get-append (set ts k u) made k u (get-set_same ts k u t is))
+
+-- ---- what stands
+
+abbrev pub OrderStands : ModeName → List Actor → (n : ℕ) → List Parts → Type 0
+OrderStands ModeName.OrderSize order n ts = (length order ≡ n) × ((k : ℕ) → count_of k order ≡ commits_in ts k)
+OrderStands ModeName.OrderOnly order n ts = (length order ≡ n) × ((k : ℕ) → count_of k order ≡ commits_in ts k)
+OrderStands ModeName.Picolog order n ts = Unit {0}
+
+abbrev pub SizesStand : ModeName → Sizes → (n : ℕ) → List Parts → Type 0
+SizesStand ModeName.OrderSize (Sizes.Each xs) n ts = length xs ≡ n
+SizesStand ModeName.OrderSize (Sizes.Short xs) n ts = ⊥
+SizesStand ModeName.OrderOnly (Sizes.Each xs) n ts = ⊥
+SizesStand ModeName.OrderOnly (Sizes.Short xs) n ts = (k i : ℕ) → commits_in ts k ≤ i → short_at xs k i ≡ None
+SizesStand ModeName.Picolog (Sizes.Each xs) n ts = ⊥
+SizesStand ModeName.Picolog (Sizes.Short xs) n ts = (k i : ℕ) → commits_in ts k ≤ i → short_at xs k i ≡ None
+
+-- the log has what was done so far, and nothing more
+pub record Stands (p : Sphere) (log : LogParts) : Type 0 where
+  pub count : log.count ≡ position p.progress
+  pub order : OrderStands log.mode log.order (position p.progress) p.threads
+  pub sizes : SizesStand log.mode log.sizes (position p.progress) p.threads
+  pub past : (k i : ℕ) → commits_in p.threads k < i → interrupt_at log.interrupts k i ≡ None
+  pub absent : (k i : ℕ) → slice_get p.threads k ≡ None → interrupt_at log.interrupts k i ≡ None
+  pub unmasked : (k : ℕ) (t : Parts) → slice_get p.threads k ≡ Some t → t.mask ≡ false → interrupt_at log.interrupts k t.commits ≡ None
+  pub dmas : SlotsBelow (position p.progress) log.dmas
+
+abbrev pub SizesAhead : Sizes → Sizes → List Parts → Type 0
+SizesAhead (Sizes.Each ys) (Sizes.Each xs) ts = (rest : List ℕ) × (ys ≡ xs ++ rest)
+SizesAhead (Sizes.Each ys) (Sizes.Short xs) ts = ⊥
+SizesAhead (Sizes.Short ys) (Sizes.Each xs) ts = ⊥
+SizesAhead (Sizes.Short ys) (Sizes.Short xs) ts = (k i : ℕ) → i < commits_in ts k → short_at ys k i ≡ short_at xs k i
+
+abbrev pub Behind : {A : Type 0} → List A → List A → Type 0
+Behind {A} ys xs = (rest : List A) × (ys ≡ xs ++ rest)
+
+abbrev pub DmasBehind : List DmaRecord → List DmaRecord → (n : ℕ) → Type 0
+DmasBehind ys xs n = (rest : List DmaRecord) × (ys ≡ xs ++ rest) × SlotsFrom n rest
+
+-- L is what the log has become in the end
+pub record Ahead (L : LogParts) (p : Sphere) (log : LogParts) : Type 0 where
+  pub mode : L.mode ≡ log.mode
+  pub s : L.s ≡ log.s
+  pub count : log.count ≤ L.count
+  pub order : Behind L.order log.order
+  pub sizes : SizesAhead L.sizes log.sizes p.threads
+  pub past : (k i : ℕ) → i < commits_in p.threads k → interrupt_at L.interrupts k i ≡ interrupt_at log.interrupts k i
+  pub next : (k : ℕ) (t : Parts) → slice_get p.threads k ≡ Some t → (interrupt_at L.interrupts k t.commits ≡ interrupt_at log.interrupts k t.commits) ⊎ (takes_interrupt t ≡ true)
+  pub inputs : Behind L.inputs log.inputs
+  pub dmas : DmasBehind L.dmas log.dmas (position p.progress)
+
+-- ---- a commit of a thread
+
+-- thread k, which was t and is u, commits c; its step spawns these threads and takes this input
+pub record HasCommitted (k : ℕ) (short : Bool) (p q : Sphere) (log qlog : LogParts) (t u : Parts) (spawned : List Parts) (c : Commit) (o : Option Input) : Type 0 where
+  pub start : slice_get p.threads k ≡ Some t
+  pub threads : q.threads ≡ set p.threads k u ++ spawned
+  pub commits : u.commits ≡ t.commits + 1
+  pub new : AreNew spawned
+  pub position_ : position q.progress ≡ suc (position p.progress)
+  pub actor : c.actor ≡ Actor.Thread k
+  pub log_ : qlog ≡ input_noted o (noted c t.commits short log)
+
+-- the log but for its inputs
+abbrev noted_as : LogParts → ℕ → ℕ → ℕ → Bool → LogParts
+noted_as log k i n short =
+    record log {
+      count = log.count + 1;
+      order = order_with log.mode log.order (Actor.Thread k);
+      sizes = with_size log.sizes (Actor.Thread k) i n short;
+    }
+
+record SameButInputs (a b : LogParts) : Type 0 where
+  mode : a.mode ≡ b.mode
+  s : a.s ≡ b.s
+  count : a.count ≡ b.count
+  order : a.order ≡ b.order
+  sizes : a.sizes ≡ b.sizes
+  interrupts : a.interrupts ≡ b.interrupts
+  dmas : a.dmas ≡ b.dmas
+
+inputs_apart : (o : Option Input) (log : LogParts) → SameButInputs (input_noted o log) log
+inputs_apart None log = record { mode = refl; s = refl; count = refl; order = refl; sizes = refl; interrupts = refl; dmas = refl }
+inputs_apart (Some r) log = record { mode = refl; s = refl; count = refl; order = refl; sizes = refl; interrupts = refl; dmas = refl }
+
+-- the parts of the log after the commit
+pub record Parts' (k : ℕ) (short : Bool) (log qlog : LogParts) (i n : ℕ) (o : Option Input) : Type 0 where
+  pub mode : qlog.mode ≡ log.mode
+  pub s : qlog.s ≡ log.s
+  pub count : qlog.count ≡ log.count + 1
+  pub order : qlog.order ≡ order_with log.mode log.order (Actor.Thread k)
+  pub sizes : qlog.sizes ≡ with_size log.sizes (Actor.Thread k) i n short
+  pub interrupts : qlog.interrupts ≡ log.interrupts
+  pub dmas : qlog.dmas ≡ log.dmas
+
+pub has_committed-parts : (k : ℕ) (short : Bool) (p q : Sphere) (log qlog : LogParts) (t u : Parts) (made : List Parts) (c : Commit) (o : Option Input) → HasCommitted k short p q log qlog t u made c o → Parts' k short log qlog t.commits c.size o
+has_committed-parts k short p q log qlog t u made c o d =
+    let a = inputs_apart o (noted c t.commits short log) in
+    record {
+      mode = ap (λ (l : LogParts). l.mode) d.log_ ∙ a.mode;
+      s = ap (λ (l : LogParts). l.s) d.log_ ∙ a.s;
+      count = ap (λ (l : LogParts). l.count) d.log_ ∙ a.count;
+      order = ap (λ (l : LogParts). l.order) d.log_ ∙ a.order ∙ ap (λ (x : Actor). order_with log.mode log.order x) d.actor;
+      sizes = ap (λ (l : LogParts). l.sizes) d.log_ ∙ a.sizes ∙ ap (λ (x : Actor). with_size log.sizes x t.commits c.size short) d.actor;
+      interrupts = ap (λ (l : LogParts). l.interrupts) d.log_ ∙ a.interrupts;
+      dmas = ap (λ (l : LogParts). l.dmas) d.log_ ∙ a.dmas;
+    }
+
+-- how the commits have grown: the thread's by one, and no other's
+pub record Grows (k : ℕ) (ts us : List Parts) (t : Parts) : Type 0 where
+  pub same : commits_in us k ≡ suc t.commits
+  pub was : commits_in ts k ≡ t.commits
+  pub other : (j : ℕ) → j ≢ k → commits_in us j ≡ commits_in ts j
+
+pub grows_of : (k : ℕ) (short : Bool) (p q : Sphere) (log qlog : LogParts) (t u : Parts) (made : List Parts) (c : Commit) (o : Option Input) → HasCommitted k short p q log qlog t u made c o → Grows k p.threads q.threads t
+grows_of k short p q log qlog t u made c o d =
+    record {
+      same = ap (λ (ts : List Parts). commits_in ts k) d.threads ∙ commits-same p.threads made k t u d.start ∙ d.commits ∙ omega arith;
+      was = ap commits_if d.start;
+      other = λ j ne. ap (λ (ts : List Parts). commits_in ts j) d.threads ∙ commits-other p.threads made k j u d.new ne;
+    }
+
+pub grown_least : (k : ℕ) (ts us : List Parts) (t : Parts) (j : ℕ) → Grows k ts us t → commits_in ts j ≤ commits_in us j
+grown_least k ts us t j g =
+    elim (cases_eq j k) [
+      | inl e ↦ subst (λ (n : ℕ). commits_in ts n ≤ commits_in us n) (sym e) (let a = g.same in let b = g.was in omega arith)
+      | inr ne ↦ let h = g.other j ne in omega arith
+    ]
+
+-- ---- what stands, stands
+
+one_more : (k : ℕ) (as_ : List Actor) → count_of k (as_ ++ Actor.Thread k ∷ []) ≡ suc (count_of k as_)
+one_more k as_ = count-append k as_ (Actor.Thread k ∷ []) ∙ ap (λ (b : Bool). count_of k as_ + cond b 1 0) (eq-eqb k k refl) ∙ omega arith
+
+none_more : (k j : ℕ) (as_ : List Actor) → j ≢ k → count_of j (as_ ++ Actor.Thread k ∷ []) ≡ count_of j as_
+none_more k j as_ ne = count-append j as_ (Actor.Thread k ∷ []) ∙ ap (λ (b : Bool). count_of j as_ + cond b 1 0) (ne_eqb k j (λ e. ne (sym e))) ∙ omega arith
+
+pub pushed_length : {A : Type 0} (xs : List A) (x : A) (n : ℕ) → length xs ≡ n → length (xs ++ x ∷ []) ≡ suc n
+pushed_length xs x n e = let h = length-append xs (x ∷ []) in omega arith
+
+pub counts-stand : (k : ℕ) (order : List Actor) (ts us : List Parts) (t : Parts) → Grows k ts us t → ((j : ℕ) → count_of j order ≡ commits_in ts j) → (j : ℕ) → count_of j (order ++ Actor.Thread k ∷ []) ≡ commits_in us j
+counts-stand k order ts us t g each j =
+    elim (cases_eq j k) [
+      | inl e ↦ subst (λ (n : ℕ). count_of n (order ++ Actor.Thread k ∷ []) ≡ commits_in us n) (sym e) (one_more k order ∙ ap suc (each k ∙ g.was) ∙ sym g.same)
+      | inr ne ↦ none_more k j order ne ∙ each j ∙ sym (g.other j ne)
+    ]
+
+order_stands : (mode : ModeName) (k : ℕ) (order : List Actor) (n : ℕ) (ts us : List Parts) (t : Parts) → Grows k ts us t → OrderStands mode order n ts → OrderStands mode (order_with mode order (Actor.Thread k)) (suc n) us
+order_stands ModeName.OrderSize k order n ts us t g s = (pushed_length order (Actor.Thread k) n s.0, counts-stand k order ts us t g s.1)
+order_stands ModeName.OrderOnly k order n ts us t g s = (pushed_length order (Actor.Thread k) n s.0, counts-stand k order ts us t g s.1)
+order_stands ModeName.Picolog k order n ts us t g s = tt
+
+shorts_stand : (k : ℕ) (xs : List ShortSize) (size : ℕ) (ts us : List Parts) (t : Parts) → Grows k ts us t → ((j i : ℕ) → commits_in ts j ≤ i → short_at xs j i ≡ None) → (j i : ℕ) → commits_in us j ≤ i → short_at (with_short k t.commits size xs) j i ≡ None
+shorts_stand k xs size ts us t g none j i l =
+    short-other xs k t.commits size j i (λ e h. let a = subst (λ (n : ℕ). commits_in us n ≡ suc t.commits) e g.same in omega arith)
+    ∙ none j i (let h = grown_least k ts us t j g in omega arith)
+
+shorts_kept : (k : ℕ) (xs : List ShortSize) (ts us : List Parts) (t : Parts) → Grows k ts us t → ((j i : ℕ) → commits_in ts j ≤ i → short_at xs j i ≡ None) → (j i : ℕ) → commits_in us j ≤ i → short_at xs j i ≡ None
+shorts_kept k xs ts us t g none j i l = none j i (let h = grown_least k ts us t j g in omega arith)
+
+sizes_stand : (mode : ModeName) (sizes : Sizes) (k : ℕ) (short : Bool) (size n : ℕ) (ts us : List Parts) (t : Parts) → Grows k ts us t → SizesStand mode sizes n ts → SizesStand mode (with_size sizes (Actor.Thread k) t.commits size short) (suc n) us
+sizes_stand ModeName.OrderSize (Sizes.Each xs) k short size n ts us t g s = pushed_length xs size n s
+sizes_stand ModeName.OrderSize (Sizes.Short xs) k short size n ts us t g s = absurd s
+sizes_stand ModeName.OrderOnly (Sizes.Each xs) k short size n ts us t g s = absurd s
+sizes_stand ModeName.OrderOnly (Sizes.Short xs) k true size n ts us t g s = shorts_stand k xs size ts us t g s
+sizes_stand ModeName.OrderOnly (Sizes.Short xs) k false size n ts us t g s = shorts_kept k xs ts us t g s
+sizes_stand ModeName.Picolog (Sizes.Each xs) k short size n ts us t g s = absurd s
+sizes_stand ModeName.Picolog (Sizes.Short xs) k true size n ts us t g s = shorts_stand k xs size ts us t g s
+sizes_stand ModeName.Picolog (Sizes.Short xs) k false size n ts us t g s = shorts_kept k xs ts us t g s
+
+-- a thread that is there after the commit: the committer, one that was there, or a new one
+pub get_cases : (ts made : List Parts) (j : ℕ) (x : Parts) → slice_get (ts ++ made) j ≡ Some x → (slice_get ts j ≡ Some x) ⊎ ((slice_get ts j ≡ None) × ((i : ℕ) × (slice_get made i ≡ Some x)))
+get_cases [] made j x e = inr (refl, (j, e))
+get_cases (t ∷ ts) made zero x e = inl e
+get_cases (t ∷ ts) made (suc j) x e = get_cases ts made j x e
+
+pub new_is : (made : List Parts) (i : ℕ) (x : Parts) → AreNew made → slice_get made i ≡ Some x → IsNew x
+new_is [] i x new e = absurd (none-some x e)
+new_is (m ∷ made) zero x new e = subst IsNew (let h : m ≡ x = cc in h) new.0
+new_is (m ∷ made) (suc i) x new e = new_is made i x new.1 e
+
+pub set_none : (ts : List Parts) (k j : ℕ) (u : Parts) → slice_get (set ts k u) j ≡ None → slice_get ts j ≡ None
+set_none [] k j u e = refl
+set_none (t ∷ ts) zero zero u e = absurd (none-some u (sym e))
+set_none (t ∷ ts) zero (suc j) u e = e
+set_none (t ∷ ts) (suc k) zero u e = e
+set_none (t ∷ ts) (suc k) (suc j) u e = set_none ts k j u e
+
+pub append_none : (ts made : List Parts) (j : ℕ) → slice_get (ts ++ made) j ≡ None → slice_get ts j ≡ None
+append_none [] made j e = refl
+append_none (t ∷ ts) made zero e = e
+append_none (t ∷ ts) made (suc j) e = append_none ts made j e
+
+pub has_committed-stands : (k : ℕ) (short : Bool) (p q : Sphere) (log qlog : LogParts) (t u : Parts) (made : List Parts) (c : Commit) (o : Option Input) → HasCommitted k short p q log qlog t u made c o → Stands p log → Stands q qlog
+has_committed-stands k short p q log qlog t u made c o d s =
+    let n = has_committed-parts k short p q log qlog t u made c o d in
+    let g = grows_of k short p q log qlog t u made c o d in
+    let ints : (j i : ℕ) → interrupt_at qlog.interrupts j i ≡ interrupt_at log.interrupts j i = (λ j i. ap (λ (is : _). interrupt_at is j i) n.interrupts) in
+    record {
+      count = n.count ∙ (let a = s.count in let b = d.position_ in omega arith);
+      order = subst (λ (m : ModeName). OrderStands m qlog.order (position q.progress) q.threads) (sym n.mode)
+          (subst (λ (as_ : List Actor). OrderStands log.mode as_ (position q.progress) q.threads) (sym n.order)
+          (subst (λ (x : ℕ). OrderStands log.mode (order_with log.mode log.order (Actor.Thread k)) x q.threads) (sym d.position_)
+          (order_stands log.mode k log.order (position p.progress) p.threads q.threads t g s.order)));
+      sizes = subst (λ (m : ModeName). SizesStand m qlog.sizes (position q.progress) q.threads) (sym n.mode)
+          (subst (λ (z : Sizes). SizesStand log.mode z (position q.progress) q.threads) (sym n.sizes)
+          (subst (λ (x : ℕ). SizesStand log.mode (with_size log.sizes (Actor.Thread k) t.commits c.size short) x q.threads) (sym d.position_)
+          (sizes_stand log.mode log.sizes k short c.size (position p.progress) p.threads q.threads t g s.sizes)));
+      past = λ j i l. ints j i ∙ s.past j i (let h = grown_least k p.threads q.threads t j g in omega arith);
+      absent = λ j i e. ints j i ∙ s.absent j i (set_none p.threads k j u (append_none (set p.threads k u) made j (ap (λ (ts : List Parts). slice_get ts j) (sym d.threads) ∙ e)));
+      unmasked = λ j x e open_. ints j x.commits ∙ elim (get_cases (set p.threads k u) made j x (ap (λ (ts : List Parts). slice_get ts j) (sym d.threads) ∙ e)) [
+        | inl there ↦ elim (cases_eq j k) [
+          | inl jk ↦ (
+              let ux : u ≡ x = (let h : Some u ≡ Some x = sym (get-set_same p.threads k u t d.start) ∙ ap (slice_get (set p.threads k u)) (sym jk) ∙ there in cc) in
+              s.past j x.commits (let a = ap commits_if (ap (slice_get p.threads) jk ∙ d.start) in let b = ap (λ (y : Parts). y.commits) ux in let h = d.commits in omega arith)
+              )
+          | inr ne ↦ s.unmasked j x (sym (get-set_other p.threads k j u ne) ∙ there) open_
+        ]
+        | inr born ↦ s.absent j x.commits (set_none p.threads k j u born.0)
+      ];
+      dmas = subst (λ (ds : List DmaRecord). SlotsBelow (position q.progress) ds) (sym n.dmas) (SlotsBelow_more (position p.progress) (position q.progress) log.dmas (let h = d.position_ in omega arith) s.dmas);
+    }

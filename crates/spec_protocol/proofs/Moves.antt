@@ -1,0 +1,10 @@
+-- What one move makes of its sphere, its threads and the devices, and what it leaves alone.
+pub mod Granted
+pub mod Elsewhere
+pub mod AnyMemory
+pub mod Transfers
+pub mod Threads
+pub mod Spawning
+pub mod Answering
+pub mod AsRecorded
+pub mod Committers

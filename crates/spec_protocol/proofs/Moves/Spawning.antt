@@ -1,0 +1,113 @@
+-- A sphere has at most 15 threads: no step spawns a sixteenth.
+use Rattle.std.proofs.Common.{◌≡◌, ℕ, ◌+◌, ◌≤◌, Bool, true, false, ◌&&◌, eqb, cond, List, [], ◌∷◌, length, Option, Some, None, refl, arith}
+use Rattle.std.specs.Prelude.{slice_get, nat_lt, ◌%◌}
+use Rattle.std.proofs.lemmas.Bool.{and_parts, ltb-true}
+use Rattle.dl_entry.specs.declared.Input.{Input}
+use Rattle.dl_entry.specs.declared.Request.{Request}
+use Rattle.spec_isa.specs.declared.thread.Parts.{Parts}
+use Rattle.spec_isa.specs.declared.thread.Kind.{Kind}
+use Rattle.spec_isa.specs.declared.plan.Plan.{Plan}
+use Rattle.spec_kernel.specs.Needs.{Need, number_of, a0, a1, a2, cut, need}
+use Rattle.spec_kernel.specs.Answers.{refused, unknown_call, bad_buffer}
+use Rattle.spec_kernel.specs.Calls.{Called, gives, exit, spawned, spawn, set_handler, iret, is_dma_buffer, request_dma, has_ended, called, with_result, returned}
+use Rattle.spec_kernel.specs.Serving.{Served, outside_called, is_outside, inside_called, device_loaded, device_stored, serve_kind, serve}
+use Rattle.spec_protocol.proofs.Moves.Granted.{either_serve}
+
+-- with the threads that were spawned there are at most 15
+abbrev pub AreFew : List Parts → List Parts → Type 0
+AreFew ts made = length ts + length made ≤ 15
+
+abbrev CallFew : List Parts → Called → Type 0
+CallFew ts c = AreFew ts c.made
+
+either : (P : Called → Type 0) (b : Bool) (x y : Called) → (b ≡ true → P x) → P y → P (cond b x y)
+either P true x y p q = p refl
+either P false x y p q = q
+
+none_few : (ts : List Parts) → length ts ≤ 15 → AreFew ts []
+none_few ts few = omega (arith, few)
+
+spawn_few : (ts : List Parts) (request : Option Request) (t : Parts) → length ts ≤ 15 → CallFew ts (spawn ts request t)
+spawn_few ts request t few =
+    either (CallFew ts) (nat_lt (length ts) 15 && eqb (a0 t % 4) 0)
+    (record { thread = with_result (length ts) t; made = spawned (a0 t) (a1 t) (a2 t) ∷ []; request = request })
+    (gives request t refused)
+    (λ e. let h = ltb-true (length ts) 15 ((and_parts (nat_lt (length ts) 15) (eqb (a0 t % 4) 0) e).0) in omega arith)
+    (none_few ts few)
+
+handler_few : (ts : List Parts) (request : Option Request) (t : Parts) → length ts ≤ 15 → CallFew ts (set_handler request t)
+handler_few ts request t few =
+    either (CallFew ts) (eqb (a0 t % 4) 0) (record { thread = with_result 0 (record t { handler = a0 t }); made = []; request = request }) (gives request t refused) (λ e. none_few ts few) (none_few ts few)
+
+iret_few : (ts : List Parts) (request : Option Request) (t : Parts) → length ts ≤ 15 → CallFew ts (iret request t)
+iret_few ts request t few =
+    either (CallFew ts) t.mask (record { thread = returned t; made = []; request = request }) (gives request t refused) (λ e. none_few ts few) (none_few ts few)
+
+dma_few : (ts : List Parts) (size : ℕ) (request : Option Request) (t : Parts) → length ts ≤ 15 → CallFew ts (request_dma size request t)
+dma_few ts size None t few =
+    let q : Option Request = Some (record { buf = a0 t; len = cut (a1 t) }) in
+    either (CallFew ts) (is_dma_buffer size (a0 t) (cut (a1 t))) (gives q t 0) (gives None t bad_buffer) (λ e. none_few ts few) (none_few ts few)
+dma_few ts size (Some request) t few = none_few ts few
+
+called_few : (size k : ℕ) (ts : List Parts) (request : Option Request) (t : Parts) → length ts ≤ 15 → CallFew ts (called size k ts request t)
+unfolding called
+called_few size k ts request t few =
+    let n = number_of t in
+    let none : AreFew ts [] = none_few ts few in
+    let c11 = cond (eqb n 11) (gives request t (has_ended (slice_get ts (a0 t)))) (gives request t unknown_call) in
+    let c10 = cond (eqb n 10) (gives request t 0) c11 in
+    let c9 = cond (eqb n 9) (gives request t k) c10 in
+    let c8 = cond (eqb n 8) (request_dma size request t) c9 in
+    let c7 = cond (eqb n 7) (iret request t) c8 in
+    let c6 = cond (eqb n 6) (set_handler request t) c7 in
+    let c1 = cond (eqb n 1) (spawn ts request t) c6 in
+    let k11 : CallFew ts c11 = either (CallFew ts) (eqb n 11) (gives request t (has_ended (slice_get ts (a0 t)))) (gives request t unknown_call) (λ e. none) none in
+    let k10 : CallFew ts c10 = either (CallFew ts) (eqb n 10) (gives request t 0) c11 (λ e. none) k11 in
+    let k9 : CallFew ts c9 = either (CallFew ts) (eqb n 9) (gives request t k) c10 (λ e. none) k10 in
+    let k8 : CallFew ts c8 = either (CallFew ts) (eqb n 8) (request_dma size request t) c9 (λ e. dma_few ts size request t few) k9 in
+    let k7 : CallFew ts c7 = either (CallFew ts) (eqb n 7) (iret request t) c8 (λ e. iret_few ts request t few) k8 in
+    let k6 : CallFew ts c6 = either (CallFew ts) (eqb n 6) (set_handler request t) c7 (λ e. handler_few ts request t few) k7 in
+    let k1 : CallFew ts c1 = either (CallFew ts) (eqb n 1) (spawn ts request t) c6 (λ e. spawn_few ts request t few) k6 in
+    either (CallFew ts) (eqb n 0) (exit request t) c1 (λ e. none) k1
+
+-- ---- serial steps
+
+abbrev ServeFew : List Parts → Served → Type 0
+ServeFew ts v = AreFew ts v.made
+
+outside_few : (ts : List Parts) (o : Option Need) (request : Option Request) (t : Parts) (input : Option Input) → length ts ≤ 15 → ServeFew ts (outside_called o request t input)
+outside_few ts o request t None few = none_few ts few
+outside_few ts o request t (Some r) few = none_few ts few
+
+loaded_few : (ts : List Parts) (request : Option Request) (t : Parts) (p : Plan) (input : Option Input) → length ts ≤ 15 → ServeFew ts (device_loaded request t p input)
+loaded_few ts request t (Plan.Load op rd a) (Some r) few = none_few ts few
+loaded_few ts request t (Plan.Load op rd a) None few = none_few ts few
+loaded_few ts request t (Plan.Go rd value pc) input few = none_few ts few
+loaded_few ts request t (Plan.Stop kind) input few = none_few ts few
+loaded_few ts request t (Plan.Store op a v) input few = none_few ts few
+loaded_few ts request t (Plan.LoadReserved rd a) input few = none_few ts few
+loaded_few ts request t (Plan.StoreConditional rd a v) input few = none_few ts few
+loaded_few ts request t (Plan.Amo op rd a v) input few = none_few ts few
+
+stored_few : (ts : List Parts) (request : Option Request) (t : Parts) (p : Plan) → length ts ≤ 15 → ServeFew ts (device_stored request t p)
+stored_few ts request t (Plan.Load op rd a) few = none_few ts few
+stored_few ts request t (Plan.Go rd value pc) few = none_few ts few
+stored_few ts request t (Plan.Stop kind) few = none_few ts few
+stored_few ts request t (Plan.Store op a v) few = none_few ts few
+stored_few ts request t (Plan.LoadReserved rd a) few = none_few ts few
+stored_few ts request t (Plan.StoreConditional rd a v) few = none_few ts few
+stored_few ts request t (Plan.Amo op rd a v) few = none_few ts few
+
+kind_few : (o : Option Kind) (k : ℕ) (ts : List Parts) (request : Option Request) (t : Parts) (m : List ℕ) (input : Option Input) → length ts ≤ 15 → ServeFew ts (serve_kind o k ts request t m input)
+kind_few None k ts request t m input few = none_few ts few
+kind_few (Some Kind.Call) k ts request t m input few =
+    either_serve (ServeFew ts) (is_outside t) (outside_called (need t m) request t input) (inside_called (called (length m) k ts request t)) (outside_few ts (need t m) request t input few)
+    (called_few (length m) k ts request t few)
+kind_few (Some Kind.Break) k ts request t m input few = none_few ts few
+kind_few (Some Kind.DeviceLoad) k ts request t m input few = loaded_few ts request t _ input few
+kind_few (Some Kind.DeviceStore) k ts request t m input few = stored_few ts request t _ few
+kind_few (Some (Kind.Fault cause)) k ts request t m input few = none_few ts few
+
+pub serve-few : (k : ℕ) (ts : List Parts) (request : Option Request) (t : Parts) (m : List ℕ) (input : Option Input) → length ts ≤ 15 → AreFew ts (serve k ts request t m input).made
+unfolding serve
+serve-few k ts request t m input few = kind_few _ k ts request t m input few

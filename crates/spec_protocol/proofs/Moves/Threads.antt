@@ -1,0 +1,198 @@
+-- What instructions and serial steps keep of a thread: the number of its commits. What a serial step spawns is new.
+use Rattle.std.proofs.Common.{◌≡◌, ℕ, zero, suc, Bool, true, false, ◌&&◌, eqb, cond, List, [], ◌∷◌, length, Option, Some, None, refl, sym, ap, ◌∙◌}
+use Rattle.std.specs.Prelude.{slice_get, nat_lt, ◌%◌}
+use Rattle.dl_entry.specs.declared.Input.{Input}
+use Rattle.dl_entry.specs.declared.Request.{Request}
+use Rattle.spec_isa.specs.declared.thread.Parts.{Parts}
+use Rattle.spec_isa.specs.declared.thread.Load.{Load}
+use Rattle.spec_isa.specs.declared.thread.Kind.{Kind}
+use Rattle.spec_isa.specs.declared.plan.Plan.{Plan}
+use Rattle.spec_isa.specs.Words.{Stored, lays}
+use Rattle.spec_isa.specs.Planned.{thread_then}
+use Rattle.spec_isa.specs.Instruction.{Outcome, Next, Serial, one, unless, plan_of, next_of}
+use Rattle.spec_isa.specs.Runs.{Run, followed, run}
+use Rattle.spec_kernel.specs.Needs.{Need, number_of, a0, a1, a2, cut, need}
+use Rattle.spec_kernel.specs.Answers.{refused, unknown_call, bad_buffer}
+use Rattle.spec_kernel.specs.Calls.{Called, gives, exit, spawned, spawn, set_handler, iret, is_dma_buffer, request_dma, has_ended, called, with_result, returned}
+use Rattle.spec_kernel.specs.Serving.{Served, outside_called, is_outside, inside_called, device_loaded, device_stored, serve_kind, serve}
+use Rattle.spec_protocol.proofs.Moves.Granted.{either_serve}
+
+-- ---- instructions
+
+pub plan_keeps : (p : Plan) (t : Parts) (w : ℕ) → (thread_then p t w).commits ≡ t.commits
+plan_keeps (Plan.Go rd value pc) t w = refl
+plan_keeps (Plan.Stop kind) t w = refl
+plan_keeps (Plan.Load op rd a) t w = refl
+plan_keeps (Plan.Store op a v) t w = refl
+plan_keeps (Plan.LoadReserved rd a) t w = refl
+plan_keeps (Plan.StoreConditional rd a v) t w = refl
+plan_keeps (Plan.Amo op rd a v) t w = refl
+
+pub next_keeps : (t : Parts) (f w : ℕ) → (next_of t f w).commits ≡ t.commits
+unfolding next_of
+next_keeps t f w = plan_keeps (plan_of t f) t w
+
+unless_keeps : (t : Parts) (o : Option Kind) (next u : Parts) (made load : Option Load) (put_ store : Option Stored) → next.commits ≡ t.commits → unless o (Next next made put_) ≡ Next u load store → u.commits ≡ t.commits
+unless_keeps t None next u made load put_ store s e = let h : next ≡ u = cc in ap (λ (p : Parts). p.commits) (sym h) ∙ s
+unless_keeps t (Some kind) next u made load put_ store s e = cc
+
+one_keeps : (t : Parts) (m : List ℕ) (u : Parts) (load : Option Load) (store : Option Stored) → one t m ≡ Next u load store → u.commits ≡ t.commits
+unfolding one
+one_keeps t m u load store e = unless_keeps t _ _ u _ load _ store (next_keeps t _ _) e
+
+followed_keeps : (r : Run) (m : List ℕ) (o : Outcome) → one r.thread m ≡ o → (followed r o).thread.commits ≡ r.thread.commits
+followed_keeps r m (Serial kind) e = refl
+followed_keeps r m (Next u load store) e = one_keeps r.thread m u load store e
+
+pub run-keeps : (m : List ℕ) (t : Parts) (n : ℕ) → (run m t n).thread.commits ≡ t.commits
+run-keeps m t zero = refl
+run-keeps m t (suc n) = followed_keeps (run m t n) (lays m (run m t n).words) _ refl ∙ run-keeps m t n
+
+-- ---- calls
+
+-- the thread's commits stay; each spawned thread has none, and no handler
+pub record IsNew (t : Parts) : Type 0 where
+  pub commits : t.commits ≡ 0
+  pub handler : t.handler ≡ 0
+
+abbrev pub AreNew : List Parts → Type 0
+AreNew [] = Unit {0}
+AreNew (t ∷ ts) = IsNew t × AreNew ts
+
+pub record KeepsCommits (t : Parts) (thread : Parts) (made : List Parts) : Type 0 where
+  pub commits : thread.commits ≡ t.commits
+  pub fresh : AreNew made
+
+abbrev CallKeeps : Parts → Called → Type 0
+CallKeeps t c = KeepsCommits t c.thread c.made
+
+either_call : (P : Called → Type 0) (b : Bool) (x y : Called) → P x → P y → P (cond b x y)
+either_call P true x y p q = p
+either_call P false x y p q = q
+
+gives_keeps : (request : Option Request) (t : Parts) (n : ℕ) → CallKeeps t (gives request t n)
+gives_keeps request t n = record { commits = refl; fresh = tt }
+
+spawn_keeps : (ts : List Parts) (request : Option Request) (t : Parts) → CallKeeps t (spawn ts request t)
+spawn_keeps ts request t =
+    either_call (CallKeeps t) (nat_lt (length ts) 15 && eqb (a0 t % 4) 0)
+    (record { thread = with_result (length ts) t; made = spawned (a0 t) (a1 t) (a2 t) ∷ []; request = request })
+    (gives request t refused)
+    (record { commits = refl; fresh = (record { commits = refl; handler = refl }, tt) })
+    (gives_keeps request t refused)
+
+handler_keeps : (request : Option Request) (t : Parts) → CallKeeps t (set_handler request t)
+handler_keeps request t =
+    either_call (CallKeeps t) (eqb (a0 t % 4) 0) (record { thread = with_result 0 (record t { handler = a0 t }); made = []; request = request }) (gives request t refused)
+    (record { commits = refl; fresh = tt })
+    (gives_keeps request t refused)
+
+iret_keeps : (request : Option Request) (t : Parts) → CallKeeps t (iret request t)
+iret_keeps request t =
+    either_call (CallKeeps t) t.mask (record { thread = returned t; made = []; request = request }) (gives request t refused) (record { commits = refl; fresh = tt }) (gives_keeps request t refused)
+
+dma_keeps : (size : ℕ) (request : Option Request) (t : Parts) → CallKeeps t (request_dma size request t)
+dma_keeps size None t =
+    let q : Option Request = Some (record { buf = a0 t; len = cut (a1 t) }) in
+    either_call (CallKeeps t) (is_dma_buffer size (a0 t) (cut (a1 t))) (gives q t 0) (gives None t bad_buffer) (gives_keeps q t 0) (gives_keeps None t bad_buffer)
+dma_keeps size (Some request) t = record { commits = refl; fresh = tt }
+
+called_keeps : (size k : ℕ) (ts : List Parts) (request : Option Request) (t : Parts) → CallKeeps t (called size k ts request t)
+unfolding called
+called_keeps size k ts request t =
+    let n = number_of t in
+    let c11 = cond (eqb n 11) (gives request t (has_ended (slice_get ts (a0 t)))) (gives request t unknown_call) in
+    let c10 = cond (eqb n 10) (gives request t 0) c11 in
+    let c9 = cond (eqb n 9) (gives request t k) c10 in
+    let c8 = cond (eqb n 8) (request_dma size request t) c9 in
+    let c7 = cond (eqb n 7) (iret request t) c8 in
+    let c6 = cond (eqb n 6) (set_handler request t) c7 in
+    let c1 = cond (eqb n 1) (spawn ts request t) c6 in
+    let k11 : CallKeeps t c11 = either_call (CallKeeps t) (eqb n 11) (gives request t (has_ended (slice_get ts (a0 t)))) (gives request t unknown_call) (gives_keeps request t _) (gives_keeps request t unknown_call) in
+    let k10 : CallKeeps t c10 = either_call (CallKeeps t) (eqb n 10) (gives request t 0) c11 (gives_keeps request t 0) k11 in
+    let k9 : CallKeeps t c9 = either_call (CallKeeps t) (eqb n 9) (gives request t k) c10 (gives_keeps request t k) k10 in
+    let k8 : CallKeeps t c8 = either_call (CallKeeps t) (eqb n 8) (request_dma size request t) c9 (dma_keeps size request t) k9 in
+    let k7 : CallKeeps t c7 = either_call (CallKeeps t) (eqb n 7) (iret request t) c8 (iret_keeps request t) k8 in
+    let k6 : CallKeeps t c6 = either_call (CallKeeps t) (eqb n 6) (set_handler request t) c7 (handler_keeps request t) k7 in
+    let k1 : CallKeeps t c1 = either_call (CallKeeps t) (eqb n 1) (spawn ts request t) c6 (spawn_keeps ts request t) k6 in
+    either_call (CallKeeps t) (eqb n 0) (exit request t) c1 (record { commits = refl; fresh = tt }) k1
+
+-- ---- serial steps
+
+abbrev ServeKeeps : Parts → Served → Type 0
+ServeKeeps t v = KeepsCommits t v.thread v.made
+
+outside_keeps : (o : Option Need) (request : Option Request) (t : Parts) (input : Option Input) → ServeKeeps t (outside_called o request t input)
+outside_keeps o request t None = record { commits = refl; fresh = tt }
+outside_keeps o request t (Some r) = record { commits = refl; fresh = tt }
+
+loaded_keeps : (request : Option Request) (t : Parts) (p : Plan) (input : Option Input) → ServeKeeps t (device_loaded request t p input)
+loaded_keeps request t (Plan.Load op rd a) (Some r) = record { commits = refl; fresh = tt }
+loaded_keeps request t (Plan.Load op rd a) None = record { commits = refl; fresh = tt }
+loaded_keeps request t (Plan.Go rd value pc) input = record { commits = refl; fresh = tt }
+loaded_keeps request t (Plan.Stop kind) input = record { commits = refl; fresh = tt }
+loaded_keeps request t (Plan.Store op a v) input = record { commits = refl; fresh = tt }
+loaded_keeps request t (Plan.LoadReserved rd a) input = record { commits = refl; fresh = tt }
+loaded_keeps request t (Plan.StoreConditional rd a v) input = record { commits = refl; fresh = tt }
+loaded_keeps request t (Plan.Amo op rd a v) input = record { commits = refl; fresh = tt }
+
+stored_keeps : (request : Option Request) (t : Parts) (p : Plan) → ServeKeeps t (device_stored request t p)
+stored_keeps request t (Plan.Load op rd a) = record { commits = refl; fresh = tt }
+stored_keeps request t (Plan.Go rd value pc) = record { commits = refl; fresh = tt }
+stored_keeps request t (Plan.Stop kind) = record { commits = refl; fresh = tt }
+stored_keeps request t (Plan.Store op a v) = record { commits = refl; fresh = tt }
+stored_keeps request t (Plan.LoadReserved rd a) = record { commits = refl; fresh = tt }
+stored_keeps request t (Plan.StoreConditional rd a v) = record { commits = refl; fresh = tt }
+stored_keeps request t (Plan.Amo op rd a v) = record { commits = refl; fresh = tt }
+
+inside_keeps : (t : Parts) (c : Called) → CallKeeps t c → ServeKeeps t (inside_called c)
+inside_keeps t c k = record { commits = k.commits; fresh = k.fresh }
+
+kind_keeps : (o : Option Kind) (k : ℕ) (ts : List Parts) (request : Option Request) (t : Parts) (m : List ℕ) (input : Option Input) → ServeKeeps t (serve_kind o k ts request t m input)
+kind_keeps None k ts request t m input = record { commits = refl; fresh = tt }
+kind_keeps (Some Kind.Call) k ts request t m input =
+    either_serve (ServeKeeps t) (is_outside t) (outside_called (need t m) request t input) (inside_called (called (length m) k ts request t)) (outside_keeps (need t m) request t input)
+    (inside_keeps t (called (length m) k ts request t) (called_keeps (length m) k ts request t))
+kind_keeps (Some Kind.Break) k ts request t m input = record { commits = refl; fresh = tt }
+kind_keeps (Some Kind.DeviceLoad) k ts request t m input = loaded_keeps request t _ input
+kind_keeps (Some Kind.DeviceStore) k ts request t m input = stored_keeps request t _
+kind_keeps (Some (Kind.Fault cause)) k ts request t m input = record { commits = refl; fresh = tt }
+
+pub serve-keeps : (k : ℕ) (ts : List Parts) (request : Option Request) (t : Parts) (m : List ℕ) (input : Option Input) → ServeKeeps t (serve k ts request t m input)
+unfolding serve
+serve-keeps k ts request t m input = kind_keeps _ k ts request t m input
+
+-- ---- threads that look alike to a serial step: as many, and the same ones live
+
+pub record LookAlike (ts us : List Parts) : Type 0 where
+  pub size : length us ≡ length ts
+  pub ended : (j : ℕ) → has_ended (slice_get us j) ≡ has_ended (slice_get ts j)
+
+called_alike : (size k : ℕ) (ts us : List Parts) (request : Option Request) (t : Parts) → LookAlike ts us → called size k us request t ≡ called size k ts request t
+unfolding called
+called_alike size k ts us request t a =
+    (λ i.
+    cond (eqb (number_of t) 0) (exit request t)
+    (cond (eqb (number_of t) 1)
+    (cond (nat_lt (a.size i) 15 && eqb (a0 t % 4) 0)
+    (record { thread = with_result (a.size i) t; made = spawned (a0 t) (a1 t) (a2 t) ∷ []; request = request })
+    (gives request t refused))
+    (cond (eqb (number_of t) 6) (set_handler request t)
+    (cond (eqb (number_of t) 7) (iret request t)
+    (cond (eqb (number_of t) 8) (request_dma size request t)
+    (cond (eqb (number_of t) 9) (gives request t k)
+    (cond (eqb (number_of t) 10) (gives request t 0)
+    (cond (eqb (number_of t) 11) (gives request t (a.ended (a0 t) i)) (gives request t unknown_call)))))))))
+
+kind_alike : (o : Option Kind) (k : ℕ) (ts us : List Parts) (request : Option Request) (t : Parts) (m : List ℕ) (input : Option Input) → LookAlike ts us → serve_kind o k us request t m input ≡ serve_kind o k ts request t m input
+kind_alike None k ts us request t m input a = refl
+kind_alike (Some Kind.Call) k ts us request t m input a =
+    ap (λ (c : Called). cond (is_outside t) (outside_called (need t m) request t input) (inside_called c)) (called_alike (length m) k ts us request t a)
+kind_alike (Some Kind.Break) k ts us request t m input a = refl
+kind_alike (Some Kind.DeviceLoad) k ts us request t m input a = refl
+kind_alike (Some Kind.DeviceStore) k ts us request t m input a = refl
+kind_alike (Some (Kind.Fault cause)) k ts us request t m input a = refl
+
+pub serve-alike : (k : ℕ) (ts us : List Parts) (request : Option Request) (t : Parts) (m : List ℕ) (input : Option Input) → LookAlike ts us → serve k us request t m input ≡ serve k ts request t m input
+unfolding serve
+serve-alike k ts us request t m input a = kind_alike _ k ts us request t m input a

@@ -1,0 +1,268 @@
+-- The play of a recorded log follows the recording from its start to its end.
+use Rattle.std.proofs.Common.{◌≡◌, ℕ, zero, suc, ◌+◌, ◌<◌, ◌≤◌, inl, inr, Bool, true, false, ◌&&◌, eqb, cond, List, [], ◌∷◌, length, Option, Some, None, refl, sym, ap, ◌∙◌, subst, arith}
+use Rattle.std.specs.Prelude.{slice_get, nat_lt, IsSome, find, option_map}
+use Rattle.std.specs.List.{list_all}
+use Rattle.std.proofs.lemmas.Bool.{true≢false, cases_eq, cases_lt, le-ltb, lt-ltb, and_from, eq-eqb}
+use Rattle.std.proofs.lemmas.Option.{none-some}
+use Rattle.dl_entry.specs.declared.End.{End}
+use Rattle.dl_entry.specs.declared.Request.{Request}
+use Rattle.spec_isa.specs.declared.thread.Parts.{Parts}
+use Rattle.spec_isa.specs.Threads.{started}
+use Rattle.spec_isa.specs.Runs.{run}
+use Rattle.spec_log.specs.declared.ModeName.{ModeName}
+use Rattle.spec_log.specs.declared.ShortSize.{ShortSize}
+use Rattle.spec_log.specs.declared.Sizes.{Sizes}
+use Rattle.spec_log.specs.declared.LogParts.{LogParts}
+use Rattle.spec_kernel.specs.Interrupts.{takes_interrupt}
+use Rattle.spec_play.specs.Progress.{Progress, position, Used}
+use Rattle.spec_play.specs.Turns.{Over, is_size_used, are_sizes_used, has_left_over, at_end, turn_of, next_actor, now_at}
+use Rattle.spec_play.specs.Verdicts.{interrupt_at}
+use Rattle.spec_log.specs.Noting.{no_sizes}
+use Rattle.spec_play.specs.Recording.{new_log, interrupt_noted}
+use Rattle.spec_play.specs.Plays.{Played, opened, plays, play}
+use Rattle.spec_engine.specs.declared.answers.How.{How}
+use Rattle.spec_protocol.specs.Spheres.{Role, Record, Sphere}
+use Rattle.spec_protocol.specs.Commits.{Moved, is_piece, chunk_in, chunk_moved, serial_in, serial_moved, dma_in, dma_moved, live_dma, dma_log, role_raised, raised}
+use Rattle.spec_protocol.specs.World.{Numbers, What, OfChunk, OfSerial, OfDma, OfRaise, Move}
+use Rattle.spec_protocol.specs.Asking.{is_short}
+use Rattle.spec_protocol.specs.Machine.{SphereSetup, role_of, sphere_of, moves, world_of}
+use Rattle.spec_protocol.specs.Serial.{Whole, whole_of, laid, do_moved, do_serial, do_dma, do_raise}
+use Rattle.spec_protocol.specs.Moves.{move_chunk, do_what, do_at, do_move, do_moves, FitsChunk, FitsSerial, FitsRaise, FitsWhat, FitsAt, Fits, FitAll}
+use Rattle.spec_protocol.specs.PlayingBack.{PlaysBack, LogsPlayBack}
+use Rattle.spec_protocol.proofs.Moves.Granted.{get-set_same}
+use Rattle.spec_protocol.proofs.Moves.Elsewhere.{at-away}
+use Rattle.spec_protocol.proofs.Logs.Lookups.{short_at}
+use Rattle.spec_protocol.proofs.Logs.Growing.{commits_if, commits_in, OrderStands, SizesStand, Stands, Ahead}
+use Rattle.spec_protocol.proofs.Logs.Coming.{ahead-end}
+use Rattle.spec_protocol.proofs.PlayingBack.Following.{early_same, pending, pending_same, sum_from, sum-zero, Follows}
+use Rattle.spec_protocol.proofs.PlayingBack.Moves.{Reaches, Grown, grown_refl, grown_trans, chunk-grown, serial-grown, dma-grown, raise-grown, recorded_dma}
+use Rattle.spec_protocol.proofs.Invariants.Schedules.{start-sphere, moves_are}
+
+-- ---- the recorded sphere after a move
+
+record Comes (x : Whole) (i : ℕ) (p : Sphere) (plog : LogParts) : Type 0 where
+  sphere : Sphere
+  log : LogParts
+  there : slice_get x.spheres i ≡ Some sphere
+  role : sphere.role ≡ Record log
+  grown : Grown p sphere plog log
+
+moved_comes : (x : Whole) (i : ℕ) (p : Sphere) (log qlog : LogParts) (v : Moved) → slice_get x.spheres i ≡ Some p → (laid v).role ≡ Record qlog → Grown p (laid v) log qlog → Comes (do_moved x i v) i p log
+moved_comes x i p log qlog v is role grown = record { sphere = laid v; log = qlog; there = get-set_same x.spheres i (laid v) p is; role = role; grown = grown }
+
+chunk_comes : (z : Numbers) (x : Whole) (i : ℕ) (p : Sphere) (log : LogParts) (k : ℕ) (how : How) (n limit : ℕ) (o : Option Parts) → 0 < z.buffer → log.s ≡ z.chunk → slice_get x.spheres i ≡ Some p → p.role ≡ Record log
+    → slice_get p.threads k ≡ o → FitsChunk z p k how n limit o → Comes (move_chunk z x i k how n limit p o) i p log
+unfolding chunk_moved
+chunk_comes z x i p log k how n limit None buffer s is role thread fits = absurd fits
+chunk_comes z x i p log k how n limit (Some t) buffer s is role thread fits =
+    subst (λ (v : Moved). Comes (do_moved x i v) i p log)
+    (sym (ap (λ (r : Role). chunk_in r k (is_piece how) (is_short z.chunk how limit) (run p.memory t n) x.devices p) role))
+    (moved_comes x i p log _ (chunk_in (Record log) k (is_piece how) (is_short z.chunk how limit) (run p.memory t n) x.devices p) is refl
+    (chunk-grown z log p k t how n limit x.devices role s buffer thread fits))
+
+serial_comes : (x : Whole) (i moment : ℕ) (p : Sphere) (log : LogParts) (k : ℕ) (o : Option Parts) → slice_get x.spheres i ≡ Some p → p.role ≡ Record log
+    → slice_get p.threads k ≡ o → FitsSerial p k o → Comes (do_serial x i k moment p o) i p log
+unfolding serial_moved
+serial_comes x i moment p log k None is role thread fits = absurd fits
+serial_comes x i moment p log k (Some t) is role thread fits =
+    subst (λ (v : Moved). Comes (do_moved x i v) i p log)
+    (sym (ap (λ (r : Role). serial_in r k moment t x.devices p) role))
+    (moved_comes x i p log _ (serial_in (Record log) k moment t x.devices p) is refl (serial-grown log p k moment t x.devices role thread fits))
+
+dma_comes : (x : Whole) (i : ℕ) (p : Sphere) (log : LogParts) (o : Option Request) → slice_get x.spheres i ≡ Some p → p.role ≡ Record log
+    → p.progress.request ≡ o → IsSome (dma_moved x.devices p) → Comes (do_dma x i (dma_moved x.devices p)) i p log
+unfolding dma_moved
+dma_comes x i p log None is role asked some =
+    let none : dma_in p.role x.devices p ≡ None =
+    ap (λ (r : Role). dma_in r x.devices p) role ∙ (λ j. live_dma (Record (dma_log log x.devices p (asked j))) x.devices p (asked j)) in
+    absurd (true≢false (sym (subst IsSome none some)))
+dma_comes x i p log (Some request) is role asked some =
+    subst (λ (o : Option Moved). Comes (do_dma x i o) i p log)
+    (sym (ap (λ (r : Role). dma_in r x.devices p) role ∙ (λ j. live_dma (Record (dma_log log x.devices p (asked j))) x.devices p (asked j))))
+    (moved_comes x i p log (dma_log log x.devices p (Some request)) (recorded_dma log p x.devices request) is refl (dma-grown log p x.devices request asked))
+
+raise_comes : (x : Whole) (i : ℕ) (p : Sphere) (log : LogParts) (k value : ℕ) (o : Option Parts) → slice_get x.spheres i ≡ Some p → p.role ≡ Record log
+    → slice_get p.threads k ≡ o → FitsRaise p o → Comes (do_raise x i k value p o) i p log
+unfolding raised
+raise_comes x i p log k value None is role thread fits = absurd fits
+raise_comes x i p log k value (Some t) is role thread fits =
+    record {
+      sphere = raised k value t p;
+      log = interrupt_noted k t.commits value log;
+      there = get-set_same x.spheres i (raised k value t p) p is;
+      role = ap (role_raised k t.commits value) role;
+      grown = raise-grown log p k value t role thread fits.takes;
+    }
+
+what_comes : (z : Numbers) (x : Whole) (moment i : ℕ) (p : Sphere) (log : LogParts) (what : What) → 0 < z.buffer → log.s ≡ z.chunk → slice_get x.spheres i ≡ Some p → p.role ≡ Record log → FitsWhat z x.devices p what → Comes (do_what z x moment i p what) i p log
+what_comes z x moment i p log (OfChunk k how n limit) buffer s is role fits = chunk_comes z x i p log k how n limit (slice_get p.threads k) buffer s is role refl fits
+what_comes z x moment i p log (OfSerial k) buffer s is role fits = serial_comes x i moment p log k (slice_get p.threads k) is role refl fits
+what_comes z x moment i p log OfDma buffer s is role fits = dma_comes x i p log p.progress.request is role refl fits.moves
+what_comes z x moment i p log (OfRaise k value) buffer s is role fits = raise_comes x i p log k value (slice_get p.threads k) is role refl fits
+
+-- ---- moves
+
+move_comes : (z : Numbers) (x : Whole) (m : Move) (i : ℕ) (p : Sphere) (log : LogParts) → 0 < z.buffer → log.s ≡ z.chunk → slice_get x.spheres i ≡ Some p → p.role ≡ Record log → Fits z x m → Comes (do_move z x m) i p log
+unfolding do_move
+move_comes z x m i p log buffer s is role fits =
+    elim (cases_eq i m.sphere) [
+      | inl e ↦ (
+          let there : slice_get x.spheres m.sphere ≡ Some p = ap (slice_get x.spheres) (sym e) ∙ is in
+          subst (λ (o : Option Sphere). Comes (do_at z x m o) i p log) (sym there)
+          (subst (λ (n : ℕ). Comes (do_what z x m.moment m.sphere p m.what) n p log) (sym e)
+          (what_comes z x m.moment m.sphere p log m.what buffer s there role (subst (FitsAt z x.devices m) there fits)))
+          )
+      | inr ne ↦ record { sphere = p; log = log; there = at-away z x m i (slice_get x.spheres m.sphere) ne ∙ is; role = role; grown = grown_refl p log }
+    ]
+
+moves_come : (z : Numbers) (x : Whole) (ms : List Move) (i : ℕ) (p : Sphere) (log : LogParts) → 0 < z.buffer → log.s ≡ z.chunk → slice_get x.spheres i ≡ Some p → p.role ≡ Record log → FitAll z x ms → Comes (do_moves z x ms) i p log
+moves_come z x [] i p log buffer s is role fits = record { sphere = p; log = log; there = is; role = role; grown = grown_refl p log }
+moves_come z x (m ∷ ms) i p log buffer s is role fits =
+    let a = move_comes z x m i p log buffer s is role fits.0 in
+    let b = moves_come z (do_move z x m) ms i a.sphere a.log buffer (a.grown.s ∙ s) a.there a.role fits.1 in
+    record { sphere = b.sphere; log = b.log; there = b.there; role = b.role; grown = grown_trans p a.sphere b.sphere log a.log b.log a.grown b.grown }
+
+-- ---- the start
+
+no_commits : (entry k : ℕ) → commits_in (started entry ∷ []) k ≡ 0
+no_commits entry zero = refl
+no_commits entry (suc k) = refl
+
+start_order : (mode : ModeName) (entry : ℕ) → OrderStands mode [] 0 (started entry ∷ [])
+start_order ModeName.OrderSize entry = (refl, λ k. sym (no_commits entry k))
+start_order ModeName.OrderOnly entry = (refl, λ k. sym (no_commits entry k))
+start_order ModeName.Picolog entry = tt
+
+start_sizes : (mode : ModeName) (entry : ℕ) → SizesStand mode (no_sizes mode) 0 (started entry ∷ [])
+start_sizes ModeName.OrderSize entry = refl
+start_sizes ModeName.OrderOnly entry = λ k i l. refl
+start_sizes ModeName.Picolog entry = λ k i l. refl
+
+pub start-stands : (s : ℕ) (image : SphereSetup) (mode : ModeName) → Stands (sphere_of s image) (new_log mode s)
+start-stands s image mode =
+    record {
+      count = refl;
+      order = start_order mode image.entry;
+      sizes = start_sizes mode image.entry;
+      past = λ k i l. refl;
+      absent = λ k i e. refl;
+      unmasked = λ k t e m. refl;
+      dmas = tt;
+    }
+
+start_none : (L : LogParts) (s : ℕ) (image : SphereSetup) (mode : ModeName) → Ahead L (sphere_of s image) (new_log mode s) → (j : ℕ) (t : Parts) → slice_get (started image.entry ∷ []) j ≡ Some t → interrupt_at L.interrupts j t.commits ≡ None
+start_none L s image mode a zero t e = elim (a.next zero t e) [
+  | inl h ↦ h
+  | inr takes ↦ absurd (true≢false (sym takes ∙ ap takes_interrupt (let g : started image.entry ≡ t = cc in sym g)))
+]
+start_none L s image mode a (suc j) t e = absurd (none-some t e)
+
+start_reaches : (L : LogParts) (s : ℕ) (image : SphereSetup) (mode : ModeName) → Ahead L (sphere_of s image) (new_log mode s) → Reaches L (opened L image.memory image.entry) (sphere_of s image) (new_log mode s)
+start_reaches L s image mode a =
+    record {
+      memory = refl;
+      size = refl;
+      threads = λ j t e. e ∙ ap Some (sym (early_same None (interrupt_at L.interrupts j t.commits) t (start_none L s image mode a j t e)));
+      progress = refl;
+      inputs = refl;
+      dmas = refl;
+      interrupts = (let h = sum-zero (pending L.interrupts []) 0 (started image.entry ∷ []) (λ j t e.
+          let k : 0 + j ≡ j = omega arith in
+          ap (λ (n : ℕ). pending L.interrupts [] n t) k ∙ pending_same None (interrupt_at L.interrupts j t.commits) (start_none L s image mode a j t e)) in omega arith);
+      now = refl;
+    }
+
+-- ---- the end
+
+same_list : (xs ys : List Parts) → length xs ≡ length ys → ((j : ℕ) (t : Parts) → slice_get ys j ≡ Some t → slice_get xs j ≡ Some t) → xs ≡ ys
+same_list [] [] size each = refl
+same_list [] (y ∷ ys) size each = absurd (omega arith)
+same_list (x ∷ xs) [] size each = absurd (omega arith)
+same_list (x ∷ xs) (y ∷ ys) size each =
+    let h : x ≡ y = (let e : Some x ≡ Some y = each 0 y refl in cc) in
+    (λ i. h i ∷ same_list xs ys (omega arith) (λ j t e. each (suc j) t e) i)
+
+-- the first of these is found by its thread and index; and where none is found, none is of the rest
+same_test : (a b : ℕ) → (eqb a a && eqb b b) ≡ true
+same_test a b = and_from (eqb a a) (eqb b b) (eq-eqb a a refl) (eq-eqb b b refl)
+
+first_found : (s : ShortSize) (ss : List ShortSize) → short_at (s ∷ ss) s.thread s.index ≡ Some s.size
+first_found s ss = ap (λ (b : Bool). option_map (λ (x : ShortSize). x.size) (cond b (Some s) (find (λ (x : ShortSize). eqb x.thread s.thread && eqb x.index s.index) ss))) (same_test s.thread s.index)
+
+rest_if : (b : Bool) (s : ShortSize) (o : Option ShortSize) → option_map (λ (x : ShortSize). x.size) (cond b (Some s) o) ≡ None → option_map (λ (x : ShortSize). x.size) o ≡ None
+rest_if true s o e = absurd (none-some s.size (sym e))
+rest_if false s o e = e
+
+rest_none : (s : ShortSize) (ss : List ShortSize) (k i : ℕ) → short_at (s ∷ ss) k i ≡ None → short_at ss k i ≡ None
+rest_none s ss k i e = rest_if (eqb s.thread k && eqb s.index i) s (find (λ (x : ShortSize). eqb x.thread k && eqb x.index i) ss) e
+
+size_used : (o : Option Parts) (s : ShortSize) → (commits_if o ≤ s.index → ⊥) → is_size_used o s ≡ true
+size_used None s less = absurd (less (omega arith))
+size_used (Some t) s less = elim (cases_lt s.index t.commits) [
+  | inl l ↦ lt-ltb s.index t.commits l
+  | inr l ↦ absurd (less l)
+]
+
+shorts_used : (ts : List Parts) (ss : List ShortSize) → ((k i : ℕ) → commits_in ts k ≤ i → short_at ss k i ≡ None) → list_all (λ (s : ShortSize). is_size_used (slice_get ts s.thread) s) ss ≡ true
+shorts_used ts [] none = refl
+shorts_used ts (s ∷ ss) none =
+    and_from _ _
+    (size_used (slice_get ts s.thread) s (λ l. none-some s.size (sym (none s.thread s.index l) ∙ first_found s ss)))
+    (shorts_used ts ss (λ k i l. rest_none s ss k i (none k i l)))
+
+sizes_used : (mode : ModeName) (z : Sizes) (n : ℕ) (ts : List Parts) → SizesStand mode z n ts → are_sizes_used ts z ≡ true
+sizes_used mode (Sizes.Each xs) n ts s = refl
+sizes_used ModeName.OrderSize (Sizes.Short xs) n ts s = absurd s
+sizes_used ModeName.OrderOnly (Sizes.Short xs) n ts s = shorts_used ts xs s
+sizes_used ModeName.Picolog (Sizes.Short xs) n ts s = shorts_used ts xs s
+
+none_left : (L : LogParts) (u : Used) (ts : List Parts) → are_sizes_used ts L.sizes ≡ true → u.inputs ≡ length L.inputs → u.interrupts ≡ length L.interrupts → u.dmas ≡ length L.dmas → has_left_over L u ts ≡ false
+unfolding has_left_over
+none_left L u ts sizes inputs interrupts dmas =
+    ap (λ (b : Bool). cond b (cond (nat_lt u.interrupts (length L.interrupts)) true (cond (nat_lt u.inputs (length L.inputs)) true (nat_lt u.dmas (length L.dmas)))) true) sizes
+    ∙ ap (λ (b : Bool). cond b true (cond (nat_lt u.inputs (length L.inputs)) true (nat_lt u.dmas (length L.dmas)))) (le-ltb u.interrupts (length L.interrupts) (omega arith))
+    ∙ ap (λ (b : Bool). cond b true (nat_lt u.dmas (length L.dmas))) (le-ltb u.inputs (length L.inputs) (omega arith))
+    ∙ le-ltb u.dmas (length L.dmas) (omega arith)
+
+over_at : (L : LogParts) (p : Progress) (u : Used) (ts : List Parts) → position p ≡ L.count → has_left_over L u ts ≡ false → now_at L p u ts ≡ Over (End.Complete L.count)
+unfolding now_at
+over_at L p u ts at_ left =
+    ap (λ (b : Bool). cond b (turn_of (position p) ts (next_actor L p ts)) (at_end (position p) (has_left_over L u ts))) (le-ltb (position p) L.count (omega arith))
+    ∙ ap (at_end (position p)) left ∙ ap (λ (n : ℕ). Over (End.Complete n)) at_
+
+ends : (L : LogParts) (image : SphereSetup) (q : Sphere) → Stands q L → Reaches L (opened L image.memory image.entry) q L → PlaysBack L image q
+ends L image q s r =
+    let y0 : Played = opened L image.memory image.entry in
+    let f : Follows L q L (play L image.memory image.entry) = subst (λ (n : ℕ). Follows L q L (plays L y0 n)) (sym s.count) r in
+    let y : Played = play L image.memory image.entry in
+    let threads : y.threads ≡ q.threads = same_list y.threads q.threads f.size (λ j t e. f.threads j t e ∙ ap Some (early_same (interrupt_at L.interrupts j t.commits) (interrupt_at L.interrupts j t.commits) t refl)) in
+    let sum : sum_from (pending L.interrupts L.interrupts) 0 q.threads ≡ 0 =
+    sum-zero (pending L.interrupts L.interrupts) 0 q.threads (λ j t e. pending_same (interrupt_at L.interrupts (0 + j) t.commits) (interrupt_at L.interrupts (0 + j) t.commits) refl) in
+    let at_ : position y.progress ≡ L.count = ap position f.progress ∙ sym s.count in
+    record {
+      fit = f.now ∙ over_at L y.progress y.used y.threads at_
+          (none_left L y.used y.threads (ap (λ (ts : List Parts). are_sizes_used ts L.sizes) threads ∙ sizes_used L.mode L.sizes (position q.progress) q.threads s.sizes) f.inputs (let a = f.interrupts in omega arith) f.dmas);
+      memory = f.memory;
+      threads = threads;
+      progress = f.progress;
+    }
+
+-- ---- all
+
+pub logs_play_back : LogsPlayBack
+logs_play_back s es i image mode will p log shown log_ =
+    let is = will.setup in
+    let there = will.there in
+    let role = will.role in
+    let m = moves_are s es is in
+    let z : ℕ = s.numbers.chunk in
+    let c = moves_come s.numbers (whole_of s) (moves (world_of s) es) i (sphere_of z image) (new_log mode z) is.buffer refl (start-sphere z s.spheres i image there)
+    (ap (role_of z (started image.entry ∷ [])) role) m.possible in
+    let q : Sphere = c.sphere in
+    let L : LogParts = c.log in
+    let same : q ≡ p = (let h : Some q ≡ Some p = sym c.there ∙ ap (λ (x : Whole). slice_get x.spheres i) (sym m.same) ∙ shown in cc) in
+    let logs : L ≡ log = (let h : Record L ≡ Record log = sym c.role ∙ ap (λ (x : Sphere). x.role) same ∙ log_ in cc) in
+    let st = start-stands z image mode in
+    let last : Ahead L q L = ahead-end q L in
+    let done : PlaysBack L image q = ends L image q (c.grown.stands st) (c.grown.reaches L (opened L image.memory image.entry) st last (start_reaches L z image mode (c.grown.ahead L last))) in
+    subst (λ (l : LogParts). PlaysBack l image p) logs (subst (PlaysBack L image) same done)

@@ -1,0 +1,307 @@
+-- What each move makes of a recorded sphere and of its log; and that the play of the log, in the end, follows it.
+use Rattle.std.proofs.Common.{◌≡◌, ℕ, zero, suc, ◌+◌, ◌<◌, ◌≤◌, inl, inr, Bool, true, false, not, eqb, cond, List, [], ◌∷◌, ◌++◌, length, map, Option, Some, None, refl, sym, ap, ◌∙◌, subst, arith}
+use Rattle.std.specs.Prelude.{slice_get, nat_lt, option_map}
+use Rattle.std.specs.Option.{option_or}
+use Rattle.std.proofs.lemmas.Bool.{true≢false, cases_eq, eqb-true, lt-ltb, cases_lt}
+use Rattle.std.proofs.lemmas.List.{length-append}
+use Rattle.std.proofs.lemmas.Option.{none-some}
+use Rattle.dl_entry.specs.declared.Actor.{Actor}
+use Rattle.dl_entry.specs.declared.Input.{Input}
+use Rattle.dl_entry.specs.declared.Request.{Request}
+use Rattle.spec_isa.specs.declared.thread.Parts.{Parts}
+use Rattle.spec_isa.specs.Runs.{run}
+use Rattle.spec_log.specs.declared.ModeName.{ModeName}
+use Rattle.spec_log.specs.declared.LogParts.{LogParts}
+use Rattle.spec_log.specs.Head.{turn, first_live, next_live}
+use Rattle.spec_kernel.specs.Devices.{Devices}
+use Rattle.spec_kernel.specs.Copies.{dma_words}
+use Rattle.spec_kernel.specs.Needs.{need}
+use Rattle.spec_kernel.specs.Answers.{taken, dma_bytes, dma_taken}
+use Rattle.spec_kernel.specs.Interrupts.{is_live, takes_interrupt}
+use Rattle.spec_kernel.specs.Serving.{serve}
+use Rattle.spec_play.specs.Effects.{Effect, chunk_effect, serial_effect, dma_commit}
+use Rattle.spec_play.specs.Progress.{position}
+use Rattle.spec_play.specs.Recording.{noted, interrupt_noted}
+use Rattle.spec_play.specs.Plays.{Played, plays}
+use Rattle.spec_engine.specs.declared.answers.How.{How}
+use Rattle.spec_protocol.specs.Spheres.{Role, Record, Sphere, recording_turn, head_in, head_of, limit_in, limit_of, is_in_pieces}
+use Rattle.spec_protocol.specs.Commits.{Moved, is_piece, chunk_in, serial_noted, serial_in, dma_log, raised, dma_as}
+use Rattle.spec_protocol.specs.World.{Numbers}
+use Rattle.spec_protocol.specs.Asking.{is_short, other_turn}
+use Rattle.spec_protocol.specs.Serial.{laid}
+use Rattle.spec_protocol.specs.Moves.{ChunkFits, SerialFits}
+use Rattle.spec_protocol.proofs.Moves.Threads.{run-keeps, serve-keeps}
+use Rattle.spec_protocol.proofs.Moves.Answering.{dma-most}
+use Rattle.spec_protocol.proofs.Logs.Growing.{Stands, Ahead, HasCommitted, has_committed-parts, grows_of, has_committed-stands, SizesAhead}
+use Rattle.spec_protocol.proofs.Logs.Coming.{has_committed-ahead, Transferred, transferred-stands, transferred-ahead, WasRaised, raised-stands, raised-ahead}
+use Rattle.spec_protocol.proofs.PlayingBack.Following.{Follows, Effects, look-alike}
+use Rattle.spec_protocol.proofs.PlayingBack.Commits.{commit-follows}
+use Rattle.spec_protocol.proofs.PlayingBack.Verdicts.{run-stops, size-says, chunk-goes, serial-goes}
+use Rattle.spec_protocol.proofs.PlayingBack.Transfers.{transferred-follows, raised-follows}
+use Rattle.std.specs.List.{prefix_len}
+
+-- ---- a sphere and its log, before and after
+
+-- the play of L has come as far as p
+abbrev pub Reaches : LogParts → Played → Sphere → LogParts → Type 0
+Reaches L y p log = Follows L p log (plays L y (position p.progress))
+
+pub record Grown (p q : Sphere) (log qlog : LogParts) : Type 0 where
+  pub stands : Stands p log → Stands q qlog
+  pub s : qlog.s ≡ log.s
+  pub ahead : (L : LogParts) → Ahead L q qlog → Ahead L p log
+  pub reaches : (L : LogParts) (y : Played) → Stands p log → Ahead L q qlog → Reaches L y p log → Reaches L y q qlog
+
+pub grown_refl : (p : Sphere) (log : LogParts) → Grown p p log log
+grown_refl p log = record { stands = λ s. s; s = refl; ahead = λ L a. a; reaches = λ L y s a r. r }
+
+pub grown_trans : (p q r : Sphere) (plog qlog rlog : LogParts) → Grown p q plog qlog → Grown q r qlog rlog → Grown p r plog rlog
+grown_trans p q r plog qlog rlog a b =
+    record {
+      stands = λ s. b.stands (a.stands s);
+      s = b.s ∙ a.s;
+      ahead = λ L h. a.ahead L (b.ahead L h);
+      reaches = λ L y s h f. b.reaches L y (a.stands s) h (a.reaches L y s (b.ahead L h) f);
+    }
+
+-- ---- a commit of a thread
+
+commit_grown : (k : ℕ) (short : Bool) (p q : Sphere) (log qlog : LogParts) (t : Parts) (e : Effect) (o : Option Input) → HasCommitted k short p q log qlog t e.thread e.made e.commit o
+    → ((L : LogParts) (y : Played) → Stands p log → Ahead L p log → Ahead L q qlog → Follows L p log y → Effects L k p q qlog t e.thread e.made y e) → Grown p q log qlog
+commit_grown k short p q log qlog t e o d effects =
+    record {
+      stands = has_committed-stands k short p q log qlog t e.thread e.made e.commit o d;
+      s = (has_committed-parts k short p q log qlog t e.thread e.made e.commit o d).s;
+      ahead = λ L a. has_committed-ahead L k short p q log qlog t e.thread e.made e.commit o d a;
+      reaches = λ L y s a f.
+          let ap_ : Ahead L p log = has_committed-ahead L k short p q log qlog t e.thread e.made e.commit o d a in
+          let y2 : Played = plays L y (position p.progress) in
+          subst (λ (n : ℕ). Follows L q qlog (plays L y n)) (sym d.position_)
+          (commit-follows L k short p q log qlog t e.thread e.made e.commit o y2 e d s
+          (has_committed-stands k short p q log qlog t e.thread e.made e.commit o d s) ap_ a f (effects L y2 s ap_ a f));
+    }
+
+-- ---- turns
+
+below_cond : (b : Bool) (m n : ℕ) → (b ≡ false → m < n) → cond (not b) (1 + m) 0 < suc n
+below_cond true m n l = omega arith
+below_cond false m n l = let h = l refl in omega arith
+
+first_below : (ts : List Parts) (k : ℕ) (t : Parts) → slice_get ts k ≡ Some t → is_live t ≡ true → prefix_len (λ (b : Bool). not b) (map is_live ts) < length (map is_live ts)
+first_below [] k t e live = absurd (none-some t e)
+first_below (x ∷ ts) zero t e live =
+    below_cond (is_live x) _ _ (λ h. absurd (true≢false (sym live ∙ sym (ap is_live (let g : x ≡ t = cc in g)) ∙ h)))
+first_below (x ∷ ts) (suc k) t e live = below_cond (is_live x) _ _ (λ h. first_below ts k t e live)
+
+first_some : (ts : List Parts) (k : ℕ) (t : Parts) → slice_get ts k ≡ Some t → is_live t ≡ true → (j : ℕ) × (first_live (map is_live ts) ≡ Some j)
+first_some ts k t e live =
+    let n : ℕ = prefix_len (λ (b : Bool). not b) (map is_live ts) in
+    (n, ap (λ (b : Bool). cond b (Some n) None) (lt-ltb n (length (map is_live ts)) (first_below ts k t e live)))
+
+or_some : (o o2 : Option ℕ) (j : ℕ) → o2 ≡ Some j → (i : ℕ) × (option_or o o2 ≡ Some i)
+or_some None o2 j e = (j, e)
+or_some (Some i) o2 j e = (i, refl)
+
+turn_some : (last : Option ℕ) (ts : List Parts) (k : ℕ) (t : Parts) → slice_get ts k ≡ Some t → is_live t ≡ true → (j : ℕ) × (turn last (map is_live ts) ≡ Some j)
+turn_some None ts k t e live = first_some ts k t e live
+turn_some (Some last) ts k t e live = let f = first_some ts k t e live in or_some (next_live last (map is_live ts)) (first_live (map is_live ts)) f.0 f.1
+
+no_other : (j k : ℕ) → other_turn (Some (Actor.Thread j)) k ≡ None → j ≡ k
+no_other j k e =
+    eqb-true j k (elim (eqb j k) as (λ b. cond b None (Some (Actor.Thread j)) ≡ None → b ≡ true) [
+      | true ↦ λ h. refl
+      | false ↦ λ h. absurd (none-some (Actor.Thread j) (sym h))
+    ] e)
+
+-- in picolog the thread whose chunk or step is granted has the turn
+taken_turn : (L log : LogParts) (p : Sphere) (k : ℕ) (t : Parts) → p.role ≡ Record log → L.mode ≡ log.mode → slice_get p.threads k ≡ Some t → is_live t ≡ true → other_turn (head_of p) k ≡ None → L.mode ≡ ModeName.Picolog → turn p.progress.last (map is_live p.threads) ≡ Some k
+unfolding head_of
+taken_turn L log p k t role mode is live free pico =
+    let some = turn_some p.progress.last p.threads k t is live in
+    let head : other_turn (Some (Actor.Thread some.0)) k ≡ None =
+    sym (
+    ap (λ (r : Role). other_turn (head_in r p) k) role ∙ ap (λ (m : ModeName). other_turn (recording_turn m p) k) (sym mode ∙ pico)
+    ∙ ap (λ (o : Option ℕ). other_turn (option_map Actor.Thread o) k) some.1
+    )
+    ∙ free
+    in
+    some.1 ∙ ap (λ (n : ℕ). Some n) (no_other some.0 k head)
+
+-- ---- a chunk
+
+some_ran : (z : Numbers) (log : LogParts) (p : Sphere) (k : ℕ) (t : Parts) (how : How) (n limit : ℕ) → p.role ≡ Record log → 0 < z.buffer → ChunkFits z p k t how n limit → 0 < n
+some_ran z log p k t How.Limit n limit role buffer f = let a = f.full refl in let b = f.positive in omega arith
+some_ran z log p k t How.Serial n limit role buffer f =
+    elim (cases_eq n 0) [
+      | inl e ↦ absurd (true≢false (sym (f.some refl e) ∙ ap is_in_pieces role))
+      | inr ne ↦ omega arith
+    ]
+some_ran z log p k t How.Overflow n limit role buffer f = let a = f.room refl in omega arith
+some_ran z log p k t How.Cut n limit role buffer f = f.cut refl
+
+limit_is : (z : Numbers) (log : LogParts) (p : Sphere) (k : ℕ) (t : Parts) → p.role ≡ Record log → limit_of z.chunk p.role k t ≡ z.chunk
+unfolding limit_of
+limit_is z log p k t role = ap (λ (r : Role). limit_in r z.chunk k t.commits) role
+
+not_less : (m n : ℕ) → nat_lt m n ≡ false → n ≤ m
+not_less m n e = elim (cases_lt m n) [
+  | inl l ↦ absurd (true≢false (sym (lt-ltb m n l) ∙ e))
+  | inr l ↦ l
+]
+
+-- a chunk that is not short is as long as a run of the standard size
+whole_run : (z : Numbers) (log : LogParts) (p : Sphere) (k : ℕ) (t : Parts) (how : How) (n limit : ℕ) → p.role ≡ Record log → ChunkFits z p k t how n limit → is_short z.chunk how limit ≡ false → run p.memory t z.chunk ≡ run p.memory t n
+whole_run z log p k t How.Limit n limit role f short =
+    let a = f.full refl in let b = f.limited in let c = limit_is z log p k t role in let d = not_less limit z.chunk short in
+    let e : z.chunk ≡ n = omega arith in
+    ap (run p.memory t) e
+whole_run z log p k t How.Serial n limit role f short =
+    let a = f.early (λ h. let g : How.Serial ≡ How.Limit = h in cc) in let b = f.limited in let c = limit_is z log p k t role in
+    run-stops p.memory t n z.chunk (omega arith) (f.serial refl)
+whole_run z log p k t How.Overflow n limit role f short = absurd (true≢false short)
+whole_run z log p k t How.Cut n limit role f short = absurd (true≢false short)
+
+abbrev recorded_chunk : Numbers → LogParts → Sphere → ℕ → Parts → How → (n limit : ℕ) → Devices → Moved
+recorded_chunk z log p k t how n limit devices = chunk_in (Record log) k (is_piece how) (is_short z.chunk how limit) (run p.memory t n) devices p
+
+abbrev chunk_log : Numbers → LogParts → Sphere → ℕ → Parts → How → (n limit : ℕ) → LogParts
+chunk_log z log p k t how n limit =
+    let r = run p.memory t n in noted (chunk_effect k p.progress.request r).commit r.thread.commits (is_short z.chunk how limit) log
+
+chunk_committed : (z : Numbers) (log : LogParts) (p : Sphere) (k : ℕ) (t : Parts) (how : How) (n limit : ℕ) (devices : Devices) → slice_get p.threads k ≡ Some t
+    → let e = chunk_effect k p.progress.request (run p.memory t n) in
+    HasCommitted k (is_short z.chunk how limit) p (laid (recorded_chunk z log p k t how n limit devices)) log (chunk_log z log p k t how n limit) t e.thread e.made e.commit None
+chunk_committed z log p k t how n limit devices is =
+    let r = run p.memory t n in
+    let e = chunk_effect k p.progress.request r in
+    record {
+      start = is;
+      threads = refl;
+      commits = ap (λ (c : ℕ). c + 1) (run-keeps p.memory t n);
+      new = tt;
+      position_ = (let h = length-append p.progress.commits (e.commit ∷ []) in omega arith);
+      actor = refl;
+      log_ = ap (λ (c : ℕ). noted e.commit c (is_short z.chunk how limit) log) (run-keeps p.memory t n);
+    }
+
+pub chunk-grown : (z : Numbers) (log : LogParts) (p : Sphere) (k : ℕ) (t : Parts) (how : How) (n limit : ℕ) (devices : Devices) → p.role ≡ Record log → log.s ≡ z.chunk → 0 < z.buffer → slice_get p.threads k ≡ Some t → ChunkFits z p k t how n limit
+    → Grown p (laid (recorded_chunk z log p k t how n limit devices)) log (chunk_log z log p k t how n limit)
+chunk-grown z log p k t how n limit devices role s buffer is fits =
+    let r = run p.memory t n in
+    let e = chunk_effect k p.progress.request r in
+    let short = is_short z.chunk how limit in
+    let q = laid (recorded_chunk z log p k t how n limit devices) in
+    let qlog = chunk_log z log p k t how n limit in
+    let d = chunk_committed z log p k t how n limit devices is in
+    let some = some_ran z log p k t how n limit role buffer fits in
+    commit_grown k short p q log qlog t e None d
+    (λ L y sp ap_ aq f.
+    let parts = has_committed-parts k short p q log qlog t e.thread e.made e.commit None d in
+    let g = grows_of k short p q log qlog t e.thread e.made e.commit None d in
+    let size = size-says log.mode L.order log.order L.sizes log.sizes k r.n (position p.progress) short p.threads q.threads t g sp.order sp.sizes
+    (subst (λ (os : List Actor). (rest : List Actor) × (L.order ≡ os ++ rest)) parts.order aq.order)
+    (subst (λ (x : _). SizesAhead L.sizes x q.threads) parts.sizes aq.sizes) in
+    record {
+      thread = refl;
+      spawned = refl;
+      memory = refl;
+      progress = refl;
+      live = fits.live;
+      turn_ = taken_turn L log p k t role ap_.mode is fits.live fits.turn;
+      verdict = chunk-goes L y k n p.memory t p.progress (record y.used { inputs = length qlog.inputs }) some fits.ran f.memory f.progress (λ i. record y.used { inputs = f.inputs i })
+          (elim size [
+            | inl h ↦ inl (h ∙ ap (λ (m : ℕ). Some m) fits.ran)
+            | inr h ↦ inr (h.0, ap (run p.memory t) (ap_.s ∙ s) ∙ whole_run z log p k t how n limit role fits h.1)
+          ]);
+    })
+
+-- ---- a serial step
+
+abbrev recorded_serial : LogParts → Sphere → ℕ → (moment : ℕ) → Parts → Devices → Moved
+recorded_serial log p k moment t devices = serial_in (Record log) k moment t devices p
+
+abbrev serial_log : LogParts → Sphere → ℕ → (moment : ℕ) → Parts → Devices → LogParts
+serial_log log p k moment t devices = serial_noted k t (taken (need t p.memory) devices moment) log p
+
+abbrev effect_of : Sphere → ℕ → (moment : ℕ) → Parts → Devices → Effect
+effect_of p k moment t devices = serial_effect k (serve k p.threads p.progress.request t p.memory (taken (need t p.memory) devices moment).input)
+
+serial_committed : (log : LogParts) (p : Sphere) (k moment : ℕ) (t : Parts) (devices : Devices) → slice_get p.threads k ≡ Some t
+    → let e = effect_of p k moment t devices in
+    HasCommitted k false p (laid (recorded_serial log p k moment t devices)) log (serial_log log p k moment t devices) t e.thread e.made e.commit (taken (need t p.memory) devices moment).input
+serial_committed log p k moment t devices is =
+    let e = effect_of p k moment t devices in
+    let h = serve-keeps k p.threads p.progress.request t p.memory (taken (need t p.memory) devices moment).input in
+    record {
+      start = is;
+      threads = refl;
+      commits = ap (λ (c : ℕ). c + 1) h.commits;
+      new = h.fresh;
+      position_ = (let h = length-append p.progress.commits (e.commit ∷ []) in omega arith);
+      actor = refl;
+      log_ = refl;
+    }
+
+pub serial-grown : (log : LogParts) (p : Sphere) (k moment : ℕ) (t : Parts) (devices : Devices) → p.role ≡ Record log → slice_get p.threads k ≡ Some t → SerialFits p k t
+    → Grown p (laid (recorded_serial log p k moment t devices)) log (serial_log log p k moment t devices)
+serial-grown log p k moment t devices role is fits =
+    let e = effect_of p k moment t devices in
+    let o : Option Input = (taken (need t p.memory) devices moment).input in
+    let q = laid (recorded_serial log p k moment t devices) in
+    let qlog = serial_log log p k moment t devices in
+    let d = serial_committed log p k moment t devices is in
+    commit_grown k false p q log qlog t e o d
+    (λ L y sp ap_ aq f.
+    let parts = has_committed-parts k false p q log qlog t e.thread e.made e.commit o d in
+    let g = grows_of k false p q log qlog t e.thread e.made e.commit o d in
+    let size = size-says log.mode L.order log.order L.sizes log.sizes k 0 (position p.progress) false p.threads q.threads t g sp.order sp.sizes
+    (subst (λ (os : List Actor). (rest : List Actor) × (L.order ≡ os ++ rest)) parts.order aq.order)
+    (subst (λ (x : _). SizesAhead L.sizes x q.threads) parts.sizes aq.sizes) in
+    record {
+      thread = refl;
+      spawned = refl;
+      memory = refl;
+      progress = refl;
+      live = fits.live;
+      turn_ = taken_turn L log p k t role ap_.mode is fits.live fits.turn;
+      verdict = serial-goes L y k p.memory t p.progress p.threads devices moment (noted e.commit t.commits false log) f.memory f.progress (look-alike L p log y f) f.inputs fits.serial
+          (elim size [
+            | inl h ↦ inl h
+            | inr h ↦ inr h.0
+          ]) aq.inputs;
+    })
+
+-- ---- a DMA
+
+abbrev pub recorded_dma : LogParts → Sphere → Devices → Request → Moved
+recorded_dma log p devices request = dma_as (Record (dma_log log devices p (Some request))) (dma_words request (dma_bytes devices request)) (dma_taken devices request) p
+
+pub dma-grown : (log : LogParts) (p : Sphere) (devices : Devices) (request : Request) → p.progress.request ≡ Some request → Grown p (laid (recorded_dma log p devices request)) log (dma_log log devices p (Some request))
+dma-grown log p devices request asked =
+    let q = laid (recorded_dma log p devices request) in
+    let qlog = dma_log log devices p (Some request) in
+    let bytes = dma_bytes devices request in
+    let d : Transferred p q log qlog bytes = record { threads = refl; position_ = (let h = length-append p.progress.commits (dma_commit ∷ []) in omega arith); log_ = refl } in
+    record {
+      stands = transferred-stands p q log qlog bytes d;
+      s = refl;
+      ahead = λ L a. transferred-ahead L p q log qlog bytes d a;
+      reaches = λ L y s a f.
+          subst (λ (n : ℕ). Follows L q qlog (plays L y n)) (sym d.position_)
+          (transferred-follows L p q log qlog bytes request (plays L y (position p.progress)) d refl refl asked (dma-most devices request) s (transferred-ahead L p q log qlog bytes d a) a f);
+    }
+
+-- ---- an interrupt
+
+pub raise-grown : (log : LogParts) (p : Sphere) (k value : ℕ) (t : Parts) → p.role ≡ Record log → slice_get p.threads k ≡ Some t → takes_interrupt t ≡ true → Grown p (raised k value t p) log (interrupt_noted k t.commits value log)
+unfolding raised
+raise-grown log p k value t role is takes =
+    let q = raised k value t p in
+    let qlog = interrupt_noted k t.commits value log in
+    let d : WasRaised k value p q log qlog t = record { start = is; takes = takes; threads = refl; progress = refl; log_ = refl } in
+    record {
+      stands = raised-stands k value p q log qlog t d;
+      s = refl;
+      ahead = λ L a. raised-ahead L k value p q log qlog t d a;
+      reaches = λ L y s a f. raised-follows L k value p q log qlog t (plays L y (position p.progress)) d refl s a f;
+    }

@@ -1,0 +1,178 @@
+-- Points done one at a time: the log that a recorded sphere keeps is that of its points.
+use Rattle.std.proofs.Common.{◌≡◌, ℕ, suc, ◌+◌, ◌<◌, ◌≤◌, inl, inr, Bool, true, false, cond, List, [], ◌∷◌, ◌++◌, length, Option, Some, None, refl, sym, ap, ◌∙◌, subst, arith, set}
+use Rattle.std.specs.Prelude.{slice_get}
+use Rattle.std.proofs.Math.ListN.{length-set}
+use Rattle.std.proofs.lemmas.Bool.{cases_eq}
+use Rattle.std.proofs.lemmas.List.{append-nil, length-append}
+use Rattle.std.proofs.lemmas.Option.{slice_get_within}
+use Rattle.dl_entry.specs.declared.Actor.{Actor}
+use Rattle.dl_entry.specs.declared.CommitKind.{CommitKind}
+use Rattle.dl_entry.specs.declared.Commit.{Commit}
+use Rattle.dl_entry.specs.declared.Input.{Input}
+use Rattle.dl_entry.specs.declared.Point.{Point}
+use Rattle.dl_entry.specs.declared.Request.{Request}
+use Rattle.spec_isa.specs.declared.thread.Parts.{Parts}
+use Rattle.spec_isa.specs.Runs.{Run, run}
+use Rattle.spec_log.specs.declared.ModeName.{ModeName}
+use Rattle.spec_log.specs.declared.LogParts.{LogParts}
+use Rattle.spec_log.specs.Size.{is_thread}
+use Rattle.spec_kernel.specs.Devices.{Devices}
+use Rattle.spec_kernel.specs.Copies.{dma_words}
+use Rattle.spec_kernel.specs.Needs.{need}
+use Rattle.spec_kernel.specs.Answers.{Taken, taken, dma_bytes, dma_taken}
+use Rattle.spec_kernel.specs.Interrupts.{takes_interrupt, interrupted}
+use Rattle.spec_kernel.specs.Serving.{serve}
+use Rattle.spec_play.specs.Effects.{chunk_effect, serial_effect, dma_commit}
+use Rattle.spec_play.specs.Progress.{position}
+use Rattle.spec_play.specs.Recording.{noted, interrupt_noted}
+use Rattle.spec_protocol.specs.Spheres.{Record, Sphere}
+use Rattle.spec_protocol.specs.Commits.{Moved, chunk_in, serial_noted, serial_in, dma_as, dma_log, role_raised, raised}
+use Rattle.spec_protocol.specs.Serial.{Whole, laid}
+use Rattle.spec_protocol.specs.Logged.{Supplied, actors_of, is_short_chunk, logged}
+use Rattle.spec_protocol.proofs.Moves.Granted.{get-set_other, get-set_same}
+use Rattle.spec_protocol.proofs.Moves.Threads.{run-keeps, serve-keeps}
+use Rattle.spec_protocol.proofs.Logs.Lookups.{count_of}
+use Rattle.spec_protocol.proofs.Logs.Growing.{commits_in, commits_if, HasCommitted, has_committed-stands, Grows, grows_of, Stands, counts-stand}
+use Rattle.spec_protocol.proofs.Logs.Coming.{transferred-stands, raised-stands}
+use Rattle.spec_protocol.proofs.PlayingBack.Transfers.{open-takes}
+use Rattle.spec_protocol.proofs.Points.OneMore.{points_so, points-more, commits_of, actors-append}
+use Rattle.spec_protocol.proofs.Points.Noted.{commit-told, dma-told, raise-told}
+use Rattle.spec_protocol.proofs.Moves.Spawning.{AreFew, serve-few}
+
+-- ---- what stands between two points
+
+-- the sphere keeps the log of these points, has as many commits as they tell, and not too many threads
+pub record Keeps (mode : ModeName) (s : ℕ) (cs : List Supplied) (p : Sphere) : Type 0 where
+  pub role : p.role ≡ Record (logged mode s cs)
+  pub commits : (k : ℕ) → commits_of k (points_so cs) ≡ commits_in p.threads k
+  pub place : length (actors_of (points_so cs)) ≡ position p.progress
+  pub stands : Stands p (logged mode s cs)
+  pub few : length p.threads ≤ 15
+
+pub record KeepsIn (mode : ModeName) (s i : ℕ) (cs : List Supplied) (x : Whole) : Type 0 where
+  pub sphere : Sphere
+  pub there : slice_get x.spheres i ≡ Some sphere
+  pub keeps : Keeps mode s cs sphere
+
+more_actors : (cs : List Supplied) (c : Supplied) → actors_of (points_so (cs ++ c ∷ [])) ≡ actors_of (points_so cs) ++ actors_of (c.point ∷ [])
+more_actors cs c = ap actors_of (points-more cs c) ∙ actors-append (points_so cs) (c.point ∷ [])
+
+-- ---- a commit of a thread
+
+commit_keeps : (mode : ModeName) (s : ℕ) (cs : List Supplied) (moment i k size : ℕ) (kind : CommitKind) (short : Bool) (o : Option Input) (bytes : List ℕ) (p q : Sphere) (qlog : LogParts) (t u : Parts) (made : List Parts) (commit : Commit)
+    → Keeps mode s cs p → HasCommitted k (is_short_chunk kind short) p q (logged mode s cs) qlog t u made commit o → q.role ≡ Record qlog → commit.size ≡ size → AreFew p.threads made
+    → Keeps mode s (cs ++ record { point = Point.Commit moment i (Actor.Thread k) kind size short; input = o; bytes = bytes } ∷ []) q
+commit_keeps mode s cs moment i k size kind short o bytes p q qlog t u made commit keeps d role sized few =
+    let ps = points_so cs in
+    let c : Supplied = record { point = Point.Commit moment i (Actor.Thread k) kind size short; input = o; bytes = bytes } in
+    let g : Grows k p.threads q.threads t = grows_of k (is_short_chunk kind short) p q (logged mode s cs) qlog t u made commit o d in
+    let below : k < 15 = (let h = slice_get_within p.threads k t d.start in let l = keeps.few in omega arith) in
+    let before_ : t.commits ≡ commits_of k ps = sym (keeps.commits k ∙ g.was) in
+    let now : qlog ≡ logged mode s (cs ++ c ∷ []) = d.log_ ∙ commit-told mode s cs moment i k t.commits size kind short o bytes commit below before_ d.actor sized in
+    record {
+      role = role ∙ ap (λ (log : LogParts). Record log) now;
+      stands = subst (Stands q) now (has_committed-stands k (is_short_chunk kind short) p q (logged mode s cs) qlog t u made commit o d keeps.stands);
+      commits = λ j. ap (count_of j) (more_actors cs c) ∙ counts-stand k (actors_of ps) p.threads q.threads t g keeps.commits j;
+      place = (let a = ap (λ (as_ : List Actor). length as_) (more_actors cs c) in let b = length-append (actors_of ps) (Actor.Thread k ∷ []) in let h = keeps.place in let e = d.position_ in omega arith);
+      few = (let a = ap (λ (ts : List Parts). length ts) d.threads in let b = length-append (set p.threads k u) made in let h = length-set p.threads k u in omega (arith, few));
+    }
+
+abbrev pub recorded_chunk : LogParts → (thread : ℕ) → (short : Bool) → Run → Devices → Sphere → Moved
+recorded_chunk log k short r devices p = chunk_in (Record log) k false short r devices p
+
+pub chunk-keeps : (mode : ModeName) (s : ℕ) (cs : List Supplied) (moment i k size : ℕ) (short : Bool) (p : Sphere) (t : Parts) (devices : Devices) → Keeps mode s cs p → slice_get p.threads k ≡ Some t → (run p.memory t size).n ≡ size
+    → Keeps mode s (cs ++ record { point = Point.Commit moment i (Actor.Thread k) CommitKind.Chunk size short; input = None; bytes = [] } ∷ []) (laid (recorded_chunk (logged mode s cs) k short (run p.memory t size) devices p))
+chunk-keeps mode s cs moment i k size short p t devices keeps is ran =
+    let r = run p.memory t size in
+    let e = chunk_effect k p.progress.request r in
+    let log = logged mode s cs in
+    let q = laid (recorded_chunk log k short r devices p) in
+    let d : HasCommitted k short p q log (noted e.commit r.thread.commits short log) t e.thread e.made e.commit None =
+    record {
+      start = is;
+      threads = refl;
+      commits = ap (λ (n : ℕ). n + 1) (run-keeps p.memory t size);
+      new = tt;
+      position_ = (let h = length-append p.progress.commits (e.commit ∷ []) in omega arith);
+      actor = refl;
+      log_ = ap (λ (n : ℕ). noted e.commit n short log) (run-keeps p.memory t size);
+    }
+    in
+    commit_keeps mode s cs moment i k size CommitKind.Chunk short None [] p q (noted e.commit r.thread.commits short log) t e.thread e.made e.commit keeps d refl ran (let l = keeps.few in omega arith)
+
+abbrev pub recorded_serial : LogParts → (thread moment : ℕ) → Parts → Devices → Sphere → Moved
+recorded_serial log k moment t devices p = serial_in (Record log) k moment t devices p
+
+pub serial-keeps : (mode : ModeName) (s : ℕ) (cs : List Supplied) (moment i k size : ℕ) (short : Bool) (p : Sphere) (t : Parts) (devices : Devices) → Keeps mode s cs p → slice_get p.threads k ≡ Some t → size ≡ 0
+    → Keeps mode s (cs ++ record { point = Point.Commit moment i (Actor.Thread k) CommitKind.Serial size short; input = (taken (need t p.memory) devices moment).input; bytes = [] } ∷ []) (laid (recorded_serial (logged mode s cs) k moment t devices p))
+serial-keeps mode s cs moment i k size short p t devices keeps is empty =
+    let g : Taken = taken (need t p.memory) devices moment in
+    let e = serial_effect k (serve k p.threads p.progress.request t p.memory g.input) in
+    let h = serve-keeps k p.threads p.progress.request t p.memory g.input in
+    let log = logged mode s cs in
+    let q = laid (recorded_serial log k moment t devices p) in
+    let d : HasCommitted k false p q log (serial_noted k t g log p) t e.thread e.made e.commit g.input =
+    record {
+      start = is;
+      threads = refl;
+      commits = ap (λ (n : ℕ). n + 1) h.commits;
+      new = h.fresh;
+      position_ = (let l = length-append p.progress.commits (e.commit ∷ []) in omega arith);
+      actor = refl;
+      log_ = refl;
+    }
+    in
+    commit_keeps mode s cs moment i k size CommitKind.Serial short g.input [] p q (serial_noted k t g log p) t e.thread e.made e.commit keeps d refl (sym empty) (serve-few k p.threads p.progress.request t p.memory g.input keeps.few)
+
+-- ---- a DMA
+
+abbrev pub recorded_dma : LogParts → Devices → Request → Sphere → Moved
+recorded_dma log devices request p = dma_as (Record (dma_log log devices p (Some request))) (dma_words request (dma_bytes devices request)) (dma_taken devices request) p
+
+no_thread_more : (j : ℕ) (acts : List Actor) → count_of j (acts ++ Actor.Dma ∷ []) ≡ count_of j acts
+no_thread_more j [] = refl
+no_thread_more j (a ∷ acts) = ap (λ (n : ℕ). cond (is_thread j a) (suc n) n) (no_thread_more j acts)
+
+pub dma-keeps : (mode : ModeName) (s : ℕ) (cs : List Supplied) (moment i : ℕ) (short : Bool) (p : Sphere) (request : Request) (devices : Devices) → Keeps mode s cs p
+    → Keeps mode s (cs ++ record { point = Point.Commit moment i Actor.Dma CommitKind.Dma 0 short; input = None; bytes = dma_bytes devices request } ∷ []) (laid (recorded_dma (logged mode s cs) devices request p))
+dma-keeps mode s cs moment i short p request devices keeps =
+    let bytes = dma_bytes devices request in
+    let ps = points_so cs in
+    let c : Supplied = record { point = Point.Commit moment i Actor.Dma CommitKind.Dma 0 short; input = None; bytes = bytes } in
+    let log = logged mode s cs in
+    let q = laid (recorded_dma log devices request p) in
+    let now : dma_log log devices p (Some request) ≡ logged mode s (cs ++ c ∷ []) = dma-told mode s cs moment i (position p.progress) CommitKind.Dma short bytes (sym keeps.place) in
+    let one : position q.progress ≡ suc (position p.progress) = (let h = length-append p.progress.commits (dma_commit ∷ []) in omega arith) in
+    record {
+      role = ap (λ (log : LogParts). Record log) now;
+      stands = subst (Stands q) now (transferred-stands p q log (dma_log log devices p (Some request)) bytes (record { threads = refl; position_ = one; log_ = refl }) keeps.stands);
+      commits = λ j. ap (count_of j) (more_actors cs c) ∙ no_thread_more j (actors_of ps) ∙ keeps.commits j;
+      place = (let a = ap (λ (as_ : List Actor). length as_) (more_actors cs c) in let b = length-append (actors_of ps) (Actor.Dma ∷ []) in let h = keeps.place in let l = length-append p.progress.commits (dma_commit ∷ []) in omega arith);
+      few = keeps.few;
+    }
+
+-- ---- an interrupt
+
+pub raise-keeps : (mode : ModeName) (s : ℕ) (cs : List Supplied) (moment i k value : ℕ) (p : Sphere) (t : Parts) → Keeps mode s cs p → slice_get p.threads k ≡ Some t → takes_interrupt t ≡ true
+    → Keeps mode s (cs ++ record { point = Point.Raise moment i k value; input = None; bytes = [] } ∷ []) (raised k value t p)
+unfolding raised
+raise-keeps mode s cs moment i k value p t keeps is takes =
+    let ps = points_so cs in
+    let u : Parts = interrupted value t in
+    let c : Supplied = record { point = Point.Raise moment i k value; input = None; bytes = [] } in
+    let below : k < 15 = (let h = slice_get_within p.threads k t is in let l = keeps.few in omega arith) in
+    let same : actors_of (points_so (cs ++ c ∷ [])) ≡ actors_of ps = more_actors cs c ∙ append-nil (actors_of ps) in
+    let log = logged mode s cs in
+    let fresh = keeps.stands.unmasked k t is (open-takes t takes) in
+    let now : interrupt_noted k t.commits value log ≡ logged mode s (cs ++ c ∷ []) = raise-told mode s cs moment i k t.commits value below (sym (keeps.commits k ∙ ap commits_if is)) fresh in
+    record {
+      role = ap (role_raised k t.commits value) keeps.role ∙ ap (λ (log : LogParts). Record log) now;
+      stands = subst (Stands (raised k value t p)) now
+          (raised-stands k value p (raised k value t p) log (interrupt_noted k t.commits value log) t (record { start = is; takes = takes; threads = refl; progress = refl; log_ = refl }) keeps.stands);
+      commits = λ j. ap (count_of j) same ∙ keeps.commits j ∙ elim (cases_eq j k) [
+        | inl e ↦ ap (commits_in p.threads) e ∙ ap commits_if is ∙ sym (ap (commits_in (set p.threads k u)) e ∙ ap commits_if (get-set_same p.threads k u t is))
+        | inr ne ↦ sym (ap commits_if (get-set_other p.threads k j u ne))
+      ];
+      place = ap (λ (as_ : List Actor). length as_) same ∙ keeps.place;
+      few = (let h = length-set p.threads k u in let l = keeps.few in omega arith);
+    }

@@ -1,0 +1,118 @@
+-- What a log says of a commit leaves a sound replay.
+use Rattle.std.proofs.Common.{◌≡◌, ℕ, suc, ◌≤◌, List, length, Option, Some, None, refl, sym, ap, ◌∙◌, subst, arith}
+use Rattle.std.specs.Prelude.{slice_get}
+use Rattle.std.proofs.lemmas.Bool.{true≢false}
+use Rattle.std.proofs.lemmas.Option.{none-some}
+use Rattle.dl_entry.specs.declared.Actor.{Actor}
+use Rattle.dl_entry.specs.declared.End.{End}
+use Rattle.dl_entry.specs.declared.Why.{Why}
+use Rattle.spec_isa.specs.declared.thread.Parts.{Parts}
+use Rattle.spec_log.specs.declared.LogParts.{LogParts}
+use Rattle.spec_kernel.specs.Devices.{Devices}
+use Rattle.spec_kernel.specs.Interrupts.{takes_interrupt, interrupted}
+use Rattle.spec_play.specs.Effects.{Effect}
+use Rattle.spec_play.specs.Progress.{position, with_effect, Used, with_interrupt}
+use Rattle.spec_play.specs.Turns.{Turn, Over}
+use Rattle.spec_play.specs.Plays.{with_threads}
+use Rattle.spec_play.specs.Verdicts.{Verdict, Goes, Fails, unless, interrupt_at, with_interrupted, ended}
+use Rattle.spec_protocol.specs.Spheres.{Book, Role, Replay, Sphere, is_over, actor_of}
+use Rattle.spec_protocol.specs.Commits.{diverged, by_verdict}
+use Rattle.spec_protocol.specs.Machine.{SphereSetup}
+use Rattle.spec_protocol.specs.Sound.{IsDoneInOrder, due, IsSoundBook, IsSoundRole, IsSoundSphere, HaveByteInput}
+use Rattle.spec_protocol.proofs.Invariants.Cores.{branch}
+use Rattle.spec_protocol.proofs.Sound.Words.{sound-none}
+use Rattle.spec_protocol.proofs.Replays.Order.{done-commit}
+use Rattle.spec_protocol.proofs.Replays.Uses.{Rising, once-more, same-due, one-due}
+use Rattle.spec_protocol.proofs.Sound.Commits.{IsSoundEffect, next-position, IsSoundMoved, granted-sound, interrupted-effect}
+use Rattle.spec_protocol.proofs.Replays.Turns.{over-turn, turned-sound}
+
+-- ---- books
+
+-- no more of the log is used than there is, and of its interrupts those that are due
+pub record Uses (log : LogParts) (threads : List Parts) (u : Used) : Type 0 where
+  pub rising : Rising log.interrupts
+  pub inputs : u.inputs ≤ length log.inputs
+  pub dmas : u.dmas ≤ length log.dmas
+  pub interrupts : u.interrupts ≡ due threads log.interrupts
+
+-- what it comes to where it goes
+abbrev pub IfGoes : (Effect → Used → Type 0) → Verdict → Type 0
+IfGoes Q (Goes e u) = Q e u
+IfGoes Q (Fails why) = Unit {0}
+
+pub unless-goes : (Q : Effect → Used → Type 0) (o : Option Why) (x : Verdict) → IfGoes Q x → IfGoes Q (unless o x)
+unless-goes Q None x h = h
+unless-goes Q (Some why) x h = tt
+
+abbrev pub SoundlyIn : (size : ℕ) (log : LogParts) (k : ℕ) (ts : List Parts) (t : Parts) → Effect → Used → Type 0
+SoundlyIn size log k ts t e u = IsSoundEffect size ts t e × Uses log (with_threads k e ts) u
+
+interrupted-goes : (size : ℕ) (log : LogParts) (k : ℕ) (ts : List Parts) (t : Parts) (e : Effect) (u : Used) (o : Option ℕ) → interrupt_at log.interrupts k e.thread.commits ≡ o → slice_get ts k ≡ Some t → IsSoundEffect size ts t e → Uses log ts u
+    → IfGoes (SoundlyIn size log k ts t) (with_interrupted o e u)
+interrupted-goes size log k ts t e u None at is sound uses =
+    let m = once-more ts e.made k t e.thread is sound.commits sound.fresh in
+    let c : suc t.commits ≡ e.thread.commits = (let h = sound.commits in omega (arith, h)) in
+    let d = same-due log.interrupts ts (with_threads k e ts) k t.commits m (ap (interrupt_at log.interrupts k) c ∙ at) in
+    (sound, record { rising = uses.rising; inputs = uses.inputs; dmas = uses.dmas; interrupts = uses.interrupts ∙ sym d })
+interrupted-goes size log k ts t e u (Some value) at is sound uses =
+    let f = record e { thread = interrupted value e.thread } in
+    let m = once-more ts f.made k t f.thread is sound.commits sound.fresh in
+    let c : suc t.commits ≡ e.thread.commits = (let h = sound.commits in omega (arith, h)) in
+    let d = one-due log.interrupts ts (with_threads k f ts) k t.commits value uses.rising m (ap (interrupt_at log.interrupts k) c ∙ at) in
+    branch (IfGoes (SoundlyIn size log k ts t)) (takes_interrupt e.thread) (Goes f (with_interrupt u)) (Fails Why.Interrupt)
+    (λ _. (interrupted-effect size value ts t e sound, record { rising = uses.rising; inputs = uses.inputs; dmas = uses.dmas; interrupts = ap suc uses.interrupts ∙ sym d }))
+    (λ _. tt)
+
+pub ended-goes : (size : ℕ) (log : LogParts) (k : ℕ) (ts : List Parts) (t : Parts) (e : Effect) (u : Used) → slice_get ts k ≡ Some t → IsSoundEffect size ts t e → Uses log ts u → IfGoes (SoundlyIn size log k ts t) (ended log k e u)
+ended-goes size log k ts t e u is sound uses = interrupted-goes size log k ts t e u (interrupt_at log.interrupts k e.thread.commits) refl is sound uses
+
+-- ---- by a verdict
+
+over-sound : (commits : ℕ) (threads : List Parts) (b : Book) (how : End) → IsSoundBook commits threads b → IsSoundBook commits threads (record b { now = Over how })
+over-sound commits threads b how s =
+    record {
+      log = s.log;
+      within = s.within;
+      going = λ e. absurd (true≢false e);
+      done = s.done;
+      named = λ actor e. absurd (none-some actor e);
+      inputs = s.inputs;
+      dmas = s.dmas;
+      interrupts = s.interrupts;
+      loads = s.loads;
+      turn = λ k e. absurd (over-turn how k e);
+    }
+
+-- the same sphere an event later, in another role
+pub as-role : (s : ℕ) (image : SphereSetup) (now : ℕ) (role : Role) (p : Sphere) → IsSoundRole s (position p.progress) p.threads role → IsSoundSphere s image now p → IsSoundSphere s image (suc now) (record p { role = role })
+as-role s image now role p new sound =
+    record {
+      size = sound.size;
+      bytes = sound.bytes;
+      request = sound.request;
+      some = sound.some;
+      few = sound.few;
+      threads = sound.threads;
+      commits = (let l = sound.commits in omega (arith, l));
+      role = new;
+    }
+
+pub diverged-sound : (s : ℕ) (image : SphereSetup) (now : ℕ) (b : Book) (why : Why) (devices : Devices) (p : Sphere) → IsSoundBook (position p.progress) p.threads b → IsSoundSphere s image now p → HaveByteInput devices → IsSoundMoved s image (suc now) (diverged b why devices p)
+diverged-sound s image now b why devices p book sound d =
+    record {
+      sphere = as-role s image now (Replay (record b { now = Over (End.Diverged (position p.progress) why) })) p (over-sound (position p.progress) p.threads b (End.Diverged (position p.progress) why) book) sound;
+      words = sound-none (length image.memory);
+      devices = d;
+    }
+
+pub verdict-sound : (s : ℕ) (image : SphereSetup) (now k : ℕ) (b : Book) (t : Parts) (x : Verdict) (devices : Devices) (p : Sphere) → IsSoundBook (position p.progress) p.threads b → b.now ≡ Turn k → IsSoundSphere s image now p → slice_get p.threads k ≡ Some t
+    → IfGoes (SoundlyIn (length image.memory) b.log k p.threads t) x → HaveByteInput devices → IsSoundMoved s image (suc now) (by_verdict b k x devices p)
+verdict-sound s image now k b t (Fails why) devices p book turn sound is goes d = diverged-sound s image now b why devices p book sound d
+verdict-sound s image now k b t (Goes e u) devices p book turn sound is goes d =
+    let n = next-position k e p.progress in
+    let l = book.going (ap is_over turn) in
+    let effect = goes.0 in
+    let done = done-commit b.log.mode b.log.order (position p.progress) k p.threads e.made t e.thread is effect.commits effect.fresh (book.named (Actor.Thread k) (ap actor_of turn)) book.done in
+    granted-sound s image now k _ t e devices p sound is effect
+    (turned-sound b.log (with_effect k e p.progress) u (with_threads k e p.threads) book.log (omega (arith, n, l))
+    (subst (λ (m : ℕ). IsDoneInOrder b.log.mode b.log.order m (with_threads k e p.threads)) (sym n) done) goes.1.inputs goes.1.dmas goes.1.interrupts) d

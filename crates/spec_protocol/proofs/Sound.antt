@@ -1,0 +1,12 @@
+-- Within the limits of a setup every world is sound: its words, threads, chunks, devices and logs.
+pub mod Changes
+pub mod Words
+pub mod Threads
+pub mod Chunks
+pub mod Devices
+pub mod Limits
+pub mod Commits
+pub mod Moves
+pub mod Transfers
+pub mod Schedules
+pub mod Notable

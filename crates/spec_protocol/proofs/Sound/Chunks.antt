@@ -1,0 +1,206 @@
+-- Running chunks stay sound: at a step, at a cut and at a squash.
+use Rattle.std.proofs.Common.{◌≡◌, ℕ, suc, ◌/◌, ◌<◌, ◌≤◌, Bool, true, false, eqb, cond, List, length, Option, Some, None, refl, sym, ap, ◌∙◌, arith}
+use Rattle.std.specs.Prelude.{nat_lt, ◌&&◌, ◌||◌}
+use Rattle.std.proofs.lemmas.Bool.{true≢false, ltb-true}
+use Rattle.std.proofs.lemmas.Option.{none-some}
+use Rattle.spec_isa.specs.declared.thread.Parts.{Parts}
+use Rattle.spec_isa.specs.declared.thread.Kind.{Kind}
+use Rattle.spec_isa.specs.Words.{Stored, lays, read, put, holds, is_inside}
+use Rattle.spec_isa.specs.Instruction.{plan_of, serial_of, loads_of, next_of, load_of, store_of}
+use Rattle.spec_isa.specs.declared.plan.Plan.{Plan}
+use Rattle.spec_isa.specs.Planned.{refuses, thread_then}
+use Rattle.spec_isa.specs.Runs.{with_store}
+use Rattle.spec_isa.specs.Threads.{IsThread}
+use Rattle.spec_isa.proofs.MemoryLaws.{length_lays}
+use Rattle.spec_engine.specs.declared.answers.How.{How}
+use Rattle.spec_engine.specs.declared.answers.Stepped.{Stepped}
+use Rattle.spec_engine.specs.declared.answers.CutReply.{CutReply}
+use Rattle.spec_engine.specs.Signatures.{Marks, insert, line}
+use Rattle.spec_engine.specs.Flights.{Flight, first_slot, bounces}
+use Rattle.spec_engine.specs.Chunks.{Chunk, Stepping, Cutting, fresh, closes, marked, ran, at_limit, has_room, reading, storing, loading, running, step, cut_open, cut, squash, is_fourth, halved, next_squashes}
+use Rattle.spec_engine.proofs.Choosing.{keep_option, keep_choose}
+use Rattle.spec_protocol.specs.Invariants.{Closes}
+use Rattle.spec_protocol.specs.Sound.{AreSoundWords, IsSoundChunk}
+use Rattle.spec_protocol.proofs.Moves.Threads.{next_keeps}
+use Rattle.spec_protocol.proofs.Invariants.Cores.{branch}
+use Rattle.spec_protocol.proofs.Sound.Words.{IsSoundWord, sound-none, sound-put, store-sound, held-length, put-length}
+use Rattle.spec_protocol.proofs.Sound.Threads.{then-thread}
+
+-- ---- the next instruction
+
+not-refused : (t : Parts) (f size : ℕ) → serial_of t f size ≡ None → refuses size (plan_of t f) ≡ None
+unfolding serial_of
+not-refused t f size e =
+    branch (λ (o : Option Kind). o ≡ None → refuses size (plan_of t f) ≡ None) (is_inside size t.pc) (refuses size (plan_of t f)) (Some (Kind.Fault 1))
+    (λ _ q. q) (λ _ q. absurd (none-some (Kind.Fault 1) (sym q))) e
+
+next-thread : (t : Parts) (f w size : ℕ) → serial_of t f size ≡ None → IsThread t → IsThread (next_of t f w)
+unfolding next_of
+next-thread t f w size e is = then-thread size (plan_of t f) t w (not-refused t f size e) is
+
+next-store : (t : Parts) (f w size : ℕ) → serial_of t f size ≡ None → (s : Stored) → store_of t f w ≡ Some s → IsSoundWord size s
+unfolding store_of
+next-store t f w size e s is = store-sound size (plan_of t f) t w (not-refused t f size e) s is
+
+-- it leaves the status
+plan_status : (p : Plan) (t : Parts) (w : ℕ) → (thread_then p t w).status ≡ t.status
+plan_status (Plan.Go rd value pc) t w = refl
+plan_status (Plan.Stop kind) t w = refl
+plan_status (Plan.Load op rd a) t w = refl
+plan_status (Plan.Store op a v) t w = refl
+plan_status (Plan.LoadReserved rd a) t w = refl
+plan_status (Plan.StoreConditional rd a v) t w = refl
+plan_status (Plan.Amo op rd a v) t w = refl
+
+next_status : (t : Parts) (f w : ℕ) → (next_of t f w).status ≡ t.status
+unfolding next_of
+next_status t f w = plan_status (plan_of t f) t w
+
+with-words : (size : ℕ) (ws : List Stored) (o : Option Stored) → ((s : Stored) → o ≡ Some s → IsSoundWord size s) → AreSoundWords size ws → AreSoundWords size (with_store ws o)
+with-words size ws None each all = all
+with-words size ws (Some s) each all = sound-put size ws s all (each s refl)
+
+with-room : (capacity : ℕ) (ws : List Stored) (o : Option Stored) → has_room capacity ws o ≡ true → length ws ≤ capacity → length (with_store ws o) ≤ capacity
+with-room capacity ws None e few = few
+with-room capacity ws (Some s) e few =
+    elim (holds ws s.word) as (λ (b : Bool). holds ws s.word ≡ b → (b || nat_lt (length ws) capacity) ≡ true → length (put ws s) ≤ capacity) [
+      | true ↦ λ h _. (let l = held-length ws s h in omega (arith, l, few))
+      | false ↦ λ _ h. (let l = put-length ws s in let k = ltb-true (length ws) capacity h in omega (arith, l, k))
+    ] refl e
+
+-- ---- a step
+
+-- a sound chunk of sphere i
+pub record IsSoundIn (capacity size i : ℕ) (ch : Chunk) : Type 0 where
+  pub sphere : ch.sphere ≡ i
+  pub sound : IsSoundChunk capacity size ch
+
+-- lines read and closing are no part of it
+as-closed : (capacity size i : ℕ) (ch : Chunk) (g : Marks) (o : Option How) → IsSoundIn capacity size i ch → IsSoundIn capacity size i (record ch { reads = g; closed = o })
+as-closed capacity size i ch g o k =
+    let c = k.sound in
+    record {
+      sphere = k.sphere;
+      sound = record { words = c.words; room = c.room; limit = c.limit; squashes = c.squashes; start = c.start; thread = c.thread; commits = c.commits; status = c.status };
+    }
+
+abbrev Steps : (capacity size i : ℕ) → Stepping → Type 0
+Steps capacity size i s = IsSoundIn capacity size i s.chunk
+
+storing-sound : (capacity size i f w : ℕ) (ch : Chunk) (g : Marks) → serial_of ch.done.thread f size ≡ None → IsSoundIn capacity size i ch → Steps capacity size i (storing capacity f w (record ch { reads = g }))
+unfolding storing at_limit
+storing-sound capacity size i f w ch g e c =
+    let t = ch.done.thread in
+    let dh = record ch { reads = g } in
+    let next = ran dh (next_of t f w) (load_of t f w) (store_of t f w) in
+    keep_choose (Steps capacity size i) (has_room capacity ch.done.words (store_of t f w)) (at_limit next) (closes How.Overflow dh)
+    (λ room.
+    let was = c.sound in
+    let k : IsSoundIn capacity size i next =
+    record {
+      sphere = c.sphere;
+      sound = record {
+        words = with-words size ch.done.words (store_of t f w) (next-store t f w size e) was.words;
+        room = with-room capacity ch.done.words (store_of t f w) room was.room;
+        limit = was.limit;
+        squashes = was.squashes;
+        start = was.start;
+        thread = next-thread t f w size e was.thread;
+        commits = next_keeps t f w ∙ was.commits;
+        status = next_status t f w ∙ was.status;
+      };
+    }
+    in
+    keep_choose (Steps capacity size i) (eqb next.done.n next.limit) (closes How.Limit next) (record { reply = Stepped.Ran; chunk = next })
+    (λ _. as-closed capacity size i next next.reads (Some How.Limit) k)
+    (λ _. k))
+    (λ _. as-closed capacity size i ch g (Some How.Overflow) c)
+
+reading-sound : (capacity size i : ℕ) (slots : List (Option Flight)) (core : ℕ) (ch : Chunk) (g : Marks) (a : ℕ) (then_ : Chunk → Stepping) → ((h : Marks) → Steps capacity size i (then_ (record ch { reads = h }))) → IsSoundIn capacity size i ch
+    → Steps capacity size i (reading slots core (record ch { reads = g }) a then_)
+unfolding reading
+reading-sound capacity size i slots core ch g a then_ each c =
+    keep_option (Steps capacity size i) (first_slot (bounces core (line ch.sphere a)) slots) (then_ (marked (record ch { reads = g }) a)) (λ k. record { reply = Stepped.Bounced k; chunk = record ch { reads = g } })
+    (λ _. each (insert (line ch.sphere a) g))
+    (λ k _. as-closed capacity size i ch g ch.closed c)
+
+loading-sound : (capacity size i : ℕ) (shown : List ℕ) (slots : List (Option Flight)) (core f : ℕ) (ch : Chunk) (g : Marks) → serial_of ch.done.thread f size ≡ None → IsSoundIn capacity size i ch
+    → Steps capacity size i (loading capacity shown slots core f (record ch { reads = g }))
+unfolding loading
+loading-sound capacity size i shown slots core f ch g e c =
+    keep_option (Steps capacity size i) (loads_of ch.done.thread f) (storing capacity f 0 (record ch { reads = g })) (λ a. reading slots core (record ch { reads = g }) a (storing capacity f (read shown a)))
+    (λ _. storing-sound capacity size i f 0 ch g e c)
+    (λ a _. reading-sound capacity size i slots core ch g a (storing capacity f (read shown a)) (λ h. storing-sound capacity size i f (read shown a) ch h e c) c)
+
+running-sound : (capacity size i : ℕ) (shown : List ℕ) (slots : List (Option Flight)) (core f : ℕ) (ch : Chunk) (g : Marks) → length shown ≡ size → IsSoundIn capacity size i ch
+    → Steps capacity size i (running capacity shown slots core f (record ch { reads = g }))
+unfolding running
+running-sound capacity size i shown slots core f ch g same c =
+    keep_option (Steps capacity size i) (serial_of ch.done.thread f (length shown)) (loading capacity shown slots core f (record ch { reads = g })) (λ kind. closes How.Serial (record ch { reads = g }))
+    (λ none. loading-sound capacity size i shown slots core f ch g (ap (serial_of ch.done.thread f) (sym same) ∙ none) c)
+    (λ kind _. as-closed capacity size i ch g (Some How.Serial) c)
+
+pub step-sound : (capacity size i : ℕ) (m : List ℕ) (slots : List (Option Flight)) (core : ℕ) (ch : Chunk) → length m ≡ size → IsSoundIn capacity size i ch → IsSoundIn capacity size i (step capacity m slots core ch).chunk
+unfolding step
+step-sound capacity size i m slots core ch same c =
+    let shown = lays m ch.done.words in
+    let pc = ch.done.thread.pc in
+    keep_choose (Steps capacity size i) (is_inside (length shown) pc) (reading slots core ch (pc / 4) (running capacity shown slots core (read shown (pc / 4)))) (closes How.Serial ch)
+    (λ _. reading-sound capacity size i slots core ch ch.reads (pc / 4) (running capacity shown slots core (read shown (pc / 4)))
+    (λ h. running-sound capacity size i shown slots core (read shown (pc / 4)) ch h (length_lays m ch.done.words ∙ same) c) c)
+    (λ _. as-closed capacity size i ch ch.reads (Some How.Serial) c)
+
+-- ---- a cut
+
+cut-open-sound : (capacity size i : ℕ) (ch : Chunk) (o : Option How) → IsSoundIn capacity size i ch → IsSoundIn capacity size i (cut_open ch o).chunk
+cut-open-sound capacity size i ch (Some how) c = c
+cut-open-sound capacity size i ch None c =
+    branch (λ (s : Cutting). IsSoundIn capacity size i s.chunk) (eqb ch.done.n 0) (record { reply = CutReply.NothingRun; chunk = ch }) (record { reply = CutReply.Closed; chunk = record ch { closed = Some How.Cut } })
+    (λ _. c) (λ _. as-closed capacity size i ch ch.reads (Some How.Cut) c)
+
+pub cut-sound : (capacity size i : ℕ) (ch : Chunk) → IsSoundIn capacity size i ch → IsSoundIn capacity size i (cut ch).chunk
+cut-sound capacity size i ch c = cut-open-sound capacity size i ch ch.closed c
+
+-- ---- a beginning, and a squash
+
+pub fresh-sound : (capacity size bits i : ℕ) (t : Parts) (limit : ℕ) (halves : Bool) → limit ≤ 4096 → IsThread t → IsSoundChunk capacity size (fresh bits i t limit halves)
+fresh-sound capacity size bits i t limit halves l is =
+    record { words = sound-none size; room = omega arith; limit = l; squashes = omega arith; start = is; thread = is; commits = refl; status = refl }
+
+squash-limit : (b : Bool) (limit : ℕ) → limit ≤ 4096 → cond b (halved limit) limit ≤ 4096
+squash-limit true limit l = omega (arith, l)
+squash-limit false limit l = l
+
+squash-count : (ch : Chunk) → next_squashes ch < 4
+squash-count ch =
+    branch (λ (n : ℕ). n < 4) (ch.halves && nat_lt ch.squashes 3) (suc ch.squashes) 0
+    (λ e. few (ch.halves) (ch.squashes) e) (λ _. omega arith)
+  where
+    few : (b : Bool) (n : ℕ) → (b && nat_lt n 3) ≡ true → suc n < 4
+    few true n e = let l = ltb-true n 3 e in omega (arith, l)
+    few false n e = absurd (true≢false (sym e))
+
+pub squash-sound : (capacity size : ℕ) (ch : Chunk) → IsSoundChunk capacity size ch → IsSoundChunk capacity size (squash ch)
+squash-sound capacity size ch c =
+    record {
+      words = sound-none size;
+      room = omega arith;
+      limit = squash-limit (is_fourth ch) ch.limit c.limit;
+      squashes = squash-count ch;
+      start = c.start;
+      thread = c.start;
+      commits = refl;
+      status = refl;
+    }
+
+-- ---- no more instructions than the limit
+
+closed-within : (capacity : ℕ) (ch : Chunk) (o : Option How) → ch.closed ≡ o → Closes capacity ch → ch.done.n ≤ ch.limit
+closed-within capacity ch None e c = let l = c.opened e in omega (arith, l)
+closed-within capacity ch (Some How.Limit) e c = let l = c.full e in omega (arith, l)
+closed-within capacity ch (Some How.Serial) e c = let l = c.early How.Serial e (λ h. cc) in omega (arith, l)
+closed-within capacity ch (Some How.Overflow) e c = let l = c.early How.Overflow e (λ h. cc) in omega (arith, l)
+closed-within capacity ch (Some How.Cut) e c = let l = c.early How.Cut e (λ h. cc) in omega (arith, l)
+
+pub within-limit : (capacity : ℕ) (ch : Chunk) → Closes capacity ch → ch.done.n ≤ ch.limit
+within-limit capacity ch c = closed-within capacity ch ch.closed refl c

@@ -1,0 +1,152 @@
+-- A commit of a thread leaves a sound sphere: what its effect leaves, and what a recording notes of it.
+use Rattle.std.proofs.Common.{◌≡◌, ℕ, zero, suc, ◌+◌, ◌%◌, ◌≤◌, inl, inr, Bool, List, [], ◌∷◌, length, Option, Some, refl, sym, ap, ◌∙◌, subst, set, arith}
+use Rattle.std.specs.Prelude.{slice_get, slice_set}
+use Rattle.std.proofs.Math.ListN.{length-set, length-append}
+use Rattle.std.proofs.lemmas.Option.{none-some}
+use Rattle.dl_entry.specs.declared.Input.{Input}
+use Rattle.dl_entry.specs.declared.Request.{Request}
+use Rattle.spec_isa.specs.declared.thread.Parts.{Parts}
+use Rattle.spec_isa.specs.Runs.{Run}
+use Rattle.spec_isa.specs.Threads.{IsThread}
+use Rattle.spec_log.specs.declared.LogParts.{LogParts}
+use Rattle.spec_kernel.specs.Devices.{Devices}
+use Rattle.spec_kernel.specs.Needs.{need}
+use Rattle.spec_kernel.specs.Interrupts.{interrupted}
+use Rattle.spec_kernel.specs.Serving.{serve}
+use Rattle.spec_play.specs.Effects.{Effect, chunk_effect, serial_effect}
+use Rattle.spec_play.specs.Progress.{Progress, position, with_effect}
+use Rattle.spec_play.specs.Plays.{with_threads}
+use Rattle.spec_play.specs.Recording.{noted}
+use Rattle.spec_protocol.specs.Spheres.{Role, Sphere}
+use Rattle.spec_protocol.specs.Commits.{Moved, granted_as}
+use Rattle.spec_protocol.specs.Machine.{SphereSetup}
+use Rattle.spec_protocol.specs.Sound.{AreSoundWords, IsSoundIf, IsSoundLog, IsSoundRole, IsSoundThread, IsSoundSphere, HaveByteInput}
+use Rattle.spec_protocol.proofs.Moves.Threads.{AreNew, serve-keeps}
+use Rattle.spec_protocol.proofs.Logs.Growing.{get_cases, pushed_length}
+use Rattle.spec_protocol.proofs.Moves.Spawning.{serve-few}
+use Rattle.spec_protocol.proofs.Sound.Threads.{AreThreads, BringsIf, interrupted-thread, IsSoundServed, serve-sound}
+use Rattle.spec_protocol.proofs.Logs.Fresh.{at-set_parts, fresh-commit}
+
+-- ---- rows of threads
+
+pub set-all : (P : Parts → Type 0) (ts : List Parts) (k : ℕ) (u : Parts) → P u → ((j : ℕ) (x : Parts) → slice_get ts j ≡ Some x → P x) → (j : ℕ) (x : Parts) → slice_get (set ts k u) j ≡ Some x → P x
+set-all P ts k u new old j x e = elim (at-set_parts ts k j u x e) [ inl q ↦ subst P q.1 new | inr q ↦ old j x q.1 ]
+
+made-sound : (n : ℕ) (made : List Parts) (j : ℕ) (x : Parts) → AreThreads made → AreNew made → slice_get made j ≡ Some x → IsSoundThread n x
+made-sound n [] j x threads new e = absurd (none-some x e)
+made-sound n (t ∷ made) zero x threads new e =
+    subst (IsSoundThread n) (let q : t ≡ x = cc in q) (record { thread = threads.0; few = (let l = new.0.commits in omega (arith, l)) })
+made-sound n (t ∷ made) (suc j) x threads new e = made-sound n made j x threads.1 new.1 e
+
+-- ---- a commit of a thread
+
+-- what a commit of thread t leaves, in a memory of that size and among these threads
+pub record IsSoundEffect (size : ℕ) (ts : List Parts) (t : Parts) (e : Effect) : Type 0 where
+  pub thread : IsThread e.thread
+  pub commits : e.thread.commits ≡ t.commits + 1
+  pub made : AreThreads e.made
+  pub fresh : AreNew e.made
+  pub few : length ts + length e.made ≤ 15
+  pub request : IsSoundIf size e.request
+  pub words : AreSoundWords size e.words
+
+pub later-thread : (m n : ℕ) (x : Parts) → m ≤ n → IsSoundThread m x → IsSoundThread n x
+later-thread m n x l s = record { thread = s.thread; few = (let k = s.few in omega (arith, l, k)) }
+
+pub next-position : (k : ℕ) (e : Effect) (p : Progress) → position (with_effect k e p) ≡ suc (position p)
+next-position k e p = pushed_length p.commits e.commit (length p.commits) refl
+
+commit-threads : (n size k : ℕ) (ts : List Parts) (t : Parts) (e : Effect) → slice_get ts k ≡ Some t → IsSoundEffect size ts t e → ((j : ℕ) (x : Parts) → slice_get ts j ≡ Some x → IsSoundThread n x)
+    → (j : ℕ) (x : Parts) → slice_get (with_threads k e ts) j ≡ Some x → IsSoundThread (suc n) x
+commit-threads n size k ts t e is effect old j x there =
+    elim (get_cases (slice_set ts k e.thread) e.made j x there) [
+      | inl q ↦ set-all (IsSoundThread (suc n)) ts k e.thread
+          (record { thread = effect.thread; few = (let l = (old k t is).few in let c = effect.commits in omega (arith, l, c)) })
+          (λ i y h. later-thread n (suc n) y (omega arith) (old i y h)) j x q
+      | inr q ↦ made-sound (suc n) e.made q.1.0 x effect.made effect.fresh q.1.1
+    ]
+
+commit-length : (k : ℕ) (ts : List Parts) (e : Effect) → length (with_threads k e ts) ≡ length ts + length e.made
+commit-length k ts e = length-append (slice_set ts k e.thread) e.made ∙ ap (λ (n : ℕ). n + length e.made) (length-set ts k e.thread)
+
+-- what a move leaves of a sphere that began as the image
+pub record IsSoundMoved (s : ℕ) (image : SphereSetup) (now : ℕ) (v : Moved) : Type 0 where
+  pub sphere : IsSoundSphere s image now v.sphere
+  pub words : AreSoundWords (length image.memory) v.words
+  pub devices : HaveByteInput v.devices
+
+pub granted-sound : (s : ℕ) (image : SphereSetup) (now k : ℕ) (role : Role) (t : Parts) (e : Effect) (devices : Devices) (p : Sphere) → IsSoundSphere s image now p → slice_get p.threads k ≡ Some t → IsSoundEffect (length image.memory) p.threads t e
+    → IsSoundRole s (position (with_effect k e p.progress)) (with_threads k e p.threads) role → HaveByteInput devices → IsSoundMoved s image (suc now) (granted_as role k e devices p)
+granted-sound s image now k role t e devices p sound is effect role_sound devices_sound =
+    let n = next-position k e p.progress in
+    let l = commit-length k p.threads e in
+    record {
+      sphere = record {
+        size = sound.size;
+        bytes = sound.bytes;
+        request = effect.request;
+        some = (let a = sound.some in omega (arith, l, a));
+        few = (let a = effect.few in omega (arith, l, a));
+        threads = λ j x h. subst (λ (m : ℕ). IsSoundThread m x) (sym n) (commit-threads (position p.progress) (length image.memory) k p.threads t e is effect sound.threads j x h);
+        commits = (let a = sound.commits in omega (arith, n, a));
+        role = role_sound;
+      };
+      words = effect.words;
+      devices = devices_sound;
+    }
+
+-- ---- effects
+
+pub chunk-effect : (size k : ℕ) (ts : List Parts) (t : Parts) (request : Option Request) (r : Run) → IsThread r.thread → r.thread.commits ≡ t.commits → AreSoundWords size r.words → IsSoundIf size request → length ts ≤ 15 → IsSoundEffect size ts t (chunk_effect k request r)
+chunk-effect size k ts t request r thread commits words sound few =
+    record {
+      thread = record { pc = thread.pc; saved_pc = thread.saved_pc; handler = thread.handler; zero = thread.zero; registers = thread.registers };
+      commits = ap (λ (n : ℕ). n + 1) commits;
+      made = tt;
+      fresh = tt;
+      few = omega (arith, few);
+      request = sound;
+      words = words;
+    }
+
+pub serial-effect : (size k : ℕ) (ts : List Parts) (request : Option Request) (t : Parts) (m : List ℕ) (input : Option Input) → length m ≡ size → size % 4 ≡ 0 → BringsIf (need t m) input → IsThread t → IsSoundIf size request → length ts ≤ 15
+    → IsSoundEffect size ts t (serial_effect k (serve k ts request t m input))
+serial-effect size k ts request t m input same whole brings thread sound few =
+    let v = serve k ts request t m input in
+    let served : IsSoundServed size v =
+    subst (λ (n : ℕ). n % 4 ≡ 0 → IsSoundIf n request → IsSoundServed n v) same (λ w q. serve-sound k ts request t m input w brings thread q) whole sound
+    in
+    let keeps = serve-keeps k ts request t m input in
+    let th = served.thread in
+    record {
+      thread = record { pc = th.pc; saved_pc = th.saved_pc; handler = th.handler; zero = th.zero; registers = th.registers };
+      commits = ap (λ (n : ℕ). n + 1) keeps.commits;
+      made = served.made;
+      fresh = keeps.fresh;
+      few = serve-few k ts request t m input few;
+      request = served.request;
+      words = served.words;
+    }
+
+-- the interrupt at its end
+pub interrupted-effect : (size value : ℕ) (ts : List Parts) (t : Parts) (e : Effect) → IsSoundEffect size ts t e → IsSoundEffect size ts t (record e { thread = interrupted value e.thread })
+interrupted-effect size value ts t e s =
+    record {
+      thread = interrupted-thread value e.thread s.thread;
+      commits = s.commits;
+      made = s.made;
+      fresh = s.fresh;
+      few = s.few;
+      request = s.request;
+      words = s.words;
+    }
+
+-- ---- recordings
+
+-- a commit is noted, and nothing else of the log that matters here changes
+pub noted-sound : (s k i : ℕ) (short : Bool) (log : LogParts) (t : Parts) (e : Effect) (p : Sphere) → slice_get p.threads k ≡ Some t → e.thread.commits ≡ t.commits + 1 → IsSoundLog s (position p.progress) p.threads log
+    → IsSoundLog s (position (with_effect k e p.progress)) (with_threads k e p.threads) (noted e.commit i short log)
+noted-sound s k i short log t e p is commits role =
+    let n = next-position k e p.progress in
+    let c = role.count in
+    record { size = role.size; count = omega (arith, n, c); interrupts = fresh-commit p.threads e.made k t e.thread log.interrupts is commits role.interrupts }

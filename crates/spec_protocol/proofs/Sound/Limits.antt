@@ -1,0 +1,97 @@
+-- The limits of chunks: over 0, and no more than a log can say.
+use Rattle.std.proofs.Common.{◌≡◌, ℕ, zero, suc, ◌<◌, ◌≤◌, Bool, eqb, List, [], ◌∷◌, Option, Some, None, refl, subst, arith}
+use Rattle.std.specs.Prelude.{slice_get, max, All, map, filter, find, option_map, ◌&&◌}
+use Rattle.std.specs.List.{zip}
+use Rattle.std.proofs.lemmas.Option.{none-some}
+use Rattle.dl_entry.specs.declared.Actor.{Actor}
+use Rattle.spec_isa.specs.declared.thread.Parts.{Parts}
+use Rattle.spec_log.specs.declared.ModeName.{ModeName}
+use Rattle.spec_log.specs.declared.ShortSize.{ShortSize}
+use Rattle.spec_log.specs.declared.Sizes.{Sizes}
+use Rattle.spec_log.specs.declared.LogParts.{LogParts}
+use Rattle.spec_log.specs.Log.{IsSizes, IsShortSize, IsLog}
+use Rattle.spec_log.specs.Size.{is_thread, sizes_of_thread, thread_size, size_in}
+use Rattle.spec_protocol.specs.Spheres.{Role, Plain, Record, Replay, whole_limit, limit_of}
+use Rattle.spec_protocol.specs.Sound.{IsSoundRole}
+use Rattle.spec_protocol.proofs.Invariants.Cores.{branch}
+
+-- ---- lists
+
+-- each element of a list, by its place
+abbrev pub AllIn : {X : Type 0} → (X → Type 0) → List X → Type 0
+AllIn P [] = Unit {0}
+AllIn P (x ∷ xs) = P x × AllIn P xs
+
+pub all-in : {X : Type 0} (P : X → Type 0) (xs : List X) → All P xs → AllIn P xs
+all-in P [] all = tt
+all-in P (x ∷ xs) all = (all 0 x (omega arith), all-in P xs (λ k d l. all (suc k) d (omega arith)))
+
+pub get-in : {X : Type 0} (P : X → Type 0) (xs : List X) (k : ℕ) (x : X) → AllIn P xs → slice_get xs k ≡ Some x → P x
+get-in P [] k x all e = absurd (none-some x e)
+get-in P (y ∷ xs) zero x all e = subst P (let q : y ≡ x = cc in q) all.0
+get-in P (y ∷ xs) (suc k) x all e = get-in P xs k x all.1 e
+
+pub find-in : {X : Type 0} (P : X → Type 0) (p : X → Bool) (xs : List X) (x : X) → AllIn P xs → find p xs ≡ Some x → P x
+find-in P p [] x all e = absurd (none-some x e)
+find-in P p (y ∷ xs) x all e =
+    branch (λ (o : Option _). o ≡ Some x → P x) (p y) (Some y) (find p xs)
+    (λ _ h. subst P (let q : y ≡ x = cc in q) all.0)
+    (λ _ h. find-in P p xs x all.1 h) e
+
+-- ---- sizes
+
+sizes-in : (k s : ℕ) (order : List Actor) (sizes : List ℕ) → AllIn (λ z. z ≤ s) sizes → AllIn (λ z. z ≤ s) (sizes_of_thread k order sizes)
+sizes-in k s [] sizes all = tt
+sizes-in k s (actor ∷ order) [] all = tt
+sizes-in k s (actor ∷ order) (z ∷ sizes) all =
+    branch (λ (ps : List _). AllIn (λ y. y ≤ s) (map (λ p. p.1) ps)) (is_thread k actor) ((actor, z) ∷ filter (λ p. is_thread k p.0) (zip order sizes)) (filter (λ p. is_thread k p.0) (zip order sizes))
+    (λ _. (all.0, sizes-in k s order sizes all.1))
+    (λ _. sizes-in k s order sizes all.1)
+
+short-found : (s : ℕ) (o : Option ShortSize) (z : ℕ) → ((x : ShortSize) → o ≡ Some x → IsShortSize s x) → option_map (λ short. short.size) o ≡ Some z → z ≤ s
+short-found s None z each e = absurd (none-some z e)
+short-found s (Some x) z each e = let l = (each x refl).3 in let q : x.size ≡ z = cc in omega (arith, l, q)
+
+each-size : (s k n z : ℕ) (order : List Actor) (sizes : List ℕ) → All (λ y. y ≤ s) sizes → slice_get (sizes_of_thread k order sizes) n ≡ Some z → z ≤ s
+each-size s k n z order sizes all e = get-in (λ y. y ≤ s) (sizes_of_thread k order sizes) n z (sizes-in k s order sizes (all-in (λ y. y ≤ s) sizes all)) e
+
+short-size : (s k n z : ℕ) (sizes : List ShortSize) → All (IsShortSize s) sizes → option_map (λ short. short.size) (find (λ short. eqb short.thread k && eqb short.index n) sizes) ≡ Some z → z ≤ s
+short-size s k n z sizes all e =
+    short-found s (find (λ short. eqb short.thread k && eqb short.index n) sizes) z
+    (λ x h. find-in (IsShortSize s) (λ short. eqb short.thread k && eqb short.index n) sizes x (all-in (IsShortSize s) sizes all) h) e
+
+-- no thread's commit is larger than a standard chunk
+pub size-most : (mode : ModeName) (s count k n z : ℕ) (order : List Actor) (sizes : Sizes) → IsSizes mode s count sizes → thread_size order sizes k n ≡ Some z → z ≤ s
+size-most ModeName.OrderSize s count k n z order (Sizes.Each sizes) is e = each-size s k n z order sizes is.1 e
+size-most ModeName.OrderSize s count k n z order (Sizes.Short sizes) is e = absurd is
+size-most ModeName.OrderOnly s count k n z order (Sizes.Each sizes) is e = absurd is
+size-most ModeName.OrderOnly s count k n z order (Sizes.Short sizes) is e = short-size s k n z sizes is.each e
+size-most ModeName.Picolog s count k n z order (Sizes.Each sizes) is e = absurd is
+size-most ModeName.Picolog s count k n z order (Sizes.Short sizes) is e = short-size s k n z sizes is.each e
+
+-- ---- limits
+
+abbrev limit_by : (s : ℕ) → Option ℕ → ℕ
+limit_by s o = elim o [ None ↦ s | Some z ↦ max 1 z ]
+
+by-positive : (s : ℕ) (o : Option ℕ) → 0 < s → 0 < limit_by s o
+by-positive s None l = l
+by-positive s (Some z) l = omega arith
+
+by-most : (s : ℕ) (o : Option ℕ) → 1 ≤ s → ((z : ℕ) → o ≡ Some z → z ≤ s) → limit_by s o ≤ s
+by-most s None l each = omega arith
+by-most s (Some z) l each = let h = each z refl in omega (arith, l, h)
+
+pub whole-positive : (log : LogParts) (k n : ℕ) → IsLog log → 0 < whole_limit log k n
+whole-positive log k n is = by-positive log.s (size_in log (Actor.Thread k) n) (let l = is.s.0 in omega (arith, l))
+
+pub whole-most : (log : LogParts) (k n : ℕ) → IsLog log → whole_limit log k n ≤ log.s
+whole-most log k n is =
+    by-most log.s (size_in log (Actor.Thread k) n) (let l = is.s.0 in omega (arith, l)) (λ z e. size-most log.mode log.s log.count k n z log.order log.sizes is.sizes e)
+
+pub limit-most : (s commits : ℕ) (threads : List Parts) (role : Role) (k : ℕ) (t : Parts) → s ≤ 4096 → IsSoundRole s commits threads role → limit_of s role k t ≤ 4096
+unfolding limit_of
+limit-most s commits threads Plain k t l is = l
+limit-most s commits threads (Record log) k t l is = l
+limit-most s commits threads (Replay b) k t l is =
+    let a = whole-most b.log k t.commits is.log in let c = is.log.s.1 in omega (arith, a, c)

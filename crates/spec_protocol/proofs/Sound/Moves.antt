@@ -1,0 +1,217 @@
+-- What a granted request of a chunk or a serial step makes of a sound sphere is sound.
+use Rattle.std.proofs.Common.{◌≡◌, ℕ, suc, ◌+◌, ◌%◌, ◌<◌, ◌≤◌, Bool, true, false, eqb, List, ◌++◌, length, Option, Some, None, refl, sym, ap, ◌∙◌, subst, set, arith}
+use Rattle.std.specs.Prelude.{slice_get, nat_le, ◌&&◌, ◌||◌}
+use Rattle.std.proofs.Math.ListN.{length-set, length-append}
+use Rattle.std.proofs.lemmas.Bool.{leb-true, eqb-true, and_parts}
+use Rattle.std.proofs.lemmas.List.{append-nil}
+use Rattle.std.proofs.lemmas.Option.{slice_get_within}
+use Rattle.dl_entry.specs.declared.Actor.{Actor}
+use Rattle.dl_entry.specs.declared.Input.{Input}
+use Rattle.spec_isa.specs.declared.thread.Parts.{Parts}
+use Rattle.spec_isa.specs.Runs.{Run}
+use Rattle.spec_isa.specs.Threads.{IsThread}
+use Rattle.spec_log.specs.declared.LogParts.{LogParts}
+use Rattle.spec_log.specs.Size.{size_in}
+use Rattle.spec_kernel.specs.Devices.{Devices}
+use Rattle.spec_kernel.specs.Needs.{Need, Write, Read, Random, Clock, MomentWord, InputWord, need}
+use Rattle.spec_kernel.specs.Answers.{Taken, taken}
+use Rattle.spec_kernel.specs.Records.{has_no_bytes, went_nowhere, fits_read, fits_random, fits}
+use Rattle.spec_kernel.specs.Interrupts.{lives, is_live}
+use Rattle.spec_kernel.specs.Serving.{serve, console_told}
+use Rattle.spec_play.specs.Effects.{chunk_effect, serial_effect}
+use Rattle.spec_play.specs.Progress.{Progress, position, with_effect, Used, with_input}
+use Rattle.spec_play.specs.Turns.{Turn}
+use Rattle.spec_play.specs.Plays.{with_threads}
+use Rattle.spec_play.specs.Recording.{noted, input_noted}
+use Rattle.spec_play.specs.Verdicts.{ended, chunk_why, chunk_verdict, Given, given, serial_why, served_verdict, serial_verdict}
+use Rattle.spec_protocol.specs.Spheres.{Book, Role, Plain, Record, Replay, Sphere, whole_limit}
+use Rattle.spec_protocol.specs.Commits.{joined, piece_moved, replayed_chunk, chunk_in, chunk_moved, served_as, serial_noted, serial_in, serial_moved}
+use Rattle.spec_protocol.specs.Machine.{SphereSetup}
+use Rattle.spec_protocol.specs.Sound.{IsDoneInOrder, AreSoundWords, IsSoundIf, HasThread, IsSoundBook, IsSoundLog, IsSoundRole, IsSoundThread, IsSoundSphere, HaveByteInput}
+use Rattle.spec_protocol.proofs.Moves.Granted.{get-set_same}
+use Rattle.spec_protocol.proofs.Invariants.Cores.{branch}
+use Rattle.spec_protocol.proofs.Sound.Threads.{Brings, BringsIf}
+use Rattle.spec_protocol.proofs.Sound.Devices.{IsSoundTaken, taken-sound, told-devices}
+use Rattle.spec_protocol.proofs.Replays.Order.{done-piece}
+use Rattle.spec_protocol.proofs.Replays.Uses.{rising-of, due-still, piece-commits}
+use Rattle.spec_protocol.proofs.Sound.Commits.{set-all, IsSoundMoved, granted-sound, chunk-effect, serial-effect, noted-sound}
+use Rattle.spec_protocol.proofs.Replays.Verdicts.{Uses, IfGoes, unless-goes, SoundlyIn, ended-goes, verdict-sound}
+
+-- ---- chunks
+
+-- the run of thread k's chunk, which began as t
+pub record IsSoundRun (size : ℕ) (t : Parts) (r : Run) : Type 0 where
+  pub thread : IsThread r.thread
+  pub commits : r.thread.commits ≡ t.commits
+  pub status : r.thread.status ≡ t.status
+  pub words : AreSoundWords size r.words
+  pub loads : length r.loads ≤ r.n
+
+chunk-goes : (size k : ℕ) (log : LogParts) (p : Progress) (u : Used) (ts : List Parts) (t : Parts) (r : Run) → slice_get ts k ≡ Some t → IsThread r.thread → r.thread.commits ≡ t.commits → AreSoundWords size r.words → IsSoundIf size p.request → length ts ≤ 15 → Uses log ts u
+    → IfGoes (SoundlyIn size log k ts t) (chunk_verdict log p u k r)
+unfolding chunk_verdict
+chunk-goes size k log p u ts t r is thread commits words request few uses =
+    unless-goes (SoundlyIn size log k ts t) (chunk_why (size_in log (Actor.Thread k) r.thread.commits) r.n) (ended log k (chunk_effect k p.request r) u)
+    (ended-goes size log k ts t (chunk_effect k p.request r) u is (chunk-effect size k ts t p.request r thread commits words request few) uses)
+
+book-uses : (commits : ℕ) (threads : List Parts) (b : Book) → IsSoundBook commits threads b → Uses b.log threads b.used
+book-uses commits threads b s = record { rising = rising-of b.log.interrupts s.log.interrupts.rising; inputs = s.inputs; dmas = s.dmas; interrupts = s.interrupts }
+
+-- a piece leaves the thread's commits, and room for an instruction more
+piece-sound : (s : ℕ) (image : SphereSetup) (now k : ℕ) (b : Book) (t : Parts) (r : Run) (devices : Devices) (p : Sphere) → IsSoundBook (position p.progress) p.threads b → b.now ≡ Turn k → is_live t ≡ true → IsSoundSphere s image now p → slice_get p.threads k ≡ Some t
+    → IsSoundRun (length image.memory) t r → b.total + r.n < whole_limit b.log k t.commits → HaveByteInput devices → IsSoundMoved s image (suc now) (piece_moved b k r devices p)
+piece-sound s image now k b t r devices p book turn live sound is run room d =
+    let n = position p.progress in
+    let us = set p.threads k r.thread in
+    let c = run.commits in
+    let lives : is_live r.thread ≡ true = ap lives run.status ∙ live in
+    let there = get-set_same p.threads k r.thread t is in
+    record {
+      sphere = record {
+        size = sound.size;
+        bytes = sound.bytes;
+        request = sound.request;
+        some = (let a = sound.some in let l = length-set p.threads k r.thread in omega (arith, l, a));
+        few = (let a = sound.few in let l = length-set p.threads k r.thread in omega (arith, l, a));
+        threads = set-all (IsSoundThread n) p.threads k r.thread (record { thread = run.thread; few = (let l = (sound.threads k t is).few in omega (arith, l, c)) }) sound.threads;
+        commits = (let l = sound.commits in omega (arith, l));
+        role = record {
+          log = book.log;
+          within = book.within;
+          going = book.going;
+          done = subst (IsDoneInOrder b.log.mode b.log.order n) (append-nil us) (done-piece b.log.mode b.log.order n k p.threads t r.thread is c book.done);
+          named = book.named;
+          inputs = book.inputs;
+          dmas = book.dmas;
+          interrupts = book.interrupts ∙ sym (due-still b.log.interrupts p.threads us (piece-commits p.threads k t r.thread is c));
+          loads = (let l = length-append b.loads r.loads in let a = book.loads in let q = run.loads in omega (arith, l, a, q));
+          turn = λ j e. subst (HasThread (record b { total = b.total + r.n; loads = b.loads ++ r.loads }) us) (let q : Turn k ≡ Turn j = sym turn ∙ e in let h : k ≡ j = cc in h)
+              (record { thread = r.thread; there = there; live = lives; room = subst (λ (m : ℕ). b.total + r.n < whole_limit b.log k m) (sym c) room });
+        };
+      };
+      words = run.words;
+      devices = d;
+    }
+
+-- where it is a piece, its commit has room for it and an instruction more
+pub record FitsRole (k : ℕ) (t : Parts) (piece : Bool) (r : Run) (role : Role) : Type 0 where
+  pub live : is_live t ≡ true
+  pub turn : (b : Book) → role ≡ Replay b → b.now ≡ Turn k
+  pub room : (b : Book) → role ≡ Replay b → piece ≡ true → b.total + r.n < whole_limit b.log k t.commits
+
+replayed-sound : (s : ℕ) (image : SphereSetup) (now k : ℕ) (b : Book) (t : Parts) (piece : Bool) (r : Run) (devices : Devices) (p : Sphere) → IsSoundBook (position p.progress) p.threads b → FitsRole k t piece r (Replay b) → IsSoundSphere s image now p
+    → slice_get p.threads k ≡ Some t → IsSoundRun (length image.memory) t r → HaveByteInput devices → IsSoundMoved s image (suc now) (replayed_chunk piece b k r devices p)
+replayed-sound s image now k b t true r devices p book fits sound is run d =
+    piece-sound s image now k b t r devices p book (fits.turn b refl) fits.live sound is run (fits.room b refl refl) d
+replayed-sound s image now k b t false r devices p book fits sound is run d =
+    verdict-sound s image now k b t (chunk_verdict b.log p.progress b.used k (joined b r)) devices p book (fits.turn b refl) sound is
+    (chunk-goes (length image.memory) k b.log p.progress b.used p.threads t (joined b r) is run.thread run.commits run.words sound.request sound.few (book-uses (position p.progress) p.threads b book)) d
+
+chunk-in-sound : (s : ℕ) (image : SphereSetup) (now k : ℕ) (role : Role) (t : Parts) (piece short : Bool) (r : Run) (devices : Devices) (p : Sphere) → IsSoundRole s (position p.progress) p.threads role → FitsRole k t piece r role → IsSoundSphere s image now p
+    → slice_get p.threads k ≡ Some t → IsSoundRun (length image.memory) t r → HaveByteInput devices → IsSoundMoved s image (suc now) (chunk_in role k piece short r devices p)
+chunk-in-sound s image now k Plain t piece short r devices p role fits sound is run d =
+    granted-sound s image now k Plain t (chunk_effect k p.progress.request r) devices p sound is
+    (chunk-effect (length image.memory) k p.threads t p.progress.request r run.thread run.commits run.words sound.request sound.few) tt d
+chunk-in-sound s image now k (Record log) t piece short r devices p role fits sound is run d =
+    let e = chunk_effect k p.progress.request r in
+    let effect = chunk-effect (length image.memory) k p.threads t p.progress.request r run.thread run.commits run.words sound.request sound.few in
+    granted-sound s image now k (Record (noted e.commit r.thread.commits short log)) t e devices p sound is effect
+    (noted-sound s k r.thread.commits short log t e p is effect.commits role) d
+chunk-in-sound s image now k (Replay b) t piece short r devices p role fits sound is run d = replayed-sound s image now k b t piece r devices p role fits sound is run d
+
+pub chunk-sound : (s : ℕ) (image : SphereSetup) (now k : ℕ) (t : Parts) (piece short : Bool) (r : Run) (devices : Devices) (p : Sphere) → FitsRole k t piece r p.role → IsSoundSphere s image now p
+    → slice_get p.threads k ≡ Some t → IsSoundRun (length image.memory) t r → HaveByteInput devices → IsSoundMoved s image (suc now) (chunk_moved k piece short r devices p)
+unfolding chunk_moved
+chunk-sound s image now k t piece short r devices p fits sound is run d = chunk-in-sound s image now k p.role t piece short r devices p sound.role fits sound is run d
+
+-- ---- serial steps
+
+read-brings : (len : ℕ) (r : Input) → fits_read len r ≡ true → length r.bytes ≤ len
+read-brings len r e =
+    elim (nat_le r.result len && eqb (length r.bytes) r.result) as (λ (b : Bool). (nat_le r.result len && eqb (length r.bytes) r.result) ≡ b → (b || (went_nowhere r && has_no_bytes r)) ≡ true → length r.bytes ≤ len) [
+      | true ↦ λ h _. (
+          let q = and_parts (nat_le r.result len) (eqb (length r.bytes) r.result) h in
+          let a = leb-true r.result len q.0 in
+          let c = eqb-true (length r.bytes) r.result q.1 in
+          omega (arith, a, c)
+          )
+      | false ↦ λ _ h. (let c = eqb-true (length r.bytes) 0 (and_parts (went_nowhere r) (has_no_bytes r) h).1 in omega (arith, c))
+    ] refl e
+
+-- the record that a log gives is no longer than what is wanted
+pub fits-brings : (n : Need) (r : Input) → fits n r ≡ true → Brings (Some n) r
+unfolding fits
+fits-brings (Write channel bytes) r e = tt
+fits-brings (Read channel buf len) r e = read-brings len r (and_parts (eqb r.kind 3) (fits_read len r) e).1
+fits-brings (Random buf len) r e =
+    let q = and_parts (eqb r.kind 4) (fits_random len r) e in
+    let c = eqb-true (length r.bytes) len (and_parts (eqb r.result len) (eqb (length r.bytes) len) q.1).1 in
+    omega (arith, c)
+fits-brings Clock r e = tt
+fits-brings MomentWord r e = tt
+fits-brings InputWord r e = tt
+
+-- what is given fits, and is among the records
+record IsGiven (log : LogParts) (threads : List Parts) (o : Option Need) (g : Given) : Type 0 where
+  brings : BringsIf o g.input
+  uses : Uses log threads g.used
+
+abbrev IfGiven : (log : LogParts) (threads : List Parts) → Option Need → Option Given → Type 0
+IfGiven log threads o None = Unit {0}
+IfGiven log threads o (Some g) = IsGiven log threads o g
+
+given-sound : (log : LogParts) (threads : List Parts) (o : Option Need) (next : Option Input) (u : Used) → slice_get log.inputs u.inputs ≡ next → Uses log threads u → IfGiven log threads o (given o next u)
+given-sound log threads None next u is uses = record { brings = tt; uses = uses }
+given-sound log threads (Some n) None u is uses = tt
+given-sound log threads (Some n) (Some r) u is uses =
+    branch (IfGiven log threads (Some n)) (fits n r) (Some (record { input = Some r; used = with_input u })) None
+    (λ e. record { brings = fits-brings n r e; uses = record { rising = uses.rising; inputs = (let l = slice_get_within log.inputs u.inputs r is in omega (arith, l)); dmas = uses.dmas; interrupts = uses.interrupts } })
+    (λ _. tt)
+
+served-goes : (size k : ℕ) (log : LogParts) (p : Progress) (ts : List Parts) (t : Parts) (m : List ℕ) (o : Option Given) → slice_get ts k ≡ Some t → IfGiven log ts (need t m) o → length m ≡ size → size % 4 ≡ 0 → IsThread t → IsSoundIf size p.request → length ts ≤ 15
+    → IfGoes (SoundlyIn size log k ts t) (served_verdict log p k ts t m o)
+served-goes size k log p ts t m None is each same whole thread request few = tt
+served-goes size k log p ts t m (Some g) is each same whole thread request few =
+    ended-goes size log k ts t (serial_effect k (serve k ts p.request t m g.input)) g.used is (serial-effect size k ts p.request t m g.input same whole each.brings thread request few) each.uses
+
+serial-goes : (size k : ℕ) (log : LogParts) (p : Progress) (u : Used) (ts : List Parts) (t : Parts) (m : List ℕ) → slice_get ts k ≡ Some t → Uses log ts u → length m ≡ size → size % 4 ≡ 0 → IsThread t → IsSoundIf size p.request → length ts ≤ 15
+    → IfGoes (SoundlyIn size log k ts t) (serial_verdict log p u k ts t m)
+unfolding serial_verdict
+serial-goes size k log p u ts t m is uses same whole thread request few =
+    let g = given (need t m) (slice_get log.inputs u.inputs) u in
+    unless-goes (SoundlyIn size log k ts t) (serial_why (size_in log (Actor.Thread k) t.commits)) (served_verdict log p k ts t m g)
+    (served-goes size k log p ts t m g is (given-sound log ts (need t m) (slice_get log.inputs u.inputs) u refl uses) same whole thread request few)
+
+-- the log keeps its standard size, and an input is no commit
+input-log : (s n : ℕ) (threads : List Parts) (o : Option Input) (log : LogParts) → IsSoundLog s n threads log → IsSoundLog s n threads (input_noted o log)
+input-log s n threads None log h = h
+input-log s n threads (Some r) log h = record { size = h.size; count = h.count; interrupts = h.interrupts }
+
+served-sound : (s : ℕ) (image : SphereSetup) (now k : ℕ) (role : Role) (t : Parts) (g : Taken) (p : Sphere) → length image.memory % 4 ≡ 0 → IsSoundSphere s image now p → slice_get p.threads k ≡ Some t → IsSoundTaken (need t p.memory) g
+    → IsSoundRole s (position (with_effect k (serial_effect k (serve k p.threads p.progress.request t p.memory g.input)) p.progress)) (with_threads k (serial_effect k (serve k p.threads p.progress.request t p.memory g.input)) p.threads) role
+    → IsSoundMoved s image (suc now) (served_as role k t g p)
+served-sound s image now k role t g p whole sound is taken_ role_sound =
+    let v = serve k p.threads p.progress.request t p.memory g.input in
+    granted-sound s image now k role t (serial_effect k v) (console_told t p.memory v.outputs g.devices) p sound is
+    (serial-effect (length image.memory) k p.threads p.progress.request t p.memory g.input sound.size whole taken_.brings (sound.threads k t is).thread sound.request sound.few)
+    role_sound (told-devices t p.memory v.outputs g.devices taken_.devices)
+
+serial-in-sound : (s : ℕ) (image : SphereSetup) (now k moment : ℕ) (role : Role) (t : Parts) (devices : Devices) (p : Sphere) → length image.memory % 4 ≡ 0 → IsSoundRole s (position p.progress) p.threads role → ((b : Book) → role ≡ Replay b → b.now ≡ Turn k)
+    → IsSoundSphere s image now p → slice_get p.threads k ≡ Some t → HaveByteInput devices → IsSoundMoved s image (suc now) (serial_in role k moment t devices p)
+serial-in-sound s image now k moment Plain t devices p whole role going sound is d =
+    served-sound s image now k Plain t (taken (need t p.memory) devices moment) p whole sound is (taken-sound t p.memory devices moment sound.bytes d) tt
+serial-in-sound s image now k moment (Record log) t devices p whole role going sound is d =
+    let g = taken (need t p.memory) devices moment in
+    let e = serial_effect k (serve k p.threads p.progress.request t p.memory g.input) in
+    let taken_ = taken-sound t p.memory devices moment sound.bytes d in
+    let effect = serial-effect (length image.memory) k p.threads p.progress.request t p.memory g.input sound.size whole taken_.brings (sound.threads k t is).thread sound.request sound.few in
+    served-sound s image now k (Record (serial_noted k t g log p)) t g p whole sound is taken_
+    (input-log s (position (with_effect k e p.progress)) (with_threads k e p.threads) g.input (noted e.commit t.commits false log) (noted-sound s k t.commits false log t e p is effect.commits role))
+serial-in-sound s image now k moment (Replay b) t devices p whole role going sound is d =
+    verdict-sound s image now k b t (serial_verdict b.log p.progress b.used k p.threads t p.memory) devices p role (going b refl) sound is
+    (serial-goes (length image.memory) k b.log p.progress b.used p.threads t p.memory is (book-uses (position p.progress) p.threads b role) sound.size whole (sound.threads k t is).thread sound.request sound.few) d
+
+pub serial-sound : (s : ℕ) (image : SphereSetup) (now k moment : ℕ) (t : Parts) (devices : Devices) (p : Sphere) → length image.memory % 4 ≡ 0 → ((b : Book) → p.role ≡ Replay b → b.now ≡ Turn k)
+    → IsSoundSphere s image now p → slice_get p.threads k ≡ Some t → HaveByteInput devices → IsSoundMoved s image (suc now) (serial_moved k moment t devices p)
+unfolding serial_moved
+serial-sound s image now k moment t devices p whole going sound is d = serial-in-sound s image now k moment p.role t devices p whole sound.role going sound is d

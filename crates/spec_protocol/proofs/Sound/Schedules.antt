@@ -1,0 +1,323 @@
+-- Every event keeps what is sound, and the start is sound: so is every world after a schedule.
+use Rattle.std.proofs.Common.{◌≡◌, ◌≢◌, ℕ, zero, suc, ◌+◌, ◌-◌, ◌%◌, ◌<◌, ◌≤◌, Bool, true, false, cond, List, [], ◌∷◌, length, Some, None, refl, sym, ap, ◌∙◌, subst, arith, get_or, map, inl, inr, set, replicate, get_or-set_same, get_or-set_other}
+use Rattle.std.specs.Prelude.{slice_get, slice_index, max}
+use Rattle.std.proofs.lemmas.Bool.{true≢false, eq-eqb, cases_eq, cases_lt}
+use Rattle.std.proofs.Math.ListN.{length-set}
+use Rattle.std.proofs.lemmas.Option.{none-some}
+use Rattle.std.proofs.lemmas.List.{length-map, get_or_past}
+use Rattle.dl_entry.specs.declared.Counts.{Counts}
+use Rattle.dl_entry.specs.declared.ReplyName.{ReplyName}
+use Rattle.dl_entry.specs.ReplyName.{place}
+use Rattle.dl_entry.specs.Counts.{count_of, counted}
+use Rattle.spec_isa.specs.declared.thread.Parts.{Parts}
+use Rattle.spec_isa.specs.Words.{Stored, lay}
+use Rattle.spec_isa.specs.Threads.{started}
+use Rattle.spec_isa.proofs.MemoryLaws.{length_lay}
+use Rattle.spec_play.specs.Progress.{position, no_progress, nothing_used}
+use Rattle.spec_play.specs.Turns.{Now, Turn, TurnOfDma}
+use Rattle.spec_engine.specs.declared.answers.How.{How}
+use Rattle.spec_engine.specs.Flights.{Flight, at}
+use Rattle.spec_engine.specs.Chunks.{Chunk, step, cut}
+use Rattle.spec_protocol.specs.declared.event.Event.{Event}
+use Rattle.spec_protocol.specs.Spheres.{Book, Role, Replay, Sphere, no_sphere, is_over, is_stopped, head_of, head_in, whole_limit, pieces_of, limit_of, halves}
+use Rattle.spec_protocol.specs.Commits.{Moved, is_piece, chunk_moved, serial_moved}
+use Rattle.spec_protocol.specs.Asking.{is_short, other_turn}
+use Rattle.spec_protocol.specs.World.{Numbers, Held, World, After, moment, sphere_at}
+use Rattle.spec_protocol.specs.Placing.{replays}
+use Rattle.spec_protocol.specs.Transferring.{turn_before_dma}
+use Rattle.spec_protocol.specs.Machine.{RoleSetup, IsPlain, IsRecorded, IsReplayed, SphereSetup, Setup, role_of, sphere_of, world_of, act, name_of, kept, happens, world_after}
+use Rattle.spec_protocol.specs.Invariants.{IsGood}
+use Rattle.spec_protocol.specs.Promises.{IsSetup, AreSizesKept}
+use Rattle.spec_protocol.specs.Sound.{IsRole, IsImage, IsWithinLimits, AreSoundWords, no_image, image_at, size_of, IsSoundBook, IsSoundRole, IsSoundThread, IsSoundSphere, IsSoundChunk, HaveByteInput, IsSound, WorldsAreSound, EventsKeepSound}
+use Rattle.spec_protocol.proofs.Invariants.Kept.{SameSizes}
+use Rattle.spec_protocol.proofs.Moves.Granted.{turn-is}
+use Rattle.spec_protocol.proofs.Moves.Transfers.{dma-turn_is}
+use Rattle.spec_protocol.proofs.Points.Counts.{act-untold}
+use Rattle.spec_protocol.proofs.Invariants.Schedules.{happens-kept, free_slots, first_held, start-good, sizes_kept}
+use Rattle.spec_protocol.proofs.Sound.Changes.{Properties, Holds, Lands, Asks, Keeps, afresh-property, act-holds}
+use Rattle.spec_protocol.proofs.Sound.Words.{lay-bytes}
+use Rattle.spec_protocol.proofs.Sound.Threads.{started-thread}
+use Rattle.spec_protocol.proofs.Sound.Devices.{bytes-all, start-bytes}
+use Rattle.spec_protocol.proofs.Sound.Chunks.{IsSoundIn, step-sound, cut-sound, squash-sound, fresh-sound}
+use Rattle.spec_protocol.proofs.Sound.Limits.{limit-most}
+use Rattle.spec_protocol.proofs.Logs.Fresh.{fresh-none}
+use Rattle.spec_protocol.proofs.Replays.Order.{done-none}
+use Rattle.spec_protocol.proofs.Replays.Uses.{none-due_first}
+use Rattle.spec_protocol.proofs.Sound.Commits.{IsSoundMoved}
+use Rattle.spec_protocol.proofs.Replays.Verdicts.{as-role}
+use Rattle.spec_protocol.proofs.Replays.Turns.{turned-sound}
+use Rattle.spec_protocol.proofs.Sound.Moves.{chunk-sound, serial-sound}
+use Rattle.spec_protocol.proofs.Sound.Transfers.{dma-moved-sound, raised-sound}
+
+-- ---- the properties
+
+abbrev sound : Setup → Properties
+sound s =
+    record {
+      sphere = λ now i p. IsSoundSphere s.numbers.chunk (image_at s i) now p;
+      flight = λ f. AreSoundWords (size_of s f.sphere) f.words;
+      held = λ h. IsSoundChunk s.numbers.buffer (size_of s h.chunk.sphere) h.chunk;
+      devices = HaveByteInput;
+    }
+
+images-whole : (ds : List SphereSetup) (i : ℕ) → ((d : SphereSetup) → slice_get ds i ≡ Some d → IsImage d) → length (get_or ds i no_image).memory % 4 ≡ 0
+images-whole [] i each = refl
+images-whole (d ∷ ds) zero each = let e = (each d refl).pages in omega (arith, e)
+images-whole (d ∷ ds) (suc i) each = images-whole ds i each
+
+-- a memory's length is a whole number of words
+whole : (s : Setup) (i : ℕ) → IsWithinLimits s → length (image_at s i).memory % 4 ≡ 0
+whole s i limits = images-whole s.spheres i (limits.images i)
+
+landed : (s : Setup) (now i : ℕ) (v : Moved) → IsSoundMoved s.numbers.chunk (image_at s i) now v → Lands (sound s) now i v
+landed s now i v m = record { sphere = m.sphere; flight = λ writes told. m.words; devices = m.devices }
+
+-- ---- a word more in memory
+
+drained-sphere : (s : Setup) (now i : ℕ) (w : Stored) (ws : List Stored) (p : Sphere) → AreSoundWords (size_of s i) (w ∷ ws) → IsSoundSphere s.numbers.chunk (image_at s i) now p → IsSoundSphere s.numbers.chunk (image_at s i) now (record p { memory = lay p.memory w })
+drained-sphere s now i w ws p words k =
+    record {
+      size = length_lay p.memory w ∙ k.size;
+      bytes = lay-bytes p.memory w words.bytes.0 k.bytes;
+      request = k.request;
+      some = k.some;
+      few = k.few;
+      threads = k.threads;
+      commits = k.commits;
+      role = k.role;
+    }
+
+drained-both : (s : Setup) (now : ℕ) (f : Flight) (w : Stored) (ws : List Stored) (p : Sphere) → f.words ≡ w ∷ ws → AreSoundWords (size_of s f.sphere) f.words → IsSoundSphere s.numbers.chunk (image_at s f.sphere) now p
+    → AreSoundWords (size_of s f.sphere) ws × IsSoundSphere s.numbers.chunk (image_at s f.sphere) now (record p { memory = lay p.memory w })
+drained-both s now f w ws p e words k =
+    let all : AreSoundWords (size_of s f.sphere) (w ∷ ws) = subst (AreSoundWords (size_of s f.sphere)) e words in
+    (record { inside = all.inside.1; bytes = all.bytes.1 }, drained-sphere s now f.sphere w ws p all k)
+
+-- ---- a chunk
+
+going-on : (p : Sphere) → is_stopped p.role ≡ false → (b : Book) → p.role ≡ Replay b → is_over b.now ≡ false
+going-on p going b e = ap is_stopped (sym e) ∙ going
+
+has-turn : (p : Sphere) (k : ℕ) → is_stopped p.role ≡ false → other_turn (head_of p) k ≡ None → (b : Book) → p.role ≡ Replay b → b.now ≡ Turn k
+unfolding head_of
+has-turn p k going turn b e =
+    turn-is b.now k (going-on p going b e) (ap (λ (r : Role). other_turn (head_in r p) k) (sym e) ∙ turn)
+
+dma-has-turn : (p : Sphere) → is_stopped p.role ≡ false → turn_before_dma p.role ≡ None → (b : Book) → p.role ≡ Replay b → b.now ≡ TurnOfDma
+dma-has-turn p going turn b e = dma-turn_is b.now (going-on p going b e) (ap turn_before_dma (sym e) ∙ turn)
+
+-- before its limit a chunk is a piece that leaves room for an instruction
+piece-how : (how : How) → is_piece how ≡ true → how ≢ How.Limit
+piece-how How.Limit e h = true≢false (sym e)
+piece-how How.Serial e h = true≢false (sym e)
+piece-how How.Overflow e h = cc
+piece-how How.Cut e h = cc
+
+own-pieces : (k total : ℕ) → pieces_of (Turn k) k total ≡ total
+own-pieces k total = ap (λ (b : Bool). cond b total 0) (eq-eqb k k refl)
+
+limit-is : (s k : ℕ) (b : Book) (t : Parts) → b.now ≡ Turn k → limit_of s (Replay b) k t ≡ max 1 (whole_limit b.log k t.commits - b.total)
+unfolding limit_of
+limit-is s k b t turn =
+    ap (λ (n : ℕ). max 1 (whole_limit b.log k t.commits - n)) (ap (λ (now : Now). pieces_of now k b.total) turn ∙ own-pieces k b.total)
+
+-- what the book says of thread k's turn, which is t
+turn-room : (n k : ℕ) (p : Sphere) (b : Book) (t : Parts) → IsSoundBook n p.threads b → b.now ≡ Turn k → slice_get p.threads k ≡ Some t → b.total < whole_limit b.log k t.commits
+turn-room n k p b t book turn is =
+    let h = book.turn k turn in
+    let q : h.thread ≡ t = (let o : Some h.thread ≡ Some t = sym h.there ∙ is in cc) in
+    subst (λ (x : Parts). b.total < whole_limit b.log k x.commits) q h.room
+
+room-left : (n total whole limit : ℕ) → total < whole → limit ≡ max 1 (whole - total) → n < limit → total + n < whole
+room-left n total whole limit a e l = omega (arith, a, e, l)
+
+book-is : (s n : ℕ) (p : Sphere) (b : Book) → p.role ≡ Replay b → IsSoundRole s n p.threads p.role → IsSoundBook n p.threads b
+book-is s n p b e h = subst (IsSoundRole s n p.threads) e h
+
+piece-room : (s : Setup) (w : World) (c : ℕ) (h : Held) (how : How) → Asks w c h how → IsSoundSphere s.numbers.chunk (image_at s h.chunk.sphere) (moment w) (sphere_at w h.chunk.sphere)
+    → (b : Book) → (sphere_at w h.chunk.sphere).role ≡ Replay b → is_piece how ≡ true → b.total + h.chunk.done.n < whole_limit b.log h.thread h.chunk.start.commits
+piece-room s w c h how asks k b e piece =
+    let p = sphere_at w h.chunk.sphere in
+    let held = asks.good.held c h asks.is in
+    let turn = has-turn p h.thread asks.going asks.turn b e in
+    let book = book-is s.numbers.chunk (position p.progress) p b e k.role in
+    let limit : h.chunk.limit ≡ max 1 (whole_limit b.log h.thread h.chunk.start.commits - b.total) =
+    (held.limit asks.going).replayed (ap replays e) ∙ ap (λ (r : Role). limit_of w.numbers.chunk r h.thread h.chunk.start) e ∙ limit-is w.numbers.chunk h.thread b h.chunk.start turn
+    in
+    room-left h.chunk.done.n b.total (whole_limit b.log h.thread h.chunk.start.commits) h.chunk.limit
+    (turn-room (position p.progress) h.thread p b h.chunk.start book turn held.start) limit
+    (held.chunk.closes.early how asks.closed (piece-how how piece))
+
+sound-chunk : (s : Setup) (w : World) (c : ℕ) (h : Held) (how : How) → Asks w c h how → Holds (sound s) (moment w) w
+    → Lands (sound s) (suc (moment w)) h.chunk.sphere (chunk_moved h.thread (is_piece how) (is_short w.numbers.chunk how h.chunk.limit) h.chunk.done w.devices (sphere_at w h.chunk.sphere))
+sound-chunk s w c h how asks k =
+    let i = h.chunk.sphere in
+    let p = sphere_at w i in
+    let held = asks.good.held c h asks.is in
+    let ch = k.held c h asks.is in
+    let sphere = k.spheres i held.sphere in
+    landed s (suc (moment w)) i _
+    (chunk-sound s.numbers.chunk (image_at s i) (moment w) h.thread h.chunk.start (is_piece how) (is_short w.numbers.chunk how h.chunk.limit) h.chunk.done w.devices p
+    (record { live = held.lives; turn = has-turn p h.thread asks.going asks.turn; room = piece-room s w c h how asks sphere })
+    sphere held.start
+    (record { thread = ch.thread; commits = ch.commits; status = ch.status; words = ch.words; loads = held.chunk.closes.few_loads })
+    k.devices)
+
+sound-serial : (s : Setup) (w : World) (c : ℕ) (h : Held) (how : How) → IsWithinLimits s → Asks w c h how → Holds (sound s) (moment w) w
+    → Lands (sound s) (suc (moment w)) h.chunk.sphere (serial_moved h.thread (moment w) h.chunk.start w.devices (sphere_at w h.chunk.sphere))
+sound-serial s w c h how limits asks k =
+    let i = h.chunk.sphere in
+    let p = sphere_at w i in
+    let held = asks.good.held c h asks.is in
+    landed s (suc (moment w)) i _
+    (serial-sound s.numbers.chunk (image_at s i) (moment w) h.thread (moment w) h.chunk.start w.devices p (whole s i limits) (has-turn p h.thread asks.going asks.turn) (k.spheres i held.sphere) held.start k.devices)
+
+-- ---- every change
+
+-- a chunk that is sound in its sphere's memory
+in-own : (s : Setup) (ch : Chunk) (i : ℕ) → IsSoundIn s.numbers.buffer (size_of s i) i ch → IsSoundChunk s.numbers.buffer (size_of s ch.sphere) ch
+in-own s ch i k = subst (λ (n : ℕ). IsSoundChunk s.numbers.buffer (size_of s n) ch) (sym k.sphere) k.sound
+
+sound-keeps : (s : Setup) → IsWithinLimits s → Keeps s.numbers (sound s)
+sound-keeps s limits =
+    record {
+      later = λ now i p k. as-role s.numbers.chunk (image_at s i) now p.role p k.role k;
+      stepped = λ now c p slots h sphere opened k.
+          in-own s (step s.numbers.buffer p.memory slots c h.chunk).chunk h.chunk.sphere
+          (step-sound s.numbers.buffer (size_of s h.chunk.sphere) h.chunk.sphere p.memory slots c h.chunk sphere.size (record { sphere = refl; sound = k }));
+      cut = λ h k. in-own s (cut h.chunk).chunk h.chunk.sphere (cut-sound s.numbers.buffer (size_of s h.chunk.sphere) h.chunk.sphere h.chunk (record { sphere = refl; sound = k }));
+      squashed = λ h k. squash-sound s.numbers.buffer (size_of s h.chunk.sphere) h.chunk k;
+      afresh = λ now i k p t sphere is live.
+          fresh-sound s.numbers.buffer (size_of s i) s.numbers.signature i t (limit_of s.numbers.chunk p.role k t) (halves p.role)
+          (limit-most s.numbers.chunk (position p.progress) p.threads p.role k t limits.chunk.1 sphere.role) (sphere.threads k t is).thread;
+      told = λ f c k. k;
+      drained = λ now f w ws p e words k. drained-both s now f w ws p e words k;
+      chunk = λ w c h how numbers asks k. sound-chunk s w c h how asks k;
+      serial = λ w c h how asks k. sound-serial s w c h how limits asks k;
+      dma = λ w i v t k.
+          landed s (suc (moment w)) i v
+          (dma-moved-sound s.numbers.chunk (image_at s i) (moment w) w.devices (sphere_at w i) v (whole s i limits) (dma-has-turn (sphere_at w i) t.going t.turn) (k.spheres i t.within) k.devices t.is);
+      raised = λ now i k value t p r sphere. raised-sound s.numbers.chunk (image_at s i) now k value t p r.role r.is sphere;
+    }
+
+-- ---- an event
+
+holds-of : (s : Setup) (w : World) → IsSound s w → Holds (sound s) (moment w) w
+holds-of s w k = record { spheres = k.spheres; flights = k.flights; held = k.held; devices = k.devices }
+
+counted-moment : (w : World) (a : After) → a.world.counts ≡ w.counts → moment (kept a) ≡ suc (moment w)
+counted-moment w a e = let h = ap (λ (n : Counts). n.events) e in omega (arith, h)
+
+same-sizes : (s : Setup) (w v : World) → AreSizesKept s w → SameSizes w v → AreSizesKept s v
+same-sizes s w v k h = record { numbers = h.numbers ∙ k.numbers; spheres = h.spheres ∙ k.spheres; cores = h.cores ∙ k.cores; slots = h.slots ∙ k.slots }
+
+-- one reply more is counted of one event more
+counted-replies : (counts : Counts) (name : ReplyName) → ((k : ℕ) → slice_index counts.replies k ≤ counts.events) → (k : ℕ) → slice_index (counted counts name).replies k ≤ counts.events + 1
+counted-replies counts name few k =
+    let j = place name in
+    let n = count_of counts name + 1 in
+    let most : n ≤ counts.events + 1 = (let l = few j in omega (arith, l)) in
+    let old = few k in
+    elim (cases_eq k j) [
+      | inl e ↦ elim (cases_lt j (length counts.replies)) [
+        | inl l ↦ (let q = ap (slice_index (set counts.replies j n)) e ∙ get_or-set_same counts.replies j n 0 l in omega (arith, q, most))
+        | inr past ↦ (let q = get_or_past (set counts.replies j n) k 0 (let h = length-set counts.replies j n in omega arith) in omega (arith, q))
+      ]
+      | inr ne ↦ (let q = get_or-set_other counts.replies j k n 0 ne in omega (arith, q, old))
+    ]
+
+kept-replies : (w : World) (a : After) → a.world.counts ≡ w.counts → ((k : ℕ) → slice_index w.counts.replies k ≤ moment w) → (k : ℕ) → slice_index (kept a).counts.replies k ≤ moment (kept a)
+kept-replies w a e few =
+    counted-replies a.world.counts (name_of a.reply) (subst (λ (c : Counts). (k : ℕ) → slice_index c.replies k ≤ c.events) (sym e) few)
+
+no-replies : (n k : ℕ) → slice_index (replicate n 0) k ≡ 0
+no-replies zero k = refl
+no-replies (suc n) zero = refl
+no-replies (suc n) (suc k) = no-replies n k
+
+counted-sound : (s : Setup) (w : World) (a : After) → AreSizesKept s (kept a) → ((k : ℕ) → slice_index (kept a).counts.replies k ≤ moment (kept a)) → moment (kept a) ≡ suc (moment w) → Holds (sound s) (suc (moment w)) a.world → IsSound s (kept a)
+counted-sound s w a sizes replies e k =
+    record {
+      sizes = sizes;
+      devices = k.devices;
+      replies = replies;
+      spheres = λ i l. subst (λ (n : ℕ). IsSoundSphere s.numbers.chunk (image_at s i) n (sphere_at a.world i)) (sym e) (k.spheres i l);
+      flights = k.flights;
+      held = k.held;
+    }
+
+pub happens-sound : EventsKeepSound
+unfolding happens
+happens-sound s w e limits good k =
+    let a = act w e in
+    let keeps : Keeps w.numbers (sound s) = subst (λ (z : Numbers). Keeps z (sound s)) (sym k.sizes.numbers) (sound-keeps s limits) in
+    counted-sound s w a (same-sizes s w (happens w e).world k.sizes (happens-kept w e good).sizes) (kept-replies w a (act-untold w e).counts k.replies) (counted-moment w a (act-untold w e).counts)
+    (act-holds (sound s) w e keeps good (holds-of s w k))
+
+-- ---- the start
+
+first-thread : (entry k : ℕ) (t : Parts) → entry % 4 ≡ 0 → slice_get (started entry ∷ []) k ≡ Some t → IsSoundThread 0 t
+first-thread entry zero t aligned e =
+    subst (IsSoundThread 0) (let q : started entry ≡ t = cc in q) (record { thread = started-thread entry aligned; few = omega arith })
+first-thread entry (suc k) t aligned e = absurd (none-some t e)
+
+first-role : (s entry : ℕ) (r : RoleSetup) → IsRole r → let threads = started entry ∷ [] in IsSoundRole s 0 threads (role_of s threads r)
+first-role s entry IsPlain is = tt
+first-role s entry (IsRecorded mode) is = record { size = refl; count = refl; interrupts = fresh-none (started entry ∷ []) }
+first-role s entry (IsReplayed log) is =
+    turned-sound log no_progress nothing_used (started entry ∷ []) is (omega arith) (done-none log.mode log.order (started entry) refl) (omega arith) (omega arith)
+    (sym (none-due_first (started entry) log.interrupts refl))
+
+first-sphere : (s : ℕ) (image : SphereSetup) → IsImage image → IsSoundSphere s image 0 (sphere_of s image)
+first-sphere s image is =
+    record {
+      size = refl;
+      bytes = is.bytes;
+      request = tt;
+      some = omega arith;
+      few = omega arith;
+      threads = λ k t e. first-thread image.entry k t is.aligned e;
+      commits = omega arith;
+      role = first-role s image.entry image.role is.role;
+    }
+
+first-spheres : (s : ℕ) (ds : List SphereSetup) (i : ℕ) → ((d : SphereSetup) → slice_get ds i ≡ Some d → IsImage d) → i < length ds → IsSoundSphere s (get_or ds i no_image) 0 (get_or (map (sphere_of s) ds) i no_sphere)
+first-spheres s [] i each l = absurd (omega arith)
+first-spheres s (d ∷ ds) zero each l = first-sphere s d (each d refl)
+first-spheres s (d ∷ ds) (suc i) each l = first-spheres s ds i each (omega (arith, l))
+
+pub setup-within : (s : Setup) → IsWithinLimits s → IsSetup s
+setup-within s limits =
+    record { chunk = (let l = limits.chunk.0 in omega (arith, l)); buffer = (let l = limits.buffer in omega (arith, l)) }
+
+start-held : (s : Setup) (c : ℕ) (h : Held) → IsWithinLimits s → ((i : ℕ) → i < length (world_of s).spheres → IsSoundSphere s.numbers.chunk (image_at s i) 0 (sphere_at (world_of s) i)) → at (world_of s).cores c ≡ Some h → IsSoundChunk s.numbers.buffer (size_of s h.chunk.sphere) h.chunk
+start-held s c h limits spheres e =
+    let ps = (world_of s).spheres in
+    let r = first_held s.numbers 0 s.cores c ps h e in
+    let k : 0 + c ≡ c = omega arith in
+    afresh-property (sound s) s.numbers 0 (0 + c) 0 (get_or ps c no_sphere) (slice_get (get_or ps c no_sphere).threads 0) (sound-keeps s limits)
+    (subst (λ (j : ℕ). IsSoundSphere s.numbers.chunk (image_at s j) 0 (get_or ps c no_sphere)) (sym k) (spheres c r.0)) refl h r.1
+
+start-sound : (s : Setup) → IsWithinLimits s → IsSound s (world_of s)
+start-sound s limits =
+    let spheres : (i : ℕ) → i < length (world_of s).spheres → IsSoundSphere s.numbers.chunk (image_at s i) 0 (sphere_at (world_of s) i) =
+    (λ i l. first-spheres s.numbers.chunk s.spheres i (limits.images i) (let q = length-map s.spheres (sphere_of s.numbers.chunk) in omega (arith, l, q)))
+    in
+    record {
+      sizes = sizes_kept s [] (setup-within s limits);
+      devices = start-bytes s.input s.seed (bytes-all s.input limits.input);
+      replies = λ k. let e = no-replies 33 k in omega (arith, e);
+      spheres = spheres;
+      flights = λ k f e. absurd (free_slots s.window k f e);
+      held = λ c h e. start-held s c h limits spheres e;
+    }
+
+-- ---- schedules
+
+after-sound : (s : Setup) (w : World) (es : List Event) → IsWithinLimits s → IsGood w → IsSound s w → IsSound s (world_after w es)
+after-sound s w [] limits good k = k
+after-sound s w (e ∷ es) limits good k =
+    after-sound s (happens w e).world es limits (happens-kept w e good).good (happens-sound s w e limits good k)
+
+pub worlds_sound : WorldsAreSound
+worlds_sound s es limits = after-sound s (world_of s) es limits (start-good s (setup-within s limits)) (start-sound s limits)
