@@ -11,11 +11,11 @@ use Rattle.spec_protocol.specs.Finishing.{next, Finishes}
 use Rattle.spec_protocol.proofs.Points.Counts.{act-untold}
 use Rattle.spec_finishing.specs.Ending.{OfReplay, OfReplays, IsFinished, Ends}
 use Rattle.spec_finishing.specs.Function.{most_events, finishing_of}
-use Rattle.spec_finishing.proofs.Function.{function_finishes}
-use Rattle.spec_finishing.proofs.Knowing.{after-event}
-use Rattle.spec_finishing.proofs.NextOfAll.{next-none}
-use Rattle.spec_finishing.proofs.Played.{replays_finished}
-use Rattle.spec_finishing.proofs.ShortRuns.{setups_finish, runs_short}
+use Rattle.spec_finishing.proofs.Ending.Function.{function_finishes}
+use Rattle.spec_finishing.proofs.Ending.Knowing.{after-event}
+use Rattle.spec_finishing.proofs.Next.All.{next-none}
+use Rattle.spec_finishing.proofs.Ending.Played.{replays_finished}
+use Rattle.spec_finishing.proofs.Ending.ShortRuns.{setups_finish, runs_short}
 use Rattle.dl_machine.specs.Events.{wants_memory}
 use Rattle.dl_machine.specs.Ready.{HasRoom}
 use Rattle.dl_machine.specs.Runs.{IsRun}

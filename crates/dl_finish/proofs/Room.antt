@@ -20,8 +20,8 @@ use Rattle.spec_protocol.proofs.Invariants.Kept.{shown-get}
 use Rattle.spec_protocol.proofs.Moves.Granted.{get-set_other}
 use Rattle.spec_protocol.proofs.Invariants.Schedules.{happens-kept, start-good, after-good, sizes_kept}
 use Rattle.spec_finishing.specs.Ending.{OfReplay}
-use Rattle.spec_finishing.proofs.Knowing.{after-event, kinds_after, there_is}
-use Rattle.spec_finishing.proofs.KindsKept.{is_replayed, kind-at}
+use Rattle.spec_finishing.proofs.Ending.Knowing.{after-event, kinds_after, there_is}
+use Rattle.spec_finishing.proofs.Ending.KindsKept.{is_replayed, kind-at}
 use Rattle.dl_machine.specs.Ready.{HasRoom}
 
 -- ---- a move leaves the other spheres

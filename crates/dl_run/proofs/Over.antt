@@ -25,10 +25,10 @@ use Rattle.spec_protocol.specs.Promises.{IsSetup, after}
 use Rattle.spec_protocol.specs.Sound.{no_image, image_at}
 use Rattle.spec_finishing.specs.Ending.{IsAtEnd, OfReplays}
 use Rattle.spec_finishing.specs.Function.{finished, finishing_of, most_events}
-use Rattle.spec_finishing.proofs.Function.{function_finishes}
-use Rattle.spec_finishing.proofs.Knowing.{after-event}
-use Rattle.spec_finishing.proofs.KindsKept.{is_replayed}
-use Rattle.spec_finishing.proofs.ShortRuns.{setups_finish}
+use Rattle.spec_finishing.proofs.Ending.Function.{function_finishes}
+use Rattle.spec_finishing.proofs.Ending.Knowing.{after-event}
+use Rattle.spec_finishing.proofs.Ending.KindsKept.{is_replayed}
+use Rattle.spec_finishing.proofs.Ending.ShortRuns.{setups_finish}
 use Rattle.spec_run.specs.Runs.{executed, played, end_of, diverges, diverges_as, has_diverged}
 use Rattle.spec_run.specs.Texts.{account_text, console_text, line_as, line_of_end, lines_from, lines_of, log_as, log_told, log_text, report_text, summary_text}
 use Rattle.spec_run.specs.Promise.{end_as, account_held, HasRole, IsTold}

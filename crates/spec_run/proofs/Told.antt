@@ -29,12 +29,12 @@ use Rattle.spec_protocol.proofs.Points.Serial.{commits_are}
 use Rattle.spec_protocol.proofs.Points.Logs.{logs_are, logs_are_fresh}
 use Rattle.spec_protocol.proofs.PlayingBack.All.{logs_play_back}
 use Rattle.spec_protocol.proofs.Invariants.Schedules.{sizes_kept}
-use Rattle.spec_finishing.proofs.Function.{function_finishes}
-use Rattle.spec_finishing.proofs.KindsKept.{is_replayed, AreOfKinds, kind-at}
-use Rattle.spec_finishing.proofs.Knowing.{within, there_is, kinds_after}
-use Rattle.spec_finishing.proofs.NextOfAll.{next-stands}
-use Rattle.spec_finishing.proofs.Played.{replays_finished}
-use Rattle.spec_finishing.proofs.Turns.{shown-itself}
+use Rattle.spec_finishing.proofs.Ending.Function.{function_finishes}
+use Rattle.spec_finishing.proofs.Ending.KindsKept.{is_replayed, AreOfKinds, kind-at}
+use Rattle.spec_finishing.proofs.Ending.Knowing.{within, there_is, kinds_after}
+use Rattle.spec_finishing.proofs.Next.All.{next-stands}
+use Rattle.spec_finishing.proofs.Ending.Played.{replays_finished}
+use Rattle.spec_finishing.proofs.Next.Turns.{shown-itself}
 use Rattle.spec_run.specs.Runs.{executed, played, end_of}
 use Rattle.spec_run.specs.Texts.{account_as, executed_account, log_told, played_account}
 use Rattle.spec_run.specs.Promise.{end_as, account_held, HasRole, SpheresAreTold, RunsAreTold, RecordingsAreReproduced}

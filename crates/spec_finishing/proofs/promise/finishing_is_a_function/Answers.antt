@@ -1,4 +1,4 @@
-use Rattle.spec_finishing.proofs.Function.{function_finishes}
+use Rattle.spec_finishing.proofs.Ending.Function.{function_finishes}
 use Rattle.spec_finishing.proofs.promise.finishing_is_a_function.Goals as goal
 
 pub returns : goal.returns

@@ -1,4 +1,4 @@
-use Rattle.spec_finishing.proofs.ShortRuns.{setups_finish}
+use Rattle.spec_finishing.proofs.Ending.ShortRuns.{setups_finish}
 use Rattle.spec_finishing.proofs.promise.setups_can_finish.Goals as goal
 
 pub returns : goal.returns

@@ -18,10 +18,10 @@ use Rattle.spec_protocol.specs.Transferring.{dma_move, dma_done, transfer, dma_w
 use Rattle.spec_protocol.specs.Machine.{Setup}
 use Rattle.spec_protocol.specs.Finishing.{standing}
 use Rattle.spec_finishing.specs.Ending.{is_done}
-use Rattle.spec_finishing.proofs.PayingMoves.{what_more}
-use Rattle.spec_finishing.proofs.Turns.{no-flight, HasActor}
-use Rattle.spec_finishing.proofs.UnderWay.{OnCore}
-use Rattle.spec_finishing.proofs.StepRises.{none_found}
+use Rattle.spec_finishing.proofs.Paying.Moves.{what_more}
+use Rattle.spec_finishing.proofs.Next.Turns.{no-flight, HasActor}
+use Rattle.spec_finishing.proofs.Next.UnderWay.{OnCore}
+use Rattle.spec_finishing.proofs.Next.StepRises.{none_found}
 
 -- the event is done, and has a move in sphere i, which pays for n events and three
 pub record Commits (i n : ℕ) (a : After) : Type 0 where

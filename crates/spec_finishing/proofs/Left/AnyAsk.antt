@@ -23,9 +23,9 @@ use Rattle.spec_protocol.proofs.Moves.Granted.{chunk-stores}
 use Rattle.spec_protocol.proofs.Moves.AnyMemory.{over, relaid, dma-relaid}
 use Rattle.spec_protocol.proofs.Invariants.Asks.{shown_at, shown_over}
 use Rattle.spec_protocol.proofs.Invariants.Cores.{branch}
-use Rattle.spec_finishing.proofs.Slots.{flown-most}
-use Rattle.spec_finishing.proofs.PayingMoves.{serial_most, dma_most, what_most, sphere_most, move_most}
-use Rattle.spec_finishing.proofs.AnyEvent.{Flies, still_flies}
+use Rattle.spec_finishing.proofs.Left.Slots.{flown-most}
+use Rattle.spec_finishing.proofs.Paying.Moves.{serial_most, dma_most, what_most, sphere_most, move_most}
+use Rattle.spec_finishing.proofs.Left.AnyEvent.{Flies, still_flies}
 
 -- ---- the move's most, where the sphere is known
 

@@ -16,9 +16,9 @@ use Rattle.spec_protocol.specs.Promises.{IsSetup, after, AreSizesKept}
 use Rattle.spec_protocol.proofs.Invariants.Schedules.{start-good, after-good, sizes_kept, moves_are}
 use Rattle.spec_replay.specs.Promises.{ReplaysArePlays}
 use Rattle.spec_finishing.specs.Ending.{CanFinish}
-use Rattle.spec_finishing.proofs.GoingOn.{GoesOn, goes-on}
-use Rattle.spec_finishing.proofs.KindsKept.{is_replayed, AreOfKinds, kind-at, start-kinds, moves-kinds}
-use Rattle.spec_finishing.proofs.Standing.{Stands}
+use Rattle.spec_finishing.proofs.Paying.GoingOn.{GoesOn, goes-on}
+use Rattle.spec_finishing.proofs.Ending.KindsKept.{is_replayed, AreOfKinds, kind-at, start-kinds, moves-kinds}
+use Rattle.spec_finishing.proofs.Paying.Standing.{Stands}
 use Rattle.spec_protocol.proofs.Points.Serial.{shown_length}
 
 pub record Known (s : Setup) (w : World) : Type 0 where

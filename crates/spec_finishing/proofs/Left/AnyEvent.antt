@@ -16,8 +16,8 @@ use Rattle.spec_protocol.specs.Flying.{draining, delivering, retiring}
 use Rattle.spec_protocol.specs.Placing.{replays, unless_elsewhere, place_thread, placing, with_renewed, raise_in, raise_thread, raising}
 use Rattle.spec_protocol.proofs.Invariants.Cores.{branch}
 use Rattle.spec_finishing.specs.Rest.{flights_rest}
-use Rattle.spec_finishing.proofs.Flying.{drain-most, deliver-most, retire-most}
-use Rattle.spec_finishing.proofs.PayingMoves.{move_most}
+use Rattle.spec_finishing.proofs.Left.Flying.{drain-most, deliver-most, retire-most}
+use Rattle.spec_finishing.proofs.Paying.Moves.{move_most}
 
 abbrev pub if_most : (c : ℕ) → Whole → Option Move → ℕ
 if_most c x None = 0

@@ -22,10 +22,10 @@ use Rattle.spec_protocol.specs.Serial.{laid}
 use Rattle.spec_protocol.specs.Moves.{SerialFits, DmaFits}
 use Rattle.spec_finishing.specs.Work.{stored, dma_stored, thread_work, turn_work, now_work, commit_work}
 use Rattle.spec_finishing.specs.Rest.{replay_left, price}
-use Rattle.spec_finishing.proofs.Left.{left-over, left-turned, words-paid, whole-pays}
-use Rattle.spec_finishing.proofs.GoingOn.{play_of, GoesOn, HasRun, has-run, is-whole, thread-now}
-use Rattle.spec_finishing.proofs.Rows.{sphere_rest}
-use Rattle.spec_finishing.proofs.Paying.{next_work, behind, rest-before, verdict-pays}
+use Rattle.spec_finishing.proofs.Paying.Plays.{left-over, left-turned, words-paid, whole-pays}
+use Rattle.spec_finishing.proofs.Paying.GoingOn.{play_of, GoesOn, HasRun, has-run, is-whole, thread-now}
+use Rattle.spec_finishing.proofs.Left.Rows.{sphere_rest}
+use Rattle.spec_finishing.proofs.Paying.Commits.{next_work, behind, rest-before, verdict-pays}
 use Rattle.spec_replay.proofs.Moved.{turn_of_thread, turn_of_dma}
 use Rattle.spec_replay.proofs.Standing.{set_here}
 

@@ -14,9 +14,9 @@ use Rattle.spec_protocol.specs.Machine.{SphereSetup, Setup}
 use Rattle.spec_protocol.specs.Shown.{flying, shown, shown_from, shown_of}
 use Rattle.spec_protocol.specs.Finishing.{Who, who_in, who_of, least, standing}
 use Rattle.spec_finishing.specs.Ending.{IsAtEnd}
-use Rattle.spec_finishing.proofs.GoingOn.{GoesOn}
-use Rattle.spec_finishing.proofs.AnyAsk.{nothing_flies}
-use Rattle.spec_finishing.proofs.Knowing.{Known}
+use Rattle.spec_finishing.proofs.Paying.GoingOn.{GoesOn}
+use Rattle.spec_finishing.proofs.Left.AnyAsk.{nothing_flies}
+use Rattle.spec_finishing.proofs.Ending.Knowing.{Known}
 
 -- ---- the least replay that goes on
 

@@ -14,12 +14,12 @@ use Rattle.spec_protocol.proofs.Invariants.Kept.{Kept}
 use Rattle.spec_protocol.proofs.Invariants.Schedules.{happens-kept}
 use Rattle.spec_finishing.specs.Work.{move_work}
 use Rattle.spec_finishing.specs.Rest.{spheres_rest, price, potential}
-use Rattle.spec_finishing.proofs.Rows.{spheres-shown}
-use Rattle.spec_finishing.proofs.PayingMoves.{what_more}
-use Rattle.spec_finishing.proofs.Standing.{Stands, move-pays, move-pays_more}
-use Rattle.spec_finishing.proofs.Knowing.{Known}
-use Rattle.spec_finishing.proofs.AnyEvent.{if_most, Flies, step-flies, cut-flies, drain-flies, deliver-flies, retire-flies, place-flies, raise-flies}
-use Rattle.spec_finishing.proofs.AnyAsk.{ask-flies, dma-flies}
+use Rattle.spec_finishing.proofs.Left.Rows.{spheres-shown}
+use Rattle.spec_finishing.proofs.Paying.Moves.{what_more}
+use Rattle.spec_finishing.proofs.Paying.Standing.{Stands, move-pays, move-pays_more}
+use Rattle.spec_finishing.proofs.Ending.Knowing.{Known}
+use Rattle.spec_finishing.proofs.Left.AnyEvent.{if_most, Flies, step-flies, cut-flies, drain-flies, deliver-flies, retire-flies, place-flies, raise-flies}
+use Rattle.spec_finishing.proofs.Left.AnyAsk.{ask-flies, dma-flies}
 
 -- ---- flights
 

@@ -10,7 +10,7 @@ use Rattle.spec_protocol.specs.Flying.{drain_slot, draining, reads_of, writes_of
 use Rattle.spec_protocol.proofs.Memory.Slots.{at_within}
 use Rattle.spec_protocol.proofs.Invariants.Cores.{branch}
 use Rattle.spec_finishing.specs.Rest.{flight_rest, flights_rest}
-use Rattle.spec_finishing.proofs.Slots.{flights-set, untold-less}
+use Rattle.spec_finishing.proofs.Left.Slots.{flights-set, untold-less}
 
 -- ---- no more
 

@@ -23,12 +23,12 @@ use Rattle.spec_protocol.proofs.Invariants.Cores.{branch}
 use Rattle.spec_protocol.proofs.Invariants.Schedules.{happens-kept}
 use Rattle.spec_finishing.specs.Rest.{spheres_rest, potential, held_under_way, core_under_way, actor_under_way, under_way, rest}
 use Rattle.spec_finishing.specs.Ending.{is_done, OfReplay}
-use Rattle.spec_finishing.proofs.FlyingNext.{FlightFalls, drain-falls, deliver-falls, untold-core, retire-falls}
-use Rattle.spec_finishing.proofs.Rows.{spheres-shown}
-use Rattle.spec_finishing.proofs.Knowing.{Known}
-use Rattle.spec_finishing.proofs.Turns.{HasActor, has-actor}
-use Rattle.spec_finishing.proofs.UnderWay.{under_way-most, under_way-flight, under_way-actor}
-use Rattle.spec_finishing.proofs.NextCores.{Rose, place-rose}
+use Rattle.spec_finishing.proofs.Next.Flights.{FlightFalls, drain-falls, deliver-falls, untold-core, retire-falls}
+use Rattle.spec_finishing.proofs.Left.Rows.{spheres-shown}
+use Rattle.spec_finishing.proofs.Ending.Knowing.{Known}
+use Rattle.spec_finishing.proofs.Next.Turns.{HasActor, has-actor}
+use Rattle.spec_finishing.proofs.Next.UnderWay.{under_way-most, under_way-flight, under_way-actor}
+use Rattle.spec_finishing.proofs.Next.Cores.{Rose, place-rose}
 
 -- ---- what is shown
 

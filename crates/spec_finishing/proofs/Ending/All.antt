@@ -10,11 +10,11 @@ use Rattle.spec_replay.specs.Promises.{ReplaysArePlays}
 use Rattle.spec_replay.proofs.Replays.{replays_follow}
 use Rattle.spec_finishing.specs.Rest.{rest}
 use Rattle.spec_finishing.specs.Ending.{Falls, OfReplays, IsFinished, CanFinish, FinishingEnds}
-use Rattle.spec_finishing.proofs.Knowing.{Known, known-after, after-event}
-use Rattle.spec_finishing.proofs.Bounding.{potential-bounded}
-use Rattle.spec_finishing.proofs.UnderWay.{under_way-most}
-use Rattle.spec_finishing.proofs.NextEvents.{Lowers}
-use Rattle.spec_finishing.proofs.NextOfAll.{Goes, next-falls, next-none}
+use Rattle.spec_finishing.proofs.Ending.Knowing.{Known, known-after, after-event}
+use Rattle.spec_finishing.proofs.Ending.Bounding.{potential-bounded}
+use Rattle.spec_finishing.proofs.Next.UnderWay.{under_way-most}
+use Rattle.spec_finishing.proofs.Next.Events.{Lowers}
+use Rattle.spec_finishing.proofs.Next.All.{Goes, next-falls, next-none}
 
 -- at most one list of events finishes a world
 finishing_one : (w : World) (es fs : List Event) → Finishes w es → Finishes w fs → es ≡ fs

@@ -13,8 +13,8 @@ use Rattle.spec_protocol.specs.Finishing.{untold}
 use Rattle.spec_protocol.proofs.Memory.Slots.{at_within}
 use Rattle.spec_finishing.specs.Rest.{flight_rest, flights_rest}
 use Rattle.spec_finishing.specs.Ending.{is_done as is_good}
-use Rattle.spec_finishing.proofs.Slots.{flights-set, untold-tell}
-use Rattle.spec_finishing.proofs.Flying.{told_world}
+use Rattle.spec_finishing.proofs.Left.Slots.{flights-set, untold-tell}
+use Rattle.spec_finishing.proofs.Left.Flying.{told_world}
 
 pub record FlightFalls (c : ℕ) (w : World) (a : After) : Type 0 where
   pub done : is_good a.reply ≡ true

@@ -13,9 +13,9 @@ use Rattle.spec_protocol.specs.Serial.{Whole}
 use Rattle.spec_protocol.specs.Moves.{do_what, do_at, do_move, FitsWhat, FitsAt, Fits}
 use Rattle.spec_finishing.specs.Work.{what_work, role_work, sphere_work, move_work}
 use Rattle.spec_finishing.specs.Rest.{price, spheres_rest}
-use Rattle.spec_finishing.proofs.GoingOn.{GoesOn}
-use Rattle.spec_finishing.proofs.PayingSerial.{dma-pays}
-use Rattle.spec_finishing.proofs.PayingMoves.{what_most, sphere_most, move_most, what_more, what_own, chunk_paid, serial_paid, dma_paid}
+use Rattle.spec_finishing.proofs.Paying.GoingOn.{GoesOn}
+use Rattle.spec_finishing.proofs.Paying.Serial.{dma-pays}
+use Rattle.spec_finishing.proofs.Paying.Moves.{what_most, sphere_most, move_most, what_more, what_own, chunk_paid, serial_paid, dma_paid}
 use Rattle.spec_protocol.proofs.Replays.Pieces.{no_raise}
 
 -- every sphere has its image, and every replay that goes on stands beside its play

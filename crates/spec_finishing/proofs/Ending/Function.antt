@@ -7,7 +7,7 @@ use Rattle.spec_protocol.specs.Finishing.{Finishes}
 use Rattle.spec_protocol.specs.Promises.{after}
 use Rattle.spec_finishing.specs.Ending.{Ends}
 use Rattle.spec_finishing.specs.Function.{finishing, FinishingIsAFunction}
-use Rattle.spec_finishing.proofs.FinishingAll.{finishing_all}
+use Rattle.spec_finishing.proofs.Ending.All.{finishing_all}
 
 abbrev then_finishing : (fuel : ℕ) → World → Option Event → List Event
 then_finishing n w o = elim o [ None ↦ [] | Some e ↦ e ∷ finishing n (happens w e).world ]

@@ -19,16 +19,16 @@ use Rattle.spec_protocol.specs.Invariants.{Closes, current}
 use Rattle.spec_protocol.specs.Currency.{IsCurrent}
 use Rattle.spec_protocol.specs.Finishing.{Who, least, standing}
 use Rattle.spec_finishing.specs.Rest.{spheres_rest, potential, held_under_way, core_under_way, actor_under_way, who_under_way, standing_under_way, under_way}
-use Rattle.spec_finishing.proofs.Slots.{one_at_most}
-use Rattle.spec_finishing.proofs.Pricing.{price-least}
-use Rattle.spec_finishing.proofs.Affording.{Afforded}
-use Rattle.spec_finishing.proofs.Left.{paid, afford-paid}
-use Rattle.spec_finishing.proofs.GoingOn.{has-run, part-afforded}
-use Rattle.spec_finishing.proofs.Rows.{sphere-least}
-use Rattle.spec_finishing.proofs.Paying.{next_work, behind, rest-before}
-use Rattle.spec_finishing.proofs.AnyAsk.{nothing_flies}
-use Rattle.spec_finishing.proofs.Knowing.{Known}
-use Rattle.spec_finishing.proofs.Turns.{no-flight, HasActor, has-actor, turn-of}
+use Rattle.spec_finishing.proofs.Left.Slots.{one_at_most}
+use Rattle.spec_finishing.proofs.Left.Pricing.{price-least}
+use Rattle.spec_finishing.proofs.Paying.Affording.{Afforded}
+use Rattle.spec_finishing.proofs.Paying.Plays.{paid, afford-paid}
+use Rattle.spec_finishing.proofs.Paying.GoingOn.{has-run, part-afforded}
+use Rattle.spec_finishing.proofs.Left.Rows.{sphere-least}
+use Rattle.spec_finishing.proofs.Paying.Commits.{next_work, behind, rest-before}
+use Rattle.spec_finishing.proofs.Left.AnyAsk.{nothing_flies}
+use Rattle.spec_finishing.proofs.Ending.Knowing.{Known}
+use Rattle.spec_finishing.proofs.Next.Turns.{no-flight, HasActor, has-actor, turn-of}
 
 -- ---- a running chunk
 

@@ -20,11 +20,11 @@ use Rattle.spec_protocol.specs.Finishing.{standing}
 use Rattle.spec_protocol.proofs.Memory.Slots.{at-set_same, at-set_other, at_within}
 use Rattle.spec_finishing.specs.Rest.{held_under_way}
 use Rattle.spec_finishing.specs.Ending.{is_done}
-use Rattle.spec_finishing.proofs.Runs.{run-status}
-use Rattle.spec_finishing.proofs.GoingOn.{play_of, has-run, thread-now}
-use Rattle.spec_finishing.proofs.Turns.{no-flight, HasActor, turn-of}
-use Rattle.spec_finishing.proofs.UnderWay.{OnCore}
-use Rattle.spec_finishing.proofs.StepRises.{step-rises}
+use Rattle.spec_finishing.proofs.Paying.Runs.{run-status}
+use Rattle.spec_finishing.proofs.Paying.GoingOn.{play_of, has-run, thread-now}
+use Rattle.spec_finishing.proofs.Next.Turns.{no-flight, HasActor, turn-of}
+use Rattle.spec_finishing.proofs.Next.UnderWay.{OnCore}
+use Rattle.spec_finishing.proofs.Next.StepRises.{step-rises}
 
 -- ---- the core of the thread
 

@@ -16,7 +16,7 @@ use Rattle.spec_play.specs.Plays.{Played, size_or_standard}
 use Rattle.spec_protocol.specs.Spheres.{whole_limit, pieces_of, limit_of, Book, Replay}
 use Rattle.spec_protocol.proofs.Moves.Threads.{run-keeps}
 use Rattle.spec_finishing.specs.Work.{thread_work, turn_work, now_work, commit_work}
-use Rattle.spec_finishing.proofs.Runs.{run-longer, run-joined, run-serial}
+use Rattle.spec_finishing.proofs.Paying.Runs.{run-longer, run-joined, run-serial}
 
 -- ---- the limit of a commit, and what its play runs
 

@@ -31,7 +31,7 @@ use Rattle.spec_protocol.proofs.Moves.Granted.{either_serve}
 use Rattle.spec_protocol.proofs.Sound.Words.{put-length}
 use Rattle.spec_protocol.proofs.Sound.Limits.{all-in, get-in, size-most}
 use Rattle.spec_finishing.specs.Work.{stored as words_stored, dma_stored, thread_work, turn_work, now_work, commit_work, commits_work}
-use Rattle.spec_finishing.proofs.Runs.{run-most}
+use Rattle.spec_finishing.proofs.Paying.Runs.{run-most}
 
 -- ---- copies
 

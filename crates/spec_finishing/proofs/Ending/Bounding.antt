@@ -16,10 +16,10 @@ use Rattle.spec_replay.specs.Promises.{ReplaysArePlays}
 use Rattle.spec_finishing.specs.Work.{commits_work, setup_work, plays_work, moves_work}
 use Rattle.spec_finishing.specs.Rest.{play_left, replay_left, price, role_rest, flights_rest, spheres_rest, potential}
 use Rattle.spec_finishing.specs.Ending.{work, CanFinish}
-use Rattle.spec_finishing.proofs.Pricing.{price-none, price-sum, price-least}
-use Rattle.spec_finishing.proofs.Left.{left-most}
-use Rattle.spec_finishing.proofs.Knowing.{Known, known-after, after-event}
-use Rattle.spec_finishing.proofs.Spending.{if_work, happens-spends}
+use Rattle.spec_finishing.proofs.Left.Pricing.{price-none, price-sum, price-least}
+use Rattle.spec_finishing.proofs.Paying.Plays.{left-most}
+use Rattle.spec_finishing.proofs.Ending.Knowing.{Known, known-after, after-event}
+use Rattle.spec_finishing.proofs.Left.Spending.{if_work, happens-spends}
 
 -- ---- the start
 

@@ -15,12 +15,12 @@ use Rattle.spec_protocol.specs.Serial.{Whole, laid, do_serial, do_dma, do_raise}
 use Rattle.spec_protocol.specs.Moves.{move_chunk, do_what, FitsChunk, FitsSerial}
 use Rattle.spec_finishing.specs.Work.{serial_work, dma_work, what_work}
 use Rattle.spec_finishing.specs.Rest.{price, spheres_rest}
-use Rattle.spec_finishing.proofs.Left.{paid, words-paid}
-use Rattle.spec_finishing.proofs.GoingOn.{GoesOn}
-use Rattle.spec_finishing.proofs.KindsKept.{chunk-kind, serial-kind, DmaKind, dma-kind, raised-kind}
-use Rattle.spec_finishing.proofs.Rows.{spheres-pay, sphere-live}
-use Rattle.spec_finishing.proofs.Paying.{chunk-pays}
-use Rattle.spec_finishing.proofs.PayingSerial.{serial-pays, DmaPays}
+use Rattle.spec_finishing.proofs.Paying.Plays.{paid, words-paid}
+use Rattle.spec_finishing.proofs.Paying.GoingOn.{GoesOn}
+use Rattle.spec_finishing.proofs.Ending.KindsKept.{chunk-kind, serial-kind, DmaKind, dma-kind, raised-kind}
+use Rattle.spec_finishing.proofs.Left.Rows.{spheres-pay, sphere-live}
+use Rattle.spec_finishing.proofs.Paying.Commits.{chunk-pays}
+use Rattle.spec_finishing.proofs.Paying.Serial.{serial-pays, DmaPays}
 
 -- ---- the most that a move's flight has left, with c cores
 

@@ -24,14 +24,14 @@ use Rattle.spec_protocol.proofs.Memory.Slots.{at_within}
 use Rattle.spec_protocol.proofs.Invariants.Cores.{branch}
 use Rattle.spec_finishing.specs.Rest.{held_under_way, core_under_way, actor_under_way, under_way}
 use Rattle.spec_finishing.specs.Ending.{OfReplay, IsFinished}
-use Rattle.spec_finishing.proofs.Slots.{one_unless, one_at_most}
-use Rattle.spec_finishing.proofs.Knowing.{Known}
-use Rattle.spec_finishing.proofs.Spending.{happens-less}
-use Rattle.spec_finishing.proofs.Turns.{no-flight, least-none, HasActor, has-actor}
-use Rattle.spec_finishing.proofs.UnderWay.{OnCore, on-core, under_way-actor}
-use Rattle.spec_finishing.proofs.NextCores.{StepRose, step-rose}
-use Rattle.spec_finishing.proofs.NextCommits.{Commits, ask-commits, dma-commits}
-use Rattle.spec_finishing.proofs.NextEvents.{Lowers, words_fall, rose_falls, place_act}
+use Rattle.spec_finishing.proofs.Left.Slots.{one_unless, one_at_most}
+use Rattle.spec_finishing.proofs.Ending.Knowing.{Known}
+use Rattle.spec_finishing.proofs.Left.Spending.{happens-less}
+use Rattle.spec_finishing.proofs.Next.Turns.{no-flight, least-none, HasActor, has-actor}
+use Rattle.spec_finishing.proofs.Next.UnderWay.{OnCore, on-core, under_way-actor}
+use Rattle.spec_finishing.proofs.Next.Cores.{StepRose, step-rose}
+use Rattle.spec_finishing.proofs.Next.Commits.{Commits, ask-commits, dma-commits}
+use Rattle.spec_finishing.proofs.Next.Events.{Lowers, words_fall, rose_falls, place_act}
 
 -- what is under way on the core of the thread whose turn it is
 under_way_on : (w : World) (who : Who) (k c : ℕ) (h : Held) → standing w ≡ None → least 0 w.spheres ≡ Some who → who.actor ≡ Actor.Thread k → core_of w who.sphere k ≡ Some c → at w.cores c ≡ Some h → under_way w ≡ held_under_way (Some h)

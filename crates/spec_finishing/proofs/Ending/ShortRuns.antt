@@ -40,11 +40,11 @@ use Rattle.spec_finishing.specs.Work.{setup_work, plays_work, serial_work, dma_w
 use Rattle.spec_finishing.specs.Rest.{price}
 use Rattle.spec_finishing.specs.Ending.{work}
 use Rattle.spec_finishing.specs.Function.{RunsAreShort, SetupsCanFinish}
-use Rattle.spec_finishing.proofs.Pricing.{price-least}
-use Rattle.spec_finishing.proofs.Knowing.{within, known-after, after-event}
-use Rattle.spec_finishing.proofs.Spending.{if_work}
-use Rattle.spec_finishing.proofs.Bounding.{event_work}
-use Rattle.spec_finishing.proofs.Short.{FewIf, record-few, serve-most, dma-most, commits-few}
+use Rattle.spec_finishing.proofs.Left.Pricing.{price-least}
+use Rattle.spec_finishing.proofs.Ending.Knowing.{within, known-after, after-event}
+use Rattle.spec_finishing.proofs.Left.Spending.{if_work}
+use Rattle.spec_finishing.proofs.Ending.Bounding.{event_work}
+use Rattle.spec_finishing.proofs.Ending.Short.{FewIf, record-few, serve-most, dma-most, commits-few}
 
 -- ---- plays
 

@@ -15,8 +15,8 @@ use Rattle.spec_protocol.specs.Machine.{SphereSetup}
 use Rattle.spec_protocol.proofs.Moves.Granted.{get-set_same}
 use Rattle.spec_replay.specs.Following.{IsWhole, StandsAt, Follows}
 use Rattle.spec_finishing.specs.Work.{commit_work}
-use Rattle.spec_finishing.proofs.Affording.{Afforded, afforded, part-limit}
-use Rattle.spec_finishing.proofs.Left.{plays-ahead}
+use Rattle.spec_finishing.proofs.Paying.Affording.{Afforded, afforded, part-limit}
+use Rattle.spec_finishing.proofs.Paying.Plays.{plays-ahead}
 
 -- ---- beside its play
 

@@ -13,11 +13,11 @@ use Rattle.spec_replay.proofs.Stopping.{stopped_played}
 use Rattle.spec_finishing.specs.Ending.{IsAtEnd, CanFinish}
 use Rattle.spec_finishing.specs.Finished.{HasPlayed, ReplaysAreFinished}
 use Rattle.spec_protocol.proofs.Invariants.Schedules.{sizes_kept}
-use Rattle.spec_finishing.proofs.KindsKept.{is_replayed, kind-at}
-use Rattle.spec_finishing.proofs.Knowing.{within, there_is, kinds_after}
-use Rattle.spec_finishing.proofs.Standing.{replay-role}
-use Rattle.spec_finishing.proofs.Turns.{shown-itself}
-use Rattle.spec_finishing.proofs.NextOfAll.{next-none, next-stands}
+use Rattle.spec_finishing.proofs.Ending.KindsKept.{is_replayed, kind-at}
+use Rattle.spec_finishing.proofs.Ending.Knowing.{within, there_is, kinds_after}
+use Rattle.spec_finishing.proofs.Paying.Standing.{replay-role}
+use Rattle.spec_finishing.proofs.Next.Turns.{shown-itself}
+use Rattle.spec_finishing.proofs.Next.All.{next-none, next-stands}
 
 -- the last world has no next event
 last_next : (w : World) (es : List Event) → Finishes w es → next (world_after w es) ≡ None

@@ -1,0 +1,112 @@
+-- A commit or a piece of a replay pays, with what its play has left less, for a new flight and for the events behind it.
+use Rattle.std.proofs.Common.{◌≡◌, ◌≢◌, ℕ, suc, ◌+◌, ◌-◌, ◌<◌, ◌≤◌, Bool, true, false, [], ◌∷◌, ◌++◌, Some, refl, sym, ap, ◌∙◌, subst, arith}
+use Rattle.std.specs.Prelude.{slice_get}
+use Rattle.std.proofs.lemmas.Bool.{true≢false}
+use Rattle.std.proofs.lemmas.List.{length-append}
+use Rattle.dl_entry.specs.declared.End.{End}
+use Rattle.spec_isa.specs.declared.thread.Parts.{Parts}
+use Rattle.spec_isa.specs.Runs.{Run, run}
+use Rattle.spec_kernel.specs.Devices.{Devices}
+use Rattle.spec_play.specs.Progress.{position, with_effect}
+use Rattle.spec_play.specs.Turns.{Over}
+use Rattle.spec_play.specs.Verdicts.{Verdict, Goes, Fails, chunk_verdict}
+use Rattle.spec_play.specs.Plays.{opened, with_threads}
+use Rattle.spec_engine.specs.declared.answers.How.{How}
+use Rattle.spec_protocol.specs.Spheres.{Book, Role, Replay, Sphere, is_over, limit_of}
+use Rattle.spec_protocol.specs.Commits.{turned, is_piece, joined, by_verdict, replayed_chunk, chunk_in, chunk_moved}
+use Rattle.spec_protocol.specs.Placing.{replays}
+use Rattle.spec_protocol.specs.World.{Numbers}
+use Rattle.spec_protocol.specs.Machine.{SphereSetup}
+use Rattle.spec_protocol.specs.Serial.{laid}
+use Rattle.spec_protocol.specs.Moves.{ChunkFits}
+use Rattle.spec_finishing.specs.Work.{commit_work}
+use Rattle.spec_finishing.specs.Rest.{replay_left, price}
+use Rattle.spec_finishing.proofs.Paying.Affording.{Afforded, Enough, Lone}
+use Rattle.spec_finishing.proofs.Paying.Plays.{left-over, left-going, left-step, left-turned, later, paid, afford-paid, afford-some, whole-pays, piece-pays}
+use Rattle.spec_finishing.proofs.Paying.GoingOn.{play_of, GoesOn, has-run, part-afforded}
+use Rattle.spec_finishing.proofs.Left.Rows.{sphere_rest}
+use Rattle.spec_replay.proofs.Moved.{turn_of_thread}
+
+-- ---- before and after
+
+-- the work of the next commit of the play
+abbrev pub next_work : SphereSetup → Sphere → Book → ℕ
+next_work image p b = commit_work b.log (play_of image b p)
+
+abbrev pub behind : SphereSetup → Sphere → Book → ℕ
+behind image p b = later b.log (opened b.log image.memory image.entry) (position p.progress)
+
+pub rest-before : (c : ℕ) (image : SphereSetup) (p : Sphere) (b : Book) → p.role ≡ Replay b → is_over b.now ≡ false → GoesOn image p b → sphere_rest c image p ≡ price c ((next_work image p b + behind image p b) - b.total)
+rest-before c image p b role going g =
+    (λ i. sphere_rest c image (record p { role = role i }))
+    ∙ ap (price c) (left-going image b (position p.progress) going ∙ left-step b.log (opened b.log image.memory image.entry) (position p.progress) b.total g.ahead)
+
+-- a verdict on the whole commit
+pub verdict-pays : (c : ℕ) (image : SphereSetup) (p : Sphere) (b : Book) (k : ℕ) (x : Verdict) (devices : Devices) (l : ℕ) → p.role ≡ Replay b → is_over b.now ≡ false → GoesOn image p b → suc b.total ≤ next_work image p b → l ≤ price c (next_work image p b - b.total)
+    → sphere_rest c image (laid (by_verdict b k x devices p)) + l ≤ sphere_rest c image p
+verdict-pays c image p b k (Fails why) devices l role going g some enough =
+    let before = rest-before c image p b role going g in
+    let ended : Book = record b { now = Over (End.Diverged (position p.progress) why) } in
+    let over = left-over image ended (position p.progress) refl in
+    let pays = whole-pays c (next_work image p b) b.total (behind image p b) l some enough (replay_left image ended (position p.progress)) (omega (arith, over)) in
+    omega (arith, before, pays)
+verdict-pays c image p b k (Goes e u) devices l role going g some enough =
+    let before = rest-before c image p b role going g in
+    let progress = with_effect k e p.progress in
+    let size : position progress ≡ suc (position p.progress) = (let h = length-append p.progress.commits (e.commit ∷ []) in omega (arith, h)) in
+    let after = turned b.log progress u (with_threads k e p.threads) in
+    let most = left-turned image b.log progress u (with_threads k e p.threads) (position p.progress) size in
+    let pays = whole-pays c (next_work image p b) b.total (behind image p b) l some enough (replay_left image after (position progress)) most in
+    omega (arith, before, pays)
+
+-- ---- chunks
+
+part_done : (work total n : ℕ) → Afforded work total n → total + n ≤ work
+part_done work total n (Enough l) = omega arith
+part_done work total n (Lone none few some) = omega arith
+
+-- a piece
+piece_rest : (c : ℕ) (image : SphereSetup) (p : Sphere) (b : Book) (k : ℕ) (r : Run) (n : ℕ) (devices : Devices) → p.role ≡ Replay b → is_over b.now ≡ false → GoesOn image p b → r.n ≡ n → 0 < n → Afforded (next_work image p b) b.total n
+    → sphere_rest c image (laid (replayed_chunk true b k r devices p)) + paid c n ≤ sphere_rest c image p
+piece_rest c image p b k r n devices role going g is some afford =
+    let before = rest-before c image p b role going g in
+    let part : Book = record b { total = b.total + r.n; loads = b.loads ++ r.loads } in
+    let x = opened b.log image.memory image.entry in
+    let after : price c (replay_left image part (position p.progress)) ≡ price c ((next_work image p b + behind image p b) - (b.total + n)) =
+    ap (price c) (left-going image part (position p.progress) going ∙ left-step b.log x (position p.progress) part.total g.ahead
+    ∙ ap (λ (a : ℕ). (next_work image p b + behind image p b) - (b.total + a)) is)
+    in
+    let pays = piece-pays c (next_work image p b) b.total (behind image p b) n (part_done (next_work image p b) b.total n afford) some in
+    omega (arith, before, after, pays)
+
+part_rest : (c : ℕ) (image : SphereSetup) (p : Sphere) (b : Book) (k : ℕ) (piece : Bool) (r : Run) (n : ℕ) (devices : Devices) → p.role ≡ Replay b → is_over b.now ≡ false → GoesOn image p b → r.n ≡ n → (piece ≡ true → 0 < n) → Afforded (next_work image p b) b.total n
+    → sphere_rest c image (laid (replayed_chunk piece b k r devices p)) + paid c n ≤ sphere_rest c image p
+part_rest c image p b k true r n devices role going g is some afford = piece_rest c image p b k r n devices role going g is (some refl) afford
+part_rest c image p b k false r n devices role going g is some afford =
+    verdict-pays c image p b k (chunk_verdict b.log p.progress b.used k (joined b r)) devices (paid c n) role going g (afford-some (next_work image p b) b.total n afford)
+    (afford-paid c (next_work image p b) b.total n afford)
+
+how_most : (how : How) (n limit : ℕ) → (how ≡ How.Limit → n ≡ limit) → (how ≢ How.Limit → n < limit) → n ≤ limit
+how_most How.Limit n limit full early = let e = full refl in omega (arith, e)
+how_most How.Serial n limit full early = let l = early (λ h. cc) in omega (arith, l)
+how_most How.Overflow n limit full early = let l = early (λ h. cc) in omega (arith, l)
+how_most How.Cut n limit full early = let l = early (λ h. cc) in omega (arith, l)
+
+how_some : (how : How) (n buffer : ℕ) → 0 < buffer → (how ≡ How.Cut → 0 < n) → (how ≡ How.Overflow → buffer ≤ n) → is_piece how ≡ true → 0 < n
+how_some How.Limit n buffer positive cut room e = absurd (true≢false (sym e))
+how_some How.Serial n buffer positive cut room e = absurd (true≢false (sym e))
+how_some How.Overflow n buffer positive cut room e = let l = room refl in omega (arith, l)
+how_some How.Cut n buffer positive cut room e = cut refl
+
+-- a chunk of a replay that can be done as its move says
+pub chunk-pays : (c : ℕ) (image : SphereSetup) (z : Numbers) (p : Sphere) (b : Book) (k : ℕ) (u : Parts) (how : How) (n limit : ℕ) (short : Bool) (devices : Devices) → 0 < z.buffer → p.role ≡ Replay b → is_over b.now ≡ false → GoesOn image p b
+    → slice_get p.threads k ≡ Some u → ChunkFits z p k u how n limit → sphere_rest c image (laid (chunk_moved k (is_piece how) short (run p.memory u n) devices p)) + paid c n ≤ sphere_rest c image p
+unfolding chunk_moved
+chunk-pays c image z p b k u how n limit short devices positive role going g is fits =
+    let turn = turn_of_thread p b k role fits.going fits.turn in
+    let h = has-run image p b k g turn in
+    let limited : limit ≡ limit_of z.chunk (Replay b) k u = fits.replayed (ap replays role) ∙ ap (λ (r : Role). limit_of z.chunk r k u) role in
+    let most : n ≤ limit_of z.chunk (Replay b) k u = subst (λ (l : ℕ). n ≤ l) limited (how_most how n limit fits.full fits.early) in
+    let afford = part-afforded image p b k h.0 u z.chunk n turn h.1 is fits.ran most in
+    subst (λ (r : Role). sphere_rest c image (laid (chunk_in r k (is_piece how) short (run p.memory u n) devices p)) + paid c n ≤ sphere_rest c image p) (sym role)
+    (part_rest c image p b k (is_piece how) (run p.memory u n) n devices role going g fits.ran (how_some how n z.buffer positive fits.cut fits.room) afford)

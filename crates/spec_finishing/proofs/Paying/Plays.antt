@@ -1,0 +1,138 @@
+-- What a replay has left of its play, and how a commit or a piece pays for its events.
+use Rattle.std.proofs.Common.{◌≡◌, ℕ, zero, suc, ◌+◌, ◌-◌, ◌<◌, ◌≤◌, ◌⊎◌, inl, inr, Bool, true, false, cond, List, Option, Some, None, refl, sym, ap, ◌∙◌, arith}
+use Rattle.std.specs.Prelude.{slice_get}
+use Rattle.std.proofs.lemmas.Bool.{true≢false, cases_lt, le-ltb}
+use Rattle.spec_isa.specs.declared.thread.Parts.{Parts}
+use Rattle.spec_log.specs.declared.LogParts.{LogParts}
+use Rattle.spec_play.specs.Progress.{Progress, position, Used}
+use Rattle.spec_play.specs.Turns.{Now, Turn, TurnOfDma, Over, at_end, turn_of, next_actor, has_left_over, now_at}
+use Rattle.spec_play.specs.Verdicts.{Verdict, Goes, Fails}
+use Rattle.spec_play.specs.Transfers.{DmaVerdict, DmaGoes, DmaFails, dma_verdict}
+use Rattle.spec_play.specs.Plays.{Played, opened, settled, thread_verdict, play_thread, dma_settled, play_now, play_one, plays}
+use Rattle.spec_kernel.specs.Needs.{next_kind}
+use Rattle.spec_protocol.specs.Spheres.{Book, is_over}
+use Rattle.spec_protocol.specs.Commits.{turned}
+use Rattle.spec_protocol.specs.Machine.{SphereSetup}
+use Rattle.spec_finishing.specs.Work.{commit_work, commits_work}
+use Rattle.spec_finishing.specs.Rest.{play_left, replay_left, price}
+use Rattle.spec_finishing.proofs.Left.Pricing.{price-sum, price-least, price-most}
+use Rattle.spec_finishing.proofs.Paying.Affording.{Afforded, Enough, Lone}
+
+-- ---- a play that goes on has commits before it
+
+-- its turn is the one that is looked at, or it has ended
+abbrev IsLooked : LogParts → Played → Type 0
+IsLooked log y = (y.now ≡ now_at log y.progress y.used y.threads) ⊎ (is_over y.now ≡ true)
+
+settled_looked : (log : LogParts) (y : Played) (k : ℕ) (v : Verdict) → IsLooked log (settled log y k v)
+settled_looked log y k (Goes e u) = inl refl
+settled_looked log y k (Fails why) = inr refl
+
+thread_looked : (log : LogParts) (y : Played) (k : ℕ) (o : Option Parts) → IsLooked log y → IsLooked log (play_thread log y k o)
+thread_looked log y k None looked = looked
+thread_looked log y k (Some t) looked = settled_looked log y k (thread_verdict log y k t (next_kind t y.memory))
+
+dma_looked : (log : LogParts) (y : Played) (v : DmaVerdict) → IsLooked log (dma_settled log y v)
+dma_looked log y (DmaGoes words) = inl refl
+dma_looked log y (DmaFails why) = inr refl
+
+now_looked : (log : LogParts) (y : Played) (now : Now) → IsLooked log y → IsLooked log (play_now log y now)
+now_looked log y (Over how) looked = looked
+now_looked log y TurnOfDma looked = dma_looked log y (dma_verdict log y.progress y.used)
+now_looked log y (Turn k) looked = thread_looked log y k (slice_get y.threads k) looked
+
+plays_looked : (log : LogParts) (m : List ℕ) (entry i : ℕ) → IsLooked log (plays log (opened log m entry) i)
+unfolding play_one
+plays_looked log m entry zero = inl refl
+plays_looked log m entry (suc i) = let y = plays log (opened log m entry) i in now_looked log y y.now (plays_looked log m entry i)
+
+end_over : (i : ℕ) (b : Bool) → is_over (at_end i b) ≡ true
+end_over i true = refl
+end_over i false = refl
+
+looked_ahead : (log : LogParts) (p : Progress) (u : Used) (ts : List Parts) → is_over (now_at log p u ts) ≡ false → position p < log.count
+unfolding now_at
+looked_ahead log p u ts =
+    elim (cases_lt (position p) log.count) [
+      | inl l ↦ λ e. l
+      | inr past ↦ λ e. absurd (true≢false (sym (end_over (position p) (has_left_over log u ts)) ∙ sym (ap {A = Bool} (λ b. is_over (cond b (turn_of (position p) ts (next_actor log p ts)) (at_end (position p) (has_left_over log u ts)))) (le-ltb (position p) log.count past)) ∙ e))
+    ]
+
+pub plays-ahead : (log : LogParts) (m : List ℕ) (entry i : ℕ) → let y = plays log (opened log m entry) i in is_over y.now ≡ false → position y.progress < log.count
+plays-ahead log m entry i going =
+    let y = plays log (opened log m entry) i in
+    elim (plays_looked log m entry i) [
+      | inl looked ↦ looked_ahead log y.progress y.used y.threads (ap is_over (sym looked) ∙ going)
+      | inr over ↦ absurd (true≢false (sym over ∙ going))
+    ]
+
+-- ---- what is left
+
+pub left-over : (image : SphereSetup) (b : Book) (i : ℕ) → is_over b.now ≡ true → replay_left image b i ≡ 0
+unfolding replay_left
+left-over image b i e = ap {A = Bool} (λ o. cond o 0 (play_left b.log (opened b.log image.memory image.entry) i b.total)) e
+
+pub left-going : (image : SphereSetup) (b : Book) (i : ℕ) → is_over b.now ≡ false → replay_left image b i ≡ play_left b.log (opened b.log image.memory image.entry) i b.total
+unfolding replay_left
+left-going image b i e = ap {A = Bool} (λ o. cond o 0 (play_left b.log (opened b.log image.memory image.entry) i b.total)) e
+
+less_or_none : (o : Bool) (n : ℕ) → cond o 0 n ≤ n
+less_or_none true n = omega arith
+less_or_none false n = omega arith
+
+pub left-most : (image : SphereSetup) (b : Book) (i : ℕ) → replay_left image b i ≤ play_left b.log (opened b.log image.memory image.entry) i b.total
+unfolding replay_left
+left-most image b i = less_or_none (is_over b.now) (play_left b.log (opened b.log image.memory image.entry) i b.total)
+
+-- the commits behind the next one
+abbrev pub later : LogParts → Played → ℕ → ℕ
+later log x i = commits_work log x (suc i) (log.count - suc i)
+
+pub left-step : (log : LogParts) (x : Played) (i total : ℕ) → i < log.count → play_left log x i total ≡ (commit_work log (plays log x i) + later log x i) - total
+left-step log x i total l =
+    let e : log.count - i ≡ suc (log.count - suc i) = omega arith in
+    ap (λ (n : ℕ). commits_work log x i n - total) e
+
+-- a whole commit more
+pub left-turned : (image : SphereSetup) (log : LogParts) (p : Progress) (u : Used) (ts : List Parts) (i : ℕ) → position p ≡ suc i → replay_left image (turned log p u ts) (position p) ≤ later log (opened log image.memory image.entry) i
+left-turned image log p u ts i e =
+    let x = opened log image.memory image.entry in
+    let most = left-most image (turned log p u ts) (position p) in
+    let h : commits_work log x (position p) (log.count - position p) ≡ later log x i = ap (λ (n : ℕ). commits_work log x n (log.count - n)) e in
+    omega (arith, most, h)
+
+-- ---- what is paid
+
+-- for a flight of n words that most cores are to be told of, for n instructions, and three more
+abbrev pub paid : (c n : ℕ) → ℕ
+paid c n = (n + c + 1) + (n + 3)
+
+pub afford-paid : (c work total n : ℕ) → Afforded work total n → paid c n ≤ price c (work - total)
+afford-paid c work total n (Enough l) =
+    let a = price-least c (suc n) (work - total) (omega arith) in let b = price-most c n in omega (arith, a, b)
+afford-paid c work total n (Lone none few some) =
+    let a = price-least c 1 (work - total) (omega arith) in let b = price-most c 0 in omega (arith, a, b)
+
+pub afford-some : (work total n : ℕ) → Afforded work total n → suc total ≤ work
+afford-some work total n (Enough l) = omega arith
+afford-some work total n (Lone none few some) = omega arith
+
+pub words-paid : (c n : ℕ) → (n + c + 1) + 3 ≤ price c (suc n)
+words-paid c n = let b = price-most c n in omega (arith, b)
+
+-- a whole commit pays with its work but the pieces
+pub whole-pays : (c work total after paid_ : ℕ) → suc total ≤ work → paid_ ≤ price c (work - total) → (left : ℕ) → left ≤ after → price c left + paid_ ≤ price c ((work + after) - total)
+whole-pays c work total after paid_ some enough left most =
+    let e : (work + after) - total ≡ after + (work - total) = omega arith in
+    let h = ap (price c) e ∙ price-sum c after (work - total) in
+    let l = price-least c left after most in
+    omega (arith, h, l, enough)
+
+-- a piece pays with its instructions
+pub piece-pays : (c work total after n : ℕ) → total + n ≤ work → 0 < n → price c ((work + after) - (total + n)) + paid c n ≤ price c ((work + after) - total)
+piece-pays c work total after zero l some = absurd (omega arith)
+piece-pays c work total after (suc n) l some =
+    let e : (work + after) - total ≡ ((work + after) - (total + suc n)) + suc n = omega arith in
+    let h = ap (price c) e ∙ price-sum c ((work + after) - (total + suc n)) (suc n) in
+    let b = price-most c n in
+    omega (arith, h, b)
