@@ -10,8 +10,8 @@ use Rattle.spec_protocol.specs.Promises.{after}
 use Rattle.spec_protocol.specs.Sound.{IsRole, IsWithinLimits}
 use Rattle.spec_protocol.proofs.Points.Serial.{commits_are}
 use Rattle.spec_protocol.proofs.PlayingBack.All.{logs_play_back}
-use Rattle.spec_replay.proofs.Replays.{replays_follow}
-use Rattle.spec_replay.proofs.Stopping.{stopped_played}
+use Rattle.spec_replay.proofs.Replays.All.{replays_follow}
+use Rattle.spec_replay.proofs.Replays.Stopping.{stopped_played}
 use Rattle.dl_machine.specs.Runs.{IsRun, IsSerial, IsPromised}
 use Rattle.dl_machine.proofs.Limits.{setup_within}
 

@@ -7,7 +7,7 @@ use Rattle.spec_protocol.specs.Machine.{Setup, world_of, happens, world_after}
 use Rattle.spec_protocol.specs.Finishing.{next, Finishes}
 use Rattle.spec_protocol.specs.Promises.{after}
 use Rattle.spec_replay.specs.Promises.{ReplaysArePlays}
-use Rattle.spec_replay.proofs.Replays.{replays_follow}
+use Rattle.spec_replay.proofs.Replays.All.{replays_follow}
 use Rattle.spec_finishing.specs.Rest.{rest}
 use Rattle.spec_finishing.specs.Ending.{Falls, OfReplays, IsFinished, CanFinish, FinishingEnds}
 use Rattle.spec_finishing.proofs.Ending.Knowing.{Known, known-after, after-event}

@@ -9,7 +9,7 @@ use Rattle.spec_protocol.specs.Machine.{IsReplayed, SphereSetup, Setup, world_of
 use Rattle.spec_protocol.specs.Shown.{shown_of}
 use Rattle.spec_protocol.specs.Finishing.{next, Finishes}
 use Rattle.spec_protocol.specs.Promises.{after}
-use Rattle.spec_replay.proofs.Stopping.{stopped_played}
+use Rattle.spec_replay.proofs.Replays.Stopping.{stopped_played}
 use Rattle.spec_finishing.specs.Ending.{IsAtEnd, CanFinish}
 use Rattle.spec_finishing.specs.Finished.{HasPlayed, ReplaysAreFinished}
 use Rattle.spec_protocol.proofs.Invariants.Schedules.{sizes_kept}

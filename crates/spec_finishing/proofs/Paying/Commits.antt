@@ -25,7 +25,7 @@ use Rattle.spec_finishing.proofs.Paying.Affording.{Afforded, Enough, Lone}
 use Rattle.spec_finishing.proofs.Paying.Plays.{left-over, left-going, left-step, left-turned, later, paid, afford-paid, afford-some, whole-pays, piece-pays}
 use Rattle.spec_finishing.proofs.Paying.GoingOn.{play_of, GoesOn, has-run, part-afforded}
 use Rattle.spec_finishing.proofs.Left.Rows.{sphere_rest}
-use Rattle.spec_replay.proofs.Moved.{turn_of_thread}
+use Rattle.spec_replay.proofs.Replays.Moved.{turn_of_thread}
 
 -- ---- before and after
 

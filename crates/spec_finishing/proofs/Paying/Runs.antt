@@ -12,7 +12,7 @@ use Rattle.spec_isa.specs.Runs.{Run, begun, with_store, followed, more, run}
 use Rattle.spec_isa.proofs.BufferLaws.{lays_put}
 use Rattle.spec_kernel.specs.Needs.{next_kind, fetched}
 use Rattle.spec_protocol.proofs.Memory.Running.{one-outcome, serial_outcome}
-use Rattle.spec_replay.proofs.Joining.{apart_followed}
+use Rattle.spec_replay.proofs.Commits.Joining.{apart_followed}
 
 -- ---- how many
 

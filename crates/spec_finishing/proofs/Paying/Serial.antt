@@ -26,8 +26,8 @@ use Rattle.spec_finishing.proofs.Paying.Plays.{left-over, left-turned, words-pai
 use Rattle.spec_finishing.proofs.Paying.GoingOn.{play_of, GoesOn, HasRun, has-run, is-whole, thread-now}
 use Rattle.spec_finishing.proofs.Left.Rows.{sphere_rest}
 use Rattle.spec_finishing.proofs.Paying.Commits.{next_work, behind, rest-before, verdict-pays}
-use Rattle.spec_replay.proofs.Moved.{turn_of_thread, turn_of_dma}
-use Rattle.spec_replay.proofs.Standing.{set_here}
+use Rattle.spec_replay.proofs.Replays.Moved.{turn_of_thread, turn_of_dma}
+use Rattle.spec_replay.proofs.Commits.Standing.{set_here}
 
 -- ---- serial steps
 

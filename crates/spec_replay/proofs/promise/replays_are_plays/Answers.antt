@@ -1,4 +1,4 @@
-use Rattle.spec_replay.proofs.Replays.{replays_follow}
+use Rattle.spec_replay.proofs.Replays.All.{replays_follow}
 use Rattle.spec_replay.proofs.promise.replays_are_plays.Goals as goal
 
 pub returns : goal.returns

@@ -11,8 +11,8 @@ use Rattle.spec_play.specs.Plays.{Played, opened, plays}
 use Rattle.spec_protocol.specs.Spheres.{Book, Sphere, is_over}
 use Rattle.spec_replay.specs.Following.{IsWhole, IsMovedOn, StandsAt}
 use Rattle.spec_replay.specs.Promises.{SameState, ends_between, Agree, ReplaysAgree}
-use Rattle.spec_replay.proofs.Stopping.{IsLast, IsAt, is_at, Reached, last_of, meet, end_between, whole_now}
-use Rattle.spec_replay.proofs.Replays.{replays_follow}
+use Rattle.spec_replay.proofs.Replays.Stopping.{IsLast, IsAt, is_at, Reached, last_of, meet, end_between, whole_now}
+use Rattle.spec_replay.proofs.Replays.All.{replays_follow}
 
 -- ---- states
 

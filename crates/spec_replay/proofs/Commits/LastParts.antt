@@ -25,10 +25,10 @@ use Rattle.spec_protocol.specs.Placing.{replays}
 use Rattle.spec_protocol.proofs.Moves.Threads.{run-keeps}
 use Rattle.spec_protocol.proofs.PlayingBack.Verdicts.{run-first, run-stops}
 use Rattle.spec_replay.specs.Following.{IsMovedOn}
-use Rattle.spec_replay.proofs.Standing.{limit_by, limit-is}
-use Rattle.spec_replay.proofs.Judging.{AreAlike, chunks-alike}
-use Rattle.spec_replay.proofs.Pieces.{IsPart, part-is, part-limit, piece-reaches}
-use Rattle.spec_replay.proofs.Done.{Reaches, Beside, commit-reaches}
+use Rattle.spec_replay.proofs.Commits.Standing.{limit_by, limit-is}
+use Rattle.spec_replay.proofs.Commits.Judging.{AreAlike, chunks-alike}
+use Rattle.spec_replay.proofs.Commits.Pieces.{IsPart, part-is, part-limit, piece-reaches}
+use Rattle.spec_replay.proofs.Commits.Done.{Reaches, Beside, commit-reaches}
 
 -- ---- the last part
 

@@ -18,9 +18,9 @@ use Rattle.spec_protocol.specs.Serial.{laid}
 use Rattle.spec_protocol.proofs.Moves.Granted.{get-set_same}
 use Rattle.spec_protocol.proofs.Moves.Threads.{run-keeps}
 use Rattle.spec_replay.specs.Following.{IsMovedOn, StandsAt, Follows}
-use Rattle.spec_replay.proofs.Joining.{IsJoined, rest_of, run-joined}
-use Rattle.spec_replay.proofs.Standing.{set_twice}
-use Rattle.spec_replay.proofs.Done.{Reaches, Beside}
+use Rattle.spec_replay.proofs.Commits.Joining.{IsJoined, rest_of, run-joined}
+use Rattle.spec_replay.proofs.Commits.Standing.{set_twice}
+use Rattle.spec_replay.proofs.Commits.Done.{Reaches, Beside}
 
 -- ---- a part of a commit
 

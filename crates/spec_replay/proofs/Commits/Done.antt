@@ -20,8 +20,8 @@ use Rattle.spec_protocol.specs.Spheres.{Book, Replay, Sphere}
 use Rattle.spec_protocol.specs.Commits.{turned, diverged, by_verdict, dma_by_verdict}
 use Rattle.spec_protocol.specs.Serial.{laid}
 use Rattle.spec_replay.specs.Following.{IsWhole, StandsAt, Follows}
-use Rattle.spec_replay.proofs.Standing.{set_twice, whole-stands}
-use Rattle.spec_replay.proofs.Judging.{AlikeEffects, AreAlike}
+use Rattle.spec_replay.proofs.Commits.Standing.{set_twice, whole-stands}
+use Rattle.spec_replay.proofs.Commits.Judging.{AlikeEffects, AreAlike}
 
 -- ---- where a sphere stands
 

@@ -24,7 +24,7 @@ use Rattle.spec_play.specs.Verdicts.{Verdict, Goes, Fails, unless, interrupt_at,
 use Rattle.spec_play.specs.Transfers.{DmaVerdict, DmaGoes, DmaFails, is_for, transferred, dma_unless, dma_verdict}
 use Rattle.spec_play.specs.Plays.{Played, settled, size_or_standard, thread_verdict, play_thread, dma_settled, play_now, play_one}
 use Rattle.spec_replay.specs.Promises.{is_between}
-use Rattle.spec_replay.proofs.Done.{ended_by, one_more}
+use Rattle.spec_replay.proofs.Commits.Done.{ended_by, one_more}
 
 either : {A : Type 0} (P : A → Type 0) (b : Bool) (x y : A) → P x → P y → P (cond b x y)
 either P true x y p q = p

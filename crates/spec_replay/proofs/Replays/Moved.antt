@@ -25,10 +25,10 @@ use Rattle.spec_protocol.specs.Moves.{move_chunk, do_what, FitsChunk, SerialFits
 use Rattle.spec_protocol.proofs.Moves.Granted.{get-set_same, turn-is}
 use Rattle.spec_protocol.proofs.Moves.Transfers.{dma-turn_is}
 use Rattle.spec_replay.specs.Following.{IsMovedOn, StandsAt, EndsWithin, Follows}
-use Rattle.spec_replay.proofs.Standing.{set_here}
-use Rattle.spec_replay.proofs.Judging.{alike_same}
-use Rattle.spec_replay.proofs.Done.{Reaches, Beside, commit-reaches, transfer-reaches}
-use Rattle.spec_replay.proofs.LastParts.{chunk-reaches}
+use Rattle.spec_replay.proofs.Commits.Standing.{set_here}
+use Rattle.spec_replay.proofs.Commits.Judging.{alike_same}
+use Rattle.spec_replay.proofs.Commits.Done.{Reaches, Beside, commit-reaches, transfer-reaches}
+use Rattle.spec_replay.proofs.Commits.LastParts.{chunk-reaches}
 use Rattle.spec_protocol.proofs.Replays.Pieces.{no_raise}
 
 -- ---- whose turn it is

@@ -11,8 +11,8 @@ use Rattle.spec_play.proofs.Going.{over-stays, plays-stay, play-over}
 use Rattle.spec_protocol.specs.Spheres.{Book, Replay, Sphere, is_over}
 use Rattle.spec_replay.specs.Following.{IsWhole, StandsAt, EndsWithin, Follows}
 use Rattle.spec_replay.specs.Promises.{ends_between, StoppedArePlayed}
-use Rattle.spec_replay.proofs.Ending.{ends-between}
-use Rattle.spec_replay.proofs.Replays.{replays_follow}
+use Rattle.spec_replay.proofs.Replays.Ending.{ends-between}
+use Rattle.spec_replay.proofs.Replays.All.{replays_follow}
 
 -- ---- the last state of a play, told by a replay that has stopped
 

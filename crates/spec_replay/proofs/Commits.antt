@@ -1,0 +1,7 @@
+-- One commit of a replayed sphere, whole or in pieces, is its play's next.
+pub mod Joining
+pub mod Judging
+pub mod Standing
+pub mod Done
+pub mod Pieces
+pub mod LastParts
