@@ -74,6 +74,7 @@ finishing plays s can (suc n) es few =
     let same = after-event (world_of s) es e in
     subst (Finishing s) same (finishing plays s can n (es ++ e ∷ []) (let h = ap (rest s) same in omega (arith, h, less, few))))
 
+-- after every schedule one list of events finishes, and no other; it is within the bound, and each of them is done
 pub finishing_all : FinishingEnds
 finishing_all s es can =
     let f = finishing replays_follow s can (rest s (after s es)) es (omega arith) in

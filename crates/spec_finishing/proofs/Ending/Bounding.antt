@@ -79,6 +79,7 @@ schedule_bounded plays s can before (e ∷ es) =
     let split = ap (price s.cores) (event_work s w e es known) ∙ price-sum s.cores (if_work (shown_of w) a.move) (moves_work s.numbers (shown_of a.world) (moves a.world es)) in
     omega (arith, r, spends, split)
 
+-- what is left after a schedule is bounded by the work of the run
 pub potential-bounded : ReplaysArePlays → (s : Setup) (es : List Event) → CanFinish s → potential s (after s es) ≤ (s.cores + 6) * work s es
 unfolding price
 potential-bounded plays s es can =

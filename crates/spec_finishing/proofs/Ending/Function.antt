@@ -20,6 +20,7 @@ finishing-is (suc n) w [] ends l = ap (then_finishing n w) ends
 finishing-is (suc n) w (e ∷ es) ends l =
     ap (then_finishing n w) ends.0 ∙ ap (λ (fs : List Event). e ∷ fs) (finishing-is n (happens w e).world es ends.1 (omega arith))
 
+-- the list that finishing as a function gives is the one that finishes
 pub function_finishes : FinishingIsAFunction
 function_finishes s es fuel can enough =
     let f = finishing_all s es can in

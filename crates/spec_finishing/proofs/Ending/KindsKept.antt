@@ -30,6 +30,7 @@ chunk_in_kind (Record log) k piece short r devices p = refl
 chunk_in_kind (Replay b) k true short r devices p = refl
 chunk_in_kind (Replay b) k false short r devices p = verdict_kind b k _ devices p
 
+-- a chunk leaves a sphere replayed, or not, as it was
 pub chunk-kind : (k : ℕ) (piece short : Bool) (r : Run) (devices : Devices) (p : Sphere) → replays (chunk_moved k piece short r devices p).sphere.role ≡ replays p.role
 unfolding chunk_moved
 chunk-kind k piece short r devices p = chunk_in_kind p.role k piece short r devices p
@@ -39,6 +40,7 @@ serial_in_kind Plain k moment t devices p = refl
 serial_in_kind (Record log) k moment t devices p = refl
 serial_in_kind (Replay b) k moment t devices p = verdict_kind b k _ devices p
 
+-- a serial step leaves a sphere replayed, or not, as it was
 pub serial-kind : (k moment : ℕ) (t : Parts) (devices : Devices) (p : Sphere) → replays (serial_moved k moment t devices p).sphere.role ≡ replays p.role
 unfolding serial_moved
 serial-kind k moment t devices p = serial_in_kind p.role k moment t devices p
@@ -61,6 +63,7 @@ dma_in_kind Plain devices p = live_kind Plain Plain devices p p.progress.request
 dma_in_kind (Record log) devices p = live_kind (Record (dma_log log devices p p.progress.request)) (Record log) devices p p.progress.request refl
 dma_in_kind (Replay b) devices p = dma_verdict_kind b _ devices p
 
+-- a DMA leaves a sphere replayed, or not, as it was
 pub dma-kind : (devices : Devices) (p : Sphere) → DmaKind p.role (dma_moved devices p)
 unfolding dma_moved
 dma-kind devices p = dma_in_kind p.role devices p
@@ -70,17 +73,20 @@ role_raised_kind k n value Plain = refl
 role_raised_kind k n value (Record log) = refl
 role_raised_kind k n value (Replay b) = refl
 
+-- an interrupt leaves a sphere replayed, or not, as it was
 pub raised-kind : (k value : ℕ) (t : Parts) (p : Sphere) → replays (raised k value t p).role ≡ replays p.role
 unfolding raised
 raised-kind k value t p = role_raised_kind k t.commits value p.role
 
 -- ---- all spheres
 
+-- whether the role of a setup is a replayed one
 abbrev pub is_replayed : RoleSetup → Bool
 is_replayed IsPlain = false
 is_replayed (IsRecorded mode) = false
 is_replayed (IsReplayed log) = true
 
+-- the spheres that the setups have replayed are replayed, and no others
 abbrev pub AreOfKinds : List SphereSetup → List Sphere → Type 0
 AreOfKinds [] ps = Unit {0}
 AreOfKinds (image ∷ images) [] = Unit {0}
@@ -93,6 +99,7 @@ kinds_set (image ∷ images) (x ∷ ps) zero p q is same all =
     let e : x ≡ p = cc in (same ∙ ap (λ (y : Sphere). replays y.role) (sym e) ∙ all.0, all.1)
 kinds_set (image ∷ images) (x ∷ ps) (suc i) p q is same all = (all.0, kinds_set images ps i p q is same all.1)
 
+-- a sphere is replayed where its setup has it so
 pub kind-at : (images : List SphereSetup) (ps : List Sphere) (i : ℕ) (image : SphereSetup) (p : Sphere) → slice_get images i ≡ Some image → slice_get ps i ≡ Some p → AreOfKinds images ps → replays p.role ≡ is_replayed image.role
 kind-at [] ps i image p there is all = absurd (none-some image there)
 kind-at (a ∷ images) [] i image p there is all = absurd (none-some p is)
@@ -106,6 +113,7 @@ start_kind s ts IsPlain = refl
 start_kind s ts (IsRecorded mode) = refl
 start_kind s ts (IsReplayed log) = refl
 
+-- the spheres that a setup starts are of their setups' kinds
 pub start-kinds : (s : ℕ) (images : List SphereSetup) → AreOfKinds images (map (sphere_of s) images)
 start-kinds s [] = tt
 start-kinds s (image ∷ images) = (start_kind s _ image.role, start-kinds s images)
@@ -145,6 +153,7 @@ move_kinds : (z : Numbers) (images : List SphereSetup) (x : Whole) (m : Move) �
 unfolding do_move
 move_kinds z images x m all = at_kinds z images x m (slice_get x.spheres m.sphere) refl all
 
+-- no moves change the kinds of spheres
 pub moves-kinds : (z : Numbers) (images : List SphereSetup) (x : Whole) (ms : List Move) → AreOfKinds images x.spheres → AreOfKinds images (do_moves z x ms).spheres
 moves-kinds z images x [] all = all
 moves-kinds z images x (m ∷ ms) all = moves-kinds z images (do_move z x m) ms (move_kinds z images x m all)

@@ -21,6 +21,7 @@ use Rattle.spec_finishing.proofs.Ending.KindsKept.{is_replayed, AreOfKinds, kind
 use Rattle.spec_finishing.proofs.Paying.Standing.{Stands}
 use Rattle.spec_protocol.proofs.Points.Serial.{shown_length}
 
+-- the world is good, has the sizes of its setup, and its replays stand beside their plays
 pub record Known (s : Setup) (w : World) : Type 0 where
   pub good : IsGood w
   pub sizes : AreSizesKept s w
@@ -28,11 +29,13 @@ pub record Known (s : Setup) (w : World) : Type 0 where
 
 -- ---- images
 
+-- what is found in a list stands before its end
 pub within : {A : Type 0} (xs : List A) (i : ℕ) (x : A) → slice_get xs i ≡ Some x → i < length xs
 within [] i x is = absurd (none-some x is)
 within (y ∷ ys) zero x is = omega arith
 within (y ∷ ys) (suc i) x is = let l = within ys i x is in omega (arith, l)
 
+-- before the end of a list something is found
 pub there_is : {A : Type 0} (xs : List A) (i : ℕ) → i < length xs → (x : A) × (slice_get xs i ≡ Some x)
 there_is [] i l = absurd (omega arith)
 there_is (y ∷ ys) zero l = (y, refl)
@@ -47,6 +50,7 @@ image_of s w sizes i p is =
 
 -- ---- replays
 
+-- after every schedule the spheres are of their setups' kinds
 pub kinds_after : (s : Setup) (es : List Event) → IsSetup s → AreOfKinds s.spheres (shown_of (after s es)).spheres
 kinds_after s es is =
     subst (λ (x : Whole). AreOfKinds s.spheres x.spheres) (sym (moves_are s es is).same)
@@ -65,6 +69,7 @@ goes_after plays s es can i image p b there is role going =
     (plays image log.0 s es i p
     (record { setup = can.setup; there = there; replays = log.1; standard = can.standard i image log.0 there log.1; shown = is })) role going
 
+-- so much is known of the world after every schedule
 pub known-after : ReplaysArePlays → (s : Setup) (es : List Event) → CanFinish s → Known s (after s es)
 known-after plays s es can =
     record {
@@ -78,6 +83,7 @@ known-after plays s es can =
 
 -- ---- one event more
 
+-- an event behind a schedule happens in the world after it
 pub after-event : (w : World) (es : List Event) (e : Event) → world_after w (es ++ e ∷ []) ≡ (happens (world_after w es) e).world
 after-event w [] e = refl
 after-event w (f ∷ es) e = after-event (happens w f).world es e

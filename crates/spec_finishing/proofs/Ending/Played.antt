@@ -47,6 +47,7 @@ played_at image log s es i can none there replayed =
           (record { setup = can.setup; there = there; replays = replayed; standard = can.standard i image log there replayed; shown = shows }) b.1 over;
     }
 
+-- once finishing has ended, each replay has done its log's whole play
 pub replays_finished : ReplaysAreFinished
 replays_finished image log s es finishing i can finishes there replayed =
     let same = after_both (world_of s) es finishing in

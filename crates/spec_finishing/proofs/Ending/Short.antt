@@ -45,6 +45,7 @@ copy-most ws a (b ∷ bytes) =
 copied-most : (a : ℕ) (bytes : List ℕ) → length (copied a bytes) ≤ length bytes
 copied-most a bytes = let l = copy-most [] a bytes in omega (arith, l)
 
+-- a DMA of at most 4,096 bytes stores at most 4,100 words
 pub dma-most : (request : Request) (bytes : List ℕ) → length bytes ≤ 4096 → length (dma_words request bytes) ≤ 4100
 dma-most request bytes few =
     let l = copied-most request.buf (bytes_low_first 0 4 (length bytes) ++ bytes) in
@@ -96,6 +97,7 @@ kind-most (Some Kind.DeviceLoad) k ts request t m input few = loaded-most reques
 kind-most (Some Kind.DeviceStore) k ts request t m input few = stored-most request t (next_plan t m)
 kind-most (Some (Kind.Fault cause)) k ts request t m input few = omega arith
 
+-- a serial step stores at most 4,096 words
 pub serve-most : (k : ℕ) (ts : List Parts) (request : Option Request) (t : Parts) (m : List ℕ) (input : Option Input) → FewIf (need t m) input → length (serve k ts request t m input).words ≤ 4096
 unfolding serve
 serve-most k ts request t m input few = kind-most (next_kind t m) k ts request t m input few
@@ -192,6 +194,7 @@ commit-few : (log : LogParts) (y : Played) → IsLog log → commit_work log y �
 unfolding commit_work
 commit-few log y is = now-few log y y.now is
 
+-- n commits of a play have at most 4,101 * n to do
 pub commits-few : (log : LogParts) (y : Played) (i n : ℕ) → IsLog log → commits_work log y i n ≤ 4101 * n
 commits-few log y i zero is = omega arith
 commits-few log y i (suc n) is =

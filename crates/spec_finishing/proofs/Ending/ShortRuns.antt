@@ -180,6 +180,7 @@ if-few s w (Some m) limits sound fits =
 
 -- ---- a schedule
 
+-- a setup within the limits can finish
 pub setups_finish : SetupsCanFinish
 setups_finish s limits =
     record {
@@ -216,6 +217,7 @@ unfolding price
 price-few c work_ cores few =
     let l = price-least c work_ (8 * (4101 * 2 ^ 24) + 4101 * 2 ^ 32) few in omega (arith, l, cores)
 
+-- a run of up to 2^32 events is finished before 2^63
 pub runs_short : RunsAreShort
 runs_short s es limits few =
     let l = price-few s.cores (work s es) limits.cores.1 (work-few s es limits few) in omega (arith, l, few)

@@ -53,6 +53,7 @@ chunk_flies c w d h how held =
 
 -- ---- a serial step
 
+-- no word of a sphere flies where no flight is of it
 pub nothing_flies : (i : ℕ) (xs : List (Option Flight)) → ((k : ℕ) (f : Flight) → at xs k ≡ Some f → f.sphere ≢ i) → flying i xs ≡ []
 nothing_flies i [] others = refl
 nothing_flies i (None ∷ xs) others = nothing_flies i xs (λ k f e. others (suc k) f e)
@@ -115,6 +116,7 @@ ask_held_flies : (c : ℕ) (w : World) (d : ℕ) (o : Option Held) → IsGood w 
 ask_held_flies c w d None good is = still_flies c w Reply.Idle
 ask_held_flies c w d (Some h) good is = closed_flies c w d h h.chunk.closed (good.held d h is)
 
+-- an ask leaves flights with no more left than before, but for its move's
 pub ask-flies : (c : ℕ) (w : World) (d : ℕ) → IsGood w → Flies c w (asking w d)
 unfolding asking
 ask-flies c w d good = ask_held_flies c w d (at w.cores d) good refl
@@ -162,6 +164,7 @@ dma_most_bound c w i =
       | inr past ↦ (let e = ap (dma_most c) (no_dma w i past) in omega (arith, e))
     ]
 
+-- a DMA leaves flights with no more left than before, but for its move's
 pub dma-flies : (c : ℕ) (w : World) (i : ℕ) → Flies c w (transferring w i)
 unfolding transferring
 dma-flies c w i =

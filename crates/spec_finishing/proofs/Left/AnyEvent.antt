@@ -19,6 +19,7 @@ use Rattle.spec_finishing.specs.Rest.{flights_rest}
 use Rattle.spec_finishing.proofs.Left.Flying.{drain-most, deliver-most, retire-most}
 use Rattle.spec_finishing.proofs.Paying.Moves.{move_most}
 
+-- the most that the flight of a move has left, if there is a move
 abbrev pub if_most : (c : ℕ) → Whole → Option Move → ℕ
 if_most c x None = 0
 if_most c x (Some m) = move_most c x m
@@ -27,6 +28,7 @@ if_most c x (Some m) = move_most c x m
 abbrev pub Flies : (c : ℕ) → World → After → Type 0
 Flies c w a = flights_rest c a.world.slots ≤ flights_rest c w.slots + if_most c (shown_of w) a.move
 
+-- an event that only answers leaves the flights as they are
 pub still_flies : (c : ℕ) (w : World) (r : Reply) → Flies c w (answered w r)
 still_flies c w r = omega arith
 
@@ -41,6 +43,7 @@ step_held_flies c w d (Some h) =
     (λ _. still_flies c w Reply.Stopped)
     (λ _. branch (Flies c w) (is_open h.chunk) (stepped w d h s) (answered w Reply.Waiting) (λ _. omega arith) (λ _. still_flies c w Reply.Waiting))
 
+-- a step adds nothing to what is left of the flights
 pub step-flies : (c : ℕ) (w : World) (d : ℕ) → Flies c w (stepping w d)
 unfolding stepping
 step-flies c w d = step_held_flies c w d (at w.cores d)
@@ -52,6 +55,7 @@ cut_held_flies c w d (Some h) =
     (λ _. still_flies c w Reply.Stopped)
     (λ _. omega arith)
 
+-- a cut adds nothing to what is left of the flights
 pub cut-flies : (c : ℕ) (w : World) (d : ℕ) → Flies c w (cutting w d)
 unfolding cutting
 cut-flies c w d = cut_held_flies c w d (at w.cores d)
@@ -61,12 +65,15 @@ cut-flies c w d = cut_held_flies c w d (at w.cores d)
 flies_from : (c : ℕ) (w : World) (a : After) → flights_rest c a.world.slots ≤ flights_rest c w.slots → Flies c w a
 flies_from c w a l = omega (arith, l)
 
+-- a drain adds nothing to what is left of the flights
 pub drain-flies : (c : ℕ) (w : World) (k : ℕ) → Flies c w (draining w k)
 drain-flies c w k = flies_from c w (draining w k) (drain-most c w k)
 
+-- a delivery adds nothing to what is left of the flights
 pub deliver-flies : (c : ℕ) (w : World) (d k : ℕ) → Flies c w (delivering w d k)
 deliver-flies c w d k = flies_from c w (delivering w d k) (deliver-most c w d k)
 
+-- a retiring adds nothing to what is left of the flights
 pub retire-flies : (c : ℕ) (w : World) (k : ℕ) → Flies c w (retiring w k)
 retire-flies c w k = flies_from c w (retiring w k) (retire-most c w k)
 
@@ -84,6 +91,7 @@ place_thread_flies c w d i k (Some t) =
     (λ _. elsewhere_flies c w (core_of w i k) placed (omega arith))
     (λ _. still_flies c w Reply.Ended)
 
+-- placing a thread adds nothing to what is left of the flights
 pub place-flies : (c : ℕ) (w : World) (d i k : ℕ) → Flies c w (placing w d i k)
 unfolding placing
 place-flies c w d i k = place_thread_flies c w d i k (slice_get (sphere_at w i).threads k)
@@ -107,6 +115,7 @@ raise_thread_flies c w i k value (Some t) =
     (λ _. still_flies c w Reply.NoHandler))
     (λ _. still_flies c w Reply.Ended)
 
+-- an interrupt adds nothing to what is left of the flights
 pub raise-flies : (c : ℕ) (w : World) (i k value : ℕ) → Flies c w (raising w i k value)
 unfolding raising
 raise-flies c w i k value =

@@ -34,6 +34,7 @@ drain_slot_most c w k None e = omega arith
 drain_slot_most c w k (Some f) e =
     set_most c w.slots k f _ e (drained_most c (sphere_at w f.sphere).memory f f.words refl)
 
+-- a drain leaves the flights no more than they had
 pub drain-most : (c : ℕ) (w : World) (k : ℕ) → NoMore c w (draining w k)
 unfolding draining
 drain-most c w k = drain_slot_most c w k (at w.slots k) refl
@@ -43,6 +44,7 @@ set_none c [] k e = omega arith
 set_none c (x ∷ xs) zero e = omega arith
 set_none c (x ∷ xs) (suc k) e = let r = set_none c xs k e in omega (arith, r)
 
+-- what holds of the slots holds of them in the world in which a core was told
 pub told_world : (P : List (Option Flight) → Type 0) (w : World) (d : ℕ) (held : Option Held) (reply : Deliver) → P w.slots → P (told w d held reply).world.slots
 told_world P w d held Deliver.NoCommit p = p
 told_world P w d held Deliver.Already p = p
@@ -64,6 +66,7 @@ deliver_to_most c w d k held =
     told_world (λ xs. flights_rest c xs ≤ flights_rest c w.slots) (with_slot w k v.slot) d held v.reply
     (deliver_most c d (reads_of w held) (writes_of w held) w.slots k (at w.slots k) refl)
 
+-- a delivery leaves the flights no more than they had
 pub deliver-most : (c : ℕ) (w : World) (d k : ℕ) → NoMore c w (delivering w d k)
 unfolding delivering
 deliver-most c w d k = deliver_to_most c w d k (at w.cores d)
@@ -76,6 +79,7 @@ retire_set c n xs k (Some f) e =
     (λ _. omega arith)
     (λ _. omega arith))
 
+-- a retiring leaves the flights no more than they had
 pub retire-most : (c : ℕ) (w : World) (k : ℕ) → NoMore c w (retiring w k)
 unfolding retiring
 retire-most c w k = retire_set c (length w.cores) w.slots k (at w.slots k) refl

@@ -3,6 +3,7 @@ use Rattle.std.proofs.Common.{◌≡◌, ℕ, zero, suc, ◌+◌, ◌*◌, ◌�
 use Rattle.std.proofs.lemmas.Bool.{cases_lt}
 use Rattle.spec_finishing.specs.Rest.{price}
 
+-- no work costs nothing
 pub price-none : (c : ℕ) → price c 0 ≡ 0
 unfolding price
 price-none c = omega arith
@@ -11,10 +12,12 @@ pub price-more : (c n : ℕ) → price c (suc n) ≡ price c n + (c + 6)
 unfolding price
 price-more c n = grind arith
 
+-- the price of two works is the sum of their prices
 pub price-sum : (c n m : ℕ) → price c (n + m) ≡ price c n + price c m
 unfolding price
 price-sum c n m = grind arith
 
+-- more work costs no less
 pub price-least : (c n m : ℕ) → n ≤ m → price c n ≤ price c m
 price-least c n zero l = let e : n ≡ 0 = omega arith in let r = ap (price c) e in omega (arith, r)
 price-least c n (suc m) l =

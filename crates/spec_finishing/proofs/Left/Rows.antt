@@ -31,6 +31,7 @@ pub spheres-pay : (c : ℕ) (images : List SphereSetup) (ps : List Sphere) (i : 
     → spheres_rest c images (set ps i q) + l ≤ spheres_rest c images ps + n
 spheres-pay c images ps i image p q l n there is pays = let r = spheres-set c images ps i image p q there is in omega (arith, r, pays)
 
+-- flying words make no difference to what the spheres have left
 pub spheres-shown : (c : ℕ) (images : List SphereSetup) (xs : List (Option Flight)) (n : ℕ) (ps : List Sphere) → spheres_rest c images (shown_from xs n ps) ≡ spheres_rest c images ps
 unfolding shown
 spheres-shown c [] xs n ps = refl
@@ -43,6 +44,7 @@ live_none c image p Plain e = refl
 live_none c image p (Record log) e = refl
 live_none c image p (Replay b) e = absurd (true≢false e)
 
+-- a sphere that isn't replayed has nothing left
 pub sphere-live : (c : ℕ) (image : SphereSetup) (p : Sphere) → replays p.role ≡ false → sphere_rest c image p ≡ 0
 sphere-live c image p e = live_none c image p p.role e
 

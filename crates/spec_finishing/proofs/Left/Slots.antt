@@ -10,6 +10,7 @@ use Rattle.spec_finishing.specs.Rest.{untold_cores, flight_rest, flights_rest}
 
 -- ---- a slot
 
+-- a change of slot k changes what is left of the flights by what it has left
 pub flights-set : (c : ℕ) (xs : List (Option Flight)) (k : ℕ) (v : Option Flight) → k < length xs → flights_rest c (set xs k v) + flight_rest c (at xs k) ≡ flights_rest c xs + flight_rest c v
 flights-set c [] k v l = absurd (omega arith)
 flights-set c (x ∷ xs) zero v l = omega arith
@@ -22,9 +23,11 @@ flights-none c (x ∷ xs) none =
 
 -- ---- the cores told
 
+-- 0 for true, 1 for false
 abbrev pub one_unless : Bool → ℕ
 one_unless b = cond b 0 1
 
+-- either is at most 1
 pub one_at_most : (b : Bool) → one_unless b ≤ 1
 one_at_most true = omega arith
 one_at_most false = omega arith
@@ -84,6 +87,7 @@ filled_most c f xs (Some k) e =
     let h = ap (flight_rest c) (free_slot-free xs k e) in
     omega (arith, r, h)
 
+-- a new flight adds at most its words, a delivery to each core and a retiring
 pub flown-most : (c i : ℕ) (ws : List Stored) (writes : Marks) (t : ℕ) (xs : List (Option Flight)) → flights_rest c (flown i ws writes t xs) ≤ flights_rest c xs + (length ws + c + 1)
 flown-most c i [] writes t xs = omega arith
 flown-most c i (w ∷ ws) writes t xs =

@@ -41,6 +41,7 @@ happens-flies c w e good = act_flies c w e good
 
 -- ---- both
 
+-- the work of a move, if there is one
 abbrev pub if_work : Whole → Option Move → ℕ
 if_work x None = 0
 if_work x (Some m) = move_work x m
@@ -54,6 +55,7 @@ if_pays s z x (Some m) positive stands fits = move-pays s.cores s z x m positive
 shown_rest : (s : Setup) (w : World) → spheres_rest s.cores s.spheres (shown_of w).spheres ≡ spheres_rest s.cores s.spheres w.spheres
 shown_rest s w = spheres-shown s.cores s.spheres w.slots 0 w.spheres
 
+-- an event makes no more of what is left than the price of its move's work
 pub happens-spends : (s : Setup) (w : World) (e : Event) → Known s w → potential s (happens w e).world ≤ potential s w + price s.cores (if_work (shown_of w) (happens w e).move)
 happens-spends s w e known =
     let a = happens w e in

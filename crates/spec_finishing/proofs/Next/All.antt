@@ -161,6 +161,7 @@ standing_falls s w e (Some k) g stands same =
     let h : Some (for_flight (length w.cores) k f.0 f.0.words) ≡ Some e = sym (ap (for_slot w k) f.1) ∙ same in
     subst (Lowers s w) (let x : for_flight (length w.cores) k f.0 f.0.words ≡ e = cc in x) (words_fall s w k f.0 f.0.words g.known stands f.1 refl)
 
+-- the next event of finishing is done and leaves less
 pub next-falls : (s : Setup) (w : World) (e : Event) → Goes s w → next w ≡ Some e → Lowers s w e
 unfolding next
 next-falls s w e g same = standing_falls s w e (standing w) g refl same
@@ -184,12 +185,14 @@ standing_next w None none e = (none, who_next w (least 0 w.spheres) e)
 standing_next w (Some k) stands e =
     let f = first_some (λ (x : Flight). true) w.slots k stands in absurd (none-some _ (sym (sym (ap (for_slot w k) f.1) ∙ e)))
 
+-- where there is no next event all is finished
 pub next-none : (w : World) → next w ≡ None → IsFinished w
 unfolding next
 next-none w e =
     let r = standing_next w (standing w) refl e in
     record { flights = no-flight w r.0; replays = least-none 0 w.spheres r.1 }
 
+-- where there is no next event no flight stands
 pub next-stands : (w : World) → next w ≡ None → standing w ≡ None
 unfolding next
 next-stands w e = (standing_next w (standing w) refl e).0

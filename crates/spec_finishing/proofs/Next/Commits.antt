@@ -101,6 +101,7 @@ ask_is w c h how is closed going turn free =
     ∙ ap (λ (o : Option Actor). unless_turn o w room) turn
     ∙ ap {A = Bool} (λ b. cond b (answered w Reply.WindowFull) arbiter) free
 
+-- the ask of the closed chunk of the thread whose turn it is commits it
 pub ask-commits : (s : Setup) (w : World) (i k c : ℕ) (h : Held) (how : How) → standing w ≡ None → 0 < length w.slots → HasActor s w i (Actor.Thread k) → OnCore w i k c h → h.chunk.closed ≡ Some how → Commits i h.chunk.done.n (asking w c)
 ask-commits s w i k c h how none l a on closed =
     let p = sphere_at w h.chunk.sphere in
@@ -139,6 +140,7 @@ dma_is w i p b at role going turn =
     ∙ ap {A = Bool} (λ c. cond c (answered w Reply.Stopped) (unless_turn (turn_before_dma (Replay b)) w (dma_if w i (dma_in (Replay b) w.devices p)))) going
     ∙ ap (λ (o : Option Actor). unless_turn (not_of_dma o) w (dma_if w i (dma_in (Replay b) w.devices p))) turn
 
+-- at the DMA's turn it is done
 pub dma-commits : (s : Setup) (w : World) (i : ℕ) → standing w ≡ None → 0 < length w.slots → HasActor s w i Actor.Dma → Commits i 0 (transferring w i)
 dma-commits s w i none l a =
     let b = a.book in

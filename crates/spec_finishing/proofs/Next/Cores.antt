@@ -92,6 +92,7 @@ step_rose w i k c h none on found =
       more = (let m = r.more in omega (arith, m));
     }
 
+-- a step of the chunk of the thread whose turn it is runs an instruction or closes the chunk
 pub step-rose : (s : Setup) (w : World) (i k c : ℕ) (h : Held) → standing w ≡ None → HasActor s w i (Actor.Thread k) → OnCore w i k c h → core_of w i k ≡ Some c → is_open h.chunk ≡ true → StepRose w i k h.chunk.done.n (stepping w c)
 step-rose s w i k c h none a on found open_ =
     let going : is_stopped (sphere_at w h.chunk.sphere).role ≡ false = ap (λ (j : ℕ). is_stopped (sphere_at w j).role) on.sphere ∙ ap (λ (p : Sphere). is_stopped p.role) a.at ∙ ap is_stopped a.role ∙ a.going in
@@ -138,6 +139,7 @@ place_rose w i k t l =
       there = at-set_same w.cores 0 (Some g) l;
     }
 
+-- placing the thread whose turn it is begins its chunk
 pub place-rose : (s : Setup) (w : World) (i k : ℕ) → 0 < length w.cores → HasActor s w i (Actor.Thread k) → core_of w i k ≡ None → Rose w i k (placing w 0 i k)
 place-rose s w i k l a none =
     let t = thread_lives s w i k a in

@@ -111,6 +111,7 @@ told_falls s w k f None known stands is words e = retire_act s w k f known stand
 told_falls s w k f (Some c) known stands is words e =
     deliver_act s w c k f known stands is (ap (λ (n : ℕ). untold 0 n f.told) (sym known.sizes.cores) ∙ e)
 
+-- the next event of a standing flight leaves less
 pub words_fall : (s : Setup) (w : World) (k : ℕ) (f : Flight) (ws : List Stored) → Known s w → standing w ≡ Some k → at w.slots k ≡ Some f → f.words ≡ ws → Lowers s w (for_flight (length w.cores) k f ws)
 words_fall s w k f [] known stands is words = told_falls s w k f (untold 0 (length w.cores) f.told) known stands is words refl
 words_fall s w k f (x ∷ xs) known stands is words = drain_act s w k f x xs known stands is words
@@ -135,6 +136,7 @@ reply_happens : (w : World) (e : Event) → (happens w e).reply ≡ (act w e).re
 unfolding happens
 reply_happens w e = refl
 
+-- an event by which a thread's chunk has come further, and which moves nothing, leaves less
 pub rose_falls : (s : Setup) (w : World) (who : Who) (k : ℕ) (e : Event) → Known s w → Known s (happens w e).world → standing w ≡ None → least 0 w.spheres ≡ Some who → who.actor ≡ Actor.Thread k → (r : Rose w who.sphere k (act w e)) → (act w e).move ≡ None → under_way w < held_under_way (Some r.held) → Lowers s w e
 rose_falls s w who k e known next_known none is thread r no_move more =
     let now = ap under_way (world_happens w e) ∙ rose_under_way w who k (act w e) none is thread r in
@@ -157,6 +159,7 @@ place_move : (w : World) (c i k : ℕ) → (placing w c i k).move ≡ None
 unfolding placing
 place_move w c i k = place_thread_move w c i k (slice_get (sphere_at w i).threads k)
 
+-- placing the thread whose turn it is leaves less
 pub place_act : (s : Setup) (w : World) (who : Who) (k : ℕ) → Known s w → Known s (happens w (Event.Place 0 who.sphere k)).world → 0 < s.cores → standing w ≡ None → least 0 w.spheres ≡ Some who → who.actor ≡ Actor.Thread k → core_of w who.sphere k ≡ None → Lowers s w (Event.Place 0 who.sphere k)
 unfolding act
 place_act s w who k known next_known some none is thread free =

@@ -16,6 +16,7 @@ use Rattle.spec_finishing.specs.Ending.{is_done as is_good}
 use Rattle.spec_finishing.proofs.Left.Slots.{flights-set, untold-tell}
 use Rattle.spec_finishing.proofs.Left.Flying.{told_world}
 
+-- the event is done, and the flights have less left
 pub record FlightFalls (c : ℕ) (w : World) (a : After) : Type 0 where
   pub done : is_good a.reply ≡ true
   pub less : flights_rest c a.world.slots < flights_rest c w.slots
@@ -33,6 +34,7 @@ drained c w k f s ss is words =
     subst (λ (ws : List Stored). FlightFalls c w (drain_slot w k (Some (record f { words = ws })))) (sym words)
     (record { done = refl; less = set_less c w.slots k f (Some (record f { words = ss })) is (let h = ap (λ (us : List Stored). length us) words in omega (arith, h)) })
 
+-- a drain of a flight with words leaves the flights less
 pub drain-falls : (c : ℕ) (w : World) (k : ℕ) (f : Flight) (s : Stored) (ss : List Stored) → at w.slots k ≡ Some f → f.words ≡ s ∷ ss → FlightFalls c w (draining w k)
 unfolding draining
 drain-falls c w k f s ss is words =
@@ -64,11 +66,13 @@ delivered c w d k held f is l untold_ =
           (set_less c w.slots k f (Some (tell f d)) is (let h = untold-tell c f d l untold_ in omega (arith, h)));
     }))
 
+-- a delivery to a core that wasn't told leaves the flights less
 pub deliver-falls : (c : ℕ) (w : World) (d k : ℕ) (f : Flight) → at w.slots k ≡ Some f → untold 0 c f.told ≡ Some d → FlightFalls c w (delivering w d k)
 unfolding delivering
 deliver-falls c w d k f is e =
     let r = untold_some 0 c d f.told e in delivered c w d k (at w.cores d) f is (omega (arith, r.0)) r.1
 
+-- a core that wasn't told is one of the cores
 pub untold-core : (c d t : ℕ) → untold 0 c t ≡ Some d → d < c
 untold-core c d t e = let r = untold_some 0 c d t e in omega (arith, r.0)
 
@@ -89,6 +93,7 @@ retired c w k f is done =
     subst (λ (b : Bool). FlightFalls c w (let d = cond {A = Retired} b (record { reply = Retire.Retired; slot = None }) (record { reply = Retire.NotDone; slot = Some f }) in answered (with_slot w k d.slot) (reply_of_retire d.reply))) (sym done)
     (record { done = refl; less = set_less c w.slots k f None is (omega arith) })
 
+-- a retiring of a flight with no word left, and every core told, leaves the flights less
 pub retire-falls : (c : ℕ) (w : World) (k : ℕ) (f : Flight) → at w.slots k ≡ Some f → f.words ≡ [] → untold 0 (length w.cores) f.told ≡ None → FlightFalls c w (retiring w k)
 unfolding retiring
 retire-falls c w k f is words none =

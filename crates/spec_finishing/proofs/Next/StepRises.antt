@@ -19,6 +19,7 @@ pub record Rises (i n : ℕ) (s : Stepping) : Type 0 where
   pub done : is_done (reply_of_step s.reply) ≡ true
   pub more : n < s.chunk.done.n + cond (is_open s.chunk) 0 1
 
+-- where every slot is free, none is found
 pub none_found : (p : Flight → Bool) (xs : List (Option Flight)) (o : Option ℕ) → first_slot p xs ≡ o → ((k : ℕ) → at xs k ≡ None) → o ≡ None
 none_found p xs None e none = refl
 none_found p xs (Some k) e none = let f = first_some p xs k e in absurd (none-some f.0 (sym (none k) ∙ f.1))
@@ -66,6 +67,7 @@ running_rises i n capacity shown xs c f ch none sphere e =
     (λ _. loading_rises i n capacity shown xs c f ch none sphere e)
     (λ kind _. closes_rises i n How.Serial ch sphere e)
 
+-- with every slot free a step of an open chunk runs an instruction or closes the chunk
 pub step-rises : (capacity : ℕ) (m : List ℕ) (xs : List (Option Flight)) (c : ℕ) (ch : Chunk) → ((k : ℕ) → at xs k ≡ None) → Rises ch.sphere ch.done.n (step capacity m xs c ch)
 unfolding step
 step-rises capacity m xs c ch none =

@@ -78,6 +78,7 @@ ends_of i Plain others e = (tt, e)
 ends_of i (Record log) others e = (tt, e)
 ends_of i (Replay b) others e = ends_in i b (actor_of b.now) others refl e
 
+-- where no sphere is the next to go on, no replay is short of its end
 pub least-none : (i : ℕ) (ps : List Sphere) → least i ps ≡ None → (j : ℕ) (p : Sphere) → slice_get ps j ≡ Some p → IsAtEnd p.role
 least-none i [] e j p is = absurd (none-some p is)
 least-none i (q ∷ ps) e zero p is =
@@ -86,6 +87,7 @@ least-none i (q ∷ ps) e (suc j) p is = least-none (suc i) ps (ends_of i q.role
 
 -- ---- no flight stands
 
+-- where no flight is left standing every slot is free
 pub no-flight : (w : World) → standing w ≡ None → (k : ℕ) → at w.slots k ≡ None
 no-flight w none k = empty_slot w none k (at w.slots k) refl
   where
@@ -101,6 +103,7 @@ shown_itself : (xs : List (Option Flight)) (n : ℕ) (ps : List Sphere) → ((j 
 shown_itself xs n [] empty = refl
 shown_itself xs n (p ∷ ps) empty = (λ j. itself xs n p empty j ∷ shown_itself xs (suc n) ps empty j)
 
+-- where no flight stands the spheres are shown as they are
 pub shown-itself : (w : World) → standing w ≡ None → (shown_of w).spheres ≡ w.spheres
 shown-itself w none =
     shown_itself w.slots 0 w.spheres (λ i. nothing_flies i w.slots (λ k f e. absurd (none-some f (sym (no-flight w none k) ∙ e))))
@@ -132,6 +135,7 @@ going_now (Turn k) actor e = refl
 going_now TurnOfDma actor e = refl
 going_now (Over how) actor e = absurd (none-some actor e)
 
+-- the replay that is to go on next has the actor whose turn it is
 pub has-actor : (s : Setup) (w : World) (who : Who) → Known s w → standing w ≡ None → least 0 w.spheres ≡ Some who → HasActor s w who.sphere who.actor
 has-actor s w who known none e =
     let f = least-some 0 w.spheres who e in
@@ -161,5 +165,6 @@ thread_turn (Turn j) k e = let h : j ≡ k = cc in ap Turn h
 thread_turn TurnOfDma k e = cc
 thread_turn (Over how) k e = absurd (none-some (Actor.Thread k) e)
 
+-- where a thread has the turn the replay's book says so
 pub turn-of : (s : Setup) (w : World) (i k : ℕ) → (h : HasActor s w i (Actor.Thread k)) → h.book.now ≡ Turn k
 turn-of s w i k h = thread_turn h.book.now k h.turn

@@ -75,11 +75,13 @@ held_paid s w c h known none is a =
 
 -- ---- the thread's core
 
+-- core c holds that chunk of thread k of sphere i
 pub record OnCore (w : World) (i k c : ℕ) (h : Held) : Type 0 where
   pub there : at w.cores c ≡ Some h
   pub sphere : h.chunk.sphere ≡ i
   pub thread : h.thread ≡ k
 
+-- the core on which a thread is found holds its chunk
 pub on-core : (w : World) (i k c : ℕ) → core_of w i k ≡ Some c → (h : Held) × OnCore w i k c h
 on-core w i k c e =
     let f = first_some (runs i k) w.cores c e in
@@ -114,16 +116,19 @@ standing_most : (s : Setup) (w : World) (o : Option ℕ) → Known s w → stand
 standing_most s w (Some k) known e = omega arith
 standing_most s w None known e = who_most s w (least 0 w.spheres) known e refl
 
+-- what is under way is no more than what is left
 pub under_way-most : (s : Setup) (w : World) → Known s w → under_way w ≤ potential s w
 unfolding under_way
 under_way-most s w known = standing_most s w (standing w) known refl
 
 -- ---- how much is under way
 
+-- while a flight stands nothing counts as under way
 pub under_way-flight : (w : World) (k : ℕ) → standing w ≡ Some k → under_way w ≡ 0
 unfolding under_way
 under_way-flight w k e = ap (standing_under_way w) e
 
+-- where no flight stands, what is under way is what the next replay's actor has begun
 pub under_way-actor : (w : World) (who : Who) → standing w ≡ None → least 0 w.spheres ≡ Some who → under_way w ≡ actor_under_way w who.sphere who.actor
 unfolding under_way
 under_way-actor w who none e = ap (standing_under_way w) none ∙ ap (who_under_way w) e

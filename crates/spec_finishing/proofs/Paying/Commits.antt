@@ -33,9 +33,12 @@ use Rattle.spec_replay.proofs.Replays.Moved.{turn_of_thread}
 abbrev pub next_work : SphereSetup → Sphere → Book → ℕ
 next_work image p b = commit_work b.log (play_of image b p)
 
+-- the work that a play has behind its next commit
 abbrev pub behind : SphereSetup → Sphere → Book → ℕ
 behind image p b = later b.log (opened b.log image.memory image.entry) (position p.progress)
 
+-- what a replay that goes on has left: the price of its next commit and of those behind, but for the pieces that are
+-- done
 pub rest-before : (c : ℕ) (image : SphereSetup) (p : Sphere) (b : Book) → p.role ≡ Replay b → is_over b.now ≡ false → GoesOn image p b → sphere_rest c image p ≡ price c ((next_work image p b + behind image p b) - b.total)
 rest-before c image p b role going g =
     (λ i. sphere_rest c image (record p { role = role i }))

@@ -67,6 +67,7 @@ goes_book image log p f going =
     (subst (λ (l : LogParts). Beside l (plays l (opened l image.memory image.entry) (position p.progress)) p f.book) (sym f.same_log)
     (beside_book log (plays log (opened log image.memory image.entry) (position p.progress)) p f going))
 
+-- a replay that follows its log's play and isn't over goes on beside it
 pub goes-on : (image : SphereSetup) (log : LogParts) (p : Sphere) (b : Book) → Follows log (plays log (opened log image.memory image.entry) (position p.progress)) p → p.role ≡ Replay b → is_over b.now ≡ false → GoesOn image p b
 goes-on image log p b f role going =
     let e : f.book ≡ b = (let h : Replay f.book ≡ Replay b = sym f.role ∙ role in cc) in
@@ -99,11 +100,13 @@ moved_on image p b k turn s =
       },
     )
 
+-- the thread whose turn it is has run the pieces that its book has
 pub has-run : (image : SphereSetup) (p : Sphere) (b : Book) (k : ℕ) → GoesOn image p b → b.now ≡ Turn k → (t : Parts) × HasRun image p b k t
 has-run image p b k g turn =
     let now = sym g.now ∙ turn in
     moved_on image p b k now (subst (λ (n : Now). StandsAt b.log (play_of image b p) n p b) now g.state)
 
+-- at a DMA's turn no piece of a commit is done
 pub is-whole : (image : SphereSetup) (p : Sphere) (b : Book) → GoesOn image p b → b.now ≡ TurnOfDma → IsWhole (play_of image b p) p b
 is-whole image p b g turn = subst (λ (n : Now). StandsAt b.log (play_of image b p) n p b) (sym g.now ∙ turn) g.state
 

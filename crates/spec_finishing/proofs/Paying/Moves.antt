@@ -24,24 +24,29 @@ use Rattle.spec_finishing.proofs.Paying.Serial.{serial-pays, DmaPays}
 
 -- ---- the most that a move's flight has left, with c cores
 
+-- the most that the flight of a serial step has left
 abbrev pub serial_most : (c : ℕ) → Sphere → Devices → (moment thread : ℕ) → Option Parts → ℕ
 serial_most c p devices moment k None = 0
 serial_most c p devices moment k (Some t) = length (serial_moved k moment t devices p).words + c + 1
 
+-- the most that the flight of a DMA has left
 abbrev pub dma_most : (c : ℕ) → Option Moved → ℕ
 dma_most c None = 0
 dma_most c (Some v) = length v.words + c + 1
 
+-- the most that the flight of a move has left, by what it does
 abbrev pub what_most : (c : ℕ) → Sphere → Devices → (moment : ℕ) → What → ℕ
 what_most c p devices moment (OfChunk k how n limit) = n + c + 1
 what_most c p devices moment (OfSerial k) = serial_most c p devices moment k (slice_get p.threads k)
 what_most c p devices moment OfDma = dma_most c (dma_moved devices p)
 what_most c p devices moment (OfRaise k value) = 0
 
+-- the most that the flight of a move has left in its sphere, if there is one
 abbrev pub sphere_most : (c : ℕ) → Devices → Move → Option Sphere → ℕ
 sphere_most c devices m None = 0
 sphere_most c devices m (Some p) = what_most c p devices m.moment m.what
 
+-- the most that the flight of a move has left
 abbrev pub move_most : (c : ℕ) → Whole → Move → ℕ
 move_most c x m = sphere_most c x.devices m (slice_get x.spheres m.sphere)
 
@@ -87,6 +92,7 @@ raise_own c images x i k value image p None there is live = omega arith
 raise_own c images x i k value image p (Some t) there is live =
     own_pays c images x.spheres i image p (raised k value t p) 0 (price c 0) there is (raised-kind k value t p ∙ live) (omega arith)
 
+-- a move of a sphere that isn't replayed pays for its flight with its own work
 pub what_own : (c : ℕ) (images : List SphereSetup) (z : Numbers) (x : Whole) (moment i : ℕ) (image : SphereSetup) (p : Sphere) (a : What) → slice_get images i ≡ Some image → slice_get x.spheres i ≡ Some p → replays p.role ≡ false
     → spheres_rest c images (do_what z x moment i p a).spheres + what_most c p x.devices moment a ≤ spheres_rest c images x.spheres + price c (what_work p x.devices moment a)
 what_own c images z x moment i image p (OfChunk k how n limit) there is live = chunk_own c images z x i k how n limit image p (slice_get p.threads k) there is live
@@ -96,6 +102,7 @@ what_own c images z x moment i image p (OfRaise k value) there is live = raise_o
 
 -- ---- a replay
 
+-- a chunk of a replay pays for its flight with what the play has left less
 pub chunk_paid : (c : ℕ) (images : List SphereSetup) (z : Numbers) (x : Whole) (i k : ℕ) (how : How) (n limit : ℕ) (image : SphereSetup) (p : Sphere) (b : Book) (o : Option Parts) → 0 < z.buffer → slice_get images i ≡ Some image → slice_get x.spheres i ≡ Some p → p.role ≡ Replay b
     → (is_over b.now ≡ false → GoesOn image p b) → slice_get p.threads k ≡ o → FitsChunk z p k how n limit o → spheres_rest c images (move_chunk z x i k how n limit p o).spheres + paid c n ≤ spheres_rest c images x.spheres + 0
 chunk_paid c images z x i k how n limit image p b None positive there is role goes thread fits = absurd fits
@@ -104,6 +111,7 @@ chunk_paid c images z x i k how n limit image p b (Some t) positive there is rol
     let pays = chunk-pays c image z p b k t how n limit (is_short z.chunk how limit) x.devices positive role going (goes going) thread fits in
     spheres-pay c images x.spheres i image p (laid (chunk_moved k (is_piece how) (is_short z.chunk how limit) (run p.memory t n) x.devices p)) (paid c n) 0 there is (omega (arith, pays))
 
+-- a serial step of a replay pays for its flight with what the play has left less
 pub serial_paid : (c : ℕ) (images : List SphereSetup) (x : Whole) (i k moment : ℕ) (image : SphereSetup) (p : Sphere) (b : Book) (o : Option Parts) → slice_get images i ≡ Some image → slice_get x.spheres i ≡ Some p → p.role ≡ Replay b
     → (is_over b.now ≡ false → GoesOn image p b) → slice_get p.threads k ≡ o → FitsSerial p k o → spheres_rest c images (do_serial x i k moment p o).spheres + (serial_most c p x.devices moment k o + 3) ≤ spheres_rest c images x.spheres + 0
 serial_paid c images x i k moment image p b None there is role goes thread fits = absurd fits
@@ -113,6 +121,7 @@ serial_paid c images x i k moment image p b (Some t) there is role goes thread f
     let pays = serial-pays c image p b k moment t x.devices role going (goes going) thread fits in
     spheres-pay c images x.spheres i image p (laid v) ((length v.words + c + 1) + 3) 0 there is (omega (arith, pays))
 
+-- a DMA of a sphere pays for its flight, in a replay with what the play has left less
 pub dma_paid : (c : ℕ) (images : List SphereSetup) (x : Whole) (i : ℕ) (image : SphereSetup) (p : Sphere) (o : Option Moved) → slice_get images i ≡ Some image → slice_get x.spheres i ≡ Some p → DmaPays c image p o → (o ≡ None → ⊥)
     → spheres_rest c images (do_dma x i o).spheres + (dma_most c o + 3) ≤ spheres_rest c images x.spheres + 0
 dma_paid c images x i image p None there is pays some = absurd (some refl)

@@ -58,6 +58,7 @@ looked_ahead log p u ts =
       | inr past ↦ λ e. absurd (true≢false (sym (end_over (position p) (has_left_over log u ts)) ∙ sym (ap {A = Bool} (λ b. is_over (cond b (turn_of (position p) ts (next_actor log p ts)) (at_end (position p) (has_left_over log u ts)))) (le-ltb (position p) log.count past)) ∙ e))
     ]
 
+-- a play that isn't over has commits left
 pub plays-ahead : (log : LogParts) (m : List ℕ) (entry i : ℕ) → let y = plays log (opened log m entry) i in is_over y.now ≡ false → position y.progress < log.count
 plays-ahead log m entry i going =
     let y = plays log (opened log m entry) i in
@@ -68,10 +69,12 @@ plays-ahead log m entry i going =
 
 -- ---- what is left
 
+-- a replay that is over has nothing left
 pub left-over : (image : SphereSetup) (b : Book) (i : ℕ) → is_over b.now ≡ true → replay_left image b i ≡ 0
 unfolding replay_left
 left-over image b i e = ap {A = Bool} (λ o. cond o 0 (play_left b.log (opened b.log image.memory image.entry) i b.total)) e
 
+-- a replay that goes on has left what its play has, but for the pieces that are done
 pub left-going : (image : SphereSetup) (b : Book) (i : ℕ) → is_over b.now ≡ false → replay_left image b i ≡ play_left b.log (opened b.log image.memory image.entry) i b.total
 unfolding replay_left
 left-going image b i e = ap {A = Bool} (λ o. cond o 0 (play_left b.log (opened b.log image.memory image.entry) i b.total)) e
@@ -80,6 +83,7 @@ less_or_none : (o : Bool) (n : ℕ) → cond o 0 n ≤ n
 less_or_none true n = omega arith
 less_or_none false n = omega arith
 
+-- a replay has no more left than its play
 pub left-most : (image : SphereSetup) (b : Book) (i : ℕ) → replay_left image b i ≤ play_left b.log (opened b.log image.memory image.entry) i b.total
 unfolding replay_left
 left-most image b i = less_or_none (is_over b.now) (play_left b.log (opened b.log image.memory image.entry) i b.total)
@@ -88,6 +92,7 @@ left-most image b i = less_or_none (is_over b.now) (play_left b.log (opened b.lo
 abbrev pub later : LogParts → Played → ℕ → ℕ
 later log x i = commits_work log x (suc i) (log.count - suc i)
 
+-- what a play has left is its next commit and what comes behind, but for the pieces that are done
 pub left-step : (log : LogParts) (x : Played) (i total : ℕ) → i < log.count → play_left log x i total ≡ (commit_work log (plays log x i) + later log x i) - total
 left-step log x i total l =
     let e : log.count - i ≡ suc (log.count - suc i) = omega arith in
@@ -107,16 +112,19 @@ left-turned image log p u ts i e =
 abbrev pub paid : (c n : ℕ) → ℕ
 paid c n = (n + c + 1) + (n + 3)
 
+-- where the work is enough for n instructions, what is left pays for them
 pub afford-paid : (c work total n : ℕ) → Afforded work total n → paid c n ≤ price c (work - total)
 afford-paid c work total n (Enough l) =
     let a = price-least c (suc n) (work - total) (omega arith) in let b = price-most c n in omega (arith, a, b)
 afford-paid c work total n (Lone none few some) =
     let a = price-least c 1 (work - total) (omega arith) in let b = price-most c 0 in omega (arith, a, b)
 
+-- work that is enough for a commit is more than its pieces
 pub afford-some : (work total n : ℕ) → Afforded work total n → suc total ≤ work
 afford-some work total n (Enough l) = omega arith
 afford-some work total n (Lone none few some) = omega arith
 
+-- a commit's price pays for the words of its flight and for three events more
 pub words-paid : (c n : ℕ) → (n + c + 1) + 3 ≤ price c (suc n)
 words-paid c n = let b = price-most c n in omega (arith, b)
 

@@ -24,6 +24,7 @@ followed_more : (r : Run) (o : Outcome) → r.n ≤ (followed r o).n
 followed_more r (Serial kind) = omega arith
 followed_more r (Next t load store) = omega arith
 
+-- a run has no more instructions than it may
 pub run-most : (m : List ℕ) (t : Parts) (n : ℕ) → (run m t n).n ≤ n
 run-most m t zero = omega arith
 run-most m t (suc n) =
@@ -90,6 +91,7 @@ one_is_serial : (t : Parts) (m : List ℕ) (kind : Kind) → next_kind t m ≡ S
 unfolding next_kind
 one_is_serial t m kind e = one-outcome t m ∙ serial_outcome t (fetched t m) _ _ kind e
 
+-- a run before a serial instruction has none
 pub run-serial : (m : List ℕ) (t : Parts) (kind : Kind) (n : ℕ) → next_kind t m ≡ Some kind → run m t n ≡ begun t
 run-serial m t kind zero e = refl
 run-serial m t kind (suc n) e =

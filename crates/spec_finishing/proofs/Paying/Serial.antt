@@ -82,6 +82,7 @@ serial_rest c image p b k x devices role going g none work =
     let pays = verdict-pays c image p b k x devices ((length (by_verdict b k x devices p).words + c + 1) + 3) role going g (omega (arith, none, work)) (omega (arith, h, paid_, words)) in
     pays
 
+-- a serial step of a replay that goes on pays for its flight and three events
 pub serial-pays : (c : ℕ) (image : SphereSetup) (p : Sphere) (b : Book) (k moment : ℕ) (u : Parts) (devices : Devices) → p.role ≡ Replay b → is_over b.now ≡ false → GoesOn image p b → slice_get p.threads k ≡ Some u → SerialFits p k u
     → let v = serial_moved k moment u devices p in sphere_rest c image (laid v) + ((length v.words + c + 1) + 3) ≤ sphere_rest c image p
 unfolding serial_moved
@@ -130,6 +131,7 @@ abbrev pub DmaPays : (c : ℕ) → SphereSetup → Sphere → Option Moved → T
 DmaPays c image p None = Unit {0}
 DmaPays c image p (Some v) = sphere_rest c image (laid v) + ((length v.words + c + 1) + 3) ≤ sphere_rest c image p
 
+-- a DMA of a replay that goes on pays for its flight and three events
 pub dma-pays : (c : ℕ) (image : SphereSetup) (p : Sphere) (b : Book) (devices : Devices) → p.role ≡ Replay b → is_over b.now ≡ false → GoesOn image p b → DmaFits devices p → DmaPays c image p (dma_moved devices p)
 unfolding dma_moved
 dma-pays c image p b devices role going g fits =

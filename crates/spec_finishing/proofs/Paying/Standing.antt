@@ -40,6 +40,7 @@ what_paid c images z x moment i image p b (OfRaise k value) positive there is ro
 
 -- ---- in any sphere
 
+-- a role that is replayed has a book
 pub replay-role : (role : Role) → replays role ≡ true → (b : Book) × (role ≡ Replay b)
 replay-role Plain e = absurd (true≢false (sym e))
 replay-role (Record log) e = absurd (true≢false (sym e))
@@ -84,6 +85,7 @@ at_more c s z x m p b (Some q) e positive stands is role fits =
     let of_q : q.role ≡ Replay b = ap (λ (y : Sphere). y.role) same ∙ role in
     what_paid c s.spheres z x m.moment m.sphere image.0 q b m.what positive image.1 is of_q (λ going. stands.goes m.sphere image.0 q b image.1 is of_q going) fits
 
+-- a move of a replay pays for its flight and for what it does beside that
 pub move-pays_more : (c : ℕ) (s : Setup) (z : Numbers) (x : Whole) (m : Move) (p : Sphere) (b : Book) → 0 < z.buffer → Stands s x → slice_get x.spheres m.sphere ≡ Some p → p.role ≡ Replay b → Fits z x m
     → spheres_rest c s.spheres (do_move z x m).spheres + (move_most c x m + what_more m.what) ≤ spheres_rest c s.spheres x.spheres
 unfolding do_move

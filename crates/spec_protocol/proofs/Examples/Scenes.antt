@@ -20,6 +20,7 @@ alone cores role size ws =
       spheres = record { memory = image size ws; entry = 0; role = role } ∷ [];
     }
 
+-- what a list of events answers, one reply for each
 abbrev pub replies : World → List Event → List Reply
 replies w [] = []
 replies w (e ∷ es) = let a = happens w e in a.reply ∷ replies a.world es

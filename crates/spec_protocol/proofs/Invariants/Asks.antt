@@ -35,9 +35,11 @@ use Rattle.spec_protocol.specs.Invariants.{current, IsGoodHeld, IsGood}
 
 -- ---- what is shown of the sphere that asks
 
+-- the world shows each sphere as its memory with the flying words laid over it
 pub shown_at : (w : World) (i : ℕ) → i < length w.spheres → slice_get (shown_of w).spheres i ≡ Some (shown w.slots i (sphere_at w i))
 shown_at w i within = shown-get w.slots i w.spheres within
 
+-- what is shown of a sphere is the sphere over its current memory
 pub shown_over : (w : World) (i : ℕ) → shown w.slots i (sphere_at w i) ≡ over (current w i) (sphere_at w i)
 unfolding shown
 shown_over w i = refl
@@ -267,6 +269,7 @@ grant_serial_kept : (w : World) (c : ℕ) (h : Held) → IsGood w → Grants w c
 unfolding grant_serial
 grant_serial_kept w c h good g = granted-kept w c h (serial_request h) _ (serial_move w h) _ refl good g
 
+-- an ask that a flight denies keeps the invariant, if the ask that none denies does
 pub denied_kept : (w : World) (a : After) (o : Option ℕ) → IsGood w → (o ≡ None → Kept w a) → Kept w (unless_denied (denied_by o) w a)
 denied_kept w a None good kept = kept refl
 denied_kept w a (Some k) good kept = unchanged-kept w (answered w (Reply.Denied k)) refl refl refl good
@@ -284,6 +287,7 @@ arbiter_kept w c h how false good is closed going turn free chunk =
     denied_kept w (grant_chunk w c h how) (first_slot (meets_chunk h.chunk.reads h.chunk.writes) w.slots) good
     (λ none. grant_chunk_kept w c h how good (chunk_grants w c h how good is closed going turn free chunk none))
 
+-- an ask at any actor's turn keeps the invariant, if the ask at its own turn does
 pub turn-kept : (w : World) (a : After) (o : Option Actor) → IsGood w → (o ≡ None → Kept w a) → Kept w (unless_turn o w a)
 turn-kept w a None good kept = kept refl
 turn-kept w a (Some actor) good kept = unchanged-kept w (answered w (Reply.NotTurn actor)) refl refl refl good
@@ -305,6 +309,7 @@ ask_held_kept : (w : World) (c : ℕ) (o : Option Held) → IsGood w → at w.co
 ask_held_kept w c None good is = unchanged-kept w (answered w Reply.Idle) refl refl refl good
 ask_held_kept w c (Some h) good is = closed_kept w c h h.chunk.closed good is refl
 
+-- the event Ask keeps the invariant
 pub ask-kept : (w : World) (c : ℕ) → IsGood w → Kept w (asking w c)
 unfolding asking
 ask-kept w c good = ask_held_kept w c (at w.cores c) good refl

@@ -123,6 +123,7 @@ happens_reply : (w : World) (c : ℕ) → (happens w (Event.Ask c)).reply ≡ (a
 unfolding happens act asking
 happens_reply w c = refl
 
+-- with no flight standing a closed chunk's ask is granted, or it is another's turn
 pub asks_granted : AsksAreGranted
 asks_granted s es is window c h how can =
     let w = world_after (world_of s) es in
@@ -186,6 +187,7 @@ closed_clear w c h (Some how) good held =
     (λ _ e. absurd (true≢false (sym e)))
     (λ _. arbiter_clear w c h how (asks_serial h.chunk p.role) good held)))
 
+-- no ask is granted where a word of the chunk is left in a flight of its sphere
 pub grants_clear : GrantsAreClear
 grants_clear s es is c h there made =
     let w = world_after (world_of s) es in

@@ -37,6 +37,7 @@ set-cases xs k j v x e =
       ]
     ]
 
+-- after a change at one core each thread is still on one core, if no other core holds the new one's
 pub alone-set : (cores : List (Option Held)) (c : ℕ) (o : Option Held) → IsAlone cores → ((h : Held) → o ≡ Some h → (d : ℕ) (g : Held) → d ≢ c → at cores d ≡ Some g → h.chunk.sphere ≡ g.chunk.sphere → h.thread ≡ g.thread → ⊥) → IsAlone (set cores c o)
 alone-set cores c o alone new a b h g ah bg sphere thread =
     elim (set-cases cores c a o h ah) [
@@ -52,6 +53,7 @@ alone-set cores c o alone new a b h g ah bg sphere thread =
 
 -- ---- one core changes
 
+-- what another core holds stays good, whatever is put on core c
 pub held_there : (w : World) (c d : ℕ) (o : Option Held) (g : Held) → IsGoodHeld w d g → IsGoodHeld (with_core w c o) d g
 held_there w c d o g good =
     record {
@@ -63,6 +65,7 @@ held_there w c d o g good =
       chunk = good.chunk;
     }
 
+-- a world stays good where core c is given something good, whose thread is on no other core
 pub core-good : (w : World) (c : ℕ) (o : Option Held) → IsGood w → ((h : Held) → o ≡ Some h → IsGoodHeld w c h)
     → ((h : Held) → o ≡ Some h → (d : ℕ) (g : Held) → d ≢ c → at w.cores d ≡ Some g → h.chunk.sphere ≡ g.chunk.sphere → h.thread ≡ g.thread → ⊥) → IsGood (with_core w c o)
 core-good w c o good new other =
@@ -79,6 +82,7 @@ core-good w c o good new other =
       alone = alone-set w.cores c o good.alone other;
     }
 
+-- such a change of one core, which moves no sphere and makes no point, keeps the invariant
 pub core-kept : (w : World) (c : ℕ) (o : Option Held) (a : After) → a.world ≡ with_core w c o → a.move ≡ None → a.point ≡ None → IsGood (with_core w c o) → Kept w a
 core-kept w c o a world move point good =
     record {
@@ -126,6 +130,7 @@ chunk_kept w c h dh a good is base chunk world move point =
 
 -- ---- choices
 
+-- what holds of both branches under their conditions holds of the choice
 pub branch : {A : Type 0} (P : A → Type 0) (b : Bool) (x y : A) → (b ≡ true → P x) → (b ≡ false → P y) → P (cond b x y)
 branch P true x y p q = p refl
 branch P false x y p q = q refl
@@ -152,6 +157,7 @@ step_held_kept w c (Some h) is good =
     chunk_kept w c h s.chunk (stepped w c h s) good is r.1 r.0 refl refl refl)
     (λ _. unchanged-kept w (answered w Reply.Waiting) refl refl refl good))
 
+-- the event Step keeps the invariant
 pub step-kept : (w : World) (c : ℕ) → IsGood w → Kept w (stepping w c)
 unfolding stepping
 step-kept w c good = step_held_kept w c (at w.cores c) refl good
@@ -212,6 +218,7 @@ cut_held_kept w c (Some h) is good =
     (λ _. unchanged-kept w (answered w Reply.Stopped) refl refl refl good)
     (λ _. cut_open_kept w c h h.chunk.closed is refl good)
 
+-- the event Cut keeps the invariant
 pub cut-kept : (w : World) (c : ℕ) → IsGood w → Kept w (cutting w c)
 unfolding cutting
 cut-kept w c good = cut_held_kept w c (at w.cores c) refl good

@@ -51,6 +51,7 @@ pub record Beside (w v : World) (c : ℕ) (h : Held) : Type 0 where
   pub memory : current v h.chunk.sphere ≡ current w h.chunk.sphere
   pub quiet : IsQuiet v.slots h.chunk.sphere c h.chunk.reads → IsQuiet w.slots h.chunk.sphere c h.chunk.reads
 
+-- what a core holds stays good in a world that is beside the first one for it
 pub held-beside : (w v : World) (c : ℕ) (h : Held) → Beside w v c h → IsGoodHeld w c h → IsGoodHeld v c h
 held-beside w v c h b good =
     let limits : limit_of v.numbers.chunk (sphere_at v h.chunk.sphere).role h.thread h.chunk.start ≡ limit_of w.numbers.chunk (sphere_at w h.chunk.sphere).role h.thread h.chunk.start =
@@ -206,6 +207,7 @@ drain_slot_kept : (w : World) (k : ℕ) (o : Option Flight) → at w.slots k ≡
 drain_slot_kept w k None is good = unchanged-kept w (answered w Reply.NoCommit) refl refl refl good
 drain_slot_kept w k (Some f) is good = drain_words_kept w k f f.words good is refl
 
+-- the event Drain keeps the invariant
 pub drain-kept : (w : World) (k : ℕ) → IsGood w → Kept w (draining w k)
 unfolding draining
 drain-kept w k good = drain_slot_kept w k (at w.slots k) refl good
@@ -298,6 +300,7 @@ retire_slot_kept w k (Some f) is good =
     (λ done. retired_kept w k f _ good is done refl refl refl)
     (λ _. unchanged-kept w _ (unchanged w k (Some f) is) refl refl good)
 
+-- the event Retire keeps the invariant
 pub retire-kept : (w : World) (k : ℕ) → IsGood w → Kept w (retiring w k)
 unfolding retiring
 retire-kept w k good = retire_slot_kept w k (at w.slots k) refl good
@@ -463,6 +466,7 @@ deliver_slot_kept w c k held (Some f) there is good =
     (λ _. squashed_kept w k c f held good is there)
     (λ free. delivered_kept w k c f held good is there free))
 
+-- the event Deliver keeps the invariant
 pub deliver-kept : (w : World) (c k : ℕ) → IsGood w → Kept w (delivering w c k)
 unfolding delivering
 deliver-kept w c k good = deliver_slot_kept w c k (at w.cores c) (at w.slots k) refl refl good

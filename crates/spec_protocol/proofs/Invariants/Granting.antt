@@ -131,6 +131,7 @@ granted_whole w c h q writes v good g =
 
 -- ---- a divergence, which stops the sphere
 
+-- a flight without words needs no slot: the slots stay as they are
 pub unflown : (w : World) (i : ℕ) (f : Flight) → IsGood w → f.words ≡ [] → Flew i f w.slots w.slots
 unflown w i f good e =
     record {
@@ -166,6 +167,7 @@ stopped_here w p c x s good =
           (ap (λ (m : List ℕ). lays m (flying i w.slots)) (sym s.memory) ∙ ap (λ (q : Sphere). lays q.memory (flying i w.slots)) (sym there)) good.chunk;
     }
 
+-- a world stays good where a replayed sphere stops
 pub stopped-good : (w : World) (i : ℕ) (p : Sphere) → IsGood w → Stops w i p → IsGood (with_sphere w i p)
 stopped-good w i p good s =
     let f : Flight = record { sphere = i; words = []; writes = nothing w.numbers.signature; told = 0 } in
@@ -182,12 +184,14 @@ stopped-good w i p good s =
       alone = good.alone;
     }
 
+-- a move that stores nothing and leaves memory and devices shows what it gives when done whole
 pub stopped-shown : (w : World) (i : ℕ) (v : Moved) → IsGood w → v.sphere.memory ≡ (sphere_at w i).memory → v.words ≡ [] → v.devices ≡ w.devices → shown_of (with_sphere w i v.sphere) ≡ do_moved (shown_of w) i (relaid (current w i) v)
 stopped-shown w i v good memory words devices =
     let f : Flight = record { sphere = i; words = v.words; writes = nothing w.numbers.signature; told = 0 } in
     sym (λ j. shown_of (moved_world w i v.sphere w.slots w.cores (devices j)))
     ∙ moved-shown w i v f w.slots w.cores memory refl (unflown w i f good words)
 
+-- granting a request that may be granted keeps the invariant, whatever its outcome
 pub granted-kept : (w : World) (c : ℕ) (h : Held) (q : CommitRequest) (writes : Marks) (v : Moved) (o : CommitOutcome) → v.outcome ≡ o → IsGood w → Grants w c h q writes v → Kept w (granted w c q writes v o)
 granted-kept w c h q writes v Granted is good g =
     let m = move_at (moment w) q in

@@ -16,6 +16,7 @@ use Rattle.spec_protocol.specs.Invariants.{IsGood}
 
 -- ---- what an event keeps
 
+-- v has the numbers of w, and as many spheres, cores and slots
 pub record SameSizes (w v : World) : Type 0 where
   pub numbers : v.numbers ≡ w.numbers
   pub spheres : length v.spheres ≡ length w.spheres
@@ -29,6 +30,7 @@ point_for z now i (OfSerial k) = Point.Commit now i (Actor.Thread k) CommitKind.
 point_for z now i OfDma = Point.Commit now i Actor.Dma CommitKind.Dma 0 false
 point_for z now i (OfRaise k value) = Point.Raise now i k value
 
+-- the sphere that a point is of
 abbrev pub sphere_of_point : Point → ℕ
 sphere_of_point (Point.Commit moment i actor kind size short) = i
 sphere_of_point (Point.Raise moment i k value) = i
@@ -43,10 +45,12 @@ abbrev pub PointOf : Numbers → (replays : Bool) → Move → Option Point → 
 PointOf z true m o = IsOf m.sphere o
 PointOf z false m o = o ≡ Some (point_for z m.moment m.sphere m.what)
 
+-- where an event moves no sphere it makes no point, and else it makes the move's
 abbrev pub PointIs : World → Option Move → Option Point → Type 0
 PointIs w None o = o ≡ None
 PointIs w (Some m) o = PointOf w.numbers (replays (sphere_at w m.sphere).role) m o
 
+-- what an event at w leaves: a good world of the same sizes, whose move is done whole on what is shown
 pub record Kept (w : World) (a : After) : Type 0 where
   pub good : IsGood a.world
   pub sizes : SameSizes w a.world
@@ -56,14 +60,17 @@ pub record Kept (w : World) (a : After) : Type 0 where
   -- and the move can be done as it says
   pub fits : FitsIf w.numbers (shown_of w) a.move
 
+-- a world has its own sizes
 pub same_sizes : (w : World) → SameSizes w w
 same_sizes w = record { numbers = refl; spheres = refl; cores = refl; slots = refl }
 
 -- ---- rows of spheres
 
+-- the sphere that is put at i stands there
 pub sphere-same : (ps : List Sphere) (i : ℕ) (p : Sphere) → i < length ps → get_or (set ps i p) i no_sphere ≡ p
 sphere-same ps i p l = get_or-set_same ps i p no_sphere l
 
+-- a sphere that is put at i leaves every other one
 pub sphere-other : (ps : List Sphere) (i j : ℕ) (p : Sphere) → j ≢ i → get_or (set ps i p) j no_sphere ≡ get_or ps j no_sphere
 sphere-other ps i j p ne = get_or-set_other ps i j p no_sphere ne
 
@@ -73,6 +80,7 @@ shown_same : (xs ys : List (Option Flight)) (i : ℕ) (p : Sphere) → flying i 
 unfolding shown
 shown_same xs ys i p e = (λ j. record p { memory = lays p.memory (e j) })
 
+-- spheres of which the same words fly are shown alike
 pub shown_from-same : (xs ys : List (Option Flight)) (n : ℕ) (ps : List Sphere) → ((j : ℕ) → n ≤ j → flying j ys ≡ flying j xs) → shown_from ys n ps ≡ shown_from xs n ps
 shown_from-same xs ys n [] same = refl
 shown_from-same xs ys n (p ∷ ps) same =
@@ -89,6 +97,7 @@ shown_from-set xs ys n (suc i) (q ∷ ps) p same =
     (λ j. shown_same xs ys n q (same n (omega arith) (λ h. omega arith)) j ∷ shown_from-set xs ys (suc n) i ps p (λ k l ne. same k (omega arith) (λ h. ne (h ∙ sym e))) j)
     ∙ ap (λ (k : ℕ). shown xs n q ∷ set (shown_from xs (suc n) ps) i (shown ys k p)) e
 
+-- where words fly of sphere i alone, a change of sphere i changes what is shown of it, and no other
 pub shown-set : (xs ys : List (Option Flight)) (i : ℕ) (ps : List Sphere) (p : Sphere) → ((j : ℕ) → j ≢ i → flying j ys ≡ flying j xs) → shown_from ys 0 (set ps i p) ≡ set (shown_from xs 0 ps) i (shown ys i p)
 shown-set xs ys i ps p same =
     let e : 0 + i ≡ i = omega arith in
@@ -108,6 +117,7 @@ shown-get xs i ps l =
     let e : 0 + i ≡ i = omega arith in
     shown_get_from xs 0 i ps l ∙ ap (λ (k : ℕ). Some (shown xs k (get_or ps i no_sphere))) e
 
+-- a sphere that is put where it stands changes nothing
 pub set-itself : (ps : List Sphere) (i : ℕ) → set ps i (get_or ps i no_sphere) ≡ ps
 set-itself [] i = refl
 set-itself (p ∷ ps) zero = refl
@@ -139,6 +149,7 @@ point-other z false m o replayed is = absurd (replayed refl)
 
 -- ---- an event that answers and does nothing
 
+-- an event that leaves the world as it was keeps the invariant
 pub unchanged-kept : (w : World) (a : After) → a.world ≡ w → a.move ≡ None → a.point ≡ None → IsGood w → Kept w a
 unchanged-kept w a world move point good =
     record {

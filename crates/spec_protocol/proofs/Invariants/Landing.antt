@@ -76,6 +76,7 @@ begins_thread : (z : Numbers) (i k : ℕ) (p : Sphere) (h : Held) (o : Option Pa
 begins_thread z i k p h None start e = absurd (none-some h e)
 begins_thread z i k p h (Some t) start e = begins_if z i k p h t (is_live t) start refl e
 
+-- what is held afresh is a live thread, whose chunk begins from its state
 pub afresh-begins : (z : Numbers) (i k : ℕ) (p : Sphere) (h : Held) → held_afresh z i k p ≡ Some h → Begins z i k p h
 afresh-begins z i k p h e = begins_thread z i k p h (slice_get p.threads k) refl e
 
@@ -97,6 +98,7 @@ afresh-held v i k c p h within positive there b =
 
 -- ---- the other chunks
 
+-- the world in which sphere i has become q, with these slots, cores and devices
 abbrev pub moved_world : World → (i : ℕ) → Sphere → List (Option Flight) → List (Option Held) → Devices → World
 moved_world w i q ys cores devices = record w { spheres = set w.spheres i q; slots = ys; cores = cores; devices = devices }
 
@@ -171,6 +173,7 @@ landed_here w q f ys cores devices d x l good =
           (landed_chunk w.numbers.buffer w.numbers.signature w.slots ys d (current w i) x.chunk f l.flew l.sphere l.covered l.untold good.chunk);
     }
 
+-- what a core holds of the moved sphere stays good, where the words land as they should
 pub landed-held : (w : World) (i : ℕ) (q : Sphere) (f : Flight) (ys : List (Option Flight)) (cores : List (Option Held)) (devices : Devices) (d : ℕ) (x : Held) → x.chunk.sphere ≡ i → Lands w i q f ys d x → IsGoodHeld w d x
     → IsGoodHeld (moved_world w i q ys cores devices) d x
 landed-held w i q f ys cores devices d x e l good =
@@ -195,6 +198,7 @@ elsewhere-held w i q f ys cores devices d x ne flew good =
 
 -- ---- what is shown
 
+-- the moved world shows what the move, done whole on the current memory, gives
 pub moved-shown : (w : World) (i : ℕ) (v : Moved) (f : Flight) (ys : List (Option Flight)) (cores : List (Option Held)) → v.sphere.memory ≡ (sphere_at w i).memory → f.words ≡ v.words → Flew i f w.slots ys
     → shown_of (moved_world w i v.sphere ys cores v.devices) ≡ do_moved (shown_of w) i (relaid (current w i) v)
 unfolding shown

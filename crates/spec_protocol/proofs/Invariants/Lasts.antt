@@ -132,6 +132,7 @@ first_last z (Some image) p e = subst (λ (q : Sphere). IsOfCommits q.progress) 
 start_all : (s : Setup) → AreLast (whole_of s).spheres
 start_all s i p e = first_last s.numbers.chunk (slice_get s.spheres i) p (sym (slice_get-map (sphere_of s.numbers.chunk) s.spheres i) ∙ e)
 
+-- the thread that committed last is the last one among the sphere's commits, after every schedule
 pub spheres_keep_lasts : SpheresKeepLasts
 unfolding shown
 spheres_keep_lasts s es i p is there =

@@ -52,6 +52,7 @@ good_counted a g =
       alone = g.alone;
     }
 
+-- every event keeps the invariant
 pub happens-kept : (w : World) (e : Event) → IsGood w → Kept w (happens w e)
 unfolding happens
 happens-kept w e good =
@@ -66,6 +67,7 @@ happens-kept w e good =
 
 -- ---- the start
 
+-- no flight stands in slots that are all free
 pub free_slots : (n k : ℕ) (f : Flight) → at (replicate n None) k ≡ Some f → ⊥
 free_slots zero k f e = none-some f e
 free_slots (suc n) zero f e = none-some f e
@@ -93,6 +95,7 @@ first_sphere z n c ps h e =
     let k : 0 + c ≡ c = omega arith in
     ap (λ (x : Held). x.chunk.sphere) (sym b.is) ∙ k
 
+-- the world that a setup starts is good
 pub start-good : (s : Setup) → IsSetup s → IsGood (world_of s)
 start-good s is =
     let w = world_of s in
@@ -121,11 +124,13 @@ unfolding shown
 shown_itself n i [] = refl
 shown_itself n i (p ∷ ps) = (λ j. record p { memory = lays p.memory (none_flies n i j) } ∷ shown_itself n (suc i) ps j)
 
+-- the world that a setup starts shows the setup's spheres and devices
 pub start-shown : (s : Setup) → shown_of (world_of s) ≡ whole_of s
 start-shown s = (λ j. record { spheres = shown_itself s.window 0 (world_of s).spheres j; devices = (world_of s).devices })
 
 -- ---- schedules
 
+-- a good world is good after every list of events
 pub after-good : (w : World) (es : List Event) → IsGood w → IsGood (world_after w es)
 after-good w [] good = good
 after-good w (e ∷ es) good = after-good (happens w e).world es (happens-kept w e good).good
@@ -155,6 +160,7 @@ moves_serial w (e ∷ es) good =
           (subst (λ (z : Numbers). FitAll z (shown_of a.world) (moves a.world es)) k.sizes.numbers r.possible));
     }
 
+-- what is shown after a schedule is what its moves, done whole in their order, give
 pub moves_are : MovesAreSerial
 moves_are s es is =
     let r = moves_serial (world_of s) es (start-good s is) in
@@ -163,6 +169,7 @@ moves_are s es is =
       possible = subst (λ (x : Whole). FitAll s.numbers x (moves (world_of s) es)) (start-shown s) r.possible;
     }
 
+-- every world after a schedule is good
 pub invariants_hold : InvariantsHold
 invariants_hold s es is = after-good (world_of s) es (start-good s is)
 
@@ -188,6 +195,7 @@ first_length z i zero ps = refl
 first_length z i (suc n) [] = ap suc (first_length z (suc i) n [])
 first_length z i (suc n) (p ∷ ps) = ap suc (first_length z (suc i) n ps)
 
+-- no schedule changes the number of spheres, cores and slots, or the sizes
 pub sizes_kept : SizesAreKept
 sizes_kept s es is =
     let a = after_sizes (world_of s) es (start-good s is) in

@@ -65,6 +65,7 @@ place_thread_kept w c i k (Some t) good is =
     (λ _. elsewhere_kept w c i k t (core_of w i k) good is refl)
     (λ _. unchanged-kept w (answered w Reply.Ended) refl refl refl good)
 
+-- the event Place keeps the invariant
 pub place-kept : (w : World) (c i k : ℕ) → IsGood w → Kept w (placing w c i k)
 unfolding placing
 place-kept w c i k good = place_thread_kept w c i k (slice_get (sphere_at w i).threads k) good refl
@@ -227,6 +228,7 @@ raise_thread_kept w i k value (Some t) good is live =
     (λ _. unchanged-kept w (answered w Reply.NoHandler) refl refl refl good))
     (λ _. unchanged-kept w (answered w Reply.Ended) refl refl refl good)
 
+-- the event Raise keeps the invariant
 pub raise-kept : (w : World) (i k value : ℕ) → IsGood w → Kept w (raising w i k value)
 unfolding raising
 raise-kept w i k value good =

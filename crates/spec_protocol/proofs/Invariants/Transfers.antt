@@ -180,6 +180,7 @@ if_kept : (w : World) (i : ℕ) (o : Option Moved) → IsGood w → is_stopped (
 if_kept w i None good going turn is = unchanged-kept w (answered w Reply.NoDma) refl refl refl good
 if_kept w i (Some v) good going turn is = with_kept w i v v.outcome refl good (record { within = dma_inside w i v is; going = going; turn = turn; is = is })
 
+-- the event Dma keeps the invariant
 pub dma-kept : (w : World) (i : ℕ) → IsGood w → Kept w (transferring w i)
 unfolding transferring
 dma-kept w i good =

@@ -37,6 +37,7 @@ sizes_end : (z : Sizes) (ts : List Parts) → SizesAhead z z ts
 sizes_end (Sizes.Each xs) ts = ([], sym (append-nil xs))
 sizes_end (Sizes.Short xs) ts = λ k i l. refl
 
+-- at its end a log is what it becomes
 pub ahead-end : (p : Sphere) (log : LogParts) → Ahead log p log
 ahead-end p log =
     record {
@@ -75,6 +76,7 @@ inputs_ahead : (o : Option Input) (log : LogParts) (ys : List Input) → Behind 
 inputs_ahead None log ys b = b
 inputs_ahead (Some r) log ys b = behind_step ys log.inputs r b
 
+-- what is ahead of a commit of a thread is ahead before it too
 pub has_committed-ahead : (L : LogParts) (k : ℕ) (short : Bool) (p q : Sphere) (log qlog : LogParts) (t u : Parts) (made : List Parts) (c : Commit) (o : Option Input) → HasCommitted k short p q log qlog t u made c o → Ahead L q qlog → Ahead L p log
 has_committed-ahead L k short p q log qlog t u made c o d a =
     let n = has_committed-parts k short p q log qlog t u made c o d in
@@ -103,6 +105,7 @@ has_committed-ahead L k short p q log qlog t u made c o d a =
 
 -- ---- a DMA
 
+-- q is p after a DMA of those bytes, which the log of q has noted
 pub record Transferred (p q : Sphere) (log qlog : LogParts) (bytes : List ℕ) : Type 0 where
   pub threads : q.threads ≡ p.threads
   pub position_ : position q.progress ≡ suc (position p.progress)
@@ -127,6 +130,7 @@ dma_sizes_stand ModeName.Picolog (Sizes.Short xs) i n ts s = s
 abbrev dma_log_of : Sphere → LogParts → List ℕ → LogParts
 dma_log_of p log bytes = dma_noted (position p.progress) bytes (noted dma_commit (position p.progress) false log)
 
+-- the log stands by its sphere after a DMA, if it did before
 pub transferred-stands : (p q : Sphere) (log qlog : LogParts) (bytes : List ℕ) → Transferred p q log qlog bytes → Stands p log → Stands q qlog
 transferred-stands p q log qlog bytes d s =
     let l : LogParts = dma_log_of p log bytes in
@@ -147,6 +151,7 @@ dma_sizes_ahead (Sizes.Short ys) (Sizes.Each xs) i ts a = a
 dma_sizes_ahead (Sizes.Each ys) (Sizes.Short xs) i ts a = a
 dma_sizes_ahead (Sizes.Short ys) (Sizes.Short xs) i ts a = a
 
+-- what is ahead of a DMA is ahead before it too
 pub transferred-ahead : (L : LogParts) (p q : Sphere) (log qlog : LogParts) (bytes : List ℕ) → Transferred p q log qlog bytes → Ahead L q qlog → Ahead L p log
 transferred-ahead L p q log qlog bytes d b =
     let l : LogParts = dma_log_of p log bytes in
@@ -166,6 +171,7 @@ transferred-ahead L p q log qlog bytes d b =
 
 -- ---- an interrupt
 
+-- q is p after thread k was interrupted with value, which the log of q has noted
 pub record WasRaised (k value : ℕ) (p q : Sphere) (log qlog : LogParts) (t : Parts) : Type 0 where
   pub start : slice_get p.threads k ≡ Some t
   pub takes : takes_interrupt t ≡ true
@@ -196,6 +202,7 @@ raised_sizes ModeName.Picolog (Sizes.Short xs) n ts us same s = λ k i l. s k i 
 abbrev raised_same : (k value : ℕ) (p q : Sphere) (t : Parts) → slice_get p.threads k ≡ Some t → q.threads ≡ set p.threads k (interrupted value t) → (j : ℕ) → commits_in q.threads j ≡ commits_in p.threads j
 raised_same k value p q t start threads j = ap (λ (ts : List Parts). commits_in ts j) threads ∙ set_commits p.threads k j value t start
 
+-- the log stands by its sphere after an interrupt, if it did before
 pub raised-stands : (k value : ℕ) (p q : Sphere) (log qlog : LogParts) (t : Parts) → WasRaised k value p q log qlog t → Stands p log → Stands q qlog
 raised-stands k value p q log qlog t d s =
     let l : LogParts = interrupt_noted k t.commits value log in
@@ -229,6 +236,7 @@ raised_sizes_ahead (Sizes.Short ys) (Sizes.Each xs) ts us same a = a
 raised_sizes_ahead (Sizes.Each ys) (Sizes.Short xs) ts us same a = a
 raised_sizes_ahead (Sizes.Short ys) (Sizes.Short xs) ts us same a = λ k i l. a k i (let h = same k in omega arith)
 
+-- what is ahead of an interrupt is ahead before it too
 pub raised-ahead : (L : LogParts) (k value : ℕ) (p q : Sphere) (log qlog : LogParts) (t : Parts) → WasRaised k value p q log qlog t → Ahead L q qlog → Ahead L p log
 raised-ahead L k value p q log qlog t d b =
     let l : LogParts = interrupt_noted k t.commits value log in

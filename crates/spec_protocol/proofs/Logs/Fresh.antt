@@ -19,6 +19,7 @@ deeper : (ts : List Parts) (t : Parts) (k j : ℕ) (u x : Parts) → AtSet ts k 
 deeper ts t k j u x (inl p) = inl (ap suc p.0, p.1)
 deeper ts t k j u x (inr p) = inr ((λ e. p.0 (let h : j ≡ k = omega arith in h)), p.1)
 
+-- a thread found after a change at k is the new one, or another that stood there before
 pub at-set_parts : (ts : List Parts) (k j : ℕ) (u x : Parts) → slice_get (set ts k u) j ≡ Some x → AtSet ts k j u x
 at-set_parts [] k j u x e = absurd (none-some x e)
 at-set_parts (t ∷ ts) zero zero u x e = inl (refl, (let q : u ≡ x = cc in q))
@@ -42,6 +43,7 @@ becomes ts made k j u x e =
       | inr q ↦ inr (inr (set_none ts k j u q.0))
     ]
 
+-- interrupts that are fresh stay so when a thread commits once more
 pub fresh-commit : (ts made : List Parts) (k : ℕ) (t u : Parts) (is : List Interrupt) → slice_get ts k ≡ Some t → u.commits ≡ t.commits + 1 → AreFresh ts is → AreFresh (set ts k u ++ made) is
 fresh-commit ts made k t u is there commits fresh =
     record {
@@ -61,6 +63,7 @@ fresh-commit ts made k t u is there commits fresh =
 not-there : (ts : List Parts) (k j : ℕ) (t : Parts) → slice_get ts k ≡ Some t → slice_get ts j ≡ None → k ≡ j → ⊥
 not-there ts k j t there none e = none-some t (sym none ∙ ap (slice_get ts) (sym e) ∙ there)
 
+-- interrupts stay fresh with one that is raised at its thread's number of commits
 pub fresh-raise : (ts : List Parts) (k value : ℕ) (t : Parts) (is : List Interrupt) → slice_get ts k ≡ Some t → AreFresh ts is → AreFresh (set ts k (interrupted value t)) (raised_to k t.commits value is)
 fresh-raise ts k value t is there fresh =
     let u = interrupted value t in
@@ -84,5 +87,6 @@ fresh-raise ts k value t is there fresh =
 
 -- ---- the start
 
+-- a list of no interrupts is fresh
 pub fresh-none : (ts : List Parts) → AreFresh ts []
 fresh-none ts = record { later = λ k i t e l. refl; unmasked = λ k t e mask. refl; absent = λ k i e. refl }

@@ -37,19 +37,23 @@ append_commits [] made j new = new_commits made j new
 append_commits (t ∷ ts) made zero new = refl
 append_commits (t ∷ ts) made (suc j) new = append_commits ts made j new
 
+-- a commit of thread k leaves the number of every other thread's commits
 pub commits-other : (ts made : List Parts) (k j : ℕ) (u : Parts) → AreNew made → j ≢ k → commits_in (set ts k u ++ made) j ≡ commits_in ts j
 commits-other ts made k j u new ne = append_commits (set ts k u) made j new ∙ ap commits_if (get-set_other ts k j u ne)
 
+-- after a commit of thread k its number of commits is that of what it has become
 pub commits-same : (ts made : List Parts) (k : ℕ) (t u : Parts) → slice_get ts k ≡ Some t → commits_in (set ts k u ++ made) k ≡ u.commits
 commits-same ts made k t u is = ap commits_if (get-append (set ts k u) made k u (get-set_same ts k u t is))
 
 -- ---- what stands
 
+-- the order has as many actors as there were commits, and each thread as often as it committed
 abbrev pub OrderStands : ModeName → List Actor → (n : ℕ) → List Parts → Type 0
 OrderStands ModeName.OrderSize order n ts = (length order ≡ n) × ((k : ℕ) → count_of k order ≡ commits_in ts k)
 OrderStands ModeName.OrderOnly order n ts = (length order ≡ n) × ((k : ℕ) → count_of k order ≡ commits_in ts k)
 OrderStands ModeName.Picolog order n ts = Unit {0}
 
+-- the sizes are those of the commits so far: all of them, or none past a thread's last
 abbrev pub SizesStand : ModeName → Sizes → (n : ℕ) → List Parts → Type 0
 SizesStand ModeName.OrderSize (Sizes.Each xs) n ts = length xs ≡ n
 SizesStand ModeName.OrderSize (Sizes.Short xs) n ts = ⊥
@@ -68,12 +72,14 @@ pub record Stands (p : Sphere) (log : LogParts) : Type 0 where
   pub unmasked : (k : ℕ) (t : Parts) → slice_get p.threads k ≡ Some t → t.mask ≡ false → interrupt_at log.interrupts k t.commits ≡ None
   pub dmas : SlotsBelow (position p.progress) log.dmas
 
+-- the first sizes have those of the second as their past
 abbrev pub SizesAhead : Sizes → Sizes → List Parts → Type 0
 SizesAhead (Sizes.Each ys) (Sizes.Each xs) ts = (rest : List ℕ) × (ys ≡ xs ++ rest)
 SizesAhead (Sizes.Each ys) (Sizes.Short xs) ts = ⊥
 SizesAhead (Sizes.Short ys) (Sizes.Each xs) ts = ⊥
 SizesAhead (Sizes.Short ys) (Sizes.Short xs) ts = (k i : ℕ) → i < commits_in ts k → short_at ys k i ≡ short_at xs k i
 
+-- the first list begins with the second
 abbrev pub Behind : {A : Type 0} → List A → List A → Type 0
 Behind {A} ys xs = (rest : List A) × (ys ≡ xs ++ rest)
 
@@ -136,6 +142,7 @@ pub record Parts' (k : ℕ) (short : Bool) (log qlog : LogParts) (i n : ℕ) (o 
   pub interrupts : qlog.interrupts ≡ log.interrupts
   pub dmas : qlog.dmas ≡ log.dmas
 
+-- what a commit of a thread adds to each part of the log
 pub has_committed-parts : (k : ℕ) (short : Bool) (p q : Sphere) (log qlog : LogParts) (t u : Parts) (made : List Parts) (c : Commit) (o : Option Input) → HasCommitted k short p q log qlog t u made c o → Parts' k short log qlog t.commits c.size o
 has_committed-parts k short p q log qlog t u made c o d =
     let a = inputs_apart o (noted c t.commits short log) in
@@ -155,6 +162,7 @@ pub record Grows (k : ℕ) (ts us : List Parts) (t : Parts) : Type 0 where
   pub was : commits_in ts k ≡ t.commits
   pub other : (j : ℕ) → j ≢ k → commits_in us j ≡ commits_in ts j
 
+-- a commit of thread k makes its number of commits one more, and no other thread's
 pub grows_of : (k : ℕ) (short : Bool) (p q : Sphere) (log qlog : LogParts) (t u : Parts) (made : List Parts) (c : Commit) (o : Option Input) → HasCommitted k short p q log qlog t u made c o → Grows k p.threads q.threads t
 grows_of k short p q log qlog t u made c o d =
     record {
@@ -163,6 +171,7 @@ grows_of k short p q log qlog t u made c o d =
       other = λ j ne. ap (λ (ts : List Parts). commits_in ts j) d.threads ∙ commits-other p.threads made k j u d.new ne;
     }
 
+-- no thread has fewer commits after a commit of thread k
 pub grown_least : (k : ℕ) (ts us : List Parts) (t : Parts) (j : ℕ) → Grows k ts us t → commits_in ts j ≤ commits_in us j
 grown_least k ts us t j g =
     elim (cases_eq j k) [
@@ -178,9 +187,11 @@ one_more k as_ = count-append k as_ (Actor.Thread k ∷ []) ∙ ap (λ (b : Bool
 none_more : (k j : ℕ) (as_ : List Actor) → j ≢ k → count_of j (as_ ++ Actor.Thread k ∷ []) ≡ count_of j as_
 none_more k j as_ ne = count-append j as_ (Actor.Thread k ∷ []) ∙ ap (λ (b : Bool). count_of j as_ + cond b 1 0) (ne_eqb k j (λ e. ne (sym e))) ∙ omega arith
 
+-- a list has one more element with x behind it
 pub pushed_length : {A : Type 0} (xs : List A) (x : A) (n : ℕ) → length xs ≡ n → length (xs ++ x ∷ []) ≡ suc n
 pushed_length xs x n e = let h = length-append xs (x ∷ []) in omega arith
 
+-- thread k is named once more in the order, as it has one more commit
 pub counts-stand : (k : ℕ) (order : List Actor) (ts us : List Parts) (t : Parts) → Grows k ts us t → ((j : ℕ) → count_of j order ≡ commits_in ts j) → (j : ℕ) → count_of j (order ++ Actor.Thread k ∷ []) ≡ commits_in us j
 counts-stand k order ts us t g each j =
     elim (cases_eq j k) [
@@ -217,11 +228,13 @@ get_cases [] made j x e = inr (refl, (j, e))
 get_cases (t ∷ ts) made zero x e = inl e
 get_cases (t ∷ ts) made (suc j) x e = get_cases ts made j x e
 
+-- a thread that is found among new ones is new
 pub new_is : (made : List Parts) (i : ℕ) (x : Parts) → AreNew made → slice_get made i ≡ Some x → IsNew x
 new_is [] i x new e = absurd (none-some x e)
 new_is (m ∷ made) zero x new e = subst IsNew (let h : m ≡ x = cc in h) new.0
 new_is (m ∷ made) (suc i) x new e = new_is made i x new.1 e
 
+-- there is no thread j before a change if there is none after it
 pub set_none : (ts : List Parts) (k j : ℕ) (u : Parts) → slice_get (set ts k u) j ≡ None → slice_get ts j ≡ None
 set_none [] k j u e = refl
 set_none (t ∷ ts) zero zero u e = absurd (none-some u (sym e))
@@ -229,11 +242,13 @@ set_none (t ∷ ts) zero (suc j) u e = e
 set_none (t ∷ ts) (suc k) zero u e = e
 set_none (t ∷ ts) (suc k) (suc j) u e = set_none ts k j u e
 
+-- there is no thread j if there is none with others behind
 pub append_none : (ts made : List Parts) (j : ℕ) → slice_get (ts ++ made) j ≡ None → slice_get ts j ≡ None
 append_none [] made j e = refl
 append_none (t ∷ ts) made zero e = e
 append_none (t ∷ ts) made (suc j) e = append_none ts made j e
 
+-- the log stands by its sphere after a commit of a thread, if it did before
 pub has_committed-stands : (k : ℕ) (short : Bool) (p q : Sphere) (log qlog : LogParts) (t u : Parts) (made : List Parts) (c : Commit) (o : Option Input) → HasCommitted k short p q log qlog t u made c o → Stands p log → Stands q qlog
 has_committed-stands k short p q log qlog t u made c o d s =
     let n = has_committed-parts k short p q log qlog t u made c o d in

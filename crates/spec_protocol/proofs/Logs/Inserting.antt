@@ -11,14 +11,17 @@ use Rattle.spec_log.specs.Noting.{insert_by, insert_size, sizes_at}
 
 -- ---- what is noted of a commit
 
+-- the short sizes with one more, in its place
 abbrev pub with_short : (thread index size : ℕ) → List ShortSize → List ShortSize
 with_short k i n sizes = insert_size (record { thread = k; index = i; size = n }) sizes
 
+-- the sizes with that of one more commit, as their mode keeps them
 abbrev pub with_size : Sizes → Actor → (index size : ℕ) → (short : Bool) → Sizes
 with_size sizes actor i n short = sizes_at sizes i (record { actor = actor; size = n; early = short })
 
 -- ---- entries of a moment
 
+-- two pairs of numbers that aren't one fail the test for both
 pub both_tests : (a b c d : ℕ) → (a ≡ c → b ≡ d → ⊥) → (eqb a c && eqb b d) ≡ false
 both_tests a b c d ne =
     elim (cases_eq a c) [
@@ -33,6 +36,7 @@ same_tests a b = (λ i. eq-eqb a a refl i && eq-eqb b b refl i)
 abbrev pub is_of_moment : {X : Type 0} (thread index : X → ℕ) (k i : ℕ) → X → Bool
 is_of_moment thread index k i x = eqb (thread x) k && eqb (index x) i
 
+-- where nothing is found, neither the first passes nor one behind it
 pub found_first : {X : Type 0} (test : X → Bool) (y : X) (ys : List X) → find test (y ∷ ys) ≡ None → (test y ≡ false) × (find test ys ≡ None)
 found_first test y ys e =
     elim (test y) as (λ (b : Bool). cond b (Some y) (find test ys) ≡ None → (b ≡ false) × (find test ys ≡ None)) [

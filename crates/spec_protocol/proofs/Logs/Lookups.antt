@@ -16,9 +16,11 @@ use Rattle.spec_protocol.proofs.Logs.Inserting.{with_short, find-inserted_other,
 
 -- ---- by thread and commits
 
+-- the size that is kept of a thread's commit, if it was short
 abbrev pub short_at : List ShortSize → (thread index : ℕ) → Option ℕ
 short_at sizes k i = option_map (λ (s : ShortSize). s.size) (find (λ (s : ShortSize). eqb s.thread k && eqb s.index i) sizes)
 
+-- a short size that is put in place leaves what is found of every other commit
 pub short-other : (sizes : List ShortSize) (k i n l j : ℕ) → (k ≡ l → i ≡ j → ⊥) → short_at (with_short k i n sizes) l j ≡ short_at sizes l j
 short-other sizes k i n l j ne =
     ap (option_map (λ (s : ShortSize). s.size)) (find-inserted_other (λ (s : ShortSize). s.thread) (λ (s : ShortSize). s.index) (record { thread = k; index = i; size = n }) l j sizes ne)
@@ -27,14 +29,17 @@ unmapped : {X : Type 0} (f : X → ℕ) (o : Option X) → option_map f o ≡ No
 unmapped f None e = refl
 unmapped f (Some x) e = absurd (none-some (f x) (sym e))
 
+-- a short size that is put in place is found there
 pub short-same : (sizes : List ShortSize) (k i n : ℕ) → short_at sizes k i ≡ None → short_at (with_short k i n sizes) k i ≡ Some n
 short-same sizes k i n none =
     ap (option_map (λ (s : ShortSize). s.size))
     (find-inserted (λ (s : ShortSize). s.thread) (λ (s : ShortSize). s.index) (record { thread = k; index = i; size = n }) sizes (unmapped (λ (s : ShortSize). s.size) _ none))
 
+-- the interrupts with one more, in its place
 abbrev pub raised_to : (thread index value : ℕ) → List Interrupt → List Interrupt
 raised_to k i v is = insert_interrupt (record { thread = k; index = i; value = v }) is
 
+-- an interrupt that is put in place leaves what is found at every other commit
 pub interrupt-other : (is : List Interrupt) (k i v l j : ℕ) → (k ≡ l → i ≡ j → ⊥) → interrupt_at (raised_to k i v is) l j ≡ interrupt_at is l j
 interrupt-other is k i v l j ne =
     ap (option_map (λ (s : Interrupt). s.value)) (find-inserted_other (λ (s : Interrupt). s.thread) (λ (s : Interrupt). s.index) (record { thread = k; index = i; value = v }) l j is ne)
@@ -43,11 +48,13 @@ interrupt-other is k i v l j ne =
 pub none-there : (is : List Interrupt) (k i : ℕ) → interrupt_at is k i ≡ None → find (λ (s : Interrupt). eqb s.thread k && eqb s.index i) is ≡ None
 none-there is k i none = unmapped (λ (s : Interrupt). s.value) _ none
 
+-- an interrupt that is put in place is found there
 pub interrupt-same : (is : List Interrupt) (k i v : ℕ) → interrupt_at is k i ≡ None → interrupt_at (raised_to k i v is) k i ≡ Some v
 interrupt-same is k i v none =
     ap (option_map (λ (s : Interrupt). s.value))
     (find-inserted (λ (s : Interrupt). s.thread) (λ (s : Interrupt). s.index) (record { thread = k; index = i; value = v }) is (none-there is k i none))
 
+-- an interrupt at a free place makes one more
 pub length-raised : (is : List Interrupt) (k i v : ℕ) → interrupt_at is k i ≡ None → length (raised_to k i v is) ≡ suc (length is)
 length-raised is k i v none =
     length-inserted (λ (s : Interrupt). s.thread) (λ (s : Interrupt). s.index) (record { thread = k; index = i; value = v }) is (none-there is k i none)
@@ -63,6 +70,7 @@ count_cond : (k : ℕ) (b : Bool) (acts bs : List Actor) (n : ℕ) → count_of 
 count_cond k true acts bs n e = omega (arith, e)
 count_cond k false acts bs n e = e
 
+-- a thread is named in two lists as often as in both together
 pub count-append : (k : ℕ) (acts bs : List Actor) → count_of k (acts ++ bs) ≡ count_of k acts + count_of k bs
 count-append k [] bs = omega arith
 count-append k (a ∷ acts) bs = count_cond k (is_thread k a) acts bs 0 (count-append k acts bs)
@@ -84,6 +92,7 @@ size-there k (o ∷ os) (s ∷ ss) n rest more e =
 
 -- ---- behind others
 
+-- the element behind n others is the one with number n
 pub get-behind : {A : Type 0} (xs : List A) (x : A) (ys : List A) (n : ℕ) → length xs ≡ n → slice_get (xs ++ x ∷ ys) n ≡ Some x
 get-behind [] x ys zero e = refl
 get-behind [] x ys (suc n) e = absurd (omega arith)
@@ -92,22 +101,27 @@ get-behind (y ∷ xs) x ys (suc n) e = get-behind xs x ys n (omega arith)
 
 -- ---- slots
 
+-- every DMA is of a commit before the one with number n
 abbrev pub SlotsBelow : (n : ℕ) → List DmaRecord → Type 0
 SlotsBelow n [] = Unit {0}
 SlotsBelow n (d ∷ ds) = (d.slot < n) × SlotsBelow n ds
 
+-- every DMA is of the commit with number n or a later one
 abbrev pub SlotsFrom : (n : ℕ) → List DmaRecord → Type 0
 SlotsFrom n [] = Unit {0}
 SlotsFrom n (d ∷ ds) = (n ≤ d.slot) × SlotsFrom n ds
 
+-- DMAs before n are before every larger number
 pub SlotsBelow_more : (n m : ℕ) (ds : List DmaRecord) → n ≤ m → SlotsBelow n ds → SlotsBelow m ds
 SlotsBelow_more n m [] l b = tt
 SlotsBelow_more n m (d ∷ ds) l b = (omega (arith, b.0), SlotsBelow_more n m ds l b.1)
 
+-- DMAs from n on are from every smaller number on
 pub SlotsFrom_less : (n m : ℕ) (ds : List DmaRecord) → m ≤ n → SlotsFrom n ds → SlotsFrom m ds
 SlotsFrom_less n m [] l b = tt
 SlotsFrom_less n m (d ∷ ds) l b = (omega (arith, b.0), SlotsFrom_less n m ds l b.1)
 
+-- one more DMA before n leaves all before n
 pub SlotsBelow-push : (n : ℕ) (ds : List DmaRecord) (d : DmaRecord) → SlotsBelow n ds → d.slot < n → SlotsBelow n (ds ++ d ∷ [])
 SlotsBelow-push n [] d b l = (l, tt)
 SlotsBelow-push n (e ∷ ds) d b l = (b.0, SlotsBelow-push n ds d b.1 l)
@@ -122,6 +136,7 @@ or_right_true : (x y : Bool) → y ≡ true → (x || y) ≡ true
 or_right_true true y e = refl
 or_right_true false y e = e
 
+-- the commit of a DMA among others is known as one of a DMA
 pub a_slot : (n : ℕ) (ds : List DmaRecord) (d : DmaRecord) (es : List DmaRecord) → d.slot ≡ n → is_slot (ds ++ d ∷ es) n ≡ true
 a_slot n [] d es e = or_left (eqb d.slot n) (is_slot es n) (eq-eqb d.slot n e)
 a_slot n (c ∷ ds) d es e = or_right_true (eqb c.slot n) (is_slot (ds ++ d ∷ es) n) (a_slot n ds d es e)

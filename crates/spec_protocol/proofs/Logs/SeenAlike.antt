@@ -147,6 +147,7 @@ due_counted threads is =
       | inr some ↦ lt-ltb (due threads is) (length is) (not_all_due threads is some) ∙ sym (ap not some)
     ]
 
+-- recordings and plays look at a log alike
 pub seen_alike : LogsAreSeenAlike
 seen_alike =
     record {

@@ -42,6 +42,7 @@ CoversWords-store i g ws None c = c
 CoversWords-store i g ws (Some s) c =
     put_covered i (insert (line i s.word) g) s ws (covers_insert (line i s.word) g) (CoversWords_more i (line i s.word) g ws c)
 
+-- no word comes twice after one store more
 pub Apart-store : (ws : List Stored) (store : Option Stored) → Apart ws → Apart (with_store ws store)
 Apart-store ws None a = a
 Apart-store ws (Some s) a = Apart-put ws s a
@@ -55,6 +56,7 @@ put_length (w ∷ ws) s =
       | false ↦ let h = put_length ws s in omega arith
     ]
 
+-- a store makes at most one word more
 pub length-store : (ws : List Stored) (store : Option Stored) → length (with_store ws store) ≤ suc (length ws)
 length-store ws None = omega arith
 length-store ws (Some s) = put_length ws s
@@ -68,10 +70,12 @@ loads_push : (i : ℕ) (g : Marks) (ls : List Load) (l : Load) → covers g (lin
 loads_push i g [] l e c = (e, tt)
 loads_push i g (k ∷ ls) l e c = (c.0, loads_push i g ls l e c.1)
 
+-- a signature covers one load more, if it covers the load's line
 pub CoversLoads-load : (i : ℕ) (g : Marks) (ls : List Load) (load : Option Load) → ((l : Load) → load ≡ Some l → covers g (line i (l.addr / 4)) ≡ true) → CoversLoads i g ls → CoversLoads i g (with_load ls load)
 CoversLoads-load i g ls None e c = c
 CoversLoads-load i g ls (Some l) e c = loads_push i g ls l (e l refl) c
 
+-- an instruction makes at most one load more
 pub length-load : (ls : List Load) (load : Option Load) → length (with_load ls load) ≤ suc (length ls)
 length-load ls None = omega arith
 length-load ls (Some l) = let h = length-append ls (l ∷ []) in omega arith
@@ -91,6 +95,7 @@ pub load-word : (t : Parts) (f w : ℕ) (l : Load) → load_of t f w ≡ Some l 
 unfolding load_of loads_of
 load-word t f w l e = plan_load (plan_of t f) w l e
 
+-- a signature keeps its size when a store's line is put in
 pub bits-with_line : (i : ℕ) (store : Option Stored) (g : Marks) → (with_line i store g).bits ≡ g.bits
 bits-with_line i None g = refl
 bits-with_line i (Some s) g = refl
@@ -104,6 +109,7 @@ signed_more : (i l : ℕ) (ws : List Stored) (g : Marks) → covers g l ≡ true
 signed_more i l [] g e = e
 signed_more i l (w ∷ ws) g e = signed_more i l ws (insert (line i w.word) g) (covers_more (line i w.word) l g e)
 
+-- a signature that the words were signed into covers them
 pub CoversWords-signed : (i : ℕ) (ws : List Stored) (g : Marks) → CoversWords i (signed i ws g) ws
 CoversWords-signed i [] g = tt
 CoversWords-signed i (w ∷ ws) g =
@@ -111,6 +117,7 @@ CoversWords-signed i (w ∷ ws) g =
 
 -- ---- words that are not among those covered
 
+-- a word whose line the signature doesn't cover is none of the covered ones
 pub uncovered-lacks : (i a : ℕ) (g : Marks) (ws : List Stored) → CoversWords i g ws → covers g (line i a) ≡ false → Lacks a ws
 uncovered-lacks i a g [] c e = tt
 uncovered-lacks i a g (w ∷ ws) c e =

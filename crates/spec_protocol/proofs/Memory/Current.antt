@@ -147,6 +147,7 @@ quiet_less xs c ch dh same less q =
       misses = λ k f is e untold. false_from_ne_true (hits f.writes ch.reads) (λ h. true≢false (sym (less f.writes h) ∙ q.misses k f is (e ∙ sym same) untold));
     }
 
+-- a step of an open chunk keeps it good over the current memory, and keeps what it began from
 pub step-good : (capacity bits : ℕ) (xs : List (Option Flight)) (c : ℕ) (r : List ℕ) (ch : Chunk) → AreCovered bits xs → ch.closed ≡ None → IsGoodChunk capacity bits xs c (lays r (flying ch.sphere xs)) ch
     → let dh = (step capacity r xs c ch).chunk in IsGoodChunk capacity bits xs c (lays r (flying ch.sphere xs)) dh × SameBase ch dh
 step-good capacity bits xs c r ch cov open_ good =

@@ -11,10 +11,12 @@ use Rattle.spec_isa.proofs.BufferLaws.{lay-lay}
 
 -- ---- lists of stores
 
+-- laying two lists joined is laying the one and then the other
 pub lays_append : (m : List ℕ) (xs ys : List Stored) → lays m (xs ++ ys) ≡ lays (lays m xs) ys
 lays_append m [] ys = refl
 lays_append m (x ∷ xs) ys = lays_append (lay m x) xs ys
 
+-- a word that two lists lack is lacked by both together
 pub Lacks-append : (a : ℕ) (xs ys : List Stored) → Lacks a xs → Lacks a ys → Lacks a (xs ++ ys)
 Lacks-append a [] ys p q = q
 Lacks-append a (x ∷ xs) ys p q = (p.0, Lacks-append a xs ys p.1 q)
@@ -27,6 +29,7 @@ pub Lacks_right : (a : ℕ) (xs ys : List Stored) → Lacks a (xs ++ ys) → Lac
 Lacks_right a [] ys p = p
 Lacks_right a (x ∷ xs) ys p = Lacks_right a xs ys p.1
 
+-- no word is in an empty list
 pub AllLack_nil : (xs : List Stored) → AllLack xs []
 AllLack_nil [] = tt
 AllLack_nil (x ∷ xs) = (tt, AllLack_nil xs)
@@ -35,45 +38,55 @@ AllLack_cons : (xs : List Stored) (y : Stored) (ys : List Stored) → Lacks y.wo
 AllLack_cons [] y ys p q = tt
 AllLack_cons (x ∷ xs) y ys p q = ((λ e. p.0 (sym e), q.0), AllLack_cons xs y ys p.1 q.1)
 
+-- of two lists that share no word each lacks the other's
 pub AllLack_flip : (xs ys : List Stored) → AllLack xs ys → AllLack ys xs
 AllLack_flip [] ys p = AllLack_nil ys
 AllLack_flip (x ∷ xs) ys p = AllLack_cons ys x xs p.0 (AllLack_flip xs ys p.1)
 
+-- a list that shares no word with two others shares none with both together
 pub AllLack-append : (xs ys zs : List Stored) → AllLack xs ys → AllLack xs zs → AllLack xs (ys ++ zs)
 AllLack-append [] ys zs p q = tt
 AllLack-append (x ∷ xs) ys zs p q = (Lacks-append x.word ys zs p.0 q.0, AllLack-append xs ys zs p.1 q.1)
 
+-- a list that shares no word with two joined shares none with the first
 pub AllLack_left : (xs ys zs : List Stored) → AllLack xs (ys ++ zs) → AllLack xs ys
 AllLack_left [] ys zs p = tt
 AllLack_left (x ∷ xs) ys zs p = (Lacks_left x.word ys zs p.0, AllLack_left xs ys zs p.1)
 
+-- a list that shares no word with two joined shares none with the second
 pub AllLack_right : (xs ys zs : List Stored) → AllLack xs (ys ++ zs) → AllLack xs zs
 AllLack_right [] ys zs p = tt
 AllLack_right (x ∷ xs) ys zs p = (Lacks_right x.word ys zs p.0, AllLack_right xs ys zs p.1)
 
+-- where no word comes twice in two lists, none does in the first
 pub Apart_first : (xs ys : List Stored) → Apart (xs ++ ys) → Apart xs
 Apart_first [] ys p = tt
 Apart_first (x ∷ xs) ys p = (Lacks_left x.word xs ys p.0, Apart_first xs ys p.1)
 
+-- where no word comes twice in two lists, none does in the second
 pub Apart_last : (xs ys : List Stored) → Apart (xs ++ ys) → Apart ys
 Apart_last [] ys p = p
 Apart_last (x ∷ xs) ys p = Apart_last xs ys p.1
 
+-- where no word comes twice in two lists, they share none
 pub Apart_lack : (xs ys : List Stored) → Apart (xs ++ ys) → AllLack xs ys
 Apart_lack [] ys p = tt
 Apart_lack (x ∷ xs) ys p = (Lacks_right x.word xs ys p.0, Apart_lack xs ys p.1)
 
+-- two lists in which no word comes twice, and which share none, have none twice together
 pub Apart-append : (xs ys : List Stored) → Apart xs → Apart ys → AllLack xs ys → Apart (xs ++ ys)
 Apart-append [] ys p q lack = q
 Apart-append (x ∷ xs) ys p q lack = (Lacks-append x.word xs ys p.0 lack.0, Apart-append xs ys p.1 q lack.1)
 
 -- ---- the order of stores of different words
 
+-- a store may be laid before others or after them, if they store to other words
 pub lays-lay : (m : List ℕ) (s : Stored) (ws : List Stored) → Lacks s.word ws → lays (lay m s) ws ≡ lay (lays m ws) s
 lays-lay m s [] p = refl
 lays-lay m s (w ∷ ws) p =
     ap (λ (n : List ℕ). lays n ws) (lay-lay m s w (λ e. p.0 (sym e))) ∙ lays-lay (lay m w) s ws p.1
 
+-- two lists of stores that share no word may be laid in either order
 pub lays-lays : (m : List ℕ) (xs ys : List Stored) → AllLack xs ys → lays (lays m xs) ys ≡ lays (lays m ys) xs
 lays-lays m [] ys p = refl
 lays-lays m (x ∷ xs) ys p =
@@ -81,6 +94,7 @@ lays-lays m (x ∷ xs) ys p =
 
 -- ---- memories that agree on some words
 
+-- n has the size of m, and the same bytes in the words that are seen
 pub record Agree (seen : ℕ → Bool) (m n : List ℕ) : Type 0 where
   pub size : length n ≡ length m
   pub bytes : (i : ℕ) → seen (i / 4) ≡ true → slice_index n i ≡ slice_index m i
@@ -135,6 +149,7 @@ Agree-unseen seen m (w ∷ ws) u =
 quarter : (a k : ℕ) → k < 4 → (4 * a + k) / 4 ≡ a
 quarter a k l = omega arith
 
+-- memories that agree on a word read alike there
 pub Agree-read : (seen : ℕ → Bool) (m n : List ℕ) (a : ℕ) → Agree seen m n → seen a ≡ true → read n a ≡ read m a
 unfolding read
 Agree-read seen m n a g e =

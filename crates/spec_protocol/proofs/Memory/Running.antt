@@ -14,10 +14,12 @@ use Rattle.spec_protocol.specs.Currency.{Touches, RunTouches, seen_by, IsCurrent
 
 -- ---- one instruction
 
+-- a thread whose pc is outside memory comes to a fault
 pub outside_serial : (t : Parts) (f size : ℕ) → is_inside size t.pc ≡ false → serial_of t f size ≡ Some (Kind.Fault 1)
 unfolding serial_of
 outside_serial t f size e = rw e refl
 
+-- an instruction is decided by the word that it fetches, the value that it loads and the size of memory
 pub one-outcome : (t : Parts) (m : List ℕ) → one t m ≡ outcome_with t (fetched t m) (value_at m (loads_of t (fetched t m))) (length m)
 unfolding one
 one-outcome t m = refl
@@ -42,6 +44,7 @@ one_inside seen t m n g touches e =
     (λ none. ap (next_with t (fetched t m)) (value_same m n (loads_of t (fetched t m)) (λ a some. Agree-read seen m n a g (touches.load none a some))))
     ∙ sym (one-outcome t m)
 
+-- a serial instruction leaves nothing but its kind
 pub serial_outcome : (t : Parts) (f w size : ℕ) (kind : Kind) → serial_of t f size ≡ Some kind → outcome_with t f w size ≡ Serial kind
 serial_outcome t f w size kind e = ap (λ (o : Option Kind). unless o (next_with t f w)) e
 
@@ -53,6 +56,7 @@ by_inside : {A : Type 0} (b : Bool) → (b ≡ true → A) → (b ≡ false → 
 by_inside true p q = p refl
 by_inside false p q = q refl
 
+-- an instruction does the same on memories that agree on the words that it looks at
 pub one_local : (seen : ℕ → Bool) (t : Parts) (m n : List ℕ) → Agree seen m n → Touches seen t m → one t n ≡ one t m
 one_local seen t m n g touches =
     by_inside (is_inside (length m) t.pc)
@@ -88,6 +92,7 @@ fetched_local seen t m n g touches none =
     (λ e. Agree-read seen m n (t.pc / 4) g (touches.fetch e))
     (λ e. let s = outside_serial t (fetched t n) (length n) (ap (λ (k : ℕ). is_inside k t.pc) g.size ∙ e) in cc)
 
+-- memories that agree on the words that an instruction looks at have it look at the same ones
 pub Touches_local : (seen : ℕ → Bool) (t : Parts) (m n : List ℕ) → Agree seen m n → Touches seen t m → Touches seen t n
 Touches_local seen t m n g touches =
     record {
@@ -116,6 +121,7 @@ RunTouches_local seen m n t k g touches i l =
 
 -- ---- a chunk
 
+-- a chunk that is current on one memory is so on another that agrees on what it has seen
 pub Live_local : (m n : List ℕ) (ch : Chunk) → Agree (seen_by ch) m n → IsCurrent m ch → IsCurrent n ch
 Live_local m n ch g live =
     let later : Agree (seen_by ch) (lays m ch.done.words) (lays n ch.done.words) = Agree-lays (seen_by ch) m n ch.done.words g in

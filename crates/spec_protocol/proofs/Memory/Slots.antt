@@ -15,12 +15,15 @@ use Rattle.spec_protocol.specs.Currency.{AllLack}
 
 -- ---- rows
 
+-- what is put in a slot stands there
 pub at-set_same : {A : Type 0} (xs : List (Option A)) (k : ℕ) (v : Option A) → k < length xs → at (set xs k v) k ≡ v
 at-set_same xs k v l = get_or-set_same xs k v None l
 
+-- what is put in a slot leaves the others
 pub at-set_other : {A : Type 0} (xs : List (Option A)) (k j : ℕ) (v : Option A) → j ≢ k → at (set xs k v) j ≡ at xs j
 at-set_other xs k j v ne = get_or-set_other xs k j v None ne
 
+-- a slot in which something stands is one of the slots
 pub at_within : {A : Type 0} (xs : List (Option A)) (k : ℕ) (x : A) → at xs k ≡ Some x → k < length xs
 at_within xs k x e =
     elim (cases_lt k (length xs)) [ inl l ↦ l | inr past ↦ absurd (none-some x (sym (get_or_past xs k None past) ∙ e)) ]
@@ -35,22 +38,26 @@ at-set xs k j v l =
 
 -- ---- the words that fly
 
+-- the words of sphere i that fly in the slots before k
 abbrev pub before : (i : ℕ) → List (Option Flight) → ℕ → List Stored
 before i [] k = []
 before i (x ∷ xs) zero = []
 before i (x ∷ xs) (suc k) = words_of i x ++ before i xs k
 
+-- the words of sphere i that fly in the slots behind k
 abbrev pub behind : (i : ℕ) → List (Option Flight) → ℕ → List Stored
 behind i [] k = []
 behind i (x ∷ xs) zero = flying i xs
 behind i (x ∷ xs) (suc k) = behind i xs k
 
+-- what flies of a sphere is what flies before slot k, in it and behind it
 pub flying-at : (i : ℕ) (xs : List (Option Flight)) (k : ℕ) → flying i xs ≡ before i xs k ++ (words_of i (at xs k) ++ behind i xs k)
 flying-at i [] k = refl
 flying-at i (x ∷ xs) zero = refl
 flying-at i (x ∷ xs) (suc k) =
     ap (λ (ws : List Stored). words_of i x ++ ws) (flying-at i xs k) ∙ sym (append_assoc (words_of i x) (before i xs k) _)
 
+-- after a change of slot k the new words stand between those before and behind
 pub flying-set : (i : ℕ) (xs : List (Option Flight)) (k : ℕ) (v : Option Flight) → k < length xs
     → flying i (set xs k v) ≡ before i xs k ++ (words_of i v ++ behind i xs k)
 flying-set i [] k v l = absurd (omega arith)
@@ -63,9 +70,11 @@ pub flying_same : (i : ℕ) (xs : List (Option Flight)) (k : ℕ) (v : Option Fl
 flying_same i xs k v l e =
     flying-set i xs k v l ∙ ap (λ (ws : List Stored). before i xs k ++ (ws ++ behind i xs k)) e ∙ sym (flying-at i xs k)
 
+-- a flight of the sphere has all of its words in it
 pub words-same : (i : ℕ) (f : Flight) → f.sphere ≡ i → words_of i (Some f) ≡ f.words
 words-same i f e = ap (λ (b : Bool). cond b f.words []) (eq-eqb f.sphere i e)
 
+-- a flight of another sphere has no words of this one
 pub words-other : (i : ℕ) (f : Flight) → f.sphere ≢ i → words_of i (Some f) ≡ []
 words-other i f ne = ap (λ (b : Bool). cond b f.words []) (ne_eqb f.sphere i ne)
 
@@ -181,6 +190,7 @@ unflown_flew i f xs e old =
       stands = inl e;
     }
 
+-- the words of a commit fly in a slot that was free, and no other slot has changed
 pub flown-flew : (i : ℕ) (ws : List Stored) (writes : Marks) (told : ℕ) (xs : List (Option Flight)) → is_full xs ≡ false → Apart (flying i xs) → Apart ws → AllLack ws (flying i xs)
     → Flew i (record { sphere = i; words = ws; writes = writes; told = told }) xs (flown i ws writes told xs)
 flown-flew i [] writes told xs full old apart lack = unflown_flew i _ xs refl old

@@ -290,6 +290,7 @@ stays_running capacity xs c m ch g o n e =
     (λ kind some. stays_closed capacity xs c (shown_in m ch) ch g How.Serial o n (λ h. cc) (λ h. cc) (λ h. cc)
     (refl, touches_serial xs c m ch (record (with_reads ch g) { closed = Some How.Serial }) kind (λ _. e) some))
 
+-- what a step keeps of an open chunk, beside its run
 pub step-stays : (capacity : ℕ) (m : List ℕ) (xs : List (Option Flight)) (c : ℕ) (ch : Chunk) → IsOpen capacity ch → Stays capacity xs c (lays m ch.done.words) ch (step capacity m xs c ch)
 unfolding step
 step-stays capacity m xs c ch o =

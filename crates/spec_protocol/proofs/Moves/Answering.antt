@@ -94,6 +94,7 @@ kind_read d channel len =
     either_answer (λ (a : Answered). eqb a.input.kind 3 ≡ true) (nat_lt channel 8) (read_answer (went (length first) len) first (pipe_taken d channel len)) other refl
     (either_answer (λ (a : Answered). eqb a.input.kind 3 ≡ true) (eqb channel 9) (read_answer (went (length rest) len) rest (input_taken len d)) (read_answer refused [] d) refl refl)
 
+-- what the devices answer to a need fits it
 pub answer-fits : (d : Devices) (n : Need) (moment : ℕ) → fits n (answer d n moment).input ≡ true
 unfolding answer fits
 answer-fits d (Write channel bytes) moment = and_from _ _ (kind_write d channel bytes) (write_fits d channel bytes)

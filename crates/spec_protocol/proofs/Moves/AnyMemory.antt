@@ -11,9 +11,11 @@ use Rattle.spec_play.specs.Transfers.{DmaVerdict, DmaGoes, DmaFails, dma_verdict
 use Rattle.spec_protocol.specs.Spheres.{Book, Role, Plain, Record, Replay, Sphere}
 use Rattle.spec_protocol.specs.Commits.{Moved, by_verdict, joined, replayed_chunk, chunk_in, chunk_moved, dma_by_verdict, live_dma, dma_log, dma_in, dma_moved, raised}
 
+-- the sphere over another memory
 abbrev pub over : List ℕ → Sphere → Sphere
 over m p = record p { memory = m }
 
+-- the move with its sphere over another memory
 abbrev pub relaid : List ℕ → Moved → Moved
 relaid m v = record v { sphere = over m v.sphere }
 
@@ -30,6 +32,7 @@ chunk_in_relaid Plain k piece short r devices p m = refl
 chunk_in_relaid (Record log) k piece short r devices p m = refl
 chunk_in_relaid (Replay b) k piece short r devices p m = replayed_relaid b k piece r devices p m
 
+-- a granted chunk moves the sphere over another memory in the same way
 pub chunk-relaid : (k : ℕ) (piece short : Bool) (r : Run) (devices : Devices) (p : Sphere) (m : List ℕ) → chunk_moved k piece short r devices (over m p) ≡ relaid m (chunk_moved k piece short r devices p)
 unfolding chunk_moved
 chunk-relaid k piece short r devices p m = chunk_in_relaid p.role k piece short r devices p m
@@ -52,6 +55,7 @@ dma_log_relaid Plain devices p m = live_relaid Plain devices p p.progress.reques
 dma_log_relaid (Record log) devices p m = recorded_relaid log devices p p.progress.request m
 dma_log_relaid (Replay b) devices p m = ap Some (dma_verdict_relaid b (dma_verdict b.log p.progress b.used) devices p m)
 
+-- a DMA moves the sphere over another memory in the same way
 pub dma-relaid : (devices : Devices) (p : Sphere) (m : List ℕ) → dma_moved devices (over m p) ≡ option_map (relaid m) (dma_moved devices p)
 unfolding dma_moved
 dma-relaid devices p m = dma_log_relaid p.role devices p m

@@ -11,6 +11,7 @@ dma_alike : (a b : Role) (devices : Devices) (p : Sphere) (log : LogParts) (o : 
 dma_alike a b devices p log None = tt
 dma_alike a b devices p log (Some request) = record { outcome = refl; spheres = refl; words = refl; devices = refl }
 
+-- a move leaves of a plain sphere what it leaves of a recorded one, but for the log
 pub plain_moves : PlainMovesAsRecorded
 unfolding chunk_moved serial_moved dma_moved raised
 plain_moves p log =

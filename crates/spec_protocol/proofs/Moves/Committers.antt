@@ -131,6 +131,7 @@ dmas_mark w i =
 one_told : (f : Flight) (c : ℕ) → (2 ^ c) ≡ (tell (record f { told = 0 }) c).told
 one_told f c = sym (or_zero_l (2 ^ c))
 
+-- the core that commits is told of its flight and no other, and of a DMA's flight none
 pub committers_told : CommittersAreTold
 unfolding happens
 committers_told =

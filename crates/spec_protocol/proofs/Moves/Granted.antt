@@ -35,6 +35,7 @@ use Rattle.spec_kernel.specs.Answers.{taken}
 
 -- ---- threads
 
+-- a list that is changed at k is as it was elsewhere
 pub get-set_other : {A : Type 0} (xs : List A) (k j : ℕ) (x : A) → j ≢ k → slice_get (set xs k x) j ≡ slice_get xs j
 get-set_other [] k j x ne = refl
 get-set_other (y ∷ ys) zero zero x ne = absurd (ne refl)
@@ -42,11 +43,13 @@ get-set_other (y ∷ ys) zero (suc j) x ne = refl
 get-set_other (y ∷ ys) (suc k) zero x ne = refl
 get-set_other (y ∷ ys) (suc k) (suc j) x ne = get-set_other ys k j x (λ e. ne (ap suc e))
 
+-- what is put at k of a list is found there
 pub get-set_same : {A : Type 0} (xs : List A) (k : ℕ) (x y : A) → slice_get xs k ≡ Some y → slice_get (set xs k x) k ≡ Some x
 get-set_same [] k x y e = absurd (none-some y e)
 get-set_same (z ∷ zs) zero x y e = refl
 get-set_same (z ∷ zs) (suc k) x y e = get-set_same zs k x y e
 
+-- what is found in a list is found with others behind it
 pub get-append : {A : Type 0} (xs ys : List A) (j : ℕ) (x : A) → slice_get xs j ≡ Some x → slice_get (xs ++ ys) j ≡ Some x
 get-append [] ys j x e = absurd (none-some x e)
 get-append (y ∷ xs) ys zero x e = e
@@ -61,6 +64,7 @@ either_none : (b : Bool) → pieces_if b 0 ≡ 0
 either_none true = refl
 either_none false = refl
 
+-- where no piece was done there is none of any thread
 pub pieces_none : (now : Now) (j : ℕ) → pieces_of now j 0 ≡ 0
 pieces_none (Turn k) j = either_none (eqb k j)
 pieces_none TurnOfDma j = refl
@@ -94,6 +98,7 @@ Divergence devices p v Granted = Unit {0}
 Divergence devices p v Piece = Unit {0}
 Divergence devices p v (Diverged i why) = (v.words ≡ []) × (v.devices ≡ devices) × (v.sphere.threads ≡ p.threads) × (is_stopped v.sphere.role ≡ true)
 
+-- a move of thread k leaves the other threads, stores no word twice, and stores nothing where it diverges
 pub record MovesOnly (k : ℕ) (devices : Devices) (p : Sphere) (v : Moved) : Type 0 where
   pub keeps : KeepsOthers k p v.sphere
   pub apart : Apart v.words
@@ -206,6 +211,7 @@ chunk_in_moves k (Record log) piece short r devices p is turn apart =
 chunk_in_moves k (Replay b) piece short r devices p is turn apart =
     replayed_moves k b piece r devices p is (turn-is b.now k turn.going turn.turn) apart
 
+-- a granted chunk moves its own thread only
 pub chunk-moves : (k : ℕ) (piece short : Bool) (r : Run) (devices : Devices) (p : Sphere) → HasTurn k p.role p → Apart r.words → MovesOnly k devices p (chunk_moved k piece short r devices p)
 unfolding chunk_moved
 chunk-moves k piece short r devices p turn apart = chunk_in_moves k p.role piece short r devices p refl turn apart
@@ -226,12 +232,14 @@ stores_in P Plain k piece short r devices p none some = some
 stores_in P (Record log) k piece short r devices p none some = some
 stores_in P (Replay b) k piece short r devices p none some = replayed_stores P b k piece r devices p none some
 
+-- a granted chunk stores the words of its run, or nothing
 pub chunk-stores : (P : List Stored → Type 0) (k : ℕ) (piece short : Bool) (r : Run) (devices : Devices) (p : Sphere) → P [] → P r.words → P (chunk_moved k piece short r devices p).words
 unfolding chunk_moved
 chunk-stores P k piece short r devices p none some = stores_in P p.role k piece short r devices p none some
 
 -- ---- serial steps
 
+-- bytes that are put over words leave no word twice
 pub bytes_apart : (ws : List Stored) (a : ℕ) (bytes : List ℕ) → Apart ws → Apart (bytes_put ws a bytes)
 unfolding bytes_put
 bytes_apart ws a [] apart = apart
@@ -269,6 +277,7 @@ stored_apart request t (Plan.LoadReserved rd a) = tt
 stored_apart request t (Plan.StoreConditional rd a v) = tt
 stored_apart request t (Plan.Amo op rd a v) = tt
 
+-- what holds of both ways to serve holds of the choice
 pub either_serve : (P : Served → Type 0) (b : Bool) (x y : Served) → P x → P y → P (cond b x y)
 either_serve P true x y p q = p
 either_serve P false x y p q = q
@@ -316,6 +325,7 @@ serial_in_moves k moment (Replay b) t devices p is turn =
     verdict_moves k b (serial_verdict b.log p.progress b.used k p.threads t p.memory) devices p is (turn-is b.now k turn.going turn.turn)
     (λ e u h. serial_apart b.log p.progress b.used k p.threads t p.memory e u h)
 
+-- a granted serial step moves its own thread only
 pub serial-moves : (k moment : ℕ) (t : Parts) (devices : Devices) (p : Sphere) → HasTurn k p.role p → MovesOnly k devices p (serial_moved k moment t devices p)
 unfolding serial_moved
 serial-moves k moment t devices p turn = serial_in_moves k moment p.role t devices p refl turn
@@ -327,6 +337,7 @@ chunk_in_lives Plain k piece short r devices p live = refl
 chunk_in_lives (Record log) k piece short r devices p live = refl
 chunk_in_lives (Replay b) k piece short r devices p live = absurd (true≢false live)
 
+-- outside replays the answer to a granted chunk is Granted
 pub chunk-lives : (k : ℕ) (piece short : Bool) (r : Run) (devices : Devices) (p : Sphere) → replays p.role ≡ false → (chunk_moved k piece short r devices p).outcome ≡ Granted
 unfolding chunk_moved
 chunk-lives k piece short r devices p live = chunk_in_lives p.role k piece short r devices p live
@@ -336,6 +347,7 @@ serial_in_lives Plain k moment t devices p live = refl
 serial_in_lives (Record log) k moment t devices p live = refl
 serial_in_lives (Replay b) k moment t devices p live = absurd (true≢false live)
 
+-- outside replays the answer to a granted serial step is Granted
 pub serial-lives : (k moment : ℕ) (t : Parts) (devices : Devices) (p : Sphere) → replays p.role ≡ false → (serial_moved k moment t devices p).outcome ≡ Granted
 unfolding serial_moved
 serial-lives k moment t devices p live = serial_in_lives p.role k moment t devices p live

@@ -108,6 +108,7 @@ kind_few (Some Kind.DeviceLoad) k ts request t m input few = loaded_few ts reque
 kind_few (Some Kind.DeviceStore) k ts request t m input few = stored_few ts request t _ few
 kind_few (Some (Kind.Fault cause)) k ts request t m input few = none_few ts few
 
+-- a serial step leaves a sphere of at most 15 threads with at most 15
 pub serve-few : (k : ℕ) (ts : List Parts) (request : Option Request) (t : Parts) (m : List ℕ) (input : Option Input) → length ts ≤ 15 → AreFew ts (serve k ts request t m input).made
 unfolding serve
 serve-few k ts request t m input few = kind_few _ k ts request t m input few

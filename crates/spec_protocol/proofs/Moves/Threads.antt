@@ -28,6 +28,7 @@ plan_keeps (Plan.LoadReserved rd a) t w = refl
 plan_keeps (Plan.StoreConditional rd a v) t w = refl
 plan_keeps (Plan.Amo op rd a v) t w = refl
 
+-- an instruction keeps its thread's number of commits
 pub next_keeps : (t : Parts) (f w : ℕ) → (next_of t f w).commits ≡ t.commits
 unfolding next_of
 next_keeps t f w = plan_keeps (plan_of t f) t w
@@ -44,6 +45,7 @@ followed_keeps : (r : Run) (m : List ℕ) (o : Outcome) → one r.thread m ≡ o
 followed_keeps r m (Serial kind) e = refl
 followed_keeps r m (Next u load store) e = one_keeps r.thread m u load store e
 
+-- a run keeps its thread's number of commits
 pub run-keeps : (m : List ℕ) (t : Parts) (n : ℕ) → (run m t n).thread.commits ≡ t.commits
 run-keeps m t zero = refl
 run-keeps m t (suc n) = followed_keeps (run m t n) (lays m (run m t n).words) _ refl ∙ run-keeps m t n
@@ -55,10 +57,12 @@ pub record IsNew (t : Parts) : Type 0 where
   pub commits : t.commits ≡ 0
   pub handler : t.handler ≡ 0
 
+-- each of the threads is new
 abbrev pub AreNew : List Parts → Type 0
 AreNew [] = Unit {0}
 AreNew (t ∷ ts) = IsNew t × AreNew ts
 
+-- the thread keeps its number of commits, and those that it spawned are new
 pub record KeepsCommits (t : Parts) (thread : Parts) (made : List Parts) : Type 0 where
   pub commits : thread.commits ≡ t.commits
   pub fresh : AreNew made
@@ -158,12 +162,14 @@ kind_keeps (Some Kind.DeviceLoad) k ts request t m input = loaded_keeps request 
 kind_keeps (Some Kind.DeviceStore) k ts request t m input = stored_keeps request t _
 kind_keeps (Some (Kind.Fault cause)) k ts request t m input = record { commits = refl; fresh = tt }
 
+-- a serial step keeps its thread's number of commits, and those that it spawns are new
 pub serve-keeps : (k : ℕ) (ts : List Parts) (request : Option Request) (t : Parts) (m : List ℕ) (input : Option Input) → ServeKeeps t (serve k ts request t m input)
 unfolding serve
 serve-keeps k ts request t m input = kind_keeps _ k ts request t m input
 
 -- ---- threads that look alike to a serial step: as many, and the same ones live
 
+-- there are as many threads, and the same ones have ended
 pub record LookAlike (ts us : List Parts) : Type 0 where
   pub size : length us ≡ length ts
   pub ended : (j : ℕ) → has_ended (slice_get us j) ≡ has_ended (slice_get ts j)
@@ -193,6 +199,7 @@ kind_alike (Some Kind.DeviceLoad) k ts us request t m input a = refl
 kind_alike (Some Kind.DeviceStore) k ts us request t m input a = refl
 kind_alike (Some (Kind.Fault cause)) k ts us request t m input a = refl
 
+-- a serial step looks at the other threads by their number and their ends alone
 pub serve-alike : (k : ℕ) (ts us : List Parts) (request : Option Request) (t : Parts) (m : List ℕ) (input : Option Input) → LookAlike ts us → serve k us request t m input ≡ serve k ts request t m input
 unfolding serve
 serve-alike k ts us request t m input a = kind_alike _ k ts us request t m input a

@@ -24,6 +24,7 @@ use Rattle.spec_protocol.specs.Transferring.{not_of_dma, turn_before_dma}
 use Rattle.spec_protocol.specs.Placing.{replays}
 use Rattle.spec_protocol.proofs.Moves.Granted.{bytes_apart, pieces_none, Divergence}
 
+-- a DMA leaves the memory, the threads, their limits and the sphere's role
 pub record DmaMoves (devices : Devices) (p : Sphere) (v : Moved) : Type 0 where
   pub memory : v.sphere.memory ≡ p.memory
   pub threads : v.sphere.threads ≡ p.threads
@@ -112,6 +113,7 @@ in_moves (Replay b) devices p v is going turn e =
     subst (DmaMoves devices p) (let h : dma_by_verdict b (dma_verdict b.log p.progress b.used) devices p ≡ v = cc in h)
     (verdict_moves b (dma_verdict b.log p.progress b.used) devices p is (dma-turn_is b.now going turn) (λ ws h. verdict_apart b.log p.progress b.used ws h))
 
+-- a DMA that is done leaves the memory, the threads, their limits and the role
 pub dma-moves : (devices : Devices) (p : Sphere) (v : Moved) → is_stopped p.role ≡ false → turn_before_dma p.role ≡ None → dma_moved devices p ≡ Some v → DmaMoves devices p v
 unfolding dma_moved
 dma-moves devices p v going turn e = in_moves p.role devices p v refl going turn e
@@ -126,6 +128,7 @@ in_lives Plain devices p v live e = live_grants Plain devices p p.progress.reque
 in_lives (Record log) devices p v live e = live_grants (Record (dma_log log devices p p.progress.request)) devices p p.progress.request v e
 in_lives (Replay b) devices p v live e = absurd (true≢false live)
 
+-- outside replays the answer to a DMA that is done is Granted
 pub dma-lives : (devices : Devices) (p : Sphere) (v : Moved) → replays p.role ≡ false → dma_moved devices p ≡ Some v → v.outcome ≡ Granted
 unfolding dma_moved
 dma-lives devices p v live e = in_lives p.role devices p v live e

@@ -138,6 +138,7 @@ start_sizes ModeName.OrderSize entry = refl
 start_sizes ModeName.OrderOnly entry = λ k i l. refl
 start_sizes ModeName.Picolog entry = λ k i l. refl
 
+-- a new log stands by the sphere that a setup starts
 pub start-stands : (s : ℕ) (image : SphereSetup) (mode : ModeName) → Stands (sphere_of s image) (new_log mode s)
 start-stands s image mode =
     record {
@@ -249,6 +250,7 @@ ends L image q s r =
 
 -- ---- all
 
+-- the log of a recorded sphere fits its image, and its play leaves what the recording has
 pub logs_play_back : LogsPlayBack
 logs_play_back s es i image mode will p log shown log_ =
     let is = will.setup in

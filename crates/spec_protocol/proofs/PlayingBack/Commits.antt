@@ -195,6 +195,7 @@ goes_follow L k short p q log qlog t u made c o y e e2 u2 d sp sq aq f es is_e i
       now = refl;
     }
 
+-- the play that follows up to a commit of a thread follows behind it
 pub commit-follows : (L : LogParts) (k : ℕ) (short : Bool) (p q : Sphere) (log qlog : LogParts) (t u : Parts) (made : List Parts) (c : Commit) (o : Option Input) (y : Played) (e : Effect) → HasCommitted k short p q log qlog t u made c o → Stands p log → Stands q qlog → Ahead L p log → Ahead L q qlog → Follows L p log y → Effects L k p q qlog t u made y e
     → Follows L q qlog (play_one L y)
 unfolding play_one

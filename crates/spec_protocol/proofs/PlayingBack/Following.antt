@@ -29,6 +29,7 @@ use Rattle.spec_protocol.proofs.Logs.Growing.{OrderStands, Behind}
 
 -- ---- an interrupt that comes with its commit
 
+-- the thread as the play has it: interrupted already, where only the final log has the interrupt
 abbrev pub early_by : Option ℕ → Option ℕ → Parts → Parts
 early_by (Some v) o t = t
 early_by None None t = t
@@ -38,19 +39,23 @@ early_by None (Some v) t = interrupted v t
 abbrev pub early : (final now : List Interrupt) → (thread : ℕ) → Parts → Parts
 early final now k t = early_by (interrupt_at now k t.commits) (interrupt_at final k t.commits) t
 
+-- 1 where only the final log has the interrupt
 abbrev pub pending_by : Option ℕ → Option ℕ → ℕ
 pending_by (Some v) o = 0
 pending_by None None = 0
 pending_by None (Some v) = 1
 
+-- 1 where the play of the final log has interrupted the thread, and the recording hasn't yet
 abbrev pub pending : (final now : List Interrupt) → (thread : ℕ) → Parts → ℕ
 pending final now k t = pending_by (interrupt_at now k t.commits) (interrupt_at final k t.commits)
 
+-- a thread of which both logs say the same is the same in the play
 pub early_same : (a b : Option ℕ) (t : Parts) → b ≡ a → early_by a b t ≡ t
 early_same (Some v) b t e = refl
 early_same None None t e = refl
 early_same None (Some v) t e = absurd (none-some v (sym e))
 
+-- no interrupt is pending where both logs say the same
 pub pending_same : (a b : Option ℕ) → b ≡ a → pending_by a b ≡ 0
 pending_same (Some v) b e = refl
 pending_same None None e = refl
@@ -63,6 +68,7 @@ early_lives None (Some v) t = refl
 
 -- ---- sums over threads
 
+-- the sum over all threads, the first of which has number n
 abbrev pub sum_from : (ℕ → Parts → ℕ) → (n : ℕ) → List Parts → ℕ
 sum_from f n [] = 0
 sum_from f n (t ∷ ts) = f n t + sum_from f (suc n) ts
@@ -71,6 +77,7 @@ sum_same : (f g : ℕ → Parts → ℕ) (n : ℕ) (ts : List Parts) → ((j : �
 sum_same f g n [] same = refl
 sum_same f g n (t ∷ ts) same = let a = same n t (omega arith) in let b = sum_same f g (suc n) ts (λ j u l. same j u (omega arith)) in omega arith
 
+-- a sum over the threads changes by the changed thread alone
 pub sum-set : (f g : ℕ → Parts → ℕ) (n k : ℕ) (ts : List Parts) (t u : Parts) → slice_get ts k ≡ Some t → ((j : ℕ) (x : Parts) → n ≤ j → j ≢ n + k → f j x ≡ g j x) → sum_from g n (set ts k u) + f (n + k) t ≡ sum_from f n ts + g (n + k) u
 sum-set f g n k [] t u is same = absurd (none-some t is)
 sum-set f g n zero (x ∷ ts) t u is same =
@@ -88,6 +95,7 @@ sum-set f g n (suc k) (x ∷ ts) t u is same =
     let d : g (n + suc k) u ≡ g (suc n + k) u = ap (λ (m : ℕ). g m u) nk in
     omega arith
 
+-- a sum of zeros is 0
 pub sum-zero : (f : ℕ → Parts → ℕ) (n : ℕ) (ts : List Parts) → ((j : ℕ) (t : Parts) → slice_get ts j ≡ Some t → f (n + j) t ≡ 0) → sum_from f n ts ≡ 0
 sum-zero f n [] each = refl
 sum-zero f n (t ∷ ts) each =
@@ -131,6 +139,7 @@ live_flags (y ∷ ys) (p ∷ ps) size each =
     let e : y ≡ h.0 = (let o = h.1 in cc) in
     (λ i. (ap is_live e ∙ h.2) i ∷ live_flags ys ps (omega arith) (λ j t is. each (suc j) t is) i)
 
+-- in the play the same threads live as in the recording
 pub same-flags : (L : LogParts) (p : Sphere) (log : LogParts) (y : Played) → Follows L p log y → map is_live y.threads ≡ map is_live p.threads
 same-flags L p log y f =
     live_flags y.threads p.threads f.size
@@ -141,6 +150,7 @@ ended_if o None some none = ap has_ended (none refl)
 ended_if o (Some t) some none =
     let h = some t refl in ap has_ended h.1 ∙ ap (λ (b : Bool). cond b 0 1) h.2
 
+-- the threads of the play look like those of the recording
 pub look-alike : (L : LogParts) (p : Sphere) (log : LogParts) (y : Played) → Follows L p log y → LookAlike p.threads y.threads
 look-alike L p log y f =
     record {
@@ -152,6 +162,7 @@ look-alike L p log y f =
 
 -- ---- whose turn it is
 
+-- it is the turn of the live thread that the log names next
 pub turn-at : (L : LogParts) (p : Progress) (u : Used) (ts : List Parts) (k : ℕ) (t : Parts) → position p < L.count → next_actor L p ts ≡ Some (Actor.Thread k) → slice_get ts k ≡ Some t → is_live t ≡ true → now_at L p u ts ≡ Turn k
 unfolding now_at
 turn-at L p u ts k t below actor is live =
@@ -180,6 +191,7 @@ pub record Effects (L : LogParts) (k : ℕ) (p q : Sphere) (qlog : LogParts) (t 
   pub turn_ : L.mode ≡ ModeName.Picolog → turn p.progress.last (map is_live p.threads) ≡ Some k
   pub verdict : thread_verdict L y k t (next_kind t y.memory) ≡ ended L k e (record y.used { inputs = length qlog.inputs })
 
+-- a spawned thread has the same number behind as many others
 pub get_past : (ts us made : List Parts) (j : ℕ) (x : Parts) → length us ≡ length ts → slice_get ts j ≡ None → slice_get (ts ++ made) j ≡ Some x → slice_get (us ++ made) j ≡ Some x
 get_past [] [] made j x size none e = e
 get_past [] (u ∷ us) made j x size none e = absurd (omega arith)
@@ -197,10 +209,12 @@ abbrev pub early_effect : Option ℕ → Effect → Effect
 early_effect None e = e
 early_effect (Some v) e = record e { thread = interrupted v e.thread }
 
+-- what is used of the log, with the interrupt that comes early
 abbrev pub early_used : Option ℕ → Used → Used
 early_used None u = u
 early_used (Some v) u = with_interrupt u
 
+-- a commit goes on with the interrupt that comes early, if its thread takes interrupts
 pub goes_so : (o : Option ℕ) (e : Effect) (u : Used) → ((v : ℕ) → o ≡ Some v → takes_interrupt e.thread ≡ true) → with_interrupted o e u ≡ Goes (early_effect o e) (early_used o u)
 goes_so None e u takes = refl
 goes_so (Some v) e u takes = ap (λ (b : Bool). cond b (Goes (record e { thread = interrupted v e.thread }) (with_interrupt u)) (Fails Why.Interrupt)) (takes v refl)

@@ -46,15 +46,18 @@ use Rattle.std.specs.List.{prefix_len}
 abbrev pub Reaches : LogParts → Played → Sphere → LogParts → Type 0
 Reaches L y p log = Follows L p log (plays L y (position p.progress))
 
+-- q has come of p: its log stands by it, is behind what was ahead, and is reached by the same play
 pub record Grown (p q : Sphere) (log qlog : LogParts) : Type 0 where
   pub stands : Stands p log → Stands q qlog
   pub s : qlog.s ≡ log.s
   pub ahead : (L : LogParts) → Ahead L q qlog → Ahead L p log
   pub reaches : (L : LogParts) (y : Played) → Stands p log → Ahead L q qlog → Reaches L y p log → Reaches L y q qlog
 
+-- nothing done is growth
 pub grown_refl : (p : Sphere) (log : LogParts) → Grown p p log log
 grown_refl p log = record { stands = λ s. s; s = refl; ahead = λ L a. a; reaches = λ L y s a r. r }
 
+-- growth upon growth is growth
 pub grown_trans : (p q r : Sphere) (plog qlog rlog : LogParts) → Grown p q plog qlog → Grown q r qlog rlog → Grown p r plog rlog
 grown_trans p q r plog qlog rlog a b =
     record {
@@ -184,6 +187,7 @@ chunk_committed z log p k t how n limit devices is =
       log_ = ap (λ (c : ℕ). noted e.commit c (is_short z.chunk how limit) log) (run-keeps p.memory t n);
     }
 
+-- a recorded sphere and its log have grown after a chunk
 pub chunk-grown : (z : Numbers) (log : LogParts) (p : Sphere) (k : ℕ) (t : Parts) (how : How) (n limit : ℕ) (devices : Devices) → p.role ≡ Record log → log.s ≡ z.chunk → 0 < z.buffer → slice_get p.threads k ≡ Some t → ChunkFits z p k t how n limit
     → Grown p (laid (recorded_chunk z log p k t how n limit devices)) log (chunk_log z log p k t how n limit)
 chunk-grown z log p k t how n limit devices role s buffer is fits =
@@ -242,6 +246,7 @@ serial_committed log p k moment t devices is =
       log_ = refl;
     }
 
+-- a recorded sphere and its log have grown after a serial step
 pub serial-grown : (log : LogParts) (p : Sphere) (k moment : ℕ) (t : Parts) (devices : Devices) → p.role ≡ Record log → slice_get p.threads k ≡ Some t → SerialFits p k t
     → Grown p (laid (recorded_serial log p k moment t devices)) log (serial_log log p k moment t devices)
 serial-grown log p k moment t devices role is fits =
@@ -273,9 +278,11 @@ serial-grown log p k moment t devices role is fits =
 
 -- ---- a DMA
 
+-- what a DMA makes of a recorded sphere
 abbrev pub recorded_dma : LogParts → Sphere → Devices → Request → Moved
 recorded_dma log p devices request = dma_as (Record (dma_log log devices p (Some request))) (dma_words request (dma_bytes devices request)) (dma_taken devices request) p
 
+-- a recorded sphere and its log have grown after a DMA
 pub dma-grown : (log : LogParts) (p : Sphere) (devices : Devices) (request : Request) → p.progress.request ≡ Some request → Grown p (laid (recorded_dma log p devices request)) log (dma_log log devices p (Some request))
 dma-grown log p devices request asked =
     let q = laid (recorded_dma log p devices request) in
@@ -293,6 +300,7 @@ dma-grown log p devices request asked =
 
 -- ---- an interrupt
 
+-- a recorded sphere and its log have grown after an interrupt
 pub raise-grown : (log : LogParts) (p : Sphere) (k value : ℕ) (t : Parts) → p.role ≡ Record log → slice_get p.threads k ≡ Some t → takes_interrupt t ≡ true → Grown p (raised k value t p) log (interrupt_noted k t.commits value log)
 unfolding raised
 raise-grown log p k value t role is takes =

@@ -108,6 +108,7 @@ dma_says L p q log bytes request y asked most sp ap_ aq f =
     (ap (λ (n : ℕ). serial_why (dma_size L.sizes n)) at_ ∙ dma_size_says log.mode L.sizes log.sizes (position p.progress) (position p.progress) p.threads q.threads sp.sizes aq.sizes)
     (there ∙ ap (λ (n : ℕ). Some (record { slot = n; bytes = bytes })) (sym at_))
 
+-- the play that follows up to a DMA follows behind it
 pub transferred-follows : (L : LogParts) (p q : Sphere) (log qlog : LogParts) (bytes : List ℕ) (request : Request) (y : Played) → Transferred p q log qlog bytes → q.memory ≡ lays p.memory (dma_words request bytes) → q.progress ≡ with_dma p.progress → p.progress.request ≡ Some request → length bytes ≤ request.len
     → Stands p log → Ahead L p log → Ahead L q qlog → Follows L p log y → Follows L q qlog (play_one L y)
 unfolding play_one
@@ -130,6 +131,7 @@ transferred-follows L p q log qlog bytes request y d mem progress asked most sp 
 
 -- ---- an interrupt
 
+-- a thread that takes interrupts isn't masked
 pub open-takes : (t : Parts) → takes_interrupt t ≡ true → t.mask ≡ false
 open-takes t e = not-true t.mask ((and_parts (is_live t && has_handler t) (not t.mask) e).1)
 
@@ -189,6 +191,7 @@ raised_sums L k value p q log qlog t d sp aq =
     let c : length qlog.interrupts ≡ suc (length log.interrupts) = ap (λ (m : LogParts). length m.interrupts) d.log_ ∙ length-raised log.interrupts k t.commits value h.0 in
     omega arith
 
+-- the play that follows up to an interrupt follows behind it, and does nothing
 pub raised-follows : (L : LogParts) (k value : ℕ) (p q : Sphere) (log qlog : LogParts) (t : Parts) (y : Played) → WasRaised k value p q log qlog t → q.memory ≡ p.memory → Stands p log → Ahead L q qlog → Follows L p log y → Follows L q qlog y
 raised-follows L k value p q log qlog t y d mem sp aq f =
     record {

@@ -75,6 +75,7 @@ run_stays m t n (suc j) some =
     let e : suc j + n ≡ suc (j + n) = omega arith in
     ap (run m t) e ∙ ap (more m) (run_stays m t n j some) ∙ stopped_by (run m t n).thread (lays m (run m t n).words) _ refl some (run m t n)
 
+-- a run that comes to a serial instruction goes no further, however long it may
 pub run-stops : (m : List ℕ) (t : Parts) (n s : ℕ) → n ≤ s → IsSome (next_kind (run m t n).thread (lays m (run m t n).words)) → run m t s ≡ run m t n
 run-stops m t n s l some =
     let e : s ≡ (s - n) + n = omega arith in
@@ -82,6 +83,7 @@ run-stops m t n s l some =
 
 -- ---- what the log says of the size
 
+-- the size that the log has of a commit is the recorded one, or it has none and the commit wasn't short
 pub size-says : (mode : ModeName) (named order : List Actor) (y x : Sizes) (k n pos : ℕ) (short : Bool) (ts us : List Parts) (t : Parts) → Grows k ts us t → OrderStands mode order pos ts → SizesStand mode x pos ts
     → Behind named (order_with mode order (Actor.Thread k)) → SizesAhead y (with_size x (Actor.Thread k) t.commits n short) us
     → (thread_size named y k t.commits ≡ Some n) ⊎ ((thread_size named y k t.commits ≡ None) × (short ≡ false))
@@ -174,6 +176,7 @@ serial_verdict_is : (L : LogParts) (p : Progress) (u : Used) (k : ℕ) (ts : Lis
 unfolding serial_verdict
 serial_verdict_is L p u k ts t m = refl
 
+-- the play of a recorded serial step goes on, with the recorded input
 pub serial-goes : (L : LogParts) (y : Played) (k : ℕ) (m : List ℕ) (t : Parts) (p : Progress) (ts : List Parts) (d : Devices) (moment : ℕ) (log : LogParts) → y.memory ≡ m → y.progress ≡ p → LookAlike ts y.threads → y.used.inputs ≡ length log.inputs
     → IsSome (next_kind t m) → ZeroOrNone (size_in L (Actor.Thread k) t.commits) → Behind L.inputs (input_noted (taken (need t m) d moment).input log).inputs
     → thread_verdict L y k t (next_kind t y.memory)

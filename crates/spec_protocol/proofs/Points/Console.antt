@@ -156,6 +156,7 @@ points_put x (q ∷ qs) =
     let bytes = put_out (new_commits (place_of q) x y) in
     points_put y qs ∙ ap (λ (cs : List ℕ). cs ++ console_of y qs) (point_puts x q) ∙ append_assoc x.devices.console bytes (console_of y qs)
 
+-- the console has what the commits of the points put out, in their order
 pub console_is_put_out : ConsoleIsPutOut
 console_is_put_out s es is =
     let w = after s es in

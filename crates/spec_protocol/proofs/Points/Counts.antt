@@ -179,6 +179,7 @@ dma_untold : (w : World) (i : ℕ) (o : Option Moved) → Untold w (dma_if w i o
 dma_untold w i None = record { points = refl; counts = refl; exactly = refl; moment = tt }
 dma_untold w i (Some v) = with_untold w i v v.outcome
 
+-- an event by itself touches neither points nor counts, and gives a point where its reply says so
 pub act-untold : (w : World) (e : Event) → Untold w (act w e)
 unfolding act stepping cutting asking draining delivering retiring placing raising transferring
 act-untold w (Event.Step c) = step_untold w (core_no w c) (at w.cores (core_no w c))
@@ -200,6 +201,7 @@ act-untold w (Event.Dma i) =
     (λ _. record { points = refl; counts = refl; exactly = refl; moment = tt })
     (λ _. turn_untold w rest (turn_before_dma p.role) (dma_untold w (sphere_no w i) (dma_moved w.devices p)))
 
+-- a point is made where the reply says so, and each event is counted with its reply
 pub points_made : PointsAreMade
 unfolding happens
 points_made w e =

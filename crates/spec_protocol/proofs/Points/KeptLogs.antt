@@ -49,6 +49,7 @@ pub record Keeps (mode : ModeName) (s : ℕ) (cs : List Supplied) (p : Sphere) :
   pub stands : Stands p (logged mode s cs)
   pub few : length p.threads ≤ 15
 
+-- sphere i is recorded, and has kept the log that its points so far tell
 pub record KeepsIn (mode : ModeName) (s i : ℕ) (cs : List Supplied) (x : Whole) : Type 0 where
   pub sphere : Sphere
   pub there : slice_get x.spheres i ≡ Some sphere
@@ -77,9 +78,11 @@ commit_keeps mode s cs moment i k size kind short o bytes p q qlog t u made comm
       few = (let a = ap (λ (ts : List Parts). length ts) d.threads in let b = length-append (set p.threads k u) made in let h = length-set p.threads k u in omega (arith, few));
     }
 
+-- what a chunk makes of a recorded sphere
 abbrev pub recorded_chunk : LogParts → (thread : ℕ) → (short : Bool) → Run → Devices → Sphere → Moved
 recorded_chunk log k short r devices p = chunk_in (Record log) k false short r devices p
 
+-- after a chunk the sphere keeps the log of its points and the chunk's
 pub chunk-keeps : (mode : ModeName) (s : ℕ) (cs : List Supplied) (moment i k size : ℕ) (short : Bool) (p : Sphere) (t : Parts) (devices : Devices) → Keeps mode s cs p → slice_get p.threads k ≡ Some t → (run p.memory t size).n ≡ size
     → Keeps mode s (cs ++ record { point = Point.Commit moment i (Actor.Thread k) CommitKind.Chunk size short; input = None; bytes = [] } ∷ []) (laid (recorded_chunk (logged mode s cs) k short (run p.memory t size) devices p))
 chunk-keeps mode s cs moment i k size short p t devices keeps is ran =
@@ -100,9 +103,11 @@ chunk-keeps mode s cs moment i k size short p t devices keeps is ran =
     in
     commit_keeps mode s cs moment i k size CommitKind.Chunk short None [] p q (noted e.commit r.thread.commits short log) t e.thread e.made e.commit keeps d refl ran (let l = keeps.few in omega arith)
 
+-- what a serial step makes of a recorded sphere
 abbrev pub recorded_serial : LogParts → (thread moment : ℕ) → Parts → Devices → Sphere → Moved
 recorded_serial log k moment t devices p = serial_in (Record log) k moment t devices p
 
+-- after a serial step the sphere keeps the log of its points and the step's
 pub serial-keeps : (mode : ModeName) (s : ℕ) (cs : List Supplied) (moment i k size : ℕ) (short : Bool) (p : Sphere) (t : Parts) (devices : Devices) → Keeps mode s cs p → slice_get p.threads k ≡ Some t → size ≡ 0
     → Keeps mode s (cs ++ record { point = Point.Commit moment i (Actor.Thread k) CommitKind.Serial size short; input = (taken (need t p.memory) devices moment).input; bytes = [] } ∷ []) (laid (recorded_serial (logged mode s cs) k moment t devices p))
 serial-keeps mode s cs moment i k size short p t devices keeps is empty =
@@ -126,6 +131,7 @@ serial-keeps mode s cs moment i k size short p t devices keeps is empty =
 
 -- ---- a DMA
 
+-- what a DMA makes of a recorded sphere
 abbrev pub recorded_dma : LogParts → Devices → Request → Sphere → Moved
 recorded_dma log devices request p = dma_as (Record (dma_log log devices p (Some request))) (dma_words request (dma_bytes devices request)) (dma_taken devices request) p
 
@@ -133,6 +139,7 @@ no_thread_more : (j : ℕ) (acts : List Actor) → count_of j (acts ++ Actor.Dma
 no_thread_more j [] = refl
 no_thread_more j (a ∷ acts) = ap (λ (n : ℕ). cond (is_thread j a) (suc n) n) (no_thread_more j acts)
 
+-- after a DMA the sphere keeps the log of its points and the DMA's
 pub dma-keeps : (mode : ModeName) (s : ℕ) (cs : List Supplied) (moment i : ℕ) (short : Bool) (p : Sphere) (request : Request) (devices : Devices) → Keeps mode s cs p
     → Keeps mode s (cs ++ record { point = Point.Commit moment i Actor.Dma CommitKind.Dma 0 short; input = None; bytes = dma_bytes devices request } ∷ []) (laid (recorded_dma (logged mode s cs) devices request p))
 dma-keeps mode s cs moment i short p request devices keeps =
@@ -153,6 +160,7 @@ dma-keeps mode s cs moment i short p request devices keeps =
 
 -- ---- an interrupt
 
+-- after an interrupt the sphere keeps the log of its points and the interrupt's
 pub raise-keeps : (mode : ModeName) (s : ℕ) (cs : List Supplied) (moment i k value : ℕ) (p : Sphere) (t : Parts) → Keeps mode s cs p → slice_get p.threads k ≡ Some t → takes_interrupt t ≡ true
     → Keeps mode s (cs ++ record { point = Point.Raise moment i k value; input = None; bytes = [] } ∷ []) (raised k value t p)
 unfolding raised

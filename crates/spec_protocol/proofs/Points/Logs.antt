@@ -83,10 +83,12 @@ log_kept s es i image mode is there role =
           )
     ]
 
+-- the log of a recorded sphere is the one that its points tell
 pub logs_are : LogsAreOfPoints
 unfolding shown
 logs_are s es i image mode will = (log_kept s es i image mode will.setup will.there will.role).role
 
+-- a kept log has nothing of what comes next
 pub logs_are_fresh : LogsAreFresh
 unfolding shown
 logs_are_fresh s es i image mode will log kept =

@@ -146,6 +146,7 @@ of_sphere i (Point.Raise moment j k value) = refl
 one_more : (i : ℕ) (x : Whole) (q : Point) (qs : List Point) (b : Bool) → is_of i q ≡ b → supplied i x (q ∷ qs) ≡ cond b (told_at x q ∷ supplied i (do_point x q) qs) (supplied i (do_point x q) qs)
 one_more i x q qs b e = ap (λ (c : Bool). cond c (told_at x q ∷ supplied i (do_point x q) qs) (supplied i (do_point x q) qs)) e
 
+-- points done one at a time leave the sphere with the log that they tell
 pub points-kept : (mode : ModeName) (s i : ℕ) (cs : List Supplied) (x : Whole) (qs : List Point) → KeepsIn mode s i cs x → CanDoAll x qs → KeepsIn mode s i (cs ++ supplied i x qs) (do_points x qs)
 points-kept mode s i cs x [] k can = subst (λ (ds : List Supplied). KeepsIn mode s i ds x) (sym (append-nil cs)) k
 points-kept mode s i cs x (q ∷ qs) k can =

@@ -16,17 +16,21 @@ use Rattle.spec_protocol.proofs.Logs.Entries.{Are}
 
 -- ---- the points so far, and one behind them
 
+-- the points, without what was supplied to them
 abbrev pub points_so : List Supplied → List Point
 points_so cs = map (λ (c : Supplied). c.point) cs
 
+-- one point more stands behind the others
 pub points-more : (cs : List Supplied) (c : Supplied) → points_so (cs ++ c ∷ []) ≡ points_so cs ++ c.point ∷ []
 points-more cs c = map-append (λ (d : Supplied). d.point) cs (c ∷ [])
 
+-- the actors of two lists of points, one after the other
 pub actors-append : (ps qs : List Point) → actors_of (ps ++ qs) ≡ actors_of ps ++ actors_of qs
 actors-append [] qs = refl
 actors-append (Point.Commit moment i actor kind size short ∷ ps) qs = ap (λ (as_ : List Actor). actor ∷ as_) (actors-append ps qs)
 actors-append (Point.Raise moment i k value ∷ ps) qs = actors-append ps qs
 
+-- the sizes of two lists of points, one after the other
 pub sizes-append : (ps qs : List Point) → sizes_of (ps ++ qs) ≡ sizes_of ps ++ sizes_of qs
 sizes-append [] qs = refl
 sizes-append (Point.Commit moment i actor kind size short ∷ ps) qs = ap (λ (ns : List ℕ). size ∷ ns) (sizes-append ps qs)
@@ -49,6 +53,7 @@ shorts_cond k n c true false s ps qs more same =
     more ∙ ap (λ (m : ℕ). shorts_of k (suc n) ps ++ shorts_of k m qs) e
 shorts_cond k n c false sc s ps qs more same = same
 
+-- a thread's short sizes of two lists, the second counted from its commits in the first
 pub shorts-append : (k n : ℕ) (ps qs : List Point) → shorts_of k n (ps ++ qs) ≡ shorts_of k n ps ++ shorts_of k (n + commits_of k ps) qs
 shorts-append k n [] qs = let e : n ≡ n + 0 = omega arith in ap (λ (m : ℕ). shorts_of k m qs) e
 shorts-append k n (Point.Commit moment i actor kind size short ∷ ps) qs =
@@ -64,6 +69,7 @@ are_shorts_cond k n m c true true size more same l a b = (refl, omega (arith, l)
 are_shorts_cond k n m c true false size more same l a b = a (omega (arith, l))
 are_shorts_cond k n m c false sc size more same l a b = b l
 
+-- the short sizes of a thread are of its commits before the number m
 pub are-shorts : (k n m : ℕ) (ps : List Point) → n + commits_of k ps ≤ m → AreShorts k m (shorts_of k n ps)
 are-shorts k n m [] l = tt
 are-shorts k n m (Point.Commit moment i actor kind size short ∷ ps) l =
@@ -83,6 +89,7 @@ raise_cond : (b : Bool) (r : Interrupt) (all some rest : List Interrupt) → all
 raise_cond true r all some rest e = ap (λ (rs : List Interrupt). r ∷ rs) e
 raise_cond false r all some rest e = e
 
+-- a thread's interrupts of two lists, the second counted from its commits in the first
 pub interrupts-append : (k n : ℕ) (ps qs : List Point) → interrupts_of k n (ps ++ qs) ≡ interrupts_of k n ps ++ interrupts_of k (n + commits_of k ps) qs
 interrupts-append k n [] qs = let e : n ≡ n + 0 = omega arith in ap (λ (m : ℕ). interrupts_of k m qs) e
 interrupts-append k n (Point.Commit moment i actor kind size short ∷ ps) qs =
@@ -101,6 +108,7 @@ are_raise_cond : (k n m : ℕ) (b : Bool) (value : ℕ) (rest : List Interrupt) 
 are_raise_cond k n m true value rest l a = (refl, l, a)
 are_raise_cond k n m false value rest l a = a
 
+-- the interrupts of a thread stand at numbers of its commits below m
 pub are-ints : (k n m : ℕ) (ps : List Point) → n + commits_of k ps < m → AreInts k m (interrupts_of k n ps)
 are-ints k n m [] l = tt
 are-ints k n m (Point.Commit moment i actor kind size short ∷ ps) l =
@@ -113,6 +121,7 @@ count_more : (q : Point) (qs : List Point) → length (actors_of (q ∷ qs)) ≡
 count_more (Point.Commit moment i actor kind size short) qs = omega arith
 count_more (Point.Raise moment i k value) qs = omega arith
 
+-- the DMAs of two lists, the second counted from the commits of the first
 pub dmas-append : (n : ℕ) (cs ds : List Supplied) → dmas_of n (cs ++ ds) ≡ dmas_of n cs ++ dmas_of (n + length (actors_of (points_so cs))) ds
 dmas-append n [] ds = let e : n ≡ n + 0 = omega arith in ap (λ (m : ℕ). dmas_of m ds) e
 dmas-append n (c ∷ cs) ds =
@@ -127,6 +136,7 @@ dmas-append n (c ∷ cs) ds =
 pub unchanged : {X : Type 0} (f g : ℕ → List X) → ((k : ℕ) → g k ≡ f k) → flat_map f threads ≡ flat_map g threads
 unchanged f g same = (λ h. flat_map (λ (k : ℕ). sym (same k) h) threads)
 
+-- a list with nothing behind it is the list
 pub nothing_behind : {X : Type 0} (xs ys zs : List X) → ys ≡ xs ++ zs → zs ≡ [] → ys ≡ xs
 nothing_behind {X} xs ys zs e none = e ∙ ap (λ (ws : List X). xs ++ ws) none ∙ append-nil xs
 
@@ -135,6 +145,7 @@ pub shorts_of_other : (k j n moment i size : ℕ) (kind : CommitKind) (short : B
 shorts_of_other k j n moment i size kind short ne =
     ap (λ (b : Bool). cond b (cond (is_short_chunk kind short) (record { thread = j; index = n; size = size } ∷ []) []) []) (ne_eqb k j (λ e. ne (sym e)))
 
+-- a short chunk's own thread has its size
 pub shorts_of_own : (k n moment i size : ℕ) (kind : CommitKind) (short : Bool) → is_short_chunk kind short ≡ true → shorts_of k n (Point.Commit moment i (Actor.Thread k) kind size short ∷ []) ≡ record { thread = k; index = n; size = size } ∷ []
 shorts_of_own k n moment i size kind short is =
     ap (λ (b : Bool). cond b (cond (is_short_chunk kind short) (record { thread = k; index = n; size = size } ∷ []) []) []) (eq-eqb k k refl)
@@ -144,6 +155,7 @@ whole_cond : (b : Bool) (ss : List ShortSize) → cond b (cond false ss []) [] �
 whole_cond true ss = refl
 whole_cond false ss = refl
 
+-- a commit that isn't a short chunk has no short size
 pub shorts_of_whole : (k j n moment i size : ℕ) (kind : CommitKind) (short : Bool) → is_short_chunk kind short ≡ false → shorts_of j n (Point.Commit moment i (Actor.Thread k) kind size short ∷ []) ≡ []
 shorts_of_whole k j n moment i size kind short is =
     ap (λ (c : Bool). cond (eqb k j) (cond c (record { thread = j; index = n; size = size } ∷ []) []) []) is ∙ whole_cond (eqb k j) (record { thread = j; index = n; size = size } ∷ [])
@@ -152,11 +164,14 @@ same_cond : (b : Bool) (rs : List Interrupt) → cond b rs rs ≡ rs
 same_cond true rs = refl
 same_cond false rs = refl
 
+-- a commit is no interrupt
 pub ints_of_commit : (j n moment i size : ℕ) (actor : Actor) (kind : CommitKind) (short : Bool) → interrupts_of j n (Point.Commit moment i actor kind size short ∷ []) ≡ []
 ints_of_commit j n moment i size actor kind short = same_cond (is_thread j actor) []
 
+-- an interrupt of thread k is none of another thread
 pub ints_of_other : (k j n moment i value : ℕ) → j ≢ k → interrupts_of j n (Point.Raise moment i k value ∷ []) ≡ []
 ints_of_other k j n moment i value ne = ap (λ (b : Bool). cond b (record { thread = j; index = n; value = value } ∷ []) []) (ne_eqb k j (λ e. ne (sym e)))
 
+-- an interrupt of thread k is its own, at its number of commits
 pub ints_of_own : (k n moment i value : ℕ) → interrupts_of k n (Point.Raise moment i k value ∷ []) ≡ record { thread = k; index = n; value = value } ∷ []
 ints_of_own k n moment i value = ap (λ (b : Bool). cond b (record { thread = k; index = n; value = value } ∷ []) []) (eq-eqb k k refl)

@@ -150,6 +150,7 @@ kind_tells (Some Kind.DeviceLoad) number ts request t m d moment is =
 kind_tells (Some Kind.DeviceStore) number ts request t m d moment is = store_tells d request t (next_plan t m)
 kind_tells (Some (Kind.Fault cause)) number ts request t m d moment is = tells_nothing d d [] refl refl
 
+-- the console grows in a serial step by what its outputs put out there
 pub serve-tells : (number : ℕ) (ts : List Parts) (request : Option Request) (t : Parts) (m : List ℕ) (d : Devices) (moment : ℕ)
     → let g = taken (need t m) d moment in let v = serve number ts request t m g.input in (console_told t m v.outputs g.devices).console ≡ d.console ++ flat_map on_console v.outputs
 unfolding need serve console_told

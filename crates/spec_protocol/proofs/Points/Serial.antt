@@ -383,6 +383,7 @@ live_follows z x y m p o a xi live buffer fits is =
       can = live_can z x y m.moment m.sphere p m.what a xi live buffer fits;
     })
 
+-- as many spheres are shown as there are
 pub shown_length : (xs : List (Option Flight)) (n : ℕ) (ps : List Sphere) → length (shown_from xs n ps) ≡ length ps
 shown_length xs n [] = refl
 shown_length xs n (p ∷ ps) = ap suc (shown_length xs (suc n) ps)
@@ -450,6 +451,7 @@ after_so : (x : Whole) (w : World) (es : List Event) → IsGood w → SerialSo x
 after_so x w [] good s = s
 after_so x w (e ∷ es) good s = after_so x (happens w e).world es (happens-kept w e good).good (serial_so x w e good s)
 
+-- what a world shows after a schedule is what its points, done one at a time, give
 pub serial-after : (s : Setup) (es : List Event) → IsSetup s → SerialSo (whole_of s) (after s es)
 serial-after s es is =
     let start : SerialSo (whole_of s) (world_of s) =
@@ -457,6 +459,7 @@ serial-after s es is =
     in
     after_so (whole_of s) (world_of s) es (start-good s is) start
 
+-- plain and recorded spheres and the devices are those of executing the points in their order
 pub commits_are : CommitsAreSerial
 commits_are s es is =
     let r = serial-after s es is in

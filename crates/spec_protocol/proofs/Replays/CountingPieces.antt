@@ -59,6 +59,7 @@ move_stays z x m b k how n limit p there role what piece fits =
 
 -- ---- in the machine
 
+-- a piece counts as no commit
 pub pieces_count : PiecesCountNothing
 unfolding shown
 pieces_count s es i b is role event m k how n limit is_move of_i what piece =

@@ -62,6 +62,7 @@ in-order-commit order n k ts made t u there commits new named was j =
       | inr ne ↦ (let same = commits-other ts made k j u new ne in let none = other j k ne in omega (arith, next, old, same, none))
     ]
 
+-- after a commit that the log names next the commits are done in its order still
 pub done-commit : (mode : ModeName) (order : List Actor) (n k : ℕ) (ts made : List Parts) (t u : Parts) → slice_get ts k ≡ Some t → u.commits ≡ t.commits + 1 → AreNew made → IsNamed mode order n (Actor.Thread k) → IsDoneInOrder mode order n ts
     → IsDoneInOrder mode order (suc n) (set ts k u ++ made)
 done-commit ModeName.OrderSize order n k ts made t u there commits new named was = in-order-commit order n k ts made t u there commits new named was
@@ -71,6 +72,7 @@ done-commit ModeName.Picolog order n k ts made t u there commits new named was =
 in-order-dma : (order : List Actor) (n : ℕ) (ts : List Parts) → slice_get order n ≡ Some Actor.Dma → InOrder order n ts → InOrder order (suc n) ts
 in-order-dma order n ts named was j = let next = among-next j n order Actor.Dma named in let old = was j in omega (arith, next, old)
 
+-- after a DMA that the log names next the commits are done in its order still
 pub done-dma : (mode : ModeName) (order : List Actor) (n : ℕ) (ts : List Parts) → IsNamed mode order n Actor.Dma → IsDoneInOrder mode order n ts → IsDoneInOrder mode order (suc n) ts
 done-dma ModeName.OrderSize order n ts named was = in-order-dma order n ts named was
 done-dma ModeName.OrderOnly order n ts named was = in-order-dma order n ts named was
@@ -87,6 +89,7 @@ in-order-piece order n k ts t u there commits was j =
       | inr ne ↦ commits-other ts [] k j u tt ne ∙ was j
     ]
 
+-- a piece leaves the commits done in the log's order
 pub done-piece : (mode : ModeName) (order : List Actor) (n k : ℕ) (ts : List Parts) (t u : Parts) → slice_get ts k ≡ Some t → u.commits ≡ t.commits → IsDoneInOrder mode order n ts → IsDoneInOrder mode order n (set ts k u ++ [])
 done-piece ModeName.OrderSize order n k ts t u there commits was = in-order-piece order n k ts t u there commits was
 done-piece ModeName.OrderOnly order n k ts t u there commits was = in-order-piece order n k ts t u there commits was
@@ -123,6 +126,7 @@ head-named ModeName.OrderSize log n last live actor e = e
 head-named ModeName.OrderOnly log n last live actor e = e
 head-named ModeName.Picolog log n last live actor e = tt
 
+-- the actor whose turn it is is the one that the log names next
 pub now-named : (log : LogParts) (p : Progress) (u : Used) (threads : List Parts) (actor : Actor) → actor_of (now_at log p u threads) ≡ Some actor → IsNamed log.mode log.order (position p) actor
 now-named log p u threads actor e =
     head-named log.mode log (position p) p.last (map is_live threads) actor (now-next log p u threads actor e)
@@ -133,6 +137,7 @@ in-order-none : (order : List Actor) (t : Parts) → t.commits ≡ 0 → InOrder
 in-order-none order t e zero = e
 in-order-none order t e (suc k) = refl
 
+-- where no commit is done, none is out of order
 pub done-none : (mode : ModeName) (order : List Actor) (t : Parts) → t.commits ≡ 0 → IsDoneInOrder mode order 0 (t ∷ [])
 done-none ModeName.OrderSize order t e = in-order-none order t e
 done-none ModeName.OrderOnly order t e = in-order-none order t e

@@ -171,6 +171,7 @@ no_serial : (p : Sphere) (b : Book) (k : ℕ) (o : Option Parts) → p.role ≡ 
 no_serial p b k None role some fits = fits
 no_serial p b k (Some t) role some fits = true≢false (sym (some_total b p.role role some) ∙ fits.whole)
 
+-- no interrupt can be raised in a replay
 pub no_raise : (p : Sphere) (b : Book) (o : Option Parts) → p.role ≡ Replay b → FitsRaise p o → ⊥
 no_raise p b None role fits = fits
 no_raise p b (Some t) role fits = true≢false (sym (ap replays role) ∙ fits.live)
@@ -208,12 +209,14 @@ nothing_there z devices p (OfRaise k value) stopped fits = no_raise_there p (sli
 
 -- ---- all
 
+-- a sphere that replays is one of the spheres
 pub there-is : (w : World) (i : ℕ) → replays (sphere_at w i).role ≡ true → i < length w.spheres
 there-is w i replay = elim (cases_lt i (length w.spheres)) [
   | inl l ↦ l
   | inr l ↦ absurd (true≢false (sym replay ∙ ap (λ (p : Sphere). replays p.role) (get_or_past w.spheres i no_sphere l)))
 ]
 
+-- pieces of one commit stay together
 pub pieces_stay : PiecesStayTogether
 unfolding shown
 pieces_stay s es i b is role going some =
@@ -233,6 +236,7 @@ pieces_stay s es i b is role going some =
       },
     )
 
+-- no event moves a sphere that has stopped
 pub stopped_stay : StoppedSpheresStay
 unfolding shown
 stopped_stay s es i is stopped event move is_move of_i =

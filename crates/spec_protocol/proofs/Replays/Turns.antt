@@ -20,6 +20,7 @@ use Rattle.spec_protocol.proofs.Replays.Order.{now-named}
 
 -- ---- a turn
 
+-- where a replay is over it is no thread's turn
 pub over-turn : (how : End) (k : ℕ) → Over how ≡ Turn k → ⊥
 over-turn how k e = cc
 
@@ -66,6 +67,7 @@ now-going log p u threads e =
     (λ l _. ltb-true (position p) log.count l)
     (λ _ h. absurd (true≢false (sym (end-over (position p) (has_left_over log u threads)) ∙ h))) e
 
+-- a book that was turned to its next commit is sound, if it was used soundly
 pub turned-sound : (log : LogParts) (p : Progress) (u : Used) (threads : List Parts) → IsLog log → position p ≤ log.count → IsDoneInOrder log.mode log.order (position p) threads → u.inputs ≤ length log.inputs → u.dmas ≤ length log.dmas → u.interrupts ≡ due threads log.interrupts → IsSoundBook (position p) threads (turned log p u threads)
 turned-sound log p u threads is within done inputs dmas interrupts =
     record {

@@ -26,6 +26,7 @@ abbrev Later : Interrupt → List Interrupt → Type 0
 Later x [] = Unit {0}
 Later x (y ∷ ys) = Before x y × Later x ys
 
+-- the interrupts stand in the order of their threads and commits, none twice
 abbrev pub Rising : List Interrupt → Type 0
 Rising [] = Unit {0}
 Rising (x ∷ xs) = Later x xs × Rising xs
@@ -45,6 +46,7 @@ behind-first x y ys adjacent k d l =
     let e : suc k + 1 ≡ suc (k + 1) = omega arith in
     subst (λ (n : ℕ). Before (slice_index_or (y ∷ ys) k d) (slice_index_or (x ∷ y ∷ ys) n d)) e (adjacent (suc k) d (omega (arith, l)))
 
+-- interrupts each of which is before its neighbour rise
 pub rising-of : (xs : List Interrupt) → AllAdjacentBelow Before xs (length xs) → Rising xs
 rising-of [] adjacent = tt
 rising-of (x ∷ []) adjacent = (tt, tt)
@@ -96,6 +98,7 @@ pub record OnceMore (ts us : List Parts) (k c : ℕ) : Type 0 where
   pub after : commits_if (slice_get us k) ≡ suc c
   pub others : (j : ℕ) → j ≢ k → commits_if (slice_get us j) ≡ commits_if (slice_get ts j)
 
+-- a commit of thread k makes its number one more, and no other's
 pub once-more : (ts made : List Parts) (k : ℕ) (t u : Parts) → slice_get ts k ≡ Some t → u.commits ≡ t.commits + 1 → AreNew made → OnceMore ts (set ts k u ++ made) k t.commits
 once-more ts made k t u there commits new =
     record {
@@ -164,6 +167,7 @@ one-due is ts us k c value rising m e =
 
 -- ---- no commit
 
+-- as many interrupts are due where no thread's number of commits has changed
 pub due-still : (is : List Interrupt) (ts us : List Parts) → ((j : ℕ) → commits_if (slice_get us j) ≡ commits_if (slice_get ts j)) → due us is ≡ due ts is
 due-still [] ts us same = refl
 due-still (i ∷ is) ts us same =
@@ -182,6 +186,7 @@ piece-commits ts k t u there same j =
 
 -- ---- no more than there are
 
+-- no more interrupts are due than there are
 pub due-most : (is : List Interrupt) (ts : List Parts) → due ts is ≤ length is
 due-most [] ts = omega arith
 due-most (i ∷ is) ts =
@@ -206,5 +211,6 @@ first-commits : (t : Parts) (j : ℕ) → t.commits ≡ 0 → commits_if (slice_
 first-commits t zero e = e
 first-commits t (suc j) e = refl
 
+-- no interrupt is due before the first commit
 pub none-due_first : (t : Parts) (is : List Interrupt) → t.commits ≡ 0 → due (t ∷ []) is ≡ 0
 none-due_first t is e = nothing-done (t ∷ []) (λ j. first-commits t j e) is

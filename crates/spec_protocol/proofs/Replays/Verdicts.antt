@@ -40,10 +40,12 @@ abbrev pub IfGoes : (Effect → Used → Type 0) → Verdict → Type 0
 IfGoes Q (Goes e u) = Q e u
 IfGoes Q (Fails why) = Unit {0}
 
+-- what holds where a verdict goes on holds so too where it may fail for one reason more
 pub unless-goes : (Q : Effect → Used → Type 0) (o : Option Why) (x : Verdict) → IfGoes Q x → IfGoes Q (unless o x)
 unless-goes Q None x h = h
 unless-goes Q (Some why) x h = tt
 
+-- what goes on has a sound effect, and uses the log soundly
 abbrev pub SoundlyIn : (size : ℕ) (log : LogParts) (k : ℕ) (ts : List Parts) (t : Parts) → Effect → Used → Type 0
 SoundlyIn size log k ts t e u = IsSoundEffect size ts t e × Uses log (with_threads k e ts) u
 
@@ -63,6 +65,7 @@ interrupted-goes size log k ts t e u (Some value) at is sound uses =
     (λ _. (interrupted-effect size value ts t e sound, record { rising = uses.rising; inputs = uses.inputs; dmas = uses.dmas; interrupts = ap suc uses.interrupts ∙ sym d }))
     (λ _. tt)
 
+-- a commit with a sound effect goes on soundly past the interrupt that is due behind it
 pub ended-goes : (size : ℕ) (log : LogParts) (k : ℕ) (ts : List Parts) (t : Parts) (e : Effect) (u : Used) → slice_get ts k ≡ Some t → IsSoundEffect size ts t e → Uses log ts u → IfGoes (SoundlyIn size log k ts t) (ended log k e u)
 ended-goes size log k ts t e u is sound uses = interrupted-goes size log k ts t e u (interrupt_at log.interrupts k e.thread.commits) refl is sound uses
 
@@ -97,6 +100,7 @@ as-role s image now role p new sound =
       role = new;
     }
 
+-- a divergence leaves a sound replay
 pub diverged-sound : (s : ℕ) (image : SphereSetup) (now : ℕ) (b : Book) (why : Why) (devices : Devices) (p : Sphere) → IsSoundBook (position p.progress) p.threads b → IsSoundSphere s image now p → HaveByteInput devices → IsSoundMoved s image (suc now) (diverged b why devices p)
 diverged-sound s image now b why devices p book sound d =
     record {
@@ -105,6 +109,7 @@ diverged-sound s image now b why devices p book sound d =
       devices = d;
     }
 
+-- a commit leaves a sound replay, whether it goes on or diverges
 pub verdict-sound : (s : ℕ) (image : SphereSetup) (now k : ℕ) (b : Book) (t : Parts) (x : Verdict) (devices : Devices) (p : Sphere) → IsSoundBook (position p.progress) p.threads b → b.now ≡ Turn k → IsSoundSphere s image now p → slice_get p.threads k ≡ Some t
     → IfGoes (SoundlyIn (length image.memory) b.log k p.threads t) x → HaveByteInput devices → IsSoundMoved s image (suc now) (by_verdict b k x devices p)
 verdict-sound s image now k b t (Fails why) devices p book turn sound is goes d = diverged-sound s image now b why devices p book sound d

@@ -133,6 +133,7 @@ later-holds P z w keeps h =
 
 -- ---- a chunk that begins
 
+-- a chunk begun afresh has the property, if its sphere has
 pub afresh-property : (P : Properties) (z : Numbers) (now i k : ℕ) (p : Sphere) (o : Option Parts) → Keeps z P → P.sphere now i p → slice_get p.threads k ≡ o → (h : Held) → thread_afresh z i k p o ≡ Some h → P.held h
 afresh-property P z now i k p None keeps sphere is h e = absurd (none-some h e)
 afresh-property P z now i k p (Some t) keeps sphere is h e =
@@ -317,6 +318,7 @@ retire-then P w k keeps h =
 
 -- ---- Place and Raise
 
+-- a sphere that has a thread is one of the spheres
 pub within-sphere : (w : World) (i k : ℕ) (t : Parts) → slice_get (sphere_at w i).threads k ≡ Some t → i < length w.spheres
 within-sphere w i k t e =
     elim (cases_lt i (length w.spheres)) [
@@ -406,6 +408,7 @@ dma-then P w i keeps h =
 
 -- ---- any event
 
+-- an event keeps properties that each change keeps
 pub act-holds : (P : Properties) (w : World) (e : Event) → Keeps w.numbers P → IsGood w → Holds P (moment w) w → Holds P (suc (moment w)) (act w e).world
 unfolding act stepping cutting asking draining delivering retiring placing raising
 act-holds P w (Event.Step c) keeps good h = step-then P w (core_no w c) (at w.cores (core_no w c)) keeps good refl h

@@ -140,6 +140,7 @@ running-sound capacity size i shown slots core f ch g same c =
     (λ none. loading-sound capacity size i shown slots core f ch g (ap (serial_of ch.done.thread f) (sym same) ∙ none) c)
     (λ kind _. as-closed capacity size i ch g (Some How.Serial) c)
 
+-- a step keeps a running chunk sound
 pub step-sound : (capacity size i : ℕ) (m : List ℕ) (slots : List (Option Flight)) (core : ℕ) (ch : Chunk) → length m ≡ size → IsSoundIn capacity size i ch → IsSoundIn capacity size i (step capacity m slots core ch).chunk
 unfolding step
 step-sound capacity size i m slots core ch same c =
@@ -158,11 +159,13 @@ cut-open-sound capacity size i ch None c =
     branch (λ (s : Cutting). IsSoundIn capacity size i s.chunk) (eqb ch.done.n 0) (record { reply = CutReply.NothingRun; chunk = ch }) (record { reply = CutReply.Closed; chunk = record ch { closed = Some How.Cut } })
     (λ _. c) (λ _. as-closed capacity size i ch ch.reads (Some How.Cut) c)
 
+-- a cut keeps a running chunk sound
 pub cut-sound : (capacity size i : ℕ) (ch : Chunk) → IsSoundIn capacity size i ch → IsSoundIn capacity size i (cut ch).chunk
 cut-sound capacity size i ch c = cut-open-sound capacity size i ch ch.closed c
 
 -- ---- a beginning, and a squash
 
+-- a new chunk is sound
 pub fresh-sound : (capacity size bits i : ℕ) (t : Parts) (limit : ℕ) (halves : Bool) → limit ≤ 4096 → IsThread t → IsSoundChunk capacity size (fresh bits i t limit halves)
 fresh-sound capacity size bits i t limit halves l is =
     record { words = sound-none size; room = omega arith; limit = l; squashes = omega arith; start = is; thread = is; commits = refl; status = refl }
@@ -180,6 +183,7 @@ squash-count ch =
     few true n e = let l = ltb-true n 3 e in omega (arith, l)
     few false n e = absurd (true≢false (sym e))
 
+-- a squashed chunk is sound
 pub squash-sound : (capacity size : ℕ) (ch : Chunk) → IsSoundChunk capacity size ch → IsSoundChunk capacity size (squash ch)
 squash-sound capacity size ch c =
     record {
@@ -202,5 +206,6 @@ closed-within capacity ch (Some How.Serial) e c = let l = c.early How.Serial e (
 closed-within capacity ch (Some How.Overflow) e c = let l = c.early How.Overflow e (λ h. cc) in omega (arith, l)
 closed-within capacity ch (Some How.Cut) e c = let l = c.early How.Cut e (λ h. cc) in omega (arith, l)
 
+-- a chunk has no more instructions than its limit
 pub within-limit : (capacity : ℕ) (ch : Chunk) → Closes capacity ch → ch.done.n ≤ ch.limit
 within-limit capacity ch c = closed-within capacity ch ch.closed refl c

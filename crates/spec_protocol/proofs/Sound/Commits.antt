@@ -29,6 +29,7 @@ use Rattle.spec_protocol.proofs.Logs.Fresh.{at-set_parts, fresh-commit}
 
 -- ---- rows of threads
 
+-- what holds of a new thread and of all others holds of all after the change
 pub set-all : (P : Parts → Type 0) (ts : List Parts) (k : ℕ) (u : Parts) → P u → ((j : ℕ) (x : Parts) → slice_get ts j ≡ Some x → P x) → (j : ℕ) (x : Parts) → slice_get (set ts k u) j ≡ Some x → P x
 set-all P ts k u new old j x e = elim (at-set_parts ts k j u x e) [ inl q ↦ subst P q.1 new | inr q ↦ old j x q.1 ]
 
@@ -50,9 +51,11 @@ pub record IsSoundEffect (size : ℕ) (ts : List Parts) (t : Parts) (e : Effect)
   pub request : IsSoundIf size e.request
   pub words : AreSoundWords size e.words
 
+-- a thread that is sound by a number of commits is so by every larger one
 pub later-thread : (m n : ℕ) (x : Parts) → m ≤ n → IsSoundThread m x → IsSoundThread n x
 later-thread m n x l s = record { thread = s.thread; few = (let k = s.few in omega (arith, l, k)) }
 
+-- a commit makes the sphere's number of commits one more
 pub next-position : (k : ℕ) (e : Effect) (p : Progress) → position (with_effect k e p) ≡ suc (position p)
 next-position k e p = pushed_length p.commits e.commit (length p.commits) refl
 
@@ -75,6 +78,7 @@ pub record IsSoundMoved (s : ℕ) (image : SphereSetup) (now : ℕ) (v : Moved) 
   pub words : AreSoundWords (length image.memory) v.words
   pub devices : HaveByteInput v.devices
 
+-- a commit with a sound effect leaves a sound sphere, if its role is left sound
 pub granted-sound : (s : ℕ) (image : SphereSetup) (now k : ℕ) (role : Role) (t : Parts) (e : Effect) (devices : Devices) (p : Sphere) → IsSoundSphere s image now p → slice_get p.threads k ≡ Some t → IsSoundEffect (length image.memory) p.threads t e
     → IsSoundRole s (position (with_effect k e p.progress)) (with_threads k e p.threads) role → HaveByteInput devices → IsSoundMoved s image (suc now) (granted_as role k e devices p)
 granted-sound s image now k role t e devices p sound is effect role_sound devices_sound =
@@ -97,6 +101,7 @@ granted-sound s image now k role t e devices p sound is effect role_sound device
 
 -- ---- effects
 
+-- the effect of a chunk's sound run is sound
 pub chunk-effect : (size k : ℕ) (ts : List Parts) (t : Parts) (request : Option Request) (r : Run) → IsThread r.thread → r.thread.commits ≡ t.commits → AreSoundWords size r.words → IsSoundIf size request → length ts ≤ 15 → IsSoundEffect size ts t (chunk_effect k request r)
 chunk-effect size k ts t request r thread commits words sound few =
     record {
@@ -109,6 +114,7 @@ chunk-effect size k ts t request r thread commits words sound few =
       words = words;
     }
 
+-- the effect of a serial step is sound
 pub serial-effect : (size k : ℕ) (ts : List Parts) (request : Option Request) (t : Parts) (m : List ℕ) (input : Option Input) → length m ≡ size → size % 4 ≡ 0 → BringsIf (need t m) input → IsThread t → IsSoundIf size request → length ts ≤ 15
     → IsSoundEffect size ts t (serial_effect k (serve k ts request t m input))
 serial-effect size k ts request t m input same whole brings thread sound few =

@@ -43,6 +43,7 @@ all-bytes [] h k d l = absurd (omega arith)
 all-bytes (b ∷ bs) h zero d l = h.0
 all-bytes (b ∷ bs) h (suc k) d l = all-bytes bs h.1 k d (omega arith)
 
+-- a list of numbers below 2^8 is one of bytes
 pub bytes-all : (bs : List ℕ) → All (λ byte. byte < 2 ^ 8) bs → AreBytes bs
 bytes-all [] h = tt
 bytes-all (b ∷ bs) h = (h 0 0 (omega arith), bytes-all bs (λ k d l. h (suc k) d (omega arith)))
@@ -71,6 +72,7 @@ empty-pipes zero k = tt
 empty-pipes (suc n) zero = tt
 empty-pipes (suc n) (suc k) = empty-pipes n k
 
+-- devices that start with an input of bytes hold bytes
 pub start-bytes : (input : List ℕ) (seed : ℕ) → AreBytes input → HaveByteInput (devices_of input seed)
 start-bytes input seed h = record { input = take-bytes (2 ^ 24) input h; pipes = empty-pipes 8 }
 
@@ -90,6 +92,7 @@ pipe-set d pipe bytes new h =
       ];
     }
 
+-- what is written out of a memory leaves devices that hold bytes
 pub told-devices : (t : Parts) (m : List ℕ) (outputs : List Output) (d : Devices) → HaveByteInput d → HaveByteInput (console_told t m outputs d)
 unfolding console_told
 told-devices t m outputs d h = by_kind (next_kind t m)
@@ -257,6 +260,7 @@ answer-sound d InputWord moment few h = record { input = (kind-17, first-few d.i
 
 -- ---- what is taken for a step
 
+-- what was taken fits an input of a log, brings no more than was needed, and leaves devices that hold bytes
 pub record IsSoundTaken (o : Option Need) (g : Taken) : Type 0 where
   pub input : IsInputIf g.input
   pub brings : BringsIf o g.input
@@ -267,17 +271,21 @@ taken-by None d moment few h = record { input = tt; brings = tt; devices = h }
 taken-by (Some n) d moment few h =
     let a = answer-sound d n moment few h in record { input = a.input; brings = a.brings; devices = a.devices }
 
+-- what a serial step takes from the devices is so
 pub taken-sound : (t : Parts) (m : List ℕ) (d : Devices) (moment : ℕ) → IsBytes m → HaveByteInput d → IsSoundTaken (need t m) (taken (need t m) d moment)
 taken-sound t m d moment bytes h = taken-by (need t m) d moment (need-few t m bytes) h
 
 -- ---- DMAs
 
+-- a DMA takes no more bytes than its request has
 pub dma-few : (d : Devices) (request : Request) → length (dma_bytes d request) ≤ request.len
 dma-few d request = take-most request.len d.input
 
+-- a DMA takes at most 4,096, all of them bytes
 pub dma-bytes : (d : Devices) (request : Request) → request.len ≤ 4096 → HaveByteInput d → AreFewBytes (dma_bytes d request)
 dma-bytes d request few h =
     let l = dma-few d request in few-bytes (dma_bytes d request) (omega (arith, l, few)) (take-bytes request.len d.input h.input)
 
+-- a DMA leaves devices that hold bytes
 pub dma-devices : (d : Devices) (request : Request) → HaveByteInput d → HaveByteInput (dma_taken d request)
 dma-devices d request h = input-taken request.len d h

@@ -22,10 +22,12 @@ abbrev pub AllIn : {X : Type 0} → (X → Type 0) → List X → Type 0
 AllIn P [] = Unit {0}
 AllIn P (x ∷ xs) = P x × AllIn P xs
 
+-- what holds of all elements by the one definition does so by the other
 pub all-in : {X : Type 0} (P : X → Type 0) (xs : List X) → All P xs → AllIn P xs
 all-in P [] all = tt
 all-in P (x ∷ xs) all = (all 0 x (omega arith), all-in P xs (λ k d l. all (suc k) d (omega arith)))
 
+-- what holds of all elements holds of each that is found
 pub get-in : {X : Type 0} (P : X → Type 0) (xs : List X) (k : ℕ) (x : X) → AllIn P xs → slice_get xs k ≡ Some x → P x
 get-in P [] k x all e = absurd (none-some x e)
 get-in P (y ∷ xs) zero x all e = subst P (let q : y ≡ x = cc in q) all.0
@@ -82,13 +84,16 @@ by-most : (s : ℕ) (o : Option ℕ) → 1 ≤ s → ((z : ℕ) → o ≡ Some z
 by-most s None l each = omega arith
 by-most s (Some z) l each = let h = each z refl in omega (arith, l, h)
 
+-- the limit that a log gives a commit is over 0
 pub whole-positive : (log : LogParts) (k n : ℕ) → IsLog log → 0 < whole_limit log k n
 whole-positive log k n is = by-positive log.s (size_in log (Actor.Thread k) n) (let l = is.s.0 in omega (arith, l))
 
+-- the limit that a log gives a commit is at most its standard size
 pub whole-most : (log : LogParts) (k n : ℕ) → IsLog log → whole_limit log k n ≤ log.s
 whole-most log k n is =
     by-most log.s (size_in log (Actor.Thread k) n) (let l = is.s.0 in omega (arith, l)) (λ z e. size-most log.mode log.s log.count k n z log.order log.sizes is.sizes e)
 
+-- the limit of a chunk in a sound sphere is at most 4,096
 pub limit-most : (s commits : ℕ) (threads : List Parts) (role : Role) (k : ℕ) (t : Parts) → s ≤ 4096 → IsSoundRole s commits threads role → limit_of s role k t ≤ 4096
 unfolding limit_of
 limit-most s commits threads Plain k t l is = l

@@ -119,6 +119,7 @@ chunk-in-sound s image now k (Record log) t piece short r devices p role fits so
     (noted-sound s k r.thread.commits short log t e p is effect.commits role) d
 chunk-in-sound s image now k (Replay b) t piece short r devices p role fits sound is run d = replayed-sound s image now k b t piece r devices p role fits sound is run d
 
+-- a granted chunk leaves a sound sphere
 pub chunk-sound : (s : ℕ) (image : SphereSetup) (now k : ℕ) (t : Parts) (piece short : Bool) (r : Run) (devices : Devices) (p : Sphere) → FitsRole k t piece r p.role → IsSoundSphere s image now p
     → slice_get p.threads k ≡ Some t → IsSoundRun (length image.memory) t r → HaveByteInput devices → IsSoundMoved s image (suc now) (chunk_moved k piece short r devices p)
 unfolding chunk_moved
@@ -211,6 +212,7 @@ serial-in-sound s image now k moment (Replay b) t devices p whole role going sou
     verdict-sound s image now k b t (serial_verdict b.log p.progress b.used k p.threads t p.memory) devices p role (going b refl) sound is
     (serial-goes (length image.memory) k b.log p.progress b.used p.threads t p.memory is (book-uses (position p.progress) p.threads b role) sound.size whole (sound.threads k t is).thread sound.request sound.few) d
 
+-- a granted serial step leaves a sound sphere
 pub serial-sound : (s : ℕ) (image : SphereSetup) (now k moment : ℕ) (t : Parts) (devices : Devices) (p : Sphere) → length image.memory % 4 ≡ 0 → ((b : Book) → p.role ≡ Replay b → b.now ≡ Turn k)
     → IsSoundSphere s image now p → slice_get p.threads k ≡ Some t → HaveByteInput devices → IsSoundMoved s image (suc now) (serial_moved k moment t devices p)
 unfolding serial_moved

@@ -66,6 +66,7 @@ fits_chunk w c h how good is =
     let e = live-limit w.numbers.chunk h.thread h.chunk.start role is.live in
     record { size = omega (arith, most, n, e); over = short-over w.numbers.buffer w.numbers.chunk h how is.closed good.buffer held.chunk.closes }
 
+-- what is noted of the next commit of a sound world fits a log
 pub notes_fit : NotesFitLogs
 notes_fit s w limits good sound =
     record { spheres = λ i. fits_log s w i sound; chunks = λ c h how is. fits_chunk w c h how good is }

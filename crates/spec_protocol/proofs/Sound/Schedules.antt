@@ -246,6 +246,7 @@ counted-sound s w a sizes replies e k =
       held = k.held;
     }
 
+-- every event keeps what is sound
 pub happens-sound : EventsKeepSound
 unfolding happens
 happens-sound s w e limits good k =
@@ -286,6 +287,7 @@ first-spheres s [] i each l = absurd (omega arith)
 first-spheres s (d ∷ ds) zero each l = first-sphere s d (each d refl)
 first-spheres s (d ∷ ds) (suc i) each l = first-spheres s ds i each (omega (arith, l))
 
+-- a setup within the limits is a setup
 pub setup-within : (s : Setup) → IsWithinLimits s → IsSetup s
 setup-within s limits =
     record { chunk = (let l = limits.chunk.0 in omega (arith, l)); buffer = (let l = limits.buffer in omega (arith, l)) }
@@ -319,5 +321,6 @@ after-sound s w [] limits good k = k
 after-sound s w (e ∷ es) limits good k =
     after-sound s (happens w e).world es limits (happens-kept w e good).good (happens-sound s w e limits good k)
 
+-- every world after a schedule of a setup within the limits is sound
 pub worlds_sound : WorldsAreSound
 worlds_sound s es limits = after-sound s (world_of s) es limits (start-good s (setup-within s limits)) (start-sound s limits)

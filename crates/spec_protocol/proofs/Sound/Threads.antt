@@ -70,6 +70,7 @@ then-thread size (Plan.Amo op rd a v) t w e is = follows-thread t rd w is
 
 -- ---- interrupts
 
+-- an interrupted thread is a thread still
 pub interrupted-thread : (value : ℕ) (t : Parts) → IsThread t → IsThread (interrupted value t)
 interrupted-thread value t is =
     record {
@@ -82,6 +83,7 @@ interrupted-thread value t is =
 
 -- ---- a new thread
 
+-- a thread that starts at a multiple of 4 is a thread
 pub started-thread : (entry : ℕ) → entry % 4 ≡ 0 → IsThread (started entry)
 started-thread entry e = record { pc = e; saved_pc = refl; handler = refl; zero = refl; registers = refl }
 
@@ -98,6 +100,7 @@ spawned-thread entry sp arg e =
 
 -- ---- calls
 
+-- each of them is a thread
 abbrev pub AreThreads : List Parts → Type 0
 AreThreads [] = Unit {0}
 AreThreads (t ∷ ts) = IsThread t × AreThreads ts
@@ -256,6 +259,7 @@ need-room t m = kind-room (next_kind t m) t m
 
 -- ---- what comes for it is no longer than was wanted
 
+-- an input brings no more bytes than the need has room for
 abbrev pub Brings : Option Need → Input → Type 0
 Brings None r = Unit {0}
 Brings (Some (Write channel bytes)) r = Unit {0}
@@ -265,6 +269,7 @@ Brings (Some Clock) r = Unit {0}
 Brings (Some MomentWord) r = Unit {0}
 Brings (Some InputWord) r = Unit {0}
 
+-- an input, if there is one, brings no more than the need has room for
 abbrev pub BringsIf : Option Need → Option Input → Type 0
 BringsIf need None = Unit {0}
 BringsIf need (Some r) = Brings need r
@@ -341,6 +346,7 @@ kind-sound (Some Kind.DeviceLoad) k ts request t m input whole brings is sound =
 kind-sound (Some Kind.DeviceStore) k ts request t m input whole brings is sound = told-sound (length m) request t (next_plan t m) is sound
 kind-sound (Some (Kind.Fault cause)) k ts request t m input whole brings is sound = fault-sound (length m) cause request t is sound
 
+-- a serial step leaves sound threads, words and requests
 pub serve-sound : (k : ℕ) (ts : List Parts) (request : Option Request) (t : Parts) (m : List ℕ) (input : Option Input) → length m % 4 ≡ 0 → BringsIf (need t m) input → IsThread t → IsSoundIf (length m) request
     → IsSoundServed (length m) (serve k ts request t m input)
 unfolding serve

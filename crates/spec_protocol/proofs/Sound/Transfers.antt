@@ -87,6 +87,7 @@ pub record DmaUses (size : ℕ) (log : LogParts) (u : Used) (words : List Stored
   pub words_sound : AreSoundWords size words
   pub among : u.dmas < length log.dmas
 
+-- where the DMA goes on, it uses the log soundly
 abbrev pub IfDmaGoes : (size : ℕ) (log : LogParts) (u : Used) → DmaVerdict → Type 0
 IfDmaGoes size log u (DmaGoes words) = DmaUses size log u words
 IfDmaGoes size log u (DmaFails why) = Unit {0}
@@ -106,6 +107,7 @@ dma-unless-goes : (size : ℕ) (log : LogParts) (u : Used) (o : Option Why) (x :
 dma-unless-goes size log u None x h = h
 dma-unless-goes size log u (Some why) x h = tt
 
+-- a DMA goes on only where it uses the log soundly
 pub dma-goes : (size : ℕ) (log : LogParts) (p : Progress) (u : Used) → size % 4 ≡ 0 → IsSoundIf size p.request → IfDmaGoes size log u (dma_verdict log p u)
 unfolding dma_verdict
 dma-goes size log p u whole request =
@@ -130,6 +132,7 @@ dma-in-sound s image now (Record log) devices p whole role going sound d = recor
 dma-in-sound s image now (Replay b) devices p whole role going sound d =
     dma-verdict-sound s image now b (dma_verdict b.log p.progress b.used) devices p role (going b refl) sound (dma-goes (length image.memory) b.log p.progress b.used whole sound.request) d
 
+-- a DMA that is done leaves a sound sphere
 pub dma-moved-sound : (s : ℕ) (image : SphereSetup) (now : ℕ) (devices : Devices) (p : Sphere) (v : Moved) → length image.memory % 4 ≡ 0 → ((b : Book) → p.role ≡ Replay b → b.now ≡ TurnOfDma) → IsSoundSphere s image now p
     → HaveByteInput devices → dma_moved devices p ≡ Some v → IsSoundMoved s image (suc now) v
 unfolding dma_moved
@@ -142,6 +145,7 @@ role-raised-sound s n k value t threads Plain live is h = tt
 role-raised-sound s n k value t threads (Record log) live is h = record { size = h.size; count = h.count; interrupts = fresh-raise threads k value t log.interrupts is h.interrupts }
 role-raised-sound s n k value t threads (Replay b) live is h = absurd (true≢false live)
 
+-- an interrupt leaves a sound sphere
 pub raised-sound : (s : ℕ) (image : SphereSetup) (now k value : ℕ) (t : Parts) (p : Sphere) → replays p.role ≡ false → slice_get p.threads k ≡ Some t → IsSoundSphere s image now p → IsSoundSphere s image (suc now) (raised k value t p)
 unfolding raised
 raised-sound s image now k value t p live is sound =

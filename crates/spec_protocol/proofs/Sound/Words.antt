@@ -53,13 +53,16 @@ bytes-put (r ∷ rs) s all one_ =
     (λ _. (merged-bytes r s all.0 one_, all.1))
     (λ _. (all.0, bytes-put rs s all.1 one_))
 
+-- the stored word lies inside a memory of that size, and stores bytes
 pub record IsSoundWord (size : ℕ) (s : Stored) : Type 0 where
   pub inside : 4 * s.word + 4 ≤ size
   pub bytes : HasBytes s
 
+-- sound words stay so with a sound store put to them
 pub sound-put : (size : ℕ) (ws : List Stored) (s : Stored) → AreSoundWords size ws → IsSoundWord size s → AreSoundWords size (put ws s)
 sound-put size ws s all one_ = record { inside = inside-put size ws s all.inside one_.inside; bytes = bytes-put ws s all.bytes one_.bytes }
 
+-- no words are sound words
 pub sound-none : (size : ℕ) → AreSoundWords size []
 sound-none size = record { inside = tt; bytes = tt }
 
@@ -81,6 +84,7 @@ with-bytes : (m : List ℕ) (a : ℕ) (o : Option ℕ) → IsByte o → IsBytes 
 with-bytes m a None l h = h
 with-bytes m a (Some b) l h = set-bytes m a b l h
 
+-- a store of bytes leaves a memory of bytes
 pub lay-bytes : (m : List ℕ) (s : Stored) → HasBytes s → IsBytes m → IsBytes (lay m s)
 unfolding lay
 lay-bytes m s b h =
@@ -141,6 +145,7 @@ copy-sound size ws a (b ∷ bytes) whole l all =
     copy-sound size (put ws (stored 1 a b)) (a + 1) bytes whole (omega arith)
     (sound-put size ws (stored 1 a b) all (record { inside = omega arith; bytes = stored-bytes 1 a b }))
 
+-- the words of bytes that are copied inside memory are sound
 pub copied-sound : (size a : ℕ) (bytes : List ℕ) → size % 4 ≡ 0 → a + length bytes ≤ size → AreSoundWords size (copied a bytes)
 copied-sound size a bytes whole l = copy-sound size [] a bytes whole l (sound-none size)
 
@@ -148,12 +153,14 @@ copied-sound size a bytes whole l = copy-sound size [] a bytes whole l (sound-no
 dma-length : (n : ℕ) (bytes : List ℕ) → length (bytes_low_first 0 4 n ++ bytes) ≡ 4 + length bytes
 dma-length n bytes = omega arith
 
+-- the words of a DMA are sound
 pub dma-sound : (size : ℕ) (request : Request) (bytes : List ℕ) → size % 4 ≡ 0 → IsSoundRequest size request → length bytes ≤ request.len → AreSoundWords size (dma_words request bytes)
 dma-sound size request bytes whole sound few =
     copied-sound size request.buf (bytes_low_first 0 4 (length bytes) ++ bytes) whole (let e = dma-length (length bytes) bytes in let l = sound.inside in omega (arith, e, l, few))
 
 -- ---- words that find room
 
+-- a store to a word that is held makes no word more
 pub held-length : (ws : List Stored) (s : Stored) → holds ws s.word ≡ true → length (put ws s) ≡ length ws
 held-length [] s e = absurd (true≢false (sym e))
 held-length (r ∷ rs) s e =
@@ -162,6 +169,7 @@ held-length (r ∷ rs) s e =
       | false ↦ λ h. ap suc (held-length rs s h)
     ] e
 
+-- a store makes at most one word more
 pub put-length : (ws : List Stored) (s : Stored) → length (put ws s) ≤ suc (length ws)
 put-length [] s = omega arith
 put-length (r ∷ rs) s =

@@ -63,6 +63,7 @@ diverged-follows log y p b why devices now f is going state one keeps =
 
 -- ---- one commit more
 
+-- one commit more makes the list longer by one
 pub one_more : (cs : List Commit) (c : Commit) → length (cs ++ c ∷ []) ≡ suc (length cs)
 one_more cs c = let h = length-append cs (c ∷ []) in omega arith
 
@@ -159,6 +160,7 @@ play_dma log y v turn is = ap (play_now log y) turn ∙ ap (dma_settled log y) i
 dma_goes_on : (how : End) → TurnOfDma ≡ Over how → ⊥
 dma_goes_on how e = cc
 
+-- a DMA of a replayed sphere, done or diverging, leaves it in its log's play
 pub transfer-reaches : (log : LogParts) (start y : Played) (p : Sphere) (b : Book) (v : DmaVerdict) (devices : Devices) → y ≡ plays log start (position p.progress) → Beside log y p b → y.now ≡ TurnOfDma → IsWhole y p b → dma_verdict log y.progress y.used ≡ v
     → Reaches log start (laid (dma_by_verdict b v devices p))
 transfer-reaches log start y p b (DmaGoes ws) devices at_ s turn w is =

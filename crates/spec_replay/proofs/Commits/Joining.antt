@@ -11,6 +11,7 @@ use Rattle.spec_protocol.proofs.Memory.Covering.{Apart-store}
 
 -- ---- stores and loads
 
+-- a run in which no word comes twice has none twice after its next instruction
 pub apart_followed : (r : Run) (o : Outcome) → Apart r.words → Apart (followed r o).words
 apart_followed r (Serial kind) a = a
 apart_followed r (Next u load store) a = Apart-store r.words store a
@@ -61,6 +62,7 @@ joined_next m r s whole a b j =
     let same : one whole.thread (lays m whole.words) ≡ one s.thread (lays (lays m r.words) s.words) = (λ i. one (j.thread i) (j.memory i)) in
     rw same (joined_more m r s whole (one s.thread (lays (lays m r.words) s.words)) a b j)
 
+-- a run of a and then of n instructions is one of a + n
 pub run-joined : (m : List ℕ) (t : Parts) (a n : ℕ) → IsJoined m (run m t a) (rest_of m (run m t a) n) (run m t (a + n))
 run-joined m t a zero =
     let e : a + 0 ≡ a = omega arith in

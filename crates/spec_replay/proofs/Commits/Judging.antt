@@ -21,12 +21,14 @@ pub record AlikeEffects (m n : List ℕ) (e f : Effect) : Type 0 where
   pub request : e.request ≡ f.request
   pub commit : e.commit ≡ f.commit
 
+-- the two verdicts go on with effects that are alike on those memories, or fail for one reason
 abbrev pub AreAlike : (m n : List ℕ) → Verdict → Verdict → Type 0
 AreAlike m n (Goes e u) (Goes f v) = AlikeEffects m n e f × (u ≡ v)
 AreAlike m n (Goes e u) (Fails why) = ⊥
 AreAlike m n (Fails why) (Goes f v) = ⊥
 AreAlike m n (Fails why) (Fails other) = why ≡ other
 
+-- a verdict is alike to itself on one memory
 pub alike_same : (m n : List ℕ) (v : Verdict) → m ≡ n → AreAlike m n v v
 alike_same m n (Goes e u) h = (record { thread = refl; made = refl; memory = ap (λ (x : List ℕ). lays x e.words) h; request = refl; commit = refl }, refl)
 alike_same m n (Fails why) h = refl

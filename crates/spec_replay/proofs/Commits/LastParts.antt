@@ -137,6 +137,7 @@ by_piece log start y z p b k t u how n limit devices true kind at_ s now turn m 
 by_piece log start y z p b k t u how n limit devices false kind at_ s now turn m part f limited =
     last-reaches log start y p b k t u n (run p.memory u n) devices at_ s turn m part (some_ran z p b k u how n limit s.role f kind) (all_ran log z y k t u p b how n limit part f limited kind)
 
+-- a chunk of a replayed sphere leaves it in its log's play
 pub chunk-reaches : (log : LogParts) (start y : Played) (z : Numbers) (p : Sphere) (b : Book) (k : ℕ) (t u : Parts) (how : How) (n limit : ℕ) (devices : Devices) → y ≡ plays log start (position p.progress) → Beside log y p b → b.now ≡ y.now → y.now ≡ Turn k → IsMovedOn log y k t p b
     → slice_get p.threads k ≡ Some u → ChunkFits z p k u how n limit → Reaches log start (laid (replayed_chunk (is_piece how) b k (run p.memory u n) devices p))
 chunk-reaches log start y z p b k t u how n limit devices at_ s now turn m there f =

@@ -46,6 +46,7 @@ part_from log y k t u p b n m is ran =
       loads = ap (λ (ls : List Load). ls ++ (rest_of y.memory r n).loads) m.loads ∙ sym j.loads;
     }
 
+-- what a chunk of the thread ran is a part of the play's next commit
 pub part-is : (log : LogParts) (y : Played) (k : ℕ) (t u : Parts) (p : Sphere) (b : Book) (n : ℕ) → IsMovedOn log y k t p b → slice_get p.threads k ≡ Some u → (run p.memory u n).n ≡ n → IsPart y k t u p b n (run p.memory u n)
 part-is log y k t u p b n m there ran =
     let r : Run = run y.memory t b.total in
@@ -89,6 +90,7 @@ moved_piece log y k t u p b n r devices m part within =
       within = (let h = part.size in omega arith);
     }
 
+-- a piece leaves the sphere in its log's play
 pub piece-reaches : (log : LogParts) (start y : Played) (p : Sphere) (b : Book) (k : ℕ) (t u : Parts) (n : ℕ) (r : Run) (devices : Devices) → y ≡ plays log start (position p.progress) → Beside log y p b → b.now ≡ y.now → y.now ≡ Turn k → IsMovedOn log y k t p b
     → IsPart y k t u p b n r → b.total + n < whole_limit log k t.commits → Reaches log start (laid (piece_moved b k r devices p))
 piece-reaches log start y p b k t u n r devices at_ s now turn m part within =

@@ -12,11 +12,13 @@ use Rattle.spec_replay.specs.Following.{IsWhole, StandsAt}
 
 -- ---- threads
 
+-- what is put where it stands changes nothing
 pub set_here : {A : Type 0} (xs : List A) (k : ℕ) (x : A) → slice_get xs k ≡ Some x → set xs k x ≡ xs
 set_here [] k x e = refl
 set_here (y ∷ ys) zero x e = let h : x ≡ y = cc in ap (λ (z : _). z ∷ ys) h
 set_here (y ∷ ys) (suc k) x e = ap (λ (zs : List _). y ∷ zs) (set_here ys k x e)
 
+-- of two changes at one place the second counts
 pub set_twice : {A : Type 0} (xs : List A) (k : ℕ) (x y : A) → set (set xs k x) k y ≡ set xs k y
 set_twice [] k x y = refl
 set_twice (z ∷ zs) zero x y = refl
@@ -24,6 +26,7 @@ set_twice (z ∷ zs) (suc k) x y = ap (λ (us : List _). z ∷ us) (set_twice zs
 
 -- ---- limits
 
+-- the limit that a size in the log gives, which is at least 1; without one the standard size
 abbrev pub limit_by : Option ℕ → (s : ℕ) → ℕ
 limit_by None s = s
 limit_by (Some z) s = max 1 z
@@ -32,6 +35,7 @@ limit_some : (o : Option ℕ) (s : ℕ) → 0 < s → 0 < limit_by o s
 limit_some None s l = l
 limit_some (Some z) s l = omega arith
 
+-- the limit of a whole commit is that of the size that the log has of it
 pub limit-is : (log : LogParts) (k commits : ℕ) → whole_limit log k commits ≡ limit_by (size_in log (Actor.Thread k) commits) log.s
 limit-is log k commits = elim (size_in log (Actor.Thread k) commits) as (λ (o : Option ℕ). elim o [ None ↦ log.s | Some z ↦ max 1 z ] ≡ limit_by o log.s) [
   | None ↦ refl
@@ -64,5 +68,6 @@ stands_now log y (Turn k) p b s e w = moved_whole log y k p b s (turn-lives log 
 stands_now log y TurnOfDma p b s e w = w
 stands_now log y (Over how) p b s e w = w
 
+-- a replay without a piece of its next commit stands where its play does
 pub whole-stands : (log : LogParts) (y : Played) (p : Sphere) (b : Book) → 0 < log.s → now_at log y.progress y.used y.threads ≡ y.now → IsWhole y p b → StandsAt log y y.now p b
 whole-stands log y p b s e w = stands_now log y y.now p b s e w

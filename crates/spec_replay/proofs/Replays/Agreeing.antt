@@ -69,6 +69,7 @@ two_agree log start p q b c k l =
       final = λ how is between stopped. final_same log start p q b c how k l is between stopped;
     }
 
+-- two replays of one log on one image agree
 pub replays_alike : ReplaysAgree
 replays_alike image log s z es fs i j p q b c x w role other =
     let start : Played = opened log image.memory image.entry in

@@ -56,6 +56,7 @@ start_reaches log z image s role =
 
 -- ---- the promise
 
+-- after every schedule a replayed sphere stands in its log's play
 pub replays_follow : ReplaysArePlays
 replays_follow image log s es i p r =
     let m = moves_are s es r.setup in

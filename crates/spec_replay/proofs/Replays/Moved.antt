@@ -59,11 +59,13 @@ going_at log y p now s f going is =
 not_over : (r : Role) (b : Book) → r ≡ Replay b → is_stopped r ≡ false → is_over b.now ≡ false
 not_over r b role going = ap is_stopped (sym role) ∙ going
 
+-- a replay that another thread's turn doesn't hold up has this thread's turn
 pub turn_of_thread : (p : Sphere) (b : Book) (k : ℕ) → p.role ≡ Replay b → is_stopped p.role ≡ false → other_turn (head_of p) k ≡ None → b.now ≡ Turn k
 unfolding head_of
 turn_of_thread p b k role going free =
     turn-is b.now k (not_over p.role b role going) (ap (λ (r : Role). other_turn (head_in r p) k) (sym role) ∙ free)
 
+-- a replay that no thread's turn holds up before a DMA has the DMA's
 pub turn_of_dma : (p : Sphere) (b : Book) → p.role ≡ Replay b → is_stopped p.role ≡ false → turn_before_dma p.role ≡ None → b.now ≡ TurnOfDma
 turn_of_dma p b role going free = dma-turn_is b.now (not_over p.role b role going) (ap turn_before_dma (sym role) ∙ free)
 
@@ -159,6 +161,7 @@ dma_stands log start x i p s is f fits =
 
 -- ---- any move
 
+-- a move of a replayed sphere leaves it in its log's play
 pub what-stands : (log : LogParts) (start : Played) (z : Numbers) (x : Whole) (moment i : ℕ) (p : Sphere) (what : What) → 0 < log.s → slice_get x.spheres i ≡ Some p → Reaches log start p → FitsWhat z x.devices p what → Stands log start (do_what z x moment i p what) i
 what-stands log start z x moment i p (OfChunk k how n limit) s is f fits = chunk_stands log start z x i p k how n limit (slice_get p.threads k) s is f refl fits
 what-stands log start z x moment i p (OfSerial k) s is f fits = serial_stands log start x i moment p k (slice_get p.threads k) s is f refl fits

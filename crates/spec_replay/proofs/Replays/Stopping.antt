@@ -46,19 +46,23 @@ last_with log start p b (inr w) stopped same =
 
 -- ---- a replay that stands in the play, by its book
 
+-- the sphere stands where the play does, or ends within its next commit
 pub record IsAt (log : LogParts) (y : Played) (p : Sphere) (b : Book) : Type 0 where
   pub progress : p.progress ≡ y.progress
   pub now : (b.now ≡ y.now) ⊎ EndsWithin log y b
   pub state : StandsAt log y y.now p b
 
+-- so does each replayed sphere that follows the play
 pub is_at : (log : LogParts) (y : Played) (p : Sphere) (b : Book) → p.role ≡ Replay b → Follows log y p → IsAt log y p b
 is_at log y p b role f =
     let e : f.book ≡ b = (let h : Replay f.book ≡ Replay b = sym f.role ∙ role in cc) in
     subst (IsAt log y p) e (record { progress = f.progress; now = f.now; state = f.state })
 
+-- the sphere is at its log's play after its own number of commits
 abbrev pub Reached : LogParts → Played → Sphere → Book → Type 0
 Reached log start p b = IsAt log (plays log start (position p.progress)) p b
 
+-- a replay that is over is at the last state of its play
 pub last_of : (log : LogParts) (start : Played) (p : Sphere) (b : Book) → Reached log start p b → is_over b.now ≡ true → IsLast log start (suc (position p.progress)) p b
 last_of log start p b k stopped = last_with log start p b k.now stopped k.progress
 
@@ -78,11 +82,13 @@ end_between log y b how (inr w) is between =
     let h : End.Diverged (position y.progress) w.why ≡ how = same_end _ how (sym w.over ∙ is) in
     ends-between log y w.why w.diverges (ap ends_between h ∙ between) ∙ ap Over h
 
+-- where the play is over the replay has done whole commits
 pub whole_now : (log : LogParts) (y : Played) (p : Sphere) (b : Book) (how : End) → y.now ≡ Over how → StandsAt log y y.now p b → IsWhole y p b
 whole_now log y p b how e s = subst (λ (now : Now). StandsAt log y now p b) e s
 
 -- ---- the promise
 
+-- a replay that has stopped has done its log's whole play
 pub stopped_played : StoppedArePlayed
 stopped_played image log s es i p b x role stopped =
     let start : Played = opened log image.memory image.entry in
