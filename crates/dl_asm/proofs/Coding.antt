@@ -97,11 +97,13 @@ where-by : (lines : List (List ℕ)) (found : Option ℕ) → option_map (λ pla
 where-by lines None = refl
 where-by lines (Some i) = refl
 
+-- the table of labels has the places that the lines give them, counted no further than 2^33
 pub where-labels : (lines : List (List ℕ)) (labels : Labels) → AreLabels lines labels → IsWhere labels (label_place lines)
 where-labels lines labels are = record {
   each = λ name. ap (λ e. option_map (λ place. place.words) e) (are.each name) ∙ where-by lines (position (has_label name) lines);
 }
 
+-- what is found broken of a line with its place and its label's repetition is what is broken of it among the lines
 pub broken-here : (lines : List (List ℕ)) (i here : ℕ) (twice : Bool) (line : Said) → here ≡ place_of lines i → twice ≡ repeats (take i lines) (label_of (line_at lines i))
     → line ≡ said (line_at lines i) → broken here (label_place lines) twice line ≡ broken_at lines i
 broken-here lines i here twice line e f g = cc

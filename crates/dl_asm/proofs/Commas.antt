@@ -20,6 +20,7 @@ split-whole (c ∷ cs) e = split-front c cs (eqb c 44) refl (split-whole cs) e
 pub operands-one : (text : List ℕ) → place_of 44 text ≡ length text → operands_in text ≡ trimmed text ∷ []
 operands-one text e = ap (map trimmed) (split-whole text e)
 
+-- a text with a comma has the operand before it, and then those behind
 pub operands-more : (text : List ℕ) → place_of 44 text < length text → operands_in text ≡ trimmed (before 44 text) ∷ operands_in (behind 44 text)
 operands-more text l = ap (map trimmed) (slice_split_first (λ c. eqb c 44) text 0 l)
 
@@ -39,6 +40,7 @@ three-past a b c (d ∷ texts) l = refl
 pub two-of-more : (texts : List (List ℕ)) (a b rest more : List ℕ) → texts ≡ a ∷ operands_in rest → operands_in rest ≡ b ∷ operands_in more → two_of texts ≡ None
 two-of-more texts a b rest more e f = ap two_of (e ∙ ap (λ t. a ∷ t) f) ∙ two-past a b (operands_in more) (operands-some more)
 
+-- a text of more than three operands hasn't three
 pub three-of-more : (texts : List (List ℕ)) (a b c rest more last : List ℕ) → texts ≡ a ∷ operands_in rest → operands_in rest ≡ b ∷ operands_in more → operands_in more ≡ c ∷ operands_in last → three_of texts ≡ None
 three-of-more texts a b c rest more last e f g =
     ap three_of (e ∙ ap (λ t. a ∷ t) (f ∙ ap (λ t. b ∷ t) g)) ∙ three-past a b c (operands_in last) (operands-some last)

@@ -67,6 +67,7 @@ cond-number : (b : Bool) (x y : Said) → HasNumber x → HasNumber y → HasNum
 cond-number true x y h k = h
 cond-number false x y h k = k
 
+-- what a line says has a number of its form
 pub has-number : (line : List ℕ) → HasNumber (said line)
 unfolding said
 has-number line =
@@ -124,6 +125,7 @@ length-says form r value here words label true None some e b h = cc
 length-says form r value here words label false None some e b h = cc
 length-says form r value here words label twice (Some n) some e b h = length-words form r n value here label some e h
 
+-- a line in which nothing is broken gives as many words as it counts
 pub length-said : (here : ℕ) (places : List ℕ → Option ℕ) (twice : Bool) (line : Said) → HasNumber line → broken here places twice line ≡ None
     → IfSome (statement_said here places line) (λ s. holds s.form s.number ≡ true) → length (words_by (statement_said here places line)) ≡ count_said line
 unfolding broken statement_said
@@ -160,6 +162,7 @@ word-next lines k j w before placed e (inr l) =
       get_or_append_left front (words_at lines j) 0 (place_of lines k) there.0 ∙ there.1,
     )
 
+-- the word of a line stands at its place among those of all lines before j
 pub word-there : (lines : List (List ℕ)) (k j w : ℕ) → k < j → ArePlaced lines j → words_at lines k ≡ w ∷ [] → IsThere lines k j w
 word-there lines k zero w l placed e = absurd (omega arith)
 word-there lines k (suc j) w l placed e =

@@ -21,5 +21,6 @@ held-before-by radix n ds l (inr h) =
     let e : held n ≡ 2 ^ 33 = omega arith in
     omega (arith, after-ge radix n ds l, after-ge radix (held n) ds l)
 
+-- a number that is cut to 2^33 before more digits are read comes to the same, cut
 pub held-before : (radix n : ℕ) (ds : List ℕ) → 1 ≤ radix → held (digits_value_after radix (held n) ds) ≡ held (digits_value_after radix n ds)
 held-before radix n ds l = held-before-by radix n ds l (cases_lt n (2 ^ 33))

@@ -43,13 +43,16 @@ pub number-by-place : (f : ℕ → Number) (place : Option ℕ) (there : ℕ) (n
 number-by-place f None there number e h = cc
 number-by-place f (Some exact) there number e h = let same : there ≡ held exact = cc in ap Some (h exact same)
 
+-- a label that the table has is at the place that it names, cut to 2^33
 pub place-words : (labels : Labels) (places : List ℕ → Option ℕ) (name : List ℕ) (place : Place) → IsWhere labels places → Some place ≡ entry_in labels name
     → Some place.words ≡ option_map held (places name)
 place-words labels places name place is e = ap (option_map (λ p. p.words)) e ∙ is.each name
 
+-- where a cut number is missing the number is
 pub none-held : (o : Option Number) → None ≡ option_map number_held o → o ≡ None
 none-held None e = refl
 none-held (Some n) e = cc
 
+-- up to 4,194,304 words a program isn't too long
 pub short : (words : ℕ) → words ≤ 4194304 → is_too_long words ≡ false
 short words l = grind (arith, nat_tests)

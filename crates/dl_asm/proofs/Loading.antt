@@ -116,6 +116,7 @@ memory code n size e l =
     same_number_lists loaded bytes (long ∙ sym whole)
     (λ a m. get_or-map-range_with_len at 0 size a a 0 (omega (arith, m, long)) (omega arith) ∙ get-image code n size a e (cases_lt a n))
 
+-- the file of an assembled program loads as the image of its words
 pub loaded-file : (words : List ℕ) (size : ℕ) → length (code_of words) < 2 ^ 32 → IsSize size → length (code_of words) ≤ size → image_of (file_of words) size ≡ Ok (image_by words size)
 unfolding file_of
 loaded-file words size few is l =
@@ -130,10 +131,12 @@ loaded-file words size few is l =
 
 -- ---- its bytes, one part after the other
 
+-- the code has four bytes for each word
 pub code-length : (words : List ℕ) → length (code_of words) ≡ 4 * length words
 code-length [] = refl
 code-length (w ∷ ws) = omega (arith, code-length ws)
 
+-- the file is the header, the code's length twice and the rest around them, and then the code
 pub file-parts : (words : List ℕ) (n : ℕ) (s t : List ℕ) → s ≡ little_bytes 4 n → t ≡ little_bytes 4 n → n ≡ length (code_of words)
     → ((((header ++ placed) ++ s) ++ t) ++ allowed) ++ code_of words ≡ file_of words
 unfolding file_of

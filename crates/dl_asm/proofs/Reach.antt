@@ -36,6 +36,7 @@ zeros-held-by n true e =
 zeros-held-by n false e =
     ap (λ b. cond b (held n.magnitude) 0) (within-held 0 4194304 n (lit< tt) (lit< tt) ∙ e) ∙ sym (ap (λ b. cond b n.magnitude 0) e)
 
+-- a cut number gives as many words of zeros as the number
 pub zeros-held : (n : Option Number) → zeros_held (option_map number_held n) ≡ zeros_held n
 zeros-held None = refl
 zeros-held (Some n) = zeros-held-by n (within 0 4194304 n) refl
@@ -55,6 +56,7 @@ first-true : (a b : Bool) → (a && b) ≡ true → a ≡ true
 first-true true b e = refl
 first-true false b e = e
 
+-- a cut number fits a form just where the number does
 pub holds-held : (form : Form) (n : Number) → holds form (number_held n) ≡ holds form n
 unfolding holds
 holds-held (Form.Register op) n = within-held 0 0 n (lit< tt) (lit< tt)

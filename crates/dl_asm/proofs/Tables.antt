@@ -85,6 +85,7 @@ entry-more lines name line i l e =
 pub place-more : (lines : List (List ℕ)) (line : List ℕ) (i : ℕ) → i < length lines → line ≡ get_or lines i [] → place_of lines (i + 1) ≡ place_of lines i + count_of line
 place-more lines line i l e = sum_by_more count_of lines i [] l ∙ ap (λ t. place_of lines i + count_of t) (sym e)
 
+-- adding to a cut number and cutting the sum is cutting the sum
 pub held-more : (w n : ℕ) → min (held w + n) (2 ^ 33) ≡ held (w + n)
 held-more w n = omega arith
 
@@ -125,10 +126,12 @@ any-place n m i = any-placed n m i (ltb n m)
 pub repeated : (lines : List (List ℕ)) (name : List ℕ) (i : ℕ) → list_any (has_label name) (take i lines) ≡ is_before (position (has_label name) lines) i
 repeated lines name i = any-below (has_label name) lines i ∙ any-place (position_or_len (has_label name) lines) (length lines) i
 
+-- an entry that the table has is of an earlier line just where the line found for it is
 pub entry-before : (lines : List (List ℕ)) (found : Option ℕ) (place : Place) (i : ℕ) → Some place ≡ option_map (entry_at lines) found → ltb place.line i ≡ is_before found i
 entry-before lines None place i e = cc
 entry-before lines (Some k) place i e = let same : place ≡ entry_at lines k = cc in ap (λ q. ltb q.line i) same
 
+-- where the table has no entry no earlier line has the name
 pub entry-absent : (lines : List (List ℕ)) (found : Option ℕ) (i : ℕ) → None ≡ option_map (entry_at lines) found → false ≡ is_before found i
 entry-absent lines None i e = refl
 entry-absent lines (Some k) i e = cc
