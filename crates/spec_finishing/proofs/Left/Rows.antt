@@ -1,4 +1,4 @@
--- What is left of all spheres, where one of them changes.
+-- What is left of all spheres changes, where one of them does, by what is left of it.
 use Rattle.std.proofs.Common.{◌≡◌, ℕ, zero, suc, ◌+◌, ◌≤◌, false, List, [], ◌∷◌, Option, Some, refl, arith, set}
 use Rattle.std.specs.Prelude.{slice_get}
 use Rattle.std.proofs.lemmas.Bool.{true≢false}
