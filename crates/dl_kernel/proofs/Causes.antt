@@ -4,8 +4,8 @@ use Rattle.spec_isa.specs.declared.thread.Parts.{Parts}
 use Rattle.spec_isa.specs.declared.thread.Load.{Load}
 use Rattle.spec_isa.specs.declared.thread.Kind.{Kind}
 use Rattle.spec_isa.specs.Words.{Stored, is_inside}
-use Rattle.spec_isa.specs.Planned.{refuses}
-use Rattle.spec_isa.specs.Instruction.{plan_of, serial_of, loads_of, load_of, store_of}
+use Rattle.spec_isa.specs.Operations.{refuses}
+use Rattle.spec_isa.specs.Instruction.{operation_of, serial_of, loads_of, load_of, store_of}
 use Rattle.spec_kernel.specs.Needs.{next_kind, fetched}
 use Rattle.dl_thread.specs.Answer.{accessed, did, unless_serial, loaded_word}
 use Rattle.dl_thread.specs.declared.answer.Did.{Did}
@@ -29,7 +29,7 @@ unfolding next_kind serial_of
 kind-told m t =
     let s = sight_of m in
     let f = fetched t m in
-    by-fetch (is_inside (length m) t.pc) (refuses (length m) (plan_of t f))
+    by-fetch (is_inside (length m) t.pc) (refuses (length m) (operation_of t f))
     (accessed s (loads_of t f) (load_of t f (loaded_word s t)) (store_of t f (loaded_word s t)))
     (none-carried m (loads_of t f) (load_of t f (loaded_word s t)) (store_of t f (loaded_word s t)))
 
@@ -43,7 +43,7 @@ inside-by false refused is = cc
 -- a device word is loaded by an instruction inside the memory
 pub device_inside : (m : List ℕ) (t : Parts) → next_kind t m ≡ Some Kind.DeviceLoad → is_inside (length m) t.pc ≡ true
 unfolding next_kind serial_of
-device_inside m t is = inside-by (is_inside (length m) t.pc) (refuses (length m) (plan_of t (fetched t m))) is
+device_inside m t is = inside-by (is_inside (length m) t.pc) (refuses (length m) (operation_of t (fetched t m))) is
 
 inside-to-store : (inside : Bool) (refused : Option Kind) → cond inside refused (Some (Kind.Fault 1)) ≡ Some Kind.DeviceStore → inside ≡ true
 inside-to-store true refused is = refl
@@ -52,4 +52,4 @@ inside-to-store false refused is = cc
 -- so is one that stores to a device word
 pub device_stored_inside : (m : List ℕ) (t : Parts) → next_kind t m ≡ Some Kind.DeviceStore → is_inside (length m) t.pc ≡ true
 unfolding next_kind serial_of
-device_stored_inside m t is = inside-to-store (is_inside (length m) t.pc) (refuses (length m) (plan_of t (fetched t m))) is
+device_stored_inside m t is = inside-to-store (is_inside (length m) t.pc) (refuses (length m) (operation_of t (fetched t m))) is

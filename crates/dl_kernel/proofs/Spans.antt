@@ -6,7 +6,7 @@ use Rattle.std.proofs.Math.Seq.{drop-cons}
 use Rattle.spec_kernel.specs.Copies.{bytes_put}
 use Rattle.std.proofs.lemmas.Bool.Decides.{eqb_tells}
 use Rattle.spec_isa.specs.Words.{Stored, put, holds, merged}
-use Rattle.spec_isa.specs.Planned.{stored}
+use Rattle.spec_isa.specs.Operations.{stored}
 use Rattle.dl_wbuf.specs.Buffers.{has_room}
 
 -- i bytes from an address on were put

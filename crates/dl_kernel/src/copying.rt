@@ -2,7 +2,7 @@
 ghost use Rattle.std.specs.Prelude.{◌≡◌, ◌+◌, ◌^◌, ◌<◌, ◌≤◌, ◌%◌, ◌/◌, ℕ, length, IfOk, true};
 ghost use Rattle.spec_isa.specs.Words.{put};
 ghost use Rattle.spec_isa.specs.Masks.{bytes_of};
-ghost use Rattle.spec_isa.specs.Planned.{stored};
+ghost use Rattle.spec_isa.specs.Operations.{stored};
 ghost use Rattle.spec_kernel.specs.Copies.{copied, dma_words};
 ghost use Rattle.dl_wbuf.specs.Buffers.{has_room};
 

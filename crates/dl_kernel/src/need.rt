@@ -2,9 +2,9 @@
 ghost use Rattle.std.specs.Prelude.{◌≡◌, ◌+◌, ℕ, true, nat_le, length, IfSome};
 ghost use Rattle.std.specs.Option.{option_map};
 ghost use Rattle.spec_isa.specs.Arithmetic.{add, extended};
-ghost use Rattle.spec_isa.specs.Planned.{plan, register};
+ghost use Rattle.spec_isa.specs.Operations.{operation, register};
 ghost use Rattle.spec_isa.specs.Words.{is_inside};
-ghost use Rattle.spec_kernel.specs.Needs.{need, need_of_call, need_of_load, need_of_write, need_of_read, need_of_random, next_kind, next_plan};
+ghost use Rattle.spec_kernel.specs.Needs.{need, need_of_call, need_of_load, need_of_write, need_of_read, need_of_random, next_kind, next_operation};
 ghost use Rattle.dl_kernel.specs.Wants.{wanted, IsShort, IsIn};
 
 use crate::peek::Peek;
@@ -137,10 +137,10 @@ fn has_buffer(memory: &Memory, buf: u32, len: u32) -> bool
 }
 
 // What a device load wants.
-#[tactic(auto, unfolding(spec_kernel::specs::Needs::next_plan))]
+#[tactic(auto, unfolding(spec_kernel::specs::Needs::next_operation))]
 fn need_of_load<'a>(thread: &Thread, memory: &Memory) -> Option<Want<'a>>
     requires { is_inside (length memory.now) thread.now.pc ≡ true }
-    ensures want { option_map wanted result ≡ need_of_load (next_plan thread.now memory.now) }
+    ensures want { option_map wanted result ≡ need_of_load (next_operation thread.now memory.now) }
     ensures short { IfSome result IsShort }
     ensures inside { IfSome result (IsIn (length memory.now)) }
 {
@@ -152,7 +152,7 @@ fn need_of_load<'a>(thread: &Thread, memory: &Memory) -> Option<Want<'a>>
 
 // The device word that an instruction loads, by its address.
 fn device_word<'a>(instr: Instr, thread: &Thread) -> Option<Want<'a>>
-    ensures want { option_map wanted result ≡ need_of_load (plan instr thread.now) }
+    ensures want { option_map wanted result ≡ need_of_load (operation instr thread.now) }
     ensures short { IfSome result IsShort }
     ensures inside { (size : ℕ) → IfSome result (IsIn size) }
 {

@@ -1,9 +1,9 @@
 //! What a serial step leaves, with what came from outside for it.
 ghost use Rattle.std.specs.Prelude.{◌≡◌, ◌≤◌, ◌<◌, ◌∷◌, [], true, length, None, Some, IfOk, IfSome, OnSome, option_map};
-ghost use Rattle.spec_isa.specs.Planned.{plan, at_pc, following};
+ghost use Rattle.spec_isa.specs.Operations.{operation, at_pc, following};
 ghost use Rattle.spec_isa.specs.Threads.{IsThread};
 ghost use Rattle.spec_isa.specs.Words.{is_inside};
-ghost use Rattle.spec_kernel.specs.Needs.{need, next_plan};
+ghost use Rattle.spec_kernel.specs.Needs.{need, next_operation};
 ghost use Rattle.spec_kernel.specs.Serving.{serve, serve_kind, inside_called, alone, outside_called, copy_of, output_of, device_loaded, device_stored, faulted};
 ghost use Rattle.spec_kernel.specs.Calls.{called};
 ghost use Rattle.spec_isa.specs.declared.thread.Kind.{Kind};
@@ -214,7 +214,7 @@ fn inside_called(alloc: Global, step: &Step<'_>) -> Result<Served, OutOfMemory>
 // ---- device words
 
 // A load of a device word gives what came, and is told as a load.
-#[tactic(auto, unfolding(spec_kernel::specs::Needs::next_plan))]
+#[tactic(auto, unfolding(spec_kernel::specs::Needs::next_operation))]
 fn device_loaded(
     alloc: Global,
     step: &Step<'_>,
@@ -222,7 +222,7 @@ fn device_loaded(
 ) -> Result<Served, OutOfMemory>
     requires { is_inside (length step.now.memory.now) step.now.thread.pc ≡ true }
     ensures served { let s = step.now in
-        IfOk result (λ a. served_in a ≡ device_loaded s.request s.thread (next_plan s.thread s.memory.now) (option_map (λ r. r.now) input.entry)) }
+        IfOk result (λ a. served_in a ≡ device_loaded s.request s.thread (next_operation s.thread s.memory.now) (option_map (λ r. r.now) input.entry)) }
     ensures none { IfOk result (λ a. a.made ≡ None) }
     ensures outputs { IfOk result (λ a. length a.outputs ≤ 1) }
 {
@@ -242,7 +242,7 @@ fn loaded_by(
     input: &Input,
 ) -> Result<Served, OutOfMemory>
     ensures served { let s = step.now in
-        IfOk result (λ a. served_in a ≡ device_loaded s.request s.thread (plan instr s.thread) (Some input.now)) }
+        IfOk result (λ a. served_in a ≡ device_loaded s.request s.thread (operation instr s.thread) (Some input.now)) }
     ensures none { IfOk result (λ a. a.made ≡ None) }
     ensures outputs { IfOk result (λ a. length a.outputs ≤ 1) }
 {
@@ -281,11 +281,11 @@ fn with_register(thread: &Thread, rd: Reg, value: u32) -> Thread
 }
 
 // A store to the console's word puts out its low byte.
-#[tactic(auto, unfolding(spec_kernel::specs::Needs::next_plan))]
+#[tactic(auto, unfolding(spec_kernel::specs::Needs::next_operation))]
 fn device_stored(alloc: Global, step: &Step<'_>) -> Result<Served, OutOfMemory>
     requires { is_inside (length step.now.memory.now) step.now.thread.pc ≡ true }
     ensures served { let s = step.now in
-        IfOk result (λ a. served_in a ≡ device_stored s.request s.thread (next_plan s.thread s.memory.now)) }
+        IfOk result (λ a. served_in a ≡ device_stored s.request s.thread (next_operation s.thread s.memory.now)) }
     ensures none { IfOk result (λ a. a.made ≡ None) }
     ensures outputs { IfOk result (λ a. length a.outputs ≤ 1) }
 {
@@ -296,7 +296,7 @@ fn device_stored(alloc: Global, step: &Step<'_>) -> Result<Served, OutOfMemory>
 }
 
 fn stored_by(alloc: Global, step: &Step<'_>, instr: Instr) -> Result<Served, OutOfMemory>
-    ensures served { IfOk result (λ a. served_in a ≡ device_stored step.now.request step.now.thread (plan instr step.now.thread)) }
+    ensures served { IfOk result (λ a. served_in a ≡ device_stored step.now.request step.now.thread (operation instr step.now.thread)) }
     ensures none { IfOk result (λ a. a.made ≡ None) }
     ensures outputs { IfOk result (λ a. length a.outputs ≤ 1) }
 {

@@ -1,11 +1,11 @@
--- What a plan comes to over a view agrees with the instruction's outcome on the bytes that the view shows.
+-- What an operation comes to over a view agrees with the instruction's outcome on the bytes that the view shows.
 use Rattle.std.proofs.Common.{◌≡◌, ℕ, ◌/◌, length, Bool, true, false, cond, List, Option, Some, None, refl}
 use Rattle.spec_isa.specs.declared.thread.Parts.{Parts}
 use Rattle.spec_isa.specs.declared.thread.Load.{Load}
 use Rattle.spec_isa.specs.declared.thread.Kind.{Kind}
 use Rattle.spec_isa.specs.Words.{Stored, is_inside, read}
-use Rattle.spec_isa.specs.Instruction.{Outcome, unless, one, plan_of, serial_of, loads_of, next_of, load_of, store_of}
-use Rattle.spec_isa.specs.Planned.{load_then, refuses}
+use Rattle.spec_isa.specs.Instruction.{Outcome, unless, one, operation_of, serial_of, loads_of, next_of, load_of, store_of}
+use Rattle.spec_isa.specs.Operations.{load_then, refuses}
 use Rattle.dl_thread.specs.declared.answer.Did.{Did}
 use Rattle.dl_thread.specs.Sight.{Sight}
 use Rattle.dl_thread.specs.Performing.{store_for, thread_for, word_for}
@@ -31,7 +31,7 @@ unfolding one serial_of
 one_outside s t e = rw e refl
 
 pub one_inside : (s : Sight) (t : Parts) → is_inside (length s.bytes) t.pc ≡ true →
-    let p = plan_of t (read s.bytes (t.pc / 4)) in
+    let p = operation_of t (read s.bytes (t.pc / 4)) in
     one t s.bytes ≡ unless (refuses (length s.bytes) p) (Outcome.Next (thread_for s p t) (load_then p (word_for s p)) (store_for s p t))
 unfolding one serial_of loads_of next_of load_of store_of
 one_inside s t e = rw e refl

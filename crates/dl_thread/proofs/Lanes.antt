@@ -2,7 +2,7 @@
 use Rattle.std.proofs.Common.{◌≡◌, ℕ, zero, suc, ◌*◌, ◌/◌, ◌%◌, ◌^◌, ◌<◌, arith}
 use Rattle.spec_isa.specs.Words.{Stored}
 use Rattle.spec_isa.specs.Masks.{bytes_of}
-use Rattle.spec_isa.specs.Planned.{part, stored}
+use Rattle.spec_isa.specs.Operations.{part, stored}
 
 -- the parts of a value that are stored from byte k of word number w on
 abbrev parts : (size w k v : ℕ) → Stored

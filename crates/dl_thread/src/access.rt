@@ -2,7 +2,7 @@
 ghost use Rattle.std.specs.Prelude.{◌≡◌, ◌/◌, ◌%◌, true, false, length, OnOk, OnErr};
 ghost use Rattle.spec_isa.specs.Words.{is_inside};
 ghost use Rattle.spec_isa.specs.Masks.{bytes_of};
-ghost use Rattle.spec_isa.specs.Planned.{loaded, store_size, stored};
+ghost use Rattle.spec_isa.specs.Operations.{loaded, store_size, stored};
 ghost use Rattle.dl_thread.specs.Sight.{Answers, Lays};
 
 use crate::arithmetic::extend;

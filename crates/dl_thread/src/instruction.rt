@@ -1,20 +1,20 @@
-//! One instruction of a thread: it is fetched and planned, and then carried out unless it is serial.
+//! One instruction of a thread: it is fetched and decoded to an operation, which is carried out unless it is serial.
 ghost use Rattle.std.specs.Prelude.{◌≡◌, None, Some, length};
-ghost use Rattle.spec_isa.specs.Instruction.{one as instruction, plan_of};
-ghost use Rattle.spec_isa.specs.Planned.{at_pc, following, refuses};
+ghost use Rattle.spec_isa.specs.Instruction.{one as instruction, operation_of};
+ghost use Rattle.spec_isa.specs.Operations.{at_pc, following, refuses};
 ghost use Rattle.dl_thread.specs.Answer.{Agrees, Sees, after, bytes_next, did, thread_next, unless_serial};
 ghost use Rattle.dl_thread.specs.Performing.{SeesFor, bytes_for, did_for, thread_for};
 
 use crate::access::{load_word, store_part, taken};
 use crate::answer::Did;
 use crate::arithmetic::combined;
-use crate::plan::plan_word;
+use crate::operation::operation_of_word;
 use crate::refusal::{has_word, refusal};
 use crate::sight::{Full, View};
 use crate::state::Thread;
 use spec_isa::field::Reg;
 use spec_isa::instr::StoreOp;
-use spec_isa::plan::Plan;
+use spec_isa::operation::Operation;
 use spec_isa::thread::{Kind, Load};
 
 /// One instruction of a thread over a view, in the order of its checks: a fetch outside memory, a fetch that is held up, a
@@ -41,51 +41,51 @@ pub fn one<V: View>(t: &mut Thread, v: &mut V) -> Did
 // Runs a word that was fetched, unless it is serial.
 #[inline(always)]
 fn run<V: View>(word: u32, t: &mut Thread, v: &mut V) -> Did
-    ensures did { let s = V.sight v.old in let p = plan_of t.old word in
+    ensures did { let s = V.sight v.old in let p = operation_of t.old word in
         result ≡ unless_serial (refuses (length s.bytes) p) (did_for s p t.old) }
-    ensures thread { t.new ≡ after result t.old (thread_for (V.sight v.old) (plan_of t.old word) t.old) }
+    ensures thread { t.new ≡ after result t.old (thread_for (V.sight v.old) (operation_of t.old word) t.old) }
     ensures bytes { let s = V.sight v.old in
-        (V.sight v.new).bytes ≡ after result s.bytes (bytes_for s (plan_of t.old word) t.old) }
-    ensures view { SeesFor V.Read V.Wrote (V.sight v.old) (plan_of t.old word) t.old result v.old v.new }
+        (V.sight v.new).bytes ≡ after result s.bytes (bytes_for s (operation_of t.old word) t.old) }
+    ensures view { SeesFor V.Read V.Wrote (V.sight v.old) (operation_of t.old word) t.old result v.old v.new }
 {
-    let plan = plan_word(word, t);
-    match refusal(&plan, v.size()) {
+    let operation = operation_of_word(word, t);
+    match refusal(&operation, v.size()) {
         Some(kind) => Did::Serial(kind),
-        None => perform(plan, t, v),
+        None => perform(operation, t, v),
     }
 }
 
-// Carries out a plan that is not serial.
+// Carries out an operation that is not serial.
 #[inline(always)]
-fn perform<V: View>(plan: Plan, t: &mut Thread, v: &mut V) -> Did
-    requires { refuses (length (V.sight v.old).bytes) plan ≡ None }
-    ensures did { result ≡ did_for (V.sight v.old) plan t.old }
-    ensures thread { t.new ≡ after result t.old (thread_for (V.sight v.old) plan t.old) }
-    ensures bytes { let s = V.sight v.old in (V.sight v.new).bytes ≡ after result s.bytes (bytes_for s plan t.old) }
-    ensures view { SeesFor V.Read V.Wrote (V.sight v.old) plan t.old result v.old v.new }
+fn perform<V: View>(operation: Operation, t: &mut Thread, v: &mut V) -> Did
+    requires { refuses (length (V.sight v.old).bytes) operation ≡ None }
+    ensures did { result ≡ did_for (V.sight v.old) operation t.old }
+    ensures thread { t.new ≡ after result t.old (thread_for (V.sight v.old) operation t.old) }
+    ensures bytes { let s = V.sight v.old in (V.sight v.new).bytes ≡ after result s.bytes (bytes_for s operation t.old) }
+    ensures view { SeesFor V.Read V.Wrote (V.sight v.old) operation t.old result v.old v.new }
 {
-    match plan {
-        Plan::Go { rd, value, pc } => {
+    match operation {
+        Operation::Go { rd, value, pc } => {
             t.go(rd, value, pc);
             Did::Next(None)
         }
-        Plan::Stop(kind) => Did::Serial(kind),
-        Plan::Load { op, rd, addr } => match load_word(addr, v) {
+        Operation::Stop(kind) => Did::Serial(kind),
+        Operation::Load { op, rd, addr } => match load_word(addr, v) {
             Ok(word) => finish_load(t, rd, addr, taken(op, word, addr)),
             Err(flight) => Did::Bounced(flight),
         },
-        Plan::Store { op, addr, value } => match store_part(op, addr, value, v) {
+        Operation::Store { op, addr, value } => match store_part(op, addr, value, v) {
             Ok(()) => finish(t, Reg::new(0), 0),
             Err(Full) => Did::NoRoom,
         },
-        Plan::LoadReserved { rd, addr } => match load_word(addr, v) {
+        Operation::LoadReserved { rd, addr } => match load_word(addr, v) {
             Ok(word) => {
                 t.reserve(Some(addr));
                 finish_load(t, rd, addr, word)
             }
             Err(flight) => Did::Bounced(flight),
         },
-        Plan::StoreConditional { rd, addr, value } => {
+        Operation::StoreConditional { rd, addr, value } => {
             if t.reserves(addr) {
                 match store_part(StoreOp::Sw, addr, value, v) {
                     Ok(()) => finish_conditional(t, rd, 0),
@@ -95,7 +95,7 @@ fn perform<V: View>(plan: Plan, t: &mut Thread, v: &mut V) -> Did
                 finish_conditional(t, rd, 1)
             }
         }
-        Plan::Amo {
+        Operation::Amo {
             op,
             rd,
             addr,

@@ -5,7 +5,7 @@ mod access;
 mod answer;
 mod arithmetic;
 mod instruction;
-mod plan;
+mod operation;
 mod refusal;
 mod row;
 mod sight;

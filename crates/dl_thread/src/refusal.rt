@@ -1,34 +1,34 @@
-//! Why a plan is serial, and so is not carried out.
+//! Why an operation is serial, and so is not carried out.
 ghost use Rattle.std.specs.Prelude.{◌≡◌, ◌<◌};
-ghost use Rattle.spec_isa.specs.Planned.{is_device_load, is_device_store, load_refusal, load_size, refuses, store_refusal, store_size};
+ghost use Rattle.spec_isa.specs.Operations.{is_device_load, is_device_store, load_refusal, load_size, refuses, store_refusal, store_size};
 ghost use Rattle.spec_isa.specs.Words.{is_inside};
 
 use spec_isa::instr::{LoadOp, StoreOp};
-use spec_isa::plan::Plan;
+use spec_isa::operation::Operation;
 use spec_isa::thread::Kind;
 
-// Why a plan is serial in a memory of `size` bytes.
+// Why an operation is serial in a memory of `size` bytes.
 #[inline(always)]
-pub(crate) fn refusal(plan: &Plan, size: u32) -> Option<Kind>
-    ensures { result ≡ refuses size plan.now }
+pub(crate) fn refusal(operation: &Operation, size: u32) -> Option<Kind>
+    ensures { result ≡ refuses size operation.now }
 {
-    match *plan {
-        Plan::Go { pc, .. } => (pc % 4 != 0).then_some(Kind::Fault(0)),
-        Plan::Stop(kind) => Some(kind),
-        Plan::Load { op, addr, .. } => refused_load(
+    match *operation {
+        Operation::Go { pc, .. } => (pc % 4 != 0).then_some(Kind::Fault(0)),
+        Operation::Stop(kind) => Some(kind),
+        Operation::Load { op, addr, .. } => refused_load(
             size,
             load_width(op),
             addr,
             reads_device(op, addr),
         ),
-        Plan::Store { op, addr, .. } => refused_store(
+        Operation::Store { op, addr, .. } => refused_store(
             size,
             store_width(op),
             addr,
             writes_device(op, addr),
         ),
-        Plan::LoadReserved { addr, .. } => refused_load(size, 4, addr, false),
-        Plan::StoreConditional { addr, .. } | Plan::Amo { addr, .. } => refused_store(
+        Operation::LoadReserved { addr, .. } => refused_load(size, 4, addr, false),
+        Operation::StoreConditional { addr, .. } | Operation::Amo { addr, .. } => refused_store(
             size, 4, addr, false,
         ),
     }

@@ -1,6 +1,6 @@
 //! A thread: a pc, registers, a reservation, an interrupt handler with what it saved, a status and a number of commits.
 ghost use Rattle.std.specs.Prelude.{◌≡◌, ◌%◌};
-ghost use Rattle.spec_isa.specs.Planned.{at_pc, following, register, reserves};
+ghost use Rattle.spec_isa.specs.Operations.{at_pc, following, register, reserves};
 ghost use Rattle.spec_isa.specs.Threads.{IsThread, started};
 
 use spec_isa::field::Reg;

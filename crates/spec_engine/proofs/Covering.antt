@@ -2,10 +2,10 @@
 use Rattle.std.proofs.Common.{◌≡◌, ℕ, ◌/◌, Bool, true, false, List, [], ◌∷◌, ◌++◌, Option, Some, None, if◌then◌else◌, nat_eq, refl, sym, subst}
 use Rattle.spec_isa.specs.declared.thread.Load.{Load}
 use Rattle.spec_isa.specs.declared.thread.Parts.{Parts}
-use Rattle.spec_isa.specs.declared.plan.Plan.{Plan}
+use Rattle.spec_isa.specs.declared.operation.Operation.{Operation}
 use Rattle.spec_isa.specs.Words.{Stored, lays, merged, put, read}
-use Rattle.spec_isa.specs.Instruction.{plan_of, loads_of, next_of, load_of, store_of}
-use Rattle.spec_isa.specs.Planned.{word_loaded, load_then}
+use Rattle.spec_isa.specs.Instruction.{operation_of, loads_of, next_of, load_of, store_of}
+use Rattle.spec_isa.specs.Operations.{word_loaded, load_then}
 use Rattle.spec_isa.specs.Runs.{with_load, with_store}
 use Rattle.spec_engine.specs.Flights.{Flight}
 use Rattle.spec_engine.specs.Signatures.{Marks, line, insert, covers}
@@ -53,18 +53,18 @@ abbrev LoadedFrom : Option ℕ → Option Load → Type 0
 LoadedFrom o None = Unit {0}
 LoadedFrom o (Some l) = o ≡ Some (l.addr / 4)
 
-plan_loads : (p : Plan) (w : ℕ) → LoadedFrom (word_loaded p) (load_then p w)
-plan_loads (Plan.Go rd value pc) w = tt
-plan_loads (Plan.Stop kind) w = tt
-plan_loads (Plan.Load op rd a) w = refl
-plan_loads (Plan.Store op a v) w = tt
-plan_loads (Plan.LoadReserved rd a) w = refl
-plan_loads (Plan.StoreConditional rd a v) w = tt
-plan_loads (Plan.Amo op rd a v) w = refl
+operation_loads : (p : Operation) (w : ℕ) → LoadedFrom (word_loaded p) (load_then p w)
+operation_loads (Operation.Go rd value pc) w = tt
+operation_loads (Operation.Stop kind) w = tt
+operation_loads (Operation.Load op rd a) w = refl
+operation_loads (Operation.Store op a v) w = tt
+operation_loads (Operation.LoadReserved rd a) w = refl
+operation_loads (Operation.StoreConditional rd a v) w = tt
+operation_loads (Operation.Amo op rd a v) w = refl
 
 loaded_from : (t : Parts) (f w : ℕ) → LoadedFrom (loads_of t f) (load_of t f w)
 unfolding loads_of load_of
-loaded_from t f w = plan_loads (plan_of t f) w
+loaded_from t f w = operation_loads (operation_of t f) w
 
 -- the signature covers the word, if there is one
 abbrev CoversRead : (sphere : ℕ) → Marks → Option ℕ → Type 0

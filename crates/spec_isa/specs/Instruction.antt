@@ -4,35 +4,35 @@ use Rattle.spec_isa.specs.declared.instr.Instr.{Instr}
 use Rattle.spec_isa.specs.declared.thread.Parts.{Parts}
 use Rattle.spec_isa.specs.declared.thread.Load.{Load}
 use Rattle.spec_isa.specs.declared.thread.Kind.{Kind}
-use Rattle.spec_isa.specs.declared.plan.Plan.{Plan}
+use Rattle.spec_isa.specs.declared.operation.Operation.{Operation}
 use Rattle.spec_isa.specs.Denoted.{denoted}
 use Rattle.spec_isa.specs.Words.{Stored, read, is_inside}
-use Rattle.spec_isa.specs.Planned.{plan, refuses, word_loaded, thread_then, load_then, store_then}
+use Rattle.spec_isa.specs.Operations.{operation, refuses, word_loaded, thread_then, load_then, store_then}
 
 -- a word outside the table is illegal
-abbrev pub plan_found : Option Instr → Parts → Plan
-plan_found None t = Plan.Stop (Kind.Fault 2)
-plan_found (Some i) t = plan i t
+abbrev pub operation_found : Option Instr → Parts → Operation
+operation_found None t = Operation.Stop (Kind.Fault 2)
+operation_found (Some i) t = operation i t
 
-abbrev pub plan_of : Parts → (f : ℕ) → Plan
-plan_of t f = plan_found (denoted f) t
+abbrev pub operation_of : Parts → (f : ℕ) → Operation
+operation_of t f = operation_found (denoted f) t
 
 -- why the instruction is serial, or none where it is run; a fetch outside memory faults
 unfoldable pub serial_of : Parts → (f size : ℕ) → Option Kind
-serial_of t f size = if is_inside size t.pc then refuses size (plan_of t f) else Some (Kind.Fault 1)
+serial_of t f size = if is_inside size t.pc then refuses size (operation_of t f) else Some (Kind.Fault 1)
 
 -- the number of the word that it loads
 unfoldable pub loads_of : Parts → (f : ℕ) → Option ℕ
-loads_of t f = word_loaded (plan_of t f)
+loads_of t f = word_loaded (operation_of t f)
 
 unfoldable pub next_of : Parts → (f w : ℕ) → Parts
-next_of t f w = thread_then (plan_of t f) t w
+next_of t f w = thread_then (operation_of t f) t w
 
 unfoldable pub load_of : Parts → (f w : ℕ) → Option Load
-load_of t f w = load_then (plan_of t f) w
+load_of t f w = load_then (operation_of t f) w
 
 unfoldable pub store_of : Parts → (f w : ℕ) → Option Stored
-store_of t f w = store_then (plan_of t f) t w
+store_of t f w = store_then (operation_of t f) t w
 
 -- what an instruction comes to
 pub data Outcome : Type 0 where

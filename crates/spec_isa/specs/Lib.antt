@@ -3,7 +3,7 @@ pub mod Denoted
 pub mod Arithmetic
 pub mod Words
 pub mod Masks
-pub mod Planned
+pub mod Operations
 pub mod Instruction
 pub mod Runs
 pub mod Threads

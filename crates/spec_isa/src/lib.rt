@@ -4,5 +4,5 @@
 
 pub mod field;
 pub mod instr;
-pub mod plan;
+pub mod operation;
 pub mod thread;

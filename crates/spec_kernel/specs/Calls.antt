@@ -4,7 +4,7 @@ use Rattle.std.specs.Prelude.{ℕ, ◌+◌, ◌%◌, Bool, false, ◌&&◌, nat_
 use Rattle.dl_entry.specs.declared.Request.{Request}
 use Rattle.spec_isa.specs.declared.thread.Parts.{Parts}
 use Rattle.spec_isa.specs.declared.thread.ThreadStatus.{ThreadStatus}
-use Rattle.spec_isa.specs.Planned.{at_pc, following, with_register}
+use Rattle.spec_isa.specs.Operations.{at_pc, following, with_register}
 use Rattle.spec_isa.specs.Threads.{started}
 use Rattle.spec_kernel.specs.Needs.{number_of, a0, a1, a2, cut}
 use Rattle.spec_kernel.specs.Answers.{unknown_call, bad_buffer, refused}

@@ -3,7 +3,7 @@ use Rattle.std.specs.Prelude.{ℕ, ◌+◌, List, [], ◌∷◌, ◌++◌, lengt
 use Rattle.std.specs.Int.{bytes_low_first}
 use Rattle.dl_entry.specs.declared.Request.{Request}
 use Rattle.spec_isa.specs.Words.{Stored, put}
-use Rattle.spec_isa.specs.Planned.{stored}
+use Rattle.spec_isa.specs.Operations.{stored}
 
 -- words stored so far, and then these bytes from an address on, one after the other
 unfoldable pub bytes_put : List Stored → (addr : ℕ) → List ℕ → List Stored

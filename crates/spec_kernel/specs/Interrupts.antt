@@ -2,7 +2,7 @@
 use Rattle.std.specs.Prelude.{ℕ, Bool, true, false, not, ◌&&◌, nat_eq}
 use Rattle.spec_isa.specs.declared.thread.Parts.{Parts}
 use Rattle.spec_isa.specs.declared.thread.ThreadStatus.{ThreadStatus}
-use Rattle.spec_isa.specs.Planned.{register, with_register}
+use Rattle.spec_isa.specs.Operations.{register, with_register}
 
 abbrev pub lives : ThreadStatus → Bool
 lives ThreadStatus.Live = true

@@ -2,10 +2,10 @@
 use Rattle.std.specs.Prelude.{ℕ, ◌+◌, ◌/◌, min, nat_eq, nat_le, List, length, take, drop, Option, Some, None, if◌then◌else◌}
 use Rattle.spec_isa.specs.declared.thread.Parts.{Parts}
 use Rattle.spec_isa.specs.declared.thread.Kind.{Kind}
-use Rattle.spec_isa.specs.declared.plan.Plan.{Plan}
+use Rattle.spec_isa.specs.declared.operation.Operation.{Operation}
 use Rattle.spec_isa.specs.Words.{read}
-use Rattle.spec_isa.specs.Planned.{register}
-use Rattle.spec_isa.specs.Instruction.{serial_of, plan_of}
+use Rattle.spec_isa.specs.Operations.{register}
+use Rattle.spec_isa.specs.Instruction.{serial_of, operation_of}
 
 -- ---- the next instruction
 
@@ -18,8 +18,8 @@ unfoldable pub next_kind : Parts → List ℕ → Option Kind
 next_kind t m = serial_of t (fetched t m) (length m)
 
 -- what it is to do, once its registers are read
-unfoldable pub next_plan : Parts → List ℕ → Plan
-next_plan t m = plan_of t (fetched t m)
+unfoldable pub next_operation : Parts → List ℕ → Operation
+next_operation t m = operation_of t (fetched t m)
 
 -- ---- the outside answer
 
@@ -83,13 +83,13 @@ need_of_call t m =
     else None
 
 -- a load of the moment's word, or of the input's word
-abbrev pub need_of_load : Plan → Option Need
-need_of_load (Plan.Load op rd a) = Some (if nat_eq a 0xF0000000 then MomentWord else InputWord)
+abbrev pub need_of_load : Operation → Option Need
+need_of_load (Operation.Load op rd a) = Some (if nat_eq a 0xF0000000 then MomentWord else InputWord)
 need_of_load _ = None
 
 abbrev pub need_of : Option Kind → Parts → List ℕ → Option Need
 need_of (Some Kind.Call) t m = need_of_call t m
-need_of (Some Kind.DeviceLoad) t m = need_of_load (next_plan t m)
+need_of (Some Kind.DeviceLoad) t m = need_of_load (next_operation t m)
 need_of _ t m = None
 
 -- what the next step wants, if anything

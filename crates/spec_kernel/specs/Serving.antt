@@ -7,12 +7,12 @@ use Rattle.dl_entry.specs.declared.Request.{Request}
 use Rattle.spec_isa.specs.declared.thread.Parts.{Parts}
 use Rattle.spec_isa.specs.declared.thread.Kind.{Kind}
 use Rattle.spec_isa.specs.declared.thread.ThreadStatus.{ThreadStatus}
-use Rattle.spec_isa.specs.declared.plan.Plan.{Plan}
+use Rattle.spec_isa.specs.declared.operation.Operation.{Operation}
 use Rattle.spec_isa.specs.Words.{Stored}
-use Rattle.spec_isa.specs.Planned.{at_pc, following}
+use Rattle.spec_isa.specs.Operations.{at_pc, following}
 use Rattle.spec_kernel.specs.Devices.{Devices, console_put}
 use Rattle.spec_kernel.specs.Copies.{copied}
-use Rattle.spec_kernel.specs.Needs.{Need, Write, Read, Random, next_kind, next_plan, need, number_of}
+use Rattle.spec_kernel.specs.Needs.{Need, Write, Read, Random, next_kind, next_operation, need, number_of}
 use Rattle.spec_kernel.specs.Answers.{bad_buffer}
 use Rattle.spec_kernel.specs.Calls.{Called, called, with_result}
 
@@ -67,14 +67,14 @@ is_outside t = nat_lt 1 (number_of t) && nat_lt (number_of t) 6
 -- ---- device words
 
 -- a load of a device word, which gives what came, and is told as a load
-abbrev pub device_loaded : Option Request → Parts → Plan → Option Input → Served
-device_loaded request t (Plan.Load op rd a) (Some r) =
+abbrev pub device_loaded : Option Request → Parts → Operation → Option Input → Served
+device_loaded request t (Operation.Load op rd a) (Some r) =
     record (alone request (at_pc t rd r.result (following t))) { loads = record { address = a; value = r.result } ∷ [] }
 device_loaded request t _ _ = alone request t
 
 -- a store to the console's word: its low byte is an output of channel 8
-abbrev pub device_stored : Option Request → Parts → Plan → Served
-device_stored request t (Plan.Store op a v) =
+abbrev pub device_stored : Option Request → Parts → Operation → Served
+device_stored request t (Operation.Store op a v) =
     record (alone request (record t { pc = following t })) { outputs = record { channel = 8; bytes = v % 2 ^ 8 ∷ [] } ∷ [] }
 device_stored request t _ = alone request t
 
@@ -91,8 +91,8 @@ serve_kind (Some Kind.Call) number threads request t m input =
     then outside_called (need t m) request t input
     else inside_called (called (length m) number threads request t)
 serve_kind (Some Kind.Break) number threads request t m input = alone request (faulted 3 t)
-serve_kind (Some Kind.DeviceLoad) number threads request t m input = device_loaded request t (next_plan t m) input
-serve_kind (Some Kind.DeviceStore) number threads request t m input = device_stored request t (next_plan t m)
+serve_kind (Some Kind.DeviceLoad) number threads request t m input = device_loaded request t (next_operation t m) input
+serve_kind (Some Kind.DeviceStore) number threads request t m input = device_stored request t (next_operation t m)
 serve_kind (Some (Kind.Fault cause)) number threads request t m input = alone request (faulted cause t)
 
 -- the next step of a thread, which has that number among these threads, on a memory

@@ -8,15 +8,15 @@ use Rattle.dl_entry.specs.declared.Request.{Request}
 use Rattle.dl_entry.specs.declared.Why.{Why}
 use Rattle.spec_isa.specs.declared.thread.Parts.{Parts}
 use Rattle.spec_isa.specs.declared.thread.Kind.{Kind}
-use Rattle.spec_isa.specs.declared.plan.Plan.{Plan}
+use Rattle.spec_isa.specs.declared.operation.Operation.{Operation}
 use Rattle.spec_isa.specs.Words.{Stored, put}
-use Rattle.spec_isa.specs.Planned.{stored}
+use Rattle.spec_isa.specs.Operations.{stored}
 use Rattle.spec_log.specs.declared.DmaRecord.{DmaRecord}
 use Rattle.spec_log.specs.declared.LogParts.{LogParts}
 use Rattle.spec_log.specs.Log.{IsInput, IsDmaRecord, IsLog}
 use Rattle.spec_log.specs.Size.{size_in}
 use Rattle.spec_kernel.specs.Copies.{bytes_put, copied, dma_words}
-use Rattle.spec_kernel.specs.Needs.{Need, Write, Read, Random, Clock, MomentWord, InputWord, need, next_kind, next_plan}
+use Rattle.spec_kernel.specs.Needs.{Need, Write, Read, Random, Clock, MomentWord, InputWord, need, next_kind, next_operation}
 use Rattle.spec_kernel.specs.Calls.{called}
 use Rattle.spec_kernel.specs.Serving.{Served, copy_of, outside_called, inside_called, is_outside, device_loaded, device_stored, serve_kind, serve}
 use Rattle.spec_play.specs.Effects.{Effect, serial_effect}
@@ -66,24 +66,24 @@ outside-most : (o : Option Need) (request : Option Request) (t : Parts) (input :
 outside-most o request t None few = omega arith
 outside-most o request t (Some r) few = few
 
-loaded-most : (request : Option Request) (t : Parts) (p : Plan) (input : Option Input) → length (device_loaded request t p input).words ≤ 4096
-loaded-most request t (Plan.Load op rd a) (Some r) = omega arith
-loaded-most request t (Plan.Load op rd a) None = omega arith
-loaded-most request t (Plan.Go rd value pc) input = omega arith
-loaded-most request t (Plan.Stop kind) input = omega arith
-loaded-most request t (Plan.Store op a v) input = omega arith
-loaded-most request t (Plan.LoadReserved rd a) input = omega arith
-loaded-most request t (Plan.StoreConditional rd a v) input = omega arith
-loaded-most request t (Plan.Amo op rd a v) input = omega arith
+loaded-most : (request : Option Request) (t : Parts) (p : Operation) (input : Option Input) → length (device_loaded request t p input).words ≤ 4096
+loaded-most request t (Operation.Load op rd a) (Some r) = omega arith
+loaded-most request t (Operation.Load op rd a) None = omega arith
+loaded-most request t (Operation.Go rd value pc) input = omega arith
+loaded-most request t (Operation.Stop kind) input = omega arith
+loaded-most request t (Operation.Store op a v) input = omega arith
+loaded-most request t (Operation.LoadReserved rd a) input = omega arith
+loaded-most request t (Operation.StoreConditional rd a v) input = omega arith
+loaded-most request t (Operation.Amo op rd a v) input = omega arith
 
-stored-most : (request : Option Request) (t : Parts) (p : Plan) → length (device_stored request t p).words ≤ 4096
-stored-most request t (Plan.Load op rd a) = omega arith
-stored-most request t (Plan.Go rd value pc) = omega arith
-stored-most request t (Plan.Stop kind) = omega arith
-stored-most request t (Plan.Store op a v) = omega arith
-stored-most request t (Plan.LoadReserved rd a) = omega arith
-stored-most request t (Plan.StoreConditional rd a v) = omega arith
-stored-most request t (Plan.Amo op rd a v) = omega arith
+stored-most : (request : Option Request) (t : Parts) (p : Operation) → length (device_stored request t p).words ≤ 4096
+stored-most request t (Operation.Load op rd a) = omega arith
+stored-most request t (Operation.Go rd value pc) = omega arith
+stored-most request t (Operation.Stop kind) = omega arith
+stored-most request t (Operation.Store op a v) = omega arith
+stored-most request t (Operation.LoadReserved rd a) = omega arith
+stored-most request t (Operation.StoreConditional rd a v) = omega arith
+stored-most request t (Operation.Amo op rd a v) = omega arith
 
 abbrev FewWords : Served → Type 0
 FewWords v = length v.words ≤ 4096
@@ -93,8 +93,8 @@ kind-most None k ts request t m input few = omega arith
 kind-most (Some Kind.Call) k ts request t m input few =
     either_serve FewWords (is_outside t) (outside_called (need t m) request t input) (inside_called (called (length m) k ts request t)) (outside-most (need t m) request t input few) (omega arith)
 kind-most (Some Kind.Break) k ts request t m input few = omega arith
-kind-most (Some Kind.DeviceLoad) k ts request t m input few = loaded-most request t (next_plan t m) input
-kind-most (Some Kind.DeviceStore) k ts request t m input few = stored-most request t (next_plan t m)
+kind-most (Some Kind.DeviceLoad) k ts request t m input few = loaded-most request t (next_operation t m) input
+kind-most (Some Kind.DeviceStore) k ts request t m input few = stored-most request t (next_operation t m)
 kind-most (Some (Kind.Fault cause)) k ts request t m input few = omega arith
 
 -- a serial step stores at most 4,096 words

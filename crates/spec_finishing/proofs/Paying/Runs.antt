@@ -4,10 +4,10 @@ use Rattle.std.proofs.lemmas.Bool.{cases_lt}
 use Rattle.spec_isa.specs.declared.thread.Parts.{Parts}
 use Rattle.spec_isa.specs.declared.thread.Load.{Load}
 use Rattle.spec_isa.specs.declared.thread.Kind.{Kind}
-use Rattle.spec_isa.specs.declared.plan.Plan.{Plan}
-use Rattle.spec_isa.specs.Planned.{thread_then}
+use Rattle.spec_isa.specs.declared.operation.Operation.{Operation}
+use Rattle.spec_isa.specs.Operations.{thread_then}
 use Rattle.spec_isa.specs.Words.{Stored, lays, lay, Apart}
-use Rattle.spec_isa.specs.Instruction.{Outcome, Next, Serial, one, unless, plan_of, next_of}
+use Rattle.spec_isa.specs.Instruction.{Outcome, Next, Serial, one, unless, operation_of, next_of}
 use Rattle.spec_isa.specs.Runs.{Run, begun, with_store, followed, more, run}
 use Rattle.spec_isa.proofs.BufferLaws.{lays_put}
 use Rattle.spec_kernel.specs.Needs.{next_kind, fetched}
@@ -99,18 +99,18 @@ run-serial m t kind (suc n) e =
 
 -- ---- the thread stays live
 
-plan_status : (p : Plan) (t : Parts) (w : ℕ) → (thread_then p t w).status ≡ t.status
-plan_status (Plan.Go rd value pc) t w = refl
-plan_status (Plan.Stop kind) t w = refl
-plan_status (Plan.Load op rd a) t w = refl
-plan_status (Plan.Store op a v) t w = refl
-plan_status (Plan.LoadReserved rd a) t w = refl
-plan_status (Plan.StoreConditional rd a v) t w = refl
-plan_status (Plan.Amo op rd a v) t w = refl
+operation_status : (p : Operation) (t : Parts) (w : ℕ) → (thread_then p t w).status ≡ t.status
+operation_status (Operation.Go rd value pc) t w = refl
+operation_status (Operation.Stop kind) t w = refl
+operation_status (Operation.Load op rd a) t w = refl
+operation_status (Operation.Store op a v) t w = refl
+operation_status (Operation.LoadReserved rd a) t w = refl
+operation_status (Operation.StoreConditional rd a v) t w = refl
+operation_status (Operation.Amo op rd a v) t w = refl
 
 next_status : (t : Parts) (f w : ℕ) → (next_of t f w).status ≡ t.status
 unfolding next_of
-next_status t f w = plan_status (plan_of t f) t w
+next_status t f w = operation_status (operation_of t f) t w
 
 unless_status : (t : Parts) (o : Option Kind) (next u : Parts) (made load : Option Load) (put_ store : Option Stored) → next.status ≡ t.status → unless o (Next next made put_) ≡ Next u load store → u.status ≡ t.status
 unless_status t None next u made load put_ store s e = let h : next ≡ u = cc in ap (λ (p : Parts). p.status) (sym h) ∙ s

@@ -15,7 +15,7 @@ use Rattle.spec_isa.specs.Words.{lay, read, merged}
 use Rattle.spec_kernel.specs.Answers.{answer}
 use Rattle.spec_kernel.specs.Calls.{called}
 use Rattle.spec_kernel.specs.Copies.{bytes_put}
-use Rattle.spec_kernel.specs.Needs.{next_kind, next_plan, need}
+use Rattle.spec_kernel.specs.Needs.{next_kind, next_operation, need}
 use Rattle.spec_kernel.specs.Records.{fits}
 use Rattle.spec_kernel.specs.Serving.{serve, console_told}
 use Rattle.spec_play.specs.Plays.{Played, play_one, play}
@@ -85,5 +85,5 @@ pub record AreTold : Type 0 where
   pub fails : given (played ModeName.Picolog) ≡ Some 1 ∷ Some 0 ∷ []
 
 pub logs_told : AreTold
-unfolding serial_of loads_of next_of load_of store_of one lay read merged answer called bytes_put next_kind next_plan need fits serve console_told play_one dma_verdict has_left_over now_at chunk_verdict serial_verdict chunk_moved serial_moved dma_moved do_point
+unfolding serial_of loads_of next_of load_of store_of one lay read merged answer called bytes_put next_kind next_operation need fits serve console_told play_one dma_verdict has_left_over now_at chunk_verdict serial_verdict chunk_moved serial_moved dma_moved do_point
 logs_told = record { sized = refl; unsized = refl; in_turn = refl; complete = refl; turns = refl; fails = refl }

@@ -7,9 +7,9 @@ use Rattle.std.proofs.lemmas.Option.{none-some}
 use Rattle.std.proofs.lemmas.List.{length-append}
 use Rattle.spec_isa.specs.declared.thread.Parts.{Parts}
 use Rattle.spec_isa.specs.declared.thread.Load.{Load}
-use Rattle.spec_isa.specs.declared.plan.Plan.{Plan}
-use Rattle.spec_isa.specs.Planned.{loaded, word_loaded, load_then}
-use Rattle.spec_isa.specs.Instruction.{plan_of, loads_of, load_of}
+use Rattle.spec_isa.specs.declared.operation.Operation.{Operation}
+use Rattle.spec_isa.specs.Operations.{loaded, word_loaded, load_then}
+use Rattle.spec_isa.specs.Instruction.{operation_of, loads_of, load_of}
 use Rattle.spec_isa.specs.Runs.{with_load, with_store}
 use Rattle.spec_isa.proofs.BufferLaws.{Apart-put}
 use Rattle.spec_engine.specs.Signatures.{Marks, insert, covers, hits, line, signed}
@@ -80,20 +80,20 @@ pub length-load : (ls : List Load) (load : Option Load) → length (with_load ls
 length-load ls None = omega arith
 length-load ls (Some l) = let h = length-append ls (l ∷ []) in omega arith
 
--- the word that a plan's load is of
-plan_load : (p : Plan) (w : ℕ) (l : Load) → load_then p w ≡ Some l → word_loaded p ≡ Some (l.addr / 4)
-plan_load (Plan.Go rd value pc) w l e = absurd (none-some l e)
-plan_load (Plan.Stop kind) w l e = absurd (none-some l e)
-plan_load (Plan.Load op rd a) w l e = let h : record { addr = a; value = loaded op w a } ≡ l = cc in ap (λ (k : Load). Some (k.addr / 4)) h
-plan_load (Plan.Store op a v) w l e = absurd (none-some l e)
-plan_load (Plan.LoadReserved rd a) w l e = let h : record { addr = a; value = w } ≡ l = cc in ap (λ (k : Load). Some (k.addr / 4)) h
-plan_load (Plan.StoreConditional rd a v) w l e = absurd (none-some l e)
-plan_load (Plan.Amo op rd a v) w l e = let h : record { addr = a; value = w } ≡ l = cc in ap (λ (k : Load). Some (k.addr / 4)) h
+-- the word that an operation's load is of
+operation_load : (p : Operation) (w : ℕ) (l : Load) → load_then p w ≡ Some l → word_loaded p ≡ Some (l.addr / 4)
+operation_load (Operation.Go rd value pc) w l e = absurd (none-some l e)
+operation_load (Operation.Stop kind) w l e = absurd (none-some l e)
+operation_load (Operation.Load op rd a) w l e = let h : record { addr = a; value = loaded op w a } ≡ l = cc in ap (λ (k : Load). Some (k.addr / 4)) h
+operation_load (Operation.Store op a v) w l e = absurd (none-some l e)
+operation_load (Operation.LoadReserved rd a) w l e = let h : record { addr = a; value = w } ≡ l = cc in ap (λ (k : Load). Some (k.addr / 4)) h
+operation_load (Operation.StoreConditional rd a v) w l e = absurd (none-some l e)
+operation_load (Operation.Amo op rd a v) w l e = let h : record { addr = a; value = w } ≡ l = cc in ap (λ (k : Load). Some (k.addr / 4)) h
 
 -- an instruction's load is of the word that it loads
 pub load-word : (t : Parts) (f w : ℕ) (l : Load) → load_of t f w ≡ Some l → loads_of t f ≡ Some (l.addr / 4)
 unfolding load_of loads_of
-load-word t f w l e = plan_load (plan_of t f) w l e
+load-word t f w l e = operation_load (operation_of t f) w l e
 
 -- a signature keeps its size when a store's line is put in
 pub bits-with_line : (i : ℕ) (store : Option Stored) (g : Marks) → (with_line i store g).bits ≡ g.bits

@@ -9,9 +9,9 @@ use Rattle.dl_entry.specs.declared.Request.{Request}
 use Rattle.dl_entry.specs.declared.Why.{Why}
 use Rattle.spec_isa.specs.declared.thread.Parts.{Parts}
 use Rattle.spec_isa.specs.declared.thread.Kind.{Kind}
-use Rattle.spec_isa.specs.declared.plan.Plan.{Plan}
+use Rattle.spec_isa.specs.declared.operation.Operation.{Operation}
 use Rattle.spec_isa.specs.Words.{Stored, put, Apart}
-use Rattle.spec_isa.specs.Planned.{stored}
+use Rattle.spec_isa.specs.Operations.{stored}
 use Rattle.spec_isa.specs.Runs.{Run}
 use Rattle.spec_isa.proofs.BufferLaws.{Apart-put}
 use Rattle.spec_log.specs.declared.LogParts.{LogParts}
@@ -258,24 +258,24 @@ outside_apart : (o : Option Need) (request : Option Request) (t : Parts) (input 
 outside_apart o request t None = tt
 outside_apart o request t (Some r) = copy_apart o r
 
-loaded_apart : (request : Option Request) (t : Parts) (p : Plan) (input : Option Input) → Apart (device_loaded request t p input).words
-loaded_apart request t (Plan.Load op rd a) (Some r) = tt
-loaded_apart request t (Plan.Load op rd a) None = tt
-loaded_apart request t (Plan.Go rd value pc) input = tt
-loaded_apart request t (Plan.Stop kind) input = tt
-loaded_apart request t (Plan.Store op a v) input = tt
-loaded_apart request t (Plan.LoadReserved rd a) input = tt
-loaded_apart request t (Plan.StoreConditional rd a v) input = tt
-loaded_apart request t (Plan.Amo op rd a v) input = tt
+loaded_apart : (request : Option Request) (t : Parts) (p : Operation) (input : Option Input) → Apart (device_loaded request t p input).words
+loaded_apart request t (Operation.Load op rd a) (Some r) = tt
+loaded_apart request t (Operation.Load op rd a) None = tt
+loaded_apart request t (Operation.Go rd value pc) input = tt
+loaded_apart request t (Operation.Stop kind) input = tt
+loaded_apart request t (Operation.Store op a v) input = tt
+loaded_apart request t (Operation.LoadReserved rd a) input = tt
+loaded_apart request t (Operation.StoreConditional rd a v) input = tt
+loaded_apart request t (Operation.Amo op rd a v) input = tt
 
-stored_apart : (request : Option Request) (t : Parts) (p : Plan) → Apart (device_stored request t p).words
-stored_apart request t (Plan.Load op rd a) = tt
-stored_apart request t (Plan.Go rd value pc) = tt
-stored_apart request t (Plan.Stop kind) = tt
-stored_apart request t (Plan.Store op a v) = tt
-stored_apart request t (Plan.LoadReserved rd a) = tt
-stored_apart request t (Plan.StoreConditional rd a v) = tt
-stored_apart request t (Plan.Amo op rd a v) = tt
+stored_apart : (request : Option Request) (t : Parts) (p : Operation) → Apart (device_stored request t p).words
+stored_apart request t (Operation.Load op rd a) = tt
+stored_apart request t (Operation.Go rd value pc) = tt
+stored_apart request t (Operation.Stop kind) = tt
+stored_apart request t (Operation.Store op a v) = tt
+stored_apart request t (Operation.LoadReserved rd a) = tt
+stored_apart request t (Operation.StoreConditional rd a v) = tt
+stored_apart request t (Operation.Amo op rd a v) = tt
 
 -- what holds of both ways to serve holds of the choice
 pub either_serve : (P : Served → Type 0) (b : Bool) (x y : Served) → P x → P y → P (cond b x y)

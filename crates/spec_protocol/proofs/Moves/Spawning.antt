@@ -6,7 +6,7 @@ use Rattle.dl_entry.specs.declared.Input.{Input}
 use Rattle.dl_entry.specs.declared.Request.{Request}
 use Rattle.spec_isa.specs.declared.thread.Parts.{Parts}
 use Rattle.spec_isa.specs.declared.thread.Kind.{Kind}
-use Rattle.spec_isa.specs.declared.plan.Plan.{Plan}
+use Rattle.spec_isa.specs.declared.operation.Operation.{Operation}
 use Rattle.spec_kernel.specs.Needs.{Need, number_of, a0, a1, a2, cut, need}
 use Rattle.spec_kernel.specs.Answers.{refused, unknown_call, bad_buffer}
 use Rattle.spec_kernel.specs.Calls.{Called, gives, exit, spawned, spawn, set_handler, iret, is_dma_buffer, request_dma, has_ended, called, with_result, returned}
@@ -79,24 +79,24 @@ outside_few : (ts : List Parts) (o : Option Need) (request : Option Request) (t 
 outside_few ts o request t None few = none_few ts few
 outside_few ts o request t (Some r) few = none_few ts few
 
-loaded_few : (ts : List Parts) (request : Option Request) (t : Parts) (p : Plan) (input : Option Input) → length ts ≤ 15 → ServeFew ts (device_loaded request t p input)
-loaded_few ts request t (Plan.Load op rd a) (Some r) few = none_few ts few
-loaded_few ts request t (Plan.Load op rd a) None few = none_few ts few
-loaded_few ts request t (Plan.Go rd value pc) input few = none_few ts few
-loaded_few ts request t (Plan.Stop kind) input few = none_few ts few
-loaded_few ts request t (Plan.Store op a v) input few = none_few ts few
-loaded_few ts request t (Plan.LoadReserved rd a) input few = none_few ts few
-loaded_few ts request t (Plan.StoreConditional rd a v) input few = none_few ts few
-loaded_few ts request t (Plan.Amo op rd a v) input few = none_few ts few
+loaded_few : (ts : List Parts) (request : Option Request) (t : Parts) (p : Operation) (input : Option Input) → length ts ≤ 15 → ServeFew ts (device_loaded request t p input)
+loaded_few ts request t (Operation.Load op rd a) (Some r) few = none_few ts few
+loaded_few ts request t (Operation.Load op rd a) None few = none_few ts few
+loaded_few ts request t (Operation.Go rd value pc) input few = none_few ts few
+loaded_few ts request t (Operation.Stop kind) input few = none_few ts few
+loaded_few ts request t (Operation.Store op a v) input few = none_few ts few
+loaded_few ts request t (Operation.LoadReserved rd a) input few = none_few ts few
+loaded_few ts request t (Operation.StoreConditional rd a v) input few = none_few ts few
+loaded_few ts request t (Operation.Amo op rd a v) input few = none_few ts few
 
-stored_few : (ts : List Parts) (request : Option Request) (t : Parts) (p : Plan) → length ts ≤ 15 → ServeFew ts (device_stored request t p)
-stored_few ts request t (Plan.Load op rd a) few = none_few ts few
-stored_few ts request t (Plan.Go rd value pc) few = none_few ts few
-stored_few ts request t (Plan.Stop kind) few = none_few ts few
-stored_few ts request t (Plan.Store op a v) few = none_few ts few
-stored_few ts request t (Plan.LoadReserved rd a) few = none_few ts few
-stored_few ts request t (Plan.StoreConditional rd a v) few = none_few ts few
-stored_few ts request t (Plan.Amo op rd a v) few = none_few ts few
+stored_few : (ts : List Parts) (request : Option Request) (t : Parts) (p : Operation) → length ts ≤ 15 → ServeFew ts (device_stored request t p)
+stored_few ts request t (Operation.Load op rd a) few = none_few ts few
+stored_few ts request t (Operation.Go rd value pc) few = none_few ts few
+stored_few ts request t (Operation.Stop kind) few = none_few ts few
+stored_few ts request t (Operation.Store op a v) few = none_few ts few
+stored_few ts request t (Operation.LoadReserved rd a) few = none_few ts few
+stored_few ts request t (Operation.StoreConditional rd a v) few = none_few ts few
+stored_few ts request t (Operation.Amo op rd a v) few = none_few ts few
 
 kind_few : (o : Option Kind) (k : ℕ) (ts : List Parts) (request : Option Request) (t : Parts) (m : List ℕ) (input : Option Input) → length ts ≤ 15 → ServeFew ts (serve_kind o k ts request t m input)
 kind_few None k ts request t m input few = none_few ts few

@@ -6,10 +6,10 @@ use Rattle.dl_entry.specs.declared.Request.{Request}
 use Rattle.spec_isa.specs.declared.thread.Parts.{Parts}
 use Rattle.spec_isa.specs.declared.thread.Load.{Load}
 use Rattle.spec_isa.specs.declared.thread.Kind.{Kind}
-use Rattle.spec_isa.specs.declared.plan.Plan.{Plan}
+use Rattle.spec_isa.specs.declared.operation.Operation.{Operation}
 use Rattle.spec_isa.specs.Words.{Stored, lays}
-use Rattle.spec_isa.specs.Planned.{thread_then}
-use Rattle.spec_isa.specs.Instruction.{Outcome, Next, Serial, one, unless, plan_of, next_of}
+use Rattle.spec_isa.specs.Operations.{thread_then}
+use Rattle.spec_isa.specs.Instruction.{Outcome, Next, Serial, one, unless, operation_of, next_of}
 use Rattle.spec_isa.specs.Runs.{Run, followed, run}
 use Rattle.spec_kernel.specs.Needs.{Need, number_of, a0, a1, a2, cut, need}
 use Rattle.spec_kernel.specs.Answers.{refused, unknown_call, bad_buffer}
@@ -19,19 +19,19 @@ use Rattle.spec_protocol.proofs.Moves.Granted.{either_serve}
 
 -- ---- instructions
 
-pub plan_keeps : (p : Plan) (t : Parts) (w : ℕ) → (thread_then p t w).commits ≡ t.commits
-plan_keeps (Plan.Go rd value pc) t w = refl
-plan_keeps (Plan.Stop kind) t w = refl
-plan_keeps (Plan.Load op rd a) t w = refl
-plan_keeps (Plan.Store op a v) t w = refl
-plan_keeps (Plan.LoadReserved rd a) t w = refl
-plan_keeps (Plan.StoreConditional rd a v) t w = refl
-plan_keeps (Plan.Amo op rd a v) t w = refl
+pub operation_keeps : (p : Operation) (t : Parts) (w : ℕ) → (thread_then p t w).commits ≡ t.commits
+operation_keeps (Operation.Go rd value pc) t w = refl
+operation_keeps (Operation.Stop kind) t w = refl
+operation_keeps (Operation.Load op rd a) t w = refl
+operation_keeps (Operation.Store op a v) t w = refl
+operation_keeps (Operation.LoadReserved rd a) t w = refl
+operation_keeps (Operation.StoreConditional rd a v) t w = refl
+operation_keeps (Operation.Amo op rd a v) t w = refl
 
 -- an instruction keeps its thread's number of commits
 pub next_keeps : (t : Parts) (f w : ℕ) → (next_of t f w).commits ≡ t.commits
 unfolding next_of
-next_keeps t f w = plan_keeps (plan_of t f) t w
+next_keeps t f w = operation_keeps (operation_of t f) t w
 
 unless_keeps : (t : Parts) (o : Option Kind) (next u : Parts) (made load : Option Load) (put_ store : Option Stored) → next.commits ≡ t.commits → unless o (Next next made put_) ≡ Next u load store → u.commits ≡ t.commits
 unless_keeps t None next u made load put_ store s e = let h : next ≡ u = cc in ap (λ (p : Parts). p.commits) (sym h) ∙ s
@@ -130,24 +130,24 @@ outside_keeps : (o : Option Need) (request : Option Request) (t : Parts) (input 
 outside_keeps o request t None = record { commits = refl; fresh = tt }
 outside_keeps o request t (Some r) = record { commits = refl; fresh = tt }
 
-loaded_keeps : (request : Option Request) (t : Parts) (p : Plan) (input : Option Input) → ServeKeeps t (device_loaded request t p input)
-loaded_keeps request t (Plan.Load op rd a) (Some r) = record { commits = refl; fresh = tt }
-loaded_keeps request t (Plan.Load op rd a) None = record { commits = refl; fresh = tt }
-loaded_keeps request t (Plan.Go rd value pc) input = record { commits = refl; fresh = tt }
-loaded_keeps request t (Plan.Stop kind) input = record { commits = refl; fresh = tt }
-loaded_keeps request t (Plan.Store op a v) input = record { commits = refl; fresh = tt }
-loaded_keeps request t (Plan.LoadReserved rd a) input = record { commits = refl; fresh = tt }
-loaded_keeps request t (Plan.StoreConditional rd a v) input = record { commits = refl; fresh = tt }
-loaded_keeps request t (Plan.Amo op rd a v) input = record { commits = refl; fresh = tt }
+loaded_keeps : (request : Option Request) (t : Parts) (p : Operation) (input : Option Input) → ServeKeeps t (device_loaded request t p input)
+loaded_keeps request t (Operation.Load op rd a) (Some r) = record { commits = refl; fresh = tt }
+loaded_keeps request t (Operation.Load op rd a) None = record { commits = refl; fresh = tt }
+loaded_keeps request t (Operation.Go rd value pc) input = record { commits = refl; fresh = tt }
+loaded_keeps request t (Operation.Stop kind) input = record { commits = refl; fresh = tt }
+loaded_keeps request t (Operation.Store op a v) input = record { commits = refl; fresh = tt }
+loaded_keeps request t (Operation.LoadReserved rd a) input = record { commits = refl; fresh = tt }
+loaded_keeps request t (Operation.StoreConditional rd a v) input = record { commits = refl; fresh = tt }
+loaded_keeps request t (Operation.Amo op rd a v) input = record { commits = refl; fresh = tt }
 
-stored_keeps : (request : Option Request) (t : Parts) (p : Plan) → ServeKeeps t (device_stored request t p)
-stored_keeps request t (Plan.Load op rd a) = record { commits = refl; fresh = tt }
-stored_keeps request t (Plan.Go rd value pc) = record { commits = refl; fresh = tt }
-stored_keeps request t (Plan.Stop kind) = record { commits = refl; fresh = tt }
-stored_keeps request t (Plan.Store op a v) = record { commits = refl; fresh = tt }
-stored_keeps request t (Plan.LoadReserved rd a) = record { commits = refl; fresh = tt }
-stored_keeps request t (Plan.StoreConditional rd a v) = record { commits = refl; fresh = tt }
-stored_keeps request t (Plan.Amo op rd a v) = record { commits = refl; fresh = tt }
+stored_keeps : (request : Option Request) (t : Parts) (p : Operation) → ServeKeeps t (device_stored request t p)
+stored_keeps request t (Operation.Load op rd a) = record { commits = refl; fresh = tt }
+stored_keeps request t (Operation.Go rd value pc) = record { commits = refl; fresh = tt }
+stored_keeps request t (Operation.Stop kind) = record { commits = refl; fresh = tt }
+stored_keeps request t (Operation.Store op a v) = record { commits = refl; fresh = tt }
+stored_keeps request t (Operation.LoadReserved rd a) = record { commits = refl; fresh = tt }
+stored_keeps request t (Operation.StoreConditional rd a v) = record { commits = refl; fresh = tt }
+stored_keeps request t (Operation.Amo op rd a v) = record { commits = refl; fresh = tt }
 
 inside_keeps : (t : Parts) (c : Called) → CallKeeps t c → ServeKeeps t (inside_called c)
 inside_keeps t c k = record { commits = k.commits; fresh = k.fresh }

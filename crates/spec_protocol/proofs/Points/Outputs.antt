@@ -10,9 +10,9 @@ use Rattle.dl_entry.specs.declared.Output.{Output}
 use Rattle.dl_entry.specs.declared.Request.{Request}
 use Rattle.spec_isa.specs.declared.thread.Parts.{Parts}
 use Rattle.spec_isa.specs.declared.thread.Kind.{Kind}
-use Rattle.spec_isa.specs.declared.plan.Plan.{Plan}
+use Rattle.spec_isa.specs.declared.operation.Operation.{Operation}
 use Rattle.spec_kernel.specs.Devices.{Devices, console_put, pipe_fitting, pipe_put}
-use Rattle.spec_kernel.specs.Needs.{Need, Write, Read, Random, Clock, MomentWord, InputWord, number_of, next_kind, next_plan, need_of_write, need_of_read, need_of_random, need_of_call, need_of_load, need_of, need}
+use Rattle.spec_kernel.specs.Needs.{Need, Write, Read, Random, Clock, MomentWord, InputWord, number_of, next_kind, next_operation, need_of_write, need_of_read, need_of_random, need_of_call, need_of_load, need_of, need}
 use Rattle.spec_kernel.specs.Answers.{refused, Answered, went, write_answer, answer_write, answer_read, answer_random, answer_input, answer, taken}
 use Rattle.spec_kernel.specs.Calls.{Called, called}
 use Rattle.spec_kernel.specs.Serving.{output_of, outside_called, inside_called, is_outside, device_loaded, device_stored, serve_kind, serve, bytes_out, store_told, console_told}
@@ -107,33 +107,33 @@ unfolding answer
 word_console d moment true = refl
 word_console d moment false = refl
 
-load_console : (d : Devices) (moment : ℕ) (plan : Plan) → (taken (need_of_load plan) d moment).devices.console ≡ d.console
-load_console d moment (Plan.Load op rd a) = word_console d moment (nat_eq a 0xF0000000)
-load_console d moment (Plan.Go rd value pc) = refl
-load_console d moment (Plan.Stop kind) = refl
-load_console d moment (Plan.Store op a v) = refl
-load_console d moment (Plan.LoadReserved rd a) = refl
-load_console d moment (Plan.StoreConditional rd a v) = refl
-load_console d moment (Plan.Amo op rd a v) = refl
+load_console : (d : Devices) (moment : ℕ) (operation : Operation) → (taken (need_of_load operation) d moment).devices.console ≡ d.console
+load_console d moment (Operation.Load op rd a) = word_console d moment (nat_eq a 0xF0000000)
+load_console d moment (Operation.Go rd value pc) = refl
+load_console d moment (Operation.Stop kind) = refl
+load_console d moment (Operation.Store op a v) = refl
+load_console d moment (Operation.LoadReserved rd a) = refl
+load_console d moment (Operation.StoreConditional rd a v) = refl
+load_console d moment (Operation.Amo op rd a v) = refl
 
-loaded_none : (request : Option Request) (t : Parts) (plan : Plan) (input : Option Input) → (device_loaded request t plan input).outputs ≡ []
-loaded_none request t (Plan.Load op rd a) (Some r) = refl
-loaded_none request t (Plan.Load op rd a) None = refl
-loaded_none request t (Plan.Go rd value pc) input = refl
-loaded_none request t (Plan.Stop kind) input = refl
-loaded_none request t (Plan.Store op a v) input = refl
-loaded_none request t (Plan.LoadReserved rd a) input = refl
-loaded_none request t (Plan.StoreConditional rd a v) input = refl
-loaded_none request t (Plan.Amo op rd a v) input = refl
+loaded_none : (request : Option Request) (t : Parts) (operation : Operation) (input : Option Input) → (device_loaded request t operation input).outputs ≡ []
+loaded_none request t (Operation.Load op rd a) (Some r) = refl
+loaded_none request t (Operation.Load op rd a) None = refl
+loaded_none request t (Operation.Go rd value pc) input = refl
+loaded_none request t (Operation.Stop kind) input = refl
+loaded_none request t (Operation.Store op a v) input = refl
+loaded_none request t (Operation.LoadReserved rd a) input = refl
+loaded_none request t (Operation.StoreConditional rd a v) input = refl
+loaded_none request t (Operation.Amo op rd a v) input = refl
 
-store_tells : (d : Devices) (request : Option Request) (t : Parts) (plan : Plan) → let os = (device_stored request t plan).outputs in Tells d (console_put (bytes_out os) d) os
-store_tells d request t (Plan.Load op rd a) = refl
-store_tells d request t (Plan.Go rd value pc) = refl
-store_tells d request t (Plan.Stop kind) = refl
-store_tells d request t (Plan.Store op a v) = refl
-store_tells d request t (Plan.LoadReserved rd a) = refl
-store_tells d request t (Plan.StoreConditional rd a v) = refl
-store_tells d request t (Plan.Amo op rd a v) = refl
+store_tells : (d : Devices) (request : Option Request) (t : Parts) (operation : Operation) → let os = (device_stored request t operation).outputs in Tells d (console_put (bytes_out os) d) os
+store_tells d request t (Operation.Load op rd a) = refl
+store_tells d request t (Operation.Go rd value pc) = refl
+store_tells d request t (Operation.Stop kind) = refl
+store_tells d request t (Operation.Store op a v) = refl
+store_tells d request t (Operation.LoadReserved rd a) = refl
+store_tells d request t (Operation.StoreConditional rd a v) = refl
+store_tells d request t (Operation.Amo op rd a v) = refl
 
 -- ---- the step
 
@@ -145,9 +145,9 @@ kind_tells (Some Kind.Call) number ts request t m d moment is =
     call_tells (is_outside t) d request t m (called (length m) number ts request t) (need t m) moment refl (ap (λ (o : Option Kind). need_of o t m) is)
 kind_tells (Some Kind.Break) number ts request t m d moment is = tells_nothing d d [] refl refl
 kind_tells (Some Kind.DeviceLoad) number ts request t m d moment is =
-    let g = taken (need_of_load (next_plan t m)) d moment in
-    tells_nothing d g.devices (device_loaded request t (next_plan t m) g.input).outputs (load_console d moment (next_plan t m)) (loaded_none request t (next_plan t m) g.input)
-kind_tells (Some Kind.DeviceStore) number ts request t m d moment is = store_tells d request t (next_plan t m)
+    let g = taken (need_of_load (next_operation t m)) d moment in
+    tells_nothing d g.devices (device_loaded request t (next_operation t m) g.input).outputs (load_console d moment (next_operation t m)) (loaded_none request t (next_operation t m) g.input)
+kind_tells (Some Kind.DeviceStore) number ts request t m d moment is = store_tells d request t (next_operation t m)
 kind_tells (Some (Kind.Fault cause)) number ts request t m d moment is = tells_nothing d d [] refl refl
 
 -- the console grows in a serial step by what its outputs put out there

@@ -6,9 +6,9 @@ use Rattle.std.proofs.lemmas.Option.{none-some}
 use Rattle.spec_isa.specs.declared.thread.Parts.{Parts}
 use Rattle.spec_isa.specs.declared.thread.Kind.{Kind}
 use Rattle.spec_isa.specs.Words.{Stored, lays, read, put, holds, is_inside}
-use Rattle.spec_isa.specs.Instruction.{plan_of, serial_of, loads_of, next_of, load_of, store_of}
-use Rattle.spec_isa.specs.declared.plan.Plan.{Plan}
-use Rattle.spec_isa.specs.Planned.{refuses, thread_then}
+use Rattle.spec_isa.specs.Instruction.{operation_of, serial_of, loads_of, next_of, load_of, store_of}
+use Rattle.spec_isa.specs.declared.operation.Operation.{Operation}
+use Rattle.spec_isa.specs.Operations.{refuses, thread_then}
 use Rattle.spec_isa.specs.Runs.{with_store}
 use Rattle.spec_isa.specs.Threads.{IsThread}
 use Rattle.spec_isa.proofs.MemoryLaws.{length_lays}
@@ -28,33 +28,33 @@ use Rattle.spec_protocol.proofs.Sound.Threads.{then-thread}
 
 -- ---- the next instruction
 
-not-refused : (t : Parts) (f size : ℕ) → serial_of t f size ≡ None → refuses size (plan_of t f) ≡ None
+not-refused : (t : Parts) (f size : ℕ) → serial_of t f size ≡ None → refuses size (operation_of t f) ≡ None
 unfolding serial_of
 not-refused t f size e =
-    branch (λ (o : Option Kind). o ≡ None → refuses size (plan_of t f) ≡ None) (is_inside size t.pc) (refuses size (plan_of t f)) (Some (Kind.Fault 1))
+    branch (λ (o : Option Kind). o ≡ None → refuses size (operation_of t f) ≡ None) (is_inside size t.pc) (refuses size (operation_of t f)) (Some (Kind.Fault 1))
     (λ _ q. q) (λ _ q. absurd (none-some (Kind.Fault 1) (sym q))) e
 
 next-thread : (t : Parts) (f w size : ℕ) → serial_of t f size ≡ None → IsThread t → IsThread (next_of t f w)
 unfolding next_of
-next-thread t f w size e is = then-thread size (plan_of t f) t w (not-refused t f size e) is
+next-thread t f w size e is = then-thread size (operation_of t f) t w (not-refused t f size e) is
 
 next-store : (t : Parts) (f w size : ℕ) → serial_of t f size ≡ None → (s : Stored) → store_of t f w ≡ Some s → IsSoundWord size s
 unfolding store_of
-next-store t f w size e s is = store-sound size (plan_of t f) t w (not-refused t f size e) s is
+next-store t f w size e s is = store-sound size (operation_of t f) t w (not-refused t f size e) s is
 
 -- it leaves the status
-plan_status : (p : Plan) (t : Parts) (w : ℕ) → (thread_then p t w).status ≡ t.status
-plan_status (Plan.Go rd value pc) t w = refl
-plan_status (Plan.Stop kind) t w = refl
-plan_status (Plan.Load op rd a) t w = refl
-plan_status (Plan.Store op a v) t w = refl
-plan_status (Plan.LoadReserved rd a) t w = refl
-plan_status (Plan.StoreConditional rd a v) t w = refl
-plan_status (Plan.Amo op rd a v) t w = refl
+operation_status : (p : Operation) (t : Parts) (w : ℕ) → (thread_then p t w).status ≡ t.status
+operation_status (Operation.Go rd value pc) t w = refl
+operation_status (Operation.Stop kind) t w = refl
+operation_status (Operation.Load op rd a) t w = refl
+operation_status (Operation.Store op a v) t w = refl
+operation_status (Operation.LoadReserved rd a) t w = refl
+operation_status (Operation.StoreConditional rd a v) t w = refl
+operation_status (Operation.Amo op rd a v) t w = refl
 
 next_status : (t : Parts) (f w : ℕ) → (next_of t f w).status ≡ t.status
 unfolding next_of
-next_status t f w = plan_status (plan_of t f) t w
+next_status t f w = operation_status (operation_of t f) t w
 
 with-words : (size : ℕ) (ws : List Stored) (o : Option Stored) → ((s : Stored) → o ≡ Some s → IsSoundWord size s) → AreSoundWords size ws → AreSoundWords size (with_store ws o)
 with-words size ws None each all = all

@@ -9,11 +9,11 @@ use Rattle.rand_pcg.specs.Lcg.{Lcg}
 use Rattle.rand_pcg.specs.Pcg.{pcg32}
 use Rattle.spec_isa.specs.declared.thread.Parts.{Parts}
 use Rattle.spec_isa.specs.declared.thread.Kind.{Kind}
-use Rattle.spec_isa.specs.declared.plan.Plan.{Plan}
+use Rattle.spec_isa.specs.declared.operation.Operation.{Operation}
 use Rattle.spec_isa.specs.Words.{IsBytes}
 use Rattle.spec_log.specs.Log.{IsInput, AreFewBytes, input_kinds}
 use Rattle.spec_kernel.specs.Devices.{Devices, devices_of, input_taken, console_put, pipe_at, with_pipe, pipe_fitting, pipe_put, pipe_first, pipe_taken, random_bytes}
-use Rattle.spec_kernel.specs.Needs.{Need, Write, Read, Random, Clock, MomentWord, InputWord, a0, a1, a2, cut, number_of, if_inside, need_of_write, need_of_read, need_of_random, need_of_call, need_of_load, need_of, next_kind, next_plan, need}
+use Rattle.spec_kernel.specs.Needs.{Need, Write, Read, Random, Clock, MomentWord, InputWord, a0, a1, a2, cut, number_of, if_inside, need_of_write, need_of_read, need_of_random, need_of_call, need_of_load, need_of, next_kind, next_operation, need}
 use Rattle.spec_kernel.specs.Answers.{went, write_answer, answer_write, read_answer, answer_read, answer_random, first_byte, Answered, answer, Taken, taken, dma_bytes, dma_taken, refused, nothing_now}
 use Rattle.spec_kernel.specs.Serving.{store_told, console_told}
 use Rattle.dl_entry.specs.declared.Output.{Output}
@@ -141,20 +141,20 @@ call-few t m bytes =
     (λ _. if-few (length m) (a0 t) (cut (a1 t)) (Random (a0 t) (cut (a1 t))) (cut-few (a1 t)))
     (λ _. branch IsFewNeed (eqb n 5) (Some Clock) None (λ _. tt) (λ _. tt))))
 
-load-few : (p : Plan) → IsFewNeed (need_of_load p)
-load-few (Plan.Load op rd a) = branch (λ (n : Need). IsFewNeed (Some n)) (eqb a 0xF0000000) MomentWord InputWord (λ _. tt) (λ _. tt)
-load-few (Plan.Go rd value pc) = tt
-load-few (Plan.Stop kind) = tt
-load-few (Plan.Store op a v) = tt
-load-few (Plan.LoadReserved rd a) = tt
-load-few (Plan.StoreConditional rd a v) = tt
-load-few (Plan.Amo op rd a v) = tt
+load-few : (p : Operation) → IsFewNeed (need_of_load p)
+load-few (Operation.Load op rd a) = branch (λ (n : Need). IsFewNeed (Some n)) (eqb a 0xF0000000) MomentWord InputWord (λ _. tt) (λ _. tt)
+load-few (Operation.Go rd value pc) = tt
+load-few (Operation.Stop kind) = tt
+load-few (Operation.Store op a v) = tt
+load-few (Operation.LoadReserved rd a) = tt
+load-few (Operation.StoreConditional rd a v) = tt
+load-few (Operation.Amo op rd a v) = tt
 
 kind-few : (o : Option Kind) (t : Parts) (m : List ℕ) → IsBytes m → IsFewNeed (need_of o t m)
 kind-few None t m bytes = tt
 kind-few (Some Kind.Call) t m bytes = call-few t m bytes
 kind-few (Some Kind.Break) t m bytes = tt
-kind-few (Some Kind.DeviceLoad) t m bytes = load-few (next_plan t m)
+kind-few (Some Kind.DeviceLoad) t m bytes = load-few (next_operation t m)
 kind-few (Some Kind.DeviceStore) t m bytes = tt
 kind-few (Some (Kind.Fault cause)) t m bytes = tt
 

@@ -9,10 +9,10 @@ use Rattle.dl_entry.specs.declared.Input.{Input}
 use Rattle.dl_entry.specs.declared.Request.{Request}
 use Rattle.spec_isa.specs.declared.thread.Parts.{Parts}
 use Rattle.spec_isa.specs.declared.thread.Kind.{Kind}
-use Rattle.spec_isa.specs.declared.plan.Plan.{Plan}
-use Rattle.spec_isa.specs.Planned.{with_register, following, at_pc, refuses, loaded, thread_then, reserves}
+use Rattle.spec_isa.specs.declared.operation.Operation.{Operation}
+use Rattle.spec_isa.specs.Operations.{with_register, following, at_pc, refuses, loaded, thread_then, reserves}
 use Rattle.spec_isa.specs.Threads.{IsThread, started}
-use Rattle.spec_kernel.specs.Needs.{Need, Write, Read, Random, Clock, MomentWord, InputWord, number_of, a0, a1, a2, cut, if_inside, need_of_write, need_of_read, need_of_random, need_of_call, need_of_load, need_of, next_kind, next_plan, need}
+use Rattle.spec_kernel.specs.Needs.{Need, Write, Read, Random, Clock, MomentWord, InputWord, number_of, a0, a1, a2, cut, if_inside, need_of_write, need_of_read, need_of_random, need_of_call, need_of_load, need_of, next_kind, next_operation, need}
 use Rattle.spec_kernel.specs.Answers.{refused, unknown_call, bad_buffer}
 use Rattle.spec_kernel.specs.Interrupts.{interrupted}
 use Rattle.spec_kernel.specs.Calls.{Called, with_result, gives, exit, spawned, spawn, set_handler, returned, iret, is_dma_buffer, request_dma, has_ended, called}
@@ -56,17 +56,17 @@ jump-aligned pc kind e =
     branch (λ (o : Option Kind). o ≡ None → pc % 4 ≡ 0) (eqb (pc % 4) 0) None (Some kind) (λ h _. eqb-true (pc % 4) 0 h) (λ _ q. absurd (none-some kind (sym q))) e
 
 -- what an instruction leaves that is run
-pub then-thread : (size : ℕ) (p : Plan) (t : Parts) (w : ℕ) → refuses size p ≡ None → IsThread t → IsThread (thread_then p t w)
-then-thread size (Plan.Go rd value pc) t w e is = at-thread t rd value pc (jump-aligned pc (Kind.Fault 0) e) is
-then-thread size (Plan.Stop kind) t w e is = is
-then-thread size (Plan.Load op rd a) t w e is = follows-thread t rd (loaded op w a) is
-then-thread size (Plan.Store op a v) t w e is = follows-thread t 0 0 is
-then-thread size (Plan.LoadReserved rd a) t w e is =
+pub then-thread : (size : ℕ) (p : Operation) (t : Parts) (w : ℕ) → refuses size p ≡ None → IsThread t → IsThread (thread_then p t w)
+then-thread size (Operation.Go rd value pc) t w e is = at-thread t rd value pc (jump-aligned pc (Kind.Fault 0) e) is
+then-thread size (Operation.Stop kind) t w e is = is
+then-thread size (Operation.Load op rd a) t w e is = follows-thread t rd (loaded op w a) is
+then-thread size (Operation.Store op a v) t w e is = follows-thread t 0 0 is
+then-thread size (Operation.LoadReserved rd a) t w e is =
     let k = follows-thread t rd w is in record { pc = k.pc; saved_pc = k.saved_pc; handler = k.handler; zero = k.zero; registers = k.registers }
-then-thread size (Plan.StoreConditional rd a v) t w e is =
+then-thread size (Operation.StoreConditional rd a v) t w e is =
     let k = follows-thread t rd (cond (reserves t.reservation a) 0 1) is in
     record { pc = k.pc; saved_pc = k.saved_pc; handler = k.handler; zero = k.zero; registers = k.registers }
-then-thread size (Plan.Amo op rd a v) t w e is = follows-thread t rd w is
+then-thread size (Operation.Amo op rd a v) t w e is = follows-thread t rd w is
 
 -- ---- interrupts
 
@@ -235,21 +235,21 @@ call-room t m =
     (λ _. if-room (length m) (a0 t) (cut (a1 t)) (Random (a0 t) (cut (a1 t))) (λ l. l))
     (λ _. branch (HasRoom (length m)) (eqb n 5) (Some Clock) None (λ _. tt) (λ _. tt))))
 
-load-room : (size : ℕ) (p : Plan) → HasRoom size (need_of_load p)
-load-room size (Plan.Load op rd a) =
+load-room : (size : ℕ) (p : Operation) → HasRoom size (need_of_load p)
+load-room size (Operation.Load op rd a) =
     branch (λ (n : Need). HasRoom size (Some n)) (eqb a 0xF0000000) MomentWord InputWord (λ _. tt) (λ _. tt)
-load-room size (Plan.Go rd value pc) = tt
-load-room size (Plan.Stop kind) = tt
-load-room size (Plan.Store op a v) = tt
-load-room size (Plan.LoadReserved rd a) = tt
-load-room size (Plan.StoreConditional rd a v) = tt
-load-room size (Plan.Amo op rd a v) = tt
+load-room size (Operation.Go rd value pc) = tt
+load-room size (Operation.Stop kind) = tt
+load-room size (Operation.Store op a v) = tt
+load-room size (Operation.LoadReserved rd a) = tt
+load-room size (Operation.StoreConditional rd a v) = tt
+load-room size (Operation.Amo op rd a v) = tt
 
 kind-room : (o : Option Kind) (t : Parts) (m : List ℕ) → HasRoom (length m) (need_of o t m)
 kind-room None t m = tt
 kind-room (Some Kind.Call) t m = call-room t m
 kind-room (Some Kind.Break) t m = tt
-kind-room (Some Kind.DeviceLoad) t m = load-room (length m) (next_plan t m)
+kind-room (Some Kind.DeviceLoad) t m = load-room (length m) (next_operation t m)
 kind-room (Some Kind.DeviceStore) t m = tt
 kind-room (Some (Kind.Fault cause)) t m = tt
 
@@ -301,31 +301,31 @@ outside-sound size o request t (Some r) whole room brings is sound =
 alone-sound : (size : ℕ) (request : Option Request) (t : Parts) → IsThread t → IsSoundIf size request → IsSoundServed size (alone request t)
 alone-sound size request t is sound = record { thread = is; made = tt; request = sound; words = sound-none size }
 
-loaded-sound : (size : ℕ) (request : Option Request) (t : Parts) (p : Plan) (input : Option Input) → IsThread t → IsSoundIf size request → IsSoundServed size (device_loaded request t p input)
-loaded-sound size request t (Plan.Load op rd a) (Some r) is sound =
+loaded-sound : (size : ℕ) (request : Option Request) (t : Parts) (p : Operation) (input : Option Input) → IsThread t → IsSoundIf size request → IsSoundServed size (device_loaded request t p input)
+loaded-sound size request t (Operation.Load op rd a) (Some r) is sound =
     record { thread = follows-thread t rd r.result is; made = tt; request = sound; words = sound-none size }
-loaded-sound size request t (Plan.Load op rd a) None is sound = alone-sound size request t is sound
-loaded-sound size request t (Plan.Go rd value pc) input is sound = alone-sound size request t is sound
-loaded-sound size request t (Plan.Stop kind) input is sound = alone-sound size request t is sound
-loaded-sound size request t (Plan.Store op a v) input is sound = alone-sound size request t is sound
-loaded-sound size request t (Plan.LoadReserved rd a) input is sound = alone-sound size request t is sound
-loaded-sound size request t (Plan.StoreConditional rd a v) input is sound = alone-sound size request t is sound
-loaded-sound size request t (Plan.Amo op rd a v) input is sound = alone-sound size request t is sound
+loaded-sound size request t (Operation.Load op rd a) None is sound = alone-sound size request t is sound
+loaded-sound size request t (Operation.Go rd value pc) input is sound = alone-sound size request t is sound
+loaded-sound size request t (Operation.Stop kind) input is sound = alone-sound size request t is sound
+loaded-sound size request t (Operation.Store op a v) input is sound = alone-sound size request t is sound
+loaded-sound size request t (Operation.LoadReserved rd a) input is sound = alone-sound size request t is sound
+loaded-sound size request t (Operation.StoreConditional rd a v) input is sound = alone-sound size request t is sound
+loaded-sound size request t (Operation.Amo op rd a v) input is sound = alone-sound size request t is sound
 
-told-sound : (size : ℕ) (request : Option Request) (t : Parts) (p : Plan) → IsThread t → IsSoundIf size request → IsSoundServed size (device_stored request t p)
-told-sound size request t (Plan.Store op a v) is sound =
+told-sound : (size : ℕ) (request : Option Request) (t : Parts) (p : Operation) → IsThread t → IsSoundIf size request → IsSoundServed size (device_stored request t p)
+told-sound size request t (Operation.Store op a v) is sound =
     record {
       thread = record { pc = following-aligned t is.pc; saved_pc = is.saved_pc; handler = is.handler; zero = is.zero; registers = is.registers };
       made = tt;
       request = sound;
       words = sound-none size;
     }
-told-sound size request t (Plan.Load op rd a) is sound = alone-sound size request t is sound
-told-sound size request t (Plan.Go rd value pc) is sound = alone-sound size request t is sound
-told-sound size request t (Plan.Stop kind) is sound = alone-sound size request t is sound
-told-sound size request t (Plan.LoadReserved rd a) is sound = alone-sound size request t is sound
-told-sound size request t (Plan.StoreConditional rd a v) is sound = alone-sound size request t is sound
-told-sound size request t (Plan.Amo op rd a v) is sound = alone-sound size request t is sound
+told-sound size request t (Operation.Load op rd a) is sound = alone-sound size request t is sound
+told-sound size request t (Operation.Go rd value pc) is sound = alone-sound size request t is sound
+told-sound size request t (Operation.Stop kind) is sound = alone-sound size request t is sound
+told-sound size request t (Operation.LoadReserved rd a) is sound = alone-sound size request t is sound
+told-sound size request t (Operation.StoreConditional rd a v) is sound = alone-sound size request t is sound
+told-sound size request t (Operation.Amo op rd a v) is sound = alone-sound size request t is sound
 
 fault-sound : (size cause : ℕ) (request : Option Request) (t : Parts) → IsThread t → IsSoundIf size request → IsSoundServed size (alone request (faulted cause t))
 fault-sound size cause request t is sound =
@@ -342,8 +342,8 @@ kind-sound (Some Kind.Call) k ts request t m input whole brings is sound =
     (outside-sound (length m) (need t m) request t input whole (need-room t m) brings is sound)
     (inside-sound (length m) (called (length m) k ts request t) (called-sound (length m) k ts request t is sound))
 kind-sound (Some Kind.Break) k ts request t m input whole brings is sound = fault-sound (length m) 3 request t is sound
-kind-sound (Some Kind.DeviceLoad) k ts request t m input whole brings is sound = loaded-sound (length m) request t (next_plan t m) input is sound
-kind-sound (Some Kind.DeviceStore) k ts request t m input whole brings is sound = told-sound (length m) request t (next_plan t m) is sound
+kind-sound (Some Kind.DeviceLoad) k ts request t m input whole brings is sound = loaded-sound (length m) request t (next_operation t m) input is sound
+kind-sound (Some Kind.DeviceStore) k ts request t m input whole brings is sound = told-sound (length m) request t (next_operation t m) is sound
 kind-sound (Some (Kind.Fault cause)) k ts request t m input whole brings is sound = fault-sound (length m) cause request t is sound
 
 -- a serial step leaves sound threads, words and requests

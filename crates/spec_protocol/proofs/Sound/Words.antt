@@ -9,10 +9,10 @@ use Rattle.std.proofs.lemmas.Option.{none-some}
 use Rattle.dl_entry.specs.declared.Request.{Request}
 use Rattle.spec_isa.specs.declared.thread.Parts.{Parts}
 use Rattle.spec_isa.specs.declared.thread.Kind.{Kind}
-use Rattle.spec_isa.specs.declared.plan.Plan.{Plan}
+use Rattle.spec_isa.specs.declared.operation.Operation.{Operation}
 use Rattle.spec_isa.specs.Masks.{some_if}
 use Rattle.spec_isa.specs.Words.{Stored, with_byte, lay, merged, later, put, holds, is_inside, IsBytes}
-use Rattle.spec_isa.specs.Planned.{stored, refusal, refuses, store_size, is_device_store, store_then, reserves}
+use Rattle.spec_isa.specs.Operations.{stored, refusal, refuses, store_size, is_device_store, store_then, reserves}
 use Rattle.spec_isa.specs.Arithmetic.{amo_result}
 use Rattle.spec_kernel.specs.Copies.{bytes_put, copied, dma_words}
 use Rattle.spec_engine.specs.Flights.{AreInside}
@@ -122,18 +122,18 @@ some-sound : (size : ℕ) (r : Stored) → IsSoundWord size r → StoresSound si
 some-sound size r h s e = subst (IsSoundWord size) (let q : r ≡ s = cc in q) h
 
 -- what an instruction stores that is run
-pub store-sound : (size : ℕ) (p : Plan) (t : Parts) (w : ℕ) → refuses size p ≡ None → (s : Stored) → store_then p t w ≡ Some s → IsSoundWord size s
-store-sound size (Plan.Go rd value pc) t w e s is = absurd (none-some s is)
-store-sound size (Plan.Stop kind) t w e s is = absurd (none-some s is)
-store-sound size (Plan.Load op rd a) t w e s is = absurd (none-some s is)
-store-sound size (Plan.Store op a v) t w e s is =
+pub store-sound : (size : ℕ) (p : Operation) (t : Parts) (w : ℕ) → refuses size p ≡ None → (s : Stored) → store_then p t w ≡ Some s → IsSoundWord size s
+store-sound size (Operation.Go rd value pc) t w e s is = absurd (none-some s is)
+store-sound size (Operation.Stop kind) t w e s is = absurd (none-some s is)
+store-sound size (Operation.Load op rd a) t w e s is = absurd (none-some s is)
+store-sound size (Operation.Store op a v) t w e s is =
     some-sound size (stored (store_size op) a v) (stored-sound size (store_size op) a v (allowed-inside size (store_size op) a (is_device_store op a) Kind.DeviceStore (Kind.Fault 6) (Kind.Fault 7) e)) s is
-store-sound size (Plan.LoadReserved rd a) t w e s is = absurd (none-some s is)
-store-sound size (Plan.StoreConditional rd a v) t w e s is =
+store-sound size (Operation.LoadReserved rd a) t w e s is = absurd (none-some s is)
+store-sound size (Operation.StoreConditional rd a v) t w e s is =
     branch (StoresSound size) (reserves t.reservation a) (Some (stored 4 a v)) None
     (λ _. some-sound size (stored 4 a v) (stored-sound size 4 a v (allowed-inside size 4 a false Kind.DeviceStore (Kind.Fault 6) (Kind.Fault 7) e)))
     (λ _ r q. absurd (none-some r q)) s is
-store-sound size (Plan.Amo op rd a v) t w e s is =
+store-sound size (Operation.Amo op rd a v) t w e s is =
     some-sound size (stored 4 a (amo_result op w v)) (stored-sound size 4 a (amo_result op w v) (allowed-inside size 4 a false Kind.DeviceStore (Kind.Fault 6) (Kind.Fault 7) e)) s is
 
 -- ---- copies

@@ -1,4 +1,4 @@
--- Each kind of plan changes the view by its load and its store.
+-- Each kind of operation changes the view by its load and its store.
 use Rattle.std.proofs.Common.{refl}
 use Rattle.dl_thread.proofs.instruction.perform.Goals as goal
 

@@ -1,11 +1,11 @@
-//! What an instruction is to do, once its registers are read.
+//! The operation of an instruction: what it is to do, once its registers are read.
 use crate::field::Reg;
 use crate::instr::{AmoOp, LoadOp, StoreOp};
 use crate::thread::Kind;
 
 /// What is to be done: the only step left that looks at memory.
 #[derive(Clone, Copy, Debug, PartialEq, Eq)]
-pub enum Plan {
+pub enum Operation {
     /// `rd` takes the value, and the thread goes on at `pc`.
     Go {
         rd: Reg,

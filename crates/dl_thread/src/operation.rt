@@ -1,32 +1,32 @@
-//! What an instruction is to do, by the registers alone.
+//! The operation of an instruction, by the registers alone.
 ghost use Rattle.std.specs.Prelude.{◌≡◌};
 ghost use Rattle.spec_isa.specs.Arithmetic.{add, extended};
-ghost use Rattle.spec_isa.specs.Instruction.{plan_of};
-ghost use Rattle.spec_isa.specs.Planned.{branched, plan, register};
+ghost use Rattle.spec_isa.specs.Instruction.{operation_of};
+ghost use Rattle.spec_isa.specs.Operations.{branched, operation, register};
 
 use crate::arithmetic::{computed, extend, immediate, is_taken, shifted};
 use crate::state::Thread;
 use dl_isa::decode;
 use spec_isa::field::{Imm12, Imm20, Reg};
 use spec_isa::instr::Instr;
-use spec_isa::plan::Plan;
+use spec_isa::operation::Operation;
 use spec_isa::thread::Kind;
 
 // What a fetched word is to do; one outside the table is illegal.
 #[inline(always)]
-pub(crate) fn plan_word(word: u32, t: &Thread) -> Plan
-    ensures { result ≡ plan_of t.now word }
+pub(crate) fn operation_of_word(word: u32, t: &Thread) -> Operation
+    ensures { result ≡ operation_of t.now word }
 {
     match decode(word) {
-        Some(instr) => planned(instr, t),
-        None => Plan::Stop(Kind::Fault(2)),
+        Some(instr) => operation_of_instr(instr, t),
+        None => Operation::Stop(Kind::Fault(2)),
     }
 }
 
 // What an instruction is to do.
 #[inline(always)]
-fn planned(instr: Instr, t: &Thread) -> Plan
-    ensures { result ≡ plan instr t.now }
+fn operation_of_instr(instr: Instr, t: &Thread) -> Operation
+    ensures { result ≡ operation instr t.now }
 {
     match instr {
         Instr::Lui { rd, imm } => onward(t, rd, imm.bits() << 12),
@@ -48,7 +48,7 @@ fn planned(instr: Instr, t: &Thread) -> Plan
             rd,
             rs1,
             offset,
-        } => Plan::Load {
+        } => Operation::Load {
             op,
             rd,
             addr: address(t, rs1, offset),
@@ -59,7 +59,7 @@ fn planned(instr: Instr, t: &Thread) -> Plan
             rs2,
             offset,
         } => {
-            Plan::Store {
+            Operation::Store {
                 op,
                 addr: address(t, rs1, offset),
                 value: t.register(rs2),
@@ -82,14 +82,14 @@ fn planned(instr: Instr, t: &Thread) -> Plan
             computed(op, t.register(rs1), t.register(rs2)),
         ),
         Instr::Fence { .. } | Instr::FenceI { .. } => onward(t, Reg::new(0), 0),
-        Instr::Ecall => Plan::Stop(Kind::Call),
-        Instr::Ebreak => Plan::Stop(Kind::Break),
-        Instr::LoadReserved { rd, rs1, .. } => Plan::LoadReserved {
+        Instr::Ecall => Operation::Stop(Kind::Call),
+        Instr::Ebreak => Operation::Stop(Kind::Break),
+        Instr::LoadReserved { rd, rs1, .. } => Operation::LoadReserved {
             rd,
             addr: t.register(rs1),
         },
         Instr::StoreConditional { rd, rs1, rs2, .. } => {
-            Plan::StoreConditional {
+            Operation::StoreConditional {
                 rd,
                 addr: t.register(rs1),
                 value: t.register(rs2),
@@ -101,7 +101,7 @@ fn planned(instr: Instr, t: &Thread) -> Plan
             rs1,
             rs2,
             ..
-        } => Plan::Amo {
+        } => Operation::Amo {
             op,
             rd,
             addr: t.register(rs1),
@@ -111,10 +111,10 @@ fn planned(instr: Instr, t: &Thread) -> Plan
 }
 
 // A value for a register, and the next instruction.
-fn onward(t: &Thread, rd: Reg, value: u32) -> Plan
-    ensures { result ≡ Plan.Go rd value (add t.now.pc 4) }
+fn onward(t: &Thread, rd: Reg, value: u32) -> Operation
+    ensures { result ≡ Operation.Go rd value (add t.now.pc 4) }
 {
-    Plan::Go {
+    Operation::Go {
         rd,
         value,
         pc: t.following(),
@@ -122,10 +122,10 @@ fn onward(t: &Thread, rd: Reg, value: u32) -> Plan
 }
 
 // A jump, which keeps the place that follows it.
-fn jump(t: &Thread, rd: Reg, pc: u32) -> Plan
-    ensures { result ≡ Plan.Go rd (add t.now.pc 4) pc }
+fn jump(t: &Thread, rd: Reg, pc: u32) -> Operation
+    ensures { result ≡ Operation.Go rd (add t.now.pc 4) pc }
 {
-    Plan::Go {
+    Operation::Go {
         rd,
         value: t.following(),
         pc,
@@ -133,7 +133,7 @@ fn jump(t: &Thread, rd: Reg, pc: u32) -> Plan
 }
 
 // A branch; its offset leaves out its lowest bit.
-fn branch(t: &Thread, taken: bool, offset: Imm12) -> Plan
+fn branch(t: &Thread, taken: bool, offset: Imm12) -> Operation
     ensures { result ≡ branched t.now taken offset }
 {
     let pc = if taken {
@@ -141,7 +141,7 @@ fn branch(t: &Thread, taken: bool, offset: Imm12) -> Plan
     } else {
         t.following()
     };
-    Plan::Go {
+    Operation::Go {
         rd: Reg::new(0),
         value: 0,
         pc,
