@@ -11,7 +11,7 @@ use Rattle.spec_play.specs.Turns.{Now, Turn, TurnOfDma, Over}
 use Rattle.spec_engine.specs.declared.answers.How.{How}
 use Rattle.spec_engine.specs.Chunks.{Chunk, is_serial}
 use Rattle.spec_engine.specs.Flights.{at}
-use Rattle.spec_protocol.specs.Spheres.{Book, Role, Plain, Record, Replay, Sphere, actor_of, head_in, head_of, is_over, is_stopped, limit_in, limit_of, whole_limit}
+use Rattle.spec_protocol.specs.Spheres.{Cursor, Role, Plain, Record, Replay, Sphere, actor_of, head_in, head_of, is_over, is_stopped, limit_in, limit_of, whole_limit}
 use Rattle.spec_protocol.specs.Placing.{replays}
 use Rattle.spec_protocol.specs.Asking.{asks_serial, is_short, other_turn}
 use Rattle.spec_protocol.specs.Commits.{is_piece}
@@ -91,7 +91,7 @@ within_limit capacity ch How.Serial closes is = let l = closes.early How.Serial 
 within_limit capacity ch How.Overflow closes is = let l = closes.early How.Overflow is (λ (e : How.Overflow ≡ How.Limit). cc) in omega arith
 within_limit capacity ch How.Cut closes is = let l = closes.early How.Cut is (λ (e : How.Cut ≡ How.Limit). cc) in omega arith
 
-replayed_limit : (b : Book) (s k : ℕ) (t : Parts) → limit_of s (Replay b) k t ≡ limit_in (Replay b) 0 k t.commits
+replayed_limit : (b : Cursor) (s k : ℕ) (t : Parts) → limit_of s (Replay b) k t ≡ limit_in (Replay b) 0 k t.commits
 unfolding limit_of
 replayed_limit b s k t = refl
 
@@ -107,7 +107,7 @@ serial_some zero zero e = absurd (true≢false e)
 serial_some zero (suc total) e = omega arith
 serial_some (suc n) total e = omega arith
 
-some_in_all : (b : Book) (capacity : ℕ) (how : How) (ch : Chunk) → Closes capacity ch → 0 < capacity → ch.closed ≡ Some how → asks_serial ch (Replay b) ≡ false → 1 ≤ b.total + ch.done.n
+some_in_all : (b : Cursor) (capacity : ℕ) (how : How) (ch : Chunk) → Closes capacity ch → 0 < capacity → ch.closed ≡ Some how → asks_serial ch (Replay b) ≡ false → 1 ≤ b.total + ch.done.n
 some_in_all b capacity How.Limit ch closes some is whole = let f = closes.full is in let p = closes.positive in omega arith
 some_in_all b capacity How.Serial ch closes some is whole =
     serial_some ch.done.n b.total (subst (λ (o : Option How). (nat_eq ch.done.n 0 && is_serial o) && not (nat_lt 0 b.total) ≡ false) is whole)

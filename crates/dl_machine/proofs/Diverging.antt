@@ -5,7 +5,7 @@ use Rattle.spec_isa.specs.declared.thread.Parts.{Parts}
 use Rattle.spec_kernel.specs.Devices.{Devices}
 use Rattle.spec_play.specs.Verdicts.{Verdict, Goes, Fails, serial_verdict}
 use Rattle.spec_play.specs.Transfers.{DmaVerdict, DmaGoes, DmaFails, dma_verdict}
-use Rattle.spec_protocol.specs.Spheres.{Book, Role, Plain, Record, Replay, Sphere}
+use Rattle.spec_protocol.specs.Spheres.{Cursor, Role, Plain, Record, Replay, Sphere}
 use Rattle.spec_protocol.specs.Commits.{CommitOutcome, Granted, Piece, Diverged, Moved, by_verdict, serial_in, serial_moved, dma_by_verdict, live_dma, dma_in, dma_moved}
 
 -- a divergence touches no device
@@ -14,7 +14,7 @@ IsApart d v Granted = Unit {0}
 IsApart d v Piece = Unit {0}
 IsApart d v (Diverged i why) = v.devices ≡ d
 
-verdict_apart : (b : Book) (k : ℕ) (x : Verdict) (d : Devices) (p : Sphere) → let v = by_verdict b k x d p in IsApart d v v.outcome
+verdict_apart : (b : Cursor) (k : ℕ) (x : Verdict) (d : Devices) (p : Sphere) → let v = by_verdict b k x d p in IsApart d v v.outcome
 verdict_apart b k (Fails why) d p = refl
 verdict_apart b k (Goes e u) d p = tt
 
@@ -35,7 +35,7 @@ live_apart : (role : Role) (d : Devices) (p : Sphere) (o : Option Request) → A
 live_apart role d p None = tt
 live_apart role d p (Some request) = tt
 
-dma_verdict_apart : (b : Book) (x : DmaVerdict) (d : Devices) (p : Sphere) → let v = dma_by_verdict b x d p in IsApart d v v.outcome
+dma_verdict_apart : (b : Cursor) (x : DmaVerdict) (d : Devices) (p : Sphere) → let v = dma_by_verdict b x d p in IsApart d v v.outcome
 dma_verdict_apart b (DmaFails why) d p = refl
 dma_verdict_apart b (DmaGoes words) d p = tt
 

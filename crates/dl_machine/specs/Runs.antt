@@ -6,7 +6,7 @@ use Rattle.spec_log.specs.declared.LogParts.{LogParts}
 use Rattle.spec_play.specs.Progress.{position}
 use Rattle.spec_play.specs.Plays.{opened, play, plays}
 use Rattle.spec_protocol.specs.declared.event.Event.{Event}
-use Rattle.spec_protocol.specs.Spheres.{Book, Record, Replay, Sphere, is_over}
+use Rattle.spec_protocol.specs.Spheres.{Cursor, Record, Replay, Sphere, is_over}
 use Rattle.spec_protocol.specs.Placing.{replays}
 use Rattle.spec_protocol.specs.World.{World}
 use Rattle.spec_protocol.specs.Machine.{IsRecorded, IsReplayed, Setup, SphereSetup}
@@ -40,4 +40,4 @@ pub record IsNow (s : Setup) (i : ℕ) (w : World) (image : SphereSetup) (p : Sp
 pub record IsPromised (s : Setup) (i : ℕ) (w : World) : Type 0 where
   pub recorded : (image : SphereSetup) (mode : ModeName) (p : Sphere) (log : LogParts) → IsNow s i w image p → image.role ≡ IsRecorded mode → p.role ≡ Record log → PlaysBack log image p
   pub replayed : (image : SphereSetup) (log : LogParts) (p : Sphere) → IsNow s i w image p → image.role ≡ IsReplayed log → Follows log (plays log (opened log image.memory image.entry) (position p.progress)) p
-  pub stopped : (image : SphereSetup) (log : LogParts) (p : Sphere) (b : Book) → IsNow s i w image p → image.role ≡ IsReplayed log → p.role ≡ Replay b → is_over b.now ≡ true → IsPlayed (play log image.memory image.entry) p b
+  pub stopped : (image : SphereSetup) (log : LogParts) (p : Sphere) (b : Cursor) → IsNow s i w image p → image.role ≡ IsReplayed log → p.role ≡ Replay b → is_over b.now ≡ true → IsPlayed (play log image.memory image.entry) p b

@@ -15,7 +15,7 @@ use Rattle.spec_log.specs.Log.{IsLog, IsSizes, IsShortSize}
 use Rattle.spec_log.specs.Size.{is_thread, sizes_of_thread, thread_size}
 use Rattle.spec_play.specs.Turns.{Turn}
 use Rattle.spec_protocol.specs.Spheres.{Replay, limit_in, limit_of, whole_limit, pieces_of}
-use Rattle.dl_replay.specs.Replaying.{Replaying, book_of, commits_at, commits_of}
+use Rattle.dl_replay.specs.Replaying.{Replaying, commits_at, commits_of, cursor_of}
 use Rattle.dl_replay.proofs.Counts.{commits-found}
 
 first-few : (s x z : ℕ) (xs : List ℕ) (i : ℕ) → x ≤ s → ((j : ℕ) → slice_get xs j ≡ Some z → z ≤ s) → slice_get (x ∷ xs) i ≡ Some z → z ≤ s
@@ -68,14 +68,14 @@ limit-few log k i is =
     )
 
 -- the pieces of a commit have fewer
-pub pieces-fit : (r : Replaying) (k i n : ℕ) → IsLog r.log → r.now ≡ Turn k → 1 ≤ n → n < limit_in (Replay (book_of r [])) 0 k i → r.total + n < 2 ^ 32
+pub pieces-fit : (r : Replaying) (k i n : ℕ) → IsLog r.log → r.now ≡ Turn k → 1 ≤ n → n < limit_in (Replay (cursor_of r [])) 0 k i → r.total + n < 2 ^ 32
 pieces-fit r k i n is e one few =
     let own : pieces_of r.now k r.total ≡ r.total = rw (e, eq-eqb k k refl) refl in
     omega (arith, limit-few r.log k i is, own, few)
 
 pub limit-is : (r : Replaying) (s k : ℕ) (loads : List Load) (ts : List Parts) (t : Parts) (commits whole pieces rest limit : ℕ) → commits ≡ slice_index r.commits k
     → whole ≡ whole_limit r.log k commits → pieces ≡ pieces_of r.now k r.total → rest ≡ whole - pieces → limit ≡ max rest 1
-    → length ts ≤ 15 → r.commits ≡ commits_of ts → slice_get ts k ≡ Some t → limit ≡ limit_of s (Replay (book_of r loads)) k t
+    → length ts ≤ 15 → r.commits ≡ commits_of ts → slice_get ts k ≡ Some t → limit ≡ limit_of s (Replay (cursor_of r loads)) k t
 unfolding limit_of
 limit-is r s k loads ts t commits whole pieces rest limit c w p d m few e is =
     let own : commits ≡ t.commits = c ∙ ap (λ (xs : List ℕ). slice_index xs k) e ∙ commits-found ts k few ∙ ap commits_at is in

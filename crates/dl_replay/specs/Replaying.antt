@@ -9,7 +9,7 @@ use Rattle.spec_log.specs.declared.LogParts.{LogParts}
 use Rattle.spec_kernel.specs.Interrupts.{is_live}
 use Rattle.spec_play.specs.Progress.{Progress, no_progress, position, Used, nothing_used}
 use Rattle.spec_play.specs.Turns.{Now, Turn, TurnOfDma, Over, now_at}
-use Rattle.spec_protocol.specs.Spheres.{Book}
+use Rattle.spec_protocol.specs.Spheres.{Cursor}
 
 pub record Replaying : Type 0 where
   pub log : LogParts
@@ -35,9 +35,9 @@ abbrev pub lives : Option Parts → Bool
 lives None = false
 lives (Some t) = is_live t
 
--- the book of the replayed sphere, with the loads of the pieces
-abbrev pub book_of : Replaying → List Load → Book
-book_of r loads = record { log = r.log; used = r.used; now = r.now; total = r.total; loads = loads }
+-- the cursor of the replayed sphere, with the loads of the pieces
+abbrev pub cursor_of : Replaying → List Load → Cursor
+cursor_of r loads = record { log = r.log; used = r.used; now = r.now; total = r.total; loads = loads }
 
 -- the sphere has come as far
 pub record Agrees (r : Replaying) (p : Progress) : Type 0 where

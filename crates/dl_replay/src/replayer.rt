@@ -12,7 +12,7 @@ ghost use Rattle.spec_protocol.specs.Spheres.{Replay, actor_of, limit_in, limit_
 ghost use Rattle.spec_protocol.proofs.Moves.Threads.{AreNew};
 ghost use Rattle.dl_kernel.specs.Calls.{made_list};
 ghost use Rattle.dl_replay.specs.Seen.{used_seen};
-ghost use Rattle.dl_replay.specs.Replaying.{Agrees, IsTurnOf, begun, book_of, commits_of, end_of};
+ghost use Rattle.dl_replay.specs.Replaying.{Agrees, IsTurnOf, begun, commits_of, cursor_of, end_of};
 ghost use Rattle.dl_replay.specs.Kept.{advanced};
 ghost use Rattle.dl_replay.specs.Judging.{transfer_verdict};
 ghost use Rattle.dl_replay.specs.Left.{SaysSize, nothing_served, served_left, served_stored, verdict_left, verdict_stored};
@@ -103,10 +103,10 @@ impl<M: Mode> Replayer<M> {
     /// the pieces before it, and 1 at least.
     pub fn limit(&self, thread: u8) -> u32
         ensures value { (s : ℕ) (loads : List Load) →
-            result ≡ limit_in (Replay (book_of self.now loads)) s thread (slice_index self.now.commits thread) }
+            result ≡ limit_in (Replay (cursor_of self.now loads)) s thread (slice_index self.now.commits thread) }
         ensures of_thread { (s : ℕ) (loads : List Load) (threads : List Parts) (t : Parts) →
             length threads ≤ 15 → self.now.commits ≡ commits_of threads → slice_get threads thread ≡ Some t →
-            result ≡ limit_of s (Replay (book_of self.now loads)) thread t }
+            result ≡ limit_of s (Replay (cursor_of self.now loads)) thread t }
     {
         let whole = self.log.limit(thread, self.commits_of(thread));
         whole.saturating_sub(self.pieces_of(thread)).max(1)
@@ -135,7 +135,7 @@ impl<M: Mode> Replayer<M> {
     pub fn accept_piece(&mut self, thread: u8, n: u32)
         requires turn { self.old.now ≡ Turn thread }
         requires some { 1 ≤ n }
-        requires few { n < limit_in (Replay (book_of self.old [])) 0 thread (slice_index self.old.commits thread) }
+        requires few { n < limit_in (Replay (cursor_of self.old [])) 0 thread (slice_index self.old.commits thread) }
         ensures { self.new ≡ record self.old { total = self.old.total + n } }
     {
         self.total += n;

@@ -15,7 +15,7 @@ use Rattle.spec_kernel.specs.Devices.{Devices}
 use Rattle.spec_play.specs.Progress.{position}
 use Rattle.spec_play.specs.Turns.{Now, Turn, TurnOfDma, Over}
 use Rattle.spec_protocol.specs.declared.event.Event.{Event}
-use Rattle.spec_protocol.specs.Spheres.{Role, Plain, Record, Replay, Book, is_over}
+use Rattle.spec_protocol.specs.Spheres.{Role, Plain, Record, Replay, Cursor, is_over}
 use Rattle.spec_protocol.specs.Placing.{replays}
 use Rattle.spec_protocol.specs.World.{World, sphere_at}
 use Rattle.spec_protocol.specs.Machine.{RoleSetup, IsPlain, IsRecorded, IsReplayed, SphereSetup, Setup, world_of, world_after}
@@ -93,7 +93,7 @@ few_commits es r i over inside live =
 
 -- ---- ends
 
-end_now : (b : Book) (now : Now) (how : End) → end_in (Replay (record b { now = now })) ≡ Some how → how ≡ end_of now
+end_now : (b : Cursor) (now : Now) (how : End) → end_in (Replay (record b { now = now })) ≡ Some how → how ≡ end_of now
 end_now b (Turn k) how e = absurd (none-some how e)
 end_now b TurnOfDma how e = absurd (none-some how e)
 end_now b (Over x) how e = cc
@@ -103,7 +103,7 @@ end-some Plain n how e = absurd (none-some how e)
 end-some (Record log) n how e = absurd (none-some how e)
 end-some (Replay b) n how e = end_now b b.now how e
 
-none_now : (b : Book) (now : Now) → is_over now ≡ true → end_in (Replay (record b { now = now })) ≡ None → ⊥
+none_now : (b : Cursor) (now : Now) → is_over now ≡ true → end_in (Replay (record b { now = now })) ≡ None → ⊥
 none_now b (Turn k) end e = true≢false (sym end)
 none_now b TurnOfDma end e = true≢false (sym end)
 none_now b (Over x) end e = none-some x (sym e)

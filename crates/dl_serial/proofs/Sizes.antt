@@ -15,7 +15,7 @@ use Rattle.spec_play.specs.Progress.{Progress, Used}
 use Rattle.spec_play.specs.Turns.{Now, Turn, TurnOfDma, Over}
 use Rattle.spec_play.specs.Verdicts.{Fails, unless, ended, chunk_why, chunk_verdict, serial_verdict}
 use Rattle.spec_play.specs.Plays.{Played, size_or_standard, thread_verdict}
-use Rattle.spec_protocol.specs.Spheres.{Book, Replay, whole_limit, pieces_of, limit_of}
+use Rattle.spec_protocol.specs.Spheres.{Cursor, Replay, whole_limit, pieces_of, limit_of}
 use Rattle.spec_protocol.proofs.Moves.Threads.{run-keeps}
 use Rattle.spec_protocol.proofs.PlayingBack.Verdicts.{run-first}
 
@@ -34,7 +34,7 @@ max_of : (w : ℕ) → 0 < w → max 1 (w - 0) ≡ w
 max_of w l = omega arith
 
 -- where no piece stands, it is that of the whole commit
-pub whole-is : (s : ℕ) (b : Book) (k : ℕ) (t : Parts) → b.total ≡ 0 → 0 < whole_limit b.log k t.commits → limit_of s (Replay b) k t ≡ whole_limit b.log k t.commits
+pub whole-is : (s : ℕ) (b : Cursor) (k : ℕ) (t : Parts) → b.total ≡ 0 → 0 < whole_limit b.log k t.commits → limit_of s (Replay b) k t ≡ whole_limit b.log k t.commits
 unfolding limit_of
 whole-is s b k t none some =
     ap (λ (n : ℕ). max 1 (whole_limit b.log k t.commits - n)) (ap (pieces_of b.now k) none ∙ no_pieces b.now k) ∙ max_of (whole_limit b.log k t.commits) some

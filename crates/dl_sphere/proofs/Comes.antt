@@ -19,7 +19,7 @@ use Rattle.spec_protocol.specs.Commits as commits
 use Rattle.spec_protocol.specs.Commits.{Moved, by_verdict, dma_by_verdict}
 use Rattle.spec_protocol.specs.Spheres.{Replay, Role}
 use Rattle.spec_protocol.proofs.Logs.Growing.{pushed_length}
-use Rattle.dl_replay.specs.Replaying.{Replaying, book_of, commits_of}
+use Rattle.dl_replay.specs.Replaying.{Replaying, commits_of, cursor_of}
 use Rattle.dl_sphere.specs.Inside.{sphere_with}
 use Rattle.dl_sphere.specs.Judging.{Judged, Before, judged_by, dma_judged_by}
 use Rattle.dl_sphere.specs.Roles as roles
@@ -44,14 +44,14 @@ pub granted : (m : List ℕ) (ts : List Parts) (cs : List Commit) (last : Option
     → ((e : Effect) (u : Used) → v ≡ Goes e u → e.words ≡ ws)
     → record { why = None; replay = new; loads = ls; threads = us; request = q; commits = ds; words = [] }
     ≡ record (judged_by (progress_of cs last rq) k (record { replay = r; loads = loads; threads = ts; request = rq; commits = cs }) v) { words = [] }
-    → record { outcome = commits.Granted; sphere = sphere_with m us ds (Some k) q (Replay (book_of new ls)); words = ws; devices = d }
-    ≡ by_verdict (book_of r loads) k v d (sphere_with m ts cs last rq (Replay (book_of r loads)))
+    → record { outcome = commits.Granted; sphere = sphere_with m us ds (Some k) q (Replay (cursor_of new ls)); words = ws; devices = d }
+    ≡ by_verdict (cursor_of r loads) k v d (sphere_with m ts cs last rq (Replay (cursor_of r loads)))
 unfolding went
 granted m ts cs last rq r loads k (Fails why) d new ls us q ds ws words is = absurd (true≢false (ap (λ (j : Judged). went j.why) is))
 granted m ts cs last rq r loads k (Goes e u) d new ls us q ds ws words is =
     λ i. record {
       outcome = commits.Granted;
-      sphere = sphere_with m (is i).threads (is i).commits (Some k) (is i).request (Replay (book_of (is i).replay (is i).loads));
+      sphere = sphere_with m (is i).threads (is i).commits (Some k) (is i).request (Replay (cursor_of (is i).replay (is i).loads));
       words = sym (words e u refl) i;
       devices = d;
     }
@@ -61,21 +61,21 @@ pub left : (m : List ℕ) (ts : List Parts) (cs : List Commit) (last : Option �
     → length cs ≡ r.done
     → record { why = Some why; replay = new; loads = ls; threads = us; request = q; commits = ds; words = [] }
     ≡ record (judged_by (progress_of cs last rq) k (record { replay = r; loads = loads; threads = ts; request = rq; commits = cs }) v) { words = [] }
-    → record { outcome = commits.Diverged (length ds) why; sphere = sphere_with m us ds last q (Replay (book_of new ls)); words = []; devices = d }
-    ≡ by_verdict (book_of r loads) k v d (sphere_with m ts cs last rq (Replay (book_of r loads)))
+    → record { outcome = commits.Diverged (length ds) why; sphere = sphere_with m us ds last q (Replay (cursor_of new ls)); words = []; devices = d }
+    ≡ by_verdict (cursor_of r loads) k v d (sphere_with m ts cs last rq (Replay (cursor_of r loads)))
 unfolding went why_in
 left m ts cs last rq r loads k (Goes e u) d why new ls us q ds done is = absurd (true≢false (sym (ap (λ (j : Judged). went j.why) is)))
 left m ts cs last rq r loads k (Fails because) d why new ls us q ds done is =
     let same : why ≡ because = ap (λ (j : Judged). why_in why j.why) is in
     (λ i. record {
       outcome = commits.Diverged (length (is i).commits) (same i);
-      sphere = sphere_with m (is i).threads (is i).commits last (is i).request (Replay (book_of (is i).replay (is i).loads));
+      sphere = sphere_with m (is i).threads (is i).commits last (is i).request (Replay (cursor_of (is i).replay (is i).loads));
       words = [];
       devices = d;
     })
     ∙ ap (λ n. record {
       outcome = commits.Diverged (length cs) because;
-      sphere = sphere_with m ts cs last rq (Replay (record (book_of r loads) { now = Over (End.Diverged n because) }));
+      sphere = sphere_with m ts cs last rq (Replay (record (cursor_of r loads) { now = Over (End.Diverged n because) }));
       words = [];
       devices = d;
     }) (sym done)
@@ -151,14 +151,14 @@ pub dma_granted : (m : List ℕ) (ts : List Parts) (cs : List Commit) (last : Op
     (new : Replaying) (ls : List Load) (us : List Parts) (q : Option Request) (ds : List Commit) (ws : List Stored)
     → record { why = None; replay = new; loads = ls; threads = us; request = q; commits = ds; words = ws }
     ≡ dma_judged_by (progress_of cs last rq) (record { replay = r; loads = loads; threads = ts; request = rq; commits = cs }) v
-    → record { outcome = commits.Granted; sphere = sphere_with m us ds last q (Replay (book_of new ls)); words = ws; devices = d }
-    ≡ dma_by_verdict (book_of r loads) v d (sphere_with m ts cs last rq (Replay (book_of r loads)))
+    → record { outcome = commits.Granted; sphere = sphere_with m us ds last q (Replay (cursor_of new ls)); words = ws; devices = d }
+    ≡ dma_by_verdict (cursor_of r loads) v d (sphere_with m ts cs last rq (Replay (cursor_of r loads)))
 unfolding went
 dma_granted m ts cs last rq r loads (DmaFails why) d new ls us q ds ws is = absurd (true≢false (ap (λ (j : Judged). went j.why) is))
 dma_granted m ts cs last rq r loads (DmaGoes words) d new ls us q ds ws is =
     λ i. record {
       outcome = commits.Granted;
-      sphere = sphere_with m (is i).threads (is i).commits last (is i).request (Replay (book_of (is i).replay (is i).loads));
+      sphere = sphere_with m (is i).threads (is i).commits last (is i).request (Replay (cursor_of (is i).replay (is i).loads));
       words = (is i).words;
       devices = d;
     }
@@ -168,21 +168,21 @@ pub dma_left : (m : List ℕ) (ts : List Parts) (cs : List Commit) (last : Optio
     → length cs ≡ r.done
     → record { why = Some why; replay = new; loads = ls; threads = us; request = q; commits = ds; words = ws }
     ≡ dma_judged_by (progress_of cs last rq) (record { replay = r; loads = loads; threads = ts; request = rq; commits = cs }) v
-    → record { outcome = commits.Diverged (length ds) why; sphere = sphere_with m us ds last q (Replay (book_of new ls)); words = []; devices = d }
-    ≡ dma_by_verdict (book_of r loads) v d (sphere_with m ts cs last rq (Replay (book_of r loads)))
+    → record { outcome = commits.Diverged (length ds) why; sphere = sphere_with m us ds last q (Replay (cursor_of new ls)); words = []; devices = d }
+    ≡ dma_by_verdict (cursor_of r loads) v d (sphere_with m ts cs last rq (Replay (cursor_of r loads)))
 unfolding went why_in
 dma_left m ts cs last rq r loads (DmaGoes words) d why new ls us q ds ws done is = absurd (true≢false (sym (ap (λ (j : Judged). went j.why) is)))
 dma_left m ts cs last rq r loads (DmaFails because) d why new ls us q ds ws done is =
     let same : why ≡ because = ap (λ (j : Judged). why_in why j.why) is in
     (λ i. record {
       outcome = commits.Diverged (length (is i).commits) (same i);
-      sphere = sphere_with m (is i).threads (is i).commits last (is i).request (Replay (book_of (is i).replay (is i).loads));
+      sphere = sphere_with m (is i).threads (is i).commits last (is i).request (Replay (cursor_of (is i).replay (is i).loads));
       words = [];
       devices = d;
     })
     ∙ ap (λ n. record {
       outcome = commits.Diverged (length cs) because;
-      sphere = sphere_with m ts cs last rq (Replay (record (book_of r loads) { now = Over (End.Diverged n because) }));
+      sphere = sphere_with m ts cs last rq (Replay (record (cursor_of r loads) { now = Over (End.Diverged n because) }));
       words = [];
       devices = d;
     }) (sym done)

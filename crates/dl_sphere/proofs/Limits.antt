@@ -7,7 +7,7 @@ use Rattle.spec_isa.specs.declared.thread.Parts.{Parts}
 use Rattle.spec_log.specs.Log.{IsLog}
 use Rattle.spec_protocol.specs.Sound.{IsSoundRequest}
 use Rattle.spec_protocol.specs.Placing.{replays}
-use Rattle.spec_protocol.specs.Spheres.{Book, Replay, Sphere, limit_in, limit_of, whole_limit}
+use Rattle.spec_protocol.specs.Spheres.{Cursor, Replay, Sphere, limit_in, limit_of, whole_limit}
 use Rattle.spec_protocol.proofs.Sound.Limits.{whole-most}
 use Rattle.dl_sphere.specs.Inside.{sphere_in}
 use Rattle.dl_sphere.specs.Roles.{role_of, keeping_of, Keeping, Plain, Recording, Replaying as Replays, HasFew, AreKept, IsLive, IsReplayed, IsStanding}
@@ -39,7 +39,7 @@ few_live s p (Recording r) live h = h.few
 few_live s p (Replays r loads) live h = absurd live
 
 -- a part and those before it are few enough to be counted
-pub part-fits : (b : Book) (k n : ℕ) (t : Parts) → IsLog b.log → b.total < whole_limit b.log k t.commits → n ≤ limit_in (Replay b) 0 k t.commits → b.total + n < 2 ^ 32
+pub part-fits : (b : Cursor) (k n : ℕ) (t : Parts) → IsLog b.log → b.total < whole_limit b.log k t.commits → n ≤ limit_in (Replay b) 0 k t.commits → b.total + n < 2 ^ 32
 part-fits b k n t is room within = let a = whole-most b.log k t.commits is in let c = is.s.1 in omega (arith, a, c, room, within)
 
 -- a thread that there is
@@ -52,11 +52,11 @@ there [] k l = absurd (omega arith)
 there (t ∷ ts) zero l = record { thread = t; is = refl }
 there (t ∷ ts) (suc k) l = let h = there ts k (omega arith) in record { thread = h.thread; is = h.is }
 
-pub replay-least : (s : ℕ) (b : Book) (k : ℕ) (t : Parts) → 1 ≤ limit_of s (Replay b) k t
+pub replay-least : (s : ℕ) (b : Cursor) (k : ℕ) (t : Parts) → 1 ≤ limit_of s (Replay b) k t
 unfolding limit_of
 replay-least s b k t = omega arith
 
-pub replay-most : (s : ℕ) (b : Book) (k : ℕ) (t : Parts) → IsLog b.log → limit_of s (Replay b) k t ≤ 4096
+pub replay-most : (s : ℕ) (b : Cursor) (k : ℕ) (t : Parts) → IsLog b.log → limit_of s (Replay b) k t ≤ 4096
 unfolding limit_of
 replay-most s b k t is = let a = whole-most b.log k t.commits is in let c = is.s.1 in omega (arith, a, c)
 

@@ -5,7 +5,7 @@ use Rattle.spec_engine.specs.declared.answers.How.{How}
 use Rattle.spec_engine.specs.Chunks.{Chunk}
 use Rattle.spec_kernel.specs.Devices.{Devices}
 use Rattle.spec_play.specs.Turns.{Turn, TurnOfDma}
-use Rattle.spec_protocol.specs.Spheres.{Book, Role, Plain, Record, Replay, Sphere, limit_in, whole_limit}
+use Rattle.spec_protocol.specs.Spheres.{Cursor, Role, Plain, Record, Replay, Sphere, limit_in, whole_limit}
 use Rattle.spec_protocol.specs.Placing.{replays}
 use Rattle.spec_protocol.specs.Asking.{is_short}
 use Rattle.spec_protocol.specs.Commits as commits
@@ -27,7 +27,7 @@ SaysOutcome (DmaSize.Diverged why) i (Some v) = v.outcome ≡ commits.Diverged i
 
 -- a part of the replayed commit whose turn it is, of thread k: the commit has room for an instruction more than the pieces
 -- before have, the chunk has the limit that its thread has now, below which a piece stays, and the commit isn't empty
-pub record IsPart (b : Book) (k : ℕ) (how : How) (ch : Chunk) : Type 0 where
+pub record IsPart (b : Cursor) (k : ℕ) (how : How) (ch : Chunk) : Type 0 where
   pub turn : b.now ≡ Turn k
   pub room : b.total < whole_limit b.log k ch.done.thread.commits
   pub limit : ch.limit ≡ limit_in (Replay b) 0 k ch.done.thread.commits

@@ -11,7 +11,7 @@ use Rattle.dl_record.specs.Recording as recorder
 use Rattle.spec_play.specs.Noted.{Recorded, as_log, interrupt_kept}
 use Rattle.spec_log.specs.Log.{IsLog}
 use Rattle.spec_isa.specs.declared.thread.Load.{Load}
-use Rattle.dl_replay.specs.Replaying.{Replaying as Replay, Agrees, book_of, commits_of}
+use Rattle.dl_replay.specs.Replaying.{Replaying as Replay, Agrees, commits_of, cursor_of}
 use Rattle.dl_sphere.specs.Recorded.{with_commit}
 use Rattle.dl_sphere.specs.declared.part.Part.{Part}
 
@@ -35,7 +35,7 @@ has_room (Part.Replayed r) = true
 abbrev pub role_of : Keeping → protocol.Role
 role_of Plain = protocol.Plain
 role_of (Recording r) = protocol.Record (as_log r)
-role_of (Replaying r loads) = protocol.Replay (book_of r loads)
+role_of (Replaying r loads) = protocol.Replay (cursor_of r loads)
 
 abbrev pub role_in : Part → protocol.Role
 role_in part = role_of (keeping_of part)

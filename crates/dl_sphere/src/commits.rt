@@ -3,7 +3,7 @@ ghost use Rattle.std.specs.Prelude.{◌≡◌, ◌+◌, ◌^◌, ◌<◌, ◌++�
 ghost use Rattle.spec_engine.specs.declared.answers.How.{How};
 ghost use Rattle.spec_play.specs.Effects.{chunk_commit, serial_commit, dma_commit, entry_of};
 ghost use Rattle.spec_protocol.specs.Commits.{is_piece, joined};
-ghost use Rattle.spec_protocol.specs.Spheres.{Book};
+ghost use Rattle.spec_protocol.specs.Spheres.{Cursor};
 ghost use Rattle.spec_protocol.specs.Asking.{is_short};
 
 use dl_chunk::Chunk;
@@ -37,7 +37,7 @@ pub(crate) fn joined_commit<G: Sig>(
     earlier: &[dl_thread::Load],
     last: &Chunk<G>,
 ) -> Result<Commit, OutOfMemory>
-    ensures { IfOk result (λ c. (b : Book) → b.loads ≡ earlier.now → size ≡ b.total + last.now.chunk.done.n →
+    ensures { IfOk result (λ c. (b : Cursor) → b.loads ≡ earlier.now → size ≡ b.total + last.now.chunk.done.n →
         c ≡ chunk_commit thread (joined b last.now.chunk.done)) }
 {
     let mut loads = entries(alloc, earlier)?;

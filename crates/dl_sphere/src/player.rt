@@ -12,7 +12,7 @@ ghost use Rattle.spec_protocol.specs.Spheres.{Replay, actor_of, limit_in, limit_
 ghost use Rattle.dl_replay.specs.Judged.{HasRun, IsInside, chunk_judged, dma_judged, is_serial_step, serial_judged};
 ghost use Rattle.dl_replay.specs.Judging.{transfer_verdict};
 ghost use Rattle.dl_replay.specs.Left.{SaysSize, nothing_served, served_left, served_stored, verdict_left, verdict_stored};
-ghost use Rattle.dl_replay.specs.Replaying.{Agrees, begun, book_of, commits_of, end_of};
+ghost use Rattle.dl_replay.specs.Replaying.{Agrees, begun, commits_of, cursor_of, end_of};
 
 use dl_entry::{Actor, End, OutOfMemory, Request, Why};
 use dl_kernel::Served as Left;
@@ -93,7 +93,7 @@ impl Player {
     pub(crate) fn limit(&self, thread: u8) -> u32
         ensures { (s : ℕ) (loads : List Load) (threads : List Parts) (t : Parts) →
             length threads ≤ 15 → self.now.commits ≡ commits_of threads → slice_get threads thread ≡ Some t →
-            result ≡ limit_of s (Replay (book_of self.now loads)) thread t }
+            result ≡ limit_of s (Replay (cursor_of self.now loads)) thread t }
     {
         match &self.players {
             Players::OrderSize(replayer) => replayer.limit(thread),
@@ -106,7 +106,7 @@ impl Player {
     pub(crate) fn accept_piece(&mut self, thread: u8, n: u32)
         requires turn { self.old.now ≡ Turn thread }
         requires some { 1 ≤ n }
-        requires few { n < limit_in (Replay (book_of self.old [])) 0 thread (slice_index self.old.commits thread) }
+        requires few { n < limit_in (Replay (cursor_of self.old [])) 0 thread (slice_index self.old.commits thread) }
         ensures { self.new ≡ record self.old { total = self.old.total + n } }
     {
         match &mut self.players {

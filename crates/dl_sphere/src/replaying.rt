@@ -10,7 +10,7 @@ ghost use Rattle.spec_play.specs.Effects.{chunk_commit};
 ghost use Rattle.dl_replay.specs.Judged.{IsInside};
 ghost use Rattle.spec_protocol.specs.Commits.{joined};
 ghost use Rattle.spec_protocol.specs.Spheres as protocol;
-ghost use Rattle.dl_replay.specs.Replaying.{Agrees, book_of, commits_of};
+ghost use Rattle.dl_replay.specs.Replaying.{Agrees, commits_of, cursor_of};
 ghost use Rattle.dl_sphere.specs.Judging.{judged_by, dma_judged_by, why_of, words_of};
 ghost use Rattle.dl_sphere.specs.Replayed.{before};
 
@@ -39,7 +39,7 @@ pub(crate) fn commit_piece(
     requires turn { replay.old.player.now ≡ Turn thread }
     requires thread { thread < length threads.old }
     requires some { 1 ≤ n }
-    requires few { n < protocol.limit_in (protocol.Replay (book_of replay.old.player [])) 0 thread (slice_index replay.old.player.commits thread) }
+    requires few { n < protocol.limit_in (protocol.Replay (cursor_of replay.old.player [])) 0 thread (slice_index replay.old.player.commits thread) }
     ensures replay { OnOk result (replay.new.player ≡ record replay.old.player { total = replay.old.player.total + n }) }
     ensures loads { OnOk result (replay.new.loads.items ≡ replay.old.loads.items ++ loads.now) }
     ensures threads { OnOk result (threads.new ≡ slice_set threads.old thread state.now) }
@@ -72,7 +72,7 @@ pub(crate) fn commit_last<G: Sig>(
     requires few { replay.old.player.total + chunk.now.chunk.done.n < 2 ^ 32 }
     requires request { IsInside (length memory.now) request.old }
     ensures judged { (p : Progress) → Agrees replay.old.player p → p.request ≡ request.old →
-        let b = book_of replay.old.player replay.old.loads.items in
+        let b = cursor_of replay.old.player replay.old.loads.items in
         let v = chunk_verdict b.log p b.used thread (joined b chunk.now.chunk.done) in
         IfOk result (λ why. record { why = why; replay = replay.new.player; loads = replay.new.loads.items; threads = threads.new; request = request.new; commits = commits.new.items; words = [] }
         ≡ record (judged_by p thread (before replay.old threads.old request.old commits.old.items) v) { words = [] }) }

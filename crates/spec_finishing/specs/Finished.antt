@@ -3,7 +3,7 @@ use Rattle.std.specs.Prelude.{◌≡◌, ℕ, List, ◌++◌, slice_get, Some}
 use Rattle.spec_log.specs.declared.LogParts.{LogParts}
 use Rattle.spec_play.specs.Plays.{play}
 use Rattle.spec_protocol.specs.declared.event.Event.{Event}
-use Rattle.spec_protocol.specs.Spheres.{Book, Replay, Sphere}
+use Rattle.spec_protocol.specs.Spheres.{Cursor, Replay, Sphere}
 use Rattle.spec_protocol.specs.Machine.{IsReplayed, SphereSetup, Setup}
 use Rattle.spec_protocol.specs.Finishing.{FinishesAfter}
 use Rattle.spec_protocol.specs.Promises.{after}
@@ -13,10 +13,10 @@ use Rattle.spec_finishing.specs.Ending.{CanFinish}
 -- sphere i, which was set up by the image to replay the log, has done its log's whole play. Its words are in memory: none flies
 pub record HasPlayed (image : SphereSetup) (log : LogParts) (s : Setup) (es : List Event) (i : ℕ) : Type 0 where
   pub sphere : Sphere
-  pub book : Book
+  pub cursor : Cursor
   pub there : slice_get (after s es).spheres i ≡ Some sphere
-  pub role : sphere.role ≡ Replay book
-  pub played : IsPlayed (play log image.memory image.entry) sphere book
+  pub role : sphere.role ≡ Replay cursor
+  pub played : IsPlayed (play log image.memory image.entry) sphere cursor
 
 -- whatever the schedule, after the events that finish it
 abbrev pub ReplaysAreFinished : Type 0

@@ -6,7 +6,7 @@ use Rattle.spec_play.specs.Progress.{position}
 use Rattle.spec_play.specs.Plays.{Played, opened}
 use Rattle.spec_engine.specs.Flights.{Flight, at, told_at}
 use Rattle.spec_engine.specs.Chunks.{is_open}
-use Rattle.spec_protocol.specs.Spheres.{Book, Role, Plain, Record, Replay, Sphere, is_over}
+use Rattle.spec_protocol.specs.Spheres.{Cursor, Role, Plain, Record, Replay, Sphere, is_over}
 use Rattle.spec_protocol.specs.World.{World, Held, core_of}
 use Rattle.spec_protocol.specs.Machine.{SphereSetup, Setup}
 use Rattle.spec_protocol.specs.Finishing.{Who, least, standing}
@@ -35,7 +35,7 @@ abbrev pub play_left : LogParts → Played → (i total : ℕ) → ℕ
 play_left log y i total = commits_work log y i (log.count - i) - total
 
 -- what a replay of the image has left after so many commits: none where it has stopped
-unfoldable pub replay_left : SphereSetup → Book → (commits : ℕ) → ℕ
+unfoldable pub replay_left : SphereSetup → Cursor → (commits : ℕ) → ℕ
 replay_left image b i =
     if is_over b.now then 0 else play_left b.log (opened b.log image.memory image.entry) i b.total
 

@@ -21,7 +21,7 @@ use Rattle.spec_play.specs.Transfers.{DmaVerdict, DmaGoes, DmaFails, dma_verdict
 use Rattle.spec_play.specs.Plays.{with_threads}
 use Rattle.spec_play.specs.Recording.{noted, input_noted, dma_noted, interrupt_noted}
 use Rattle.spec_engine.specs.declared.answers.How.{How}
-use Rattle.spec_protocol.specs.Spheres.{Book, Role, Plain, Record, Replay, Sphere}
+use Rattle.spec_protocol.specs.Spheres.{Cursor, Role, Plain, Record, Replay, Sphere}
 
 pub data CommitOutcome : Type 0 where
   -- a whole commit, or the last part of one
@@ -54,7 +54,7 @@ granted_as role k e devices p =
     }
 
 -- only the end is noted
-abbrev pub diverged : Book → Why → Devices → Sphere → Moved
+abbrev pub diverged : Cursor → Why → Devices → Sphere → Moved
 diverged b why devices p =
     record {
       outcome = Diverged (position p.progress) why;
@@ -63,13 +63,13 @@ diverged b why devices p =
       devices = devices;
     }
 
--- the book after a whole commit that left this progress and these threads
-abbrev pub turned : LogParts → Progress → Used → List Parts → Book
+-- the cursor after a whole commit that left this progress and these threads
+abbrev pub turned : LogParts → Progress → Used → List Parts → Cursor
 turned log progress used threads =
     record { log = log; used = used; now = now_at log progress used threads; total = 0; loads = [] }
 
 -- as the log says
-abbrev pub by_verdict : Book → (thread : ℕ) → Verdict → Devices → Sphere → Moved
+abbrev pub by_verdict : Cursor → (thread : ℕ) → Verdict → Devices → Sphere → Moved
 by_verdict b k (Fails why) devices p = diverged b why devices p
 by_verdict b k (Goes e u) devices p =
     granted_as (Replay (turned b.log (with_effect k e p.progress) u (with_threads k e p.threads))) k e devices p
@@ -84,11 +84,11 @@ is_piece How.Overflow = true
 is_piece How.Cut = true
 
 -- the run of the last part, with the instructions and the loads of the pieces before it
-abbrev pub joined : Book → Run → Run
+abbrev pub joined : Cursor → Run → Run
 joined b r = record r { loads = b.loads ++ r.loads; n = b.total + r.n }
 
 -- the thread's state moves on; the reservation and the turn stay
-abbrev pub piece_moved : Book → (thread : ℕ) → Run → Devices → Sphere → Moved
+abbrev pub piece_moved : Cursor → (thread : ℕ) → Run → Devices → Sphere → Moved
 piece_moved b k r devices p =
     record {
       outcome = Piece;
@@ -100,7 +100,7 @@ piece_moved b k r devices p =
       devices = devices;
     }
 
-abbrev pub replayed_chunk : (is_piece : Bool) → Book → (thread : ℕ) → Run → Devices → Sphere → Moved
+abbrev pub replayed_chunk : (is_piece : Bool) → Cursor → (thread : ℕ) → Run → Devices → Sphere → Moved
 replayed_chunk true b k r devices p = piece_moved b k r devices p
 replayed_chunk false b k r devices p =
     by_verdict b k (chunk_verdict b.log p.progress b.used k (joined b r)) devices p
@@ -164,7 +164,7 @@ dma_log log devices p None = log
 dma_log log devices p (Some request) =
     dma_noted (position p.progress) (dma_bytes devices request) (noted dma_commit (position p.progress) false log)
 
-abbrev pub dma_by_verdict : Book → DmaVerdict → Devices → Sphere → Moved
+abbrev pub dma_by_verdict : Cursor → DmaVerdict → Devices → Sphere → Moved
 dma_by_verdict b (DmaFails why) devices p = diverged b why devices p
 dma_by_verdict b (DmaGoes words) devices p =
     dma_as (Replay (turned b.log (with_dma p.progress) (with_dma_used b.used) p.threads)) words devices p

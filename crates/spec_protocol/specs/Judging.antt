@@ -97,7 +97,7 @@ SizesAreUsed =
 
 -- ---- interrupts that are taken
 
--- those that a replay has used are those that are due, as many as its book counts: so one is left over where not all are due
+-- those that a replay has used are those that are due, as many as its cursor counts: so one is left over where not all are due
 abbrev pub DueAreCounted : Type 0
 DueAreCounted =
     (threads : List Parts) (interrupts : List Interrupt)

@@ -4,7 +4,7 @@ use Rattle.std.specs.Prelude.{◌≡◌, ◌≢◌, ℕ, ◌<◌, true, false, L
 use Rattle.spec_play.specs.Turns.{Turn}
 use Rattle.spec_engine.specs.declared.answers.How.{How}
 use Rattle.spec_protocol.specs.declared.event.Event.{Event}
-use Rattle.spec_protocol.specs.Spheres.{Book, Replay, Sphere, is_over, is_stopped}
+use Rattle.spec_protocol.specs.Spheres.{Cursor, Replay, Sphere, is_over, is_stopped}
 use Rattle.spec_protocol.specs.Commits.{is_piece}
 use Rattle.spec_protocol.specs.World.{World, What, OfChunk, OfSerial, OfDma, OfRaise, Move, sphere_at}
 use Rattle.spec_protocol.specs.Machine.{Setup, happens}
@@ -21,7 +21,7 @@ IsChunkOf k (OfRaise j value) = ⊥
 
 -- the commit of sphere i is in pieces: it is thread k's turn, and whatever comes next, of this sphere only chunks of k
 -- take effect
-pub record GoesOn (w : World) (i : ℕ) (b : Book) (k : ℕ) : Type 0 where
+pub record GoesOn (w : World) (i : ℕ) (b : Cursor) (k : ℕ) : Type 0 where
   pub turn : b.now ≡ Turn k
   pub only : (e : Event) (m : Move) → (happens w e).move ≡ Some m → m.sphere ≡ i
       → IsChunkOf k m.what
@@ -29,7 +29,7 @@ pub record GoesOn (w : World) (i : ℕ) (b : Book) (k : ℕ) : Type 0 where
 -- a replay that has not stopped, and of whose present commit earlier pieces have run instructions
 abbrev pub PiecesStayTogether : Type 0
 PiecesStayTogether =
-    (s : Setup) (es : List Event) (i : ℕ) (b : Book) → IsSetup s → let w = after s es in
+    (s : Setup) (es : List Event) (i : ℕ) (b : Cursor) → IsSetup s → let w = after s es in
     (sphere_at w i).role ≡ Replay b → is_over b.now ≡ false → 0 < b.total → (k : ℕ) × GoesOn w i b k
 
 -- ---- stopped
@@ -44,16 +44,16 @@ StoppedSpheresStay =
 -- ---- counted
 
 -- the sphere, which was p and is q, has the same commits, last thread and request, and whose turn it was, it is
-pub record CountsNothing (b : Book) (p q : Sphere) : Type 0 where
-  pub book : Book
-  pub role : q.role ≡ Replay book
-  pub turn : book.now ≡ b.now
+pub record CountsNothing (b : Cursor) (p q : Sphere) : Type 0 where
+  pub cursor : Cursor
+  pub role : q.role ≡ Replay cursor
+  pub turn : cursor.now ≡ b.now
   pub progress : q.progress ≡ p.progress
 
 -- so it is after a chunk of a replay that was closed by want of room or by Cut
 abbrev pub PiecesCountNothing : Type 0
 PiecesCountNothing =
-    (s : Setup) (es : List Event) (i : ℕ) (b : Book) → IsSetup s
+    (s : Setup) (es : List Event) (i : ℕ) (b : Cursor) → IsSetup s
     → let w = after s es in (sphere_at w i).role ≡ Replay b
     → (e : Event) (m : Move) (k : ℕ) (how : How) (n limit : ℕ) → (happens w e).move ≡ Some m
     → m.sphere ≡ i → m.what ≡ OfChunk k how n limit → is_piece how ≡ true

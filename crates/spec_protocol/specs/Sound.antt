@@ -19,7 +19,7 @@ use Rattle.spec_engine.specs.Signatures.{is_size}
 use Rattle.spec_engine.specs.Flights.{Flight, AreInside, at}
 use Rattle.spec_engine.specs.Chunks.{Chunk}
 use Rattle.spec_protocol.specs.declared.event.Event.{Event}
-use Rattle.spec_protocol.specs.Spheres.{Book, Role, Plain, Record, Replay, Sphere, is_over, actor_of, whole_limit}
+use Rattle.spec_protocol.specs.Spheres.{Cursor, Role, Plain, Record, Replay, Sphere, is_over, actor_of, whole_limit}
 use Rattle.spec_protocol.specs.World.{Held, World, moment, sphere_at}
 use Rattle.spec_protocol.specs.Machine.{RoleSetup, IsPlain, IsRecorded, IsReplayed, SphereSetup, Setup, happens}
 use Rattle.spec_protocol.specs.Promises.{AreSizesKept, after}
@@ -153,7 +153,7 @@ IsNamed ModeName.OrderOnly order n actor = slice_get order n ≡ Some actor
 IsNamed ModeName.Picolog order n actor = Unit {0}
 
 -- the thread whose turn it is is there and lives, and its commit has room for an instruction more than its pieces have
-pub record HasThread (b : Book) (threads : List Parts) (k : ℕ) : Type 0 where
+pub record HasThread (b : Cursor) (threads : List Parts) (k : ℕ) : Type 0 where
   pub thread : Parts
   pub there : slice_get threads k ≡ Some thread
   pub live : is_live thread ≡ true
@@ -161,7 +161,7 @@ pub record HasThread (b : Book) (threads : List Parts) (k : ℕ) : Type 0 where
 
 -- a replay after so many commits: it has no more than its log, and before its end fewer, in the log's order; no more of the
 -- log is used than there is, of its interrupts those that are due; and pieces load no more often than they run instructions
-pub record IsSoundBook (commits : ℕ) (threads : List Parts) (b : Book) : Type 0 where
+pub record IsSoundCursor (commits : ℕ) (threads : List Parts) (b : Cursor) : Type 0 where
   pub log : IsLog b.log
   pub within : commits ≤ b.log.count
   pub going : is_over b.now ≡ false → commits < b.log.count
@@ -197,7 +197,7 @@ pub record IsSoundLog (s commits : ℕ) (threads : List Parts) (log : LogParts) 
 abbrev pub IsSoundRole : (s commits : ℕ) → List Parts → Role → Type 0
 IsSoundRole s commits threads Plain = Unit {0}
 IsSoundRole s commits threads (Record log) = IsSoundLog s commits threads log
-IsSoundRole s commits threads (Replay b) = IsSoundBook commits threads b
+IsSoundRole s commits threads (Replay b) = IsSoundCursor commits threads b
 
 -- ---- a sphere
 

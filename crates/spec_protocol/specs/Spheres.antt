@@ -12,7 +12,7 @@ use Rattle.spec_play.specs.Progress.{Progress, no_progress, Used}
 use Rattle.spec_play.specs.Turns.{Now, Turn, TurnOfDma, Over}
 
 -- a replayed sphere's log, how far it is in it, and of the pieces of the present commit the instructions and the loads
-pub record Book : Type 0 where
+pub record Cursor : Type 0 where
   pub log : LogParts
   pub used : Used
   pub now : Now
@@ -23,7 +23,7 @@ pub data Role : Type 0 where
   Plain : Role
   -- with the log so far
   Record : (log : LogParts) → Role
-  Replay : (book : Book) → Role
+  Replay : (cursor : Cursor) → Role
 
 pub record Sphere : Type 0 where
   pub memory : List ℕ

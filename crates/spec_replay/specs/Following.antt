@@ -10,12 +10,12 @@ use Rattle.spec_kernel.specs.Interrupts.{is_live}
 use Rattle.spec_play.specs.Progress.{position}
 use Rattle.spec_play.specs.Turns.{Now, Turn, TurnOfDma, Over}
 use Rattle.spec_play.specs.Plays.{Played, play_one}
-use Rattle.spec_protocol.specs.Spheres.{Book, Replay, Sphere, whole_limit}
+use Rattle.spec_protocol.specs.Spheres.{Cursor, Replay, Sphere, whole_limit}
 
 -- ---- the state
 
 -- no piece stands, and memory and threads are the play's
-pub record IsWhole (y : Played) (p : Sphere) (b : Book) : Type 0 where
+pub record IsWhole (y : Played) (p : Sphere) (b : Cursor) : Type 0 where
   pub memory : p.memory ≡ y.memory
   pub threads : p.threads ≡ y.threads
   pub total : b.total ≡ 0
@@ -23,7 +23,7 @@ pub record IsWhole (y : Played) (p : Sphere) (b : Book) : Type 0 where
 
 -- memory and threads are the play's, moved on by thread k, which is t there, over the instructions of the pieces of its
 -- present commit, which has room for one more at least. Nothing else has come between, and the reservation stands
-pub record IsMovedOn (log : LogParts) (y : Played) (k : ℕ) (t : Parts) (p : Sphere) (b : Book) : Type 0 where
+pub record IsMovedOn (log : LogParts) (y : Played) (k : ℕ) (t : Parts) (p : Sphere) (b : Cursor) : Type 0 where
   pub is : slice_get y.threads k ≡ Some t
   pub live : is_live t ≡ true
   pub ran : (run y.memory t b.total).n ≡ b.total
@@ -33,7 +33,7 @@ pub record IsMovedOn (log : LogParts) (y : Played) (k : ℕ) (t : Parts) (p : Sp
   pub within : b.total < whole_limit log k t.commits
 
 -- by whose turn it is in the play: only a thread's commits come in pieces
-abbrev pub StandsAt : LogParts → Played → Now → Sphere → Book → Type 0
+abbrev pub StandsAt : LogParts → Played → Now → Sphere → Cursor → Type 0
 StandsAt log y (Turn k) p b = (t : Parts) × IsMovedOn log y k t p b
 StandsAt log y TurnOfDma p b = IsWhole y p b
 StandsAt log y (Over how) p b = IsWhole y p b
@@ -41,7 +41,7 @@ StandsAt log y (Over how) p b = IsWhole y p b
 -- ---- the end
 
 -- the replay has ended within the play's next commit, which diverges: it gives the play this end, and nothing else
-pub record EndsWithin (log : LogParts) (y : Played) (b : Book) : Type 0 where
+pub record EndsWithin (log : LogParts) (y : Played) (b : Cursor) : Type 0 where
   pub why : Why
   pub over : b.now ≡ Over (End.Diverged (position y.progress) why)
   pub diverges : play_one log y ≡ record y { now = Over (End.Diverged (position y.progress) why) }
@@ -50,14 +50,14 @@ pub record EndsWithin (log : LogParts) (y : Played) (b : Book) : Type 0 where
 
 -- the replayed sphere p, with its current memory, stands at y of the play
 pub record Follows (log : LogParts) (y : Played) (p : Sphere) : Type 0 where
-  pub book : Book
-  pub role : p.role ≡ Replay book
-  pub same_log : book.log ≡ log
+  pub cursor : Cursor
+  pub role : p.role ≡ Replay cursor
+  pub same_log : cursor.log ≡ log
   -- the same whole commits, with their loads and outputs, the same request, and as much of the log is used
   pub progress : p.progress ≡ y.progress
-  pub used : book.used ≡ y.used
+  pub used : cursor.used ≡ y.used
   -- it is the same actor's turn, or both have ended in the same way; or the replay has, within the play's next commit
-  pub now : (book.now ≡ y.now) ⊎ EndsWithin log y book
+  pub now : (cursor.now ≡ y.now) ⊎ EndsWithin log y cursor
   -- where the play has ended, so has the replay
-  pub ended : (how : End) → y.now ≡ Over how → book.now ≡ Over how
-  pub state : StandsAt log y y.now p book
+  pub ended : (how : End) → y.now ≡ Over how → cursor.now ≡ Over how
+  pub state : StandsAt log y y.now p cursor

@@ -7,7 +7,7 @@ use Rattle.spec_play.specs.Progress.{position}
 use Rattle.spec_play.specs.Turns.{Over}
 use Rattle.spec_play.specs.Plays.{Played, opened, plays, play}
 use Rattle.spec_protocol.specs.declared.event.Event.{Event}
-use Rattle.spec_protocol.specs.Spheres.{Book, Replay, Sphere, is_over}
+use Rattle.spec_protocol.specs.Spheres.{Cursor, Replay, Sphere, is_over}
 use Rattle.spec_protocol.specs.Machine.{IsReplayed, SphereSetup, Setup}
 use Rattle.spec_protocol.specs.Shown.{shown_of}
 use Rattle.spec_protocol.specs.Promises.{IsSetup, after}
@@ -48,7 +48,7 @@ ends_between (End.Diverged commits why) = is_between why
 
 -- it has the play's commits, with their loads and outputs, and the play's end; and its memory and threads, unless it has
 -- ended within a commit, of which pieces may stand
-pub record IsPlayed (y : Played) (p : Sphere) (b : Book) : Type 0 where
+pub record IsPlayed (y : Played) (p : Sphere) (b : Cursor) : Type 0 where
   pub progress : p.progress ≡ y.progress
   pub now : b.now ≡ y.now
   pub memory : (how : End) → b.now ≡ Over how → ends_between how ≡ true → p.memory ≡ y.memory
@@ -57,7 +57,7 @@ pub record IsPlayed (y : Played) (p : Sphere) (b : Book) : Type 0 where
 abbrev pub StoppedArePlayed : Type 0
 StoppedArePlayed =
     (image : SphereSetup) (log : LogParts)
-    (s : Setup) (es : List Event) (i : ℕ) (p : Sphere) (b : Book)
+    (s : Setup) (es : List Event) (i : ℕ) (p : Sphere) (b : Cursor)
     → IsReplay image log s es i p → p.role ≡ Replay b → is_over b.now ≡ true
     → IsPlayed (play log image.memory image.entry) p b
 
@@ -68,7 +68,7 @@ pub record SameState (p q : Sphere) : Type 0 where
   pub memory : p.memory ≡ q.memory
   pub threads : p.threads ≡ q.threads
 
-pub record Agree (p q : Sphere) (b c : Book) : Type 0 where
+pub record Agree (p q : Sphere) (b c : Cursor) : Type 0 where
   -- after as many whole commits these are the same, with their loads and outputs
   pub progress : position p.progress ≡ position q.progress → p.progress ≡ q.progress
   -- and after as many instructions in pieces of the next commit, so are memory and threads
@@ -85,6 +85,6 @@ pub record Agree (p q : Sphere) (b c : Book) : Type 0 where
 abbrev pub ReplaysAgree : Type 0
 ReplaysAgree =
     (image : SphereSetup) (log : LogParts)
-    (s z : Setup) (es fs : List Event) (i j : ℕ) (p q : Sphere) (b c : Book)
+    (s z : Setup) (es fs : List Event) (i j : ℕ) (p q : Sphere) (b c : Cursor)
     → IsReplay image log s es i p → IsReplay image log z fs j q
     → p.role ≡ Replay b → q.role ≡ Replay c → Agree p q b c

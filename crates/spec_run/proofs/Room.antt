@@ -26,7 +26,7 @@ use Rattle.spec_engine.specs.Chunks.{fresh, step, cut, is_open}
 use Rattle.spec_engine.specs.Asking.{ask, denied_by}
 use Rattle.spec_protocol.specs.declared.event.Event.{Event}
 use Rattle.spec_protocol.specs.declared.reply.Reply.{Reply}
-use Rattle.spec_protocol.specs.Spheres.{Book, Role, Plain, Record, Replay, Sphere, no_sphere, is_stopped, limit_of, halves}
+use Rattle.spec_protocol.specs.Spheres.{Cursor, Role, Plain, Record, Replay, Sphere, no_sphere, is_stopped, limit_of, halves}
 use Rattle.spec_protocol.specs.Commits.{CommitOutcome, Granted, Piece, Diverged, Moved, granted_as, by_verdict, joined, replayed_chunk, chunk_in, chunk_moved, serial_in, serial_moved, live_dma, dma_log, dma_by_verdict, dma_in, dma_moved, role_raised, raised}
 use Rattle.spec_protocol.specs.World.{Numbers, Held, World, After, moment, sphere_at, with_sphere, with_core, thread_afresh, held_afresh, core_of, answered}
 use Rattle.spec_protocol.specs.Stepping.{stepped, step_held, stepping, cut_to, cut_held, cutting}
@@ -59,11 +59,11 @@ few-later now p few live = let l = few live in omega (arith, l)
 granted-few : (now k : ℕ) (role : Role) (e : Effect) (devices : Devices) (p : Sphere) → position p.progress < now → Few (suc now) (granted_as role k e devices p).sphere
 granted-few now k role e devices p few live = let n = next-position k e p.progress in omega (arith, n, few)
 
-verdict-few : (now k : ℕ) (b : Book) (v : Verdict) (devices : Devices) (p : Sphere) → Few now (by_verdict b k v devices p).sphere
+verdict-few : (now k : ℕ) (b : Cursor) (v : Verdict) (devices : Devices) (p : Sphere) → Few now (by_verdict b k v devices p).sphere
 verdict-few now k b (Fails why) devices p live = absurd (true≢false live)
 verdict-few now k b (Goes e u) devices p live = absurd (true≢false live)
 
-replayed-few : (now k : ℕ) (b : Book) (piece : Bool) (r : Run) (devices : Devices) (p : Sphere) → Few now (replayed_chunk piece b k r devices p).sphere
+replayed-few : (now k : ℕ) (b : Cursor) (piece : Bool) (r : Run) (devices : Devices) (p : Sphere) → Few now (replayed_chunk piece b k r devices p).sphere
 replayed-few now k b true r devices p live = absurd (true≢false live)
 replayed-few now k b false r devices p live = verdict-few now k b (chunk_verdict b.log p.progress b.used k (joined b r)) devices p live
 
@@ -90,7 +90,7 @@ live-few now role devices p (Some request) v few e live =
     let n = pushed_length p.progress.commits dma_commit (position p.progress) refl in
     omega (arith, q, n, few)
 
-dma-verdict_few : (now : ℕ) (b : Book) (d : DmaVerdict) (devices : Devices) (p : Sphere) → Few now (dma_by_verdict b d devices p).sphere
+dma-verdict_few : (now : ℕ) (b : Cursor) (d : DmaVerdict) (devices : Devices) (p : Sphere) → Few now (dma_by_verdict b d devices p).sphere
 dma-verdict_few now b (DmaFails why) devices p live = absurd (true≢false live)
 dma-verdict_few now b (DmaGoes words) devices p live = absurd (true≢false live)
 
@@ -269,7 +269,7 @@ no-live : (role : Role) (devices : Devices) (p : Sphere) (v : Moved) → p.progr
 no-live role devices p v new e =
     none-some v (sym (ap (λ (y : Progress). live_dma role devices p y.request) new) ∙ e)
 
-replays-still : (b : Book) (d : DmaVerdict) (devices : Devices) (p : Sphere) → replays (dma_by_verdict b d devices p).sphere.role ≡ false → ⊥
+replays-still : (b : Cursor) (d : DmaVerdict) (devices : Devices) (p : Sphere) → replays (dma_by_verdict b d devices p).sphere.role ≡ false → ⊥
 replays-still b (DmaFails why) devices p live = true≢false live
 replays-still b (DmaGoes words) devices p live = true≢false live
 

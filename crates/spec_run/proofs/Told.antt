@@ -11,7 +11,7 @@ use Rattle.spec_play.specs.Progress.{position}
 use Rattle.spec_play.specs.Turns.{Now, Turn, TurnOfDma, Over}
 use Rattle.spec_play.specs.Plays.{Played, play}
 use Rattle.spec_protocol.specs.declared.event.Event.{Event}
-use Rattle.spec_protocol.specs.Spheres.{Role, Plain, Record, Replay, Book, Sphere, no_sphere, is_over}
+use Rattle.spec_protocol.specs.Spheres.{Role, Plain, Record, Replay, Cursor, Sphere, no_sphere, is_over}
 use Rattle.spec_protocol.specs.Placing.{replays}
 use Rattle.spec_protocol.specs.World.{World, sphere_at}
 use Rattle.spec_protocol.specs.Machine.{RoleSetup, IsPlain, IsRecorded, IsReplayed, SphereSetup, Setup, world_of, happens, world_after}
@@ -153,7 +153,7 @@ over_how TurnOfDma e = absurd (true≢false (sym e))
 over_how (Over how) e = (how, refl)
 
 -- a play that is complete leaves its state; of one that diverged none is told
-held_played : (y : Played) (p : Sphere) (b : Book) (how : End) → IsPlayed y p b → b.now ≡ Over how → account_of p.progress.commits p.threads p.progress.request p.memory (end_of b.now) ≡ played_account y
+held_played : (y : Played) (p : Sphere) (b : Cursor) (how : End) → IsPlayed y p b → b.now ≡ Over how → account_of p.progress.commits p.threads p.progress.request p.memory (end_of b.now) ≡ played_account y
 held_played y p b (End.Complete n) is over =
     let progress = is.progress in
     let threads = is.threads (End.Complete n) over refl in
@@ -176,32 +176,32 @@ live_told s es i image p can t live =
 
 -- what is known of a replay at its end
 record IsReplayedTo (s : Setup) (es : List Event) (i : ℕ) (image : SphereSetup) (log : LogParts) (p : Sphere) : Type 0 where
-  book : Book
-  role : p.role ≡ Replay book
-  played : IsPlayed (play log image.memory image.entry) p book
-  over : (how : End) × (book.now ≡ Over how)
+  cursor : Cursor
+  role : p.role ≡ Replay cursor
+  played : IsPlayed (play log image.memory image.entry) p cursor
+  over : (how : End) × (cursor.now ≡ Over how)
 
 same_sphere : (p q : Sphere) → Some p ≡ Some q → p ≡ q
 same_sphere p q e = cc
 
 abbrev HasPlayedIn : (image : SphereSetup) (log : LogParts) (i : ℕ) → World → Type 0
 HasPlayedIn image log i w =
-    (p : Sphere) × ((b : Book) × ((slice_get w.spheres i ≡ Some p) × ((p.role ≡ Replay b) × IsPlayed (play log image.memory image.entry) p b)))
+    (p : Sphere) × ((b : Cursor) × ((slice_get w.spheres i ≡ Some p) × ((p.role ≡ Replay b) × IsPlayed (play log image.memory image.entry) p b)))
 
 has_played : (s : Setup) (es : List Event) (i : ℕ) (image : SphereSetup) (log : LogParts) → CanFinish s → slice_get s.spheres i ≡ Some image → image.role ≡ IsReplayed log → HasPlayedIn image log i (finished s es)
 has_played s es i image log can is role =
     let h = replays_finished image log s es (finishing_of s es) i can (ends s es can).finishes is role in
-    subst (HasPlayedIn image log i) (after_both (world_of s) es (finishing_of s es)) (h.sphere, (h.book, (h.there, (h.role, h.played))))
+    subst (HasPlayedIn image log i) (after_both (world_of s) es (finishing_of s es)) (h.sphere, (h.cursor, (h.there, (h.role, h.played))))
 
 replayed-to : (s : Setup) (es : List Event) (i : ℕ) (image : SphereSetup) (log : LogParts) (p : Sphere) → CanFinish s → slice_get s.spheres i ≡ Some image → IsThere s es i image p → image.role ≡ IsReplayed log → IsReplayedTo s es i image log p
 replayed-to s es i image log p can is t role =
     let h = has_played s es i image log can is role in
-    let b : Book = h.1.0 in
+    let b : Cursor = h.1.0 in
     let same : h.0 ≡ p = same_sphere h.0 p (sym h.1.1.0 ∙ t.there) in
     let end : IsAtEnd h.0.role = (ends s es can).finished.replays i h.0 h.1.1.0 in
     let over : is_over b.now ≡ true = subst IsAtEnd h.1.1.1.0 end in
     record {
-      book = b;
+      cursor = b;
       role = ap (λ (q : Sphere). q.role) (sym same) ∙ h.1.1.1.0;
       played = subst (λ (q : Sphere). IsPlayed (play log image.memory image.entry) q b) same h.1.1.1.1;
       over = over_how b.now over;
@@ -211,7 +211,7 @@ replayed_told : (s : Setup) (es : List Event) (i : ℕ) (image : SphereSetup) (l
 replayed_told s es i image log p t r =
     ap account_held t.at
     ∙ ap (λ (role : Role). account_of p.progress.commits p.threads p.progress.request p.memory (end_as role (position p.progress))) r.role
-    ∙ held_played (played log image) p r.book r.over.0 r.played r.over.1
+    ∙ held_played (played log image) p r.cursor r.over.0 r.played r.over.1
 
 -- ---- a sphere
 
@@ -225,21 +225,21 @@ has_role s es i image p (IsRecorded mode) can is t role =
     (known s es can.setup).logs i image mode (will_record s i image mode can is role)
 has_role s es i image p (IsReplayed log) can is t role =
     let r = replayed-to s es i image log p can is t role in
-    (r.book, ap (λ (q : Sphere). q.role) t.at ∙ r.role)
+    (r.cursor, ap (λ (q : Sphere). q.role) t.at ∙ r.role)
 
 account_told : (s : Setup) (es : List Event) (i : ℕ) (image : SphereSetup) (p : Sphere) (role : RoleSetup) → CanFinish s → slice_get s.spheres i ≡ Some image → IsThere s es i image p → image.role ≡ role → account_held (sphere_at (finished s es) i) ≡ account_as image (sphere_in (executed s es) i) role
 account_told s es i image p IsPlain can is t role = live_told s es i image p can t (t.kind ∙ ap is_replayed role)
 account_told s es i image p (IsRecorded mode) can is t role = live_told s es i image p can t (t.kind ∙ ap is_replayed role)
 account_told s es i image p (IsReplayed log) can is t role = replayed_told s es i image log p t (replayed-to s es i image log p can is t role)
 
-same_book : (b c : Book) → Replay b ≡ Replay c → b ≡ c
-same_book b c e = cc
+same_cursor : (b c : Cursor) → Replay b ≡ Replay c → b ≡ c
+same_cursor b c e = cc
 
-played_to : (s : Setup) (es : List Event) (i : ℕ) (image : SphereSetup) (p : Sphere) (log : LogParts) (b : Book) → CanFinish s → slice_get s.spheres i ≡ Some image → IsThere s es i image p → image.role ≡ IsReplayed log → (sphere_at (finished s es) i).role ≡ Replay b → b.now ≡ (played log image).now
+played_to : (s : Setup) (es : List Event) (i : ℕ) (image : SphereSetup) (p : Sphere) (log : LogParts) (b : Cursor) → CanFinish s → slice_get s.spheres i ≡ Some image → IsThere s es i image p → image.role ≡ IsReplayed log → (sphere_at (finished s es) i).role ≡ Replay b → b.now ≡ (played log image).now
 played_to s es i image p log b can is t role replay =
     let r = replayed-to s es i image log p can is t role in
-    let same : b ≡ r.book = same_book b r.book (sym replay ∙ ap (λ (q : Sphere). q.role) t.at ∙ r.role) in
-    ap (λ (c : Book). c.now) same ∙ r.played.now
+    let same : b ≡ r.cursor = same_cursor b r.cursor (sym replay ∙ ap (λ (q : Sphere). q.role) t.at ∙ r.role) in
+    ap (λ (c : Cursor). c.now) same ∙ r.played.now
 
 pub spheres_told : SpheresAreTold
 spheres_told s es i image can is =

@@ -7,7 +7,7 @@ use Rattle.spec_log.specs.declared.LogParts.{LogParts}
 use Rattle.spec_play.specs.Progress.{position}
 use Rattle.spec_play.specs.Plays.{FitsImage}
 use Rattle.spec_protocol.specs.declared.event.Event.{Event}
-use Rattle.spec_protocol.specs.Spheres.{Role, Plain, Record, Replay, Book, Sphere}
+use Rattle.spec_protocol.specs.Spheres.{Role, Plain, Record, Replay, Cursor, Sphere}
 use Rattle.spec_protocol.specs.Placing.{replays}
 use Rattle.spec_protocol.specs.World.{sphere_at}
 use Rattle.spec_protocol.specs.Machine.{RoleSetup, IsPlain, IsRecorded, IsReplayed, SphereSetup, Setup}
@@ -22,7 +22,7 @@ use Rattle.spec_run.specs.Texts.{account_as, account_text, console_text, execute
 
 -- ---- a sphere
 
--- how a sphere's run ended: a replay as its book says; the others are complete
+-- how a sphere's run ended: a replay as its cursor says; the others are complete
 abbrev pub end_as : Role → (commits : ℕ) → End
 end_as Plain n = End.Complete n
 end_as (Record log) n = End.Complete n
@@ -37,7 +37,7 @@ account_held p =
 abbrev pub HasRole : Setup → (schedule : List Event) → (i : ℕ) → RoleSetup → Role → Type 0
 HasRole s es i IsPlain role = replays role ≡ false
 HasRole s es i (IsRecorded mode) role = role ≡ Record (log_told s es i mode)
-HasRole s es i (IsReplayed log) role = (b : Book) × (role ≡ Replay b)
+HasRole s es i (IsReplayed log) role = (b : Cursor) × (role ≡ Replay b)
 
 -- sphere i of the finished machine, which was set up by the image
 pub record IsTold (s : Setup) (es : List Event) (i : ℕ) (image : SphereSetup) : Type 0 where
@@ -49,7 +49,7 @@ pub record IsTold (s : Setup) (es : List Event) (i : ℕ) (image : SphereSetup) 
       → (sphere_at (finished s es) i).progress ≡ (sphere_in (executed s es) i).progress
   -- a replayed one has ended, as its log's play
   pub over : IsAtEnd (sphere_at (finished s es) i).role
-  pub played : (log : LogParts) (b : Book)
+  pub played : (log : LogParts) (b : Cursor)
       → image.role ≡ IsReplayed log
       → (sphere_at (finished s es) i).role ≡ Replay b
       → b.now ≡ (played log image).now

@@ -9,7 +9,7 @@ use Rattle.spec_kernel.specs.Devices.{Devices}
 use Rattle.spec_play.specs.Verdicts.{Verdict, Goes, Fails}
 use Rattle.spec_play.specs.Transfers.{DmaVerdict, DmaGoes, DmaFails}
 use Rattle.spec_engine.specs.declared.answers.How.{How}
-use Rattle.spec_protocol.specs.Spheres.{Book, Role, Plain, Record, Replay, Sphere}
+use Rattle.spec_protocol.specs.Spheres.{Cursor, Role, Plain, Record, Replay, Sphere}
 use Rattle.spec_protocol.specs.Commits.{Moved, by_verdict, chunk_in, chunk_moved, is_piece, serial_in, serial_moved, live_dma, dma_log, dma_by_verdict, dma_in, dma_moved, role_raised, raised}
 use Rattle.spec_protocol.specs.Placing.{replays}
 use Rattle.spec_protocol.specs.World.{Numbers, What, OfChunk, OfSerial, OfDma, OfRaise, Move}
@@ -20,7 +20,7 @@ use Rattle.spec_protocol.specs.Moves.{move_chunk, do_what, do_at, do_move, do_mo
 
 -- ---- one sphere
 
-verdict_kind : (b : Book) (k : ℕ) (x : Verdict) (devices : Devices) (p : Sphere) → replays (by_verdict b k x devices p).sphere.role ≡ true
+verdict_kind : (b : Cursor) (k : ℕ) (x : Verdict) (devices : Devices) (p : Sphere) → replays (by_verdict b k x devices p).sphere.role ≡ true
 verdict_kind b k (Goes e u) devices p = refl
 verdict_kind b k (Fails why) devices p = refl
 
@@ -54,7 +54,7 @@ live_kind : (role was : Role) (devices : Devices) (p : Sphere) (q : Option Reque
 live_kind role was devices p None e = tt
 live_kind role was devices p (Some r) e = e
 
-dma_verdict_kind : (b : Book) (x : DmaVerdict) (devices : Devices) (p : Sphere) → replays (dma_by_verdict b x devices p).sphere.role ≡ true
+dma_verdict_kind : (b : Cursor) (x : DmaVerdict) (devices : Devices) (p : Sphere) → replays (dma_by_verdict b x devices p).sphere.role ≡ true
 dma_verdict_kind b (DmaGoes words) devices p = refl
 dma_verdict_kind b (DmaFails why) devices p = refl
 

@@ -5,7 +5,7 @@ use Rattle.std.proofs.lemmas.Bool.{true≢false}
 use Rattle.std.proofs.lemmas.Option.{none-some}
 use Rattle.spec_log.specs.declared.LogParts.{LogParts}
 use Rattle.spec_protocol.specs.declared.event.Event.{Event}
-use Rattle.spec_protocol.specs.Spheres.{Book, Replay, Sphere, is_over}
+use Rattle.spec_protocol.specs.Spheres.{Cursor, Replay, Sphere, is_over}
 use Rattle.spec_protocol.specs.Placing.{replays}
 use Rattle.spec_protocol.specs.World.{World}
 use Rattle.spec_protocol.specs.Machine.{RoleSetup, IsPlain, IsRecorded, IsReplayed, SphereSetup, Setup, world_of, happens, world_after, moves}
@@ -61,7 +61,7 @@ replayed_is IsPlain e = absurd (true≢false (sym e))
 replayed_is (IsRecorded mode) e = absurd (true≢false (sym e))
 replayed_is (IsReplayed log) e = (log, refl)
 
-goes_after : ReplaysArePlays → (s : Setup) (es : List Event) → CanFinish s → (i : ℕ) (image : SphereSetup) (p : Sphere) (b : Book) → slice_get s.spheres i ≡ Some image → slice_get (shown_of (after s es)).spheres i ≡ Some p → p.role ≡ Replay b → is_over b.now ≡ false → GoesOn image p b
+goes_after : ReplaysArePlays → (s : Setup) (es : List Event) → CanFinish s → (i : ℕ) (image : SphereSetup) (p : Sphere) (b : Cursor) → slice_get s.spheres i ≡ Some image → slice_get (shown_of (after s es)).spheres i ≡ Some p → p.role ≡ Replay b → is_over b.now ≡ false → GoesOn image p b
 goes_after plays s es can i image p b there is role going =
     let kind = kind-at s.spheres (shown_of (after s es)).spheres i image p there is (kinds_after s es can.setup) in
     let log = replayed_is image.role (sym kind ∙ ap replays role) in

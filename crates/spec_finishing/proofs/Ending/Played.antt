@@ -40,7 +40,7 @@ played_at image log s es i can none there replayed =
     let over : is_over b.0.now ≡ true = subst IsAtEnd b.1 ((next-none w none).replays i p.0 p.1) in
     record {
       sphere = p.0;
-      book = b.0;
+      cursor = b.0;
       there = p.1;
       role = b.1;
       played = stopped_played image log s es i p.0 b.0

@@ -3,7 +3,7 @@ use Rattle.std.proofs.Common.{◌≡◌, ℕ, ◌+◌, ◌<◌, ◌≤◌, Optio
 use Rattle.std.specs.Prelude.{slice_get}
 use Rattle.std.proofs.lemmas.Option.{none-some}
 use Rattle.spec_protocol.specs.declared.event.Event.{Event}
-use Rattle.spec_protocol.specs.Spheres.{Book, Replay, Sphere}
+use Rattle.spec_protocol.specs.Spheres.{Cursor, Replay, Sphere}
 use Rattle.spec_protocol.specs.World.{Numbers, World, Move, After}
 use Rattle.spec_protocol.specs.Machine.{Setup, core_no, sphere_no, slot_no, act, happens}
 use Rattle.spec_protocol.specs.Serial.{Whole}
@@ -67,7 +67,7 @@ happens-spends s w e known =
     let same = ap (λ (x : Whole). spheres_rest s.cores s.spheres x.spheres) kept.whole in
     omega (arith, flies, pays, now, was, same)
 
-moves_more : (s : Setup) (w : World) (a : After) (m : Move) (o : Option Move) (p : Sphere) (b : Book) → o ≡ Some m → a.move ≡ o → Known s w → Kept w a → Flies s.cores w a → slice_get (shown_of w).spheres m.sphere ≡ Some p → p.role ≡ Replay b
+moves_more : (s : Setup) (w : World) (a : After) (m : Move) (o : Option Move) (p : Sphere) (b : Cursor) → o ≡ Some m → a.move ≡ o → Known s w → Kept w a → Flies s.cores w a → slice_get (shown_of w).spheres m.sphere ≡ Some p → p.role ≡ Replay b
     → potential s a.world + what_more m.what ≤ potential s w
 moves_more s w a m None p b e move known kept flies is role = absurd (none-some m e)
 moves_more s w a m (Some n) p b e move known kept flies is role =
@@ -80,7 +80,7 @@ moves_more s w a m (Some n) p b e move known kept flies is role =
     omega (arith, flies, pays, now, was, same, most)
 
 -- a move of a replay makes it less, by the events behind it
-pub happens-less : (s : Setup) (w : World) (e : Event) (m : Move) (p : Sphere) (b : Book) → Known s w → (happens w e).move ≡ Some m → slice_get (shown_of w).spheres m.sphere ≡ Some p → p.role ≡ Replay b
+pub happens-less : (s : Setup) (w : World) (e : Event) (m : Move) (p : Sphere) (b : Cursor) → Known s w → (happens w e).move ≡ Some m → slice_get (shown_of w).spheres m.sphere ≡ Some p → p.role ≡ Replay b
     → potential s (happens w e).world + what_more m.what ≤ potential s w
 happens-less s w e m p b known move is role =
     moves_more s w (happens w e) m (Some m) p b refl move known (happens-kept w e known.good) (happens-flies s.cores w e known.good) is role

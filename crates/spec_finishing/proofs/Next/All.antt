@@ -80,7 +80,7 @@ commit_falls : (s : Setup) (w : World) (e : Event) (who : Who) (n : ℕ) → Kno
 commit_falls s w e who n known next_known none is commits few =
     let a = has-actor s w who known none is in
     let c = move_is w e who.sphere n commits in
-    let less = happens-less s w e c.move a.sphere a.book known c.is (ap (slice_get (shown_of w).spheres) c.sphere ∙ a.shows) a.role in
+    let less = happens-less s w e c.move a.sphere a.cursor known c.is (ap (slice_get (shown_of w).spheres) c.sphere ∙ a.shows) a.role in
     let more = c.more in
     record {
       done = c.done;

@@ -10,7 +10,7 @@ use Rattle.spec_engine.specs.Asking.{ask, ask_serial, denied_by, busy_by}
 use Rattle.spec_engine.proofs.Searches.{full_at}
 use Rattle.spec_play.specs.Transfers.{dma_verdict}
 use Rattle.spec_protocol.specs.declared.reply.Reply.{Reply}
-use Rattle.spec_protocol.specs.Spheres.{Book, Role, Replay, Sphere, is_stopped, actor_of, head_in, head_of}
+use Rattle.spec_protocol.specs.Spheres.{Cursor, Role, Replay, Sphere, is_stopped, actor_of, head_in, head_of}
 use Rattle.spec_protocol.specs.Commits.{CommitOutcome, Granted, Piece, Diverged, Moved, is_piece, chunk_moved, serial_moved, dma_by_verdict, dma_in, dma_moved}
 use Rattle.spec_protocol.specs.World.{World, Held, Move, After, moment, sphere_at, answered}
 use Rattle.spec_protocol.specs.Asking.{CommitRequest, move_at, granted, chunk_request, grant_chunk, serial_request, grant_serial, unless_denied, unless_busy, asks_serial, ask_arbiter, other_turn, unless_turn, ask_closed, ask_held, asking}
@@ -83,7 +83,7 @@ empty_of h role e =
 own_turn : (k : ℕ) → other_turn (Some (Actor.Thread k)) k ≡ None
 own_turn k = ap {A = Bool} (λ b. cond b None (Some (Actor.Thread k))) (eq-eqb k k refl)
 
-turn_of_head : (p : Sphere) (b : Book) (k : ℕ) → p.role ≡ Replay b → actor_of b.now ≡ Some (Actor.Thread k) → other_turn (head_of p) k ≡ None
+turn_of_head : (p : Sphere) (b : Cursor) (k : ℕ) → p.role ≡ Replay b → actor_of b.now ≡ Some (Actor.Thread k) → other_turn (head_of p) k ≡ None
 unfolding head_of
 turn_of_head p b k role turn =
     ap (λ (r : Role). other_turn (head_in r p) k) role ∙ ap (λ (o : Option Actor). other_turn o k) turn ∙ own_turn k
@@ -108,7 +108,7 @@ ask-commits s w i k c h how none l a on closed =
     let same : p ≡ a.sphere = ap (sphere_at w) on.sphere ∙ a.at in
     let going : is_stopped p.role ≡ false = ap (λ (q : Sphere). is_stopped q.role) same ∙ ap is_stopped a.role ∙ a.going in
     let turn : other_turn (head_of p) h.thread ≡ None =
-    ap (other_turn (head_of p)) on.thread ∙ turn_of_head p a.book k (ap (λ (q : Sphere). q.role) same ∙ a.role) a.turn
+    ap (other_turn (head_of p)) on.thread ∙ turn_of_head p a.cursor k (ap (λ (q : Sphere). q.role) same ∙ a.role) a.turn
     in
     let e = ask_is w c h how on.there closed going turn (room_there w.slots (no-flight w none) l) in
     subst (λ (j : ℕ). Commits j h.chunk.done.n (asking w c)) on.sphere
@@ -131,7 +131,7 @@ outcome_commits w i v Granted none l = done_commits w i v none l
 outcome_commits w i v Piece none l = done_commits w i v none l
 outcome_commits w i v (Diverged j why) none l = record { done = refl; move = dma_move w i; is = refl; sphere = refl; more = omega arith }
 
-dma_is : (w : World) (i : ℕ) (p : Sphere) (b : Book) → sphere_at w i ≡ p → p.role ≡ Replay b → is_stopped (Replay b) ≡ false → actor_of b.now ≡ Some Actor.Dma
+dma_is : (w : World) (i : ℕ) (p : Sphere) (b : Cursor) → sphere_at w i ≡ p → p.role ≡ Replay b → is_stopped (Replay b) ≡ false → actor_of b.now ≡ Some Actor.Dma
     → transferring w i ≡ dma_if w i (dma_in (Replay b) w.devices p)
 unfolding transferring dma_moved
 dma_is w i p b at role going turn =
@@ -143,7 +143,7 @@ dma_is w i p b at role going turn =
 -- at the DMA's turn it is done
 pub dma-commits : (s : Setup) (w : World) (i : ℕ) → standing w ≡ None → 0 < length w.slots → HasActor s w i Actor.Dma → Commits i 0 (transferring w i)
 dma-commits s w i none l a =
-    let b = a.book in
+    let b = a.cursor in
     let v = dma_by_verdict b (dma_verdict b.log a.sphere.progress b.used) w.devices a.sphere in
     subst (Commits i 0) (sym (dma_is w i a.sphere b a.at a.role a.going a.turn))
     (outcome_commits w i v v.outcome (no-flight w none) l)

@@ -103,9 +103,9 @@ step-rose s w i k c h none a on found open_ =
 -- the thread lives
 thread_lives : (s : Setup) (w : World) (i k : ℕ) → HasActor s w i (Actor.Thread k) → (t : Parts) × (slice_get (sphere_at w i).threads k ≡ Some t) × (is_live t ≡ true)
 thread_lives s w i k a =
-    let h = has-run a.image a.sphere a.book k a.goes (turn-of s w i k a) in
-    let y = play_of a.image a.book a.sphere in
-    ((run y.memory h.0 a.book.total).thread, ap (λ (p : Sphere). slice_get p.threads k) a.at ∙ thread-now a.image a.sphere a.book k h.0 h.1, ap lives (run-status y.memory h.0 a.book.total) ∙ h.1.live)
+    let h = has-run a.image a.sphere a.cursor k a.goes (turn-of s w i k a) in
+    let y = play_of a.image a.cursor a.sphere in
+    ((run y.memory h.0 a.cursor.total).thread, ap (λ (p : Sphere). slice_get p.threads k) a.at ∙ thread-now a.image a.sphere a.cursor k h.0 h.1, ap lives (run-status y.memory h.0 a.cursor.total) ∙ h.1.live)
 
 -- its chunk, which has run nothing
 abbrev new_held : World → (i k : ℕ) → Parts → Held

@@ -8,7 +8,7 @@ use Rattle.spec_isa.specs.Words.{lays}
 use Rattle.spec_engine.specs.Flights.{Flight, at}
 use Rattle.spec_engine.proofs.Searches.{first_none}
 use Rattle.spec_play.specs.Turns.{Now, Turn, TurnOfDma, Over}
-use Rattle.spec_protocol.specs.Spheres.{Book, Role, Plain, Record, Replay, Sphere, no_sphere, is_over, actor_of}
+use Rattle.spec_protocol.specs.Spheres.{Cursor, Role, Plain, Record, Replay, Sphere, no_sphere, is_over, actor_of}
 use Rattle.spec_protocol.specs.World.{World, sphere_at}
 use Rattle.spec_protocol.specs.Machine.{SphereSetup, Setup}
 use Rattle.spec_protocol.specs.Shown.{flying, shown, shown_from, shown_of}
@@ -23,32 +23,32 @@ use Rattle.spec_finishing.proofs.Ending.Knowing.{Known}
 pub record FoundIn (i : ℕ) (ps : List Sphere) (who : Who) : Type 0 where
   pub index : ℕ
   pub sphere : Sphere
-  pub book : Book
+  pub cursor : Cursor
   pub is : who.sphere ≡ i + index
   pub there : slice_get ps index ≡ Some sphere
-  pub role : sphere.role ≡ Replay book
-  pub actor : actor_of book.now ≡ Some who.actor
+  pub role : sphere.role ≡ Replay cursor
+  pub actor : actor_of cursor.now ≡ Some who.actor
 
 found_later : (i : ℕ) (p : Sphere) (ps : List Sphere) (who : Who) → FoundIn (suc i) ps who → FoundIn i (p ∷ ps) who
 found_later i p ps who f =
     record {
       index = suc f.index;
       sphere = f.sphere;
-      book = f.book;
+      cursor = f.cursor;
       is = (let e = f.is in omega (arith, e));
       there = f.there;
       role = f.role;
       actor = f.actor;
     }
 
-found_now : (i : ℕ) (p : Sphere) (ps : List Sphere) (who : Who) (b : Book) (o : Option Actor) → p.role ≡ Replay b → actor_of b.now ≡ o → who_in i o (least (suc i) ps) ≡ Some who → (least (suc i) ps ≡ Some who → FoundIn i (p ∷ ps) who) → FoundIn i (p ∷ ps) who
+found_now : (i : ℕ) (p : Sphere) (ps : List Sphere) (who : Who) (b : Cursor) (o : Option Actor) → p.role ≡ Replay b → actor_of b.now ≡ o → who_in i o (least (suc i) ps) ≡ Some who → (least (suc i) ps ≡ Some who → FoundIn i (p ∷ ps) who) → FoundIn i (p ∷ ps) who
 found_now i p ps who b None role is e later = later e
 found_now i p ps who b (Some actor) role is e later =
     let h : record { sphere = i; actor = actor } ≡ who = cc in
     record {
       index = 0;
       sphere = p;
-      book = b;
+      cursor = b;
       is = (let x = ap (λ (y : Who). y.sphere) h in omega (arith, x));
       there = refl;
       role = role;
@@ -69,7 +69,7 @@ over_now (Turn k) e = absurd (none-some (Actor.Thread k) (sym e))
 over_now TurnOfDma e = absurd (none-some Actor.Dma (sym e))
 over_now (Over how) e = refl
 
-ends_in : (i : ℕ) (b : Book) (o : Option Actor) (others : Option Who) → actor_of b.now ≡ o → who_in i o others ≡ None → IsAtEnd (Replay b) × (others ≡ None)
+ends_in : (i : ℕ) (b : Cursor) (o : Option Actor) (others : Option Who) → actor_of b.now ≡ o → who_in i o others ≡ None → IsAtEnd (Replay b) × (others ≡ None)
 ends_in i b None others is e = (over_now b.now is, e)
 ends_in i b (Some actor) others is e = absurd (none-some _ (sym e))
 
@@ -119,16 +119,16 @@ get_is (q ∷ ps) (suc i) p e = let r = get_is ps i p e in (r.0, let l = r.1 in 
 pub record HasActor (s : Setup) (w : World) (i : ℕ) (actor : Actor) : Type 0 where
   pub image : SphereSetup
   pub sphere : Sphere
-  pub book : Book
+  pub cursor : Cursor
   pub there : slice_get w.spheres i ≡ Some sphere
   pub shows : slice_get (shown_of w).spheres i ≡ Some sphere
   pub at : sphere_at w i ≡ sphere
   pub within : i < length w.spheres
   pub starts : slice_get s.spheres i ≡ Some image
-  pub role : sphere.role ≡ Replay book
-  pub turn : actor_of book.now ≡ Some actor
-  pub going : is_over book.now ≡ false
-  pub goes : GoesOn image sphere book
+  pub role : sphere.role ≡ Replay cursor
+  pub turn : actor_of cursor.now ≡ Some actor
+  pub going : is_over cursor.now ≡ false
+  pub goes : GoesOn image sphere cursor
 
 going_now : (now : Now) (actor : Actor) → actor_of now ≡ Some actor → is_over now ≡ false
 going_now (Turn k) actor e = refl
@@ -143,12 +143,12 @@ has-actor s w who known none e =
     let there : slice_get w.spheres who.sphere ≡ Some f.sphere = ap (slice_get w.spheres) same ∙ f.there in
     let shows : slice_get (shown_of w).spheres who.sphere ≡ Some f.sphere = ap (λ (ps : List Sphere). slice_get ps who.sphere) (shown-itself w none) ∙ there in
     let image = known.stands.images who.sphere f.sphere shows in
-    let going = going_now f.book.now who.actor f.actor in
+    let going = going_now f.cursor.now who.actor f.actor in
     let at = get_is w.spheres who.sphere f.sphere there in
     record {
       image = image.0;
       sphere = f.sphere;
-      book = f.book;
+      cursor = f.cursor;
       there = there;
       shows = shows;
       at = at.0;
@@ -157,7 +157,7 @@ has-actor s w who known none e =
       role = f.role;
       turn = f.actor;
       going = going;
-      goes = known.stands.goes who.sphere image.0 f.sphere f.book image.1 shows f.role going;
+      goes = known.stands.goes who.sphere image.0 f.sphere f.cursor image.1 shows f.role going;
     }
 
 thread_turn : (now : Now) (k : ℕ) → actor_of now ≡ Some (Actor.Thread k) → now ≡ Turn k
@@ -165,6 +165,6 @@ thread_turn (Turn j) k e = let h : j ≡ k = cc in ap Turn h
 thread_turn TurnOfDma k e = cc
 thread_turn (Over how) k e = absurd (none-some (Actor.Thread k) e)
 
--- where a thread has the turn the replay's book says so
-pub turn-of : (s : Setup) (w : World) (i k : ℕ) → (h : HasActor s w i (Actor.Thread k)) → h.book.now ≡ Turn k
-turn-of s w i k h = thread_turn h.book.now k h.turn
+-- where a thread has the turn the replay's cursor says so
+pub turn-of : (s : Setup) (w : World) (i k : ℕ) → (h : HasActor s w i (Actor.Thread k)) → h.cursor.now ≡ Turn k
+turn-of s w i k h = thread_turn h.cursor.now k h.turn

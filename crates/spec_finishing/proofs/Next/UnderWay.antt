@@ -47,15 +47,15 @@ chunk_ran s w c h known none is =
     let live : IsCurrent (current w i) h.chunk = (known.good.held c h is).chunk.live (record { misses = λ k f e same untold. absurd (none-some f (sym (no-flight w none k) ∙ e)) }) in
     subst (λ (m : List ℕ). (run m h.chunk.start h.chunk.done.n).n ≡ h.chunk.done.n) (ap (lays (sphere_at w i).memory) empty) (ap (λ (r : Run). r.n) live.runs)
 
-held_affords : (s : Setup) (w : World) (c : ℕ) (h : Held) → Known s w → standing w ≡ None → at w.cores c ≡ Some h → (a : HasActor s w h.chunk.sphere (Actor.Thread h.thread)) → Afforded (next_work a.image a.sphere a.book) a.book.total h.chunk.done.n
+held_affords : (s : Setup) (w : World) (c : ℕ) (h : Held) → Known s w → standing w ≡ None → at w.cores c ≡ Some h → (a : HasActor s w h.chunk.sphere (Actor.Thread h.thread)) → Afforded (next_work a.image a.sphere a.cursor) a.cursor.total h.chunk.done.n
 held_affords s w c h known none is a =
     let held = known.good.held c h is in
     let turn = turn-of s w h.chunk.sphere h.thread a in
-    let t = has-run a.image a.sphere a.book h.thread a.goes turn in
-    let role : (sphere_at w h.chunk.sphere).role ≡ Replay a.book = ap (λ (p : Sphere). p.role) a.at ∙ a.role in
+    let t = has-run a.image a.sphere a.cursor h.thread a.goes turn in
+    let role : (sphere_at w h.chunk.sphere).role ≡ Replay a.cursor = ap (λ (p : Sphere). p.role) a.at ∙ a.role in
     let fits = held.limit (ap is_stopped role ∙ a.going) in
-    let limited : h.chunk.limit ≡ limit_of w.numbers.chunk (Replay a.book) h.thread h.chunk.start = fits.replayed (ap replays role) ∙ ap (λ (r : Role). limit_of w.numbers.chunk r h.thread h.chunk.start) role in
-    part-afforded a.image a.sphere a.book h.thread t.0 h.chunk.start w.numbers.chunk h.chunk.done.n turn t.1
+    let limited : h.chunk.limit ≡ limit_of w.numbers.chunk (Replay a.cursor) h.thread h.chunk.start = fits.replayed (ap replays role) ∙ ap (λ (r : Role). limit_of w.numbers.chunk r h.thread h.chunk.start) role in
+    part-afforded a.image a.sphere a.cursor h.thread t.0 h.chunk.start w.numbers.chunk h.chunk.done.n turn t.1
     (sym (ap (λ (p : Sphere). slice_get p.threads h.thread) a.at) ∙ held.start)
     (subst (λ (p : Sphere). (run p.memory h.chunk.start h.chunk.done.n).n ≡ h.chunk.done.n) a.at (chunk_ran s w c h known none is))
     (subst (λ (l : ℕ). h.chunk.done.n ≤ l) limited (closes_most w.numbers.buffer h.chunk h.chunk.closed refl held.chunk.closes))
@@ -64,12 +64,12 @@ held_affords s w c h known none is a =
 held_paid : (s : Setup) (w : World) (c : ℕ) (h : Held) → Known s w → standing w ≡ None → at w.cores c ≡ Some h → HasActor s w h.chunk.sphere (Actor.Thread h.thread) → paid s.cores h.chunk.done.n ≤ spheres_rest s.cores s.spheres w.spheres
 held_paid s w c h known none is a =
     let n = h.chunk.done.n in
-    let work = next_work a.image a.sphere a.book in
-    let after = behind a.image a.sphere a.book in
+    let work = next_work a.image a.sphere a.cursor in
+    let after = behind a.image a.sphere a.cursor in
     let afford = held_affords s w c h known none is a in
-    let enough = afford-paid s.cores work a.book.total n afford in
-    let before = rest-before s.cores a.image a.sphere a.book a.role a.going a.goes in
-    let more = price-least s.cores (work - a.book.total) ((work + after) - a.book.total) (omega arith) in
+    let enough = afford-paid s.cores work a.cursor.total n afford in
+    let before = rest-before s.cores a.image a.sphere a.cursor a.role a.going a.goes in
+    let more = price-least s.cores (work - a.cursor.total) ((work + after) - a.cursor.total) (omega arith) in
     let all = sphere-least s.cores s.spheres w.spheres h.chunk.sphere a.image a.sphere a.starts a.there in
     omega (arith, enough, before, more, all)
 

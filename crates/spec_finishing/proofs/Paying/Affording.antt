@@ -13,7 +13,7 @@ use Rattle.spec_log.specs.Size.{size_in}
 use Rattle.spec_kernel.specs.Needs.{next_kind}
 use Rattle.spec_play.specs.Turns.{Turn}
 use Rattle.spec_play.specs.Plays.{Played, size_or_standard}
-use Rattle.spec_protocol.specs.Spheres.{whole_limit, pieces_of, limit_of, Book, Replay}
+use Rattle.spec_protocol.specs.Spheres.{whole_limit, pieces_of, limit_of, Cursor, Replay}
 use Rattle.spec_protocol.proofs.Moves.Threads.{run-keeps}
 use Rattle.spec_finishing.specs.Work.{thread_work, turn_work, now_work, commit_work}
 use Rattle.spec_finishing.proofs.Paying.Runs.{run-longer, run-joined, run-serial}
@@ -84,7 +84,7 @@ pieces_same : (k total : ℕ) → pieces_of (Turn k) k total ≡ total
 pieces_same k total = ap (λ (b : Bool). cond b total 0) (eq-eqb k k refl)
 
 -- of the commit's limit the pieces are taken off
-pub part-limit : (s : ℕ) (b : Book) (k : ℕ) (m : List ℕ) (t : Parts) → b.now ≡ Turn k → limit_of s (Replay b) k (run m t b.total).thread ≡ max 1 (whole_limit b.log k t.commits - b.total)
+pub part-limit : (s : ℕ) (b : Cursor) (k : ℕ) (m : List ℕ) (t : Parts) → b.now ≡ Turn k → limit_of s (Replay b) k (run m t b.total).thread ≡ max 1 (whole_limit b.log k t.commits - b.total)
 unfolding limit_of
 part-limit s b k m t turn =
     (λ i. max 1 (whole_limit b.log k (run-keeps m t b.total i) - pieces_of (turn i) k b.total))

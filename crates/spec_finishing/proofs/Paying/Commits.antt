@@ -12,7 +12,7 @@ use Rattle.spec_play.specs.Turns.{Over}
 use Rattle.spec_play.specs.Verdicts.{Verdict, Goes, Fails, chunk_verdict}
 use Rattle.spec_play.specs.Plays.{opened, with_threads}
 use Rattle.spec_engine.specs.declared.answers.How.{How}
-use Rattle.spec_protocol.specs.Spheres.{Book, Role, Replay, Sphere, is_over, limit_of}
+use Rattle.spec_protocol.specs.Spheres.{Cursor, Role, Replay, Sphere, is_over, limit_of}
 use Rattle.spec_protocol.specs.Commits.{turned, is_piece, joined, by_verdict, replayed_chunk, chunk_in, chunk_moved}
 use Rattle.spec_protocol.specs.Placing.{replays}
 use Rattle.spec_protocol.specs.World.{Numbers}
@@ -30,26 +30,26 @@ use Rattle.spec_replay.proofs.Replays.Moved.{turn_of_thread}
 -- ---- before and after
 
 -- the work of the next commit of the play
-abbrev pub next_work : SphereSetup → Sphere → Book → ℕ
+abbrev pub next_work : SphereSetup → Sphere → Cursor → ℕ
 next_work image p b = commit_work b.log (play_of image b p)
 
 -- the work that a play has behind its next commit
-abbrev pub behind : SphereSetup → Sphere → Book → ℕ
+abbrev pub behind : SphereSetup → Sphere → Cursor → ℕ
 behind image p b = later b.log (opened b.log image.memory image.entry) (position p.progress)
 
 -- what a replay that goes on has left: the price of its next commit and of those behind, but for the pieces that are
 -- done
-pub rest-before : (c : ℕ) (image : SphereSetup) (p : Sphere) (b : Book) → p.role ≡ Replay b → is_over b.now ≡ false → GoesOn image p b → sphere_rest c image p ≡ price c ((next_work image p b + behind image p b) - b.total)
+pub rest-before : (c : ℕ) (image : SphereSetup) (p : Sphere) (b : Cursor) → p.role ≡ Replay b → is_over b.now ≡ false → GoesOn image p b → sphere_rest c image p ≡ price c ((next_work image p b + behind image p b) - b.total)
 rest-before c image p b role going g =
     (λ i. sphere_rest c image (record p { role = role i }))
     ∙ ap (price c) (left-going image b (position p.progress) going ∙ left-step b.log (opened b.log image.memory image.entry) (position p.progress) b.total g.ahead)
 
 -- a verdict on the whole commit
-pub verdict-pays : (c : ℕ) (image : SphereSetup) (p : Sphere) (b : Book) (k : ℕ) (x : Verdict) (devices : Devices) (l : ℕ) → p.role ≡ Replay b → is_over b.now ≡ false → GoesOn image p b → suc b.total ≤ next_work image p b → l ≤ price c (next_work image p b - b.total)
+pub verdict-pays : (c : ℕ) (image : SphereSetup) (p : Sphere) (b : Cursor) (k : ℕ) (x : Verdict) (devices : Devices) (l : ℕ) → p.role ≡ Replay b → is_over b.now ≡ false → GoesOn image p b → suc b.total ≤ next_work image p b → l ≤ price c (next_work image p b - b.total)
     → sphere_rest c image (laid (by_verdict b k x devices p)) + l ≤ sphere_rest c image p
 verdict-pays c image p b k (Fails why) devices l role going g some enough =
     let before = rest-before c image p b role going g in
-    let ended : Book = record b { now = Over (End.Diverged (position p.progress) why) } in
+    let ended : Cursor = record b { now = Over (End.Diverged (position p.progress) why) } in
     let over = left-over image ended (position p.progress) refl in
     let pays = whole-pays c (next_work image p b) b.total (behind image p b) l some enough (replay_left image ended (position p.progress)) (omega (arith, over)) in
     omega (arith, before, pays)
@@ -69,11 +69,11 @@ part_done work total n (Enough l) = omega arith
 part_done work total n (Lone none few some) = omega arith
 
 -- a piece
-piece_rest : (c : ℕ) (image : SphereSetup) (p : Sphere) (b : Book) (k : ℕ) (r : Run) (n : ℕ) (devices : Devices) → p.role ≡ Replay b → is_over b.now ≡ false → GoesOn image p b → r.n ≡ n → 0 < n → Afforded (next_work image p b) b.total n
+piece_rest : (c : ℕ) (image : SphereSetup) (p : Sphere) (b : Cursor) (k : ℕ) (r : Run) (n : ℕ) (devices : Devices) → p.role ≡ Replay b → is_over b.now ≡ false → GoesOn image p b → r.n ≡ n → 0 < n → Afforded (next_work image p b) b.total n
     → sphere_rest c image (laid (replayed_chunk true b k r devices p)) + paid c n ≤ sphere_rest c image p
 piece_rest c image p b k r n devices role going g is some afford =
     let before = rest-before c image p b role going g in
-    let part : Book = record b { total = b.total + r.n; loads = b.loads ++ r.loads } in
+    let part : Cursor = record b { total = b.total + r.n; loads = b.loads ++ r.loads } in
     let x = opened b.log image.memory image.entry in
     let after : price c (replay_left image part (position p.progress)) ≡ price c ((next_work image p b + behind image p b) - (b.total + n)) =
     ap (price c) (left-going image part (position p.progress) going ∙ left-step b.log x (position p.progress) part.total g.ahead
@@ -82,7 +82,7 @@ piece_rest c image p b k r n devices role going g is some afford =
     let pays = piece-pays c (next_work image p b) b.total (behind image p b) n (part_done (next_work image p b) b.total n afford) some in
     omega (arith, before, after, pays)
 
-part_rest : (c : ℕ) (image : SphereSetup) (p : Sphere) (b : Book) (k : ℕ) (piece : Bool) (r : Run) (n : ℕ) (devices : Devices) → p.role ≡ Replay b → is_over b.now ≡ false → GoesOn image p b → r.n ≡ n → (piece ≡ true → 0 < n) → Afforded (next_work image p b) b.total n
+part_rest : (c : ℕ) (image : SphereSetup) (p : Sphere) (b : Cursor) (k : ℕ) (piece : Bool) (r : Run) (n : ℕ) (devices : Devices) → p.role ≡ Replay b → is_over b.now ≡ false → GoesOn image p b → r.n ≡ n → (piece ≡ true → 0 < n) → Afforded (next_work image p b) b.total n
     → sphere_rest c image (laid (replayed_chunk piece b k r devices p)) + paid c n ≤ sphere_rest c image p
 part_rest c image p b k true r n devices role going g is some afford = piece_rest c image p b k r n devices role going g is (some refl) afford
 part_rest c image p b k false r n devices role going g is some afford =
@@ -102,7 +102,7 @@ how_some How.Overflow n buffer positive cut room e = let l = room refl in omega 
 how_some How.Cut n buffer positive cut room e = cut refl
 
 -- a chunk of a replay that can be done as its move says
-pub chunk-pays : (c : ℕ) (image : SphereSetup) (z : Numbers) (p : Sphere) (b : Book) (k : ℕ) (u : Parts) (how : How) (n limit : ℕ) (short : Bool) (devices : Devices) → 0 < z.buffer → p.role ≡ Replay b → is_over b.now ≡ false → GoesOn image p b
+pub chunk-pays : (c : ℕ) (image : SphereSetup) (z : Numbers) (p : Sphere) (b : Cursor) (k : ℕ) (u : Parts) (how : How) (n limit : ℕ) (short : Bool) (devices : Devices) → 0 < z.buffer → p.role ≡ Replay b → is_over b.now ≡ false → GoesOn image p b
     → slice_get p.threads k ≡ Some u → ChunkFits z p k u how n limit → sphere_rest c image (laid (chunk_moved k (is_piece how) short (run p.memory u n) devices p)) + paid c n ≤ sphere_rest c image p
 unfolding chunk_moved
 chunk-pays c image z p b k u how n limit short devices positive role going g is fits =

@@ -10,7 +10,7 @@ use Rattle.spec_log.specs.declared.LogParts.{LogParts}
 use Rattle.spec_play.specs.Progress.{position}
 use Rattle.spec_play.specs.Turns.{Now, Turn, TurnOfDma}
 use Rattle.spec_play.specs.Plays.{Played, opened, plays}
-use Rattle.spec_protocol.specs.Spheres.{Book, Replay, Sphere, is_over, whole_limit, limit_of}
+use Rattle.spec_protocol.specs.Spheres.{Cursor, Replay, Sphere, is_over, whole_limit, limit_of}
 use Rattle.spec_protocol.specs.Machine.{SphereSetup}
 use Rattle.spec_protocol.proofs.Moves.Granted.{get-set_same}
 use Rattle.spec_replay.specs.Following.{IsWhole, StandsAt, Follows}
@@ -21,25 +21,25 @@ use Rattle.spec_finishing.proofs.Paying.Plays.{plays-ahead}
 -- ---- beside its play
 
 -- where the play of its log stands after the replay's whole commits
-abbrev pub play_of : SphereSetup → Book → Sphere → Played
+abbrev pub play_of : SphereSetup → Cursor → Sphere → Played
 play_of image b p = plays b.log (opened b.log image.memory image.entry) (position p.progress)
 
-record Beside (log : LogParts) (y : Played) (p : Sphere) (b : Book) : Type 0 where
+record Beside (log : LogParts) (y : Played) (p : Sphere) (b : Cursor) : Type 0 where
   now : b.now ≡ y.now
   progress : p.progress ≡ y.progress
   used : b.used ≡ y.used
   state : StandsAt log y y.now p b
 
--- the replay p, with book b, goes on
-pub record GoesOn (image : SphereSetup) (p : Sphere) (b : Book) : Type 0 where
+-- the replay p, with cursor b, goes on
+pub record GoesOn (image : SphereSetup) (p : Sphere) (b : Cursor) : Type 0 where
   pub now : b.now ≡ (play_of image b p).now
   pub progress : p.progress ≡ (play_of image b p).progress
   pub used : b.used ≡ (play_of image b p).used
   pub state : StandsAt b.log (play_of image b p) (play_of image b p).now p b
   pub ahead : position p.progress < b.log.count
 
-beside_book : (log : LogParts) (y : Played) (p : Sphere) → (f : Follows log y p) → is_over f.book.now ≡ false → Beside log y p f.book
-beside_book log y p f going =
+beside_cursor : (log : LogParts) (y : Played) (p : Sphere) → (f : Follows log y p) → is_over f.cursor.now ≡ false → Beside log y p f.cursor
+beside_cursor log y p f going =
     record {
       now = elim f.now [
         | inl e ↦ e
@@ -50,7 +50,7 @@ beside_book log y p f going =
       state = f.state;
     }
 
-goes_with : (image : SphereSetup) (p : Sphere) (b : Book) → is_over b.now ≡ false → Beside b.log (play_of image b p) p b → GoesOn image p b
+goes_with : (image : SphereSetup) (p : Sphere) (b : Cursor) → is_over b.now ≡ false → Beside b.log (play_of image b p) p b → GoesOn image p b
 goes_with image p b going s =
     let y = play_of image b p in
     record {
@@ -61,22 +61,22 @@ goes_with image p b going s =
       ahead = subst (λ (n : ℕ). n < b.log.count) (sym (ap position s.progress)) (plays-ahead b.log image.memory image.entry (position p.progress) (sym (ap is_over s.now) ∙ going));
     }
 
-goes_book : (image : SphereSetup) (log : LogParts) (p : Sphere) → (f : Follows log (plays log (opened log image.memory image.entry) (position p.progress)) p) → is_over f.book.now ≡ false → GoesOn image p f.book
-goes_book image log p f going =
-    goes_with image p f.book going
-    (subst (λ (l : LogParts). Beside l (plays l (opened l image.memory image.entry) (position p.progress)) p f.book) (sym f.same_log)
-    (beside_book log (plays log (opened log image.memory image.entry) (position p.progress)) p f going))
+goes_cursor : (image : SphereSetup) (log : LogParts) (p : Sphere) → (f : Follows log (plays log (opened log image.memory image.entry) (position p.progress)) p) → is_over f.cursor.now ≡ false → GoesOn image p f.cursor
+goes_cursor image log p f going =
+    goes_with image p f.cursor going
+    (subst (λ (l : LogParts). Beside l (plays l (opened l image.memory image.entry) (position p.progress)) p f.cursor) (sym f.same_log)
+    (beside_cursor log (plays log (opened log image.memory image.entry) (position p.progress)) p f going))
 
 -- a replay that follows its log's play and isn't over goes on beside it
-pub goes-on : (image : SphereSetup) (log : LogParts) (p : Sphere) (b : Book) → Follows log (plays log (opened log image.memory image.entry) (position p.progress)) p → p.role ≡ Replay b → is_over b.now ≡ false → GoesOn image p b
+pub goes-on : (image : SphereSetup) (log : LogParts) (p : Sphere) (b : Cursor) → Follows log (plays log (opened log image.memory image.entry) (position p.progress)) p → p.role ≡ Replay b → is_over b.now ≡ false → GoesOn image p b
 goes-on image log p b f role going =
-    let e : f.book ≡ b = (let h : Replay f.book ≡ Replay b = sym f.role ∙ role in cc) in
-    subst (λ (c : Book). is_over c.now ≡ false → GoesOn image p c) e (goes_book image log p f) going
+    let e : f.cursor ≡ b = (let h : Replay f.cursor ≡ Replay b = sym f.role ∙ role in cc) in
+    subst (λ (c : Cursor). is_over c.now ≡ false → GoesOn image p c) e (goes_cursor image log p f) going
 
 -- ---- the thread whose turn it is
 
 -- thread k, which was t in the play, has run b.total instructions of its present commit
-pub record HasRun (image : SphereSetup) (p : Sphere) (b : Book) (k : ℕ) (t : Parts) : Type 0 where
+pub record HasRun (image : SphereSetup) (p : Sphere) (b : Cursor) (k : ℕ) (t : Parts) : Type 0 where
   pub turn : (play_of image b p).now ≡ Turn k
   pub is : slice_get (play_of image b p).threads k ≡ Some t
   pub live : is_live t ≡ true
@@ -85,7 +85,7 @@ pub record HasRun (image : SphereSetup) (p : Sphere) (b : Book) (k : ℕ) (t : P
   pub threads : p.threads ≡ set (play_of image b p).threads k (run (play_of image b p).memory t b.total).thread
   pub within : b.total < whole_limit b.log k t.commits
 
-moved_on : (image : SphereSetup) (p : Sphere) (b : Book) (k : ℕ) → (play_of image b p).now ≡ Turn k → StandsAt b.log (play_of image b p) (Turn k) p b → (t : Parts) × HasRun image p b k t
+moved_on : (image : SphereSetup) (p : Sphere) (b : Cursor) (k : ℕ) → (play_of image b p).now ≡ Turn k → StandsAt b.log (play_of image b p) (Turn k) p b → (t : Parts) × HasRun image p b k t
 moved_on image p b k turn s =
     let m = s.1 in (
       s.0,
@@ -100,24 +100,24 @@ moved_on image p b k turn s =
       },
     )
 
--- the thread whose turn it is has run the pieces that its book has
-pub has-run : (image : SphereSetup) (p : Sphere) (b : Book) (k : ℕ) → GoesOn image p b → b.now ≡ Turn k → (t : Parts) × HasRun image p b k t
+-- the thread whose turn it is has run the pieces that its cursor has
+pub has-run : (image : SphereSetup) (p : Sphere) (b : Cursor) (k : ℕ) → GoesOn image p b → b.now ≡ Turn k → (t : Parts) × HasRun image p b k t
 has-run image p b k g turn =
     let now = sym g.now ∙ turn in
     moved_on image p b k now (subst (λ (n : Now). StandsAt b.log (play_of image b p) n p b) now g.state)
 
 -- at a DMA's turn no piece of a commit is done
-pub is-whole : (image : SphereSetup) (p : Sphere) (b : Book) → GoesOn image p b → b.now ≡ TurnOfDma → IsWhole (play_of image b p) p b
+pub is-whole : (image : SphereSetup) (p : Sphere) (b : Cursor) → GoesOn image p b → b.now ≡ TurnOfDma → IsWhole (play_of image b p) p b
 is-whole image p b g turn = subst (λ (n : Now). StandsAt b.log (play_of image b p) n p b) (sym g.now ∙ turn) g.state
 
 -- the thread as it is now
-pub thread-now : (image : SphereSetup) (p : Sphere) (b : Book) (k : ℕ) (t : Parts) → HasRun image p b k t → slice_get p.threads k ≡ Some (run (play_of image b p).memory t b.total).thread
+pub thread-now : (image : SphereSetup) (p : Sphere) (b : Cursor) (k : ℕ) (t : Parts) → HasRun image p b k t → slice_get p.threads k ≡ Some (run (play_of image b p).memory t b.total).thread
 thread-now image p b k t h =
     ap (λ (ts : List Parts). slice_get ts k) h.threads
     ∙ get-set_same (play_of image b p).threads k (run (play_of image b p).memory t b.total).thread t h.is
 
 -- a part of n instructions more is paid for
-pub part-afforded : (image : SphereSetup) (p : Sphere) (b : Book) (k : ℕ) (t u : Parts) (s n : ℕ) → b.now ≡ Turn k → HasRun image p b k t → slice_get p.threads k ≡ Some u → (run p.memory u n).n ≡ n → n ≤ limit_of s (Replay b) k u
+pub part-afforded : (image : SphereSetup) (p : Sphere) (b : Cursor) (k : ℕ) (t u : Parts) (s n : ℕ) → b.now ≡ Turn k → HasRun image p b k t → slice_get p.threads k ≡ Some u → (run p.memory u n).n ≡ n → n ≤ limit_of s (Replay b) k u
     → Afforded (commit_work b.log (play_of image b p)) b.total n
 part-afforded image p b k t u s n turn h is ran most =
     let y = play_of image b p in

@@ -5,7 +5,7 @@ use Rattle.spec_isa.specs.declared.thread.Parts.{Parts}
 use Rattle.spec_isa.specs.Runs.{run}
 use Rattle.spec_kernel.specs.Devices.{Devices}
 use Rattle.spec_engine.specs.declared.answers.How.{How}
-use Rattle.spec_protocol.specs.Spheres.{Book, Replay, Sphere, is_over, is_stopped}
+use Rattle.spec_protocol.specs.Spheres.{Cursor, Replay, Sphere, is_over, is_stopped}
 use Rattle.spec_protocol.specs.Commits.{Moved, is_piece, chunk_moved, serial_moved, dma_moved, raised}
 use Rattle.spec_protocol.specs.Placing.{replays}
 use Rattle.spec_protocol.specs.World.{Numbers, What, OfChunk, OfSerial, OfDma, OfRaise, Move}
@@ -103,7 +103,7 @@ what_own c images z x moment i image p (OfRaise k value) there is live = raise_o
 -- ---- a replay
 
 -- a chunk of a replay pays for its flight with what the play has left less
-pub chunk_paid : (c : ℕ) (images : List SphereSetup) (z : Numbers) (x : Whole) (i k : ℕ) (how : How) (n limit : ℕ) (image : SphereSetup) (p : Sphere) (b : Book) (o : Option Parts) → 0 < z.buffer → slice_get images i ≡ Some image → slice_get x.spheres i ≡ Some p → p.role ≡ Replay b
+pub chunk_paid : (c : ℕ) (images : List SphereSetup) (z : Numbers) (x : Whole) (i k : ℕ) (how : How) (n limit : ℕ) (image : SphereSetup) (p : Sphere) (b : Cursor) (o : Option Parts) → 0 < z.buffer → slice_get images i ≡ Some image → slice_get x.spheres i ≡ Some p → p.role ≡ Replay b
     → (is_over b.now ≡ false → GoesOn image p b) → slice_get p.threads k ≡ o → FitsChunk z p k how n limit o → spheres_rest c images (move_chunk z x i k how n limit p o).spheres + paid c n ≤ spheres_rest c images x.spheres + 0
 chunk_paid c images z x i k how n limit image p b None positive there is role goes thread fits = absurd fits
 chunk_paid c images z x i k how n limit image p b (Some t) positive there is role goes thread fits =
@@ -112,7 +112,7 @@ chunk_paid c images z x i k how n limit image p b (Some t) positive there is rol
     spheres-pay c images x.spheres i image p (laid (chunk_moved k (is_piece how) (is_short z.chunk how limit) (run p.memory t n) x.devices p)) (paid c n) 0 there is (omega (arith, pays))
 
 -- a serial step of a replay pays for its flight with what the play has left less
-pub serial_paid : (c : ℕ) (images : List SphereSetup) (x : Whole) (i k moment : ℕ) (image : SphereSetup) (p : Sphere) (b : Book) (o : Option Parts) → slice_get images i ≡ Some image → slice_get x.spheres i ≡ Some p → p.role ≡ Replay b
+pub serial_paid : (c : ℕ) (images : List SphereSetup) (x : Whole) (i k moment : ℕ) (image : SphereSetup) (p : Sphere) (b : Cursor) (o : Option Parts) → slice_get images i ≡ Some image → slice_get x.spheres i ≡ Some p → p.role ≡ Replay b
     → (is_over b.now ≡ false → GoesOn image p b) → slice_get p.threads k ≡ o → FitsSerial p k o → spheres_rest c images (do_serial x i k moment p o).spheres + (serial_most c p x.devices moment k o + 3) ≤ spheres_rest c images x.spheres + 0
 serial_paid c images x i k moment image p b None there is role goes thread fits = absurd fits
 serial_paid c images x i k moment image p b (Some t) there is role goes thread fits =

@@ -10,7 +10,7 @@ use Rattle.spec_play.specs.Verdicts.{Verdict, Goes, Fails}
 use Rattle.spec_play.specs.Transfers.{DmaVerdict, DmaGoes, DmaFails, dma_verdict}
 use Rattle.spec_play.specs.Plays.{Played, opened, settled, thread_verdict, play_thread, dma_settled, play_now, play_one, plays}
 use Rattle.spec_kernel.specs.Needs.{next_kind}
-use Rattle.spec_protocol.specs.Spheres.{Book, is_over}
+use Rattle.spec_protocol.specs.Spheres.{Cursor, is_over}
 use Rattle.spec_protocol.specs.Commits.{turned}
 use Rattle.spec_protocol.specs.Machine.{SphereSetup}
 use Rattle.spec_finishing.specs.Work.{commit_work, commits_work}
@@ -70,12 +70,12 @@ plays-ahead log m entry i going =
 -- ---- what is left
 
 -- a replay that is over has nothing left
-pub left-over : (image : SphereSetup) (b : Book) (i : ℕ) → is_over b.now ≡ true → replay_left image b i ≡ 0
+pub left-over : (image : SphereSetup) (b : Cursor) (i : ℕ) → is_over b.now ≡ true → replay_left image b i ≡ 0
 unfolding replay_left
 left-over image b i e = ap {A = Bool} (λ o. cond o 0 (play_left b.log (opened b.log image.memory image.entry) i b.total)) e
 
 -- a replay that goes on has left what its play has, but for the pieces that are done
-pub left-going : (image : SphereSetup) (b : Book) (i : ℕ) → is_over b.now ≡ false → replay_left image b i ≡ play_left b.log (opened b.log image.memory image.entry) i b.total
+pub left-going : (image : SphereSetup) (b : Cursor) (i : ℕ) → is_over b.now ≡ false → replay_left image b i ≡ play_left b.log (opened b.log image.memory image.entry) i b.total
 unfolding replay_left
 left-going image b i e = ap {A = Bool} (λ o. cond o 0 (play_left b.log (opened b.log image.memory image.entry) i b.total)) e
 
@@ -84,7 +84,7 @@ less_or_none true n = omega arith
 less_or_none false n = omega arith
 
 -- a replay has no more left than its play
-pub left-most : (image : SphereSetup) (b : Book) (i : ℕ) → replay_left image b i ≤ play_left b.log (opened b.log image.memory image.entry) i b.total
+pub left-most : (image : SphereSetup) (b : Cursor) (i : ℕ) → replay_left image b i ≤ play_left b.log (opened b.log image.memory image.entry) i b.total
 unfolding replay_left
 left-most image b i = less_or_none (is_over b.now) (play_left b.log (opened b.log image.memory image.entry) i b.total)
 

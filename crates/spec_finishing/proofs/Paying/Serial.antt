@@ -15,7 +15,7 @@ use Rattle.spec_play.specs.Progress.{position, with_dma, with_dma_used}
 use Rattle.spec_play.specs.Turns.{TurnOfDma, Over}
 use Rattle.spec_play.specs.Verdicts.{Verdict, Goes, Fails, serial_verdict}
 use Rattle.spec_play.specs.Transfers.{DmaVerdict, DmaGoes, DmaFails, dma_verdict}
-use Rattle.spec_protocol.specs.Spheres.{Book, Role, Replay, Sphere, is_over, is_in_pieces}
+use Rattle.spec_protocol.specs.Spheres.{Cursor, Role, Replay, Sphere, is_over, is_in_pieces}
 use Rattle.spec_protocol.specs.Commits.{Moved, turned, by_verdict, serial_in, serial_moved, dma_by_verdict, dma_in, dma_moved}
 use Rattle.spec_protocol.specs.Machine.{SphereSetup}
 use Rattle.spec_protocol.specs.Serial.{laid}
@@ -31,11 +31,11 @@ use Rattle.spec_replay.proofs.Commits.Standing.{set_here}
 
 -- ---- serial steps
 
-verdict_words : (b : Book) (k : ℕ) (x : Verdict) (devices : Devices) (p : Sphere) → length (by_verdict b k x devices p).words ≡ stored x
+verdict_words : (b : Cursor) (k : ℕ) (x : Verdict) (devices : Devices) (p : Sphere) → length (by_verdict b k x devices p).words ≡ stored x
 verdict_words b k (Goes e u) devices p = refl
 verdict_words b k (Fails why) devices p = refl
 
-no_pieces : (p : Sphere) (b : Book) → p.role ≡ Replay b → is_in_pieces p.role ≡ false → b.total ≡ 0
+no_pieces : (p : Sphere) (b : Cursor) → p.role ≡ Replay b → is_in_pieces p.role ≡ false → b.total ≡ 0
 no_pieces p b role e =
     elim (cases_lt 0 b.total) [
       | inl l ↦ absurd (true≢false (sym (lt-ltb 0 b.total l) ∙ sym (ap is_in_pieces role) ∙ e))
@@ -43,12 +43,12 @@ no_pieces p b role e =
     ]
 
 -- where no piece stands, the sphere is as its play's
-record Unmoved (image : SphereSetup) (p : Sphere) (b : Book) (t u : Parts) : Type 0 where
+record Unmoved (image : SphereSetup) (p : Sphere) (b : Cursor) (t u : Parts) : Type 0 where
   thread : u ≡ t
   memory : p.memory ≡ (play_of image b p).memory
   threads : p.threads ≡ (play_of image b p).threads
 
-unmoved : (image : SphereSetup) (p : Sphere) (b : Book) (k : ℕ) (t u : Parts) → HasRun image p b k t → b.total ≡ 0 → slice_get p.threads k ≡ Some u → Unmoved image p b t u
+unmoved : (image : SphereSetup) (p : Sphere) (b : Cursor) (k : ℕ) (t u : Parts) → HasRun image p b k t → b.total ≡ 0 → slice_get p.threads k ≡ Some u → Unmoved image p b t u
 unmoved image p b k t u h none is =
     let y = play_of image b p in
     let start : run y.memory t b.total ≡ run y.memory t 0 = ap (run y.memory t) none in
@@ -63,7 +63,7 @@ kind_is None some = absurd (true≢false (sym some))
 kind_is (Some kind) some = (kind, refl)
 
 -- the work of the commit is that of this verdict
-serial_is : (image : SphereSetup) (p : Sphere) (b : Book) (k : ℕ) (t u : Parts) (kind : Kind) → GoesOn image p b → HasRun image p b k t → Unmoved image p b t u → next_kind u p.memory ≡ Some kind
+serial_is : (image : SphereSetup) (p : Sphere) (b : Cursor) (k : ℕ) (t u : Parts) (kind : Kind) → GoesOn image p b → HasRun image p b k t → Unmoved image p b t u → next_kind u p.memory ≡ Some kind
     → next_work image p b ≡ suc (stored (serial_verdict b.log p.progress b.used k p.threads u p.memory))
 unfolding commit_work
 serial_is image p b k t u kind g h s next =
@@ -72,7 +72,7 @@ serial_is image p b k t u kind g h s next =
     ap (now_work b.log y) h.turn ∙ ap (turn_work b.log y k) h.is ∙ ap (λ (o : Option Kind). suc (thread_work b.log y k t o)) same
     ∙ (λ i. suc (stored (serial_verdict b.log (sym g.progress i) (sym g.used i) k (sym s.threads i) (sym s.thread i) (sym s.memory i))))
 
-serial_rest : (c : ℕ) (image : SphereSetup) (p : Sphere) (b : Book) (k : ℕ) (x : Verdict) (devices : Devices) → p.role ≡ Replay b → is_over b.now ≡ false → GoesOn image p b → b.total ≡ 0 → next_work image p b ≡ suc (stored x)
+serial_rest : (c : ℕ) (image : SphereSetup) (p : Sphere) (b : Cursor) (k : ℕ) (x : Verdict) (devices : Devices) → p.role ≡ Replay b → is_over b.now ≡ false → GoesOn image p b → b.total ≡ 0 → next_work image p b ≡ suc (stored x)
     → sphere_rest c image (laid (by_verdict b k x devices p)) + ((length (by_verdict b k x devices p).words + c + 1) + 3) ≤ sphere_rest c image p
 serial_rest c image p b k x devices role going g none work =
     let e : next_work image p b - b.total ≡ suc (stored x) = omega (arith, none, work) in
@@ -83,7 +83,7 @@ serial_rest c image p b k x devices role going g none work =
     pays
 
 -- a serial step of a replay that goes on pays for its flight and three events
-pub serial-pays : (c : ℕ) (image : SphereSetup) (p : Sphere) (b : Book) (k moment : ℕ) (u : Parts) (devices : Devices) → p.role ≡ Replay b → is_over b.now ≡ false → GoesOn image p b → slice_get p.threads k ≡ Some u → SerialFits p k u
+pub serial-pays : (c : ℕ) (image : SphereSetup) (p : Sphere) (b : Cursor) (k moment : ℕ) (u : Parts) (devices : Devices) → p.role ≡ Replay b → is_over b.now ≡ false → GoesOn image p b → slice_get p.threads k ≡ Some u → SerialFits p k u
     → let v = serial_moved k moment u devices p in sphere_rest c image (laid v) + ((length v.words + c + 1) + 3) ≤ sphere_rest c image p
 unfolding serial_moved
 serial-pays c image p b k moment u devices role going g is fits =
@@ -97,11 +97,11 @@ serial-pays c image p b k moment u devices role going g is fits =
 
 -- ---- DMAs
 
-dma_rest : (c : ℕ) (image : SphereSetup) (p : Sphere) (b : Book) (x : DmaVerdict) (devices : Devices) → p.role ≡ Replay b → is_over b.now ≡ false → GoesOn image p b → b.total ≡ 0 → next_work image p b ≡ suc (dma_stored x)
+dma_rest : (c : ℕ) (image : SphereSetup) (p : Sphere) (b : Cursor) (x : DmaVerdict) (devices : Devices) → p.role ≡ Replay b → is_over b.now ≡ false → GoesOn image p b → b.total ≡ 0 → next_work image p b ≡ suc (dma_stored x)
     → let v = dma_by_verdict b x devices p in sphere_rest c image (laid v) + ((length v.words + c + 1) + 3) ≤ sphere_rest c image p
 dma_rest c image p b (DmaFails why) devices role going g none work =
     let before = rest-before c image p b role going g in
-    let ended : Book = record b { now = Over (End.Diverged (position p.progress) why) } in
+    let ended : Cursor = record b { now = Over (End.Diverged (position p.progress) why) } in
     let over = left-over image ended (position p.progress) refl in
     let e : next_work image p b - b.total ≡ 1 = omega (arith, none, work) in
     let h = ap (price c) e in
@@ -120,7 +120,7 @@ dma_rest c image p b (DmaGoes words) devices role going g none work =
     let pays = whole-pays c (next_work image p b) b.total (behind image p b) ((length words + c + 1) + 3) (omega (arith, none, work)) (omega (arith, h, paid_)) (replay_left image after (position progress)) most in
     omega (arith, before, pays)
 
-dma_is : (image : SphereSetup) (p : Sphere) (b : Book) → GoesOn image p b → b.now ≡ TurnOfDma → next_work image p b ≡ suc (dma_stored (dma_verdict b.log p.progress b.used))
+dma_is : (image : SphereSetup) (p : Sphere) (b : Cursor) → GoesOn image p b → b.now ≡ TurnOfDma → next_work image p b ≡ suc (dma_stored (dma_verdict b.log p.progress b.used))
 unfolding commit_work
 dma_is image p b g turn =
     let y = play_of image b p in
@@ -132,7 +132,7 @@ DmaPays c image p None = Unit {0}
 DmaPays c image p (Some v) = sphere_rest c image (laid v) + ((length v.words + c + 1) + 3) ≤ sphere_rest c image p
 
 -- a DMA of a replay that goes on pays for its flight and three events
-pub dma-pays : (c : ℕ) (image : SphereSetup) (p : Sphere) (b : Book) (devices : Devices) → p.role ≡ Replay b → is_over b.now ≡ false → GoesOn image p b → DmaFits devices p → DmaPays c image p (dma_moved devices p)
+pub dma-pays : (c : ℕ) (image : SphereSetup) (p : Sphere) (b : Cursor) (devices : Devices) → p.role ≡ Replay b → is_over b.now ≡ false → GoesOn image p b → DmaFits devices p → DmaPays c image p (dma_moved devices p)
 unfolding dma_moved
 dma-pays c image p b devices role going g fits =
     let turn = turn_of_dma p b role fits.going fits.turn in

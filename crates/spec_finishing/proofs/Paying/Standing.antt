@@ -4,7 +4,7 @@ use Rattle.std.specs.Prelude.{slice_get, IsSome}
 use Rattle.std.proofs.lemmas.Bool.{true≢false}
 use Rattle.std.proofs.lemmas.Option.{none-some}
 use Rattle.spec_kernel.specs.Devices.{Devices}
-use Rattle.spec_protocol.specs.Spheres.{Book, Role, Plain, Record, Replay, Sphere, is_over, is_stopped}
+use Rattle.spec_protocol.specs.Spheres.{Cursor, Role, Plain, Record, Replay, Sphere, is_over, is_stopped}
 use Rattle.spec_protocol.specs.Commits.{dma_moved}
 use Rattle.spec_protocol.specs.Placing.{replays}
 use Rattle.spec_protocol.specs.World.{Numbers, What, OfChunk, OfSerial, OfDma, OfRaise, Move}
@@ -21,7 +21,7 @@ use Rattle.spec_protocol.proofs.Replays.Pieces.{no_raise}
 -- every sphere has its image, and every replay that goes on stands beside its play
 pub record Stands (s : Setup) (x : Whole) : Type 0 where
   pub images : (i : ℕ) (p : Sphere) → slice_get x.spheres i ≡ Some p → (image : SphereSetup) × (slice_get s.spheres i ≡ Some image)
-  pub goes : (i : ℕ) (image : SphereSetup) (p : Sphere) (b : Book) → slice_get s.spheres i ≡ Some image → slice_get x.spheres i ≡ Some p → p.role ≡ Replay b → is_over b.now ≡ false → GoesOn image p b
+  pub goes : (i : ℕ) (image : SphereSetup) (p : Sphere) (b : Cursor) → slice_get s.spheres i ≡ Some image → slice_get x.spheres i ≡ Some p → p.role ≡ Replay b → is_over b.now ≡ false → GoesOn image p b
 
 -- ---- in a replay
 
@@ -29,7 +29,7 @@ not_none : {A : Type 0} (o : Option A) → IsSome o → o ≡ None → ⊥
 not_none None some e = true≢false (sym some)
 not_none (Some x) some e = none-some x (sym e)
 
-what_paid : (c : ℕ) (images : List SphereSetup) (z : Numbers) (x : Whole) (moment i : ℕ) (image : SphereSetup) (p : Sphere) (b : Book) (a : What) → 0 < z.buffer → slice_get images i ≡ Some image → slice_get x.spheres i ≡ Some p → p.role ≡ Replay b
+what_paid : (c : ℕ) (images : List SphereSetup) (z : Numbers) (x : Whole) (moment i : ℕ) (image : SphereSetup) (p : Sphere) (b : Cursor) (a : What) → 0 < z.buffer → slice_get images i ≡ Some image → slice_get x.spheres i ≡ Some p → p.role ≡ Replay b
     → (is_over b.now ≡ false → GoesOn image p b) → FitsWhat z x.devices p a → spheres_rest c images (do_what z x moment i p a).spheres + (what_most c p x.devices moment a + what_more a) ≤ spheres_rest c images x.spheres + 0
 what_paid c images z x moment i image p b (OfChunk k how n limit) positive there is role goes fits = chunk_paid c images z x i k how n limit image p b (slice_get p.threads k) positive there is role goes refl fits
 what_paid c images z x moment i image p b (OfSerial k) positive there is role goes fits = serial_paid c images x i k moment image p b (slice_get p.threads k) there is role goes refl fits
@@ -40,8 +40,8 @@ what_paid c images z x moment i image p b (OfRaise k value) positive there is ro
 
 -- ---- in any sphere
 
--- a role that is replayed has a book
-pub replay-role : (role : Role) → replays role ≡ true → (b : Book) × (role ≡ Replay b)
+-- a role that is replayed has a cursor
+pub replay-role : (role : Role) → replays role ≡ true → (b : Cursor) × (role ≡ Replay b)
 replay-role Plain e = absurd (true≢false (sym e))
 replay-role (Record log) e = absurd (true≢false (sym e))
 replay-role (Replay b) e = (b, refl)
@@ -55,8 +55,8 @@ role_pays : (c : ℕ) (s : Setup) (z : Numbers) (x : Whole) (m : Move) (p : Sphe
     → spheres_rest c s.spheres (do_what z x m.moment m.sphere p m.what).spheres + what_most c p x.devices m.moment m.what ≤ spheres_rest c s.spheres x.spheres + price c (role_work p x.devices m p.role)
 role_pays c s z x m p true positive stands is kind fits =
     let image = stands.images m.sphere p is in
-    let book = replay-role p.role kind in
-    let r = what_paid c s.spheres z x m.moment m.sphere image.0 p book.0 m.what positive image.1 is book.1 (λ going. stands.goes m.sphere image.0 p book.0 image.1 is book.1 going) fits in
+    let cursor = replay-role p.role kind in
+    let r = what_paid c s.spheres z x m.moment m.sphere image.0 p cursor.0 m.what positive image.1 is cursor.1 (λ going. stands.goes m.sphere image.0 p cursor.0 image.1 is cursor.1 going) fits in
     omega (arith, r)
 role_pays c s z x m p false positive stands is kind fits =
     let image = stands.images m.sphere p is in
@@ -76,7 +76,7 @@ unfolding do_move
 move-pays c s z x m positive stands fits = at_pays c s z x m (slice_get x.spheres m.sphere) positive stands refl fits
 
 -- and in a replay it pays for its flight and for more
-at_more : (c : ℕ) (s : Setup) (z : Numbers) (x : Whole) (m : Move) (p : Sphere) (b : Book) (o : Option Sphere) → o ≡ Some p → 0 < z.buffer → Stands s x → slice_get x.spheres m.sphere ≡ o → p.role ≡ Replay b → FitsAt z x.devices m o
+at_more : (c : ℕ) (s : Setup) (z : Numbers) (x : Whole) (m : Move) (p : Sphere) (b : Cursor) (o : Option Sphere) → o ≡ Some p → 0 < z.buffer → Stands s x → slice_get x.spheres m.sphere ≡ o → p.role ≡ Replay b → FitsAt z x.devices m o
     → spheres_rest c s.spheres (do_at z x m o).spheres + (sphere_most c x.devices m o + what_more m.what) ≤ spheres_rest c s.spheres x.spheres + 0
 at_more c s z x m p b None e positive stands is role fits = absurd fits
 at_more c s z x m p b (Some q) e positive stands is role fits =
@@ -86,7 +86,7 @@ at_more c s z x m p b (Some q) e positive stands is role fits =
     what_paid c s.spheres z x m.moment m.sphere image.0 q b m.what positive image.1 is of_q (λ going. stands.goes m.sphere image.0 q b image.1 is of_q going) fits
 
 -- a move of a replay pays for its flight and for what it does beside that
-pub move-pays_more : (c : ℕ) (s : Setup) (z : Numbers) (x : Whole) (m : Move) (p : Sphere) (b : Book) → 0 < z.buffer → Stands s x → slice_get x.spheres m.sphere ≡ Some p → p.role ≡ Replay b → Fits z x m
+pub move-pays_more : (c : ℕ) (s : Setup) (z : Numbers) (x : Whole) (m : Move) (p : Sphere) (b : Cursor) → 0 < z.buffer → Stands s x → slice_get x.spheres m.sphere ≡ Some p → p.role ≡ Replay b → Fits z x m
     → spheres_rest c s.spheres (do_move z x m).spheres + (move_most c x m + what_more m.what) ≤ spheres_rest c s.spheres x.spheres
 unfolding do_move
 move-pays_more c s z x m p b positive stands is role fits =

@@ -16,7 +16,7 @@ use Rattle.spec_play.specs.Transfers.{DmaVerdict, DmaGoes, DmaFails, dma_verdict
 use Rattle.spec_play.specs.Lasts.{IsOfCommits}
 use Rattle.spec_play.proofs.Lasts.{IsOf, last-effect, last-dma, chunk-of, serial-of}
 use Rattle.spec_engine.specs.declared.answers.How.{How}
-use Rattle.spec_protocol.specs.Spheres.{Book, Role, Plain, Record, Replay, Sphere, no_sphere}
+use Rattle.spec_protocol.specs.Spheres.{Cursor, Role, Plain, Record, Replay, Sphere, no_sphere}
 use Rattle.spec_protocol.specs.Commits.{Moved, by_verdict, joined, replayed_chunk, chunk_in, chunk_moved, is_piece, serial_in, serial_moved, live_dma, dma_log, dma_by_verdict, dma_in, dma_moved, raised}
 use Rattle.spec_protocol.specs.World.{Numbers, World, Move, What, OfChunk, OfSerial, OfDma, OfRaise, sphere_at}
 use Rattle.spec_protocol.specs.Asking.{is_short}
@@ -32,11 +32,11 @@ use Rattle.spec_protocol.proofs.Invariants.Schedules.{moves_are}
 
 -- ---- one move in its sphere
 
-verdict_last : (b : Book) (k : ℕ) (v : Verdict) (devices : Devices) (p : Sphere) → IsOf k v → IsOfCommits p.progress → IsOfCommits (by_verdict b k v devices p).sphere.progress
+verdict_last : (b : Cursor) (k : ℕ) (v : Verdict) (devices : Devices) (p : Sphere) → IsOf k v → IsOfCommits p.progress → IsOfCommits (by_verdict b k v devices p).sphere.progress
 verdict_last b k (Goes e u) devices p is last = last-effect k e p.progress is
 verdict_last b k (Fails why) devices p is last = last
 
-replayed_last : (piece : Bool) (b : Book) (k : ℕ) (r : Run) (devices : Devices) (p : Sphere) → IsOfCommits p.progress → IsOfCommits (replayed_chunk piece b k r devices p).sphere.progress
+replayed_last : (piece : Bool) (b : Cursor) (k : ℕ) (r : Run) (devices : Devices) (p : Sphere) → IsOfCommits p.progress → IsOfCommits (replayed_chunk piece b k r devices p).sphere.progress
 replayed_last true b k r devices p last = last
 replayed_last false b k r devices p last = verdict_last b k (chunk_verdict b.log p.progress b.used k (joined b r)) devices p (chunk-of b.log p.progress b.used k (joined b r)) last
 
@@ -64,7 +64,7 @@ live_last : (role : Role) (devices : Devices) (p : Sphere) (o : Option Request) 
 live_last role devices p None last = tt
 live_last role devices p (Some request) last = last-dma p.progress last
 
-dma_verdict_last : (b : Book) (v : DmaVerdict) (devices : Devices) (p : Sphere) → IsOfCommits p.progress → IsOfCommits (dma_by_verdict b v devices p).sphere.progress
+dma_verdict_last : (b : Cursor) (v : DmaVerdict) (devices : Devices) (p : Sphere) → IsOfCommits p.progress → IsOfCommits (dma_by_verdict b v devices p).sphere.progress
 dma_verdict_last b (DmaGoes words) devices p last = last-dma p.progress last
 dma_verdict_last b (DmaFails why) devices p last = last
 

@@ -8,7 +8,7 @@ use Rattle.spec_log.specs.declared.LogParts.{LogParts}
 use Rattle.spec_kernel.specs.Devices.{Devices}
 use Rattle.spec_play.specs.Verdicts.{Verdict, Goes, Fails, chunk_verdict}
 use Rattle.spec_play.specs.Transfers.{DmaVerdict, DmaGoes, DmaFails, dma_verdict}
-use Rattle.spec_protocol.specs.Spheres.{Book, Role, Plain, Record, Replay, Sphere}
+use Rattle.spec_protocol.specs.Spheres.{Cursor, Role, Plain, Record, Replay, Sphere}
 use Rattle.spec_protocol.specs.Commits.{Moved, by_verdict, joined, replayed_chunk, chunk_in, chunk_moved, dma_by_verdict, live_dma, dma_log, dma_in, dma_moved, raised}
 
 -- the sphere over another memory
@@ -19,11 +19,11 @@ over m p = record p { memory = m }
 abbrev pub relaid : List ℕ → Moved → Moved
 relaid m v = record v { sphere = over m v.sphere }
 
-verdict_relaid : (b : Book) (k : ℕ) (verdict : Verdict) (devices : Devices) (p : Sphere) (m : List ℕ) → by_verdict b k verdict devices (over m p) ≡ relaid m (by_verdict b k verdict devices p)
+verdict_relaid : (b : Cursor) (k : ℕ) (verdict : Verdict) (devices : Devices) (p : Sphere) (m : List ℕ) → by_verdict b k verdict devices (over m p) ≡ relaid m (by_verdict b k verdict devices p)
 verdict_relaid b k (Goes e u) devices p m = refl
 verdict_relaid b k (Fails why) devices p m = refl
 
-replayed_relaid : (b : Book) (k : ℕ) (piece : Bool) (r : Run) (devices : Devices) (p : Sphere) (m : List ℕ) → replayed_chunk piece b k r devices (over m p) ≡ relaid m (replayed_chunk piece b k r devices p)
+replayed_relaid : (b : Cursor) (k : ℕ) (piece : Bool) (r : Run) (devices : Devices) (p : Sphere) (m : List ℕ) → replayed_chunk piece b k r devices (over m p) ≡ relaid m (replayed_chunk piece b k r devices p)
 replayed_relaid b k true r devices p m = refl
 replayed_relaid b k false r devices p m = verdict_relaid b k (chunk_verdict b.log p.progress b.used k (joined b r)) devices p m
 
@@ -41,7 +41,7 @@ live_relaid : (role : Role) (devices : Devices) (p : Sphere) (o : Option Request
 live_relaid role devices p None m = refl
 live_relaid role devices p (Some request) m = refl
 
-dma_verdict_relaid : (b : Book) (verdict : DmaVerdict) (devices : Devices) (p : Sphere) (m : List ℕ) → dma_by_verdict b verdict devices (over m p) ≡ relaid m (dma_by_verdict b verdict devices p)
+dma_verdict_relaid : (b : Cursor) (verdict : DmaVerdict) (devices : Devices) (p : Sphere) (m : List ℕ) → dma_by_verdict b verdict devices (over m p) ≡ relaid m (dma_by_verdict b verdict devices p)
 dma_verdict_relaid b (DmaGoes words) devices p m = refl
 dma_verdict_relaid b (DmaFails why) devices p m = refl
 

@@ -27,7 +27,7 @@ use Rattle.spec_play.specs.Progress.{Progress, Used}
 use Rattle.spec_play.specs.Turns.{Now, Turn, TurnOfDma, Over}
 use Rattle.spec_play.specs.Verdicts.{Verdict, Goes, Fails, unless, interrupt_at, with_interrupted, chunk_why, chunk_verdict, Given, given, serial_why, served_verdict, serial_verdict}
 use Rattle.spec_play.specs.Plays.{with_threads}
-use Rattle.spec_protocol.specs.Spheres.{Book, Role, Plain, Record, Replay, Sphere, is_over, is_stopped, actor_of, head_in, whole_limit, pieces_of, limit_in, limit_of, halves}
+use Rattle.spec_protocol.specs.Spheres.{Cursor, Role, Plain, Record, Replay, Sphere, is_over, is_stopped, actor_of, head_in, whole_limit, pieces_of, limit_in, limit_of, halves}
 use Rattle.spec_protocol.specs.Commits.{CommitOutcome, Granted, Piece, Diverged, Moved, granted_as, by_verdict, joined, piece_moved, replayed_chunk, chunk_in, chunk_moved, serial_in, serial_moved, serial_noted}
 use Rattle.spec_protocol.specs.Asking.{other_turn}
 use Rattle.spec_protocol.specs.Placing.{replays}
@@ -112,7 +112,7 @@ pub record HasTurn (k : ℕ) (role : Role) (p : Sphere) : Type 0 where
 threads_kept : (k : ℕ) (e : Effect) (ts : List Parts) (j : ℕ) (t : Parts) → j ≢ k → slice_get ts j ≡ Some t → slice_get (with_threads k e ts) j ≡ Some t
 threads_kept k e ts j t ne is = get-append (slice_set ts k e.thread) e.made j t (get-set_other ts k j e.thread ne ∙ is)
 
-verdict_moves : (k : ℕ) (b : Book) (verdict : Verdict) (devices : Devices) (p : Sphere) → p.role ≡ Replay b → b.now ≡ Turn k → ((e : Effect) (u : Used) → verdict ≡ Goes e u → Apart e.words) → MovesOnly k devices p (by_verdict b k verdict devices p)
+verdict_moves : (k : ℕ) (b : Cursor) (verdict : Verdict) (devices : Devices) (p : Sphere) → p.role ≡ Replay b → b.now ≡ Turn k → ((e : Effect) (u : Used) → verdict ≡ Goes e u → Apart e.words) → MovesOnly k devices p (by_verdict b k verdict devices p)
 unfolding limit_of
 verdict_moves k b (Fails why) devices p is turn apart =
     record {
@@ -178,7 +178,7 @@ granted_moves k role e ds devices p halving replaying limits apart =
       divergence = tt;
     }
 
-piece_moves : (k : ℕ) (b : Book) (r : Run) (devices : Devices) (p : Sphere) → p.role ≡ Replay b → b.now ≡ Turn k → Apart r.words → MovesOnly k devices p (piece_moved b k r devices p)
+piece_moves : (k : ℕ) (b : Cursor) (r : Run) (devices : Devices) (p : Sphere) → p.role ≡ Replay b → b.now ≡ Turn k → Apart r.words → MovesOnly k devices p (piece_moved b k r devices p)
 unfolding limit_of
 piece_moves k b r devices p is turn apart =
     record {
@@ -196,7 +196,7 @@ piece_moves k b r devices p is turn apart =
       divergence = tt;
     }
 
-replayed_moves : (k : ℕ) (b : Book) (piece : Bool) (r : Run) (devices : Devices) (p : Sphere) → p.role ≡ Replay b → b.now ≡ Turn k → Apart r.words → MovesOnly k devices p (replayed_chunk piece b k r devices p)
+replayed_moves : (k : ℕ) (b : Cursor) (piece : Bool) (r : Run) (devices : Devices) (p : Sphere) → p.role ≡ Replay b → b.now ≡ Turn k → Apart r.words → MovesOnly k devices p (replayed_chunk piece b k r devices p)
 replayed_moves k b true r devices p is turn apart = piece_moves k b r devices p is turn apart
 replayed_moves k b false r devices p is turn apart =
     verdict_moves k b (chunk_verdict b.log p.progress b.used k (joined b r)) devices p is turn
@@ -217,11 +217,11 @@ unfolding chunk_moved
 chunk-moves k piece short r devices p turn apart = chunk_in_moves k p.role piece short r devices p refl turn apart
 
 -- it stores the run's words, or none
-verdict_stores : (P : List Stored → Type 0) (b : Book) (k : ℕ) (verdict : Verdict) (devices : Devices) (p : Sphere) (ws : List Stored) → P [] → P ws → ((e : Effect) (u : Used) → verdict ≡ Goes e u → e.words ≡ ws) → P (by_verdict b k verdict devices p).words
+verdict_stores : (P : List Stored → Type 0) (b : Cursor) (k : ℕ) (verdict : Verdict) (devices : Devices) (p : Sphere) (ws : List Stored) → P [] → P ws → ((e : Effect) (u : Used) → verdict ≡ Goes e u → e.words ≡ ws) → P (by_verdict b k verdict devices p).words
 verdict_stores P b k (Fails why) devices p ws none some each = none
 verdict_stores P b k (Goes e u) devices p ws none some each = subst P (sym (each e u refl)) some
 
-replayed_stores : (P : List Stored → Type 0) (b : Book) (k : ℕ) (piece : Bool) (r : Run) (devices : Devices) (p : Sphere) → P [] → P r.words → P (replayed_chunk piece b k r devices p).words
+replayed_stores : (P : List Stored → Type 0) (b : Cursor) (k : ℕ) (piece : Bool) (r : Run) (devices : Devices) (p : Sphere) → P [] → P r.words → P (replayed_chunk piece b k r devices p).words
 replayed_stores P b k true r devices p none some = some
 replayed_stores P b k false r devices p none some =
     verdict_stores P b k (chunk_verdict b.log p.progress b.used k (joined b r)) devices p r.words none some

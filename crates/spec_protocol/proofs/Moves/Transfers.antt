@@ -18,7 +18,7 @@ use Rattle.spec_play.specs.Progress.{Progress, position, Used}
 use Rattle.spec_play.specs.Turns.{Now, Turn, TurnOfDma, Over}
 use Rattle.spec_play.specs.Verdicts.{serial_why}
 use Rattle.spec_play.specs.Transfers.{DmaVerdict, DmaGoes, DmaFails, is_for, transferred, dma_unless, dma_verdict}
-use Rattle.spec_protocol.specs.Spheres.{Book, Role, Plain, Record, Replay, Sphere, is_over, is_stopped, actor_of, whole_limit, pieces_of, limit_in, limit_of, halves}
+use Rattle.spec_protocol.specs.Spheres.{Cursor, Role, Plain, Record, Replay, Sphere, is_over, is_stopped, actor_of, whole_limit, pieces_of, limit_in, limit_of, halves}
 use Rattle.spec_protocol.specs.Commits.{Granted, Moved, dma_as, live_dma, dma_log, dma_by_verdict, dma_in, dma_moved}
 use Rattle.spec_protocol.specs.Transferring.{not_of_dma, turn_before_dma}
 use Rattle.spec_protocol.specs.Placing.{replays}
@@ -64,7 +64,7 @@ live_moves role devices p (Some request) v halving replaying limits is =
     subst (DmaMoves devices p) (let h : dma_as role words (dma_taken devices request) p ≡ v = cc in h)
     (as_moves role words devices (dma_taken devices request) p halving replaying limits (words_apart request (dma_bytes devices request)))
 
-verdict_moves : (b : Book) (verdict : DmaVerdict) (devices : Devices) (p : Sphere) → p.role ≡ Replay b → b.now ≡ TurnOfDma → ((ws : List Stored) → verdict ≡ DmaGoes ws → Apart ws) → DmaMoves devices p (dma_by_verdict b verdict devices p)
+verdict_moves : (b : Cursor) (verdict : DmaVerdict) (devices : Devices) (p : Sphere) → p.role ≡ Replay b → b.now ≡ TurnOfDma → ((ws : List Stored) → verdict ≡ DmaGoes ws → Apart ws) → DmaMoves devices p (dma_by_verdict b verdict devices p)
 unfolding limit_of
 verdict_moves b (DmaFails why) devices p is turn apart =
     record {

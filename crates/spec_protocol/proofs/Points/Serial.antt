@@ -16,7 +16,7 @@ use Rattle.spec_play.specs.Verdicts.{Verdict, Goes, Fails, chunk_verdict, serial
 use Rattle.spec_play.specs.Transfers.{DmaVerdict, DmaGoes, DmaFails, dma_verdict}
 use Rattle.spec_engine.specs.declared.answers.How.{How}
 use Rattle.spec_protocol.specs.declared.event.Event.{Event}
-use Rattle.spec_protocol.specs.Spheres.{Book, Role, Plain, Record, Replay, Sphere, is_in_pieces}
+use Rattle.spec_protocol.specs.Spheres.{Cursor, Role, Plain, Record, Replay, Sphere, is_in_pieces}
 use Rattle.spec_protocol.specs.Placing.{replays}
 use Rattle.spec_protocol.specs.Commits.{Moved, is_piece, joined, by_verdict, replayed_chunk, chunk_in, chunk_moved, serial_in, serial_moved, live_dma, dma_by_verdict, dma_in, dma_moved, dma_as, dma_log, role_raised, raised}
 use Rattle.spec_protocol.specs.Asking.{is_short}
@@ -40,11 +40,11 @@ record LeavesDevices (devices : Devices) (v : Moved) : Type 0 where
   devices_ : v.devices ≡ devices
   replays_ : replays v.sphere.role ≡ true
 
-verdict_leaves : (b : Book) (k : ℕ) (verdict : Verdict) (devices : Devices) (p : Sphere) → LeavesDevices devices (by_verdict b k verdict devices p)
+verdict_leaves : (b : Cursor) (k : ℕ) (verdict : Verdict) (devices : Devices) (p : Sphere) → LeavesDevices devices (by_verdict b k verdict devices p)
 verdict_leaves b k (Goes e u) devices p = record { devices_ = refl; replays_ = refl }
 verdict_leaves b k (Fails why) devices p = record { devices_ = refl; replays_ = refl }
 
-replayed_leaves : (b : Book) (k : ℕ) (piece : Bool) (r : Run) (devices : Devices) (p : Sphere) → LeavesDevices devices (replayed_chunk piece b k r devices p)
+replayed_leaves : (b : Cursor) (k : ℕ) (piece : Bool) (r : Run) (devices : Devices) (p : Sphere) → LeavesDevices devices (replayed_chunk piece b k r devices p)
 replayed_leaves b k true r devices p = record { devices_ = refl; replays_ = refl }
 replayed_leaves b k false r devices p = verdict_leaves b k (chunk_verdict b.log p.progress b.used k (joined b r)) devices p
 
@@ -66,7 +66,7 @@ serial_leaves : (k moment : ℕ) (t : Parts) (devices : Devices) (p : Sphere) �
 unfolding serial_moved
 serial_leaves k moment t devices p e = serial_in_leaves p.role k moment t devices p e
 
-dma_verdict_leaves : (b : Book) (verdict : DmaVerdict) (devices : Devices) (p : Sphere) → LeavesDevices devices (dma_by_verdict b verdict devices p)
+dma_verdict_leaves : (b : Cursor) (verdict : DmaVerdict) (devices : Devices) (p : Sphere) → LeavesDevices devices (dma_by_verdict b verdict devices p)
 dma_verdict_leaves b (DmaGoes words) devices p = record { devices_ = refl; replays_ = refl }
 dma_verdict_leaves b (DmaFails why) devices p = record { devices_ = refl; replays_ = refl }
 

@@ -5,7 +5,7 @@ use Rattle.spec_isa.specs.declared.thread.Parts.{Parts}
 use Rattle.spec_isa.specs.Runs.{Run, run}
 use Rattle.spec_kernel.specs.Devices.{Devices}
 use Rattle.spec_engine.specs.declared.answers.How.{How}
-use Rattle.spec_protocol.specs.Spheres.{Book, Replay, Sphere}
+use Rattle.spec_protocol.specs.Spheres.{Cursor, Replay, Sphere}
 use Rattle.spec_protocol.specs.Placing.{replays}
 use Rattle.spec_protocol.specs.Commits.{Moved, is_piece, chunk_in, chunk_moved}
 use Rattle.spec_protocol.specs.World.{Numbers, World, OfChunk, Move, sphere_at}
@@ -23,24 +23,24 @@ use Rattle.spec_protocol.proofs.Replays.Pieces.{there-is}
 
 -- ---- a piece done whole
 
-abbrev in_piece : Book → (thread : ℕ) → Run → Devices → (short : Bool) → Sphere → Moved
+abbrev in_piece : Cursor → (thread : ℕ) → Run → Devices → (short : Bool) → Sphere → Moved
 in_piece b k r devices short p = chunk_in (Replay b) k true short r devices p
 
-piece_counts : (b : Book) (k : ℕ) (r : Run) (devices : Devices) (short : Bool) (p : Sphere) → CountsNothing b p (laid (in_piece b k r devices short p))
-piece_counts b k r devices short p = record { book = _; role = refl; turn = refl; progress = refl }
+piece_counts : (b : Cursor) (k : ℕ) (r : Run) (devices : Devices) (short : Bool) (p : Sphere) → CountsNothing b p (laid (in_piece b k r devices short p))
+piece_counts b k r devices short p = record { cursor = _; role = refl; turn = refl; progress = refl }
 
-chunk_counts : (b : Book) (k : ℕ) (piece short : Bool) (r : Run) (devices : Devices) (p : Sphere) → p.role ≡ Replay b → piece ≡ true → CountsNothing b p (laid (chunk_moved k piece short r devices p))
+chunk_counts : (b : Cursor) (k : ℕ) (piece short : Bool) (r : Run) (devices : Devices) (p : Sphere) → p.role ≡ Replay b → piece ≡ true → CountsNothing b p (laid (chunk_moved k piece short r devices p))
 unfolding chunk_moved
 chunk_counts b k piece short r devices p role is =
     subst (λ (v : Moved). CountsNothing b p (laid v)) (sym (λ j. chunk_in (role j) k (is j) short r devices p)) (piece_counts b k r devices short p)
 
 -- the sphere that stands at i counts nothing
-record Stays (b : Book) (i : ℕ) (p : Sphere) (x : Whole) : Type 0 where
+record Stays (b : Cursor) (i : ℕ) (p : Sphere) (x : Whole) : Type 0 where
   sphere : Sphere
   there : slice_get x.spheres i ≡ Some sphere
   counts : CountsNothing b p sphere
 
-chunk_stays : (z : Numbers) (x : Whole) (i : ℕ) (b : Book) (k : ℕ) (how : How) (n limit : ℕ) (p : Sphere) (o : Option Parts) → slice_get x.spheres i ≡ Some p → p.role ≡ Replay b → is_piece how ≡ true → FitsChunk z p k how n limit o → Stays b i p (move_chunk z x i k how n limit p o)
+chunk_stays : (z : Numbers) (x : Whole) (i : ℕ) (b : Cursor) (k : ℕ) (how : How) (n limit : ℕ) (p : Sphere) (o : Option Parts) → slice_get x.spheres i ≡ Some p → p.role ≡ Replay b → is_piece how ≡ true → FitsChunk z p k how n limit o → Stays b i p (move_chunk z x i k how n limit p o)
 chunk_stays z x i b k how n limit p None there role piece fits = absurd fits
 chunk_stays z x i b k how n limit p (Some t) there role piece fits =
     let v : Moved = chunk_moved k (is_piece how) (is_short z.chunk how limit) (run p.memory t n) x.devices p in
@@ -50,7 +50,7 @@ chunk_stays z x i b k how n limit p (Some t) there role piece fits =
       counts = chunk_counts b k (is_piece how) (is_short z.chunk how limit) (run p.memory t n) x.devices p role piece;
     }
 
-move_stays : (z : Numbers) (x : Whole) (m : Move) (b : Book) (k : ℕ) (how : How) (n limit : ℕ) (p : Sphere) → slice_get x.spheres m.sphere ≡ Some p → p.role ≡ Replay b → m.what ≡ OfChunk k how n limit → is_piece how ≡ true → Fits z x m → Stays b m.sphere p (do_move z x m)
+move_stays : (z : Numbers) (x : Whole) (m : Move) (b : Cursor) (k : ℕ) (how : How) (n limit : ℕ) (p : Sphere) → slice_get x.spheres m.sphere ≡ Some p → p.role ≡ Replay b → m.what ≡ OfChunk k how n limit → is_piece how ≡ true → Fits z x m → Stays b m.sphere p (do_move z x m)
 unfolding do_move
 move_stays z x m b k how n limit p there role what piece fits =
     let fit : FitsWhat z x.devices p m.what = subst (FitsAt z x.devices m) there fits in
@@ -77,4 +77,4 @@ pieces_count s es i b is role event m k how n limit is_move of_i what piece =
     let same : st.sphere ≡ q =
     (let h : Some st.sphere ≡ Some q = sym st.there ∙ ap (λ (x : Whole). slice_get x.spheres m.sphere) (sym whole) ∙ ap (slice_get (shown_of v).spheres) of_i ∙ after_ in cc) in
     let c : CountsNothing b p q = subst (CountsNothing b p) same st.counts in
-    record { book = c.book; role = c.role; turn = c.turn; progress = c.progress }
+    record { cursor = c.cursor; role = c.role; turn = c.turn; progress = c.progress }

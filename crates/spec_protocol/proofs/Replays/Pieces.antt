@@ -14,7 +14,7 @@ use Rattle.spec_play.specs.Turns.{Now, Turn, TurnOfDma, Over}
 use Rattle.spec_play.specs.Verdicts.{Verdict, Goes, Fails, chunk_verdict, serial_verdict}
 use Rattle.spec_play.specs.Transfers.{DmaVerdict, DmaGoes, DmaFails, dma_verdict}
 use Rattle.spec_engine.specs.declared.answers.How.{How}
-use Rattle.spec_protocol.specs.Spheres.{Book, Role, Plain, Record, Replay, Sphere, is_over, is_stopped, actor_of, head_in, head_of, is_in_pieces, no_sphere}
+use Rattle.spec_protocol.specs.Spheres.{Cursor, Role, Plain, Record, Replay, Sphere, is_over, is_stopped, actor_of, head_in, head_of, is_in_pieces, no_sphere}
 use Rattle.spec_protocol.specs.Commits.{Moved, is_piece, joined, by_verdict, replayed_chunk, chunk_in, chunk_moved, serial_in, serial_moved, live_dma, dma_by_verdict, dma_log, dma_in, dma_moved, role_raised, raised}
 use Rattle.spec_protocol.specs.World.{Numbers, World, What, OfChunk, OfSerial, OfDma, OfRaise, Move, sphere_at}
 use Rattle.spec_protocol.specs.Asking.{is_short, other_turn}
@@ -43,11 +43,11 @@ AllInTurn x = (i : ℕ) (p : Sphere) → slice_get x.spheres i ≡ Some p → In
 
 -- ---- what a move leaves
 
-verdict_turn : (b : Book) (k : ℕ) (verdict : Verdict) (devices : Devices) (p : Sphere) → InTurn (by_verdict b k verdict devices p).sphere.role
+verdict_turn : (b : Cursor) (k : ℕ) (verdict : Verdict) (devices : Devices) (p : Sphere) → InTurn (by_verdict b k verdict devices p).sphere.role
 verdict_turn b k (Goes e u) devices p = λ going some. absurd (omega arith)
 verdict_turn b k (Fails why) devices p = λ going some. absurd (true≢false going)
 
-replayed_turn : (piece : Bool) (b : Book) (k : ℕ) (r : Run) (devices : Devices) (p : Sphere) → b.now ≡ Turn k → InTurn (replayed_chunk piece b k r devices p).sphere.role
+replayed_turn : (piece : Bool) (b : Cursor) (k : ℕ) (r : Run) (devices : Devices) (p : Sphere) → b.now ≡ Turn k → InTurn (replayed_chunk piece b k r devices p).sphere.role
 replayed_turn true b k r devices p turn = λ going some. (k, turn)
 replayed_turn false b k r devices p turn = verdict_turn b k (chunk_verdict b.log p.progress b.used k (joined b r)) devices p
 
@@ -77,7 +77,7 @@ live_turn : (role : Role) (devices : Devices) (p : Sphere) (o : Option Request) 
 live_turn role devices p None turn = tt
 live_turn role devices p (Some request) turn = turn
 
-dma_verdict_turn : (b : Book) (verdict : DmaVerdict) (devices : Devices) (p : Sphere) → InTurn (dma_by_verdict b verdict devices p).sphere.role
+dma_verdict_turn : (b : Cursor) (verdict : DmaVerdict) (devices : Devices) (p : Sphere) → InTurn (dma_by_verdict b verdict devices p).sphere.role
 dma_verdict_turn b (DmaGoes words) devices p = λ going some. absurd (omega arith)
 dma_verdict_turn b (DmaFails why) devices p = λ going some. absurd (true≢false going)
 
@@ -157,26 +157,26 @@ start_turn z (d ∷ ds) (suc i) p e = start_turn z ds i p e
 
 -- ---- what can come next
 
-some_total : (b : Book) (role : Role) → role ≡ Replay b → 0 < b.total → is_in_pieces role ≡ true
+some_total : (b : Cursor) (role : Role) → role ≡ Replay b → 0 < b.total → is_in_pieces role ≡ true
 some_total b role is some = ap is_in_pieces is ∙ lt-ltb 0 b.total some
 
-own_chunk : (z : Numbers) (p : Sphere) (b : Book) (k j : ℕ) (how : How) (n limit : ℕ) (o : Option Parts) → p.role ≡ Replay b → b.now ≡ Turn k → FitsChunk z p j how n limit o → j ≡ k
+own_chunk : (z : Numbers) (p : Sphere) (b : Cursor) (k j : ℕ) (how : How) (n limit : ℕ) (o : Option Parts) → p.role ≡ Replay b → b.now ≡ Turn k → FitsChunk z p j how n limit o → j ≡ k
 unfolding head_of
 own_chunk z p b k j how n limit None role turn fits = absurd fits
 own_chunk z p b k j how n limit (Some t) role turn fits =
     let same : Turn k ≡ Turn j = sym turn ∙ turn-is b.now j (sym (ap is_stopped role) ∙ fits.going) (sym (ap (λ (r : Role). other_turn (head_in r p) j) role) ∙ fits.turn) in
     sym (ap (λ (now : Now). elim now [ Turn i ↦ i | TurnOfDma ↦ 0 | Over how ↦ 0 ]) same)
 
-no_serial : (p : Sphere) (b : Book) (k : ℕ) (o : Option Parts) → p.role ≡ Replay b → 0 < b.total → FitsSerial p k o → ⊥
+no_serial : (p : Sphere) (b : Cursor) (k : ℕ) (o : Option Parts) → p.role ≡ Replay b → 0 < b.total → FitsSerial p k o → ⊥
 no_serial p b k None role some fits = fits
 no_serial p b k (Some t) role some fits = true≢false (sym (some_total b p.role role some) ∙ fits.whole)
 
 -- no interrupt can be raised in a replay
-pub no_raise : (p : Sphere) (b : Book) (o : Option Parts) → p.role ≡ Replay b → FitsRaise p o → ⊥
+pub no_raise : (p : Sphere) (b : Cursor) (o : Option Parts) → p.role ≡ Replay b → FitsRaise p o → ⊥
 no_raise p b None role fits = fits
 no_raise p b (Some t) role fits = true≢false (sym (ap replays role) ∙ fits.live)
 
-only_chunks : (z : Numbers) (devices : Devices) (p : Sphere) (b : Book) (k : ℕ) (what : What) → p.role ≡ Replay b → b.now ≡ Turn k → 0 < b.total → FitsWhat z devices p what → IsChunkOf k what
+only_chunks : (z : Numbers) (devices : Devices) (p : Sphere) (b : Cursor) (k : ℕ) (what : What) → p.role ≡ Replay b → b.now ≡ Turn k → 0 < b.total → FitsWhat z devices p what → IsChunkOf k what
 only_chunks z devices p b k (OfChunk j how n limit) role turn some fits = own_chunk z p b k j how n limit (slice_get p.threads j) role turn fits
 only_chunks z devices p b k (OfSerial j) role turn some fits = no_serial p b j (slice_get p.threads j) role some fits
 only_chunks z devices p b k OfDma role turn some fits =

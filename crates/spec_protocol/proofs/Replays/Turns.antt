@@ -13,7 +13,7 @@ use Rattle.spec_play.specs.Progress.{Progress, position, Used}
 use Rattle.spec_play.specs.Turns.{Now, Turn, TurnOfDma, Over, has_left_over, at_end, turn_of_thread, turn_of, next_actor, now_at}
 use Rattle.spec_protocol.specs.Spheres.{is_over}
 use Rattle.spec_protocol.specs.Commits.{turned}
-use Rattle.spec_protocol.specs.Sound.{IsDoneInOrder, due, IsSoundBook}
+use Rattle.spec_protocol.specs.Sound.{IsDoneInOrder, due, IsSoundCursor}
 use Rattle.spec_protocol.proofs.Invariants.Cores.{branch}
 use Rattle.spec_protocol.proofs.Sound.Limits.{whole-positive}
 use Rattle.spec_protocol.proofs.Replays.Order.{now-named}
@@ -67,8 +67,8 @@ now-going log p u threads e =
     (λ l _. ltb-true (position p) log.count l)
     (λ _ h. absurd (true≢false (sym (end-over (position p) (has_left_over log u threads)) ∙ h))) e
 
--- a book that was turned to its next commit is sound, if it was used soundly
-pub turned-sound : (log : LogParts) (p : Progress) (u : Used) (threads : List Parts) → IsLog log → position p ≤ log.count → IsDoneInOrder log.mode log.order (position p) threads → u.inputs ≤ length log.inputs → u.dmas ≤ length log.dmas → u.interrupts ≡ due threads log.interrupts → IsSoundBook (position p) threads (turned log p u threads)
+-- a cursor that was turned to its next commit is sound, if it was used soundly
+pub turned-sound : (log : LogParts) (p : Progress) (u : Used) (threads : List Parts) → IsLog log → position p ≤ log.count → IsDoneInOrder log.mode log.order (position p) threads → u.inputs ≤ length log.inputs → u.dmas ≤ length log.dmas → u.interrupts ≡ due threads log.interrupts → IsSoundCursor (position p) threads (turned log p u threads)
 turned-sound log p u threads is within done inputs dmas interrupts =
     record {
       log = is;

@@ -15,10 +15,10 @@ use Rattle.spec_play.specs.Progress.{position, with_effect, Used, with_interrupt
 use Rattle.spec_play.specs.Turns.{Turn, Over}
 use Rattle.spec_play.specs.Plays.{with_threads}
 use Rattle.spec_play.specs.Verdicts.{Verdict, Goes, Fails, unless, interrupt_at, with_interrupted, ended}
-use Rattle.spec_protocol.specs.Spheres.{Book, Role, Replay, Sphere, is_over, actor_of}
+use Rattle.spec_protocol.specs.Spheres.{Cursor, Role, Replay, Sphere, is_over, actor_of}
 use Rattle.spec_protocol.specs.Commits.{diverged, by_verdict}
 use Rattle.spec_protocol.specs.Machine.{SphereSetup}
-use Rattle.spec_protocol.specs.Sound.{IsDoneInOrder, due, IsSoundBook, IsSoundRole, IsSoundSphere, HaveByteInput}
+use Rattle.spec_protocol.specs.Sound.{IsDoneInOrder, due, IsSoundCursor, IsSoundRole, IsSoundSphere, HaveByteInput}
 use Rattle.spec_protocol.proofs.Invariants.Cores.{branch}
 use Rattle.spec_protocol.proofs.Sound.Words.{sound-none}
 use Rattle.spec_protocol.proofs.Replays.Order.{done-commit}
@@ -26,7 +26,7 @@ use Rattle.spec_protocol.proofs.Replays.Uses.{Rising, once-more, same-due, one-d
 use Rattle.spec_protocol.proofs.Sound.Commits.{IsSoundEffect, next-position, IsSoundMoved, granted-sound, interrupted-effect}
 use Rattle.spec_protocol.proofs.Replays.Turns.{over-turn, turned-sound}
 
--- ---- books
+-- ---- cursors
 
 -- no more of the log is used than there is, and of its interrupts those that are due
 pub record Uses (log : LogParts) (threads : List Parts) (u : Used) : Type 0 where
@@ -71,7 +71,7 @@ ended-goes size log k ts t e u is sound uses = interrupted-goes size log k ts t 
 
 -- ---- by a verdict
 
-over-sound : (commits : ℕ) (threads : List Parts) (b : Book) (how : End) → IsSoundBook commits threads b → IsSoundBook commits threads (record b { now = Over how })
+over-sound : (commits : ℕ) (threads : List Parts) (b : Cursor) (how : End) → IsSoundCursor commits threads b → IsSoundCursor commits threads (record b { now = Over how })
 over-sound commits threads b how s =
     record {
       log = s.log;
@@ -101,23 +101,23 @@ as-role s image now role p new sound =
     }
 
 -- a divergence leaves a sound replay
-pub diverged-sound : (s : ℕ) (image : SphereSetup) (now : ℕ) (b : Book) (why : Why) (devices : Devices) (p : Sphere) → IsSoundBook (position p.progress) p.threads b → IsSoundSphere s image now p → HaveByteInput devices → IsSoundMoved s image (suc now) (diverged b why devices p)
-diverged-sound s image now b why devices p book sound d =
+pub diverged-sound : (s : ℕ) (image : SphereSetup) (now : ℕ) (b : Cursor) (why : Why) (devices : Devices) (p : Sphere) → IsSoundCursor (position p.progress) p.threads b → IsSoundSphere s image now p → HaveByteInput devices → IsSoundMoved s image (suc now) (diverged b why devices p)
+diverged-sound s image now b why devices p cursor sound d =
     record {
-      sphere = as-role s image now (Replay (record b { now = Over (End.Diverged (position p.progress) why) })) p (over-sound (position p.progress) p.threads b (End.Diverged (position p.progress) why) book) sound;
+      sphere = as-role s image now (Replay (record b { now = Over (End.Diverged (position p.progress) why) })) p (over-sound (position p.progress) p.threads b (End.Diverged (position p.progress) why) cursor) sound;
       words = sound-none (length image.memory);
       devices = d;
     }
 
 -- a commit leaves a sound replay, whether it goes on or diverges
-pub verdict-sound : (s : ℕ) (image : SphereSetup) (now k : ℕ) (b : Book) (t : Parts) (x : Verdict) (devices : Devices) (p : Sphere) → IsSoundBook (position p.progress) p.threads b → b.now ≡ Turn k → IsSoundSphere s image now p → slice_get p.threads k ≡ Some t
+pub verdict-sound : (s : ℕ) (image : SphereSetup) (now k : ℕ) (b : Cursor) (t : Parts) (x : Verdict) (devices : Devices) (p : Sphere) → IsSoundCursor (position p.progress) p.threads b → b.now ≡ Turn k → IsSoundSphere s image now p → slice_get p.threads k ≡ Some t
     → IfGoes (SoundlyIn (length image.memory) b.log k p.threads t) x → HaveByteInput devices → IsSoundMoved s image (suc now) (by_verdict b k x devices p)
-verdict-sound s image now k b t (Fails why) devices p book turn sound is goes d = diverged-sound s image now b why devices p book sound d
-verdict-sound s image now k b t (Goes e u) devices p book turn sound is goes d =
+verdict-sound s image now k b t (Fails why) devices p cursor turn sound is goes d = diverged-sound s image now b why devices p cursor sound d
+verdict-sound s image now k b t (Goes e u) devices p cursor turn sound is goes d =
     let n = next-position k e p.progress in
-    let l = book.going (ap is_over turn) in
+    let l = cursor.going (ap is_over turn) in
     let effect = goes.0 in
-    let done = done-commit b.log.mode b.log.order (position p.progress) k p.threads e.made t e.thread is effect.commits effect.fresh (book.named (Actor.Thread k) (ap actor_of turn)) book.done in
+    let done = done-commit b.log.mode b.log.order (position p.progress) k p.threads e.made t e.thread is effect.commits effect.fresh (cursor.named (Actor.Thread k) (ap actor_of turn)) cursor.done in
     granted-sound s image now k _ t e devices p sound is effect
-    (turned-sound b.log (with_effect k e p.progress) u (with_threads k e p.threads) book.log (omega (arith, n, l))
+    (turned-sound b.log (with_effect k e p.progress) u (with_threads k e p.threads) cursor.log (omega (arith, n, l))
     (subst (λ (m : ℕ). IsDoneInOrder b.log.mode b.log.order m (with_threads k e p.threads)) (sym n) done) goes.1.inputs goes.1.dmas goes.1.interrupts) d

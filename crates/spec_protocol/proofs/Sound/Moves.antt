@@ -24,10 +24,10 @@ use Rattle.spec_play.specs.Turns.{Turn}
 use Rattle.spec_play.specs.Plays.{with_threads}
 use Rattle.spec_play.specs.Recording.{noted, input_noted}
 use Rattle.spec_play.specs.Verdicts.{ended, chunk_why, chunk_verdict, Given, given, serial_why, served_verdict, serial_verdict}
-use Rattle.spec_protocol.specs.Spheres.{Book, Role, Plain, Record, Replay, Sphere, whole_limit}
+use Rattle.spec_protocol.specs.Spheres.{Cursor, Role, Plain, Record, Replay, Sphere, whole_limit}
 use Rattle.spec_protocol.specs.Commits.{joined, piece_moved, replayed_chunk, chunk_in, chunk_moved, served_as, serial_noted, serial_in, serial_moved}
 use Rattle.spec_protocol.specs.Machine.{SphereSetup}
-use Rattle.spec_protocol.specs.Sound.{IsDoneInOrder, AreSoundWords, IsSoundIf, HasThread, IsSoundBook, IsSoundLog, IsSoundRole, IsSoundThread, IsSoundSphere, HaveByteInput}
+use Rattle.spec_protocol.specs.Sound.{IsDoneInOrder, AreSoundWords, IsSoundIf, HasThread, IsSoundCursor, IsSoundLog, IsSoundRole, IsSoundThread, IsSoundSphere, HaveByteInput}
 use Rattle.spec_protocol.proofs.Moves.Granted.{get-set_same}
 use Rattle.spec_protocol.proofs.Invariants.Cores.{branch}
 use Rattle.spec_protocol.proofs.Sound.Threads.{Brings, BringsIf}
@@ -54,13 +54,13 @@ chunk-goes size k log p u ts t r is thread commits words request few uses =
     unless-goes (SoundlyIn size log k ts t) (chunk_why (size_in log (Actor.Thread k) r.thread.commits) r.n) (ended log k (chunk_effect k p.request r) u)
     (ended-goes size log k ts t (chunk_effect k p.request r) u is (chunk-effect size k ts t p.request r thread commits words request few) uses)
 
-book-uses : (commits : ℕ) (threads : List Parts) (b : Book) → IsSoundBook commits threads b → Uses b.log threads b.used
-book-uses commits threads b s = record { rising = rising-of b.log.interrupts s.log.interrupts.rising; inputs = s.inputs; dmas = s.dmas; interrupts = s.interrupts }
+cursor-uses : (commits : ℕ) (threads : List Parts) (b : Cursor) → IsSoundCursor commits threads b → Uses b.log threads b.used
+cursor-uses commits threads b s = record { rising = rising-of b.log.interrupts s.log.interrupts.rising; inputs = s.inputs; dmas = s.dmas; interrupts = s.interrupts }
 
 -- a piece leaves the thread's commits, and room for an instruction more
-piece-sound : (s : ℕ) (image : SphereSetup) (now k : ℕ) (b : Book) (t : Parts) (r : Run) (devices : Devices) (p : Sphere) → IsSoundBook (position p.progress) p.threads b → b.now ≡ Turn k → is_live t ≡ true → IsSoundSphere s image now p → slice_get p.threads k ≡ Some t
+piece-sound : (s : ℕ) (image : SphereSetup) (now k : ℕ) (b : Cursor) (t : Parts) (r : Run) (devices : Devices) (p : Sphere) → IsSoundCursor (position p.progress) p.threads b → b.now ≡ Turn k → is_live t ≡ true → IsSoundSphere s image now p → slice_get p.threads k ≡ Some t
     → IsSoundRun (length image.memory) t r → b.total + r.n < whole_limit b.log k t.commits → HaveByteInput devices → IsSoundMoved s image (suc now) (piece_moved b k r devices p)
-piece-sound s image now k b t r devices p book turn live sound is run room d =
+piece-sound s image now k b t r devices p cursor turn live sound is run room d =
     let n = position p.progress in
     let us = set p.threads k r.thread in
     let c = run.commits in
@@ -76,15 +76,15 @@ piece-sound s image now k b t r devices p book turn live sound is run room d =
         threads = set-all (IsSoundThread n) p.threads k r.thread (record { thread = run.thread; few = (let l = (sound.threads k t is).few in omega (arith, l, c)) }) sound.threads;
         commits = (let l = sound.commits in omega (arith, l));
         role = record {
-          log = book.log;
-          within = book.within;
-          going = book.going;
-          done = subst (IsDoneInOrder b.log.mode b.log.order n) (append-nil us) (done-piece b.log.mode b.log.order n k p.threads t r.thread is c book.done);
-          named = book.named;
-          inputs = book.inputs;
-          dmas = book.dmas;
-          interrupts = book.interrupts ∙ sym (due-still b.log.interrupts p.threads us (piece-commits p.threads k t r.thread is c));
-          loads = (let l = length-append b.loads r.loads in let a = book.loads in let q = run.loads in omega (arith, l, a, q));
+          log = cursor.log;
+          within = cursor.within;
+          going = cursor.going;
+          done = subst (IsDoneInOrder b.log.mode b.log.order n) (append-nil us) (done-piece b.log.mode b.log.order n k p.threads t r.thread is c cursor.done);
+          named = cursor.named;
+          inputs = cursor.inputs;
+          dmas = cursor.dmas;
+          interrupts = cursor.interrupts ∙ sym (due-still b.log.interrupts p.threads us (piece-commits p.threads k t r.thread is c));
+          loads = (let l = length-append b.loads r.loads in let a = cursor.loads in let q = run.loads in omega (arith, l, a, q));
           turn = λ j e. subst (HasThread (record b { total = b.total + r.n; loads = b.loads ++ r.loads }) us) (let q : Turn k ≡ Turn j = sym turn ∙ e in let h : k ≡ j = cc in h)
               (record { thread = r.thread; there = there; live = lives; room = subst (λ (m : ℕ). b.total + r.n < whole_limit b.log k m) (sym c) room });
         };
@@ -96,16 +96,16 @@ piece-sound s image now k b t r devices p book turn live sound is run room d =
 -- where it is a piece, its commit has room for it and an instruction more
 pub record FitsRole (k : ℕ) (t : Parts) (piece : Bool) (r : Run) (role : Role) : Type 0 where
   pub live : is_live t ≡ true
-  pub turn : (b : Book) → role ≡ Replay b → b.now ≡ Turn k
-  pub room : (b : Book) → role ≡ Replay b → piece ≡ true → b.total + r.n < whole_limit b.log k t.commits
+  pub turn : (b : Cursor) → role ≡ Replay b → b.now ≡ Turn k
+  pub room : (b : Cursor) → role ≡ Replay b → piece ≡ true → b.total + r.n < whole_limit b.log k t.commits
 
-replayed-sound : (s : ℕ) (image : SphereSetup) (now k : ℕ) (b : Book) (t : Parts) (piece : Bool) (r : Run) (devices : Devices) (p : Sphere) → IsSoundBook (position p.progress) p.threads b → FitsRole k t piece r (Replay b) → IsSoundSphere s image now p
+replayed-sound : (s : ℕ) (image : SphereSetup) (now k : ℕ) (b : Cursor) (t : Parts) (piece : Bool) (r : Run) (devices : Devices) (p : Sphere) → IsSoundCursor (position p.progress) p.threads b → FitsRole k t piece r (Replay b) → IsSoundSphere s image now p
     → slice_get p.threads k ≡ Some t → IsSoundRun (length image.memory) t r → HaveByteInput devices → IsSoundMoved s image (suc now) (replayed_chunk piece b k r devices p)
-replayed-sound s image now k b t true r devices p book fits sound is run d =
-    piece-sound s image now k b t r devices p book (fits.turn b refl) fits.live sound is run (fits.room b refl refl) d
-replayed-sound s image now k b t false r devices p book fits sound is run d =
-    verdict-sound s image now k b t (chunk_verdict b.log p.progress b.used k (joined b r)) devices p book (fits.turn b refl) sound is
-    (chunk-goes (length image.memory) k b.log p.progress b.used p.threads t (joined b r) is run.thread run.commits run.words sound.request sound.few (book-uses (position p.progress) p.threads b book)) d
+replayed-sound s image now k b t true r devices p cursor fits sound is run d =
+    piece-sound s image now k b t r devices p cursor (fits.turn b refl) fits.live sound is run (fits.room b refl refl) d
+replayed-sound s image now k b t false r devices p cursor fits sound is run d =
+    verdict-sound s image now k b t (chunk_verdict b.log p.progress b.used k (joined b r)) devices p cursor (fits.turn b refl) sound is
+    (chunk-goes (length image.memory) k b.log p.progress b.used p.threads t (joined b r) is run.thread run.commits run.words sound.request sound.few (cursor-uses (position p.progress) p.threads b cursor)) d
 
 chunk-in-sound : (s : ℕ) (image : SphereSetup) (now k : ℕ) (role : Role) (t : Parts) (piece short : Bool) (r : Run) (devices : Devices) (p : Sphere) → IsSoundRole s (position p.progress) p.threads role → FitsRole k t piece r role → IsSoundSphere s image now p
     → slice_get p.threads k ≡ Some t → IsSoundRun (length image.memory) t r → HaveByteInput devices → IsSoundMoved s image (suc now) (chunk_in role k piece short r devices p)
@@ -197,7 +197,7 @@ served-sound s image now k role t g p whole sound is taken_ role_sound =
     (serial-effect (length image.memory) k p.threads p.progress.request t p.memory g.input sound.size whole taken_.brings (sound.threads k t is).thread sound.request sound.few)
     role_sound (told-devices t p.memory v.outputs g.devices taken_.devices)
 
-serial-in-sound : (s : ℕ) (image : SphereSetup) (now k moment : ℕ) (role : Role) (t : Parts) (devices : Devices) (p : Sphere) → length image.memory % 4 ≡ 0 → IsSoundRole s (position p.progress) p.threads role → ((b : Book) → role ≡ Replay b → b.now ≡ Turn k)
+serial-in-sound : (s : ℕ) (image : SphereSetup) (now k moment : ℕ) (role : Role) (t : Parts) (devices : Devices) (p : Sphere) → length image.memory % 4 ≡ 0 → IsSoundRole s (position p.progress) p.threads role → ((b : Cursor) → role ≡ Replay b → b.now ≡ Turn k)
     → IsSoundSphere s image now p → slice_get p.threads k ≡ Some t → HaveByteInput devices → IsSoundMoved s image (suc now) (serial_in role k moment t devices p)
 serial-in-sound s image now k moment Plain t devices p whole role going sound is d =
     served-sound s image now k Plain t (taken (need t p.memory) devices moment) p whole sound is (taken-sound t p.memory devices moment sound.bytes d) tt
@@ -210,10 +210,10 @@ serial-in-sound s image now k moment (Record log) t devices p whole role going s
     (input-log s (position (with_effect k e p.progress)) (with_threads k e p.threads) g.input (noted e.commit t.commits false log) (noted-sound s k t.commits false log t e p is effect.commits role))
 serial-in-sound s image now k moment (Replay b) t devices p whole role going sound is d =
     verdict-sound s image now k b t (serial_verdict b.log p.progress b.used k p.threads t p.memory) devices p role (going b refl) sound is
-    (serial-goes (length image.memory) k b.log p.progress b.used p.threads t p.memory is (book-uses (position p.progress) p.threads b role) sound.size whole (sound.threads k t is).thread sound.request sound.few) d
+    (serial-goes (length image.memory) k b.log p.progress b.used p.threads t p.memory is (cursor-uses (position p.progress) p.threads b role) sound.size whole (sound.threads k t is).thread sound.request sound.few) d
 
 -- a granted serial step leaves a sound sphere
-pub serial-sound : (s : ℕ) (image : SphereSetup) (now k moment : ℕ) (t : Parts) (devices : Devices) (p : Sphere) → length image.memory % 4 ≡ 0 → ((b : Book) → p.role ≡ Replay b → b.now ≡ Turn k)
+pub serial-sound : (s : ℕ) (image : SphereSetup) (now k moment : ℕ) (t : Parts) (devices : Devices) (p : Sphere) → length image.memory % 4 ≡ 0 → ((b : Cursor) → p.role ≡ Replay b → b.now ≡ Turn k)
     → IsSoundSphere s image now p → slice_get p.threads k ≡ Some t → HaveByteInput devices → IsSoundMoved s image (suc now) (serial_moved k moment t devices p)
 unfolding serial_moved
 serial-sound s image now k moment t devices p whole going sound is d = serial-in-sound s image now k moment p.role t devices p whole sound.role going sound is d

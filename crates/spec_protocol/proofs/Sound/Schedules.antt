@@ -19,7 +19,7 @@ use Rattle.spec_engine.specs.declared.answers.How.{How}
 use Rattle.spec_engine.specs.Flights.{Flight, at}
 use Rattle.spec_engine.specs.Chunks.{Chunk, step, cut}
 use Rattle.spec_protocol.specs.declared.event.Event.{Event}
-use Rattle.spec_protocol.specs.Spheres.{Book, Role, Replay, Sphere, no_sphere, is_over, is_stopped, head_of, head_in, whole_limit, pieces_of, limit_of, halves}
+use Rattle.spec_protocol.specs.Spheres.{Cursor, Role, Replay, Sphere, no_sphere, is_over, is_stopped, head_of, head_in, whole_limit, pieces_of, limit_of, halves}
 use Rattle.spec_protocol.specs.Commits.{Moved, is_piece, chunk_moved, serial_moved}
 use Rattle.spec_protocol.specs.Asking.{is_short, other_turn}
 use Rattle.spec_protocol.specs.World.{Numbers, Held, World, After, moment, sphere_at}
@@ -28,7 +28,7 @@ use Rattle.spec_protocol.specs.Transferring.{turn_before_dma}
 use Rattle.spec_protocol.specs.Machine.{RoleSetup, IsPlain, IsRecorded, IsReplayed, SphereSetup, Setup, role_of, sphere_of, world_of, act, name_of, kept, happens, world_after}
 use Rattle.spec_protocol.specs.Invariants.{IsGood}
 use Rattle.spec_protocol.specs.Promises.{IsSetup, AreSizesKept}
-use Rattle.spec_protocol.specs.Sound.{IsRole, IsImage, IsWithinLimits, AreSoundWords, no_image, image_at, size_of, IsSoundBook, IsSoundRole, IsSoundThread, IsSoundSphere, IsSoundChunk, HaveByteInput, IsSound, WorldsAreSound, EventsKeepSound}
+use Rattle.spec_protocol.specs.Sound.{IsRole, IsImage, IsWithinLimits, AreSoundWords, no_image, image_at, size_of, IsSoundCursor, IsSoundRole, IsSoundThread, IsSoundSphere, IsSoundChunk, HaveByteInput, IsSound, WorldsAreSound, EventsKeepSound}
 use Rattle.spec_protocol.proofs.Invariants.Kept.{SameSizes}
 use Rattle.spec_protocol.proofs.Moves.Granted.{turn-is}
 use Rattle.spec_protocol.proofs.Moves.Transfers.{dma-turn_is}
@@ -95,15 +95,15 @@ drained-both s now f w ws p e words k =
 
 -- ---- a chunk
 
-going-on : (p : Sphere) → is_stopped p.role ≡ false → (b : Book) → p.role ≡ Replay b → is_over b.now ≡ false
+going-on : (p : Sphere) → is_stopped p.role ≡ false → (b : Cursor) → p.role ≡ Replay b → is_over b.now ≡ false
 going-on p going b e = ap is_stopped (sym e) ∙ going
 
-has-turn : (p : Sphere) (k : ℕ) → is_stopped p.role ≡ false → other_turn (head_of p) k ≡ None → (b : Book) → p.role ≡ Replay b → b.now ≡ Turn k
+has-turn : (p : Sphere) (k : ℕ) → is_stopped p.role ≡ false → other_turn (head_of p) k ≡ None → (b : Cursor) → p.role ≡ Replay b → b.now ≡ Turn k
 unfolding head_of
 has-turn p k going turn b e =
     turn-is b.now k (going-on p going b e) (ap (λ (r : Role). other_turn (head_in r p) k) (sym e) ∙ turn)
 
-dma-has-turn : (p : Sphere) → is_stopped p.role ≡ false → turn_before_dma p.role ≡ None → (b : Book) → p.role ≡ Replay b → b.now ≡ TurnOfDma
+dma-has-turn : (p : Sphere) → is_stopped p.role ≡ false → turn_before_dma p.role ≡ None → (b : Cursor) → p.role ≡ Replay b → b.now ≡ TurnOfDma
 dma-has-turn p going turn b e = dma-turn_is b.now (going-on p going b e) (ap turn_before_dma (sym e) ∙ turn)
 
 -- before its limit a chunk is a piece that leaves room for an instruction
@@ -116,36 +116,36 @@ piece-how How.Cut e h = cc
 own-pieces : (k total : ℕ) → pieces_of (Turn k) k total ≡ total
 own-pieces k total = ap (λ (b : Bool). cond b total 0) (eq-eqb k k refl)
 
-limit-is : (s k : ℕ) (b : Book) (t : Parts) → b.now ≡ Turn k → limit_of s (Replay b) k t ≡ max 1 (whole_limit b.log k t.commits - b.total)
+limit-is : (s k : ℕ) (b : Cursor) (t : Parts) → b.now ≡ Turn k → limit_of s (Replay b) k t ≡ max 1 (whole_limit b.log k t.commits - b.total)
 unfolding limit_of
 limit-is s k b t turn =
     ap (λ (n : ℕ). max 1 (whole_limit b.log k t.commits - n)) (ap (λ (now : Now). pieces_of now k b.total) turn ∙ own-pieces k b.total)
 
--- what the book says of thread k's turn, which is t
-turn-room : (n k : ℕ) (p : Sphere) (b : Book) (t : Parts) → IsSoundBook n p.threads b → b.now ≡ Turn k → slice_get p.threads k ≡ Some t → b.total < whole_limit b.log k t.commits
-turn-room n k p b t book turn is =
-    let h = book.turn k turn in
+-- what the cursor says of thread k's turn, which is t
+turn-room : (n k : ℕ) (p : Sphere) (b : Cursor) (t : Parts) → IsSoundCursor n p.threads b → b.now ≡ Turn k → slice_get p.threads k ≡ Some t → b.total < whole_limit b.log k t.commits
+turn-room n k p b t cursor turn is =
+    let h = cursor.turn k turn in
     let q : h.thread ≡ t = (let o : Some h.thread ≡ Some t = sym h.there ∙ is in cc) in
     subst (λ (x : Parts). b.total < whole_limit b.log k x.commits) q h.room
 
 room-left : (n total whole limit : ℕ) → total < whole → limit ≡ max 1 (whole - total) → n < limit → total + n < whole
 room-left n total whole limit a e l = omega (arith, a, e, l)
 
-book-is : (s n : ℕ) (p : Sphere) (b : Book) → p.role ≡ Replay b → IsSoundRole s n p.threads p.role → IsSoundBook n p.threads b
-book-is s n p b e h = subst (IsSoundRole s n p.threads) e h
+cursor-is : (s n : ℕ) (p : Sphere) (b : Cursor) → p.role ≡ Replay b → IsSoundRole s n p.threads p.role → IsSoundCursor n p.threads b
+cursor-is s n p b e h = subst (IsSoundRole s n p.threads) e h
 
 piece-room : (s : Setup) (w : World) (c : ℕ) (h : Held) (how : How) → Asks w c h how → IsSoundSphere s.numbers.chunk (image_at s h.chunk.sphere) (moment w) (sphere_at w h.chunk.sphere)
-    → (b : Book) → (sphere_at w h.chunk.sphere).role ≡ Replay b → is_piece how ≡ true → b.total + h.chunk.done.n < whole_limit b.log h.thread h.chunk.start.commits
+    → (b : Cursor) → (sphere_at w h.chunk.sphere).role ≡ Replay b → is_piece how ≡ true → b.total + h.chunk.done.n < whole_limit b.log h.thread h.chunk.start.commits
 piece-room s w c h how asks k b e piece =
     let p = sphere_at w h.chunk.sphere in
     let held = asks.good.held c h asks.is in
     let turn = has-turn p h.thread asks.going asks.turn b e in
-    let book = book-is s.numbers.chunk (position p.progress) p b e k.role in
+    let cursor = cursor-is s.numbers.chunk (position p.progress) p b e k.role in
     let limit : h.chunk.limit ≡ max 1 (whole_limit b.log h.thread h.chunk.start.commits - b.total) =
     (held.limit asks.going).replayed (ap replays e) ∙ ap (λ (r : Role). limit_of w.numbers.chunk r h.thread h.chunk.start) e ∙ limit-is w.numbers.chunk h.thread b h.chunk.start turn
     in
     room-left h.chunk.done.n b.total (whole_limit b.log h.thread h.chunk.start.commits) h.chunk.limit
-    (turn-room (position p.progress) h.thread p b h.chunk.start book turn held.start) limit
+    (turn-room (position p.progress) h.thread p b h.chunk.start cursor turn held.start) limit
     (held.chunk.closes.early how asks.closed (piece-how how piece))
 
 sound-chunk : (s : Setup) (w : World) (c : ℕ) (h : Held) (how : How) → Asks w c h how → Holds (sound s) (moment w) w

@@ -21,11 +21,11 @@ use Rattle.spec_play.specs.Progress.{Progress, position, with_dma, Used, with_dm
 use Rattle.spec_play.specs.Turns.{TurnOfDma}
 use Rattle.spec_play.specs.Verdicts.{serial_why}
 use Rattle.spec_play.specs.Transfers.{DmaVerdict, DmaGoes, DmaFails, is_for, transferred, dma_unless, dma_verdict}
-use Rattle.spec_protocol.specs.Spheres.{Book, Role, Plain, Record, Replay, Sphere, is_over, actor_of}
+use Rattle.spec_protocol.specs.Spheres.{Cursor, Role, Plain, Record, Replay, Sphere, is_over, actor_of}
 use Rattle.spec_protocol.specs.Commits.{Moved, dma_as, live_dma, dma_log, dma_by_verdict, dma_in, dma_moved, role_raised, raised}
 use Rattle.spec_protocol.specs.Placing.{replays}
 use Rattle.spec_protocol.specs.Machine.{SphereSetup}
-use Rattle.spec_protocol.specs.Sound.{IsDoneInOrder, AreSoundWords, IsSoundIf, IsSoundBook, IsSoundLog, IsSoundRole, IsSoundThread, IsSoundSphere, HaveByteInput}
+use Rattle.spec_protocol.specs.Sound.{IsDoneInOrder, AreSoundWords, IsSoundIf, IsSoundCursor, IsSoundLog, IsSoundRole, IsSoundThread, IsSoundSphere, HaveByteInput}
 use Rattle.spec_protocol.proofs.Logs.Growing.{pushed_length}
 use Rattle.spec_protocol.proofs.Invariants.Cores.{branch}
 use Rattle.spec_protocol.proofs.Sound.Words.{dma-sound}
@@ -114,18 +114,18 @@ dma-goes size log p u whole request =
     dma-unless-goes size log u (serial_why (size_in log Actor.Dma (position p))) (transferred (position p) p.request (slice_get log.dmas u.dmas))
     (transferred-goes size log u (position p) p.request (slice_get log.dmas u.dmas) whole request refl)
 
-dma-verdict-sound : (s : ℕ) (image : SphereSetup) (now : ℕ) (b : Book) (x : DmaVerdict) (devices : Devices) (p : Sphere) → IsSoundBook (position p.progress) p.threads b → b.now ≡ TurnOfDma → IsSoundSphere s image now p → IfDmaGoes (length image.memory) b.log b.used x
+dma-verdict-sound : (s : ℕ) (image : SphereSetup) (now : ℕ) (b : Cursor) (x : DmaVerdict) (devices : Devices) (p : Sphere) → IsSoundCursor (position p.progress) p.threads b → b.now ≡ TurnOfDma → IsSoundSphere s image now p → IfDmaGoes (length image.memory) b.log b.used x
     → HaveByteInput devices → IsSoundMoved s image (suc now) (dma_by_verdict b x devices p)
-dma-verdict-sound s image now b (DmaFails why) devices p book turn sound goes d = diverged-sound s image now b why devices p book sound d
-dma-verdict-sound s image now b (DmaGoes words) devices p book turn sound goes d =
+dma-verdict-sound s image now b (DmaFails why) devices p cursor turn sound goes d = diverged-sound s image now b why devices p cursor sound d
+dma-verdict-sound s image now b (DmaGoes words) devices p cursor turn sound goes d =
     let n = dma-position p.progress in
-    let l = book.going (ap is_over turn) in
-    let done = done-dma b.log.mode b.log.order (position p.progress) p.threads (book.named Actor.Dma (ap actor_of turn)) book.done in
+    let l = cursor.going (ap is_over turn) in
+    let done = done-dma b.log.mode b.log.order (position p.progress) p.threads (cursor.named Actor.Dma (ap actor_of turn)) cursor.done in
     dma-as-sound s image now _ words devices p sound goes.words_sound
-    (turned-sound b.log (with_dma p.progress) (with_dma_used b.used) p.threads book.log (omega (arith, n, l))
-    (subst (λ (m : ℕ). IsDoneInOrder b.log.mode b.log.order m p.threads) (sym n) done) book.inputs goes.among book.interrupts) d
+    (turned-sound b.log (with_dma p.progress) (with_dma_used b.used) p.threads cursor.log (omega (arith, n, l))
+    (subst (λ (m : ℕ). IsDoneInOrder b.log.mode b.log.order m p.threads) (sym n) done) cursor.inputs goes.among cursor.interrupts) d
 
-dma-in-sound : (s : ℕ) (image : SphereSetup) (now : ℕ) (role : Role) (devices : Devices) (p : Sphere) → length image.memory % 4 ≡ 0 → IsSoundRole s (position p.progress) p.threads role → ((b : Book) → role ≡ Replay b → b.now ≡ TurnOfDma) → IsSoundSphere s image now p
+dma-in-sound : (s : ℕ) (image : SphereSetup) (now : ℕ) (role : Role) (devices : Devices) (p : Sphere) → length image.memory % 4 ≡ 0 → IsSoundRole s (position p.progress) p.threads role → ((b : Cursor) → role ≡ Replay b → b.now ≡ TurnOfDma) → IsSoundSphere s image now p
     → HaveByteInput devices → IfMoved s image (suc now) (dma_in role devices p)
 dma-in-sound s image now Plain devices p whole role going sound d = live-dma-sound s image now Plain devices p p.progress.request whole sound sound.request tt d
 dma-in-sound s image now (Record log) devices p whole role going sound d = recorded-dma-sound s image now log devices p p.progress.request whole sound sound.request role d
@@ -133,7 +133,7 @@ dma-in-sound s image now (Replay b) devices p whole role going sound d =
     dma-verdict-sound s image now b (dma_verdict b.log p.progress b.used) devices p role (going b refl) sound (dma-goes (length image.memory) b.log p.progress b.used whole sound.request) d
 
 -- a DMA that is done leaves a sound sphere
-pub dma-moved-sound : (s : ℕ) (image : SphereSetup) (now : ℕ) (devices : Devices) (p : Sphere) (v : Moved) → length image.memory % 4 ≡ 0 → ((b : Book) → p.role ≡ Replay b → b.now ≡ TurnOfDma) → IsSoundSphere s image now p
+pub dma-moved-sound : (s : ℕ) (image : SphereSetup) (now : ℕ) (devices : Devices) (p : Sphere) (v : Moved) → length image.memory % 4 ≡ 0 → ((b : Cursor) → p.role ≡ Replay b → b.now ≡ TurnOfDma) → IsSoundSphere s image now p
     → HaveByteInput devices → dma_moved devices p ≡ Some v → IsSoundMoved s image (suc now) v
 unfolding dma_moved
 dma-moved-sound s image now devices p v whole going sound d is = subst (IfMoved s image (suc now)) is (dma-in-sound s image now p.role devices p whole sound.role going sound d)

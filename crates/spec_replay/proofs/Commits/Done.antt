@@ -16,7 +16,7 @@ use Rattle.spec_play.specs.Turns.{Now, Turn, TurnOfDma, Over, now_at}
 use Rattle.spec_play.specs.Verdicts.{Verdict, Goes, Fails}
 use Rattle.spec_play.specs.Transfers.{DmaVerdict, DmaGoes, DmaFails, dma_verdict}
 use Rattle.spec_play.specs.Plays.{Played, with_threads, settled, thread_verdict, play_thread, dma_settled, play_now, play_one, plays}
-use Rattle.spec_protocol.specs.Spheres.{Book, Replay, Sphere}
+use Rattle.spec_protocol.specs.Spheres.{Cursor, Replay, Sphere}
 use Rattle.spec_protocol.specs.Commits.{turned, diverged, by_verdict, dma_by_verdict}
 use Rattle.spec_protocol.specs.Serial.{laid}
 use Rattle.spec_replay.specs.Following.{IsWhole, StandsAt, Follows}
@@ -30,7 +30,7 @@ abbrev pub Reaches : LogParts → Played → Sphere → Type 0
 Reaches log start p = Follows log (plays log start (position p.progress)) p
 
 -- beside the play: the log, the commits and what is used of the log are the same
-pub record Beside (log : LogParts) (y : Played) (p : Sphere) (b : Book) : Type 0 where
+pub record Beside (log : LogParts) (y : Played) (p : Sphere) (b : Cursor) : Type 0 where
   pub role : p.role ≡ Replay b
   pub same_log : b.log ≡ log
   pub progress : p.progress ≡ y.progress
@@ -46,12 +46,12 @@ ended_by y why = record y { now = Over (End.Diverged (position y.progress) why) 
 same_end : (p : Progress) (y : Played) (why : Why) → p ≡ y.progress → Over (End.Diverged (position p) why) ≡ Over (End.Diverged (position y.progress) why)
 same_end p y why e = ap (λ (g : Progress). Over (End.Diverged (position g) why)) e
 
-pub diverged-follows : (log : LogParts) (y : Played) (p : Sphere) (b : Book) (why : Why) (devices : Devices) (now : Now) → Beside log y p b → y.now ≡ now → ((how : End) → now ≡ Over how → ⊥) → StandsAt log y now p b → play_one log y ≡ ended_by y why
-    → ((c : Book) → c.total ≡ b.total → c.loads ≡ b.loads → StandsAt log y now p b → StandsAt log y now (laid (diverged b why devices p)) c) → Follows log y (laid (diverged b why devices p))
+pub diverged-follows : (log : LogParts) (y : Played) (p : Sphere) (b : Cursor) (why : Why) (devices : Devices) (now : Now) → Beside log y p b → y.now ≡ now → ((how : End) → now ≡ Over how → ⊥) → StandsAt log y now p b → play_one log y ≡ ended_by y why
+    → ((c : Cursor) → c.total ≡ b.total → c.loads ≡ b.loads → StandsAt log y now p b → StandsAt log y now (laid (diverged b why devices p)) c) → Follows log y (laid (diverged b why devices p))
 diverged-follows log y p b why devices now f is going state one keeps =
-    let c : Book = record b { now = Over (End.Diverged (position p.progress) why) } in
+    let c : Cursor = record b { now = Over (End.Diverged (position p.progress) why) } in
     record {
-      book = c;
+      cursor = c;
       role = refl;
       same_log = f.same_log;
       progress = f.progress;
@@ -67,15 +67,15 @@ diverged-follows log y p b why devices now f is going state one keeps =
 pub one_more : (cs : List Commit) (c : Commit) → length (cs ++ c ∷ []) ≡ suc (length cs)
 one_more cs c = let h = length-append cs (c ∷ []) in omega arith
 
-abbrev after_verdict : Book → ℕ → Verdict → Devices → Sphere → Sphere
+abbrev after_verdict : Cursor → ℕ → Verdict → Devices → Sphere → Sphere
 after_verdict b k v devices p = laid (by_verdict b k v devices p)
 
-goes_follow : (log : LogParts) (y : Played) (p : Sphere) (b : Book) (k : ℕ) (x : Parts) (e f : Effect) (u v : Used) (devices : Devices) → Beside log y p b → p.threads ≡ set y.threads k x → AlikeEffects p.memory y.memory e f → u ≡ v
+goes_follow : (log : LogParts) (y : Played) (p : Sphere) (b : Cursor) (k : ℕ) (x : Parts) (e f : Effect) (u v : Used) (devices : Devices) → Beside log y p b → p.threads ≡ set y.threads k x → AlikeEffects p.memory y.memory e f → u ≡ v
     → Follows log (settled log y k (Goes f v)) (after_verdict b k (Goes e u) devices p)
 goes_follow log y p b k x e f u v devices s threads alike used =
     let z : Played = settled log y k (Goes f v) in
     let q : Sphere = after_verdict b k (Goes e u) devices p in
-    let c : Book = turned b.log (with_effect k e p.progress) u (with_threads k e p.threads) in
+    let c : Cursor = turned b.log (with_effect k e p.progress) u (with_threads k e p.threads) in
     let progress : q.progress ≡ z.progress =
     (λ i. record { commits = (s.progress i).commits ++ alike.commit i ∷ []; last = Some k; request = alike.request i })
     in
@@ -86,7 +86,7 @@ goes_follow log y p b k x e f u v devices s threads alike used =
     in
     let now : c.now ≡ z.now = (λ i. now_at (s.same_log i) (progress i) (used i) (same i)) in
     record {
-      book = c;
+      cursor = c;
       role = refl;
       same_log = s.same_log;
       progress = progress;
@@ -113,7 +113,7 @@ play_judged log y k t x p v w j = ap (play_now log y) j.turn ∙ ap (play_thread
 turn_goes_on : (k : ℕ) (how : End) → Turn k ≡ Over how → ⊥
 turn_goes_on k how e = cc
 
-verdict_reaches : (log : LogParts) (start y : Played) (p : Sphere) (b : Book) (k : ℕ) (t x : Parts) (v w : Verdict) (devices : Devices) → y ≡ plays log start (position p.progress) → Beside log y p b → StandsAt log y (Turn k) p b → Judged log y k t x p v w
+verdict_reaches : (log : LogParts) (start y : Played) (p : Sphere) (b : Cursor) (k : ℕ) (t x : Parts) (v w : Verdict) (devices : Devices) → y ≡ plays log start (position p.progress) → Beside log y p b → StandsAt log y (Turn k) p b → Judged log y k t x p v w
     → Reaches log start (after_verdict b k v devices p)
 verdict_reaches log start y p b k t x (Goes e u) (Goes f g) devices at_ s state j =
     let one : plays log start (suc (position p.progress)) ≡ settled log y k (Goes f g) = ap (play_one log) (sym at_) ∙ play_judged log y k t x p (Goes e u) (Goes f g) j in
@@ -128,22 +128,22 @@ verdict_reaches log start y p b k t x (Goes e u) (Fails why) devices at_ s state
 verdict_reaches log start y p b k t x (Fails why) (Goes f g) devices at_ s state j = absurd j.alike
 
 -- what is granted to the thread whose turn it is, as the play says it
-pub commit-reaches : (log : LogParts) (start y : Played) (p : Sphere) (b : Book) (k : ℕ) (t x : Parts) (v w : Verdict) (devices : Devices) → y ≡ plays log start (position p.progress) → Beside log y p b → StandsAt log y (Turn k) p b → Judged log y k t x p v w
+pub commit-reaches : (log : LogParts) (start y : Played) (p : Sphere) (b : Cursor) (k : ℕ) (t x : Parts) (v w : Verdict) (devices : Devices) → y ≡ plays log start (position p.progress) → Beside log y p b → StandsAt log y (Turn k) p b → Judged log y k t x p v w
     → Reaches log start (laid (by_verdict b k v devices p))
 commit-reaches log start y p b k t x v w devices at_ s state j = verdict_reaches log start y p b k t x v w devices at_ s state j
 
 -- ---- a DMA
 
-dma_follows : (log : LogParts) (y : Played) (p : Sphere) (b : Book) (ws : List Stored) (devices : Devices) → Beside log y p b → IsWhole y p b → Follows log (dma_settled log y (DmaGoes ws)) (laid (dma_by_verdict b (DmaGoes ws) devices p))
+dma_follows : (log : LogParts) (y : Played) (p : Sphere) (b : Cursor) (ws : List Stored) (devices : Devices) → Beside log y p b → IsWhole y p b → Follows log (dma_settled log y (DmaGoes ws)) (laid (dma_by_verdict b (DmaGoes ws) devices p))
 dma_follows log y p b ws devices s w =
     let z : Played = dma_settled log y (DmaGoes ws) in
     let q : Sphere = laid (dma_by_verdict b (DmaGoes ws) devices p) in
-    let c : Book = turned b.log (with_dma p.progress) (with_dma_used b.used) p.threads in
+    let c : Cursor = turned b.log (with_dma p.progress) (with_dma_used b.used) p.threads in
     let progress : q.progress ≡ z.progress = ap with_dma s.progress in
     let used : c.used ≡ z.used = ap with_dma_used s.used in
     let now : c.now ≡ z.now = (λ i. now_at (s.same_log i) (progress i) (used i) (w.threads i)) in
     record {
-      book = c;
+      cursor = c;
       role = refl;
       same_log = s.same_log;
       progress = progress;
@@ -161,7 +161,7 @@ dma_goes_on : (how : End) → TurnOfDma ≡ Over how → ⊥
 dma_goes_on how e = cc
 
 -- a DMA of a replayed sphere, done or diverging, leaves it in its log's play
-pub transfer-reaches : (log : LogParts) (start y : Played) (p : Sphere) (b : Book) (v : DmaVerdict) (devices : Devices) → y ≡ plays log start (position p.progress) → Beside log y p b → y.now ≡ TurnOfDma → IsWhole y p b → dma_verdict log y.progress y.used ≡ v
+pub transfer-reaches : (log : LogParts) (start y : Played) (p : Sphere) (b : Cursor) (v : DmaVerdict) (devices : Devices) → y ≡ plays log start (position p.progress) → Beside log y p b → y.now ≡ TurnOfDma → IsWhole y p b → dma_verdict log y.progress y.used ≡ v
     → Reaches log start (laid (dma_by_verdict b v devices p))
 transfer-reaches log start y p b (DmaGoes ws) devices at_ s turn w is =
     let one : plays log start (suc (position p.progress)) ≡ dma_settled log y (DmaGoes ws) = ap (play_one log) (sym at_) ∙ play_dma log y (DmaGoes ws) turn is in

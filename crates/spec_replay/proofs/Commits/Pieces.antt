@@ -11,7 +11,7 @@ use Rattle.spec_kernel.specs.Devices.{Devices}
 use Rattle.spec_play.specs.Progress.{position}
 use Rattle.spec_play.specs.Turns.{Now, Turn}
 use Rattle.spec_play.specs.Plays.{Played, plays}
-use Rattle.spec_protocol.specs.Spheres.{Book, Role, Replay, Sphere, whole_limit, pieces_of, limit_in, limit_of}
+use Rattle.spec_protocol.specs.Spheres.{Cursor, Role, Replay, Sphere, whole_limit, pieces_of, limit_in, limit_of}
 use Rattle.spec_protocol.specs.Commits.{piece_moved}
 use Rattle.spec_protocol.specs.World.{Numbers}
 use Rattle.spec_protocol.specs.Serial.{laid}
@@ -25,7 +25,7 @@ use Rattle.spec_replay.proofs.Commits.Done.{Reaches, Beside}
 -- ---- a part of a commit
 
 -- the run of a part of n instructions, and with it the commit so far
-pub record IsPart (y : Played) (k : ℕ) (t u : Parts) (p : Sphere) (b : Book) (n : ℕ) (r : Run) : Type 0 where
+pub record IsPart (y : Played) (k : ℕ) (t u : Parts) (p : Sphere) (b : Cursor) (n : ℕ) (r : Run) : Type 0 where
   pub commits : u.commits ≡ t.commits
   pub size : r.n ≡ n
   pub ran : (run y.memory t (b.total + n)).n ≡ b.total + n
@@ -33,7 +33,7 @@ pub record IsPart (y : Played) (k : ℕ) (t u : Parts) (p : Sphere) (b : Book) (
   pub memory : lays p.memory r.words ≡ lays y.memory (run y.memory t (b.total + n)).words
   pub loads : b.loads ++ r.loads ≡ (run y.memory t (b.total + n)).loads
 
-part_from : (log : LogParts) (y : Played) (k : ℕ) (t u : Parts) (p : Sphere) (b : Book) (n : ℕ) → IsMovedOn log y k t p b → u ≡ (run y.memory t b.total).thread → (rest_of y.memory (run y.memory t b.total) n).n ≡ n → IsPart y k t u p b n (rest_of y.memory (run y.memory t b.total) n)
+part_from : (log : LogParts) (y : Played) (k : ℕ) (t u : Parts) (p : Sphere) (b : Cursor) (n : ℕ) → IsMovedOn log y k t p b → u ≡ (run y.memory t b.total).thread → (rest_of y.memory (run y.memory t b.total) n).n ≡ n → IsPart y k t u p b n (rest_of y.memory (run y.memory t b.total) n)
 part_from log y k t u p b n m is ran =
     let r : Run = run y.memory t b.total in
     let j : IsJoined y.memory r (rest_of y.memory r n) (run y.memory t (b.total + n)) = run-joined y.memory t b.total n in
@@ -47,7 +47,7 @@ part_from log y k t u p b n m is ran =
     }
 
 -- what a chunk of the thread ran is a part of the play's next commit
-pub part-is : (log : LogParts) (y : Played) (k : ℕ) (t u : Parts) (p : Sphere) (b : Book) (n : ℕ) → IsMovedOn log y k t p b → slice_get p.threads k ≡ Some u → (run p.memory u n).n ≡ n → IsPart y k t u p b n (run p.memory u n)
+pub part-is : (log : LogParts) (y : Played) (k : ℕ) (t u : Parts) (p : Sphere) (b : Cursor) (n : ℕ) → IsMovedOn log y k t p b → slice_get p.threads k ≡ Some u → (run p.memory u n).n ≡ n → IsPart y k t u p b n (run p.memory u n)
 part-is log y k t u p b n m there ran =
     let r : Run = run y.memory t b.total in
     let is : u ≡ r.thread = (let h : Some u ≡ Some r.thread = sym there ∙ ap (λ (ts : List Parts). slice_get ts k) m.threads ∙ get-set_same y.threads k r.thread t m.is in cc) in
@@ -63,7 +63,7 @@ limit_left : (a w : ℕ) → a < w → a + max 1 (w - a) ≡ w
 limit_left a w l = omega arith
 
 -- the instructions of the pieces and the limit of a new part are together the limit of the commit
-pub part-limit : (z : Numbers) (log : LogParts) (y : Played) (k : ℕ) (t u : Parts) (p : Sphere) (b : Book) (limit : ℕ) → p.role ≡ Replay b → b.log ≡ log → b.now ≡ Turn k → IsMovedOn log y k t p b → u.commits ≡ t.commits → limit ≡ limit_of z.chunk p.role k u → b.total + limit ≡ whole_limit log k t.commits
+pub part-limit : (z : Numbers) (log : LogParts) (y : Played) (k : ℕ) (t u : Parts) (p : Sphere) (b : Cursor) (limit : ℕ) → p.role ≡ Replay b → b.log ≡ log → b.now ≡ Turn k → IsMovedOn log y k t p b → u.commits ≡ t.commits → limit ≡ limit_of z.chunk p.role k u → b.total + limit ≡ whole_limit log k t.commits
 unfolding limit_of
 part-limit z log y k t u p b limit role is turn m commits limited =
     let l : limit ≡ max 1 (whole_limit log k t.commits - b.total) =
@@ -75,7 +75,7 @@ part-limit z log y k t u p b limit role is turn m commits limited =
 
 -- ---- a piece
 
-moved_piece : (log : LogParts) (y : Played) (k : ℕ) (t u : Parts) (p : Sphere) (b : Book) (n : ℕ) (r : Run) (devices : Devices) → IsMovedOn log y k t p b → IsPart y k t u p b n r → b.total + n < whole_limit log k t.commits
+moved_piece : (log : LogParts) (y : Played) (k : ℕ) (t u : Parts) (p : Sphere) (b : Cursor) (n : ℕ) (r : Run) (devices : Devices) → IsMovedOn log y k t p b → IsPart y k t u p b n r → b.total + n < whole_limit log k t.commits
     → IsMovedOn log y k t (laid (piece_moved b k r devices p)) (record b { total = b.total + r.n; loads = b.loads ++ r.loads })
 moved_piece log y k t u p b n r devices m part within =
     let whole : Run = run y.memory t (b.total + n) in
@@ -91,14 +91,14 @@ moved_piece log y k t u p b n r devices m part within =
     }
 
 -- a piece leaves the sphere in its log's play
-pub piece-reaches : (log : LogParts) (start y : Played) (p : Sphere) (b : Book) (k : ℕ) (t u : Parts) (n : ℕ) (r : Run) (devices : Devices) → y ≡ plays log start (position p.progress) → Beside log y p b → b.now ≡ y.now → y.now ≡ Turn k → IsMovedOn log y k t p b
+pub piece-reaches : (log : LogParts) (start y : Played) (p : Sphere) (b : Cursor) (k : ℕ) (t u : Parts) (n : ℕ) (r : Run) (devices : Devices) → y ≡ plays log start (position p.progress) → Beside log y p b → b.now ≡ y.now → y.now ≡ Turn k → IsMovedOn log y k t p b
     → IsPart y k t u p b n r → b.total + n < whole_limit log k t.commits → Reaches log start (laid (piece_moved b k r devices p))
 piece-reaches log start y p b k t u n r devices at_ s now turn m part within =
-    let c : Book = record b { total = b.total + r.n; loads = b.loads ++ r.loads } in
+    let c : Cursor = record b { total = b.total + r.n; loads = b.loads ++ r.loads } in
     let q : Sphere = laid (piece_moved b k r devices p) in
     subst (λ (z : Played). Follows log z q) at_
     record {
-      book = c;
+      cursor = c;
       role = refl;
       same_log = s.same_log;
       progress = s.progress;

@@ -7,7 +7,7 @@ use Rattle.spec_log.specs.Size.{size_in}
 use Rattle.spec_play.specs.Turns.{Now, Turn, TurnOfDma, Over, now_at}
 use Rattle.spec_play.specs.Plays.{Played}
 use Rattle.spec_play.proofs.Going.{Lives, turn-lives}
-use Rattle.spec_protocol.specs.Spheres.{Book, Sphere, whole_limit}
+use Rattle.spec_protocol.specs.Spheres.{Cursor, Sphere, whole_limit}
 use Rattle.spec_replay.specs.Following.{IsWhole, StandsAt}
 
 -- ---- threads
@@ -48,7 +48,7 @@ limit-some log k commits l = subst (λ (n : ℕ). 0 < n) (sym (limit-is log k co
 -- ---- without pieces
 
 -- where no piece stands, what is moved on is the play's state itself
-moved_whole : (log : LogParts) (y : Played) (k : ℕ) (p : Sphere) (b : Book) → 0 < log.s → Lives y.threads k → IsWhole y p b → StandsAt log y (Turn k) p b
+moved_whole : (log : LogParts) (y : Played) (k : ℕ) (p : Sphere) (b : Cursor) → 0 < log.s → Lives y.threads k → IsWhole y p b → StandsAt log y (Turn k) p b
 moved_whole log y k p b s l w = (
   l.thread,
   rw w.total
@@ -63,11 +63,11 @@ moved_whole log y k p b s l w = (
       },
 )
 
-stands_now : (log : LogParts) (y : Played) (now : Now) (p : Sphere) (b : Book) → 0 < log.s → now_at log y.progress y.used y.threads ≡ now → IsWhole y p b → StandsAt log y now p b
+stands_now : (log : LogParts) (y : Played) (now : Now) (p : Sphere) (b : Cursor) → 0 < log.s → now_at log y.progress y.used y.threads ≡ now → IsWhole y p b → StandsAt log y now p b
 stands_now log y (Turn k) p b s e w = moved_whole log y k p b s (turn-lives log y.progress y.used y.threads k e) w
 stands_now log y TurnOfDma p b s e w = w
 stands_now log y (Over how) p b s e w = w
 
 -- a replay without a piece of its next commit stands where its play does
-pub whole-stands : (log : LogParts) (y : Played) (p : Sphere) (b : Book) → 0 < log.s → now_at log y.progress y.used y.threads ≡ y.now → IsWhole y p b → StandsAt log y y.now p b
+pub whole-stands : (log : LogParts) (y : Played) (p : Sphere) (b : Cursor) → 0 < log.s → now_at log y.progress y.used y.threads ≡ y.now → IsWhole y p b → StandsAt log y y.now p b
 whole-stands log y p b s e w = stands_now log y y.now p b s e w

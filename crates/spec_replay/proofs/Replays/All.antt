@@ -6,7 +6,7 @@ use Rattle.spec_isa.specs.Threads.{started}
 use Rattle.spec_log.specs.declared.LogParts.{LogParts}
 use Rattle.spec_play.specs.Progress.{no_progress, nothing_used}
 use Rattle.spec_play.specs.Plays.{Played, opened}
-use Rattle.spec_protocol.specs.Spheres.{Book, Sphere}
+use Rattle.spec_protocol.specs.Spheres.{Cursor, Sphere}
 use Rattle.spec_protocol.specs.Commits.{turned}
 use Rattle.spec_protocol.specs.World.{Numbers, Move}
 use Rattle.spec_protocol.specs.Machine.{IsReplayed, SphereSetup, role_of, sphere_of, moves, world_of}
@@ -42,9 +42,9 @@ moves_stand log start z x (m ∷ ms) i s a fits = moves_stand log start z (do_mo
 
 start_reaches : (log : LogParts) (z : ℕ) (image : SphereSetup) → 0 < log.s → image.role ≡ IsReplayed log → Reaches log (opened log image.memory image.entry) (sphere_of z image)
 start_reaches log z image s role =
-    let b : Book = turned log no_progress nothing_used (started image.entry ∷ []) in
+    let b : Cursor = turned log no_progress nothing_used (started image.entry ∷ []) in
     record {
-      book = b;
+      cursor = b;
       role = ap (role_of z (started image.entry ∷ [])) role;
       same_log = refl;
       progress = refl;

@@ -15,7 +15,7 @@ use Rattle.spec_play.specs.Verdicts.{Verdict, serial_verdict}
 use Rattle.spec_play.specs.Transfers.{DmaVerdict, dma_verdict}
 use Rattle.spec_play.specs.Plays.{Played, thread_verdict, plays}
 use Rattle.spec_engine.specs.declared.answers.How.{How}
-use Rattle.spec_protocol.specs.Spheres.{Book, Role, Replay, Sphere, is_over, is_stopped, head_in, head_of, is_in_pieces}
+use Rattle.spec_protocol.specs.Spheres.{Cursor, Role, Replay, Sphere, is_over, is_stopped, head_in, head_of, is_in_pieces}
 use Rattle.spec_protocol.specs.Commits.{Moved, is_piece, replayed_chunk, by_verdict, chunk_in, chunk_moved, serial_in, serial_moved, dma_by_verdict, dma_in, dma_moved}
 use Rattle.spec_protocol.specs.World.{Numbers, What, OfChunk, OfSerial, OfDma, OfRaise}
 use Rattle.spec_protocol.specs.Asking.{is_short, other_turn}
@@ -34,39 +34,39 @@ use Rattle.spec_protocol.proofs.Replays.Pieces.{no_raise}
 -- ---- whose turn it is
 
 -- a replay that goes on has the play's turn
-goes_with : (log : LogParts) (y : Played) (b : Book) (o : (b.now ≡ y.now) ⊎ EndsWithin log y b) → is_over b.now ≡ false → b.now ≡ y.now
+goes_with : (log : LogParts) (y : Played) (b : Cursor) (o : (b.now ≡ y.now) ⊎ EndsWithin log y b) → is_over b.now ≡ false → b.now ≡ y.now
 goes_with log y b (inl e) going = e
 goes_with log y b (inr w) going = absurd (true≢false (ap is_over (sym w.over) ∙ going))
 
 -- a replay that goes on, with that turn, beside its play
-record Going (log : LogParts) (y : Played) (p : Sphere) (b : Book) (now : Now) : Type 0 where
+record Going (log : LogParts) (y : Played) (p : Sphere) (b : Cursor) (now : Now) : Type 0 where
   beside : Beside log y p b
   same : b.now ≡ y.now
   turn : y.now ≡ now
   state : StandsAt log y now p b
 
-going_at : (log : LogParts) (y : Played) (p : Sphere) (now : Now) → 0 < log.s → (f : Follows log y p) → is_over f.book.now ≡ false → f.book.now ≡ now → Going log y p f.book now
+going_at : (log : LogParts) (y : Played) (p : Sphere) (now : Now) → 0 < log.s → (f : Follows log y p) → is_over f.cursor.now ≡ false → f.cursor.now ≡ now → Going log y p f.cursor now
 going_at log y p now s f going is =
-    let same : f.book.now ≡ y.now = goes_with log y f.book f.now going in
+    let same : f.cursor.now ≡ y.now = goes_with log y f.cursor f.now going in
     let turn : y.now ≡ now = sym same ∙ is in
     record {
       beside = record { role = f.role; same_log = f.same_log; progress = f.progress; used = f.used; standard = s };
       same = same;
       turn = turn;
-      state = subst (λ (n : Now). StandsAt log y n p f.book) turn f.state;
+      state = subst (λ (n : Now). StandsAt log y n p f.cursor) turn f.state;
     }
 
-not_over : (r : Role) (b : Book) → r ≡ Replay b → is_stopped r ≡ false → is_over b.now ≡ false
+not_over : (r : Role) (b : Cursor) → r ≡ Replay b → is_stopped r ≡ false → is_over b.now ≡ false
 not_over r b role going = ap is_stopped (sym role) ∙ going
 
 -- a replay that another thread's turn doesn't hold up has this thread's turn
-pub turn_of_thread : (p : Sphere) (b : Book) (k : ℕ) → p.role ≡ Replay b → is_stopped p.role ≡ false → other_turn (head_of p) k ≡ None → b.now ≡ Turn k
+pub turn_of_thread : (p : Sphere) (b : Cursor) (k : ℕ) → p.role ≡ Replay b → is_stopped p.role ≡ false → other_turn (head_of p) k ≡ None → b.now ≡ Turn k
 unfolding head_of
 turn_of_thread p b k role going free =
     turn-is b.now k (not_over p.role b role going) (ap (λ (r : Role). other_turn (head_in r p) k) (sym role) ∙ free)
 
 -- a replay that no thread's turn holds up before a DMA has the DMA's
-pub turn_of_dma : (p : Sphere) (b : Book) → p.role ≡ Replay b → is_stopped p.role ≡ false → turn_before_dma p.role ≡ None → b.now ≡ TurnOfDma
+pub turn_of_dma : (p : Sphere) (b : Cursor) → p.role ≡ Replay b → is_stopped p.role ≡ false → turn_before_dma p.role ≡ None → b.now ≡ TurnOfDma
 turn_of_dma p b role going free = dma-turn_is b.now (not_over p.role b role going) (ap turn_before_dma (sym role) ∙ free)
 
 -- ---- moves
@@ -86,7 +86,7 @@ unfolding chunk_moved
 chunk_stands log start z x i p k how n limit None s is f there fits = absurd fits
 chunk_stands log start z x i p k how n limit (Some u) s is f there fits =
     let y : Played = plays log start (position p.progress) in
-    let b : Book = f.book in
+    let b : Cursor = f.cursor in
     let turn : b.now ≡ Turn k = turn_of_thread p b k f.role fits.going fits.turn in
     let g : Going log y p b (Turn k) = going_at log y p (Turn k) s f (not_over p.role b f.role fits.going) turn in
     subst (λ (v : Moved). Stands log start (do_moved x i v) i)
@@ -96,11 +96,11 @@ chunk_stands log start z x i p k how n limit (Some u) s is f there fits =
 
 -- ---- a serial step
 
-serial_now : (b : Book) (r : Role) → r ≡ Replay b → is_in_pieces r ≡ false → b.total ≡ 0
+serial_now : (b : Cursor) (r : Role) → r ≡ Replay b → is_in_pieces r ≡ false → b.total ≡ 0
 serial_now b r role none = let h : b.total ≤ 0 = ltb-false 0 b.total (ap is_in_pieces (sym role) ∙ none) in omega arith
 
 -- where no piece stands, memory and threads are the play's
-unmoved : (log : LogParts) (y : Played) (k : ℕ) (t : Parts) (p : Sphere) (b : Book) → IsMovedOn log y k t p b → b.total ≡ 0 → (p.memory ≡ y.memory) × (p.threads ≡ y.threads)
+unmoved : (log : LogParts) (y : Played) (k : ℕ) (t : Parts) (p : Sphere) (b : Cursor) → IsMovedOn log y k t p b → b.total ≡ 0 → (p.memory ≡ y.memory) × (p.threads ≡ y.threads)
 unmoved log y k t p b m none = (
   m.memory ∙ ap (λ (n : ℕ). lays y.memory (run y.memory t n).words) none,
   m.threads ∙ ap (λ (n : ℕ). set y.threads k (run y.memory t n).thread) none ∙ set_here y.threads k t m.is,
@@ -110,7 +110,7 @@ serial_turn : (log : LogParts) (y : Played) (k : ℕ) (t : Parts) (o : Option Ki
 serial_turn log y k t None some = absurd (true≢false (sym some))
 serial_turn log y k t (Some kind) some = refl
 
-serial_reaches : (log : LogParts) (start y : Played) (p : Sphere) (b : Book) (k : ℕ) (u : Parts) (devices : Devices) → y ≡ plays log start (position p.progress) → Going log y p b (Turn k) → slice_get p.threads k ≡ Some u → SerialFits p k u
+serial_reaches : (log : LogParts) (start y : Played) (p : Sphere) (b : Cursor) (k : ℕ) (u : Parts) (devices : Devices) → y ≡ plays log start (position p.progress) → Going log y p b (Turn k) → slice_get p.threads k ≡ Some u → SerialFits p k u
     → Reaches log start (laid (by_verdict b k (serial_verdict b.log p.progress b.used k p.threads u p.memory) devices p))
 serial_reaches log start y p b k u devices at_ g there f =
     let t : Parts = g.state.0 in
@@ -137,7 +137,7 @@ unfolding serial_moved
 serial_stands log start x i moment p k None s is f there fits = absurd fits
 serial_stands log start x i moment p k (Some u) s is f there fits =
     let y : Played = plays log start (position p.progress) in
-    let b : Book = f.book in
+    let b : Cursor = f.cursor in
     let turn : b.now ≡ Turn k = turn_of_thread p b k f.role fits.going fits.turn in
     let g : Going log y p b (Turn k) = going_at log y p (Turn k) s f (not_over p.role b f.role fits.going) turn in
     subst (λ (v : Moved). Stands log start (do_moved x i v) i)
@@ -150,7 +150,7 @@ dma_stands : (log : LogParts) (start : Played) (x : Whole) (i : ℕ) (p : Sphere
 unfolding dma_moved
 dma_stands log start x i p s is f fits =
     let y : Played = plays log start (position p.progress) in
-    let b : Book = f.book in
+    let b : Cursor = f.cursor in
     let turn : b.now ≡ TurnOfDma = turn_of_dma p b f.role fits.going fits.turn in
     let g : Going log y p b TurnOfDma = going_at log y p TurnOfDma s f (not_over p.role b f.role fits.going) turn in
     let v : DmaVerdict = dma_verdict b.log p.progress b.used in
@@ -166,4 +166,4 @@ pub what-stands : (log : LogParts) (start : Played) (z : Numbers) (x : Whole) (m
 what-stands log start z x moment i p (OfChunk k how n limit) s is f fits = chunk_stands log start z x i p k how n limit (slice_get p.threads k) s is f refl fits
 what-stands log start z x moment i p (OfSerial k) s is f fits = serial_stands log start x i moment p k (slice_get p.threads k) s is f refl fits
 what-stands log start z x moment i p OfDma s is f fits = dma_stands log start x i p s is f fits
-what-stands log start z x moment i p (OfRaise k value) s is f fits = absurd (no_raise p f.book (slice_get p.threads k) f.role fits)
+what-stands log start z x moment i p (OfRaise k value) s is f fits = absurd (no_raise p f.cursor (slice_get p.threads k) f.role fits)

@@ -8,7 +8,7 @@ use Rattle.spec_play.specs.Progress.{position}
 use Rattle.spec_play.specs.Turns.{Now, Turn, TurnOfDma, Over}
 use Rattle.spec_play.specs.Plays.{Played, opened, play_one, plays, play}
 use Rattle.spec_play.proofs.Going.{over-stays, plays-stay, play-over}
-use Rattle.spec_protocol.specs.Spheres.{Book, Replay, Sphere, is_over}
+use Rattle.spec_protocol.specs.Spheres.{Cursor, Replay, Sphere, is_over}
 use Rattle.spec_replay.specs.Following.{IsWhole, StandsAt, EndsWithin, Follows}
 use Rattle.spec_replay.specs.Promises.{ends_between, StoppedArePlayed}
 use Rattle.spec_replay.proofs.Replays.Ending.{ends-between}
@@ -17,7 +17,7 @@ use Rattle.spec_replay.proofs.Replays.All.{replays_follow}
 -- ---- the last state of a play, told by a replay that has stopped
 
 -- this is how far the play comes
-pub record IsLast (log : LogParts) (start : Played) (n : ℕ) (p : Sphere) (b : Book) : Type 0 where
+pub record IsLast (log : LogParts) (start : Played) (n : ℕ) (p : Sphere) (b : Cursor) : Type 0 where
   pub how : End
   pub over : b.now ≡ Over how
   pub now : (plays log start n).now ≡ Over how
@@ -28,7 +28,7 @@ stopped_how (Turn k) e = absurd (true≢false (sym e))
 stopped_how TurnOfDma e = absurd (true≢false (sym e))
 stopped_how (Over how) e = (how, refl)
 
-last_with : (log : LogParts) (start : Played) (p : Sphere) (b : Book) (o : (b.now ≡ (plays log start (position p.progress)).now) ⊎ EndsWithin log (plays log start (position p.progress)) b) → is_over b.now ≡ true → p.progress ≡ (plays log start (position p.progress)).progress
+last_with : (log : LogParts) (start : Played) (p : Sphere) (b : Cursor) (o : (b.now ≡ (plays log start (position p.progress)).now) ⊎ EndsWithin log (plays log start (position p.progress)) b) → is_over b.now ≡ true → p.progress ≡ (plays log start (position p.progress)).progress
     → IsLast log start (suc (position p.progress)) p b
 last_with log start p b (inl e) stopped same =
     let y : Played = plays log start (position p.progress) in
@@ -44,26 +44,26 @@ last_with log start p b (inr w) stopped same =
       progress = same ∙ ap (λ (x : Played). x.progress) (sym w.diverges);
     }
 
--- ---- a replay that stands in the play, by its book
+-- ---- a replay that stands in the play, by its cursor
 
 -- the sphere stands where the play does, or ends within its next commit
-pub record IsAt (log : LogParts) (y : Played) (p : Sphere) (b : Book) : Type 0 where
+pub record IsAt (log : LogParts) (y : Played) (p : Sphere) (b : Cursor) : Type 0 where
   pub progress : p.progress ≡ y.progress
   pub now : (b.now ≡ y.now) ⊎ EndsWithin log y b
   pub state : StandsAt log y y.now p b
 
 -- so does each replayed sphere that follows the play
-pub is_at : (log : LogParts) (y : Played) (p : Sphere) (b : Book) → p.role ≡ Replay b → Follows log y p → IsAt log y p b
+pub is_at : (log : LogParts) (y : Played) (p : Sphere) (b : Cursor) → p.role ≡ Replay b → Follows log y p → IsAt log y p b
 is_at log y p b role f =
-    let e : f.book ≡ b = (let h : Replay f.book ≡ Replay b = sym f.role ∙ role in cc) in
+    let e : f.cursor ≡ b = (let h : Replay f.cursor ≡ Replay b = sym f.role ∙ role in cc) in
     subst (IsAt log y p) e (record { progress = f.progress; now = f.now; state = f.state })
 
 -- the sphere is at its log's play after its own number of commits
-abbrev pub Reached : LogParts → Played → Sphere → Book → Type 0
+abbrev pub Reached : LogParts → Played → Sphere → Cursor → Type 0
 Reached log start p b = IsAt log (plays log start (position p.progress)) p b
 
 -- a replay that is over is at the last state of its play
-pub last_of : (log : LogParts) (start : Played) (p : Sphere) (b : Book) → Reached log start p b → is_over b.now ≡ true → IsLast log start (suc (position p.progress)) p b
+pub last_of : (log : LogParts) (start : Played) (p : Sphere) (b : Cursor) → Reached log start p b → is_over b.now ≡ true → IsLast log start (suc (position p.progress)) p b
 last_of log start p b k stopped = last_with log start p b k.now stopped k.progress
 
 -- the play comes to one last state, from wherever it is looked at
@@ -76,14 +76,14 @@ same_end : (a b : End) → Over a ≡ Over b → a ≡ b
 same_end a b e = cc
 
 -- a replay that has ended between two commits stands where the play has ended
-pub end_between : (log : LogParts) (y : Played) (b : Book) (how : End) (o : (b.now ≡ y.now) ⊎ EndsWithin log y b) → b.now ≡ Over how → ends_between how ≡ true → y.now ≡ Over how
+pub end_between : (log : LogParts) (y : Played) (b : Cursor) (how : End) (o : (b.now ≡ y.now) ⊎ EndsWithin log y b) → b.now ≡ Over how → ends_between how ≡ true → y.now ≡ Over how
 end_between log y b how (inl e) is between = sym e ∙ is
 end_between log y b how (inr w) is between =
     let h : End.Diverged (position y.progress) w.why ≡ how = same_end _ how (sym w.over ∙ is) in
     ends-between log y w.why w.diverges (ap ends_between h ∙ between) ∙ ap Over h
 
 -- where the play is over the replay has done whole commits
-pub whole_now : (log : LogParts) (y : Played) (p : Sphere) (b : Book) (how : End) → y.now ≡ Over how → StandsAt log y y.now p b → IsWhole y p b
+pub whole_now : (log : LogParts) (y : Played) (p : Sphere) (b : Cursor) (how : End) → y.now ≡ Over how → StandsAt log y y.now p b → IsWhole y p b
 whole_now log y p b how e s = subst (λ (now : Now). StandsAt log y now p b) e s
 
 -- ---- the promise

@@ -7,7 +7,7 @@ use Rattle.spec_play.specs.Turns.{Turn}
 use Rattle.spec_protocol.specs.Spheres.{whole_limit}
 use Rattle.spec_protocol.proofs.Moves.Threads.{run-keeps}
 use Rattle.spec_protocol.proofs.Sound.Limits.{whole-positive, whole-most}
-use Rattle.dl_replay.specs.Replaying.{book_of}
+use Rattle.dl_replay.specs.Replaying.{cursor_of}
 use Rattle.dl_serial.specs.declared.chunk.Chunk.{Chunk}
 use Rattle.dl_serial.specs.declared.sphere.Sphere.{Sphere}
 use Rattle.dl_serial.specs.Overlays.{room}
@@ -24,7 +24,7 @@ run-requires-clause-least g c =
     let h = c.self.invariant.0 in
     let some : 0 < whole_limit r.log k t.commits = whole-positive r.log k t.commits h.is_log in
     let size : c.limit-limit.result ≡ whole_limit r.log k t.commits =
-    c.limit-limit.ensures.of_thread 0 [] c.self.inside.sphere.threads t c.thread_at-thread.ensures.few h.commits c.thread_at-thread.ensures.thread ∙ whole-is 0 (book_of r []) k t h.whole some
+    c.limit-limit.ensures.of_thread 0 [] c.self.inside.sphere.threads t c.thread_at-thread.ensures.few h.commits c.thread_at-thread.ensures.thread ∙ whole-is 0 (cursor_of r []) k t h.whole some
     in
     omega (arith, some, size)
 
@@ -38,7 +38,7 @@ run-requires-clause-most g c =
     let most : whole_limit r.log k t.commits ≤ r.log.s = whole-most r.log k t.commits h.is_log in
     let standard : r.log.s ≤ room = h.is_log.s.1 in
     let size : c.limit-limit.result ≡ whole_limit r.log k t.commits =
-    c.limit-limit.ensures.of_thread 0 [] c.self.inside.sphere.threads t c.thread_at-thread.ensures.few h.commits c.thread_at-thread.ensures.thread ∙ whole-is 0 (book_of r []) k t h.whole some
+    c.limit-limit.ensures.of_thread 0 [] c.self.inside.sphere.threads t c.thread_at-thread.ensures.few h.commits c.thread_at-thread.ensures.thread ∙ whole-is 0 (cursor_of r []) k t h.whole some
     in
     omega (arith, most, standard, size)
 
@@ -126,7 +126,7 @@ returns g c =
     let same : was ≡ y = ap (λ (x : List ℕ). record y { memory = x }) c.in_ok-chunk.ensures.memory in
     let turn : y.now ≡ Turn k = ap (λ (v : Playing). v.played.now) c.self.view_is ∙ c.requires in
     let whole : limit ≡ whole_limit log k t.commits =
-    c.limit-limit.ensures.of_thread 0 [] a.sphere.threads t c.thread_at-thread.ensures.few h.commits there ∙ whole-is 0 (book_of a.replayer []) k t h.whole (whole-positive log k t.commits h.is_log)
+    c.limit-limit.ensures.of_thread 0 [] a.sphere.threads t c.thread_at-thread.ensures.few h.commits there ∙ whole-is 0 (cursor_of a.replayer []) k t h.whole (whole-positive log k t.commits h.is_log)
     in
     let some : 0 < size = (let ne = c.if-chunk-eq0.false in omega arith) in
     let full : (run m t size).n ≡ size = sym (ap (λ (x : Chunk). x.n) ran.chunk ∙ ap (λ (x : Run). x.n) ran.ran) in

@@ -8,8 +8,8 @@ use Rattle.spec_play.specs.Progress.{Used}
 use Rattle.spec_play.specs.Verdicts.{Goes, chunk_verdict}
 use Rattle.spec_protocol.specs.Asking.{is_short}
 use Rattle.spec_protocol.specs.Commits.{Diverged, is_piece, joined, chunk_moved}
-use Rattle.spec_protocol.specs.Spheres.{Book, Replay, Sphere}
-use Rattle.dl_replay.specs.Replaying.{Replaying, book_of, commits_of}
+use Rattle.spec_protocol.specs.Spheres.{Cursor, Replay, Sphere}
+use Rattle.dl_replay.specs.Replaying.{Replaying, commits_of, cursor_of}
 use Rattle.dl_sphere.specs.declared.part.Part.{Part}
 use Rattle.dl_sphere.specs.Moving.{IsPart, IsPartIn}
 use Rattle.dl_sphere.specs.Replayed.{before}
@@ -98,15 +98,15 @@ commit_last-requires-clause-few g c =
     let ch = c.args.chunk.now.chunk in
     let kept : IsReplayed (sphere_in a) r.player = replayed a r c.in-Replayed.is c.self.invariant in
     let here : IsPartIn (role_in a.part) k g.how ch = subst (λ (v : Standing). IsPartIn v.sphere.role k g.how ch) (sym c.self.view_is) c.requires.1.1.0.part in
-    let part : IsPart (book_of r.player r.loads.items) k g.how ch = subst (λ (x : Part). IsPartIn (role_in x) k g.how ch) c.in-Replayed.is here in
-    part-fits (book_of r.player r.loads.items) k ch.done.n ch.done.thread kept.is_log part.room (subst (λ n. ch.done.n ≤ n) part.limit part.most)
+    let part : IsPart (cursor_of r.player r.loads.items) k g.how ch = subst (λ (x : Part). IsPartIn (role_in x) k g.how ch) c.in-Replayed.is here in
+    part-fits (cursor_of r.player r.loads.items) k ch.done.n ch.done.thread kept.is_log part.room (subst (λ n. ch.done.n ≤ n) part.limit part.most)
 
 pub invariant_of-self-in-Some : goal.invariant_of-self-in-Some
 invariant_of-self-in-Some g c =
     let a = c.self.inside in
     let k = c.args.thread in
     let r = c.in-Replayed.replay in
-    let b : Book = book_of r.player r.loads.items in
+    let b : Cursor = cursor_of r.player r.loads.items in
     let kept : IsReplayed (sphere_in a) r.player = replayed a r c.in-Replayed.is c.self.invariant in
     let said = rw c.in-Some.is at (c.in_ok-left.ensures.judged (sphere_in a).progress kept.agrees refl) in
     let n = c.commit_last.new in
@@ -119,7 +119,7 @@ invariant_of-self-in-Replayed g c =
     let a = c.self.inside in
     let k = c.args.thread in
     let r = c.in-Replayed.replay in
-    let b : Book = book_of r.player r.loads.items in
+    let b : Cursor = cursor_of r.player r.loads.items in
     let kept : IsReplayed (sphere_in a) r.player = replayed a r c.in-Replayed.is c.self.invariant in
     let said = rw c.in_default-left.is at (c.in_ok-left.ensures.judged (sphere_in a).progress kept.agrees refl) in
     let n = c.commit_last.new in
@@ -136,7 +136,7 @@ returns-in-Replayed-clause-ok g c d =
     let ch = c.args.chunk.now.chunk in
     let run = ch.done in
     let r = c.in-Replayed.replay in
-    let b : Book = book_of r.player r.loads.items in
+    let b : Cursor = cursor_of r.player r.loads.items in
     let p = (sphere_in a).progress in
     let kept : IsReplayed (sphere_in a) r.player = replayed a r c.in-Replayed.is c.self.invariant in
     let said = rw c.in_default-left.is at (c.in_ok-left.ensures.judged p kept.agrees refl) in
@@ -157,7 +157,7 @@ count-requires g c =
     let a = c.self.inside in
     let k = c.args.thread in
     let r = c.in-Replayed.replay in
-    let b : Book = book_of r.player r.loads.items in
+    let b : Cursor = cursor_of r.player r.loads.items in
     let p = (sphere_in a).progress in
     let kept : IsReplayed (sphere_in a) r.player = replayed a r c.in-Replayed.is c.self.invariant in
     let said = rw c.in-Some.is at (c.in_ok-left.ensures.judged p kept.agrees refl) in
@@ -176,7 +176,7 @@ returns-in-Some-clause-ok g c d =
     let a = c.self.inside in
     let k = c.args.thread in
     let r = c.in-Replayed.replay in
-    let b : Book = book_of r.player r.loads.items in
+    let b : Cursor = cursor_of r.player r.loads.items in
     let p = (sphere_in a).progress in
     let kept : IsReplayed (sphere_in a) r.player = replayed a r c.in-Replayed.is c.self.invariant in
     let said = rw c.in-Some.is at (c.in_ok-left.ensures.judged p kept.agrees refl) in
@@ -188,7 +188,7 @@ returns-in-Some-clause-ok g c d =
     let short : Bool = is_short a.standard how ch.limit in
     let whole : false ≡ is_piece how = sym c.if-is_piece.false ∙ c.is_piece.ensures how c.requires.1.1.0.closed in
     let len : c.count.result ≡ length n.commits.items = c.count.ensures ∙ ap length c.deref.ensures.value in
-    ap (λ m. record { outcome = Diverged m c.in-Some.why; sphere = sphere_with a.memory n.threads n.commits.items a.last n.request (Replay (book_of n.replay.player n.replay.loads.items)); words = []; devices = d }) len
+    ap (λ m. record { outcome = Diverged m c.in-Some.why; sphere = sphere_with a.memory n.threads n.commits.items a.last n.request (Replay (cursor_of n.replay.player n.replay.loads.items)); words = []; devices = d }) len
     ∙ left a.memory a.threads a.commits.items a.last a.request r.player r.loads.items k v d c.in-Some.why n.replay.player n.replay.loads.items n.threads n.request n.commits.items kept.agrees.done said
     ∙ ap (λ (x : Bool). chunk_moved k x short run d (sphere_with a.memory a.threads a.commits.items a.last a.request (Replay b))) whole
     ∙ ap (λ (x : Part). chunk_moved k (is_piece how) short run d (sphere_with a.memory a.threads a.commits.items a.last a.request (role_in x))) (sym c.in-Replayed.is)

@@ -8,7 +8,7 @@ use Rattle.spec_play.specs.Transfers.{dma_verdict}
 use Rattle.spec_protocol.specs.Commits.{Diverged, Granted, Moved, dma_moved}
 use Rattle.spec_protocol.specs.Spheres.{Replay, Sphere}
 use Rattle.spec_protocol.proofs.Logs.Growing.{pushed_length}
-use Rattle.dl_replay.specs.Replaying.{book_of}
+use Rattle.dl_replay.specs.Replaying.{cursor_of}
 use Rattle.dl_sphere.specs.declared.part.Part.{Part}
 use Rattle.dl_sphere.specs.Inside.{sphere_in, sphere_with}
 use Rattle.dl_sphere.specs.Replayed.{before}
@@ -124,7 +124,7 @@ returns-in-Err-clause-ok c =
     sym (ap (λ (s : Standing). dma_moved d s.sphere) c.self.view_is)
     ∙ ap (λ (y : Part). dma_moved d (sphere_with a.memory a.threads a.commits.items a.last a.request (role_in y))) c.in-Replayed.is
     ∙ ap (λ (x : Moved). Some x) (sym (
-    ap (λ m. record { outcome = Diverged m c.in-Err.why; sphere = sphere_with a.memory a.threads n.commits.items a.last n.request (Replay (book_of n.replay.player n.replay.loads.items)); words = []; devices = d }) len
+    ap (λ m. record { outcome = Diverged m c.in-Err.why; sphere = sphere_with a.memory a.threads n.commits.items a.last n.request (Replay (cursor_of n.replay.player n.replay.loads.items)); words = []; devices = d }) len
     ∙ dma_left a.memory a.threads a.commits.items a.last a.request r.player r.loads.items v d c.in-Err.why n.replay.player n.replay.loads.items a.threads n.request n.commits.items [] kept.agrees.done said))
 
 pub returns-in-Replayed-clause-ok : goal.returns-in-Replayed-clause-ok

@@ -1,7 +1,7 @@
 use Rattle.std.proofs.Common.{◌≡◌, ◌≤◌, ◌<◌, ◌∙◌, length, Some, sym, ap, subst}
 use Rattle.std.specs.Prelude.{slice_get}
 use Rattle.spec_protocol.specs.Spheres.{limit_of}
-use Rattle.dl_replay.specs.Replaying.{book_of}
+use Rattle.dl_replay.specs.Replaying.{cursor_of}
 use Rattle.dl_sphere.specs.declared.part.Part.{Part}
 use Rattle.dl_sphere.specs.Roles.{role_in}
 use Rattle.dl_sphere.specs.Standing.{Standing}
@@ -27,7 +27,7 @@ returns-in-Replayed-clause-least c =
     let few : k < length a.threads = subst (λ (v : Standing). k < length v.sphere.threads) (sym c.self.view_is) c.requires in
     let h = there a.threads k few in
     subst (λ n. 1 ≤ n) (sym (c.limit.ensures a.standard r.loads.items a.threads h.thread c.self.invariant.threads kept.commits h.is))
-    (replay-least a.standard (book_of r.player r.loads.items) k h.thread)
+    (replay-least a.standard (cursor_of r.player r.loads.items) k h.thread)
 
 pub returns-in-Replayed-clause-most : goal.returns-in-Replayed-clause-most
 returns-in-Replayed-clause-most c =
@@ -38,4 +38,4 @@ returns-in-Replayed-clause-most c =
     let few : k < length a.threads = subst (λ (v : Standing). k < length v.sphere.threads) (sym c.self.view_is) c.requires in
     let h = there a.threads k few in
     subst (λ n. n ≤ 4096) (sym (c.limit.ensures a.standard r.loads.items a.threads h.thread c.self.invariant.threads kept.commits h.is))
-    (replay-most a.standard (book_of r.player r.loads.items) k h.thread kept.is_log)
+    (replay-most a.standard (cursor_of r.player r.loads.items) k h.thread kept.is_log)

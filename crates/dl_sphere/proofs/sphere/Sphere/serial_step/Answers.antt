@@ -12,7 +12,7 @@ use Rattle.spec_play.specs.Effects.{Effect, counted, serial_commit}
 use Rattle.spec_play.specs.Progress.{Used}
 use Rattle.spec_play.specs.Verdicts.{Goes, serial_verdict}
 use Rattle.spec_protocol.specs.Spheres.{Replay, Sphere, Role}
-use Rattle.dl_replay.specs.Replaying.{book_of}
+use Rattle.dl_replay.specs.Replaying.{cursor_of}
 use Rattle.dl_sphere.specs.declared.part.Part.{Part}
 use Rattle.dl_sphere.specs.Replayed.{before}
 use Rattle.spec_protocol.specs.Commits.{Diverged, Granted, Moved, serial_moved}
@@ -175,7 +175,7 @@ returns-in-Err-clause-ok c =
     in
     let same : x ≡ t = (let e : Some x ≡ Some t = sym start ∙ there in cc) in
     let len : c.count.result ≡ length n.commits.items = c.count.ensures ∙ ap length c.deref.ensures.value in
-    ap (λ m. record { outcome = Diverged m c.in-Err.why; sphere = sphere_with a.memory n.threads n.commits.items a.last n.request (Replay (book_of n.replay.player n.replay.loads.items)); words = []; devices = d }) len
+    ap (λ m. record { outcome = Diverged m c.in-Err.why; sphere = sphere_with a.memory n.threads n.commits.items a.last n.request (Replay (cursor_of n.replay.player n.replay.loads.items)); words = []; devices = d }) len
     ∙ left a.memory a.threads a.commits.items a.last a.request r.player r.loads.items k v d c.in-Err.why n.replay.player n.replay.loads.items n.threads n.request n.commits.items
     kept.agrees.done (λ i. record (said i) { words = [] })
     ∙ ap (λ (y : Part). serial_moved k moment x d (sphere_with a.memory a.threads a.commits.items a.last a.request (role_in y))) (sym c.in-Replayed.is)

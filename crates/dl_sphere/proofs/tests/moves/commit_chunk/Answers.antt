@@ -9,7 +9,7 @@ use Rattle.spec_engine.specs.Chunks.{Chunk}
 use Rattle.spec_protocol.specs.Commits.{is_piece}
 use Rattle.spec_protocol.specs.Placing.{replays}
 use Rattle.spec_play.specs.Turns.{Now, Turn}
-use Rattle.spec_protocol.specs.Spheres.{Book, Sphere, Role, Plain, Record, Replay, limit_in, limit_of, pieces_of, whole_limit}
+use Rattle.spec_protocol.specs.Spheres.{Cursor, Sphere, Role, Plain, Record, Replay, limit_in, limit_of, pieces_of, whole_limit}
 use Rattle.dl_sphere.specs.Moving.{CanCommit, IsPartIn, IsTurnOf}
 use Rattle.dl_sphere.proofs.tests.moves.commit_chunk.Invariants.{how_of}
 use Rattle.dl_sphere.proofs.tests.moves.commit_chunk.Goals as goal
@@ -30,7 +30,7 @@ within Plain s n t most live = most
 within (Record log) s n t most live = most
 within (Replay b) s n t most live = absurd (true≢false live)
 
-room : (b : Book) (m n : ℕ) → b.now ≡ Turn 0 → n ≡ limit_in (Replay b) 0 0 m → 2 ≤ n → b.total < whole_limit b.log 0 m
+room : (b : Cursor) (m n : ℕ) → b.now ≡ Turn 0 → n ≡ limit_in (Replay b) 0 0 m → 2 ≤ n → b.total < whole_limit b.log 0 m
 room b m n turn is some =
     let l : n ≡ max 1 (whole_limit b.log 0 m - b.total) = is ∙ ap (λ (now : Now). max 1 (whole_limit b.log 0 m - pieces_of now 0 b.total)) turn in
     omega (arith, l, some)
