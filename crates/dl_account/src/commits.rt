@@ -3,7 +3,7 @@ ghost use Rattle.std.specs.Prelude.{◌≡◌, ◌++◌, flat_map, OnOk};
 ghost use Rattle.dl_account.specs.Commits.{commit_lines, load_line, output_line};
 ghost use Rattle.dl_account.specs.Lines.{numbered};
 
-use crate::text::Text;
+use crate::text::{Text, high_digit, low_digit};
 use dl_entry::{Commit, Load, OutOfMemory, Output};
 
 pub(crate) fn put_commits(text: &mut Text, commits: &[Commit]) -> Result<(), OutOfMemory>
@@ -31,12 +31,39 @@ fn put_loads(text: &mut Text, loads: &[Load]) -> Result<(), OutOfMemory>
     ensures { OnOk result (text.new ≡ text.old ++ flat_map load_line loads.now) }
 {
     for load in loads {
-        text.put(b"l")?;
-        text.put_hex_word(load.address)?;
-        text.put_hex_word(load.value)?;
-        text.put(b"\n")?;
+        text.put(&load_line(load))?;
     }
     Ok(())
+}
+
+#[tactic(auto, unfolding(crate::specs::Lines::hex_word))]
+fn load_line(load: &Load) -> [u8; 20]
+    ensures { result ≡ load_line load.now }
+{
+    let [a, b, c, d] = load.address.to_be_bytes();
+    let [e, f, g, h] = load.value.to_be_bytes();
+    [
+        b'l',
+        b' ',
+        high_digit(a),
+        low_digit(a),
+        high_digit(b),
+        low_digit(b),
+        high_digit(c),
+        low_digit(c),
+        high_digit(d),
+        low_digit(d),
+        b' ',
+        high_digit(e),
+        low_digit(e),
+        high_digit(f),
+        low_digit(f),
+        high_digit(g),
+        low_digit(g),
+        high_digit(h),
+        low_digit(h),
+        b'\n',
+    ]
 }
 
 fn put_outputs(text: &mut Text, outputs: &[Output]) -> Result<(), OutOfMemory>

@@ -1,5 +1,5 @@
 //! A text that is being written.
-ghost use Rattle.std.specs.Prelude.{◌≡◌, ◌<◌, [], ◌∷◌, ◌++◌, true, take, decimal, OnOk, OnErr};
+ghost use Rattle.std.specs.Prelude.{◌≡◌, ◌<◌, ◌/◌, ◌%◌, [], ◌∷◌, ◌++◌, true, take, decimal, OnOk, OnErr};
 ghost use Rattle.std.specs.Fmt.{digit_glyph};
 ghost use Rattle.dl_account.specs.Lines.{spaced, hex_byte, hex_bytes, hex_word};
 
@@ -64,7 +64,17 @@ impl Text {
         ensures ok { OnOk result (self.new ≡ self.old ++ spaced (decimal n)) }
         ensures err { OnErr result (self.new ≡ self.old) }
     {
-        self.put_large_number(u128::from(n))
+        let mut field = [0; 21];
+        let mut start = 20;
+        let mut rest = n;
+        while rest >= 10 {
+            field[start] = b'0' + (rest % 10) as u8;
+            start -= 1;
+            rest /= 10;
+        }
+        field[start] = b'0' + rest as u8;
+        field[start - 1] = b' ';
+        self.put(&field[start - 1..])
     }
 
     /// A field that is a number past 64 bits.
@@ -95,7 +105,18 @@ impl Text {
         ensures ok { OnOk result (self.new ≡ self.old ++ spaced (hex_word word)) }
         ensures err { OnErr result (self.new ≡ self.old) }
     {
-        self.put_hex_bytes(&word.to_be_bytes())
+        let [a, b, c, d] = word.to_be_bytes();
+        self.put(&[
+            b' ',
+            high_digit(a),
+            low_digit(a),
+            high_digit(b),
+            low_digit(b),
+            high_digit(c),
+            low_digit(c),
+            high_digit(d),
+            low_digit(d),
+        ])
     }
 
     /// A field that is bytes.
@@ -130,7 +151,7 @@ impl Text {
         ensures ok { OnOk result (self.new ≡ self.old ++ hex_byte byte) }
         ensures err { OnErr result (self.new ≡ self.old) }
     {
-        self.put(&[hex_digit(byte / 16), hex_digit(byte % 16)])
+        self.put(&[high_digit(byte), low_digit(byte)])
     }
 
     // One byte.
@@ -153,6 +174,20 @@ impl Text {
         }
         put
     }
+}
+
+// The first hexadecimal digit of a byte.
+pub(crate) fn high_digit(byte: u8) -> u8
+    ensures { result ≡ digit_glyph true (byte / 16) }
+{
+    hex_digit(byte / 16)
+}
+
+// The second one.
+pub(crate) fn low_digit(byte: u8) -> u8
+    ensures { result ≡ digit_glyph true (byte % 16) }
+{
+    hex_digit(byte % 16)
 }
 
 // The upper-case hexadecimal digit of a number below 16.
