@@ -1,3 +1,4 @@
 mod Examples
 mod Reading
+mod Short
 mod Words

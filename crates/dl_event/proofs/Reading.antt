@@ -1,19 +1,14 @@
 -- What is known of a script once its first lines are read.
-use Rattle.std.proofs.Common.{◌≡◌, ℕ, ◌+◌, ◌^◌, ◌<◌, ◌≤◌, Bool, true, false, cond, List, [], ◌∷◌, ◌++◌, length, take, get_or, map, Option, Some, None, Ok, Err, refl, sym, ap, ap₂, ◌∙◌, inl, inr, arith, suc, zero, below_more, eqb, Bor}
-use Rattle.std.specs.List.{position_from, range_with_len, slice_get, slice_split}
-use Rattle.std.specs.Option.{option_map}
-use Rattle.std.specs.Fn.{CalledAt}
-use Rattle.std.specs.Iterator.{Yields}
-use Rattle.std.specs.Slice.Iter.{split_steps, split_rest, split_done, split_callee}
-use Rattle.std.specs.declared.slice.Split.{Split}
-use denote.Param.Members.{Mut}
+use Rattle.std.proofs.Common.{◌≡◌, ℕ, ◌+◌, ◌^◌, ◌<◌, ◌≤◌, Bool, true, false, cond, List, [], ◌∷◌, ◌++◌, length, take, drop, get_or, map, length-drop, length-take, subst, add-one, MatchOption, IfSome, ◌≢◌, Option, Some, None, Ok, Err, refl, sym, ap, ap₂, ◌∙◌, inl, inr, arith, suc, zero, below_more, eqb, Bor}
+use Rattle.std.specs.List.{All, AllWithin, HoldsAt, position_from, range_with_len, slice_get, slice_split}
 use Rattle.std.proofs.Math.Nat.{eq-or-lt_of_le}
 use Rattle.std.proofs.lemmas.Iterator.Adapters.{position_from-zero}
-use Rattle.std.proofs.lemmas.Iterator.Consumers.{YieldsList-turn, YieldsList-end}
-use Rattle.std.proofs.lemmas.Iterator.Splits.{YieldsList-from_slice_split}
-use Rattle.std.proofs.lemmas.List.{length-map, take_more, take_all}
+use Rattle.std.proofs.lemmas.List.{take_more, take_all, take-append-drop, get_or-take}
+use Rattle.std.proofs.lemmas.List.Splits.{slice_split_none, slice_split_at}
+use Rattle.std.proofs.lemmas.Bool.{ne_eqb}
+use Rattle.std.proofs.Math.Seq.{drop-cons}
 use Rattle.std.proofs.lemmas.List.Elements.{filter_map-append}
-use Rattle.std.proofs.lemmas.Option.{slice_get-map, slice_get_read, slice_get_within, get_or_from_slice_get}
+use Rattle.std.proofs.lemmas.Option.{slice_get_read, slice_get_within, get_or_from_slice_get}
 use Rattle.spec_protocol.specs.declared.event.Event.{Event}
 use Rattle.dl_event.specs.declared.line.Line.{Line}
 use Rattle.dl_event.specs.Line.{line_of}
@@ -33,23 +28,76 @@ none-from p a zero miss = refl
 none-from p a (suc n) miss =
     ap (λ b. cond b (Some a) (position_from p (a + 1) (range_with_len (a + 1) n))) (miss a (omega arith)) ∙ none-from p (a + 1) n (λ k l. miss k (omega arith))
 
-line_at : (parts : List (List ℕ)) (i : ℕ) (part : List ℕ) → i < length parts → part ≡ get_or parts i part → slice_get (map line_of parts) i ≡ Some (line_of part)
-line_at parts i part l e = slice_get-map line_of parts i ∙ ap (option_map line_of) (slice_get_read parts (length parts) i part refl l e)
+no_end : (n : ℕ) (text : List ℕ) → n ≤ length text → AllWithin (λ b. b ≢ 10) text 0 n → All (λ b. eqb b 10 ≡ false) (take n text)
+no_end n text within h k d l =
+    let m : k < n = omega (arith, length-take n text) in
+    ap (λ b. eqb b 10) (get_or-take n text k d m) ∙ ne_eqb (get_or text k d) 10 (h k d (omega arith) m)
 
--- the loop over the lines: s is the iterator at its start, and it gave xs
-pub line-turn : {F : Type 0} {g : Mut F (Bor ℕ × Unit {0}) Bool} (s t u : Split ℕ F) (bytes : List ℕ) (f : F) (xs : List (Bor (List ℕ))) (x : Bor (List ℕ)) (r : Option (Bor (List ℕ)))
-    → Yields (split_steps g) s xs t → r ≡ Some x → split_steps g t r u → split_rest s ≡ bytes → split_done s ≡ false → split_callee s ≡ f
-    → ((y : ℕ) (b : Bool) (q : F) → CalledAt g f y b q → (q ≡ f) × (b ≡ eqb y 10)) → slice_get (lines_of bytes) (length xs) ≡ Some (line_of x.now)
-line-turn {g} s t u bytes f xs x r gave is step rest done callee tests =
-    let turn = YieldsList-turn (YieldsList-from_slice_split g (λ b. eqb b 10) bytes rest done callee tests) xs _ gave r _ x is step in
-    line_at (slice_split (λ b. eqb b 10) bytes) (length xs) x.now turn.0 turn.1
+-- a text with no LF is one line
+pub line-alone : (text : List ℕ) → AllWithin (λ b. b ≢ 10) text 0 (length text) → lines_of text ≡ line_of text ∷ []
+line-alone text h =
+    let all = subst (All (λ b. eqb b 10 ≡ false)) (take_all (length text) text (omega arith)) (no_end (length text) text (omega arith) h) in
+    ap (map line_of) (slice_split_none (λ byte. eqb byte 10) text all)
 
-pub line-end : {F : Type 0} {g : Mut F (Bor ℕ × Unit {0}) Bool} (s t u : Split ℕ F) (bytes : List ℕ) (f : F) (xs : List (Bor (List ℕ))) (r : Option (Bor (List ℕ)))
-    → Yields (split_steps g) s xs t → r ≡ None → split_steps g t r u → split_rest s ≡ bytes → split_done s ≡ false → split_callee s ≡ f
-    → ((y : ℕ) (b : Bool) (q : F) → CalledAt g f y b q → (q ≡ f) × (b ≡ eqb y 10)) → length xs ≡ length (lines_of bytes)
-line-end {g} s t u bytes f xs r gave is step rest done callee tests =
-    let end = YieldsList-end (YieldsList-from_slice_split g (λ b. eqb b 10) bytes rest done callee tests) xs _ gave r _ is step in
-    end.1 ∙ sym (length-map (slice_split (λ b. eqb b 10) bytes) line_of)
+-- the first line ends at the first LF
+pub line-first : (text : List ℕ) (end : ℕ) → end < length text → HoldsAt (λ b. b ≡ 10) text end → AllWithin (λ b. b ≢ 10) text 0 end → lines_of text ≡ line_of (take end text) ∷ lines_of (drop (end + 1) text)
+line-first text end within here before =
+    let line = take end text in
+    let rest = drop (suc end) text in
+    let there : drop end text ≡ 10 ∷ rest = drop-cons text end 0 within ∙ ap (λ b. b ∷ rest) (here 0) in
+    rw add-one
+    (ap (map line_of)
+    (ap (slice_split (λ byte. eqb byte 10)) (sym (take-append-drop end text) ∙ ap (λ t. line ++ t) there)
+    ∙ slice_split_at (λ byte. eqb byte 10) line 10 rest (no_end end text (omega arith) before) refl))
+
+-- the line where the rest of some lines begins, and what follows it
+here-and-behind : (lines : List Line) (n : ℕ) (line : Line) (more : List Line) → drop n lines ≡ line ∷ more → (n < length lines) × (slice_get lines n ≡ Some line) × (drop (n + 1) lines ≡ more)
+here-and-behind lines n line more e =
+    let l : n < length lines = omega (arith, length-drop n lines, ap length e) in
+    let both : drop n lines ≡ get_or lines n line ∷ drop (suc n) lines = drop-cons lines n line l in
+    let same : line ≡ get_or lines n line = cc in
+    let behind : drop (suc n) lines ≡ more = cc in
+    (l, slice_get_read lines (length lines) n line refl l same, rw add-one behind)
+
+-- after n lines of a script, this much of it is left: nothing, or the text that has the other lines
+pub record IsLeft (bytes : List ℕ) (n : ℕ) (left : Option (Bor (List ℕ))) : Type 0 where
+  pub lines : MatchOption left (n ≡ length (lines_of bytes)) (λ text. lines_of text.now ≡ drop n (lines_of bytes))
+  pub room : IfSome left (λ text. n + length text.now ≤ length bytes)
+
+abbrev pub bytes_left : Option (Bor (List ℕ)) → ℕ
+bytes_left None = 0
+bytes_left (Some text) = length text.now + 1
+
+pub first_left : (bytes : Bor (List ℕ)) → IsLeft bytes.now 0 (Some bytes)
+first_left bytes = record { lines = refl; room = omega arith }
+
+-- what is known of the text that is left
+pub record IsLeftText (bytes : List ℕ) (n : ℕ) (text : List ℕ) : Type 0 where
+  pub lines : lines_of text ≡ drop n (lines_of bytes)
+  pub room : n + length text ≤ length bytes
+
+pub left_text : (bytes : List ℕ) (n : ℕ) (left : Option (Bor (List ℕ))) (text : Bor (List ℕ)) → IsLeft bytes n left → left ≡ Some text → IsLeftText bytes n text.now
+left_text bytes n None text left is = absurd cc
+left_text bytes n (Some t) text left is =
+    let same : t ≡ text = cc in
+    rw (← same) (record { lines = left.lines; room = left.room })
+
+pub left_none : (bytes : List ℕ) (n : ℕ) (left : Option (Bor (List ℕ))) → IsLeft bytes n left → left ≡ None → n ≡ length (lines_of bytes)
+left_none bytes n None left is = left.lines
+left_none bytes n (Some t) left is = absurd cc
+
+pub fewer : (left : Option (Bor (List ℕ))) (text : Bor (List ℕ)) (rest : Option (Bor (List ℕ))) → left ≡ Some text → IfSome rest (λ r. length r.now < length text.now) → bytes_left rest < bytes_left left
+fewer left text None is shorter = rw is (omega arith)
+fewer left text (Some r) is shorter = rw is (omega (arith, shorter))
+
+-- one line more
+pub one_line : (bytes : List ℕ) (n : ℕ) (text : List ℕ) (line : Line) (rest : Option (Bor (List ℕ))) → lines_of text ≡ drop n (lines_of bytes) → n + length text ≤ length bytes → MatchOption rest (lines_of text ≡ line ∷ []) (λ r. lines_of text ≡ line ∷ lines_of r.now) → IfSome rest (λ r. length r.now < length text) → (slice_get (lines_of bytes) n ≡ Some line) × IsLeft bytes (n + 1) rest
+one_line bytes n text line None left room is shorter =
+    let at = here-and-behind (lines_of bytes) n line [] (sym left ∙ is) in
+    (at.1, record { lines = omega (arith, at.0, length-drop (n + 1) (lines_of bytes), ap length at.2); room = tt })
+one_line bytes n text line (Some r) left room is shorter =
+    let at = here-and-behind (lines_of bytes) n line (lines_of r.now) (sym left ∙ is) in
+    (at.1, record { lines = sym at.2; room = omega (arith, shorter) })
 
 -- the first i lines are read, and hold these events
 pub record IsRead (lines : List Line) (i : ℕ) (events : List Event) : Type 0 where

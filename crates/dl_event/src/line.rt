@@ -59,42 +59,33 @@ fn read_longer(word: &[u8], first: &[u8], second: &[u8], rest: &[u8]) -> Option<
 fn event_of_one(word: &[u8], number: u8) -> Option<Event>
     ensures { result ≡ event_of_one word.now number }
 {
-    if word == b"step".as_slice() {
-        Some(Event::Step(number))
-    } else if word == b"cut".as_slice() {
-        Some(Event::Cut(number))
-    } else if word == b"ask".as_slice() {
-        Some(Event::Ask(number))
-    } else if word == b"drain".as_slice() {
-        Some(Event::Drain(number))
-    } else if word == b"retire".as_slice() {
-        Some(Event::Retire(number))
-    } else if word == b"dma".as_slice() {
-        Some(Event::Dma(number))
-    } else {
-        None
+    match word {
+        b"step" => Some(Event::Step(number)),
+        b"cut" => Some(Event::Cut(number)),
+        b"ask" => Some(Event::Ask(number)),
+        b"drain" => Some(Event::Drain(number)),
+        b"retire" => Some(Event::Retire(number)),
+        b"dma" => Some(Event::Dma(number)),
+        _ => None,
     }
 }
 
 fn event_of_two(word: &[u8], core: u8, slot: u8) -> Option<Event>
     ensures { result ≡ event_of_two word.now core slot }
 {
-    if word == b"deliver".as_slice() {
-        Some(Event::Deliver(core, slot))
-    } else {
-        None
+    match word {
+        b"deliver" => Some(Event::Deliver(core, slot)),
+        _ => None,
     }
 }
 
 fn event_of_three(word: &[u8], first: u8, second: u8, third: &[u8]) -> Option<Event>
     ensures { result ≡ event_of_three word.now first second third.now }
 {
-    if word == b"place".as_slice() {
-        Some(Event::Place(first, second, read_byte(third)?))
-    } else if word == b"raise".as_slice() {
-        Some(Event::Raise(first, second, read_value(third)?))
-    } else {
-        None
+    match word {
+        b"place" => Some(Event::Place(first, second, read_byte(third)?)),
+        b"raise" => Some(Event::Raise(first, second, read_value(third)?)),
+        _ => None,
     }
 }
 

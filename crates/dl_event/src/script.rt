@@ -1,6 +1,7 @@
 //! Whole scripts.
-ghost use Rattle.std.specs.Prelude.{◌≡◌, ◌≤◌, ◌^◌, length, Ok, IfOk, IfErr};
-ghost use Rattle.dl_event.specs.Script.{script_of, Refuses};
+ghost use Rattle.std.specs.Prelude.{◌≡◌, ◌≤◌, ◌<◌, ◌^◌, ◌∷◌, [], length, Ok, IfOk, IfErr, IfSome, MatchOption};
+ghost use Rattle.dl_event.specs.declared.line.Line.TheVariants.{Holds};
+ghost use Rattle.dl_event.specs.Script.{lines_of, script_of, Refuses};
 
 use crate::error::ScriptError;
 use crate::line::{Line, read_line};
@@ -20,15 +21,71 @@ pub fn parse_script(alloc: Global, bytes: &[u8]) -> Result<Vec<Event>, ScriptErr
 {
     let mut events = Vec::new(alloc);
     let mut number = 0u64;
-    for line in bytes.split(|byte| *byte == b'\n') {
+    let mut left = Some(bytes);
+    while let Some(text) = left {
+        let (line, rest) = next_line(text);
         number += 1;
-        match read_line(line) {
+        match line {
             Line::Empty => {}
             Line::Holds(event) if events.len() < MOST_EVENTS => events.push(event)?,
             _ => return Err(ScriptError::Refused(number)),
         }
+        left = rest;
     }
     Ok(events)
+}
+
+// What the first line of a text says, and the text behind its LF.
+fn next_line(text: &[u8]) -> (Line, Option<&[u8]>)
+    ensures lines { MatchOption result.1 (lines_of text.now ≡ result.0 ∷ [])
+        (λ rest. lines_of text.now ≡ result.0 ∷ lines_of rest.now) }
+    ensures shorter { IfSome result.1 (λ rest. length rest.now < length text.now) }
+{
+    if let Some((event, rest)) = short_line(text) {
+        return (Line::Holds(event), Some(rest));
+    }
+    match text.iter().position(|byte| *byte == b'\n') {
+        None => (read_line(text), None),
+        Some(end) => (read_line(&text[..end]), Some(&text[end + 1..])),
+    }
+}
+
+// The event of a line in its shortest form, with one digit: nearly all lines of a script that is written by a program.
+fn short_line(text: &[u8]) -> Option<(Event, &[u8])>
+    ensures lines { IfSome result (λ found. lines_of text.now ≡ Holds found.0 ∷ lines_of found.1.now) }
+    ensures shorter { IfSome result (λ found. length found.1.now < length text.now) }
+{
+    if let [
+        b's',
+        b't',
+        b'e',
+        b'p',
+        b' ',
+        n @ b'0'..=b'9',
+        b'\n',
+        rest @ ..,
+    ] = text
+    {
+        return Some((Event::Step(*n - b'0'), rest));
+    }
+    if let [
+        b'd',
+        b'r',
+        b'a',
+        b'i',
+        b'n',
+        b' ',
+        n @ b'0'..=b'9',
+        b'\n',
+        rest @ ..,
+    ] = text
+    {
+        return Some((Event::Drain(*n - b'0'), rest));
+    }
+    if let [b'a', b's', b'k', b' ', n @ b'0'..=b'9', b'\n', rest @ ..] = text {
+        return Some((Event::Ask(*n - b'0'), rest));
+    }
+    None
 }
 
 #[cfg(test)]

@@ -1,37 +1,54 @@
-use Rattle.std.proofs.Common.{◌≡◌, ◌+◌, true, length, Err, Some, sym, ap, ◌∙◌, rules, tests, arith, refl, append-nil}
+use Rattle.std.proofs.Common.{◌≡◌, true, length, Some, sym, ap, ◌∙◌, arith, refl, append-nil}
 use Rattle.std.proofs.lemmas.List.{length_push}
 use Rattle.std.proofs.lemmas.Bool.Decides.{nat_tests}
 use Rattle.dl_event.specs.declared.line.Line.TheVariants.{Empty, Holds, Wrong}
 use Rattle.dl_event.specs.declared.line.Line.{Line}
-use Rattle.dl_event.specs.Line.{line_of}
 use Rattle.dl_event.specs.Script.{lines_of, is_refused_after}
-use Rattle.dl_event.proofs.Reading.{line-turn, line-end, one_read, one_refused, all_read}
-use Rattle.dl_event.proofs.script.parse_script.Goals.{in_default-via-in-Holds+else-len-lt-MOST_EVENTS, in_default-via-in_default}
+use Rattle.dl_event.proofs.Reading.{first_left, left_text, left_none, one_line, nothing_read, one_read, one_refused, all_read, fewer}
+use Rattle.dl_event.proofs.script.parse_script.Goals.{in_default-line-via-in-Holds+else-len-lt-MOST_EVENTS, in_default-line-via-in_default-line}
 use Rattle.dl_event.proofs.script.parse_script.Goals as goal
 
-pub loop-line-preserved-in-Empty-1 : goal.loop-line-preserved-in-Empty-1
-loop-line-preserved-in-Empty-1 c =
-    let at = line-turn _ _ _ c.args.bytes.now _ c.loop-line.yielded c.in-Some.line _ c.loop-line.yielded_by c.in-Some.is c.next.ensures.steps (cc) (cc) (cc) (λ x b q k. search (rules, tests)) in
-    let read = c.loop-line.invariant.0 in
-    rw length_push (one_read _ _ _ _ Empty read (at ∙ ap Some (sym c.in-Empty.ensures)) refl (sym (append-nil c.loop-line.events.items)) read.few, omega arith)
+pub loop-left-init : goal.loop-left-init
+loop-left-init c = rw c.new-events.ensures.items (nothing_read (lines_of c.args.bytes.now), first_left c.args.bytes)
 
-pub loop-line-preserved : goal.loop-line-preserved
-loop-line-preserved c =
-    let at = line-turn _ _ _ c.args.bytes.now _ c.loop-line.yielded c.in-Some.line _ c.loop-line.yielded_by c.in-Some.is c.next.ensures.steps (cc) (cc) (cc) (λ x b q k. search (rules, tests)) in
-    let read = c.loop-line.invariant.0 in
-    rw length_push (one_read _ _ _ _ (Holds c.in-Holds.event) read (at ∙ ap Some (sym c.in-Holds.ensures)) (grind (arith, nat_tests)) c.in_ok-push-in-Holds.ensures.items (omega (arith, ap length c.in_ok-push-in-Holds.ensures.items, length_push c.loop-line.events.items c.in-Holds.event)), omega arith)
+pub overflow_add-number : goal.overflow_add-number
+overflow_add-number c =
+    let at = left_text _ _ _ _ c.loop-left.invariant.1 c.in-Some.is in
+    omega (arith, at.room)
 
-pub returns-in_default-clause-refused : goal.returns-in_default-clause-refused
-returns-in_default-clause-refused c =
-    let at = line-turn _ _ _ c.args.bytes.now _ c.loop-line.yielded c.in-Some.line _ c.loop-line.yielded_by c.in-Some.is c.next.ensures.steps (cc) (cc) (cc) (λ x b q k. search (rules, tests)) in
-    let number = c.loop-line.invariant.1 in
-    let refused = λ (line : Line) (is : line_of c.in-Some.line.now ≡ line) (wrong : is_refused_after c.loop-line.events.items (Some line) ≡ true). one_refused (lines_of c.args.bytes.now) _ _ line c.loop-line.invariant.0 (at ∙ ap Some is) wrong ∙ ap (λ n. Err (n + 1)) (sym number) in
-    elim c.in_default.branch [
-      | in_default-via-in-Holds+else-len-lt-MOST_EVENTS w ↦ refused (Holds w.in-Holds.event) (sym w.in-Holds.ensures) (grind (arith, nat_tests))
-      | in_default-via-in_default w ↦ refused Wrong (sym w.in_default.ensures) refl
+pub returns-in_default-line-clause-refused : goal.returns-in_default-line-clause-refused
+returns-in_default-line-clause-refused c =
+    let at = left_text _ _ _ _ c.loop-left.invariant.1 c.in-Some.is in
+    let next = one_line c.args.bytes.now _ _ _ _ at.lines at.room c.next_line-line.ensures.lines c.next_line-line.ensures.shorter in
+    let refused = λ (line : Line) (is : c.next_line-line.result.0 ≡ line) (wrong : is_refused_after c.loop-left.events.items (Some line) ≡ true). one_refused (lines_of c.args.bytes.now) _ _ line c.loop-left.invariant.0 (next.0 ∙ ap Some is) wrong in
+    elim c.in_default-line.branch [
+      | in_default-line-via-in-Holds+else-len-lt-MOST_EVENTS w ↦ refused (Holds w.in-Holds.event) w.in-Holds.is (grind (arith, nat_tests))
+      | in_default-line-via-in_default-line w ↦ refused Wrong w.in_default-line.is refl
     ]
+
+pub loop-left-smaller-in-Empty : goal.loop-left-smaller-in-Empty
+loop-left-smaller-in-Empty c = fewer _ _ _ c.in-Some.is c.next_line-line.ensures.shorter
+
+pub loop-left-preserved-in-Empty : goal.loop-left-preserved-in-Empty
+loop-left-preserved-in-Empty c =
+    let at = left_text _ _ _ _ c.loop-left.invariant.1 c.in-Some.is in
+    let next = one_line c.args.bytes.now _ _ _ _ at.lines at.room c.next_line-line.ensures.lines c.next_line-line.ensures.shorter in
+    let read = c.loop-left.invariant.0 in
+    (one_read _ _ _ _ Empty read (next.0 ∙ ap Some c.in-Empty.is) refl (sym (append-nil c.loop-left.events.items)) read.few, next.1)
+
+pub loop-left-smaller : goal.loop-left-smaller
+loop-left-smaller c = fewer _ _ _ c.in-Some.is c.next_line-line.ensures.shorter
+
+pub loop-left-preserved : goal.loop-left-preserved
+loop-left-preserved c =
+    let at = left_text _ _ _ _ c.loop-left.invariant.1 c.in-Some.is in
+    let next = one_line c.args.bytes.now _ _ _ _ at.lines at.room c.next_line-line.ensures.lines c.next_line-line.ensures.shorter in
+    let read = c.loop-left.invariant.0 in
+    (one_read _ _ _ _ (Holds c.in-Holds.event) read (next.0 ∙ ap Some c.in-Holds.is) (grind (arith, nat_tests)) c.in_ok-push-in-Holds.ensures.items (omega (arith, ap length c.in_ok-push-in-Holds.ensures.items, length_push c.loop-left.events.items c.in-Holds.event)), next.1)
 
 pub returns-clause-read : goal.returns-clause-read
 returns-clause-read c =
-    let end = line-end _ _ _ c.args.bytes.now _ c.loop-line.yielded _ c.loop-line.yielded_by c.in-None.is c.next.ensures.steps (cc) (cc) (cc) (λ x b q k. search (rules, tests)) in
-    all_read (lines_of c.args.bytes.now) _ _ c.loop-line.invariant.0 end
+    all_read (lines_of c.args.bytes.now) _ _ c.loop-left.invariant.0 (left_none _ _ _ c.loop-left.invariant.1 c.in_default.is)
+
+pub returns-clause-few : goal.returns-clause-few
+returns-clause-few c = c.loop-left.invariant.0.few
