@@ -39,6 +39,7 @@ progress_of cs last q = record { commits = cs; last = last; request = q }
 
 -- ---- commits of threads
 
+-- a judged commit that goes on moves the sphere as its verdict says
 pub granted : (m : List ℕ) (ts : List Parts) (cs : List Commit) (last : Option ℕ) (rq : Option Request) (r : Replaying) (loads : List Load) (k : ℕ) (v : Verdict) (d : Devices)
     (new : Replaying) (ls : List Load) (us : List Parts) (q : Option Request) (ds : List Commit) (ws : List Stored)
     → ((e : Effect) (u : Used) → v ≡ Goes e u → e.words ≡ ws)
@@ -56,6 +57,7 @@ granted m ts cs last rq r loads k (Goes e u) d new ls us q ds ws words is =
       devices = d;
     }
 
+-- a judged commit that diverges moves the sphere as its verdict says
 pub left : (m : List ℕ) (ts : List Parts) (cs : List Commit) (last : Option ℕ) (rq : Option Request) (r : Replaying) (loads : List Load) (k : ℕ) (v : Verdict) (d : Devices)
     (why : Why) (new : Replaying) (ls : List Load) (us : List Parts) (q : Option Request) (ds : List Commit)
     → length cs ≡ r.done
@@ -92,6 +94,7 @@ unfolding went
 left_commits p k b (Goes e u) why new ls us q ds is = absurd (true≢false (sym (ap (λ (j : Judged). went j.why) is)))
 left_commits p k b (Fails because) why new ls us q ds is = ap (λ (j : Judged). length j.commits) is
 
+-- a DMA that diverges leaves the commits as they were
 pub dma_left_commits : (p : Progress) (b : Before) (v : DmaVerdict) (why : Why) (new : Replaying) (ls : List Load) (us : List Parts) (q : Option Request) (ds : List Commit)
     → record { why = Some why; replay = new; loads = ls; threads = us; request = q; commits = ds; words = [] } ≡ dma_judged_by p b v
     → length ds ≡ length b.commits
@@ -123,6 +126,7 @@ stands_granted s m ts cs last rq role to r loads k (Goes e u) new ls us q ds few
       };
     }
 
+-- the sphere stands after a commit that diverges
 pub stands_left : (s : ℕ) (m : List ℕ) (ts : List Parts) (cs : List Commit) (last : Option ℕ) (rq : Option Request) (role to : Role) (r : Replaying) (loads : List Load) (k : ℕ) (v : Verdict)
     (why : Why) (new : Replaying) (ls : List Load) (us : List Parts) (q : Option Request) (ds : List Commit)
     → record { why = Some why; replay = new; loads = ls; threads = us; request = q; commits = ds; words = [] }
@@ -147,6 +151,7 @@ stands_left s m ts cs last rq role to r loads k (Fails because) why new ls us q 
 
 -- ---- DMAs
 
+-- a judged DMA that goes on moves the sphere as its verdict says
 pub dma_granted : (m : List ℕ) (ts : List Parts) (cs : List Commit) (last : Option ℕ) (rq : Option Request) (r : Replaying) (loads : List Load) (v : DmaVerdict) (d : Devices)
     (new : Replaying) (ls : List Load) (us : List Parts) (q : Option Request) (ds : List Commit) (ws : List Stored)
     → record { why = None; replay = new; loads = ls; threads = us; request = q; commits = ds; words = ws }
@@ -163,6 +168,7 @@ dma_granted m ts cs last rq r loads (DmaGoes words) d new ls us q ds ws is =
       devices = d;
     }
 
+-- a judged DMA that diverges moves the sphere as its verdict says
 pub dma_left : (m : List ℕ) (ts : List Parts) (cs : List Commit) (last : Option ℕ) (rq : Option Request) (r : Replaying) (loads : List Load) (v : DmaVerdict) (d : Devices)
     (why : Why) (new : Replaying) (ls : List Load) (us : List Parts) (q : Option Request) (ds : List Commit) (ws : List Stored)
     → length cs ≡ r.done
@@ -187,6 +193,7 @@ dma_left m ts cs last rq r loads (DmaFails because) d why new ls us q ds ws done
       devices = d;
     }) (sym done)
 
+-- the sphere stands after a DMA that goes on
 pub dma_stands_granted : (s : ℕ) (m : List ℕ) (ts : List Parts) (cs : List Commit) (last : Option ℕ) (rq : Option Request) (role to : Role) (r : Replaying) (loads : List Load) (v : DmaVerdict)
     (new : Replaying) (ls : List Load) (us : List Parts) (q : Option Request) (ds : List Commit) (ws : List Stored)
     → record { why = None; replay = new; loads = ls; threads = us; request = q; commits = ds; words = ws }
@@ -209,6 +216,7 @@ dma_stands_granted s m ts cs last rq role to r loads (DmaGoes words) new ls us q
       };
     }
 
+-- the sphere stands after a DMA that diverges
 pub dma_stands_left : (s : ℕ) (m : List ℕ) (ts : List Parts) (cs : List Commit) (last : Option ℕ) (rq : Option Request) (role to : Role) (r : Replaying) (loads : List Load) (v : DmaVerdict)
     (why : Why) (new : Replaying) (ls : List Load) (us : List Parts) (q : Option Request) (ds : List Commit) (ws : List Stored)
     → record { why = Some why; replay = new; loads = ls; threads = us; request = q; commits = ds; words = ws }

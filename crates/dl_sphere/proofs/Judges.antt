@@ -62,12 +62,14 @@ unfolding goes
 unless-keeps None v f w is = is
 unless-keeps (Some why) v f w is = absurd (true≢false (sym (ap goes is)))
 
+-- a chunk that goes on commits its run
 pub chunk_commits : (log : LogParts) (p : Progress) (u : Used) (k : ℕ) (r : Run) (f : Effect) (w : Used) → chunk_verdict log p u k r ≡ Goes f w → f.commit ≡ chunk_commit k r
 unfolding chunk_verdict
 chunk_commits log p u k r f w is =
     let e : Effect = chunk_effect k p.request r in
     interrupted-keeps (interrupt_at log.interrupts k e.thread.commits) e u f w (unless-keeps _ _ f w is)
 
+-- a chunk that goes on stores the words of its run
 pub chunk_words : (log : LogParts) (p : Progress) (u : Used) (k : ℕ) (r : Run) (f : Effect) (w : Used) → chunk_verdict log p u k r ≡ Goes f w → f.words ≡ r.words
 unfolding chunk_verdict
 chunk_words log p u k r f w is =
@@ -83,6 +85,7 @@ served-commits log p k ts t m (Some g) f w is =
     let same : f.commit ≡ e.commit = interrupted-keeps (interrupt_at log.interrupts k e.thread.commits) e g.used f w is in
     same ∙ ap (λ (c : Commit). serial_commit k c.loads c.outputs) (sym same)
 
+-- a serial step that goes on commits what it loaded and put out
 pub serial_commits : (log : LogParts) (p : Progress) (u : Used) (k : ℕ) (ts : List Parts) (t : Parts) (m : List ℕ) (f : Effect) (w : Used) → serial_verdict log p u k ts t m ≡ Goes f w
     → f.commit ≡ serial_commit k f.commit.loads f.commit.outputs
 unfolding serial_verdict
@@ -119,6 +122,7 @@ chunk_went r p k before mid request served (Goes e u) cs loads c new ts q s comm
       words = [];
     }
 
+-- a chunk of which the replayer answers that it diverges is judged so
 pub chunk_left : (r : Replaying) (p : Progress) (k : ℕ) (before mid : List Parts) (request : Option Request) (served : Served) (v : Verdict) (cs : List Commit) (loads : List Load) (why : Why)
     (new : Replaying) (ts : List Parts) (q : Option Request) (s : Served)
     → record { verdict = Answer.Diverged why; replay = new; threads = ts; request = q; served = s } ≡ chunk_judged r p k before mid request served v

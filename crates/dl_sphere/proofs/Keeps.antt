@@ -37,6 +37,7 @@ pub record Commits (p q : Sphere) (k : ℕ) (t u : Parts) (made : List Parts) (c
   pub position_ : position q.progress ≡ suc (position p.progress)
   pub actor : c.actor ≡ Actor.Thread k
 
+-- what a recorder keeps with one commit more is the log with the commit and its input noted
 pub log_with : (r : Recorded) (c : Commit) (early : Bool) (o : Option Input) → as_log (with_commit c early o None r) ≡ input_noted o (noted c (index_of r.kept.done c.actor) early (as_log r))
 log_with r c early None = refl
 log_with r c early (Some i) = refl
@@ -105,6 +106,7 @@ kept-after p q k t u made c s early o (Recording r) live d h =
       stands = has_committed-stands k early p q (as_log r) (as_log (with_commit c early o None r)) t u made c o has h.stands;
     }
 
+-- what a sphere keeps stands by it after a commit of a thread
 pub commits_stand : (p q : Sphere) (k : ℕ) (t u : Parts) (made : List Parts) (c : Commit) (s : ℕ) (early : Bool) (o : Option Input) (x : Keeping) → IsLive x → Commits p q k t u made c → IsStanding s p x
     → IsStanding s q (with_noted c early o None x)
 commits_stand p q k t u made c s early o x live d h =
@@ -146,6 +148,7 @@ same-raised ts k j value t start =
       | inr ne ↦ sym (ap (λ xs. commits_in xs j) none) ∙ commits-other ts [] k j (interrupted value t) tt ne
     ]
 
+-- what a sphere keeps stands by it after an interrupt
 pub raised_stand : (p q : Sphere) (k value : ℕ) (t : Parts) (s : ℕ) (x : Keeping) → slice_get p.threads k ≡ Some t → takes_interrupt t ≡ true → q.threads ≡ set p.threads k (interrupted value t) → q.progress ≡ p.progress
     → IsLive x → IsStanding s p x → IsStanding s q (with_raised k t.commits value x)
 raised_stand p q k value t s x start takes threads progress live h =
@@ -170,6 +173,7 @@ can_raise p k t s (Replaying r loads) start takes h = tt
 can_raise p k t s (Recording r) start takes h =
     none-there r.interrupts k t.commits (h.kept.stands.unmasked k t start (unmasked t takes))
 
+-- an interrupt leaves the role that the definitions give the sphere
 pub raised_role : (k i value : ℕ) (x : Keeping) → role_of (with_raised k i value x) ≡ role_raised k i value (role_of x)
 raised_role k i value Plain = refl
 raised_role k i value (Recording r) = refl
@@ -211,6 +215,7 @@ kept-transferred p q s bytes (Recording r) live threads more h =
       stands = transferred-stands p q (as_log r) (as_log (with_commit dma_commit false None (Some bytes) r)) bytes was h.stands;
     }
 
+-- what a sphere keeps stands by it after a DMA
 pub transferred_stand : (p q : Sphere) (s : ℕ) (bytes : List ℕ) (x : Keeping) → IsLive x → q.threads ≡ p.threads → position q.progress ≡ suc (position p.progress) → IsStanding s p x → IsStanding s q (with_noted dma_commit false None (Some bytes) x)
 transferred_stand p q s bytes x live threads more h =
     record {
@@ -219,5 +224,6 @@ transferred_stand p q s bytes x live threads more h =
       kept = kept-transferred p q s bytes x live threads more h.kept;
     }
 
+-- a DMA of a recorded sphere leaves its log with the commit and the bytes noted
 pub transferred_role : (p : Sphere) (s : ℕ) (bytes : List ℕ) (r : Recorded) → IsKept s p r → role_of (with_noted dma_commit false None (Some bytes) (Recording r)) ≡ Record (dma_noted (position p.progress) bytes (noted dma_commit (position p.progress) false (as_log r)))
 transferred_role p s bytes r h = ap Record (dma_log_at r bytes (position p.progress) h.stands.count)

@@ -15,18 +15,22 @@ use Rattle.dl_sphere.specs.declared.part.Part.{Part}
 use Rattle.dl_sphere.specs.declared.part.Replay.{Replay as Replaying}
 use Rattle.dl_sphere.specs.declared.sphere.Sphere.TheInside.{Inside}
 
+-- a replayed sphere that stands is as far in its log as its player
 pub replayed : (a : Inside) (r : Replaying) → a.part ≡ Part.Replayed r → IsStanding a.standard (sphere_in a) (keeping_of a.part) → IsReplayed (sphere_in a) r.player
 replayed a r is h = subst (λ (part : Part). AreKept a.standard (sphere_in a) (keeping_of part)) is h.kept
 
+-- a replayed sphere stands with its player and its loads
 pub stands_replayed : (a : Inside) (r : Replaying) → a.part ≡ Part.Replayed r → IsStanding a.standard (sphere_in a) (keeping_of a.part)
     → IsStanding a.standard (sphere_in a) (Replays r.player r.loads.items)
 stands_replayed a r is h = subst (λ (part : Part). IsStanding a.standard (sphere_in a) (keeping_of part)) is h
 
+-- a part that isn't a replayed one is live
 pub live_part : (part : Part) → ((r : Replaying) → part ≡ Part.Replayed r → ⊥) → IsLive (keeping_of part)
 live_part Part.Plain other = tt
 live_part (Part.Recorded r) other = tt
 live_part (Part.Replayed r) other = other r refl
 
+-- a role that isn't replayed is kept by a live part
 pub live_role : (x : Keeping) → replays (role_of x) ≡ false → IsLive x
 live_role Plain other = tt
 live_role (Recording r) other = tt
@@ -47,15 +51,18 @@ pub record There (ts : List Parts) (k : ℕ) : Type 0 where
   pub thread : Parts
   pub is : slice_get ts k ≡ Some thread
 
+-- a thread of a number below their count is there
 pub there : (ts : List Parts) (k : ℕ) → k < length ts → There ts k
 there [] k l = absurd (omega arith)
 there (t ∷ ts) zero l = record { thread = t; is = refl }
 there (t ∷ ts) (suc k) l = let h = there ts k (omega arith) in record { thread = h.thread; is = h.is }
 
+-- the limit of a replay's chunk is at least 1
 pub replay-least : (s : ℕ) (b : Cursor) (k : ℕ) (t : Parts) → 1 ≤ limit_of s (Replay b) k t
 unfolding limit_of
 replay-least s b k t = omega arith
 
+-- the limit of a replay's chunk is at most 4,096
 pub replay-most : (s : ℕ) (b : Cursor) (k : ℕ) (t : Parts) → IsLog b.log → limit_of s (Replay b) k t ≤ 4096
 unfolding limit_of
 replay-most s b k t is = let a = whole-most b.log k t.commits is in let c = is.s.1 in omega (arith, a, c)

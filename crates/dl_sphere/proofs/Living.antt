@@ -13,6 +13,7 @@ map-next (t ∷ ts) (suc i) h =
     let e : suc i + 1 ≡ suc (i + 1) = omega arith in
     rw e (ap (λ (xs : List Bool). is_live t ∷ xs) (map-next ts i (omega arith)))
 
+-- flags that say of the first i threads whether they live say it of one more
 pub lives-next : (live : List Bool) (ts : List Parts) (i : ℕ) (b : Bool) → i < length live → i < length ts → take i live ≡ map is_live (take i ts)
     → b ≡ lives (slice_get ts i) → take (i + 1) (set live i b) ≡ map is_live (take (i + 1) ts)
 lives-next live ts i b h l e is =

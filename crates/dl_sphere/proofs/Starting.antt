@@ -55,12 +55,14 @@ pub record Starts (s : ℕ) (setup : SphereSetup) (m : List ℕ) (ts : List Part
   pub commits : cs ≡ []
   pub kept : x ≡ keeping_at setup.entry s setup.role
 
+-- a sphere that has just been set up stands
 pub start_standing : (s : ℕ) (setup : SphereSetup) (m : List ℕ) (ts : List Parts) (cs : List Commit) (x : Keeping) → IsChunkSize s → IsRole setup.role → Starts s setup m ts cs x
     → IsStanding s (sphere_with m ts cs None None (role_of x)) x
 start_standing s setup m ts cs x size is h =
     rw (h.threads, h.commits, h.kept)
     (record { size = size; threads = omega arith; kept = start_kept s setup.entry m setup.role is })
 
+-- a sphere that has just been set up is seen as its setup starts it
 pub start_seen : (s : ℕ) (setup : SphereSetup) (m : List ℕ) (ts : List Parts) (cs : List Commit) (x : Keeping) → Starts s setup m ts cs x
     → let v : Standing = record { standard = s; sphere = sphere_with m ts cs None None (role_of x) } in v ≡ record { standard = s; sphere = sphere_of s setup }
 start_seen s setup m ts cs x h =

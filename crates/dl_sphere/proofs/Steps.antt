@@ -29,6 +29,7 @@ moved_by m ts cs k t g v role =
       devices = console_told t m v.outputs g.devices;
     }
 
+-- a serial step of a plain or recorded sphere moves it as the definitions do
 pub step_is_moved : (s : ℕ) (x : Keeping) (m : List ℕ) (ts : List Parts) (cs : List Commit) (last : Option ℕ) (q : Option Request) (k moment : ℕ) (t : Parts) (d : Devices)
     → IsLive x → slice_get ts k ≡ Some t → AreKept s (sphere_with m ts cs last q (role_of x)) x →
     let g = taken (need t m) d moment in
@@ -45,12 +46,14 @@ step_is_moved s (Recording r) m ts cs last q k moment t d live start h =
 
 -- ---- a DMA
 
+-- a plain or recorded sphere without a request has no DMA
 pub none_moved : (x : Keeping) (m : List ℕ) (ts : List Parts) (cs : List Commit) (last : Option ℕ) (d : Devices) → IsLive x → dma_moved d (sphere_with m ts cs last None (role_of x)) ≡ None
 unfolding dma_moved
 none_moved Plain m ts cs last d live = refl
 none_moved (Recording r) m ts cs last d live = refl
 none_moved (Replaying r loads) m ts cs last d live = absurd live
 
+-- a DMA of a plain or recorded sphere moves it as the definitions do
 pub dma_is_moved : (s : ℕ) (x : Keeping) (m : List ℕ) (ts : List Parts) (cs : List Commit) (last : Option ℕ) (request : Request) (d : Devices)
     → IsLive x → AreKept s (sphere_with m ts cs last (Some request) (role_of x)) x
     → dma_moved d (sphere_with m ts cs last (Some request) (role_of x))

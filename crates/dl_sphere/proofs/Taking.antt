@@ -14,10 +14,12 @@ use Rattle.spec_protocol.specs.Notable.{IsInputIf}
 use Rattle.spec_protocol.proofs.Sound.Devices.{taken-sound}
 use Rattle.dl_kernel.specs.Outside.{record_left, devices_left}
 
+-- the input that is left for the log is the one that was taken
 pub record_taken : (moment : ℕ) (d : Devices) (n : Option Need) → record_left moment d n ≡ (taken n d moment).input
 record_taken moment d None = refl
 record_taken moment d (Some n) = refl
 
+-- the devices that are left are those that the taking leaves
 pub devices_taken : (moment : ℕ) (d : Devices) (n : Option Need) → devices_left moment d n ≡ (taken n d moment).devices
 devices_taken moment d None = refl
 devices_taken moment d (Some n) = refl
@@ -35,6 +37,7 @@ pub if_copied : (P : Input → Type 0) (o : Option (Bor Input)) → IfSome (opti
 if_copied P None h = tt
 if_copied P (Some r) h = h
 
+-- an input of a log has at most 4,096 bytes
 pub few_bytes : (o : Option Input) → IfSome o IsInput → IfSome o (λ r. length r.bytes ≤ 4096)
 few_bytes None h = tt
 few_bytes (Some r) h = h.2.0
