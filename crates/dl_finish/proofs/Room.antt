@@ -12,7 +12,7 @@ use Rattle.spec_protocol.specs.Commits.{Moved, dma_moved}
 use Rattle.spec_protocol.specs.Placing.{replays}
 use Rattle.spec_protocol.specs.World.{Numbers, What, OfChunk, OfSerial, OfDma, OfRaise, Move, World, sphere_at}
 use Rattle.spec_protocol.specs.Machine.{SphereSetup, Setup, world_of, happens}
-use Rattle.spec_protocol.specs.Serial.{Whole, do_serial, do_dma, do_raise}
+use Rattle.spec_protocol.specs.Serial.{SerialState, do_serial, do_dma, do_raise}
 use Rattle.spec_protocol.specs.Shown.{shown, shown_of}
 use Rattle.spec_protocol.specs.Moves.{move_chunk, do_what, do_at, do_move, do_if}
 use Rattle.spec_protocol.specs.Promises.{IsSetup, after}
@@ -26,33 +26,33 @@ use Rattle.dl_machine.specs.Ready.{HasRoom}
 
 -- ---- a move leaves the other spheres
 
-chunk_others : (z : Numbers) (x : Whole) (i j k : ℕ) (how : How) (n limit : ℕ) (p : Sphere) (o : Option Parts) → j ≢ i → slice_get (move_chunk z x i k how n limit p o).spheres j ≡ slice_get x.spheres j
+chunk_others : (z : Numbers) (x : SerialState) (i j k : ℕ) (how : How) (n limit : ℕ) (p : Sphere) (o : Option Parts) → j ≢ i → slice_get (move_chunk z x i k how n limit p o).spheres j ≡ slice_get x.spheres j
 chunk_others z x i j k how n limit p None ne = refl
 chunk_others z x i j k how n limit p (Some t) ne = get-set_other x.spheres i j _ ne
 
-serial_others : (x : Whole) (i j k moment : ℕ) (p : Sphere) (o : Option Parts) → j ≢ i → slice_get (do_serial x i k moment p o).spheres j ≡ slice_get x.spheres j
+serial_others : (x : SerialState) (i j k moment : ℕ) (p : Sphere) (o : Option Parts) → j ≢ i → slice_get (do_serial x i k moment p o).spheres j ≡ slice_get x.spheres j
 serial_others x i j k moment p None ne = refl
 serial_others x i j k moment p (Some t) ne = get-set_other x.spheres i j _ ne
 
-dma_others : (x : Whole) (i j : ℕ) (o : Option Moved) → j ≢ i → slice_get (do_dma x i o).spheres j ≡ slice_get x.spheres j
+dma_others : (x : SerialState) (i j : ℕ) (o : Option Moved) → j ≢ i → slice_get (do_dma x i o).spheres j ≡ slice_get x.spheres j
 dma_others x i j None ne = refl
 dma_others x i j (Some v) ne = get-set_other x.spheres i j _ ne
 
-raise_others : (x : Whole) (i j k value : ℕ) (p : Sphere) (o : Option Parts) → j ≢ i → slice_get (do_raise x i k value p o).spheres j ≡ slice_get x.spheres j
+raise_others : (x : SerialState) (i j k value : ℕ) (p : Sphere) (o : Option Parts) → j ≢ i → slice_get (do_raise x i k value p o).spheres j ≡ slice_get x.spheres j
 raise_others x i j k value p None ne = refl
 raise_others x i j k value p (Some t) ne = get-set_other x.spheres i j _ ne
 
-what_others : (z : Numbers) (x : Whole) (moment i j : ℕ) (p : Sphere) (a : What) → j ≢ i → slice_get (do_what z x moment i p a).spheres j ≡ slice_get x.spheres j
+what_others : (z : Numbers) (x : SerialState) (moment i j : ℕ) (p : Sphere) (a : What) → j ≢ i → slice_get (do_what z x moment i p a).spheres j ≡ slice_get x.spheres j
 what_others z x moment i j p (OfChunk k how n limit) ne = chunk_others z x i j k how n limit p (slice_get p.threads k) ne
 what_others z x moment i j p (OfSerial k) ne = serial_others x i j k moment p (slice_get p.threads k) ne
 what_others z x moment i j p OfDma ne = dma_others x i j (dma_moved x.devices p) ne
 what_others z x moment i j p (OfRaise k value) ne = raise_others x i j k value p (slice_get p.threads k) ne
 
-at_others : (z : Numbers) (x : Whole) (m : Move) (j : ℕ) (o : Option Sphere) → j ≢ m.sphere → slice_get (do_at z x m o).spheres j ≡ slice_get x.spheres j
+at_others : (z : Numbers) (x : SerialState) (m : Move) (j : ℕ) (o : Option Sphere) → j ≢ m.sphere → slice_get (do_at z x m o).spheres j ≡ slice_get x.spheres j
 at_others z x m j None ne = refl
 at_others z x m j (Some p) ne = what_others z x m.moment m.sphere j p m.what ne
 
-move_others : (z : Numbers) (x : Whole) (m : Move) (j : ℕ) → j ≢ m.sphere → slice_get (do_move z x m).spheres j ≡ slice_get x.spheres j
+move_others : (z : Numbers) (x : SerialState) (m : Move) (j : ℕ) → j ≢ m.sphere → slice_get (do_move z x m).spheres j ≡ slice_get x.spheres j
 unfolding do_move
 move_others z x m j ne = at_others z x m j (slice_get x.spheres m.sphere) ne
 
@@ -76,7 +76,7 @@ same_kind s es e i is l m =
 -- it shows what it showed
 unmoved : (s : Setup) (es : List Event) (e : Event) (i : ℕ) (o : Option Move) → IsSetup s → OfReplay (after s es) o → shown_of (happens (after s es) e).world ≡ do_if (after s es).numbers (shown_of (after s es)) o → i < length (happens (after s es) e).world.spheres → i < length (after s es).spheres → replays (sphere_at (happens (after s es) e).world i).role ≡ false
     → slice_get (shown_of (happens (after s es) e).world).spheres i ≡ slice_get (shown_of (after s es)).spheres i
-unmoved s es e i None is of whole l m live = ap (λ (x : Whole). slice_get x.spheres i) whole
+unmoved s es e i None is of whole l m live = ap (λ (x : SerialState). slice_get x.spheres i) whole
 unmoved s es e i (Some mv) is of whole l m live =
     let w = after s es in
     elim (cases_eq i mv.sphere) [
@@ -84,7 +84,7 @@ unmoved s es e i (Some mv) is of whole l m live =
           let there : replays (sphere_at w i).role ≡ true = ap (λ (j : ℕ). replays (sphere_at w j).role) same ∙ of in
           absurd (true≢false (sym there ∙ sym (same_kind s es e i is l m) ∙ live))
           )
-      | inr ne ↦ ap (λ (x : Whole). slice_get x.spheres i) whole ∙ move_others w.numbers (shown_of w) mv i ne
+      | inr ne ↦ ap (λ (x : SerialState). slice_get x.spheres i) whole ∙ move_others w.numbers (shown_of w) mv i ne
     ]
 
 shown_position : (xs ys : List (Option Flight)) (i : ℕ) (p q : Sphere) → Some (shown xs i p) ≡ Some (shown ys i q) → (position p.progress ≡ position q.progress) × (replays p.role ≡ replays q.role)

@@ -10,7 +10,7 @@ use Rattle.spec_protocol.specs.Spheres.{Cursor, Record, Replay, Sphere, is_over}
 use Rattle.spec_protocol.specs.Placing.{replays}
 use Rattle.spec_protocol.specs.World.{World}
 use Rattle.spec_protocol.specs.Machine.{IsRecorded, IsReplayed, Setup, SphereSetup}
-use Rattle.spec_protocol.specs.Serial.{CanDoAll, serial, whole_of}
+use Rattle.spec_protocol.specs.Serial.{CanDoAll, serial, serial_start}
 use Rattle.spec_protocol.specs.Shown.{shown_of}
 use Rattle.spec_protocol.specs.Promises.{after}
 use Rattle.spec_protocol.specs.PlayingBack.{PlaysBack}
@@ -28,7 +28,7 @@ pub record IsRun (s : Setup) (es : List Event) (w : World) : Type 0 where
 pub record IsSerial (s : Setup) (w : World) (points : List Point) : Type 0 where
   pub spheres : (i : ℕ) (p : Sphere) → slice_get (shown_of w).spheres i ≡ Some p → replays p.role ≡ false → slice_get (serial s points).spheres i ≡ Some p
   pub devices : w.devices ≡ (serial s points).devices
-  pub possible : CanDoAll (whole_of s) points
+  pub possible : CanDoAll (serial_start s) points
 
 -- sphere i was set up so, and is now p, with its current memory
 pub record IsNow (s : Setup) (i : ℕ) (w : World) (image : SphereSetup) (p : Sphere) : Type 0 where

@@ -20,7 +20,7 @@ use Rattle.spec_protocol.specs.Placing.{replays}
 use Rattle.spec_protocol.specs.World.{World, sphere_at}
 use Rattle.spec_protocol.specs.Machine.{RoleSetup, IsPlain, IsRecorded, IsReplayed, SphereSetup, Setup, world_of, world_after}
 use Rattle.spec_protocol.specs.Logged.{sphere_in}
-use Rattle.spec_protocol.specs.Serial.{Whole}
+use Rattle.spec_protocol.specs.Serial.{SerialState}
 use Rattle.spec_protocol.specs.Promises.{IsSetup, after}
 use Rattle.spec_protocol.specs.Sound.{no_image, image_at}
 use Rattle.spec_finishing.specs.Ending.{IsAtEnd, OfReplays}
@@ -206,7 +206,7 @@ none-left (x ∷ xs) zero l = absurd (omega (arith, l))
 none-left (x ∷ xs) (suc i) l = none-left xs i (omega (arith, l))
 
 -- a line more
-lines-more : (x : Whole) (xs : List SphereSetup) (i : ℕ) (ls : List SphereLine) (line : SphereLine) → i < length xs → line ≡ line_as (get_or xs i no_image) (sphere_in x i) (get_or xs i no_image).role → (ls ++ line ∷ []) ++ lines_from x (suc i) (drop (suc i) xs) ≡ ls ++ lines_from x i (drop i xs)
+lines-more : (x : SerialState) (xs : List SphereSetup) (i : ℕ) (ls : List SphereLine) (line : SphereLine) → i < length xs → line ≡ line_as (get_or xs i no_image) (sphere_in x i) (get_or xs i no_image).role → (ls ++ line ∷ []) ++ lines_from x (suc i) (drop (suc i) xs) ≡ ls ++ lines_from x i (drop i xs)
 lines-more x xs i ls line inside is =
     append_assoc ls (line ∷ []) (lines_from x (suc i) (drop (suc i) xs))
     ∙ ap (λ (l : SphereLine). ls ++ l ∷ lines_from x (suc i) (drop (suc i) xs)) is
@@ -215,7 +215,7 @@ lines-more x xs i ls line inside is =
 one_more : (i : ℕ) → i + 1 ≡ suc i
 one_more i = omega arith
 
-pub lines-after : (x : Whole) (xs : List SphereSetup) (i : ℕ) (ls : List SphereLine) (line : SphereLine) → i < length xs → line ≡ line_as (get_or xs i no_image) (sphere_in x i) (get_or xs i no_image).role → (ls ++ line ∷ []) ++ lines_from x (i + 1) (drop (i + 1) xs) ≡ ls ++ lines_from x i (drop i xs)
+pub lines-after : (x : SerialState) (xs : List SphereSetup) (i : ℕ) (ls : List SphereLine) (line : SphereLine) → i < length xs → line ≡ line_as (get_or xs i no_image) (sphere_in x i) (get_or xs i no_image).role → (ls ++ line ∷ []) ++ lines_from x (i + 1) (drop (i + 1) xs) ≡ ls ++ lines_from x i (drop i xs)
 lines-after x xs i ls line inside is =
     ap (λ (n : ℕ). (ls ++ line ∷ []) ++ lines_from x n (drop n xs)) (one_more i) ∙ lines-more x xs i ls line inside is
 

@@ -8,7 +8,7 @@ use Rattle.spec_protocol.specs.Spheres.{Role, Plain, Record, Replay, Sphere, is_
 use Rattle.spec_protocol.specs.World.{World, Move, sphere_at}
 use Rattle.spec_protocol.specs.Placing.{replays}
 use Rattle.spec_protocol.specs.Machine.{IsReplayed, SphereSetup, Setup, world_of, happens, world_after, moves}
-use Rattle.spec_protocol.specs.Serial.{whole_of}
+use Rattle.spec_protocol.specs.Serial.{serial_start}
 use Rattle.spec_protocol.specs.Finishing.{Finishes}
 use Rattle.spec_protocol.specs.Promises.{IsSetup, after}
 use Rattle.spec_finishing.specs.Work.{plays_work, moves_work}
@@ -16,7 +16,7 @@ use Rattle.spec_finishing.specs.Rest.{potential, under_way, rest}
 
 -- the work of a run: of the plays of its replayed spheres, and of what its schedule did in the others
 abbrev pub work : Setup → List Event → ℕ
-work s es = plays_work s.spheres + moves_work s.numbers (whole_of s) (moves (world_of s) es)
+work s es = plays_work s.spheres + moves_work s.numbers (serial_start s) (moves (world_of s) es)
 
 -- the replies of events that did what they are for: none is bounced, denied, busy, full or out of turn
 abbrev pub is_done : Reply → Bool

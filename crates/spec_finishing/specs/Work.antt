@@ -14,7 +14,7 @@ use Rattle.spec_protocol.specs.Spheres.{Role, Plain, Record, Replay, Sphere}
 use Rattle.spec_protocol.specs.Commits.{Moved, serial_moved, dma_moved}
 use Rattle.spec_protocol.specs.World.{Numbers, What, OfChunk, OfSerial, OfDma, OfRaise, Move}
 use Rattle.spec_protocol.specs.Machine.{RoleSetup, IsPlain, IsRecorded, IsReplayed, SphereSetup}
-use Rattle.spec_protocol.specs.Serial.{Whole}
+use Rattle.spec_protocol.specs.Serial.{SerialState}
 use Rattle.spec_protocol.specs.Moves.{do_move}
 
 -- ---- of a play
@@ -90,10 +90,10 @@ abbrev pub sphere_work : Devices → Move → Option Sphere → ℕ
 sphere_work devices m None = 0
 sphere_work devices m (Some p) = role_work p devices m p.role
 
-abbrev pub move_work : Whole → Move → ℕ
+abbrev pub move_work : SerialState → Move → ℕ
 move_work x m = sphere_work x.devices m (slice_get x.spheres m.sphere)
 
 -- of all that took effect
-abbrev pub moves_work : Numbers → Whole → List Move → ℕ
+abbrev pub moves_work : Numbers → SerialState → List Move → ℕ
 moves_work z x [] = 0
 moves_work z x (m ∷ ms) = move_work x m + moves_work z (do_move z x m) ms

@@ -4,7 +4,7 @@
 -- sphere tells the play of its log on its image, and nothing else.
 use Rattle.std.specs.Prelude.{◌≡◌, ℕ, List, Option, Some, if◌then◌else◌}
 use Rattle.dl_files.specs.Contents.{Contents}
-use Rattle.spec_protocol.specs.Serial.{whole_of, CanDoAll}
+use Rattle.spec_protocol.specs.Serial.{serial_start, CanDoAll}
 use Rattle.spec_protocol.specs.Sound.{IsWithinLimits}
 use Rattle.spec_run.specs.Runs.{diverges}
 use Rattle.spec_run.specs.Texts.{summary_text}
@@ -22,7 +22,7 @@ pub record Headline (plan : List ℕ) (m : Contents) (told : Option Contents) (o
   -- its numbers, images and logs are within the limits of the machine, so that all that is promised of runs is so of it
   pub limits : IsWithinLimits (setup_in task)
   -- each of the machine's points can be done whole, as it says: a chunk runs its instructions, and a serial step is one
-  pub possible : CanDoAll (whole_of (setup_in task)) (points_in task)
+  pub possible : CanDoAll (serial_start (setup_in task)) (points_in task)
   -- each file of the plan holds what is made of the points and of executing them, or of a replayed log; every other file
   -- holds what it held
   pub files : told ≡ Some (written (writes_for task.plan (setup_in task) task.events) m)

@@ -2,7 +2,7 @@
 use Rattle.std.specs.Prelude.{◌≡◌, ℕ, List, Some}
 use Rattle.dl_files.specs.Contents.{Contents}
 use Rattle.dl_words.specs.Commands.{Run, command_of}
-use Rattle.spec_protocol.specs.Serial.{whole_of, CanDoAll}
+use Rattle.spec_protocol.specs.Serial.{serial_start, CanDoAll}
 use Rattle.spec_program.specs.Ends.{DoesFinish}
 use Rattle.spec_program.specs.Outcomes.{outcome_of, ran}
 use Rattle.spec_program.specs.Tasks.{Task, IsTask, setup_in, points_in}
@@ -10,7 +10,7 @@ use Rattle.spec_program.specs.Tasks.{Task, IsTask, setup_in, points_in}
 -- its outcome is that of running the task, and each of the task's points can be done whole, as it says
 pub record IsRun (words : List (List ℕ)) (m : Contents) (t : Task) : Type 0 where
   pub outcome : outcome_of words m ≡ ran t.plan (setup_in t) t.events
-  pub possible : CanDoAll (whole_of (setup_in t)) (points_in t)
+  pub possible : CanDoAll (serial_start (setup_in t)) (points_in t)
 
 -- for all words that run a plan, and whatever the files hold
 pub record TasksAreRun : Type 0 where

@@ -7,7 +7,7 @@ use Rattle.dl_entry.specs.declared.Point.{Point}
 use Rattle.spec_play.specs.Progress.{position}
 use Rattle.spec_protocol.specs.declared.event.Event.{Event}
 use Rattle.spec_protocol.specs.Machine.{Setup}
-use Rattle.spec_protocol.specs.Serial.{Whole, whole_of, do_point}
+use Rattle.spec_protocol.specs.Serial.{SerialState, serial_start, do_point}
 use Rattle.spec_protocol.specs.Logged.{sphere_in}
 use Rattle.spec_protocol.specs.Promises.{IsSetup, after}
 
@@ -24,11 +24,11 @@ place_of (Point.Commit moment i actor kind size short) = i
 place_of (Point.Raise moment i k value) = i
 
 -- the commits of sphere i in y behind those in x
-abbrev pub new_commits : (i : ℕ) → (x y : Whole) → List Commit
+abbrev pub new_commits : (i : ℕ) → (x y : SerialState) → List Commit
 new_commits i x y = drop (position (sphere_in x i).progress) (sphere_in y i).progress.commits
 
 -- what the commits of these points put out, done one at a time; those of replayed spheres put out nothing
-abbrev pub console_of : Whole → List Point → List ℕ
+abbrev pub console_of : SerialState → List Point → List ℕ
 console_of x [] = []
 console_of x (q ∷ qs) = let y = do_point x q in put_out (new_commits (place_of q) x y) ++ console_of y qs
 
@@ -36,4 +36,4 @@ console_of x (q ∷ qs) = let y = do_point x q in put_out (new_commits (place_of
 abbrev pub ConsoleIsPutOut : Type 0
 ConsoleIsPutOut =
     (s : Setup) (es : List Event) → IsSetup s
-    → (after s es).devices.console ≡ console_of (whole_of s) (after s es).points
+    → (after s es).devices.console ≡ console_of (serial_start s) (after s es).points

@@ -18,7 +18,7 @@ use Rattle.spec_kernel.specs.Devices.{Devices}
 use Rattle.spec_kernel.specs.Needs.{need}
 use Rattle.spec_kernel.specs.Answers.{taken, dma_bytes}
 use Rattle.spec_protocol.specs.Spheres.{Sphere, no_sphere}
-use Rattle.spec_protocol.specs.Serial.{Whole, do_point}
+use Rattle.spec_protocol.specs.Serial.{SerialState, do_point}
 
 -- ---- what came from outside
 
@@ -39,17 +39,17 @@ bytes_for devices None = []
 bytes_for devices (Some request) = dma_bytes devices request
 
 -- sphere i between two points
-abbrev pub sphere_in : Whole → (i : ℕ) → Sphere
+abbrev pub sphere_in : SerialState → (i : ℕ) → Sphere
 sphere_in x i = slice_index_or x.spheres i no_sphere
 
 -- only serial steps get a record
-abbrev pub input_at : Whole → Point → Option Input
+abbrev pub input_at : SerialState → Point → Option Input
 input_at x (Point.Commit moment i (Actor.Thread k) CommitKind.Serial size short) =
     let p = sphere_in x i in answer_to x.devices moment p (slice_get p.threads k)
 input_at x _ = None
 
 -- only DMAs get bytes
-abbrev pub bytes_at : Whole → Point → List ℕ
+abbrev pub bytes_at : SerialState → Point → List ℕ
 bytes_at x (Point.Commit moment i Actor.Dma kind size short) = bytes_for x.devices (sphere_in x i).progress.request
 bytes_at x _ = []
 
@@ -59,7 +59,7 @@ is_of i (Point.Commit moment j actor kind size short) = nat_eq j i
 is_of i (Point.Raise moment j k value) = nat_eq j i
 
 -- those among these, which are done one at a time, with what comes from outside at each
-abbrev pub supplied : (i : ℕ) → Whole → List Point → List Supplied
+abbrev pub supplied : (i : ℕ) → SerialState → List Point → List Supplied
 supplied i x [] = []
 supplied i x (q ∷ qs) =
     let rest = supplied i (do_point x q) qs in

@@ -6,13 +6,13 @@ use Rattle.spec_protocol.specs.declared.event.Event.{Event}
 use Rattle.spec_protocol.specs.Spheres.{Record}
 use Rattle.spec_protocol.specs.World.{sphere_at}
 use Rattle.spec_protocol.specs.Machine.{SphereSetup, Setup}
-use Rattle.spec_protocol.specs.Serial.{whole_of}
+use Rattle.spec_protocol.specs.Serial.{serial_start}
 use Rattle.spec_protocol.specs.Logged.{supplied, logged}
 use Rattle.spec_protocol.specs.Promises.{WillRecord, after}
 
 -- the log that the points of sphere i tell, in this mode
 abbrev pub log_told : Setup → List Event → (i : ℕ) → ModeName → LogParts
-log_told s es i mode = logged mode s.numbers.chunk (supplied i (whole_of s) (after s es).points)
+log_told s es i mode = logged mode s.numbers.chunk (supplied i (serial_start s) (after s es).points)
 
 -- the log that a sphere has kept is that of its points, with the standard size
 abbrev pub LogsAreOfPoints : Type 0

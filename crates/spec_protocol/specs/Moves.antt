@@ -13,35 +13,35 @@ use Rattle.spec_protocol.specs.World.{Numbers, What, OfChunk, OfSerial, OfDma, O
 use Rattle.spec_protocol.specs.Asking.{is_short, other_turn}
 use Rattle.spec_protocol.specs.Transferring.{turn_before_dma}
 use Rattle.spec_protocol.specs.Placing.{replays}
-use Rattle.spec_protocol.specs.Serial.{Whole, do_moved, do_serial, do_dma, do_raise}
+use Rattle.spec_protocol.specs.Serial.{SerialState, do_moved, do_serial, do_dma, do_raise}
 
 -- ---- one move
 
 -- n instructions of thread k, which a chunk had run where it was closed so
-abbrev pub move_chunk : Numbers → Whole → (i thread : ℕ) → How → (n limit : ℕ) → Sphere → Option Parts → Whole
+abbrev pub move_chunk : Numbers → SerialState → (i thread : ℕ) → How → (n limit : ℕ) → Sphere → Option Parts → SerialState
 move_chunk z x i k how n limit p None = x
 move_chunk z x i k how n limit p (Some t) =
     do_moved x i (chunk_moved k (is_piece how) (is_short z.chunk how limit) (run p.memory t n) x.devices p)
 
-abbrev pub do_what : Numbers → Whole → (moment i : ℕ) → Sphere → What → Whole
+abbrev pub do_what : Numbers → SerialState → (moment i : ℕ) → Sphere → What → SerialState
 do_what z x moment i p (OfChunk k how n limit) = move_chunk z x i k how n limit p (slice_get p.threads k)
 do_what z x moment i p (OfSerial k) = do_serial x i k moment p (slice_get p.threads k)
 do_what z x moment i p OfDma = do_dma x i (dma_moved x.devices p)
 do_what z x moment i p (OfRaise k value) = do_raise x i k value p (slice_get p.threads k)
 
-abbrev pub do_at : Numbers → Whole → Move → Option Sphere → Whole
+abbrev pub do_at : Numbers → SerialState → Move → Option Sphere → SerialState
 do_at z x m None = x
 do_at z x m (Some p) = do_what z x m.moment m.sphere p m.what
 
-unfoldable pub do_move : Numbers → Whole → Move → Whole
+unfoldable pub do_move : Numbers → SerialState → Move → SerialState
 do_move z x m = do_at z x m (slice_get x.spheres m.sphere)
 
-abbrev pub do_if : Numbers → Whole → Option Move → Whole
+abbrev pub do_if : Numbers → SerialState → Option Move → SerialState
 do_if z x None = x
 do_if z x (Some m) = do_move z x m
 
 -- these moves, in their order
-abbrev pub do_moves : Numbers → Whole → List Move → Whole
+abbrev pub do_moves : Numbers → SerialState → List Move → SerialState
 do_moves z x [] = x
 do_moves z x (m ∷ ms) = do_moves z (do_move z x m) ms
 
@@ -111,13 +111,13 @@ abbrev pub FitsAt : Numbers → Devices → Move → Option Sphere → Type 0
 FitsAt z devices m None = ⊥
 FitsAt z devices m (Some p) = FitsWhat z devices p m.what
 
-abbrev pub Fits : Numbers → Whole → Move → Type 0
+abbrev pub Fits : Numbers → SerialState → Move → Type 0
 Fits z x m = FitsAt z x.devices m (slice_get x.spheres m.sphere)
 
-abbrev pub FitsIf : Numbers → Whole → Option Move → Type 0
+abbrev pub FitsIf : Numbers → SerialState → Option Move → Type 0
 FitsIf z x None = Unit {0}
 FitsIf z x (Some m) = Fits z x m
 
-abbrev pub FitAll : Numbers → Whole → List Move → Type 0
+abbrev pub FitAll : Numbers → SerialState → List Move → Type 0
 FitAll z x [] = Unit {0}
 FitAll z x (m ∷ ms) = Fits z x m × FitAll z (do_move z x m) ms

@@ -6,7 +6,7 @@ use Rattle.spec_protocol.specs.Spheres.{Sphere}
 use Rattle.spec_protocol.specs.Placing.{replays}
 use Rattle.spec_protocol.specs.World.{World}
 use Rattle.spec_protocol.specs.Machine.{IsRecorded, SphereSetup, Setup, world_of, world_after, moves}
-use Rattle.spec_protocol.specs.Serial.{whole_of, serial, CanDoAll}
+use Rattle.spec_protocol.specs.Serial.{serial_start, serial, CanDoAll}
 use Rattle.spec_protocol.specs.Shown.{shown_of}
 use Rattle.spec_protocol.specs.Invariants.{IsGood}
 use Rattle.spec_protocol.specs.Moves.{do_moves, FitAll}
@@ -36,7 +36,7 @@ pub record IsSerialAfter (s : Setup) (es : List Event) : Type 0 where
       → replays p.role ≡ false
       → slice_get (serial s (after s es).points).spheres i ≡ Some p
   pub devices : (after s es).devices ≡ (serial s (after s es).points).devices
-  pub possible : CanDoAll (whole_of s) (after s es).points
+  pub possible : CanDoAll (serial_start s) (after s es).points
 
 abbrev pub CommitsAreSerial : Type 0
 CommitsAreSerial = (s : Setup) (es : List Event) → IsSetup s → IsSerialAfter s es
@@ -45,8 +45,8 @@ CommitsAreSerial = (s : Setup) (es : List Event) → IsSetup s → IsSerialAfter
 
 -- all spheres are those of doing the moves whole, pieces and divergences too; and each move can be done as it says
 pub record AreMovesSerial (s : Setup) (es : List Event) : Type 0 where
-  pub same : shown_of (after s es) ≡ do_moves s.numbers (whole_of s) (moves (world_of s) es)
-  pub possible : FitAll s.numbers (whole_of s) (moves (world_of s) es)
+  pub same : shown_of (after s es) ≡ do_moves s.numbers (serial_start s) (moves (world_of s) es)
+  pub possible : FitAll s.numbers (serial_start s) (moves (world_of s) es)
 
 abbrev pub MovesAreSerial : Type 0
 MovesAreSerial = (s : Setup) (es : List Event) → IsSetup s → AreMovesSerial s es

@@ -15,12 +15,13 @@ use Rattle.spec_protocol.specs.Commits.{Moved, chunk_moved, serial_moved, dma_mo
 use Rattle.spec_protocol.specs.Machine.{Setup, sphere_of}
 
 -- the spheres between two points, and the devices. A replayed sphere stays as it began, since its log says what it does
-pub record Whole : Type 0 where
+pub record SerialState : Type 0 where
   pub spheres : List Sphere
   pub devices : Devices
 
-abbrev pub whole_of : Setup → Whole
-whole_of s =
+-- the one before the first point
+abbrev pub serial_start : Setup → SerialState
+serial_start s =
     record { spheres = map (sphere_of s.numbers.chunk) s.spheres; devices = devices_of s.input s.seed }
 
 -- ---- one point
@@ -29,28 +30,28 @@ whole_of s =
 abbrev pub laid : Moved → Sphere
 laid v = record v.sphere { memory = lays v.sphere.memory v.words }
 
-abbrev pub do_moved : Whole → (i : ℕ) → Moved → Whole
+abbrev pub do_moved : SerialState → (i : ℕ) → Moved → SerialState
 do_moved x i v = record { spheres = slice_set x.spheres i (laid v); devices = v.devices }
 
 -- a chunk is a run of its size
-abbrev pub do_chunk : Whole → (i thread size : ℕ) → (short : Bool) → Sphere → Option Parts → Whole
+abbrev pub do_chunk : SerialState → (i thread size : ℕ) → (short : Bool) → Sphere → Option Parts → SerialState
 do_chunk x i k size short p None = x
 do_chunk x i k size short p (Some t) = do_moved x i (chunk_moved k false short (run p.memory t size) x.devices p)
 
-abbrev pub do_serial : Whole → (i thread moment : ℕ) → Sphere → Option Parts → Whole
+abbrev pub do_serial : SerialState → (i thread moment : ℕ) → Sphere → Option Parts → SerialState
 do_serial x i k moment p None = x
 do_serial x i k moment p (Some t) = do_moved x i (serial_moved k moment t x.devices p)
 
-abbrev pub do_dma : Whole → (i : ℕ) → Option Moved → Whole
+abbrev pub do_dma : SerialState → (i : ℕ) → Option Moved → SerialState
 do_dma x i None = x
 do_dma x i (Some v) = do_moved x i v
 
-abbrev pub do_raise : Whole → (i thread value : ℕ) → Sphere → Option Parts → Whole
+abbrev pub do_raise : SerialState → (i thread value : ℕ) → Sphere → Option Parts → SerialState
 do_raise x i k value p None = x
 do_raise x i k value p (Some t) = record x { spheres = slice_set x.spheres i (raised k value t p) }
 
 -- a commit of that kind, in sphere i, which is p
-abbrev pub do_kind : Whole → (moment i : ℕ) → Actor → CommitKind → (size : ℕ) → (short : Bool) → Sphere → Whole
+abbrev pub do_kind : SerialState → (moment i : ℕ) → Actor → CommitKind → (size : ℕ) → (short : Bool) → Sphere → SerialState
 do_kind x moment i (Actor.Thread k) CommitKind.Chunk size short p =
     do_chunk x i k size short p (slice_get p.threads k)
 do_kind x moment i (Actor.Thread k) CommitKind.Serial size short p =
@@ -59,33 +60,33 @@ do_kind x moment i Actor.Dma CommitKind.Dma size short p = do_dma x i (dma_moved
 do_kind x moment i _ _ size short p = x
 
 -- only in plain and recorded spheres
-abbrev pub in_live : Role → Whole → Whole → Whole
+abbrev pub in_live : Role → SerialState → SerialState → SerialState
 in_live Plain x done = done
 in_live (Record log) x done = done
 in_live (Replay b) x done = x
 
-abbrev pub do_commit : Whole → (moment i : ℕ) → Actor → CommitKind → (size : ℕ) → (short : Bool) → Option Sphere → Whole
+abbrev pub do_commit : SerialState → (moment i : ℕ) → Actor → CommitKind → (size : ℕ) → (short : Bool) → Option Sphere → SerialState
 do_commit x moment i actor kind size short None = x
 do_commit x moment i actor kind size short (Some p) =
     in_live p.role x (do_kind x moment i actor kind size short p)
 
-abbrev pub do_interrupt : Whole → (i thread value : ℕ) → Option Sphere → Whole
+abbrev pub do_interrupt : SerialState → (i thread value : ℕ) → Option Sphere → SerialState
 do_interrupt x i k value None = x
 do_interrupt x i k value (Some p) = in_live p.role x (do_raise x i k value p (slice_get p.threads k))
 
-unfoldable pub do_point : Whole → Point → Whole
+unfoldable pub do_point : SerialState → Point → SerialState
 do_point x (Point.Commit moment i actor kind size short) =
     do_commit x moment i actor kind size short (slice_get x.spheres i)
 do_point x (Point.Raise moment i k value) = do_interrupt x i k value (slice_get x.spheres i)
 
 -- these points, in their order
-abbrev pub do_points : Whole → List Point → Whole
+abbrev pub do_points : SerialState → List Point → SerialState
 do_points x [] = x
 do_points x (p ∷ ps) = do_points (do_point x p) ps
 
 -- what the points of a run leave
-abbrev pub serial : Setup → List Point → Whole
-serial s ps = do_points (whole_of s) ps
+abbrev pub serial : Setup → List Point → SerialState
+serial s ps = do_points (serial_start s) ps
 
 -- ---- whether a point can be done as it says
 
@@ -132,10 +133,10 @@ abbrev pub CanInterrupt : (thread : ℕ) → Option Sphere → Type 0
 CanInterrupt k None = ⊥
 CanInterrupt k (Some p) = InLive p.role (CanTake (slice_get p.threads k))
 
-abbrev pub CanDo : Whole → Point → Type 0
+abbrev pub CanDo : SerialState → Point → Type 0
 CanDo x (Point.Commit moment i actor kind size short) = CanCommit x.devices actor kind size (slice_get x.spheres i)
 CanDo x (Point.Raise moment i k value) = CanInterrupt k (slice_get x.spheres i)
 
-abbrev pub CanDoAll : Whole → List Point → Type 0
+abbrev pub CanDoAll : SerialState → List Point → Type 0
 CanDoAll x [] = Unit {0}
 CanDoAll x (p ∷ ps) = CanDo x p × CanDoAll (do_point x p) ps

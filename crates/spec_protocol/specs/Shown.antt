@@ -4,7 +4,7 @@ use Rattle.spec_isa.specs.Words.{Stored, lays}
 use Rattle.spec_engine.specs.Flights.{Flight}
 use Rattle.spec_protocol.specs.Spheres.{Sphere}
 use Rattle.spec_protocol.specs.World.{World}
-use Rattle.spec_protocol.specs.Serial.{Whole}
+use Rattle.spec_protocol.specs.Serial.{SerialState}
 
 -- the words left in a slot, if its flight is of sphere i
 abbrev pub words_of : (i : ℕ) → Option Flight → List Stored
@@ -25,5 +25,5 @@ abbrev pub shown_from : List (Option Flight) → (i : ℕ) → List Sphere → L
 shown_from slots i [] = []
 shown_from slots i (p ∷ ps) = shown slots i p ∷ shown_from slots (suc i) ps
 
-abbrev pub shown_of : World → Whole
+abbrev pub shown_of : World → SerialState
 shown_of w = record { spheres = shown_from w.slots 0 w.spheres; devices = w.devices }

@@ -4,7 +4,7 @@ use Rattle.spec_log.specs.declared.ModeName.{ModeName}
 use Rattle.spec_kernel.specs.Devices.{devices_of}
 use Rattle.spec_protocol.specs.declared.event.Event.{Event}
 use Rattle.spec_protocol.specs.Machine.{RoleSetup, IsPlain, IsRecorded, IsReplayed, SphereSetup, Setup, sphere_of}
-use Rattle.spec_protocol.specs.Serial.{Whole, whole_of, do_points}
+use Rattle.spec_protocol.specs.Serial.{SerialState, serial_start, do_points}
 use Rattle.spec_protocol.specs.Logged.{sphere_in, supplied, logged}
 use Rattle.spec_protocol.specs.Sound.{image_at, no_image}
 use Rattle.std.proofs.Common.{map}
@@ -22,8 +22,8 @@ accounts_agree s z es fs i j log role same =
 
 -- ---- the points executed
 
-whole_same : (s z : Setup) → AreAlike s z → whole_of s ≡ whole_of z
-whole_same s z a =
+same_start : (s z : Setup) → AreAlike s z → serial_start s ≡ serial_start z
+same_start s z a =
     let chunk = a.chunk in
     let seed = a.seed in
     let input = a.input in
@@ -32,14 +32,14 @@ whole_same s z a =
 
 executed_same : (s z : Setup) (es fs : List Event) → AreAlike s z → points_of s es ≡ points_of z fs → executed s es ≡ executed z fs
 executed_same s z es fs a points =
-    let whole = whole_same s z a in
-    (λ k. do_points (whole k) (points k))
+    let start = same_start s z a in
+    (λ k. do_points (start k) (points k))
 
 told_same : (s z : Setup) (es fs : List Event) (i : ℕ) (mode : ModeName) → AreAlike s z → points_of s es ≡ points_of z fs → log_told s es i mode ≡ log_told z fs i mode
 told_same s z es fs i mode a points =
-    let whole = whole_same s z a in
+    let start = same_start s z a in
     let chunk = a.chunk in
-    (λ k. logged mode (chunk k) (supplied i (whole k) (points k)))
+    (λ k. logged mode (chunk k) (supplied i (start k) (points k)))
 
 log_same : (s z : Setup) (es fs : List Event) (i : ℕ) (role : RoleSetup) → AreAlike s z → points_of s es ≡ points_of z fs → log_as s es i role ≡ log_as z fs i role
 log_same s z es fs i IsPlain a points = refl
@@ -59,5 +59,5 @@ texts_of_points s z es fs a points =
           log_same s z es fs i (image_at s i).role a points
           ∙ ap (λ (d : SphereSetup). log_as z fs i d.role) (image i);
       accounts = λ i. (λ k. account_as (image i k) (sphere_in (x k) i) (image i k).role);
-      console = ap (λ (y : Whole). y.devices.console) x;
+      console = ap (λ (y : SerialState). y.devices.console) x;
     }

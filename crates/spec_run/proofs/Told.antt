@@ -15,7 +15,7 @@ use Rattle.spec_protocol.specs.Spheres.{Role, Plain, Record, Replay, Cursor, Sph
 use Rattle.spec_protocol.specs.Placing.{replays}
 use Rattle.spec_protocol.specs.World.{World, sphere_at}
 use Rattle.spec_protocol.specs.Machine.{RoleSetup, IsPlain, IsRecorded, IsReplayed, SphereSetup, Setup, world_of, happens, world_after}
-use Rattle.spec_protocol.specs.Serial.{whole_of, serial, CanDoAll}
+use Rattle.spec_protocol.specs.Serial.{serial_start, serial, CanDoAll}
 use Rattle.spec_protocol.specs.Logged.{sphere_in, supplied, logged}
 use Rattle.spec_protocol.specs.Logs.{IsLogFresh}
 use Rattle.spec_protocol.specs.Shown.{shown_of}
@@ -64,12 +64,12 @@ record IsKnown (s : Setup) (w : World) : Type 0 where
       → replays p.role ≡ false
       → slice_get (serial s w.points).spheres i ≡ Some p
   devices : w.devices ≡ (serial s w.points).devices
-  possible : CanDoAll (whole_of s) w.points
+  possible : CanDoAll (serial_start s) w.points
   kinds : AreOfKinds s.spheres (shown_of w).spheres
   sizes : length w.spheres ≡ length s.spheres
   logs : (i : ℕ) (image : SphereSetup) (mode : ModeName)
       → WillRecord s i image mode
-      → (sphere_at w i).role ≡ Record (logged mode s.numbers.chunk (supplied i (whole_of s) w.points))
+      → (sphere_at w i).role ≡ Record (logged mode s.numbers.chunk (supplied i (serial_start s) w.points))
   fresh : (i : ℕ) (image : SphereSetup) (mode : ModeName)
       → WillRecord s i image mode
       → (log : LogParts)

@@ -11,7 +11,7 @@ use Rattle.spec_protocol.specs.Spheres.{Role, Plain, Record, Replay, Cursor, Sph
 use Rattle.spec_protocol.specs.Placing.{replays}
 use Rattle.spec_protocol.specs.World.{sphere_at}
 use Rattle.spec_protocol.specs.Machine.{RoleSetup, IsPlain, IsRecorded, IsReplayed, SphereSetup, Setup}
-use Rattle.spec_protocol.specs.Serial.{whole_of, CanDoAll}
+use Rattle.spec_protocol.specs.Serial.{serial_start, CanDoAll}
 use Rattle.spec_protocol.specs.Logged.{sphere_in}
 use Rattle.spec_protocol.specs.Sound.{IsWithinLimits, image_at}
 use Rattle.spec_protocol.specs.Promises.{IsSetup, after}
@@ -68,7 +68,7 @@ SpheresAreTold =
 pub record IsRunTold (s : Setup) (es : List Event) : Type 0 where
   pub spheres : length (finished s es).spheres ≡ length s.spheres
   pub devices : (finished s es).devices ≡ (executed s es).devices
-  pub possible : CanDoAll (whole_of s) (points_of s es)
+  pub possible : CanDoAll (serial_start s) (points_of s es)
 
 abbrev pub RunsAreTold : Type 0
 RunsAreTold = (s : Setup) (es : List Event) → IsSetup s → IsRunTold s es

@@ -9,7 +9,7 @@ use Rattle.spec_play.specs.Turns.{Now, Turn, TurnOfDma, Over}
 use Rattle.spec_play.specs.Plays.{Played, play}
 use Rattle.spec_protocol.specs.declared.event.Event.{Event}
 use Rattle.spec_protocol.specs.Machine.{RoleSetup, IsPlain, IsRecorded, IsReplayed, SphereSetup, Setup}
-use Rattle.spec_protocol.specs.Serial.{Whole, serial}
+use Rattle.spec_protocol.specs.Serial.{SerialState, serial}
 use Rattle.spec_finishing.specs.Function.{finished}
 
 -- ---- the machine
@@ -24,7 +24,7 @@ counts_of s es = (finished s es).counts
 
 -- ---- the points executed whole, one at a time
 
-abbrev pub executed : Setup → (schedule : List Event) → Whole
+abbrev pub executed : Setup → (schedule : List Event) → SerialState
 executed s es = serial s (points_of s es)
 
 -- ---- the logs played

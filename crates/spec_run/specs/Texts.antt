@@ -14,7 +14,7 @@ use Rattle.spec_play.specs.Plays.{Played}
 use Rattle.spec_protocol.specs.declared.event.Event.{Event}
 use Rattle.spec_protocol.specs.Spheres.{Sphere}
 use Rattle.spec_protocol.specs.Machine.{RoleSetup, IsPlain, IsRecorded, IsReplayed, SphereSetup, Setup}
-use Rattle.spec_protocol.specs.Serial.{Whole, whole_of}
+use Rattle.spec_protocol.specs.Serial.{SerialState, serial_start}
 use Rattle.spec_protocol.specs.Logged.{sphere_in, supplied, logged}
 use Rattle.spec_protocol.specs.Sound.{image_at}
 use Rattle.spec_run.specs.Runs.{points_of, counts_of, executed, played, end_of}
@@ -23,7 +23,7 @@ use Rattle.spec_run.specs.Runs.{points_of, counts_of, executed, played, end_of}
 
 -- the log that the points of sphere i tell, in this mode
 abbrev pub log_told : Setup → (schedule : List Event) → (i : ℕ) → ModeName → LogParts
-log_told s es i mode = logged mode s.numbers.chunk (supplied i (whole_of s) (points_of s es))
+log_told s es i mode = logged mode s.numbers.chunk (supplied i (serial_start s) (points_of s es))
 
 -- a recorded sphere's log as bytes; no other sphere has one
 abbrev pub log_as : Setup → (schedule : List Event) → (i : ℕ) → RoleSetup → List ℕ
@@ -72,7 +72,7 @@ line_as image p (IsRecorded mode) = SphereLine.Record (position p.progress)
 line_as image p (IsReplayed log) = line_of_end (end_of (played log image).now)
 
 -- of the spheres from number i on
-abbrev pub lines_from : Whole → (i : ℕ) → List SphereSetup → List SphereLine
+abbrev pub lines_from : SerialState → (i : ℕ) → List SphereSetup → List SphereLine
 lines_from x i [] = []
 lines_from x i (image ∷ images) = line_as image (sphere_in x i) image.role ∷ lines_from x (suc i) images
 

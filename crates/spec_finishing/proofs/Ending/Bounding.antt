@@ -7,7 +7,7 @@ use Rattle.spec_protocol.specs.World.{Numbers, World, Move}
 use Rattle.spec_protocol.specs.Commits.{turned}
 use Rattle.spec_protocol.specs.Machine.{RoleSetup, IsPlain, IsRecorded, IsReplayed, SphereSetup, Setup, role_of, sphere_of, world_of, happens, world_after, with_move, moves}
 use Rattle.spec_isa.specs.Threads.{started}
-use Rattle.spec_protocol.specs.Serial.{Whole, whole_of}
+use Rattle.spec_protocol.specs.Serial.{SerialState, serial_start}
 use Rattle.spec_protocol.specs.Shown.{shown_of}
 use Rattle.spec_protocol.specs.Moves.{do_if}
 use Rattle.spec_protocol.specs.Promises.{after}
@@ -51,7 +51,7 @@ start_potential s =
 
 -- ---- a schedule
 
-with_work : (z : Numbers) (x : Whole) (o : Option Move) (ms : List Move) → moves_work z x (with_move o ms) ≡ if_work x o + moves_work z (do_if z x o) ms
+with_work : (z : Numbers) (x : SerialState) (o : Option Move) (ms : List Move) → moves_work z x (with_move o ms) ≡ if_work x o + moves_work z (do_if z x o) ms
 with_work z x None ms = omega arith
 with_work z x (Some m) ms = refl
 
@@ -63,7 +63,7 @@ event_work s w e es known =
     let x = if_work (shown_of w) a.move in
     with_work s.numbers (shown_of w) a.move (moves a.world es)
     ∙ ap (λ (z : Numbers). x + moves_work s.numbers (do_if z (shown_of w) a.move) (moves a.world es)) (sym known.sizes.numbers)
-    ∙ ap (λ (y : Whole). x + moves_work s.numbers y (moves a.world es)) (sym kept.whole)
+    ∙ ap (λ (y : SerialState). x + moves_work s.numbers y (moves a.world es)) (sym kept.whole)
 
 abbrev Bounded : Setup → World → List Event → Type 0
 Bounded s w es = potential s (world_after w es) ≤ potential s w + price s.cores (moves_work s.numbers (shown_of w) (moves w es))
@@ -85,6 +85,6 @@ unfolding price
 potential-bounded plays s es can =
     let r = schedule_bounded plays s can [] es in
     let start = start_potential s in
-    let same = ap (λ (x : Whole). price s.cores (moves_work s.numbers x (moves (world_of s) es))) (start-shown s) in
-    let sum = price-sum s.cores (plays_work s.spheres) (moves_work s.numbers (whole_of s) (moves (world_of s) es)) in
+    let same = ap (λ (x : SerialState). price s.cores (moves_work s.numbers x (moves (world_of s) es))) (start-shown s) in
+    let sum = price-sum s.cores (plays_work s.spheres) (moves_work s.numbers (serial_start s) (moves (world_of s) es)) in
     omega (arith, r, start, same, sum)

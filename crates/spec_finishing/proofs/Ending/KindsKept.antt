@@ -15,7 +15,7 @@ use Rattle.spec_protocol.specs.Placing.{replays}
 use Rattle.spec_protocol.specs.World.{Numbers, What, OfChunk, OfSerial, OfDma, OfRaise, Move}
 use Rattle.spec_protocol.specs.Asking.{is_short}
 use Rattle.spec_protocol.specs.Machine.{RoleSetup, IsPlain, IsRecorded, IsReplayed, SphereSetup, role_of, sphere_of}
-use Rattle.spec_protocol.specs.Serial.{Whole, laid, do_serial, do_dma, do_raise}
+use Rattle.spec_protocol.specs.Serial.{SerialState, laid, do_serial, do_dma, do_raise}
 use Rattle.spec_protocol.specs.Moves.{move_chunk, do_what, do_at, do_move, do_moves}
 
 -- ---- one sphere
@@ -120,40 +120,40 @@ start-kinds s (image ∷ images) = (start_kind s _ image.role, start-kinds s ima
 
 -- ---- a move
 
-chunk_kinds : (z : Numbers) (images : List SphereSetup) (x : Whole) (i k : ℕ) (how : How) (n limit : ℕ) (p : Sphere) (o : Option Parts) → slice_get x.spheres i ≡ Some p → AreOfKinds images x.spheres → AreOfKinds images (move_chunk z x i k how n limit p o).spheres
+chunk_kinds : (z : Numbers) (images : List SphereSetup) (x : SerialState) (i k : ℕ) (how : How) (n limit : ℕ) (p : Sphere) (o : Option Parts) → slice_get x.spheres i ≡ Some p → AreOfKinds images x.spheres → AreOfKinds images (move_chunk z x i k how n limit p o).spheres
 chunk_kinds z images x i k how n limit p None is all = all
 chunk_kinds z images x i k how n limit p (Some t) is all =
     kinds_set images x.spheres i p (laid (chunk_moved k (is_piece how) (is_short z.chunk how limit) (run p.memory t n) x.devices p)) is
     (chunk-kind k (is_piece how) (is_short z.chunk how limit) (run p.memory t n) x.devices p) all
 
-serial_kinds : (images : List SphereSetup) (x : Whole) (i k moment : ℕ) (p : Sphere) (o : Option Parts) → slice_get x.spheres i ≡ Some p → AreOfKinds images x.spheres → AreOfKinds images (do_serial x i k moment p o).spheres
+serial_kinds : (images : List SphereSetup) (x : SerialState) (i k moment : ℕ) (p : Sphere) (o : Option Parts) → slice_get x.spheres i ≡ Some p → AreOfKinds images x.spheres → AreOfKinds images (do_serial x i k moment p o).spheres
 serial_kinds images x i k moment p None is all = all
 serial_kinds images x i k moment p (Some t) is all =
     kinds_set images x.spheres i p (laid (serial_moved k moment t x.devices p)) is (serial-kind k moment t x.devices p) all
 
-dma_kinds : (images : List SphereSetup) (x : Whole) (i : ℕ) (p : Sphere) (o : Option Moved) → slice_get x.spheres i ≡ Some p → DmaKind p.role o → AreOfKinds images x.spheres → AreOfKinds images (do_dma x i o).spheres
+dma_kinds : (images : List SphereSetup) (x : SerialState) (i : ℕ) (p : Sphere) (o : Option Moved) → slice_get x.spheres i ≡ Some p → DmaKind p.role o → AreOfKinds images x.spheres → AreOfKinds images (do_dma x i o).spheres
 dma_kinds images x i p None is kind all = all
 dma_kinds images x i p (Some v) is kind all = kinds_set images x.spheres i p (laid v) is kind all
 
-raise_kinds : (images : List SphereSetup) (x : Whole) (i k value : ℕ) (p : Sphere) (o : Option Parts) → slice_get x.spheres i ≡ Some p → AreOfKinds images x.spheres → AreOfKinds images (do_raise x i k value p o).spheres
+raise_kinds : (images : List SphereSetup) (x : SerialState) (i k value : ℕ) (p : Sphere) (o : Option Parts) → slice_get x.spheres i ≡ Some p → AreOfKinds images x.spheres → AreOfKinds images (do_raise x i k value p o).spheres
 raise_kinds images x i k value p None is all = all
 raise_kinds images x i k value p (Some t) is all = kinds_set images x.spheres i p (raised k value t p) is (raised-kind k value t p) all
 
-what_kinds : (z : Numbers) (images : List SphereSetup) (x : Whole) (moment i : ℕ) (p : Sphere) (a : What) → slice_get x.spheres i ≡ Some p → AreOfKinds images x.spheres → AreOfKinds images (do_what z x moment i p a).spheres
+what_kinds : (z : Numbers) (images : List SphereSetup) (x : SerialState) (moment i : ℕ) (p : Sphere) (a : What) → slice_get x.spheres i ≡ Some p → AreOfKinds images x.spheres → AreOfKinds images (do_what z x moment i p a).spheres
 what_kinds z images x moment i p (OfChunk k how n limit) is all = chunk_kinds z images x i k how n limit p (slice_get p.threads k) is all
 what_kinds z images x moment i p (OfSerial k) is all = serial_kinds images x i k moment p (slice_get p.threads k) is all
 what_kinds z images x moment i p OfDma is all = dma_kinds images x i p (dma_moved x.devices p) is (dma-kind x.devices p) all
 what_kinds z images x moment i p (OfRaise k value) is all = raise_kinds images x i k value p (slice_get p.threads k) is all
 
-at_kinds : (z : Numbers) (images : List SphereSetup) (x : Whole) (m : Move) (o : Option Sphere) → slice_get x.spheres m.sphere ≡ o → AreOfKinds images x.spheres → AreOfKinds images (do_at z x m o).spheres
+at_kinds : (z : Numbers) (images : List SphereSetup) (x : SerialState) (m : Move) (o : Option Sphere) → slice_get x.spheres m.sphere ≡ o → AreOfKinds images x.spheres → AreOfKinds images (do_at z x m o).spheres
 at_kinds z images x m None is all = all
 at_kinds z images x m (Some p) is all = what_kinds z images x m.moment m.sphere p m.what is all
 
-move_kinds : (z : Numbers) (images : List SphereSetup) (x : Whole) (m : Move) → AreOfKinds images x.spheres → AreOfKinds images (do_move z x m).spheres
+move_kinds : (z : Numbers) (images : List SphereSetup) (x : SerialState) (m : Move) → AreOfKinds images x.spheres → AreOfKinds images (do_move z x m).spheres
 unfolding do_move
 move_kinds z images x m all = at_kinds z images x m (slice_get x.spheres m.sphere) refl all
 
 -- no moves change the kinds of spheres
-pub moves-kinds : (z : Numbers) (images : List SphereSetup) (x : Whole) (ms : List Move) → AreOfKinds images x.spheres → AreOfKinds images (do_moves z x ms).spheres
+pub moves-kinds : (z : Numbers) (images : List SphereSetup) (x : SerialState) (ms : List Move) → AreOfKinds images x.spheres → AreOfKinds images (do_moves z x ms).spheres
 moves-kinds z images x [] all = all
 moves-kinds z images x (m ∷ ms) all = moves-kinds z images (do_move z x m) ms (move_kinds z images x m all)

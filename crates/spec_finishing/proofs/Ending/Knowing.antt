@@ -9,7 +9,7 @@ use Rattle.spec_protocol.specs.Spheres.{Cursor, Replay, Sphere, is_over}
 use Rattle.spec_protocol.specs.Placing.{replays}
 use Rattle.spec_protocol.specs.World.{World}
 use Rattle.spec_protocol.specs.Machine.{RoleSetup, IsPlain, IsRecorded, IsReplayed, SphereSetup, Setup, world_of, happens, world_after, moves}
-use Rattle.spec_protocol.specs.Serial.{Whole, whole_of}
+use Rattle.spec_protocol.specs.Serial.{SerialState, serial_start}
 use Rattle.spec_protocol.specs.Shown.{shown_of}
 use Rattle.spec_protocol.specs.Invariants.{IsGood}
 use Rattle.spec_protocol.specs.Promises.{IsSetup, after, AreSizesKept}
@@ -53,8 +53,8 @@ image_of s w sizes i p is =
 -- after every schedule the spheres are of their setups' kinds
 pub kinds_after : (s : Setup) (es : List Event) → IsSetup s → AreOfKinds s.spheres (shown_of (after s es)).spheres
 kinds_after s es is =
-    subst (λ (x : Whole). AreOfKinds s.spheres x.spheres) (sym (moves_are s es is).same)
-    (moves-kinds s.numbers s.spheres (whole_of s) (moves (world_of s) es) (start-kinds s.numbers.chunk s.spheres))
+    subst (λ (x : SerialState). AreOfKinds s.spheres x.spheres) (sym (moves_are s es is).same)
+    (moves-kinds s.numbers s.spheres (serial_start s) (moves (world_of s) es) (start-kinds s.numbers.chunk s.spheres))
 
 replayed_is : (r : RoleSetup) → is_replayed r ≡ true → (log : LogParts) × (r ≡ IsReplayed log)
 replayed_is IsPlain e = absurd (true≢false (sym e))

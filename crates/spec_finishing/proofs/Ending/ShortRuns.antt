@@ -19,7 +19,7 @@ use Rattle.spec_protocol.specs.Commits.{serial_in, serial_moved, live_dma, dma_l
 use Rattle.spec_protocol.specs.Placing.{replays}
 use Rattle.spec_protocol.specs.World.{Numbers, World, What, OfChunk, OfSerial, OfDma, OfRaise, Move, sphere_at}
 use Rattle.spec_protocol.specs.Machine.{RoleSetup, IsPlain, IsRecorded, IsReplayed, SphereSetup, Setup, world_of, happens, moves}
-use Rattle.spec_protocol.specs.Serial.{Whole}
+use Rattle.spec_protocol.specs.Serial.{SerialState}
 use Rattle.spec_protocol.specs.Shown.{words_of, flying, shown_of}
 use Rattle.spec_protocol.specs.Moves.{ChunkFits, FitsChunk, FitsWhat, FitsAt, FitsIf}
 use Rattle.spec_protocol.specs.Invariants.{current}
@@ -209,7 +209,7 @@ work-few s es limits few =
     let a = plays-few s.spheres limits.images in
     let n = limits.few.1 in
     let b = schedule-few s limits [] es in
-    let same = ap (λ (x : Whole). moves_work s.numbers x (moves (world_of s) es)) (start-shown s) in
+    let same = ap (λ (x : SerialState). moves_work s.numbers x (moves (world_of s) es)) (start-shown s) in
     omega (arith, a, n, b, same, few)
 
 price-few : (c work_ : ℕ) → c ≤ 8 → work_ ≤ 8 * (4101 * 2 ^ 24) + 4101 * 2 ^ 32 → (c + 6) * work_ ≤ 14 * (8 * (4101 * 2 ^ 24) + 4101 * 2 ^ 32)

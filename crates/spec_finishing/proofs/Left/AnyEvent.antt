@@ -8,7 +8,7 @@ use Rattle.spec_engine.specs.Chunks.{step, cut, is_open}
 use Rattle.spec_protocol.specs.declared.reply.Reply.{Reply}
 use Rattle.spec_protocol.specs.Spheres.{is_stopped}
 use Rattle.spec_protocol.specs.World.{World, Held, Move, After, sphere_at, with_sphere, with_core, held_afresh, core_of, answered}
-use Rattle.spec_protocol.specs.Serial.{Whole}
+use Rattle.spec_protocol.specs.Serial.{SerialState}
 use Rattle.spec_protocol.specs.Shown.{shown_of}
 use Rattle.spec_protocol.specs.Commits.{raised}
 use Rattle.spec_protocol.specs.Stepping.{stepped, step_held, stepping, cut_to, cut_held, cutting}
@@ -20,7 +20,7 @@ use Rattle.spec_finishing.proofs.Left.Flying.{drain-most, deliver-most, retire-m
 use Rattle.spec_finishing.proofs.Paying.Moves.{move_most}
 
 -- the most that the flight of a move has left, if there is a move
-abbrev pub if_most : (c : ℕ) → Whole → Option Move → ℕ
+abbrev pub if_most : (c : ℕ) → SerialState → Option Move → ℕ
 if_most c x None = 0
 if_most c x (Some m) = move_most c x m
 

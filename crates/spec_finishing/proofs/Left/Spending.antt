@@ -6,7 +6,7 @@ use Rattle.spec_protocol.specs.declared.event.Event.{Event}
 use Rattle.spec_protocol.specs.Spheres.{Cursor, Replay, Sphere}
 use Rattle.spec_protocol.specs.World.{Numbers, World, Move, After}
 use Rattle.spec_protocol.specs.Machine.{Setup, core_no, sphere_no, slot_no, act, happens}
-use Rattle.spec_protocol.specs.Serial.{Whole}
+use Rattle.spec_protocol.specs.Serial.{SerialState}
 use Rattle.spec_protocol.specs.Shown.{shown_of}
 use Rattle.spec_protocol.specs.Moves.{do_if, FitsIf, Fits}
 use Rattle.spec_protocol.specs.Invariants.{IsGood}
@@ -42,11 +42,11 @@ happens-flies c w e good = act_flies c w e good
 -- ---- both
 
 -- the work of a move, if there is one
-abbrev pub if_work : Whole → Option Move → ℕ
+abbrev pub if_work : SerialState → Option Move → ℕ
 if_work x None = 0
 if_work x (Some m) = move_work x m
 
-if_pays : (s : Setup) (z : Numbers) (x : Whole) (o : Option Move) → 0 < z.buffer → Stands s x → FitsIf z x o
+if_pays : (s : Setup) (z : Numbers) (x : SerialState) (o : Option Move) → 0 < z.buffer → Stands s x → FitsIf z x o
     → spheres_rest s.cores s.spheres (do_if z x o).spheres + if_most s.cores x o ≤ spheres_rest s.cores s.spheres x.spheres + price s.cores (if_work x o)
 if_pays s z x None positive stands fits = omega arith
 if_pays s z x (Some m) positive stands fits = move-pays s.cores s z x m positive stands fits
@@ -64,7 +64,7 @@ happens-spends s w e known =
     let pays = if_pays s w.numbers (shown_of w) a.move known.good.buffer known.stands kept.fits in
     let now = shown_rest s a.world in
     let was = shown_rest s w in
-    let same = ap (λ (x : Whole). spheres_rest s.cores s.spheres x.spheres) kept.whole in
+    let same = ap (λ (x : SerialState). spheres_rest s.cores s.spheres x.spheres) kept.whole in
     omega (arith, flies, pays, now, was, same)
 
 moves_more : (s : Setup) (w : World) (a : After) (m : Move) (o : Option Move) (p : Sphere) (b : Cursor) → o ≡ Some m → a.move ≡ o → Known s w → Kept w a → Flies s.cores w a → slice_get (shown_of w).spheres m.sphere ≡ Some p → p.role ≡ Replay b
@@ -76,7 +76,7 @@ moves_more s w a m (Some n) p b e move known kept flies is role =
     let most = ap (if_most s.cores (shown_of w)) (move ∙ e) in
     let now = shown_rest s a.world in
     let was = shown_rest s w in
-    let same = ap (λ (x : Whole). spheres_rest s.cores s.spheres x.spheres) (kept.whole ∙ ap (do_if w.numbers (shown_of w)) (move ∙ e)) in
+    let same = ap (λ (x : SerialState). spheres_rest s.cores s.spheres x.spheres) (kept.whole ∙ ap (do_if w.numbers (shown_of w)) (move ∙ e)) in
     omega (arith, flies, pays, now, was, same, most)
 
 -- a move of a replay makes it less, by the events behind it

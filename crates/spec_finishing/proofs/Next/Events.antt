@@ -14,7 +14,7 @@ use Rattle.spec_protocol.specs.World.{World, Held, After, sphere_at, with_slot, 
 use Rattle.spec_protocol.specs.Flying.{drain_slot, draining, told, delivering, reads_of, writes_of, retiring}
 use Rattle.spec_protocol.specs.Placing.{unless_elsewhere, place_thread, placing}
 use Rattle.spec_protocol.specs.Machine.{Setup, core_no, sphere_no, slot_no, act, kept, happens}
-use Rattle.spec_protocol.specs.Serial.{Whole}
+use Rattle.spec_protocol.specs.Serial.{SerialState}
 use Rattle.spec_protocol.specs.Shown.{shown_of}
 use Rattle.spec_protocol.specs.Moves.{do_if}
 use Rattle.spec_protocol.specs.Finishing.{untold, deliver_or_retire, for_flight, Who, least, standing}
@@ -45,7 +45,7 @@ no_move_spheres s w e known none =
     let a = happens w e in
     let same : shown_of a.world ≡ shown_of w = (happens-kept w e known.good).whole ∙ ap (do_if w.numbers (shown_of w)) none in
     sym (spheres-shown s.cores s.spheres a.world.slots 0 a.world.spheres)
-    ∙ ap (λ (x : Whole). spheres_rest s.cores s.spheres x.spheres) same
+    ∙ ap (λ (x : SerialState). spheres_rest s.cores s.spheres x.spheres) same
     ∙ spheres-shown s.cores s.spheres w.slots 0 w.spheres
 
 flight_happens : (c : ℕ) (w : World) (e : Event) → FlightFalls c w (act w e) → FlightFalls c w (happens w e)

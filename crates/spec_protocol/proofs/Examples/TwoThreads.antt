@@ -24,7 +24,7 @@ use Rattle.spec_play.specs.Turns.{Over, has_left_over, now_at}
 use Rattle.spec_play.specs.Verdicts.{chunk_verdict, serial_verdict}
 use Rattle.spec_protocol.specs.Commits.{chunk_moved, serial_moved, dma_moved}
 use Rattle.spec_protocol.specs.Machine.{IsRecorded, Setup}
-use Rattle.spec_protocol.specs.Serial.{whole_of, do_point}
+use Rattle.spec_protocol.specs.Serial.{serial_start, do_point}
 use Rattle.spec_protocol.specs.Logged.{supplied, logged}
 use Rattle.spec_play.proofs.Programs.{image}
 use Rattle.spec_protocol.proofs.Examples.Scenes.{alone}
@@ -47,7 +47,7 @@ points =
     ∷ Point.Commit 31 0 (Actor.Thread 0) CommitKind.Chunk 1 true ∷ []
 
 abbrev told : ModeName → LogParts
-told mode = logged mode 100 (supplied 0 (whole_of (two_threads mode)) points)
+told mode = logged mode 100 (supplied 0 (serial_start (two_threads mode)) points)
 
 abbrev played : ModeName → Played
 played mode = play (told mode) (image 60 code) 0

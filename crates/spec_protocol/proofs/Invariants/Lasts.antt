@@ -21,7 +21,7 @@ use Rattle.spec_protocol.specs.Commits.{Moved, by_verdict, joined, replayed_chun
 use Rattle.spec_protocol.specs.World.{Numbers, World, Move, What, OfChunk, OfSerial, OfDma, OfRaise, sphere_at}
 use Rattle.spec_protocol.specs.Asking.{is_short}
 use Rattle.spec_protocol.specs.Machine.{SphereSetup, Setup, sphere_of, world_of, moves}
-use Rattle.spec_protocol.specs.Serial.{Whole, whole_of, laid, do_serial, do_dma, do_raise}
+use Rattle.spec_protocol.specs.Serial.{SerialState, serial_start, laid, do_serial, do_dma, do_raise}
 use Rattle.spec_protocol.specs.Shown.{shown, shown_of}
 use Rattle.spec_protocol.specs.Moves.{move_chunk, do_what, do_at, do_move, do_moves}
 use Rattle.spec_protocol.specs.Promises.{after}
@@ -87,38 +87,38 @@ set_last ps i p q is all last j r there = elim (cases_eq j i) [
   | inr ne ↦ all j r (sym (get-set_other ps i j q ne) ∙ there)
 ]
 
-chunk_all : (z : Numbers) (x : Whole) (i k : ℕ) (how : How) (n limit : ℕ) (p : Sphere) (o : Option Parts) → slice_get x.spheres i ≡ Some p → AreLast x.spheres → AreLast (move_chunk z x i k how n limit p o).spheres
+chunk_all : (z : Numbers) (x : SerialState) (i k : ℕ) (how : How) (n limit : ℕ) (p : Sphere) (o : Option Parts) → slice_get x.spheres i ≡ Some p → AreLast x.spheres → AreLast (move_chunk z x i k how n limit p o).spheres
 unfolding chunk_moved
 chunk_all z x i k how n limit p None is all = all
 chunk_all z x i k how n limit p (Some t) is all =
     set_last x.spheres i p _ is all (chunk_last p.role k (is_piece how) (is_short z.chunk how limit) (run p.memory t n) x.devices p (all i p is))
 
-serial_all : (x : Whole) (i k moment : ℕ) (p : Sphere) (o : Option Parts) → slice_get x.spheres i ≡ Some p → AreLast x.spheres → AreLast (do_serial x i k moment p o).spheres
+serial_all : (x : SerialState) (i k moment : ℕ) (p : Sphere) (o : Option Parts) → slice_get x.spheres i ≡ Some p → AreLast x.spheres → AreLast (do_serial x i k moment p o).spheres
 unfolding serial_moved
 serial_all x i k moment p None is all = all
 serial_all x i k moment p (Some t) is all = set_last x.spheres i p _ is all (serial_last p.role k moment t x.devices p (all i p is))
 
-dma_all : (x : Whole) (i : ℕ) (p : Sphere) (o : Option Moved) → slice_get x.spheres i ≡ Some p → AreLast x.spheres → LastIf o → AreLast (do_dma x i o).spheres
+dma_all : (x : SerialState) (i : ℕ) (p : Sphere) (o : Option Moved) → slice_get x.spheres i ≡ Some p → AreLast x.spheres → LastIf o → AreLast (do_dma x i o).spheres
 dma_all x i p None is all last = all
 dma_all x i p (Some v) is all last = set_last x.spheres i p (laid v) is all last
 
-raise_all : (x : Whole) (i k value : ℕ) (p : Sphere) (o : Option Parts) → slice_get x.spheres i ≡ Some p → AreLast x.spheres → AreLast (do_raise x i k value p o).spheres
+raise_all : (x : SerialState) (i k value : ℕ) (p : Sphere) (o : Option Parts) → slice_get x.spheres i ≡ Some p → AreLast x.spheres → AreLast (do_raise x i k value p o).spheres
 unfolding raised
 raise_all x i k value p None is all = all
 raise_all x i k value p (Some t) is all = set_last x.spheres i p (raised k value t p) is all (all i p is)
 
-what_all : (z : Numbers) (x : Whole) (moment i : ℕ) (p : Sphere) (what : What) → slice_get x.spheres i ≡ Some p → AreLast x.spheres → AreLast (do_what z x moment i p what).spheres
+what_all : (z : Numbers) (x : SerialState) (moment i : ℕ) (p : Sphere) (what : What) → slice_get x.spheres i ≡ Some p → AreLast x.spheres → AreLast (do_what z x moment i p what).spheres
 unfolding dma_moved
 what_all z x moment i p (OfChunk k how n limit) is all = chunk_all z x i k how n limit p (slice_get p.threads k) is all
 what_all z x moment i p (OfSerial k) is all = serial_all x i k moment p (slice_get p.threads k) is all
 what_all z x moment i p OfDma is all = dma_all x i p (dma_moved x.devices p) is all (dma_last p.role x.devices p (all i p is))
 what_all z x moment i p (OfRaise k value) is all = raise_all x i k value p (slice_get p.threads k) is all
 
-at_all : (z : Numbers) (x : Whole) (m : Move) (o : Option Sphere) → slice_get x.spheres m.sphere ≡ o → AreLast x.spheres → AreLast (do_at z x m o).spheres
+at_all : (z : Numbers) (x : SerialState) (m : Move) (o : Option Sphere) → slice_get x.spheres m.sphere ≡ o → AreLast x.spheres → AreLast (do_at z x m o).spheres
 at_all z x m None is all = all
 at_all z x m (Some p) is all = what_all z x m.moment m.sphere p m.what is all
 
-moves_all : (z : Numbers) (x : Whole) (ms : List Move) → AreLast x.spheres → AreLast (do_moves z x ms).spheres
+moves_all : (z : Numbers) (x : SerialState) (ms : List Move) → AreLast x.spheres → AreLast (do_moves z x ms).spheres
 unfolding do_move
 moves_all z x [] all = all
 moves_all z x (m ∷ ms) all = moves_all z (do_move z x m) ms (at_all z x m (slice_get x.spheres m.sphere) refl all)
@@ -129,7 +129,7 @@ first_last : (z : ℕ) (o : Option SphereSetup) (p : Sphere) → option_map (sph
 first_last z None p e = absurd (none-some p e)
 first_last z (Some image) p e = subst (λ (q : Sphere). IsOfCommits q.progress) (let h : sphere_of z image ≡ p = cc in h) refl
 
-start_all : (s : Setup) → AreLast (whole_of s).spheres
+start_all : (s : Setup) → AreLast (serial_start s).spheres
 start_all s i p e = first_last s.numbers.chunk (slice_get s.spheres i) p (sym (slice_get-map (sphere_of s.numbers.chunk) s.spheres i) ∙ e)
 
 -- the thread that committed last is the last one among the sphere's commits, after every schedule
@@ -140,5 +140,5 @@ spheres_keep_lasts s es i p is there =
     let l : i < length w.spheres = slice_get_within w.spheres i p there in
     let same : sphere_at w i ≡ p = get_or_from_slice_get w.spheres i p no_sphere there in
     let all : AreLast (shown_of w).spheres =
-    subst (λ (x : Whole). AreLast x.spheres) (sym (moves_are s es is).same) (moves_all s.numbers (whole_of s) (moves (world_of s) es) (start_all s)) in
+    subst (λ (x : SerialState). AreLast x.spheres) (sym (moves_are s es is).same) (moves_all s.numbers (serial_start s) (moves (world_of s) es) (start_all s)) in
     subst (λ (q : Sphere). IsOfCommits q.progress) same (all i (shown w.slots i (sphere_at w i)) (shown-get w.slots i w.spheres l))

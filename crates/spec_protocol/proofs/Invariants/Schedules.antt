@@ -7,7 +7,7 @@ use Rattle.spec_protocol.specs.declared.event.Event.{Event}
 use Rattle.spec_protocol.specs.Spheres.{Sphere, no_sphere}
 use Rattle.spec_protocol.specs.World.{Numbers, Held, World, Move, After, held_afresh, sphere_at}
 use Rattle.spec_protocol.specs.Machine.{SphereSetup, Setup, first_cores, world_of, core_no, sphere_no, slot_no, act, kept, happens, world_after, with_move, moves, sphere_of}
-use Rattle.spec_protocol.specs.Serial.{Whole, whole_of}
+use Rattle.spec_protocol.specs.Serial.{SerialState, serial_start}
 use Rattle.spec_protocol.specs.Shown.{flying, shown, shown_from, shown_of}
 use Rattle.spec_protocol.specs.Moves.{do_if, do_moves, FitsIf, FitAll}
 use Rattle.spec_protocol.specs.Promises.{IsSetup, MovesAreSerial, InvariantsHold, SizesAreKept}
@@ -125,7 +125,7 @@ shown_itself n i [] = refl
 shown_itself n i (p ∷ ps) = (λ j. record p { memory = lays p.memory (none_flies n i j) } ∷ shown_itself n (suc i) ps j)
 
 -- the world that a setup starts shows the setup's spheres and devices
-pub start-shown : (s : Setup) → shown_of (world_of s) ≡ whole_of s
+pub start-shown : (s : Setup) → shown_of (world_of s) ≡ serial_start s
 start-shown s = (λ j. record { spheres = shown_itself s.window 0 (world_of s).spheres j; devices = (world_of s).devices })
 
 -- ---- schedules
@@ -135,11 +135,11 @@ pub after-good : (w : World) (es : List Event) → IsGood w → IsGood (world_af
 after-good w [] good = good
 after-good w (e ∷ es) good = after-good (happens w e).world es (happens-kept w e good).good
 
-with_moves : (z : Numbers) (x : Whole) (o : Option Move) (ms : List Move) → do_moves z x (with_move o ms) ≡ do_moves z (do_if z x o) ms
+with_moves : (z : Numbers) (x : SerialState) (o : Option Move) (ms : List Move) → do_moves z x (with_move o ms) ≡ do_moves z (do_if z x o) ms
 with_moves z x None ms = refl
 with_moves z x (Some m) ms = refl
 
-with_fits : (z : Numbers) (x : Whole) (o : Option Move) (ms : List Move) → FitsIf z x o → FitAll z (do_if z x o) ms → FitAll z x (with_move o ms)
+with_fits : (z : Numbers) (x : SerialState) (o : Option Move) (ms : List Move) → FitsIf z x o → FitAll z (do_if z x o) ms → FitAll z x (with_move o ms)
 with_fits z x None ms fits all = all
 with_fits z x (Some m) ms fits all = (fits, all)
 
@@ -156,7 +156,7 @@ moves_serial w (e ∷ es) good =
     record {
       same = r.same ∙ (λ j. do_moves (k.sizes.numbers j) (k.whole j) (moves a.world es)) ∙ sym (with_moves w.numbers (shown_of w) a.move (moves a.world es));
       possible = with_fits w.numbers (shown_of w) a.move (moves a.world es) k.fits
-          (subst (λ (x : Whole). FitAll w.numbers x (moves a.world es)) k.whole
+          (subst (λ (x : SerialState). FitAll w.numbers x (moves a.world es)) k.whole
           (subst (λ (z : Numbers). FitAll z (shown_of a.world) (moves a.world es)) k.sizes.numbers r.possible));
     }
 
@@ -165,8 +165,8 @@ pub moves_are : MovesAreSerial
 moves_are s es is =
     let r = moves_serial (world_of s) es (start-good s is) in
     record {
-      same = r.same ∙ ap (λ (x : Whole). do_moves s.numbers x (moves (world_of s) es)) (start-shown s);
-      possible = subst (λ (x : Whole). FitAll s.numbers x (moves (world_of s) es)) (start-shown s) r.possible;
+      same = r.same ∙ ap (λ (x : SerialState). do_moves s.numbers x (moves (world_of s) es)) (start-shown s);
+      possible = subst (λ (x : SerialState). FitAll s.numbers x (moves (world_of s) es)) (start-shown s) r.possible;
     }
 
 -- every world after a schedule is good

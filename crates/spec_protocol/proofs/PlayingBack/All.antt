@@ -26,7 +26,7 @@ use Rattle.spec_protocol.specs.Commits.{Moved, is_piece, chunk_in, chunk_moved, 
 use Rattle.spec_protocol.specs.World.{Numbers, What, OfChunk, OfSerial, OfDma, OfRaise, Move}
 use Rattle.spec_protocol.specs.Asking.{is_short}
 use Rattle.spec_protocol.specs.Machine.{SphereSetup, role_of, sphere_of, moves, world_of}
-use Rattle.spec_protocol.specs.Serial.{Whole, whole_of, laid, do_moved, do_serial, do_dma, do_raise}
+use Rattle.spec_protocol.specs.Serial.{SerialState, serial_start, laid, do_moved, do_serial, do_dma, do_raise}
 use Rattle.spec_protocol.specs.Moves.{move_chunk, do_what, do_at, do_move, do_moves, FitsChunk, FitsSerial, FitsRaise, FitsWhat, FitsAt, Fits, FitAll}
 use Rattle.spec_protocol.specs.PlayingBack.{PlaysBack, LogsPlayBack}
 use Rattle.spec_protocol.proofs.Moves.Granted.{get-set_same}
@@ -40,17 +40,17 @@ use Rattle.spec_protocol.proofs.Invariants.Schedules.{start-sphere, moves_are}
 
 -- ---- the recorded sphere after a move
 
-record Comes (x : Whole) (i : ℕ) (p : Sphere) (plog : LogParts) : Type 0 where
+record Comes (x : SerialState) (i : ℕ) (p : Sphere) (plog : LogParts) : Type 0 where
   sphere : Sphere
   log : LogParts
   there : slice_get x.spheres i ≡ Some sphere
   role : sphere.role ≡ Record log
   grown : Grown p sphere plog log
 
-moved_comes : (x : Whole) (i : ℕ) (p : Sphere) (log qlog : LogParts) (v : Moved) → slice_get x.spheres i ≡ Some p → (laid v).role ≡ Record qlog → Grown p (laid v) log qlog → Comes (do_moved x i v) i p log
+moved_comes : (x : SerialState) (i : ℕ) (p : Sphere) (log qlog : LogParts) (v : Moved) → slice_get x.spheres i ≡ Some p → (laid v).role ≡ Record qlog → Grown p (laid v) log qlog → Comes (do_moved x i v) i p log
 moved_comes x i p log qlog v is role grown = record { sphere = laid v; log = qlog; there = get-set_same x.spheres i (laid v) p is; role = role; grown = grown }
 
-chunk_comes : (z : Numbers) (x : Whole) (i : ℕ) (p : Sphere) (log : LogParts) (k : ℕ) (how : How) (n limit : ℕ) (o : Option Parts) → 0 < z.buffer → log.s ≡ z.chunk → slice_get x.spheres i ≡ Some p → p.role ≡ Record log
+chunk_comes : (z : Numbers) (x : SerialState) (i : ℕ) (p : Sphere) (log : LogParts) (k : ℕ) (how : How) (n limit : ℕ) (o : Option Parts) → 0 < z.buffer → log.s ≡ z.chunk → slice_get x.spheres i ≡ Some p → p.role ≡ Record log
     → slice_get p.threads k ≡ o → FitsChunk z p k how n limit o → Comes (move_chunk z x i k how n limit p o) i p log
 unfolding chunk_moved
 chunk_comes z x i p log k how n limit None buffer s is role thread fits = absurd fits
@@ -60,7 +60,7 @@ chunk_comes z x i p log k how n limit (Some t) buffer s is role thread fits =
     (moved_comes x i p log _ (chunk_in (Record log) k (is_piece how) (is_short z.chunk how limit) (run p.memory t n) x.devices p) is refl
     (chunk-grown z log p k t how n limit x.devices role s buffer thread fits))
 
-serial_comes : (x : Whole) (i moment : ℕ) (p : Sphere) (log : LogParts) (k : ℕ) (o : Option Parts) → slice_get x.spheres i ≡ Some p → p.role ≡ Record log
+serial_comes : (x : SerialState) (i moment : ℕ) (p : Sphere) (log : LogParts) (k : ℕ) (o : Option Parts) → slice_get x.spheres i ≡ Some p → p.role ≡ Record log
     → slice_get p.threads k ≡ o → FitsSerial p k o → Comes (do_serial x i k moment p o) i p log
 unfolding serial_moved
 serial_comes x i moment p log k None is role thread fits = absurd fits
@@ -69,7 +69,7 @@ serial_comes x i moment p log k (Some t) is role thread fits =
     (sym (ap (λ (r : Role). serial_in r k moment t x.devices p) role))
     (moved_comes x i p log _ (serial_in (Record log) k moment t x.devices p) is refl (serial-grown log p k moment t x.devices role thread fits))
 
-dma_comes : (x : Whole) (i : ℕ) (p : Sphere) (log : LogParts) (o : Option Request) → slice_get x.spheres i ≡ Some p → p.role ≡ Record log
+dma_comes : (x : SerialState) (i : ℕ) (p : Sphere) (log : LogParts) (o : Option Request) → slice_get x.spheres i ≡ Some p → p.role ≡ Record log
     → p.progress.request ≡ o → IsSome (dma_moved x.devices p) → Comes (do_dma x i (dma_moved x.devices p)) i p log
 unfolding dma_moved
 dma_comes x i p log None is role asked some =
@@ -81,7 +81,7 @@ dma_comes x i p log (Some request) is role asked some =
     (sym (ap (λ (r : Role). dma_in r x.devices p) role ∙ (λ j. live_dma (Record (dma_log log x.devices p (asked j))) x.devices p (asked j))))
     (moved_comes x i p log (dma_log log x.devices p (Some request)) (recorded_dma log p x.devices request) is refl (dma-grown log p x.devices request asked))
 
-raise_comes : (x : Whole) (i : ℕ) (p : Sphere) (log : LogParts) (k value : ℕ) (o : Option Parts) → slice_get x.spheres i ≡ Some p → p.role ≡ Record log
+raise_comes : (x : SerialState) (i : ℕ) (p : Sphere) (log : LogParts) (k value : ℕ) (o : Option Parts) → slice_get x.spheres i ≡ Some p → p.role ≡ Record log
     → slice_get p.threads k ≡ o → FitsRaise p o → Comes (do_raise x i k value p o) i p log
 unfolding raised
 raise_comes x i p log k value None is role thread fits = absurd fits
@@ -94,7 +94,7 @@ raise_comes x i p log k value (Some t) is role thread fits =
       grown = raise-grown log p k value t role thread fits.takes;
     }
 
-what_comes : (z : Numbers) (x : Whole) (moment i : ℕ) (p : Sphere) (log : LogParts) (what : What) → 0 < z.buffer → log.s ≡ z.chunk → slice_get x.spheres i ≡ Some p → p.role ≡ Record log → FitsWhat z x.devices p what → Comes (do_what z x moment i p what) i p log
+what_comes : (z : Numbers) (x : SerialState) (moment i : ℕ) (p : Sphere) (log : LogParts) (what : What) → 0 < z.buffer → log.s ≡ z.chunk → slice_get x.spheres i ≡ Some p → p.role ≡ Record log → FitsWhat z x.devices p what → Comes (do_what z x moment i p what) i p log
 what_comes z x moment i p log (OfChunk k how n limit) buffer s is role fits = chunk_comes z x i p log k how n limit (slice_get p.threads k) buffer s is role refl fits
 what_comes z x moment i p log (OfSerial k) buffer s is role fits = serial_comes x i moment p log k (slice_get p.threads k) is role refl fits
 what_comes z x moment i p log OfDma buffer s is role fits = dma_comes x i p log p.progress.request is role refl fits.moves
@@ -102,7 +102,7 @@ what_comes z x moment i p log (OfRaise k value) buffer s is role fits = raise_co
 
 -- ---- moves
 
-move_comes : (z : Numbers) (x : Whole) (m : Move) (i : ℕ) (p : Sphere) (log : LogParts) → 0 < z.buffer → log.s ≡ z.chunk → slice_get x.spheres i ≡ Some p → p.role ≡ Record log → Fits z x m → Comes (do_move z x m) i p log
+move_comes : (z : Numbers) (x : SerialState) (m : Move) (i : ℕ) (p : Sphere) (log : LogParts) → 0 < z.buffer → log.s ≡ z.chunk → slice_get x.spheres i ≡ Some p → p.role ≡ Record log → Fits z x m → Comes (do_move z x m) i p log
 unfolding do_move
 move_comes z x m i p log buffer s is role fits =
     elim (cases_eq i m.sphere) [
@@ -115,7 +115,7 @@ move_comes z x m i p log buffer s is role fits =
       | inr ne ↦ record { sphere = p; log = log; there = at-away z x m i (slice_get x.spheres m.sphere) ne ∙ is; role = role; grown = grown_refl p log }
     ]
 
-moves_come : (z : Numbers) (x : Whole) (ms : List Move) (i : ℕ) (p : Sphere) (log : LogParts) → 0 < z.buffer → log.s ≡ z.chunk → slice_get x.spheres i ≡ Some p → p.role ≡ Record log → FitAll z x ms → Comes (do_moves z x ms) i p log
+moves_come : (z : Numbers) (x : SerialState) (ms : List Move) (i : ℕ) (p : Sphere) (log : LogParts) → 0 < z.buffer → log.s ≡ z.chunk → slice_get x.spheres i ≡ Some p → p.role ≡ Record log → FitAll z x ms → Comes (do_moves z x ms) i p log
 moves_come z x [] i p log buffer s is role fits = record { sphere = p; log = log; there = is; role = role; grown = grown_refl p log }
 moves_come z x (m ∷ ms) i p log buffer s is role fits =
     let a = move_comes z x m i p log buffer s is role fits.0 in
@@ -258,11 +258,11 @@ logs_play_back s es i image mode will p log shown log_ =
     let role = will.role in
     let m = moves_are s es is in
     let z : ℕ = s.numbers.chunk in
-    let c = moves_come s.numbers (whole_of s) (moves (world_of s) es) i (sphere_of z image) (new_log mode z) is.buffer refl (start-sphere z s.spheres i image there)
+    let c = moves_come s.numbers (serial_start s) (moves (world_of s) es) i (sphere_of z image) (new_log mode z) is.buffer refl (start-sphere z s.spheres i image there)
     (ap (role_of z (started image.entry ∷ [])) role) m.possible in
     let q : Sphere = c.sphere in
     let L : LogParts = c.log in
-    let same : q ≡ p = (let h : Some q ≡ Some p = sym c.there ∙ ap (λ (x : Whole). slice_get x.spheres i) (sym m.same) ∙ shown in cc) in
+    let same : q ≡ p = (let h : Some q ≡ Some p = sym c.there ∙ ap (λ (x : SerialState). slice_get x.spheres i) (sym m.same) ∙ shown in cc) in
     let logs : L ≡ log = (let h : Record L ≡ Record log = sym c.role ∙ ap (λ (x : Sphere). x.role) same ∙ log_ in cc) in
     let st = start-stands z image mode in
     let last : Ahead L q L = ahead-end q L in

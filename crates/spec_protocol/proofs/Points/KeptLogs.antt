@@ -27,7 +27,7 @@ use Rattle.spec_play.specs.Progress.{position}
 use Rattle.spec_play.specs.Recording.{noted, interrupt_noted}
 use Rattle.spec_protocol.specs.Spheres.{Record, Sphere}
 use Rattle.spec_protocol.specs.Commits.{Moved, chunk_in, serial_noted, serial_in, dma_as, dma_log, role_raised, raised}
-use Rattle.spec_protocol.specs.Serial.{Whole, laid}
+use Rattle.spec_protocol.specs.Serial.{SerialState, laid}
 use Rattle.spec_protocol.specs.Logged.{Supplied, actors_of, is_short_chunk, logged}
 use Rattle.spec_protocol.proofs.Moves.Granted.{get-set_other, get-set_same}
 use Rattle.spec_protocol.proofs.Moves.Threads.{run-keeps, serve-keeps}
@@ -50,7 +50,7 @@ pub record Keeps (mode : ModeName) (s : ℕ) (cs : List Supplied) (p : Sphere) :
   pub few : length p.threads ≤ 15
 
 -- sphere i is recorded, and has kept the log that its points so far tell
-pub record KeepsIn (mode : ModeName) (s i : ℕ) (cs : List Supplied) (x : Whole) : Type 0 where
+pub record KeepsIn (mode : ModeName) (s i : ℕ) (cs : List Supplied) (x : SerialState) : Type 0 where
   pub sphere : Sphere
   pub there : slice_get x.spheres i ≡ Some sphere
   pub keeps : Keeps mode s cs sphere

@@ -15,7 +15,7 @@ use Rattle.spec_kernel.specs.Needs.{need}
 use Rattle.spec_kernel.specs.Answers.{taken, dma_bytes}
 use Rattle.spec_protocol.specs.Spheres.{Role, Plain, Record, Replay, Sphere, no_sphere}
 use Rattle.spec_protocol.specs.Commits.{Moved, chunk_in, chunk_moved, serial_in, serial_moved, live_dma, dma_log, dma_in, dma_moved, raised}
-use Rattle.spec_protocol.specs.Serial.{Whole, laid, do_moved, do_chunk, do_serial, do_dma, do_raise, do_kind, in_live, do_commit, do_interrupt, do_point, do_points, CanChunk, CanSerial, CanTake, CanKind, InLive, CanCommit, CanInterrupt, CanDo, CanDoAll}
+use Rattle.spec_protocol.specs.Serial.{SerialState, laid, do_moved, do_chunk, do_serial, do_dma, do_raise, do_kind, in_live, do_commit, do_interrupt, do_point, do_points, CanChunk, CanSerial, CanTake, CanKind, InLive, CanCommit, CanInterrupt, CanDo, CanDoAll}
 use Rattle.spec_protocol.specs.Logged.{Supplied, answer_to, bytes_for, sphere_in, input_at, bytes_at, is_of, supplied, logged}
 use Rattle.spec_protocol.proofs.Moves.Granted.{get-set_other, get-set_same}
 use Rattle.spec_protocol.proofs.Moves.Elsewhere.{serial-away, dma-away, raise-away}
@@ -24,10 +24,10 @@ use Rattle.spec_protocol.proofs.Points.KeptLogs.{Keeps, KeepsIn, recorded_chunk,
 
 -- ---- in its sphere
 
-at_once : (mode : ModeName) (s i : ℕ) (cs : List Supplied) (x : Whole) (p : Sphere) (v : Moved) → slice_get x.spheres i ≡ Some p → Keeps mode s cs (laid v) → KeepsIn mode s i cs (do_moved x i v)
+at_once : (mode : ModeName) (s i : ℕ) (cs : List Supplied) (x : SerialState) (p : Sphere) (v : Moved) → slice_get x.spheres i ≡ Some p → Keeps mode s cs (laid v) → KeepsIn mode s i cs (do_moved x i v)
 at_once mode s i cs x p v is keeps = record { sphere = laid v; there = get-set_same x.spheres i (laid v) p is; keeps = keeps }
 
-chunk_kept : (mode : ModeName) (s : ℕ) (cs : List Supplied) (x : Whole) (moment i k size : ℕ) (short : Bool) (p : Sphere) (o : Option Parts) → slice_get x.spheres i ≡ Some p → Keeps mode s cs p → slice_get p.threads k ≡ o → CanChunk size p o
+chunk_kept : (mode : ModeName) (s : ℕ) (cs : List Supplied) (x : SerialState) (moment i k size : ℕ) (short : Bool) (p : Sphere) (o : Option Parts) → slice_get x.spheres i ≡ Some p → Keeps mode s cs p → slice_get p.threads k ≡ o → CanChunk size p o
     → KeepsIn mode s i (cs ++ record { point = Point.Commit moment i (Actor.Thread k) CommitKind.Chunk size short; input = None; bytes = [] } ∷ []) (do_chunk x i k size short p o)
 unfolding chunk_moved
 chunk_kept mode s cs x moment i k size short p None is keeps thread can = absurd can
@@ -37,7 +37,7 @@ chunk_kept mode s cs x moment i k size short p (Some t) is keeps thread can =
     (sym (ap (λ (r : Role). chunk_in r k false short (run p.memory t size) x.devices p) keeps.role))
     (at_once mode s i all x p (recorded_chunk (logged mode s cs) k short (run p.memory t size) x.devices p) is (chunk-keeps mode s cs moment i k size short p t x.devices keeps thread can.ran))
 
-serial_kept : (mode : ModeName) (s : ℕ) (cs : List Supplied) (x : Whole) (moment i k size : ℕ) (short : Bool) (p : Sphere) (o : Option Parts) → slice_get x.spheres i ≡ Some p → Keeps mode s cs p → slice_get p.threads k ≡ o → CanSerial size p o
+serial_kept : (mode : ModeName) (s : ℕ) (cs : List Supplied) (x : SerialState) (moment i k size : ℕ) (short : Bool) (p : Sphere) (o : Option Parts) → slice_get x.spheres i ≡ Some p → Keeps mode s cs p → slice_get p.threads k ≡ o → CanSerial size p o
     → KeepsIn mode s i (cs ++ record { point = Point.Commit moment i (Actor.Thread k) CommitKind.Serial size short; input = answer_to x.devices moment p o; bytes = [] } ∷ []) (do_serial x i k moment p o)
 unfolding serial_moved
 serial_kept mode s cs x moment i k size short p None is keeps thread can = absurd can
@@ -47,7 +47,7 @@ serial_kept mode s cs x moment i k size short p (Some t) is keeps thread can =
     (sym (ap (λ (r : Role). serial_in r k moment t x.devices p) keeps.role))
     (at_once mode s i all x p (recorded_serial (logged mode s cs) k moment t x.devices p) is (serial-keeps mode s cs moment i k size short p t x.devices keeps thread can.empty))
 
-dma_kept : (mode : ModeName) (s : ℕ) (cs : List Supplied) (x : Whole) (moment i : ℕ) (short : Bool) (p : Sphere) (o : Option Request) → slice_get x.spheres i ≡ Some p → Keeps mode s cs p → p.progress.request ≡ o → IsSome o
+dma_kept : (mode : ModeName) (s : ℕ) (cs : List Supplied) (x : SerialState) (moment i : ℕ) (short : Bool) (p : Sphere) (o : Option Request) → slice_get x.spheres i ≡ Some p → Keeps mode s cs p → p.progress.request ≡ o → IsSome o
     → KeepsIn mode s i (cs ++ record { point = Point.Commit moment i Actor.Dma CommitKind.Dma 0 short; input = None; bytes = bytes_for x.devices o } ∷ []) (do_dma x i (dma_moved x.devices p))
 unfolding dma_moved
 dma_kept mode s cs x moment i short p None is keeps asked some = absurd (true≢false (sym some))
@@ -58,17 +58,17 @@ dma_kept mode s cs x moment i short p (Some request) is keeps asked some =
     (sym (ap (λ (r : Role). dma_in r x.devices p) keeps.role ∙ (λ j. live_dma (Record (dma_log log x.devices p (asked j))) x.devices p (asked j))))
     (at_once mode s i all x p (recorded_dma log x.devices request p) is (dma-keeps mode s cs moment i short p request x.devices keeps))
 
-raise_kept : (mode : ModeName) (s : ℕ) (cs : List Supplied) (x : Whole) (moment i k value : ℕ) (p : Sphere) (o : Option Parts) → slice_get x.spheres i ≡ Some p → Keeps mode s cs p → slice_get p.threads k ≡ o → CanTake o
+raise_kept : (mode : ModeName) (s : ℕ) (cs : List Supplied) (x : SerialState) (moment i k value : ℕ) (p : Sphere) (o : Option Parts) → slice_get x.spheres i ≡ Some p → Keeps mode s cs p → slice_get p.threads k ≡ o → CanTake o
     → KeepsIn mode s i (cs ++ record { point = Point.Raise moment i k value; input = None; bytes = [] } ∷ []) (do_raise x i k value p o)
 raise_kept mode s cs x moment i k value p None is keeps thread can = absurd can
 raise_kept mode s cs x moment i k value p (Some t) is keeps thread can =
     record { sphere = raised k value t p; there = get-set_same x.spheres i (raised k value t p) p is; keeps = raise-keeps mode s cs moment i k value p t keeps thread can }
 
 -- a point, with what comes from outside at it
-abbrev told_at : Whole → Point → Supplied
+abbrev told_at : SerialState → Point → Supplied
 told_at x q = record { point = q; input = input_at x q; bytes = bytes_at x q }
 
-kind_kept : (mode : ModeName) (s : ℕ) (cs : List Supplied) (x : Whole) (moment i : ℕ) (actor : Actor) (kind : CommitKind) (size : ℕ) (short : Bool) (p : Sphere) → slice_get x.spheres i ≡ Some p → Keeps mode s cs p → CanKind x.devices actor kind size p
+kind_kept : (mode : ModeName) (s : ℕ) (cs : List Supplied) (x : SerialState) (moment i : ℕ) (actor : Actor) (kind : CommitKind) (size : ℕ) (short : Bool) (p : Sphere) → slice_get x.spheres i ≡ Some p → Keeps mode s cs p → CanKind x.devices actor kind size p
     → KeepsIn mode s i (cs ++ told_at x (Point.Commit moment i actor kind size short) ∷ []) (do_kind x moment i actor kind size short p)
 kind_kept mode s cs x moment i (Actor.Thread k) CommitKind.Chunk size short p is keeps can = chunk_kept mode s cs x moment i k size short p (slice_get p.threads k) is keeps refl can
 kind_kept mode s cs x moment i (Actor.Thread k) CommitKind.Serial size short p is keeps can =
@@ -86,7 +86,7 @@ kind_kept mode s cs x moment i Actor.Dma CommitKind.Dma size short p is keeps ca
     (sym (get_or_from_slice_get x.spheres i p no_sphere is))
     (dma_kept mode s cs x moment i short p p.progress.request is keeps refl can.1))
 
-point_kept : (mode : ModeName) (s : ℕ) (cs : List Supplied) (x : Whole) (q : Point) → KeepsIn mode s (sphere_of_point q) cs x → CanDo x q → KeepsIn mode s (sphere_of_point q) (cs ++ told_at x q ∷ []) (do_point x q)
+point_kept : (mode : ModeName) (s : ℕ) (cs : List Supplied) (x : SerialState) (q : Point) → KeepsIn mode s (sphere_of_point q) cs x → CanDo x q → KeepsIn mode s (sphere_of_point q) (cs ++ told_at x q ∷ []) (do_point x q)
 unfolding do_point
 point_kept mode s cs x (Point.Commit moment i actor kind size short) k can =
     let p : Sphere = k.sphere in
@@ -105,16 +105,16 @@ point_kept mode s cs x (Point.Raise moment i k value) h can =
 
 -- ---- in another sphere
 
-live_away : (role : Role) (x done : Whole) (j : ℕ) → slice_get done.spheres j ≡ slice_get x.spheres j → slice_get (in_live role x done).spheres j ≡ slice_get x.spheres j
+live_away : (role : Role) (x done : SerialState) (j : ℕ) → slice_get done.spheres j ≡ slice_get x.spheres j → slice_get (in_live role x done).spheres j ≡ slice_get x.spheres j
 live_away Plain x done j e = e
 live_away (Record log) x done j e = e
 live_away (Replay b) x done j e = refl
 
-chunk_away : (x : Whole) (i j k size : ℕ) (short : Bool) (p : Sphere) (o : Option Parts) → j ≢ i → slice_get (do_chunk x i k size short p o).spheres j ≡ slice_get x.spheres j
+chunk_away : (x : SerialState) (i j k size : ℕ) (short : Bool) (p : Sphere) (o : Option Parts) → j ≢ i → slice_get (do_chunk x i k size short p o).spheres j ≡ slice_get x.spheres j
 chunk_away x i j k size short p None ne = refl
 chunk_away x i j k size short p (Some t) ne = get-set_other x.spheres i j _ ne
 
-kind_away : (x : Whole) (moment i j : ℕ) (actor : Actor) (kind : CommitKind) (size : ℕ) (short : Bool) (p : Sphere) → j ≢ i → slice_get (do_kind x moment i actor kind size short p).spheres j ≡ slice_get x.spheres j
+kind_away : (x : SerialState) (moment i j : ℕ) (actor : Actor) (kind : CommitKind) (size : ℕ) (short : Bool) (p : Sphere) → j ≢ i → slice_get (do_kind x moment i actor kind size short p).spheres j ≡ slice_get x.spheres j
 kind_away x moment i j (Actor.Thread k) CommitKind.Chunk size short p ne = chunk_away x i j k size short p (slice_get p.threads k) ne
 kind_away x moment i j (Actor.Thread k) CommitKind.Serial size short p ne = serial-away x i j k moment p (slice_get p.threads k) ne
 kind_away x moment i j (Actor.Thread k) CommitKind.Dma size short p ne = refl
@@ -124,15 +124,15 @@ kind_away x moment i j Actor.Dma CommitKind.Serial size short p ne = refl
 kind_away x moment i j Actor.Dma CommitKind.Piece size short p ne = refl
 kind_away x moment i j Actor.Dma CommitKind.Dma size short p ne = dma-away x i j (dma_moved x.devices p) ne
 
-commit_away : (x : Whole) (moment i j : ℕ) (actor : Actor) (kind : CommitKind) (size : ℕ) (short : Bool) (o : Option Sphere) → j ≢ i → slice_get (do_commit x moment i actor kind size short o).spheres j ≡ slice_get x.spheres j
+commit_away : (x : SerialState) (moment i j : ℕ) (actor : Actor) (kind : CommitKind) (size : ℕ) (short : Bool) (o : Option Sphere) → j ≢ i → slice_get (do_commit x moment i actor kind size short o).spheres j ≡ slice_get x.spheres j
 commit_away x moment i j actor kind size short None ne = refl
 commit_away x moment i j actor kind size short (Some p) ne = live_away p.role x _ j (kind_away x moment i j actor kind size short p ne)
 
-interrupt_away : (x : Whole) (i j k value : ℕ) (o : Option Sphere) → j ≢ i → slice_get (do_interrupt x i k value o).spheres j ≡ slice_get x.spheres j
+interrupt_away : (x : SerialState) (i j k value : ℕ) (o : Option Sphere) → j ≢ i → slice_get (do_interrupt x i k value o).spheres j ≡ slice_get x.spheres j
 interrupt_away x i j k value None ne = refl
 interrupt_away x i j k value (Some p) ne = live_away p.role x _ j (raise-away x i j k value p (slice_get p.threads k) ne)
 
-point_away : (x : Whole) (q : Point) (j : ℕ) → j ≢ sphere_of_point q → slice_get (do_point x q).spheres j ≡ slice_get x.spheres j
+point_away : (x : SerialState) (q : Point) (j : ℕ) → j ≢ sphere_of_point q → slice_get (do_point x q).spheres j ≡ slice_get x.spheres j
 unfolding do_point
 point_away x (Point.Commit moment i actor kind size short) j ne = commit_away x moment i j actor kind size short (slice_get x.spheres i) ne
 point_away x (Point.Raise moment i k value) j ne = interrupt_away x i j k value (slice_get x.spheres i) ne
@@ -143,14 +143,14 @@ of_sphere : (i : ℕ) (q : Point) → is_of i q ≡ eqb (sphere_of_point q) i
 of_sphere i (Point.Commit moment j actor kind size short) = refl
 of_sphere i (Point.Raise moment j k value) = refl
 
-one_more : (i : ℕ) (x : Whole) (q : Point) (qs : List Point) (b : Bool) → is_of i q ≡ b → supplied i x (q ∷ qs) ≡ cond b (told_at x q ∷ supplied i (do_point x q) qs) (supplied i (do_point x q) qs)
+one_more : (i : ℕ) (x : SerialState) (q : Point) (qs : List Point) (b : Bool) → is_of i q ≡ b → supplied i x (q ∷ qs) ≡ cond b (told_at x q ∷ supplied i (do_point x q) qs) (supplied i (do_point x q) qs)
 one_more i x q qs b e = ap (λ (c : Bool). cond c (told_at x q ∷ supplied i (do_point x q) qs) (supplied i (do_point x q) qs)) e
 
 -- points done one at a time leave the sphere with the log that they tell
-pub points-kept : (mode : ModeName) (s i : ℕ) (cs : List Supplied) (x : Whole) (qs : List Point) → KeepsIn mode s i cs x → CanDoAll x qs → KeepsIn mode s i (cs ++ supplied i x qs) (do_points x qs)
+pub points-kept : (mode : ModeName) (s i : ℕ) (cs : List Supplied) (x : SerialState) (qs : List Point) → KeepsIn mode s i cs x → CanDoAll x qs → KeepsIn mode s i (cs ++ supplied i x qs) (do_points x qs)
 points-kept mode s i cs x [] k can = subst (λ (ds : List Supplied). KeepsIn mode s i ds x) (sym (append-nil cs)) k
 points-kept mode s i cs x (q ∷ qs) k can =
-    let y : Whole = do_point x q in
+    let y : SerialState = do_point x q in
     elim (cases_Bool (is_of i q)) [
       | inl own ↦ (
           let e : sphere_of_point q ≡ i = eqb-true (sphere_of_point q) i (sym (of_sphere i q) ∙ own) in

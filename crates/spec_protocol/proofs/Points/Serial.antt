@@ -22,7 +22,7 @@ use Rattle.spec_protocol.specs.Commits.{Moved, is_piece, joined, by_verdict, rep
 use Rattle.spec_protocol.specs.Asking.{is_short}
 use Rattle.spec_protocol.specs.World.{Numbers, World, What, OfChunk, OfSerial, OfDma, OfRaise, Move, sphere_at}
 use Rattle.spec_protocol.specs.Machine.{Setup, world_of, with_point, act, happens, world_after}
-use Rattle.spec_protocol.specs.Serial.{Whole, whole_of, laid, do_moved, do_chunk, do_serial, do_dma, do_raise, in_live, do_commit, do_interrupt, do_point, do_points, CanChunk, CanSerial, CanTake, InLive, CanCommit, CanInterrupt, CanDo, CanDoAll}
+use Rattle.spec_protocol.specs.Serial.{SerialState, serial_start, laid, do_moved, do_chunk, do_serial, do_dma, do_raise, in_live, do_commit, do_interrupt, do_point, do_points, CanChunk, CanSerial, CanTake, InLive, CanCommit, CanInterrupt, CanDo, CanDoAll}
 use Rattle.spec_protocol.specs.Shown.{shown, shown_from, shown_of}
 use Rattle.spec_engine.specs.Flights.{Flight}
 use Rattle.spec_protocol.specs.Moves.{move_chunk, do_what, do_at, do_move, do_if, ChunkFits, FitsChunk, FitsSerial, FitsRaise, FitsWhat, FitsAt, FitsIf}
@@ -92,16 +92,16 @@ chunk_whole k a b short r devices p e = chunk_in_whole p.role k a b short r devi
 
 -- ---- all spheres, and the plain and recorded ones
 
-pub record Agrees (x y : Whole) : Type 0 where
+pub record Agrees (x y : SerialState) : Type 0 where
   pub devices : x.devices ≡ y.devices
   pub live : (i : ℕ) (p : Sphere) → slice_get x.spheres i ≡ Some p → replays p.role ≡ false → slice_get y.spheres i ≡ Some p
   pub replayed : (i : ℕ) (p : Sphere) → slice_get x.spheres i ≡ Some p → replays p.role ≡ true → (q : Sphere) × (slice_get y.spheres i ≡ Some q) × (replays q.role ≡ true)
 
-agrees_itself : (x : Whole) → Agrees x x
+agrees_itself : (x : SerialState) → Agrees x x
 agrees_itself x = record { devices = refl; live = λ i p e r. e; replayed = λ i p e r. (p, e, r) }
 
 -- both sides have the same plain or recorded sphere at i now
-agrees_set : (x y : Whole) (i : ℕ) (p q : Sphere) (d e : Devices) → Agrees x y → slice_get x.spheres i ≡ Some p → slice_get y.spheres i ≡ Some p → replays q.role ≡ false → d ≡ e
+agrees_set : (x y : SerialState) (i : ℕ) (p q : Sphere) (d e : Devices) → Agrees x y → slice_get x.spheres i ≡ Some p → slice_get y.spheres i ≡ Some p → replays q.role ≡ false → d ≡ e
     → Agrees (record { spheres = set x.spheres i q; devices = d }) (record { spheres = set y.spheres i q; devices = e })
 agrees_set x y i p q d e a xi yi lives same =
     record {
@@ -123,7 +123,7 @@ agrees_set x y i p q d e a xi yi lives same =
     }
 
 -- only the first side's replay has changed
-agrees_replay : (x y : Whole) (i : ℕ) (p q : Sphere) (d : Devices) → Agrees x y → slice_get x.spheres i ≡ Some p → replays p.role ≡ true → replays q.role ≡ true → d ≡ x.devices → Agrees (record { spheres = set x.spheres i q; devices = d }) y
+agrees_replay : (x y : SerialState) (i : ℕ) (p q : Sphere) (d : Devices) → Agrees x y → slice_get x.spheres i ≡ Some p → replays p.role ≡ true → replays q.role ≡ true → d ≡ x.devices → Agrees (record { spheres = set x.spheres i q; devices = d }) y
 agrees_replay x y i p q d a xi rep now same =
     record {
       devices = same ∙ a.devices;
@@ -142,19 +142,19 @@ agrees_replay x y i p q d a xi rep now same =
 
 -- ---- a move of a replayed sphere
 
-moved_replay : (x y : Whole) (i : ℕ) (p : Sphere) (v : Moved) → Agrees x y → slice_get x.spheres i ≡ Some p → replays p.role ≡ true → LeavesDevices x.devices v → Agrees (do_moved x i v) y
+moved_replay : (x y : SerialState) (i : ℕ) (p : Sphere) (v : Moved) → Agrees x y → slice_get x.spheres i ≡ Some p → replays p.role ≡ true → LeavesDevices x.devices v → Agrees (do_moved x i v) y
 moved_replay x y i p v a xi rep l = agrees_replay x y i p (laid v) v.devices a xi rep l.replays_ l.devices_
 
-chunk_replay : (z : Numbers) (x y : Whole) (i k : ℕ) (how : How) (n limit : ℕ) (p : Sphere) (o : Option Parts) → Agrees x y → slice_get x.spheres i ≡ Some p → replays p.role ≡ true → Agrees (move_chunk z x i k how n limit p o) y
+chunk_replay : (z : Numbers) (x y : SerialState) (i k : ℕ) (how : How) (n limit : ℕ) (p : Sphere) (o : Option Parts) → Agrees x y → slice_get x.spheres i ≡ Some p → replays p.role ≡ true → Agrees (move_chunk z x i k how n limit p o) y
 chunk_replay z x y i k how n limit p None a xi rep = a
 chunk_replay z x y i k how n limit p (Some t) a xi rep =
     moved_replay x y i p _ a xi rep (chunk_leaves k (is_piece how) (is_short z.chunk how limit) (run p.memory t n) x.devices p rep)
 
-serial_replay : (x y : Whole) (i k moment : ℕ) (p : Sphere) (o : Option Parts) → Agrees x y → slice_get x.spheres i ≡ Some p → replays p.role ≡ true → Agrees (do_serial x i k moment p o) y
+serial_replay : (x y : SerialState) (i k moment : ℕ) (p : Sphere) (o : Option Parts) → Agrees x y → slice_get x.spheres i ≡ Some p → replays p.role ≡ true → Agrees (do_serial x i k moment p o) y
 serial_replay x y i k moment p None a xi rep = a
 serial_replay x y i k moment p (Some t) a xi rep = moved_replay x y i p _ a xi rep (serial_leaves k moment t x.devices p rep)
 
-dma_replay : (x y : Whole) (i : ℕ) (p : Sphere) (o : Option Moved) → Agrees x y → slice_get x.spheres i ≡ Some p → replays p.role ≡ true → dma_moved x.devices p ≡ o → Agrees (do_dma x i o) y
+dma_replay : (x y : SerialState) (i : ℕ) (p : Sphere) (o : Option Moved) → Agrees x y → slice_get x.spheres i ≡ Some p → replays p.role ≡ true → dma_moved x.devices p ≡ o → Agrees (do_dma x i o) y
 dma_replay x y i p None a xi rep is = a
 dma_replay x y i p (Some v) a xi rep is = moved_replay x y i p v a xi rep (dma_leaves x.devices p v rep is)
 
@@ -162,13 +162,13 @@ raise_replay : (p : Sphere) (o : Option Parts) → FitsRaise p o → replays p.r
 raise_replay p None fits rep = fits
 raise_replay p (Some t) fits rep = true≢false (sym rep ∙ fits.live)
 
-replay_what : (z : Numbers) (x y : Whole) (moment i : ℕ) (p : Sphere) (what : What) → Agrees x y → slice_get x.spheres i ≡ Some p → replays p.role ≡ true → FitsWhat z x.devices p what → Agrees (do_what z x moment i p what) y
+replay_what : (z : Numbers) (x y : SerialState) (moment i : ℕ) (p : Sphere) (what : What) → Agrees x y → slice_get x.spheres i ≡ Some p → replays p.role ≡ true → FitsWhat z x.devices p what → Agrees (do_what z x moment i p what) y
 replay_what z x y moment i p (OfChunk k how n limit) a xi rep fits = chunk_replay z x y i k how n limit p (slice_get p.threads k) a xi rep
 replay_what z x y moment i p (OfSerial k) a xi rep fits = serial_replay x y i k moment p (slice_get p.threads k) a xi rep
 replay_what z x y moment i p OfDma a xi rep fits = dma_replay x y i p (dma_moved x.devices p) a xi rep refl
 replay_what z x y moment i p (OfRaise k value) a xi rep fits = absurd (raise_replay p (slice_get p.threads k) fits rep)
 
-in_replay : (role : Role) (y done : Whole) → replays role ≡ true → in_live role y done ≡ y
+in_replay : (role : Role) (y done : SerialState) → replays role ≡ true → in_live role y done ≡ y
 in_replay Plain y done e = absurd (true≢false (sym e))
 in_replay (Record log) y done e = absurd (true≢false (sym e))
 in_replay (Replay b) y done e = refl
@@ -179,7 +179,7 @@ can_replay (Record log) can e = absurd (true≢false (sym e))
 can_replay (Replay b) can e = tt
 
 -- a point of a replayed sphere does nothing here
-replay_point : (y : Whole) (pt : Point) (q : Sphere) → slice_get y.spheres (sphere_of_point pt) ≡ Some q → replays q.role ≡ true → (do_point y pt ≡ y) × CanDo y pt
+replay_point : (y : SerialState) (pt : Point) (q : Sphere) → slice_get y.spheres (sphere_of_point pt) ≡ Some q → replays q.role ≡ true → (do_point y pt ≡ y) × CanDo y pt
 unfolding do_point
 replay_point y (Point.Commit moment i actor kind size short) q yi rep = (
   ap (do_commit y moment i actor kind size short) yi ∙ in_replay q.role y _ rep,
@@ -190,7 +190,7 @@ replay_point y (Point.Raise moment i k value) q yi rep =
 
 -- ---- a move of a plain or recorded sphere
 
-in_living : (role : Role) (y done : Whole) → replays role ≡ false → in_live role y done ≡ done
+in_living : (role : Role) (y done : SerialState) → replays role ≡ false → in_live role y done ≡ done
 in_living Plain y done e = refl
 in_living (Record log) y done e = refl
 in_living (Replay b) y done e = absurd (true≢false e)
@@ -243,10 +243,10 @@ raised_stays k n value (Record log) e = refl
 raised_stays k n value (Replay b) e = e
 
 -- what both sides do to the same sphere
-moved_live : (x y : Whole) (i : ℕ) (p : Sphere) (v : Moved) → Agrees x y → slice_get x.spheres i ≡ Some p → slice_get y.spheres i ≡ Some p → replays v.sphere.role ≡ false → Agrees (do_moved x i v) (do_moved y i v)
+moved_live : (x y : SerialState) (i : ℕ) (p : Sphere) (v : Moved) → Agrees x y → slice_get x.spheres i ≡ Some p → slice_get y.spheres i ≡ Some p → replays v.sphere.role ≡ false → Agrees (do_moved x i v) (do_moved y i v)
 moved_live x y i p v a xi yi lives = agrees_set x y i p (laid v) v.devices v.devices a xi yi lives refl
 
-chunk_both : (z : Numbers) (x y : Whole) (i k : ℕ) (how : How) (n limit : ℕ) (p : Sphere) (o : Option Parts) → Agrees x y → slice_get x.spheres i ≡ Some p → slice_get y.spheres i ≡ Some p → replays p.role ≡ false
+chunk_both : (z : Numbers) (x y : SerialState) (i k : ℕ) (how : How) (n limit : ℕ) (p : Sphere) (o : Option Parts) → Agrees x y → slice_get x.spheres i ≡ Some p → slice_get y.spheres i ≡ Some p → replays p.role ≡ false
     → Agrees (move_chunk z x i k how n limit p o) (do_chunk y i k n (is_short z.chunk how limit) p o)
 chunk_both z x y i k how n limit p None a xi yi live = a
 chunk_both z x y i k how n limit p (Some t) a xi yi live =
@@ -258,45 +258,45 @@ chunk_both z x y i k how n limit p (Some t) a xi yi live =
     subst (λ (v : Moved). Agrees (do_moved x i v) (do_moved y i (chunk_moved k false short r y.devices p))) (sym e)
     (moved_live x y i p (chunk_moved k false short r y.devices p) a xi yi (chunk_stays k false short r y.devices p live))
 
-serial_both : (x y : Whole) (i k moment : ℕ) (p : Sphere) (o : Option Parts) → Agrees x y → slice_get x.spheres i ≡ Some p → slice_get y.spheres i ≡ Some p → replays p.role ≡ false → Agrees (do_serial x i k moment p o) (do_serial y i k moment p o)
+serial_both : (x y : SerialState) (i k moment : ℕ) (p : Sphere) (o : Option Parts) → Agrees x y → slice_get x.spheres i ≡ Some p → slice_get y.spheres i ≡ Some p → replays p.role ≡ false → Agrees (do_serial x i k moment p o) (do_serial y i k moment p o)
 serial_both x y i k moment p None a xi yi live = a
 serial_both x y i k moment p (Some t) a xi yi live =
     subst (λ (d : Devices). Agrees (do_moved x i (serial_moved k moment t x.devices p)) (do_moved y i (serial_moved k moment t d p))) a.devices
     (moved_live x y i p (serial_moved k moment t x.devices p) a xi yi (serial_stays k moment t x.devices p live))
 
-dma_both : (x y : Whole) (i : ℕ) (p : Sphere) (o : Option Moved) → Agrees x y → slice_get x.spheres i ≡ Some p → slice_get y.spheres i ≡ Some p → replays p.role ≡ false → dma_moved x.devices p ≡ o → Agrees (do_dma x i o) (do_dma y i o)
+dma_both : (x y : SerialState) (i : ℕ) (p : Sphere) (o : Option Moved) → Agrees x y → slice_get x.spheres i ≡ Some p → slice_get y.spheres i ≡ Some p → replays p.role ≡ false → dma_moved x.devices p ≡ o → Agrees (do_dma x i o) (do_dma y i o)
 dma_both x y i p None a xi yi live is = a
 dma_both x y i p (Some v) a xi yi live is = moved_live x y i p v a xi yi (dma_stays x.devices p v live is).0
 
-raise_both : (x y : Whole) (i k value : ℕ) (p : Sphere) (o : Option Parts) → Agrees x y → slice_get x.spheres i ≡ Some p → slice_get y.spheres i ≡ Some p → replays p.role ≡ false → Agrees (do_raise x i k value p o) (do_raise y i k value p o)
+raise_both : (x y : SerialState) (i k value : ℕ) (p : Sphere) (o : Option Parts) → Agrees x y → slice_get x.spheres i ≡ Some p → slice_get y.spheres i ≡ Some p → replays p.role ≡ false → Agrees (do_raise x i k value p o) (do_raise y i k value p o)
 unfolding raised
 raise_both x y i k value p None a xi yi live = a
 raise_both x y i k value p (Some t) a xi yi live =
     agrees_set x y i p (raised k value t p) x.devices y.devices a xi yi (raised_stays k t.commits value p.role live) a.devices
 
 -- a move's point, of a sphere that both sides have
-live_what : (z : Numbers) (x y : Whole) (moment i : ℕ) (p : Sphere) (what : What) → Agrees x y → slice_get x.spheres i ≡ Some p → replays p.role ≡ false → Agrees (do_what z x moment i p what) (do_point y (point_for z moment i what))
+live_what : (z : Numbers) (x y : SerialState) (moment i : ℕ) (p : Sphere) (what : What) → Agrees x y → slice_get x.spheres i ≡ Some p → replays p.role ≡ false → Agrees (do_what z x moment i p what) (do_point y (point_for z moment i what))
 unfolding do_point
 live_what z x y moment i p (OfChunk k how n limit) a xi live =
     let yi = a.live i p xi live in
     let short = is_short z.chunk how limit in
-    subst (λ (u : Whole). Agrees (do_what z x moment i p (OfChunk k how n limit)) u)
+    subst (λ (u : SerialState). Agrees (do_what z x moment i p (OfChunk k how n limit)) u)
     (sym (ap (do_commit y moment i (Actor.Thread k) CommitKind.Chunk n short) yi ∙ in_living p.role y _ live))
     (chunk_both z x y i k how n limit p (slice_get p.threads k) a xi yi live)
 live_what z x y moment i p (OfSerial k) a xi live =
     let yi = a.live i p xi live in
-    subst (λ (u : Whole). Agrees (do_what z x moment i p (OfSerial k)) u)
+    subst (λ (u : SerialState). Agrees (do_what z x moment i p (OfSerial k)) u)
     (sym (ap (do_commit y moment i (Actor.Thread k) CommitKind.Serial 0 false) yi ∙ in_living p.role y _ live))
     (serial_both x y i k moment p (slice_get p.threads k) a xi yi live)
 live_what z x y moment i p OfDma a xi live =
     let yi = a.live i p xi live in
-    subst (λ (u : Whole). Agrees (do_what z x moment i p OfDma) u)
+    subst (λ (u : SerialState). Agrees (do_what z x moment i p OfDma) u)
     (sym (ap (do_commit y moment i Actor.Dma CommitKind.Dma 0 false) yi ∙ in_living p.role y _ live))
     (subst (λ (d : Devices). Agrees (do_dma x i (dma_moved x.devices p)) (do_dma y i (dma_moved d p))) a.devices
     (dma_both x y i p (dma_moved x.devices p) a xi yi live refl))
 live_what z x y moment i p (OfRaise k value) a xi live =
     let yi = a.live i p xi live in
-    subst (λ (u : Whole). Agrees (do_what z x moment i p (OfRaise k value)) u)
+    subst (λ (u : SerialState). Agrees (do_what z x moment i p (OfRaise k value)) u)
     (sym (ap (do_interrupt y i k value) yi ∙ in_living p.role y _ live))
     (raise_both x y i k value p (slice_get p.threads k) a xi yi live)
 
@@ -330,7 +330,7 @@ some_moved : (o : Option Moved) → IsSome o → (v : Moved) × (o ≡ Some v)
 some_moved None e = absurd (true≢false (sym e))
 some_moved (Some v) e = (v, refl)
 
-live_can : (z : Numbers) (x y : Whole) (moment i : ℕ) (p : Sphere) (what : What) → Agrees x y → slice_get x.spheres i ≡ Some p → replays p.role ≡ false → 0 < z.buffer → FitsWhat z x.devices p what → CanDo y (point_for z moment i what)
+live_can : (z : Numbers) (x y : SerialState) (moment i : ℕ) (p : Sphere) (what : What) → Agrees x y → slice_get x.spheres i ≡ Some p → replays p.role ≡ false → 0 < z.buffer → FitsWhat z x.devices p what → CanDo y (point_for z moment i what)
 live_can z x y moment i p (OfChunk k how n limit) a xi live buffer fits =
     subst (CanCommit y.devices (Actor.Thread k) CommitKind.Chunk n) (sym (a.live i p xi live)) (can_living p.role _ live (can_chunk z p k how n limit (slice_get p.threads k) buffer live fits))
 live_can z x y moment i p (OfSerial k) a xi live buffer fits =
@@ -343,15 +343,15 @@ live_can z x y moment i p (OfRaise k value) a xi live buffer fits =
 
 -- ---- one event
 
-abbrev do_if_point : Whole → Option Point → Whole
+abbrev do_if_point : SerialState → Option Point → SerialState
 do_if_point y None = y
 do_if_point y (Some pt) = do_point y pt
 
-abbrev CanIf : Whole → Option Point → Type 0
+abbrev CanIf : SerialState → Option Point → Type 0
 CanIf y None = Unit {0}
 CanIf y (Some pt) = CanDo y pt
 
-record Follows (x y : Whole) (z : Numbers) (move : Option Move) (point : Option Point) : Type 0 where
+record Follows (x y : SerialState) (z : Numbers) (move : Option Move) (point : Option Point) : Type 0 where
   agrees : Agrees (do_if z x move) (do_if_point y point)
   can : CanIf y point
 
@@ -359,27 +359,27 @@ fits_at : (z : Numbers) (devices : Devices) (m : Move) (o : Option Sphere) → F
 fits_at z devices m None f = absurd f
 fits_at z devices m (Some p) f = (p, refl, f)
 
-replay_follows : (z : Numbers) (x y : Whole) (m : Move) (p : Sphere) (o : Option Point) → Agrees x y → slice_get x.spheres m.sphere ≡ Some p → replays p.role ≡ true → FitsWhat z x.devices p m.what → IsOf m.sphere o → Follows x y z (Some m) o
+replay_follows : (z : Numbers) (x y : SerialState) (m : Move) (p : Sphere) (o : Option Point) → Agrees x y → slice_get x.spheres m.sphere ≡ Some p → replays p.role ≡ true → FitsWhat z x.devices p m.what → IsOf m.sphere o → Follows x y z (Some m) o
 unfolding do_move
 replay_follows z x y m p None a xi rep fits is =
     record {
-      agrees = subst (λ (u : Whole). Agrees u y) (sym (ap (do_at z x m) xi)) (replay_what z x y m.moment m.sphere p m.what a xi rep fits);
+      agrees = subst (λ (u : SerialState). Agrees u y) (sym (ap (do_at z x m) xi)) (replay_what z x y m.moment m.sphere p m.what a xi rep fits);
       can = tt;
     }
 replay_follows z x y m p (Some pt) a xi rep fits is =
     let c = a.replayed m.sphere p xi rep in
     let r = replay_point y pt c.0 (ap (slice_get y.spheres) is ∙ c.1) c.2 in
     record {
-      agrees = subst (λ (u : Whole). Agrees u (do_point y pt)) (sym (ap (do_at z x m) xi)) (subst (Agrees (do_what z x m.moment m.sphere p m.what)) (sym r.0) (replay_what z x y m.moment m.sphere p m.what a xi rep fits));
+      agrees = subst (λ (u : SerialState). Agrees u (do_point y pt)) (sym (ap (do_at z x m) xi)) (subst (Agrees (do_what z x m.moment m.sphere p m.what)) (sym r.0) (replay_what z x y m.moment m.sphere p m.what a xi rep fits));
       can = r.1;
     }
 
-live_follows : (z : Numbers) (x y : Whole) (m : Move) (p : Sphere) (o : Option Point) → Agrees x y → slice_get x.spheres m.sphere ≡ Some p → replays p.role ≡ false → 0 < z.buffer → FitsWhat z x.devices p m.what → o ≡ Some (point_for z m.moment m.sphere m.what) → Follows x y z (Some m) o
+live_follows : (z : Numbers) (x y : SerialState) (m : Move) (p : Sphere) (o : Option Point) → Agrees x y → slice_get x.spheres m.sphere ≡ Some p → replays p.role ≡ false → 0 < z.buffer → FitsWhat z x.devices p m.what → o ≡ Some (point_for z m.moment m.sphere m.what) → Follows x y z (Some m) o
 unfolding do_move
 live_follows z x y m p o a xi live buffer fits is =
     subst (Follows x y z (Some m)) (sym is)
     (record {
-      agrees = subst (λ (u : Whole). Agrees u (do_point y (point_for z m.moment m.sphere m.what))) (sym (ap (do_at z x m) xi)) (live_what z x y m.moment m.sphere p m.what a xi live);
+      agrees = subst (λ (u : SerialState). Agrees u (do_point y (point_for z m.moment m.sphere m.what))) (sym (ap (do_at z x m) xi)) (live_what z x y m.moment m.sphere p m.what a xi live);
       can = live_can z x y m.moment m.sphere p m.what a xi live buffer fits;
     })
 
@@ -399,7 +399,7 @@ shown_role w i p e =
 point_is : (w : World) (m : Move) (o : Option Point) (b : Bool) → PointIs w (Some m) o → replays (sphere_at w m.sphere).role ≡ b → PointOf w.numbers b m o
 point_is w m o b is e = subst (λ (c : Bool). PointOf w.numbers c m o) e is
 
-event_follows : (w : World) (y : Whole) (move : Option Move) (point : Option Point) → Agrees (shown_of w) y → 0 < w.numbers.buffer → FitsIf w.numbers (shown_of w) move → PointIs w move point → Follows (shown_of w) y w.numbers move point
+event_follows : (w : World) (y : SerialState) (move : Option Move) (point : Option Point) → Agrees (shown_of w) y → 0 < w.numbers.buffer → FitsIf w.numbers (shown_of w) move → PointIs w move point → Follows (shown_of w) y w.numbers move point
 event_follows w y None point a buffer fits is = subst (Follows (shown_of w) y w.numbers None) (sym is) (record { agrees = a; can = tt })
 event_follows w y (Some m) point a buffer fits is =
     let f = fits_at w.numbers w.devices m (slice_get (shown_of w).spheres m.sphere) fits in
@@ -410,24 +410,24 @@ event_follows w y (Some m) point a buffer fits is =
 
 -- ---- schedules
 
-do_points-append : (x : Whole) (ps : List Point) (p : Point) → do_points x (ps ++ p ∷ []) ≡ do_point (do_points x ps) p
+do_points-append : (x : SerialState) (ps : List Point) (p : Point) → do_points x (ps ++ p ∷ []) ≡ do_point (do_points x ps) p
 do_points-append x [] p = refl
 do_points-append x (q ∷ ps) p = do_points-append (do_point x q) ps p
 
-can_append : (x : Whole) (ps : List Point) (p : Point) → CanDoAll x ps → CanDo (do_points x ps) p → CanDoAll x (ps ++ p ∷ [])
+can_append : (x : SerialState) (ps : List Point) (p : Point) → CanDoAll x ps → CanDo (do_points x ps) p → CanDoAll x (ps ++ p ∷ [])
 can_append x [] p all one = (one, tt)
 can_append x (q ∷ ps) p all one = (all.0, can_append (do_point x q) ps p all.1 one)
 
-with_point_done : (x : Whole) (ps : List Point) (o : Option Point) → do_points x (with_point o ps) ≡ do_if_point (do_points x ps) o
+with_point_done : (x : SerialState) (ps : List Point) (o : Option Point) → do_points x (with_point o ps) ≡ do_if_point (do_points x ps) o
 with_point_done x ps None = refl
 with_point_done x ps (Some p) = do_points-append x ps p
 
-with_point_can : (x : Whole) (ps : List Point) (o : Option Point) → CanDoAll x ps → CanIf (do_points x ps) o → CanDoAll x (with_point o ps)
+with_point_can : (x : SerialState) (ps : List Point) (o : Option Point) → CanDoAll x ps → CanIf (do_points x ps) o → CanDoAll x (with_point o ps)
 with_point_can x ps None all one = all
 with_point_can x ps (Some p) all one = can_append x ps p all one
 
 -- the world shows what its points give
-pub record SerialSo (x : Whole) (w : World) : Type 0 where
+pub record SerialSo (x : SerialState) (w : World) : Type 0 where
   pub agrees : Agrees (shown_of w) (do_points x w.points)
   pub possible : CanDoAll x w.points
 
@@ -435,29 +435,29 @@ points_kept : (w : World) (e : Event) → (happens w e).world.points ≡ with_po
 unfolding happens
 points_kept w e = refl
 
-serial_so : (x : Whole) (w : World) (e : Event) → IsGood w → SerialSo x w → SerialSo x (happens w e).world
+serial_so : (x : SerialState) (w : World) (e : Event) → IsGood w → SerialSo x w → SerialSo x (happens w e).world
 serial_so x w e good s =
     let a = happens w e in
     let k = happens-kept w e good in
     let f = event_follows w (do_points x w.points) a.move a.point s.agrees good.buffer k.fits k.point in
     let points : a.world.points ≡ with_point a.point w.points = points_kept w e ∙ ap (with_point a.point) (act-untold w e).points in
     record {
-      agrees = subst (λ (u : Whole). Agrees u (do_points x a.world.points)) (sym k.whole)
+      agrees = subst (λ (u : SerialState). Agrees u (do_points x a.world.points)) (sym k.whole)
           (subst (Agrees (do_if w.numbers (shown_of w) a.move)) (sym (ap (do_points x) points ∙ with_point_done x w.points a.point)) f.agrees);
       possible = subst (CanDoAll x) (sym points) (with_point_can x w.points a.point s.possible f.can);
     }
 
-after_so : (x : Whole) (w : World) (es : List Event) → IsGood w → SerialSo x w → SerialSo x (world_after w es)
+after_so : (x : SerialState) (w : World) (es : List Event) → IsGood w → SerialSo x w → SerialSo x (world_after w es)
 after_so x w [] good s = s
 after_so x w (e ∷ es) good s = after_so x (happens w e).world es (happens-kept w e good).good (serial_so x w e good s)
 
 -- what a world shows after a schedule is what its points, done one at a time, give
-pub serial-after : (s : Setup) (es : List Event) → IsSetup s → SerialSo (whole_of s) (after s es)
+pub serial-after : (s : Setup) (es : List Event) → IsSetup s → SerialSo (serial_start s) (after s es)
 serial-after s es is =
-    let start : SerialSo (whole_of s) (world_of s) =
-    record { agrees = subst (λ (u : Whole). Agrees u (whole_of s)) (sym (start-shown s)) (agrees_itself (whole_of s)); possible = tt }
+    let start : SerialSo (serial_start s) (world_of s) =
+    record { agrees = subst (λ (u : SerialState). Agrees u (serial_start s)) (sym (start-shown s)) (agrees_itself (serial_start s)); possible = tt }
     in
-    after_so (whole_of s) (world_of s) es (start-good s is) start
+    after_so (serial_start s) (world_of s) es (start-good s is) start
 
 -- plain and recorded spheres and the devices are those of executing the points in their order
 pub commits_are : CommitsAreSerial

@@ -11,7 +11,7 @@ use Rattle.spec_protocol.specs.Commits.{Moved, is_piece, chunk_in, chunk_moved}
 use Rattle.spec_protocol.specs.World.{Numbers, World, OfChunk, Move, sphere_at}
 use Rattle.spec_protocol.specs.Asking.{is_short}
 use Rattle.spec_protocol.specs.Machine.{happens}
-use Rattle.spec_protocol.specs.Serial.{Whole, laid}
+use Rattle.spec_protocol.specs.Serial.{SerialState, laid}
 use Rattle.spec_protocol.specs.Shown.{shown, shown_of}
 use Rattle.spec_protocol.specs.Moves.{move_chunk, do_what, do_at, do_move, do_if, FitsChunk, FitsWhat, FitsAt, Fits, FitsIf}
 use Rattle.spec_protocol.specs.Promises.{after}
@@ -35,12 +35,12 @@ chunk_counts b k piece short r devices p role is =
     subst (λ (v : Moved). CountsNothing b p (laid v)) (sym (λ j. chunk_in (role j) k (is j) short r devices p)) (piece_counts b k r devices short p)
 
 -- the sphere that stands at i counts nothing
-record Stays (b : Cursor) (i : ℕ) (p : Sphere) (x : Whole) : Type 0 where
+record Stays (b : Cursor) (i : ℕ) (p : Sphere) (x : SerialState) : Type 0 where
   sphere : Sphere
   there : slice_get x.spheres i ≡ Some sphere
   counts : CountsNothing b p sphere
 
-chunk_stays : (z : Numbers) (x : Whole) (i : ℕ) (b : Cursor) (k : ℕ) (how : How) (n limit : ℕ) (p : Sphere) (o : Option Parts) → slice_get x.spheres i ≡ Some p → p.role ≡ Replay b → is_piece how ≡ true → FitsChunk z p k how n limit o → Stays b i p (move_chunk z x i k how n limit p o)
+chunk_stays : (z : Numbers) (x : SerialState) (i : ℕ) (b : Cursor) (k : ℕ) (how : How) (n limit : ℕ) (p : Sphere) (o : Option Parts) → slice_get x.spheres i ≡ Some p → p.role ≡ Replay b → is_piece how ≡ true → FitsChunk z p k how n limit o → Stays b i p (move_chunk z x i k how n limit p o)
 chunk_stays z x i b k how n limit p None there role piece fits = absurd fits
 chunk_stays z x i b k how n limit p (Some t) there role piece fits =
     let v : Moved = chunk_moved k (is_piece how) (is_short z.chunk how limit) (run p.memory t n) x.devices p in
@@ -50,7 +50,7 @@ chunk_stays z x i b k how n limit p (Some t) there role piece fits =
       counts = chunk_counts b k (is_piece how) (is_short z.chunk how limit) (run p.memory t n) x.devices p role piece;
     }
 
-move_stays : (z : Numbers) (x : Whole) (m : Move) (b : Cursor) (k : ℕ) (how : How) (n limit : ℕ) (p : Sphere) → slice_get x.spheres m.sphere ≡ Some p → p.role ≡ Replay b → m.what ≡ OfChunk k how n limit → is_piece how ≡ true → Fits z x m → Stays b m.sphere p (do_move z x m)
+move_stays : (z : Numbers) (x : SerialState) (m : Move) (b : Cursor) (k : ℕ) (how : How) (n limit : ℕ) (p : Sphere) → slice_get x.spheres m.sphere ≡ Some p → p.role ≡ Replay b → m.what ≡ OfChunk k how n limit → is_piece how ≡ true → Fits z x m → Stays b m.sphere p (do_move z x m)
 unfolding do_move
 move_stays z x m b k how n limit p there role what piece fits =
     let fit : FitsWhat z x.devices p m.what = subst (FitsAt z x.devices m) there fits in
@@ -75,6 +75,6 @@ pieces_count s es i b is role event m k how n limit is_move of_i what piece =
     let st : Stays b m.sphere p (do_move w.numbers (shown_of w) m) = move_stays w.numbers (shown_of w) m b k how n limit p (ap (slice_get (shown_of w).spheres) of_i ∙ before_) role what piece fits in
     let whole : shown_of v ≡ do_move w.numbers (shown_of w) m = kept.whole ∙ ap (do_if w.numbers (shown_of w)) is_move in
     let same : st.sphere ≡ q =
-    (let h : Some st.sphere ≡ Some q = sym st.there ∙ ap (λ (x : Whole). slice_get x.spheres m.sphere) (sym whole) ∙ ap (slice_get (shown_of v).spheres) of_i ∙ after_ in cc) in
+    (let h : Some st.sphere ≡ Some q = sym st.there ∙ ap (λ (x : SerialState). slice_get x.spheres m.sphere) (sym whole) ∙ ap (slice_get (shown_of v).spheres) of_i ∙ after_ in cc) in
     let c : CountsNothing b p q = subst (CountsNothing b p) same st.counts in
     record { cursor = c.cursor; role = c.role; turn = c.turn; progress = c.progress }

@@ -21,7 +21,7 @@ use Rattle.spec_protocol.specs.Asking.{is_short, other_turn}
 use Rattle.spec_protocol.specs.Transferring.{not_of_dma, turn_before_dma}
 use Rattle.spec_protocol.specs.Placing.{replays}
 use Rattle.spec_protocol.specs.Machine.{RoleSetup, IsPlain, IsRecorded, IsReplayed, SphereSetup, role_of, sphere_of, moves, world_of}
-use Rattle.spec_protocol.specs.Serial.{Whole, whole_of, laid, do_serial, do_dma, do_raise}
+use Rattle.spec_protocol.specs.Serial.{SerialState, serial_start, laid, do_serial, do_dma, do_raise}
 use Rattle.spec_protocol.specs.Shown.{shown, shown_of}
 use Rattle.spec_protocol.specs.Moves.{move_chunk, do_what, do_at, do_move, do_moves, FitsChunk, FitsSerial, FitsRaise, FitsWhat, FitsAt, Fits, FitsIf, FitAll}
 use Rattle.spec_protocol.specs.Promises.{after}
@@ -38,7 +38,7 @@ InTurn Plain = Unit {0}
 InTurn (Record log) = Unit {0}
 InTurn (Replay b) = is_over b.now ≡ false → 0 < b.total → (k : ℕ) × (b.now ≡ Turn k)
 
-abbrev AllInTurn : Whole → Type 0
+abbrev AllInTurn : SerialState → Type 0
 AllInTurn x = (i : ℕ) (p : Sphere) → slice_get x.spheres i ≡ Some p → InTurn p.role
 
 -- ---- what a move leaves
@@ -97,7 +97,7 @@ raise_turn k n value (Replay b) turn = turn
 
 -- ---- all moves
 
-turn_set : (x : Whole) (i : ℕ) (p q : Sphere) (devices : Devices) → AllInTurn x → slice_get x.spheres i ≡ Some p → InTurn q.role → AllInTurn (record { spheres = set x.spheres i q; devices = devices })
+turn_set : (x : SerialState) (i : ℕ) (p q : Sphere) (devices : Devices) → AllInTurn x → slice_get x.spheres i ≡ Some p → InTurn q.role → AllInTurn (record { spheres = set x.spheres i q; devices = devices })
 turn_set x i p q devices all is turn j r e =
     elim (cases_eq j i) [
       | inl ji ↦ (
@@ -107,38 +107,38 @@ turn_set x i p q devices all is turn j r e =
       | inr ne ↦ all j r (sym (get-set_other x.spheres i j q ne) ∙ e)
     ]
 
-chunk_keeps_turn : (z : Numbers) (x : Whole) (i k : ℕ) (how : How) (n limit : ℕ) (p : Sphere) (o : Option Parts) → AllInTurn x → slice_get x.spheres i ≡ Some p → FitsChunk z p k how n limit o → AllInTurn (move_chunk z x i k how n limit p o)
+chunk_keeps_turn : (z : Numbers) (x : SerialState) (i k : ℕ) (how : How) (n limit : ℕ) (p : Sphere) (o : Option Parts) → AllInTurn x → slice_get x.spheres i ≡ Some p → FitsChunk z p k how n limit o → AllInTurn (move_chunk z x i k how n limit p o)
 chunk_keeps_turn z x i k how n limit p None all is fits = all
 chunk_keeps_turn z x i k how n limit p (Some t) all is fits =
     let v : Moved = chunk_moved k (is_piece how) (is_short z.chunk how limit) (run p.memory t n) x.devices p in
     turn_set x i p (laid v) v.devices all is (chunk_turn z k how n limit t x.devices p fits.going fits.turn)
 
-serial_keeps_turn : (x : Whole) (i k moment : ℕ) (p : Sphere) (o : Option Parts) → AllInTurn x → slice_get x.spheres i ≡ Some p → AllInTurn (do_serial x i k moment p o)
+serial_keeps_turn : (x : SerialState) (i k moment : ℕ) (p : Sphere) (o : Option Parts) → AllInTurn x → slice_get x.spheres i ≡ Some p → AllInTurn (do_serial x i k moment p o)
 serial_keeps_turn x i k moment p None all is = all
 serial_keeps_turn x i k moment p (Some t) all is =
     let v : Moved = serial_moved k moment t x.devices p in
     turn_set x i p (laid v) v.devices all is (serial_turn k moment t x.devices p)
 
-dma_keeps_turn : (x : Whole) (i : ℕ) (p : Sphere) (o : Option Moved) → AllInTurn x → slice_get x.spheres i ≡ Some p → MovedInTurn o → AllInTurn (do_dma x i o)
+dma_keeps_turn : (x : SerialState) (i : ℕ) (p : Sphere) (o : Option Moved) → AllInTurn x → slice_get x.spheres i ≡ Some p → MovedInTurn o → AllInTurn (do_dma x i o)
 dma_keeps_turn x i p None all is turn = all
 dma_keeps_turn x i p (Some v) all is turn = turn_set x i p (laid v) v.devices all is turn
 
-raise_keeps_turn : (x : Whole) (i k value : ℕ) (p : Sphere) (o : Option Parts) → AllInTurn x → slice_get x.spheres i ≡ Some p → AllInTurn (do_raise x i k value p o)
+raise_keeps_turn : (x : SerialState) (i k value : ℕ) (p : Sphere) (o : Option Parts) → AllInTurn x → slice_get x.spheres i ≡ Some p → AllInTurn (do_raise x i k value p o)
 unfolding raised
 raise_keeps_turn x i k value p None all is = all
 raise_keeps_turn x i k value p (Some t) all is = turn_set x i p (raised k value t p) x.devices all is (raise_turn k t.commits value p.role (all i p is))
 
-what_keeps_turn : (z : Numbers) (x : Whole) (moment i : ℕ) (p : Sphere) (what : What) → AllInTurn x → slice_get x.spheres i ≡ Some p → FitsWhat z x.devices p what → AllInTurn (do_what z x moment i p what)
+what_keeps_turn : (z : Numbers) (x : SerialState) (moment i : ℕ) (p : Sphere) (what : What) → AllInTurn x → slice_get x.spheres i ≡ Some p → FitsWhat z x.devices p what → AllInTurn (do_what z x moment i p what)
 what_keeps_turn z x moment i p (OfChunk k how n limit) all is fits = chunk_keeps_turn z x i k how n limit p (slice_get p.threads k) all is fits
 what_keeps_turn z x moment i p (OfSerial k) all is fits = serial_keeps_turn x i k moment p (slice_get p.threads k) all is
 what_keeps_turn z x moment i p OfDma all is fits = dma_keeps_turn x i p (dma_moved x.devices p) all is (dma_turn x.devices p)
 what_keeps_turn z x moment i p (OfRaise k value) all is fits = raise_keeps_turn x i k value p (slice_get p.threads k) all is
 
-at_keeps_turn : (z : Numbers) (x : Whole) (m : Move) (o : Option Sphere) → AllInTurn x → slice_get x.spheres m.sphere ≡ o → FitsAt z x.devices m o → AllInTurn (do_at z x m o)
+at_keeps_turn : (z : Numbers) (x : SerialState) (m : Move) (o : Option Sphere) → AllInTurn x → slice_get x.spheres m.sphere ≡ o → FitsAt z x.devices m o → AllInTurn (do_at z x m o)
 at_keeps_turn z x m None all is fits = all
 at_keeps_turn z x m (Some p) all is fits = what_keeps_turn z x m.moment m.sphere p m.what all is fits
 
-moves_keep_turn : (z : Numbers) (x : Whole) (ms : List Move) → AllInTurn x → FitAll z x ms → AllInTurn (do_moves z x ms)
+moves_keep_turn : (z : Numbers) (x : SerialState) (ms : List Move) → AllInTurn x → FitAll z x ms → AllInTurn (do_moves z x ms)
 unfolding do_move
 moves_keep_turn z x [] all fits = all
 moves_keep_turn z x (m ∷ ms) all fits = moves_keep_turn z (do_move z x m) ms (at_keeps_turn z x m (slice_get x.spheres m.sphere) all refl fits.0) fits.1
@@ -224,8 +224,8 @@ pieces_stay s es i b is role going some =
     let p : Sphere = shown w.slots i (sphere_at w i) in
     let e : slice_get (shown_of w).spheres i ≡ Some p = shown-get w.slots i w.spheres (there-is w i (ap replays role)) in
     let m = moves_are s es is in
-    let all : AllInTurn (do_moves s.numbers (whole_of s) (moves (world_of s) es)) = moves_keep_turn s.numbers (whole_of s) (moves (world_of s) es) (start_turn s.numbers.chunk s.spheres) m.possible in
-    let k = subst InTurn role (all i p (ap (λ (x : Whole). slice_get x.spheres i) (sym m.same) ∙ e)) going some in (
+    let all : AllInTurn (do_moves s.numbers (serial_start s) (moves (world_of s) es)) = moves_keep_turn s.numbers (serial_start s) (moves (world_of s) es) (start_turn s.numbers.chunk s.spheres) m.possible in
+    let k = subst InTurn role (all i p (ap (λ (x : SerialState). slice_get x.spheres i) (sym m.same) ∙ e)) going some in (
       k.0,
       record {
         turn = k.1;

@@ -10,7 +10,7 @@ use Rattle.spec_protocol.specs.Spheres.{Cursor, Sphere}
 use Rattle.spec_protocol.specs.Commits.{turned}
 use Rattle.spec_protocol.specs.World.{Numbers, Move}
 use Rattle.spec_protocol.specs.Machine.{IsReplayed, SphereSetup, role_of, sphere_of, moves, world_of}
-use Rattle.spec_protocol.specs.Serial.{Whole, whole_of}
+use Rattle.spec_protocol.specs.Serial.{SerialState, serial_start}
 use Rattle.spec_protocol.specs.Moves.{do_what, do_at, do_move, do_moves, FitsAt, Fits, FitAll}
 use Rattle.spec_protocol.proofs.Moves.Elsewhere.{at-away}
 use Rattle.spec_protocol.proofs.Invariants.Schedules.{start-sphere, moves_are}
@@ -21,7 +21,7 @@ use Rattle.spec_replay.proofs.Replays.Moved.{Stands, what-stands}
 
 -- ---- moves
 
-move_stands : (log : LogParts) (start : Played) (z : Numbers) (x : Whole) (m : Move) (i : ℕ) → 0 < log.s → Stands log start x i → Fits z x m → Stands log start (do_move z x m) i
+move_stands : (log : LogParts) (start : Played) (z : Numbers) (x : SerialState) (m : Move) (i : ℕ) → 0 < log.s → Stands log start x i → Fits z x m → Stands log start (do_move z x m) i
 unfolding do_move
 move_stands log start z x m i s a fits =
     elim (cases_eq i m.sphere) [
@@ -34,7 +34,7 @@ move_stands log start z x m i s a fits =
       | inr ne ↦ record { sphere = a.sphere; there = at-away z x m i (slice_get x.spheres m.sphere) ne ∙ a.there; reaches = a.reaches }
     ]
 
-moves_stand : (log : LogParts) (start : Played) (z : Numbers) (x : Whole) (ms : List Move) (i : ℕ) → 0 < log.s → Stands log start x i → FitAll z x ms → Stands log start (do_moves z x ms) i
+moves_stand : (log : LogParts) (start : Played) (z : Numbers) (x : SerialState) (ms : List Move) (i : ℕ) → 0 < log.s → Stands log start x i → FitAll z x ms → Stands log start (do_moves z x ms) i
 moves_stand log start z x [] i s a fits = a
 moves_stand log start z x (m ∷ ms) i s a fits = moves_stand log start z (do_move z x m) ms i s (move_stands log start z x m i s a fits.0) fits.1
 
@@ -62,7 +62,7 @@ replays_follow image log s es i p r =
     let m = moves_are s es r.setup in
     let y0 : Played = opened log image.memory image.entry in
     let z : ℕ = s.numbers.chunk in
-    let first : Stands log y0 (whole_of s) i = record { sphere = sphere_of z image; there = start-sphere z s.spheres i image r.there; reaches = start_reaches log z image r.standard r.replays } in
-    let last : Stands log y0 (do_moves s.numbers (whole_of s) (moves (world_of s) es)) i = moves_stand log y0 s.numbers (whole_of s) (moves (world_of s) es) i r.standard first m.possible in
-    let same : last.sphere ≡ p = (let h : Some last.sphere ≡ Some p = sym last.there ∙ ap (λ (x : Whole). slice_get x.spheres i) (sym m.same) ∙ r.shown in cc) in
+    let first : Stands log y0 (serial_start s) i = record { sphere = sphere_of z image; there = start-sphere z s.spheres i image r.there; reaches = start_reaches log z image r.standard r.replays } in
+    let last : Stands log y0 (do_moves s.numbers (serial_start s) (moves (world_of s) es)) i = moves_stand log y0 s.numbers (serial_start s) (moves (world_of s) es) i r.standard first m.possible in
+    let same : last.sphere ≡ p = (let h : Some last.sphere ≡ Some p = sym last.there ∙ ap (λ (x : SerialState). slice_get x.spheres i) (sym m.same) ∙ r.shown in cc) in
     subst (Reaches log y0) same last.reaches

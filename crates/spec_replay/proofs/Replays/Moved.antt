@@ -20,7 +20,7 @@ use Rattle.spec_protocol.specs.Commits.{Moved, is_piece, replayed_chunk, by_verd
 use Rattle.spec_protocol.specs.World.{Numbers, What, OfChunk, OfSerial, OfDma, OfRaise}
 use Rattle.spec_protocol.specs.Asking.{is_short, other_turn}
 use Rattle.spec_protocol.specs.Transferring.{turn_before_dma}
-use Rattle.spec_protocol.specs.Serial.{Whole, laid, do_moved, do_serial, do_dma}
+use Rattle.spec_protocol.specs.Serial.{SerialState, laid, do_moved, do_serial, do_dma}
 use Rattle.spec_protocol.specs.Moves.{move_chunk, do_what, FitsChunk, SerialFits, FitsSerial, DmaFits, FitsWhat}
 use Rattle.spec_protocol.proofs.Moves.Granted.{get-set_same, turn-is}
 use Rattle.spec_protocol.proofs.Moves.Transfers.{dma-turn_is}
@@ -72,15 +72,15 @@ turn_of_dma p b role going free = dma-turn_is b.now (not_over p.role b role goin
 -- ---- moves
 
 -- the sphere i stands in the play
-pub record Stands (log : LogParts) (start : Played) (x : Whole) (i : ℕ) : Type 0 where
+pub record Stands (log : LogParts) (start : Played) (x : SerialState) (i : ℕ) : Type 0 where
   pub sphere : Sphere
   pub there : slice_get x.spheres i ≡ Some sphere
   pub reaches : Reaches log start sphere
 
-moved_stands : (log : LogParts) (start : Played) (x : Whole) (i : ℕ) (p : Sphere) (v : Moved) → slice_get x.spheres i ≡ Some p → Reaches log start (laid v) → Stands log start (do_moved x i v) i
+moved_stands : (log : LogParts) (start : Played) (x : SerialState) (i : ℕ) (p : Sphere) (v : Moved) → slice_get x.spheres i ≡ Some p → Reaches log start (laid v) → Stands log start (do_moved x i v) i
 moved_stands log start x i p v is r = record { sphere = laid v; there = get-set_same x.spheres i (laid v) p is; reaches = r }
 
-chunk_stands : (log : LogParts) (start : Played) (z : Numbers) (x : Whole) (i : ℕ) (p : Sphere) (k : ℕ) (how : How) (n limit : ℕ) (o : Option Parts) → 0 < log.s → slice_get x.spheres i ≡ Some p → Reaches log start p
+chunk_stands : (log : LogParts) (start : Played) (z : Numbers) (x : SerialState) (i : ℕ) (p : Sphere) (k : ℕ) (how : How) (n limit : ℕ) (o : Option Parts) → 0 < log.s → slice_get x.spheres i ≡ Some p → Reaches log start p
     → slice_get p.threads k ≡ o → FitsChunk z p k how n limit o → Stands log start (move_chunk z x i k how n limit p o) i
 unfolding chunk_moved
 chunk_stands log start z x i p k how n limit None s is f there fits = absurd fits
@@ -131,7 +131,7 @@ serial_reaches log start y p b k u devices at_ g there f =
       alike = rw vw (alike_same p.memory y.memory w same.0);
     }
 
-serial_stands : (log : LogParts) (start : Played) (x : Whole) (i moment : ℕ) (p : Sphere) (k : ℕ) (o : Option Parts) → 0 < log.s → slice_get x.spheres i ≡ Some p → Reaches log start p
+serial_stands : (log : LogParts) (start : Played) (x : SerialState) (i moment : ℕ) (p : Sphere) (k : ℕ) (o : Option Parts) → 0 < log.s → slice_get x.spheres i ≡ Some p → Reaches log start p
     → slice_get p.threads k ≡ o → FitsSerial p k o → Stands log start (do_serial x i k moment p o) i
 unfolding serial_moved
 serial_stands log start x i moment p k None s is f there fits = absurd fits
@@ -146,7 +146,7 @@ serial_stands log start x i moment p k (Some u) s is f there fits =
 
 -- ---- a DMA
 
-dma_stands : (log : LogParts) (start : Played) (x : Whole) (i : ℕ) (p : Sphere) → 0 < log.s → slice_get x.spheres i ≡ Some p → Reaches log start p → DmaFits x.devices p → Stands log start (do_dma x i (dma_moved x.devices p)) i
+dma_stands : (log : LogParts) (start : Played) (x : SerialState) (i : ℕ) (p : Sphere) → 0 < log.s → slice_get x.spheres i ≡ Some p → Reaches log start p → DmaFits x.devices p → Stands log start (do_dma x i (dma_moved x.devices p)) i
 unfolding dma_moved
 dma_stands log start x i p s is f fits =
     let y : Played = plays log start (position p.progress) in
@@ -162,7 +162,7 @@ dma_stands log start x i p s is f fits =
 -- ---- any move
 
 -- a move of a replayed sphere leaves it in its log's play
-pub what-stands : (log : LogParts) (start : Played) (z : Numbers) (x : Whole) (moment i : ℕ) (p : Sphere) (what : What) → 0 < log.s → slice_get x.spheres i ≡ Some p → Reaches log start p → FitsWhat z x.devices p what → Stands log start (do_what z x moment i p what) i
+pub what-stands : (log : LogParts) (start : Played) (z : Numbers) (x : SerialState) (moment i : ℕ) (p : Sphere) (what : What) → 0 < log.s → slice_get x.spheres i ≡ Some p → Reaches log start p → FitsWhat z x.devices p what → Stands log start (do_what z x moment i p what) i
 what-stands log start z x moment i p (OfChunk k how n limit) s is f fits = chunk_stands log start z x i p k how n limit (slice_get p.threads k) s is f refl fits
 what-stands log start z x moment i p (OfSerial k) s is f fits = serial_stands log start x i moment p k (slice_get p.threads k) s is f refl fits
 what-stands log start z x moment i p OfDma s is f fits = dma_stands log start x i p s is f fits
