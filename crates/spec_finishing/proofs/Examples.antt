@@ -33,7 +33,7 @@ use Rattle.spec_protocol.specs.Stepping.{stepping, cutting}
 use Rattle.spec_protocol.specs.Transferring.{transfer, transferring}
 use Rattle.spec_play.proofs.Programs.{image}
 use Rattle.spec_finishing.specs.Work.{commit_work, plays_work}
-use Rattle.spec_finishing.specs.Rest.{replay_left, price, under_way, rest}
+use Rattle.spec_finishing.specs.Rank.{replay_left, price, under_way, rank}
 
 -- ---- scenes
 
@@ -78,12 +78,12 @@ exits_events =
 pub record AreFinished : Type 0 where
   -- of a log without commits nothing is left
   pub empty_next : next (world_of (replay exits empty_log)) ≡ None
-  pub empty_rest : rest (replay exits empty_log) (world_of (replay exits empty_log)) ≡ 0
+  pub empty_rank : rank (replay exits empty_log) (world_of (replay exits empty_log)) ≡ 0
   -- two instructions and two commits
   pub exits_work : plays_work (replay exits two_log).spheres ≡ 4
   pub exits_finish : Finishes (world_of (replay exits two_log)) exits_events
   -- seven for each, less one for the thread that is on a core
-  pub exits_rest : rest (replay exits two_log) (world_of (replay exits two_log)) ≡ 27
+  pub exits_rank : rank (replay exits two_log) (world_of (replay exits two_log)) ≡ 27
   -- five instructions and two commits
   pub reserves_work : plays_work (replay reserves two_log).spheres ≡ 7
 
@@ -92,9 +92,9 @@ unfolding serial_of loads_of next_of load_of store_of one lay read merged answer
 replays_finish =
     record {
       empty_next = refl;
-      empty_rest = refl;
+      empty_rank = refl;
       exits_work = refl;
       exits_finish = (refl, (refl, (refl, (refl, (refl, (refl, refl))))));
-      exits_rest = refl;
+      exits_rank = refl;
       reserves_work = refl;
     }

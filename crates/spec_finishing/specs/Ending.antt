@@ -12,7 +12,7 @@ use Rattle.spec_protocol.specs.Serial.{serial_start}
 use Rattle.spec_protocol.specs.Finishing.{Finishes}
 use Rattle.spec_protocol.specs.Promises.{IsSetup, after}
 use Rattle.spec_finishing.specs.Work.{plays_work, moves_work}
-use Rattle.spec_finishing.specs.Rest.{potential, under_way, rest}
+use Rattle.spec_finishing.specs.Rank.{potential, under_way, rank}
 
 -- the work of a run: of the plays of its replayed spheres, and of what its schedule did in the others
 abbrev pub work : Setup → List Event → ℕ
@@ -40,7 +40,7 @@ Falls s w (e ∷ es) =
     let a = happens w e in
     (under_way w ≤ potential s w)
     × (is_done a.reply ≡ true)
-    × (rest s a.world < rest s w)
+    × (rank s a.world < rank s w)
     × Falls s a.world es
 
 -- what took effect, if anything did, was of a replayed sphere
@@ -71,7 +71,7 @@ pub record Ends (s : Setup) (es finishing : List Event) : Type 0 where
   pub falls : Falls s (after s es) finishing
   pub alone : OfReplays (after s es) finishing
   -- for each unit of the run's work there are as many events at most as there are cores, and six
-  pub first : rest s (after s es) ≤ (s.cores + 6) * work s es
+  pub first : rank s (after s es) ≤ (s.cores + 6) * work s es
   pub few : length finishing ≤ (s.cores + 6) * work s es
   pub finished : IsFinished (world_after (after s es) finishing)
 

@@ -1,5 +1,5 @@
 pub mod Work
-pub mod Rest
+pub mod Rank
 pub mod Ending
 pub mod Finished
 pub mod Function

@@ -8,7 +8,7 @@ use Rattle.spec_protocol.specs.Finishing.{next, Finishes}
 use Rattle.spec_protocol.specs.Promises.{after}
 use Rattle.spec_replay.specs.Promises.{ReplaysArePlays}
 use Rattle.spec_replay.proofs.Replays.All.{replays_follow}
-use Rattle.spec_finishing.specs.Rest.{rest}
+use Rattle.spec_finishing.specs.Rank.{rank}
 use Rattle.spec_finishing.specs.Ending.{Falls, OfReplays, IsFinished, CanFinish, FinishingEnds}
 use Rattle.spec_finishing.proofs.Ending.Knowing.{Known, known-after, after-event}
 use Rattle.spec_finishing.proofs.Ending.Bounding.{potential-bounded}
@@ -24,14 +24,14 @@ finishing_one w (x ∷ es) [] e f = absurd (none-some x (sym f ∙ e.0))
 finishing_one w (x ∷ es) (y ∷ fs) e f =
     let h : Some x ≡ Some y = sym e.0 ∙ f.0 in
     let same : x ≡ y = cc in
-    let rest_ = finishing_one (happens w x).world es fs e.1 (subst (λ (z : Event). Finishes (happens w z).world fs) (sym same) f.1) in
-    (λ i. same i ∷ rest_ i)
+    let rest = finishing_one (happens w x).world es fs e.1 (subst (λ (z : Event). Finishes (happens w z).world fs) (sym same) f.1) in
+    (λ i. same i ∷ rest i)
 
 -- events that finish a world, no more than what is left there
 record Finishing (s : Setup) (w : World) : Type 0 where
   events : List Event
   finishes : Finishes w events
-  few : length events ≤ rest s w
+  few : length events ≤ rank s w
   falls : Falls s w events
   alone : OfReplays w events
   finished : IsFinished (world_after w events)
@@ -60,24 +60,24 @@ one_more s w e known is falls f =
       finished = f.finished;
     }
 
-finishing_by : (s : Setup) (w : World) (o : Option Event) → Goes s w → next w ≡ o → ((e : Event) → rest s (happens w e).world < rest s w → Finishing s (happens w e).world) → Finishing s w
+finishing_by : (s : Setup) (w : World) (o : Option Event) → Goes s w → next w ≡ o → ((e : Event) → rank s (happens w e).world < rank s w → Finishing s (happens w e).world) → Finishing s w
 finishing_by s w None g none deeper = ended s w g.known none
 finishing_by s w (Some e) g is deeper =
     let falls = next-falls s w e g is in one_more s w e g.known is falls (deeper e falls.less)
 
-finishing : ReplaysArePlays → (s : Setup) → CanFinish s → (n : ℕ) (es : List Event) → rest s (after s es) ≤ n → Finishing s (after s es)
+finishing : ReplaysArePlays → (s : Setup) → CanFinish s → (n : ℕ) (es : List Event) → rank s (after s es) ≤ n → Finishing s (after s es)
 finishing plays s can zero es few =
     finishing_by s (after s es) (next (after s es)) (goes_after plays s es can) refl (λ e less. absurd (omega (arith, less, few)))
 finishing plays s can (suc n) es few =
     finishing_by s (after s es) (next (after s es)) (goes_after plays s es can) refl
     (λ e less.
     let same = after-event (world_of s) es e in
-    subst (Finishing s) same (finishing plays s can n (es ++ e ∷ []) (let h = ap (rest s) same in omega (arith, h, less, few))))
+    subst (Finishing s) same (finishing plays s can n (es ++ e ∷ []) (let h = ap (rank s) same in omega (arith, h, less, few))))
 
 -- after every schedule one list of events finishes, and no other; it is within the bound, and each of them is done
 pub finishing_all : FinishingEnds
 finishing_all s es can =
-    let f = finishing replays_follow s can (rest s (after s es)) es (omega arith) in
+    let f = finishing replays_follow s can (rank s (after s es)) es (omega arith) in
     let bound = potential-bounded replays_follow s es can in (
       f.events,
       record {

@@ -14,7 +14,7 @@ use Rattle.spec_protocol.specs.Promises.{after}
 use Rattle.spec_protocol.proofs.Invariants.Schedules.{happens-kept, start-shown}
 use Rattle.spec_replay.specs.Promises.{ReplaysArePlays}
 use Rattle.spec_finishing.specs.Work.{commits_work, setup_work, plays_work, moves_work}
-use Rattle.spec_finishing.specs.Rest.{play_left, replay_left, price, role_rest, flights_rest, spheres_rest, potential}
+use Rattle.spec_finishing.specs.Rank.{play_left, replay_left, price, role_rank, flights_rank, spheres_rank, potential}
 use Rattle.spec_finishing.specs.Ending.{work, CanFinish}
 use Rattle.spec_finishing.proofs.Left.Pricing.{price-none, price-sum, price-least}
 use Rattle.spec_finishing.proofs.Paying.Plays.{left-most}
@@ -23,11 +23,11 @@ use Rattle.spec_finishing.proofs.Left.Spending.{if_work, happens-spends}
 
 -- ---- the start
 
-free_none : (c n : ℕ) → flights_rest c (replicate n None) ≡ 0
+free_none : (c n : ℕ) → flights_rank c (replicate n None) ≡ 0
 free_none c zero = refl
 free_none c (suc n) = let r = free_none c n in omega (arith, r)
 
-start_role : (c s : ℕ) (image : SphereSetup) (r : RoleSetup) → role_rest c image (sphere_of s image) (role_of s (started image.entry ∷ []) r) ≤ price c (setup_work image r)
+start_role : (c s : ℕ) (image : SphereSetup) (r : RoleSetup) → role_rank c image (sphere_of s image) (role_of s (started image.entry ∷ []) r) ≤ price c (setup_work image r)
 start_role c s image IsPlain = omega arith
 start_role c s image (IsRecorded mode) = omega arith
 start_role c s image (IsReplayed log) =
@@ -37,7 +37,7 @@ start_role c s image (IsReplayed log) =
     let e : play_left log x 0 0 ≡ commits_work log x 0 log.count - 0 = ap (λ (n : ℕ). commits_work log x 0 n - 0) none in
     price-least c (replay_left image (turned log no_progress nothing_used (started image.entry ∷ [])) 0) (commits_work log x 0 log.count) (omega (arith, l, e))
 
-start_spheres : (c s : ℕ) (images : List SphereSetup) → spheres_rest c images (map (sphere_of s) images) ≤ price c (plays_work images)
+start_spheres : (c s : ℕ) (images : List SphereSetup) → spheres_rank c images (map (sphere_of s) images) ≤ price c (plays_work images)
 start_spheres c s [] = let e = price-none c in omega (arith, e)
 start_spheres c s (image ∷ images) =
     let h = start_role c s image image.role in

@@ -37,7 +37,7 @@ use Rattle.spec_protocol.proofs.Sound.Limits.{limit-most}
 use Rattle.spec_protocol.proofs.Sound.Schedules.{setup-within, worlds_sound}
 use Rattle.spec_replay.proofs.Replays.All.{replays_follow}
 use Rattle.spec_finishing.specs.Work.{setup_work, plays_work, serial_work, dma_work, what_work, role_work, sphere_work, moves_work}
-use Rattle.spec_finishing.specs.Rest.{price}
+use Rattle.spec_finishing.specs.Rank.{price}
 use Rattle.spec_finishing.specs.Ending.{work}
 use Rattle.spec_finishing.specs.Function.{RunsAreShort, SetupsCanFinish}
 use Rattle.spec_finishing.proofs.Left.Pricing.{price-least}

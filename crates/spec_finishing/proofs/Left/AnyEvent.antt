@@ -15,7 +15,7 @@ use Rattle.spec_protocol.specs.Stepping.{stepped, step_held, stepping, cut_to, c
 use Rattle.spec_protocol.specs.Flying.{draining, delivering, retiring}
 use Rattle.spec_protocol.specs.Placing.{replays, unless_elsewhere, place_thread, placing, with_renewed, raise_in, raise_thread, raising}
 use Rattle.spec_protocol.proofs.Invariants.Cores.{branch}
-use Rattle.spec_finishing.specs.Rest.{flights_rest}
+use Rattle.spec_finishing.specs.Rank.{flights_rank}
 use Rattle.spec_finishing.proofs.Left.Flying.{drain-most, deliver-most, retire-most}
 use Rattle.spec_finishing.proofs.Paying.Moves.{move_most}
 
@@ -26,7 +26,7 @@ if_most c x (Some m) = move_most c x m
 
 -- the flights may have more left than before, by the flight of the move
 abbrev pub Flies : (c : ℕ) → World → After → Type 0
-Flies c w a = flights_rest c a.world.slots ≤ flights_rest c w.slots + if_most c (shown_of w) a.move
+Flies c w a = flights_rank c a.world.slots ≤ flights_rank c w.slots + if_most c (shown_of w) a.move
 
 -- an event that only answers leaves the flights as they are
 pub still_flies : (c : ℕ) (w : World) (r : Reply) → Flies c w (answered w r)
@@ -62,7 +62,7 @@ cut-flies c w d = cut_held_flies c w d (at w.cores d)
 
 -- ---- flights
 
-flies_from : (c : ℕ) (w : World) (a : After) → flights_rest c a.world.slots ≤ flights_rest c w.slots → Flies c w a
+flies_from : (c : ℕ) (w : World) (a : After) → flights_rank c a.world.slots ≤ flights_rank c w.slots → Flies c w a
 flies_from c w a l = omega (arith, l)
 
 -- a drain adds nothing to what is left of the flights
@@ -102,7 +102,7 @@ renewed_slots v i k (Some c) = refl
 
 raise_in_flies : (c : ℕ) (w : World) (i k value : ℕ) (t : Parts) → Flies c w (raise_in w i k value t)
 raise_in_flies c w i k value t =
-    let e = ap (flights_rest c) (renewed_slots (with_sphere w i (raised k value t (sphere_at w i))) i k (core_of w i k)) in omega (arith, e)
+    let e = ap (flights_rank c) (renewed_slots (with_sphere w i (raised k value t (sphere_at w i))) i k (core_of w i k)) in omega (arith, e)
 
 raise_thread_flies : (c : ℕ) (w : World) (i k value : ℕ) (o : Option Parts) → Flies c w (raise_thread w i k value o)
 raise_thread_flies c w i k value None = still_flies c w Reply.NoThread

@@ -9,23 +9,23 @@ use Rattle.spec_protocol.specs.World.{World, Held, After, sphere_at, with_slot}
 use Rattle.spec_protocol.specs.Flying.{drain_slot, draining, reads_of, writes_of, told, deliver_to, delivering, retiring}
 use Rattle.spec_protocol.proofs.Memory.Slots.{at_within}
 use Rattle.spec_protocol.proofs.Invariants.Cores.{branch}
-use Rattle.spec_finishing.specs.Rest.{flight_rest, flights_rest}
+use Rattle.spec_finishing.specs.Rank.{flight_rank, flights_rank}
 use Rattle.spec_finishing.proofs.Left.Slots.{flights-set, untold-less}
 
 -- ---- no more
 
 -- the flights have no more left than before
 abbrev pub NoMore : (cores : ℕ) → World → After → Type 0
-NoMore c w a = flights_rest c a.world.slots ≤ flights_rest c w.slots
+NoMore c w a = flights_rank c a.world.slots ≤ flights_rank c w.slots
 
 -- a slot that holds a flight has no more left
-set_most : (c : ℕ) (xs : List (Option Flight)) (k : ℕ) (f : Flight) (v : Option Flight) → at xs k ≡ Some f → flight_rest c v ≤ flight_rest c (Some f) → flights_rest c (set xs k v) ≤ flights_rest c xs
+set_most : (c : ℕ) (xs : List (Option Flight)) (k : ℕ) (f : Flight) (v : Option Flight) → at xs k ≡ Some f → flight_rank c v ≤ flight_rank c (Some f) → flights_rank c (set xs k v) ≤ flights_rank c xs
 set_most c xs k f v is less =
     let r = flights-set c xs k v (at_within xs k f is) in
-    let h = ap (flight_rest c) is in
+    let h = ap (flight_rank c) is in
     omega (arith, r, h, less)
 
-drained_most : (c : ℕ) (m : List ℕ) (f : Flight) (ws : List Stored) → f.words ≡ ws → flight_rest c (drain_words m f ws).slot ≤ flight_rest c (Some f)
+drained_most : (c : ℕ) (m : List ℕ) (f : Flight) (ws : List Stored) → f.words ≡ ws → flight_rank c (drain_words m f ws).slot ≤ flight_rank c (Some f)
 drained_most c m f [] e = omega arith
 drained_most c m f (w ∷ ws) e = let h = ap (λ (us : List Stored). length us) e in omega (arith, h)
 
@@ -39,7 +39,7 @@ pub drain-most : (c : ℕ) (w : World) (k : ℕ) → NoMore c w (draining w k)
 unfolding draining
 drain-most c w k = drain_slot_most c w k (at w.slots k) refl
 
-set_none : (c : ℕ) (xs : List (Option Flight)) (k : ℕ) → at xs k ≡ None → flights_rest c (set xs k None) ≤ flights_rest c xs
+set_none : (c : ℕ) (xs : List (Option Flight)) (k : ℕ) → at xs k ≡ None → flights_rank c (set xs k None) ≤ flights_rank c xs
 set_none c [] k e = omega arith
 set_none c (x ∷ xs) zero e = omega arith
 set_none c (x ∷ xs) (suc k) e = let r = set_none c xs k e in omega (arith, r)
@@ -51,11 +51,11 @@ told_world P w d held Deliver.Already p = p
 told_world P w d held Deliver.Squashed p = p
 told_world P w d held Deliver.Delivered p = p
 
-deliver_most : (c d : ℕ) (reads writes : Marks) (xs : List (Option Flight)) (k : ℕ) (o : Option Flight) → at xs k ≡ o → flights_rest c (set xs k (deliver d reads writes o).slot) ≤ flights_rest c xs
+deliver_most : (c d : ℕ) (reads writes : Marks) (xs : List (Option Flight)) (k : ℕ) (o : Option Flight) → at xs k ≡ o → flights_rank c (set xs k (deliver d reads writes o).slot) ≤ flights_rank c xs
 deliver_most c d reads writes xs k None e = set_none c xs k e
 deliver_most c d reads writes xs k (Some f) e =
     set_most c xs k f _ e
-    (branch (λ (v : Delivered). flight_rest c v.slot ≤ flight_rest c (Some f)) (told_at f.told d) (record { reply = Deliver.Already; slot = Some f })
+    (branch (λ (v : Delivered). flight_rank c v.slot ≤ flight_rank c (Some f)) (told_at f.told d) (record { reply = Deliver.Already; slot = Some f })
     (record { reply = cond (meets_chunk reads writes f) Deliver.Squashed Deliver.Delivered; slot = Some (tell f d) })
     (λ _. omega arith)
     (λ _. let h = untold-less c f d in omega (arith, h)))
@@ -63,7 +63,7 @@ deliver_most c d reads writes xs k (Some f) e =
 deliver_to_most : (c : ℕ) (w : World) (d k : ℕ) (held : Option Held) → NoMore c w (deliver_to w d k held)
 deliver_to_most c w d k held =
     let v = deliver d (reads_of w held) (writes_of w held) (at w.slots k) in
-    told_world (λ xs. flights_rest c xs ≤ flights_rest c w.slots) (with_slot w k v.slot) d held v.reply
+    told_world (λ xs. flights_rank c xs ≤ flights_rank c w.slots) (with_slot w k v.slot) d held v.reply
     (deliver_most c d (reads_of w held) (writes_of w held) w.slots k (at w.slots k) refl)
 
 -- a delivery leaves the flights no more than they had
@@ -71,11 +71,11 @@ pub deliver-most : (c : ℕ) (w : World) (d k : ℕ) → NoMore c w (delivering 
 unfolding delivering
 deliver-most c w d k = deliver_to_most c w d k (at w.cores d)
 
-retire_set : (c n : ℕ) (xs : List (Option Flight)) (k : ℕ) (o : Option Flight) → at xs k ≡ o → flights_rest c (set xs k (retire n o).slot) ≤ flights_rest c xs
+retire_set : (c n : ℕ) (xs : List (Option Flight)) (k : ℕ) (o : Option Flight) → at xs k ≡ o → flights_rank c (set xs k (retire n o).slot) ≤ flights_rank c xs
 retire_set c n xs k None e = set_none c xs k e
 retire_set c n xs k (Some f) e =
     set_most c xs k f _ e
-    (branch (λ (v : Retired). flight_rest c v.slot ≤ flight_rest c (Some f)) (is_done n f) (record { reply = Retire.Retired; slot = None }) (record { reply = Retire.NotDone; slot = Some f })
+    (branch (λ (v : Retired). flight_rank c v.slot ≤ flight_rank c (Some f)) (is_done n f) (record { reply = Retire.Retired; slot = None }) (record { reply = Retire.NotDone; slot = Some f })
     (λ _. omega arith)
     (λ _. omega arith))
 

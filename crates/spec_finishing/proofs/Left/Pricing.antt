@@ -1,7 +1,7 @@
 -- The price of work: none costs nothing, one unit as many events as there are cores and six, and two works what both do.
 use Rattle.std.proofs.Common.{◌≡◌, ℕ, zero, suc, ◌+◌, ◌*◌, ◌≤◌, inl, inr, ap, arith}
 use Rattle.std.proofs.lemmas.Bool.{cases_lt}
-use Rattle.spec_finishing.specs.Rest.{price}
+use Rattle.spec_finishing.specs.Rank.{price}
 
 -- no work costs nothing
 pub price-none : (c : ℕ) → price c 0 ≡ 0

@@ -6,20 +6,20 @@ use Rattle.spec_engine.specs.Signatures.{Marks}
 use Rattle.spec_engine.specs.Flights.{Flight, at, told_at, tell, free_slot, fill_at}
 use Rattle.spec_engine.proofs.Searches.{told-tell, told-tell_other, free_slot-within, free_slot-free}
 use Rattle.spec_protocol.specs.World.{flown}
-use Rattle.spec_finishing.specs.Rest.{untold_cores, flight_rest, flights_rest}
+use Rattle.spec_finishing.specs.Rank.{untold_cores, flight_rank, flights_rank}
 
 -- ---- a slot
 
 -- a change of slot k changes what is left of the flights by what it has left
-pub flights-set : (c : ℕ) (xs : List (Option Flight)) (k : ℕ) (v : Option Flight) → k < length xs → flights_rest c (set xs k v) + flight_rest c (at xs k) ≡ flights_rest c xs + flight_rest c v
+pub flights-set : (c : ℕ) (xs : List (Option Flight)) (k : ℕ) (v : Option Flight) → k < length xs → flights_rank c (set xs k v) + flight_rank c (at xs k) ≡ flights_rank c xs + flight_rank c v
 flights-set c [] k v l = absurd (omega arith)
 flights-set c (x ∷ xs) zero v l = omega arith
 flights-set c (x ∷ xs) (suc k) v l = let r = flights-set c xs k v (omega arith) in omega (arith, r)
 
-pub flights-none : (c : ℕ) (xs : List (Option Flight)) → ((k : ℕ) → at xs k ≡ None) → flights_rest c xs ≡ 0
+pub flights-none : (c : ℕ) (xs : List (Option Flight)) → ((k : ℕ) → at xs k ≡ None) → flights_rank c xs ≡ 0
 flights-none c [] none = refl
 flights-none c (x ∷ xs) none =
-    let h = ap (flight_rest c) (none 0) in let r = flights-none c xs (λ k. none (suc k)) in omega (arith, h, r)
+    let h = ap (flight_rank c) (none 0) in let r = flights-none c xs (λ k. none (suc k)) in omega (arith, h, r)
 
 -- ---- the cores told
 
@@ -80,15 +80,15 @@ untold-less (suc n) f c =
 
 -- ---- a new flight
 
-filled_most : (c : ℕ) (f : Flight) (xs : List (Option Flight)) (o : Option ℕ) → free_slot xs ≡ o → flights_rest c (fill_at o f xs) ≤ flights_rest c xs + flight_rest c (Some f)
+filled_most : (c : ℕ) (f : Flight) (xs : List (Option Flight)) (o : Option ℕ) → free_slot xs ≡ o → flights_rank c (fill_at o f xs) ≤ flights_rank c xs + flight_rank c (Some f)
 filled_most c f xs None e = omega arith
 filled_most c f xs (Some k) e =
     let r = flights-set c xs k (Some f) (free_slot-within xs k e) in
-    let h = ap (flight_rest c) (free_slot-free xs k e) in
+    let h = ap (flight_rank c) (free_slot-free xs k e) in
     omega (arith, r, h)
 
 -- a new flight adds at most its words, a delivery to each core and a retiring
-pub flown-most : (c i : ℕ) (ws : List Stored) (writes : Marks) (t : ℕ) (xs : List (Option Flight)) → flights_rest c (flown i ws writes t xs) ≤ flights_rest c xs + (length ws + c + 1)
+pub flown-most : (c i : ℕ) (ws : List Stored) (writes : Marks) (t : ℕ) (xs : List (Option Flight)) → flights_rank c (flown i ws writes t xs) ≤ flights_rank c xs + (length ws + c + 1)
 flown-most c i [] writes t xs = omega arith
 flown-most c i (w ∷ ws) writes t xs =
     let f : Flight = record { sphere = i; words = w ∷ ws; writes = writes; told = t } in

@@ -13,7 +13,7 @@ use Rattle.spec_protocol.specs.Invariants.{IsGood}
 use Rattle.spec_protocol.proofs.Invariants.Kept.{Kept}
 use Rattle.spec_protocol.proofs.Invariants.Schedules.{happens-kept}
 use Rattle.spec_finishing.specs.Work.{move_work}
-use Rattle.spec_finishing.specs.Rest.{spheres_rest, price, potential}
+use Rattle.spec_finishing.specs.Rank.{spheres_rank, price, potential}
 use Rattle.spec_finishing.proofs.Left.Rows.{spheres-shown}
 use Rattle.spec_finishing.proofs.Paying.Moves.{what_more}
 use Rattle.spec_finishing.proofs.Paying.Standing.{Stands, move-pays, move-pays_more}
@@ -47,13 +47,13 @@ if_work x None = 0
 if_work x (Some m) = move_work x m
 
 if_pays : (s : Setup) (z : Numbers) (x : SerialState) (o : Option Move) → 0 < z.buffer → Stands s x → FitsIf z x o
-    → spheres_rest s.cores s.spheres (do_if z x o).spheres + if_most s.cores x o ≤ spheres_rest s.cores s.spheres x.spheres + price s.cores (if_work x o)
+    → spheres_rank s.cores s.spheres (do_if z x o).spheres + if_most s.cores x o ≤ spheres_rank s.cores s.spheres x.spheres + price s.cores (if_work x o)
 if_pays s z x None positive stands fits = omega arith
 if_pays s z x (Some m) positive stands fits = move-pays s.cores s z x m positive stands fits
 
 -- what is left of the spheres is that of what is shown of them
-shown_rest : (s : Setup) (w : World) → spheres_rest s.cores s.spheres (shown_of w).spheres ≡ spheres_rest s.cores s.spheres w.spheres
-shown_rest s w = spheres-shown s.cores s.spheres w.slots 0 w.spheres
+shown_rank : (s : Setup) (w : World) → spheres_rank s.cores s.spheres (shown_of w).spheres ≡ spheres_rank s.cores s.spheres w.spheres
+shown_rank s w = spheres-shown s.cores s.spheres w.slots 0 w.spheres
 
 -- an event makes no more of what is left than the price of its move's work
 pub happens-spends : (s : Setup) (w : World) (e : Event) → Known s w → potential s (happens w e).world ≤ potential s w + price s.cores (if_work (shown_of w) (happens w e).move)
@@ -62,9 +62,9 @@ happens-spends s w e known =
     let kept = happens-kept w e known.good in
     let flies = happens-flies s.cores w e known.good in
     let pays = if_pays s w.numbers (shown_of w) a.move known.good.buffer known.stands kept.fits in
-    let now = shown_rest s a.world in
-    let was = shown_rest s w in
-    let same = ap (λ (x : SerialState). spheres_rest s.cores s.spheres x.spheres) kept.whole in
+    let now = shown_rank s a.world in
+    let was = shown_rank s w in
+    let same = ap (λ (x : SerialState). spheres_rank s.cores s.spheres x.spheres) kept.whole in
     omega (arith, flies, pays, now, was, same)
 
 moves_more : (s : Setup) (w : World) (a : After) (m : Move) (o : Option Move) (p : Sphere) (b : Cursor) → o ≡ Some m → a.move ≡ o → Known s w → Kept w a → Flies s.cores w a → slice_get (shown_of w).spheres m.sphere ≡ Some p → p.role ≡ Replay b
@@ -74,9 +74,9 @@ moves_more s w a m (Some n) p b e move known kept flies is role =
     let fits : Fits w.numbers (shown_of w) m = subst (λ (x : Option Move). FitsIf w.numbers (shown_of w) x) (move ∙ e) kept.fits in
     let pays = move-pays_more s.cores s w.numbers (shown_of w) m p b known.good.buffer known.stands is role fits in
     let most = ap (if_most s.cores (shown_of w)) (move ∙ e) in
-    let now = shown_rest s a.world in
-    let was = shown_rest s w in
-    let same = ap (λ (x : SerialState). spheres_rest s.cores s.spheres x.spheres) (kept.whole ∙ ap (do_if w.numbers (shown_of w)) (move ∙ e)) in
+    let now = shown_rank s a.world in
+    let was = shown_rank s w in
+    let same = ap (λ (x : SerialState). spheres_rank s.cores s.spheres x.spheres) (kept.whole ∙ ap (do_if w.numbers (shown_of w)) (move ∙ e)) in
     omega (arith, flies, pays, now, was, same, most)
 
 -- a move of a replay makes it less, by the events behind it

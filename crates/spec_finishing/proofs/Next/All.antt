@@ -22,7 +22,7 @@ use Rattle.spec_protocol.specs.Shown.{shown_of}
 use Rattle.spec_protocol.specs.Finishing.{Who, least, standing, for_flight, for_held, for_core, for_actor, for_who, for_slot, for_standing, next}
 use Rattle.spec_protocol.proofs.Memory.Slots.{at_within}
 use Rattle.spec_protocol.proofs.Invariants.Cores.{branch}
-use Rattle.spec_finishing.specs.Rest.{held_under_way, core_under_way, actor_under_way, under_way}
+use Rattle.spec_finishing.specs.Rank.{held_under_way, core_under_way, actor_under_way, under_way}
 use Rattle.spec_finishing.specs.Ending.{OfReplay, IsFinished}
 use Rattle.spec_finishing.proofs.Left.Slots.{one_unless, one_at_most}
 use Rattle.spec_finishing.proofs.Ending.Knowing.{Known}

@@ -18,7 +18,7 @@ use Rattle.spec_protocol.specs.Placing.{unless_elsewhere, place_thread, placing}
 use Rattle.spec_protocol.specs.Machine.{Setup}
 use Rattle.spec_protocol.specs.Finishing.{standing}
 use Rattle.spec_protocol.proofs.Memory.Slots.{at-set_same, at-set_other, at_within}
-use Rattle.spec_finishing.specs.Rest.{held_under_way}
+use Rattle.spec_finishing.specs.Rank.{held_under_way}
 use Rattle.spec_finishing.specs.Ending.{is_done}
 use Rattle.spec_finishing.proofs.Paying.Runs.{run-status}
 use Rattle.spec_finishing.proofs.Paying.GoingOn.{play_of, has-run, thread-now}

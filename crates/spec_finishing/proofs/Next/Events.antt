@@ -21,7 +21,7 @@ use Rattle.spec_protocol.specs.Finishing.{untold, deliver_or_retire, for_flight,
 use Rattle.spec_protocol.proofs.Memory.Slots.{at_within}
 use Rattle.spec_protocol.proofs.Invariants.Cores.{branch}
 use Rattle.spec_protocol.proofs.Invariants.Schedules.{happens-kept}
-use Rattle.spec_finishing.specs.Rest.{spheres_rest, potential, held_under_way, core_under_way, actor_under_way, under_way, rest}
+use Rattle.spec_finishing.specs.Rank.{spheres_rank, potential, held_under_way, core_under_way, actor_under_way, under_way, rank}
 use Rattle.spec_finishing.specs.Ending.{is_done, OfReplay}
 use Rattle.spec_finishing.proofs.Next.Flights.{FlightFalls, drain-falls, deliver-falls, untold-core, retire-falls}
 use Rattle.spec_finishing.proofs.Left.Rows.{spheres-shown}
@@ -35,17 +35,17 @@ use Rattle.spec_finishing.proofs.Next.Cores.{Rose, place-rose}
 -- the event is done, less is left after it, and what it does is of a replay
 pub record Lowers (s : Setup) (w : World) (e : Event) : Type 0 where
   pub done : is_done (happens w e).reply ≡ true
-  pub less : rest s (happens w e).world < rest s w
+  pub less : rank s (happens w e).world < rank s w
   pub alone : OfReplay w (happens w e).move
 
 -- ---- a flight stands
 
-no_move_spheres : (s : Setup) (w : World) (e : Event) → Known s w → (happens w e).move ≡ None → spheres_rest s.cores s.spheres (happens w e).world.spheres ≡ spheres_rest s.cores s.spheres w.spheres
+no_move_spheres : (s : Setup) (w : World) (e : Event) → Known s w → (happens w e).move ≡ None → spheres_rank s.cores s.spheres (happens w e).world.spheres ≡ spheres_rank s.cores s.spheres w.spheres
 no_move_spheres s w e known none =
     let a = happens w e in
     let same : shown_of a.world ≡ shown_of w = (happens-kept w e known.good).whole ∙ ap (do_if w.numbers (shown_of w)) none in
     sym (spheres-shown s.cores s.spheres a.world.slots 0 a.world.spheres)
-    ∙ ap (λ (x : SerialState). spheres_rest s.cores s.spheres x.spheres) same
+    ∙ ap (λ (x : SerialState). spheres_rank s.cores s.spheres x.spheres) same
     ∙ spheres-shown s.cores s.spheres w.slots 0 w.spheres
 
 flight_happens : (c : ℕ) (w : World) (e : Event) → FlightFalls c w (act w e) → FlightFalls c w (happens w e)

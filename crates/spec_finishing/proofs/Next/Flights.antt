@@ -11,7 +11,7 @@ use Rattle.spec_protocol.specs.World.{World, Held, After, with_slot, answered}
 use Rattle.spec_protocol.specs.Flying.{drain_slot, draining, reads_of, writes_of, told, deliver_to, delivering, reply_of_retire, retiring}
 use Rattle.spec_protocol.specs.Finishing.{untold}
 use Rattle.spec_protocol.proofs.Memory.Slots.{at_within}
-use Rattle.spec_finishing.specs.Rest.{flight_rest, flights_rest}
+use Rattle.spec_finishing.specs.Rank.{flight_rank, flights_rank}
 use Rattle.spec_finishing.specs.Ending.{is_done as is_good}
 use Rattle.spec_finishing.proofs.Left.Slots.{flights-set, untold-tell}
 use Rattle.spec_finishing.proofs.Left.Flying.{told_world}
@@ -19,12 +19,12 @@ use Rattle.spec_finishing.proofs.Left.Flying.{told_world}
 -- the event is done, and the flights have less left
 pub record FlightFalls (c : ℕ) (w : World) (a : After) : Type 0 where
   pub done : is_good a.reply ≡ true
-  pub less : flights_rest c a.world.slots < flights_rest c w.slots
+  pub less : flights_rank c a.world.slots < flights_rank c w.slots
 
-set_less : (c : ℕ) (xs : List (Option Flight)) (k : ℕ) (f : Flight) (v : Option Flight) → at xs k ≡ Some f → flight_rest c v < flight_rest c (Some f) → flights_rest c (set xs k v) < flights_rest c xs
+set_less : (c : ℕ) (xs : List (Option Flight)) (k : ℕ) (f : Flight) (v : Option Flight) → at xs k ≡ Some f → flight_rank c v < flight_rank c (Some f) → flights_rank c (set xs k v) < flights_rank c xs
 set_less c xs k f v is less =
     let r = flights-set c xs k v (at_within xs k f is) in
-    let h = ap (flight_rest c) is in
+    let h = ap (flight_rank c) is in
     omega (arith, r, h, less)
 
 -- ---- Drain
@@ -62,7 +62,7 @@ delivered c w d k held f is l untold_ =
     (let b = meets_chunk (reads_of w held) (writes_of w held) f in
     record {
       done = told_reply (with_slot w k (Some (tell f d))) d held b;
-      less = told_world (λ xs. flights_rest c xs < flights_rest c w.slots) (with_slot w k (Some (tell f d))) d held (cond b Deliver.Squashed Deliver.Delivered)
+      less = told_world (λ xs. flights_rank c xs < flights_rank c w.slots) (with_slot w k (Some (tell f d))) d held (cond b Deliver.Squashed Deliver.Delivered)
           (set_less c w.slots k f (Some (tell f d)) is (let h = untold-tell c f d l untold_ in omega (arith, h)));
     }))
 

@@ -18,14 +18,14 @@ use Rattle.spec_protocol.specs.Shown.{flying}
 use Rattle.spec_protocol.specs.Invariants.{Closes, current}
 use Rattle.spec_protocol.specs.Currency.{IsCurrent}
 use Rattle.spec_protocol.specs.Finishing.{Who, least, standing}
-use Rattle.spec_finishing.specs.Rest.{spheres_rest, potential, held_under_way, core_under_way, actor_under_way, who_under_way, standing_under_way, under_way}
+use Rattle.spec_finishing.specs.Rank.{spheres_rank, potential, held_under_way, core_under_way, actor_under_way, who_under_way, standing_under_way, under_way}
 use Rattle.spec_finishing.proofs.Left.Slots.{one_at_most}
 use Rattle.spec_finishing.proofs.Left.Pricing.{price-least}
 use Rattle.spec_finishing.proofs.Paying.Affording.{Afforded}
 use Rattle.spec_finishing.proofs.Paying.Plays.{paid, afford-paid}
 use Rattle.spec_finishing.proofs.Paying.GoingOn.{has-run, part-afforded}
 use Rattle.spec_finishing.proofs.Left.Rows.{sphere-least}
-use Rattle.spec_finishing.proofs.Paying.Commits.{next_work, behind, rest-before}
+use Rattle.spec_finishing.proofs.Paying.Commits.{next_work, behind, rank-before}
 use Rattle.spec_finishing.proofs.Left.AnyAsk.{nothing_flies}
 use Rattle.spec_finishing.proofs.Ending.Knowing.{Known}
 use Rattle.spec_finishing.proofs.Next.Turns.{no-flight, HasActor, has-actor, turn-of}
@@ -61,14 +61,14 @@ held_affords s w c h known none is a =
     (subst (λ (l : ℕ). h.chunk.done.n ≤ l) limited (closes_most w.numbers.buffer h.chunk h.chunk.closed refl held.chunk.closes))
 
 -- what a replay has left pays for its running chunk
-held_paid : (s : Setup) (w : World) (c : ℕ) (h : Held) → Known s w → standing w ≡ None → at w.cores c ≡ Some h → HasActor s w h.chunk.sphere (Actor.Thread h.thread) → paid s.cores h.chunk.done.n ≤ spheres_rest s.cores s.spheres w.spheres
+held_paid : (s : Setup) (w : World) (c : ℕ) (h : Held) → Known s w → standing w ≡ None → at w.cores c ≡ Some h → HasActor s w h.chunk.sphere (Actor.Thread h.thread) → paid s.cores h.chunk.done.n ≤ spheres_rank s.cores s.spheres w.spheres
 held_paid s w c h known none is a =
     let n = h.chunk.done.n in
     let work = next_work a.image a.sphere a.cursor in
     let after = behind a.image a.sphere a.cursor in
     let afford = held_affords s w c h known none is a in
     let enough = afford-paid s.cores work a.cursor.total n afford in
-    let before = rest-before s.cores a.image a.sphere a.cursor a.role a.going a.goes in
+    let before = rank-before s.cores a.image a.sphere a.cursor a.role a.going a.goes in
     let more = price-least s.cores (work - a.cursor.total) ((work + after) - a.cursor.total) (omega arith) in
     let all = sphere-least s.cores s.spheres w.spheres h.chunk.sphere a.image a.sphere a.starts a.there in
     omega (arith, enough, before, more, all)
@@ -88,7 +88,7 @@ on-core w i k c e =
     let p = and_parts (eqb f.0.chunk.sphere i) (eqb f.0.thread k) f.2 in
     (f.0, record { there = f.1; sphere = eqb-true f.0.chunk.sphere i p.0; thread = eqb-true f.0.thread k p.1 })
 
-pub core-paid : (s : Setup) (w : World) (i k c : ℕ) (h : Held) → Known s w → standing w ≡ None → HasActor s w i (Actor.Thread k) → OnCore w i k c h → paid s.cores h.chunk.done.n ≤ spheres_rest s.cores s.spheres w.spheres
+pub core-paid : (s : Setup) (w : World) (i k c : ℕ) (h : Held) → Known s w → standing w ≡ None → HasActor s w i (Actor.Thread k) → OnCore w i k c h → paid s.cores h.chunk.done.n ≤ spheres_rank s.cores s.spheres w.spheres
 core-paid s w i k c h known none a on =
     held_paid s w c h known none on.there
     (subst (λ (j : ℕ). HasActor s w j (Actor.Thread h.thread)) (sym on.sphere) (subst (λ (j : ℕ). HasActor s w i (Actor.Thread j)) (sym on.thread) a))

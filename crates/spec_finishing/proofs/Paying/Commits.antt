@@ -20,11 +20,11 @@ use Rattle.spec_protocol.specs.Machine.{SphereSetup}
 use Rattle.spec_protocol.specs.Serial.{laid}
 use Rattle.spec_protocol.specs.Moves.{ChunkFits}
 use Rattle.spec_finishing.specs.Work.{commit_work}
-use Rattle.spec_finishing.specs.Rest.{replay_left, price}
+use Rattle.spec_finishing.specs.Rank.{replay_left, price}
 use Rattle.spec_finishing.proofs.Paying.Affording.{Afforded, Enough, Lone}
 use Rattle.spec_finishing.proofs.Paying.Plays.{left-over, left-going, left-step, left-turned, later, paid, afford-paid, afford-some, whole-pays, piece-pays}
 use Rattle.spec_finishing.proofs.Paying.GoingOn.{play_of, GoesOn, has-run, part-afforded}
-use Rattle.spec_finishing.proofs.Left.Rows.{sphere_rest}
+use Rattle.spec_finishing.proofs.Left.Rows.{sphere_rank}
 use Rattle.spec_replay.proofs.Replays.Moved.{turn_of_thread}
 
 -- ---- before and after
@@ -39,22 +39,22 @@ behind image p b = later b.log (opened b.log image.memory image.entry) (position
 
 -- what a replay that goes on has left: the price of its next commit and of those behind, but for the pieces that are
 -- done
-pub rest-before : (c : ℕ) (image : SphereSetup) (p : Sphere) (b : Cursor) → p.role ≡ Replay b → is_over b.now ≡ false → GoesOn image p b → sphere_rest c image p ≡ price c ((next_work image p b + behind image p b) - b.total)
-rest-before c image p b role going g =
-    (λ i. sphere_rest c image (record p { role = role i }))
+pub rank-before : (c : ℕ) (image : SphereSetup) (p : Sphere) (b : Cursor) → p.role ≡ Replay b → is_over b.now ≡ false → GoesOn image p b → sphere_rank c image p ≡ price c ((next_work image p b + behind image p b) - b.total)
+rank-before c image p b role going g =
+    (λ i. sphere_rank c image (record p { role = role i }))
     ∙ ap (price c) (left-going image b (position p.progress) going ∙ left-step b.log (opened b.log image.memory image.entry) (position p.progress) b.total g.ahead)
 
 -- a verdict on the whole commit
 pub verdict-pays : (c : ℕ) (image : SphereSetup) (p : Sphere) (b : Cursor) (k : ℕ) (x : Verdict) (devices : Devices) (l : ℕ) → p.role ≡ Replay b → is_over b.now ≡ false → GoesOn image p b → suc b.total ≤ next_work image p b → l ≤ price c (next_work image p b - b.total)
-    → sphere_rest c image (laid (by_verdict b k x devices p)) + l ≤ sphere_rest c image p
+    → sphere_rank c image (laid (by_verdict b k x devices p)) + l ≤ sphere_rank c image p
 verdict-pays c image p b k (Fails why) devices l role going g some enough =
-    let before = rest-before c image p b role going g in
+    let before = rank-before c image p b role going g in
     let ended : Cursor = record b { now = Over (End.Diverged (position p.progress) why) } in
     let over = left-over image ended (position p.progress) refl in
     let pays = whole-pays c (next_work image p b) b.total (behind image p b) l some enough (replay_left image ended (position p.progress)) (omega (arith, over)) in
     omega (arith, before, pays)
 verdict-pays c image p b k (Goes e u) devices l role going g some enough =
-    let before = rest-before c image p b role going g in
+    let before = rank-before c image p b role going g in
     let progress = with_effect k e p.progress in
     let size : position progress ≡ suc (position p.progress) = (let h = length-append p.progress.commits (e.commit ∷ []) in omega (arith, h)) in
     let after = turned b.log progress u (with_threads k e p.threads) in
@@ -69,10 +69,10 @@ part_done work total n (Enough l) = omega arith
 part_done work total n (Lone none few some) = omega arith
 
 -- a piece
-piece_rest : (c : ℕ) (image : SphereSetup) (p : Sphere) (b : Cursor) (k : ℕ) (r : Run) (n : ℕ) (devices : Devices) → p.role ≡ Replay b → is_over b.now ≡ false → GoesOn image p b → r.n ≡ n → 0 < n → Afforded (next_work image p b) b.total n
-    → sphere_rest c image (laid (replayed_chunk true b k r devices p)) + paid c n ≤ sphere_rest c image p
-piece_rest c image p b k r n devices role going g is some afford =
-    let before = rest-before c image p b role going g in
+piece_rank : (c : ℕ) (image : SphereSetup) (p : Sphere) (b : Cursor) (k : ℕ) (r : Run) (n : ℕ) (devices : Devices) → p.role ≡ Replay b → is_over b.now ≡ false → GoesOn image p b → r.n ≡ n → 0 < n → Afforded (next_work image p b) b.total n
+    → sphere_rank c image (laid (replayed_chunk true b k r devices p)) + paid c n ≤ sphere_rank c image p
+piece_rank c image p b k r n devices role going g is some afford =
+    let before = rank-before c image p b role going g in
     let part : Cursor = record b { total = b.total + r.n; loads = b.loads ++ r.loads } in
     let x = opened b.log image.memory image.entry in
     let after : price c (replay_left image part (position p.progress)) ≡ price c ((next_work image p b + behind image p b) - (b.total + n)) =
@@ -82,10 +82,10 @@ piece_rest c image p b k r n devices role going g is some afford =
     let pays = piece-pays c (next_work image p b) b.total (behind image p b) n (part_done (next_work image p b) b.total n afford) some in
     omega (arith, before, after, pays)
 
-part_rest : (c : ℕ) (image : SphereSetup) (p : Sphere) (b : Cursor) (k : ℕ) (piece : Bool) (r : Run) (n : ℕ) (devices : Devices) → p.role ≡ Replay b → is_over b.now ≡ false → GoesOn image p b → r.n ≡ n → (piece ≡ true → 0 < n) → Afforded (next_work image p b) b.total n
-    → sphere_rest c image (laid (replayed_chunk piece b k r devices p)) + paid c n ≤ sphere_rest c image p
-part_rest c image p b k true r n devices role going g is some afford = piece_rest c image p b k r n devices role going g is (some refl) afford
-part_rest c image p b k false r n devices role going g is some afford =
+part_rank : (c : ℕ) (image : SphereSetup) (p : Sphere) (b : Cursor) (k : ℕ) (piece : Bool) (r : Run) (n : ℕ) (devices : Devices) → p.role ≡ Replay b → is_over b.now ≡ false → GoesOn image p b → r.n ≡ n → (piece ≡ true → 0 < n) → Afforded (next_work image p b) b.total n
+    → sphere_rank c image (laid (replayed_chunk piece b k r devices p)) + paid c n ≤ sphere_rank c image p
+part_rank c image p b k true r n devices role going g is some afford = piece_rank c image p b k r n devices role going g is (some refl) afford
+part_rank c image p b k false r n devices role going g is some afford =
     verdict-pays c image p b k (chunk_verdict b.log p.progress b.used k (joined b r)) devices (paid c n) role going g (afford-some (next_work image p b) b.total n afford)
     (afford-paid c (next_work image p b) b.total n afford)
 
@@ -103,7 +103,7 @@ how_some How.Cut n buffer positive cut room e = cut refl
 
 -- a chunk of a replay that can be done as its move says
 pub chunk-pays : (c : ℕ) (image : SphereSetup) (z : Numbers) (p : Sphere) (b : Cursor) (k : ℕ) (u : Parts) (how : How) (n limit : ℕ) (short : Bool) (devices : Devices) → 0 < z.buffer → p.role ≡ Replay b → is_over b.now ≡ false → GoesOn image p b
-    → slice_get p.threads k ≡ Some u → ChunkFits z p k u how n limit → sphere_rest c image (laid (chunk_moved k (is_piece how) short (run p.memory u n) devices p)) + paid c n ≤ sphere_rest c image p
+    → slice_get p.threads k ≡ Some u → ChunkFits z p k u how n limit → sphere_rank c image (laid (chunk_moved k (is_piece how) short (run p.memory u n) devices p)) + paid c n ≤ sphere_rank c image p
 unfolding chunk_moved
 chunk-pays c image z p b k u how n limit short devices positive role going g is fits =
     let turn = turn_of_thread p b k role fits.going fits.turn in
@@ -111,5 +111,5 @@ chunk-pays c image z p b k u how n limit short devices positive role going g is 
     let limited : limit ≡ limit_of z.chunk (Replay b) k u = fits.replayed (ap replays role) ∙ ap (λ (r : Role). limit_of z.chunk r k u) role in
     let most : n ≤ limit_of z.chunk (Replay b) k u = subst (λ (l : ℕ). n ≤ l) limited (how_most how n limit fits.full fits.early) in
     let afford = part-afforded image p b k h.0 u z.chunk n turn h.1 is fits.ran most in
-    subst (λ (r : Role). sphere_rest c image (laid (chunk_in r k (is_piece how) short (run p.memory u n) devices p)) + paid c n ≤ sphere_rest c image p) (sym role)
-    (part_rest c image p b k (is_piece how) (run p.memory u n) n devices role going g fits.ran (how_some how n z.buffer positive fits.cut fits.room) afford)
+    subst (λ (r : Role). sphere_rank c image (laid (chunk_in r k (is_piece how) short (run p.memory u n) devices p)) + paid c n ≤ sphere_rank c image p) (sym role)
+    (part_rank c image p b k (is_piece how) (run p.memory u n) n devices role going g fits.ran (how_some how n z.buffer positive fits.cut fits.room) afford)

@@ -14,7 +14,7 @@ use Rattle.spec_protocol.specs.Machine.{SphereSetup}
 use Rattle.spec_protocol.specs.Serial.{SerialState, laid, do_serial, do_dma, do_raise}
 use Rattle.spec_protocol.specs.Moves.{move_chunk, do_what, FitsChunk, FitsSerial}
 use Rattle.spec_finishing.specs.Work.{serial_work, dma_work, what_work}
-use Rattle.spec_finishing.specs.Rest.{price, spheres_rest}
+use Rattle.spec_finishing.specs.Rank.{price, spheres_rank}
 use Rattle.spec_finishing.proofs.Paying.Plays.{paid, words-paid}
 use Rattle.spec_finishing.proofs.Paying.GoingOn.{GoesOn}
 use Rattle.spec_finishing.proofs.Ending.KindsKept.{chunk-kind, serial-kind, DmaKind, dma-kind, raised-kind}
@@ -60,19 +60,19 @@ what_more (OfRaise k value) = 0
 -- ---- a plain or recorded sphere
 
 own_pays : (c : ℕ) (images : List SphereSetup) (ps : List Sphere) (i : ℕ) (image : SphereSetup) (p q : Sphere) (l n : ℕ) → slice_get images i ≡ Some image → slice_get ps i ≡ Some p → replays q.role ≡ false → l ≤ n
-    → spheres_rest c images (set ps i q) + l ≤ spheres_rest c images ps + n
+    → spheres_rank c images (set ps i q) + l ≤ spheres_rank c images ps + n
 own_pays c images ps i image p q l n there is live enough =
     spheres-pay c images ps i image p q l n there is (let e = sphere-live c image q live in omega (arith, e, enough))
 
 chunk_own : (c : ℕ) (images : List SphereSetup) (z : Numbers) (x : SerialState) (i k : ℕ) (how : How) (n limit : ℕ) (image : SphereSetup) (p : Sphere) (o : Option Parts) → slice_get images i ≡ Some image → slice_get x.spheres i ≡ Some p → replays p.role ≡ false
-    → spheres_rest c images (move_chunk z x i k how n limit p o).spheres + (n + c + 1) ≤ spheres_rest c images x.spheres + price c (suc n)
+    → spheres_rank c images (move_chunk z x i k how n limit p o).spheres + (n + c + 1) ≤ spheres_rank c images x.spheres + price c (suc n)
 chunk_own c images z x i k how n limit image p None there is live = let h = words-paid c n in omega (arith, h)
 chunk_own c images z x i k how n limit image p (Some t) there is live =
     own_pays c images x.spheres i image p (laid (chunk_moved k (is_piece how) (is_short z.chunk how limit) (run p.memory t n) x.devices p)) (n + c + 1) (price c (suc n)) there is
     (chunk-kind k (is_piece how) (is_short z.chunk how limit) (run p.memory t n) x.devices p ∙ live) (let h = words-paid c n in omega (arith, h))
 
 serial_own : (c : ℕ) (images : List SphereSetup) (x : SerialState) (i k moment : ℕ) (image : SphereSetup) (p : Sphere) (o : Option Parts) → slice_get images i ≡ Some image → slice_get x.spheres i ≡ Some p → replays p.role ≡ false
-    → spheres_rest c images (do_serial x i k moment p o).spheres + serial_most c p x.devices moment k o ≤ spheres_rest c images x.spheres + price c (serial_work p x.devices moment k o)
+    → spheres_rank c images (do_serial x i k moment p o).spheres + serial_most c p x.devices moment k o ≤ spheres_rank c images x.spheres + price c (serial_work p x.devices moment k o)
 serial_own c images x i k moment image p None there is live = omega arith
 serial_own c images x i k moment image p (Some t) there is live =
     let v = serial_moved k moment t x.devices p in
@@ -80,21 +80,21 @@ serial_own c images x i k moment image p (Some t) there is live =
     (serial-kind k moment t x.devices p ∙ live) (let h = words-paid c (length v.words) in omega (arith, h))
 
 dma_own : (c : ℕ) (images : List SphereSetup) (x : SerialState) (i : ℕ) (image : SphereSetup) (p : Sphere) (o : Option Moved) → slice_get images i ≡ Some image → slice_get x.spheres i ≡ Some p → replays p.role ≡ false → DmaKind p.role o
-    → spheres_rest c images (do_dma x i o).spheres + dma_most c o ≤ spheres_rest c images x.spheres + price c (dma_work o)
+    → spheres_rank c images (do_dma x i o).spheres + dma_most c o ≤ spheres_rank c images x.spheres + price c (dma_work o)
 dma_own c images x i image p None there is live kind = omega arith
 dma_own c images x i image p (Some v) there is live kind =
     own_pays c images x.spheres i image p (laid v) (length v.words + c + 1) (price c (suc (length v.words))) there is (kind ∙ live)
     (let h = words-paid c (length v.words) in omega (arith, h))
 
 raise_own : (c : ℕ) (images : List SphereSetup) (x : SerialState) (i k value : ℕ) (image : SphereSetup) (p : Sphere) (o : Option Parts) → slice_get images i ≡ Some image → slice_get x.spheres i ≡ Some p → replays p.role ≡ false
-    → spheres_rest c images (do_raise x i k value p o).spheres + 0 ≤ spheres_rest c images x.spheres + price c 0
+    → spheres_rank c images (do_raise x i k value p o).spheres + 0 ≤ spheres_rank c images x.spheres + price c 0
 raise_own c images x i k value image p None there is live = omega arith
 raise_own c images x i k value image p (Some t) there is live =
     own_pays c images x.spheres i image p (raised k value t p) 0 (price c 0) there is (raised-kind k value t p ∙ live) (omega arith)
 
 -- a move of a sphere that isn't replayed pays for its flight with its own work
 pub what_own : (c : ℕ) (images : List SphereSetup) (z : Numbers) (x : SerialState) (moment i : ℕ) (image : SphereSetup) (p : Sphere) (a : What) → slice_get images i ≡ Some image → slice_get x.spheres i ≡ Some p → replays p.role ≡ false
-    → spheres_rest c images (do_what z x moment i p a).spheres + what_most c p x.devices moment a ≤ spheres_rest c images x.spheres + price c (what_work p x.devices moment a)
+    → spheres_rank c images (do_what z x moment i p a).spheres + what_most c p x.devices moment a ≤ spheres_rank c images x.spheres + price c (what_work p x.devices moment a)
 what_own c images z x moment i image p (OfChunk k how n limit) there is live = chunk_own c images z x i k how n limit image p (slice_get p.threads k) there is live
 what_own c images z x moment i image p (OfSerial k) there is live = serial_own c images x i k moment image p (slice_get p.threads k) there is live
 what_own c images z x moment i image p OfDma there is live = dma_own c images x i image p (dma_moved x.devices p) there is live (dma-kind x.devices p)
@@ -104,7 +104,7 @@ what_own c images z x moment i image p (OfRaise k value) there is live = raise_o
 
 -- a chunk of a replay pays for its flight with what the play has left less
 pub chunk_paid : (c : ℕ) (images : List SphereSetup) (z : Numbers) (x : SerialState) (i k : ℕ) (how : How) (n limit : ℕ) (image : SphereSetup) (p : Sphere) (b : Cursor) (o : Option Parts) → 0 < z.buffer → slice_get images i ≡ Some image → slice_get x.spheres i ≡ Some p → p.role ≡ Replay b
-    → (is_over b.now ≡ false → GoesOn image p b) → slice_get p.threads k ≡ o → FitsChunk z p k how n limit o → spheres_rest c images (move_chunk z x i k how n limit p o).spheres + paid c n ≤ spheres_rest c images x.spheres + 0
+    → (is_over b.now ≡ false → GoesOn image p b) → slice_get p.threads k ≡ o → FitsChunk z p k how n limit o → spheres_rank c images (move_chunk z x i k how n limit p o).spheres + paid c n ≤ spheres_rank c images x.spheres + 0
 chunk_paid c images z x i k how n limit image p b None positive there is role goes thread fits = absurd fits
 chunk_paid c images z x i k how n limit image p b (Some t) positive there is role goes thread fits =
     let going : is_over b.now ≡ false = sym (ap is_stopped role) ∙ fits.going in
@@ -113,7 +113,7 @@ chunk_paid c images z x i k how n limit image p b (Some t) positive there is rol
 
 -- a serial step of a replay pays for its flight with what the play has left less
 pub serial_paid : (c : ℕ) (images : List SphereSetup) (x : SerialState) (i k moment : ℕ) (image : SphereSetup) (p : Sphere) (b : Cursor) (o : Option Parts) → slice_get images i ≡ Some image → slice_get x.spheres i ≡ Some p → p.role ≡ Replay b
-    → (is_over b.now ≡ false → GoesOn image p b) → slice_get p.threads k ≡ o → FitsSerial p k o → spheres_rest c images (do_serial x i k moment p o).spheres + (serial_most c p x.devices moment k o + 3) ≤ spheres_rest c images x.spheres + 0
+    → (is_over b.now ≡ false → GoesOn image p b) → slice_get p.threads k ≡ o → FitsSerial p k o → spheres_rank c images (do_serial x i k moment p o).spheres + (serial_most c p x.devices moment k o + 3) ≤ spheres_rank c images x.spheres + 0
 serial_paid c images x i k moment image p b None there is role goes thread fits = absurd fits
 serial_paid c images x i k moment image p b (Some t) there is role goes thread fits =
     let going : is_over b.now ≡ false = sym (ap is_stopped role) ∙ fits.going in
@@ -123,7 +123,7 @@ serial_paid c images x i k moment image p b (Some t) there is role goes thread f
 
 -- a DMA of a sphere pays for its flight, in a replay with what the play has left less
 pub dma_paid : (c : ℕ) (images : List SphereSetup) (x : SerialState) (i : ℕ) (image : SphereSetup) (p : Sphere) (o : Option Moved) → slice_get images i ≡ Some image → slice_get x.spheres i ≡ Some p → DmaPays c image p o → (o ≡ None → ⊥)
-    → spheres_rest c images (do_dma x i o).spheres + (dma_most c o + 3) ≤ spheres_rest c images x.spheres + 0
+    → spheres_rank c images (do_dma x i o).spheres + (dma_most c o + 3) ≤ spheres_rank c images x.spheres + 0
 dma_paid c images x i image p None there is pays some = absurd (some refl)
 dma_paid c images x i image p (Some v) there is pays some =
     spheres-pay c images x.spheres i image p (laid v) ((length v.words + c + 1) + 3) 0 there is (omega (arith, pays))

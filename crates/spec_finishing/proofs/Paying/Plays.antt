@@ -14,7 +14,7 @@ use Rattle.spec_protocol.specs.Spheres.{Cursor, is_over}
 use Rattle.spec_protocol.specs.Commits.{turned}
 use Rattle.spec_protocol.specs.Machine.{SphereSetup}
 use Rattle.spec_finishing.specs.Work.{commit_work, commits_work}
-use Rattle.spec_finishing.specs.Rest.{play_left, replay_left, price}
+use Rattle.spec_finishing.specs.Rank.{play_left, replay_left, price}
 use Rattle.spec_finishing.proofs.Left.Pricing.{price-sum, price-least, price-most}
 use Rattle.spec_finishing.proofs.Paying.Affording.{Afforded, Enough, Lone}
 

@@ -21,11 +21,11 @@ use Rattle.spec_protocol.specs.Machine.{SphereSetup}
 use Rattle.spec_protocol.specs.Serial.{laid}
 use Rattle.spec_protocol.specs.Moves.{SerialFits, DmaFits}
 use Rattle.spec_finishing.specs.Work.{stored, dma_stored, thread_work, turn_work, now_work, commit_work}
-use Rattle.spec_finishing.specs.Rest.{replay_left, price}
+use Rattle.spec_finishing.specs.Rank.{replay_left, price}
 use Rattle.spec_finishing.proofs.Paying.Plays.{left-over, left-turned, words-paid, whole-pays}
 use Rattle.spec_finishing.proofs.Paying.GoingOn.{play_of, GoesOn, HasRun, has-run, is-whole, thread-now}
-use Rattle.spec_finishing.proofs.Left.Rows.{sphere_rest}
-use Rattle.spec_finishing.proofs.Paying.Commits.{next_work, behind, rest-before, verdict-pays}
+use Rattle.spec_finishing.proofs.Left.Rows.{sphere_rank}
+use Rattle.spec_finishing.proofs.Paying.Commits.{next_work, behind, rank-before, verdict-pays}
 use Rattle.spec_replay.proofs.Replays.Moved.{turn_of_thread, turn_of_dma}
 use Rattle.spec_replay.proofs.Commits.Standing.{set_here}
 
@@ -72,9 +72,9 @@ serial_is image p b k t u kind g h s next =
     ap (now_work b.log y) h.turn ∙ ap (turn_work b.log y k) h.is ∙ ap (λ (o : Option Kind). suc (thread_work b.log y k t o)) same
     ∙ (λ i. suc (stored (serial_verdict b.log (sym g.progress i) (sym g.used i) k (sym s.threads i) (sym s.thread i) (sym s.memory i))))
 
-serial_rest : (c : ℕ) (image : SphereSetup) (p : Sphere) (b : Cursor) (k : ℕ) (x : Verdict) (devices : Devices) → p.role ≡ Replay b → is_over b.now ≡ false → GoesOn image p b → b.total ≡ 0 → next_work image p b ≡ suc (stored x)
-    → sphere_rest c image (laid (by_verdict b k x devices p)) + ((length (by_verdict b k x devices p).words + c + 1) + 3) ≤ sphere_rest c image p
-serial_rest c image p b k x devices role going g none work =
+serial_rank : (c : ℕ) (image : SphereSetup) (p : Sphere) (b : Cursor) (k : ℕ) (x : Verdict) (devices : Devices) → p.role ≡ Replay b → is_over b.now ≡ false → GoesOn image p b → b.total ≡ 0 → next_work image p b ≡ suc (stored x)
+    → sphere_rank c image (laid (by_verdict b k x devices p)) + ((length (by_verdict b k x devices p).words + c + 1) + 3) ≤ sphere_rank c image p
+serial_rank c image p b k x devices role going g none work =
     let e : next_work image p b - b.total ≡ suc (stored x) = omega (arith, none, work) in
     let h = ap (price c) e in
     let paid_ = words-paid c (stored x) in
@@ -84,7 +84,7 @@ serial_rest c image p b k x devices role going g none work =
 
 -- a serial step of a replay that goes on pays for its flight and three events
 pub serial-pays : (c : ℕ) (image : SphereSetup) (p : Sphere) (b : Cursor) (k moment : ℕ) (u : Parts) (devices : Devices) → p.role ≡ Replay b → is_over b.now ≡ false → GoesOn image p b → slice_get p.threads k ≡ Some u → SerialFits p k u
-    → let v = serial_moved k moment u devices p in sphere_rest c image (laid v) + ((length v.words + c + 1) + 3) ≤ sphere_rest c image p
+    → let v = serial_moved k moment u devices p in sphere_rank c image (laid v) + ((length v.words + c + 1) + 3) ≤ sphere_rank c image p
 unfolding serial_moved
 serial-pays c image p b k moment u devices role going g is fits =
     let turn = turn_of_thread p b k role fits.going fits.turn in
@@ -92,15 +92,15 @@ serial-pays c image p b k moment u devices role going g is fits =
     let none = no_pieces p b role fits.whole in
     let s = unmoved image p b k h.0 u h.1 none is in
     let kind = kind_is (next_kind u p.memory) fits.serial in
-    subst (λ (r : Role). let v = serial_in r k moment u devices p in sphere_rest c image (laid v) + ((length v.words + c + 1) + 3) ≤ sphere_rest c image p) (sym role)
-    (serial_rest c image p b k (serial_verdict b.log p.progress b.used k p.threads u p.memory) devices role going g none (serial_is image p b k h.0 u kind.0 g h.1 s kind.1))
+    subst (λ (r : Role). let v = serial_in r k moment u devices p in sphere_rank c image (laid v) + ((length v.words + c + 1) + 3) ≤ sphere_rank c image p) (sym role)
+    (serial_rank c image p b k (serial_verdict b.log p.progress b.used k p.threads u p.memory) devices role going g none (serial_is image p b k h.0 u kind.0 g h.1 s kind.1))
 
 -- ---- DMAs
 
-dma_rest : (c : ℕ) (image : SphereSetup) (p : Sphere) (b : Cursor) (x : DmaVerdict) (devices : Devices) → p.role ≡ Replay b → is_over b.now ≡ false → GoesOn image p b → b.total ≡ 0 → next_work image p b ≡ suc (dma_stored x)
-    → let v = dma_by_verdict b x devices p in sphere_rest c image (laid v) + ((length v.words + c + 1) + 3) ≤ sphere_rest c image p
-dma_rest c image p b (DmaFails why) devices role going g none work =
-    let before = rest-before c image p b role going g in
+dma_rank : (c : ℕ) (image : SphereSetup) (p : Sphere) (b : Cursor) (x : DmaVerdict) (devices : Devices) → p.role ≡ Replay b → is_over b.now ≡ false → GoesOn image p b → b.total ≡ 0 → next_work image p b ≡ suc (dma_stored x)
+    → let v = dma_by_verdict b x devices p in sphere_rank c image (laid v) + ((length v.words + c + 1) + 3) ≤ sphere_rank c image p
+dma_rank c image p b (DmaFails why) devices role going g none work =
+    let before = rank-before c image p b role going g in
     let ended : Cursor = record b { now = Over (End.Diverged (position p.progress) why) } in
     let over = left-over image ended (position p.progress) refl in
     let e : next_work image p b - b.total ≡ 1 = omega (arith, none, work) in
@@ -108,8 +108,8 @@ dma_rest c image p b (DmaFails why) devices role going g none work =
     let paid_ = words-paid c 0 in
     let pays = whole-pays c (next_work image p b) b.total (behind image p b) ((0 + c + 1) + 3) (omega (arith, none, work)) (omega (arith, h, paid_)) (replay_left image ended (position p.progress)) (omega (arith, over)) in
     omega (arith, before, pays)
-dma_rest c image p b (DmaGoes words) devices role going g none work =
-    let before = rest-before c image p b role going g in
+dma_rank c image p b (DmaGoes words) devices role going g none work =
+    let before = rank-before c image p b role going g in
     let progress = with_dma p.progress in
     let after = turned b.log progress (with_dma_used b.used) p.threads in
     let size : position progress ≡ suc (position p.progress) = (let h = length-append p.progress.commits (dma_commit ∷ []) in omega (arith, h)) in
@@ -129,7 +129,7 @@ dma_is image p b g turn =
 -- the DMA of the sphere
 abbrev pub DmaPays : (c : ℕ) → SphereSetup → Sphere → Option Moved → Type 0
 DmaPays c image p None = Unit {0}
-DmaPays c image p (Some v) = sphere_rest c image (laid v) + ((length v.words + c + 1) + 3) ≤ sphere_rest c image p
+DmaPays c image p (Some v) = sphere_rank c image (laid v) + ((length v.words + c + 1) + 3) ≤ sphere_rank c image p
 
 -- a DMA of a replay that goes on pays for its flight and three events
 pub dma-pays : (c : ℕ) (image : SphereSetup) (p : Sphere) (b : Cursor) (devices : Devices) → p.role ≡ Replay b → is_over b.now ≡ false → GoesOn image p b → DmaFits devices p → DmaPays c image p (dma_moved devices p)
@@ -138,4 +138,4 @@ dma-pays c image p b devices role going g fits =
     let turn = turn_of_dma p b role fits.going fits.turn in
     let whole = is-whole image p b g turn in
     subst (λ (r : Role). DmaPays c image p (dma_in r devices p)) (sym role)
-    (dma_rest c image p b (dma_verdict b.log p.progress b.used) devices role going g whole.total (dma_is image p b g turn))
+    (dma_rank c image p b (dma_verdict b.log p.progress b.used) devices role going g whole.total (dma_is image p b g turn))

@@ -12,7 +12,7 @@ use Rattle.spec_protocol.specs.Machine.{SphereSetup, Setup}
 use Rattle.spec_protocol.specs.Serial.{SerialState}
 use Rattle.spec_protocol.specs.Moves.{do_what, do_at, do_move, FitsWhat, FitsAt, Fits}
 use Rattle.spec_finishing.specs.Work.{what_work, role_work, sphere_work, move_work}
-use Rattle.spec_finishing.specs.Rest.{price, spheres_rest}
+use Rattle.spec_finishing.specs.Rank.{price, spheres_rank}
 use Rattle.spec_finishing.proofs.Paying.GoingOn.{GoesOn}
 use Rattle.spec_finishing.proofs.Paying.Serial.{dma-pays}
 use Rattle.spec_finishing.proofs.Paying.Moves.{what_most, sphere_most, move_most, what_more, what_own, chunk_paid, serial_paid, dma_paid}
@@ -30,7 +30,7 @@ not_none None some e = true≢false (sym some)
 not_none (Some x) some e = none-some x (sym e)
 
 what_paid : (c : ℕ) (images : List SphereSetup) (z : Numbers) (x : SerialState) (moment i : ℕ) (image : SphereSetup) (p : Sphere) (b : Cursor) (a : What) → 0 < z.buffer → slice_get images i ≡ Some image → slice_get x.spheres i ≡ Some p → p.role ≡ Replay b
-    → (is_over b.now ≡ false → GoesOn image p b) → FitsWhat z x.devices p a → spheres_rest c images (do_what z x moment i p a).spheres + (what_most c p x.devices moment a + what_more a) ≤ spheres_rest c images x.spheres + 0
+    → (is_over b.now ≡ false → GoesOn image p b) → FitsWhat z x.devices p a → spheres_rank c images (do_what z x moment i p a).spheres + (what_most c p x.devices moment a + what_more a) ≤ spheres_rank c images x.spheres + 0
 what_paid c images z x moment i image p b (OfChunk k how n limit) positive there is role goes fits = chunk_paid c images z x i k how n limit image p b (slice_get p.threads k) positive there is role goes refl fits
 what_paid c images z x moment i image p b (OfSerial k) positive there is role goes fits = serial_paid c images x i k moment image p b (slice_get p.threads k) there is role goes refl fits
 what_paid c images z x moment i image p b OfDma positive there is role goes fits =
@@ -52,7 +52,7 @@ live_work p devices m (Record log) e = refl
 live_work p devices m (Replay b) e = absurd (true≢false e)
 
 role_pays : (c : ℕ) (s : Setup) (z : Numbers) (x : SerialState) (m : Move) (p : Sphere) (b : Bool) → 0 < z.buffer → Stands s x → slice_get x.spheres m.sphere ≡ Some p → replays p.role ≡ b → FitsWhat z x.devices p m.what
-    → spheres_rest c s.spheres (do_what z x m.moment m.sphere p m.what).spheres + what_most c p x.devices m.moment m.what ≤ spheres_rest c s.spheres x.spheres + price c (role_work p x.devices m p.role)
+    → spheres_rank c s.spheres (do_what z x m.moment m.sphere p m.what).spheres + what_most c p x.devices m.moment m.what ≤ spheres_rank c s.spheres x.spheres + price c (role_work p x.devices m p.role)
 role_pays c s z x m p true positive stands is kind fits =
     let image = stands.images m.sphere p is in
     let cursor = replay-role p.role kind in
@@ -65,19 +65,19 @@ role_pays c s z x m p false positive stands is kind fits =
     omega (arith, r, e)
 
 at_pays : (c : ℕ) (s : Setup) (z : Numbers) (x : SerialState) (m : Move) (o : Option Sphere) → 0 < z.buffer → Stands s x → slice_get x.spheres m.sphere ≡ o → FitsAt z x.devices m o
-    → spheres_rest c s.spheres (do_at z x m o).spheres + sphere_most c x.devices m o ≤ spheres_rest c s.spheres x.spheres + price c (sphere_work x.devices m o)
+    → spheres_rank c s.spheres (do_at z x m o).spheres + sphere_most c x.devices m o ≤ spheres_rank c s.spheres x.spheres + price c (sphere_work x.devices m o)
 at_pays c s z x m None positive stands is fits = absurd fits
 at_pays c s z x m (Some p) positive stands is fits = role_pays c s z x m p (replays p.role) positive stands is refl fits
 
 -- a move pays for its flight, with its own work at most
 pub move-pays : (c : ℕ) (s : Setup) (z : Numbers) (x : SerialState) (m : Move) → 0 < z.buffer → Stands s x → Fits z x m
-    → spheres_rest c s.spheres (do_move z x m).spheres + move_most c x m ≤ spheres_rest c s.spheres x.spheres + price c (move_work x m)
+    → spheres_rank c s.spheres (do_move z x m).spheres + move_most c x m ≤ spheres_rank c s.spheres x.spheres + price c (move_work x m)
 unfolding do_move
 move-pays c s z x m positive stands fits = at_pays c s z x m (slice_get x.spheres m.sphere) positive stands refl fits
 
 -- and in a replay it pays for its flight and for more
 at_more : (c : ℕ) (s : Setup) (z : Numbers) (x : SerialState) (m : Move) (p : Sphere) (b : Cursor) (o : Option Sphere) → o ≡ Some p → 0 < z.buffer → Stands s x → slice_get x.spheres m.sphere ≡ o → p.role ≡ Replay b → FitsAt z x.devices m o
-    → spheres_rest c s.spheres (do_at z x m o).spheres + (sphere_most c x.devices m o + what_more m.what) ≤ spheres_rest c s.spheres x.spheres + 0
+    → spheres_rank c s.spheres (do_at z x m o).spheres + (sphere_most c x.devices m o + what_more m.what) ≤ spheres_rank c s.spheres x.spheres + 0
 at_more c s z x m p b None e positive stands is role fits = absurd fits
 at_more c s z x m p b (Some q) e positive stands is role fits =
     let image = stands.images m.sphere q is in
@@ -87,7 +87,7 @@ at_more c s z x m p b (Some q) e positive stands is role fits =
 
 -- a move of a replay pays for its flight and for what it does beside that
 pub move-pays_more : (c : ℕ) (s : Setup) (z : Numbers) (x : SerialState) (m : Move) (p : Sphere) (b : Cursor) → 0 < z.buffer → Stands s x → slice_get x.spheres m.sphere ≡ Some p → p.role ≡ Replay b → Fits z x m
-    → spheres_rest c s.spheres (do_move z x m).spheres + (move_most c x m + what_more m.what) ≤ spheres_rest c s.spheres x.spheres
+    → spheres_rank c s.spheres (do_move z x m).spheres + (move_most c x m + what_more m.what) ≤ spheres_rank c s.spheres x.spheres
 unfolding do_move
 move-pays_more c s z x m p b positive stands is role fits =
     let r = at_more c s z x m p b (slice_get x.spheres m.sphere) is positive stands refl role fits in omega (arith, r)

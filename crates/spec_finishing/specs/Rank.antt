@@ -20,13 +20,13 @@ untold_cores zero t = 0
 untold_cores (suc n) t = (if told_at t n then 0 else 1) + untold_cores n t
 
 -- one, the words left, and the cores that were not told
-abbrev pub flight_rest : (cores : ℕ) → Option Flight → ℕ
-flight_rest cores None = 0
-flight_rest cores (Some f) = suc (length f.words + untold_cores cores f.told)
+abbrev pub flight_rank : (cores : ℕ) → Option Flight → ℕ
+flight_rank cores None = 0
+flight_rank cores (Some f) = suc (length f.words + untold_cores cores f.told)
 
-abbrev pub flights_rest : (cores : ℕ) → List (Option Flight) → ℕ
-flights_rest cores [] = 0
-flights_rest cores (slot ∷ slots) = flight_rest cores slot + flights_rest cores slots
+abbrev pub flights_rank : (cores : ℕ) → List (Option Flight) → ℕ
+flights_rank cores [] = 0
+flights_rank cores (slot ∷ slots) = flight_rank cores slot + flights_rank cores slots
 
 -- ---- replays
 
@@ -43,20 +43,20 @@ replay_left image b i =
 unfoldable pub price : (cores work : ℕ) → ℕ
 price cores work = (cores + 6) * work
 
-abbrev pub role_rest : (cores : ℕ) → SphereSetup → Sphere → Role → ℕ
-role_rest cores image p Plain = 0
-role_rest cores image p (Record log) = 0
-role_rest cores image p (Replay b) = price cores (replay_left image b (position p.progress))
+abbrev pub role_rank : (cores : ℕ) → SphereSetup → Sphere → Role → ℕ
+role_rank cores image p Plain = 0
+role_rank cores image p (Record log) = 0
+role_rank cores image p (Replay b) = price cores (replay_left image b (position p.progress))
 
 -- of the spheres that began as these images
-abbrev pub spheres_rest : (cores : ℕ) → List SphereSetup → List Sphere → ℕ
-spheres_rest cores [] ps = 0
-spheres_rest cores (image ∷ images) [] = 0
-spheres_rest cores (image ∷ images) (p ∷ ps) = role_rest cores image p p.role + spheres_rest cores images ps
+abbrev pub spheres_rank : (cores : ℕ) → List SphereSetup → List Sphere → ℕ
+spheres_rank cores [] ps = 0
+spheres_rank cores (image ∷ images) [] = 0
+spheres_rank cores (image ∷ images) (p ∷ ps) = role_rank cores image p p.role + spheres_rank cores images ps
 
 -- of flights and replays
 abbrev pub potential : Setup → World → ℕ
-potential s w = flights_rest s.cores w.slots + spheres_rest s.cores s.spheres w.spheres
+potential s w = flights_rank s.cores w.slots + spheres_rank s.cores s.spheres w.spheres
 
 -- ---- what is under way
 
@@ -87,5 +87,5 @@ under_way w = standing_under_way w (standing w)
 
 -- ---- both
 
-abbrev pub rest : Setup → World → ℕ
-rest s w = potential s w - under_way w
+abbrev pub rank : Setup → World → ℕ
+rank s w = potential s w - under_way w
