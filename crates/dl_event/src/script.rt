@@ -50,39 +50,24 @@ fn next_line(text: &[u8]) -> (Line, Option<&[u8]>)
     }
 }
 
-// The event of a line in its shortest form, with one digit: nearly all lines of a script that is written by a program.
+// The event of a first line in its shortest form, with one digit and no needless space, as programs write nearly all lines.
 fn short_line(text: &[u8]) -> Option<(Event, &[u8])>
-    ensures lines { IfSome result (λ found. lines_of text.now ≡ Holds found.0 ∷ lines_of found.1.now) }
-    ensures shorter { IfSome result (λ found. length found.1.now < length text.now) }
+    ensures lines { IfSome result (λ read. lines_of text.now ≡ Holds read.0 ∷ lines_of read.1.now) }
+    ensures shorter { IfSome result (λ read. length read.1.now < length text.now) }
 {
-    if let [
-        b's',
-        b't',
-        b'e',
-        b'p',
-        b' ',
-        n @ b'0'..=b'9',
-        b'\n',
-        rest @ ..,
-    ] = text
+    if let [b's', b't', b'e', b'p', b' ', n, b'\n', rest @ ..] = text
+        && n.is_ascii_digit()
     {
         return Some((Event::Step(*n - b'0'), rest));
     }
-    if let [
-        b'd',
-        b'r',
-        b'a',
-        b'i',
-        b'n',
-        b' ',
-        n @ b'0'..=b'9',
-        b'\n',
-        rest @ ..,
-    ] = text
+    if let [b'd', b'r', b'a', b'i', b'n', b' ', n, b'\n', rest @ ..] = text
+        && n.is_ascii_digit()
     {
         return Some((Event::Drain(*n - b'0'), rest));
     }
-    if let [b'a', b's', b'k', b' ', n @ b'0'..=b'9', b'\n', rest @ ..] = text {
+    if let [b'a', b's', b'k', b' ', n, b'\n', rest @ ..] = text
+        && n.is_ascii_digit()
+    {
         return Some((Event::Ask(*n - b'0'), rest));
     }
     None

@@ -1,31 +1,35 @@
-use Rattle.std.proofs.Common.{◌≡◌, ◌+◌, ◌-◌, ◌∷◌, ◌++◌, [], ℕ, List, length, take, drop, slice_index_or, length-drop, ap, ◌∙◌, arith}
+use Rattle.std.proofs.Common.{◌≡◌, ◌+◌, ◌-◌, ◌∷◌, ◌++◌, [], ℕ, List, length, take, drop, slice_index_or, length-drop, ap, ◌∙◌, arith, rules}
 use Rattle.std.proofs.lemmas.List.{take_all}
+use Rattle.std.specs.Char.{IsAsciiDigit}
 use Rattle.dl_event.specs.Script.{lines_of}
 use Rattle.dl_event.proofs.Short.{begins, step_line, drain_line, ask_line}
 use Rattle.dl_event.proofs.script.short_line.Goals as goal
 
-pub returns-in-115-clause-lines : goal.returns-in-115-clause-lines
-returns-in-115-clause-lines c =
+pub returns-clause-lines : goal.returns-clause-lines
+returns-clause-lines c =
     let text : List ℕ = c.args.text.now in
     let m : ℕ = slice_index_or c.args.text.now 5 0 - 48 in
+    let digit : IsAsciiDigit (slice_index_or c.args.text.now 5 0) = search rules in
     let front : List ℕ = 115 ∷ 116 ∷ 101 ∷ 112 ∷ 32 ∷ (48 + m) ∷ 10 ∷ [] in
     let is : c.args.text.now ≡ front ++ drop 7 c.args.text.now = begins front text (omega arith) (omega arith, (omega arith, (omega arith, (omega arith, (omega arith, (omega arith, (omega arith, tt))))))) in
     let all : take (length c.args.text.now - 7) (drop 7 c.args.text.now) ≡ drop 7 c.args.text.now = take_all _ _ (omega (arith, length-drop 7 text)) in
     rw all (ap lines_of is ∙ step_line m (omega arith) (drop 7 text))
 
-pub returns-in-100-clause-lines : goal.returns-in-100-clause-lines
-returns-in-100-clause-lines c =
+pub returns-2-clause-lines : goal.returns-2-clause-lines
+returns-2-clause-lines c =
     let text : List ℕ = c.args.text.now in
     let m : ℕ = slice_index_or c.args.text.now 6 0 - 48 in
+    let digit : IsAsciiDigit (slice_index_or c.args.text.now 6 0) = search rules in
     let front : List ℕ = 100 ∷ 114 ∷ 97 ∷ 105 ∷ 110 ∷ 32 ∷ (48 + m) ∷ 10 ∷ [] in
     let is : c.args.text.now ≡ front ++ drop 8 c.args.text.now = begins front text (omega arith) (omega arith, (omega arith, (omega arith, (omega arith, (omega arith, (omega arith, (omega arith, (omega arith, tt)))))))) in
     let all : take (length c.args.text.now - 8) (drop 8 c.args.text.now) ≡ drop 8 c.args.text.now = take_all _ _ (omega (arith, length-drop 8 text)) in
     rw all (ap lines_of is ∙ drain_line m (omega arith) (drop 8 text))
 
-pub returns-in-97-clause-lines : goal.returns-in-97-clause-lines
-returns-in-97-clause-lines c =
+pub returns-3-clause-lines : goal.returns-3-clause-lines
+returns-3-clause-lines c =
     let text : List ℕ = c.args.text.now in
     let m : ℕ = slice_index_or c.args.text.now 4 0 - 48 in
+    let digit : IsAsciiDigit (slice_index_or c.args.text.now 4 0) = search rules in
     let front : List ℕ = 97 ∷ 115 ∷ 107 ∷ 32 ∷ (48 + m) ∷ 10 ∷ [] in
     let is : c.args.text.now ≡ front ++ drop 6 c.args.text.now = begins front text (omega arith) (omega arith, (omega arith, (omega arith, (omega arith, (omega arith, (omega arith, tt)))))) in
     let all : take (length c.args.text.now - 6) (drop 6 c.args.text.now) ≡ drop 6 c.args.text.now = take_all _ _ (omega (arith, length-drop 6 text)) in
