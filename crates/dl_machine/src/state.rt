@@ -1,5 +1,5 @@
 //! The state of the machine, with one method for each event.
-ghost use Rattle.std.specs.Prelude.{◌≡◌, ◌<◌, ◌^◌, false, IfOk, IfSome, IsOk, OnErr, OnOk, All, length, option_map};
+ghost use Rattle.std.specs.Prelude.{◌≡◌, ◌<◌, ◌%◌, ◌^◌, false, IfOk, IfSome, IsOk, OnErr, OnOk, All, length, option_map};
 ghost use Rattle.spec_engine.specs.Flights.{IsInside, at};
 ghost use Rattle.spec_protocol.specs.Machine.{act, world_of};
 ghost use Rattle.spec_protocol.specs.World.{sphere_at};
@@ -111,20 +111,40 @@ impl<G: Sig> State<G> {
     {
         let (cores, spheres, slots) = (self.cores.len(), self.spheres.len(), self.flights.window());
         match event {
-            Event::Step(core) => Ok(self.step(core % cores)),
-            Event::Cut(core) => Ok(self.cut(core % cores)),
-            Event::Ask(core) => self.ask(core % cores),
-            Event::Drain(slot) => Ok(self.drain(slot % slots)),
-            Event::Deliver(core, slot) => Ok(self.deliver(core % cores, slot % slots)),
-            Event::Retire(slot) => Ok(self.retire(slot % slots)),
+            Event::Step(core) => Ok(self.step(wrapped(core, cores))),
+            Event::Cut(core) => Ok(self.cut(wrapped(core, cores))),
+            Event::Ask(core) => self.ask(wrapped(core, cores)),
+            Event::Drain(slot) => Ok(self.drain(wrapped(slot, slots))),
+            Event::Deliver(core, slot) => Ok(self.deliver(
+                wrapped(core, cores),
+                wrapped(slot, slots),
+            )),
+            Event::Retire(slot) => Ok(self.retire(wrapped(slot, slots))),
             Event::Place(core, sphere, thread) => Ok(self.place(
-                core % cores,
-                sphere % spheres,
+                wrapped(core, cores),
+                wrapped(sphere, spheres),
                 thread,
             )),
-            Event::Raise(sphere, thread, value) => self.raise(sphere % spheres, thread, value),
-            Event::Dma(sphere) => self.dma(sphere % spheres),
+            Event::Raise(sphere, thread, value) => self.raise(
+                wrapped(sphere, spheres),
+                thread,
+                value,
+            ),
+            Event::Dma(sphere) => self.dma(wrapped(sphere, spheres)),
         }
+    }
+}
+
+// A number taken modulo how many there are. It mostly is one of them, and then nothing is divided.
+fn wrapped(number: u8, count: u8) -> u8
+    requires { 0 < count }
+    ensures value { result ≡ number % count }
+    ensures within { result < count }
+{
+    if number < count {
+        number
+    } else {
+        number % count
     }
 }
 
