@@ -1,4 +1,4 @@
--- Rows whose elements stay alike.
+-- The cores of a row stay alike, whatever one of them holds.
 use Rattle.std.proofs.Common.{◌≡◌, ℕ, ◌+◌, ◌<◌, cond, List, [], ◌∷◌, length, get_or, map, slice_set, refl, sym, ap, ◌∙◌, subst, arith, Option, None, Bool, not}
 use Rattle.std.proofs.lemmas.List.{map-set, length-set, get_or-map}
 use Rattle.std.proofs.lemmas.Grind.{common_steps}
@@ -61,5 +61,6 @@ place_held : (p : Option Held → Bool) (row : List Core) → position_or_len p 
 place_held p [] = refl
 place_held p (c ∷ cs) = ap (λ (n : ℕ). cond (not (p c.held)) (1 + n) 0) (place_held p cs)
 
+-- a core is found by what it holds, among cores as among what they hold
 pub position_held : (p : Option Held → Bool) (row : List Core) → position p (map held_by row) ≡ position (λ c. p c.held) row
 position_held p row = rw (place_held p row, length_held row) refl

@@ -23,10 +23,12 @@ serial_in_apart Plain k moment t d p = tt
 serial_in_apart (Record log) k moment t d p = tt
 serial_in_apart (Replay b) k moment t d p = verdict_apart b k (serial_verdict b.log p.progress b.used k p.threads t p.memory) d p
 
+-- a serial step that diverges leaves the devices as they are
 pub serial_apart : (k moment : ℕ) (t : Parts) (d : Devices) (p : Sphere) → let v = serial_moved k moment t d p in IsApart d v v.outcome
 unfolding serial_moved
 serial_apart k moment t d p = serial_in_apart p.role k moment t d p
 
+-- a move, if there is one, that diverges leaves the devices as they are
 abbrev pub AreApart : Devices → Option Moved → Type 0
 AreApart d None = Unit {0}
 AreApart d (Some v) = IsApart d v v.outcome
@@ -44,6 +46,7 @@ dma_in_apart Plain d p = live_apart Plain d p p.progress.request
 dma_in_apart (Record log) d p = live_apart _ d p p.progress.request
 dma_in_apart (Replay b) d p = dma_verdict_apart b (dma_verdict b.log p.progress b.used) d p
 
+-- a DMA that diverges leaves the devices as they are
 pub dma_apart : (d : Devices) (p : Sphere) → AreApart d (dma_moved d p)
 unfolding dma_moved
 dma_apart d p = dma_in_apart p.role d p

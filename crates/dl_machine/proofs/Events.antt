@@ -1,4 +1,4 @@
--- Events as the machine does them.
+-- Every event keeps the world ready, and is counted once, with its reply.
 use Rattle.std.proofs.Common.{◌≡◌, ℕ, ◌≤◌, refl, ap, ◌∙◌}
 use Rattle.std.specs.Prelude.{slice_index}
 use Rattle.dl_entry.specs.Counts.{counted}
@@ -16,10 +16,12 @@ use Rattle.dl_machine.specs.States.{left}
 pub act_counts : (w : World) (e : Event) → (left (act w e)).counts ≡ w.counts
 act_counts w e = (act-untold w e).counts
 
+-- being counted changes nothing of what an event answers
 pub happens_reply : (w : World) (e : Event) → (happens w e).reply ≡ (act w e).reply
 unfolding happens
 happens_reply w e = refl
 
+-- an event leaves its world with the event counted by its reply
 pub happens_world : (w : World) (e : Event) → (happens w e).world ≡ record (left (act w e)) { counts = counted (left (act w e)).counts (name_of (act w e).reply) }
 unfolding happens
 happens_world w e = refl

@@ -1,4 +1,4 @@
--- What a granted request leaves.
+-- What the parts of a machine hold after a granted request is the world that the definitions give.
 use Rattle.std.proofs.Common.{◌≡◌, ℕ, zero, suc, ◌%◌, ◌^◌, Bool, true, false, List, [], ◌∷◌, ◌++◌, Option, Some, None, slice_set, refl, sym, ap, ◌∙◌, subst}
 use Rattle.std.specs.Prelude.{option_map, slice_get}
 use Rattle.std.proofs.lemmas.Option.{none-some, same_Some}
@@ -27,6 +27,8 @@ use Rattle.dl_machine.specs.States.{world_in}
 use Rattle.dl_machine.proofs.Moments.{serial_cut}
 use Rattle.dl_machine.proofs.Diverging.{IsApart, serial_apart}
 
+-- the world after a grant: the sphere has moved, its words fly, the core holds its thread afresh, and the point is
+-- kept
 abbrev pub with_grant : World → (core : ℕ) → Seen → Sphere → List Stored → Marks → Devices → Point → World
 with_grant w c held p words marks devices point =
     record w {
@@ -37,9 +39,11 @@ with_grant w c held p words marks devices point =
       points = w.points ++ point ∷ [];
     }
 
+-- the point that a grant makes
 abbrev pub point_in : World → Seen → CommitKind → (n : ℕ) → (short : Bool) → Point
 point_in w held kind n short = Point.Commit (moment w) held.sphere (Actor.Thread held.thread) kind n short
 
+-- the chunk that a core holds
 abbrev pub chunk_of : Held → Chunk
 chunk_of h = h.chunk
 
@@ -76,10 +80,12 @@ serial_done cores spheres after_ flights devices then_ counts points more c held
 
 -- ---- under what a core holds
 
+-- what is read of the event of what a core holds is read of the event
 pub held_after : {A : Type 0} (g : After → A) (f : Held → After) (o : Option Held) (a : After) → Some a ≡ option_map f o → Some (g a) ≡ option_map (λ h. g (f h)) o
 held_after g f None a e = absurd (none-some a (sym e))
 held_after g f (Some h) a e = ap (λ (b : After). Some (g b)) (same_Some _ _ e)
 
+-- the chunk that a core holds was closed as the core says
 pub closed_is : (o : Option Held) (ch : Chunk) (how : How) → option_map closed_by o ≡ Some (Some how) → Some ch ≡ option_map chunk_of o → ch.closed ≡ Some how
 closed_is None ch how e c = absurd (none-some (Some how) e)
 closed_is (Some h) ch how e c = ap (λ (d : Chunk). d.closed) (same_Some _ _ c) ∙ same_Some _ _ e
@@ -97,6 +103,7 @@ chunk_asked w held how ch =
       short = is_short w.numbers.chunk how ch.limit;
     }
 
+-- what a granted chunk makes of its sphere
 abbrev pub moved_by : World → Seen → How → Chunk → Moved
 moved_by w held how ch =
     chunk_moved held.thread (is_piece how) (is_short w.numbers.chunk how ch.limit) ch.done w.devices (sphere_at w held.sphere)
@@ -172,11 +179,13 @@ granted_passes w c q marks v Granted = refl
 granted_passes w c q marks v Piece = refl
 granted_passes w c q marks v (Diverged i why) = refl
 
+-- a granted chunk answers as what passed every check
 pub chunk_passes : (w : World) (c : ℕ) (h : Held) (how : How) → passes (grant_chunk w c h how).reply ≡ true
 chunk_passes w c h how =
     let v = moved_by w (seen h) how h.chunk in
     ap (λ (a : After). passes a.reply) (chunk_is w c h how) ∙ granted_passes w c (chunk_asked w (seen h) how h.chunk) h.chunk.writes v v.outcome
 
+-- a granted serial step answers as what passed every check
 pub serial_passes : (w : World) (c : ℕ) (h : Held) → passes (grant_serial w c h).reply ≡ true
 serial_passes w c h =
     let v = serial_moved h.thread (moment w) h.chunk.start w.devices (sphere_at w h.chunk.sphere) in

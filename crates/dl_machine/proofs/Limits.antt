@@ -1,4 +1,4 @@
--- A setup within the limits.
+-- A setup that a machine is made of is within the limits, and what it comes to is ready.
 use Rattle.std.proofs.Common.{◌≡◌, ℕ, zero, suc, ◌^◌, ◌<◌, All, List, [], ◌∷◌, length, map, Some, arith, subst}
 use Rattle.std.specs.Prelude.{slice_get}
 use Rattle.std.proofs.lemmas.Grind.{common_steps}
@@ -21,6 +21,7 @@ image_at [] all (suc i) image e = cc
 image_at (x ∷ xs) all zero image e = subst IsImage (same_Some _ _ e) (all 0 x (omega arith))
 image_at (x ∷ xs) all (suc i) image e = image_at xs (λ k d l. all (suc k) d (omega arith)) i image e
 
+-- a machine's setup is within the protocol's limits
 pub limits_within : (s : Setup) → IsWithin s → All (λ x. IsImage (setup_of x)) s.spheres → All (λ byte. byte < 2 ^ 8) s.input → IsWithinLimits (setup_in s)
 limits_within s within images input =
     record {
@@ -35,6 +36,7 @@ limits_within s within images input =
       images = image_at s.spheres images;
     }
 
+-- a setup within the limits is a setup
 pub setup_within : (s : protocol.Setup) → IsWithinLimits s → IsSetup s
 setup_within s limits = record { chunk = let c = limits.chunk in omega arith; buffer = let b = limits.buffer in omega arith }
 

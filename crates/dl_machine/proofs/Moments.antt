@@ -30,6 +30,7 @@ serial_in_cut Plain k moment t d p = ap (λ (g : Taken). served_as Plain k t g p
 serial_in_cut (Record log) k moment t d p = ap (λ (g : Taken). served_as (Record (serial_noted k t g log p)) k t g p) (taken_cut (need t p.memory) d moment)
 serial_in_cut (Replay b) k moment t d p = refl
 
+-- a serial step sees its moment modulo 2^32
 pub serial_cut : (k moment : ℕ) (t : Parts) (d : Devices) (p : Sphere) → serial_moved k (moment % 2 ^ 32) t d p ≡ serial_moved k moment t d p
 unfolding serial_moved
 serial_cut k moment t d p = serial_in_cut p.role k moment t d p

@@ -1,4 +1,4 @@
--- The promises of the protocol, of a world that a setup has come to.
+-- What the protocol promises holds of every world that a setup has come to.
 use Rattle.std.proofs.Common.{◌≡◌, ℕ, ◌<◌, [], ◌∷◌, ◌++◌, List, Some, refl, sym, ap, ◌∙◌, subst, arith}
 use Rattle.std.specs.Prelude.{slice_get}
 use Rattle.spec_log.specs.declared.LogParts.{LogParts}
@@ -21,9 +21,11 @@ after_more : (w : World) (es : List Event) (e : Event) → world_after w (es ++ 
 after_more w [] e = refl
 after_more w (f ∷ es) e = after_more (happens w f).world es e
 
+-- a world that a setup starts is a run of no events
 pub run_first : (s : Setup) (w : World) → IsWithinLimits s → w ≡ world_of s → IsRun s [] w
 run_first s w limits is = record { limits = limits; here = is }
 
+-- one event more after a run makes a run
 pub run_more : (s : Setup) (es : List Event) (e : Event) (w next : World) → next ≡ (happens w e).world → IsRun s es w → IsRun s (es ++ e ∷ []) next
 run_more s es e w next is run =
     record { limits = run.limits; here = is ∙ ap (λ (u : World). (happens u e).world) run.here ∙ sym (after_more (world_of s) es e) }
@@ -35,6 +37,7 @@ serial_after s es limits =
     let so = commits_are s es (setup_within s limits) in
     record { spheres = so.spheres; devices = so.devices; possible = so.possible }
 
+-- what a run shows is that of its points, done one at a time
 pub serial_run : (s : Setup) (es : List Event) (w : World) → IsRun s es w → IsSerial s w w.points
 serial_run s es w run = subst (λ (u : World). IsSerial s u u.points) (sym run.here) (serial_after s es run.limits)
 
@@ -53,5 +56,6 @@ promised_after s i es limits =
       stopped = λ image log p b now was is over. stopped_played image log s es i p b (record { setup = within; there = now.there; replays = was; standard = standard image log now.there was; shown = now.shown }) is over;
     }
 
+-- what the protocol promises of a sphere holds after every run
 pub promised_run : (s : Setup) (i : ℕ) (es : List Event) (w : World) → IsRun s es w → IsPromised s i w
 promised_run s i es w run = subst (λ (u : World). IsPromised s i u) (sym run.here) (promised_after s i es run.limits)

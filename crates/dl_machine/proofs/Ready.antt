@@ -34,6 +34,7 @@ slot_size w k (Some f) ready is = (ready.good.covered k f is).size
 pub reads_fit : (w : World) (c k : ℕ) → IsReady w → IsOfSize (reads_in w.numbers.signature (at w.cores c)).bits (at w.slots k)
 reads_fit w c k ready = subst (λ (n : ℕ). IsOfSize n (at w.slots k)) (sym (reads_size w c (at w.cores c) ready refl)) (slot_size w k (at w.slots k) ready refl)
 
+-- the signature of a core's writes has the size of those in the slots
 pub writes_fit : (w : World) (c k : ℕ) → IsReady w → IsOfSize (writes_in w.numbers.signature (at w.cores c)).bits (at w.slots k)
 writes_fit w c k ready = subst (λ (n : ℕ). IsOfSize n (at w.slots k)) (sym (writes_size w c (at w.cores c) ready refl)) (slot_size w k (at w.slots k) ready refl)
 
@@ -44,6 +45,7 @@ flight_inside w k (Some f) ready is =
     let i = ready.good.flights k f is in
     (i, subst (λ (n : ℕ). AreInside n f.words) (sym (ready.sound.spheres f.sphere i).size) (ready.sound.flights k f is).inside)
 
+-- the signatures in the slots have the world's size
 pub slots_size : (w : World) → IsReady w → AreOfSize w.numbers.signature w.slots
 slots_size w ready = record { each = λ k. slot_size w k (at w.slots k) ready refl }
 
@@ -53,6 +55,7 @@ chunk_reads w c None ch ready is e = absurd (none-some ch (sym e))
 chunk_reads w c (Some h) ch ready is e =
     subst (λ (n : ℕ). AreOfSize n w.slots) (sym (ap (λ (d : Chunk). d.reads.bits) (same_Some _ _ e) ∙ (ready.good.held c h is).chunk.reads_size)) (slots_size w ready)
 
+-- the signature of a held chunk's writes has the size of those in the slots
 pub chunk_writes : (w : World) (c : ℕ) (o : Option Held) (ch : Chunk) → IsReady w → at w.cores c ≡ o → Some ch ≡ option_map (λ h. h.chunk) o → AreOfSize ch.writes.bits w.slots
 chunk_writes w c None ch ready is e = absurd (none-some ch (sym e))
 chunk_writes w c (Some h) ch ready is e =

@@ -40,5 +40,6 @@ has_is : (bits : ℕ) (s : Stepping) → Has bits s → s.chunk.reads.bits ≡ b
 unfolding Has
 has_is bits s e = e
 
+-- a step keeps the size of a chunk's signature of reads
 pub step_bits : (capacity : ℕ) (m : List ℕ) (slots : List (Option Flight)) (c : ℕ) (ch : Chunk) → (step capacity m slots c ch).chunk.reads.bits ≡ ch.reads.bits
 step_bits capacity m slots c ch = has_is ch.reads.bits _ (step_has ch.reads.bits capacity m slots c ch refl)

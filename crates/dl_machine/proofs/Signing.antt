@@ -1,4 +1,4 @@
--- The lines of words, marked one after another.
+-- Marking the lines of words one after another marks those of all.
 use Rattle.std.proofs.Common.{◌≡◌, ℕ, suc, ◌+◌, List, drop, Some, ap, ◌∙◌, arith}
 use Rattle.std.specs.Prelude.{slice_get}
 use Rattle.std.proofs.Math.Seq.{drop-cons}
@@ -6,6 +6,7 @@ use Rattle.std.proofs.lemmas.Option.{slice_get_within, get_or_from_slice_get}
 use Rattle.spec_isa.specs.Words.{Stored}
 use Rattle.spec_engine.specs.Signatures.{Marks, insert, line, signed}
 
+-- signing words begins with the first one's line
 pub sign_next : (i : ℕ) (ws : List Stored) (k : ℕ) (s : Stored) (g : Marks) → slice_get ws k ≡ Some s → signed i (drop k ws) g ≡ signed i (drop (k + 1) ws) (insert (line i s.word) g)
 sign_next i ws k s g is =
     let next : suc k ≡ k + 1 = omega arith in

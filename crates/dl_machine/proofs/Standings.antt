@@ -1,4 +1,4 @@
--- The row of spheres.
+-- The row of spheres is seen as the spheres in it, and a change of one of them as a change of that one alone.
 use Rattle.std.proofs.Common.{◌≡◌, ℕ, ◌<◌, List, length, get_or, map, slice_set, sym, ap, ◌∙◌, subst, arith}
 use Rattle.std.proofs.lemmas.List.{map-set, get_or-map, get_or-set_same}
 use Rattle.std.proofs.lemmas.Grind.{common_steps}
@@ -31,6 +31,7 @@ pub spheres_left : (s : ℕ) (row : List Standing) (i : ℕ) (d : Standing) (r :
 spheres_left s row i d r view =
     ap (λ (xs : List Sphere). record { standard = s; spheres = xs }) (map-set sphere_in row i d) ∙ ap (with_nth i d.sphere) view
 
+-- where one of the row has changed, it is that one alone
 pub others_left : (s : ℕ) (row : List Standing) (i : ℕ) (d : Standing) (r : Spheres) → spheres_of s row ≡ r → i < length row → let v = spheres_of s (slice_set row i d) in v ≡ with_nth i (nth_sphere i v) r
 others_left s row i d r view within =
     spheres_left s row i d r view ∙ ap (λ (p : Sphere). with_nth i p r) (sym (nth_left s row i d within))
@@ -42,6 +43,7 @@ said_of_row P s row i p d r are view within is said =
     subst (λ (q : Sphere). P (record { standard = r.standard; sphere = nth_sphere i r }) q) (sym (nth_left s row i d within))
     (subst (λ (o : Standing). P o d.sphere) (standing_at s row i p r are view within is) said)
 
+-- what stands at i of the row is the sphere that is seen there
 pub standing_is : (s : ℕ) (row : List Standing) (i : ℕ) (p : Standing) (r : Spheres) → AreSpheres s row → spheres_of s row ≡ r → i < length row → p ≡ get_or row i p → p.sphere ≡ nth_sphere i r
 standing_is s row i p r are view within is = ap sphere_in (standing_at s row i p r are view within is)
 

@@ -1,4 +1,4 @@
--- The cores at first.
+-- The cores that a machine begins with are as many as were asked for, each with what it holds at first.
 use Rattle.std.proofs.Common.{◌≡◌, ℕ, zero, suc, ◌+◌, List, [], ◌∷◌, ◌++◌, length, Option, Some, None, refl, sym, ap, ◌∙◌, arith}
 use Rattle.std.specs.Prelude.{slice_get}
 use Rattle.spec_protocol.specs.Spheres.{Sphere}

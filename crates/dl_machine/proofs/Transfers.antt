@@ -1,4 +1,4 @@
--- What a DMA comes to.
+-- A DMA answers what it comes to, and without a request there is none but in a replay.
 use Rattle.std.proofs.Common.{◌≡◌, ℕ, false, Option, Some, None, List, refl, sym, ap, ◌∙◌, subst}
 use Rattle.dl_entry.specs.declared.Request.{Request}
 use Rattle.spec_isa.specs.Words.{Stored}
@@ -28,6 +28,7 @@ pub no_dma : (d : Devices) (p : Sphere) → replays p.role ≡ false → p.progr
 unfolding dma_moved
 no_dma d p e none = none_in p.role d p e none
 
+-- a DMA that comes to an outcome has it as its answer
 pub comes_to : (o : CommitOutcome) (m : Option Moved) (v : Moved) → ComesTo o m → m ≡ Some v → v.outcome ≡ o
 comes_to o None v c e = absurd c
 comes_to o (Some u) v c e = let same : u ≡ v = cc in ap (λ (x : Moved). x.outcome) (sym same) ∙ c
