@@ -1,6 +1,6 @@
-//! Steps chunks of 4,096 instructions, a third of which load or store, through buffers of 16 and of 4,096 words and signatures
-//! of 64 and of 2,048 bits, and prints what each came to. Its first word says how often each is stepped, without it once; a
-//! second one leaves out the buffers of another size.
+//! Steps chunks of 4,096 instructions, three of four of which store, through buffers of 16 and of 4,096 words and signatures of
+//! 64 and of 2,048 bits, and prints what each came to. Its first word says how often each is stepped, without it once; a second
+//! one leaves out the buffers of another size, and a third the signatures of another.
 #![tactic(auto)]
 
 ghost use Rattle.std.specs.Prelude.{◌≡◌, ◌≤◌, true};
@@ -18,45 +18,15 @@ use std::env;
 
 fn main(rt: HostRuntime) -> anyhow::Result<()> {
     let mut words = env::args(&rt)?.skip(1);
-    let rounds = number(words.next())?.unwrap_or(1);
-    let only = number(words.next())?;
-    if only != Some(4096) {
-        print(
-            &rt,
-            Room {
-                words: 16,
-                bits: 64,
-            },
-            rounds,
-        )?;
-        print(
-            &rt,
-            Room {
-                words: 16,
-                bits: 2048,
-            },
-            rounds,
-        )?;
-    }
-    if only != Some(16) {
-        print(
-            &rt,
-            Room {
-                words: 4096,
-                bits: 64,
-            },
-            rounds,
-        )?;
-        print(
-            &rt,
-            Room {
-                words: 4096,
-                bits: 2048,
-            },
-            rounds,
-        )?;
-    }
-    Ok(())
+    let choice = Choice {
+        rounds: number(words.next())?.unwrap_or(1),
+        words: number(words.next())?,
+        bits: number(words.next())?,
+    };
+    print(&rt, &choice, 16, 64)?;
+    print(&rt, &choice, 16, 2048)?;
+    print(&rt, &choice, 4096, 64)?;
+    print(&rt, &choice, 4096, 2048)
 }
 
 fn number(word: Option<String>) -> anyhow::Result<Option<u32>> {
@@ -66,15 +36,32 @@ fn number(word: Option<String>) -> anyhow::Result<Option<u32>> {
     }
 }
 
-fn print(rt: &(impl Print + AllocGlobal), room: Room, rounds: u32) -> anyhow::Result<()>
-    requires least { 1 ≤ room.words }
-    requires most { room.words ≤ 4096 }
-    requires bits { is_size room.bits ≡ true }
+// How often each is stepped, and which alone.
+#[derive(Drop)]
+struct Choice {
+    rounds: u32,
+    words: Option<u32>,
+    bits: Option<u32>,
+}
+
+fn print(
+    rt: &(impl Print + AllocGlobal),
+    choice: &Choice,
+    words: u32,
+    bits: u32,
+) -> anyhow::Result<()>
+    requires least { 1 ≤ words }
+    requires most { words ≤ 4096 }
+    requires bits { is_size bits ≡ true }
 {
-    let image = load(rt.alloc(), &file(rt.alloc(), room.words)?, 32_768)?;
+    if choice.words.unwrap_or(words) != words || choice.bits.unwrap_or(bits) != bits {
+        return Ok(());
+    }
+    let image = load(rt.alloc(), &file(rt.alloc(), words)?, 32_768)?;
     let mem = Memory::new(rt.alloc(), &image)?;
     let flights = Flights::new(rt.alloc(), 8, 8)?;
-    let last = last_of(rt.alloc(), room, rounds, &mem, &flights)?;
+    let room = Room { words, bits };
+    let last = last_of(rt.alloc(), room, choice.rounds, &mem, &flights)?;
     println!(rt; "{room}: {last}")?;
     Ok(())
 }
