@@ -94,6 +94,3 @@ fn put_end_fields(text: &mut Text, end: End) -> Result<(), OutOfMemory>
         }
     }
 }
-
-#[cfg(test)]
-mod tests;

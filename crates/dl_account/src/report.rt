@@ -94,6 +94,3 @@ fn kind_word(kind: CommitKind) -> &'static [u8]
         CommitKind::Piece => b"piece",
     }
 }
-
-#[cfg(test)]
-mod tests;

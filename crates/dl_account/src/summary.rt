@@ -83,6 +83,3 @@ fn put_sphere(text: &mut Text, number: usize, sphere: SphereLine) -> Result<(), 
     }
     text.put(b"\n")
 }
-
-#[cfg(test)]
-mod tests;

@@ -17,8 +17,6 @@ mod operand;
 mod operands;
 mod register;
 mod statement;
-#[cfg(test)]
-mod tests;
 mod text;
 mod value;
 

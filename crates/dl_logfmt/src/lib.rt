@@ -13,8 +13,6 @@ mod refusal;
 mod section_left;
 mod sections;
 mod stage;
-#[cfg(test)]
-mod tests_of_writing;
 mod unit;
 mod units;
 mod writer;

@@ -14,8 +14,6 @@ mod plan;
 mod read;
 mod sizes;
 mod sphere;
-#[cfg(test)]
-mod tests;
 mod top;
 mod values;
 

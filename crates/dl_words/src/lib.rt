@@ -6,8 +6,6 @@ pub mod command;
 mod matching;
 mod number;
 mod reading;
-#[cfg(test)]
-mod tests;
 
 pub use command::Command;
 pub use dl_entry::OutOfMemory;

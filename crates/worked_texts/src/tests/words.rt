@@ -1,6 +1,5 @@
 //! Which words mean a command, and which.
-use crate::{Command, read_words};
-use dl_entry::OutOfMemory;
+use dl_words::{Command, OutOfMemory, read_words};
 use std::alloc::Global;
 
 const COMMANDS: [(&[&str], Command<'static>); 9] = [

@@ -1,9 +1,7 @@
 //! Worked logs, written in pieces.
 ghost use Rattle.std.specs.Prelude.{◌<◌, length};
 
-use crate::writer::LogWriter;
-use dl_logbytes::read_log;
-use spec_log::Log;
+use dl_logfmt::{Log, LogWriter, read_log};
 use std::process::Abort;
 
 #[test]

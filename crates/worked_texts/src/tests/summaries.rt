@@ -1,5 +1,5 @@
 //! Summaries of a worked run, and two that another program wrote.
-use super::*;
+use dl_account::{Counts, SphereLine, summary_text};
 use dl_entry::Why;
 use std::test::Fail;
 

@@ -2,10 +2,11 @@
 ghost use Rattle.std.specs.Prelude.{◌≡◌, ◌%◌, ◌<◌, length};
 ghost use Rattle.spec_isa.specs.Threads.{IsThread};
 
-use super::*;
+use dl_account::{Commit, End, Memory, OutOfMemory, Request, Threads, account_text};
 use dl_elf::load;
 use dl_entry::{Actor, Bytes, CommitKind, Load, Loads, Output, Outputs, Why};
 use dl_thread::{Parts, Thread, ThreadStatus};
+use std::alloc::Global;
 use std::test::Fail;
 
 #[test]

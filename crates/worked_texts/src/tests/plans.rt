@@ -1,4 +1,5 @@
-use crate::{Plan, PlanError, read_plan};
+//! Plans that are read, and plans that are refused: each is one plan with a change.
+use dl_plan::{Plan, PlanError, read_plan};
 use std::alloc::Global;
 use std::test::Fail;
 

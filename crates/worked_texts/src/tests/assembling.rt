@@ -1,6 +1,6 @@
 //! Sources with their words, by another assembler and a model apart from this code, and sources that are refused.
-use crate::Rule::{LabelTwice, Mnemonic, NoLabel, Operands, Range, Syntax, TooLong};
-use crate::{AsmError, assemble};
+use dl_asm::Rule::{LabelTwice, Mnemonic, NoLabel, Operands, Range, Syntax, TooLong};
+use dl_asm::{AsmError, assemble};
 use std::alloc::AllocError;
 use std::test::Fail;
 

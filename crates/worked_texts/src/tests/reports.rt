@@ -1,6 +1,6 @@
 //! Reports of worked runs, and one with every reply.
-use super::*;
-use dl_entry::{Actor, ReplyName, Why};
+use dl_account::{Counts, Point, SphereLine, report_text};
+use dl_entry::{Actor, CommitKind, ReplyName, Why};
 use std::test::Fail;
 
 #[test]
