@@ -28,6 +28,7 @@ last-push : {X : Type 0} (xs : List X) (x : X) → last (xs ++ x ∷ []) ≡ Som
 last-push xs x =
     let e : length (xs ++ x ∷ []) - 1 ≡ length xs = omega (arith, length_push xs x) in rw e (slice_get-end xs x)
 
+-- reading the entries behind those before is reading the next one and then those behind it
 pub entries-more : {X : Type 0} (earlier : X → X → Bool) (entry : Reader X) (before : List X) (bytes : List ℕ) (left n at after : ℕ) (x : X)
     → left ≡ suc n → next_entry earlier entry before bytes at ≡ Ok (record { value = x; after = after })
     → behind before (entries earlier entry (last before) left bytes at)
@@ -35,6 +36,7 @@ pub entries-more : {X : Type 0} (earlier : X → X → Bool) (entry : Reader X) 
 entries-more earlier entry before bytes left n at after x is_left e =
     rw (is_left, e, last-push before x) (behind-push before x (entries earlier entry (Some x) n bytes after))
 
+-- a fault of the next entry is that of all that are left
 pub entries-fault : {X : Type 0} (earlier : X → X → Bool) (entry : Reader X) (before : List X) (bytes : List ℕ) (left n at : ℕ) (fault : Fault)
     → left ≡ suc n → next_entry earlier entry before bytes at ≡ Err fault
     → behind before (entries earlier entry (last before) left bytes at) ≡ Err fault
@@ -51,6 +53,7 @@ behind-pair : (order : List Actor) (low high : Actor) (r : Result (Read (List Ac
 behind-pair order low high (Ok r) = simp append_assoc
 behind-pair order low high (Err fault) = refl
 
+-- reading the actors behind an order is reading the two of the next byte and then the rest
 pub actors-more : (order : List Actor) (bytes : List ℕ) (left n at byte after : ℕ)
     → left ≡ suc (suc n) → any 1 bytes at ≡ Ok (record { value = byte; after = after })
     → behind order (actors left bytes at)
@@ -58,6 +61,7 @@ pub actors-more : (order : List Actor) (bytes : List ℕ) (left n at byte after 
 actors-more order bytes left n at byte after is_left e =
     rw (is_left, e) (behind-pair order (actor_of (byte % 16)) (actor_of (byte / 16)) (actors n bytes after))
 
+-- a fault of the next byte is that of all actors left
 pub actors-fault : (order : List Actor) (bytes : List ℕ) (left n at : ℕ) (fault : Fault)
     → left ≡ suc (suc n) → any 1 bytes at ≡ Err fault → behind order (actors left bytes at) ≡ Err fault
 actors-fault order bytes left n at fault is_left e = rw (is_left, e) refl

@@ -8,6 +8,7 @@ use Rattle.byteorder.specs.Numbers.{little_from-cons, length-bytes_low_first, li
 use Rattle.spec_log.specs.Reading.{number_of}
 use Rattle.spec_log.specs.Bytes.{little}
 
+-- the number is one of a byte
 abbrev pub IsByte : ℕ → Type 0
 IsByte byte = byte < 256
 
@@ -16,6 +17,7 @@ number_of-little_from [] = refl
 number_of-little_from (byte ∷ bytes) =
     rw (little_from-cons 0 (length bytes) byte bytes, number_of-little_from bytes) refl
 
+-- a number in so many bytes has that many
 pub length-little : (width x : ℕ) → length (little width x) ≡ width
 length-little width x = length-bytes_low_first 0 width x
 

@@ -16,6 +16,7 @@ pub record Found {X : Type 0} (bytes_of : X → List ℕ) (good : X → Type 0) 
   pub split : bytes ≡ bytes_of x ++ rest
   pub here : after ≡ length (before ++ bytes_of x)
 
+-- the reader undoes the writing of good values wherever they stand, and what it reads is good and was written so
 pub record Codes {X : Type 0} (reader : Reader X) (bytes_of : X → List ℕ) (good : X → Type 0) : Type 0 where
   pub reads : (x : X) → good x → (before rest : List ℕ)
       → reader (before ++ (bytes_of x ++ rest)) (length before) ≡ Ok (record { value = x; after = length (before ++ bytes_of x) })
@@ -139,6 +140,7 @@ pub untested : {X : Type 0} (b : Bool) (x y : X) (fault : Fault) → (if b then 
 untested true x y fault e = cc
 untested false x y fault e = (refl, same_ok (Ok x) x y refl e)
 
+-- where a test lets a value through, it has passed
 pub tested : {X : Type 0} (b : Bool) (x y : X) (fault : Fault) → (if b then Ok x else Err fault) ≡ Ok y → (b ≡ true) × (x ≡ y)
 tested true x y fault e = (refl, same_ok (Ok x) x y refl e)
 tested false x y fault e = cc

@@ -62,10 +62,12 @@ Codes-thread : Codes thread u8 (λ t. t ≤ 14)
 Codes-thread =
     Codes-field 1 5 (at_most 14) (λ t. t ≤ 14) (λ t h l. leb-true t 14 h) (λ t h. (omega arith, le-leb t 14 h))
 
+-- the test for the order of entries decides it
 pub Decides-earlier : (t i u j : ℕ) → Decides (is_earlier t i u j) (ComesBefore t i u j)
 Decides-earlier t i u j =
     Decides-or _ _ (Decides-ltb t u) (Decides-and _ _ (Decides-eqb t u) (Decides-ltb i j))
 
+-- reading a short size undoes writing it
 pub Codes-short_size : (s : ℕ) → s ≤ 4096 → Codes (short_size s) short_size_bytes (IsShortSize s)
 Codes-short_size s small =
     Codes-as (short_size s) short_size_bytes short_size_bytes _ (IsShortSize s)
@@ -79,6 +81,7 @@ Codes-short_size s small =
           (λ x h l. let p = and_parts (nat_le 1 x) (nat_le x s) h in (leb-true 1 x p.0, leb-true x s p.1))
           (λ x h. (omega (arith, h.1), and_from (nat_le 1 x) (nat_le x s) (le-leb 1 x h.0) (le-leb x s h.1)))
 
+-- reading an interrupt undoes writing it
 pub Codes-interrupt : Codes interrupt interrupt_bytes IsInterrupt
 Codes-interrupt =
     Codes-three thread (any 4) (any 4) (λ t i value. record { thread = t; index = i; value = value })
@@ -112,6 +115,7 @@ kinds-small x h =
     (All-from_recursion (λ k. k < 256) input_kinds (lit< tt, (lit< tt, (lit< tt, (lit< tt, (lit< tt, (lit< tt, tt)))))))
     h
 
+-- reading an input undoes writing it
 pub Codes-input : Codes input input_bytes IsInput
 Codes-input =
     Codes-three (field 1 (λ kind. list_any (λ k. k == kind) input_kinds)) (any 4) counted (λ kind answer content. record { kind = kind; result = answer; bytes = content })
@@ -120,6 +124,7 @@ Codes-input =
     (λ x h. (kinds-small x h, contains-any input_kinds x h.0 h.1 h.2)))
     Codes-u32 Codes-counted (λ kind answer content. (refl, refl, refl)) (λ x. refl)
 
+-- reading a DMA's record undoes writing it
 pub Codes-dma : Codes dma dma_bytes IsDmaRecord
 Codes-dma =
     Codes-two (any 4) counted (λ slot content. record { slot = slot; bytes = content }) (λ x. x.slot) (λ x. x.bytes)

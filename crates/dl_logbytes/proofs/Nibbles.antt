@@ -29,5 +29,6 @@ pub pair_put : (actors : List Actor) (before whole : List ℕ) → 2 ≤ length 
     → before ++ nibbles actors ≡ whole → (before ++ packed actors ∷ []) ++ nibbles (rest actors) ≡ whole
 pair_put actors before whole h e = rw (rest-drop actors) (grind (arith, common_steps, nibbles-pair actors h))
 
+-- actors without the first are actors
 pub rest_are_actors : (actors : List Actor) → All IsActor actors → All IsActor (rest actors)
 rest_are_actors actors good = rw (rest-drop actors) (All-drop IsActor 2 actors good)

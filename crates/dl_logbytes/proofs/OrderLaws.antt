@@ -128,6 +128,7 @@ ordered-small OrderSize count h = omega arith
 ordered-small OrderOnly count h = omega arith
 ordered-small Picolog count h = omega arith
 
+-- reading an order undoes writing it
 pub Codes-order : (mode : ModeName) (count : ℕ) → count ≤ 2 ^ 24 → Codes (order_of mode count) order_bytes (IsOrder mode count)
 Codes-order mode count small =
     Codes-as (order_of mode count) order_bytes order_bytes _ (IsOrder mode count)

@@ -14,6 +14,7 @@ abbrev pub Rises : {X : Type 0} → (X → X → Bool) → Option X → List X �
 Rises earlier before [] = Unit {0}
 Rises earlier before (x ∷ xs) = (comes_after earlier before x ≡ true) × Rises earlier (Some x) xs
 
+-- n good entries, each later than the one before it
 abbrev pub AreEntries : {X : Type 0} → (X → X → Bool) → (X → Type 0) → Option X → ℕ → List X → Type 0
 AreEntries earlier good before n xs = (length xs ≡ n) × AllByRecursion good xs × Rises earlier before xs
 
@@ -47,6 +48,7 @@ Codes-others {X} n earlier entry bytes_of good x codes =
     (λ y g. (g.0, g.2, g.1, rw (g.1, append-nil (flat_map bytes_of g.0)) refl))
     (λ xs y g e. ((xs, e, g), rw (e, append-nil (flat_map bytes_of xs)) refl))
 
+-- reading entries undoes writing them, where it does so for each
 pub Codes-entries : {X : Type 0} (n : ℕ) (earlier : X → X → Bool) (entry : Reader X) (bytes_of : X → List ℕ) (good : X → Type 0) (before : Option X)
     → Codes entry bytes_of good → Codes (entries earlier entry before n) (flat_map bytes_of) (AreEntries earlier good before n)
 Codes-entries {X} zero earlier entry bytes_of good before codes =

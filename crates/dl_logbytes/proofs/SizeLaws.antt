@@ -89,6 +89,7 @@ turn_short : (s count : ℕ) (y : Sizes) → (IsShort s y → IsSizes Picolog s 
 turn_short s count (Each xs) = (λ h. h, λ h. h)
 turn_short s count (Short xs) = (λ h. h, λ h. h)
 
+-- reading the sizes undoes writing them
 pub Codes-sizes : (mode : ModeName) (s count : ℕ) → s ≤ 4096 → count ≤ 2 ^ 24 → Codes (sizes_of mode s count) sizes_bytes (IsSizes mode s count)
 Codes-sizes OrderSize s count small few = Codes-each s count small few
 Codes-sizes OrderOnly s count small few =
