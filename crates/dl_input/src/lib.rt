@@ -5,8 +5,6 @@ mod copied;
 mod dmas;
 mod inputs;
 mod interrupts;
-#[cfg(test)]
-mod tests;
 
 pub use dl_entry::{Input, OutOfMemory, Sequence};
 pub use dmas::Dmas;

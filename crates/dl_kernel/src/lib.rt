@@ -12,8 +12,6 @@ mod peek;
 mod record;
 mod results;
 mod serving;
-#[cfg(test)]
-mod tests;
 
 pub use copying::{copied, dma_words};
 pub use dl_dev::Devices;

@@ -7,8 +7,6 @@ mod mode;
 mod order_only;
 mod order_size;
 mod picolog;
-#[cfg(test)]
-mod tests;
 
 pub use dl_entry::{Actor, Commit, OutOfMemory};
 pub use lists::Lists;

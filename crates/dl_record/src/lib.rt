@@ -2,8 +2,6 @@
 #![tactic(auto)]
 
 mod recorder;
-#[cfg(test)]
-mod tests;
 
 pub use dl_entry::{Commit, Input, OutOfMemory};
 pub use dl_mode::Mode;

@@ -10,8 +10,6 @@ mod now;
 mod place;
 mod replayer;
 mod served;
-#[cfg(test)]
-mod tests;
 mod turning;
 
 pub use asking::{Asking, Verdict};

@@ -13,8 +13,6 @@ mod replaying;
 mod setup;
 mod sphere;
 mod stepping;
-#[cfg(test)]
-mod tests;
 mod thread;
 mod transferring;
 mod turning;

@@ -1,0 +1,36 @@
+-- In a replay it was seen to be the turn of thread 0.
+use Rattle.std.proofs.Common.{rules, ◌≡◌, false, Some, sym, ◌∙◌}
+use Rattle.std.proofs.lemmas.Bool.{true≢false}
+use Rattle.dl_entry.specs.declared.Actor.{Actor}
+use Rattle.spec_play.specs.Turns.{Now, Turn, TurnOfDma, Over}
+use Rattle.spec_protocol.specs.Placing.{replays}
+use Rattle.spec_protocol.specs.Spheres.{Sphere, Role, Plain, Record, Replay, actor_of, head_in, head_of}
+use Rattle.dl_sphere.specs.Moving.{IsTurnOf}
+use Rattle.worked_spheres.proofs.tests.spheres.moves.is_turn.Goals as goal
+use Rattle.worked_spheres.proofs.tests.spheres.moves.is_turn.Goals.{then-not-replays, else-not-replays}
+
+live : (role : Role) → replays role ≡ false → IsTurnOf 0 role
+live Plain off = tt
+live (Record log) off = tt
+live (Replay b) off = absurd (true≢false off)
+
+turn_now : (now : Now) → actor_of now ≡ Some (Actor.Thread 0) → now ≡ Turn 0
+turn_now (Turn k) is = cc
+turn_now TurnOfDma is = cc
+turn_now (Over how) is = cc
+
+turn_in : (role : Role) (p : Sphere) → head_in role p ≡ Some (Actor.Thread 0) → IsTurnOf 0 role
+turn_in Plain p is = tt
+turn_in (Record log) p is = tt
+turn_in (Replay b) p is = turn_now b.now is
+
+turn_of : (p : Sphere) → head_of p ≡ Some (Actor.Thread 0) → IsTurnOf 0 p.role
+unfolding head_of
+turn_of p is = turn_in p.role p is
+
+pub returns : goal.returns
+returns g c =
+    elim c.if-not-replays.branch [
+      | then-not-replays w ↦ live c.args.sphere.now.sphere.role (sym c.replays.ensures ∙ w.if-not-replays.true)
+      | else-not-replays w ↦ turn_of c.args.sphere.now.sphere (search rules)
+    ]

@@ -1,0 +1,8 @@
+//! From the parts of a sphere to the sphere.
+
+mod calls;
+mod inputs;
+mod modes;
+mod recording;
+mod replaying;
+mod spheres;

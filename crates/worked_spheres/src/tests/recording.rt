@@ -1,0 +1,295 @@
+//! The bytes of logs that were recorded.
+ghost use Rattle.std.specs.Prelude.{◌≡◌, ◌+◌, ◌<◌, Contains, IfOk, IfSome, OnOk};
+ghost use Rattle.spec_log.specs.Log.{IsActor, IsInput, AreFewBytes, input_kinds};
+
+use dl_entry::{Actor, Bytes, Commit, CommitKind, Input, Loads, Outputs};
+use dl_logbytes::write_log;
+use dl_mode::{Mode, OrderAndSize, OrderOnly, PicoLog};
+use dl_record::Recorder;
+use spec_log::ModeName;
+use std::alloc::Global;
+use std::process::Abort;
+use std::test::Fail;
+
+#[test]
+fn recordings_have_their_bytes(rt: HostRuntime) -> Result<(), Fail> {
+    for row in ROWS {
+        let log = logged(&rt, rt.alloc(), row)?;
+        assert!(rt; log.as_slice() == row.log);
+    }
+    Ok(())
+}
+
+fn logged(rt: &impl Abort, alloc: Global, row: &Row) -> Result<Vec<u8>, Fail> {
+    match row.mode {
+        ModeName::OrderSize => recorded::<OrderAndSize>(rt, alloc, row),
+        ModeName::OrderOnly => recorded::<OrderOnly>(rt, alloc, row),
+        ModeName::Picolog => recorded::<PicoLog>(rt, alloc, row),
+    }
+}
+
+/// A commit: its actor, which is 15 for a DMA, its size, whether its chunk was closed early, and its record.
+type Step = (u8, u32, bool, Record);
+
+/// What came with a commit: nothing, an input of a kind with a result and bytes, or the data of a DMA.
+#[derive(Clone, Copy)]
+enum Record {
+    No,
+    Input(u8, u32, &'static [u8]),
+    Dma(&'static [u8]),
+}
+
+/// The commits, an interrupt by its thread, index and value, and the bytes of the log.
+#[derive(Clone, Copy)]
+struct Row {
+    mode: ModeName,
+    s: u32,
+    steps: &'static [Step],
+    interrupt: Option<(u8, u32, u32)>,
+    log: &'static [u8],
+}
+
+/// The bytes of a recording's log. A step that no recorder takes fails.
+fn recorded<M: Mode>(rt: &impl Abort, alloc: Global, row: &Row) -> Result<Vec<u8>, Fail> {
+    assert!(rt; 16 <= row.s && row.s <= 4096);
+    assert!(rt; row.steps.len() < 100);
+    let mut recorder = Recorder::<M>::new(alloc, row.s)?;
+    for step in row.steps {
+        recorder.reserve()?;
+        note(rt, alloc, &mut recorder, step, row.s)?;
+    }
+    if let Some((thread, index, value)) = row.interrupt {
+        assert!(rt; thread < 15);
+        recorder.interrupt(thread, index, value)?;
+    }
+    Ok(write_log(alloc, &recorder.finish()?)?)
+}
+
+fn note<M: Mode>(
+    rt: &impl Abort,
+    alloc: Global,
+    recorder: &mut Recorder<M>,
+    step: &Step,
+    s: u32,
+) -> Result<(), Fail>
+    requires s { recorder.old.kept.s ≡ s }
+    requires few { recorder.old.kept.count < 100 }
+    ensures s { OnOk result (recorder.new.kept.s ≡ s) }
+    ensures count { OnOk result (recorder.new.kept.count ≡ recorder.old.kept.count + 1) }
+    ensures interrupts { OnOk result (recorder.new.interrupts ≡ recorder.old.interrupts) }
+{
+    let (code, size, early, record) = step;
+    assert!(rt; *size <= s);
+    assert!(rt; !*early || *size > 0);
+    let input = input(rt, alloc, record)?;
+    let commit = commit(alloc, *code, *size);
+    recorder.commit(&commit, *early, input.as_ref(), dma(rt, record))?;
+    Ok(())
+}
+
+fn commit(alloc: Global, code: u8, size: u32) -> Commit
+    ensures actor { IsActor result.actor }
+    ensures size { result.size ≡ size }
+{
+    let actor = if code < 15 {
+        Actor::Thread(code)
+    } else {
+        Actor::Dma
+    };
+    Commit {
+        actor,
+        kind: CommitKind::Chunk,
+        size,
+        loads: Loads::new(alloc),
+        outputs: Outputs::new(alloc),
+    }
+}
+
+fn input(rt: &impl Abort, alloc: Global, record: &Record) -> Result<Option<Input>, Fail>
+    ensures { IfOk result (λ input. IfSome input IsInput) }
+{
+    let Record::Input(kind, result, bytes) = record else {
+        return Ok(None);
+    };
+    Ok(Some(Input {
+        kind: kind_of(*kind),
+        result: *result,
+        bytes: Bytes::from_slice(alloc, few(rt, bytes))?,
+    }))
+}
+
+/// That of a call's answer, or of a device word.
+fn kind_of(kind: u8) -> u8
+    ensures { Contains input_kinds result }
+{
+    match kind {
+        16 => 16,
+        17 => 17,
+        _ => 3,
+    }
+}
+
+fn dma(rt: &impl Abort, record: &Record) -> Option<&'static [u8]>
+    ensures { IfSome result (λ bytes. AreFewBytes bytes.now) }
+{
+    match record {
+        Record::Dma(bytes) => Some(few(rt, bytes)),
+        _ => None,
+    }
+}
+
+fn few(rt: &impl Abort, bytes: &'static [u8]) -> &'static [u8]
+    ensures { AreFewBytes result.now }
+{
+    assert!(rt; bytes.len() <= 4096);
+    bytes
+}
+
+const ROWS: &[Row] = &[
+    // A thread runs two instructions and exits.
+    Row {
+        mode: ModeName::OrderSize,
+        s: 100,
+        steps: EXITS,
+        interrupt: None,
+        log: b"\x44\x4C\x52\x4E\x01\x00\x00\x00\x64\x00\x00\x00\x02\x00\x00\x00\
+          \x02\x00\x00\x00\x00\
+          \x02\x00\x00\x00\x02\x00\x00\x00\
+          \x00\x00\x00\x00\
+          \x00\x00\x00\x00\
+          \x00\x00\x00\x00",
+    },
+    Row {
+        mode: ModeName::OrderOnly,
+        s: 100,
+        steps: EXITS,
+        interrupt: None,
+        log: b"\x44\x4C\x52\x4E\x01\x01\x00\x00\x64\x00\x00\x00\x02\x00\x00\x00\
+          \x02\x00\x00\x00\x00\
+          \x00\x00\x00\x00\
+          \x00\x00\x00\x00\
+          \x00\x00\x00\x00\
+          \x00\x00\x00\x00",
+    },
+    Row {
+        mode: ModeName::Picolog,
+        s: 100,
+        steps: EXITS,
+        interrupt: None,
+        log: b"\x44\x4C\x52\x4E\x01\x02\x00\x00\x64\x00\x00\x00\x02\x00\x00\x00\
+          \x00\x00\x00\x00\
+          \x00\x00\x00\x00\
+          \x00\x00\x00\x00\
+          \x00\x00\x00\x00\
+          \x00\x00\x00\x00",
+    },
+    // The first chunk was closed after three instructions.
+    Row {
+        mode: ModeName::OrderOnly,
+        s: 100,
+        steps: &[
+            (0, 3, true, Record::No),
+            (0, 2, false, Record::No),
+            (0, 0, false, Record::No),
+        ],
+        interrupt: None,
+        log: b"\x44\x4C\x52\x4E\x01\x01\x00\x00\x64\x00\x00\x00\x03\x00\x00\x00\
+          \x03\x00\x00\x00\x00\x00\
+          \x01\x00\x00\x00\x00\x00\x00\x00\x00\x03\x00\
+          \x00\x00\x00\x00\
+          \x00\x00\x00\x00\
+          \x00\x00\x00\x00",
+    },
+    // Two threads with chunks that were closed early.
+    Row {
+        mode: ModeName::OrderOnly,
+        s: 16,
+        steps: &[
+            (0, 3, false, Record::No),
+            (0, 0, false, Record::No),
+            (1, 2, true, Record::No),
+            (1, 2, true, Record::No),
+            (1, 2, true, Record::No),
+            (1, 2, true, Record::No),
+            (0, 8, true, Record::No),
+        ],
+        interrupt: None,
+        log: b"\x44\x4C\x52\x4E\x01\x01\x00\x00\x10\x00\x00\x00\x07\x00\x00\x00\
+          \x07\x00\x00\x00\x00\x11\x11\x00\
+          \x05\x00\x00\x00\x00\x02\x00\x00\x00\x08\x00\x01\x00\x00\x00\x00\x02\x00\x01\x01\x00\x00\x00\x02\x00\x01\x02\x00\x00\x00\x02\x00\x01\x03\x00\x00\x00\x02\x00\
+          \x00\x00\x00\x00\
+          \x00\x00\x00\x00\
+          \x00\x00\x00\x00",
+    },
+    // Two bytes are read from a pipe.
+    Row {
+        mode: ModeName::OrderSize,
+        s: 100,
+        steps: &[
+            (0, 3, false, Record::No),
+            (0, 0, false, Record::Input(3, 2, b"\x93\x08")),
+            (0, 2, false, Record::No),
+            (0, 0, false, Record::No),
+        ],
+        interrupt: None,
+        log: b"\x44\x4C\x52\x4E\x01\x00\x00\x00\x64\x00\x00\x00\x04\x00\x00\x00\
+          \x04\x00\x00\x00\x00\x00\
+          \x04\x00\x00\x00\x03\x00\x00\x00\x02\x00\x00\x00\
+          \x00\x00\x00\x00\
+          \x01\x00\x00\x00\x03\x02\x00\x00\x00\x02\x00\x93\x08\
+          \x00\x00\x00\x00",
+    },
+    // A DMA is the third commit.
+    Row {
+        mode: ModeName::Picolog,
+        s: 100,
+        steps: &[
+            (0, 3, false, Record::No),
+            (0, 0, false, Record::No),
+            (15, 0, false, Record::Dma(b"AB")),
+            (0, 2, false, Record::No),
+            (0, 0, false, Record::No),
+        ],
+        interrupt: None,
+        log: b"\x44\x4C\x52\x4E\x01\x02\x00\x00\x64\x00\x00\x00\x05\x00\x00\x00\
+          \x00\x00\x00\x00\
+          \x00\x00\x00\x00\
+          \x00\x00\x00\x00\
+          \x00\x00\x00\x00\
+          \x01\x00\x00\x00\x02\x00\x00\x00\x02\x00\x41\x42",
+    },
+    // An interrupt comes after two commits.
+    Row {
+        mode: ModeName::OrderSize,
+        s: 100,
+        steps: EXITS,
+        interrupt: Some((0, 2, 5)),
+        log: b"\x44\x4C\x52\x4E\x01\x00\x00\x00\x64\x00\x00\x00\x02\x00\x00\x00\
+          \x02\x00\x00\x00\x00\
+          \x02\x00\x00\x00\x02\x00\x00\x00\
+          \x01\x00\x00\x00\x00\x02\x00\x00\x00\x05\x00\x00\x00\
+          \x00\x00\x00\x00\
+          \x00\x00\x00\x00",
+    },
+    // The two device words that can be read.
+    Row {
+        mode: ModeName::OrderSize,
+        s: 100,
+        steps: &[
+            (0, 1, false, Record::No),
+            (0, 0, false, Record::Input(16, 4, b"")),
+            (0, 0, false, Record::Input(17, 0x41, b"")),
+            (0, 0, false, Record::No),
+            (0, 0, false, Record::No),
+        ],
+        interrupt: None,
+        log: b"\x44\x4C\x52\x4E\x01\x00\x00\x00\x64\x00\x00\x00\x05\x00\x00\x00\
+          \x05\x00\x00\x00\x00\x00\x00\
+          \x05\x00\x00\x00\x01\x00\x00\x00\x00\x00\x00\x00\x00\x00\
+          \x00\x00\x00\x00\
+          \x02\x00\x00\x00\x10\x04\x00\x00\x00\x00\x00\x11\x41\x00\x00\x00\x00\x00\
+          \x00\x00\x00\x00",
+    },
+];
+
+const EXITS: &[Step] = &[(0, 2, false, Record::No), (0, 0, false, Record::No)];

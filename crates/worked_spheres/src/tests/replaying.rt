@@ -1,0 +1,190 @@
+//! Logs of one commit, and how their replays end.
+ghost use Rattle.std.specs.Prelude.{◌≡◌};
+
+use dl_entry::{Actor, End, Why};
+use dl_logbytes::read_log;
+use dl_mem::Memory;
+use dl_mode::{Mode, OrderAndSize, OrderOnly, PicoLog};
+use dl_replay::{Asking, Replayer, Served};
+use dl_thread::Threads;
+use spec_log::{Log, ModeName};
+use std::alloc::Global;
+use std::test::Fail;
+
+// A file whose code is `ecall`.
+const FILE: [u8; 88] = [
+    0x7f, 0x45, 0x4c, 0x46, 0x01, 0x01, 0x01, 0x00, 0x00, 0x00, 0x00, 0x00, 0x00, 0x00, 0x00, 0x00,
+    0x02, 0x00, 0xf3, 0x00, 0x01, 0x00, 0x00, 0x00, 0x00, 0x00, 0x00, 0x00, 0x34, 0x00, 0x00, 0x00,
+    0x00, 0x00, 0x00, 0x00, 0x00, 0x00, 0x00, 0x00, 0x34, 0x00, 0x20, 0x00, 0x01, 0x00, 0x00, 0x00,
+    0x00, 0x00, 0x00, 0x00, 0x01, 0x00, 0x00, 0x00, 0x54, 0x00, 0x00, 0x00, 0x00, 0x00, 0x00, 0x00,
+    0x00, 0x00, 0x00, 0x00, 0x04, 0x00, 0x00, 0x00, 0x04, 0x00, 0x00, 0x00, 0x07, 0x00, 0x00, 0x00,
+    0x04, 0x00, 0x00, 0x00, 0x73, 0x00, 0x00, 0x00,
+];
+
+/// The bytes of a log, what its first actor asks, and the end.
+#[derive(Clone, Copy)]
+struct Row {
+    log: &'static [u8],
+    total: u32,
+    serial: bool,
+    end: End,
+}
+
+#[test]
+fn replays_end_where_they_leave_their_logs(rt: HostRuntime) -> Result<(), Fail> {
+    let image = dl_elf::load(rt.alloc(), &FILE, 4096)?;
+    let memory = Memory::new(rt.alloc(), &image)?;
+    for row in ROWS {
+        let log = read_log(rt.alloc(), row.log)?;
+        let end = ended(rt.alloc(), &log, row, &memory)?;
+        assert!(rt; end == Some(row.end));
+    }
+    Ok(())
+}
+
+fn ended(alloc: Global, log: &Log, row: &Row, memory: &Memory) -> Result<Option<End>, Fail> {
+    match log.parts().mode {
+        ModeName::OrderSize => ended_in::<OrderAndSize>(alloc, log, row, memory),
+        ModeName::OrderOnly => ended_in::<OrderOnly>(alloc, log, row, memory),
+        ModeName::Picolog => ended_in::<PicoLog>(alloc, log, row, memory),
+    }
+}
+
+/// How the replay has ended once its first actor has asked.
+fn ended_in<M: Mode>(
+    alloc: Global,
+    log: &Log,
+    row: &Row,
+    memory: &Memory,
+) -> Result<Option<End>, Fail>
+    requires { log.now.mode ≡ M.mode }
+{
+    let mut replayer = Replayer::<M>::new(alloc, log)?;
+    let mut threads = Threads::start(0);
+    let mut served = Served::new(alloc);
+    let Some(actor) = replayer.head() else {
+        return Ok(replayer.ended());
+    };
+    if actor != Actor::Thread(0) && actor != Actor::Dma {
+        return Ok(None);
+    }
+    let asking = Asking {
+        actor,
+        total: row.total,
+        serial: row.serial,
+    };
+    replayer.accept(&asking, &mut threads, &mut None, memory, &mut served)?;
+    Ok(replayer.ended())
+}
+
+const ROWS: &[Row] = &[
+    // A chunk of two instructions is logged.
+    Row {
+        log: b"\x44\x4C\x52\x4E\x01\x00\x00\x00\x64\x00\x00\x00\x01\x00\x00\x00\
+          \x01\x00\x00\x00\x00\
+          \x01\x00\x00\x00\x02\x00\
+          \x00\x00\x00\x00\x00\x00\x00\x00\x00\x00\x00\x00",
+        total: 2,
+        serial: true,
+        end: End::Complete(1),
+    },
+    Row {
+        log: b"\x44\x4C\x52\x4E\x01\x01\x00\x00\x64\x00\x00\x00\x01\x00\x00\x00\
+          \x01\x00\x00\x00\x00\
+          \x01\x00\x00\x00\x00\x00\x00\x00\x00\x02\x00\
+          \x00\x00\x00\x00\x00\x00\x00\x00\x00\x00\x00\x00",
+        total: 2,
+        serial: false,
+        end: End::Complete(1),
+    },
+    Row {
+        log: b"\x44\x4C\x52\x4E\x01\x02\x00\x00\x64\x00\x00\x00\x01\x00\x00\x00\
+          \x00\x00\x00\x00\x00\x00\x00\x00\
+          \x00\x00\x00\x00\x00\x00\x00\x00\x00\x00\x00\x00",
+        total: 2,
+        serial: true,
+        end: End::Complete(1),
+    },
+    // Thread 5 is logged.
+    Row {
+        log: b"\x44\x4C\x52\x4E\x01\x00\x00\x00\x64\x00\x00\x00\x01\x00\x00\x00\
+          \x01\x00\x00\x00\x05\
+          \x01\x00\x00\x00\x02\x00\
+          \x00\x00\x00\x00\x00\x00\x00\x00\x00\x00\x00\x00",
+        total: 2,
+        serial: true,
+        end: End::Diverged(0, Why::NoThread),
+    },
+    // Three instructions are logged.
+    Row {
+        log: b"\x44\x4C\x52\x4E\x01\x00\x00\x00\x64\x00\x00\x00\x01\x00\x00\x00\
+          \x01\x00\x00\x00\x00\
+          \x01\x00\x00\x00\x03\x00\
+          \x00\x00\x00\x00\x00\x00\x00\x00\x00\x00\x00\x00",
+        total: 2,
+        serial: true,
+        end: End::Diverged(0, Why::Short(3, 2)),
+    },
+    // A serial step is logged: there is a chunk, and then there is one.
+    Row {
+        log: b"\x44\x4C\x52\x4E\x01\x00\x00\x00\x64\x00\x00\x00\x01\x00\x00\x00\
+          \x01\x00\x00\x00\x00\
+          \x01\x00\x00\x00\x00\x00\
+          \x00\x00\x00\x00\x00\x00\x00\x00\x00\x00\x00\x00",
+        total: 1,
+        serial: false,
+        end: End::Diverged(0, Why::NotSerial),
+    },
+    Row {
+        log: b"\x44\x4C\x52\x4E\x01\x00\x00\x00\x64\x00\x00\x00\x01\x00\x00\x00\
+          \x01\x00\x00\x00\x00\
+          \x01\x00\x00\x00\x00\x00\
+          \x00\x00\x00\x00\x00\x00\x00\x00\x00\x00\x00\x00",
+        total: 0,
+        serial: true,
+        end: End::Complete(1),
+    },
+    // An interrupt is logged behind it, of a thread without a handler.
+    Row {
+        log: b"\x44\x4C\x52\x4E\x01\x00\x00\x00\x64\x00\x00\x00\x01\x00\x00\x00\
+          \x01\x00\x00\x00\x00\
+          \x01\x00\x00\x00\x02\x00\
+          \x01\x00\x00\x00\x00\x01\x00\x00\x00\x05\x00\x00\x00\
+          \x00\x00\x00\x00\x00\x00\x00\x00",
+        total: 2,
+        serial: true,
+        end: End::Diverged(0, Why::Interrupt),
+    },
+    // A DMA is logged, and none is asked for.
+    Row {
+        log: b"\x44\x4C\x52\x4E\x01\x01\x00\x00\x64\x00\x00\x00\x01\x00\x00\x00\
+          \x01\x00\x00\x00\x0F\
+          \x00\x00\x00\x00\
+          \x00\x00\x00\x00\x00\x00\x00\x00\
+          \x01\x00\x00\x00\x00\x00\x00\x00\x02\x00\x41\x42",
+        total: 0,
+        serial: false,
+        end: End::Diverged(0, Why::Dma),
+    },
+    // A size is logged, and the step is serial.
+    Row {
+        log: b"\x44\x4C\x52\x4E\x01\x00\x00\x00\x64\x00\x00\x00\x01\x00\x00\x00\
+          \x01\x00\x00\x00\x00\
+          \x01\x00\x00\x00\x02\x00\
+          \x00\x00\x00\x00\x00\x00\x00\x00\x00\x00\x00\x00",
+        total: 0,
+        serial: true,
+        end: End::Diverged(0, Why::SizeOfSerial(2)),
+    },
+    // An input is logged that nothing takes.
+    Row {
+        log: b"\x44\x4C\x52\x4E\x01\x02\x00\x00\x64\x00\x00\x00\x01\x00\x00\x00\
+          \x00\x00\x00\x00\x00\x00\x00\x00\
+          \x00\x00\x00\x00\
+          \x01\x00\x00\x00\x05\x00\x00\x00\x00\x00\x00\
+          \x00\x00\x00\x00",
+        total: 2,
+        serial: true,
+        end: End::Diverged(1, Why::LeftOver),
+    },
+];

@@ -1,0 +1,38 @@
+//! Spheres in each of their roles.
+ghost use Rattle.std.specs.Prelude.{◌≡◌, IfOk, length};
+ghost use Rattle.spec_log.specs.Log.{IsChunkSize};
+
+mod beginnings;
+mod moves;
+
+use dl_logbytes::read_log;
+use dl_sphere::{Role, Sphere, SphereSetup};
+use spec_log::ModeName;
+use std::alloc::Global;
+use std::test::Fail;
+
+#[derive(Clone, Copy)]
+enum Begins {
+    Plain,
+    Recorded(ModeName),
+    Replayed(&'static [u8]),
+}
+
+fn begin(alloc: Global, file: &[u8], begins: Begins, standard: u32) -> Result<Sphere, Fail>
+    requires { IsChunkSize standard }
+    ensures { IfOk result (λ p. length p.sphere.threads ≡ 1) }
+{
+    let setup = SphereSetup {
+        image: dl_elf::load(alloc, file, 4096)?,
+        role: role(alloc, begins)?,
+    };
+    Ok(Sphere::new(alloc, &setup, standard)?)
+}
+
+fn role(alloc: Global, begins: Begins) -> Result<Role, Fail> {
+    match begins {
+        Begins::Plain => Ok(Role::Plain),
+        Begins::Recorded(mode) => Ok(Role::Record(mode)),
+        Begins::Replayed(bytes) => Ok(Role::Replay(read_log(alloc, bytes)?)),
+    }
+}

@@ -1,0 +1,296 @@
+//! What a chunk, a serial step, a DMA and an interrupt make of a sphere.
+ghost use Rattle.std.specs.Prelude.{◌≡◌, Some, IfOk, slice_get};
+ghost use Rattle.spec_protocol.specs.Commits.{is_piece};
+ghost use Rattle.spec_protocol.specs.Sound.{HaveByteInput};
+ghost use Rattle.dl_sphere.specs.Moving.{IsTurnOf, IsTurnOfDma};
+
+use super::{Begins, begin};
+use dl_chunk::Chunk;
+use dl_dev::Devices;
+use dl_entry::{Actor, CommitKind, End, Request};
+use dl_fly::Flights;
+use dl_logbytes::write_log;
+use dl_replay::thread_at;
+use dl_sig::{PlainSet, Sig};
+use dl_sphere::{Moved, Sphere};
+use dl_thread::{Thread, ThreadStatus};
+use dl_wbuf::Buffer;
+use spec_engine::answers::How;
+use spec_log::ModeName;
+use std::alloc::Global;
+use std::process::Abort;
+use std::test::Fail;
+
+// A file whose code asks for a DMA of 4 bytes to 0x100, loads a word of it and exits.
+const TRANSFERS: [u8; 112] = [
+    0x7f, 0x45, 0x4c, 0x46, 0x01, 0x01, 0x01, 0x00, 0x00, 0x00, 0x00, 0x00, 0x00, 0x00, 0x00, 0x00,
+    0x02, 0x00, 0xf3, 0x00, 0x01, 0x00, 0x00, 0x00, 0x00, 0x00, 0x00, 0x00, 0x34, 0x00, 0x00, 0x00,
+    0x00, 0x00, 0x00, 0x00, 0x00, 0x00, 0x00, 0x00, 0x34, 0x00, 0x20, 0x00, 0x01, 0x00, 0x00, 0x00,
+    0x00, 0x00, 0x00, 0x00, 0x01, 0x00, 0x00, 0x00, 0x54, 0x00, 0x00, 0x00, 0x00, 0x00, 0x00, 0x00,
+    0x00, 0x00, 0x00, 0x00, 0x1c, 0x00, 0x00, 0x00, 0x1c, 0x00, 0x00, 0x00, 0x07, 0x00, 0x00, 0x00,
+    0x04, 0x00, 0x00, 0x00, 0x93, 0x08, 0x80, 0x00, 0x13, 0x05, 0x00, 0x10, 0x93, 0x05, 0x40, 0x00,
+    0x73, 0x00, 0x00, 0x00, 0x83, 0x22, 0x40, 0x10, 0x93, 0x08, 0x00, 0x00, 0x73, 0x00, 0x00, 0x00,
+];
+
+// A file whose code makes 0x14 its handler, and loops.
+const HANDLES: [u8; 108] = [
+    0x7f, 0x45, 0x4c, 0x46, 0x01, 0x01, 0x01, 0x00, 0x00, 0x00, 0x00, 0x00, 0x00, 0x00, 0x00, 0x00,
+    0x02, 0x00, 0xf3, 0x00, 0x01, 0x00, 0x00, 0x00, 0x00, 0x00, 0x00, 0x00, 0x34, 0x00, 0x00, 0x00,
+    0x00, 0x00, 0x00, 0x00, 0x00, 0x00, 0x00, 0x00, 0x34, 0x00, 0x20, 0x00, 0x01, 0x00, 0x00, 0x00,
+    0x00, 0x00, 0x00, 0x00, 0x01, 0x00, 0x00, 0x00, 0x54, 0x00, 0x00, 0x00, 0x00, 0x00, 0x00, 0x00,
+    0x00, 0x00, 0x00, 0x00, 0x18, 0x00, 0x00, 0x00, 0x18, 0x00, 0x00, 0x00, 0x07, 0x00, 0x00, 0x00,
+    0x04, 0x00, 0x00, 0x00, 0x93, 0x08, 0x60, 0x00, 0x13, 0x05, 0x40, 0x01, 0x73, 0x00, 0x00, 0x00,
+    0x6f, 0x00, 0x00, 0x00, 0x13, 0x00, 0x00, 0x00, 0x6f, 0x00, 0x00, 0x00,
+];
+
+/// A commit: its actor, its kind and its size.
+type Line = (Actor, CommitKind, u32);
+
+/// What a sphere of a file has done after a chunk, a serial step, and then the DMA that this asks for or, unless it is
+/// replayed, an interrupt with the value 5: its commits, the place and x10 of its thread, its log, and its end.
+#[derive(Clone, Copy)]
+struct Scene {
+    file: &'static [u8],
+    role: Begins,
+    closed: How,
+    commits: &'static [Line],
+    pc: u32,
+    x10: u32,
+    log: Option<&'static [u8]>,
+    end: Option<End>,
+}
+
+#[test]
+fn moves_are_done_in_each_role(rt: HostRuntime) -> Result<(), Fail> {
+    for scene in SCENES {
+        let mut sphere = begin(rt.alloc(), scene.file, scene.role, 100)?;
+        let chunk = run(rt.alloc(), &sphere)?;
+        commit_chunk(&rt, &mut sphere, &chunk, scene.closed)?;
+        serial_step(&rt, rt.alloc(), &mut sphere)?;
+        if sphere.request().is_some() {
+            dma(&rt, rt.alloc(), &mut sphere)?;
+        } else if !sphere.replays() {
+            raise(&rt, &mut sphere)?;
+        }
+        are_as_told(&rt, &sphere, scene.commits);
+        let thread = first(&sphere);
+        assert_eq!(rt; (thread.pc(), thread.x()[10]), (scene.pc, scene.x10));
+        assert!(rt; thread.commits() == 2);
+        assert!(rt; sphere.end() == scene.end);
+        if let Some(log) = scene.log {
+            assert!(rt; sphere.halves());
+            let bytes = write_log(rt.alloc(), &sphere.log()?)?;
+            assert!(rt; bytes.as_slice() == log);
+        }
+    }
+    Ok(())
+}
+
+fn are_as_told(rt: &impl Abort, sphere: &Sphere, lines: &[Line]) {
+    assert!(rt; sphere.commits().len() == lines.len());
+    for (commit, line) in sphere.commits().iter().zip(lines) {
+        assert!(rt; (commit.actor, commit.kind, commit.size) == *line);
+    }
+}
+
+fn first(sphere: &Sphere) -> Thread
+    ensures { slice_get sphere.now.sphere.threads 0 ≡ Some result }
+{
+    let _ = sphere.threads().len();
+    thread_at(sphere.threads(), 0)
+}
+
+/// A chunk of thread 0, which has run until it was closed.
+fn run(alloc: Global, sphere: &Sphere) -> Result<Chunk<PlainSet>, Fail> {
+    let thread = first(sphere);
+    let flights = Flights::new(alloc, 1, 1)?;
+    let mut chunk = Chunk::new(alloc, 4096, 1, 64)?;
+    chunk.begin(0, &thread, sphere.limit(0), sphere.halves());
+    for _ in 0..4 {
+        if chunk.closed().is_none() {
+            chunk.step(sphere.memory(), &flights, 0);
+        }
+    }
+    Ok(chunk)
+}
+
+/// Commits the chunk of thread 0, which is closed so.
+fn commit_chunk<G: Sig>(
+    rt: &impl Abort,
+    sphere: &mut Sphere,
+    chunk: &Chunk<G>,
+    how: How,
+) -> Result<(), Fail> {
+    let (thread, limit) = (first(sphere), sphere.limit(0));
+    assert!(rt; chunk.closed() == Some(how));
+    assert!(rt; !is_piece(how));
+    assert!(rt; chunk.state().commits() == thread.commits());
+    assert!(rt; chunk.limit() == limit);
+    assert!(rt; limit >= 2);
+    assert!(rt; chunk.n() >= 1);
+    assert!(rt; chunk.n() <= limit);
+    is_turn(rt, sphere);
+    assert!(rt; sphere.commits().is_empty());
+    assert!(rt; sphere.request().is_none());
+    let moved = sphere.commit_chunk(0, chunk)?;
+    assert!(rt; matches!(&moved, Moved::Granted(words) if words.is_empty()));
+    Ok(())
+}
+
+/// Whether a chunk that is closed so is a piece of a replayed commit.
+fn is_piece(how: How) -> bool
+    ensures { result ≡ is_piece how }
+{
+    matches!(how, How::Overflow | How::Cut)
+}
+
+/// In a replay it is the turn of thread 0.
+fn is_turn(rt: &impl Abort, sphere: &Sphere)
+    ensures { IsTurnOf 0 sphere.now.sphere.role }
+{
+    assert!(rt; !sphere.replays() || sphere.head() == Some(Actor::Thread(0)));
+}
+
+/// In a replay it is the turn of a DMA.
+fn is_turn_of_dma(rt: &impl Abort, sphere: &Sphere)
+    ensures { IsTurnOfDma sphere.now.sphere.role }
+{
+    assert!(rt; !sphere.replays() || sphere.head() == Some(Actor::Dma));
+}
+
+/// Devices whose input is the bytes 41 and 42.
+fn devices(alloc: Global) -> Result<Devices, Fail>
+    ensures { IfOk result HaveByteInput }
+{
+    Ok(Devices::new(alloc, b"AB", 0)?)
+}
+
+/// Does the serial step of thread 0.
+fn serial_step(rt: &impl Abort, alloc: Global, sphere: &mut Sphere) -> Result<(), Fail> {
+    let mut devices = devices(alloc)?;
+    let _ = (sphere.memory().size(), first(sphere));
+    is_turn(rt, sphere);
+    assert!(rt; sphere.commits().len() == 1);
+    let moved = sphere.serial_step(0, &mut devices, 5)?;
+    assert!(rt; matches!(&moved, Moved::Granted(words) if words.is_empty()));
+    Ok(())
+}
+
+/// Does the DMA, which takes the bytes 41 and 42.
+fn dma(rt: &impl Abort, alloc: Global, sphere: &mut Sphere) -> Result<(), Fail> {
+    let mut devices = devices(alloc)?;
+    assert!(rt; sphere.request() == Some(Request { buf: 0x100, len: 4 }));
+    assert!(rt; sphere.memory().size() == 4096);
+    is_turn_of_dma(rt, sphere);
+    assert!(rt; sphere.commits().len() == 2);
+    let moved = sphere.dma(&mut devices)?;
+    assert!(rt; sphere.request().is_none());
+    let Moved::Granted(words) = moved else {
+        assert!(rt; false);
+        return Ok(());
+    };
+    assert!(rt; words.len() == 2);
+    assert!(rt; is_stored(&words, 0, (0x100, 15, 2)));
+    assert!(rt; is_stored(&words, 1, (0x104, 3, 0x4241)));
+    Ok(())
+}
+
+/// Whether the i-th word is this one, with its mask and its value.
+fn is_stored(words: &Buffer, i: u32, word: (u32, u8, u32)) -> bool {
+    match words.nth(i) {
+        Some(stored) => (stored.word, stored.mask, stored.value) == word,
+        None => false,
+    }
+}
+
+/// Interrupts thread 0.
+fn raise(rt: &impl Abort, sphere: &mut Sphere) -> Result<(), Fail> {
+    let thread = first(sphere);
+    assert!(rt; thread.status() == ThreadStatus::Live);
+    assert!(rt; thread.handler() != 0 && !thread.mask());
+    assert!(rt; !sphere.replays());
+    sphere.raise(0, 5)?;
+    Ok(())
+}
+
+const CHUNK_OF_3: Line = (Actor::Thread(0), CommitKind::Chunk, 3);
+
+const CHUNK_OF_2: Line = (Actor::Thread(0), CommitKind::Chunk, 2);
+
+const STEP: Line = (Actor::Thread(0), CommitKind::Serial, 0);
+
+const DMA: Line = (Actor::Dma, CommitKind::Dma, 0);
+
+const TRANSFERRED: &[u8] = b"\x44\x4C\x52\x4E\x01\x02\x00\x00\x64\x00\x00\x00\x03\x00\x00\x00\
+    \x00\x00\x00\x00\x00\x00\x00\x00\
+    \x00\x00\x00\x00\x00\x00\x00\x00\
+    \x01\x00\x00\x00\x02\x00\x00\x00\x02\x00\x41\x42";
+
+const INTERRUPTED: &[u8] = b"\x44\x4C\x52\x4E\x01\x00\x00\x00\x64\x00\x00\x00\x02\x00\x00\x00\
+    \x02\x00\x00\x00\x00\
+    \x02\x00\x00\x00\x02\x00\x00\x00\
+    \x01\x00\x00\x00\x00\x02\x00\x00\x00\x05\x00\x00\x00\
+    \x00\x00\x00\x00\x00\x00\x00\x00";
+
+const SCENES: &[Scene] = &[
+    Scene {
+        file: &TRANSFERS,
+        role: Begins::Plain,
+        closed: How::Serial,
+        commits: &[CHUNK_OF_3, STEP, DMA],
+        pc: 0x10,
+        x10: 0,
+        log: None,
+        end: None,
+    },
+    Scene {
+        file: &TRANSFERS,
+        role: Begins::Recorded(ModeName::Picolog),
+        closed: How::Serial,
+        commits: &[CHUNK_OF_3, STEP, DMA],
+        pc: 0x10,
+        x10: 0,
+        log: Some(TRANSFERRED),
+        end: None,
+    },
+    Scene {
+        file: &TRANSFERS,
+        role: Begins::Replayed(TRANSFERRED),
+        closed: How::Serial,
+        commits: &[CHUNK_OF_3, STEP, DMA],
+        pc: 0x10,
+        x10: 0,
+        log: None,
+        end: Some(End::Complete(3)),
+    },
+    Scene {
+        file: &HANDLES,
+        role: Begins::Plain,
+        closed: How::Serial,
+        commits: &[CHUNK_OF_2, STEP],
+        pc: 0x14,
+        x10: 5,
+        log: None,
+        end: None,
+    },
+    Scene {
+        file: &HANDLES,
+        role: Begins::Recorded(ModeName::OrderSize),
+        closed: How::Serial,
+        commits: &[CHUNK_OF_2, STEP],
+        pc: 0x14,
+        x10: 5,
+        log: Some(INTERRUPTED),
+        end: None,
+    },
+    Scene {
+        file: &HANDLES,
+        role: Begins::Replayed(INTERRUPTED),
+        closed: How::Limit,
+        commits: &[CHUNK_OF_2, STEP],
+        pc: 0x14,
+        x10: 5,
+        log: None,
+        end: Some(End::Complete(2)),
+    },
+];
