@@ -20,6 +20,7 @@ Lacks-put a (r ∷ rs) s lacks ne =
       | inr h ↦ rw h.0 (lacks.0, Lacks-put a rs s lacks.1 ne)
     ]
 
+-- where no two stores are of one word, none are after one more is put among them
 pub Apart-put : (ws : List Stored) (s : Stored) → Apart ws → Apart (put ws s)
 unfolding merged
 Apart-put [] s apart = (tt, tt)

@@ -181,5 +181,6 @@ meaning : (w : ℕ) (o : Option Instr) → IsRight w o → ((i : Instr) → Deno
 meaning w None right every = λ i d. let e = every i d in cc
 meaning w (Some i) right every = right
 
+-- a word of 32 bits denotes the instruction that the tables find, and none where they find none
 pub denoted_is_meaning : (w : ℕ) → w < 2 ^ 32 → IsMeaning w (denoted w)
 denoted_is_meaning w h = meaning w (denoted w) (denoted_right w h) (λ i. denotes_denoted)

@@ -9,14 +9,17 @@ use Rattle.spec_isa.specs.Masks.{word_over, or_byte, bytes_of, some_if}
 
 -- ---- lengths
 
+-- a memory is as long after a byte, or none, is stored
 pub length_with_byte : (m : List ℕ) (a : ℕ) (b : Option ℕ) → length (with_byte m a b) ≡ length m
 length_with_byte m a None = refl
 length_with_byte m a (Some b) = length-set m a b
 
+-- a memory is as long after a store
 pub length_lay : (m : List ℕ) (s : Stored) → length (lay m s) ≡ length m
 unfolding lay
 length_lay m s = simp length_with_byte
 
+-- a memory is as long after any list of stores
 pub length_lays : (m : List ℕ) (ss : List Stored) → length (lays m ss) ≡ length m
 length_lays m [] = refl
 length_lays m (s ∷ ss) = length_lays (lay m s) ss ∙ length_lay m s
@@ -102,6 +105,7 @@ byte-lay m s i lt =
 
 -- ---- words
 
+-- a store changes no word but its own
 pub read_lay_other : (m : List ℕ) (s : Stored) (a : ℕ) → a ≢ s.word → read (lay m s) a ≡ read m a
 unfolding read
 read_lay_other m s a ne =
@@ -119,9 +123,11 @@ pub record IsBytesAt (m : List ℕ) (a : ℕ) : Type 0 where
   pub at2 : slice_index m (4 * a + 2) < 2 ^ 8
   pub at3 : slice_index m (4 * a + 3) < 2 ^ 8
 
+-- in a memory whose bytes are all bytes, those of each word are
 pub IsBytesAt-bytes : (m : List ℕ) (a : ℕ) → IsBytes m → IsBytesAt m a
 IsBytesAt-bytes m a h = record { at0 = h.each _; at1 = h.each _; at2 = h.each _; at3 = h.each _ }
 
+-- a store leaves the bytes of any other word bytes
 pub IsBytesAt-lay_other : (m : List ℕ) (s : Stored) (a : ℕ) → a ≢ s.word → IsBytesAt m a → IsBytesAt (lay m s) a
 IsBytesAt-lay_other m s a ne h =
     record {
@@ -139,6 +145,7 @@ word_bytes x y z w hx hy hz = (omega arith, omega arith, omega arith)
 last_byte : (x y z w : ℕ) → x < 2 ^ 8 → y < 2 ^ 8 → z < 2 ^ 8 → w < 2 ^ 8 → (x + y * 2 ^ 8 + z * 2 ^ 16 + w * 2 ^ 24) / 2 ^ 24 % 2 ^ 8 ≡ w
 last_byte x y z w hx hy hz hw = omega arith
 
+-- a store's word inside memory reads as before the store, but for the bytes that the store has
 pub read_lay_at : (m : List ℕ) (s : Stored) → 4 * s.word + 3 < length m → IsBytesAt m s.word → read (lay m s) s.word ≡ word_over s (read m s.word)
 unfolding read word_over
 read_lay_at m s lt h =
@@ -176,6 +183,7 @@ IsBytes-with_byte : (m : List ℕ) (a : ℕ) (c : Bool) (b : ℕ) → b < 2 ^ 8 
 IsBytes-with_byte m a true b lt h = IsBytes-set m a b lt h
 IsBytes-with_byte m a false b lt h = h
 
+-- a memory's bytes are bytes still after a store of some bytes of a value
 pub IsBytes-lay : (m : List ℕ) (word mask value : ℕ) → IsBytes m → IsBytes (lay m (bytes_of word mask value))
 unfolding lay bytes_of
 IsBytes-lay m w k v h =

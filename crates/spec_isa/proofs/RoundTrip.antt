@@ -124,6 +124,7 @@ denoted-spelling (Instr.LoadReserved rd rs1 acquire release) h = read_atomic rd 
 denoted-spelling (Instr.StoreConditional rd rs1 rs2 acquire release) h = read_atomic rd rs1 rs2 0x03 acquire release h.0 h.1 h.2 (lit< tt)
 denoted-spelling (Instr.Amo op rd rs1 rs2 acquire release) h = amo op rd rs1 rs2 acquire release h.0 h.1 h.2
 
+-- the tables find for a word the instruction that it denotes
 pub denotes_denoted : {w : ℕ} {i : Instr} → Denotes w i → denoted w ≡ Some i
 denotes_denoted {w} {i} d = ap denoted d.spelled ∙ denoted-spelling i d.fields
 
