@@ -20,10 +20,12 @@ use Rattle.spec_play.specs.Plays.{Played, opened, settled, thread_verdict, play_
 
 -- ---- a play that has ended stays
 
+-- a play that has ended is the same after one commit more is asked for
 pub over-stays : (log : LogParts) (y : Played) (how : End) → y.now ≡ Over how → play_one log y ≡ y
 unfolding play_one
 over-stays log y how e = ap (play_now log y) e
 
+-- a play that has ended after i commits is the same after any number more
 pub plays-stay : (log : LogParts) (y : Played) (i n : ℕ) (how : End) → (plays log y i).now ≡ Over how → plays log y (n + i) ≡ plays log y i
 plays-stay log y i zero how e = let h : 0 + i ≡ i = omega arith in ap (plays log y) h
 plays-stay log y i (suc n) how e =
@@ -32,6 +34,7 @@ plays-stay log y i (suc n) how e =
 
 -- ---- one commit more at most
 
+-- the second list of commits is the first and then some more, or none
 pub record IsBehind (xs ys : List Commit) : Type 0 where
   pub rest : List Commit
   pub same : ys ≡ xs ++ rest
@@ -75,6 +78,7 @@ play_more : (log : LogParts) (y : Played) → OneMore y (play_one log y)
 unfolding play_one
 play_more log y = now_more log y y.now
 
+-- the commits of a play so far are the first ones of what it has later
 pub plays-behind : (log : LogParts) (y : Played) (i n : ℕ) → IsBehind (plays log y i).progress.commits (plays log y (n + i)).progress.commits
 plays-behind log y i zero =
     let h : 0 + i ≡ i = omega arith in
@@ -88,6 +92,7 @@ plays-behind log y i (suc n) =
       same = ap (λ (j : ℕ). (plays log y j).progress.commits) h ∙ m.same ∙ ap (λ (cs : List Commit). cs ++ m.rest) b.same ∙ append_assoc (plays log y i).progress.commits b.rest m.rest;
     }
 
+-- a play asked for i commits has done i at most
 pub plays-most : (log : LogParts) (memory : List ℕ) (entry i : ℕ) → position (plays log (opened log memory entry) i).progress ≤ i
 plays-most log memory entry zero = omega arith
 plays-most log memory entry (suc i) =
@@ -116,6 +121,7 @@ dma_goes : (log : LogParts) (y : Played) (i : ℕ) (v : DmaVerdict) → position
 dma_goes log y i (DmaGoes words) done = inr (record { done = counted_one y.progress.commits dma_commit i done; now = refl })
 dma_goes log y i (DmaFails why) done = inl (End.Diverged (position y.progress) why, refl)
 
+-- thread k is there and live
 pub record Lives (ts : List Parts) (k : ℕ) : Type 0 where
   pub thread : Parts
   pub is : slice_get ts k ≡ Some thread
@@ -160,6 +166,7 @@ unfolding play_one
 one_goes log y i (inl e) = inl (e.0, ap (λ (x : Played). x.now) (over-stays log y e.0 e.1) ∙ e.1)
 one_goes log y i (inr g) = now_goes log y i y.now refl g
 
+-- a play asked for i commits has ended, or has done i and goes on with the turn that the log gives
 pub plays-go : (log : LogParts) (memory : List ℕ) (entry i : ℕ) → EndsOr log (plays log (opened log memory entry) i) i
 plays-go log memory entry zero = inr (record { done = refl; now = refl })
 plays-go log memory entry (suc i) = one_goes log (plays log (opened log memory entry) i) i (plays-go log memory entry i)
@@ -181,6 +188,7 @@ goes_over log y (inr g) =
     let h = g.done in
     let o = over-at log y.progress y.used y.threads (omega arith) in (o.0, sym g.now ∙ o.1)
 
+-- a whole play has ended, in some way
 pub play-over : (log : LogParts) (memory : List ℕ) (entry : ℕ) → (how : End) × ((play log memory entry).now ≡ Over how)
 play-over log memory entry = goes_over log (play log memory entry) (plays-go log memory entry log.count)
 

@@ -11,6 +11,7 @@ dma_sizes : (sizes : Sizes) (i j : ℕ) → sizes_at sizes i (note_of dma_commit
 dma_sizes (Sizes.Each sizes) i j = refl
 dma_sizes (Sizes.Short sizes) i j = refl
 
+-- read as a log, what a recorder keeps grows by each thing kept as a log does in which it is noted
 pub grows-alike : (r : Recorded) → GrowsAlike r
 grows-alike r =
     record {
@@ -30,5 +31,6 @@ grows-alike r =
       dma = λ slot bytes. refl;
     }
 
+-- read as a log, what a recorder keeps begins as a new log and grows as the log does
 pub recorders_keep_logs : RecordersKeepLogs
 recorders_keep_logs = record { first = λ mode s. refl; grows = grows-alike }

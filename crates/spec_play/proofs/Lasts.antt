@@ -31,14 +31,17 @@ pushed_dma : (cs : List Commit) (c : Commit) → c.actor ≡ Actor.Dma → last_
 pushed_dma [] c e = ap thread_of e
 pushed_dma (d ∷ cs) c e = ap (λ (o : Option ℕ). option_or o (thread_of d.actor)) (pushed_dma cs c e)
 
+-- with a thread's commit added, the last thread of the progress is the last among its commits
 pub last-effect : (k : ℕ) (e : Effect) (p : Progress) → e.commit.actor ≡ Actor.Thread k → IsOfCommits (with_effect k e p)
 last-effect k e p is = sym (pushed_thread k p.commits e.commit is)
 
+-- with a DMA's commit added, the last thread of the progress is the last among its commits, if it was so before
 pub last-dma : (p : Progress) → IsOfCommits p → IsOfCommits (with_dma p)
 last-dma p last = last ∙ sym (pushed_dma p.commits dma_commit refl)
 
 -- ---- a verdict's commit is its thread's
 
+-- a verdict that goes on has a commit of that thread
 abbrev pub IsOf : (thread : ℕ) → Verdict → Type 0
 IsOf k (Goes e u) = e.commit.actor ≡ Actor.Thread k
 IsOf k (Fails why) = Unit {0}
@@ -55,6 +58,7 @@ interrupted_of : (k : ℕ) (o : Option ℕ) (e : Effect) (u : Used) → e.commit
 interrupted_of k None e u is = is
 interrupted_of k (Some value) e u is = taken_of k value e u (takes_interrupt e.thread) is
 
+-- the commit of a chunk's verdict is of the thread that ran it
 pub chunk-of : (log : LogParts) (p : Progress) (u : Used) (k : ℕ) (r : Run) → IsOf k (chunk_verdict log p u k r)
 unfolding chunk_verdict
 chunk-of log p u k r =
@@ -67,6 +71,7 @@ served_of log p k ts t m (Some g) =
     let e = serial_effect k (serve k ts p.request t m g.input) in
     interrupted_of k (interrupt_at log.interrupts k e.thread.commits) e g.used refl
 
+-- the commit of a serial step's verdict is of the thread that did it
 pub serial-of : (log : LogParts) (p : Progress) (u : Used) (k : ℕ) (ts : List Parts) (t : Parts) (m : List ℕ) → IsOf k (serial_verdict log p u k ts t m)
 unfolding serial_verdict
 serial-of log p u k ts t m =
@@ -96,6 +101,7 @@ now_last log y (Over how) last = last
 now_last log y TurnOfDma last = dma_last log y (dma_verdict log y.progress y.used) last
 now_last log y (Turn k) last = thread_last log y k (slice_get y.threads k) last
 
+-- after any number of commits of a play, the last thread of its progress is the last among its commits
 pub plays_keep_lasts : PlaysKeepLasts
 unfolding play_one
 plays_keep_lasts log memory entry zero = refl

@@ -139,5 +139,6 @@ turn_walk log memory entry to TurnOfDma is =
       | inr g ↦ going_walk log memory entry to g going (ap (walk_end log to (position y.progress)) is)
     ]
 
+-- a walk has the first commits of its log's play, as many as it goes to, and ends where the play has ended by then
 pub walks_are_plays : WalksArePlays
 walks_are_plays log memory entry to = turn_walk log memory entry to (plays log (opened log memory entry) to).now refl
