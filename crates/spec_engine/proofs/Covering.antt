@@ -125,6 +125,7 @@ covered_is : (s : Stepping) → Covered s → IsCovered s.chunk
 unfolding Covered
 covered_is s all = all
 
+-- the signatures of a fresh or squashed chunk cover its words and loads, and a step keeps that
 pub chunks_covered : ChunksAreCovered
 chunks_covered = record {
   begun = λ bits i t limit halves. record { words = tt; loads = tt };

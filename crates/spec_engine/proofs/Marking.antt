@@ -18,6 +18,7 @@ apart_at s t e p =
     let none : set.intersection s t ≡ set.empty = empty_of_len (set.intersection s t) (eqb-true _ 0 (not-false _ e)) in
     sym (contains-intersection nat_cmp_total s t p) ∙ ap (λ (u : set.FinSet nat_cmp). set.contains u p) none ∙ contains-empty nat_cmp p
 
+-- sets with no place in common don't meet
 pub apart_from : (s t : set.FinSet nat_cmp) → ((p : ℕ) → both s t p ≡ false) → meets s t ≡ false
 unfolding meets
 apart_from s t each =
@@ -26,6 +27,7 @@ apart_from s t each =
     in
     ap (λ (u : set.FinSet nat_cmp). not (eqb (set.len u) 0)) none ∙ ap (λ (n : ℕ). not (eqb n 0)) (len-empty nat_cmp)
 
+-- sets with a place in common meet
 pub meets_at : (s t : set.FinSet nat_cmp) (p : ℕ) → set.contains s p ≡ true → set.contains t p ≡ true → meets s t ≡ true
 meets_at s t p a b =
     true_from_ne_false (meets s t) (λ e. true≢false (sym (and_from (set.contains s p) (set.contains t p) a b) ∙ apart_at s t e p))
@@ -38,12 +40,15 @@ meets_more s t u v more met =
 
 -- ---- signatures
 
+-- a signature covers a line inserted into it
 pub covers_insert : (l : ℕ) (g : Marks) → covers (insert l g) l ≡ true
 covers_insert l g = grind (members, rules)
 
+-- a signature covers after an insert what it covered before
 pub covers_more : (l k : ℕ) (g : Marks) → covers g k ≡ true → covers (insert l g) k ≡ true
 covers_more l k g e = grind (members, rules)
 
+-- two signatures of one size that cover the same line hit
 pub covers_hit : (g h : Marks) (l : ℕ) → h.bits ≡ g.bits → covers g l ≡ true → covers h l ≡ true → hits g h ≡ true
 covers_hit g h l same a b =
     let p = and_parts (set.contains g.low (low_place g.bits l)) (set.contains g.high (high_place g.bits l)) a in
@@ -58,11 +63,13 @@ more_right s t a = meets_more s t s (set.insert t a) (λ p e. grind (members, ru
 more_left : (s t : set.FinSet nat_cmp) (a : ℕ) → meets s t ≡ true → meets (set.insert s a) t ≡ true
 more_left s t a = meets_more s t (set.insert s a) t (λ p e. grind (members, rules))
 
+-- signatures that hit do so still after an insert into the second
 pub hits_more : (l : ℕ) (g h : Marks) → hits g h ≡ true → hits g (insert l h) ≡ true
 hits_more l g h e =
     let p = and_parts (meets g.low h.low) (meets g.high h.high) e in
     and_from (meets g.low (insert l h).low) (meets g.high (insert l h).high) (more_right g.low h.low _ p.0) (more_right g.high h.high _ p.1)
 
+-- signatures that hit do so still after an insert into the first
 pub hits_more_left : (l : ℕ) (g h : Marks) → hits g h ≡ true → hits (insert l g) h ≡ true
 hits_more_left l g h e =
     let p = and_parts (meets g.low h.low) (meets g.high h.high) e in

@@ -12,21 +12,26 @@ use Rattle.spec_engine.specs.Flights.{told_at, all_told, Flight, tell, at, passe
 
 -- ---- the cores told
 
+-- where no bit is set, no core was told
 pub told-zero : (c : ℕ) → told_at 0 c ≡ false
 told-zero c = ap (λ (b : ℕ). eqb b 1) (bit_at-zero c)
 
+-- a core that a flight is told to was told
 pub told-tell : (f : Flight) (c : ℕ) → told_at (tell f c).told c ≡ true
 told-tell f c = let e = bit_at_or f.told (2 ^ c) c in let s = bit_at-pow_same c in let l = bit_at-lt f.told c in grind arith
 
+-- telling one core changes of no other whether it was told
 pub told-tell_other : (f : Flight) (c d : ℕ) → d ≢ c → told_at (tell f c).told d ≡ told_at f.told d
 told-tell_other f c d ne = ap (λ (b : ℕ). eqb b 1) (let e = bit_at_or f.told (2 ^ c) d in let s = bit_at-pow_other c d ne in grind arith)
 
+-- where all cores below n were told, each of them was
 pub all_told-at : (n t c : ℕ) → all_told n t ≡ true → c < n → told_at t c ≡ true
 all_told-at zero t c all l = grind arith
 all_told-at (suc n) t c all l =
     let p = and_parts (told_at t n) (all_told n t) all in
     elim (cases_lt c n) [ inl h ↦ all_told-at n t c p.1 h | inr h ↦ (let e : c ≡ n = omega arith in ap (told_at t) e ∙ p.0) ]
 
+-- where each core below n was told, all were
 pub all_told-from : (n t : ℕ) → ((c : ℕ) → c < n → told_at t c ≡ true) → all_told n t ≡ true
 all_told-from zero t each = refl
 all_told-from (suc n) t each = and_from (told_at t n) (all_told n t) (each n (omega arith)) (all_told-from n t (λ c l. each c (omega arith)))
@@ -36,6 +41,7 @@ all_told-from (suc n) t each = and_from (told_at t n) (all_told n t) (each n (om
 position_none : {X : Type 0} (p : X → Bool) (xs : List X) → position p xs ≡ None → (k : ℕ) (d : X) → k < length xs → p (get_or xs k d) ≡ false
 position_none p xs e k d l = grind (arith, common_steps, fails_before_first)
 
+-- where a search finds no slot, nothing in any slot passes the test
 pub first_none : {A : Type 0} (p : A → Bool) (xs : List (Option A)) → first_slot p xs ≡ None → (k : ℕ) (x : A) → at xs k ≡ Some x → p x ≡ false
 unfolding first_slot
 first_none p xs e k x is =
@@ -62,10 +68,12 @@ free_at : {A : Type 0} (o : Option A) → is_none o ≡ true → o ≡ None
 free_at None e = refl
 free_at (Some x) e = absurd (true≢false (sym e))
 
+-- a free slot that is found is one of the slots
 pub free_slot-within : {A : Type 0} (xs : List (Option A)) (k : ℕ) → free_slot xs ≡ Some k → k < length xs
 unfolding free_slot
 free_slot-within xs k e = (position-Some is_none xs k None e).0
 
+-- a free slot that is found holds nothing
 pub free_slot-free : {A : Type 0} (xs : List (Option A)) (k : ℕ) → free_slot xs ≡ Some k → at xs k ≡ None
 unfolding free_slot
 free_slot-free xs k e = free_at (at xs k) (position-Some is_none xs k None e).1
@@ -77,12 +85,14 @@ full_at xs e k l = position_none is_none xs e k None l
 
 -- ---- a search that went through the slots in order
 
+-- a slot whose content passes the test, with none that does before it, is the one that the search finds
 pub first_is : {A : Type 0} (p : A → Bool) (xs : List (Option A)) (k : ℕ) → k < length xs → ((j : ℕ) → j < k → passes p (at xs j) ≡ false) → passes p (at xs k) ≡ true → Some k ≡ first_slot p xs
 unfolding first_slot
 first_is p xs k l before e =
     let found = position_or_len_is (passes p) xs k None (omega arith) before (λ _. e) in
     sym (cond-true (ltb (position_or_len (passes p) xs) (length xs)) _ _ (lt-ltb _ _ (omega arith)) ∙ ap Some found)
 
+-- where the content of no slot passes the test, the search finds none
 pub first_is_none : {A : Type 0} (p : A → Bool) (xs : List (Option A)) → ((j : ℕ) → j < length xs → passes p (at xs j) ≡ false) → None ≡ first_slot p xs
 unfolding first_slot
 first_is_none p xs each =

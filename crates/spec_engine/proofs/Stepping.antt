@@ -73,6 +73,7 @@ inside : (m : List ℕ) (ch : Chunk) → let f = read (shown m ch) (ch.done.thre
 unfolding one
 inside m ch = refl
 
+-- a step does one instruction of the chunk's run on the memory that it sees, or none, as its reply says
 pub steps_are : StepsAreInstructions
 unfolding step
 steps_are capacity m slots c ch =
