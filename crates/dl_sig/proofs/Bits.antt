@@ -26,6 +26,7 @@ no_bit n p =
     (elim (cases_lt (p / 32) n) [ inl l ↦ get_or-replicate n (p / 32) 0 0 l | inr l ↦ get_or_past (replicate {A = ℕ} n 0) (p / 32) 0 (rw (length-replicate {A = ℕ} n 0) l) ])
     ∙ ap (λ (b : ℕ). eqb b 1) (bit_at-zero (p % 32))
 
+-- n words that are all 0 are the bank of 32 * n places that has none of them
 pub words_none : (n : ℕ) → of_words (replicate n 0) ≡ no_place (32 * n)
 words_none n = λ i. record { size = 32 * length-replicate {A = ℕ} n 0 i; set = none_below (has_bit (replicate {A = ℕ} n 0)) (32 * length (replicate {A = ℕ} n 0)) (no_bit n) i }
 
@@ -58,6 +59,7 @@ bit_after ws p q l =
       | inr ne ↦ bit_other ws p q l ne ∙ sym (λ i. ne_eqb q p ne i || has_bit ws q)
     ]
 
+-- words with one bit more set are their bank with the bit's place put in
 pub words_set : (ws : List ℕ) (p : ℕ) → p < 32 * length ws → of_words (with_bit ws p) ≡ with_place p (of_words ws)
 words_set ws p l =
     let same : length (with_bit ws p) ≡ length ws = length-set ws (p / 32) _ in
@@ -81,6 +83,7 @@ bit_of_either : (ws vs : List ℕ) (p : ℕ) → p / 32 < length ws → p / 32 <
 bit_of_either ws vs p l m =
     ap (λ (w : ℕ). eqb (bit_at w (p % 32)) 1) (get_or-zip2 bit_or ws vs (p / 32) 0 0 0 l m) ∙ either_bit (get_or ws (p / 32) 0) (get_or vs (p / 32) 0) (p % 32)
 
+-- words with the bits of as many others set too are their bank with the others' places put in
 pub words_joined : (ws vs : List ℕ) → length vs ≡ length ws → of_words (joined ws vs) ≡ with_places (of_words vs) (of_words ws)
 words_joined ws vs same =
     let long : length (joined ws vs) ≡ length ws = length-zip2 bit_or ws vs (sym same) in
@@ -156,6 +159,7 @@ none_shared (w ∷ ws) [] e same i l = absurd (omega arith)
 none_shared (w ∷ ws) (v ∷ vs) e same zero l = eqb-true (bit_and w v) 0 (not-false _ (or_parts (not (eqb (bit_and w v) 0)) (share ws vs) e).0)
 none_shared (w ∷ ws) (v ∷ vs) e same (suc i) l = none_shared ws vs (or_parts (not (eqb (bit_and w v) 0)) (share ws vs) e).1 (omega arith) i (omega arith)
 
+-- words share a bit with as many others exactly where their banks meet, if they are words of 32 bits
 pub words_share : (ws vs : List ℕ) → length vs ≡ length ws → ((i : ℕ) → Fits w32 (get_or ws i 0)) → share ws vs ≡ meets (of_words ws).set (of_words vs).set
 words_share ws vs same small =
     let sizes : 32 * length vs ≡ 32 * length ws = ap (λ (n : ℕ). 32 * n) same in

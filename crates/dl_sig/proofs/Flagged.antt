@@ -13,6 +13,7 @@ no_flag : (n p : ℕ) → has_flag (replicate n false) p ≡ false
 no_flag n p =
     elim (cases_lt p n) [ inl l ↦ get_or-replicate n p false false l | inr l ↦ get_or_past (replicate n false) p false (rw (length-replicate n false) l) ]
 
+-- n flags that are all false are the bank of n places that has none of them
 pub flags_none : (n : ℕ) → of_flags (replicate n false) ≡ no_place n
 flags_none n = λ i. record { size = length-replicate {A = Bool} n false i; set = none_below (has_flag (replicate n false)) (length (replicate n false)) (no_flag n) i }
 
@@ -23,6 +24,7 @@ flag_after xs p q l =
       | inr ne ↦ get_or-set_other xs p q true false ne ∙ sym (λ i. ne_eqb q p ne i || has_flag xs q)
     ]
 
+-- flags with one more set are their bank with that flag's place put in
 pub flags_set : (xs : List Bool) (p : ℕ) → p < length xs → of_flags (set xs p true) ≡ with_place p (of_flags xs)
 flags_set xs p l =
     let same : length (set xs p true) ≡ length xs = length-set xs p true in
@@ -31,10 +33,12 @@ flags_set xs p l =
 
 -- ---- two banks of one size
 
+-- two banks of one size meet where a flag is set in both
 pub flags_meet : (xs ys : List Bool) → (of_flags ys).size ≡ (of_flags xs).size → (i : ℕ) → i < length xs → has_flag xs i ≡ true → has_flag ys i ≡ true → true ≡ meets (of_flags xs).set (of_flags ys).set
 flags_meet xs ys same i l a b =
     meet_at (has_flag xs) (has_flag ys) (length xs) i l a b ∙ ap (λ (n : ℕ). meets (of_flags xs).set (set_below (has_flag ys) n)) (sym same)
 
+-- two banks of one size don't meet where no flag is set in both
 pub flags_apart : (xs ys : List Bool) → (of_flags ys).size ≡ (of_flags xs).size → ((i : ℕ) → i < length xs → (has_flag xs i && has_flag ys i) ≡ false) → false ≡ meets (of_flags xs).set (of_flags ys).set
 flags_apart xs ys same none =
     apart_below (has_flag xs) (has_flag ys) (length xs) none ∙ ap (λ (n : ℕ). meets (of_flags xs).set (set_below (has_flag ys) n)) (sym same)
@@ -42,6 +46,7 @@ flags_apart xs ys same none =
 abbrev pub either_flags : (xs ys : List Bool) → List Bool
 either_flags xs ys = zip2 ◌||◌ xs ys
 
+-- the flags set in either of two banks of one size are the first with the places of the second put in
 pub flags_joined : (xs ys : List Bool) → (of_flags ys).size ≡ (of_flags xs).size → of_flags (either_flags xs ys) ≡ with_places (of_flags ys) (of_flags xs)
 flags_joined xs ys same =
     let long : length (either_flags xs ys) ≡ length xs = length-zip2 ◌||◌ xs ys (sym same) in

@@ -34,11 +34,13 @@ fold_some a (w ∷ ws) (v ∷ vs) =
     ap (λ (b : Bool). b || share ws vs) (some_or a (bit_and w v)) ∙
     or_assoc (not (eqb a 0)) (not (eqb (bit_and w v) 0)) (share ws vs)
 
+-- the ands of two lists' words, joined by or, aren't 0 exactly where the lists share a bit
 pub fold_share : (ws vs : List ℕ) → not (eqb (fold_l bit_or 0 (zip2 bit_and ws vs)) 0) ≡ share ws vs
 fold_share ws vs = fold_some 0 ws vs
 
 -- ---- what is left
 
+-- whether the words from place i on share a bit with the others from there on
 abbrev pub share_from : (words others : List ℕ) (i : ℕ) → Bool
 share_from ws vs i = share (drop i ws) (drop i vs)
 
@@ -60,9 +62,11 @@ split_lanes ws vs s =
     share_parts 8 (drop s ws) (drop s vs) ∙
     (λ i. share (chunk s 8 ws) (chunk s 8 vs) || share (drop-drop 8 s ws i) (drop-drop 8 s vs i))
 
+-- if what is left decides, and its next eight words share a bit, the lists do
 pub lanes_found : (ws vs : List ℕ) (s : ℕ) → share_from ws vs s ≡ share ws vs → share (chunk s 8 ws) (chunk s 8 vs) ≡ true → true ≡ share ws vs
 lanes_found ws vs s whole found = sym (ap (λ (b : Bool). b || share_from ws vs (s + 8)) found) ∙ sym (split_lanes ws vs s) ∙ whole
 
+-- if what is left decides, and its next eight words share no bit, what is left after them decides
 pub lanes_passed : (ws vs : List ℕ) (s : ℕ) → share_from ws vs s ≡ share ws vs → share (chunk s 8 ws) (chunk s 8 vs) ≡ false → share_from ws vs (s + 8) ≡ share ws vs
 lanes_passed ws vs s whole none = sym (ap (λ (b : Bool). b || share_from ws vs (s + 8)) none) ∙ sym (split_lanes ws vs s) ∙ whole
 
@@ -70,14 +74,17 @@ lanes_passed ws vs s whole none = sym (ap (λ (b : Bool). b || share_from ws vs 
 split_word : (ws vs : List ℕ) (i : ℕ) → i < length ws → i < length vs → share_from ws vs i ≡ (not (eqb (bit_and (get_or ws i 0) (get_or vs i 0)) 0) || share_from ws vs (suc i))
 split_word ws vs i l m = λ j. share (drop-cons ws i 0 l j) (drop-cons vs i 0 m j)
 
+-- if what is left decides, and its next word shares a bit, the lists do
 pub word_found : (ws vs : List ℕ) (i : ℕ) → i < length ws → i < length vs → share_from ws vs i ≡ share ws vs → bit_and (get_or ws i 0) (get_or vs i 0) ≢ 0 → true ≡ share ws vs
 word_found ws vs i l m whole ne =
     sym (λ j. not (ne_eqb (bit_and (get_or ws i 0) (get_or vs i 0)) 0 ne j) || share_from ws vs (suc i)) ∙ sym (split_word ws vs i l m) ∙ whole
 
+-- if what is left decides, and its next word shares no bit, what is left after it decides
 pub word_passed : (ws vs : List ℕ) (i : ℕ) → i < length ws → i < length vs → share_from ws vs i ≡ share ws vs → bit_and (get_or ws i 0) (get_or vs i 0) ≡ 0 → share_from ws vs (suc i) ≡ share ws vs
 word_passed ws vs i l m whole none =
     sym (λ j. not (eq-eqb (bit_and (get_or ws i 0) (get_or vs i 0)) 0 none j) || share_from ws vs (suc i)) ∙ sym (split_word ws vs i l m) ∙ whole
 
+-- if what is left decides, and no word is left, the lists share no bit
 pub all_passed : (ws vs : List ℕ) (i : ℕ) → i ≡ length ws → share_from ws vs i ≡ share ws vs → false ≡ share ws vs
 all_passed ws vs i all whole = sym (past ws vs i all) ∙ whole
   where
