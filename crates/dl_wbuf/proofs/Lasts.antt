@@ -50,5 +50,6 @@ byte_held-puts ws (s ∷ ss) byte =
     byte_held-puts (put ws s) ss byte ∙ ap (λ b. later b (last_stored ss byte)) (byte_held-put ws s byte)
     ∙ later_later (byte_held ws byte) (byte_held (s ∷ []) byte) (last_stored ss byte)
 
+-- a buffer to which stores were put, empty at first, holds at each address the byte last stored there
 pub byte_held-last : (ws ss : List Stored) (byte : ℕ) → ws ≡ puts [] ss → byte_held ws byte ≡ last_stored ss byte
 byte_held-last ws ss byte e = ap (λ words. byte_held words byte) e ∙ byte_held-puts [] ss byte ∙ later_none (last_stored ss byte)

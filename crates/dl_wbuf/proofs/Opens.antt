@@ -14,6 +14,7 @@ use Rattle.dl_wbuf.specs.declared.entry.Entry.{Entry}
 use Rattle.dl_wbuf.specs.Tables.{Slots, home, fits, used, slot_of, place_of, place, IsOpen}
 use Rattle.dl_wbuf.proofs.Probes.{probe_inside, probe_kept, probe_fits, probe_found}
 
+-- the slot of any number is one that the table has
 pub slot_inside : (t : Slots) (a : ℕ) → IsOpen t → slot_of t a < length t.slots
 slot_inside t a h = probe_inside t.slots (home t.shift a) a t.room (omega (arith, h.count, h.within)) h.half (h.homes a)
 
@@ -158,11 +159,13 @@ pub record IsSet (old new : Slots) (e : Entry) : Type 0 where
   pub opened : IsOpen new
   pub places : (a : ℕ) → place new a ≡ cond (eqb a e.number) (Some e.place) (place old a)
 
+-- with room left, a number's slot is set and listed as taken: no other number's place changes, and it is a table still
 pub IsSet-taken : (t : Slots) (slot : ℕ) (e : Entry) (taken : List ℕ) → IsOpen t → slot ≡ slot_of t e.number → length t.taken < t.room → taken ≡ t.taken ++ slot ∷ [] → IsSet t (record t { slots = slice_set t.slots slot (Some e); taken = taken }) e
 IsSet-taken t slot e taken h here lt more =
     let new = IsOpen-taken t e h lt in
     rw (more, here) (record { opened = new; places = λ a. place-after t a e _ h new })
 
+-- a number's slot that was set is set again: no other number's place changes, and it is a table still
 pub IsSet-again : (t : Slots) (slot : ℕ) (e : Entry) (was : Option Entry) → IsOpen t → slot ≡ slot_of t e.number → was ≡ get_or t.slots slot was → is_some was ≡ true → IsSet t (record t { slots = slice_set t.slots slot (Some e) }) e
 IsSet-again t slot e was h here is some =
     let stood = entry_at t.slots (slot_of t e.number) was (slot_inside t e.number h) (rw here at is) some in
@@ -194,6 +197,7 @@ IsOpen-empty t lacks none half homes shift most =
       most = most;
     }
 
+-- a table with no slot taken has a place for no number
 pub none_placed-empty : (t : Slots) (a : ℕ) → IsOpen t → t.taken ≡ [] → place t a ≡ None
 none_placed-empty t a h none = none_placed t a h (λ i e is _. lists_none t i none (h.listed i e is))
 
@@ -212,6 +216,7 @@ listed-emptied ss taken slot inside listed i e is =
 
 -- ---- the homes
 
+-- of twice 2 ^ bits slots, the one at which a number's probe begins is in the first half
 pub homes-half : (bits a : ℕ) → bits ≤ 32 → 2 * home (32 - bits) a < 2 * 2 ^ bits
 unfolding home
 homes-half bits a h =

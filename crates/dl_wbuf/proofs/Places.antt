@@ -9,6 +9,7 @@ use Rattle.spec_isa.specs.Words.{Stored, merged, put, holds}
 use Rattle.spec_isa.specs.Masks.{word_over, over}
 use Rattle.dl_wbuf.specs.Buffers.{lane, byte_held}
 
+-- the word is of that number
 abbrev pub is_of : ℕ → Stored → Bool
 is_of a s = eqb s.word a
 
@@ -74,6 +75,7 @@ located (s ∷ ss) a =
       ]
     ]
 
+-- the first word of a number is the one that is seen, and a store of that number is merged into it
 pub IsFound-place : (ws : List Stored) (a i : ℕ) → position (is_of a) ws ≡ Some i → IsFound ws a i
 IsFound-place ws a i h =
     elim (located ws a) [
@@ -86,6 +88,7 @@ IsFound-place ws a i h =
           let f = rw test at h in cc
     ]
 
+-- where no word of a number stands, none is seen, and a store of that number comes last
 pub IsMissing-place : (ws : List Stored) (a : ℕ) → position (is_of a) ws ≡ None → IsMissing ws a
 IsMissing-place ws a h =
     elim (located ws a) [
@@ -95,6 +98,7 @@ IsMissing-place ws a h =
       | inr missing ↦ missing.0
     ]
 
+-- a number is held exactly where a first word of it stands
 pub holds-place : (ws : List Stored) (a : ℕ) → holds ws a ≡ is_some (position (is_of a) ws)
 holds-place ws a =
     elim (located ws a) [

@@ -129,6 +129,7 @@ left-drained d a o s ss lacks h =
 pub position-found : (capacity drained : ℕ) (table : Slots) (ws : List Stored) (number slot : ℕ) (o r : Option ℕ) → IsPlaced capacity drained table ws → slot ≡ slot_of table number → o ≡ place_in table slot → r ≡ left drained o → position (is_of number) ws ≡ r
 position-found c d t ws a slot o r h at held is = sym (is ∙ ap (left d) (held ∙ ap (place_in t) at) ∙ h.places a)
 
+-- with one word more taken out, but fewer than the capacity, the table has the places of those left
 pub IsPlaced-drained : (capacity drained next : ℕ) (table : Slots) (ws : List Stored) (s : Stored) (ss : List Stored) → ws ≡ s ∷ ss → Apart ws → IsPlaced capacity drained table ws → next ≡ 1 + drained → next ≢ capacity → IsPlaced capacity next table ss
 IsPlaced-drained c d n t ws s ss e apart h next ne =
     let was = rw e at h in
@@ -169,6 +170,7 @@ pub record IsFilled (table : Slots) (ws : List Stored) (i : ℕ) : Type 0 where
   pub places : (a : ℕ) → place table a ≡ position (is_of a) (take i ws)
   pub taken : length table.taken ≤ i
 
+-- a table with the places of the first i words has those of i + 1 once the next word's place is set
 pub IsFilled-more : (old table : Slots) (ws : List Stored) (i number : ℕ) (d : Stored) → Apart ws → i < length ws → number ≡ (get_or ws i d).word → IsFilled old ws i → ((a : ℕ) → place table a ≡ cond (eqb a number) (Some i) (place old a)) → length table.taken ≤ length old.taken + 1 → IsFilled table ws (i + 1)
 IsFilled-more old t ws i number d apart inside is h places taken =
     let w : Stored = get_or ws i d in

@@ -13,6 +13,7 @@ use Rattle.dl_wbuf.specs.Tables.{fits, used, probe}
 
 -- ---- the first that passes
 
+-- the place of the first that passes a test, or the length for none, is at most the length
 pub first_le : {X : Type 0} (p : X → Bool) (xs : List X) → position_or_len p xs ≤ length xs
 first_le p [] = omega arith
 first_le p (x ∷ xs) =
@@ -21,6 +22,7 @@ first_le p (x ∷ xs) =
       | inr fails ↦ rw fails (omega (arith, first_le p xs))
     ]
 
+-- the first place that passes a test, if there is one, and else the length, is what position_or_len answers
 pub first_or_len : {X : Type 0} (p : X → Bool) (xs : List X) → unwrap_or (position p xs) (length xs) ≡ position_or_len p xs
 first_or_len p xs =
     elim (cases_lt (position_or_len p xs) (length xs)) [
@@ -45,6 +47,7 @@ used_drop (suc n) [] = omega arith
 used_drop (suc n) (None ∷ ss) = used_drop n ss
 used_drop (suc n) (Some e ∷ ss) = omega (arith, used_drop n ss)
 
+-- with half of the slots used at most, a probe that begins in the first half ends at a slot
 pub probe_inside : (slots : List (Option Entry)) (start a room : ℕ) → used slots ≤ room → 2 * room ≤ length slots → 2 * start < length slots → probe slots start a < length slots
 probe_inside slots start a room h half starts =
     let e : length (drop start slots) + start ≡ length slots = omega (arith, length-drop start slots) in
