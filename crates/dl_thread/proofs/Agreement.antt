@@ -19,6 +19,7 @@ by_checks (Some k) room old next load store m = tt
 by_checks None false old next load store m = tt
 by_checks None true old next load store m = (store, refl, refl)
 
+-- an operation's answer over a view, and what it leaves, agree with the instruction's outcome on the bytes shown
 pub agreement : (s : Sight) (serial : Option Kind) (read : Option ℕ) (old next : Parts) (load : Option Load) (store : Option Stored) →
     let d = unless_serial serial (accessed s read load store) in
     Agrees d (unless serial (Outcome.Next next load store)) (after d old next) s.bytes (after d s.bytes (with_store s.bytes store))
@@ -30,6 +31,7 @@ pub one_outside : (s : Sight) (t : Parts) → is_inside (length s.bytes) t.pc �
 unfolding one serial_of
 one_outside s t e = rw e refl
 
+-- with the pc inside memory, the outcome is the operation's: refused, or the next thread with its load and store
 pub one_inside : (s : Sight) (t : Parts) → is_inside (length s.bytes) t.pc ≡ true →
     let p = operation_of t (read s.bytes (t.pc / 4)) in
     one t s.bytes ≡ unless (refuses (length s.bytes) p) (Outcome.Next (thread_for s p t) (load_then p (word_for s p)) (store_for s p t))

@@ -24,8 +24,10 @@ half_from w (suc (suc zero)) v h even = grind arith
 half_from w (suc (suc (suc zero))) v h even = absurd (omega arith)
 half_from w (suc (suc (suc (suc k)))) v h even = absurd (omega arith)
 
+-- of the word of an address, the bytes that SB's mask names are the store of one byte there
 pub byte_bytes : (a v : ℕ) → bytes_of (a / 4) (1 * 2 ^ (a % 4) % 2 ^ 8) (v % 2 ^ 8 * 2 ^ (8 * (a % 4)) % 2 ^ 32) ≡ stored 1 a v
 byte_bytes a v = byte_from (a / 4) (a % 4) v (omega arith)
 
+-- of the word of an even address, the bytes that SH's mask names are the store of two bytes there
 pub half_bytes : (a v : ℕ) → a % 2 ≡ 0 → bytes_of (a / 4) (3 * 2 ^ (a % 4) % 2 ^ 8) (v % 2 ^ 16 * 2 ^ (8 * (a % 4)) % 2 ^ 32) ≡ stored 2 a v
 half_bytes a v aligned = half_from (a / 4) (a % 4) v (omega arith) (omega arith)
