@@ -10,6 +10,7 @@ use Rattle.spec_engine.specs.Flights.{Flight}
 use Rattle.dl_chunk.specs.Stores.{Notes, with_written}
 use Rattle.dl_chunk.specs.Seeing.{shown}
 
+-- four bytes that lie inside a memory with words laid over it lie inside the memory alone
 pub within : (m : List ℕ) (ws : List Stored) (addr : ℕ) → addr + 4 ≤ length (lays m ws) → addr + 4 ≤ length m
 within m ws addr h = omega (arith, length_lays m ws)
 
@@ -27,6 +28,7 @@ shown_put m slots c n after a mask value apart room e =
 
 -- ---- what follows from two facts of an Ok
 
+-- what follows from two facts holds of an Ok of which both hold
 pub on_both : {T E : Type 0} (r : Result T E) (P Q S : Type 0) → OnOk r P → OnOk r Q → (P → Q → S) → OnOk r S
 on_both (Ok x) P Q S p q f = f p q
 on_both (Err e) P Q S p q f = tt
