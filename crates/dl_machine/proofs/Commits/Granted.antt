@@ -24,8 +24,8 @@ use Rattle.dl_machine.specs.Events.{passes}
 use Rattle.dl_machine.specs.Ready.{IsReady}
 use Rattle.dl_machine.specs.Requests.{closed_by}
 use Rattle.dl_machine.specs.States.{world_in}
-use Rattle.dl_machine.proofs.Moments.{serial_cut}
-use Rattle.dl_machine.proofs.Diverging.{IsApart, serial_apart}
+use Rattle.dl_machine.proofs.Commits.Moments.{serial_cut}
+use Rattle.dl_machine.proofs.Commits.Diverging.{IsApart, serial_apart}
 
 -- the world after a grant: the sphere has moved, its words fly, the core holds its thread afresh, and the point is
 -- kept

@@ -24,7 +24,7 @@ use Rattle.dl_machine.specs.declared.one_core.Held.{Held as Seen}
 use Rattle.dl_machine.specs.Cores.{seen}
 use Rattle.dl_machine.specs.Ready.{HasRoom, IsReady}
 use Rattle.dl_machine.specs.Requests.{closed_by}
-use Rattle.dl_machine.proofs.Granting.{chunk_of}
+use Rattle.dl_machine.proofs.Commits.Granted.{chunk_of}
 
 -- ---- commits
 

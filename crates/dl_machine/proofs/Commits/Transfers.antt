@@ -12,7 +12,7 @@ use Rattle.spec_protocol.specs.World.{World}
 use Rattle.spec_protocol.proofs.Memory.Covering.{bits-signed}
 use Rattle.dl_machine.specs.Ready.{IsReady}
 use Rattle.dl_machine.specs.Transfers.{ComesTo}
-use Rattle.dl_machine.proofs.Ready.{slots_size}
+use Rattle.dl_machine.proofs.Worlds.Ready.{slots_size}
 
 none_live : (role : Role) (d : Devices) (p : Sphere) (o : Option Request) → o ≡ None → live_dma role d p o ≡ None
 none_live role d p None e = refl

@@ -13,7 +13,7 @@ use Rattle.spec_protocol.proofs.PlayingBack.All.{logs_play_back}
 use Rattle.spec_replay.proofs.Replays.All.{replays_follow}
 use Rattle.spec_replay.proofs.Replays.Stopping.{stopped_played}
 use Rattle.dl_machine.specs.Runs.{IsRun, IsSerial, IsPromised}
-use Rattle.dl_machine.proofs.Limits.{setup_within}
+use Rattle.dl_machine.proofs.Worlds.First.{setup_within}
 
 -- ---- one event more
 
