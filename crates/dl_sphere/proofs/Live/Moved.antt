@@ -17,7 +17,7 @@ use Rattle.spec_protocol.proofs.Logs.Growing.{commits_if}
 use Rattle.dl_sphere.specs.Inside.{sphere_with}
 use Rattle.spec_play.specs.Noted.{as_log}
 use Rattle.dl_sphere.specs.Roles.{Keeping, Plain, Recording, Replaying, role_of, with_noted, AreKept, IsLive}
-use Rattle.dl_sphere.proofs.Keeps.{log_with, transferred_role}
+use Rattle.dl_sphere.proofs.Standing.Moves.{log_with, transferred_role}
 
 -- the step of thread k, which is t, with what was taken and done
 abbrev pub moved_by : List ℕ → List Parts → List Commit → (k : ℕ) → Parts → Taken → Served → protocol.Role → Moved
