@@ -9,7 +9,7 @@ use Rattle.dl_logbytes.specs.declared.error.LogError.TheVariants.{Malformed, Out
 use Rattle.dl_logfmt.specs.Drafts.{CameIn, Extends, ReadsIn, ReadsPairs, widest}
 use Rattle.dl_logfmt.specs.Remaining.{more, more_actors}
 use Rattle.dl_logfmt.specs.Streams.{Streams, Leads}
-use Rattle.dl_logfmt.proofs.StreamLaws.{Streams-next, Streams-any, Streams-field, step-leads, step-stops}
+use Rattle.dl_logfmt.proofs.Drafts.Streams.{Streams-next, Streams-any, Streams-field, step-leads, step-stops}
 
 -- one entry more
 begun-push : {X : Type 0} (xs : List X) (x : X) (bytes : List ℕ) (r : Result (Read (List X)) Fault)

@@ -3,7 +3,7 @@ use Rattle.std.proofs.Common.{◌≡◌, ℕ, List, ◌++◌, Option, Some, None
 use Rattle.spec_log.specs.Reading.{Fault, read_of}
 use Rattle.dl_logfmt.specs.declared.refusal.Refusal.{Refusal}
 use Rattle.dl_logfmt.specs.Feeding.{Feeding, FedTo, HasFed, fed}
-use Rattle.dl_logfmt.proofs.FeedLaws.{held-fed, refused-fed}
+use Rattle.dl_logfmt.proofs.Feeding.Pieces.{held-fed, refused-fed}
 
 same_fault : (a b : Fault) → ◌≡◌ {A = Result (Unit {0}) Fault} (Err a) (Err b) → a ≡ b
 same_fault a b e = cc

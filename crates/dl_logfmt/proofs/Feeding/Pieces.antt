@@ -14,7 +14,7 @@ use Rattle.dl_logfmt.specs.declared.refusal.Refusal.{Refusal}
 use Rattle.dl_logfmt.specs.Drafts.{Came, Feeds, blank, ended, said, said_at}
 use Rattle.dl_logfmt.specs.Feeding.{Feeding, FedTo, HasFed, Holding, Refused, fed}
 use Rattle.dl_logfmt.specs.Remaining.{log_of, remaining, rank}
-use Rattle.dl_logfmt.proofs.StartLaws.{parts-start}
+use Rattle.dl_logfmt.proofs.Feeding.Start.{parts-start}
 
 -- nothing was fed
 pub holds-nothing : (d : Draft) (pending : List ℕ) → d ≡ blank → pending ≡ [] → Holding [] (record { draft = d; pending = pending; start = 0; refusal = None })

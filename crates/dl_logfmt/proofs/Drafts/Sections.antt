@@ -17,7 +17,7 @@ use Rattle.dl_logfmt.specs.declared.draft.Draft.{Draft}
 use Rattle.dl_logfmt.specs.Drafts.{Came, CameIn, IsFew, ReadsIn, ReadsSection, reach}
 use Rattle.dl_logfmt.specs.Remaining.{more, more_actors, more_sizes, log_of, remaining, remaining_at, rank, from_size_count, from_interrupt_count, from_input_count, from_dma_count}
 use Rattle.dl_logfmt.specs.Streams.{Leads}
-use Rattle.dl_logfmt.proofs.StreamLaws.{Leads-read, Stops-read}
+use Rattle.dl_logfmt.proofs.Drafts.Streams.{Leads-read, Stops-read}
 
 -- two readers answer the same
 abbrev Same : {X : Type 0} → Reader X → Reader X → Type 0

@@ -15,7 +15,7 @@ use Rattle.dl_logfmt.specs.declared.draft.Draft.{Draft}
 use Rattle.dl_logfmt.specs.Drafts.{Came, IsFew, IsSection, ReadsField, reach}
 use Rattle.dl_logfmt.specs.Remaining.{field_at, next_field, size_count, remaining, remaining_at, rank, from_chunk_size, from_count, from_order_count, from_order, from_sizes, from_interrupts, from_inputs, from_dmas}
 use Rattle.dl_logfmt.specs.Streams.{Streams}
-use Rattle.dl_logfmt.proofs.StreamLaws.{Streams-gives, Streams-read, Streams-wider, Streams-any, Streams-field, Streams-mode, step-leads, step-stops}
+use Rattle.dl_logfmt.proofs.Drafts.Streams.{Streams-gives, Streams-read, Streams-wider, Streams-any, Streams-field, Streams-mode, step-leads, step-stops}
 
 Streams-size_count : (m : ModeName) (count : ℕ) → Streams 4 (size_count m count)
 Streams-size_count OrderSize count = Streams-field 4 (λ n. n == count)
