@@ -17,8 +17,8 @@ use Rattle.dl_asm.specs.Numbers.{held}
 use Rattle.dl_asm.specs.Promise.{IsCode}
 use Rattle.dl_asm.specs.Sources.{place_of, has_label, label_place, repeats, line_at, broken, broken_at, statement_at, instr_at, instr_by, words_by, words_at, words_up_to}
 use Rattle.dl_asm.specs.Values as values
-use Rattle.dl_asm.proofs.Counting.{ArePlaced, has-number, length-said, word-there}
-use Rattle.dl_asm.proofs.Tables.{place-more}
+use Rattle.dl_asm.proofs.Words.Counting.{ArePlaced, has-number, length-said, word-there}
+use Rattle.dl_asm.proofs.Words.Labels.{place-more}
 use Rattle.std.specs.List.{position}
 
 -- the words of the first lines, none of which breaks a rule

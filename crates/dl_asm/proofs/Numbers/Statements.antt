@@ -13,7 +13,7 @@ use Rattle.dl_asm.specs.Numbers.{held, number_held}
 use Rattle.dl_asm.specs.Values.{holds}
 use Rattle.dl_asm.specs.Lines.{Says}
 use Rattle.dl_asm.specs.Sources.{is_out_of_range, is_without_label, is_too_long}
-use Rattle.dl_asm.proofs.Reach.{holds-held, number-held}
+use Rattle.dl_asm.proofs.Numbers.Ranges.{holds-held, number-held}
 
 -- whether the number is out of range
 pub out-of-range : (form : Form) (registers : Registers) (value : List ℕ) (exact number : Option Number) (out : Bool) → number ≡ option_map number_held exact
