@@ -28,6 +28,7 @@ slice_get-lane [] rest t i d h = absurd (omega arith)
 slice_get-lane (m ∷ lane) rest t zero d h = refl
 slice_get-lane (m ∷ lane) rest t (suc i) d h = slice_get-lane lane rest t i d (omega arith)
 
+-- a place behind a thread's entries is one among the rest
 pub slice_get-behind : (lane : List (Mark Raised)) (rest : List Held) (t i : ℕ) → length lane ≤ i
     → slice_get (map (held_of t) lane ++ rest) i ≡ slice_get rest (i - length lane)
 slice_get-behind [] rest t i h = let e : i ≡ i - 0 = omega arith in ap (slice_get rest) e
@@ -49,6 +50,7 @@ insert-fresh x (y ∷ ys) h =
           ]
     ]
 
+-- an interrupt put at a moment that had none makes the list longer by one
 pub many-put : (lanes new : List (List (Mark Raised))) (t i : ℕ) (v : Raised) → t < length lanes → new ≡ set lanes t (with_mark i v (get_or lanes t []))
     → raised_at (held_from 0 lanes) t i ≡ None → length (held_from 0 new) ≡ length (held_from 0 lanes) + 1
 many-put lanes new t i v h e none =
@@ -70,6 +72,7 @@ count-lane (l ∷ lanes) base (suc t) lane h =
       length-append (map (held_of base) l) (held_from (suc base) lanes),
     )
 
+-- another lane of the same length leaves the list as long as it was
 pub count-set : (lanes new : List (List (Mark Raised))) (t : ℕ) (lane : List (Mark Raised)) → t < length lanes → new ≡ set lanes t lane
     → length (get_or new t []) ≡ length (get_or lanes t []) → length (held_from 0 new) ≡ length (held_from 0 lanes)
 count-set lanes new t lane h e same =

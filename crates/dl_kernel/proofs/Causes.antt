@@ -33,6 +33,7 @@ kind-told m t =
     (accessed s (loads_of t f) (load_of t f (loaded_word s t)) (store_of t f (loaded_word s t)))
     (none-carried m (loads_of t f) (load_of t f (loaded_word s t)) (store_of t f (loaded_word s t)))
 
+-- what an instruction over the memory is found to be is what the thread's next step is
 pub kind_found : (m : List ℕ) (t : Parts) (d : Did) → d ≡ did (sight_of m) t → serial_kind d ≡ next_kind t m
 kind_found m t d is = ap serial_kind is ∙ kind-told m t
 

@@ -136,6 +136,7 @@ done_with-few done (Thread u) n h t =
       ]
     ]
 
+-- no actor has done more commits than there are
 pub done_by-few : (done : List ℕ) (actor : Actor) (n : ℕ) → AreAmong n done → done_by done actor ≤ n
 done_by-few done (Thread t) n h = h t
 done_by-few done Dma n h = omega arith
@@ -148,6 +149,7 @@ sizes_of_thread-few t (a ∷ order) (z ∷ sizes) =
     let rest = sizes_of_thread-few t order sizes in
     elim (cases_Bool (is_thread t a)) [ inl e ↦ rw e (omega (arith, rest)) | inr e ↦ rw e (omega (arith, rest)) ]
 
+-- where sizes and counts stand together with an order, no thread has more commits than the order
 pub IsWhole-few : (order : List Actor) (sizes : List ℕ) (threads : EarlySizes) → IsWhole order sizes threads → AreAmong (length order) threads.done
 IsWhole-few order sizes threads w t = omega (arith, w.counted t, sizes_of_thread-few t order sizes)
 
@@ -172,6 +174,7 @@ IsWhole-noted order sizes threads new actor size w good few e d =
 pub counted-more : (order : List Actor) (i : ℕ) (d : Actor) → i < length order → counted (take (i + 1) order) ≡ done_with (counted (take i order)) (get_or order i d)
 counted-more order i d h = fold_more done_with (replicate 15 0) order i d h
 
+-- a range that isn't empty is its first number, and then the range behind it
 pub range-next : (t n m : ℕ) → n ≡ suc m → range_with_len t n ≡ t ∷ range_with_len (t + 1) m
 range-next t n m e = rw e refl
 
@@ -183,6 +186,7 @@ pub record Begun (s i : ℕ) (order : List Actor) (sizes : List ℕ) (kept : Kep
   pub sizes_are : kept.sizes ≡ Sizes.Each (take i sizes)
   pub done_is : kept.done ≡ counted (take i order)
 
+-- with the next commit noted, one commit more is kept
 pub Begun-more : (s i : ℕ) (order : List Actor) (sizes : List ℕ) (kept new : Kept) (d : Actor) → i < length order → i < length sizes
     → Begun s i order sizes kept → new ≡ noted OrderSize kept (record { actor = get_or order i d; size = get_or sizes i 0; early = false })
     → Begun s (i + 1) order sizes new

@@ -7,6 +7,7 @@ use Rattle.std.proofs.lemmas.List.{map-set, map-append, length-set, set-get_or, 
 use Rattle.dl_moments.specs.declared.lane.Mark.{Mark}
 use Rattle.dl_moments.specs.Held.{Held}
 
+-- the values of a thread's list, without its room
 abbrev pub marks_of : {V : Type 0} → Held V → List (Mark V)
 marks_of held = held.marks
 
@@ -45,6 +46,7 @@ pub empty_lane : {V : Type 0} (lanes : List (Held V)) (n : ℕ) (new : Held V) �
 empty_lane lanes n new e none =
     map-append marks_of lanes (new ∷ []) ∙ (rw (e, none) (replicate_more n []))
 
+-- each of the first n lists has room
 abbrev pub Roomy : {V : Type 0} → List (Held V) → ℕ → Type 0
 Roomy {V} lanes n = (k : ℕ) (d : Held V) → k < n → (get_or lanes k d).room ≡ true
 

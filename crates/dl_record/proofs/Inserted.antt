@@ -97,6 +97,7 @@ module _ {X : Type 0} (thread index : X → ℕ) where
         | later e f c ↦ rw (e, f) (All-cons P x (y ∷ ys) p all)
       ]
 
+  -- an entry put into a list makes it longer by at most one
   pub length-insert : (x : X) (xs : List X) → length (insert_by thread index x xs) ≤ length xs + 1
   length-insert x [] = omega arith
   length-insert x (y ∷ ys) =

@@ -158,6 +158,7 @@ pub either : {X E A B : Type 0} (r : Result X E) → OnOk r A → OnErr r B → 
 either (Ok x) a b = inl a
 either (Err e) a b = inr b
 
+-- a fact of f's value at what may be there is one of what f may give
 pub if_there : {X Y : Type 0} (f : X → Y) (P : Y → Type 0) (o : Option X) → IfSome o (λ x. P (f x)) → IfThere P (option_map f o)
 if_there f P None h = tt
 if_there f P (Some x) h = h

@@ -73,6 +73,7 @@ pieces-fit r k i n is e one few =
     let own : pieces_of r.now k r.total ≡ r.total = rw (e, eq-eqb k k refl) refl in
     omega (arith, limit-few r.log k i is, own, few)
 
+-- what pieces have left of a whole commit, and at least 1, is the limit of the replayed thread
 pub limit-is : (r : Replaying) (s k : ℕ) (loads : List Load) (ts : List Parts) (t : Parts) (commits whole pieces rest limit : ℕ) → commits ≡ slice_index r.commits k
     → whole ≡ whole_limit r.log k commits → pieces ≡ pieces_of r.now k r.total → rest ≡ whole - pieces → limit ≡ max rest 1
     → length ts ≤ 15 → r.commits ≡ commits_of ts → slice_get ts k ≡ Some t → limit ≡ limit_of s (Replay (cursor_of r loads)) k t

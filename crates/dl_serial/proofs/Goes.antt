@@ -69,6 +69,7 @@ pub record LeftByChunk (k : ℕ) (p : Progress) (r : Run) (e : Effect) : Type 0 
   pub commit : e.commit ≡ chunk_commit k r
   pub request : e.request ≡ p.request
 
+-- a chunk that goes leaves its run's words and commit, and the request as it was
 pub chunk-left : (log : LogParts) (p : Progress) (u : Used) (k : ℕ) (r : Run) (e : Effect) (w : Used) → chunk_verdict log p u k r ≡ Goes e w → LeftByChunk k p r e
 chunk-left log p u k r e w is =
     let like = chunk-like log p u k r e w is in
@@ -121,6 +122,7 @@ served-left log p k ts t m (Some g) f w can brings is =
     (serial-effect (length m) k ts p.request t m g.input refl can.whole brings can.thread can.request_sound can.few)
     (interrupted-like (interrupt_at log.interrupts k e.thread.commits) e g.used f w is)
 
+-- a serial step that goes stores inside the memory, and leaves its commit and a sound request
 pub step-left : (log : LogParts) (p : Progress) (u : Used) (k : ℕ) (ts : List Parts) (t : Parts) (m : List ℕ) (e : Effect) (w : Used) → CanStep ts t m p.request → serial_verdict log p u k ts t m ≡ Goes e w → LeftByStep (length m) k e
 unfolding serial_verdict
 step-left log p u k ts t m e w can is =
@@ -131,6 +133,7 @@ step-left log p u k ts t m e w can is =
 dma-words-in : (size : ℕ) (log : LogParts) (u : Used) (v : DmaVerdict) (ws : List Stored) → IfDmaGoes size log u v → v ≡ DmaGoes ws → AreInside size ws
 dma-words-in size log u v ws h is = (subst (IfDmaGoes size log u) is h).words_sound.inside
 
+-- the words of a DMA that goes are inside the memory
 pub dma-inside : (size : ℕ) (log : LogParts) (p : Progress) (u : Used) (ws : List Stored) → size % 4 ≡ 0 → IsSoundIf size p.request → dma_verdict log p u ≡ DmaGoes ws → AreInside size ws
 dma-inside size log p u ws whole request is = dma-words-in size log u (dma_verdict log p u) ws (dma-goes size log p u whole request) is
 

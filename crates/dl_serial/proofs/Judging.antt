@@ -41,6 +41,7 @@ pub record HasGone (r : Replaying) (p : Progress) (k : ℕ) (ts : List Parts) (v
   pub threads : us ≡ with_threads k effect ts
   pub request : q ≡ effect.request
 
+-- a chunk that the replayer lets go has a verdict that goes, and leaves what its effect says
 pub chunk-gone : (r : Replaying) (p : Progress) (k : ℕ) (ts : List Parts) (rq : Option Request) (served s : Served) (v : Verdict) (new : Replaying) (us : List Parts) (q : Option Request)
     → record { verdict = Answer.Went; replay = new; threads = us; request = q; served = s } ≡ chunk_judged r p k ts ts rq served v
     → HasGone r p k ts v new us q
@@ -63,6 +64,7 @@ pub record HasServed (r : Replaying) (p : Progress) (k : ℕ) (ts : List Parts) 
   pub loads : left.loads ≡ gone.effect.commit.loads
   pub outputs : left.outputs ≡ gone.effect.commit.outputs
 
+-- a serial step that the replayer lets go has a verdict that goes, and leaves and serves what its effect says
 pub step-gone : (r : Replaying) (p : Progress) (k : ℕ) (ts : List Parts) (rq : Option Request) (v : Verdict) (new : Replaying) (us : List Parts) (q : Option Request) (left : Left)
     → record { verdict = Answer.Went; replay = new; threads = us; request = q; served = served_left (Ok left) } ≡ serial_judged r p k ts rq nothing_served v
     → HasServed r p k ts v new us q left
@@ -93,6 +95,7 @@ pub record Fell (r : Replaying) (ts : List Parts) (rq : Option Request) (v : Ver
   pub threads : us ≡ ts
   pub request : q ≡ rq
 
+-- a chunk at which the replayer diverges has a verdict that fails, and only the end is noted
 pub chunk-fell : (r : Replaying) (p : Progress) (k : ℕ) (ts : List Parts) (rq : Option Request) (served s : Served) (v : Verdict) (because : Why) (new : Replaying) (us : List Parts) (q : Option Request)
     → record { verdict = Answer.Diverged because; replay = new; threads = us; request = q; served = s } ≡ chunk_judged r p k ts ts rq served v
     → Fell r ts rq v new us q
@@ -107,6 +110,7 @@ chunk-fell r p k ts rq served s (Fails why) because new us q is =
       request = ap (λ (j : replay.Judged). j.request) is;
     }
 
+-- a serial step at which the replayer diverges has a verdict that fails, and only the end is noted
 pub step-fell : (r : Replaying) (p : Progress) (k : ℕ) (ts : List Parts) (rq : Option Request) (served s : Served) (v : Verdict) (because : Why) (new : Replaying) (us : List Parts) (q : Option Request)
     → record { verdict = Answer.Diverged because; replay = new; threads = us; request = q; served = s } ≡ serial_judged r p k ts rq served v
     → Fell r ts rq v new us q
@@ -129,6 +133,7 @@ pub record HasTransferred (r : Replaying) (p : Progress) (ts : List Parts) (v : 
   pub replay : new ≡ transferred r p ts
   pub request : q ≡ None
 
+-- a DMA that the replayer lets go has a verdict that goes with its words, and leaves no request
 pub dma-gone : (r : Replaying) (p : Progress) (ts us : List Parts) (rq : Option Request) (v : DmaVerdict) (new : Replaying) (q : Option Request) (words : Words)
     → record { verdict = Answer.Went; replay = new; threads = us; request = q; served = served_stored (Ok words) } ≡ dma_judged r p ts rq nothing_served v
     → HasTransferred r p ts v new q words.words
@@ -141,6 +146,7 @@ dma-gone r p ts us rq (DmaGoes ws) new q words is =
       request = ap (λ (j : replay.Judged). j.request) is;
     }
 
+-- a DMA at which the replayer diverges has a verdict that fails for that reason, and only the end is noted
 pub dma-fell : (r : Replaying) (p : Progress) (ts us : List Parts) (rq : Option Request) (served s : Served) (v : DmaVerdict) (because : Why) (new : Replaying) (q : Option Request)
     → record { verdict = Answer.Diverged because; replay = new; threads = us; request = q; served = s } ≡ dma_judged r p ts rq served v
     → (v ≡ DmaFails because) × (new ≡ diverged because r) × (q ≡ rq)
@@ -161,6 +167,7 @@ went-judged r p k ts mid rq served s (Fails why) new us q is = absurd (true≢fa
 went-judged r p k ts mid rq served s (Goes e u) new us q is =
     λ i. record { verdict = Answer.Went; replay = (is i).replay; threads = (is i).threads; request = (is i).request; served = nothing_served }
 
+-- a chunk at which the replayer diverges is judged as one that served nothing, with the threads put back
 pub left-judged : (r : Replaying) (p : Progress) (k : ℕ) (ts mid back : List Parts) (rq : Option Request) (served s : Served) (v : Verdict) (why : Why) (new : Replaying) (us : List Parts) (q : Option Request) → back ≡ ts
     → record { verdict = Answer.Diverged why; replay = new; threads = us; request = q; served = s } ≡ chunk_judged r p k ts mid rq served v
     → record { verdict = Answer.Diverged why; replay = new; threads = back; request = q; served = nothing_served } ≡ chunk_judged r p k ts ts rq nothing_served v

@@ -41,12 +41,14 @@ step-played log was y k t same turn there serial =
     ∙ ap (settled log y k) (sym (step-turn log y k t serial))
     ∙ sym (thread_turn log y k t turn there)
 
+-- a play whose turn is a DMA's goes on as the verdict on the DMA settles it
 pub dma-played : (log : LogParts) (y : Played) → y.now ≡ TurnOfDma → dma_settled log y (dma_verdict log y.progress y.used) ≡ play_one log y
 unfolding play_one
 dma-played log y turn = sym (ap (play_now log y) turn)
 
 -- ---- the player
 
+-- the player is seen as its play with one turn more
 pub seen-played : (log : LogParts) (y z : Played) (new : Replaying) (n : Sphere) (v : Playing) → z ≡ play_one log y → (let w : Playing = record { log = log; played = y } in w ≡ v) → StandsAt log z new n
     → (let w : Playing = record { log = new.log; played = played_in new n } in w ≡ record v { played = play_one v.log v.played })
 seen-played log y z new n v one is at =
@@ -54,10 +56,12 @@ seen-played log y z new n v one is at =
 
 -- ---- either way
 
+-- where P implies Q, an Ok of which P holds is one of which Q does
 pub on-ok : {A E : Type 0} (r : Result A E) (P Q : Type 0) → (P → Q) → OnOk r P → OnOk r Q
 on-ok (Ok x) P Q f p = f p
 on-ok (Err e) P Q f p = tt
 
+-- what follows of an Ok and of an Err follows of any result
 pub on-both : {A E : Type 0} (r : Result A E) (P Q R : Type 0) → (P → R) → (Q → R) → OnOk r P → OnErr r Q → R
 on-both (Ok x) P Q R f g p q = f p
 on-both (Err e) P Q R f g p q = g q
