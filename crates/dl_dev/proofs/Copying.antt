@@ -1,4 +1,4 @@
--- The first items of two slices in a row, copied to the front of a buffer.
+-- A buffer into which two slices are copied in a row holds their first items in front.
 use Rattle.std.proofs.Common.{◌≡◌, ℕ, ◌+◌, ◌-◌, ◌<◌, ◌⊎◌, inl, inr, List, ◌++◌, length, take, drop, min, ap, ap₂, sym, ◌∙◌, arith, append_assoc, append-nil, length-take}
 use Rattle.std.proofs.Math.Nat.{eq-or-lt_of_le}
 use Rattle.std.proofs.Math.Seq.{take-append_seam, drop-append_seam, take-append-add}

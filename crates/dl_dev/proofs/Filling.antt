@@ -1,4 +1,4 @@
--- A buffer that is filled with random bytes from its front on.
+-- A buffer filled from its front on holds the random bytes of the definitions.
 use Rattle.std.proofs.Common.{◌≡◌, ℕ, zero, suc, ◌+◌, ◌%◌, ◌^◌, ◌<◌, List, [], ◌∷◌, ◌++◌, length, take, set, refl, ap, sym, ◌∙◌, add-one}
 use Rattle.std.proofs.lemmas.List.{take_more_set}
 use Rattle.rand_pcg.specs.Lcg.{Lcg}

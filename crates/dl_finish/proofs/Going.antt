@@ -1,4 +1,4 @@
--- How far finishing has come.
+-- Finishing goes on event by event, and ends where all events that finish the run are done.
 use Rattle.std.proofs.Common.{◌≡◌, ◌+◌, true, ◌^◌, ◌<◌, ◌≤◌, List, [], ◌∷◌, ◌++◌, length, take, Some, None, refl, sym, ap, ◌∙◌, subst, arith, append_assoc}
 use Rattle.std.specs.Prelude.{slice_get}
 use Rattle.std.proofs.lemmas.Option.{none-some, same_Some}

@@ -1,4 +1,4 @@
--- The searches for the least core, sphere and thread.
+-- The searches for the least core, sphere and thread find the ones that the definitions name.
 use Rattle.std.proofs.Common.{◌≡◌, ℕ, zero, suc, ◌+◌, ◌-◌, ◌<◌, Bool, true, false, cond, List, [], ◌∷◌, length, get_or, Option, Some, None, refl, sym, ap, ◌∙◌, arith}
 use Rattle.std.proofs.lemmas.Option.{none-some}
 use Rattle.dl_entry.specs.declared.Actor.{Actor}
@@ -35,7 +35,7 @@ who_turn i Plain others = refl
 who_turn i (Record log) others = refl
 who_turn i (Replay b) others = refl
 
--- none goes on before sphere i, where the actor has the turn
+-- the first sphere with an actor whose turn it is is the one that goes on
 pub least_is : (n : ℕ) (ps : List Sphere) (i k : ℕ) (actor : Actor) → n + i ≡ k → i < length ps → ((j : ℕ) → j < i → turn_in (get_or ps j no_sphere).role ≡ None) → turn_in (get_or ps i no_sphere).role ≡ Some actor → least n ps ≡ Some (record { sphere = k; actor = actor })
 least_is n [] i k actor e l before here = absurd (omega (arith, l))
 least_is n (p ∷ ps) zero k actor e l before here =
@@ -72,7 +72,7 @@ some_passes : (c i k : ℕ) (o : Option Held) (e : Event) → Some e ≡ if_runs
 some_passes c i k None e is = absurd (none-some e (sym is))
 some_passes c i k (Some h) e is = some_by c h (runs i k h) e is
 
--- the first core that runs the thread
+-- where a core is the first with an event for the thread, that event is next
 pub for_core_is : (w : World) (i k c : ℕ) (e : Event) → c < length w.cores → ((j : ℕ) → j < c → on_core w j i k ≡ None) → Some e ≡ on_core w c i k → Some e ≡ for_core w i k (core_of w i k)
 for_core_is w i k c e l before here =
     let s = some_passes c i k (at w.cores c) e here in

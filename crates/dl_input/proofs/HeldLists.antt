@@ -1,4 +1,4 @@
--- Interrupts by thread and index, as lists of threads.
+-- Interrupts by thread and index are put and found in lists of threads as in one list.
 use Rattle.std.proofs.Common.{◌≡◌, ℕ, zero, suc, ◌+◌, ◌-◌, ◌<◌, ◌≤◌, ◌==◌, ◌&&◌, List, [], ◌∷◌, ◌++◌, length, map, get_or, slice_get, Some, None, inl, inr, refl, ap, sym, ◌∙◌, arith}
 use Rattle.std.proofs.Math.ListN.{set}
 use Rattle.std.proofs.lemmas.Bool.{cases_lt, cases_Bool}
@@ -21,7 +21,7 @@ insert-put = entries.insert-put (λ s. s.thread) (λ s. s.index) held_of (λ t m
 pub raised_at-at : (lanes : List (List (Mark Raised))) (t i : ℕ) → value_at i (get_or lanes t []) ≡ raised_at (held_from 0 lanes) t i
 raised_at-at = entries.value-found (λ s. s.thread) (λ s. s.index) held_of (λ t m. refl) (λ t m. refl) (λ s. s.raised) (λ t m. refl)
 
--- the entry at a place, of a thread's or behind them
+-- a place among a thread's entries is one of its lane
 pub slice_get-lane : (lane : List (Mark Raised)) (rest : List Held) (t i : ℕ) (d : Mark Raised) → i < length lane
     → slice_get (map (held_of t) lane ++ rest) i ≡ Some (held_of t (get_or lane i d))
 slice_get-lane [] rest t i d h = absurd (omega arith)
@@ -78,7 +78,7 @@ pub count-set : (lanes new : List (List (Mark Raised))) (t : ℕ) (lane : List (
 count-set lanes new t lane h e same =
     rw e (count-lane lanes 0 t lane (sym (ap length (get_or-set_same lanes t lane [] h)) ∙ (rw e at same)))
 
--- an entry seen as an interrupt
+-- an entry inserted and then seen as an interrupt is the interrupt inserted
 pub insert-map : (x : Held) (xs : List Held) → map interrupt_of (insert_held x xs) ≡ insert_interrupt (interrupt_of x) (map interrupt_of xs)
 insert-map x [] = refl
 insert-map x (y ∷ ys) =

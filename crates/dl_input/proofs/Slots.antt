@@ -1,4 +1,4 @@
--- Where a slot stands among rising ones.
+-- Among rising records a slot stands behind all lower ones, or nowhere.
 use Rattle.std.proofs.Common.{◌≡◌, ℕ, zero, suc, ◌+◌, ◌-◌, ◌<◌, nat_lt, Bool, true, List, [], ◌∷◌, length, get_or, Some, None, inl, inr, refl, ap, sym, subst, ◌∙◌, arith}
 use Rattle.std.proofs.Math.ListN.{set}
 use Rattle.std.proofs.lemmas.Option.{none-some}

@@ -1,4 +1,4 @@
--- What asks for a chunk, a serial step or a DMA can commit it, and then the world is that of the definitions.
+-- A chunk, a serial step or a DMA that is granted can commit, and leaves the world of the definitions.
 pub mod Able
 pub mod AsClosed
 pub mod Granted

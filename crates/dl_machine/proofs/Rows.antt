@@ -1,4 +1,4 @@
--- What is seen of one core or one sphere of its row, and what a change of it leaves of the row.
+-- One core or sphere is seen in its row as it is, and a change of it leaves the rest of the row.
 pub mod Cores
 pub mod Spheres
 pub mod FirstCores

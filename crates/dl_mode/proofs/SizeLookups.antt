@@ -1,4 +1,4 @@
--- Looking up a size after another was put.
+-- A size that was put is found, the others are found as before, and the commits are counted.
 use Rattle.std.proofs.Common.{◌≡◌, ℕ, zero, suc, ◌+◌, cond, get_or, slice_index, replicate, append-nil, ◌<◌, ◌≤◌, ◌^◌, take, ◌==◌, Bool, true, false, ◌&&◌, List, [], ◌∷◌, ◌++◌, length, Some, slice_get, inl, inr, refl, ap, sym, ◌∙◌, arith}
 use Rattle.std.specs.List.{range_with_len}
 use Rattle.std.proofs.lemmas.Bool.{eq-eqb, ne_eqb, cases_lt, cases_eq, cases_Bool, eqb-true, and_parts, both_ways, le-ltb}
@@ -157,7 +157,7 @@ length-done_with : (done : List ℕ) (actor : Actor) → length (done_with done 
 length-done_with done (Thread u) = length-set done u (get_or done u 0 + 1)
 length-done_with done Dma = refl
 
--- what stands together with a commit more
+-- sizes and counts stand together with an order still after a commit more
 pub IsWhole-noted : (order : List Actor) (sizes : List ℕ) (threads new : EarlySizes) (actor : Actor) (size : ℕ) → IsWhole order sizes threads
     → IsActor actor → length order < 2 ^ 24 → new.sizes ≡ short_with threads.sizes threads.done actor size true → new.done ≡ done_with threads.done actor
     → IsWhole (order ++ actor ∷ []) (sizes ++ size ∷ []) new

@@ -1,4 +1,4 @@
--- One commit more: the threads behind it, and how far the replay has come.
+-- With one commit more, the threads and the replay are what judging that commit makes of them.
 use Rattle.std.proofs.Common.{◌≡◌, ℕ, zero, suc, ◌+◌, ◌<◌, ◌≤◌, Bool, true, false, List, [], ◌∷◌, ◌++◌, length, slice_get, slice_index, nat_lt, cond, Option, Some, None, Ok, refl, ap, sym, subst, ◌∙◌, arith, add-one}
 use Rattle.std.specs.Prelude.{slice_set}
 use Rattle.std.specs.Option.{OnSome}
@@ -59,7 +59,7 @@ transferred-is r p ts a =
 one-used : (u : Used) → record u { dmas = u.dmas + 1 } ≡ with_dma_used u
 one-used u = ap (λ (n : ℕ). record u { dmas = n }) (add-one u.dmas)
 
--- of a replay that is the same
+-- one record of DMAs more is taken by a replay that is the same
 pub advanced-same : (r same new : Replaying) (ts : List Parts) → same ≡ r → new ≡ advanced r.log (r.done + 1) same.last (record same.used { dmas = same.used.dmas + 1 }) ts
     → new ≡ advanced r.log (r.done + 1) r.last (with_dma_used r.used) ts
 advanced-same r same new ts e m =
@@ -199,7 +199,7 @@ now-any : (entry : ℕ) (log : LogParts) (b : Bool) (o : Option Actor)
 now-any entry log true o = turn-any entry o
 now-any entry log false o = ap (at_end 0) (left-any entry log nothing_used)
 
--- the entry is of no account
+-- a replay begins the same, whatever the entry
 pub begun-is : (log : LogParts) (entry : ℕ) → advanced log 0 None nothing_used (started 0 ∷ []) ≡ begun log entry
 begun-is log entry =
     ap (λ (n : Now). record { log = log; used = nothing_used; now = n; total = 0; done = 0; last = None; commits = 0 ∷ 0 ∷ 0 ∷ 0 ∷ 0 ∷ 0 ∷ 0 ∷ 0 ∷ 0 ∷ 0 ∷ 0 ∷ 0 ∷ 0 ∷ 0 ∷ 0 ∷ [] })

@@ -1,4 +1,4 @@
--- Threads one after another: which live, and how many commits each has done.
+-- Flags and counts set one thread after another say which threads live, and how many commits each has done.
 use Rattle.std.proofs.Common.{◌≡◌, ℕ, zero, suc, ◌+◌, ◌-◌, ◌<◌, ◌≤◌, Bool, nat_lt, List, [], ◌∷◌, ◌++◌, length, map, take, replicate, slice_get, slice_index, get_or, Option, Some, None, refl, ap, sym, ◌∙◌, arith}
 use Rattle.std.proofs.Math.ListN.{set}
 use Rattle.std.specs.List.{list_all}
@@ -60,7 +60,7 @@ commits-among (suc n) (t ∷ ts) (suc k) h =
     let e : suc n - suc (length ts) ≡ n - length ts = omega arith in
     rw e (commits-among n ts k (omega arith))
 
--- the commits of a thread
+-- the count of commits at a thread's number is that thread's
 pub commits-found : (ts : List Parts) (k : ℕ) → length ts ≤ 15 → slice_index (commits_of ts) k ≡ commits_at (slice_get ts k)
 commits-found ts k h = commits-among 15 ts k h
 

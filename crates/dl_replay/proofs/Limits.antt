@@ -67,7 +67,7 @@ limit-few log k i is =
           (λ z e. sizes-few log.mode log.s log.count log.order log.sizes k i z is.sizes e),
     )
 
--- the pieces of a commit have fewer
+-- the instructions of a commit's pieces are few enough to be counted
 pub pieces-fit : (r : Replaying) (k i n : ℕ) → IsLog r.log → r.now ≡ Turn k → 1 ≤ n → n < limit_in (Replay (cursor_of r [])) 0 k i → r.total + n < 2 ^ 32
 pieces-fit r k i n is e one few =
     let own : pieces_of r.now k r.total ≡ r.total = rw (e, eq-eqb k k refl) refl in

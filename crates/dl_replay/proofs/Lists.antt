@@ -1,4 +1,4 @@
--- Lists that grow at their end.
+-- Entries pushed one after another are the first entries of the list that they come from.
 use Rattle.std.proofs.Common.{◌≡◌, ℕ, zero, suc, ◌+◌, ◌≤◌, List, [], ◌∷◌, ◌++◌, length, take, slice_get, Some, None, refl, ap, sym, ◌∙◌, append_assoc, arith}
 
 -- one entry more

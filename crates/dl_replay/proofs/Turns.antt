@@ -1,4 +1,4 @@
--- Whose turn it is: with commits left, and at the end.
+-- With commits left it is the turn of the log's head, and without any the end is by what is left over.
 use Rattle.std.proofs.Common.{◌≡◌, ℕ, ◌<◌, ◌≤◌, true, List, length, map, Option, refl}
 use Rattle.std.proofs.lemmas.Bool.{lt-ltb, le-ltb}
 use Rattle.spec_isa.specs.declared.thread.Parts.{Parts}

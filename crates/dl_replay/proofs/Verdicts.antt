@@ -1,4 +1,4 @@
--- What the log says of a commit, step by step.
+-- A verdict is found step by step: by the logged size, by what is given, and by what stands at the end.
 use Rattle.std.proofs.Common.{◌≡◌, ℕ, true, false, List, Option, Some, None, slice_get, refl, ap, sym, ◌∙◌}
 use Rattle.dl_entry.specs.declared.actor.Actor.{Actor}
 use Rattle.dl_entry.specs.declared.input.Request.{Request}
@@ -43,7 +43,7 @@ pub dma-is : (log : LogParts) (p : Progress) (u : Used) (done : ℕ) (request : 
 unfolding dma_verdict
 dma-is log p u done request why d q e = rw (d, q, e) refl
 
--- a serial step that was done with what it took
+-- a serial step that is done with the input that the log gives has the verdict of the definitions
 pub step-is : (log : LogParts) (p : Progress) (u : Used) (k : ℕ) (threads : List Parts) (t : Parts) (m : List ℕ) (request : Option Request) (g : Given) (left : Served) (out : Verdict)
     → p.request ≡ request → None ≡ serial_why (size_in log (Actor.Thread k) t.commits) → Some g ≡ given (need t m) (slice_get log.inputs u.inputs) u
     → left ≡ serve k threads request t m g.input → out ≡ ended log k (serial_effect k left) g.used → out ≡ serial_verdict log p u k threads t m

@@ -1,4 +1,4 @@
--- What a commit leaves that goes as it is logged: its words, its commit and its request.
+-- A commit that goes leaves words inside the memory, the commit that it is, and a sound request.
 use Rattle.std.proofs.Common.{◌≡◌, ℕ, ◌%◌, ◌≤◌, Bool, true, false, cond, List, length, Option, Some, None, refl, sym, ap, ◌∙◌, subst, arith}
 use Rattle.std.specs.Prelude.{slice_get}
 use Rattle.std.proofs.lemmas.Bool.{true≢false}
@@ -106,7 +106,7 @@ given-brings None next u = tt
 given-brings (Some n) None u = tt
 given-brings (Some n) (Some r) u = branch (IfBrings (Some n)) (fits n r) (Some (record { input = Some r; used = with_input u })) None (λ e. fits-brings n r e) (λ _. tt)
 
--- a step of a thread of these, on a memory of whole words
+-- a sound thread of a few, on a memory of whole words, with a sound request
 pub record CanStep (ts : List Parts) (t : Parts) (m : List ℕ) (request : Option Request) : Type 0 where
   pub whole : length m % 4 ≡ 0
   pub thread : IsThread t

@@ -1,4 +1,4 @@
--- Words over a memory, and words that are laid into it.
+-- Words over a memory stay inside it, and laying them one after another lays them all.
 use Rattle.std.proofs.Common.{Result, Ok, Err, OnOk, is_ok, is_err, ◌≡◌, ℕ, ◌+◌, ◌*◌, ◌/◌, ◌%◌, ◌<◌, ◌≤◌, Bool, true, false, nat_eq, List, [], ◌∷◌, length, drop, slice_get, Some, None, if◌then◌else◌, refl, sym, ◌∙◌, ap, subst, arith}
 use Rattle.spec_isa.specs.Words.{Stored, Apart, IsBytes, lay, lays, merged, put, read}
 use Rattle.spec_isa.specs.Masks.{over, bytes_of}
@@ -46,7 +46,7 @@ pub no_first : (ws : List Stored) → slice_get ws 0 ≡ None → ws ≡ []
 no_first [] e = refl
 no_first (r ∷ rs) e = cc
 
--- a word of the memory with the words over it
+-- a word of the memory, with the words over it, is the one that laying them shows
 pub word_shown : (m : List ℕ) (ws : List Stored) (addr : ℕ) → Apart ws → IsBytes m → addr % 4 ≡ 0 → addr + 4 ≤ length m
     → over ws (addr / 4) (read m (addr / 4)) ≡ read (lays m ws) (addr / 4)
 word_shown m ws addr apart bytes aligned inside = sym (read_over m ws (addr / 4) apart bytes (omega arith))

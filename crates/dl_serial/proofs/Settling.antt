@@ -1,4 +1,4 @@
--- Where a play has come by a verdict, and that it stands there.
+-- A play stands where the verdict on its next commit settles it, whether that goes or fails.
 use Rattle.std.proofs.Common.{◌≡◌, ℕ, suc, ◌+◌, ◌<◌, List, [], ◌∷◌, ◌++◌, length, Option, refl, sym, ap, ◌∙◌, subst, arith}
 use Rattle.std.proofs.lemmas.Option.{slice_get_within}
 use Rattle.dl_entry.specs.declared.Commit.{Commit}
@@ -119,7 +119,7 @@ left-playing r s why new n l h =
 
 -- ---- DMAs
 
--- what the code has then
+-- a DMA's words are laid into the memory, its commit is added, and the threads are as they were
 pub record HasStored (s new : Sphere) (words : List Stored) : Type 0 where
   pub memory : new.store.memory ≡ lays s.store.memory words
   pub threads : new.threads ≡ s.threads
@@ -158,7 +158,7 @@ dma-left-settled r s v why new n is l h = left-played r s why new n l h ∙ ap (
 
 -- ---- where the play stands then
 
--- room was made for a commit
+-- a sphere that has only made room for a commit is where it was in the play
 pub reserved-played : (r : Replaying) (s n : Sphere) → n.store ≡ s.store → n.threads ≡ s.threads → n.request ≡ s.request → n.commits.items ≡ s.commits.items → played_in r n ≡ played_in r s
 reserved-played r s n store threads request commits =
     λ i. record {
@@ -253,7 +253,7 @@ dma-stands r s v new n ws g kept h =
       playing = dma-playing r s v new n ws g kept h;
     }
 
--- only the end was noted
+-- where a verdict fails and only the end is noted, the play stands where that settles it
 pub fell-stands : (r : Replaying) (s : Sphere) (k : ℕ) (v : Verdict) (new : Replaying) (n : Sphere) → Fell r s.threads s.request v new n.threads n.request → n.store.memory ≡ s.store.memory → n.commits.items ≡ s.commits.items → IsPlaying r s
     → StandsAt r.log (settled r.log (played_in r s) k v) new n
 fell-stands r s k v new n f memory commits h =

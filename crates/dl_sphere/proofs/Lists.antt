@@ -1,3 +1,3 @@
--- Words and threads of a sphere, one after another.
+-- Words put, and flags set, one after another come to the whole list.
 pub mod Words
 pub mod Threads

@@ -1,4 +1,4 @@
--- What is ready can commit.
+-- In a world that is ready, what is asked for can commit.
 use Rattle.std.proofs.Common.{◌≡◌, ℕ, zero, suc, ◌+◌, ◌^◌, ◌<◌, ◌≤◌, ◌&&◌, Bool, true, false, not, nat_eq, nat_lt, if◌then◌else◌, length, List, Option, Some, None, refl, sym, ap, ◌∙◌, subst, arith}
 use Rattle.std.specs.Prelude.{IfSome, option_map, slice_get}
 use Rattle.std.proofs.lemmas.Option.{none-some, same_Some}
@@ -65,7 +65,7 @@ dma_now (Turn j) going free = cc
 dma_now TurnOfDma going free = refl
 dma_now (Over how) going free = cc
 
--- or of a DMA
+-- in a replay that goes on it is the turn of a DMA where it is nobody else's
 pub turn_of_dma : (role : Role) → is_stopped role ≡ false → turn_before_dma role ≡ None → IsTurnOfDma role
 turn_of_dma Plain going free = tt
 turn_of_dma (Record log) going free = tt

@@ -8,7 +8,7 @@ use Rattle.spec_play.specs.Transfers.{DmaVerdict, DmaGoes, DmaFails, dma_verdict
 use Rattle.spec_protocol.specs.Spheres.{Cursor, Role, Plain, Record, Replay, Sphere}
 use Rattle.spec_protocol.specs.Commits.{CommitOutcome, Granted, Piece, Diverged, Moved, by_verdict, serial_in, serial_moved, dma_by_verdict, live_dma, dma_in, dma_moved}
 
--- a divergence touches no device
+-- a move that diverges leaves the devices as they were
 abbrev pub IsApart : Devices → Moved → CommitOutcome → Type 0
 IsApart d v Granted = Unit {0}
 IsApart d v Piece = Unit {0}
@@ -28,7 +28,7 @@ pub serial_apart : (k moment : ℕ) (t : Parts) (d : Devices) (p : Sphere) → l
 unfolding serial_moved
 serial_apart k moment t d p = serial_in_apart p.role k moment t d p
 
--- a move, if there is one, that diverges leaves the devices as they are
+-- a move, if there is one, leaves the devices as they were where it diverges
 abbrev pub AreApart : Devices → Option Moved → Type 0
 AreApart d None = Unit {0}
 AreApart d (Some v) = IsApart d v v.outcome

@@ -54,7 +54,7 @@ set_again [] k a b = refl
 set_again (x ∷ xs) zero a b = refl
 set_again {A = A} (x ∷ xs) (suc k) a b = ap (λ (ys : List A). x ∷ ys) (set_again xs k a b)
 
--- the point is kept, the words fly, and the core, which has given up its lines, goes on
+-- where the core has given up its lines, the parts of a grant are the world after it
 pub grant_done : (cores then_ : Cores) (spheres after_ : Spheres) (flights : Flights) (devices : Devices) (counts : Counts) (points more : List Point) (c : ℕ) (held : Seen) (words : List Stored) (marks : Marks) (point : Point)
     → then_ ≡ with_held c None cores → after_ ≡ with_nth held.sphere (nth_sphere held.sphere after_) spheres → more ≡ points ++ point ∷ []
     → let between = world_in then_ after_ flights devices counts more in
@@ -67,7 +67,7 @@ grant_done cores then_ spheres after_ flights devices counts points more c held 
     let again = set_again cores.held c None (held_afresh (record { chunk = spheres.standard; buffer = cores.capacity; signature = cores.bits }) held.sphere held.thread (nth_sphere held.sphere after_)) in
     cc
 
--- the same, where the core still has its lines, and the devices have changed
+-- where the core has its lines still and the devices have changed, the parts of a grant are the world after it
 pub serial_done : (cores : Cores) (spheres after_ : Spheres) (flights : Flights) (devices then_ : Devices) (counts : Counts) (points more : List Point) (c : ℕ) (held : Seen) (words : List Stored) (marks : Marks) (point : Point)
     → after_ ≡ with_nth held.sphere (nth_sphere held.sphere after_) spheres → more ≡ points ++ point ∷ []
     → let between = world_in cores after_ flights then_ counts more in
@@ -112,7 +112,7 @@ chunk_is : (w : World) (c : ℕ) (h : Held) (how : How) → grant_chunk w c h ho
 unfolding grant_chunk
 chunk_is w c h how = refl
 
--- what its request comes to
+-- a chunk's request comes to what the move of its sphere makes of the world
 pub chunk_after : (w : World) (c : ℕ) (how : How) (o : Option Held) (held : Seen) (ch : Chunk) (marks : Marks) (v : Moved) → option_map seen o ≡ Some held → Some ch ≡ option_map chunk_of o → marks ≡ writes_in w.numbers.signature o → v ≡ moved_by w held how ch
     → Some (granted w c (chunk_asked w held how ch) marks v v.outcome) ≡ option_map (λ h. grant_chunk w c h how) o
 chunk_after w c how None held ch marks v eh ec em ev = absurd (none-some held eh)
@@ -145,7 +145,7 @@ serial_is w c h = refl
 abbrev pub serial_after_of : World → (core : ℕ) → Seen → Moved → After
 serial_after_of w c held v = granted w c (serial_asked held) (signed held.sphere v.words (nothing w.numbers.signature)) v v.outcome
 
--- what its request comes to
+-- a serial step's request comes to what the move of its sphere makes of the world
 pub serial_after : (w : World) (c : ℕ) (o : Option Held) (held : Seen) (v : Moved) → IsReady w → at w.cores c ≡ o → option_map seen o ≡ Some held
     → ((t : Parts) → slice_get (sphere_at w held.sphere).threads held.thread ≡ Some t → v ≡ serial_moved held.thread (moment w % 2 ^ 32) t w.devices (sphere_at w held.sphere))
     → Some (serial_after_of w c held v) ≡ option_map (grant_serial w c) o
@@ -160,7 +160,7 @@ serial_after w c (Some h) held v ready eo eh ev =
     ∙ ap (λ (u : Moved). Some (serial_after_of w c (seen h) u)) whole
     ∙ ap (λ (a : After). Some a) (sym (serial_is w c h))
 
--- where it diverges, the devices stay as they are
+-- where a serial step diverges, the devices stay as they are
 pub serial_still : (w : World) (c : ℕ) (o : Option Held) (held : Seen) (v : Moved) → IsReady w → at w.cores c ≡ o → option_map seen o ≡ Some held
     → ((t : Parts) → slice_get (sphere_at w held.sphere).threads held.thread ≡ Some t → v ≡ serial_moved held.thread (moment w % 2 ^ 32) t w.devices (sphere_at w held.sphere))
     → IsApart w.devices v v.outcome

@@ -23,7 +23,7 @@ none_in Plain d p e none = none_live Plain d p p.progress.request none
 none_in (Record log) d p e none = none_live _ d p p.progress.request none
 none_in (Replay b) d p e none = cc
 
--- without a request there is none, but for a replay
+-- without a request there is no DMA, but in a replay
 pub no_dma : (d : Devices) (p : Sphere) → replays p.role ≡ false → p.progress.request ≡ None → dma_moved d p ≡ None
 unfolding dma_moved
 no_dma d p e none = none_in p.role d p e none

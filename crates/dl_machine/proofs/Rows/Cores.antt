@@ -20,7 +20,7 @@ alike_holding : (words lines : ℕ) (c d : Core) (held : Option Held) → IsAlik
 alike_holding words lines c d held are is =
     subst (λ (e : Core). IsAlike words lines e) (sym is) (record { most = are.most; capacity = are.capacity; bits = are.bits })
 
--- a core of the row holds something else
+-- the cores of a row stay alike where one of them has come to hold something else
 pub cores_set : (words lines : ℕ) (row : List Core) (i : ℕ) (c d : Core) (held : Option Held) → AreCores words lines row → i < length row → c ≡ get_or row i c → d ≡ holding held c → AreCores words lines (slice_set row i d)
 cores_set words lines row i c d held are within at is =
     let n : length (slice_set row i d) ≡ length row = length-set row i d in
@@ -44,7 +44,7 @@ core_at words lines row i c r are view within is =
     subst (λ (v : Cores). c ≡ record { most = 4096; capacity = v.capacity; bits = v.bits; held = at v.held i }) view
     (same_core c 4096 words lines (at (map held_by row) i) a.most a.capacity a.bits h)
 
--- a core of the row holds something else
+-- where one core has come to hold something else, the row is seen with that alone changed
 pub row_left : (words lines : ℕ) (row : List Core) (i : ℕ) (c d : Core) (f : Core → Option Held) (r : Cores) → AreCores words lines row → cores_of words lines row ≡ r → i < length row → c ≡ get_or row i c → d ≡ holding (f c) c
     → cores_of words lines (slice_set row i d) ≡ with_held i (f (record { most = 4096; capacity = r.capacity; bits = r.bits; held = at r.held i })) r
 row_left words lines row i c d f r are view within is left =

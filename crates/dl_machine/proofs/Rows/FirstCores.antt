@@ -15,7 +15,7 @@ more_cores z i (suc n) (p ∷ ps) =
     ap (λ (hs : List (Option Held)). first_held z i (Some p) ∷ hs) (more_cores z (suc i) n ps)
     ∙ ap (λ (j : ℕ). first_held z i (Some p) ∷ (first_cores z (suc i) n ps ++ first_held z j (slice_get ps n) ∷ [])) e
 
--- with one core more
+-- the first cores, where there is one more, are those without it and then that one
 pub first_more : (z : Numbers) (n : ℕ) (ps : List Sphere) → first_cores z 0 (n + 1) ps ≡ first_cores z 0 n ps ++ first_held z n (slice_get ps n) ∷ []
 first_more z n ps =
     let e : n + 1 ≡ suc n = omega arith in
@@ -24,7 +24,7 @@ first_more z n ps =
     ∙ more_cores z 0 n ps
     ∙ ap (λ (j : ℕ). first_cores z 0 n ps ++ first_held z j (slice_get ps n) ∷ []) f
 
--- there are as many as there are to be
+-- a machine begins with as many cores as it is to have
 pub first_length : (z : Numbers) (i n : ℕ) (ps : List Sphere) → length (first_cores z i n ps) ≡ n
 first_length z i zero ps = refl
 first_length z i (suc n) [] = ap suc (first_length z (suc i) n [])

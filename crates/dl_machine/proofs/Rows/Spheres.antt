@@ -26,12 +26,12 @@ nth_left s row i d within =
     let inside : i < length (map sphere_in row) = omega arith in
     ap (λ (xs : List Sphere). get_or xs i no_sphere) (map-set sphere_in row i d) ∙ get_or-set_same (map sphere_in row) i d.sphere no_sphere inside
 
--- one of the row has changed
+-- where one sphere has changed, the row is seen with that one changed
 pub spheres_left : (s : ℕ) (row : List Standing) (i : ℕ) (d : Standing) (r : Spheres) → spheres_of s row ≡ r → spheres_of s (slice_set row i d) ≡ with_nth i d.sphere r
 spheres_left s row i d r view =
     ap (λ (xs : List Sphere). record { standard = s; spheres = xs }) (map-set sphere_in row i d) ∙ ap (with_nth i d.sphere) view
 
--- where one of the row has changed, it is that one alone
+-- where one sphere has changed, the row is seen with no other changed
 pub others_left : (s : ℕ) (row : List Standing) (i : ℕ) (d : Standing) (r : Spheres) → spheres_of s row ≡ r → i < length row → let v = spheres_of s (slice_set row i d) in v ≡ with_nth i (nth_sphere i v) r
 others_left s row i d r view within =
     spheres_left s row i d r view ∙ ap (λ (p : Sphere). with_nth i p r) (sym (nth_left s row i d within))

@@ -26,7 +26,7 @@ pub happens_world : (w : World) (e : Event) → (happens w e).world ≡ record (
 unfolding happens
 happens_world w e = refl
 
--- what is left of it, once it is counted
+-- what an event leaves, counted by its reply, is the world after the event
 pub world_left : (w : World) (e : Event) (reply : Reply) (between new : World) → reply ≡ (act w e).reply → between ≡ left (act w e) → new ≡ record between { counts = counted between.counts (name_of reply) } → new ≡ (happens w e).world
 unfolding happens
 world_left w e reply between new er eb en =

@@ -1,4 +1,4 @@
--- What readiness gives of one core, slot or sphere.
+-- In a world that is ready, what a core, a slot or a sphere holds is of the sizes that calls ask for.
 use Rattle.std.proofs.Common.{◌≡◌, ℕ, ◌<◌, ◌^◌, length, Option, Some, None, refl, sym, ap, ◌∙◌, subst, arith}
 use Rattle.std.specs.Prelude.{IfSome, option_map}
 use Rattle.std.proofs.lemmas.Option.{none-some, same_Some, slice_get_within}
@@ -30,7 +30,7 @@ slot_size : (w : World) (k : ℕ) (o : Option Flight) → IsReady w → at w.slo
 slot_size w k None ready is = tt
 slot_size w k (Some f) ready is = (ready.good.covered k f is).size
 
--- its signatures have the size of those of the flights
+-- the signature of a core's reads has the size of those in the slots
 pub reads_fit : (w : World) (c k : ℕ) → IsReady w → IsOfSize (reads_in w.numbers.signature (at w.cores c)).bits (at w.slots k)
 reads_fit w c k ready = subst (λ (n : ℕ). IsOfSize n (at w.slots k)) (sym (reads_size w c (at w.cores c) ready refl)) (slot_size w k (at w.slots k) ready refl)
 
@@ -49,7 +49,7 @@ flight_inside w k (Some f) ready is =
 pub slots_size : (w : World) → IsReady w → AreOfSize w.numbers.signature w.slots
 slots_size w ready = record { each = λ k. slot_size w k (at w.slots k) ready refl }
 
--- so have those of the chunk that a core holds
+-- the signature of a held chunk's reads has the size of those in the slots
 pub chunk_reads : (w : World) (c : ℕ) (o : Option Held) (ch : Chunk) → IsReady w → at w.cores c ≡ o → Some ch ≡ option_map (λ h. h.chunk) o → AreOfSize ch.reads.bits w.slots
 chunk_reads w c None ch ready is e = absurd (none-some ch (sym e))
 chunk_reads w c (Some h) ch ready is e =

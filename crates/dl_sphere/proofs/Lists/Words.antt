@@ -13,7 +13,7 @@ or-right : (a b : Bool) → b ≡ true → (a || b) ≡ true
 or-right true b h = refl
 or-right false b h = h
 
--- there is room for each word among so many
+-- a buffer for as many words has room for each next one of them
 pub has_room_taken : (words : List Stored) (i capacity : ℕ) (s : Stored) → slice_get words i ≡ Some s → length words ≤ capacity
     → has_room (record { capacity = capacity; words = take i words }) s.word ≡ true
 has_room_taken words i capacity s at room =

@@ -28,11 +28,11 @@ input-if : (o : Option Input) → IsInputIf o → IfSome o IsInput
 input-if None h = tt
 input-if (Some i) h = h
 
--- the record is an input of a log
+-- the record that a serial step takes is an input of a log
 pub input_taken : (t : Parts) (m : List ℕ) (d : Devices) (moment : ℕ) → IsBytes m → HaveByteInput d → IfSome (taken (need t m) d moment).input IsInput
 input_taken t m d moment bytes h = input-if (taken (need t m) d moment).input (taken-sound t m d moment bytes h).input
 
--- a fact of a record that is looked at through a reference
+-- what holds of a copied record holds of the one behind the reference
 pub if_copied : (P : Input → Type 0) (o : Option (Bor Input)) → IfSome (option_copied o) P → IfSome o (λ r. P r.now)
 if_copied P None h = tt
 if_copied P (Some r) h = h

@@ -1,4 +1,4 @@
--- From the replayer's answer to what becomes of the sphere.
+-- What the replayer answers of a request makes of the sphere what the verdict says.
 use Rattle.std.proofs.Common.{◌≡◌, ℕ, zero, suc, ◌-◌, length, map, set, get_or, length-set, Bool, true, false, List, [], ◌∷◌, ◌++◌, Option, Some, None, Ok, refl, sym, ap, ◌∙◌, cond}
 use Rattle.std.specs.Prelude.{slice_get, replicate}
 use Rattle.std.proofs.lemmas.Bool.{true≢false}
@@ -101,7 +101,7 @@ why_in : Why → Answer → Why
 why_in d Answer.Went = d
 why_in d (Answer.Diverged why) = why
 
--- the last part of a chunk, whose threads were put back where the replay leaves its log
+-- a chunk of which the replayer answers that it went is judged so
 pub chunk_went : (r : Replaying) (p : Progress) (k : ℕ) (before mid : List Parts) (request : Option Request) (served : Served) (v : Verdict) (cs : List Commit) (loads : List Load) (c : Commit)
     (new : Replaying) (ts : List Parts) (q : Option Request) (s : Served)
     → ((f : Effect) (w : Used) → v ≡ Goes f w → f.commit ≡ c)
@@ -142,7 +142,7 @@ chunk_left r p k before mid request served (Fails because) cs loads why new ts q
       words = [];
     }
 
--- a serial step
+-- a serial step of which the replayer answers that it went is judged so
 pub step_went : (r : Replaying) (p : Progress) (k : ℕ) (before : List Parts) (request : Option Request) (v : Verdict) (cs : List Commit) (loads : List Load) (left : Left)
     (new : Replaying) (ts : List Parts) (q : Option Request)
     → ((f : Effect) (w : Used) → v ≡ Goes f w → f.commit ≡ serial_commit k f.commit.loads f.commit.outputs)
@@ -224,13 +224,13 @@ dma_left r p before request (DmaFails because) cs loads why new q is =
 
 -- ---- the threads while a chunk is judged
 
--- with this state of thread k, and then its own again
+-- a thread changed and put back leaves the threads as they were
 pub put_back : (ts : List Parts) (k : ℕ) (s t : Parts) → slice_get ts k ≡ Some t → set (set ts k s) k t ≡ ts
 put_back [] k s t is = refl
 put_back (x ∷ xs) zero s t is = let same : x ≡ t = (let e : Some x ≡ Some t = is in cc) in ap (λ y. y ∷ xs) (sym same)
 put_back (x ∷ xs) (suc k) s t is = ap (λ ys. x ∷ ys) (put_back xs k s t is)
 
--- a thread's state moves on, and its number of commits stays
+-- where a thread's state moves on and its number of commits stays, so do all counts of commits
 pub same_commits : (ts : List Parts) (k : ℕ) (s t : Parts) → slice_get ts k ≡ Some t → s.commits ≡ t.commits → commits_of (set ts k s) ≡ commits_of ts
 same_commits ts k s t is same =
     let f : Parts → ℕ = λ p. p.commits in

@@ -1,4 +1,4 @@
--- A replay stands with its sphere, which limits its chunks; and the sizes of requests.
+-- A replay stands with its sphere, and the limits of its chunks and its requests are within their bounds.
 use Rattle.std.proofs.Common.{◌≡◌, ℕ, false, zero, suc, ◌+◌, ◌^◌, ◌<◌, ◌≤◌, List, [], ◌∷◌, length, Option, Some, None, refl, subst, arith}
 use Rattle.std.specs.Prelude.{slice_get, IfSome}
 use Rattle.std.proofs.lemmas.Bool.{true≢false}

@@ -1,4 +1,4 @@
--- From what becomes of a replayed sphere in the code to what the definitions make of it, and that it stands.
+-- What the code makes of a replayed sphere is what the definitions make of it, and the sphere stands.
 use Rattle.std.proofs.Common.{◌≡◌, ℕ, suc, ◌+◌, ◌≤◌, length, Bool, true, false, List, [], Option, Some, None, refl, sym, ap, ◌∙◌, subst, arith}
 use Rattle.std.proofs.lemmas.Bool.{true≢false}
 use Rattle.dl_entry.specs.declared.Commit.{Commit}
@@ -102,7 +102,7 @@ unfolding went
 dma_left_commits p b (DmaGoes words) why new ls us q ds is = absurd (true≢false (sym (ap (λ (j : Judged). went j.why) is)))
 dma_left_commits p b (DmaFails because) why new ls us q ds is = ap (λ (j : Judged). length j.commits) is
 
--- and it stands
+-- the sphere stands after a commit that goes on
 pub stands_granted : (s : ℕ) (m : List ℕ) (ts : List Parts) (cs : List Commit) (last : Option ℕ) (rq : Option Request) (role to : Role) (r : Replaying) (loads : List Load) (k : ℕ) (v : Verdict)
     (new : Replaying) (ls : List Load) (us : List Parts) (q : Option Request) (ds : List Commit)
     → length us ≤ 15
