@@ -106,7 +106,7 @@ given-brings None next u = tt
 given-brings (Some n) None u = tt
 given-brings (Some n) (Some r) u = branch (IfBrings (Some n)) (fits n r) (Some (record { input = Some r; used = with_input u })) None (λ e. fits-brings n r e) (λ _. tt)
 
--- a sound thread of a few, on a memory of whole words, with a sound request
+-- a sound thread, of at most 15, on a memory of whole words, with a sound request
 pub record CanStep (ts : List Parts) (t : Parts) (m : List ℕ) (request : Option Request) : Type 0 where
   pub whole : length m % 4 ≡ 0
   pub thread : IsThread t
