@@ -1,10 +1,3 @@
-mod Places
-mod Digits
-mod Commas
-mod Reach
-mod Tables
-mod Splits
-mod Exactness
-mod Counting
-mod Coding
-mod Loading
+pub mod Texts
+pub mod Numbers
+pub mod Words

@@ -1,4 +1,4 @@
--- The first items of two slices in a row, copied to the front of a buffer.
+-- A buffer into which two slices are copied in a row holds their first items in front.
 use Rattle.std.proofs.Common.{◌≡◌, ℕ, ◌+◌, ◌-◌, ◌<◌, ◌⊎◌, inl, inr, List, ◌++◌, length, take, drop, min, ap, ap₂, sym, ◌∙◌, arith, append_assoc, append-nil, length-take}
 use Rattle.std.proofs.Math.Nat.{eq-or-lt_of_le}
 use Rattle.std.proofs.Math.Seq.{take-append_seam, drop-append_seam, take-append-add}
@@ -11,6 +11,7 @@ firsts-by f b k m (inr l) none =
     ap (λ n. take n (f ++ b)) (omega (arith, none l)) ∙ take-append-le k f b (omega arith) ∙ sym (append-nil (take k f))
     ∙ ap (λ n. take k f ++ take n b) (sym (none l))
 
+-- a buffer into which two slices were copied in a row holds the first items of both, and then its own
 pub copied : (f b into x y : List ℕ) (k m : ℕ) → x ≡ take k f → y ≡ take m b → k ≡ min (length f) (length into) → m ≡ min (length b) (length into - k)
     → take k (x ++ drop k into) ++ (y ++ drop (k + m - k) (drop k (x ++ drop k into))) ≡ take (k + m) (f ++ b) ++ drop (k + m) into
 copied f b into x y k m front back first second =

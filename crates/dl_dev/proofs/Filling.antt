@@ -1,4 +1,4 @@
--- A buffer that is filled with random bytes from its front on.
+-- A buffer filled from its front on holds the random bytes of the definitions.
 use Rattle.std.proofs.Common.{◌≡◌, ℕ, zero, suc, ◌+◌, ◌%◌, ◌^◌, ◌<◌, List, [], ◌∷◌, ◌++◌, length, take, set, refl, ap, sym, ◌∙◌, add-one}
 use Rattle.std.proofs.lemmas.List.{take_more_set}
 use Rattle.rand_pcg.specs.Lcg.{Lcg}
@@ -21,10 +21,12 @@ pub record IsFilled (start : Lcg) (i : ℕ) (into : List ℕ) (words : Lcg) : Ty
   pub moved : words ≡ random_after i start
   pub stream : words.increment ≡ start.increment
 
+-- before the first byte nothing is filled, and the words stand at their start
 pub none_filled : (start : Lcg) (into : List ℕ) → IsFilled start 0 into start
 unfolding random_bytes random_after
 none_filled start into = record { bytes = refl; moved = refl; stream = refl }
 
+-- with the low byte of the next word put behind the filled bytes, one byte more is filled
 pub one_filled : (start : Lcg) (i : ℕ) (into : List ℕ) (words : Lcg) (byte : ℕ) → IsFilled start i into words → i < length into → byte ≡ (pcg32 words).0 % 2 ^ 8
     → IsFilled start (i + 1) (set into i byte) (pcg32 words).1
 one_filled start i into words byte filled within is =

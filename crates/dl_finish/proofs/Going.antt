@@ -1,4 +1,4 @@
--- How far finishing has come.
+-- Finishing goes on event by event, and ends where all events that finish the run are done.
 use Rattle.std.proofs.Common.{◌≡◌, ◌+◌, true, ◌^◌, ◌<◌, ◌≤◌, List, [], ◌∷◌, ◌++◌, length, take, Some, None, refl, sym, ap, ◌∙◌, subst, arith, append_assoc}
 use Rattle.std.specs.Prelude.{slice_get}
 use Rattle.std.proofs.lemmas.Option.{none-some, same_Some}
@@ -24,6 +24,7 @@ use Rattle.dl_finish.proofs.Room.{room_kept}
 
 -- ---- events are counted
 
+-- each event is counted once
 pub happens_events : (w : World) (e : Event) → (happens w e).world.counts.events ≡ w.counts.events + 1
 unfolding happens
 happens_events w e = ap (λ (c : Counts). c.events + 1) (act-untold w e).counts
@@ -80,6 +81,7 @@ pub record Going (from now : World) : Type 0 where
   pub run : HasRun now
   pub few : now.counts.events + length left < 2 ^ 63
 
+-- finishing the world of a run begins at that world, with all of its events left
 pub going_start : (w : World) → HasRun w → w.counts.events ≤ 2 ^ 32 → HasRoom w → Going w w
 going_start w r few room =
     let s = r.setup in
@@ -124,6 +126,7 @@ going_by from now e done (f ∷ left) is finishes at goes alone room run few =
       few = omega (arith, one, few);
     }
 
+-- the next event brings finishing one event further
 pub going_next : (from now : World) (e : Event) → Going from now → Some e ≡ next now → Going from (happens now e).world
 going_next from now e g is = going_by from now e g.done g.left is g.finishes g.is g.goes g.alone g.room g.run g.few
 
@@ -145,9 +148,11 @@ all_are s es from now g run =
 nothing_behind : (xs : List Event) → xs ++ [] ≡ xs
 nothing_behind xs = grind (arith, common_steps)
 
+-- where no event is next, the world is finished
 pub going_finished : (from now : World) → Going from now → None ≡ next now → IsFinished now
 going_finished from now g is = next-none now (sym is)
 
+-- where no event is next, finishing has ended for every setup and schedule that led to the first world
 pub going_ended : (from now : World) → Going from now → None ≡ next now → (s : Setup) (es : List Event) → IsRun s es from → HasEnded s es now
 going_ended from now g is s es run =
     let fs = finishing_of s es in
@@ -183,6 +188,7 @@ next_left : (now : World) (e : Event) (left : List Event) → Some e ≡ next no
 next_left now e [] is goes = absurd (none-some e (sym goes ∙ sym is))
 next_left now e (f ∷ left) is goes = sym goes.0 ∙ sym is
 
+-- where the next event wants memory, the events so far are the first of those that finish the run
 pub going_begun : (from now : World) (e : Event) → Going from now → Some e ≡ next now → wants_memory e ≡ true → (s : Setup) (es : List Event) → IsRun s es from → HasBegun s es now
 going_begun from now e g is wants s es run =
     let all = all_are s es from now g run in

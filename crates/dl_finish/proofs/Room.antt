@@ -93,7 +93,7 @@ shown_position xs ys i p q e =
     let same : shown xs i p ≡ shown ys i q = cc in
     (ap (λ (r : Sphere). position r.progress) same, ap (λ (r : Sphere). replays r.role) same)
 
--- the others have room for a commit more still
+-- an event that moves no sphere but a replayed one leaves room for a commit more in the others
 pub room_kept : (s : Setup) (es : List Event) (e : Event) → IsSetup s → OfReplay (after s es) (happens (after s es) e).move → HasRoom (after s es) → HasRoom (happens (after s es) e).world
 room_kept s es e is of room =
     let w = after s es in

@@ -1,4 +1,4 @@
--- Interrupts by thread and index, as lists of threads.
+-- Interrupts by thread and index are put and found in lists of threads as in one list.
 use Rattle.std.proofs.Common.{◌≡◌, ℕ, zero, suc, ◌+◌, ◌-◌, ◌<◌, ◌≤◌, ◌==◌, ◌&&◌, List, [], ◌∷◌, ◌++◌, length, map, get_or, slice_get, Some, None, inl, inr, refl, ap, sym, ◌∙◌, arith}
 use Rattle.std.proofs.Math.ListN.{set}
 use Rattle.std.proofs.lemmas.Bool.{cases_lt, cases_Bool}
@@ -21,13 +21,14 @@ insert-put = entries.insert-put (λ s. s.thread) (λ s. s.index) held_of (λ t m
 pub raised_at-at : (lanes : List (List (Mark Raised))) (t i : ℕ) → value_at i (get_or lanes t []) ≡ raised_at (held_from 0 lanes) t i
 raised_at-at = entries.value-found (λ s. s.thread) (λ s. s.index) held_of (λ t m. refl) (λ t m. refl) (λ s. s.raised) (λ t m. refl)
 
--- the entry at a place, of a thread's or behind them
+-- a place among a thread's entries is one of its lane
 pub slice_get-lane : (lane : List (Mark Raised)) (rest : List Held) (t i : ℕ) (d : Mark Raised) → i < length lane
     → slice_get (map (held_of t) lane ++ rest) i ≡ Some (held_of t (get_or lane i d))
 slice_get-lane [] rest t i d h = absurd (omega arith)
 slice_get-lane (m ∷ lane) rest t zero d h = refl
 slice_get-lane (m ∷ lane) rest t (suc i) d h = slice_get-lane lane rest t i d (omega arith)
 
+-- a place behind a thread's entries is one among the rest
 pub slice_get-behind : (lane : List (Mark Raised)) (rest : List Held) (t i : ℕ) → length lane ≤ i
     → slice_get (map (held_of t) lane ++ rest) i ≡ slice_get rest (i - length lane)
 slice_get-behind [] rest t i h = let e : i ≡ i - 0 = omega arith in ap (slice_get rest) e
@@ -49,6 +50,7 @@ insert-fresh x (y ∷ ys) h =
           ]
     ]
 
+-- an interrupt put at a moment that had none makes the list longer by one
 pub many-put : (lanes new : List (List (Mark Raised))) (t i : ℕ) (v : Raised) → t < length lanes → new ≡ set lanes t (with_mark i v (get_or lanes t []))
     → raised_at (held_from 0 lanes) t i ≡ None → length (held_from 0 new) ≡ length (held_from 0 lanes) + 1
 many-put lanes new t i v h e none =
@@ -70,12 +72,13 @@ count-lane (l ∷ lanes) base (suc t) lane h =
       length-append (map (held_of base) l) (held_from (suc base) lanes),
     )
 
+-- another lane of the same length leaves the list as long as it was
 pub count-set : (lanes new : List (List (Mark Raised))) (t : ℕ) (lane : List (Mark Raised)) → t < length lanes → new ≡ set lanes t lane
     → length (get_or new t []) ≡ length (get_or lanes t []) → length (held_from 0 new) ≡ length (held_from 0 lanes)
 count-set lanes new t lane h e same =
     rw e (count-lane lanes 0 t lane (sym (ap length (get_or-set_same lanes t lane [] h)) ∙ (rw e at same)))
 
--- an entry seen as an interrupt
+-- an entry inserted and then seen as an interrupt is the interrupt inserted
 pub insert-map : (x : Held) (xs : List Held) → map interrupt_of (insert_held x xs) ≡ insert_interrupt (interrupt_of x) (map interrupt_of xs)
 insert-map x [] = refl
 insert-map x (y ∷ ys) =

@@ -1,4 +1,4 @@
--- Where a slot stands among rising ones.
+-- Among rising records a slot stands behind all lower ones, or nowhere.
 use Rattle.std.proofs.Common.{◌≡◌, ℕ, zero, suc, ◌+◌, ◌-◌, ◌<◌, nat_lt, Bool, true, List, [], ◌∷◌, length, get_or, Some, None, inl, inr, refl, ap, sym, subst, ◌∙◌, arith}
 use Rattle.std.proofs.Math.ListN.{set}
 use Rattle.std.proofs.lemmas.Option.{none-some}
@@ -22,6 +22,7 @@ rises-between dmas r i j d h l =
     let e : i + suc (j - i - 1) ≡ j = omega arith in
     subst (λ (k : ℕ). (get_or dmas i d).slot < (get_or dmas k d).slot) e (rises-far dmas r i (j - i - 1) d (omega arith))
 
+-- among rising records those of lower slots stand before all others
 pub partitioned : (dmas : List (DmaRecord)) (slot : ℕ) → Rises dmas → IsPartitionedBy (λ m. nat_lt m.slot slot) dmas
 partitioned dmas slot r i j d le below t =
     elim (cases_lt i j) [
@@ -35,6 +36,7 @@ Below slot dmas p = (k : ℕ) (d : DmaRecord) → k < p → (get_or dmas k d).sl
 below-rest : (slot : ℕ) (m : DmaRecord) (ms : List (DmaRecord)) (p : ℕ) → Below slot (m ∷ ms) (suc p) → Below slot ms p
 below-rest slot m ms p h k d l = h (suc k) d (omega arith)
 
+-- a record of the slot that stands behind lower ones gives the slot's bytes
 pub bytes_at-found : (slot : ℕ) (dmas : List (DmaRecord)) (p : ℕ) (x : DmaRecord) → p < length dmas → Below slot dmas p
     → x ≡ get_or dmas p x → x.slot ≡ slot → Some x.bytes ≡ bytes_at slot dmas
 bytes_at-found slot [] p x within below is here = absurd (omega arith)
@@ -67,6 +69,7 @@ bytes_at-missed slot dmas p r below above =
       ]
     ])
 
+-- taking the slot's record marks the place at which it stands
 pub taken_at-found : (slot : ℕ) (dmas : List DmaRecord) (taken : List Bool) (p : ℕ) → length taken ≡ length dmas → p < length dmas → Below slot dmas p
     → ((d : DmaRecord) → (get_or dmas p d).slot ≡ slot) → taken_at slot dmas taken ≡ set taken p true
 taken_at-found slot [] taken p same h below here = absurd (omega arith)
@@ -85,6 +88,7 @@ taken_at-none slot (m ∷ ms) (x ∷ xs) same h =
       | inr e ↦ rw (ne_eqb m.slot slot e) (ap (λ (ys : List Bool). x ∷ ys) (taken_at-none slot ms xs (omega arith) (rw (ne_eqb m.slot slot e) at h)))
     ]
 
+-- where no record has the slot, taking it marks none
 pub taken_at-missed : (slot : ℕ) (dmas : List DmaRecord) (taken : List Bool) (p : ℕ) → length taken ≡ length dmas → Rises dmas → Below slot dmas p
     → ((d : DmaRecord) → p < length dmas → slot < (get_or dmas p d).slot) → taken_at slot dmas taken ≡ taken
 taken_at-missed slot dmas taken p same rises below above =

@@ -1,4 +1,4 @@
--- Why a thread's next step is serial, as one instruction over the memory tells it.
+-- One instruction over the memory tells why a thread's next step is serial.
 use Rattle.std.proofs.Common.{◌≡◌, ℕ, Bool, true, false, cond, List, length, Option, Some, None, refl, ap, ◌∙◌}
 use Rattle.spec_isa.specs.declared.thread.Parts.{Parts}
 use Rattle.spec_isa.specs.declared.thread.Load.{Load}
@@ -33,6 +33,7 @@ kind-told m t =
     (accessed s (loads_of t f) (load_of t f (loaded_word s t)) (store_of t f (loaded_word s t)))
     (none-carried m (loads_of t f) (load_of t f (loaded_word s t)) (store_of t f (loaded_word s t)))
 
+-- what an instruction over the memory is found to be is what the thread's next step is
 pub kind_found : (m : List ℕ) (t : Parts) (d : Did) → d ≡ did (sight_of m) t → serial_kind d ≡ next_kind t m
 kind_found m t d is = ap serial_kind is ∙ kind-told m t
 
@@ -49,7 +50,7 @@ inside-to-store : (inside : Bool) (refused : Option Kind) → cond inside refuse
 inside-to-store true refused is = refl
 inside-to-store false refused is = cc
 
--- so is one that stores to a device word
+-- a device word is stored to by an instruction inside the memory
 pub device_stored_inside : (m : List ℕ) (t : Parts) → next_kind t m ≡ Some Kind.DeviceStore → is_inside (length m) t.pc ≡ true
 unfolding next_kind serial_of
 device_stored_inside m t is = inside-to-store (is_inside (length m) t.pc) (refuses (length m) (operation_of t (fetched t m))) is

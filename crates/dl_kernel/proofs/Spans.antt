@@ -41,6 +41,7 @@ length-put-held (r ∷ rs) s held =
       | inr h ↦ let rest = rw h.0 at held in rw h.0 (ap suc (length-put-held rs s rest))
     ]
 
+-- before the first byte no word is put
 pub copying_start : (addr : ℕ) → IsCopying addr 0 []
 copying_start addr = record { few = omega arith; first = λ _. refl; held = λ some. absurd (omega (arith, some)) }
 
@@ -69,6 +70,7 @@ copying_room addr i n capacity words h within room =
           ]
     ]
 
+-- with the next byte put, there is one byte more from the address on
 pub copying_more : (addr i b : ℕ) (words : List Stored) → IsCopying addr i words → IsCopying addr (i + 1) (put words (stored 1 (addr + i) b))
 copying_more addr i b words h =
     let s : Stored = stored 1 (addr + i) b in

@@ -1,9 +1,3 @@
-mod DraftLaws
-mod FeedLaws
-mod FieldLaws
-pub mod Lasting
-mod ListLaws
-mod SectionLaws
-mod StartLaws
-mod StreamLaws
+pub mod Drafts
+pub mod Feeding
 mod Written

@@ -1,15 +1,4 @@
-mod Alike
-mod SameBits
-mod Standings
-mod Ready
-mod Granting
-mod Signing
-mod Moments
-mod Diverging
-mod Transfers
-mod Events
-mod Able
-mod Closed
-mod Starting
-mod Limits
-mod Promised
+pub mod Rows
+pub mod Worlds
+pub mod Commits
+pub mod Signatures

@@ -54,7 +54,7 @@ impl<G: Sig> State<G> {
     }
 
     // The request of a closed chunk, which no turn and no full window holds up.
-    #[tactic(auto, using(crate::proofs::Granting::chunk_passes, crate::proofs::Granting::serial_passes))]
+    #[tactic(auto, using(crate::proofs::Commits::Granted::chunk_passes, crate::proofs::Commits::Granted::serial_passes))]
     fn ask_arbiter(&mut self, core: u8, held: Held, how: How) -> Result<Reply, OutOfMemory>
         requires core { core < length self.old.cores }
         requires ready { IsReady self.old }
@@ -245,7 +245,7 @@ fn other_turn(head: Option<Actor>, thread: u8) -> Option<Actor>
 }
 
 // Marks the lines of these words of a sphere.
-#[tactic(auto, using(crate::proofs::Signing::sign_next))]
+#[tactic(auto, using(crate::proofs::Signatures::OneByOne::sign_next))]
 pub(crate) fn sign<G: Sig>(marks: &mut G, sphere: u8, words: &Buffer)
     ensures { G.marks marks.new ≡ signed sphere words.now.words (G.marks marks.old) }
 {

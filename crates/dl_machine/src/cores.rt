@@ -104,7 +104,7 @@ impl<G: Sig> Cores<G> {
     }
 
     /// The least core that holds that thread of the sphere.
-    #[tactic(auto, using(crate::proofs::Alike::position_held), unfolding(spec_engine::specs::Flights::first_slot))]
+    #[tactic(auto, using(crate::proofs::Rows::Cores::position_held), unfolding(spec_engine::specs::Flights::first_slot))]
     pub(crate) fn find(&self, sphere: u8, thread: u8) -> Option<u8>
         ensures value { result ≡ first_slot (runs sphere thread) self.now.held }
         ensures within { IfSome result (λ c. c < length self.now.held) }

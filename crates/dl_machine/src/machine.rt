@@ -58,7 +58,7 @@ impl<G: Sig> Machine<G> {
     }
 
     /// Takes one event.
-    #[tactic(auto, using(crate::proofs::Events::ready_after, crate::proofs::Events::act_counts, crate::proofs::Events::happens_world, crate::proofs::Events::happens_reply, crate::proofs::Events::replies_few))]
+    #[tactic(auto, using(crate::proofs::Worlds::Events::ready_after, crate::proofs::Worlds::Events::act_counts, crate::proofs::Worlds::Events::happens_world, crate::proofs::Worlds::Events::happens_reply, crate::proofs::Worlds::Events::replies_few))]
     pub fn apply(&mut self, event: Event) -> Result<Reply, OutOfMemory>
         requires events { self.old.counts.events < 2 ^ 63 }
         requires commits { HasRoom self.old }
@@ -83,7 +83,7 @@ impl<G: Sig> Machine<G> {
     }
 
     /// How many events there were, and how often each reply was given. Before 2^24 events there is room for another commit.
-    #[tactic(auto, using(crate::proofs::Ready::young_has_room))]
+    #[tactic(auto, using(crate::proofs::Worlds::Ready::young_has_room))]
     pub fn counts(&self) -> &Counts
         ensures value { result.now ≡ self.now.counts }
         ensures room { self.now.counts.events < 2 ^ 24 → HasRoom self.now }

@@ -112,7 +112,7 @@ impl<G: Sig> Core<G> {
     }
 
     /// Runs one instruction of its chunk, as the core of that number.
-    #[tactic(auto, using(crate::proofs::SameBits::step_bits))]
+    #[tactic(auto, using(crate::proofs::Signatures::SameSize::step_bits))]
     pub(crate) fn step(&mut self, memory: &Memory, flights: &Flights<G>, core: u8) -> Stepped
         requires { IsOpen self.old.held }
         ensures reply { let f = step self.old.capacity memory.now flights.now.slots core in

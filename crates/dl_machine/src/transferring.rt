@@ -22,7 +22,7 @@ use spec_protocol::Reply;
 
 impl<G: Sig> State<G> {
     // The outstanding request of the sphere is done.
-    #[tactic(auto, using(crate::proofs::Transfers::no_dma), unfolding(spec_protocol::specs::Transferring::transferring))]
+    #[tactic(auto, using(crate::proofs::Commits::Transfers::no_dma), unfolding(spec_protocol::specs::Transferring::transferring))]
     pub(crate) fn dma(&mut self, sphere: u8) -> Result<Reply, OutOfMemory>
         requires sphere { sphere < length self.old.spheres }
         requires ready { IsReady self.old }

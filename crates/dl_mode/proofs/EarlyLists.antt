@@ -1,4 +1,4 @@
--- Short sizes by thread and index, as lists of threads.
+-- Short sizes by thread and index are put and found in lists of threads as in one list.
 use Rattle.std.proofs.Common.{◌≡◌, ℕ, zero, suc, ◌+◌, ◌-◌, ◌<◌, true, List, [], ◌∷◌, ◌++◌, All, length, take, get_or, inl, inr, refl, ap, sym, subst, ◌∙◌, arith}
 use Rattle.std.proofs.Math.ListN.{set}
 use Rattle.std.specs.List.{AllAdjacentBelow}
@@ -63,7 +63,7 @@ insert-end x (y ∷ sizes) h =
             | inr s ↦ rw (s.0, earlier-same x.thread y.index x.index) (lt-ltb y.index x.index s.1)
           ]
 
--- the next of a rising list is inserted at the end
+-- the next size of a rising list is inserted behind those before it
 pub insert-next : (sizes : List ShortSize) → AllAdjacentBelow Before sizes (length sizes) → (n : ℕ) (x : ShortSize) → n < length sizes
     → x ≡ get_or sizes n x → insert_size x (take n sizes) ≡ take (n + 1) sizes
 insert-next sizes r n x h is =

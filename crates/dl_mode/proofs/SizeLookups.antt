@@ -1,4 +1,4 @@
--- Looking up a size after another was put.
+-- A size that was put is found, the others are found as before, and the commits are counted.
 use Rattle.std.proofs.Common.{◌≡◌, ℕ, zero, suc, ◌+◌, cond, get_or, slice_index, replicate, append-nil, ◌<◌, ◌≤◌, ◌^◌, take, ◌==◌, Bool, true, false, ◌&&◌, List, [], ◌∷◌, ◌++◌, length, Some, slice_get, inl, inr, refl, ap, sym, ◌∙◌, arith}
 use Rattle.std.specs.List.{range_with_len}
 use Rattle.std.proofs.lemmas.Bool.{eq-eqb, ne_eqb, cases_lt, cases_eq, cases_Bool, eqb-true, and_parts, both_ways, le-ltb}
@@ -136,6 +136,7 @@ done_with-few done (Thread u) n h t =
       ]
     ]
 
+-- no actor has done more commits than there are
 pub done_by-few : (done : List ℕ) (actor : Actor) (n : ℕ) → AreAmong n done → done_by done actor ≤ n
 done_by-few done (Thread t) n h = h t
 done_by-few done Dma n h = omega arith
@@ -148,6 +149,7 @@ sizes_of_thread-few t (a ∷ order) (z ∷ sizes) =
     let rest = sizes_of_thread-few t order sizes in
     elim (cases_Bool (is_thread t a)) [ inl e ↦ rw e (omega (arith, rest)) | inr e ↦ rw e (omega (arith, rest)) ]
 
+-- where sizes and counts stand together with an order, no thread has more commits than the order
 pub IsWhole-few : (order : List Actor) (sizes : List ℕ) (threads : EarlySizes) → IsWhole order sizes threads → AreAmong (length order) threads.done
 IsWhole-few order sizes threads w t = omega (arith, w.counted t, sizes_of_thread-few t order sizes)
 
@@ -155,7 +157,7 @@ length-done_with : (done : List ℕ) (actor : Actor) → length (done_with done 
 length-done_with done (Thread u) = length-set done u (get_or done u 0 + 1)
 length-done_with done Dma = refl
 
--- what stands together with a commit more
+-- sizes and counts stand together with an order still after a commit more
 pub IsWhole-noted : (order : List Actor) (sizes : List ℕ) (threads new : EarlySizes) (actor : Actor) (size : ℕ) → IsWhole order sizes threads
     → IsActor actor → length order < 2 ^ 24 → new.sizes ≡ short_with threads.sizes threads.done actor size true → new.done ≡ done_with threads.done actor
     → IsWhole (order ++ actor ∷ []) (sizes ++ size ∷ []) new
@@ -172,6 +174,7 @@ IsWhole-noted order sizes threads new actor size w good few e d =
 pub counted-more : (order : List Actor) (i : ℕ) (d : Actor) → i < length order → counted (take (i + 1) order) ≡ done_with (counted (take i order)) (get_or order i d)
 counted-more order i d h = fold_more done_with (replicate 15 0) order i d h
 
+-- a range that isn't empty is its first number, and then the range behind it
 pub range-next : (t n m : ℕ) → n ≡ suc m → range_with_len t n ≡ t ∷ range_with_len (t + 1) m
 range-next t n m e = rw e refl
 
@@ -183,6 +186,7 @@ pub record Begun (s i : ℕ) (order : List Actor) (sizes : List ℕ) (kept : Kep
   pub sizes_are : kept.sizes ≡ Sizes.Each (take i sizes)
   pub done_is : kept.done ≡ counted (take i order)
 
+-- with the next commit noted, one commit more is kept
 pub Begun-more : (s i : ℕ) (order : List Actor) (sizes : List ℕ) (kept new : Kept) (d : Actor) → i < length order → i < length sizes
     → Begun s i order sizes kept → new ≡ noted OrderSize kept (record { actor = get_or order i d; size = get_or sizes i 0; early = false })
     → Begun s (i + 1) order sizes new

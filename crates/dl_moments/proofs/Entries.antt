@@ -1,4 +1,4 @@
--- Entries by thread and index, as lists of threads.
+-- Entries by thread and index are put and found in lists of threads as in one list.
 use Rattle.std.proofs.Common.{◌≡◌, ℕ, zero, suc, ◌+◌, ◌<◌, ◌==◌, nat_lt, Bool, true, false, ◌&&◌, List, [], ◌∷◌, ◌++◌, length, map, drop, get_or, Option, Some, None, option_map, find, inl, inr, refl, ap, sym, arith, add-one}
 use Rattle.std.proofs.Math.ListN.{set}
 use Rattle.std.specs.List.{list_all}
@@ -10,10 +10,11 @@ use Rattle.dl_moments.specs.declared.lane.Mark.{Mark}
 use Rattle.dl_moments.specs.Marks.{with_mark, value_at}
 use Rattle.dl_moments.specs.Entries.{entries_from}
 
--- what comes before is earlier, what is the same or comes after isn't
+-- of entries of two threads the one of the lower thread is earlier
 pub earlier-lower : (t i u j : ℕ) → t < u → is_earlier t i u j ≡ true
 earlier-lower t i u j h = rw (lt-ltb t u h) refl
 
+-- of two entries of one thread the one of the lower index is earlier
 pub earlier-same : (t i j : ℕ) → is_earlier t i t j ≡ nat_lt i j
 earlier-same t i j = rw (le-ltb t t (omega arith), eq-eqb t t refl) refl
 
@@ -105,12 +106,12 @@ module _ {V X : Type 0} (thread index : X → ℕ) (entry : ℕ → Mark V → X
     pub value-found : (lanes : List (List (Mark V))) (t i : ℕ) → value_at i (get_or lanes t []) ≡ option_map value (found (entries_from entry 0 lanes) t i)
     value-found lanes t i = sym (value-lane lanes 0 t t i (omega arith))
 
--- the lanes from a thread on
+-- the entries from a thread on are those of its lane and then those of the threads behind it
 pub entries-next : {V X : Type 0} (entry : ℕ → Mark V → X) (lanes : List (List (Mark V))) (t : ℕ) → t < length lanes
     → entries_from entry t (drop t lanes) ≡ map (entry t) (get_or lanes t []) ++ entries_from entry (t + 1) (drop (t + 1) lanes)
 entries-next entry lanes t h = rw (drop_more lanes t [] h, add-one t) refl
 
--- whether all pass, of a lane and of what is behind it
+-- a test passes a lane and what is behind it just where it passes both
 pub all-lane : {V X : Type 0} (entry : ℕ → Mark V → X) (p : X → Bool) (lane : List (Mark V)) (rest : List X) (t : ℕ)
     → list_all p (map (entry t) lane ++ rest) ≡ (list_all (λ m. p (entry t m)) lane && list_all p rest)
 all-lane entry p [] rest t = refl

@@ -1,4 +1,4 @@
--- The lists of all threads, of which one is changed.
+-- Of the lists of all threads, a change of one leaves the others.
 use Rattle.std.proofs.Common.{◌≡◌, ℕ, zero, suc, ◌+◌, ◌<◌, Bool, true, ◌&&◌, List, [], ◌∷◌, ◌++◌, length, map, get_or, replicate, inl, inr, refl, ap, sym, ◌∙◌, arith}
 use Rattle.std.proofs.Math.ListN.{set}
 use Rattle.std.specs.List.{list_all}
@@ -7,6 +7,7 @@ use Rattle.std.proofs.lemmas.List.{map-set, map-append, length-set, set-get_or, 
 use Rattle.dl_moments.specs.declared.lane.Mark.{Mark}
 use Rattle.dl_moments.specs.Held.{Held}
 
+-- the values of a thread's list, without its room
 abbrev pub marks_of : {V : Type 0} → Held V → List (Mark V)
 marks_of held = held.marks
 
@@ -15,7 +16,7 @@ get_or-map [] t d h = absurd (omega arith)
 get_or-map (x ∷ xs) zero d h = refl
 get_or-map (x ∷ xs) (suc t) d h = get_or-map xs t d (omega arith)
 
--- a list that becomes another by a function
+-- where one list has become another by a function, it alone has changed, by that function
 pub changed_lane : {V : Type 0} (lanes : List (Held V)) (t : ℕ) (old new : Held V) (f : List (Mark V) → List (Mark V)) → t < length lanes
     → old ≡ get_or lanes t old → new.marks ≡ f old.marks
     → map marks_of (set lanes t new) ≡ set (map marks_of lanes) t (f (get_or (map marks_of lanes) t []))
@@ -23,13 +24,13 @@ changed_lane lanes t old new f h is e =
     let was : old.marks ≡ get_or (map marks_of lanes) t [] = ap marks_of is ∙ sym (get_or-map lanes t old h) in
     map-set marks_of lanes t new ∙ ap (λ (m : List (Mark _)). set (map marks_of lanes) t m) (e ∙ ap f was)
 
--- a list that stays
+-- where one list has the same values, so have all
 pub same_lane : {V : Type 0} (lanes : List (Held V)) (t : ℕ) (old new : Held V) → t < length lanes
     → old ≡ get_or lanes t old → new.marks ≡ old.marks → map marks_of (set lanes t new) ≡ map marks_of lanes
 same_lane lanes t old new h is e =
     changed_lane lanes t old new (λ m. m) h is e ∙ set-get_or (map marks_of lanes) t []
 
--- a list that stays as long
+-- where one list is as long as before, it is so among all
 pub same_count : {V : Type 0} (lanes : List (Held V)) (t : ℕ) (old new : Held V) → t < length lanes
     → old ≡ get_or lanes t old → length new.marks ≡ length old.marks
     → length (get_or (map marks_of (set lanes t new)) t []) ≡ length (get_or (map marks_of lanes) t [])
@@ -39,16 +40,17 @@ same_count lanes t old new h is e =
     let was : old.marks ≡ get_or (map marks_of lanes) t [] = ap marks_of is ∙ sym (get_or-map lanes t old h) in
     ap length now ∙ (e ∙ ap length was)
 
--- one list more, which is empty
+-- empty lists with one empty list more are empty lists
 pub empty_lane : {V : Type 0} (lanes : List (Held V)) (n : ℕ) (new : Held V) → map marks_of lanes ≡ replicate n [] → new.marks ≡ []
     → map marks_of (lanes ++ new ∷ []) ≡ replicate (n + 1) []
 empty_lane lanes n new e none =
     map-append marks_of lanes (new ∷ []) ∙ (rw (e, none) (replicate_more n []))
 
+-- each of the first n lists has room
 abbrev pub Roomy : {V : Type 0} → List (Held V) → ℕ → Type 0
 Roomy {V} lanes n = (k : ℕ) (d : Held V) → k < n → (get_or lanes k d).room ≡ true
 
--- room in one list more
+-- with room in the next list, one list more has room
 pub Roomy-more : {V : Type 0} (lanes : List (Held V)) (t : ℕ) (new : Held V) → t < length lanes → Roomy lanes t → new.room ≡ true → Roomy (set lanes t new) (t + 1)
 Roomy-more lanes t new h rooms room k d l =
     elim (cases_eq k t) [
@@ -56,7 +58,7 @@ Roomy-more lanes t new h rooms room k d l =
       | inr other ↦ rw (get_or-set_other lanes t k new d other) (rooms k d (omega arith))
     ]
 
--- room in each
+-- where each list has room, all have
 pub all_room : {V : Type 0} (lanes : List (Held V)) → Roomy lanes (length lanes) → list_all (λ lane. lane.room) lanes ≡ true
 all_room [] h = refl
 all_room (x ∷ xs) h = rw (h 0 x (omega arith), all_room xs (λ k d l. h (suc k) d (omega arith))) refl
@@ -67,7 +69,7 @@ room_at [] t d h e = absurd (omega arith)
 room_at (x ∷ xs) zero d h e = (and_parts x.room (list_all (λ lane. lane.room) xs) e).0
 room_at (x ∷ xs) (suc t) d h e = room_at xs t d (omega arith) (and_parts x.room (list_all (λ lane. lane.room) xs) e).1
 
--- as much room with another list that has as much
+-- a list replaced by one with as much room leaves as much room in all
 pub same_room : {V : Type 0} (lanes : List (Held V)) (t : ℕ) (old new : Held V) → t < length lanes → old ≡ get_or lanes t old → new.room ≡ old.room
     → list_all (λ lane. lane.room) (set lanes t new) ≡ list_all (λ lane. lane.room) lanes
 same_room [] t old new h is e = absurd (omega arith)
@@ -75,7 +77,7 @@ same_room (x ∷ xs) zero old new h is e =
     ap (λ (b : Bool). b && list_all (λ lane. lane.room) xs) (e ∙ ap (λ (held : Held _). held.room) is)
 same_room (x ∷ xs) (suc t) old new h is e = ap (λ (b : Bool). x.room && b) (same_room xs t old new (omega arith) is e)
 
--- room in each, also after one was changed
+-- where each list has room, each has it still after one with room was set among them
 pub Roomy-set : {V : Type 0} (lanes : List (Held V)) (n t : ℕ) (new : Held V) → t < length lanes → Roomy lanes n → new.room ≡ true → Roomy (set lanes t new) n
 Roomy-set lanes n t new h rooms room k d l =
     elim (cases_eq k t) [

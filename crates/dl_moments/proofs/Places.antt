@@ -1,4 +1,4 @@
--- Where an index stands among rising ones.
+-- Among rising marks an index stands behind all lower ones, or is missing there.
 use Rattle.std.proofs.Common.{◌≡◌, ℕ, zero, suc, ◌+◌, ◌-◌, ◌<◌, ◌≤◌, nat_lt, true, List, [], ◌∷◌, ◌++◌, length, get_or, take, drop, Some, None, inl, inr, refl, ap, sym, subst, ◌∙◌, arith, add-one}
 use Rattle.std.proofs.Math.ListN.{set}
 use Rattle.std.proofs.lemmas.List.{get_or_default}
@@ -22,6 +22,7 @@ rises-between marks r i j d h l =
     let e : i + suc (j - i - 1) ≡ j = omega arith in
     subst (λ (k : ℕ). (get_or marks i d).index < (get_or marks k d).index) e (rises-far marks r i (j - i - 1) d (omega arith))
 
+-- among rising marks those of lower indices stand before all others
 pub partitioned : {V : Type 0} (marks : List (Mark V)) (index : ℕ) → Rises marks → IsPartitionedBy (λ m. nat_lt m.index index) marks
 partitioned marks index r i j d le below t =
     elim (cases_lt i j) [
@@ -128,11 +129,13 @@ chain-start {V} (m ∷ ms) r =
     rises-chain 0 m ms (omega arith)
     (λ k d l. subst (λ (n : ℕ). (get_or (m ∷ ms) k d).index < (get_or (m ∷ ms) n d).index) (add-one k) (r k d (omega arith)))
 
+-- marks that rise still rise with a value put at an index
 pub Rises-with_mark : {V : Type 0} (index : ℕ) (value : V) (marks : List (Mark V)) → Rises marks → Rises (with_mark index value marks)
 Rises-with_mark index value marks r k d h =
     let up = chain-rises 0 (with_mark index value marks) (chain-with 0 index value marks (omega arith) (chain-start marks r)) k d (omega arith) in
     subst (λ (n : ℕ). (get_or (with_mark index value marks) k d).index < (get_or (with_mark index value marks) n d).index) (sym (add-one k)) up
 
+-- a mark of the index that stands behind lower ones is the place of the index
 pub stands : {V : Type 0} (index : ℕ) (marks : List (Mark V)) (place : ℕ) → place < length marks → Below index marks place
     → ((d : Mark V) → (get_or marks place d).index ≡ index) → Stands index marks place
 stands index marks place within below here =
@@ -143,6 +146,7 @@ stands index marks place within below here =
           (get_or_default marks place d (get_or marks place d) within) (here d));
     }
 
+-- behind lower marks and before a higher one the index is missing, and its value is put there
 pub misses : {V : Type 0} (index : ℕ) (marks : List (Mark V)) (place : ℕ) → Rises marks → place ≤ length marks → Below index marks place
     → ((d : Mark V) → place < length marks → index < (get_or marks place d).index) → Misses index marks place
 misses index marks place rises within below above =

@@ -1,4 +1,4 @@
--- Entries in the order of their moments, and one more at its place.
+-- Entries in the order of their moments stay so with one more put at its place.
 use Rattle.std.proofs.Common.{◌≡◌, ℕ, zero, suc, ◌+◌, ◌^◌, ◌<◌, ◌≤◌, ◌==◌, Bool, true, false, ◌&&◌, List, [], ◌∷◌, All, length, get_or, inl, inr, refl, sym, subst, arith, add-one}
 use Rattle.std.specs.List.{AllAdjacentBelow}
 use Rattle.std.proofs.lemmas.Bool.{lt-ltb, le-ltb, eq-eqb, ne_eqb, cases_order}
@@ -97,6 +97,7 @@ module _ {X : Type 0} (thread index : X → ℕ) where
         | later e f c ↦ rw (e, f) (All-cons P x (y ∷ ys) p all)
       ]
 
+  -- an entry put into a list makes it longer by at most one
   pub length-insert : (x : X) (xs : List X) → length (insert_by thread index x xs) ≤ length xs + 1
   length-insert x [] = omega arith
   length-insert x (y ∷ ys) =

@@ -1,4 +1,4 @@
--- What stands together in a recorder, with a commit or an interrupt more.
+-- What stands together in a recorder stands so with a commit or an interrupt more.
 use Rattle.std.proofs.Common.{◌≡◌, ℕ, ◌+◌, ◌-◌, ◌^◌, ◌<◌, ◌≤◌, ◌==◌, ◌&&◌, Bool, true, false, List, [], ◌∷◌, All, length, map, get_or, slice_index, Option, Some, None, IfSome, option_map, Result, Ok, Err, OnOk, OnErr, ◌⊎◌, inl, inr, refl, sym, arith}
 use Rattle.std.proofs.lemmas.Bool.{cases_lt, cases_eq, cases_Bool}
 use Rattle.std.proofs.lemmas.List.{length_push, get_or-set_same, get_or-set_other, set_past}
@@ -97,7 +97,7 @@ dmas-with dmas n (Some bytes) few h good slots are =
           (All-weaker (λ dma. dma.slot < n) (λ dma. dma.slot < n + 1) (λ dma l. omega arith) dmas slots) (omega arith),
     )
 
--- a commit more with its records
+-- a recording is one still with a commit more and its records
 pub IsRecording-commit : (mode : ModeName) (kept : Kept) (interrupts : List Interrupt) (inputs : List Input) (dmas : List DmaRecord)
     (commit : Commit) (early : Bool) (input : Option Input) (bytes : Option (List ℕ))
     → IsRecording mode kept interrupts inputs dmas → CanCommit kept commit early → IfThere IsInput input → IfThere AreFewBytes bytes
@@ -122,7 +122,7 @@ IsRecording-commit mode kept interrupts inputs dmas commit early input bytes r c
       slots = d.2;
     }
 
--- an interrupt more
+-- a recording is one still with an interrupt more
 pub IsRecording-interrupt : (mode : ModeName) (kept : Kept) (interrupts : List Interrupt) (inputs : List Input) (dmas : List DmaRecord) (interrupt : Interrupt)
     → IsRecording mode kept interrupts inputs dmas → IsInterrupt interrupt → length (insert_interrupt interrupt interrupts) < 2 ^ 32
     → IsRecording mode kept (insert_interrupt interrupt interrupts) inputs dmas
@@ -144,7 +144,7 @@ IsRecording-interrupt mode kept interrupts inputs dmas interrupt r good few =
       slots = r.slots;
     }
 
--- a moment that is new among interrupts is new among what they are seen of
+-- a moment that is new among the interrupts of a log is new among those that are held
 pub fresh : (entries : List Held) (t i : ℕ) → IsFresh (map interrupt_of entries) t i → raised_at entries t i ≡ None
 fresh [] t i h = refl
 fresh (x ∷ xs) t i h =
@@ -153,11 +153,12 @@ fresh (x ∷ xs) t i h =
       | inr e ↦ rw e (fresh xs t i (rw e at h))
     ]
 
--- a call that either did it or left all as it was
+-- a call has done what was asked, or left all as it was
 pub either : {X E A B : Type 0} (r : Result X E) → OnOk r A → OnErr r B → A ⊎ B
 either (Ok x) a b = inl a
 either (Err e) a b = inr b
 
+-- a fact of f's value at what may be there is one of what f may give
 pub if_there : {X Y : Type 0} (f : X → Y) (P : Y → Type 0) (o : Option X) → IfSome o (λ x. P (f x)) → IfThere P (option_map f o)
 if_there f P None h = tt
 if_there f P (Some x) h = h

@@ -1,4 +1,4 @@
--- One commit more: the threads behind it, and how far the replay has come.
+-- With one commit more, the threads and the replay are what judging that commit makes of them.
 use Rattle.std.proofs.Common.{◌≡◌, ℕ, zero, suc, ◌+◌, ◌<◌, ◌≤◌, Bool, true, false, List, [], ◌∷◌, ◌++◌, length, slice_get, slice_index, nat_lt, cond, Option, Some, None, Ok, refl, ap, sym, subst, ◌∙◌, arith, add-one}
 use Rattle.std.specs.Prelude.{slice_set}
 use Rattle.std.specs.Option.{OnSome}
@@ -59,7 +59,7 @@ transferred-is r p ts a =
 one-used : (u : Used) → record u { dmas = u.dmas + 1 } ≡ with_dma_used u
 one-used u = ap (λ (n : ℕ). record u { dmas = n }) (add-one u.dmas)
 
--- of a replay that is the same
+-- one record of DMAs more is taken by a replay that is the same
 pub advanced-same : (r same new : Replaying) (ts : List Parts) → same ≡ r → new ≡ advanced r.log (r.done + 1) same.last (record same.used { dmas = same.used.dmas + 1 }) ts
     → new ≡ advanced r.log (r.done + 1) r.last (with_dma_used r.used) ts
 advanced-same r same new ts e m =
@@ -88,6 +88,7 @@ set-below n (x ∷ ts) zero t h l (suc j) = omega (arith, h (suc j))
 set-below n (x ∷ ts) (suc k) t h l zero = omega (arith, h 0)
 set-below n (x ∷ ts) (suc k) t h l (suc j) = set-below n ts k t (λ i. h (suc i)) l j
 
+-- a thread has done no more commits than the bound on all counts of commits
 pub thread-below : (n : ℕ) (ts : List Parts) (commits : List ℕ) (k : ℕ) (t : Parts) → length ts ≤ 15 → commits ≡ commits_of ts → ((j : ℕ) → slice_index commits j ≤ n)
     → slice_get ts k ≡ Some t → t.commits ≤ n
 thread-below n ts commits k t few e h is =
@@ -110,9 +111,11 @@ settled-below n ts us commits k t made few room e h l new is j =
 
 -- ---- what is answered
 
+-- two values that are there and equal as optional values are equal
 pub some-same : {X : Type 0} {x y : X} → Some x ≡ Some y → x ≡ y
 some-same e = cc
 
+-- the thread that was put at a number stands there
 pub set-got : (ts : List Parts) (k : ℕ) (t : Parts) → k < length (slice_set ts k t) → slice_get (slice_set ts k t) k ≡ Some t
 set-got [] k t h = absurd (omega arith)
 set-got (x ∷ ts) zero t h = refl
@@ -123,6 +126,7 @@ set-again [] k t u = refl
 set-again (x ∷ ts) zero t u = refl
 set-again (x ∷ ts) (suc k) t u = ap (λ (xs : List Parts). x ∷ xs) (set-again ts k t u)
 
+-- a chunk that goes advances the replay as judging it by its verdict does
 pub chunk-goes : (r : Replaying) (p : Progress) (k n : ℕ) (before ts us : List Parts) (request : Option Request) (served : Served) (f : Finish) (run : Run) (new : Replaying) (v : Verdict) (out : Answer)
     → Agrees r p → p.request ≡ request → HasRun before ts k n run → verdict_of (Ok f) (chunk_effect k p.request run) ≡ v → out ≡ Went
     → us ≡ slice_set ts k f.thread ++ [] → new ≡ advanced r.log (r.done + 1) (Some k) (used_seen f.used) us
@@ -138,6 +142,7 @@ chunk-goes r p k n before ts us request served f run new v out a q h e o t m =
     λ i. record { verdict = o i; replay = replay i; threads = settled i; request = sym q i; served = served } in
     judged ∙ ap (chunk_judged r p k before ts request served) e
 
+-- a serial step that goes advances the replay as judging it by its verdict does
 pub step-goes : (r : Replaying) (p : Progress) (k : ℕ) (ts us : List Parts) (request : Option Request) (served now : Served) (d : Done) (new : Replaying) (v : Verdict) (out : Answer)
     → Agrees r p → step_verdict k (Ok d) ≡ v → out ≡ Went → us ≡ slice_set ts k d.finish.thread ++ made_list d.left.made
     → new ≡ advanced r.log (r.done + 1) (Some k) (used_seen d.finish.used) us
@@ -153,6 +158,7 @@ step-goes r p k ts us request served now d new v out a e o t m w l x =
     λ i. record { verdict = o i; replay = replay i; threads = t i; request = d.left.request; served = record { words = w i; loads = l i; outputs = x i } } in
     judged ∙ ap (serial_judged r p k ts request served) e
 
+-- a DMA that goes advances the replay as judging it by its verdict does
 pub dma-goes : (r : Replaying) (p : Progress) (ts : List Parts) (request : Option Request) (served now : Served) (words : Words) (new : Replaying) (v : DmaVerdict) (out : Answer)
     → Agrees r p → transfer_verdict (Ok words) ≡ v → out ≡ Went → new ≡ advanced r.log (r.done + 1) r.last (with_dma_used r.used) ts
     → now ≡ record served { words = served.words ++ words.words }
@@ -193,7 +199,7 @@ now-any : (entry : ℕ) (log : LogParts) (b : Bool) (o : Option Actor)
 now-any entry log true o = turn-any entry o
 now-any entry log false o = ap (at_end 0) (left-any entry log nothing_used)
 
--- the entry is of no account
+-- a replay begins the same, whatever the entry
 pub begun-is : (log : LogParts) (entry : ℕ) → advanced log 0 None nothing_used (started 0 ∷ []) ≡ begun log entry
 begun-is log entry =
     ap (λ (n : Now). record { log = log; used = nothing_used; now = n; total = 0; done = 0; last = None; commits = 0 ∷ 0 ∷ 0 ∷ 0 ∷ 0 ∷ 0 ∷ 0 ∷ 0 ∷ 0 ∷ 0 ∷ 0 ∷ 0 ∷ 0 ∷ 0 ∷ 0 ∷ [] })

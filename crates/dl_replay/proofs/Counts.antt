@@ -1,4 +1,4 @@
--- Threads one after another: which live, and how many commits each has done.
+-- Flags and counts set one thread after another say which threads live, and how many commits each has done.
 use Rattle.std.proofs.Common.{◌≡◌, ℕ, zero, suc, ◌+◌, ◌-◌, ◌<◌, ◌≤◌, Bool, nat_lt, List, [], ◌∷◌, ◌++◌, length, map, take, replicate, slice_get, slice_index, get_or, Option, Some, None, refl, ap, sym, ◌∙◌, arith}
 use Rattle.std.proofs.Math.ListN.{set}
 use Rattle.std.specs.List.{list_all}
@@ -17,6 +17,7 @@ map-next (t ∷ ts) (suc i) h =
     let e : suc i + 1 ≡ suc (i + 1) = omega arith in
     rw e (ap (λ (xs : List Bool). is_live t ∷ xs) (map-next ts i (omega arith)))
 
+-- flags that say of the first i threads whether they live say it of one more
 pub lives-next : (live : List Bool) (ts : List Parts) (i : ℕ) (b : Bool) → i < length live → i < length ts → take i live ≡ map is_live (take i ts)
     → b ≡ lives (slice_get ts i) → take (i + 1) (set live i b) ≡ map is_live (take (i + 1) ts)
 lives-next live ts i b h l e is =
@@ -28,6 +29,7 @@ lives-all live ts n e h = h ∙ ap (map is_live) (take_all n ts (omega arith))
 abbrev Filled : (n i : ℕ) → List Parts → List ℕ
 Filled n i ts = map (λ t. t.commits) (take i ts) ++ replicate (n - i) 0
 
+-- with the commits of thread i put in its place, one thread more is counted
 pub counted-next : (n : ℕ) (ts : List Parts) (i : ℕ) → i < length ts → length ts ≤ n → set (Filled n i ts) i (commits_at (slice_get ts i)) ≡ Filled n (i + 1) ts
 counted-next zero [] i h l = absurd (omega arith)
 counted-next zero (t ∷ ts) i h l = absurd (omega arith)
@@ -58,7 +60,7 @@ commits-among (suc n) (t ∷ ts) (suc k) h =
     let e : suc n - suc (length ts) ≡ n - length ts = omega arith in
     rw e (commits-among n ts k (omega arith))
 
--- the commits of a thread
+-- the count of commits at a thread's number is that thread's
 pub commits-found : (ts : List Parts) (k : ℕ) → length ts ≤ 15 → slice_index (commits_of ts) k ≡ commits_at (slice_get ts k)
 commits-found ts k h = commits-among 15 ts k h
 

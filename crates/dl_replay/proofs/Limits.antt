@@ -67,12 +67,13 @@ limit-few log k i is =
           (λ z e. sizes-few log.mode log.s log.count log.order log.sizes k i z is.sizes e),
     )
 
--- the pieces of a commit have fewer
+-- the instructions of a commit's pieces are few enough to be counted
 pub pieces-fit : (r : Replaying) (k i n : ℕ) → IsLog r.log → r.now ≡ Turn k → 1 ≤ n → n < limit_in (Replay (cursor_of r [])) 0 k i → r.total + n < 2 ^ 32
 pieces-fit r k i n is e one few =
     let own : pieces_of r.now k r.total ≡ r.total = rw (e, eq-eqb k k refl) refl in
     omega (arith, limit-few r.log k i is, own, few)
 
+-- what pieces have left of a whole commit, and at least 1, is the limit of the replayed thread
 pub limit-is : (r : Replaying) (s k : ℕ) (loads : List Load) (ts : List Parts) (t : Parts) (commits whole pieces rest limit : ℕ) → commits ≡ slice_index r.commits k
     → whole ≡ whole_limit r.log k commits → pieces ≡ pieces_of r.now k r.total → rest ≡ whole - pieces → limit ≡ max rest 1
     → length ts ≤ 15 → r.commits ≡ commits_of ts → slice_get ts k ≡ Some t → limit ≡ limit_of s (Replay (cursor_of r loads)) k t

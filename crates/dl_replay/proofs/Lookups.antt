@@ -15,11 +15,13 @@ use Rattle.spec_play.specs.Verdicts.{interrupt_at}
 use Rattle.dl_input.specs.Dmas.{bytes_at}
 use Rattle.dl_input.specs.Held.{Held, raised_at, interrupt_of}
 
+-- the size that is kept of an actor's commit is the one that the log has
 pub size-is : (mode : ModeName) (kept : Kept) (interrupts : List Interrupt) (inputs : List Input) (dmas : List DmaRecord) (actor : Actor) (index : ℕ)
     → kept_size kept actor index ≡ size_in (log_of mode kept interrupts inputs dmas) actor index
 size-is mode kept interrupts inputs dmas (Actor.Thread thread) index = refl
 size-is mode kept interrupts inputs dmas Actor.Dma index = refl
 
+-- the value that is held at a moment is that of the log's interrupt
 pub interrupt-is : (entries : List Held) (thread commits : ℕ)
     → option_map (λ r. r.value) (raised_at entries thread commits) ≡ interrupt_at (map interrupt_of entries) thread commits
 interrupt-is [] thread commits = refl
@@ -40,11 +42,13 @@ slot-found slot (dma ∷ dmas) =
 abbrev Holds : (slot : ℕ) → List DmaRecord → {B : Type 0} → (B → List ℕ) → Option B → Type 0
 Holds slot dmas now found = MatchOption found (bytes_at slot dmas ≡ None) (λ b. bytes_at slot dmas ≡ Some (now b))
 
+-- bytes are found for a slot just where the log has a DMA at it
 pub slot-is : (slot : ℕ) (dmas : List DmaRecord) {B : Type 0} (now : B → List ℕ) (found : Option B) → Holds slot dmas now found
     → is_some found ≡ is_slot dmas slot
 slot-is slot dmas now None h = sym (ap is_some h) ∙ slot-found slot dmas
 slot-is slot dmas now (Some b) h = sym (ap is_some h) ∙ slot-found slot dmas
 
+-- the head by what a mode keeps is the head by the log
 pub head-is : (mode : ModeName) (kept : Kept) (interrupts : List Interrupt) (inputs : List Input) (dmas : List DmaRecord)
     (position : ℕ) (last : Option ℕ) (live : List Bool)
     → kept_head mode kept.order position (is_slot dmas position) last live ≡ head (log_of mode kept interrupts inputs dmas) position last live

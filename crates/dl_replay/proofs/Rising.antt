@@ -1,4 +1,4 @@
--- Interrupts that are noted in the order of a log, each behind all before it.
+-- Interrupts that are noted in the order of a log come each behind all before it, and at a new moment.
 use Rattle.std.proofs.Common.{◌≡◌, ℕ, zero, suc, ◌+◌, ◌-◌, ◌<◌, ◌==◌, ◌&&◌, true, false, List, [], ◌∷◌, ◌++◌, All, length, map, take, get_or, None, inl, inr, refl, ap, sym, subst, ◌∙◌, arith}
 use Rattle.std.specs.List.{AllAdjacentBelow}
 use Rattle.std.proofs.lemmas.Bool.{lt-ltb, ne_eqb, eq-eqb}
@@ -57,7 +57,7 @@ insert-end x [] h = refl
 insert-end x (y ∷ xs) h =
     rw (earlier-before y x (All-head (λ y. Before y x) y xs h), insert-end x xs (All-tail (λ y. Before y x) y xs h)) refl
 
--- the next of a rising list is inserted at the end
+-- the next interrupt of a rising list is inserted behind those before it
 pub insert-next : (xs : List Interrupt) (entries : List Held) → AllAdjacentBelow Before xs (length xs) → (n : ℕ) (x : Interrupt) → n < length xs
     → x ≡ get_or xs n x → map interrupt_of entries ≡ take n xs
     → map interrupt_of (insert_held (new_held x.thread x.index x.value) entries) ≡ take (n + 1) xs
@@ -78,7 +78,7 @@ none-before x (y ∷ entries) h =
     rw (other-before (interrupt_of y) x (All-head (λ y. Before y x) (interrupt_of y) (map interrupt_of entries) h))
     (none-before x entries (All-tail (λ y. Before y x) (interrupt_of y) (map interrupt_of entries) h))
 
--- and it is of a new moment
+-- the next interrupt of a rising list is of a new moment
 pub next-fresh : (xs : List Interrupt) (entries : List Held) → AllAdjacentBelow Before xs (length xs) → (n : ℕ) (x : Interrupt) → n < length xs
     → x ≡ get_or xs n x → map interrupt_of entries ≡ take n xs → raised_at entries x.thread x.index ≡ None
 next-fresh xs entries r n x h is e =

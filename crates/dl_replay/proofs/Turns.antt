@@ -1,4 +1,4 @@
--- Whose turn it is: with commits left, and at the end.
+-- With commits left it is the turn of the log's head, and without any the end is by what is left over.
 use Rattle.std.proofs.Common.{◌≡◌, ℕ, ◌<◌, ◌≤◌, true, List, length, map, Option, refl}
 use Rattle.std.proofs.lemmas.Bool.{lt-ltb, le-ltb}
 use Rattle.spec_isa.specs.declared.thread.Parts.{Parts}
@@ -34,6 +34,7 @@ each-used OrderSize s count (Short sizes) ts e are = absurd are
 each-used OrderOnly s count sizes ts e are = cc
 each-used Picolog s count sizes ts e are = cc
 
+-- in a mode that keeps short sizes, all are used just where the threads have done those commits
 pub short-used : (mode : ModeName) (s count : ℕ) (sizes : Sizes) (order : List Actor) (commits : List ℕ) (ts : List Parts) → (mode ≡ OrderSize → ⊥)
     → IsSizes mode s count sizes → length ts ≤ 15 → commits ≡ commits_of ts → sizes_used order sizes commits ≡ are_sizes_used ts sizes
 short-used OrderSize s count sizes order commits ts e are h is = absurd (e refl)

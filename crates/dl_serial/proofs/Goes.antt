@@ -1,4 +1,4 @@
--- What a commit leaves that goes as it is logged: its words, its commit and its request.
+-- A commit that goes leaves words inside the memory, the commit that it is, and a sound request.
 use Rattle.std.proofs.Common.{◌≡◌, ℕ, ◌%◌, ◌≤◌, Bool, true, false, cond, List, length, Option, Some, None, refl, sym, ap, ◌∙◌, subst, arith}
 use Rattle.std.specs.Prelude.{slice_get}
 use Rattle.std.proofs.lemmas.Bool.{true≢false}
@@ -69,6 +69,7 @@ pub record LeftByChunk (k : ℕ) (p : Progress) (r : Run) (e : Effect) : Type 0 
   pub commit : e.commit ≡ chunk_commit k r
   pub request : e.request ≡ p.request
 
+-- a chunk that goes leaves its run's words and commit, and the request as it was
 pub chunk-left : (log : LogParts) (p : Progress) (u : Used) (k : ℕ) (r : Run) (e : Effect) (w : Used) → chunk_verdict log p u k r ≡ Goes e w → LeftByChunk k p r e
 chunk-left log p u k r e w is =
     let like = chunk-like log p u k r e w is in
@@ -105,7 +106,7 @@ given-brings None next u = tt
 given-brings (Some n) None u = tt
 given-brings (Some n) (Some r) u = branch (IfBrings (Some n)) (fits n r) (Some (record { input = Some r; used = with_input u })) None (λ e. fits-brings n r e) (λ _. tt)
 
--- a step of a thread of these, on a memory of whole words
+-- a sound thread, of at most 15, on a memory of whole words, with a sound request
 pub record CanStep (ts : List Parts) (t : Parts) (m : List ℕ) (request : Option Request) : Type 0 where
   pub whole : length m % 4 ≡ 0
   pub thread : IsThread t
@@ -121,6 +122,7 @@ served-left log p k ts t m (Some g) f w can brings is =
     (serial-effect (length m) k ts p.request t m g.input refl can.whole brings can.thread can.request_sound can.few)
     (interrupted-like (interrupt_at log.interrupts k e.thread.commits) e g.used f w is)
 
+-- a serial step that goes stores inside the memory, and leaves its commit and a sound request
 pub step-left : (log : LogParts) (p : Progress) (u : Used) (k : ℕ) (ts : List Parts) (t : Parts) (m : List ℕ) (e : Effect) (w : Used) → CanStep ts t m p.request → serial_verdict log p u k ts t m ≡ Goes e w → LeftByStep (length m) k e
 unfolding serial_verdict
 step-left log p u k ts t m e w can is =
@@ -131,6 +133,7 @@ step-left log p u k ts t m e w can is =
 dma-words-in : (size : ℕ) (log : LogParts) (u : Used) (v : DmaVerdict) (ws : List Stored) → IfDmaGoes size log u v → v ≡ DmaGoes ws → AreInside size ws
 dma-words-in size log u v ws h is = (subst (IfDmaGoes size log u) is h).words_sound.inside
 
+-- the words of a DMA that goes are inside the memory
 pub dma-inside : (size : ℕ) (log : LogParts) (p : Progress) (u : Used) (ws : List Stored) → size % 4 ≡ 0 → IsSoundIf size p.request → dma_verdict log p u ≡ DmaGoes ws → AreInside size ws
 dma-inside size log p u ws whole request is = dma-words-in size log u (dma_verdict log p u) ws (dma-goes size log p u whole request) is
 

@@ -1,4 +1,4 @@
--- What a verdict came to, from the answer of the replayer: a commit went, or the play ends before it.
+-- By the replayer's answer a commit went as its verdict says, or the play ends before it.
 use Rattle.std.proofs.Common.{◌≡◌, ℕ, zero, suc, ◌-◌, Bool, true, false, List, [], ◌∷◌, ◌++◌, length, map, set, get_or, length-set, Option, Some, None, Ok, refl, sym, ap, ◌∙◌}
 use Rattle.std.specs.Prelude.{slice_get, replicate}
 use Rattle.std.proofs.lemmas.Bool.{true≢false}
@@ -32,7 +32,7 @@ why_in d (Answer.Diverged why) = why
 
 -- ---- a commit of a thread went
 
--- as its effect says
+-- the verdict goes, and the replay, the threads and the request are as its effect says
 pub record HasGone (r : Replaying) (p : Progress) (k : ℕ) (ts : List Parts) (v : Verdict) (new : Replaying) (us : List Parts) (q : Option Request) : Type 0 where
   pub effect : Effect
   pub used : Used
@@ -41,6 +41,7 @@ pub record HasGone (r : Replaying) (p : Progress) (k : ℕ) (ts : List Parts) (v
   pub threads : us ≡ with_threads k effect ts
   pub request : q ≡ effect.request
 
+-- a chunk that the replayer lets go has a verdict that goes, and leaves what its effect says
 pub chunk-gone : (r : Replaying) (p : Progress) (k : ℕ) (ts : List Parts) (rq : Option Request) (served s : Served) (v : Verdict) (new : Replaying) (us : List Parts) (q : Option Request)
     → record { verdict = Answer.Went; replay = new; threads = us; request = q; served = s } ≡ chunk_judged r p k ts ts rq served v
     → HasGone r p k ts v new us q
@@ -56,13 +57,14 @@ chunk-gone r p k ts rq served s (Goes e u) new us q is =
       request = ap (λ (j : replay.Judged). j.request) is;
     }
 
--- with what was served
+-- a serial step went, and its words, loads and outputs are those of its effect
 pub record HasServed (r : Replaying) (p : Progress) (k : ℕ) (ts : List Parts) (v : Verdict) (new : Replaying) (us : List Parts) (q : Option Request) (left : Left) : Type 0 where
   pub gone : HasGone r p k ts v new us q
   pub words : left.words.words ≡ gone.effect.words
   pub loads : left.loads ≡ gone.effect.commit.loads
   pub outputs : left.outputs ≡ gone.effect.commit.outputs
 
+-- a serial step that the replayer lets go has a verdict that goes, and leaves and serves what its effect says
 pub step-gone : (r : Replaying) (p : Progress) (k : ℕ) (ts : List Parts) (rq : Option Request) (v : Verdict) (new : Replaying) (us : List Parts) (q : Option Request) (left : Left)
     → record { verdict = Answer.Went; replay = new; threads = us; request = q; served = served_left (Ok left) } ≡ serial_judged r p k ts rq nothing_served v
     → HasServed r p k ts v new us q left
@@ -93,6 +95,7 @@ pub record Fell (r : Replaying) (ts : List Parts) (rq : Option Request) (v : Ver
   pub threads : us ≡ ts
   pub request : q ≡ rq
 
+-- a chunk at which the replayer diverges has a verdict that fails, and only the end is noted
 pub chunk-fell : (r : Replaying) (p : Progress) (k : ℕ) (ts : List Parts) (rq : Option Request) (served s : Served) (v : Verdict) (because : Why) (new : Replaying) (us : List Parts) (q : Option Request)
     → record { verdict = Answer.Diverged because; replay = new; threads = us; request = q; served = s } ≡ chunk_judged r p k ts ts rq served v
     → Fell r ts rq v new us q
@@ -107,6 +110,7 @@ chunk-fell r p k ts rq served s (Fails why) because new us q is =
       request = ap (λ (j : replay.Judged). j.request) is;
     }
 
+-- a serial step at which the replayer diverges has a verdict that fails, and only the end is noted
 pub step-fell : (r : Replaying) (p : Progress) (k : ℕ) (ts : List Parts) (rq : Option Request) (served s : Served) (v : Verdict) (because : Why) (new : Replaying) (us : List Parts) (q : Option Request)
     → record { verdict = Answer.Diverged because; replay = new; threads = us; request = q; served = s } ≡ serial_judged r p k ts rq served v
     → Fell r ts rq v new us q
@@ -123,12 +127,13 @@ step-fell r p k ts rq served s (Fails why) because new us q is =
 
 -- ---- DMAs
 
--- it stores these words
+-- a DMA's verdict goes with these words, and no request is left
 pub record HasTransferred (r : Replaying) (p : Progress) (ts : List Parts) (v : DmaVerdict) (new : Replaying) (q : Option Request) (words : List Stored) : Type 0 where
   pub verdict : v ≡ DmaGoes words
   pub replay : new ≡ transferred r p ts
   pub request : q ≡ None
 
+-- a DMA that the replayer lets go has a verdict that goes with its words, and leaves no request
 pub dma-gone : (r : Replaying) (p : Progress) (ts us : List Parts) (rq : Option Request) (v : DmaVerdict) (new : Replaying) (q : Option Request) (words : Words)
     → record { verdict = Answer.Went; replay = new; threads = us; request = q; served = served_stored (Ok words) } ≡ dma_judged r p ts rq nothing_served v
     → HasTransferred r p ts v new q words.words
@@ -141,6 +146,7 @@ dma-gone r p ts us rq (DmaGoes ws) new q words is =
       request = ap (λ (j : replay.Judged). j.request) is;
     }
 
+-- a DMA at which the replayer diverges has a verdict that fails for that reason, and only the end is noted
 pub dma-fell : (r : Replaying) (p : Progress) (ts us : List Parts) (rq : Option Request) (served s : Served) (v : DmaVerdict) (because : Why) (new : Replaying) (q : Option Request)
     → record { verdict = Answer.Diverged because; replay = new; threads = us; request = q; served = s } ≡ dma_judged r p ts rq served v
     → (v ≡ DmaFails because) × (new ≡ diverged because r) × (q ≡ rq)
@@ -152,7 +158,7 @@ dma-fell r p ts us rq served s (DmaFails why) because new q is =
 
 -- ---- the threads while a chunk is judged
 
--- nothing is served by a chunk, and its thread is put back where the play leaves its log
+-- a chunk that went is judged as one that served nothing, with its threads as they were before
 pub went-judged : (r : Replaying) (p : Progress) (k : ℕ) (ts mid : List Parts) (rq : Option Request) (served s : Served) (v : Verdict) (new : Replaying) (us : List Parts) (q : Option Request)
     → record { verdict = Answer.Went; replay = new; threads = us; request = q; served = s } ≡ chunk_judged r p k ts mid rq served v
     → record { verdict = Answer.Went; replay = new; threads = us; request = q; served = nothing_served } ≡ chunk_judged r p k ts ts rq nothing_served v
@@ -161,6 +167,7 @@ went-judged r p k ts mid rq served s (Fails why) new us q is = absurd (true≢fa
 went-judged r p k ts mid rq served s (Goes e u) new us q is =
     λ i. record { verdict = Answer.Went; replay = (is i).replay; threads = (is i).threads; request = (is i).request; served = nothing_served }
 
+-- a chunk at which the replayer diverges is judged as one that served nothing, with the threads put back
 pub left-judged : (r : Replaying) (p : Progress) (k : ℕ) (ts mid back : List Parts) (rq : Option Request) (served s : Served) (v : Verdict) (why : Why) (new : Replaying) (us : List Parts) (q : Option Request) → back ≡ ts
     → record { verdict = Answer.Diverged why; replay = new; threads = us; request = q; served = s } ≡ chunk_judged r p k ts mid rq served v
     → record { verdict = Answer.Diverged why; replay = new; threads = back; request = q; served = nothing_served } ≡ chunk_judged r p k ts ts rq nothing_served v
@@ -169,13 +176,13 @@ left-judged r p k ts mid back rq served s (Goes e u) why new us q same is = absu
 left-judged r p k ts mid back rq served s (Fails because) why new us q same is =
     λ i. record { verdict = (is i).verdict; replay = (is i).replay; threads = same i; request = (is i).request; served = nothing_served }
 
--- with this state of thread k, and then its own again
+-- a thread changed and put back leaves the threads as they were
 pub put_back : (ts : List Parts) (k : ℕ) (s t : Parts) → slice_get ts k ≡ Some t → set (set ts k s) k t ≡ ts
 put_back [] k s t is = refl
 put_back (x ∷ xs) zero s t is = let same : x ≡ t = (let e : Some x ≡ Some t = is in cc) in ap (λ y. y ∷ xs) (sym same)
 put_back (x ∷ xs) (suc k) s t is = ap (λ ys. x ∷ ys) (put_back xs k s t is)
 
--- a thread's state moves on, and its number of commits stays
+-- where a thread's state moves on and its number of commits stays, so do all counts of commits
 pub same_commits : (ts : List Parts) (k : ℕ) (s t : Parts) → slice_get ts k ≡ Some t → s.commits ≡ t.commits → commits_of (set ts k s) ≡ commits_of ts
 same_commits ts k s t is same =
     let f : Parts → ℕ = λ p. p.commits in

@@ -1,4 +1,4 @@
--- Words over a memory, and words that are laid into it.
+-- Words over a memory stay inside it, and laying them one after another lays them all.
 use Rattle.std.proofs.Common.{Result, Ok, Err, OnOk, is_ok, is_err, ◌≡◌, ℕ, ◌+◌, ◌*◌, ◌/◌, ◌%◌, ◌<◌, ◌≤◌, Bool, true, false, nat_eq, List, [], ◌∷◌, length, drop, slice_get, Some, None, if◌then◌else◌, refl, sym, ◌∙◌, ap, subst, arith}
 use Rattle.spec_isa.specs.Words.{Stored, Apart, IsBytes, lay, lays, merged, put, read}
 use Rattle.spec_isa.specs.Masks.{over, bytes_of}
@@ -26,6 +26,7 @@ pub first_inside : (size : ℕ) (ws : List Stored) (s : Stored) → slice_get ws
 first_inside size [] s e all = cc
 first_inside size (r ∷ rs) s e all = subst (λ (q : Stored). 4 * q.word + 4 ≤ size) (let h : r ≡ s = cc in h) all.0
 
+-- the first word laid, and then the others, is all words laid
 pub first_laid : (m : List ℕ) (ws : List Stored) (s : Stored) → slice_get ws 0 ≡ Some s → lays (lay m s) (drop 1 ws) ≡ lays m ws
 first_laid m [] s e = cc
 first_laid m (r ∷ rs) s e = ap (λ (q : Stored). lays (lay m q) rs) (let h : s ≡ r = cc in h)
@@ -45,11 +46,12 @@ pub no_first : (ws : List Stored) → slice_get ws 0 ≡ None → ws ≡ []
 no_first [] e = refl
 no_first (r ∷ rs) e = cc
 
--- a word of the memory with the words over it
+-- a word of the memory, with the words over it, is the one that laying them shows
 pub word_shown : (m : List ℕ) (ws : List Stored) (addr : ℕ) → Apart ws → IsBytes m → addr % 4 ≡ 0 → addr + 4 ≤ length m
     → over ws (addr / 4) (read m (addr / 4)) ≡ read (lays m ws) (addr / 4)
 word_shown m ws addr apart bytes aligned inside = sym (read_over m ws (addr / 4) apart bytes (omega arith))
 
+-- an address inside a memory with words over it is inside the memory
 pub within : (m : List ℕ) (ws : List Stored) (addr : ℕ) → addr + 4 ≤ length (lays m ws) → addr + 4 ≤ length m
 within m ws addr h = omega (arith, length_lays m ws)
 
@@ -63,6 +65,7 @@ shown_put m o n a mask value apart taken capacity e =
       bytes = ap (λ (w : Words). lays m w.words) e ∙ lays_put m o.words (bytes_of a mask value) apart;
     }
 
+-- words inside a memory stay inside it with one more that is
 pub inside_after : (m : List ℕ) (o n : Words) (b : Stored) → AreInside (length m) o.words → 4 * b.word + 4 ≤ length m → n ≡ record { capacity = o.capacity; words = put o.words b } → AreInside (length m) n.words
 inside_after m o n b all one_ e = subst (λ (w : Words). AreInside (length m) w.words) (sym e) (inside_put (length m) o.words b all one_)
 
@@ -70,19 +73,23 @@ bytes_of_word : (word mask value : ℕ) → (bytes_of word mask value).word ≡ 
 unfolding bytes_of
 bytes_of_word word mask value = refl
 
+-- a store to an aligned address inside a memory makes a word inside it
 pub store_inside : (m : List ℕ) (ws : List Stored) (addr mask value : ℕ) → addr % 4 ≡ 0 → addr + 4 ≤ length (lays m ws) → 4 * (bytes_of (addr / 4) mask value).word + 4 ≤ length m
 store_inside m ws addr mask value aligned inside =
     let h = bytes_of_word (addr / 4) mask value in omega (arith, h, within m ws addr inside)
 
+-- once the first word is laid into the memory, the others are inside it still
 pub still_inside : (m : List ℕ) (ws : List Stored) (n : List ℕ) (w : Words) {capacity : ℕ} (s : Stored) → n ≡ lay m s → w ≡ record { capacity = capacity; words = drop 1 ws }
     → AreInside (length m) ws → AreInside (length n) w.words
 still_inside m ws n w s e f all =
     subst (λ (x : List ℕ). AreInside (length x) w.words) (sym e) (subst (λ (x : Words). AreInside (length (lay m s)) x.words) (sym f) (first_rest_inside m ws s all))
 
+-- what holds of an Ok holds of a result that is no error
 pub stored_if : {A E : Type 0} (r : Result A E) (P : Type 0) → OnOk r P → is_err r ≡ false → P
 stored_if (Ok x) P h e = h
 stored_if (Err x) P h e = cc
 
+-- a result that is no error is an Ok
 pub ok_if : {A E : Type 0} (r : Result A E) → is_err r ≡ false → is_ok r ≡ true
 ok_if (Ok x) e = refl
 ok_if (Err x) e = cc

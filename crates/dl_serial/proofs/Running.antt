@@ -118,6 +118,7 @@ kind_by s None kind made store e =
 kind_found : (o : Overlaid) (t : Parts) (kind : Kind) → Did.Serial kind ≡ did (sight_of o) t → kind_of o t ≡ Some kind
 kind_found o t kind d = kind_by (sight_of o) (kind_of o t) kind (load_made (sight_of o) t) (store_made (sight_of o) t) (d ∙ did_is o t)
 
+-- a thread whose instruction is found serial has a serial next step on the memory with the words over it
 pub serial-found : (o : Overlaid) (t : Parts) (kind : Kind) → Did.Serial kind ≡ did (sight_of o) t → IsSome (next_kind t (lays o.memory o.words))
 serial-found o t kind d = subst IsSome (sym (kind_is o t ∙ kind_found o t kind d)) refl
 

@@ -1,4 +1,4 @@
--- Runs: how many words they store, and when they have no instruction.
+-- A run stores no more words than it has instructions, and stops where a serial one is next.
 use Rattle.std.proofs.Common.{◌≡◌, ℕ, zero, suc, ◌<◌, ◌≤◌, List, length, Option, Some, None, refl, sym, ◌∙◌, ap, subst, arith}
 use Rattle.std.specs.Prelude.{IsSome}
 use Rattle.spec_isa.specs.declared.thread.Parts.{Parts}
@@ -20,7 +20,7 @@ follow_few : (r : Run) (o : Outcome) → length r.words ≤ r.n → length (foll
 follow_few r (Serial kind) l = l
 follow_few r (Next t load store) l = store_few r.words store r.n l
 
--- no more words than instructions
+-- a run stores no more words than it has instructions
 pub run-few : (m : List ℕ) (t : Parts) (n : ℕ) → length (run m t n).words ≤ (run m t n).n
 run-few m t zero = omega arith
 run-few m t (suc n) = follow_few (run m t n) (one (run m t n).thread (lays m (run m t n).words)) (run-few m t n)
@@ -42,7 +42,7 @@ none-run m t (suc (suc n)) l e =
 
 -- ---- a run that was stopped
 
--- before a serial instruction
+-- a run that stops before a serial instruction is the run of its whole limit
 pub stopped-run : (m : List ℕ) (t : Parts) (n limit : ℕ) (c : Chunk) (words : List Stored) → n ≤ limit → 0 < limit → (run m t n).n ≡ n → IsSome (next_kind (run m t n).thread (lays m (run m t n).words))
     → c ≡ chunk_of (run m t (suc n)) → words ≡ (run m t (suc n)).words → HasRun m t limit c words
 stopped-run m t n limit c words most some ran serial is stored =

@@ -1,4 +1,4 @@
--- Where a play has come by a verdict, and that it stands there.
+-- A play stands where the verdict on its next commit settles it, whether that goes or fails.
 use Rattle.std.proofs.Common.{◌≡◌, ℕ, suc, ◌+◌, ◌<◌, List, [], ◌∷◌, ◌++◌, length, Option, refl, sym, ap, ◌∙◌, subst, arith}
 use Rattle.std.proofs.lemmas.Option.{slice_get_within}
 use Rattle.dl_entry.specs.declared.Commit.{Commit}
@@ -119,7 +119,7 @@ left-playing r s why new n l h =
 
 -- ---- DMAs
 
--- what the code has then
+-- a DMA's words are laid into the memory, its commit is added, and the threads are as they were
 pub record HasStored (s new : Sphere) (words : List Stored) : Type 0 where
   pub memory : new.store.memory ≡ lays s.store.memory words
   pub threads : new.threads ≡ s.threads
@@ -158,7 +158,7 @@ dma-left-settled r s v why new n is l h = left-played r s why new n l h ∙ ap (
 
 -- ---- where the play stands then
 
--- room was made for a commit
+-- a sphere that has only made room for a commit is where it was in the play
 pub reserved-played : (r : Replaying) (s n : Sphere) → n.store ≡ s.store → n.threads ≡ s.threads → n.request ≡ s.request → n.commits.items ≡ s.commits.items → played_in r n ≡ played_in r s
 reserved-played r s n store threads request commits =
     λ i. record {
@@ -169,6 +169,7 @@ reserved-played r s n store threads request commits =
       now = r.now;
     }
 
+-- a sphere that has only made room for a commit still plays
 pub reserved-playing : (r : Replaying) (s n : Sphere) → n.store ≡ s.store → n.threads ≡ s.threads → n.request ≡ s.request → n.commits.items ≡ s.commits.items → IsPlaying r s → IsPlaying r n
 reserved-playing r s n store threads request commits h =
     record {
@@ -189,6 +190,7 @@ still-stands r new s n same store threads request commits h =
       playing = subst (λ (x : Replaying). IsPlaying x n) (sym same) (reserved-playing r s n store threads request commits h);
     }
 
+-- a chunk that went, with its words laid and its commit added, stands where its verdict settles the play
 pub chunk-stands : (r : Replaying) (s : Sphere) (k : ℕ) (ran : Run) (new : Replaying) (n : Sphere)
     → HasGone r (progress_in r s) k s.threads (chunk_verdict r.log (progress_in r s) r.used k ran) new n.threads n.request
     → n.store.memory ≡ lays s.store.memory ran.words → n.commits.items ≡ s.commits.items ++ chunk_commit k ran ∷ [] → IsPlaying r s
@@ -209,6 +211,7 @@ chunk-stands r s k ran new n g memory commits h =
       playing = gone-playing r s k v new n g kept (subst (IsSoundIf (length s.store.memory)) (sym left.request) h.request) h;
     }
 
+-- the words of a serial step that went are inside the memory
 pub step-inside : (r : Replaying) (s : Sphere) (k : ℕ) (t : Parts) (new : Replaying) (us : List Parts) (q : Option Request) (left : Left) → CanStep s.threads t s.store.memory s.request
     → HasServed r (progress_in r s) k s.threads (serial_verdict r.log (progress_in r s) r.used k s.threads t s.store.memory) new us q left
     → AreInside (length s.store.memory) left.words.words
@@ -216,6 +219,7 @@ step-inside r s k t new us q left can g =
     let p = progress_in r s in
     subst (AreInside (length s.store.memory)) (sym g.words) (step-left r.log p r.used k s.threads t s.store.memory g.gone.effect g.gone.used can g.gone.verdict).inside
 
+-- a serial step that went, with its words laid and its commit added, stands where its verdict settles the play
 pub step-stands : (r : Replaying) (s : Sphere) (k : ℕ) (t : Parts) (new : Replaying) (n : Sphere) (left : Left) → CanStep s.threads t s.store.memory s.request
     → HasServed r (progress_in r s) k s.threads (serial_verdict r.log (progress_in r s) r.used k s.threads t s.store.memory) new n.threads n.request left
     → n.store.memory ≡ lays s.store.memory left.words.words → n.commits.items ≡ s.commits.items ++ serial_commit k left.loads left.outputs ∷ [] → IsPlaying r s
@@ -239,6 +243,7 @@ step-stands r s k t new n left can g memory commits h =
       playing = gone-playing r s k v new n g.gone kept by.request h;
     }
 
+-- a DMA that went, with its words laid and its commit added, stands where its verdict settles the play
 pub dma-stands : (r : Replaying) (s : Sphere) (v : DmaVerdict) (new : Replaying) (n : Sphere) (ws : List Stored) → HasTransferred r (progress_in r s) s.threads v new n.request ws → HasStored s n ws → IsPlaying r s
     → StandsAt r.log (dma_settled r.log (played_in r s) v) new n
 dma-stands r s v new n ws g kept h =
@@ -248,7 +253,7 @@ dma-stands r s v new n ws g kept h =
       playing = dma-playing r s v new n ws g kept h;
     }
 
--- only the end was noted
+-- where a verdict fails and only the end is noted, the play stands where that settles it
 pub fell-stands : (r : Replaying) (s : Sphere) (k : ℕ) (v : Verdict) (new : Replaying) (n : Sphere) → Fell r s.threads s.request v new n.threads n.request → n.store.memory ≡ s.store.memory → n.commits.items ≡ s.commits.items → IsPlaying r s
     → StandsAt r.log (settled r.log (played_in r s) k v) new n
 fell-stands r s k v new n f memory commits h =
@@ -259,6 +264,7 @@ fell-stands r s k v new n f memory commits h =
       playing = left-playing r s f.why new n l h;
     }
 
+-- where a DMA's verdict fails and only the end is noted, the play stands where that settles it
 pub dma-fell-stands : (r : Replaying) (s : Sphere) (v : DmaVerdict) (why : Why) (new : Replaying) (n : Sphere) → v ≡ DmaFails why → HasLeft r new s n why → IsPlaying r s
     → StandsAt r.log (dma_settled r.log (played_in r s) v) new n
 dma-fell-stands r s v why new n is l h =

@@ -33,7 +33,7 @@ no_pieces (Over how) k = refl
 max_of : (w : ℕ) → 0 < w → max 1 (w - 0) ≡ w
 max_of w l = omega arith
 
--- where no piece stands, it is that of the whole commit
+-- where no piece stands, the limit is that of the whole commit
 pub whole-is : (s : ℕ) (b : Cursor) (k : ℕ) (t : Parts) → b.total ≡ 0 → 0 < whole_limit b.log k t.commits → limit_of s (Replay b) k t ≡ whole_limit b.log k t.commits
 unfolding limit_of
 whole-is s b k t none some =
@@ -85,12 +85,12 @@ sized log p u k m t =
 
 -- ---- verdicts
 
--- of a chunk that has instructions
+-- a thread with instructions before its next serial one gets the verdict on a chunk of them
 pub chunk-turn : (log : LogParts) (y : Played) (k : ℕ) (t : Parts) (n : ℕ) → 0 < n → run y.memory t (whole_limit log k t.commits) ≡ run y.memory t n → (run y.memory t n).n ≡ n
     → thread_verdict log y k t (next_kind t y.memory) ≡ chunk_verdict log y.progress y.used k (run y.memory t (whole_limit log k t.commits))
 chunk-turn log y k t n some same ran = ap (thread_verdict log y k t) (run-first y.memory t n some ran) ∙ sized log y.progress y.used k y.memory t
 
--- where a serial instruction is next
+-- a thread whose next instruction is serial gets the verdict on that step
 pub step-turn : (log : LogParts) (y : Played) (k : ℕ) (t : Parts) → IsSome (next_kind t y.memory) → thread_verdict log y k t (next_kind t y.memory) ≡ serial_verdict log y.progress y.used k y.threads t y.memory
 step-turn log y k t some = by_kind (next_kind t y.memory) some
   where

@@ -1,4 +1,4 @@
--- One turn of a play, and what the player is seen as after it.
+-- A turn of a play settles the verdict on what is next, and the player is seen so after it.
 use Rattle.std.proofs.Common.{◌≡◌, ℕ, ◌+◌, ◌-◌, ◌<◌, ◌≤◌, Some, Result, Ok, Err, OnOk, OnErr, sym, ap, ◌∙◌, arith}
 use Rattle.std.specs.Prelude.{slice_get, IsSome}
 use Rattle.std.proofs.lemmas.Bool.{true≢false}
@@ -23,7 +23,7 @@ thread_turn : (log : LogParts) (y : Played) (k : ℕ) (t : Parts) → y.now ≡ 
 unfolding play_one
 thread_turn log y k t turn there = ap (play_now log y) turn ∙ ap (play_thread log y k) there
 
--- a chunk of thread k, which has instructions
+-- at the turn of a thread with instructions to run, the play goes on as the verdict on that chunk settles it
 pub chunk-played : (log : LogParts) (was y : Played) (k : ℕ) (t : Parts) (n limit : ℕ) → was ≡ y → y.now ≡ Turn k → slice_get y.threads k ≡ Some t → limit ≡ whole_limit log k t.commits
     → 0 < n → run y.memory t limit ≡ run y.memory t n → (run y.memory t n).n ≡ n
     → settled log was k (chunk_verdict log was.progress was.used k (run y.memory t limit)) ≡ play_one log y
@@ -33,7 +33,7 @@ chunk-played log was y k t n limit same turn there size some stops ran =
     ∙ ap (settled log y k) (sym (chunk-turn log y k t n some (ap (run y.memory t) (sym size) ∙ stops) ran))
     ∙ sym (thread_turn log y k t turn there)
 
--- its serial step
+-- at the turn of a thread at a serial instruction, the play goes on as the verdict on the step settles it
 pub step-played : (log : LogParts) (was y : Played) (k : ℕ) (t : Parts) → was ≡ y → y.now ≡ Turn k → slice_get y.threads k ≡ Some t → IsSome (next_kind t y.memory)
     → settled log was k (serial_verdict log was.progress was.used k was.threads t was.memory) ≡ play_one log y
 step-played log was y k t same turn there serial =
@@ -41,12 +41,14 @@ step-played log was y k t same turn there serial =
     ∙ ap (settled log y k) (sym (step-turn log y k t serial))
     ∙ sym (thread_turn log y k t turn there)
 
+-- at the turn of a DMA, the play goes on as the verdict on the DMA settles it
 pub dma-played : (log : LogParts) (y : Played) → y.now ≡ TurnOfDma → dma_settled log y (dma_verdict log y.progress y.used) ≡ play_one log y
 unfolding play_one
 dma-played log y turn = sym (ap (play_now log y) turn)
 
 -- ---- the player
 
+-- the player is seen as its play with one turn more
 pub seen-played : (log : LogParts) (y z : Played) (new : Replaying) (n : Sphere) (v : Playing) → z ≡ play_one log y → (let w : Playing = record { log = log; played = y } in w ≡ v) → StandsAt log z new n
     → (let w : Playing = record { log = new.log; played = played_in new n } in w ≡ record v { played = play_one v.log v.played })
 seen-played log y z new n v one is at =
@@ -54,10 +56,12 @@ seen-played log y z new n v one is at =
 
 -- ---- either way
 
+-- where P implies Q, an Ok of which P holds is one of which Q does
 pub on-ok : {A E : Type 0} (r : Result A E) (P Q : Type 0) → (P → Q) → OnOk r P → OnOk r Q
 on-ok (Ok x) P Q f p = f p
 on-ok (Err e) P Q f p = tt
 
+-- what follows of an Ok and of an Err follows of any result
 pub on-both : {A E : Type 0} (r : Result A E) (P Q R : Type 0) → (P → R) → (Q → R) → OnOk r P → OnErr r Q → R
 on-both (Ok x) P Q R f g p q = f p
 on-both (Err e) P Q R f g p q = g q

@@ -1,9 +1,4 @@
-pub mod Copies
-pub mod Keeps
-pub mod Taking
-pub mod Steps
-mod Living
-mod Starting
-mod Limits
-pub mod Judges
-mod Comes
+pub mod Replays
+pub mod Standing
+pub mod Live
+pub mod Lists

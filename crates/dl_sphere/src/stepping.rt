@@ -29,7 +29,7 @@ pub(crate) struct Left {
 }
 
 // Does the step, keeps its commit and notes it where the sphere is recorded; or nothing of all that.
-#[tactic(auto, using(crate::proofs::Taking::record_taken, crate::proofs::Taking::devices_taken, crate::proofs::Taking::input_taken))]
+#[tactic(auto, using(crate::proofs::Live::Devices::record_taken, crate::proofs::Live::Devices::devices_taken, crate::proofs::Live::Devices::input_taken))]
 pub(crate) fn live_step(
     alloc: Global,
     commits: &mut Vec<Commit>,

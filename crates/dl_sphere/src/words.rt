@@ -8,7 +8,7 @@ use dl_wbuf::{Buffer, Stored};
 use std::alloc::Global;
 
 // A buffer of the same words.
-#[tactic(auto, using(crate::proofs::Copies::has_room_taken, crate::proofs::Copies::put_taken))]
+#[tactic(auto, using(crate::proofs::Lists::Words::has_room_taken, crate::proofs::Lists::Words::put_taken))]
 pub(crate) fn copied(alloc: Global, words: &Buffer) -> Result<Buffer, OutOfMemory>
     ensures { IfOk result (λ copy. copy.words ≡ words.now.words) }
 {

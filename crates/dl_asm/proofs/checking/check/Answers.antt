@@ -3,7 +3,7 @@ use Rattle.dl_asm.specs.declared.error.Rule.{Rule}
 use Rattle.dl_asm.specs.Seen.{seen}
 use Rattle.dl_asm.specs.Lines as lines
 use Rattle.dl_asm.specs.Sources.{broken, broken_by, statement_said, statement_by, number_of}
-use Rattle.dl_asm.proofs.Exactness.{short}
+use Rattle.dl_asm.proofs.Numbers.Statements.{short}
 use Rattle.dl_asm.proofs.checking.check.Goals as goal
 
 pub returns-in-Misspelled-clause-answer : goal.returns-in-Misspelled-clause-answer

@@ -1,7 +1,7 @@
 use Rattle.std.proofs.Common.{◌≡◌, ◌∙◌, ◌<◌, ◌≤◌, true, false, sym, arith}
 use Rattle.std.proofs.lemmas.Bool.Decides.{nat_tests}
 use Rattle.dl_asm.specs.Sources.{is_too_long}
-use Rattle.dl_asm.proofs.Exactness.{out-of-range, with-label, exact-number}
+use Rattle.dl_asm.proofs.Numbers.Statements.{out-of-range, with-label, exact-number}
 use Rattle.dl_asm.proofs.checking.checked.Goals as goal
 
 pub returns-then-is_out_of_range-clause-answer : goal.returns-then-is_out_of_range-clause-answer

@@ -3,7 +3,7 @@ use Rattle.std.specs.Option.{option_map, option_or}
 use Rattle.dl_asm.specs.Numbers.{number_in, number_held}
 use Rattle.dl_asm.specs.Values.{address_number}
 use Rattle.dl_asm.specs.Sources.{number_by_label}
-use Rattle.dl_asm.proofs.Exactness.{number-by-place, none-held, place-words}
+use Rattle.dl_asm.proofs.Numbers.Statements.{number-by-place, none-held, place-words}
 use Rattle.dl_asm.proofs.checking.number.Goals as goal
 
 pub returns-then-is_empty : goal.returns-then-is_empty

@@ -6,8 +6,8 @@ use Rattle.dl_asm.specs.Sources.{lines_of, line_at, place_of, label_place, repea
 use Rattle.dl_asm.specs.Values as values
 use Rattle.spec_isa.specs.Denoted.{denoted}
 use Rattle.spec_isa.specs.Encoding.{spelling}
-use Rattle.dl_asm.proofs.Coding.{IsCoded, coded-more, all-coded, where-labels, broken-here}
-use Rattle.dl_asm.proofs.Splits.{line-turn, line-end}
+use Rattle.dl_asm.proofs.Words.Coding.{IsCoded, coded-more, all-coded, where-labels, broken-here}
+use Rattle.dl_asm.proofs.Texts.Lines.{line-turn, line-end}
 use Rattle.dl_asm.proofs.code.code.Goals as goal
 
 pub returns-in-Err : goal.returns-in-Err

@@ -1,6 +1,6 @@
 use Rattle.std.proofs.Common.{length}
 use Rattle.dl_asm.specs.Sources.{lines_of}
-use Rattle.dl_asm.proofs.Coding.{IsCoded}
+use Rattle.dl_asm.proofs.Words.Coding.{IsCoded}
 use Rattle.dl_asm.proofs.code.code.Given as goal
 
 abbrev pub invariant-loop-text : goal.invariant-loop-text

@@ -1,7 +1,7 @@
 use Rattle.std.proofs.Common.{◌∙◌, sym, ap, take}
 use Rattle.std.specs.List.{position}
 use Rattle.dl_asm.specs.Sources.{has_label, repeats}
-use Rattle.dl_asm.proofs.Tables.{repeated, entry-before, entry-absent}
+use Rattle.dl_asm.proofs.Words.Labels.{repeated, entry-before, entry-absent}
 use Rattle.dl_asm.proofs.code.is_repeated.Goals as goal
 
 pub returns-in-Some-get : goal.returns-in-Some-get

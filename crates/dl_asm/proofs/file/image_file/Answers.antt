@@ -1,7 +1,7 @@
 use Rattle.std.proofs.Common.{◌∙◌, ◌++◌, ◌*◌, ap, sym, arith, length}
 use Rattle.dl_elf.specs.Loading.{image_of}
 use Rattle.dl_asm.specs.File.{allowed, code_of}
-use Rattle.dl_asm.proofs.Loading.{loaded-file, file-parts, code-length}
+use Rattle.dl_asm.proofs.Words.Loading.{loaded-file, file-parts, code-length}
 use Rattle.dl_asm.proofs.file.image_file.Goals as goal
 
 pub returns-clause-bytes : goal.returns-clause-bytes

@@ -6,8 +6,8 @@ use Rattle.dl_asm.specs.Numbers.{held}
 use Rattle.dl_asm.specs.Lines.{count_of, count_said}
 use Rattle.dl_asm.specs.Labels.{entry_after, entry_at}
 use Rattle.dl_asm.specs.Sources.{lines_of, place_of, has_label}
-use Rattle.dl_asm.proofs.Splits.{line-turn, line-end}
-use Rattle.dl_asm.proofs.Tables.{entry-more, place-more, held-more}
+use Rattle.dl_asm.proofs.Texts.Lines.{line-turn, line-end}
+use Rattle.dl_asm.proofs.Words.Labels.{entry-more, place-more, held-more}
 use Rattle.dl_asm.proofs.labels.labels_of.Goals as goal
 
 pub loop-line-preserved : goal.loop-line-preserved

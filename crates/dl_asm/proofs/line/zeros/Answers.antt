@@ -1,7 +1,7 @@
 use Rattle.std.proofs.Common.{◌∙◌, sym, ap, cond}
 use Rattle.dl_asm.specs.Numbers.{number_in}
 use Rattle.dl_asm.specs.Lines.{zeros_held}
-use Rattle.dl_asm.proofs.Reach.{zeros-held}
+use Rattle.dl_asm.proofs.Numbers.Ranges.{zeros-held}
 use Rattle.dl_asm.proofs.line.zeros.Goals as goal
 
 pub returns-in-Some-clause-value : goal.returns-in-Some-clause-value

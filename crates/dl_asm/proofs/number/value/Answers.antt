@@ -3,7 +3,7 @@ use Rattle.std.specs.Char.{digit_value}
 use Rattle.std.specs.Str.Parse.{digits_value_after}
 use Rattle.std.proofs.lemmas.List.{drop_all}
 use Rattle.dl_asm.specs.Numbers.{held}
-use Rattle.dl_asm.proofs.Digits.{held-before}
+use Rattle.dl_asm.proofs.Numbers.Digits.{held-before}
 use Rattle.dl_asm.proofs.number.value.Goals as goal
 
 pub loop-byte-preserved : goal.loop-byte-preserved

@@ -1,4 +1,4 @@
-use Rattle.dl_asm.proofs.Commas.{operands-one, operands-more}
+use Rattle.dl_asm.proofs.Texts.Operands.{operands-one, operands-more}
 use Rattle.dl_asm.proofs.operands.first_operand.Goals as goal
 
 pub returns-in-Some : goal.returns-in-Some

@@ -1,5 +1,5 @@
 use Rattle.dl_asm.specs.Operands.{operands_in}
-use Rattle.dl_asm.proofs.Commas.{three-of-more}
+use Rattle.dl_asm.proofs.Texts.Operands.{three-of-more}
 use Rattle.dl_asm.proofs.operands.three.Goals as goal
 
 pub returns-in-Some : goal.returns-in-Some

@@ -1,5 +1,5 @@
 use Rattle.dl_asm.specs.Operands.{operands_in}
-use Rattle.dl_asm.proofs.Commas.{two-of-more}
+use Rattle.dl_asm.proofs.Texts.Operands.{two-of-more}
 use Rattle.dl_asm.proofs.operands.two.Goals as goal
 
 pub returns-in-Some : goal.returns-in-Some

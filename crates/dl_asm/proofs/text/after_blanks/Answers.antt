@@ -3,7 +3,7 @@ use Rattle.std.proofs.lemmas.Iterator.{YieldsList-from_slice}
 use Rattle.std.proofs.lemmas.Iterator.Search.{position_from_yields_List}
 use Rattle.std.proofs.lemmas.List.{take_all}
 use Rattle.dl_asm.specs.Characters.{is_blank}
-use Rattle.dl_asm.proofs.Places.{place-either}
+use Rattle.dl_asm.proofs.Texts.Places.{place-either}
 use Rattle.dl_asm.proofs.text.after_blanks.Goals as goal
 
 pub returns : goal.returns

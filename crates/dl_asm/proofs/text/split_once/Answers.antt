@@ -2,7 +2,7 @@ use Rattle.std.proofs.Common.{rules, tests, ◌+◌, ◌∙◌, eqb, ap, take, d
 use Rattle.std.proofs.lemmas.List.{take_all}
 use Rattle.std.proofs.lemmas.Iterator.{YieldsList-from_slice}
 use Rattle.std.proofs.lemmas.Iterator.Search.{position_from_yields_List}
-use Rattle.dl_asm.proofs.Places.{place-none, place-some}
+use Rattle.dl_asm.proofs.Texts.Places.{place-none, place-some}
 use Rattle.dl_asm.proofs.text.split_once.Goals as goal
 
 pub returns-in_err-place : goal.returns-in_err-place

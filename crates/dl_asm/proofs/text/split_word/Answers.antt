@@ -3,7 +3,7 @@ use Rattle.std.proofs.lemmas.List.{take_all, drop_all}
 use Rattle.std.proofs.lemmas.Iterator.{YieldsList-from_slice}
 use Rattle.std.proofs.lemmas.Iterator.Search.{position_from_yields_List}
 use Rattle.dl_asm.specs.Characters.{is_blank}
-use Rattle.dl_asm.proofs.Places.{place-none, place-some}
+use Rattle.dl_asm.proofs.Texts.Places.{place-none, place-some}
 use Rattle.dl_asm.proofs.text.split_word.Goals as goal
 
 pub returns-in-Some-clause-word : goal.returns-in-Some-clause-word

@@ -1,6 +1,6 @@
 use Rattle.std.proofs.Common.{arith}
 use Rattle.std.proofs.lemmas.Result.{err_from_is_err_and}
-use Rattle.dl_logfmt.proofs.ListLaws.{entry-read, entry-unread}
+use Rattle.dl_logfmt.proofs.Drafts.Lists.{entry-read, entry-unread}
 use Rattle.dl_logfmt.proofs.list.read_more.Goals as goal
 
 pub returns-in_err-entry-clause-reads : goal.returns-in_err-entry-clause-reads

@@ -1,6 +1,6 @@
 use Rattle.std.proofs.Common.{arith}
 use Rattle.std.proofs.lemmas.Result.{err_from_is_err_and}
-use Rattle.dl_logfmt.proofs.ListLaws.{last-read, last-unread}
+use Rattle.dl_logfmt.proofs.Drafts.Lists.{last-read, last-unread}
 use Rattle.dl_logfmt.proofs.list.read_order.Goals as goal
 
 pub returns-in_err-last-clause-reads : goal.returns-in_err-last-clause-reads

@@ -1,6 +1,6 @@
 use Rattle.std.proofs.Common.{arith}
 use Rattle.std.proofs.lemmas.Result.{err_from_is_err_and}
-use Rattle.dl_logfmt.proofs.ListLaws.{pair-read, pair-unread}
+use Rattle.dl_logfmt.proofs.Drafts.Lists.{pair-read, pair-unread}
 use Rattle.dl_logfmt.proofs.list.read_pairs.Goals as goal
 
 pub returns-in_err-pair-clause-reads : goal.returns-in_err-pair-clause-reads

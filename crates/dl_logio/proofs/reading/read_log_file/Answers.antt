@@ -4,7 +4,7 @@ use Rattle.std.proofs.lemmas.Result.{IfOk-weaker}
 use Rattle.dl_files.specs.Contents.{HoldsAt}
 use Rattle.dl_logio.specs.Files.{SaysLog, read_view}
 use Rattle.dl_logfmt.specs.Feeding.{IsFeeding, fed as said_of}
-use Rattle.dl_logfmt.proofs.Lasting.{faults_last}
+use Rattle.dl_logfmt.proofs.Feeding.Faults.{faults_last}
 use Rattle.spec_log.specs.Reading.{Fault, read_of}
 use Rattle.dl_logio.proofs.Pieces.{held_by, none_read, more_read, all_read, fault_read, malformed_is_none, ok_is_none}
 use Rattle.dl_logio.proofs.reading.read_log_file.Goals as goal

@@ -6,7 +6,7 @@ use Rattle.spec_play.specs.Progress.{Used}
 use Rattle.spec_play.specs.Verdicts.{Goes, chunk_verdict}
 use Rattle.dl_replay.specs.Judged.{HasRun}
 use Rattle.dl_replay.specs.Replaying.{commits_of}
-use Rattle.dl_sphere.proofs.Judges.{chunk_commits, chunk_went, chunk_left, put_back, same_commits}
+use Rattle.dl_sphere.proofs.Replays.Judging.{chunk_commits, chunk_went, chunk_left, put_back, same_commits}
 use Rattle.dl_sphere.proofs.replaying.end_chunk.Goals as goal
 
 pub end_chunk-requires-clause-commits : goal.end_chunk-requires-clause-commits

@@ -2,7 +2,7 @@ use Rattle.std.proofs.Common.{◌≡◌, ◌∷◌, ◌++◌, [], List, None, ap
 use Rattle.dl_entry.specs.declared.Commit.{Commit}
 use Rattle.spec_play.specs.Verdicts.{serial_verdict}
 use Rattle.dl_sphere.specs.Judging.{Judged}
-use Rattle.dl_sphere.proofs.Judges.{serial_commits, step_went}
+use Rattle.dl_sphere.proofs.Replays.Judging.{serial_commits, step_went}
 use Rattle.dl_sphere.proofs.replaying.serve_step.Goals as goal
 
 pub returns-in-Ok-clause-judged : goal.returns-in-Ok-clause-judged

@@ -8,7 +8,7 @@ use Rattle.spec_kernel.specs.Serving.{Served, serve, console_told}
 use Rattle.spec_log.specs.Log.{IsInput}
 use Rattle.dl_kernel.specs.Served.{served_in}
 use Rattle.dl_kernel.specs.Outside.{devices_left}
-use Rattle.dl_sphere.proofs.Taking.{record_taken, devices_taken, input_taken, if_copied, few_bytes}
+use Rattle.dl_sphere.proofs.Live.Devices.{record_taken, devices_taken, input_taken, if_copied, few_bytes}
 use Rattle.dl_sphere.proofs.stepping.live_step.Goals as goal
 
 pub serve-requires : goal.serve-requires

@@ -1,6 +1,6 @@
 use Rattle.std.proofs.Common.{◌<◌, length, arith, ◌∙◌}
 use Rattle.std.proofs.lemmas.List.{length-set}
-use Rattle.dl_sphere.proofs.Living.{lives-next}
+use Rattle.dl_sphere.proofs.Lists.Threads.{lives-next}
 use Rattle.dl_sphere.proofs.turning.live_of.Goals as goal
 
 pub loop-number-preserved : goal.loop-number-preserved

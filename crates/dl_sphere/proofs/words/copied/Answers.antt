@@ -2,7 +2,7 @@ use Rattle.std.proofs.Common.{◌<◌, ◌≤◌, ◌∙◌, sym, ap, length, No
 use Rattle.std.proofs.lemmas.List.{take_all}
 use Rattle.std.proofs.lemmas.Option.{slice_get-get_or}
 use Rattle.spec_isa.specs.Words.{Stored, put}
-use Rattle.dl_sphere.proofs.Copies.{put_taken}
+use Rattle.dl_sphere.proofs.Lists.Words.{put_taken}
 use Rattle.dl_sphere.proofs.words.copied.Goals as goal
 
 no-word : Stored

@@ -2,7 +2,7 @@ use Rattle.std.proofs.Common.{◌∙◌, sym, ap}
 use Rattle.std.proofs.lemmas.Map.Text.{hash_map_updates_str}
 use Rattle.dl_asm.specs.Labels.{entry_in, entry_after}
 use Rattle.dl_asm.specs.Sources.{is_label}
-use Rattle.dl_asm.proofs.Tables.{kept, added}
+use Rattle.dl_asm.proofs.Words.Labels.{kept, added}
 use Rattle.dl_asm.proofs.labels.Labels.note.Goals as goal
 
 pub returns-then-contains_key : goal.returns-then-contains_key

@@ -1,4 +1,4 @@
-use Rattle.dl_logfmt.proofs.DraftLaws.{feeds-end, feeds-lasting}
+use Rattle.dl_logfmt.proofs.Drafts.Steps.{feeds-end, feeds-lasting}
 use Rattle.dl_logfmt.proofs.draft.Draft.feed.Goals as goal
 
 pub returns-in-Ok-clause-reads : goal.returns-in-Ok-clause-reads

@@ -1,4 +1,4 @@
-use Rattle.dl_logfmt.proofs.DraftLaws.{Came-then, Grew-then}
+use Rattle.dl_logfmt.proofs.Drafts.Steps.{Came-then, Grew-then}
 use Rattle.dl_logfmt.proofs.draft.Draft.read.Goals as goal
 
 pub loop-self-preserved : goal.loop-self-preserved

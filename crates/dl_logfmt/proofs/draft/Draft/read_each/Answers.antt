@@ -1,8 +1,8 @@
 use Rattle.std.proofs.Common.{arith}
 use Rattle.std.proofs.lemmas.Result.{err_from_is_err_and}
 use Rattle.spec_log.specs.Reading.{at_most}
-use Rattle.dl_logfmt.proofs.StreamLaws.{Streams-field, Streams-wider}
-use Rattle.dl_logfmt.proofs.SectionLaws.{each-read, each-unread}
+use Rattle.dl_logfmt.proofs.Drafts.Streams.{Streams-field, Streams-wider}
+use Rattle.dl_logfmt.proofs.Drafts.Sections.{each-read, each-unread}
 use Rattle.dl_logfmt.proofs.draft.Draft.read_each.Goals as goal
 
 pub read_more-requires-clause-streams : goal.read_more-requires-clause-streams

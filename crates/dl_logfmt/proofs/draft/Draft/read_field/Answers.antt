@@ -1,5 +1,5 @@
 use Rattle.std.proofs.lemmas.Result.{err_from_is_err_and}
-use Rattle.dl_logfmt.proofs.FieldLaws.{field-read, field-unread}
+use Rattle.dl_logfmt.proofs.Drafts.Fields.{field-read, field-unread}
 use Rattle.dl_logfmt.proofs.draft.Draft.read_field.Goals as goal
 
 pub returns-in_err-self-clause-reads : goal.returns-in_err-self-clause-reads

@@ -1,6 +1,6 @@
 use Rattle.std.proofs.lemmas.Result.{err_from_is_err_and}
-use Rattle.dl_logfmt.proofs.StreamLaws.{Streams-input}
-use Rattle.dl_logfmt.proofs.SectionLaws.{inputs-read, inputs-unread}
+use Rattle.dl_logfmt.proofs.Drafts.Streams.{Streams-input}
+use Rattle.dl_logfmt.proofs.Drafts.Sections.{inputs-read, inputs-unread}
 use Rattle.dl_logfmt.proofs.draft.Draft.read_inputs.Goals as goal
 
 pub read_more-requires-clause-streams : goal.read_more-requires-clause-streams

@@ -1,5 +1,5 @@
 use Rattle.std.proofs.lemmas.Result.{err_from_is_err_and}
-use Rattle.dl_logfmt.proofs.SectionLaws.{order-read, order-unread}
+use Rattle.dl_logfmt.proofs.Drafts.Sections.{order-read, order-unread}
 use Rattle.dl_logfmt.proofs.draft.Draft.read_order.Goals as goal
 
 pub returns-in_err-read_order-clause-reads : goal.returns-in_err-read_order-clause-reads

@@ -1,7 +1,7 @@
 use Rattle.std.proofs.Common.{arith}
 use Rattle.std.proofs.lemmas.Result.{err_from_is_err_and}
-use Rattle.dl_logfmt.proofs.StreamLaws.{Streams-short_size, Streams-wider}
-use Rattle.dl_logfmt.proofs.SectionLaws.{short-read, short-unread}
+use Rattle.dl_logfmt.proofs.Drafts.Streams.{Streams-short_size, Streams-wider}
+use Rattle.dl_logfmt.proofs.Drafts.Sections.{short-read, short-unread}
 use Rattle.dl_logfmt.proofs.draft.Draft.read_short.Goals as goal
 
 pub read_more-requires-clause-streams : goal.read_more-requires-clause-streams

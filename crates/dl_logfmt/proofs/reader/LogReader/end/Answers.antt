@@ -3,7 +3,7 @@ use Rattle.spec_log.specs.Log.{IsLog}
 use Rattle.spec_log.specs.Reading.{fails}
 use Rattle.dl_logfmt.specs.declared.stage.Stage.TheVariants.{Nothing}
 use Rattle.dl_logfmt.specs.Feeding.{HasFed}
-use Rattle.dl_logfmt.proofs.FeedLaws.{holding, refused, refused-says, held-short, held-whole, held-good}
+use Rattle.dl_logfmt.proofs.Feeding.Pieces.{holding, refused, refused-says, held-short, held-whole, held-good}
 use Rattle.dl_logfmt.proofs.reader.LogReader.end.Goals as goal
 
 pub returns-in-Some-clause-log : goal.returns-in-Some-clause-log

@@ -4,8 +4,8 @@ use Rattle.std.proofs.lemmas.List.Elements.{All-append, All-from_get_or}
 use Rattle.std.proofs.lemmas.Grind.{common_steps}
 use Rattle.dl_logfmt.specs.Drafts.{cut}
 use Rattle.dl_logfmt.specs.Feeding.{HasFed}
-use Rattle.dl_logfmt.proofs.DraftLaws.{cut-grew}
-use Rattle.dl_logfmt.proofs.FeedLaws.{holding, fed-on, fed-refused, held-fed, refused-fed, start-low}
+use Rattle.dl_logfmt.proofs.Drafts.Steps.{cut-grew}
+use Rattle.dl_logfmt.proofs.Feeding.Pieces.{holding, fed-on, fed-refused, held-fed, refused-fed, start-low}
 use Rattle.dl_logfmt.proofs.reader.LogReader.feed.Goals as goal
 
 pub invariant_of-self-in-Ok : goal.invariant_of-self-in-Ok

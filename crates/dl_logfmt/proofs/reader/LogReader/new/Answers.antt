@@ -1,6 +1,6 @@
 use Rattle.std.proofs.Common.{◌<◌, []}
 use Rattle.std.proofs.lemmas.List.Elements.{All-nil}
-use Rattle.dl_logfmt.proofs.FeedLaws.{holds-nothing}
+use Rattle.dl_logfmt.proofs.Feeding.Pieces.{holds-nothing}
 use Rattle.dl_logfmt.proofs.reader.LogReader.new.Goals as goal
 
 pub invariant_of-result : goal.invariant_of-result

@@ -7,7 +7,7 @@ use Rattle.spec_protocol.specs.Machine.{first_cores}
 use Rattle.dl_machine.specs.Cores.{Core}
 use Rattle.dl_machine.specs.Rows.{IsAlike, held_by}
 use Rattle.dl_machine.specs.Setups.{numbers_with}
-use Rattle.dl_machine.proofs.Starting.{first_more}
+use Rattle.dl_machine.proofs.Rows.FirstCores.{first_more}
 use Rattle.dl_machine.proofs.cores.Cores.new.Goals as goal
 
 pub loop-core-preserved : goal.loop-core-preserved

@@ -3,7 +3,7 @@ use Rattle.std.proofs.lemmas.Grind.{common_steps}
 use Rattle.dl_machine.specs.Cores.{Core, to_chunk}
 use Rattle.spec_engine.specs.Chunks.{step}
 use Rattle.spec_protocol.specs.World.{Held}
-use Rattle.dl_machine.proofs.Alike.{cores_set, row_left}
+use Rattle.dl_machine.proofs.Rows.Cores.{cores_set, row_left}
 use Rattle.dl_machine.proofs.cores.Cores.step.Goals as goal
 
 pub invariant_of-self : goal.invariant_of-self

@@ -2,8 +2,8 @@ use Rattle.std.proofs.Common.{◌≡◌, sym, ◌∙◌, ap, subst}
 use Rattle.spec_protocol.specs.World.{World}
 use Rattle.spec_protocol.specs.Machine.{happens}
 use Rattle.dl_machine.specs.Ready.{IsReady}
-use Rattle.dl_machine.proofs.Events.{world_left, ready_after}
-use Rattle.dl_machine.proofs.Promised.{run_more}
+use Rattle.dl_machine.proofs.Worlds.Events.{world_left, ready_after}
+use Rattle.dl_machine.proofs.Worlds.Promised.{run_more}
 use Rattle.dl_machine.proofs.machine.Machine.apply.Goals as goal
 
 pub invariant_of-self-2 : goal.invariant_of-self-2

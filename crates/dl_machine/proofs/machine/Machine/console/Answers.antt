@@ -1,7 +1,7 @@
 use Rattle.std.proofs.Common.{◌≡◌, ap, ◌∙◌, arith}
 use Rattle.std.proofs.lemmas.Grind.{common_steps}
 use Rattle.spec_kernel.specs.Devices.{Devices}
-use Rattle.dl_machine.proofs.Promised.{serial_run}
+use Rattle.dl_machine.proofs.Worlds.Promised.{serial_run}
 use Rattle.dl_machine.proofs.machine.Machine.console.Goals as goal
 
 pub returns-clause-serial : goal.returns-clause-serial

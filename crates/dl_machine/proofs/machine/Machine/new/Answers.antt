@@ -1,8 +1,8 @@
 use Rattle.std.proofs.Common.{sym, subst}
 use Rattle.dl_machine.specs.Ready.{IsReady}
 use Rattle.dl_machine.specs.Setups.{setup_in}
-use Rattle.dl_machine.proofs.Limits.{limits_within, ready_first}
-use Rattle.dl_machine.proofs.Promised.{run_first}
+use Rattle.dl_machine.proofs.Worlds.First.{limits_within, ready_first}
+use Rattle.dl_machine.proofs.Worlds.Promised.{run_first}
 use Rattle.dl_machine.proofs.machine.Machine.new.Goals as goal
 
 pub invariant_of-result : goal.invariant_of-result

@@ -2,7 +2,7 @@ use Rattle.std.proofs.Common.{◌≡◌, List, sym, subst, arith}
 use Rattle.std.proofs.lemmas.Grind.{common_steps}
 use Rattle.dl_entry.specs.declared.Point.{Point}
 use Rattle.dl_machine.specs.Runs.{IsSerial}
-use Rattle.dl_machine.proofs.Promised.{serial_run}
+use Rattle.dl_machine.proofs.Worlds.Promised.{serial_run}
 use Rattle.dl_machine.proofs.machine.Machine.points.Goals as goal
 
 pub returns-clause-serial : goal.returns-clause-serial

@@ -1,4 +1,4 @@
-use Rattle.dl_machine.proofs.Promised.{promised_run}
+use Rattle.dl_machine.proofs.Worlds.Promised.{promised_run}
 use Rattle.dl_machine.proofs.machine.Machine.sphere.Goals as goal
 
 pub returns-clause-promised : goal.returns-clause-promised

@@ -10,8 +10,8 @@ use Rattle.dl_sphere.specs.declared.moved.Moved.{Moved}
 use Rattle.dl_sphere.specs.Standing.{Standing}
 use Rattle.dl_sphere.specs.Moving.{CanCommit, came}
 use Rattle.dl_machine.specs.Rows.{nth_sphere}
-use Rattle.dl_machine.proofs.Closed.{how_of, how_is, can_commit_so, if_ok}
-use Rattle.dl_machine.proofs.Standings.{row_says, said_of_row, others_left}
+use Rattle.dl_machine.proofs.Commits.AsClosed.{how_of, how_is, can_commit_so, if_ok}
+use Rattle.dl_machine.proofs.Rows.Spheres.{row_says, said_of_row, others_left}
 use Rattle.dl_machine.proofs.spheres.Spheres.commit_chunk.Goals as goal
 
 pub commit_chunk-requires : goal.commit_chunk-requires

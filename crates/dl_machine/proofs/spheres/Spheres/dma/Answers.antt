@@ -4,7 +4,7 @@ use Rattle.spec_protocol.specs.Commits.{dma_moved}
 use Rattle.spec_protocol.specs.Spheres.{Sphere}
 use Rattle.dl_sphere.specs.Standing.{Standing}
 use Rattle.dl_sphere.specs.Moving.{IsTurnOfDma, came}
-use Rattle.dl_machine.proofs.Standings.{row_says, said_of_row, others_left}
+use Rattle.dl_machine.proofs.Rows.Spheres.{row_says, said_of_row, others_left}
 use Rattle.dl_machine.proofs.spheres.Spheres.dma.Goals as goal
 
 pub dma-requires-clause-turn : goal.dma-requires-clause-turn

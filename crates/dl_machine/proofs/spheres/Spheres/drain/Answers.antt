@@ -4,7 +4,7 @@ use Rattle.spec_engine.specs.Flights.{at, drain}
 use Rattle.spec_protocol.specs.Spheres.{Sphere}
 use Rattle.dl_machine.specs.Rows.{with_nth}
 use Rattle.dl_sphere.specs.Standing.{Standing}
-use Rattle.dl_machine.proofs.Standings.{spheres_left, standing_is}
+use Rattle.dl_machine.proofs.Rows.Spheres.{spheres_left, standing_is}
 use Rattle.dl_machine.proofs.spheres.Spheres.drain.Goals as goal
 
 pub returns-clause-memory : goal.returns-clause-memory

@@ -5,7 +5,7 @@ use Rattle.spec_isa.specs.declared.thread.Parts.{Parts}
 use Rattle.spec_protocol.specs.Commits.{raised}
 use Rattle.spec_protocol.specs.Spheres.{Sphere}
 use Rattle.dl_sphere.specs.Standing.{Standing}
-use Rattle.dl_machine.proofs.Standings.{said_of_row, others_left}
+use Rattle.dl_machine.proofs.Rows.Spheres.{said_of_row, others_left}
 use Rattle.dl_machine.proofs.spheres.Spheres.raise.Goals as goal
 
 pub returns-clause-ok : goal.returns-clause-ok

@@ -6,7 +6,7 @@ use Rattle.spec_protocol.specs.Commits.{serial_moved}
 use Rattle.spec_protocol.specs.Spheres.{Sphere}
 use Rattle.dl_sphere.specs.Standing.{Standing}
 use Rattle.dl_sphere.specs.Moving.{IsTurnOf, came}
-use Rattle.dl_machine.proofs.Standings.{row_says, said_of_row, others_left}
+use Rattle.dl_machine.proofs.Rows.Spheres.{row_says, said_of_row, others_left}
 use Rattle.dl_machine.proofs.spheres.Spheres.serial_step.Goals as goal
 
 pub serial_step-requires-clause-turn : goal.serial_step-requires-clause-turn

@@ -1,6 +1,6 @@
 use Rattle.std.proofs.Common.{refl, sym, subst}
 use Rattle.dl_machine.specs.Ready.{IsReady}
-use Rattle.dl_machine.proofs.Ready.{chunk_reads, chunk_writes}
+use Rattle.dl_machine.proofs.Worlds.Ready.{chunk_reads, chunk_writes}
 use Rattle.dl_machine.proofs.state.State.ask_arbiter.Goals as goal
 
 pub ask-requires-clause-reads : goal.ask-requires-clause-reads

@@ -1,6 +1,6 @@
 use Rattle.std.proofs.Common.{sym, subst}
 use Rattle.dl_machine.specs.Ready.{IsReady}
-use Rattle.dl_machine.proofs.Ready.{reads_fit, writes_fit}
+use Rattle.dl_machine.proofs.Worlds.Ready.{reads_fit, writes_fit}
 use Rattle.dl_machine.proofs.state.State.deliver.Goals as goal
 
 pub deliver-reply-requires-clause-reads : goal.deliver-reply-requires-clause-reads

@@ -12,9 +12,9 @@ use Rattle.dl_sphere.specs.Moving.{came}
 use Rattle.dl_machine.specs.Rows.{Spheres, nth_sphere, with_nth}
 use Rattle.dl_machine.specs.States.{left, world_in}
 use Rattle.dl_machine.specs.Transfers.{ComesTo}
-use Rattle.dl_machine.proofs.Able.{turn_of_dma}
-use Rattle.dl_machine.proofs.Diverging.{AreApart, dma_apart}
-use Rattle.dl_machine.proofs.Transfers.{comes_to}
+use Rattle.dl_machine.proofs.Commits.Able.{turn_of_dma}
+use Rattle.dl_machine.proofs.Commits.Diverging.{AreApart, dma_apart}
+use Rattle.dl_machine.proofs.Commits.Transfers.{comes_to}
 use Rattle.dl_machine.proofs.state.State.diverge.Goals as goal
 
 pub dma-requires-clause-turn : goal.dma-requires-clause-turn

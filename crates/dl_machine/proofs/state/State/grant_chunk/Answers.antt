@@ -14,8 +14,8 @@ use Rattle.dl_machine.specs.Ready.{HasRoom, IsReady}
 use Rattle.dl_machine.specs.Requests.{closed_by}
 use Rattle.dl_machine.specs.Rows.{nth_sphere}
 use Rattle.dl_machine.specs.States.{left, world_in}
-use Rattle.dl_machine.proofs.Able.{can_commit, few_commits}
-use Rattle.dl_machine.proofs.Granting.{point_in, moved_by, grant_done, held_after, closed_is, chunk_after}
+use Rattle.dl_machine.proofs.Commits.Able.{can_commit, few_commits}
+use Rattle.dl_machine.proofs.Commits.Granted.{point_in, moved_by, grant_done, held_after, closed_is, chunk_after}
 use Rattle.dl_machine.proofs.state.State.grant_chunk.Goals as goal
 
 pub commit_chunk-requires-clause-chunk : goal.commit_chunk-requires-clause-chunk

@@ -18,8 +18,8 @@ use Rattle.dl_machine.specs.Cores.{seen}
 use Rattle.dl_machine.specs.Ready.{IsReady}
 use Rattle.dl_machine.specs.Rows.{Spheres, nth_sphere, with_nth}
 use Rattle.dl_machine.specs.States.{left, world_in}
-use Rattle.dl_machine.proofs.Able.{turn_of}
-use Rattle.dl_machine.proofs.Granting.{point_in, with_grant, serial_done, held_after, serial_after, serial_still}
+use Rattle.dl_machine.proofs.Commits.Able.{turn_of}
+use Rattle.dl_machine.proofs.Commits.Granted.{point_in, with_grant, serial_done, held_after, serial_after, serial_still}
 use Rattle.dl_machine.proofs.state.State.grant_serial.Goals as goal
 
 pub serial_step-requires-clause-turn : goal.serial_step-requires-clause-turn

@@ -3,7 +3,7 @@ use Rattle.std.specs.Prelude.{option_map}
 use Rattle.std.proofs.lemmas.Grind.{common_steps}
 use Rattle.spec_engine.specs.Flights.{at}
 use Rattle.dl_machine.specs.Cores.{seen}
-use Rattle.dl_machine.proofs.Ready.{held_is_of}
+use Rattle.dl_machine.proofs.Worlds.Ready.{held_is_of}
 use Rattle.dl_machine.proofs.state.State.held.Goals as goal
 
 pub returns-clause-good : goal.returns-clause-good

@@ -4,7 +4,7 @@ use Rattle.dl_sphere.specs.declared.setup.SphereSetup.{SphereSetup}
 use Rattle.dl_sphere.specs.Setups.{setup_of}
 use Rattle.dl_machine.specs.Rows.{Cores}
 use Rattle.dl_machine.specs.Setups.{numbers_with}
-use Rattle.dl_machine.proofs.Starting.{first_length}
+use Rattle.dl_machine.proofs.Rows.FirstCores.{first_length}
 use Rattle.dl_machine.proofs.state.State.new.Goals as goal
 
 pub invariant_of-result-2 : goal.invariant_of-result-2

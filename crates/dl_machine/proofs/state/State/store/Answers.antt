@@ -9,8 +9,8 @@ use Rattle.dl_sphere.specs.Moving.{came}
 use Rattle.dl_machine.specs.Rows.{nth_sphere}
 use Rattle.dl_machine.specs.States.{world_in}
 use Rattle.dl_machine.specs.Transfers.{ComesTo}
-use Rattle.dl_machine.proofs.Able.{turn_of_dma}
-use Rattle.dl_machine.proofs.Transfers.{comes_to}
+use Rattle.dl_machine.proofs.Commits.Able.{turn_of_dma}
+use Rattle.dl_machine.proofs.Commits.Transfers.{comes_to}
 use Rattle.dl_machine.proofs.state.State.store.Goals as goal
 
 pub dma-requires-clause-turn : goal.dma-requires-clause-turn

@@ -1,7 +1,7 @@
 use Rattle.std.proofs.Common.{sym, ap, ◌∙◌, subst}
 use Rattle.spec_engine.specs.Signatures.{nothing}
 use Rattle.dl_machine.specs.Ready.{IsReady}
-use Rattle.dl_machine.proofs.Transfers.{marks_fit}
+use Rattle.dl_machine.proofs.Commits.Transfers.{marks_fit}
 use Rattle.dl_machine.proofs.state.State.transfer.Goals as goal
 
 pub ask-requires-clause-reads : goal.ask-requires-clause-reads

@@ -17,10 +17,10 @@ use Rattle.spec_protocol.proofs.Logs.Growing.{pushed_length}
 use Rattle.dl_sphere.specs.Roles.{keeping_of, role_in, IsReplayed, IsStanding}
 use Rattle.dl_sphere.specs.Inside.{sphere_in, sphere_with}
 use Rattle.dl_sphere.specs.Standing.{Standing}
-use Rattle.dl_sphere.proofs.Keeps.{Commits, commits_stand}
-use Rattle.dl_sphere.proofs.Comes.{granted, left, left_commits, stands_granted, stands_left}
-use Rattle.dl_sphere.proofs.Judges.{chunk_words, same_commits}
-use Rattle.dl_sphere.proofs.Limits.{replayed, stands_replayed, live_part, part-fits}
+use Rattle.dl_sphere.proofs.Standing.Moves.{Commits, commits_stand}
+use Rattle.dl_sphere.proofs.Replays.Moved.{granted, left, left_commits, stands_granted, stands_left}
+use Rattle.dl_sphere.proofs.Replays.Judging.{chunk_words, same_commits}
+use Rattle.dl_sphere.proofs.Replays.Limits.{replayed, stands_replayed, live_part, part-fits}
 use Rattle.dl_sphere.proofs.sphere.Sphere.commit_chunk.Goals as goal
 
 pub invariant_of-self-2 : goal.invariant_of-self-2

@@ -14,10 +14,10 @@ use Rattle.dl_sphere.specs.Inside.{sphere_in, sphere_with}
 use Rattle.dl_sphere.specs.Replayed.{before}
 use Rattle.dl_sphere.specs.Roles.{keeping_of, role_in, role_of, AreKept, IsLive, IsReplayed, IsStanding}
 use Rattle.dl_sphere.specs.Standing.{Standing}
-use Rattle.dl_sphere.proofs.Comes.{dma_granted, dma_left, dma_left_commits, dma_stands_granted, dma_stands_left}
-use Rattle.dl_sphere.proofs.Keeps.{transferred_stand}
-use Rattle.dl_sphere.proofs.Limits.{replayed, stands_replayed, live_part}
-use Rattle.dl_sphere.proofs.Steps.{none_moved, dma_is_moved}
+use Rattle.dl_sphere.proofs.Replays.Moved.{dma_granted, dma_left, dma_left_commits, dma_stands_granted, dma_stands_left}
+use Rattle.dl_sphere.proofs.Standing.Moves.{transferred_stand}
+use Rattle.dl_sphere.proofs.Replays.Limits.{replayed, stands_replayed, live_part}
+use Rattle.dl_sphere.proofs.Live.Moved.{none_moved, dma_is_moved}
 use Rattle.dl_sphere.proofs.sphere.Sphere.dma.Goals as goal
 
 pub unreachable-requires : goal.unreachable-requires

@@ -2,7 +2,7 @@ use Rattle.std.proofs.Common.{◌^◌, length, sym, subst}
 use Rattle.std.specs.Prelude.{IfSome}
 use Rattle.spec_protocol.specs.Sound.{IsSoundRequest}
 use Rattle.dl_sphere.specs.Standing.{Standing}
-use Rattle.dl_sphere.proofs.Limits.{sound-within}
+use Rattle.dl_sphere.proofs.Replays.Limits.{sound-within}
 use Rattle.dl_sphere.proofs.sphere.Sphere.dma_words.Goals as goal
 
 pub live_words-requires : goal.live_words-requires

@@ -5,7 +5,7 @@ use Rattle.dl_replay.specs.Replaying.{cursor_of}
 use Rattle.dl_sphere.specs.declared.part.Part.{Part}
 use Rattle.dl_sphere.specs.Roles.{role_in}
 use Rattle.dl_sphere.specs.Standing.{Standing}
-use Rattle.dl_sphere.proofs.Limits.{replayed, there, replay-least, replay-most}
+use Rattle.dl_sphere.proofs.Replays.Limits.{replayed, there, replay-least, replay-most}
 use Rattle.dl_sphere.proofs.sphere.Sphere.limit.Goals as goal
 
 pub returns-in-Replayed-clause-value : goal.returns-in-Replayed-clause-value

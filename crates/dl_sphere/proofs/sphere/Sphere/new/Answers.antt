@@ -2,7 +2,7 @@ use Rattle.std.proofs.Common.{◌∙◌, ◌∷◌, [], ap}
 use Rattle.spec_isa.specs.Threads.{started}
 use Rattle.dl_sphere.specs.Roles.{keeping_of}
 use Rattle.dl_sphere.specs.Setups.{setup_of}
-use Rattle.dl_sphere.proofs.Starting.{Starts, start_standing, start_seen}
+use Rattle.dl_sphere.proofs.Standing.Start.{Starts, start_standing, start_seen}
 use Rattle.dl_sphere.proofs.sphere.Sphere.new.Goals as goal
 
 pub invariant_of-result : goal.invariant_of-result

@@ -8,8 +8,8 @@ use Rattle.spec_protocol.specs.Placing.{replays}
 use Rattle.dl_sphere.specs.Roles.{keeping_of, role_in, role_of, with_raised, CanRaise, IsLive, IsStanding}
 use Rattle.dl_sphere.specs.Inside.{sphere_in, sphere_with}
 use Rattle.dl_sphere.specs.Standing.{Standing}
-use Rattle.dl_sphere.proofs.Keeps.{can_raise, raised_stand, raised_role}
-use Rattle.dl_sphere.proofs.Limits.{live_role}
+use Rattle.dl_sphere.proofs.Standing.Moves.{can_raise, raised_stand, raised_role}
+use Rattle.dl_sphere.proofs.Replays.Limits.{live_role}
 use Rattle.dl_sphere.proofs.sphere.Sphere.raise.Goals as goal
 
 pub note_interrupt-requires-clause-fresh : goal.note_interrupt-requires-clause-fresh

@@ -22,10 +22,10 @@ use Rattle.dl_kernel.specs.Calls.{made_list}
 use Rattle.dl_sphere.specs.Roles.{keeping_of, role_in, role_of, with_noted, IsReplayed, IsStanding}
 use Rattle.dl_sphere.specs.Inside.{sphere_in, sphere_with}
 use Rattle.dl_sphere.specs.Standing.{Standing}
-use Rattle.dl_sphere.proofs.Keeps.{Commits, commits_stand, threads_few}
-use Rattle.dl_sphere.proofs.Comes.{granted, goes_words, left, left_commits, stands_granted, stands_left}
-use Rattle.dl_sphere.proofs.Limits.{few_live, live_part, replayed, stands_replayed}
-use Rattle.dl_sphere.proofs.Steps.{step_is_moved}
+use Rattle.dl_sphere.proofs.Standing.Moves.{Commits, commits_stand, threads_few}
+use Rattle.dl_sphere.proofs.Replays.Moved.{granted, goes_words, left, left_commits, stands_granted, stands_left}
+use Rattle.dl_sphere.proofs.Replays.Limits.{few_live, live_part, replayed, stands_replayed}
+use Rattle.dl_sphere.proofs.Live.Moved.{step_is_moved}
 use Rattle.dl_sphere.proofs.sphere.Sphere.serial_step.Goals as goal
 
 pub counted-after-requires : goal.counted-after-requires

@@ -1,0 +1,5 @@
+-- Which words the lines of a source give, where these stand, and what their file is loaded to.
+pub mod Counting
+pub mod Labels
+pub mod Coding
+pub mod Loading

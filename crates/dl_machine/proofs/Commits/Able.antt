@@ -1,0 +1,179 @@
+-- In a world that is ready, what is asked for can commit.
+use Rattle.std.proofs.Common.{◌≡◌, ℕ, zero, suc, ◌+◌, ◌^◌, ◌<◌, ◌≤◌, ◌&&◌, Bool, true, false, not, nat_eq, nat_lt, if◌then◌else◌, length, List, Option, Some, None, refl, sym, ap, ◌∙◌, subst, arith}
+use Rattle.std.specs.Prelude.{IfSome, option_map, slice_get}
+use Rattle.std.proofs.lemmas.Option.{none-some, same_Some}
+use Rattle.std.proofs.lemmas.Bool.{eqb-true, true≢false}
+use Rattle.dl_entry.specs.declared.Actor.{Actor}
+use Rattle.dl_entry.specs.declared.Request.{Request}
+use Rattle.spec_isa.specs.declared.thread.Parts.{Parts}
+use Rattle.spec_play.specs.Progress.{position}
+use Rattle.spec_play.specs.Turns.{Now, Turn, TurnOfDma, Over}
+use Rattle.spec_engine.specs.declared.answers.How.{How}
+use Rattle.spec_engine.specs.Chunks.{Chunk, is_serial}
+use Rattle.spec_engine.specs.Flights.{at}
+use Rattle.spec_protocol.specs.Spheres.{Cursor, Role, Plain, Record, Replay, Sphere, actor_of, head_in, head_of, is_over, is_stopped, limit_in, limit_of, whole_limit}
+use Rattle.spec_protocol.specs.Placing.{replays}
+use Rattle.spec_protocol.specs.Asking.{asks_serial, is_short, other_turn}
+use Rattle.spec_protocol.specs.Commits.{is_piece}
+use Rattle.spec_protocol.specs.Transferring.{not_of_dma, turn_before_dma}
+use Rattle.spec_protocol.specs.World.{Held, World, sphere_at}
+use Rattle.spec_protocol.specs.Invariants.{Closes, LimitFits}
+use Rattle.spec_protocol.specs.Sound.{IsSoundIf, IsSoundRequest, IsSoundRole}
+use Rattle.dl_sphere.specs.Moving.{CanCommit, IsPartIn, IsTurnOf, IsTurnOfDma}
+use Rattle.dl_machine.specs.declared.one_core.Held.{Held as Seen}
+use Rattle.dl_machine.specs.Cores.{seen}
+use Rattle.dl_machine.specs.Ready.{HasRoom, IsReady}
+use Rattle.dl_machine.specs.Requests.{closed_by}
+use Rattle.dl_machine.proofs.Commits.Granted.{chunk_of}
+
+-- ---- commits
+
+few_in : (role : Role) (s n : ℕ) (ts : List Parts) → IsSoundRole s n ts role → is_stopped role ≡ false → (replays role ≡ false → n < 2 ^ 24) → n < 2 ^ 24
+few_in Plain s n ts sound going few = few refl
+few_in (Record log) s n ts sound going few = few refl
+few_in (Replay b) s n ts sound going few = let l = sound.going going in let m = sound.log.count in omega arith
+
+-- a sphere that goes on has fewer commits than a log may have
+pub few_commits : (w : World) (i : ℕ) → IsReady w → HasRoom w → i < length w.spheres → is_stopped (sphere_at w i).role ≡ false → position (sphere_at w i).progress < 2 ^ 24
+few_commits w i ready room within going =
+    let p = sphere_at w i in
+    few_in p.role _ (position p.progress) p.threads (ready.sound.spheres i within).role going (room.few i within)
+
+-- ---- turns
+
+only_if : (same : Bool) (a : Option Actor) (actor : Actor) → (if same then None else Some actor) ≡ None → same ≡ true
+only_if true a actor e = refl
+only_if false a actor e = cc
+
+turn_now : (now : Now) (k : ℕ) → is_over now ≡ false → other_turn (actor_of now) k ≡ None → now ≡ Turn k
+turn_now (Turn j) k going free = ap Turn (eqb-true j k (only_if (nat_eq j k) None (Actor.Thread j) free))
+turn_now TurnOfDma k going free = cc
+turn_now (Over how) k going free = cc
+
+turn_in : (role : Role) (p : Sphere) (k : ℕ) → is_stopped role ≡ false → other_turn (head_in role p) k ≡ None → IsTurnOf k role
+turn_in Plain p k going free = tt
+turn_in (Record log) p k going free = tt
+turn_in (Replay b) p k going free = turn_now b.now k going free
+
+-- in a replay that goes on it is the turn of a thread where it is nobody else's
+pub turn_of : (p : Sphere) (k : ℕ) → is_stopped p.role ≡ false → other_turn (head_of p) k ≡ None → IsTurnOf k p.role
+unfolding head_of
+turn_of p k going free = turn_in p.role p k going free
+
+dma_now : (now : Now) → is_over now ≡ false → not_of_dma (actor_of now) ≡ None → now ≡ TurnOfDma
+dma_now (Turn j) going free = cc
+dma_now TurnOfDma going free = refl
+dma_now (Over how) going free = cc
+
+-- in a replay that goes on it is the turn of a DMA where it is nobody else's
+pub turn_of_dma : (role : Role) → is_stopped role ≡ false → turn_before_dma role ≡ None → IsTurnOfDma role
+turn_of_dma Plain going free = tt
+turn_of_dma (Record log) going free = tt
+turn_of_dma (Replay b) going free = dma_now b.now going free
+
+-- ---- chunks
+
+standard_limit : (role : Role) (s k : ℕ) (t : Parts) → replays role ≡ false → limit_of s role k t ≡ s
+unfolding limit_of
+standard_limit Plain s k t e = refl
+standard_limit (Record log) s k t e = refl
+standard_limit (Replay b) s k t e = cc
+
+short_some : (standard capacity : ℕ) (how : How) (ch : Chunk) → Closes capacity ch → 0 < capacity → ch.closed ≡ Some how → is_short standard how ch.limit ≡ true → 1 ≤ ch.done.n
+short_some standard capacity How.Limit ch closes some is short = let f = closes.full is in let p = closes.positive in omega arith
+short_some standard capacity How.Serial ch closes some is short = absurd (true≢false (sym short))
+short_some standard capacity How.Overflow ch closes some is short = let r = closes.room is in omega arith
+short_some standard capacity How.Cut ch closes some is short = let c = closes.cut is in omega arith
+
+within_limit : (capacity : ℕ) (ch : Chunk) (how : How) → Closes capacity ch → ch.closed ≡ Some how → ch.done.n ≤ ch.limit
+within_limit capacity ch How.Limit closes is = let f = closes.full is in omega arith
+within_limit capacity ch How.Serial closes is = let l = closes.early How.Serial is (λ (e : How.Serial ≡ How.Limit). cc) in omega arith
+within_limit capacity ch How.Overflow closes is = let l = closes.early How.Overflow is (λ (e : How.Overflow ≡ How.Limit). cc) in omega arith
+within_limit capacity ch How.Cut closes is = let l = closes.early How.Cut is (λ (e : How.Cut ≡ How.Limit). cc) in omega arith
+
+replayed_limit : (b : Cursor) (s k : ℕ) (t : Parts) → limit_of s (Replay b) k t ≡ limit_in (Replay b) 0 k t.commits
+unfolding limit_of
+replayed_limit b s k t = refl
+
+below_limit : (capacity : ℕ) (ch : Chunk) (how : How) → Closes capacity ch → ch.closed ≡ Some how → is_piece how ≡ true → ch.done.n < ch.limit
+below_limit capacity ch How.Limit closes is piece = cc
+below_limit capacity ch How.Serial closes is piece = cc
+below_limit capacity ch How.Overflow closes is piece = closes.early How.Overflow is (λ (e : How.Overflow ≡ How.Limit). cc)
+below_limit capacity ch How.Cut closes is piece = closes.early How.Cut is (λ (e : How.Cut ≡ How.Limit). cc)
+
+-- a chunk that met a serial instruction has some before it, or in pieces before it
+serial_some : (n total : ℕ) → (nat_eq n 0 && true) && not (nat_lt 0 total) ≡ false → 1 ≤ total + n
+serial_some zero zero e = absurd (true≢false e)
+serial_some zero (suc total) e = omega arith
+serial_some (suc n) total e = omega arith
+
+some_in_all : (b : Cursor) (capacity : ℕ) (how : How) (ch : Chunk) → Closes capacity ch → 0 < capacity → ch.closed ≡ Some how → asks_serial ch (Replay b) ≡ false → 1 ≤ b.total + ch.done.n
+some_in_all b capacity How.Limit ch closes some is whole = let f = closes.full is in let p = closes.positive in omega arith
+some_in_all b capacity How.Serial ch closes some is whole =
+    serial_some ch.done.n b.total (subst (λ (o : Option How). (nat_eq ch.done.n 0 && is_serial o) && not (nat_lt 0 b.total) ≡ false) is whole)
+some_in_all b capacity How.Overflow ch closes some is whole = let r = closes.room is in omega arith
+some_in_all b capacity How.Cut ch closes some is whole = let c = closes.cut is in omega arith
+
+part_in : (role : Role) (z s n capacity : ℕ) (ts : List Parts) (k : ℕ) (how : How) (ch : Chunk) → IsSoundRole z n ts role → IsTurnOf k role → slice_get ts k ≡ Some ch.start → ch.done.thread.commits ≡ ch.start.commits
+    → LimitFits s role k ch.start ch.limit → Closes capacity ch → 0 < capacity → ch.closed ≡ Some how → asks_serial ch role ≡ false → IsPartIn role k how ch
+part_in Plain z s n capacity ts k how ch sound turn there commits fits closes some closed whole = tt
+part_in (Record log) z s n capacity ts k how ch sound turn there commits fits closes some closed whole = tt
+part_in (Replay b) z s n capacity ts k how ch sound turn there commits fits closes some closed whole =
+    let now = sound.turn k turn in
+    let same : now.thread ≡ ch.start = same_Some _ _ (sym now.there ∙ there) in
+    let count : now.thread.commits ≡ ch.done.thread.commits = ap (λ (u : Parts). u.commits) same ∙ sym commits in
+    record {
+      turn = turn;
+      room = subst (λ (m : ℕ). b.total < whole_limit b.log k m) count now.room;
+      limit = fits.replayed refl ∙ replayed_limit b s k ch.start ∙ ap (λ (m : ℕ). limit_in (Replay b) 0 k m) (sym commits);
+      most = within_limit capacity ch how closes closed;
+      early = λ piece. below_limit capacity ch how closes closed piece;
+      some = some_in_all b capacity how ch closes some closed whole;
+    }
+
+can_commit_held : (w : World) (c : ℕ) (h : Held) (how : How) → IsReady w → at w.cores c ≡ Some h → h.chunk.closed ≡ Some how → is_stopped (sphere_at w h.chunk.sphere).role ≡ false → other_turn (head_of (sphere_at w h.chunk.sphere)) h.thread ≡ None
+    → asks_serial h.chunk (sphere_at w h.chunk.sphere).role ≡ false → CanCommit w.numbers.chunk (sphere_at w h.chunk.sphere) h.thread how h.chunk
+can_commit_held w c h how ready is closed going free whole =
+    let g = ready.good.held c h is in
+    let p = sphere_at w h.chunk.sphere in
+    record {
+      closed = closed;
+      commits = λ t there.
+          let same : h.chunk.start ≡ t = same_Some _ _ (sym g.start ∙ there) in
+          (ready.sound.held c h is).commits ∙ ap (λ (u : Parts). u.commits) same;
+      size = λ live.
+          let l = within_limit _ h.chunk how g.chunk.closes closed in
+          let m = (g.limit going).most in
+          let s = standard_limit p.role w.numbers.chunk h.thread h.chunk.start live in
+          omega arith;
+      some = short_some w.numbers.chunk w.numbers.buffer how h.chunk g.chunk.closes ready.good.buffer closed;
+      part = part_in p.role _ w.numbers.chunk _ w.numbers.buffer p.threads h.thread how h.chunk (ready.sound.spheres h.chunk.sphere g.sphere).role (turn_of p h.thread going free) g.start (ready.sound.held c h is).commits (g.limit going) g.chunk.closes ready.good.buffer closed whole;
+    }
+
+-- a closed chunk of a sphere that goes on can be committed, where it is nobody else's turn and no serial step is asked for
+pub can_commit : (w : World) (c : ℕ) (o : Option Held) (held : Seen) (how : How) (ch : Chunk) → IsReady w → at w.cores c ≡ o → option_map seen o ≡ Some held → option_map closed_by o ≡ Some (Some how) → Some ch ≡ option_map chunk_of o
+    → is_stopped (sphere_at w held.sphere).role ≡ false → other_turn (head_of (sphere_at w held.sphere)) held.thread ≡ None → Some false ≡ option_map (λ h. asks_serial h.chunk (sphere_at w held.sphere).role) o
+    → CanCommit w.numbers.chunk (sphere_at w held.sphere) held.thread how ch
+can_commit w c None held how ch ready is eh ew ec going free whole = absurd (none-some held eh)
+can_commit w c (Some h) held how ch ready is eh ew ec going free whole =
+    let seen_ : seen h ≡ held = same_Some _ _ eh in
+    let same : h.chunk ≡ ch = sym (same_Some _ _ ec) in
+    let at_h : is_stopped (sphere_at w h.chunk.sphere).role ≡ false = subst (λ (s : Seen). is_stopped (sphere_at w s.sphere).role ≡ false) (sym seen_) going in
+    let free_h : other_turn (head_of (sphere_at w h.chunk.sphere)) h.thread ≡ None = subst (λ (s : Seen). other_turn (head_of (sphere_at w s.sphere)) s.thread ≡ None) (sym seen_) free in
+    let whole_h : asks_serial h.chunk (sphere_at w h.chunk.sphere).role ≡ false = subst (λ (s : Seen). asks_serial h.chunk (sphere_at w s.sphere).role ≡ false) (sym seen_) (sym (same_Some _ _ whole)) in
+    subst (λ (d : Chunk). CanCommit w.numbers.chunk (sphere_at w held.sphere) held.thread how d) same
+    (subst (λ (s : Seen). CanCommit w.numbers.chunk (sphere_at w s.sphere) s.thread how h.chunk) seen_
+    (can_commit_held w c h how ready is (same_Some _ _ ew) at_h free_h whole_h))
+
+-- ---- transfers
+
+sound_if : (n : ℕ) (o : Option Request) → IsSoundIf n o → IfSome o (IsSoundRequest n)
+sound_if n None sound = tt
+sound_if n (Some r) sound = sound
+
+-- an outstanding request lies in its sphere's memory
+pub request_sound : (w : World) (i : ℕ) → IsReady w → i < length w.spheres → let p = sphere_at w i in IfSome p.progress.request (IsSoundRequest (length p.memory))
+request_sound w i ready within =
+    let p = sphere_at w i in
+    let s = ready.sound.spheres i within in
+    subst (λ (n : ℕ). IfSome p.progress.request (IsSoundRequest n)) (sym s.size) (sound_if _ p.progress.request s.request)

@@ -1,0 +1,192 @@
+-- What the parts of a machine hold after a granted request is the world that the definitions give.
+use Rattle.std.proofs.Common.{◌≡◌, ℕ, zero, suc, ◌%◌, ◌^◌, Bool, true, false, List, [], ◌∷◌, ◌++◌, Option, Some, None, slice_set, refl, sym, ap, ◌∙◌, subst}
+use Rattle.std.specs.Prelude.{option_map, slice_get}
+use Rattle.std.proofs.lemmas.Option.{none-some, same_Some}
+use Rattle.dl_entry.specs.declared.Actor.{Actor}
+use Rattle.dl_entry.specs.declared.CommitKind.{CommitKind}
+use Rattle.dl_entry.specs.declared.Counts.{Counts}
+use Rattle.dl_entry.specs.declared.Point.{Point}
+use Rattle.spec_isa.specs.declared.thread.Parts.{Parts}
+use Rattle.spec_isa.specs.Words.{Stored}
+use Rattle.spec_kernel.specs.Devices.{Devices}
+use Rattle.spec_engine.specs.declared.answers.How.{How}
+use Rattle.spec_engine.specs.Signatures.{Marks, nothing, signed}
+use Rattle.spec_engine.specs.Chunks.{Chunk}
+use Rattle.spec_engine.specs.Flights.{Flights, at}
+use Rattle.spec_protocol.specs.Spheres.{Sphere}
+use Rattle.spec_protocol.specs.Commits.{CommitOutcome, Granted, Piece, Diverged, Moved, is_piece, chunk_moved, serial_moved}
+use Rattle.spec_protocol.specs.World.{After, Held, World, OfChunk, OfSerial, moment, sphere_at, held_afresh, flown}
+use Rattle.spec_protocol.specs.Asking.{CommitRequest, is_short, granted, grant_chunk, grant_serial}
+use Rattle.dl_machine.specs.declared.one_core.Held.{Held as Seen}
+use Rattle.dl_machine.specs.Cores.{seen, writes_in}
+use Rattle.dl_machine.specs.Rows.{Cores, Spheres, nth_sphere, with_held, with_nth}
+use Rattle.dl_machine.specs.Events.{passes}
+use Rattle.dl_machine.specs.Ready.{IsReady}
+use Rattle.dl_machine.specs.Requests.{closed_by}
+use Rattle.dl_machine.specs.States.{world_in}
+use Rattle.dl_machine.proofs.Commits.Moments.{serial_cut}
+use Rattle.dl_machine.proofs.Commits.Diverging.{IsApart, serial_apart}
+
+-- the world after a grant: the sphere has moved, its words fly, the core holds its thread afresh, and the point is
+-- kept
+abbrev pub with_grant : World → (core : ℕ) → Seen → Sphere → List Stored → Marks → Devices → Point → World
+with_grant w c held p words marks devices point =
+    record w {
+      spheres = slice_set w.spheres held.sphere p;
+      slots = flown held.sphere words marks (2 ^ c) w.slots;
+      cores = slice_set w.cores c (held_afresh w.numbers held.sphere held.thread p);
+      devices = devices;
+      points = w.points ++ point ∷ [];
+    }
+
+-- the point that a grant makes
+abbrev pub point_in : World → Seen → CommitKind → (n : ℕ) → (short : Bool) → Point
+point_in w held kind n short = Point.Commit (moment w) held.sphere (Actor.Thread held.thread) kind n short
+
+-- the chunk that a core holds
+abbrev pub chunk_of : Held → Chunk
+chunk_of h = h.chunk
+
+-- ---- the code's steps
+
+set_again : {A : Type 0} (xs : List A) (k : ℕ) (a b : A) → slice_set (slice_set xs k a) k b ≡ slice_set xs k b
+set_again [] k a b = refl
+set_again (x ∷ xs) zero a b = refl
+set_again {A = A} (x ∷ xs) (suc k) a b = ap (λ (ys : List A). x ∷ ys) (set_again xs k a b)
+
+-- where the core has given up its lines, the parts of a grant are the world after it
+pub grant_done : (cores then_ : Cores) (spheres after_ : Spheres) (flights : Flights) (devices : Devices) (counts : Counts) (points more : List Point) (c : ℕ) (held : Seen) (words : List Stored) (marks : Marks) (point : Point)
+    → then_ ≡ with_held c None cores → after_ ≡ with_nth held.sphere (nth_sphere held.sphere after_) spheres → more ≡ points ++ point ∷ []
+    → let between = world_in then_ after_ flights devices counts more in
+    record between {
+      slots = flown held.sphere words marks (2 ^ c) between.slots;
+      cores = slice_set between.cores c (held_afresh between.numbers held.sphere held.thread (sphere_at between held.sphere));
+    }
+    ≡ with_grant (world_in cores spheres flights devices counts points) c held (nth_sphere held.sphere after_) words marks devices point
+grant_done cores then_ spheres after_ flights devices counts points more c held words marks point ec es ep =
+    let again = set_again cores.held c None (held_afresh (record { chunk = spheres.standard; buffer = cores.capacity; signature = cores.bits }) held.sphere held.thread (nth_sphere held.sphere after_)) in
+    cc
+
+-- where the core has its lines still and the devices have changed, the parts of a grant are the world after it
+pub serial_done : (cores : Cores) (spheres after_ : Spheres) (flights : Flights) (devices then_ : Devices) (counts : Counts) (points more : List Point) (c : ℕ) (held : Seen) (words : List Stored) (marks : Marks) (point : Point)
+    → after_ ≡ with_nth held.sphere (nth_sphere held.sphere after_) spheres → more ≡ points ++ point ∷ []
+    → let between = world_in cores after_ flights then_ counts more in
+    record between {
+      slots = flown held.sphere words marks (2 ^ c) between.slots;
+      cores = slice_set between.cores c (held_afresh between.numbers held.sphere held.thread (sphere_at between held.sphere));
+    }
+    ≡ with_grant (world_in cores spheres flights devices counts points) c held (nth_sphere held.sphere after_) words marks then_ point
+serial_done cores spheres after_ flights devices then_ counts points more c held words marks point es ep = cc
+
+-- ---- under what a core holds
+
+-- what is read of the event of what a core holds is read of the event
+pub held_after : {A : Type 0} (g : After → A) (f : Held → After) (o : Option Held) (a : After) → Some a ≡ option_map f o → Some (g a) ≡ option_map (λ h. g (f h)) o
+held_after g f None a e = absurd (none-some a (sym e))
+held_after g f (Some h) a e = ap (λ (b : After). Some (g b)) (same_Some _ _ e)
+
+-- the chunk that a core holds was closed as the core says
+pub closed_is : (o : Option Held) (ch : Chunk) (how : How) → option_map closed_by o ≡ Some (Some how) → Some ch ≡ option_map chunk_of o → ch.closed ≡ Some how
+closed_is None ch how e c = absurd (none-some (Some how) e)
+closed_is (Some h) ch how e c = ap (λ (d : Chunk). d.closed) (same_Some _ _ c) ∙ same_Some _ _ e
+
+-- ---- a chunk
+
+abbrev pub chunk_asked : World → Seen → How → Chunk → CommitRequest
+chunk_asked w held how ch =
+    record {
+      sphere = held.sphere;
+      thread = held.thread;
+      what = OfChunk held.thread how ch.done.n ch.limit;
+      kind = CommitKind.Chunk;
+      n = ch.done.n;
+      short = is_short w.numbers.chunk how ch.limit;
+    }
+
+-- what a granted chunk makes of its sphere
+abbrev pub moved_by : World → Seen → How → Chunk → Moved
+moved_by w held how ch =
+    chunk_moved held.thread (is_piece how) (is_short w.numbers.chunk how ch.limit) ch.done w.devices (sphere_at w held.sphere)
+
+chunk_is : (w : World) (c : ℕ) (h : Held) (how : How) → grant_chunk w c h how ≡ (let v = moved_by w (seen h) how h.chunk in granted w c (chunk_asked w (seen h) how h.chunk) h.chunk.writes v v.outcome)
+unfolding grant_chunk
+chunk_is w c h how = refl
+
+-- a chunk's request comes to what the move of its sphere makes of the world
+pub chunk_after : (w : World) (c : ℕ) (how : How) (o : Option Held) (held : Seen) (ch : Chunk) (marks : Marks) (v : Moved) → option_map seen o ≡ Some held → Some ch ≡ option_map chunk_of o → marks ≡ writes_in w.numbers.signature o → v ≡ moved_by w held how ch
+    → Some (granted w c (chunk_asked w held how ch) marks v v.outcome) ≡ option_map (λ h. grant_chunk w c h how) o
+chunk_after w c how None held ch marks v eh ec em ev = absurd (none-some held eh)
+chunk_after w c how (Some h) held ch marks v eh ec em ev =
+    let seen_ : held ≡ seen h = sym (same_Some _ _ eh) in
+    let same : ch ≡ h.chunk = same_Some _ _ ec in
+    ap (λ (u : Moved). Some (granted w c (chunk_asked w held how ch) marks u u.outcome)) ev
+    ∙ ap (λ (m : Marks). Some (let u = moved_by w held how ch in granted w c (chunk_asked w held how ch) m u u.outcome)) em
+    ∙ ap (λ (d : Chunk). Some (let u = moved_by w held how d in granted w c (chunk_asked w held how d) h.chunk.writes u u.outcome)) same
+    ∙ ap (λ (s : Seen). Some (let u = moved_by w s how h.chunk in granted w c (chunk_asked w s how h.chunk) h.chunk.writes u u.outcome)) seen_
+    ∙ ap (λ (a : After). Some a) (sym (chunk_is w c h how))
+
+-- ---- a serial step
+
+abbrev pub serial_asked : Seen → CommitRequest
+serial_asked held =
+    record {
+      sphere = held.sphere;
+      thread = held.thread;
+      what = OfSerial held.thread;
+      kind = CommitKind.Serial;
+      n = 0;
+      short = false;
+    }
+
+serial_is : (w : World) (c : ℕ) (h : Held) → grant_serial w c h ≡ (let v = serial_moved h.thread (moment w) h.chunk.start w.devices (sphere_at w h.chunk.sphere) in granted w c (serial_asked (seen h)) (signed h.chunk.sphere v.words (nothing w.numbers.signature)) v v.outcome)
+unfolding grant_serial
+serial_is w c h = refl
+
+abbrev pub serial_after_of : World → (core : ℕ) → Seen → Moved → After
+serial_after_of w c held v = granted w c (serial_asked held) (signed held.sphere v.words (nothing w.numbers.signature)) v v.outcome
+
+-- a serial step's request comes to what the move of its sphere makes of the world
+pub serial_after : (w : World) (c : ℕ) (o : Option Held) (held : Seen) (v : Moved) → IsReady w → at w.cores c ≡ o → option_map seen o ≡ Some held
+    → ((t : Parts) → slice_get (sphere_at w held.sphere).threads held.thread ≡ Some t → v ≡ serial_moved held.thread (moment w % 2 ^ 32) t w.devices (sphere_at w held.sphere))
+    → Some (serial_after_of w c held v) ≡ option_map (grant_serial w c) o
+serial_after w c None held v ready eo eh ev = absurd (none-some held eh)
+serial_after w c (Some h) held v ready eo eh ev =
+    let seen_ : held ≡ seen h = sym (same_Some _ _ eh) in
+    let moved : v ≡ serial_moved h.thread (moment w % 2 ^ 32) h.chunk.start w.devices (sphere_at w h.chunk.sphere) =
+    subst (λ (s : Seen). (t : Parts) → slice_get (sphere_at w s.sphere).threads s.thread ≡ Some t → v ≡ serial_moved s.thread (moment w % 2 ^ 32) t w.devices (sphere_at w s.sphere)) seen_ ev h.chunk.start (ready.good.held c h eo).start
+    in
+    let whole : v ≡ serial_moved h.thread (moment w) h.chunk.start w.devices (sphere_at w h.chunk.sphere) = moved ∙ serial_cut h.thread (moment w) h.chunk.start w.devices (sphere_at w h.chunk.sphere) in
+    ap (λ (s : Seen). Some (serial_after_of w c s v)) seen_
+    ∙ ap (λ (u : Moved). Some (serial_after_of w c (seen h) u)) whole
+    ∙ ap (λ (a : After). Some a) (sym (serial_is w c h))
+
+-- where a serial step diverges, the devices stay as they are
+pub serial_still : (w : World) (c : ℕ) (o : Option Held) (held : Seen) (v : Moved) → IsReady w → at w.cores c ≡ o → option_map seen o ≡ Some held
+    → ((t : Parts) → slice_get (sphere_at w held.sphere).threads held.thread ≡ Some t → v ≡ serial_moved held.thread (moment w % 2 ^ 32) t w.devices (sphere_at w held.sphere))
+    → IsApart w.devices v v.outcome
+serial_still w c None held v ready eo eh ev = absurd (none-some held eh)
+serial_still w c (Some h) held v ready eo eh ev =
+    let seen_ : held ≡ seen h = sym (same_Some _ _ eh) in
+    let moved : v ≡ serial_moved h.thread (moment w % 2 ^ 32) h.chunk.start w.devices (sphere_at w h.chunk.sphere) =
+    subst (λ (s : Seen). (t : Parts) → slice_get (sphere_at w s.sphere).threads s.thread ≡ Some t → v ≡ serial_moved s.thread (moment w % 2 ^ 32) t w.devices (sphere_at w s.sphere)) seen_ ev h.chunk.start (ready.good.held c h eo).start
+    in
+    subst (λ (u : Moved). IsApart w.devices u u.outcome) (sym moved) (serial_apart h.thread (moment w % 2 ^ 32) h.chunk.start w.devices (sphere_at w h.chunk.sphere))
+
+-- ---- what passes every check
+
+granted_passes : (w : World) (c : ℕ) (q : CommitRequest) (marks : Marks) (v : Moved) (o : CommitOutcome) → passes (granted w c q marks v o).reply ≡ true
+granted_passes w c q marks v Granted = refl
+granted_passes w c q marks v Piece = refl
+granted_passes w c q marks v (Diverged i why) = refl
+
+-- a granted chunk answers as what passed every check
+pub chunk_passes : (w : World) (c : ℕ) (h : Held) (how : How) → passes (grant_chunk w c h how).reply ≡ true
+chunk_passes w c h how =
+    let v = moved_by w (seen h) how h.chunk in
+    ap (λ (a : After). passes a.reply) (chunk_is w c h how) ∙ granted_passes w c (chunk_asked w (seen h) how h.chunk) h.chunk.writes v v.outcome
+
+-- a granted serial step answers as what passed every check
+pub serial_passes : (w : World) (c : ℕ) (h : Held) → passes (grant_serial w c h).reply ≡ true
+serial_passes w c h =
+    let v = serial_moved h.thread (moment w) h.chunk.start w.devices (sphere_at w h.chunk.sphere) in
+    ap (λ (a : After). passes a.reply) (serial_is w c h) ∙ granted_passes w c (serial_asked (seen h)) (signed h.chunk.sphere v.words (nothing w.numbers.signature)) v v.outcome

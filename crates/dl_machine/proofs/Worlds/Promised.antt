@@ -1,0 +1,61 @@
+-- What the protocol promises holds of every world that a setup has come to.
+use Rattle.std.proofs.Common.{◌≡◌, ℕ, ◌<◌, [], ◌∷◌, ◌++◌, List, Some, refl, sym, ap, ◌∙◌, subst, arith}
+use Rattle.std.specs.Prelude.{slice_get}
+use Rattle.spec_log.specs.declared.LogParts.{LogParts}
+use Rattle.spec_log.specs.Log.{IsLog}
+use Rattle.spec_protocol.specs.declared.event.Event.{Event}
+use Rattle.spec_protocol.specs.World.{World}
+use Rattle.spec_protocol.specs.Machine.{RoleSetup, IsReplayed, Setup, SphereSetup, happens, world_after, world_of}
+use Rattle.spec_protocol.specs.Promises.{after}
+use Rattle.spec_protocol.specs.Sound.{IsRole, IsWithinLimits}
+use Rattle.spec_protocol.proofs.Points.Serial.{commits_are}
+use Rattle.spec_protocol.proofs.PlayingBack.All.{logs_play_back}
+use Rattle.spec_replay.proofs.Replays.All.{replays_follow}
+use Rattle.spec_replay.proofs.Replays.Stopping.{stopped_played}
+use Rattle.dl_machine.specs.Runs.{IsRun, IsSerial, IsPromised}
+use Rattle.dl_machine.proofs.Worlds.First.{setup_within}
+
+-- ---- one event more
+
+after_more : (w : World) (es : List Event) (e : Event) → world_after w (es ++ e ∷ []) ≡ (happens (world_after w es) e).world
+after_more w [] e = refl
+after_more w (f ∷ es) e = after_more (happens w f).world es e
+
+-- a world that a setup starts is a run of no events
+pub run_first : (s : Setup) (w : World) → IsWithinLimits s → w ≡ world_of s → IsRun s [] w
+run_first s w limits is = record { limits = limits; here = is }
+
+-- one event more after a run makes a run
+pub run_more : (s : Setup) (es : List Event) (e : Event) (w next : World) → next ≡ (happens w e).world → IsRun s es w → IsRun s (es ++ e ∷ []) next
+run_more s es e w next is run =
+    record { limits = run.limits; here = is ∙ ap (λ (u : World). (happens u e).world) run.here ∙ sym (after_more (world_of s) es e) }
+
+-- ---- what is promised
+
+serial_after : (s : Setup) (es : List Event) → IsWithinLimits s → IsSerial s (after s es) (after s es).points
+serial_after s es limits =
+    let so = commits_are s es (setup_within s limits) in
+    record { spheres = so.spheres; devices = so.devices; possible = so.possible }
+
+-- what a run shows is that of its points, done one at a time
+pub serial_run : (s : Setup) (es : List Event) (w : World) → IsRun s es w → IsSerial s w w.points
+serial_run s es w run = subst (λ (u : World). IsSerial s u u.points) (sym run.here) (serial_after s es run.limits)
+
+role_log : (role : RoleSetup) (log : LogParts) → role ≡ IsReplayed log → IsRole role → IsLog log
+role_log role log is of_role = subst IsRole is of_role
+
+promised_after : (s : Setup) (i : ℕ) (es : List Event) → IsWithinLimits s → IsPromised s i (after s es)
+promised_after s i es limits =
+    let within = setup_within s limits in
+    let standard : (image : SphereSetup) (log : LogParts) → slice_get s.spheres i ≡ Some image → image.role ≡ IsReplayed log → 0 < log.s =
+    λ image log there role. (let l = (role_log image.role log role (limits.images i image there).role).s in omega arith)
+    in
+    record {
+      recorded = λ image mode p log now was is. logs_play_back s es i image mode (record { setup = within; there = now.there; role = was }) p log now.shown is;
+      replayed = λ image log p now was. replays_follow image log s es i p (record { setup = within; there = now.there; replays = was; standard = standard image log now.there was; shown = now.shown });
+      stopped = λ image log p b now was is over. stopped_played image log s es i p b (record { setup = within; there = now.there; replays = was; standard = standard image log now.there was; shown = now.shown }) is over;
+    }
+
+-- what the protocol promises of a sphere holds after every run
+pub promised_run : (s : Setup) (i : ℕ) (es : List Event) (w : World) → IsRun s es w → IsPromised s i w
+promised_run s i es w run = subst (λ (u : World). IsPromised s i u) (sym run.here) (promised_after s i es run.limits)

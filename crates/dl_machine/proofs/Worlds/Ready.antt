@@ -1,0 +1,66 @@
+-- In a world that is ready, what a core, a slot or a sphere holds is of the sizes that calls ask for.
+use Rattle.std.proofs.Common.{◌≡◌, ℕ, ◌<◌, ◌^◌, length, Option, Some, None, refl, sym, ap, ◌∙◌, subst, arith}
+use Rattle.std.specs.Prelude.{IfSome, option_map}
+use Rattle.std.proofs.lemmas.Option.{none-some, same_Some, slice_get_within}
+use Rattle.spec_engine.specs.Flights.{Flight, AreInside, AreOfSize, IsInside, IsOfSize, at}
+use Rattle.spec_engine.specs.Chunks.{Chunk}
+use Rattle.spec_protocol.specs.World.{Held, World, sphere_at}
+use Rattle.dl_machine.specs.Cores.{seen, reads_in, writes_in}
+use Rattle.dl_machine.specs.declared.one_core.Held.{Held as Seen}
+use Rattle.dl_machine.specs.Held.{IsOf, sphere_of}
+use Rattle.dl_machine.specs.Ready.{HasRoom, IsReady}
+
+seen_of : (w : World) (c : ℕ) (o : Option Held) → IsReady w → at w.cores c ≡ o → IfSome (option_map seen o) (IsOf w)
+seen_of w c None ready is = tt
+seen_of w c (Some h) ready is = let g = ready.good.held c h is in record { sphere = g.sphere; thread = slice_get_within _ _ _ g.start }
+
+-- what a core holds is of a sphere and a thread that there are
+pub held_is_of : (w : World) (c : ℕ) (r : Option Seen) → IsReady w → r ≡ option_map seen (at w.cores c) → IfSome r (IsOf w)
+held_is_of w c r ready is = subst (λ (o : Option Seen). IfSome o (IsOf w)) (sym is) (seen_of w c (at w.cores c) ready refl)
+
+reads_size : (w : World) (c : ℕ) (o : Option Held) → IsReady w → at w.cores c ≡ o → (reads_in w.numbers.signature o).bits ≡ w.numbers.signature
+reads_size w c None ready is = refl
+reads_size w c (Some h) ready is = (ready.good.held c h is).chunk.reads_size
+
+writes_size : (w : World) (c : ℕ) (o : Option Held) → IsReady w → at w.cores c ≡ o → (writes_in w.numbers.signature o).bits ≡ w.numbers.signature
+writes_size w c None ready is = refl
+writes_size w c (Some h) ready is = (ready.good.held c h is).chunk.writes_size
+
+slot_size : (w : World) (k : ℕ) (o : Option Flight) → IsReady w → at w.slots k ≡ o → IsOfSize w.numbers.signature o
+slot_size w k None ready is = tt
+slot_size w k (Some f) ready is = (ready.good.covered k f is).size
+
+-- the signature of a core's reads has the size of those in the slots
+pub reads_fit : (w : World) (c k : ℕ) → IsReady w → IsOfSize (reads_in w.numbers.signature (at w.cores c)).bits (at w.slots k)
+reads_fit w c k ready = subst (λ (n : ℕ). IsOfSize n (at w.slots k)) (sym (reads_size w c (at w.cores c) ready refl)) (slot_size w k (at w.slots k) ready refl)
+
+-- the signature of a core's writes has the size of those in the slots
+pub writes_fit : (w : World) (c k : ℕ) → IsReady w → IsOfSize (writes_in w.numbers.signature (at w.cores c)).bits (at w.slots k)
+writes_fit w c k ready = subst (λ (n : ℕ). IsOfSize n (at w.slots k)) (sym (writes_size w c (at w.cores c) ready refl)) (slot_size w k (at w.slots k) ready refl)
+
+-- a flight's words lie in the memory of its sphere
+pub flight_inside : (w : World) (k : ℕ) (o : Option Flight) → IsReady w → at w.slots k ≡ o → IfSome (option_map sphere_of o) (λ i. (i < length w.spheres) × IsInside (length (sphere_at w i).memory) o)
+flight_inside w k None ready is = tt
+flight_inside w k (Some f) ready is =
+    let i = ready.good.flights k f is in
+    (i, subst (λ (n : ℕ). AreInside n f.words) (sym (ready.sound.spheres f.sphere i).size) (ready.sound.flights k f is).inside)
+
+-- the signatures in the slots have the world's size
+pub slots_size : (w : World) → IsReady w → AreOfSize w.numbers.signature w.slots
+slots_size w ready = record { each = λ k. slot_size w k (at w.slots k) ready refl }
+
+-- the signature of a held chunk's reads has the size of those in the slots
+pub chunk_reads : (w : World) (c : ℕ) (o : Option Held) (ch : Chunk) → IsReady w → at w.cores c ≡ o → Some ch ≡ option_map (λ h. h.chunk) o → AreOfSize ch.reads.bits w.slots
+chunk_reads w c None ch ready is e = absurd (none-some ch (sym e))
+chunk_reads w c (Some h) ch ready is e =
+    subst (λ (n : ℕ). AreOfSize n w.slots) (sym (ap (λ (d : Chunk). d.reads.bits) (same_Some _ _ e) ∙ (ready.good.held c h is).chunk.reads_size)) (slots_size w ready)
+
+-- the signature of a held chunk's writes has the size of those in the slots
+pub chunk_writes : (w : World) (c : ℕ) (o : Option Held) (ch : Chunk) → IsReady w → at w.cores c ≡ o → Some ch ≡ option_map (λ h. h.chunk) o → AreOfSize ch.writes.bits w.slots
+chunk_writes w c None ch ready is e = absurd (none-some ch (sym e))
+chunk_writes w c (Some h) ch ready is e =
+    subst (λ (n : ℕ). AreOfSize n w.slots) (sym (ap (λ (d : Chunk). d.writes.bits) (same_Some _ _ e) ∙ (ready.good.held c h is).chunk.writes_size)) (slots_size w ready)
+
+-- a sphere has no more commits than there were events
+pub young_has_room : (w : World) → IsReady w → w.counts.events < 2 ^ 24 → HasRoom w
+young_has_room w ready young = record { few = λ i there live. let c = (ready.sound.spheres i there).commits in omega (arith, c, young) }

@@ -1,0 +1,77 @@
+-- What the code makes of a serial step that real devices answer is what the definitions make of it.
+use Rattle.std.proofs.Common.{◌≡◌, ℕ, false, List, [], ◌∷◌, ◌++◌, Option, Some, None, refl, sym, ap, ◌∙◌, set}
+use Rattle.std.specs.Prelude.{slice_get}
+use Rattle.dl_entry.specs.declared.Commit.{Commit}
+use Rattle.dl_entry.specs.declared.Request.{Request}
+use Rattle.spec_isa.specs.declared.thread.Parts.{Parts}
+use Rattle.spec_kernel.specs.Devices.{Devices}
+use Rattle.spec_kernel.specs.Needs.{need}
+use Rattle.spec_kernel.specs.Answers.{Taken, taken, dma_bytes, dma_taken}
+use Rattle.spec_kernel.specs.Copies.{dma_words}
+use Rattle.spec_kernel.specs.Serving.{Served, serve, console_told}
+use Rattle.spec_play.specs.Effects.{counted, dma_commit, serial_commit}
+use Rattle.spec_play.specs.Recording.{noted, input_noted}
+use Rattle.spec_protocol.specs.Spheres as protocol
+use Rattle.spec_protocol.specs.Commits.{Granted, Moved, dma_moved, serial_moved}
+use Rattle.spec_protocol.proofs.Logs.Growing.{commits_if}
+use Rattle.dl_sphere.specs.Inside.{sphere_with}
+use Rattle.spec_play.specs.Noted.{as_log}
+use Rattle.dl_sphere.specs.Roles.{Keeping, Plain, Recording, Replaying, role_of, with_noted, AreKept, IsLive}
+use Rattle.dl_sphere.proofs.Standing.Moves.{log_with, transferred_role}
+
+-- the step of thread k, which is t, with what was taken and done
+abbrev pub moved_by : List ℕ → List Parts → List Commit → (k : ℕ) → Parts → Taken → Served → protocol.Role → Moved
+moved_by m ts cs k t g v role =
+    record {
+      outcome = Granted;
+      sphere = sphere_with m (set ts k (counted v.thread) ++ v.made) (cs ++ serial_commit k v.loads v.outputs ∷ []) (Some k) v.request role;
+      words = v.words;
+      devices = console_told t m v.outputs g.devices;
+    }
+
+-- a serial step of a plain or recorded sphere moves it as the definitions do
+pub step_is_moved : (s : ℕ) (x : Keeping) (m : List ℕ) (ts : List Parts) (cs : List Commit) (last : Option ℕ) (q : Option Request) (k moment : ℕ) (t : Parts) (d : Devices)
+    → IsLive x → slice_get ts k ≡ Some t → AreKept s (sphere_with m ts cs last q (role_of x)) x →
+    let g = taken (need t m) d moment in
+    let v = serve k ts q t m g.input in
+    moved_by m ts cs k t g v (role_of (with_noted (serial_commit k v.loads v.outputs) false g.input None x)) ≡ serial_moved k moment t d (sphere_with m ts cs last q (role_of x))
+unfolding serial_moved
+step_is_moved s Plain m ts cs last q k moment t d live start h = refl
+step_is_moved s (Replaying r loads) m ts cs last q k moment t d live start h = absurd live
+step_is_moved s (Recording r) m ts cs last q k moment t d live start h =
+    let g = taken (need t m) d moment in
+    let v = serve k ts q t m g.input in
+    let c : Commit = serial_commit k v.loads v.outputs in
+    ap (λ l. moved_by m ts cs k t g v (protocol.Record l)) (log_with r c false g.input ∙ ap (λ i. input_noted g.input (noted c i false (as_log r))) (h.done k ∙ ap commits_if start))
+
+-- ---- a DMA
+
+-- a plain or recorded sphere without a request has no DMA
+pub none_moved : (x : Keeping) (m : List ℕ) (ts : List Parts) (cs : List Commit) (last : Option ℕ) (d : Devices) → IsLive x → dma_moved d (sphere_with m ts cs last None (role_of x)) ≡ None
+unfolding dma_moved
+none_moved Plain m ts cs last d live = refl
+none_moved (Recording r) m ts cs last d live = refl
+none_moved (Replaying r loads) m ts cs last d live = absurd live
+
+-- a DMA of a plain or recorded sphere moves it as the definitions do
+pub dma_is_moved : (s : ℕ) (x : Keeping) (m : List ℕ) (ts : List Parts) (cs : List Commit) (last : Option ℕ) (request : Request) (d : Devices)
+    → IsLive x → AreKept s (sphere_with m ts cs last (Some request) (role_of x)) x
+    → dma_moved d (sphere_with m ts cs last (Some request) (role_of x))
+    ≡ Some (record {
+      outcome = Granted;
+      sphere = sphere_with m ts (cs ++ dma_commit ∷ []) last None (role_of (with_noted dma_commit false None (Some (dma_bytes d request)) x));
+      words = dma_words request (dma_bytes d request);
+      devices = dma_taken d request;
+    })
+unfolding dma_moved
+dma_is_moved s Plain m ts cs last request d live h = refl
+dma_is_moved s (Replaying r loads) m ts cs last request d live h = absurd live
+dma_is_moved s (Recording r) m ts cs last request d live h =
+    let moved : protocol.Role → Option Moved = λ role. Some (record {
+      outcome = Granted;
+      sphere = sphere_with m ts (cs ++ dma_commit ∷ []) last None role;
+      words = dma_words request (dma_bytes d request);
+      devices = dma_taken d request;
+    })
+    in
+    ap moved (sym (transferred_role (sphere_with m ts cs last (Some request) (role_of (Recording r))) s (dma_bytes d request) r h))

@@ -1,0 +1,238 @@
+-- What the replayer answers of a request makes of the sphere what the verdict says.
+use Rattle.std.proofs.Common.{◌≡◌, ℕ, zero, suc, ◌-◌, length, map, set, get_or, length-set, Bool, true, false, List, [], ◌∷◌, ◌++◌, Option, Some, None, Ok, refl, sym, ap, ◌∙◌, cond}
+use Rattle.std.specs.Prelude.{slice_get, replicate}
+use Rattle.std.proofs.lemmas.Bool.{true≢false}
+use Rattle.std.proofs.lemmas.Option.{get_or_from_slice_get}
+use Rattle.std.proofs.Math.Seq.{map-set_same}
+use Rattle.dl_entry.specs.declared.Commit.{Commit}
+use Rattle.dl_entry.specs.declared.Request.{Request}
+use Rattle.dl_entry.specs.declared.Why.{Why}
+use Rattle.spec_isa.specs.declared.thread.Load.{Load}
+use Rattle.spec_isa.specs.declared.thread.Parts.{Parts}
+use Rattle.spec_isa.specs.Runs.{Run}
+use Rattle.spec_log.specs.declared.LogParts.{LogParts}
+use Rattle.spec_kernel.specs.Interrupts.{takes_interrupt, interrupted}
+use Rattle.spec_play.specs.Effects.{Effect, chunk_commit, chunk_effect, serial_commit, serial_effect, dma_commit}
+use Rattle.spec_kernel.specs.Serving.{serve}
+use Rattle.spec_play.specs.Progress.{Progress, Used, with_interrupt}
+use Rattle.spec_play.specs.Transfers.{DmaVerdict, DmaGoes, DmaFails}
+use Rattle.spec_play.specs.Verdicts.{Verdict, Goes, Fails, Given, with_interrupted, interrupt_at, chunk_verdict, unless, served_verdict, serial_verdict}
+use Rattle.dl_wbuf.specs.Buffers.{Words}
+use Rattle.dl_kernel.specs.declared.serving.Served.{Served as Left}
+use Rattle.dl_replay.specs.declared.served.Served.{Served}
+use Rattle.dl_replay.specs.declared.asking.Verdict.{Verdict as Answer}
+use Rattle.dl_replay.specs.Judged as replay
+use Rattle.dl_replay.specs.Judged.{chunk_judged, serial_judged, dma_judged, committed, diverged, transferred}
+use Rattle.dl_replay.specs.Left.{nothing_served, served_left, served_stored}
+use Rattle.dl_replay.specs.Replaying.{Replaying, commits_of}
+use Rattle.dl_sphere.specs.Judging.{judged_by, dma_judged_by}
+
+-- ---- the commit of a verdict
+
+goes : Verdict → Bool
+goes (Goes e u) = true
+goes (Fails why) = false
+
+effect_of : Effect → Verdict → Effect
+effect_of d (Goes e u) = e
+effect_of d (Fails why) = d
+
+-- an interrupt changes no commit
+interrupted-keeps : (o : Option ℕ) (e : Effect) (u : Used) (f : Effect) (w : Used) → with_interrupted o e u ≡ Goes f w → f.commit ≡ e.commit
+unfolding goes effect_of
+interrupted-keeps None e u f w is = ap (λ (x : Effect). x.commit) (sym (ap (effect_of e) is))
+interrupted-keeps (Some value) e u f w is =
+    (elim (takes_interrupt e.thread) as (λ (b : Bool). cond b (Goes (record e { thread = interrupted value e.thread }) (with_interrupt u)) (Fails Why.Interrupt) ≡ Goes f w → f.commit ≡ e.commit) [
+      | true ↦ λ h. ap (λ (x : Effect). x.commit) (sym (ap (effect_of e) h))
+      | false ↦ λ h. absurd (true≢false (sym (ap goes h)))
+    ]) is
+
+-- nor the words to be stored
+words-keep : (o : Option ℕ) (e : Effect) (u : Used) (f : Effect) (w : Used) → with_interrupted o e u ≡ Goes f w → f.words ≡ e.words
+unfolding goes effect_of
+words-keep None e u f w is = ap (λ (x : Effect). x.words) (sym (ap (effect_of e) is))
+words-keep (Some value) e u f w is =
+    (elim (takes_interrupt e.thread) as (λ (b : Bool). cond b (Goes (record e { thread = interrupted value e.thread }) (with_interrupt u)) (Fails Why.Interrupt) ≡ Goes f w → f.words ≡ e.words) [
+      | true ↦ λ h. ap (λ (x : Effect). x.words) (sym (ap (effect_of e) h))
+      | false ↦ λ h. absurd (true≢false (sym (ap goes h)))
+    ]) is
+
+unless-keeps : (o : Option Why) (v : Verdict) (f : Effect) (w : Used) → unless o v ≡ Goes f w → v ≡ Goes f w
+unfolding goes
+unless-keeps None v f w is = is
+unless-keeps (Some why) v f w is = absurd (true≢false (sym (ap goes is)))
+
+-- a chunk that goes on commits its run
+pub chunk_commits : (log : LogParts) (p : Progress) (u : Used) (k : ℕ) (r : Run) (f : Effect) (w : Used) → chunk_verdict log p u k r ≡ Goes f w → f.commit ≡ chunk_commit k r
+unfolding chunk_verdict
+chunk_commits log p u k r f w is =
+    let e : Effect = chunk_effect k p.request r in
+    interrupted-keeps (interrupt_at log.interrupts k e.thread.commits) e u f w (unless-keeps _ _ f w is)
+
+-- a chunk that goes on stores the words of its run
+pub chunk_words : (log : LogParts) (p : Progress) (u : Used) (k : ℕ) (r : Run) (f : Effect) (w : Used) → chunk_verdict log p u k r ≡ Goes f w → f.words ≡ r.words
+unfolding chunk_verdict
+chunk_words log p u k r f w is =
+    let e : Effect = chunk_effect k p.request r in
+    words-keep (interrupt_at log.interrupts k e.thread.commits) e u f w (unless-keeps _ _ f w is)
+
+served-commits : (log : LogParts) (p : Progress) (k : ℕ) (ts : List Parts) (t : Parts) (m : List ℕ) (o : Option Given) (f : Effect) (w : Used) → served_verdict log p k ts t m o ≡ Goes f w
+    → f.commit ≡ serial_commit k f.commit.loads f.commit.outputs
+unfolding goes
+served-commits log p k ts t m None f w is = absurd (true≢false (sym (ap goes is)))
+served-commits log p k ts t m (Some g) f w is =
+    let e : Effect = serial_effect k (serve k ts p.request t m g.input) in
+    let same : f.commit ≡ e.commit = interrupted-keeps (interrupt_at log.interrupts k e.thread.commits) e g.used f w is in
+    same ∙ ap (λ (c : Commit). serial_commit k c.loads c.outputs) (sym same)
+
+-- a serial step that goes on commits what it loaded and put out
+pub serial_commits : (log : LogParts) (p : Progress) (u : Used) (k : ℕ) (ts : List Parts) (t : Parts) (m : List ℕ) (f : Effect) (w : Used) → serial_verdict log p u k ts t m ≡ Goes f w
+    → f.commit ≡ serial_commit k f.commit.loads f.commit.outputs
+unfolding serial_verdict
+serial_commits log p u k ts t m f w is = served-commits log p k ts t m _ f w (unless-keeps _ _ f w is)
+
+-- ---- answers
+
+went : Answer → Bool
+went Answer.Went = true
+went (Answer.Diverged why) = false
+
+why_in : Why → Answer → Why
+why_in d Answer.Went = d
+why_in d (Answer.Diverged why) = why
+
+-- a chunk of which the replayer answers that it went is judged so
+pub chunk_went : (r : Replaying) (p : Progress) (k : ℕ) (before mid : List Parts) (request : Option Request) (served : Served) (v : Verdict) (cs : List Commit) (loads : List Load) (c : Commit)
+    (new : Replaying) (ts : List Parts) (q : Option Request) (s : Served)
+    → ((f : Effect) (w : Used) → v ≡ Goes f w → f.commit ≡ c)
+    → record { verdict = Answer.Went; replay = new; threads = ts; request = q; served = s } ≡ chunk_judged r p k before mid request served v
+    → record { why = None; replay = new; loads = []; threads = ts; request = q; commits = cs ++ c ∷ []; words = [] }
+    ≡ record (judged_by p k (record { replay = r; loads = loads; threads = before; request = request; commits = cs }) v) { words = [] }
+unfolding went
+chunk_went r p k before mid request served (Fails why) cs loads c new ts q s commit is = absurd (true≢false (ap (λ (j : replay.Judged). went j.verdict) is))
+chunk_went r p k before mid request served (Goes e u) cs loads c new ts q s commit is =
+    let same : c ≡ e.commit = sym (commit e u refl) in
+    λ i. record {
+      why = None;
+      replay = (is i).replay;
+      loads = [];
+      threads = (is i).threads;
+      request = (is i).request;
+      commits = cs ++ same i ∷ [];
+      words = [];
+    }
+
+-- a chunk of which the replayer answers that it diverges is judged so
+pub chunk_left : (r : Replaying) (p : Progress) (k : ℕ) (before mid : List Parts) (request : Option Request) (served : Served) (v : Verdict) (cs : List Commit) (loads : List Load) (why : Why)
+    (new : Replaying) (ts : List Parts) (q : Option Request) (s : Served)
+    → record { verdict = Answer.Diverged why; replay = new; threads = ts; request = q; served = s } ≡ chunk_judged r p k before mid request served v
+    → record { why = Some why; replay = new; loads = loads; threads = before; request = q; commits = cs; words = [] }
+    ≡ record (judged_by p k (record { replay = r; loads = loads; threads = before; request = request; commits = cs }) v) { words = [] }
+unfolding went why_in
+chunk_left r p k before mid request served (Goes e u) cs loads why new ts q s is = absurd (true≢false (sym (ap (λ (j : replay.Judged). went j.verdict) is)))
+chunk_left r p k before mid request served (Fails because) cs loads why new ts q s is =
+    let same : why ≡ because = ap (λ (j : replay.Judged). why_in why j.verdict) is in
+    λ i. record {
+      why = Some (same i);
+      replay = (is i).replay;
+      loads = loads;
+      threads = before;
+      request = (is i).request;
+      commits = cs;
+      words = [];
+    }
+
+-- a serial step of which the replayer answers that it went is judged so
+pub step_went : (r : Replaying) (p : Progress) (k : ℕ) (before : List Parts) (request : Option Request) (v : Verdict) (cs : List Commit) (loads : List Load) (left : Left)
+    (new : Replaying) (ts : List Parts) (q : Option Request)
+    → ((f : Effect) (w : Used) → v ≡ Goes f w → f.commit ≡ serial_commit k f.commit.loads f.commit.outputs)
+    → record { verdict = Answer.Went; replay = new; threads = ts; request = q; served = served_left (Ok left) } ≡ serial_judged r p k before request nothing_served v
+    → record { why = None; replay = new; loads = []; threads = ts; request = q; commits = cs ++ serial_commit k left.loads left.outputs ∷ []; words = left.words.words }
+    ≡ judged_by p k (record { replay = r; loads = loads; threads = before; request = request; commits = cs }) v
+unfolding went
+step_went r p k before request (Fails why) cs loads left new ts q commit is = absurd (true≢false (ap (λ (j : replay.Judged). went j.verdict) is))
+step_went r p k before request (Goes e u) cs loads left new ts q commit is =
+    let lists : left.loads ≡ e.commit.loads = ap (λ (j : replay.Judged). j.served.loads) is in
+    let outputs : left.outputs ≡ e.commit.outputs = ap (λ (j : replay.Judged). j.served.outputs) is in
+    let same : serial_commit k left.loads left.outputs ≡ e.commit = (λ i. serial_commit k (lists i) (outputs i)) ∙ sym (commit e u refl) in
+    λ i. record {
+      why = None;
+      replay = (is i).replay;
+      loads = [];
+      threads = (is i).threads;
+      request = (is i).request;
+      commits = cs ++ same i ∷ [];
+      words = (is i).served.words;
+    }
+
+pub step_left : (r : Replaying) (p : Progress) (k : ℕ) (before : List Parts) (request : Option Request) (v : Verdict) (cs : List Commit) (loads : List Load) (why : Why)
+    (new : Replaying) (ts : List Parts) (q : Option Request)
+    → record { verdict = Answer.Diverged why; replay = new; threads = ts; request = q; served = nothing_served } ≡ serial_judged r p k before request nothing_served v
+    → record { why = Some why; replay = new; loads = loads; threads = ts; request = q; commits = cs; words = [] }
+    ≡ judged_by p k (record { replay = r; loads = loads; threads = before; request = request; commits = cs }) v
+unfolding went why_in
+step_left r p k before request (Goes e u) cs loads why new ts q is = absurd (true≢false (sym (ap (λ (j : replay.Judged). went j.verdict) is)))
+step_left r p k before request (Fails because) cs loads why new ts q is =
+    let same : why ≡ because = ap (λ (j : replay.Judged). why_in why j.verdict) is in
+    λ i. record {
+      why = Some (same i);
+      replay = (is i).replay;
+      loads = loads;
+      threads = (is i).threads;
+      request = (is i).request;
+      commits = cs;
+      words = [];
+    }
+
+-- a DMA
+pub dma_went : (r : Replaying) (p : Progress) (before : List Parts) (request : Option Request) (v : DmaVerdict) (cs : List Commit) (loads : List Load) (words : Words)
+    (new : Replaying) (q : Option Request)
+    → record { verdict = Answer.Went; replay = new; threads = before; request = q; served = served_stored (Ok words) } ≡ dma_judged r p before request nothing_served v
+    → record { why = None; replay = new; loads = []; threads = before; request = q; commits = cs ++ dma_commit ∷ []; words = words.words }
+    ≡ dma_judged_by p (record { replay = r; loads = loads; threads = before; request = request; commits = cs }) v
+unfolding went
+dma_went r p before request (DmaFails why) cs loads words new q is = absurd (true≢false (ap (λ (j : replay.Judged). went j.verdict) is))
+dma_went r p before request (DmaGoes ws) cs loads words new q is =
+    λ i. record {
+      why = None;
+      replay = (is i).replay;
+      loads = [];
+      threads = (is i).threads;
+      request = (is i).request;
+      commits = cs ++ dma_commit ∷ [];
+      words = (is i).served.words;
+    }
+
+pub dma_left : (r : Replaying) (p : Progress) (before : List Parts) (request : Option Request) (v : DmaVerdict) (cs : List Commit) (loads : List Load) (why : Why)
+    (new : Replaying) (q : Option Request)
+    → record { verdict = Answer.Diverged why; replay = new; threads = before; request = q; served = nothing_served } ≡ dma_judged r p before request nothing_served v
+    → record { why = Some why; replay = new; loads = loads; threads = before; request = q; commits = cs; words = [] }
+    ≡ dma_judged_by p (record { replay = r; loads = loads; threads = before; request = request; commits = cs }) v
+unfolding went why_in
+dma_left r p before request (DmaGoes ws) cs loads why new q is = absurd (true≢false (sym (ap (λ (j : replay.Judged). went j.verdict) is)))
+dma_left r p before request (DmaFails because) cs loads why new q is =
+    let same : why ≡ because = ap (λ (j : replay.Judged). why_in why j.verdict) is in
+    λ i. record {
+      why = Some (same i);
+      replay = (is i).replay;
+      loads = loads;
+      threads = (is i).threads;
+      request = (is i).request;
+      commits = cs;
+      words = [];
+    }
+
+-- ---- the threads while a chunk is judged
+
+-- a thread changed and put back leaves the threads as they were
+pub put_back : (ts : List Parts) (k : ℕ) (s t : Parts) → slice_get ts k ≡ Some t → set (set ts k s) k t ≡ ts
+put_back [] k s t is = refl
+put_back (x ∷ xs) zero s t is = let same : x ≡ t = (let e : Some x ≡ Some t = is in cc) in ap (λ y. y ∷ xs) (sym same)
+put_back (x ∷ xs) (suc k) s t is = ap (λ ys. x ∷ ys) (put_back xs k s t is)
+
+-- where a thread's state moves on and its number of commits stays, so do all counts of commits
+pub same_commits : (ts : List Parts) (k : ℕ) (s t : Parts) → slice_get ts k ≡ Some t → s.commits ≡ t.commits → commits_of (set ts k s) ≡ commits_of ts
+same_commits ts k s t is same =
+    let f : Parts → ℕ = λ p. p.commits in
+    let at : f s ≡ f (get_or ts k t) = same ∙ sym (ap f (get_or_from_slice_get ts k t t is)) in
+    ap (λ xs. xs ++ replicate (15 - length (set ts k s)) 0) (map-set_same f ts k s t at) ∙ ap (λ n. map f ts ++ replicate (15 - n) 0) (length-set ts k s)

@@ -1,0 +1,75 @@
+-- A replay stands with its sphere, and the limits of its chunks and its requests are within their bounds.
+use Rattle.std.proofs.Common.{◌≡◌, ℕ, false, zero, suc, ◌+◌, ◌^◌, ◌<◌, ◌≤◌, List, [], ◌∷◌, length, Option, Some, None, refl, subst, arith}
+use Rattle.std.specs.Prelude.{slice_get, IfSome}
+use Rattle.std.proofs.lemmas.Bool.{true≢false}
+use Rattle.dl_entry.specs.declared.Request.{Request}
+use Rattle.spec_isa.specs.declared.thread.Parts.{Parts}
+use Rattle.spec_log.specs.Log.{IsLog}
+use Rattle.spec_protocol.specs.Sound.{IsSoundRequest}
+use Rattle.spec_protocol.specs.Placing.{replays}
+use Rattle.spec_protocol.specs.Spheres.{Cursor, Replay, Sphere, limit_in, limit_of, whole_limit}
+use Rattle.spec_protocol.proofs.Sound.Limits.{whole-most}
+use Rattle.dl_sphere.specs.Inside.{sphere_in}
+use Rattle.dl_sphere.specs.Roles.{role_of, keeping_of, Keeping, Plain, Recording, Replaying as Replays, HasFew, AreKept, IsLive, IsReplayed, IsStanding}
+use Rattle.dl_sphere.specs.declared.part.Part.{Part}
+use Rattle.dl_sphere.specs.declared.part.Replay.{Replay as Replaying}
+use Rattle.dl_sphere.specs.declared.sphere.Sphere.TheInside.{Inside}
+
+-- a replayed sphere that stands is as far in its log as its player
+pub replayed : (a : Inside) (r : Replaying) → a.part ≡ Part.Replayed r → IsStanding a.standard (sphere_in a) (keeping_of a.part) → IsReplayed (sphere_in a) r.player
+replayed a r is h = subst (λ (part : Part). AreKept a.standard (sphere_in a) (keeping_of part)) is h.kept
+
+-- a replayed sphere stands with its player and its loads
+pub stands_replayed : (a : Inside) (r : Replaying) → a.part ≡ Part.Replayed r → IsStanding a.standard (sphere_in a) (keeping_of a.part)
+    → IsStanding a.standard (sphere_in a) (Replays r.player r.loads.items)
+stands_replayed a r is h = subst (λ (part : Part). IsStanding a.standard (sphere_in a) (keeping_of part)) is h
+
+-- a part that isn't a replayed one is live
+pub live_part : (part : Part) → ((r : Replaying) → part ≡ Part.Replayed r → ⊥) → IsLive (keeping_of part)
+live_part Part.Plain other = tt
+live_part (Part.Recorded r) other = tt
+live_part (Part.Replayed r) other = other r refl
+
+-- a role that isn't replayed is kept by a live part
+pub live_role : (x : Keeping) → replays (role_of x) ≡ false → IsLive x
+live_role Plain other = tt
+live_role (Recording r) other = tt
+live_role (Replays r loads) other = absurd (true≢false other)
+
+-- no thread of a sphere that isn't replayed has more commits than the sphere
+pub few_live : (s : ℕ) (p : Sphere) (x : Keeping) → IsLive x → AreKept s p x → HasFew p
+few_live s p Plain live h = h
+few_live s p (Recording r) live h = h.few
+few_live s p (Replays r loads) live h = absurd live
+
+-- a part and those before it are few enough to be counted
+pub part-fits : (b : Cursor) (k n : ℕ) (t : Parts) → IsLog b.log → b.total < whole_limit b.log k t.commits → n ≤ limit_in (Replay b) 0 k t.commits → b.total + n < 2 ^ 32
+part-fits b k n t is room within = let a = whole-most b.log k t.commits is in let c = is.s.1 in omega (arith, a, c, room, within)
+
+-- a thread that there is
+pub record There (ts : List Parts) (k : ℕ) : Type 0 where
+  pub thread : Parts
+  pub is : slice_get ts k ≡ Some thread
+
+-- a thread of a number below their count is there
+pub there : (ts : List Parts) (k : ℕ) → k < length ts → There ts k
+there [] k l = absurd (omega arith)
+there (t ∷ ts) zero l = record { thread = t; is = refl }
+there (t ∷ ts) (suc k) l = let h = there ts k (omega arith) in record { thread = h.thread; is = h.is }
+
+-- the limit of a replay's chunk is at least 1
+pub replay-least : (s : ℕ) (b : Cursor) (k : ℕ) (t : Parts) → 1 ≤ limit_of s (Replay b) k t
+unfolding limit_of
+replay-least s b k t = omega arith
+
+-- the limit of a replay's chunk is at most 4,096
+pub replay-most : (s : ℕ) (b : Cursor) (k : ℕ) (t : Parts) → IsLog b.log → limit_of s (Replay b) k t ≤ 4096
+unfolding limit_of
+replay-most s b k t is = let a = whole-most b.log k t.commits is in let c = is.s.1 in omega (arith, a, c)
+
+-- a request inside a memory is inside the largest
+pub sound-within : (size most : ℕ) (o : Option Request) → size ≤ most → IfSome o (IsSoundRequest size) → IfSome o (IsSoundRequest most)
+sound-within size most None l h = tt
+sound-within size most (Some r) l h =
+    let i = h.inside in
+    record { aligned = h.aligned; inside = omega (arith, l, i); few = h.few }

@@ -1,0 +1,3 @@
+-- Every sphere stands: at its start, and after each of its moves.
+pub mod Start
+pub mod Moves
