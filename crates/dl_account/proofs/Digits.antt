@@ -19,9 +19,11 @@ room rest zero large small = absurd (omega arith)
 room rest (suc zero) large small = absurd (omega arith)
 room rest (suc (suc k)) large small = let one : suc (suc k) - 1 ≡ suc k = omega arith in (omega arith, rw one (omega arith))
 
+-- a field of 21 bytes with no digit written yet has all of the number's digits still to come
 pub begun : (field : List ℕ) (n : ℕ) → length field ≡ 21 → n < 2 ^ 64 → decimal n ≡ decimal n ++ drop 21 field → IsWritten field 20 n n
 begun field n len fits digits = record { len = len; low = omega arith; high = omega arith; small = omega arith; fits = fits; digits = digits }
 
+-- with the last digit of `rest` put in at `start`, the digits of rest / 10 are what is still to come
 pub one_more : (field : List ℕ) (start rest n : ℕ) → IsWritten field start rest n → 10 ≤ rest → IsWritten (slice_set field start (48 + rest % 10)) (start - 1) (rest / 10) n
 one_more field start rest n written large =
     let both = room rest start large written.small in

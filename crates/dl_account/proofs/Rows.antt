@@ -15,8 +15,10 @@ get_or-chunks n (suc k) (suc i) at xs lt e =
     let next : at ≡ n + n * i = omega arith in
     get_or-chunks n k i (n * i) (drop n xs) (omega arith) refl ∙ rw (next, ← drop-drop (n * i) n xs) refl
 
+-- a memory has a row for each 32 of its bytes
 pub length-rows : (m : List ℕ) → length (rows m) ≡ length m / 32
 length-rows m = length-chunks 32 (length m / 32) m
 
+-- row i is the 32 bytes from 32 * i on
 pub get_or-rows : (m : List ℕ) (i : ℕ) → i < length m / 32 → get_or (rows m) i [] ≡ take 32 (drop (32 * i) m)
 get_or-rows m i lt = get_or-chunks 32 (length m / 32) i (32 * i) m lt refl

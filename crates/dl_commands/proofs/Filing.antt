@@ -13,6 +13,7 @@ use Rattle.dl_commands.specs.Jobs.{IsJob, writes_of}
 abbrev one_write : (name bytes : List ℕ) → List Write
 one_write name bytes = at_once name bytes ∷ []
 
+-- a job that writes the image of number v at once, tells its size and hasn't diverged is the job of making v
 pub making_is : (v : ℕ) (name bytes text : List ℕ) (r : Result Job OutOfMemory) → bytes ≡ made v → text ≡ made_line (length bytes)
     → IfOk r (λ job. writes_of job.writes.items ≡ one_write name bytes) → IfOk r (λ job. job.text.items ≡ text) → IfOk r (λ job. job.diverged ≡ false)
     → IfOk r (IsJob (Making v name))

@@ -21,6 +21,7 @@ all_append P (x ∷ xs) ys a b = (a.0, all_append P xs ys a.1 b)
 
 -- ---- products
 
+-- where the products of all outputs are those of n spheres, so is the product of output i
 pub product_at : (n : ℕ) (outputs : List Output) (i : ℕ) (d : Output) → AreProducts n (map output_view outputs) → i < length outputs → IsProduct n (get_or outputs i d).product
 product_at n outputs i d are h = all_at (λ (o : OutputValues). IsProduct n o.product) output_view outputs i d are h
 

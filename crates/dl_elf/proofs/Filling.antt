@@ -62,6 +62,8 @@ fills_or_not s a small =
       | inr before ↦ inr (grind (arith, nat_tests), inl before.1)
     ]
 
+-- of a memory into which a segment's bytes are copied, a byte is the file's where the segment fills it,
+-- and else what it was
 pub filled : (memory file part : List ℕ) (s : Segment) (a : ℕ) → is_in_file file s ≡ true → is_in_memory (length memory) s ≡ true
     → part ≡ between s.offset (s.offset + s.file_size) file
     → get_or (put_mid s.address (s.address + s.file_size - s.address) memory part) a 0

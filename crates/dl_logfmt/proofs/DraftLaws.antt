@@ -20,6 +20,7 @@ Came-then bytes d at e middle f after a b =
 Extends-then : {X : Type 0} (xs ys zs : List X) → Extends xs ys → Extends ys zs → Extends xs zs
 Extends-then xs ys zs a b = (a.0 ++ b.0, rw (b.1, a.1) (append_assoc xs a.0 b.0))
 
+-- a draft that grew, and grew again, grew
 pub Grew-then : (d e f : Draft) → Grew d e → Grew e f → Grew d f
 Grew-then d e f a b =
     record {

@@ -33,6 +33,7 @@ holds-nothing d pending new empty =
 pub holding : (bytes : List ℕ) (r : Feeding) → r.refusal ≡ None → HasFed bytes r → Holding bytes r
 holding bytes r is h = subst (FedTo bytes r) is h
 
+-- a reader with a refusal was fed bytes that have that fault, whatever follows
 pub refused : (bytes : List ℕ) (r : Feeding) (refusal : Refusal) → r.refusal ≡ Some refusal → HasFed bytes r → Refused bytes refusal
 refused bytes r refusal is h = subst (FedTo bytes r) is h
 
@@ -103,6 +104,7 @@ held-refused bytes piece r e at number offset h (other, inside, fault) =
           (f ∙ ap (λ (n : ℕ). fails number n) there);
     }
 
+-- where a piece has a fault, the bytes so far with the piece have it, at its offset from the start of all
 pub fed-refused : (bytes piece all : List ℕ) (r : Feeding) (e : Draft) (at number offset : ℕ) → r.refusal ≡ None → HasFed bytes r → all ≡ r.pending ++ piece
     → Feeds all r.draft 0 (Err (Malformed number offset)) e at → Refused (bytes ++ piece) (record { number = number; offset = r.start + offset })
 fed-refused bytes piece all r e at number offset none fed whole feeds =
@@ -123,9 +125,11 @@ refused-now : (bytes : List ℕ) (refusal : Refusal) → Refused bytes refusal �
 refused-now bytes refusal h =
     subst (λ (whole : List ℕ). read_of whole ≡ fails refusal.number refusal.offset) (append-nil bytes) (h.later [])
 
+-- of bytes that were refused, reading them at once says the same fault
 pub refused-says : (bytes : List ℕ) (refusal : Refusal) → Refused bytes refusal → read_of bytes ≡ Err (record { number = refusal.number; offset = refusal.offset })
 refused-says bytes refusal h = refused-now bytes refusal h
 
+-- of bytes that were refused, feeding them answers that fault
 pub refused-fed : (bytes : List ℕ) (refusal : Refusal) → Refused bytes refusal → fed (read_of bytes) ≡ Err (record { number = refusal.number; offset = refusal.offset })
 refused-fed bytes refusal h = rw (refused-now bytes refusal h, ne_eqb refusal.number 1 h.lasting) refl
 
@@ -145,6 +149,7 @@ said-fed DmaCount d bytes = refl
 said-fed (Dmas n) d bytes = refl
 said-fed Nothing d bytes = refl
 
+-- of bytes that a reader holds with no refusal, feeding them answers no fault
 pub held-fed : (bytes : List ℕ) (r : Feeding) → Holding bytes r → fed (read_of bytes) ≡ Ok tt
 held-fed bytes r h = ap fed h.now ∙ said-fed r.draft.head.stage r.draft bytes
 

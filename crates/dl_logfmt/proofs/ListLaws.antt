@@ -149,6 +149,7 @@ pair-read count bytes xs at ys from after byte l few (came, leads, ext) e =
       Extends-push xs (ys ++ actor_of (byte % 16) ∷ []) (actor_of (byte / 16)) (Extends-push xs ys (actor_of (byte % 16)) ext),
     )
 
+-- where the byte of two actors can't be read, the order stands as far as it was read, with that error
 pub pair-unread : (count : ℕ) (bytes : List ℕ) (xs : List Actor) (at : ℕ) (ys : List Actor) (from after : ℕ) (error : LogError)
     → length ys + 1 < count
     → CameIn bytes xs at ys from × Leads bytes (more_actors count xs) at (more_actors count ys) from × Extends xs ys
@@ -175,6 +176,7 @@ last-read count bytes xs at ys from after half l few (came, leads, most) e =
       λ before behind. leads before behind ∙ step.0 before behind,
     )
 
+-- where the byte of the last actor can't be read, the order stands as far as it was read, with that error
 pub last-unread : (count : ℕ) (bytes : List ℕ) (xs : List Actor) (at : ℕ) (ys : List Actor) (from after : ℕ) (error : LogError)
     → length ys < count
     → CameIn bytes xs at ys from × Leads bytes (more_actors count xs) at (more_actors count ys) from × (count ≤ length ys + 1)

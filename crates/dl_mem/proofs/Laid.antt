@@ -5,6 +5,7 @@ use Rattle.spec_isa.specs.Masks.{bytes_of, some_if}
 use Rattle.spec_isa.proofs.MemoryLaws.{length_lay, IsBytes-lay}
 use Rattle.dl_mem.specs.Memories.{IsMemory}
 
+-- a memory stays one when the bytes of one store are laid over it
 pub IsMemory-lay : (old new : List ℕ) (word mask value : ℕ) → new ≡ lay old (bytes_of word mask value) → IsMemory old → IsMemory new
 IsMemory-lay old new w k v e h =
     rw e

@@ -11,6 +11,7 @@ use Rattle.dl_mem.specs.Memories.{IsMemory, IsPaged}
 use Rattle.dl_mem.proofs.Laid.{IsMemory-lay, lay-from}
 use Rattle.dl_mem.proofs.Joined.{AllLong, AllLong-set, length_concat, get_concat, part_concat, with_byte_concat, concat_chunks, chunks_long}
 
+-- pages have 4,096 bytes each
 pub length_paged : (ps : List (List ℕ)) → IsPaged ps → length (concat ps) ≡ length ps * 4096
 length_paged ps h = length_concat 4096 ps h.whole
 
@@ -86,6 +87,7 @@ IsPaged-chunks m h =
       memory = rw (concat_chunks 4096 (length m / 4096) m long) h;
     }
 
+-- the pages of a memory, one after another, are the memory
 pub concat_paged : (m : List ℕ) → IsMemory m → concat (first_chunks 4096 (length m / 4096) m) ≡ m
 concat_paged m h =
     let pages = h.size.pages in

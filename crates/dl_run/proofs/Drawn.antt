@@ -4,6 +4,7 @@ use Rattle.rand_pcg.specs.Lcg.{Lcg}
 use Rattle.rand_pcg.specs.Pcg.{pcg32}
 use Rattle.dl_event.specs.Seeded.{schedule}
 
+-- as many events are drawn as were asked for
 pub schedule_length : (n : ℕ) (g : Lcg) → length (schedule n g) ≡ n
 unfolding schedule
 schedule_length zero g = refl

@@ -26,5 +26,6 @@ decided : {E : Type 0} (w : List ℕ) (r : Result ℕ E) → is_plain w ≡ true
 decided w (Ok n) plain (within, is) = search (rules, plain, within, is)
 decided w (Err e) plain not_within = search (rules, plain, not_within, is_long w plain)
 
+-- what std reads in a plain word is the word's number, or none where that doesn't fit
 pub number_read : {E : Type 0} (w : List ℕ) (r : Result ℕ E) → is_plain w ≡ true → ParsesUnsigned 32 10 w r → result_ok r ≡ number_of w
 number_read w r plain parsed = decided w r plain (parse_digits model 32 w r parsed (are_digits w plain))
