@@ -1,4 +1,4 @@
--- The decimal digits of a number, written from the last one on into the end of a field.
+-- Digits that are written from the last one on into the end of a field are the number's decimal.
 use Rattle.std.proofs.Common.{◌≡◌, ℕ, ◌+◌, ◌-◌, ◌/◌, ◌%◌, ◌^◌, ◌<◌, ◌≤◌, zero, suc, List, [], ◌∷◌, ◌++◌, length, take, drop, length-drop, decimal, slice_set, refl, sym, ap, ◌∙◌, arith}
 use Rattle.std.proofs.lemmas.Fmt.{decimal_digit, decimal_step}
 use Rattle.std.proofs.lemmas.Grind.{drop-set_at}
@@ -42,7 +42,7 @@ one_more field start rest n written large =
           (sym (drop-set_at field start (start - 1 + 1) (48 + rest % 10) (omega (arith, both.0)) (omega (arith, written.len, written.high))));
     }
 
--- the part of the field from the space on
+-- with the last digit put in and a space before all, the field from the space on is a space and the number's decimal
 pub ended : (field : List ℕ) (start rest n : ℕ) → IsWritten field start rest n → rest < 10 → take (21 - (start - 1)) (drop (start - 1) (slice_set (slice_set field start (48 + rest)) (start - 1) 32)) ≡ 32 ∷ decimal n
 ended field start rest n written small =
     let digit : List ℕ = slice_set field start (48 + rest) in

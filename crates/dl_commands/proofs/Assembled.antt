@@ -1,4 +1,4 @@
--- The file of a source, or the first line that is refused, as the assembler answers.
+-- What the assembler answers of a source is its file, or the first line that is refused.
 use Rattle.std.proofs.Common.{◌≡◌, ℕ, zero, suc, ◌+◌, ◌<◌, ◌≤◌, List, length, Option, Some, None, Ok, Err, refl, sym, ap, ◌∙◌, inl, inr, arith}
 use Rattle.std.proofs.Math.Nat.{eq-or-lt_of_le}
 use Rattle.dl_asm.specs.declared.error.Rule.{Rule}

@@ -1,4 +1,4 @@
--- A file that is written, and its size told.
+-- To write one file and tell its size is what making an image comes to.
 use Rattle.std.proofs.Common.{◌≡◌, ℕ, false, List, [], ◌∷◌, length, Result, Ok, Err, sym, ap, ◌∙◌}
 use Rattle.std.specs.Prelude.{IfOk}
 use Rattle.dl_entry.specs.declared.OutOfMemory.{OutOfMemory}

@@ -1,4 +1,4 @@
--- From the ways in which a command is done or stops to what its status says.
+-- However a command is done or stops, what it leaves is what its status says.
 use Rattle.std.proofs.Common.{◌≡◌, ◌⊎◌, ℕ, ◌<◌, Bool, true, false, true≢false, if◌then◌else◌, List, [], Option, Some, None, Result, Ok, inl, inr, refl, sym, ◌∙◌, ap, subst, arith, append-nil}
 use Rattle.std.proofs.lemmas.Option.{none-some}
 use Rattle.dl_files.specs.Contents.{Contents, IsLast}

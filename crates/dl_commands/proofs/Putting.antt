@@ -1,4 +1,4 @@
--- A text that is taken in parts.
+-- A text that is taken in parts is taken as one.
 use Rattle.std.proofs.Common.{◌≡◌, ℕ, ◌+◌, List, ◌++◌, take, drop, Option, Some, None, refl, sym, ◌∙◌, ap, append_assoc}
 use Rattle.std.proofs.Math.Seq.{take-add}
 use Rattle.dl_files.specs.Taken.{with_taken}

@@ -1,4 +1,4 @@
--- Writes that are done one after another.
+-- Writes that are done one after another leave what all of them leave, and where memory ran out the first of them.
 use Rattle.std.proofs.Common.{◌≡◌, ℕ, zero, suc, ◌+◌, ◌<◌, List, [], ◌∷◌, length, take, get_or, slice_get, Option, Some, inl, inr, sym, ◌∙◌, ap, subst, arith, add-one}
 use Rattle.std.specs.Prelude.{string_bytes}
 use Rattle.std.specs.FinMap.{insert}
@@ -40,7 +40,7 @@ pub same_but_at : (name shown : List ℕ) (old told new : Option Contents) → s
 same_but_at name shown old told new named same s =
     subst (λ (n : List ℕ). SameBut n old new) named (subst (λ (t : Option Contents). SameBut shown t new) same s)
 
--- memory ran out in a write, after the first ones
+-- where memory ran out in write i, the first i are done, and of that one a part or nothing
 pub cut_short : (xs : List NamedContent) (i : ℕ) (x : NamedContent) (m : Contents) (shown : List ℕ) (told new : Option Contents) → i < length xs → x ≡ get_or xs i x → shown ≡ string_bytes x.name
     → told ≡ Some (written (take i (writes_of xs)) m) → IsCutShort x.content shown told new → Partly (writes_of xs) m new
 cut_short xs i x m shown told new h e named are (inl same) = (i, omega (arith, h, length-map xs write_of), inl (same ∙ are))

@@ -1,4 +1,4 @@
--- A walk of as many commits as the log has comes to the log's end.
+-- A walk of as many commits as the log has comes to an end.
 use Rattle.std.proofs.Common.{◌≡◌, ℕ, List, refl, sym, subst, arith}
 use Rattle.spec_log.specs.declared.LogParts.{LogParts}
 use Rattle.spec_play.specs.declared.WalkEnd.{WalkEnd}

@@ -1,4 +1,4 @@
--- A memory, once a segment's bytes are copied to its address.
+-- A memory into which a segment's bytes are copied has them at the segment's address, and else what it had.
 use Rattle.std.proofs.Common.{◌≡◌, ℕ, ◌+◌, ◌-◌, ◌<◌, ◌≤◌, ◌⊎◌, inl, inr, true, false, cond, List, length, get_or, ap, ◌∙◌, leb-true, arith, rules}
 use Rattle.std.proofs.lemmas.Bool.Decides.{leb_tells, nat_tests}
 use Rattle.std.proofs.lemmas.List.{places}

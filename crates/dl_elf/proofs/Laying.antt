@@ -1,4 +1,4 @@
--- A memory, filled from one segment after the other. None shares an address, so none is filled twice.
+-- A memory that is filled from one segment after the other is the file's: no two share an address, so none is filled twice.
 use Rattle.std.proofs.Common.{◌≡◌, ℕ, ◌+◌, ◌-◌, ◌<◌, ◌≤◌, inl, inr, Bool, true, false, cond, Option, Some, None, List, [], ◌∷◌, ◌++◌, length, get_or, take, refl, sym, ap, ◌∙◌, subst, take_all, arith}
 use Rattle.std.proofs.lemmas.Bool.{cases_Bool}
 use Rattle.std.proofs.lemmas.List.{take_more}

@@ -1,4 +1,4 @@
--- What is known of a script once its first lines are read.
+-- A script is the events of its lines, where none is refused, and else refused by the first line that is.
 use Rattle.std.proofs.Common.{◌≡◌, ℕ, ◌+◌, ◌^◌, ◌<◌, ◌≤◌, Bool, true, false, cond, List, [], ◌∷◌, ◌++◌, length, take, drop, get_or, map, length-drop, length-take, subst, add-one, MatchOption, IfSome, ◌≢◌, Option, Some, None, Ok, Err, refl, sym, ap, ap₂, ◌∙◌, inl, inr, arith, suc, zero, below_more, eqb, Bor}
 use Rattle.std.specs.List.{All, AllWithin, HoldsAt, position_from, range_with_len, slice_get, slice_split}
 use Rattle.std.proofs.Math.Nat.{eq-or-lt_of_le}
@@ -95,7 +95,7 @@ pub fewer : (left : Option (Bor (List ℕ))) (text : Bor (List ℕ)) (rest : Opt
 fewer left text None is shorter = rw is (omega arith)
 fewer left text (Some r) is shorter = rw is (omega (arith, shorter))
 
--- one line more
+-- with line n taken off the text that is left, line n is that line, and what follows is left after n + 1
 pub one_line : (bytes : List ℕ) (n : ℕ) (text : List ℕ) (line : Line) (rest : Option (Bor (List ℕ))) → lines_of text ≡ drop n (lines_of bytes) → n + length text ≤ length bytes → MatchOption rest (lines_of text ≡ line ∷ []) (λ r. lines_of text ≡ line ∷ lines_of r.now) → IfSome rest (λ r. length r.now < length text) → (slice_get (lines_of bytes) n ≡ Some line) × IsLeft bytes (n + 1) rest
 one_line bytes n text line None left room is shorter =
     let at = here-and-behind (lines_of bytes) n line [] (sym left ∙ is) in

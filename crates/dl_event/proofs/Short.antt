@@ -1,4 +1,4 @@
--- Lines in their shortest form, with one digit.
+-- A line in its shortest form, with one digit, holds its event.
 use Rattle.std.proofs.Common.{◌≡◌, ℕ, ◌+◌, ◌<◌, ◌≤◌, suc, List, [], ◌∷◌, ◌++◌, length, drop, refl, ap₂, arith, below_more, below_none}
 use Rattle.std.proofs.lemmas.Slice.Eq.{HasBytesAt}
 use Rattle.spec_protocol.specs.declared.event.Event.{Event}

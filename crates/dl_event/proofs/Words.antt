@@ -1,4 +1,4 @@
--- The words of a line, from its front on.
+-- The words of a line are the one at its front, behind spaces, and those behind that.
 use Rattle.std.proofs.Common.{◌≡◌, ℕ, ◌<◌, ◌≤◌, ◌≢◌, not, eqb, List, [], ◌∷◌, ◌++◌, length, take, drop, get_or, refl, sym, ap, ◌∙◌, ◌⊎◌, inl, inr, arith, suc, zero, subst, ap₂, length-take, false, Option, Some, None, MatchOption, unwrap_or}
 use Rattle.std.specs.List.{All, AllWithin, HoldsAt, filter, slice_split}
 use Rattle.std.specs.Str.{bytes_eq}

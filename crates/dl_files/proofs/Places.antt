@@ -1,4 +1,4 @@
--- Where a name stands in a list of entries, and what the list then holds at each name.
+-- A list of entries holds at each name what the first entry of that name has, also after a write.
 use Rattle.std.proofs.Common.{◌≡◌, ◌≢◌, ℕ, zero, suc, ◌<◌, ◌≤◌, List, [], ◌∷◌, ◌++◌, length, set, get_or, Bool, true, false, cond, Option, None, Some, refl, sym, ap, subst, ◌∙◌, arith, length-append, Result, Ok, Err, OnOk, unwrap_or, is_ok, if◌then◌else◌}
 use Rattle.std.specs.Prelude.{is_some, nat_lt, IfSome, IfNone}
 use Rattle.std.specs.List.{position_or_len}

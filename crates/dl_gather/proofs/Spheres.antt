@@ -1,4 +1,4 @@
--- Spheres that are read one after another.
+-- Spheres that are read one after another are read as all are.
 use Rattle.std.proofs.Common.{◌≡◌, ℕ, ◌+◌, ◌<◌, List, [], ◌∷◌, ◌++◌, length, map, drop, get_or, flat_map, Option, Some, Ok, sym, ◌∙◌, ap, subst}
 use Rattle.std.proofs.lemmas.List.{drop_more, map-append}
 use Rattle.dl_files.specs.Contents.{Contents}

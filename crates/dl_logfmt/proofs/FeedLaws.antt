@@ -1,4 +1,4 @@
--- A reader that is fed: it holds the bytes before a piece, and then those with the piece.
+-- A reader that holds the bytes before a piece holds, once fed, those with the piece, or their fault.
 use Rattle.std.proofs.Common.{◌≡◌, ℕ, ◌+◌, ◌<◌, ◌≤◌, ◌^◌, nat_lt, Bool, true, false, List, [], ◌++◌, All, length, take, drop, Option, Some, None, Result, Ok, Err, if◌then◌else◌, refl, ap, sym, subst, ◌∙◌, append_assoc, append-nil, length-append, arith}
 use Rattle.std.proofs.lemmas.Bool.{ne_eqb}
 use Rattle.std.proofs.lemmas.List.{take-append-drop, length-take-le}
@@ -16,7 +16,7 @@ use Rattle.dl_logfmt.specs.Feeding.{Feeding, FedTo, HasFed, Holding, Refused, fe
 use Rattle.dl_logfmt.specs.Remaining.{log_of, remaining, rank}
 use Rattle.dl_logfmt.proofs.StartLaws.{parts-start}
 
--- nothing was fed
+-- a reader with a blank draft and nothing pending holds no byte
 pub holds-nothing : (d : Draft) (pending : List ℕ) → d ≡ blank → pending ≡ [] → Holding [] (record { draft = d; pending = pending; start = 0; refusal = None })
 holds-nothing d pending new empty =
     rw (new, empty) (record {
@@ -79,7 +79,7 @@ held-on bytes piece r e at refusal h (came, says) =
           rw past (later-more bytes piece rest r h ∙ ap (ended ((bytes ++ piece) ++ rest)) (leads-more bytes piece rest r h e at came));
     }
 
--- the same of the bytes as they stand
+-- a reader that was fed bytes, and whose draft is read on over a piece, was fed the bytes with the piece
 pub fed-on : (bytes piece all left : List ℕ) (r : Feeding) (e : Draft) (at : ℕ) → r.refusal ≡ None → HasFed bytes r → all ≡ r.pending ++ piece → left ≡ drop at all
     → Feeds all r.draft 0 (Ok tt) e at → HasFed (bytes ++ piece) (record { draft = e; pending = left; start = r.start + at; refusal = r.refusal })
 fed-on bytes piece all left r e at none fed whole rest feeds =
@@ -210,7 +210,7 @@ rank-most DmaCount = omega arith
 rank-most (Dmas n) = omega arith
 rank-most Nothing = omega arith
 
--- the offset of a byte that wasn't used
+-- the offset from which a reader's bytes are pending is below 2^47
 pub start-low : (bytes : List ℕ) (r : Feeding) → Holding bytes r → r.start < 2 ^ 47
 start-low bytes r h =
     omega (arith, h.low, h.few.order, h.few.each, h.few.short, h.few.interrupts, h.few.inputs, h.few.dmas, rank-most r.draft.head.stage)

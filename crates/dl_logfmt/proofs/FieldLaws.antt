@@ -1,4 +1,4 @@
--- The fields of a log that stand alone, as a draft reads them.
+-- A field of a log that stands alone is read into the draft, or the draft stays with the field's error.
 use Rattle.std.proofs.Common.{◌≡◌, ℕ, ◌+◌, ◌<◌, ◌≤◌, ◌^◌, ◌==◌, List, length, Result, Ok, Err, refl, ap, sym, subst, ◌∙◌, arith, inl, inr}
 use Rattle.std.specs.Prelude.{◌⊎◌}
 use Rattle.spec_log.specs.declared.log.LogParts.{LogParts}

@@ -1,4 +1,4 @@
--- Lists that are read on: entries of a section, and the actors of an order.
+-- A list that is read on, of entries or of actors, grows by what is read, or stays with the error.
 use Rattle.std.proofs.Common.{◌≡◌, ℕ, suc, ◌+◌, ◌-◌, ◌/◌, ◌%◌, ◌<◌, ◌≤◌, ◌^◌, Bool, List, [], ◌∷◌, ◌++◌, length, Some, Result, Ok, Err, slice_get, refl, append_assoc, append-nil, arith, ◌∙◌}
 use Rattle.std.proofs.lemmas.List.{length_push}
 use Rattle.dl_entry.specs.declared.actor.Actor.{Actor}
@@ -45,6 +45,7 @@ more-end earlier entry count xs bytes at l =
     let left : count - length xs ≡ 0 = omega arith in
     rw (left, append-nil xs) refl
 
+-- a list extends itself
 pub Extends-same : {X : Type 0} (xs : List X) → Extends xs xs
 Extends-same xs = ([], rw (append-nil xs) refl)
 

@@ -1,4 +1,4 @@
--- The sections of a draft, as they are read on.
+-- A section that is read on stands in the draft, whole or in part.
 use Rattle.std.proofs.Common.{◌≡◌, ℕ, ◌+◌, ◌≤◌, true, nat_lt, List, Result, Ok, Err, refl, ap, sym, ◌∙◌, arith}
 use Rattle.dl_entry.specs.declared.actor.Actor.{Actor}
 use Rattle.dl_entry.specs.declared.input.Input.{Input}

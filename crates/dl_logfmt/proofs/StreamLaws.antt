@@ -209,7 +209,7 @@ step-stops {X} most unit reader bytes at fault s inside e on before behind =
     let h = subst (λ (r : Result (Read X) Fault). Holds most before bytes behind at r (unit (before ++ (bytes ++ behind)) (length before + at))) e (s.holds before bytes behind at inside) in
     record { within = h.within; short = h.short; same = λ k. on _ _ _ (h.same k) }
 
--- what leads on leads on in a longer reader
+-- where one reader leads to another, so does it with the same reader behind both
 pub Leads-read : {X Y : Type 0} (bytes : List ℕ) (first second : Reader X) (at after : ℕ) (next : X → Reader Y)
     → Leads bytes first at second after → Leads bytes (read first next) at (read second next) after
 Leads-read {X} bytes first second at after next l before behind =

@@ -1,4 +1,4 @@
--- How long a generated image is.
+-- A generated image has the same length whatever its number.
 use Rattle.std.proofs.Common.{◌≡◌, ℕ, length, refl}
 use Rattle.dl_asm.specs.File.{code_of, file_of}
 use Rattle.dl_make.specs.Generated.{words_of, made}

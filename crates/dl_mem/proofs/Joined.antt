@@ -26,7 +26,7 @@ length_concat n (p ∷ ps) h =
     let rest : length (concat ps) ≡ length ps * n = length_concat n ps (rest_long n p ps h) in
     length-append p (concat ps) ∙ omega arith
 
--- the element of place j of page i
+-- byte i * n + j of all pages is byte j of page i
 pub get_concat : (n : ℕ) (ps : List (List ℕ)) (i j at : ℕ) → AllLong n ps → i < length ps → j < n → at ≡ i * n + j →
     slice_index (concat ps) at ≡ slice_index (get_or ps i []) j
 get_concat n [] i j at h lt ltj e = absurd (omega arith)
@@ -39,7 +39,7 @@ get_concat n (p ∷ ps) (suc i) j at h lt ltj e =
     get_or-append_right p (concat ps) n at 0 first (omega arith)
     ∙ get_concat n ps i j (at - n) (rest_long n p ps h) (omega arith) ltj (omega arith)
 
--- so many elements from place j of page i on, which end in that page
+-- bytes from i * n + j on that end in page i are those from j on of that page
 pub part_concat : (n : ℕ) (ps : List (List ℕ)) (i j k at : ℕ) → AllLong n ps → i < length ps → j + k ≤ n → at ≡ i * n + j →
     take k (drop at (concat ps)) ≡ take k (drop j (get_or ps i []))
 part_concat n [] i j k at h lt ltk e = absurd (omega arith)

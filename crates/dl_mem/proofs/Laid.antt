@@ -14,7 +14,7 @@ IsMemory-lay old new w k v e h =
       bytes = IsBytes-lay old w k v h.bytes;
     })
 
--- a store from its address on, byte by byte
+-- to lay a store is to store its four bytes, each where its bit of the mask is set, from its address on
 pub lay-from : (m : List ℕ) (at mask value : ℕ) → at % 4 ≡ 0 →
     lay m (bytes_of (at / 4) mask value)
     ≡ with_byte

@@ -15,7 +15,7 @@ use Rattle.dl_mem.proofs.Joined.{AllLong, AllLong-set, length_concat, get_concat
 pub length_paged : (ps : List (List ℕ)) → IsPaged ps → length (concat ps) ≡ length ps * 4096
 length_paged ps h = length_concat 4096 ps h.whole
 
--- the page of an address inside
+-- a word inside a memory lies in one of its pages
 pub page_inside : (ps : List (List ℕ)) (addr : ℕ) → IsPaged ps → addr + 4 ≤ length (concat ps) → addr / 4096 < length ps
 page_inside ps addr h inside = let long = length_paged ps h in omega arith
 
@@ -104,6 +104,6 @@ copy_paged ps at n here others page h lt ends e whole =
     let sum : n ≡ here + others = omega arith in
     rw (sum, ← front, ← drop-drop here at (concat ps), ← drop-take here others xs, ← take-take here (here + others) xs (omega arith)) (take-append-drop here (take (here + others) xs))
 
--- the page of the first of some bytes inside
+-- the first of some bytes inside a memory lies in one of its pages
 pub first_inside : (ps : List (List ℕ)) (at n : ℕ) → IsPaged ps → at + n ≤ length (concat ps) → 0 < n → at / 4096 < length ps
 first_inside ps at n h inside some = let long = length_paged ps h in omega arith

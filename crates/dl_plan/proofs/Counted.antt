@@ -1,4 +1,4 @@
--- A lemma on the number of spheres.
+-- A good plan has 1 to 8 spheres.
 use Rattle.std.proofs.Common.{◌≤◌, IsTrue, List, length, arith}
 use Rattle.std.proofs.lemmas.Bool.Decides.{nat_tests}
 use Rattle.dl_plan.specs.Entries.{SphereEntries}

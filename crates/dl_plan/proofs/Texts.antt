@@ -1,4 +1,4 @@
--- A lemma on lists of names.
+-- A test passes some of what is made of a list just where the test of what is made passes some of the list.
 use Rattle.std.proofs.Common.{◌≡◌, Bool, ◌||◌, List, [], ◌∷◌, map, refl, ap}
 use Rattle.std.specs.List.{list_any}
 

@@ -1,4 +1,4 @@
--- Schedules that are drawn from a seed.
+-- A schedule that is drawn from a seed has as many events as were asked for.
 use Rattle.std.proofs.Common.{◌≡◌, ℕ, zero, suc, length, refl, ap}
 use Rattle.rand_pcg.specs.Lcg.{Lcg}
 use Rattle.rand_pcg.specs.Pcg.{pcg32}

@@ -1,4 +1,4 @@
--- What a run that is over tells, sphere by sphere: in the words of its texts, and in those of the machine.
+-- What a run that is over tells, sphere by sphere, in the words of the machine is what its texts say.
 use Rattle.std.proofs.Common.{◌≡◌, ℕ, zero, suc, ◌+◌, ◌<◌, ◌≤◌, ◌^◌, Bool, true, false, List, [], ◌∷◌, ◌++◌, length, Some, None, refl, sym, ap, ◌∙◌, subst, arith, get_or, inl, inr}
 use Rattle.std.specs.Prelude.{◌⊎◌, ◌||◌, slice_get, drop}
 use Rattle.std.proofs.lemmas.List.{append_assoc}
@@ -52,7 +52,7 @@ as_many es r over = ap (λ (w : World). length w.spheres) over.world ∙ (runs_t
 
 -- ---- a sphere
 
--- within the limits of a setup
+-- a run that is over has at most 8 spheres
 pub few_spheres : (es : List Event) (r : Ran) → IsOver es r → length r.setup.spheres ≤ 8
 few_spheres es r over = over.limits.few.1
 
@@ -237,10 +237,12 @@ lines-after x xs i ls line inside is =
 abbrev here : List SphereSetup → ℕ → Bool
 here xs i = diverges_as (get_or xs i no_image) (get_or xs i no_image).role
 
+-- where sphere i hasn't diverged, a sphere from i on has where a later one has
 pub diverges-later : (xs : List SphereSetup) (i : ℕ) → i < length xs → here xs i ≡ false → diverges (drop (suc i) xs) ≡ diverges (drop i xs)
 diverges-later xs i inside is =
     ap (λ (b : Bool). b || diverges (drop (suc i) xs)) (sym is) ∙ ap diverges (sym (image-next xs i inside))
 
+-- where sphere i has diverged, a sphere from i on has
 pub diverges-here : (xs : List SphereSetup) (i : ℕ) → i < length xs → here xs i ≡ true → true ≡ diverges (drop i xs)
 diverges-here xs i inside is =
     ap (λ (b : Bool). b || diverges (drop (suc i) xs)) (sym is) ∙ ap diverges (sym (image-next xs i inside))

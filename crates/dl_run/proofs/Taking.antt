@@ -40,6 +40,7 @@ pub record Driving (all left : List Event) (new now : World) : Type 0 where
   pub both : done ++ left ≡ all
   pub taken : HasTaken done new now
 
+-- in the new world no event was taken, and all are left
 pub driving_start : (all : List Event) (w : World) → IsNew w → Driving all all w w
 driving_start all w new = record { setup = new.setup; first = new.run; done = []; both = refl; taken = λ s run. run }
 

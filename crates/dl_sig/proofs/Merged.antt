@@ -1,4 +1,4 @@
--- Two lists merged, element by element, as far as a loop has come.
+-- Two lists that a loop merges element by element are, at its end, the list of all merged pairs.
 use Rattle.std.proofs.Common.{◌≡◌, ℕ, zero, suc, ◌+◌, ◌<◌, List, [], ◌∷◌, length, get_or, set, take, refl, ◌∙◌, ap, arith}
 use Rattle.std.specs.Simd.Lanes.{zip2, chunk, put_chunk}
 

@@ -1,4 +1,4 @@
--- What `clap` is told, one subcommand after another.
+-- A command to which subcommands are added one after another is told to `clap` with all of them.
 use Rattle.std.proofs.Common.{◌≡◌, ◌∙◌, ◌||◌, Bool, true, false, refl, ap, ap₂, List, [], ◌∷◌, Option, None}
 use Rattle.clap.specs.Words.{AddsSubcommand, App, IsAmong, Kinds, Row, Text, app_of, with_subcommand}
 use Rattle.clap.specs.declared.Command.{Command}

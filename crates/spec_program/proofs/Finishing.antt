@@ -11,7 +11,7 @@ use Rattle.spec_program.specs.Tasks.{Task, IsTask, setup_in, task_named}
 use Rattle.spec_program.specs.Works.{Work, Running, usage, work_for, work_of}
 use Rattle.spec_program.proofs.Able.{task_can_finish}
 
--- the work of words that mean a command
+-- the work of words that mean a command is that command's
 pub work_is : (words : List (List ℕ)) (m : Contents) (command : CommandValues) → command_of words ≡ Some command → work_of words m ≡ work_for m command
 work_is words m command asks = ap (λ (c : Option CommandValues). ok_or c usage >> work_for m) asks
 
