@@ -1,4 +1,4 @@
--- The decimal digits of a number, written from the last one on into the end of a field.
+-- Digits that are written from the last one on into the end of a field are the number's decimal.
 use Rattle.std.proofs.Common.{◌≡◌, ℕ, ◌+◌, ◌-◌, ◌/◌, ◌%◌, ◌^◌, ◌<◌, ◌≤◌, zero, suc, List, [], ◌∷◌, ◌++◌, length, take, drop, length-drop, decimal, slice_set, refl, sym, ap, ◌∙◌, arith}
 use Rattle.std.proofs.lemmas.Fmt.{decimal_digit, decimal_step}
 use Rattle.std.proofs.lemmas.Grind.{drop-set_at}
@@ -19,9 +19,11 @@ room rest zero large small = absurd (omega arith)
 room rest (suc zero) large small = absurd (omega arith)
 room rest (suc (suc k)) large small = let one : suc (suc k) - 1 ≡ suc k = omega arith in (omega arith, rw one (omega arith))
 
+-- a field of 21 bytes with no digit written yet has all of the number's digits still to come
 pub begun : (field : List ℕ) (n : ℕ) → length field ≡ 21 → n < 2 ^ 64 → decimal n ≡ decimal n ++ drop 21 field → IsWritten field 20 n n
 begun field n len fits digits = record { len = len; low = omega arith; high = omega arith; small = omega arith; fits = fits; digits = digits }
 
+-- with the last digit of `rest` put in at `start`, the digits of rest / 10 are what is still to come
 pub one_more : (field : List ℕ) (start rest n : ℕ) → IsWritten field start rest n → 10 ≤ rest → IsWritten (slice_set field start (48 + rest % 10)) (start - 1) (rest / 10) n
 one_more field start rest n written large =
     let both = room rest start large written.small in
@@ -40,7 +42,7 @@ one_more field start rest n written large =
           (sym (drop-set_at field start (start - 1 + 1) (48 + rest % 10) (omega (arith, both.0)) (omega (arith, written.len, written.high))));
     }
 
--- the part of the field from the space on
+-- with the last digit put in and a space before all, the field from the space on is a space and the number's decimal
 pub ended : (field : List ℕ) (start rest n : ℕ) → IsWritten field start rest n → rest < 10 → take (21 - (start - 1)) (drop (start - 1) (slice_set (slice_set field start (48 + rest)) (start - 1) 32)) ≡ 32 ∷ decimal n
 ended field start rest n written small =
     let digit : List ℕ = slice_set field start (48 + rest) in

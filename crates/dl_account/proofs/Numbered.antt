@@ -1,4 +1,4 @@
--- Texts of numbered entries, one entry after another.
+-- The text of numbered entries grows by one entry's, with the number after those before it.
 use Rattle.std.proofs.Common.{◌≡◌, ℕ, ◌+◌, ◌<◌, List, [], ◌∷◌, ◌++◌, length, take, get_or, sym, ap, ◌∙◌, arith}
 use Rattle.std.proofs.lemmas.List.{append_assoc, append-nil, length-take-le}
 use Rattle.std.proofs.lemmas.Grind.{take_at_read}
@@ -12,7 +12,7 @@ numbered-push text n (y ∷ ys) x =
     ∙ ap (λ (k : ℕ). text n y ++ (numbered text (n + 1) ys ++ text k x)) (omega arith)
     ∙ sym (append_assoc (text n y) (numbered text (n + 1) ys) (text (n + length (y ∷ ys)) x))
 
--- the text of the first i entries, and the next entry's
+-- the text of the first i entries, and the next entry's, are the text of i + 1
 pub numbered_more : {X : Type 0} (text : ℕ → X → List ℕ) (old : List ℕ) (xs : List X) (i : ℕ) (d : X) → i < length xs → old ++ numbered text 0 (take i xs) ++ text i (get_or xs i d) ≡ old ++ numbered text 0 (take (i + 1) xs)
 numbered_more text old xs i d here =
     let number : 0 + length (take i xs) ≡ i = omega (arith, length-take-le i xs) in
@@ -22,7 +22,7 @@ numbered_more text old xs i d here =
     ∙ sym (numbered-push text 0 (take i xs) (get_or xs i d))
     ∙ ap (λ (some : List _). numbered text 0 some) (sym (take_at_read xs i d here).1))
 
--- the same, where the entry was read
+-- the text of the first i entries, and that of the entry that was read at i, are the text of i + 1
 pub numbered_read : {X : Type 0} (text : ℕ → X → List ℕ) (old : List ℕ) (xs : List X) (i : ℕ) (x : X) → i < length xs → x ≡ get_or xs i x → old ++ numbered text 0 (take i xs) ++ text i x ≡ old ++ numbered text 0 (take (i + 1) xs)
 numbered_read text old xs i x here read =
     ap (λ (y : _). old ++ numbered text 0 (take i xs) ++ text i y) read ∙ numbered_more text old xs i x here

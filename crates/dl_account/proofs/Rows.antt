@@ -1,4 +1,4 @@
--- The rows of a memory: how many there are, and each by its number.
+-- A memory has a row for each 32 bytes, and each row is found by its number.
 use Rattle.std.proofs.Common.{◌≡◌, ℕ, ◌+◌, ◌*◌, ◌/◌, ◌<◌, zero, suc, List, [], length, take, drop, get_or, refl, ap, ◌∙◌, arith}
 use Rattle.std.proofs.lemmas.List.{drop-drop}
 use Rattle.std.specs.Simd.{first_chunks}
@@ -15,8 +15,10 @@ get_or-chunks n (suc k) (suc i) at xs lt e =
     let next : at ≡ n + n * i = omega arith in
     get_or-chunks n k i (n * i) (drop n xs) (omega arith) refl ∙ rw (next, ← drop-drop (n * i) n xs) refl
 
+-- a memory has a row for each 32 of its bytes
 pub length-rows : (m : List ℕ) → length (rows m) ≡ length m / 32
 length-rows m = length-chunks 32 (length m / 32) m
 
+-- row i is the 32 bytes from 32 * i on
 pub get_or-rows : (m : List ℕ) (i : ℕ) → i < length m / 32 → get_or (rows m) i [] ≡ take 32 (drop (32 * i) m)
 get_or-rows m i lt = get_or-chunks 32 (length m / 32) i (32 * i) m lt refl

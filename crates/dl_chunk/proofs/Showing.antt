@@ -14,7 +14,7 @@ use Rattle.dl_chunk.specs.Seeing.{shown}
 pub within : (m : List ℕ) (ws : List Stored) (addr : ℕ) → addr + 4 ≤ length (lays m ws) → addr + 4 ≤ length m
 within m ws addr h = omega (arith, length_lays m ws)
 
--- a word of the memory with the words over it
+-- a word of the memory with the buffer's words over it is the word of the memory in which they are laid
 pub word_shown : (m : List ℕ) (ws : List Stored) (addr : ℕ) → Apart ws → IsBytes m → addr % 4 ≡ 0 → addr + 4 ≤ length m
     → over ws (addr / 4) (read m (addr / 4)) ≡ read (lays m ws) (addr / 4)
 word_shown m ws addr apart bytes aligned inside = sym (read_over m ws (addr / 4) apart bytes (omega arith))

@@ -153,6 +153,8 @@ module _ (m : List ℕ) (slots : List (Option Flight)) (c : ℕ) (t : Terms) (p 
       step_is
       ∙ sym (ap (λ (d : Did). finish d (thread_next s p.thread) (store_made s p.thread) (noted (load_read d o_) (noted (fetch_read s p.thread) (chunk_of t p n)))) e)
 
+  -- an instruction that goes on leaves the thread and the notes of its answer, one instruction more,
+  -- and the chunk closes if that was its last
   pub step_next : (load : Option Load) (thread : Parts) (after : Notes) → Did.Next load ≡ did s p.thread → thread ≡ thread_next s p.thread → after ≡ left s p.thread (Did.Next load) n
       → step n.words.capacity m slots c (chunk_of t p n) ≡ at_limit (with_ran (chunk_of t (record p { thread = thread }) after) load)
   step_next load thread after e is is_left =
@@ -160,6 +162,7 @@ module _ (m : List ℕ) (slots : List (Option Flight)) (c : ℕ) (t : Terms) (p 
       ∙ ap at_limit (ran_left o_ (fetch_read s p.thread) (store_made s p.thread) (thread_next s p.thread) load)
       ∙ sym (λ i. at_limit (with_ran (chunk_of t (record p { thread = is i }) (is_left i)) load))
 
+  -- a serial instruction closes the chunk as Serial, and no line is noted but that of its fetch
   pub step_serial : (kind : Kind) (thread : Parts) (after : Notes) → Did.Serial kind ≡ did s p.thread → thread ≡ p.thread → after ≡ left s p.thread (Did.Serial kind) n
       → step n.words.capacity m slots c (chunk_of t p n) ≡ closes How.Serial (chunk_of t (record p { thread = thread }) after)
   step_serial kind thread after e is is_left =
@@ -167,6 +170,7 @@ module _ (m : List ℕ) (slots : List (Option Flight)) (c : ℕ) (t : Terms) (p 
       ∙ ap (closes How.Serial) (noted_left None (fetch_read s p.thread))
       ∙ sym (λ i. closes How.Serial (chunk_of t (record p { thread = is i }) (is_left i)))
 
+  -- an instruction whose store finds no room closes the chunk as Overflow, with its reads noted
   pub step_full : (thread : Parts) (after : Notes) → Did.NoRoom ≡ did s p.thread → thread ≡ p.thread → after ≡ left s p.thread Did.NoRoom n
       → step n.words.capacity m slots c (chunk_of t p n) ≡ closes How.Overflow (chunk_of t (record p { thread = thread }) after)
   step_full thread after e is is_left =
@@ -174,6 +178,7 @@ module _ (m : List ℕ) (slots : List (Option Flight)) (c : ℕ) (t : Terms) (p 
       ∙ ap (closes How.Overflow) (noted_left o_ (fetch_read s p.thread))
       ∙ sym (λ i. closes How.Overflow (chunk_of t (record p { thread = is i }) (is_left i)))
 
+  -- a fetch or a load that flight k holds up bounces, and the chunk stays open: a load keeps the line of its fetch
   pub step_bounced : (k : ℕ) (thread : Parts) (after : Notes) → Did.Bounced k ≡ did s p.thread → thread ≡ p.thread → after ≡ left s p.thread (Did.Bounced k) n
       → step n.words.capacity m slots c (chunk_of t p n) ≡ record { reply = Stepped.Bounced k; chunk = chunk_of t (record p { thread = thread }) after }
   step_bounced k thread after e is is_left =
@@ -193,11 +198,13 @@ module _ (m : List ℕ) (slots : List (Option Flight)) (c : ℕ) (t : Terms) (p 
   capacity_kept (Some k) (Some a) None = refl
   capacity_kept (Some k) (Some a) (Some b) = refl
 
+  -- what the chunk's step answers is what the step of its engine answers
   pub reply_is : (most : ℕ) (to : Stepping) (e : Engine) (reply : Stepped) → engine_of most t p n ≡ e → step n.words.capacity m slots c (chunk_of t p n) ≡ to → reply ≡ to.reply
       → reply ≡ (step e.capacity m slots c e.chunk).reply
   reply_is most to e reply view stepped is =
       subst (λ (x : Engine). reply ≡ (step x.capacity m slots c x.chunk).reply) view (is ∙ sym (ap (λ (x : Stepping). x.reply) stepped))
 
+  -- with the chunk that the step leaves, and the capacity of what it notes, the engine is the old one, its chunk stepped
   pub engine_is : (most : ℕ) (to : Stepping) (e v : Engine) (d : Did) (after : Notes) → engine_of most t p n ≡ e → step n.words.capacity m slots c (chunk_of t p n) ≡ to
       → after ≡ left s p.thread d n → v ≡ record { most = most; capacity = after.words.capacity; chunk = to.chunk }
       → v ≡ with_chunk (step e.capacity m slots c e.chunk).chunk e

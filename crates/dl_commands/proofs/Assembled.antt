@@ -1,4 +1,4 @@
--- The file of a source, or the first line that is refused, as the assembler answers.
+-- What the assembler answers of a source is its file, or the first line that is refused.
 use Rattle.std.proofs.Common.{◌≡◌, ℕ, zero, suc, ◌+◌, ◌<◌, ◌≤◌, List, length, Option, Some, None, Ok, Err, refl, sym, ap, ◌∙◌, inl, inr, arith}
 use Rattle.std.proofs.Math.Nat.{eq-or-lt_of_le}
 use Rattle.dl_asm.specs.declared.error.Rule.{Rule}
@@ -26,11 +26,13 @@ first_refused lines i (suc n) j rule low high broken kept = elim (eq-or-lt_of_le
       ∙ first_refused lines (suc i) n j rule (omega (arith, less)) (omega (arith, high)) broken kept
 ]
 
+-- of a source that assembles to a file, the outcome is that file
 pub file_made : (source file : List ℕ) → Assembles source file → assembled source ≡ Ok file
 file_made source file made =
     ap (λ (o : Option Refused). unless_refused o (file_of (words_in (lines_of source)))) (none_refused (lines_of source) 0 (length (lines_of source)) (λ k l. made.code.kept k (omega (arith, l))))
     ∙ ap Ok (sym made.image.form)
 
+-- of a source that is refused at a line, the outcome is that line with its rule
 pub line_refused : (source : List ℕ) (line : ℕ) (rule : Rule) → IsRefused (lines_of source) line rule → assembled source ≡ Err (bad_source line rule)
 line_refused source line rule refused =
     ap (λ (o : Option Refused). unless_refused o (file_of (words_in (lines_of source))))

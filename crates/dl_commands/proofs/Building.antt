@@ -1,4 +1,4 @@
--- What is built of the files that a plan has read, sphere after sphere.
+-- What is built of the files that a plan has read is the task's, sphere after sphere.
 use Rattle.std.proofs.Common.{◌≡◌, ℕ, suc, ◌+◌, ◌<◌, List, [], ◌∷◌, length, map, take, drop, set, get_or, Result, Ok, arith, sym, ◌∙◌, ap, subst}
 use Rattle.std.proofs.Math.Seq.{take-suc-set}
 use Rattle.std.proofs.lemmas.List.{drop-set-lt, drop_more, map-append}

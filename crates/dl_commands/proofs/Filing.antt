@@ -1,4 +1,4 @@
--- A file that is written, and its size told.
+-- To write one file and tell its size is what making an image comes to.
 use Rattle.std.proofs.Common.{◌≡◌, ℕ, false, List, [], ◌∷◌, length, Result, Ok, Err, sym, ap, ◌∙◌}
 use Rattle.std.specs.Prelude.{IfOk}
 use Rattle.dl_entry.specs.declared.OutOfMemory.{OutOfMemory}
@@ -13,6 +13,7 @@ use Rattle.dl_commands.specs.Jobs.{IsJob, writes_of}
 abbrev one_write : (name bytes : List ℕ) → List Write
 one_write name bytes = at_once name bytes ∷ []
 
+-- a job that writes the image of number v at once, tells its size and hasn't diverged is the job of making v
 pub making_is : (v : ℕ) (name bytes text : List ℕ) (r : Result Job OutOfMemory) → bytes ≡ made v → text ≡ made_line (length bytes)
     → IfOk r (λ job. writes_of job.writes.items ≡ one_write name bytes) → IfOk r (λ job. job.text.items ≡ text) → IfOk r (λ job. job.diverged ≡ false)
     → IfOk r (IsJob (Making v name))

@@ -1,4 +1,4 @@
--- From the ways in which a command is done or stops to what its status says.
+-- However a command is done or stops, what it leaves is what its status says.
 use Rattle.std.proofs.Common.{◌≡◌, ◌⊎◌, ℕ, ◌<◌, Bool, true, false, true≢false, if◌then◌else◌, List, [], Option, Some, None, Result, Ok, inl, inr, refl, sym, ◌∙◌, ap, subst, arith, append-nil}
 use Rattle.std.proofs.lemmas.Option.{none-some}
 use Rattle.dl_files.specs.Contents.{Contents, IsLast}
@@ -115,6 +115,7 @@ all_said text m before after Status.Source e = absurd (not_done Status.Source e.
 all_said text m before after Status.Absent e = absurd (not_done Status.Absent e.status (omega arith))
 all_said text m before after Status.Fault (name, f) = absurd (none_fails m after.told name f.files)
 
+-- a drill ends well, or by the sink, or by want of memory
 pub drill_ends : (words : List (List ℕ)) (m : Contents) (before after : Outside) (s : Status) (number : ℕ)
     → command_of words ≡ Some (Drill number) → Stands (outcome_of words m) (reads_of words m) m before after s
     → (s ≡ Status.Done) ⊎ ((s ≡ Status.Sink) ⊎ (s ≡ Status.Memory))
@@ -147,6 +148,7 @@ fault_is : (told : Option Contents) (o : Outcome) (reads : Contents → List (Li
     → IsFault told reads before.faults after.faults after.last name → Took (fault_line name) before.taken after.taken → IsFaulted o (reads m) m before after name
 fault_is told o reads m before after name e same f took = record { counted = f.counted; named = f.named; files = inl (same, f.next m e); output = took }
 
+-- what a command that halts before anything is written leaves outside is what its status says
 pub halted_stands : (task : Contents → Result Work Refused) (reads : Contents → List (List ℕ)) (m : Contents) (before after : Outside) (h : Halt) (s : Status)
     → before.told ≡ Some m → after.told ≡ before.told → Halts before.told task reads before.faults after.faults after.last h
     → Stopped h before.taken after.taken before.sink_faults after.sink_faults s → Stands (outcome_in (task m)) (reads m) m before after s
@@ -185,6 +187,7 @@ refusal_undone Refusal.Grammar e = true≢false (sym e)
 refusal_undone Refusal.Source e = true≢false (sym e)
 refusal_undone Refusal.Absent e = true≢false (sym e)
 
+-- a command that halts doesn't end with a status of one that is done
 pub stopped_undone : (h : Halt) (old new : Option (List ℕ)) (from to : ℕ) (s : Status) → Stopped h old new from to s → is_done s ≡ true → ⊥
 stopped_undone (Halt.Refused why text) old new from to s stopped done = elim stopped.0 [
   | inl due ↦ refusal_undone why (sym (ap is_done due.0) ∙ done)
@@ -213,6 +216,7 @@ no_refusal_fault Refusal.Absent e = omega (arith, ap code_of e)
 abbrev pub FaultSaid : (last old new : Option (List ℕ)) → Type 0
 FaultSaid last old new = (name : List ℕ) × IsLast last name × TookAll (fault_line name) old new
 
+-- a command that ends by a fault of a write says the last fault's line, whole where the sink had no fault
 pub performed_fault : (d : Bool) (ws : List Write) (text : List ℕ) (old new : Outside) (s : Status) → IsPerformed d ws text old new s → s ≡ Status.Fault → (Rose old.sink_faults new.sink_faults → ⊥)
     → FaultSaid new.last old.taken new.taken
 performed_fault d ws text old new s (inl w) e whole = absurd (subst (Said d text old.taken new.taken old.sink_faults new.sink_faults) e w.said)
@@ -222,6 +226,7 @@ performed_fault d ws text old new s (inr (inl (name, b))) e whole = elim b.said.
 ]
 performed_fault d ws text old new s (inr (inr u)) e whole = absurd (no_memory_fault s u.status e)
 
+-- a command that halts by a fault of a read says the last fault's line, whole where the sink had no fault
 pub stopped_fault : (told : Option Contents) (task : Contents → Result Work Refused) (reads : Contents → List (List ℕ)) (old new : ℕ) (last : Option (List ℕ)) (h : Halt) (before after : Option (List ℕ)) (from to : ℕ) (s : Status)
     → Halts told task reads old new last h → Stopped h before after from to s → s ≡ Status.Fault → (Rose from to → ⊥) → FaultSaid last before after
 stopped_fault told task reads old new last (Halt.Refused why text) before after from to s halts stopped e whole = elim stopped.0 [

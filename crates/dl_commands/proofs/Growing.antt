@@ -36,7 +36,7 @@ performed_took diverged writes text old new s (inl w) = (text, took_said diverge
 performed_took diverged writes text old new s (inr (inl (name, cut))) = (fault_line name, cut.said.1)
 performed_took diverged writes text old new s (inr (inr u)) = ([], took_none old.taken new.taken u.output)
 
--- of the line of a halt
+-- where a command halts, the sink took the first bytes of its line, or none
 pub stopped_took : (h : Halt) (old new : Option (List ℕ)) (from to : ℕ) (s : Status) → Stopped h old new from to s → (said : List ℕ) × Took said old new
 stopped_took (Halt.Refused why text) old new from to s told = (text.items, told.1)
 stopped_took (Halt.Fault text) old new from to s told = (text.items, told.1)

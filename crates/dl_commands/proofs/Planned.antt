@@ -1,4 +1,4 @@
--- What is made of a plan's parts: the products that its files take.
+-- The files that a plan writes take the products of its own spheres, or of all.
 use Rattle.std.proofs.Common.{◌≡◌, ℕ, suc, ◌+◌, ◌<◌, ◌≤◌, List, [], ◌∷◌, ◌++◌, length, map, drop, get_or, Option, Some, None, sym, ap, ◌∙◌, append_assoc, arith}
 use Rattle.std.specs.List.{AllByRecursion}
 use Rattle.std.proofs.lemmas.List.{drop_more, map-append}
@@ -21,6 +21,7 @@ all_append P (x ∷ xs) ys a b = (a.0, all_append P xs ys a.1 b)
 
 -- ---- products
 
+-- where the products of all outputs are those of n spheres, so is the product of output i
 pub product_at : (n : ℕ) (outputs : List Output) (i : ℕ) (d : Output) → AreProducts n (map output_view outputs) → i < length outputs → IsProduct n (get_or outputs i d).product
 product_at n outputs i d are h = all_at (λ (o : OutputValues). IsProduct n o.product) output_view outputs i d are h
 
@@ -53,7 +54,7 @@ plan_products p =
 
 -- ---- what they are filled with
 
--- one more of the files that are to come is filled
+-- with the next file filled, the files that are filled and those to come are still all of them
 pub one_written : (xs : List NamedContent) (w : NamedContent) (new : List NamedContent) (fill : OutputValues → Write) (outputs : List Output) (i : ℕ) (d : Output) (all : List Write) → i < length outputs
     → new ≡ xs ++ w ∷ [] → write_of w ≡ fill (output_view (get_or outputs i d)) → writes_of xs ++ map fill (map output_view (drop i outputs)) ≡ all
     → writes_of new ++ map fill (map output_view (drop (i + 1) outputs)) ≡ all

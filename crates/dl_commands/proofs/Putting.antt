@@ -1,8 +1,9 @@
--- A text that is taken in parts.
+-- A text that is taken in parts is taken as one.
 use Rattle.std.proofs.Common.{◌≡◌, ℕ, ◌+◌, List, ◌++◌, take, drop, Option, Some, None, refl, sym, ◌∙◌, ap, append_assoc}
 use Rattle.std.proofs.Math.Seq.{take-add}
 use Rattle.dl_files.specs.Taken.{with_taken}
 
+-- a sink that has taken a text's first bytes, and takes n more, has taken so many together
 pub with_taken_more : (n done : ℕ) (text : List ℕ) (told : Option (List ℕ)) → with_taken n (drop done text) (with_taken done text told) ≡ with_taken (done + n) text told
 with_taken_more n done text None = refl
 with_taken_more n done text (Some t) =

@@ -1,4 +1,4 @@
--- A walk of as many commits as the log has comes to the log's end.
+-- A walk of as many commits as the log has comes to an end.
 use Rattle.std.proofs.Common.{◌≡◌, ℕ, List, refl, sym, subst, arith}
 use Rattle.spec_log.specs.declared.LogParts.{LogParts}
 use Rattle.spec_play.specs.declared.WalkEnd.{WalkEnd}
@@ -10,6 +10,7 @@ ended : (e : WalkEnd) → ((done : ℕ) → e ≡ WalkEnd.Stopped done → ⊥) 
 ended (WalkEnd.Ended how) not_stopped = tt
 ended (WalkEnd.Stopped done) not_stopped = not_stopped done refl
 
+-- a walk up to as many commits as the log has comes to an end, and isn't stopped before it
 pub whole_walk : (log : LogParts) (memory : List ℕ) (entry to : ℕ) (w : Walked) → w ≡ walked log memory entry to → to ≡ log.count → HasEnded w.end
 whole_walk log memory entry to w is all =
     subst (λ (x : Walked). HasEnded x.end) (sym is)

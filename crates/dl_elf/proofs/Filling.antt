@@ -1,4 +1,4 @@
--- A memory, once a segment's bytes are copied to its address.
+-- A memory into which a segment's bytes are copied has them at the segment's address, and else what it had.
 use Rattle.std.proofs.Common.{◌≡◌, ℕ, ◌+◌, ◌-◌, ◌<◌, ◌≤◌, ◌⊎◌, inl, inr, true, false, cond, List, length, get_or, ap, ◌∙◌, leb-true, arith, rules}
 use Rattle.std.proofs.lemmas.Bool.Decides.{leb_tells, nat_tests}
 use Rattle.std.proofs.lemmas.List.{places}
@@ -62,6 +62,8 @@ fills_or_not s a small =
       | inr before ↦ inr (grind (arith, nat_tests), inl before.1)
     ]
 
+-- of a memory into which a segment's bytes are copied, a byte is the file's where the segment fills it,
+-- and else what it was
 pub filled : (memory file part : List ℕ) (s : Segment) (a : ℕ) → is_in_file file s ≡ true → is_in_memory (length memory) s ≡ true
     → part ≡ between s.offset (s.offset + s.file_size) file
     → get_or (put_mid s.address (s.address + s.file_size - s.address) memory part) a 0

@@ -1,4 +1,4 @@
--- A file that keeps its rules, and which it may break.
+-- A file that keeps the rules on its header breaks none before those on its segments.
 use Rattle.std.proofs.Common.{◌≡◌, ℕ, ◌%◌, ◌<◌, ◌≤◌, ◌==◌, Bool, true, false, not, Option, Some, None, Err, List, length, refl, sym, ap, ◌∙◌, subst, eqb-true, ltb-true, arith}
 use Rattle.std.specs.List.{list_all}
 use Rattle.std.specs.Option.{option_or}
@@ -70,7 +70,7 @@ keeps file size entry segments none =
       inside = ltb-true _ _ (both _ _ p.started).1;
     }
 
--- the same of segments that were looked at in another place
+-- segments that are those of a file that breaks no rule on them keep the rules, wherever they stand
 pub keeps_there : (file : List ℕ) (size entry : ℕ) (here there segments : List Segment) (o : Option ℕ) → o ≡ None → o ≡ broken_by_segments file size entry here → here ≡ segments → there ≡ segments → Keeps file size entry there
 keeps_there file size entry here there segments o none is e f =
     let P : List Segment → Type 0 = Keeps file size entry in subst P (e ∙ sym f) (keeps file size entry here (sym none ∙ is))

@@ -1,4 +1,4 @@
--- A memory, filled from one segment after the other. None shares an address, so none is filled twice.
+-- A memory that is filled from one segment after the other is the file's: no two share an address, so none is filled twice.
 use Rattle.std.proofs.Common.{◌≡◌, ℕ, ◌+◌, ◌-◌, ◌<◌, ◌≤◌, inl, inr, Bool, true, false, cond, Option, Some, None, List, [], ◌∷◌, ◌++◌, length, get_or, take, refl, sym, ap, ◌∙◌, subst, take_all, arith}
 use Rattle.std.proofs.lemmas.Bool.{cases_Bool}
 use Rattle.std.proofs.lemmas.List.{take_more}
@@ -56,6 +56,7 @@ filler-no segments n a s inside is test =
 abbrev copied_byte : (file old : List ℕ) (s : Segment) (a : ℕ) → Bool → ℕ
 copied_byte file old s a filled = cond filled (get_or file (s.offset + (a - s.address)) 0) (get_or old a 0)
 
+-- where no two segments share an address, a memory with the next segment copied is filled by one segment more
 pub filled-more : (file : List ℕ) (segments : List Segment) (size n : ℕ) (s : Segment) (old new : List ℕ) → overlap size segments ≡ false → n < length segments → s ≡ get_or segments n s
     → length new ≡ length old → ((a : ℕ) → a < length old → get_or new a 0 ≡ copied_byte file old s a (fills a s))
     → IsFilled file segments size n old → IsFilled file segments size (n + 1) new
@@ -68,6 +69,7 @@ filled-more file segments size n s old new apart inside is long copied f = recor
       ];
 }
 
+-- a memory that is filled by all segments is the memory of the file
 pub filled-all : (file : List ℕ) (segments : List Segment) (size n : ℕ) (memory : List ℕ) → length segments ≤ n → IsFilled file segments size n memory → memory ≡ memory_of file segments size
 filled-all file segments size n memory all f =
     let whole : take n segments ≡ segments = take_all n segments all in

@@ -1,4 +1,4 @@
--- How many segments have an address, and what that says of an overlap.
+-- Segments overlap where two have an address inside memory, and only there.
 use Rattle.std.proofs.Common.{◌≡◌, ℕ, ◌+◌, ◌<◌, ◌≤◌, ◌⊎◌, inl, inr, Bool, true, false, nat_lt, ◌&&◌, ◌||◌, List, [], ◌∷◌, get_or, refl, sym, ap, ap₂, subst, arith}
 use Rattle.std.proofs.lemmas.Bool.Decides.{leb_tells, nat_tests}
 use Rattle.std.proofs.lemmas.List.Folds.{list_any_at, list_any_none}
@@ -14,6 +14,7 @@ use Rattle.dl_elf.specs.Rules.{overlap}
 abbrev pub sharers : List Segment → (address : ℕ) → ℕ
 sharers segments address = count_by (has_address address) segments
 
+-- of a conjunction that is true, both parts are
 pub both : (x y : Bool) → (x && y) ≡ true → (x ≡ true) × (y ≡ true)
 both true true h = (refl, refl)
 both true false h = (refl, h)
@@ -25,10 +26,12 @@ pub record Has (s : Segment) (a : ℕ) : Type 0 where
   pub from : s.address ≤ a
   pub below : a < s.address + s.memory_size
 
+-- that a segment doesn't have the address, which lies before it or past its end
 pub record Lacks (s : Segment) (a : ℕ) : Type 0 where
   pub test : has_address a s ≡ false
   pub outside : (a < s.address) ⊎ (s.address + s.memory_size ≤ a)
 
+-- a segment has an address, or lacks it
 pub has_or_lacks : (s : Segment) (a : ℕ) → Has s a ⊎ Lacks s a
 has_or_lacks s a =
     elim (leb_tells s.address a) [
@@ -46,6 +49,7 @@ shared_by_two segments a two = grind (arith, nat_tests)
 unshared : (segments : List Segment) (a : ℕ) → sharers segments a ≤ 1 → nat_lt 1 (sharers segments a) ≡ false
 unshared segments a one = grind (arith, nat_tests)
 
+-- where more than one segment has an address inside memory, segments overlap
 pub overlap-found : (size a : ℕ) (segments : List Segment) → a < size → 1 < sharers segments a → overlap size segments ≡ true
 unfolding overlap
 overlap-found size a segments inside two =
@@ -54,11 +58,13 @@ overlap-found size a segments inside two =
     (omega (arith, length-range_with_len 0 size))
     (let P : ℕ → Type 0 = λ x. nat_lt 1 (sharers segments x) ≡ true in subst P (sym same) (shared_by_two segments a two))
 
+-- where no address is in more than one segment, none overlap
 pub overlap-none : (size : ℕ) (segments : List Segment) → ((a : ℕ) → sharers segments a ≤ 1) → overlap size segments ≡ false
 unfolding overlap
 overlap-none size segments apart =
     list_any_none (λ x. nat_lt 1 (sharers segments x)) (range_with_len 0 size) (λ k d inside. unshared segments _ (apart _))
 
+-- where no segments overlap, an address inside memory is in one at most
 pub overlap-apart : (size a : ℕ) (segments : List Segment) → overlap size segments ≡ false → a < size → sharers segments a ≤ 1
 overlap-apart size a segments none inside =
     elim (leb_tells (sharers segments a) 1) [
@@ -70,6 +76,7 @@ any_same : (p q : ℕ → Bool) → ((x : ℕ) → p x ≡ q x) → (xs : List �
 any_same p q same [] = refl
 any_same p q same (x ∷ xs) = ap₂ ◌||◌ (same x) (any_same p q same xs)
 
+-- whether segments overlap doesn't depend on their order
 pub overlap-permuted : (size : ℕ) (xs ys : List Segment) → IsPermutation xs ys → overlap size ys ≡ overlap size xs
 unfolding overlap
 overlap-permuted size xs ys moved =

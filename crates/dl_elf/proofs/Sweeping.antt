@@ -1,4 +1,4 @@
--- Segments in the order of their addresses, looked at one after the other.
+-- Segments in the order of their addresses overlap where one begins before all before it have ended, and only there.
 use Rattle.std.proofs.Common.{◌≡◌, ℕ, ◌+◌, ◌<◌, ◌≤◌, inl, inr, true, false, List, length, get_or, take, ap, ◌∙◌, subst, leb-true, take_all, arith}
 use Rattle.std.proofs.lemmas.List.Sums.{count_by_more_yes, count_by_more_no, sum_by-take-le, AllPass-from_list_all}
 use Rattle.std.proofs.lemmas.List.{get_or_default}
@@ -21,7 +21,7 @@ more_yes sorted n d inside a h = count_by_more_yes (has_address a) sorted n d in
 more_no : (sorted : List Segment) (n : ℕ) (d : Segment) → n < length sorted → (a : ℕ) → Lacks (get_or sorted n d) a → sharers (take (n + 1) sorted) a ≡ sharers (take n sorted) a
 more_no sorted n d inside a h = count_by_more_no (has_address a) sorted n d inside h.test
 
--- a segment without bytes
+-- past a segment without bytes the sweep is where it was
 pub swept-empty : (sorted : List Segment) (n end : ℕ) (d : Segment) → n < length sorted → (get_or sorted n d).memory_size ≡ 0 → Swept sorted n end → Swept sorted (n + 1) end
 swept-empty sorted n end d inside empty s =
     let same : (a : ℕ) → sharers (take (n + 1) sorted) a ≡ sharers (take n sorted) a =

@@ -1,4 +1,4 @@
--- What is known of a script once its first lines are read.
+-- A script is the events of its lines, where none is refused, and else refused by the first line that is.
 use Rattle.std.proofs.Common.{◌≡◌, ℕ, ◌+◌, ◌^◌, ◌<◌, ◌≤◌, Bool, true, false, cond, List, [], ◌∷◌, ◌++◌, length, take, drop, get_or, map, length-drop, length-take, subst, add-one, MatchOption, IfSome, ◌≢◌, Option, Some, None, Ok, Err, refl, sym, ap, ap₂, ◌∙◌, inl, inr, arith, suc, zero, below_more, eqb, Bor}
 use Rattle.std.specs.List.{All, AllWithin, HoldsAt, position_from, range_with_len, slice_get, slice_split}
 use Rattle.std.proofs.Math.Nat.{eq-or-lt_of_le}
@@ -64,10 +64,12 @@ pub record IsLeft (bytes : List ℕ) (n : ℕ) (left : Option (Bor (List ℕ))) 
   pub lines : MatchOption left (n ≡ length (lines_of bytes)) (λ text. lines_of text.now ≡ drop n (lines_of bytes))
   pub room : IfSome left (λ text. n + length text.now ≤ length bytes)
 
+-- the bytes of the text that is left and one more, or 0 where nothing is left
 abbrev pub bytes_left : Option (Bor (List ℕ)) → ℕ
 bytes_left None = 0
 bytes_left (Some text) = length text.now + 1
 
+-- before the first line is read, the whole script is left
 pub first_left : (bytes : Bor (List ℕ)) → IsLeft bytes.now 0 (Some bytes)
 first_left bytes = record { lines = refl; room = omega arith }
 
@@ -76,21 +78,24 @@ pub record IsLeftText (bytes : List ℕ) (n : ℕ) (text : List ℕ) : Type 0 wh
   pub lines : lines_of text ≡ drop n (lines_of bytes)
   pub room : n + length text ≤ length bytes
 
+-- of a text that is left, it has the lines behind the first n
 pub left_text : (bytes : List ℕ) (n : ℕ) (left : Option (Bor (List ℕ))) (text : Bor (List ℕ)) → IsLeft bytes n left → left ≡ Some text → IsLeftText bytes n text.now
 left_text bytes n None text left is = absurd cc
 left_text bytes n (Some t) text left is =
     let same : t ≡ text = cc in
     rw (← same) (record { lines = left.lines; room = left.room })
 
+-- where nothing is left, all lines are behind
 pub left_none : (bytes : List ℕ) (n : ℕ) (left : Option (Bor (List ℕ))) → IsLeft bytes n left → left ≡ None → n ≡ length (lines_of bytes)
 left_none bytes n None left is = left.lines
 left_none bytes n (Some t) left is = absurd cc
 
+-- behind one line more, less is left
 pub fewer : (left : Option (Bor (List ℕ))) (text : Bor (List ℕ)) (rest : Option (Bor (List ℕ))) → left ≡ Some text → IfSome rest (λ r. length r.now < length text.now) → bytes_left rest < bytes_left left
 fewer left text None is shorter = rw is (omega arith)
 fewer left text (Some r) is shorter = rw is (omega (arith, shorter))
 
--- one line more
+-- with line n taken off the text that is left, line n is that line, and what follows is left after n + 1
 pub one_line : (bytes : List ℕ) (n : ℕ) (text : List ℕ) (line : Line) (rest : Option (Bor (List ℕ))) → lines_of text ≡ drop n (lines_of bytes) → n + length text ≤ length bytes → MatchOption rest (lines_of text ≡ line ∷ []) (λ r. lines_of text ≡ line ∷ lines_of r.now) → IfSome rest (λ r. length r.now < length text) → (slice_get (lines_of bytes) n ≡ Some line) × IsLeft bytes (n + 1) rest
 one_line bytes n text line None left room is shorter =
     let at = here-and-behind (lines_of bytes) n line [] (sym left ∙ is) in
@@ -114,9 +119,11 @@ events-more lines i line at =
     ap events_of (take_more lines i line (slice_get_within lines i line at)) ∙ filter_map-append event_in (take i lines) _
     ∙ ap (λ x. events_of (take i lines) ++ events_of (x ∷ [])) (get_or_from_slice_get lines i line line at)
 
+-- before the first line is read there is no event
 pub nothing_read : (lines : List Line) → IsRead lines 0 []
 nothing_read lines = record { within = omega arith; held = refl; taken = λ k l. absurd (omega arith); few = omega arith }
 
+-- a line that isn't refused adds the event that it holds, if any, to those that were read
 pub one_read : (lines : List Line) (i : ℕ) (events more : List Event) (line : Line) → IsRead lines i events → slice_get lines i ≡ Some line → is_refused_after events (Some line) ≡ false → more ≡ events ++ events_of (line ∷ []) → length more ≤ 2 ^ 24 → IsRead lines (i + 1) more
 one_read lines i events more line read at right is few =
     record {
@@ -126,11 +133,13 @@ one_read lines i events more line read at right is few =
       few = few;
     }
 
+-- the first line that is refused is the script's error, by its number from 1 on
 pub one_refused : (lines : List Line) (i : ℕ) (events : List Event) (line : Line) → IsRead lines i events → slice_get lines i ≡ Some line → is_refused_after events (Some line) ≡ true → outcome lines (first_refused lines) ≡ Err (i + 1)
 one_refused lines i events line read at wrong =
     let first = first-from (is_refused lines) 0 (length lines) i (omega arith) (omega (arith, slice_get_within lines i line at)) (refused-at lines i events line read at ∙ wrong) read.taken in
     ap (outcome lines) (position_from-zero (is_refused lines) (range_with_len 0 (length lines)) ∙ first)
 
+-- where the last line is read and none was refused, the script is the events that were read
 pub all_read : (lines : List Line) (i : ℕ) (events : List Event) → IsRead lines i events → i ≡ length lines → outcome lines (first_refused lines) ≡ Ok events
 all_read lines i events read end =
     let none = none-from (is_refused lines) 0 (length lines) (λ k l. read.taken k (omega arith)) in

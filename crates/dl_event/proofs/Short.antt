@@ -1,4 +1,4 @@
--- Lines in their shortest form, with one digit.
+-- A line in its shortest form, with one digit, holds its event.
 use Rattle.std.proofs.Common.{◌≡◌, ℕ, ◌+◌, ◌<◌, ◌≤◌, suc, List, [], ◌∷◌, ◌++◌, length, drop, refl, ap₂, arith, below_more, below_none}
 use Rattle.std.proofs.lemmas.Slice.Eq.{HasBytesAt}
 use Rattle.spec_protocol.specs.declared.event.Event.{Event}
@@ -20,16 +20,19 @@ at-digits : (P : ℕ → Type 0) → P 0 → P 1 → P 2 → P 3 → P 4 → P 5
 at-digits P p0 p1 p2 p3 p4 p5 p6 p7 p8 p9 =
     below_more P 9 (below_more P 8 (below_more P 7 (below_more P 6 (below_more P 5 (below_more P 4 (below_more P 3 (below_more P 2 (below_more P 1 (below_more P 0 (below_none P) p0) p1) p2) p3) p4) p5) p6) p7) p8) p9
 
+-- a line 'step', with a digit, holds the event step of that core
 pub step_line : (m : ℕ) → m < 10 → (rest : List ℕ) → lines_of (115 ∷ 116 ∷ 101 ∷ 112 ∷ 32 ∷ (48 + m) ∷ 10 ∷ rest) ≡ Holds (Event.Step m) ∷ lines_of rest
 step_line m l rest =
     at-digits (λ (d : ℕ). lines_of (115 ∷ 116 ∷ 101 ∷ 112 ∷ 32 ∷ (48 + d) ∷ 10 ∷ rest) ≡ Holds (Event.Step d) ∷ lines_of rest)
     refl refl refl refl refl refl refl refl refl refl m l
 
+-- a line 'drain', with a digit, holds the event drain of that slot
 pub drain_line : (m : ℕ) → m < 10 → (rest : List ℕ) → lines_of (100 ∷ 114 ∷ 97 ∷ 105 ∷ 110 ∷ 32 ∷ (48 + m) ∷ 10 ∷ rest) ≡ Holds (Event.Drain m) ∷ lines_of rest
 drain_line m l rest =
     at-digits (λ (d : ℕ). lines_of (100 ∷ 114 ∷ 97 ∷ 105 ∷ 110 ∷ 32 ∷ (48 + d) ∷ 10 ∷ rest) ≡ Holds (Event.Drain d) ∷ lines_of rest)
     refl refl refl refl refl refl refl refl refl refl m l
 
+-- a line 'ask', with a digit, holds the event ask of that core
 pub ask_line : (m : ℕ) → m < 10 → (rest : List ℕ) → lines_of (97 ∷ 115 ∷ 107 ∷ 32 ∷ (48 + m) ∷ 10 ∷ rest) ≡ Holds (Event.Ask m) ∷ lines_of rest
 ask_line m l rest =
     at-digits (λ (d : ℕ). lines_of (97 ∷ 115 ∷ 107 ∷ 32 ∷ (48 + d) ∷ 10 ∷ rest) ≡ Holds (Event.Ask d) ∷ lines_of rest)

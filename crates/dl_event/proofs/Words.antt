@@ -1,4 +1,4 @@
--- The words of a line, from its front on.
+-- The words of a line are the one at its front, behind spaces, and those behind that.
 use Rattle.std.proofs.Common.{◌≡◌, ℕ, ◌<◌, ◌≤◌, ◌≢◌, not, eqb, List, [], ◌∷◌, ◌++◌, length, take, drop, get_or, refl, sym, ap, ◌∙◌, ◌⊎◌, inl, inr, arith, suc, zero, subst, ap₂, length-take, false, Option, Some, None, MatchOption, unwrap_or}
 use Rattle.std.specs.List.{All, AllWithin, HoldsAt, filter, slice_split}
 use Rattle.std.specs.Str.{bytes_eq}
@@ -16,11 +16,13 @@ IsSpaces n line = (k d : ℕ) → k < n → get_or line k d ≡ 32
 abbrev pub HasNoSpace : ℕ → List ℕ → Type 0
 HasNoSpace n line = (k d : ℕ) → k < n → get_or line k d ≢ 32
 
+-- spaces at the front of a line change none of its words
 pub words-spaces : (n : ℕ) (line : List ℕ) → n ≤ length line → IsSpaces n line → words_of line ≡ words_of (drop n line)
 words-spaces zero line l h = refl
 words-spaces (suc n) [] l h = absurd (omega arith)
 words-spaces (suc n) (x ∷ xs) l h = ap (λ b. words_of (b ∷ xs)) (h 0 0 (omega arith)) ∙ words-spaces n xs (omega arith) (λ k d m. h (suc k) d (omega arith))
 
+-- a line of spaces alone has no word
 pub words-blank : (line : List ℕ) → IsSpaces (length line) line → words_of line ≡ []
 words-blank line h = words-spaces (length line) line (omega arith) h ∙ ap words_of (drop_all (length line) line (omega arith))
 
@@ -67,6 +69,7 @@ words-word n line some l h e = words-here n line some h e (eq-or-lt_of_le l)
 abbrev pub IsFirstSpace : List ℕ → Option ℕ → Type 0
 IsFirstSpace line r = MatchOption r (AllWithin (λ b. b ≢ 32) line 0 (length line)) (λ i. (i < length line) × HoldsAt (λ b. b ≡ 32) line i × AllWithin (λ b. b ≢ 32) line 0 i)
 
+-- a line that doesn't begin with a space begins with the word up to the first space, or to its end
 pub words-split : (line : List ℕ) (r : Option ℕ) → 0 < length line → get_or line 0 0 ≢ 32 → IsFirstSpace line r → words_of line ≡ take (unwrap_or r (length line)) line ∷ words_of (drop (unwrap_or r (length line)) line)
 words-split line None some word h = words-word (length line) line some (omega arith) (λ k d l. h k d (omega arith) l) (λ d l. absurd (omega arith))
 words-split line (Some zero) some word h = absurd (word (h.1 0))

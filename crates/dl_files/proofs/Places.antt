@@ -1,4 +1,4 @@
--- Where a name stands in a list of entries, and what the list then holds at each name.
+-- A list of entries holds at each name what the first entry of that name has, also after a write.
 use Rattle.std.proofs.Common.{◌≡◌, ◌≢◌, ℕ, zero, suc, ◌<◌, ◌≤◌, List, [], ◌∷◌, ◌++◌, length, set, get_or, Bool, true, false, cond, Option, None, Some, refl, sym, ap, subst, ◌∙◌, arith, length-append, Result, Ok, Err, OnOk, unwrap_or, is_ok, if◌then◌else◌}
 use Rattle.std.specs.Prelude.{is_some, nat_lt, IfSome, IfNone}
 use Rattle.std.specs.List.{position_or_len}
@@ -218,12 +218,14 @@ write-contents : (name bytes n : List ℕ) (old new : List Entry) (i : ℕ) → 
 write-contents name bytes n old new i first added same_name =
     rw (same_name, added) (contents_of-set name bytes old i (subst (λ es. FirstAt es name i) added first))
 
+-- after the write the files hold the bytes under the name, and else what they held
 pub contents_of-IsWrite : (name bytes : List ℕ) (old new : List Entry) (i : ℕ) (entry : Entry) → IsWrite name old new i entry
     → contents_of (set new i (entry.0, bytes)) ≡ insert (contents_of old) name bytes
 contents_of-IsWrite name bytes old new i entry w =
     let first = FirstAt-place name new i w.place in
     write-contents name bytes entry.0 old new i first w.added (name-read name new i entry first w.read)
 
+-- after the write each place that had a name has it still
 pub NamesStay-IsWrite : (name bytes : List ℕ) (old new : List Entry) (i : ℕ) (entry : Entry) → IsWrite name old new i entry
     → NamesStay old (set new i (entry.0, bytes))
 NamesStay-IsWrite name bytes old new i entry w j h =
@@ -260,10 +262,12 @@ pub named-place : (name : List ℕ) (es : List Entry) (r : Option ℕ) → r ≡
 named-place name es (Some i) e = name_at-first name es i (FirstAt-place name es i (sym e))
 named-place name es None e = tt
 
+-- at a place that was looked up stand the bytes that the files hold under the name
 pub found-place : (name : List ℕ) (es : List Entry) (r : Option ℕ) → r ≡ place_of name es → IfSome r (λ i. get (contents_of es) name ≡ bytes_at es i)
 found-place name es (Some i) e = get-contents_of name es ∙ found-first name es i (FirstAt-place name es i (sym e))
 found-place name es None e = tt
 
+-- where no place was found the files don't have the name
 pub absent-place : (name : List ℕ) (es : List Entry) (r : Option ℕ) → r ≡ place_of name es → IfNone r (get (contents_of es) name ≡ None)
 absent-place name es (Some i) e = tt
 absent-place name es None e = get-contents_of name es ∙ found-absent name es (sym e)

@@ -1,4 +1,4 @@
--- The images of a plan's spheres, loaded one after another.
+-- The images that are loaded one after another are those of the plan's spheres.
 use Rattle.std.proofs.Common.{◌≡◌, ℕ, suc, ◌+◌, ◌<◌, List, [], ◌∷◌, ◌++◌, length, map, drop, get_or, Ok, arith, sym, ◌∙◌, ap, subst}
 use Rattle.std.proofs.lemmas.List.{drop_more, map-append}
 use Rattle.dl_elf.specs.Images.{Image}
@@ -8,7 +8,7 @@ use Rattle.dl_gather.specs.declared.inputs.SphereInputs.{SphereInputs}
 use Rattle.dl_gather.specs.Inputs.{image_in, sphere_view}
 use Rattle.dl_gather.proofs.Stages.{after, one_more}
 
--- one more image
+-- with image i loaded, the first i + 1 come before those that are still to be loaded
 pub images_more : (inputs : List SphereInputs) (i : ℕ) (d : SphereInputs) (done : List SphereSetup) (x : SphereSetup) → i < length inputs
     → images_of 0 (map sphere_view inputs) ≡ after (map image_in done) (images_of i (map sphere_view (drop i inputs)))
     → image_read i (sphere_view (get_or inputs i d)) ≡ Ok (image_in x)

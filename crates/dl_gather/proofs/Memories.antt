@@ -1,4 +1,4 @@
--- The memories of the spheres that a plan has.
+-- Each sphere of a plan, and each that is read of it, has a size of memory that is good.
 use Rattle.std.proofs.Common.{◌≡◌, ℕ, zero, suc, ◌+◌, ◌<◌, List, [], ◌∷◌, ◌++◌, length, map, get_or, refl, arith}
 use Rattle.std.specs.List.{AllByRecursion}
 use Rattle.dl_plan.specs.declared.Sphere.{Sphere}
@@ -15,16 +15,20 @@ all_at P f (x ∷ xs) (suc i) d all h = all_at P f xs i d all.1 (omega arith)
 
 -- ---- memories
 
+-- where all that is read has good sizes of memory, that of sphere i is one
 pub memory_at : (inputs : List SphereInputs) (i : ℕ) (d : SphereInputs) → HaveMemories (map sphere_view inputs) → i < length inputs → IsMemory (get_or inputs i d).memory
 memory_at inputs i d have h = all_at (λ (s : SphereRead). IsMemory s.memory) sphere_view inputs i d have h
 
+-- where all planned spheres have good sizes of memory, that of sphere i is one
 pub planned_memory : (spheres : List Sphere) (i : ℕ) (d : Sphere) → AreMemories (map planned spheres) → i < length spheres → IsMemory (get_or spheres i d).memory
 planned_memory spheres i d are h = all_at (λ (s : SphereValues). IsMemory s.memory) planned spheres i d are h
 
+-- with one sphere more, which has a good size of memory, all have
 pub more_memories : (inputs : List SphereInputs) (x : SphereInputs) → HaveMemories (map sphere_view inputs) → IsMemory x.memory → HaveMemories (map sphere_view (inputs ++ x ∷ []))
 more_memories [] x have is = (is, tt)
 more_memories (y ∷ ys) x have is = (have.0, more_memories ys x have.1 is)
 
+-- with one element more a list is longer by one
 pub length_pushed : {X : Type 0} (xs : List X) (x : X) → length (xs ++ x ∷ []) ≡ length xs + 1
 length_pushed [] x = refl
 length_pushed (y ∷ ys) x = let rest = length_pushed ys x in omega (arith, rest)

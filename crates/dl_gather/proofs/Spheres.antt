@@ -1,4 +1,4 @@
--- Spheres that are read one after another.
+-- Spheres that are read one after another are read as all are.
 use Rattle.std.proofs.Common.{◌≡◌, ℕ, ◌+◌, ◌<◌, List, [], ◌∷◌, ◌++◌, length, map, drop, get_or, flat_map, Option, Some, Ok, sym, ◌∙◌, ap, subst}
 use Rattle.std.proofs.lemmas.List.{drop_more, map-append}
 use Rattle.dl_files.specs.Contents.{Contents}
@@ -26,6 +26,7 @@ at_next : (m : Contents) (ss : List Sphere) (i : ℕ) (d : Sphere) (done : List 
     → spheres_read m (map sphere_view ss) ≡ after (map sphere_inputs done) (spheres_read m (sphere_view (get_or ss i d) ∷ map sphere_view (drop (i + 1) ss)))
 at_next m ss i d done h read = read ∙ ap (λ (xs : List Sphere). after (map sphere_inputs done) (spheres_read m (map sphere_view xs))) (drop_more ss i d h)
 
+-- once sphere i is read as well, the first i + 1 come first in what is read of all
 pub spheres_more : (m : Contents) (ss : List Sphere) (i : ℕ) (d : Sphere) (done : List SphereInputs) (x : SphereInputs) → i < length ss → Read m ss i done
     → sphere_read m (sphere_view (get_or ss i d)) ≡ Ok (sphere_inputs x) → Read m ss (i + 1) (done ++ x ∷ [])
 spheres_more m ss i d done x h read made =
@@ -37,6 +38,7 @@ next_turns : (m : Contents) (ss : List Sphere) (i : ℕ) (d : Sphere) → i < le
     → (name : List ℕ) → IsReadNext (read_for_sphere (sphere_view (get_or ss i d)) ++ flat_map read_for_sphere (map sphere_view (drop (i + 1) ss))) m name → IsReadNext (flat_map read_for_sphere (map sphere_view ss)) m name
 next_turns m ss i d h turns name next = turns name (subst (λ (xs : List Sphere). IsReadNext (flat_map read_for_sphere (map sphere_view xs)) m name) (sym (drop_more ss i d h)) next)
 
+-- once sphere i is read as well, the turns of the names behind it are turns of all
 pub turns_more : (m : Contents) (ss : List Sphere) (i : ℕ) (d : Sphere) (x : SphereInputs) → i < length ss → Turns m ss i → sphere_read m (sphere_view (get_or ss i d)) ≡ Ok (sphere_inputs x) → Turns m ss (i + 1)
 turns_more m ss i d x h turns made name next =
     next_turns m ss i d h turns name (next_behind m (read_for_sphere (sphere_view (get_or ss i d))) (flat_map read_for_sphere (map sphere_view (drop (i + 1) ss))) name (sphere_there m (sphere_view (get_or ss i d)) (sphere_inputs x) made) next)

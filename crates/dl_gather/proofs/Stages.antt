@@ -1,4 +1,4 @@
--- Lists that are made entry after entry, by a stage that stops at the first that is refused.
+-- A list that is made entry after entry is the whole list, or refused by the first entry that is.
 use Rattle.std.proofs.Common.{◌≡◌, List, [], ◌∷◌, ◌++◌, Result, Ok, Err, refl, sym, ◌∙◌, ap, append_assoc, append-nil}
 use Rattle.spec_program.specs.Stages.{◌>>◌}
 
@@ -7,6 +7,7 @@ abbrev pub after : {A E : Type 0} → List A → Result (List A) E → Result (L
 after done (Ok rest) = Ok (done ++ rest)
 after done (Err e) = Err e
 
+-- with no entry before, a list is what its stages make
 pub none_before : {A E : Type 0} (o : Result (List A) E) → o ≡ after [] o
 none_before (Ok xs) = refl
 none_before (Err e) = refl
@@ -16,16 +17,16 @@ pub moved : {A E : Type 0} (done : List A) (a : A) (rest : Result (List A) E) �
 moved done a (Ok xs) = ap Ok (sym (append_assoc done (a ∷ []) xs))
 moved done a (Err e) = refl
 
--- one more entry
+-- where the next stage makes an entry, it is one more that is done
 pub one_more : {A E : Type 0} (whole : Result (List A) E) (done : List A) (a : A) (first : Result A E) (rest : Result (List A) E)
     → whole ≡ after done (first >> λ x. rest >> λ xs. Ok (x ∷ xs)) → first ≡ Ok a → whole ≡ after (done ++ a ∷ []) rest
 one_more whole done a first rest is made = is ∙ ap (λ o. after done (o >> λ x. rest >> λ xs. Ok (x ∷ xs))) made ∙ moved done a rest
 
--- an entry that is refused
+-- where the next stage is refused, so is the whole
 pub none_made : {A B E : Type 0} (whole : Result (List A) E) (done : List A) (e : E) (first : Result B E) (next : B → Result (List A) E)
     → whole ≡ after done (first >> next) → first ≡ Err e → whole ≡ Err e
 none_made whole done e first next is refused = is ∙ ap (λ o. after done (o >> next)) refused
 
--- no more
+-- where nothing is left to make, what is done is the whole
 pub all_made : {A E : Type 0} (whole : Result (List A) E) (done : List A) (rest : Result (List A) E) → whole ≡ after done rest → rest ≡ Ok [] → whole ≡ Ok done
 all_made whole done rest is none = is ∙ ap (after done) none ∙ ap Ok (append-nil done)

@@ -15,9 +15,11 @@ use Rattle.dl_gather.specs.Reads.{read_for_schedule, read_for_role, read_for_sph
 
 -- ---- one stage after another
 
+-- where the first stage fails, so does the whole, with the same error
 pub err_then : {A B E : Type 0} (o : Result A E) (f : A → Result B E) (e : E) → o ≡ Err e → (o >> f) ≡ Err e
 err_then o f e is = ap (λ x. x >> f) is
 
+-- where the first stage answers, the whole is what the second makes of that
 pub ok_then : {A B E : Type 0} (o : Result A E) (f : A → Result B E) (a : A) → o ≡ Ok a → (o >> f) ≡ f a
 ok_then o f a is = ap (λ x. x >> f) is
 
@@ -36,6 +38,7 @@ part_fault told seen reads all start old new last name same from next f = record
   next = λ m e. next m e (f.next m (same ∙ e));
 }
 
+-- where a part can't be read, the whole can't either, for the same reason
 pub unread_in : {A B : Type 0} (told seen : Option Contents) (names all : List (List ℕ)) (part : Contents → Result A (List ℕ)) (whole : Contents → Result B (List ℕ)) (start old new : ℕ) (last : Option (List ℕ)) (h : Halt)
     → seen ≡ told → old ≡ start → IsPart told names all part whole → Unread seen names part old new last h → Unread told all whole start new last h
 unread_in told seen names all part whole start old new last (Halt.Refused why text) same from p u = (
@@ -117,10 +120,12 @@ then_ok : {A B E : Type 0} (o : Result A E) (f : A → Result B E) (b : B) → (
 then_ok (Err x) f b e = absurd cc
 then_ok (Ok a) f b e = (a, refl, e)
 
+-- once a schedule is read, the file that it names is there
 pub schedule_there : (m : Contents) (s : ScheduleValues) (r : ScheduleRead) → schedule_read m s ≡ Ok r → AreThere m (read_for_schedule s)
 schedule_there m (Script name) r e = let t = then_ok (read_at m name) _ r e in (file_there m name t.0 t.1, tt)
 schedule_there m (Seeded n) r e = tt
 
+-- once the input is read, the file that it names is there
 pub input_there : (m : Contents) (o : Option (List ℕ)) (bytes : List ℕ) → input_read m o ≡ Ok bytes → AreThere m (option_to_list o)
 input_there m None bytes e = tt
 input_there m (Some name) bytes e = (file_there m name bytes e, tt)
@@ -133,6 +138,7 @@ role_there m (Replay log) r e =
     let t = then_ok (read_at m log) _ read.0 read.1 in
     (file_there m log t.0 t.1, tt)
 
+-- once a sphere is read, its image is there, and so is the log that it replays
 pub sphere_there : (m : Contents) (s : SphereValues) (r : SphereRead) → sphere_read m s ≡ Ok r → AreThere m (read_for_sphere s)
 sphere_there m s r e =
     let image = then_ok (read_at m s.image) _ r e in

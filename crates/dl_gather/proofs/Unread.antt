@@ -58,5 +58,6 @@ unread_file told name part old new last FileError.OutOfMemory Halt.OutOfMemory a
 pub no_bytes : (m : Contents) (name : List ℕ) → get m name ≡ None → read_at m name ≡ Err name
 no_bytes m name e = ap (λ (o : Option (List ℕ)). ok_or o name) e
 
+-- what an absent file says as a log is its name, as of bytes
 pub no_log : (m : Contents) (name : List ℕ) → get m name ≡ None → log_at m name ≡ Err name
 no_log m name e = ap (λ (o : Option (List ℕ)). ok_or o name >> λ bytes. Ok (read_of bytes)) e

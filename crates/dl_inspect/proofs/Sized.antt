@@ -1,4 +1,4 @@
--- An order with the size of each of its commits.
+-- In mode order-size the text of an order has each commit with its size.
 use Rattle.std.proofs.Common.{◌≡◌, ℕ, ◌+◌, ◌<◌, ◌≤◌, ◌∙◌, List, ◌++◌, length, take, get_or, sym, ap, arith}
 use Rattle.std.proofs.lemmas.List.{take_all}
 use Rattle.std.proofs.lemmas.Slice.Zip.{get_or-zip, length-zip}
@@ -22,7 +22,7 @@ pub each_is_sized : (log : LogParts) → IsLog log → log.mode ≡ OrderSize �
 each_is_sized log good mode =
     as_many log.s log.count log.order log.sizes (rw mode at good.order) (rw mode at good.sizes)
 
--- the text of the commits before, and the next commit's
+-- the text of the first i commits, and that of the next, are the text of i + 1
 pub sized_more : (old : List ℕ) (order : List Actor) (sizes : List ℕ) (i : ℕ) (actor : Actor) (size : ℕ) → length sizes ≡ length order → i < length order → old ++ numbered sized_line 0 (take i (zip order sizes)) ++ sized_line i (get_or order i actor, get_or sizes i size) ≡ old ++ numbered sized_line 0 (take (i + 1) (zip order sizes))
 sized_more old order sizes i actor size fit here =
     let inside : i < length sizes = omega arith in

@@ -1,4 +1,4 @@
--- Entries and actors, as a loop reads them: those read so far, and what is read behind them.
+-- Entries and actors that a loop reads are those read so far and what is read behind them.
 use Rattle.std.proofs.Common.{◌≡◌, ℕ, suc, ◌-◌, ◌/◌, ◌%◌, Bool, List, [], ◌∷◌, ◌++◌, length, Some, Result, Ok, Err, slice_get, refl, append_assoc, append-nil, arith}
 use Rattle.std.proofs.lemmas.List.{length_push}
 use Rattle.dl_entry.specs.declared.actor.Actor.{Actor}
@@ -10,6 +10,7 @@ abbrev pub behind : {X : Type 0} → List X → Result (Read (List X)) Fault →
 behind xs (Ok r) = Ok (record { value = xs ++ r.value; after = r.after })
 behind xs (Err fault) = Err fault
 
+-- behind an empty list, what is read is all
 pub behind-nil : {X : Type 0} (r : Result (Read (List X)) Fault) → r ≡ behind [] r
 behind-nil (Ok r) = refl
 behind-nil (Err fault) = refl
@@ -42,6 +43,7 @@ pub entries-fault : {X : Type 0} (earlier : X → X → Bool) (entry : Reader X)
     → behind before (entries earlier entry (last before) left bytes at) ≡ Err fault
 entries-fault earlier entry before bytes left n at fault is_left e = rw (is_left, e) refl
 
+-- where no entry is left, the entries are those before
 pub entries-end : {X : Type 0} (earlier : X → X → Bool) (entry : Reader X) (before : List X) (bytes : List ℕ) (left at : ℕ)
     → left ≡ 0 → behind before (entries earlier entry (last before) left bytes at) ≡ Ok (record { value = before; after = at })
 entries-end earlier entry before bytes left at is_left = rw (is_left, append-nil before) refl
@@ -66,15 +68,18 @@ pub actors-fault : (order : List Actor) (bytes : List ℕ) (left n at : ℕ) (fa
     → left ≡ suc (suc n) → any 1 bytes at ≡ Err fault → behind order (actors left bytes at) ≡ Err fault
 actors-fault order bytes left n at fault is_left e = rw (is_left, e) refl
 
+-- where no actor is left, the order is what was read before
 pub actors-none : (order : List Actor) (bytes : List ℕ) (left at : ℕ)
     → left ≡ 0 → behind order (actors left bytes at) ≡ Ok (record { value = order; after = at })
 actors-none order bytes left at is_left = rw (is_left, append-nil order) refl
 
+-- where one actor is left, it is the last byte's, and the order ends with it
 pub actors-last : (order : List Actor) (bytes : List ℕ) (left at half after : ℕ)
     → left ≡ 1 → field 1 (at_most 15) bytes at ≡ Ok (record { value = half; after = after })
     → behind order (actors left bytes at) ≡ Ok (record { value = order ++ actor_of half ∷ []; after = after })
 actors-last order bytes left at half after is_left e = rw (is_left, e) refl
 
+-- where one actor is left, a fault of the last byte is that of the order
 pub actors-bad_last : (order : List Actor) (bytes : List ℕ) (left at : ℕ) (fault : Fault)
     → left ≡ 1 → field 1 (at_most 15) bytes at ≡ Err fault → behind order (actors left bytes at) ≡ Err fault
 actors-bad_last order bytes left at fault is_left e = rw (is_left, e) refl

@@ -1,4 +1,4 @@
--- Numbers and their bytes, the low one first.
+-- A number is read back from its bytes, the low one first, and bytes are those of their number.
 use Rattle.std.proofs.Common.{◌≡◌, ℕ, zero, suc, ◌+◌, ◌*◌, ◌/◌, ◌%◌, ◌^◌, ◌<◌, List, [], ◌∷◌, All, length, refl, ap, sym, ◌∙◌, append-nil, arith}
 use Rattle.std.proofs.Math.Nat.{div-one, pow-suc, pow-succ', div-div-eq-div-mul}
 use Rattle.std.proofs.lemmas.List.Elements.{All-head, All-tail}
@@ -51,7 +51,7 @@ little-number_of (byte ∷ bytes) good =
     let low : (byte + 256 * number_of bytes) % 256 ≡ byte = omega arith in
     rw (bytes_low_first-above 0 (length bytes) byte (number_of bytes) below, little-number_of bytes (All-tail IsByte byte bytes good), low) refl
 
--- and that number is below this power
+-- the number that bytes make is below 256 to the power of how many they are
 pub number_of-below : (bytes : List ℕ) → All IsByte bytes → number_of bytes < 256 ^ length bytes
 number_of-below [] good = omega arith
 number_of-below (byte ∷ bytes) good =

@@ -23,7 +23,7 @@ pub record Codes {X : Type 0} (reader : Reader X) (bytes_of : X → List ℕ) (g
   pub finds : (before bytes : List ℕ) (x : X) (after : ℕ) → All IsByte bytes
       → reader (before ++ bytes) (length before) ≡ Ok (record { value = x; after = after }) → Found bytes_of good before bytes x after
 
--- the same bytes and good values in other words
+-- a reader of values reads them also where their bytes and what makes them good are said in other words
 pub Codes-as : {X : Type 0} (reader : Reader X) (bytes_of as_bytes : X → List ℕ) (good as_good : X → Type 0)
     → Codes reader bytes_of good → ((x : X) → good x → bytes_of x ≡ as_bytes x)
     → ((x : X) → good x → as_good x) → ((x : X) → as_good x → good x) → Codes reader as_bytes as_good
@@ -38,7 +38,7 @@ Codes-as reader bytes_of as_bytes good as_good codes same to from =
 same_ok : {X : Type 0} (r : Result X Fault) (x y : X) → r ≡ Ok x → r ≡ Ok y → x ≡ y
 same_ok r x y e f = cc
 
--- nothing is read
+-- to read nothing is to read the one good value, whose bytes are none
 pub Codes-gives : {X : Type 0} (x : X) (good : X → Type 0) → good x → ((y : X) → good y → y ≡ x) → Codes (gives x) (λ y. []) good
 Codes-gives {X} x good is only =
     record {
@@ -55,7 +55,7 @@ Codes-gives {X} x good is only =
           };
     }
 
--- a reader that went on behind another
+-- where one reading behind another gave a value, the first gave one too, and the second went on from it
 pub continued : {X Y : Type 0} (r : Result (Read X) Fault) (next : X → ℕ → Result (Read Y) Fault) (y : Read Y)
     → continues r next ≡ Ok y → (x : Read X) × (r ≡ Ok x) × (next x.value x.after ≡ Ok y)
 continued (Ok x) next y e = (x, refl, e)
@@ -72,7 +72,7 @@ found_rest bytes_of good before bytes x after f are =
     (ap (drop (length (bytes_of x))) f.split ∙ drop_at (bytes_of x) f.rest (length (bytes_of x)) refl)
     (All-drop IsByte (length (bytes_of x)) bytes are)
 
--- the same value with more that is known of it
+-- what was found is found also with more known of it
 pub found_as : {X : Type 0} (bytes_of : X → List ℕ) (good : X → Type 0) (before bytes : List ℕ) (x : X) (after : ℕ) (as_good : X → Type 0) (y : X) (end : ℕ)
     → Found bytes_of good before bytes x after → (good x → as_good x) → x ≡ y → after ≡ end → Found bytes_of as_good before bytes y end
 found_as bytes_of good before bytes x after as_good y end f more same there =
@@ -145,7 +145,7 @@ pub tested : {X : Type 0} (b : Bool) (x y : X) (fault : Fault) → (if b then Ok
 tested true x y fault e = (refl, same_ok (Ok x) x y refl e)
 tested false x y fault e = cc
 
--- so many bytes as they are
+-- to take so many bytes as they are is to read bytes of that number
 pub Codes-raw : (width : ℕ) → Codes (raw width) (λ bytes. bytes) (λ bytes. (width ≡ length bytes) × All IsByte bytes)
 Codes-raw width =
     record {

@@ -1,4 +1,4 @@
--- The entries of sections, as they are read and written.
+-- Reading an entry of a section undoes writing it.
 use Rattle.std.proofs.Common.{◌≡◌, ℕ, zero, suc, ◌<◌, ◌≤◌, ◌^◌, ◌==◌, ◌||◌, Bool, true, false, List, [], ◌∷◌, ◌++◌, All, Contains, length, get_or, nat_le, inl, inr, refl, ap, sym, ◌∙◌, append-nil, append_assoc, arith, eq-eqb, lit<}
 use Rattle.std.specs.Bool.{Decides}
 use Rattle.std.specs.List.{list_any}
@@ -11,7 +11,7 @@ use Rattle.spec_log.specs.Reading.{Reader, read, gives, raw, number, field, any,
 use Rattle.dl_logbytes.proofs.ByteNumbers.{IsByte}
 use Rattle.dl_logbytes.proofs.Codes.{Codes, Codes-as, Codes-read, Codes-gives, Codes-number, Codes-raw}
 
--- a value of two parts
+-- reading a value of two parts, one behind the other, undoes writing it
 pub Codes-two : {A B X : Type 0} (first : Reader A) (second : Reader B) (make : A → B → X) (a_of : X → A) (b_of : X → B)
     (a_bytes : A → List ℕ) (b_bytes : B → List ℕ) (a_good : A → Type 0) (b_good : B → Type 0)
     → Codes first a_bytes a_good → Codes second b_bytes b_good
@@ -25,7 +25,7 @@ Codes-two {A} {B} {X} first second make a_of b_of a_bytes b_bytes a_good b_good 
     (λ x e. whole x ∙ (ap (λ (z : A). make z (b_of x)) e.1 ∙ ap (make a) e.0))))
     (λ x h. append-nil (b_bytes (b_of x))) (λ x h. (h.1, h.0)) (λ x h. (h.1, h.0)))
 
--- a value of three parts
+-- reading a value of three parts, one behind the other, undoes writing it
 pub Codes-three : {A B C X : Type 0} (first : Reader A) (second : Reader B) (third : Reader C) (make : A → B → C → X) (a_of : X → A) (b_of : X → B) (c_of : X → C)
     (a_bytes : A → List ℕ) (b_bytes : B → List ℕ) (c_bytes : C → List ℕ) (a_good : A → Type 0) (b_good : B → Type 0) (c_good : C → Type 0)
     → Codes first a_bytes a_good → Codes second b_bytes b_good → Codes third c_bytes c_good
@@ -62,7 +62,7 @@ Codes-thread : Codes thread u8 (λ t. t ≤ 14)
 Codes-thread =
     Codes-field 1 5 (at_most 14) (λ t. t ≤ 14) (λ t h l. leb-true t 14 h) (λ t h. (omega arith, le-leb t 14 h))
 
--- the test for the order of entries decides it
+-- the test whether an entry comes before another by thread and index says so just where it does
 pub Decides-earlier : (t i u j : ℕ) → Decides (is_earlier t i u j) (ComesBefore t i u j)
 Decides-earlier t i u j =
     Decides-or _ _ (Decides-ltb t u) (Decides-and _ _ (Decides-eqb t u) (Decides-ltb i j))

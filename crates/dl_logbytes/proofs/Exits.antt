@@ -1,4 +1,4 @@
--- Where a call hands on what a part of it answered.
+-- Where a call hands on what a part of it answered, the part's fault is the whole's.
 use Rattle.std.proofs.Common.{◌≡◌, ℕ, Result, Err}
 use Rattle.spec_log.specs.Reading.{Fault, Read}
 use Rattle.dl_logbytes.specs.declared.error.LogError.{LogError}

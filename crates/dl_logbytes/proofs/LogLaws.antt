@@ -1,4 +1,4 @@
--- Logs, as they are read and written.
+-- Reading a log undoes writing it, and bytes that are read as a log are that log's.
 use Rattle.std.proofs.Common.{◌≡◌, ℕ, zero, suc, ◌<◌, ◌≤◌, ◌^◌, ◌==◌, nat_le, nat_lt, true, false, List, [], ◌++◌, All, length, Result, Ok, Err, if◌then◌else◌, refl, ap, sym, subst, ◌∙◌, append-nil, append_assoc, length-append, arith, eq-eqb}
 use Rattle.std.proofs.lemmas.Bool.{leb-true, le-leb, eqb-true, and_parts, and_from, le-ltb, ltb-false}
 use Rattle.std.proofs.lemmas.List.{nil_from_length}

@@ -1,4 +1,4 @@
--- Two actors of an order, as the loop that packs them takes them off its front.
+-- Two actors that the packing loop takes off an order's front are one byte of the order's bytes.
 use Rattle.std.proofs.Common.{◌≡◌, ℕ, ◌+◌, ◌-◌, ◌*◌, ◌≤◌, List, [], ◌∷◌, ◌++◌, All, length, get_or, take, drop, refl, arith}
 use Rattle.std.proofs.lemmas.Grind.{common_steps}
 use Rattle.std.proofs.lemmas.List.Elements.{All-drop}

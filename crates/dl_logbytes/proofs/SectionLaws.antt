@@ -1,4 +1,4 @@
--- Sections, as they are read and written.
+-- Reading a section undoes writing it, where it does so for each entry.
 use Rattle.std.proofs.Common.{◌≡◌, ℕ, zero, suc, ◌<◌, ◌^◌, Bool, true, List, [], ◌∷◌, ◌++◌, length, drop, get_or, Option, Some, None, Result, refl, ap, subst, append-nil, add-one, arith}
 use Rattle.std.specs.List.{flat_map, AllByRecursion, AllAdjacentBelow}
 use Rattle.std.proofs.lemmas.List.{nil_from_length}

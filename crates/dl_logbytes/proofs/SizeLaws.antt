@@ -1,4 +1,4 @@
--- The sizes of a log, as they are read and written.
+-- Reading the sizes of a log undoes writing them.
 use Rattle.std.proofs.Common.{◌≡◌, ℕ, ◌≤◌, ◌^◌, ◌==◌, Bool, true, List, [], ◌∷◌, ◌++◌, Option, Some, None, refl, ◌∙◌, append-nil, arith, eq-eqb}
 use Rattle.std.specs.List.{flat_map}
 use Rattle.std.proofs.lemmas.Bool.{leb-true, le-leb, eqb-true}

@@ -29,7 +29,10 @@ pub fn read_named(bytes: &[u8], at: &mut usize, mode: ModeName, count: u32) -> R
 {
     let start = *at;
     let named = read_u32(bytes, at)?;
-    let wanted = if mode == ModeName::Picolog { 0 } else { count };
+    let wanted = match mode {
+        ModeName::OrderSize | ModeName::OrderOnly => count,
+        ModeName::Picolog => 0,
+    };
     judge(named == wanted, FIELD, start)?;
     Ok(named)
 }

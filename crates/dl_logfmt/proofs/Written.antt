@@ -1,4 +1,4 @@
--- Bytes that are written into a room from its front, some at a time.
+-- Bytes that are written into a room from its front, some at a time, are the first of the whole.
 use Rattle.std.proofs.Common.{◌≡◌, ℕ, ◌+◌, ◌-◌, ◌<◌, ◌≤◌, min, inl, inr, List, [], ◌++◌, length, take, drop, refl, sym, ap, subst, ◌∙◌, append-nil, append_assoc, length-append, arith}
 use Rattle.std.proofs.lemmas.List.{take_at, drop_at, take-append-le, drop-append-le, drop-drop, drop_all, take_rest, length-drop, length-take-le}
 use Rattle.std.proofs.Math.Nat.{eq-or-lt_of_le}
@@ -107,7 +107,7 @@ Gave-both {f} {k} {a} {t} {room} {into} {here} first second =
           rw stop (Gave-more t (Gave-first t first) nothing)
     ]
 
--- the same where the first list is a slice from its front
+-- where the bytes to be written are what is left of a slice, what is filled of the room from a place on is given of them
 pub Gave-slice : {f k : ℕ} {slice old room into here : List ℕ} (taken : ℕ) (all t : List ℕ)
     → slice ≡ all → drop taken all ++ t ≡ old
     → Filled f (part taken slice) room into → Filled k t (part f into) here

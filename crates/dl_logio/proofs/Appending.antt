@@ -1,4 +1,4 @@
--- Pieces that are appended to a file one after another.
+-- Pieces that are appended to a file one after another make the whole, and nothing else changes.
 use Rattle.std.proofs.Common.{◌≡◌, ◌≢◌, ◌<◌, ℕ, min, Bool, true, false, List, [], ◌++◌, length, take, drop, cond, Option, Some, None, refl, sym, ap, ◌∙◌, unwrap_or, arith, append-nil, append_assoc}
 use Rattle.std.proofs.Math.Seq.{take-append_seam}
 use Rattle.std.proofs.lemmas.List.{length-take-le, nil_from_length, take-append-drop}
@@ -81,6 +81,6 @@ all_given n bytes left old whole count none some is =
     let nothing = nil_from_length left (omega (arith, count, none, some)) in
     sym (append-nil bytes) ∙ ap (λ (xs : List ℕ). bytes ++ xs) (sym nothing) ∙ is
 
--- the front of a whole
+-- bytes that make a whole with what is left are the whole's front
 pub front_of_whole : (bytes left whole : List ℕ) → bytes ++ left ≡ whole → bytes ≡ take (length bytes) whole
 front_of_whole bytes left whole is = sym (take-append_seam bytes left) ∙ ap (take (length bytes)) is

@@ -35,9 +35,11 @@ front_of (suc room) [] piece e = subst (λ (xs : List ℕ). take (length xs) [] 
 front_of zero (y ∷ ys) piece e = subst (λ (xs : List ℕ). take (length xs) (y ∷ ys) ≡ xs) e refl
 front_of (suc room) (y ∷ ys) piece e = subst (λ (xs : List ℕ). take (length xs) (y ∷ ys) ≡ xs) e (ap (λ (xs : List ℕ). y ∷ xs) (front_of room ys (take room ys) refl))
 
+-- no byte is a front of any file
 pub none_read : (told : Option Contents) (name : List ℕ) → IsFront told name []
 none_read told name m e content there = refl
 
+-- a front, and the piece that the file holds behind it, are a front
 pub more_read : (told : Option Contents) (name bytes : List ℕ) (offset room : ℕ) (piece : List ℕ) → length bytes ≡ offset → IsFront told name bytes → HoldsAt told name offset room piece → IsFront told name (bytes ++ piece)
 more_read told name bytes offset room piece at front held m e content is =
     let part = part_at m name offset room piece (get m name) (there told m name offset room piece held e) in
@@ -74,8 +76,10 @@ fault_read (Some m) name bytes offset room piece fault at front held stays =
 
 -- ---- answers that are no want of memory
 
+-- an answer that is well is no want of memory
 pub ok_is_none : {u : Unit {0}} → ◌≡◌ {A = Result (Unit {0}) LogError} (Ok u) (Err LogError.OutOfMemory) → ⊥
 ok_is_none e = absurd cc
 
+-- a malformed log is no want of memory
 pub malformed_is_none : (error : LogError) (number offset : ℕ) → error ≡ LogError.Malformed number offset → ◌≡◌ {A = Result (Unit {0}) LogError} (Err error) (Err LogError.OutOfMemory) → ⊥
 malformed_is_none error number offset is e = absurd cc

@@ -18,6 +18,7 @@ first_long n p ps h = h 0 [] (omega arith)
 rest_long : (n : ℕ) (p : List ℕ) (ps : List (List ℕ)) → AllLong n (p ∷ ps) → AllLong n ps
 rest_long n p ps h = λ k d lt. h (suc k) d (omega arith)
 
+-- pages of one size have that many bytes each
 pub length_concat : (n : ℕ) (ps : List (List ℕ)) → AllLong n ps → length (concat ps) ≡ length ps * n
 length_concat n [] h = omega arith
 length_concat n (p ∷ ps) h =
@@ -25,7 +26,7 @@ length_concat n (p ∷ ps) h =
     let rest : length (concat ps) ≡ length ps * n = length_concat n ps (rest_long n p ps h) in
     length-append p (concat ps) ∙ omega arith
 
--- the element of place j of page i
+-- byte i * n + j of all pages is byte j of page i
 pub get_concat : (n : ℕ) (ps : List (List ℕ)) (i j at : ℕ) → AllLong n ps → i < length ps → j < n → at ≡ i * n + j →
     slice_index (concat ps) at ≡ slice_index (get_or ps i []) j
 get_concat n [] i j at h lt ltj e = absurd (omega arith)
@@ -38,7 +39,7 @@ get_concat n (p ∷ ps) (suc i) j at h lt ltj e =
     get_or-append_right p (concat ps) n at 0 first (omega arith)
     ∙ get_concat n ps i j (at - n) (rest_long n p ps h) (omega arith) ltj (omega arith)
 
--- so many elements from place j of page i on, which end in that page
+-- bytes from i * n + j on that end in page i are those from j on of that page
 pub part_concat : (n : ℕ) (ps : List (List ℕ)) (i j k at : ℕ) → AllLong n ps → i < length ps → j + k ≤ n → at ≡ i * n + j →
     take k (drop at (concat ps)) ≡ take k (drop j (get_or ps i []))
 part_concat n [] i j k at h lt ltk e = absurd (omega arith)
@@ -67,11 +68,13 @@ set_concat n (p ∷ ps) (suc i) j at b q h lt ltj lq e =
     set-append_right p (concat (slice_set ps i q)) n at b first (omega arith)
     ∙ ap (λ (r : List ℕ). p ++ r) (set_concat n ps i j (at - n) b q (rest_long n p ps h) (omega arith) ltj lq (omega arith))
 
+-- a byte stored into a page, or none, is stored into all pages at that page's place
 pub with_byte_concat : (n : ℕ) (ps : List (List ℕ)) (i j at : ℕ) (b : Option ℕ) (q : List ℕ) → AllLong n ps → i < length ps → j < n → length q ≡ n → at ≡ i * n + j →
     with_byte (concat (slice_set ps i q)) at b ≡ concat (slice_set ps i (with_byte q j b))
 with_byte_concat n ps i j at None q h lt ltj lq e = refl
 with_byte_concat n ps i j at (Some b) q h lt ltj lq e = set_concat n ps i j at b q h lt ltj lq e
 
+-- a page set to another of the same size leaves all pages of that size
 pub AllLong-set : (n : ℕ) (ps : List (List ℕ)) (i : ℕ) (q : List ℕ) → AllLong n ps → length q ≡ n → AllLong n (slice_set ps i q)
 AllLong-set n ps i q h lq =
     λ k d lt. elim (eqb_tells k i) [
@@ -86,6 +89,7 @@ concat_chunks n (suc k) xs e =
     let rest : length (drop n xs) ≡ k * n = length-drop n xs ∙ omega arith in
     rw (concat_chunks n k (drop n xs) rest) (take-append-drop n xs)
 
+-- a list cut into chunks that it fills has chunks of that size
 pub chunks_long : (n k : ℕ) (xs : List ℕ) → length xs ≡ k * n → AllLong n (first_chunks n k xs)
 chunks_long n zero xs e = λ i d lt. absurd (omega arith)
 chunks_long n (suc k) xs e =

@@ -5,6 +5,7 @@ use Rattle.spec_isa.specs.Masks.{bytes_of, some_if}
 use Rattle.spec_isa.proofs.MemoryLaws.{length_lay, IsBytes-lay}
 use Rattle.dl_mem.specs.Memories.{IsMemory}
 
+-- a memory stays one when the bytes of one store are laid over it
 pub IsMemory-lay : (old new : List ℕ) (word mask value : ℕ) → new ≡ lay old (bytes_of word mask value) → IsMemory old → IsMemory new
 IsMemory-lay old new w k v e h =
     rw e
@@ -13,7 +14,7 @@ IsMemory-lay old new w k v e h =
       bytes = IsBytes-lay old w k v h.bytes;
     })
 
--- a store from its address on, byte by byte
+-- to lay a store is to store its four bytes, each where its bit of the mask is set, from its address on
 pub lay-from : (m : List ℕ) (at mask value : ℕ) → at % 4 ≡ 0 →
     lay m (bytes_of (at / 4) mask value)
     ≡ with_byte

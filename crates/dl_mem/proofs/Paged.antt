@@ -11,10 +11,11 @@ use Rattle.dl_mem.specs.Memories.{IsMemory, IsPaged}
 use Rattle.dl_mem.proofs.Laid.{IsMemory-lay, lay-from}
 use Rattle.dl_mem.proofs.Joined.{AllLong, AllLong-set, length_concat, get_concat, part_concat, with_byte_concat, concat_chunks, chunks_long}
 
+-- pages have 4,096 bytes each
 pub length_paged : (ps : List (List ℕ)) → IsPaged ps → length (concat ps) ≡ length ps * 4096
 length_paged ps h = length_concat 4096 ps h.whole
 
--- the page of an address inside
+-- a word inside a memory lies in one of its pages
 pub page_inside : (ps : List (List ℕ)) (addr : ℕ) → IsPaged ps → addr + 4 ≤ length (concat ps) → addr / 4096 < length ps
 page_inside ps addr h inside = let long = length_paged ps h in omega arith
 
@@ -86,6 +87,7 @@ IsPaged-chunks m h =
       memory = rw (concat_chunks 4096 (length m / 4096) m long) h;
     }
 
+-- the pages of a memory, one after another, are the memory
 pub concat_paged : (m : List ℕ) → IsMemory m → concat (first_chunks 4096 (length m / 4096) m) ≡ m
 concat_paged m h =
     let pages = h.size.pages in
@@ -102,6 +104,6 @@ copy_paged ps at n here others page h lt ends e whole =
     let sum : n ≡ here + others = omega arith in
     rw (sum, ← front, ← drop-drop here at (concat ps), ← drop-take here others xs, ← take-take here (here + others) xs (omega arith)) (take-append-drop here (take (here + others) xs))
 
--- the page of the first of some bytes inside
+-- the first of some bytes inside a memory lies in one of its pages
 pub first_inside : (ps : List (List ℕ)) (at n : ℕ) → IsPaged ps → at + n ≤ length (concat ps) → 0 < n → at / 4096 < length ps
 first_inside ps at n h inside some = let long = length_paged ps h in omega arith

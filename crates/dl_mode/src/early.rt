@@ -91,8 +91,9 @@ impl Early {
         ensures done_kept { OnErr result (self.new.done ≡ self.old.done) }
         ensures room { IsTrue self.old.room → IsOk result }
     {
-        let Actor::Thread(thread) = actor else {
-            return Ok(());
+        let thread = match actor {
+            Actor::Thread(thread) => thread,
+            Actor::Dma => return Ok(()),
         };
         let index = self.done[usize::from(thread)];
         if early {

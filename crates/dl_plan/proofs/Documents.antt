@@ -1,4 +1,4 @@
--- Lemmas on documents and their tables.
+-- A document and its tables hold what the grammar reads of its bytes.
 use Rattle.std.proofs.Common.{◌≡◌, ℕ, Bool, true, false, cond, ◌&&◌, List, [], ◌∷◌, IsUtf8, Option, None, string_bytes, refl, ap}
 use Rattle.std.proofs.lemmas.Str.{IsUtf8-from_is_utf8, is_utf8-from_IsUtf8}
 use Rattle.std.specs.List.{list_all}

@@ -1,4 +1,4 @@
--- What a run that is over tells, sphere by sphere: in the words of its texts, and in those of the machine.
+-- What a run that is over tells, sphere by sphere, in the words of the machine is what its texts say.
 use Rattle.std.proofs.Common.{◌≡◌, ℕ, zero, suc, ◌+◌, ◌<◌, ◌≤◌, ◌^◌, Bool, true, false, List, [], ◌∷◌, ◌++◌, length, Some, None, refl, sym, ap, ◌∙◌, subst, arith, get_or, inl, inr}
 use Rattle.std.specs.Prelude.{◌⊎◌, ◌||◌, slice_get, drop}
 use Rattle.std.proofs.lemmas.List.{append_assoc}
@@ -52,7 +52,7 @@ as_many es r over = ap (λ (w : World). length w.spheres) over.world ∙ (runs_t
 
 -- ---- a sphere
 
--- within the limits of a setup
+-- a run that is over has at most 8 spheres
 pub few_spheres : (es : List Event) (r : Ran) → IsOver es r → length r.setup.spheres ≤ 8
 few_spheres es r over = over.limits.few.1
 
@@ -98,6 +98,7 @@ end_now b (Turn k) how e = absurd (none-some how e)
 end_now b TurnOfDma how e = absurd (none-some how e)
 end_now b (Over x) how e = cc
 
+-- where a sphere has an end, it is what its role ends with
 pub end-some : (role : Role) (n : ℕ) (how : End) → end_in role ≡ Some how → how ≡ end_as role n
 end-some Plain n how e = absurd (none-some how e)
 end-some (Record log) n how e = absurd (none-some how e)
@@ -108,11 +109,13 @@ none_now b (Turn k) end e = true≢false (sym end)
 none_now b TurnOfDma end e = true≢false (sym end)
 none_now b (Over x) end e = none-some x (sym e)
 
+-- a sphere that is at its end and has none isn't replayed
 pub end-none : (role : Role) → IsAtEnd role → end_in role ≡ None → replays role ≡ false
 end-none Plain end e = refl
 end-none (Record log) end e = refl
 end-none (Replay b) end e = absurd (none_now b b.now end e)
 
+-- a sphere that isn't replayed ends as complete, with its commits
 pub live-end : (role : Role) (n : ℕ) → replays role ≡ false → end_as role n ≡ End.Complete n
 live-end Plain n e = refl
 live-end (Record log) n e = refl
@@ -120,15 +123,18 @@ live-end (Replay b) n e = absurd (true≢false e)
 
 -- ---- logs
 
+-- a sphere that was set up to be recorded holds the log that the run tells
 pub recorded-role : (es : List Event) (r : Ran) (i : ℕ) (mode : ModeName) → IsOver es r → i < length r.setup.spheres → (image_at r.setup i).role ≡ IsRecorded mode → (sphere_at r.world i).role ≡ Record (log_told r.setup es i mode)
 recorded-role es r i mode over inside is = has_role es r i (IsRecorded mode) over inside is
 
+-- the log that the machine has of a recorded sphere is the one that the run tells
 pub log-told : (es : List Event) (r : Ran) (i : ℕ) (mode : ModeName) (log : LogParts) → IsOver es r → i < length r.setup.spheres → (image_at r.setup i).role ≡ IsRecorded mode → log_in (sphere_at r.world i).role ≡ Some log → log ≡ log_told r.setup es i mode
 log-told es r i mode log over inside is there =
     let role = recorded-role es r i mode over inside is in
     let e : Some log ≡ Some (log_told r.setup es i mode) = sym there ∙ ap log_in role in
     cc
 
+-- the bytes of the log that the run tells are the text of a recorded sphere's log
 pub log-is : (s : Setup) (es : List Event) (i : ℕ) (mode : ModeName) (log : LogParts) → (image_at s i).role ≡ IsRecorded mode → log ≡ log_told s es i mode → log_bytes log ≡ log_text s es i
 unfolding log_text
 log-is s es i mode log is same = ap log_bytes same ∙ ap (log_as s es i) (sym is)
@@ -141,11 +147,13 @@ no-log s es i (inr is) = ap (log_as s es i) (sym is.1)
 
 -- ---- accounts and the console
 
+-- the account of what the machine holds of a sphere is the text of its account
 pub account-is : (es : List Event) (r : Ran) (i : ℕ) → IsOver es r → i < length r.setup.spheres → account_held (sphere_at r.world i) ≡ account_text r.setup es i
 unfolding account_text
 account-is es r i over inside =
     ap (λ (w : World). account_held (sphere_at w i)) over.world ∙ (told es r i over inside).account
 
+-- what the machine's console has taken is the text of the console
 pub console-is : (es : List Event) (r : Ran) → IsOver es r → r.world.devices.console ≡ console_text r.setup es
 unfolding console_text
 console-is es r over =
@@ -154,6 +162,7 @@ console-is es r over =
 
 -- ---- lines
 
+-- a sphere that wasn't set up to be replayed isn't
 pub not-replayed : (es : List Event) (r : Ran) (i : ℕ) (role : RoleSetup) → IsOver es r → i < length r.setup.spheres → (image_at r.setup i).role ≡ role → is_replayed role ≡ false → replays (sphere_at r.world i).role ≡ false
 not-replayed es r i IsPlain over inside is live = has_role es r i IsPlain over inside is
 not-replayed es r i (IsRecorded mode) over inside is live = ap replays (has_role es r i (IsRecorded mode) over inside is)
@@ -172,21 +181,25 @@ ends-as-played es r i log n over inside is =
     let there : (sphere_at (finished r.setup es) i).role ≡ Replay h.0 = subst (λ (w : World). (sphere_at w i).role ≡ Replay h.0) over.world h.1 in
     ap (λ (x : Role). end_as x n) h.1 ∙ ap end_of ((told es r i over inside).played log h.0 is there)
 
+-- a plain sphere's line, of its commits in the machine, is that of the texts
 pub line-plain : (es : List Event) (r : Ran) (i : ℕ) → IsOver es r → i < length r.setup.spheres → (image_at r.setup i).role ≡ IsPlain → SphereLine.Plain (position (sphere_at r.world i).progress) ≡ line_as (image_at r.setup i) (sphere_in (executed r.setup es) i) (image_at r.setup i).role
 line-plain es r i over inside is =
     ap SphereLine.Plain (commits-are es r i over inside (not-replayed es r i IsPlain over inside is refl))
     ∙ ap (line_as (image_at r.setup i) (sphere_in (executed r.setup es) i)) (sym is)
 
+-- a recorded sphere's line, of its commits in the machine, is that of the texts
 pub line-recorded : (es : List Event) (r : Ran) (i : ℕ) (mode : ModeName) → IsOver es r → i < length r.setup.spheres → (image_at r.setup i).role ≡ IsRecorded mode → SphereLine.Record (position (sphere_at r.world i).progress) ≡ line_as (image_at r.setup i) (sphere_in (executed r.setup es) i) (image_at r.setup i).role
 line-recorded es r i mode over inside is =
     ap SphereLine.Record (commits-are es r i over inside (not-replayed es r i (IsRecorded mode) over inside is refl))
     ∙ ap (line_as (image_at r.setup i) (sphere_in (executed r.setup es) i)) (sym is)
 
+-- a replayed sphere's line, of its end in the machine, is that of the texts
 pub line-replayed : (es : List Event) (r : Ran) (i : ℕ) (log : LogParts) (how : End) → IsOver es r → i < length r.setup.spheres → (image_at r.setup i).role ≡ IsReplayed log → how ≡ end_as (sphere_at r.world i).role (position (sphere_at r.world i).progress) → line_of_end how ≡ line_as (image_at r.setup i) (sphere_in (executed r.setup es) i) (image_at r.setup i).role
 line-replayed es r i log how over inside is ended =
     ap line_of_end (ended ∙ ends-as-played es r i log (position (sphere_at r.world i).progress) over inside is)
     ∙ ap (line_as (image_at r.setup i) (sphere_in (executed r.setup es) i)) (sym is)
 
+-- a replayed sphere has diverged in the machine where it does in the texts
 pub diverges-replayed : (es : List Event) (r : Ran) (i : ℕ) (log : LogParts) (how : End) → IsOver es r → i < length r.setup.spheres → (image_at r.setup i).role ≡ IsReplayed log → how ≡ end_as (sphere_at r.world i).role (position (sphere_at r.world i).progress) → has_diverged how ≡ diverges_as (image_at r.setup i) (image_at r.setup i).role
 diverges-replayed es r i log how over inside is ended =
     ap has_diverged (ended ∙ ends-as-played es r i log (position (sphere_at r.world i).progress) over inside is)
@@ -199,6 +212,7 @@ image-next [] i l = absurd (omega (arith, l))
 image-next (x ∷ xs) zero l = refl
 image-next (x ∷ xs) (suc i) l = image-next xs i (omega (arith, l))
 
+-- past the last sphere none is left
 pub none-left : (xs : List SphereSetup) (i : ℕ) → length xs ≤ i → drop i xs ≡ []
 none-left [] zero l = refl
 none-left [] (suc i) l = refl
@@ -215,6 +229,7 @@ lines-more x xs i ls line inside is =
 one_more : (i : ℕ) → i + 1 ≡ suc i
 one_more i = omega arith
 
+-- with the line of sphere i behind the lines before it, the lines to come begin at sphere i + 1
 pub lines-after : (x : SerialState) (xs : List SphereSetup) (i : ℕ) (ls : List SphereLine) (line : SphereLine) → i < length xs → line ≡ line_as (get_or xs i no_image) (sphere_in x i) (get_or xs i no_image).role → (ls ++ line ∷ []) ++ lines_from x (i + 1) (drop (i + 1) xs) ≡ ls ++ lines_from x i (drop i xs)
 lines-after x xs i ls line inside is =
     ap (λ (n : ℕ). (ls ++ line ∷ []) ++ lines_from x n (drop n xs)) (one_more i) ∙ lines-more x xs i ls line inside is
@@ -222,22 +237,26 @@ lines-after x xs i ls line inside is =
 abbrev here : List SphereSetup → ℕ → Bool
 here xs i = diverges_as (get_or xs i no_image) (get_or xs i no_image).role
 
+-- where sphere i hasn't diverged, a sphere from i on has where a later one has
 pub diverges-later : (xs : List SphereSetup) (i : ℕ) → i < length xs → here xs i ≡ false → diverges (drop (suc i) xs) ≡ diverges (drop i xs)
 diverges-later xs i inside is =
     ap (λ (b : Bool). b || diverges (drop (suc i) xs)) (sym is) ∙ ap diverges (sym (image-next xs i inside))
 
+-- where sphere i has diverged, a sphere from i on has
 pub diverges-here : (xs : List SphereSetup) (i : ℕ) → i < length xs → here xs i ≡ true → true ≡ diverges (drop i xs)
 diverges-here xs i inside is =
     ap (λ (b : Bool). b || diverges (drop (suc i) xs)) (sym is) ∙ ap diverges (sym (image-next xs i inside))
 
 -- ---- the report and the summary
 
+-- of the machine's points and counts, with the spheres' lines, the report is the text of the report
 pub report-is : (es : List Event) (r : Ran) (lines : List SphereLine) → IsOver es r → lines ≡ lines_of r.setup es → report_of r.world.points r.world.counts lines ≡ report_text r.setup es
 unfolding report_text
 report-is es r lines over is =
     ap (λ (w : World). report_of w.points w.counts lines) over.world
     ∙ ap (report_of (finished r.setup es).points (finished r.setup es).counts) is
 
+-- of the machine's counts, with the spheres' lines, the summary is the text of the summary
 pub summary-is : (es : List Event) (r : Ran) (lines : List SphereLine) → IsOver es r → lines ≡ lines_of r.setup es → summary_of r.world.counts lines ≡ summary_text r.setup es
 unfolding summary_text
 summary-is es r lines over is =

@@ -22,6 +22,7 @@ pub run_room : (s : Setup) (es : List Event) (w : World) → IsRun s es w → le
 run_room s es w run few =
     subst HasRoom (sym run.here) (record { few = λ i within live. leaves_room s es i run.limits few within live })
 
+-- a run's world counts as many events as the run has
 pub run_events : (s : Setup) (es : List Event) (w : World) → IsRun s es w → w.counts.events ≡ length es
 run_events s es w run = ap (λ (v : World). v.counts.events) run.here ∙ schedule_counted s es
 
@@ -39,9 +40,11 @@ pub record Driving (all left : List Event) (new now : World) : Type 0 where
   pub both : done ++ left ≡ all
   pub taken : HasTaken done new now
 
+-- in the new world no event was taken, and all are left
 pub driving_start : (all : List Event) (w : World) → IsNew w → Driving all all w w
 driving_start all w new = record { setup = new.setup; first = new.run; done = []; both = refl; taken = λ s run. run }
 
+-- an event that leads from this world to the next is one more that was taken, and one less that is left
 pub driving_next : (all left : List Event) (e : Event) (new now next : World) → Driving all (e ∷ left) new now → ((s : Setup) (es : List Event) → IsRun s es now → IsRun s (es ++ e ∷ []) next) → Driving all left new next
 driving_next all left e new now next d on =
     record {
@@ -56,10 +59,12 @@ done_few : (all left : List Event) (new now : World) → (d : Driving all left n
 done_few all left new now d few =
     let both = ap length d.both in let l = length-append d.done left in omega (arith, both, l, few)
 
+-- before each event of a short schedule there is room for one commit more
 pub driving_room : (all left : List Event) (new now : World) → Driving all left new now → length all ≤ 2 ^ 24 → HasRoom now
 driving_room all left new now d few =
     run_room d.setup d.done now (d.taken d.setup d.first) (done_few all left new now d few)
 
+-- before each event of a short schedule the count of events is far below its limit
 pub driving_events : (all left : List Event) (new now : World) → Driving all left new now → length all ≤ 2 ^ 24 → now.counts.events < 2 ^ 63
 driving_events all left new now d few =
     let e = run_events d.setup d.done now (d.taken d.setup d.first) in
@@ -69,6 +74,7 @@ driving_events all left new now d few =
 nothing_behind : (xs : List Event) → xs ++ [] ≡ xs
 nothing_behind xs = grind (arith, common_steps)
 
+-- where no event is left, all are taken
 pub driving_end : (all : List Event) (new now : World) → Driving all [] new now → HasTaken all new now
 driving_end all new now d =
     subst (λ (es : List Event). HasTaken es new now) (sym (nothing_behind d.done) ∙ d.both) d.taken
@@ -83,6 +89,7 @@ left_here es i e l =
 
 -- ---- events that are drawn
 
+-- where no event is asked for, none is drawn
 pub none_drawn : (n : ℕ) (g : Lcg) → n ≡ 0 → schedule n g ≡ []
 unfolding schedule
 none_drawn n g e = ap (λ (m : ℕ). schedule m g) e

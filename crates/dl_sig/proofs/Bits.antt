@@ -1,4 +1,4 @@
--- Banks as words of 32 bits.
+-- Banks that are words of 32 bits change and meet as their sets of places do.
 use Rattle.std.proofs.Common.{◌≡◌, ◌≢◌, ℕ, zero, suc, ◌+◌, ◌*◌, ◌/◌, ◌%◌, ◌^◌, ◌<◌, inl, inr, true, false, not, ◌&&◌, ◌||◌, eqb, max, List, [], ◌∷◌, length, get_or, set, replicate, refl, sym, ◌∙◌, ap, arith, bit_and, bit_or, w32, Fits}
 use Rattle.std.proofs.lemmas.Bool.{true≢false, eq-eqb, ne_eqb, eqb-true, not-false, cases_eq, cases_lt, cases_Bool, and_parts, or_parts, false_from_ne_true}
 use Rattle.std.proofs.lemmas.List.{length-set, get_or-set_same, get_or-set_other, length-replicate, get_or-replicate, get_or_past}

@@ -1,4 +1,4 @@
--- The set of the numbers below a bound that pass a test.
+-- The set of the numbers below a bound that pass a test changes with the test, and meets as the tests do.
 use Rattle.std.proofs.Common.{◌≡◌, ℕ, zero, suc, ◌<◌, inl, inr, Bool, true, false, ◌&&◌, ◌||◌, eqb, ltb, refl, sym, ◌∙◌, ap, arith, rules}
 use Rattle.std.proofs.lemmas.Bool.{cases_lt, lt-ltb, le-ltb, eq-eqb, ne_eqb, cases_eq}
 use Rattle.std.specs.Cmp.{nat_cmp_total}

@@ -9,7 +9,7 @@ use crate::access::{load_word, store_part, taken};
 use crate::answer::Did;
 use crate::arithmetic::combined;
 use crate::operation::operation_of_word;
-use crate::refusal::{has_word, refusal};
+use crate::refusal::{FETCH_OUTSIDE, has_word, refusal};
 use crate::sight::{Full, View};
 use crate::state::Thread;
 use spec_isa::field::Reg;
@@ -30,7 +30,7 @@ pub fn one<V: View>(t: &mut Thread, v: &mut V) -> Did
 {
     let pc = t.pc();
     if !has_word(v.size(), pc) {
-        return Did::Serial(Kind::Fault(1));
+        return Did::Serial(Kind::Fault(FETCH_OUTSIDE));
     }
     match v.fetch(pc) {
         Ok(word) => run(word, t, v),

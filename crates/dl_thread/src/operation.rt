@@ -5,6 +5,7 @@ ghost use Rattle.spec_isa.specs.Instruction.{operation_of};
 ghost use Rattle.spec_isa.specs.Operations.{branched, operation, register};
 
 use crate::arithmetic::{computed, extend, immediate, is_taken, shifted};
+use crate::refusal::ILLEGAL;
 use crate::state::Thread;
 use dl_isa::decode;
 use spec_isa::field::{Imm12, Imm20, Reg};
@@ -19,7 +20,7 @@ pub(crate) fn operation_of_word(word: u32, t: &Thread) -> Operation
 {
     match decode(word) {
         Some(instr) => operation_of_instr(instr, t),
-        None => Operation::Stop(Kind::Fault(2)),
+        None => Operation::Stop(Kind::Fault(ILLEGAL)),
     }
 }
 

@@ -7,13 +7,35 @@ use spec_isa::instr::{LoadOp, StoreOp};
 use spec_isa::operation::Operation;
 use spec_isa::thread::Kind;
 
+// The causes of faults: the ISA's numbers.
+const JUMP_MISALIGNED: u8 = 0;
+
+pub(crate) const FETCH_OUTSIDE: u8 = 1;
+
+pub(crate) const ILLEGAL: u8 = 2;
+
+const LOAD_MISALIGNED: u8 = 4;
+
+const LOAD_OUTSIDE: u8 = 5;
+
+const STORE_MISALIGNED: u8 = 6;
+
+const STORE_OUTSIDE: u8 = 7;
+
+// The device words: the moment, the next byte of the input, and the console.
+const MOMENT: u32 = 0xF000_0000;
+
+const INPUT: u32 = 0xF000_0004;
+
+const CONSOLE: u32 = 0xF000_0008;
+
 // Why an operation is serial in a memory of `size` bytes.
 #[inline(always)]
 pub(crate) fn refusal(operation: &Operation, size: u32) -> Option<Kind>
     ensures { result ≡ refuses size operation.now }
 {
     match *operation {
-        Operation::Go { pc, .. } => (pc % 4 != 0).then_some(Kind::Fault(0)),
+        Operation::Go { pc, .. } => (pc % 4 != 0).then_some(Kind::Fault(JUMP_MISALIGNED)),
         Operation::Stop(kind) => Some(kind),
         Operation::Load { op, addr, .. } => refused_load(
             size,
@@ -40,11 +62,11 @@ fn refused_load(size: u32, width: u32, addr: u32, is_device: bool) -> Option<Kin
     ensures { result ≡ load_refusal size width addr is_device }
 {
     if addr % width != 0 {
-        Some(Kind::Fault(4))
+        Some(Kind::Fault(LOAD_MISALIGNED))
     } else if is_device {
         Some(Kind::DeviceLoad)
     } else {
-        (!has_word(size, addr)).then_some(Kind::Fault(5))
+        (!has_word(size, addr)).then_some(Kind::Fault(LOAD_OUTSIDE))
     }
 }
 
@@ -54,11 +76,11 @@ fn refused_store(size: u32, width: u32, addr: u32, is_device: bool) -> Option<Ki
     ensures { result ≡ store_refusal size width addr is_device }
 {
     if addr % width != 0 {
-        Some(Kind::Fault(6))
+        Some(Kind::Fault(STORE_MISALIGNED))
     } else if is_device {
         Some(Kind::DeviceStore)
     } else {
-        (!has_word(size, addr)).then_some(Kind::Fault(7))
+        (!has_word(size, addr)).then_some(Kind::Fault(STORE_OUTSIDE))
     }
 }
 
@@ -74,7 +96,7 @@ fn reads_device(op: LoadOp, addr: u32) -> bool
     ensures { result ≡ is_device_load op addr }
 {
     match op {
-        LoadOp::Lw => addr == 0xF000_0000 || addr == 0xF000_0004,
+        LoadOp::Lw => addr == MOMENT || addr == INPUT,
         LoadOp::Lb | LoadOp::Lh | LoadOp::Lbu | LoadOp::Lhu => false,
     }
 }
@@ -84,7 +106,7 @@ fn writes_device(op: StoreOp, addr: u32) -> bool
     ensures { result ≡ is_device_store op addr }
 {
     match op {
-        StoreOp::Sw => addr == 0xF000_0008,
+        StoreOp::Sw => addr == CONSOLE,
         StoreOp::Sb | StoreOp::Sh => false,
     }
 }

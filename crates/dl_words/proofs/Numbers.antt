@@ -1,4 +1,4 @@
--- What std reads in a word of plain digits.
+-- What std reads in a word of plain digits is the word's number.
 use Rattle.std.proofs.Common.{◌≡◌, ℕ, ◌<◌, ◌^◌, true, List, [], ◌∷◌, length, Result, Ok, Err, rules, arith}
 use Rattle.std.proofs.lemmas.Str.Parse.{IsDigitsTest, IsNumeralModel, numerals_by_value, parse_digits}
 use Rattle.std.specs.Char.{is_ascii_digit}
@@ -26,5 +26,6 @@ decided : {E : Type 0} (w : List ℕ) (r : Result ℕ E) → is_plain w ≡ true
 decided w (Ok n) plain (within, is) = search (rules, plain, within, is)
 decided w (Err e) plain not_within = search (rules, plain, not_within, is_long w plain)
 
+-- what std reads in a plain word is the word's number, or none where that doesn't fit
 pub number_read : {E : Type 0} (w : List ℕ) (r : Result ℕ E) → is_plain w ≡ true → ParsesUnsigned 32 10 w r → result_ok r ≡ number_of w
 number_read w r plain parsed = decided w r plain (parse_digits model 32 w r parsed (are_digits w plain))

@@ -96,6 +96,7 @@ spheres_sized k (suc i) (s ∷ ss) (image ∷ images) xs x log are made at is =
     let all = same_spheres (first ∷ rest.0) xs rest.2 in
     spheres_sized (suc k) i ss images rest.0 x log are.1 rest.1 (ap (λ (ys : List SphereSetup). slice_get ys (suc i)) all ∙ at) is
 
+-- the machine of a task can be finished
 pub task_can_finish : (plan : List ℕ) (m : Contents) (t : Task) → IsTask plan m t → CanFinish (setup_in t)
 task_can_finish plan m t is =
     let built = task_built plan m t is in

@@ -35,6 +35,7 @@ replayed log s x role made = replayed_by 0 log x.role (ap (role_of 0) (sym role)
 
 -- ---- accounts
 
+-- two tasks that replay a sphere of the same image, memory size and log write equal accounts of it
 pub accounts_agree : AccountsAgree
 unfolding account_text
 accounts_agree plan other m n t u i j s log is is_too role at there =
@@ -53,6 +54,7 @@ accounts_agree plan other m n t u i j s log is is_too role at there =
     ∙ ap (account_as b.setup y) (ap IsReplayed parts ∙ sym q.2)
     ∙ ap (λ (d : SphereSetup). account_as d y d.role) (sym b.at)
 
+-- where one task records a sphere and another replays what it recorded, both write the same account
 pub recordings_replayed : RecordingsAreReplayed
 unfolding account_text
 recordings_replayed plan other m n t u i j s mode is is_too role at there =

@@ -32,6 +32,7 @@ can_finish v =
       standard = none_replayed v;
     }
 
+-- a drill's replay is complete, and has the account of its recording
 pub drill_reproduced : (v : ℕ) → IsReproduced v
 unfolding account_text
 drill_reproduced v =

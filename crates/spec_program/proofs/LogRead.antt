@@ -78,6 +78,7 @@ all_read : (b : Bool) (at : ℕ) (p log : LogParts) → ◌≡◌ {A = Result Lo
 all_read true at p log e = absurd cc
 all_read false at p log e = cc
 
+-- the standard size of a log that bytes say is over 0
 pub log_sized : (bytes : List ℕ) (log : LogParts) → read_of bytes ≡ Ok log → 0 < log.s
 log_sized bytes log e =
     let p = then_read (parts bytes 0) (λ log after. if nat_lt after (length bytes) then fails 7 after else Ok log) log e in

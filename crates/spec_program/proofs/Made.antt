@@ -15,10 +15,12 @@ use Rattle.spec_program.specs.Files.{RoleRead, PlainRead, RecordRead, ReplayRead
 use Rattle.spec_program.specs.Stages.{Refused, refusing, ◌>>◌}
 use Rattle.spec_program.specs.Tasks.{Task, IsTask, setup_in, absent, bad_plan, plan_at, task_read, task_planned}
 
+-- where two stages answer, the first one did, and the second one did of its answer
 pub then_ok : {A B E : Type 0} (o : Result A E) (f : A → Result B E) (b : B) → (o >> f) ≡ Ok b → (a : A) × (o ≡ Ok a) × (f a ≡ Ok b)
 then_ok (Err x) f b e = absurd cc
 then_ok (Ok a) f b e = (a, refl, e)
 
+-- what is not refused is what was answered
 pub not_refused : {A E : Type 0} (told : E → Refused) (o : Result A E) (a : A) → refusing told o ≡ Ok a → o ≡ Ok a
 not_refused told (Err x) a e = absurd cc
 not_refused told (Ok b) a e = cc
@@ -88,6 +90,7 @@ pub record IsBuilt (m : Contents) (t : Task) : Type 0 where
   pub are : images_of 0 t.read.spheres ≡ Ok images
   pub spheres : spheres_of 0 t.read.spheres images ≡ Ok t.spheres
 
+-- a task's plan is in its file, and its spheres are made of the images and logs that the plan names
 pub task_built : (name : List ℕ) (m : Contents) (t : Task) → IsTask name m t → IsBuilt m t
 task_built name m t is =
     let plan = then_ok (plan_at m name) (task_planned m) t is in
@@ -120,6 +123,7 @@ pub record IsSphereOf (t : Task) (i : ℕ) (s : SphereRead) : Type 0 where
   pub at : image_at (setup_in t) i ≡ setup
   pub made : IsMade s setup
 
+-- sphere i of a task's machine is made of what sphere i has read
 pub sphere_of_task : (name : List ℕ) (m : Contents) (t : Task) (i : ℕ) (s : SphereRead) → IsTask name m t → slice_get t.read.spheres i ≡ Some s → IsSphereOf t i s
 sphere_of_task name m t i s is at =
     let built = task_built name m t is in

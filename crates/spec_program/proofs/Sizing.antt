@@ -89,6 +89,7 @@ values_sized en p e =
       window = let l = least.window in omega (arith, l);
     })
 
+-- a plan that is read has numbers over 0
 pub plan_sized : (name bytes : List ℕ) (p : PlanValues) → plan_of name bytes ≡ Ok p → IsSized p
 unfolding plan_of
 plan_sized name bytes p e =

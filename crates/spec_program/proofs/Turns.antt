@@ -15,7 +15,7 @@ next_before m [] more name next = absurd next
 next_before m (x ∷ xs) more name (there, inl same) = (there, inl same)
 next_before m (x ∷ xs) more name (there, inr next) = (there, inr (next_before m xs more name next))
 
--- and with names in front that are there
+-- a turn is one also behind names that are there
 pub next_behind : (m : Contents) (front names : List (List ℕ)) (name : List ℕ) → AreThere m front → IsReadNext names m name → IsReadNext (front ++ names) m name
 next_behind m [] names name there next = next
 next_behind m (x ∷ xs) names name there next = (there.0, inr (next_behind m xs names name there.1 next))

@@ -46,12 +46,17 @@ sphere_in x i = slice_index_or x.spheres i no_sphere
 abbrev pub input_at : SerialState → Point → Option Input
 input_at x (Point.Commit moment i (Actor.Thread k) CommitKind.Serial size short) =
     let p = sphere_in x i in answer_to x.devices moment p (slice_get p.threads k)
-input_at x _ = None
+input_at x (Point.Commit moment i (Actor.Thread k) CommitKind.Chunk size short) = None
+input_at x (Point.Commit moment i (Actor.Thread k) CommitKind.Dma size short) = None
+input_at x (Point.Commit moment i (Actor.Thread k) CommitKind.Piece size short) = None
+input_at x (Point.Commit moment i Actor.Dma kind size short) = None
+input_at x (Point.Raise moment i k value) = None
 
 -- only DMAs get bytes
 abbrev pub bytes_at : SerialState → Point → List ℕ
 bytes_at x (Point.Commit moment i Actor.Dma kind size short) = bytes_for x.devices (sphere_in x i).progress.request
-bytes_at x _ = []
+bytes_at x (Point.Commit moment i (Actor.Thread k) kind size short) = []
+bytes_at x (Point.Raise moment i k value) = []
 
 -- the points of sphere i
 abbrev pub is_of : (i : ℕ) → Point → Bool
@@ -82,7 +87,9 @@ sizes_of (Point.Raise moment i k value ∷ ps) = sizes_of ps
 -- serial steps and DMAs are never short
 abbrev pub is_short_chunk : CommitKind → (short : Bool) → Bool
 is_short_chunk CommitKind.Chunk short = short
-is_short_chunk _ short = false
+is_short_chunk CommitKind.Serial short = false
+is_short_chunk CommitKind.Dma short = false
+is_short_chunk CommitKind.Piece short = false
 
 -- of thread k, after so many of its commits, the sizes of the short chunks
 abbrev pub shorts_of : (thread commits : ℕ) → List Point → List ShortSize
@@ -117,7 +124,8 @@ inputs_of cs = flat_map (λ c. listed c.input) cs
 -- the data of a DMA, with the place of its commit
 abbrev pub data_at : (commits : ℕ) → Point → (bytes : List ℕ) → List DmaRecord
 data_at n (Point.Commit moment i Actor.Dma kind size short) bytes = record { slot = n; bytes = bytes } ∷ []
-data_at n _ bytes = []
+data_at n (Point.Commit moment i (Actor.Thread k) kind size short) bytes = []
+data_at n (Point.Raise moment i k value) bytes = []
 
 -- the data of its DMAs, after so many commits
 abbrev pub dmas_of : (commits : ℕ) → List Supplied → List DmaRecord

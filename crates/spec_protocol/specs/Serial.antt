@@ -57,7 +57,11 @@ do_kind x moment i (Actor.Thread k) CommitKind.Chunk size short p =
 do_kind x moment i (Actor.Thread k) CommitKind.Serial size short p =
     do_serial x i k moment p (slice_get p.threads k)
 do_kind x moment i Actor.Dma CommitKind.Dma size short p = do_dma x i (dma_moved x.devices p)
-do_kind x moment i _ _ size short p = x
+do_kind x moment i (Actor.Thread k) CommitKind.Dma size short p = x
+do_kind x moment i (Actor.Thread k) CommitKind.Piece size short p = x
+do_kind x moment i Actor.Dma CommitKind.Chunk size short p = x
+do_kind x moment i Actor.Dma CommitKind.Serial size short p = x
+do_kind x moment i Actor.Dma CommitKind.Piece size short p = x
 
 -- only in plain and recorded spheres
 abbrev pub in_live : Role → SerialState → SerialState → SerialState
@@ -118,7 +122,11 @@ abbrev pub CanKind : Devices → Actor → CommitKind → (size : ℕ) → Spher
 CanKind devices (Actor.Thread k) CommitKind.Chunk size p = CanChunk size p (slice_get p.threads k)
 CanKind devices (Actor.Thread k) CommitKind.Serial size p = CanSerial size p (slice_get p.threads k)
 CanKind devices Actor.Dma CommitKind.Dma size p = (size ≡ 0) × IsSome p.progress.request
-CanKind devices _ _ size p = ⊥
+CanKind devices (Actor.Thread k) CommitKind.Dma size p = ⊥
+CanKind devices (Actor.Thread k) CommitKind.Piece size p = ⊥
+CanKind devices Actor.Dma CommitKind.Chunk size p = ⊥
+CanKind devices Actor.Dma CommitKind.Serial size p = ⊥
+CanKind devices Actor.Dma CommitKind.Piece size p = ⊥
 
 abbrev pub InLive : Role → Type 0 → Type 0
 InLive Plain can = can

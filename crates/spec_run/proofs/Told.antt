@@ -241,6 +241,7 @@ played_to s es i image p log b can is t role replay =
     let same : b ≡ r.cursor = same_cursor b r.cursor (sym replay ∙ ap (λ (q : Sphere). q.role) t.at ∙ r.role) in
     ap (λ (c : Cursor). c.now) same ∙ r.played.now
 
+-- each sphere of a finished machine has the role, the account and the commits that its texts tell
 pub spheres_told : SpheresAreTold
 spheres_told s es i image can is =
     let p = sphere-there s es i image can is in
@@ -257,6 +258,8 @@ spheres_told s es i image can is =
 
 -- ---- the run
 
+-- a finished machine has as many spheres as were set up, and the devices that its executed points leave,
+-- and those points are possible
 pub runs_told : RunsAreTold
 runs_told s es is =
     let k = known s es is in
@@ -270,6 +273,7 @@ play_account y p n now few memory threads progress =
     let told : end_of y.now ≡ End.Complete (position p.progress) = ap end_of now ∙ ap End.Complete few in
     (λ j. account_of (progress j).commits (threads j) (progress j).request (memory j) (told j))
 
+-- the log of a recorded sphere fits its image, and the account of its play is that of the recording
 pub recordings_reproduced : RecordingsAreReproduced
 recordings_reproduced s es i image mode can is role =
     let t = sphere-there s es i image can is in

@@ -1,4 +1,4 @@
--- The number that digits write, cut at each step.
+-- A number that is cut at each digit comes to the same as one that is cut once.
 use Rattle.std.proofs.Common.{◌≡◌, ℕ, ◌+◌, ◌*◌, ◌^◌, ◌<◌, ◌≤◌, List, [], ◌∷◌, arith, ap, ◌⊎◌, inl, inr}
 use Rattle.std.specs.Char.{digit_value}
 use Rattle.std.specs.Str.Parse.{digits_value_after}

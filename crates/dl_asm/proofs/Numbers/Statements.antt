@@ -1,4 +1,4 @@
--- The rules of a statement, from a number that is cut beyond every range.
+-- A statement breaks the same rule with a number that is cut beyond every range as with the number itself.
 use Rattle.std.proofs.Common.{◌≡◌, ℕ, ◌≤◌, Bool, true, false, not, List, Option, Some, None, refl, sym, ap, ◌∙◌, arith}
 use Rattle.std.specs.Option.{option_map}
 use Rattle.std.proofs.lemmas.Bool.Decides.{nat_tests}
@@ -37,7 +37,7 @@ pub exact-number : (form : Form) (registers : Registers) (value : List ℕ) (exa
 exact-number form registers value None number e out = cc
 exact-number form registers value (Some n) number e out = sym (e ∙ ap Some (number-held form n (not-true (holds form n) out)))
 
--- the number of a label, from its place
+-- where the place of a label is known cut, so is the number that is made of it
 pub number-by-place : (f : ℕ → Number) (place : Option ℕ) (there : ℕ) (number : Number) → Some there ≡ option_map held place
     → ((exact : ℕ) → there ≡ held exact → number ≡ number_held (f exact)) → Some number ≡ option_map number_held (option_map f place)
 number-by-place f None there number e h = cc

@@ -1,4 +1,4 @@
--- The operands of a text, from its front on.
+-- The operands of a text are the one before its first comma, and those behind.
 use Rattle.std.proofs.Common.{◌≡◌, ℕ, ◌<◌, Bool, true, false, eqb, List, [], ◌∷◌, length, map, None, refl, ap, ◌∙◌, arith}
 use Rattle.std.specs.List.{slice_split, onto_first}
 use Rattle.std.proofs.lemmas.List.{length-map}
@@ -16,7 +16,7 @@ split-whole : (text : List ℕ) → place_of 44 text ≡ length text → slice_s
 split-whole [] e = refl
 split-whole (c ∷ cs) e = split-front c cs (eqb c 44) refl (split-whole cs) e
 
--- one operand, and one before others
+-- a text with no comma is one operand
 pub operands-one : (text : List ℕ) → place_of 44 text ≡ length text → operands_in text ≡ trimmed text ∷ []
 operands-one text e = ap (map trimmed) (split-whole text e)
 
@@ -40,7 +40,7 @@ three-past a b c (d ∷ texts) l = refl
 pub two-of-more : (texts : List (List ℕ)) (a b rest more : List ℕ) → texts ≡ a ∷ operands_in rest → operands_in rest ≡ b ∷ operands_in more → two_of texts ≡ None
 two-of-more texts a b rest more e f = ap two_of (e ∙ ap (λ t. a ∷ t) f) ∙ two-past a b (operands_in more) (operands-some more)
 
--- a text of more than three operands hasn't three
+-- of a text with more than three operands there are no three
 pub three-of-more : (texts : List (List ℕ)) (a b c rest more last : List ℕ) → texts ≡ a ∷ operands_in rest → operands_in rest ≡ b ∷ operands_in more → operands_in more ≡ c ∷ operands_in last → three_of texts ≡ None
 three-of-more texts a b c rest more last e f g =
     ap three_of (e ∙ ap (λ t. a ∷ t) (f ∙ ap (λ t. b ∷ t) g)) ∙ three-past a b c (operands_in last) (operands-some last)

@@ -1,4 +1,4 @@
--- The words of the first lines of a source, and of one line more.
+-- The words of the first lines of a source are those of one line less, and the last line's.
 use Rattle.std.proofs.Common.{◌≡◌, ℕ, ◌+◌, ◌<◌, ◌≤◌, Bool, true, List, [], ◌∷◌, ◌++◌, length, take, get_or, Option, Some, None, IfSome, refl, sym, ap, ap₂, ◌∙◌, arith, add-one, below_more, inl, inr, ◌⊎◌}
 use Rattle.std.specs.Option.{option_map}
 use Rattle.std.proofs.Math.Nat.{eq-or-lt_of_le}
@@ -31,6 +31,7 @@ pub record IsCoded (lines : List (List ℕ)) (i index : ℕ) (words : List ℕ) 
   pub fits : place_of lines i ≤ 4194304
   pub spelled : (k : ℕ) → k < i → IfSome (instr_at lines k) (λ instr. denoted (spelling instr) ≡ Some instr)
 
+-- of the first 0 lines there is no word
 pub nothing-coded : (lines : List (List ℕ)) → IsCoded lines 0 0 []
 nothing-coded lines = record {
   within = omega arith;
@@ -79,7 +80,7 @@ spelled-by : (statement : Option Statement) (words : List ℕ) (place : ℕ) →
 spelled-by None words place e h = tt
 spelled-by (Some s) words place e h = spelled-there (values.instr_of s.form s.registers s.number) s.form s.number words place e h
 
--- and at the end
+-- behind the last line, the words are the source's code
 pub all-coded : (lines : List (List ℕ)) (i index : ℕ) (words : List ℕ) → IsCoded lines i index words → i ≡ length lines → IsCode lines words
 all-coded lines i index words before end = record {
   fits = omega (arith, ap length before.made, before.placed i (omega arith), before.fits);

@@ -1,4 +1,4 @@
--- How many words a line takes, and where they stand.
+-- A line gives as many words as it counts, and they stand at its place.
 use Rattle.std.proofs.Common.{◌≡◌, ℕ, ◌+◌, ◌<◌, ◌≤◌, Bool, true, false, not, ◌&&◌, cond, List, [], ◌∷◌, ◌++◌, length, get_or, Option, Some, None, IfSome, is_some, refl, sym, ap, ◌∙◌, ◌⊎◌, arith, suc, zero, inl, inr, eqb}
 use Rattle.std.specs.List.{list_all}
 use Rattle.std.specs.Option.{option_or, option_map}

@@ -1,4 +1,4 @@
--- A table of labels after one more line.
+-- A table of labels has, after one more line, that line's label too, where no earlier one has it.
 use Rattle.std.proofs.Common.{◌≡◌, ℕ, ◌+◌, ◌<◌, ◌≤◌, Bool, true, false, cond, eqb, ltb, ◌&&◌, zero, suc, List, [], ◌∷◌, ◌++◌, length, take, get_or, Option, Some, None, is_some, min, refl, sym, ap, ap₂, ◌∙◌, ◌^◌, arith, length-take}
 use Rattle.std.specs.List.{position, position_or_len, list_any}
 use Rattle.std.specs.Option.{option_map, option_or}
@@ -81,7 +81,7 @@ entry-more lines name line i l e =
     ∙ ap₂ (λ k t. option_map (entry_at lines) (option_or (position (has_label name) front) (cond (has_label name t) (Some k) None))) there (sym e)
     ∙ map-or (entry_at lines) (position (has_label name) front) (has_label name line) i
 
--- and the words before the next line
+-- the words before the next line are those before this one, and as many as it counts
 pub place-more : (lines : List (List ℕ)) (line : List ℕ) (i : ℕ) → i < length lines → line ≡ get_or lines i [] → place_of lines (i + 1) ≡ place_of lines i + count_of line
 place-more lines line i l e = sum_by_more count_of lines i [] l ∙ ap (λ t. place_of lines i + count_of t) (sym e)
 

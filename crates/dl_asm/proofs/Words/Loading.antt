@@ -1,4 +1,4 @@
--- What a file of the short form is loaded to.
+-- The file of an assembled program loads as the image of its words.
 use Rattle.std.proofs.Common.{◌≡◌, ℕ, ◌+◌, ◌-◌, ◌*◌, ◌^◌, ◌<◌, ◌≤◌, Bool, true, false, cond, eqb, ltb, List, [], ◌∷◌, ◌++◌, length, get_or, replicate, Some, None, Ok, refl, sym, ap, ap₂, ◌∙◌, arith, inl, inr, ◌⊎◌}
 use Rattle.std.specs.List.{list_any, list_all, count_by, range_with_len}
 use Rattle.std.specs.Option.{option_or}

@@ -1,4 +1,4 @@
--- The fields of a log that stand alone, as a draft reads them.
+-- A field of a log that stands alone is read into the draft, or the draft stays with the field's error.
 use Rattle.std.proofs.Common.{◌≡◌, ℕ, ◌+◌, ◌<◌, ◌≤◌, ◌^◌, ◌==◌, List, length, Result, Ok, Err, refl, ap, sym, subst, ◌∙◌, arith, inl, inr}
 use Rattle.std.specs.Prelude.{◌⊎◌}
 use Rattle.spec_log.specs.declared.log.LogParts.{LogParts}
@@ -189,6 +189,7 @@ pub Came-same : (bytes : List ℕ) (d : Draft) (at : ℕ) → at ≤ length byte
 Came-same bytes d at inside few =
     record { leads = λ before behind. refl; within = inside; few = few; cost = omega arith }
 
+-- where a field can't be read, the draft stays, and the error is that of the field
 pub field-unread : (bytes : List ℕ) (d : Draft) (at after : ℕ) (error : LogError) → at ≤ length bytes → IsFew d
     → Answers (next_field d.head bytes at) (Err error) after → ReadsField bytes d at (Err error) d at
 field-unread bytes d at after (Malformed number offset) inside few e = (

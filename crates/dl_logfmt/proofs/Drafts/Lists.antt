@@ -1,4 +1,4 @@
--- Lists that are read on: entries of a section, and the actors of an order.
+-- A list that is read on, of entries or of actors, grows by what is read, or stays with the error.
 use Rattle.std.proofs.Common.{◌≡◌, ℕ, suc, ◌+◌, ◌-◌, ◌/◌, ◌%◌, ◌<◌, ◌≤◌, ◌^◌, Bool, List, [], ◌∷◌, ◌++◌, length, Some, Result, Ok, Err, slice_get, refl, append_assoc, append-nil, arith, ◌∙◌}
 use Rattle.std.proofs.lemmas.List.{length_push}
 use Rattle.dl_entry.specs.declared.actor.Actor.{Actor}
@@ -45,6 +45,7 @@ more-end earlier entry count xs bytes at l =
     let left : count - length xs ≡ 0 = omega arith in
     rw (left, append-nil xs) refl
 
+-- a list extends itself
 pub Extends-same : {X : Type 0} (xs : List X) → Extends xs xs
 Extends-same xs = ([], rw (append-nil xs) refl)
 
@@ -149,6 +150,7 @@ pair-read count bytes xs at ys from after byte l few (came, leads, ext) e =
       Extends-push xs (ys ++ actor_of (byte % 16) ∷ []) (actor_of (byte / 16)) (Extends-push xs ys (actor_of (byte % 16)) ext),
     )
 
+-- where the byte of two actors can't be read, the order stands as far as it was read, with that error
 pub pair-unread : (count : ℕ) (bytes : List ℕ) (xs : List Actor) (at : ℕ) (ys : List Actor) (from after : ℕ) (error : LogError)
     → length ys + 1 < count
     → CameIn bytes xs at ys from × Leads bytes (more_actors count xs) at (more_actors count ys) from × Extends xs ys
@@ -175,6 +177,7 @@ last-read count bytes xs at ys from after half l few (came, leads, most) e =
       λ before behind. leads before behind ∙ step.0 before behind,
     )
 
+-- where the byte of the last actor can't be read, the order stands as far as it was read, with that error
 pub last-unread : (count : ℕ) (bytes : List ℕ) (xs : List Actor) (at : ℕ) (ys : List Actor) (from after : ℕ) (error : LogError)
     → length ys < count
     → CameIn bytes xs at ys from × Leads bytes (more_actors count xs) at (more_actors count ys) from × (count ≤ length ys + 1)

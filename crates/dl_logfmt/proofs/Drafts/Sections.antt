@@ -1,4 +1,4 @@
--- The sections of a draft, as they are read on.
+-- A section that is read on stands in the draft, whole or in part.
 use Rattle.std.proofs.Common.{◌≡◌, ℕ, ◌+◌, ◌≤◌, true, nat_lt, List, Result, Ok, Err, refl, ap, sym, ◌∙◌, arith}
 use Rattle.dl_entry.specs.declared.actor.Actor.{Actor}
 use Rattle.dl_entry.specs.declared.input.Input.{Input}
@@ -59,6 +59,7 @@ order-from d count is bytes at = ap (λ (s : Stage). remaining_at s d bytes at) 
 order-few : (bytes : List ℕ) (d : Draft) (at after : ℕ) (xs : List Actor) → IsFew d → CameIn bytes d.order at xs after → IsFew (record d { order = xs })
 order-few bytes d at after xs few came = record { order = came.few; each = few.each; short = few.short; interrupts = few.interrupts; inputs = few.inputs; dmas = few.dmas }
 
+-- where the order is read to its end, the draft has it, and the count of sizes comes next
 pub order-read : (bytes : List ℕ) (d : Draft) (at after count : ℕ) (xs : List Actor) → d.head.stage ≡ Order count → IsFew d
     → CameIn bytes d.order at xs after × Leads bytes (more_actors count d.order) at (gives xs) after
     → ReadsSection bytes d at (Ok tt) (record d { head = record d.head { stage = SizeCount }; order = xs }) after
@@ -73,6 +74,7 @@ order-read bytes d at after count xs is few (came, leads) =
       λ k. omega arith,
     )
 
+-- where the order is read in part, the draft has that part, with the error
 pub order-unread : (bytes : List ℕ) (d : Draft) (at after count : ℕ) (xs : List Actor) (error : LogError) → d.head.stage ≡ Order count → IsFew d
     → ReadsIn (more_actors count) bytes d.order at (Err error) xs after
     → ReadsSection bytes d at (Err error) (record d { order = xs }) after
@@ -86,6 +88,7 @@ interrupts-from d count is bytes at = ap (λ (s : Stage). remaining_at s d bytes
 interrupts-few : (bytes : List ℕ) (d : Draft) (at after : ℕ) (xs : List Interrupt) → IsFew d → CameIn bytes d.interrupts at xs after → IsFew (record d { interrupts = xs })
 interrupts-few bytes d at after xs few came = record { order = few.order; each = few.each; short = few.short; interrupts = came.few; inputs = few.inputs; dmas = few.dmas }
 
+-- where the interrupts are read to their end, the draft has them, and the count of records comes next
 pub interrupts-read : (bytes : List ℕ) (d : Draft) (at after count : ℕ) (xs : List Interrupt) → d.head.stage ≡ Interrupts count → IsFew d
     → CameIn bytes d.interrupts at xs after × Leads bytes (more (λ x y. is_earlier x.thread x.index y.thread y.index) interrupt count d.interrupts) at (gives xs) after
     → ReadsSection bytes d at (Ok tt) (record d { head = record d.head { stage = InputCount }; interrupts = xs }) after
@@ -100,6 +103,7 @@ interrupts-read bytes d at after count xs is few (came, leads) =
       λ k. omega arith,
     )
 
+-- where the interrupts are read in part, the draft has that part, with the error
 pub interrupts-unread : (bytes : List ℕ) (d : Draft) (at after count : ℕ) (xs : List Interrupt) (error : LogError) → d.head.stage ≡ Interrupts count → IsFew d
     → ReadsIn (more (λ x y. is_earlier x.thread x.index y.thread y.index) interrupt count) bytes d.interrupts at (Err error) xs after
     → ReadsSection bytes d at (Err error) (record d { interrupts = xs }) after
@@ -113,6 +117,7 @@ inputs-from d count is bytes at = ap (λ (s : Stage). remaining_at s d bytes at)
 inputs-few : (bytes : List ℕ) (d : Draft) (at after : ℕ) (xs : List Input) → IsFew d → CameIn bytes d.inputs at xs after → IsFew (record d { inputs = xs })
 inputs-few bytes d at after xs few came = record { order = few.order; each = few.each; short = few.short; interrupts = few.interrupts; inputs = came.few; dmas = few.dmas }
 
+-- where the records of serial steps are read to their end, the draft has them, and the count of DMAs comes next
 pub inputs-read : (bytes : List ℕ) (d : Draft) (at after count : ℕ) (xs : List Input) → d.head.stage ≡ Inputs count → IsFew d
     → CameIn bytes d.inputs at xs after × Leads bytes (more (λ x y. true) input count d.inputs) at (gives xs) after
     → ReadsSection bytes d at (Ok tt) (record d { head = record d.head { stage = DmaCount }; inputs = xs }) after
@@ -127,6 +132,7 @@ inputs-read bytes d at after count xs is few (came, leads) =
       λ k. omega arith,
     )
 
+-- where the records of serial steps are read in part, the draft has that part, with the error
 pub inputs-unread : (bytes : List ℕ) (d : Draft) (at after count : ℕ) (xs : List Input) (error : LogError) → d.head.stage ≡ Inputs count → IsFew d
     → ReadsIn (more (λ x y. true) input count) bytes d.inputs at (Err error) xs after
     → ReadsSection bytes d at (Err error) (record d { inputs = xs }) after
@@ -140,6 +146,7 @@ dmas-from d count is bytes at = ap (λ (s : Stage). remaining_at s d bytes at) i
 dmas-few : (bytes : List ℕ) (d : Draft) (at after : ℕ) (xs : List DmaRecord) → IsFew d → CameIn bytes d.dmas at xs after → IsFew (record d { dmas = xs })
 dmas-few bytes d at after xs few came = record { order = few.order; each = few.each; short = few.short; interrupts = few.interrupts; inputs = few.inputs; dmas = came.few }
 
+-- where the records of DMAs are read to their end, the draft has them, and nothing comes next
 pub dmas-read : (bytes : List ℕ) (d : Draft) (at after count : ℕ) (xs : List DmaRecord) → d.head.stage ≡ Dmas count → IsFew d
     → CameIn bytes d.dmas at xs after × Leads bytes (more (λ x y. nat_lt x.slot y.slot) dma count d.dmas) at (gives xs) after
     → ReadsSection bytes d at (Ok tt) (record d { head = record d.head { stage = Nothing }; dmas = xs }) after
@@ -154,6 +161,7 @@ dmas-read bytes d at after count xs is few (came, leads) =
       λ k. omega arith,
     )
 
+-- where the records of DMAs are read in part, the draft has that part, with the error
 pub dmas-unread : (bytes : List ℕ) (d : Draft) (at after count : ℕ) (xs : List DmaRecord) (error : LogError) → d.head.stage ≡ Dmas count → IsFew d
     → ReadsIn (more (λ x y. nat_lt x.slot y.slot) dma count) bytes d.dmas at (Err error) xs after
     → ReadsSection bytes d at (Err error) (record d { dmas = xs }) after
@@ -176,6 +184,7 @@ each-from d count is mode bytes at =
 each-few : (bytes : List ℕ) (d : Draft) (at after : ℕ) (xs : List ℕ) → IsFew d → CameIn bytes d.each at xs after → IsFew (record d { each = xs })
 each-few bytes d at after xs few came = record { order = few.order; each = came.few; short = few.short; interrupts = few.interrupts; inputs = few.inputs; dmas = few.dmas }
 
+-- in mode order-size, where the sizes are read to their end, the draft has them, and the count of interrupts comes next
 pub each-read : (bytes : List ℕ) (d : Draft) (at after count : ℕ) (xs : List ℕ) → d.head.stage ≡ SizesOf count → d.head.mode ≡ OrderSize → IsFew d
     → CameIn bytes d.each at xs after × Leads bytes (more (λ x y. true) (field 2 (at_most d.head.s)) count d.each) at (gives xs) after
     → ReadsSection bytes d at (Ok tt) (record d { head = record d.head { stage = InterruptCount }; each = xs }) after
@@ -190,6 +199,7 @@ each-read bytes d at after count xs is mode few (came, leads) =
       λ k. omega arith,
     )
 
+-- in mode order-size, where the sizes are read in part, the draft has that part, with the error
 pub each-unread : (bytes : List ℕ) (d : Draft) (at after count : ℕ) (xs : List ℕ) (error : LogError) → d.head.stage ≡ SizesOf count → d.head.mode ≡ OrderSize → IsFew d
     → ReadsIn (more (λ x y. true) (field 2 (at_most d.head.s)) count) bytes d.each at (Err error) xs after
     → ReadsSection bytes d at (Err error) (record d { each = xs }) after
@@ -212,6 +222,8 @@ short-from d count is mode bytes at =
 short-few : (bytes : List ℕ) (d : Draft) (at after : ℕ) (xs : List ShortSize) → IsFew d → CameIn bytes d.short at xs after → IsFew (record d { short = xs })
 short-few bytes d at after xs few came = record { order = few.order; each = few.each; short = came.few; interrupts = few.interrupts; inputs = few.inputs; dmas = few.dmas }
 
+-- in the other modes, where the sizes of short chunks are read to their end, the draft has them,
+-- and the count of interrupts comes next
 pub short-read : (bytes : List ℕ) (d : Draft) (at after count : ℕ) (xs : List ShortSize) → d.head.stage ≡ SizesOf count → (d.head.mode ≡ OrderSize → ⊥) → IsFew d
     → CameIn bytes d.short at xs after × Leads bytes (more (λ x y. is_earlier x.thread x.index y.thread y.index) (short_size d.head.s) count d.short) at (gives xs) after
     → ReadsSection bytes d at (Ok tt) (record d { head = record d.head { stage = InterruptCount }; short = xs }) after
@@ -226,6 +238,7 @@ short-read bytes d at after count xs is mode few (came, leads) =
       λ k. omega arith,
     )
 
+-- in the other modes, where the sizes of short chunks are read in part, the draft has that part, with the error
 pub short-unread : (bytes : List ℕ) (d : Draft) (at after count : ℕ) (xs : List ShortSize) (error : LogError) → d.head.stage ≡ SizesOf count → (d.head.mode ≡ OrderSize → ⊥) → IsFew d
     → ReadsIn (more (λ x y. is_earlier x.thread x.index y.thread y.index) (short_size d.head.s) count) bytes d.short at (Err error) xs after
     → ReadsSection bytes d at (Err error) (record d { short = xs }) after

@@ -1,4 +1,4 @@
--- A draft that is read on, step by step and to the end of its bytes.
+-- A draft that is read on step by step is read as at once, and at the end of its bytes says what they say.
 use Rattle.std.proofs.Common.{◌≡◌, ℕ, ◌+◌, ◌<◌, ◌≤◌, ◌==◌, true, false, nat_lt, MatchResult, List, [], ◌++◌, length, take, Result, Ok, Err, refl, ap, sym, subst, ◌∙◌, append_assoc, append-nil, length-append, arith}
 use Rattle.std.proofs.lemmas.Bool.{lt-ltb, le-ltb, eqb-true, eqb-false}
 use Rattle.std.proofs.lemmas.List.{take_at}
@@ -11,7 +11,7 @@ use Rattle.dl_logfmt.specs.declared.draft.Draft.{Draft}
 use Rattle.dl_logfmt.specs.Drafts.{Came, Extends, Feeds, Grew, Reads, ReadsField, ReadsSection, cut, mark_of, said, said_at}
 use Rattle.dl_logfmt.specs.Remaining.{log_of, remaining, remaining_at}
 
--- one step behind another
+-- a draft that is read on by one step, and then by another, is read on by both
 pub Came-then : (bytes : List ℕ) (d : Draft) (at : ℕ) (e : Draft) (middle : ℕ) (f : Draft) (after : ℕ)
     → Came bytes d at e middle → Came bytes e middle f after → Came bytes d at f after
 Came-then bytes d at e middle f after a b =
@@ -20,6 +20,7 @@ Came-then bytes d at e middle f after a b =
 Extends-then : {X : Type 0} (xs ys zs : List X) → Extends xs ys → Extends ys zs → Extends xs zs
 Extends-then xs ys zs a b = (a.0 ++ b.0, rw (b.1, a.1) (append_assoc xs a.0 b.0))
 
+-- a draft that grew, and grew again, grew
 pub Grew-then : (d e f : Draft) → Grew d e → Grew e f → Grew d f
 Grew-then d e f a b =
     record {
@@ -45,6 +46,7 @@ pub field-exit : (bytes : List ℕ) (d : Draft) (at : ℕ) (e : Draft) (middle :
 field-exit bytes d at e middle f after (Malformed number offset) came h = (Came-then bytes d at e middle f after came h.0, h.1)
 field-exit bytes d at e middle f after OutOfMemory came h = tt
 
+-- where a section can't be read, the draft is read as far as it is, with that error
 pub section-exit : (bytes : List ℕ) (d : Draft) (at : ℕ) (e : Draft) (middle : ℕ) (f : Draft) (after : ℕ) (error : LogError)
     → Came bytes d at e middle → ReadsSection bytes e middle (Err error) f after → Reads bytes d at (Err error) f after
 section-exit bytes d at e middle f after (Malformed number offset) came h = (Came-then bytes d at e middle f after came h.0, h.1)

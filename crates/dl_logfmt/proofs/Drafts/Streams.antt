@@ -16,10 +16,12 @@ Holds-wider most wider before bytes behind from at (Ok r) whole low high h =
     record { same = h.same; onward = omega (arith, h.onward); within = h.within; few = omega (arith, h.few) }
 Holds-wider most wider before bytes behind from at (Err fault) whole low high h = h
 
+-- a stream of at most so many bytes is one of at most more
 pub Streams-wider : {X : Type 0} (most wider : ℕ) (reader : Reader X) → most ≤ wider → Streams most reader → Streams wider reader
 Streams-wider most wider reader le s =
     record { holds = λ before bytes behind at h. Holds-wider most wider before bytes behind at at _ _ (omega arith) (omega arith) (s.holds before bytes behind at h) }
 
+-- to give a value and take no byte is a stream
 pub Streams-gives : {X : Type 0} (x : X) → Streams 0 (gives x)
 Streams-gives x =
     record { holds = λ before bytes behind at h. record { same = refl; onward = omega arith; within = h; few = omega arith } }
@@ -76,6 +78,7 @@ read-holds m n next before bytes behind at (Ok r) whole s h =
 read-holds m n next before bytes behind at (Err fault) whole s h =
     record { within = h.within; short = h.short; same = λ k. rw (h.same k) refl }
 
+-- one stream behind another is a stream of at most the bytes of both
 pub Streams-read : {X Y : Type 0} (m n : ℕ) (first : Reader X) (next : X → Reader Y) → Streams m first → ((x : X) → Streams n (next x)) → Streams (m + n) (read first next)
 Streams-read m n first next s t =
     record { holds = λ before bytes behind at h. read-holds m n next before bytes behind at _ _ t (s.holds before bytes behind at h) }
@@ -112,12 +115,15 @@ pub Streams-number : (width fault : ℕ) (good : ℕ → Bool) → (fault ≡ 1 
 Streams-number width fault good other =
     Streams-judged width fault (raw width) (λ bytes. good (number_of bytes)) number_of other (Streams-raw width)
 
+-- a number that has to pass a test is a stream of its width
 pub Streams-field : (width : ℕ) (good : ℕ → Bool) → Streams width (field width good)
 Streams-field width good = Streams-number width 5 good (λ e. absurd (omega arith))
 
+-- a number of any value is a stream of its width
 pub Streams-any : (width : ℕ) → Streams width (any width)
 Streams-any width = Streams-field width (λ x. true)
 
+-- the first field of a log, up to its mode and the spare bytes, is a stream of 8 bytes
 pub Streams-mode : Streams 8 mode
 Streams-mode =
     Streams-read 4 4 (number 4 2 (λ word. word == 0x4E524C44)) _ (Streams-number 4 2 (λ word. word == 0x4E524C44) (λ e. absurd (omega arith))) (λ word.
@@ -125,11 +131,13 @@ Streams-mode =
     Streams-read 1 2 (number 1 4 (at_most 2)) _ (Streams-number 1 4 (at_most 2) (λ e. absurd (omega arith))) (λ code.
     Streams-read 2 0 (field 2 (λ spare. spare == 0)) _ (Streams-field 2 (λ spare. spare == 0)) (λ spare. Streams-gives _))))
 
+-- the entry of a short chunk's size is a stream of 7 bytes
 pub Streams-short_size : (s : ℕ) → Streams 7 (short_size s)
 Streams-short_size s =
     Streams-read 1 6 thread _ (Streams-field 1 (at_most 14)) (λ t. Streams-read 4 2 (any 4) _ (Streams-any 4) (λ i.
     Streams-read 2 0 (field 2 (from_to 1 s)) _ (Streams-field 2 (from_to 1 s)) (λ size. Streams-gives _)))
 
+-- the entry of an interrupt is a stream of 9 bytes
 pub Streams-interrupt : Streams 9 interrupt
 Streams-interrupt =
     Streams-read 1 8 thread _ (Streams-field 1 (at_most 14)) (λ t. Streams-read 4 4 (any 4) _ (Streams-any 4) (λ i.
@@ -170,12 +178,14 @@ Streams-counted =
           ((Streams-field 2 (at_most 4096)).holds before bytes behind at h);
     }
 
+-- the record of a serial step is a stream of at most 4,103 bytes
 pub Streams-input : Streams 4103 input
 Streams-input =
     Streams-read 1 4102 (field 1 (λ kind. list_any (λ k. k == kind) input_kinds)) _ (Streams-field 1 (λ kind. list_any (λ k. k == kind) input_kinds)) (λ kind.
     Streams-read 4 4098 (any 4) _ (Streams-any 4) (λ answer.
     Streams-read 4098 0 counted _ Streams-counted (λ content. Streams-gives _)))
 
+-- the record of a DMA is a stream of at most 4,102 bytes
 pub Streams-dma : Streams 4102 dma
 Streams-dma =
     Streams-read 4 4098 (any 4) _ (Streams-any 4) (λ slot.
@@ -190,6 +200,7 @@ step-leads {X} most unit first second bytes at after x s inside e on =
     let goes = λ (before behind : List ℕ). subst (λ (r : Result (Read X) Fault). Holds most before bytes behind at r (unit (before ++ (bytes ++ behind)) (length before + at))) e (s.holds before bytes behind at inside) in
     (λ before behind. on _ _ _ (goes before behind).same, (goes [] []).within, (goes [] []).few)
 
+-- where a stream has a fault, and a whole that begins with it has the same, the bytes stop the whole with that fault
 pub step-stops : {X Y : Type 0} (most : ℕ) (unit : Reader X) (reader : Reader Y) (bytes : List ℕ) (at : ℕ) (fault : Fault)
     → Streams most unit → at ≤ length bytes → unit bytes at ≡ Err fault
     → ((whole : List ℕ) (from : ℕ) (fault : Fault) → unit whole from ≡ Err fault → reader whole from ≡ Err fault)
@@ -198,12 +209,13 @@ step-stops {X} most unit reader bytes at fault s inside e on before behind =
     let h = subst (λ (r : Result (Read X) Fault). Holds most before bytes behind at r (unit (before ++ (bytes ++ behind)) (length before + at))) e (s.holds before bytes behind at inside) in
     record { within = h.within; short = h.short; same = λ k. on _ _ _ (h.same k) }
 
--- what leads on leads on in a longer reader
+-- where one reader leads to another, so does it with the same reader behind both
 pub Leads-read : {X Y : Type 0} (bytes : List ℕ) (first second : Reader X) (at after : ℕ) (next : X → Reader Y)
     → Leads bytes first at second after → Leads bytes (read first next) at (read second next) after
 Leads-read {X} bytes first second at after next l before behind =
     ap (λ (r : Result (Read X) Fault). continues r (λ x end. next x (before ++ (bytes ++ behind)) end)) (l before behind)
 
+-- where bytes stop the first of two readers, they stop both, with the same fault
 pub Stops-read : {X Y : Type 0} (bytes : List ℕ) (first : Reader X) (at : ℕ) (next : X → Reader Y) (fault : Fault)
     → Stops bytes first at fault → Stops bytes (read first next) at fault
 Stops-read bytes first at next fault s before behind =

@@ -13,5 +13,6 @@ lasts (Some refusal) bytes rest r fault h e =
     h.later rest ∙ ap Err (same_fault (record { number = refusal.number; offset = refusal.offset }) fault (sym (refused-fed bytes refusal h) ∙ e))
 lasts None bytes rest r fault h e = let none = sym (held-fed bytes r h) ∙ e in absurd cc
 
+-- a fault of the bytes that a reader was fed is the fault of any bytes that begin with them
 pub faults_last : (bytes rest : List ℕ) (r : Feeding) (fault : Fault) → HasFed bytes r → fed (read_of bytes) ≡ Err fault → read_of (bytes ++ rest) ≡ Err fault
 faults_last bytes rest r fault h e = lasts r.refusal bytes rest r fault h e

@@ -1,4 +1,4 @@
--- A reader that is fed: it holds the bytes before a piece, and then those with the piece.
+-- A reader that holds the bytes before a piece holds, once fed, those with the piece, or their fault.
 use Rattle.std.proofs.Common.{◌≡◌, ℕ, ◌+◌, ◌<◌, ◌≤◌, ◌^◌, nat_lt, Bool, true, false, List, [], ◌++◌, All, length, take, drop, Option, Some, None, Result, Ok, Err, if◌then◌else◌, refl, ap, sym, subst, ◌∙◌, append_assoc, append-nil, length-append, arith}
 use Rattle.std.proofs.lemmas.Bool.{ne_eqb}
 use Rattle.std.proofs.lemmas.List.{take-append-drop, length-take-le}
@@ -16,7 +16,7 @@ use Rattle.dl_logfmt.specs.Feeding.{Feeding, FedTo, HasFed, Holding, Refused, fe
 use Rattle.dl_logfmt.specs.Remaining.{log_of, remaining, rank}
 use Rattle.dl_logfmt.proofs.Feeding.Start.{parts-start}
 
--- nothing was fed
+-- a reader with a blank draft and nothing pending holds no byte
 pub holds-nothing : (d : Draft) (pending : List ℕ) → d ≡ blank → pending ≡ [] → Holding [] (record { draft = d; pending = pending; start = 0; refusal = None })
 holds-nothing d pending new empty =
     rw (new, empty) (record {
@@ -33,6 +33,7 @@ holds-nothing d pending new empty =
 pub holding : (bytes : List ℕ) (r : Feeding) → r.refusal ≡ None → HasFed bytes r → Holding bytes r
 holding bytes r is h = subst (FedTo bytes r) is h
 
+-- a reader with a refusal was fed bytes that have that fault, whatever follows
 pub refused : (bytes : List ℕ) (r : Feeding) (refusal : Refusal) → r.refusal ≡ Some refusal → HasFed bytes r → Refused bytes refusal
 refused bytes r refusal is h = subst (FedTo bytes r) is h
 
@@ -78,7 +79,7 @@ held-on bytes piece r e at refusal h (came, says) =
           rw past (later-more bytes piece rest r h ∙ ap (ended ((bytes ++ piece) ++ rest)) (leads-more bytes piece rest r h e at came));
     }
 
--- the same of the bytes as they stand
+-- a reader that was fed bytes, and whose draft is read on over a piece, was fed the bytes with the piece
 pub fed-on : (bytes piece all left : List ℕ) (r : Feeding) (e : Draft) (at : ℕ) → r.refusal ≡ None → HasFed bytes r → all ≡ r.pending ++ piece → left ≡ drop at all
     → Feeds all r.draft 0 (Ok tt) e at → HasFed (bytes ++ piece) (record { draft = e; pending = left; start = r.start + at; refusal = r.refusal })
 fed-on bytes piece all left r e at none fed whole rest feeds =
@@ -103,6 +104,7 @@ held-refused bytes piece r e at number offset h (other, inside, fault) =
           (f ∙ ap (λ (n : ℕ). fails number n) there);
     }
 
+-- where a piece has a fault, the bytes so far with the piece have it, at its offset from the start of all
 pub fed-refused : (bytes piece all : List ℕ) (r : Feeding) (e : Draft) (at number offset : ℕ) → r.refusal ≡ None → HasFed bytes r → all ≡ r.pending ++ piece
     → Feeds all r.draft 0 (Err (Malformed number offset)) e at → Refused (bytes ++ piece) (record { number = number; offset = r.start + offset })
 fed-refused bytes piece all r e at number offset none fed whole feeds =
@@ -123,9 +125,11 @@ refused-now : (bytes : List ℕ) (refusal : Refusal) → Refused bytes refusal �
 refused-now bytes refusal h =
     subst (λ (whole : List ℕ). read_of whole ≡ fails refusal.number refusal.offset) (append-nil bytes) (h.later [])
 
+-- of bytes that were refused, reading them at once says the same fault
 pub refused-says : (bytes : List ℕ) (refusal : Refusal) → Refused bytes refusal → read_of bytes ≡ Err (record { number = refusal.number; offset = refusal.offset })
 refused-says bytes refusal h = refused-now bytes refusal h
 
+-- of bytes that were refused, feeding them answers that fault
 pub refused-fed : (bytes : List ℕ) (refusal : Refusal) → Refused bytes refusal → fed (read_of bytes) ≡ Err (record { number = refusal.number; offset = refusal.offset })
 refused-fed bytes refusal h = rw (refused-now bytes refusal h, ne_eqb refusal.number 1 h.lasting) refl
 
@@ -145,6 +149,7 @@ said-fed DmaCount d bytes = refl
 said-fed (Dmas n) d bytes = refl
 said-fed Nothing d bytes = refl
 
+-- of bytes that a reader holds with no refusal, feeding them answers no fault
 pub held-fed : (bytes : List ℕ) (r : Feeding) → Holding bytes r → fed (read_of bytes) ≡ Ok tt
 held-fed bytes r h = ap fed h.now ∙ said-fed r.draft.head.stage r.draft bytes
 
@@ -205,7 +210,7 @@ rank-most DmaCount = omega arith
 rank-most (Dmas n) = omega arith
 rank-most Nothing = omega arith
 
--- the offset of a byte that wasn't used
+-- the offset from which a reader's bytes are pending is below 2^47
 pub start-low : (bytes : List ℕ) (r : Feeding) → Holding bytes r → r.start < 2 ^ 47
 start-low bytes r h =
     omega (arith, h.low, h.few.order, h.few.each, h.few.short, h.few.interrupts, h.few.inputs, h.few.dmas, rank-most r.draft.head.stage)

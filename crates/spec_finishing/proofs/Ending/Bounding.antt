@@ -55,7 +55,7 @@ with_work : (z : Numbers) (x : SerialState) (o : Option Move) (ms : List Move) �
 with_work z x None ms = omega arith
 with_work z x (Some m) ms = refl
 
--- an event's work, and that of the others
+-- the work of a list of events is that of the first one's move and that of the others from its world
 pub event_work : (s : Setup) (w : World) (e : Event) (es : List Event) → Known s w → let a = happens w e in moves_work s.numbers (shown_of w) (moves w (e ∷ es)) ≡ if_work (shown_of w) a.move + moves_work s.numbers (shown_of a.world) (moves a.world es)
 event_work s w e es known =
     let a = happens w e in

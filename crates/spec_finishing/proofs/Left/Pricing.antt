@@ -27,7 +27,7 @@ price-least c n (suc m) l =
       | inr k ↦ (let e : n ≡ suc m = omega arith in let r = ap (price c) e in omega (arith, r))
     ]
 
--- enough for a flight of n words, the n instructions and four more
+-- the price of n + 1 units is enough for a flight of n words, the n instructions and four more
 pub price-most : (c n : ℕ) → 6 * n + c + 6 ≤ price c (suc n)
 price-most c zero = let a = price-more c 0 in let b = price-none c in omega (arith, a, b)
 price-most c (suc n) = let a = price-more c (suc n) in let b = price-most c n in omega (arith, a, b)

@@ -72,7 +72,7 @@ told_more f c d e =
       | inr ne ↦ told-tell_other f c d ne ∙ e
     ]
 
--- no core more
+-- with a core told, no more cores are untold than before
 pub untold-less : (n : ℕ) (f : Flight) (c : ℕ) → untold_cores n (tell f c).told ≤ untold_cores n f.told
 untold-less zero f c = omega arith
 untold-less (suc n) f c =

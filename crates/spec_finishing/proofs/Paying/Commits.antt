@@ -44,7 +44,7 @@ rank-before c image p b role going g =
     (λ i. sphere_rank c image (record p { role = role i }))
     ∙ ap (price c) (left-going image b (position p.progress) going ∙ left-step b.log (opened b.log image.memory image.entry) (position p.progress) b.total g.ahead)
 
--- a verdict on the whole commit
+-- a verdict on the whole commit, with what its flight costs, leaves the sphere no more to do than before
 pub verdict-pays : (c : ℕ) (image : SphereSetup) (p : Sphere) (b : Cursor) (k : ℕ) (x : Verdict) (devices : Devices) (l : ℕ) → p.role ≡ Replay b → is_over b.now ≡ false → GoesOn image p b → suc b.total ≤ next_work image p b → l ≤ price c (next_work image p b - b.total)
     → sphere_rank c image (laid (by_verdict b k x devices p)) + l ≤ sphere_rank c image p
 verdict-pays c image p b k (Fails why) devices l role going g some enough =

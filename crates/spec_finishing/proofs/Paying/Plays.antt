@@ -98,7 +98,7 @@ left-step log x i total l =
     let e : log.count - i ≡ suc (log.count - suc i) = omega arith in
     ap (λ (n : ℕ). commits_work log x i n - total) e
 
--- a whole commit more
+-- behind a whole commit a replay has no more left than its play has from the next one on
 pub left-turned : (image : SphereSetup) (log : LogParts) (p : Progress) (u : Used) (ts : List Parts) (i : ℕ) → position p ≡ suc i → replay_left image (turned log p u ts) (position p) ≤ later log (opened log image.memory image.entry) i
 left-turned image log p u ts i e =
     let x = opened log image.memory image.entry in

@@ -179,7 +179,7 @@ pub landed-held : (w : World) (i : ℕ) (q : Sphere) (f : Flight) (ys : List (Op
 landed-held w i q f ys cores devices d x e l good =
     subst (λ (n : ℕ). Lands w n q f ys d x → IsGoodHeld (moved_world w n q ys cores devices) d x) e (λ k. landed_here w q f ys cores devices d x k good) l
 
--- a chunk of another sphere
+-- a good chunk of another sphere is good still after a commit
 pub elsewhere-held : (w : World) (i : ℕ) (q : Sphere) (f : Flight) (ys : List (Option Flight)) (cores : List (Option Held)) (devices : Devices) (d : ℕ) (x : Held) → x.chunk.sphere ≢ i → Flew i f w.slots ys → IsGoodHeld w d x
     → IsGoodHeld (moved_world w i q ys cores devices) d x
 elsewhere-held w i q f ys cores devices d x ne flew good =

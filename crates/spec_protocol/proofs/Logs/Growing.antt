@@ -110,15 +110,6 @@ pub record HasCommitted (k : ℕ) (short : Bool) (p q : Sphere) (log qlog : LogP
   pub actor : c.actor ≡ Actor.Thread k
   pub log_ : qlog ≡ input_noted o (noted c t.commits short log)
 
--- the log but for its inputs
-abbrev noted_as : LogParts → ℕ → ℕ → ℕ → Bool → LogParts
-noted_as log k i n short =
-    record log {
-      count = log.count + 1;
-      order = order_with log.mode log.order (Actor.Thread k);
-      sizes = with_size log.sizes (Actor.Thread k) i n short;
-    }
-
 record SameButInputs (a b : LogParts) : Type 0 where
   mode : a.mode ≡ b.mode
   s : a.s ≡ b.s

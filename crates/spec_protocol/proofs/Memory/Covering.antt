@@ -100,7 +100,7 @@ pub bits-with_line : (i : ℕ) (store : Option Stored) (g : Marks) → (with_lin
 bits-with_line i None g = refl
 bits-with_line i (Some s) g = refl
 
--- the lines of words, marked in a signature
+-- marking the lines of words in a signature leaves its size
 pub bits-signed : (i : ℕ) (ws : List Stored) (g : Marks) → (signed i ws g).bits ≡ g.bits
 bits-signed i [] g = refl
 bits-signed i (w ∷ ws) g = bits-signed i ws (insert (line i w.word) g)

@@ -102,9 +102,6 @@ pub record Agree (seen : ℕ → Bool) (m n : List ℕ) : Type 0 where
 pub Agree_refl : (seen : ℕ → Bool) (m : List ℕ) → Agree seen m m
 Agree_refl seen m = record { size = refl; bytes = λ i e. refl }
 
-pub Agree_sym : (seen : ℕ → Bool) (m n : List ℕ) → Agree seen m n → Agree seen n m
-Agree_sym seen m n a = record { size = sym a.size; bytes = λ i e. sym (a.bytes i e) }
-
 byte_agrees : (m n : List ℕ) (s : Stored) (i : ℕ) → length n ≡ length m → slice_index n i ≡ slice_index m i → slice_index (lay n s) i ≡ slice_index (lay m s) i
 byte_agrees m n s i size e =
     elim (cases_lt i (length m)) [

@@ -100,7 +100,7 @@ Touches_local seen t m n g touches =
       load = λ none a some. touches.load (sym (serial_local seen t m n g touches) ∙ none) a (ap (loads_of t) (sym (fetched_local seen t m n g touches none)) ∙ some);
     }
 
--- more words seen
+-- an instruction that touches only words seen does so where more are seen
 pub Touches_more : (seen more_seen : ℕ → Bool) (t : Parts) (m : List ℕ) → ((a : ℕ) → seen a ≡ true → more_seen a ≡ true) → Touches seen t m → Touches more_seen t m
 Touches_more seen more_seen t m more_ touches =
     record { fetch = λ e. more_ _ (touches.fetch e); load = λ none a some. more_ a (touches.load none a some) }

@@ -82,9 +82,6 @@ grown_insert ch g l n =
 abbrev with_reads : Chunk → Marks → Chunk
 with_reads ch g = record ch { reads = g }
 
-abbrev base_with : (ch : Chunk) (g : Marks) → Grown ch g → SameBase ch (with_reads ch g)
-base_with ch g n = record { sphere = refl; start = refl; limit = refl; halves = refl; reads = n.size; writes = refl }
-
 -- closing changes nothing else
 closed_closes : (capacity : ℕ) (ch : Chunk) (g : Marks) (how : How) → IsOpen capacity ch → how ≢ How.Limit → how ≢ How.Cut → (how ≡ How.Overflow → capacity ≤ length ch.done.words) → Closes capacity (record (with_reads ch g) { closed = Some how })
 closed_closes capacity ch g how o limit cut room =

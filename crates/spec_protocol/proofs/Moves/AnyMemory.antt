@@ -2,14 +2,13 @@
 use Rattle.std.proofs.Common.{◌≡◌, ℕ, Bool, true, false, List, Option, Some, None, refl, ap}
 use Rattle.std.specs.Prelude.{option_map}
 use Rattle.dl_entry.specs.declared.Request.{Request}
-use Rattle.spec_isa.specs.declared.thread.Parts.{Parts}
 use Rattle.spec_isa.specs.Runs.{Run}
 use Rattle.spec_log.specs.declared.LogParts.{LogParts}
 use Rattle.spec_kernel.specs.Devices.{Devices}
 use Rattle.spec_play.specs.Verdicts.{Verdict, Goes, Fails, chunk_verdict}
 use Rattle.spec_play.specs.Transfers.{DmaVerdict, DmaGoes, DmaFails, dma_verdict}
 use Rattle.spec_protocol.specs.Spheres.{Cursor, Role, Plain, Record, Replay, Sphere}
-use Rattle.spec_protocol.specs.Commits.{Moved, by_verdict, joined, replayed_chunk, chunk_in, chunk_moved, dma_by_verdict, live_dma, dma_log, dma_in, dma_moved, raised}
+use Rattle.spec_protocol.specs.Commits.{Moved, by_verdict, joined, replayed_chunk, chunk_in, chunk_moved, dma_by_verdict, live_dma, dma_log, dma_in, dma_moved}
 
 -- the sphere over another memory
 abbrev pub over : List ℕ → Sphere → Sphere
@@ -59,7 +58,3 @@ dma_log_relaid (Replay b) devices p m = ap Some (dma_verdict_relaid b (dma_verdi
 pub dma-relaid : (devices : Devices) (p : Sphere) (m : List ℕ) → dma_moved devices (over m p) ≡ option_map (relaid m) (dma_moved devices p)
 unfolding dma_moved
 dma-relaid devices p m = dma_log_relaid p.role devices p m
-
-pub raised-relaid : (k value : ℕ) (t : Parts) (p : Sphere) (m : List ℕ) → raised k value t (over m p) ≡ over m (raised k value t p)
-unfolding raised
-raised-relaid k value t p m = refl

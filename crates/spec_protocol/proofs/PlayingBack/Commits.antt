@@ -83,9 +83,6 @@ says L k short p q log qlog t u made c o d sp aq =
 
 -- ---- after the commit
 
-abbrev after_commit : LogParts → Played → ℕ → Effect → Used → Played
-after_commit L y k e u = settled L y k (Goes e u)
-
 threads_follow : (L : LogParts) (k : ℕ) (short : Bool) (p q : Sphere) (log qlog : LogParts) (t u : Parts) (made : List Parts) (c : Commit) (o : Option Input) (y : Played) (eu : Parts) → HasCommitted k short p q log qlog t u made c o → Stands p log → Stands q qlog → Ahead L q qlog → Follows L p log y
     → eu ≡ early L.interrupts qlog.interrupts k u → (j : ℕ) (x : Parts) → slice_get q.threads j ≡ Some x → slice_get (set y.threads k eu ++ made) j ≡ Some (early L.interrupts qlog.interrupts j x)
 threads_follow L k short p q log qlog t u made c o y eu d sp sq aq f is j x e =

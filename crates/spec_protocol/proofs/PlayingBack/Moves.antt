@@ -221,7 +221,8 @@ chunk-grown z log p k t how n limit devices role s buffer is fits =
 
 -- ---- a serial step
 
-abbrev recorded_serial : LogParts → Sphere → ℕ → (moment : ℕ) → Parts → Devices → Moved
+-- what a serial step makes of a recorded sphere
+abbrev pub recorded_serial : LogParts → Sphere → ℕ → (moment : ℕ) → Parts → Devices → Moved
 recorded_serial log p k moment t devices = serial_in (Record log) k moment t devices p
 
 abbrev serial_log : LogParts → Sphere → ℕ → (moment : ℕ) → Parts → Devices → LogParts

@@ -17,16 +17,15 @@ use Rattle.spec_log.specs.declared.ModeName.{ModeName}
 use Rattle.spec_log.specs.declared.LogParts.{LogParts}
 use Rattle.spec_log.specs.Size.{is_thread}
 use Rattle.spec_kernel.specs.Devices.{Devices}
-use Rattle.spec_kernel.specs.Copies.{dma_words}
 use Rattle.spec_kernel.specs.Needs.{need}
-use Rattle.spec_kernel.specs.Answers.{Taken, taken, dma_bytes, dma_taken}
+use Rattle.spec_kernel.specs.Answers.{Taken, taken, dma_bytes}
 use Rattle.spec_kernel.specs.Interrupts.{takes_interrupt, interrupted}
 use Rattle.spec_kernel.specs.Serving.{serve}
 use Rattle.spec_play.specs.Effects.{chunk_effect, serial_effect, dma_commit}
 use Rattle.spec_play.specs.Progress.{position}
 use Rattle.spec_play.specs.Recording.{noted, interrupt_noted}
 use Rattle.spec_protocol.specs.Spheres.{Record, Sphere}
-use Rattle.spec_protocol.specs.Commits.{Moved, chunk_in, serial_noted, serial_in, dma_as, dma_log, role_raised, raised}
+use Rattle.spec_protocol.specs.Commits.{Moved, chunk_in, serial_noted, dma_log, role_raised, raised}
 use Rattle.spec_protocol.specs.Serial.{SerialState, laid}
 use Rattle.spec_protocol.specs.Logged.{Supplied, actors_of, is_short_chunk, logged}
 use Rattle.spec_protocol.proofs.Moves.Granted.{get-set_other, get-set_same}
@@ -34,6 +33,7 @@ use Rattle.spec_protocol.proofs.Moves.Threads.{run-keeps, serve-keeps}
 use Rattle.spec_protocol.proofs.Logs.Lookups.{count_of}
 use Rattle.spec_protocol.proofs.Logs.Growing.{commits_in, commits_if, HasCommitted, has_committed-stands, Grows, grows_of, Stands, counts-stand}
 use Rattle.spec_protocol.proofs.Logs.Coming.{transferred-stands, raised-stands}
+use Rattle.spec_protocol.proofs.PlayingBack.Moves.{recorded_serial, recorded_dma}
 use Rattle.spec_protocol.proofs.PlayingBack.Transfers.{open-takes}
 use Rattle.spec_protocol.proofs.Points.OneMore.{points_so, points-more, commits_of, actors-append}
 use Rattle.spec_protocol.proofs.Points.Noted.{commit-told, dma-told, raise-told}
@@ -103,19 +103,15 @@ chunk-keeps mode s cs moment i k size short p t devices keeps is ran =
     in
     commit_keeps mode s cs moment i k size CommitKind.Chunk short None [] p q (noted e.commit r.thread.commits short log) t e.thread e.made e.commit keeps d refl ran (let l = keeps.few in omega arith)
 
--- what a serial step makes of a recorded sphere
-abbrev pub recorded_serial : LogParts → (thread moment : ℕ) → Parts → Devices → Sphere → Moved
-recorded_serial log k moment t devices p = serial_in (Record log) k moment t devices p
-
 -- after a serial step the sphere keeps the log of its points and the step's
 pub serial-keeps : (mode : ModeName) (s : ℕ) (cs : List Supplied) (moment i k size : ℕ) (short : Bool) (p : Sphere) (t : Parts) (devices : Devices) → Keeps mode s cs p → slice_get p.threads k ≡ Some t → size ≡ 0
-    → Keeps mode s (cs ++ record { point = Point.Commit moment i (Actor.Thread k) CommitKind.Serial size short; input = (taken (need t p.memory) devices moment).input; bytes = [] } ∷ []) (laid (recorded_serial (logged mode s cs) k moment t devices p))
+    → Keeps mode s (cs ++ record { point = Point.Commit moment i (Actor.Thread k) CommitKind.Serial size short; input = (taken (need t p.memory) devices moment).input; bytes = [] } ∷ []) (laid (recorded_serial (logged mode s cs) p k moment t devices))
 serial-keeps mode s cs moment i k size short p t devices keeps is empty =
     let g : Taken = taken (need t p.memory) devices moment in
     let e = serial_effect k (serve k p.threads p.progress.request t p.memory g.input) in
     let h = serve-keeps k p.threads p.progress.request t p.memory g.input in
     let log = logged mode s cs in
-    let q = laid (recorded_serial log k moment t devices p) in
+    let q = laid (recorded_serial log p k moment t devices) in
     let d : HasCommitted k false p q log (serial_noted k t g log p) t e.thread e.made e.commit g.input =
     record {
       start = is;
@@ -131,23 +127,19 @@ serial-keeps mode s cs moment i k size short p t devices keeps is empty =
 
 -- ---- a DMA
 
--- what a DMA makes of a recorded sphere
-abbrev pub recorded_dma : LogParts → Devices → Request → Sphere → Moved
-recorded_dma log devices request p = dma_as (Record (dma_log log devices p (Some request))) (dma_words request (dma_bytes devices request)) (dma_taken devices request) p
-
 no_thread_more : (j : ℕ) (acts : List Actor) → count_of j (acts ++ Actor.Dma ∷ []) ≡ count_of j acts
 no_thread_more j [] = refl
 no_thread_more j (a ∷ acts) = ap (λ (n : ℕ). cond (is_thread j a) (suc n) n) (no_thread_more j acts)
 
 -- after a DMA the sphere keeps the log of its points and the DMA's
 pub dma-keeps : (mode : ModeName) (s : ℕ) (cs : List Supplied) (moment i : ℕ) (short : Bool) (p : Sphere) (request : Request) (devices : Devices) → Keeps mode s cs p
-    → Keeps mode s (cs ++ record { point = Point.Commit moment i Actor.Dma CommitKind.Dma 0 short; input = None; bytes = dma_bytes devices request } ∷ []) (laid (recorded_dma (logged mode s cs) devices request p))
+    → Keeps mode s (cs ++ record { point = Point.Commit moment i Actor.Dma CommitKind.Dma 0 short; input = None; bytes = dma_bytes devices request } ∷ []) (laid (recorded_dma (logged mode s cs) p devices request))
 dma-keeps mode s cs moment i short p request devices keeps =
     let bytes = dma_bytes devices request in
     let ps = points_so cs in
     let c : Supplied = record { point = Point.Commit moment i Actor.Dma CommitKind.Dma 0 short; input = None; bytes = bytes } in
     let log = logged mode s cs in
-    let q = laid (recorded_dma log devices request p) in
+    let q = laid (recorded_dma log p devices request) in
     let now : dma_log log devices p (Some request) ≡ logged mode s (cs ++ c ∷ []) = dma-told mode s cs moment i (position p.progress) CommitKind.Dma short bytes (sym keeps.place) in
     let one : position q.progress ≡ suc (position p.progress) = (let h = length-append p.progress.commits (dma_commit ∷ []) in omega arith) in
     record {

@@ -165,7 +165,7 @@ dma-told mode s cs moment i n kind short bytes is =
       dmas = dmas_more cs c (record { slot = n; bytes = bytes } ∷ []) (ap (λ (m : ℕ). record { slot = m; bytes = bytes } ∷ []) slot) h;
     })
 
--- of an interrupt of thread k, after so many of its commits
+-- what a recording notes of an interrupt of thread k, after so many of its commits, is what its point adds to the log
 pub raise-told : (mode : ModeName) (s : ℕ) (cs : List Supplied) (moment i k n value : ℕ) → k < 15 → n ≡ commits_of k (points_so cs) → interrupt_at (all_interrupts (points_so cs)) k n ≡ None
     → interrupt_noted k n value (logged mode s cs) ≡ logged mode s (cs ++ record { point = Point.Raise moment i k value; input = None; bytes = [] } ∷ [])
 raise-told mode s cs moment i k n value l is none =

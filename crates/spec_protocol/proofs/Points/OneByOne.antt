@@ -20,7 +20,8 @@ use Rattle.spec_protocol.specs.Logged.{Supplied, answer_to, bytes_for, sphere_in
 use Rattle.spec_protocol.proofs.Moves.Granted.{get-set_other, get-set_same}
 use Rattle.spec_protocol.proofs.Moves.Elsewhere.{serial-away, dma-away, raise-away}
 use Rattle.spec_protocol.proofs.Invariants.Kept.{sphere_of_point}
-use Rattle.spec_protocol.proofs.Points.KeptLogs.{Keeps, KeepsIn, recorded_chunk, chunk-keeps, recorded_serial, serial-keeps, recorded_dma, dma-keeps, raise-keeps}
+use Rattle.spec_protocol.proofs.PlayingBack.Moves.{recorded_serial, recorded_dma}
+use Rattle.spec_protocol.proofs.Points.KeptLogs.{Keeps, KeepsIn, recorded_chunk, chunk-keeps, serial-keeps, dma-keeps, raise-keeps}
 
 -- ---- in its sphere
 
@@ -45,7 +46,7 @@ serial_kept mode s cs x moment i k size short p (Some t) is keeps thread can =
     let all = cs ++ record { point = Point.Commit moment i (Actor.Thread k) CommitKind.Serial size short; input = (taken (need t p.memory) x.devices moment).input; bytes = [] } ∷ [] in
     subst (λ (v : Moved). KeepsIn mode s i all (do_moved x i v))
     (sym (ap (λ (r : Role). serial_in r k moment t x.devices p) keeps.role))
-    (at_once mode s i all x p (recorded_serial (logged mode s cs) k moment t x.devices p) is (serial-keeps mode s cs moment i k size short p t x.devices keeps thread can.empty))
+    (at_once mode s i all x p (recorded_serial (logged mode s cs) p k moment t x.devices) is (serial-keeps mode s cs moment i k size short p t x.devices keeps thread can.empty))
 
 dma_kept : (mode : ModeName) (s : ℕ) (cs : List Supplied) (x : SerialState) (moment i : ℕ) (short : Bool) (p : Sphere) (o : Option Request) → slice_get x.spheres i ≡ Some p → Keeps mode s cs p → p.progress.request ≡ o → IsSome o
     → KeepsIn mode s i (cs ++ record { point = Point.Commit moment i Actor.Dma CommitKind.Dma 0 short; input = None; bytes = bytes_for x.devices o } ∷ []) (do_dma x i (dma_moved x.devices p))
@@ -56,7 +57,7 @@ dma_kept mode s cs x moment i short p (Some request) is keeps asked some =
     let all = cs ++ record { point = Point.Commit moment i Actor.Dma CommitKind.Dma 0 short; input = None; bytes = dma_bytes x.devices request } ∷ [] in
     subst (λ (v : Option Moved). KeepsIn mode s i all (do_dma x i v))
     (sym (ap (λ (r : Role). dma_in r x.devices p) keeps.role ∙ (λ j. live_dma (Record (dma_log log x.devices p (asked j))) x.devices p (asked j))))
-    (at_once mode s i all x p (recorded_dma log x.devices request p) is (dma-keeps mode s cs moment i short p request x.devices keeps))
+    (at_once mode s i all x p (recorded_dma log p x.devices request) is (dma-keeps mode s cs moment i short p request x.devices keeps))
 
 raise_kept : (mode : ModeName) (s : ℕ) (cs : List Supplied) (x : SerialState) (moment i k value : ℕ) (p : Sphere) (o : Option Parts) → slice_get x.spheres i ≡ Some p → Keeps mode s cs p → slice_get p.threads k ≡ o → CanTake o
     → KeepsIn mode s i (cs ++ record { point = Point.Raise moment i k value; input = None; bytes = [] } ∷ []) (do_raise x i k value p o)

@@ -24,13 +24,13 @@ points_so cs = map (λ (c : Supplied). c.point) cs
 pub points-more : (cs : List Supplied) (c : Supplied) → points_so (cs ++ c ∷ []) ≡ points_so cs ++ c.point ∷ []
 points-more cs c = map-append (λ (d : Supplied). d.point) cs (c ∷ [])
 
--- the actors of two lists of points, one after the other
+-- the actors of two lists of points are those of the first and then of the second
 pub actors-append : (ps qs : List Point) → actors_of (ps ++ qs) ≡ actors_of ps ++ actors_of qs
 actors-append [] qs = refl
 actors-append (Point.Commit moment i actor kind size short ∷ ps) qs = ap (λ (as_ : List Actor). actor ∷ as_) (actors-append ps qs)
 actors-append (Point.Raise moment i k value ∷ ps) qs = actors-append ps qs
 
--- the sizes of two lists of points, one after the other
+-- the sizes of two lists of points are those of the first and then of the second
 pub sizes-append : (ps qs : List Point) → sizes_of (ps ++ qs) ≡ sizes_of ps ++ sizes_of qs
 sizes-append [] qs = refl
 sizes-append (Point.Commit moment i actor kind size short ∷ ps) qs = ap (λ (ns : List ℕ). size ∷ ns) (sizes-append ps qs)
@@ -53,7 +53,7 @@ shorts_cond k n c true false s ps qs more same =
     more ∙ ap (λ (m : ℕ). shorts_of k (suc n) ps ++ shorts_of k m qs) e
 shorts_cond k n c false sc s ps qs more same = same
 
--- a thread's short sizes of two lists, the second counted from its commits in the first
+-- a thread's short sizes of two lists are the first's and then the second's, counted from its commits in the first
 pub shorts-append : (k n : ℕ) (ps qs : List Point) → shorts_of k n (ps ++ qs) ≡ shorts_of k n ps ++ shorts_of k (n + commits_of k ps) qs
 shorts-append k n [] qs = let e : n ≡ n + 0 = omega arith in ap (λ (m : ℕ). shorts_of k m qs) e
 shorts-append k n (Point.Commit moment i actor kind size short ∷ ps) qs =
@@ -89,7 +89,7 @@ raise_cond : (b : Bool) (r : Interrupt) (all some rest : List Interrupt) → all
 raise_cond true r all some rest e = ap (λ (rs : List Interrupt). r ∷ rs) e
 raise_cond false r all some rest e = e
 
--- a thread's interrupts of two lists, the second counted from its commits in the first
+-- a thread's interrupts of two lists are the first's and then the second's, counted from its commits in the first
 pub interrupts-append : (k n : ℕ) (ps qs : List Point) → interrupts_of k n (ps ++ qs) ≡ interrupts_of k n ps ++ interrupts_of k (n + commits_of k ps) qs
 interrupts-append k n [] qs = let e : n ≡ n + 0 = omega arith in ap (λ (m : ℕ). interrupts_of k m qs) e
 interrupts-append k n (Point.Commit moment i actor kind size short ∷ ps) qs =
@@ -121,7 +121,7 @@ count_more : (q : Point) (qs : List Point) → length (actors_of (q ∷ qs)) ≡
 count_more (Point.Commit moment i actor kind size short) qs = omega arith
 count_more (Point.Raise moment i k value) qs = omega arith
 
--- the DMAs of two lists, the second counted from the commits of the first
+-- the DMAs of two lists are the first's and then the second's, counted from the commits of the first
 pub dmas-append : (n : ℕ) (cs ds : List Supplied) → dmas_of n (cs ++ ds) ≡ dmas_of n cs ++ dmas_of (n + length (actors_of (points_so cs))) ds
 dmas-append n [] ds = let e : n ≡ n + 0 = omega arith in ap (λ (m : ℕ). dmas_of m ds) e
 dmas-append n (c ∷ cs) ds =
@@ -132,7 +132,7 @@ dmas-append n (c ∷ cs) ds =
 
 -- ---- one point more
 
--- where a point brings nothing to any thread
+-- what is listed thread by thread is the same where it is for each thread
 pub unchanged : {X : Type 0} (f g : ℕ → List X) → ((k : ℕ) → g k ≡ f k) → flat_map f threads ≡ flat_map g threads
 unchanged f g same = (λ h. flat_map (λ (k : ℕ). sym (same k) h) threads)
 
@@ -140,7 +140,7 @@ unchanged f g same = (λ h. flat_map (λ (k : ℕ). sym (same k) h) threads)
 pub nothing_behind : {X : Type 0} (xs ys zs : List X) → ys ≡ xs ++ zs → zs ≡ [] → ys ≡ xs
 nothing_behind {X} xs ys zs e none = e ∙ ap (λ (ws : List X). xs ++ ws) none ∙ append-nil xs
 
--- a point's own part of the short sizes, and of the interrupts
+-- a commit of thread k is no short size of another thread
 pub shorts_of_other : (k j n moment i size : ℕ) (kind : CommitKind) (short : Bool) → j ≢ k → shorts_of j n (Point.Commit moment i (Actor.Thread k) kind size short ∷ []) ≡ []
 shorts_of_other k j n moment i size kind short ne =
     ap (λ (b : Bool). cond b (cond (is_short_chunk kind short) (record { thread = j; index = n; size = size } ∷ []) []) []) (ne_eqb k j (λ e. ne (sym e)))

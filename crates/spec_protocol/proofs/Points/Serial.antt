@@ -200,10 +200,6 @@ can_living Plain can e c = c
 can_living (Record log) can e c = c
 can_living (Replay b) can e c = absurd (true≢false e)
 
--- which keeps its role
-pub record StaysLive (v : Moved) : Type 0 where
-  pub lives : replays v.sphere.role ≡ false
-
 chunk_in_stays : (role : Role) (k : ℕ) (piece short : Bool) (r : Run) (devices : Devices) (p : Sphere) → replays role ≡ false → replays (chunk_in role k piece short r devices p).sphere.role ≡ false
 chunk_in_stays Plain k piece short r devices p e = refl
 chunk_in_stays (Record log) k piece short r devices p e = refl

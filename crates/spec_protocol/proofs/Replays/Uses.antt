@@ -160,7 +160,7 @@ value-found (Some i) value e = (i, refl)
 pub same-due : (is : List Interrupt) (ts us : List Parts) (k c : ℕ) → OnceMore ts us k c → interrupt_at is k (suc c) ≡ None → due us is ≡ due ts is
 same-due is ts us k c m none = none-due is ts us k c m (none-there is k (suc c) none)
 
--- and else one more
+-- with one more commit of a thread, at which the log has an interrupt, one more interrupt is due
 pub one-due : (is : List Interrupt) (ts us : List Parts) (k c value : ℕ) → Rising is → OnceMore ts us k c → interrupt_at is k (suc c) ≡ Some value → due us is ≡ suc (due ts is)
 one-due is ts us k c value rising m e =
     let i = value-found (find (is_at k (suc c)) is) value e in some-due is ts us k c i.0 rising m i.1

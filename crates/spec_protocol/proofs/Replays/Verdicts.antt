@@ -86,7 +86,7 @@ over-sound commits threads b how s =
       turn = λ k e. absurd (over-turn how k e);
     }
 
--- the same sphere an event later, in another role
+-- a sound sphere is sound an event later in another role that is sound
 pub as-role : (s : ℕ) (image : SphereSetup) (now : ℕ) (role : Role) (p : Sphere) → IsSoundRole s (position p.progress) p.threads role → IsSoundSphere s image now p → IsSoundSphere s image (suc now) (record p { role = role })
 as-role s image now role p new sound =
     record {

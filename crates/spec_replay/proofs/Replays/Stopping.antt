@@ -52,7 +52,7 @@ pub record IsAt (log : LogParts) (y : Played) (p : Sphere) (b : Cursor) : Type 0
   pub now : (b.now ≡ y.now) ⊎ EndsWithin log y b
   pub state : StandsAt log y y.now p b
 
--- so does each replayed sphere that follows the play
+-- a replayed sphere that follows its log's play stands at the play's place
 pub is_at : (log : LogParts) (y : Played) (p : Sphere) (b : Cursor) → p.role ≡ Replay b → Follows log y p → IsAt log y p b
 is_at log y p b role f =
     let e : f.cursor ≡ b = (let h : Replay f.cursor ≡ Replay b = sym f.role ∙ role in cc) in
