@@ -5,8 +5,6 @@ mod entry;
 mod inspect;
 mod order;
 mod sizes;
-#[cfg(test)]
-mod tests;
 
 pub use dl_entry::OutOfMemory;
 pub use inspect::inspect_text;

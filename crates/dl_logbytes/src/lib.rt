@@ -10,8 +10,6 @@ mod order;
 mod read;
 mod recorded;
 mod section;
-#[cfg(test)]
-mod tests;
 mod write;
 
 pub use dl_entry::OutOfMemory;

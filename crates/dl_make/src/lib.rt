@@ -4,8 +4,6 @@
 mod image;
 mod instruction;
 mod program;
-#[cfg(test)]
-mod tests;
 
 pub use dl_entry::OutOfMemory;
 pub use image::make;

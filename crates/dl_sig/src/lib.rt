@@ -7,8 +7,6 @@ mod flags;
 mod place;
 pub mod plain_set;
 pub mod sig;
-#[cfg(test)]
-mod tests;
 mod words;
 
 pub use banked::Banked;

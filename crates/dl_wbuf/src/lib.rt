@@ -6,8 +6,6 @@ mod entry;
 mod lanes;
 pub mod stored;
 mod table;
-#[cfg(test)]
-mod tests;
 
 pub use buffer::{Buffer, Full};
 pub use stored::Stored;

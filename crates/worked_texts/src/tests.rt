@@ -2,8 +2,11 @@
 
 mod accounts;
 mod assembling;
+mod log_bytes;
+mod log_lines;
 mod log_reading;
 mod log_writing;
+mod making;
 mod plans;
 mod reports;
 mod summaries;

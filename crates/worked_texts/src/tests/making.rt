@@ -1,5 +1,5 @@
 //! Images of some numbers, from a model apart from this code.
-use crate::make;
+use dl_make::make;
 use std::test::Fail;
 
 #[test]

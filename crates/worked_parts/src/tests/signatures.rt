@@ -2,8 +2,9 @@
 ghost use Rattle.std.specs.Prelude.{◌≡◌, true};
 ghost use Rattle.spec_engine.specs.Signatures.{is_size};
 
-use crate::{Banked, PlainSet, Sig};
+use dl_sig::{Banked, PlainSet, Sig};
 use std::alloc::{AllocError, Global};
+use std::process::Abort;
 use std::test::Fail;
 
 #[derive(Clone, Copy, Debug, PartialEq, Eq)]
@@ -55,36 +56,60 @@ fn covers_both<G: Sig>(alloc: Global, bits: u32, marked: u32, line: u32) -> Resu
     Ok(signature.covers(marked) && signature.covers(line))
 }
 
+/// The least size of a signature and the greatest.
+#[derive(Clone, Copy)]
+enum Size {
+    Least,
+    Greatest,
+}
+
+fn bits(size: Size) -> u32
+    ensures { is_size result ≡ true }
+{
+    match size {
+        Size::Least => 64,
+        Size::Greatest => 2048,
+    }
+}
+
+/// A size, the line that is marked, another line, and what is seen of it.
+const COMPARED: &[(Size, u32, u32, Seen)] = &[
+    // both set the same bits, one word a bank
+    (Size::Least, 8, 296, HIT),
+    // they share a bit of the first bank alone
+    (Size::Least, 0, 32, MISS),
+    (Size::Least, 0, 1, MISS),
+    // the last bit of the first bank
+    (Size::Greatest, 1023, 1023, HIT),
+    // in both banks a bit of the last word of the last eight
+    (Size::Greatest, 3071, 502783, HIT),
+    (Size::Greatest, 8, 296, MISS),
+];
+
+fn are_as_compared<G: Sig>(rt: &impl Abort, alloc: Global) -> Result<(), Fail> {
+    for (size, marked, line, seen) in COMPARED {
+        assert_eq!(rt; compared::<G>(alloc, bits(*size), *marked, *line)?, *seen);
+    }
+    Ok(())
+}
+
 #[test]
 fn words_of_bits_hit_where_both_banks_share_a_bit(rt: HostRuntime) -> Result<(), Fail> {
-    // lines 8 and 296 set the same bits of 64, one word a bank; 0 and 32 share a bit of the first bank alone
-    assert_eq!(rt; compared::<Banked>(rt.alloc(), 64, 8, 296)?, HIT);
-    assert_eq!(rt; compared::<Banked>(rt.alloc(), 64, 0, 32)?, MISS);
-    assert_eq!(rt; compared::<Banked>(rt.alloc(), 64, 0, 1)?, MISS);
-    // the last bit of the first bank
-    assert_eq!(rt; compared::<Banked>(rt.alloc(), 2048, 1023, 1023)?, HIT);
-    // in both banks a bit of the last word of the last eight
-    assert_eq!(rt; compared::<Banked>(rt.alloc(), 2048, 3071, 502783)?, HIT);
-    assert_eq!(rt; compared::<Banked>(rt.alloc(), 2048, 8, 296)?, MISS);
-    Ok(())
+    are_as_compared::<Banked>(&rt, rt.alloc())
 }
 
 #[test]
 fn flags_hit_where_both_banks_share_a_bit(rt: HostRuntime) -> Result<(), Fail> {
-    assert_eq!(rt; compared::<PlainSet>(rt.alloc(), 64, 8, 296)?, HIT);
-    assert_eq!(rt; compared::<PlainSet>(rt.alloc(), 64, 0, 32)?, MISS);
-    assert_eq!(rt; compared::<PlainSet>(rt.alloc(), 64, 0, 1)?, MISS);
-    assert_eq!(rt; compared::<PlainSet>(rt.alloc(), 2048, 1023, 1023)?, HIT);
-    assert_eq!(rt; compared::<PlainSet>(rt.alloc(), 2048, 3071, 502783)?, HIT);
-    assert_eq!(rt; compared::<PlainSet>(rt.alloc(), 2048, 8, 296)?, MISS);
-    Ok(())
+    are_as_compared::<PlainSet>(&rt, rt.alloc())
 }
+
+const JOINED: &[(Size, u32, u32)] = &[(Size::Least, 0, 1), (Size::Greatest, 8, 502783)];
 
 #[test]
 fn a_union_covers_the_lines_of_both(rt: HostRuntime) -> Result<(), Fail> {
-    assert!(rt; covers_both::<Banked>(rt.alloc(), 64, 0, 1)?);
-    assert!(rt; covers_both::<Banked>(rt.alloc(), 2048, 8, 502783)?);
-    assert!(rt; covers_both::<PlainSet>(rt.alloc(), 64, 0, 1)?);
-    assert!(rt; covers_both::<PlainSet>(rt.alloc(), 2048, 8, 502783)?);
+    for (size, marked, line) in JOINED {
+        assert!(rt; covers_both::<Banked>(rt.alloc(), bits(*size), *marked, *line)?);
+        assert!(rt; covers_both::<PlainSet>(rt.alloc(), bits(*size), *marked, *line)?);
+    }
     Ok(())
 }

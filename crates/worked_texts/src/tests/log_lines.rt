@@ -1,5 +1,5 @@
 //! The texts of small logs, of each mode.
-use super::*;
+use dl_inspect::inspect_text;
 use dl_logbytes::read_log;
 use std::test::Fail;
 
