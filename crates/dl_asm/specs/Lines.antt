@@ -65,9 +65,9 @@ said line = if list_all is_printable line then said_in (statement_of line) else 
 
 -- ---- how many words it takes; where it breaks a rule, by its mnemonic alone
 
-abbrev pub zeros_held : Option Number → ℕ
-zeros_held None = 0
-zeros_held (Some n) = if within 0 4194304 n then n.magnitude else 0
+abbrev pub zeros_capped : Option Number → ℕ
+zeros_capped None = 0
+zeros_capped (Some n) = if within 0 4194304 n then n.magnitude else 0
 
 abbrev pub count_by_form : Form → (words : ℕ) → ℕ
 count_by_form Form.Zero words = words
@@ -78,7 +78,7 @@ count_said Nothing = 0
 count_said Misspelled = 0
 count_said Unknown = 0
 count_said (Unfit form) = count_by_form form 0
-count_said (Says form registers value) = count_by_form form (zeros_held (number_in value))
+count_said (Says form registers value) = count_by_form form (zeros_capped (number_in value))
 
 abbrev pub count_of : (line : List ℕ) → ℕ
 count_of line = count_said (said line)

@@ -39,11 +39,11 @@ number_in text =
     signed negative (magnitude_in (if negative then drop 1 text else text))
 
 -- a number as the code holds it: what is further from 0 than any range reaches is cut
-abbrev pub held : ℕ → ℕ
-held n = min n (2 ^ 33)
+abbrev pub capped : ℕ → ℕ
+capped n = min n (2 ^ 33)
 
-abbrev pub number_held : Number → Number
-number_held n = record n { magnitude = held n.magnitude }
+abbrev pub number_capped : Number → Number
+number_capped n = record n { magnitude = capped n.magnitude }
 
 -- ---- registers
 

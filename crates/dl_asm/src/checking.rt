@@ -6,7 +6,7 @@ ghost use Rattle.dl_asm.specs.declared.fields.Registers.{Registers};
 ghost use Rattle.dl_asm.specs.declared.number.Number.{Number};
 ghost use Rattle.dl_asm.specs.Checked.{IsWhere};
 ghost use Rattle.dl_asm.specs.Lines.{Says, count_said};
-ghost use Rattle.dl_asm.specs.Numbers.{held, number_held};
+ghost use Rattle.dl_asm.specs.Numbers.{capped, number_capped};
 ghost use Rattle.dl_asm.specs.Seen.{seen};
 ghost use Rattle.dl_asm.specs.Sources as sources;
 ghost use Rattle.dl_asm.specs.Values as values;
@@ -57,7 +57,7 @@ pub fn check(
 
 // The number of a statement, by the rules on numbers, labels and length.
 fn checked(form: Form, number: Option<Number>, twice: bool, words: u32) -> Result<Number, Rule>
-    ensures answer { (exact : Option Number) (registers : Registers) (value : List ℕ) → number ≡ option_map number_held exact → MatchResult result
+    ensures answer { (exact : Option Number) (registers : Registers) (value : List ℕ) → number ≡ option_map number_capped exact → MatchResult result
         (λ number. (sources.broken_by (Says form registers value) exact twice words ≡ None) × (exact ≡ Some number))
         (λ rule. sources.broken_by (Says form registers value) exact twice words ≡ Some rule) }
     ensures held { IfOk result (λ number. values.holds form number ≡ true) }
@@ -92,7 +92,7 @@ fn is_out_of_range(form: Form, number: Option<Number>) -> bool
 fn number(form: Form, value: &[u8], here: u32, labels: &Labels<'_>) -> Option<Number>
     requires { here ≤ 4194304 }
     ensures { (places : List ℕ → Option ℕ) → IsWhere labels.now places
-        → result ≡ option_map number_held (sources.number_of form here (places value.now) value.now) }
+        → result ≡ option_map number_capped (sources.number_of form here (places value.now) value.now) }
 {
     if value.is_empty() {
         return Some(Number::address(0));
@@ -106,7 +106,7 @@ fn number(form: Form, value: &[u8], here: u32, labels: &Labels<'_>) -> Option<Nu
 
 fn number_by_label(form: Form, here: u32, there: u64) -> Number
     requires { here ≤ 4194304 }
-    ensures { (place : ℕ) → there ≡ held place → result ≡ number_held (sources.number_by_label form here place) }
+    ensures { (place : ℕ) → there ≡ capped place → result ≡ number_capped (sources.number_by_label form here place) }
 {
     if takes_distance(form) {
         Number::distance(u64::from(here), there)

@@ -10,7 +10,7 @@ use std::collections::HashMap;
 
 /// A line by its index from 0, and the number of words before it.
 #[derive(Clone, Copy, Debug, PartialEq, Eq)]
-pub struct Place {
+pub struct LabelPlace {
     pub line: u64,
     pub words: u64,
 }
@@ -18,7 +18,7 @@ pub struct Place {
 /// For each label the first line that has it.
 #[derive(Drop)]
 pub struct Labels<'a> {
-    places: HashMap<&'a [u8], Place>,
+    places: HashMap<&'a [u8], LabelPlace>,
 }
 
 impl<'a> Labels<'a> {
@@ -37,14 +37,14 @@ impl<'a> Labels<'a> {
 
     /// The first line that has a label.
     #[tactic(auto, unfolding(crate::specs::Labels::entry_in))]
-    pub fn get(&self, name: &[u8]) -> Option<Place>
+    pub fn get(&self, name: &[u8]) -> Option<LabelPlace>
         ensures { result ≡ entry_in self.now name.now }
     {
         self.places.get(name).copied()
     }
 
     // Notes a line, if it has a label that no earlier one has.
-    fn note(&mut self, line: &'a [u8], place: Place) -> Result<(), AllocError>
+    fn note(&mut self, line: &'a [u8], place: LabelPlace) -> Result<(), AllocError>
         ensures { OnOk result ((name : List ℕ) → entry_in self.new name ≡ entry_after (entry_in self.old name) (has_label name line.now) place) }
     {
         let Some(name) = label(line) else {
@@ -63,11 +63,11 @@ pub fn labels_of(alloc: Global, source: &[u8]) -> Result<Labels<'_>, AllocError>
     ensures { IfOk result (AreLabels (lines_of source.now)) }
 {
     let mut labels = Labels::new(alloc);
-    let mut place = Place { line: 0, words: 0 };
+    let mut place = LabelPlace { line: 0, words: 0 };
     for line in source.split(|byte| *byte == b'\n') {
         labels.note(line, place)?;
         let words = place.words + u64::from(count(&read_line(line)));
-        place = Place {
+        place = LabelPlace {
             line: place.line + 1,
             words: words.min(FAR),
         };

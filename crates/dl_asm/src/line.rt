@@ -64,7 +64,7 @@ pub fn count(line: &Line<'_>) -> u32
 }
 
 fn zeros(value: &[u8]) -> u32
-    ensures value { result ≡ lines.zeros_held (number_in value.now) }
+    ensures value { result ≡ lines.zeros_capped (number_in value.now) }
     ensures most { result ≤ 4194304 }
 {
     match Number::read(value) {

@@ -5,7 +5,7 @@ ghost use Rattle.std.specs.List.{list_all};
 ghost use Rattle.std.specs.Option.{option_map};
 ghost use Rattle.std.specs.Str.Parse.{digits_value};
 ghost use Rattle.dl_asm.specs.Numbers as numbers;
-ghost use Rattle.dl_asm.specs.Numbers.{decimal_in, hexadecimal_in, magnitude_in, held};
+ghost use Rattle.dl_asm.specs.Numbers.{decimal_in, hexadecimal_in, magnitude_in, capped};
 
 /// Further from 0 than any range reaches.
 pub const FAR: u64 = 1 << 33;
@@ -18,12 +18,12 @@ pub struct Number {
 }
 
 impl Number {
-    ghost use Rattle.dl_asm.specs.Numbers.{number_in, number_held};
+    ghost use Rattle.dl_asm.specs.Numbers.{number_in, number_capped};
     ghost use Rattle.dl_asm.specs.Values as values;
 
     /// The number that a text writes, if it writes one. Beyond the reach of every range it is cut.
     pub fn read(text: &[u8]) -> Option<Number>
-        ensures { result ≡ option_map number_held (number_in text.now) }
+        ensures { result ≡ option_map number_capped (number_in text.now) }
     {
         match text.strip_prefix(b"-".as_slice()) {
             Some(digits) => Some(Number {
@@ -39,7 +39,7 @@ impl Number {
 
     /// The place of a word as a number: its address.
     pub fn address(words: u64) -> Number
-        ensures { (place : ℕ) → words ≡ held place → result ≡ number_held (values.address_number (4 * place)) }
+        ensures { (place : ℕ) → words ≡ capped place → result ≡ number_capped (values.address_number (4 * place)) }
     {
         Number {
             negative: false,
@@ -50,7 +50,7 @@ impl Number {
     /// How far it is from one word to another.
     pub fn distance(from: u64, to: u64) -> Number
         requires { from ≤ 2 ^ 22 }
-        ensures { (place : ℕ) → to ≡ held place → result ≡ number_held (values.distance_number (4 * from) (4 * place)) }
+        ensures { (place : ℕ) → to ≡ capped place → result ≡ number_capped (values.distance_number (4 * from) (4 * place)) }
     {
         Number {
             negative: to < from,
@@ -90,7 +90,7 @@ impl Number {
 }
 
 fn magnitude(text: &[u8]) -> Option<u64>
-    ensures { result ≡ option_map held (magnitude_in text.now) }
+    ensures { result ≡ option_map capped (magnitude_in text.now) }
 {
     match text.strip_prefix(b"0x".as_slice()) {
         Some(digits) => hexadecimal(digits),
@@ -99,7 +99,7 @@ fn magnitude(text: &[u8]) -> Option<u64>
 }
 
 fn hexadecimal(digits: &[u8]) -> Option<u64>
-    ensures { result ≡ option_map held (hexadecimal_in digits.now) }
+    ensures { result ≡ option_map capped (hexadecimal_in digits.now) }
 {
     if is_hexadecimal(digits) {
         Some(value(16, digits))
@@ -122,7 +122,7 @@ fn are_hexadecimal(digits: &[u8]) -> bool
 
 /// The number that decimal digits write, with no 0 before others.
 pub fn decimal(digits: &[u8]) -> Option<u64>
-    ensures { result ≡ option_map held (decimal_in digits.now) }
+    ensures { result ≡ option_map capped (decimal_in digits.now) }
 {
     if is_decimal(digits) {
         Some(value(10, digits))
@@ -150,7 +150,7 @@ fn are_decimal(digits: &[u8]) -> bool
 fn value(radix: u64, digits: &[u8]) -> u64
     requires some { 1 ≤ radix }
     requires few { radix ≤ 16 }
-    ensures { result ≡ held (digits_value radix digits.now) }
+    ensures { result ≡ capped (digits_value radix digits.now) }
 {
     let mut number = 0u64;
     for byte in digits {

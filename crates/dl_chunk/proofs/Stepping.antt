@@ -16,7 +16,7 @@ use Rattle.spec_engine.specs.Flights.{Flight}
 use Rattle.spec_engine.specs.Chunks.{Chunk, Engine, Stepping, with_chunk, marked, ran, closes, at_limit, has_room, reading, storing, loading, running, step}
 use Rattle.dl_chunk.specs.Stores.{Notes, with_read, with_written}
 use Rattle.dl_chunk.specs.Seeing.{shown, left}
-use Rattle.dl_chunk.specs.Engines.{Terms, Progress, chunk_of, engine_of, with_ran}
+use Rattle.dl_chunk.specs.Engines.{Terms, Executed, chunk_of, engine_of, with_ran}
 
 -- a word was read, or none
 abbrev noted : Option ℕ → Chunk → Chunk
@@ -64,7 +64,7 @@ by_fetch true None d next store l a ch run_ is = is
 by_fetch true (Some k) d next store l a ch run_ is = refl
 by_fetch false h d next store l a ch run_ is = refl
 
-module _ (m : List ℕ) (slots : List (Option Flight)) (c : ℕ) (t : Terms) (p : Progress) (n : Notes) where
+module _ (m : List ℕ) (slots : List (Option Flight)) (c : ℕ) (t : Terms) (p : Executed) (n : Notes) where
   abbrev s : Sight
   s = shown m slots c n
 

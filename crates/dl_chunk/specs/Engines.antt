@@ -9,7 +9,7 @@ use Rattle.spec_engine.specs.Flights.{Flight}
 use Rattle.dl_chunk.specs.Stores.{Notes}
 
 -- what the chunk has run
-pub record Progress : Type 0 where
+pub record Executed : Type 0 where
   pub thread : Parts
   pub loads : List Load
   pub n : ℕ
@@ -22,7 +22,7 @@ pub record Terms : Type 0 where
   pub halves : Bool
   pub squashes : ℕ
 
-abbrev pub chunk_of : Terms → Progress → Notes → Chunk
+abbrev pub chunk_of : Terms → Executed → Notes → Chunk
 chunk_of t p n =
     record {
       sphere = n.sphere;
@@ -36,7 +36,7 @@ chunk_of t p n =
       squashes = t.squashes;
     }
 
-abbrev pub engine_of : (most : ℕ) → Terms → Progress → Notes → Engine
+abbrev pub engine_of : (most : ℕ) → Terms → Executed → Notes → Engine
 engine_of most t p n = record { most = most; capacity = n.words.capacity; chunk = chunk_of t p n }
 
 -- the chunk of this sphere begun again from its start, with its squashes
@@ -53,7 +53,7 @@ with_ran ch load = record ch { done = record ch.done { loads = with_load ch.done
 
 -- it may run from 1 to `most` instructions, for whose loads there is room; each has one load at most; an open chunk is below its
 -- limit; and squashes are counted up to three
-pub record IsEngine (most room : ℕ) (t : Terms) (p : Progress) : Type 0 where
+pub record IsEngine (most room : ℕ) (t : Terms) (p : Executed) : Type 0 where
   pub least : 1 ≤ t.limit
   pub within : t.limit ≤ most
   pub made : most ≤ room

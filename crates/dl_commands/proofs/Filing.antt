@@ -17,9 +17,9 @@ one_write name bytes = at_once name bytes ∷ []
 pub making_is : (v : ℕ) (name bytes text : List ℕ) (r : Result Job OutOfMemory) → bytes ≡ made v → text ≡ made_line (length bytes)
     → IfOk r (λ job. writes_of job.writes.items ≡ one_write name bytes) → IfOk r (λ job. job.text.items ≡ text) → IfOk r (λ job. job.diverged ≡ false)
     → IfOk r (IsJob (Making v name))
-making_is v name bytes text (Ok job) is told writes said diverged =
+making_is v name bytes text (Ok job) is spelled writes said diverged =
     record {
       within = tt;
-      outcome = λ i. Finishes (sym diverged i) ((ap (one_write name) (sym is) ∙ sym writes) i) ((ap (λ (b : List ℕ). made_line (length b)) (sym is) ∙ sym told ∙ sym said) i);
+      outcome = λ i. Finishes (sym diverged i) ((ap (one_write name) (sym is) ∙ sym writes) i) ((ap (λ (b : List ℕ). made_line (length b)) (sym is) ∙ sym spelled ∙ sym said) i);
     }
-making_is v name bytes text (Err e) is told writes said diverged = tt
+making_is v name bytes text (Err e) is spelled writes said diverged = tt

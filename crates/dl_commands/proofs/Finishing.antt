@@ -35,7 +35,7 @@ fault_stands o reads m before after s name e faulted = subst (Stands o reads m b
 -- ---- a command that is done
 
 said_stands : (d : Bool) (ws : List Write) (text : List ℕ) (reads : List (List ℕ)) (m : Contents) (before after : Outside) (s : Status)
-    → after.told ≡ Some (written ws m) → after.faults ≡ before.faults → Said d text before.taken after.taken before.sink_faults after.sink_faults s
+    → after.known ≡ Some (written ws m) → after.faults ≡ before.faults → Said d text before.taken after.taken before.sink_faults after.sink_faults s
     → Stands (Finishes d ws text) reads m before after s
 said_stands d ws text reads m before after Status.Done e n said =
     record { status = ap (λ (b : Bool). if b then Status.Diverged else Status.Done) (sym said.0); files = e; counted = n; output = said.1 }
@@ -52,7 +52,7 @@ said_stands d ws text reads m before after Status.Source e n said = absurd said
 said_stands d ws text reads m before after Status.Absent e n said = absurd said
 
 cut_stands : (d : Bool) (ws : List Write) (text : List ℕ) (reads : List (List ℕ)) (m : Contents) (before old after : Outside) (s : Status) (name : List ℕ)
-    → old.told ≡ Some m → old.faults ≡ before.faults → old.taken ≡ before.taken → IsCut ws name old after s → Stands (Finishes d ws text) reads m before after s
+    → old.known ≡ Some m → old.faults ≡ before.faults → old.taken ≡ before.taken → IsCut ws name old after s → Stands (Finishes d ws text) reads m before after s
 cut_stands d ws text reads m before old after s name e n took b =
     let faulted : IsFaulted (Finishes d ws text) reads m before after name =
     record { counted = subst (λ (x : ℕ). Rose x after.faults) n b.counted; named = b.named; files = inr (b.files m e); output = subst (λ (x : Option (List ℕ)). Took (fault_line name) x after.taken) took b.said.1 } in
@@ -62,7 +62,7 @@ cut_stands d ws text reads m before old after s name e n took b =
     ]
 
 finishing_stands : (d : Bool) (ws : List Write) (text : List ℕ) (reads : List (List ℕ)) (m : Contents) (before old after : Outside) (s : Status)
-    → old.told ≡ Some m → old.faults ≡ before.faults → old.taken ≡ before.taken → old.sink_faults ≡ before.sink_faults → IsPerformed d ws text old after s → Stands (Finishes d ws text) reads m before after s
+    → old.known ≡ Some m → old.faults ≡ before.faults → old.taken ≡ before.taken → old.sink_faults ≡ before.sink_faults → IsPerformed d ws text old after s → Stands (Finishes d ws text) reads m before after s
 finishing_stands d ws text reads m before old after s e n took k (inl w) =
     said_stands d ws text reads m before after s (w.files m e) (w.counted ∙ n)
     (subst (λ (x : Option (List ℕ)). Said d text x after.taken before.sink_faults after.sink_faults s) took (subst (λ (x : ℕ). Said d text old.taken after.taken x after.sink_faults s) k w.said))
@@ -72,7 +72,7 @@ finishing_stands d ws text reads m before old after s e n took k (inr (inr u)) =
 
 -- what was outside when the writing began is what was before, but for the last fault
 pub performed_stands : (work : Result Work Refused) (job : Job) (reads : List (List ℕ)) (m : Contents) (before old after : Outside) (s : Status)
-    → IsJobOf work job → old.told ≡ Some m → old.faults ≡ before.faults → old.taken ≡ before.taken → old.sink_faults ≡ before.sink_faults
+    → IsJobOf work job → old.known ≡ Some m → old.faults ≡ before.faults → old.taken ≡ before.taken → old.sink_faults ≡ before.sink_faults
     → IsPerformed job.diverged (writes_of job.writes.items) job.text.items old after s → Stands (outcome_in work) reads m before after s
 performed_stands work job reads m before old after s (w, is, made) e n took k performed =
     subst (λ (x : Outcome). Stands x reads m before after s) (sym (ap outcome_in is ∙ made.outcome))
@@ -89,7 +89,7 @@ run_is task job (t, is, run) = (
 -- what a command that is done says
 pub done_is : (words : List (List ℕ)) (m : Contents) (before after : Outside) (s : Status) (command : CommandValues) (job : Job)
     → command_of words ≡ Some command → IsJobOf (work_of words m) job → Stands (outcome_of words m) (reads_of words m) m before after s → is_done s ≡ true
-    → IsDone command m after.told before.taken after.taken s
+    → IsDone command m after.known before.taken after.taken s
 done_is words m before after s command job asks (w, is, made) stands done =
     done_at m before after s command w (sym (work_is words m command asks) ∙ is) made.within
     (subst (λ (o : Outcome). IsFinished o m before after s) (ap outcome_in is) (finished (outcome_of words m) (reads_of words m) m before after s stands done))
@@ -98,9 +98,9 @@ done_is words m before after s command job asks (w, is, made) stands done =
 not_done : (s : Status) → s ≡ Status.Done → 0 < code_of s → ⊥
 not_done s e over = omega (arith, over, ap code_of e)
 
-none_fails : (m : Contents) (told : Option Contents) (name : List ℕ) → ((told ≡ Some m) × IsReadNext [] m name) ⊎ CutAt [] m told name → ⊥
-none_fails m told name (inl (same, next)) = next
-none_fails m told name (inr (i, (w, at, named, same))) = none-some w at
+none_fails : (m : Contents) (known : Option Contents) (name : List ℕ) → ((known ≡ Some m) × IsReadNext [] m name) ⊎ CutAt [] m known name → ⊥
+none_fails m known name (inl (same, next)) = next
+none_fails m known name (inr (i, (w, at, named, same))) = none-some w at
 
 all_said : (text : List ℕ) (m : Contents) (before after : Outside) (s : Status) → Stands (Finishes false [] text) [] m before after s → (s ≡ Status.Done) ⊎ ((s ≡ Status.Sink) ⊎ (s ≡ Status.Memory))
 all_said text m before after Status.Done e = inl refl
@@ -113,7 +113,7 @@ all_said text m before after Status.Image e = absurd (not_done Status.Image e.st
 all_said text m before after Status.Grammar e = absurd (not_done Status.Grammar e.status (omega arith))
 all_said text m before after Status.Source e = absurd (not_done Status.Source e.status (omega arith))
 all_said text m before after Status.Absent e = absurd (not_done Status.Absent e.status (omega arith))
-all_said text m before after Status.Fault (name, f) = absurd (none_fails m after.told name f.files)
+all_said text m before after Status.Fault (name, f) = absurd (none_fails m after.known name f.files)
 
 -- a drill ends well, or by the sink, or by want of memory
 pub drill_ends : (words : List (List ℕ)) (m : Contents) (before after : Outside) (s : Status) (number : ℕ)
@@ -127,7 +127,7 @@ drill_ends words m before after s number asks stands =
 -- ---- a command that stops
 
 -- a refusal's status stands by its line
-refused_stands : (why : Refusal) (text : List ℕ) (reads : List (List ℕ)) (m : Contents) (before after : Outside) → after.told ≡ Some m → after.faults ≡ before.faults → Took text before.taken after.taken
+refused_stands : (why : Refusal) (text : List ℕ) (reads : List (List ℕ)) (m : Contents) (before after : Outside) → after.known ≡ Some m → after.faults ≡ before.faults → Took text before.taken after.taken
     → Stands (Refuses why text) reads m before after (status_of why)
 refused_stands Refusal.Usage text reads m before after e n took = record { status = refl; files = e; counted = n; output = took }
 refused_stands Refusal.Plan text reads m before after e n took = record { status = refl; files = e; counted = n; output = took }
@@ -136,21 +136,21 @@ refused_stands Refusal.Grammar text reads m before after e n took = record { sta
 refused_stands Refusal.Source text reads m before after e n took = record { status = refl; files = e; counted = n; output = took }
 refused_stands Refusal.Absent text reads m before after e n took = record { status = refl; files = e; counted = n; output = took }
 
-none_written : (ws : List Write) (m : Contents) (told : Option Contents) → told ≡ Some m → Partly ws m told
-none_written ws m told e = (0, omega arith, inl e)
+none_written : (ws : List Write) (m : Contents) (known : Option Contents) → known ≡ Some m → Partly ws m known
+none_written ws m known e = (0, omega arith, inl e)
 
 took_none : (text : List ℕ) (old new : Option (List ℕ)) → new ≡ old → Took text old new
 took_none text None new e = (0, omega arith, e)
 took_none text (Some t) new e = (0, omega arith, e ∙ ap Some (sym (append-nil t)))
 
 -- a read that failed, before anything was written
-fault_is : (told : Option Contents) (o : Outcome) (reads : Contents → List (List ℕ)) (m : Contents) (before after : Outside) (name : List ℕ) → told ≡ Some m → after.told ≡ Some m
-    → IsFault told reads before.faults after.faults after.last name → Took (fault_line name) before.taken after.taken → IsFaulted o (reads m) m before after name
-fault_is told o reads m before after name e same f took = record { counted = f.counted; named = f.named; files = inl (same, f.next m e); output = took }
+fault_is : (known : Option Contents) (o : Outcome) (reads : Contents → List (List ℕ)) (m : Contents) (before after : Outside) (name : List ℕ) → known ≡ Some m → after.known ≡ Some m
+    → IsFault known reads before.faults after.faults after.last name → Took (fault_line name) before.taken after.taken → IsFaulted o (reads m) m before after name
+fault_is known o reads m before after name e same f took = record { counted = f.counted; named = f.named; files = inl (same, f.next m e); output = took }
 
 -- what a command that halts before anything is written leaves outside is what its status says
 pub halted_stands : (task : Contents → Result Work Refused) (reads : Contents → List (List ℕ)) (m : Contents) (before after : Outside) (h : Halt) (s : Status)
-    → before.told ≡ Some m → after.told ≡ before.told → Halts before.told task reads before.faults after.faults after.last h
+    → before.known ≡ Some m → after.known ≡ before.known → Halts before.known task reads before.faults after.faults after.last h
     → Stopped h before.taken after.taken before.sink_faults after.sink_faults s → Stands (outcome_in (task m)) (reads m) m before after s
 halted_stands task reads m before after (Halt.Refused why text) s e same halts stopped =
     let o : outcome_in (task m) ≡ Refuses why text.items = ap outcome_in (halts.0 m e) in
@@ -166,17 +166,17 @@ halted_stands task reads m before after (Halt.Refused why text) s e same halts s
 halted_stands task reads m before after (Halt.Fault text) s e same halts stopped =
     let name = halts.0 in
     let took : Took (fault_line name) before.taken after.taken = subst (λ (x : List ℕ). Took x before.taken after.taken) halts.1 stopped.1 in
-    let faulted = fault_is before.told (outcome_in (task m)) reads m before after name e (same ∙ e) halts.2 took in
+    let faulted = fault_is before.known (outcome_in (task m)) reads m before after name e (same ∙ e) halts.2 took in
     elim stopped.0 [
       | inl due ↦ fault_stands (outcome_in (task m)) (reads m) m before after s name due.0 faulted
       | inr memory ↦ memory_stands (outcome_in (task m)) (reads m) m before after s memory.0 (inr (inr (name, faulted)))
     ]
 halted_stands task reads m before after Halt.OutOfMemory s e same (inl steady) stopped =
     memory_stands (outcome_in (task m)) (reads m) m before after s stopped.0
-    (inl (record { files = none_written _ m after.told (same ∙ e); counted = steady m e; output = stopped.1 }))
+    (inl (record { files = none_written _ m after.known (same ∙ e); counted = steady m e; output = stopped.1 }))
 halted_stands task reads m before after Halt.OutOfMemory s e same (inr (name, f)) stopped =
     memory_stands (outcome_in (task m)) (reads m) m before after s stopped.0
-    (inr (inr (name, fault_is before.told (outcome_in (task m)) reads m before after name e (same ∙ e) f (took_none (fault_line name) before.taken after.taken stopped.1))))
+    (inr (inr (name, fault_is before.known (outcome_in (task m)) reads m before after name e (same ∙ e) f (took_none (fault_line name) before.taken after.taken stopped.1))))
 
 -- and nothing is done then
 refusal_undone : (why : Refusal) → is_done (status_of why) ≡ true → ⊥
@@ -227,14 +227,14 @@ performed_fault d ws text old new s (inr (inl (name, b))) e whole = elim b.said.
 performed_fault d ws text old new s (inr (inr u)) e whole = absurd (no_memory_fault s u.status e)
 
 -- a command that halts by a fault of a read says the last fault's line, whole where the sink had no fault
-pub stopped_fault : (told : Option Contents) (task : Contents → Result Work Refused) (reads : Contents → List (List ℕ)) (old new : ℕ) (last : Option (List ℕ)) (h : Halt) (before after : Option (List ℕ)) (from to : ℕ) (s : Status)
-    → Halts told task reads old new last h → Stopped h before after from to s → s ≡ Status.Fault → (Rose from to → ⊥) → FaultSaid last before after
-stopped_fault told task reads old new last (Halt.Refused why text) before after from to s halts stopped e whole = elim stopped.0 [
+pub stopped_fault : (known : Option Contents) (task : Contents → Result Work Refused) (reads : Contents → List (List ℕ)) (old new : ℕ) (last : Option (List ℕ)) (h : Halt) (before after : Option (List ℕ)) (from to : ℕ) (s : Status)
+    → Halts known task reads old new last h → Stopped h before after from to s → s ≡ Status.Fault → (Rose from to → ⊥) → FaultSaid last before after
+stopped_fault known task reads old new last (Halt.Refused why text) before after from to s halts stopped e whole = elim stopped.0 [
   | inl due ↦ absurd (no_refusal_fault why (sym due.0 ∙ e))
   | inr memory ↦ absurd (no_memory_fault s memory.0 e)
 ]
-stopped_fault told task reads old new last (Halt.Fault text) before after from to s halts stopped e whole = elim stopped.0 [
+stopped_fault known task reads old new last (Halt.Fault text) before after from to s halts stopped e whole = elim stopped.0 [
   | inl due ↦ (halts.0, halts.2.named, subst (λ (t : List ℕ). TookAll t before after) halts.1 (due.1 whole))
   | inr memory ↦ absurd (no_memory_fault s memory.0 e)
 ]
-stopped_fault told task reads old new last Halt.OutOfMemory before after from to s halts stopped e whole = absurd (no_memory_fault s stopped.0 e)
+stopped_fault known task reads old new last Halt.OutOfMemory before after from to s halts stopped e whole = absurd (no_memory_fault s stopped.0 e)

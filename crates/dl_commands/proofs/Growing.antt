@@ -38,6 +38,6 @@ performed_took diverged writes text old new s (inr (inr u)) = ([], took_none old
 
 -- where a command halts, the sink took the first bytes of its line, or none
 pub stopped_took : (h : Halt) (old new : Option (List ℕ)) (from to : ℕ) (s : Status) → Stopped h old new from to s → (said : List ℕ) × Took said old new
-stopped_took (Halt.Refused why text) old new from to s told = (text.items, told.1)
-stopped_took (Halt.Fault text) old new from to s told = (text.items, told.1)
+stopped_took (Halt.Refused why text) old new from to s line = (text.items, line.1)
+stopped_took (Halt.Fault text) old new from to s line = (text.items, line.1)
 stopped_took Halt.OutOfMemory old new from to s stopped = ([], took_none old new stopped.1)

@@ -36,15 +36,15 @@ pub with_file_same : {n k b d : List ℕ} {t u : Option Contents} → n ≡ k �
 with_file_same p q r = λ i. with_file (p i) (q i) (r i)
 
 -- files that are the same but at a name stay so, whatever the name and the files are called
-pub same_but_at : (name shown : List ℕ) (old told new : Option Contents) → shown ≡ name → told ≡ old → SameBut shown told new → SameBut name old new
-same_but_at name shown old told new named same s =
+pub same_but_at : (name shown : List ℕ) (old known new : Option Contents) → shown ≡ name → known ≡ old → SameBut shown known new → SameBut name old new
+same_but_at name shown old known new named same s =
     subst (λ (n : List ℕ). SameBut n old new) named (subst (λ (t : Option Contents). SameBut shown t new) same s)
 
 -- where memory ran out in write i, the first i are done, and of that one a part or nothing
-pub cut_short : (xs : List NamedContent) (i : ℕ) (x : NamedContent) (m : Contents) (shown : List ℕ) (told new : Option Contents) → i < length xs → x ≡ get_or xs i x → shown ≡ string_bytes x.name
-    → told ≡ Some (written (take i (writes_of xs)) m) → IsCutShort x.content shown told new → Partly (writes_of xs) m new
-cut_short xs i x m shown told new h e named are (inl same) = (i, omega (arith, h, length-map xs write_of), inl (same ∙ are))
-cut_short xs i x m shown told new h e named are (inr (pieces, k, is)) = (
+pub cut_short : (xs : List NamedContent) (i : ℕ) (x : NamedContent) (m : Contents) (shown : List ℕ) (known new : Option Contents) → i < length xs → x ≡ get_or xs i x → shown ≡ string_bytes x.name
+    → known ≡ Some (written (take i (writes_of xs)) m) → IsCutShort x.content shown known new → Partly (writes_of xs) m new
+cut_short xs i x m shown known new h e named are (inl same) = (i, omega (arith, h, length-map xs write_of), inl (same ∙ are))
+cut_short xs i x m shown known new h e named are (inr (pieces, k, is)) = (
   i,
   omega (arith, h, length-map xs write_of),
   inr (subst (λ (o : Option Write). IsBegun o (written (take i (writes_of xs)) m) new) (sym (write_at xs i x h e))

@@ -26,12 +26,12 @@ abbrev pub IsDue : (text : List ℕ) → (old new : Option (List ℕ)) → (from
 IsDue text old new from to = (Rose from to → ⊥) → TookAll text old new
 
 -- the line of a refusal or a fault, whose status is the first one: nothing but a want of memory changes it
-abbrev pub Told : Status → (text : List ℕ) → (old new : Option (List ℕ)) → (from to : ℕ) → Status → Type 0
-Told due text old new from to s =
+abbrev pub SaidLine : Status → (text : List ℕ) → (old new : Option (List ℕ)) → (from to : ℕ) → Status → Type 0
+SaidLine due text old new from to s =
     ((s ≡ due) × IsDue text old new from to ⊎ (s ≡ Status.Memory) × (to ≡ from)) × Took text old new
 
 -- the line of a halt
 abbrev pub Stopped : Halt → (old new : Option (List ℕ)) → (from to : ℕ) → Status → Type 0
-Stopped (Halt.Refused why text) old new from to s = Told (status_of why) text.items old new from to s
-Stopped (Halt.Fault text) old new from to s = Told Status.Fault text.items old new from to s
+Stopped (Halt.Refused why text) old new from to s = SaidLine (status_of why) text.items old new from to s
+Stopped (Halt.Fault text) old new from to s = SaidLine Status.Fault text.items old new from to s
 Stopped Halt.OutOfMemory old new from to s = (s ≡ Status.Memory) × (new ≡ old) × (to ≡ from)

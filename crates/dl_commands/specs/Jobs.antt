@@ -1,7 +1,7 @@
 -- What is left to be done, once it is computed.
 use Rattle.std.specs.Prelude.{◌≡◌, ℕ, Bool, true, false, List, map, string_bytes, Result, Ok}
 use Rattle.dl_plan.specs.Values.{PlanValues}
-use Rattle.dl_run.specs.Logs.{bytes_told}
+use Rattle.dl_run.specs.Logs.{log_bytes_if}
 use Rattle.spec_protocol.specs.declared.event.Event.{Event}
 use Rattle.spec_protocol.specs.Machine.{Setup}
 use Rattle.spec_protocol.specs.Sound.{IsWithinLimits}
@@ -19,7 +19,7 @@ use Rattle.dl_commands.specs.declared.writing.NamedContent.{NamedContent}
 -- the bytes that a file is to hold
 abbrev pub bytes_in : Content → List ℕ
 bytes_in (Content.Bytes bytes) = bytes.items
-bytes_in (Content.Log log) = bytes_told log
+bytes_in (Content.Log log) = log_bytes_if log
 
 -- logs are written in pieces
 abbrev pub is_in_pieces : Content → Bool

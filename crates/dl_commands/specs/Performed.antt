@@ -7,11 +7,11 @@ use Rattle.spec_program.specs.Lines.{fault_line}
 use Rattle.spec_program.specs.Outside.{Outside}
 use Rattle.spec_program.specs.Writes.{Write, written}
 use Rattle.spec_program.specs.Ends.{Partly, CutAt}
-use Rattle.dl_commands.specs.Ended.{Said, Told}
+use Rattle.dl_commands.specs.Ended.{Said, SaidLine}
 
 -- every file is written, and the text is said
 pub record IsWritten (diverged : Bool) (writes : List Write) (text : List ℕ) (old new : Outside) (s : Status) : Type 0 where
-  pub files : (m : Contents) → old.told ≡ Some m → new.told ≡ Some (written writes m)
+  pub files : (m : Contents) → old.known ≡ Some m → new.known ≡ Some (written writes m)
   pub counted : new.faults ≡ old.faults
   pub said : Said diverged text old.taken new.taken old.sink_faults new.sink_faults s
 
@@ -19,12 +19,12 @@ pub record IsWritten (diverged : Bool) (writes : List Write) (text : List ℕ) (
 pub record IsCut (writes : List Write) (name : List ℕ) (old new : Outside) (s : Status) : Type 0 where
   pub counted : Rose old.faults new.faults
   pub named : IsLast new.last name
-  pub files : (m : Contents) → old.told ≡ Some m → CutAt writes m new.told name
-  pub said : Told Status.Fault (fault_line name) old.taken new.taken old.sink_faults new.sink_faults s
+  pub files : (m : Contents) → old.known ≡ Some m → CutAt writes m new.known name
+  pub said : SaidLine Status.Fault (fault_line name) old.taken new.taken old.sink_faults new.sink_faults s
 
 -- memory ran out in writing
 pub record IsUnwritten (writes : List Write) (old new : Outside) (s : Status) : Type 0 where
-  pub files : (m : Contents) → old.told ≡ Some m → Partly writes m new.told
+  pub files : (m : Contents) → old.known ≡ Some m → Partly writes m new.known
   pub counted : new.faults ≡ old.faults
   pub status : s ≡ Status.Memory
   pub output : new.taken ≡ old.taken

@@ -14,7 +14,7 @@ IsCutShort content name old new =
     (new ≡ old) ⊎ ((is_in_pieces content ≡ true) × (k : ℕ) × (new ≡ with_file name (take k (bytes_in content)) old))
 
 -- a write failed, or memory ran out, after the first writes
-abbrev pub Stopped : (told : Option Contents) → List Write → (after : Option Contents) → (old new : ℕ) → (last : Option (List ℕ)) → Stop → Type 0
-Stopped told writes after old new last (Stop.Failed i) =
-    Rose old new × ((w : Write) × (slice_get writes i ≡ Some w) × IsLast last w.name × ((m : Contents) → told ≡ Some m → SameBut w.name (Some (written (take i writes) m)) after))
-Stopped told writes after old new last Stop.OutOfMemory = (new ≡ old) × ((m : Contents) → told ≡ Some m → Partly writes m after)
+abbrev pub Stopped : (known : Option Contents) → List Write → (after : Option Contents) → (old new : ℕ) → (last : Option (List ℕ)) → Stop → Type 0
+Stopped known writes after old new last (Stop.Failed i) =
+    Rose old new × ((w : Write) × (slice_get writes i ≡ Some w) × IsLast last w.name × ((m : Contents) → known ≡ Some m → SameBut w.name (Some (written (take i writes) m)) after))
+Stopped known writes after old new last Stop.OutOfMemory = (new ≡ old) × ((m : Contents) → known ≡ Some m → Partly writes m after)

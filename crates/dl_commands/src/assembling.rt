@@ -21,12 +21,12 @@ pub fn assemble_source<F: Files>(
     source: &str,
     name: &str,
 ) -> Result<Job, Halt>
-    ensures job { IfOk result (λ job. (m : Contents) → F.told files.old ≡ Some m
+    ensures job { IfOk result (λ job. (m : Contents) → F.known files.old ≡ Some m
         → IsJobOf (asm_at m source.now name.now) job) }
-    ensures halt { IfErr result (Halts (F.told files.old) (λ m. asm_at m source.now name.now)
+    ensures halt { IfErr result (Halts (F.known files.old) (λ m. asm_at m source.now name.now)
         (λ m. source.now ∷ []) (F.count files.old) (F.count files.new) (F.last_fault files.new)) }
     ensures usage { IfErr result IsNotUsage }
-    ensures kept { F.told files.new ≡ F.told files.old }
+    ensures kept { F.known files.new ≡ F.known files.old }
     ensures steady { OnOk result (F.count files.new ≡ F.count files.old) }
 {
     let bytes = match read_file(alloc, files, source) {

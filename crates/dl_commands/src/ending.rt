@@ -3,7 +3,7 @@ ghost use Rattle.std.specs.Prelude.{◌≡◌};
 ghost use Rattle.spec_program.specs.declared.status.Status.{Status};
 ghost use Rattle.spec_program.specs.Lines.{fault_line as fault_text};
 ghost use Rattle.spec_program.specs.Statuses.{status_of as status_due};
-ghost use Rattle.dl_commands.specs.Ended.{Said, Told, Stopped};
+ghost use Rattle.dl_commands.specs.Ended.{Said, SaidLine, Stopped};
 
 use crate::job::Job;
 use crate::telling::put_all;
@@ -37,7 +37,7 @@ pub fn stop<O: Sink>(out: &mut O, halt: Halt) -> Status
 
 /// Says that the write of that file failed.
 pub fn fail<O: Sink>(alloc: Global, out: &mut O, name: &str) -> Status
-    ensures { Told Status.Fault (fault_text name.now) (O.taken out.old) (O.taken out.new) (O.count out.old) (O.count out.new) result }
+    ensures { SaidLine Status.Fault (fault_text name.now) (O.taken out.old) (O.taken out.new) (O.count out.old) (O.count out.new) result }
 {
     match fault_line(alloc, name) {
         Ok(line) => tell(out, Status::Fault, &line),
@@ -46,7 +46,7 @@ pub fn fail<O: Sink>(alloc: Global, out: &mut O, name: &str) -> Status
 }
 
 fn tell<O: Sink>(out: &mut O, due: Status, line: &[u8]) -> Status
-    ensures { Told due line.now (O.taken out.old) (O.taken out.new) (O.count out.old) (O.count out.new) result }
+    ensures { SaidLine due line.now (O.taken out.old) (O.taken out.new) (O.count out.old) (O.count out.new) result }
 {
     match put_all(out, line) {
         Ok(()) | Err(SinkError::Failed) => due,

@@ -17,12 +17,12 @@ use std::alloc::Global;
 
 /// The log in that file, inspected.
 pub fn inspect<F: Files>(alloc: Global, files: &mut F, name: &str) -> Result<Job, Halt>
-    ensures job { IfOk result (λ job. (m : Contents) → F.told files.old ≡ Some m
+    ensures job { IfOk result (λ job. (m : Contents) → F.known files.old ≡ Some m
         → IsJobOf (inspect_at m name.now) job) }
-    ensures halt { IfErr result (Halts (F.told files.old) (λ m. inspect_at m name.now) (λ m. name.now ∷ [])
+    ensures halt { IfErr result (Halts (F.known files.old) (λ m. inspect_at m name.now) (λ m. name.now ∷ [])
         (F.count files.old) (F.count files.new) (F.last_fault files.new)) }
     ensures usage { IfErr result IsNotUsage }
-    ensures kept { F.told files.new ≡ F.told files.old }
+    ensures kept { F.known files.new ≡ F.known files.old }
     ensures steady { OnOk result (F.count files.new ≡ F.count files.old) }
 {
     let read = match read_log(alloc, files, name) {

@@ -29,13 +29,13 @@ use std::alloc::Global;
 
 /// What the words ask for. Files are read, and none is written.
 pub fn prepare<F: Files>(alloc: Global, words: &[&str], files: &mut F) -> Result<Job, Halt>
-    ensures job { IfOk result (λ job. (m : Contents) → F.told files.old ≡ Some m
+    ensures job { IfOk result (λ job. (m : Contents) → F.known files.old ≡ Some m
         → IsJobOf (work_of (texts words.now) m) job) }
     ensures command { IsOk result → command_of (texts words.now) ≢ None }
-    ensures halt { IfErr result (Halts (F.told files.old) (work_of (texts words.now)) (reads_of (texts words.now))
+    ensures halt { IfErr result (Halts (F.known files.old) (work_of (texts words.now)) (reads_of (texts words.now))
         (F.count files.old) (F.count files.new) (F.last_fault files.new)) }
     ensures usage { IfErr result (IsUsage (command_of (texts words.now))) }
-    ensures kept { F.told files.new ≡ F.told files.old }
+    ensures kept { F.known files.new ≡ F.known files.old }
     ensures steady { OnOk result (F.count files.new ≡ F.count files.old) }
 {
     match read_words(alloc, words) {
@@ -54,12 +54,12 @@ fn compute_command<F: Files>(
     command: Command<'_>,
 ) -> Result<Job, Halt>
     requires { HasMemory (command_view command) }
-    ensures job { IfOk result (λ job. (m : Contents) → F.told files.old ≡ Some m
+    ensures job { IfOk result (λ job. (m : Contents) → F.known files.old ≡ Some m
         → IsJobOf (work_for m (command_view command.entry)) job) }
-    ensures halt { IfErr result (Halts (F.told files.old) (λ m. work_for m (command_view command.entry))
+    ensures halt { IfErr result (Halts (F.known files.old) (λ m. work_for m (command_view command.entry))
         (λ m. reads_for m (command_view command.entry)) (F.count files.old) (F.count files.new) (F.last_fault files.new)) }
     ensures usage { IfErr result IsNotUsage }
-    ensures kept { F.told files.new ≡ F.told files.old }
+    ensures kept { F.known files.new ≡ F.known files.old }
     ensures steady { OnOk result (F.count files.new ≡ F.count files.old) }
 {
     match command {
@@ -74,12 +74,12 @@ fn compute_command<F: Files>(
 
 // The plan of that name.
 fn run<F: Files>(alloc: Global, files: &mut F, name: &str) -> Result<Job, Halt>
-    ensures job { IfOk result (λ job. (m : Contents) → F.told files.old ≡ Some m
+    ensures job { IfOk result (λ job. (m : Contents) → F.known files.old ≡ Some m
         → IsJobOf (run_at m name.now) job) }
-    ensures halt { IfErr result (Halts (F.told files.old) (λ m. run_at m name.now)
+    ensures halt { IfErr result (Halts (F.known files.old) (λ m. run_at m name.now)
         (λ m. name.now ∷ inputs_of (plan_at m name.now)) (F.count files.old) (F.count files.new) (F.last_fault files.new)) }
     ensures usage { IfErr result IsNotUsage }
-    ensures kept { F.told files.new ≡ F.told files.old }
+    ensures kept { F.known files.new ≡ F.known files.old }
     ensures steady { OnOk result (F.count files.new ≡ F.count files.old) }
 {
     match run_named(alloc, files, name) {
@@ -89,12 +89,12 @@ fn run<F: Files>(alloc: Global, files: &mut F, name: &str) -> Result<Job, Halt>
 }
 
 fn run_named<F: Files>(alloc: Global, files: &mut F, name: &str) -> Result<Job, Halt>
-    ensures job { IfOk result (λ job. (m : Contents) → F.told files.old ≡ Some m
+    ensures job { IfOk result (λ job. (m : Contents) → F.known files.old ≡ Some m
         → IsTaskJob (task_named m name.now) job) }
-    ensures halt { IfErr result (Halts (F.told files.old) (λ m. task_named m name.now)
+    ensures halt { IfErr result (Halts (F.known files.old) (λ m. task_named m name.now)
         (λ m. name.now ∷ inputs_of (plan_at m name.now)) (F.count files.old) (F.count files.new) (F.last_fault files.new)) }
     ensures usage { IfErr result IsNotUsage }
-    ensures kept { F.told files.new ≡ F.told files.old }
+    ensures kept { F.known files.new ≡ F.known files.old }
     ensures steady { OnOk result (F.count files.new ≡ F.count files.old) }
 {
     let plan = match load_plan(alloc, files, name) {
@@ -110,12 +110,12 @@ fn run_named<F: Files>(alloc: Global, files: &mut F, name: &str) -> Result<Job, 
 // A plan that breaks no rule.
 fn run_plan<F: Files>(alloc: Global, files: &mut F, plan: &Plan) -> Result<Job, Halt>
     requires { IsPlan (plan_view plan.now) }
-    ensures job { IfOk result (λ job. (m : Contents) → F.told files.old ≡ Some m
+    ensures job { IfOk result (λ job. (m : Contents) → F.known files.old ≡ Some m
         → IsTaskJob (task_planned m (plan_view plan.now)) job) }
-    ensures halt { IfErr result (Halts (F.told files.old) (λ m. task_planned m (plan_view plan.now))
+    ensures halt { IfErr result (Halts (F.known files.old) (λ m. task_planned m (plan_view plan.now))
         (λ m. input_names (plan_view plan.now)) (F.count files.old) (F.count files.new) (F.last_fault files.new)) }
     ensures usage { IfErr result IsNotUsage }
-    ensures kept { F.told files.new ≡ F.told files.old }
+    ensures kept { F.known files.new ≡ F.known files.old }
     ensures steady { OnOk result (F.count files.new ≡ F.count files.old) }
 {
     let inputs = match read_inputs(alloc, files, plan) {

@@ -37,31 +37,31 @@ pub fn delorean<F: Files, O: Sink>(
 ) -> Status
     // What 0 and 1 say of a run.
     ensures headline { (plan : List ℕ) (m : Contents)
-        → command_of (texts words.now) ≡ Some (Run plan) → F.told files.old ≡ Some m → is_done result ≡ true
-        → Headline plan m (F.told files.new) (O.taken out.old) (O.taken out.new) result }
+        → command_of (texts words.now) ≡ Some (Run plan) → F.known files.old ≡ Some m → is_done result ≡ true
+        → Headline plan m (F.known files.new) (O.taken out.old) (O.taken out.new) result }
 
     // What they say of each command, of `inspect`, `walk`, `make`, `drill` and `asm` too.
     ensures done { (command : CommandValues) (m : Contents)
-        → command_of (texts words.now) ≡ Some command → F.told files.old ≡ Some m → is_done result ≡ true
-        → IsDone command m (F.told files.new) (O.taken out.old) (O.taken out.new) result }
+        → command_of (texts words.now) ≡ Some command → F.known files.old ≡ Some m → is_done result ≡ true
+        → IsDone command m (F.known files.new) (O.taken out.old) (O.taken out.new) result }
 
     // A drill is done, for every number, but where memory or the sink is wanting.
     ensures drill { (number : ℕ) (m : Contents)
-        → command_of (texts words.now) ≡ Some (Drill number) → F.told files.old ≡ Some m
+        → command_of (texts words.now) ≡ Some (Drill number) → F.known files.old ≡ Some m
         → (result ≡ Status.Done) ⊎ ((result ≡ Status.Sink) ⊎ (result ≡ Status.Memory)) }
 
     // What each answer says.
-    ensures stands { (m : Contents) → F.told files.old ≡ Some m
+    ensures stands { (m : Contents) → F.known files.old ≡ Some m
         → Stands (outcome_of (texts words.now) m) (reads_of (texts words.now) m) m
         (record {
-          told = F.told files.old;
+          known = F.known files.old;
           faults = F.count files.old;
           last = F.last_fault files.old;
           taken = O.taken out.old;
           sink_faults = O.count out.old;
         })
         (record {
-          told = F.told files.new;
+          known = F.known files.new;
           faults = F.count files.new;
           last = F.last_fault files.new;
           taken = O.taken out.new;
@@ -70,14 +70,14 @@ pub fn delorean<F: Files, O: Sink>(
         result }
 
     // The line of a refusal, and of a fault, is said whole where the sink's count did not rise.
-    ensures whole { (m : Contents) → F.told files.old ≡ Some m
+    ensures whole { (m : Contents) → F.known files.old ≡ Some m
         → is_refusal result ≡ true → (Rose (O.count out.old) (O.count out.new) → ⊥)
         → TookAll (text_in (outcome_of (texts words.now) m)) (O.taken out.old) (O.taken out.new) }
     ensures fault_said { result ≡ Status.Fault → (Rose (O.count out.old) (O.count out.new) → ⊥)
         → (name : List ℕ) × IsLast (F.last_fault files.new) name
         × TookAll (fault_text name) (O.taken out.old) (O.taken out.new) }
 
-    // What each answer shows, also where no contents are told.
+    // What each answer shows, also where no contents are known.
     ensures files_steady { is_of_files result ≡ false → F.count files.new ≡ F.count files.old }
     ensures sink_steady { is_of_sink result ≡ false → O.count out.new ≡ O.count out.old }
     ensures said { (text : List ℕ) × Took text (O.taken out.old) (O.taken out.new) }
@@ -89,11 +89,11 @@ pub fn delorean<F: Files, O: Sink>(
         → (result ≡ Status.Usage) ⊎ (result ≡ Status.Memory) }
     ensures fault { result ≡ Status.Fault → Rose (F.count files.old) (F.count files.new) }
     ensures sink { result ≡ Status.Sink → Rose (O.count out.old) (O.count out.new) }
-    ensures absent { F.told files.old ≡ None → result ≡ Status.Absent
+    ensures absent { F.known files.old ≡ None → result ≡ Status.Absent
         → Rose (F.count files.old) (F.count files.new) }
 
     // Where no count rose, the answer is the outcome's, or memory ran out.
-    ensures complete { (m : Contents) → F.told files.old ≡ Some m
+    ensures complete { (m : Contents) → F.known files.old ≡ Some m
         → (Rose (F.count files.old) (F.count files.new) → ⊥)
         → (Rose (O.count out.old) (O.count out.new) → ⊥)
         → (result ≡ status_in (outcome_of (texts words.now) m)) ⊎ (result ≡ Status.Memory) }
@@ -130,14 +130,14 @@ pub fn delorean_in_memory(
 fn perform<F: Files, O: Sink>(alloc: Global, job: &Job, files: &mut F, out: &mut O) -> Status
     ensures { IsPerformed job.now.diverged (writes_of job.now.writes.items) job.now.text.items
         (record {
-          told = F.told files.old;
+          known = F.known files.old;
           faults = F.count files.old;
           last = F.last_fault files.old;
           taken = O.taken out.old;
           sink_faults = O.count out.old;
         })
         (record {
-          told = F.told files.new;
+          known = F.known files.new;
           faults = F.count files.new;
           last = F.last_fault files.new;
           taken = O.taken out.new;

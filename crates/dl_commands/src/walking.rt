@@ -29,12 +29,12 @@ pub fn walk_log<F: Files>(
     log: &str,
 ) -> Result<Job, Halt>
     requires { is_size memory ≡ true }
-    ensures job { IfOk result (λ job. (m : Contents) → F.told files.old ≡ Some m
+    ensures job { IfOk result (λ job. (m : Contents) → F.known files.old ≡ Some m
         → IsJobOf (walk_at m image.now memory log.now) job) }
-    ensures halt { IfErr result (Halts (F.told files.old) (λ m. walk_at m image.now memory log.now)
+    ensures halt { IfErr result (Halts (F.known files.old) (λ m. walk_at m image.now memory log.now)
         (λ m. image.now ∷ log.now ∷ []) (F.count files.old) (F.count files.new) (F.last_fault files.new)) }
     ensures usage { IfErr result IsNotUsage }
-    ensures kept { F.told files.new ≡ F.told files.old }
+    ensures kept { F.known files.new ≡ F.known files.old }
     ensures steady { OnOk result (F.count files.new ≡ F.count files.old) }
 {
     let program = match read_file(alloc, files, image) {
@@ -56,13 +56,13 @@ fn walk_on<F: Files>(
     log: &str,
 ) -> Result<Job, Halt>
     requires { is_size memory ≡ true }
-    ensures job { IfOk result (λ job. (m : Contents) → F.told files.old ≡ Some m
+    ensures job { IfOk result (λ job. (m : Contents) → F.known files.old ≡ Some m
         → IsJobOf (walk_on m memory program.now log.now) job) }
-    ensures halt { IfErr result (Halts (F.told files.old)
+    ensures halt { IfErr result (Halts (F.known files.old)
         (λ m. walk_on m memory program.now log.now)
         (λ m. log.now ∷ []) (F.count files.old) (F.count files.new) (F.last_fault files.new)) }
     ensures usage { IfErr result IsNotUsage }
-    ensures kept { F.told files.new ≡ F.told files.old }
+    ensures kept { F.known files.new ≡ F.known files.old }
     ensures steady { OnOk result (F.count files.new ≡ F.count files.old) }
 {
     let read = match read_log(alloc, files, log) {

@@ -12,8 +12,8 @@ use dl_logio::write_log_file;
 
 /// Writes each file whole, and nothing after one that fails.
 pub fn write_all<F: Files>(files: &mut F, writes: &[NamedContent]) -> Result<(), Stop>
-    ensures ok { OnOk result ((m : Contents) → F.told files.old ≡ Some m → F.told files.new ≡ Some (after_writes (writes_of writes.now) m)) }
-    ensures stop { IfErr result (Stopped (F.told files.old) (writes_of writes.now) (F.told files.new)
+    ensures ok { OnOk result ((m : Contents) → F.known files.old ≡ Some m → F.known files.new ≡ Some (after_writes (writes_of writes.now) m)) }
+    ensures stop { IfErr result (Stopped (F.known files.old) (writes_of writes.now) (F.known files.new)
         (F.count files.old) (F.count files.new) (F.last_fault files.new)) }
     ensures steady { OnOk result (F.count files.new ≡ F.count files.old) }
 {
@@ -30,10 +30,10 @@ pub fn write_all<F: Files>(files: &mut F, writes: &[NamedContent]) -> Result<(),
 
 // Writes one file.
 fn write_content<F: Files>(files: &mut F, name: &str, content: &Content) -> Result<(), FileError>
-    ensures written { OnOk result (F.told files.new ≡ with_file name.now (bytes_in content.now) (F.told files.old)) }
+    ensures written { OnOk result (F.known files.new ≡ with_file name.now (bytes_in content.now) (F.known files.old)) }
     ensures memory { IsErrOf result FileError.OutOfMemory
-        → IsCutShort content.now name.now (F.told files.old) (F.told files.new) }
-    ensures others { IsErrOf result FileError.Failed → SameBut name.now (F.told files.old) (F.told files.new) }
+        → IsCutShort content.now name.now (F.known files.old) (F.known files.new) }
+    ensures others { IsErrOf result FileError.Failed → SameBut name.now (F.known files.old) (F.known files.new) }
     ensures not_absent { IfErr result (λ e. e ≢ FileError.Absent) }
     ensures failed { IsErrOf result FileError.Failed → Rose (F.count files.old) (F.count files.new) }
     ensures last { IsErrOf result FileError.Failed → IsLast (F.last_fault files.new) name.now }

@@ -31,9 +31,9 @@ impl Model for Devices {
 
     ghost view = { λ d. record { input = drop d.taken d.input.items; console = d.console.items; pipes = d.pipes; random = d.words } };
 
-    ghost use Rattle.dl_dev.specs.Kept.{IsKept};
+    ghost use Rattle.dl_dev.specs.Invariant.{AreDevices};
 
-    ghost invariant = { λ d. IsKept d.input.items d.taken d.words };
+    ghost invariant = { λ d. AreDevices d.input.items d.taken d.words };
 }
 
 impl Devices {

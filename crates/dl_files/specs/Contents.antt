@@ -1,4 +1,4 @@
--- What files hold, where it is told: a finite map from names to bytes.
+-- What files hold, where it is known: a finite map from names to bytes.
 use Rattle.std.specs.Prelude.{◌≡◌, ◌≢◌, ℕ, List, [], ◌++◌, take, drop, Option, None, Some, IsSome, IfSome, option_map, unwrap_or}
 use Rattle.std.specs.Ordering.{nat_cmp}
 use Rattle.std.specs.Cmp.Lexicographic.{slice_cmp}
@@ -14,38 +14,38 @@ Contents = FinMap (slice_cmp nat_cmp) (List ℕ)
 abbrev pub contents_code : Coded Contents
 contents_code = code (coded_list coded_ℕ) (coded_list coded_ℕ)
 
--- where told, these are the name's bytes
+-- where known, these are the name's bytes
 abbrev pub Holds : Option Contents → List ℕ → List ℕ → Type 0
-Holds told name bytes = IfSome told (λ m. get m name ≡ Some bytes)
+Holds known name bytes = IfSome known (λ m. get m name ≡ Some bytes)
 
 -- the name's bytes from an offset on, as many as fit in a piece of that room
 abbrev pub part_of : Contents → (name : List ℕ) → (offset room : ℕ) → Option (List ℕ)
 part_of m name offset room = option_map (λ bytes. take room (drop offset bytes)) (get m name)
 
--- where told, these are the name's bytes from an offset on, as many as fit in a piece of that room
+-- where known, these are the name's bytes from an offset on, as many as fit in a piece of that room
 abbrev pub HoldsAt : Option Contents → (name : List ℕ) → (offset room : ℕ) → (bytes : List ℕ) → Type 0
-HoldsAt told name offset room bytes = IfSome told (λ m. part_of m name offset room ≡ Some bytes)
+HoldsAt known name offset room bytes = IfSome known (λ m. part_of m name offset room ≡ Some bytes)
 
--- where told, the name is there
+-- where known, the name is there
 abbrev pub IsThere : Option Contents → List ℕ → Type 0
-IsThere told name = IfSome told (λ m. IsSome (get m name))
+IsThere known name = IfSome known (λ m. IsSome (get m name))
 
--- what the answer Absent shows: a name that is told to be missing, or else a count that rose
+-- what the answer Absent shows: a name that is known to be missing, or else a count that rose
 abbrev pub IsAbsent : Option Contents → List ℕ → ℕ → ℕ → Type 0
 IsAbsent None name old new = Rose old new
 IsAbsent (Some m) name old new = (get m name ≡ None) × (new ≡ old)
 
 -- the contents once the name holds these bytes
 abbrev pub with_file : List ℕ → List ℕ → Option Contents → Option Contents
-with_file name bytes told = option_map (λ m. insert m name bytes) told
+with_file name bytes known = option_map (λ m. insert m name bytes) known
 
 -- the contents once these bytes follow those of the name, which is made where it isn't there
 abbrev pub more : List ℕ → List ℕ → Contents → Contents
 more name bytes m = insert m name (unwrap_or (get m name) [] ++ bytes)
 
--- the same, where told
+-- the same, where known
 abbrev pub with_more : List ℕ → List ℕ → Option Contents → Option Contents
-with_more name bytes told = option_map (more name bytes) told
+with_more name bytes known = option_map (more name bytes) known
 
 -- every other name holds what it held
 abbrev pub SameBut : List ℕ → Option Contents → Option Contents → Type 0
@@ -53,6 +53,6 @@ SameBut name None None = Unit {0}
 SameBut name (Some old) (Some new) = (other : List ℕ) → other ≢ name → get new other ≡ get old other
 SameBut name _ _ = ⊥
 
--- where told, the last fault is at this name
+-- where known, the last fault is at this name
 abbrev pub IsLast : Option (List ℕ) → List ℕ → Type 0
 IsLast last name = IfSome last (λ n. n ≡ name)

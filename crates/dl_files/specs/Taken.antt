@@ -1,6 +1,6 @@
--- What a sink took, where it is told: a list of bytes.
+-- What a sink took, where it is known: a list of bytes.
 use Rattle.std.specs.Prelude.{ℕ, List, ◌++◌, take, Option, option_map}
 
 -- what was taken once the first n bytes of a piece are taken too
 abbrev pub with_taken : ℕ → List ℕ → Option (List ℕ) → Option (List ℕ)
-with_taken n piece told = option_map (λ taken. taken ++ take n piece) told
+with_taken n piece known = option_map (λ taken. taken ++ take n piece) known

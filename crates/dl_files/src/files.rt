@@ -8,7 +8,7 @@ use std::alloc::Global;
 
 /// Files by name. They may tell their contents and the name of their last fault, and count faults.
 pub trait Files {
-    ghost told: { Self → Option Contents };
+    ghost known: { Self → Option Contents };
 
     ghost last_fault: { Self → Option (List ℕ) };
 
@@ -21,10 +21,10 @@ pub trait Files {
 
     /// The bytes of the file `name`, in memory of `alloc`.
     fn read(&mut self, alloc: Global, name: &str) -> Result<Vec<u8>, FileError>
-        ensures bytes { IfOk result (λ bytes. Holds (told self.old) name.now bytes.items) }
+        ensures bytes { IfOk result (λ bytes. Holds (known self.old) name.now bytes.items) }
         ensures absent { IsErrOf result FileError.Absent
-            → IsAbsent (told self.old) name.now (count self.old) (count self.new) }
-        ensures there { IfErr result (λ e. e ≢ FileError.Absent → IsThere (told self.old) name.now) }
+            → IsAbsent (known self.old) name.now (count self.old) (count self.new) }
+        ensures there { IfErr result (λ e. e ≢ FileError.Absent → IsThere (known self.old) name.now) }
         ensures failed { IsErrOf result FileError.Failed → Rose (count self.old) (count self.new) }
         ensures last { IsErrOf result FileError.Failed → IsLast (last_fault self.new) name.now }
         ensures ok_steady { OnOk result (count self.new ≡ count self.old) }
@@ -32,31 +32,31 @@ pub trait Files {
             → count self.new ≡ count self.old }
         ensures memory_last { IsErrOf result FileError.OutOfMemory
             → last_fault self.new ≡ last_fault self.old }
-        ensures kept { told self.new ≡ told self.old }
+        ensures kept { known self.new ≡ known self.old }
         ensures counted { count self.old ≤ count self.new };
 
     /// Copies the bytes of the file `name` from `offset` on into a piece, as many as fit, and gives their
     /// number. It takes no memory.
     fn read_at(&mut self, name: &str, offset: u64, into: &mut [u8]) -> Result<usize, FileError>
         ensures bytes { IfOk result (λ n.
-            HoldsAt (told self.old) name.now offset (length into.old) (take n into.new)) }
+            HoldsAt (known self.old) name.now offset (length into.old) (take n into.new)) }
         ensures most { IfOk result (λ n. n ≤ length into.old) }
         ensures absent { IsErrOf result FileError.Absent
-            → IsAbsent (told self.old) name.now (count self.old) (count self.new) }
-        ensures there { IfErr result (λ e. e ≢ FileError.Absent → IsThere (told self.old) name.now) }
+            → IsAbsent (known self.old) name.now (count self.old) (count self.new) }
+        ensures there { IfErr result (λ e. e ≢ FileError.Absent → IsThere (known self.old) name.now) }
         ensures no_memory { IfErr result (λ e. e ≢ FileError.OutOfMemory) }
         ensures failed { IsErrOf result FileError.Failed → Rose (count self.old) (count self.new) }
         ensures last { IsErrOf result FileError.Failed → IsLast (last_fault self.new) name.now }
         ensures ok_steady { OnOk result (count self.new ≡ count self.old) }
-        ensures kept { told self.new ≡ told self.old }
+        ensures kept { known self.new ≡ known self.old }
         ensures counted { count self.old ≤ count self.new };
 
     /// Makes `bytes` the bytes of the file `name`. After `Failed` nothing is known of that file alone.
     fn write(&mut self, name: &str, bytes: &[u8]) -> Result<(), FileError>
-        ensures written { OnOk result (told self.new ≡ with_file name.now bytes.now (told self.old)) }
-        ensures memory { IsErrOf result FileError.OutOfMemory → told self.new ≡ told self.old }
+        ensures written { OnOk result (known self.new ≡ with_file name.now bytes.now (known self.old)) }
+        ensures memory { IsErrOf result FileError.OutOfMemory → known self.new ≡ known self.old }
         ensures others { IsErrOf result FileError.Failed
-            → SameBut name.now (told self.old) (told self.new) }
+            → SameBut name.now (known self.old) (known self.new) }
         ensures not_absent { IfErr result (λ e. e ≢ FileError.Absent) }
         ensures failed { IsErrOf result FileError.Failed → Rose (count self.old) (count self.new) }
         ensures last { IsErrOf result FileError.Failed → IsLast (last_fault self.new) name.now }
@@ -69,10 +69,10 @@ pub trait Files {
 
     /// Makes the file `name` one of no bytes. After `Failed` nothing is known of that file alone.
     fn create(&mut self, name: &str) -> Result<(), FileError>
-        ensures created { OnOk result (told self.new ≡ with_file name.now [] (told self.old)) }
-        ensures memory { IsErrOf result FileError.OutOfMemory → told self.new ≡ told self.old }
+        ensures created { OnOk result (known self.new ≡ with_file name.now [] (known self.old)) }
+        ensures memory { IsErrOf result FileError.OutOfMemory → known self.new ≡ known self.old }
         ensures others { IsErrOf result FileError.Failed
-            → SameBut name.now (told self.old) (told self.new) }
+            → SameBut name.now (known self.old) (known self.new) }
         ensures not_absent { IfErr result (λ e. e ≢ FileError.Absent) }
         ensures failed { IsErrOf result FileError.Failed → Rose (count self.old) (count self.new) }
         ensures last { IsErrOf result FileError.Failed → IsLast (last_fault self.new) name.now }
@@ -86,10 +86,10 @@ pub trait Files {
     /// Puts `bytes` after those of the file `name`, which is made where it isn't there. After `Failed`
     /// nothing is known of that file alone.
     fn append(&mut self, name: &str, bytes: &[u8]) -> Result<(), FileError>
-        ensures appended { OnOk result (told self.new ≡ with_more name.now bytes.now (told self.old)) }
-        ensures memory { IsErrOf result FileError.OutOfMemory → told self.new ≡ told self.old }
+        ensures appended { OnOk result (known self.new ≡ with_more name.now bytes.now (known self.old)) }
+        ensures memory { IsErrOf result FileError.OutOfMemory → known self.new ≡ known self.old }
         ensures others { IsErrOf result FileError.Failed
-            → SameBut name.now (told self.old) (told self.new) }
+            → SameBut name.now (known self.old) (known self.new) }
         ensures not_absent { IfErr result (λ e. e ≢ FileError.Absent) }
         ensures failed { IsErrOf result FileError.Failed → Rose (count self.old) (count self.new) }
         ensures last { IsErrOf result FileError.Failed → IsLast (last_fault self.new) name.now }

@@ -46,7 +46,7 @@ impl GoodFiles {
 }
 
 impl Files for GoodFiles {
-    ghost told = { λ files. Some files };
+    ghost known = { λ files. Some files };
 
     ghost last_fault = { λ _. None };
 

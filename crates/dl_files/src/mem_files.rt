@@ -76,7 +76,7 @@ impl MemFiles {
 }
 
 impl Files for MemFiles {
-    ghost told = { λ files. Some files.contents };
+    ghost known = { λ files. Some files.contents };
 
     ghost last_fault = { λ files. files.last_fault };
 

@@ -57,7 +57,7 @@ impl<R: rt::Files> RealFiles<R> {
 }
 
 impl<R: rt::Files> Files for RealFiles<R> {
-    ghost told = { λ _. None };
+    ghost known = { λ _. None };
 
     ghost last_fault = { λ _. None };
 

@@ -8,7 +8,7 @@ use Rattle.spec_engine.specs.declared.answers.How.{How}
 use Rattle.spec_engine.specs.Flights.{Flight}
 use Rattle.spec_protocol.specs.declared.event.Event.{Event}
 use Rattle.spec_protocol.specs.Spheres.{Sphere}
-use Rattle.spec_protocol.specs.Commits.{Moved, dma_moved}
+use Rattle.spec_protocol.specs.Commits.{MovedSphere, dma_moved}
 use Rattle.spec_protocol.specs.Placing.{replays}
 use Rattle.spec_protocol.specs.World.{Numbers, What, OfChunk, OfSerial, OfDma, OfRaise, Move, World, sphere_at}
 use Rattle.spec_protocol.specs.Machine.{SphereSetup, Setup, world_of, happens}
@@ -16,9 +16,9 @@ use Rattle.spec_protocol.specs.Serial.{SerialState, do_serial, do_dma, do_raise}
 use Rattle.spec_protocol.specs.Shown.{shown, shown_of}
 use Rattle.spec_protocol.specs.Moves.{move_chunk, do_what, do_at, do_move, do_if}
 use Rattle.spec_protocol.specs.Promises.{IsSetup, after}
-use Rattle.spec_protocol.proofs.Invariants.Kept.{shown-get}
+use Rattle.spec_protocol.proofs.Invariants.Preserved.{shown-get}
 use Rattle.spec_protocol.proofs.Moves.Granted.{get-set_other}
-use Rattle.spec_protocol.proofs.Invariants.Schedules.{happens-kept, start-good, after-good, sizes_kept}
+use Rattle.spec_protocol.proofs.Invariants.Schedules.{happens-preserved, start-good, after-good, sizes_kept}
 use Rattle.spec_finishing.specs.Ending.{OfReplay}
 use Rattle.spec_finishing.proofs.Ending.Knowing.{after-event, kinds_after, there_is}
 use Rattle.spec_finishing.proofs.Ending.KindsKept.{is_replayed, kind-at}
@@ -34,7 +34,7 @@ serial_others : (x : SerialState) (i j k moment : ℕ) (p : Sphere) (o : Option 
 serial_others x i j k moment p None ne = refl
 serial_others x i j k moment p (Some t) ne = get-set_other x.spheres i j _ ne
 
-dma_others : (x : SerialState) (i j : ℕ) (o : Option Moved) → j ≢ i → slice_get (do_dma x i o).spheres j ≡ slice_get x.spheres j
+dma_others : (x : SerialState) (i j : ℕ) (o : Option MovedSphere) → j ≢ i → slice_get (do_dma x i o).spheres j ≡ slice_get x.spheres j
 dma_others x i j None ne = refl
 dma_others x i j (Some v) ne = get-set_other x.spheres i j _ ne
 
@@ -97,7 +97,7 @@ shown_position xs ys i p q e =
 pub room_kept : (s : Setup) (es : List Event) (e : Event) → IsSetup s → OfReplay (after s es) (happens (after s es) e).move → HasRoom (after s es) → HasRoom (happens (after s es) e).world
 room_kept s es e is of room =
     let w = after s es in
-    let k = happens-kept w e (after-good (world_of s) es (start-good s is)) in
+    let k = happens-preserved w e (after-good (world_of s) es (start-good s is)) in
     record {
       few = λ i l live.
           let v = (happens w e).world in

@@ -46,6 +46,6 @@ names_of p =
     (both (from Source.Input p.input) (read_from 0 p.spheres) (of_optional Source.Input p.input) (of_spheres 0 p.spheres))
 
 -- what is unread of the parts is unread of the plan
-pub unread_by_parts : {A : Type 0} (told : Option Contents) (p : PlanValues) (read : Contents → Result A (List ℕ)) (old new : ℕ) (last : Option (List ℕ)) (h : Halt)
-    → Unread told (named_by_parts p) read old new last h → Unread told (input_names p) read old new last h
-unread_by_parts told p read old new last h = subst (λ (ns : List (List ℕ)). Unread told ns read old new last h) (sym (names_of p))
+pub unread_by_parts : {A : Type 0} (known : Option Contents) (p : PlanValues) (read : Contents → Result A (List ℕ)) (old new : ℕ) (last : Option (List ℕ)) (h : Halt)
+    → Unread known (named_by_parts p) read old new last h → Unread known (input_names p) read old new last h
+unread_by_parts known p read old new last h = subst (λ (ns : List (List ℕ)). Unread known ns read old new last h) (sym (names_of p))

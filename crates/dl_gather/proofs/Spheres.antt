@@ -44,10 +44,10 @@ turns_more m ss i d x h turns made name next =
     next_turns m ss i d h turns name (next_behind m (read_for_sphere (sphere_view (get_or ss i d))) (flat_map read_for_sphere (map sphere_view (drop (i + 1) ss))) name (sphere_there m (sphere_view (get_or ss i d)) (sphere_inputs x) made) next)
 
 -- a sphere is a part of all, once those before it are read
-pub sphere_part : (told : Option Contents) (ss : List Sphere) (i : ℕ) (d : Sphere) (done : List SphereInputs) → i < length ss
-    → ((m : Contents) → told ≡ Some m → Read m ss i done) → ((m : Contents) → told ≡ Some m → Turns m ss i)
-    → IsPart told (read_for_sphere (sphere_view (get_or ss i d))) (flat_map read_for_sphere (map sphere_view ss)) (λ m. sphere_read m (sphere_view (get_or ss i d))) (λ m. spheres_read m (map sphere_view ss))
-sphere_part told ss i d done h read turns = record {
+pub sphere_part : (known : Option Contents) (ss : List Sphere) (i : ℕ) (d : Sphere) (done : List SphereInputs) → i < length ss
+    → ((m : Contents) → known ≡ Some m → Read m ss i done) → ((m : Contents) → known ≡ Some m → Turns m ss i)
+    → IsPart known (read_for_sphere (sphere_view (get_or ss i d))) (flat_map read_for_sphere (map sphere_view ss)) (λ m. sphere_read m (sphere_view (get_or ss i d))) (λ m. spheres_read m (map sphere_view ss))
+sphere_part known ss i d done h read turns = record {
   absent =
       λ m e name missing.
       none_made (spheres_read m (map sphere_view ss)) (map sphere_inputs done) name (sphere_read m (sphere_view (get_or ss i d))) (λ s. spheres_read m (map sphere_view (drop (i + 1) ss)) >> λ rest. Ok (s ∷ rest))

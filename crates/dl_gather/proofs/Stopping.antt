@@ -26,40 +26,40 @@ ok_then o f a is = ap (λ x. x >> f) is
 -- ---- parts
 
 -- what is absent in the part is so in the whole, and the turns of the part's names are turns in the whole
-pub record IsPart {A B : Type 0} (told : Option Contents) (names all : List (List ℕ)) (part : Contents → Result A (List ℕ)) (whole : Contents → Result B (List ℕ)) : Type 0 where
-  pub absent : (m : Contents) → told ≡ Some m → (name : List ℕ) → part m ≡ Err name → whole m ≡ Err name
-  pub next : (m : Contents) → told ≡ Some m → (name : List ℕ) → IsReadNext names m name → IsReadNext all m name
+pub record IsPart {A B : Type 0} (known : Option Contents) (names all : List (List ℕ)) (part : Contents → Result A (List ℕ)) (whole : Contents → Result B (List ℕ)) : Type 0 where
+  pub absent : (m : Contents) → known ≡ Some m → (name : List ℕ) → part m ≡ Err name → whole m ≡ Err name
+  pub next : (m : Contents) → known ≡ Some m → (name : List ℕ) → IsReadNext names m name → IsReadNext all m name
 
-part_fault : (told seen : Option Contents) (reads all : Contents → List (List ℕ)) (start old new : ℕ) (last : Option (List ℕ)) (name : List ℕ) → seen ≡ told → old ≡ start
-    → ((m : Contents) → told ≡ Some m → IsReadNext (reads m) m name → IsReadNext (all m) m name) → IsFault seen reads old new last name → IsFault told all start new last name
-part_fault told seen reads all start old new last name same from next f = record {
+part_fault : (known seen : Option Contents) (reads all : Contents → List (List ℕ)) (start old new : ℕ) (last : Option (List ℕ)) (name : List ℕ) → seen ≡ known → old ≡ start
+    → ((m : Contents) → known ≡ Some m → IsReadNext (reads m) m name → IsReadNext (all m) m name) → IsFault seen reads old new last name → IsFault known all start new last name
+part_fault known seen reads all start old new last name same from next f = record {
   counted = subst (λ (x : ℕ). Rose x new) from f.counted;
   named = f.named;
   next = λ m e. next m e (f.next m (same ∙ e));
 }
 
 -- where a part can't be read, the whole can't either, for the same reason
-pub unread_in : {A B : Type 0} (told seen : Option Contents) (names all : List (List ℕ)) (part : Contents → Result A (List ℕ)) (whole : Contents → Result B (List ℕ)) (start old new : ℕ) (last : Option (List ℕ)) (h : Halt)
-    → seen ≡ told → old ≡ start → IsPart told names all part whole → Unread seen names part old new last h → Unread told all whole start new last h
-unread_in told seen names all part whole start old new last (Halt.Refused why text) same from p u = (
+pub unread_in : {A B : Type 0} (known seen : Option Contents) (names all : List (List ℕ)) (part : Contents → Result A (List ℕ)) (whole : Contents → Result B (List ℕ)) (start old new : ℕ) (last : Option (List ℕ)) (h : Halt)
+    → seen ≡ known → old ≡ start → IsPart known names all part whole → Unread seen names part old new last h → Unread known all whole start new last h
+unread_in known seen names all part whole start old new last (Halt.Refused why text) same from p u = (
   u.0,
   (u.1.0, u.1.1, (λ m e. p.absent m e u.1.0 (u.1.2 m (same ∙ e)))),
   (λ m e. u.2 m (same ∙ e) ∙ from),
   (λ e. subst (λ (x : ℕ). Rose x new) from (u.3 (same ∙ e))),
 )
-unread_in told seen names all part whole start old new last (Halt.Fault text) same from p u =
-    (u.0, u.1, part_fault told seen (λ _. names) (λ _. all) start old new last u.0 same from (λ m e. p.next m e u.0) u.2)
-unread_in told seen names all part whole start old new last Halt.OutOfMemory same from p (inl steady) = inl (λ m e. steady m (same ∙ e) ∙ from)
-unread_in told seen names all part whole start old new last Halt.OutOfMemory same from p (inr (name, f)) =
-    inr (name, part_fault told seen (λ _. names) (λ _. all) start old new last name same from (λ m e. p.next m e name) f)
+unread_in known seen names all part whole start old new last (Halt.Fault text) same from p u =
+    (u.0, u.1, part_fault known seen (λ _. names) (λ _. all) start old new last u.0 same from (λ m e. p.next m e u.0) u.2)
+unread_in known seen names all part whole start old new last Halt.OutOfMemory same from p (inl steady) = inl (λ m e. steady m (same ∙ e) ∙ from)
+unread_in known seen names all part whole start old new last Halt.OutOfMemory same from p (inr (name, f)) =
+    inr (name, part_fault known seen (λ _. names) (λ _. all) start old new last name same from (λ m e. p.next m e name) f)
 
 -- ---- the command
 
 -- a file that could not be read stops the stage that begins with reading it, where its turns are turns there
-pub unread_halts : {A B : Type 0} (told : Option Contents) (names : List (List ℕ)) (reads : Contents → List (List ℕ)) (part : Contents → Result A (List ℕ)) (next : Contents → A → Result B Refused) (old new : ℕ) (last : Option (List ℕ)) (h : Halt)
-    → ((m : Contents) (name : List ℕ) → told ≡ Some m → IsReadNext names m name → IsReadNext (reads m) m name)
-    → Unread told names part old new last h → Halts told (λ m. refusing absent (part m) >> next m) reads old new last h
-unread_halts told names reads part next old new last (Halt.Refused why text) turns u = (
+pub unread_halts : {A B : Type 0} (known : Option Contents) (names : List (List ℕ)) (reads : Contents → List (List ℕ)) (part : Contents → Result A (List ℕ)) (next : Contents → A → Result B Refused) (old new : ℕ) (last : Option (List ℕ)) (h : Halt)
+    → ((m : Contents) (name : List ℕ) → known ≡ Some m → IsReadNext names m name → IsReadNext (reads m) m name)
+    → Unread known names part old new last h → Halts known (λ m. refusing absent (part m) >> next m) reads old new last h
+unread_halts known names reads part next old new last (Halt.Refused why text) turns u = (
   (λ m e.
       ap (λ o. refusing absent o >> next m) (u.1.2 m e)
       ∙ (λ i. Err (record { why = sym u.0 i; line = sym u.1.1 i }))),
@@ -67,33 +67,33 @@ unread_halts told names reads part next old new last (Halt.Refused why text) tur
   (λ other. absurd (other u.0)),
   (λ e _. u.3 e),
 )
-unread_halts told names reads part next old new last (Halt.Fault text) turns u = (u.0, u.1, part_fault told told (λ _. names) reads old old new last u.0 refl refl (λ m e. turns m u.0 e) u.2)
-unread_halts told names reads part next old new last Halt.OutOfMemory turns (inl steady) = inl steady
-unread_halts told names reads part next old new last Halt.OutOfMemory turns (inr (name, f)) = inr (name, part_fault told told (λ _. names) reads old old new last name refl refl (λ m e. turns m name e) f)
+unread_halts known names reads part next old new last (Halt.Fault text) turns u = (u.0, u.1, part_fault known known (λ _. names) reads old old new last u.0 refl refl (λ m e. turns m u.0 e) u.2)
+unread_halts known names reads part next old new last Halt.OutOfMemory turns (inl steady) = inl steady
+unread_halts known names reads part next old new last Halt.OutOfMemory turns (inr (name, f)) = inr (name, part_fault known known (λ _. names) reads old old new last name refl refl (λ m e. turns m name e) f)
 
 -- a stop of the stage is one of the whole, after what gave no stop
-pub halts_in : {A B : Type 0} (told seen : Option Contents) (stage : Contents → Result A Refused) (whole : Contents → Result B Refused) (reads all : Contents → List (List ℕ)) (start old new : ℕ) (last : Option (List ℕ)) (h : Halt)
-    → seen ≡ told → old ≡ start → ((m : Contents) → told ≡ Some m → (r : Refused) → stage m ≡ Err r → whole m ≡ Err r)
-    → ((m : Contents) (name : List ℕ) → told ≡ Some m → IsReadNext (reads m) m name → IsReadNext (all m) m name)
-    → Halts seen stage reads old new last h → Halts told whole all start new last h
-halts_in told seen stage whole reads all start old new last (Halt.Refused why text) same from errs turns u = (
+pub halts_in : {A B : Type 0} (known seen : Option Contents) (stage : Contents → Result A Refused) (whole : Contents → Result B Refused) (reads all : Contents → List (List ℕ)) (start old new : ℕ) (last : Option (List ℕ)) (h : Halt)
+    → seen ≡ known → old ≡ start → ((m : Contents) → known ≡ Some m → (r : Refused) → stage m ≡ Err r → whole m ≡ Err r)
+    → ((m : Contents) (name : List ℕ) → known ≡ Some m → IsReadNext (reads m) m name → IsReadNext (all m) m name)
+    → Halts seen stage reads old new last h → Halts known whole all start new last h
+halts_in known seen stage whole reads all start old new last (Halt.Refused why text) same from errs turns u = (
   (λ m e. errs m e _ (u.0 m (same ∙ e))),
   (λ m e. u.1 m (same ∙ e) ∙ from),
   (λ other. u.2 other ∙ from),
   (λ e a. subst (λ (x : ℕ). Rose x new) from (u.3 (same ∙ e) a)),
 )
-halts_in told seen stage whole reads all start old new last (Halt.Fault text) same from errs turns u =
-    (u.0, u.1, part_fault told seen reads all start old new last u.0 same from (λ m e. turns m u.0 e) u.2)
-halts_in told seen stage whole reads all start old new last Halt.OutOfMemory same from errs turns (inl steady) = inl (λ m e. steady m (same ∙ e) ∙ from)
-halts_in told seen stage whole reads all start old new last Halt.OutOfMemory same from errs turns (inr (name, f)) =
-    inr (name, part_fault told seen reads all start old new last name same from (λ m e. turns m name e) f)
+halts_in known seen stage whole reads all start old new last (Halt.Fault text) same from errs turns u =
+    (u.0, u.1, part_fault known seen reads all start old new last u.0 same from (λ m e. turns m u.0 e) u.2)
+halts_in known seen stage whole reads all start old new last Halt.OutOfMemory same from errs turns (inl steady) = inl (λ m e. steady m (same ∙ e) ∙ from)
+halts_in known seen stage whole reads all start old new last Halt.OutOfMemory same from errs turns (inr (name, f)) =
+    inr (name, part_fault known seen reads all start old new last name same from (λ m e. turns m name e) f)
 
 -- what is refused once the files are read stops the whole
-pub refused_halts : {A B : Type 0} (told : Option Contents) (stage : Result A Refused) (whole : Contents → Result B Refused) (reads : Contents → List (List ℕ)) (old new : ℕ) (last : Option (List ℕ)) (h : Halt)
-    → ((m : Contents) → told ≡ Some m → (r : Refused) → stage ≡ Err r → whole m ≡ Err r) → new ≡ old → Refuses stage h → Halts told whole reads old new last h
-refused_halts told stage whole reads old new last (Halt.Refused why text) errs steady u = ((λ m e. errs m e _ u.0), (λ m e. steady), (λ other. steady), (λ e a. absurd (u.1 a)))
-refused_halts told stage whole reads old new last (Halt.Fault text) errs steady u = absurd u
-refused_halts told stage whole reads old new last Halt.OutOfMemory errs steady u = inl (λ m e. steady)
+pub refused_halts : {A B : Type 0} (known : Option Contents) (stage : Result A Refused) (whole : Contents → Result B Refused) (reads : Contents → List (List ℕ)) (old new : ℕ) (last : Option (List ℕ)) (h : Halt)
+    → ((m : Contents) → known ≡ Some m → (r : Refused) → stage ≡ Err r → whole m ≡ Err r) → new ≡ old → Refuses stage h → Halts known whole reads old new last h
+refused_halts known stage whole reads old new last (Halt.Refused why text) errs steady u = ((λ m e. errs m e _ u.0), (λ m e. steady), (λ other. steady), (λ e a. absurd (u.1 a)))
+refused_halts known stage whole reads old new last (Halt.Fault text) errs steady u = absurd u
+refused_halts known stage whole reads old new last Halt.OutOfMemory errs steady u = inl (λ m e. steady)
 
 -- a stage that is refused stops the stages after it
 pub refuses_in : {A B : Type 0} (stage : Result A Refused) (whole : Result B Refused) (h : Halt) → ((r : Refused) → stage ≡ Err r → whole ≡ Err r) → Refuses stage h → Refuses whole h
@@ -102,10 +102,10 @@ refuses_in stage whole (Halt.Fault text) errs u = absurd u
 refuses_in stage whole Halt.OutOfMemory errs u = tt
 
 -- files that could not be read are no usage
-pub unread_not_usage : {A : Type 0} (told : Option Contents) (names : List (List ℕ)) (part : Contents → Result A (List ℕ)) (old new : ℕ) (last : Option (List ℕ)) (h : Halt) → Unread told names part old new last h → IsNotUsage h
-unread_not_usage told names part old new last (Halt.Refused why text) u = λ e. absurd (cc)
-unread_not_usage told names part old new last (Halt.Fault text) u = tt
-unread_not_usage told names part old new last Halt.OutOfMemory u = tt
+pub unread_not_usage : {A : Type 0} (known : Option Contents) (names : List (List ℕ)) (part : Contents → Result A (List ℕ)) (old new : ℕ) (last : Option (List ℕ)) (h : Halt) → Unread known names part old new last h → IsNotUsage h
+unread_not_usage known names part old new last (Halt.Refused why text) u = λ e. absurd (cc)
+unread_not_usage known names part old new last (Halt.Fault text) u = tt
+unread_not_usage known names part old new last Halt.OutOfMemory u = tt
 
 -- ---- what is there, once a part is read
 

@@ -17,34 +17,34 @@ HaltsAt name error (Halt.Refused why text) = (error ≡ FileError.Absent) × (wh
 HaltsAt name error (Halt.Fault text) = (error ≡ FileError.Failed) × (text.items ≡ fault_line name)
 HaltsAt name error Halt.OutOfMemory = Unit {0}
 
--- where contents are told, the count is as it was
-abbrev pub IsSteady : (told : Option Contents) → (old new : ℕ) → Type 0
-IsSteady told old new = (m : Contents) → told ≡ Some m → new ≡ old
+-- where contents are known, the count is as it was
+abbrev pub IsSteady : (known : Option Contents) → (old new : ℕ) → Type 0
+IsSteady known old new = (m : Contents) → known ≡ Some m → new ≡ old
 
 -- the read of that name failed, when it was its turn
-pub record IsFault (told : Option Contents) (reads : Contents → List (List ℕ)) (old new : ℕ) (last : Option (List ℕ)) (name : List ℕ) : Type 0 where
+pub record IsFault (known : Option Contents) (reads : Contents → List (List ℕ)) (old new : ℕ) (last : Option (List ℕ)) (name : List ℕ) : Type 0 where
   pub counted : Rose old new
   pub named : IsLast last name
-  pub next : (m : Contents) → told ≡ Some m → IsReadNext (reads m) m name
+  pub next : (m : Contents) → known ≡ Some m → IsReadNext (reads m) m name
 
 -- memory ran out, and no file failed, or it ran out over the line on one that did
-abbrev pub IsStarved : (told : Option Contents) → (reads : Contents → List (List ℕ)) → (old new : ℕ) → (last : Option (List ℕ)) → Type 0
-IsStarved told reads old new last = IsSteady told old new ⊎ ((name : List ℕ) × IsFault told reads old new last name)
+abbrev pub IsStarved : (known : Option Contents) → (reads : Contents → List (List ℕ)) → (old new : ℕ) → (last : Option (List ℕ)) → Type 0
+IsStarved known reads old new last = IsSteady known old new ⊎ ((name : List ℕ) × IsFault known reads old new last name)
 
 -- of files that are read in the order of these names, one could not be read, and so there is no such part: it is absent, the
 -- first that is, or failed
-abbrev pub Unread : {A : Type 0} → (told : Option Contents) → (names : List (List ℕ)) → (part : Contents → Result A (List ℕ)) → (old new : ℕ) → (last : Option (List ℕ)) → Halt → Type 0
-Unread told names part old new last (Halt.Refused why text) =
-    (why ≡ Refusal.Absent) × ((name : List ℕ) × (text.items ≡ absent_line name) × ((m : Contents) → told ≡ Some m → part m ≡ Err name)) × IsSteady told old new × (told ≡ None → Rose old new)
-Unread told names part old new last (Halt.Fault text) = (name : List ℕ) × (text.items ≡ fault_line name) × IsFault told (λ _. names) old new last name
-Unread told names part old new last Halt.OutOfMemory = IsStarved told (λ _. names) old new last
+abbrev pub Unread : {A : Type 0} → (known : Option Contents) → (names : List (List ℕ)) → (part : Contents → Result A (List ℕ)) → (old new : ℕ) → (last : Option (List ℕ)) → Halt → Type 0
+Unread known names part old new last (Halt.Refused why text) =
+    (why ≡ Refusal.Absent) × ((name : List ℕ) × (text.items ≡ absent_line name) × ((m : Contents) → known ≡ Some m → part m ≡ Err name)) × IsSteady known old new × (known ≡ None → Rose old new)
+Unread known names part old new last (Halt.Fault text) = (name : List ℕ) × (text.items ≡ fault_line name) × IsFault known (λ _. names) old new last name
+Unread known names part old new last Halt.OutOfMemory = IsStarved known (λ _. names) old new last
 
 -- there is no such stage over the contents, for what is refused, or one of the files that it reads failed
-abbrev pub Halts : {A : Type 0} → (told : Option Contents) → (stage : Contents → Result A Refused) → (reads : Contents → List (List ℕ)) → (old new : ℕ) → (last : Option (List ℕ)) → Halt → Type 0
-Halts told stage reads old new last (Halt.Refused why text) =
-    ((m : Contents) → told ≡ Some m → stage m ≡ Err (record { why = why; line = text.items })) × IsSteady told old new × (why ≢ Refusal.Absent → new ≡ old) × (told ≡ None → why ≡ Refusal.Absent → Rose old new)
-Halts told stage reads old new last (Halt.Fault text) = (name : List ℕ) × (text.items ≡ fault_line name) × IsFault told reads old new last name
-Halts told stage reads old new last Halt.OutOfMemory = IsStarved told reads old new last
+abbrev pub Halts : {A : Type 0} → (known : Option Contents) → (stage : Contents → Result A Refused) → (reads : Contents → List (List ℕ)) → (old new : ℕ) → (last : Option (List ℕ)) → Halt → Type 0
+Halts known stage reads old new last (Halt.Refused why text) =
+    ((m : Contents) → known ≡ Some m → stage m ≡ Err (record { why = why; line = text.items })) × IsSteady known old new × (why ≢ Refusal.Absent → new ≡ old) × (known ≡ None → why ≡ Refusal.Absent → Rose old new)
+Halts known stage reads old new last (Halt.Fault text) = (name : List ℕ) × (text.items ≡ fault_line name) × IsFault known reads old new last name
+Halts known stage reads old new last Halt.OutOfMemory = IsStarved known reads old new last
 
 -- no file is read, and what is refused is neither the words nor a file that is absent
 abbrev pub Refuses : {A : Type 0} → (stage : Result A Refused) → Halt → Type 0

@@ -18,12 +18,12 @@ use std::alloc::Global;
 /// The files that the plan has read: the script, the input, and of each sphere its image and its log.
 pub fn read_inputs<F: Files>(alloc: Global, files: &mut F, plan: &Plan) -> Result<Inputs, Halt>
     requires { IsPlan (plan_view plan.now) }
-    ensures read { IfOk result (λ r. (m : Contents) → F.told files.old ≡ Some m
+    ensures read { IfOk result (λ r. (m : Contents) → F.known files.old ≡ Some m
         → plan_read m (plan_view plan.now) ≡ Ok (inputs_view r)) }
     ensures limits { IfOk result (λ r. AreOf (plan_view plan.now) (inputs_view r)) }
-    ensures halt { IfErr result (Unread (F.told files.old) (input_names (plan_view plan.now))
+    ensures halt { IfErr result (Unread (F.known files.old) (input_names (plan_view plan.now))
         (λ m. plan_read m (plan_view plan.now)) (F.count files.old) (F.count files.new) (F.last_fault files.new)) }
-    ensures kept { F.told files.new ≡ F.told files.old }
+    ensures kept { F.known files.new ≡ F.known files.old }
     ensures steady { OnOk result (F.count files.new ≡ F.count files.old) }
 {
     let schedule = match read_schedule(alloc, files, &plan.schedule) {
@@ -51,12 +51,12 @@ fn read_schedule<F: Files>(
     schedule: &Schedule,
 ) -> Result<ScheduleInputs, Halt>
     requires { IsSchedule (schedule_view schedule.now) }
-    ensures read { IfOk result (λ s. (m : Contents) → F.told files.old ≡ Some m
+    ensures read { IfOk result (λ s. (m : Contents) → F.known files.old ≡ Some m
         → schedule_read m (schedule_view schedule.now) ≡ Ok (schedule_inputs s)) }
     ensures few { IfOk result (λ s. IsScheduleRead (schedule_inputs s)) }
-    ensures halt { IfErr result (Unread (F.told files.old) (read_for_schedule (schedule_view schedule.now))
+    ensures halt { IfErr result (Unread (F.known files.old) (read_for_schedule (schedule_view schedule.now))
         (λ m. schedule_read m (schedule_view schedule.now)) (F.count files.old) (F.count files.new) (F.last_fault files.new)) }
-    ensures kept { F.told files.new ≡ F.told files.old }
+    ensures kept { F.known files.new ≡ F.known files.old }
     ensures steady { OnOk result (F.count files.new ≡ F.count files.old) }
 {
     match schedule {
@@ -73,11 +73,11 @@ fn read_input<F: Files>(
     files: &mut F,
     name: &Option<String>,
 ) -> Result<Vec<u8>, Halt>
-    ensures read { IfOk result (λ bytes. (m : Contents) → F.told files.old ≡ Some m
+    ensures read { IfOk result (λ bytes. (m : Contents) → F.known files.old ≡ Some m
         → input_read m (option_map string_bytes name.now) ≡ Ok bytes.items) }
-    ensures halt { IfErr result (Unread (F.told files.old) (option_to_list (option_map string_bytes name.now))
+    ensures halt { IfErr result (Unread (F.known files.old) (option_to_list (option_map string_bytes name.now))
         (λ m. input_read m (option_map string_bytes name.now)) (F.count files.old) (F.count files.new) (F.last_fault files.new)) }
-    ensures kept { F.told files.new ≡ F.told files.old }
+    ensures kept { F.known files.new ≡ F.known files.old }
     ensures steady { OnOk result (F.count files.new ≡ F.count files.old) }
 {
     match name {
@@ -95,13 +95,13 @@ fn read_spheres<F: Files>(
     spheres: &[Sphere],
 ) -> Result<Vec<SphereInputs>, Halt>
     requires { AreMemories (map sphere_view spheres.now) }
-    ensures read { IfOk result (λ ss. (m : Contents) → F.told files.old ≡ Some m
+    ensures read { IfOk result (λ ss. (m : Contents) → F.known files.old ≡ Some m
         → spheres_read m (map sphere_view spheres.now) ≡ Ok (map sphere_inputs ss.items)) }
     ensures count { IfOk result (λ ss. length ss.items ≡ length spheres.now) }
     ensures memories { IfOk result (λ ss. HaveMemories (map sphere_inputs ss.items)) }
-    ensures halt { IfErr result (Unread (F.told files.old) (flat_map read_for_sphere (map sphere_view spheres.now))
+    ensures halt { IfErr result (Unread (F.known files.old) (flat_map read_for_sphere (map sphere_view spheres.now))
         (λ m. spheres_read m (map sphere_view spheres.now)) (F.count files.old) (F.count files.new) (F.last_fault files.new)) }
-    ensures kept { F.told files.new ≡ F.told files.old }
+    ensures kept { F.known files.new ≡ F.known files.old }
     ensures steady { OnOk result (F.count files.new ≡ F.count files.old) }
 {
     let mut read = Vec::new(alloc);
@@ -123,12 +123,12 @@ fn read_sphere<F: Files>(
     files: &mut F,
     sphere: &Sphere,
 ) -> Result<SphereInputs, Halt>
-    ensures read { IfOk result (λ s. (m : Contents) → F.told files.old ≡ Some m
+    ensures read { IfOk result (λ s. (m : Contents) → F.known files.old ≡ Some m
         → sphere_read m (sphere_view sphere.now) ≡ Ok (sphere_inputs s)) }
     ensures memory { IfOk result (λ s. s.memory ≡ sphere.now.memory) }
-    ensures halt { IfErr result (Unread (F.told files.old) (read_for_sphere (sphere_view sphere.now))
+    ensures halt { IfErr result (Unread (F.known files.old) (read_for_sphere (sphere_view sphere.now))
         (λ m. sphere_read m (sphere_view sphere.now)) (F.count files.old) (F.count files.new) (F.last_fault files.new)) }
-    ensures kept { F.told files.new ≡ F.told files.old }
+    ensures kept { F.known files.new ≡ F.known files.old }
     ensures steady { OnOk result (F.count files.new ≡ F.count files.old) }
 {
     let image = match read_file(alloc, files, sphere.image.as_str()) {
@@ -147,11 +147,11 @@ fn read_sphere<F: Files>(
 }
 
 fn read_role<F: Files>(alloc: Global, files: &mut F, role: &Role) -> Result<RoleInputs, Halt>
-    ensures read { IfOk result (λ r. (m : Contents) → F.told files.old ≡ Some m
+    ensures read { IfOk result (λ r. (m : Contents) → F.known files.old ≡ Some m
         → role_read m (role_view role.now) ≡ Ok (role_inputs r)) }
-    ensures halt { IfErr result (Unread (F.told files.old) (read_for_role (role_view role.now))
+    ensures halt { IfErr result (Unread (F.known files.old) (read_for_role (role_view role.now))
         (λ m. role_read m (role_view role.now)) (F.count files.old) (F.count files.new) (F.last_fault files.new)) }
-    ensures kept { F.told files.new ≡ F.told files.old }
+    ensures kept { F.known files.new ≡ F.known files.old }
     ensures steady { OnOk result (F.count files.new ≡ F.count files.old) }
 {
     match role {

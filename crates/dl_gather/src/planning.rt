@@ -16,13 +16,13 @@ use std::alloc::Global;
 
 /// The plan in the file `name`.
 pub fn load_plan<F: Files>(alloc: Global, files: &mut F, name: &str) -> Result<Plan, Halt>
-    ensures plan { IfOk result (λ p. (m : Contents) → F.told files.old ≡ Some m
+    ensures plan { IfOk result (λ p. (m : Contents) → F.known files.old ≡ Some m
         → plan_at m name.now ≡ Ok (plan_view p)) }
     ensures limits { IfOk result (λ p. IsPlan (plan_view p)) }
-    ensures halt { IfErr result (Halts (F.told files.old) (λ m. plan_at m name.now)
+    ensures halt { IfErr result (Halts (F.known files.old) (λ m. plan_at m name.now)
         (λ m. name.now ∷ inputs_of (plan_at m name.now)) (F.count files.old) (F.count files.new) (F.last_fault files.new)) }
     ensures usage { IfErr result IsNotUsage }
-    ensures kept { F.told files.new ≡ F.told files.old }
+    ensures kept { F.known files.new ≡ F.known files.old }
     ensures steady { OnOk result (F.count files.new ≡ F.count files.old) }
 {
     let bytes = match read_file(alloc, files, name) {

@@ -14,11 +14,11 @@ use std::alloc::Global;
 
 /// The bytes of the file `name`.
 pub fn read_file<F: Files>(alloc: Global, files: &mut F, name: &str) -> Result<Vec<u8>, Halt>
-    ensures bytes { IfOk result (λ bytes. (m : Contents) → F.told files.old ≡ Some m
+    ensures bytes { IfOk result (λ bytes. (m : Contents) → F.known files.old ≡ Some m
         → read_at m name.now ≡ Ok bytes.items) }
-    ensures halt { IfErr result (Unread (F.told files.old) (name.now ∷ []) (λ m. read_at m name.now)
+    ensures halt { IfErr result (Unread (F.known files.old) (name.now ∷ []) (λ m. read_at m name.now)
         (F.count files.old) (F.count files.new) (F.last_fault files.new)) }
-    ensures kept { F.told files.new ≡ F.told files.old }
+    ensures kept { F.known files.new ≡ F.known files.old }
     ensures steady { OnOk result (F.count files.new ≡ F.count files.old) }
 {
     match files.read(alloc, name) {
@@ -29,11 +29,11 @@ pub fn read_file<F: Files>(alloc: Global, files: &mut F, name: &str) -> Result<V
 
 /// What the file `name` says as a log. It is read piece after piece, and nothing behind a field that isn't good.
 pub fn read_log<F: Files>(alloc: Global, files: &mut F, name: &str) -> Result<LogRead, Halt>
-    ensures read { IfOk result (λ r. (m : Contents) → F.told files.old ≡ Some m
+    ensures read { IfOk result (λ r. (m : Contents) → F.known files.old ≡ Some m
         → log_at m name.now ≡ Ok (read_view r)) }
-    ensures halt { IfErr result (Unread (F.told files.old) (name.now ∷ []) (λ m. log_at m name.now)
+    ensures halt { IfErr result (Unread (F.known files.old) (name.now ∷ []) (λ m. log_at m name.now)
         (F.count files.old) (F.count files.new) (F.last_fault files.new)) }
-    ensures kept { F.told files.new ≡ F.told files.old }
+    ensures kept { F.known files.new ≡ F.known files.old }
     ensures steady { OnOk result (F.count files.new ≡ F.count files.old) }
 {
     match read_log_file(alloc, files, name) {

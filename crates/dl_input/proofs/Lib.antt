@@ -1,2 +1,2 @@
-pub mod HeldLists
+pub mod TrackedLists
 mod Slots

@@ -1,3 +1,3 @@
 pub mod Dmas
-pub mod Held
+pub mod Tracked
 pub mod Inputs

@@ -1,7 +1,7 @@
 //! Interrupts by thread and index.
 ghost use Rattle.std.specs.Prelude.{◌≡◌, ◌^◌, ◌<◌, ◌≤◌, ◌++◌, [], None, length, map, option_map, slice_get, IfOk, IsOk, IsTrue, OnOk, OnErr};
 ghost use Rattle.std.specs.List.{list_all};
-ghost use Rattle.dl_input.specs.Held.{held_of, new_held, raised_at, insert_held, interrupt_of, taken_at};
+ghost use Rattle.dl_input.specs.Tracked.{tracked_of, new_tracked, raised_at, insert_tracked, interrupt_of, taken_at};
 
 use dl_entry::{OutOfMemory, Sequence};
 use dl_moments::{Mark, Moments};
@@ -26,16 +26,16 @@ pub struct Interrupts {
 
 impl Model for Interrupts {
     ghost use Rattle.std.specs.Prelude.{◌≡◌, ◌-◌, ◌^◌, nat_lt, ◌&&◌, length};
-    ghost use Rattle.dl_input.specs.Held.{Noted, held_from};
+    ghost use Rattle.dl_input.specs.Tracked.{Noted, tracked_from};
 
     ghost Value = { Noted };
 
     ghost view = { λ i. record {
-      entries = held_from 0 i.moments.lanes;
+      entries = tracked_from 0 i.moments.lanes;
       room = i.moments.room && nat_lt i.count (2 ^ 32 - 1);
     } };
 
-    ghost invariant = { λ i. (length i.moments.lanes ≡ 15) × (i.count ≡ length (held_from 0 i.moments.lanes)) };
+    ghost invariant = { λ i. (length i.moments.lanes ≡ 15) × (i.count ≡ length (tracked_from 0 i.moments.lanes)) };
 }
 
 impl Interrupts {
@@ -65,7 +65,7 @@ impl Interrupts {
     pub fn note(&mut self, thread: u8, index: u32, value: u32) -> Result<(), OutOfMemory>
         requires thread { thread ≤ 14 }
         requires fresh { raised_at self.old.entries thread index ≡ None }
-        ensures ok { OnOk result (self.new.entries ≡ insert_held (new_held thread index value) self.old.entries) }
+        ensures ok { OnOk result (self.new.entries ≡ insert_tracked (new_tracked thread index value) self.old.entries) }
         ensures err { OnErr result (self.new.entries ≡ self.old.entries) }
         ensures few { length self.new.entries < 2 ^ 32 }
         ensures room { IsTrue self.old.room → IsOk result }
@@ -150,7 +150,7 @@ impl Interrupts {
 }
 
 fn seen(thread: u8, mark: &Mark<Raised>) -> Interrupt
-    ensures { result ≡ interrupt_of (held_of thread mark.now) }
+    ensures { result ≡ interrupt_of (tracked_of thread mark.now) }
 {
     Interrupt {
         thread,
@@ -175,7 +175,7 @@ fn add_lane(
     thread: u8,
     lane: &[Mark<Raised>],
 ) -> Result<(), OutOfMemory>
-    ensures { OnOk result (list.new ≡ list.old ++ map interrupt_of (map (held_of thread) lane.now)) }
+    ensures { OnOk result (list.new ≡ list.old ++ map interrupt_of (map (tracked_of thread) lane.now)) }
 {
     for mark in lane {
         list.push(seen(thread, mark))?;

@@ -24,9 +24,9 @@ by-fetch true None d none = none
 by-fetch true (Some kind) d none = refl
 by-fetch false refused d none = refl
 
-kind-told : (m : List ℕ) (t : Parts) → serial_kind (did (sight_of m) t) ≡ next_kind t m
+serial_kind-next : (m : List ℕ) (t : Parts) → serial_kind (did (sight_of m) t) ≡ next_kind t m
 unfolding next_kind serial_of
-kind-told m t =
+serial_kind-next m t =
     let s = sight_of m in
     let f = fetched t m in
     by-fetch (is_inside (length m) t.pc) (refuses (length m) (operation_of t f))
@@ -35,7 +35,7 @@ kind-told m t =
 
 -- what an instruction over the memory is found to be is what the thread's next step is
 pub kind_found : (m : List ℕ) (t : Parts) (d : Did) → d ≡ did (sight_of m) t → serial_kind d ≡ next_kind t m
-kind_found m t d is = ap serial_kind is ∙ kind-told m t
+kind_found m t d is = ap serial_kind is ∙ serial_kind-next m t
 
 inside-by : (inside : Bool) (refused : Option Kind) → cond inside refused (Some (Kind.Fault 1)) ≡ Some Kind.DeviceLoad → inside ≡ true
 inside-by true refused is = refl

@@ -2,4 +2,4 @@ pub mod Calls
 pub mod Peeks
 pub mod Wants
 pub mod Outside
-pub mod Served
+pub mod StepResults

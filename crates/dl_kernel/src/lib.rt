@@ -21,4 +21,4 @@ pub use dl_thread::{Thread, Threads};
 pub use inside::sphere_call;
 pub use outside::{outside_call, outside_record, outside_take};
 pub use record::{Injected, inject, wants_record};
-pub use serving::{Served, Step, serve};
+pub use serving::{Step, StepResult, serve};

@@ -1,7 +1,7 @@
 //! Outside calls and device loads.
 ghost use Rattle.std.specs.Prelude.{◌≡◌, ◌≤◌, ℕ, false, length, IfOk, IsOk, OnOk, OnErr};
 ghost use Rattle.spec_kernel.specs.Needs.{need};
-ghost use Rattle.spec_kernel.specs.Serving.{console_told, bytes_out};
+ghost use Rattle.spec_kernel.specs.Serving.{console_written, bytes_out};
 ghost use Rattle.spec_kernel.specs.Devices.{console_put};
 ghost use Rattle.dl_kernel.specs.Outside.{record_left, devices_left, wants_memory};
 
@@ -60,7 +60,7 @@ pub fn outside_record(
 /// Takes of the devices, or puts there, what the thread's next step does, whatever the moment: what `outside_call` would, or
 /// the byte of a store to the console's word, which is the one output that the step leaves. Where memory is wanting, the
 /// devices are as before.
-#[tactic(auto, unfolding(spec_kernel::specs::Needs::need, spec_kernel::specs::Serving::console_told))]
+#[tactic(auto, unfolding(spec_kernel::specs::Needs::need, spec_kernel::specs::Serving::console_written))]
 pub fn outside_take(
     thread: &Thread,
     memory: &Memory,
@@ -68,7 +68,7 @@ pub fn outside_take(
     devices: &mut Devices,
 ) -> Result<(), OutOfMemory>
     requires { length outputs.now ≤ 1 }
-    ensures devices { (moment : ℕ) → OnOk result (devices.new ≡ console_told thread.now memory.now outputs.now (devices_left moment devices.old (need thread.now memory.now))) }
+    ensures devices { (moment : ℕ) → OnOk result (devices.new ≡ console_written thread.now memory.now outputs.now (devices_left moment devices.old (need thread.now memory.now))) }
     ensures refused { OnErr result (devices.new ≡ devices.old) }
 {
     match next_kind(thread, memory) {

@@ -7,7 +7,7 @@ ghost use Rattle.spec_kernel.specs.Needs.{need, next_operation};
 ghost use Rattle.spec_kernel.specs.Serving.{serve, serve_kind, inside_called, alone, outside_called, copy_of, output_of, device_loaded, device_stored, faulted};
 ghost use Rattle.spec_kernel.specs.Calls.{called};
 ghost use Rattle.spec_isa.specs.declared.thread.Kind.{Kind};
-ghost use Rattle.dl_kernel.specs.Served.{served_in};
+ghost use Rattle.dl_kernel.specs.StepResults.{result_in};
 ghost use Rattle.dl_kernel.specs.Wants.{wanted, IsIn};
 
 use crate::calls::{Caller, call, with_result};
@@ -38,7 +38,7 @@ pub struct Step<'a> {
 /// What a serial step leaves: its thread, the thread that it spawned, the outstanding DMA request, the words that the kernel
 /// stores for it, and its loads and outputs as accounts tell them.
 #[derive(Drop)]
-pub struct Served {
+pub struct StepResult {
     pub thread: Thread,
     pub made: Option<Thread>,
     pub request: Option<Request>,
@@ -50,10 +50,14 @@ pub struct Served {
 /// Does a serial step apart from the sphere, with the record for what it wants from outside, of at most 4,096 bytes: none
 /// where it wants nothing. Nothing but the result tells of it.
 #[tactic(auto, using(crate::proofs::Causes::device_inside, crate::proofs::Causes::device_stored_inside), unfolding(spec_kernel::specs::Serving::serve))]
-pub fn serve(alloc: Global, step: &Step<'_>, input: Option<&Input>) -> Result<Served, OutOfMemory>
+pub fn serve(
+    alloc: Global,
+    step: &Step<'_>,
+    input: Option<&Input>,
+) -> Result<StepResult, OutOfMemory>
     requires { IfSome input (λ r. length r.now.bytes ≤ 4096) }
     ensures served { let s = step.now in
-        IfOk result (λ a. served_in a ≡ serve s.number s.threads.now s.request s.thread s.memory.now (option_map (λ r. r.now) input.entry)) }
+        IfOk result (λ a. result_in a ≡ serve s.number s.threads.now s.request s.thread s.memory.now (option_map (λ r. r.now) input.entry)) }
     ensures room { IfOk result (λ a. OnSome a.made (length step.now.threads.now < 15)) }
     ensures outputs { IfOk result (λ a. length a.outputs ≤ 1) }
 {
@@ -69,12 +73,12 @@ pub fn serve(alloc: Global, step: &Step<'_>, input: Option<&Input>) -> Result<Se
 }
 
 // The thread, and nothing else.
-fn alone(alloc: Global, request: Option<Request>, thread: Thread) -> Result<Served, OutOfMemory>
-    ensures served { IfOk result (λ a. served_in a ≡ alone request thread) }
+fn alone(alloc: Global, request: Option<Request>, thread: Thread) -> Result<StepResult, OutOfMemory>
+    ensures served { IfOk result (λ a. result_in a ≡ alone request thread) }
     ensures none { IfOk result (λ a. a.made ≡ None) }
     ensures outputs { IfOk result (λ a. length a.outputs ≤ 1) }
 {
-    Ok(Served {
+    Ok(StepResult {
         thread,
         made: None,
         request,
@@ -97,10 +101,14 @@ fn faulted(thread: &Thread, cause: u8) -> Thread
 // ---- calls
 
 // Calls 2 to 5 go outside.
-fn serve_call(alloc: Global, step: &Step<'_>, input: Option<&Input>) -> Result<Served, OutOfMemory>
+fn serve_call(
+    alloc: Global,
+    step: &Step<'_>,
+    input: Option<&Input>,
+) -> Result<StepResult, OutOfMemory>
     requires { IfSome input (λ r. length r.now.bytes ≤ 4096) }
     ensures served { let s = step.now in
-        IfOk result (λ a. served_in a ≡ serve_kind (Some Kind.Call) s.number s.threads.now s.request s.thread s.memory.now (option_map (λ r. r.now) input.entry)) }
+        IfOk result (λ a. result_in a ≡ serve_kind (Some Kind.Call) s.number s.threads.now s.request s.thread s.memory.now (option_map (λ r. r.now) input.entry)) }
     ensures room { IfOk result (λ a. OnSome a.made (length step.now.threads.now < 15)) }
     ensures outputs { IfOk result (λ a. length a.outputs ≤ 1) }
 {
@@ -116,10 +124,10 @@ fn outside_called(
     alloc: Global,
     step: &Step<'_>,
     input: Option<&Input>,
-) -> Result<Served, OutOfMemory>
+) -> Result<StepResult, OutOfMemory>
     requires { IfSome input (λ r. length r.now.bytes ≤ 4096) }
     ensures served { let s = step.now in
-        IfOk result (λ a. served_in a ≡ outside_called (need s.thread s.memory.now) s.request s.thread (option_map (λ r. r.now) input.entry)) }
+        IfOk result (λ a. result_in a ≡ outside_called (need s.thread s.memory.now) s.request s.thread (option_map (λ r. r.now) input.entry)) }
     ensures none { IfOk result (λ a. a.made ≡ None) }
     ensures outputs { IfOk result (λ a. length a.outputs ≤ 1) }
 {
@@ -129,7 +137,7 @@ fn outside_called(
     };
     let mut buffer = [0; 4096];
     let want = need(&step.thread, step.memory, &mut buffer);
-    Ok(Served {
+    Ok(StepResult {
         thread: Thread::from_parts(&with_result(input.result, &step.thread.parts())),
         made: None,
         request: step.request,
@@ -190,9 +198,9 @@ fn one_output(alloc: Global, channel: u32, bytes: &[u8]) -> Result<Outputs, OutO
 }
 
 // A call that the kernel does by itself.
-fn inside_called(alloc: Global, step: &Step<'_>) -> Result<Served, OutOfMemory>
+fn inside_called(alloc: Global, step: &Step<'_>) -> Result<StepResult, OutOfMemory>
     ensures served { let s = step.now in
-        IfOk result (λ a. served_in a ≡ inside_called (called (length s.memory.now) s.number s.threads.now s.request s.thread)) }
+        IfOk result (λ a. result_in a ≡ inside_called (called (length s.memory.now) s.number s.threads.now s.request s.thread)) }
     ensures room { IfOk result (λ a. OnSome a.made (length step.now.threads.now < 15)) }
     ensures outputs { IfOk result (λ a. length a.outputs ≤ 1) }
 {
@@ -201,7 +209,7 @@ fn inside_called(alloc: Global, step: &Step<'_>) -> Result<Served, OutOfMemory>
         thread: step.thread.parts(),
     };
     let called = call(step.memory.size(), step.threads, step.request, &caller);
-    Ok(Served {
+    Ok(StepResult {
         thread: Thread::from_parts(&called.thread),
         made: called.made,
         request: called.request,
@@ -219,10 +227,10 @@ fn device_loaded(
     alloc: Global,
     step: &Step<'_>,
     input: Option<&Input>,
-) -> Result<Served, OutOfMemory>
+) -> Result<StepResult, OutOfMemory>
     requires { is_inside (length step.now.memory.now) step.now.thread.pc ≡ true }
     ensures served { let s = step.now in
-        IfOk result (λ a. served_in a ≡ device_loaded s.request s.thread (next_operation s.thread s.memory.now) (option_map (λ r. r.now) input.entry)) }
+        IfOk result (λ a. result_in a ≡ device_loaded s.request s.thread (next_operation s.thread s.memory.now) (option_map (λ r. r.now) input.entry)) }
     ensures none { IfOk result (λ a. a.made ≡ None) }
     ensures outputs { IfOk result (λ a. length a.outputs ≤ 1) }
 {
@@ -240,9 +248,9 @@ fn loaded_by(
     step: &Step<'_>,
     instr: Instr,
     input: &Input,
-) -> Result<Served, OutOfMemory>
+) -> Result<StepResult, OutOfMemory>
     ensures served { let s = step.now in
-        IfOk result (λ a. served_in a ≡ device_loaded s.request s.thread (operation instr s.thread) (Some input.now)) }
+        IfOk result (λ a. result_in a ≡ device_loaded s.request s.thread (operation instr s.thread) (Some input.now)) }
     ensures none { IfOk result (λ a. a.made ≡ None) }
     ensures outputs { IfOk result (λ a. length a.outputs ≤ 1) }
 {
@@ -282,10 +290,10 @@ fn with_register(thread: &Thread, rd: Reg, value: u32) -> Thread
 
 // A store to the console's word puts out its low byte.
 #[tactic(auto, unfolding(spec_kernel::specs::Needs::next_operation))]
-fn device_stored(alloc: Global, step: &Step<'_>) -> Result<Served, OutOfMemory>
+fn device_stored(alloc: Global, step: &Step<'_>) -> Result<StepResult, OutOfMemory>
     requires { is_inside (length step.now.memory.now) step.now.thread.pc ≡ true }
     ensures served { let s = step.now in
-        IfOk result (λ a. served_in a ≡ device_stored s.request s.thread (next_operation s.thread s.memory.now)) }
+        IfOk result (λ a. result_in a ≡ device_stored s.request s.thread (next_operation s.thread s.memory.now)) }
     ensures none { IfOk result (λ a. a.made ≡ None) }
     ensures outputs { IfOk result (λ a. length a.outputs ≤ 1) }
 {
@@ -295,8 +303,8 @@ fn device_stored(alloc: Global, step: &Step<'_>) -> Result<Served, OutOfMemory>
     }
 }
 
-fn stored_by(alloc: Global, step: &Step<'_>, instr: Instr) -> Result<Served, OutOfMemory>
-    ensures served { IfOk result (λ a. served_in a ≡ device_stored step.now.request step.now.thread (operation instr step.now.thread)) }
+fn stored_by(alloc: Global, step: &Step<'_>, instr: Instr) -> Result<StepResult, OutOfMemory>
+    ensures served { IfOk result (λ a. result_in a ≡ device_stored step.now.request step.now.thread (operation instr step.now.thread)) }
     ensures none { IfOk result (λ a. a.made ≡ None) }
     ensures outputs { IfOk result (λ a. length a.outputs ≤ 1) }
 {

@@ -2,21 +2,21 @@
 use Rattle.std.proofs.Common.{◌≡◌, ℕ, suc, ◌-◌, ◌/◌, ◌%◌, Bool, List, [], ◌∷◌, ◌++◌, length, Some, Result, Ok, Err, slice_get, refl, append_assoc, append-nil, arith}
 use Rattle.std.proofs.lemmas.List.{length_push}
 use Rattle.dl_entry.specs.declared.actor.Actor.{Actor}
-use Rattle.spec_log.specs.Reading.{Fault, Read, Reader, continues, entries, any, field, at_most, actor_of, actors}
+use Rattle.spec_log.specs.Reading.{ParseError, Read, Reader, continues, entries, any, field, at_most, actor_of, actors}
 use Rattle.dl_logbytes.specs.Answer.{last, next_entry}
 
 -- what is read behind a list that was read before
-abbrev pub behind : {X : Type 0} → List X → Result (Read (List X)) Fault → Result (Read (List X)) Fault
+abbrev pub behind : {X : Type 0} → List X → Result (Read (List X)) ParseError → Result (Read (List X)) ParseError
 behind xs (Ok r) = Ok (record { value = xs ++ r.value; after = r.after })
 behind xs (Err fault) = Err fault
 
 -- behind an empty list, what is read is all
-pub behind-nil : {X : Type 0} (r : Result (Read (List X)) Fault) → r ≡ behind [] r
+pub behind-nil : {X : Type 0} (r : Result (Read (List X)) ParseError) → r ≡ behind [] r
 behind-nil (Ok r) = refl
 behind-nil (Err fault) = refl
 
 -- one entry more
-behind-push : {X : Type 0} (xs : List X) (x : X) (r : Result (Read (List X)) Fault)
+behind-push : {X : Type 0} (xs : List X) (x : X) (r : Result (Read (List X)) ParseError)
     → behind xs (continues r (λ ys after. Ok (record { value = x ∷ ys; after = after }))) ≡ behind (xs ++ x ∷ []) r
 behind-push xs x (Ok r) = rw append_assoc refl
 behind-push xs x (Err fault) = refl
@@ -38,7 +38,7 @@ entries-more earlier entry before bytes left n at after x is_left e =
     rw (is_left, e, last-push before x) (behind-push before x (entries earlier entry (Some x) n bytes after))
 
 -- a fault of the next entry is that of all that are left
-pub entries-fault : {X : Type 0} (earlier : X → X → Bool) (entry : Reader X) (before : List X) (bytes : List ℕ) (left n at : ℕ) (fault : Fault)
+pub entries-fault : {X : Type 0} (earlier : X → X → Bool) (entry : Reader X) (before : List X) (bytes : List ℕ) (left n at : ℕ) (fault : ParseError)
     → left ≡ suc n → next_entry earlier entry before bytes at ≡ Err fault
     → behind before (entries earlier entry (last before) left bytes at) ≡ Err fault
 entries-fault earlier entry before bytes left n at fault is_left e = rw (is_left, e) refl
@@ -49,7 +49,7 @@ pub entries-end : {X : Type 0} (earlier : X → X → Bool) (entry : Reader X) (
 entries-end earlier entry before bytes left at is_left = rw (is_left, append-nil before) refl
 
 -- two actors more
-behind-pair : (order : List Actor) (low high : Actor) (r : Result (Read (List Actor)) Fault)
+behind-pair : (order : List Actor) (low high : Actor) (r : Result (Read (List Actor)) ParseError)
     → behind order (continues r (λ rest after. Ok (record { value = low ∷ high ∷ rest; after = after })))
     ≡ behind ((order ++ low ∷ []) ++ high ∷ []) r
 behind-pair order low high (Ok r) = simp append_assoc
@@ -64,7 +64,7 @@ actors-more order bytes left n at byte after is_left e =
     rw (is_left, e) (behind-pair order (actor_of (byte % 16)) (actor_of (byte / 16)) (actors n bytes after))
 
 -- a fault of the next byte is that of all actors left
-pub actors-fault : (order : List Actor) (bytes : List ℕ) (left n at : ℕ) (fault : Fault)
+pub actors-fault : (order : List Actor) (bytes : List ℕ) (left n at : ℕ) (fault : ParseError)
     → left ≡ suc (suc n) → any 1 bytes at ≡ Err fault → behind order (actors left bytes at) ≡ Err fault
 actors-fault order bytes left n at fault is_left e = rw (is_left, e) refl
 
@@ -80,6 +80,6 @@ pub actors-last : (order : List Actor) (bytes : List ℕ) (left at half after : 
 actors-last order bytes left at half after is_left e = rw (is_left, e) refl
 
 -- where one actor is left, a fault of the last byte is that of the order
-pub actors-bad_last : (order : List Actor) (bytes : List ℕ) (left at : ℕ) (fault : Fault)
+pub actors-bad_last : (order : List Actor) (bytes : List ℕ) (left at : ℕ) (fault : ParseError)
     → left ≡ 1 → field 1 (at_most 15) bytes at ≡ Err fault → behind order (actors left bytes at) ≡ Err fault
 actors-bad_last order bytes left at fault is_left e = rw (is_left, e) refl

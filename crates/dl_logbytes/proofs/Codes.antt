@@ -6,7 +6,7 @@ use Rattle.std.proofs.lemmas.List.{drop_at, take_at, take-append-drop, length-ta
 use Rattle.std.proofs.lemmas.List.Elements.{All-nil, All-cons, All-drop, All-take}
 use Rattle.std.specs.Int.{byte_at, bytes_low_first}
 use Rattle.spec_log.specs.Bytes.{little}
-use Rattle.spec_log.specs.Reading.{Fault, Read, Reader, continues, read, gives, raw, passes as judge, number, number_of}
+use Rattle.spec_log.specs.Reading.{ParseError, Read, Reader, continues, read, gives, raw, passes as judge, number, number_of}
 use Rattle.dl_logbytes.proofs.ByteNumbers.{IsByte, length-little, number_of-little, little-number_of, number_of-below}
 
 -- what was read: a good value, whose bytes these are, and the bytes behind it
@@ -35,7 +35,7 @@ Codes-as reader bytes_of as_bytes good as_good codes same to from =
           record { is_good = to x f.is_good; rest = f.rest; split = rw (← same x f.is_good) f.split; here = rw (← same x f.is_good) f.here };
     }
 
-same_ok : {X : Type 0} (r : Result X Fault) (x y : X) → r ≡ Ok x → r ≡ Ok y → x ≡ y
+same_ok : {X : Type 0} (r : Result X ParseError) (x y : X) → r ≡ Ok x → r ≡ Ok y → x ≡ y
 same_ok r x y e f = cc
 
 -- to read nothing is to read the one good value, whose bytes are none
@@ -56,7 +56,7 @@ Codes-gives {X} x good is only =
     }
 
 -- where one reading behind another gave a value, the first gave one too, and the second went on from it
-pub continued : {X Y : Type 0} (r : Result (Read X) Fault) (next : X → ℕ → Result (Read Y) Fault) (y : Read Y)
+pub continued : {X Y : Type 0} (r : Result (Read X) ParseError) (next : X → ℕ → Result (Read Y) ParseError) (y : Read Y)
     → continues r next ≡ Ok y → (x : Read X) × (r ≡ Ok x) × (next x.value x.after ≡ Ok y)
 continued (Ok x) next y e = (x, refl, e)
 continued (Err fault) next y e = cc
@@ -84,7 +84,7 @@ found_as bytes_of good before bytes x after as_good y end f more same there =
     }
 
 -- where the next reader goes on
-found_next : {X Y : Type 0} (next : Reader Y) (bytes_of : X → List ℕ) (good : X → Type 0) (before bytes : List ℕ) (x : X) (middle : ℕ) (result : Result (Read Y) Fault)
+found_next : {X Y : Type 0} (next : Reader Y) (bytes_of : X → List ℕ) (good : X → Type 0) (before bytes : List ℕ) (x : X) (middle : ℕ) (result : Result (Read Y) ParseError)
     (f : Found bytes_of good before bytes x middle)
     → next (before ++ bytes) middle ≡ result → next ((before ++ bytes_of x) ++ f.rest) (length (before ++ bytes_of x)) ≡ result
 found_next next bytes_of good before bytes x middle result f e =
@@ -136,12 +136,12 @@ Codes-read first next part bytes_of good rest_of rest_good codes rests =
     (λ x y g r. ((subst good (sym r.0) g, r.1), rw r.0 refl))
 
 -- a test that is passed
-pub untested : {X : Type 0} (b : Bool) (x y : X) (fault : Fault) → (if b then Err fault else Ok x) ≡ Ok y → (b ≡ false) × (x ≡ y)
+pub untested : {X : Type 0} (b : Bool) (x y : X) (fault : ParseError) → (if b then Err fault else Ok x) ≡ Ok y → (b ≡ false) × (x ≡ y)
 untested true x y fault e = cc
 untested false x y fault e = (refl, same_ok (Ok x) x y refl e)
 
 -- where a test lets a value through, it has passed
-pub tested : {X : Type 0} (b : Bool) (x y : X) (fault : Fault) → (if b then Ok x else Err fault) ≡ Ok y → (b ≡ true) × (x ≡ y)
+pub tested : {X : Type 0} (b : Bool) (x y : X) (fault : ParseError) → (if b then Ok x else Err fault) ≡ Ok y → (b ≡ true) × (x ≡ y)
 tested true x y fault e = (refl, same_ok (Ok x) x y refl e)
 tested false x y fault e = cc
 
@@ -210,7 +210,7 @@ Codes-number width fault passes =
           rw (e, number_of-little width x g.0, g.1) refl;
       finds = λ before bytes x after are e.
           let all = before ++ bytes in
-          let judged : List ℕ → ℕ → Result (Read ℕ) Fault =
+          let judged : List ℕ → ℕ → Result (Read ℕ) ParseError =
           λ (field : List ℕ) (at : ℕ). judge (passes (number_of field)) fault (length before) (number_of field) all at in
           let s = continued (raw width all (length before)) judged (record { value = x; after = after }) e in
           let f = (Codes-raw width).finds before bytes s.0.value s.0.after are s.1 in

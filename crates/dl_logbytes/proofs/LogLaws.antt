@@ -13,7 +13,7 @@ use Rattle.spec_log.specs.declared.sizes.Sizes.{Sizes}
 use Rattle.spec_log.specs.declared.log.LogParts.{LogParts}
 use Rattle.spec_log.specs.Bytes.{u8, u16, u32, little, magic, section, header_bytes, order_bytes, sizes_bytes, interrupt_bytes, input_bytes, dma_bytes, log_bytes}
 use Rattle.spec_log.specs.Log.{ComesBefore, IsChunkSize, IsOrder, IsSizes, IsInterrupt, AreInterrupts, IsInput, AreInputs, IsDmaRecord, AreDmas, IsLog}
-use Rattle.spec_log.specs.Reading.{Fault, Read, Reader, continues, fails, read, gives, number, field, at_most, from_to, is_earlier, order_of, sizes_of, interrupt, interrupts_of, input, inputs_of, dma, dmas_of, mode, mode_of, parts, read_of}
+use Rattle.spec_log.specs.Reading.{ParseError, Read, Reader, continues, fails, read, gives, number, field, at_most, from_to, is_earlier, order_of, sizes_of, interrupt, interrupts_of, input, inputs_of, dma, dmas_of, mode, mode_of, parts, read_of}
 use Rattle.dl_logbytes.proofs.ByteNumbers.{IsByte}
 use Rattle.dl_logbytes.proofs.Codes.{Codes, Codes-as, Codes-read, Codes-gives, Codes-skip, Codes-part, untested}
 use Rattle.dl_logbytes.proofs.EntryLaws.{Codes-field, Codes-interrupt, Codes-input, Codes-dma, Decides-earlier}
@@ -238,7 +238,7 @@ pub parts-good : (bytes : List ℕ) (log : LogParts) (after : ℕ) → All IsByt
     → parts bytes 0 ≡ Ok (record { value = log; after = after }) → IsLog log
 parts-good bytes log after are e = (Codes-log.finds [] bytes log after are e).is_good
 
-ended : (bytes : List ℕ) (r : Result (Read LogParts) Fault) (log : LogParts)
+ended : (bytes : List ℕ) (r : Result (Read LogParts) ParseError) (log : LogParts)
     → continues r (λ log after. if nat_lt after (length bytes) then fails 7 after else Ok log) ≡ Ok log
     → (x : Read LogParts) × (r ≡ Ok x) × (length bytes ≤ x.after) × (x.value ≡ log)
 ended bytes (Ok x) log e =

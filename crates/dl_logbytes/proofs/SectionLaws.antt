@@ -6,7 +6,7 @@ use Rattle.std.proofs.lemmas.List.Elements.{All-from_recursion, recursion_from_A
 use Rattle.std.specs.Bool.{Decides}
 use Rattle.spec_log.specs.Log.{IsSection}
 use Rattle.spec_log.specs.Bytes.{little, section}
-use Rattle.spec_log.specs.Reading.{Fault, Read, Reader, read, gives, any, passes, comes_after, entries, section_of}
+use Rattle.spec_log.specs.Reading.{ParseError, Read, Reader, read, gives, any, passes, comes_after, entries, section_of}
 use Rattle.dl_logbytes.proofs.Codes.{Codes, Codes-as, Codes-read, Codes-then, Codes-gives, Codes-number, continued, tested, found_as}
 
 -- each entry comes after the one before it
@@ -29,7 +29,7 @@ Codes-judged {X} earlier entry bytes_of good last codes =
       reads = λ x g before rest. rw (codes.reads x g.0 before rest, g.1) refl;
       finds = λ before bytes x after are e.
           let all = before ++ bytes in
-          let next : X → ℕ → Result (Read X) Fault = λ (y : X) (at : ℕ). passes (comes_after earlier last y) 6 (length before) y all at in
+          let next : X → ℕ → Result (Read X) ParseError = λ (y : X) (at : ℕ). passes (comes_after earlier last y) 6 (length before) y all at in
           let s = continued (entry all (length before)) next (record { value = x; after = after }) e in
           let f = codes.finds before bytes s.0.value s.0.after are s.1 in
           let t = tested (comes_after earlier last s.0.value) s.0 (record { value = x; after = after }) (record { number = 6; offset = length before }) s.2 in

@@ -3,14 +3,14 @@ use Rattle.std.specs.Prelude.{◌≡◌, ℕ, ◌+◌, ◌*◌, ◌^◌, ◌<◌
 use Rattle.dl_entry.specs.declared.actor.Actor.{Actor}
 use Rattle.spec_log.specs.declared.mode_name.ModeName.TheVariants.{OrderSize}
 use Rattle.spec_log.specs.declared.log.LogParts.{LogParts}
-use Rattle.spec_log.specs.Reading.{Fault, Read, Reader, gives, continues, fails}
+use Rattle.spec_log.specs.Reading.{ParseError, Read, Reader, gives, continues, fails}
 use Rattle.dl_logbytes.specs.declared.error.LogError.{LogError}
 use Rattle.dl_logbytes.specs.declared.error.LogError.TheVariants.{Malformed, OutOfMemory}
 use Rattle.dl_logfmt.specs.declared.stage.Stage.{Stage}
 use Rattle.dl_logfmt.specs.declared.stage.Stage.TheVariants.{Mode, ChunkSize, Count, OrderCount, Order, SizeCount, Sizes as SizesOf, InterruptCount, Interrupts, InputCount, Inputs, DmaCount, Dmas, Nothing}
 use Rattle.dl_logfmt.specs.declared.draft.Draft.{Draft}
 use Rattle.dl_logfmt.specs.declared.mark.Mark.{Mark}
-use Rattle.dl_logfmt.specs.Remaining.{remaining, log_of, more_actors, rank}
+use Rattle.dl_logfmt.specs.Remaining.{remaining, log_of, more_actors, stage_number}
 use Rattle.dl_logfmt.specs.Streams.{Leads, Stops}
 
 -- nothing was read
@@ -82,7 +82,7 @@ widest = 4103
 abbrev pub reach : Draft → ℕ
 reach d =
     widest * (length d.order + length d.each + length d.short + length d.interrupts + length d.inputs + length d.dmas)
-    + 8 * rank d.head.stage
+    + 8 * stage_number d.head.stage
 
 -- a call read on in the bytes, from one draft to another
 pub record Came (bytes : List ℕ) (d : Draft) (at : ℕ) (e : Draft) (after : ℕ) : Type 0 where
@@ -119,7 +119,7 @@ IsSection Nothing = ⊥
 abbrev pub ReadsField : List ℕ → Draft → ℕ → Result (Unit {0}) LogError → Draft → ℕ → Type 0
 ReadsField bytes d at (Ok x) e after =
     Came bytes d at e after
-    × ((rank d.head.stage < rank e.head.stage) ⊎ ((e.head.stage ≡ d.head.stage) × IsSection d.head.stage))
+    × ((stage_number d.head.stage < stage_number e.head.stage) ⊎ ((e.head.stage ≡ d.head.stage) × IsSection d.head.stage))
 ReadsField bytes d at (Err (Malformed number offset)) e after =
     Came bytes d at e after × Stops bytes (remaining e) after (record { number = number; offset = offset })
 ReadsField bytes d at (Err OutOfMemory) e after = Unit {0}
@@ -127,18 +127,18 @@ ReadsField bytes d at (Err OutOfMemory) e after = Unit {0}
 -- a stage is passed where entries come next
 abbrev pub ReadsSection : List ℕ → Draft → ℕ → Result (Unit {0}) LogError → Draft → ℕ → Type 0
 ReadsSection bytes d at (Ok x) e after =
-    Came bytes d at e after × (rank d.head.stage ≤ rank e.head.stage)
-    × (IsSection d.head.stage → rank d.head.stage < rank e.head.stage)
+    Came bytes d at e after × (stage_number d.head.stage ≤ stage_number e.head.stage)
+    × (IsSection d.head.stage → stage_number d.head.stage < stage_number e.head.stage)
 ReadsSection bytes d at (Err (Malformed number offset)) e after =
     Came bytes d at e after × Stops bytes (remaining e) after (record { number = number; offset = offset })
 ReadsSection bytes d at (Err OutOfMemory) e after = Unit {0}
 
 -- a log, behind which nothing follows
-abbrev pub ended : List ℕ → Result (Read LogParts) Fault → Result LogParts Fault
+abbrev pub ended : List ℕ → Result (Read LogParts) ParseError → Result LogParts ParseError
 ended bytes parts = continues parts (λ log after. if nat_lt after (length bytes) then fails 7 after else Ok log)
 
 -- what bytes say that were read to their end: a log if the draft is whole, else they end inside a field
-abbrev pub said_at : Stage → Draft → List ℕ → Result LogParts Fault
+abbrev pub said_at : Stage → Draft → List ℕ → Result LogParts ParseError
 said_at Mode d bytes = fails 1 (length bytes)
 said_at ChunkSize d bytes = fails 1 (length bytes)
 said_at Count d bytes = fails 1 (length bytes)
@@ -155,7 +155,7 @@ said_at (Dmas n) d bytes = fails 1 (length bytes)
 said_at Nothing d bytes = Ok (log_of d)
 
 -- what bytes say of which this draft was read
-abbrev pub said : Draft → List ℕ → Result LogParts Fault
+abbrev pub said : Draft → List ℕ → Result LogParts ParseError
 said d bytes = said_at d.head.stage d bytes
 
 -- a call read on as far as the bytes go, or came to a fault that stays whatever follows

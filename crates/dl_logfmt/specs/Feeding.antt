@@ -1,7 +1,7 @@
 -- A log that is read from its bytes in pieces.
 use Rattle.std.specs.Prelude.{◌≡◌, ℕ, ◌≤◌, ◌==◌, List, ◌++◌, length, Option, Some, None, Result, Ok, Err, if◌then◌else◌}
 use Rattle.spec_log.specs.declared.log.LogParts.{LogParts}
-use Rattle.spec_log.specs.Reading.{Fault, fails, read_of}
+use Rattle.spec_log.specs.Reading.{ParseError, fails, read_of}
 use Rattle.dl_logbytes.specs.declared.error.LogError.{LogError}
 use Rattle.dl_logbytes.specs.declared.error.LogError.TheVariants.{Malformed, OutOfMemory}
 use Rattle.dl_logfmt.specs.declared.draft.Draft.{Draft}
@@ -10,12 +10,12 @@ use Rattle.dl_logfmt.specs.Drafts.{IsFew, reach, ended, said}
 use Rattle.dl_logfmt.specs.Remaining.{remaining}
 
 -- what is said of bytes that may go on: their fault, unless they end inside a field
-abbrev pub fed : Result LogParts Fault → Result (Unit {0}) Fault
+abbrev pub fed : Result LogParts ParseError → Result (Unit {0}) ParseError
 fed (Ok log) = Ok tt
 fed (Err fault) = if fault.number == 1 then Ok tt else Err fault
 
 -- a call answered this; want of memory alone has no cause
-abbrev pub IsFeeding : Result (Unit {0}) Fault → Result (Unit {0}) LogError → Type 0
+abbrev pub IsFeeding : Result (Unit {0}) ParseError → Result (Unit {0}) LogError → Type 0
 IsFeeding said (Ok x) = said ≡ Ok tt
 IsFeeding said (Err (Malformed number offset)) = said ≡ Err (record { number = number; offset = offset })
 IsFeeding said (Err OutOfMemory) = Unit {0}

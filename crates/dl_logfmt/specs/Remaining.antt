@@ -41,16 +41,16 @@ abbrev pub next_field : Head → Reader Head
 next_field h = field_at h.stage h
 
 -- what was read of a list, and behind it what the reader reads
-abbrev pub begun : {X : Type 0} → List X → Reader (List X) → Reader (List X)
-begun xs reader = read reader (λ ys. gives (xs ++ ys))
+abbrev pub prepended : {X : Type 0} → List X → Reader (List X) → Reader (List X)
+prepended xs reader = read reader (λ ys. gives (xs ++ ys))
 
 -- so many entries in all, of which some were read
 abbrev pub more : {X : Type 0} → (X → X → Bool) → Reader X → ℕ → List X → Reader (List X)
-more earlier entry count xs = begun xs (entries earlier entry (last xs) (count - length xs))
+more earlier entry count xs = prepended xs (entries earlier entry (last xs) (count - length xs))
 
 -- so many actors in all, of which some were read
 abbrev pub more_actors : ℕ → List Actor → Reader (List Actor)
-more_actors count order = begun order (actors (count - length order))
+more_actors count order = prepended order (actors (count - length order))
 
 -- the sizes of a log in this mode
 abbrev pub sizes_in : ModeName → List ℕ → List ShortSize → Sizes
@@ -152,18 +152,18 @@ abbrev pub remaining : Draft → Reader LogParts
 remaining d = remaining_at d.head.stage d
 
 -- how many stages were passed
-abbrev pub rank : Stage → ℕ
-rank Mode = 0
-rank ChunkSize = 1
-rank Count = 2
-rank OrderCount = 3
-rank (Order n) = 4
-rank SizeCount = 5
-rank (SizesOf n) = 6
-rank InterruptCount = 7
-rank (Interrupts n) = 8
-rank InputCount = 9
-rank (Inputs n) = 10
-rank DmaCount = 11
-rank (Dmas n) = 12
-rank Nothing = 13
+abbrev pub stage_number : Stage → ℕ
+stage_number Mode = 0
+stage_number ChunkSize = 1
+stage_number Count = 2
+stage_number OrderCount = 3
+stage_number (Order n) = 4
+stage_number SizeCount = 5
+stage_number (SizesOf n) = 6
+stage_number InterruptCount = 7
+stage_number (Interrupts n) = 8
+stage_number InputCount = 9
+stage_number (Inputs n) = 10
+stage_number DmaCount = 11
+stage_number (Dmas n) = 12
+stage_number Nothing = 13

@@ -15,6 +15,6 @@ order_left false actors = order_bytes actors
 order_left true actors = nibbles actors
 
 -- the first unit of what is left is begun, so that the others are left; at the end there is none
-abbrev pub Begins : List ℕ → Option (List ℕ) → List ℕ → Type 0
-Begins left (Some unit) behind = (left ≡ unit ++ behind) × (0 < length unit)
-Begins left None behind = (left ≡ []) × (behind ≡ [])
+abbrev pub IsNextUnit : List ℕ → Option (List ℕ) → List ℕ → Type 0
+IsNextUnit left (Some unit) behind = (left ≡ unit ++ behind) × (0 < length unit)
+IsNextUnit left None behind = (left ≡ []) × (behind ≡ [])

@@ -2,7 +2,7 @@
 ghost use Rattle.std.specs.Prelude.{◌≡◌, ◌<◌, ◌^◌, length, All};
 ghost use Rattle.spec_log.specs.Bytes.{order_bytes};
 ghost use Rattle.spec_log.specs.Log.{IsActor};
-ghost use Rattle.dl_logfmt.specs.Writing.{Begins};
+ghost use Rattle.dl_logfmt.specs.Writing.{IsNextUnit};
 
 use crate::unit::Unit;
 use dl_entry::Actor;
@@ -41,7 +41,7 @@ impl<'a> OrderLeft<'a> {
 
     /// The next unit, unless nothing is left.
     pub fn begin(&mut self) -> Option<Unit<'a>>
-        ensures { Begins self.old result self.new }
+        ensures { IsNextUnit self.old result self.new }
     {
         if !self.begun {
             self.begun = true;

@@ -1,7 +1,7 @@
 //! What is left of a section.
 ghost use Rattle.std.specs.Prelude.{◌≡◌, ◌<◌, ◌^◌, [], length, All};
 ghost use Rattle.spec_log.specs.Bytes.{section};
-ghost use Rattle.dl_logfmt.specs.Writing.{Begins};
+ghost use Rattle.dl_logfmt.specs.Writing.{IsNextUnit};
 
 use crate::entry::Entry;
 use crate::unit::Unit;
@@ -49,7 +49,7 @@ impl<'a, E: Entry> SectionLeft<'a, E> {
 
     /// The next unit, unless nothing is left.
     pub fn begin(&mut self) -> Option<Unit<'a>>
-        ensures { Begins self.old result self.new }
+        ensures { IsNextUnit self.old result self.new }
     {
         if !self.begun {
             self.begun = true;

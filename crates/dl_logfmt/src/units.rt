@@ -2,7 +2,7 @@
 ghost use Rattle.std.specs.Prelude.{◌≡◌, ◌++◌};
 ghost use Rattle.spec_log.specs.Bytes.{order_bytes, sizes_bytes, section, interrupt_bytes, input_bytes, dma_bytes};
 ghost use Rattle.spec_log.specs.Log.{IsLog};
-ghost use Rattle.dl_logfmt.specs.Writing.{Begins};
+ghost use Rattle.dl_logfmt.specs.Writing.{IsNextUnit};
 
 use crate::order_left::OrderLeft;
 use crate::section_left::SectionLeft;
@@ -50,7 +50,7 @@ impl<'a> Units<'a> {
 
     /// The next unit, unless nothing is left.
     pub fn begin(&mut self) -> Option<Unit<'a>>
-        ensures { Begins self.old result self.new }
+        ensures { IsNextUnit self.old result self.new }
     {
         if let Some(unit) = self.order.begin() {
             return Some(unit);

@@ -39,7 +39,7 @@ inserted_over m name first second =
     ∙ sym (get-insert nat_list_cmp_total m name second q))
 
 -- what is appended to the bytes that a name was given follows them
-pub appended : (told : Option Contents) (name bytes piece : List ℕ) → with_more name piece (with_file name bytes told) ≡ with_file name (bytes ++ piece) told
+pub appended : (known : Option Contents) (name bytes piece : List ℕ) → with_more name piece (with_file name bytes known) ≡ with_file name (bytes ++ piece) known
 appended None name bytes piece = refl
 appended (Some m) name bytes piece =
     ap (λ (o : Option (List ℕ)). Some (insert (insert m name bytes) name (unwrap_or o [] ++ piece))) (held m name bytes)
@@ -50,7 +50,7 @@ other_held m name bytes other is_other =
     get-insert nat_list_cmp_total m name bytes other ∙ ap (λ b. cond b (Some bytes) (get m other)) (same-false other name is_other)
 
 -- where a call on a name has changed nothing else, after the name was given bytes, nothing else has changed before either
-pub others_kept : (told new : Option Contents) (name bytes : List ℕ) → SameBut name (with_file name bytes told) new → SameBut name told new
+pub others_kept : (known new : Option Contents) (name bytes : List ℕ) → SameBut name (with_file name bytes known) new → SameBut name known new
 others_kept None None name bytes s = tt
 others_kept None (Some n) name bytes s = s
 others_kept (Some m) None name bytes s = s

@@ -8,15 +8,15 @@ use Rattle.std.specs.Option.{option_map}
 use Rattle.dl_files.specs.Contents.{Contents, HoldsAt, part_of}
 use Rattle.dl_logio.specs.Files.{SaysLog}
 use Rattle.dl_logbytes.specs.declared.error.LogError.{LogError}
-use Rattle.spec_log.specs.Reading.{Fault, read_of}
+use Rattle.spec_log.specs.Reading.{ParseError, read_of}
 use Rattle.spec_log.specs.declared.log.LogParts.{LogParts}
 
--- the name, where it is told and there, begins with these bytes
+-- the name, where it is known and there, begins with these bytes
 abbrev pub IsFront : Option Contents → (name bytes : List ℕ) → Type 0
-IsFront told name bytes = (m : Contents) → told ≡ Some m → (content : List ℕ) → get m name ≡ Some content → take (length bytes) content ≡ bytes
+IsFront known name bytes = (m : Contents) → known ≡ Some m → (content : List ℕ) → get m name ≡ Some content → take (length bytes) content ≡ bytes
 
--- where told, the name has bytes of which this is the part from an offset on
-there : (told : Option Contents) (m : Contents) (name : List ℕ) (offset room : ℕ) (piece : List ℕ) → HoldsAt told name offset room piece → told ≡ Some m → part_of m name offset room ≡ Some piece
+-- where known, the name has bytes of which this is the part from an offset on
+there : (known : Option Contents) (m : Contents) (name : List ℕ) (offset room : ℕ) (piece : List ℕ) → HoldsAt known name offset room piece → known ≡ Some m → part_of m name offset room ≡ Some piece
 there (Some k) m name offset room piece held e = let same : k ≡ m = cc in subst (λ (x : Contents). part_of x name offset room ≡ Some piece) same held
 there None m name offset room piece held e = absurd cc
 
@@ -25,8 +25,8 @@ part_at m name offset room piece None e = absurd cc
 part_at m name offset room piece (Some content) e = (content, refl, cc)
 
 -- what is shown by files that tell the same
-pub held_by : (told seen : Option Contents) (name : List ℕ) (offset room : ℕ) (piece : List ℕ) → seen ≡ told → HoldsAt seen name offset room piece → HoldsAt told name offset room piece
-held_by told seen name offset room piece same = subst (λ (t : Option Contents). HoldsAt t name offset room piece) same
+pub held_by : (known seen : Option Contents) (name : List ℕ) (offset room : ℕ) (piece : List ℕ) → seen ≡ known → HoldsAt seen name offset room piece → HoldsAt known name offset room piece
+held_by known seen name offset room piece same = subst (λ (t : Option Contents). HoldsAt t name offset room piece) same
 
 -- a front is its own beginning
 pub front_of : (room : ℕ) (ys piece : List ℕ) → take room ys ≡ piece → take (length piece) ys ≡ piece
@@ -36,13 +36,13 @@ front_of zero (y ∷ ys) piece e = subst (λ (xs : List ℕ). take (length xs) (
 front_of (suc room) (y ∷ ys) piece e = subst (λ (xs : List ℕ). take (length xs) (y ∷ ys) ≡ xs) e (ap (λ (xs : List ℕ). y ∷ xs) (front_of room ys (take room ys) refl))
 
 -- no byte is a front of any file
-pub none_read : (told : Option Contents) (name : List ℕ) → IsFront told name []
-none_read told name m e content there = refl
+pub none_read : (known : Option Contents) (name : List ℕ) → IsFront known name []
+none_read known name m e content there = refl
 
 -- a front, and the piece that the file holds behind it, are a front
-pub more_read : (told : Option Contents) (name bytes : List ℕ) (offset room : ℕ) (piece : List ℕ) → length bytes ≡ offset → IsFront told name bytes → HoldsAt told name offset room piece → IsFront told name (bytes ++ piece)
-more_read told name bytes offset room piece at front held m e content is =
-    let part = part_at m name offset room piece (get m name) (there told m name offset room piece held e) in
+pub more_read : (known : Option Contents) (name bytes : List ℕ) (offset room : ℕ) (piece : List ℕ) → length bytes ≡ offset → IsFront known name bytes → HoldsAt known name offset room piece → IsFront known name (bytes ++ piece)
+more_read known name bytes offset room piece at front held m e content is =
+    let part = part_at m name offset room piece (get m name) (there known m name offset room piece held e) in
     let same : part.0 ≡ content = cc in
     let rest : take room (drop (length bytes) content) ≡ piece = ap (λ (o : ℕ). take room (drop o content)) at ∙ ap (λ (c : List ℕ). take room (drop offset c)) (sym same) ∙ part.2 in
     ap (λ (n : ℕ). take n content) (length-append bytes piece)
@@ -56,7 +56,7 @@ none_left zero (x ∷ xs) h e = absurd (omega arith)
 none_left (suc room) (x ∷ xs) h e = absurd cc
 
 -- at the end of the name, all of it is read
-pub all_read : (told : Option Contents) (name bytes : List ℕ) (offset room : ℕ) (read : Result LogParts Fault) → 0 < room → length bytes ≡ offset → IsFront told name bytes → HoldsAt told name offset room [] → read_of bytes ≡ read → SaysLog told name read
+pub all_read : (known : Option Contents) (name bytes : List ℕ) (offset room : ℕ) (read : Result LogParts ParseError) → 0 < room → length bytes ≡ offset → IsFront known name bytes → HoldsAt known name offset room [] → read_of bytes ≡ read → SaysLog known name read
 all_read None name bytes offset room read some at front held is = tt
 all_read (Some m) name bytes offset room read some at front held is =
     let part = part_at m name offset room [] (get m name) held in
@@ -66,7 +66,7 @@ all_read (Some m) name bytes offset room read some at front held is =
     ap (option_map read_of) part.1 ∙ ap (λ (b : List ℕ). Some (read_of b)) (sym whole ∙ front m refl part.0 part.1) ∙ ap Some is
 
 -- a fault of the first bytes is one of the whole
-pub fault_read : (told : Option Contents) (name bytes : List ℕ) (offset room : ℕ) (piece : List ℕ) (fault : Fault) → length bytes ≡ offset → IsFront told name bytes → HoldsAt told name offset room piece → ((rest : List ℕ) → read_of ((bytes ++ piece) ++ rest) ≡ Err fault) → SaysLog told name (Err fault)
+pub fault_read : (known : Option Contents) (name bytes : List ℕ) (offset room : ℕ) (piece : List ℕ) (fault : ParseError) → length bytes ≡ offset → IsFront known name bytes → HoldsAt known name offset room piece → ((rest : List ℕ) → read_of ((bytes ++ piece) ++ rest) ≡ Err fault) → SaysLog known name (Err fault)
 fault_read None name bytes offset room piece fault at front held stays = tt
 fault_read (Some m) name bytes offset room piece fault at front held stays =
     let part = part_at m name offset room piece (get m name) held in

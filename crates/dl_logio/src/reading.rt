@@ -26,16 +26,16 @@ pub fn read_log_file<F: Files>(
     files: &mut F,
     name: &str,
 ) -> Result<LogRead, FileError>
-    ensures read { IfOk result (λ r. SaysLog (F.told files.old) name.now (read_view r)) }
+    ensures read { IfOk result (λ r. SaysLog (F.known files.old) name.now (read_view r)) }
     ensures absent { IsErrOf result FileError.Absent
-        → IsAbsent (F.told files.old) name.now (F.count files.old) (F.count files.new) }
-    ensures there { IfErr result (λ e. e ≢ FileError.Absent → IsThere (F.told files.old) name.now) }
+        → IsAbsent (F.known files.old) name.now (F.count files.old) (F.count files.new) }
+    ensures there { IfErr result (λ e. e ≢ FileError.Absent → IsThere (F.known files.old) name.now) }
     ensures failed { IsErrOf result FileError.Failed → Rose (F.count files.old) (F.count files.new) }
     ensures last { IsErrOf result FileError.Failed → IsLast (F.last_fault files.new) name.now }
     ensures ok_steady { OnOk result (F.count files.new ≡ F.count files.old) }
     ensures memory_steady { IsErrOf result FileError.OutOfMemory
         → F.count files.new ≡ F.count files.old }
-    ensures kept { F.told files.new ≡ F.told files.old }
+    ensures kept { F.known files.new ≡ F.known files.old }
     ensures counted { F.count files.old ≤ F.count files.new }
 {
     let mut reader = LogReader::new(alloc);

@@ -12,11 +12,11 @@ use dl_logfmt::{Log, LogWriter};
 /// Makes the bytes of the log those of the file `name`, piece after piece, in no memory but that of one. After `Failed` nothing
 /// is known of that file alone. After `OutOfMemory` it is as before, or holds the first of the log's bytes.
 pub fn write_log_file<F: Files>(files: &mut F, name: &str, log: &Log) -> Result<(), FileError>
-    ensures written { OnOk result (F.told files.new ≡ with_file name.now (log_bytes log.now) (F.told files.old)) }
+    ensures written { OnOk result (F.known files.new ≡ with_file name.now (log_bytes log.now) (F.known files.old)) }
     ensures memory { IsErrOf result FileError.OutOfMemory
-        → IsPartly name.now (log_bytes log.now) (F.told files.old) (F.told files.new) }
+        → IsPartly name.now (log_bytes log.now) (F.known files.old) (F.known files.new) }
     ensures others { IsErrOf result FileError.Failed
-        → SameBut name.now (F.told files.old) (F.told files.new) }
+        → SameBut name.now (F.known files.old) (F.known files.new) }
     ensures not_absent { IfErr result (λ e. e ≢ FileError.Absent) }
     ensures failed { IsErrOf result FileError.Failed → Rose (F.count files.old) (F.count files.new) }
     ensures last { IsErrOf result FileError.Failed → IsLast (F.last_fault files.new) name.now }

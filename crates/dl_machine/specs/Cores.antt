@@ -3,7 +3,7 @@ use Rattle.std.specs.Prelude.{◌≡◌, ℕ, Bool, true, false, not, Option, So
 use Rattle.spec_engine.specs.Signatures.{Marks, nothing}
 use Rattle.spec_engine.specs.Chunks.{Chunk, Engine, is_open}
 use Rattle.spec_protocol.specs.World.{Held, Numbers, held_afresh}
-use Rattle.dl_sphere.specs.Standing.{Standing}
+use Rattle.dl_sphere.specs.SizedSpheres.{SizedSphere}
 use Rattle.dl_machine.specs.declared.one_core.Held.{Held as Seen}
 
 -- how large its chunks and their signatures may be, and what it holds
@@ -37,11 +37,11 @@ abbrev pub seen : Held → Seen
 seen h = record { sphere = h.chunk.sphere; thread = h.thread; closed = not (is_open h.chunk) }
 
 -- the numbers of a core and a sphere
-abbrev pub numbers_of : Core → Standing → Numbers
+abbrev pub numbers_of : Core → SizedSphere → Numbers
 numbers_of c p = record { chunk = p.standard; buffer = c.capacity; signature = c.bits }
 
 -- thread k of sphere i, which is p, with a fresh chunk
-abbrev pub afresh : Core → Standing → (i thread : ℕ) → Option Held
+abbrev pub afresh : Core → SizedSphere → (i thread : ℕ) → Option Held
 afresh c p i k = held_afresh (numbers_of c p) i k p.sphere
 
 -- the lines that are noted

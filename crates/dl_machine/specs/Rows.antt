@@ -3,7 +3,7 @@ use Rattle.std.specs.Prelude.{◌≡◌, ℕ, ◌≤◌, true, All, length, List
 use Rattle.spec_engine.specs.Signatures.{is_size}
 use Rattle.spec_protocol.specs.Spheres.{Sphere, no_sphere}
 use Rattle.spec_protocol.specs.World.{Held, Numbers}
-use Rattle.dl_sphere.specs.Standing.{Standing}
+use Rattle.dl_sphere.specs.SizedSpheres.{SizedSphere}
 use Rattle.dl_machine.specs.Cores.{Core}
 
 -- the words that a buffer holds, the bits of a signature, and what each core holds
@@ -38,14 +38,14 @@ pub record Spheres : Type 0 where
   pub standard : ℕ
   pub spheres : List Sphere
 
-abbrev pub sphere_in : Standing → Sphere
+abbrev pub sphere_in : SizedSphere → Sphere
 sphere_in p = p.sphere
 
 -- the spheres have one standard size
-pub record IsOfStandard (s : ℕ) (p : Standing) : Type 0 where
+pub record IsOfStandard (s : ℕ) (p : SizedSphere) : Type 0 where
   pub standard : p.standard ≡ s
 
-pub record AreSpheres (standard : ℕ) (row : List Standing) : Type 0 where
+pub record AreSpheres (standard : ℕ) (row : List SizedSphere) : Type 0 where
   pub some_sphere : 1 ≤ length row
   pub most_spheres : length row ≤ 8
   pub each : All (IsOfStandard standard) row
@@ -57,5 +57,5 @@ abbrev pub with_nth : (i : ℕ) → Sphere → Spheres → Spheres
 with_nth i p r = record r { spheres = slice_set r.spheres i p }
 
 -- the numbers of the cores and a sphere
-abbrev pub numbers_in : Cores → Standing → Numbers
+abbrev pub numbers_in : Cores → SizedSphere → Numbers
 numbers_in r p = record { chunk = p.standard; buffer = r.capacity; signature = r.bits }

@@ -2,7 +2,7 @@
 ghost use Rattle.std.specs.Prelude.{◌≡◌, ◌<◌, ◌⊎◌, None, Some, false, true, length, IfOk, IsSome, OnErr, OnOk};
 ghost use Rattle.spec_engine.specs.Flights.{is_full};
 ghost use Rattle.spec_play.specs.Progress.{position};
-ghost use Rattle.spec_protocol.specs.Commits.{Diverged, Granted, Moved as CommitMoved, dma_moved};
+ghost use Rattle.spec_protocol.specs.Commits.{Diverged, Granted, MovedSphere, dma_moved};
 ghost use Rattle.spec_protocol.specs.Placing.{replays};
 ghost use Rattle.spec_protocol.specs.Spheres.{is_stopped};
 ghost use Rattle.spec_protocol.specs.Transferring.{dma_done, dma_with, transfer, transferring, turn_before_dma as turn_in};
@@ -56,9 +56,9 @@ impl<G: Sig> State<G> {
         requires turn { turn_in (sphere_at self.old sphere).role ≡ None }
         requires diverges { let p = sphere_at self.old sphere in
             ComesTo (Diverged (position p.progress) why) (dma_moved self.old.devices p) }
-        ensures reply { IfOk result (λ r. (v : CommitMoved) → dma_moved self.old.devices (sphere_at self.old sphere) ≡ Some v →
+        ensures reply { IfOk result (λ r. (v : MovedSphere) → dma_moved self.old.devices (sphere_at self.old sphere) ≡ Some v →
             r ≡ (dma_with self.old sphere v v.outcome).reply) }
-        ensures world { OnOk result ((v : CommitMoved) → dma_moved self.old.devices (sphere_at self.old sphere) ≡ Some v →
+        ensures world { OnOk result ((v : MovedSphere) → dma_moved self.old.devices (sphere_at self.old sphere) ≡ Some v →
             self.new ≡ left (dma_with self.old sphere v v.outcome)) }
         ensures err { OnErr result (self.new ≡ self.old) }
     {
@@ -77,9 +77,9 @@ impl<G: Sig> State<G> {
         requires goes { ComesTo Granted (dma_moved self.old.devices (sphere_at self.old sphere)) }
         requires ready { IsReady self.old }
         requires room { HasRoom self.old }
-        ensures reply { IfOk result (λ r. (v : CommitMoved) → dma_moved self.old.devices (sphere_at self.old sphere) ≡ Some v →
+        ensures reply { IfOk result (λ r. (v : MovedSphere) → dma_moved self.old.devices (sphere_at self.old sphere) ≡ Some v →
             r ≡ (transfer self.old sphere v).reply) }
-        ensures world { OnOk result ((v : CommitMoved) → dma_moved self.old.devices (sphere_at self.old sphere) ≡ Some v →
+        ensures world { OnOk result ((v : MovedSphere) → dma_moved self.old.devices (sphere_at self.old sphere) ≡ Some v →
             self.new ≡ left (transfer self.old sphere v)) }
         ensures err { OnErr result (self.new ≡ self.old) }
     {
@@ -105,7 +105,7 @@ impl<G: Sig> State<G> {
         requires goes { ComesTo Granted (dma_moved self.old.devices (sphere_at self.old sphere)) }
         requires window { is_full self.old.slots ≡ false }
         ensures reply { IfOk result (λ r. r ≡ Reply.DmaDone) }
-        ensures world { OnOk result ((v : CommitMoved) → dma_moved self.old.devices (sphere_at self.old sphere) ≡ Some v →
+        ensures world { OnOk result ((v : MovedSphere) → dma_moved self.old.devices (sphere_at self.old sphere) ≡ Some v →
             self.new ≡ left (dma_done self.old sphere (G.marks writes) v)) }
         ensures err { OnErr result (self.new ≡ self.old) }
     {

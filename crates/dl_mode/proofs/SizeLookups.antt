@@ -179,7 +179,7 @@ pub range-next : (t n m : ℕ) → n ≡ suc m → range_with_len t n ≡ t ∷ 
 range-next t n m e = rw e refl
 
 -- the first so many commits of lists are kept
-pub record Begun (s i : ℕ) (order : List Actor) (sizes : List ℕ) (kept : Kept) : Type 0 where
+pub record HasFirst (s i : ℕ) (order : List Actor) (sizes : List ℕ) (kept : Kept) : Type 0 where
   pub is_s : kept.s ≡ s
   pub count : kept.count ≡ i
   pub order_is : kept.order ≡ take i order
@@ -187,10 +187,10 @@ pub record Begun (s i : ℕ) (order : List Actor) (sizes : List ℕ) (kept : Kep
   pub done_is : kept.done ≡ counted (take i order)
 
 -- with the next commit noted, one commit more is kept
-pub Begun-more : (s i : ℕ) (order : List Actor) (sizes : List ℕ) (kept new : Kept) (d : Actor) → i < length order → i < length sizes
-    → Begun s i order sizes kept → new ≡ noted OrderSize kept (record { actor = get_or order i d; size = get_or sizes i 0; early = false })
-    → Begun s (i + 1) order sizes new
-Begun-more s i order sizes kept new d h l b e =
+pub HasFirst-more : (s i : ℕ) (order : List Actor) (sizes : List ℕ) (kept new : Kept) (d : Actor) → i < length order → i < length sizes
+    → HasFirst s i order sizes kept → new ≡ noted OrderSize kept (record { actor = get_or order i d; size = get_or sizes i 0; early = false })
+    → HasFirst s (i + 1) order sizes new
+HasFirst-more s i order sizes kept new d h l b e =
     record {
       is_s = rw e b.is_s;
       count = rw (e, b.count) refl;

@@ -5,19 +5,19 @@ use Rattle.std.specs.List.{list_all}
 use Rattle.std.proofs.lemmas.Bool.{cases_eq, and_parts}
 use Rattle.std.proofs.lemmas.List.{map-set, map-append, length-set, set-get_or, get_or-set_same, get_or-set_other, replicate_more}
 use Rattle.dl_moments.specs.declared.lane.Mark.{Mark}
-use Rattle.dl_moments.specs.Held.{Held}
+use Rattle.dl_moments.specs.Views.{LaneState}
 
 -- the values of a thread's list, without its room
-abbrev pub marks_of : {V : Type 0} → Held V → List (Mark V)
-marks_of held = held.marks
+abbrev pub marks_of : {V : Type 0} → LaneState V → List (Mark V)
+marks_of lane = lane.marks
 
-get_or-map : {V : Type 0} (lanes : List (Held V)) (t : ℕ) (d : Held V) → t < length lanes → get_or (map marks_of lanes) t [] ≡ (get_or lanes t d).marks
+get_or-map : {V : Type 0} (lanes : List (LaneState V)) (t : ℕ) (d : LaneState V) → t < length lanes → get_or (map marks_of lanes) t [] ≡ (get_or lanes t d).marks
 get_or-map [] t d h = absurd (omega arith)
 get_or-map (x ∷ xs) zero d h = refl
 get_or-map (x ∷ xs) (suc t) d h = get_or-map xs t d (omega arith)
 
 -- where one list has become another by a function, it alone has changed, by that function
-pub changed_lane : {V : Type 0} (lanes : List (Held V)) (t : ℕ) (old new : Held V) (f : List (Mark V) → List (Mark V)) → t < length lanes
+pub changed_lane : {V : Type 0} (lanes : List (LaneState V)) (t : ℕ) (old new : LaneState V) (f : List (Mark V) → List (Mark V)) → t < length lanes
     → old ≡ get_or lanes t old → new.marks ≡ f old.marks
     → map marks_of (set lanes t new) ≡ set (map marks_of lanes) t (f (get_or (map marks_of lanes) t []))
 changed_lane lanes t old new f h is e =
@@ -25,13 +25,13 @@ changed_lane lanes t old new f h is e =
     map-set marks_of lanes t new ∙ ap (λ (m : List (Mark _)). set (map marks_of lanes) t m) (e ∙ ap f was)
 
 -- where one list has the same values, so have all
-pub same_lane : {V : Type 0} (lanes : List (Held V)) (t : ℕ) (old new : Held V) → t < length lanes
+pub same_lane : {V : Type 0} (lanes : List (LaneState V)) (t : ℕ) (old new : LaneState V) → t < length lanes
     → old ≡ get_or lanes t old → new.marks ≡ old.marks → map marks_of (set lanes t new) ≡ map marks_of lanes
 same_lane lanes t old new h is e =
     changed_lane lanes t old new (λ m. m) h is e ∙ set-get_or (map marks_of lanes) t []
 
 -- where one list is as long as before, it is so among all
-pub same_count : {V : Type 0} (lanes : List (Held V)) (t : ℕ) (old new : Held V) → t < length lanes
+pub same_count : {V : Type 0} (lanes : List (LaneState V)) (t : ℕ) (old new : LaneState V) → t < length lanes
     → old ≡ get_or lanes t old → length new.marks ≡ length old.marks
     → length (get_or (map marks_of (set lanes t new)) t []) ≡ length (get_or (map marks_of lanes) t [])
 same_count lanes t old new h is e =
@@ -41,17 +41,17 @@ same_count lanes t old new h is e =
     ap length now ∙ (e ∙ ap length was)
 
 -- empty lists with one empty list more are empty lists
-pub empty_lane : {V : Type 0} (lanes : List (Held V)) (n : ℕ) (new : Held V) → map marks_of lanes ≡ replicate n [] → new.marks ≡ []
+pub empty_lane : {V : Type 0} (lanes : List (LaneState V)) (n : ℕ) (new : LaneState V) → map marks_of lanes ≡ replicate n [] → new.marks ≡ []
     → map marks_of (lanes ++ new ∷ []) ≡ replicate (n + 1) []
 empty_lane lanes n new e none =
     map-append marks_of lanes (new ∷ []) ∙ (rw (e, none) (replicate_more n []))
 
 -- each of the first n lists has room
-abbrev pub Roomy : {V : Type 0} → List (Held V) → ℕ → Type 0
-Roomy {V} lanes n = (k : ℕ) (d : Held V) → k < n → (get_or lanes k d).room ≡ true
+abbrev pub Roomy : {V : Type 0} → List (LaneState V) → ℕ → Type 0
+Roomy {V} lanes n = (k : ℕ) (d : LaneState V) → k < n → (get_or lanes k d).room ≡ true
 
 -- with room in the next list, one list more has room
-pub Roomy-more : {V : Type 0} (lanes : List (Held V)) (t : ℕ) (new : Held V) → t < length lanes → Roomy lanes t → new.room ≡ true → Roomy (set lanes t new) (t + 1)
+pub Roomy-more : {V : Type 0} (lanes : List (LaneState V)) (t : ℕ) (new : LaneState V) → t < length lanes → Roomy lanes t → new.room ≡ true → Roomy (set lanes t new) (t + 1)
 Roomy-more lanes t new h rooms room k d l =
     elim (cases_eq k t) [
       | inl same ↦ rw (same, get_or-set_same lanes t new d h) room
@@ -59,26 +59,26 @@ Roomy-more lanes t new h rooms room k d l =
     ]
 
 -- where each list has room, all have
-pub all_room : {V : Type 0} (lanes : List (Held V)) → Roomy lanes (length lanes) → list_all (λ lane. lane.room) lanes ≡ true
+pub all_room : {V : Type 0} (lanes : List (LaneState V)) → Roomy lanes (length lanes) → list_all (λ lane. lane.room) lanes ≡ true
 all_room [] h = refl
 all_room (x ∷ xs) h = rw (h 0 x (omega arith), all_room xs (λ k d l. h (suc k) d (omega arith))) refl
 
 -- room in a list where there is room in each
-pub room_at : {V : Type 0} (lanes : List (Held V)) (t : ℕ) (d : Held V) → t < length lanes → list_all (λ lane. lane.room) lanes ≡ true → (get_or lanes t d).room ≡ true
+pub room_at : {V : Type 0} (lanes : List (LaneState V)) (t : ℕ) (d : LaneState V) → t < length lanes → list_all (λ lane. lane.room) lanes ≡ true → (get_or lanes t d).room ≡ true
 room_at [] t d h e = absurd (omega arith)
 room_at (x ∷ xs) zero d h e = (and_parts x.room (list_all (λ lane. lane.room) xs) e).0
 room_at (x ∷ xs) (suc t) d h e = room_at xs t d (omega arith) (and_parts x.room (list_all (λ lane. lane.room) xs) e).1
 
 -- a list replaced by one with as much room leaves as much room in all
-pub same_room : {V : Type 0} (lanes : List (Held V)) (t : ℕ) (old new : Held V) → t < length lanes → old ≡ get_or lanes t old → new.room ≡ old.room
+pub same_room : {V : Type 0} (lanes : List (LaneState V)) (t : ℕ) (old new : LaneState V) → t < length lanes → old ≡ get_or lanes t old → new.room ≡ old.room
     → list_all (λ lane. lane.room) (set lanes t new) ≡ list_all (λ lane. lane.room) lanes
 same_room [] t old new h is e = absurd (omega arith)
 same_room (x ∷ xs) zero old new h is e =
-    ap (λ (b : Bool). b && list_all (λ lane. lane.room) xs) (e ∙ ap (λ (held : Held _). held.room) is)
+    ap (λ (b : Bool). b && list_all (λ lane. lane.room) xs) (e ∙ ap (λ (lane : LaneState _). lane.room) is)
 same_room (x ∷ xs) (suc t) old new h is e = ap (λ (b : Bool). x.room && b) (same_room xs t old new (omega arith) is e)
 
 -- where each list has room, each has it still after one with room was set among them
-pub Roomy-set : {V : Type 0} (lanes : List (Held V)) (n t : ℕ) (new : Held V) → t < length lanes → Roomy lanes n → new.room ≡ true → Roomy (set lanes t new) n
+pub Roomy-set : {V : Type 0} (lanes : List (LaneState V)) (n t : ℕ) (new : LaneState V) → t < length lanes → Roomy lanes n → new.room ≡ true → Roomy (set lanes t new) n
 Roomy-set lanes n t new h rooms room k d l =
     elim (cases_eq k t) [
       | inl same ↦ rw (same, get_or-set_same lanes t new d h) room

@@ -21,10 +21,10 @@ pub struct Lane<V> {
 
 impl<V> Model for Lane<V> {
     ghost use Rattle.std.specs.Prelude.{nat_lt, vec_len, vec_capacity};
-    ghost use Rattle.dl_moments.specs.Held.{Held};
+    ghost use Rattle.dl_moments.specs.Views.{LaneState};
     ghost use Rattle.dl_moments.specs.Marks.{Rises};
 
-    ghost Value = { Held V };
+    ghost Value = { LaneState V };
 
     ghost view = { λ lane. record { marks = lane.marks.items; room = nat_lt (vec_len lane.marks) (vec_capacity lane.marks) } };
 

@@ -1,6 +1,6 @@
 //! Values by thread and index.
 ghost use Rattle.std.specs.Prelude.{◌≡◌, ◌≤◌, List, [], length, replicate, slice_set, slice_index_or, IfOk, IsOk, IsTrue, OnOk, OnErr};
-ghost use Rattle.dl_moments.specs.Held.{By};
+ghost use Rattle.dl_moments.specs.Views.{By};
 ghost use Rattle.dl_moments.specs.Marks.{Rises, with_mark, with_mark_if, value_at};
 
 use crate::lane::{Lane, Mark};
@@ -20,7 +20,7 @@ pub struct Moments<V> {
 impl<V> Model for Moments<V> {
     ghost use Rattle.std.specs.Prelude.{◌≡◌, length, map};
     ghost use Rattle.std.specs.List.{list_all};
-    ghost use Rattle.dl_moments.specs.Held.{By};
+    ghost use Rattle.dl_moments.specs.Views.{By};
 
     ghost Value = { By V };
 

@@ -18,7 +18,7 @@ use Rattle.spec_log.specs.declared.sizes.Sizes.TheVariants.{Each, Short}
 use Rattle.spec_log.specs.Log.{IsActor, IsOrder, IsSizes, IsShortSize, AreShortSizes, IsInterrupt, IsInput, AreInputs, IsDmaRecord, AreDmas, AreFewBytes}
 use Rattle.spec_log.specs.Noting.{Kept, Note, noted, order_with, short_with, sizes_with, done_with, insert_interrupt}
 use Rattle.spec_log.proofs.Sections.{IsSection-push}
-use Rattle.dl_input.specs.Held.{Held, raised_at, interrupt_of}
+use Rattle.dl_input.specs.Tracked.{Tracked, raised_at, interrupt_of}
 use Rattle.dl_mode.specs.Logged.{note_of}
 use Rattle.dl_record.specs.Recording.{IsRecording, CanCommit, IsFresh, with_input, with_dma, short_sizes}
 use Rattle.dl_record.proofs.Inserted.{IsSection-insert, length-insert}
@@ -145,7 +145,7 @@ IsRecording-interrupt mode kept interrupts inputs dmas interrupt r good few =
     }
 
 -- a moment that is new among the interrupts of a log is new among those that are held
-pub fresh : (entries : List Held) (t i : ℕ) → IsFresh (map interrupt_of entries) t i → raised_at entries t i ≡ None
+pub fresh : (entries : List Tracked) (t i : ℕ) → IsFresh (map interrupt_of entries) t i → raised_at entries t i ≡ None
 fresh [] t i h = refl
 fresh (x ∷ xs) t i h =
     elim (cases_Bool ((x.thread == t) && (x.index == i))) [

@@ -25,7 +25,7 @@ pub struct Recorder<M: Mode> {
 
 impl<M: Mode> Model for Recorder<M> {
     ghost use Rattle.std.specs.Prelude.{◌≡◌, map, ◌&&◌};
-    ghost use Rattle.dl_input.specs.Held.{interrupt_of};
+    ghost use Rattle.dl_input.specs.Tracked.{interrupt_of};
     ghost use Rattle.dl_record.specs.Recording.{Recording, IsRecording};
 
     ghost Value = { Recording };

@@ -19,13 +19,13 @@ use Rattle.spec_play.specs.Effects.{Effect, dma_commit, chunk_effect, serial_eff
 use Rattle.spec_play.specs.Progress.{Progress, position, no_progress, with_effect, with_dma, Used, nothing_used, with_dma_used}
 use Rattle.spec_play.specs.Transfers.{DmaVerdict, DmaGoes}
 use Rattle.spec_play.specs.Turns.{Now, now_at, turn_of, at_end, is_size_used, are_sizes_used, has_left_over}
-use Rattle.spec_play.specs.Verdicts.{Verdict, Goes}
+use Rattle.spec_play.specs.Verdicts.{LogVerdict, Goes}
 use Rattle.spec_protocol.proofs.Moves.Threads.{AreNew}
 use Rattle.dl_kernel.specs.Calls.{made_list}
-use Rattle.dl_replay.specs.Replaying.{Replaying, Agrees, begun, commits_at, commits_of}
-use Rattle.dl_replay.specs.Kept.{now_for, advanced}
-use Rattle.dl_kernel.specs.Served.{served_in}
-use Rattle.dl_replay.specs.declared.asking.Verdict.{Verdict as Answer}
+use Rattle.dl_replay.specs.Replaying.{Replaying, Agrees, replay_start, commits_at, commits_of}
+use Rattle.dl_replay.specs.Replays.{now_for, advanced}
+use Rattle.dl_kernel.specs.StepResults.{result_in}
+use Rattle.dl_replay.specs.declared.asking.Verdict.{Verdict}
 use Rattle.dl_replay.specs.declared.asking.Verdict.TheVariants.{Went}
 use Rattle.dl_replay.specs.declared.judging.Done.{Done}
 use Rattle.dl_replay.specs.declared.judging.Finish.{Finish}
@@ -127,7 +127,7 @@ set-again (x ∷ ts) zero t u = refl
 set-again (x ∷ ts) (suc k) t u = ap (λ (xs : List Parts). x ∷ xs) (set-again ts k t u)
 
 -- a chunk that goes advances the replay as judging it by its verdict does
-pub chunk-goes : (r : Replaying) (p : Progress) (k n : ℕ) (before ts us : List Parts) (request : Option Request) (served : Served) (f : Finish) (run : Run) (new : Replaying) (v : Verdict) (out : Answer)
+pub chunk-goes : (r : Replaying) (p : Progress) (k n : ℕ) (before ts us : List Parts) (request : Option Request) (served : Served) (f : Finish) (run : Run) (new : Replaying) (v : LogVerdict) (out : Verdict)
     → Agrees r p → p.request ≡ request → HasRun before ts k n run → verdict_of (Ok f) (chunk_effect k p.request run) ≡ v → out ≡ Went
     → us ≡ slice_set ts k f.thread ++ [] → new ≡ advanced r.log (r.done + 1) (Some k) (used_seen f.used) us
     → record { verdict = out; replay = new; threads = us; request = request; served = served } ≡ chunk_judged r p k before ts request served v
@@ -143,13 +143,13 @@ chunk-goes r p k n before ts us request served f run new v out a q h e o t m =
     judged ∙ ap (chunk_judged r p k before ts request served) e
 
 -- a serial step that goes advances the replay as judging it by its verdict does
-pub step-goes : (r : Replaying) (p : Progress) (k : ℕ) (ts us : List Parts) (request : Option Request) (served now : Served) (d : Done) (new : Replaying) (v : Verdict) (out : Answer)
+pub step-goes : (r : Replaying) (p : Progress) (k : ℕ) (ts us : List Parts) (request : Option Request) (served now : Served) (d : Done) (new : Replaying) (v : LogVerdict) (out : Verdict)
     → Agrees r p → step_verdict k (Ok d) ≡ v → out ≡ Went → us ≡ slice_set ts k d.finish.thread ++ made_list d.left.made
     → new ≡ advanced r.log (r.done + 1) (Some k) (used_seen d.finish.used) us
     → now.words ≡ served.words ++ d.left.words.words → now.loads ≡ served.loads ++ d.left.loads → now.outputs ≡ served.outputs ++ d.left.outputs
     → record { verdict = out; replay = new; threads = us; request = d.left.request; served = now } ≡ serial_judged r p k ts request served v
 step-goes r p k ts us request served now d new v out a e o t m w l x =
-    let effect : Effect = record (serial_effect k (served_in d.left)) { thread = d.finish.thread } in
+    let effect : Effect = record (serial_effect k (result_in d.left)) { thread = d.finish.thread } in
     let u = used_seen d.finish.used in
     let after = slice_set ts k d.finish.thread ++ made_list d.left.made in
     let replay : new ≡ committed r p k effect u after =
@@ -159,7 +159,7 @@ step-goes r p k ts us request served now d new v out a e o t m w l x =
     judged ∙ ap (serial_judged r p k ts request served) e
 
 -- a DMA that goes advances the replay as judging it by its verdict does
-pub dma-goes : (r : Replaying) (p : Progress) (ts : List Parts) (request : Option Request) (served now : Served) (words : Words) (new : Replaying) (v : DmaVerdict) (out : Answer)
+pub dma-goes : (r : Replaying) (p : Progress) (ts : List Parts) (request : Option Request) (served now : Served) (words : Words) (new : Replaying) (v : DmaVerdict) (out : Verdict)
     → Agrees r p → transfer_verdict (Ok words) ≡ v → out ≡ Went → new ≡ advanced r.log (r.done + 1) r.last (with_dma_used r.used) ts
     → now ≡ record served { words = served.words ++ words.words }
     → record { verdict = out; replay = new; threads = ts; request = None; served = now } ≡ dma_judged r p ts request served v
@@ -200,7 +200,7 @@ now-any entry log true o = turn-any entry o
 now-any entry log false o = ap (at_end 0) (left-any entry log nothing_used)
 
 -- a replay begins the same, whatever the entry
-pub begun-is : (log : LogParts) (entry : ℕ) → advanced log 0 None nothing_used (started 0 ∷ []) ≡ begun log entry
-begun-is log entry =
+pub replay_start-is : (log : LogParts) (entry : ℕ) → advanced log 0 None nothing_used (started 0 ∷ []) ≡ replay_start log entry
+replay_start-is log entry =
     ap (λ (n : Now). record { log = log; used = nothing_used; now = n; total = 0; done = 0; last = None; commits = 0 ∷ 0 ∷ 0 ∷ 0 ∷ 0 ∷ 0 ∷ 0 ∷ 0 ∷ 0 ∷ 0 ∷ 0 ∷ 0 ∷ 0 ∷ 0 ∷ 0 ∷ [] })
     (now-any entry log (nat_lt 0 log.count) (head log 0 None (true ∷ [])) ∙ now-is log no_progress nothing_used (started entry ∷ []) 0 None refl refl)

@@ -13,7 +13,7 @@ use Rattle.spec_log.specs.Noting.{Kept, kept_size, kept_head, log_of}
 use Rattle.spec_log.specs.Size.{size_in}
 use Rattle.spec_play.specs.Verdicts.{interrupt_at}
 use Rattle.dl_input.specs.Dmas.{bytes_at}
-use Rattle.dl_input.specs.Held.{Held, raised_at, interrupt_of}
+use Rattle.dl_input.specs.Tracked.{Tracked, raised_at, interrupt_of}
 
 -- the size that is kept of an actor's commit is the one that the log has
 pub size-is : (mode : ModeName) (kept : Kept) (interrupts : List Interrupt) (inputs : List Input) (dmas : List DmaRecord) (actor : Actor) (index : ℕ)
@@ -22,7 +22,7 @@ size-is mode kept interrupts inputs dmas (Actor.Thread thread) index = refl
 size-is mode kept interrupts inputs dmas Actor.Dma index = refl
 
 -- the value that is held at a moment is that of the log's interrupt
-pub interrupt-is : (entries : List Held) (thread commits : ℕ)
+pub interrupt-is : (entries : List Tracked) (thread commits : ℕ)
     → option_map (λ r. r.value) (raised_at entries thread commits) ≡ interrupt_at (map interrupt_of entries) thread commits
 interrupt-is [] thread commits = refl
 interrupt-is (held ∷ entries) thread commits =

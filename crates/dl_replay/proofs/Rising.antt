@@ -9,8 +9,8 @@ use Rattle.spec_log.specs.Log.{ComesBefore}
 use Rattle.spec_log.specs.Noting.{insert_interrupt}
 use Rattle.spec_log.specs.Reading.{is_earlier}
 use Rattle.dl_moments.proofs.Entries.{earlier-lower, earlier-same}
-use Rattle.dl_input.specs.Held.{Held, raised_at, insert_held, new_held, interrupt_of}
-use Rattle.dl_input.proofs.HeldLists.{insert-map}
+use Rattle.dl_input.specs.Tracked.{Tracked, raised_at, insert_tracked, new_tracked, interrupt_of}
+use Rattle.dl_input.proofs.TrackedLists.{insert-map}
 
 abbrev Before : Interrupt → Interrupt → Type 0
 Before x y = ComesBefore x.thread x.index y.thread y.index
@@ -58,11 +58,11 @@ insert-end x (y ∷ xs) h =
     rw (earlier-before y x (All-head (λ y. Before y x) y xs h), insert-end x xs (All-tail (λ y. Before y x) y xs h)) refl
 
 -- the next interrupt of a rising list is inserted behind those before it
-pub insert-next : (xs : List Interrupt) (entries : List Held) → AllAdjacentBelow Before xs (length xs) → (n : ℕ) (x : Interrupt) → n < length xs
+pub insert-next : (xs : List Interrupt) (entries : List Tracked) → AllAdjacentBelow Before xs (length xs) → (n : ℕ) (x : Interrupt) → n < length xs
     → x ≡ get_or xs n x → map interrupt_of entries ≡ take n xs
-    → map interrupt_of (insert_held (new_held x.thread x.index x.value) entries) ≡ take (n + 1) xs
+    → map interrupt_of (insert_tracked (new_tracked x.thread x.index x.value) entries) ≡ take (n + 1) xs
 insert-next xs entries r n x h is e =
-    insert-map (new_held x.thread x.index x.value) entries ∙ ap (insert_interrupt x) e ∙ insert-end x (take n xs) (before-all xs r n x h is)
+    insert-map (new_tracked x.thread x.index x.value) entries ∙ ap (insert_interrupt x) e ∙ insert-end x (take n xs) (before-all xs r n x h is)
     ∙ sym (take_more xs n x h ∙ ap (λ (y : Interrupt). take n xs ++ y ∷ []) (sym is))
 
 other-before : (y x : Interrupt) → Before y x → ((y.thread == x.thread) && (y.index == x.index)) ≡ false
@@ -72,14 +72,14 @@ other-before y x b =
       | inr s ↦ rw (eq-eqb y.thread x.thread s.0, ne_eqb y.index x.index (λ e. omega (arith, s.1))) refl
     ]
 
-none-before : (x : Interrupt) (entries : List Held) → All (λ y. Before y x) (map interrupt_of entries) → raised_at entries x.thread x.index ≡ None
+none-before : (x : Interrupt) (entries : List Tracked) → All (λ y. Before y x) (map interrupt_of entries) → raised_at entries x.thread x.index ≡ None
 none-before x [] h = refl
 none-before x (y ∷ entries) h =
     rw (other-before (interrupt_of y) x (All-head (λ y. Before y x) (interrupt_of y) (map interrupt_of entries) h))
     (none-before x entries (All-tail (λ y. Before y x) (interrupt_of y) (map interrupt_of entries) h))
 
 -- the next interrupt of a rising list is of a new moment
-pub next-fresh : (xs : List Interrupt) (entries : List Held) → AllAdjacentBelow Before xs (length xs) → (n : ℕ) (x : Interrupt) → n < length xs
+pub next-fresh : (xs : List Interrupt) (entries : List Tracked) → AllAdjacentBelow Before xs (length xs) → (n : ℕ) (x : Interrupt) → n < length xs
     → x ≡ get_or xs n x → map interrupt_of entries ≡ take n xs → raised_at entries x.thread x.index ≡ None
 next-fresh xs entries r n x h is e =
     none-before x entries (subst (λ (ys : List Interrupt). All (λ y. Before y x) ys) (sym e) (before-all xs r n x h is))

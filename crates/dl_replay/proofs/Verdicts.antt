@@ -10,10 +10,10 @@ use Rattle.spec_log.specs.Size.{size_in}
 use Rattle.spec_kernel.specs.Needs.{need}
 use Rattle.spec_log.specs.declared.records.DmaRecord.{DmaRecord}
 use Rattle.spec_kernel.specs.Copies.{dma_words}
-use Rattle.spec_kernel.specs.Serving.{Served, serve}
+use Rattle.spec_kernel.specs.Serving.{StepResult, serve}
 use Rattle.spec_play.specs.Effects.{chunk_effect, serial_effect}
 use Rattle.spec_play.specs.Progress.{Progress, position, Used}
-use Rattle.spec_play.specs.Verdicts.{Verdict, Fails, Given, unless, ended, chunk_why, chunk_verdict, serial_why, given, served_verdict, serial_verdict}
+use Rattle.spec_play.specs.Verdicts.{LogVerdict, Fails, Given, unless, ended, chunk_why, chunk_verdict, serial_why, given, served_verdict, serial_verdict}
 use Rattle.spec_play.specs.Transfers.{DmaGoes, DmaFails, dma_unless, is_for, transferred, dma_verdict}
 
 -- a chunk is judged by its logged size, and then by what the log has at its end
@@ -44,11 +44,11 @@ unfolding dma_verdict
 dma-is log p u done request why d q e = rw (d, q, e) refl
 
 -- a serial step that is done with the input that the log gives has the verdict of the definitions
-pub step-is : (log : LogParts) (p : Progress) (u : Used) (k : ℕ) (threads : List Parts) (t : Parts) (m : List ℕ) (request : Option Request) (g : Given) (left : Served) (out : Verdict)
+pub step-is : (log : LogParts) (p : Progress) (u : Used) (k : ℕ) (threads : List Parts) (t : Parts) (m : List ℕ) (request : Option Request) (g : Given) (left : StepResult) (out : LogVerdict)
     → p.request ≡ request → None ≡ serial_why (size_in log (Actor.Thread k) t.commits) → Some g ≡ given (need t m) (slice_get log.inputs u.inputs) u
     → left ≡ serve k threads request t m g.input → out ≡ ended log k (serial_effect k left) g.used → out ≡ serial_verdict log p u k threads t m
 step-is log p u k threads t m request g left out q e f l o =
-    o ∙ ap (λ (v : Served). ended log k (serial_effect k v) g.used) (l ∙ ap (λ (x : Option Request). serve k threads x t m g.input) (sym q))
+    o ∙ ap (λ (v : StepResult). ended log k (serial_effect k v) g.used) (l ∙ ap (λ (x : Option Request). serve k threads x t m g.input) (sym q))
     ∙ sym (serial-is log p u k threads t m None (Some g) e f)
 
 -- without a request no DMA goes

@@ -66,7 +66,7 @@ committed r p k e u threads =
     }
 
 -- a chunk of thread k: its words and its loads are the sphere's own
-abbrev pub chunk_judged : Replaying → Progress → (thread : ℕ) → (before threads : List Parts) → Option Request → Served → log.Verdict → Judged
+abbrev pub chunk_judged : Replaying → Progress → (thread : ℕ) → (before threads : List Parts) → Option Request → Served → log.LogVerdict → Judged
 chunk_judged r p k before threads request served (log.Fails why) =
     record { verdict = Verdict.Diverged why; replay = diverged why r; threads = threads; request = request; served = served }
 chunk_judged r p k before threads request served (log.Goes e u) =
@@ -83,7 +83,7 @@ with_served served e =
     }
 
 -- a serial step of thread k
-abbrev pub serial_judged : Replaying → Progress → (thread : ℕ) → List Parts → Option Request → Served → log.Verdict → Judged
+abbrev pub serial_judged : Replaying → Progress → (thread : ℕ) → List Parts → Option Request → Served → log.LogVerdict → Judged
 serial_judged r p k threads request served (log.Fails why) =
     record { verdict = Verdict.Diverged why; replay = diverged why r; threads = threads; request = request; served = served }
 serial_judged r p k threads request served (log.Goes e u) =

@@ -5,18 +5,18 @@ use Rattle.spec_kernel.specs.Copies.{dma_words}
 use Rattle.spec_play.specs.Transfers.{DmaVerdict, DmaGoes, DmaFails}
 use Rattle.dl_entry.specs.declared.Why.{Why}
 use Rattle.dl_wbuf.specs.Buffers.{Words}
-use Rattle.dl_kernel.specs.declared.serving.Served.{Served as Left}
+use Rattle.dl_kernel.specs.declared.serving.StepResult.{StepResult}
 use Rattle.dl_replay.specs.declared.served.Served.{Served}
 use Rattle.dl_replay.specs.declared.asking.Verdict.{Verdict}
 
 abbrev pub nothing_served : Served
 nothing_served = record { words = []; loads = []; outputs = [] }
 
-abbrev pub verdict_left : Result Left Why → Verdict
+abbrev pub verdict_left : Result StepResult Why → Verdict
 verdict_left (Ok left) = Verdict.Went
 verdict_left (Err why) = Verdict.Diverged why
 
-abbrev pub served_left : Result Left Why → Served
+abbrev pub served_left : Result StepResult Why → Served
 served_left (Ok left) = record { words = left.words.words; loads = left.loads; outputs = left.outputs }
 served_left (Err why) = nothing_served
 

@@ -2,6 +2,6 @@ pub mod Seen
 pub mod Lists
 pub mod Judging
 pub mod Replaying
-pub mod Kept
+pub mod Replays
 pub mod Judged
 pub mod Left

@@ -45,8 +45,8 @@ pub record Agrees (r : Replaying) (p : Progress) : Type 0 where
   pub last : p.last ≡ r.last
 
 -- before the first commit, where thread 0 stands alone at an entry
-abbrev pub begun : LogParts → (entry : ℕ) → Replaying
-begun log entry =
+abbrev pub replay_start : LogParts → (entry : ℕ) → Replaying
+replay_start log entry =
     let threads = started entry ∷ [] in
     record {
       log = log;

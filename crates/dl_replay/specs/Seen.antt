@@ -4,7 +4,7 @@ use Rattle.spec_play.specs.Progress as play
 use Rattle.spec_play.specs.Turns as turns
 use Rattle.dl_replay.specs.declared.now.Now.{Now}
 use Rattle.dl_replay.specs.declared.place.Used.{Used}
-use Rattle.dl_replay.specs.declared.place.Place.{Place}
+use Rattle.dl_replay.specs.declared.place.LogPlace.{LogPlace}
 
 abbrev pub now_seen : Now → turns.Now
 now_seen (Now.Turn thread) = turns.Turn thread
@@ -14,5 +14,5 @@ now_seen (Now.Over how) = turns.Over how
 abbrev pub used_seen : Used → play.Used
 used_seen u = record { inputs = u.inputs; interrupts = u.interrupts; dmas = u.dmas }
 
-abbrev pub first_place : Place
+abbrev pub first_place : LogPlace
 first_place = record { used = record { inputs = 0; interrupts = 0; dmas = 0 }; done = 0; last = None }

@@ -1,7 +1,7 @@
 //! The parts of a log, each copied into the store that it is looked up in.
 ghost use Rattle.std.specs.Prelude.{◌≡◌, map, IfOk};
 ghost use Rattle.spec_log.specs.Log.{IsLog, AreInterrupts, AreInputs, AreDmas};
-ghost use Rattle.dl_input.specs.Held.{interrupt_of};
+ghost use Rattle.dl_input.specs.Tracked.{interrupt_of};
 ghost use Rattle.dl_mode.specs.Lists.{lists_of};
 ghost use Rattle.dl_replay.specs.Lists.{lists_in};
 

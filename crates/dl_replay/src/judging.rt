@@ -13,9 +13,9 @@ ghost use Rattle.dl_replay.specs.Judging.{verdict_of, given_by, step_verdict, tr
 
 use crate::counting::{counted, interrupted, takes_interrupt};
 use crate::lookup::Lookup;
-use crate::place::{Place, Used};
+use crate::place::{LogPlace, Used};
 use dl_entry::{Actor, Input, OutOfMemory, Request, Why};
-use dl_kernel::{Injected, Served, Step, dma_words, inject, serve, wants_record};
+use dl_kernel::{Injected, Step, StepResult, dma_words, inject, serve, wants_record};
 use dl_mem::Memory;
 use dl_mode::Mode;
 use dl_thread::Thread;
@@ -95,7 +95,7 @@ fn chunk_why(size: Option<u32>, total: u32) -> Option<Why>
 /// What a serial step leaves, and the end of its commit.
 #[derive(Drop)]
 pub struct Done {
-    pub left: Served,
+    pub left: StepResult,
     pub finish: Finish,
 }
 
@@ -185,7 +185,7 @@ pub struct Transfer<'a> {
 /// Judges a DMA.
 pub fn transfer_of<'a, M: Mode>(
     log: &'a Lookup<M>,
-    place: &Place,
+    place: &LogPlace,
     request: Option<Request>,
 ) -> Result<Transfer<'a>, Why>
     ensures verdict { (p : Progress) → position p ≡ place.now.done → p.request ≡ request →
@@ -214,7 +214,7 @@ pub fn transfer_of<'a, M: Mode>(
 pub fn judge_dma<M: Mode>(
     alloc: Global,
     log: &Lookup<M>,
-    place: &Place,
+    place: &LogPlace,
     request: Option<Request>,
 ) -> Result<Result<Buffer, Why>, OutOfMemory>
     requires { IfSome request (λ q. q.buf + 4 + q.len < 2 ^ 32) }

@@ -32,7 +32,7 @@ impl<M: Mode> Model for Lookup<M> {
     ghost use Rattle.spec_log.specs.declared.log.LogParts.{LogParts};
     ghost use Rattle.spec_log.specs.Log.{IsLog};
     ghost use Rattle.spec_log.specs.Noting.{log_of};
-    ghost use Rattle.dl_input.specs.Held.{interrupt_of};
+    ghost use Rattle.dl_input.specs.Tracked.{interrupt_of};
 
     ghost Value = { LogParts };
 

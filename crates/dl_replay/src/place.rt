@@ -10,18 +10,18 @@ pub struct Used {
 
 /// The records that are taken, the whole commits that are done, and the thread that committed last.
 #[derive(Clone, Copy, Debug, PartialEq, Eq)]
-pub struct Place {
+pub struct LogPlace {
     pub used: Used,
     pub done: u32,
     pub last: Option<u8>,
 }
 
-impl Place {
+impl LogPlace {
     ghost use Rattle.std.specs.Prelude.{◌≡◌};
     ghost use Rattle.dl_replay.specs.Seen.{first_place};
 
     /// Before the first commit.
-    pub fn first() -> Place
+    pub fn first() -> LogPlace
         ensures { result ≡ first_place }
     {
         let used = Used {
@@ -29,7 +29,7 @@ impl Place {
             interrupts: 0,
             dmas: 0,
         };
-        Place {
+        LogPlace {
             used,
             done: 0,
             last: None,

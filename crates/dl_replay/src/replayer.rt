@@ -12,8 +12,8 @@ ghost use Rattle.spec_protocol.specs.Spheres.{Replay, actor_of, limit_in, limit_
 ghost use Rattle.spec_protocol.proofs.Moves.Threads.{AreNew};
 ghost use Rattle.dl_kernel.specs.Calls.{made_list};
 ghost use Rattle.dl_replay.specs.Seen.{used_seen};
-ghost use Rattle.dl_replay.specs.Replaying.{Agrees, IsTurnOf, begun, commits_of, cursor_of, end_of};
-ghost use Rattle.dl_replay.specs.Kept.{advanced};
+ghost use Rattle.dl_replay.specs.Replaying.{Agrees, IsTurnOf, replay_start, commits_of, cursor_of, end_of};
+ghost use Rattle.dl_replay.specs.Replays.{advanced};
 ghost use Rattle.dl_replay.specs.Judging.{transfer_verdict};
 ghost use Rattle.dl_replay.specs.Left.{SaysSize, nothing_served, served_left, served_stored, verdict_left, verdict_stored};
 ghost use Rattle.dl_replay.specs.Judged.{HasRun, IsAmong, IsInside, chunk_judged, diverged, dma_judged, is_serial_step, serial_judged};
@@ -23,11 +23,11 @@ use crate::counting::{commits_of, settle, thread_at};
 use crate::judging::{Finish, judge_chunk, judge_dma, judge_step, transfer_of};
 use crate::lookup::Lookup;
 use crate::now::Now;
-use crate::place::{Place, Used};
+use crate::place::{LogPlace, Used};
 use crate::served::Served;
 use crate::turning::now_at;
 use dl_entry::{Actor, End, OutOfMemory, Request, Why};
-use dl_kernel::{Served as Left, Step};
+use dl_kernel::{Step, StepResult};
 use dl_mem::Memory;
 use dl_mode::Mode;
 use dl_thread::{Thread, Threads};
@@ -41,7 +41,7 @@ use std::marker::Model;
 pub struct Replayer<M: Mode> {
     alloc: Global,
     log: Lookup<M>,
-    place: Place,
+    place: LogPlace,
     turn: Now,
     total: u32,
     commits: [u32; 15],
@@ -49,7 +49,7 @@ pub struct Replayer<M: Mode> {
 
 impl<M: Mode> Model for Replayer<M> {
     ghost use Rattle.dl_replay.specs.Replaying.{Replaying};
-    ghost use Rattle.dl_replay.specs.Kept.{replaying, IsReplaying};
+    ghost use Rattle.dl_replay.specs.Replays.{replaying, IsReplaying};
 
     ghost Value = { Replaying };
 
@@ -62,10 +62,10 @@ impl<M: Mode> Replayer<M> {
     /// The replay of a log from its first commit on. Thread 0 stands alone, at whatever entry.
     pub fn new(alloc: Global, log: &Log) -> Result<Replayer<M>, OutOfMemory>
         requires mode { log.now.mode ≡ M.mode }
-        ensures { (entry : ℕ) → IfOk result (λ replayer. replayer ≡ begun log.now entry) }
+        ensures { (entry : ℕ) → IfOk result (λ replayer. replayer ≡ replay_start log.now entry) }
     {
         let log = Lookup::new(alloc, log)?;
-        let place = Place::first();
+        let place = LogPlace::first();
         let threads = Threads::start(0);
         let turn = now_at(&log, &place, &threads);
         Ok(Replayer {
@@ -256,7 +256,7 @@ impl<M: Mode> Replayer<M> {
         threads: &mut Threads,
         request: &mut Option<Request>,
         memory: &Memory,
-    ) -> Result<Result<Left, Why>, OutOfMemory>
+    ) -> Result<Result<StepResult, Why>, OutOfMemory>
         requires turn { self.old.now ≡ Turn number }
         requires thread { number < length threads.old }
         requires commits { self.old.commits ≡ commits_of threads.old }
@@ -429,7 +429,7 @@ impl<M: Mode> Replayer<M> {
         ensures verdict { result ≡ Verdict.Went }
         ensures replay { self.new ≡ advanced self.old.log (self.old.done + 1) last (used_seen used) threads.now }
     {
-        self.place = Place {
+        self.place = LogPlace {
             used,
             done: self.place.done + 1,
             last,

@@ -2,7 +2,7 @@
 ghost use Rattle.std.specs.Prelude.{◌≡◌, [], ◌∷◌, ◌++◌, length, take, OnOk, OnErr};
 
 use dl_entry::{Bytes, Load, Loads, OutOfMemory, Output, Outputs, Sequence};
-use dl_kernel::Served as Left;
+use dl_kernel::StepResult;
 use dl_wbuf::{Buffer, Stored};
 use std::alloc::Global;
 
@@ -32,7 +32,7 @@ impl Served {
     }
 
     /// Adds what a serial step left at the ends of the lists. After want of memory they are as before.
-    pub(crate) fn add(&mut self, alloc: Global, left: &Left) -> Result<(), OutOfMemory>
+    pub(crate) fn add(&mut self, alloc: Global, left: &StepResult) -> Result<(), OutOfMemory>
         ensures words { OnOk result (self.new.words ≡ self.old.words ++ left.now.words.words) }
         ensures loads { OnOk result (self.new.loads ≡ self.old.loads ++ left.now.loads) }
         ensures outputs { OnOk result (self.new.outputs ≡ self.old.outputs ++ left.now.outputs) }
@@ -51,7 +51,7 @@ impl Served {
     }
 
     // The same, but after want of memory some may be added.
-    fn push_all(&mut self, alloc: Global, left: &Left) -> Result<(), OutOfMemory>
+    fn push_all(&mut self, alloc: Global, left: &StepResult) -> Result<(), OutOfMemory>
         ensures words { OnOk result (self.new.words ≡ self.old.words ++ left.now.words.words) }
         ensures loads { OnOk result (self.new.loads ≡ self.old.loads ++ left.now.loads) }
         ensures outputs { OnOk result (self.new.outputs ≡ self.old.outputs ++ left.now.outputs) }

@@ -5,19 +5,19 @@ ghost use Rattle.spec_log.specs.Log.{IsLog};
 ghost use Rattle.spec_kernel.specs.Interrupts.{is_live};
 ghost use Rattle.spec_play.specs.Turns.{turn_of, at_end, has_left_over};
 ghost use Rattle.dl_replay.specs.Seen.{now_seen, used_seen};
-ghost use Rattle.dl_replay.specs.Kept.{now_for};
+ghost use Rattle.dl_replay.specs.Replays.{now_for};
 ghost use Rattle.dl_replay.specs.Replaying.{lives};
 
 use crate::counting::{commits_of, is_live};
 use crate::lookup::Lookup;
 use crate::now::Now;
-use crate::place::{Place, Used};
+use crate::place::{LogPlace, Used};
 use dl_entry::{Actor, End, Why};
 use dl_mode::Mode;
 use dl_thread::Threads;
 
 /// Whose turn it is at a place in the log, with these threads.
-pub fn now_at<M: Mode>(log: &Lookup<M>, place: &Place, threads: &Threads) -> Now
+pub fn now_at<M: Mode>(log: &Lookup<M>, place: &LogPlace, threads: &Threads) -> Now
     ensures now { let at = place.now in now_seen result ≡ now_for log.now at.done at.last (used_seen at.used) threads.now }
     ensures log { IsLog log.now }
 {
@@ -29,7 +29,7 @@ pub fn now_at<M: Mode>(log: &Lookup<M>, place: &Place, threads: &Threads) -> Now
 }
 
 // The actor that the log names next.
-fn next_actor<M: Mode>(log: &Lookup<M>, place: &Place, threads: &Threads) -> Option<Actor>
+fn next_actor<M: Mode>(log: &Lookup<M>, place: &LogPlace, threads: &Threads) -> Option<Actor>
     ensures { result ≡ head log.now place.now.done place.now.last (map is_live threads.now) }
 {
     let live = live_of(threads);

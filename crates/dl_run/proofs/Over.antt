@@ -30,10 +30,10 @@ use Rattle.spec_finishing.proofs.Ending.Knowing.{after-event}
 use Rattle.spec_finishing.proofs.Ending.KindsKept.{is_replayed}
 use Rattle.spec_finishing.proofs.Ending.ShortRuns.{setups_finish}
 use Rattle.spec_run.specs.Runs.{executed, played, end_of, diverges, diverges_as, has_diverged}
-use Rattle.spec_run.specs.Texts.{account_text, console_text, line_as, line_of_end, lines_from, lines_of, log_as, log_told, log_text, report_text, summary_text}
-use Rattle.spec_run.specs.Promise.{end_as, account_held, HasRole, IsTold}
+use Rattle.spec_run.specs.Texts.{account_text, console_text, line_as, line_of_end, lines_from, lines_of, log_as, log_of_points, log_text, report_text, summary_text}
+use Rattle.spec_run.specs.Promise.{end_as, account_held, HasRole, IsDescribed}
 use Rattle.spec_run.proofs.Room.{leaves_room}
-use Rattle.spec_run.proofs.Told.{spheres_told, runs_told}
+use Rattle.spec_run.proofs.Described.{spheres_described, runs_described}
 use Rattle.dl_machine.specs.Ready.{HasRoom}
 use Rattle.dl_finish.proofs.Room.{room_kept}
 use Rattle.dl_sphere.specs.Reading.{end_in, log_in}
@@ -48,7 +48,7 @@ image_there (x ∷ xs) (suc i) l = image_there xs i (omega (arith, l))
 
 -- there are as many spheres as were set up
 pub as_many : (es : List Event) (r : Ran) → IsOver es r → length r.world.spheres ≡ length r.setup.spheres
-as_many es r over = ap (λ (w : World). length w.spheres) over.world ∙ (runs_told r.setup es (setups_finish r.setup over.limits).setup).spheres
+as_many es r over = ap (λ (w : World). length w.spheres) over.world ∙ (runs_described r.setup es (setups_finish r.setup over.limits).setup).spheres
 
 -- ---- a sphere
 
@@ -56,20 +56,20 @@ as_many es r over = ap (λ (w : World). length w.spheres) over.world ∙ (runs_t
 pub few_spheres : (es : List Event) (r : Ran) → IsOver es r → length r.setup.spheres ≤ 8
 few_spheres es r over = over.limits.few.1
 
-pub told : (es : List Event) (r : Ran) (i : ℕ) → IsOver es r → i < length r.setup.spheres → IsTold r.setup es i (image_at r.setup i)
-told es r i over inside =
-    spheres_told r.setup es i (image_at r.setup i) (setups_finish r.setup over.limits) (image_there r.setup.spheres i inside)
+pub described : (es : List Event) (r : Ran) (i : ℕ) → IsOver es r → i < length r.setup.spheres → IsDescribed r.setup es i (image_at r.setup i)
+described es r i over inside =
+    spheres_described r.setup es i (image_at r.setup i) (setups_finish r.setup over.limits) (image_there r.setup.spheres i inside)
 
 -- the role of the machine's sphere
 has_role : (es : List Event) (r : Ran) (i : ℕ) (role : RoleSetup) → IsOver es r → i < length r.setup.spheres → (image_at r.setup i).role ≡ role → HasRole r.setup es i role (sphere_at r.world i).role
 has_role es r i role over inside is =
     subst (λ (x : RoleSetup). HasRole r.setup es i x (sphere_at r.world i).role) is
-    (subst (λ (w : World). HasRole r.setup es i (image_at r.setup i).role (sphere_at w i).role) (sym over.world) (told es r i over inside).role)
+    (subst (λ (w : World). HasRole r.setup es i (image_at r.setup i).role (sphere_at w i).role) (sym over.world) (described es r i over inside).role)
 
 -- it has ended
 pub at_end : (es : List Event) (r : Ran) (i : ℕ) → IsOver es r → i < length r.setup.spheres → IsAtEnd (sphere_at r.world i).role
 at_end es r i over inside =
-    subst (λ (w : World). IsAtEnd (sphere_at w i).role) (sym over.world) (told es r i over inside).over
+    subst (λ (w : World). IsAtEnd (sphere_at w i).role) (sym over.world) (described es r i over inside).over
 
 -- ---- room
 
@@ -124,18 +124,18 @@ live-end (Replay b) n e = absurd (true≢false e)
 -- ---- logs
 
 -- a sphere that was set up to be recorded holds the log that the run tells
-pub recorded-role : (es : List Event) (r : Ran) (i : ℕ) (mode : ModeName) → IsOver es r → i < length r.setup.spheres → (image_at r.setup i).role ≡ IsRecorded mode → (sphere_at r.world i).role ≡ Record (log_told r.setup es i mode)
+pub recorded-role : (es : List Event) (r : Ran) (i : ℕ) (mode : ModeName) → IsOver es r → i < length r.setup.spheres → (image_at r.setup i).role ≡ IsRecorded mode → (sphere_at r.world i).role ≡ Record (log_of_points r.setup es i mode)
 recorded-role es r i mode over inside is = has_role es r i (IsRecorded mode) over inside is
 
 -- the log that the machine has of a recorded sphere is the one that the run tells
-pub log-told : (es : List Event) (r : Ran) (i : ℕ) (mode : ModeName) (log : LogParts) → IsOver es r → i < length r.setup.spheres → (image_at r.setup i).role ≡ IsRecorded mode → log_in (sphere_at r.world i).role ≡ Some log → log ≡ log_told r.setup es i mode
-log-told es r i mode log over inside is there =
+pub log-of_points : (es : List Event) (r : Ran) (i : ℕ) (mode : ModeName) (log : LogParts) → IsOver es r → i < length r.setup.spheres → (image_at r.setup i).role ≡ IsRecorded mode → log_in (sphere_at r.world i).role ≡ Some log → log ≡ log_of_points r.setup es i mode
+log-of_points es r i mode log over inside is there =
     let role = recorded-role es r i mode over inside is in
-    let e : Some log ≡ Some (log_told r.setup es i mode) = sym there ∙ ap log_in role in
+    let e : Some log ≡ Some (log_of_points r.setup es i mode) = sym there ∙ ap log_in role in
     cc
 
 -- the bytes of the log that the run tells are the text of a recorded sphere's log
-pub log-is : (s : Setup) (es : List Event) (i : ℕ) (mode : ModeName) (log : LogParts) → (image_at s i).role ≡ IsRecorded mode → log ≡ log_told s es i mode → log_bytes log ≡ log_text s es i
+pub log-is : (s : Setup) (es : List Event) (i : ℕ) (mode : ModeName) (log : LogParts) → (image_at s i).role ≡ IsRecorded mode → log ≡ log_of_points s es i mode → log_bytes log ≡ log_text s es i
 unfolding log_text
 log-is s es i mode log is same = ap log_bytes same ∙ ap (log_as s es i) (sym is)
 
@@ -151,14 +151,14 @@ no-log s es i (inr is) = ap (log_as s es i) (sym is.1)
 pub account-is : (es : List Event) (r : Ran) (i : ℕ) → IsOver es r → i < length r.setup.spheres → account_held (sphere_at r.world i) ≡ account_text r.setup es i
 unfolding account_text
 account-is es r i over inside =
-    ap (λ (w : World). account_held (sphere_at w i)) over.world ∙ (told es r i over inside).account
+    ap (λ (w : World). account_held (sphere_at w i)) over.world ∙ (described es r i over inside).account
 
 -- what the machine's console has taken is the text of the console
 pub console-is : (es : List Event) (r : Ran) → IsOver es r → r.world.devices.console ≡ console_text r.setup es
 unfolding console_text
 console-is es r over =
     ap (λ (w : World). w.devices.console) over.world
-    ∙ ap (λ (d : Devices). d.console) (runs_told r.setup es (setups_finish r.setup over.limits).setup).devices
+    ∙ ap (λ (d : Devices). d.console) (runs_described r.setup es (setups_finish r.setup over.limits).setup).devices
 
 -- ---- lines
 
@@ -172,14 +172,14 @@ not-replayed es r i (IsReplayed log) over inside is live = absurd (true≢false 
 pub commits-are : (es : List Event) (r : Ran) (i : ℕ) → IsOver es r → i < length r.setup.spheres → replays (sphere_at r.world i).role ≡ false → position (sphere_at r.world i).progress ≡ position (sphere_in (executed r.setup es) i).progress
 commits-are es r i over inside live =
     let l : replays (sphere_at (finished r.setup es) i).role ≡ false = subst (λ (w : World). replays (sphere_at w i).role ≡ false) over.world live in
-    ap (λ (w : World). position (sphere_at w i).progress) over.world ∙ ap position ((told es r i over inside).executed l)
+    ap (λ (w : World). position (sphere_at w i).progress) over.world ∙ ap position ((described es r i over inside).executed l)
 
 -- a replayed one ends as its log's play
 pub ends-as-played : (es : List Event) (r : Ran) (i : ℕ) (log : LogParts) (n : ℕ) → IsOver es r → i < length r.setup.spheres → (image_at r.setup i).role ≡ IsReplayed log → end_as (sphere_at r.world i).role n ≡ end_of (played log (image_at r.setup i)).now
 ends-as-played es r i log n over inside is =
     let h = has_role es r i (IsReplayed log) over inside is in
     let there : (sphere_at (finished r.setup es) i).role ≡ Replay h.0 = subst (λ (w : World). (sphere_at w i).role ≡ Replay h.0) over.world h.1 in
-    ap (λ (x : Role). end_as x n) h.1 ∙ ap end_of ((told es r i over inside).played log h.0 is there)
+    ap (λ (x : Role). end_as x n) h.1 ∙ ap end_of ((described es r i over inside).played log h.0 is there)
 
 -- a plain sphere's line, of its commits in the machine, is that of the texts
 pub line-plain : (es : List Event) (r : Ran) (i : ℕ) → IsOver es r → i < length r.setup.spheres → (image_at r.setup i).role ≡ IsPlain → SphereLine.Plain (position (sphere_at r.world i).progress) ≡ line_as (image_at r.setup i) (sphere_in (executed r.setup es) i) (image_at r.setup i).role

@@ -4,6 +4,6 @@ use Rattle.spec_log.specs.Bytes.{log_bytes}
 use Rattle.spec_log.specs.declared.LogParts.{LogParts}
 
 -- none, where there is no log
-abbrev pub bytes_told : Option LogParts → List ℕ
-bytes_told None = []
-bytes_told (Some log) = log_bytes log
+abbrev pub log_bytes_if : Option LogParts → List ℕ
+log_bytes_if None = []
+log_bytes_if (Some log) = log_bytes log

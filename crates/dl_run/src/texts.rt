@@ -4,8 +4,8 @@ ghost use Rattle.spec_log.specs.declared.ModeName.{ModeName};
 ghost use Rattle.spec_protocol.specs.declared.event.Event.{Event};
 ghost use Rattle.spec_protocol.specs.Machine.{IsRecorded};
 ghost use Rattle.spec_protocol.specs.Sound.{image_at};
-ghost use Rattle.spec_run.specs.Texts.{account_text as account_of, console_text, log_told, log_text, report_text as report_of, summary_text as summary_of};
-ghost use Rattle.dl_run.specs.Logs.{bytes_told};
+ghost use Rattle.spec_run.specs.Texts.{account_text as account_of, console_text, log_of_points, log_text, report_text as report_of, summary_text as summary_of};
+ghost use Rattle.dl_run.specs.Logs.{log_bytes_if};
 ghost use Rattle.dl_run.specs.Ran.{IsOver};
 
 use crate::run::Run;
@@ -19,7 +19,7 @@ impl Run {
     /// A sphere's log; none where the sphere isn't recorded.
     pub fn log(&self, sphere: usize) -> Result<Option<Log>, OutOfMemory>
         requires { sphere < length self.now.setup.spheres }
-        ensures { IfOk result (λ log. (es : List Event) → IsOver es self.now → bytes_told log ≡ log_text self.now.setup es sphere) }
+        ensures { IfOk result (λ log. (es : List Event) → IsOver es self.now → log_bytes_if log ≡ log_text self.now.setup es sphere) }
     {
         match self.role(sphere) {
             Role::Record(_) => Ok(Some(self.recording(sphere)?)),
@@ -33,7 +33,7 @@ impl Run {
         requires inside { sphere < length self.now.setup.spheres }
         requires recorded { (mode : ModeName) × ((image_at self.now.setup sphere).role ≡ IsRecorded mode) }
         ensures { IfOk result (λ log. (es : List Event) (mode : ModeName) → IsOver es self.now
-            → (image_at self.now.setup sphere).role ≡ IsRecorded mode → log ≡ log_told self.now.setup es sphere mode) }
+            → (image_at self.now.setup sphere).role ≡ IsRecorded mode → log ≡ log_of_points self.now.setup es sphere mode) }
     {
         self.sphere(sphere).log()
     }

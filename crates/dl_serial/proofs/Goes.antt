@@ -20,7 +20,7 @@ use Rattle.spec_kernel.specs.Interrupts.{takes_interrupt, interrupted}
 use Rattle.spec_play.specs.Effects.{Effect, chunk_commit, chunk_effect, serial_commit, serial_effect}
 use Rattle.spec_play.specs.Progress.{Progress, Used, with_input, with_interrupt}
 use Rattle.spec_play.specs.Transfers.{DmaVerdict, DmaGoes, dma_verdict}
-use Rattle.spec_play.specs.Verdicts.{Verdict, Goes, Fails, Given, given, with_interrupted, interrupt_at, chunk_verdict, unless, served_verdict, serial_verdict}
+use Rattle.spec_play.specs.Verdicts.{LogVerdict, Goes, Fails, Given, given, with_interrupted, interrupt_at, chunk_verdict, unless, served_verdict, serial_verdict}
 use Rattle.spec_protocol.specs.Sound.{IsSoundIf}
 use Rattle.spec_protocol.proofs.Invariants.Cores.{branch}
 use Rattle.spec_protocol.proofs.Sound.Threads.{BringsIf}
@@ -28,11 +28,11 @@ use Rattle.spec_protocol.proofs.Sound.Commits.{IsSoundEffect, serial-effect}
 use Rattle.spec_protocol.proofs.Sound.Moves.{fits-brings}
 use Rattle.spec_protocol.proofs.Sound.Transfers.{IfDmaGoes, dma-goes}
 
-goes : Verdict → Bool
+goes : LogVerdict → Bool
 goes (Goes e u) = true
 goes (Fails why) = false
 
-effect_of : Effect → Verdict → Effect
+effect_of : Effect → LogVerdict → Effect
 effect_of d (Goes e u) = e
 effect_of d (Fails why) = d
 
@@ -50,7 +50,7 @@ interrupted-like (Some value) e u f w is =
       | false ↦ λ h. absurd (true≢false (sym (ap goes h)))
     ]) is
 
-unless-goes : (o : Option Why) (v : Verdict) (f : Effect) (w : Used) → unless o v ≡ Goes f w → v ≡ Goes f w
+unless-goes : (o : Option Why) (v : LogVerdict) (f : Effect) (w : Used) → unless o v ≡ Goes f w → v ≡ Goes f w
 unfolding goes
 unless-goes None v f w is = is
 unless-goes (Some why) v f w is = absurd (true≢false (sym (ap goes is)))

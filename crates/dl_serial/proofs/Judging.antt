@@ -12,28 +12,28 @@ use Rattle.spec_play.specs.Effects.{Effect}
 use Rattle.spec_play.specs.Progress.{Progress, Used}
 use Rattle.spec_play.specs.Plays.{with_threads}
 use Rattle.spec_play.specs.Transfers.{DmaVerdict, DmaGoes, DmaFails}
-use Rattle.spec_play.specs.Verdicts.{Verdict, Goes, Fails}
-use Rattle.dl_kernel.specs.declared.serving.Served.{Served as Left}
+use Rattle.spec_play.specs.Verdicts.{LogVerdict, Goes, Fails}
+use Rattle.dl_kernel.specs.declared.serving.StepResult.{StepResult}
 use Rattle.dl_wbuf.specs.Buffers.{Words}
 use Rattle.dl_replay.specs.declared.served.Served.{Served}
-use Rattle.dl_replay.specs.declared.asking.Verdict.{Verdict as Answer}
+use Rattle.dl_replay.specs.declared.asking.Verdict.{Verdict}
 use Rattle.dl_replay.specs.Judged as replay
 use Rattle.dl_replay.specs.Judged.{chunk_judged, serial_judged, dma_judged, committed, diverged, transferred}
 use Rattle.dl_replay.specs.Left.{nothing_served, served_left, served_stored}
 use Rattle.dl_replay.specs.Replaying.{Replaying, commits_of}
 
-went : Answer → Bool
-went Answer.Went = true
-went (Answer.Diverged why) = false
+went : Verdict → Bool
+went Verdict.Went = true
+went (Verdict.Diverged why) = false
 
-why_in : Why → Answer → Why
-why_in d Answer.Went = d
-why_in d (Answer.Diverged why) = why
+why_in : Why → Verdict → Why
+why_in d Verdict.Went = d
+why_in d (Verdict.Diverged why) = why
 
 -- ---- a commit of a thread went
 
 -- the verdict goes, and the replay, the threads and the request are as its effect says
-pub record HasGone (r : Replaying) (p : Progress) (k : ℕ) (ts : List Parts) (v : Verdict) (new : Replaying) (us : List Parts) (q : Option Request) : Type 0 where
+pub record HasGone (r : Replaying) (p : Progress) (k : ℕ) (ts : List Parts) (v : LogVerdict) (new : Replaying) (us : List Parts) (q : Option Request) : Type 0 where
   pub effect : Effect
   pub used : Used
   pub verdict : v ≡ Goes effect used
@@ -42,8 +42,8 @@ pub record HasGone (r : Replaying) (p : Progress) (k : ℕ) (ts : List Parts) (v
   pub request : q ≡ effect.request
 
 -- a chunk that the replayer lets go has a verdict that goes, and leaves what its effect says
-pub chunk-gone : (r : Replaying) (p : Progress) (k : ℕ) (ts : List Parts) (rq : Option Request) (served s : Served) (v : Verdict) (new : Replaying) (us : List Parts) (q : Option Request)
-    → record { verdict = Answer.Went; replay = new; threads = us; request = q; served = s } ≡ chunk_judged r p k ts ts rq served v
+pub chunk-gone : (r : Replaying) (p : Progress) (k : ℕ) (ts : List Parts) (rq : Option Request) (served s : Served) (v : LogVerdict) (new : Replaying) (us : List Parts) (q : Option Request)
+    → record { verdict = Verdict.Went; replay = new; threads = us; request = q; served = s } ≡ chunk_judged r p k ts ts rq served v
     → HasGone r p k ts v new us q
 unfolding went
 chunk-gone r p k ts rq served s (Fails why) new us q is = absurd (true≢false (ap (λ (j : replay.Judged). went j.verdict) is))
@@ -58,15 +58,15 @@ chunk-gone r p k ts rq served s (Goes e u) new us q is =
     }
 
 -- a serial step went, and its words, loads and outputs are those of its effect
-pub record HasServed (r : Replaying) (p : Progress) (k : ℕ) (ts : List Parts) (v : Verdict) (new : Replaying) (us : List Parts) (q : Option Request) (left : Left) : Type 0 where
+pub record HasServed (r : Replaying) (p : Progress) (k : ℕ) (ts : List Parts) (v : LogVerdict) (new : Replaying) (us : List Parts) (q : Option Request) (left : StepResult) : Type 0 where
   pub gone : HasGone r p k ts v new us q
   pub words : left.words.words ≡ gone.effect.words
   pub loads : left.loads ≡ gone.effect.commit.loads
   pub outputs : left.outputs ≡ gone.effect.commit.outputs
 
 -- a serial step that the replayer lets go has a verdict that goes, and leaves and serves what its effect says
-pub step-gone : (r : Replaying) (p : Progress) (k : ℕ) (ts : List Parts) (rq : Option Request) (v : Verdict) (new : Replaying) (us : List Parts) (q : Option Request) (left : Left)
-    → record { verdict = Answer.Went; replay = new; threads = us; request = q; served = served_left (Ok left) } ≡ serial_judged r p k ts rq nothing_served v
+pub step-gone : (r : Replaying) (p : Progress) (k : ℕ) (ts : List Parts) (rq : Option Request) (v : LogVerdict) (new : Replaying) (us : List Parts) (q : Option Request) (left : StepResult)
+    → record { verdict = Verdict.Went; replay = new; threads = us; request = q; served = served_left (Ok left) } ≡ serial_judged r p k ts rq nothing_served v
     → HasServed r p k ts v new us q left
 unfolding went
 step-gone r p k ts rq (Fails why) new us q left is = absurd (true≢false (ap (λ (j : replay.Judged). went j.verdict) is))
@@ -88,7 +88,7 @@ step-gone r p k ts rq (Goes e u) new us q left is =
 -- ---- it didn't
 
 -- only the end is noted, with the verdict's reason
-pub record Fell (r : Replaying) (ts : List Parts) (rq : Option Request) (v : Verdict) (new : Replaying) (us : List Parts) (q : Option Request) : Type 0 where
+pub record Fell (r : Replaying) (ts : List Parts) (rq : Option Request) (v : LogVerdict) (new : Replaying) (us : List Parts) (q : Option Request) : Type 0 where
   pub why : Why
   pub verdict : v ≡ Fails why
   pub replay : new ≡ diverged why r
@@ -96,8 +96,8 @@ pub record Fell (r : Replaying) (ts : List Parts) (rq : Option Request) (v : Ver
   pub request : q ≡ rq
 
 -- a chunk at which the replayer diverges has a verdict that fails, and only the end is noted
-pub chunk-fell : (r : Replaying) (p : Progress) (k : ℕ) (ts : List Parts) (rq : Option Request) (served s : Served) (v : Verdict) (because : Why) (new : Replaying) (us : List Parts) (q : Option Request)
-    → record { verdict = Answer.Diverged because; replay = new; threads = us; request = q; served = s } ≡ chunk_judged r p k ts ts rq served v
+pub chunk-fell : (r : Replaying) (p : Progress) (k : ℕ) (ts : List Parts) (rq : Option Request) (served s : Served) (v : LogVerdict) (because : Why) (new : Replaying) (us : List Parts) (q : Option Request)
+    → record { verdict = Verdict.Diverged because; replay = new; threads = us; request = q; served = s } ≡ chunk_judged r p k ts ts rq served v
     → Fell r ts rq v new us q
 unfolding went
 chunk-fell r p k ts rq served s (Goes e u) because new us q is = absurd (true≢false (sym (ap (λ (j : replay.Judged). went j.verdict) is)))
@@ -111,8 +111,8 @@ chunk-fell r p k ts rq served s (Fails why) because new us q is =
     }
 
 -- a serial step at which the replayer diverges has a verdict that fails, and only the end is noted
-pub step-fell : (r : Replaying) (p : Progress) (k : ℕ) (ts : List Parts) (rq : Option Request) (served s : Served) (v : Verdict) (because : Why) (new : Replaying) (us : List Parts) (q : Option Request)
-    → record { verdict = Answer.Diverged because; replay = new; threads = us; request = q; served = s } ≡ serial_judged r p k ts rq served v
+pub step-fell : (r : Replaying) (p : Progress) (k : ℕ) (ts : List Parts) (rq : Option Request) (served s : Served) (v : LogVerdict) (because : Why) (new : Replaying) (us : List Parts) (q : Option Request)
+    → record { verdict = Verdict.Diverged because; replay = new; threads = us; request = q; served = s } ≡ serial_judged r p k ts rq served v
     → Fell r ts rq v new us q
 unfolding went
 step-fell r p k ts rq served s (Goes e u) because new us q is = absurd (true≢false (sym (ap (λ (j : replay.Judged). went j.verdict) is)))
@@ -135,7 +135,7 @@ pub record HasTransferred (r : Replaying) (p : Progress) (ts : List Parts) (v : 
 
 -- a DMA that the replayer lets go has a verdict that goes with its words, and leaves no request
 pub dma-gone : (r : Replaying) (p : Progress) (ts us : List Parts) (rq : Option Request) (v : DmaVerdict) (new : Replaying) (q : Option Request) (words : Words)
-    → record { verdict = Answer.Went; replay = new; threads = us; request = q; served = served_stored (Ok words) } ≡ dma_judged r p ts rq nothing_served v
+    → record { verdict = Verdict.Went; replay = new; threads = us; request = q; served = served_stored (Ok words) } ≡ dma_judged r p ts rq nothing_served v
     → HasTransferred r p ts v new q words.words
 unfolding went
 dma-gone r p ts us rq (DmaFails why) new q words is = absurd (true≢false (ap (λ (j : replay.Judged). went j.verdict) is))
@@ -148,7 +148,7 @@ dma-gone r p ts us rq (DmaGoes ws) new q words is =
 
 -- a DMA at which the replayer diverges has a verdict that fails for that reason, and only the end is noted
 pub dma-fell : (r : Replaying) (p : Progress) (ts us : List Parts) (rq : Option Request) (served s : Served) (v : DmaVerdict) (because : Why) (new : Replaying) (q : Option Request)
-    → record { verdict = Answer.Diverged because; replay = new; threads = us; request = q; served = s } ≡ dma_judged r p ts rq served v
+    → record { verdict = Verdict.Diverged because; replay = new; threads = us; request = q; served = s } ≡ dma_judged r p ts rq served v
     → (v ≡ DmaFails because) × (new ≡ diverged because r) × (q ≡ rq)
 unfolding went why_in
 dma-fell r p ts us rq served s (DmaGoes ws) because new q is = absurd (true≢false (sym (ap (λ (j : replay.Judged). went j.verdict) is)))
@@ -159,18 +159,18 @@ dma-fell r p ts us rq served s (DmaFails why) because new q is =
 -- ---- the threads while a chunk is judged
 
 -- a chunk that went is judged as one that served nothing, with its threads as they were before
-pub went-judged : (r : Replaying) (p : Progress) (k : ℕ) (ts mid : List Parts) (rq : Option Request) (served s : Served) (v : Verdict) (new : Replaying) (us : List Parts) (q : Option Request)
-    → record { verdict = Answer.Went; replay = new; threads = us; request = q; served = s } ≡ chunk_judged r p k ts mid rq served v
-    → record { verdict = Answer.Went; replay = new; threads = us; request = q; served = nothing_served } ≡ chunk_judged r p k ts ts rq nothing_served v
+pub went-judged : (r : Replaying) (p : Progress) (k : ℕ) (ts mid : List Parts) (rq : Option Request) (served s : Served) (v : LogVerdict) (new : Replaying) (us : List Parts) (q : Option Request)
+    → record { verdict = Verdict.Went; replay = new; threads = us; request = q; served = s } ≡ chunk_judged r p k ts mid rq served v
+    → record { verdict = Verdict.Went; replay = new; threads = us; request = q; served = nothing_served } ≡ chunk_judged r p k ts ts rq nothing_served v
 unfolding went
 went-judged r p k ts mid rq served s (Fails why) new us q is = absurd (true≢false (ap (λ (j : replay.Judged). went j.verdict) is))
 went-judged r p k ts mid rq served s (Goes e u) new us q is =
-    λ i. record { verdict = Answer.Went; replay = (is i).replay; threads = (is i).threads; request = (is i).request; served = nothing_served }
+    λ i. record { verdict = Verdict.Went; replay = (is i).replay; threads = (is i).threads; request = (is i).request; served = nothing_served }
 
 -- a chunk at which the replayer diverges is judged as one that served nothing, with the threads put back
-pub left-judged : (r : Replaying) (p : Progress) (k : ℕ) (ts mid back : List Parts) (rq : Option Request) (served s : Served) (v : Verdict) (why : Why) (new : Replaying) (us : List Parts) (q : Option Request) → back ≡ ts
-    → record { verdict = Answer.Diverged why; replay = new; threads = us; request = q; served = s } ≡ chunk_judged r p k ts mid rq served v
-    → record { verdict = Answer.Diverged why; replay = new; threads = back; request = q; served = nothing_served } ≡ chunk_judged r p k ts ts rq nothing_served v
+pub left-judged : (r : Replaying) (p : Progress) (k : ℕ) (ts mid back : List Parts) (rq : Option Request) (served s : Served) (v : LogVerdict) (why : Why) (new : Replaying) (us : List Parts) (q : Option Request) → back ≡ ts
+    → record { verdict = Verdict.Diverged why; replay = new; threads = us; request = q; served = s } ≡ chunk_judged r p k ts mid rq served v
+    → record { verdict = Verdict.Diverged why; replay = new; threads = back; request = q; served = nothing_served } ≡ chunk_judged r p k ts ts rq nothing_served v
 unfolding went
 left-judged r p k ts mid back rq served s (Goes e u) why new us q same is = absurd (true≢false (sym (ap (λ (j : replay.Judged). went j.verdict) is)))
 left-judged r p k ts mid back rq served s (Fails because) why new us q same is =

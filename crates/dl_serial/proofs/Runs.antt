@@ -3,8 +3,8 @@ use Rattle.std.proofs.Common.{◌≡◌, ℕ, zero, suc, ◌<◌, ◌≤◌, Lis
 use Rattle.std.specs.Prelude.{IsSome}
 use Rattle.spec_isa.specs.declared.thread.Parts.{Parts}
 use Rattle.spec_isa.specs.Words.{Stored, lays}
-use Rattle.spec_isa.specs.Instruction.{Outcome, Next, Serial, one}
-use Rattle.spec_isa.specs.Runs.{Run, begun, followed, run, with_store}
+use Rattle.spec_isa.specs.Instruction.{InstructionOutcome, Next, Serial, one}
+use Rattle.spec_isa.specs.Runs.{Run, run_start, followed, run, with_store}
 use Rattle.spec_kernel.specs.Needs.{next_kind}
 use Rattle.spec_protocol.proofs.Memory.Running.{one_serial}
 use Rattle.spec_protocol.proofs.PlayingBack.Verdicts.{run-stops}
@@ -16,7 +16,7 @@ store_few : (ws : List Stored) (o : Option Stored) (n : ℕ) → length ws ≤ n
 store_few ws None n l = omega arith
 store_few ws (Some s) n l = let h = put-length ws s in omega arith
 
-follow_few : (r : Run) (o : Outcome) → length r.words ≤ r.n → length (followed r o).words ≤ (followed r o).n
+follow_few : (r : Run) (o : InstructionOutcome) → length r.words ≤ r.n → length (followed r o).words ≤ (followed r o).n
 follow_few r (Serial kind) l = l
 follow_few r (Next t load store) l = store_few r.words store r.n l
 
@@ -25,11 +25,11 @@ pub run-few : (m : List ℕ) (t : Parts) (n : ℕ) → length (run m t n).words 
 run-few m t zero = omega arith
 run-few m t (suc n) = follow_few (run m t n) (one (run m t n).thread (lays m (run m t n).words)) (run-few m t n)
 
-none_before : (r : Run) (o : Outcome) → (followed r o).n ≡ 0 → r.n ≡ 0
+none_before : (r : Run) (o : InstructionOutcome) → (followed r o).n ≡ 0 → r.n ≡ 0
 none_before r (Serial kind) e = e
 none_before r (Next t load store) e = absurd (omega arith)
 
-first_serial : (t : Parts) (m : List ℕ) (o : Outcome) → one t m ≡ o → (followed (begun t) o).n ≡ 0 → IsSome (next_kind t m)
+first_serial : (t : Parts) (m : List ℕ) (o : InstructionOutcome) → one t m ≡ o → (followed (run_start t) o).n ≡ 0 → IsSome (next_kind t m)
 first_serial t m (Serial kind) is e = subst IsSome (sym (one_serial t m kind is)) refl
 first_serial t m (Next u load store) is e = absurd (omega arith)
 

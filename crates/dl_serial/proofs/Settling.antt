@@ -18,10 +18,10 @@ use Rattle.spec_play.specs.Plays.{with_threads, settled, dma_settled}
 use Rattle.spec_play.specs.Turns.{Now, Turn, Over, now_at}
 use Rattle.spec_play.proofs.Going.{turn-lives}
 use Rattle.spec_play.specs.Transfers.{DmaVerdict, DmaFails}
-use Rattle.spec_play.specs.Verdicts.{Verdict, Fails, chunk_verdict, serial_verdict}
+use Rattle.spec_play.specs.Verdicts.{LogVerdict, Fails, chunk_verdict, serial_verdict}
 use Rattle.spec_protocol.specs.Sound.{IsSoundIf}
 use Rattle.spec_protocol.proofs.Logs.Growing.{pushed_length}
-use Rattle.dl_kernel.specs.declared.serving.Served.{Served as Left}
+use Rattle.dl_kernel.specs.declared.serving.StepResult.{StepResult}
 use Rattle.dl_replay.specs.Judged.{diverged}
 use Rattle.dl_replay.specs.Replaying.{Replaying, commits_of}
 use Rattle.dl_serial.specs.Overlays.{Overlaid}
@@ -48,7 +48,7 @@ pub record HasKept (s new : Sphere) (e : Effect) : Type 0 where
   pub memory : new.store.memory ≡ lays s.store.memory e.words
   pub commits : new.commits.items ≡ s.commits.items ++ e.commit ∷ []
 
-pub gone-settled : (r : Replaying) (s : Sphere) (k : ℕ) (v : Verdict) (new : Replaying) (n : Sphere) → (g : HasGone r (progress_in r s) k s.threads v new n.threads n.request) → HasKept s n g.effect
+pub gone-settled : (r : Replaying) (s : Sphere) (k : ℕ) (v : LogVerdict) (new : Replaying) (n : Sphere) → (g : HasGone r (progress_in r s) k s.threads v new n.threads n.request) → HasKept s n g.effect
     → played_in new n ≡ settled r.log (played_in r s) k v
 gone-settled r s k v new n g kept =
     let e = g.effect in
@@ -61,10 +61,10 @@ gone-settled r s k v new n g kept =
     })
     ∙ ap (settled r.log (played_in r s) k) (sym g.verdict)
 
-pub gone-log : (r : Replaying) (p : Progress) (k : ℕ) (ts us : List Parts) (v : Verdict) (new : Replaying) (q : Option Request) → HasGone r p k ts v new us q → new.log ≡ r.log
+pub gone-log : (r : Replaying) (p : Progress) (k : ℕ) (ts us : List Parts) (v : LogVerdict) (new : Replaying) (q : Option Request) → HasGone r p k ts v new us q → new.log ≡ r.log
 gone-log r p k ts us v new q g = ap (λ (x : Replaying). x.log) g.replay
 
-pub gone-playing : (r : Replaying) (s : Sphere) (k : ℕ) (v : Verdict) (new : Replaying) (n : Sphere) → (g : HasGone r (progress_in r s) k s.threads v new n.threads n.request) → HasKept s n g.effect → IsSoundIf (length s.store.memory) g.effect.request
+pub gone-playing : (r : Replaying) (s : Sphere) (k : ℕ) (v : LogVerdict) (new : Replaying) (n : Sphere) → (g : HasGone r (progress_in r s) k s.threads v new n.threads n.request) → HasKept s n g.effect → IsSoundIf (length s.store.memory) g.effect.request
     → IsPlaying r s → IsPlaying new n
 gone-playing r s k v new n g kept sound h =
     let count : length n.commits.items ≡ suc (length s.commits.items) = ap length kept.commits ∙ pushed_length s.commits.items g.effect.commit (length s.commits.items) refl in
@@ -102,7 +102,7 @@ left-played r s why new n l h =
     })
     ∙ ap (λ (done : ℕ). record (played_in r s) { now = Over (End.Diverged done why) }) (sym h.done)
 
-pub left-settled : (r : Replaying) (s : Sphere) (k : ℕ) (v : Verdict) (why : Why) (new : Replaying) (n : Sphere) → v ≡ Fails why → HasLeft r new s n why → IsPlaying r s
+pub left-settled : (r : Replaying) (s : Sphere) (k : ℕ) (v : LogVerdict) (why : Why) (new : Replaying) (n : Sphere) → v ≡ Fails why → HasLeft r new s n why → IsPlaying r s
     → played_in new n ≡ settled r.log (played_in r s) k v
 left-settled r s k v why new n is l h = left-played r s why new n l h ∙ ap (settled r.log (played_in r s) k) (sym is)
 
@@ -212,7 +212,7 @@ chunk-stands r s k ran new n g memory commits h =
     }
 
 -- the words of a serial step that went are inside the memory
-pub step-inside : (r : Replaying) (s : Sphere) (k : ℕ) (t : Parts) (new : Replaying) (us : List Parts) (q : Option Request) (left : Left) → CanStep s.threads t s.store.memory s.request
+pub step-inside : (r : Replaying) (s : Sphere) (k : ℕ) (t : Parts) (new : Replaying) (us : List Parts) (q : Option Request) (left : StepResult) → CanStep s.threads t s.store.memory s.request
     → HasServed r (progress_in r s) k s.threads (serial_verdict r.log (progress_in r s) r.used k s.threads t s.store.memory) new us q left
     → AreInside (length s.store.memory) left.words.words
 step-inside r s k t new us q left can g =
@@ -220,7 +220,7 @@ step-inside r s k t new us q left can g =
     subst (AreInside (length s.store.memory)) (sym g.words) (step-left r.log p r.used k s.threads t s.store.memory g.gone.effect g.gone.used can g.gone.verdict).inside
 
 -- a serial step that went, with its words laid and its commit added, stands where its verdict settles the play
-pub step-stands : (r : Replaying) (s : Sphere) (k : ℕ) (t : Parts) (new : Replaying) (n : Sphere) (left : Left) → CanStep s.threads t s.store.memory s.request
+pub step-stands : (r : Replaying) (s : Sphere) (k : ℕ) (t : Parts) (new : Replaying) (n : Sphere) (left : StepResult) → CanStep s.threads t s.store.memory s.request
     → HasServed r (progress_in r s) k s.threads (serial_verdict r.log (progress_in r s) r.used k s.threads t s.store.memory) new n.threads n.request left
     → n.store.memory ≡ lays s.store.memory left.words.words → n.commits.items ≡ s.commits.items ++ serial_commit k left.loads left.outputs ∷ [] → IsPlaying r s
     → StandsAt r.log (settled r.log (played_in r s) k (serial_verdict r.log (progress_in r s) r.used k s.threads t s.store.memory)) new n
@@ -254,7 +254,7 @@ dma-stands r s v new n ws g kept h =
     }
 
 -- where a verdict fails and only the end is noted, the play stands where that settles it
-pub fell-stands : (r : Replaying) (s : Sphere) (k : ℕ) (v : Verdict) (new : Replaying) (n : Sphere) → Fell r s.threads s.request v new n.threads n.request → n.store.memory ≡ s.store.memory → n.commits.items ≡ s.commits.items → IsPlaying r s
+pub fell-stands : (r : Replaying) (s : Sphere) (k : ℕ) (v : LogVerdict) (new : Replaying) (n : Sphere) → Fell r s.threads s.request v new n.threads n.request → n.store.memory ≡ s.store.memory → n.commits.items ≡ s.commits.items → IsPlaying r s
     → StandsAt r.log (settled r.log (played_in r s) k v) new n
 fell-stands r s k v new n f memory commits h =
     let l : HasLeft r new s n f.why = record { replay = f.replay; memory = memory; threads = f.threads; request = f.request; commits = commits } in

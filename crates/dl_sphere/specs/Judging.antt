@@ -17,7 +17,7 @@ use Rattle.dl_replay.specs.Replaying.{Replaying}
 
 -- why it leaves its log, or none where it goes on; the replay with the loads of its pieces; of the sphere the threads, the
 -- request and the commits; and the words to fly
-pub record Judged : Type 0 where
+pub record JudgedSphere : Type 0 where
   pub why : Option Why
   pub replay : Replaying
   pub loads : List Load
@@ -35,7 +35,7 @@ pub record Before : Type 0 where
   pub commits : List Commit
 
 -- the replay leaves its log: only that is noted
-abbrev pub left_log : Why → Before → Judged
+abbrev pub left_log : Why → Before → JudgedSphere
 left_log why b =
     record {
       why = Some why;
@@ -48,7 +48,7 @@ left_log why b =
     }
 
 -- the commit of thread k
-abbrev pub judged_by : Progress → (thread : ℕ) → Before → log.Verdict → Judged
+abbrev pub judged_by : Progress → (thread : ℕ) → Before → log.LogVerdict → JudgedSphere
 judged_by p k b (log.Fails why) = left_log why b
 judged_by p k b (log.Goes e u) =
     let after = with_threads k e b.threads in
@@ -63,7 +63,7 @@ judged_by p k b (log.Goes e u) =
     }
 
 -- a DMA
-abbrev pub dma_judged_by : Progress → Before → DmaVerdict → Judged
+abbrev pub dma_judged_by : Progress → Before → DmaVerdict → JudgedSphere
 dma_judged_by p b (DmaFails why) = left_log why b
 dma_judged_by p b (DmaGoes words) =
     record {

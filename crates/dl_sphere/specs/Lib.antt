@@ -1,4 +1,4 @@
-pub mod Standing
+pub mod SizedSpheres
 pub mod Recorded
 pub mod Roles
 pub mod Setups

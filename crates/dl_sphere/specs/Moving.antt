@@ -14,13 +14,13 @@ use Rattle.dl_sphere.specs.declared.moved.DmaSize.{DmaSize}
 use Rattle.dl_sphere.specs.declared.moved.Moved.{Moved}
 
 -- an answer, with the sphere and the devices that it left
-abbrev pub came : Moved → Sphere → Devices → commits.Moved
+abbrev pub came : Moved → Sphere → Devices → commits.MovedSphere
 came (Moved.Granted words) p d = record { outcome = commits.Granted; sphere = p; words = words.words; devices = d }
 came (Moved.Piece words) p d = record { outcome = commits.Piece; sphere = p; words = words.words; devices = d }
 came (Moved.Diverged i why) p d = record { outcome = commits.Diverged i why; sphere = p; words = []; devices = d }
 
 -- what a size says of the outcome of a DMA, where so many commits are done
-abbrev pub SaysOutcome : DmaSize → (done : ℕ) → Option commits.Moved → Type 0
+abbrev pub SaysOutcome : DmaSize → (done : ℕ) → Option commits.MovedSphere → Type 0
 SaysOutcome s i None = ⊥
 SaysOutcome (DmaSize.Bytes n) i (Some v) = v.outcome ≡ commits.Granted
 SaysOutcome (DmaSize.Diverged why) i (Some v) = v.outcome ≡ commits.Diverged i why

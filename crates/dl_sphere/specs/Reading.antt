@@ -5,7 +5,7 @@ use Rattle.dl_entry.specs.declared.Request.{Request}
 use Rattle.spec_log.specs.declared.LogParts.{LogParts}
 use Rattle.spec_protocol.specs.Spheres.{Role, Plain, Record, Replay}
 use Rattle.spec_play.specs.Transfers.{DmaGoes}
-use Rattle.spec_protocol.specs.Commits.{Moved}
+use Rattle.spec_protocol.specs.Commits.{MovedSphere}
 use Rattle.dl_replay.specs.Replaying.{end_of}
 use Rattle.dl_replay.specs.Left.{Stores}
 use Rattle.dl_sphere.specs.declared.moved.DmaSize.{DmaSize}
@@ -29,7 +29,7 @@ log_in (Record log) = Some log
 log_in (Replay b) = None
 
 -- a size is the number of the bytes that a DMA stores behind it
-abbrev pub SaysBytes : DmaSize → Option Request → Option Moved → Type 0
+abbrev pub SaysBytes : DmaSize → Option Request → Option MovedSphere → Type 0
 SaysBytes (DmaSize.Bytes n) request None = ⊥
 SaysBytes (DmaSize.Bytes n) request (Some v) = Stores n request (DmaGoes v.words)
 SaysBytes (DmaSize.Diverged why) request v = Unit {0}

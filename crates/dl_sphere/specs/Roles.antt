@@ -74,7 +74,7 @@ pub record HasFew (p : protocol.Sphere) : Type 0 where
 
 -- a recorder has standard chunks of this size and each thread's own number of commits, and its log has what the sphere has
 -- done and nothing of what comes next
-pub record IsKept (standard : ℕ) (p : protocol.Sphere) (r : Recorded) : Type 0 where
+pub record HasRecorded (standard : ℕ) (p : protocol.Sphere) (r : Recorded) : Type 0 where
   pub few : HasFew p
   pub s : r.kept.s ≡ standard
   pub all : length r.kept.done ≡ 15
@@ -87,16 +87,16 @@ pub record IsReplayed (p : protocol.Sphere) (r : Replay) : Type 0 where
   pub agrees : Agrees r p.progress
   pub commits : r.commits ≡ commits_of p.threads
 
-abbrev pub AreKept : (standard : ℕ) → protocol.Sphere → Keeping → Type 0
-AreKept standard p Plain = HasFew p
-AreKept standard p (Recording r) = IsKept standard p r
-AreKept standard p (Replaying r loads) = IsReplayed p r
+abbrev pub IsKeepingOf : (standard : ℕ) → protocol.Sphere → Keeping → Type 0
+IsKeepingOf standard p Plain = HasFew p
+IsKeepingOf standard p (Recording r) = HasRecorded standard p r
+IsKeepingOf standard p (Replaying r loads) = IsReplayed p r
 
 -- what is true of every sphere: its standard size is a log's, and there are at most 15 threads
-pub record IsStanding (standard : ℕ) (p : protocol.Sphere) (keeping : Keeping) : Type 0 where
+pub record IsSphere (standard : ℕ) (p : protocol.Sphere) (keeping : Keeping) : Type 0 where
   pub size : IsChunkSize standard
   pub threads : length p.threads ≤ 15
-  pub kept : AreKept standard p keeping
+  pub kept : IsKeepingOf standard p keeping
 
 -- the sphere is not replayed
 abbrev pub IsLive : Keeping → Type 0

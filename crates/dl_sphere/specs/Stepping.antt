@@ -4,7 +4,7 @@ use Rattle.dl_entry.specs.declared.Commit.{Commit}
 use Rattle.spec_kernel.specs.Devices.{Devices}
 use Rattle.spec_kernel.specs.Needs.{need}
 use Rattle.spec_kernel.specs.Answers.{Taken, taken}
-use Rattle.spec_kernel.specs.Serving.{Served, serve}
+use Rattle.spec_kernel.specs.Serving.{StepResult, serve}
 use Rattle.spec_play.specs.Effects.{serial_commit}
 use Rattle.dl_kernel.specs.declared.serving.Step.{Step}
 
@@ -13,7 +13,7 @@ abbrev pub taken_by : Step → Devices → (moment : ℕ) → Taken
 taken_by s d moment = taken (need s.thread s.memory.now) d moment
 
 -- what it does
-abbrev pub served_by : Step → Devices → (moment : ℕ) → Served
+abbrev pub served_by : Step → Devices → (moment : ℕ) → StepResult
 served_by s d moment = serve s.number s.threads.now s.request s.thread s.memory.now (taken_by s d moment).input
 
 abbrev pub commit_by : Step → Devices → (moment : ℕ) → Commit

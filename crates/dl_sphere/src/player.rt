@@ -12,10 +12,10 @@ ghost use Rattle.spec_protocol.specs.Spheres.{Replay, actor_of, limit_in, limit_
 ghost use Rattle.dl_replay.specs.Judged.{HasRun, IsInside, chunk_judged, dma_judged, is_serial_step, serial_judged};
 ghost use Rattle.dl_replay.specs.Judging.{transfer_verdict};
 ghost use Rattle.dl_replay.specs.Left.{SaysSize, nothing_served, served_left, served_stored, verdict_left, verdict_stored};
-ghost use Rattle.dl_replay.specs.Replaying.{Agrees, begun, commits_of, cursor_of, end_of};
+ghost use Rattle.dl_replay.specs.Replaying.{Agrees, replay_start, commits_of, cursor_of, end_of};
 
 use dl_entry::{Actor, End, OutOfMemory, Request, Why};
-use dl_kernel::Served as Left;
+use dl_kernel::StepResult;
 use dl_mem::Memory;
 use dl_mode::{OrderAndSize, OrderOnly, PicoLog};
 use dl_replay::{Asking, Replayer, Served, Verdict};
@@ -50,7 +50,7 @@ impl Model for Player {
 impl Player {
     // The replay of a log from its first commit on.
     pub(crate) fn new(alloc: Global, log: &Log) -> Result<Player, OutOfMemory>
-        ensures { (entry : ℕ) → IfOk result (λ player. player ≡ begun log.now entry) }
+        ensures { (entry : ℕ) → IfOk result (λ player. player ≡ replay_start log.now entry) }
     {
         let players = match log.parts().mode {
             ModeName::OrderSize => Players::OrderSize(Replayer::new(alloc, log)?),
@@ -160,7 +160,7 @@ impl Player {
         threads: &mut Threads,
         request: &mut Option<Request>,
         memory: &Memory,
-    ) -> Result<Result<Left, Why>, OutOfMemory>
+    ) -> Result<Result<StepResult, Why>, OutOfMemory>
         requires turn { self.old.now ≡ Turn thread }
         requires thread { thread < length threads.old }
         requires commits { self.old.commits ≡ commits_of threads.old }

@@ -4,7 +4,7 @@ ghost use Rattle.spec_isa.specs.declared.thread.Parts.{Parts};
 ghost use Rattle.spec_engine.specs.Flights.{IsInside, at, drain};
 ghost use Rattle.spec_kernel.specs.Devices.{Devices};
 ghost use Rattle.spec_play.specs.Progress.{position};
-ghost use Rattle.spec_protocol.specs.Commits.{Moved as Made, dma_moved};
+ghost use Rattle.spec_protocol.specs.Commits.{MovedSphere, dma_moved};
 ghost use Rattle.spec_protocol.specs.Placing.{replays};
 ghost use Rattle.spec_protocol.specs.Sound.{IsSoundRequest};
 ghost use Rattle.spec_protocol.specs.Spheres.{limit_of, head_of, is_stopped, halves, is_in_pieces};
@@ -182,7 +182,7 @@ impl Sphere {
     #[tactic(auto, unfolding(spec_protocol::specs::Commits::dma_moved))]
     pub fn dma_words(&self, devices: &Devices) -> Result<Buffer, OutOfMemory>
         requires request { IfSome self.now.sphere.progress.request (IsSoundRequest (length self.now.sphere.memory)) }
-        ensures { IfOk result (λ words. (v : Made) → dma_moved devices.now self.now.sphere ≡ Some v → words.words ≡ v.words) }
+        ensures { IfOk result (λ words. (v : MovedSphere) → dma_moved devices.now self.now.sphere ≡ Some v → words.words ≡ v.words) }
     {
         let _ = self.memory.size();
         match &self.part {

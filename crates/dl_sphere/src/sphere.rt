@@ -47,15 +47,15 @@ pub struct Sphere {
 }
 
 impl Model for Sphere {
-    ghost use Rattle.dl_sphere.specs.Standing.{Standing};
-    ghost use Rattle.dl_sphere.specs.Roles.{keeping_of, IsStanding};
+    ghost use Rattle.dl_sphere.specs.SizedSpheres.{SizedSphere};
+    ghost use Rattle.dl_sphere.specs.Roles.{keeping_of, IsSphere};
     ghost use Rattle.dl_sphere.specs.Inside.{sphere_in};
 
-    ghost Value = { Standing };
+    ghost Value = { SizedSphere };
 
     ghost view = { λ p. record { standard = p.standard; sphere = sphere_in p } };
 
-    ghost invariant = { λ p. IsStanding p.standard (sphere_in p) (keeping_of p.part) };
+    ghost invariant = { λ p. IsSphere p.standard (sphere_in p) (keeping_of p.part) };
 }
 
 impl Sphere {

@@ -1,7 +1,7 @@
 //! The serial step of a sphere that isn't replayed.
 ghost use Rattle.std.specs.Prelude.{◌≡◌, ◌^◌, ◌<◌, ◌∷◌, ◌++◌, [], ℕ, None, false, IfOk, OnOk, OnErr, OnSome, IfSome, length, option_map, IsTrue};
 ghost use Rattle.spec_isa.specs.Words.{IsBytes};
-ghost use Rattle.spec_kernel.specs.Serving.{console_told};
+ghost use Rattle.spec_kernel.specs.Serving.{console_written};
 ghost use Rattle.spec_log.specs.Log.{IsInput};
 ghost use Rattle.spec_play.specs.Effects.{serial_commit};
 ghost use Rattle.spec_protocol.specs.Sound.{HaveByteInput};
@@ -13,7 +13,7 @@ use crate::commits::serial_commit;
 use crate::part::{Part, note_reserved, reserve};
 use dl_dev::Devices;
 use dl_entry::{Commit, Input, OutOfMemory, Request};
-use dl_kernel::{Served, Step, outside_record, outside_take, serve};
+use dl_kernel::{Step, StepResult, outside_record, outside_take, serve};
 use dl_thread::Thread;
 use dl_wbuf::Buffer;
 use std::alloc::Global;
@@ -50,14 +50,14 @@ pub(crate) fn live_step(
     ensures noted { OnOk result (keeping_of part.new
         ≡ with_noted (commit_by step.now devices.old moment) false (taken_by step.now devices.old moment).input None (keeping_of part.old)) }
     ensures devices { let s = step.now in
-        OnOk result (devices.new ≡ console_told s.thread s.memory.now (served_by s devices.old moment).outputs (taken_by s devices.old moment).devices) }
+        OnOk result (devices.new ≡ console_written s.thread s.memory.now (served_by s devices.old moment).outputs (taken_by s devices.old moment).devices) }
     ensures commits_still { OnErr result (commits.new.items ≡ commits.old.items) }
     ensures part_still { OnErr result (keeping_of part.new ≡ keeping_of part.old) }
     ensures devices_still { OnErr result (devices.new ≡ devices.old) }
 {
     let input = outside_record(alloc, &step.thread, step.memory, devices, moment)?;
     let served = serve(alloc, step, input.as_ref())?;
-    let Served {
+    let StepResult {
         thread,
         made,
         request,

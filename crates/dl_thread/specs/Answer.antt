@@ -4,7 +4,7 @@ use Rattle.spec_isa.specs.declared.thread.Parts.{Parts}
 use Rattle.spec_isa.specs.declared.thread.Load.{Load}
 use Rattle.spec_isa.specs.declared.thread.Kind.{Kind}
 use Rattle.spec_isa.specs.Words.{Stored, lay, read, is_inside}
-use Rattle.spec_isa.specs.Instruction.{Outcome, value_at, serial_of, loads_of, next_of, load_of, store_of}
+use Rattle.spec_isa.specs.Instruction.{InstructionOutcome, value_at, serial_of, loads_of, next_of, load_of, store_of}
 use Rattle.dl_thread.specs.declared.answer.Did.{Did}
 use Rattle.dl_thread.specs.Sight.{Sight}
 
@@ -122,8 +122,8 @@ Sees Read Wrote s t d v w =
 
 -- from the bytes m the instruction of that outcome was run, and left the thread t and the bytes n; or it is serial; or it
 -- was not run for want of room or for a flight
-abbrev pub Agrees : Did → Outcome → (t : Parts) (m n : List ℕ) → Type 0
-Agrees (Did.Next load) o t m n = (store : Option Stored) × (o ≡ Outcome.Next t load store) × (n ≡ with_store m store)
-Agrees (Did.Serial kind) o t m n = o ≡ Outcome.Serial kind
+abbrev pub Agrees : Did → InstructionOutcome → (t : Parts) (m n : List ℕ) → Type 0
+Agrees (Did.Next load) o t m n = (store : Option Stored) × (o ≡ InstructionOutcome.Next t load store) × (n ≡ with_store m store)
+Agrees (Did.Serial kind) o t m n = o ≡ InstructionOutcome.Serial kind
 Agrees Did.NoRoom o t m n = Unit {0}
 Agrees (Did.Bounced k) o t m n = Unit {0}

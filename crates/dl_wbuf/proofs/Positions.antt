@@ -8,7 +8,7 @@ use Rattle.std.proofs.lemmas.Bool.Decides.{eqb_tells}
 use Rattle.std.proofs.lemmas.List.{length-take-le, take_more}
 use Rattle.std.proofs.lemmas.List.Folds.{position_or_len-set, position_or_len_push}
 use Rattle.spec_isa.specs.Words.{Stored, Lacks, Apart}
-use Rattle.dl_wbuf.specs.Kept.{left, IsPlaced}
+use Rattle.dl_wbuf.specs.Invariant.{left, IsPlaced}
 use Rattle.dl_wbuf.specs.Tables.{Slots, slot_of, place_in, place}
 use Rattle.dl_wbuf.proofs.Places.{is_of}
 use Rattle.dl_wbuf.proofs.Probes.{first_le}

@@ -7,7 +7,7 @@ use Rattle.spec_isa.specs.Words.{Stored, later, merged, put}
 use Rattle.spec_isa.specs.Masks.{bytes_of}
 use Rattle.spec_isa.proofs.BufferLaws.{Apart-put}
 use Rattle.dl_wbuf.specs.Buffers.{has_room}
-use Rattle.dl_wbuf.specs.Kept.{IsKept}
+use Rattle.dl_wbuf.specs.Invariant.{IsBuffer}
 use Rattle.dl_wbuf.proofs.Places.{is_of, IsFound-place, IsMissing-place}
 
 word_of : (a m v : ℕ) → (bytes_of a m v).word ≡ a
@@ -38,8 +38,8 @@ put_missing ws a m v none new place empty is =
     rw e (sym ((IsMissing-place ws a place).puts (bytes_of a m v) (word_of a m v)))
 
 -- each word stands once still, and within the capacity, after one that stands is stored again
-pub IsKept-found : (capacity room : ℕ) (ws : List Stored) (i : ℕ) (new s : Stored) → slice_set ws i new ≡ put ws s → IsKept capacity room ws → IsKept capacity room (slice_set ws i new)
-IsKept-found c r ws i new s e h =
+pub IsBuffer-found : (capacity room : ℕ) (ws : List Stored) (i : ℕ) (new s : Stored) → slice_set ws i new ≡ put ws s → IsBuffer capacity room ws → IsBuffer capacity room (slice_set ws i new)
+IsBuffer-found c r ws i new s e h =
     record {
       apart = rw e (Apart-put ws s h.apart);
       within = rw (length-set ws i new) h.within;
@@ -49,8 +49,8 @@ IsKept-found c r ws i new s e h =
     }
 
 -- each word stands once still, and within the capacity, after a new one is added where there are fewer
-pub IsKept-missing : (capacity room : ℕ) (ws : List Stored) (new s : Stored) → ws ++ new ∷ [] ≡ put ws s → length ws < capacity → IsKept capacity room ws → IsKept capacity room (ws ++ new ∷ [])
-IsKept-missing c r ws new s e lt h =
+pub IsBuffer-missing : (capacity room : ℕ) (ws : List Stored) (new s : Stored) → ws ++ new ∷ [] ≡ put ws s → length ws < capacity → IsBuffer capacity room ws → IsBuffer capacity room (ws ++ new ∷ [])
+IsBuffer-missing c r ws new s e lt h =
     record {
       apart = rw e (Apart-put ws s h.apart);
       within = rw length-append (omega arith);
@@ -60,8 +60,8 @@ IsKept-missing c r ws new s e lt h =
     }
 
 -- each word stands once still, and within the capacity, after the first is taken out
-pub IsKept-drained : (capacity room left : ℕ) (ws : List Stored) (s : Stored) (ss : List Stored) → ws ≡ s ∷ ss → left ≡ room → IsKept capacity room ws → IsKept capacity left ss
-IsKept-drained c r l ws s ss e same h =
+pub IsBuffer-drained : (capacity room left : ℕ) (ws : List Stored) (s : Stored) (ss : List Stored) → ws ≡ s ∷ ss → left ≡ room → IsBuffer capacity room ws → IsBuffer capacity left ss
+IsBuffer-drained c r l ws s ss e same h =
     let was = rw e at h in
     record {
       apart = was.apart.1;

@@ -1,4 +1,4 @@
 pub mod Buffers
 pub mod Exact
-pub mod Kept
+pub mod Invariant
 pub mod Tables

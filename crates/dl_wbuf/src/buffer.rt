@@ -4,7 +4,7 @@ ghost use Rattle.std.specs.List.{slice_get, position};
 ghost use Rattle.spec_isa.specs.Words.{Apart};
 ghost use Rattle.spec_isa.specs.Masks.{bytes_of, over};
 ghost use Rattle.dl_wbuf.specs.Buffers.{has_room, after_store, byte_held, IsLast};
-ghost use Rattle.dl_wbuf.specs.Kept.{left};
+ghost use Rattle.dl_wbuf.specs.Invariant.{left};
 ghost use Rattle.dl_wbuf.specs.Tables.{place};
 
 use crate::stored::Stored;
@@ -33,13 +33,13 @@ pub struct Buffer {
 impl Model for Buffer {
     ghost use Rattle.std.specs.VecDeque.{deque_capacity};
     ghost use Rattle.dl_wbuf.specs.Buffers.{Words};
-    ghost use Rattle.dl_wbuf.specs.Kept.{IsKept, IsPlaced};
+    ghost use Rattle.dl_wbuf.specs.Invariant.{IsBuffer, IsPlaced};
 
     ghost Value = { Words };
 
     ghost view = { λ b. record { capacity = b.capacity; words = b.words.items } };
 
-    ghost invariant = { λ b. IsKept b.capacity (deque_capacity b.words) b.words.items × IsPlaced b.capacity b.drained b.table b.words.items };
+    ghost invariant = { λ b. IsBuffer b.capacity (deque_capacity b.words) b.words.items × IsPlaced b.capacity b.drained b.table b.words.items };
 }
 
 impl Buffer {

@@ -2,7 +2,7 @@
 use Rattle.std.proofs.Common.{◌≡◌, ℕ, ◌/◌, false, List, length, Option, refl, sym, ap, ◌∙◌}
 use Rattle.spec_isa.specs.declared.thread.Kind.{Kind}
 use Rattle.spec_isa.specs.Words.{lays, read, is_inside}
-use Rattle.spec_isa.specs.Instruction.{Outcome, Next, Serial, one, unless, value_at, serial_of, loads_of, next_of, load_of, store_of}
+use Rattle.spec_isa.specs.Instruction.{InstructionOutcome, Next, Serial, one, unless, value_at, serial_of, loads_of, next_of, load_of, store_of}
 use Rattle.spec_isa.specs.Runs.{more, followed}
 use Rattle.spec_engine.specs.declared.answers.How.{How}
 use Rattle.spec_engine.specs.Flights.{Flight}
@@ -20,13 +20,13 @@ unfolding Agrees
 agrees_is m ch s agrees = agrees
 
 -- the outcome of the instruction f that loads the word w
-abbrev ran_to : Chunk → (f w : ℕ) → Outcome
+abbrev ran_to : Chunk → (f w : ℕ) → InstructionOutcome
 ran_to ch f w = let t = ch.done.thread in Next (next_of t f w) (load_of t f w) (store_of t f w)
 
 abbrev shown : List ℕ → Chunk → List ℕ
 shown m ch = lays m ch.done.words
 
-abbrev here : List ℕ → Chunk → Outcome
+abbrev here : List ℕ → Chunk → InstructionOutcome
 here m ch = one ch.done.thread (shown m ch)
 
 storing_agrees : (m : List ℕ) (capacity f w : ℕ) (ch : Chunk) (g : Marks) → here m ch ≡ ran_to ch f w → Agrees m ch (storing capacity f w (record ch { reads = g }))

@@ -7,11 +7,11 @@ use Rattle.spec_log.specs.declared.LogParts.{LogParts}
 use Rattle.spec_kernel.specs.Devices.{Devices}
 use Rattle.spec_kernel.specs.Needs.{next_kind}
 use Rattle.spec_play.specs.Turns.{Now, Turn, TurnOfDma, Over}
-use Rattle.spec_play.specs.Verdicts.{Verdict, Goes, Fails, serial_verdict}
+use Rattle.spec_play.specs.Verdicts.{LogVerdict, Goes, Fails, serial_verdict}
 use Rattle.spec_play.specs.Transfers.{DmaVerdict, DmaGoes, DmaFails, dma_verdict}
 use Rattle.spec_play.specs.Plays.{Played, opened, size_or_standard, plays}
 use Rattle.spec_protocol.specs.Spheres.{Role, Plain, Record, Replay, Sphere}
-use Rattle.spec_protocol.specs.Commits.{Moved, serial_moved, dma_moved}
+use Rattle.spec_protocol.specs.Commits.{MovedSphere, serial_moved, dma_moved}
 use Rattle.spec_protocol.specs.World.{Numbers, What, OfChunk, OfSerial, OfDma, OfRaise, Move}
 use Rattle.spec_protocol.specs.Machine.{RoleSetup, IsPlain, IsRecorded, IsReplayed, SphereSetup}
 use Rattle.spec_protocol.specs.Serial.{SerialState}
@@ -20,7 +20,7 @@ use Rattle.spec_protocol.specs.Moves.{do_move}
 -- ---- of a play
 
 -- the words that a serial step stores, or none where it diverges
-abbrev pub stored : Verdict → ℕ
+abbrev pub stored : LogVerdict → ℕ
 stored (Goes e u) = length e.words
 stored (Fails why) = 0
 
@@ -69,7 +69,7 @@ abbrev pub serial_work : Sphere → Devices → (moment thread : ℕ) → Option
 serial_work p devices moment k None = 0
 serial_work p devices moment k (Some t) = suc (length (serial_moved k moment t devices p).words)
 
-abbrev pub dma_work : Option Moved → ℕ
+abbrev pub dma_work : Option MovedSphere → ℕ
 dma_work None = 0
 dma_work (Some v) = suc (length v.words)
 

@@ -35,11 +35,11 @@ unfoldable pub store_of : Parts → (f w : ℕ) → Option Stored
 store_of t f w = store_then (operation_of t f) t w
 
 -- what an instruction comes to
-pub data Outcome : Type 0 where
-  Next : (thread : Parts) (load : Option Load) (store : Option Stored) → Outcome
-  Serial : (kind : Kind) → Outcome
+pub data InstructionOutcome : Type 0 where
+  Next : (thread : Parts) (load : Option Load) (store : Option Stored) → InstructionOutcome
+  Serial : (kind : Kind) → InstructionOutcome
 
-abbrev pub unless : Option Kind → Outcome → Outcome
+abbrev pub unless : Option Kind → InstructionOutcome → InstructionOutcome
 unless None outcome = outcome
 unless (Some kind) outcome = Serial kind
 
@@ -48,9 +48,9 @@ abbrev pub value_at : List ℕ → Option ℕ → ℕ
 value_at m None = 0
 value_at m (Some a) = read m a
 
-abbrev pub outcome_with : Parts → (f w size : ℕ) → Outcome
+abbrev pub outcome_with : Parts → (f w size : ℕ) → InstructionOutcome
 outcome_with t f w size = unless (serial_of t f size) (Next (next_of t f w) (load_of t f w) (store_of t f w))
 
 -- one instruction of a thread on a memory
-unfoldable pub one : Parts → List ℕ → Outcome
+unfoldable pub one : Parts → List ℕ → InstructionOutcome
 one t m = let f = read m (t.pc / 4) in outcome_with t f (value_at m (loads_of t f)) (length m)

@@ -3,7 +3,7 @@ use Rattle.std.specs.Prelude.{ℕ, zero, suc, List, [], ◌∷◌, ◌++◌, Opt
 use Rattle.spec_isa.specs.declared.thread.Parts.{Parts}
 use Rattle.spec_isa.specs.declared.thread.Load.{Load}
 use Rattle.spec_isa.specs.Words.{Stored, lays, put}
-use Rattle.spec_isa.specs.Instruction.{Outcome, Next, Serial, one}
+use Rattle.spec_isa.specs.Instruction.{InstructionOutcome, Next, Serial, one}
 
 -- the thread as it now is, the words stored, each at the place of its first store, the loads in order, and the number of instructions
 pub record Run : Type 0 where
@@ -12,8 +12,8 @@ pub record Run : Type 0 where
   pub loads : List Load
   pub n : ℕ
 
-abbrev pub begun : Parts → Run
-begun t = record { thread = t; words = []; loads = []; n = 0 }
+abbrev pub run_start : Parts → Run
+run_start t = record { thread = t; words = []; loads = []; n = 0 }
 
 abbrev pub with_load : List Load → Option Load → List Load
 with_load ls None = ls
@@ -24,7 +24,7 @@ with_store ss None = ss
 with_store ss (Some s) = put ss s
 
 -- a serial instruction is not part of the run
-abbrev pub followed : Run → Outcome → Run
+abbrev pub followed : Run → InstructionOutcome → Run
 followed r (Serial kind) = r
 followed r (Next t load store) =
     record { thread = t; words = with_store r.words store; loads = with_load r.loads load; n = suc r.n }
@@ -35,7 +35,7 @@ more m r = followed r (one r.thread (lays m r.words))
 
 -- up to n instructions
 abbrev pub run : List ℕ → Parts → (n : ℕ) → Run
-run m t zero = begun t
+run m t zero = run_start t
 run m t (suc n) = more m (run m t n)
 
 -- a commit ends without a reservation

@@ -18,7 +18,7 @@ use Rattle.spec_kernel.specs.Calls.{Called, called, with_result}
 
 -- what a serial step leaves: its thread, the threads that it spawned, the outstanding DMA request, the words that the
 -- kernel stored for it, and what the account tells of it. No other thread changes
-pub record Served : Type 0 where
+pub record StepResult : Type 0 where
   pub thread : Parts
   pub made : List Parts
   pub request : Option Request
@@ -27,7 +27,7 @@ pub record Served : Type 0 where
   pub outputs : List Output
 
 -- the thread alone
-abbrev pub alone : Option Request → Parts → Served
+abbrev pub alone : Option Request → Parts → StepResult
 alone request t = record { thread = t; made = []; request = request; words = []; loads = []; outputs = [] }
 
 -- ---- calls
@@ -45,7 +45,7 @@ output_of (Some (Write channel bytes)) r =
 output_of _ r = []
 
 -- an outside call: the record's result goes to a0; without a record its buffer was bad
-abbrev pub outside_called : Option Need → Option Request → Parts → Option Input → Served
+abbrev pub outside_called : Option Need → Option Request → Parts → Option Input → StepResult
 outside_called need request t None = alone request (with_result bad_buffer t)
 outside_called need request t (Some r) =
     record {
@@ -57,7 +57,7 @@ outside_called need request t (Some r) =
       outputs = output_of need r;
     }
 
-abbrev pub inside_called : Called → Served
+abbrev pub inside_called : Called → StepResult
 inside_called c = record { thread = c.thread; made = c.made; request = c.request; words = []; loads = []; outputs = [] }
 
 -- calls 2 to 5 go outside
@@ -67,13 +67,13 @@ is_outside t = nat_lt 1 (number_of t) && nat_lt (number_of t) 6
 -- ---- device words
 
 -- a load of a device word, which gives what came, and is told as a load
-abbrev pub device_loaded : Option Request → Parts → Operation → Option Input → Served
+abbrev pub device_loaded : Option Request → Parts → Operation → Option Input → StepResult
 device_loaded request t (Operation.Load op rd a) (Some r) =
     record (alone request (at_pc t rd r.result (following t))) { loads = record { address = a; value = r.result } ∷ [] }
 device_loaded request t _ _ = alone request t
 
 -- a store to the console's word: its low byte is an output of channel 8
-abbrev pub device_stored : Option Request → Parts → Operation → Served
+abbrev pub device_stored : Option Request → Parts → Operation → StepResult
 device_stored request t (Operation.Store op a v) =
     record (alone request (record t { pc = following t })) { outputs = record { channel = 8; bytes = v % 2 ^ 8 ∷ [] } ∷ [] }
 device_stored request t _ = alone request t
@@ -84,7 +84,7 @@ device_stored request t _ = alone request t
 abbrev pub faulted : (cause : ℕ) → Parts → Parts
 faulted cause t = record t { status = ThreadStatus.Fault cause }
 
-abbrev pub serve_kind : Option Kind → (number : ℕ) → List Parts → Option Request → Parts → List ℕ → Option Input → Served
+abbrev pub serve_kind : Option Kind → (number : ℕ) → List Parts → Option Request → Parts → List ℕ → Option Input → StepResult
 serve_kind None number threads request t m input = alone request t
 serve_kind (Some Kind.Call) number threads request t m input =
     if is_outside t
@@ -96,7 +96,7 @@ serve_kind (Some Kind.DeviceStore) number threads request t m input = device_sto
 serve_kind (Some (Kind.Fault cause)) number threads request t m input = alone request (faulted cause t)
 
 -- the next step of a thread, which has that number among these threads, on a memory
-unfoldable pub serve : (number : ℕ) → List Parts → Option Request → Parts → List ℕ → Option Input → Served
+unfoldable pub serve : (number : ℕ) → List Parts → Option Request → Parts → List ℕ → Option Input → StepResult
 serve number threads request t m input = serve_kind (next_kind t m) number threads request t m input
 
 -- ---- the console's word
@@ -105,10 +105,10 @@ abbrev pub bytes_out : List Output → List ℕ
 bytes_out [] = []
 bytes_out (o ∷ os) = o.bytes ++ bytes_out os
 
-abbrev pub store_told : Option Kind → List Output → Devices → Devices
-store_told (Some Kind.DeviceStore) outputs d = console_put (bytes_out outputs) d
-store_told _ outputs d = d
+abbrev pub store_written : Option Kind → List Output → Devices → Devices
+store_written (Some Kind.DeviceStore) outputs d = console_put (bytes_out outputs) d
+store_written _ outputs d = d
 
 -- the devices after a step that left these outputs: a store to the console's word has put its byte there
-unfoldable pub console_told : Parts → List ℕ → List Output → Devices → Devices
-console_told t m outputs d = store_told (next_kind t m) outputs d
+unfoldable pub console_written : Parts → List ℕ → List Output → Devices → Devices
+console_written t m outputs d = store_written (next_kind t m) outputs d

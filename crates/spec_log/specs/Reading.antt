@@ -18,11 +18,11 @@ use Rattle.spec_log.specs.Log.{input_kinds}
 -- what is wrong: 1 the bytes end inside a field, 2 the magic word, 3 the version, 4 the mode, 5 another value out of
 -- its range, 6 an entry that doesn't come after the one before it, 7 bytes behind the last section. The offset is that
 -- of the field or entry, but for 1 the number of all bytes.
-pub record Fault : Type 0 where
+pub record ParseError : Type 0 where
   pub number : ℕ
   pub offset : ℕ
 
-abbrev pub fails : {X : Type 0} → ℕ → ℕ → Result X Fault
+abbrev pub fails : {X : Type 0} → ℕ → ℕ → Result X ParseError
 fails number offset = Err (record { number = number; offset = offset })
 
 -- what was read, and the offset behind it
@@ -32,9 +32,9 @@ pub record Read (X : Type 0) : Type 0 where
 
 -- a reader gives what stands at an offset of the bytes, or a fault
 abbrev pub Reader : Type 0 → Type 0
-Reader X = List ℕ → ℕ → Result (Read X) Fault
+Reader X = List ℕ → ℕ → Result (Read X) ParseError
 
-abbrev pub continues : {X Y : Type 0} → Result (Read X) Fault → (X → ℕ → Result Y Fault) → Result Y Fault
+abbrev pub continues : {X Y : Type 0} → Result (Read X) ParseError → (X → ℕ → Result Y ParseError) → Result Y ParseError
 continues (Ok r) next = next r.value r.after
 continues (Err fault) next = Err fault
 
@@ -194,6 +194,6 @@ parts =
     })))))))))
 
 -- a log, behind which nothing follows
-abbrev pub read_of : List ℕ → Result LogParts Fault
+abbrev pub read_of : List ℕ → Result LogParts ParseError
 read_of bytes =
     continues (parts bytes 0) (λ log after. if nat_lt after (length bytes) then fails 7 after else Ok log)

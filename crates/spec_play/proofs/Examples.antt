@@ -18,7 +18,7 @@ use Rattle.spec_kernel.specs.Copies.{bytes_put}
 use Rattle.spec_kernel.specs.Devices.{random_bytes, random_after}
 use Rattle.spec_kernel.specs.Needs.{next_kind, next_operation, need}
 use Rattle.spec_kernel.specs.Records.{fits}
-use Rattle.spec_kernel.specs.Serving.{serve, console_told}
+use Rattle.spec_kernel.specs.Serving.{serve, console_written}
 use Rattle.spec_play.specs.Plays.{play_one}
 use Rattle.spec_play.specs.Transfers.{dma_verdict}
 use Rattle.spec_play.specs.Turns.{has_left_over, now_at}
@@ -130,7 +130,7 @@ pub record ArePlayed : Type 0 where
   pub none_live : (play none_live_log exits_code 0).now ≡ Over (End.Diverged 2 Why.NoThread)
 
 pub plays_end : ArePlayed
-unfolding serial_of loads_of next_of load_of store_of one lay read merged answer called bytes_put random_bytes random_after next_kind next_operation need fits serve console_told play_one dma_verdict has_left_over now_at chunk_verdict serial_verdict
+unfolding serial_of loads_of next_of load_of store_of one lay read merged answer called bytes_put random_bytes random_after next_kind next_operation need fits serve console_written play_one dma_verdict has_left_over now_at chunk_verdict serial_verdict
 plays_end =
     record {
       complete = refl;
@@ -173,7 +173,7 @@ pub record AreWalked : Type 0 where
   pub at_short : how_walked short_log exits_code 1 ≡ WalkEnd.Ended (End.Diverged 0 (Why.Short 3 2))
 
 pub walks_end : AreWalked
-unfolding serial_of loads_of next_of load_of store_of one lay read merged answer called bytes_put random_bytes random_after next_kind next_operation need fits serve console_told play_one dma_verdict has_left_over now_at chunk_verdict serial_verdict
+unfolding serial_of loads_of next_of load_of store_of one lay read merged answer called bytes_put random_bytes random_after next_kind next_operation need fits serve console_written play_one dma_verdict has_left_over now_at chunk_verdict serial_verdict
 walks_end =
     record {
       not_begun = refl;

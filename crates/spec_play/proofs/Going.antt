@@ -14,7 +14,7 @@ use Rattle.spec_kernel.specs.Needs.{next_kind}
 use Rattle.spec_play.specs.Effects.{dma_commit}
 use Rattle.spec_play.specs.Progress.{Progress, position, Used}
 use Rattle.spec_play.specs.Turns.{Now, Turn, TurnOfDma, Over, has_left_over, at_end, turn_of_thread, turn_of, next_actor, now_at}
-use Rattle.spec_play.specs.Verdicts.{Verdict, Goes, Fails}
+use Rattle.spec_play.specs.Verdicts.{LogVerdict, Goes, Fails}
 use Rattle.spec_play.specs.Transfers.{DmaVerdict, DmaGoes, DmaFails, dma_verdict}
 use Rattle.spec_play.specs.Plays.{Played, opened, settled, thread_verdict, play_thread, dma_settled, play_now, play_one, plays, play}
 
@@ -57,7 +57,7 @@ one_more y z c e =
       most = let h = ap (λ (cs : List Commit). length cs) e in let l = length-append y.progress.commits (c ∷ []) in omega arith;
     }
 
-settled_more : (log : LogParts) (y : Played) (k : ℕ) (v : Verdict) → OneMore y (settled log y k v)
+settled_more : (log : LogParts) (y : Played) (k : ℕ) (v : LogVerdict) → OneMore y (settled log y k v)
 settled_more log y k (Goes e u) = one_more y (settled log y k (Goes e u)) e.commit refl
 settled_more log y k (Fails why) = no_more y (settled log y k (Fails why)) refl
 
@@ -113,7 +113,7 @@ EndsOr log y i = ((how : End) × (y.now ≡ Over how)) ⊎ GoesOn log y i
 counted_one : (cs : List Commit) (c : Commit) (i : ℕ) → length cs ≡ i → length (cs ++ c ∷ []) ≡ suc i
 counted_one cs c i e = let h = length-append cs (c ∷ []) in omega arith
 
-settled_goes : (log : LogParts) (y : Played) (k i : ℕ) (v : Verdict) → position y.progress ≡ i → EndsOr log (settled log y k v) (suc i)
+settled_goes : (log : LogParts) (y : Played) (k i : ℕ) (v : LogVerdict) → position y.progress ≡ i → EndsOr log (settled log y k v) (suc i)
 settled_goes log y k i (Goes e u) done = inr (record { done = counted_one y.progress.commits e.commit i done; now = refl })
 settled_goes log y k i (Fails why) done = inl (End.Diverged (position y.progress) why, refl)
 

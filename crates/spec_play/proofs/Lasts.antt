@@ -16,7 +16,7 @@ use Rattle.spec_kernel.specs.Serving.{serve}
 use Rattle.spec_play.specs.Effects.{Effect, chunk_effect, serial_effect, dma_commit}
 use Rattle.spec_play.specs.Progress.{Progress, thread_of, last_thread, with_effect, with_dma, Used, with_interrupt}
 use Rattle.spec_play.specs.Turns.{Now, Turn, TurnOfDma, Over}
-use Rattle.spec_play.specs.Verdicts.{Verdict, Goes, Fails, unless, interrupt_at, with_interrupted, ended, chunk_why, chunk_verdict, Given, given, serial_why, served_verdict, serial_verdict}
+use Rattle.spec_play.specs.Verdicts.{LogVerdict, Goes, Fails, unless, interrupt_at, with_interrupted, ended, chunk_why, chunk_verdict, Given, given, serial_why, served_verdict, serial_verdict}
 use Rattle.spec_play.specs.Transfers.{DmaVerdict, DmaGoes, DmaFails, dma_verdict}
 use Rattle.spec_play.specs.Plays.{Played, opened, settled, size_or_standard, thread_verdict, play_thread, dma_settled, play_now, play_one, plays}
 use Rattle.spec_play.specs.Lasts.{IsOfCommits, PlaysKeepLasts}
@@ -42,11 +42,11 @@ last-dma p last = last ∙ sym (pushed_dma p.commits dma_commit refl)
 -- ---- a verdict's commit is its thread's
 
 -- a verdict that goes on has a commit of that thread
-abbrev pub IsOf : (thread : ℕ) → Verdict → Type 0
+abbrev pub IsOf : (thread : ℕ) → LogVerdict → Type 0
 IsOf k (Goes e u) = e.commit.actor ≡ Actor.Thread k
 IsOf k (Fails why) = Unit {0}
 
-unless_of : (k : ℕ) (o : Option Why) (v : Verdict) → IsOf k v → IsOf k (unless o v)
+unless_of : (k : ℕ) (o : Option Why) (v : LogVerdict) → IsOf k v → IsOf k (unless o v)
 unless_of k None v is = is
 unless_of k (Some why) v is = tt
 
@@ -84,7 +84,7 @@ verdict_of : (log : LogParts) (y : Played) (k : ℕ) (t : Parts) (o : Option Kin
 verdict_of log y k t None = chunk-of log y.progress y.used k (run y.memory t (size_or_standard log k t.commits))
 verdict_of log y k t (Some kind) = serial-of log y.progress y.used k y.threads t y.memory
 
-settled_last : (log : LogParts) (y : Played) (k : ℕ) (v : Verdict) → IsOf k v → IsOfCommits y.progress → IsOfCommits (settled log y k v).progress
+settled_last : (log : LogParts) (y : Played) (k : ℕ) (v : LogVerdict) → IsOf k v → IsOfCommits y.progress → IsOfCommits (settled log y k v).progress
 settled_last log y k (Goes e u) is last = last-effect k e y.progress is
 settled_last log y k (Fails why) is last = last
 

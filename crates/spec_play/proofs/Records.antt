@@ -18,7 +18,7 @@ use Rattle.spec_kernel.specs.Copies.{bytes_put}
 use Rattle.spec_kernel.specs.Devices.{random_bytes, random_after}
 use Rattle.spec_kernel.specs.Needs.{next_kind, next_operation, need}
 use Rattle.spec_kernel.specs.Records.{fits}
-use Rattle.spec_kernel.specs.Serving.{serve, console_told}
+use Rattle.spec_kernel.specs.Serving.{serve, console_written}
 use Rattle.spec_play.specs.Plays.{play_one}
 use Rattle.spec_play.specs.Transfers.{dma_verdict}
 use Rattle.spec_play.specs.Turns.{has_left_over, now_at}
@@ -89,7 +89,7 @@ pub record AreRead : Type 0 where
   pub not_serial_before_interrupt : (play (of_two (0 ∷ 0 ∷ []) (interrupt_after 1 ∷ [])) exits_code 0).now ≡ Over (End.Diverged 0 Why.NotSerial)
 
 pub records_are_read : AreRead
-unfolding serial_of loads_of next_of load_of store_of one lay read merged answer called bytes_put random_bytes random_after next_kind next_operation need fits serve console_told play_one dma_verdict has_left_over now_at chunk_verdict serial_verdict
+unfolding serial_of loads_of next_of load_of store_of one lay read merged answer called bytes_put random_bytes random_after next_kind next_operation need fits serve console_written play_one dma_verdict has_left_over now_at chunk_verdict serial_verdict
 records_are_read =
     record {
       dma_fits = refl;

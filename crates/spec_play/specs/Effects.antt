@@ -10,7 +10,7 @@ use Rattle.spec_isa.specs.declared.thread.Parts.{Parts}
 use Rattle.spec_isa.specs.declared.thread.Load.{Load}
 use Rattle.spec_isa.specs.Words.{Stored}
 use Rattle.spec_isa.specs.Runs.{Run}
-use Rattle.spec_kernel.specs.Serving.{Served}
+use Rattle.spec_kernel.specs.Serving.{StepResult}
 
 -- the thread, the threads that it spawned, the words to be stored, the outstanding DMA request, and the commit as
 -- accounts tell it
@@ -43,7 +43,7 @@ serial_commit k loads outputs =
     record { actor = Actor.Thread k; kind = CommitKind.Serial; size = 0; loads = loads; outputs = outputs }
 
 -- of a serial step of thread k
-abbrev pub serial_effect : (thread : ℕ) → Served → Effect
+abbrev pub serial_effect : (thread : ℕ) → StepResult → Effect
 serial_effect k v =
     record {
       thread = counted v.thread;

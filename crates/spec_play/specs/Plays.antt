@@ -13,7 +13,7 @@ use Rattle.spec_kernel.specs.Needs.{next_kind}
 use Rattle.spec_play.specs.Effects.{Effect}
 use Rattle.spec_play.specs.Progress.{Progress, no_progress, position, with_effect, with_dma, Used, nothing_used, with_dma_used}
 use Rattle.spec_play.specs.Turns.{Now, Turn, TurnOfDma, Over, now_at}
-use Rattle.spec_play.specs.Verdicts.{Verdict, Goes, Fails, chunk_verdict, serial_verdict}
+use Rattle.spec_play.specs.Verdicts.{LogVerdict, Goes, Fails, chunk_verdict, serial_verdict}
 use Rattle.spec_play.specs.Transfers.{DmaVerdict, DmaGoes, DmaFails, dma_verdict}
 
 -- where a play stands between two commits
@@ -42,7 +42,7 @@ opened log memory entry =
 abbrev pub with_threads : (thread : ℕ) → Effect → List Parts → List Parts
 with_threads k e threads = slice_set threads k e.thread ++ e.made
 
-abbrev pub settled : LogParts → Played → (thread : ℕ) → Verdict → Played
+abbrev pub settled : LogParts → Played → (thread : ℕ) → LogVerdict → Played
 settled log y k (Fails why) = record y { now = Over (End.Diverged (position y.progress) why) }
 settled log y k (Goes e u) =
     let threads = with_threads k e y.threads in
@@ -60,7 +60,7 @@ abbrev pub size_or_standard : LogParts → (thread commits : ℕ) → ℕ
 size_or_standard log k commits = elim (size_in log (Actor.Thread k) commits) [ None ↦ log.s | Some z ↦ z ]
 
 -- the serial step of thread k, which is t, where its next instruction is serial; else as many instructions as are logged
-abbrev pub thread_verdict : LogParts → Played → (thread : ℕ) → Parts → Option Kind → Verdict
+abbrev pub thread_verdict : LogParts → Played → (thread : ℕ) → Parts → Option Kind → LogVerdict
 thread_verdict log y k t (Some kind) = serial_verdict log y.progress y.used k y.threads t y.memory
 thread_verdict log y k t None =
     chunk_verdict log y.progress y.used k (run y.memory t (size_or_standard log k t.commits))

@@ -16,11 +16,11 @@ use Rattle.spec_play.specs.Effects.{Effect, chunk_effect, serial_effect}
 use Rattle.spec_play.specs.Progress.{Progress, Used, with_interrupt, with_input}
 
 -- what the commit leaves, and what of the log is used then; or the reason
-pub data Verdict : Type 0 where
-  Goes : (effect : Effect) (used : Used) → Verdict
-  Fails : (why : Why) → Verdict
+pub data LogVerdict : Type 0 where
+  Goes : (effect : Effect) (used : Used) → LogVerdict
+  Fails : (why : Why) → LogVerdict
 
-abbrev pub unless : Option Why → Verdict → Verdict
+abbrev pub unless : Option Why → LogVerdict → LogVerdict
 unless None verdict = verdict
 unless (Some why) verdict = Fails why
 
@@ -32,14 +32,14 @@ interrupt_at interrupts k commits =
     option_map (λ i. i.value) (find (λ i. nat_eq i.thread k && nat_eq i.index commits) interrupts)
 
 -- the thread takes it, where it can
-abbrev pub with_interrupted : Option ℕ → Effect → Used → Verdict
+abbrev pub with_interrupted : Option ℕ → Effect → Used → LogVerdict
 with_interrupted None e u = Goes e u
 with_interrupted (Some value) e u =
     if takes_interrupt e.thread
     then Goes (record e { thread = interrupted value e.thread }) (with_interrupt u)
     else Fails Why.Interrupt
 
-abbrev pub ended : LogParts → (thread : ℕ) → Effect → Used → Verdict
+abbrev pub ended : LogParts → (thread : ℕ) → Effect → Used → LogVerdict
 ended log k e u = with_interrupted (interrupt_at log.interrupts k e.thread.commits) e u
 
 -- ---- a chunk
@@ -51,7 +51,7 @@ chunk_why (Some z) n =
     if nat_eq z 0 then Some Why.NotSerial else if nat_lt n z then Some (Why.Short z n) else None
 
 -- thread k has run a chunk, all of it
-unfoldable pub chunk_verdict : LogParts → Progress → Used → (thread : ℕ) → Run → Verdict
+unfoldable pub chunk_verdict : LogParts → Progress → Used → (thread : ℕ) → Run → LogVerdict
 chunk_verdict log p u k r =
     unless (chunk_why (size_in log (Actor.Thread k) r.thread.commits) r.n) (ended log k (chunk_effect k p.request r) u)
 
@@ -73,13 +73,13 @@ given None next u = Some (record { input = None; used = u })
 given (Some need) None u = None
 given (Some need) (Some r) u = if fits need r then Some (record { input = Some r; used = with_input u }) else None
 
-abbrev pub served_verdict : LogParts → Progress → (thread : ℕ) → List Parts → Parts → List ℕ → Option Given → Verdict
+abbrev pub served_verdict : LogParts → Progress → (thread : ℕ) → List Parts → Parts → List ℕ → Option Given → LogVerdict
 served_verdict log p k threads t m None = Fails Why.Input
 served_verdict log p k threads t m (Some g) =
     ended log k (serial_effect k (serve k threads p.request t m g.input)) g.used
 
 -- the next step of thread k, which is t among these threads, is serial
-unfoldable pub serial_verdict : LogParts → Progress → Used → (thread : ℕ) → List Parts → Parts → List ℕ → Verdict
+unfoldable pub serial_verdict : LogParts → Progress → Used → (thread : ℕ) → List Parts → Parts → List ℕ → LogVerdict
 serial_verdict log p u k threads t m =
     unless (serial_why (size_in log (Actor.Thread k) t.commits))
     (served_verdict log p k threads t m (given (need t m) (slice_get log.inputs u.inputs) u))

@@ -3,12 +3,12 @@ use Rattle.std.proofs.Common.{◌≡◌, ℕ, Result, Ok, Err, refl, sym, ap, �
 use Rattle.dl_elf.specs.Images.{Image}
 use Rattle.dl_elf.specs.Loading.{image_of}
 use Rattle.spec_log.specs.declared.LogParts.{LogParts}
-use Rattle.spec_log.specs.Reading.{Fault}
+use Rattle.spec_log.specs.Reading.{ParseError}
 use Rattle.spec_protocol.specs.Logged.{sphere_in}
 use Rattle.spec_protocol.specs.Machine.{RoleSetup, IsRecorded, IsReplayed, SphereSetup}
 use Rattle.spec_run.specs.Runs.{executed}
-use Rattle.spec_run.specs.Texts.{account_as, account_text, log_told}
-use Rattle.spec_run.proofs.Told.{recordings_reproduced}
+use Rattle.spec_run.specs.Texts.{account_as, account_text, log_of_points}
+use Rattle.spec_run.proofs.Described.{recordings_reproduced}
 use Rattle.spec_program.specs.Agreement.{AccountsAgree, RecordingsAreReplayed}
 use Rattle.spec_program.specs.Built.{bad_log, mode_named, role_of}
 use Rattle.spec_program.specs.Files.{ReplayRead, SphereRead}
@@ -25,12 +25,12 @@ same_Ok a b e = cc
 same_image : (s r : SphereRead) (x y : SphereSetup) → s.image ≡ r.image → s.memory ≡ r.memory → (a : IsMade s x) → (b : IsMade r y) → a.image ≡ b.image
 same_image s r x y file size a b = same_Ok a.image b.image (sym a.loaded ∙ (λ k. image_of (file k) (size k)) ∙ b.loaded)
 
-replayed_by : (i : ℕ) (o : Result LogParts Fault) (r : RoleSetup) → (refusing (bad_log i) o >> λ log. Ok (IsReplayed log)) ≡ Ok r → (parts : LogParts) × (o ≡ Ok parts) × (r ≡ IsReplayed parts)
+replayed_by : (i : ℕ) (o : Result LogParts ParseError) (r : RoleSetup) → (refusing (bad_log i) o >> λ log. Ok (IsReplayed log)) ≡ Ok r → (parts : LogParts) × (o ≡ Ok parts) × (r ≡ IsReplayed parts)
 replayed_by i (Err fault) r e = absurd cc
 replayed_by i (Ok parts) r e = (parts, refl, sym (same_Ok (IsReplayed parts) r e))
 
 -- the role that replays a log
-replayed : (log : Result LogParts Fault) (s : SphereRead) (x : SphereSetup) → s.role ≡ ReplayRead log → IsMade s x → (parts : LogParts) × (log ≡ Ok parts) × (x.role ≡ IsReplayed parts)
+replayed : (log : Result LogParts ParseError) (s : SphereRead) (x : SphereSetup) → s.role ≡ ReplayRead log → IsMade s x → (parts : LogParts) × (log ≡ Ok parts) × (x.role ≡ IsReplayed parts)
 replayed log s x role made = replayed_by 0 log x.role (ap (role_of 0) (sym role) ∙ made.role)
 
 -- ---- accounts
@@ -58,19 +58,19 @@ accounts_agree plan other m n t u i j s log is is_too role at there =
 pub recordings_replayed : RecordingsAreReplayed
 unfolding account_text
 recordings_replayed plan other m n t u i j s mode is is_too role at there =
-    let log : Result LogParts Fault = Ok (log_told (setup_in t) t.events i (mode_named mode)) in
+    let log : Result LogParts ParseError = Ok (log_of_points (setup_in t) t.events i (mode_named mode)) in
     let r : SphereRead = record s { role = ReplayRead log } in
     let a = sphere_of_task plan m t i s is at in
     let b = sphere_of_task other n u j r is_too there in
     let image = same_image s r a.setup b.setup refl refl a.made b.made in
-    let told = log_told (setup_in t) t.events i (mode_named mode) in
+    let noted_log = log_of_points (setup_in t) t.events i (mode_named mode) in
     let recorded : a.setup.role ≡ IsRecorded (mode_named mode) = sym (same_Ok (IsRecorded (mode_named mode)) a.setup.role (ap (role_of 0) (sym role) ∙ a.made.role)) in
     let q = replayed log r b.setup refl b.made in
-    let parts : q.0 ≡ told = same_Ok q.0 told (sym q.1) in
+    let parts : q.0 ≡ noted_log = same_Ok q.0 noted_log (sym q.1) in
     let x = sphere_in (executed (setup_in t) t.events) i in
     let y = sphere_in (executed (setup_in u) u.events) j in
-    let plays : account_as a.setup y (IsReplayed told) ≡ account_as b.setup y (IsReplayed told) =
-    (λ k. account_as (record { memory = (a.made.memory ∙ ap (λ (d : Image). d.bytes) image ∙ sym b.made.memory) k; entry = (a.made.entry ∙ ap (λ (d : Image). d.entry) image ∙ sym b.made.entry) k; role = IsReplayed told }) y (IsReplayed told))
+    let plays : account_as a.setup y (IsReplayed noted_log) ≡ account_as b.setup y (IsReplayed noted_log) =
+    (λ k. account_as (record { memory = (a.made.memory ∙ ap (λ (d : Image). d.bytes) image ∙ sym b.made.memory) k; entry = (a.made.entry ∙ ap (λ (d : Image). d.entry) image ∙ sym b.made.entry) k; role = IsReplayed noted_log }) y (IsReplayed noted_log))
     in
     ap (λ (d : SphereSetup). account_as d x d.role) a.at
     ∙ ap (account_as a.setup x) recorded

@@ -7,8 +7,8 @@ use Rattle.dl_elf.specs.Loading.{image_of}
 use Rattle.dl_files.specs.Contents.{Contents}
 use Rattle.dl_words.specs.Commands.{CommandValues, Run, Inspect, Walk, Make, Drill, Asm}
 use Rattle.spec_log.specs.declared.LogParts.{LogParts}
-use Rattle.spec_log.specs.Reading.{Fault, read_of}
-use Rattle.spec_run.proofs.Told.{runs_told}
+use Rattle.spec_log.specs.Reading.{ParseError, read_of}
+use Rattle.spec_run.proofs.Described.{runs_described}
 use Rattle.spec_program.specs.declared.status.Status.{Status}
 use Rattle.spec_program.specs.Built.{bad_image, bad_log}
 use Rattle.spec_program.specs.Done.{IsDone}
@@ -50,24 +50,24 @@ there : (m : Contents) (name bytes : List ℕ) → file_at m name ≡ Ok bytes �
 there m name bytes e = given (get m name) name bytes (not_refused absent (read_at m name) bytes e)
 
 -- the bytes of a file that is read as a log
-log_there : (m : Contents) (name : List ℕ) (read : Result LogParts Fault) → log_file_at m name ≡ Ok read → (bytes : List ℕ) × (get m name ≡ Some bytes) × (read_of bytes ≡ read)
+log_there : (m : Contents) (name : List ℕ) (read : Result LogParts ParseError) → log_file_at m name ≡ Ok read → (bytes : List ℕ) × (get m name ≡ Some bytes) × (read_of bytes ≡ read)
 log_there m name read e =
     let file = then_ok (read_at m name) _ read (not_refused absent (log_at m name) read e) in
     (file.0, given (get m name) name file.0 file.1, same_Ok (read_of file.0) read file.2)
 
-not_told : (o : Option Refused) (file result : List ℕ) → unless_refused o file ≡ Ok result → result ≡ file
-not_told (Some refused) file result e = absurd cc
-not_told None file result e = cc
+never_refused : (o : Option Refused) (file result : List ℕ) → unless_refused o file ≡ Ok result → result ≡ file
+never_refused (Some refused) file result e = absurd cc
+never_refused None file result e = cc
 
 -- the work of a command, with its limits, is done
 pub done_at : (m : Contents) (before after : Outside) (s : Status) (command : CommandValues) (work : Work) → work_for m command ≡ Ok work → IsWithin work → IsFinished (outcome_for work) m before after s
-    → IsDone command m after.told before.taken after.taken s
+    → IsDone command m after.known before.taken after.taken s
 done_at m before after s (Run plan) work e within f =
     let task = then_ok (task_named m plan) _ work e in
     let same = same_Ok (Running task.0) work task.2 in
     let limits = subst IsWithin (sym same) within in
     let g = subst (λ (w : Work). IsFinished (outcome_for w) m before after s) (sym same) f in
-    record { task = task.0; asked = task.1; limits = limits; possible = (runs_told (setup_in task.0) task.0.events (task_can_finish plan m task.0 task.1).setup).possible; files = g.files; output = g.output; status = g.status }
+    record { task = task.0; asked = task.1; limits = limits; possible = (runs_described (setup_in task.0) task.0.events (task_can_finish plan m task.0 task.1).setup).possible; files = g.files; output = g.output; status = g.status }
 done_at m before after s (Inspect log) work e within f =
     let file = then_ok (log_file_at m log) _ work e in
     let parts = then_ok (log_in file.0) _ work file.2 in
@@ -104,7 +104,7 @@ done_at m before after s (Asm source name) work e within f =
     let file = then_ok (file_at m source) _ work e in
     let made = then_ok (assembled file.0) _ work file.2 in
     let words = file_of (words_in (lines_of file.0)) in
-    let is : made.0 ≡ words = not_told (refused_from (lines_of file.0) 0 _) words made.0 made.1 in
+    let is : made.0 ≡ words = never_refused (refused_from (lines_of file.0) 0 _) words made.0 made.1 in
     let same : Assembling words name ≡ work = ap (λ (b : List ℕ). Assembling b name) (sym is) ∙ same_Ok (Assembling made.0 name) work made.2 in
     let g = subst (λ (w : Work). IsFinished (outcome_for w) m before after s) (sym same) f in
     record { bytes = file.0; there = there m source file.0 file.1; kept = made.1 ∙ ap Ok is; files = g.files; output = g.output; status = g.status }

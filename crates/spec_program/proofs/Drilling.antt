@@ -9,7 +9,7 @@ use Rattle.spec_protocol.specs.Machine.{IsRecorded, IsReplayed, SphereSetup}
 use Rattle.spec_finishing.specs.Ending.{CanFinish}
 use Rattle.spec_run.specs.Runs.{end_of, has_diverged}
 use Rattle.spec_run.specs.Texts.{account_text}
-use Rattle.spec_run.proofs.Told.{recordings_reproduced}
+use Rattle.spec_run.proofs.Described.{recordings_reproduced}
 use Rattle.spec_program.specs.Drilled.{IsReproduced}
 use Rattle.spec_program.specs.Drills.{drill_sphere, recording, recording_events}
 
@@ -36,5 +36,5 @@ can_finish v =
 pub drill_reproduced : (v : ℕ) → IsReproduced v
 unfolding account_text
 drill_reproduced v =
-    let told = recordings_reproduced (recording v) (recording_events v) 0 (recorded v) ModeName.OrderOnly (can_finish v) refl refl in
-    record { account = told.account; complete = ap (λ (n : Now). has_diverged (end_of n) || false) told.fits }
+    let reproduced = recordings_reproduced (recording v) (recording_events v) 0 (recorded v) ModeName.OrderOnly (can_finish v) refl refl in
+    record { account = reproduced.account; complete = ap (λ (n : Now). has_diverged (end_of n) || false) reproduced.fits }

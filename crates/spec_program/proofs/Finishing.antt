@@ -2,7 +2,7 @@
 use Rattle.std.proofs.Common.{◌≡◌, ℕ, List, Option, Some, Result, Ok, Err, ok_or, refl, ap, ◌∙◌, subst}
 use Rattle.dl_files.specs.Contents.{Contents}
 use Rattle.dl_words.specs.Commands.{CommandValues, Run, command_of}
-use Rattle.spec_run.proofs.Told.{runs_told}
+use Rattle.spec_run.proofs.Described.{runs_described}
 use Rattle.spec_program.specs.Ends.{DoesFinish}
 use Rattle.spec_program.specs.Outcomes.{outcome_in, outcome_of}
 use Rattle.spec_program.specs.Promise.{IsRun}
@@ -28,5 +28,5 @@ finished_has_task words m plan asks f =
 pub task_run : (words : List (List ℕ)) (m : Contents) (plan : List ℕ) (t : Task) → command_of words ≡ Some (Run plan) → IsTask plan m t → IsRun words m t
 task_run words m plan t asks is = record {
   outcome = ap outcome_in (work_is words m (Run plan) asks) ∙ ap (λ (o : Result Task Refused). outcome_in (o >> λ task. Ok (Running task))) is;
-  possible = (runs_told (setup_in t) t.events (task_can_finish plan m t is).setup).possible;
+  possible = (runs_described (setup_in t) t.events (task_can_finish plan m t is).setup).possible;
 }

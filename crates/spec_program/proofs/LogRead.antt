@@ -8,10 +8,10 @@ use Rattle.spec_log.specs.declared.Interrupt.{Interrupt}
 use Rattle.spec_log.specs.declared.DmaRecord.{DmaRecord}
 use Rattle.spec_log.specs.declared.Sizes.{Sizes}
 use Rattle.spec_log.specs.declared.LogParts.{LogParts}
-use Rattle.spec_log.specs.Reading.{Fault, fails, Read, Reader, continues, gives, read, passes, raw, number_of, field, from_to, at_most, mode, order_of, sizes_of, interrupts_of, inputs_of, dmas_of, parts, read_of}
+use Rattle.spec_log.specs.Reading.{ParseError, fails, Read, Reader, continues, gives, read, passes, raw, number_of, field, from_to, at_most, mode, order_of, sizes_of, interrupts_of, inputs_of, dmas_of, parts, read_of}
 
 -- where something is read behind something, both were read
-then_read : {X Y : Type 0} (r : Result (Read X) Fault) (next : X → ℕ → Result Y Fault) (y : Y) → continues r next ≡ Ok y → (x : Read X) × (r ≡ Ok x) × (next x.value x.after ≡ Ok y)
+then_read : {X Y : Type 0} (r : Result (Read X) ParseError) (next : X → ℕ → Result Y ParseError) (y : Y) → continues r next ≡ Ok y → (x : Read X) × (r ≡ Ok x) × (next x.value x.after ≡ Ok y)
 then_read (Ok x) next y e = (x, refl, e)
 then_read (Err fault) next y e = absurd cc
 
@@ -57,7 +57,7 @@ from_count m s = read (field 4 (at_most (2 ^ 24))) (from_order m s)
 abbrev from_size : ModeName → Reader LogParts
 from_size m = read (field 4 (from_to 16 4096)) (from_count m)
 
-same_read : (a b : Read LogParts) → ◌≡◌ {A = Result (Read LogParts) Fault} (Ok a) (Ok b) → a ≡ b
+same_read : (a b : Read LogParts) → ◌≡◌ {A = Result (Read LogParts) ParseError} (Ok a) (Ok b) → a ≡ b
 same_read a b e = cc
 
 parts_low : (bytes : List ℕ) (at : ℕ) (x : Read LogParts) → parts bytes at ≡ Ok x → 16 ≤ x.value.s
@@ -74,7 +74,7 @@ parts_low bytes at x e =
     let all : Read LogParts = record { value = parts_of dmas.0.value; after = dmas.0.after } in
     subst (λ (y : Read LogParts). 16 ≤ y.value.s) (same_read all x dmas.2) (field_low bytes m.0.after s.0 s.1)
 
-all_read : (b : Bool) (at : ℕ) (p log : LogParts) → ◌≡◌ {A = Result LogParts Fault} (if b then fails 7 at else Ok p) (Ok log) → p ≡ log
+all_read : (b : Bool) (at : ℕ) (p log : LogParts) → ◌≡◌ {A = Result LogParts ParseError} (if b then fails 7 at else Ok p) (Ok log) → p ≡ log
 all_read true at p log e = absurd cc
 all_read false at p log e = cc
 

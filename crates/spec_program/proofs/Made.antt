@@ -7,7 +7,7 @@ use Rattle.dl_elf.specs.Loading.{image_of}
 use Rattle.dl_files.specs.Contents.{Contents}
 use Rattle.dl_plan.specs.Plans.{plan_of}
 use Rattle.spec_log.specs.declared.LogParts.{LogParts}
-use Rattle.spec_log.specs.Reading.{Fault}
+use Rattle.spec_log.specs.Reading.{ParseError}
 use Rattle.spec_protocol.specs.Machine.{RoleSetup, IsReplayed, SphereSetup}
 use Rattle.spec_protocol.specs.Sound.{no_image, image_at}
 use Rattle.spec_program.specs.Built.{bad_image, bad_log, images_of, role_of, spheres_of, events_of}
@@ -21,9 +21,9 @@ then_ok (Err x) f b e = absurd cc
 then_ok (Ok a) f b e = (a, refl, e)
 
 -- what is not refused is what was answered
-pub not_refused : {A E : Type 0} (told : E → Refused) (o : Result A E) (a : A) → refusing told o ≡ Ok a → o ≡ Ok a
-not_refused told (Err x) a e = absurd cc
-not_refused told (Ok b) a e = cc
+pub not_refused : {A E : Type 0} (as_refused : E → Refused) (o : Result A E) (a : A) → refusing as_refused o ≡ Ok a → o ≡ Ok a
+not_refused as_refused (Err x) a e = absurd cc
+not_refused as_refused (Ok b) a e = cc
 
 -- ---- a sphere
 
@@ -35,7 +35,7 @@ pub record IsMade (s : SphereRead) (x : SphereSetup) : Type 0 where
   pub entry : x.entry ≡ image.entry
   pub role : role_of 0 s.role ≡ Ok x.role
 
-log_any : (i j : ℕ) (o : Result LogParts Fault) (r : RoleSetup) → (refusing (bad_log i) o >> λ log. Ok (IsReplayed log)) ≡ Ok r → (refusing (bad_log j) o >> λ log. Ok (IsReplayed log)) ≡ Ok r
+log_any : (i j : ℕ) (o : Result LogParts ParseError) (r : RoleSetup) → (refusing (bad_log i) o >> λ log. Ok (IsReplayed log)) ≡ Ok r → (refusing (bad_log j) o >> λ log. Ok (IsReplayed log)) ≡ Ok r
 log_any i j (Err fault) r e = absurd cc
 log_any i j (Ok log) r e = e
 

@@ -4,8 +4,8 @@ use Rattle.dl_files.specs.Contents.{Contents}
 use Rattle.dl_plan.specs.declared.Mode.{Mode}
 use Rattle.dl_plan.specs.declared.Product.{Product}
 use Rattle.spec_log.specs.declared.LogParts.{LogParts}
-use Rattle.spec_log.specs.Reading.{Fault}
-use Rattle.spec_run.specs.Texts.{log_told}
+use Rattle.spec_log.specs.Reading.{ParseError}
+use Rattle.spec_run.specs.Texts.{log_of_points}
 use Rattle.spec_program.specs.Built.{mode_named}
 use Rattle.spec_program.specs.Files.{RecordRead, ReplayRead, SphereRead}
 use Rattle.spec_program.specs.Outcomes.{product_for}
@@ -19,7 +19,7 @@ account_in t i = product_for (setup_in t) t.events (Product.Account i)
 -- plans and files say
 abbrev pub AccountsAgree : Type 0
 AccountsAgree =
-    (plan other : List ℕ) (m n : Contents) (t u : Task) (i j : ℕ) (s : SphereRead) (log : Result LogParts Fault)
+    (plan other : List ℕ) (m n : Contents) (t u : Task) (i j : ℕ) (s : SphereRead) (log : Result LogParts ParseError)
     → IsTask plan m t
     → IsTask other n u
     → s.role ≡ ReplayRead log
@@ -37,5 +37,5 @@ RecordingsAreReplayed =
     → s.role ≡ RecordRead mode
     → slice_get t.read.spheres i ≡ Some s
     → slice_get u.read.spheres j
-    ≡ Some (record s { role = ReplayRead (Ok (log_told (setup_in t) t.events i (mode_named mode))) })
+    ≡ Some (record s { role = ReplayRead (Ok (log_of_points (setup_in t) t.events i (mode_named mode))) })
     → account_in t i ≡ account_in u j

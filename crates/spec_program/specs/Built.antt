@@ -8,7 +8,7 @@ use Rattle.dl_event.specs.Seeded.{seeded, schedule}
 use Rattle.dl_plan.specs.declared.Mode.{Mode}
 use Rattle.dl_plan.specs.Values.{PlanValues}
 use Rattle.spec_log.specs.declared.ModeName.{ModeName}
-use Rattle.spec_log.specs.Reading.{Fault}
+use Rattle.spec_log.specs.Reading.{ParseError}
 use Rattle.spec_protocol.specs.declared.event.Event.{Event}
 use Rattle.spec_protocol.specs.Machine.{RoleSetup, IsPlain, IsRecorded, IsReplayed, SphereSetup, Setup}
 use Rattle.spec_program.specs.declared.status.Refusal.{Refusal}
@@ -33,7 +33,7 @@ images_of i (s ∷ ss) =
 
 -- ---- spheres, once there are images of all
 
-abbrev pub bad_log : (sphere : ℕ) → Fault → Refused
+abbrev pub bad_log : (sphere : ℕ) → ParseError → Refused
 bad_log i fault = record { why = Refusal.Grammar; line = log_line i fault.number fault.offset }
 
 abbrev pub mode_named : Mode → ModeName

@@ -8,7 +8,7 @@ use Rattle.spec_log.specs.declared.LogParts.{LogParts}
 use Rattle.spec_log.specs.declared.ModeName.{ModeName}
 use Rattle.spec_protocol.specs.declared.event.Event.{Event}
 use Rattle.spec_protocol.specs.Machine.{RoleSetup, IsRecorded, IsReplayed, SphereSetup, Setup}
-use Rattle.spec_run.specs.Texts.{account_text, log_told, summary_text}
+use Rattle.spec_run.specs.Texts.{account_text, log_of_points, summary_text}
 use Rattle.spec_program.specs.Lines.{line}
 
 -- the generated image of that number, in a memory of 4,096 bytes
@@ -35,7 +35,7 @@ abbrev pub recording_events : (number : ℕ) → List Event
 recording_events v = schedule 20000 (seeded v)
 
 abbrev pub recorded_log : (number : ℕ) → LogParts
-recorded_log v = log_told (recording v) (recording_events v) 0 ModeName.OrderOnly
+recorded_log v = log_of_points (recording v) (recording_events v) 0 ModeName.OrderOnly
 
 -- ---- the replay of its log, without a schedule
 

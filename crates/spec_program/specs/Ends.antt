@@ -75,33 +75,33 @@ TookAll text old new = new ≡ with_taken (length text) text old
 -- ---- what the files hold
 
 -- a write in pieces is begun: the name holds the first of its bytes
-abbrev pub IsBegun : Option Write → Contents → (told : Option Contents) → Type 0
-IsBegun None m told = ⊥
-IsBegun (Some w) m told = (w.in_pieces ≡ true) × (k : ℕ) × (told ≡ Some (insert m w.name (take k w.bytes)))
+abbrev pub IsBegun : Option Write → Contents → (known : Option Contents) → Type 0
+IsBegun None m known = ⊥
+IsBegun (Some w) m known = (w.in_pieces ≡ true) × (k : ℕ) × (known ≡ Some (insert m w.name (take k w.bytes)))
 
 -- the first writes are done, each whole, the next one may be begun, and nothing else has changed
-abbrev pub Partly : List Write → Contents → (told : Option Contents) → Type 0
-Partly writes m told =
-    (n : ℕ) × (n ≤ length writes) × ((told ≡ Some (written (take n writes) m)) ⊎ IsBegun (slice_get writes n) (written (take n writes) m) told)
+abbrev pub Partly : List Write → Contents → (known : Option Contents) → Type 0
+Partly writes m known =
+    (n : ℕ) × (n ≤ length writes) × ((known ≡ Some (written (take n writes) m)) ⊎ IsBegun (slice_get writes n) (written (take n writes) m) known)
 
 -- the first writes are done, each whole; the next one, to that name, failed, and nothing but that name has changed further
-abbrev pub CutAt : List Write → Contents → (told : Option Contents) → (name : List ℕ) → Type 0
-CutAt writes m told name =
-    (i : ℕ) × ((w : Write) × (slice_get writes i ≡ Some w) × (w.name ≡ name) × SameBut name (Some (written (take i writes) m)) told)
+abbrev pub CutAt : List Write → Contents → (known : Option Contents) → (name : List ℕ) → Type 0
+CutAt writes m known name =
+    (i : ℕ) × ((w : Write) × (slice_get writes i ≡ Some w) × (w.name ≡ name) × SameBut name (Some (written (take i writes) m)) known)
 
 -- ---- the ends: o is what was to be done with the contents m, of which `reads` are read
 
 -- what was to be done, where its status is this one, is done and said, and no file failed
 pub record IsFinished (o : Outcome) (m : Contents) (before after : Outside) (s : Status) : Type 0 where
   pub status : s ≡ status_in o
-  pub files : after.told ≡ Some (written (writes_in o) m)
+  pub files : after.known ≡ Some (written (writes_in o) m)
   pub counted : after.faults ≡ before.faults
   pub output : TookAll (text_in o) before.taken after.taken
 
 -- it was to be refused so, no file has changed or failed, and the sink took the first bytes of its line
 pub record IsRefused (o : Outcome) (m : Contents) (before after : Outside) (s : Status) : Type 0 where
   pub status : s ≡ status_in o
-  pub files : after.told ≡ Some m
+  pub files : after.known ≡ Some m
   pub counted : after.faults ≡ before.faults
   pub output : Took (text_in o) before.taken after.taken
 
@@ -110,18 +110,18 @@ pub record IsRefused (o : Outcome) (m : Contents) (before after : Outside) (s : 
 pub record IsFaulted (o : Outcome) (reads : List (List ℕ)) (m : Contents) (before after : Outside) (name : List ℕ) : Type 0 where
   pub counted : Rose before.faults after.faults
   pub named : IsLast after.last name
-  pub files : ((after.told ≡ Some m) × IsReadNext reads m name) ⊎ CutAt (writes_in o) m after.told name
+  pub files : ((after.known ≡ Some m) × IsReadNext reads m name) ⊎ CutAt (writes_in o) m after.known name
   pub output : Took (fault_line name) before.taken after.taken
 
 -- every file is written and none failed, and the sink took the first bytes of the text, or of the line of a refusal
 pub record IsUnsaid (o : Outcome) (m : Contents) (before after : Outside) : Type 0 where
-  pub files : after.told ≡ Some (written (writes_in o) m)
+  pub files : after.known ≡ Some (written (writes_in o) m)
   pub counted : after.faults ≡ before.faults
   pub output : Took (text_in o) before.taken after.taken
 
 -- the first files are written and none failed, and nothing was said
 pub record IsUndone (o : Outcome) (m : Contents) (before after : Outside) : Type 0 where
-  pub files : Partly (writes_in o) m after.told
+  pub files : Partly (writes_in o) m after.known
   pub counted : after.faults ≡ before.faults
   pub output : after.taken ≡ before.taken
 

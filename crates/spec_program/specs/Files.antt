@@ -5,7 +5,7 @@ use Rattle.dl_files.specs.Contents.{Contents}
 use Rattle.dl_plan.specs.declared.Mode.{Mode}
 use Rattle.dl_plan.specs.Values.{ScheduleValues, Script, Seeded, RoleValues, Plain, Record, Replay, SphereValues, PlanValues}
 use Rattle.spec_log.specs.declared.LogParts.{LogParts}
-use Rattle.spec_log.specs.Reading.{Fault, read_of}
+use Rattle.spec_log.specs.Reading.{ParseError, read_of}
 use Rattle.spec_program.specs.Stages.{◌>>◌}
 
 -- a script, or how many events are to be drawn
@@ -17,7 +17,7 @@ pub data ScheduleRead : Type 0 where
 pub data RoleRead : Type 0 where
   PlainRead : RoleRead
   RecordRead : Mode → RoleRead
-  ReplayRead : (log : Result LogParts Fault) → RoleRead
+  ReplayRead : (log : Result LogParts ParseError) → RoleRead
 
 pub record SphereRead : Type 0 where
   pub image : List ℕ
@@ -36,7 +36,7 @@ abbrev pub read_at : Contents → (name : List ℕ) → Result (List ℕ) (List 
 read_at m name = ok_or (get m name) name
 
 -- what the file of that name says as a log
-abbrev pub log_at : Contents → (name : List ℕ) → Result (Result LogParts Fault) (List ℕ)
+abbrev pub log_at : Contents → (name : List ℕ) → Result (Result LogParts ParseError) (List ℕ)
 log_at m name = read_at m name >> λ bytes. Ok (read_of bytes)
 
 abbrev pub schedule_read : Contents → ScheduleValues → Result ScheduleRead (List ℕ)

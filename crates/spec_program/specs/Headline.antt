@@ -15,7 +15,7 @@ use Rattle.spec_program.specs.Tasks.{Task, IsTask, setup_in, points_in}
 use Rattle.spec_program.specs.Writes.{written}
 
 -- of `run PLAN` over files that held m: what the files then tell, what the sink had taken and now has, and the status
-pub record Headline (plan : List ℕ) (m : Contents) (told : Option Contents) (old new : Option (List ℕ)) (s : Status) : Type 0 where
+pub record Headline (plan : List ℕ) (m : Contents) (known : Option Contents) (old new : Option (List ℕ)) (s : Status) : Type 0 where
   -- the plan, the files that it has read, its spheres and its schedule are those that this plan and the files give
   pub task : Task
   pub asked : IsTask plan m task
@@ -25,7 +25,7 @@ pub record Headline (plan : List ℕ) (m : Contents) (told : Option Contents) (o
   pub possible : CanDoAll (serial_start (setup_in task)) (points_in task)
   -- each file of the plan holds what is made of the points and of executing them, or of a replayed log; every other file
   -- holds what it held
-  pub files : told ≡ Some (written (writes_for task.plan (setup_in task) task.events) m)
+  pub files : known ≡ Some (written (writes_for task.plan (setup_in task) task.events) m)
   -- the sink took the summary
   pub output : TookAll (summary_text (setup_in task) task.events) old new
   -- the status says whether a replayed log diverges from its image

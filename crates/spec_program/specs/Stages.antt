@@ -12,7 +12,7 @@ pub record Refused : Type 0 where
   pub why : Refusal
   pub line : List ℕ
 
--- a stage, whose faults are told as refusals
+-- a stage, whose faults are said as refusals
 abbrev pub refusing : {A E : Type 0} → (E → Refused) → Result A E → Result A Refused
-refusing told (Ok a) = Ok a
-refusing told (Err e) = Err (told e)
+refusing as_refused (Ok a) = Ok a
+refusing as_refused (Err e) = Err (as_refused e)

@@ -5,7 +5,7 @@ use Rattle.spec_isa.specs.Runs.{Run}
 use Rattle.spec_log.specs.declared.LogParts.{LogParts}
 use Rattle.spec_kernel.specs.Devices.{Devices}
 use Rattle.spec_protocol.specs.Spheres.{Role, Plain, Record, Sphere}
-use Rattle.spec_protocol.specs.Commits.{Moved, chunk_moved, serial_moved, dma_moved, raised}
+use Rattle.spec_protocol.specs.Commits.{MovedSphere, chunk_moved, serial_moved, dma_moved, raised}
 
 abbrev pub in_role : Role → Sphere → Sphere
 in_role role p = record p { role = role }
@@ -14,14 +14,14 @@ in_role role p = record p { role = role }
 abbrev pub AreAlike : Sphere → Sphere → Type 0
 AreAlike p q = in_role Plain p ≡ in_role Plain q
 
-pub record MoveAlike (v u : Moved) : Type 0 where
+pub record MoveAlike (v u : MovedSphere) : Type 0 where
   pub outcome : v.outcome ≡ u.outcome
   pub spheres : AreAlike v.sphere u.sphere
   pub words : v.words ≡ u.words
   pub devices : v.devices ≡ u.devices
 
 -- both, or neither
-abbrev pub MoveAlikeIf : Option Moved → Option Moved → Type 0
+abbrev pub MoveAlikeIf : Option MovedSphere → Option MovedSphere → Type 0
 MoveAlikeIf None None = Unit {0}
 MoveAlikeIf (Some v) (Some u) = MoveAlike v u
 MoveAlikeIf _ _ = ⊥

@@ -12,7 +12,7 @@ use Rattle.spec_engine.specs.Chunks.{Chunk, is_empty_serial}
 use Rattle.spec_engine.specs.Asking.{ask, ask_serial}
 use Rattle.spec_protocol.specs.declared.reply.Reply.{Reply}
 use Rattle.spec_protocol.specs.Spheres.{Role, is_stopped, head_of, is_in_pieces}
-use Rattle.spec_protocol.specs.Commits.{CommitOutcome, Granted, Piece, Diverged, Moved, is_piece, chunk_moved, serial_moved}
+use Rattle.spec_protocol.specs.Commits.{CommitOutcome, Granted, Piece, Diverged, MovedSphere, is_piece, chunk_moved, serial_moved}
 use Rattle.spec_protocol.specs.World.{World, Held, moment, sphere_at, with_sphere, with_core, held_afresh, flown, What, OfChunk, OfSerial, Move, After, answered}
 
 -- ---- a granted request
@@ -34,7 +34,7 @@ abbrev pub move_at : (moment : ℕ) → CommitRequest → Move
 move_at now q = record { moment = now; sphere = q.sphere; what = q.what }
 
 -- the words fly, and the core, which is told, goes on with its thread as it is now
-abbrev pub world_with : World → (core : ℕ) → CommitRequest → Marks → Moved → World
+abbrev pub world_with : World → (core : ℕ) → CommitRequest → Marks → MovedSphere → World
 world_with w c q writes v =
     record w {
       spheres = (with_sphere w q.sphere v.sphere).spheres;
@@ -43,7 +43,7 @@ world_with w c q writes v =
       devices = v.devices;
     }
 
-abbrev pub granted : World → (core : ℕ) → CommitRequest → Marks → Moved → CommitOutcome → After
+abbrev pub granted : World → (core : ℕ) → CommitRequest → Marks → MovedSphere → CommitOutcome → After
 granted w c q writes v Granted =
     record {
       reply = Reply.Granted;

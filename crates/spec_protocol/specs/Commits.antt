@@ -12,11 +12,11 @@ use Rattle.spec_kernel.specs.Copies.{dma_words}
 use Rattle.spec_kernel.specs.Needs.{need}
 use Rattle.spec_kernel.specs.Answers.{dma_bytes, dma_taken, Taken, taken}
 use Rattle.spec_kernel.specs.Interrupts.{interrupted}
-use Rattle.spec_kernel.specs.Serving.{serve, console_told}
+use Rattle.spec_kernel.specs.Serving.{serve, console_written}
 use Rattle.spec_play.specs.Effects.{Effect, chunk_effect, serial_effect, dma_commit}
 use Rattle.spec_play.specs.Progress.{Progress, position, with_effect, with_dma, Used, with_dma_used}
 use Rattle.spec_play.specs.Turns.{Over, now_at}
-use Rattle.spec_play.specs.Verdicts.{Verdict, Goes, Fails, chunk_verdict, serial_verdict}
+use Rattle.spec_play.specs.Verdicts.{LogVerdict, Goes, Fails, chunk_verdict, serial_verdict}
 use Rattle.spec_play.specs.Transfers.{DmaVerdict, DmaGoes, DmaFails, dma_verdict}
 use Rattle.spec_play.specs.Plays.{with_threads}
 use Rattle.spec_play.specs.Recording.{noted, input_noted, dma_noted, interrupt_noted}
@@ -32,7 +32,7 @@ pub data CommitOutcome : Type 0 where
   Diverged : (commits : ℕ) (why : Why) → CommitOutcome
 
 -- the sphere with its memory as before, the words to be stored, and the devices
-pub record Moved : Type 0 where
+pub record MovedSphere : Type 0 where
   pub outcome : CommitOutcome
   pub sphere : Sphere
   pub words : List Stored
@@ -40,7 +40,7 @@ pub record Moved : Type 0 where
 
 -- ---- whole commits of threads
 
-abbrev pub granted_as : Role → (thread : ℕ) → Effect → Devices → Sphere → Moved
+abbrev pub granted_as : Role → (thread : ℕ) → Effect → Devices → Sphere → MovedSphere
 granted_as role k e devices p =
     record {
       outcome = Granted;
@@ -54,7 +54,7 @@ granted_as role k e devices p =
     }
 
 -- only the end is noted
-abbrev pub diverged : Cursor → Why → Devices → Sphere → Moved
+abbrev pub diverged : Cursor → Why → Devices → Sphere → MovedSphere
 diverged b why devices p =
     record {
       outcome = Diverged (position p.progress) why;
@@ -69,7 +69,7 @@ turned log progress used threads =
     record { log = log; used = used; now = now_at log progress used threads; total = 0; loads = [] }
 
 -- as the log says
-abbrev pub by_verdict : Cursor → (thread : ℕ) → Verdict → Devices → Sphere → Moved
+abbrev pub by_verdict : Cursor → (thread : ℕ) → LogVerdict → Devices → Sphere → MovedSphere
 by_verdict b k (Fails why) devices p = diverged b why devices p
 by_verdict b k (Goes e u) devices p =
     granted_as (Replay (turned b.log (with_effect k e p.progress) u (with_threads k e p.threads))) k e devices p
@@ -88,7 +88,7 @@ abbrev pub joined : Cursor → Run → Run
 joined b r = record r { loads = b.loads ++ r.loads; n = b.total + r.n }
 
 -- the thread's state moves on; the reservation and the turn stay
-abbrev pub piece_moved : Cursor → (thread : ℕ) → Run → Devices → Sphere → Moved
+abbrev pub piece_moved : Cursor → (thread : ℕ) → Run → Devices → Sphere → MovedSphere
 piece_moved b k r devices p =
     record {
       outcome = Piece;
@@ -100,12 +100,12 @@ piece_moved b k r devices p =
       devices = devices;
     }
 
-abbrev pub replayed_chunk : (is_piece : Bool) → Cursor → (thread : ℕ) → Run → Devices → Sphere → Moved
+abbrev pub replayed_chunk : (is_piece : Bool) → Cursor → (thread : ℕ) → Run → Devices → Sphere → MovedSphere
 replayed_chunk true b k r devices p = piece_moved b k r devices p
 replayed_chunk false b k r devices p =
     by_verdict b k (chunk_verdict b.log p.progress b.used k (joined b r)) devices p
 
-abbrev pub chunk_in : Role → (thread : ℕ) → (is_piece short : Bool) → Run → Devices → Sphere → Moved
+abbrev pub chunk_in : Role → (thread : ℕ) → (is_piece short : Bool) → Run → Devices → Sphere → MovedSphere
 chunk_in Plain k piece short r devices p = granted_as Plain k (chunk_effect k p.progress.request r) devices p
 chunk_in (Record log) k piece short r devices p =
     let e = chunk_effect k p.progress.request r in
@@ -114,16 +114,16 @@ chunk_in (Replay b) k piece short r devices p = replayed_chunk piece b k r devic
 
 -- the chunk of thread k, which is a run. In a replay it may be a piece; in a recording it may be short, which is closed
 -- before its standard size
-unfoldable pub chunk_moved : (thread : ℕ) → (is_piece short : Bool) → Run → Devices → Sphere → Moved
+unfoldable pub chunk_moved : (thread : ℕ) → (is_piece short : Bool) → Run → Devices → Sphere → MovedSphere
 chunk_moved k piece short r devices p = chunk_in p.role k piece short r devices p
 
 -- ---- serial steps
 
 -- a role's part in a step that real devices have answered
-abbrev pub served_as : Role → (thread : ℕ) → Parts → Taken → Sphere → Moved
+abbrev pub served_as : Role → (thread : ℕ) → Parts → Taken → Sphere → MovedSphere
 served_as role k t g p =
     let v = serve k p.threads p.progress.request t p.memory g.input in
-    granted_as role k (serial_effect k v) (console_told t p.memory v.outputs g.devices) p
+    granted_as role k (serial_effect k v) (console_written t p.memory v.outputs g.devices) p
 
 -- the log with a serial step and what came for it
 abbrev pub serial_noted : (thread : ℕ) → Parts → Taken → LogParts → Sphere → LogParts
@@ -131,7 +131,7 @@ serial_noted k t g log p =
     let v = serve k p.threads p.progress.request t p.memory g.input in
     input_noted g.input (noted (serial_effect k v).commit t.commits false log)
 
-abbrev pub serial_in : Role → (thread : ℕ) → (moment : ℕ) → Parts → Devices → Sphere → Moved
+abbrev pub serial_in : Role → (thread : ℕ) → (moment : ℕ) → Parts → Devices → Sphere → MovedSphere
 serial_in Plain k moment t devices p = served_as Plain k t (taken (need t p.memory) devices moment) p
 serial_in (Record log) k moment t devices p =
     let g = taken (need t p.memory) devices moment in served_as (Record (serial_noted k t g log p)) k t g p
@@ -139,12 +139,12 @@ serial_in (Replay b) k moment t devices p =
     by_verdict b k (serial_verdict b.log p.progress b.used k p.threads t p.memory) devices p
 
 -- the serial step of thread k, which is t
-unfoldable pub serial_moved : (thread : ℕ) → (moment : ℕ) → Parts → Devices → Sphere → Moved
+unfoldable pub serial_moved : (thread : ℕ) → (moment : ℕ) → Parts → Devices → Sphere → MovedSphere
 serial_moved k moment t devices p = serial_in p.role k moment t devices p
 
 -- ---- DMAs
 
-abbrev pub dma_as : Role → List Stored → Devices → Sphere → Moved
+abbrev pub dma_as : Role → List Stored → Devices → Sphere → MovedSphere
 dma_as role words devices p =
     record {
       outcome = Granted;
@@ -154,7 +154,7 @@ dma_as role words devices p =
     }
 
 -- as many bytes of the input as are asked for, or as are left
-abbrev pub live_dma : Role → Devices → Sphere → Option Request → Option Moved
+abbrev pub live_dma : Role → Devices → Sphere → Option Request → Option MovedSphere
 live_dma role devices p None = None
 live_dma role devices p (Some request) =
     Some (dma_as role (dma_words request (dma_bytes devices request)) (dma_taken devices request) p)
@@ -164,19 +164,19 @@ dma_log log devices p None = log
 dma_log log devices p (Some request) =
     dma_noted (position p.progress) (dma_bytes devices request) (noted dma_commit (position p.progress) false log)
 
-abbrev pub dma_by_verdict : Cursor → DmaVerdict → Devices → Sphere → Moved
+abbrev pub dma_by_verdict : Cursor → DmaVerdict → Devices → Sphere → MovedSphere
 dma_by_verdict b (DmaFails why) devices p = diverged b why devices p
 dma_by_verdict b (DmaGoes words) devices p =
     dma_as (Replay (turned b.log (with_dma p.progress) (with_dma_used b.used) p.threads)) words devices p
 
-abbrev pub dma_in : Role → Devices → Sphere → Option Moved
+abbrev pub dma_in : Role → Devices → Sphere → Option MovedSphere
 dma_in Plain devices p = live_dma Plain devices p p.progress.request
 dma_in (Record log) devices p =
     live_dma (Record (dma_log log devices p p.progress.request)) devices p p.progress.request
 dma_in (Replay b) devices p = Some (dma_by_verdict b (dma_verdict b.log p.progress b.used) devices p)
 
 -- the sphere's DMA; none where no request is outstanding, which in a replay is a reason to diverge
-unfoldable pub dma_moved : Devices → Sphere → Option Moved
+unfoldable pub dma_moved : Devices → Sphere → Option MovedSphere
 dma_moved devices p = dma_in p.role devices p
 
 -- ---- interrupts

@@ -20,14 +20,14 @@ use Rattle.spec_log.specs.Noting.{Kept, kept_size, limit_by, sizes_used, kept_he
 use Rattle.spec_kernel.specs.Interrupts.{takes_interrupt}
 use Rattle.spec_play.specs.Progress.{Progress, Used}
 use Rattle.spec_play.specs.Turns.{are_sizes_used}
-use Rattle.spec_play.specs.Verdicts.{Verdict, Goes, Fails, interrupt_at, chunk_why, chunk_verdict}
+use Rattle.spec_play.specs.Verdicts.{LogVerdict, Goes, Fails, interrupt_at, chunk_why, chunk_verdict}
 use Rattle.spec_protocol.specs.Spheres.{whole_limit}
 use Rattle.spec_protocol.specs.Sound.{commits_in, is_due_in, due, IsDoneInOrder}
 
 -- ---- a chunk's verdict
 
 -- the reason, where it fails
-abbrev pub why_of : Verdict → Option Why
+abbrev pub why_of : LogVerdict → Option Why
 why_of (Goes e u) = None
 why_of (Fails why) = Some why
 

@@ -11,12 +11,12 @@ use Rattle.spec_protocol.specs.Logged.{supplied, logged}
 use Rattle.spec_protocol.specs.Promises.{WillRecord, after}
 
 -- the log that the points of sphere i tell, in this mode
-abbrev pub log_told : Setup → List Event → (i : ℕ) → ModeName → LogParts
-log_told s es i mode = logged mode s.numbers.chunk (supplied i (serial_start s) (after s es).points)
+abbrev pub log_of_points : Setup → List Event → (i : ℕ) → ModeName → LogParts
+log_of_points s es i mode = logged mode s.numbers.chunk (supplied i (serial_start s) (after s es).points)
 
 -- the log that a sphere has kept is that of its points, with the standard size
 abbrev pub LogsAreOfPoints : Type 0
 LogsAreOfPoints =
     (s : Setup) (es : List Event) (i : ℕ) (image : SphereSetup) (mode : ModeName)
     → WillRecord s i image mode
-    → (sphere_at (after s es) i).role ≡ Record (log_told s es i mode)
+    → (sphere_at (after s es) i).role ≡ Record (log_of_points s es i mode)

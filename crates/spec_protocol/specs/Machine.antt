@@ -143,13 +143,13 @@ with_point None points = points
 with_point (Some point) points = points ++ point ∷ []
 
 -- the event is counted with its reply, and its point is kept
-abbrev pub kept : After → World
-kept a =
+abbrev pub with_event : After → World
+with_event a =
     record a.world { counts = counted a.world.counts (name_of a.reply); points = with_point a.point a.world.points }
 
 -- one event
 unfoldable pub happens : World → Event → After
-happens w e = let a = act w e in record a { world = kept a }
+happens w e = let a = act w e in record a { world = with_event a }
 
 -- ---- schedules
 

@@ -11,7 +11,7 @@ use Rattle.spec_kernel.specs.Devices.{Devices, devices_of}
 use Rattle.spec_kernel.specs.Needs.{next_kind}
 use Rattle.spec_kernel.specs.Interrupts.{is_live, takes_interrupt}
 use Rattle.spec_protocol.specs.Spheres.{Role, Plain, Record, Replay, Sphere}
-use Rattle.spec_protocol.specs.Commits.{Moved, chunk_moved, serial_moved, dma_moved, raised}
+use Rattle.spec_protocol.specs.Commits.{MovedSphere, chunk_moved, serial_moved, dma_moved, raised}
 use Rattle.spec_protocol.specs.Machine.{Setup, sphere_of}
 
 -- the spheres between two points, and the devices. A replayed sphere stays as it began, since its log says what it does
@@ -27,10 +27,10 @@ serial_start s =
 -- ---- one point
 
 -- a commit's words are in memory at once
-abbrev pub laid : Moved → Sphere
+abbrev pub laid : MovedSphere → Sphere
 laid v = record v.sphere { memory = lays v.sphere.memory v.words }
 
-abbrev pub do_moved : SerialState → (i : ℕ) → Moved → SerialState
+abbrev pub do_moved : SerialState → (i : ℕ) → MovedSphere → SerialState
 do_moved x i v = record { spheres = slice_set x.spheres i (laid v); devices = v.devices }
 
 -- a chunk is a run of its size
@@ -42,7 +42,7 @@ abbrev pub do_serial : SerialState → (i thread moment : ℕ) → Sphere → Op
 do_serial x i k moment p None = x
 do_serial x i k moment p (Some t) = do_moved x i (serial_moved k moment t x.devices p)
 
-abbrev pub do_dma : SerialState → (i : ℕ) → Option Moved → SerialState
+abbrev pub do_dma : SerialState → (i : ℕ) → Option MovedSphere → SerialState
 do_dma x i None = x
 do_dma x i (Some v) = do_moved x i v
 

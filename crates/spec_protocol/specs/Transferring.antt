@@ -8,7 +8,7 @@ use Rattle.spec_engine.specs.Flights.{is_full}
 use Rattle.spec_engine.specs.Asking.{ask}
 use Rattle.spec_protocol.specs.declared.reply.Reply.{Reply}
 use Rattle.spec_protocol.specs.Spheres.{Role, Plain, Record, Replay, is_stopped, actor_of}
-use Rattle.spec_protocol.specs.Commits.{CommitOutcome, Granted, Piece, Diverged, Moved, dma_moved}
+use Rattle.spec_protocol.specs.Commits.{CommitOutcome, Granted, Piece, Diverged, MovedSphere, dma_moved}
 use Rattle.spec_protocol.specs.World.{World, moment, sphere_at, with_sphere, flown, OfDma, Move, After, answered}
 use Rattle.spec_protocol.specs.Asking.{unless_denied, unless_turn}
 
@@ -16,7 +16,7 @@ abbrev pub dma_move : World → (i : ℕ) → Move
 dma_move w i = record { moment = moment w; sphere = i; what = OfDma }
 
 -- no core is told yet
-abbrev pub dma_done : World → (i : ℕ) → Marks → Moved → After
+abbrev pub dma_done : World → (i : ℕ) → Marks → MovedSphere → After
 dma_done w i writes v =
     record {
       reply = Reply.DmaDone;
@@ -30,13 +30,13 @@ dma_done w i writes v =
     }
 
 -- its stores are denied where they hit a flight
-unfoldable pub transfer : World → (i : ℕ) → Moved → After
+unfoldable pub transfer : World → (i : ℕ) → MovedSphere → After
 transfer w i v =
     let writes = signed i v.words (nothing w.numbers.signature) in
     if is_full w.slots then answered w Reply.WindowFull
     else unless_denied (ask writes writes w.slots) w (dma_done w i writes v)
 
-abbrev pub dma_with : World → (i : ℕ) → Moved → CommitOutcome → After
+abbrev pub dma_with : World → (i : ℕ) → MovedSphere → CommitOutcome → After
 dma_with w i v Granted = transfer w i v
 dma_with w i v Piece = transfer w i v
 dma_with w i v (Diverged j why) =
@@ -47,7 +47,7 @@ dma_with w i v (Diverged j why) =
       move = Some (dma_move w i);
     }
 
-abbrev pub dma_if : World → (i : ℕ) → Option Moved → After
+abbrev pub dma_if : World → (i : ℕ) → Option MovedSphere → After
 dma_if w i None = answered w Reply.NoDma
 dma_if w i (Some v) = dma_with w i v v.outcome
 

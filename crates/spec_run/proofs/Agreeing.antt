@@ -10,7 +10,7 @@ use Rattle.spec_protocol.specs.Sound.{image_at, no_image}
 use Rattle.std.proofs.Common.{map}
 use Rattle.spec_log.specs.Bytes.{log_bytes}
 use Rattle.spec_run.specs.Runs.{points_of, executed}
-use Rattle.spec_run.specs.Texts.{account_as, account_text, console_text, log_as, log_told, log_text}
+use Rattle.spec_run.specs.Texts.{account_as, account_text, console_text, log_as, log_of_points, log_text}
 use Rattle.spec_run.specs.Promise.{AccountsAgree, AreAlike, TextsAreOfPoints}
 
 -- two runs that agree on a replayed sphere's image and log write equal accounts of it
@@ -36,15 +36,15 @@ executed_same s z es fs a points =
     let start = same_start s z a in
     (λ k. do_points (start k) (points k))
 
-told_same : (s z : Setup) (es fs : List Event) (i : ℕ) (mode : ModeName) → AreAlike s z → points_of s es ≡ points_of z fs → log_told s es i mode ≡ log_told z fs i mode
-told_same s z es fs i mode a points =
+log_of_points-same : (s z : Setup) (es fs : List Event) (i : ℕ) (mode : ModeName) → AreAlike s z → points_of s es ≡ points_of z fs → log_of_points s es i mode ≡ log_of_points z fs i mode
+log_of_points-same s z es fs i mode a points =
     let start = same_start s z a in
     let chunk = a.chunk in
     (λ k. logged mode (chunk k) (supplied i (start k) (points k)))
 
 log_same : (s z : Setup) (es fs : List Event) (i : ℕ) (role : RoleSetup) → AreAlike s z → points_of s es ≡ points_of z fs → log_as s es i role ≡ log_as z fs i role
 log_same s z es fs i IsPlain a points = refl
-log_same s z es fs i (IsRecorded mode) a points = ap log_bytes (told_same s z es fs i mode a points)
+log_same s z es fs i (IsRecorded mode) a points = ap log_bytes (log_of_points-same s z es fs i mode a points)
 log_same s z es fs i (IsReplayed log) a points = refl
 
 image_same : (s z : Setup) (i : ℕ) → AreAlike s z → image_at s i ≡ image_at z i

@@ -1,3 +1,3 @@
-pub mod Told
+pub mod Described
 pub mod Room
 pub mod Agreeing

@@ -16,7 +16,7 @@ use Rattle.spec_kernel.specs.Needs.{need}
 use Rattle.spec_kernel.specs.Serving.{serve}
 use Rattle.spec_play.specs.Effects.{Effect, chunk_effect, serial_effect, dma_commit}
 use Rattle.spec_play.specs.Progress.{Progress, position, no_progress}
-use Rattle.spec_play.specs.Verdicts.{Verdict, Goes, Fails, chunk_verdict, serial_verdict}
+use Rattle.spec_play.specs.Verdicts.{LogVerdict, Goes, Fails, chunk_verdict, serial_verdict}
 use Rattle.spec_play.specs.Transfers.{DmaVerdict, DmaGoes, DmaFails, dma_verdict}
 use Rattle.spec_engine.specs.declared.answers.How.{How}
 use Rattle.spec_engine.specs.declared.answers.Deliver.{Deliver}
@@ -27,7 +27,7 @@ use Rattle.spec_engine.specs.Asking.{ask, denied_by}
 use Rattle.spec_protocol.specs.declared.event.Event.{Event}
 use Rattle.spec_protocol.specs.declared.reply.Reply.{Reply}
 use Rattle.spec_protocol.specs.Spheres.{Cursor, Role, Plain, Record, Replay, Sphere, no_sphere, is_stopped, limit_of, halves}
-use Rattle.spec_protocol.specs.Commits.{CommitOutcome, Granted, Piece, Diverged, Moved, granted_as, by_verdict, joined, replayed_chunk, chunk_in, chunk_moved, serial_in, serial_moved, live_dma, dma_log, dma_by_verdict, dma_in, dma_moved, role_raised, raised}
+use Rattle.spec_protocol.specs.Commits.{CommitOutcome, Granted, Piece, Diverged, MovedSphere, granted_as, by_verdict, joined, replayed_chunk, chunk_in, chunk_moved, serial_in, serial_moved, live_dma, dma_log, dma_by_verdict, dma_in, dma_moved, role_raised, raised}
 use Rattle.spec_protocol.specs.World.{Numbers, Held, World, After, moment, sphere_at, with_sphere, with_core, thread_afresh, held_afresh, core_of, answered}
 use Rattle.spec_protocol.specs.Stepping.{stepped, step_held, stepping, cut_to, cut_held, cutting}
 use Rattle.spec_protocol.specs.Flying.{drain_slot, draining, reads_of, writes_of, told, deliver_to, delivering, retiring}
@@ -40,7 +40,7 @@ use Rattle.spec_protocol.specs.Promises.{after}
 use Rattle.spec_protocol.specs.Sound.{IsWithinLimits}
 use Rattle.spec_protocol.proofs.Invariants.Cores.{branch}
 use Rattle.spec_protocol.proofs.Points.Counts.{act-untold}
-use Rattle.spec_protocol.proofs.Invariants.Schedules.{happens-kept, first_held, start-good}
+use Rattle.spec_protocol.proofs.Invariants.Schedules.{happens-preserved, first_held, start-good}
 use Rattle.spec_protocol.proofs.Logs.Growing.{pushed_length}
 use Rattle.spec_protocol.proofs.Sound.Commits.{next-position}
 use Rattle.spec_protocol.proofs.Sound.Schedules.{setup-within}
@@ -59,7 +59,7 @@ few-later now p few live = let l = few live in omega (arith, l)
 granted-few : (now k : ℕ) (role : Role) (e : Effect) (devices : Devices) (p : Sphere) → position p.progress < now → Few (suc now) (granted_as role k e devices p).sphere
 granted-few now k role e devices p few live = let n = next-position k e p.progress in omega (arith, n, few)
 
-verdict-few : (now k : ℕ) (b : Cursor) (v : Verdict) (devices : Devices) (p : Sphere) → Few now (by_verdict b k v devices p).sphere
+verdict-few : (now k : ℕ) (b : Cursor) (v : LogVerdict) (devices : Devices) (p : Sphere) → Few now (by_verdict b k v devices p).sphere
 verdict-few now k b (Fails why) devices p live = absurd (true≢false live)
 verdict-few now k b (Goes e u) devices p live = absurd (true≢false live)
 
@@ -83,10 +83,10 @@ serial-few now k m (Replay b) t devices p few live =
     verdict-few (suc now) k b (serial_verdict b.log p.progress b.used k p.threads t p.memory) devices p live
 
 -- a live DMA is one commit more
-live-few : (now : ℕ) (role : Role) (devices : Devices) (p : Sphere) (request : Option Request) (v : Moved) → position p.progress < now → live_dma role devices p request ≡ Some v → Few (suc now) v.sphere
+live-few : (now : ℕ) (role : Role) (devices : Devices) (p : Sphere) (request : Option Request) (v : MovedSphere) → position p.progress < now → live_dma role devices p request ≡ Some v → Few (suc now) v.sphere
 live-few now role devices p None v few e live = absurd (none-some v e)
 live-few now role devices p (Some request) v few e live =
-    let q = ap (λ (o : Option Moved). elim o as (λ (x : Option Moved). ℕ) [ None ↦ 0 | Some x ↦ position x.sphere.progress ]) e in
+    let q = ap (λ (o : Option MovedSphere). elim o as (λ (x : Option MovedSphere). ℕ) [ None ↦ 0 | Some x ↦ position x.sphere.progress ]) e in
     let n = pushed_length p.progress.commits dma_commit (position p.progress) refl in
     omega (arith, q, n, few)
 
@@ -94,10 +94,10 @@ dma-verdict_few : (now : ℕ) (b : Cursor) (d : DmaVerdict) (devices : Devices) 
 dma-verdict_few now b (DmaFails why) devices p live = absurd (true≢false live)
 dma-verdict_few now b (DmaGoes words) devices p live = absurd (true≢false live)
 
-moved-is : (P : Sphere → Type 0) (x v : Moved) → Some x ≡ Some v → P x.sphere → P v.sphere
-moved-is P x v e k = subst (λ (y : Moved). P y.sphere) (let q : x ≡ v = cc in q) k
+moved-is : (P : Sphere → Type 0) (x v : MovedSphere) → Some x ≡ Some v → P x.sphere → P v.sphere
+moved-is P x v e k = subst (λ (y : MovedSphere). P y.sphere) (let q : x ≡ v = cc in q) k
 
-dma-few : (now : ℕ) (role : Role) (devices : Devices) (p : Sphere) (v : Moved) → (replays role ≡ false → position p.progress < now) → dma_in role devices p ≡ Some v → Few (suc now) v.sphere
+dma-few : (now : ℕ) (role : Role) (devices : Devices) (p : Sphere) (v : MovedSphere) → (replays role ≡ false → position p.progress < now) → dma_in role devices p ≡ Some v → Few (suc now) v.sphere
 dma-few now Plain devices p v few e live = live-few now Plain devices p p.progress.request v (few refl) e live
 dma-few now (Record log) devices p v few e live = live-few now (Record (dma_log log devices p p.progress.request)) devices p p.progress.request v (few refl) e live
 dma-few now (Replay b) devices p v few e live =
@@ -121,7 +121,7 @@ fewer =
       devices = λ d. Unit {0};
     }
 
-landed : (now i : ℕ) (v : Moved) → Few now v.sphere → Lands fewer now i v
+landed : (now i : ℕ) (v : MovedSphere) → Few now v.sphere → Lands fewer now i v
 landed now i v few = record { sphere = few; flight = λ writes told. tt; devices = tt }
 
 chunk-lands : (w : World) (i k : ℕ) (piece short : Bool) (r : Run) → Few (moment w) (sphere_at w i) → Lands fewer (suc (moment w)) i (chunk_moved k piece short r w.devices (sphere_at w i))
@@ -136,7 +136,7 @@ serial-lands w i k t few =
     let p = sphere_at w i in
     landed (suc (moment w)) i (serial_in p.role k (moment w) t w.devices p) (serial-few (moment w) k (moment w) p.role t w.devices p few)
 
-dma-lands : (w : World) (i : ℕ) (v : Moved) → dma_moved w.devices (sphere_at w i) ≡ Some v → Few (moment w) (sphere_at w i) → Lands fewer (suc (moment w)) i v
+dma-lands : (w : World) (i : ℕ) (v : MovedSphere) → dma_moved w.devices (sphere_at w i) ≡ Some v → Few (moment w) (sphere_at w i) → Lands fewer (suc (moment w)) i v
 unfolding dma_moved
 dma-lands w i v e few =
     let p = sphere_at w i in
@@ -265,7 +265,7 @@ raise-then w i k value (Some t) new =
     (λ _. new)
 
 -- a live DMA needs a request
-no-live : (role : Role) (devices : Devices) (p : Sphere) (v : Moved) → p.progress ≡ no_progress → live_dma role devices p p.progress.request ≡ Some v → ⊥
+no-live : (role : Role) (devices : Devices) (p : Sphere) (v : MovedSphere) → p.progress ≡ no_progress → live_dma role devices p p.progress.request ≡ Some v → ⊥
 no-live role devices p v new e =
     none-some v (sym (ap (λ (y : Progress). live_dma role devices p y.request) new) ∙ e)
 
@@ -273,7 +273,7 @@ replays-still : (b : Cursor) (d : DmaVerdict) (devices : Devices) (p : Sphere) �
 replays-still b (DmaFails why) devices p live = true≢false live
 replays-still b (DmaGoes words) devices p live = true≢false live
 
-dma-new : (role : Role) (devices : Devices) (p : Sphere) (v : Moved) → (replays role ≡ false → p.progress ≡ no_progress) → dma_in role devices p ≡ Some v → IsNew v.sphere
+dma-new : (role : Role) (devices : Devices) (p : Sphere) (v : MovedSphere) → (replays role ≡ false → p.progress ≡ no_progress) → dma_in role devices p ≡ Some v → IsNew v.sphere
 dma-new Plain devices p v new e live = absurd (no-live Plain devices p v (new refl) e)
 dma-new (Record log) devices p v new e live = absurd (no-live (Record (dma_log log devices p p.progress.request)) devices p v (new refl) e)
 dma-new (Replay b) devices p v new e live =
@@ -288,7 +288,7 @@ turn-then : (w : World) (a : After) (o : Option Actor) → AreNew w.spheres → 
 turn-then w a None same k = k
 turn-then w a (Some actor) same k = same
 
-transfer-then : (w : World) (i : ℕ) (v : Moved) → AreNew w.spheres → IsNew v.sphere → Then (transfer w i v)
+transfer-then : (w : World) (i : ℕ) (v : MovedSphere) → AreNew w.spheres → IsNew v.sphere → Then (transfer w i v)
 unfolding transfer
 transfer-then w i v new moved =
     let g = signed i v.words (nothing w.numbers.signature) in
@@ -297,12 +297,12 @@ transfer-then w i v new moved =
     (λ _. new)
     (λ _. denied-then w done (first_slot (meets_chunk g g) w.slots) new (new-set w.spheres i v.sphere moved new))
 
-dma-with-then : (w : World) (i : ℕ) (v : Moved) (o : CommitOutcome) → AreNew w.spheres → IsNew v.sphere → Then (dma_with w i v o)
+dma-with-then : (w : World) (i : ℕ) (v : MovedSphere) (o : CommitOutcome) → AreNew w.spheres → IsNew v.sphere → Then (dma_with w i v o)
 dma-with-then w i v Granted new moved = transfer-then w i v new moved
 dma-with-then w i v Piece new moved = transfer-then w i v new moved
 dma-with-then w i v (Diverged j why) new moved = new-set w.spheres i v.sphere moved new
 
-dma-if-then : (w : World) (i : ℕ) (o : Option Moved) → dma_moved w.devices (sphere_at w i) ≡ o → AreNew w.spheres → Then (dma_if w i o)
+dma-if-then : (w : World) (i : ℕ) (o : Option MovedSphere) → dma_moved w.devices (sphere_at w i) ≡ o → AreNew w.spheres → Then (dma_if w i o)
 unfolding dma_moved
 dma-if-then w i None is new = new
 dma-if-then w i (Some v) is new =
@@ -384,7 +384,7 @@ happens-holds w e good k =
 next-roomy : (n : ℕ) (w : World) (e : Event) → IsRoomy n w → IsRoomy (suc n) (happens w e).world
 next-roomy n w e k =
     record {
-      good = (happens-kept w e k.good).good;
+      good = (happens-preserved w e k.good).good;
       count = counted-moment w e ∙ ap suc k.count;
       few = at-moment (suc (moment w)) (suc n) (happens w e).world (ap suc k.count)
           (happens-holds w e k.good (at-moment n (moment w) w (sym k.count) k.few));
@@ -406,7 +406,7 @@ first-holds w e k =
 first-roomy : (s : Setup) (e : Event) → IsWithinLimits s → IsRoomy 1 (happens (world_of s) e).world
 first-roomy s e limits =
     record {
-      good = (happens-kept (world_of s) e (start-good s (setup-within s limits))).good;
+      good = (happens-preserved (world_of s) e (start-good s (setup-within s limits))).good;
       count = counted-moment (world_of s) e;
       few = first-holds (world_of s) e (start-begun s);
     }

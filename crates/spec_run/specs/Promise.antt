@@ -18,7 +18,7 @@ use Rattle.spec_protocol.specs.Promises.{IsSetup, after}
 use Rattle.spec_finishing.specs.Ending.{CanFinish, IsAtEnd}
 use Rattle.spec_finishing.specs.Function.{finished}
 use Rattle.spec_run.specs.Runs.{points_of, executed, played, end_of}
-use Rattle.spec_run.specs.Texts.{account_as, account_text, console_text, executed_account, log_text, log_told, played_account}
+use Rattle.spec_run.specs.Texts.{account_as, account_text, console_text, executed_account, log_text, log_of_points, played_account}
 
 -- ---- a sphere
 
@@ -36,11 +36,11 @@ account_held p =
 -- a sphere is replayed where it was set up so; and a recording has this log
 abbrev pub HasRole : Setup → (schedule : List Event) → (i : ℕ) → RoleSetup → Role → Type 0
 HasRole s es i IsPlain role = replays role ≡ false
-HasRole s es i (IsRecorded mode) role = role ≡ Record (log_told s es i mode)
+HasRole s es i (IsRecorded mode) role = role ≡ Record (log_of_points s es i mode)
 HasRole s es i (IsReplayed log) role = (b : Cursor) × (role ≡ Replay b)
 
 -- sphere i of the finished machine, which was set up by the image
-pub record IsTold (s : Setup) (es : List Event) (i : ℕ) (image : SphereSetup) : Type 0 where
+pub record IsDescribed (s : Setup) (es : List Event) (i : ℕ) (image : SphereSetup) : Type 0 where
   pub role : HasRole s es i image.role (sphere_at (finished s es) i).role
   pub account : account_held (sphere_at (finished s es) i)
       ≡ account_as image (sphere_in (executed s es) i) image.role
@@ -55,23 +55,23 @@ pub record IsTold (s : Setup) (es : List Event) (i : ℕ) (image : SphereSetup) 
       → b.now ≡ (played log image).now
 
 -- for every setup that can be finished and every schedule
-abbrev pub SpheresAreTold : Type 0
-SpheresAreTold =
+abbrev pub SpheresAreDescribed : Type 0
+SpheresAreDescribed =
     (s : Setup) (es : List Event) (i : ℕ) (image : SphereSetup)
     → CanFinish s
     → slice_get s.spheres i ≡ Some image
-    → IsTold s es i image
+    → IsDescribed s es i image
 
 -- ---- the whole run
 
 -- there are as many spheres as were set up, the devices are the executed ones, and each point can be done as it says
-pub record IsRunTold (s : Setup) (es : List Event) : Type 0 where
+pub record IsRunDescribed (s : Setup) (es : List Event) : Type 0 where
   pub spheres : length (finished s es).spheres ≡ length s.spheres
   pub devices : (finished s es).devices ≡ (executed s es).devices
   pub possible : CanDoAll (serial_start s) (points_of s es)
 
-abbrev pub RunsAreTold : Type 0
-RunsAreTold = (s : Setup) (es : List Event) → IsSetup s → IsRunTold s es
+abbrev pub RunsAreDescribed : Type 0
+RunsAreDescribed = (s : Setup) (es : List Event) → IsSetup s → IsRunDescribed s es
 
 -- ---- what follows
 
@@ -86,7 +86,7 @@ RecordingsAreReproduced =
     → CanFinish s
     → slice_get s.spheres i ≡ Some image
     → image.role ≡ IsRecorded mode
-    → IsReproduced image (log_told s es i mode) (sphere_in (executed s es) i)
+    → IsReproduced image (log_of_points s es i mode) (sphere_in (executed s es) i)
 
 -- two runs that agree on a sphere's image, memory size and log write equal accounts of it, whatever else differs: cores,
 -- buffers, windows, signatures, schedules, devices and the other spheres

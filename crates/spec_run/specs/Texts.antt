@@ -22,13 +22,13 @@ use Rattle.spec_run.specs.Runs.{points_of, counts_of, executed, played, end_of}
 -- ---- logs
 
 -- the log that the points of sphere i tell, in this mode
-abbrev pub log_told : Setup → (schedule : List Event) → (i : ℕ) → ModeName → LogParts
-log_told s es i mode = logged mode s.numbers.chunk (supplied i (serial_start s) (points_of s es))
+abbrev pub log_of_points : Setup → (schedule : List Event) → (i : ℕ) → ModeName → LogParts
+log_of_points s es i mode = logged mode s.numbers.chunk (supplied i (serial_start s) (points_of s es))
 
 -- a recorded sphere's log as bytes; no other sphere has one
 abbrev pub log_as : Setup → (schedule : List Event) → (i : ℕ) → RoleSetup → List ℕ
 log_as s es i IsPlain = []
-log_as s es i (IsRecorded mode) = log_bytes (log_told s es i mode)
+log_as s es i (IsRecorded mode) = log_bytes (log_of_points s es i mode)
 log_as s es i (IsReplayed log) = []
 
 unfoldable pub log_text : Setup → (schedule : List Event) → (i : ℕ) → List ℕ

@@ -1,18 +1,18 @@
 //! What is promised of runs. Each promise is a clause of a function that does nothing.
-ghost use Rattle.spec_run.specs.Promise.{AccountsAgree, RecordingsAreReproduced, RunsAreTold, SchedulesLeaveRoom, SpheresAreTold, TextsAreOfPoints};
+ghost use Rattle.spec_run.specs.Promise.{AccountsAgree, RecordingsAreReproduced, RunsAreDescribed, SchedulesLeaveRoom, SpheresAreDescribed, TextsAreOfPoints};
 
 /// Once a run is over, what a sphere of the machine holds is what its account tells: a plain or recorded one has the
 /// commits, threads, request and memory of executing the points whole, one at a time, and a recorded one the log of
 /// these points; a replayed one has the commits and the end of its log's play, and where it is complete the play's
 /// threads, request and memory.
-pub fn spheres_are_told()
-    ensures { SpheresAreTold }
+pub fn spheres_are_described()
+    ensures { SpheresAreDescribed }
 {}
 
 /// Once a run is over, the devices are those of executing the points whole, one at a time, and each point can be done as
 /// it says.
-pub fn runs_are_told()
-    ensures { RunsAreTold }
+pub fn runs_are_described()
+    ensures { RunsAreDescribed }
 {}
 
 /// The log of a recorded sphere fits its image, and the account of its play there is the recorded sphere's, byte for byte.

@@ -13,7 +13,7 @@ use Rattle.dl_asm.specs.declared.labels.Labels.{Labels}
 use Rattle.dl_asm.specs.Checked.{IsWhere}
 use Rattle.dl_asm.specs.Labels.{AreLabels, entry_at}
 use Rattle.dl_asm.specs.Lines.{Said, said, label_of, count_of}
-use Rattle.dl_asm.specs.Numbers.{held}
+use Rattle.dl_asm.specs.Numbers.{capped}
 use Rattle.dl_asm.specs.Promise.{IsCode}
 use Rattle.dl_asm.specs.Sources.{place_of, has_label, label_place, repeats, line_at, broken, broken_at, statement_at, instr_at, instr_by, words_by, words_at, words_up_to}
 use Rattle.dl_asm.specs.Values as values
@@ -94,7 +94,7 @@ all-coded lines i index words before end = record {
 
 -- ---- what the table of labels says
 
-where-by : (lines : List (List ℕ)) (found : Option ℕ) → option_map (λ place. place.words) (option_map (entry_at lines) found) ≡ option_map held (option_map (place_of lines) found)
+where-by : (lines : List (List ℕ)) (found : Option ℕ) → option_map (λ place. place.words) (option_map (entry_at lines) found) ≡ option_map capped (option_map (place_of lines) found)
 where-by lines None = refl
 where-by lines (Some i) = refl
 

@@ -16,7 +16,7 @@ use Rattle.dl_asm.specs.Mnemonics.{form_named}
 use Rattle.dl_asm.specs.Operands.{are_operands}
 use Rattle.dl_asm.specs.Values.{holds, within, instr_of, words_of, address_number}
 use Rattle.dl_asm.specs.Fields.{Fields, fields, fields_of}
-use Rattle.dl_asm.specs.Lines.{Said, Nothing, Misspelled, Unknown, Unfit, Says, said, said_in, said_of, said_by, statement_of, mnemonic_of, operands_of, count_said, count_by_form, zeros_held}
+use Rattle.dl_asm.specs.Lines.{Said, Nothing, Misspelled, Unknown, Unfit, Says, said, said_in, said_of, said_by, statement_of, mnemonic_of, operands_of, count_said, count_by_form, zeros_capped}
 use Rattle.dl_asm.specs.Sources.{number_of, number_by_label, broken, broken_by, statement_said, statement_by, words_by, words_up_to, words_at, place_of}
 
 -- ---- the value of `.zero` is a number
@@ -88,14 +88,14 @@ found-number None label n e f = cc
 found-number (Some m) label n e f = f
 
 zeros-are : (value : List ℕ) (here : ℕ) (label : Option ℕ) (n : Number) → is_some (number_in value) ≡ true → number_of Form.Zero here label value ≡ Some n
-    → within 0 4194304 n ≡ true → zeros_held (number_in value) ≡ n.magnitude
+    → within 0 4194304 n ≡ true → zeros_capped (number_in value) ≡ n.magnitude
 zeros-are value here label n some e w =
     let other = option_map (number_by_label Form.Zero here) label in
     let rest = sym (ap (λ b. cond b (Some (address_number 0)) (option_or (number_in value) other)) (not-empty value some)) ∙ e in
-    ap zeros_held (found-number (number_in value) other n some rest) ∙ ap (λ b. cond b n.magnitude 0) w
+    ap zeros_capped (found-number (number_in value) other n some rest) ∙ ap (λ b. cond b n.magnitude 0) w
 
 length-words : (form : Form) (r : Registers) (n : Number) (value : List ℕ) (here : ℕ) (label : Option ℕ) → IsNumber form value
-    → number_of form here label value ≡ Some n → holds form n ≡ true → length (words_of form r n) ≡ count_by_form form (zeros_held (number_in value))
+    → number_of form here label value ≡ Some n → holds form n ≡ true → length (words_of form r n) ≡ count_by_form form (zeros_capped (number_in value))
 unfolding instr_of holds
 length-words Form.Zero r n value here label some e h = length-replicate n.magnitude 0 ∙ sym (zeros-are value here label n some e h)
 length-words (Form.Register op) r n value here label some e h = refl
@@ -120,7 +120,7 @@ length-words Form.Word r n value here label some e h = refl
 length-says : (form : Form) (r : Registers) (value : List ℕ) (here words : ℕ) (label : Option ℕ) (twice : Bool) (number : Option Number) → IsNumber form value
     → number_of form here label value ≡ number → broken_by (Says form r value) number twice words ≡ None
     → IfSome (statement_by (Says form r value) number) (λ s. holds s.form s.number ≡ true)
-    → length (words_by (statement_by (Says form r value) number)) ≡ count_by_form form (zeros_held (number_in value))
+    → length (words_by (statement_by (Says form r value) number)) ≡ count_by_form form (zeros_capped (number_in value))
 length-says form r value here words label true None some e b h = cc
 length-says form r value here words label false None some e b h = cc
 length-says form r value here words label twice (Some n) some e b h = length-words form r n value here label some e h
@@ -134,7 +134,7 @@ length-said here places twice Misspelled some b h = refl
 length-said here places twice Unknown some b h = refl
 length-said here places twice (Unfit form) some b h = cc
 length-said here places twice (Says form r value) some b h =
-    length-says form r value here (here + count_by_form form (zeros_held (number_in value))) (places value) twice (number_of form here (places value) value) some refl b h
+    length-says form r value here (here + count_by_form form (zeros_capped (number_in value))) (places value) twice (number_of form here (places value) value) some refl b h
 
 -- ---- a line of one word
 

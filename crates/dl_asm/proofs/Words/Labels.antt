@@ -9,34 +9,34 @@ use Rattle.std.proofs.lemmas.List.{take_more, length_push}
 use Rattle.std.proofs.lemmas.List.Folds.{position_or_len_push}
 use Rattle.std.proofs.lemmas.List.Sums.{prefix_len-le-length, sum_by_more}
 use Rattle.std.proofs.lemmas.Slice.Eq.{bytes_eq-Decides}
-use Rattle.dl_asm.specs.declared.labels.Place.{Place}
+use Rattle.dl_asm.specs.declared.labels.LabelPlace.{LabelPlace}
 use Rattle.dl_asm.specs.Labels.{entry_after, entry_at}
-use Rattle.dl_asm.specs.Numbers.{held}
+use Rattle.dl_asm.specs.Numbers.{capped}
 use Rattle.dl_asm.specs.Lines.{count_of}
 use Rattle.dl_asm.specs.Sources.{place_of, has_label}
 
-or-none : (old : Option Place) → old ≡ option_or old None
+or-none : (old : Option LabelPlace) → old ≡ option_or old None
 or-none None = refl
 or-none (Some x) = refl
 
-or-some : (old new : Option Place) → is_some old ≡ true → old ≡ option_or old new
+or-some : (old new : Option LabelPlace) → is_some old ≡ true → old ≡ option_or old new
 or-some None new e = cc
 or-some (Some x) new e = refl
 
-or-new : (old new : Option Place) → is_some old ≡ false → new ≡ option_or old new
+or-new : (old new : Option LabelPlace) → is_some old ≡ false → new ≡ option_or old new
 or-new None new e = refl
 or-new (Some x) new e = cc
 
-kept-by : (f : List ℕ → Option Place) (label name : List ℕ) (place : Place) (b : Bool) → bytes_eq name label ≡ b → is_some (f label) ≡ true → f name ≡ entry_after (f name) b place
+kept-by : (f : List ℕ → Option LabelPlace) (label name : List ℕ) (place : LabelPlace) (b : Bool) → bytes_eq name label ≡ b → is_some (f label) ≡ true → f name ≡ entry_after (f name) b place
 kept-by f label name place true e some =
     or-some (f name) (Some place) (ap (λ n. is_some (f n)) ((bytes_eq-Decides name label).0 e) ∙ some)
 kept-by f label name place false e some = or-none (f name)
 
 -- a label that is there stays where it is
-pub kept : (f : List ℕ → Option Place) (label name : List ℕ) (place : Place) → is_some (f label) ≡ true → f name ≡ entry_after (f name) (bytes_eq name label) place
+pub kept : (f : List ℕ → Option LabelPlace) (label name : List ℕ) (place : LabelPlace) → is_some (f label) ≡ true → f name ≡ entry_after (f name) (bytes_eq name label) place
 kept f label name place some = kept-by f label name place (bytes_eq name label) refl some
 
-added-by : (f : List ℕ → Option Place) (label name : List ℕ) (place : Place) (b : Bool) → bytes_eq name label ≡ b → is_some (f label) ≡ false
+added-by : (f : List ℕ → Option LabelPlace) (label name : List ℕ) (place : LabelPlace) (b : Bool) → bytes_eq name label ≡ b → is_some (f label) ≡ false
     → cond (bytes_eq label name) (Some place) (f name) ≡ entry_after (f name) b place
 added-by f label name place true e none =
     let same : name ≡ label = (bytes_eq-Decides name label).0 e in
@@ -47,7 +47,7 @@ added-by f label name place false e none =
     ap (λ b. cond b (Some place) (f name)) apart ∙ or-none (f name)
 
 -- one that isn't gets the line's place
-pub added : (f : List ℕ → Option Place) (label name : List ℕ) (place : Place) → is_some (f label) ≡ false
+pub added : (f : List ℕ → Option LabelPlace) (label name : List ℕ) (place : LabelPlace) → is_some (f label) ≡ false
     → cond (bytes_eq label name) (Some place) (f name) ≡ entry_after (f name) (bytes_eq name label) place
 added f label name place none = added-by f label name place (bytes_eq name label) refl none
 
@@ -65,7 +65,7 @@ position-push p xs y =
     let longer : length (xs ++ y ∷ []) ≡ length xs + 1 = length_push xs y in
     ap₂ (λ k m. cond (ltb k m) (Some k) None) (position_or_len_push p xs y) longer ∙ place-push n (length xs) (p y) (prefix_len-le-length _ xs)
 
-map-or : (f : ℕ → Place) (old : Option ℕ) (b : Bool) (i : ℕ) → option_map f (option_or old (cond b (Some i) None)) ≡ entry_after (option_map f old) b (f i)
+map-or : (f : ℕ → LabelPlace) (old : Option ℕ) (b : Bool) (i : ℕ) → option_map f (option_or old (cond b (Some i) None)) ≡ entry_after (option_map f old) b (f i)
 map-or f (Some x) b i = refl
 map-or f None true i = refl
 map-or f None false i = refl
@@ -86,8 +86,8 @@ pub place-more : (lines : List (List ℕ)) (line : List ℕ) (i : ℕ) → i < l
 place-more lines line i l e = sum_by_more count_of lines i [] l ∙ ap (λ t. place_of lines i + count_of t) (sym e)
 
 -- adding to a cut number and cutting the sum is cutting the sum
-pub held-more : (w n : ℕ) → min (held w + n) (2 ^ 33) ≡ held (w + n)
-held-more w n = omega arith
+pub capped-more : (w n : ℕ) → min (capped w + n) (2 ^ 33) ≡ capped (w + n)
+capped-more w n = omega arith
 
 -- ---- whether an earlier line has a label
 
@@ -127,7 +127,7 @@ pub repeated : (lines : List (List ℕ)) (name : List ℕ) (i : ℕ) → list_an
 repeated lines name i = any-below (has_label name) lines i ∙ any-place (position_or_len (has_label name) lines) (length lines) i
 
 -- an entry that the table has is of an earlier line just where the line found for it is
-pub entry-before : (lines : List (List ℕ)) (found : Option ℕ) (place : Place) (i : ℕ) → Some place ≡ option_map (entry_at lines) found → ltb place.line i ≡ is_before found i
+pub entry-before : (lines : List (List ℕ)) (found : Option ℕ) (place : LabelPlace) (i : ℕ) → Some place ≡ option_map (entry_at lines) found → ltb place.line i ≡ is_before found i
 entry-before lines None place i e = cc
 entry-before lines (Some k) place i e = let same : place ≡ entry_at lines k = cc in ap (λ q. ltb q.line i) same
 

@@ -4,7 +4,7 @@ use Rattle.std.specs.Prelude.{◌⊎◌}
 use Rattle.spec_log.specs.declared.log.LogParts.{LogParts}
 use Rattle.spec_log.specs.declared.mode_name.ModeName.{ModeName}
 use Rattle.spec_log.specs.declared.mode_name.ModeName.TheVariants.{OrderSize, OrderOnly, Picolog}
-use Rattle.spec_log.specs.Reading.{Fault, Read, Reader, continues, read, gives, any, field, at_most, from_to, mode, ordered}
+use Rattle.spec_log.specs.Reading.{ParseError, Read, Reader, continues, read, gives, any, field, at_most, from_to, mode, ordered}
 use Rattle.dl_logbytes.specs.Answer.{Answers}
 use Rattle.dl_logbytes.specs.declared.error.LogError.{LogError}
 use Rattle.dl_logbytes.specs.declared.error.LogError.TheVariants.{Malformed, OutOfMemory}
@@ -13,7 +13,7 @@ use Rattle.dl_logfmt.specs.declared.stage.Stage.TheVariants.{Mode, ChunkSize, Co
 use Rattle.dl_logfmt.specs.declared.head.Head.{Head}
 use Rattle.dl_logfmt.specs.declared.draft.Draft.{Draft}
 use Rattle.dl_logfmt.specs.Drafts.{Came, IsFew, IsSection, ReadsField, reach}
-use Rattle.dl_logfmt.specs.Remaining.{field_at, next_field, size_count, remaining, remaining_at, rank, from_chunk_size, from_count, from_order_count, from_order, from_sizes, from_interrupts, from_inputs, from_dmas}
+use Rattle.dl_logfmt.specs.Remaining.{field_at, next_field, size_count, remaining, remaining_at, stage_number, from_chunk_size, from_count, from_order_count, from_order, from_sizes, from_interrupts, from_inputs, from_dmas}
 use Rattle.dl_logfmt.specs.Streams.{Streams}
 use Rattle.dl_logfmt.proofs.Drafts.Streams.{Streams-gives, Streams-read, Streams-wider, Streams-any, Streams-field, Streams-mode, step-leads, step-stops}
 
@@ -43,7 +43,7 @@ Streams-head DmaCount h = Streams-made (any 4) (λ n. record h { stage = Dmas n 
 Streams-head (Dmas n) h = Streams-wider 0 8 (gives h) (omega arith) (Streams-gives h)
 Streams-head Nothing h = Streams-wider 0 8 (gives h) (omega arith) (Streams-gives h)
 
-same-read : {X : Type 0} (r : Result (Read X) Fault) (x y : Read X) → r ≡ Ok x → r ≡ Ok y → x ≡ y
+same-read : {X : Type 0} (r : Result (Read X) ParseError) (x y : Read X) → r ≡ Ok x → r ≡ Ok y → x ≡ y
 same-read r x y e f = cc
 
 -- what was read is the value and the offset behind it
@@ -53,19 +53,19 @@ given {X} x y bytes at e =
     (ap (λ (r : Read X). r.value) s, ap (λ (r : Read X). r.after) s)
 
 -- where a field's value makes the head, the rest is read behind it
-made-on : {X : Type 0} (r : Result (Read X) Fault) (make : X → Head) (bytes : List ℕ) (y : Read Head) (next : X → ℕ → Result (Read LogParts) Fault) (on : Head → ℕ → Result (Read LogParts) Fault)
+made-on : {X : Type 0} (r : Result (Read X) ParseError) (make : X → Head) (bytes : List ℕ) (y : Read Head) (next : X → ℕ → Result (Read LogParts) ParseError) (on : Head → ℕ → Result (Read LogParts) ParseError)
     → ((x : X) (at : ℕ) → next x at ≡ on (make x) at) → continues r (λ x. gives (make x) bytes) ≡ Ok y → continues r next ≡ on y.value y.after
 made-on (Ok r) make bytes y next on same e =
     let g = given (make r.value) y bytes r.after e in
     same r.value r.after ∙ ap (λ (h : Head). on h r.after) g.0 ∙ ap (on y.value) g.1
 made-on (Err fault) make bytes y next on same e = cc
 
-made-off : {X : Type 0} (r : Result (Read X) Fault) (make : X → Head) (bytes : List ℕ) (fault : Fault) (next : X → ℕ → Result (Read LogParts) Fault)
+made-off : {X : Type 0} (r : Result (Read X) ParseError) (make : X → Head) (bytes : List ℕ) (fault : ParseError) (next : X → ℕ → Result (Read LogParts) ParseError)
     → continues r (λ x. gives (make x) bytes) ≡ Err fault → continues r next ≡ Err fault
 made-off (Ok r) make bytes fault next e = cc
 made-off (Err f) make bytes fault next e = cc
 
-made-is : {X : Type 0} (r : Result (Read X) Fault) (make : X → Head) (bytes : List ℕ) (y : Read Head)
+made-is : {X : Type 0} (r : Result (Read X) ParseError) (make : X → Head) (bytes : List ℕ) (y : Read Head)
     → continues r (λ x. gives (make x) bytes) ≡ Ok y → (x : X) × (make x ≡ y.value)
 made-is (Ok r) make bytes y e = (r.value, (given (make r.value) y bytes r.after e).0)
 made-is (Err fault) make bytes y e = cc
@@ -106,7 +106,7 @@ field-on DmaCount d whole at y s e =
 field-on (Dmas n) d whole at y s e = given-on (Dmas n) d whole at y s e
 field-on Nothing d whole at y s e = given-on Nothing d whole at y s e
 
-field-off : (stage : Stage) (d : Draft) (whole : List ℕ) (at : ℕ) (fault : Fault) → field_at stage d.head whole at ≡ Err fault → remaining_at stage d whole at ≡ Err fault
+field-off : (stage : Stage) (d : Draft) (whole : List ℕ) (at : ℕ) (fault : ParseError) → field_at stage d.head whole at ≡ Err fault → remaining_at stage d whole at ≡ Err fault
 field-off Mode d whole at fault e = made-off (mode whole at) (λ m. record d.head { stage = ChunkSize; mode = m }) whole fault (λ m. from_chunk_size (record d { head = record d.head { mode = m } }) whole) e
 field-off ChunkSize d whole at fault e = made-off (field 4 (from_to 16 4096) whole at) (λ s. record d.head { stage = Count; s = s }) whole fault (λ s. from_count (record d { head = record d.head { s = s } }) whole) e
 field-off Count d whole at fault e = made-off (field 4 (at_most (2 ^ 24)) whole at) (λ count. record d.head { stage = OrderCount; count = count }) whole fault (λ count. from_order_count (record d { head = record d.head { count = count } }) whole) e
@@ -126,13 +126,13 @@ field-off Nothing d whole at fault e = cc
 -- a stage is passed, or entries come next and nothing was read
 abbrev Passes : Stage → ℕ → Read Head → Type 0
 Passes stage at y =
-    (rank stage < rank y.value.stage) ⊎ ((y.value.stage ≡ stage) × IsSection stage × (at ≡ y.after))
+    (stage_number stage < stage_number y.value.stage) ⊎ ((y.value.stage ≡ stage) × IsSection stage × (at ≡ y.after))
 
-made-passes : {X : Type 0} (stage : Stage) (r : Result (Read X) Fault) (make : X → Head) (bytes : List ℕ) (at : ℕ) (y : Read Head)
-    → ((x : X) → rank stage < rank (make x).stage) → continues r (λ x. gives (make x) bytes) ≡ Ok y → Passes stage at y
+made-passes : {X : Type 0} (stage : Stage) (r : Result (Read X) ParseError) (make : X → Head) (bytes : List ℕ) (at : ℕ) (y : Read Head)
+    → ((x : X) → stage_number stage < stage_number (make x).stage) → continues r (λ x. gives (make x) bytes) ≡ Ok y → Passes stage at y
 made-passes stage r make bytes at y more e =
     let m = made-is r make bytes y e in
-    inl (subst (λ (h : Head). rank stage < rank h.stage) m.1 (more m.0))
+    inl (subst (λ (h : Head). stage_number stage < stage_number h.stage) m.1 (more m.0))
 
 given-passes : (stage : Stage) (h : Head) (bytes : List ℕ) (at : ℕ) (y : Read Head) → h.stage ≡ stage → IsSection stage → gives h bytes at ≡ Ok y → Passes stage at y
 given-passes stage h bytes at y s is e =
@@ -159,11 +159,11 @@ field-passes Nothing h bytes at y s some e = absurd (some refl)
 field-cost : (d : Draft) (at : ℕ) (y : Read Head) → y.after ≤ at + 8 → Passes d.head.stage at y → y.after + reach d ≤ at + reach (with_head d y.value)
 field-cost d at y near (inl more) = omega arith
 field-cost d at y near (inr (same, is, there)) =
-    let equal : rank y.value.stage ≡ rank d.head.stage = ap rank same in
+    let equal : stage_number y.value.stage ≡ stage_number d.head.stage = ap stage_number same in
     omega arith
 
 passed-stage : (d : Draft) (at : ℕ) (y : Read Head) → Passes d.head.stage at y
-    → (rank d.head.stage < rank y.value.stage) ⊎ ((y.value.stage ≡ d.head.stage) × IsSection d.head.stage)
+    → (stage_number d.head.stage < stage_number y.value.stage) ⊎ ((y.value.stage ≡ d.head.stage) × IsSection d.head.stage)
 passed-stage d at y (inl more) = inl more
 passed-stage d at y (inr (same, is, there)) = inr (same, is)
 

@@ -2,7 +2,7 @@
 use Rattle.std.proofs.Common.{◌≡◌, ℕ, suc, ◌+◌, ◌-◌, ◌/◌, ◌%◌, ◌<◌, ◌≤◌, ◌^◌, Bool, List, [], ◌∷◌, ◌++◌, length, Some, Result, Ok, Err, slice_get, refl, append_assoc, append-nil, arith, ◌∙◌}
 use Rattle.std.proofs.lemmas.List.{length_push}
 use Rattle.dl_entry.specs.declared.actor.Actor.{Actor}
-use Rattle.spec_log.specs.Reading.{Fault, Read, Reader, continues, gives, entries, any, field, at_most, actor_of, actors}
+use Rattle.spec_log.specs.Reading.{ParseError, Read, Reader, continues, gives, entries, any, field, at_most, actor_of, actors}
 use Rattle.dl_logbytes.specs.Answer.{last, next_entry, Answers}
 use Rattle.dl_logbytes.specs.declared.error.LogError.{LogError}
 use Rattle.dl_logbytes.specs.declared.error.LogError.TheVariants.{Malformed, OutOfMemory}
@@ -12,11 +12,11 @@ use Rattle.dl_logfmt.specs.Streams.{Streams, Leads}
 use Rattle.dl_logfmt.proofs.Drafts.Streams.{Streams-next, Streams-any, Streams-field, step-leads, step-stops}
 
 -- one entry more
-begun-push : {X : Type 0} (xs : List X) (x : X) (bytes : List ℕ) (r : Result (Read (List X)) Fault)
+prepended-push : {X : Type 0} (xs : List X) (x : X) (bytes : List ℕ) (r : Result (Read (List X)) ParseError)
     → continues (continues r (λ ys. gives (x ∷ ys) bytes)) (λ ys. gives (xs ++ ys) bytes)
     ≡ continues r (λ ys. gives ((xs ++ x ∷ []) ++ ys) bytes)
-begun-push xs x bytes (Ok r) = rw append_assoc refl
-begun-push xs x bytes (Err fault) = refl
+prepended-push xs x bytes (Ok r) = rw append_assoc refl
+prepended-push xs x bytes (Err fault) = refl
 
 slice_get-end : {X : Type 0} (xs : List X) (x : X) → slice_get (xs ++ x ∷ []) (length xs) ≡ Some x
 slice_get-end [] x = refl
@@ -31,9 +31,9 @@ more-next : {X : Type 0} (earlier : X → X → Bool) (entry : Reader X) (count 
     → more earlier entry count xs bytes at ≡ more earlier entry count (xs ++ x ∷ []) bytes after
 more-next earlier entry count xs x bytes at after l e =
     let left : count - length xs ≡ suc (count - length (xs ++ x ∷ [])) = omega (arith, length_push xs x) in
-    rw (left, e, last-push xs x) (begun-push xs x bytes (entries earlier entry (Some x) (count - length (xs ++ x ∷ [])) bytes after))
+    rw (left, e, last-push xs x) (prepended-push xs x bytes (entries earlier entry (Some x) (count - length (xs ++ x ∷ [])) bytes after))
 
-more-fault : {X : Type 0} (earlier : X → X → Bool) (entry : Reader X) (count : ℕ) (xs : List X) (bytes : List ℕ) (at : ℕ) (fault : Fault)
+more-fault : {X : Type 0} (earlier : X → X → Bool) (entry : Reader X) (count : ℕ) (xs : List X) (bytes : List ℕ) (at : ℕ) (fault : ParseError)
     → length xs < count → next_entry earlier entry xs bytes at ≡ Err fault → more earlier entry count xs bytes at ≡ Err fault
 more-fault earlier entry count xs bytes at fault l e =
     let left : count - length xs ≡ suc (count - length xs - 1) = omega arith in
@@ -90,11 +90,11 @@ entries-read earlier entry count bytes xs at ys from l (came, leads, ext) =
 
 -- actors
 
-begun-pair : (xs : List Actor) (low high : Actor) (bytes : List ℕ) (r : Result (Read (List Actor)) Fault)
+prepended-pair : (xs : List Actor) (low high : Actor) (bytes : List ℕ) (r : Result (Read (List Actor)) ParseError)
     → continues (continues r (λ ys. gives (low ∷ high ∷ ys) bytes)) (λ ys. gives (xs ++ ys) bytes)
     ≡ continues r (λ ys. gives (((xs ++ low ∷ []) ++ high ∷ []) ++ ys) bytes)
-begun-pair xs low high bytes (Ok r) = simp append_assoc
-begun-pair xs low high bytes (Err fault) = refl
+prepended-pair xs low high bytes (Ok r) = simp append_assoc
+prepended-pair xs low high bytes (Err fault) = refl
 
 -- the order with two actors more
 abbrev pub paired : List Actor → ℕ → List Actor
@@ -109,9 +109,9 @@ actors-next : (count : ℕ) (xs : List Actor) (byte : ℕ) (bytes : List ℕ) (a
     → more_actors count xs bytes at ≡ more_actors count (paired xs byte) bytes after
 actors-next count xs byte bytes at after l e =
     let left : count - length xs ≡ suc (suc (count - length (paired xs byte))) = omega (arith, length-paired xs byte) in
-    rw (left, e) (begun-pair xs (actor_of (byte % 16)) (actor_of (byte / 16)) bytes (actors (count - length (paired xs byte)) bytes after))
+    rw (left, e) (prepended-pair xs (actor_of (byte % 16)) (actor_of (byte / 16)) bytes (actors (count - length (paired xs byte)) bytes after))
 
-actors-fault : (count : ℕ) (xs : List Actor) (bytes : List ℕ) (at : ℕ) (fault : Fault)
+actors-fault : (count : ℕ) (xs : List Actor) (bytes : List ℕ) (at : ℕ) (fault : ParseError)
     → length xs + 1 < count → any 1 bytes at ≡ Err fault → more_actors count xs bytes at ≡ Err fault
 actors-fault count xs bytes at fault l e =
     let left : count - length xs ≡ suc (suc (count - length xs - 2)) = omega arith in
@@ -124,7 +124,7 @@ actors-last count xs half bytes at after l e =
     let left : count - length xs ≡ 1 = omega arith in
     rw (left, e) refl
 
-actors-bad_last : (count : ℕ) (xs : List Actor) (bytes : List ℕ) (at : ℕ) (fault : Fault)
+actors-bad_last : (count : ℕ) (xs : List Actor) (bytes : List ℕ) (at : ℕ) (fault : ParseError)
     → count ≡ length xs + 1 → field 1 (at_most 15) bytes at ≡ Err fault → more_actors count xs bytes at ≡ Err fault
 actors-bad_last count xs bytes at fault l e =
     let left : count - length xs ≡ 1 = omega arith in

@@ -8,14 +8,14 @@ use Rattle.spec_log.specs.declared.mode_name.ModeName.TheVariants.{OrderSize, Or
 use Rattle.spec_log.specs.declared.records.DmaRecord.{DmaRecord}
 use Rattle.spec_log.specs.declared.records.Interrupt.{Interrupt}
 use Rattle.spec_log.specs.declared.sizes.ShortSize.{ShortSize}
-use Rattle.spec_log.specs.Reading.{Fault, Read, Reader, continues, read, gives, field, at_most, is_earlier, short_size, interrupt, input, dma}
+use Rattle.spec_log.specs.Reading.{ParseError, Read, Reader, continues, read, gives, field, at_most, is_earlier, short_size, interrupt, input, dma}
 use Rattle.dl_logbytes.specs.declared.error.LogError.{LogError}
 use Rattle.dl_logbytes.specs.declared.error.LogError.TheVariants.{Malformed, OutOfMemory}
 use Rattle.dl_logfmt.specs.declared.stage.Stage.{Stage}
 use Rattle.dl_logfmt.specs.declared.stage.Stage.TheVariants.{Order, SizeCount, Sizes as SizesOf, InterruptCount, Interrupts, InputCount, Inputs, DmaCount, Dmas, Nothing}
 use Rattle.dl_logfmt.specs.declared.draft.Draft.{Draft}
 use Rattle.dl_logfmt.specs.Drafts.{Came, CameIn, IsFew, ReadsIn, ReadsSection, reach}
-use Rattle.dl_logfmt.specs.Remaining.{more, more_actors, more_sizes, log_of, remaining, remaining_at, rank, from_size_count, from_interrupt_count, from_input_count, from_dma_count}
+use Rattle.dl_logfmt.specs.Remaining.{more, more_actors, more_sizes, log_of, remaining, remaining_at, stage_number, from_size_count, from_interrupt_count, from_input_count, from_dma_count}
 use Rattle.dl_logfmt.specs.Streams.{Leads}
 use Rattle.dl_logfmt.proofs.Drafts.Streams.{Leads-read, Stops-read}
 
@@ -64,7 +64,7 @@ pub order-read : (bytes : List ℕ) (d : Draft) (at after count : ℕ) (xs : Lis
     → CameIn bytes d.order at xs after × Leads bytes (more_actors count d.order) at (gives xs) after
     → ReadsSection bytes d at (Ok tt) (record d { head = record d.head { stage = SizeCount }; order = xs }) after
 order-read bytes d at after count xs is few (came, leads) =
-    let ranked : rank d.head.stage ≡ 4 = ap rank is in
+    let ranked : stage_number d.head.stage ≡ 4 = ap stage_number is in
     let rest = order-few bytes d at after xs few came in (
       section-came bytes d (record d { head = record d.head { stage = SizeCount }; order = xs }) at after d.order xs (more_actors count) (λ xs. from_size_count (record d { order = xs }))
           (order-from d count is) (λ bytes at. refl) (came, leads)
@@ -93,7 +93,7 @@ pub interrupts-read : (bytes : List ℕ) (d : Draft) (at after count : ℕ) (xs 
     → CameIn bytes d.interrupts at xs after × Leads bytes (more (λ x y. is_earlier x.thread x.index y.thread y.index) interrupt count d.interrupts) at (gives xs) after
     → ReadsSection bytes d at (Ok tt) (record d { head = record d.head { stage = InputCount }; interrupts = xs }) after
 interrupts-read bytes d at after count xs is few (came, leads) =
-    let ranked : rank d.head.stage ≡ 8 = ap rank is in
+    let ranked : stage_number d.head.stage ≡ 8 = ap stage_number is in
     let rest = interrupts-few bytes d at after xs few came in (
       section-came bytes d (record d { head = record d.head { stage = InputCount }; interrupts = xs }) at after d.interrupts xs (more (λ x y. is_earlier x.thread x.index y.thread y.index) interrupt count) (λ xs. from_input_count (record d { interrupts = xs }))
           (interrupts-from d count is) (λ bytes at. refl) (came, leads)
@@ -122,7 +122,7 @@ pub inputs-read : (bytes : List ℕ) (d : Draft) (at after count : ℕ) (xs : Li
     → CameIn bytes d.inputs at xs after × Leads bytes (more (λ x y. true) input count d.inputs) at (gives xs) after
     → ReadsSection bytes d at (Ok tt) (record d { head = record d.head { stage = DmaCount }; inputs = xs }) after
 inputs-read bytes d at after count xs is few (came, leads) =
-    let ranked : rank d.head.stage ≡ 10 = ap rank is in
+    let ranked : stage_number d.head.stage ≡ 10 = ap stage_number is in
     let rest = inputs-few bytes d at after xs few came in (
       section-came bytes d (record d { head = record d.head { stage = DmaCount }; inputs = xs }) at after d.inputs xs (more (λ x y. true) input count) (λ xs. from_dma_count (record d { inputs = xs }))
           (inputs-from d count is) (λ bytes at. refl) (came, leads)
@@ -151,7 +151,7 @@ pub dmas-read : (bytes : List ℕ) (d : Draft) (at after count : ℕ) (xs : List
     → CameIn bytes d.dmas at xs after × Leads bytes (more (λ x y. nat_lt x.slot y.slot) dma count d.dmas) at (gives xs) after
     → ReadsSection bytes d at (Ok tt) (record d { head = record d.head { stage = Nothing }; dmas = xs }) after
 dmas-read bytes d at after count xs is few (came, leads) =
-    let ranked : rank d.head.stage ≡ 12 = ap rank is in
+    let ranked : stage_number d.head.stage ≡ 12 = ap stage_number is in
     let rest = dmas-few bytes d at after xs few came in (
       section-came bytes d (record d { head = record d.head { stage = Nothing }; dmas = xs }) at after d.dmas xs (more (λ x y. nat_lt x.slot y.slot) dma count) (λ xs. gives (log_of (record d { dmas = xs })))
           (dmas-from d count is) (λ bytes at. refl) (came, leads)
@@ -170,7 +170,7 @@ dmas-unread bytes d at after count xs error is few h =
     (dmas-from d count is) (dmas-from (record d { dmas = xs }) count is) h (λ came. (dmas-few bytes d at after xs few came, omega (arith, came.cost)))
 
 -- the lists of sizes, of which one stays
-made-next : {X Y : Type 0} (r : Result (Read X) Fault) (make : X → Y) (bytes : List ℕ) (next : Y → ℕ → Result (Read LogParts) Fault)
+made-next : {X Y : Type 0} (r : Result (Read X) ParseError) (make : X → Y) (bytes : List ℕ) (next : Y → ℕ → Result (Read LogParts) ParseError)
     → continues (continues r (λ x. gives (make x) bytes)) next ≡ continues r (λ x. next (make x))
 made-next (Ok r) make bytes next = refl
 made-next (Err fault) make bytes next = refl
@@ -189,7 +189,7 @@ pub each-read : (bytes : List ℕ) (d : Draft) (at after count : ℕ) (xs : List
     → CameIn bytes d.each at xs after × Leads bytes (more (λ x y. true) (field 2 (at_most d.head.s)) count d.each) at (gives xs) after
     → ReadsSection bytes d at (Ok tt) (record d { head = record d.head { stage = InterruptCount }; each = xs }) after
 each-read bytes d at after count xs is mode few (came, leads) =
-    let ranked : rank d.head.stage ≡ 6 = ap rank is in
+    let ranked : stage_number d.head.stage ≡ 6 = ap stage_number is in
     let rest = each-few bytes d at after xs few came in (
       section-came bytes d (record d { head = record d.head { stage = InterruptCount }; each = xs }) at after d.each xs (more (λ x y. true) (field 2 (at_most d.head.s)) count) (λ xs. from_interrupt_count (record d { each = xs }))
           (each-from d count is mode) (λ bytes at. refl) (came, leads)
@@ -216,7 +216,7 @@ short-sizes Picolog s count each short bytes at other = refl
 short-from : (d : Draft) (count : ℕ) → d.head.stage ≡ SizesOf count → (d.head.mode ≡ OrderSize → ⊥) → Same (remaining d) (read (more (λ x y. is_earlier x.thread x.index y.thread y.index) (short_size d.head.s) count d.short) (λ xs. from_interrupt_count (record d { short = xs })))
 short-from d count is mode bytes at =
     ap (λ (s : Stage). remaining_at s d bytes at) is
-    ∙ (ap (λ (r : Result (Read (List ℕ × List ShortSize)) Fault). continues r (λ sizes. from_interrupt_count (record d { each = sizes.0; short = sizes.1 }) bytes)) (short-sizes d.head.mode d.head.s count d.each d.short bytes at mode)
+    ∙ (ap (λ (r : Result (Read (List ℕ × List ShortSize)) ParseError). continues r (λ sizes. from_interrupt_count (record d { each = sizes.0; short = sizes.1 }) bytes)) (short-sizes d.head.mode d.head.s count d.each d.short bytes at mode)
     ∙ made-next (more (λ x y. is_earlier x.thread x.index y.thread y.index) (short_size d.head.s) count d.short bytes at) (λ short. (d.each, short)) bytes (λ sizes. from_interrupt_count (record d { each = sizes.0; short = sizes.1 }) bytes))
 
 short-few : (bytes : List ℕ) (d : Draft) (at after : ℕ) (xs : List ShortSize) → IsFew d → CameIn bytes d.short at xs after → IsFew (record d { short = xs })
@@ -228,7 +228,7 @@ pub short-read : (bytes : List ℕ) (d : Draft) (at after count : ℕ) (xs : Lis
     → CameIn bytes d.short at xs after × Leads bytes (more (λ x y. is_earlier x.thread x.index y.thread y.index) (short_size d.head.s) count d.short) at (gives xs) after
     → ReadsSection bytes d at (Ok tt) (record d { head = record d.head { stage = InterruptCount }; short = xs }) after
 short-read bytes d at after count xs is mode few (came, leads) =
-    let ranked : rank d.head.stage ≡ 6 = ap rank is in
+    let ranked : stage_number d.head.stage ≡ 6 = ap stage_number is in
     let rest = short-few bytes d at after xs few came in (
       section-came bytes d (record d { head = record d.head { stage = InterruptCount }; short = xs }) at after d.short xs (more (λ x y. is_earlier x.thread x.index y.thread y.index) (short_size d.head.s) count) (λ xs. from_interrupt_count (record d { short = xs }))
           (short-from d count is mode) (λ bytes at. refl) (came, leads)

@@ -2,7 +2,7 @@
 use Rattle.std.proofs.Common.{◌≡◌, ℕ, ◌+◌, ◌<◌, ◌≤◌, ◌==◌, true, false, nat_lt, MatchResult, List, [], ◌++◌, length, take, Result, Ok, Err, refl, ap, sym, subst, ◌∙◌, append_assoc, append-nil, length-append, arith}
 use Rattle.std.proofs.lemmas.Bool.{lt-ltb, le-ltb, eqb-true, eqb-false}
 use Rattle.std.proofs.lemmas.List.{take_at}
-use Rattle.spec_log.specs.Reading.{Fault, fails, gives}
+use Rattle.spec_log.specs.Reading.{ParseError, fails, gives}
 use Rattle.dl_logbytes.specs.declared.error.LogError.{LogError}
 use Rattle.dl_logbytes.specs.declared.error.LogError.TheVariants.{Malformed, OutOfMemory}
 use Rattle.dl_logfmt.specs.declared.stage.Stage.{Stage}
@@ -82,7 +82,7 @@ feeds-whole bytes d at e after came is none = (
       rw (whole-remaining e whole (length before + after) is, whole-said e whole is, outside) refl,
 )
 
-said-cut : (stage : Stage) (e : Draft) (bytes : List ℕ) (at : ℕ) (fault : Fault) → remaining_at stage e bytes at ≡ Err fault → fails 1 (length bytes) ≡ said_at stage e bytes
+said-cut : (stage : Stage) (e : Draft) (bytes : List ℕ) (at : ℕ) (fault : ParseError) → remaining_at stage e bytes at ≡ Err fault → fails 1 (length bytes) ≡ said_at stage e bytes
 said-cut Mode e bytes at fault h = refl
 said-cut ChunkSize e bytes at fault h = refl
 said-cut Count e bytes at fault h = refl
@@ -105,7 +105,7 @@ feeds-short bytes d at e after offset (came, stops) = (
   came,
   λ before.
       let s = stops before [] in
-      let fault : Fault = record { number = 1; offset = length before + offset } in
+      let fault : ParseError = record { number = 1; offset = length before + offset } in
       let here : remaining e (before ++ bytes) (length before + after) ≡ Err fault =
       subst (λ (b : List ℕ). remaining e (before ++ b) (length before + after) ≡ Err fault) (append-nil bytes) (s.same (λ k. refl)) in
       let end : length before + offset ≡ length (before ++ bytes) = omega (arith, length-append before bytes, s.short refl) in

@@ -4,13 +4,13 @@ use Rattle.std.specs.List.{list_any}
 use Rattle.std.proofs.lemmas.Bool.{ltb-false, ltb-true, le-ltb, lt-ltb, leb-true}
 use Rattle.std.proofs.lemmas.List.{drop_at, drop-drop, drop-append-le, take-append-le, length-drop}
 use Rattle.spec_log.specs.Log.{input_kinds}
-use Rattle.spec_log.specs.Reading.{Fault, Read, Reader, continues, fails, read, gives, raw, passes, number, number_of, field, any, at_most, from_to, mode, thread, short_size, interrupt, counted, input, dma}
+use Rattle.spec_log.specs.Reading.{ParseError, Read, Reader, continues, fails, read, gives, raw, passes, number, number_of, field, any, at_most, from_to, mode, thread, short_size, interrupt, counted, input, dma}
 use Rattle.dl_logbytes.specs.Answer.{next_entry, last}
 use Rattle.spec_log.specs.Reading.{comes_after}
 use Rattle.dl_logfmt.specs.Streams.{Holds, Streams, Leads, Stops}
 
 -- a bound may be wider
-pub Holds-wider : {X : Type 0} (most wider : ℕ) (before bytes behind : List ℕ) (from at : ℕ) (r whole : Result (Read X) Fault)
+pub Holds-wider : {X : Type 0} (most wider : ℕ) (before bytes behind : List ℕ) (from at : ℕ) (r whole : Result (Read X) ParseError)
     → from ≤ at → at + most ≤ from + wider → Holds most before bytes behind at r whole → Holds wider before bytes behind from r whole
 Holds-wider most wider before bytes behind from at (Ok r) whole low high h =
     record { same = h.same; onward = omega (arith, h.onward); within = h.within; few = omega (arith, h.few) }
@@ -69,7 +69,7 @@ pub Streams-raw : (width : ℕ) → Streams width (raw width)
 Streams-raw width = record { holds = λ before bytes behind at h. raw-holds width before bytes behind at _ refl h }
 
 -- one stream behind another
-read-holds : {X Y : Type 0} (m n : ℕ) (next : X → Reader Y) (before bytes behind : List ℕ) (at : ℕ) (r whole : Result (Read X) Fault)
+read-holds : {X Y : Type 0} (m n : ℕ) (next : X → Reader Y) (before bytes behind : List ℕ) (at : ℕ) (r whole : Result (Read X) ParseError)
     → ((x : X) → Streams n (next x)) → Holds m before bytes behind at r whole
     → Holds (m + n) before bytes behind at (continues r (λ x after. next x bytes after))
     (continues whole (λ x after. next x (before ++ (bytes ++ behind)) after))
@@ -92,7 +92,7 @@ judge-holds fault value before bytes behind at after most x true other h onward 
 judge-holds fault value before bytes behind at after most x false other h onward within few =
     record { within = h; short = λ e. absurd (other e); same = λ k. refl }
 
-judged-holds : {X Y : Type 0} (m fault : ℕ) (test : X → Bool) (value : X → Y) (before bytes behind : List ℕ) (at : ℕ) (r whole : Result (Read X) Fault) → (fault ≡ 1 → ⊥) → at ≤ length bytes
+judged-holds : {X Y : Type 0} (m fault : ℕ) (test : X → Bool) (value : X → Y) (before bytes behind : List ℕ) (at : ℕ) (r whole : Result (Read X) ParseError) → (fault ≡ 1 → ⊥) → at ≤ length bytes
     → Holds m before bytes behind at r whole
     → Holds m before bytes behind at (continues r (λ x after. passes (test x) fault at (value x) bytes after))
     (continues whole (λ x after. passes (test x) fault (length before + at) (value x) (before ++ (bytes ++ behind)) after))
@@ -144,7 +144,7 @@ Streams-interrupt =
     Streams-read 4 0 (any 4) _ (Streams-any 4) (λ value. Streams-gives _)))
 
 -- a number that passed its test
-same-value : {X : Type 0} (r : Result X Fault) (x y : X) → r ≡ Ok x → r ≡ Ok y → x ≡ y
+same-value : {X : Type 0} (r : Result X ParseError) (x y : X) → r ≡ Ok x → r ≡ Ok y → x ≡ y
 same-value r x y e f = cc
 
 passed : (fault start x : ℕ) (y : Read ℕ) (after : ℕ) (good : Bool) (bytes : List ℕ)
@@ -154,7 +154,7 @@ passed fault start x y after true bytes e =
     (refl, ap (λ (z : Read ℕ). z.value) (same-value (Ok r) r y refl e))
 passed fault start x y after false bytes e = cc
 
-number-passed : (fault start : ℕ) (test : ℕ → Bool) (r : Result (Read (List ℕ)) Fault) (bytes : List ℕ) (x : Read ℕ)
+number-passed : (fault start : ℕ) (test : ℕ → Bool) (r : Result (Read (List ℕ)) ParseError) (bytes : List ℕ) (x : Read ℕ)
     → continues r (λ f after. passes (test (number_of f)) fault start (number_of f) bytes after) ≡ Ok x → test x.value ≡ true
 number-passed fault start test (Ok r) bytes x e =
     let p = passed fault start (number_of r.value) x r.after (test (number_of r.value)) bytes e in
@@ -162,7 +162,7 @@ number-passed fault start test (Ok r) bytes x e =
 number-passed fault start test (Err f) bytes x e = cc
 
 -- at most 4,096 bytes behind their number
-counted-holds : (before bytes behind : List ℕ) (at : ℕ) (r whole : Result (Read ℕ) Fault)
+counted-holds : (before bytes behind : List ℕ) (at : ℕ) (r whole : Result (Read ℕ) ParseError)
     → ((x : Read ℕ) → r ≡ Ok x → x.value ≤ 4096) → Holds 2 before bytes behind at r whole
     → Holds 4098 before bytes behind at (continues r (λ n after. raw n bytes after)) (continues whole (λ n after. raw n (before ++ (bytes ++ behind)) after))
 counted-holds before bytes behind at (Ok r) whole small h =
@@ -197,26 +197,26 @@ pub step-leads : {X Y : Type 0} (most : ℕ) (unit : Reader X) (first second : R
     → ((whole : List ℕ) (from to : ℕ) → unit whole from ≡ Ok (record { value = x; after = to }) → first whole from ≡ second whole to)
     → Leads bytes first at second after × (after ≤ length bytes) × (after ≤ at + most)
 step-leads {X} most unit first second bytes at after x s inside e on =
-    let goes = λ (before behind : List ℕ). subst (λ (r : Result (Read X) Fault). Holds most before bytes behind at r (unit (before ++ (bytes ++ behind)) (length before + at))) e (s.holds before bytes behind at inside) in
+    let goes = λ (before behind : List ℕ). subst (λ (r : Result (Read X) ParseError). Holds most before bytes behind at r (unit (before ++ (bytes ++ behind)) (length before + at))) e (s.holds before bytes behind at inside) in
     (λ before behind. on _ _ _ (goes before behind).same, (goes [] []).within, (goes [] []).few)
 
 -- where a stream has a fault, and a whole that begins with it has the same, the bytes stop the whole with that fault
-pub step-stops : {X Y : Type 0} (most : ℕ) (unit : Reader X) (reader : Reader Y) (bytes : List ℕ) (at : ℕ) (fault : Fault)
+pub step-stops : {X Y : Type 0} (most : ℕ) (unit : Reader X) (reader : Reader Y) (bytes : List ℕ) (at : ℕ) (fault : ParseError)
     → Streams most unit → at ≤ length bytes → unit bytes at ≡ Err fault
-    → ((whole : List ℕ) (from : ℕ) (fault : Fault) → unit whole from ≡ Err fault → reader whole from ≡ Err fault)
+    → ((whole : List ℕ) (from : ℕ) (fault : ParseError) → unit whole from ≡ Err fault → reader whole from ≡ Err fault)
     → Stops bytes reader at fault
 step-stops {X} most unit reader bytes at fault s inside e on before behind =
-    let h = subst (λ (r : Result (Read X) Fault). Holds most before bytes behind at r (unit (before ++ (bytes ++ behind)) (length before + at))) e (s.holds before bytes behind at inside) in
+    let h = subst (λ (r : Result (Read X) ParseError). Holds most before bytes behind at r (unit (before ++ (bytes ++ behind)) (length before + at))) e (s.holds before bytes behind at inside) in
     record { within = h.within; short = h.short; same = λ k. on _ _ _ (h.same k) }
 
 -- where one reader leads to another, so does it with the same reader behind both
 pub Leads-read : {X Y : Type 0} (bytes : List ℕ) (first second : Reader X) (at after : ℕ) (next : X → Reader Y)
     → Leads bytes first at second after → Leads bytes (read first next) at (read second next) after
 Leads-read {X} bytes first second at after next l before behind =
-    ap (λ (r : Result (Read X) Fault). continues r (λ x end. next x (before ++ (bytes ++ behind)) end)) (l before behind)
+    ap (λ (r : Result (Read X) ParseError). continues r (λ x end. next x (before ++ (bytes ++ behind)) end)) (l before behind)
 
 -- where bytes stop the first of two readers, they stop both, with the same fault
-pub Stops-read : {X Y : Type 0} (bytes : List ℕ) (first : Reader X) (at : ℕ) (next : X → Reader Y) (fault : Fault)
+pub Stops-read : {X Y : Type 0} (bytes : List ℕ) (first : Reader X) (at : ℕ) (next : X → Reader Y) (fault : ParseError)
     → Stops bytes first at fault → Stops bytes (read first next) at fault
 Stops-read bytes first at next fault s before behind =
     let h = s before behind in

@@ -4,7 +4,7 @@ use Rattle.std.proofs.lemmas.Bool.{ne_eqb}
 use Rattle.std.proofs.lemmas.List.{take-append-drop, length-take-le}
 use Rattle.spec_log.specs.Log.{IsLog}
 use Rattle.spec_log.specs.declared.log.LogParts.{LogParts}
-use Rattle.spec_log.specs.Reading.{Fault, Read, fails, parts, read_of}
+use Rattle.spec_log.specs.Reading.{ParseError, Read, fails, parts, read_of}
 use Rattle.dl_logbytes.proofs.LogLaws.{parts-good}
 use Rattle.dl_logbytes.specs.declared.error.LogError.TheVariants.{Malformed}
 use Rattle.dl_logfmt.specs.declared.stage.Stage.{Stage}
@@ -13,7 +13,7 @@ use Rattle.dl_logfmt.specs.declared.draft.Draft.{Draft}
 use Rattle.dl_logfmt.specs.declared.refusal.Refusal.{Refusal}
 use Rattle.dl_logfmt.specs.Drafts.{Came, Feeds, blank, ended, said, said_at}
 use Rattle.dl_logfmt.specs.Feeding.{Feeding, FedTo, HasFed, Holding, Refused, fed}
-use Rattle.dl_logfmt.specs.Remaining.{log_of, remaining, rank}
+use Rattle.dl_logfmt.specs.Remaining.{log_of, remaining, stage_number}
 use Rattle.dl_logfmt.proofs.Feeding.Start.{parts-start}
 
 -- a reader with a blank draft and nothing pending holds no byte
@@ -180,7 +180,7 @@ held-short bytes r h more =
 pub held-whole : (bytes : List ℕ) (r : Feeding) → Holding bytes r → r.draft.head.stage ≡ Nothing → read_of bytes ≡ Ok (log_of r.draft)
 held-whole bytes r h is = h.now ∙ ap (λ (s : Stage). said_at s r.draft bytes) is
 
-read-whole : (bytes : List ℕ) (r : Result (Read LogParts) Fault) (log : LogParts)
+read-whole : (bytes : List ℕ) (r : Result (Read LogParts) ParseError) (log : LogParts)
     → ended bytes r ≡ Ok log → (x : Read LogParts) × (r ≡ Ok x) × (x.value ≡ log)
 read-whole bytes (Ok x) log e = (x, refl, value (nat_lt x.after (length bytes)) x.value log x.after e) where
   value : (b : Bool) (x y : LogParts) (after : ℕ) → (if b then fails 7 after else Ok x) ≡ Ok y → x ≡ y
@@ -194,23 +194,23 @@ held-good bytes r h are is =
     let w = read-whole bytes (parts bytes 0) (log_of r.draft) (held-whole bytes r h is) in
     subst IsLog w.2 (parts-good bytes w.0.value w.0.after are w.1)
 
-rank-most : (stage : Stage) → rank stage ≤ 13
-rank-most Mode = omega arith
-rank-most ChunkSize = omega arith
-rank-most Count = omega arith
-rank-most OrderCount = omega arith
-rank-most (Order n) = omega arith
-rank-most SizeCount = omega arith
-rank-most (SizesOf n) = omega arith
-rank-most InterruptCount = omega arith
-rank-most (Interrupts n) = omega arith
-rank-most InputCount = omega arith
-rank-most (Inputs n) = omega arith
-rank-most DmaCount = omega arith
-rank-most (Dmas n) = omega arith
-rank-most Nothing = omega arith
+stage_number-most : (stage : Stage) → stage_number stage ≤ 13
+stage_number-most Mode = omega arith
+stage_number-most ChunkSize = omega arith
+stage_number-most Count = omega arith
+stage_number-most OrderCount = omega arith
+stage_number-most (Order n) = omega arith
+stage_number-most SizeCount = omega arith
+stage_number-most (SizesOf n) = omega arith
+stage_number-most InterruptCount = omega arith
+stage_number-most (Interrupts n) = omega arith
+stage_number-most InputCount = omega arith
+stage_number-most (Inputs n) = omega arith
+stage_number-most DmaCount = omega arith
+stage_number-most (Dmas n) = omega arith
+stage_number-most Nothing = omega arith
 
 -- the offset from which a reader's bytes are pending is below 2^47
 pub start-low : (bytes : List ℕ) (r : Feeding) → Holding bytes r → r.start < 2 ^ 47
 start-low bytes r h =
-    omega (arith, h.low, h.few.order, h.few.each, h.few.short, h.few.interrupts, h.few.inputs, h.few.dmas, rank-most r.draft.head.stage)
+    omega (arith, h.low, h.few.order, h.few.each, h.few.short, h.few.interrupts, h.few.inputs, h.few.dmas, stage_number-most r.draft.head.stage)

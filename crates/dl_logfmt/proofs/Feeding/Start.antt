@@ -6,7 +6,7 @@ use Rattle.spec_log.specs.declared.mode_name.ModeName.{ModeName}
 use Rattle.spec_log.specs.declared.mode_name.ModeName.TheVariants.{OrderSize, OrderOnly, Picolog}
 use Rattle.spec_log.specs.declared.sizes.Sizes.{Sizes}
 use Rattle.spec_log.specs.declared.sizes.Sizes.TheVariants.{Each, Short}
-use Rattle.spec_log.specs.Reading.{Fault, Read, Reader, continues, read, gives, any, field, at_most, from_to, mode, ordered, actors, entries, section_of, order_of, sizes_of, interrupts_of, inputs_of, dmas_of, is_earlier, short_size, short_sizes, interrupt, input, dma, parts}
+use Rattle.spec_log.specs.Reading.{ParseError, Read, Reader, continues, read, gives, any, field, at_most, from_to, mode, ordered, actors, entries, section_of, order_of, sizes_of, interrupts_of, inputs_of, dmas_of, is_earlier, short_size, short_sizes, interrupt, input, dma, parts}
 use Rattle.dl_logfmt.specs.Drafts.{blank}
 use Rattle.dl_logfmt.specs.Remaining.{more, more_actors, more_sizes, sizes_in, size_count, remaining, from_chunk_size, from_count, from_order_count, from_size_count, from_interrupt_count}
 use Rattle.dl_logfmt.specs.declared.stage.Stage.TheVariants.{Mode}
@@ -15,7 +15,7 @@ use Rattle.dl_logfmt.specs.declared.draft.Draft.{Draft}
 abbrev Same : {X : Type 0} → Reader X → Reader X → Type 0
 Same first second = (bytes : List ℕ) (at : ℕ) → first bytes at ≡ second bytes at
 
-continues-same : {X Y : Type 0} (r : Result (Read X) Fault) (next other : X → ℕ → Result (Read Y) Fault)
+continues-same : {X Y : Type 0} (r : Result (Read X) ParseError) (next other : X → ℕ → Result (Read Y) ParseError)
     → ((x : X) (at : ℕ) → next x at ≡ other x at) → continues r next ≡ continues r other
 continues-same (Ok r) next other same = same r.value r.after
 continues-same (Err fault) next other same = refl
@@ -23,7 +23,7 @@ continues-same (Err fault) next other same = refl
 read-same : {X Y : Type 0} (first : Reader X) (next other : X → Reader Y) → ((x : X) → Same (next x) (other x)) → Same (read first next) (read first other)
 read-same first next other same bytes at = continues-same (first bytes at) (λ x. next x bytes) (λ x. other x bytes) (λ x a. same x bytes a)
 
-continues-then : {X Y Z : Type 0} (r : Result (Read X) Fault) (next : X → ℕ → Result (Read Y) Fault) (last : Y → ℕ → Result (Read Z) Fault)
+continues-then : {X Y Z : Type 0} (r : Result (Read X) ParseError) (next : X → ℕ → Result (Read Y) ParseError) (last : Y → ℕ → Result (Read Z) ParseError)
     → continues (continues r next) last ≡ continues r (λ x at. continues (next x at) last)
 continues-then (Ok r) next last = refl
 continues-then (Err fault) next last = refl
@@ -37,7 +37,7 @@ none-begun : {X Y : Type 0} (count : ℕ) (all : ℕ → Reader (List X)) (next 
 none-begun count all next bytes at =
     let less : count - 0 ≡ count = omega arith in
     rw less (made (all count bytes at) (λ y. next y bytes)) where
-      made : {X Y : Type 0} (r : Result (Read X) Fault) (next : X → ℕ → Result (Read Y) Fault) → continues r next ≡ continues (continues r (λ x. gives x [])) next
+      made : {X Y : Type 0} (r : Result (Read X) ParseError) (next : X → ℕ → Result (Read Y) ParseError) → continues r next ≡ continues (continues r (λ x. gives x [])) next
       made (Ok r) next = refl
       made (Err fault) next = refl
 

@@ -3,18 +3,18 @@ use Rattle.std.proofs.Common.{◌≡◌, ℕ, Option, Some, None, refl}
 use Rattle.dl_entry.specs.declared.Request.{Request}
 use Rattle.spec_isa.specs.declared.thread.Parts.{Parts}
 use Rattle.spec_kernel.specs.Devices.{Devices}
-use Rattle.spec_play.specs.Verdicts.{Verdict, Goes, Fails, serial_verdict}
+use Rattle.spec_play.specs.Verdicts.{LogVerdict, Goes, Fails, serial_verdict}
 use Rattle.spec_play.specs.Transfers.{DmaVerdict, DmaGoes, DmaFails, dma_verdict}
 use Rattle.spec_protocol.specs.Spheres.{Cursor, Role, Plain, Record, Replay, Sphere}
-use Rattle.spec_protocol.specs.Commits.{CommitOutcome, Granted, Piece, Diverged, Moved, by_verdict, serial_in, serial_moved, dma_by_verdict, live_dma, dma_in, dma_moved}
+use Rattle.spec_protocol.specs.Commits.{CommitOutcome, Granted, Piece, Diverged, MovedSphere, by_verdict, serial_in, serial_moved, dma_by_verdict, live_dma, dma_in, dma_moved}
 
 -- a move that diverges leaves the devices as they were
-abbrev pub IsApart : Devices → Moved → CommitOutcome → Type 0
+abbrev pub IsApart : Devices → MovedSphere → CommitOutcome → Type 0
 IsApart d v Granted = Unit {0}
 IsApart d v Piece = Unit {0}
 IsApart d v (Diverged i why) = v.devices ≡ d
 
-verdict_apart : (b : Cursor) (k : ℕ) (x : Verdict) (d : Devices) (p : Sphere) → let v = by_verdict b k x d p in IsApart d v v.outcome
+verdict_apart : (b : Cursor) (k : ℕ) (x : LogVerdict) (d : Devices) (p : Sphere) → let v = by_verdict b k x d p in IsApart d v v.outcome
 verdict_apart b k (Fails why) d p = refl
 verdict_apart b k (Goes e u) d p = tt
 
@@ -29,7 +29,7 @@ unfolding serial_moved
 serial_apart k moment t d p = serial_in_apart p.role k moment t d p
 
 -- a move, if there is one, leaves the devices as they were where it diverges
-abbrev pub AreApart : Devices → Option Moved → Type 0
+abbrev pub AreApart : Devices → Option MovedSphere → Type 0
 AreApart d None = Unit {0}
 AreApart d (Some v) = IsApart d v v.outcome
 

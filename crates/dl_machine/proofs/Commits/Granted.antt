@@ -14,7 +14,7 @@ use Rattle.spec_engine.specs.Signatures.{Marks, nothing, signed}
 use Rattle.spec_engine.specs.Chunks.{Chunk}
 use Rattle.spec_engine.specs.Flights.{Flights, at}
 use Rattle.spec_protocol.specs.Spheres.{Sphere}
-use Rattle.spec_protocol.specs.Commits.{CommitOutcome, Granted, Piece, Diverged, Moved, is_piece, chunk_moved, serial_moved}
+use Rattle.spec_protocol.specs.Commits.{CommitOutcome, Granted, Piece, Diverged, MovedSphere, is_piece, chunk_moved, serial_moved}
 use Rattle.spec_protocol.specs.World.{After, Held, World, OfChunk, OfSerial, moment, sphere_at, held_afresh, flown}
 use Rattle.spec_protocol.specs.Asking.{CommitRequest, is_short, granted, grant_chunk, grant_serial}
 use Rattle.dl_machine.specs.declared.one_core.Held.{Held as Seen}
@@ -104,7 +104,7 @@ chunk_asked w held how ch =
     }
 
 -- what a granted chunk makes of its sphere
-abbrev pub moved_by : World → Seen → How → Chunk → Moved
+abbrev pub moved_by : World → Seen → How → Chunk → MovedSphere
 moved_by w held how ch =
     chunk_moved held.thread (is_piece how) (is_short w.numbers.chunk how ch.limit) ch.done w.devices (sphere_at w held.sphere)
 
@@ -113,13 +113,13 @@ unfolding grant_chunk
 chunk_is w c h how = refl
 
 -- a chunk's request comes to what the move of its sphere makes of the world
-pub chunk_after : (w : World) (c : ℕ) (how : How) (o : Option Held) (held : Seen) (ch : Chunk) (marks : Marks) (v : Moved) → option_map seen o ≡ Some held → Some ch ≡ option_map chunk_of o → marks ≡ writes_in w.numbers.signature o → v ≡ moved_by w held how ch
+pub chunk_after : (w : World) (c : ℕ) (how : How) (o : Option Held) (held : Seen) (ch : Chunk) (marks : Marks) (v : MovedSphere) → option_map seen o ≡ Some held → Some ch ≡ option_map chunk_of o → marks ≡ writes_in w.numbers.signature o → v ≡ moved_by w held how ch
     → Some (granted w c (chunk_asked w held how ch) marks v v.outcome) ≡ option_map (λ h. grant_chunk w c h how) o
 chunk_after w c how None held ch marks v eh ec em ev = absurd (none-some held eh)
 chunk_after w c how (Some h) held ch marks v eh ec em ev =
     let seen_ : held ≡ seen h = sym (same_Some _ _ eh) in
     let same : ch ≡ h.chunk = same_Some _ _ ec in
-    ap (λ (u : Moved). Some (granted w c (chunk_asked w held how ch) marks u u.outcome)) ev
+    ap (λ (u : MovedSphere). Some (granted w c (chunk_asked w held how ch) marks u u.outcome)) ev
     ∙ ap (λ (m : Marks). Some (let u = moved_by w held how ch in granted w c (chunk_asked w held how ch) m u u.outcome)) em
     ∙ ap (λ (d : Chunk). Some (let u = moved_by w held how d in granted w c (chunk_asked w held how d) h.chunk.writes u u.outcome)) same
     ∙ ap (λ (s : Seen). Some (let u = moved_by w s how h.chunk in granted w c (chunk_asked w s how h.chunk) h.chunk.writes u u.outcome)) seen_
@@ -142,11 +142,11 @@ serial_is : (w : World) (c : ℕ) (h : Held) → grant_serial w c h ≡ (let v =
 unfolding grant_serial
 serial_is w c h = refl
 
-abbrev pub serial_after_of : World → (core : ℕ) → Seen → Moved → After
+abbrev pub serial_after_of : World → (core : ℕ) → Seen → MovedSphere → After
 serial_after_of w c held v = granted w c (serial_asked held) (signed held.sphere v.words (nothing w.numbers.signature)) v v.outcome
 
 -- a serial step's request comes to what the move of its sphere makes of the world
-pub serial_after : (w : World) (c : ℕ) (o : Option Held) (held : Seen) (v : Moved) → IsReady w → at w.cores c ≡ o → option_map seen o ≡ Some held
+pub serial_after : (w : World) (c : ℕ) (o : Option Held) (held : Seen) (v : MovedSphere) → IsReady w → at w.cores c ≡ o → option_map seen o ≡ Some held
     → ((t : Parts) → slice_get (sphere_at w held.sphere).threads held.thread ≡ Some t → v ≡ serial_moved held.thread (moment w % 2 ^ 32) t w.devices (sphere_at w held.sphere))
     → Some (serial_after_of w c held v) ≡ option_map (grant_serial w c) o
 serial_after w c None held v ready eo eh ev = absurd (none-some held eh)
@@ -157,11 +157,11 @@ serial_after w c (Some h) held v ready eo eh ev =
     in
     let whole : v ≡ serial_moved h.thread (moment w) h.chunk.start w.devices (sphere_at w h.chunk.sphere) = moved ∙ serial_cut h.thread (moment w) h.chunk.start w.devices (sphere_at w h.chunk.sphere) in
     ap (λ (s : Seen). Some (serial_after_of w c s v)) seen_
-    ∙ ap (λ (u : Moved). Some (serial_after_of w c (seen h) u)) whole
+    ∙ ap (λ (u : MovedSphere). Some (serial_after_of w c (seen h) u)) whole
     ∙ ap (λ (a : After). Some a) (sym (serial_is w c h))
 
 -- where a serial step diverges, the devices stay as they are
-pub serial_still : (w : World) (c : ℕ) (o : Option Held) (held : Seen) (v : Moved) → IsReady w → at w.cores c ≡ o → option_map seen o ≡ Some held
+pub serial_still : (w : World) (c : ℕ) (o : Option Held) (held : Seen) (v : MovedSphere) → IsReady w → at w.cores c ≡ o → option_map seen o ≡ Some held
     → ((t : Parts) → slice_get (sphere_at w held.sphere).threads held.thread ≡ Some t → v ≡ serial_moved held.thread (moment w % 2 ^ 32) t w.devices (sphere_at w held.sphere))
     → IsApart w.devices v v.outcome
 serial_still w c None held v ready eo eh ev = absurd (none-some held eh)
@@ -170,11 +170,11 @@ serial_still w c (Some h) held v ready eo eh ev =
     let moved : v ≡ serial_moved h.thread (moment w % 2 ^ 32) h.chunk.start w.devices (sphere_at w h.chunk.sphere) =
     subst (λ (s : Seen). (t : Parts) → slice_get (sphere_at w s.sphere).threads s.thread ≡ Some t → v ≡ serial_moved s.thread (moment w % 2 ^ 32) t w.devices (sphere_at w s.sphere)) seen_ ev h.chunk.start (ready.good.held c h eo).start
     in
-    subst (λ (u : Moved). IsApart w.devices u u.outcome) (sym moved) (serial_apart h.thread (moment w % 2 ^ 32) h.chunk.start w.devices (sphere_at w h.chunk.sphere))
+    subst (λ (u : MovedSphere). IsApart w.devices u u.outcome) (sym moved) (serial_apart h.thread (moment w % 2 ^ 32) h.chunk.start w.devices (sphere_at w h.chunk.sphere))
 
 -- ---- what passes every check
 
-granted_passes : (w : World) (c : ℕ) (q : CommitRequest) (marks : Marks) (v : Moved) (o : CommitOutcome) → passes (granted w c q marks v o).reply ≡ true
+granted_passes : (w : World) (c : ℕ) (q : CommitRequest) (marks : Marks) (v : MovedSphere) (o : CommitOutcome) → passes (granted w c q marks v o).reply ≡ true
 granted_passes w c q marks v Granted = refl
 granted_passes w c q marks v Piece = refl
 granted_passes w c q marks v (Diverged i why) = refl

@@ -7,7 +7,7 @@ use Rattle.spec_engine.specs.Flights.{AreOfSize}
 use Rattle.spec_engine.specs.Signatures.{Marks, nothing, signed}
 use Rattle.spec_protocol.specs.Spheres.{Role, Plain, Record, Replay, Sphere}
 use Rattle.spec_protocol.specs.Placing.{replays}
-use Rattle.spec_protocol.specs.Commits.{CommitOutcome, Moved, live_dma, dma_in, dma_moved}
+use Rattle.spec_protocol.specs.Commits.{CommitOutcome, MovedSphere, live_dma, dma_in, dma_moved}
 use Rattle.spec_protocol.specs.World.{World}
 use Rattle.spec_protocol.proofs.Memory.Covering.{bits-signed}
 use Rattle.dl_machine.specs.Ready.{IsReady}
@@ -29,9 +29,9 @@ unfolding dma_moved
 no_dma d p e none = none_in p.role d p e none
 
 -- a DMA that comes to an outcome has it as its answer
-pub comes_to : (o : CommitOutcome) (m : Option Moved) (v : Moved) → ComesTo o m → m ≡ Some v → v.outcome ≡ o
+pub comes_to : (o : CommitOutcome) (m : Option MovedSphere) (v : MovedSphere) → ComesTo o m → m ≡ Some v → v.outcome ≡ o
 comes_to o None v c e = absurd c
-comes_to o (Some u) v c e = let same : u ≡ v = cc in ap (λ (x : Moved). x.outcome) (sym same) ∙ c
+comes_to o (Some u) v c e = let same : u ≡ v = cc in ap (λ (x : MovedSphere). x.outcome) (sym same) ∙ c
 
 -- a signature of words has the size of those of the flights
 pub marks_fit : (w : World) (i : ℕ) (words : List Stored) (marks empty : Marks) → IsReady w → marks ≡ signed i words empty → empty ≡ nothing w.numbers.signature → AreOfSize marks.bits w.slots

@@ -7,7 +7,7 @@ use Rattle.spec_protocol.specs.declared.reply.Reply.{Reply}
 use Rattle.spec_protocol.specs.World.{World}
 use Rattle.spec_protocol.specs.Machine.{act, happens, name_of}
 use Rattle.spec_protocol.proofs.Points.Counts.{act-untold}
-use Rattle.spec_protocol.proofs.Invariants.Schedules.{happens-kept}
+use Rattle.spec_protocol.proofs.Invariants.Schedules.{happens-preserved}
 use Rattle.spec_protocol.proofs.Sound.Schedules.{happens-sound}
 use Rattle.dl_machine.specs.Ready.{IsReady}
 use Rattle.dl_machine.specs.States.{left}
@@ -44,6 +44,6 @@ ready_after w e ready =
     record {
       setup = ready.setup;
       limits = ready.limits;
-      good = (happens-kept w e ready.good).good;
+      good = (happens-preserved w e ready.good).good;
       sound = happens-sound ready.setup w e ready.limits ready.good ready.sound;
     }

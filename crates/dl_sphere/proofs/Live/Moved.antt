@@ -8,30 +8,30 @@ use Rattle.spec_kernel.specs.Devices.{Devices}
 use Rattle.spec_kernel.specs.Needs.{need}
 use Rattle.spec_kernel.specs.Answers.{Taken, taken, dma_bytes, dma_taken}
 use Rattle.spec_kernel.specs.Copies.{dma_words}
-use Rattle.spec_kernel.specs.Serving.{Served, serve, console_told}
+use Rattle.spec_kernel.specs.Serving.{StepResult, serve, console_written}
 use Rattle.spec_play.specs.Effects.{counted, dma_commit, serial_commit}
 use Rattle.spec_play.specs.Recording.{noted, input_noted}
 use Rattle.spec_protocol.specs.Spheres as protocol
-use Rattle.spec_protocol.specs.Commits.{Granted, Moved, dma_moved, serial_moved}
+use Rattle.spec_protocol.specs.Commits.{Granted, MovedSphere, dma_moved, serial_moved}
 use Rattle.spec_protocol.proofs.Logs.Growing.{commits_if}
 use Rattle.dl_sphere.specs.Inside.{sphere_with}
 use Rattle.spec_play.specs.Noted.{as_log}
-use Rattle.dl_sphere.specs.Roles.{Keeping, Plain, Recording, Replaying, role_of, with_noted, AreKept, IsLive}
+use Rattle.dl_sphere.specs.Roles.{Keeping, Plain, Recording, Replaying, role_of, with_noted, IsKeepingOf, IsLive}
 use Rattle.dl_sphere.proofs.Standing.Moves.{log_with, transferred_role}
 
 -- the step of thread k, which is t, with what was taken and done
-abbrev pub moved_by : List ℕ → List Parts → List Commit → (k : ℕ) → Parts → Taken → Served → protocol.Role → Moved
+abbrev pub moved_by : List ℕ → List Parts → List Commit → (k : ℕ) → Parts → Taken → StepResult → protocol.Role → MovedSphere
 moved_by m ts cs k t g v role =
     record {
       outcome = Granted;
       sphere = sphere_with m (set ts k (counted v.thread) ++ v.made) (cs ++ serial_commit k v.loads v.outputs ∷ []) (Some k) v.request role;
       words = v.words;
-      devices = console_told t m v.outputs g.devices;
+      devices = console_written t m v.outputs g.devices;
     }
 
 -- a serial step of a plain or recorded sphere moves it as the definitions do
 pub step_is_moved : (s : ℕ) (x : Keeping) (m : List ℕ) (ts : List Parts) (cs : List Commit) (last : Option ℕ) (q : Option Request) (k moment : ℕ) (t : Parts) (d : Devices)
-    → IsLive x → slice_get ts k ≡ Some t → AreKept s (sphere_with m ts cs last q (role_of x)) x →
+    → IsLive x → slice_get ts k ≡ Some t → IsKeepingOf s (sphere_with m ts cs last q (role_of x)) x →
     let g = taken (need t m) d moment in
     let v = serve k ts q t m g.input in
     moved_by m ts cs k t g v (role_of (with_noted (serial_commit k v.loads v.outputs) false g.input None x)) ≡ serial_moved k moment t d (sphere_with m ts cs last q (role_of x))
@@ -55,7 +55,7 @@ none_moved (Replaying r loads) m ts cs last d live = absurd live
 
 -- a DMA of a plain or recorded sphere moves it as the definitions do
 pub dma_is_moved : (s : ℕ) (x : Keeping) (m : List ℕ) (ts : List Parts) (cs : List Commit) (last : Option ℕ) (request : Request) (d : Devices)
-    → IsLive x → AreKept s (sphere_with m ts cs last (Some request) (role_of x)) x
+    → IsLive x → IsKeepingOf s (sphere_with m ts cs last (Some request) (role_of x)) x
     → dma_moved d (sphere_with m ts cs last (Some request) (role_of x))
     ≡ Some (record {
       outcome = Granted;
@@ -67,7 +67,7 @@ unfolding dma_moved
 dma_is_moved s Plain m ts cs last request d live h = refl
 dma_is_moved s (Replaying r loads) m ts cs last request d live h = absurd live
 dma_is_moved s (Recording r) m ts cs last request d live h =
-    let moved : protocol.Role → Option Moved = λ role. Some (record {
+    let moved : protocol.Role → Option MovedSphere = λ role. Some (record {
       outcome = Granted;
       sphere = sphere_with m ts (cs ++ dma_commit ∷ []) last None role;
       words = dma_words request (dma_bytes d request);

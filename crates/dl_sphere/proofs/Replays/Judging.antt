@@ -16,11 +16,11 @@ use Rattle.spec_play.specs.Effects.{Effect, chunk_commit, chunk_effect, serial_c
 use Rattle.spec_kernel.specs.Serving.{serve}
 use Rattle.spec_play.specs.Progress.{Progress, Used, with_interrupt}
 use Rattle.spec_play.specs.Transfers.{DmaVerdict, DmaGoes, DmaFails}
-use Rattle.spec_play.specs.Verdicts.{Verdict, Goes, Fails, Given, with_interrupted, interrupt_at, chunk_verdict, unless, served_verdict, serial_verdict}
+use Rattle.spec_play.specs.Verdicts.{LogVerdict, Goes, Fails, Given, with_interrupted, interrupt_at, chunk_verdict, unless, served_verdict, serial_verdict}
 use Rattle.dl_wbuf.specs.Buffers.{Words}
-use Rattle.dl_kernel.specs.declared.serving.Served.{Served as Left}
+use Rattle.dl_kernel.specs.declared.serving.StepResult.{StepResult}
 use Rattle.dl_replay.specs.declared.served.Served.{Served}
-use Rattle.dl_replay.specs.declared.asking.Verdict.{Verdict as Answer}
+use Rattle.dl_replay.specs.declared.asking.Verdict.{Verdict}
 use Rattle.dl_replay.specs.Judged as replay
 use Rattle.dl_replay.specs.Judged.{chunk_judged, serial_judged, dma_judged, committed, diverged, transferred}
 use Rattle.dl_replay.specs.Left.{nothing_served, served_left, served_stored}
@@ -29,11 +29,11 @@ use Rattle.dl_sphere.specs.Judging.{judged_by, dma_judged_by}
 
 -- ---- the commit of a verdict
 
-goes : Verdict → Bool
+goes : LogVerdict → Bool
 goes (Goes e u) = true
 goes (Fails why) = false
 
-effect_of : Effect → Verdict → Effect
+effect_of : Effect → LogVerdict → Effect
 effect_of d (Goes e u) = e
 effect_of d (Fails why) = d
 
@@ -57,7 +57,7 @@ words-keep (Some value) e u f w is =
       | false ↦ λ h. absurd (true≢false (sym (ap goes h)))
     ]) is
 
-unless-keeps : (o : Option Why) (v : Verdict) (f : Effect) (w : Used) → unless o v ≡ Goes f w → v ≡ Goes f w
+unless-keeps : (o : Option Why) (v : LogVerdict) (f : Effect) (w : Used) → unless o v ≡ Goes f w → v ≡ Goes f w
 unfolding goes
 unless-keeps None v f w is = is
 unless-keeps (Some why) v f w is = absurd (true≢false (sym (ap goes is)))
@@ -93,19 +93,19 @@ serial_commits log p u k ts t m f w is = served-commits log p k ts t m _ f w (un
 
 -- ---- answers
 
-went : Answer → Bool
-went Answer.Went = true
-went (Answer.Diverged why) = false
+went : Verdict → Bool
+went Verdict.Went = true
+went (Verdict.Diverged why) = false
 
-why_in : Why → Answer → Why
-why_in d Answer.Went = d
-why_in d (Answer.Diverged why) = why
+why_in : Why → Verdict → Why
+why_in d Verdict.Went = d
+why_in d (Verdict.Diverged why) = why
 
 -- a chunk of which the replayer answers that it went is judged so
-pub chunk_went : (r : Replaying) (p : Progress) (k : ℕ) (before mid : List Parts) (request : Option Request) (served : Served) (v : Verdict) (cs : List Commit) (loads : List Load) (c : Commit)
+pub chunk_went : (r : Replaying) (p : Progress) (k : ℕ) (before mid : List Parts) (request : Option Request) (served : Served) (v : LogVerdict) (cs : List Commit) (loads : List Load) (c : Commit)
     (new : Replaying) (ts : List Parts) (q : Option Request) (s : Served)
     → ((f : Effect) (w : Used) → v ≡ Goes f w → f.commit ≡ c)
-    → record { verdict = Answer.Went; replay = new; threads = ts; request = q; served = s } ≡ chunk_judged r p k before mid request served v
+    → record { verdict = Verdict.Went; replay = new; threads = ts; request = q; served = s } ≡ chunk_judged r p k before mid request served v
     → record { why = None; replay = new; loads = []; threads = ts; request = q; commits = cs ++ c ∷ []; words = [] }
     ≡ record (judged_by p k (record { replay = r; loads = loads; threads = before; request = request; commits = cs }) v) { words = [] }
 unfolding went
@@ -123,9 +123,9 @@ chunk_went r p k before mid request served (Goes e u) cs loads c new ts q s comm
     }
 
 -- a chunk of which the replayer answers that it diverges is judged so
-pub chunk_left : (r : Replaying) (p : Progress) (k : ℕ) (before mid : List Parts) (request : Option Request) (served : Served) (v : Verdict) (cs : List Commit) (loads : List Load) (why : Why)
+pub chunk_left : (r : Replaying) (p : Progress) (k : ℕ) (before mid : List Parts) (request : Option Request) (served : Served) (v : LogVerdict) (cs : List Commit) (loads : List Load) (why : Why)
     (new : Replaying) (ts : List Parts) (q : Option Request) (s : Served)
-    → record { verdict = Answer.Diverged why; replay = new; threads = ts; request = q; served = s } ≡ chunk_judged r p k before mid request served v
+    → record { verdict = Verdict.Diverged why; replay = new; threads = ts; request = q; served = s } ≡ chunk_judged r p k before mid request served v
     → record { why = Some why; replay = new; loads = loads; threads = before; request = q; commits = cs; words = [] }
     ≡ record (judged_by p k (record { replay = r; loads = loads; threads = before; request = request; commits = cs }) v) { words = [] }
 unfolding went why_in
@@ -143,10 +143,10 @@ chunk_left r p k before mid request served (Fails because) cs loads why new ts q
     }
 
 -- a serial step of which the replayer answers that it went is judged so
-pub step_went : (r : Replaying) (p : Progress) (k : ℕ) (before : List Parts) (request : Option Request) (v : Verdict) (cs : List Commit) (loads : List Load) (left : Left)
+pub step_went : (r : Replaying) (p : Progress) (k : ℕ) (before : List Parts) (request : Option Request) (v : LogVerdict) (cs : List Commit) (loads : List Load) (left : StepResult)
     (new : Replaying) (ts : List Parts) (q : Option Request)
     → ((f : Effect) (w : Used) → v ≡ Goes f w → f.commit ≡ serial_commit k f.commit.loads f.commit.outputs)
-    → record { verdict = Answer.Went; replay = new; threads = ts; request = q; served = served_left (Ok left) } ≡ serial_judged r p k before request nothing_served v
+    → record { verdict = Verdict.Went; replay = new; threads = ts; request = q; served = served_left (Ok left) } ≡ serial_judged r p k before request nothing_served v
     → record { why = None; replay = new; loads = []; threads = ts; request = q; commits = cs ++ serial_commit k left.loads left.outputs ∷ []; words = left.words.words }
     ≡ judged_by p k (record { replay = r; loads = loads; threads = before; request = request; commits = cs }) v
 unfolding went
@@ -165,9 +165,9 @@ step_went r p k before request (Goes e u) cs loads left new ts q commit is =
       words = (is i).served.words;
     }
 
-pub step_left : (r : Replaying) (p : Progress) (k : ℕ) (before : List Parts) (request : Option Request) (v : Verdict) (cs : List Commit) (loads : List Load) (why : Why)
+pub step_left : (r : Replaying) (p : Progress) (k : ℕ) (before : List Parts) (request : Option Request) (v : LogVerdict) (cs : List Commit) (loads : List Load) (why : Why)
     (new : Replaying) (ts : List Parts) (q : Option Request)
-    → record { verdict = Answer.Diverged why; replay = new; threads = ts; request = q; served = nothing_served } ≡ serial_judged r p k before request nothing_served v
+    → record { verdict = Verdict.Diverged why; replay = new; threads = ts; request = q; served = nothing_served } ≡ serial_judged r p k before request nothing_served v
     → record { why = Some why; replay = new; loads = loads; threads = ts; request = q; commits = cs; words = [] }
     ≡ judged_by p k (record { replay = r; loads = loads; threads = before; request = request; commits = cs }) v
 unfolding went why_in
@@ -187,7 +187,7 @@ step_left r p k before request (Fails because) cs loads why new ts q is =
 -- a DMA
 pub dma_went : (r : Replaying) (p : Progress) (before : List Parts) (request : Option Request) (v : DmaVerdict) (cs : List Commit) (loads : List Load) (words : Words)
     (new : Replaying) (q : Option Request)
-    → record { verdict = Answer.Went; replay = new; threads = before; request = q; served = served_stored (Ok words) } ≡ dma_judged r p before request nothing_served v
+    → record { verdict = Verdict.Went; replay = new; threads = before; request = q; served = served_stored (Ok words) } ≡ dma_judged r p before request nothing_served v
     → record { why = None; replay = new; loads = []; threads = before; request = q; commits = cs ++ dma_commit ∷ []; words = words.words }
     ≡ dma_judged_by p (record { replay = r; loads = loads; threads = before; request = request; commits = cs }) v
 unfolding went
@@ -205,7 +205,7 @@ dma_went r p before request (DmaGoes ws) cs loads words new q is =
 
 pub dma_left : (r : Replaying) (p : Progress) (before : List Parts) (request : Option Request) (v : DmaVerdict) (cs : List Commit) (loads : List Load) (why : Why)
     (new : Replaying) (q : Option Request)
-    → record { verdict = Answer.Diverged why; replay = new; threads = before; request = q; served = nothing_served } ≡ dma_judged r p before request nothing_served v
+    → record { verdict = Verdict.Diverged why; replay = new; threads = before; request = q; served = nothing_served } ≡ dma_judged r p before request nothing_served v
     → record { why = Some why; replay = new; loads = loads; threads = before; request = q; commits = cs; words = [] }
     ≡ dma_judged_by p (record { replay = r; loads = loads; threads = before; request = request; commits = cs }) v
 unfolding went why_in

@@ -10,19 +10,19 @@ use Rattle.spec_protocol.specs.Placing.{replays}
 use Rattle.spec_protocol.specs.Spheres.{Cursor, Replay, Sphere, limit_in, limit_of, whole_limit}
 use Rattle.spec_protocol.proofs.Sound.Limits.{whole-most}
 use Rattle.dl_sphere.specs.Inside.{sphere_in}
-use Rattle.dl_sphere.specs.Roles.{role_of, keeping_of, Keeping, Plain, Recording, Replaying as Replays, HasFew, AreKept, IsLive, IsReplayed, IsStanding}
+use Rattle.dl_sphere.specs.Roles.{role_of, keeping_of, Keeping, Plain, Recording, Replaying as Replays, HasFew, IsKeepingOf, IsLive, IsReplayed, IsSphere}
 use Rattle.dl_sphere.specs.declared.part.Part.{Part}
 use Rattle.dl_sphere.specs.declared.part.Replay.{Replay as Replaying}
 use Rattle.dl_sphere.specs.declared.sphere.Sphere.TheInside.{Inside}
 
 -- a replayed sphere that stands is as far in its log as its player
-pub replayed : (a : Inside) (r : Replaying) → a.part ≡ Part.Replayed r → IsStanding a.standard (sphere_in a) (keeping_of a.part) → IsReplayed (sphere_in a) r.player
-replayed a r is h = subst (λ (part : Part). AreKept a.standard (sphere_in a) (keeping_of part)) is h.kept
+pub replayed : (a : Inside) (r : Replaying) → a.part ≡ Part.Replayed r → IsSphere a.standard (sphere_in a) (keeping_of a.part) → IsReplayed (sphere_in a) r.player
+replayed a r is h = subst (λ (part : Part). IsKeepingOf a.standard (sphere_in a) (keeping_of part)) is h.kept
 
 -- a replayed sphere stands with its player and its loads
-pub stands_replayed : (a : Inside) (r : Replaying) → a.part ≡ Part.Replayed r → IsStanding a.standard (sphere_in a) (keeping_of a.part)
-    → IsStanding a.standard (sphere_in a) (Replays r.player r.loads.items)
-stands_replayed a r is h = subst (λ (part : Part). IsStanding a.standard (sphere_in a) (keeping_of part)) is h
+pub stands_replayed : (a : Inside) (r : Replaying) → a.part ≡ Part.Replayed r → IsSphere a.standard (sphere_in a) (keeping_of a.part)
+    → IsSphere a.standard (sphere_in a) (Replays r.player r.loads.items)
+stands_replayed a r is h = subst (λ (part : Part). IsSphere a.standard (sphere_in a) (keeping_of part)) is h
 
 -- a part that isn't a replayed one is live
 pub live_part : (part : Part) → ((r : Replaying) → part ≡ Part.Replayed r → ⊥) → IsLive (keeping_of part)
@@ -37,7 +37,7 @@ live_role (Recording r) other = tt
 live_role (Replays r loads) other = absurd (true≢false other)
 
 -- no thread of a sphere that isn't replayed has more commits than the sphere
-pub few_live : (s : ℕ) (p : Sphere) (x : Keeping) → IsLive x → AreKept s p x → HasFew p
+pub few_live : (s : ℕ) (p : Sphere) (x : Keeping) → IsLive x → IsKeepingOf s p x → HasFew p
 few_live s p Plain live h = h
 few_live s p (Recording r) live h = h.few
 few_live s p (Replays r loads) live h = absurd live

@@ -14,16 +14,16 @@ use Rattle.spec_play.specs.Effects.{Effect, dma_commit}
 use Rattle.spec_play.specs.Progress.{Progress, Used}
 use Rattle.spec_play.specs.Transfers.{DmaVerdict, DmaGoes, DmaFails}
 use Rattle.spec_play.specs.Turns.{Over}
-use Rattle.spec_play.specs.Verdicts.{Verdict, Goes, Fails}
+use Rattle.spec_play.specs.Verdicts.{LogVerdict, Goes, Fails}
 use Rattle.spec_protocol.specs.Commits as commits
-use Rattle.spec_protocol.specs.Commits.{Moved, by_verdict, dma_by_verdict}
+use Rattle.spec_protocol.specs.Commits.{MovedSphere, by_verdict, dma_by_verdict}
 use Rattle.spec_protocol.specs.Spheres.{Replay, Role}
 use Rattle.spec_protocol.proofs.Logs.Growing.{pushed_length}
 use Rattle.dl_replay.specs.Replaying.{Replaying, commits_of, cursor_of}
 use Rattle.dl_sphere.specs.Inside.{sphere_with}
-use Rattle.dl_sphere.specs.Judging.{Judged, Before, judged_by, dma_judged_by}
+use Rattle.dl_sphere.specs.Judging.{JudgedSphere, Before, judged_by, dma_judged_by}
 use Rattle.dl_sphere.specs.Roles as roles
-use Rattle.dl_sphere.specs.Roles.{IsReplayed, IsStanding}
+use Rattle.dl_sphere.specs.Roles.{IsReplayed, IsSphere}
 
 -- whether it went on
 went : Option Why → Bool
@@ -40,7 +40,7 @@ progress_of cs last q = record { commits = cs; last = last; request = q }
 -- ---- commits of threads
 
 -- a judged commit that goes on moves the sphere as its verdict says
-pub granted : (m : List ℕ) (ts : List Parts) (cs : List Commit) (last : Option ℕ) (rq : Option Request) (r : Replaying) (loads : List Load) (k : ℕ) (v : Verdict) (d : Devices)
+pub granted : (m : List ℕ) (ts : List Parts) (cs : List Commit) (last : Option ℕ) (rq : Option Request) (r : Replaying) (loads : List Load) (k : ℕ) (v : LogVerdict) (d : Devices)
     (new : Replaying) (ls : List Load) (us : List Parts) (q : Option Request) (ds : List Commit) (ws : List Stored)
     → ((e : Effect) (u : Used) → v ≡ Goes e u → e.words ≡ ws)
     → record { why = None; replay = new; loads = ls; threads = us; request = q; commits = ds; words = [] }
@@ -48,7 +48,7 @@ pub granted : (m : List ℕ) (ts : List Parts) (cs : List Commit) (last : Option
     → record { outcome = commits.Granted; sphere = sphere_with m us ds (Some k) q (Replay (cursor_of new ls)); words = ws; devices = d }
     ≡ by_verdict (cursor_of r loads) k v d (sphere_with m ts cs last rq (Replay (cursor_of r loads)))
 unfolding went
-granted m ts cs last rq r loads k (Fails why) d new ls us q ds ws words is = absurd (true≢false (ap (λ (j : Judged). went j.why) is))
+granted m ts cs last rq r loads k (Fails why) d new ls us q ds ws words is = absurd (true≢false (ap (λ (j : JudgedSphere). went j.why) is))
 granted m ts cs last rq r loads k (Goes e u) d new ls us q ds ws words is =
     λ i. record {
       outcome = commits.Granted;
@@ -58,7 +58,7 @@ granted m ts cs last rq r loads k (Goes e u) d new ls us q ds ws words is =
     }
 
 -- a judged commit that diverges moves the sphere as its verdict says
-pub left : (m : List ℕ) (ts : List Parts) (cs : List Commit) (last : Option ℕ) (rq : Option Request) (r : Replaying) (loads : List Load) (k : ℕ) (v : Verdict) (d : Devices)
+pub left : (m : List ℕ) (ts : List Parts) (cs : List Commit) (last : Option ℕ) (rq : Option Request) (r : Replaying) (loads : List Load) (k : ℕ) (v : LogVerdict) (d : Devices)
     (why : Why) (new : Replaying) (ls : List Load) (us : List Parts) (q : Option Request) (ds : List Commit)
     → length cs ≡ r.done
     → record { why = Some why; replay = new; loads = ls; threads = us; request = q; commits = ds; words = [] }
@@ -66,9 +66,9 @@ pub left : (m : List ℕ) (ts : List Parts) (cs : List Commit) (last : Option �
     → record { outcome = commits.Diverged (length ds) why; sphere = sphere_with m us ds last q (Replay (cursor_of new ls)); words = []; devices = d }
     ≡ by_verdict (cursor_of r loads) k v d (sphere_with m ts cs last rq (Replay (cursor_of r loads)))
 unfolding went why_in
-left m ts cs last rq r loads k (Goes e u) d why new ls us q ds done is = absurd (true≢false (sym (ap (λ (j : Judged). went j.why) is)))
+left m ts cs last rq r loads k (Goes e u) d why new ls us q ds done is = absurd (true≢false (sym (ap (λ (j : JudgedSphere). went j.why) is)))
 left m ts cs last rq r loads k (Fails because) d why new ls us q ds done is =
-    let same : why ≡ because = ap (λ (j : Judged). why_in why j.why) is in
+    let same : why ≡ because = ap (λ (j : JudgedSphere). why_in why j.why) is in
     (λ i. record {
       outcome = commits.Diverged (length (is i).commits) (same i);
       sphere = sphere_with m (is i).threads (is i).commits last (is i).request (Replay (cursor_of (is i).replay (is i).loads));
@@ -83,69 +83,69 @@ left m ts cs last rq r loads k (Fails because) d why new ls us q ds done is =
     }) (sym done)
 
 -- the words of a commit that went on are those to fly
-pub goes_words : (p : Progress) (k : ℕ) (b : Before) (v : Verdict) (j : Judged) (e : Effect) (u : Used) → j ≡ judged_by p k b v → v ≡ Goes e u → e.words ≡ j.words
-goes_words p k b v j e u is goes = sym (ap (λ (x : Judged). x.words) is ∙ ap (λ (x : Verdict). (judged_by p k b x).words) goes)
+pub goes_words : (p : Progress) (k : ℕ) (b : Before) (v : LogVerdict) (j : JudgedSphere) (e : Effect) (u : Used) → j ≡ judged_by p k b v → v ≡ Goes e u → e.words ≡ j.words
+goes_words p k b v j e u is goes = sym (ap (λ (x : JudgedSphere). x.words) is ∙ ap (λ (x : LogVerdict). (judged_by p k b x).words) goes)
 
 -- where the replay leaves its log, no commit is added
-pub left_commits : (p : Progress) (k : ℕ) (b : Before) (v : Verdict) (why : Why) (new : Replaying) (ls : List Load) (us : List Parts) (q : Option Request) (ds : List Commit)
+pub left_commits : (p : Progress) (k : ℕ) (b : Before) (v : LogVerdict) (why : Why) (new : Replaying) (ls : List Load) (us : List Parts) (q : Option Request) (ds : List Commit)
     → record { why = Some why; replay = new; loads = ls; threads = us; request = q; commits = ds; words = [] } ≡ record (judged_by p k b v) { words = [] }
     → length ds ≡ length b.commits
 unfolding went
-left_commits p k b (Goes e u) why new ls us q ds is = absurd (true≢false (sym (ap (λ (j : Judged). went j.why) is)))
-left_commits p k b (Fails because) why new ls us q ds is = ap (λ (j : Judged). length j.commits) is
+left_commits p k b (Goes e u) why new ls us q ds is = absurd (true≢false (sym (ap (λ (j : JudgedSphere). went j.why) is)))
+left_commits p k b (Fails because) why new ls us q ds is = ap (λ (j : JudgedSphere). length j.commits) is
 
 -- a DMA that diverges leaves the commits as they were
 pub dma_left_commits : (p : Progress) (b : Before) (v : DmaVerdict) (why : Why) (new : Replaying) (ls : List Load) (us : List Parts) (q : Option Request) (ds : List Commit)
     → record { why = Some why; replay = new; loads = ls; threads = us; request = q; commits = ds; words = [] } ≡ dma_judged_by p b v
     → length ds ≡ length b.commits
 unfolding went
-dma_left_commits p b (DmaGoes words) why new ls us q ds is = absurd (true≢false (sym (ap (λ (j : Judged). went j.why) is)))
-dma_left_commits p b (DmaFails because) why new ls us q ds is = ap (λ (j : Judged). length j.commits) is
+dma_left_commits p b (DmaGoes words) why new ls us q ds is = absurd (true≢false (sym (ap (λ (j : JudgedSphere). went j.why) is)))
+dma_left_commits p b (DmaFails because) why new ls us q ds is = ap (λ (j : JudgedSphere). length j.commits) is
 
 -- the sphere stands after a commit that goes on
-pub stands_granted : (s : ℕ) (m : List ℕ) (ts : List Parts) (cs : List Commit) (last : Option ℕ) (rq : Option Request) (role to : Role) (r : Replaying) (loads : List Load) (k : ℕ) (v : Verdict)
+pub stands_granted : (s : ℕ) (m : List ℕ) (ts : List Parts) (cs : List Commit) (last : Option ℕ) (rq : Option Request) (role to : Role) (r : Replaying) (loads : List Load) (k : ℕ) (v : LogVerdict)
     (new : Replaying) (ls : List Load) (us : List Parts) (q : Option Request) (ds : List Commit)
     → length us ≤ 15
     → record { why = None; replay = new; loads = ls; threads = us; request = q; commits = ds; words = [] }
     ≡ record (judged_by (progress_of cs last rq) k (record { replay = r; loads = loads; threads = ts; request = rq; commits = cs }) v) { words = [] }
-    → IsStanding s (sphere_with m ts cs last rq role) (roles.Replaying r loads)
-    → IsStanding s (sphere_with m us ds (Some k) q to) (roles.Replaying new ls)
+    → IsSphere s (sphere_with m ts cs last rq role) (roles.Replaying r loads)
+    → IsSphere s (sphere_with m us ds (Some k) q to) (roles.Replaying new ls)
 unfolding went
-stands_granted s m ts cs last rq role to r loads k (Fails why) new ls us q ds few is h = absurd (true≢false (ap (λ (j : Judged). went j.why) is))
+stands_granted s m ts cs last rq role to r loads k (Fails why) new ls us q ds few is h = absurd (true≢false (ap (λ (j : JudgedSphere). went j.why) is))
 stands_granted s m ts cs last rq role to r loads k (Goes e u) new ls us q ds few is h =
-    let count : length ds ≡ suc (length cs) = ap (λ (j : Judged). length j.commits) is ∙ pushed_length cs e.commit (length cs) refl in
-    let done : new.done ≡ r.done + 1 = ap (λ (j : Judged). j.replay.done) is in
+    let count : length ds ≡ suc (length cs) = ap (λ (j : JudgedSphere). length j.commits) is ∙ pushed_length cs e.commit (length cs) refl in
+    let done : new.done ≡ r.done + 1 = ap (λ (j : JudgedSphere). j.replay.done) is in
     let was : length cs ≡ r.done = h.kept.agrees.done in
     record {
       size = h.size;
       threads = few;
       kept = record {
-        is_log = subst IsLog (sym (ap (λ (j : Judged). j.replay.log) is)) h.kept.is_log;
-        agrees = record { done = omega (arith, count, done, was); last = sym (ap (λ (j : Judged). j.replay.last) is) };
-        commits = ap (λ (j : Judged). j.replay.commits) is ∙ sym (ap (λ (j : Judged). commits_of j.threads) is);
+        is_log = subst IsLog (sym (ap (λ (j : JudgedSphere). j.replay.log) is)) h.kept.is_log;
+        agrees = record { done = omega (arith, count, done, was); last = sym (ap (λ (j : JudgedSphere). j.replay.last) is) };
+        commits = ap (λ (j : JudgedSphere). j.replay.commits) is ∙ sym (ap (λ (j : JudgedSphere). commits_of j.threads) is);
       };
     }
 
 -- the sphere stands after a commit that diverges
-pub stands_left : (s : ℕ) (m : List ℕ) (ts : List Parts) (cs : List Commit) (last : Option ℕ) (rq : Option Request) (role to : Role) (r : Replaying) (loads : List Load) (k : ℕ) (v : Verdict)
+pub stands_left : (s : ℕ) (m : List ℕ) (ts : List Parts) (cs : List Commit) (last : Option ℕ) (rq : Option Request) (role to : Role) (r : Replaying) (loads : List Load) (k : ℕ) (v : LogVerdict)
     (why : Why) (new : Replaying) (ls : List Load) (us : List Parts) (q : Option Request) (ds : List Commit)
     → record { why = Some why; replay = new; loads = ls; threads = us; request = q; commits = ds; words = [] }
     ≡ record (judged_by (progress_of cs last rq) k (record { replay = r; loads = loads; threads = ts; request = rq; commits = cs }) v) { words = [] }
-    → IsStanding s (sphere_with m ts cs last rq role) (roles.Replaying r loads)
-    → IsStanding s (sphere_with m us ds last q to) (roles.Replaying new ls)
+    → IsSphere s (sphere_with m ts cs last rq role) (roles.Replaying r loads)
+    → IsSphere s (sphere_with m us ds last q to) (roles.Replaying new ls)
 unfolding went
-stands_left s m ts cs last rq role to r loads k (Goes e u) why new ls us q ds is h = absurd (true≢false (sym (ap (λ (j : Judged). went j.why) is)))
+stands_left s m ts cs last rq role to r loads k (Goes e u) why new ls us q ds is h = absurd (true≢false (sym (ap (λ (j : JudgedSphere). went j.why) is)))
 stands_left s m ts cs last rq role to r loads k (Fails because) why new ls us q ds is h =
     record {
       size = h.size;
-      threads = subst (λ xs. length xs ≤ 15) (sym (ap (λ (j : Judged). j.threads) is)) h.threads;
+      threads = subst (λ xs. length xs ≤ 15) (sym (ap (λ (j : JudgedSphere). j.threads) is)) h.threads;
       kept = record {
-        is_log = subst IsLog (sym (ap (λ (j : Judged). j.replay.log) is)) h.kept.is_log;
+        is_log = subst IsLog (sym (ap (λ (j : JudgedSphere). j.replay.log) is)) h.kept.is_log;
         agrees = record {
-          done = ap (λ (j : Judged). length j.commits) is ∙ h.kept.agrees.done ∙ sym (ap (λ (j : Judged). j.replay.done) is);
-          last = h.kept.agrees.last ∙ sym (ap (λ (j : Judged). j.replay.last) is);
+          done = ap (λ (j : JudgedSphere). length j.commits) is ∙ h.kept.agrees.done ∙ sym (ap (λ (j : JudgedSphere). j.replay.done) is);
+          last = h.kept.agrees.last ∙ sym (ap (λ (j : JudgedSphere). j.replay.last) is);
         };
-        commits = ap (λ (j : Judged). j.replay.commits) is ∙ h.kept.commits ∙ sym (ap (λ (j : Judged). commits_of j.threads) is);
+        commits = ap (λ (j : JudgedSphere). j.replay.commits) is ∙ h.kept.commits ∙ sym (ap (λ (j : JudgedSphere). commits_of j.threads) is);
       };
     }
 
@@ -159,7 +159,7 @@ pub dma_granted : (m : List ℕ) (ts : List Parts) (cs : List Commit) (last : Op
     → record { outcome = commits.Granted; sphere = sphere_with m us ds last q (Replay (cursor_of new ls)); words = ws; devices = d }
     ≡ dma_by_verdict (cursor_of r loads) v d (sphere_with m ts cs last rq (Replay (cursor_of r loads)))
 unfolding went
-dma_granted m ts cs last rq r loads (DmaFails why) d new ls us q ds ws is = absurd (true≢false (ap (λ (j : Judged). went j.why) is))
+dma_granted m ts cs last rq r loads (DmaFails why) d new ls us q ds ws is = absurd (true≢false (ap (λ (j : JudgedSphere). went j.why) is))
 dma_granted m ts cs last rq r loads (DmaGoes words) d new ls us q ds ws is =
     λ i. record {
       outcome = commits.Granted;
@@ -177,9 +177,9 @@ pub dma_left : (m : List ℕ) (ts : List Parts) (cs : List Commit) (last : Optio
     → record { outcome = commits.Diverged (length ds) why; sphere = sphere_with m us ds last q (Replay (cursor_of new ls)); words = []; devices = d }
     ≡ dma_by_verdict (cursor_of r loads) v d (sphere_with m ts cs last rq (Replay (cursor_of r loads)))
 unfolding went why_in
-dma_left m ts cs last rq r loads (DmaGoes words) d why new ls us q ds ws done is = absurd (true≢false (sym (ap (λ (j : Judged). went j.why) is)))
+dma_left m ts cs last rq r loads (DmaGoes words) d why new ls us q ds ws done is = absurd (true≢false (sym (ap (λ (j : JudgedSphere). went j.why) is)))
 dma_left m ts cs last rq r loads (DmaFails because) d why new ls us q ds ws done is =
-    let same : why ≡ because = ap (λ (j : Judged). why_in why j.why) is in
+    let same : why ≡ because = ap (λ (j : JudgedSphere). why_in why j.why) is in
     (λ i. record {
       outcome = commits.Diverged (length (is i).commits) (same i);
       sphere = sphere_with m (is i).threads (is i).commits last (is i).request (Replay (cursor_of (is i).replay (is i).loads));
@@ -198,21 +198,21 @@ pub dma_stands_granted : (s : ℕ) (m : List ℕ) (ts : List Parts) (cs : List C
     (new : Replaying) (ls : List Load) (us : List Parts) (q : Option Request) (ds : List Commit) (ws : List Stored)
     → record { why = None; replay = new; loads = ls; threads = us; request = q; commits = ds; words = ws }
     ≡ dma_judged_by (progress_of cs last rq) (record { replay = r; loads = loads; threads = ts; request = rq; commits = cs }) v
-    → IsStanding s (sphere_with m ts cs last rq role) (roles.Replaying r loads)
-    → IsStanding s (sphere_with m us ds last q to) (roles.Replaying new ls)
+    → IsSphere s (sphere_with m ts cs last rq role) (roles.Replaying r loads)
+    → IsSphere s (sphere_with m us ds last q to) (roles.Replaying new ls)
 unfolding went
-dma_stands_granted s m ts cs last rq role to r loads (DmaFails why) new ls us q ds ws is h = absurd (true≢false (ap (λ (j : Judged). went j.why) is))
+dma_stands_granted s m ts cs last rq role to r loads (DmaFails why) new ls us q ds ws is h = absurd (true≢false (ap (λ (j : JudgedSphere). went j.why) is))
 dma_stands_granted s m ts cs last rq role to r loads (DmaGoes words) new ls us q ds ws is h =
-    let count : length ds ≡ suc (length cs) = ap (λ (j : Judged). length j.commits) is ∙ pushed_length cs dma_commit (length cs) refl in
-    let done : new.done ≡ r.done + 1 = ap (λ (j : Judged). j.replay.done) is in
+    let count : length ds ≡ suc (length cs) = ap (λ (j : JudgedSphere). length j.commits) is ∙ pushed_length cs dma_commit (length cs) refl in
+    let done : new.done ≡ r.done + 1 = ap (λ (j : JudgedSphere). j.replay.done) is in
     let was : length cs ≡ r.done = h.kept.agrees.done in
     record {
       size = h.size;
-      threads = subst (λ xs. length xs ≤ 15) (sym (ap (λ (j : Judged). j.threads) is)) h.threads;
+      threads = subst (λ xs. length xs ≤ 15) (sym (ap (λ (j : JudgedSphere). j.threads) is)) h.threads;
       kept = record {
-        is_log = subst IsLog (sym (ap (λ (j : Judged). j.replay.log) is)) h.kept.is_log;
-        agrees = record { done = omega (arith, count, done, was); last = h.kept.agrees.last ∙ sym (ap (λ (j : Judged). j.replay.last) is) };
-        commits = ap (λ (j : Judged). j.replay.commits) is ∙ sym (ap (λ (j : Judged). commits_of j.threads) is);
+        is_log = subst IsLog (sym (ap (λ (j : JudgedSphere). j.replay.log) is)) h.kept.is_log;
+        agrees = record { done = omega (arith, count, done, was); last = h.kept.agrees.last ∙ sym (ap (λ (j : JudgedSphere). j.replay.last) is) };
+        commits = ap (λ (j : JudgedSphere). j.replay.commits) is ∙ sym (ap (λ (j : JudgedSphere). commits_of j.threads) is);
       };
     }
 
@@ -221,20 +221,20 @@ pub dma_stands_left : (s : ℕ) (m : List ℕ) (ts : List Parts) (cs : List Comm
     (why : Why) (new : Replaying) (ls : List Load) (us : List Parts) (q : Option Request) (ds : List Commit) (ws : List Stored)
     → record { why = Some why; replay = new; loads = ls; threads = us; request = q; commits = ds; words = ws }
     ≡ dma_judged_by (progress_of cs last rq) (record { replay = r; loads = loads; threads = ts; request = rq; commits = cs }) v
-    → IsStanding s (sphere_with m ts cs last rq role) (roles.Replaying r loads)
-    → IsStanding s (sphere_with m us ds last q to) (roles.Replaying new ls)
+    → IsSphere s (sphere_with m ts cs last rq role) (roles.Replaying r loads)
+    → IsSphere s (sphere_with m us ds last q to) (roles.Replaying new ls)
 unfolding went
-dma_stands_left s m ts cs last rq role to r loads (DmaGoes words) why new ls us q ds ws is h = absurd (true≢false (sym (ap (λ (j : Judged). went j.why) is)))
+dma_stands_left s m ts cs last rq role to r loads (DmaGoes words) why new ls us q ds ws is h = absurd (true≢false (sym (ap (λ (j : JudgedSphere). went j.why) is)))
 dma_stands_left s m ts cs last rq role to r loads (DmaFails because) why new ls us q ds ws is h =
     record {
       size = h.size;
-      threads = subst (λ xs. length xs ≤ 15) (sym (ap (λ (j : Judged). j.threads) is)) h.threads;
+      threads = subst (λ xs. length xs ≤ 15) (sym (ap (λ (j : JudgedSphere). j.threads) is)) h.threads;
       kept = record {
-        is_log = subst IsLog (sym (ap (λ (j : Judged). j.replay.log) is)) h.kept.is_log;
+        is_log = subst IsLog (sym (ap (λ (j : JudgedSphere). j.replay.log) is)) h.kept.is_log;
         agrees = record {
-          done = ap (λ (j : Judged). length j.commits) is ∙ h.kept.agrees.done ∙ sym (ap (λ (j : Judged). j.replay.done) is);
-          last = h.kept.agrees.last ∙ sym (ap (λ (j : Judged). j.replay.last) is);
+          done = ap (λ (j : JudgedSphere). length j.commits) is ∙ h.kept.agrees.done ∙ sym (ap (λ (j : JudgedSphere). j.replay.done) is);
+          last = h.kept.agrees.last ∙ sym (ap (λ (j : JudgedSphere). j.replay.last) is);
         };
-        commits = ap (λ (j : Judged). j.replay.commits) is ∙ h.kept.commits ∙ sym (ap (λ (j : Judged). commits_of j.threads) is);
+        commits = ap (λ (j : JudgedSphere). j.replay.commits) is ∙ h.kept.commits ∙ sym (ap (λ (j : JudgedSphere). commits_of j.threads) is);
       };
     }

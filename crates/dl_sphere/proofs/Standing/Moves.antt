@@ -22,7 +22,7 @@ use Rattle.spec_protocol.proofs.Logs.Lookups.{none-there}
 use Rattle.spec_protocol.proofs.Logs.Coming.{Transferred, transferred-stands, WasRaised, raised-stands}
 use Rattle.spec_play.specs.Noted.{Recorded, as_log, interrupt_kept}
 use Rattle.dl_sphere.specs.Recorded.{with_commit}
-use Rattle.dl_sphere.specs.Roles.{Keeping, Plain, Recording, Replaying, role_of, HasFew, IsLive, with_noted, with_raised, CanRaise, IsKept, AreKept, IsStanding}
+use Rattle.dl_sphere.specs.Roles.{Keeping, Plain, Recording, Replaying, role_of, HasFew, IsLive, with_noted, with_raised, CanRaise, HasRecorded, IsKeepingOf, IsSphere}
 
 -- ---- the commit of a thread
 
@@ -42,13 +42,13 @@ pub log_with : (r : Recorded) (c : Commit) (early : Bool) (o : Option Input) →
 log_with r c early None = refl
 log_with r c early (Some i) = refl
 
-pub commits_noted : (p q : Sphere) (k : ℕ) (t u : Parts) (made : List Parts) (c : Commit) (s : ℕ) (r : Recorded) (early : Bool) (o : Option Input) → Commits p q k t u made c → IsKept s p r
+pub commits_noted : (p q : Sphere) (k : ℕ) (t u : Parts) (made : List Parts) (c : Commit) (s : ℕ) (r : Recorded) (early : Bool) (o : Option Input) → Commits p q k t u made c → HasRecorded s p r
     → as_log (with_commit c early o None r) ≡ input_noted o (noted c t.commits early (as_log r))
 commits_noted p q k t u made c s r early o d h =
     let index : index_of r.kept.done c.actor ≡ t.commits = ap (index_of r.kept.done) d.actor ∙ h.done k ∙ ap commits_if d.start in
     log_with r c early o ∙ ap (λ n. input_noted o (noted c n early (as_log r))) index
 
-done-after : (p q : Sphere) (k : ℕ) (t u : Parts) (made : List Parts) (c : Commit) (s : ℕ) (r : Recorded) → Commits p q k t u made c → IsKept s p r
+done-after : (p q : Sphere) (k : ℕ) (t u : Parts) (made : List Parts) (c : Commit) (s : ℕ) (r : Recorded) → Commits p q k t u made c → HasRecorded s p r
     → (j : ℕ) → slice_index (done_with r.kept.done c.actor) j ≡ commits_in q.threads j
 done-after p q k t u made c s r d h j =
     let done = r.kept.done in
@@ -82,11 +82,11 @@ few-at p q k t u made c d few j =
 few-after : (p q : Sphere) (k : ℕ) (t u : Parts) (made : List Parts) (c : Commit) → Commits p q k t u made c → HasFew p → HasFew q
 few-after p q k t u made c d h = record { few = few-at p q k t u made c d h.few }
 
-kept-after : (p q : Sphere) (k : ℕ) (t u : Parts) (made : List Parts) (c : Commit) (s : ℕ) (early : Bool) (o : Option Input) (x : Keeping) → IsLive x → Commits p q k t u made c → AreKept s p x
-    → AreKept s q (with_noted c early o None x)
-kept-after p q k t u made c s early o Plain live d h = few-after p q k t u made c d h
-kept-after p q k t u made c s early o (Replaying r loads) live d h = absurd live
-kept-after p q k t u made c s early o (Recording r) live d h =
+keeping-after : (p q : Sphere) (k : ℕ) (t u : Parts) (made : List Parts) (c : Commit) (s : ℕ) (early : Bool) (o : Option Input) (x : Keeping) → IsLive x → Commits p q k t u made c → IsKeepingOf s p x
+    → IsKeepingOf s q (with_noted c early o None x)
+keeping-after p q k t u made c s early o Plain live d h = few-after p q k t u made c d h
+keeping-after p q k t u made c s early o (Replaying r loads) live d h = absurd live
+keeping-after p q k t u made c s early o (Recording r) live d h =
     let has : HasCommitted k early p q (as_log r) (as_log (with_commit c early o None r)) t u made c o =
     record {
       start = d.start;
@@ -107,13 +107,13 @@ kept-after p q k t u made c s early o (Recording r) live d h =
     }
 
 -- what a sphere keeps stands by it after a commit of a thread
-pub commits_stand : (p q : Sphere) (k : ℕ) (t u : Parts) (made : List Parts) (c : Commit) (s : ℕ) (early : Bool) (o : Option Input) (x : Keeping) → IsLive x → Commits p q k t u made c → IsStanding s p x
-    → IsStanding s q (with_noted c early o None x)
+pub commits_stand : (p q : Sphere) (k : ℕ) (t u : Parts) (made : List Parts) (c : Commit) (s : ℕ) (early : Bool) (o : Option Input) (x : Keeping) → IsLive x → Commits p q k t u made c → IsSphere s p x
+    → IsSphere s q (with_noted c early o None x)
 commits_stand p q k t u made c s early o x live d h =
     record {
       size = h.size;
       threads = d.few;
-      kept = kept-after p q k t u made c s early o x live d h.kept;
+      kept = keeping-after p q k t u made c s early o x live d h.kept;
     }
 
 -- ---- an interrupt
@@ -123,7 +123,7 @@ few-same p q progress same h =
     record { few = λ j. let e = same j in let f = h.few j in let n : position q.progress ≡ position p.progress = ap position progress in omega arith }
 
 kept-raised : (p q : Sphere) (k value : ℕ) (t : Parts) (s : ℕ) (x : Keeping) → slice_get p.threads k ≡ Some t → takes_interrupt t ≡ true → q.threads ≡ set p.threads k (interrupted value t) → q.progress ≡ p.progress
-    → ((j : ℕ) → commits_in q.threads j ≡ commits_in p.threads j) → IsLive x → AreKept s p x → AreKept s q (with_raised k t.commits value x)
+    → ((j : ℕ) → commits_in q.threads j ≡ commits_in p.threads j) → IsLive x → IsKeepingOf s p x → IsKeepingOf s q (with_raised k t.commits value x)
 kept-raised p q k value t s Plain start takes threads progress same live h = few-same p q progress same h
 kept-raised p q k value t s (Replaying r loads) start takes threads progress same live h = absurd live
 kept-raised p q k value t s (Recording r) start takes threads progress same live h =
@@ -150,7 +150,7 @@ same-raised ts k j value t start =
 
 -- what a sphere keeps stands by it after an interrupt
 pub raised_stand : (p q : Sphere) (k value : ℕ) (t : Parts) (s : ℕ) (x : Keeping) → slice_get p.threads k ≡ Some t → takes_interrupt t ≡ true → q.threads ≡ set p.threads k (interrupted value t) → q.progress ≡ p.progress
-    → IsLive x → IsStanding s p x → IsStanding s q (with_raised k t.commits value x)
+    → IsLive x → IsSphere s p x → IsSphere s q (with_raised k t.commits value x)
 raised_stand p q k value t s x start takes threads progress live h =
     let same : (j : ℕ) → commits_in q.threads j ≡ commits_in p.threads j =
     λ j. ap (λ ts. commits_in ts j) threads ∙ same-raised p.threads k j value t start
@@ -167,7 +167,7 @@ unmasked t takes =
     elim (t.mask) as (λ (m : Bool). not m ≡ true → m ≡ false) [ true ↦ λ no. absurd (true≢false (sym no)) | false ↦ λ _. refl ] last.1
 
 -- an interrupt that its thread takes is of a new moment
-pub can_raise : (p : Sphere) (k : ℕ) (t : Parts) (s : ℕ) (x : Keeping) → slice_get p.threads k ≡ Some t → takes_interrupt t ≡ true → IsStanding s p x → CanRaise k t.commits x
+pub can_raise : (p : Sphere) (k : ℕ) (t : Parts) (s : ℕ) (x : Keeping) → slice_get p.threads k ≡ Some t → takes_interrupt t ≡ true → IsSphere s p x → CanRaise k t.commits x
 can_raise p k t s Plain start takes h = tt
 can_raise p k t s (Replaying r loads) start takes h = tt
 can_raise p k t s (Recording r) start takes h =
@@ -199,7 +199,7 @@ few-more : (p q : Sphere) → q.threads ≡ p.threads → position q.progress �
 few-more p q threads more h =
     record { few = λ j. let e : commits_in q.threads j ≡ commits_in p.threads j = ap (λ ts. commits_in ts j) threads in let f = h.few j in omega arith }
 
-kept-transferred : (p q : Sphere) (s : ℕ) (bytes : List ℕ) (x : Keeping) → IsLive x → q.threads ≡ p.threads → position q.progress ≡ suc (position p.progress) → AreKept s p x → AreKept s q (with_noted dma_commit false None (Some bytes) x)
+kept-transferred : (p q : Sphere) (s : ℕ) (bytes : List ℕ) (x : Keeping) → IsLive x → q.threads ≡ p.threads → position q.progress ≡ suc (position p.progress) → IsKeepingOf s p x → IsKeepingOf s q (with_noted dma_commit false None (Some bytes) x)
 kept-transferred p q s bytes Plain live threads more h = few-more p q threads more h
 kept-transferred p q s bytes (Replaying r loads) live threads more h = absurd live
 kept-transferred p q s bytes (Recording r) live threads more h =
@@ -216,7 +216,7 @@ kept-transferred p q s bytes (Recording r) live threads more h =
     }
 
 -- what a sphere keeps stands by it after a DMA
-pub transferred_stand : (p q : Sphere) (s : ℕ) (bytes : List ℕ) (x : Keeping) → IsLive x → q.threads ≡ p.threads → position q.progress ≡ suc (position p.progress) → IsStanding s p x → IsStanding s q (with_noted dma_commit false None (Some bytes) x)
+pub transferred_stand : (p q : Sphere) (s : ℕ) (bytes : List ℕ) (x : Keeping) → IsLive x → q.threads ≡ p.threads → position q.progress ≡ suc (position p.progress) → IsSphere s p x → IsSphere s q (with_noted dma_commit false None (Some bytes) x)
 transferred_stand p q s bytes x live threads more h =
     record {
       size = h.size;
@@ -225,5 +225,5 @@ transferred_stand p q s bytes x live threads more h =
     }
 
 -- a DMA of a recorded sphere leaves its log with the commit and the bytes noted
-pub transferred_role : (p : Sphere) (s : ℕ) (bytes : List ℕ) (r : Recorded) → IsKept s p r → role_of (with_noted dma_commit false None (Some bytes) (Recording r)) ≡ Record (dma_noted (position p.progress) bytes (noted dma_commit (position p.progress) false (as_log r)))
+pub transferred_role : (p : Sphere) (s : ℕ) (bytes : List ℕ) (r : Recorded) → HasRecorded s p r → role_of (with_noted dma_commit false None (Some bytes) (Recording r)) ≡ Record (dma_noted (position p.progress) bytes (noted dma_commit (position p.progress) false (as_log r)))
 transferred_role p s bytes r h = ap Record (dma_log_at r bytes (position p.progress) h.stands.count)

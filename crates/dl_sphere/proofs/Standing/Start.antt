@@ -10,8 +10,8 @@ use Rattle.spec_protocol.specs.Sound.{IsRole}
 use Rattle.spec_protocol.proofs.PlayingBack.All.{start-stands}
 use Rattle.spec_protocol.proofs.Logs.Growing.{commits_in}
 use Rattle.dl_sphere.specs.Inside.{sphere_with}
-use Rattle.dl_sphere.specs.Roles.{Keeping, role_of, AreKept, IsStanding}
-use Rattle.dl_sphere.specs.Standing.{Standing}
+use Rattle.dl_sphere.specs.Roles.{Keeping, role_of, IsKeepingOf, IsSphere}
+use Rattle.dl_sphere.specs.SizedSpheres.{SizedSphere}
 use Rattle.dl_sphere.specs.Starting.{keeping_at}
 
 no-commits : (entry k : ℕ) → commits_in (started entry ∷ []) k ≡ 0
@@ -35,9 +35,9 @@ start_role s entry IsPlain = refl
 start_role s entry (IsRecorded mode) = refl
 start_role s entry (IsReplayed log) = refl
 
-start_kept : (s entry : ℕ) (m : List ℕ) (role : RoleSetup) → IsRole role → AreKept s (sphere_with m (started entry ∷ []) [] None None (role_of (keeping_at entry s role))) (keeping_at entry s role)
-start_kept s entry m IsPlain is = record { few = no-more entry }
-start_kept s entry m (IsRecorded mode) is =
+start_keeping : (s entry : ℕ) (m : List ℕ) (role : RoleSetup) → IsRole role → IsKeepingOf s (sphere_with m (started entry ∷ []) [] None None (role_of (keeping_at entry s role))) (keeping_at entry s role)
+start_keeping s entry m IsPlain is = record { few = no-more entry }
+start_keeping s entry m (IsRecorded mode) is =
     record {
       few = record { few = no-more entry };
       s = refl;
@@ -45,7 +45,7 @@ start_kept s entry m (IsRecorded mode) is =
       done = none-done entry;
       stands = start-stands s (record { memory = m; entry = entry; role = IsRecorded mode }) mode;
     }
-start_kept s entry m (IsReplayed log) is =
+start_keeping s entry m (IsReplayed log) is =
     record { is_log = is; agrees = record { done = refl; last = refl }; commits = refl }
 
 -- a sphere of these parts is at the start of its setup
@@ -57,13 +57,13 @@ pub record Starts (s : ℕ) (setup : SphereSetup) (m : List ℕ) (ts : List Part
 
 -- a sphere that has just been set up stands
 pub start_standing : (s : ℕ) (setup : SphereSetup) (m : List ℕ) (ts : List Parts) (cs : List Commit) (x : Keeping) → IsChunkSize s → IsRole setup.role → Starts s setup m ts cs x
-    → IsStanding s (sphere_with m ts cs None None (role_of x)) x
+    → IsSphere s (sphere_with m ts cs None None (role_of x)) x
 start_standing s setup m ts cs x size is h =
     rw (h.threads, h.commits, h.kept)
-    (record { size = size; threads = omega arith; kept = start_kept s setup.entry m setup.role is })
+    (record { size = size; threads = omega arith; kept = start_keeping s setup.entry m setup.role is })
 
 -- a sphere that has just been set up is seen as its setup starts it
 pub start_seen : (s : ℕ) (setup : SphereSetup) (m : List ℕ) (ts : List Parts) (cs : List Commit) (x : Keeping) → Starts s setup m ts cs x
-    → let v : Standing = record { standard = s; sphere = sphere_with m ts cs None None (role_of x) } in v ≡ record { standard = s; sphere = sphere_of s setup }
+    → let v : SizedSphere = record { standard = s; sphere = sphere_with m ts cs None None (role_of x) } in v ≡ record { standard = s; sphere = sphere_of s setup }
 start_seen s setup m ts cs x h =
     rw (h.memory, h.threads, h.commits, h.kept, start_role s setup.entry setup.role) refl

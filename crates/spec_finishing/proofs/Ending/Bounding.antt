@@ -11,7 +11,7 @@ use Rattle.spec_protocol.specs.Serial.{SerialState, serial_start}
 use Rattle.spec_protocol.specs.Shown.{shown_of}
 use Rattle.spec_protocol.specs.Moves.{do_if}
 use Rattle.spec_protocol.specs.Promises.{after}
-use Rattle.spec_protocol.proofs.Invariants.Schedules.{happens-kept, start-shown}
+use Rattle.spec_protocol.proofs.Invariants.Schedules.{happens-preserved, start-shown}
 use Rattle.spec_replay.specs.Promises.{ReplaysArePlays}
 use Rattle.spec_finishing.specs.Work.{commits_work, setup_work, plays_work, moves_work}
 use Rattle.spec_finishing.specs.Rank.{play_left, replay_left, price, role_rank, flights_rank, spheres_rank, potential}
@@ -59,7 +59,7 @@ with_work z x (Some m) ms = refl
 pub event_work : (s : Setup) (w : World) (e : Event) (es : List Event) → Known s w → let a = happens w e in moves_work s.numbers (shown_of w) (moves w (e ∷ es)) ≡ if_work (shown_of w) a.move + moves_work s.numbers (shown_of a.world) (moves a.world es)
 event_work s w e es known =
     let a = happens w e in
-    let kept = happens-kept w e known.good in
+    let kept = happens-preserved w e known.good in
     let x = if_work (shown_of w) a.move in
     with_work s.numbers (shown_of w) a.move (moves a.world es)
     ∙ ap (λ (z : Numbers). x + moves_work s.numbers (do_if z (shown_of w) a.move) (moves a.world es)) (sym known.sizes.numbers)

@@ -6,11 +6,11 @@ use Rattle.dl_entry.specs.declared.Request.{Request}
 use Rattle.spec_isa.specs.declared.thread.Parts.{Parts}
 use Rattle.spec_isa.specs.Runs.{Run, run}
 use Rattle.spec_kernel.specs.Devices.{Devices}
-use Rattle.spec_play.specs.Verdicts.{Verdict, Goes, Fails}
+use Rattle.spec_play.specs.Verdicts.{LogVerdict, Goes, Fails}
 use Rattle.spec_play.specs.Transfers.{DmaVerdict, DmaGoes, DmaFails}
 use Rattle.spec_engine.specs.declared.answers.How.{How}
 use Rattle.spec_protocol.specs.Spheres.{Cursor, Role, Plain, Record, Replay, Sphere}
-use Rattle.spec_protocol.specs.Commits.{Moved, by_verdict, chunk_in, chunk_moved, is_piece, serial_in, serial_moved, live_dma, dma_log, dma_by_verdict, dma_in, dma_moved, role_raised, raised}
+use Rattle.spec_protocol.specs.Commits.{MovedSphere, by_verdict, chunk_in, chunk_moved, is_piece, serial_in, serial_moved, live_dma, dma_log, dma_by_verdict, dma_in, dma_moved, role_raised, raised}
 use Rattle.spec_protocol.specs.Placing.{replays}
 use Rattle.spec_protocol.specs.World.{Numbers, What, OfChunk, OfSerial, OfDma, OfRaise, Move}
 use Rattle.spec_protocol.specs.Asking.{is_short}
@@ -20,7 +20,7 @@ use Rattle.spec_protocol.specs.Moves.{move_chunk, do_what, do_at, do_move, do_mo
 
 -- ---- one sphere
 
-verdict_kind : (b : Cursor) (k : ℕ) (x : Verdict) (devices : Devices) (p : Sphere) → replays (by_verdict b k x devices p).sphere.role ≡ true
+verdict_kind : (b : Cursor) (k : ℕ) (x : LogVerdict) (devices : Devices) (p : Sphere) → replays (by_verdict b k x devices p).sphere.role ≡ true
 verdict_kind b k (Goes e u) devices p = refl
 verdict_kind b k (Fails why) devices p = refl
 
@@ -46,7 +46,7 @@ unfolding serial_moved
 serial-kind k moment t devices p = serial_in_kind p.role k moment t devices p
 
 -- of a DMA, if there is one
-abbrev pub DmaKind : Role → Option Moved → Type 0
+abbrev pub DmaKind : Role → Option MovedSphere → Type 0
 DmaKind role None = Unit {0}
 DmaKind role (Some v) = replays v.sphere.role ≡ replays role
 
@@ -131,7 +131,7 @@ serial_kinds images x i k moment p None is all = all
 serial_kinds images x i k moment p (Some t) is all =
     kinds_set images x.spheres i p (laid (serial_moved k moment t x.devices p)) is (serial-kind k moment t x.devices p) all
 
-dma_kinds : (images : List SphereSetup) (x : SerialState) (i : ℕ) (p : Sphere) (o : Option Moved) → slice_get x.spheres i ≡ Some p → DmaKind p.role o → AreOfKinds images x.spheres → AreOfKinds images (do_dma x i o).spheres
+dma_kinds : (images : List SphereSetup) (x : SerialState) (i : ℕ) (p : Sphere) (o : Option MovedSphere) → slice_get x.spheres i ≡ Some p → DmaKind p.role o → AreOfKinds images x.spheres → AreOfKinds images (do_dma x i o).spheres
 dma_kinds images x i p None is kind all = all
 dma_kinds images x i p (Some v) is kind all = kinds_set images x.spheres i p (laid v) is kind all
 

@@ -18,11 +18,11 @@ use Rattle.spec_log.specs.Size.{size_in}
 use Rattle.spec_kernel.specs.Copies.{bytes_put, copied, dma_words}
 use Rattle.spec_kernel.specs.Needs.{Need, Write, Read, Random, Clock, MomentWord, InputWord, need, next_kind, next_operation}
 use Rattle.spec_kernel.specs.Calls.{called}
-use Rattle.spec_kernel.specs.Serving.{Served, copy_of, outside_called, inside_called, is_outside, device_loaded, device_stored, serve_kind, serve}
+use Rattle.spec_kernel.specs.Serving.{StepResult, copy_of, outside_called, inside_called, is_outside, device_loaded, device_stored, serve_kind, serve}
 use Rattle.spec_play.specs.Effects.{Effect, serial_effect}
 use Rattle.spec_play.specs.Progress.{Progress, position, Used}
 use Rattle.spec_play.specs.Turns.{Now, Turn, TurnOfDma, Over}
-use Rattle.spec_play.specs.Verdicts.{Verdict, Goes, Fails, unless, interrupt_at, with_interrupted, Given, given, serial_why, served_verdict, serial_verdict}
+use Rattle.spec_play.specs.Verdicts.{LogVerdict, Goes, Fails, unless, interrupt_at, with_interrupted, Given, given, serial_why, served_verdict, serial_verdict}
 use Rattle.spec_play.specs.Transfers.{DmaVerdict, DmaGoes, DmaFails, is_for, transferred, dma_unless, dma_verdict}
 use Rattle.spec_play.specs.Plays.{Played, size_or_standard, plays}
 use Rattle.spec_kernel.specs.Records.{fits}
@@ -85,7 +85,7 @@ stored-most request t (Operation.LoadReserved rd a) = omega arith
 stored-most request t (Operation.StoreConditional rd a v) = omega arith
 stored-most request t (Operation.Amo op rd a v) = omega arith
 
-abbrev FewWords : Served → Type 0
+abbrev FewWords : StepResult → Type 0
 FewWords v = length v.words ≤ 4096
 
 kind-most : (o : Option Kind) (k : ℕ) (ts : List Parts) (request : Option Request) (t : Parts) (m : List ℕ) (input : Option Input) → FewIf (need t m) input → FewWords (serve_kind o k ts request t m input)
@@ -116,9 +116,9 @@ record-few (Some InputWord) r few = omega arith
 
 interrupted-words : (o : Option ℕ) (e : Effect) (u : Used) → length e.words ≤ 4096 → words_stored (with_interrupted o e u) ≤ 4096
 interrupted-words None e u few = few
-interrupted-words (Some value) e u few = branch (λ (x : Verdict). words_stored x ≤ 4096) _ (Goes _ _) (Fails Why.Interrupt) (λ _. few) (λ _. omega arith)
+interrupted-words (Some value) e u few = branch (λ (x : LogVerdict). words_stored x ≤ 4096) _ (Goes _ _) (Fails Why.Interrupt) (λ _. few) (λ _. omega arith)
 
-unless-words : (o : Option Why) (x : Verdict) → words_stored x ≤ 4096 → words_stored (unless o x) ≤ 4096
+unless-words : (o : Option Why) (x : LogVerdict) → words_stored x ≤ 4096 → words_stored (unless o x) ≤ 4096
 unless-words None x few = few
 unless-words (Some why) x few = omega arith
 

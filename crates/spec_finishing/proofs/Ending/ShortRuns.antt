@@ -26,7 +26,7 @@ use Rattle.spec_protocol.specs.Invariants.{current}
 use Rattle.spec_protocol.specs.Promises.{after}
 use Rattle.spec_protocol.specs.Notable.{IsInputIf}
 use Rattle.spec_protocol.specs.Sound.{IsRole, IsImage, IsWithinLimits, HaveBytes, IsSoundRequest, IsSoundIf, IsSoundRole, image_at, HaveByteInput, IsSound}
-use Rattle.spec_protocol.proofs.Invariants.Schedules.{happens-kept, start-shown}
+use Rattle.spec_protocol.proofs.Invariants.Schedules.{happens-preserved, start-shown}
 use Rattle.spec_protocol.proofs.Invariants.Asks.{shown_at, shown_over}
 use Rattle.spec_protocol.proofs.Moves.AnyMemory.{over}
 use Rattle.spec_protocol.proofs.Invariants.Cores.{branch}
@@ -200,7 +200,7 @@ schedule-few s limits before (e ∷ es) =
     let a = happens w e in
     let known = known-after replays_follow s before (setups_finish s limits) in
     let r = subst (λ (v : World). moves_work s.numbers (shown_of v) (moves v es) ≤ 4101 * length es) (after-event (world_of s) before e) (schedule-few s limits (before ++ e ∷ []) es) in
-    let one_ = if-few s w a.move limits (worlds_sound s before limits) (happens-kept w e known.good).fits in
+    let one_ = if-few s w a.move limits (worlds_sound s before limits) (happens-preserved w e known.good).fits in
     let split = event_work s w e es known in
     omega (arith, r, one_, split)
 

@@ -12,7 +12,7 @@ use Rattle.spec_engine.specs.Asking.{ask, denied_by, busy_by}
 use Rattle.spec_engine.proofs.Searches.{first_none}
 use Rattle.spec_protocol.specs.declared.reply.Reply.{Reply}
 use Rattle.spec_protocol.specs.Spheres.{Sphere, no_sphere, is_stopped, head_of}
-use Rattle.spec_protocol.specs.Commits.{CommitOutcome, Granted, Piece, Diverged, Moved, is_piece, chunk_moved, serial_moved, dma_in, dma_moved}
+use Rattle.spec_protocol.specs.Commits.{CommitOutcome, Granted, Piece, Diverged, MovedSphere, is_piece, chunk_moved, serial_moved, dma_in, dma_moved}
 use Rattle.spec_protocol.specs.World.{World, Held, Move, After, moment, sphere_at, answered}
 use Rattle.spec_protocol.specs.Asking.{CommitRequest, move_at, granted, chunk_request, grant_chunk, serial_request, grant_serial, unless_denied, unless_busy, ask_arbiter, asks_serial, other_turn, unless_turn, ask_closed, ask_held, asking}
 use Rattle.spec_protocol.specs.Transferring.{dma_move, dma_done, transfer, dma_with, dma_if, turn_before_dma, transferring}
@@ -34,7 +34,7 @@ most_at c w m within = ap (sphere_most c w.devices m) (shown_at w m.sphere withi
 
 -- ---- granted
 
-granted_flies : (c : ℕ) (w : World) (d : ℕ) (q : CommitRequest) (writes : Marks) (v : Moved) (o : CommitOutcome) → length v.words + c + 1 ≤ move_most c (shown_of w) (move_at (moment w) q) → Flies c w (granted w d q writes v o)
+granted_flies : (c : ℕ) (w : World) (d : ℕ) (q : CommitRequest) (writes : Marks) (v : MovedSphere) (o : CommitOutcome) → length v.words + c + 1 ≤ move_most c (shown_of w) (move_at (moment w) q) → Flies c w (granted w d q writes v o)
 granted_flies c w d q writes v Granted l = let r = flown-most c q.sphere v.words writes (2 ^ d) w.slots in omega (arith, r, l)
 granted_flies c w d q writes v Piece l = let r = flown-most c q.sphere v.words writes (2 ^ d) w.slots in omega (arith, r, l)
 granted_flies c w d q writes v (Diverged i why) l = omega arith
@@ -123,7 +123,7 @@ ask-flies c w d good = ask_held_flies c w d (at w.cores d) good refl
 
 -- ---- DMAs
 
-dma_most_relaid : (c : ℕ) (m : List ℕ) (o : Option Moved) → dma_most c (option_map (relaid m) o) ≡ dma_most c o
+dma_most_relaid : (c : ℕ) (m : List ℕ) (o : Option MovedSphere) → dma_most c (option_map (relaid m) o) ≡ dma_most c o
 dma_most_relaid c m None = refl
 dma_most_relaid c m (Some v) = refl
 
@@ -134,7 +134,7 @@ dma_most_is c w i within =
     ∙ ap (dma_most c) (dma-relaid w.devices (sphere_at w i) (current w i))
     ∙ dma_most_relaid c (current w i) (dma_moved w.devices (sphere_at w i))
 
-transfer_flies : (c : ℕ) (w : World) (i : ℕ) (v : Moved) → length v.words + c + 1 ≤ move_most c (shown_of w) (dma_move w i) → Flies c w (transfer w i v)
+transfer_flies : (c : ℕ) (w : World) (i : ℕ) (v : MovedSphere) → length v.words + c + 1 ≤ move_most c (shown_of w) (dma_move w i) → Flies c w (transfer w i v)
 unfolding transfer
 transfer_flies c w i v l =
     let writes = signed i v.words (nothing w.numbers.signature) in
@@ -143,12 +143,12 @@ transfer_flies c w i v l =
     (λ _. denied_flies c w (dma_done w i writes v) (first_slot (meets_chunk writes writes) w.slots)
     (λ _. let r = flown-most c i v.words writes 0 w.slots in omega (arith, r, l)))
 
-outcome_flies : (c : ℕ) (w : World) (i : ℕ) (v : Moved) (o : CommitOutcome) → length v.words + c + 1 ≤ move_most c (shown_of w) (dma_move w i) → Flies c w (dma_with w i v o)
+outcome_flies : (c : ℕ) (w : World) (i : ℕ) (v : MovedSphere) (o : CommitOutcome) → length v.words + c + 1 ≤ move_most c (shown_of w) (dma_move w i) → Flies c w (dma_with w i v o)
 outcome_flies c w i v Granted l = transfer_flies c w i v l
 outcome_flies c w i v Piece l = transfer_flies c w i v l
 outcome_flies c w i v (Diverged j why) l = omega arith
 
-dma_if_flies : (c : ℕ) (w : World) (i : ℕ) (o : Option Moved) → dma_most c o ≤ move_most c (shown_of w) (dma_move w i) → Flies c w (dma_if w i o)
+dma_if_flies : (c : ℕ) (w : World) (i : ℕ) (o : Option MovedSphere) → dma_most c o ≤ move_most c (shown_of w) (dma_move w i) → Flies c w (dma_if w i o)
 dma_if_flies c w i None l = still_flies c w Reply.NoDma
 dma_if_flies c w i (Some v) l = outcome_flies c w i v v.outcome l
 

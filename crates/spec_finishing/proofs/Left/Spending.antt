@@ -10,8 +10,8 @@ use Rattle.spec_protocol.specs.Serial.{SerialState}
 use Rattle.spec_protocol.specs.Shown.{shown_of}
 use Rattle.spec_protocol.specs.Moves.{do_if, FitsIf, Fits}
 use Rattle.spec_protocol.specs.Invariants.{IsGood}
-use Rattle.spec_protocol.proofs.Invariants.Kept.{Kept}
-use Rattle.spec_protocol.proofs.Invariants.Schedules.{happens-kept}
+use Rattle.spec_protocol.proofs.Invariants.Preserved.{Preserved}
+use Rattle.spec_protocol.proofs.Invariants.Schedules.{happens-preserved}
 use Rattle.spec_finishing.specs.Work.{move_work}
 use Rattle.spec_finishing.specs.Rank.{spheres_rank, price, potential}
 use Rattle.spec_finishing.proofs.Left.Rows.{spheres-shown}
@@ -59,7 +59,7 @@ shown_rank s w = spheres-shown s.cores s.spheres w.slots 0 w.spheres
 pub happens-spends : (s : Setup) (w : World) (e : Event) → Known s w → potential s (happens w e).world ≤ potential s w + price s.cores (if_work (shown_of w) (happens w e).move)
 happens-spends s w e known =
     let a = happens w e in
-    let kept = happens-kept w e known.good in
+    let kept = happens-preserved w e known.good in
     let flies = happens-flies s.cores w e known.good in
     let pays = if_pays s w.numbers (shown_of w) a.move known.good.buffer known.stands kept.fits in
     let now = shown_rank s a.world in
@@ -67,7 +67,7 @@ happens-spends s w e known =
     let same = ap (λ (x : SerialState). spheres_rank s.cores s.spheres x.spheres) kept.whole in
     omega (arith, flies, pays, now, was, same)
 
-moves_more : (s : Setup) (w : World) (a : After) (m : Move) (o : Option Move) (p : Sphere) (b : Cursor) → o ≡ Some m → a.move ≡ o → Known s w → Kept w a → Flies s.cores w a → slice_get (shown_of w).spheres m.sphere ≡ Some p → p.role ≡ Replay b
+moves_more : (s : Setup) (w : World) (a : After) (m : Move) (o : Option Move) (p : Sphere) (b : Cursor) → o ≡ Some m → a.move ≡ o → Known s w → Preserved w a → Flies s.cores w a → slice_get (shown_of w).spheres m.sphere ≡ Some p → p.role ≡ Replay b
     → potential s a.world + what_more m.what ≤ potential s w
 moves_more s w a m None p b e move known kept flies is role = absurd (none-some m e)
 moves_more s w a m (Some n) p b e move known kept flies is role =
@@ -83,4 +83,4 @@ moves_more s w a m (Some n) p b e move known kept flies is role =
 pub happens-less : (s : Setup) (w : World) (e : Event) (m : Move) (p : Sphere) (b : Cursor) → Known s w → (happens w e).move ≡ Some m → slice_get (shown_of w).spheres m.sphere ≡ Some p → p.role ≡ Replay b
     → potential s (happens w e).world + what_more m.what ≤ potential s w
 happens-less s w e m p b known move is role =
-    moves_more s w (happens w e) m (Some m) p b refl move known (happens-kept w e known.good) (happens-flies s.cores w e known.good) is role
+    moves_more s w (happens w e) m (Some m) p b refl move known (happens-preserved w e known.good) (happens-flies s.cores w e known.good) is role

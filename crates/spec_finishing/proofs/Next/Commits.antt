@@ -11,7 +11,7 @@ use Rattle.spec_engine.proofs.Searches.{full_at}
 use Rattle.spec_play.specs.Transfers.{dma_verdict}
 use Rattle.spec_protocol.specs.declared.reply.Reply.{Reply}
 use Rattle.spec_protocol.specs.Spheres.{Cursor, Role, Replay, Sphere, is_stopped, actor_of, head_in, head_of}
-use Rattle.spec_protocol.specs.Commits.{CommitOutcome, Granted, Piece, Diverged, Moved, is_piece, chunk_moved, serial_moved, dma_by_verdict, dma_in, dma_moved}
+use Rattle.spec_protocol.specs.Commits.{CommitOutcome, Granted, Piece, Diverged, MovedSphere, is_piece, chunk_moved, serial_moved, dma_by_verdict, dma_in, dma_moved}
 use Rattle.spec_protocol.specs.World.{World, Held, Move, After, moment, sphere_at, answered}
 use Rattle.spec_protocol.specs.Asking.{CommitRequest, move_at, granted, chunk_request, grant_chunk, serial_request, grant_serial, unless_denied, unless_busy, asks_serial, ask_arbiter, other_turn, unless_turn, ask_closed, ask_held, asking}
 use Rattle.spec_protocol.specs.Transferring.{dma_move, dma_done, transfer, dma_with, dma_if, not_of_dma, turn_before_dma, transferring}
@@ -50,7 +50,7 @@ not_busy w a i none =
 
 -- ---- Ask
 
-granted_commits : (w : World) (c : ℕ) (q : CommitRequest) (writes : Marks) (v : Moved) (o : CommitOutcome) (n : ℕ) → n + 3 ≤ what_more q.what → Commits q.sphere n (granted w c q writes v o)
+granted_commits : (w : World) (c : ℕ) (q : CommitRequest) (writes : Marks) (v : MovedSphere) (o : CommitOutcome) (n : ℕ) → n + 3 ≤ what_more q.what → Commits q.sphere n (granted w c q writes v o)
 granted_commits w c q writes v Granted n l = record { done = refl; move = move_at (moment w) q; is = refl; sphere = refl; more = l }
 granted_commits w c q writes v Piece n l = record { done = refl; move = move_at (moment w) q; is = refl; sphere = refl; more = l }
 granted_commits w c q writes v (Diverged i why) n l = record { done = refl; move = move_at (moment w) q; is = refl; sphere = refl; more = l }
@@ -117,7 +117,7 @@ ask-commits s w i k c h how none l a on closed =
 
 -- ---- Dma
 
-done_commits : (w : World) (i : ℕ) (v : Moved) → ((k : ℕ) → at w.slots k ≡ None) → 0 < length w.slots → Commits i 0 (transfer w i v)
+done_commits : (w : World) (i : ℕ) (v : MovedSphere) → ((k : ℕ) → at w.slots k ≡ None) → 0 < length w.slots → Commits i 0 (transfer w i v)
 unfolding transfer
 done_commits w i v none l =
     let writes = signed i v.words (nothing w.numbers.signature) in
@@ -126,7 +126,7 @@ done_commits w i v none l =
     ∙ not_denied w (dma_done w i writes v) writes writes none))
     (record { done = refl; move = dma_move w i; is = refl; sphere = refl; more = omega arith })
 
-outcome_commits : (w : World) (i : ℕ) (v : Moved) (o : CommitOutcome) → ((k : ℕ) → at w.slots k ≡ None) → 0 < length w.slots → Commits i 0 (dma_with w i v o)
+outcome_commits : (w : World) (i : ℕ) (v : MovedSphere) (o : CommitOutcome) → ((k : ℕ) → at w.slots k ≡ None) → 0 < length w.slots → Commits i 0 (dma_with w i v o)
 outcome_commits w i v Granted none l = done_commits w i v none l
 outcome_commits w i v Piece none l = done_commits w i v none l
 outcome_commits w i v (Diverged j why) none l = record { done = refl; move = dma_move w i; is = refl; sphere = refl; more = omega arith }

@@ -13,14 +13,14 @@ use Rattle.spec_protocol.specs.declared.reply.Reply.{Reply}
 use Rattle.spec_protocol.specs.World.{World, Held, After, sphere_at, with_slot, with_core, held_afresh, core_of, answered}
 use Rattle.spec_protocol.specs.Flying.{drain_slot, draining, told, delivering, reads_of, writes_of, retiring}
 use Rattle.spec_protocol.specs.Placing.{unless_elsewhere, place_thread, placing}
-use Rattle.spec_protocol.specs.Machine.{Setup, core_no, sphere_no, slot_no, act, kept, happens}
+use Rattle.spec_protocol.specs.Machine.{Setup, core_no, sphere_no, slot_no, act, with_event, happens}
 use Rattle.spec_protocol.specs.Serial.{SerialState}
 use Rattle.spec_protocol.specs.Shown.{shown_of}
 use Rattle.spec_protocol.specs.Moves.{do_if}
 use Rattle.spec_protocol.specs.Finishing.{untold, deliver_or_retire, for_flight, Who, least, standing}
 use Rattle.spec_protocol.proofs.Memory.Slots.{at_within}
 use Rattle.spec_protocol.proofs.Invariants.Cores.{branch}
-use Rattle.spec_protocol.proofs.Invariants.Schedules.{happens-kept}
+use Rattle.spec_protocol.proofs.Invariants.Schedules.{happens-preserved}
 use Rattle.spec_finishing.specs.Rank.{spheres_rank, potential, held_under_way, core_under_way, actor_under_way, under_way, rank}
 use Rattle.spec_finishing.specs.Ending.{is_done, OfReplay}
 use Rattle.spec_finishing.proofs.Next.Flights.{FlightFalls, drain-falls, deliver-falls, untold-core, retire-falls}
@@ -43,7 +43,7 @@ pub record Lowers (s : Setup) (w : World) (e : Event) : Type 0 where
 no_move_spheres : (s : Setup) (w : World) (e : Event) → Known s w → (happens w e).move ≡ None → spheres_rank s.cores s.spheres (happens w e).world.spheres ≡ spheres_rank s.cores s.spheres w.spheres
 no_move_spheres s w e known none =
     let a = happens w e in
-    let same : shown_of a.world ≡ shown_of w = (happens-kept w e known.good).whole ∙ ap (do_if w.numbers (shown_of w)) none in
+    let same : shown_of a.world ≡ shown_of w = (happens-preserved w e known.good).whole ∙ ap (do_if w.numbers (shown_of w)) none in
     sym (spheres-shown s.cores s.spheres a.world.slots 0 a.world.spheres)
     ∙ ap (λ (x : SerialState). spheres_rank s.cores s.spheres x.spheres) same
     ∙ spheres-shown s.cores s.spheres w.slots 0 w.spheres
@@ -118,17 +118,17 @@ words_fall s w k f (x ∷ xs) known stands is words = drain_act s w k f x xs kno
 
 -- ---- a thread's core
 
-rose_under_way : (w : World) (who : Who) (k : ℕ) (a : After) → standing w ≡ None → least 0 w.spheres ≡ Some who → who.actor ≡ Actor.Thread k → (r : Rose w who.sphere k a) → under_way (kept a) ≡ held_under_way (Some r.held)
+rose_under_way : (w : World) (who : Who) (k : ℕ) (a : After) → standing w ≡ None → least 0 w.spheres ≡ Some who → who.actor ≡ Actor.Thread k → (r : Rose w who.sphere k a) → under_way (with_event a) ≡ held_under_way (Some r.held)
 rose_under_way w who k a none e thread r =
-    under_way-actor (kept a) who (ap standing r.is ∙ none) (ap (λ (v : World). least 0 v.spheres) r.is ∙ e)
-    ∙ ap (actor_under_way (kept a) who.sphere) thread
-    ∙ ap (core_under_way (kept a)) r.found
+    under_way-actor (with_event a) who (ap standing r.is ∙ none) (ap (λ (v : World). least 0 v.spheres) r.is ∙ e)
+    ∙ ap (actor_under_way (with_event a) who.sphere) thread
+    ∙ ap (core_under_way (with_event a)) r.found
     ∙ ap held_under_way r.there
 
-rose_potential : (s : Setup) (w : World) (i k : ℕ) (a : After) → Rose w i k a → potential s (kept a) ≡ potential s w
+rose_potential : (s : Setup) (w : World) (i k : ℕ) (a : After) → Rose w i k a → potential s (with_event a) ≡ potential s w
 rose_potential s w i k a r = ap (potential s) r.is
 
-world_happens : (w : World) (e : Event) → (happens w e).world ≡ kept (act w e)
+world_happens : (w : World) (e : Event) → (happens w e).world ≡ with_event (act w e)
 unfolding happens
 world_happens w e = refl
 

@@ -9,7 +9,7 @@ use Rattle.spec_isa.specs.Runs.{Run, run}
 use Rattle.spec_kernel.specs.Devices.{Devices}
 use Rattle.spec_play.specs.Progress.{position, with_effect}
 use Rattle.spec_play.specs.Turns.{Over}
-use Rattle.spec_play.specs.Verdicts.{Verdict, Goes, Fails, chunk_verdict}
+use Rattle.spec_play.specs.Verdicts.{LogVerdict, Goes, Fails, chunk_verdict}
 use Rattle.spec_play.specs.Plays.{opened, with_threads}
 use Rattle.spec_engine.specs.declared.answers.How.{How}
 use Rattle.spec_protocol.specs.Spheres.{Cursor, Role, Replay, Sphere, is_over, limit_of}
@@ -45,7 +45,7 @@ rank-before c image p b role going g =
     ∙ ap (price c) (left-going image b (position p.progress) going ∙ left-step b.log (opened b.log image.memory image.entry) (position p.progress) b.total g.ahead)
 
 -- a verdict on the whole commit, with what its flight costs, leaves the sphere no more to do than before
-pub verdict-pays : (c : ℕ) (image : SphereSetup) (p : Sphere) (b : Cursor) (k : ℕ) (x : Verdict) (devices : Devices) (l : ℕ) → p.role ≡ Replay b → is_over b.now ≡ false → GoesOn image p b → suc b.total ≤ next_work image p b → l ≤ price c (next_work image p b - b.total)
+pub verdict-pays : (c : ℕ) (image : SphereSetup) (p : Sphere) (b : Cursor) (k : ℕ) (x : LogVerdict) (devices : Devices) (l : ℕ) → p.role ≡ Replay b → is_over b.now ≡ false → GoesOn image p b → suc b.total ≤ next_work image p b → l ≤ price c (next_work image p b - b.total)
     → sphere_rank c image (laid (by_verdict b k x devices p)) + l ≤ sphere_rank c image p
 verdict-pays c image p b k (Fails why) devices l role going g some enough =
     let before = rank-before c image p b role going g in

@@ -6,7 +6,7 @@ use Rattle.spec_isa.specs.Runs.{run}
 use Rattle.spec_kernel.specs.Devices.{Devices}
 use Rattle.spec_engine.specs.declared.answers.How.{How}
 use Rattle.spec_protocol.specs.Spheres.{Cursor, Replay, Sphere, is_over, is_stopped}
-use Rattle.spec_protocol.specs.Commits.{Moved, is_piece, chunk_moved, serial_moved, dma_moved, raised}
+use Rattle.spec_protocol.specs.Commits.{MovedSphere, is_piece, chunk_moved, serial_moved, dma_moved, raised}
 use Rattle.spec_protocol.specs.Placing.{replays}
 use Rattle.spec_protocol.specs.World.{Numbers, What, OfChunk, OfSerial, OfDma, OfRaise, Move}
 use Rattle.spec_protocol.specs.Asking.{is_short}
@@ -30,7 +30,7 @@ serial_most c p devices moment k None = 0
 serial_most c p devices moment k (Some t) = length (serial_moved k moment t devices p).words + c + 1
 
 -- the most that the flight of a DMA has left
-abbrev pub dma_most : (c : ℕ) → Option Moved → ℕ
+abbrev pub dma_most : (c : ℕ) → Option MovedSphere → ℕ
 dma_most c None = 0
 dma_most c (Some v) = length v.words + c + 1
 
@@ -79,7 +79,7 @@ serial_own c images x i k moment image p (Some t) there is live =
     own_pays c images x.spheres i image p (laid v) (length v.words + c + 1) (price c (suc (length v.words))) there is
     (serial-kind k moment t x.devices p ∙ live) (let h = words-paid c (length v.words) in omega (arith, h))
 
-dma_own : (c : ℕ) (images : List SphereSetup) (x : SerialState) (i : ℕ) (image : SphereSetup) (p : Sphere) (o : Option Moved) → slice_get images i ≡ Some image → slice_get x.spheres i ≡ Some p → replays p.role ≡ false → DmaKind p.role o
+dma_own : (c : ℕ) (images : List SphereSetup) (x : SerialState) (i : ℕ) (image : SphereSetup) (p : Sphere) (o : Option MovedSphere) → slice_get images i ≡ Some image → slice_get x.spheres i ≡ Some p → replays p.role ≡ false → DmaKind p.role o
     → spheres_rank c images (do_dma x i o).spheres + dma_most c o ≤ spheres_rank c images x.spheres + price c (dma_work o)
 dma_own c images x i image p None there is live kind = omega arith
 dma_own c images x i image p (Some v) there is live kind =
@@ -122,7 +122,7 @@ serial_paid c images x i k moment image p b (Some t) there is role goes thread f
     spheres-pay c images x.spheres i image p (laid v) ((length v.words + c + 1) + 3) 0 there is (omega (arith, pays))
 
 -- a DMA of a sphere pays for its flight, in a replay with what the play has left less
-pub dma_paid : (c : ℕ) (images : List SphereSetup) (x : SerialState) (i : ℕ) (image : SphereSetup) (p : Sphere) (o : Option Moved) → slice_get images i ≡ Some image → slice_get x.spheres i ≡ Some p → DmaPays c image p o → (o ≡ None → ⊥)
+pub dma_paid : (c : ℕ) (images : List SphereSetup) (x : SerialState) (i : ℕ) (image : SphereSetup) (p : Sphere) (o : Option MovedSphere) → slice_get images i ≡ Some image → slice_get x.spheres i ≡ Some p → DmaPays c image p o → (o ≡ None → ⊥)
     → spheres_rank c images (do_dma x i o).spheres + (dma_most c o + 3) ≤ spheres_rank c images x.spheres + 0
 dma_paid c images x i image p None there is pays some = absurd (some refl)
 dma_paid c images x i image p (Some v) there is pays some =

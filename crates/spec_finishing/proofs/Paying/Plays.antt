@@ -6,7 +6,7 @@ use Rattle.spec_isa.specs.declared.thread.Parts.{Parts}
 use Rattle.spec_log.specs.declared.LogParts.{LogParts}
 use Rattle.spec_play.specs.Progress.{Progress, position, Used}
 use Rattle.spec_play.specs.Turns.{Now, Turn, TurnOfDma, Over, at_end, turn_of, next_actor, has_left_over, now_at}
-use Rattle.spec_play.specs.Verdicts.{Verdict, Goes, Fails}
+use Rattle.spec_play.specs.Verdicts.{LogVerdict, Goes, Fails}
 use Rattle.spec_play.specs.Transfers.{DmaVerdict, DmaGoes, DmaFails, dma_verdict}
 use Rattle.spec_play.specs.Plays.{Played, opened, settled, thread_verdict, play_thread, dma_settled, play_now, play_one, plays}
 use Rattle.spec_kernel.specs.Needs.{next_kind}
@@ -24,7 +24,7 @@ use Rattle.spec_finishing.proofs.Paying.Affording.{Afforded, Enough, Lone}
 abbrev IsLooked : LogParts → Played → Type 0
 IsLooked log y = (y.now ≡ now_at log y.progress y.used y.threads) ⊎ (is_over y.now ≡ true)
 
-settled_looked : (log : LogParts) (y : Played) (k : ℕ) (v : Verdict) → IsLooked log (settled log y k v)
+settled_looked : (log : LogParts) (y : Played) (k : ℕ) (v : LogVerdict) → IsLooked log (settled log y k v)
 settled_looked log y k (Goes e u) = inl refl
 settled_looked log y k (Fails why) = inr refl
 

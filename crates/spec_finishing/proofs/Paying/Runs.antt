@@ -7,8 +7,8 @@ use Rattle.spec_isa.specs.declared.thread.Kind.{Kind}
 use Rattle.spec_isa.specs.declared.operation.Operation.{Operation}
 use Rattle.spec_isa.specs.Operations.{thread_then}
 use Rattle.spec_isa.specs.Words.{Stored, lays, lay, Apart}
-use Rattle.spec_isa.specs.Instruction.{Outcome, Next, Serial, one, unless, operation_of, next_of}
-use Rattle.spec_isa.specs.Runs.{Run, begun, with_store, followed, more, run}
+use Rattle.spec_isa.specs.Instruction.{InstructionOutcome, Next, Serial, one, unless, operation_of, next_of}
+use Rattle.spec_isa.specs.Runs.{Run, run_start, with_store, followed, more, run}
 use Rattle.spec_isa.proofs.BufferLaws.{lays_put}
 use Rattle.spec_kernel.specs.Needs.{next_kind, fetched}
 use Rattle.spec_protocol.proofs.Memory.Running.{one-outcome, serial_outcome}
@@ -16,11 +16,11 @@ use Rattle.spec_replay.proofs.Commits.Joining.{apart_followed}
 
 -- ---- how many
 
-followed_most : (r : Run) (o : Outcome) → (followed r o).n ≤ suc r.n
+followed_most : (r : Run) (o : InstructionOutcome) → (followed r o).n ≤ suc r.n
 followed_most r (Serial kind) = omega arith
 followed_most r (Next t load store) = omega arith
 
-followed_more : (r : Run) (o : Outcome) → r.n ≤ (followed r o).n
+followed_more : (r : Run) (o : InstructionOutcome) → r.n ≤ (followed r o).n
 followed_more r (Serial kind) = omega arith
 followed_more r (Next t load store) = omega arith
 
@@ -58,7 +58,7 @@ same_stores m l r q None ra qa e = e
 same_stores m l r q (Some s) ra qa e =
     lays_put m r.words s ra ∙ ap (λ (n : List ℕ). lay n s) e ∙ sym (lays_put l q.words s qa)
 
-same_followed : (m l : List ℕ) (a : ℕ) (r q : Run) (o : Outcome) → Apart r.words → Apart q.words → Same m l a r q → Same m l a (followed r o) (followed q o)
+same_followed : (m l : List ℕ) (a : ℕ) (r q : Run) (o : InstructionOutcome) → Apart r.words → Apart q.words → Same m l a r q → Same m l a (followed r o) (followed q o)
 same_followed m l a r q (Serial kind) ra qa s = s
 same_followed m l a r q (Next t load store) ra qa s =
     record { thread = refl; memory = same_stores m l r q store ra qa s.memory; n = (let e = s.n in omega (arith, e)) }
@@ -66,13 +66,13 @@ same_followed m l a r q (Next t load store) ra qa s =
 same_more : (m l : List ℕ) (a : ℕ) (r q : Run) → Apart r.words → Apart q.words → Same m l a r q → Same m l a (more m r) (more l q)
 same_more m l a r q ra qa s =
     let e : one r.thread (lays m r.words) ≡ one q.thread (lays l q.words) = (λ i. one (s.thread i) (s.memory i)) in
-    subst (λ (o : Outcome). Same m l a (followed r (one r.thread (lays m r.words))) (followed q o)) e
+    subst (λ (o : InstructionOutcome). Same m l a (followed r (one r.thread (lays m r.words))) (followed q o)) e
     (same_followed m l a r q (one r.thread (lays m r.words)) ra qa s)
 
 run_joins : (m : List ℕ) (t : Parts) (a b c : ℕ) → (run m t a).n ≡ a → a + b ≡ c → let r = run m t a in Same m (lays m r.words) a (run m t c) (run (lays m r.words) r.thread b)
 run_joins m t a zero c ran e =
     let h : a ≡ c = omega arith in
-    subst (λ (d : ℕ). let r = run m t a in Same m (lays m r.words) a (run m t d) (begun r.thread)) h
+    subst (λ (d : ℕ). let r = run m t a in Same m (lays m r.words) a (run m t d) (run_start r.thread)) h
     (record { thread = refl; memory = refl; n = (let z = ran in omega (arith, z)) })
 run_joins m t a (suc b) c ran e =
     let r = run m t a in
@@ -92,10 +92,10 @@ unfolding next_kind
 one_is_serial t m kind e = one-outcome t m ∙ serial_outcome t (fetched t m) _ _ kind e
 
 -- a run before a serial instruction has none
-pub run-serial : (m : List ℕ) (t : Parts) (kind : Kind) (n : ℕ) → next_kind t m ≡ Some kind → run m t n ≡ begun t
+pub run-serial : (m : List ℕ) (t : Parts) (kind : Kind) (n : ℕ) → next_kind t m ≡ Some kind → run m t n ≡ run_start t
 run-serial m t kind zero e = refl
 run-serial m t kind (suc n) e =
-    ap (more m) (run-serial m t kind n e) ∙ ap (followed (begun t)) (one_is_serial t m kind e)
+    ap (more m) (run-serial m t kind n e) ∙ ap (followed (run_start t)) (one_is_serial t m kind e)
 
 -- ---- the thread stays live
 
@@ -120,7 +120,7 @@ one_status : (t : Parts) (m : List ℕ) (u : Parts) (load : Option Load) (store 
 unfolding one
 one_status t m u load store e = unless_status t _ _ u _ load _ store (next_status t _ _) e
 
-followed_status : (r : Run) (m : List ℕ) (o : Outcome) → one r.thread m ≡ o → (followed r o).thread.status ≡ r.thread.status
+followed_status : (r : Run) (m : List ℕ) (o : InstructionOutcome) → one r.thread m ≡ o → (followed r o).thread.status ≡ r.thread.status
 followed_status r m (Serial kind) e = refl
 followed_status r m (Next u load store) e = one_status r.thread m u load store e
 

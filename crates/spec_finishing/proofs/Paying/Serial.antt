@@ -13,10 +13,10 @@ use Rattle.spec_kernel.specs.Needs.{next_kind}
 use Rattle.spec_play.specs.Effects.{dma_commit}
 use Rattle.spec_play.specs.Progress.{position, with_dma, with_dma_used}
 use Rattle.spec_play.specs.Turns.{TurnOfDma, Over}
-use Rattle.spec_play.specs.Verdicts.{Verdict, Goes, Fails, serial_verdict}
+use Rattle.spec_play.specs.Verdicts.{LogVerdict, Goes, Fails, serial_verdict}
 use Rattle.spec_play.specs.Transfers.{DmaVerdict, DmaGoes, DmaFails, dma_verdict}
 use Rattle.spec_protocol.specs.Spheres.{Cursor, Role, Replay, Sphere, is_over, is_in_pieces}
-use Rattle.spec_protocol.specs.Commits.{Moved, turned, by_verdict, serial_in, serial_moved, dma_by_verdict, dma_in, dma_moved}
+use Rattle.spec_protocol.specs.Commits.{MovedSphere, turned, by_verdict, serial_in, serial_moved, dma_by_verdict, dma_in, dma_moved}
 use Rattle.spec_protocol.specs.Machine.{SphereSetup}
 use Rattle.spec_protocol.specs.Serial.{laid}
 use Rattle.spec_protocol.specs.Moves.{SerialFits, DmaFits}
@@ -31,7 +31,7 @@ use Rattle.spec_replay.proofs.Commits.Standing.{set_here}
 
 -- ---- serial steps
 
-verdict_words : (b : Cursor) (k : ℕ) (x : Verdict) (devices : Devices) (p : Sphere) → length (by_verdict b k x devices p).words ≡ stored x
+verdict_words : (b : Cursor) (k : ℕ) (x : LogVerdict) (devices : Devices) (p : Sphere) → length (by_verdict b k x devices p).words ≡ stored x
 verdict_words b k (Goes e u) devices p = refl
 verdict_words b k (Fails why) devices p = refl
 
@@ -72,7 +72,7 @@ serial_is image p b k t u kind g h s next =
     ap (now_work b.log y) h.turn ∙ ap (turn_work b.log y k) h.is ∙ ap (λ (o : Option Kind). suc (thread_work b.log y k t o)) same
     ∙ (λ i. suc (stored (serial_verdict b.log (sym g.progress i) (sym g.used i) k (sym s.threads i) (sym s.thread i) (sym s.memory i))))
 
-serial_rank : (c : ℕ) (image : SphereSetup) (p : Sphere) (b : Cursor) (k : ℕ) (x : Verdict) (devices : Devices) → p.role ≡ Replay b → is_over b.now ≡ false → GoesOn image p b → b.total ≡ 0 → next_work image p b ≡ suc (stored x)
+serial_rank : (c : ℕ) (image : SphereSetup) (p : Sphere) (b : Cursor) (k : ℕ) (x : LogVerdict) (devices : Devices) → p.role ≡ Replay b → is_over b.now ≡ false → GoesOn image p b → b.total ≡ 0 → next_work image p b ≡ suc (stored x)
     → sphere_rank c image (laid (by_verdict b k x devices p)) + ((length (by_verdict b k x devices p).words + c + 1) + 3) ≤ sphere_rank c image p
 serial_rank c image p b k x devices role going g none work =
     let e : next_work image p b - b.total ≡ suc (stored x) = omega (arith, none, work) in
@@ -127,7 +127,7 @@ dma_is image p b g turn =
     ap (now_work b.log y) (sym g.now ∙ turn) ∙ (λ i. suc (dma_stored (dma_verdict b.log (sym g.progress i) (sym g.used i))))
 
 -- the DMA of the sphere
-abbrev pub DmaPays : (c : ℕ) → SphereSetup → Sphere → Option Moved → Type 0
+abbrev pub DmaPays : (c : ℕ) → SphereSetup → Sphere → Option MovedSphere → Type 0
 DmaPays c image p None = Unit {0}
 DmaPays c image p (Some v) = sphere_rank c image (laid v) + ((length v.words + c + 1) + 3) ≤ sphere_rank c image p
 

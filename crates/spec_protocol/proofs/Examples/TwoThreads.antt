@@ -17,7 +17,7 @@ use Rattle.spec_kernel.specs.Calls.{called}
 use Rattle.spec_kernel.specs.Copies.{bytes_put}
 use Rattle.spec_kernel.specs.Needs.{next_kind, next_operation, need}
 use Rattle.spec_kernel.specs.Records.{fits}
-use Rattle.spec_kernel.specs.Serving.{serve, console_told}
+use Rattle.spec_kernel.specs.Serving.{serve, console_written}
 use Rattle.spec_play.specs.Plays.{Played, play_one, play}
 use Rattle.spec_play.specs.Transfers.{dma_verdict}
 use Rattle.spec_play.specs.Turns.{Over, has_left_over, now_at}
@@ -46,11 +46,11 @@ points =
     ∷ Point.Commit 26 0 Actor.Dma CommitKind.Dma 0 false ∷ Point.Commit 28 0 (Actor.Thread 1) CommitKind.Chunk 1 true
     ∷ Point.Commit 31 0 (Actor.Thread 0) CommitKind.Chunk 1 true ∷ []
 
-abbrev told : ModeName → LogParts
-told mode = logged mode 100 (supplied 0 (serial_start (two_threads mode)) points)
+abbrev noted_log : ModeName → LogParts
+noted_log mode = logged mode 100 (supplied 0 (serial_start (two_threads mode)) points)
 
 abbrev played : ModeName → Played
-played mode = play (told mode) (image 60 code) 0
+played mode = play (noted_log mode) (image 60 code) 0
 
 abbrev actors : Played → List Actor
 actors y = map (λ c. c.actor) y.progress.commits
@@ -59,20 +59,20 @@ actors y = map (λ c. c.actor) y.progress.commits
 abbrev given : Played → List (Option ℕ)
 given y = map (λ t. slice_get t.x 6) y.threads
 
-pub record AreTold : Type 0 where
-  pub sized : log_bytes (told ModeName.OrderSize)
+pub record AreNoted : Type 0 where
+  pub sized : log_bytes (noted_log ModeName.OrderSize)
       ≡ 0x44 ∷ 0x4C ∷ 0x52 ∷ 0x4E ∷ 0x01 ∷ 0x00 ∷ 0x00 ∷ 0x00 ∷ 0x64 ∷ 0x00 ∷ 0x00 ∷ 0x00 ∷ 0x09 ∷ 0x00 ∷ 0x00 ∷ 0x00
       ∷ 0x09 ∷ 0x00 ∷ 0x00 ∷ 0x00 ∷ 0x00 ∷ 0x00 ∷ 0x01 ∷ 0x1F ∷ 0x00 ∷ 0x09 ∷ 0x00 ∷ 0x00 ∷ 0x00 ∷ 0x03 ∷ 0x00 ∷ 0x00
       ∷ 0x00 ∷ 0x02 ∷ 0x00 ∷ 0x00 ∷ 0x00 ∷ 0x01 ∷ 0x00 ∷ 0x01 ∷ 0x00 ∷ 0x00 ∷ 0x00 ∷ 0x01 ∷ 0x00 ∷ 0x01 ∷ 0x00 ∷ 0x00
       ∷ 0x00 ∷ 0x00 ∷ 0x00 ∷ 0x00 ∷ 0x00 ∷ 0x00 ∷ 0x00 ∷ 0x01 ∷ 0x00 ∷ 0x00 ∷ 0x00 ∷ 0x06 ∷ 0x00 ∷ 0x00 ∷ 0x00 ∷ 0x03
       ∷ 0x00 ∷ 0x41 ∷ 0x42 ∷ 0x43 ∷ []
-  pub unsized : log_bytes (told ModeName.OrderOnly)
+  pub unsized : log_bytes (noted_log ModeName.OrderOnly)
       ≡ 0x44 ∷ 0x4C ∷ 0x52 ∷ 0x4E ∷ 0x01 ∷ 0x01 ∷ 0x00 ∷ 0x00 ∷ 0x64 ∷ 0x00 ∷ 0x00 ∷ 0x00 ∷ 0x09 ∷ 0x00 ∷ 0x00 ∷ 0x00
       ∷ 0x09 ∷ 0x00 ∷ 0x00 ∷ 0x00 ∷ 0x00 ∷ 0x00 ∷ 0x01 ∷ 0x1F ∷ 0x00 ∷ 0x04 ∷ 0x00 ∷ 0x00 ∷ 0x00 ∷ 0x00 ∷ 0x04 ∷ 0x00
       ∷ 0x00 ∷ 0x00 ∷ 0x01 ∷ 0x00 ∷ 0x00 ∷ 0x05 ∷ 0x00 ∷ 0x00 ∷ 0x00 ∷ 0x01 ∷ 0x00 ∷ 0x01 ∷ 0x00 ∷ 0x00 ∷ 0x00 ∷ 0x00
       ∷ 0x01 ∷ 0x00 ∷ 0x01 ∷ 0x01 ∷ 0x00 ∷ 0x00 ∷ 0x00 ∷ 0x01 ∷ 0x00 ∷ 0x00 ∷ 0x00 ∷ 0x00 ∷ 0x00 ∷ 0x00 ∷ 0x00 ∷ 0x00
       ∷ 0x00 ∷ 0x01 ∷ 0x00 ∷ 0x00 ∷ 0x00 ∷ 0x06 ∷ 0x00 ∷ 0x00 ∷ 0x00 ∷ 0x03 ∷ 0x00 ∷ 0x41 ∷ 0x42 ∷ 0x43 ∷ []
-  pub in_turn : log_bytes (told ModeName.Picolog)
+  pub in_turn : log_bytes (noted_log ModeName.Picolog)
       ≡ 0x44 ∷ 0x4C ∷ 0x52 ∷ 0x4E ∷ 0x01 ∷ 0x02 ∷ 0x00 ∷ 0x00 ∷ 0x64 ∷ 0x00 ∷ 0x00 ∷ 0x00 ∷ 0x09 ∷ 0x00 ∷ 0x00 ∷ 0x00
       ∷ 0x00 ∷ 0x00 ∷ 0x00 ∷ 0x00 ∷ 0x04 ∷ 0x00 ∷ 0x00 ∷ 0x00 ∷ 0x00 ∷ 0x04 ∷ 0x00 ∷ 0x00 ∷ 0x00 ∷ 0x01 ∷ 0x00 ∷ 0x00
       ∷ 0x05 ∷ 0x00 ∷ 0x00 ∷ 0x00 ∷ 0x01 ∷ 0x00 ∷ 0x01 ∷ 0x00 ∷ 0x00 ∷ 0x00 ∷ 0x00 ∷ 0x01 ∷ 0x00 ∷ 0x01 ∷ 0x01 ∷ 0x00
@@ -84,6 +84,6 @@ pub record AreTold : Type 0 where
       ∷ Actor.Dma ∷ Actor.Thread 1 ∷ Actor.Thread 0 ∷ []
   pub fails : given (played ModeName.Picolog) ≡ Some 1 ∷ Some 0 ∷ []
 
-pub logs_told : AreTold
-unfolding serial_of loads_of next_of load_of store_of one lay read merged answer called bytes_put next_kind next_operation need fits serve console_told play_one dma_verdict has_left_over now_at chunk_verdict serial_verdict chunk_moved serial_moved dma_moved do_point
-logs_told = record { sized = refl; unsized = refl; in_turn = refl; complete = refl; turns = refl; fails = refl }
+pub logs_noted : AreNoted
+unfolding serial_of loads_of next_of load_of store_of one lay read merged answer called bytes_put next_kind next_operation need fits serve console_written play_one dma_verdict has_left_over now_at chunk_verdict serial_verdict chunk_moved serial_moved dma_moved do_point
+logs_noted = record { sized = refl; unsized = refl; in_turn = refl; complete = refl; turns = refl; fails = refl }

@@ -4,7 +4,7 @@ use Rattle.std.specs.Prelude.{slice_get, IsSome}
 use Rattle.std.proofs.lemmas.Bool.{true≢false, and_parts, and_from, or_parts, eqb-true, eqb-false, eq-eqb, not-true, not-false}
 use Rattle.dl_entry.specs.declared.Actor.{Actor}
 use Rattle.spec_isa.specs.Words.{Stored, lays}
-use Rattle.spec_isa.specs.Runs.{Run, begun, run}
+use Rattle.spec_isa.specs.Runs.{Run, run_start, run}
 use Rattle.spec_log.specs.declared.ModeName.{ModeName}
 use Rattle.spec_kernel.specs.Needs.{next_kind}
 use Rattle.spec_engine.specs.declared.answers.How.{How}
@@ -16,7 +16,7 @@ use Rattle.spec_engine.specs.Laws.{CoversWords}
 use Rattle.spec_engine.proofs.Searches.{first_none}
 use Rattle.spec_protocol.specs.declared.reply.Reply.{Reply}
 use Rattle.spec_protocol.specs.Spheres.{Role, Plain, Record, Replay, Sphere, is_stopped, recording_turn, head_in, head_of, is_in_pieces}
-use Rattle.spec_protocol.specs.Commits.{Moved, is_piece, chunk_moved, serial_moved}
+use Rattle.spec_protocol.specs.Commits.{MovedSphere, is_piece, chunk_moved, serial_moved}
 use Rattle.spec_protocol.specs.World.{Held, World, moment, sphere_at, After, answered}
 use Rattle.spec_protocol.specs.Asking.{move_at, is_short, chunk_request, grant_chunk, unless_denied, serial_request, grant_serial, unless_busy, asks_serial, ask_arbiter, other_turn, unless_turn, ask_closed, ask_held, asking}
 use Rattle.spec_protocol.specs.Serial.{do_moved, do_serial}
@@ -27,9 +27,9 @@ use Rattle.spec_protocol.proofs.Memory.Slots.{words-other}
 use Rattle.spec_protocol.proofs.Memory.Covering.{bits-signed, CoversWords-signed, apart-covered, flying-all_lack}
 use Rattle.spec_protocol.proofs.Moves.Granted.{HasTurn, chunk-stores, chunk-lives, serial-lives, chunk-moves, serial-moves}
 use Rattle.spec_protocol.proofs.Moves.AnyMemory.{over, relaid, chunk-relaid}
-use Rattle.spec_protocol.proofs.Invariants.Kept.{Kept, shown-get, unchanged-kept}
+use Rattle.spec_protocol.proofs.Invariants.Preserved.{Preserved, shown-get, unchanged-preserved}
 use Rattle.spec_protocol.proofs.Invariants.Cores.{branch}
-use Rattle.spec_protocol.proofs.Invariants.Granting.{Grants, granted-kept}
+use Rattle.spec_protocol.proofs.Invariants.Granting.{Grants, granted-preserved}
 use Rattle.spec_protocol.specs.Currency.{IsCurrent, AllLack}
 use Rattle.spec_protocol.specs.Invariants.{current, IsGoodHeld, IsGood}
 
@@ -46,7 +46,7 @@ shown_over w i = refl
 
 -- ---- a chunk
 
-abbrev chunk_move : World → Held → How → Moved
+abbrev chunk_move : World → Held → How → MovedSphere
 chunk_move w h how =
     chunk_moved h.thread (is_piece how) (is_short w.numbers.chunk how h.chunk.limit) h.chunk.done w.devices (sphere_at w h.chunk.sphere)
 
@@ -184,7 +184,7 @@ none_of_sphere w i none = no_flying i w.slots (λ k f is. first_none (is_of_sphe
 memory_itself : (w : World) (i : ℕ) → flying i w.slots ≡ [] → current w i ≡ (sphere_at w i).memory
 memory_itself w i e = ap (lays (sphere_at w i).memory) e
 
-abbrev serial_move : World → Held → Moved
+abbrev serial_move : World → Held → MovedSphere
 serial_move w h = serial_moved h.thread (moment w) h.chunk.start w.devices (sphere_at w h.chunk.sphere)
 
 serial_whole : (w : World) (h : Held) → h.chunk.sphere < length w.spheres → slice_get (sphere_at w h.chunk.sphere).threads h.thread ≡ Some h.chunk.start → flying h.chunk.sphere w.slots ≡ [] → (serial_move w h).sphere.memory ≡ (sphere_at w h.chunk.sphere).memory
@@ -203,7 +203,7 @@ serial_whole w h within start none memory =
 -- the thread has run nothing, and its next instruction is serial
 serial_next : (m : List ℕ) (ch : Chunk) → IsCurrent m ch → ch.closed ≡ Some How.Serial → ch.done.n ≡ 0 → IsSome (next_kind ch.start m)
 serial_next m ch live closed none =
-    let e : begun ch.start ≡ ch.done = subst (λ (n : ℕ). run m ch.start n ≡ ch.done) none live.runs in
+    let e : run_start ch.start ≡ ch.done = subst (λ (n : ℕ). run m ch.start n ≡ ch.done) none live.runs in
     subst (λ (r : Run). IsSome (next_kind r.thread (lays m r.words))) (sym e) (live.next_serial closed)
 
 serial_closed : (o : Option How) → is_serial o ≡ true → o ≡ Some How.Serial
@@ -261,55 +261,55 @@ serial_grants w c h good is going turn free serial none =
 
 -- ---- the event
 
-grant_chunk_kept : (w : World) (c : ℕ) (h : Held) (how : How) → IsGood w → Grants w c h (chunk_request w h how) h.chunk.writes (chunk_move w h how) → Kept w (grant_chunk w c h how)
+grant_chunk_preserved : (w : World) (c : ℕ) (h : Held) (how : How) → IsGood w → Grants w c h (chunk_request w h how) h.chunk.writes (chunk_move w h how) → Preserved w (grant_chunk w c h how)
 unfolding grant_chunk
-grant_chunk_kept w c h how good g = granted-kept w c h (chunk_request w h how) h.chunk.writes (chunk_move w h how) _ refl good g
+grant_chunk_preserved w c h how good g = granted-preserved w c h (chunk_request w h how) h.chunk.writes (chunk_move w h how) _ refl good g
 
-grant_serial_kept : (w : World) (c : ℕ) (h : Held) → IsGood w → Grants w c h (serial_request h) (signed h.chunk.sphere (serial_move w h).words (nothing w.numbers.signature)) (serial_move w h) → Kept w (grant_serial w c h)
+grant_serial_preserved : (w : World) (c : ℕ) (h : Held) → IsGood w → Grants w c h (serial_request h) (signed h.chunk.sphere (serial_move w h).words (nothing w.numbers.signature)) (serial_move w h) → Preserved w (grant_serial w c h)
 unfolding grant_serial
-grant_serial_kept w c h good g = granted-kept w c h (serial_request h) _ (serial_move w h) _ refl good g
+grant_serial_preserved w c h good g = granted-preserved w c h (serial_request h) _ (serial_move w h) _ refl good g
 
 -- an ask that a flight denies keeps the invariant, if the ask that none denies does
-pub denied_kept : (w : World) (a : After) (o : Option ℕ) → IsGood w → (o ≡ None → Kept w a) → Kept w (unless_denied (denied_by o) w a)
-denied_kept w a None good kept = kept refl
-denied_kept w a (Some k) good kept = unchanged-kept w (answered w (Reply.Denied k)) refl refl refl good
+pub denied_preserved : (w : World) (a : After) (o : Option ℕ) → IsGood w → (o ≡ None → Preserved w a) → Preserved w (unless_denied (denied_by o) w a)
+denied_preserved w a None good kept = kept refl
+denied_preserved w a (Some k) good kept = unchanged-preserved w (answered w (Reply.Denied k)) refl refl refl good
 
-busy_kept : (w : World) (a : After) (o : Option ℕ) → IsGood w → (o ≡ None → Kept w a) → Kept w (unless_busy (busy_by o) w a)
-busy_kept w a None good kept = kept refl
-busy_kept w a (Some k) good kept = unchanged-kept w (answered w (Reply.SphereBusy k)) refl refl refl good
+busy_preserved : (w : World) (a : After) (o : Option ℕ) → IsGood w → (o ≡ None → Preserved w a) → Preserved w (unless_busy (busy_by o) w a)
+busy_preserved w a None good kept = kept refl
+busy_preserved w a (Some k) good kept = unchanged-preserved w (answered w (Reply.SphereBusy k)) refl refl refl good
 
-arbiter_kept : (w : World) (c : ℕ) (h : Held) (how : How) (serial : Bool) → IsGood w → at w.cores c ≡ Some h → h.chunk.closed ≡ Some how → is_stopped (sphere_at w h.chunk.sphere).role ≡ false → other_turn (head_of (sphere_at w h.chunk.sphere)) h.thread ≡ None
-    → is_full w.slots ≡ false → asks_serial h.chunk (sphere_at w h.chunk.sphere).role ≡ serial → Kept w (ask_arbiter w c h how serial)
-arbiter_kept w c h how true good is closed going turn free serial =
-    busy_kept w (grant_serial w c h) (first_slot (is_of_sphere h.chunk.sphere) w.slots) good
-    (λ none. grant_serial_kept w c h good (serial_grants w c h good is going turn free serial none))
-arbiter_kept w c h how false good is closed going turn free chunk =
-    denied_kept w (grant_chunk w c h how) (first_slot (meets_chunk h.chunk.reads h.chunk.writes) w.slots) good
-    (λ none. grant_chunk_kept w c h how good (chunk_grants w c h how good is closed going turn free chunk none))
+arbiter_preserved : (w : World) (c : ℕ) (h : Held) (how : How) (serial : Bool) → IsGood w → at w.cores c ≡ Some h → h.chunk.closed ≡ Some how → is_stopped (sphere_at w h.chunk.sphere).role ≡ false → other_turn (head_of (sphere_at w h.chunk.sphere)) h.thread ≡ None
+    → is_full w.slots ≡ false → asks_serial h.chunk (sphere_at w h.chunk.sphere).role ≡ serial → Preserved w (ask_arbiter w c h how serial)
+arbiter_preserved w c h how true good is closed going turn free serial =
+    busy_preserved w (grant_serial w c h) (first_slot (is_of_sphere h.chunk.sphere) w.slots) good
+    (λ none. grant_serial_preserved w c h good (serial_grants w c h good is going turn free serial none))
+arbiter_preserved w c h how false good is closed going turn free chunk =
+    denied_preserved w (grant_chunk w c h how) (first_slot (meets_chunk h.chunk.reads h.chunk.writes) w.slots) good
+    (λ none. grant_chunk_preserved w c h how good (chunk_grants w c h how good is closed going turn free chunk none))
 
 -- an ask at any actor's turn keeps the invariant, if the ask at its own turn does
-pub turn-kept : (w : World) (a : After) (o : Option Actor) → IsGood w → (o ≡ None → Kept w a) → Kept w (unless_turn o w a)
-turn-kept w a None good kept = kept refl
-turn-kept w a (Some actor) good kept = unchanged-kept w (answered w (Reply.NotTurn actor)) refl refl refl good
+pub turn-preserved : (w : World) (a : After) (o : Option Actor) → IsGood w → (o ≡ None → Preserved w a) → Preserved w (unless_turn o w a)
+turn-preserved w a None good kept = kept refl
+turn-preserved w a (Some actor) good kept = unchanged-preserved w (answered w (Reply.NotTurn actor)) refl refl refl good
 
-closed_kept : (w : World) (c : ℕ) (h : Held) (o : Option How) → IsGood w → at w.cores c ≡ Some h → h.chunk.closed ≡ o → Kept w (ask_closed w c h o)
-closed_kept w c h None good is closed = unchanged-kept w (answered w Reply.NotClosed) refl refl refl good
-closed_kept w c h (Some how) good is closed =
+closed_preserved : (w : World) (c : ℕ) (h : Held) (o : Option How) → IsGood w → at w.cores c ≡ Some h → h.chunk.closed ≡ o → Preserved w (ask_closed w c h o)
+closed_preserved w c h None good is closed = unchanged-preserved w (answered w Reply.NotClosed) refl refl refl good
+closed_preserved w c h (Some how) good is closed =
     let p = sphere_at w h.chunk.sphere in
     let turn = other_turn (head_of p) h.thread in
     let arbiter = ask_arbiter w c h how (asks_serial h.chunk p.role) in
-    branch (Kept w) (is_stopped p.role) (answered w Reply.Stopped) (unless_turn turn w (cond (is_full w.slots) (answered w Reply.WindowFull) arbiter))
-    (λ _. unchanged-kept w (answered w Reply.Stopped) refl refl refl good)
-    (λ going. turn-kept w (cond (is_full w.slots) (answered w Reply.WindowFull) arbiter) turn good
-    (λ mine. branch (Kept w) (is_full w.slots) (answered w Reply.WindowFull) arbiter
-    (λ _. unchanged-kept w (answered w Reply.WindowFull) refl refl refl good)
-    (λ free. arbiter_kept w c h how (asks_serial h.chunk p.role) good is closed going mine free refl)))
+    branch (Preserved w) (is_stopped p.role) (answered w Reply.Stopped) (unless_turn turn w (cond (is_full w.slots) (answered w Reply.WindowFull) arbiter))
+    (λ _. unchanged-preserved w (answered w Reply.Stopped) refl refl refl good)
+    (λ going. turn-preserved w (cond (is_full w.slots) (answered w Reply.WindowFull) arbiter) turn good
+    (λ mine. branch (Preserved w) (is_full w.slots) (answered w Reply.WindowFull) arbiter
+    (λ _. unchanged-preserved w (answered w Reply.WindowFull) refl refl refl good)
+    (λ free. arbiter_preserved w c h how (asks_serial h.chunk p.role) good is closed going mine free refl)))
 
-ask_held_kept : (w : World) (c : ℕ) (o : Option Held) → IsGood w → at w.cores c ≡ o → Kept w (ask_held w c o)
-ask_held_kept w c None good is = unchanged-kept w (answered w Reply.Idle) refl refl refl good
-ask_held_kept w c (Some h) good is = closed_kept w c h h.chunk.closed good is refl
+ask_held_preserved : (w : World) (c : ℕ) (o : Option Held) → IsGood w → at w.cores c ≡ o → Preserved w (ask_held w c o)
+ask_held_preserved w c None good is = unchanged-preserved w (answered w Reply.Idle) refl refl refl good
+ask_held_preserved w c (Some h) good is = closed_preserved w c h h.chunk.closed good is refl
 
 -- the event Ask keeps the invariant
-pub ask-kept : (w : World) (c : ℕ) → IsGood w → Kept w (asking w c)
+pub ask-preserved : (w : World) (c : ℕ) → IsGood w → Preserved w (asking w c)
 unfolding asking
-ask-kept w c good = ask_held_kept w c (at w.cores c) good refl
+ask-preserved w c good = ask_held_preserved w c (at w.cores c) good refl

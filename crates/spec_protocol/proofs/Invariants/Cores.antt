@@ -20,7 +20,7 @@ use Rattle.spec_protocol.specs.Stepping.{with_chunk, stepped, step_held, steppin
 use Rattle.spec_protocol.proofs.Memory.Slots.{at-set_same, at-set_other}
 use Rattle.spec_protocol.proofs.Memory.Steps.{SameBase}
 use Rattle.spec_protocol.proofs.Memory.Current.{step-good}
-use Rattle.spec_protocol.proofs.Invariants.Kept.{SameSizes, PointIs, Kept, unchanged-kept}
+use Rattle.spec_protocol.proofs.Invariants.Preserved.{SameSizes, PointIs, Preserved, unchanged-preserved}
 use Rattle.spec_protocol.specs.Currency.{IsCurrent}
 use Rattle.spec_protocol.specs.Invariants.{IsGoodChunk, current, IsGoodHeld, IsAlone, IsGood}
 
@@ -83,8 +83,8 @@ core-good w c o good new other =
     }
 
 -- such a change of one core, which moves no sphere and makes no point, keeps the invariant
-pub core-kept : (w : World) (c : ℕ) (o : Option Held) (a : After) → a.world ≡ with_core w c o → a.move ≡ None → a.point ≡ None → IsGood (with_core w c o) → Kept w a
-core-kept w c o a world move point good =
+pub core-preserved : (w : World) (c : ℕ) (o : Option Held) (a : After) → a.world ≡ with_core w c o → a.move ≡ None → a.point ≡ None → IsGood (with_core w c o) → Preserved w a
+core-preserved w c o a world move point good =
     record {
       good = subst IsGood (sym world) good;
       sizes = subst (SameSizes w) (sym world) (record { numbers = refl; spheres = refl; cores = length-set w.cores c o; slots = refl });
@@ -120,10 +120,10 @@ others-differ w c h dh good is same k e d g ne there sphere thread =
     let q : record h { chunk = dh } ≡ k = cc in
     ne (good.alone d c g h there is (sym sphere ∙ ap (λ (x : Held). x.chunk.sphere) (sym q) ∙ same) (sym thread ∙ ap (λ (x : Held). x.thread) (sym q)))
 
-chunk_kept : (w : World) (c : ℕ) (h : Held) (dh : Chunk) (a : After) → IsGood w → at w.cores c ≡ Some h → SameBase h.chunk dh → IsGoodChunk w.numbers.buffer w.numbers.signature w.slots c (current w h.chunk.sphere) dh
-    → a.world ≡ with_chunk w c h dh → a.move ≡ None → a.point ≡ None → Kept w a
-chunk_kept w c h dh a good is base chunk world move point =
-    core-kept w c (Some (record h { chunk = dh })) a world move point
+chunk_preserved : (w : World) (c : ℕ) (h : Held) (dh : Chunk) (a : After) → IsGood w → at w.cores c ≡ Some h → SameBase h.chunk dh → IsGoodChunk w.numbers.buffer w.numbers.signature w.slots c (current w h.chunk.sphere) dh
+    → a.world ≡ with_chunk w c h dh → a.move ≡ None → a.point ≡ None → Preserved w a
+chunk_preserved w c h dh a good is base chunk world move point =
+    core-preserved w c (Some (record h { chunk = dh })) a world move point
     (core-good w c (Some (record h { chunk = dh })) good
     (λ k e. subst (IsGoodHeld w c) (let q : record h { chunk = dh } ≡ k = cc in q) (held-same w c h dh (good.held c h is) base chunk))
     (others-differ w c h dh good is base.sphere))
@@ -144,23 +144,23 @@ open_is ch e =
       | Some how ↦ λ h. absurd (true≢false (sym h))
     ] e
 
-step_held_kept : (w : World) (c : ℕ) (o : Option Held) → at w.cores c ≡ o → IsGood w → Kept w (step_held w c o)
-step_held_kept w c None is good = unchanged-kept w (answered w Reply.Idle) refl refl refl good
-step_held_kept w c (Some h) is good =
+step_held_preserved : (w : World) (c : ℕ) (o : Option Held) → at w.cores c ≡ o → IsGood w → Preserved w (step_held w c o)
+step_held_preserved w c None is good = unchanged-preserved w (answered w Reply.Idle) refl refl refl good
+step_held_preserved w c (Some h) is good =
     let p = sphere_at w h.chunk.sphere in
     let s = step w.numbers.buffer p.memory w.slots c h.chunk in
-    branch (Kept w) (is_stopped p.role) (answered w Reply.Stopped) (cond (is_open h.chunk) (stepped w c h s) (answered w Reply.Waiting))
-    (λ _. unchanged-kept w (answered w Reply.Stopped) refl refl refl good)
-    (λ _. branch (Kept w) (is_open h.chunk) (stepped w c h s) (answered w Reply.Waiting)
+    branch (Preserved w) (is_stopped p.role) (answered w Reply.Stopped) (cond (is_open h.chunk) (stepped w c h s) (answered w Reply.Waiting))
+    (λ _. unchanged-preserved w (answered w Reply.Stopped) refl refl refl good)
+    (λ _. branch (Preserved w) (is_open h.chunk) (stepped w c h s) (answered w Reply.Waiting)
     (λ e.
     let r = step-good w.numbers.buffer w.numbers.signature w.slots c p.memory h.chunk good.covered (open_is h.chunk e) (good.held c h is).chunk in
-    chunk_kept w c h s.chunk (stepped w c h s) good is r.1 r.0 refl refl refl)
-    (λ _. unchanged-kept w (answered w Reply.Waiting) refl refl refl good))
+    chunk_preserved w c h s.chunk (stepped w c h s) good is r.1 r.0 refl refl refl)
+    (λ _. unchanged-preserved w (answered w Reply.Waiting) refl refl refl good))
 
 -- the event Step keeps the invariant
-pub step-kept : (w : World) (c : ℕ) → IsGood w → Kept w (stepping w c)
+pub step-preserved : (w : World) (c : ℕ) → IsGood w → Preserved w (stepping w c)
 unfolding stepping
-step-kept w c good = step_held_kept w c (at w.cores c) refl good
+step-preserved w c good = step_held_preserved w c (at w.cores c) refl good
 
 -- ---- Cut
 
@@ -200,25 +200,25 @@ cut_good capacity bits xs c m ch open_ some good =
           };
     }
 
-cut_open_kept : (w : World) (c : ℕ) (h : Held) (o : Option How) → at w.cores c ≡ Some h → h.chunk.closed ≡ o → IsGood w → Kept w (cut_to w c h (cut_open h.chunk o))
-cut_open_kept w c h (Some how) is closed good =
-    chunk_kept w c h h.chunk (cut_to w c h (cut_open h.chunk (Some how))) good is (same_base h.chunk) (good.held c h is).chunk refl refl refl
-cut_open_kept w c h None is closed good =
-    branch (λ (s : Cutting). Kept w (cut_to w c h s)) (eqb h.chunk.done.n 0) (record { reply = CutReply.NothingRun; chunk = h.chunk }) (record { reply = CutReply.Closed; chunk = record h.chunk { closed = Some How.Cut } })
-    (λ _. chunk_kept w c h h.chunk (cut_to w c h (record { reply = CutReply.NothingRun; chunk = h.chunk })) good is (same_base h.chunk) (good.held c h is).chunk refl refl refl)
+cut_open_preserved : (w : World) (c : ℕ) (h : Held) (o : Option How) → at w.cores c ≡ Some h → h.chunk.closed ≡ o → IsGood w → Preserved w (cut_to w c h (cut_open h.chunk o))
+cut_open_preserved w c h (Some how) is closed good =
+    chunk_preserved w c h h.chunk (cut_to w c h (cut_open h.chunk (Some how))) good is (same_base h.chunk) (good.held c h is).chunk refl refl refl
+cut_open_preserved w c h None is closed good =
+    branch (λ (s : Cutting). Preserved w (cut_to w c h s)) (eqb h.chunk.done.n 0) (record { reply = CutReply.NothingRun; chunk = h.chunk }) (record { reply = CutReply.Closed; chunk = record h.chunk { closed = Some How.Cut } })
+    (λ _. chunk_preserved w c h h.chunk (cut_to w c h (record { reply = CutReply.NothingRun; chunk = h.chunk })) good is (same_base h.chunk) (good.held c h is).chunk refl refl refl)
     (λ e. let dh = record h.chunk { closed = Some How.Cut } in
-    chunk_kept w c h dh (cut_to w c h (record { reply = CutReply.Closed; chunk = dh })) good is
+    chunk_preserved w c h dh (cut_to w c h (record { reply = CutReply.Closed; chunk = dh })) good is
     (record { sphere = refl; start = refl; limit = refl; halves = refl; reads = refl; writes = refl })
     (cut_good w.numbers.buffer w.numbers.signature w.slots c (current w h.chunk.sphere) h.chunk closed (positive h.chunk.done.n e) (good.held c h is).chunk) refl refl refl)
 
-cut_held_kept : (w : World) (c : ℕ) (o : Option Held) → at w.cores c ≡ o → IsGood w → Kept w (cut_held w c o)
-cut_held_kept w c None is good = unchanged-kept w (answered w Reply.Idle) refl refl refl good
-cut_held_kept w c (Some h) is good =
-    branch (Kept w) (is_stopped (sphere_at w h.chunk.sphere).role) (answered w Reply.Stopped) (cut_to w c h (cut h.chunk))
-    (λ _. unchanged-kept w (answered w Reply.Stopped) refl refl refl good)
-    (λ _. cut_open_kept w c h h.chunk.closed is refl good)
+cut_held_preserved : (w : World) (c : ℕ) (o : Option Held) → at w.cores c ≡ o → IsGood w → Preserved w (cut_held w c o)
+cut_held_preserved w c None is good = unchanged-preserved w (answered w Reply.Idle) refl refl refl good
+cut_held_preserved w c (Some h) is good =
+    branch (Preserved w) (is_stopped (sphere_at w h.chunk.sphere).role) (answered w Reply.Stopped) (cut_to w c h (cut h.chunk))
+    (λ _. unchanged-preserved w (answered w Reply.Stopped) refl refl refl good)
+    (λ _. cut_open_preserved w c h h.chunk.closed is refl good)
 
 -- the event Cut keeps the invariant
-pub cut-kept : (w : World) (c : ℕ) → IsGood w → Kept w (cutting w c)
+pub cut-preserved : (w : World) (c : ℕ) → IsGood w → Preserved w (cutting w c)
 unfolding cutting
-cut-kept w c good = cut_held_kept w c (at w.cores c) refl good
+cut-preserved w c good = cut_held_preserved w c (at w.cores c) refl good

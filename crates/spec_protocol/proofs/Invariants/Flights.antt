@@ -23,7 +23,7 @@ use Rattle.spec_protocol.specs.Moves.{do_if, FitsIf}
 use Rattle.spec_protocol.specs.Flying.{reply_of_drain, drain_slot, draining, reads_of, writes_of, squashed, told, delivering, reply_of_retire, retiring}
 use Rattle.spec_protocol.proofs.Memory.Laying.{lays_append, AllLack_flip, Apart_lack, Apart_first, Apart_last, Apart-append, lays-lay}
 use Rattle.spec_protocol.proofs.Memory.Slots.{at-set_same, at-set_other, at_within, before, behind, flying-at, flying-set, flying_same, words-same, words-other}
-use Rattle.spec_protocol.proofs.Invariants.Kept.{SameSizes, PointIs, Kept, sphere-same, sphere-other, shown_from-same, shown-unmoved, set-itself, unchanged-kept}
+use Rattle.spec_protocol.proofs.Invariants.Preserved.{SameSizes, PointIs, Preserved, sphere-same, sphere-other, shown_from-same, shown-unmoved, set-itself, unchanged-preserved}
 use Rattle.spec_protocol.proofs.Invariants.Cores.{set-cases, alone-set, held_there, others-differ, branch}
 use Rattle.spec_protocol.specs.Currency.{IsCurrent, IsQuiet}
 use Rattle.spec_protocol.specs.Invariants.{IsFlightCovered, IsGoodChunk, current, IsGoodHeld, IsGood}
@@ -116,9 +116,9 @@ without_first b h s ss apart =
 drained_world : World → ℕ → Flight → Stored → List Stored → World
 drained_world w k f s ss = with_slot (with_memory w f.sphere (lay (sphere_at w f.sphere).memory s)) k (Some (record f { words = ss }))
 
-drained_kept : (w : World) (k : ℕ) (f : Flight) (s : Stored) (ss : List Stored) (a : After) → IsGood w → at w.slots k ≡ Some f → f.words ≡ s ∷ ss → a.world ≡ drained_world w k f s ss → a.move ≡ None → a.point ≡ None → Kept w a
+drained_preserved : (w : World) (k : ℕ) (f : Flight) (s : Stored) (ss : List Stored) (a : After) → IsGood w → at w.slots k ≡ Some f → f.words ≡ s ∷ ss → a.world ≡ drained_world w k f s ss → a.move ≡ None → a.point ≡ None → Preserved w a
 unfolding drained_world shown
-drained_kept w k f s ss a good is words world move point =
+drained_preserved w k f s ss a good is words world move point =
     let i = f.sphere in
     let m = (sphere_at w i).memory in
     let b = before i w.slots k in
@@ -197,20 +197,20 @@ clean_world : (w : World) (k i : ℕ) (v : Option Flight) → at w.slots k ≡ v
 clean_world w k i v is =
     (λ j. record w { spheres = set-itself w.spheres i j; slots = (ap (set w.slots k) (sym is) ∙ set-get_or w.slots k None) j })
 
-drain_words_kept : (w : World) (k : ℕ) (f : Flight) (ws : List Stored) → IsGood w → at w.slots k ≡ Some f → f.words ≡ ws
-    → let d = drain_words (sphere_at w f.sphere).memory f ws in Kept w (answered (with_slot (with_memory w f.sphere d.memory) k d.slot) (reply_of_drain d.reply))
+drain_words_preserved : (w : World) (k : ℕ) (f : Flight) (ws : List Stored) → IsGood w → at w.slots k ≡ Some f → f.words ≡ ws
+    → let d = drain_words (sphere_at w f.sphere).memory f ws in Preserved w (answered (with_slot (with_memory w f.sphere d.memory) k d.slot) (reply_of_drain d.reply))
 unfolding drained_world
-drain_words_kept w k f [] good is words = unchanged-kept w _ (clean_world w k f.sphere (Some f) is) refl refl good
-drain_words_kept w k f (s ∷ ss) good is words = drained_kept w k f s ss _ good is words refl refl refl
+drain_words_preserved w k f [] good is words = unchanged-preserved w _ (clean_world w k f.sphere (Some f) is) refl refl good
+drain_words_preserved w k f (s ∷ ss) good is words = drained_preserved w k f s ss _ good is words refl refl refl
 
-drain_slot_kept : (w : World) (k : ℕ) (o : Option Flight) → at w.slots k ≡ o → IsGood w → Kept w (drain_slot w k o)
-drain_slot_kept w k None is good = unchanged-kept w (answered w Reply.NoCommit) refl refl refl good
-drain_slot_kept w k (Some f) is good = drain_words_kept w k f f.words good is refl
+drain_slot_preserved : (w : World) (k : ℕ) (o : Option Flight) → at w.slots k ≡ o → IsGood w → Preserved w (drain_slot w k o)
+drain_slot_preserved w k None is good = unchanged-preserved w (answered w Reply.NoCommit) refl refl refl good
+drain_slot_preserved w k (Some f) is good = drain_words_preserved w k f f.words good is refl
 
 -- the event Drain keeps the invariant
-pub drain-kept : (w : World) (k : ℕ) → IsGood w → Kept w (draining w k)
+pub drain-preserved : (w : World) (k : ℕ) → IsGood w → Preserved w (draining w k)
 unfolding draining
-drain-kept w k good = drain_slot_kept w k (at w.slots k) refl good
+drain-preserved w k good = drain_slot_preserved w k (at w.slots k) refl good
 
 -- ---- a slot whose flight keeps its words
 
@@ -272,8 +272,8 @@ retired_quiet w k f i c reads is all l q =
       ];
     }
 
-retired_kept : (w : World) (k : ℕ) (f : Flight) (a : After) → IsGood w → at w.slots k ≡ Some f → is_done (length w.cores) f ≡ true → a.world ≡ with_slot w k None → a.move ≡ None → a.point ≡ None → Kept w a
-retired_kept w k f a good is done world move point =
+retired_preserved : (w : World) (k : ℕ) (f : Flight) (a : After) → IsGood w → at w.slots k ≡ Some f → is_done (length w.cores) f ≡ true → a.world ≡ with_slot w k None → a.move ≡ None → a.point ≡ None → Preserved w a
+retired_preserved w k f a good is done world move point =
     let p = and_parts (has_none f.words) (all_told (length w.cores) f.told) done in
     let within = at_within w.slots k f is in
     let s : SlotKept w k None = record {
@@ -292,18 +292,18 @@ retired_kept w k f a good is done world move point =
       fits = subst (FitsIf w.numbers (shown_of w)) (sym move) tt;
     }
 
-retire_slot_kept : (w : World) (k : ℕ) (o : Option Flight) → at w.slots k ≡ o → IsGood w → let d = retire (length w.cores) o in Kept w (answered (with_slot w k d.slot) (reply_of_retire d.reply))
-retire_slot_kept w k None is good = unchanged-kept w _ (unchanged w k None is) refl refl good
-retire_slot_kept w k (Some f) is good =
-    branch (λ (d : Retired). Kept w (answered (with_slot w k d.slot) (reply_of_retire d.reply))) (is_done (length w.cores) f)
+retire_slot_preserved : (w : World) (k : ℕ) (o : Option Flight) → at w.slots k ≡ o → IsGood w → let d = retire (length w.cores) o in Preserved w (answered (with_slot w k d.slot) (reply_of_retire d.reply))
+retire_slot_preserved w k None is good = unchanged-preserved w _ (unchanged w k None is) refl refl good
+retire_slot_preserved w k (Some f) is good =
+    branch (λ (d : Retired). Preserved w (answered (with_slot w k d.slot) (reply_of_retire d.reply))) (is_done (length w.cores) f)
     (record { reply = Retire.Retired; slot = None }) (record { reply = Retire.NotDone; slot = Some f })
-    (λ done. retired_kept w k f _ good is done refl refl refl)
-    (λ _. unchanged-kept w _ (unchanged w k (Some f) is) refl refl good)
+    (λ done. retired_preserved w k f _ good is done refl refl refl)
+    (λ _. unchanged-preserved w _ (unchanged w k (Some f) is) refl refl good)
 
 -- the event Retire keeps the invariant
-pub retire-kept : (w : World) (k : ℕ) → IsGood w → Kept w (retiring w k)
+pub retire-preserved : (w : World) (k : ℕ) → IsGood w → Preserved w (retiring w k)
 unfolding retiring
-retire-kept w k good = retire_slot_kept w k (at w.slots k) refl good
+retire-preserved w k good = retire_slot_preserved w k (at w.slots k) refl good
 
 -- ---- Deliver
 
@@ -402,8 +402,8 @@ told_held w k c f d x good is free there =
 told_sizes : (w : World) (k c : ℕ) (f : Flight) → SameSizes w (tell_in w k c f)
 told_sizes w k c f = record { numbers = refl; spheres = refl; cores = refl; slots = length-set w.slots k (Some (tell f c)) }
 
-delivered_kept : (w : World) (k c : ℕ) (f : Flight) (held : Option Held) → IsGood w → at w.slots k ≡ Some f → at w.cores c ≡ held → meets_chunk (reads_of w held) (writes_of w held) f ≡ false → Kept w (answered (tell_in w k c f) Reply.Delivered)
-delivered_kept w k c f held good is there free =
+delivered_preserved : (w : World) (k c : ℕ) (f : Flight) (held : Option Held) → IsGood w → at w.slots k ≡ Some f → at w.cores c ≡ held → meets_chunk (reads_of w held) (writes_of w held) f ≡ false → Preserved w (answered (tell_in w k c f) Reply.Delivered)
+delivered_preserved w k c f held good is there free =
     record {
       good = slot_good w k (Some (tell f c)) (at_within w.slots k f is) good (told_slot w k c f good is)
           (λ d x e. told_held w k c f d x good is
@@ -444,8 +444,8 @@ squashed_good w k c f (Some h) good is there =
     (λ x e. subst (IsGoodHeld (tell_in w k c f) c) (let q : record h { chunk = squash h.chunk } ≡ x = cc in q) (squash_held w k c (Some (tell f c)) h (good.held c h there)))
     (others-differ w c h (squash h.chunk) good there refl)
 
-squashed_kept : (w : World) (k c : ℕ) (f : Flight) (held : Option Held) → IsGood w → at w.slots k ≡ Some f → at w.cores c ≡ held → Kept w (answered (with_core (tell_in w k c f) c (squashed held)) Reply.Squashed)
-squashed_kept w k c f held good is there =
+squashed_preserved : (w : World) (k c : ℕ) (f : Flight) (held : Option Held) → IsGood w → at w.slots k ≡ Some f → at w.cores c ≡ held → Preserved w (answered (with_core (tell_in w k c f) c (squashed held)) Reply.Squashed)
+squashed_preserved w k c f held good is there =
     record {
       good = squashed_good w k c f held good is there;
       sizes = record { numbers = refl; spheres = refl; cores = length-set w.cores c (squashed held); slots = length-set w.slots k (Some (tell f c)) };
@@ -454,19 +454,19 @@ squashed_kept w k c f held good is there =
       fits = tt;
     }
 
-deliver_slot_kept : (w : World) (c k : ℕ) (held : Option Held) (o : Option Flight) → at w.cores c ≡ held → at w.slots k ≡ o → IsGood w
-    → let d = deliver c (reads_of w held) (writes_of w held) o in Kept w (told (with_slot w k d.slot) c held d.reply)
-deliver_slot_kept w c k held None there is good = unchanged-kept w _ (unchanged w k None is) refl refl good
-deliver_slot_kept w c k held (Some f) there is good =
-    branch (λ (d : Delivered). Kept w (told (with_slot w k d.slot) c held d.reply)) (told_at f.told c)
+deliver_slot_preserved : (w : World) (c k : ℕ) (held : Option Held) (o : Option Flight) → at w.cores c ≡ held → at w.slots k ≡ o → IsGood w
+    → let d = deliver c (reads_of w held) (writes_of w held) o in Preserved w (told (with_slot w k d.slot) c held d.reply)
+deliver_slot_preserved w c k held None there is good = unchanged-preserved w _ (unchanged w k None is) refl refl good
+deliver_slot_preserved w c k held (Some f) there is good =
+    branch (λ (d : Delivered). Preserved w (told (with_slot w k d.slot) c held d.reply)) (told_at f.told c)
     (record { reply = Deliver.Already; slot = Some f })
     (record { reply = cond (meets_chunk (reads_of w held) (writes_of w held) f) Deliver.Squashed Deliver.Delivered; slot = Some (tell f c) })
-    (λ _. unchanged-kept w _ (unchanged w k (Some f) is) refl refl good)
-    (λ _. branch (λ (r : Deliver). Kept w (told (tell_in w k c f) c held r)) (meets_chunk (reads_of w held) (writes_of w held) f) Deliver.Squashed Deliver.Delivered
-    (λ _. squashed_kept w k c f held good is there)
-    (λ free. delivered_kept w k c f held good is there free))
+    (λ _. unchanged-preserved w _ (unchanged w k (Some f) is) refl refl good)
+    (λ _. branch (λ (r : Deliver). Preserved w (told (tell_in w k c f) c held r)) (meets_chunk (reads_of w held) (writes_of w held) f) Deliver.Squashed Deliver.Delivered
+    (λ _. squashed_preserved w k c f held good is there)
+    (λ free. delivered_preserved w k c f held good is there free))
 
 -- the event Deliver keeps the invariant
-pub deliver-kept : (w : World) (c k : ℕ) → IsGood w → Kept w (delivering w c k)
+pub deliver-preserved : (w : World) (c k : ℕ) → IsGood w → Preserved w (delivering w c k)
 unfolding delivering
-deliver-kept w c k good = deliver_slot_kept w c k (at w.cores c) (at w.slots k) refl refl good
+deliver-preserved w c k good = deliver_slot_preserved w c k (at w.cores c) (at w.slots k) refl refl good

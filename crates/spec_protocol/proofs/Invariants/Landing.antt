@@ -16,7 +16,7 @@ use Rattle.spec_engine.specs.Laws.{CoversWords}
 use Rattle.spec_engine.proofs.Marking.{covers_hit}
 use Rattle.spec_protocol.specs.Spheres.{Role, Plain, Record, Replay, Sphere, is_stopped, limit_of, halves}
 use Rattle.spec_protocol.specs.Placing.{replays}
-use Rattle.spec_protocol.specs.Commits.{Moved}
+use Rattle.spec_protocol.specs.Commits.{MovedSphere}
 use Rattle.spec_protocol.specs.World.{Numbers, Held, World, sphere_at, thread_afresh, held_afresh}
 use Rattle.spec_protocol.specs.Serial.{do_moved}
 use Rattle.spec_protocol.specs.Shown.{flying, shown, shown_from, shown_of}
@@ -24,7 +24,7 @@ use Rattle.spec_protocol.proofs.Memory.Laying.{Agree-unseen, Unseen}
 use Rattle.spec_protocol.proofs.Memory.Slots.{Flew}
 use Rattle.spec_protocol.proofs.Memory.Running.{Live_local}
 use Rattle.spec_protocol.proofs.Moves.AnyMemory.{relaid}
-use Rattle.spec_protocol.proofs.Invariants.Kept.{sphere-same, sphere-other, shown-set}
+use Rattle.spec_protocol.proofs.Invariants.Preserved.{sphere-same, sphere-other, shown-set}
 use Rattle.spec_protocol.proofs.Invariants.Flights.{held-beside}
 use Rattle.spec_protocol.specs.Currency.{seen_by}
 use Rattle.spec_protocol.specs.Invariants.{IsFlightCovered, IsGoodChunk, current, IsGoodHeld}
@@ -62,26 +62,26 @@ abbrev afresh : Numbers → (i k : ℕ) → Sphere → Parts → Held
 afresh z i k p t = record { thread = k; chunk = fresh z.signature i t (limit_of z.chunk p.role k t) (halves p.role) }
 
 -- what a core begins with, if it does: a live thread of the sphere
-pub record Begins (z : Numbers) (i k : ℕ) (p : Sphere) (h : Held) : Type 0 where
+pub record IsAfresh (z : Numbers) (i k : ℕ) (p : Sphere) (h : Held) : Type 0 where
   pub state : Parts
   pub start : slice_get p.threads k ≡ Some state
   pub lives : is_live state ≡ true
   pub is : afresh z i k p state ≡ h
 
-begins_if : (z : Numbers) (i k : ℕ) (p : Sphere) (h : Held) (t : Parts) (b : Bool) → slice_get p.threads k ≡ Some t → is_live t ≡ b → cond b (Some (afresh z i k p t)) None ≡ Some h → Begins z i k p h
+begins_if : (z : Numbers) (i k : ℕ) (p : Sphere) (h : Held) (t : Parts) (b : Bool) → slice_get p.threads k ≡ Some t → is_live t ≡ b → cond b (Some (afresh z i k p t)) None ≡ Some h → IsAfresh z i k p h
 begins_if z i k p h t true start lives e = record { state = t; start = start; lives = lives; is = (let q : afresh z i k p t ≡ h = cc in q) }
 begins_if z i k p h t false start lives e = absurd (none-some h e)
 
-begins_thread : (z : Numbers) (i k : ℕ) (p : Sphere) (h : Held) (o : Option Parts) → slice_get p.threads k ≡ o → thread_afresh z i k p o ≡ Some h → Begins z i k p h
+begins_thread : (z : Numbers) (i k : ℕ) (p : Sphere) (h : Held) (o : Option Parts) → slice_get p.threads k ≡ o → thread_afresh z i k p o ≡ Some h → IsAfresh z i k p h
 begins_thread z i k p h None start e = absurd (none-some h e)
 begins_thread z i k p h (Some t) start e = begins_if z i k p h t (is_live t) start refl e
 
 -- what is held afresh is a live thread, whose chunk begins from its state
-pub afresh-begins : (z : Numbers) (i k : ℕ) (p : Sphere) (h : Held) → held_afresh z i k p ≡ Some h → Begins z i k p h
+pub afresh-begins : (z : Numbers) (i k : ℕ) (p : Sphere) (h : Held) → held_afresh z i k p ≡ Some h → IsAfresh z i k p h
 afresh-begins z i k p h e = begins_thread z i k p h (slice_get p.threads k) refl e
 
 -- in a world whose sphere i is p
-pub afresh-held : (v : World) (i k c : ℕ) (p : Sphere) (h : Held) → i < length v.spheres → 0 < v.numbers.chunk → sphere_at v i ≡ p → Begins v.numbers i k p h → IsGoodHeld v c h
+pub afresh-held : (v : World) (i k c : ℕ) (p : Sphere) (h : Held) → i < length v.spheres → 0 < v.numbers.chunk → sphere_at v i ≡ p → IsAfresh v.numbers i k p h → IsGoodHeld v c h
 afresh-held v i k c p h within positive there b =
     let t = b.state in
     subst (IsGoodHeld v c) b.is
@@ -199,7 +199,7 @@ elsewhere-held w i q f ys cores devices d x ne flew good =
 -- ---- what is shown
 
 -- the moved world shows what the move, done whole on the current memory, gives
-pub moved-shown : (w : World) (i : ℕ) (v : Moved) (f : Flight) (ys : List (Option Flight)) (cores : List (Option Held)) → v.sphere.memory ≡ (sphere_at w i).memory → f.words ≡ v.words → Flew i f w.slots ys
+pub moved-shown : (w : World) (i : ℕ) (v : MovedSphere) (f : Flight) (ys : List (Option Flight)) (cores : List (Option Held)) → v.sphere.memory ≡ (sphere_at w i).memory → f.words ≡ v.words → Flew i f w.slots ys
     → shown_of (moved_world w i v.sphere ys cores v.devices) ≡ do_moved (shown_of w) i (relaid (current w i) v)
 unfolding shown
 moved-shown w i v f ys cores memory words flew =

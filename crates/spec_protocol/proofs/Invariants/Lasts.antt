@@ -11,13 +11,13 @@ use Rattle.spec_kernel.specs.Needs.{need}
 use Rattle.spec_kernel.specs.Answers.{taken}
 use Rattle.spec_kernel.specs.Serving.{serve}
 use Rattle.spec_play.specs.Effects.{Effect, chunk_effect, serial_effect}
-use Rattle.spec_play.specs.Verdicts.{Verdict, Goes, Fails, chunk_verdict, serial_verdict}
+use Rattle.spec_play.specs.Verdicts.{LogVerdict, Goes, Fails, chunk_verdict, serial_verdict}
 use Rattle.spec_play.specs.Transfers.{DmaVerdict, DmaGoes, DmaFails, dma_verdict}
 use Rattle.spec_play.specs.Lasts.{IsOfCommits}
 use Rattle.spec_play.proofs.Lasts.{IsOf, last-effect, last-dma, chunk-of, serial-of}
 use Rattle.spec_engine.specs.declared.answers.How.{How}
 use Rattle.spec_protocol.specs.Spheres.{Cursor, Role, Plain, Record, Replay, Sphere, no_sphere}
-use Rattle.spec_protocol.specs.Commits.{Moved, by_verdict, joined, replayed_chunk, chunk_in, chunk_moved, is_piece, serial_in, serial_moved, live_dma, dma_log, dma_by_verdict, dma_in, dma_moved, raised}
+use Rattle.spec_protocol.specs.Commits.{MovedSphere, by_verdict, joined, replayed_chunk, chunk_in, chunk_moved, is_piece, serial_in, serial_moved, live_dma, dma_log, dma_by_verdict, dma_in, dma_moved, raised}
 use Rattle.spec_protocol.specs.World.{Numbers, World, Move, What, OfChunk, OfSerial, OfDma, OfRaise, sphere_at}
 use Rattle.spec_protocol.specs.Asking.{is_short}
 use Rattle.spec_protocol.specs.Machine.{SphereSetup, Setup, sphere_of, world_of, moves}
@@ -26,13 +26,13 @@ use Rattle.spec_protocol.specs.Shown.{shown, shown_of}
 use Rattle.spec_protocol.specs.Moves.{move_chunk, do_what, do_at, do_move, do_moves}
 use Rattle.spec_protocol.specs.Promises.{after}
 use Rattle.spec_protocol.specs.Lasts.{SpheresKeepLasts}
-use Rattle.spec_protocol.proofs.Invariants.Kept.{shown-get}
+use Rattle.spec_protocol.proofs.Invariants.Preserved.{shown-get}
 use Rattle.spec_protocol.proofs.Moves.Granted.{get-set_other, get-set_same}
 use Rattle.spec_protocol.proofs.Invariants.Schedules.{moves_are}
 
 -- ---- one move in its sphere
 
-verdict_last : (b : Cursor) (k : ℕ) (v : Verdict) (devices : Devices) (p : Sphere) → IsOf k v → IsOfCommits p.progress → IsOfCommits (by_verdict b k v devices p).sphere.progress
+verdict_last : (b : Cursor) (k : ℕ) (v : LogVerdict) (devices : Devices) (p : Sphere) → IsOf k v → IsOfCommits p.progress → IsOfCommits (by_verdict b k v devices p).sphere.progress
 verdict_last b k (Goes e u) devices p is last = last-effect k e p.progress is
 verdict_last b k (Fails why) devices p is last = last
 
@@ -56,7 +56,7 @@ serial_last (Record log) k moment t devices p last = last-effect k (served_effec
 serial_last (Replay b) k moment t devices p last = verdict_last b k (serial_verdict b.log p.progress b.used k p.threads t p.memory) devices p (serial-of b.log p.progress b.used k p.threads t p.memory) last
 
 -- after a DMA, if there is one
-abbrev LastIf : Option Moved → Type 0
+abbrev LastIf : Option MovedSphere → Type 0
 LastIf None = Unit {0}
 LastIf (Some v) = IsOfCommits v.sphere.progress
 
@@ -98,7 +98,7 @@ unfolding serial_moved
 serial_all x i k moment p None is all = all
 serial_all x i k moment p (Some t) is all = set_last x.spheres i p _ is all (serial_last p.role k moment t x.devices p (all i p is))
 
-dma_all : (x : SerialState) (i : ℕ) (p : Sphere) (o : Option Moved) → slice_get x.spheres i ≡ Some p → AreLast x.spheres → LastIf o → AreLast (do_dma x i o).spheres
+dma_all : (x : SerialState) (i : ℕ) (p : Sphere) (o : Option MovedSphere) → slice_get x.spheres i ≡ Some p → AreLast x.spheres → LastIf o → AreLast (do_dma x i o).spheres
 dma_all x i p None is all last = all
 dma_all x i p (Some v) is all last = set_last x.spheres i p (laid v) is all last
 

@@ -6,41 +6,41 @@ use Rattle.spec_engine.specs.Flights.{Flight, at}
 use Rattle.spec_protocol.specs.declared.event.Event.{Event}
 use Rattle.spec_protocol.specs.Spheres.{Sphere, no_sphere}
 use Rattle.spec_protocol.specs.World.{Numbers, Held, World, Move, After, held_afresh, sphere_at}
-use Rattle.spec_protocol.specs.Machine.{SphereSetup, Setup, first_cores, world_of, core_no, sphere_no, slot_no, act, kept, happens, world_after, with_move, moves, sphere_of}
+use Rattle.spec_protocol.specs.Machine.{SphereSetup, Setup, first_cores, world_of, core_no, sphere_no, slot_no, act, with_event, happens, world_after, with_move, moves, sphere_of}
 use Rattle.spec_protocol.specs.Serial.{SerialState, serial_start}
 use Rattle.spec_protocol.specs.Shown.{flying, shown, shown_from, shown_of}
 use Rattle.spec_protocol.specs.Moves.{do_if, do_moves, FitsIf, FitAll}
 use Rattle.spec_protocol.specs.Promises.{IsSetup, MovesAreSerial, InvariantsHold, SizesAreKept}
-use Rattle.spec_protocol.proofs.Invariants.Kept.{Kept, SameSizes, same_sizes}
-use Rattle.spec_protocol.proofs.Invariants.Cores.{step-kept, cut-kept}
-use Rattle.spec_protocol.proofs.Invariants.Flights.{drain-kept, deliver-kept, retire-kept}
+use Rattle.spec_protocol.proofs.Invariants.Preserved.{Preserved, SameSizes, same_sizes}
+use Rattle.spec_protocol.proofs.Invariants.Cores.{step-preserved, cut-preserved}
+use Rattle.spec_protocol.proofs.Invariants.Flights.{drain-preserved, deliver-preserved, retire-preserved}
 use Rattle.spec_protocol.proofs.Invariants.Landing.{afresh-begins, afresh-held}
-use Rattle.spec_protocol.proofs.Invariants.Asks.{ask-kept}
-use Rattle.spec_protocol.proofs.Invariants.Threads.{place-kept, raise-kept}
-use Rattle.spec_protocol.proofs.Invariants.Transfers.{dma-kept}
+use Rattle.spec_protocol.proofs.Invariants.Asks.{ask-preserved}
+use Rattle.spec_protocol.proofs.Invariants.Threads.{place-preserved, raise-preserved}
+use Rattle.spec_protocol.proofs.Invariants.Transfers.{dma-preserved}
 use Rattle.spec_protocol.specs.Invariants.{IsGoodHeld, IsGood}
 use Rattle.std.proofs.lemmas.List.{length-replicate, length-map}
 
 -- ---- one event
 
-act_kept : (w : World) (e : Event) → IsGood w → Kept w (act w e)
+act_preserved : (w : World) (e : Event) → IsGood w → Preserved w (act w e)
 unfolding act
-act_kept w (Event.Step c) good = step-kept w (core_no w c) good
-act_kept w (Event.Cut c) good = cut-kept w (core_no w c) good
-act_kept w (Event.Ask c) good = ask-kept w (core_no w c) good
-act_kept w (Event.Drain k) good = drain-kept w (slot_no w k) good
-act_kept w (Event.Deliver c k) good = deliver-kept w (core_no w c) (slot_no w k) good
-act_kept w (Event.Retire k) good = retire-kept w (slot_no w k) good
-act_kept w (Event.Place c i k) good = place-kept w (core_no w c) (sphere_no w i) k good
-act_kept w (Event.Raise i k value) good = raise-kept w (sphere_no w i) k value good
-act_kept w (Event.Dma i) good = dma-kept w (sphere_no w i) good
+act_preserved w (Event.Step c) good = step-preserved w (core_no w c) good
+act_preserved w (Event.Cut c) good = cut-preserved w (core_no w c) good
+act_preserved w (Event.Ask c) good = ask-preserved w (core_no w c) good
+act_preserved w (Event.Drain k) good = drain-preserved w (slot_no w k) good
+act_preserved w (Event.Deliver c k) good = deliver-preserved w (core_no w c) (slot_no w k) good
+act_preserved w (Event.Retire k) good = retire-preserved w (slot_no w k) good
+act_preserved w (Event.Place c i k) good = place-preserved w (core_no w c) (sphere_no w i) k good
+act_preserved w (Event.Raise i k value) good = raise-preserved w (sphere_no w i) k value good
+act_preserved w (Event.Dma i) good = dma-preserved w (sphere_no w i) good
 
 -- counts and points are no part of what is kept
-held_counted : (a : After) (c : ℕ) (h : Held) → IsGoodHeld a.world c h → IsGoodHeld (kept a) c h
+held_counted : (a : After) (c : ℕ) (h : Held) → IsGoodHeld a.world c h → IsGoodHeld (with_event a) c h
 held_counted a c h g =
     record { sphere = g.sphere; start = g.start; lives = g.lives; halving = g.halving; limit = g.limit; chunk = g.chunk }
 
-good_counted : (a : After) → IsGood a.world → IsGood (kept a)
+good_counted : (a : After) → IsGood a.world → IsGood (with_event a)
 good_counted a g =
     record {
       buffer = g.buffer;
@@ -53,10 +53,10 @@ good_counted a g =
     }
 
 -- every event keeps the invariant
-pub happens-kept : (w : World) (e : Event) → IsGood w → Kept w (happens w e)
+pub happens-preserved : (w : World) (e : Event) → IsGood w → Preserved w (happens w e)
 unfolding happens
-happens-kept w e good =
-    let k = act_kept w e good in
+happens-preserved w e good =
+    let k = act_preserved w e good in
     record {
       good = good_counted (act w e) k.good;
       sizes = record { numbers = k.sizes.numbers; spheres = k.sizes.spheres; cores = k.sizes.cores; slots = k.sizes.slots };
@@ -133,7 +133,7 @@ start-shown s = (λ j. record { spheres = shown_itself s.window 0 (world_of s).s
 -- a good world is good after every list of events
 pub after-good : (w : World) (es : List Event) → IsGood w → IsGood (world_after w es)
 after-good w [] good = good
-after-good w (e ∷ es) good = after-good (happens w e).world es (happens-kept w e good).good
+after-good w (e ∷ es) good = after-good (happens w e).world es (happens-preserved w e good).good
 
 with_moves : (z : Numbers) (x : SerialState) (o : Option Move) (ms : List Move) → do_moves z x (with_move o ms) ≡ do_moves z (do_if z x o) ms
 with_moves z x None ms = refl
@@ -151,7 +151,7 @@ moves_serial : (w : World) (es : List Event) → IsGood w → Serial w es
 moves_serial w [] good = record { same = refl; possible = tt }
 moves_serial w (e ∷ es) good =
     let a = happens w e in
-    let k = happens-kept w e good in
+    let k = happens-preserved w e good in
     let r = moves_serial a.world es k.good in
     record {
       same = r.same ∙ (λ j. do_moves (k.sizes.numbers j) (k.whole j) (moves a.world es)) ∙ sym (with_moves w.numbers (shown_of w) a.move (moves a.world es));
@@ -187,7 +187,7 @@ both_sizes w v u a b =
 after_sizes : (w : World) (es : List Event) → IsGood w → SameSizes w (world_after w es)
 after_sizes w [] good = same_sizes w
 after_sizes w (e ∷ es) good =
-    let k = happens-kept w e good in
+    let k = happens-preserved w e good in
     both_sizes w (happens w e).world (world_after w (e ∷ es)) k.sizes (after_sizes (happens w e).world es k.good)
 
 first_length : (z : Numbers) (i n : ℕ) (ps : List Sphere) → length (first_cores z i n ps) ≡ n

@@ -21,8 +21,8 @@ use Rattle.spec_protocol.specs.Shown.{flying, shown, shown_of}
 use Rattle.spec_protocol.specs.Moves.{do_at, do_move, FitsRaise, FitsAt, Fits}
 use Rattle.spec_protocol.proofs.Moves.Granted.{get-set_other}
 use Rattle.spec_protocol.proofs.Moves.AnyMemory.{over}
-use Rattle.spec_protocol.proofs.Invariants.Kept.{SameSizes, Kept, point-made, sphere-same, shown-set, unchanged-kept}
-use Rattle.spec_protocol.proofs.Invariants.Cores.{set-cases, alone-set, held_there, core-good, core-kept, branch}
+use Rattle.spec_protocol.proofs.Invariants.Preserved.{SameSizes, Preserved, point-made, sphere-same, shown-set, unchanged-preserved}
+use Rattle.spec_protocol.proofs.Invariants.Cores.{set-cases, alone-set, held_there, core-good, core-preserved, branch}
 use Rattle.spec_protocol.proofs.Invariants.Landing.{afresh-begins, afresh-held, elsewhere-held}
 use Rattle.spec_protocol.proofs.Invariants.Granting.{unflown}
 use Rattle.spec_protocol.proofs.Invariants.Asks.{shown_at, shown_over}
@@ -51,24 +51,24 @@ placed_good w c i k good within free =
     let b = afresh-begins w.numbers i k (sphere_at w i) h e in
     free d g ne there (sym sphere ∙ ap (λ (x : Held). x.chunk.sphere) (sym b.is)) (sym thread ∙ ap (λ (x : Held). x.thread) (sym b.is)))
 
-elsewhere_kept : (w : World) (c i k : ℕ) (t : Parts) (o : Option ℕ) → IsGood w → slice_get (sphere_at w i).threads k ≡ Some t → core_of w i k ≡ o → Kept w (unless_elsewhere o w (answered (with_core w c (held_afresh w.numbers i k (sphere_at w i))) Reply.Placed))
-elsewhere_kept w c i k t None good is none =
-    core-kept w c (held_afresh w.numbers i k (sphere_at w i)) _ refl refl refl
+elsewhere_preserved : (w : World) (c i k : ℕ) (t : Parts) (o : Option ℕ) → IsGood w → slice_get (sphere_at w i).threads k ≡ Some t → core_of w i k ≡ o → Preserved w (unless_elsewhere o w (answered (with_core w c (held_afresh w.numbers i k (sphere_at w i))) Reply.Placed))
+elsewhere_preserved w c i k t None good is none =
+    core-preserved w c (held_afresh w.numbers i k (sphere_at w i)) _ refl refl refl
     (placed_good w c i k good (inside w i k t is) (λ d g ne there sphere thread. nobody w i k none d g there sphere thread))
-elsewhere_kept w c i k t (Some d) good is some = unchanged-kept w (answered w (Reply.Elsewhere d)) refl refl refl good
+elsewhere_preserved w c i k t (Some d) good is some = unchanged-preserved w (answered w (Reply.Elsewhere d)) refl refl refl good
 
-place_thread_kept : (w : World) (c i k : ℕ) (o : Option Parts) → IsGood w → slice_get (sphere_at w i).threads k ≡ o → Kept w (place_thread w c i k o)
-place_thread_kept w c i k None good is = unchanged-kept w (answered w Reply.NoThread) refl refl refl good
-place_thread_kept w c i k (Some t) good is =
+place_thread_preserved : (w : World) (c i k : ℕ) (o : Option Parts) → IsGood w → slice_get (sphere_at w i).threads k ≡ o → Preserved w (place_thread w c i k o)
+place_thread_preserved w c i k None good is = unchanged-preserved w (answered w Reply.NoThread) refl refl refl good
+place_thread_preserved w c i k (Some t) good is =
     let placed = unless_elsewhere (core_of w i k) w (answered (with_core w c (held_afresh w.numbers i k (sphere_at w i))) Reply.Placed) in
-    branch (Kept w) (is_live t) placed (answered w Reply.Ended)
-    (λ _. elsewhere_kept w c i k t (core_of w i k) good is refl)
-    (λ _. unchanged-kept w (answered w Reply.Ended) refl refl refl good)
+    branch (Preserved w) (is_live t) placed (answered w Reply.Ended)
+    (λ _. elsewhere_preserved w c i k t (core_of w i k) good is refl)
+    (λ _. unchanged-preserved w (answered w Reply.Ended) refl refl refl good)
 
 -- the event Place keeps the invariant
-pub place-kept : (w : World) (c i k : ℕ) → IsGood w → Kept w (placing w c i k)
+pub place-preserved : (w : World) (c i k : ℕ) → IsGood w → Preserved w (placing w c i k)
 unfolding placing
-place-kept w c i k good = place_thread_kept w c i k (slice_get (sphere_at w i).threads k) good refl
+place-preserved w c i k good = place_thread_preserved w c i k (slice_get (sphere_at w i).threads k) good refl
 
 -- ---- Raise
 
@@ -199,8 +199,8 @@ raise_fits w i k value t within r =
     subst (FitsAt w.numbers w.devices (record { moment = moment w; sphere = i; what = OfRaise k value })) (sym (shown_at w i within ∙ ap Some (shown_over w i)))
     (subst (FitsRaise (over (current w i) (sphere_at w i))) (sym r.start) (record { live = r.live; takes = r.takes }))
 
-raise_in_kept : (w : World) (i k value : ℕ) (t : Parts) → IsGood w → Raises w i k value t → Kept w (raise_in w i k value t)
-raise_in_kept w i k value t good r =
+raise_in_preserved : (w : World) (i k value : ℕ) (t : Parts) → IsGood w → Raises w i k value t → Preserved w (raise_in w i k value t)
+raise_in_preserved w i k value t good r =
     let within = inside w i k t r.start in
     record {
       good = renewed_good w i k value t (core_of w i k) good within refl;
@@ -214,25 +214,25 @@ raise_in_kept w i k value t good r =
 taken_by : (t : Parts) → is_live t ≡ true → has_handler t ≡ true → t.mask ≡ false → takes_interrupt t ≡ true
 taken_by t live handler mask = and_from _ _ (and_from _ _ live handler) (ap not mask)
 
-raise_thread_kept : (w : World) (i k value : ℕ) (o : Option Parts) → IsGood w → slice_get (sphere_at w i).threads k ≡ o → replays (sphere_at w i).role ≡ false → Kept w (raise_thread w i k value o)
-raise_thread_kept w i k value None good is live = unchanged-kept w (answered w Reply.NoThread) refl refl refl good
-raise_thread_kept w i k value (Some t) good is live =
+raise_thread_preserved : (w : World) (i k value : ℕ) (o : Option Parts) → IsGood w → slice_get (sphere_at w i).threads k ≡ o → replays (sphere_at w i).role ≡ false → Preserved w (raise_thread w i k value o)
+raise_thread_preserved w i k value None good is live = unchanged-preserved w (answered w Reply.NoThread) refl refl refl good
+raise_thread_preserved w i k value (Some t) good is live =
     let raised_ = raise_in w i k value t in
     let masked = cond t.mask (answered w Reply.Masked) raised_ in
     let handled = cond (has_handler t) masked (answered w Reply.NoHandler) in
-    branch (Kept w) (is_live t) handled (answered w Reply.Ended)
-    (λ lives. branch (Kept w) (has_handler t) masked (answered w Reply.NoHandler)
-    (λ handler. branch (Kept w) t.mask (answered w Reply.Masked) raised_
-    (λ _. unchanged-kept w (answered w Reply.Masked) refl refl refl good)
-    (λ mask. raise_in_kept w i k value t good (record { start = is; live = live; takes = taken_by t lives handler mask })))
-    (λ _. unchanged-kept w (answered w Reply.NoHandler) refl refl refl good))
-    (λ _. unchanged-kept w (answered w Reply.Ended) refl refl refl good)
+    branch (Preserved w) (is_live t) handled (answered w Reply.Ended)
+    (λ lives. branch (Preserved w) (has_handler t) masked (answered w Reply.NoHandler)
+    (λ handler. branch (Preserved w) t.mask (answered w Reply.Masked) raised_
+    (λ _. unchanged-preserved w (answered w Reply.Masked) refl refl refl good)
+    (λ mask. raise_in_preserved w i k value t good (record { start = is; live = live; takes = taken_by t lives handler mask })))
+    (λ _. unchanged-preserved w (answered w Reply.NoHandler) refl refl refl good))
+    (λ _. unchanged-preserved w (answered w Reply.Ended) refl refl refl good)
 
 -- the event Raise keeps the invariant
-pub raise-kept : (w : World) (i k value : ℕ) → IsGood w → Kept w (raising w i k value)
+pub raise-preserved : (w : World) (i k value : ℕ) → IsGood w → Preserved w (raising w i k value)
 unfolding raising
-raise-kept w i k value good =
+raise-preserved w i k value good =
     let p = sphere_at w i in
-    branch (Kept w) (replays p.role) (answered w Reply.FromLog) (raise_thread w i k value (slice_get p.threads k))
-    (λ _. unchanged-kept w (answered w Reply.FromLog) refl refl refl good)
-    (λ live. raise_thread_kept w i k value (slice_get p.threads k) good refl live)
+    branch (Preserved w) (replays p.role) (answered w Reply.FromLog) (raise_thread w i k value (slice_get p.threads k))
+    (λ _. unchanged-preserved w (answered w Reply.FromLog) refl refl refl good)
+    (λ live. raise_thread_preserved w i k value (slice_get p.threads k) good refl live)

@@ -15,7 +15,7 @@ use Rattle.spec_protocol.specs.Asking.{unless_denied, unless_turn}
 use Rattle.spec_engine.proofs.Searches.{first_none, told-zero}
 use Rattle.spec_protocol.specs.declared.reply.Reply.{Reply}
 use Rattle.spec_protocol.specs.Spheres.{Sphere, no_sphere, is_stopped}
-use Rattle.spec_protocol.specs.Commits.{CommitOutcome, Granted, Piece, Diverged, Moved, dma_in, dma_moved}
+use Rattle.spec_protocol.specs.Commits.{CommitOutcome, Granted, Piece, Diverged, MovedSphere, dma_in, dma_moved}
 use Rattle.spec_protocol.specs.World.{World, sphere_at, flown, answered}
 use Rattle.spec_protocol.specs.Transferring.{dma_move, dma_done, transfer, dma_with, dma_if, turn_before_dma, transferring}
 use Rattle.spec_protocol.specs.Placing.{replays}
@@ -28,38 +28,38 @@ use Rattle.spec_protocol.proofs.Memory.Covering.{bits-signed, CoversWords-signed
 use Rattle.spec_protocol.proofs.Moves.Granted.{Divergence}
 use Rattle.spec_protocol.proofs.Moves.AnyMemory.{relaid, dma-relaid}
 use Rattle.spec_protocol.proofs.Moves.Transfers.{DmaMoves, dma-lives, dma-moves}
-use Rattle.spec_protocol.proofs.Invariants.Kept.{Kept, point-made, point-other, unchanged-kept}
+use Rattle.spec_protocol.proofs.Invariants.Preserved.{Preserved, point-made, point-other, unchanged-preserved}
 use Rattle.spec_protocol.proofs.Invariants.Cores.{branch}
 use Rattle.spec_protocol.proofs.Invariants.Landing.{landed-held, elsewhere-held, moved-shown}
 use Rattle.spec_protocol.proofs.Invariants.Granting.{stopped-good, stopped-shown}
-use Rattle.spec_protocol.proofs.Invariants.Asks.{shown_at, shown_over, denied_kept, turn-kept}
+use Rattle.spec_protocol.proofs.Invariants.Asks.{shown_at, shown_over, denied_preserved, turn-preserved}
 use Rattle.spec_protocol.specs.Currency.{AllLack}
 use Rattle.spec_protocol.specs.Invariants.{IsFlightCovered, current, IsGood}
 
 -- sphere i moves by v, whose stores meet no flight
-record Transfers (w : World) (i : ℕ) (v : Moved) : Type 0 where
+record Transfers (w : World) (i : ℕ) (v : MovedSphere) : Type 0 where
   within : i < length w.spheres
   going : is_stopped (sphere_at w i).role ≡ false
   turn : turn_before_dma (sphere_at w i).role ≡ None
   is : dma_moved w.devices (sphere_at w i) ≡ Some v
 
-moves_of : (w : World) (i : ℕ) (v : Moved) → Transfers w i v → DmaMoves w.devices (sphere_at w i) v
+moves_of : (w : World) (i : ℕ) (v : MovedSphere) → Transfers w i v → DmaMoves w.devices (sphere_at w i) v
 moves_of w i v t = dma-moves w.devices (sphere_at w i) v t.going t.turn t.is
 
-abbrev marks_of : World → (i : ℕ) → Moved → Marks
+abbrev marks_of : World → (i : ℕ) → MovedSphere → Marks
 marks_of w i v = signed i v.words (nothing w.numbers.signature)
 
-abbrev dma_flight : World → (i : ℕ) → Moved → Flight
+abbrev dma_flight : World → (i : ℕ) → MovedSphere → Flight
 dma_flight w i v = record { sphere = i; words = v.words; writes = marks_of w i v; told = 0 }
 
-dma_covered : (w : World) (i : ℕ) (v : Moved) → IsFlightCovered w.numbers.signature (dma_flight w i v)
+dma_covered : (w : World) (i : ℕ) (v : MovedSphere) → IsFlightCovered w.numbers.signature (dma_flight w i v)
 dma_covered w i v =
     record {
       size = bits-signed i v.words (nothing w.numbers.signature);
       words = CoversWords-signed i v.words (nothing w.numbers.signature);
     }
 
-dma_lacks : (w : World) (i : ℕ) (v : Moved) → IsGood w → first_slot (meets_chunk (marks_of w i v) (marks_of w i v)) w.slots ≡ None → AllLack v.words (flying i w.slots)
+dma_lacks : (w : World) (i : ℕ) (v : MovedSphere) → IsGood w → first_slot (meets_chunk (marks_of w i v) (marks_of w i v)) w.slots ≡ None → AllLack v.words (flying i w.slots)
 dma_lacks w i v good none =
     let g = marks_of w i v in
     let c = dma_covered w i v in
@@ -72,14 +72,14 @@ dma_lacks w i v good none =
 
 -- ---- done whole
 
-dma_whole : (w : World) (i : ℕ) (v : Moved) → Transfers w i v → do_move w.numbers (shown_of w) (dma_move w i) ≡ do_moved (shown_of w) i (relaid (current w i) v)
+dma_whole : (w : World) (i : ℕ) (v : MovedSphere) → Transfers w i v → do_move w.numbers (shown_of w) (dma_move w i) ≡ do_moved (shown_of w) i (relaid (current w i) v)
 unfolding do_move
 dma_whole w i v t =
     let m = current w i in
     ap (do_at w.numbers (shown_of w) (dma_move w i)) (shown_at w i t.within ∙ ap Some (shown_over w i))
     ∙ ap (do_dma (shown_of w) i) (dma-relaid w.devices (sphere_at w i) m ∙ ap (option_map (relaid m)) t.is)
 
-dma_fits : (w : World) (i : ℕ) (v : Moved) → Transfers w i v → Fits w.numbers (shown_of w) (dma_move w i)
+dma_fits : (w : World) (i : ℕ) (v : MovedSphere) → Transfers w i v → Fits w.numbers (shown_of w) (dma_move w i)
 dma_fits w i v t =
     let m = current w i in
     subst (FitsAt w.numbers w.devices (dma_move w i)) (sym (shown_at w i t.within ∙ ap Some (shown_over w i)))
@@ -87,7 +87,7 @@ dma_fits w i v t =
 
 -- ---- the event
 
-done_good : (w : World) (i : ℕ) (v : Moved) → IsGood w → Transfers w i v → is_full w.slots ≡ false → first_slot (meets_chunk (marks_of w i v) (marks_of w i v)) w.slots ≡ None → IsGood (dma_done w i (marks_of w i v) v).world
+done_good : (w : World) (i : ℕ) (v : MovedSphere) → IsGood w → Transfers w i v → is_full w.slots ≡ false → first_slot (meets_chunk (marks_of w i v) (marks_of w i v)) w.slots ≡ None → IsGood (dma_done w i (marks_of w i v) v).world
 done_good w i v good t free none =
     let moves = moves_of w i v t in
     let f = dma_flight w i v in
@@ -130,8 +130,8 @@ done_good w i v good t free none =
       alone = good.alone;
     }
 
-done_kept : (w : World) (i : ℕ) (v : Moved) → IsGood w → Transfers w i v → is_full w.slots ≡ false → first_slot (meets_chunk (marks_of w i v) (marks_of w i v)) w.slots ≡ None → Kept w (dma_done w i (marks_of w i v) v)
-done_kept w i v good t free none =
+done_preserved : (w : World) (i : ℕ) (v : MovedSphere) → IsGood w → Transfers w i v → is_full w.slots ≡ false → first_slot (meets_chunk (marks_of w i v) (marks_of w i v)) w.slots ≡ None → Preserved w (dma_done w i (marks_of w i v) v)
+done_preserved w i v good t free none =
     let moves = moves_of w i v t in
     let flew = flown-flew i v.words (marks_of w i v) 0 w.slots free (good.apart i) moves.apart (dma_lacks w i v good none) in
     record {
@@ -142,20 +142,20 @@ done_kept w i v good t free none =
       fits = dma_fits w i v t;
     }
 
-transfer_kept : (w : World) (i : ℕ) (v : Moved) → IsGood w → Transfers w i v → Kept w (transfer w i v)
+transfer_preserved : (w : World) (i : ℕ) (v : MovedSphere) → IsGood w → Transfers w i v → Preserved w (transfer w i v)
 unfolding transfer
-transfer_kept w i v good t =
+transfer_preserved w i v good t =
     let g = marks_of w i v in
     let done = dma_done w i g v in
     let asked = unless_denied (ask g g w.slots) w done in
-    branch (Kept w) (is_full w.slots) (answered w Reply.WindowFull) asked
-    (λ _. unchanged-kept w (answered w Reply.WindowFull) refl refl refl good)
-    (λ free. denied_kept w done (first_slot (meets_chunk g g) w.slots) good (λ none. done_kept w i v good t free none))
+    branch (Preserved w) (is_full w.slots) (answered w Reply.WindowFull) asked
+    (λ _. unchanged-preserved w (answered w Reply.WindowFull) refl refl refl good)
+    (λ free. denied_preserved w done (first_slot (meets_chunk g g) w.slots) good (λ none. done_preserved w i v good t free none))
 
-with_kept : (w : World) (i : ℕ) (v : Moved) (o : CommitOutcome) → v.outcome ≡ o → IsGood w → Transfers w i v → Kept w (dma_with w i v o)
-with_kept w i v Granted is good t = transfer_kept w i v good t
-with_kept w i v Piece is good t = transfer_kept w i v good t
-with_kept w i v (Diverged j why) is good t =
+with_preserved : (w : World) (i : ℕ) (v : MovedSphere) (o : CommitOutcome) → v.outcome ≡ o → IsGood w → Transfers w i v → Preserved w (dma_with w i v o)
+with_preserved w i v Granted is good t = transfer_preserved w i v good t
+with_preserved w i v Piece is good t = transfer_preserved w i v good t
+with_preserved w i v (Diverged j why) is good t =
     let moves = moves_of w i v t in
     let d : Divergence w.devices (sphere_at w i) v (Diverged j why) = subst (Divergence w.devices (sphere_at w i) v) is moves.divergence in
     record {
@@ -168,7 +168,7 @@ with_kept w i v (Diverged j why) is good t =
     }
 
 -- a sphere that has a request is one of the spheres
-dma_inside : (w : World) (i : ℕ) (v : Moved) → dma_moved w.devices (sphere_at w i) ≡ Some v → i < length w.spheres
+dma_inside : (w : World) (i : ℕ) (v : MovedSphere) → dma_moved w.devices (sphere_at w i) ≡ Some v → i < length w.spheres
 unfolding dma_moved
 dma_inside w i v e =
     elim (cases_lt i (length w.spheres)) [
@@ -176,16 +176,16 @@ dma_inside w i v e =
       | inr past ↦ absurd (none-some v (ap (λ (p : Sphere). dma_in p.role w.devices p) (sym (get_or_past w.spheres i no_sphere past)) ∙ e))
     ]
 
-if_kept : (w : World) (i : ℕ) (o : Option Moved) → IsGood w → is_stopped (sphere_at w i).role ≡ false → turn_before_dma (sphere_at w i).role ≡ None → dma_moved w.devices (sphere_at w i) ≡ o → Kept w (dma_if w i o)
-if_kept w i None good going turn is = unchanged-kept w (answered w Reply.NoDma) refl refl refl good
-if_kept w i (Some v) good going turn is = with_kept w i v v.outcome refl good (record { within = dma_inside w i v is; going = going; turn = turn; is = is })
+if_preserved : (w : World) (i : ℕ) (o : Option MovedSphere) → IsGood w → is_stopped (sphere_at w i).role ≡ false → turn_before_dma (sphere_at w i).role ≡ None → dma_moved w.devices (sphere_at w i) ≡ o → Preserved w (dma_if w i o)
+if_preserved w i None good going turn is = unchanged-preserved w (answered w Reply.NoDma) refl refl refl good
+if_preserved w i (Some v) good going turn is = with_preserved w i v v.outcome refl good (record { within = dma_inside w i v is; going = going; turn = turn; is = is })
 
 -- the event Dma keeps the invariant
-pub dma-kept : (w : World) (i : ℕ) → IsGood w → Kept w (transferring w i)
+pub dma-preserved : (w : World) (i : ℕ) → IsGood w → Preserved w (transferring w i)
 unfolding transferring
-dma-kept w i good =
+dma-preserved w i good =
     let p = sphere_at w i in
     let rest = dma_if w i (dma_moved w.devices p) in
-    branch (Kept w) (is_stopped p.role) (answered w Reply.Stopped) (unless_turn (turn_before_dma p.role) w rest)
-    (λ _. unchanged-kept w (answered w Reply.Stopped) refl refl refl good)
-    (λ going. turn-kept w rest (turn_before_dma p.role) good (λ turn. if_kept w i (dma_moved w.devices p) good going turn refl))
+    branch (Preserved w) (is_stopped p.role) (answered w Reply.Stopped) (unless_turn (turn_before_dma p.role) w rest)
+    (λ _. unchanged-preserved w (answered w Reply.Stopped) refl refl refl good)
+    (λ going. turn-preserved w rest (turn_before_dma p.role) good (λ turn. if_preserved w i (dma_moved w.devices p) good going turn refl))

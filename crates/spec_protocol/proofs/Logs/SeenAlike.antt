@@ -22,7 +22,7 @@ use Rattle.spec_kernel.specs.Interrupts.{takes_interrupt, interrupted}
 use Rattle.spec_play.specs.Effects.{Effect, chunk_effect}
 use Rattle.spec_play.specs.Progress.{Used, with_interrupt}
 use Rattle.spec_play.specs.Turns.{is_size_used, are_sizes_used}
-use Rattle.spec_play.specs.Verdicts.{Verdict, Goes, Fails, unless, interrupt_at, with_interrupted, ended, chunk_why, chunk_verdict}
+use Rattle.spec_play.specs.Verdicts.{LogVerdict, Goes, Fails, unless, interrupt_at, with_interrupted, ended, chunk_why, chunk_verdict}
 use Rattle.spec_protocol.specs.Judging.{why_of, interrupt_why, ChunksAreJudged, AreCommits, ShortSizesAreUsed, SizesAreUsed, DueAreCounted, LogsAreSeenAlike}
 use Rattle.spec_protocol.specs.Sound.{commits_if, is_due_in, due, commits_among, IsDoneInOrder}
 use Rattle.spec_protocol.proofs.Invariants.Cores.{branch}
@@ -30,7 +30,7 @@ use Rattle.spec_protocol.proofs.Replays.Uses.{due-most}
 
 -- ---- verdicts
 
-unless-why : (o : Option Why) (x : Verdict) (y : Option Why) → why_of x ≡ y → why_of (unless o x) ≡ option_or o y
+unless-why : (o : Option Why) (x : LogVerdict) (y : Option Why) → why_of x ≡ y → why_of (unless o x) ≡ option_or o y
 unless-why None x y e = e
 unless-why (Some why) x y e = refl
 

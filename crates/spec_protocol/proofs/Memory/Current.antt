@@ -5,7 +5,7 @@ use Rattle.std.proofs.lemmas.Bool.{true≢false, and_parts, cases_lt, false_from
 use Rattle.spec_isa.specs.declared.thread.Parts.{Parts}
 use Rattle.spec_isa.specs.declared.thread.Kind.{Kind}
 use Rattle.spec_isa.specs.Words.{lays}
-use Rattle.spec_isa.specs.Instruction.{Outcome, Next, Serial, one}
+use Rattle.spec_isa.specs.Instruction.{InstructionOutcome, Next, Serial, one}
 use Rattle.spec_isa.specs.Runs.{Run, followed, more, run}
 use Rattle.spec_kernel.specs.Needs.{next_kind}
 use Rattle.spec_engine.specs.declared.answers.How.{How}
@@ -67,7 +67,7 @@ last_touches seen m t r n runs last touches i l =
     ]
 
 -- the run of ch goes on by the outcome of its next instruction
-live_followed : (m : List ℕ) (ch dh : Chunk) (o : Outcome) → IsCurrent m ch → dh.start ≡ ch.start → ((a : ℕ) → seen_by ch a ≡ true → seen_by dh a ≡ true) → EndsAfter dh.closed → one ch.done.thread (lays m ch.done.words) ≡ o
+live_followed : (m : List ℕ) (ch dh : Chunk) (o : InstructionOutcome) → IsCurrent m ch → dh.start ≡ ch.start → ((a : ℕ) → seen_by ch a ≡ true → seen_by dh a ≡ true) → EndsAfter dh.closed → one ch.done.thread (lays m ch.done.words) ≡ o
     → dh.done ≡ followed ch.done o → Touches (seen_by dh) ch.done.thread (lays m ch.done.words) → IsCurrent m dh
 live_followed m ch dh (Serial kind) live start more_ open_ is done touches =
     make_live m dh ch.start ch.done start done live.runs (touches_on ch dh m more_ live.touches) (λ e. absurd (not_serial dh.closed open_ e)) (λ e. absurd (not_serial dh.closed open_ e)) (λ e. absurd (not_overflow dh.closed open_ e)) (λ e. absurd (not_overflow dh.closed open_ e))

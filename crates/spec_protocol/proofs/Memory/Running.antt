@@ -5,7 +5,7 @@ use Rattle.spec_isa.specs.declared.thread.Parts.{Parts}
 use Rattle.spec_isa.specs.declared.thread.Load.{Load}
 use Rattle.spec_isa.specs.declared.thread.Kind.{Kind}
 use Rattle.spec_isa.specs.Words.{Stored, lays, read, is_inside}
-use Rattle.spec_isa.specs.Instruction.{Outcome, Next, Serial, one, unless, value_at, outcome_with, serial_of, loads_of, next_of, load_of, store_of}
+use Rattle.spec_isa.specs.Instruction.{InstructionOutcome, Next, Serial, one, unless, value_at, outcome_with, serial_of, loads_of, next_of, load_of, store_of}
 use Rattle.spec_isa.specs.Runs.{Run, followed, more, run}
 use Rattle.spec_kernel.specs.Needs.{fetched, next_kind}
 use Rattle.spec_engine.specs.Chunks.{Chunk}
@@ -24,7 +24,7 @@ pub one-outcome : (t : Parts) (m : List ℕ) → one t m ≡ outcome_with t (fet
 unfolding one
 one-outcome t m = refl
 
-unless_ap : (o : Option Kind) (x y : Outcome) → (o ≡ None → x ≡ y) → unless o x ≡ unless o y
+unless_ap : (o : Option Kind) (x y : InstructionOutcome) → (o ≡ None → x ≡ y) → unless o x ≡ unless o y
 unless_ap None x y e = e refl
 unless_ap (Some kind) x y e = refl
 
@@ -32,7 +32,7 @@ value_same : (m n : List ℕ) (o : Option ℕ) → ((a : ℕ) → o ≡ Some a �
 value_same m n None e = refl
 value_same m n (Some a) e = e a refl
 
-abbrev next_with : Parts → (f w : ℕ) → Outcome
+abbrev next_with : Parts → (f w : ℕ) → InstructionOutcome
 next_with t f w = Next (next_of t f w) (load_of t f w) (store_of t f w)
 
 one_inside : (seen : ℕ → Bool) (t : Parts) (m n : List ℕ) → Agree seen m n → Touches seen t m → is_inside (length m) t.pc ≡ true → one t n ≡ one t m

@@ -5,20 +5,20 @@ use Rattle.dl_entry.specs.declared.Request.{Request}
 use Rattle.spec_isa.specs.Runs.{Run}
 use Rattle.spec_log.specs.declared.LogParts.{LogParts}
 use Rattle.spec_kernel.specs.Devices.{Devices}
-use Rattle.spec_play.specs.Verdicts.{Verdict, Goes, Fails, chunk_verdict}
+use Rattle.spec_play.specs.Verdicts.{LogVerdict, Goes, Fails, chunk_verdict}
 use Rattle.spec_play.specs.Transfers.{DmaVerdict, DmaGoes, DmaFails, dma_verdict}
 use Rattle.spec_protocol.specs.Spheres.{Cursor, Role, Plain, Record, Replay, Sphere}
-use Rattle.spec_protocol.specs.Commits.{Moved, by_verdict, joined, replayed_chunk, chunk_in, chunk_moved, dma_by_verdict, live_dma, dma_log, dma_in, dma_moved}
+use Rattle.spec_protocol.specs.Commits.{MovedSphere, by_verdict, joined, replayed_chunk, chunk_in, chunk_moved, dma_by_verdict, live_dma, dma_log, dma_in, dma_moved}
 
 -- the sphere over another memory
 abbrev pub over : List ℕ → Sphere → Sphere
 over m p = record p { memory = m }
 
 -- the move with its sphere over another memory
-abbrev pub relaid : List ℕ → Moved → Moved
+abbrev pub relaid : List ℕ → MovedSphere → MovedSphere
 relaid m v = record v { sphere = over m v.sphere }
 
-verdict_relaid : (b : Cursor) (k : ℕ) (verdict : Verdict) (devices : Devices) (p : Sphere) (m : List ℕ) → by_verdict b k verdict devices (over m p) ≡ relaid m (by_verdict b k verdict devices p)
+verdict_relaid : (b : Cursor) (k : ℕ) (verdict : LogVerdict) (devices : Devices) (p : Sphere) (m : List ℕ) → by_verdict b k verdict devices (over m p) ≡ relaid m (by_verdict b k verdict devices p)
 verdict_relaid b k (Goes e u) devices p m = refl
 verdict_relaid b k (Fails why) devices p m = refl
 

@@ -12,7 +12,7 @@ use Rattle.spec_engine.proofs.Searches.{told-zero, told-tell, told-tell_other, f
 use Rattle.spec_protocol.specs.declared.event.Event.{Event}
 use Rattle.spec_protocol.specs.declared.reply.Reply.{Reply}
 use Rattle.spec_protocol.specs.Spheres.{is_stopped, head_of}
-use Rattle.spec_protocol.specs.Commits.{CommitOutcome, Granted, Piece, Diverged, Moved, is_piece, chunk_moved, serial_moved, dma_moved}
+use Rattle.spec_protocol.specs.Commits.{CommitOutcome, Granted, Piece, Diverged, MovedSphere, is_piece, chunk_moved, serial_moved, dma_moved}
 use Rattle.spec_protocol.specs.World.{Held, World, After, moment, sphere_at, answered}
 use Rattle.spec_protocol.specs.Asking.{CommitRequest, chunk_request, granted, grant_chunk, unless_denied, serial_request, grant_serial, unless_busy, asks_serial, ask_arbiter, other_turn, unless_turn, ask_closed, ask_held, asking}
 use Rattle.spec_protocol.specs.Transferring.{dma_done, transfer, dma_with, dma_if, turn_before_dma, transferring}
@@ -43,7 +43,7 @@ flown_by i words writes mark xs false k f free stands = filled_by xs (free_slot 
 
 -- ---- an ask
 
-granted_marks : (w : World) (c : ℕ) (q : CommitRequest) (writes : Marks) (v : Moved) (o : CommitOutcome) → BeginWith w (2 ^ c) (granted w c q writes v o)
+granted_marks : (w : World) (c : ℕ) (q : CommitRequest) (writes : Marks) (v : MovedSphere) (o : CommitOutcome) → BeginWith w (2 ^ c) (granted w c q writes v o)
 granted_marks w c q writes v Granted = λ k f free stands. flown_by q.sphere v.words writes (2 ^ c) w.slots (has_none v.words) k f free stands
 granted_marks w c q writes v Piece = λ k f free stands. flown_by q.sphere v.words writes (2 ^ c) w.slots (has_none v.words) k f free stands
 granted_marks w c q writes v (Diverged i why) = none_begins w (2 ^ c) (granted w c q writes v (Diverged i why)) refl
@@ -94,7 +94,7 @@ held_marks w c (Some h) = closed_marks w c h h.chunk.closed
 
 -- ---- a DMA
 
-transfer_marks : (w : World) (i : ℕ) (v : Moved) → BeginWith w 0 (transfer w i v)
+transfer_marks : (w : World) (i : ℕ) (v : MovedSphere) → BeginWith w 0 (transfer w i v)
 unfolding transfer
 transfer_marks w i v =
     let g = signed i v.words (nothing w.numbers.signature) in
@@ -103,12 +103,12 @@ transfer_marks w i v =
     (λ _. none_begins w 0 (answered w Reply.WindowFull) refl)
     (λ _. denied_marks w 0 done (first_slot (meets_chunk g g) w.slots) (λ k f free stands. flown_by i v.words g 0 w.slots (has_none v.words) k f free stands))
 
-with_marks : (w : World) (i : ℕ) (v : Moved) (o : CommitOutcome) → BeginWith w 0 (dma_with w i v o)
+with_marks : (w : World) (i : ℕ) (v : MovedSphere) (o : CommitOutcome) → BeginWith w 0 (dma_with w i v o)
 with_marks w i v Granted = transfer_marks w i v
 with_marks w i v Piece = transfer_marks w i v
 with_marks w i v (Diverged j why) = none_begins w 0 (dma_with w i v (Diverged j why)) refl
 
-dma_marks : (w : World) (i : ℕ) (o : Option Moved) → BeginWith w 0 (dma_if w i o)
+dma_marks : (w : World) (i : ℕ) (o : Option MovedSphere) → BeginWith w 0 (dma_if w i o)
 dma_marks w i None = none_begins w 0 (answered w Reply.NoDma) refl
 dma_marks w i (Some v) = with_marks w i v v.outcome
 

@@ -4,7 +4,7 @@ use Rattle.std.specs.Prelude.{slice_get}
 use Rattle.spec_isa.specs.declared.thread.Parts.{Parts}
 use Rattle.spec_engine.specs.declared.answers.How.{How}
 use Rattle.spec_protocol.specs.Spheres.{Sphere}
-use Rattle.spec_protocol.specs.Commits.{Moved, dma_moved}
+use Rattle.spec_protocol.specs.Commits.{MovedSphere, dma_moved}
 use Rattle.spec_protocol.specs.World.{Numbers, What, OfChunk, OfSerial, OfDma, OfRaise, Move}
 use Rattle.spec_protocol.specs.Serial.{SerialState, do_serial, do_dma, do_raise}
 use Rattle.spec_protocol.specs.Moves.{move_chunk, do_what, do_at}
@@ -20,7 +20,7 @@ serial-away x i j k moment p None ne = refl
 serial-away x i j k moment p (Some t) ne = get-set_other x.spheres i j _ ne
 
 -- a DMA in sphere i leaves every other sphere
-pub dma-away : (x : SerialState) (i j : ℕ) (o : Option Moved) → j ≢ i → slice_get (do_dma x i o).spheres j ≡ slice_get x.spheres j
+pub dma-away : (x : SerialState) (i j : ℕ) (o : Option MovedSphere) → j ≢ i → slice_get (do_dma x i o).spheres j ≡ slice_get x.spheres j
 dma-away x i j None ne = refl
 dma-away x i j (Some v) ne = get-set_other x.spheres i j _ ne
 

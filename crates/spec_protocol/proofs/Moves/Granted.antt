@@ -20,15 +20,15 @@ use Rattle.spec_kernel.specs.Devices.{Devices}
 use Rattle.spec_kernel.specs.Copies.{bytes_put}
 use Rattle.spec_kernel.specs.Needs.{Need, Write, Read, Random, Clock, MomentWord, InputWord, need}
 use Rattle.spec_kernel.specs.Interrupts.{takes_interrupt, interrupted}
-use Rattle.spec_kernel.specs.Serving.{Served, copy_of, outside_called, is_outside, inside_called, device_loaded, device_stored, serve_kind, serve, console_told}
+use Rattle.spec_kernel.specs.Serving.{StepResult, copy_of, outside_called, is_outside, inside_called, device_loaded, device_stored, serve_kind, serve, console_written}
 use Rattle.spec_kernel.specs.Calls.{called}
 use Rattle.spec_play.specs.Effects.{Effect, chunk_effect, serial_effect}
 use Rattle.spec_play.specs.Progress.{Progress, Used}
 use Rattle.spec_play.specs.Turns.{Now, Turn, TurnOfDma, Over}
-use Rattle.spec_play.specs.Verdicts.{Verdict, Goes, Fails, unless, interrupt_at, with_interrupted, chunk_why, chunk_verdict, Given, given, serial_why, served_verdict, serial_verdict}
+use Rattle.spec_play.specs.Verdicts.{LogVerdict, Goes, Fails, unless, interrupt_at, with_interrupted, chunk_why, chunk_verdict, Given, given, serial_why, served_verdict, serial_verdict}
 use Rattle.spec_play.specs.Plays.{with_threads}
 use Rattle.spec_protocol.specs.Spheres.{Cursor, Role, Plain, Record, Replay, Sphere, is_over, is_stopped, actor_of, head_in, whole_limit, pieces_of, limit_in, limit_of, halves}
-use Rattle.spec_protocol.specs.Commits.{CommitOutcome, Granted, Piece, Diverged, Moved, granted_as, by_verdict, joined, piece_moved, replayed_chunk, chunk_in, chunk_moved, serial_in, serial_moved, serial_noted}
+use Rattle.spec_protocol.specs.Commits.{CommitOutcome, Granted, Piece, Diverged, MovedSphere, granted_as, by_verdict, joined, piece_moved, replayed_chunk, chunk_in, chunk_moved, serial_in, serial_moved, serial_noted}
 use Rattle.spec_protocol.specs.Asking.{other_turn}
 use Rattle.spec_protocol.specs.Placing.{replays}
 use Rattle.spec_kernel.specs.Answers.{taken}
@@ -93,13 +93,13 @@ pub record KeepsOthers (k : ℕ) (p q : Sphere) : Type 0 where
   pub limits : (s j : ℕ) (t : Parts) → j ≢ k → is_stopped q.role ≡ false → limit_of s q.role j t ≡ limit_of s p.role j t
 
 -- a divergence stores nothing, changes no thread and no device, and stops the sphere
-abbrev pub Divergence : Devices → Sphere → Moved → CommitOutcome → Type 0
+abbrev pub Divergence : Devices → Sphere → MovedSphere → CommitOutcome → Type 0
 Divergence devices p v Granted = Unit {0}
 Divergence devices p v Piece = Unit {0}
 Divergence devices p v (Diverged i why) = (v.words ≡ []) × (v.devices ≡ devices) × (v.sphere.threads ≡ p.threads) × (is_stopped v.sphere.role ≡ true)
 
 -- a move of thread k leaves the other threads, stores no word twice, and stores nothing where it diverges
-pub record MovesOnly (k : ℕ) (devices : Devices) (p : Sphere) (v : Moved) : Type 0 where
+pub record MovesOnly (k : ℕ) (devices : Devices) (p : Sphere) (v : MovedSphere) : Type 0 where
   pub keeps : KeepsOthers k p v.sphere
   pub apart : Apart v.words
   pub divergence : Divergence devices p v v.outcome
@@ -112,7 +112,7 @@ pub record HasTurn (k : ℕ) (role : Role) (p : Sphere) : Type 0 where
 threads_kept : (k : ℕ) (e : Effect) (ts : List Parts) (j : ℕ) (t : Parts) → j ≢ k → slice_get ts j ≡ Some t → slice_get (with_threads k e ts) j ≡ Some t
 threads_kept k e ts j t ne is = get-append (slice_set ts k e.thread) e.made j t (get-set_other ts k j e.thread ne ∙ is)
 
-verdict_moves : (k : ℕ) (b : Cursor) (verdict : Verdict) (devices : Devices) (p : Sphere) → p.role ≡ Replay b → b.now ≡ Turn k → ((e : Effect) (u : Used) → verdict ≡ Goes e u → Apart e.words) → MovesOnly k devices p (by_verdict b k verdict devices p)
+verdict_moves : (k : ℕ) (b : Cursor) (verdict : LogVerdict) (devices : Devices) (p : Sphere) → p.role ≡ Replay b → b.now ≡ Turn k → ((e : Effect) (u : Used) → verdict ≡ Goes e u → Apart e.words) → MovesOnly k devices p (by_verdict b k verdict devices p)
 unfolding limit_of
 verdict_moves k b (Fails why) devices p is turn apart =
     record {
@@ -152,7 +152,7 @@ interrupted_words None e u f v is = let g : e ≡ f = cc in ap (λ (x : Effect).
 interrupted_words (Some value) e u f v is =
     by_taken (takes_interrupt e.thread) (record e { thread = interrupted value e.thread }) e f _ v refl is
 
-unless_words : (o : Option Why) (x : Verdict) (ws : List Stored) → ((e : Effect) (u : Used) → x ≡ Goes e u → e.words ≡ ws) → (e : Effect) (u : Used) → unless o x ≡ Goes e u → e.words ≡ ws
+unless_words : (o : Option Why) (x : LogVerdict) (ws : List Stored) → ((e : Effect) (u : Used) → x ≡ Goes e u → e.words ≡ ws) → (e : Effect) (u : Used) → unless o x ≡ Goes e u → e.words ≡ ws
 unless_words None x ws each e u is = each e u is
 unless_words (Some why) x ws each e u is = cc
 
@@ -217,7 +217,7 @@ unfolding chunk_moved
 chunk-moves k piece short r devices p turn apart = chunk_in_moves k p.role piece short r devices p refl turn apart
 
 -- it stores the run's words, or none
-verdict_stores : (P : List Stored → Type 0) (b : Cursor) (k : ℕ) (verdict : Verdict) (devices : Devices) (p : Sphere) (ws : List Stored) → P [] → P ws → ((e : Effect) (u : Used) → verdict ≡ Goes e u → e.words ≡ ws) → P (by_verdict b k verdict devices p).words
+verdict_stores : (P : List Stored → Type 0) (b : Cursor) (k : ℕ) (verdict : LogVerdict) (devices : Devices) (p : Sphere) (ws : List Stored) → P [] → P ws → ((e : Effect) (u : Used) → verdict ≡ Goes e u → e.words ≡ ws) → P (by_verdict b k verdict devices p).words
 verdict_stores P b k (Fails why) devices p ws none some each = none
 verdict_stores P b k (Goes e u) devices p ws none some each = subst P (sym (each e u refl)) some
 
@@ -278,14 +278,14 @@ stored_apart request t (Operation.StoreConditional rd a v) = tt
 stored_apart request t (Operation.Amo op rd a v) = tt
 
 -- what holds of both ways to serve holds of the choice
-pub either_serve : (P : Served → Type 0) (b : Bool) (x y : Served) → P x → P y → P (cond b x y)
+pub either_serve : (P : StepResult → Type 0) (b : Bool) (x y : StepResult) → P x → P y → P (cond b x y)
 either_serve P true x y p q = p
 either_serve P false x y p q = q
 
 kind_apart : (o : Option Kind) (k : ℕ) (ts : List Parts) (request : Option Request) (t : Parts) (m : List ℕ) (input : Option Input) → Apart (serve_kind o k ts request t m input).words
 kind_apart None k ts request t m input = tt
 kind_apart (Some Kind.Call) k ts request t m input =
-    either_serve (λ (v : Served). Apart v.words) (is_outside t) (outside_called (need t m) request t input) (inside_called (called (length m) k ts request t)) (outside_apart (need t m) request t input) tt
+    either_serve (λ (v : StepResult). Apart v.words) (is_outside t) (outside_called (need t m) request t input) (inside_called (called (length m) k ts request t)) (outside_apart (need t m) request t input) tt
 kind_apart (Some Kind.Break) k ts request t m input = tt
 kind_apart (Some Kind.DeviceLoad) k ts request t m input = loaded_apart request t _ input
 kind_apart (Some Kind.DeviceStore) k ts request t m input = stored_apart request t _
@@ -301,7 +301,7 @@ served_apart log p k ts t m None e u is = cc
 served_apart log p k ts t m (Some g) e u is =
     subst Apart (sym (interrupted_words _ (serial_effect k (serve k ts p.request t m g.input)) g.used e u is)) (serve-apart k ts p.request t m g.input)
 
-unless_apart : (o : Option Why) (x : Verdict) → ((e : Effect) (u : Used) → x ≡ Goes e u → Apart e.words) → (e : Effect) (u : Used) → unless o x ≡ Goes e u → Apart e.words
+unless_apart : (o : Option Why) (x : LogVerdict) → ((e : Effect) (u : Used) → x ≡ Goes e u → Apart e.words) → (e : Effect) (u : Used) → unless o x ≡ Goes e u → Apart e.words
 unless_apart None x each e u is = each e u is
 unless_apart (Some why) x each e u is = cc
 
@@ -316,11 +316,11 @@ unfolding limit_of
 serial_in_moves k moment Plain t devices p is turn =
     let g = taken (need t p.memory) devices moment in
     let v = serve k p.threads p.progress.request t p.memory g.input in
-    granted_moves k Plain (serial_effect k v) devices (console_told t p.memory v.outputs g.devices) p (ap halves (sym is)) (ap replays (sym is)) (λ s j u. ap (λ (q : Role). limit_in q s j u.commits) (sym is)) (serve-apart k p.threads p.progress.request t p.memory g.input)
+    granted_moves k Plain (serial_effect k v) devices (console_written t p.memory v.outputs g.devices) p (ap halves (sym is)) (ap replays (sym is)) (λ s j u. ap (λ (q : Role). limit_in q s j u.commits) (sym is)) (serve-apart k p.threads p.progress.request t p.memory g.input)
 serial_in_moves k moment (Record log) t devices p is turn =
     let g = taken (need t p.memory) devices moment in
     let v = serve k p.threads p.progress.request t p.memory g.input in
-    granted_moves k (Record (serial_noted k t g log p)) (serial_effect k v) devices (console_told t p.memory v.outputs g.devices) p (ap halves (sym is)) (ap replays (sym is)) (λ s j u. ap (λ (q : Role). limit_in q s j u.commits) (sym is)) (serve-apart k p.threads p.progress.request t p.memory g.input)
+    granted_moves k (Record (serial_noted k t g log p)) (serial_effect k v) devices (console_written t p.memory v.outputs g.devices) p (ap halves (sym is)) (ap replays (sym is)) (λ s j u. ap (λ (q : Role). limit_in q s j u.commits) (sym is)) (serve-apart k p.threads p.progress.request t p.memory g.input)
 serial_in_moves k moment (Replay b) t devices p is turn =
     verdict_moves k b (serial_verdict b.log p.progress b.used k p.threads t p.memory) devices p is (turn-is b.now k turn.going turn.turn)
     (λ e u h. serial_apart b.log p.progress b.used k p.threads t p.memory e u h)

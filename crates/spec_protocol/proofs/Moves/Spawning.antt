@@ -10,7 +10,7 @@ use Rattle.spec_isa.specs.declared.operation.Operation.{Operation}
 use Rattle.spec_kernel.specs.Needs.{Need, number_of, a0, a1, a2, cut, need}
 use Rattle.spec_kernel.specs.Answers.{refused, unknown_call, bad_buffer}
 use Rattle.spec_kernel.specs.Calls.{Called, gives, exit, spawned, spawn, set_handler, iret, is_dma_buffer, request_dma, has_ended, called, with_result, returned}
-use Rattle.spec_kernel.specs.Serving.{Served, outside_called, is_outside, inside_called, device_loaded, device_stored, serve_kind, serve}
+use Rattle.spec_kernel.specs.Serving.{StepResult, outside_called, is_outside, inside_called, device_loaded, device_stored, serve_kind, serve}
 use Rattle.spec_protocol.proofs.Moves.Granted.{either_serve}
 
 -- with the threads that were spawned there are at most 15
@@ -72,7 +72,7 @@ called_few size k ts request t few =
 
 -- ---- serial steps
 
-abbrev ServeFew : List Parts → Served → Type 0
+abbrev ServeFew : List Parts → StepResult → Type 0
 ServeFew ts v = AreFew ts v.made
 
 outside_few : (ts : List Parts) (o : Option Need) (request : Option Request) (t : Parts) (input : Option Input) → length ts ≤ 15 → ServeFew ts (outside_called o request t input)

@@ -9,12 +9,12 @@ use Rattle.spec_isa.specs.declared.thread.Kind.{Kind}
 use Rattle.spec_isa.specs.declared.operation.Operation.{Operation}
 use Rattle.spec_isa.specs.Words.{Stored, lays}
 use Rattle.spec_isa.specs.Operations.{thread_then}
-use Rattle.spec_isa.specs.Instruction.{Outcome, Next, Serial, one, unless, operation_of, next_of}
+use Rattle.spec_isa.specs.Instruction.{InstructionOutcome, Next, Serial, one, unless, operation_of, next_of}
 use Rattle.spec_isa.specs.Runs.{Run, followed, run}
 use Rattle.spec_kernel.specs.Needs.{Need, number_of, a0, a1, a2, cut, need}
 use Rattle.spec_kernel.specs.Answers.{refused, unknown_call, bad_buffer}
 use Rattle.spec_kernel.specs.Calls.{Called, gives, exit, spawned, spawn, set_handler, iret, is_dma_buffer, request_dma, has_ended, called, with_result, returned}
-use Rattle.spec_kernel.specs.Serving.{Served, outside_called, is_outside, inside_called, device_loaded, device_stored, serve_kind, serve}
+use Rattle.spec_kernel.specs.Serving.{StepResult, outside_called, is_outside, inside_called, device_loaded, device_stored, serve_kind, serve}
 use Rattle.spec_protocol.proofs.Moves.Granted.{either_serve}
 
 -- ---- instructions
@@ -41,7 +41,7 @@ one_keeps : (t : Parts) (m : List ℕ) (u : Parts) (load : Option Load) (store :
 unfolding one
 one_keeps t m u load store e = unless_keeps t _ _ u _ load _ store (next_keeps t _ _) e
 
-followed_keeps : (r : Run) (m : List ℕ) (o : Outcome) → one r.thread m ≡ o → (followed r o).thread.commits ≡ r.thread.commits
+followed_keeps : (r : Run) (m : List ℕ) (o : InstructionOutcome) → one r.thread m ≡ o → (followed r o).thread.commits ≡ r.thread.commits
 followed_keeps r m (Serial kind) e = refl
 followed_keeps r m (Next u load store) e = one_keeps r.thread m u load store e
 
@@ -123,7 +123,7 @@ called_keeps size k ts request t =
 
 -- ---- serial steps
 
-abbrev ServeKeeps : Parts → Served → Type 0
+abbrev ServeKeeps : Parts → StepResult → Type 0
 ServeKeeps t v = KeepsCommits t v.thread v.made
 
 outside_keeps : (o : Option Need) (request : Option Request) (t : Parts) (input : Option Input) → ServeKeeps t (outside_called o request t input)

@@ -19,13 +19,13 @@ use Rattle.spec_play.specs.Turns.{Now, Turn, TurnOfDma, Over}
 use Rattle.spec_play.specs.Verdicts.{serial_why}
 use Rattle.spec_play.specs.Transfers.{DmaVerdict, DmaGoes, DmaFails, is_for, transferred, dma_unless, dma_verdict}
 use Rattle.spec_protocol.specs.Spheres.{Cursor, Role, Plain, Record, Replay, Sphere, is_over, is_stopped, actor_of, whole_limit, pieces_of, limit_in, limit_of, halves}
-use Rattle.spec_protocol.specs.Commits.{Granted, Moved, dma_as, live_dma, dma_log, dma_by_verdict, dma_in, dma_moved}
+use Rattle.spec_protocol.specs.Commits.{Granted, MovedSphere, dma_as, live_dma, dma_log, dma_by_verdict, dma_in, dma_moved}
 use Rattle.spec_protocol.specs.Transferring.{not_of_dma, turn_before_dma}
 use Rattle.spec_protocol.specs.Placing.{replays}
 use Rattle.spec_protocol.proofs.Moves.Granted.{bytes_apart, pieces_none, Divergence}
 
 -- a DMA leaves the memory, the threads, their limits and the sphere's role
-pub record DmaMoves (devices : Devices) (p : Sphere) (v : Moved) : Type 0 where
+pub record DmaMoves (devices : Devices) (p : Sphere) (v : MovedSphere) : Type 0 where
   pub memory : v.sphere.memory ≡ p.memory
   pub threads : v.sphere.threads ≡ p.threads
   pub halving : halves v.sphere.role ≡ halves p.role
@@ -56,7 +56,7 @@ as_moves role words ds devices p halving replaying limits apart =
       divergence = tt;
     }
 
-live_moves : (role : Role) (devices : Devices) (p : Sphere) (o : Option Request) (v : Moved) → halves role ≡ halves p.role → replays role ≡ replays p.role → ((s j : ℕ) (t : Parts) → limit_of s role j t ≡ limit_of s p.role j t)
+live_moves : (role : Role) (devices : Devices) (p : Sphere) (o : Option Request) (v : MovedSphere) → halves role ≡ halves p.role → replays role ≡ replays p.role → ((s j : ℕ) (t : Parts) → limit_of s role j t ≡ limit_of s p.role j t)
     → live_dma role devices p o ≡ Some v → DmaMoves devices p v
 live_moves role devices p None v halving replaying limits is = absurd (none-some v is)
 live_moves role devices p (Some request) v halving replaying limits is =
@@ -103,7 +103,7 @@ verdict_apart log p u ws e =
     let next = slice_get log.dmas u.dmas in
     unless_apart (serial_why (size_in log Actor.Dma (position p))) (transferred (position p) p.request next) (λ vs h. transferred_apart (position p) p.request next vs h) ws e
 
-in_moves : (role : Role) (devices : Devices) (p : Sphere) (v : Moved) → p.role ≡ role → is_stopped role ≡ false → turn_before_dma role ≡ None → dma_in role devices p ≡ Some v → DmaMoves devices p v
+in_moves : (role : Role) (devices : Devices) (p : Sphere) (v : MovedSphere) → p.role ≡ role → is_stopped role ≡ false → turn_before_dma role ≡ None → dma_in role devices p ≡ Some v → DmaMoves devices p v
 unfolding limit_of
 in_moves Plain devices p v is going turn e =
     live_moves Plain devices p p.progress.request v (ap halves (sym is)) (ap replays (sym is)) (λ s j t. ap (λ (q : Role). limit_in q s j t.commits) (sym is)) e
@@ -114,21 +114,21 @@ in_moves (Replay b) devices p v is going turn e =
     (verdict_moves b (dma_verdict b.log p.progress b.used) devices p is (dma-turn_is b.now going turn) (λ ws h. verdict_apart b.log p.progress b.used ws h))
 
 -- a DMA that is done leaves the memory, the threads, their limits and the role
-pub dma-moves : (devices : Devices) (p : Sphere) (v : Moved) → is_stopped p.role ≡ false → turn_before_dma p.role ≡ None → dma_moved devices p ≡ Some v → DmaMoves devices p v
+pub dma-moves : (devices : Devices) (p : Sphere) (v : MovedSphere) → is_stopped p.role ≡ false → turn_before_dma p.role ≡ None → dma_moved devices p ≡ Some v → DmaMoves devices p v
 unfolding dma_moved
 dma-moves devices p v going turn e = in_moves p.role devices p v refl going turn e
 
-live_grants : (role : Role) (devices : Devices) (p : Sphere) (o : Option Request) (v : Moved) → live_dma role devices p o ≡ Some v → v.outcome ≡ Granted
+live_grants : (role : Role) (devices : Devices) (p : Sphere) (o : Option Request) (v : MovedSphere) → live_dma role devices p o ≡ Some v → v.outcome ≡ Granted
 live_grants role devices p None v e = absurd (none-some v e)
 live_grants role devices p (Some request) v e =
-    let h : dma_as role (dma_words request (dma_bytes devices request)) (dma_taken devices request) p ≡ v = cc in ap (λ (u : Moved). u.outcome) (sym h)
+    let h : dma_as role (dma_words request (dma_bytes devices request)) (dma_taken devices request) p ≡ v = cc in ap (λ (u : MovedSphere). u.outcome) (sym h)
 
-in_lives : (role : Role) (devices : Devices) (p : Sphere) (v : Moved) → replays role ≡ false → dma_in role devices p ≡ Some v → v.outcome ≡ Granted
+in_lives : (role : Role) (devices : Devices) (p : Sphere) (v : MovedSphere) → replays role ≡ false → dma_in role devices p ≡ Some v → v.outcome ≡ Granted
 in_lives Plain devices p v live e = live_grants Plain devices p p.progress.request v e
 in_lives (Record log) devices p v live e = live_grants (Record (dma_log log devices p p.progress.request)) devices p p.progress.request v e
 in_lives (Replay b) devices p v live e = absurd (true≢false live)
 
 -- outside replays the answer to a DMA that is done is Granted
-pub dma-lives : (devices : Devices) (p : Sphere) (v : Moved) → replays p.role ≡ false → dma_moved devices p ≡ Some v → v.outcome ≡ Granted
+pub dma-lives : (devices : Devices) (p : Sphere) (v : MovedSphere) → replays p.role ≡ false → dma_moved devices p ≡ Some v → v.outcome ≡ Granted
 unfolding dma_moved
 dma-lives devices p v live e = in_lives p.role devices p v live e

@@ -22,7 +22,7 @@ use Rattle.spec_play.specs.Recording.{new_log, interrupt_noted}
 use Rattle.spec_play.specs.Plays.{Played, opened, plays, play}
 use Rattle.spec_engine.specs.declared.answers.How.{How}
 use Rattle.spec_protocol.specs.Spheres.{Role, Record, Sphere}
-use Rattle.spec_protocol.specs.Commits.{Moved, is_piece, chunk_in, chunk_moved, serial_in, serial_moved, dma_in, dma_moved, live_dma, dma_log, role_raised, raised}
+use Rattle.spec_protocol.specs.Commits.{MovedSphere, is_piece, chunk_in, chunk_moved, serial_in, serial_moved, dma_in, dma_moved, live_dma, dma_log, role_raised, raised}
 use Rattle.spec_protocol.specs.World.{Numbers, What, OfChunk, OfSerial, OfDma, OfRaise, Move}
 use Rattle.spec_protocol.specs.Asking.{is_short}
 use Rattle.spec_protocol.specs.Machine.{SphereSetup, role_of, sphere_of, moves, world_of}
@@ -47,7 +47,7 @@ record Comes (x : SerialState) (i : ℕ) (p : Sphere) (plog : LogParts) : Type 0
   role : sphere.role ≡ Record log
   grown : Grown p sphere plog log
 
-moved_comes : (x : SerialState) (i : ℕ) (p : Sphere) (log qlog : LogParts) (v : Moved) → slice_get x.spheres i ≡ Some p → (laid v).role ≡ Record qlog → Grown p (laid v) log qlog → Comes (do_moved x i v) i p log
+moved_comes : (x : SerialState) (i : ℕ) (p : Sphere) (log qlog : LogParts) (v : MovedSphere) → slice_get x.spheres i ≡ Some p → (laid v).role ≡ Record qlog → Grown p (laid v) log qlog → Comes (do_moved x i v) i p log
 moved_comes x i p log qlog v is role grown = record { sphere = laid v; log = qlog; there = get-set_same x.spheres i (laid v) p is; role = role; grown = grown }
 
 chunk_comes : (z : Numbers) (x : SerialState) (i : ℕ) (p : Sphere) (log : LogParts) (k : ℕ) (how : How) (n limit : ℕ) (o : Option Parts) → 0 < z.buffer → log.s ≡ z.chunk → slice_get x.spheres i ≡ Some p → p.role ≡ Record log
@@ -55,7 +55,7 @@ chunk_comes : (z : Numbers) (x : SerialState) (i : ℕ) (p : Sphere) (log : LogP
 unfolding chunk_moved
 chunk_comes z x i p log k how n limit None buffer s is role thread fits = absurd fits
 chunk_comes z x i p log k how n limit (Some t) buffer s is role thread fits =
-    subst (λ (v : Moved). Comes (do_moved x i v) i p log)
+    subst (λ (v : MovedSphere). Comes (do_moved x i v) i p log)
     (sym (ap (λ (r : Role). chunk_in r k (is_piece how) (is_short z.chunk how limit) (run p.memory t n) x.devices p) role))
     (moved_comes x i p log _ (chunk_in (Record log) k (is_piece how) (is_short z.chunk how limit) (run p.memory t n) x.devices p) is refl
     (chunk-grown z log p k t how n limit x.devices role s buffer thread fits))
@@ -65,7 +65,7 @@ serial_comes : (x : SerialState) (i moment : ℕ) (p : Sphere) (log : LogParts) 
 unfolding serial_moved
 serial_comes x i moment p log k None is role thread fits = absurd fits
 serial_comes x i moment p log k (Some t) is role thread fits =
-    subst (λ (v : Moved). Comes (do_moved x i v) i p log)
+    subst (λ (v : MovedSphere). Comes (do_moved x i v) i p log)
     (sym (ap (λ (r : Role). serial_in r k moment t x.devices p) role))
     (moved_comes x i p log _ (serial_in (Record log) k moment t x.devices p) is refl (serial-grown log p k moment t x.devices role thread fits))
 
@@ -77,7 +77,7 @@ dma_comes x i p log None is role asked some =
     ap (λ (r : Role). dma_in r x.devices p) role ∙ (λ j. live_dma (Record (dma_log log x.devices p (asked j))) x.devices p (asked j)) in
     absurd (true≢false (sym (subst IsSome none some)))
 dma_comes x i p log (Some request) is role asked some =
-    subst (λ (o : Option Moved). Comes (do_dma x i o) i p log)
+    subst (λ (o : Option MovedSphere). Comes (do_dma x i o) i p log)
     (sym (ap (λ (r : Role). dma_in r x.devices p) role ∙ (λ j. live_dma (Record (dma_log log x.devices p (asked j))) x.devices p (asked j))))
     (moved_comes x i p log (dma_log log x.devices p (Some request)) (recorded_dma log p x.devices request) is refl (dma-grown log p x.devices request asked))
 

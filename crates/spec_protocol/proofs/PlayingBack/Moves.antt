@@ -25,7 +25,7 @@ use Rattle.spec_play.specs.Recording.{noted, interrupt_noted}
 use Rattle.spec_play.specs.Plays.{Played, plays}
 use Rattle.spec_engine.specs.declared.answers.How.{How}
 use Rattle.spec_protocol.specs.Spheres.{Role, Record, Sphere, recording_turn, head_in, head_of, limit_in, limit_of, is_in_pieces}
-use Rattle.spec_protocol.specs.Commits.{Moved, is_piece, chunk_in, serial_noted, serial_in, dma_log, raised, dma_as}
+use Rattle.spec_protocol.specs.Commits.{MovedSphere, is_piece, chunk_in, serial_noted, serial_in, dma_log, raised, dma_as}
 use Rattle.spec_protocol.specs.World.{Numbers}
 use Rattle.spec_protocol.specs.Asking.{is_short, other_turn}
 use Rattle.spec_protocol.specs.Serial.{laid}
@@ -164,7 +164,7 @@ whole_run z log p k t How.Serial n limit role f short =
 whole_run z log p k t How.Overflow n limit role f short = absurd (true≢false short)
 whole_run z log p k t How.Cut n limit role f short = absurd (true≢false short)
 
-abbrev recorded_chunk : Numbers → LogParts → Sphere → ℕ → Parts → How → (n limit : ℕ) → Devices → Moved
+abbrev recorded_chunk : Numbers → LogParts → Sphere → ℕ → Parts → How → (n limit : ℕ) → Devices → MovedSphere
 recorded_chunk z log p k t how n limit devices = chunk_in (Record log) k (is_piece how) (is_short z.chunk how limit) (run p.memory t n) devices p
 
 abbrev chunk_log : Numbers → LogParts → Sphere → ℕ → Parts → How → (n limit : ℕ) → LogParts
@@ -222,7 +222,7 @@ chunk-grown z log p k t how n limit devices role s buffer is fits =
 -- ---- a serial step
 
 -- what a serial step makes of a recorded sphere
-abbrev pub recorded_serial : LogParts → Sphere → ℕ → (moment : ℕ) → Parts → Devices → Moved
+abbrev pub recorded_serial : LogParts → Sphere → ℕ → (moment : ℕ) → Parts → Devices → MovedSphere
 recorded_serial log p k moment t devices = serial_in (Record log) k moment t devices p
 
 abbrev serial_log : LogParts → Sphere → ℕ → (moment : ℕ) → Parts → Devices → LogParts
@@ -280,7 +280,7 @@ serial-grown log p k moment t devices role is fits =
 -- ---- a DMA
 
 -- what a DMA makes of a recorded sphere
-abbrev pub recorded_dma : LogParts → Sphere → Devices → Request → Moved
+abbrev pub recorded_dma : LogParts → Sphere → Devices → Request → MovedSphere
 recorded_dma log p devices request = dma_as (Record (dma_log log devices p (Some request))) (dma_words request (dma_bytes devices request)) (dma_taken devices request) p
 
 -- a recorded sphere and its log have grown after a DMA

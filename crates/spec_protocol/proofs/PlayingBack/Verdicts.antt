@@ -10,8 +10,8 @@ use Rattle.spec_isa.specs.declared.thread.Parts.{Parts}
 use Rattle.spec_isa.specs.declared.thread.Kind.{Kind}
 use Rattle.spec_isa.specs.Words.{lays, Stored}
 use Rattle.spec_isa.specs.declared.thread.Load.{Load}
-use Rattle.spec_isa.specs.Instruction.{Outcome, Next, Serial, one, unless, value_at, loads_of}
-use Rattle.spec_isa.specs.Runs.{Run, begun, followed, more, run}
+use Rattle.spec_isa.specs.Instruction.{InstructionOutcome, Next, Serial, one, unless, value_at, loads_of}
+use Rattle.spec_isa.specs.Runs.{Run, run_start, followed, more, run}
 use Rattle.spec_log.specs.declared.ModeName.{ModeName}
 use Rattle.spec_log.specs.declared.Sizes.{Sizes}
 use Rattle.spec_log.specs.declared.LogParts.{LogParts}
@@ -38,12 +38,12 @@ use Rattle.spec_protocol.proofs.Logs.Growing.{OrderStands, SizesStand, SizesAhea
 run_least : (m : List ℕ) (t : Parts) (n : ℕ) → (run m t n).n ≤ n
 run_least m t zero = omega arith
 run_least m t (suc n) =
-    elim (one (run m t n).thread (lays m (run m t n).words)) as (λ (o : Outcome). (followed (run m t n) o).n ≤ suc n) [
+    elim (one (run m t n).thread (lays m (run m t n).words)) as (λ (o : InstructionOutcome). (followed (run m t n) o).n ≤ suc n) [
       | Serial kind ↦ (let h = run_least m t n in omega arith)
       | Next u load store ↦ (let h = run_least m t n in omega arith)
     ]
 
-run_part : (r : Run) (o : Outcome) (n : ℕ) → r.n ≤ n → (followed r o).n ≡ suc n → r.n ≡ n
+run_part : (r : Run) (o : InstructionOutcome) (n : ℕ) → r.n ≤ n → (followed r o).n ≡ suc n → r.n ≡ n
 run_part r (Serial kind) n l e = absurd (omega arith)
 run_part r (Next u load store) n l e = omega arith
 
@@ -51,7 +51,7 @@ run_parts : (m : List ℕ) (t : Parts) (n : ℕ) → (run m t (suc n)).n ≡ suc
 run_parts m t zero e = e
 run_parts m t (suc n) e = run_parts m t n (run_part (run m t (suc n)) (one (run m t (suc n)).thread (lays m (run m t (suc n)).words)) (suc n) (run_least m t (suc n)) e)
 
-first_part : (t : Parts) (f w : ℕ) (load : Option Load) (store : Option Stored) (o : Option Kind) (u : Parts) → (followed (begun t) (unless o (Next u load store))).n ≡ 1 → o ≡ None
+first_part : (t : Parts) (f w : ℕ) (load : Option Load) (store : Option Stored) (o : Option Kind) (u : Parts) → (followed (run_start t) (unless o (Next u load store))).n ≡ 1 → o ≡ None
 first_part t f w load store None u e = refl
 first_part t f w load store (Some kind) u e = absurd (omega arith)
 
@@ -60,7 +60,7 @@ pub run-first : (m : List ℕ) (t : Parts) (n : ℕ) → 0 < n → (run m t n).n
 unfolding next_kind
 run-first m t zero l e = absurd (omega arith)
 run-first m t (suc n) l e =
-    first_part t 0 0 _ _ _ _ (ap (λ (o : Outcome). (followed (begun t) o).n) (sym (one-outcome t m)) ∙ run_parts m t n e)
+    first_part t 0 0 _ _ _ _ (ap (λ (o : InstructionOutcome). (followed (run_start t) o).n) (sym (one-outcome t m)) ∙ run_parts m t n e)
 
 -- a run stays where the next instruction is serial
 stopped_by : (t : Parts) (m : List ℕ) (o : Option Kind) → next_kind t m ≡ o → IsSome o → (r : Run) → followed r (one t m) ≡ r

@@ -21,7 +21,7 @@ use Rattle.spec_kernel.specs.Serving.{serve}
 use Rattle.spec_play.specs.Effects.{chunk_commit, serial_effect, dma_commit}
 use Rattle.spec_play.specs.Progress.{position}
 use Rattle.spec_protocol.specs.Spheres.{Role, Plain, Record, Replay, Sphere, no_sphere}
-use Rattle.spec_protocol.specs.Commits.{Moved, dma_as, chunk_in, chunk_moved, serial_in, serial_moved, live_dma, dma_log, dma_in, dma_moved, raised}
+use Rattle.spec_protocol.specs.Commits.{MovedSphere, dma_as, chunk_in, chunk_moved, serial_in, serial_moved, live_dma, dma_log, dma_in, dma_moved, raised}
 use Rattle.spec_protocol.specs.Serial.{SerialState, serial_start, laid, do_moved, do_chunk, do_serial, do_dma, do_raise, do_kind, in_live, do_commit, do_interrupt, do_point, do_points}
 use Rattle.spec_protocol.specs.Logged.{sphere_in}
 use Rattle.spec_protocol.specs.Promises.{after}
@@ -43,7 +43,7 @@ still_puts i x y same commits =
     ∙ ap (λ (ds : List Commit). x.devices.console ++ put_out ds) (sym (ap (drop (length cs)) commits ∙ drop-length cs))
 
 -- one commit more
-moved_puts : (i : ℕ) (x : SerialState) (p : Sphere) (v : Moved) (c : Commit) → slice_get x.spheres i ≡ Some p → v.sphere.progress.commits ≡ p.progress.commits ++ c ∷ [] → v.devices.console ≡ x.devices.console ++ flat_map on_console c.outputs → Puts i x (do_moved x i v)
+moved_puts : (i : ℕ) (x : SerialState) (p : Sphere) (v : MovedSphere) (c : Commit) → slice_get x.spheres i ≡ Some p → v.sphere.progress.commits ≡ p.progress.commits ++ c ∷ [] → v.devices.console ≡ x.devices.console ++ flat_map on_console c.outputs → Puts i x (do_moved x i v)
 moved_puts i x p v c is commits console =
     let was : sphere_in x i ≡ p = get_or_from_slice_get x.spheres i p no_sphere is in
     let now : sphere_in (do_moved x i v) i ≡ laid v = get_or_from_slice_get (slice_set x.spheres i (laid v)) i (laid v) no_sphere (get-set_same x.spheres i (laid v) p is) in
@@ -55,7 +55,7 @@ moved_puts i x p v c is commits console =
     ∙ ap (λ (cs : List Commit). x.devices.console ++ put_out cs) (sym new)
 
 -- a commit without outputs
-silent_puts : (i : ℕ) (x : SerialState) (p : Sphere) (v : Moved) (c : Commit) → slice_get x.spheres i ≡ Some p → v.sphere.progress.commits ≡ p.progress.commits ++ c ∷ [] → c.outputs ≡ [] → v.devices.console ≡ x.devices.console → Puts i x (do_moved x i v)
+silent_puts : (i : ℕ) (x : SerialState) (p : Sphere) (v : MovedSphere) (c : Commit) → slice_get x.spheres i ≡ Some p → v.sphere.progress.commits ≡ p.progress.commits ++ c ∷ [] → c.outputs ≡ [] → v.devices.console ≡ x.devices.console → Puts i x (do_moved x i v)
 silent_puts i x p v c is commits silent same =
     moved_puts i x p v c is commits (same ∙ sym (append-nil x.devices.console) ∙ ap (λ (os : List Output). x.devices.console ++ flat_map on_console os) (sym silent))
 

@@ -13,7 +13,7 @@ use Rattle.spec_engine.specs.Asking.{denied_by, busy_by, ask}
 use Rattle.spec_protocol.specs.declared.event.Event.{Event}
 use Rattle.spec_protocol.specs.declared.reply.Reply.{Reply}
 use Rattle.spec_protocol.specs.Spheres.{is_stopped, head_of}
-use Rattle.spec_protocol.specs.Commits.{CommitOutcome, Granted, Piece, Diverged, Moved, is_piece, chunk_moved, serial_moved, dma_moved}
+use Rattle.spec_protocol.specs.Commits.{CommitOutcome, Granted, Piece, Diverged, MovedSphere, is_piece, chunk_moved, serial_moved, dma_moved}
 use Rattle.spec_protocol.specs.World.{Held, World, After, moment, sphere_at, with_sphere, with_core, with_slot, held_afresh, core_of, answered}
 use Rattle.spec_protocol.specs.Stepping.{stepped, step_held, stepping, cut_to, cut_held, cutting, reply_of_step, reply_of_cut}
 use Rattle.spec_protocol.specs.Asking.{CommitRequest, chunk_request, granted, grant_chunk, unless_denied, grant_serial, unless_busy, asks_serial, ask_arbiter, other_turn, unless_turn, ask_closed, ask_held, asking}
@@ -73,7 +73,7 @@ cut_untold w c (Some h) =
     (λ _. record { points = refl; counts = refl; exactly = refl; moment = tt })
     (λ _. record { points = refl; counts = refl; exactly = cut_none (cut h.chunk).reply; moment = tt })
 
-granted_untold : (w : World) (c : ℕ) (q : CommitRequest) (writes : Marks) (v : Moved) (o : CommitOutcome) → Untold w (granted w c q writes v o)
+granted_untold : (w : World) (c : ℕ) (q : CommitRequest) (writes : Marks) (v : MovedSphere) (o : CommitOutcome) → Untold w (granted w c q writes v o)
 granted_untold w c q writes v Granted = record { points = refl; counts = refl; exactly = refl; moment = refl }
 granted_untold w c q writes v Piece = record { points = refl; counts = refl; exactly = refl; moment = refl }
 granted_untold w c q writes v (Diverged i why) = record { points = refl; counts = refl; exactly = refl; moment = tt }
@@ -161,7 +161,7 @@ raise_untold w i k value (Some t) =
     (λ _. record { points = refl; counts = refl; exactly = refl; moment = tt }))
     (λ _. record { points = refl; counts = refl; exactly = refl; moment = tt })
 
-transfer_untold : (w : World) (i : ℕ) (v : Moved) → Untold w (transfer w i v)
+transfer_untold : (w : World) (i : ℕ) (v : MovedSphere) → Untold w (transfer w i v)
 unfolding transfer
 transfer_untold w i v =
     let g = signed i v.words (nothing w.numbers.signature) in
@@ -170,12 +170,12 @@ transfer_untold w i v =
     (λ _. record { points = refl; counts = refl; exactly = refl; moment = tt })
     (λ _. denied_untold w done (first_slot (meets_chunk g g) w.slots) (record { points = refl; counts = refl; exactly = refl; moment = refl }))
 
-with_untold : (w : World) (i : ℕ) (v : Moved) (o : CommitOutcome) → Untold w (dma_with w i v o)
+with_untold : (w : World) (i : ℕ) (v : MovedSphere) (o : CommitOutcome) → Untold w (dma_with w i v o)
 with_untold w i v Granted = transfer_untold w i v
 with_untold w i v Piece = transfer_untold w i v
 with_untold w i v (Diverged j why) = record { points = refl; counts = refl; exactly = refl; moment = tt }
 
-dma_untold : (w : World) (i : ℕ) (o : Option Moved) → Untold w (dma_if w i o)
+dma_untold : (w : World) (i : ℕ) (o : Option MovedSphere) → Untold w (dma_if w i o)
 dma_untold w i None = record { points = refl; counts = refl; exactly = refl; moment = tt }
 dma_untold w i (Some v) = with_untold w i v v.outcome
 

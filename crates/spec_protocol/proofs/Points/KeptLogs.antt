@@ -25,7 +25,7 @@ use Rattle.spec_play.specs.Effects.{chunk_effect, serial_effect, dma_commit}
 use Rattle.spec_play.specs.Progress.{position}
 use Rattle.spec_play.specs.Recording.{noted, interrupt_noted}
 use Rattle.spec_protocol.specs.Spheres.{Record, Sphere}
-use Rattle.spec_protocol.specs.Commits.{Moved, chunk_in, serial_noted, dma_log, role_raised, raised}
+use Rattle.spec_protocol.specs.Commits.{MovedSphere, chunk_in, serial_noted, dma_log, role_raised, raised}
 use Rattle.spec_protocol.specs.Serial.{SerialState, laid}
 use Rattle.spec_protocol.specs.Logged.{Supplied, actors_of, is_short_chunk, logged}
 use Rattle.spec_protocol.proofs.Moves.Granted.{get-set_other, get-set_same}
@@ -36,7 +36,7 @@ use Rattle.spec_protocol.proofs.Logs.Coming.{transferred-stands, raised-stands}
 use Rattle.spec_protocol.proofs.PlayingBack.Moves.{recorded_serial, recorded_dma}
 use Rattle.spec_protocol.proofs.PlayingBack.Transfers.{open-takes}
 use Rattle.spec_protocol.proofs.Points.OneMore.{points_so, points-more, commits_of, actors-append}
-use Rattle.spec_protocol.proofs.Points.Noted.{commit-told, dma-told, raise-told}
+use Rattle.spec_protocol.proofs.Points.Noted.{commit-logged, dma-logged, raise-logged}
 use Rattle.spec_protocol.proofs.Moves.Spawning.{AreFew, serve-few}
 
 -- ---- what stands between two points
@@ -69,7 +69,7 @@ commit_keeps mode s cs moment i k size kind short o bytes p q qlog t u made comm
     let g : Grows k p.threads q.threads t = grows_of k (is_short_chunk kind short) p q (logged mode s cs) qlog t u made commit o d in
     let below : k < 15 = (let h = slice_get_within p.threads k t d.start in let l = keeps.few in omega arith) in
     let before_ : t.commits ≡ commits_of k ps = sym (keeps.commits k ∙ g.was) in
-    let now : qlog ≡ logged mode s (cs ++ c ∷ []) = d.log_ ∙ commit-told mode s cs moment i k t.commits size kind short o bytes commit below before_ d.actor sized in
+    let now : qlog ≡ logged mode s (cs ++ c ∷ []) = d.log_ ∙ commit-logged mode s cs moment i k t.commits size kind short o bytes commit below before_ d.actor sized in
     record {
       role = role ∙ ap (λ (log : LogParts). Record log) now;
       stands = subst (Stands q) now (has_committed-stands k (is_short_chunk kind short) p q (logged mode s cs) qlog t u made commit o d keeps.stands);
@@ -79,7 +79,7 @@ commit_keeps mode s cs moment i k size kind short o bytes p q qlog t u made comm
     }
 
 -- what a chunk makes of a recorded sphere
-abbrev pub recorded_chunk : LogParts → (thread : ℕ) → (short : Bool) → Run → Devices → Sphere → Moved
+abbrev pub recorded_chunk : LogParts → (thread : ℕ) → (short : Bool) → Run → Devices → Sphere → MovedSphere
 recorded_chunk log k short r devices p = chunk_in (Record log) k false short r devices p
 
 -- after a chunk the sphere keeps the log of its points and the chunk's
@@ -140,7 +140,7 @@ dma-keeps mode s cs moment i short p request devices keeps =
     let c : Supplied = record { point = Point.Commit moment i Actor.Dma CommitKind.Dma 0 short; input = None; bytes = bytes } in
     let log = logged mode s cs in
     let q = laid (recorded_dma log p devices request) in
-    let now : dma_log log devices p (Some request) ≡ logged mode s (cs ++ c ∷ []) = dma-told mode s cs moment i (position p.progress) CommitKind.Dma short bytes (sym keeps.place) in
+    let now : dma_log log devices p (Some request) ≡ logged mode s (cs ++ c ∷ []) = dma-logged mode s cs moment i (position p.progress) CommitKind.Dma short bytes (sym keeps.place) in
     let one : position q.progress ≡ suc (position p.progress) = (let h = length-append p.progress.commits (dma_commit ∷ []) in omega arith) in
     record {
       role = ap (λ (log : LogParts). Record log) now;
@@ -164,7 +164,7 @@ raise-keeps mode s cs moment i k value p t keeps is takes =
     let same : actors_of (points_so (cs ++ c ∷ [])) ≡ actors_of ps = more_actors cs c ∙ append-nil (actors_of ps) in
     let log = logged mode s cs in
     let fresh = keeps.stands.unmasked k t is (open-takes t takes) in
-    let now : interrupt_noted k t.commits value log ≡ logged mode s (cs ++ c ∷ []) = raise-told mode s cs moment i k t.commits value below (sym (keeps.commits k ∙ ap commits_if is)) fresh in
+    let now : interrupt_noted k t.commits value log ≡ logged mode s (cs ++ c ∷ []) = raise-logged mode s cs moment i k t.commits value below (sym (keeps.commits k ∙ ap commits_if is)) fresh in
     record {
       role = ap (role_raised k t.commits value) keeps.role ∙ ap (λ (log : LogParts). Record log) now;
       stands = subst (Stands (raised k value t p)) now

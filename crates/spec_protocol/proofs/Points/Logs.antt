@@ -18,7 +18,7 @@ use Rattle.spec_protocol.specs.Logged.{supplied, logged}
 use Rattle.spec_protocol.specs.Promises.{IsSetup, after}
 use Rattle.spec_protocol.specs.LogsOfPoints.{LogsAreOfPoints}
 use Rattle.spec_protocol.specs.Logs.{LogsAreFresh}
-use Rattle.spec_protocol.proofs.Invariants.Kept.{shown-get}
+use Rattle.spec_protocol.proofs.Invariants.Preserved.{shown-get}
 use Rattle.spec_protocol.proofs.Logs.Growing.{commits_in, commits_if, Stands}
 use Rattle.spec_protocol.proofs.PlayingBack.All.{start-stands}
 use Rattle.spec_protocol.proofs.Invariants.Schedules.{sizes_kept}

@@ -126,9 +126,9 @@ dmas_same cs c none = sym (append-nil (dmas_of 0 cs)) ∙ dmas_more cs c [] none
 -- ---- what is noted
 
 -- of a commit of thread k, which has so many before
-pub commit-told : (mode : ModeName) (s : ℕ) (cs : List Supplied) (moment i k n size : ℕ) (kind : CommitKind) (short : Bool) (o : Option Input) (bytes : List ℕ) (commit : Commit) → k < 15 → n ≡ commits_of k (points_so cs) → commit.actor ≡ Actor.Thread k → commit.size ≡ size
+pub commit-logged : (mode : ModeName) (s : ℕ) (cs : List Supplied) (moment i k n size : ℕ) (kind : CommitKind) (short : Bool) (o : Option Input) (bytes : List ℕ) (commit : Commit) → k < 15 → n ≡ commits_of k (points_so cs) → commit.actor ≡ Actor.Thread k → commit.size ≡ size
     → input_noted o (noted commit n (is_short_chunk kind short) (logged mode s cs)) ≡ logged mode s (cs ++ record { point = by_thread moment i k kind size short; input = o; bytes = bytes } ∷ [])
-commit-told mode s cs moment i k n size kind short o bytes commit l is actor sized =
+commit-logged mode s cs moment i k n size kind short o bytes commit l is actor sized =
     let ps = points_so cs in
     let q = by_thread moment i k kind size short in
     let c : Supplied = record { point = q; input = o; bytes = bytes } in
@@ -146,9 +146,9 @@ commit-told mode s cs moment i k n size kind short o bytes commit l is actor siz
     })
 
 -- of a DMA, which is the sphere's n-th commit
-pub dma-told : (mode : ModeName) (s : ℕ) (cs : List Supplied) (moment i n : ℕ) (kind : CommitKind) (short : Bool) (bytes : List ℕ) → n ≡ length (actors_of (points_so cs))
+pub dma-logged : (mode : ModeName) (s : ℕ) (cs : List Supplied) (moment i n : ℕ) (kind : CommitKind) (short : Bool) (bytes : List ℕ) → n ≡ length (actors_of (points_so cs))
     → dma_noted n bytes (noted dma_commit n false (logged mode s cs)) ≡ logged mode s (cs ++ record { point = Point.Commit moment i Actor.Dma kind 0 short; input = None; bytes = bytes } ∷ [])
-dma-told mode s cs moment i n kind short bytes is =
+dma-logged mode s cs moment i n kind short bytes is =
     let ps = points_so cs in
     let q = Point.Commit moment i Actor.Dma kind 0 short in
     let c : Supplied = record { point = q; input = None; bytes = bytes } in
@@ -166,9 +166,9 @@ dma-told mode s cs moment i n kind short bytes is =
     })
 
 -- what a recording notes of an interrupt of thread k, after so many of its commits, is what its point adds to the log
-pub raise-told : (mode : ModeName) (s : ℕ) (cs : List Supplied) (moment i k n value : ℕ) → k < 15 → n ≡ commits_of k (points_so cs) → interrupt_at (all_interrupts (points_so cs)) k n ≡ None
+pub raise-logged : (mode : ModeName) (s : ℕ) (cs : List Supplied) (moment i k n value : ℕ) → k < 15 → n ≡ commits_of k (points_so cs) → interrupt_at (all_interrupts (points_so cs)) k n ≡ None
     → interrupt_noted k n value (logged mode s cs) ≡ logged mode s (cs ++ record { point = Point.Raise moment i k value; input = None; bytes = [] } ∷ [])
-raise-told mode s cs moment i k n value l is none =
+raise-logged mode s cs moment i k n value l is none =
     let ps = points_so cs in
     let q = Point.Raise moment i k value in
     let c : Supplied = record { point = q; input = None; bytes = [] } in

@@ -14,18 +14,18 @@ use Rattle.spec_log.specs.declared.ModeName.{ModeName}
 use Rattle.spec_kernel.specs.Needs.{need}
 use Rattle.spec_kernel.specs.Answers.{taken, dma_bytes}
 use Rattle.spec_protocol.specs.Spheres.{Role, Plain, Record, Replay, Sphere, no_sphere}
-use Rattle.spec_protocol.specs.Commits.{Moved, chunk_in, chunk_moved, serial_in, serial_moved, live_dma, dma_log, dma_in, dma_moved, raised}
+use Rattle.spec_protocol.specs.Commits.{MovedSphere, chunk_in, chunk_moved, serial_in, serial_moved, live_dma, dma_log, dma_in, dma_moved, raised}
 use Rattle.spec_protocol.specs.Serial.{SerialState, laid, do_moved, do_chunk, do_serial, do_dma, do_raise, do_kind, in_live, do_commit, do_interrupt, do_point, do_points, CanChunk, CanSerial, CanTake, CanKind, InLive, CanCommit, CanInterrupt, CanDo, CanDoAll}
 use Rattle.spec_protocol.specs.Logged.{Supplied, answer_to, bytes_for, sphere_in, input_at, bytes_at, is_of, supplied, logged}
 use Rattle.spec_protocol.proofs.Moves.Granted.{get-set_other, get-set_same}
 use Rattle.spec_protocol.proofs.Moves.Elsewhere.{serial-away, dma-away, raise-away}
-use Rattle.spec_protocol.proofs.Invariants.Kept.{sphere_of_point}
+use Rattle.spec_protocol.proofs.Invariants.Preserved.{sphere_of_point}
 use Rattle.spec_protocol.proofs.PlayingBack.Moves.{recorded_serial, recorded_dma}
 use Rattle.spec_protocol.proofs.Points.KeptLogs.{Keeps, KeepsIn, recorded_chunk, chunk-keeps, serial-keeps, dma-keeps, raise-keeps}
 
 -- ---- in its sphere
 
-at_once : (mode : ModeName) (s i : ℕ) (cs : List Supplied) (x : SerialState) (p : Sphere) (v : Moved) → slice_get x.spheres i ≡ Some p → Keeps mode s cs (laid v) → KeepsIn mode s i cs (do_moved x i v)
+at_once : (mode : ModeName) (s i : ℕ) (cs : List Supplied) (x : SerialState) (p : Sphere) (v : MovedSphere) → slice_get x.spheres i ≡ Some p → Keeps mode s cs (laid v) → KeepsIn mode s i cs (do_moved x i v)
 at_once mode s i cs x p v is keeps = record { sphere = laid v; there = get-set_same x.spheres i (laid v) p is; keeps = keeps }
 
 chunk_kept : (mode : ModeName) (s : ℕ) (cs : List Supplied) (x : SerialState) (moment i k size : ℕ) (short : Bool) (p : Sphere) (o : Option Parts) → slice_get x.spheres i ≡ Some p → Keeps mode s cs p → slice_get p.threads k ≡ o → CanChunk size p o
@@ -34,7 +34,7 @@ unfolding chunk_moved
 chunk_kept mode s cs x moment i k size short p None is keeps thread can = absurd can
 chunk_kept mode s cs x moment i k size short p (Some t) is keeps thread can =
     let all = cs ++ record { point = Point.Commit moment i (Actor.Thread k) CommitKind.Chunk size short; input = None; bytes = [] } ∷ [] in
-    subst (λ (v : Moved). KeepsIn mode s i all (do_moved x i v))
+    subst (λ (v : MovedSphere). KeepsIn mode s i all (do_moved x i v))
     (sym (ap (λ (r : Role). chunk_in r k false short (run p.memory t size) x.devices p) keeps.role))
     (at_once mode s i all x p (recorded_chunk (logged mode s cs) k short (run p.memory t size) x.devices p) is (chunk-keeps mode s cs moment i k size short p t x.devices keeps thread can.ran))
 
@@ -44,7 +44,7 @@ unfolding serial_moved
 serial_kept mode s cs x moment i k size short p None is keeps thread can = absurd can
 serial_kept mode s cs x moment i k size short p (Some t) is keeps thread can =
     let all = cs ++ record { point = Point.Commit moment i (Actor.Thread k) CommitKind.Serial size short; input = (taken (need t p.memory) x.devices moment).input; bytes = [] } ∷ [] in
-    subst (λ (v : Moved). KeepsIn mode s i all (do_moved x i v))
+    subst (λ (v : MovedSphere). KeepsIn mode s i all (do_moved x i v))
     (sym (ap (λ (r : Role). serial_in r k moment t x.devices p) keeps.role))
     (at_once mode s i all x p (recorded_serial (logged mode s cs) p k moment t x.devices) is (serial-keeps mode s cs moment i k size short p t x.devices keeps thread can.empty))
 
@@ -55,7 +55,7 @@ dma_kept mode s cs x moment i short p None is keeps asked some = absurd (true≢
 dma_kept mode s cs x moment i short p (Some request) is keeps asked some =
     let log = logged mode s cs in
     let all = cs ++ record { point = Point.Commit moment i Actor.Dma CommitKind.Dma 0 short; input = None; bytes = dma_bytes x.devices request } ∷ [] in
-    subst (λ (v : Option Moved). KeepsIn mode s i all (do_dma x i v))
+    subst (λ (v : Option MovedSphere). KeepsIn mode s i all (do_dma x i v))
     (sym (ap (λ (r : Role). dma_in r x.devices p) keeps.role ∙ (λ j. live_dma (Record (dma_log log x.devices p (asked j))) x.devices p (asked j))))
     (at_once mode s i all x p (recorded_dma log p x.devices request) is (dma-keeps mode s cs moment i short p request x.devices keeps))
 
@@ -66,11 +66,11 @@ raise_kept mode s cs x moment i k value p (Some t) is keeps thread can =
     record { sphere = raised k value t p; there = get-set_same x.spheres i (raised k value t p) p is; keeps = raise-keeps mode s cs moment i k value p t keeps thread can }
 
 -- a point, with what comes from outside at it
-abbrev told_at : SerialState → Point → Supplied
-told_at x q = record { point = q; input = input_at x q; bytes = bytes_at x q }
+abbrev supplied_at : SerialState → Point → Supplied
+supplied_at x q = record { point = q; input = input_at x q; bytes = bytes_at x q }
 
 kind_kept : (mode : ModeName) (s : ℕ) (cs : List Supplied) (x : SerialState) (moment i : ℕ) (actor : Actor) (kind : CommitKind) (size : ℕ) (short : Bool) (p : Sphere) → slice_get x.spheres i ≡ Some p → Keeps mode s cs p → CanKind x.devices actor kind size p
-    → KeepsIn mode s i (cs ++ told_at x (Point.Commit moment i actor kind size short) ∷ []) (do_kind x moment i actor kind size short p)
+    → KeepsIn mode s i (cs ++ supplied_at x (Point.Commit moment i actor kind size short) ∷ []) (do_kind x moment i actor kind size short p)
 kind_kept mode s cs x moment i (Actor.Thread k) CommitKind.Chunk size short p is keeps can = chunk_kept mode s cs x moment i k size short p (slice_get p.threads k) is keeps refl can
 kind_kept mode s cs x moment i (Actor.Thread k) CommitKind.Serial size short p is keeps can =
     subst (λ (r : Sphere). KeepsIn mode s i (cs ++ record { point = Point.Commit moment i (Actor.Thread k) CommitKind.Serial size short; input = answer_to x.devices moment r (slice_get r.threads k); bytes = [] } ∷ []) (do_serial x i k moment p (slice_get p.threads k)))
@@ -87,18 +87,18 @@ kind_kept mode s cs x moment i Actor.Dma CommitKind.Dma size short p is keeps ca
     (sym (get_or_from_slice_get x.spheres i p no_sphere is))
     (dma_kept mode s cs x moment i short p p.progress.request is keeps refl can.1))
 
-point_kept : (mode : ModeName) (s : ℕ) (cs : List Supplied) (x : SerialState) (q : Point) → KeepsIn mode s (sphere_of_point q) cs x → CanDo x q → KeepsIn mode s (sphere_of_point q) (cs ++ told_at x q ∷ []) (do_point x q)
+point_kept : (mode : ModeName) (s : ℕ) (cs : List Supplied) (x : SerialState) (q : Point) → KeepsIn mode s (sphere_of_point q) cs x → CanDo x q → KeepsIn mode s (sphere_of_point q) (cs ++ supplied_at x q ∷ []) (do_point x q)
 unfolding do_point
 point_kept mode s cs x (Point.Commit moment i actor kind size short) k can =
     let p : Sphere = k.sphere in
-    let all = cs ++ told_at x (Point.Commit moment i actor kind size short) ∷ [] in
+    let all = cs ++ supplied_at x (Point.Commit moment i actor kind size short) ∷ [] in
     let fits : CanKind x.devices actor kind size p = subst (λ (r : Role). InLive r (CanKind x.devices actor kind size p)) k.keeps.role (subst (CanCommit x.devices actor kind size) k.there can) in
     subst (KeepsIn mode s i all)
     (sym (ap (do_commit x moment i actor kind size short) k.there ∙ ap (λ (r : Role). in_live r x (do_kind x moment i actor kind size short p)) k.keeps.role))
     (kind_kept mode s cs x moment i actor kind size short p k.there k.keeps fits)
 point_kept mode s cs x (Point.Raise moment i k value) h can =
     let p : Sphere = h.sphere in
-    let all = cs ++ told_at x (Point.Raise moment i k value) ∷ [] in
+    let all = cs ++ supplied_at x (Point.Raise moment i k value) ∷ [] in
     let fits : CanTake (slice_get p.threads k) = subst (λ (r : Role). InLive r (CanTake (slice_get p.threads k))) h.keeps.role (subst (CanInterrupt k) h.there can) in
     subst (KeepsIn mode s i all)
     (sym (ap (do_interrupt x i k value) h.there ∙ ap (λ (r : Role). in_live r x (do_raise x i k value p (slice_get p.threads k))) h.keeps.role))
@@ -144,8 +144,8 @@ of_sphere : (i : ℕ) (q : Point) → is_of i q ≡ eqb (sphere_of_point q) i
 of_sphere i (Point.Commit moment j actor kind size short) = refl
 of_sphere i (Point.Raise moment j k value) = refl
 
-one_more : (i : ℕ) (x : SerialState) (q : Point) (qs : List Point) (b : Bool) → is_of i q ≡ b → supplied i x (q ∷ qs) ≡ cond b (told_at x q ∷ supplied i (do_point x q) qs) (supplied i (do_point x q) qs)
-one_more i x q qs b e = ap (λ (c : Bool). cond c (told_at x q ∷ supplied i (do_point x q) qs) (supplied i (do_point x q) qs)) e
+one_more : (i : ℕ) (x : SerialState) (q : Point) (qs : List Point) (b : Bool) → is_of i q ≡ b → supplied i x (q ∷ qs) ≡ cond b (supplied_at x q ∷ supplied i (do_point x q) qs) (supplied i (do_point x q) qs)
+one_more i x q qs b e = ap (λ (c : Bool). cond c (supplied_at x q ∷ supplied i (do_point x q) qs) (supplied i (do_point x q) qs)) e
 
 -- points done one at a time leave the sphere with the log that they tell
 pub points-kept : (mode : ModeName) (s i : ℕ) (cs : List Supplied) (x : SerialState) (qs : List Point) → KeepsIn mode s i cs x → CanDoAll x qs → KeepsIn mode s i (cs ++ supplied i x qs) (do_points x qs)
@@ -155,12 +155,12 @@ points-kept mode s i cs x (q ∷ qs) k can =
     elim (cases_Bool (is_of i q)) [
       | inl own ↦ (
           let e : sphere_of_point q ≡ i = eqb-true (sphere_of_point q) i (sym (of_sphere i q) ∙ own) in
-          let one : KeepsIn mode s i (cs ++ told_at x q ∷ []) y =
-          subst (λ (j : ℕ). KeepsIn mode s j (cs ++ told_at x q ∷ []) y) e (point_kept mode s cs x q (subst (λ (j : ℕ). KeepsIn mode s j cs x) (sym e) k) can.0)
+          let one : KeepsIn mode s i (cs ++ supplied_at x q ∷ []) y =
+          subst (λ (j : ℕ). KeepsIn mode s j (cs ++ supplied_at x q ∷ []) y) e (point_kept mode s cs x q (subst (λ (j : ℕ). KeepsIn mode s j cs x) (sym e) k) can.0)
           in
           subst (λ (ds : List Supplied). KeepsIn mode s i ds (do_points y qs))
-          (append_assoc cs (told_at x q ∷ []) (supplied i y qs) ∙ ap (λ (ds : List Supplied). cs ++ ds) (sym (one_more i x q qs true own)))
-          (points-kept mode s i (cs ++ told_at x q ∷ []) y qs one can.1)
+          (append_assoc cs (supplied_at x q ∷ []) (supplied i y qs) ∙ ap (λ (ds : List Supplied). cs ++ ds) (sym (one_more i x q qs true own)))
+          (points-kept mode s i (cs ++ supplied_at x q ∷ []) y qs one can.1)
           )
       | inr other ↦ (
           let ne : i ≢ sphere_of_point q = (λ e. true≢false (sym (eq-eqb (sphere_of_point q) i (sym e)) ∙ sym (of_sphere i q) ∙ other)) in

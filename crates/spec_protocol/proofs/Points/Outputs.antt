@@ -15,7 +15,7 @@ use Rattle.spec_kernel.specs.Devices.{Devices, console_put, pipe_fitting, pipe_p
 use Rattle.spec_kernel.specs.Needs.{Need, Write, Read, Random, Clock, MomentWord, InputWord, number_of, next_kind, next_operation, need_of_write, need_of_read, need_of_random, need_of_call, need_of_load, need_of, need}
 use Rattle.spec_kernel.specs.Answers.{refused, Answered, went, write_answer, answer_write, answer_read, answer_random, answer_input, answer, taken}
 use Rattle.spec_kernel.specs.Calls.{Called, called}
-use Rattle.spec_kernel.specs.Serving.{output_of, outside_called, inside_called, is_outside, device_loaded, device_stored, serve_kind, serve, bytes_out, store_told, console_told}
+use Rattle.spec_kernel.specs.Serving.{output_of, outside_called, inside_called, is_outside, device_loaded, device_stored, serve_kind, serve, bytes_out, store_written, console_written}
 use Rattle.spec_protocol.specs.ConsoleBytes.{on_console}
 
 -- the console after the devices' answer has what the outputs say
@@ -138,7 +138,7 @@ store_tells d request t (Operation.Amo op rd a v) = refl
 -- ---- the step
 
 kind_tells : (o : Option Kind) (number : ℕ) (ts : List Parts) (request : Option Request) (t : Parts) (m : List ℕ) (d : Devices) (moment : ℕ) → next_kind t m ≡ o
-    → let g = taken (need_of o t m) d moment in let v = serve_kind o number ts request t m g.input in Tells d (store_told o v.outputs g.devices) v.outputs
+    → let g = taken (need_of o t m) d moment in let v = serve_kind o number ts request t m g.input in Tells d (store_written o v.outputs g.devices) v.outputs
 unfolding need
 kind_tells None number ts request t m d moment is = tells_nothing d d [] refl refl
 kind_tells (Some Kind.Call) number ts request t m d moment is =
@@ -152,6 +152,6 @@ kind_tells (Some (Kind.Fault cause)) number ts request t m d moment is = tells_n
 
 -- the console grows in a serial step by what its outputs put out there
 pub serve-tells : (number : ℕ) (ts : List Parts) (request : Option Request) (t : Parts) (m : List ℕ) (d : Devices) (moment : ℕ)
-    → let g = taken (need t m) d moment in let v = serve number ts request t m g.input in (console_told t m v.outputs g.devices).console ≡ d.console ++ flat_map on_console v.outputs
-unfolding need serve console_told
+    → let g = taken (need t m) d moment in let v = serve number ts request t m g.input in (console_written t m v.outputs g.devices).console ≡ d.console ++ flat_map on_console v.outputs
+unfolding need serve console_written
 serve-tells number ts request t m d moment = kind_tells (next_kind t m) number ts request t m d moment refl

@@ -12,13 +12,13 @@ use Rattle.spec_isa.specs.Runs.{Run, run}
 use Rattle.spec_kernel.specs.Devices.{Devices}
 use Rattle.spec_kernel.specs.Copies.{dma_words}
 use Rattle.spec_kernel.specs.Answers.{dma_bytes, dma_taken}
-use Rattle.spec_play.specs.Verdicts.{Verdict, Goes, Fails, chunk_verdict, serial_verdict}
+use Rattle.spec_play.specs.Verdicts.{LogVerdict, Goes, Fails, chunk_verdict, serial_verdict}
 use Rattle.spec_play.specs.Transfers.{DmaVerdict, DmaGoes, DmaFails, dma_verdict}
 use Rattle.spec_engine.specs.declared.answers.How.{How}
 use Rattle.spec_protocol.specs.declared.event.Event.{Event}
 use Rattle.spec_protocol.specs.Spheres.{Cursor, Role, Plain, Record, Replay, Sphere, is_in_pieces}
 use Rattle.spec_protocol.specs.Placing.{replays}
-use Rattle.spec_protocol.specs.Commits.{Moved, is_piece, joined, by_verdict, replayed_chunk, chunk_in, chunk_moved, serial_in, serial_moved, live_dma, dma_by_verdict, dma_in, dma_moved, dma_as, dma_log, role_raised, raised}
+use Rattle.spec_protocol.specs.Commits.{MovedSphere, is_piece, joined, by_verdict, replayed_chunk, chunk_in, chunk_moved, serial_in, serial_moved, live_dma, dma_by_verdict, dma_in, dma_moved, dma_as, dma_log, role_raised, raised}
 use Rattle.spec_protocol.specs.Asking.{is_short}
 use Rattle.spec_protocol.specs.World.{Numbers, World, What, OfChunk, OfSerial, OfDma, OfRaise, Move, sphere_at}
 use Rattle.spec_protocol.specs.Machine.{Setup, world_of, with_point, act, happens, world_after}
@@ -28,19 +28,19 @@ use Rattle.spec_engine.specs.Flights.{Flight}
 use Rattle.spec_protocol.specs.Moves.{move_chunk, do_what, do_at, do_move, do_if, ChunkFits, FitsChunk, FitsSerial, FitsRaise, FitsWhat, FitsAt, FitsIf}
 use Rattle.spec_protocol.specs.Promises.{IsSetup, after, CommitsAreSerial}
 use Rattle.spec_protocol.proofs.Moves.Granted.{get-set_other, get-set_same}
-use Rattle.spec_protocol.proofs.Invariants.Kept.{point_for, sphere_of_point, IsOf, PointOf, PointIs, shown-get}
+use Rattle.spec_protocol.proofs.Invariants.Preserved.{point_for, sphere_of_point, IsOf, PointOf, PointIs, shown-get}
 use Rattle.spec_protocol.proofs.Points.Counts.{act-untold}
-use Rattle.spec_protocol.proofs.Invariants.Schedules.{happens-kept, start-good, start-shown}
+use Rattle.spec_protocol.proofs.Invariants.Schedules.{happens-preserved, start-good, start-shown}
 use Rattle.spec_protocol.specs.Invariants.{IsGood}
 
 -- ---- in a replayed sphere
 
 -- the devices are left alone, and the sphere stays a replay
-record LeavesDevices (devices : Devices) (v : Moved) : Type 0 where
+record LeavesDevices (devices : Devices) (v : MovedSphere) : Type 0 where
   devices_ : v.devices ≡ devices
   replays_ : replays v.sphere.role ≡ true
 
-verdict_leaves : (b : Cursor) (k : ℕ) (verdict : Verdict) (devices : Devices) (p : Sphere) → LeavesDevices devices (by_verdict b k verdict devices p)
+verdict_leaves : (b : Cursor) (k : ℕ) (verdict : LogVerdict) (devices : Devices) (p : Sphere) → LeavesDevices devices (by_verdict b k verdict devices p)
 verdict_leaves b k (Goes e u) devices p = record { devices_ = refl; replays_ = refl }
 verdict_leaves b k (Fails why) devices p = record { devices_ = refl; replays_ = refl }
 
@@ -70,13 +70,13 @@ dma_verdict_leaves : (b : Cursor) (verdict : DmaVerdict) (devices : Devices) (p 
 dma_verdict_leaves b (DmaGoes words) devices p = record { devices_ = refl; replays_ = refl }
 dma_verdict_leaves b (DmaFails why) devices p = record { devices_ = refl; replays_ = refl }
 
-dma_in_leaves : (role : Role) (devices : Devices) (p : Sphere) (v : Moved) → replays role ≡ true → dma_in role devices p ≡ Some v → LeavesDevices devices v
+dma_in_leaves : (role : Role) (devices : Devices) (p : Sphere) (v : MovedSphere) → replays role ≡ true → dma_in role devices p ≡ Some v → LeavesDevices devices v
 dma_in_leaves Plain devices p v e is = absurd (true≢false (sym e))
 dma_in_leaves (Record log) devices p v e is = absurd (true≢false (sym e))
 dma_in_leaves (Replay b) devices p v e is =
     subst (LeavesDevices devices) (let h : dma_by_verdict b (dma_verdict b.log p.progress b.used) devices p ≡ v = cc in h) (dma_verdict_leaves b (dma_verdict b.log p.progress b.used) devices p)
 
-dma_leaves : (devices : Devices) (p : Sphere) (v : Moved) → replays p.role ≡ true → dma_moved devices p ≡ Some v → LeavesDevices devices v
+dma_leaves : (devices : Devices) (p : Sphere) (v : MovedSphere) → replays p.role ≡ true → dma_moved devices p ≡ Some v → LeavesDevices devices v
 unfolding dma_moved
 dma_leaves devices p v e is = dma_in_leaves p.role devices p v e is
 
@@ -142,7 +142,7 @@ agrees_replay x y i p q d a xi rep now same =
 
 -- ---- a move of a replayed sphere
 
-moved_replay : (x y : SerialState) (i : ℕ) (p : Sphere) (v : Moved) → Agrees x y → slice_get x.spheres i ≡ Some p → replays p.role ≡ true → LeavesDevices x.devices v → Agrees (do_moved x i v) y
+moved_replay : (x y : SerialState) (i : ℕ) (p : Sphere) (v : MovedSphere) → Agrees x y → slice_get x.spheres i ≡ Some p → replays p.role ≡ true → LeavesDevices x.devices v → Agrees (do_moved x i v) y
 moved_replay x y i p v a xi rep l = agrees_replay x y i p (laid v) v.devices a xi rep l.replays_ l.devices_
 
 chunk_replay : (z : Numbers) (x y : SerialState) (i k : ℕ) (how : How) (n limit : ℕ) (p : Sphere) (o : Option Parts) → Agrees x y → slice_get x.spheres i ≡ Some p → replays p.role ≡ true → Agrees (move_chunk z x i k how n limit p o) y
@@ -154,7 +154,7 @@ serial_replay : (x y : SerialState) (i k moment : ℕ) (p : Sphere) (o : Option 
 serial_replay x y i k moment p None a xi rep = a
 serial_replay x y i k moment p (Some t) a xi rep = moved_replay x y i p _ a xi rep (serial_leaves k moment t x.devices p rep)
 
-dma_replay : (x y : SerialState) (i : ℕ) (p : Sphere) (o : Option Moved) → Agrees x y → slice_get x.spheres i ≡ Some p → replays p.role ≡ true → dma_moved x.devices p ≡ o → Agrees (do_dma x i o) y
+dma_replay : (x y : SerialState) (i : ℕ) (p : Sphere) (o : Option MovedSphere) → Agrees x y → slice_get x.spheres i ≡ Some p → replays p.role ≡ true → dma_moved x.devices p ≡ o → Agrees (do_dma x i o) y
 dma_replay x y i p None a xi rep is = a
 dma_replay x y i p (Some v) a xi rep is = moved_replay x y i p v a xi rep (dma_leaves x.devices p v rep is)
 
@@ -218,18 +218,18 @@ serial_stays : (k moment : ℕ) (t : Parts) (devices : Devices) (p : Sphere) →
 unfolding serial_moved
 serial_stays k moment t devices p e = serial_in_stays p.role k moment t devices p e
 
-live_stays : (role : Role) (devices : Devices) (p : Sphere) (o : Option Request) (v : Moved) → replays role ≡ false → live_dma role devices p o ≡ Some v → (replays v.sphere.role ≡ false) × IsSome o
+live_stays : (role : Role) (devices : Devices) (p : Sphere) (o : Option Request) (v : MovedSphere) → replays role ≡ false → live_dma role devices p o ≡ Some v → (replays v.sphere.role ≡ false) × IsSome o
 live_stays role devices p None v live e = absurd (none-some v e)
 live_stays role devices p (Some request) v live e =
     let h : dma_as role (dma_words request (dma_bytes devices request)) (dma_taken devices request) p ≡ v = cc in
-    (ap (λ (u : Moved). replays u.sphere.role) (sym h) ∙ live, refl)
+    (ap (λ (u : MovedSphere). replays u.sphere.role) (sym h) ∙ live, refl)
 
-dma_in_stays : (role : Role) (devices : Devices) (p : Sphere) (v : Moved) → replays role ≡ false → dma_in role devices p ≡ Some v → (replays v.sphere.role ≡ false) × IsSome p.progress.request
+dma_in_stays : (role : Role) (devices : Devices) (p : Sphere) (v : MovedSphere) → replays role ≡ false → dma_in role devices p ≡ Some v → (replays v.sphere.role ≡ false) × IsSome p.progress.request
 dma_in_stays Plain devices p v live e = live_stays Plain devices p p.progress.request v refl e
 dma_in_stays (Record log) devices p v live e = live_stays (Record (dma_log log devices p p.progress.request)) devices p p.progress.request v refl e
 dma_in_stays (Replay b) devices p v live e = absurd (true≢false live)
 
-dma_stays : (devices : Devices) (p : Sphere) (v : Moved) → replays p.role ≡ false → dma_moved devices p ≡ Some v → (replays v.sphere.role ≡ false) × IsSome p.progress.request
+dma_stays : (devices : Devices) (p : Sphere) (v : MovedSphere) → replays p.role ≡ false → dma_moved devices p ≡ Some v → (replays v.sphere.role ≡ false) × IsSome p.progress.request
 unfolding dma_moved
 dma_stays devices p v live e = dma_in_stays p.role devices p v live e
 
@@ -239,7 +239,7 @@ raised_stays k n value (Record log) e = refl
 raised_stays k n value (Replay b) e = e
 
 -- what both sides do to the same sphere
-moved_live : (x y : SerialState) (i : ℕ) (p : Sphere) (v : Moved) → Agrees x y → slice_get x.spheres i ≡ Some p → slice_get y.spheres i ≡ Some p → replays v.sphere.role ≡ false → Agrees (do_moved x i v) (do_moved y i v)
+moved_live : (x y : SerialState) (i : ℕ) (p : Sphere) (v : MovedSphere) → Agrees x y → slice_get x.spheres i ≡ Some p → slice_get y.spheres i ≡ Some p → replays v.sphere.role ≡ false → Agrees (do_moved x i v) (do_moved y i v)
 moved_live x y i p v a xi yi lives = agrees_set x y i p (laid v) v.devices v.devices a xi yi lives refl
 
 chunk_both : (z : Numbers) (x y : SerialState) (i k : ℕ) (how : How) (n limit : ℕ) (p : Sphere) (o : Option Parts) → Agrees x y → slice_get x.spheres i ≡ Some p → slice_get y.spheres i ≡ Some p → replays p.role ≡ false
@@ -251,7 +251,7 @@ chunk_both z x y i k how n limit p (Some t) a xi yi live =
     let e : chunk_moved k (is_piece how) short r x.devices p ≡ chunk_moved k false short r y.devices p =
     chunk_whole k (is_piece how) false short r x.devices p live ∙ ap (λ (d : Devices). chunk_moved k false short r d p) a.devices
     in
-    subst (λ (v : Moved). Agrees (do_moved x i v) (do_moved y i (chunk_moved k false short r y.devices p))) (sym e)
+    subst (λ (v : MovedSphere). Agrees (do_moved x i v) (do_moved y i (chunk_moved k false short r y.devices p))) (sym e)
     (moved_live x y i p (chunk_moved k false short r y.devices p) a xi yi (chunk_stays k false short r y.devices p live))
 
 serial_both : (x y : SerialState) (i k moment : ℕ) (p : Sphere) (o : Option Parts) → Agrees x y → slice_get x.spheres i ≡ Some p → slice_get y.spheres i ≡ Some p → replays p.role ≡ false → Agrees (do_serial x i k moment p o) (do_serial y i k moment p o)
@@ -260,7 +260,7 @@ serial_both x y i k moment p (Some t) a xi yi live =
     subst (λ (d : Devices). Agrees (do_moved x i (serial_moved k moment t x.devices p)) (do_moved y i (serial_moved k moment t d p))) a.devices
     (moved_live x y i p (serial_moved k moment t x.devices p) a xi yi (serial_stays k moment t x.devices p live))
 
-dma_both : (x y : SerialState) (i : ℕ) (p : Sphere) (o : Option Moved) → Agrees x y → slice_get x.spheres i ≡ Some p → slice_get y.spheres i ≡ Some p → replays p.role ≡ false → dma_moved x.devices p ≡ o → Agrees (do_dma x i o) (do_dma y i o)
+dma_both : (x y : SerialState) (i : ℕ) (p : Sphere) (o : Option MovedSphere) → Agrees x y → slice_get x.spheres i ≡ Some p → slice_get y.spheres i ≡ Some p → replays p.role ≡ false → dma_moved x.devices p ≡ o → Agrees (do_dma x i o) (do_dma y i o)
 dma_both x y i p None a xi yi live is = a
 dma_both x y i p (Some v) a xi yi live is = moved_live x y i p v a xi yi (dma_stays x.devices p v live is).0
 
@@ -322,7 +322,7 @@ can_take : (p : Sphere) (o : Option Parts) → FitsRaise p o → CanTake o
 can_take p None f = f
 can_take p (Some t) f = f.takes
 
-some_moved : (o : Option Moved) → IsSome o → (v : Moved) × (o ≡ Some v)
+some_moved : (o : Option MovedSphere) → IsSome o → (v : MovedSphere) × (o ≡ Some v)
 some_moved None e = absurd (true≢false (sym e))
 some_moved (Some v) e = (v, refl)
 
@@ -434,7 +434,7 @@ points_kept w e = refl
 serial_so : (x : SerialState) (w : World) (e : Event) → IsGood w → SerialSo x w → SerialSo x (happens w e).world
 serial_so x w e good s =
     let a = happens w e in
-    let k = happens-kept w e good in
+    let k = happens-preserved w e good in
     let f = event_follows w (do_points x w.points) a.move a.point s.agrees good.buffer k.fits k.point in
     let points : a.world.points ≡ with_point a.point w.points = points_kept w e ∙ ap (with_point a.point) (act-untold w e).points in
     record {
@@ -445,7 +445,7 @@ serial_so x w e good s =
 
 after_so : (x : SerialState) (w : World) (es : List Event) → IsGood w → SerialSo x w → SerialSo x (world_after w es)
 after_so x w [] good s = s
-after_so x w (e ∷ es) good s = after_so x (happens w e).world es (happens-kept w e good).good (serial_so x w e good s)
+after_so x w (e ∷ es) good s = after_so x (happens w e).world es (happens-preserved w e good).good (serial_so x w e good s)
 
 -- what a world shows after a schedule is what its points, done one at a time, give
 pub serial-after : (s : Setup) (es : List Event) → IsSetup s → SerialSo (serial_start s) (after s es)

@@ -7,7 +7,7 @@ use Rattle.spec_kernel.specs.Devices.{Devices}
 use Rattle.spec_engine.specs.declared.answers.How.{How}
 use Rattle.spec_protocol.specs.Spheres.{Cursor, Replay, Sphere}
 use Rattle.spec_protocol.specs.Placing.{replays}
-use Rattle.spec_protocol.specs.Commits.{Moved, is_piece, chunk_in, chunk_moved}
+use Rattle.spec_protocol.specs.Commits.{MovedSphere, is_piece, chunk_in, chunk_moved}
 use Rattle.spec_protocol.specs.World.{Numbers, World, OfChunk, Move, sphere_at}
 use Rattle.spec_protocol.specs.Asking.{is_short}
 use Rattle.spec_protocol.specs.Machine.{happens}
@@ -17,13 +17,13 @@ use Rattle.spec_protocol.specs.Moves.{move_chunk, do_what, do_at, do_move, do_if
 use Rattle.spec_protocol.specs.Promises.{after}
 use Rattle.spec_protocol.specs.Pieces.{CountsNothing, PiecesCountNothing}
 use Rattle.spec_protocol.proofs.Moves.Granted.{get-set_same}
-use Rattle.spec_protocol.proofs.Invariants.Kept.{shown-get}
-use Rattle.spec_protocol.proofs.Invariants.Schedules.{happens-kept, invariants_hold}
+use Rattle.spec_protocol.proofs.Invariants.Preserved.{shown-get}
+use Rattle.spec_protocol.proofs.Invariants.Schedules.{happens-preserved, invariants_hold}
 use Rattle.spec_protocol.proofs.Replays.Pieces.{there-is}
 
 -- ---- a piece done whole
 
-abbrev in_piece : Cursor → (thread : ℕ) → Run → Devices → (short : Bool) → Sphere → Moved
+abbrev in_piece : Cursor → (thread : ℕ) → Run → Devices → (short : Bool) → Sphere → MovedSphere
 in_piece b k r devices short p = chunk_in (Replay b) k true short r devices p
 
 piece_counts : (b : Cursor) (k : ℕ) (r : Run) (devices : Devices) (short : Bool) (p : Sphere) → CountsNothing b p (laid (in_piece b k r devices short p))
@@ -32,7 +32,7 @@ piece_counts b k r devices short p = record { cursor = _; role = refl; turn = re
 chunk_counts : (b : Cursor) (k : ℕ) (piece short : Bool) (r : Run) (devices : Devices) (p : Sphere) → p.role ≡ Replay b → piece ≡ true → CountsNothing b p (laid (chunk_moved k piece short r devices p))
 unfolding chunk_moved
 chunk_counts b k piece short r devices p role is =
-    subst (λ (v : Moved). CountsNothing b p (laid v)) (sym (λ j. chunk_in (role j) k (is j) short r devices p)) (piece_counts b k r devices short p)
+    subst (λ (v : MovedSphere). CountsNothing b p (laid v)) (sym (λ j. chunk_in (role j) k (is j) short r devices p)) (piece_counts b k r devices short p)
 
 -- the sphere that stands at i counts nothing
 record Stays (b : Cursor) (i : ℕ) (p : Sphere) (x : SerialState) : Type 0 where
@@ -43,7 +43,7 @@ record Stays (b : Cursor) (i : ℕ) (p : Sphere) (x : SerialState) : Type 0 wher
 chunk_stays : (z : Numbers) (x : SerialState) (i : ℕ) (b : Cursor) (k : ℕ) (how : How) (n limit : ℕ) (p : Sphere) (o : Option Parts) → slice_get x.spheres i ≡ Some p → p.role ≡ Replay b → is_piece how ≡ true → FitsChunk z p k how n limit o → Stays b i p (move_chunk z x i k how n limit p o)
 chunk_stays z x i b k how n limit p None there role piece fits = absurd fits
 chunk_stays z x i b k how n limit p (Some t) there role piece fits =
-    let v : Moved = chunk_moved k (is_piece how) (is_short z.chunk how limit) (run p.memory t n) x.devices p in
+    let v : MovedSphere = chunk_moved k (is_piece how) (is_short z.chunk how limit) (run p.memory t n) x.devices p in
     record {
       sphere = laid v;
       there = get-set_same x.spheres i (laid v) p there;
@@ -65,7 +65,7 @@ unfolding shown
 pieces_count s es i b is role event m k how n limit is_move of_i what piece =
     let w : World = after s es in
     let v : World = (happens w event).world in
-    let kept = happens-kept w event (invariants_hold s es is) in
+    let kept = happens-preserved w event (invariants_hold s es is) in
     let p : Sphere = shown w.slots i (sphere_at w i) in
     let q : Sphere = shown v.slots i (sphere_at v i) in
     let l : i < length w.spheres = there-is w i (ap replays role) in

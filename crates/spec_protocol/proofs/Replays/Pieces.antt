@@ -11,11 +11,11 @@ use Rattle.spec_isa.specs.Runs.{Run, run}
 use Rattle.spec_isa.specs.Threads.{started}
 use Rattle.spec_kernel.specs.Devices.{Devices}
 use Rattle.spec_play.specs.Turns.{Now, Turn, TurnOfDma, Over}
-use Rattle.spec_play.specs.Verdicts.{Verdict, Goes, Fails, chunk_verdict, serial_verdict}
+use Rattle.spec_play.specs.Verdicts.{LogVerdict, Goes, Fails, chunk_verdict, serial_verdict}
 use Rattle.spec_play.specs.Transfers.{DmaVerdict, DmaGoes, DmaFails, dma_verdict}
 use Rattle.spec_engine.specs.declared.answers.How.{How}
 use Rattle.spec_protocol.specs.Spheres.{Cursor, Role, Plain, Record, Replay, Sphere, is_over, is_stopped, actor_of, head_in, head_of, is_in_pieces, no_sphere}
-use Rattle.spec_protocol.specs.Commits.{Moved, is_piece, joined, by_verdict, replayed_chunk, chunk_in, chunk_moved, serial_in, serial_moved, live_dma, dma_by_verdict, dma_log, dma_in, dma_moved, role_raised, raised}
+use Rattle.spec_protocol.specs.Commits.{MovedSphere, is_piece, joined, by_verdict, replayed_chunk, chunk_in, chunk_moved, serial_in, serial_moved, live_dma, dma_by_verdict, dma_log, dma_in, dma_moved, role_raised, raised}
 use Rattle.spec_protocol.specs.World.{Numbers, World, What, OfChunk, OfSerial, OfDma, OfRaise, Move, sphere_at}
 use Rattle.spec_protocol.specs.Asking.{is_short, other_turn}
 use Rattle.spec_protocol.specs.Transferring.{not_of_dma, turn_before_dma}
@@ -27,8 +27,8 @@ use Rattle.spec_protocol.specs.Moves.{move_chunk, do_what, do_at, do_move, do_mo
 use Rattle.spec_protocol.specs.Promises.{after}
 use Rattle.spec_protocol.specs.Pieces.{IsChunkOf, PiecesStayTogether, StoppedSpheresStay}
 use Rattle.spec_protocol.proofs.Moves.Granted.{get-set_other, get-set_same, turn-is}
-use Rattle.spec_protocol.proofs.Invariants.Kept.{shown-get}
-use Rattle.spec_protocol.proofs.Invariants.Schedules.{happens-kept, moves_are, invariants_hold}
+use Rattle.spec_protocol.proofs.Invariants.Preserved.{shown-get}
+use Rattle.spec_protocol.proofs.Invariants.Schedules.{happens-preserved, moves_are, invariants_hold}
 
 -- ---- whose turn it is
 
@@ -43,7 +43,7 @@ AllInTurn x = (i : ℕ) (p : Sphere) → slice_get x.spheres i ≡ Some p → In
 
 -- ---- what a move leaves
 
-verdict_turn : (b : Cursor) (k : ℕ) (verdict : Verdict) (devices : Devices) (p : Sphere) → InTurn (by_verdict b k verdict devices p).sphere.role
+verdict_turn : (b : Cursor) (k : ℕ) (verdict : LogVerdict) (devices : Devices) (p : Sphere) → InTurn (by_verdict b k verdict devices p).sphere.role
 verdict_turn b k (Goes e u) devices p = λ going some. absurd (omega arith)
 verdict_turn b k (Fails why) devices p = λ going some. absurd (true≢false going)
 
@@ -69,7 +69,7 @@ serial_turn : (k moment : ℕ) (t : Parts) (devices : Devices) (p : Sphere) → 
 unfolding serial_moved
 serial_turn k moment t devices p = serial_in_turn p.role k moment t devices p
 
-abbrev MovedInTurn : Option Moved → Type 0
+abbrev MovedInTurn : Option MovedSphere → Type 0
 MovedInTurn None = Unit {0}
 MovedInTurn (Some v) = InTurn v.sphere.role
 
@@ -110,16 +110,16 @@ turn_set x i p q devices all is turn j r e =
 chunk_keeps_turn : (z : Numbers) (x : SerialState) (i k : ℕ) (how : How) (n limit : ℕ) (p : Sphere) (o : Option Parts) → AllInTurn x → slice_get x.spheres i ≡ Some p → FitsChunk z p k how n limit o → AllInTurn (move_chunk z x i k how n limit p o)
 chunk_keeps_turn z x i k how n limit p None all is fits = all
 chunk_keeps_turn z x i k how n limit p (Some t) all is fits =
-    let v : Moved = chunk_moved k (is_piece how) (is_short z.chunk how limit) (run p.memory t n) x.devices p in
+    let v : MovedSphere = chunk_moved k (is_piece how) (is_short z.chunk how limit) (run p.memory t n) x.devices p in
     turn_set x i p (laid v) v.devices all is (chunk_turn z k how n limit t x.devices p fits.going fits.turn)
 
 serial_keeps_turn : (x : SerialState) (i k moment : ℕ) (p : Sphere) (o : Option Parts) → AllInTurn x → slice_get x.spheres i ≡ Some p → AllInTurn (do_serial x i k moment p o)
 serial_keeps_turn x i k moment p None all is = all
 serial_keeps_turn x i k moment p (Some t) all is =
-    let v : Moved = serial_moved k moment t x.devices p in
+    let v : MovedSphere = serial_moved k moment t x.devices p in
     turn_set x i p (laid v) v.devices all is (serial_turn k moment t x.devices p)
 
-dma_keeps_turn : (x : SerialState) (i : ℕ) (p : Sphere) (o : Option Moved) → AllInTurn x → slice_get x.spheres i ≡ Some p → MovedInTurn o → AllInTurn (do_dma x i o)
+dma_keeps_turn : (x : SerialState) (i : ℕ) (p : Sphere) (o : Option MovedSphere) → AllInTurn x → slice_get x.spheres i ≡ Some p → MovedInTurn o → AllInTurn (do_dma x i o)
 dma_keeps_turn x i p None all is turn = all
 dma_keeps_turn x i p (Some v) all is turn = turn_set x i p (laid v) v.devices all is turn
 
@@ -230,7 +230,7 @@ pieces_stay s es i b is role going some =
       record {
         turn = k.1;
         only = λ event move is_move of_i.
-            let fits : Fits w.numbers (shown_of w) move = subst (FitsIf w.numbers (shown_of w)) is_move (happens-kept w event (invariants_hold s es is)).fits in
+            let fits : Fits w.numbers (shown_of w) move = subst (FitsIf w.numbers (shown_of w)) is_move (happens-preserved w event (invariants_hold s es is)).fits in
             only_chunks w.numbers w.devices p b k.0 move.what role k.1 some
             (subst (FitsAt w.numbers w.devices move) (ap (slice_get (shown_of w).spheres) of_i ∙ e) fits);
       },
@@ -243,5 +243,5 @@ stopped_stay s es i is stopped event move is_move of_i =
     let w : World = after s es in
     let p : Sphere = shown w.slots i (sphere_at w i) in
     let e : slice_get (shown_of w).spheres i ≡ Some p = shown-get w.slots i w.spheres (there-is w i (stopped_replays p.role stopped)) in
-    let fits : Fits w.numbers (shown_of w) move = subst (FitsIf w.numbers (shown_of w)) is_move (happens-kept w event (invariants_hold s es is)).fits in
+    let fits : Fits w.numbers (shown_of w) move = subst (FitsIf w.numbers (shown_of w)) is_move (happens-preserved w event (invariants_hold s es is)).fits in
     nothing_there w.numbers w.devices p move.what stopped (subst (FitsAt w.numbers w.devices move) (ap (slice_get (shown_of w).spheres) of_i ∙ e) fits)

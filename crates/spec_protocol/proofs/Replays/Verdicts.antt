@@ -14,7 +14,7 @@ use Rattle.spec_play.specs.Effects.{Effect}
 use Rattle.spec_play.specs.Progress.{position, with_effect, Used, with_interrupt}
 use Rattle.spec_play.specs.Turns.{Turn, Over}
 use Rattle.spec_play.specs.Plays.{with_threads}
-use Rattle.spec_play.specs.Verdicts.{Verdict, Goes, Fails, unless, interrupt_at, with_interrupted, ended}
+use Rattle.spec_play.specs.Verdicts.{LogVerdict, Goes, Fails, unless, interrupt_at, with_interrupted, ended}
 use Rattle.spec_protocol.specs.Spheres.{Cursor, Role, Replay, Sphere, is_over, actor_of}
 use Rattle.spec_protocol.specs.Commits.{diverged, by_verdict}
 use Rattle.spec_protocol.specs.Machine.{SphereSetup}
@@ -36,12 +36,12 @@ pub record Uses (log : LogParts) (threads : List Parts) (u : Used) : Type 0 wher
   pub interrupts : u.interrupts ≡ due threads log.interrupts
 
 -- what it comes to where it goes
-abbrev pub IfGoes : (Effect → Used → Type 0) → Verdict → Type 0
+abbrev pub IfGoes : (Effect → Used → Type 0) → LogVerdict → Type 0
 IfGoes Q (Goes e u) = Q e u
 IfGoes Q (Fails why) = Unit {0}
 
 -- what holds where a verdict goes on holds so too where it may fail for one reason more
-pub unless-goes : (Q : Effect → Used → Type 0) (o : Option Why) (x : Verdict) → IfGoes Q x → IfGoes Q (unless o x)
+pub unless-goes : (Q : Effect → Used → Type 0) (o : Option Why) (x : LogVerdict) → IfGoes Q x → IfGoes Q (unless o x)
 unless-goes Q None x h = h
 unless-goes Q (Some why) x h = tt
 
@@ -110,7 +110,7 @@ diverged-sound s image now b why devices p cursor sound d =
     }
 
 -- a commit leaves a sound replay, whether it goes on or diverges
-pub verdict-sound : (s : ℕ) (image : SphereSetup) (now k : ℕ) (b : Cursor) (t : Parts) (x : Verdict) (devices : Devices) (p : Sphere) → IsSoundCursor (position p.progress) p.threads b → b.now ≡ Turn k → IsSoundSphere s image now p → slice_get p.threads k ≡ Some t
+pub verdict-sound : (s : ℕ) (image : SphereSetup) (now k : ℕ) (b : Cursor) (t : Parts) (x : LogVerdict) (devices : Devices) (p : Sphere) → IsSoundCursor (position p.progress) p.threads b → b.now ≡ Turn k → IsSoundSphere s image now p → slice_get p.threads k ≡ Some t
     → IfGoes (SoundlyIn (length image.memory) b.log k p.threads t) x → HaveByteInput devices → IsSoundMoved s image (suc now) (by_verdict b k x devices p)
 verdict-sound s image now k b t (Fails why) devices p cursor turn sound is goes d = diverged-sound s image now b why devices p cursor sound d
 verdict-sound s image now k b t (Goes e u) devices p cursor turn sound is goes d =

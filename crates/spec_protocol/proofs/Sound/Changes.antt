@@ -21,7 +21,7 @@ use Rattle.spec_engine.specs.Asking.{ask, denied_by, busy_by}
 use Rattle.spec_protocol.specs.declared.event.Event.{Event}
 use Rattle.spec_protocol.specs.declared.reply.Reply.{Reply}
 use Rattle.spec_protocol.specs.Spheres.{Sphere, no_sphere, is_stopped, head_of, limit_of, halves}
-use Rattle.spec_protocol.specs.Commits.{CommitOutcome, Granted, Piece, Diverged, Moved, is_piece, chunk_moved, serial_moved, dma_in, dma_moved, raised}
+use Rattle.spec_protocol.specs.Commits.{CommitOutcome, Granted, Piece, Diverged, MovedSphere, is_piece, chunk_moved, serial_moved, dma_in, dma_moved, raised}
 use Rattle.spec_protocol.specs.World.{Numbers, Held, World, After, moment, sphere_at, with_sphere, with_memory, with_core, with_slot, thread_afresh, held_afresh, core_of, flown, answered}
 use Rattle.spec_protocol.specs.Stepping.{stepped, step_held, stepping, cut_to, cut_held, cutting}
 use Rattle.spec_protocol.specs.Flying.{reply_of_drain, drain_slot, draining, reads_of, writes_of, squashed, told, deliver_to, delivering, retiring}
@@ -30,7 +30,7 @@ use Rattle.spec_protocol.specs.Transferring.{dma_done, transfer, dma_with, dma_i
 use Rattle.spec_protocol.specs.Placing.{unless_elsewhere, place_thread, placing, replays, with_renewed, raise_in, raise_thread, raising}
 use Rattle.spec_protocol.specs.Machine.{core_no, sphere_no, slot_no, act}
 use Rattle.spec_protocol.specs.Invariants.{IsGood}
-use Rattle.spec_protocol.proofs.Invariants.Kept.{sphere-same, sphere-other}
+use Rattle.spec_protocol.proofs.Invariants.Preserved.{sphere-same, sphere-other}
 use Rattle.spec_protocol.proofs.Invariants.Cores.{set-cases, branch}
 
 -- ---- properties of the parts
@@ -50,7 +50,7 @@ pub record Holds (P : Properties) (now : ℕ) (w : World) : Type 0 where
   pub devices : P.devices w.devices
 
 -- what a move leaves has them
-pub record Lands (P : Properties) (now i : ℕ) (v : Moved) : Type 0 where
+pub record Lands (P : Properties) (now i : ℕ) (v : MovedSphere) : Type 0 where
   pub sphere : P.sphere now i v.sphere
   pub flight : (writes : Marks) (told : ℕ) → P.flight (record { sphere = i; words = v.words; writes = writes; told = told })
   pub devices : P.devices v.devices
@@ -63,7 +63,7 @@ pub record Asks (w : World) (c : ℕ) (h : Held) (how : How) : Type 0 where
   pub going : is_stopped (sphere_at w h.chunk.sphere).role ≡ false
   pub turn : other_turn (head_of (sphere_at w h.chunk.sphere)) h.thread ≡ None
 
-pub record Transfers (w : World) (i : ℕ) (v : Moved) : Type 0 where
+pub record Transfers (w : World) (i : ℕ) (v : MovedSphere) : Type 0 where
   pub within : i < length w.spheres
   pub going : is_stopped (sphere_at w i).role ≡ false
   pub turn : turn_before_dma (sphere_at w i).role ≡ None
@@ -88,7 +88,7 @@ pub record Keeps (z : Numbers) (P : Properties) : Type 0 where
   pub chunk : (w : World) (c : ℕ) (h : Held) (how : How) → w.numbers ≡ z → Asks w c h how → Holds P (moment w) w
       → Lands P (suc (moment w)) h.chunk.sphere (chunk_moved h.thread (is_piece how) (is_short w.numbers.chunk how h.chunk.limit) h.chunk.done w.devices (sphere_at w h.chunk.sphere))
   pub serial : (w : World) (c : ℕ) (h : Held) (how : How) → Asks w c h how → Holds P (moment w) w → Lands P (suc (moment w)) h.chunk.sphere (serial_moved h.thread (moment w) h.chunk.start w.devices (sphere_at w h.chunk.sphere))
-  pub dma : (w : World) (i : ℕ) (v : Moved) → Transfers w i v → Holds P (moment w) w → Lands P (suc (moment w)) i v
+  pub dma : (w : World) (i : ℕ) (v : MovedSphere) → Transfers w i v → Holds P (moment w) w → Lands P (suc (moment w)) i v
   pub raised : (now i k value : ℕ) (t : Parts) (p : Sphere) → Raises k t p → P.sphere now i p → P.sphere (suc now) i (raised k value t p)
 
 -- ---- rows
@@ -189,7 +189,7 @@ cut-then P w c (Some h) keeps is k =
 
 -- ---- Ask
 
-moved-holds : (P : Properties) (w : World) (i : ℕ) (v : Moved) (writes : Marks) (t : ℕ) (cores : List (Option Held)) → Lands P (suc (moment w)) i v → ((c : ℕ) (h : Held) → at cores c ≡ Some h → P.held h) → Holds P (suc (moment w)) w
+moved-holds : (P : Properties) (w : World) (i : ℕ) (v : MovedSphere) (writes : Marks) (t : ℕ) (cores : List (Option Held)) → Lands P (suc (moment w)) i v → ((c : ℕ) (h : Held) → at cores c ≡ Some h → P.held h) → Holds P (suc (moment w)) w
     → Holds P (suc (moment w)) (record w { spheres = (with_sphere w i v.sphere).spheres; slots = flown i v.words writes t w.slots; cores = cores; devices = v.devices })
 moved-holds P w i v writes t cores lands held k =
     record {
@@ -199,7 +199,7 @@ moved-holds P w i v writes t cores lands held k =
       devices = lands.devices;
     }
 
-granted-then : (P : Properties) (w : World) (c : ℕ) (q : CommitRequest) (writes : Marks) (v : Moved) (o : CommitOutcome) → Keeps w.numbers P → Lands P (suc (moment w)) q.sphere v → Holds P (moment w) w → Then P w (granted w c q writes v o)
+granted-then : (P : Properties) (w : World) (c : ℕ) (q : CommitRequest) (writes : Marks) (v : MovedSphere) (o : CommitOutcome) → Keeps w.numbers P → Lands P (suc (moment w)) q.sphere v → Holds P (moment w) w → Then P w (granted w c q writes v o)
 granted-then P w c q writes v Granted keeps lands k =
     let same = later-holds P w.numbers w keeps k in
     moved-holds P w q.sphere v writes (2 ^ c) (with_core w c (held_afresh w.numbers q.sphere q.thread v.sphere)).cores lands
@@ -367,7 +367,7 @@ raise-then P w i k value (Some t) keeps role is h =
 
 -- ---- Dma
 
-transfer-then : (P : Properties) (w : World) (i : ℕ) (v : Moved) → Keeps w.numbers P → Lands P (suc (moment w)) i v → Holds P (moment w) w → Then P w (transfer w i v)
+transfer-then : (P : Properties) (w : World) (i : ℕ) (v : MovedSphere) → Keeps w.numbers P → Lands P (suc (moment w)) i v → Holds P (moment w) w → Then P w (transfer w i v)
 unfolding transfer
 transfer-then P w i v keeps lands h =
     let same = later-holds P w.numbers w keeps h in
@@ -377,12 +377,12 @@ transfer-then P w i v keeps lands h =
     (λ _. same)
     (λ _. denied-then P w done (first_slot (meets_chunk g g) w.slots) same (moved-holds P w i v g 0 w.cores lands same.held same))
 
-dma-with-then : (P : Properties) (w : World) (i : ℕ) (v : Moved) (o : CommitOutcome) → Keeps w.numbers P → Lands P (suc (moment w)) i v → Holds P (moment w) w → Then P w (dma_with w i v o)
+dma-with-then : (P : Properties) (w : World) (i : ℕ) (v : MovedSphere) (o : CommitOutcome) → Keeps w.numbers P → Lands P (suc (moment w)) i v → Holds P (moment w) w → Then P w (dma_with w i v o)
 dma-with-then P w i v Granted keeps lands h = transfer-then P w i v keeps lands h
 dma-with-then P w i v Piece keeps lands h = transfer-then P w i v keeps lands h
 dma-with-then P w i v (Diverged j why) keeps lands h = sphere-holds P (suc (moment w)) w i v.sphere lands.sphere (later-holds P w.numbers w keeps h)
 
-dma-within : (w : World) (i : ℕ) (v : Moved) → dma_moved w.devices (sphere_at w i) ≡ Some v → i < length w.spheres
+dma-within : (w : World) (i : ℕ) (v : MovedSphere) → dma_moved w.devices (sphere_at w i) ≡ Some v → i < length w.spheres
 unfolding dma_moved
 dma-within w i v e =
     elim (cases_lt i (length w.spheres)) [
@@ -390,7 +390,7 @@ dma-within w i v e =
       | inr past ↦ absurd (none-some v (ap (λ (p : Sphere). dma_in p.role w.devices p) (sym (get_or_past w.spheres i no_sphere past)) ∙ e))
     ]
 
-dma-if-then : (P : Properties) (w : World) (i : ℕ) (o : Option Moved) → Keeps w.numbers P → is_stopped (sphere_at w i).role ≡ false → turn_before_dma (sphere_at w i).role ≡ None → dma_moved w.devices (sphere_at w i) ≡ o → Holds P (moment w) w
+dma-if-then : (P : Properties) (w : World) (i : ℕ) (o : Option MovedSphere) → Keeps w.numbers P → is_stopped (sphere_at w i).role ≡ false → turn_before_dma (sphere_at w i).role ≡ None → dma_moved w.devices (sphere_at w i) ≡ o → Holds P (moment w) w
     → Then P w (dma_if w i o)
 dma-if-then P w i None keeps going turn is h = later-holds P w.numbers w keeps h
 dma-if-then P w i (Some v) keeps going turn is h =

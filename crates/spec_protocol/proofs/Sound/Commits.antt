@@ -18,13 +18,13 @@ use Rattle.spec_play.specs.Progress.{Progress, position, with_effect}
 use Rattle.spec_play.specs.Plays.{with_threads}
 use Rattle.spec_play.specs.Recording.{noted}
 use Rattle.spec_protocol.specs.Spheres.{Role, Sphere}
-use Rattle.spec_protocol.specs.Commits.{Moved, granted_as}
+use Rattle.spec_protocol.specs.Commits.{MovedSphere, granted_as}
 use Rattle.spec_protocol.specs.Machine.{SphereSetup}
 use Rattle.spec_protocol.specs.Sound.{AreSoundWords, IsSoundIf, IsSoundLog, IsSoundRole, IsSoundThread, IsSoundSphere, HaveByteInput}
 use Rattle.spec_protocol.proofs.Moves.Threads.{AreNew, serve-keeps}
 use Rattle.spec_protocol.proofs.Logs.Growing.{get_cases, pushed_length}
 use Rattle.spec_protocol.proofs.Moves.Spawning.{serve-few}
-use Rattle.spec_protocol.proofs.Sound.Threads.{AreThreads, BringsIf, interrupted-thread, IsSoundServed, serve-sound}
+use Rattle.spec_protocol.proofs.Sound.Threads.{AreThreads, BringsIf, interrupted-thread, IsSoundStepResult, serve-sound}
 use Rattle.spec_protocol.proofs.Logs.Fresh.{at-set_parts, fresh-commit}
 
 -- ---- rows of threads
@@ -73,7 +73,7 @@ commit-length : (k : ℕ) (ts : List Parts) (e : Effect) → length (with_thread
 commit-length k ts e = length-append (slice_set ts k e.thread) e.made ∙ ap (λ (n : ℕ). n + length e.made) (length-set ts k e.thread)
 
 -- what a move leaves of a sphere that began as the image
-pub record IsSoundMoved (s : ℕ) (image : SphereSetup) (now : ℕ) (v : Moved) : Type 0 where
+pub record IsSoundMoved (s : ℕ) (image : SphereSetup) (now : ℕ) (v : MovedSphere) : Type 0 where
   pub sphere : IsSoundSphere s image now v.sphere
   pub words : AreSoundWords (length image.memory) v.words
   pub devices : HaveByteInput v.devices
@@ -119,8 +119,8 @@ pub serial-effect : (size k : ℕ) (ts : List Parts) (request : Option Request) 
     → IsSoundEffect size ts t (serial_effect k (serve k ts request t m input))
 serial-effect size k ts request t m input same whole brings thread sound few =
     let v = serve k ts request t m input in
-    let served : IsSoundServed size v =
-    subst (λ (n : ℕ). n % 4 ≡ 0 → IsSoundIf n request → IsSoundServed n v) same (λ w q. serve-sound k ts request t m input w brings thread q) whole sound
+    let served : IsSoundStepResult size v =
+    subst (λ (n : ℕ). n % 4 ≡ 0 → IsSoundIf n request → IsSoundStepResult n v) same (λ w q. serve-sound k ts request t m input w brings thread q) whole sound
     in
     let keeps = serve-keeps k ts request t m input in
     let th = served.thread in

@@ -15,7 +15,7 @@ use Rattle.spec_log.specs.Log.{IsInput, AreFewBytes, input_kinds}
 use Rattle.spec_kernel.specs.Devices.{Devices, devices_of, input_taken, console_put, pipe_at, with_pipe, pipe_fitting, pipe_put, pipe_first, pipe_taken, random_bytes}
 use Rattle.spec_kernel.specs.Needs.{Need, Write, Read, Random, Clock, MomentWord, InputWord, a0, a1, a2, cut, number_of, if_inside, need_of_write, need_of_read, need_of_random, need_of_call, need_of_load, need_of, next_kind, next_operation, need}
 use Rattle.spec_kernel.specs.Answers.{went, write_answer, answer_write, read_answer, answer_read, answer_random, first_byte, Answered, answer, Taken, taken, dma_bytes, dma_taken, refused, nothing_now}
-use Rattle.spec_kernel.specs.Serving.{store_told, console_told}
+use Rattle.spec_kernel.specs.Serving.{store_written, console_written}
 use Rattle.dl_entry.specs.declared.Output.{Output}
 use Rattle.spec_protocol.specs.Notable.{IsInputIf}
 use Rattle.spec_protocol.specs.Sound.{AreBytes, HaveByteInput}
@@ -93,11 +93,11 @@ pipe-set d pipe bytes new h =
     }
 
 -- what is written out of a memory leaves devices that hold bytes
-pub told-devices : (t : Parts) (m : List ℕ) (outputs : List Output) (d : Devices) → HaveByteInput d → HaveByteInput (console_told t m outputs d)
-unfolding console_told
-told-devices t m outputs d h = by_kind (next_kind t m)
+pub written-devices : (t : Parts) (m : List ℕ) (outputs : List Output) (d : Devices) → HaveByteInput d → HaveByteInput (console_written t m outputs d)
+unfolding console_written
+written-devices t m outputs d h = by_kind (next_kind t m)
   where
-    by_kind : (o : Option Kind) → HaveByteInput (store_told o outputs d)
+    by_kind : (o : Option Kind) → HaveByteInput (store_written o outputs d)
     by_kind None = h
     by_kind (Some Kind.Call) = h
     by_kind (Some Kind.Break) = h

@@ -17,7 +17,7 @@ use Rattle.spec_kernel.specs.Needs.{Need, Write, Read, Random, Clock, MomentWord
 use Rattle.spec_kernel.specs.Answers.{Taken, taken}
 use Rattle.spec_kernel.specs.Records.{has_no_bytes, went_nowhere, fits_read, fits_random, fits}
 use Rattle.spec_kernel.specs.Interrupts.{lives, is_live}
-use Rattle.spec_kernel.specs.Serving.{serve, console_told}
+use Rattle.spec_kernel.specs.Serving.{serve, console_written}
 use Rattle.spec_play.specs.Effects.{chunk_effect, serial_effect}
 use Rattle.spec_play.specs.Progress.{Progress, position, with_effect, Used, with_input}
 use Rattle.spec_play.specs.Turns.{Turn}
@@ -31,7 +31,7 @@ use Rattle.spec_protocol.specs.Sound.{IsDoneInOrder, AreSoundWords, IsSoundIf, H
 use Rattle.spec_protocol.proofs.Moves.Granted.{get-set_same}
 use Rattle.spec_protocol.proofs.Invariants.Cores.{branch}
 use Rattle.spec_protocol.proofs.Sound.Threads.{Brings, BringsIf}
-use Rattle.spec_protocol.proofs.Sound.Devices.{IsSoundTaken, taken-sound, told-devices}
+use Rattle.spec_protocol.proofs.Sound.Devices.{IsSoundTaken, taken-sound, written-devices}
 use Rattle.spec_protocol.proofs.Replays.Order.{done-piece}
 use Rattle.spec_protocol.proofs.Replays.Uses.{rising-of, due-still, piece-commits}
 use Rattle.spec_protocol.proofs.Sound.Commits.{set-all, IsSoundMoved, granted-sound, chunk-effect, serial-effect, noted-sound}
@@ -193,9 +193,9 @@ served-sound : (s : ℕ) (image : SphereSetup) (now k : ℕ) (role : Role) (t : 
     → IsSoundMoved s image (suc now) (served_as role k t g p)
 served-sound s image now k role t g p whole sound is taken_ role_sound =
     let v = serve k p.threads p.progress.request t p.memory g.input in
-    granted-sound s image now k role t (serial_effect k v) (console_told t p.memory v.outputs g.devices) p sound is
+    granted-sound s image now k role t (serial_effect k v) (console_written t p.memory v.outputs g.devices) p sound is
     (serial-effect (length image.memory) k p.threads p.progress.request t p.memory g.input sound.size whole taken_.brings (sound.threads k t is).thread sound.request sound.few)
-    role_sound (told-devices t p.memory v.outputs g.devices taken_.devices)
+    role_sound (written-devices t p.memory v.outputs g.devices taken_.devices)
 
 serial-in-sound : (s : ℕ) (image : SphereSetup) (now k moment : ℕ) (role : Role) (t : Parts) (devices : Devices) (p : Sphere) → length image.memory % 4 ≡ 0 → IsSoundRole s (position p.progress) p.threads role → ((b : Cursor) → role ≡ Replay b → b.now ≡ Turn k)
     → IsSoundSphere s image now p → slice_get p.threads k ≡ Some t → HaveByteInput devices → IsSoundMoved s image (suc now) (serial_in role k moment t devices p)

@@ -20,20 +20,20 @@ use Rattle.spec_engine.specs.Flights.{Flight, at}
 use Rattle.spec_engine.specs.Chunks.{Chunk, step, cut}
 use Rattle.spec_protocol.specs.declared.event.Event.{Event}
 use Rattle.spec_protocol.specs.Spheres.{Cursor, Role, Replay, Sphere, no_sphere, is_over, is_stopped, head_of, head_in, whole_limit, pieces_of, limit_of, halves}
-use Rattle.spec_protocol.specs.Commits.{Moved, is_piece, chunk_moved, serial_moved}
+use Rattle.spec_protocol.specs.Commits.{MovedSphere, is_piece, chunk_moved, serial_moved}
 use Rattle.spec_protocol.specs.Asking.{is_short, other_turn}
 use Rattle.spec_protocol.specs.World.{Numbers, Held, World, After, moment, sphere_at}
 use Rattle.spec_protocol.specs.Placing.{replays}
 use Rattle.spec_protocol.specs.Transferring.{turn_before_dma}
-use Rattle.spec_protocol.specs.Machine.{RoleSetup, IsPlain, IsRecorded, IsReplayed, SphereSetup, Setup, role_of, sphere_of, world_of, act, name_of, kept, happens, world_after}
+use Rattle.spec_protocol.specs.Machine.{RoleSetup, IsPlain, IsRecorded, IsReplayed, SphereSetup, Setup, role_of, sphere_of, world_of, act, name_of, with_event, happens, world_after}
 use Rattle.spec_protocol.specs.Invariants.{IsGood}
 use Rattle.spec_protocol.specs.Promises.{IsSetup, AreSizesKept}
 use Rattle.spec_protocol.specs.Sound.{IsRole, IsImage, IsWithinLimits, AreSoundWords, no_image, image_at, size_of, IsSoundCursor, IsSoundRole, IsSoundThread, IsSoundSphere, IsSoundChunk, HaveByteInput, IsSound, WorldsAreSound, EventsKeepSound}
-use Rattle.spec_protocol.proofs.Invariants.Kept.{SameSizes}
+use Rattle.spec_protocol.proofs.Invariants.Preserved.{SameSizes}
 use Rattle.spec_protocol.proofs.Moves.Granted.{turn-is}
 use Rattle.spec_protocol.proofs.Moves.Transfers.{dma-turn_is}
 use Rattle.spec_protocol.proofs.Points.Counts.{act-untold}
-use Rattle.spec_protocol.proofs.Invariants.Schedules.{happens-kept, free_slots, first_held, start-good, sizes_kept}
+use Rattle.spec_protocol.proofs.Invariants.Schedules.{happens-preserved, free_slots, first_held, start-good, sizes_kept}
 use Rattle.spec_protocol.proofs.Sound.Changes.{Properties, Holds, Lands, Asks, Keeps, afresh-property, act-holds}
 use Rattle.spec_protocol.proofs.Sound.Words.{lay-bytes}
 use Rattle.spec_protocol.proofs.Sound.Threads.{started-thread}
@@ -69,7 +69,7 @@ images-whole (d ∷ ds) (suc i) each = images-whole ds i each
 whole : (s : Setup) (i : ℕ) → IsWithinLimits s → length (image_at s i).memory % 4 ≡ 0
 whole s i limits = images-whole s.spheres i (limits.images i)
 
-landed : (s : Setup) (now i : ℕ) (v : Moved) → IsSoundMoved s.numbers.chunk (image_at s i) now v → Lands (sound s) now i v
+landed : (s : Setup) (now i : ℕ) (v : MovedSphere) → IsSoundMoved s.numbers.chunk (image_at s i) now v → Lands (sound s) now i v
 landed s now i v m = record { sphere = m.sphere; flight = λ writes told. m.words; devices = m.devices }
 
 -- ---- a word more in memory
@@ -205,7 +205,7 @@ sound-keeps s limits =
 holds-of : (s : Setup) (w : World) → IsSound s w → Holds (sound s) (moment w) w
 holds-of s w k = record { spheres = k.spheres; flights = k.flights; held = k.held; devices = k.devices }
 
-counted-moment : (w : World) (a : After) → a.world.counts ≡ w.counts → moment (kept a) ≡ suc (moment w)
+counted-moment : (w : World) (a : After) → a.world.counts ≡ w.counts → moment (with_event a) ≡ suc (moment w)
 counted-moment w a e = let h = ap (λ (n : Counts). n.events) e in omega (arith, h)
 
 same-sizes : (s : Setup) (w v : World) → AreSizesKept s w → SameSizes w v → AreSizesKept s v
@@ -226,8 +226,8 @@ counted-replies counts name few k =
       | inr ne ↦ (let q = get_or-set_other counts.replies j k n 0 ne in omega (arith, q, old))
     ]
 
-kept-replies : (w : World) (a : After) → a.world.counts ≡ w.counts → ((k : ℕ) → slice_index w.counts.replies k ≤ moment w) → (k : ℕ) → slice_index (kept a).counts.replies k ≤ moment (kept a)
-kept-replies w a e few =
+counted-replies : (w : World) (a : After) → a.world.counts ≡ w.counts → ((k : ℕ) → slice_index w.counts.replies k ≤ moment w) → (k : ℕ) → slice_index (with_event a).counts.replies k ≤ moment (with_event a)
+counted-replies w a e few =
     counted-replies a.world.counts (name_of a.reply) (subst (λ (c : Counts). (k : ℕ) → slice_index c.replies k ≤ c.events) (sym e) few)
 
 no-replies : (n k : ℕ) → slice_index (replicate n 0) k ≡ 0
@@ -235,7 +235,7 @@ no-replies zero k = refl
 no-replies (suc n) zero = refl
 no-replies (suc n) (suc k) = no-replies n k
 
-counted-sound : (s : Setup) (w : World) (a : After) → AreSizesKept s (kept a) → ((k : ℕ) → slice_index (kept a).counts.replies k ≤ moment (kept a)) → moment (kept a) ≡ suc (moment w) → Holds (sound s) (suc (moment w)) a.world → IsSound s (kept a)
+counted-sound : (s : Setup) (w : World) (a : After) → AreSizesKept s (with_event a) → ((k : ℕ) → slice_index (with_event a).counts.replies k ≤ moment (with_event a)) → moment (with_event a) ≡ suc (moment w) → Holds (sound s) (suc (moment w)) a.world → IsSound s (with_event a)
 counted-sound s w a sizes replies e k =
     record {
       sizes = sizes;
@@ -252,7 +252,7 @@ unfolding happens
 happens-sound s w e limits good k =
     let a = act w e in
     let keeps : Keeps w.numbers (sound s) = subst (λ (z : Numbers). Keeps z (sound s)) (sym k.sizes.numbers) (sound-keeps s limits) in
-    counted-sound s w a (same-sizes s w (happens w e).world k.sizes (happens-kept w e good).sizes) (kept-replies w a (act-untold w e).counts k.replies) (counted-moment w a (act-untold w e).counts)
+    counted-sound s w a (same-sizes s w (happens w e).world k.sizes (happens-preserved w e good).sizes) (counted-replies w a (act-untold w e).counts k.replies) (counted-moment w a (act-untold w e).counts)
     (act-holds (sound s) w e keeps good (holds-of s w k))
 
 -- ---- the start
@@ -319,7 +319,7 @@ start-sound s limits =
 after-sound : (s : Setup) (w : World) (es : List Event) → IsWithinLimits s → IsGood w → IsSound s w → IsSound s (world_after w es)
 after-sound s w [] limits good k = k
 after-sound s w (e ∷ es) limits good k =
-    after-sound s (happens w e).world es limits (happens-kept w e good).good (happens-sound s w e limits good k)
+    after-sound s (happens w e).world es limits (happens-preserved w e good).good (happens-sound s w e limits good k)
 
 -- every world after a schedule of a setup within the limits is sound
 pub worlds_sound : WorldsAreSound

@@ -16,7 +16,7 @@ use Rattle.spec_kernel.specs.Needs.{Need, Write, Read, Random, Clock, MomentWord
 use Rattle.spec_kernel.specs.Answers.{refused, unknown_call, bad_buffer}
 use Rattle.spec_kernel.specs.Interrupts.{interrupted}
 use Rattle.spec_kernel.specs.Calls.{Called, with_result, gives, exit, spawned, spawn, set_handler, returned, iret, is_dma_buffer, request_dma, has_ended, called}
-use Rattle.spec_kernel.specs.Serving.{Served, alone, copy_of, outside_called, inside_called, is_outside, device_loaded, device_stored, faulted, serve_kind, serve}
+use Rattle.spec_kernel.specs.Serving.{StepResult, alone, copy_of, outside_called, inside_called, is_outside, device_loaded, device_stored, faulted, serve_kind, serve}
 use Rattle.spec_protocol.specs.Sound.{AreSoundWords, IsSoundRequest, IsSoundIf}
 use Rattle.spec_protocol.proofs.Moves.Granted.{either_serve}
 use Rattle.spec_protocol.proofs.Invariants.Cores.{branch}
@@ -277,7 +277,7 @@ BringsIf need (Some r) = Brings need r
 -- ---- serial steps
 
 -- what a serial step leaves in a memory of that size
-pub record IsSoundServed (size : ℕ) (v : Served) : Type 0 where
+pub record IsSoundStepResult (size : ℕ) (v : StepResult) : Type 0 where
   pub thread : IsThread v.thread
   pub made : AreThreads v.made
   pub request : IsSoundIf size v.request
@@ -292,16 +292,16 @@ copy-words size (Some Clock) r whole room brings = sound-none size
 copy-words size (Some MomentWord) r whole room brings = sound-none size
 copy-words size (Some InputWord) r whole room brings = sound-none size
 
-outside-sound : (size : ℕ) (o : Option Need) (request : Option Request) (t : Parts) (input : Option Input) → size % 4 ≡ 0 → HasRoom size o → BringsIf o input → IsThread t → IsSoundIf size request → IsSoundServed size (outside_called o request t input)
+outside-sound : (size : ℕ) (o : Option Need) (request : Option Request) (t : Parts) (input : Option Input) → size % 4 ≡ 0 → HasRoom size o → BringsIf o input → IsThread t → IsSoundIf size request → IsSoundStepResult size (outside_called o request t input)
 outside-sound size o request t None whole room brings is sound =
     record { thread = follows-thread t 10 bad_buffer is; made = tt; request = sound; words = sound-none size }
 outside-sound size o request t (Some r) whole room brings is sound =
     record { thread = follows-thread t 10 r.result is; made = tt; request = sound; words = copy-words size o r whole room brings }
 
-alone-sound : (size : ℕ) (request : Option Request) (t : Parts) → IsThread t → IsSoundIf size request → IsSoundServed size (alone request t)
+alone-sound : (size : ℕ) (request : Option Request) (t : Parts) → IsThread t → IsSoundIf size request → IsSoundStepResult size (alone request t)
 alone-sound size request t is sound = record { thread = is; made = tt; request = sound; words = sound-none size }
 
-loaded-sound : (size : ℕ) (request : Option Request) (t : Parts) (p : Operation) (input : Option Input) → IsThread t → IsSoundIf size request → IsSoundServed size (device_loaded request t p input)
+loaded-sound : (size : ℕ) (request : Option Request) (t : Parts) (p : Operation) (input : Option Input) → IsThread t → IsSoundIf size request → IsSoundStepResult size (device_loaded request t p input)
 loaded-sound size request t (Operation.Load op rd a) (Some r) is sound =
     record { thread = follows-thread t rd r.result is; made = tt; request = sound; words = sound-none size }
 loaded-sound size request t (Operation.Load op rd a) None is sound = alone-sound size request t is sound
@@ -312,42 +312,42 @@ loaded-sound size request t (Operation.LoadReserved rd a) input is sound = alone
 loaded-sound size request t (Operation.StoreConditional rd a v) input is sound = alone-sound size request t is sound
 loaded-sound size request t (Operation.Amo op rd a v) input is sound = alone-sound size request t is sound
 
-told-sound : (size : ℕ) (request : Option Request) (t : Parts) (p : Operation) → IsThread t → IsSoundIf size request → IsSoundServed size (device_stored request t p)
-told-sound size request t (Operation.Store op a v) is sound =
+device_stored-sound : (size : ℕ) (request : Option Request) (t : Parts) (p : Operation) → IsThread t → IsSoundIf size request → IsSoundStepResult size (device_stored request t p)
+device_stored-sound size request t (Operation.Store op a v) is sound =
     record {
       thread = record { pc = following-aligned t is.pc; saved_pc = is.saved_pc; handler = is.handler; zero = is.zero; registers = is.registers };
       made = tt;
       request = sound;
       words = sound-none size;
     }
-told-sound size request t (Operation.Load op rd a) is sound = alone-sound size request t is sound
-told-sound size request t (Operation.Go rd value pc) is sound = alone-sound size request t is sound
-told-sound size request t (Operation.Stop kind) is sound = alone-sound size request t is sound
-told-sound size request t (Operation.LoadReserved rd a) is sound = alone-sound size request t is sound
-told-sound size request t (Operation.StoreConditional rd a v) is sound = alone-sound size request t is sound
-told-sound size request t (Operation.Amo op rd a v) is sound = alone-sound size request t is sound
+device_stored-sound size request t (Operation.Load op rd a) is sound = alone-sound size request t is sound
+device_stored-sound size request t (Operation.Go rd value pc) is sound = alone-sound size request t is sound
+device_stored-sound size request t (Operation.Stop kind) is sound = alone-sound size request t is sound
+device_stored-sound size request t (Operation.LoadReserved rd a) is sound = alone-sound size request t is sound
+device_stored-sound size request t (Operation.StoreConditional rd a v) is sound = alone-sound size request t is sound
+device_stored-sound size request t (Operation.Amo op rd a v) is sound = alone-sound size request t is sound
 
-fault-sound : (size cause : ℕ) (request : Option Request) (t : Parts) → IsThread t → IsSoundIf size request → IsSoundServed size (alone request (faulted cause t))
+fault-sound : (size cause : ℕ) (request : Option Request) (t : Parts) → IsThread t → IsSoundIf size request → IsSoundStepResult size (alone request (faulted cause t))
 fault-sound size cause request t is sound =
     alone-sound size request (faulted cause t) (record { pc = is.pc; saved_pc = is.saved_pc; handler = is.handler; zero = is.zero; registers = is.registers }) sound
 
-inside-sound : (size : ℕ) (c : Called) → IsSoundCall size c → IsSoundServed size (inside_called c)
+inside-sound : (size : ℕ) (c : Called) → IsSoundCall size c → IsSoundStepResult size (inside_called c)
 inside-sound size c s = record { thread = s.thread; made = s.made; request = s.request; words = sound-none size }
 
 kind-sound : (o : Option Kind) (k : ℕ) (ts : List Parts) (request : Option Request) (t : Parts) (m : List ℕ) (input : Option Input) → length m % 4 ≡ 0 → BringsIf (need t m) input → IsThread t → IsSoundIf (length m) request
-    → IsSoundServed (length m) (serve_kind o k ts request t m input)
+    → IsSoundStepResult (length m) (serve_kind o k ts request t m input)
 kind-sound None k ts request t m input whole brings is sound = alone-sound (length m) request t is sound
 kind-sound (Some Kind.Call) k ts request t m input whole brings is sound =
-    either_serve (IsSoundServed (length m)) (is_outside t) (outside_called (need t m) request t input) (inside_called (called (length m) k ts request t))
+    either_serve (IsSoundStepResult (length m)) (is_outside t) (outside_called (need t m) request t input) (inside_called (called (length m) k ts request t))
     (outside-sound (length m) (need t m) request t input whole (need-room t m) brings is sound)
     (inside-sound (length m) (called (length m) k ts request t) (called-sound (length m) k ts request t is sound))
 kind-sound (Some Kind.Break) k ts request t m input whole brings is sound = fault-sound (length m) 3 request t is sound
 kind-sound (Some Kind.DeviceLoad) k ts request t m input whole brings is sound = loaded-sound (length m) request t (next_operation t m) input is sound
-kind-sound (Some Kind.DeviceStore) k ts request t m input whole brings is sound = told-sound (length m) request t (next_operation t m) is sound
+kind-sound (Some Kind.DeviceStore) k ts request t m input whole brings is sound = device_stored-sound (length m) request t (next_operation t m) is sound
 kind-sound (Some (Kind.Fault cause)) k ts request t m input whole brings is sound = fault-sound (length m) cause request t is sound
 
 -- a serial step leaves sound threads, words and requests
 pub serve-sound : (k : ℕ) (ts : List Parts) (request : Option Request) (t : Parts) (m : List ℕ) (input : Option Input) → length m % 4 ≡ 0 → BringsIf (need t m) input → IsThread t → IsSoundIf (length m) request
-    → IsSoundServed (length m) (serve k ts request t m input)
+    → IsSoundStepResult (length m) (serve k ts request t m input)
 unfolding serve
 serve-sound k ts request t m input whole brings is sound = kind-sound (next_kind t m) k ts request t m input whole brings is sound

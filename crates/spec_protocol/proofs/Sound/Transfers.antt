@@ -22,7 +22,7 @@ use Rattle.spec_play.specs.Turns.{TurnOfDma}
 use Rattle.spec_play.specs.Verdicts.{serial_why}
 use Rattle.spec_play.specs.Transfers.{DmaVerdict, DmaGoes, DmaFails, is_for, transferred, dma_unless, dma_verdict}
 use Rattle.spec_protocol.specs.Spheres.{Cursor, Role, Plain, Record, Replay, Sphere, is_over, actor_of}
-use Rattle.spec_protocol.specs.Commits.{Moved, dma_as, live_dma, dma_log, dma_by_verdict, dma_in, dma_moved, role_raised, raised}
+use Rattle.spec_protocol.specs.Commits.{MovedSphere, dma_as, live_dma, dma_log, dma_by_verdict, dma_in, dma_moved, role_raised, raised}
 use Rattle.spec_protocol.specs.Placing.{replays}
 use Rattle.spec_protocol.specs.Machine.{SphereSetup}
 use Rattle.spec_protocol.specs.Sound.{IsDoneInOrder, AreSoundWords, IsSoundIf, IsSoundCursor, IsSoundLog, IsSoundRole, IsSoundThread, IsSoundSphere, HaveByteInput}
@@ -61,7 +61,7 @@ dma-as-sound s image now role words devices p sound words_sound role_sound d =
       devices = d;
     }
 
-abbrev IfMoved : (s : ℕ) (image : SphereSetup) (now : ℕ) → Option Moved → Type 0
+abbrev IfMoved : (s : ℕ) (image : SphereSetup) (now : ℕ) → Option MovedSphere → Type 0
 IfMoved s image now None = Unit {0}
 IfMoved s image now (Some v) = IsSoundMoved s image now v
 
@@ -133,7 +133,7 @@ dma-in-sound s image now (Replay b) devices p whole role going sound d =
     dma-verdict-sound s image now b (dma_verdict b.log p.progress b.used) devices p role (going b refl) sound (dma-goes (length image.memory) b.log p.progress b.used whole sound.request) d
 
 -- a DMA that is done leaves a sound sphere
-pub dma-moved-sound : (s : ℕ) (image : SphereSetup) (now : ℕ) (devices : Devices) (p : Sphere) (v : Moved) → length image.memory % 4 ≡ 0 → ((b : Cursor) → p.role ≡ Replay b → b.now ≡ TurnOfDma) → IsSoundSphere s image now p
+pub dma-moved-sound : (s : ℕ) (image : SphereSetup) (now : ℕ) (devices : Devices) (p : Sphere) (v : MovedSphere) → length image.memory % 4 ≡ 0 → ((b : Cursor) → p.role ≡ Replay b → b.now ≡ TurnOfDma) → IsSoundSphere s image now p
     → HaveByteInput devices → dma_moved devices p ≡ Some v → IsSoundMoved s image (suc now) v
 unfolding dma_moved
 dma-moved-sound s image now devices p v whole going sound d is = subst (IfMoved s image (suc now)) is (dma-in-sound s image now p.role devices p whole sound.role going sound d)

@@ -13,7 +13,7 @@ use Rattle.spec_kernel.specs.Needs.{next_kind}
 use Rattle.spec_play.specs.Effects.{Effect, dma_commit}
 use Rattle.spec_play.specs.Progress.{Progress, position, with_effect, with_dma, Used, with_dma_used}
 use Rattle.spec_play.specs.Turns.{Now, Turn, TurnOfDma, Over, now_at}
-use Rattle.spec_play.specs.Verdicts.{Verdict, Goes, Fails}
+use Rattle.spec_play.specs.Verdicts.{LogVerdict, Goes, Fails}
 use Rattle.spec_play.specs.Transfers.{DmaVerdict, DmaGoes, DmaFails, dma_verdict}
 use Rattle.spec_play.specs.Plays.{Played, with_threads, settled, thread_verdict, play_thread, dma_settled, play_now, play_one, plays}
 use Rattle.spec_protocol.specs.Spheres.{Cursor, Replay, Sphere}
@@ -67,7 +67,7 @@ diverged-follows log y p b why devices now f is going state one keeps =
 pub one_more : (cs : List Commit) (c : Commit) → length (cs ++ c ∷ []) ≡ suc (length cs)
 one_more cs c = let h = length-append cs (c ∷ []) in omega arith
 
-abbrev after_verdict : Cursor → ℕ → Verdict → Devices → Sphere → Sphere
+abbrev after_verdict : Cursor → ℕ → LogVerdict → Devices → Sphere → Sphere
 after_verdict b k v devices p = laid (by_verdict b k v devices p)
 
 goes_follow : (log : LogParts) (y : Played) (p : Sphere) (b : Cursor) (k : ℕ) (x : Parts) (e f : Effect) (u v : Used) (devices : Devices) → Beside log y p b → p.threads ≡ set y.threads k x → AlikeEffects p.memory y.memory e f → u ≡ v
@@ -99,21 +99,21 @@ goes_follow log y p b k x e f u v devices s threads alike used =
 -- ---- a commit of a thread
 
 -- what is asked of the thread whose turn it is
-pub record Judged (log : LogParts) (y : Played) (k : ℕ) (t x : Parts) (p : Sphere) (v w : Verdict) : Type 0 where
+pub record Judged (log : LogParts) (y : Played) (k : ℕ) (t x : Parts) (p : Sphere) (v w : LogVerdict) : Type 0 where
   pub turn : y.now ≡ Turn k
   pub is : slice_get y.threads k ≡ Some t
   pub threads : p.threads ≡ set y.threads k x
   pub verdict : thread_verdict log y k t (next_kind t y.memory) ≡ w
   pub alike : AreAlike p.memory y.memory v w
 
-play_judged : (log : LogParts) (y : Played) (k : ℕ) (t x : Parts) (p : Sphere) (v w : Verdict) → Judged log y k t x p v w → play_one log y ≡ settled log y k w
+play_judged : (log : LogParts) (y : Played) (k : ℕ) (t x : Parts) (p : Sphere) (v w : LogVerdict) → Judged log y k t x p v w → play_one log y ≡ settled log y k w
 unfolding play_one
 play_judged log y k t x p v w j = ap (play_now log y) j.turn ∙ ap (play_thread log y k) j.is ∙ ap (settled log y k) j.verdict
 
 turn_goes_on : (k : ℕ) (how : End) → Turn k ≡ Over how → ⊥
 turn_goes_on k how e = cc
 
-verdict_reaches : (log : LogParts) (start y : Played) (p : Sphere) (b : Cursor) (k : ℕ) (t x : Parts) (v w : Verdict) (devices : Devices) → y ≡ plays log start (position p.progress) → Beside log y p b → StandsAt log y (Turn k) p b → Judged log y k t x p v w
+verdict_reaches : (log : LogParts) (start y : Played) (p : Sphere) (b : Cursor) (k : ℕ) (t x : Parts) (v w : LogVerdict) (devices : Devices) → y ≡ plays log start (position p.progress) → Beside log y p b → StandsAt log y (Turn k) p b → Judged log y k t x p v w
     → Reaches log start (after_verdict b k v devices p)
 verdict_reaches log start y p b k t x (Goes e u) (Goes f g) devices at_ s state j =
     let one : plays log start (suc (position p.progress)) ≡ settled log y k (Goes f g) = ap (play_one log) (sym at_) ∙ play_judged log y k t x p (Goes e u) (Goes f g) j in
@@ -128,7 +128,7 @@ verdict_reaches log start y p b k t x (Goes e u) (Fails why) devices at_ s state
 verdict_reaches log start y p b k t x (Fails why) (Goes f g) devices at_ s state j = absurd j.alike
 
 -- what is granted to the thread whose turn it is, as the play says it
-pub commit-reaches : (log : LogParts) (start y : Played) (p : Sphere) (b : Cursor) (k : ℕ) (t x : Parts) (v w : Verdict) (devices : Devices) → y ≡ plays log start (position p.progress) → Beside log y p b → StandsAt log y (Turn k) p b → Judged log y k t x p v w
+pub commit-reaches : (log : LogParts) (start y : Played) (p : Sphere) (b : Cursor) (k : ℕ) (t x : Parts) (v w : LogVerdict) (devices : Devices) → y ≡ plays log start (position p.progress) → Beside log y p b → StandsAt log y (Turn k) p b → Judged log y k t x p v w
     → Reaches log start (laid (by_verdict b k v devices p))
 commit-reaches log start y p b k t x v w devices at_ s state j = verdict_reaches log start y p b k t x v w devices at_ s state j
 

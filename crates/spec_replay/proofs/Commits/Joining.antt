@@ -4,7 +4,7 @@ use Rattle.std.proofs.lemmas.List.{append_assoc, append-nil}
 use Rattle.spec_isa.specs.declared.thread.Parts.{Parts}
 use Rattle.spec_isa.specs.declared.thread.Load.{Load}
 use Rattle.spec_isa.specs.Words.{Stored, lay, lays, Apart}
-use Rattle.spec_isa.specs.Instruction.{Outcome, Next, Serial, one}
+use Rattle.spec_isa.specs.Instruction.{InstructionOutcome, Next, Serial, one}
 use Rattle.spec_isa.specs.Runs.{Run, with_load, with_store, followed, more, run}
 use Rattle.spec_isa.proofs.BufferLaws.{lays_put}
 use Rattle.spec_protocol.proofs.Memory.Covering.{Apart-store}
@@ -12,7 +12,7 @@ use Rattle.spec_protocol.proofs.Memory.Covering.{Apart-store}
 -- ---- stores and loads
 
 -- a run in which no word comes twice has none twice after its next instruction
-pub apart_followed : (r : Run) (o : Outcome) → Apart r.words → Apart (followed r o).words
+pub apart_followed : (r : Run) (o : InstructionOutcome) → Apart r.words → Apart (followed r o).words
 apart_followed r (Serial kind) a = a
 apart_followed r (Next u load store) a = Apart-store r.words store a
 
@@ -47,7 +47,7 @@ pub record IsJoined (m : List ℕ) (r s whole : Run) : Type 0 where
 abbrev pub rest_of : List ℕ → Run → (n : ℕ) → Run
 rest_of m r n = run (lays m r.words) r.thread n
 
-joined_more : (m : List ℕ) (r s whole : Run) (o : Outcome) → Apart s.words → Apart whole.words → IsJoined m r s whole → IsJoined m r (followed s o) (followed whole o)
+joined_more : (m : List ℕ) (r s whole : Run) (o : InstructionOutcome) → Apart s.words → Apart whole.words → IsJoined m r s whole → IsJoined m r (followed s o) (followed whole o)
 joined_more m r s whole (Serial kind) a b j = j
 joined_more m r s whole (Next u load store) a b j =
     record {

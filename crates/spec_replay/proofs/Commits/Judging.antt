@@ -9,7 +9,7 @@ use Rattle.spec_log.specs.Size.{size_in}
 use Rattle.spec_kernel.specs.Interrupts.{takes_interrupt, interrupted}
 use Rattle.spec_play.specs.Effects.{Effect, chunk_effect}
 use Rattle.spec_play.specs.Progress.{Progress, Used, with_interrupt}
-use Rattle.spec_play.specs.Verdicts.{Verdict, Goes, Fails, unless, interrupt_at, with_interrupted, chunk_why, chunk_verdict}
+use Rattle.spec_play.specs.Verdicts.{LogVerdict, Goes, Fails, unless, interrupt_at, with_interrupted, chunk_why, chunk_verdict}
 
 -- ---- verdicts that are alike
 
@@ -22,24 +22,24 @@ pub record AlikeEffects (m n : List ℕ) (e f : Effect) : Type 0 where
   pub commit : e.commit ≡ f.commit
 
 -- the two verdicts go on with effects that are alike on those memories, or fail for one reason
-abbrev pub AreAlike : (m n : List ℕ) → Verdict → Verdict → Type 0
+abbrev pub AreAlike : (m n : List ℕ) → LogVerdict → LogVerdict → Type 0
 AreAlike m n (Goes e u) (Goes f v) = AlikeEffects m n e f × (u ≡ v)
 AreAlike m n (Goes e u) (Fails why) = ⊥
 AreAlike m n (Fails why) (Goes f v) = ⊥
 AreAlike m n (Fails why) (Fails other) = why ≡ other
 
 -- a verdict is alike to itself on one memory
-pub alike_same : (m n : List ℕ) (v : Verdict) → m ≡ n → AreAlike m n v v
+pub alike_same : (m n : List ℕ) (v : LogVerdict) → m ≡ n → AreAlike m n v v
 alike_same m n (Goes e u) h = (record { thread = refl; made = refl; memory = ap (λ (x : List ℕ). lays x e.words) h; request = refl; commit = refl }, refl)
 alike_same m n (Fails why) h = refl
 
 -- ---- with other words
 
-abbrev with_words : List Stored → Verdict → Verdict
+abbrev with_words : List Stored → LogVerdict → LogVerdict
 with_words ws (Goes e u) = Goes (record e { words = ws }) u
 with_words ws (Fails why) = Fails why
 
-alike_words : (m n : List ℕ) (ws xs : List Stored) (v : Verdict) → lays m ws ≡ lays n xs → AreAlike m n (with_words ws v) (with_words xs v)
+alike_words : (m n : List ℕ) (ws xs : List Stored) (v : LogVerdict) → lays m ws ≡ lays n xs → AreAlike m n (with_words ws v) (with_words xs v)
 alike_words m n ws xs (Goes e u) h = (record { thread = refl; made = refl; memory = h; request = refl; commit = refl }, refl)
 alike_words m n ws xs (Fails why) h = refl
 
@@ -52,7 +52,7 @@ interrupted_words : (o : Option ℕ) (ws : List Stored) (e : Effect) (u : Used) 
 interrupted_words None ws e u = refl
 interrupted_words (Some value) ws e u = taken_words (takes_interrupt e.thread) ws e value u
 
-unless_words : (o : Option Why) (ws : List Stored) (v : Verdict) → unless o (with_words ws v) ≡ with_words ws (unless o v)
+unless_words : (o : Option Why) (ws : List Stored) (v : LogVerdict) → unless o (with_words ws v) ≡ with_words ws (unless o v)
 unless_words None ws v = refl
 unless_words (Some why) ws v = refl
 
@@ -67,6 +67,6 @@ chunk_words log p u k r ws =
 -- of two runs that differ in their words alone
 pub chunks-alike : (m n : List ℕ) (log : LogParts) (p : Progress) (u : Used) (k : ℕ) (r s : Run) → record r { words = s.words } ≡ s → lays m r.words ≡ lays n s.words → AreAlike m n (chunk_verdict log p u k r) (chunk_verdict log p u k s)
 chunks-alike m n log p u k r s same h =
-    let v : Verdict = chunk_verdict log p u k r in
+    let v : LogVerdict = chunk_verdict log p u k r in
     rw (chunk_words log p u k r r.words, sym (ap (chunk_verdict log p u k) same) ∙ chunk_words log p u k r s.words)
     (alike_words m n r.words s.words v h)

@@ -13,7 +13,7 @@ use Rattle.spec_kernel.specs.Needs.{next_kind}
 use Rattle.spec_play.specs.Effects.{chunk_effect}
 use Rattle.spec_play.specs.Progress.{Progress, position, Used}
 use Rattle.spec_play.specs.Turns.{Turn}
-use Rattle.spec_play.specs.Verdicts.{Verdict, Fails, unless, ended, chunk_why, chunk_verdict}
+use Rattle.spec_play.specs.Verdicts.{LogVerdict, Fails, unless, ended, chunk_why, chunk_verdict}
 use Rattle.spec_play.specs.Plays.{Played, size_or_standard, thread_verdict, plays}
 use Rattle.spec_engine.specs.declared.answers.How.{How}
 use Rattle.spec_protocol.specs.Spheres.{Cursor, Replay, Sphere, whole_limit, is_in_pieces}
@@ -50,10 +50,10 @@ size_is log k commits = elim (size_in log (Actor.Thread k) commits) as (λ (o : 
 ]
 
 -- the verdicts of the machine and of the play
-abbrev machine_says : Cursor → Progress → ℕ → Run → Verdict
+abbrev machine_says : Cursor → Progress → ℕ → Run → LogVerdict
 machine_says b p k r = chunk_verdict b.log p b.used k (joined b r)
 
-abbrev play_says : LogParts → Played → ℕ → Parts → (size : ℕ) → Verdict
+abbrev play_says : LogParts → Played → ℕ → Parts → (size : ℕ) → LogVerdict
 play_says log y k t size = chunk_verdict log y.progress y.used k (run y.memory t size)
 
 says_same : (log : LogParts) (y : Played) (p : Sphere) (b : Cursor) (k : ℕ) (r : Run) → Beside log y p b → machine_says b p.progress k r ≡ chunk_verdict log y.progress y.used k (joined b r)

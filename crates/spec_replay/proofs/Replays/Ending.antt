@@ -20,7 +20,7 @@ use Rattle.spec_kernel.specs.Serving.{serve}
 use Rattle.spec_play.specs.Effects.{Effect, chunk_effect, serial_effect, dma_commit}
 use Rattle.spec_play.specs.Progress.{Progress, position, with_effect, with_dma, Used, with_interrupt}
 use Rattle.spec_play.specs.Turns.{Now, Turn, TurnOfDma, Over}
-use Rattle.spec_play.specs.Verdicts.{Verdict, Goes, Fails, unless, interrupt_at, with_interrupted, chunk_why, chunk_verdict, serial_why, Given, given, served_verdict, serial_verdict}
+use Rattle.spec_play.specs.Verdicts.{LogVerdict, Goes, Fails, unless, interrupt_at, with_interrupted, chunk_why, chunk_verdict, serial_why, Given, given, served_verdict, serial_verdict}
 use Rattle.spec_play.specs.Transfers.{DmaVerdict, DmaGoes, DmaFails, is_for, transferred, dma_unless, dma_verdict}
 use Rattle.spec_play.specs.Plays.{Played, settled, size_or_standard, thread_verdict, play_thread, dma_settled, play_now, play_one}
 use Rattle.spec_replay.specs.Promises.{is_between}
@@ -36,11 +36,11 @@ abbrev WhyWithin : Option Why → Type 0
 WhyWithin None = Unit {0}
 WhyWithin (Some why) = is_between why ≡ false
 
-abbrev FailsWithin : Verdict → Type 0
+abbrev FailsWithin : LogVerdict → Type 0
 FailsWithin (Goes e u) = Unit {0}
 FailsWithin (Fails why) = is_between why ≡ false
 
-unless_within : (o : Option Why) (v : Verdict) → WhyWithin o → FailsWithin v → FailsWithin (unless o v)
+unless_within : (o : Option Why) (v : LogVerdict) → WhyWithin o → FailsWithin v → FailsWithin (unless o v)
 unless_within None v o f = f
 unless_within (Some why) v o f = o
 
@@ -115,7 +115,7 @@ no_more cs c ds size same = absurd (let h : length cs ≡ length ds = ap (λ (x 
 same_why : (i j : ℕ) (why other : Why) → Over (End.Diverged i why) ≡ Over (End.Diverged j other) → why ≡ other
 same_why i j why other e = cc
 
-within_settled : (log : LogParts) (y : Played) (k : ℕ) (v : Verdict) (why : Why) → FailsWithin v → settled log y k v ≡ ended_by y why → is_between why ≡ true → EndedBefore y why
+within_settled : (log : LogParts) (y : Played) (k : ℕ) (v : LogVerdict) (why : Why) → FailsWithin v → settled log y k v ≡ ended_by y why → is_between why ≡ true → EndedBefore y why
 within_settled log y k (Goes e u) why f same between =
     no_more y.progress.commits e.commit (with_effect k e y.progress).commits (one_more y.progress.commits e.commit) (ap (λ (x : Played). x.progress.commits) (sym same))
 within_settled log y k (Fails other) why f same between =

@@ -11,12 +11,12 @@ use Rattle.spec_kernel.specs.Devices.{Devices}
 use Rattle.spec_kernel.specs.Needs.{next_kind}
 use Rattle.spec_play.specs.Progress.{position}
 use Rattle.spec_play.specs.Turns.{Now, Turn, TurnOfDma}
-use Rattle.spec_play.specs.Verdicts.{Verdict, serial_verdict}
+use Rattle.spec_play.specs.Verdicts.{LogVerdict, serial_verdict}
 use Rattle.spec_play.specs.Transfers.{DmaVerdict, dma_verdict}
 use Rattle.spec_play.specs.Plays.{Played, thread_verdict, plays}
 use Rattle.spec_engine.specs.declared.answers.How.{How}
 use Rattle.spec_protocol.specs.Spheres.{Cursor, Role, Replay, Sphere, is_over, is_stopped, head_in, head_of, is_in_pieces}
-use Rattle.spec_protocol.specs.Commits.{Moved, is_piece, replayed_chunk, by_verdict, chunk_in, chunk_moved, serial_in, serial_moved, dma_by_verdict, dma_in, dma_moved}
+use Rattle.spec_protocol.specs.Commits.{MovedSphere, is_piece, replayed_chunk, by_verdict, chunk_in, chunk_moved, serial_in, serial_moved, dma_by_verdict, dma_in, dma_moved}
 use Rattle.spec_protocol.specs.World.{Numbers, What, OfChunk, OfSerial, OfDma, OfRaise}
 use Rattle.spec_protocol.specs.Asking.{is_short, other_turn}
 use Rattle.spec_protocol.specs.Transferring.{turn_before_dma}
@@ -77,7 +77,7 @@ pub record Stands (log : LogParts) (start : Played) (x : SerialState) (i : ℕ) 
   pub there : slice_get x.spheres i ≡ Some sphere
   pub reaches : Reaches log start sphere
 
-moved_stands : (log : LogParts) (start : Played) (x : SerialState) (i : ℕ) (p : Sphere) (v : Moved) → slice_get x.spheres i ≡ Some p → Reaches log start (laid v) → Stands log start (do_moved x i v) i
+moved_stands : (log : LogParts) (start : Played) (x : SerialState) (i : ℕ) (p : Sphere) (v : MovedSphere) → slice_get x.spheres i ≡ Some p → Reaches log start (laid v) → Stands log start (do_moved x i v) i
 moved_stands log start x i p v is r = record { sphere = laid v; there = get-set_same x.spheres i (laid v) p is; reaches = r }
 
 chunk_stands : (log : LogParts) (start : Played) (z : Numbers) (x : SerialState) (i : ℕ) (p : Sphere) (k : ℕ) (how : How) (n limit : ℕ) (o : Option Parts) → 0 < log.s → slice_get x.spheres i ≡ Some p → Reaches log start p
@@ -89,7 +89,7 @@ chunk_stands log start z x i p k how n limit (Some u) s is f there fits =
     let b : Cursor = f.cursor in
     let turn : b.now ≡ Turn k = turn_of_thread p b k f.role fits.going fits.turn in
     let g : Going log y p b (Turn k) = going_at log y p (Turn k) s f (not_over p.role b f.role fits.going) turn in
-    subst (λ (v : Moved). Stands log start (do_moved x i v) i)
+    subst (λ (v : MovedSphere). Stands log start (do_moved x i v) i)
     (sym (ap (λ (r : Role). chunk_in r k (is_piece how) (is_short z.chunk how limit) (run p.memory u n) x.devices p) f.role))
     (moved_stands log start x i p (replayed_chunk (is_piece how) b k (run p.memory u n) x.devices p) is
     (chunk-reaches log start y z p b k g.state.0 u how n limit x.devices refl g.beside g.same g.turn g.state.1 there fits))
@@ -118,8 +118,8 @@ serial_reaches log start y p b k u devices at_ g there f =
     let none : b.total ≡ 0 = serial_now b p.role g.beside.role f.whole in
     let same = unmoved log y k t p b m none in
     let tu : t ≡ u = (let h : Some t ≡ Some u = sym m.is ∙ ap (λ (ts : List Parts). slice_get ts k) (sym same.1) ∙ there in cc) in
-    let v : Verdict = serial_verdict b.log p.progress b.used k p.threads u p.memory in
-    let w : Verdict = serial_verdict log y.progress y.used k y.threads t y.memory in
+    let v : LogVerdict = serial_verdict b.log p.progress b.used k p.threads u p.memory in
+    let w : LogVerdict = serial_verdict log y.progress y.used k y.threads t y.memory in
     let vw : v ≡ w = (λ i. serial_verdict (g.beside.same_log i) (g.beside.progress i) (g.beside.used i) k (same.1 i) (sym tu i) (same.0 i)) in
     let serial : IsSome (next_kind t y.memory) = subst IsSome (λ i. next_kind (sym tu i) (same.0 i)) f.serial in
     commit-reaches log start y p b k t (run y.memory t b.total).thread v w devices at_ g.beside g.state
@@ -140,7 +140,7 @@ serial_stands log start x i moment p k (Some u) s is f there fits =
     let b : Cursor = f.cursor in
     let turn : b.now ≡ Turn k = turn_of_thread p b k f.role fits.going fits.turn in
     let g : Going log y p b (Turn k) = going_at log y p (Turn k) s f (not_over p.role b f.role fits.going) turn in
-    subst (λ (v : Moved). Stands log start (do_moved x i v) i)
+    subst (λ (v : MovedSphere). Stands log start (do_moved x i v) i)
     (sym (ap (λ (r : Role). serial_in r k moment u x.devices p) f.role))
     (moved_stands log start x i p (serial_in (Replay b) k moment u x.devices p) is (serial_reaches log start y p b k u x.devices refl g there fits))
 
@@ -154,7 +154,7 @@ dma_stands log start x i p s is f fits =
     let turn : b.now ≡ TurnOfDma = turn_of_dma p b f.role fits.going fits.turn in
     let g : Going log y p b TurnOfDma = going_at log y p TurnOfDma s f (not_over p.role b f.role fits.going) turn in
     let v : DmaVerdict = dma_verdict b.log p.progress b.used in
-    subst (λ (o : Option Moved). Stands log start (do_dma x i o) i)
+    subst (λ (o : Option MovedSphere). Stands log start (do_dma x i o) i)
     (sym (ap (λ (r : Role). dma_in r x.devices p) f.role))
     (moved_stands log start x i p (dma_by_verdict b v x.devices p) is
     (transfer-reaches log start y p b v x.devices refl g.beside g.turn g.state (λ j. dma_verdict (sym g.beside.same_log j) (sym g.beside.progress j) (sym g.beside.used j))))

@@ -2,12 +2,12 @@ use Rattle.std.proofs.Common.{◌≡◌, ◌∙◌, ◌+◌, ◌^◌, arith, rul
 use Rattle.std.specs.List.{position}
 use Rattle.std.specs.Option.{option_map}
 use Rattle.std.proofs.lemmas.List.{length_push, take_all}
-use Rattle.dl_asm.specs.Numbers.{held}
+use Rattle.dl_asm.specs.Numbers.{capped}
 use Rattle.dl_asm.specs.Lines.{count_of, count_said}
 use Rattle.dl_asm.specs.Labels.{entry_after, entry_at}
 use Rattle.dl_asm.specs.Sources.{lines_of, place_of, has_label}
 use Rattle.dl_asm.proofs.Texts.Lines.{line-turn, line-end}
-use Rattle.dl_asm.proofs.Words.Labels.{entry-more, place-more, held-more}
+use Rattle.dl_asm.proofs.Words.Labels.{entry-more, place-more, capped-more}
 use Rattle.dl_asm.proofs.labels.labels_of.Goals as goal
 
 pub loop-line-preserved : goal.loop-line-preserved
@@ -19,9 +19,9 @@ loop-line-preserved c =
     let line = c.in-Some.line.now in
     let before = c.loop-line.invariant in
     let counted : c.from.result ≡ count_of line = c.from.ensures ∙ c.count.ensures.value ∙ ap count_said c.read_line.ensures in
-    let words : c.min.result ≡ held (place_of lines (i + 1)) =
-    c.min.ensures ∙ ap₂ (λ w n. min (w + n) (2 ^ 33)) (ap (λ place. place.words) before.here) counted ∙ held-more (place_of lines i) (count_of line)
-    ∙ ap held (sym (place-more lines line i turn.0 turn.1)) in
+    let words : c.min.result ≡ capped (place_of lines (i + 1)) =
+    c.min.ensures ∙ ap₂ (λ w n. min (w + n) (2 ^ 33)) (ap (λ place. place.words) before.here) counted ∙ capped-more (place_of lines i) (count_of line)
+    ∙ ap capped (sym (place-more lines line i turn.0 turn.1)) in
     rw length_push (record {
       within = omega (arith, turn.0);
       here = ap₂ (λ l w. record { line = l; words = w }) (ap (λ place. place.line + 1) before.here) words;

@@ -17,7 +17,7 @@ returns-in-Err-Failed-clause-stop g c =
         write_at c.args.writes.now c.loop-i.i c.index-writes-i.result within c.index-writes-i.is,
         subst (IsLast (g.F.Files.last_fault c.write_content.new.files)) c.as_str.ensures.value (c.in-Err-Failed.ensures.last is),
         λ m e.
-            same_but_at _ _ _ _ _ c.as_str.ensures.value (c.loop-i.invariant.told m e) (c.in-Err-Failed.ensures.others is),
+            same_but_at _ _ _ _ _ c.as_str.ensures.value (c.loop-i.invariant.known m e) (c.in-Err-Failed.ensures.others is),
       ),
     )
 
@@ -25,10 +25,10 @@ pub loop-i-preserved : goal.loop-i-preserved
 loop-i-preserved g c =
     let within : c.loop-i.i < length c.args.writes.now = omega arith in
     record {
-      told =
+      known =
           λ m e.
           c.in-Ok.ensures.written
-          ∙ with_file_same c.as_str.ensures.value refl (c.loop-i.invariant.told m e)
+          ∙ with_file_same c.as_str.ensures.value refl (c.loop-i.invariant.known m e)
           ∙ ap Some (sym (written_more c.args.writes.now c.loop-i.i c.index-writes-i.result m within c.index-writes-i.is));
       steady = c.in-Ok.ensures.ok_steady ∙ c.loop-i.invariant.steady;
     }
@@ -40,5 +40,5 @@ returns-in-Err-OutOfMemory-clause-stop g c =
       c.in-Err-OutOfMemory.ensures.memory_steady is ∙ c.loop-i.invariant.steady,
       λ m e.
           cut_short c.args.writes.now c.loop-i.i c.index-writes-i.result m _ _ _ within c.index-writes-i.is c.as_str.ensures.value
-          (c.loop-i.invariant.told m e) (c.in-Err-OutOfMemory.ensures.memory is),
+          (c.loop-i.invariant.known m e) (c.in-Err-OutOfMemory.ensures.memory is),
     )

@@ -6,6 +6,6 @@ use Rattle.dl_commands.proofs.written.write_all.Given as goal
 
 abbrev pub invariant-loop-i : goal.invariant-loop-i
 invariant-loop-i g l = record {
-  told : (m : Contents) → g.F.Files.told l.fn.files ≡ Some m → g.F.Files.told l.files ≡ Some (after_writes (take l.i (writes_of l.writes)) m);
+  known : (m : Contents) → g.F.Files.known l.fn.files ≡ Some m → g.F.Files.known l.files ≡ Some (after_writes (take l.i (writes_of l.writes)) m);
   steady : g.F.Files.count l.files ≡ g.F.Files.count l.fn.files;
 }

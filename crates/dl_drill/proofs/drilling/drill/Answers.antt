@@ -5,7 +5,7 @@ use Rattle.spec_protocol.specs.declared.event.Event.{Event}
 use Rattle.spec_log.specs.declared.ModeName.{ModeName}
 use Rattle.spec_protocol.specs.Machine.{Setup}
 use Rattle.spec_protocol.specs.Sound.{image_at}
-use Rattle.spec_run.specs.Texts.{log_told, summary_text}
+use Rattle.spec_run.specs.Texts.{log_of_points, summary_text}
 use Rattle.spec_program.specs.Drills.{drill_text, recording_events}
 use Rattle.spec_program.specs.Lines.{line}
 use Rattle.dl_drill.proofs.drilling.drill.Goals as goal
@@ -17,7 +17,7 @@ pub replay-requires : goal.replay-requires
 replay-requires c =
     let es = recording_events c.args.number in
     c.in_ok-log.ensures es ModeName.OrderOnly c.in_ok-recorded.ensures.over (ap (λ (s : Setup). (image_at s 0).role) c.in_ok-recorded.ensures.setup)
-    ∙ ap (λ (s : Setup). log_told s es 0 ModeName.OrderOnly) c.in_ok-recorded.ensures.setup
+    ∙ ap (λ (s : Setup). log_of_points s es 0 ModeName.OrderOnly) c.in_ok-recorded.ensures.setup
 
 pub returns : goal.returns
 returns c =

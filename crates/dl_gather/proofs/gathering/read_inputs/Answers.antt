@@ -13,12 +13,12 @@ use Rattle.dl_gather.proofs.gathering.read_inputs.Goals as goal
 pub returns-in-Err-clause-halt : goal.returns-in-Err-clause-halt
 returns-in-Err-clause-halt g c =
     let p = plan_view c.args.plan.now in
-    let told = g.F.Files.told c.args.files.now in
+    let known = g.F.Files.known c.args.files.now in
     let old = g.F.Files.count c.args.files.now in
     let new = g.F.Files.count c.read_schedule.new.files in
     let last = g.F.Files.last_fault c.read_schedule.new.files in
-    unread_by_parts told p (λ m. plan_read m p) old new last c.in-Err.halt
-    (unread_in told told (read_for_schedule p.schedule) (named_by_parts p) (λ m. schedule_read m p.schedule) (λ m. plan_read m p) old old new last c.in-Err.halt refl refl
+    unread_by_parts known p (λ m. plan_read m p) old new last c.in-Err.halt
+    (unread_in known known (read_for_schedule p.schedule) (named_by_parts p) (λ m. schedule_read m p.schedule) (λ m. plan_read m p) old old new last c.in-Err.halt refl refl
     (record {
       absent = λ m e name x. err_then (schedule_read m p.schedule) _ name x;
       next = λ m e name n. next_before m (read_for_schedule p.schedule) (option_to_list p.input ++ flat_map read_for_sphere p.spheres) name n;
@@ -28,14 +28,14 @@ returns-in-Err-clause-halt g c =
 pub returns-in-Err-read_input-clause-halt : goal.returns-in-Err-read_input-clause-halt
 returns-in-Err-read_input-clause-halt g c =
     let p = plan_view c.args.plan.now in
-    let told = g.F.Files.told c.args.files.now in
-    let seen = g.F.Files.told c.read_schedule.new.files in
+    let known = g.F.Files.known c.args.files.now in
+    let seen = g.F.Files.known c.read_schedule.new.files in
     let old = g.F.Files.count c.read_schedule.new.files in
     let new = g.F.Files.count c.read_input.new.files in
     let last = g.F.Files.last_fault c.read_input.new.files in
     let schedule = schedule_view c.in-Ok.schedule in
-    unread_by_parts told p (λ m. plan_read m p) (g.F.Files.count c.args.files.now) new last c.in-Err-read_input.halt
-    (unread_in told seen (option_to_list p.input) (named_by_parts p) (λ m. input_read m p.input) (λ m. plan_read m p) (g.F.Files.count c.args.files.now) old new last c.in-Err-read_input.halt
+    unread_by_parts known p (λ m. plan_read m p) (g.F.Files.count c.args.files.now) new last c.in-Err-read_input.halt
+    (unread_in known seen (option_to_list p.input) (named_by_parts p) (λ m. input_read m p.input) (λ m. plan_read m p) (g.F.Files.count c.args.files.now) old new last c.in-Err-read_input.halt
     c.in-Ok.ensures.kept c.in-Ok.ensures.steady
     (record {
       absent = λ m e name x. ok_then (schedule_read m p.schedule) _ schedule (c.in-Ok.ensures.read m e) ∙ err_then (input_read m p.input) _ name x;
@@ -49,15 +49,15 @@ returns-in-Err-read_input-clause-halt g c =
 pub returns-in-Err-read_spheres-clause-halt : goal.returns-in-Err-read_spheres-clause-halt
 returns-in-Err-read_spheres-clause-halt g c =
     let p = plan_view c.args.plan.now in
-    let told = g.F.Files.told c.args.files.now in
-    let seen = g.F.Files.told c.read_input.new.files in
+    let known = g.F.Files.known c.args.files.now in
+    let seen = g.F.Files.known c.read_input.new.files in
     let old = g.F.Files.count c.read_input.new.files in
     let new = g.F.Files.count c.read_spheres.new.files in
     let last = g.F.Files.last_fault c.read_spheres.new.files in
     let schedule = schedule_view c.in-Ok.schedule in
     let bytes = c.in-Ok-read_input.input.items in
-    unread_by_parts told p (λ m. plan_read m p) (g.F.Files.count c.args.files.now) new last c.in-Err-read_spheres.halt
-    (unread_in told seen (flat_map read_for_sphere p.spheres) (named_by_parts p) (λ m. spheres_read m p.spheres) (λ m. plan_read m p) (g.F.Files.count c.args.files.now) old new last c.in-Err-read_spheres.halt
+    unread_by_parts known p (λ m. plan_read m p) (g.F.Files.count c.args.files.now) new last c.in-Err-read_spheres.halt
+    (unread_in known seen (flat_map read_for_sphere p.spheres) (named_by_parts p) (λ m. spheres_read m p.spheres) (λ m. plan_read m p) (g.F.Files.count c.args.files.now) old new last c.in-Err-read_spheres.halt
     (c.in-Ok-read_input.ensures.kept ∙ c.in-Ok.ensures.kept) (c.in-Ok-read_input.ensures.steady ∙ c.in-Ok.ensures.steady)
     (record {
       absent =

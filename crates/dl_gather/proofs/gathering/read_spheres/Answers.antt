@@ -15,8 +15,8 @@ use Rattle.dl_gather.proofs.gathering.read_spheres.Goals as goal
 
 pub returns-in-Err-clause-halt : goal.returns-in-Err-clause-halt
 returns-in-Err-clause-halt g c =
-    let told = g.F.Files.told c.args.files.now in
-    let seen = g.F.Files.told c.loop-sphere.files in
+    let known = g.F.Files.known c.args.files.now in
+    let seen = g.F.Files.known c.loop-sphere.files in
     let inv = c.loop-sphere.invariant in
     let ss = c.args.spheres.now in
     let i = c.loop-sphere.sphere-index in
@@ -25,8 +25,8 @@ returns-in-Err-clause-halt g c =
     let old = g.F.Files.count c.loop-sphere.files in
     let new = g.F.Files.count c.read_sphere.new.files in
     let last = g.F.Files.last_fault c.read_sphere.new.files in
-    unread_in told seen (read_for_sphere here) (flat_map read_for_sphere (map sphere_view ss)) (λ m. sphere_read m here) (λ m. spheres_read m (map sphere_view ss)) (g.F.Files.count c.args.files.now) old new last c.in-Err.halt
-    inv.kept inv.steady (sphere_part told ss i d c.loop-sphere.read.items c.loop-sphere-test.true inv.read inv.turns)
+    unread_in known seen (read_for_sphere here) (flat_map read_for_sphere (map sphere_view ss)) (λ m. sphere_read m here) (λ m. spheres_read m (map sphere_view ss)) (g.F.Files.count c.args.files.now) old new last c.in-Err.halt
+    inv.kept inv.steady (sphere_part known ss i d c.loop-sphere.read.items c.loop-sphere-test.true inv.read inv.turns)
     (subst (λ (s : Sphere). Unread seen (read_for_sphere (sphere_view s)) (λ m. sphere_read m (sphere_view s)) old new last c.in-Err.halt) c.sphere-item.is c.in-Err.ensures.halt)
 
 pub loop-sphere-preserved : goal.loop-sphere-preserved
@@ -37,8 +37,8 @@ loop-sphere-preserved g c =
     let d = c.sphere-item.result in
     let done = c.loop-sphere.read.items in
     let x = c.in-Ok.sphere in
-    let told = g.F.Files.told c.args.files.now in
-    let made : (m : Contents) → told ≡ Some m → sphere_read m (sphere_view (get_or ss i d)) ≡ Ok (sphere_inputs x) =
+    let known = g.F.Files.known c.args.files.now in
+    let made : (m : Contents) → known ≡ Some m → sphere_read m (sphere_view (get_or ss i d)) ≡ Ok (sphere_inputs x) =
     λ m e. ap (λ (s : Sphere). sphere_read m (sphere_view s)) (sym c.sphere-item.is) ∙ c.in-Ok.ensures.read m (inv.kept ∙ e)
     in
     let pushed : c.push.new.self.items ≡ done ++ x ∷ [] = c.in-Ok-push.ensures.items in

@@ -6,7 +6,7 @@ use Rattle.dl_gather.proofs.reading.read_file.Goals as goal
 pub returns-in-Err-clause-halt : goal.returns-in-Err-clause-halt
 returns-in-Err-clause-halt g c =
     let name = c.args.name.now in
-    unread_file (g.F.Files.told c.args.files.now) name (λ m. read_at m name) _ _ _ c.in-Err.error c.unread.result (λ m. no_bytes m name)
+    unread_file (g.F.Files.known c.args.files.now) name (λ m. read_at m name) _ _ _ c.in-Err.error c.unread.result (λ m. no_bytes m name)
     (record {
       absent = λ is. c.in-Err.ensures.absent (ap Err is);
       there = c.in-Err.ensures.there;

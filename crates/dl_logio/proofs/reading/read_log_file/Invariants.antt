@@ -6,8 +6,8 @@ use Rattle.dl_logio.proofs.reading.read_log_file.Given as goal
 -- the reader was fed the first bytes of the file, up to the offset, and no call has failed
 abbrev pub invariant-loop-reader : goal.invariant-loop-reader
 invariant-loop-reader g l = record {
-  fed : (bytes : List ℕ) × HasFed bytes l.reader × (length bytes ≡ l.offset) × (length bytes < 2 ^ 64) × IsFront (g.F.Files.told l.fn.files) l.name bytes;
-  told : g.F.Files.told l.files ≡ g.F.Files.told l.fn.files;
+  fed : (bytes : List ℕ) × HasFed bytes l.reader × (length bytes ≡ l.offset) × (length bytes < 2 ^ 64) × IsFront (g.F.Files.known l.fn.files) l.name bytes;
+  known : g.F.Files.known l.files ≡ g.F.Files.known l.fn.files;
   steady : g.F.Files.count l.files ≡ g.F.Files.count l.fn.files;
 }
 

@@ -13,7 +13,7 @@ loop-writer-init g c = record {
 pub returns-then-n-eq0-clause-written : goal.returns-then-n-eq0-clause-written
 returns-then-n-eq0-clause-written g c =
     let done = c.loop-writer.invariant.done in
-    let old = g.F.Files.told c.args.files.now in
+    let old = g.F.Files.known c.args.files.now in
     let all : done.0 ≡ log_bytes c.args.log.now = all_given c.next-n.result done.0 c.loop-writer.writer c.loop-writer.piece _ c.next-n.ensures.count c.if-n-eq0.true (omega arith) done.1 in
     done.2 ∙ ap (λ (b : List ℕ). with_file c.args.name.now b old) all
 
@@ -26,7 +26,7 @@ loop-writer-preserved g c =
       done = (
         done.0 ++ piece,
         pieces_join c.next-n.result done.0 c.loop-writer.writer c.loop-writer.piece c.next-n.new.into c.next-n.new.self _ c.next-n.ensures.count c.next-n.ensures.bytes c.next-n.ensures.left done.1,
-        c.in-Ok.ensures.appended ∙ ap (with_more name piece) done.2 ∙ appended (g.F.Files.told c.args.files.now) name done.0 piece,
+        c.in-Ok.ensures.appended ∙ ap (with_more name piece) done.2 ∙ appended (g.F.Files.known c.args.files.now) name done.0 piece,
       );
       steady = c.in-Ok.ensures.ok_steady ∙ c.loop-writer.invariant.steady;
     }
@@ -34,7 +34,7 @@ loop-writer-preserved g c =
 pub returns-in-Err-clause-memory : goal.returns-in-Err-clause-memory
 returns-in-Err-clause-memory g c is =
     let done = c.loop-writer.invariant.done in
-    let old = g.F.Files.told c.args.files.now in
+    let old = g.F.Files.known c.args.files.now in
     let name = c.args.name.now in
     inr (length done.0, c.in-Err.ensures.memory is ∙ done.2 ∙ ap (λ (b : List ℕ). with_file name b old) (front_of_whole done.0 c.loop-writer.writer _ done.1))
 
@@ -42,4 +42,4 @@ pub returns-in-Err-clause-others : goal.returns-in-Err-clause-others
 returns-in-Err-clause-others g c is =
     let done = c.loop-writer.invariant.done in
     let name = c.args.name.now in
-    others_kept (g.F.Files.told c.args.files.now) _ name done.0 (subst (λ t. SameBut name t (g.F.Files.told c.append.new.self)) done.2 (c.in-Err.ensures.others is))
+    others_kept (g.F.Files.known c.args.files.now) _ name done.0 (subst (λ t. SameBut name t (g.F.Files.known c.append.new.self)) done.2 (c.in-Err.ensures.others is))

@@ -6,7 +6,7 @@ use Rattle.dl_logio.proofs.writing.write_log_file.Given as goal
 -- the file holds the first of the log's bytes, the others are left, and no call has failed
 abbrev pub invariant-loop-writer : goal.invariant-loop-writer
 invariant-loop-writer g l = record {
-  done : (bytes : List ℕ) × (bytes ++ l.writer ≡ log_bytes l.fn.log) × (g.F.Files.told l.files ≡ with_file l.name bytes (g.F.Files.told l.fn.files));
+  done : (bytes : List ℕ) × (bytes ++ l.writer ≡ log_bytes l.fn.log) × (g.F.Files.known l.files ≡ with_file l.name bytes (g.F.Files.known l.fn.files));
   steady : g.F.Files.count l.files ≡ g.F.Files.count l.fn.files;
 }
 

@@ -2,7 +2,7 @@
 use Rattle.std.proofs.Common.{◌<◌, ◌≤◌, ℕ, Option, slice_get, ap, sym, subst, ◌∙◌}
 use Rattle.std.proofs.lemmas.Option.{slice_get-get_or, slice_get_past}
 use Rattle.spec_protocol.specs.Spheres.{Sphere, no_sphere}
-use Rattle.dl_sphere.specs.Standing.{Standing}
+use Rattle.dl_sphere.specs.SizedSpheres.{SizedSphere}
 use Rattle.dl_machine.specs.Cores.{Core, afresh, holding, idle}
 use Rattle.dl_machine.specs.Setups.{first_held, numbers_with}
 use Rattle.dl_machine.proofs.cores.first.Goals as goal
@@ -19,7 +19,7 @@ returns g c =
       | then-core-len w ↦
           w.made-is ∙ w.begin.ensures
           ∙ ap (λ (e : Core). holding (afresh e w.get.result.now c.args.core 0) e) c.in_ok-made.ensures
-          ∙ ap (λ (p : Standing). holding (afresh rest p c.args.core 0) rest) w.get.ensures
+          ∙ ap (λ (p : SizedSphere). holding (afresh rest p c.args.core 0) rest) w.get.ensures
           ∙ ap from (sym (slice_get-get_or r.spheres c.args.core no_sphere (subst (λ (n : ℕ). c.args.core < n) c.len.ensures.value w.if-core-len.true)))
       | else-core-len w ↦
           w.made-is ∙ c.in_ok-made.ensures

@@ -3,11 +3,11 @@ use Rattle.dl_entry.specs.declared.actor.Actor.{Actor}
 use Rattle.dl_entry.specs.declared.end.Why.{Why}
 use Rattle.spec_isa.specs.declared.thread.Parts.{Parts}
 use Rattle.spec_log.specs.Size.{size_in}
-use Rattle.spec_kernel.specs.Serving.{Served}
+use Rattle.spec_kernel.specs.Serving.{StepResult}
 use Rattle.spec_play.specs.Effects.{serial_effect}
 use Rattle.spec_play.specs.Verdicts.{Given, serial_why}
 use Rattle.spec_protocol.proofs.Moves.Threads.{AreNew, KeepsCommits, serve-keeps}
-use Rattle.dl_kernel.specs.Served.{served_in}
+use Rattle.dl_kernel.specs.StepResults.{result_in}
 use Rattle.dl_replay.specs.Seen.{used_seen}
 use Rattle.dl_replay.specs.Judging.{given_by}
 use Rattle.dl_replay.proofs.Verdicts.{serial-is, refused-is, step-is}
@@ -28,8 +28,8 @@ returns-in_default-given-clause-verdict g c p q =
     sym (serial-is c.args.log.now p (used_seen c.args.used) s.number s.threads.now s.thread s.memory.now none missing why
     (sym (ap (option_map given_by) c.in_default-given.is) ∙ c.given.ensures.value))
 
-abbrev same : {left v : Served} (t : Parts) → left ≡ v → KeepsCommits t v.thread v.made → left.thread.commits ≡ t.commits
-same t e keeps = ap (λ (v : Served). v.thread.commits) e ∙ keeps.commits
+abbrev same : {left v : StepResult} (t : Parts) → left ≡ v → KeepsCommits t v.thread v.made → left.thread.commits ≡ t.commits
+same t e keeps = ap (λ (v : StepResult). v.thread.commits) e ∙ keeps.commits
 
 pub counted-requires : goal.counted-requires
 counted-requires g c =
@@ -42,7 +42,7 @@ returns-in-Ok-clause-verdict g c p q =
     let s = c.args.step.now in
     let none : Option Why = None in
     let why : none ≡ serial_why (size_in c.args.log.now (Actor.Thread s.number) s.thread.commits) = cc in
-    let left = served_in c.in_ok-left.left in
+    let left = result_in c.in_ok-left.left in
     step-is c.args.log.now p (used_seen c.args.used) s.number s.threads.now s.thread s.memory.now s.request (given_by c.in-Some-given.given) left _ q why
     (c.in-Some-given.ensures.value) c.in_ok-left.ensures.served
     (c.in-Ok.ensures.verdict (serial_effect s.number left) (sym c.counted.ensures))
@@ -57,14 +57,14 @@ pub returns-in-Ok-clause-made : goal.returns-in-Ok-clause-made
 returns-in-Ok-clause-made g c =
     let s = c.args.step.now in
     let keeps = serve-keeps s.number s.threads.now s.request s.thread s.memory.now (option_copied c.in-Some-given.given.input) in
-    subst (λ (ts : List Parts). AreNew ts) (sym (ap (λ (v : Served). v.made) c.in_ok-left.ensures.served)) keeps.fresh
+    subst (λ (ts : List Parts). AreNew ts) (sym (ap (λ (v : StepResult). v.made) c.in_ok-left.ensures.served)) keeps.fresh
 
 pub returns-in-Err-clause-verdict : goal.returns-in-Err-clause-verdict
 returns-in-Err-clause-verdict g c p q =
     let s = c.args.step.now in
     let none : Option Why = None in
     let why : none ≡ serial_why (size_in c.args.log.now (Actor.Thread s.number) s.thread.commits) = cc in
-    let left = served_in c.in_ok-left.left in
+    let left = result_in c.in_ok-left.left in
     step-is c.args.log.now p (used_seen c.args.used) s.number s.threads.now s.thread s.memory.now s.request (given_by c.in-Some-given.given) left _ q why
     (c.in-Some-given.ensures.value) c.in_ok-left.ensures.served
     (c.in-Err.ensures.verdict (serial_effect s.number left) (sym c.counted.ensures))

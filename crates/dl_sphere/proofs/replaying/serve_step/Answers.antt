@@ -1,7 +1,7 @@
 use Rattle.std.proofs.Common.{◌≡◌, ◌∷◌, ◌++◌, [], List, None, ap, ◌∙◌}
 use Rattle.dl_entry.specs.declared.Commit.{Commit}
 use Rattle.spec_play.specs.Verdicts.{serial_verdict}
-use Rattle.dl_sphere.specs.Judging.{Judged}
+use Rattle.dl_sphere.specs.Judging.{JudgedSphere}
 use Rattle.dl_sphere.proofs.Replays.Judging.{serial_commits, step_went}
 use Rattle.dl_sphere.proofs.replaying.serve_step.Goals as goal
 
@@ -19,7 +19,7 @@ returns-in-Ok-clause-judged c p t a q is =
     let commits : c.push_reserved.new.self.items ≡ cs ++ c.serial_commit.result ∷ [] =
     c.push_reserved.ensures.items ∙ ap (λ (xs : List Commit). xs ++ c.serial_commit.result ∷ []) c.in_ok-reserve.ensures.items
     in
-    let made : List Commit → Judged =
+    let made : List Commit → JudgedSphere =
     λ xs. record {
       why = None;
       replay = c.serve_step.new.self;

@@ -4,9 +4,9 @@ use Rattle.dl_entry.specs.declared.Commit.{Commit}
 use Rattle.spec_kernel.specs.Devices.{Devices}
 use Rattle.spec_kernel.specs.Needs.{need}
 use Rattle.spec_kernel.specs.Answers.{taken}
-use Rattle.spec_kernel.specs.Serving.{Served, serve, console_told}
+use Rattle.spec_kernel.specs.Serving.{StepResult, serve, console_written}
 use Rattle.spec_log.specs.Log.{IsInput}
-use Rattle.dl_kernel.specs.Served.{served_in}
+use Rattle.dl_kernel.specs.StepResults.{result_in}
 use Rattle.dl_kernel.specs.Outside.{devices_left}
 use Rattle.dl_sphere.proofs.Live.Devices.{record_taken, devices_taken, input_taken, if_copied, few_bytes}
 use Rattle.dl_sphere.proofs.stepping.live_step.Goals as goal
@@ -36,10 +36,10 @@ returns-clause-devices c =
     let n = need s.thread s.memory.now in
     let g = taken n d c.args.moment in
     let is = c.as_ref.ensures.value ∙ c.in_ok-input.ensures.left ∙ record_taken c.args.moment d n in
-    let served : served_in c.in_ok-served.served ≡ serve s.number s.threads.now s.request s.thread s.memory.now g.input =
+    let served : result_in c.in_ok-served.served ≡ serve s.number s.threads.now s.request s.thread s.memory.now g.input =
     c.in_ok-served.ensures.served ∙ ap (λ o. serve s.number s.threads.now s.request s.thread s.memory.now o) is
     in
     c.in_ok-outside_take.ensures.devices c.args.moment
-    ∙ ap (λ (x : Commit). console_told s.thread s.memory.now x.outputs (devices_left c.args.moment d n)) c.serial_commit-commit.ensures
-    ∙ ap (λ (v : Served). console_told s.thread s.memory.now v.outputs (devices_left c.args.moment d n)) served
-    ∙ ap (λ (e : Devices). console_told s.thread s.memory.now (serve s.number s.threads.now s.request s.thread s.memory.now g.input).outputs e) (devices_taken c.args.moment d n)
+    ∙ ap (λ (x : Commit). console_written s.thread s.memory.now x.outputs (devices_left c.args.moment d n)) c.serial_commit-commit.ensures
+    ∙ ap (λ (v : StepResult). console_written s.thread s.memory.now v.outputs (devices_left c.args.moment d n)) served
+    ∙ ap (λ (e : Devices). console_written s.thread s.memory.now (serve s.number s.threads.now s.request s.thread s.memory.now g.input).outputs e) (devices_taken c.args.moment d n)

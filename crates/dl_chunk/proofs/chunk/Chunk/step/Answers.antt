@@ -3,7 +3,7 @@ use Rattle.dl_thread.specs.declared.answer.Did.{Did}
 use Rattle.spec_engine.specs.declared.answers.How.{How}
 use Rattle.spec_engine.specs.declared.answers.Stepped.{Stepped}
 use Rattle.spec_engine.specs.Chunks.{Stepping, at_limit, closes}
-use Rattle.dl_chunk.specs.Engines.{Terms, Progress, chunk_of, with_ran}
+use Rattle.dl_chunk.specs.Engines.{Terms, Executed, chunk_of, with_ran}
 use Rattle.dl_chunk.proofs.Stepping.{step_next, step_serial, step_full, step_bounced, reply_is, engine_is}
 use Rattle.dl_chunk.proofs.chunk.Chunk.step.Goals as goal
 
@@ -14,7 +14,7 @@ returns-in-Next-clause-reply g c =
     let slots = c.args.flights.now.slots in
     let core = c.args.core in
     let t : Terms = record { start = x.start; limit = x.limit; halves = x.halves; squashes = x.squashes } in
-    let p : Progress = record { thread = x.state; loads = x.loads.items; n = x.n; closed = x.closed } in
+    let p : Executed = record { thread = x.state; loads = x.loads.items; n = x.n; closed = x.closed } in
     let n = x.store in
     let thread = c.run_one.new.state in
     let after = c.run_one.new.store in
@@ -31,7 +31,7 @@ returns-in-Next-clause-chunk g c =
     let slots = c.args.flights.now.slots in
     let core = c.args.core in
     let t : Terms = record { start = x.start; limit = x.limit; halves = x.halves; squashes = x.squashes } in
-    let p : Progress = record { thread = x.state; loads = x.loads.items; n = x.n; closed = x.closed } in
+    let p : Executed = record { thread = x.state; loads = x.loads.items; n = x.n; closed = x.closed } in
     let n = x.store in
     let thread = c.run_one.new.state in
     let after = c.run_one.new.store in
@@ -48,7 +48,7 @@ returns-in-Serial-clause-reply g c =
     let slots = c.args.flights.now.slots in
     let core = c.args.core in
     let t : Terms = record { start = x.start; limit = x.limit; halves = x.halves; squashes = x.squashes } in
-    let p : Progress = record { thread = x.state; loads = x.loads.items; n = x.n; closed = x.closed } in
+    let p : Executed = record { thread = x.state; loads = x.loads.items; n = x.n; closed = x.closed } in
     let n = x.store in
     let thread = c.run_one.new.state in
     let after = c.run_one.new.store in
@@ -65,7 +65,7 @@ returns-in-Serial-clause-chunk g c =
     let slots = c.args.flights.now.slots in
     let core = c.args.core in
     let t : Terms = record { start = x.start; limit = x.limit; halves = x.halves; squashes = x.squashes } in
-    let p : Progress = record { thread = x.state; loads = x.loads.items; n = x.n; closed = x.closed } in
+    let p : Executed = record { thread = x.state; loads = x.loads.items; n = x.n; closed = x.closed } in
     let n = x.store in
     let thread = c.run_one.new.state in
     let after = c.run_one.new.store in
@@ -82,7 +82,7 @@ returns-in-NoRoom-clause-reply g c =
     let slots = c.args.flights.now.slots in
     let core = c.args.core in
     let t : Terms = record { start = x.start; limit = x.limit; halves = x.halves; squashes = x.squashes } in
-    let p : Progress = record { thread = x.state; loads = x.loads.items; n = x.n; closed = x.closed } in
+    let p : Executed = record { thread = x.state; loads = x.loads.items; n = x.n; closed = x.closed } in
     let n = x.store in
     let thread = c.run_one.new.state in
     let after = c.run_one.new.store in
@@ -99,7 +99,7 @@ returns-in-NoRoom-clause-chunk g c =
     let slots = c.args.flights.now.slots in
     let core = c.args.core in
     let t : Terms = record { start = x.start; limit = x.limit; halves = x.halves; squashes = x.squashes } in
-    let p : Progress = record { thread = x.state; loads = x.loads.items; n = x.n; closed = x.closed } in
+    let p : Executed = record { thread = x.state; loads = x.loads.items; n = x.n; closed = x.closed } in
     let n = x.store in
     let thread = c.run_one.new.state in
     let after = c.run_one.new.store in
@@ -116,7 +116,7 @@ returns-in-Bounced-clause-reply g c =
     let slots = c.args.flights.now.slots in
     let core = c.args.core in
     let t : Terms = record { start = x.start; limit = x.limit; halves = x.halves; squashes = x.squashes } in
-    let p : Progress = record { thread = x.state; loads = x.loads.items; n = x.n; closed = x.closed } in
+    let p : Executed = record { thread = x.state; loads = x.loads.items; n = x.n; closed = x.closed } in
     let n = x.store in
     let thread = c.run_one.new.state in
     let after = c.run_one.new.store in
@@ -133,7 +133,7 @@ returns-in-Bounced-clause-chunk g c =
     let slots = c.args.flights.now.slots in
     let core = c.args.core in
     let t : Terms = record { start = x.start; limit = x.limit; halves = x.halves; squashes = x.squashes } in
-    let p : Progress = record { thread = x.state; loads = x.loads.items; n = x.n; closed = x.closed } in
+    let p : Executed = record { thread = x.state; loads = x.loads.items; n = x.n; closed = x.closed } in
     let n = x.store in
     let thread = c.run_one.new.state in
     let after = c.run_one.new.store in

@@ -1,5 +1,5 @@
 use Rattle.std.proofs.Common.{◌∙◌}
-use Rattle.dl_input.proofs.HeldLists.{raised_at-at}
+use Rattle.dl_input.proofs.TrackedLists.{raised_at-at}
 use Rattle.dl_input.proofs.interrupts.Interrupts.raised.Goals as goal
 
 pub returns : goal.returns

@@ -1,8 +1,8 @@
 use Rattle.std.proofs.Common.{◌≡◌, true, get_or, [], Some, None, refl, sym, ◌∙◌, arith}
 use Rattle.std.proofs.lemmas.List.{length-set}
 use Rattle.dl_moments.specs.Marks.{value_at, with_mark_if}
-use Rattle.dl_input.specs.Held.{held_from, raised_at}
-use Rattle.dl_input.proofs.HeldLists.{insert-put, raised_at-at, moment-within, count-set}
+use Rattle.dl_input.specs.Tracked.{tracked_from, raised_at}
+use Rattle.dl_input.proofs.TrackedLists.{insert-put, raised_at-at, moment-within, count-set}
 use Rattle.dl_input.proofs.interrupts.Interrupts.take.Goals as goal
 
 pub returns-in-Some-clause-entries : goal.returns-in-Some-clause-entries
@@ -12,14 +12,14 @@ returns-in-Some-clause-entries c =
     let i = c.args.index in
     let raised = c.in-Some.raised in
     let here : value_at i (get_or lanes t []) ≡ Some raised = sym c.at.ensures ∙ c.in-Some.is in
-    let seen : raised_at (held_from 0 lanes) t i ≡ Some raised = sym (raised_at-at lanes t i) ∙ here in
+    let seen : raised_at (tracked_from 0 lanes) t i ≡ Some raised = sym (raised_at-at lanes t i) ∙ here in
     rw (← c.self.view_is, seen, c.set.ensures.lanes, here)
     (insert-put lanes t i (record { value = raised.value; taken = true }) (moment-within lanes t i raised here))
 
 pub returns-in_default-clause-entries : goal.returns-in_default-clause-entries
 returns-in_default-clause-entries c =
     let lanes = c.self.inside.moments.lanes in
-    let none : raised_at (held_from 0 lanes) c.args.thread c.args.index ≡ None =
+    let none : raised_at (tracked_from 0 lanes) c.args.thread c.args.index ≡ None =
     sym (raised_at-at lanes c.args.thread c.args.index) ∙ (sym c.at.ensures ∙ c.in_default.is) in
     rw (← c.self.view_is, none) refl
 

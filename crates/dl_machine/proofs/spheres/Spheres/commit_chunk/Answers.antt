@@ -7,7 +7,7 @@ use Rattle.spec_protocol.specs.Commits.{chunk_moved, is_piece}
 use Rattle.spec_protocol.specs.Sound.{IsSoundRequest}
 use Rattle.spec_protocol.specs.Spheres.{Sphere}
 use Rattle.dl_sphere.specs.declared.moved.Moved.{Moved}
-use Rattle.dl_sphere.specs.Standing.{Standing}
+use Rattle.dl_sphere.specs.SizedSpheres.{SizedSphere}
 use Rattle.dl_sphere.specs.Moving.{CanCommit, came}
 use Rattle.dl_machine.specs.Rows.{nth_sphere}
 use Rattle.dl_machine.proofs.Commits.AsClosed.{how_of, how_is, can_commit_so, if_ok}
@@ -18,7 +18,7 @@ pub commit_chunk-requires : goal.commit_chunk-requires
 commit_chunk-requires g c =
     let within : c.args.i < length c.self.inside.row.items = grind (arith, common_steps) in
     let ch = c.args.chunk.now.chunk in
-    let said : (P : Standing → Type 0) → P (record { standard = c.args.self.now.standard; sphere = nth_sphere c.args.i c.args.self.now }) → P c.index_mut-sphere.result.now =
+    let said : (P : SizedSphere → Type 0) → P (record { standard = c.args.self.now.standard; sphere = nth_sphere c.args.i c.args.self.now }) → P c.index_mut-sphere.result.now =
     λ P. row_says P _ _ _ _ _ c.self.invariant c.self.view_is within c.index_mut-sphere.ensures.value
     in
     λ κs below. (
@@ -39,8 +39,8 @@ pub returns-clause-ok : goal.returns-clause-ok
 returns-clause-ok g c =
     let within : c.args.i < length c.self.inside.row.items = grind (arith, common_steps) in
     let ch = c.args.chunk.now.chunk in
-    let so : Standing → Sphere → How → Moved → Devices → Type 0 = λ o q how m d. came m q d ≡ chunk_moved c.args.thread (is_piece how) (is_short o.standard how ch.limit) ch.done d o.sphere in
-    let P : Standing → Sphere → Type 0 = λ o q. IfOk c.commit_chunk.result (λ m. (d : Devices) → (how : How) → ch.closed ≡ Some how → so o q how m d) in
+    let so : SizedSphere → Sphere → How → Moved → Devices → Type 0 = λ o q how m d. came m q d ≡ chunk_moved c.args.thread (is_piece how) (is_short o.standard how ch.limit) ch.done d o.sphere in
+    let P : SizedSphere → Sphere → Type 0 = λ o q. IfOk c.commit_chunk.result (λ m. (d : Devices) → (how : How) → ch.closed ≡ Some how → so o q how m d) in
     let o = c.index_mut-sphere.result.now in
     let q = c.commit_chunk.new.self.sphere in
     said_of_row P _ _ _ _ _ _ c.self.invariant c.self.view_is within c.index_mut-sphere.ensures.value

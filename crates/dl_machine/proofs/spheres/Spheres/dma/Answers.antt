@@ -2,7 +2,7 @@ use Rattle.std.proofs.Common.{◌≡◌, ◌<◌, length, IfOk, Some, arith}
 use Rattle.std.proofs.lemmas.Grind.{common_steps}
 use Rattle.spec_protocol.specs.Commits.{dma_moved}
 use Rattle.spec_protocol.specs.Spheres.{Sphere}
-use Rattle.dl_sphere.specs.Standing.{Standing}
+use Rattle.dl_sphere.specs.SizedSpheres.{SizedSphere}
 use Rattle.dl_sphere.specs.Moving.{IsTurnOfDma, came}
 use Rattle.dl_machine.proofs.Rows.Spheres.{row_says, said_of_row, others_left}
 use Rattle.dl_machine.proofs.spheres.Spheres.dma.Goals as goal
@@ -10,12 +10,12 @@ use Rattle.dl_machine.proofs.spheres.Spheres.dma.Goals as goal
 pub dma-requires-clause-turn : goal.dma-requires-clause-turn
 dma-requires-clause-turn c =
     let within : c.args.i < length c.self.inside.row.items = grind (arith, common_steps) in
-    row_says (λ (p : Standing). IsTurnOfDma p.sphere.role) _ _ _ _ _ c.self.invariant c.self.view_is within c.index_mut-sphere.ensures.value c.requires.turn
+    row_says (λ (p : SizedSphere). IsTurnOfDma p.sphere.role) _ _ _ _ _ c.self.invariant c.self.view_is within c.index_mut-sphere.ensures.value c.requires.turn
 
 pub returns-clause-ok : goal.returns-clause-ok
 returns-clause-ok c =
     let within : c.args.i < length c.self.inside.row.items = grind (arith, common_steps) in
-    let P : Standing → Sphere → Type 0 = λ o q. IfOk c.dma.result (λ m. dma_moved c.args.devices.now o.sphere ≡ Some (came m q c.dma.new.devices)) in
+    let P : SizedSphere → Sphere → Type 0 = λ o q. IfOk c.dma.result (λ m. dma_moved c.args.devices.now o.sphere ≡ Some (came m q c.dma.new.devices)) in
     said_of_row P _ _ _ _ _ _ c.self.invariant c.self.view_is within c.index_mut-sphere.ensures.value c.dma.ensures.ok
 
 pub returns-clause-others : goal.returns-clause-others

@@ -3,8 +3,8 @@ use Rattle.std.proofs.lemmas.Grind.{common_steps}
 use Rattle.spec_engine.specs.Flights.{at, drain}
 use Rattle.spec_protocol.specs.Spheres.{Sphere}
 use Rattle.dl_machine.specs.Rows.{with_nth}
-use Rattle.dl_sphere.specs.Standing.{Standing}
-use Rattle.dl_machine.proofs.Rows.Spheres.{spheres_left, standing_is}
+use Rattle.dl_sphere.specs.SizedSpheres.{SizedSphere}
+use Rattle.dl_machine.proofs.Rows.Spheres.{spheres_left, sized_is}
 use Rattle.dl_machine.proofs.spheres.Spheres.drain.Goals as goal
 
 pub returns-clause-memory : goal.returns-clause-memory
@@ -13,4 +13,4 @@ returns-clause-memory g c =
     let drained : Sphere → Sphere = λ p. record p { memory = (drain p.memory (at c.args.flights.now.slots c.args.k)).memory } in
     spheres_left _ _ _ _ _ c.self.view_is
     ∙ ap (λ (q : Sphere). with_nth c.args.i q c.args.self.now)
-    (ap (λ (s : Standing). s.sphere) c.drain.ensures.memory ∙ ap drained (standing_is _ _ _ _ _ c.self.invariant c.self.view_is within c.index_mut-sphere.ensures.value))
+    (ap (λ (s : SizedSphere). s.sphere) c.drain.ensures.memory ∙ ap drained (sized_is _ _ _ _ _ c.self.invariant c.self.view_is within c.index_mut-sphere.ensures.value))

@@ -5,7 +5,7 @@ use Rattle.std.proofs.lemmas.Simd.{map-map}
 use Rattle.spec_protocol.specs.Spheres.{Sphere}
 use Rattle.spec_protocol.specs.Machine.{sphere_of}
 use Rattle.dl_sphere.specs.Setups.{setup_of}
-use Rattle.dl_sphere.specs.Standing.{Standing}
+use Rattle.dl_sphere.specs.SizedSpheres.{SizedSphere}
 use Rattle.dl_sphere.specs.declared.setup.SphereSetup.{SphereSetup}
 use Rattle.spec_protocol.specs.Sound.{IsImage}
 use Rattle.dl_machine.specs.Rows.{IsOfStandard, sphere_in}
@@ -33,15 +33,15 @@ loop-setup-preserved c =
     let more : take (i + 1) setups ≡ take i setups ++ item ∷ [] = take_more setups i item c.loop-setup-test.true ∙ ap (λ y. take i setups ++ y ∷ []) (sym c.setup-item.is) in
     record {
       spheres =
-          ap (λ (xs : List Standing). map sphere_in xs) c.push_reserved.ensures.items
+          ap (λ (xs : List SizedSphere). map sphere_in xs) c.push_reserved.ensures.items
           ∙ map-append sphere_in c.loop-setup.row.items (x ∷ [])
           ∙ ap (λ (ps : List Sphere). ps ++ sphere_in x ∷ []) inv.spheres
-          ∙ ap (λ (y : Standing). map f (take i setups) ++ sphere_in y ∷ []) c.in_ok-new.ensures.made
+          ∙ ap (λ (y : SizedSphere). map f (take i setups) ++ sphere_in y ∷ []) c.in_ok-new.ensures.made
           ∙ sym (map-append f (take i setups) (item ∷ []))
           ∙ sym (ap (λ (xs : List SphereSetup). map f xs) more);
       each =
-          subst (λ (xs : List Standing). All (IsOfStandard c.args.standard) xs) (sym c.push_reserved.ensures.items)
-          (all_pushed (IsOfStandard c.args.standard) c.loop-setup.row.items x inv.each (record { standard = ap (λ (y : Standing). y.standard) c.in_ok-new.ensures.made }));
+          subst (λ (xs : List SizedSphere). All (IsOfStandard c.args.standard) xs) (sym c.push_reserved.ensures.items)
+          (all_pushed (IsOfStandard c.args.standard) c.loop-setup.row.items x inv.each (record { standard = ap (λ (y : SizedSphere). y.standard) c.in_ok-new.ensures.made }));
       images =
           subst (λ (xs : List SphereSetup). All (λ y. IsImage (setup_of y)) xs) (sym more)
           (all_pushed (λ y. IsImage (setup_of y)) (take i setups) item inv.images c.in_ok-new.ensures.image);

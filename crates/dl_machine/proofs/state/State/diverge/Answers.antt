@@ -3,10 +3,10 @@ use Rattle.std.proofs.lemmas.Option.{same_Some}
 use Rattle.spec_kernel.specs.Devices.{Devices}
 use Rattle.spec_play.specs.Progress.{position}
 use Rattle.spec_protocol.specs.Spheres.{Sphere, is_stopped}
-use Rattle.spec_protocol.specs.Commits.{CommitOutcome, Granted, Piece, Diverged, Moved, dma_moved}
+use Rattle.spec_protocol.specs.Commits.{CommitOutcome, Granted, Piece, Diverged, MovedSphere, dma_moved}
 use Rattle.spec_protocol.specs.World.{World, sphere_at}
 use Rattle.spec_protocol.specs.Transferring.{dma_with, turn_before_dma}
-use Rattle.dl_sphere.specs.declared.moved.Moved.{Moved as CodeMoved}
+use Rattle.dl_sphere.specs.declared.moved.Moved.{Moved}
 use Rattle.dl_sphere.specs.declared.moved.Moved.TheVariants as moved_as
 use Rattle.dl_sphere.specs.Moving.{came}
 use Rattle.dl_machine.specs.Rows.{Spheres, nth_sphere, with_nth}
@@ -36,8 +36,8 @@ unreachable-requires g c =
     let goes : ComesTo o (dma_moved w.devices (sphere_at w c.args.sphere)) = subst (λ (u : World). ComesTo (Diverged (position (sphere_at u c.args.sphere).progress) c.args.why) (dma_moved u.devices (sphere_at u c.args.sphere))) (sym view) c.requires.diverges in
     let is : (came c.in_ok-commits.field-0 p d).outcome ≡ o = comes_to o _ _ goes c.in_ok-commits.ensures.ok in
     elim c.in-Granted.is [
-      | inl h ↦ (let no : Granted ≡ o = subst (λ (m : CodeMoved). (came m p d).outcome ≡ o) h.1 is in cc)
-      | inr h ↦ (let no : Piece ≡ o = subst (λ (m : CodeMoved). (came m p d).outcome ≡ o) h.1 is in cc)
+      | inl h ↦ (let no : Granted ≡ o = subst (λ (m : Moved). (came m p d).outcome ≡ o) h.1 is in cc)
+      | inr h ↦ (let no : Piece ≡ o = subst (λ (m : Moved). (came m p d).outcome ≡ o) h.1 is in cc)
     ]
 
 pub returns-clause-world : goal.returns-clause-world
@@ -48,12 +48,12 @@ returns-clause-world g c =
     let i = c.args.sphere in
     let p : Sphere = nth_sphere i c.dma.new.self in
     let d : Devices = c.dma.new.devices in
-    let v : Moved = came (moved_as.Diverged c.in-Diverged.commits c.in-Diverged.why) p d in
-    let is : dma_moved x.devices (sphere_at w i) ≡ Some v = subst (λ (m : CodeMoved). dma_moved x.devices (sphere_at w i) ≡ Some (came m p d)) c.in-Diverged.is c.in_ok-commits.ensures.ok in
-    let still : d ≡ x.devices = subst (λ (m : Option Moved). AreApart x.devices m) is (dma_apart x.devices (sphere_at w i)) in
+    let v : MovedSphere = came (moved_as.Diverged c.in-Diverged.commits c.in-Diverged.why) p d in
+    let is : dma_moved x.devices (sphere_at w i) ≡ Some v = subst (λ (m : Moved). dma_moved x.devices (sphere_at w i) ≡ Some (came m p d)) c.in-Diverged.is c.in_ok-commits.ensures.ok in
+    let still : d ≡ x.devices = subst (λ (m : Option MovedSphere). AreApart x.devices m) is (dma_apart x.devices (sphere_at w i)) in
     let world : world_in x.cores c.dma.new.self x.flights d x.counts x.points.items ≡ world_in x.cores (with_nth i p x.spheres) x.flights x.devices x.counts x.points.items =
     ap (λ (s : Spheres). world_in x.cores s x.flights d x.counts x.points.items) c.in_ok-commits.ensures.others
     ∙ ap (λ (e : Devices). world_in x.cores (with_nth i p x.spheres) x.flights e x.counts x.points.items) still
     in
-    subst (λ (u : World). (m : Moved) → dma_moved u.devices (sphere_at u i) ≡ Some m → world_in x.cores c.dma.new.self x.flights d x.counts x.points.items ≡ left (dma_with u i m m.outcome)) view
-    (λ m e. let same : v ≡ m = same_Some _ _ (sym is ∙ e) in world ∙ ap (λ (u : Moved). left (dma_with w i u u.outcome)) same)
+    subst (λ (u : World). (m : MovedSphere) → dma_moved u.devices (sphere_at u i) ≡ Some m → world_in x.cores c.dma.new.self x.flights d x.counts x.points.items ≡ left (dma_with u i m m.outcome)) view
+    (λ m e. let same : v ≡ m = same_Some _ _ (sym is ∙ e) in world ∙ ap (λ (u : MovedSphere). left (dma_with w i u u.outcome)) same)

@@ -3,10 +3,10 @@ use Rattle.std.specs.Prelude.{option_map}
 use Rattle.dl_entry.specs.declared.CommitKind.{CommitKind}
 use Rattle.spec_engine.specs.Flights.{at}
 use Rattle.spec_protocol.specs.Spheres.{Sphere, head_of, is_stopped}
-use Rattle.spec_protocol.specs.Commits.{Moved}
+use Rattle.spec_protocol.specs.Commits.{MovedSphere}
 use Rattle.spec_protocol.specs.World.{World, sphere_at}
 use Rattle.spec_protocol.specs.Asking.{asks_serial, grant_chunk, is_short, other_turn}
-use Rattle.dl_sphere.specs.declared.moved.Moved.{Moved as CodeMoved}
+use Rattle.dl_sphere.specs.declared.moved.Moved.{Moved}
 use Rattle.dl_sphere.specs.declared.moved.Moved.TheVariants as moved_as
 use Rattle.dl_sphere.specs.Moving.{came}
 use Rattle.dl_machine.specs.Cores.{seen}
@@ -47,11 +47,11 @@ returns-in-Granted-clause-world g c =
     let how = c.args.how in
     let ch = c.chunk-chunk.result.now.chunk in
     let p : Sphere = nth_sphere c.args.held.sphere c.commit_chunk.new.self in
-    let v : Moved = came (moved_as.Granted c.in-Granted.words) p x.devices in
+    let v : MovedSphere = came (moved_as.Granted c.in-Granted.words) p x.devices in
     let held : option_map seen (at w.cores core) ≡ Some c.args.held = subst (λ (u : World). option_map seen (at u.cores core) ≡ Some c.args.held) (sym view) c.requires.held in
     let closed : option_map closed_by (at w.cores core) ≡ Some (Some how) = subst (λ (u : World). option_map closed_by (at u.cores core) ≡ Some (Some how)) (sym view) c.requires.closed in
     let shut : ch.closed ≡ Some how = closed_is (at w.cores core) ch how closed c.chunk-chunk.ensures in
-    let moved : v ≡ moved_by w c.args.held how ch = subst (λ (m : CodeMoved). came m p x.devices ≡ moved_by w c.args.held how ch) c.in-Granted.is (c.in_ok-moved.ensures.ok x.devices how shut) in
+    let moved : v ≡ moved_by w c.args.held how ch = subst (λ (m : Moved). came m p x.devices ≡ moved_by w c.args.held how ch) c.in-Granted.is (c.in_ok-moved.ensures.ok x.devices how shut) in
     let after = chunk_after w core how (at w.cores core) c.args.held ch _ v held c.chunk-chunk.ensures c.hand_over-writes.ensures.given moved in
     let point : c.push_reserved.new.self.items ≡ x.points.items ++ point_in w c.args.held CommitKind.Chunk ch.done.n (is_short w.numbers.chunk how ch.limit) ∷ [] = cc in
     let done = grant_done x.cores c.hand_over-writes.new.self x.spheres c.commit_chunk.new.self x.flights x.devices x.counts x.points.items _ core c.args.held c.in-Granted.words.words _ _ c.hand_over-writes.ensures.core c.in_ok-moved.ensures.others point in
@@ -67,11 +67,11 @@ returns-in-Piece-clause-world g c =
     let how = c.args.how in
     let ch = c.chunk-chunk.result.now.chunk in
     let p : Sphere = nth_sphere c.args.held.sphere c.commit_chunk.new.self in
-    let v : Moved = came (moved_as.Piece c.in-Piece.words) p x.devices in
+    let v : MovedSphere = came (moved_as.Piece c.in-Piece.words) p x.devices in
     let held : option_map seen (at w.cores core) ≡ Some c.args.held = subst (λ (u : World). option_map seen (at u.cores core) ≡ Some c.args.held) (sym view) c.requires.held in
     let closed : option_map closed_by (at w.cores core) ≡ Some (Some how) = subst (λ (u : World). option_map closed_by (at u.cores core) ≡ Some (Some how)) (sym view) c.requires.closed in
     let shut : ch.closed ≡ Some how = closed_is (at w.cores core) ch how closed c.chunk-chunk.ensures in
-    let moved : v ≡ moved_by w c.args.held how ch = subst (λ (m : CodeMoved). came m p x.devices ≡ moved_by w c.args.held how ch) c.in-Piece.is (c.in_ok-moved.ensures.ok x.devices how shut) in
+    let moved : v ≡ moved_by w c.args.held how ch = subst (λ (m : Moved). came m p x.devices ≡ moved_by w c.args.held how ch) c.in-Piece.is (c.in_ok-moved.ensures.ok x.devices how shut) in
     let after = chunk_after w core how (at w.cores core) c.args.held ch _ v held c.chunk-chunk.ensures c.hand_over-writes-in-Piece.ensures.given moved in
     let point : c.push_reserved-in-Piece.new.self.items ≡ x.points.items ++ point_in w c.args.held CommitKind.Piece ch.done.n (is_short w.numbers.chunk how ch.limit) ∷ [] = cc in
     let done = grant_done x.cores c.hand_over-writes-in-Piece.new.self x.spheres c.commit_chunk.new.self x.flights x.devices x.counts x.points.items _ core c.args.held c.in-Piece.words.words _ _ c.hand_over-writes-in-Piece.ensures.core c.in_ok-moved.ensures.others point in

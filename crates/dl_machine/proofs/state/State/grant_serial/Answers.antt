@@ -8,10 +8,10 @@ use Rattle.spec_engine.specs.Flights.{at}
 use Rattle.spec_engine.specs.Signatures.{Marks, nothing, signed}
 use Rattle.spec_protocol.specs.declared.reply.Reply.{Reply}
 use Rattle.spec_protocol.specs.Spheres.{Sphere, head_of, is_stopped}
-use Rattle.spec_protocol.specs.Commits.{Moved, serial_moved}
+use Rattle.spec_protocol.specs.Commits.{MovedSphere, serial_moved}
 use Rattle.spec_protocol.specs.World.{After, World, moment, sphere_at}
 use Rattle.spec_protocol.specs.Asking.{grant_serial, other_turn}
-use Rattle.dl_sphere.specs.declared.moved.Moved.{Moved as CodeMoved}
+use Rattle.dl_sphere.specs.declared.moved.Moved.{Moved}
 use Rattle.dl_sphere.specs.declared.moved.Moved.TheVariants as moved_as
 use Rattle.dl_sphere.specs.Moving.{came}
 use Rattle.dl_machine.specs.Cores.{seen}
@@ -39,10 +39,10 @@ returns-in-Granted-clause-reply g c =
     let ready : IsReady w = subst IsReady (sym view) c.requires.ready in
     let p : Sphere = nth_sphere c.args.held.sphere c.serial_step.new.self in
     let d : Devices = c.serial_step.new.devices in
-    let v : Moved = came (moved_as.Granted c.in-Granted.words) p d in
+    let v : MovedSphere = came (moved_as.Granted c.in-Granted.words) p d in
     let held : option_map seen (at w.cores core) ≡ Some c.args.held = subst (λ (u : World). option_map seen (at u.cores core) ≡ Some c.args.held) (sym view) c.requires.held in
     let moved : (t : Parts) → slice_get (sphere_at w c.args.held.sphere).threads c.args.held.thread ≡ Some t → v ≡ serial_moved c.args.held.thread (moment w % 2 ^ 32) t w.devices (sphere_at w c.args.held.sphere) =
-    λ t e. subst (λ (m : CodeMoved). came m p d ≡ serial_moved c.args.held.thread (moment w % 2 ^ 32) t w.devices (sphere_at w c.args.held.sphere)) c.in-Granted.is (c.in_ok-moved.ensures.ok t e)
+    λ t e. subst (λ (m : Moved). came m p d ≡ serial_moved c.args.held.thread (moment w % 2 ^ 32) t w.devices (sphere_at w c.args.held.sphere)) c.in-Granted.is (c.in_ok-moved.ensures.ok t e)
     in
     let after = serial_after w core (at w.cores core) c.args.held v ready refl held moved in
     subst (λ (u : World). Some Reply.Granted ≡ option_map (λ h. (grant_serial u core h).reply) (at u.cores core)) view
@@ -57,10 +57,10 @@ returns-in-Granted-clause-world g c =
     let ready : IsReady w = subst IsReady (sym view) c.requires.ready in
     let p : Sphere = nth_sphere c.args.held.sphere c.serial_step.new.self in
     let d : Devices = c.serial_step.new.devices in
-    let v : Moved = came (moved_as.Granted c.in-Granted.words) p d in
+    let v : MovedSphere = came (moved_as.Granted c.in-Granted.words) p d in
     let held : option_map seen (at w.cores core) ≡ Some c.args.held = subst (λ (u : World). option_map seen (at u.cores core) ≡ Some c.args.held) (sym view) c.requires.held in
     let moved : (t : Parts) → slice_get (sphere_at w c.args.held.sphere).threads c.args.held.thread ≡ Some t → v ≡ serial_moved c.args.held.thread (moment w % 2 ^ 32) t w.devices (sphere_at w c.args.held.sphere) =
-    λ t e. subst (λ (m : CodeMoved). came m p d ≡ serial_moved c.args.held.thread (moment w % 2 ^ 32) t w.devices (sphere_at w c.args.held.sphere)) c.in-Granted.is (c.in_ok-moved.ensures.ok t e)
+    λ t e. subst (λ (m : Moved). came m p d ≡ serial_moved c.args.held.thread (moment w % 2 ^ 32) t w.devices (sphere_at w c.args.held.sphere)) c.in-Granted.is (c.in_ok-moved.ensures.ok t e)
     in
     let after = serial_after w core (at w.cores core) c.args.held v ready refl held moved in
     let words = c.in-Granted.words.words in
@@ -82,10 +82,10 @@ returns-in-Piece-clause-reply g c =
     let ready : IsReady w = subst IsReady (sym view) c.requires.ready in
     let p : Sphere = nth_sphere c.args.held.sphere c.serial_step.new.self in
     let d : Devices = c.serial_step.new.devices in
-    let v : Moved = came (moved_as.Piece c.in-Piece.words) p d in
+    let v : MovedSphere = came (moved_as.Piece c.in-Piece.words) p d in
     let held : option_map seen (at w.cores core) ≡ Some c.args.held = subst (λ (u : World). option_map seen (at u.cores core) ≡ Some c.args.held) (sym view) c.requires.held in
     let moved : (t : Parts) → slice_get (sphere_at w c.args.held.sphere).threads c.args.held.thread ≡ Some t → v ≡ serial_moved c.args.held.thread (moment w % 2 ^ 32) t w.devices (sphere_at w c.args.held.sphere) =
-    λ t e. subst (λ (m : CodeMoved). came m p d ≡ serial_moved c.args.held.thread (moment w % 2 ^ 32) t w.devices (sphere_at w c.args.held.sphere)) c.in-Piece.is (c.in_ok-moved.ensures.ok t e)
+    λ t e. subst (λ (m : Moved). came m p d ≡ serial_moved c.args.held.thread (moment w % 2 ^ 32) t w.devices (sphere_at w c.args.held.sphere)) c.in-Piece.is (c.in_ok-moved.ensures.ok t e)
     in
     let after = serial_after w core (at w.cores core) c.args.held v ready refl held moved in
     subst (λ (u : World). Some Reply.Piece ≡ option_map (λ h. (grant_serial u core h).reply) (at u.cores core)) view
@@ -100,10 +100,10 @@ returns-in-Piece-clause-world g c =
     let ready : IsReady w = subst IsReady (sym view) c.requires.ready in
     let p : Sphere = nth_sphere c.args.held.sphere c.serial_step.new.self in
     let d : Devices = c.serial_step.new.devices in
-    let v : Moved = came (moved_as.Piece c.in-Piece.words) p d in
+    let v : MovedSphere = came (moved_as.Piece c.in-Piece.words) p d in
     let held : option_map seen (at w.cores core) ≡ Some c.args.held = subst (λ (u : World). option_map seen (at u.cores core) ≡ Some c.args.held) (sym view) c.requires.held in
     let moved : (t : Parts) → slice_get (sphere_at w c.args.held.sphere).threads c.args.held.thread ≡ Some t → v ≡ serial_moved c.args.held.thread (moment w % 2 ^ 32) t w.devices (sphere_at w c.args.held.sphere) =
-    λ t e. subst (λ (m : CodeMoved). came m p d ≡ serial_moved c.args.held.thread (moment w % 2 ^ 32) t w.devices (sphere_at w c.args.held.sphere)) c.in-Piece.is (c.in_ok-moved.ensures.ok t e)
+    λ t e. subst (λ (m : Moved). came m p d ≡ serial_moved c.args.held.thread (moment w % 2 ^ 32) t w.devices (sphere_at w c.args.held.sphere)) c.in-Piece.is (c.in_ok-moved.ensures.ok t e)
     in
     let after = serial_after w core (at w.cores core) c.args.held v ready refl held moved in
     let words = c.in-Piece.words.words in
@@ -125,10 +125,10 @@ returns-in-Diverged-clause-reply g c =
     let ready : IsReady w = subst IsReady (sym view) c.requires.ready in
     let p : Sphere = nth_sphere c.args.held.sphere c.serial_step.new.self in
     let d : Devices = c.serial_step.new.devices in
-    let v : Moved = came (moved_as.Diverged c.in-Diverged.commits c.in-Diverged.why) p d in
+    let v : MovedSphere = came (moved_as.Diverged c.in-Diverged.commits c.in-Diverged.why) p d in
     let held : option_map seen (at w.cores core) ≡ Some c.args.held = subst (λ (u : World). option_map seen (at u.cores core) ≡ Some c.args.held) (sym view) c.requires.held in
     let moved : (t : Parts) → slice_get (sphere_at w c.args.held.sphere).threads c.args.held.thread ≡ Some t → v ≡ serial_moved c.args.held.thread (moment w % 2 ^ 32) t w.devices (sphere_at w c.args.held.sphere) =
-    λ t e. subst (λ (m : CodeMoved). came m p d ≡ serial_moved c.args.held.thread (moment w % 2 ^ 32) t w.devices (sphere_at w c.args.held.sphere)) c.in-Diverged.is (c.in_ok-moved.ensures.ok t e)
+    λ t e. subst (λ (m : Moved). came m p d ≡ serial_moved c.args.held.thread (moment w % 2 ^ 32) t w.devices (sphere_at w c.args.held.sphere)) c.in-Diverged.is (c.in_ok-moved.ensures.ok t e)
     in
     let after = serial_after w core (at w.cores core) c.args.held v ready refl held moved in
     subst (λ (u : World). Some (Reply.Diverged c.in-Diverged.commits c.in-Diverged.why) ≡ option_map (λ h. (grant_serial u core h).reply) (at u.cores core)) view
@@ -143,10 +143,10 @@ returns-in-Diverged-clause-world g c =
     let ready : IsReady w = subst IsReady (sym view) c.requires.ready in
     let p : Sphere = nth_sphere c.args.held.sphere c.serial_step.new.self in
     let d : Devices = c.serial_step.new.devices in
-    let v : Moved = came (moved_as.Diverged c.in-Diverged.commits c.in-Diverged.why) p d in
+    let v : MovedSphere = came (moved_as.Diverged c.in-Diverged.commits c.in-Diverged.why) p d in
     let held : option_map seen (at w.cores core) ≡ Some c.args.held = subst (λ (u : World). option_map seen (at u.cores core) ≡ Some c.args.held) (sym view) c.requires.held in
     let moved : (t : Parts) → slice_get (sphere_at w c.args.held.sphere).threads c.args.held.thread ≡ Some t → v ≡ serial_moved c.args.held.thread (moment w % 2 ^ 32) t w.devices (sphere_at w c.args.held.sphere) =
-    λ t e. subst (λ (m : CodeMoved). came m p d ≡ serial_moved c.args.held.thread (moment w % 2 ^ 32) t w.devices (sphere_at w c.args.held.sphere)) c.in-Diverged.is (c.in_ok-moved.ensures.ok t e)
+    λ t e. subst (λ (m : Moved). came m p d ≡ serial_moved c.args.held.thread (moment w % 2 ^ 32) t w.devices (sphere_at w c.args.held.sphere)) c.in-Diverged.is (c.in_ok-moved.ensures.ok t e)
     in
     let after = serial_after w core (at w.cores core) c.args.held v ready refl held moved in
     let still : d ≡ x.devices = serial_still w core (at w.cores core) c.args.held v ready refl held moved in

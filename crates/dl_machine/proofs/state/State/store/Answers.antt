@@ -4,7 +4,7 @@ use Rattle.spec_protocol.specs.Spheres.{Sphere, is_stopped}
 use Rattle.spec_protocol.specs.Commits.{Granted, Diverged, dma_moved}
 use Rattle.spec_protocol.specs.World.{World, sphere_at}
 use Rattle.spec_protocol.specs.Transferring.{turn_before_dma}
-use Rattle.dl_sphere.specs.declared.moved.Moved.{Moved as CodeMoved}
+use Rattle.dl_sphere.specs.declared.moved.Moved.{Moved}
 use Rattle.dl_sphere.specs.Moving.{came}
 use Rattle.dl_machine.specs.Rows.{nth_sphere}
 use Rattle.dl_machine.specs.States.{world_in}
@@ -30,5 +30,5 @@ unreachable-requires g c =
     let d : Devices = c.dma.new.devices in
     let goes : ComesTo Granted (dma_moved w.devices (sphere_at w c.args.sphere)) = subst (λ (u : World). ComesTo Granted (dma_moved u.devices (sphere_at u c.args.sphere))) (sym view) c.requires.goes in
     let is : (came c.in_ok-words.field-0 p d).outcome ≡ Granted = comes_to Granted _ _ goes c.in_ok-words.ensures.ok in
-    let no : Diverged c.in-Diverged.field-0 c.in-Diverged.field-1 ≡ Granted = subst (λ (m : CodeMoved). (came m p d).outcome ≡ Granted) c.in-Diverged.is is in
+    let no : Diverged c.in-Diverged.field-0 c.in-Diverged.field-1 ≡ Granted = subst (λ (m : Moved). (came m p d).outcome ≡ Granted) c.in-Diverged.is is in
     cc

@@ -1,6 +1,6 @@
 use Rattle.std.proofs.Common.{◌<◌, length, ◌∙◌, ap, arith}
 use Rattle.std.proofs.lemmas.Grind.{common_steps}
-use Rattle.dl_moments.specs.Held.{By}
+use Rattle.dl_moments.specs.Views.{By}
 use Rattle.std.proofs.lemmas.List.{length-set}
 use Rattle.std.proofs.lemmas.Bool.{false≢true}
 use Rattle.dl_moments.proofs.Lanes.{same_lane, Roomy-more, Roomy-set, all_room, room_at}

@@ -2,7 +2,7 @@ use Rattle.std.proofs.Common.{◌≡◌, Bool, List, map, take, ◌∙◌, ap}
 use Rattle.std.proofs.lemmas.List.{take_all}
 use Rattle.spec_log.specs.Head.{is_slot}
 use Rattle.spec_log.specs.Noting.{kept_head}
-use Rattle.dl_input.specs.Held.{interrupt_of}
+use Rattle.dl_input.specs.Tracked.{interrupt_of}
 use Rattle.dl_replay.proofs.Lookups.{head-is, slot-is}
 use Rattle.dl_replay.proofs.lookup.Lookup.head.Goals as goal
 

@@ -1,5 +1,5 @@
 use Rattle.std.proofs.Common.{map, ◌∙◌}
-use Rattle.dl_input.specs.Held.{interrupt_of}
+use Rattle.dl_input.specs.Tracked.{interrupt_of}
 use Rattle.dl_replay.proofs.Lookups.{size-is}
 use Rattle.dl_replay.proofs.lookup.Lookup.size.Goals as goal
 

@@ -2,9 +2,9 @@ use Rattle.std.proofs.Common.{◌≡◌, ℕ, ◌<◌, List, length, slice_get, 
 use Rattle.spec_isa.specs.declared.thread.Parts.{Parts}
 use Rattle.spec_isa.specs.Runs.{Run}
 use Rattle.spec_play.specs.Effects.{chunk_effect}
-use Rattle.spec_play.specs.Verdicts.{Verdict, Fails, chunk_verdict}
+use Rattle.spec_play.specs.Verdicts.{LogVerdict, Fails, chunk_verdict}
 use Rattle.dl_replay.specs.Judging.{verdict_of}
-use Rattle.dl_replay.specs.Kept.{IsReplaying}
+use Rattle.dl_replay.specs.Replays.{IsReplaying}
 use Rattle.dl_replay.specs.Replaying.{Replaying}
 use Rattle.dl_replay.specs.Judged.{HasRun, chunk_judged}
 use Rattle.dl_replay.proofs.Advancing.{thread-below, chunk-goes, set-got, some-same}
@@ -47,6 +47,6 @@ returns-in-Err-clause-judged g c p before run request served a q h =
     let is = thread-is before k c.args.total ts run c.thread_at-thread.result h c.requires.thread c.thread_at-thread.ensures.thread in
     let said = c.in-Err.ensures.verdict p run is h.total in
     let verdict = subst (λ (x : Replaying). Fails c.in-Err.why ≡ chunk_verdict x.log p x.used k run) c.self.view_is said in
-    subst (λ (v : Verdict). record { verdict = c.diverge.result; replay = c.diverge.new.self; threads = ts; request = request; served = served } ≡ chunk_judged r p k before ts request served v)
+    subst (λ (v : LogVerdict). record { verdict = c.diverge.result; replay = c.diverge.new.self; threads = ts; request = request; served = served } ≡ chunk_judged r p k before ts request served v)
     verdict
     (rw (c.diverge.ensures.verdict, c.diverge.ensures.replay) refl)

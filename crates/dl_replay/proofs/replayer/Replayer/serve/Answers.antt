@@ -2,7 +2,7 @@ use Rattle.std.proofs.Common.{◌≡◌, Ok, sym, subst, ◌∙◌, arith}
 use Rattle.spec_isa.specs.declared.thread.Parts.{Parts}
 use Rattle.spec_play.specs.Verdicts.{serial_verdict}
 use Rattle.dl_replay.specs.Judging.{step_verdict}
-use Rattle.dl_replay.specs.Kept.{IsReplaying}
+use Rattle.dl_replay.specs.Replays.{IsReplaying}
 use Rattle.dl_replay.specs.Replaying.{Replaying}
 use Rattle.dl_replay.proofs.Advancing.{thread-below, step-goes, some-same}
 use Rattle.dl_replay.proofs.replayer.Replayer.serve.Goals as goal

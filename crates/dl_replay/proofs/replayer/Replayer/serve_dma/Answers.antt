@@ -3,7 +3,7 @@ use Rattle.spec_play.specs.Progress.{position}
 use Rattle.spec_play.specs.Transfers.{dma_verdict}
 use Rattle.dl_replay.specs.declared.asking.Verdict.{Verdict}
 use Rattle.dl_replay.specs.Judging.{transfer_verdict}
-use Rattle.dl_replay.specs.Kept.{advanced, replaying}
+use Rattle.dl_replay.specs.Replays.{advanced, replaying}
 use Rattle.dl_replay.specs.Left.{nothing_served, served_stored}
 use Rattle.dl_replay.specs.Replaying.{Replaying}
 use Rattle.dl_replay.specs.Seen.{used_seen}

@@ -4,7 +4,7 @@ use Rattle.spec_play.specs.Verdicts.{serial_verdict}
 use Rattle.dl_replay.specs.declared.asking.Verdict.{Verdict}
 use Rattle.dl_replay.specs.Left.{nothing_served, served_left}
 use Rattle.dl_replay.specs.Judging.{step_verdict}
-use Rattle.dl_replay.specs.Kept.{IsReplaying}
+use Rattle.dl_replay.specs.Replays.{IsReplaying}
 use Rattle.dl_replay.specs.Replaying.{Replaying}
 use Rattle.dl_replay.proofs.Advancing.{thread-below, step-goes, some-same}
 use Rattle.dl_replay.proofs.replayer.Replayer.serve_step.Goals as goal

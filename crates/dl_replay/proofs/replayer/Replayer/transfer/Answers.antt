@@ -2,7 +2,7 @@ use Rattle.std.proofs.Common.{◌≡◌, ◌+◌, Ok, ap, sym, subst, ◌∙◌}
 use Rattle.spec_play.specs.Progress.{position}
 use Rattle.spec_play.specs.Transfers.{dma_verdict}
 use Rattle.dl_replay.specs.Judging.{transfer_verdict}
-use Rattle.dl_replay.specs.Kept.{advanced, replaying}
+use Rattle.dl_replay.specs.Replays.{advanced, replaying}
 use Rattle.dl_replay.specs.Replaying.{Replaying}
 use Rattle.dl_replay.specs.Seen.{used_seen}
 use Rattle.dl_replay.proofs.Advancing.{advanced-same, dma-goes}

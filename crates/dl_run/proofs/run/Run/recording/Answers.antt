@@ -6,10 +6,10 @@ use Rattle.spec_protocol.specs.declared.event.Event.{Event}
 use Rattle.spec_protocol.specs.Machine.{IsRecorded}
 use Rattle.spec_protocol.specs.Sound.{image_at}
 use Rattle.spec_protocol.specs.Spheres.{Role, Sphere}
-use Rattle.spec_run.specs.Texts.{log_told}
+use Rattle.spec_run.specs.Texts.{log_of_points}
 use Rattle.dl_sphere.specs.Reading.{log_in}
 use Rattle.dl_run.specs.Ran.{IsOver}
-use Rattle.dl_run.proofs.Over.{log-told, recorded-role}
+use Rattle.dl_run.proofs.Over.{log-of_points, recorded-role}
 use Rattle.dl_run.proofs.run.Run.recording.Goals as goal
 
 pub log-requires : goal.log-requires
@@ -24,8 +24,8 @@ returns c =
     let i = c.args.sphere in
     IfOk-weaker c.log.result
     (λ log. log_in c.sphere.result.now.sphere.role ≡ Some log)
-    (λ log. (es : List Event) (mode : ModeName) → IsOver es r → (image_at r.setup i).role ≡ IsRecorded mode → log ≡ log_told r.setup es i mode)
+    (λ log. (es : List Event) (mode : ModeName) → IsOver es r → (image_at r.setup i).role ≡ IsRecorded mode → log ≡ log_of_points r.setup es i mode)
     (λ log e es mode over is.
-    log-told es r i mode log over c.requires.inside is
+    log-of_points es r i mode log over c.requires.inside is
     (ap (λ (q : Sphere). log_in q.role) (sym c.sphere.ensures.value) ∙ e))
     c.log.ensures

@@ -14,9 +14,9 @@ use Rattle.dl_sphere.specs.declared.part.Part.{Part}
 use Rattle.dl_sphere.specs.Moving.{IsPart, IsPartIn}
 use Rattle.dl_sphere.specs.Replayed.{before}
 use Rattle.spec_protocol.proofs.Logs.Growing.{pushed_length}
-use Rattle.dl_sphere.specs.Roles.{keeping_of, role_in, IsReplayed, IsStanding}
+use Rattle.dl_sphere.specs.Roles.{keeping_of, role_in, IsReplayed, IsSphere}
 use Rattle.dl_sphere.specs.Inside.{sphere_in, sphere_with}
-use Rattle.dl_sphere.specs.Standing.{Standing}
+use Rattle.dl_sphere.specs.SizedSpheres.{SizedSphere}
 use Rattle.dl_sphere.proofs.Standing.Moves.{Commits, commits_stand}
 use Rattle.dl_sphere.proofs.Replays.Moved.{granted, left, left_commits, stands_granted, stands_left}
 use Rattle.dl_sphere.proofs.Replays.Judging.{chunk_words, same_commits}
@@ -33,7 +33,7 @@ invariant_of-self-2 g c =
     let h = c.self.invariant in
     let q : Sphere = sphere_with a.memory c.set.new.self c.keep.new.commits.items (Some k) a.request (role_in c.keep.new.part) in
     let start : slice_get c.args.self.now.sphere.threads k ≡ Some t =
-    sym (ap (λ (v : Standing). slice_get v.sphere.threads k) c.self.view_is) ∙ c.thread_at-after.ensures.value
+    sym (ap (λ (v : SizedSphere). slice_get v.sphere.threads k) c.self.view_is) ∙ c.thread_at-after.ensures.value
     in
     let d : Commits (sphere_in a) q k t u [] commit =
     record {
@@ -53,7 +53,7 @@ invariant_of-self-2 g c =
       actor = ap (λ (v : Commit). v.actor) c.in_ok-commit.ensures;
     }
     in
-    subst (IsStanding a.standard q) (sym c.in_ok-keep.ensures.noted)
+    subst (IsSphere a.standard q) (sym c.in_ok-keep.ensures.noted)
     (commits_stand (sphere_in a) q k t u [] commit a.standard c.is_short-short.result None (keeping_of a.part) (live_part a.part c.in_default.not-Replayed) d h)
 
 pub invariant_of-self-then-is_piece : goal.invariant_of-self-then-is_piece
@@ -67,7 +67,7 @@ invariant_of-self-then-is_piece g c =
     let kept : IsReplayed (sphere_in a) r.player = replayed a r c.in-Replayed.is h in
     let e = c.in_ok-commit_piece.ensures in
     let start : slice_get c.args.self.now.sphere.threads k ≡ Some t =
-    sym (ap (λ (v : Standing). slice_get v.sphere.threads k) c.self.view_is) ∙ c.thread_at-after.ensures.value
+    sym (ap (λ (v : SizedSphere). slice_get v.sphere.threads k) c.self.view_is) ∙ c.thread_at-after.ensures.value
     in
     let same : s.commits ≡ t.commits = ap (λ (v : Parts). v.commits) c.state-state.ensures ∙ c.requires.1.1.0.commits t start in
     record {
@@ -97,7 +97,7 @@ commit_last-requires-clause-few g c =
     let r = c.in-Replayed.replay in
     let ch = c.args.chunk.now.chunk in
     let kept : IsReplayed (sphere_in a) r.player = replayed a r c.in-Replayed.is c.self.invariant in
-    let here : IsPartIn (role_in a.part) k g.how ch = subst (λ (v : Standing). IsPartIn v.sphere.role k g.how ch) (sym c.self.view_is) c.requires.1.1.0.part in
+    let here : IsPartIn (role_in a.part) k g.how ch = subst (λ (v : SizedSphere). IsPartIn v.sphere.role k g.how ch) (sym c.self.view_is) c.requires.1.1.0.part in
     let part : IsPart (cursor_of r.player r.loads.items) k g.how ch = subst (λ (x : Part). IsPartIn (role_in x) k g.how ch) c.in-Replayed.is here in
     part-fits (cursor_of r.player r.loads.items) k ch.done.n ch.done.thread kept.is_log part.room (subst (λ n. ch.done.n ≤ n) part.limit part.most)
 
@@ -150,7 +150,7 @@ returns-in-Replayed-clause-ok g c d =
     granted a.memory a.threads a.commits.items a.last a.request r.player r.loads.items k v d n.replay.player n.replay.loads.items n.threads n.request n.commits.items c.in_ok-words.words.words words said
     ∙ ap (λ (x : Bool). chunk_moved k x short run d (sphere_with a.memory a.threads a.commits.items a.last a.request (Replay b))) whole
     ∙ ap (λ (x : Part). chunk_moved k (is_piece how) short run d (sphere_with a.memory a.threads a.commits.items a.last a.request (role_in x))) (sym c.in-Replayed.is)
-    ∙ ap (λ (x : Standing). chunk_moved k (is_piece how) (is_short x.standard how ch.limit) run d x.sphere) c.self.view_is
+    ∙ ap (λ (x : SizedSphere). chunk_moved k (is_piece how) (is_short x.standard how ch.limit) run d x.sphere) c.self.view_is
 
 pub count-requires : goal.count-requires
 count-requires g c =
@@ -165,7 +165,7 @@ count-requires g c =
     let v = chunk_verdict b.log p b.used k (joined b c.args.chunk.now.chunk.done) in
     let same : length n.commits.items ≡ length a.commits.items = left_commits p k (before r a.threads a.request a.commits.items) v c.in-Some.why n.replay.player n.replay.loads.items n.threads n.request n.commits.items said in
     let few : length a.commits.items < 2 ^ 24 =
-    subst (λ n. n < 2 ^ 24) (sym (ap (λ (s : Standing). length s.sphere.progress.commits) c.self.view_is)) c.requires.1.1.1.0
+    subst (λ n. n < 2 ^ 24) (sym (ap (λ (s : SizedSphere). length s.sphere.progress.commits) c.self.view_is)) c.requires.1.1.1.0
     in
     let here : length c.deref.result.now ≡ length n.commits.items = ap length c.deref.ensures.value in
     omega (arith, same, few, here)
@@ -192,4 +192,4 @@ returns-in-Some-clause-ok g c d =
     ∙ left a.memory a.threads a.commits.items a.last a.request r.player r.loads.items k v d c.in-Some.why n.replay.player n.replay.loads.items n.threads n.request n.commits.items kept.agrees.done said
     ∙ ap (λ (x : Bool). chunk_moved k x short run d (sphere_with a.memory a.threads a.commits.items a.last a.request (Replay b))) whole
     ∙ ap (λ (x : Part). chunk_moved k (is_piece how) short run d (sphere_with a.memory a.threads a.commits.items a.last a.request (role_in x))) (sym c.in-Replayed.is)
-    ∙ ap (λ (x : Standing). chunk_moved k (is_piece how) (is_short x.standard how ch.limit) run d x.sphere) c.self.view_is
+    ∙ ap (λ (x : SizedSphere). chunk_moved k (is_piece how) (is_short x.standard how ch.limit) run d x.sphere) c.self.view_is

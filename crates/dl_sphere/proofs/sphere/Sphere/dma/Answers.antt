@@ -5,15 +5,15 @@ use Rattle.dl_entry.specs.declared.Request.{Request}
 use Rattle.spec_kernel.specs.Answers.{dma_bytes}
 use Rattle.spec_play.specs.Effects.{dma_commit}
 use Rattle.spec_play.specs.Transfers.{dma_verdict}
-use Rattle.spec_protocol.specs.Commits.{Diverged, Granted, Moved, dma_moved}
+use Rattle.spec_protocol.specs.Commits.{Diverged, Granted, MovedSphere, dma_moved}
 use Rattle.spec_protocol.specs.Spheres.{Replay, Sphere}
 use Rattle.spec_protocol.proofs.Logs.Growing.{pushed_length}
 use Rattle.dl_replay.specs.Replaying.{cursor_of}
 use Rattle.dl_sphere.specs.declared.part.Part.{Part}
 use Rattle.dl_sphere.specs.Inside.{sphere_in, sphere_with}
 use Rattle.dl_sphere.specs.Replayed.{before}
-use Rattle.dl_sphere.specs.Roles.{keeping_of, role_in, role_of, AreKept, IsLive, IsReplayed, IsStanding}
-use Rattle.dl_sphere.specs.Standing.{Standing}
+use Rattle.dl_sphere.specs.Roles.{keeping_of, role_in, role_of, IsKeepingOf, IsLive, IsReplayed, IsSphere}
+use Rattle.dl_sphere.specs.SizedSpheres.{SizedSphere}
 use Rattle.dl_sphere.proofs.Replays.Moved.{dma_granted, dma_left, dma_left_commits, dma_stands_granted, dma_stands_left}
 use Rattle.dl_sphere.proofs.Standing.Moves.{transferred_stand}
 use Rattle.dl_sphere.proofs.Replays.Limits.{replayed, stands_replayed, live_part}
@@ -25,12 +25,12 @@ unreachable-requires c =
     let a = c.self.inside in
     let d = c.args.devices.now in
     let live : IsLive (keeping_of a.part) = live_part a.part c.in_default.not-Replayed in
-    let some : IsSome (dma_moved d (sphere_in a)) = subst (λ (v : Standing). IsSome (dma_moved d v.sphere)) (sym c.self.view_is) c.requires.some in
+    let some : IsSome (dma_moved d (sphere_in a)) = subst (λ (v : SizedSphere). IsSome (dma_moved d v.sphere)) (sym c.self.view_is) c.requires.some in
     let none : dma_moved d (sphere_in a) ≡ None =
     ap (λ (q : Option Request). dma_moved d (sphere_with a.memory a.threads a.commits.items a.last q (role_in a.part))) c.in_default-request.is
     ∙ none_moved (keeping_of a.part) a.memory a.threads a.commits.items a.last d live
     in
-    absurd (true≢false (sym (subst (λ (x : Option Moved). IsSome x) none some)))
+    absurd (true≢false (sym (subst (λ (x : Option MovedSphere). IsSome x) none some)))
 
 pub invariant_of-self-2 : goal.invariant_of-self-2
 invariant_of-self-2 c =
@@ -39,7 +39,7 @@ invariant_of-self-2 c =
     let live : IsLive (keeping_of a.part) = live_part a.part c.in_default.not-Replayed in
     let e = c.in_ok-words.ensures in
     let q : Sphere = sphere_with a.memory a.threads c.live_dma.new.commits.items a.last None (role_in c.live_dma.new.part) in
-    subst (IsStanding a.standard q) (sym e.noted)
+    subst (IsSphere a.standard q) (sym e.noted)
     (transferred_stand (sphere_in a) q a.standard (dma_bytes c.args.devices.now request) (keeping_of a.part) live refl
     (ap length e.commits ∙ pushed_length a.commits.items dma_commit (length a.commits.items) refl) c.self.invariant)
 
@@ -50,12 +50,12 @@ returns c =
     let request = c.in-Some.request in
     let live : IsLive (keeping_of a.part) = live_part a.part c.in_default.not-Replayed in
     let e = c.in_ok-words.ensures in
-    let here : AreKept a.standard (sphere_with a.memory a.threads a.commits.items a.last (Some request) (role_in a.part)) (keeping_of a.part) =
-    subst (λ (q : Option Request). AreKept a.standard (sphere_with a.memory a.threads a.commits.items a.last q (role_in a.part)) (keeping_of a.part)) c.in-Some.is c.self.invariant.kept
+    let here : IsKeepingOf a.standard (sphere_with a.memory a.threads a.commits.items a.last (Some request) (role_in a.part)) (keeping_of a.part) =
+    subst (λ (q : Option Request). IsKeepingOf a.standard (sphere_with a.memory a.threads a.commits.items a.last q (role_in a.part)) (keeping_of a.part)) c.in-Some.is c.self.invariant.kept
     in
     record {
       ok =
-          sym (ap (λ (v : Standing). dma_moved d v.sphere) c.self.view_is)
+          sym (ap (λ (v : SizedSphere). dma_moved d v.sphere) c.self.view_is)
           ∙ ap (λ (q : Option Request). dma_moved d (sphere_with a.memory a.threads a.commits.items a.last q (role_in a.part))) c.in-Some.is
           ∙ dma_is_moved a.standard (keeping_of a.part) a.memory a.threads a.commits.items a.last request d live here
           ∙ (λ i. Some (record {
@@ -64,7 +64,7 @@ returns c =
             words = sym e.words i;
             devices = sym e.devices i;
           }));
-      standard = ap (λ (v : Standing). v.standard) c.self.view_is;
+      standard = ap (λ (v : SizedSphere). v.standard) c.self.view_is;
       err = tt;
       devices = tt;
     }
@@ -104,7 +104,7 @@ count-requires c =
     let said = rw c.in-Err.is at (c.in_ok-served.ensures.judged p kept.agrees refl) in
     let same : length n.commits.items ≡ length a.commits.items = dma_left_commits p (before r a.threads a.request a.commits.items) v c.in-Err.why n.replay.player n.replay.loads.items a.threads n.request n.commits.items said in
     let few : length a.commits.items < 2 ^ 24 =
-    subst (λ n. n < 2 ^ 24) (sym (ap (λ (s : Standing). length s.sphere.progress.commits) c.self.view_is)) c.requires.few
+    subst (λ n. n < 2 ^ 24) (sym (ap (λ (s : SizedSphere). length s.sphere.progress.commits) c.self.view_is)) c.requires.few
     in
     let here : length c.deref.result.now ≡ length n.commits.items = ap length c.deref.ensures.value in
     omega (arith, same, few, here)
@@ -121,9 +121,9 @@ returns-in-Err-clause-ok c =
     let kept : IsReplayed (sphere_in a) r.player = replayed a r c.in-Replayed.is c.self.invariant in
     let said = rw c.in-Err.is at (c.in_ok-served.ensures.judged p kept.agrees refl) in
     let len : c.count.result ≡ length n.commits.items = c.count.ensures ∙ ap length c.deref.ensures.value in
-    sym (ap (λ (s : Standing). dma_moved d s.sphere) c.self.view_is)
+    sym (ap (λ (s : SizedSphere). dma_moved d s.sphere) c.self.view_is)
     ∙ ap (λ (y : Part). dma_moved d (sphere_with a.memory a.threads a.commits.items a.last a.request (role_in y))) c.in-Replayed.is
-    ∙ ap (λ (x : Moved). Some x) (sym (
+    ∙ ap (λ (x : MovedSphere). Some x) (sym (
     ap (λ m. record { outcome = Diverged m c.in-Err.why; sphere = sphere_with a.memory a.threads n.commits.items a.last n.request (Replay (cursor_of n.replay.player n.replay.loads.items)); words = []; devices = d }) len
     ∙ dma_left a.memory a.threads a.commits.items a.last a.request r.player r.loads.items v d c.in-Err.why n.replay.player n.replay.loads.items a.threads n.request n.commits.items [] kept.agrees.done said))
 
@@ -138,7 +138,7 @@ returns-in-Replayed-clause-ok c =
     let n = c.serve_dma.new in
     let kept : IsReplayed (sphere_in a) r.player = replayed a r c.in-Replayed.is c.self.invariant in
     let said = rw c.in-Ok.is at (c.in_ok-served.ensures.judged p kept.agrees refl) in
-    sym (ap (λ (s : Standing). dma_moved d s.sphere) c.self.view_is)
+    sym (ap (λ (s : SizedSphere). dma_moved d s.sphere) c.self.view_is)
     ∙ ap (λ (y : Part). dma_moved d (sphere_with a.memory a.threads a.commits.items a.last a.request (role_in y))) c.in-Replayed.is
-    ∙ ap (λ (x : Moved). Some x) (sym (
+    ∙ ap (λ (x : MovedSphere). Some x) (sym (
     dma_granted a.memory a.threads a.commits.items a.last a.request r.player r.loads.items v d n.replay.player n.replay.loads.items a.threads n.request n.commits.items c.in-Ok.words.words said))

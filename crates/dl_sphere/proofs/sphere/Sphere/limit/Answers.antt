@@ -4,7 +4,7 @@ use Rattle.spec_protocol.specs.Spheres.{limit_of}
 use Rattle.dl_replay.specs.Replaying.{cursor_of}
 use Rattle.dl_sphere.specs.declared.part.Part.{Part}
 use Rattle.dl_sphere.specs.Roles.{role_in}
-use Rattle.dl_sphere.specs.Standing.{Standing}
+use Rattle.dl_sphere.specs.SizedSpheres.{SizedSphere}
 use Rattle.dl_sphere.proofs.Replays.Limits.{replayed, there, replay-least, replay-most}
 use Rattle.dl_sphere.proofs.sphere.Sphere.limit.Goals as goal
 
@@ -13,10 +13,10 @@ returns-in-Replayed-clause-value c t is =
     let a = c.self.inside in
     let r = c.in-Replayed.replay in
     let kept = replayed a r c.in-Replayed.is c.self.invariant in
-    let here : slice_get a.threads c.args.thread ≡ Some t = ap (λ (v : Standing). slice_get v.sphere.threads c.args.thread) c.self.view_is ∙ is in
+    let here : slice_get a.threads c.args.thread ≡ Some t = ap (λ (v : SizedSphere). slice_get v.sphere.threads c.args.thread) c.self.view_is ∙ is in
     c.limit.ensures a.standard r.loads.items a.threads t c.self.invariant.threads kept.commits here
     ∙ sym (ap (λ (part : Part). limit_of a.standard (role_in part) c.args.thread t) c.in-Replayed.is)
-    ∙ ap (λ (v : Standing). limit_of v.standard v.sphere.role c.args.thread t) c.self.view_is
+    ∙ ap (λ (v : SizedSphere). limit_of v.standard v.sphere.role c.args.thread t) c.self.view_is
 
 pub returns-in-Replayed-clause-least : goal.returns-in-Replayed-clause-least
 returns-in-Replayed-clause-least c =
@@ -24,7 +24,7 @@ returns-in-Replayed-clause-least c =
     let k = c.args.thread in
     let r = c.in-Replayed.replay in
     let kept = replayed a r c.in-Replayed.is c.self.invariant in
-    let few : k < length a.threads = subst (λ (v : Standing). k < length v.sphere.threads) (sym c.self.view_is) c.requires in
+    let few : k < length a.threads = subst (λ (v : SizedSphere). k < length v.sphere.threads) (sym c.self.view_is) c.requires in
     let h = there a.threads k few in
     subst (λ n. 1 ≤ n) (sym (c.limit.ensures a.standard r.loads.items a.threads h.thread c.self.invariant.threads kept.commits h.is))
     (replay-least a.standard (cursor_of r.player r.loads.items) k h.thread)
@@ -35,7 +35,7 @@ returns-in-Replayed-clause-most c =
     let k = c.args.thread in
     let r = c.in-Replayed.replay in
     let kept = replayed a r c.in-Replayed.is c.self.invariant in
-    let few : k < length a.threads = subst (λ (v : Standing). k < length v.sphere.threads) (sym c.self.view_is) c.requires in
+    let few : k < length a.threads = subst (λ (v : SizedSphere). k < length v.sphere.threads) (sym c.self.view_is) c.requires in
     let h = there a.threads k few in
     subst (λ n. n ≤ 4096) (sym (c.limit.ensures a.standard r.loads.items a.threads h.thread c.self.invariant.threads kept.commits h.is))
     (replay-most a.standard (cursor_of r.player r.loads.items) k h.thread kept.is_log)

@@ -5,9 +5,9 @@ use Rattle.spec_kernel.specs.Interrupts.{interrupted}
 use Rattle.spec_protocol.specs.Spheres.{Sphere, Role}
 use Rattle.spec_protocol.specs.Commits.{raised, role_raised}
 use Rattle.spec_protocol.specs.Placing.{replays}
-use Rattle.dl_sphere.specs.Roles.{keeping_of, role_in, role_of, with_raised, CanRaise, IsLive, IsStanding}
+use Rattle.dl_sphere.specs.Roles.{keeping_of, role_in, role_of, with_raised, CanRaise, IsLive, IsSphere}
 use Rattle.dl_sphere.specs.Inside.{sphere_in, sphere_with}
-use Rattle.dl_sphere.specs.Standing.{Standing}
+use Rattle.dl_sphere.specs.SizedSpheres.{SizedSphere}
 use Rattle.dl_sphere.proofs.Standing.Moves.{can_raise, raised_stand, raised_role}
 use Rattle.dl_sphere.proofs.Replays.Limits.{live_role}
 use Rattle.dl_sphere.proofs.sphere.Sphere.raise.Goals as goal
@@ -18,7 +18,7 @@ note_interrupt-requires-clause-fresh c =
     let k = c.args.thread in
     let t = c.thread_at-found.result in
     let start : slice_get c.args.self.now.sphere.threads k ≡ Some t =
-    sym (ap (λ (v : Standing). slice_get v.sphere.threads k) c.self.view_is) ∙ c.thread_at-found.ensures.value
+    sym (ap (λ (v : SizedSphere). slice_get v.sphere.threads k) c.self.view_is) ∙ c.thread_at-found.ensures.value
     in
     subst (λ n. CanRaise k n (keeping_of a.part)) (sym c.commits.ensures)
     (can_raise (sphere_in a) k t a.standard (keeping_of a.part) c.thread_at-found.ensures.value (c.requires.there t start) c.self.invariant)
@@ -30,11 +30,11 @@ invariant_of-self-2 c =
     let t = c.thread_at-found.result in
     let q : Sphere = sphere_with a.memory c.set.new.self a.commits.items a.last a.request (role_in c.note_interrupt.new.part) in
     let start : slice_get c.args.self.now.sphere.threads k ≡ Some t =
-    sym (ap (λ (v : Standing). slice_get v.sphere.threads k) c.self.view_is) ∙ c.thread_at-found.ensures.value
+    sym (ap (λ (v : SizedSphere). slice_get v.sphere.threads k) c.self.view_is) ∙ c.thread_at-found.ensures.value
     in
-    let live : IsLive (keeping_of a.part) = live_role (keeping_of a.part) (ap (λ (v : Standing). replays v.sphere.role) c.self.view_is ∙ c.requires.recorded) in
+    let live : IsLive (keeping_of a.part) = live_role (keeping_of a.part) (ap (λ (v : SizedSphere). replays v.sphere.role) c.self.view_is ∙ c.requires.recorded) in
     let noted = c.in_ok-note_interrupt.ensures.noted ∙ ap (λ n. with_raised k n c.args.value (keeping_of a.part)) c.commits.ensures in
-    subst (IsStanding a.standard q) (sym noted)
+    subst (IsSphere a.standard q) (sym noted)
     (raised_stand (sphere_in a) q k c.args.value t a.standard (keeping_of a.part) c.thread_at-found.ensures.value (c.requires.there t start) (c.set.ensures ∙ ap (set a.threads k) c.interrupted.ensures) refl live c.self.invariant)
 
 pub returns-clause-ok : goal.returns-clause-ok
@@ -46,7 +46,7 @@ returns-clause-ok c =
     let v = c.args.value in
     let x = c.thread_at-found.result in
     let start : slice_get c.args.self.now.sphere.threads k ≡ Some x =
-    sym (ap (λ (s : Standing). slice_get s.sphere.threads k) c.self.view_is) ∙ c.thread_at-found.ensures.value
+    sym (ap (λ (s : SizedSphere). slice_get s.sphere.threads k) c.self.view_is) ∙ c.thread_at-found.ensures.value
     in
     let same : x ≡ t = (let e : Some x ≡ Some t = sym start ∙ is in cc) in
     let made : List Parts → Role → Sphere = λ us role. sphere_with a.memory us a.commits.items a.last a.request role in
@@ -55,4 +55,4 @@ returns-clause-ok c =
     ap role_of (c.in_ok-note_interrupt.ensures.noted ∙ ap (λ n. with_raised k n v (keeping_of a.part)) (c.commits.ensures ∙ ap (λ (y : Parts). y.commits) same))
     ∙ raised_role k t.commits v (keeping_of a.part)
     in
-    ap (λ us. made us (role_in c.note_interrupt.new.part)) threads ∙ ap (made (set a.threads k (interrupted v t))) role ∙ ap (λ (s : Standing). raised k v t s.sphere) c.self.view_is
+    ap (λ us. made us (role_in c.note_interrupt.new.part)) threads ∙ ap (made (set a.threads k (interrupted v t))) role ∙ ap (λ (s : SizedSphere). raised k v t s.sphere) c.self.view_is

@@ -15,13 +15,13 @@ use Rattle.spec_protocol.specs.Spheres.{Replay, Sphere, Role}
 use Rattle.dl_replay.specs.Replaying.{cursor_of}
 use Rattle.dl_sphere.specs.declared.part.Part.{Part}
 use Rattle.dl_sphere.specs.Replayed.{before}
-use Rattle.spec_protocol.specs.Commits.{Diverged, Granted, Moved, serial_moved}
+use Rattle.spec_protocol.specs.Commits.{Diverged, Granted, MovedSphere, serial_moved}
 use Rattle.spec_protocol.proofs.Logs.Growing.{commits_if, pushed_length}
 use Rattle.spec_protocol.proofs.Moves.Threads.{serve-keeps}
 use Rattle.dl_kernel.specs.Calls.{made_list}
-use Rattle.dl_sphere.specs.Roles.{keeping_of, role_in, role_of, with_noted, IsReplayed, IsStanding}
+use Rattle.dl_sphere.specs.Roles.{keeping_of, role_in, role_of, with_noted, IsReplayed, IsSphere}
 use Rattle.dl_sphere.specs.Inside.{sphere_in, sphere_with}
-use Rattle.dl_sphere.specs.Standing.{Standing}
+use Rattle.dl_sphere.specs.SizedSpheres.{SizedSphere}
 use Rattle.dl_sphere.proofs.Standing.Moves.{Commits, commits_stand, threads_few}
 use Rattle.dl_sphere.proofs.Replays.Moved.{granted, goes_words, left, left_commits, stands_granted, stands_left}
 use Rattle.dl_sphere.proofs.Replays.Limits.{few_live, live_part, replayed, stands_replayed}
@@ -38,7 +38,7 @@ counted-after-requires c =
     let same : c.in_ok-left.left.thread.commits ≡ t.commits = ap (λ (v : Parts). v.commits) c.in_ok-left.ensures.thread ∙ keeps.commits in
     let most : t.commits ≤ length a.commits.items = subst (λ n. n ≤ length a.commits.items) (ap commits_if c.thread_at-found.ensures.value) ((few_live a.standard (sphere_in a) (keeping_of a.part) (live_part a.part c.in_default.not-Replayed) c.self.invariant.kept).few k) in
     let few : length a.commits.items < 2 ^ 24 =
-    subst (λ n. n < 2 ^ 24) (sym (ap (λ (v : Standing). length v.sphere.progress.commits) c.self.view_is)) c.requires.few
+    subst (λ n. n < 2 ^ 24) (sym (ap (λ (v : SizedSphere). length v.sphere.progress.commits) c.self.view_is)) c.requires.few
     in
     omega arith
 
@@ -71,7 +71,7 @@ invariant_of-self-2 c =
       actor = refl;
     }
     in
-    subst (IsStanding a.standard q) (sym c.in_ok-left.ensures.noted)
+    subst (IsSphere a.standard q) (sym c.in_ok-left.ensures.noted)
     (commits_stand (sphere_in a) q k t u v.made commit a.standard false g.input (keeping_of a.part) (live_part a.part c.in_default.not-Replayed) d h)
 
 pub returns-clause-ok : goal.returns-clause-ok
@@ -83,7 +83,7 @@ returns-clause-ok c =
     let d = c.args.devices.now in
     let x = c.thread_at-found.result in
     let start : slice_get c.args.self.now.sphere.threads k ≡ Some x =
-    sym (ap (λ (s : Standing). slice_get s.sphere.threads k) c.self.view_is) ∙ c.thread_at-found.ensures.value
+    sym (ap (λ (s : SizedSphere). slice_get s.sphere.threads k) c.self.view_is) ∙ c.thread_at-found.ensures.value
     in
     let same : x ≡ t = (let e : Some x ≡ Some t = sym start ∙ is in cc) in
     let g = taken (need x a.memory) d moment in
@@ -91,7 +91,7 @@ returns-clause-ok c =
     let commit : Commit = serial_commit k v.loads v.outputs in
     let left = c.in_ok-left.left in
     let l = c.in_ok-left.ensures in
-    let made : List Parts → List Commit → Option Request → Role → List Stored → Devices → Moved =
+    let made : List Parts → List Commit → Option Request → Role → List Stored → Devices → MovedSphere =
     λ us cs rq role ws e. record { outcome = Granted; sphere = sphere_with a.memory us cs (Some k) rq role; words = ws; devices = e }
     in
     let threads : c.settle.new.threads ≡ set a.threads k (counted v.thread) ++ v.made =
@@ -106,7 +106,7 @@ returns-clause-ok c =
     ∙ ap (made (set a.threads k (counted v.thread) ++ v.made) (a.commits.items ++ commit ∷ []) v.request (role_of (with_noted commit false g.input None (keeping_of a.part))) v.words) l.devices
     ∙ step_is_moved a.standard (keeping_of a.part) a.memory a.threads a.commits.items a.last a.request k moment x d (live_part a.part c.in_default.not-Replayed) c.thread_at-found.ensures.value c.self.invariant.kept
     ∙ ap (λ (y : Parts). serial_moved k moment y d (sphere_in a)) same
-    ∙ ap (λ (s : Standing). serial_moved k moment t d s.sphere) c.self.view_is
+    ∙ ap (λ (s : SizedSphere). serial_moved k moment t d s.sphere) c.self.view_is
 
 pub invariant_of-self-in-Replayed : goal.invariant_of-self-in-Replayed
 invariant_of-self-in-Replayed c =
@@ -150,7 +150,7 @@ count-requires c =
     let said = rw c.in-Err.is at (c.in_ok-served.ensures.judged p x kept.agrees refl c.thread_at-found.ensures.value) in
     let same : length n.commits.items ≡ length a.commits.items = left_commits p k (before r a.threads a.request a.commits.items) v c.in-Err.why n.replay.player n.replay.loads.items n.threads n.request n.commits.items (λ i. record (said i) { words = [] }) in
     let few : length a.commits.items < 2 ^ 24 =
-    subst (λ n. n < 2 ^ 24) (sym (ap (λ (s : Standing). length s.sphere.progress.commits) c.self.view_is)) c.requires.few
+    subst (λ n. n < 2 ^ 24) (sym (ap (λ (s : SizedSphere). length s.sphere.progress.commits) c.self.view_is)) c.requires.few
     in
     let here : length c.deref.result.now ≡ length n.commits.items = ap length c.deref.ensures.value in
     omega (arith, same, few, here)
@@ -171,7 +171,7 @@ returns-in-Err-clause-ok c =
     let kept : IsReplayed (sphere_in a) r.player = replayed a r c.in-Replayed.is c.self.invariant in
     let said = rw c.in-Err.is at (c.in_ok-served.ensures.judged p x kept.agrees refl c.thread_at-found.ensures.value) in
     let start : slice_get c.args.self.now.sphere.threads k ≡ Some x =
-    sym (ap (λ (s : Standing). slice_get s.sphere.threads k) c.self.view_is) ∙ c.thread_at-found.ensures.value
+    sym (ap (λ (s : SizedSphere). slice_get s.sphere.threads k) c.self.view_is) ∙ c.thread_at-found.ensures.value
     in
     let same : x ≡ t = (let e : Some x ≡ Some t = sym start ∙ there in cc) in
     let len : c.count.result ≡ length n.commits.items = c.count.ensures ∙ ap length c.deref.ensures.value in
@@ -180,7 +180,7 @@ returns-in-Err-clause-ok c =
     kept.agrees.done (λ i. record (said i) { words = [] })
     ∙ ap (λ (y : Part). serial_moved k moment x d (sphere_with a.memory a.threads a.commits.items a.last a.request (role_in y))) (sym c.in-Replayed.is)
     ∙ ap (λ (y : Parts). serial_moved k moment y d (sphere_in a)) same
-    ∙ ap (λ (s : Standing). serial_moved k moment t d s.sphere) c.self.view_is
+    ∙ ap (λ (s : SizedSphere). serial_moved k moment t d s.sphere) c.self.view_is
 
 pub returns-in-Replayed-clause-ok : goal.returns-in-Replayed-clause-ok
 unfolding serial_moved
@@ -198,7 +198,7 @@ returns-in-Replayed-clause-ok c =
     let kept : IsReplayed (sphere_in a) r.player = replayed a r c.in-Replayed.is c.self.invariant in
     let said = rw c.in-Ok.is at (c.in_ok-served.ensures.judged p x kept.agrees refl c.thread_at-found.ensures.value) in
     let start : slice_get c.args.self.now.sphere.threads k ≡ Some x =
-    sym (ap (λ (s : Standing). slice_get s.sphere.threads k) c.self.view_is) ∙ c.thread_at-found.ensures.value
+    sym (ap (λ (s : SizedSphere). slice_get s.sphere.threads k) c.self.view_is) ∙ c.thread_at-found.ensures.value
     in
     let same : x ≡ t = (let e : Some x ≡ Some t = sym start ∙ there in cc) in
     let words : (e : Effect) (u : Used) → v ≡ Goes e u → e.words ≡ c.in-Ok.words.words =
@@ -208,4 +208,4 @@ returns-in-Replayed-clause-ok c =
     (λ i. record (said i) { words = [] })
     ∙ ap (λ (y : Part). serial_moved k moment x d (sphere_with a.memory a.threads a.commits.items a.last a.request (role_in y))) (sym c.in-Replayed.is)
     ∙ ap (λ (y : Parts). serial_moved k moment y d (sphere_in a)) same
-    ∙ ap (λ (s : Standing). serial_moved k moment t d s.sphere) c.self.view_is
+    ∙ ap (λ (s : SizedSphere). serial_moved k moment t d s.sphere) c.self.view_is

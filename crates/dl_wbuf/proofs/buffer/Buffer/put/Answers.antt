@@ -2,7 +2,7 @@
 use Rattle.std.proofs.Common.{◌≡◌, ◌/◌, ◌≤◌, ◌<◌, length, sym, ap, ◌∙◌, rules}
 use Rattle.std.proofs.lemmas.Bool.{le-ltb}
 use Rattle.dl_wbuf.proofs.Positions.{position-found, IsPlaced-again, IsPlaced-new}
-use Rattle.dl_wbuf.proofs.Puts.{put_found, put_missing, same_word, new_word, IsKept-found, IsKept-missing, room_found, room_missing}
+use Rattle.dl_wbuf.proofs.Puts.{put_found, put_missing, same_word, new_word, IsBuffer-found, IsBuffer-missing, room_found, room_missing}
 use Rattle.dl_wbuf.proofs.buffer.Buffer.put.Goals as goal
 
 pub invariant_of-self : goal.invariant_of-self
@@ -11,7 +11,7 @@ invariant_of-self c =
     let old = c.index-stored.result.now in
     let new = c.then.result in
     let place = position-found _ _ _ ws (c.args.word / 4) _ _ _ c.self.invariant.1 c.slot-slot.ensures.value c.place_in.ensures c.in-Some.ensures in (
-      IsKept-found _ _ ws c.in-Some.i new _ (put_found ws (c.args.word / 4) c.in-Some.i c.args.mask c.args.value old new place c.index-stored.ensures c.then.ensures) c.self.invariant.0,
+      IsBuffer-found _ _ ws c.in-Some.i new _ (put_found ws (c.args.word / 4) c.in-Some.i c.args.mask c.args.value old new place c.index-stored.ensures c.then.ensures) c.self.invariant.0,
       IsPlaced-again _ _ _ ws c.in-Some.i new old (same_word ws c.in-Some.i old new _ c.index-stored.ensures c.then.ensures) c.self.invariant.1,
     )
 
@@ -45,7 +45,7 @@ invariant_of-self-2 c =
     let room : length ws < c.self.inside.capacity = search rules in
     let len : c.len-2.result ≡ length ws = search rules in
     rw (c.push_back_reserved.ensures.items, c.push_back_reserved.ensures.capacity) (
-      IsKept-missing _ _ ws new _ (put_missing ws number c.args.mask c.args.value c.none.result new place c.none.ensures c.then-2.ensures) room c.self.invariant.0,
+      IsBuffer-missing _ _ ws new _ (put_missing ws number c.args.mask c.args.value c.none.result new place c.none.ensures c.then-2.ensures) room c.self.invariant.0,
       IsPlaced-new _ _ _ _ ws new number (new_word number c.args.mask c.args.value c.none.result new c.none.ensures c.then-2.ensures) place c.self.invariant.1 (rw len at c.set.ensures.places) c.set.ensures.taken c.set.ensures.room,
     )
 

@@ -9,28 +9,28 @@ use Rattle.spec_log.specs.Reading.{is_earlier}
 use Rattle.dl_moments.specs.declared.lane.Mark.{Mark}
 use Rattle.dl_moments.specs.Marks.{with_mark, value_at}
 use Rattle.dl_moments.proofs.Entries as entries
-use Rattle.dl_input.specs.Held.{Held, held_of, held_from, raised_at, insert_held, interrupt_of}
+use Rattle.dl_input.specs.Tracked.{Tracked, tracked_of, tracked_from, raised_at, insert_tracked, interrupt_of}
 use Rattle.spec_log.specs.Noting.{insert_interrupt}
 
 -- an interrupt put into its thread's lane is inserted into the list
 pub insert-put : (lanes : List (List (Mark Raised))) (t i : ℕ) (v : Raised) → t < length lanes
-    → held_from 0 (set lanes t (with_mark i v (get_or lanes t []))) ≡ insert_held (record { thread = t; index = i; raised = v }) (held_from 0 lanes)
-insert-put = entries.insert-put (λ s. s.thread) (λ s. s.index) held_of (λ t m. refl) (λ t m. refl)
+    → tracked_from 0 (set lanes t (with_mark i v (get_or lanes t []))) ≡ insert_tracked (record { thread = t; index = i; raised = v }) (tracked_from 0 lanes)
+insert-put = entries.insert-put (λ s. s.thread) (λ s. s.index) tracked_of (λ t m. refl) (λ t m. refl)
 
 -- what was raised at an index of a thread's lane is found in the list
-pub raised_at-at : (lanes : List (List (Mark Raised))) (t i : ℕ) → value_at i (get_or lanes t []) ≡ raised_at (held_from 0 lanes) t i
-raised_at-at = entries.value-found (λ s. s.thread) (λ s. s.index) held_of (λ t m. refl) (λ t m. refl) (λ s. s.raised) (λ t m. refl)
+pub raised_at-at : (lanes : List (List (Mark Raised))) (t i : ℕ) → value_at i (get_or lanes t []) ≡ raised_at (tracked_from 0 lanes) t i
+raised_at-at = entries.value-found (λ s. s.thread) (λ s. s.index) tracked_of (λ t m. refl) (λ t m. refl) (λ s. s.raised) (λ t m. refl)
 
 -- a place among a thread's entries is one of its lane
-pub slice_get-lane : (lane : List (Mark Raised)) (rest : List Held) (t i : ℕ) (d : Mark Raised) → i < length lane
-    → slice_get (map (held_of t) lane ++ rest) i ≡ Some (held_of t (get_or lane i d))
+pub slice_get-lane : (lane : List (Mark Raised)) (rest : List Tracked) (t i : ℕ) (d : Mark Raised) → i < length lane
+    → slice_get (map (tracked_of t) lane ++ rest) i ≡ Some (tracked_of t (get_or lane i d))
 slice_get-lane [] rest t i d h = absurd (omega arith)
 slice_get-lane (m ∷ lane) rest t zero d h = refl
 slice_get-lane (m ∷ lane) rest t (suc i) d h = slice_get-lane lane rest t i d (omega arith)
 
 -- a place behind a thread's entries is one among the rest
-pub slice_get-behind : (lane : List (Mark Raised)) (rest : List Held) (t i : ℕ) → length lane ≤ i
-    → slice_get (map (held_of t) lane ++ rest) i ≡ slice_get rest (i - length lane)
+pub slice_get-behind : (lane : List (Mark Raised)) (rest : List Tracked) (t i : ℕ) → length lane ≤ i
+    → slice_get (map (tracked_of t) lane ++ rest) i ≡ slice_get rest (i - length lane)
 slice_get-behind [] rest t i h = let e : i ≡ i - 0 = omega arith in ap (slice_get rest) e
 slice_get-behind (m ∷ lane) rest t zero h = absurd (omega arith)
 slice_get-behind (m ∷ lane) rest t (suc i) h =
@@ -38,7 +38,7 @@ slice_get-behind (m ∷ lane) rest t (suc i) h =
     slice_get-behind lane rest t i (omega arith) ∙ ap (slice_get rest) (sym e)
 
 -- one more of a new moment
-pub insert-fresh : (x : Held) (xs : List Held) → raised_at xs x.thread x.index ≡ None → length (insert_held x xs) ≡ length xs + 1
+pub insert-fresh : (x : Tracked) (xs : List Tracked) → raised_at xs x.thread x.index ≡ None → length (insert_tracked x xs) ≡ length xs + 1
 insert-fresh x [] h = omega arith
 insert-fresh x (y ∷ ys) h =
     elim (cases_Bool ((y.thread == x.thread) && (y.index == x.index))) [
@@ -52,34 +52,34 @@ insert-fresh x (y ∷ ys) h =
 
 -- an interrupt put at a moment that had none makes the list longer by one
 pub many-put : (lanes new : List (List (Mark Raised))) (t i : ℕ) (v : Raised) → t < length lanes → new ≡ set lanes t (with_mark i v (get_or lanes t []))
-    → raised_at (held_from 0 lanes) t i ≡ None → length (held_from 0 new) ≡ length (held_from 0 lanes) + 1
+    → raised_at (tracked_from 0 lanes) t i ≡ None → length (tracked_from 0 new) ≡ length (tracked_from 0 lanes) + 1
 many-put lanes new t i v h e none =
-    let there = ap (held_from 0) e ∙ insert-put lanes t i v h in
-    ap length there ∙ insert-fresh (record { thread = t; index = i; raised = v }) (held_from 0 lanes) none
+    let there = ap (tracked_from 0) e ∙ insert-put lanes t i v h in
+    ap length there ∙ insert-fresh (record { thread = t; index = i; raised = v }) (tracked_from 0 lanes) none
 
 -- as many with another lane that is as long
 count-lane : (lanes : List (List (Mark Raised))) (base t : ℕ) (lane : List (Mark Raised)) → length lane ≡ length (get_or lanes t [])
-    → length (held_from base (set lanes t lane)) ≡ length (held_from base lanes)
+    → length (tracked_from base (set lanes t lane)) ≡ length (tracked_from base lanes)
 count-lane [] base t lane h = refl
 count-lane (l ∷ lanes) base zero lane h =
-    let rest = held_from (suc base) lanes in
-    omega (arith, h, length-append (map (held_of base) lane) rest, length-append (map (held_of base) l) rest, length-map lane (held_of base), length-map l (held_of base))
+    let rest = tracked_from (suc base) lanes in
+    omega (arith, h, length-append (map (tracked_of base) lane) rest, length-append (map (tracked_of base) l) rest, length-map lane (tracked_of base), length-map l (tracked_of base))
 count-lane (l ∷ lanes) base (suc t) lane h =
     omega (
       arith,
       count-lane lanes (suc base) t lane h,
-      length-append (map (held_of base) l) (held_from (suc base) (set lanes t lane)),
-      length-append (map (held_of base) l) (held_from (suc base) lanes),
+      length-append (map (tracked_of base) l) (tracked_from (suc base) (set lanes t lane)),
+      length-append (map (tracked_of base) l) (tracked_from (suc base) lanes),
     )
 
 -- another lane of the same length leaves the list as long as it was
 pub count-set : (lanes new : List (List (Mark Raised))) (t : ℕ) (lane : List (Mark Raised)) → t < length lanes → new ≡ set lanes t lane
-    → length (get_or new t []) ≡ length (get_or lanes t []) → length (held_from 0 new) ≡ length (held_from 0 lanes)
+    → length (get_or new t []) ≡ length (get_or lanes t []) → length (tracked_from 0 new) ≡ length (tracked_from 0 lanes)
 count-set lanes new t lane h e same =
     rw e (count-lane lanes 0 t lane (sym (ap length (get_or-set_same lanes t lane [] h)) ∙ (rw e at same)))
 
 -- an entry inserted and then seen as an interrupt is the interrupt inserted
-pub insert-map : (x : Held) (xs : List Held) → map interrupt_of (insert_held x xs) ≡ insert_interrupt (interrupt_of x) (map interrupt_of xs)
+pub insert-map : (x : Tracked) (xs : List Tracked) → map interrupt_of (insert_tracked x xs) ≡ insert_interrupt (interrupt_of x) (map interrupt_of xs)
 insert-map x [] = refl
 insert-map x (y ∷ ys) =
     elim (cases_Bool (is_earlier y.thread y.index x.thread x.index)) [

@@ -3,7 +3,7 @@ use Rattle.std.specs.Prelude.{Bool, List}
 use Rattle.dl_moments.specs.declared.lane.Mark.{Mark}
 
 -- the values by rising indices, and whether there is room for one more
-pub record Held (V : Type 0) : Type 0 where
+pub record LaneState (V : Type 0) : Type 0 where
   pub marks : List (Mark V)
   pub room : Bool
 

@@ -1,10 +1,10 @@
 -- What a serial step leaves, as the code keeps it.
 use Rattle.spec_kernel.specs.Serving as kernel
-use Rattle.dl_kernel.specs.declared.serving.Served.{Served}
+use Rattle.dl_kernel.specs.declared.serving.StepResult.{StepResult}
 use Rattle.dl_kernel.specs.Calls.{made_list}
 
-abbrev pub served_in : Served → kernel.Served
-served_in s =
+abbrev pub result_in : StepResult → kernel.StepResult
+result_in s =
     record {
       thread = s.thread;
       made = made_list s.made;

@@ -7,44 +7,44 @@ use Rattle.dl_moments.specs.Entries.{entries_from}
 use Rattle.dl_input.specs.declared.interrupts.Raised.{Raised}
 
 -- an interrupt, with its value and whether it was taken
-pub record Held : Type 0 where
+pub record Tracked : Type 0 where
   pub thread : ℕ
   pub index : ℕ
   pub raised : Raised
 
-abbrev pub held_of : ℕ → Mark Raised → Held
-held_of thread mark = record { thread = thread; index = mark.index; raised = mark.value }
+abbrev pub tracked_of : ℕ → Mark Raised → Tracked
+tracked_of thread mark = record { thread = thread; index = mark.index; raised = mark.value }
 
 -- an interrupt that isn't taken yet
-abbrev pub new_held : ℕ → ℕ → ℕ → Held
-new_held thread index value = record { thread = thread; index = index; raised = record { value = value; taken = false } }
+abbrev pub new_tracked : ℕ → ℕ → ℕ → Tracked
+new_tracked thread index value = record { thread = thread; index = index; raised = record { value = value; taken = false } }
 
 -- those of a thread, and of the threads behind it
-abbrev pub held_from : ℕ → List (List (Mark Raised)) → List Held
-held_from = entries_from held_of
+abbrev pub tracked_from : ℕ → List (List (Mark Raised)) → List Tracked
+tracked_from = entries_from tracked_of
 
 -- what was raised at a thread with so many of its commits before
-abbrev pub raised_at : List Held → ℕ → ℕ → Option Raised
+abbrev pub raised_at : List Tracked → ℕ → ℕ → Option Raised
 raised_at entries thread index =
     option_map (λ s. s.raised) (find (λ s. (s.thread == thread) && (s.index == index)) entries)
 
 -- an interrupt at its place, instead of another of the same moment
-abbrev pub insert_held : Held → List Held → List Held
-insert_held = insert_by (λ s. s.thread) (λ s. s.index)
+abbrev pub insert_tracked : Tracked → List Tracked → List Tracked
+insert_tracked = insert_by (λ s. s.thread) (λ s. s.index)
 
-abbrev pub interrupt_of : Held → Interrupt
-interrupt_of held = record { thread = held.thread; index = held.index; value = held.raised.value }
+abbrev pub interrupt_of : Tracked → Interrupt
+interrupt_of tracked = record { thread = tracked.thread; index = tracked.index; value = tracked.raised.value }
 
 -- what stands at a moment, marked as taken
-abbrev pub marked : ℕ → ℕ → Option Raised → List Held → List Held
+abbrev pub marked : ℕ → ℕ → Option Raised → List Tracked → List Tracked
 marked thread index None entries = entries
 marked thread index (Some raised) entries =
-    insert_held (record { thread = thread; index = index; raised = record { value = raised.value; taken = true } }) entries
+    insert_tracked (record { thread = thread; index = index; raised = record { value = raised.value; taken = true } }) entries
 
-abbrev pub taken_at : ℕ → ℕ → List Held → List Held
+abbrev pub taken_at : ℕ → ℕ → List Tracked → List Tracked
 taken_at thread index entries = marked thread index (raised_at entries thread index) entries
 
 -- the interrupts by thread and index, and whether there is room for one more
 pub record Noted : Type 0 where
-  pub entries : List Held
+  pub entries : List Tracked
   pub room : Bool

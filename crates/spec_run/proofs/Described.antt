@@ -36,8 +36,8 @@ use Rattle.spec_finishing.proofs.Next.All.{next-stands}
 use Rattle.spec_finishing.proofs.Ending.Played.{replays_finished}
 use Rattle.spec_finishing.proofs.Next.Turns.{shown-itself}
 use Rattle.spec_run.specs.Runs.{executed, played, end_of}
-use Rattle.spec_run.specs.Texts.{account_as, executed_account, log_told, played_account}
-use Rattle.spec_run.specs.Promise.{end_as, account_held, HasRole, SpheresAreTold, RunsAreTold, RecordingsAreReproduced}
+use Rattle.spec_run.specs.Texts.{account_as, executed_account, log_of_points, played_account}
+use Rattle.spec_run.specs.Promise.{end_as, account_held, HasRole, SpheresAreDescribed, RunsAreDescribed, RecordingsAreReproduced}
 
 -- ---- lists of events
 
@@ -152,7 +152,7 @@ over_how (Turn k) e = absurd (true≢false (sym e))
 over_how TurnOfDma e = absurd (true≢false (sym e))
 over_how (Over how) e = (how, refl)
 
--- a play that is complete leaves its state; of one that diverged none is told
+-- a play that is complete leaves its state; of one that diverged none is described
 held_played : (y : Played) (p : Sphere) (b : Cursor) (how : End) → IsPlayed y p b → b.now ≡ Over how → account_of p.progress.commits p.threads p.progress.request p.memory (end_of b.now) ≡ played_account y
 held_played y p b (End.Complete n) is over =
     let progress = is.progress in
@@ -162,16 +162,16 @@ held_played y p b (End.Complete n) is over =
     (λ j. account_of (progress j).commits (threads j) (progress j).request (memory j) (end_of (now j)))
 held_played y p b (End.Diverged n why) is over =
     let progress = is.progress in
-    let told : end_of b.now ≡ End.Diverged n why = ap end_of over in
+    let end_is : end_of b.now ≡ End.Diverged n why = ap end_of over in
     let tells : End.Diverged n why ≡ end_of y.now = ap end_of (sym over ∙ is.now) in
-    ap (account_of p.progress.commits p.threads p.progress.request p.memory) told
+    ap (account_of p.progress.commits p.threads p.progress.request p.memory) end_is
     ∙ (λ j. account_of (progress j).commits p.threads p.progress.request p.memory (End.Diverged n why))
     ∙ ap (account_of y.progress.commits y.threads y.progress.request y.memory) tells
 
 -- ---- by the role
 
-live_told : (s : Setup) (es : List Event) (i : ℕ) (image : SphereSetup) (p : Sphere) → CanFinish s → IsThere s es i image p → replays p.role ≡ false → account_held (sphere_at (finished s es) i) ≡ executed_account (sphere_in (executed s es) i)
-live_told s es i image p can t live =
+live_described : (s : Setup) (es : List Event) (i : ℕ) (image : SphereSetup) (p : Sphere) → CanFinish s → IsThere s es i image p → replays p.role ≡ false → account_held (sphere_at (finished s es) i) ≡ executed_account (sphere_in (executed s es) i)
+live_described s es i image p can t live =
     ap account_held t.at ∙ held_executed p live ∙ ap executed_account (sym (executed-is s es i image p can t live))
 
 -- what is known of a replay at its end
@@ -207,8 +207,8 @@ replayed-to s es i image log p can is t role =
       over = over_how b.now over;
     }
 
-replayed_told : (s : Setup) (es : List Event) (i : ℕ) (image : SphereSetup) (log : LogParts) (p : Sphere) → IsThere s es i image p → IsReplayedTo s es i image log p → account_held (sphere_at (finished s es) i) ≡ played_account (played log image)
-replayed_told s es i image log p t r =
+replayed_described : (s : Setup) (es : List Event) (i : ℕ) (image : SphereSetup) (log : LogParts) (p : Sphere) → IsThere s es i image p → IsReplayedTo s es i image log p → account_held (sphere_at (finished s es) i) ≡ played_account (played log image)
+replayed_described s es i image log p t r =
     ap account_held t.at
     ∙ ap (λ (role : Role). account_of p.progress.commits p.threads p.progress.request p.memory (end_as role (position p.progress))) r.role
     ∙ held_played (played log image) p r.cursor r.over.0 r.played r.over.1
@@ -227,10 +227,10 @@ has_role s es i image p (IsReplayed log) can is t role =
     let r = replayed-to s es i image log p can is t role in
     (r.cursor, ap (λ (q : Sphere). q.role) t.at ∙ r.role)
 
-account_told : (s : Setup) (es : List Event) (i : ℕ) (image : SphereSetup) (p : Sphere) (role : RoleSetup) → CanFinish s → slice_get s.spheres i ≡ Some image → IsThere s es i image p → image.role ≡ role → account_held (sphere_at (finished s es) i) ≡ account_as image (sphere_in (executed s es) i) role
-account_told s es i image p IsPlain can is t role = live_told s es i image p can t (t.kind ∙ ap is_replayed role)
-account_told s es i image p (IsRecorded mode) can is t role = live_told s es i image p can t (t.kind ∙ ap is_replayed role)
-account_told s es i image p (IsReplayed log) can is t role = replayed_told s es i image log p t (replayed-to s es i image log p can is t role)
+account_described : (s : Setup) (es : List Event) (i : ℕ) (image : SphereSetup) (p : Sphere) (role : RoleSetup) → CanFinish s → slice_get s.spheres i ≡ Some image → IsThere s es i image p → image.role ≡ role → account_held (sphere_at (finished s es) i) ≡ account_as image (sphere_in (executed s es) i) role
+account_described s es i image p IsPlain can is t role = live_described s es i image p can t (t.kind ∙ ap is_replayed role)
+account_described s es i image p (IsRecorded mode) can is t role = live_described s es i image p can t (t.kind ∙ ap is_replayed role)
+account_described s es i image p (IsReplayed log) can is t role = replayed_described s es i image log p t (replayed-to s es i image log p can is t role)
 
 same_cursor : (b c : Cursor) → Replay b ≡ Replay c → b ≡ c
 same_cursor b c e = cc
@@ -242,13 +242,13 @@ played_to s es i image p log b can is t role replay =
     ap (λ (c : Cursor). c.now) same ∙ r.played.now
 
 -- each sphere of a finished machine has the role, the account and the commits that its texts tell
-pub spheres_told : SpheresAreTold
-spheres_told s es i image can is =
+pub spheres_described : SpheresAreDescribed
+spheres_described s es i image can is =
     let p = sphere-there s es i image can is in
     let t = p.1 in
     record {
       role = has_role s es i image p.0 image.role can is t refl;
-      account = account_told s es i image p.0 image.role can is t refl;
+      account = account_described s es i image p.0 image.role can is t refl;
       executed = λ live.
           let l : replays p.0.role ≡ false = ap (λ (q : Sphere). replays q.role) (sym t.at) ∙ live in
           ap (λ (q : Sphere). q.progress) (t.at ∙ sym (executed-is s es i image p.0 can t l));
@@ -260,8 +260,8 @@ spheres_told s es i image can is =
 
 -- a finished machine has as many spheres as were set up, and the devices that its executed points leave,
 -- and those points are possible
-pub runs_told : RunsAreTold
-runs_told s es is =
+pub runs_described : RunsAreDescribed
+runs_described s es is =
     let k = known s es is in
     record { spheres = k.sizes; devices = k.devices; possible = k.possible }
 
@@ -270,15 +270,15 @@ runs_told s es is =
 -- a play that is complete has the account of what it leaves
 play_account : (y : Played) (p : Sphere) (n : ℕ) → y.now ≡ Over (End.Complete n) → n ≡ position p.progress → y.memory ≡ p.memory → y.threads ≡ p.threads → y.progress ≡ p.progress → played_account y ≡ executed_account p
 play_account y p n now few memory threads progress =
-    let told : end_of y.now ≡ End.Complete (position p.progress) = ap end_of now ∙ ap End.Complete few in
-    (λ j. account_of (progress j).commits (threads j) (progress j).request (memory j) (told j))
+    let end_is : end_of y.now ≡ End.Complete (position p.progress) = ap end_of now ∙ ap End.Complete few in
+    (λ j. account_of (progress j).commits (threads j) (progress j).request (memory j) (end_is j))
 
 -- the log of a recorded sphere fits its image, and the account of its play is that of the recording
 pub recordings_reproduced : RecordingsAreReproduced
 recordings_reproduced s es i image mode can is role =
     let t = sphere-there s es i image can is in
     let p : Sphere = t.0 in
-    let log : LogParts = log_told s es i mode in
+    let log : LogParts = log_of_points s es i mode in
     let k = known s es can.setup in
     let will = will_record s i image mode can is role in
     let recorded : p.role ≡ Record log = ap (λ (q : Sphere). q.role) (sym t.1.at) ∙ k.logs i image mode will in

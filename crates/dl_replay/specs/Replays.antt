@@ -1,4 +1,4 @@
--- A replay as the code keeps it, and what stands together in it.
+-- A replay as the code has it, and what stands together in it.
 use Rattle.std.specs.Prelude.{◌≡◌, ℕ, ◌<◌, ◌≤◌, false, List, map, nat_lt, slice_index, Option, if◌then◌else◌}
 use Rattle.spec_isa.specs.declared.thread.Parts.{Parts}
 use Rattle.spec_log.specs.declared.log.LogParts.{LogParts}
@@ -9,11 +9,11 @@ use Rattle.spec_play.specs.Progress as play
 use Rattle.spec_play.specs.Turns as turns
 use Rattle.spec_protocol.specs.Spheres.{is_over}
 use Rattle.dl_replay.specs.declared.now.Now.{Now}
-use Rattle.dl_replay.specs.declared.place.Place.{Place}
+use Rattle.dl_replay.specs.declared.place.LogPlace.{LogPlace}
 use Rattle.dl_replay.specs.Seen.{now_seen, used_seen}
 use Rattle.dl_replay.specs.Replaying.{Replaying, commits_of}
 
-abbrev pub replaying : LogParts → Place → Now → (total : ℕ) → (commits : List ℕ) → Replaying
+abbrev pub replaying : LogParts → LogPlace → Now → (total : ℕ) → (commits : List ℕ) → Replaying
 replaying log place now total commits =
     record {
       log = log;

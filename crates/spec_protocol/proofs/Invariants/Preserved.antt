@@ -1,4 +1,4 @@
--- What holds of every world that the machine comes to, and what an event keeps.
+-- What holds of every world that the machine comes to, and what an event preserves.
 use Rattle.std.proofs.Common.{◌≡◌, ◌≢◌, ℕ, zero, suc, ◌+◌, ◌<◌, ◌≤◌, Bool, true, false, List, [], ◌∷◌, length, Option, Some, None, refl, sym, ap, ◌∙◌, subst, arith, set, get_or, get_or-set_same, get_or-set_other}
 use Rattle.std.specs.Prelude.{slice_get}
 use Rattle.dl_entry.specs.declared.Actor.{Actor}
@@ -14,7 +14,7 @@ use Rattle.spec_protocol.specs.Shown.{flying, shown, shown_from, shown_of}
 use Rattle.spec_protocol.specs.Moves.{do_if, FitsIf}
 use Rattle.spec_protocol.specs.Invariants.{IsGood}
 
--- ---- what an event keeps
+-- ---- what an event preserves
 
 -- v has the numbers of w, and as many spheres, cores and slots
 pub record SameSizes (w v : World) : Type 0 where
@@ -51,7 +51,7 @@ PointIs w None o = o ≡ None
 PointIs w (Some m) o = PointOf w.numbers (replays (sphere_at w m.sphere).role) m o
 
 -- what an event at w leaves: a good world of the same sizes, whose move is done whole on what is shown
-pub record Kept (w : World) (a : After) : Type 0 where
+pub record Preserved (w : World) (a : After) : Type 0 where
   pub good : IsGood a.world
   pub sizes : SameSizes w a.world
   pub point : PointIs w a.move a.point
@@ -150,8 +150,8 @@ point-other z false m o replayed is = absurd (replayed refl)
 -- ---- an event that answers and does nothing
 
 -- an event that leaves the world as it was keeps the invariant
-pub unchanged-kept : (w : World) (a : After) → a.world ≡ w → a.move ≡ None → a.point ≡ None → IsGood w → Kept w a
-unchanged-kept w a world move point good =
+pub unchanged-preserved : (w : World) (a : After) → a.world ≡ w → a.move ≡ None → a.point ≡ None → IsGood w → Preserved w a
+unchanged-preserved w a world move point good =
     record {
       good = subst IsGood (sym world) good;
       sizes = subst (SameSizes w) (sym world) (same_sizes w);

@@ -5,7 +5,7 @@ use Rattle.spec_isa.specs.Words.{Stored, Apart}
 use Rattle.dl_wbuf.specs.Tables.{Slots, place}
 
 -- each word stands once, and no more words stand than there may; these are from 1 to 4,096, and there is room for them
-pub record IsKept (capacity room : ℕ) (words : List Stored) : Type 0 where
+pub record IsBuffer (capacity room : ℕ) (words : List Stored) : Type 0 where
   pub apart : Apart words
   pub within : length words ≤ capacity
   pub least : 1 ≤ capacity

@@ -2,9 +2,9 @@
 use Rattle.std.specs.Prelude.{ℕ}
 use Rattle.spec_protocol.specs.Spheres.{Sphere}
 
-pub record Standing : Type 0 where
+pub record SizedSphere : Type 0 where
   pub standard : ℕ
   pub sphere : Sphere
 
-abbrev pub with_sphere : Sphere → Standing → Standing
+abbrev pub with_sphere : Sphere → SizedSphere → SizedSphere
 with_sphere p v = record v { sphere = p }

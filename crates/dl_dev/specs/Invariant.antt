@@ -1,9 +1,9 @@
--- What is true of the devices as they are kept.
+-- What is true of all devices.
 use Rattle.std.specs.Prelude.{◌≡◌, ℕ, ◌≤◌, ◌^◌, List, length}
 use Rattle.rand_pcg.specs.Lcg.{Lcg, increment_of}
 
 -- so many bytes of the input are taken, and the random words are of stream 2
-pub record IsKept (input : List ℕ) (taken : ℕ) (words : Lcg) : Type 0 where
+pub record AreDevices (input : List ℕ) (taken : ℕ) (words : Lcg) : Type 0 where
   pub within : taken ≤ length input
   pub few : length input ≤ 2 ^ 24
   pub stream : words.increment ≡ increment_of 64 2
