@@ -226,8 +226,8 @@ counted-replies counts name few k =
       | inr ne ↦ (let q = get_or-set_other counts.replies j k n 0 ne in omega (arith, q, old))
     ]
 
-counted-replies : (w : World) (a : After) → a.world.counts ≡ w.counts → ((k : ℕ) → slice_index w.counts.replies k ≤ moment w) → (k : ℕ) → slice_index (with_event a).counts.replies k ≤ moment (with_event a)
-counted-replies w a e few =
+event-replies : (w : World) (a : After) → a.world.counts ≡ w.counts → ((k : ℕ) → slice_index w.counts.replies k ≤ moment w) → (k : ℕ) → slice_index (with_event a).counts.replies k ≤ moment (with_event a)
+event-replies w a e few =
     counted-replies a.world.counts (name_of a.reply) (subst (λ (c : Counts). (k : ℕ) → slice_index c.replies k ≤ c.events) (sym e) few)
 
 no-replies : (n k : ℕ) → slice_index (replicate n 0) k ≡ 0
@@ -252,7 +252,7 @@ unfolding happens
 happens-sound s w e limits good k =
     let a = act w e in
     let keeps : Keeps w.numbers (sound s) = subst (λ (z : Numbers). Keeps z (sound s)) (sym k.sizes.numbers) (sound-keeps s limits) in
-    counted-sound s w a (same-sizes s w (happens w e).world k.sizes (happens-preserved w e good).sizes) (counted-replies w a (act-untold w e).counts k.replies) (counted-moment w a (act-untold w e).counts)
+    counted-sound s w a (same-sizes s w (happens w e).world k.sizes (happens-preserved w e good).sizes) (event-replies w a (act-untold w e).counts k.replies) (counted-moment w a (act-untold w e).counts)
     (act-holds (sound s) w e keeps good (holds-of s w k))
 
 -- ---- the start
