@@ -195,5 +195,22 @@ fn hex_digit(n: u8) -> u8
     requires { n < 16 }
     ensures { result ≡ digit_glyph true n }
 {
-    if n < 10 { b'0' + n } else { b'A' + (n - 10) }
+    match n {
+        0 => b'0',
+        1 => b'1',
+        2 => b'2',
+        3 => b'3',
+        4 => b'4',
+        5 => b'5',
+        6 => b'6',
+        7 => b'7',
+        8 => b'8',
+        9 => b'9',
+        10 => b'A',
+        11 => b'B',
+        12 => b'C',
+        13 => b'D',
+        14 => b'E',
+        _ => b'F',
+    }
 }

@@ -10,6 +10,9 @@ use std::alloc::Global;
 
 const MOST_EVENTS: usize = 1 << 24;
 
+// The bytes of `step` as one number, the first one the least.
+const STEP: u32 = 0x7065_7473;
+
 /// The events of a script, whose lines end with LF, but the last need not. A line is empty or spaces alone, or begins
 /// with `#`, or is one of `step C`, `cut C`, `ask C`, `drain K`, `deliver C K`, `retire K`, `place C S T`, `raise S T V`
 /// and `dma S`, with spaces between and around: numbers of 1 to 10 decimal digits, V at most 2^32 - 1 and the others at
@@ -55,7 +58,8 @@ fn short_line(text: &[u8]) -> Option<(Event, &[u8])>
     ensures lines { IfSome result (λ read. lines_of text.now ≡ Holds read.0 ∷ lines_of read.1.now) }
     ensures shorter { IfSome result (λ read. length read.1.now < length text.now) }
 {
-    if let [b's', b't', b'e', b'p', b' ', n, b'\n', rest @ ..] = text
+    if let [a, b, c, d, b' ', n, b'\n', rest @ ..] = text
+        && u32::from_le_bytes([*a, *b, *c, *d]) == STEP
         && n.is_ascii_digit()
     {
         return Some((Event::Step(*n - b'0'), rest));
@@ -69,6 +73,42 @@ fn short_line(text: &[u8]) -> Option<(Event, &[u8])>
         && n.is_ascii_digit()
     {
         return Some((Event::Ask(*n - b'0'), rest));
+    }
+    if let [
+        b'r',
+        b'e',
+        b't',
+        b'i',
+        b'r',
+        b'e',
+        b' ',
+        n,
+        b'\n',
+        rest @ ..,
+    ] = text
+        && n.is_ascii_digit()
+    {
+        return Some((Event::Retire(*n - b'0'), rest));
+    }
+    if let [
+        b'd',
+        b'e',
+        b'l',
+        b'i',
+        b'v',
+        b'e',
+        b'r',
+        b' ',
+        m,
+        b' ',
+        n,
+        b'\n',
+        rest @ ..,
+    ] = text
+        && m.is_ascii_digit()
+        && n.is_ascii_digit()
+    {
+        return Some((Event::Deliver(*m - b'0', *n - b'0'), rest));
     }
     None
 }

@@ -2,7 +2,7 @@ use Rattle.std.proofs.Common.{◌≡◌, ◌+◌, ◌-◌, ◌∷◌, ◌++◌, 
 use Rattle.std.proofs.lemmas.List.{take_all}
 use Rattle.std.specs.Char.{IsAsciiDigit}
 use Rattle.dl_event.specs.Script.{lines_of}
-use Rattle.dl_event.proofs.Short.{begins, step_line, drain_line, ask_line}
+use Rattle.dl_event.proofs.Short.{begins, step_line, drain_line, ask_line, retire_line, deliver_line}
 use Rattle.dl_event.proofs.script.short_line.Goals as goal
 
 pub returns-clause-lines : goal.returns-clause-lines
@@ -34,3 +34,25 @@ returns-3-clause-lines c =
     let is : c.args.text.now ≡ front ++ drop 6 c.args.text.now = begins front text (omega arith) (omega arith, (omega arith, (omega arith, (omega arith, (omega arith, (omega arith, tt)))))) in
     let all : take (length c.args.text.now - 6) (drop 6 c.args.text.now) ≡ drop 6 c.args.text.now = take_all _ _ (omega (arith, length-drop 6 text)) in
     rw all (ap lines_of is ∙ ask_line m (omega arith) (drop 6 text))
+
+pub returns-4-clause-lines : goal.returns-4-clause-lines
+returns-4-clause-lines c =
+    let text : List ℕ = c.args.text.now in
+    let m : ℕ = slice_index_or c.args.text.now 7 0 - 48 in
+    let digit : IsAsciiDigit (slice_index_or c.args.text.now 7 0) = search rules in
+    let front : List ℕ = 114 ∷ 101 ∷ 116 ∷ 105 ∷ 114 ∷ 101 ∷ 32 ∷ (48 + m) ∷ 10 ∷ [] in
+    let is : c.args.text.now ≡ front ++ drop 9 c.args.text.now = begins front text (omega arith) (omega arith, (omega arith, (omega arith, (omega arith, (omega arith, (omega arith, (omega arith, (omega arith, (omega arith, tt))))))))) in
+    let all : take (length c.args.text.now - 9) (drop 9 c.args.text.now) ≡ drop 9 c.args.text.now = take_all _ _ (omega (arith, length-drop 9 text)) in
+    rw all (ap lines_of is ∙ retire_line m (omega arith) (drop 9 text))
+
+pub returns-5-clause-lines : goal.returns-5-clause-lines
+returns-5-clause-lines c =
+    let text : List ℕ = c.args.text.now in
+    let m : ℕ = slice_index_or c.args.text.now 8 0 - 48 in
+    let n : ℕ = slice_index_or c.args.text.now 10 0 - 48 in
+    let core : IsAsciiDigit (slice_index_or c.args.text.now 8 0) = search rules in
+    let slot : IsAsciiDigit (slice_index_or c.args.text.now 10 0) = search rules in
+    let front : List ℕ = 100 ∷ 101 ∷ 108 ∷ 105 ∷ 118 ∷ 101 ∷ 114 ∷ 32 ∷ (48 + m) ∷ 32 ∷ (48 + n) ∷ 10 ∷ [] in
+    let is : c.args.text.now ≡ front ++ drop 12 c.args.text.now = begins front text (omega arith) (omega arith, (omega arith, (omega arith, (omega arith, (omega arith, (omega arith, (omega arith, (omega arith, (omega arith, (omega arith, (omega arith, (omega arith, tt)))))))))))) in
+    let all : take (length c.args.text.now - 12) (drop 12 c.args.text.now) ≡ drop 12 c.args.text.now = take_all _ _ (omega (arith, length-drop 12 text)) in
+    rw all (ap lines_of is ∙ deliver_line m (omega arith) n (omega arith) (drop 12 text))
