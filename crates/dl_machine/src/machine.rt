@@ -58,6 +58,7 @@ impl<G: Sig> Machine<G> {
     }
 
     /// Takes one event.
+    #[inline(always)]
     #[tactic(auto, using(crate::proofs::Worlds::Events::ready_after, crate::proofs::Worlds::Events::act_counts, crate::proofs::Worlds::Events::happens_world, crate::proofs::Worlds::Events::happens_reply, crate::proofs::Worlds::Events::replies_few))]
     pub fn apply(&mut self, event: Event) -> Result<Reply, OutOfMemory>
         requires events { self.old.counts.events < 2 ^ 63 }

@@ -99,6 +99,7 @@ impl<G: Sig> State<G> {
     }
 
     // What the event answers and leaves, before it is counted. Numbers are taken modulo how many there are.
+    #[inline(always)]
     #[tactic(auto, unfolding(spec_protocol::specs::Machine::act))]
     pub(crate) fn act(&mut self, event: Event) -> Result<Reply, OutOfMemory>
         requires ready { IsReady self.old }

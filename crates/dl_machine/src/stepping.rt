@@ -11,6 +11,7 @@ use spec_protocol::Reply;
 
 impl<G: Sig> State<G> {
     // The core runs one instruction.
+    #[inline(always)]
     #[tactic(auto, unfolding(spec_protocol::specs::Stepping::stepping))]
     pub(crate) fn step(&mut self, core: u8) -> Reply
         requires core { core < length self.old.cores }
