@@ -252,7 +252,7 @@ happens-sound s w e limits good k =
     let a = act w e in
     let keeps : Keeps w.numbers (sound s) = subst (λ (z : Numbers). Keeps z (sound s)) (sym k.sizes.numbers) (sound-keeps s limits) in
     counted-sound s w a (same-sizes s w (happens w e).world k.sizes (happens-preserved w e good).sizes) (event-replies w a (act-untold w e).counts k.replies) (counted-moment w a (act-untold w e).counts)
-    (act-holds (sound s) w e keeps good (holds-of s w k))
+    (act-holds (sound s) w keeps good (holds-of s w k) e)
 
 -- ---- the start
 
