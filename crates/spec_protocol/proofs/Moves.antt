@@ -8,3 +8,4 @@ pub mod Spawning
 pub mod Answering
 pub mod AsRecorded
 pub mod Committers
+pub mod AnyEvent

@@ -1,44 +1,36 @@
 -- The first event of a schedule commits nothing in a plain or recorded sphere, and each further one at most once: such a
 -- sphere has fewer commits than there were events.
-use Rattle.std.proofs.Common.{◌≡◌, ℕ, zero, suc, ◌+◌, ◌<◌, Bool, true, false, cond, List, [], ◌∷◌, length, Option, Some, None, refl, sym, ap, ◌∙◌, subst, arith, map, set, get_or}
+use Rattle.std.proofs.Common.{◌≡◌, ℕ, zero, suc, ◌+◌, ◌<◌, Bool, true, false, List, [], ◌∷◌, length, Option, Some, None, refl, sym, ap, ◌∙◌, subst, arith, map, set, get_or}
 use Rattle.std.specs.Prelude.{slice_get}
 use Rattle.std.proofs.lemmas.Bool.{true≢false}
 use Rattle.std.proofs.lemmas.Option.{none-some}
-use Rattle.dl_entry.specs.declared.Actor.{Actor}
 use Rattle.dl_entry.specs.declared.Counts.{Counts}
 use Rattle.dl_entry.specs.declared.Request.{Request}
 use Rattle.spec_isa.specs.declared.thread.Parts.{Parts}
 use Rattle.spec_isa.specs.Runs.{Run}
 use Rattle.spec_kernel.specs.Devices.{Devices}
 use Rattle.spec_kernel.specs.Answers.{taken}
-use Rattle.spec_kernel.specs.Interrupts.{is_live, has_handler}
+use Rattle.spec_kernel.specs.Interrupts.{is_live}
 use Rattle.spec_kernel.specs.Needs.{need}
 use Rattle.spec_kernel.specs.Serving.{serve}
 use Rattle.spec_play.specs.Effects.{Effect, chunk_effect, serial_effect, dma_commit}
 use Rattle.spec_play.specs.Progress.{Progress, position, no_progress}
 use Rattle.spec_play.specs.Verdicts.{LogVerdict, Goes, Fails, chunk_verdict, serial_verdict}
 use Rattle.spec_play.specs.Transfers.{DmaVerdict, DmaGoes, DmaFails, dma_verdict}
-use Rattle.spec_engine.specs.declared.answers.How.{How}
 use Rattle.spec_engine.specs.declared.answers.Deliver.{Deliver}
-use Rattle.spec_engine.specs.Signatures.{nothing, signed}
-use Rattle.spec_engine.specs.Flights.{Flight, at, is_full, first_slot, meets_chunk, drain, deliver}
-use Rattle.spec_engine.specs.Chunks.{fresh, step, cut, is_open}
-use Rattle.spec_engine.specs.Asking.{ask, denied_by}
+use Rattle.spec_engine.specs.Flights.{Flight, at, drain, deliver}
+use Rattle.spec_engine.specs.Chunks.{fresh}
 use Rattle.spec_protocol.specs.declared.event.Event.{Event}
-use Rattle.spec_protocol.specs.declared.reply.Reply.{Reply}
-use Rattle.spec_protocol.specs.Spheres.{Cursor, Role, Plain, Record, Replay, Sphere, no_sphere, is_stopped, limit_of, halves}
-use Rattle.spec_protocol.specs.Commits.{CommitOutcome, Granted, Piece, Diverged, MovedSphere, granted_as, by_verdict, joined, replayed_chunk, chunk_in, chunk_moved, serial_in, serial_moved, live_dma, dma_log, dma_by_verdict, dma_in, dma_moved, role_raised, raised}
-use Rattle.spec_protocol.specs.World.{Numbers, Held, World, After, moment, sphere_at, with_sphere, with_core, thread_afresh, held_afresh, core_of, answered}
-use Rattle.spec_protocol.specs.Stepping.{stepped, step_held, stepping, cut_to, cut_held, cutting}
-use Rattle.spec_protocol.specs.Flying.{drain_slot, draining, reads_of, writes_of, told, deliver_to, delivering, retiring}
-use Rattle.spec_protocol.specs.Asking.{unless_denied, unless_turn, ask_held, ask_closed, asking}
-use Rattle.spec_protocol.specs.Transferring.{dma_done, transfer, dma_with, dma_if, turn_before_dma, transferring}
-use Rattle.spec_protocol.specs.Placing.{unless_elsewhere, place_thread, placing, replays, with_renewed, raise_in, raise_thread, raising}
-use Rattle.spec_protocol.specs.Machine.{SphereSetup, Setup, sphere_of, world_of, core_no, sphere_no, slot_no, act, happens, world_after}
+use Rattle.spec_protocol.specs.Spheres.{Cursor, Role, Plain, Record, Replay, Sphere, no_sphere, limit_of, halves}
+use Rattle.spec_protocol.specs.Commits.{MovedSphere, granted_as, by_verdict, joined, replayed_chunk, chunk_in, chunk_moved, serial_in, serial_moved, live_dma, dma_log, dma_by_verdict, dma_in, dma_moved, role_raised, raised}
+use Rattle.spec_protocol.specs.World.{Numbers, Held, World, After, moment, sphere_at, with_sphere, thread_afresh, core_of}
+use Rattle.spec_protocol.specs.Flying.{drain_slot, reads_of, writes_of, told, delivering, retiring}
+use Rattle.spec_protocol.specs.Placing.{replays, with_renewed, raise_in}
+use Rattle.spec_protocol.specs.Machine.{SphereSetup, Setup, sphere_of, world_of, act, happens, world_after}
 use Rattle.spec_protocol.specs.Invariants.{IsGood}
 use Rattle.spec_protocol.specs.Promises.{after}
 use Rattle.spec_protocol.specs.Sound.{IsWithinLimits}
-use Rattle.spec_protocol.proofs.Invariants.Cores.{branch}
+use Rattle.spec_protocol.proofs.Moves.AnyEvent.{branch, any-event}
 use Rattle.spec_protocol.proofs.Points.Counts.{act-untold}
 use Rattle.spec_protocol.proofs.Invariants.Schedules.{happens-preserved, first_held, start-good}
 use Rattle.spec_protocol.proofs.Logs.Growing.{pushed_length}
@@ -189,31 +181,8 @@ new-set (p ∷ ps) (suc i) q new old (suc j) = new-set ps i q new (λ n. old (su
 abbrev Then : After → Type 0
 Then a = AreNew a.world.spheres
 
-step-then : (w : World) (c : ℕ) (o : Option Held) → AreNew w.spheres → Then (step_held w c o)
-step-then w c None new = new
-step-then w c (Some h) new =
-    let p = sphere_at w h.chunk.sphere in
-    let s = step w.numbers.buffer p.memory w.slots c h.chunk in
-    branch Then (is_stopped p.role) (answered w Reply.Stopped) (cond (is_open h.chunk) (stepped w c h s) (answered w Reply.Waiting))
-    (λ _. new)
-    (λ _. branch Then (is_open h.chunk) (stepped w c h s) (answered w Reply.Waiting) (λ _. new) (λ _. new))
-
-cut-then : (w : World) (c : ℕ) (o : Option Held) → AreNew w.spheres → Then (cut_held w c o)
-cut-then w c None new = new
-cut-then w c (Some h) new =
-    branch Then (is_stopped (sphere_at w h.chunk.sphere).role) (answered w Reply.Stopped) (cut_to w c h (cut h.chunk)) (λ _. new) (λ _. new)
-
-closed-then : (w : World) (c : ℕ) (h : Held) (o : Option How) → o ≡ None → AreNew w.spheres → Then (ask_closed w c h o)
-closed-then w c h None still new = new
-closed-then w c h (Some how) still new = absurd (none-some how (sym still))
-
-ask-then : (w : World) (c : ℕ) (o : Option Held) → at w.cores c ≡ o → HasBegun w → Then (ask_held w c o)
-ask-then w c None is k = k.spheres
-ask-then w c (Some h) is k = closed-then w c h h.chunk.closed (k.cores c h is) k.spheres
-
-drain-then : (w : World) (k : ℕ) (o : Option Flight) → AreNew w.spheres → Then (drain_slot w k o)
-drain-then w k None new = new
-drain-then w k (Some f) new =
+drain-then : (w : World) (k : ℕ) (f : Flight) → AreNew w.spheres → Then (drain_slot w k (Some f))
+drain-then w k f new =
     let p = sphere_at w f.sphere in
     new-set w.spheres f.sphere (record p { memory = (drain p.memory (Some f)).memory }) (new f.sphere) new
 
@@ -223,22 +192,16 @@ told-then w c o Deliver.Already new = new
 told-then w c o Deliver.Squashed new = new
 told-then w c o Deliver.Delivered new = new
 
-deliver-then : (w : World) (c k : ℕ) (o : Option Held) → AreNew w.spheres → Then (deliver_to w c k o)
-deliver-then w c k o new =
+deliver-then : (w : World) (c k : ℕ) → AreNew w.spheres → Then (delivering w c k)
+unfolding delivering
+deliver-then w c k new =
+    let o = at w.cores c in
     let d = deliver c (reads_of w o) (writes_of w o) (at w.slots k) in
     told-then (record w { slots = set w.slots k d.slot }) c o d.reply new
 
-elsewhere-then : (w : World) (a : After) (o : Option ℕ) → AreNew w.spheres → Then a → Then (unless_elsewhere o w a)
-elsewhere-then w a None same k = k
-elsewhere-then w a (Some d) same k = same
-
-place-then : (w : World) (c i k : ℕ) (o : Option Parts) → AreNew w.spheres → Then (place_thread w c i k o)
-place-then w c i k None new = new
-place-then w c i k (Some t) new =
-    let placed = answered (with_core w c (held_afresh w.numbers i k (sphere_at w i))) Reply.Placed in
-    branch Then (is_live t) (unless_elsewhere (core_of w i k) w placed) (answered w Reply.Ended)
-    (λ _. elsewhere-then w placed (core_of w i k) new new)
-    (λ _. new)
+retire-then : (w : World) (k : ℕ) → AreNew w.spheres → Then (retiring w k)
+unfolding retiring
+retire-then w k new = new
 
 renewed-then : (w : World) (i k : ℕ) (o : Option ℕ) → AreNew w.spheres → AreNew (with_renewed w i k o).spheres
 renewed-then w i k None new = new
@@ -252,17 +215,6 @@ raise-in-then : (w : World) (i k value : ℕ) (t : Parts) → AreNew w.spheres �
 raise-in-then w i k value t new =
     let q = raised k value t (sphere_at w i) in
     renewed-then (with_sphere w i q) i k (core_of w i k) (new-set w.spheres i q (raised-new k value t (sphere_at w i) (new i)) new)
-
-raise-then : (w : World) (i k value : ℕ) (o : Option Parts) → AreNew w.spheres → Then (raise_thread w i k value o)
-raise-then w i k value None new = new
-raise-then w i k value (Some t) new =
-    let raised_ = raise_in w i k value t in
-    let masked = cond t.mask (answered w Reply.Masked) raised_ in
-    branch Then (is_live t) (cond (has_handler t) masked (answered w Reply.NoHandler)) (answered w Reply.Ended)
-    (λ _. branch Then (has_handler t) masked (answered w Reply.NoHandler)
-    (λ _. branch Then t.mask (answered w Reply.Masked) raised_ (λ _. new) (λ _. raise-in-then w i k value t new))
-    (λ _. new))
-    (λ _. new)
 
 -- a live DMA needs a request
 no-live : (role : Role) (devices : Devices) (p : Sphere) (v : MovedSphere) → p.progress ≡ no_progress → live_dma role devices p p.progress.request ≡ Some v → ⊥
@@ -280,58 +232,28 @@ dma-new (Replay b) devices p v new e live =
     let d = dma_verdict b.log p.progress b.used in
     absurd (moved-is (λ (q : Sphere). replays q.role ≡ false → ⊥) (dma_by_verdict b d devices p) v e (replays-still b d devices p) live)
 
-denied-then : (w : World) (a : After) (o : Option ℕ) → AreNew w.spheres → Then a → Then (unless_denied (denied_by o) w a)
-denied-then w a None same k = k
-denied-then w a (Some j) same k = same
-
-turn-then : (w : World) (a : After) (o : Option Actor) → AreNew w.spheres → Then a → Then (unless_turn o w a)
-turn-then w a None same k = k
-turn-then w a (Some actor) same k = same
-
-transfer-then : (w : World) (i : ℕ) (v : MovedSphere) → AreNew w.spheres → IsNew v.sphere → Then (transfer w i v)
-unfolding transfer
-transfer-then w i v new moved =
-    let g = signed i v.words (nothing w.numbers.signature) in
-    let done = dma_done w i g v in
-    branch Then (is_full w.slots) (answered w Reply.WindowFull) (unless_denied (ask g g w.slots) w done)
-    (λ _. new)
-    (λ _. denied-then w done (first_slot (meets_chunk g g) w.slots) new (new-set w.spheres i v.sphere moved new))
-
-dma-with-then : (w : World) (i : ℕ) (v : MovedSphere) (o : CommitOutcome) → AreNew w.spheres → IsNew v.sphere → Then (dma_with w i v o)
-dma-with-then w i v Granted new moved = transfer-then w i v new moved
-dma-with-then w i v Piece new moved = transfer-then w i v new moved
-dma-with-then w i v (Diverged j why) new moved = new-set w.spheres i v.sphere moved new
-
-dma-if-then : (w : World) (i : ℕ) (o : Option MovedSphere) → dma_moved w.devices (sphere_at w i) ≡ o → AreNew w.spheres → Then (dma_if w i o)
+moved-new : (w : World) (i : ℕ) (v : MovedSphere) → AreNew w.spheres → dma_moved w.devices (sphere_at w i) ≡ Some v → IsNew v.sphere
 unfolding dma_moved
-dma-if-then w i None is new = new
-dma-if-then w i (Some v) is new =
-    dma-with-then w i v v.outcome new (dma-new (sphere_at w i).role w.devices (sphere_at w i) v (new i) is)
-
-dma-then : (w : World) (i : ℕ) → AreNew w.spheres → Then (transferring w i)
-unfolding transferring
-dma-then w i new =
-    let p = sphere_at w i in
-    let rest = dma_if w i (dma_moved w.devices p) in
-    branch Then (is_stopped p.role) (answered w Reply.Stopped) (unless_turn (turn_before_dma p.role) w rest)
-    (λ _. new)
-    (λ _. turn-then w rest (turn_before_dma p.role) new (dma-if-then w i (dma_moved w.devices p) refl new))
+moved-new w i v new is = dma-new (sphere_at w i).role w.devices (sphere_at w i) v (new i) is
 
 first-then : (w : World) (e : Event) → HasBegun w → Then (act w e)
-unfolding act stepping cutting asking draining delivering retiring placing raising
-first-then w (Event.Step c) k = step-then w (core_no w c) (at w.cores (core_no w c)) k.spheres
-first-then w (Event.Cut c) k = cut-then w (core_no w c) (at w.cores (core_no w c)) k.spheres
-first-then w (Event.Ask c) k = ask-then w (core_no w c) (at w.cores (core_no w c)) refl k
-first-then w (Event.Drain j) k = drain-then w (slot_no w j) (at w.slots (slot_no w j)) k.spheres
-first-then w (Event.Deliver c j) k = deliver-then w (core_no w c) (slot_no w j) (at w.cores (core_no w c)) k.spheres
-first-then w (Event.Retire j) k = k.spheres
-first-then w (Event.Place c i j) k = place-then w (core_no w c) (sphere_no w i) j (slice_get (sphere_at w (sphere_no w i)).threads j) k.spheres
-first-then w (Event.Raise i j value) k =
-    let n = sphere_no w i in
-    let p = sphere_at w n in
-    let rest = raise_thread w n j value (slice_get p.threads j) in
-    branch Then (replays p.role) (answered w Reply.FromLog) rest (λ _. k.spheres) (λ _. raise-then w n j value (slice_get p.threads j) k.spheres)
-first-then w (Event.Dma i) k = dma-then w (sphere_no w i) k.spheres
+first-then w e k =
+    any-event w Then
+    (record {
+      answers = λ r none. k.spheres;
+      steps = λ c h is opened. k.spheres;
+      cuts = λ c h is. k.spheres;
+      chunks = λ c h how may chunk none. absurd (none-some how (sym (k.cores c h may.is) ∙ may.closed));
+      serials = λ c h how may serial none. absurd (none-some how (sym (k.cores c h may.is) ∙ may.closed));
+      drains = λ j f is. drain-then w j f k.spheres;
+      delivers = λ c j. deliver-then w c j k.spheres;
+      retires = λ j. retire-then w j k.spheres;
+      places = λ c i j t is live none. k.spheres;
+      raises = λ i j value t r. raise-in-then w i j value t k.spheres;
+      transfers = λ i v t free none. new-set w.spheres i v.sphere (moved-new w i v k.spheres t.is) k.spheres;
+      diverges = λ i v j why t is. new-set w.spheres i v.sphere (moved-new w i v k.spheres t.is) k.spheres;
+    })
+    e
 
 -- ---- the start
 
@@ -378,7 +300,7 @@ at-moment m n w e k = subst (λ (x : ℕ). Holds fewer x w) e k
 happens-holds : (w : World) (e : Event) → IsGood w → Holds fewer (moment w) w → Holds fewer (suc (moment w)) (happens w e).world
 unfolding happens
 happens-holds w e good k =
-    let h = act-holds fewer w e (fewer-keeps w.numbers) good k in
+    let h = act-holds fewer w (fewer-keeps w.numbers) good k e in
     record { spheres = h.spheres; flights = λ j f q. tt; held = λ c x q. tt; devices = tt }
 
 next-roomy : (n : ℕ) (w : World) (e : Event) → IsRoomy n w → IsRoomy (suc n) (happens w e).world

@@ -17,7 +17,7 @@ use Rattle.spec_log.specs.declared.LogParts.{LogParts}
 use Rattle.spec_protocol.specs.Spheres.{Sphere, Record}
 use Rattle.spec_protocol.specs.Commits.{role_raised}
 use Rattle.spec_protocol.proofs.Moves.Threads.{AreNew}
-use Rattle.spec_protocol.proofs.Logs.Growing.{commits_in, commits_if, commits-other, commits-same, HasCommitted, has_committed-stands}
+use Rattle.spec_protocol.proofs.Logs.Growing.{commits_in, commits_if, commits-other, commits-same, ThreadCommit, HasCommitted, has_committed-stands}
 use Rattle.spec_protocol.proofs.Logs.Lookups.{none-there}
 use Rattle.spec_protocol.proofs.Logs.Coming.{Transferred, transferred-stands, WasRaised, raised-stands}
 use Rattle.spec_play.specs.Noted.{Recorded, as_log, interrupt_kept}
@@ -87,7 +87,8 @@ keeping-after : (p q : Sphere) (k : ℕ) (t u : Parts) (made : List Parts) (c : 
 keeping-after p q k t u made c s early o Plain live d h = few-after p q k t u made c d h
 keeping-after p q k t u made c s early o (Replaying r loads) live d h = absurd live
 keeping-after p q k t u made c s early o (Recording r) live d h =
-    let has : HasCommitted k early p q (as_log r) (as_log (with_commit c early o None r)) t u made c o =
+    let commit : ThreadCommit = record { thread = k; before = t; after = u; spawned = made; commit = c; short = early; input = o } in
+    let has : HasCommitted commit p q (as_log r) (as_log (with_commit c early o None r)) =
     record {
       start = d.start;
       threads = d.threads;
@@ -103,7 +104,7 @@ keeping-after p q k t u made c s early o (Recording r) live d h =
       s = h.s;
       all = ap length (ap (done_with r.kept.done) d.actor) ∙ length-set r.kept.done k (slice_index r.kept.done k + 1) ∙ h.all;
       done = done-after p q k t u made c s r d h;
-      stands = has_committed-stands k early p q (as_log r) (as_log (with_commit c early o None r)) t u made c o has h.stands;
+      stands = has_committed-stands commit p q (as_log r) (as_log (with_commit c early o None r)) has h.stands;
     }
 
 -- what a sphere keeps stands by it after a commit of a thread

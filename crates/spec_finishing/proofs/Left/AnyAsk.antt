@@ -1,28 +1,24 @@
 -- The flight of a granted request or of a DMA has no more left than its move says.
-use Rattle.std.proofs.Common.{◌≡◌, ◌≢◌, ℕ, suc, ◌+◌, ◌^◌, ◌<◌, ◌≤◌, inl, inr, Bool, true, false, cond, List, [], ◌∷◌, ◌++◌, length, Option, Some, None, refl, ap, ◌∙◌, arith}
+use Rattle.std.proofs.Common.{◌≡◌, ◌≢◌, ℕ, suc, ◌+◌, ◌^◌, ◌<◌, ◌≤◌, List, [], ◌∷◌, ◌++◌, length, Option, Some, None, refl, ap, ◌∙◌, arith}
 use Rattle.std.specs.Prelude.{slice_get, option_map}
-use Rattle.std.proofs.lemmas.Bool.{eqb-false, cases_lt}
-use Rattle.std.proofs.lemmas.List.{get_or_past}
-use Rattle.dl_entry.specs.declared.Actor.{Actor}
+use Rattle.std.proofs.lemmas.Bool.{eqb-false}
 use Rattle.spec_isa.specs.Words.{Stored, lays}
 use Rattle.spec_engine.specs.declared.answers.How.{How}
 use Rattle.spec_engine.specs.Signatures.{Marks, nothing, signed}
-use Rattle.spec_engine.specs.Flights.{Flight, at, is_full, first_slot, meets_chunk, is_of_sphere}
-use Rattle.spec_engine.specs.Asking.{ask, denied_by, busy_by}
+use Rattle.spec_engine.specs.Flights.{Flight, at, first_slot, is_of_sphere}
 use Rattle.spec_engine.proofs.Searches.{first_none}
-use Rattle.spec_protocol.specs.declared.reply.Reply.{Reply}
-use Rattle.spec_protocol.specs.Spheres.{Sphere, no_sphere, is_stopped, head_of}
-use Rattle.spec_protocol.specs.Commits.{CommitOutcome, Granted, Piece, Diverged, MovedSphere, is_piece, chunk_moved, serial_moved, dma_in, dma_moved}
-use Rattle.spec_protocol.specs.World.{World, Held, Move, After, moment, sphere_at, answered}
-use Rattle.spec_protocol.specs.Asking.{CommitRequest, move_at, granted, chunk_request, grant_chunk, serial_request, grant_serial, unless_denied, unless_busy, ask_arbiter, asks_serial, other_turn, unless_turn, ask_closed, ask_held, asking}
-use Rattle.spec_protocol.specs.Transferring.{dma_move, dma_done, transfer, dma_with, dma_if, turn_before_dma, transferring}
+use Rattle.spec_protocol.specs.Spheres.{Sphere}
+use Rattle.spec_protocol.specs.Commits.{CommitOutcome, Granted, Piece, Diverged, MovedSphere, is_piece, chunk_moved, serial_moved, dma_moved}
+use Rattle.spec_protocol.specs.World.{World, Held, Move, moment, sphere_at}
+use Rattle.spec_protocol.specs.Asking.{CommitRequest, move_at, granted, chunk_request, grant_chunk, serial_request, grant_serial, asking}
+use Rattle.spec_protocol.specs.Transferring.{dma_move, transferring}
 use Rattle.spec_protocol.specs.Shown.{flying, shown_of}
 use Rattle.spec_protocol.specs.Invariants.{IsGoodHeld, IsGood, current}
 use Rattle.spec_protocol.proofs.Memory.Slots.{words-other}
 use Rattle.spec_protocol.proofs.Moves.Granted.{chunk-stores}
 use Rattle.spec_protocol.proofs.Moves.AnyMemory.{over, relaid, dma-relaid}
 use Rattle.spec_protocol.proofs.Invariants.Asks.{shown_at, shown_over}
-use Rattle.spec_protocol.proofs.Invariants.Cores.{branch}
+use Rattle.spec_protocol.proofs.Moves.AnyEvent.{any-ask, any-transfer}
 use Rattle.spec_finishing.proofs.Left.Slots.{flown-most}
 use Rattle.spec_finishing.proofs.Paying.Moves.{serial_most, dma_most, what_most, sphere_most, move_most}
 use Rattle.spec_finishing.proofs.Left.AnyEvent.{Flies, still_flies}
@@ -80,46 +76,10 @@ serial_flies c w d h held none =
 
 -- ---- the event
 
-denied_flies : (c : ℕ) (w : World) (a : After) (o : Option ℕ) → (o ≡ None → Flies c w a) → Flies c w (unless_denied (denied_by o) w a)
-denied_flies c w a None f = f refl
-denied_flies c w a (Some k) f = still_flies c w (Reply.Denied k)
-
-busy_flies : (c : ℕ) (w : World) (a : After) (o : Option ℕ) → (o ≡ None → Flies c w a) → Flies c w (unless_busy (busy_by o) w a)
-busy_flies c w a None f = f refl
-busy_flies c w a (Some k) f = still_flies c w (Reply.SphereBusy k)
-
-arbiter_flies : (c : ℕ) (w : World) (d : ℕ) (h : Held) (how : How) (serial : Bool) → IsGoodHeld w d h → Flies c w (ask_arbiter w d h how serial)
-arbiter_flies c w d h how true held =
-    busy_flies c w (grant_serial w d h) (first_slot (is_of_sphere h.chunk.sphere) w.slots) (λ none. serial_flies c w d h held none)
-arbiter_flies c w d h how false held =
-    denied_flies c w (grant_chunk w d h how) (first_slot (meets_chunk h.chunk.reads h.chunk.writes) w.slots) (λ none. chunk_flies c w d h how held)
-
-turn_flies : (c : ℕ) (w : World) (a : After) (o : Option Actor) → Flies c w a → Flies c w (unless_turn o w a)
-turn_flies c w a None f = f
-turn_flies c w a (Some actor) f = still_flies c w (Reply.NotTurn actor)
-
-closed_flies : (c : ℕ) (w : World) (d : ℕ) (h : Held) (o : Option How) → IsGoodHeld w d h → Flies c w (ask_closed w d h o)
-closed_flies c w d h None held = still_flies c w Reply.NotClosed
-closed_flies c w d h (Some how) held =
-    let p = sphere_at w h.chunk.sphere in
-    let turn = other_turn (head_of p) h.thread in
-    let arbiter = ask_arbiter w d h how (asks_serial h.chunk p.role) in
-    let room = cond (is_full w.slots) (answered w Reply.WindowFull) arbiter in
-    branch (Flies c w) (is_stopped p.role) (answered w Reply.Stopped) (unless_turn turn w room)
-    (λ _. still_flies c w Reply.Stopped)
-    (λ _. turn_flies c w room turn
-    (branch (Flies c w) (is_full w.slots) (answered w Reply.WindowFull) arbiter
-    (λ _. still_flies c w Reply.WindowFull)
-    (λ _. arbiter_flies c w d h how (asks_serial h.chunk p.role) held)))
-
-ask_held_flies : (c : ℕ) (w : World) (d : ℕ) (o : Option Held) → IsGood w → at w.cores d ≡ o → Flies c w (ask_held w d o)
-ask_held_flies c w d None good is = still_flies c w Reply.Idle
-ask_held_flies c w d (Some h) good is = closed_flies c w d h h.chunk.closed (good.held d h is)
-
 -- an ask leaves flights with no more left than before, but for its move's
 pub ask-flies : (c : ℕ) (w : World) (d : ℕ) → IsGood w → Flies c w (asking w d)
-unfolding asking
-ask-flies c w d good = ask_held_flies c w d (at w.cores d) good refl
+ask-flies c w d good =
+    any-ask w (Flies c w) (λ r none. still_flies c w r) d (λ h how may chunk none. chunk_flies c w d h how (good.held d h may.is)) (λ h how may serial none. serial_flies c w d h (good.held d h may.is) none)
 
 -- ---- DMAs
 
@@ -134,41 +94,12 @@ dma_most_is c w i within =
     ∙ ap (dma_most c) (dma-relaid w.devices (sphere_at w i) (current w i))
     ∙ dma_most_relaid c (current w i) (dma_moved w.devices (sphere_at w i))
 
-transfer_flies : (c : ℕ) (w : World) (i : ℕ) (v : MovedSphere) → length v.words + c + 1 ≤ move_most c (shown_of w) (dma_move w i) → Flies c w (transfer w i v)
-unfolding transfer
-transfer_flies c w i v l =
-    let writes = signed i v.words (nothing w.numbers.signature) in
-    branch (Flies c w) (is_full w.slots) (answered w Reply.WindowFull) (unless_denied (ask writes writes w.slots) w (dma_done w i writes v))
-    (λ _. still_flies c w Reply.WindowFull)
-    (λ _. denied_flies c w (dma_done w i writes v) (first_slot (meets_chunk writes writes) w.slots)
-    (λ _. let r = flown-most c i v.words writes 0 w.slots in omega (arith, r, l)))
-
-outcome_flies : (c : ℕ) (w : World) (i : ℕ) (v : MovedSphere) (o : CommitOutcome) → length v.words + c + 1 ≤ move_most c (shown_of w) (dma_move w i) → Flies c w (dma_with w i v o)
-outcome_flies c w i v Granted l = transfer_flies c w i v l
-outcome_flies c w i v Piece l = transfer_flies c w i v l
-outcome_flies c w i v (Diverged j why) l = omega arith
-
-dma_if_flies : (c : ℕ) (w : World) (i : ℕ) (o : Option MovedSphere) → dma_most c o ≤ move_most c (shown_of w) (dma_move w i) → Flies c w (dma_if w i o)
-dma_if_flies c w i None l = still_flies c w Reply.NoDma
-dma_if_flies c w i (Some v) l = outcome_flies c w i v v.outcome l
-
--- where there is no such sphere, there is no DMA
-no_dma : (w : World) (i : ℕ) → length w.spheres ≤ i → dma_moved w.devices (sphere_at w i) ≡ None
-unfolding dma_moved
-no_dma w i past = ap (λ (p : Sphere). dma_in p.role w.devices p) (get_or_past w.spheres i no_sphere past)
-
-dma_most_bound : (c : ℕ) (w : World) (i : ℕ) → dma_most c (dma_moved w.devices (sphere_at w i)) ≤ move_most c (shown_of w) (dma_move w i)
-dma_most_bound c w i =
-    elim (cases_lt i (length w.spheres)) [
-      | inl within ↦ (let e = dma_most_is c w i within in omega (arith, e))
-      | inr past ↦ (let e = ap (dma_most c) (no_dma w i past) in omega (arith, e))
-    ]
-
 -- a DMA leaves flights with no more left than before, but for its move's
 pub dma-flies : (c : ℕ) (w : World) (i : ℕ) → Flies c w (transferring w i)
-unfolding transferring
 dma-flies c w i =
-    let p = sphere_at w i in
-    branch (Flies c w) (is_stopped p.role) (answered w Reply.Stopped) (unless_turn (turn_before_dma p.role) w (dma_if w i (dma_moved w.devices p)))
-    (λ _. still_flies c w Reply.Stopped)
-    (λ _. turn_flies c w (dma_if w i (dma_moved w.devices p)) (turn_before_dma p.role) (dma_if_flies c w i (dma_moved w.devices p) (dma_most_bound c w i)))
+    any-transfer w (Flies c w) (λ r none. still_flies c w r) i
+    (λ v t free none.
+    let r = flown-most c i v.words (signed i v.words (nothing w.numbers.signature)) 0 w.slots in
+    let l = dma_most_is c w i t.within ∙ ap (dma_most c) t.is in
+    omega (arith, r, l))
+    (λ v j why t is. omega arith)

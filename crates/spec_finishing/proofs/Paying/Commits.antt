@@ -37,57 +37,11 @@ next_work image p b = commit_work b.log (play_of image b p)
 abbrev pub behind : SphereSetup → Sphere → Cursor → ℕ
 behind image p b = later b.log (opened b.log image.memory image.entry) (position p.progress)
 
--- what a replay that goes on has left: the price of its next commit and of those behind, but for the pieces that are
--- done
-pub rank-before : (c : ℕ) (image : SphereSetup) (p : Sphere) (b : Cursor) → p.role ≡ Replay b → is_over b.now ≡ false → GoesOn image p b → sphere_rank c image p ≡ price c ((next_work image p b + behind image p b) - b.total)
-rank-before c image p b role going g =
-    (λ i. sphere_rank c image (record p { role = role i }))
-    ∙ ap (price c) (left-going image b (position p.progress) going ∙ left-step b.log (opened b.log image.memory image.entry) (position p.progress) b.total g.ahead)
-
--- a verdict on the whole commit, with what its flight costs, leaves the sphere no more to do than before
-pub verdict-pays : (c : ℕ) (image : SphereSetup) (p : Sphere) (b : Cursor) (k : ℕ) (x : LogVerdict) (devices : Devices) (l : ℕ) → p.role ≡ Replay b → is_over b.now ≡ false → GoesOn image p b → suc b.total ≤ next_work image p b → l ≤ price c (next_work image p b - b.total)
-    → sphere_rank c image (laid (by_verdict b k x devices p)) + l ≤ sphere_rank c image p
-verdict-pays c image p b k (Fails why) devices l role going g some enough =
-    let before = rank-before c image p b role going g in
-    let ended : Cursor = record b { now = Over (End.Diverged (position p.progress) why) } in
-    let over = left-over image ended (position p.progress) refl in
-    let pays = whole-pays c (next_work image p b) b.total (behind image p b) l some enough (replay_left image ended (position p.progress)) (omega (arith, over)) in
-    omega (arith, before, pays)
-verdict-pays c image p b k (Goes e u) devices l role going g some enough =
-    let before = rank-before c image p b role going g in
-    let progress = with_effect k e p.progress in
-    let size : position progress ≡ suc (position p.progress) = (let h = length-append p.progress.commits (e.commit ∷ []) in omega (arith, h)) in
-    let after = turned b.log progress u (with_threads k e p.threads) in
-    let most = left-turned image b.log progress u (with_threads k e p.threads) (position p.progress) size in
-    let pays = whole-pays c (next_work image p b) b.total (behind image p b) l some enough (replay_left image after (position progress)) most in
-    omega (arith, before, pays)
-
--- ---- chunks
+-- ---- parts of a commit
 
 part_done : (work total n : ℕ) → Afforded work total n → total + n ≤ work
 part_done work total n (Enough l) = omega arith
 part_done work total n (Lone none few some) = omega arith
-
--- a piece
-piece_rank : (c : ℕ) (image : SphereSetup) (p : Sphere) (b : Cursor) (k : ℕ) (r : Run) (n : ℕ) (devices : Devices) → p.role ≡ Replay b → is_over b.now ≡ false → GoesOn image p b → r.n ≡ n → 0 < n → Afforded (next_work image p b) b.total n
-    → sphere_rank c image (laid (replayed_chunk true b k r devices p)) + paid c n ≤ sphere_rank c image p
-piece_rank c image p b k r n devices role going g is some afford =
-    let before = rank-before c image p b role going g in
-    let part : Cursor = record b { total = b.total + r.n; loads = b.loads ++ r.loads } in
-    let x = opened b.log image.memory image.entry in
-    let after : price c (replay_left image part (position p.progress)) ≡ price c ((next_work image p b + behind image p b) - (b.total + n)) =
-    ap (price c) (left-going image part (position p.progress) going ∙ left-step b.log x (position p.progress) part.total g.ahead
-    ∙ ap (λ (a : ℕ). (next_work image p b + behind image p b) - (b.total + a)) is)
-    in
-    let pays = piece-pays c (next_work image p b) b.total (behind image p b) n (part_done (next_work image p b) b.total n afford) some in
-    omega (arith, before, after, pays)
-
-part_rank : (c : ℕ) (image : SphereSetup) (p : Sphere) (b : Cursor) (k : ℕ) (piece : Bool) (r : Run) (n : ℕ) (devices : Devices) → p.role ≡ Replay b → is_over b.now ≡ false → GoesOn image p b → r.n ≡ n → (piece ≡ true → 0 < n) → Afforded (next_work image p b) b.total n
-    → sphere_rank c image (laid (replayed_chunk piece b k r devices p)) + paid c n ≤ sphere_rank c image p
-part_rank c image p b k true r n devices role going g is some afford = piece_rank c image p b k r n devices role going g is (some refl) afford
-part_rank c image p b k false r n devices role going g is some afford =
-    verdict-pays c image p b k (chunk_verdict b.log p.progress b.used k (joined b r)) devices (paid c n) role going g (afford-some (next_work image p b) b.total n afford)
-    (afford-paid c (next_work image p b) b.total n afford)
 
 how_most : (how : How) (n limit : ℕ) → (how ≡ How.Limit → n ≡ limit) → (how ≢ How.Limit → n < limit) → n ≤ limit
 how_most How.Limit n limit full early = let e = full refl in omega (arith, e)
@@ -101,15 +55,67 @@ how_some How.Serial n buffer positive cut room e = absurd (true≢false (sym e))
 how_some How.Overflow n buffer positive cut room e = let l = room refl in omega (arith, l)
 how_some How.Cut n buffer positive cut room e = cut refl
 
--- a chunk of a replay that can be done as its move says
-pub chunk-pays : (c : ℕ) (image : SphereSetup) (z : Numbers) (p : Sphere) (b : Cursor) (k : ℕ) (u : Parts) (how : How) (n limit : ℕ) (short : Bool) (devices : Devices) → 0 < z.buffer → p.role ≡ Replay b → is_over b.now ≡ false → GoesOn image p b
-    → slice_get p.threads k ≡ Some u → ChunkFits z p k u how n limit → sphere_rank c image (laid (chunk_moved k (is_piece how) short (run p.memory u n) devices p)) + paid c n ≤ sphere_rank c image p
-unfolding chunk_moved
-chunk-pays c image z p b k u how n limit short devices positive role going g is fits =
-    let turn = turn_of_thread p b k role fits.going fits.turn in
-    let h = has-run image p b k g turn in
-    let limited : limit ≡ limit_of z.chunk (Replay b) k u = fits.replayed (ap replays role) ∙ ap (λ (r : Role). limit_of z.chunk r k u) role in
-    let most : n ≤ limit_of z.chunk (Replay b) k u = subst (λ (l : ℕ). n ≤ l) limited (how_most how n limit fits.full fits.early) in
-    let afford = part-afforded image p b k h.0 u z.chunk n turn h.1 is fits.ran most in
-    subst (λ (r : Role). sphere_rank c image (laid (chunk_in r k (is_piece how) short (run p.memory u n) devices p)) + paid c n ≤ sphere_rank c image p) (sym role)
-    (part_rank c image p b k (is_piece how) (run p.memory u n) n devices role going g fits.ran (how_some how n z.buffer positive fits.cut fits.room) afford)
+-- ---- a replay that goes on
+
+-- with c cores, the replay p of that image, with cursor b, goes on
+module _ (c : ℕ) (image : SphereSetup) (p : Sphere) (b : Cursor) (role : p.role ≡ Replay b) (going : is_over b.now ≡ false) (g : GoesOn image p b) where
+  -- what a replay that goes on has left: the price of its next commit and of those behind, but for the pieces that are
+  -- done
+  pub rank-before : sphere_rank c image p ≡ price c ((next_work image p b + behind image p b) - b.total)
+  rank-before =
+      (λ i. sphere_rank c image (record p { role = role i }))
+      ∙ ap (price c) (left-going image b (position p.progress) going ∙ left-step b.log (opened b.log image.memory image.entry) (position p.progress) b.total g.ahead)
+
+  -- a verdict on the whole commit, with what its flight costs, leaves the sphere no more to do than before
+  pub verdict-pays : (k : ℕ) (x : LogVerdict) (devices : Devices) (l : ℕ) → suc b.total ≤ next_work image p b → l ≤ price c (next_work image p b - b.total)
+      → sphere_rank c image (laid (by_verdict b k x devices p)) + l ≤ sphere_rank c image p
+  verdict-pays k (Fails why) devices l some enough =
+      let before = rank-before in
+      let ended : Cursor = record b { now = Over (End.Diverged (position p.progress) why) } in
+      let over = left-over image ended (position p.progress) refl in
+      let pays = whole-pays c (next_work image p b) b.total (behind image p b) l some enough (replay_left image ended (position p.progress)) (omega (arith, over)) in
+      omega (arith, before, pays)
+  verdict-pays k (Goes e u) devices l some enough =
+      let before = rank-before in
+      let progress = with_effect k e p.progress in
+      let size : position progress ≡ suc (position p.progress) = (let h = length-append p.progress.commits (e.commit ∷ []) in omega (arith, h)) in
+      let after = turned b.log progress u (with_threads k e p.threads) in
+      let most = left-turned image b.log progress u (with_threads k e p.threads) (position p.progress) size in
+      let pays = whole-pays c (next_work image p b) b.total (behind image p b) l some enough (replay_left image after (position progress)) most in
+      omega (arith, before, pays)
+
+  -- ---- chunks
+
+  -- a piece
+  piece_rank : (k : ℕ) (r : Run) (n : ℕ) (devices : Devices) → r.n ≡ n → 0 < n → Afforded (next_work image p b) b.total n
+      → sphere_rank c image (laid (replayed_chunk true b k r devices p)) + paid c n ≤ sphere_rank c image p
+  piece_rank k r n devices is some afford =
+      let before = rank-before in
+      let part : Cursor = record b { total = b.total + r.n; loads = b.loads ++ r.loads } in
+      let x = opened b.log image.memory image.entry in
+      let after : price c (replay_left image part (position p.progress)) ≡ price c ((next_work image p b + behind image p b) - (b.total + n)) =
+      ap (price c) (left-going image part (position p.progress) going ∙ left-step b.log x (position p.progress) part.total g.ahead
+      ∙ ap (λ (a : ℕ). (next_work image p b + behind image p b) - (b.total + a)) is)
+      in
+      let pays = piece-pays c (next_work image p b) b.total (behind image p b) n (part_done (next_work image p b) b.total n afford) some in
+      omega (arith, before, after, pays)
+
+  part_rank : (k : ℕ) (piece : Bool) (r : Run) (n : ℕ) (devices : Devices) → r.n ≡ n → (piece ≡ true → 0 < n) → Afforded (next_work image p b) b.total n
+      → sphere_rank c image (laid (replayed_chunk piece b k r devices p)) + paid c n ≤ sphere_rank c image p
+  part_rank k true r n devices is some afford = piece_rank k r n devices is (some refl) afford
+  part_rank k false r n devices is some afford =
+      verdict-pays k (chunk_verdict b.log p.progress b.used k (joined b r)) devices (paid c n) (afford-some (next_work image p b) b.total n afford)
+      (afford-paid c (next_work image p b) b.total n afford)
+
+  -- a chunk of a replay that can be done as its move says
+  pub chunk-pays : (z : Numbers) (k : ℕ) (u : Parts) (how : How) (n limit : ℕ) (short : Bool) (devices : Devices) → 0 < z.buffer → slice_get p.threads k ≡ Some u → ChunkFits z p k u how n limit
+      → sphere_rank c image (laid (chunk_moved k (is_piece how) short (run p.memory u n) devices p)) + paid c n ≤ sphere_rank c image p
+  unfolding chunk_moved
+  chunk-pays z k u how n limit short devices positive is fits =
+      let turn = turn_of_thread p b k role fits.going fits.turn in
+      let h = has-run image p b k g turn in
+      let limited : limit ≡ limit_of z.chunk (Replay b) k u = fits.replayed (ap replays role) ∙ ap (λ (r : Role). limit_of z.chunk r k u) role in
+      let most : n ≤ limit_of z.chunk (Replay b) k u = subst (λ (l : ℕ). n ≤ l) limited (how_most how n limit fits.full fits.early) in
+      let afford = part-afforded image p b k h.0 u z.chunk n turn h.1 is fits.ran most in
+      subst (λ (r : Role). sphere_rank c image (laid (chunk_in r k (is_piece how) short (run p.memory u n) devices p)) + paid c n ≤ sphere_rank c image p) (sym role)
+      (part_rank k (is_piece how) (run p.memory u n) n devices fits.ran (how_some how n z.buffer positive fits.cut fits.room) afford)

@@ -57,73 +57,76 @@ what_more (OfSerial k) = 3
 what_more OfDma = 3
 what_more (OfRaise k value) = 0
 
--- ---- a plain or recorded sphere
+-- ---- a move of one sphere
 
-own_pays : (c : ℕ) (images : List SphereSetup) (ps : List Sphere) (i : ℕ) (image : SphereSetup) (p q : Sphere) (l n : ℕ) → slice_get images i ≡ Some image → slice_get ps i ≡ Some p → replays q.role ≡ false → l ≤ n
-    → spheres_rank c images (set ps i q) + l ≤ spheres_rank c images ps + n
-own_pays c images ps i image p q l n there is live enough =
-    spheres-pay c images ps i image p q l n there is (let e = sphere-live c image q live in omega (arith, e, enough))
+-- with c cores, sphere i is p and has that image
+module _ (c : ℕ) (images : List SphereSetup) (x : SerialState) (i : ℕ) (image : SphereSetup) (p : Sphere) (there : slice_get images i ≡ Some image) (is : slice_get x.spheres i ≡ Some p) where
+  -- it is plain or recorded
+  module _ (live : replays p.role ≡ false) where
+    own_pays : (q : Sphere) (l n : ℕ) → replays q.role ≡ false → l ≤ n → spheres_rank c images (set x.spheres i q) + l ≤ spheres_rank c images x.spheres + n
+    own_pays q l n still enough =
+        spheres-pay c images x.spheres i image p q l n there is (let e = sphere-live c image q still in omega (arith, e, enough))
 
-chunk_own : (c : ℕ) (images : List SphereSetup) (z : Numbers) (x : SerialState) (i k : ℕ) (how : How) (n limit : ℕ) (image : SphereSetup) (p : Sphere) (o : Option Parts) → slice_get images i ≡ Some image → slice_get x.spheres i ≡ Some p → replays p.role ≡ false
-    → spheres_rank c images (move_chunk z x i k how n limit p o).spheres + (n + c + 1) ≤ spheres_rank c images x.spheres + price c (suc n)
-chunk_own c images z x i k how n limit image p None there is live = let h = words-paid c n in omega (arith, h)
-chunk_own c images z x i k how n limit image p (Some t) there is live =
-    own_pays c images x.spheres i image p (laid (chunk_moved k (is_piece how) (is_short z.chunk how limit) (run p.memory t n) x.devices p)) (n + c + 1) (price c (suc n)) there is
-    (chunk-kind k (is_piece how) (is_short z.chunk how limit) (run p.memory t n) x.devices p ∙ live) (let h = words-paid c n in omega (arith, h))
+    chunk_own : (z : Numbers) (k : ℕ) (how : How) (n limit : ℕ) (o : Option Parts)
+        → spheres_rank c images (move_chunk z x i k how n limit p o).spheres + (n + c + 1) ≤ spheres_rank c images x.spheres + price c (suc n)
+    chunk_own z k how n limit None = let h = words-paid c n in omega (arith, h)
+    chunk_own z k how n limit (Some t) =
+        own_pays (laid (chunk_moved k (is_piece how) (is_short z.chunk how limit) (run p.memory t n) x.devices p)) (n + c + 1) (price c (suc n))
+        (chunk-kind k (is_piece how) (is_short z.chunk how limit) (run p.memory t n) x.devices p ∙ live) (let h = words-paid c n in omega (arith, h))
 
-serial_own : (c : ℕ) (images : List SphereSetup) (x : SerialState) (i k moment : ℕ) (image : SphereSetup) (p : Sphere) (o : Option Parts) → slice_get images i ≡ Some image → slice_get x.spheres i ≡ Some p → replays p.role ≡ false
-    → spheres_rank c images (do_serial x i k moment p o).spheres + serial_most c p x.devices moment k o ≤ spheres_rank c images x.spheres + price c (serial_work p x.devices moment k o)
-serial_own c images x i k moment image p None there is live = omega arith
-serial_own c images x i k moment image p (Some t) there is live =
-    let v = serial_moved k moment t x.devices p in
-    own_pays c images x.spheres i image p (laid v) (length v.words + c + 1) (price c (suc (length v.words))) there is
-    (serial-kind k moment t x.devices p ∙ live) (let h = words-paid c (length v.words) in omega (arith, h))
+    serial_own : (k moment : ℕ) (o : Option Parts)
+        → spheres_rank c images (do_serial x i k moment p o).spheres + serial_most c p x.devices moment k o ≤ spheres_rank c images x.spheres + price c (serial_work p x.devices moment k o)
+    serial_own k moment None = omega arith
+    serial_own k moment (Some t) =
+        let v = serial_moved k moment t x.devices p in
+        own_pays (laid v) (length v.words + c + 1) (price c (suc (length v.words)))
+        (serial-kind k moment t x.devices p ∙ live) (let h = words-paid c (length v.words) in omega (arith, h))
 
-dma_own : (c : ℕ) (images : List SphereSetup) (x : SerialState) (i : ℕ) (image : SphereSetup) (p : Sphere) (o : Option MovedSphere) → slice_get images i ≡ Some image → slice_get x.spheres i ≡ Some p → replays p.role ≡ false → DmaKind p.role o
-    → spheres_rank c images (do_dma x i o).spheres + dma_most c o ≤ spheres_rank c images x.spheres + price c (dma_work o)
-dma_own c images x i image p None there is live kind = omega arith
-dma_own c images x i image p (Some v) there is live kind =
-    own_pays c images x.spheres i image p (laid v) (length v.words + c + 1) (price c (suc (length v.words))) there is (kind ∙ live)
-    (let h = words-paid c (length v.words) in omega (arith, h))
+    dma_own : (o : Option MovedSphere) → DmaKind p.role o
+        → spheres_rank c images (do_dma x i o).spheres + dma_most c o ≤ spheres_rank c images x.spheres + price c (dma_work o)
+    dma_own None kind = omega arith
+    dma_own (Some v) kind =
+        own_pays (laid v) (length v.words + c + 1) (price c (suc (length v.words))) (kind ∙ live)
+        (let h = words-paid c (length v.words) in omega (arith, h))
 
-raise_own : (c : ℕ) (images : List SphereSetup) (x : SerialState) (i k value : ℕ) (image : SphereSetup) (p : Sphere) (o : Option Parts) → slice_get images i ≡ Some image → slice_get x.spheres i ≡ Some p → replays p.role ≡ false
-    → spheres_rank c images (do_raise x i k value p o).spheres + 0 ≤ spheres_rank c images x.spheres + price c 0
-raise_own c images x i k value image p None there is live = omega arith
-raise_own c images x i k value image p (Some t) there is live =
-    own_pays c images x.spheres i image p (raised k value t p) 0 (price c 0) there is (raised-kind k value t p ∙ live) (omega arith)
+    raise_own : (k value : ℕ) (o : Option Parts)
+        → spheres_rank c images (do_raise x i k value p o).spheres + 0 ≤ spheres_rank c images x.spheres + price c 0
+    raise_own k value None = omega arith
+    raise_own k value (Some t) =
+        own_pays (raised k value t p) 0 (price c 0) (raised-kind k value t p ∙ live) (omega arith)
 
--- a move of a sphere that isn't replayed pays for its flight with its own work
-pub what_own : (c : ℕ) (images : List SphereSetup) (z : Numbers) (x : SerialState) (moment i : ℕ) (image : SphereSetup) (p : Sphere) (a : What) → slice_get images i ≡ Some image → slice_get x.spheres i ≡ Some p → replays p.role ≡ false
-    → spheres_rank c images (do_what z x moment i p a).spheres + what_most c p x.devices moment a ≤ spheres_rank c images x.spheres + price c (what_work p x.devices moment a)
-what_own c images z x moment i image p (OfChunk k how n limit) there is live = chunk_own c images z x i k how n limit image p (slice_get p.threads k) there is live
-what_own c images z x moment i image p (OfSerial k) there is live = serial_own c images x i k moment image p (slice_get p.threads k) there is live
-what_own c images z x moment i image p OfDma there is live = dma_own c images x i image p (dma_moved x.devices p) there is live (dma-kind x.devices p)
-what_own c images z x moment i image p (OfRaise k value) there is live = raise_own c images x i k value image p (slice_get p.threads k) there is live
+    -- a move of a sphere that isn't replayed pays for its flight with its own work
+    pub what_own : (z : Numbers) (moment : ℕ) (a : What)
+        → spheres_rank c images (do_what z x moment i p a).spheres + what_most c p x.devices moment a ≤ spheres_rank c images x.spheres + price c (what_work p x.devices moment a)
+    what_own z moment (OfChunk k how n limit) = chunk_own z k how n limit (slice_get p.threads k)
+    what_own z moment (OfSerial k) = serial_own k moment (slice_get p.threads k)
+    what_own z moment OfDma = dma_own (dma_moved x.devices p) (dma-kind x.devices p)
+    what_own z moment (OfRaise k value) = raise_own k value (slice_get p.threads k)
 
--- ---- a replay
+  -- it is a replay, with cursor b, and goes on beside its play unless it is over
+  module _ (b : Cursor) (role : p.role ≡ Replay b) (goes : is_over b.now ≡ false → GoesOn image p b) where
+    -- a chunk of a replay pays for its flight with what the play has left less
+    pub chunk_paid : (z : Numbers) (k : ℕ) (how : How) (n limit : ℕ) (o : Option Parts) → 0 < z.buffer → slice_get p.threads k ≡ o → FitsChunk z p k how n limit o
+        → spheres_rank c images (move_chunk z x i k how n limit p o).spheres + paid c n ≤ spheres_rank c images x.spheres + 0
+    chunk_paid z k how n limit None positive thread fits = absurd fits
+    chunk_paid z k how n limit (Some t) positive thread fits =
+        let going : is_over b.now ≡ false = sym (ap is_stopped role) ∙ fits.going in
+        let pays = chunk-pays c image p b role going (goes going) z k t how n limit (is_short z.chunk how limit) x.devices positive thread fits in
+        spheres-pay c images x.spheres i image p (laid (chunk_moved k (is_piece how) (is_short z.chunk how limit) (run p.memory t n) x.devices p)) (paid c n) 0 there is (omega (arith, pays))
 
--- a chunk of a replay pays for its flight with what the play has left less
-pub chunk_paid : (c : ℕ) (images : List SphereSetup) (z : Numbers) (x : SerialState) (i k : ℕ) (how : How) (n limit : ℕ) (image : SphereSetup) (p : Sphere) (b : Cursor) (o : Option Parts) → 0 < z.buffer → slice_get images i ≡ Some image → slice_get x.spheres i ≡ Some p → p.role ≡ Replay b
-    → (is_over b.now ≡ false → GoesOn image p b) → slice_get p.threads k ≡ o → FitsChunk z p k how n limit o → spheres_rank c images (move_chunk z x i k how n limit p o).spheres + paid c n ≤ spheres_rank c images x.spheres + 0
-chunk_paid c images z x i k how n limit image p b None positive there is role goes thread fits = absurd fits
-chunk_paid c images z x i k how n limit image p b (Some t) positive there is role goes thread fits =
-    let going : is_over b.now ≡ false = sym (ap is_stopped role) ∙ fits.going in
-    let pays = chunk-pays c image z p b k t how n limit (is_short z.chunk how limit) x.devices positive role going (goes going) thread fits in
-    spheres-pay c images x.spheres i image p (laid (chunk_moved k (is_piece how) (is_short z.chunk how limit) (run p.memory t n) x.devices p)) (paid c n) 0 there is (omega (arith, pays))
+    -- a serial step of a replay pays for its flight with what the play has left less
+    pub serial_paid : (k moment : ℕ) (o : Option Parts) → slice_get p.threads k ≡ o → FitsSerial p k o
+        → spheres_rank c images (do_serial x i k moment p o).spheres + (serial_most c p x.devices moment k o + 3) ≤ spheres_rank c images x.spheres + 0
+    serial_paid k moment None thread fits = absurd fits
+    serial_paid k moment (Some t) thread fits =
+        let going : is_over b.now ≡ false = sym (ap is_stopped role) ∙ fits.going in
+        let v = serial_moved k moment t x.devices p in
+        let pays = serial-pays c image p b k moment t x.devices role going (goes going) thread fits in
+        spheres-pay c images x.spheres i image p (laid v) ((length v.words + c + 1) + 3) 0 there is (omega (arith, pays))
 
--- a serial step of a replay pays for its flight with what the play has left less
-pub serial_paid : (c : ℕ) (images : List SphereSetup) (x : SerialState) (i k moment : ℕ) (image : SphereSetup) (p : Sphere) (b : Cursor) (o : Option Parts) → slice_get images i ≡ Some image → slice_get x.spheres i ≡ Some p → p.role ≡ Replay b
-    → (is_over b.now ≡ false → GoesOn image p b) → slice_get p.threads k ≡ o → FitsSerial p k o → spheres_rank c images (do_serial x i k moment p o).spheres + (serial_most c p x.devices moment k o + 3) ≤ spheres_rank c images x.spheres + 0
-serial_paid c images x i k moment image p b None there is role goes thread fits = absurd fits
-serial_paid c images x i k moment image p b (Some t) there is role goes thread fits =
-    let going : is_over b.now ≡ false = sym (ap is_stopped role) ∙ fits.going in
-    let v = serial_moved k moment t x.devices p in
-    let pays = serial-pays c image p b k moment t x.devices role going (goes going) thread fits in
-    spheres-pay c images x.spheres i image p (laid v) ((length v.words + c + 1) + 3) 0 there is (omega (arith, pays))
-
--- a DMA of a sphere pays for its flight, in a replay with what the play has left less
-pub dma_paid : (c : ℕ) (images : List SphereSetup) (x : SerialState) (i : ℕ) (image : SphereSetup) (p : Sphere) (o : Option MovedSphere) → slice_get images i ≡ Some image → slice_get x.spheres i ≡ Some p → DmaPays c image p o → (o ≡ None → ⊥)
-    → spheres_rank c images (do_dma x i o).spheres + (dma_most c o + 3) ≤ spheres_rank c images x.spheres + 0
-dma_paid c images x i image p None there is pays some = absurd (some refl)
-dma_paid c images x i image p (Some v) there is pays some =
-    spheres-pay c images x.spheres i image p (laid v) ((length v.words + c + 1) + 3) 0 there is (omega (arith, pays))
+  -- a DMA of a sphere pays for its flight, in a replay with what the play has left less
+  pub dma_paid : (o : Option MovedSphere) → DmaPays c image p o → (o ≡ None → ⊥)
+      → spheres_rank c images (do_dma x i o).spheres + (dma_most c o + 3) ≤ spheres_rank c images x.spheres + 0
+  dma_paid None pays some = absurd (some refl)
+  dma_paid (Some v) pays some =
+      spheres-pay c images x.spheres i image p (laid v) ((length v.words + c + 1) + 3) 0 there is (omega (arith, pays))

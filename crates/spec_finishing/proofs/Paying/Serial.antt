@@ -79,7 +79,7 @@ serial_rank c image p b k x devices role going g none work =
     let h = ap (price c) e in
     let paid_ = words-paid c (stored x) in
     let words = verdict_words b k x devices p in
-    let pays = verdict-pays c image p b k x devices ((length (by_verdict b k x devices p).words + c + 1) + 3) role going g (omega (arith, none, work)) (omega (arith, h, paid_, words)) in
+    let pays = verdict-pays c image p b role going g k x devices ((length (by_verdict b k x devices p).words + c + 1) + 3) (omega (arith, none, work)) (omega (arith, h, paid_, words)) in
     pays
 
 -- a serial step of a replay that goes on pays for its flight and three events

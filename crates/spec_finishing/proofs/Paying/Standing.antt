@@ -31,11 +31,11 @@ not_none (Some x) some e = none-some x (sym e)
 
 what_paid : (c : ℕ) (images : List SphereSetup) (z : Numbers) (x : SerialState) (moment i : ℕ) (image : SphereSetup) (p : Sphere) (b : Cursor) (a : What) → 0 < z.buffer → slice_get images i ≡ Some image → slice_get x.spheres i ≡ Some p → p.role ≡ Replay b
     → (is_over b.now ≡ false → GoesOn image p b) → FitsWhat z x.devices p a → spheres_rank c images (do_what z x moment i p a).spheres + (what_most c p x.devices moment a + what_more a) ≤ spheres_rank c images x.spheres + 0
-what_paid c images z x moment i image p b (OfChunk k how n limit) positive there is role goes fits = chunk_paid c images z x i k how n limit image p b (slice_get p.threads k) positive there is role goes refl fits
-what_paid c images z x moment i image p b (OfSerial k) positive there is role goes fits = serial_paid c images x i k moment image p b (slice_get p.threads k) there is role goes refl fits
+what_paid c images z x moment i image p b (OfChunk k how n limit) positive there is role goes fits = chunk_paid c images x i image p there is b role goes z k how n limit (slice_get p.threads k) positive refl fits
+what_paid c images z x moment i image p b (OfSerial k) positive there is role goes fits = serial_paid c images x i image p there is b role goes k moment (slice_get p.threads k) refl fits
 what_paid c images z x moment i image p b OfDma positive there is role goes fits =
     let going : is_over b.now ≡ false = sym (ap is_stopped role) ∙ fits.going in
-    dma_paid c images x i image p (dma_moved x.devices p) there is (dma-pays c image p b x.devices role going (goes going) fits) (not_none (dma_moved x.devices p) fits.moves)
+    dma_paid c images x i image p there is (dma_moved x.devices p) (dma-pays c image p b x.devices role going (goes going) fits) (not_none (dma_moved x.devices p) fits.moves)
 what_paid c images z x moment i image p b (OfRaise k value) positive there is role goes fits = absurd (no_raise p b (slice_get p.threads k) role fits)
 
 -- ---- in any sphere
@@ -60,7 +60,7 @@ role_pays c s z x m p true positive stands is kind fits =
     omega (arith, r)
 role_pays c s z x m p false positive stands is kind fits =
     let image = stands.images m.sphere p is in
-    let r = what_own c s.spheres z x m.moment m.sphere image.0 p m.what image.1 is kind in
+    let r = what_own c s.spheres x m.sphere image.0 p image.1 is kind z m.moment m.what in
     let e = ap (price c) (live_work p x.devices m p.role kind) in
     omega (arith, r, e)
 

@@ -1,5 +1,5 @@
 -- The event Ask keeps the invariant.
-use Rattle.std.proofs.Common.{◌≡◌, ℕ, zero, suc, ◌<◌, Bool, true, false, not, ◌&&◌, eqb, cond, List, [], ◌∷◌, ◌++◌, length, Option, Some, None, refl, sym, ap, ◌∙◌, subst, arith}
+use Rattle.std.proofs.Common.{◌≡◌, ℕ, zero, suc, ◌<◌, Bool, true, false, not, ◌&&◌, eqb, List, [], ◌∷◌, ◌++◌, length, Option, Some, None, refl, sym, ap, ◌∙◌, subst, arith}
 use Rattle.std.specs.Prelude.{slice_get, IsSome}
 use Rattle.std.proofs.lemmas.Bool.{true≢false, and_parts, and_from, or_parts, eqb-true, eqb-false, eq-eqb, not-true, not-false}
 use Rattle.dl_entry.specs.declared.Actor.{Actor}
@@ -11,14 +11,12 @@ use Rattle.spec_engine.specs.declared.answers.How.{How}
 use Rattle.spec_engine.specs.Signatures.{hits, nothing, signed}
 use Rattle.spec_engine.specs.Flights.{Flight, at, first_slot, is_full, meets_chunk, is_of_sphere}
 use Rattle.spec_engine.specs.Chunks.{Chunk, is_serial, is_empty_serial}
-use Rattle.spec_engine.specs.Asking.{denied_by, busy_by}
 use Rattle.spec_engine.specs.Laws.{CoversWords}
 use Rattle.spec_engine.proofs.Searches.{first_none}
-use Rattle.spec_protocol.specs.declared.reply.Reply.{Reply}
 use Rattle.spec_protocol.specs.Spheres.{Role, Plain, Record, Replay, Sphere, is_stopped, recording_turn, head_in, head_of, is_in_pieces}
 use Rattle.spec_protocol.specs.Commits.{MovedSphere, is_piece, chunk_moved, serial_moved}
-use Rattle.spec_protocol.specs.World.{Held, World, moment, sphere_at, After, answered}
-use Rattle.spec_protocol.specs.Asking.{move_at, is_short, chunk_request, grant_chunk, unless_denied, serial_request, grant_serial, unless_busy, asks_serial, ask_arbiter, other_turn, unless_turn, ask_closed, ask_held, asking}
+use Rattle.spec_protocol.specs.World.{Held, World, moment, sphere_at, answered}
+use Rattle.spec_protocol.specs.Asking.{move_at, is_short, chunk_request, grant_chunk, serial_request, grant_serial, asks_serial, other_turn, asking}
 use Rattle.spec_protocol.specs.Serial.{do_moved, do_serial}
 use Rattle.spec_protocol.specs.Shown.{flying, shown, shown_of}
 use Rattle.spec_protocol.specs.Moves.{move_chunk, do_at, do_move, ChunkFits, SerialFits, FitsChunk, FitsSerial, FitsAt, Fits}
@@ -28,7 +26,7 @@ use Rattle.spec_protocol.proofs.Memory.Covering.{bits-signed, CoversWords-signed
 use Rattle.spec_protocol.proofs.Moves.Granted.{HasTurn, chunk-stores, chunk-lives, serial-lives, chunk-moves, serial-moves}
 use Rattle.spec_protocol.proofs.Moves.AnyMemory.{over, relaid, chunk-relaid}
 use Rattle.spec_protocol.proofs.Invariants.Preserved.{Preserved, shown-get, unchanged-preserved}
-use Rattle.spec_protocol.proofs.Invariants.Cores.{branch}
+use Rattle.spec_protocol.proofs.Moves.AnyEvent.{any-ask}
 use Rattle.spec_protocol.proofs.Invariants.Granting.{Grants, granted-preserved}
 use Rattle.spec_protocol.specs.Currency.{IsCurrent, AllLack}
 use Rattle.spec_protocol.specs.Invariants.{current, IsGoodHeld, IsGood}
@@ -269,47 +267,9 @@ grant_serial_preserved : (w : World) (c : ℕ) (h : Held) → IsGood w → Grant
 unfolding grant_serial
 grant_serial_preserved w c h good g = granted-preserved w c h (serial_request h) _ (serial_move w h) _ refl good g
 
--- an ask that a flight denies keeps the invariant, if the ask that none denies does
-pub denied_preserved : (w : World) (a : After) (o : Option ℕ) → IsGood w → (o ≡ None → Preserved w a) → Preserved w (unless_denied (denied_by o) w a)
-denied_preserved w a None good kept = kept refl
-denied_preserved w a (Some k) good kept = unchanged-preserved w (answered w (Reply.Denied k)) refl refl refl good
-
-busy_preserved : (w : World) (a : After) (o : Option ℕ) → IsGood w → (o ≡ None → Preserved w a) → Preserved w (unless_busy (busy_by o) w a)
-busy_preserved w a None good kept = kept refl
-busy_preserved w a (Some k) good kept = unchanged-preserved w (answered w (Reply.SphereBusy k)) refl refl refl good
-
-arbiter_preserved : (w : World) (c : ℕ) (h : Held) (how : How) (serial : Bool) → IsGood w → at w.cores c ≡ Some h → h.chunk.closed ≡ Some how → is_stopped (sphere_at w h.chunk.sphere).role ≡ false → other_turn (head_of (sphere_at w h.chunk.sphere)) h.thread ≡ None
-    → is_full w.slots ≡ false → asks_serial h.chunk (sphere_at w h.chunk.sphere).role ≡ serial → Preserved w (ask_arbiter w c h how serial)
-arbiter_preserved w c h how true good is closed going turn free serial =
-    busy_preserved w (grant_serial w c h) (first_slot (is_of_sphere h.chunk.sphere) w.slots) good
-    (λ none. grant_serial_preserved w c h good (serial_grants w c h good is going turn free serial none))
-arbiter_preserved w c h how false good is closed going turn free chunk =
-    denied_preserved w (grant_chunk w c h how) (first_slot (meets_chunk h.chunk.reads h.chunk.writes) w.slots) good
-    (λ none. grant_chunk_preserved w c h how good (chunk_grants w c h how good is closed going turn free chunk none))
-
--- an ask at any actor's turn keeps the invariant, if the ask at its own turn does
-pub turn-preserved : (w : World) (a : After) (o : Option Actor) → IsGood w → (o ≡ None → Preserved w a) → Preserved w (unless_turn o w a)
-turn-preserved w a None good kept = kept refl
-turn-preserved w a (Some actor) good kept = unchanged-preserved w (answered w (Reply.NotTurn actor)) refl refl refl good
-
-closed_preserved : (w : World) (c : ℕ) (h : Held) (o : Option How) → IsGood w → at w.cores c ≡ Some h → h.chunk.closed ≡ o → Preserved w (ask_closed w c h o)
-closed_preserved w c h None good is closed = unchanged-preserved w (answered w Reply.NotClosed) refl refl refl good
-closed_preserved w c h (Some how) good is closed =
-    let p = sphere_at w h.chunk.sphere in
-    let turn = other_turn (head_of p) h.thread in
-    let arbiter = ask_arbiter w c h how (asks_serial h.chunk p.role) in
-    branch (Preserved w) (is_stopped p.role) (answered w Reply.Stopped) (unless_turn turn w (cond (is_full w.slots) (answered w Reply.WindowFull) arbiter))
-    (λ _. unchanged-preserved w (answered w Reply.Stopped) refl refl refl good)
-    (λ going. turn-preserved w (cond (is_full w.slots) (answered w Reply.WindowFull) arbiter) turn good
-    (λ mine. branch (Preserved w) (is_full w.slots) (answered w Reply.WindowFull) arbiter
-    (λ _. unchanged-preserved w (answered w Reply.WindowFull) refl refl refl good)
-    (λ free. arbiter_preserved w c h how (asks_serial h.chunk p.role) good is closed going mine free refl)))
-
-ask_held_preserved : (w : World) (c : ℕ) (o : Option Held) → IsGood w → at w.cores c ≡ o → Preserved w (ask_held w c o)
-ask_held_preserved w c None good is = unchanged-preserved w (answered w Reply.Idle) refl refl refl good
-ask_held_preserved w c (Some h) good is = closed_preserved w c h h.chunk.closed good is refl
-
 -- the event Ask keeps the invariant
 pub ask-preserved : (w : World) (c : ℕ) → IsGood w → Preserved w (asking w c)
-unfolding asking
-ask-preserved w c good = ask_held_preserved w c (at w.cores c) good refl
+ask-preserved w c good =
+    any-ask w (Preserved w) (λ r none. unchanged-preserved w (answered w r) refl refl refl good) c
+    (λ h how may chunk none. grant_chunk_preserved w c h how good (chunk_grants w c h how good may.is may.closed may.going may.turn may.free chunk none))
+    (λ h how may serial none. grant_serial_preserved w c h good (serial_grants w c h good may.is may.going may.turn may.free serial none))

@@ -26,7 +26,7 @@ use Rattle.spec_protocol.specs.Replying.{makes_point, IsInTurns, IsGranted, Asks
 use Rattle.spec_protocol.proofs.Memory.Laying.{AllLack_flip}
 use Rattle.spec_protocol.proofs.Memory.Covering.{uncovered-lacks, apart-covered}
 use Rattle.spec_protocol.proofs.Moves.Granted.{chunk-lives, serial-lives}
-use Rattle.spec_protocol.proofs.Invariants.Cores.{branch}
+use Rattle.spec_protocol.proofs.Moves.AnyEvent.{branch, any-closed}
 use Rattle.spec_protocol.proofs.Invariants.Asks.{never_hits}
 use Rattle.spec_protocol.proofs.Invariants.Schedules.{start-good, after-good, sizes_kept}
 
@@ -154,43 +154,16 @@ chunk_clear w c h k f good held there same none =
 abbrev Clear : World → Held → After → Type 0
 Clear w h a = makes_point a.reply ≡ true → (k : ℕ) (f : Flight) → at w.slots k ≡ Some f → f.sphere ≡ h.chunk.sphere → IsClearOf h f
 
-denied_clear : (w : World) (h : Held) (a : After) (o : Option ℕ) → (o ≡ None → Clear w h a) → Clear w h (unless_denied (denied_by o) w a)
-denied_clear w h a None clear = clear refl
-denied_clear w h a (Some k) clear = λ e. absurd (true≢false (sym e))
-
-busy_clear : (w : World) (h : Held) (a : After) (o : Option ℕ) → (o ≡ None → Clear w h a) → Clear w h (unless_busy (busy_by o) w a)
-busy_clear w h a None clear = clear refl
-busy_clear w h a (Some k) clear = λ e. absurd (true≢false (sym e))
-
-arbiter_clear : (w : World) (c : ℕ) (h : Held) (how : How) (serial : Bool) → IsGood w → IsGoodHeld w c h → Clear w h (ask_arbiter w c h how serial)
-arbiter_clear w c h how true good held =
-    busy_clear w h (grant_serial w c h) (first_slot (is_of_sphere h.chunk.sphere) w.slots)
-    (λ none e k f there same. absurd (eqb-false f.sphere h.chunk.sphere (first_none (is_of_sphere h.chunk.sphere) w.slots none k f there) same))
-arbiter_clear w c h how false good held =
-    denied_clear w h (grant_chunk w c h how) (first_slot (meets_chunk h.chunk.reads h.chunk.writes) w.slots)
-    (λ none e k f there same. chunk_clear w c h k f good held there same none)
-
-turn_clear : (w : World) (h : Held) (a : After) (o : Option Actor) → Clear w h a → Clear w h (unless_turn o w a)
-turn_clear w h a None clear = clear
-turn_clear w h a (Some actor) clear = λ e. absurd (true≢false (sym e))
-
-closed_clear : (w : World) (c : ℕ) (h : Held) (o : Option How) → IsGood w → IsGoodHeld w c h → Clear w h (ask_closed w c h o)
-closed_clear w c h None good held = λ e. absurd (true≢false (sym e))
-closed_clear w c h (Some how) good held =
-    let p = sphere_at w h.chunk.sphere in
-    let turn = other_turn (head_of p) h.thread in
-    let arbiter = ask_arbiter w c h how (asks_serial h.chunk p.role) in
-    branch (Clear w h) (is_stopped p.role) (answered w Reply.Stopped) (unless_turn turn w (cond (is_full w.slots) (answered w Reply.WindowFull) arbiter))
-    (λ _ e. absurd (true≢false (sym e)))
-    (λ _. turn_clear w h (cond (is_full w.slots) (answered w Reply.WindowFull) arbiter) turn
-    (branch (Clear w h) (is_full w.slots) (answered w Reply.WindowFull) arbiter
-    (λ _ e. absurd (true≢false (sym e)))
-    (λ _. arbiter_clear w c h how (asks_serial h.chunk p.role) good held)))
+closed_clear : (w : World) (c : ℕ) (h : Held) → IsGood w → at w.cores c ≡ Some h → Clear w h (ask_closed w c h h.chunk.closed)
+closed_clear w c h good is =
+    any-closed w (Clear w h) (λ r none made. absurd (true≢false (sym made ∙ none))) c h h.chunk.closed is refl
+    (λ how may chunk none made k f there same. chunk_clear w c h k f good (good.held c h is) there same none)
+    (λ how may serial none made k f there same. absurd (eqb-false f.sphere h.chunk.sphere (first_none (is_of_sphere h.chunk.sphere) w.slots none k f there) same))
 
 -- no ask is granted where a word of the chunk is left in a flight of its sphere
 pub grants_clear : GrantsAreClear
 grants_clear s es is c h there made =
     let w = world_after (world_of s) es in
     let good = after-good (world_of s) es (start-good s is) in
-    subst (λ (o : Option Held). Clear w h (ask_held w (core_no w c) o)) (sym there) (closed_clear w (core_no w c) h h.chunk.closed good (good.held (core_no w c) h there))
+    subst (λ (o : Option Held). Clear w h (ask_held w (core_no w c) o)) (sym there) (closed_clear w (core_no w c) h good there)
     (ap makes_point (sym (happens_reply w c)) ∙ made)

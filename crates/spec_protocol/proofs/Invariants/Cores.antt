@@ -1,22 +1,23 @@
 -- The events of running chunks keep the invariant: Step and Cut.
-use Rattle.std.proofs.Common.{◌≡◌, ◌≢◌, ℕ, ◌<◌, ◌≤◌, ◌⊎◌, inl, inr, Bool, true, false, eqb, cond, List, length, Option, Some, None, refl, sym, ap, ◌∙◌, subst, arith, set}
+use Rattle.std.proofs.Common.{◌≡◌, ◌≢◌, ℕ, ◌<◌, ◌≤◌, ◌⊎◌, inl, inr, false, eqb, List, length, Option, Some, None, refl, sym, ap, ◌∙◌, subst, arith, set}
 use Rattle.std.specs.Prelude.{slice_get}
 use Rattle.std.proofs.Math.ListN.{length-set}
-use Rattle.std.proofs.lemmas.Bool.{true≢false, eqb-false, cases_lt, cases_eq}
+use Rattle.std.proofs.lemmas.Bool.{eqb-false, cases_lt, cases_eq}
 use Rattle.std.proofs.lemmas.List.{get_or_past}
 use Rattle.std.proofs.lemmas.Option.{none-some}
 use Rattle.spec_kernel.specs.Interrupts.{is_live}
 use Rattle.spec_engine.specs.declared.answers.How.{How}
 use Rattle.spec_engine.specs.declared.answers.CutReply.{CutReply}
 use Rattle.spec_engine.specs.Flights.{Flight, at}
-use Rattle.spec_engine.specs.Chunks.{Chunk, step, Cutting, cut_open, cut, is_open}
-use Rattle.spec_protocol.specs.declared.reply.Reply.{Reply}
+use Rattle.spec_engine.specs.Chunks.{Chunk, step, Cutting, cut_open}
 use Rattle.spec_protocol.specs.Spheres.{is_stopped, limit_of, halves}
 use Rattle.spec_protocol.specs.Placing.{replays}
 use Rattle.spec_protocol.specs.World.{Held, World, Move, After, sphere_at, with_core, answered}
 use Rattle.spec_protocol.specs.Shown.{shown_of}
 use Rattle.spec_protocol.specs.Moves.{do_if, FitsIf}
-use Rattle.spec_protocol.specs.Stepping.{with_chunk, stepped, step_held, stepping, cut_to, cut_held, cutting}
+pub use Rattle.spec_protocol.proofs.Moves.AnyEvent.{branch}
+use Rattle.spec_protocol.proofs.Moves.AnyEvent.{any-step, any-cut}
+use Rattle.spec_protocol.specs.Stepping.{with_chunk, stepped, stepping, cut_to, cutting}
 use Rattle.spec_protocol.proofs.Memory.Slots.{at-set_same, at-set_other}
 use Rattle.spec_protocol.proofs.Memory.Steps.{SameBase}
 use Rattle.spec_protocol.proofs.Memory.Current.{step-good}
@@ -128,39 +129,16 @@ chunk_preserved w c h dh a good is base chunk world move point =
     (λ k e. subst (IsGoodHeld w c) (let q : record h { chunk = dh } ≡ k = cc in q) (held-same w c h dh (good.held c h is) base chunk))
     (others-differ w c h dh good is base.sphere))
 
--- ---- choices
-
--- what holds of both branches under their conditions holds of the choice
-pub branch : {A : Type 0} (P : A → Type 0) (b : Bool) (x y : A) → (b ≡ true → P x) → (b ≡ false → P y) → P (cond b x y)
-branch P true x y p q = p refl
-branch P false x y p q = q refl
-
 -- ---- Step
-
-open_is : (ch : Chunk) → is_open ch ≡ true → ch.closed ≡ None
-open_is ch e =
-    elim ch.closed as (λ (o : Option How). elim o as (λ (q : Option How). Bool) [ None ↦ true | Some how ↦ false ] ≡ true → o ≡ None) [
-      | None ↦ λ h. refl
-      | Some how ↦ λ h. absurd (true≢false (sym h))
-    ] e
-
-step_held_preserved : (w : World) (c : ℕ) (o : Option Held) → at w.cores c ≡ o → IsGood w → Preserved w (step_held w c o)
-step_held_preserved w c None is good = unchanged-preserved w (answered w Reply.Idle) refl refl refl good
-step_held_preserved w c (Some h) is good =
-    let p = sphere_at w h.chunk.sphere in
-    let s = step w.numbers.buffer p.memory w.slots c h.chunk in
-    branch (Preserved w) (is_stopped p.role) (answered w Reply.Stopped) (cond (is_open h.chunk) (stepped w c h s) (answered w Reply.Waiting))
-    (λ _. unchanged-preserved w (answered w Reply.Stopped) refl refl refl good)
-    (λ _. branch (Preserved w) (is_open h.chunk) (stepped w c h s) (answered w Reply.Waiting)
-    (λ e.
-    let r = step-good w.numbers.buffer w.numbers.signature w.slots c p.memory h.chunk good.covered (open_is h.chunk e) (good.held c h is).chunk in
-    chunk_preserved w c h s.chunk (stepped w c h s) good is r.1 r.0 refl refl refl)
-    (λ _. unchanged-preserved w (answered w Reply.Waiting) refl refl refl good))
 
 -- the event Step keeps the invariant
 pub step-preserved : (w : World) (c : ℕ) → IsGood w → Preserved w (stepping w c)
-unfolding stepping
-step-preserved w c good = step_held_preserved w c (at w.cores c) refl good
+step-preserved w c good =
+    any-step w (Preserved w) (λ r none. unchanged-preserved w (answered w r) refl refl refl good) c
+    (λ h is opened.
+    let s = step w.numbers.buffer (sphere_at w h.chunk.sphere).memory w.slots c h.chunk in
+    let r = step-good w.numbers.buffer w.numbers.signature w.slots c (sphere_at w h.chunk.sphere).memory h.chunk good.covered opened (good.held c h is).chunk in
+    chunk_preserved w c h s.chunk (stepped w c h s) good is r.1 r.0 refl refl refl)
 
 -- ---- Cut
 
@@ -211,14 +189,8 @@ cut_open_preserved w c h None is closed good =
     (record { sphere = refl; start = refl; limit = refl; halves = refl; reads = refl; writes = refl })
     (cut_good w.numbers.buffer w.numbers.signature w.slots c (current w h.chunk.sphere) h.chunk closed (positive h.chunk.done.n e) (good.held c h is).chunk) refl refl refl)
 
-cut_held_preserved : (w : World) (c : ℕ) (o : Option Held) → at w.cores c ≡ o → IsGood w → Preserved w (cut_held w c o)
-cut_held_preserved w c None is good = unchanged-preserved w (answered w Reply.Idle) refl refl refl good
-cut_held_preserved w c (Some h) is good =
-    branch (Preserved w) (is_stopped (sphere_at w h.chunk.sphere).role) (answered w Reply.Stopped) (cut_to w c h (cut h.chunk))
-    (λ _. unchanged-preserved w (answered w Reply.Stopped) refl refl refl good)
-    (λ _. cut_open_preserved w c h h.chunk.closed is refl good)
-
 -- the event Cut keeps the invariant
 pub cut-preserved : (w : World) (c : ℕ) → IsGood w → Preserved w (cutting w c)
-unfolding cutting
-cut-preserved w c good = cut_held_preserved w c (at w.cores c) refl good
+cut-preserved w c good =
+    any-cut w (Preserved w) (λ r none. unchanged-preserved w (answered w r) refl refl refl good) c
+    (λ h is. cut_open_preserved w c h h.chunk.closed is refl good)

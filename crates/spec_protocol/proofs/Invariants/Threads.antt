@@ -1,5 +1,5 @@
 -- The events of threads keep the invariant: Place and Raise.
-use Rattle.std.proofs.Common.{◌≡◌, ◌≢◌, ℕ, ◌<◌, ◌≤◌, inl, inr, true, false, not, eqb, cond, List, [], length, Option, Some, None, refl, sym, ap, ◌∙◌, subst}
+use Rattle.std.proofs.Common.{◌≡◌, ◌≢◌, ℕ, ◌<◌, ◌≤◌, inl, inr, true, false, not, eqb, List, [], length, Option, Some, None, refl, sym, ap, ◌∙◌, subst}
 use Rattle.std.specs.Prelude.{slice_get}
 use Rattle.std.proofs.Math.ListN.{length-set}
 use Rattle.std.proofs.lemmas.Bool.{true≢false, and_parts, and_from, eqb-true, eq-eqb, cases_eq, cases_lt}
@@ -11,18 +11,18 @@ use Rattle.spec_kernel.specs.Interrupts.{is_live, has_handler, takes_interrupt, 
 use Rattle.spec_engine.specs.Signatures.{nothing}
 use Rattle.spec_engine.specs.Flights.{Flight, at}
 use Rattle.spec_engine.proofs.Searches.{first_none, first_some}
-use Rattle.spec_protocol.specs.declared.reply.Reply.{Reply}
 use Rattle.spec_protocol.specs.Spheres.{Role, Plain, Record, Replay, Sphere, no_sphere, is_stopped, limit_of, halves}
 use Rattle.spec_protocol.specs.Commits.{role_raised, raised}
 use Rattle.spec_protocol.specs.World.{Held, World, moment, sphere_at, with_sphere, with_core, held_afresh, runs, core_of, OfRaise, answered}
-use Rattle.spec_protocol.specs.Placing.{unless_elsewhere, place_thread, placing, replays, with_renewed, raise_in, raise_thread, raising}
+use Rattle.spec_protocol.specs.Placing.{placing, replays, with_renewed, raise_in, raising}
 use Rattle.spec_protocol.specs.Serial.{do_raise}
 use Rattle.spec_protocol.specs.Shown.{flying, shown, shown_of}
 use Rattle.spec_protocol.specs.Moves.{do_at, do_move, FitsRaise, FitsAt, Fits}
 use Rattle.spec_protocol.proofs.Moves.Granted.{get-set_other}
 use Rattle.spec_protocol.proofs.Moves.AnyMemory.{over}
+use Rattle.spec_protocol.proofs.Moves.AnyEvent.{Raises, any-place, any-raise}
 use Rattle.spec_protocol.proofs.Invariants.Preserved.{SameSizes, Preserved, point-made, sphere-same, shown-set, unchanged-preserved}
-use Rattle.spec_protocol.proofs.Invariants.Cores.{set-cases, alone-set, held_there, core-good, core-preserved, branch}
+use Rattle.spec_protocol.proofs.Invariants.Cores.{set-cases, alone-set, held_there, core-good, core-preserved}
 use Rattle.spec_protocol.proofs.Invariants.Landing.{afresh-begins, afresh-held, elsewhere-held}
 use Rattle.spec_protocol.proofs.Invariants.Granting.{unflown}
 use Rattle.spec_protocol.proofs.Invariants.Asks.{shown_at, shown_over}
@@ -51,32 +51,15 @@ placed_good w c i k good within free =
     let b = afresh-begins w.numbers i k (sphere_at w i) h e in
     free d g ne there (sym sphere ∙ ap (λ (x : Held). x.chunk.sphere) (sym b.is)) (sym thread ∙ ap (λ (x : Held). x.thread) (sym b.is)))
 
-elsewhere_preserved : (w : World) (c i k : ℕ) (t : Parts) (o : Option ℕ) → IsGood w → slice_get (sphere_at w i).threads k ≡ Some t → core_of w i k ≡ o → Preserved w (unless_elsewhere o w (answered (with_core w c (held_afresh w.numbers i k (sphere_at w i))) Reply.Placed))
-elsewhere_preserved w c i k t None good is none =
-    core-preserved w c (held_afresh w.numbers i k (sphere_at w i)) _ refl refl refl
-    (placed_good w c i k good (inside w i k t is) (λ d g ne there sphere thread. nobody w i k none d g there sphere thread))
-elsewhere_preserved w c i k t (Some d) good is some = unchanged-preserved w (answered w (Reply.Elsewhere d)) refl refl refl good
-
-place_thread_preserved : (w : World) (c i k : ℕ) (o : Option Parts) → IsGood w → slice_get (sphere_at w i).threads k ≡ o → Preserved w (place_thread w c i k o)
-place_thread_preserved w c i k None good is = unchanged-preserved w (answered w Reply.NoThread) refl refl refl good
-place_thread_preserved w c i k (Some t) good is =
-    let placed = unless_elsewhere (core_of w i k) w (answered (with_core w c (held_afresh w.numbers i k (sphere_at w i))) Reply.Placed) in
-    branch (Preserved w) (is_live t) placed (answered w Reply.Ended)
-    (λ _. elsewhere_preserved w c i k t (core_of w i k) good is refl)
-    (λ _. unchanged-preserved w (answered w Reply.Ended) refl refl refl good)
-
 -- the event Place keeps the invariant
 pub place-preserved : (w : World) (c i k : ℕ) → IsGood w → Preserved w (placing w c i k)
-unfolding placing
-place-preserved w c i k good = place_thread_preserved w c i k (slice_get (sphere_at w i).threads k) good refl
+place-preserved w c i k good =
+    any-place w (Preserved w) (λ r none. unchanged-preserved w (answered w r) refl refl refl good) c i k
+    (λ t is live none.
+    core-preserved w c (held_afresh w.numbers i k (sphere_at w i)) _ refl refl refl
+    (placed_good w c i k good (inside w i k t is) (λ d g ne there sphere thread. nobody w i k none d g there sphere thread)))
 
 -- ---- Raise
-
--- the thread's chunk, where a core has one, is to begin again: any other chunk goes on
-record Raises (w : World) (i k value : ℕ) (t : Parts) : Type 0 where
-  start : slice_get (sphere_at w i).threads k ≡ Some t
-  live : replays (sphere_at w i).role ≡ false
-  takes : takes_interrupt t ≡ true
 
 raised_role : (k n value : ℕ) (role : Role) → (halves (role_raised k n value role) ≡ halves role) × (replays (role_raised k n value role) ≡ replays role) × ((s j : ℕ) (u : Parts) → limit_of s (role_raised k n value role) j u ≡ limit_of s role j u) × (is_stopped (role_raised k n value role) ≡ is_stopped role)
 unfolding limit_of
@@ -194,45 +177,28 @@ raise_shown w i k value t within start =
     ∙ sym (ap (do_raise (shown_of w) i k value (over (current w i) p)) start)
     ∙ sym (ap (do_at w.numbers (shown_of w) (record { moment = moment w; sphere = i; what = OfRaise k value })) (shown_at w i within))
 
-raise_fits : (w : World) (i k value : ℕ) (t : Parts) → i < length w.spheres → Raises w i k value t → Fits w.numbers (shown_of w) (record { moment = moment w; sphere = i; what = OfRaise k value })
+taken_by : (t : Parts) → is_live t ≡ true → has_handler t ≡ true → t.mask ≡ false → takes_interrupt t ≡ true
+taken_by t live handler mask = and_from _ _ (and_from _ _ live handler) (ap not mask)
+
+raise_fits : (w : World) (i k value : ℕ) (t : Parts) → i < length w.spheres → Raises k t (sphere_at w i) → Fits w.numbers (shown_of w) (record { moment = moment w; sphere = i; what = OfRaise k value })
 raise_fits w i k value t within r =
     subst (FitsAt w.numbers w.devices (record { moment = moment w; sphere = i; what = OfRaise k value })) (sym (shown_at w i within ∙ ap Some (shown_over w i)))
-    (subst (FitsRaise (over (current w i) (sphere_at w i))) (sym r.start) (record { live = r.live; takes = r.takes }))
+    (subst (FitsRaise (over (current w i) (sphere_at w i))) (sym r.is) (record { live = r.role; takes = taken_by t r.live r.handler r.mask }))
 
-raise_in_preserved : (w : World) (i k value : ℕ) (t : Parts) → IsGood w → Raises w i k value t → Preserved w (raise_in w i k value t)
+raise_in_preserved : (w : World) (i k value : ℕ) (t : Parts) → IsGood w → Raises k t (sphere_at w i) → Preserved w (raise_in w i k value t)
 raise_in_preserved w i k value t good r =
-    let within = inside w i k t r.start in
+    let within = inside w i k t r.is in
     record {
       good = renewed_good w i k value t (core_of w i k) good within refl;
       sizes = renewed_sizes w (raised_world w i k value t) i k (core_of w i k)
           (record { numbers = refl; spheres = length-set w.spheres i (raised k value t (sphere_at w i)); cores = refl; slots = refl });
       point = point-made w.numbers (replays (sphere_at w i).role) (record { moment = moment w; sphere = i; what = OfRaise k value });
-      whole = renewed_shown (raised_world w i k value t) i k (core_of w i k) ∙ raise_shown w i k value t within r.start;
+      whole = renewed_shown (raised_world w i k value t) i k (core_of w i k) ∙ raise_shown w i k value t within r.is;
       fits = raise_fits w i k value t within r;
     }
 
-taken_by : (t : Parts) → is_live t ≡ true → has_handler t ≡ true → t.mask ≡ false → takes_interrupt t ≡ true
-taken_by t live handler mask = and_from _ _ (and_from _ _ live handler) (ap not mask)
-
-raise_thread_preserved : (w : World) (i k value : ℕ) (o : Option Parts) → IsGood w → slice_get (sphere_at w i).threads k ≡ o → replays (sphere_at w i).role ≡ false → Preserved w (raise_thread w i k value o)
-raise_thread_preserved w i k value None good is live = unchanged-preserved w (answered w Reply.NoThread) refl refl refl good
-raise_thread_preserved w i k value (Some t) good is live =
-    let raised_ = raise_in w i k value t in
-    let masked = cond t.mask (answered w Reply.Masked) raised_ in
-    let handled = cond (has_handler t) masked (answered w Reply.NoHandler) in
-    branch (Preserved w) (is_live t) handled (answered w Reply.Ended)
-    (λ lives. branch (Preserved w) (has_handler t) masked (answered w Reply.NoHandler)
-    (λ handler. branch (Preserved w) t.mask (answered w Reply.Masked) raised_
-    (λ _. unchanged-preserved w (answered w Reply.Masked) refl refl refl good)
-    (λ mask. raise_in_preserved w i k value t good (record { start = is; live = live; takes = taken_by t lives handler mask })))
-    (λ _. unchanged-preserved w (answered w Reply.NoHandler) refl refl refl good))
-    (λ _. unchanged-preserved w (answered w Reply.Ended) refl refl refl good)
-
 -- the event Raise keeps the invariant
 pub raise-preserved : (w : World) (i k value : ℕ) → IsGood w → Preserved w (raising w i k value)
-unfolding raising
 raise-preserved w i k value good =
-    let p = sphere_at w i in
-    branch (Preserved w) (replays p.role) (answered w Reply.FromLog) (raise_thread w i k value (slice_get p.threads k))
-    (λ _. unchanged-preserved w (answered w Reply.FromLog) refl refl refl good)
-    (λ live. raise_thread_preserved w i k value (slice_get p.threads k) good refl live)
+    any-raise w (Preserved w) (λ r none. unchanged-preserved w (answered w r) refl refl refl good) i k value
+    (λ t r. raise_in_preserved w i k value t good r)

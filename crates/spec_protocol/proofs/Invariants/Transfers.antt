@@ -1,23 +1,18 @@
 -- The event Dma keeps the invariant.
-use Rattle.std.proofs.Common.{◌≡◌, ℕ, ◌<◌, inl, inr, false, List, length, Option, Some, None, refl, sym, ap, ◌∙◌, subst}
+use Rattle.std.proofs.Common.{◌≡◌, ℕ, ◌<◌, inl, inr, false, List, length, Some, None, refl, sym, ap, ◌∙◌, subst}
 use Rattle.std.specs.Prelude.{slice_get, option_map, IsSome}
 use Rattle.std.proofs.Math.ListN.{length-set}
-use Rattle.std.proofs.lemmas.Bool.{or_parts, cases_eq, cases_lt}
-use Rattle.std.proofs.lemmas.List.{get_or_past}
-use Rattle.std.proofs.lemmas.Option.{none-some}
+use Rattle.std.proofs.lemmas.Bool.{or_parts, cases_eq}
+use Rattle.dl_entry.specs.declared.Why.{Why}
 use Rattle.spec_isa.specs.declared.thread.Parts.{Parts}
 use Rattle.spec_isa.specs.Words.{Apart}
 use Rattle.spec_engine.specs.Signatures.{Marks, hits, nothing, signed}
 use Rattle.spec_engine.specs.Flights.{Flight, first_slot, is_full, meets_chunk}
-use Rattle.spec_engine.specs.Asking.{ask}
 use Rattle.spec_engine.specs.Laws.{CoversWords}
-use Rattle.spec_protocol.specs.Asking.{unless_denied, unless_turn}
 use Rattle.spec_engine.proofs.Searches.{first_none, told-zero}
-use Rattle.spec_protocol.specs.declared.reply.Reply.{Reply}
-use Rattle.spec_protocol.specs.Spheres.{Sphere, no_sphere, is_stopped}
-use Rattle.spec_protocol.specs.Commits.{CommitOutcome, Granted, Piece, Diverged, MovedSphere, dma_in, dma_moved}
+use Rattle.spec_protocol.specs.Commits.{Granted, Diverged, MovedSphere}
 use Rattle.spec_protocol.specs.World.{World, sphere_at, flown, answered}
-use Rattle.spec_protocol.specs.Transferring.{dma_move, dma_done, transfer, dma_with, dma_if, turn_before_dma, transferring}
+use Rattle.spec_protocol.specs.Transferring.{dma_move, dma_done, dma_with, transferring}
 use Rattle.spec_protocol.specs.Placing.{replays}
 use Rattle.spec_protocol.specs.Serial.{do_moved, do_dma}
 use Rattle.spec_protocol.specs.Shown.{flying, shown_of}
@@ -29,19 +24,12 @@ use Rattle.spec_protocol.proofs.Moves.Granted.{Divergence}
 use Rattle.spec_protocol.proofs.Moves.AnyMemory.{relaid, dma-relaid}
 use Rattle.spec_protocol.proofs.Moves.Transfers.{DmaMoves, dma-lives, dma-moves}
 use Rattle.spec_protocol.proofs.Invariants.Preserved.{Preserved, point-made, point-other, unchanged-preserved}
-use Rattle.spec_protocol.proofs.Invariants.Cores.{branch}
+use Rattle.spec_protocol.proofs.Moves.AnyEvent.{Transfers, any-transfer}
 use Rattle.spec_protocol.proofs.Invariants.Landing.{landed-held, elsewhere-held, moved-shown}
 use Rattle.spec_protocol.proofs.Invariants.Granting.{stopped-good, stopped-shown}
-use Rattle.spec_protocol.proofs.Invariants.Asks.{shown_at, shown_over, denied_preserved, turn-preserved}
+use Rattle.spec_protocol.proofs.Invariants.Asks.{shown_at, shown_over}
 use Rattle.spec_protocol.specs.Currency.{AllLack}
 use Rattle.spec_protocol.specs.Invariants.{IsFlightCovered, current, IsGood}
-
--- sphere i moves by v, whose stores meet no flight
-record Transfers (w : World) (i : ℕ) (v : MovedSphere) : Type 0 where
-  within : i < length w.spheres
-  going : is_stopped (sphere_at w i).role ≡ false
-  turn : turn_before_dma (sphere_at w i).role ≡ None
-  is : dma_moved w.devices (sphere_at w i) ≡ Some v
 
 moves_of : (w : World) (i : ℕ) (v : MovedSphere) → Transfers w i v → DmaMoves w.devices (sphere_at w i) v
 moves_of w i v t = dma-moves w.devices (sphere_at w i) v t.going t.turn t.is
@@ -142,20 +130,8 @@ done_preserved w i v good t free none =
       fits = dma_fits w i v t;
     }
 
-transfer_preserved : (w : World) (i : ℕ) (v : MovedSphere) → IsGood w → Transfers w i v → Preserved w (transfer w i v)
-unfolding transfer
-transfer_preserved w i v good t =
-    let g = marks_of w i v in
-    let done = dma_done w i g v in
-    let asked = unless_denied (ask g g w.slots) w done in
-    branch (Preserved w) (is_full w.slots) (answered w Reply.WindowFull) asked
-    (λ _. unchanged-preserved w (answered w Reply.WindowFull) refl refl refl good)
-    (λ free. denied_preserved w done (first_slot (meets_chunk g g) w.slots) good (λ none. done_preserved w i v good t free none))
-
-with_preserved : (w : World) (i : ℕ) (v : MovedSphere) (o : CommitOutcome) → v.outcome ≡ o → IsGood w → Transfers w i v → Preserved w (dma_with w i v o)
-with_preserved w i v Granted is good t = transfer_preserved w i v good t
-with_preserved w i v Piece is good t = transfer_preserved w i v good t
-with_preserved w i v (Diverged j why) is good t =
+diverged_preserved : (w : World) (i : ℕ) (v : MovedSphere) (j : ℕ) (why : Why) → IsGood w → Transfers w i v → v.outcome ≡ Diverged j why → Preserved w (dma_with w i v (Diverged j why))
+diverged_preserved w i v j why good t is =
     let moves = moves_of w i v t in
     let d : Divergence w.devices (sphere_at w i) v (Diverged j why) = subst (Divergence w.devices (sphere_at w i) v) is moves.divergence in
     record {
@@ -167,25 +143,9 @@ with_preserved w i v (Diverged j why) is good t =
       fits = dma_fits w i v t;
     }
 
--- a sphere that has a request is one of the spheres
-dma_inside : (w : World) (i : ℕ) (v : MovedSphere) → dma_moved w.devices (sphere_at w i) ≡ Some v → i < length w.spheres
-unfolding dma_moved
-dma_inside w i v e =
-    elim (cases_lt i (length w.spheres)) [
-      | inl l ↦ l
-      | inr past ↦ absurd (none-some v (ap (λ (p : Sphere). dma_in p.role w.devices p) (sym (get_or_past w.spheres i no_sphere past)) ∙ e))
-    ]
-
-if_preserved : (w : World) (i : ℕ) (o : Option MovedSphere) → IsGood w → is_stopped (sphere_at w i).role ≡ false → turn_before_dma (sphere_at w i).role ≡ None → dma_moved w.devices (sphere_at w i) ≡ o → Preserved w (dma_if w i o)
-if_preserved w i None good going turn is = unchanged-preserved w (answered w Reply.NoDma) refl refl refl good
-if_preserved w i (Some v) good going turn is = with_preserved w i v v.outcome refl good (record { within = dma_inside w i v is; going = going; turn = turn; is = is })
-
 -- the event Dma keeps the invariant
 pub dma-preserved : (w : World) (i : ℕ) → IsGood w → Preserved w (transferring w i)
-unfolding transferring
 dma-preserved w i good =
-    let p = sphere_at w i in
-    let rest = dma_if w i (dma_moved w.devices p) in
-    branch (Preserved w) (is_stopped p.role) (answered w Reply.Stopped) (unless_turn (turn_before_dma p.role) w rest)
-    (λ _. unchanged-preserved w (answered w Reply.Stopped) refl refl refl good)
-    (λ going. turn-preserved w rest (turn_before_dma p.role) good (λ turn. if_preserved w i (dma_moved w.devices p) good going turn refl))
+    any-transfer w (Preserved w) (λ r none. unchanged-preserved w (answered w r) refl refl refl good) i
+    (λ v t free none. done_preserved w i v good t free none)
+    (λ v j why t is. diverged_preserved w i v j why good t is)

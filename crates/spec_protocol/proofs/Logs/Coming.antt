@@ -5,7 +5,6 @@ use Rattle.std.proofs.lemmas.Bool.{true≢false, cases_eq}
 use Rattle.std.proofs.lemmas.List.{append_assoc, append-nil}
 use Rattle.std.proofs.lemmas.Option.{none-some}
 use Rattle.dl_entry.specs.declared.Actor.{Actor}
-use Rattle.dl_entry.specs.declared.Commit.{Commit}
 use Rattle.dl_entry.specs.declared.Input.{Input}
 use Rattle.spec_isa.specs.declared.thread.Parts.{Parts}
 use Rattle.spec_log.specs.declared.ModeName.{ModeName}
@@ -24,7 +23,7 @@ use Rattle.spec_protocol.specs.Spheres.{Sphere}
 use Rattle.spec_protocol.proofs.Logs.Inserting.{with_short, with_size}
 use Rattle.spec_protocol.proofs.Moves.Granted.{get-set_other, get-set_same, get-append}
 use Rattle.spec_protocol.proofs.Logs.Lookups.{short_at, short-other, interrupt-other, count_of, count-append, SlotsBelow, SlotsFrom, SlotsFrom_less, SlotsBelow_more, SlotsBelow-push}
-use Rattle.spec_protocol.proofs.Logs.Growing.{commits_if, commits_in, OrderStands, SizesStand, Stands, SizesAhead, Behind, Ahead, HasCommitted, has_committed-parts, Grows, grows_of, grown_least, pushed_length, set_none}
+use Rattle.spec_protocol.proofs.Logs.Growing.{commits_if, commits_in, OrderStands, SizesStand, Stands, SizesAhead, Behind, Ahead, ThreadCommit, HasCommitted, has_committed-parts, Grows, grows_of, grown_least, pushed_length, set_none}
 
 -- ---- lists that grow
 
@@ -77,29 +76,29 @@ inputs_ahead None log ys b = b
 inputs_ahead (Some r) log ys b = behind_step ys log.inputs r b
 
 -- what is ahead of a commit of a thread is ahead before it too
-pub has_committed-ahead : (L : LogParts) (k : ℕ) (short : Bool) (p q : Sphere) (log qlog : LogParts) (t u : Parts) (made : List Parts) (c : Commit) (o : Option Input) → HasCommitted k short p q log qlog t u made c o → Ahead L q qlog → Ahead L p log
-has_committed-ahead L k short p q log qlog t u made c o d a =
-    let n = has_committed-parts k short p q log qlog t u made c o d in
-    let g = grows_of k short p q log qlog t u made c o d in
+pub has_committed-ahead : (L : LogParts) (c : ThreadCommit) (p q : Sphere) (log qlog : LogParts) → HasCommitted c p q log qlog → Ahead L q qlog → Ahead L p log
+has_committed-ahead L c p q log qlog d a =
+    let n = has_committed-parts c p q log qlog d in
+    let g = grows_of c p q log qlog d in
     let ints : (j i : ℕ) → interrupt_at qlog.interrupts j i ≡ interrupt_at log.interrupts j i = (λ j i. ap (λ (is : List Interrupt). interrupt_at is j i) n.interrupts) in
     record {
       mode = a.mode ∙ n.mode;
       s = a.s ∙ n.s;
       count = let h = n.count in let l = a.count in omega arith;
-      order = order_ahead log.mode (Actor.Thread k) L.order log.order (subst (Behind L.order) n.order a.order);
-      sizes = sizes_ahead L.sizes log.sizes k t.commits c.size short p.threads q.threads t g refl (subst (λ (z : Sizes). SizesAhead L.sizes z q.threads) n.sizes a.sizes);
-      past = λ j i l. a.past j i (let h = grown_least k p.threads q.threads t j g in omega arith) ∙ ints j i;
-      next = λ j x e. elim (cases_eq j k) [
+      order = order_ahead log.mode (Actor.Thread c.thread) L.order log.order (subst (Behind L.order) n.order a.order);
+      sizes = sizes_ahead L.sizes log.sizes c.thread c.before.commits c.commit.size c.short p.threads q.threads c.before g refl (subst (λ (z : Sizes). SizesAhead L.sizes z q.threads) n.sizes a.sizes);
+      past = λ j i l. a.past j i (let h = grown_least c.thread p.threads q.threads c.before j g in omega arith) ∙ ints j i;
+      next = λ j x e. elim (cases_eq j c.thread) [
         | inl jk ↦ (
-            let tx : t ≡ x = (let h : Some t ≡ Some x = sym d.start ∙ ap (slice_get p.threads) (sym jk) ∙ e in cc) in
+            let tx : c.before ≡ x = (let h : Some c.before ≡ Some x = sym d.start ∙ ap (slice_get p.threads) (sym jk) ∙ e in cc) in
             inl (a.past j x.commits (subst (λ (m : ℕ). x.commits < commits_in q.threads m) (sym jk) (let h = g.same in let w = ap (λ (y : Parts). y.commits) tx in omega arith)) ∙ ints j x.commits)
             )
-        | inr ne ↦ elim (a.next j x (ap (λ (ts : List Parts). slice_get ts j) d.threads ∙ get-append (set p.threads k u) made j x (get-set_other p.threads k j u ne ∙ e))) [
+        | inr ne ↦ elim (a.next j x (ap (λ (ts : List Parts). slice_get ts j) d.threads ∙ get-append (set p.threads c.thread c.after) c.spawned j x (get-set_other p.threads c.thread j c.after ne ∙ e))) [
           | inl h ↦ inl (h ∙ ints j x.commits)
           | inr takes ↦ inr takes
         ]
       ];
-      inputs = inputs_ahead o (noted c t.commits short log) L.inputs (subst (λ (l : LogParts). Behind L.inputs l.inputs) d.log_ a.inputs);
+      inputs = inputs_ahead c.input (noted c.commit c.before.commits c.short log) L.inputs (subst (λ (l : LogParts). Behind L.inputs l.inputs) d.log_ a.inputs);
       dmas = let b = a.dmas in (b.0, b.1 ∙ ap (λ (ds : List DmaRecord). ds ++ b.0) n.dmas, SlotsFrom_less (position q.progress) (position p.progress) b.0 (let h = d.position_ in omega arith) b.2);
     }
 

@@ -14,6 +14,7 @@ use Rattle.spec_log.specs.declared.ShortSize.{ShortSize}
 use Rattle.spec_log.specs.declared.Sizes.{Sizes}
 use Rattle.spec_log.specs.declared.LogParts.{LogParts}
 use Rattle.spec_kernel.specs.Interrupts.{takes_interrupt}
+use Rattle.spec_play.specs.Effects.{Effect}
 use Rattle.spec_play.specs.Progress.{position}
 use Rattle.spec_play.specs.Verdicts.{interrupt_at}
 use Rattle.spec_log.specs.Noting.{order_with}
@@ -100,15 +101,30 @@ pub record Ahead (L : LogParts) (p : Sphere) (log : LogParts) : Type 0 where
 
 -- ---- a commit of a thread
 
--- thread k, which was t and is u, commits c; its step spawns these threads and takes this input
-pub record HasCommitted (k : ℕ) (short : Bool) (p q : Sphere) (log qlog : LogParts) (t u : Parts) (spawned : List Parts) (c : Commit) (o : Option Input) : Type 0 where
-  pub start : slice_get p.threads k ≡ Some t
-  pub threads : q.threads ≡ set p.threads k u ++ spawned
-  pub commits : u.commits ≡ t.commits + 1
-  pub new : AreNew spawned
+-- a commit of a thread: what the thread was and what it is after it, whom its step spawned and which input it took
+pub record ThreadCommit : Type 0 where
+  pub thread : ℕ
+  pub before : Parts
+  pub after : Parts
+  pub spawned : List Parts
+  pub commit : Commit
+  -- whether its size is noted as that of a short chunk
+  pub short : Bool
+  pub input : Option Input
+
+-- the commit of a thread that was t, with this effect
+abbrev pub commit_of : (thread : ℕ) → (short : Bool) → Parts → Effect → Option Input → ThreadCommit
+commit_of k short t e o = record { thread = k; before = t; after = e.thread; spawned = e.made; commit = e.commit; short = short; input = o }
+
+-- the commit has made q of p, and qlog of its log
+pub record HasCommitted (c : ThreadCommit) (p q : Sphere) (log qlog : LogParts) : Type 0 where
+  pub start : slice_get p.threads c.thread ≡ Some c.before
+  pub threads : q.threads ≡ set p.threads c.thread c.after ++ c.spawned
+  pub commits : c.after.commits ≡ c.before.commits + 1
+  pub new : AreNew c.spawned
   pub position_ : position q.progress ≡ suc (position p.progress)
-  pub actor : c.actor ≡ Actor.Thread k
-  pub log_ : qlog ≡ input_noted o (noted c t.commits short log)
+  pub actor : c.commit.actor ≡ Actor.Thread c.thread
+  pub log_ : qlog ≡ input_noted c.input (noted c.commit c.before.commits c.short log)
 
 record SameButInputs (a b : LogParts) : Type 0 where
   mode : a.mode ≡ b.mode
@@ -134,15 +150,15 @@ pub record Parts' (k : ℕ) (short : Bool) (log qlog : LogParts) (i n : ℕ) (o 
   pub dmas : qlog.dmas ≡ log.dmas
 
 -- what a commit of a thread adds to each part of the log
-pub has_committed-parts : (k : ℕ) (short : Bool) (p q : Sphere) (log qlog : LogParts) (t u : Parts) (made : List Parts) (c : Commit) (o : Option Input) → HasCommitted k short p q log qlog t u made c o → Parts' k short log qlog t.commits c.size o
-has_committed-parts k short p q log qlog t u made c o d =
-    let a = inputs_apart o (noted c t.commits short log) in
+pub has_committed-parts : (c : ThreadCommit) (p q : Sphere) (log qlog : LogParts) → HasCommitted c p q log qlog → Parts' c.thread c.short log qlog c.before.commits c.commit.size c.input
+has_committed-parts c p q log qlog d =
+    let a = inputs_apart c.input (noted c.commit c.before.commits c.short log) in
     record {
       mode = ap (λ (l : LogParts). l.mode) d.log_ ∙ a.mode;
       s = ap (λ (l : LogParts). l.s) d.log_ ∙ a.s;
       count = ap (λ (l : LogParts). l.count) d.log_ ∙ a.count;
       order = ap (λ (l : LogParts). l.order) d.log_ ∙ a.order ∙ ap (λ (x : Actor). order_with log.mode log.order x) d.actor;
-      sizes = ap (λ (l : LogParts). l.sizes) d.log_ ∙ a.sizes ∙ ap (λ (x : Actor). with_size log.sizes x t.commits c.size short) d.actor;
+      sizes = ap (λ (l : LogParts). l.sizes) d.log_ ∙ a.sizes ∙ ap (λ (x : Actor). with_size log.sizes x c.before.commits c.commit.size c.short) d.actor;
       interrupts = ap (λ (l : LogParts). l.interrupts) d.log_ ∙ a.interrupts;
       dmas = ap (λ (l : LogParts). l.dmas) d.log_ ∙ a.dmas;
     }
@@ -154,12 +170,12 @@ pub record Grows (k : ℕ) (ts us : List Parts) (t : Parts) : Type 0 where
   pub other : (j : ℕ) → j ≢ k → commits_in us j ≡ commits_in ts j
 
 -- a commit of thread k makes its number of commits one more, and no other thread's
-pub grows_of : (k : ℕ) (short : Bool) (p q : Sphere) (log qlog : LogParts) (t u : Parts) (made : List Parts) (c : Commit) (o : Option Input) → HasCommitted k short p q log qlog t u made c o → Grows k p.threads q.threads t
-grows_of k short p q log qlog t u made c o d =
+pub grows_of : (c : ThreadCommit) (p q : Sphere) (log qlog : LogParts) → HasCommitted c p q log qlog → Grows c.thread p.threads q.threads c.before
+grows_of c p q log qlog d =
     record {
-      same = ap (λ (ts : List Parts). commits_in ts k) d.threads ∙ commits-same p.threads made k t u d.start ∙ d.commits ∙ omega arith;
+      same = ap (λ (ts : List Parts). commits_in ts c.thread) d.threads ∙ commits-same p.threads c.spawned c.thread c.before c.after d.start ∙ d.commits ∙ omega arith;
       was = ap commits_if d.start;
-      other = λ j ne. ap (λ (ts : List Parts). commits_in ts j) d.threads ∙ commits-other p.threads made k j u d.new ne;
+      other = λ j ne. ap (λ (ts : List Parts). commits_in ts j) d.threads ∙ commits-other p.threads c.spawned c.thread j c.after d.new ne;
     }
 
 -- no thread has fewer commits after a commit of thread k
@@ -240,32 +256,32 @@ append_none (t ∷ ts) made zero e = e
 append_none (t ∷ ts) made (suc j) e = append_none ts made j e
 
 -- the log stands by its sphere after a commit of a thread, if it did before
-pub has_committed-stands : (k : ℕ) (short : Bool) (p q : Sphere) (log qlog : LogParts) (t u : Parts) (made : List Parts) (c : Commit) (o : Option Input) → HasCommitted k short p q log qlog t u made c o → Stands p log → Stands q qlog
-has_committed-stands k short p q log qlog t u made c o d s =
-    let n = has_committed-parts k short p q log qlog t u made c o d in
-    let g = grows_of k short p q log qlog t u made c o d in
+pub has_committed-stands : (c : ThreadCommit) (p q : Sphere) (log qlog : LogParts) → HasCommitted c p q log qlog → Stands p log → Stands q qlog
+has_committed-stands c p q log qlog d s =
+    let n = has_committed-parts c p q log qlog d in
+    let g = grows_of c p q log qlog d in
     let ints : (j i : ℕ) → interrupt_at qlog.interrupts j i ≡ interrupt_at log.interrupts j i = (λ j i. ap (λ (is : _). interrupt_at is j i) n.interrupts) in
     record {
       count = n.count ∙ (let a = s.count in let b = d.position_ in omega arith);
       order = subst (λ (m : ModeName). OrderStands m qlog.order (position q.progress) q.threads) (sym n.mode)
           (subst (λ (as_ : List Actor). OrderStands log.mode as_ (position q.progress) q.threads) (sym n.order)
-          (subst (λ (x : ℕ). OrderStands log.mode (order_with log.mode log.order (Actor.Thread k)) x q.threads) (sym d.position_)
-          (order_stands log.mode k log.order (position p.progress) p.threads q.threads t g s.order)));
+          (subst (λ (x : ℕ). OrderStands log.mode (order_with log.mode log.order (Actor.Thread c.thread)) x q.threads) (sym d.position_)
+          (order_stands log.mode c.thread log.order (position p.progress) p.threads q.threads c.before g s.order)));
       sizes = subst (λ (m : ModeName). SizesStand m qlog.sizes (position q.progress) q.threads) (sym n.mode)
           (subst (λ (z : Sizes). SizesStand log.mode z (position q.progress) q.threads) (sym n.sizes)
-          (subst (λ (x : ℕ). SizesStand log.mode (with_size log.sizes (Actor.Thread k) t.commits c.size short) x q.threads) (sym d.position_)
-          (sizes_stand log.mode log.sizes k short c.size (position p.progress) p.threads q.threads t g s.sizes)));
-      past = λ j i l. ints j i ∙ s.past j i (let h = grown_least k p.threads q.threads t j g in omega arith);
-      absent = λ j i e. ints j i ∙ s.absent j i (set_none p.threads k j u (append_none (set p.threads k u) made j (ap (λ (ts : List Parts). slice_get ts j) (sym d.threads) ∙ e)));
-      unmasked = λ j x e open_. ints j x.commits ∙ elim (get_cases (set p.threads k u) made j x (ap (λ (ts : List Parts). slice_get ts j) (sym d.threads) ∙ e)) [
-        | inl there ↦ elim (cases_eq j k) [
+          (subst (λ (x : ℕ). SizesStand log.mode (with_size log.sizes (Actor.Thread c.thread) c.before.commits c.commit.size c.short) x q.threads) (sym d.position_)
+          (sizes_stand log.mode log.sizes c.thread c.short c.commit.size (position p.progress) p.threads q.threads c.before g s.sizes)));
+      past = λ j i l. ints j i ∙ s.past j i (let h = grown_least c.thread p.threads q.threads c.before j g in omega arith);
+      absent = λ j i e. ints j i ∙ s.absent j i (set_none p.threads c.thread j c.after (append_none (set p.threads c.thread c.after) c.spawned j (ap (λ (ts : List Parts). slice_get ts j) (sym d.threads) ∙ e)));
+      unmasked = λ j x e open_. ints j x.commits ∙ elim (get_cases (set p.threads c.thread c.after) c.spawned j x (ap (λ (ts : List Parts). slice_get ts j) (sym d.threads) ∙ e)) [
+        | inl there ↦ elim (cases_eq j c.thread) [
           | inl jk ↦ (
-              let ux : u ≡ x = (let h : Some u ≡ Some x = sym (get-set_same p.threads k u t d.start) ∙ ap (slice_get (set p.threads k u)) (sym jk) ∙ there in cc) in
+              let ux : c.after ≡ x = (let h : Some c.after ≡ Some x = sym (get-set_same p.threads c.thread c.after c.before d.start) ∙ ap (slice_get (set p.threads c.thread c.after)) (sym jk) ∙ there in cc) in
               s.past j x.commits (let a = ap commits_if (ap (slice_get p.threads) jk ∙ d.start) in let b = ap (λ (y : Parts). y.commits) ux in let h = d.commits in omega arith)
               )
-          | inr ne ↦ s.unmasked j x (sym (get-set_other p.threads k j u ne) ∙ there) open_
+          | inr ne ↦ s.unmasked j x (sym (get-set_other p.threads c.thread j c.after ne) ∙ there) open_
         ]
-        | inr born ↦ s.absent j x.commits (set_none p.threads k j u born.0)
+        | inr born ↦ s.absent j x.commits (set_none p.threads c.thread j c.after born.0)
       ];
       dmas = subst (λ (ds : List DmaRecord). SlotsBelow (position q.progress) ds) (sym n.dmas) (SlotsBelow_more (position p.progress) (position q.progress) log.dmas (let h = d.position_ in omega arith) s.dmas);
     }

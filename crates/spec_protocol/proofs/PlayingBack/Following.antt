@@ -25,7 +25,7 @@ use Rattle.spec_play.specs.Plays.{Played, thread_verdict}
 use Rattle.spec_protocol.specs.Spheres.{Sphere}
 use Rattle.spec_protocol.proofs.Moves.Threads.{IsNew, LookAlike}
 use Rattle.spec_protocol.proofs.Logs.Lookups.{get-behind}
-use Rattle.spec_protocol.proofs.Logs.Growing.{OrderStands, Behind}
+use Rattle.spec_protocol.proofs.Logs.Growing.{OrderStands, Behind, ThreadCommit}
 
 -- ---- an interrupt that comes with its commit
 
@@ -182,14 +182,14 @@ named ModeName.Picolog L n last flags k order ts s b slot turns =
 -- ---- a commit of a thread
 
 -- what its effect is, and that the play's verdict is that it goes
-pub record Effects (L : LogParts) (k : ℕ) (p q : Sphere) (qlog : LogParts) (t u : Parts) (made : List Parts) (y : Played) (e : Effect) : Type 0 where
-  pub thread : e.thread ≡ u
-  pub spawned : e.made ≡ made
+pub record Effects (L : LogParts) (c : ThreadCommit) (p q : Sphere) (qlog : LogParts) (y : Played) (e : Effect) : Type 0 where
+  pub thread : e.thread ≡ c.after
+  pub spawned : e.made ≡ c.spawned
   pub memory : q.memory ≡ lays p.memory e.words
-  pub progress : q.progress ≡ with_effect k e p.progress
-  pub live : is_live t ≡ true
-  pub turn_ : L.mode ≡ ModeName.Picolog → turn p.progress.last (map is_live p.threads) ≡ Some k
-  pub verdict : thread_verdict L y k t (next_kind t y.memory) ≡ ended L k e (record y.used { inputs = length qlog.inputs })
+  pub progress : q.progress ≡ with_effect c.thread e p.progress
+  pub live : is_live c.before ≡ true
+  pub turn_ : L.mode ≡ ModeName.Picolog → turn p.progress.last (map is_live p.threads) ≡ Some c.thread
+  pub verdict : thread_verdict L y c.thread c.before (next_kind c.before y.memory) ≡ ended L c.thread e (record y.used { inputs = length qlog.inputs })
 
 -- a spawned thread has the same number behind as many others
 pub get_past : (ts us made : List Parts) (j : ℕ) (x : Parts) → length us ≡ length ts → slice_get ts j ≡ None → slice_get (ts ++ made) j ≡ Some x → slice_get (us ++ made) j ≡ Some x

@@ -32,7 +32,7 @@ use Rattle.spec_protocol.specs.Serial.{laid}
 use Rattle.spec_protocol.specs.Moves.{ChunkFits, SerialFits}
 use Rattle.spec_protocol.proofs.Moves.Threads.{run-keeps, serve-keeps}
 use Rattle.spec_protocol.proofs.Moves.Answering.{dma-most}
-use Rattle.spec_protocol.proofs.Logs.Growing.{Stands, Ahead, HasCommitted, has_committed-parts, grows_of, has_committed-stands, SizesAhead}
+use Rattle.spec_protocol.proofs.Logs.Growing.{Stands, Ahead, ThreadCommit, commit_of, HasCommitted, has_committed-parts, grows_of, has_committed-stands, SizesAhead}
 use Rattle.spec_protocol.proofs.Logs.Coming.{has_committed-ahead, Transferred, transferred-stands, transferred-ahead, WasRaised, raised-stands, raised-ahead}
 use Rattle.spec_protocol.proofs.PlayingBack.Following.{Follows, Effects, look-alike}
 use Rattle.spec_protocol.proofs.PlayingBack.Commits.{commit-follows}
@@ -69,19 +69,18 @@ grown_trans p q r plog qlog rlog a b =
 
 -- ---- a commit of a thread
 
-commit_grown : (k : ℕ) (short : Bool) (p q : Sphere) (log qlog : LogParts) (t : Parts) (e : Effect) (o : Option Input) → HasCommitted k short p q log qlog t e.thread e.made e.commit o
-    → ((L : LogParts) (y : Played) → Stands p log → Ahead L p log → Ahead L q qlog → Follows L p log y → Effects L k p q qlog t e.thread e.made y e) → Grown p q log qlog
-commit_grown k short p q log qlog t e o d effects =
+commit_grown : (c : ThreadCommit) (p q : Sphere) (log qlog : LogParts) (e : Effect) → HasCommitted c p q log qlog
+    → ((L : LogParts) (y : Played) → Stands p log → Ahead L p log → Ahead L q qlog → Follows L p log y → Effects L c p q qlog y e) → Grown p q log qlog
+commit_grown c p q log qlog e d effects =
     record {
-      stands = has_committed-stands k short p q log qlog t e.thread e.made e.commit o d;
-      s = (has_committed-parts k short p q log qlog t e.thread e.made e.commit o d).s;
-      ahead = λ L a. has_committed-ahead L k short p q log qlog t e.thread e.made e.commit o d a;
+      stands = has_committed-stands c p q log qlog d;
+      s = (has_committed-parts c p q log qlog d).s;
+      ahead = λ L a. has_committed-ahead L c p q log qlog d a;
       reaches = λ L y s a f.
-          let ap_ : Ahead L p log = has_committed-ahead L k short p q log qlog t e.thread e.made e.commit o d a in
+          let ap_ : Ahead L p log = has_committed-ahead L c p q log qlog d a in
           let y2 : Played = plays L y (position p.progress) in
           subst (λ (n : ℕ). Follows L q qlog (plays L y n)) (sym d.position_)
-          (commit-follows L k short p q log qlog t e.thread e.made e.commit o y2 e d s
-          (has_committed-stands k short p q log qlog t e.thread e.made e.commit o d s) ap_ a f (effects L y2 s ap_ a f));
+          (commit-follows L c p q log qlog d s a y2 e ap_ f (effects L y2 s ap_ a f));
     }
 
 -- ---- turns
@@ -173,7 +172,7 @@ chunk_log z log p k t how n limit =
 
 chunk_committed : (z : Numbers) (log : LogParts) (p : Sphere) (k : ℕ) (t : Parts) (how : How) (n limit : ℕ) (devices : Devices) → slice_get p.threads k ≡ Some t
     → let e = chunk_effect k p.progress.request (run p.memory t n) in
-    HasCommitted k (is_short z.chunk how limit) p (laid (recorded_chunk z log p k t how n limit devices)) log (chunk_log z log p k t how n limit) t e.thread e.made e.commit None
+    HasCommitted (commit_of k (is_short z.chunk how limit) t e None) p (laid (recorded_chunk z log p k t how n limit devices)) log (chunk_log z log p k t how n limit)
 chunk_committed z log p k t how n limit devices is =
     let r = run p.memory t n in
     let e = chunk_effect k p.progress.request r in
@@ -196,13 +195,14 @@ chunk-grown z log p k t how n limit devices role s buffer is fits =
     let short = is_short z.chunk how limit in
     let q = laid (recorded_chunk z log p k t how n limit devices) in
     let qlog = chunk_log z log p k t how n limit in
+    let c = commit_of k short t e None in
     let d = chunk_committed z log p k t how n limit devices is in
     let some = some_ran z log p k t how n limit role buffer fits in
-    commit_grown k short p q log qlog t e None d
+    commit_grown c p q log qlog e d
     (λ L y sp ap_ aq f.
-    let parts = has_committed-parts k short p q log qlog t e.thread e.made e.commit None d in
-    let g = grows_of k short p q log qlog t e.thread e.made e.commit None d in
-    let size = size-says log.mode L.order log.order L.sizes log.sizes k r.n (position p.progress) short p.threads q.threads t g sp.order sp.sizes
+    let parts = has_committed-parts c p q log qlog d in
+    let g = grows_of c p q log qlog d in
+    let size = size-says L.order log.order k r.n (position p.progress) p.threads q.threads t g log.mode L.sizes log.sizes short sp.order sp.sizes
     (subst (λ (os : List Actor). (rest : List Actor) × (L.order ≡ os ++ rest)) parts.order aq.order)
     (subst (λ (x : _). SizesAhead L.sizes x q.threads) parts.sizes aq.sizes) in
     record {
@@ -233,7 +233,7 @@ effect_of p k moment t devices = serial_effect k (serve k p.threads p.progress.r
 
 serial_committed : (log : LogParts) (p : Sphere) (k moment : ℕ) (t : Parts) (devices : Devices) → slice_get p.threads k ≡ Some t
     → let e = effect_of p k moment t devices in
-    HasCommitted k false p (laid (recorded_serial log p k moment t devices)) log (serial_log log p k moment t devices) t e.thread e.made e.commit (taken (need t p.memory) devices moment).input
+    HasCommitted (commit_of k false t e (taken (need t p.memory) devices moment).input) p (laid (recorded_serial log p k moment t devices)) log (serial_log log p k moment t devices)
 serial_committed log p k moment t devices is =
     let e = effect_of p k moment t devices in
     let h = serve-keeps k p.threads p.progress.request t p.memory (taken (need t p.memory) devices moment).input in
@@ -255,12 +255,13 @@ serial-grown log p k moment t devices role is fits =
     let o : Option Input = (taken (need t p.memory) devices moment).input in
     let q = laid (recorded_serial log p k moment t devices) in
     let qlog = serial_log log p k moment t devices in
+    let c = commit_of k false t e o in
     let d = serial_committed log p k moment t devices is in
-    commit_grown k false p q log qlog t e o d
+    commit_grown c p q log qlog e d
     (λ L y sp ap_ aq f.
-    let parts = has_committed-parts k false p q log qlog t e.thread e.made e.commit o d in
-    let g = grows_of k false p q log qlog t e.thread e.made e.commit o d in
-    let size = size-says log.mode L.order log.order L.sizes log.sizes k 0 (position p.progress) false p.threads q.threads t g sp.order sp.sizes
+    let parts = has_committed-parts c p q log qlog d in
+    let g = grows_of c p q log qlog d in
+    let size = size-says L.order log.order k 0 (position p.progress) p.threads q.threads t g log.mode L.sizes log.sizes false sp.order sp.sizes
     (subst (λ (os : List Actor). (rest : List Actor) × (L.order ≡ os ++ rest)) parts.order aq.order)
     (subst (λ (x : _). SizesAhead L.sizes x q.threads) parts.sizes aq.sizes) in
     record {
@@ -312,5 +313,5 @@ raise-grown log p k value t role is takes =
       stands = raised-stands k value p q log qlog t d;
       s = refl;
       ahead = λ L a. raised-ahead L k value p q log qlog t d a;
-      reaches = λ L y s a f. raised-follows L k value p q log qlog t (plays L y (position p.progress)) d refl s a f;
+      reaches = λ L y s a f. raised-follows L p q log qlog k value t d s a (plays L y (position p.progress)) refl f;
     }

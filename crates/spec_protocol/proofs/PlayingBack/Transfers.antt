@@ -138,69 +138,70 @@ open-takes t e = not-true t.mask ((and_parts (is_live t && has_handler t) (not t
 masked_takes : (t : Parts) (value : ℕ) → takes_interrupt (interrupted value t) ≡ true → ⊥
 masked_takes t value e = true≢false (open-takes (interrupted value t) e)
 
-raised_to_come : (L : LogParts) (k value : ℕ) (p q : Sphere) (log qlog : LogParts) (t : Parts) → WasRaised k value p q log qlog t → Stands p log → Ahead L q qlog
-    → (interrupt_at log.interrupts k t.commits ≡ None) × (interrupt_at L.interrupts k t.commits ≡ Some value) × (interrupt_at qlog.interrupts k t.commits ≡ Some value)
-raised_to_come L k value p q log qlog t d sp aq =
-    let none : interrupt_at log.interrupts k t.commits ≡ None = sp.unmasked k t d.start (open-takes t d.takes) in
-    let some : interrupt_at qlog.interrupts k t.commits ≡ Some value = ap (λ (l : LogParts). interrupt_at l.interrupts k t.commits) d.log_ ∙ interrupt-same log.interrupts k t.commits value none in
-    let there : slice_get q.threads k ≡ Some (interrupted value t) = ap (λ (ts : List Parts). slice_get ts k) d.threads ∙ get-set_same p.threads k (interrupted value t) t d.start in (
-      none,
-      elim (aq.next k (interrupted value t) there) [
-        | inl h ↦ h ∙ some
-        | inr takes ↦ absurd (masked_takes t value takes)
-      ],
-      some,
-    )
+-- sphere p and its log, before, and q and its, after; L is what the log has become in the end
+module _ (L : LogParts) (p q : Sphere) (log qlog : LogParts) where
+  -- thread k, which was t, was interrupted with the value
+  module _ (k value : ℕ) (t : Parts) (d : WasRaised k value p q log qlog t) (sp : Stands p log) (aq : Ahead L q qlog) where
+    raised_to_come : (interrupt_at log.interrupts k t.commits ≡ None) × (interrupt_at L.interrupts k t.commits ≡ Some value) × (interrupt_at qlog.interrupts k t.commits ≡ Some value)
+    raised_to_come =
+        let none : interrupt_at log.interrupts k t.commits ≡ None = sp.unmasked k t d.start (open-takes t d.takes) in
+        let some : interrupt_at qlog.interrupts k t.commits ≡ Some value = ap (λ (l : LogParts). interrupt_at l.interrupts k t.commits) d.log_ ∙ interrupt-same log.interrupts k t.commits value none in
+        let there : slice_get q.threads k ≡ Some (interrupted value t) = ap (λ (ts : List Parts). slice_get ts k) d.threads ∙ get-set_same p.threads k (interrupted value t) t d.start in (
+          none,
+          elim (aq.next k (interrupted value t) there) [
+            | inl h ↦ h ∙ some
+            | inr takes ↦ absurd (masked_takes t value takes)
+          ],
+          some,
+        )
 
-raised_threads : (L : LogParts) (k value : ℕ) (p q : Sphere) (log qlog : LogParts) (t : Parts) (y : Played) → WasRaised k value p q log qlog t → Stands p log → Ahead L q qlog → Follows L p log y
-    → (j : ℕ) (x : Parts) → slice_get q.threads j ≡ Some x → slice_get y.threads j ≡ Some (early L.interrupts qlog.interrupts j x)
-raised_threads L k value p q log qlog t y d sp aq f j x e =
-    let u : Parts = interrupted value t in
-    let h = raised_to_come L k value p q log qlog t d sp aq in
-    let is : slice_get (set p.threads k u) j ≡ Some x = ap (λ (ts : List Parts). slice_get ts j) (sym d.threads) ∙ e in
-    elim (cases_eq j k) [
-      | inl jk ↦ (
-          let ux : u ≡ x = (let o : Some u ≡ Some x = sym (get-set_same p.threads k u t d.start) ∙ ap (slice_get (set p.threads k u)) (sym jk) ∙ is in cc) in
-          let kj : k ≡ j = sym jk in
-          ap (slice_get y.threads) jk ∙ f.threads k t d.start
-          ∙ (λ i. Some (early_by (h.0 i) (h.1 i) t))
-          ∙ sym (ap (λ (o : Option ℕ). Some (early_by o (interrupt_at L.interrupts k t.commits) u)) h.2)
-          ∙ (λ i. Some (early L.interrupts qlog.interrupts (kj i) (ux i)))
-          )
-      | inr ne ↦ f.threads j x (sym (get-set_other p.threads k j u ne) ∙ is)
-          ∙ ap (λ (o : Option ℕ). Some (early_by o (interrupt_at L.interrupts j x.commits) x))
-          (sym (ap (λ (l : LogParts). interrupt_at l.interrupts j x.commits) d.log_ ∙ interrupt-other log.interrupts k t.commits value j x.commits (λ kj c. ne (sym kj))))
-    ]
+    raised_threads : (y : Played) → Follows L p log y → (j : ℕ) (x : Parts) → slice_get q.threads j ≡ Some x → slice_get y.threads j ≡ Some (early L.interrupts qlog.interrupts j x)
+    raised_threads y f j x e =
+        let u : Parts = interrupted value t in
+        let h = raised_to_come in
+        let is : slice_get (set p.threads k u) j ≡ Some x = ap (λ (ts : List Parts). slice_get ts j) (sym d.threads) ∙ e in
+        elim (cases_eq j k) [
+          | inl jk ↦ (
+              let ux : u ≡ x = (let o : Some u ≡ Some x = sym (get-set_same p.threads k u t d.start) ∙ ap (slice_get (set p.threads k u)) (sym jk) ∙ is in cc) in
+              let kj : k ≡ j = sym jk in
+              ap (slice_get y.threads) jk ∙ f.threads k t d.start
+              ∙ (λ i. Some (early_by (h.0 i) (h.1 i) t))
+              ∙ sym (ap (λ (o : Option ℕ). Some (early_by o (interrupt_at L.interrupts k t.commits) u)) h.2)
+              ∙ (λ i. Some (early L.interrupts qlog.interrupts (kj i) (ux i)))
+              )
+          | inr ne ↦ f.threads j x (sym (get-set_other p.threads k j u ne) ∙ is)
+              ∙ ap (λ (o : Option ℕ). Some (early_by o (interrupt_at L.interrupts j x.commits) x))
+              (sym (ap (λ (l : LogParts). interrupt_at l.interrupts j x.commits) d.log_ ∙ interrupt-other log.interrupts k t.commits value j x.commits (λ kj c. ne (sym kj))))
+        ]
 
-raised_sums : (L : LogParts) (k value : ℕ) (p q : Sphere) (log qlog : LogParts) (t : Parts) → WasRaised k value p q log qlog t → Stands p log → Ahead L q qlog
-    → length qlog.interrupts + sum_from (pending L.interrupts qlog.interrupts) 0 q.threads ≡ length log.interrupts + sum_from (pending L.interrupts log.interrupts) 0 p.threads
-raised_sums L k value p q log qlog t d sp aq =
-    let u : Parts = interrupted value t in
-    let h = raised_to_come L k value p q log qlog t d sp aq in
-    let f = pending L.interrupts log.interrupts in
-    let g = pending L.interrupts qlog.interrupts in
-    let kz : 0 + k ≡ k = omega arith in
-    let other : (j : ℕ) (x : Parts) → 0 ≤ j → j ≢ 0 + k → f j x ≡ g j x =
-    (λ j x l ne.
-    ap (λ (o : Option ℕ). pending_by o (interrupt_at L.interrupts j x.commits))
-    (sym (ap (λ (m : LogParts). interrupt_at m.interrupts j x.commits) d.log_ ∙ interrupt-other log.interrupts k t.commits value j x.commits (λ kj c. ne (sym kj ∙ sym kz))))) in
-    let a = sum-set f g 0 k p.threads t u d.start other in
-    let ft : f (0 + k) t ≡ 1 = ap (λ (n : ℕ). f n t) kz ∙ (λ i. pending_by (h.0 i) (h.1 i)) in
-    let gu : g (0 + k) u ≡ 0 = ap (λ (n : ℕ). g n u) kz ∙ ap (λ (o : Option ℕ). pending_by o (interrupt_at L.interrupts k t.commits)) h.2 in
-    let b : sum_from g 0 q.threads ≡ sum_from g 0 (set p.threads k u) = ap (sum_from g 0) d.threads in
-    let c : length qlog.interrupts ≡ suc (length log.interrupts) = ap (λ (m : LogParts). length m.interrupts) d.log_ ∙ length-raised log.interrupts k t.commits value h.0 in
-    omega arith
+    raised_sums : length qlog.interrupts + sum_from (pending L.interrupts qlog.interrupts) 0 q.threads ≡ length log.interrupts + sum_from (pending L.interrupts log.interrupts) 0 p.threads
+    raised_sums =
+        let u : Parts = interrupted value t in
+        let h = raised_to_come in
+        let f = pending L.interrupts log.interrupts in
+        let g = pending L.interrupts qlog.interrupts in
+        let kz : 0 + k ≡ k = omega arith in
+        let other : (j : ℕ) (x : Parts) → 0 ≤ j → j ≢ 0 + k → f j x ≡ g j x =
+        (λ j x l ne.
+        ap (λ (o : Option ℕ). pending_by o (interrupt_at L.interrupts j x.commits))
+        (sym (ap (λ (m : LogParts). interrupt_at m.interrupts j x.commits) d.log_ ∙ interrupt-other log.interrupts k t.commits value j x.commits (λ kj c. ne (sym kj ∙ sym kz))))) in
+        let a = sum-set f g 0 k p.threads t u d.start other in
+        let ft : f (0 + k) t ≡ 1 = ap (λ (n : ℕ). f n t) kz ∙ (λ i. pending_by (h.0 i) (h.1 i)) in
+        let gu : g (0 + k) u ≡ 0 = ap (λ (n : ℕ). g n u) kz ∙ ap (λ (o : Option ℕ). pending_by o (interrupt_at L.interrupts k t.commits)) h.2 in
+        let b : sum_from g 0 q.threads ≡ sum_from g 0 (set p.threads k u) = ap (sum_from g 0) d.threads in
+        let c : length qlog.interrupts ≡ suc (length log.interrupts) = ap (λ (m : LogParts). length m.interrupts) d.log_ ∙ length-raised log.interrupts k t.commits value h.0 in
+        omega arith
 
--- the play that follows up to an interrupt follows behind it, and does nothing
-pub raised-follows : (L : LogParts) (k value : ℕ) (p q : Sphere) (log qlog : LogParts) (t : Parts) (y : Played) → WasRaised k value p q log qlog t → q.memory ≡ p.memory → Stands p log → Ahead L q qlog → Follows L p log y → Follows L q qlog y
-raised-follows L k value p q log qlog t y d mem sp aq f =
-    record {
-      memory = f.memory ∙ sym mem;
-      size = f.size ∙ sym (ap (λ (ts : List Parts). length ts) d.threads ∙ length-set p.threads k (interrupted value t));
-      threads = raised_threads L k value p q log qlog t y d sp aq f;
-      progress = f.progress ∙ sym d.progress;
-      inputs = f.inputs ∙ sym (ap (λ (m : LogParts). length m.inputs) d.log_);
-      dmas = f.dmas ∙ sym (ap (λ (m : LogParts). length m.dmas) d.log_);
-      interrupts = f.interrupts ∙ sym (raised_sums L k value p q log qlog t d sp aq);
-      now = f.now;
-    }
+    -- the play that follows up to an interrupt follows behind it, and does nothing
+    pub raised-follows : (y : Played) → q.memory ≡ p.memory → Follows L p log y → Follows L q qlog y
+    raised-follows y mem f =
+        record {
+          memory = f.memory ∙ sym mem;
+          size = f.size ∙ sym (ap (λ (ts : List Parts). length ts) d.threads ∙ length-set p.threads k (interrupted value t));
+          threads = raised_threads y f;
+          progress = f.progress ∙ sym d.progress;
+          inputs = f.inputs ∙ sym (ap (λ (m : LogParts). length m.inputs) d.log_);
+          dmas = f.dmas ∙ sym (ap (λ (m : LogParts). length m.dmas) d.log_);
+          interrupts = f.interrupts ∙ sym (raised_sums);
+          now = f.now;
+        }

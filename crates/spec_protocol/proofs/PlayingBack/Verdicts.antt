@@ -83,32 +83,34 @@ run-stops m t n s l some =
 
 -- ---- what the log says of the size
 
--- the size that the log has of a commit is the recorded one, or it has none and the commit wasn't short
-pub size-says : (mode : ModeName) (named order : List Actor) (y x : Sizes) (k n pos : ℕ) (short : Bool) (ts us : List Parts) (t : Parts) → Grows k ts us t → OrderStands mode order pos ts → SizesStand mode x pos ts
-    → Behind named (order_with mode order (Actor.Thread k)) → SizesAhead y (with_size x (Actor.Thread k) t.commits n short) us
-    → (thread_size named y k t.commits ≡ Some n) ⊎ ((thread_size named y k t.commits ≡ None) × (short ≡ false))
-size-says ModeName.OrderSize named order (Sizes.Each ys) (Sizes.Each xs) k n pos short ts us t g o s b a =
-    inl (
-    ap (λ (c : ℕ). slice_get (sizes_of_thread k named ys) c) (sym (o.1 k ∙ g.was))
-    ∙ (λ i. slice_get (sizes_of_thread k ((b.1 ∙ append_assoc order (Actor.Thread k ∷ []) b.0) i) ((a.1 ∙ append_assoc xs (n ∷ []) a.0) i)) (count_of k order))
-    ∙ size-there k order xs n b.0 a.0 (s ∙ sym o.0)
-    )
-size-says ModeName.OrderSize named order (Sizes.Short ys) (Sizes.Each xs) k n pos short ts us t g o s b a = absurd a
-size-says ModeName.OrderSize named order y (Sizes.Short xs) k n pos short ts us t g o s b a = absurd s
-size-says ModeName.OrderOnly named order y (Sizes.Each xs) k n pos short ts us t g o s b a = absurd s
-size-says ModeName.Picolog named order y (Sizes.Each xs) k n pos short ts us t g o s b a = absurd s
-size-says ModeName.OrderOnly named order (Sizes.Each ys) (Sizes.Short xs) k n pos true ts us t g o s b a = absurd a
-size-says ModeName.OrderOnly named order (Sizes.Each ys) (Sizes.Short xs) k n pos false ts us t g o s b a = absurd a
-size-says ModeName.Picolog named order (Sizes.Each ys) (Sizes.Short xs) k n pos true ts us t g o s b a = absurd a
-size-says ModeName.Picolog named order (Sizes.Each ys) (Sizes.Short xs) k n pos false ts us t g o s b a = absurd a
-size-says ModeName.OrderOnly named order (Sizes.Short ys) (Sizes.Short xs) k n pos true ts us t g o s b a =
-    inl (a k t.commits (let h = g.same in omega arith) ∙ short-same xs k t.commits n (s k t.commits (let h = g.was in omega arith)))
-size-says ModeName.Picolog named order (Sizes.Short ys) (Sizes.Short xs) k n pos true ts us t g o s b a =
-    inl (a k t.commits (let h = g.same in omega arith) ∙ short-same xs k t.commits n (s k t.commits (let h = g.was in omega arith)))
-size-says ModeName.OrderOnly named order (Sizes.Short ys) (Sizes.Short xs) k n pos false ts us t g o s b a =
-    inr (a k t.commits (let h = g.same in omega arith) ∙ s k t.commits (let h = g.was in omega arith), refl)
-size-says ModeName.Picolog named order (Sizes.Short ys) (Sizes.Short xs) k n pos false ts us t g o s b a =
-    inr (a k t.commits (let h = g.same in omega arith) ∙ s k t.commits (let h = g.was in omega arith), refl)
+-- a commit of thread k, which was t, ran n instructions; before it there were so many commits in that order, and the log
+-- names these in the end
+module _ (named order : List Actor) (k n pos : ℕ) (ts us : List Parts) (t : Parts) (g : Grows k ts us t) where
+  -- the size that the log has of the commit is the recorded one, or it has none and the commit wasn't short
+  pub size-says : (mode : ModeName) (y x : Sizes) (short : Bool) → OrderStands mode order pos ts → SizesStand mode x pos ts → Behind named (order_with mode order (Actor.Thread k)) → SizesAhead y (with_size x (Actor.Thread k) t.commits n short) us
+      → (thread_size named y k t.commits ≡ Some n) ⊎ ((thread_size named y k t.commits ≡ None) × (short ≡ false))
+  size-says ModeName.OrderSize (Sizes.Each ys) (Sizes.Each xs) short o s b a =
+      inl (
+      ap (λ (c : ℕ). slice_get (sizes_of_thread k named ys) c) (sym (o.1 k ∙ g.was))
+      ∙ (λ i. slice_get (sizes_of_thread k ((b.1 ∙ append_assoc order (Actor.Thread k ∷ []) b.0) i) ((a.1 ∙ append_assoc xs (n ∷ []) a.0) i)) (count_of k order))
+      ∙ size-there k order xs n b.0 a.0 (s ∙ sym o.0)
+      )
+  size-says ModeName.OrderSize (Sizes.Short ys) (Sizes.Each xs) short o s b a = absurd a
+  size-says ModeName.OrderSize y (Sizes.Short xs) short o s b a = absurd s
+  size-says ModeName.OrderOnly y (Sizes.Each xs) short o s b a = absurd s
+  size-says ModeName.Picolog y (Sizes.Each xs) short o s b a = absurd s
+  size-says ModeName.OrderOnly (Sizes.Each ys) (Sizes.Short xs) true o s b a = absurd a
+  size-says ModeName.OrderOnly (Sizes.Each ys) (Sizes.Short xs) false o s b a = absurd a
+  size-says ModeName.Picolog (Sizes.Each ys) (Sizes.Short xs) true o s b a = absurd a
+  size-says ModeName.Picolog (Sizes.Each ys) (Sizes.Short xs) false o s b a = absurd a
+  size-says ModeName.OrderOnly (Sizes.Short ys) (Sizes.Short xs) true o s b a =
+      inl (a k t.commits (let h = g.same in omega arith) ∙ short-same xs k t.commits n (s k t.commits (let h = g.was in omega arith)))
+  size-says ModeName.Picolog (Sizes.Short ys) (Sizes.Short xs) true o s b a =
+      inl (a k t.commits (let h = g.same in omega arith) ∙ short-same xs k t.commits n (s k t.commits (let h = g.was in omega arith)))
+  size-says ModeName.OrderOnly (Sizes.Short ys) (Sizes.Short xs) false o s b a =
+      inr (a k t.commits (let h = g.same in omega arith) ∙ s k t.commits (let h = g.was in omega arith), refl)
+  size-says ModeName.Picolog (Sizes.Short ys) (Sizes.Short xs) false o s b a =
+      inr (a k t.commits (let h = g.same in omega arith) ∙ s k t.commits (let h = g.was in omega arith), refl)
 
 -- ---- a chunk
 

@@ -1,5 +1,5 @@
 -- Points done one at a time: the log that a recorded sphere keeps is that of its points.
-use Rattle.std.proofs.Common.{◌≡◌, ℕ, suc, ◌+◌, ◌<◌, ◌≤◌, inl, inr, Bool, true, false, cond, List, [], ◌∷◌, ◌++◌, length, Option, Some, None, refl, sym, ap, ◌∙◌, subst, arith, set}
+use Rattle.std.proofs.Common.{◌≡◌, ℕ, suc, ◌+◌, ◌<◌, ◌≤◌, inl, inr, Bool, true, false, cond, List, [], ◌∷◌, ◌++◌, length, Some, None, refl, sym, ap, ◌∙◌, subst, arith, set}
 use Rattle.std.specs.Prelude.{slice_get}
 use Rattle.std.proofs.Math.ListN.{length-set}
 use Rattle.std.proofs.lemmas.Bool.{cases_eq}
@@ -7,8 +7,6 @@ use Rattle.std.proofs.lemmas.List.{append-nil, length-append}
 use Rattle.std.proofs.lemmas.Option.{slice_get_within}
 use Rattle.dl_entry.specs.declared.Actor.{Actor}
 use Rattle.dl_entry.specs.declared.CommitKind.{CommitKind}
-use Rattle.dl_entry.specs.declared.Commit.{Commit}
-use Rattle.dl_entry.specs.declared.Input.{Input}
 use Rattle.dl_entry.specs.declared.Point.{Point}
 use Rattle.dl_entry.specs.declared.Request.{Request}
 use Rattle.spec_isa.specs.declared.thread.Parts.{Parts}
@@ -31,12 +29,12 @@ use Rattle.spec_protocol.specs.Logged.{Supplied, actors_of, is_short_chunk, logg
 use Rattle.spec_protocol.proofs.Moves.Granted.{get-set_other, get-set_same}
 use Rattle.spec_protocol.proofs.Moves.Threads.{run-keeps, serve-keeps}
 use Rattle.spec_protocol.proofs.Logs.Lookups.{count_of}
-use Rattle.spec_protocol.proofs.Logs.Growing.{commits_in, commits_if, HasCommitted, has_committed-stands, Grows, grows_of, Stands, counts-stand}
+use Rattle.spec_protocol.proofs.Logs.Growing.{commits_in, commits_if, ThreadCommit, commit_of, HasCommitted, has_committed-stands, Grows, grows_of, Stands, counts-stand}
 use Rattle.spec_protocol.proofs.Logs.Coming.{transferred-stands, raised-stands}
 use Rattle.spec_protocol.proofs.PlayingBack.Moves.{recorded_serial, recorded_dma}
 use Rattle.spec_protocol.proofs.PlayingBack.Transfers.{open-takes}
 use Rattle.spec_protocol.proofs.Points.OneMore.{points_so, points-more, commits_of, actors-append}
-use Rattle.spec_protocol.proofs.Points.Noted.{commit-logged, dma-logged, raise-logged}
+use Rattle.spec_protocol.proofs.Points.Noted.{point_of, commit-logged, dma-logged, raise-logged}
 use Rattle.spec_protocol.proofs.Moves.Spawning.{AreFew, serve-few}
 
 -- ---- what stands between two points
@@ -58,121 +56,125 @@ pub record KeepsIn (mode : ModeName) (s i : ℕ) (cs : List Supplied) (x : Seria
 more_actors : (cs : List Supplied) (c : Supplied) → actors_of (points_so (cs ++ c ∷ [])) ≡ actors_of (points_so cs) ++ actors_of (c.point ∷ [])
 more_actors cs c = ap actors_of (points-more cs c) ∙ actors-append (points_so cs) (c.point ∷ [])
 
--- ---- a commit of a thread
-
-commit_keeps : (mode : ModeName) (s : ℕ) (cs : List Supplied) (moment i k size : ℕ) (kind : CommitKind) (short : Bool) (o : Option Input) (bytes : List ℕ) (p q : Sphere) (qlog : LogParts) (t u : Parts) (made : List Parts) (commit : Commit)
-    → Keeps mode s cs p → HasCommitted k (is_short_chunk kind short) p q (logged mode s cs) qlog t u made commit o → q.role ≡ Record qlog → commit.size ≡ size → AreFew p.threads made
-    → Keeps mode s (cs ++ record { point = Point.Commit moment i (Actor.Thread k) kind size short; input = o; bytes = bytes } ∷ []) q
-commit_keeps mode s cs moment i k size kind short o bytes p q qlog t u made commit keeps d role sized few =
-    let ps = points_so cs in
-    let c : Supplied = record { point = Point.Commit moment i (Actor.Thread k) kind size short; input = o; bytes = bytes } in
-    let g : Grows k p.threads q.threads t = grows_of k (is_short_chunk kind short) p q (logged mode s cs) qlog t u made commit o d in
-    let below : k < 15 = (let h = slice_get_within p.threads k t d.start in let l = keeps.few in omega arith) in
-    let before_ : t.commits ≡ commits_of k ps = sym (keeps.commits k ∙ g.was) in
-    let now : qlog ≡ logged mode s (cs ++ c ∷ []) = d.log_ ∙ commit-logged mode s cs moment i k t.commits size kind short o bytes commit below before_ d.actor sized in
-    record {
-      role = role ∙ ap (λ (log : LogParts). Record log) now;
-      stands = subst (Stands q) now (has_committed-stands k (is_short_chunk kind short) p q (logged mode s cs) qlog t u made commit o d keeps.stands);
-      commits = λ j. ap (count_of j) (more_actors cs c) ∙ counts-stand k (actors_of ps) p.threads q.threads t g keeps.commits j;
-      place = (let a = ap (λ (as_ : List Actor). length as_) (more_actors cs c) in let b = length-append (actors_of ps) (Actor.Thread k ∷ []) in let h = keeps.place in let e = d.position_ in omega arith);
-      few = (let a = ap (λ (ts : List Parts). length ts) d.threads in let b = length-append (set p.threads k u) made in let h = length-set p.threads k u in omega (arith, few));
-    }
+no_thread_more : (j : ℕ) (acts : List Actor) → count_of j (acts ++ Actor.Dma ∷ []) ≡ count_of j acts
+no_thread_more j [] = refl
+no_thread_more j (a ∷ acts) = ap (λ (n : ℕ). cond (is_thread j a) (suc n) n) (no_thread_more j acts)
 
 -- what a chunk makes of a recorded sphere
 abbrev pub recorded_chunk : LogParts → (thread : ℕ) → (short : Bool) → Run → Devices → Sphere → MovedSphere
 recorded_chunk log k short r devices p = chunk_in (Record log) k false short r devices p
 
--- after a chunk the sphere keeps the log of its points and the chunk's
-pub chunk-keeps : (mode : ModeName) (s : ℕ) (cs : List Supplied) (moment i k size : ℕ) (short : Bool) (p : Sphere) (t : Parts) (devices : Devices) → Keeps mode s cs p → slice_get p.threads k ≡ Some t → (run p.memory t size).n ≡ size
-    → Keeps mode s (cs ++ record { point = Point.Commit moment i (Actor.Thread k) CommitKind.Chunk size short; input = None; bytes = [] } ∷ []) (laid (recorded_chunk (logged mode s cs) k short (run p.memory t size) devices p))
-chunk-keeps mode s cs moment i k size short p t devices keeps is ran =
-    let r = run p.memory t size in
-    let e = chunk_effect k p.progress.request r in
-    let log = logged mode s cs in
-    let q = laid (recorded_chunk log k short r devices p) in
-    let d : HasCommitted k short p q log (noted e.commit r.thread.commits short log) t e.thread e.made e.commit None =
-    record {
-      start = is;
-      threads = refl;
-      commits = ap (λ (n : ℕ). n + 1) (run-keeps p.memory t size);
-      new = tt;
-      position_ = (let h = length-append p.progress.commits (e.commit ∷ []) in omega arith);
-      actor = refl;
-      log_ = ap (λ (n : ℕ). noted e.commit n short log) (run-keeps p.memory t size);
-    }
-    in
-    commit_keeps mode s cs moment i k size CommitKind.Chunk short None [] p q (noted e.commit r.thread.commits short log) t e.thread e.made e.commit keeps d refl ran (let l = keeps.few in omega arith)
+-- ---- one point more
 
--- after a serial step the sphere keeps the log of its points and the step's
-pub serial-keeps : (mode : ModeName) (s : ℕ) (cs : List Supplied) (moment i k size : ℕ) (short : Bool) (p : Sphere) (t : Parts) (devices : Devices) → Keeps mode s cs p → slice_get p.threads k ≡ Some t → size ≡ 0
-    → Keeps mode s (cs ++ record { point = Point.Commit moment i (Actor.Thread k) CommitKind.Serial size short; input = (taken (need t p.memory) devices moment).input; bytes = [] } ∷ []) (laid (recorded_serial (logged mode s cs) p k moment t devices))
-serial-keeps mode s cs moment i k size short p t devices keeps is empty =
-    let g : Taken = taken (need t p.memory) devices moment in
-    let e = serial_effect k (serve k p.threads p.progress.request t p.memory g.input) in
-    let h = serve-keeps k p.threads p.progress.request t p.memory g.input in
-    let log = logged mode s cs in
-    let q = laid (recorded_serial log p k moment t devices) in
-    let d : HasCommitted k false p q log (serial_noted k t g log p) t e.thread e.made e.commit g.input =
-    record {
-      start = is;
-      threads = refl;
-      commits = ap (λ (n : ℕ). n + 1) h.commits;
-      new = h.fresh;
-      position_ = (let l = length-append p.progress.commits (e.commit ∷ []) in omega arith);
-      actor = refl;
-      log_ = refl;
-    }
-    in
-    commit_keeps mode s cs moment i k size CommitKind.Serial short g.input [] p q (serial_noted k t g log p) t e.thread e.made e.commit keeps d refl (sym empty) (serve-few k p.threads p.progress.request t p.memory g.input keeps.few)
+-- the points of a sphere so far, with what came from outside at each, and their log
+module _ (mode : ModeName) (s : ℕ) (cs : List Supplied) where
+  -- ---- a commit of a thread
 
--- ---- a DMA
+  commit_keeps : (c : ThreadCommit) (moment i size : ℕ) (kind : CommitKind) (short : Bool) (p q : Sphere) (qlog : LogParts)
+      → Keeps mode s cs p → HasCommitted c p q (logged mode s cs) qlog → q.role ≡ Record qlog → c.commit.size ≡ size → c.short ≡ is_short_chunk kind short → AreFew p.threads c.spawned
+      → Keeps mode s (cs ++ point_of moment i size kind short c ∷ []) q
+  commit_keeps c moment i size kind short p q qlog keeps d role sized early few =
+      let ps = points_so cs in
+      let x : Supplied = point_of moment i size kind short c in
+      let g : Grows c.thread p.threads q.threads c.before = grows_of c p q (logged mode s cs) qlog d in
+      let below : c.thread < 15 = (let h = slice_get_within p.threads c.thread c.before d.start in let l = keeps.few in omega arith) in
+      let before_ : c.before.commits ≡ commits_of c.thread ps = sym (keeps.commits c.thread ∙ g.was) in
+      let now : qlog ≡ logged mode s (cs ++ x ∷ []) = d.log_ ∙ commit-logged mode s cs c moment i size kind short below before_ d.actor sized early in
+      record {
+        role = role ∙ ap (λ (log : LogParts). Record log) now;
+        stands = subst (Stands q) now (has_committed-stands c p q (logged mode s cs) qlog d keeps.stands);
+        commits = λ j. ap (count_of j) (more_actors cs x) ∙ counts-stand c.thread (actors_of ps) p.threads q.threads c.before g keeps.commits j;
+        place = (let a = ap (λ (as_ : List Actor). length as_) (more_actors cs x) in let b = length-append (actors_of ps) (Actor.Thread c.thread ∷ []) in let h = keeps.place in let e = d.position_ in omega arith);
+        few = (let a = ap (λ (ts : List Parts). length ts) d.threads in let b = length-append (set p.threads c.thread c.after) c.spawned in let h = length-set p.threads c.thread c.after in omega (arith, few));
+      }
 
-no_thread_more : (j : ℕ) (acts : List Actor) → count_of j (acts ++ Actor.Dma ∷ []) ≡ count_of j acts
-no_thread_more j [] = refl
-no_thread_more j (a ∷ acts) = ap (λ (n : ℕ). cond (is_thread j a) (suc n) n) (no_thread_more j acts)
+  -- after a chunk the sphere keeps the log of its points and the chunk's
+  pub chunk-keeps : (moment i k size : ℕ) (short : Bool) (p : Sphere) (t : Parts) (devices : Devices) → Keeps mode s cs p → slice_get p.threads k ≡ Some t → (run p.memory t size).n ≡ size
+      → Keeps mode s (cs ++ record { point = Point.Commit moment i (Actor.Thread k) CommitKind.Chunk size short; input = None; bytes = [] } ∷ []) (laid (recorded_chunk (logged mode s cs) k short (run p.memory t size) devices p))
+  chunk-keeps moment i k size short p t devices keeps is ran =
+      let r = run p.memory t size in
+      let e = chunk_effect k p.progress.request r in
+      let log = logged mode s cs in
+      let q = laid (recorded_chunk log k short r devices p) in
+      let d : HasCommitted (commit_of k short t e None) p q log (noted e.commit r.thread.commits short log) =
+      record {
+        start = is;
+        threads = refl;
+        commits = ap (λ (n : ℕ). n + 1) (run-keeps p.memory t size);
+        new = tt;
+        position_ = (let h = length-append p.progress.commits (e.commit ∷ []) in omega arith);
+        actor = refl;
+        log_ = ap (λ (n : ℕ). noted e.commit n short log) (run-keeps p.memory t size);
+      }
+      in
+      commit_keeps (commit_of k short t e None) moment i size CommitKind.Chunk short p q (noted e.commit r.thread.commits short log) keeps d refl ran refl (let l = keeps.few in omega arith)
 
--- after a DMA the sphere keeps the log of its points and the DMA's
-pub dma-keeps : (mode : ModeName) (s : ℕ) (cs : List Supplied) (moment i : ℕ) (short : Bool) (p : Sphere) (request : Request) (devices : Devices) → Keeps mode s cs p
-    → Keeps mode s (cs ++ record { point = Point.Commit moment i Actor.Dma CommitKind.Dma 0 short; input = None; bytes = dma_bytes devices request } ∷ []) (laid (recorded_dma (logged mode s cs) p devices request))
-dma-keeps mode s cs moment i short p request devices keeps =
-    let bytes = dma_bytes devices request in
-    let ps = points_so cs in
-    let c : Supplied = record { point = Point.Commit moment i Actor.Dma CommitKind.Dma 0 short; input = None; bytes = bytes } in
-    let log = logged mode s cs in
-    let q = laid (recorded_dma log p devices request) in
-    let now : dma_log log devices p (Some request) ≡ logged mode s (cs ++ c ∷ []) = dma-logged mode s cs moment i (position p.progress) CommitKind.Dma short bytes (sym keeps.place) in
-    let one : position q.progress ≡ suc (position p.progress) = (let h = length-append p.progress.commits (dma_commit ∷ []) in omega arith) in
-    record {
-      role = ap (λ (log : LogParts). Record log) now;
-      stands = subst (Stands q) now (transferred-stands p q log (dma_log log devices p (Some request)) bytes (record { threads = refl; position_ = one; log_ = refl }) keeps.stands);
-      commits = λ j. ap (count_of j) (more_actors cs c) ∙ no_thread_more j (actors_of ps) ∙ keeps.commits j;
-      place = (let a = ap (λ (as_ : List Actor). length as_) (more_actors cs c) in let b = length-append (actors_of ps) (Actor.Dma ∷ []) in let h = keeps.place in let l = length-append p.progress.commits (dma_commit ∷ []) in omega arith);
-      few = keeps.few;
-    }
+  -- after a serial step the sphere keeps the log of its points and the step's
+  pub serial-keeps : (moment i k size : ℕ) (short : Bool) (p : Sphere) (t : Parts) (devices : Devices) → Keeps mode s cs p → slice_get p.threads k ≡ Some t → size ≡ 0
+      → Keeps mode s (cs ++ record { point = Point.Commit moment i (Actor.Thread k) CommitKind.Serial size short; input = (taken (need t p.memory) devices moment).input; bytes = [] } ∷ []) (laid (recorded_serial (logged mode s cs) p k moment t devices))
+  serial-keeps moment i k size short p t devices keeps is empty =
+      let g : Taken = taken (need t p.memory) devices moment in
+      let e = serial_effect k (serve k p.threads p.progress.request t p.memory g.input) in
+      let h = serve-keeps k p.threads p.progress.request t p.memory g.input in
+      let log = logged mode s cs in
+      let q = laid (recorded_serial log p k moment t devices) in
+      let d : HasCommitted (commit_of k false t e g.input) p q log (serial_noted k t g log p) =
+      record {
+        start = is;
+        threads = refl;
+        commits = ap (λ (n : ℕ). n + 1) h.commits;
+        new = h.fresh;
+        position_ = (let l = length-append p.progress.commits (e.commit ∷ []) in omega arith);
+        actor = refl;
+        log_ = refl;
+      }
+      in
+      commit_keeps (commit_of k false t e g.input) moment i size CommitKind.Serial short p q (serial_noted k t g log p) keeps d refl (sym empty) refl (serve-few k p.threads p.progress.request t p.memory g.input keeps.few)
 
--- ---- an interrupt
+  -- ---- a DMA
 
--- after an interrupt the sphere keeps the log of its points and the interrupt's
-pub raise-keeps : (mode : ModeName) (s : ℕ) (cs : List Supplied) (moment i k value : ℕ) (p : Sphere) (t : Parts) → Keeps mode s cs p → slice_get p.threads k ≡ Some t → takes_interrupt t ≡ true
-    → Keeps mode s (cs ++ record { point = Point.Raise moment i k value; input = None; bytes = [] } ∷ []) (raised k value t p)
-unfolding raised
-raise-keeps mode s cs moment i k value p t keeps is takes =
-    let ps = points_so cs in
-    let u : Parts = interrupted value t in
-    let c : Supplied = record { point = Point.Raise moment i k value; input = None; bytes = [] } in
-    let below : k < 15 = (let h = slice_get_within p.threads k t is in let l = keeps.few in omega arith) in
-    let same : actors_of (points_so (cs ++ c ∷ [])) ≡ actors_of ps = more_actors cs c ∙ append-nil (actors_of ps) in
-    let log = logged mode s cs in
-    let fresh = keeps.stands.unmasked k t is (open-takes t takes) in
-    let now : interrupt_noted k t.commits value log ≡ logged mode s (cs ++ c ∷ []) = raise-logged mode s cs moment i k t.commits value below (sym (keeps.commits k ∙ ap commits_if is)) fresh in
-    record {
-      role = ap (role_raised k t.commits value) keeps.role ∙ ap (λ (log : LogParts). Record log) now;
-      stands = subst (Stands (raised k value t p)) now
-          (raised-stands k value p (raised k value t p) log (interrupt_noted k t.commits value log) t (record { start = is; takes = takes; threads = refl; progress = refl; log_ = refl }) keeps.stands);
-      commits = λ j. ap (count_of j) same ∙ keeps.commits j ∙ elim (cases_eq j k) [
-        | inl e ↦ ap (commits_in p.threads) e ∙ ap commits_if is ∙ sym (ap (commits_in (set p.threads k u)) e ∙ ap commits_if (get-set_same p.threads k u t is))
-        | inr ne ↦ sym (ap commits_if (get-set_other p.threads k j u ne))
-      ];
-      place = ap (λ (as_ : List Actor). length as_) same ∙ keeps.place;
-      few = (let h = length-set p.threads k u in let l = keeps.few in omega arith);
-    }
+  -- after a DMA the sphere keeps the log of its points and the DMA's
+  pub dma-keeps : (moment i : ℕ) (short : Bool) (p : Sphere) (request : Request) (devices : Devices) → Keeps mode s cs p
+      → Keeps mode s (cs ++ record { point = Point.Commit moment i Actor.Dma CommitKind.Dma 0 short; input = None; bytes = dma_bytes devices request } ∷ []) (laid (recorded_dma (logged mode s cs) p devices request))
+  dma-keeps moment i short p request devices keeps =
+      let bytes = dma_bytes devices request in
+      let ps = points_so cs in
+      let c : Supplied = record { point = Point.Commit moment i Actor.Dma CommitKind.Dma 0 short; input = None; bytes = bytes } in
+      let log = logged mode s cs in
+      let q = laid (recorded_dma log p devices request) in
+      let now : dma_log log devices p (Some request) ≡ logged mode s (cs ++ c ∷ []) = dma-logged mode s cs moment i (position p.progress) CommitKind.Dma short bytes (sym keeps.place) in
+      let one : position q.progress ≡ suc (position p.progress) = (let h = length-append p.progress.commits (dma_commit ∷ []) in omega arith) in
+      record {
+        role = ap (λ (log : LogParts). Record log) now;
+        stands = subst (Stands q) now (transferred-stands p q log (dma_log log devices p (Some request)) bytes (record { threads = refl; position_ = one; log_ = refl }) keeps.stands);
+        commits = λ j. ap (count_of j) (more_actors cs c) ∙ no_thread_more j (actors_of ps) ∙ keeps.commits j;
+        place = (let a = ap (λ (as_ : List Actor). length as_) (more_actors cs c) in let b = length-append (actors_of ps) (Actor.Dma ∷ []) in let h = keeps.place in let l = length-append p.progress.commits (dma_commit ∷ []) in omega arith);
+        few = keeps.few;
+      }
+
+  -- ---- an interrupt
+
+  -- after an interrupt the sphere keeps the log of its points and the interrupt's
+  pub raise-keeps : (moment i k value : ℕ) (p : Sphere) (t : Parts) → Keeps mode s cs p → slice_get p.threads k ≡ Some t → takes_interrupt t ≡ true
+      → Keeps mode s (cs ++ record { point = Point.Raise moment i k value; input = None; bytes = [] } ∷ []) (raised k value t p)
+  unfolding raised
+  raise-keeps moment i k value p t keeps is takes =
+      let ps = points_so cs in
+      let u : Parts = interrupted value t in
+      let c : Supplied = record { point = Point.Raise moment i k value; input = None; bytes = [] } in
+      let below : k < 15 = (let h = slice_get_within p.threads k t is in let l = keeps.few in omega arith) in
+      let same : actors_of (points_so (cs ++ c ∷ [])) ≡ actors_of ps = more_actors cs c ∙ append-nil (actors_of ps) in
+      let log = logged mode s cs in
+      let fresh = keeps.stands.unmasked k t is (open-takes t takes) in
+      let now : interrupt_noted k t.commits value log ≡ logged mode s (cs ++ c ∷ []) = raise-logged mode s cs moment i k t.commits value below (sym (keeps.commits k ∙ ap commits_if is)) fresh in
+      record {
+        role = ap (role_raised k t.commits value) keeps.role ∙ ap (λ (log : LogParts). Record log) now;
+        stands = subst (Stands (raised k value t p)) now
+            (raised-stands k value p (raised k value t p) log (interrupt_noted k t.commits value log) t (record { start = is; takes = takes; threads = refl; progress = refl; log_ = refl }) keeps.stands);
+        commits = λ j. ap (count_of j) same ∙ keeps.commits j ∙ elim (cases_eq j k) [
+          | inl e ↦ ap (commits_in p.threads) e ∙ ap commits_if is ∙ sym (ap (commits_in (set p.threads k u)) e ∙ ap commits_if (get-set_same p.threads k u t is))
+          | inr ne ↦ sym (ap commits_if (get-set_other p.threads k j u ne))
+        ];
+        place = ap (λ (as_ : List Actor). length as_) same ∙ keeps.place;
+        few = (let h = length-set p.threads k u in let l = keeps.few in omega arith);
+      }

@@ -3,7 +3,6 @@ use Rattle.std.proofs.Common.{◌≡◌, ℕ, suc, ◌+◌, ◌<◌, Bool, true,
 use Rattle.std.proofs.lemmas.List.{append-nil, length-append}
 use Rattle.std.proofs.lemmas.Grind.{flat_map-append}
 use Rattle.dl_entry.specs.declared.Actor.{Actor}
-use Rattle.dl_entry.specs.declared.Commit.{Commit}
 use Rattle.dl_entry.specs.declared.CommitKind.{CommitKind}
 use Rattle.dl_entry.specs.declared.Input.{Input}
 use Rattle.dl_entry.specs.declared.Point.{Point}
@@ -20,6 +19,7 @@ use Rattle.spec_play.specs.Recording.{noted, input_noted, dma_noted, interrupt_n
 use Rattle.spec_protocol.specs.Logged.{Supplied, actors_of, is_short_chunk, shorts_of, interrupts_of, listed, inputs_of, data_at, dmas_of, order_in, sizes_in, all_shorts, all_interrupts, logged}
 use Rattle.spec_protocol.proofs.Logs.Inserting.{with_size}
 use Rattle.spec_protocol.proofs.Logs.Lookups.{none-there}
+use Rattle.spec_protocol.proofs.Logs.Growing.{ThreadCommit}
 use Rattle.spec_protocol.proofs.Logs.Entries.{are-below, placed-behind, part-none}
 use Rattle.spec_protocol.proofs.Points.OneMore.{points_so, points-more, commits_of, actors-append, sizes-append, shorts-append, are-shorts, interrupts-append, are-ints, dmas-append, unchanged, nothing_behind, shorts_of_other, shorts_of_own, shorts_of_whole, ints_of_commit, ints_of_other, ints_of_own}
 
@@ -125,15 +125,22 @@ dmas_same cs c none = sym (append-nil (dmas_of 0 cs)) ∙ dmas_more cs c [] none
 
 -- ---- what is noted
 
--- of a commit of thread k, which has so many before
-pub commit-logged : (mode : ModeName) (s : ℕ) (cs : List Supplied) (moment i k n size : ℕ) (kind : CommitKind) (short : Bool) (o : Option Input) (bytes : List ℕ) (commit : Commit) → k < 15 → n ≡ commits_of k (points_so cs) → commit.actor ≡ Actor.Thread k → commit.size ≡ size
-    → input_noted o (noted commit n (is_short_chunk kind short) (logged mode s cs)) ≡ logged mode s (cs ++ record { point = by_thread moment i k kind size short; input = o; bytes = bytes } ∷ [])
-commit-logged mode s cs moment i k n size kind short o bytes commit l is actor sized =
+-- the point of a commit of a thread, with what came for it
+abbrev pub point_of : (moment i size : ℕ) → CommitKind → (short : Bool) → ThreadCommit → Supplied
+point_of moment i size kind short c = record { point = by_thread moment i c.thread kind size short; input = c.input; bytes = [] }
+
+-- what a recording notes of a commit of a thread is what its point adds to the log of the points before it
+pub commit-logged : (mode : ModeName) (s : ℕ) (cs : List Supplied) (c : ThreadCommit) (moment i size : ℕ) (kind : CommitKind) (short : Bool) → c.thread < 15 → c.before.commits ≡ commits_of c.thread (points_so cs) → c.commit.actor ≡ Actor.Thread c.thread → c.commit.size ≡ size → c.short ≡ is_short_chunk kind short
+    → input_noted c.input (noted c.commit c.before.commits c.short (logged mode s cs)) ≡ logged mode s (cs ++ point_of moment i size kind short c ∷ [])
+commit-logged mode s cs c moment i size kind short l is actor sized early =
+    let k = c.thread in
+    let n = c.before.commits in
     let ps = points_so cs in
     let q = by_thread moment i k kind size short in
-    let c : Supplied = record { point = q; input = o; bytes = bytes } in
-    let all = sym (points-more cs c) in
-    input_listed o (noted commit n (is_short_chunk kind short) (logged mode s cs))
+    let x : Supplied = point_of moment i size kind short c in
+    let all = sym (points-more cs x) in
+    ap (λ (b : Bool). input_noted c.input (noted c.commit n b (logged mode s cs))) early
+    ∙ input_listed c.input (noted c.commit n (is_short_chunk kind short) (logged mode s cs))
     ∙ (λ h. record {
       mode = mode;
       s = s;
@@ -141,8 +148,8 @@ commit-logged mode s cs moment i k n size kind short o bytes commit l is actor s
       order = (ap (λ (a : Actor). order_with mode (order_in mode ps) a) actor ∙ order_more mode (Actor.Thread k) ps q refl ∙ ap (order_in mode) all) h;
       sizes = ((λ j. with_size (sizes_in mode ps) (actor j) n (sized j) (is_short_chunk kind short)) ∙ sizes_more mode ps moment i k n size kind short l is ∙ ap (sizes_in mode) all) h;
       interrupts = (no_interrupts ps moment i size (Actor.Thread k) kind short ∙ ap all_interrupts all) h;
-      inputs = inputs_more cs c h;
-      dmas = dmas_same cs c refl h;
+      inputs = inputs_more cs x h;
+      dmas = dmas_same cs x refl h;
     })
 
 -- of a DMA, which is the sphere's n-th commit

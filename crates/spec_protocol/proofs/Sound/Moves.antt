@@ -57,73 +57,74 @@ chunk-goes size k log p u ts t r is thread commits words request few uses =
 cursor-uses : (commits : ℕ) (threads : List Parts) (b : Cursor) → IsSoundCursor commits threads b → Uses b.log threads b.used
 cursor-uses commits threads b s = record { rising = rising-of b.log.interrupts s.log.interrupts.rising; inputs = s.inputs; dmas = s.dmas; interrupts = s.interrupts }
 
--- a piece leaves the thread's commits, and room for an instruction more
-piece-sound : (s : ℕ) (image : SphereSetup) (now k : ℕ) (b : Cursor) (t : Parts) (r : Run) (devices : Devices) (p : Sphere) → IsSoundCursor (position p.progress) p.threads b → b.now ≡ Turn k → is_live t ≡ true → IsSoundSphere s image now p → slice_get p.threads k ≡ Some t
-    → IsSoundRun (length image.memory) t r → b.total + r.n < whole_limit b.log k t.commits → HaveByteInput devices → IsSoundMoved s image (suc now) (piece_moved b k r devices p)
-piece-sound s image now k b t r devices p cursor turn live sound is run room d =
-    let n = position p.progress in
-    let us = set p.threads k r.thread in
-    let c = run.commits in
-    let lives : is_live r.thread ≡ true = ap lives run.status ∙ live in
-    let there = get-set_same p.threads k r.thread t is in
-    record {
-      sphere = record {
-        size = sound.size;
-        bytes = sound.bytes;
-        request = sound.request;
-        some = (let a = sound.some in let l = length-set p.threads k r.thread in omega (arith, l, a));
-        few = (let a = sound.few in let l = length-set p.threads k r.thread in omega (arith, l, a));
-        threads = set-all (IsSoundThread n) p.threads k r.thread (record { thread = run.thread; few = (let l = (sound.threads k t is).few in omega (arith, l, c)) }) sound.threads;
-        commits = (let l = sound.commits in omega (arith, l));
-        role = record {
-          log = cursor.log;
-          within = cursor.within;
-          going = cursor.going;
-          done = subst (IsDoneInOrder b.log.mode b.log.order n) (append-nil us) (done-piece b.log.mode b.log.order n k p.threads t r.thread is c cursor.done);
-          named = cursor.named;
-          inputs = cursor.inputs;
-          dmas = cursor.dmas;
-          interrupts = cursor.interrupts ∙ sym (due-still b.log.interrupts p.threads us (piece-commits p.threads k t r.thread is c));
-          loads = (let l = length-append b.loads r.loads in let a = cursor.loads in let q = run.loads in omega (arith, l, a, q));
-          turn = λ j e. subst (HasThread (record b { total = b.total + r.n; loads = b.loads ++ r.loads }) us) (let q : Turn k ≡ Turn j = sym turn ∙ e in let h : k ≡ j = cc in h)
-              (record { thread = r.thread; there = there; live = lives; room = subst (λ (m : ℕ). b.total + r.n < whole_limit b.log k m) (sym c) room });
-        };
-      };
-      words = run.words;
-      devices = d;
-    }
-
 -- where it is a piece, its commit has room for it and an instruction more
 pub record FitsRole (k : ℕ) (t : Parts) (piece : Bool) (r : Run) (role : Role) : Type 0 where
   pub live : is_live t ≡ true
   pub turn : (b : Cursor) → role ≡ Replay b → b.now ≡ Turn k
   pub room : (b : Cursor) → role ≡ Replay b → piece ≡ true → b.total + r.n < whole_limit b.log k t.commits
 
-replayed-sound : (s : ℕ) (image : SphereSetup) (now k : ℕ) (b : Cursor) (t : Parts) (piece : Bool) (r : Run) (devices : Devices) (p : Sphere) → IsSoundCursor (position p.progress) p.threads b → FitsRole k t piece r (Replay b) → IsSoundSphere s image now p
-    → slice_get p.threads k ≡ Some t → IsSoundRun (length image.memory) t r → HaveByteInput devices → IsSoundMoved s image (suc now) (replayed_chunk piece b k r devices p)
-replayed-sound s image now k b t true r devices p cursor fits sound is run d =
-    piece-sound s image now k b t r devices p cursor (fits.turn b refl) fits.live sound is run (fits.room b refl refl) d
-replayed-sound s image now k b t false r devices p cursor fits sound is run d =
-    verdict-sound s image now k b t (chunk_verdict b.log p.progress b.used k (joined b r)) devices p cursor (fits.turn b refl) sound is
-    (chunk-goes (length image.memory) k b.log p.progress b.used p.threads t (joined b r) is run.thread run.commits run.words sound.request sound.few (cursor-uses (position p.progress) p.threads b cursor)) d
+-- at this moment sphere p is sound, thread k of it is t, and the input is bytes
+module _ (s : ℕ) (image : SphereSetup) (now k : ℕ) (t : Parts) (devices : Devices) (p : Sphere) (sound : IsSoundSphere s image now p) (is : slice_get p.threads k ≡ Some t) (d : HaveByteInput devices) where
+  -- a piece leaves the thread's commits, and room for an instruction more
+  piece-sound : (b : Cursor) (r : Run) → IsSoundCursor (position p.progress) p.threads b → b.now ≡ Turn k → is_live t ≡ true → IsSoundRun (length image.memory) t r → b.total + r.n < whole_limit b.log k t.commits
+      → IsSoundMoved s image (suc now) (piece_moved b k r devices p)
+  piece-sound b r cursor turn live run room =
+      let n = position p.progress in
+      let us = set p.threads k r.thread in
+      let c = run.commits in
+      let lives : is_live r.thread ≡ true = ap lives run.status ∙ live in
+      let there = get-set_same p.threads k r.thread t is in
+      record {
+        sphere = record {
+          size = sound.size;
+          bytes = sound.bytes;
+          request = sound.request;
+          some = (let a = sound.some in let l = length-set p.threads k r.thread in omega (arith, l, a));
+          few = (let a = sound.few in let l = length-set p.threads k r.thread in omega (arith, l, a));
+          threads = set-all (IsSoundThread n) p.threads k r.thread (record { thread = run.thread; few = (let l = (sound.threads k t is).few in omega (arith, l, c)) }) sound.threads;
+          commits = (let l = sound.commits in omega (arith, l));
+          role = record {
+            log = cursor.log;
+            within = cursor.within;
+            going = cursor.going;
+            done = subst (IsDoneInOrder b.log.mode b.log.order n) (append-nil us) (done-piece b.log.mode b.log.order n k p.threads t r.thread is c cursor.done);
+            named = cursor.named;
+            inputs = cursor.inputs;
+            dmas = cursor.dmas;
+            interrupts = cursor.interrupts ∙ sym (due-still b.log.interrupts p.threads us (piece-commits p.threads k t r.thread is c));
+            loads = (let l = length-append b.loads r.loads in let a = cursor.loads in let q = run.loads in omega (arith, l, a, q));
+            turn = λ j e. subst (HasThread (record b { total = b.total + r.n; loads = b.loads ++ r.loads }) us) (let q : Turn k ≡ Turn j = sym turn ∙ e in let h : k ≡ j = cc in h)
+                (record { thread = r.thread; there = there; live = lives; room = subst (λ (m : ℕ). b.total + r.n < whole_limit b.log k m) (sym c) room });
+          };
+        };
+        words = run.words;
+        devices = d;
+      }
 
-chunk-in-sound : (s : ℕ) (image : SphereSetup) (now k : ℕ) (role : Role) (t : Parts) (piece short : Bool) (r : Run) (devices : Devices) (p : Sphere) → IsSoundRole s (position p.progress) p.threads role → FitsRole k t piece r role → IsSoundSphere s image now p
-    → slice_get p.threads k ≡ Some t → IsSoundRun (length image.memory) t r → HaveByteInput devices → IsSoundMoved s image (suc now) (chunk_in role k piece short r devices p)
-chunk-in-sound s image now k Plain t piece short r devices p role fits sound is run d =
-    granted-sound s image now k Plain t (chunk_effect k p.progress.request r) devices p sound is
-    (chunk-effect (length image.memory) k p.threads t p.progress.request r run.thread run.commits run.words sound.request sound.few) tt d
-chunk-in-sound s image now k (Record log) t piece short r devices p role fits sound is run d =
-    let e = chunk_effect k p.progress.request r in
-    let effect = chunk-effect (length image.memory) k p.threads t p.progress.request r run.thread run.commits run.words sound.request sound.few in
-    granted-sound s image now k (Record (noted e.commit r.thread.commits short log)) t e devices p sound is effect
-    (noted-sound s k r.thread.commits short log t e p is effect.commits role) d
-chunk-in-sound s image now k (Replay b) t piece short r devices p role fits sound is run d = replayed-sound s image now k b t piece r devices p role fits sound is run d
+  replayed-sound : (b : Cursor) (piece : Bool) (r : Run) → IsSoundCursor (position p.progress) p.threads b → FitsRole k t piece r (Replay b) → IsSoundRun (length image.memory) t r
+      → IsSoundMoved s image (suc now) (replayed_chunk piece b k r devices p)
+  replayed-sound b true r cursor fits run =
+      piece-sound b r cursor (fits.turn b refl) fits.live run (fits.room b refl refl)
+  replayed-sound b false r cursor fits run =
+      verdict-sound s image now k b t (chunk_verdict b.log p.progress b.used k (joined b r)) devices p cursor (fits.turn b refl) sound is
+      (chunk-goes (length image.memory) k b.log p.progress b.used p.threads t (joined b r) is run.thread run.commits run.words sound.request sound.few (cursor-uses (position p.progress) p.threads b cursor)) d
 
--- a granted chunk leaves a sound sphere
-pub chunk-sound : (s : ℕ) (image : SphereSetup) (now k : ℕ) (t : Parts) (piece short : Bool) (r : Run) (devices : Devices) (p : Sphere) → FitsRole k t piece r p.role → IsSoundSphere s image now p
-    → slice_get p.threads k ≡ Some t → IsSoundRun (length image.memory) t r → HaveByteInput devices → IsSoundMoved s image (suc now) (chunk_moved k piece short r devices p)
-unfolding chunk_moved
-chunk-sound s image now k t piece short r devices p fits sound is run d = chunk-in-sound s image now k p.role t piece short r devices p sound.role fits sound is run d
+  chunk-in-sound : (role : Role) (piece short : Bool) (r : Run) → IsSoundRole s (position p.progress) p.threads role → FitsRole k t piece r role → IsSoundRun (length image.memory) t r
+      → IsSoundMoved s image (suc now) (chunk_in role k piece short r devices p)
+  chunk-in-sound Plain piece short r role fits run =
+      granted-sound s image now k Plain t (chunk_effect k p.progress.request r) devices p sound is
+      (chunk-effect (length image.memory) k p.threads t p.progress.request r run.thread run.commits run.words sound.request sound.few) tt d
+  chunk-in-sound (Record log) piece short r role fits run =
+      let e = chunk_effect k p.progress.request r in
+      let effect = chunk-effect (length image.memory) k p.threads t p.progress.request r run.thread run.commits run.words sound.request sound.few in
+      granted-sound s image now k (Record (noted e.commit r.thread.commits short log)) t e devices p sound is effect
+      (noted-sound s k r.thread.commits short log t e p is effect.commits role) d
+  chunk-in-sound (Replay b) piece short r role fits run = replayed-sound b piece r role fits run
+
+  -- a granted chunk leaves a sound sphere
+  pub chunk-sound : (piece short : Bool) (r : Run) → FitsRole k t piece r p.role → IsSoundRun (length image.memory) t r → IsSoundMoved s image (suc now) (chunk_moved k piece short r devices p)
+  unfolding chunk_moved
+  chunk-sound piece short r fits run = chunk-in-sound p.role piece short r sound.role fits run
 
 -- ---- serial steps
 

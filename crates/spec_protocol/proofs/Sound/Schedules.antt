@@ -157,11 +157,10 @@ sound-chunk s w c h how asks k =
     let ch = k.held c h asks.is in
     let sphere = k.spheres i held.sphere in
     landed s (suc (moment w)) i _
-    (chunk-sound s.numbers.chunk (image_at s i) (moment w) h.thread h.chunk.start (is_piece how) (is_short w.numbers.chunk how h.chunk.limit) h.chunk.done w.devices p
+    (chunk-sound s.numbers.chunk (image_at s i) (moment w) h.thread h.chunk.start w.devices p sphere held.start k.devices
+    (is_piece how) (is_short w.numbers.chunk how h.chunk.limit) h.chunk.done
     (record { live = held.lives; turn = has-turn p h.thread asks.going asks.turn; room = piece-room s w c h how asks sphere })
-    sphere held.start
-    (record { thread = ch.thread; commits = ch.commits; status = ch.status; words = ch.words; loads = held.chunk.closes.few_loads })
-    k.devices)
+    (record { thread = ch.thread; commits = ch.commits; status = ch.status; words = ch.words; loads = held.chunk.closes.few_loads }))
 
 sound-serial : (s : Setup) (w : World) (c : ℕ) (h : Held) (how : How) → IsWithinLimits s → Asks w c h how → Holds (sound s) (moment w) w
     → Lands (sound s) (suc (moment w)) h.chunk.sphere (serial_moved h.thread (moment w) h.chunk.start w.devices (sphere_at w h.chunk.sphere))
@@ -253,7 +252,7 @@ happens-sound s w e limits good k =
     let a = act w e in
     let keeps : Keeps w.numbers (sound s) = subst (λ (z : Numbers). Keeps z (sound s)) (sym k.sizes.numbers) (sound-keeps s limits) in
     counted-sound s w a (same-sizes s w (happens w e).world k.sizes (happens-preserved w e good).sizes) (event-replies w a (act-untold w e).counts k.replies) (counted-moment w a (act-untold w e).counts)
-    (act-holds (sound s) w e keeps good (holds-of s w k))
+    (act-holds (sound s) w keeps good (holds-of s w k) e)
 
 -- ---- the start
 

@@ -1,12 +1,12 @@
 -- A whole commit of a replayed sphere is the play's next; and one that diverges ends both.
 use Rattle.std.proofs.Common.{◌≡◌, ℕ, suc, ◌<◌, inl, inr, List, [], ◌∷◌, ◌++◌, length, Some, refl, sym, ap, ◌∙◌, subst, arith, set}
-use Rattle.std.specs.Prelude.{slice_get}
 use Rattle.std.proofs.lemmas.List.{length-append}
 use Rattle.dl_entry.specs.declared.Commit.{Commit}
 use Rattle.dl_entry.specs.declared.End.{End}
 use Rattle.dl_entry.specs.declared.Why.{Why}
 use Rattle.spec_isa.specs.declared.thread.Parts.{Parts}
 use Rattle.spec_isa.specs.Words.{Stored, lays}
+use Rattle.spec_isa.specs.Runs.{run}
 use Rattle.spec_log.specs.declared.LogParts.{LogParts}
 use Rattle.spec_kernel.specs.Devices.{Devices}
 use Rattle.spec_kernel.specs.Needs.{next_kind}
@@ -19,7 +19,7 @@ use Rattle.spec_play.specs.Plays.{Played, with_threads, settled, thread_verdict,
 use Rattle.spec_protocol.specs.Spheres.{Cursor, Replay, Sphere}
 use Rattle.spec_protocol.specs.Commits.{turned, diverged, by_verdict, dma_by_verdict}
 use Rattle.spec_protocol.specs.Serial.{laid}
-use Rattle.spec_replay.specs.Following.{IsWhole, StandsAt, Follows}
+use Rattle.spec_replay.specs.Following.{IsWhole, IsMovedOn, StandsAt, Follows}
 use Rattle.spec_replay.proofs.Commits.Standing.{set_twice, whole-stands}
 use Rattle.spec_replay.proofs.Commits.Judging.{AlikeEffects, AreAlike}
 
@@ -46,91 +46,87 @@ ended_by y why = record y { now = Over (End.Diverged (position y.progress) why) 
 same_end : (p : Progress) (y : Played) (why : Why) → p ≡ y.progress → Over (End.Diverged (position p) why) ≡ Over (End.Diverged (position y.progress) why)
 same_end p y why e = ap (λ (g : Progress). Over (End.Diverged (position g) why)) e
 
-pub diverged-follows : (log : LogParts) (y : Played) (p : Sphere) (b : Cursor) (why : Why) (devices : Devices) (now : Now) → Beside log y p b → y.now ≡ now → ((how : End) → now ≡ Over how → ⊥) → StandsAt log y now p b → play_one log y ≡ ended_by y why
-    → ((c : Cursor) → c.total ≡ b.total → c.loads ≡ b.loads → StandsAt log y now p b → StandsAt log y now (laid (diverged b why devices p)) c) → Follows log y (laid (diverged b why devices p))
-diverged-follows log y p b why devices now f is going state one keeps =
-    let c : Cursor = record b { now = Over (End.Diverged (position p.progress) why) } in
-    record {
-      cursor = c;
-      role = refl;
-      same_log = f.same_log;
-      progress = f.progress;
-      used = f.used;
-      now = inr (record { why = why; over = same_end p.progress y why f.progress; diverges = one });
-      ended = λ how e. absurd (going how (sym is ∙ e));
-      state = subst (λ (n : Now). StandsAt log y n (laid (diverged b why devices p)) c) (sym is) (keeps c refl refl state);
-    }
-
--- ---- one commit more
-
 -- one commit more makes the list longer by one
 pub one_more : (cs : List Commit) (c : Commit) → length (cs ++ c ∷ []) ≡ suc (length cs)
 one_more cs c = let h = length-append cs (c ∷ []) in omega arith
 
-abbrev after_verdict : Cursor → ℕ → LogVerdict → Devices → Sphere → Sphere
-after_verdict b k v devices p = laid (by_verdict b k v devices p)
+-- the replayed sphere p, with cursor b, stands beside y of its log's play
+module _ (log : LogParts) (y : Played) (p : Sphere) (b : Cursor) (devices : Devices) (s : Beside log y p b) where
+  -- where the play's next commit diverges, so does the replay
+  diverged-follows : (why : Why) (now : Now) → y.now ≡ now → ((how : End) → now ≡ Over how → ⊥) → StandsAt log y now p b → play_one log y ≡ ended_by y why
+      → ((c : Cursor) → c.total ≡ b.total → c.loads ≡ b.loads → StandsAt log y now p b → StandsAt log y now (laid (diverged b why devices p)) c) → Follows log y (laid (diverged b why devices p))
+  diverged-follows why now is going state one keeps =
+      let c : Cursor = record b { now = Over (End.Diverged (position p.progress) why) } in
+      record {
+        cursor = c;
+        role = refl;
+        same_log = s.same_log;
+        progress = s.progress;
+        used = s.used;
+        now = inr (record { why = why; over = same_end p.progress y why s.progress; diverges = one });
+        ended = λ how e. absurd (going how (sym is ∙ e));
+        state = subst (λ (n : Now). StandsAt log y n (laid (diverged b why devices p)) c) (sym is) (keeps c refl refl state);
+      }
 
-goes_follow : (log : LogParts) (y : Played) (p : Sphere) (b : Cursor) (k : ℕ) (x : Parts) (e f : Effect) (u v : Used) (devices : Devices) → Beside log y p b → p.threads ≡ set y.threads k x → AlikeEffects p.memory y.memory e f → u ≡ v
-    → Follows log (settled log y k (Goes f v)) (after_verdict b k (Goes e u) devices p)
-goes_follow log y p b k x e f u v devices s threads alike used =
-    let z : Played = settled log y k (Goes f v) in
-    let q : Sphere = after_verdict b k (Goes e u) devices p in
-    let c : Cursor = turned b.log (with_effect k e p.progress) u (with_threads k e p.threads) in
-    let progress : q.progress ≡ z.progress =
-    (λ i. record { commits = (s.progress i).commits ++ alike.commit i ∷ []; last = Some k; request = alike.request i })
-    in
-    let same : q.threads ≡ z.threads =
-    ap (λ (ts : List Parts). set ts k e.thread ++ e.made) threads
-    ∙ ap (λ (ts : List Parts). ts ++ e.made) (set_twice y.threads k x e.thread)
-    ∙ (λ i. set y.threads k (alike.thread i) ++ alike.made i)
-    in
-    let now : c.now ≡ z.now = (λ i. now_at (s.same_log i) (progress i) (used i) (same i)) in
-    record {
-      cursor = c;
-      role = refl;
-      same_log = s.same_log;
-      progress = progress;
-      used = used;
-      now = inl now;
-      ended = λ how h. now ∙ h;
-      state = whole-stands log z q c s.standard refl (record { memory = alike.memory; threads = same; total = refl; loads = refl });
-    }
+  -- where both commit alike, the replay follows the play that has settled it
+  goes_follow : (k : ℕ) (x : Parts) (e f : Effect) (u v : Used) → p.threads ≡ set y.threads k x → AlikeEffects p.memory y.memory e f → u ≡ v
+      → Follows log (settled log y k (Goes f v)) (laid (by_verdict b k (Goes e u) devices p))
+  goes_follow k x e f u v threads alike used =
+      let z : Played = settled log y k (Goes f v) in
+      let q : Sphere = laid (by_verdict b k (Goes e u) devices p) in
+      let c : Cursor = turned b.log (with_effect k e p.progress) u (with_threads k e p.threads) in
+      let progress : q.progress ≡ z.progress =
+      (λ i. record { commits = (s.progress i).commits ++ alike.commit i ∷ []; last = Some k; request = alike.request i })
+      in
+      let same : q.threads ≡ z.threads =
+      ap (λ (ts : List Parts). set ts k e.thread ++ e.made) threads
+      ∙ ap (λ (ts : List Parts). ts ++ e.made) (set_twice y.threads k x e.thread)
+      ∙ (λ i. set y.threads k (alike.thread i) ++ alike.made i)
+      in
+      let now : c.now ≡ z.now = (λ i. now_at (s.same_log i) (progress i) (used i) (same i)) in
+      record {
+        cursor = c;
+        role = refl;
+        same_log = s.same_log;
+        progress = progress;
+        used = used;
+        now = inl now;
+        ended = λ how h. now ∙ h;
+        state = whole-stands log z q c s.standard refl (record { memory = alike.memory; threads = same; total = refl; loads = refl });
+      }
 
 -- ---- a commit of a thread
 
--- what is asked of the thread whose turn it is
-pub record Judged (log : LogParts) (y : Played) (k : ℕ) (t x : Parts) (p : Sphere) (v w : LogVerdict) : Type 0 where
+-- it is the turn of thread k, which is t in the play, and the pieces of its present commit have moved p on
+pub record HasTurn (log : LogParts) (start y : Played) (p : Sphere) (b : Cursor) (k : ℕ) (t : Parts) : Type 0 where
+  pub at_ : y ≡ plays log start (position p.progress)
+  pub beside : Beside log y p b
+  pub same : b.now ≡ y.now
   pub turn : y.now ≡ Turn k
-  pub is : slice_get y.threads k ≡ Some t
-  pub threads : p.threads ≡ set y.threads k x
-  pub verdict : thread_verdict log y k t (next_kind t y.memory) ≡ w
-  pub alike : AreAlike p.memory y.memory v w
-
-play_judged : (log : LogParts) (y : Played) (k : ℕ) (t x : Parts) (p : Sphere) (v w : LogVerdict) → Judged log y k t x p v w → play_one log y ≡ settled log y k w
-unfolding play_one
-play_judged log y k t x p v w j = ap (play_now log y) j.turn ∙ ap (play_thread log y k) j.is ∙ ap (settled log y k) j.verdict
+  pub moved : IsMovedOn log y k t p b
 
 turn_goes_on : (k : ℕ) (how : End) → Turn k ≡ Over how → ⊥
 turn_goes_on k how e = cc
 
-verdict_reaches : (log : LogParts) (start y : Played) (p : Sphere) (b : Cursor) (k : ℕ) (t x : Parts) (v w : LogVerdict) (devices : Devices) → y ≡ plays log start (position p.progress) → Beside log y p b → StandsAt log y (Turn k) p b → Judged log y k t x p v w
-    → Reaches log start (after_verdict b k v devices p)
-verdict_reaches log start y p b k t x (Goes e u) (Goes f g) devices at_ s state j =
-    let one : plays log start (suc (position p.progress)) ≡ settled log y k (Goes f g) = ap (play_one log) (sym at_) ∙ play_judged log y k t x p (Goes e u) (Goes f g) j in
-    rw (one_more p.progress.commits e.commit)
-    (rw one (goes_follow log y p b k x e f u g devices s j.threads j.alike.0 j.alike.1))
-verdict_reaches log start y p b k t x (Fails why) (Fails other) devices at_ s state j =
-    let one : play_one log y ≡ ended_by y why = play_judged log y k t x p (Fails why) (Fails other) j ∙ ap (ended_by y) (sym j.alike) in
-    subst (λ (z : Played). Follows log z (after_verdict b k (Fails why) devices p)) at_
-    (diverged-follows log y p b why devices (Turn k) s j.turn (turn_goes_on k) state one
-    (λ c total loads h. (h.0, rw (total, loads) record { is = h.1.is; live = h.1.live; ran = h.1.ran; memory = h.1.memory; threads = h.1.threads; loads = h.1.loads; within = h.1.within })))
-verdict_reaches log start y p b k t x (Goes e u) (Fails why) devices at_ s state j = absurd j.alike
-verdict_reaches log start y p b k t x (Fails why) (Goes f g) devices at_ s state j = absurd j.alike
+-- the thread has the turn
+module _ (log : LogParts) (start y : Played) (p : Sphere) (b : Cursor) (k : ℕ) (t : Parts) (h : HasTurn log start y p b k t) where
+  play_judged : (w : LogVerdict) → thread_verdict log y k t (next_kind t y.memory) ≡ w → play_one log y ≡ settled log y k w
+  unfolding play_one
+  play_judged w is = ap (play_now log y) h.turn ∙ ap (play_thread log y k) h.moved.is ∙ ap (settled log y k) is
 
--- what is granted to the thread whose turn it is, as the play says it
-pub commit-reaches : (log : LogParts) (start y : Played) (p : Sphere) (b : Cursor) (k : ℕ) (t x : Parts) (v w : LogVerdict) (devices : Devices) → y ≡ plays log start (position p.progress) → Beside log y p b → StandsAt log y (Turn k) p b → Judged log y k t x p v w
-    → Reaches log start (laid (by_verdict b k v devices p))
-commit-reaches log start y p b k t x v w devices at_ s state j = verdict_reaches log start y p b k t x v w devices at_ s state j
+  -- a verdict that is alike to the play's leaves the sphere in its log's play
+  pub commit-reaches : (v w : LogVerdict) (devices : Devices) → thread_verdict log y k t (next_kind t y.memory) ≡ w → AreAlike p.memory y.memory v w → Reaches log start (laid (by_verdict b k v devices p))
+  commit-reaches (Goes e u) (Goes f g) devices is alike =
+      let one : plays log start (suc (position p.progress)) ≡ settled log y k (Goes f g) = ap (play_one log) (sym h.at_) ∙ play_judged (Goes f g) is in
+      rw (one_more p.progress.commits e.commit)
+      (rw one (goes_follow log y p b devices h.beside k (run y.memory t b.total).thread e f u g h.moved.threads alike.0 alike.1))
+  commit-reaches (Fails why) (Fails other) devices is alike =
+      let one : play_one log y ≡ ended_by y why = play_judged (Fails other) is ∙ ap (ended_by y) (sym alike) in
+      subst (λ (z : Played). Follows log z (laid (by_verdict b k (Fails why) devices p))) h.at_
+      (diverged-follows log y p b devices h.beside why (Turn k) h.turn (turn_goes_on k) (t, h.moved) one
+      (λ c total loads m. (m.0, rw (total, loads) record { is = m.1.is; live = m.1.live; ran = m.1.ran; memory = m.1.memory; threads = m.1.threads; loads = m.1.loads; within = m.1.within })))
+  commit-reaches (Goes e u) (Fails why) devices is alike = absurd alike
+  commit-reaches (Fails why) (Goes f g) devices is alike = absurd alike
 
 -- ---- a DMA
 
@@ -169,5 +165,5 @@ transfer-reaches log start y p b (DmaGoes ws) devices at_ s turn w is =
     (rw one (dma_follows log y p b ws devices s w))
 transfer-reaches log start y p b (DmaFails why) devices at_ s turn w is =
     subst (λ (z : Played). Follows log z (laid (dma_by_verdict b (DmaFails why) devices p))) at_
-    (diverged-follows log y p b why devices TurnOfDma s turn dma_goes_on w (play_dma log y (DmaFails why) turn is)
+    (diverged-follows log y p b devices s why TurnOfDma turn dma_goes_on w (play_dma log y (DmaFails why) turn is)
     (λ c total loads h. record { memory = h.memory; threads = h.threads; total = total ∙ h.total; loads = loads ∙ h.loads }))

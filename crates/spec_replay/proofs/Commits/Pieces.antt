@@ -8,10 +8,9 @@ use Rattle.spec_isa.specs.Words.{lays}
 use Rattle.spec_isa.specs.Runs.{Run, run}
 use Rattle.spec_log.specs.declared.LogParts.{LogParts}
 use Rattle.spec_kernel.specs.Devices.{Devices}
-use Rattle.spec_play.specs.Progress.{position}
 use Rattle.spec_play.specs.Turns.{Now, Turn}
-use Rattle.spec_play.specs.Plays.{Played, plays}
-use Rattle.spec_protocol.specs.Spheres.{Cursor, Role, Replay, Sphere, whole_limit, pieces_of, limit_in, limit_of}
+use Rattle.spec_play.specs.Plays.{Played}
+use Rattle.spec_protocol.specs.Spheres.{Cursor, Role, Sphere, whole_limit, pieces_of, limit_in, limit_of}
 use Rattle.spec_protocol.specs.Commits.{piece_moved}
 use Rattle.spec_protocol.specs.World.{Numbers}
 use Rattle.spec_protocol.specs.Serial.{laid}
@@ -20,7 +19,7 @@ use Rattle.spec_protocol.proofs.Moves.Threads.{run-keeps}
 use Rattle.spec_replay.specs.Following.{IsMovedOn, StandsAt, Follows}
 use Rattle.spec_replay.proofs.Commits.Joining.{IsJoined, rest_of, run-joined}
 use Rattle.spec_replay.proofs.Commits.Standing.{set_twice}
-use Rattle.spec_replay.proofs.Commits.Done.{Reaches, Beside}
+use Rattle.spec_replay.proofs.Commits.Done.{Reaches, HasTurn}
 
 -- ---- a part of a commit
 
@@ -33,28 +32,7 @@ pub record IsPart (y : Played) (k : ℕ) (t u : Parts) (p : Sphere) (b : Cursor)
   pub memory : lays p.memory r.words ≡ lays y.memory (run y.memory t (b.total + n)).words
   pub loads : b.loads ++ r.loads ≡ (run y.memory t (b.total + n)).loads
 
-part_from : (log : LogParts) (y : Played) (k : ℕ) (t u : Parts) (p : Sphere) (b : Cursor) (n : ℕ) → IsMovedOn log y k t p b → u ≡ (run y.memory t b.total).thread → (rest_of y.memory (run y.memory t b.total) n).n ≡ n → IsPart y k t u p b n (rest_of y.memory (run y.memory t b.total) n)
-part_from log y k t u p b n m is ran =
-    let r : Run = run y.memory t b.total in
-    let j : IsJoined y.memory r (rest_of y.memory r n) (run y.memory t (b.total + n)) = run-joined y.memory t b.total n in
-    record {
-      commits = ap (λ (x : Parts). x.commits) is ∙ run-keeps y.memory t b.total;
-      size = ran;
-      ran = (let a = j.n in let c = m.ran in omega arith);
-      thread = sym j.thread;
-      memory = ap (λ (x : List ℕ). lays x (rest_of y.memory r n).words) m.memory ∙ sym j.memory;
-      loads = ap (λ (ls : List Load). ls ++ (rest_of y.memory r n).loads) m.loads ∙ sym j.loads;
-    }
-
--- what a chunk of the thread ran is a part of the play's next commit
-pub part-is : (log : LogParts) (y : Played) (k : ℕ) (t u : Parts) (p : Sphere) (b : Cursor) (n : ℕ) → IsMovedOn log y k t p b → slice_get p.threads k ≡ Some u → (run p.memory u n).n ≡ n → IsPart y k t u p b n (run p.memory u n)
-part-is log y k t u p b n m there ran =
-    let r : Run = run y.memory t b.total in
-    let is : u ≡ r.thread = (let h : Some u ≡ Some r.thread = sym there ∙ ap (λ (ts : List Parts). slice_get ts k) m.threads ∙ get-set_same y.threads k r.thread t m.is in cc) in
-    let same : rest_of y.memory r n ≡ run p.memory u n = (λ i. run (sym m.memory i) (sym is i) n) in
-    subst (IsPart y k t u p b n) same (part_from log y k t u p b n m is (ap (λ (x : Run). x.n) same ∙ ran))
-
--- ---- the limit
+-- ---- limits
 
 pieces_own : (k total : ℕ) → pieces_of (Turn k) k total ≡ total
 pieces_own k total = ap (λ (b : Bool). cond b total 0) (eq-eqb k k refl)
@@ -62,48 +40,75 @@ pieces_own k total = ap (λ (b : Bool). cond b total 0) (eq-eqb k k refl)
 limit_left : (a w : ℕ) → a < w → a + max 1 (w - a) ≡ w
 limit_left a w l = omega arith
 
--- the instructions of the pieces and the limit of a new part are together the limit of the commit
-pub part-limit : (z : Numbers) (log : LogParts) (y : Played) (k : ℕ) (t u : Parts) (p : Sphere) (b : Cursor) (limit : ℕ) → p.role ≡ Replay b → b.log ≡ log → b.now ≡ Turn k → IsMovedOn log y k t p b → u.commits ≡ t.commits → limit ≡ limit_of z.chunk p.role k u → b.total + limit ≡ whole_limit log k t.commits
-unfolding limit_of
-part-limit z log y k t u p b limit role is turn m commits limited =
-    let l : limit ≡ max 1 (whole_limit log k t.commits - b.total) =
-    limited ∙ ap (λ (r : Role). limit_in r z.chunk k u.commits) role
-    ∙ (λ i. max 1 (whole_limit (is i) k (commits i) - pieces_of (turn i) k b.total))
-    ∙ ap (λ (n : ℕ). max 1 (whole_limit log k t.commits - n)) (pieces_own k b.total)
-    in
-    ap (λ (n : ℕ). b.total + n) l ∙ limit_left b.total (whole_limit log k t.commits) m.within
+-- ---- within a turn
 
--- ---- a piece
+-- it is the turn of thread k, which is t in the play
+module _ (log : LogParts) (start y : Played) (p : Sphere) (b : Cursor) (k : ℕ) (t : Parts) (h : HasTurn log start y p b k t) where
+  part_from : (u : Parts) (n : ℕ) → u ≡ (run y.memory t b.total).thread → (rest_of y.memory (run y.memory t b.total) n).n ≡ n → IsPart y k t u p b n (rest_of y.memory (run y.memory t b.total) n)
+  part_from u n is ran =
+      let r : Run = run y.memory t b.total in
+      let j : IsJoined y.memory r (rest_of y.memory r n) (run y.memory t (b.total + n)) = run-joined y.memory t b.total n in
+      record {
+        commits = ap (λ (x : Parts). x.commits) is ∙ run-keeps y.memory t b.total;
+        size = ran;
+        ran = (let a = j.n in let c = h.moved.ran in omega arith);
+        thread = sym j.thread;
+        memory = ap (λ (x : List ℕ). lays x (rest_of y.memory r n).words) h.moved.memory ∙ sym j.memory;
+        loads = ap (λ (ls : List Load). ls ++ (rest_of y.memory r n).loads) h.moved.loads ∙ sym j.loads;
+      }
 
-moved_piece : (log : LogParts) (y : Played) (k : ℕ) (t u : Parts) (p : Sphere) (b : Cursor) (n : ℕ) (r : Run) (devices : Devices) → IsMovedOn log y k t p b → IsPart y k t u p b n r → b.total + n < whole_limit log k t.commits
-    → IsMovedOn log y k t (laid (piece_moved b k r devices p)) (record b { total = b.total + r.n; loads = b.loads ++ r.loads })
-moved_piece log y k t u p b n r devices m part within =
-    let whole : Run = run y.memory t (b.total + n) in
-    let e : run y.memory t (b.total + r.n) ≡ whole = ap (λ (x : ℕ). run y.memory t (b.total + x)) part.size in
-    record {
-      is = m.is;
-      live = m.live;
-      ran = ap (λ (x : Run). x.n) e ∙ part.ran ∙ ap (λ (x : ℕ). b.total + x) (sym part.size);
-      memory = part.memory ∙ ap (λ (x : Run). lays y.memory x.words) (sym e);
-      threads = ap (λ (ts : List Parts). set ts k r.thread) m.threads ∙ set_twice y.threads k _ r.thread ∙ ap (set y.threads k) (part.thread ∙ ap (λ (x : Run). x.thread) (sym e));
-      loads = part.loads ∙ ap (λ (x : Run). x.loads) (sym e);
-      within = (let h = part.size in omega arith);
-    }
+  -- what a chunk of the thread ran is a part of the play's next commit
+  pub part-is : (u : Parts) (n : ℕ) → slice_get p.threads k ≡ Some u → (run p.memory u n).n ≡ n → IsPart y k t u p b n (run p.memory u n)
+  part-is u n there ran =
+      let r : Run = run y.memory t b.total in
+      let is : u ≡ r.thread = (let same : Some u ≡ Some r.thread = sym there ∙ ap (λ (ts : List Parts). slice_get ts k) h.moved.threads ∙ get-set_same y.threads k r.thread t h.moved.is in cc) in
+      let same : rest_of y.memory r n ≡ run p.memory u n = (λ i. run (sym h.moved.memory i) (sym is i) n) in
+      subst (IsPart y k t u p b n) same (part_from u n is (ap (λ (x : Run). x.n) same ∙ ran))
 
--- a piece leaves the sphere in its log's play
-pub piece-reaches : (log : LogParts) (start y : Played) (p : Sphere) (b : Cursor) (k : ℕ) (t u : Parts) (n : ℕ) (r : Run) (devices : Devices) → y ≡ plays log start (position p.progress) → Beside log y p b → b.now ≡ y.now → y.now ≡ Turn k → IsMovedOn log y k t p b
-    → IsPart y k t u p b n r → b.total + n < whole_limit log k t.commits → Reaches log start (laid (piece_moved b k r devices p))
-piece-reaches log start y p b k t u n r devices at_ s now turn m part within =
-    let c : Cursor = record b { total = b.total + r.n; loads = b.loads ++ r.loads } in
-    let q : Sphere = laid (piece_moved b k r devices p) in
-    subst (λ (z : Played). Follows log z q) at_
-    record {
-      cursor = c;
-      role = refl;
-      same_log = s.same_log;
-      progress = s.progress;
-      used = s.used;
-      now = inl now;
-      ended = λ how e. now ∙ e;
-      state = subst (λ (x : Now). StandsAt log y x q c) (sym turn) (t, moved_piece log y k t u p b n r devices m part within);
-    }
+  -- ---- the limit of a part
+
+  -- the instructions of the pieces and the limit of a new part are together the limit of the commit
+  pub part-limit : (z : Numbers) (u : Parts) (limit : ℕ) → u.commits ≡ t.commits → limit ≡ limit_of z.chunk p.role k u → b.total + limit ≡ whole_limit log k t.commits
+  unfolding limit_of
+  part-limit z u limit commits limited =
+      let turn : b.now ≡ Turn k = h.same ∙ h.turn in
+      let l : limit ≡ max 1 (whole_limit log k t.commits - b.total) =
+      limited ∙ ap (λ (r : Role). limit_in r z.chunk k u.commits) h.beside.role
+      ∙ (λ i. max 1 (whole_limit (h.beside.same_log i) k (commits i) - pieces_of (turn i) k b.total))
+      ∙ ap (λ (n : ℕ). max 1 (whole_limit log k t.commits - n)) (pieces_own k b.total)
+      in
+      ap (λ (n : ℕ). b.total + n) l ∙ limit_left b.total (whole_limit log k t.commits) h.moved.within
+
+  -- ---- a piece
+
+  moved_piece : (u : Parts) (n : ℕ) (r : Run) (devices : Devices) → IsPart y k t u p b n r → b.total + n < whole_limit log k t.commits
+      → IsMovedOn log y k t (laid (piece_moved b k r devices p)) (record b { total = b.total + r.n; loads = b.loads ++ r.loads })
+  moved_piece u n r devices part within =
+      let whole : Run = run y.memory t (b.total + n) in
+      let e : run y.memory t (b.total + r.n) ≡ whole = ap (λ (x : ℕ). run y.memory t (b.total + x)) part.size in
+      record {
+        is = h.moved.is;
+        live = h.moved.live;
+        ran = ap (λ (x : Run). x.n) e ∙ part.ran ∙ ap (λ (x : ℕ). b.total + x) (sym part.size);
+        memory = part.memory ∙ ap (λ (x : Run). lays y.memory x.words) (sym e);
+        threads = ap (λ (ts : List Parts). set ts k r.thread) h.moved.threads ∙ set_twice y.threads k _ r.thread ∙ ap (set y.threads k) (part.thread ∙ ap (λ (x : Run). x.thread) (sym e));
+        loads = part.loads ∙ ap (λ (x : Run). x.loads) (sym e);
+        within = (let l = part.size in omega arith);
+      }
+
+  -- a piece leaves the sphere in its log's play
+  pub piece-reaches : (u : Parts) (n : ℕ) (r : Run) (devices : Devices) → IsPart y k t u p b n r → b.total + n < whole_limit log k t.commits → Reaches log start (laid (piece_moved b k r devices p))
+  piece-reaches u n r devices part within =
+      let c : Cursor = record b { total = b.total + r.n; loads = b.loads ++ r.loads } in
+      let q : Sphere = laid (piece_moved b k r devices p) in
+      subst (λ (z : Played). Follows log z q) h.at_
+      record {
+        cursor = c;
+        role = refl;
+        same_log = h.beside.same_log;
+        progress = h.beside.progress;
+        used = h.beside.used;
+        now = inl h.same;
+        ended = λ how e. h.same ∙ e;
+        state = subst (λ (x : Now). StandsAt log y x q c) (sym h.turn) (t, moved_piece u n r devices part within);
+      }

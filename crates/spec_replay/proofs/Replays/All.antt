@@ -29,7 +29,7 @@ move_stands log start z x m i s a fits =
           let there : slice_get x.spheres m.sphere ≡ Some a.sphere = ap (slice_get x.spheres) (sym e) ∙ a.there in
           subst (λ (o : Option Sphere). Stands log start (do_at z x m o) i) (sym there)
           (subst (λ (n : ℕ). Stands log start (do_what z x m.moment m.sphere a.sphere m.what) n) (sym e)
-          (what-stands log start z x m.moment m.sphere a.sphere m.what s there a.reaches (subst (FitsAt z x.devices m) there fits)))
+          (what-stands log start x m.sphere a.sphere s there a.reaches z m.moment m.what (subst (FitsAt z x.devices m) there fits)))
           )
       | inr ne ↦ record { sphere = a.sphere; there = at-away z x m i (slice_get x.spheres m.sphere) ne ∙ a.there; reaches = a.reaches }
     ]

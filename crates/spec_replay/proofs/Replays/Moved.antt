@@ -27,7 +27,7 @@ use Rattle.spec_protocol.proofs.Moves.Transfers.{dma-turn_is}
 use Rattle.spec_replay.specs.Following.{IsMovedOn, StandsAt, EndsWithin, Follows}
 use Rattle.spec_replay.proofs.Commits.Standing.{set_here}
 use Rattle.spec_replay.proofs.Commits.Judging.{alike_same}
-use Rattle.spec_replay.proofs.Commits.Done.{Reaches, Beside, commit-reaches, transfer-reaches}
+use Rattle.spec_replay.proofs.Commits.Done.{Reaches, Beside, HasTurn, commit-reaches, transfer-reaches}
 use Rattle.spec_replay.proofs.Commits.LastParts.{chunk-reaches}
 use Rattle.spec_protocol.proofs.Replays.Pieces.{no_raise}
 
@@ -69,30 +69,9 @@ turn_of_thread p b k role going free =
 pub turn_of_dma : (p : Sphere) (b : Cursor) → p.role ≡ Replay b → is_stopped p.role ≡ false → turn_before_dma p.role ≡ None → b.now ≡ TurnOfDma
 turn_of_dma p b role going free = dma-turn_is b.now (not_over p.role b role going) (ap turn_before_dma (sym role) ∙ free)
 
--- ---- moves
-
--- the sphere i stands in the play
-pub record Stands (log : LogParts) (start : Played) (x : SerialState) (i : ℕ) : Type 0 where
-  pub sphere : Sphere
-  pub there : slice_get x.spheres i ≡ Some sphere
-  pub reaches : Reaches log start sphere
-
-moved_stands : (log : LogParts) (start : Played) (x : SerialState) (i : ℕ) (p : Sphere) (v : MovedSphere) → slice_get x.spheres i ≡ Some p → Reaches log start (laid v) → Stands log start (do_moved x i v) i
-moved_stands log start x i p v is r = record { sphere = laid v; there = get-set_same x.spheres i (laid v) p is; reaches = r }
-
-chunk_stands : (log : LogParts) (start : Played) (z : Numbers) (x : SerialState) (i : ℕ) (p : Sphere) (k : ℕ) (how : How) (n limit : ℕ) (o : Option Parts) → 0 < log.s → slice_get x.spheres i ≡ Some p → Reaches log start p
-    → slice_get p.threads k ≡ o → FitsChunk z p k how n limit o → Stands log start (move_chunk z x i k how n limit p o) i
-unfolding chunk_moved
-chunk_stands log start z x i p k how n limit None s is f there fits = absurd fits
-chunk_stands log start z x i p k how n limit (Some u) s is f there fits =
-    let y : Played = plays log start (position p.progress) in
-    let b : Cursor = f.cursor in
-    let turn : b.now ≡ Turn k = turn_of_thread p b k f.role fits.going fits.turn in
-    let g : Going log y p b (Turn k) = going_at log y p (Turn k) s f (not_over p.role b f.role fits.going) turn in
-    subst (λ (v : MovedSphere). Stands log start (do_moved x i v) i)
-    (sym (ap (λ (r : Role). chunk_in r k (is_piece how) (is_short z.chunk how limit) (run p.memory u n) x.devices p) f.role))
-    (moved_stands log start x i p (replayed_chunk (is_piece how) b k (run p.memory u n) x.devices p) is
-    (chunk-reaches log start y z p b k g.state.0 u how n limit x.devices refl g.beside g.same g.turn g.state.1 there fits))
+-- where it is a thread's, that thread has the turn
+has_turn : (log : LogParts) (start y : Played) (p : Sphere) (b : Cursor) (k : ℕ) → y ≡ plays log start (position p.progress) → (g : Going log y p b (Turn k)) → HasTurn log start y p b k g.state.0
+has_turn log start y p b k at_ g = record { at_ = at_; beside = g.beside; same = g.same; turn = g.turn; moved = g.state.1 }
 
 -- ---- a serial step
 
@@ -122,48 +101,63 @@ serial_reaches log start y p b k u devices at_ g there f =
     let w : LogVerdict = serial_verdict log y.progress y.used k y.threads t y.memory in
     let vw : v ≡ w = (λ i. serial_verdict (g.beside.same_log i) (g.beside.progress i) (g.beside.used i) k (same.1 i) (sym tu i) (same.0 i)) in
     let serial : IsSome (next_kind t y.memory) = subst IsSome (λ i. next_kind (sym tu i) (same.0 i)) f.serial in
-    commit-reaches log start y p b k t (run y.memory t b.total).thread v w devices at_ g.beside g.state
-    record {
-      turn = g.turn;
-      is = m.is;
-      threads = m.threads;
-      verdict = serial_turn log y k t (next_kind t y.memory) serial;
-      alike = rw vw (alike_same p.memory y.memory w same.0);
-    }
+    commit-reaches log start y p b k t (has_turn log start y p b k at_ g) v w devices (serial_turn log y k t (next_kind t y.memory) serial) (rw vw (alike_same p.memory y.memory w same.0))
 
-serial_stands : (log : LogParts) (start : Played) (x : SerialState) (i moment : ℕ) (p : Sphere) (k : ℕ) (o : Option Parts) → 0 < log.s → slice_get x.spheres i ≡ Some p → Reaches log start p
-    → slice_get p.threads k ≡ o → FitsSerial p k o → Stands log start (do_serial x i k moment p o) i
-unfolding serial_moved
-serial_stands log start x i moment p k None s is f there fits = absurd fits
-serial_stands log start x i moment p k (Some u) s is f there fits =
-    let y : Played = plays log start (position p.progress) in
-    let b : Cursor = f.cursor in
-    let turn : b.now ≡ Turn k = turn_of_thread p b k f.role fits.going fits.turn in
-    let g : Going log y p b (Turn k) = going_at log y p (Turn k) s f (not_over p.role b f.role fits.going) turn in
-    subst (λ (v : MovedSphere). Stands log start (do_moved x i v) i)
-    (sym (ap (λ (r : Role). serial_in r k moment u x.devices p) f.role))
-    (moved_stands log start x i p (serial_in (Replay b) k moment u x.devices p) is (serial_reaches log start y p b k u x.devices refl g there fits))
+-- ---- moves
 
--- ---- a DMA
+-- the sphere i stands in the play
+pub record Stands (log : LogParts) (start : Played) (x : SerialState) (i : ℕ) : Type 0 where
+  pub sphere : Sphere
+  pub there : slice_get x.spheres i ≡ Some sphere
+  pub reaches : Reaches log start sphere
 
-dma_stands : (log : LogParts) (start : Played) (x : SerialState) (i : ℕ) (p : Sphere) → 0 < log.s → slice_get x.spheres i ≡ Some p → Reaches log start p → DmaFits x.devices p → Stands log start (do_dma x i (dma_moved x.devices p)) i
-unfolding dma_moved
-dma_stands log start x i p s is f fits =
-    let y : Played = plays log start (position p.progress) in
-    let b : Cursor = f.cursor in
-    let turn : b.now ≡ TurnOfDma = turn_of_dma p b f.role fits.going fits.turn in
-    let g : Going log y p b TurnOfDma = going_at log y p TurnOfDma s f (not_over p.role b f.role fits.going) turn in
-    let v : DmaVerdict = dma_verdict b.log p.progress b.used in
-    subst (λ (o : Option MovedSphere). Stands log start (do_dma x i o) i)
-    (sym (ap (λ (r : Role). dma_in r x.devices p) f.role))
-    (moved_stands log start x i p (dma_by_verdict b v x.devices p) is
-    (transfer-reaches log start y p b v x.devices refl g.beside g.turn g.state (λ j. dma_verdict (sym g.beside.same_log j) (sym g.beside.progress j) (sym g.beside.used j))))
+-- the replayed sphere i, which is p, stands in the play of its log
+module _ (log : LogParts) (start : Played) (x : SerialState) (i : ℕ) (p : Sphere) (s : 0 < log.s) (is : slice_get x.spheres i ≡ Some p) (f : Reaches log start p) where
+  moved_stands : (v : MovedSphere) → Reaches log start (laid v) → Stands log start (do_moved x i v) i
+  moved_stands v r = record { sphere = laid v; there = get-set_same x.spheres i (laid v) p is; reaches = r }
 
--- ---- any move
+  thread_going : (k : ℕ) → is_stopped p.role ≡ false → other_turn (head_of p) k ≡ None → Going log (plays log start (position p.progress)) p f.cursor (Turn k)
+  thread_going k going free =
+      going_at log (plays log start (position p.progress)) p (Turn k) s f (not_over p.role f.cursor f.role going) (turn_of_thread p f.cursor k f.role going free)
 
--- a move of a replayed sphere leaves it in its log's play
-pub what-stands : (log : LogParts) (start : Played) (z : Numbers) (x : SerialState) (moment i : ℕ) (p : Sphere) (what : What) → 0 < log.s → slice_get x.spheres i ≡ Some p → Reaches log start p → FitsWhat z x.devices p what → Stands log start (do_what z x moment i p what) i
-what-stands log start z x moment i p (OfChunk k how n limit) s is f fits = chunk_stands log start z x i p k how n limit (slice_get p.threads k) s is f refl fits
-what-stands log start z x moment i p (OfSerial k) s is f fits = serial_stands log start x i moment p k (slice_get p.threads k) s is f refl fits
-what-stands log start z x moment i p OfDma s is f fits = dma_stands log start x i p s is f fits
-what-stands log start z x moment i p (OfRaise k value) s is f fits = absurd (no_raise p f.cursor (slice_get p.threads k) f.role fits)
+  chunk_stands : (z : Numbers) (k : ℕ) (how : How) (n limit : ℕ) (o : Option Parts) → slice_get p.threads k ≡ o → FitsChunk z p k how n limit o → Stands log start (move_chunk z x i k how n limit p o) i
+  unfolding chunk_moved
+  chunk_stands z k how n limit None there fits = absurd fits
+  chunk_stands z k how n limit (Some u) there fits =
+      let y : Played = plays log start (position p.progress) in
+      let b : Cursor = f.cursor in
+      let g : Going log y p b (Turn k) = thread_going k fits.going fits.turn in
+      subst (λ (v : MovedSphere). Stands log start (do_moved x i v) i)
+      (sym (ap (λ (r : Role). chunk_in r k (is_piece how) (is_short z.chunk how limit) (run p.memory u n) x.devices p) f.role))
+      (moved_stands (replayed_chunk (is_piece how) b k (run p.memory u n) x.devices p)
+      (chunk-reaches log start y p b k g.state.0 (has_turn log start y p b k refl g) z u how n limit x.devices there fits))
+
+  serial_stands : (moment k : ℕ) (o : Option Parts) → slice_get p.threads k ≡ o → FitsSerial p k o → Stands log start (do_serial x i k moment p o) i
+  unfolding serial_moved
+  serial_stands moment k None there fits = absurd fits
+  serial_stands moment k (Some u) there fits =
+      let y : Played = plays log start (position p.progress) in
+      let b : Cursor = f.cursor in
+      subst (λ (v : MovedSphere). Stands log start (do_moved x i v) i)
+      (sym (ap (λ (r : Role). serial_in r k moment u x.devices p) f.role))
+      (moved_stands (serial_in (Replay b) k moment u x.devices p) (serial_reaches log start y p b k u x.devices refl (thread_going k fits.going fits.turn) there fits))
+
+  dma_stands : DmaFits x.devices p → Stands log start (do_dma x i (dma_moved x.devices p)) i
+  unfolding dma_moved
+  dma_stands fits =
+      let y : Played = plays log start (position p.progress) in
+      let b : Cursor = f.cursor in
+      let turn : b.now ≡ TurnOfDma = turn_of_dma p b f.role fits.going fits.turn in
+      let g : Going log y p b TurnOfDma = going_at log y p TurnOfDma s f (not_over p.role b f.role fits.going) turn in
+      let v : DmaVerdict = dma_verdict b.log p.progress b.used in
+      subst (λ (o : Option MovedSphere). Stands log start (do_dma x i o) i)
+      (sym (ap (λ (r : Role). dma_in r x.devices p) f.role))
+      (moved_stands (dma_by_verdict b v x.devices p)
+      (transfer-reaches log start y p b v x.devices refl g.beside g.turn g.state (λ j. dma_verdict (sym g.beside.same_log j) (sym g.beside.progress j) (sym g.beside.used j))))
+
+  -- a move of a replayed sphere leaves it in its log's play
+  pub what-stands : (z : Numbers) (moment : ℕ) (what : What) → FitsWhat z x.devices p what → Stands log start (do_what z x moment i p what) i
+  what-stands z moment (OfChunk k how n limit) fits = chunk_stands z k how n limit (slice_get p.threads k) refl fits
+  what-stands z moment (OfSerial k) fits = serial_stands moment k (slice_get p.threads k) refl fits
+  what-stands z moment OfDma fits = dma_stands fits
+  what-stands z moment (OfRaise k value) fits = absurd (no_raise p f.cursor (slice_get p.threads k) f.role fits)
