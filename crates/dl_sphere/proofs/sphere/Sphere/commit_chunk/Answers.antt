@@ -12,7 +12,6 @@ use Rattle.spec_protocol.specs.Spheres.{Cursor, Replay, Sphere}
 use Rattle.dl_replay.specs.Replaying.{Replaying, commits_of, cursor_of}
 use Rattle.dl_sphere.specs.declared.part.Part.{Part}
 use Rattle.dl_sphere.specs.Moving.{IsPart, IsPartIn}
-use Rattle.dl_sphere.specs.Replayed.{before}
 use Rattle.spec_protocol.proofs.Logs.Growing.{pushed_length}
 use Rattle.dl_sphere.specs.Roles.{keeping_of, role_in, IsReplayed, IsSphere}
 use Rattle.dl_sphere.specs.Inside.{sphere_in, sphere_with}
@@ -54,7 +53,7 @@ invariant_of-self-2 g c =
     }
     in
     subst (IsSphere a.standard q) (sym c.in_ok-keep.ensures.noted)
-    (commits_stand (sphere_in a) q k t u [] commit a.standard c.is_short-short.result None (keeping_of a.part) (live_part a.part c.in_default.not-Replayed) d h)
+    (commits_stand (sphere_in a) q k t u [] commit d a.standard c.is_short-short.result None (keeping_of a.part) (live_part a.part c.in_default.not-Replayed) h)
 
 pub invariant_of-self-then-is_piece : goal.invariant_of-self-then-is_piece
 invariant_of-self-then-is_piece g c =
@@ -110,8 +109,8 @@ invariant_of-self-in-Some g c =
     let kept : IsReplayed (sphere_in a) r.player = replayed a r c.in-Replayed.is c.self.invariant in
     let said = rw c.in-Some.is at (c.in_ok-left.ensures.judged (sphere_in a).progress kept.agrees refl) in
     let n = c.commit_last.new in
-    stands_left a.standard a.memory a.threads a.commits.items a.last a.request (role_in a.part) (role_in (Part.Replayed n.replay)) r.player r.loads.items k
-    (chunk_verdict b.log (sphere_in a).progress b.used k (joined b c.args.chunk.now.chunk.done)) c.in-Some.why n.replay.player n.replay.loads.items n.threads n.request n.commits.items said
+    stands_left (sphere_in a) r.player r.loads.items n.replay.player n.replay.loads.items n.threads n.request n.commits.items a.standard k
+    (chunk_verdict b.log (sphere_in a).progress b.used k (joined b c.args.chunk.now.chunk.done)) c.in-Some.why said
     (stands_replayed a r c.in-Replayed.is c.self.invariant)
 
 pub invariant_of-self-in-Replayed : goal.invariant_of-self-in-Replayed
@@ -123,8 +122,8 @@ invariant_of-self-in-Replayed g c =
     let kept : IsReplayed (sphere_in a) r.player = replayed a r c.in-Replayed.is c.self.invariant in
     let said = rw c.in_default-left.is at (c.in_ok-left.ensures.judged (sphere_in a).progress kept.agrees refl) in
     let n = c.commit_last.new in
-    stands_granted a.standard a.memory a.threads a.commits.items a.last a.request (role_in a.part) (role_in (Part.Replayed n.replay)) r.player r.loads.items k
-    (chunk_verdict b.log (sphere_in a).progress b.used k (joined b c.args.chunk.now.chunk.done)) n.replay.player n.replay.loads.items n.threads n.request n.commits.items
+    stands_granted (sphere_in a) r.player r.loads.items n.replay.player n.replay.loads.items n.threads n.request n.commits.items a.standard k
+    (chunk_verdict b.log (sphere_in a).progress b.used k (joined b c.args.chunk.now.chunk.done))
     (subst (λ x. x ≤ 15) c.len.ensures.value c.len.ensures.few) said (stands_replayed a r c.in-Replayed.is c.self.invariant)
 
 pub returns-in-Replayed-clause-ok : goal.returns-in-Replayed-clause-ok
@@ -147,7 +146,7 @@ returns-in-Replayed-clause-ok g c d =
     in
     let short : Bool = is_short a.standard how ch.limit in
     let whole : false ≡ is_piece how = sym c.if-is_piece.false ∙ c.is_piece.ensures how c.requires.1.1.0.closed in
-    granted a.memory a.threads a.commits.items a.last a.request r.player r.loads.items k v d n.replay.player n.replay.loads.items n.threads n.request n.commits.items c.in_ok-words.words.words words said
+    granted (sphere_in a) r.player r.loads.items n.replay.player n.replay.loads.items n.threads n.request n.commits.items k v d c.in_ok-words.words.words words said
     ∙ ap (λ (x : Bool). chunk_moved k x short run d (sphere_with a.memory a.threads a.commits.items a.last a.request (Replay b))) whole
     ∙ ap (λ (x : Part). chunk_moved k (is_piece how) short run d (sphere_with a.memory a.threads a.commits.items a.last a.request (role_in x))) (sym c.in-Replayed.is)
     ∙ ap (λ (x : SizedSphere). chunk_moved k (is_piece how) (is_short x.standard how ch.limit) run d x.sphere) c.self.view_is
@@ -163,7 +162,7 @@ count-requires g c =
     let said = rw c.in-Some.is at (c.in_ok-left.ensures.judged p kept.agrees refl) in
     let n = c.commit_last.new in
     let v = chunk_verdict b.log p b.used k (joined b c.args.chunk.now.chunk.done) in
-    let same : length n.commits.items ≡ length a.commits.items = left_commits p k (before r a.threads a.request a.commits.items) v c.in-Some.why n.replay.player n.replay.loads.items n.threads n.request n.commits.items said in
+    let same : length n.commits.items ≡ length a.commits.items = left_commits (sphere_in a) r.player r.loads.items n.replay.player n.replay.loads.items n.threads n.request n.commits.items k v c.in-Some.why said in
     let few : length a.commits.items < 2 ^ 24 =
     subst (λ n. n < 2 ^ 24) (sym (ap (λ (s : SizedSphere). length s.sphere.progress.commits) c.self.view_is)) c.requires.1.1.1.0
     in
@@ -189,7 +188,7 @@ returns-in-Some-clause-ok g c d =
     let whole : false ≡ is_piece how = sym c.if-is_piece.false ∙ c.is_piece.ensures how c.requires.1.1.0.closed in
     let len : c.count.result ≡ length n.commits.items = c.count.ensures ∙ ap length c.deref.ensures.value in
     ap (λ m. record { outcome = Diverged m c.in-Some.why; sphere = sphere_with a.memory n.threads n.commits.items a.last n.request (Replay (cursor_of n.replay.player n.replay.loads.items)); words = []; devices = d }) len
-    ∙ left a.memory a.threads a.commits.items a.last a.request r.player r.loads.items k v d c.in-Some.why n.replay.player n.replay.loads.items n.threads n.request n.commits.items kept.agrees.done said
+    ∙ left (sphere_in a) r.player r.loads.items n.replay.player n.replay.loads.items n.threads n.request n.commits.items k v d c.in-Some.why kept.agrees.done said
     ∙ ap (λ (x : Bool). chunk_moved k x short run d (sphere_with a.memory a.threads a.commits.items a.last a.request (Replay b))) whole
     ∙ ap (λ (x : Part). chunk_moved k (is_piece how) short run d (sphere_with a.memory a.threads a.commits.items a.last a.request (role_in x))) (sym c.in-Replayed.is)
     ∙ ap (λ (x : SizedSphere). chunk_moved k (is_piece how) (is_short x.standard how ch.limit) run d x.sphere) c.self.view_is
