@@ -16,7 +16,7 @@ end_chunk-requires-clause-commits c =
     let k = c.args.last.thread in
     let s = c.args.last.state.now in
     let t = c.thread_at-found.result in
-    c.requires.commits ∙ sym (same_commits ts k s t c.thread_at-found.ensures.value (c.requires.same t c.thread_at-found.ensures.value)) ∙ sym (ap commits_of c.set.ensures)
+    c.requires.commits ∙ sym (same_commits ts k s t c.thread_at-found.ensures.thread (c.requires.same t c.thread_at-found.ensures.thread)) ∙ sym (ap commits_of c.set.ensures)
 
 pub returns-in-Ok-Went-clause-judged : goal.returns-in-Ok-Went-clause-judged
 returns-in-Ok-Went-clause-judged c p r a q thread n whole =
@@ -58,7 +58,7 @@ returns-in-Ok-Diverged-clause-judged c p r a q thread n whole =
     let said = rw c.in-Ok-Diverged.field-0-is at (rw c.in-Ok-Diverged.is at (c.end_chunk.ensures.chunk p ts r a q run)) in
     let left = (rw c.in-Ok-Diverged.is at (c.end_chunk.ensures.threads_left why)) c.in-Ok-Diverged.field-0-is in
     let back : c.set-in-Ok-Diverged.new.self ≡ ts =
-    c.set-in-Ok-Diverged.ensures ∙ ap (λ xs. slice_set xs k found) (left ∙ c.set.ensures) ∙ put_back ts k c.args.last.state.now found c.thread_at-found.ensures.value
+    c.set-in-Ok-Diverged.ensures ∙ ap (λ xs. slice_set xs k found) (left ∙ c.set.ensures) ∙ put_back ts k c.args.last.state.now found c.thread_at-found.ensures.thread
     in
     (λ i. record {
       why = Some why;
@@ -77,4 +77,4 @@ returns-in-Err-clause-threads_still c =
     let found = c.thread_at-found.result in
     c.set-in-Err.ensures
     ∙ ap (λ xs. slice_set xs k found) ((rw c.in-Err.is at c.end_chunk.ensures.threads_still) ∙ c.set.ensures)
-    ∙ put_back c.args.threads.now k c.args.last.state.now found c.thread_at-found.ensures.value
+    ∙ put_back c.args.threads.now k c.args.last.state.now found c.thread_at-found.ensures.thread

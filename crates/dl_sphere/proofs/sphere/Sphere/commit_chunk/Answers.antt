@@ -1,5 +1,6 @@
 use Rattle.std.proofs.Common.{◌≡◌, ◌+◌, ◌^◌, ◌<◌, ◌≤◌, Bool, false, [], length, Some, None, sym, ap, ◌∙◌, subst, refl, set, length-set, append-nil, arith}
 use Rattle.std.specs.Prelude.{slice_get}
+use Rattle.std.proofs.lemmas.Option.{slice_get_within}
 use Rattle.spec_isa.specs.declared.thread.Parts.{Parts}
 use Rattle.dl_entry.specs.declared.Commit.{Commit}
 use Rattle.spec_log.specs.Log.{IsLog}
@@ -32,12 +33,12 @@ invariant_of-self-2 g c =
     let h = c.self.invariant in
     let q : Sphere = sphere_with a.memory c.set.new.self c.keep.new.commits.items (Some k) a.request (role_in c.keep.new.part) in
     let start : slice_get c.args.self.now.sphere.threads k ≡ Some t =
-    sym (ap (λ (v : SizedSphere). slice_get v.sphere.threads k) c.self.view_is) ∙ c.thread_at-after.ensures.value
+    sym (ap (λ (v : SizedSphere). slice_get v.sphere.threads k) c.self.view_is) ∙ c.thread_at-after.ensures.thread
     in
     let d : Commits (sphere_in a) q k t u [] commit =
     record {
-      start = c.thread_at-after.ensures.value;
-      within = c.thread_at-after.ensures.few;
+      start = c.thread_at-after.ensures.thread;
+      within = let inside = slice_get_within a.threads k t c.thread_at-after.ensures.thread in let few = c.thread_at-after.ensures.few in omega arith;
       threads = c.set.ensures ∙ sym (append-nil (set a.threads k u));
       few =
           let n : length c.set.new.self ≡ length a.threads = ap length c.set.ensures ∙ length-set a.threads k u in
@@ -66,7 +67,7 @@ invariant_of-self-then-is_piece g c =
     let kept : IsReplayed (sphere_in a) r.player = replayed a r c.in-Replayed.is h in
     let e = c.in_ok-commit_piece.ensures in
     let start : slice_get c.args.self.now.sphere.threads k ≡ Some t =
-    sym (ap (λ (v : SizedSphere). slice_get v.sphere.threads k) c.self.view_is) ∙ c.thread_at-after.ensures.value
+    sym (ap (λ (v : SizedSphere). slice_get v.sphere.threads k) c.self.view_is) ∙ c.thread_at-after.ensures.thread
     in
     let same : s.commits ≡ t.commits = ap (λ (v : Parts). v.commits) c.state-state.ensures ∙ c.requires.1.1.0.commits t start in
     record {
@@ -84,7 +85,7 @@ invariant_of-self-then-is_piece g c =
         commits =
             ap (λ (x : Replaying). x.commits) e.replay
             ∙ kept.commits
-            ∙ sym (same_commits a.threads k s t c.thread_at-after.ensures.value same)
+            ∙ sym (same_commits a.threads k s t c.thread_at-after.ensures.thread same)
             ∙ sym (ap commits_of e.threads);
       };
     }
