@@ -2,59 +2,29 @@
 use Rattle.std.proofs.Common.{◌≡◌, ◌≢◌, ℕ, ◌<◌, ◌^◌, true, false, List, [], ◌∷◌, ◌++◌, length, inl, inr, Option, Some, None, refl, sym, ap, ◌∙◌, subst, arith}
 use Rattle.std.specs.Prelude.{slice_get}
 use Rattle.std.proofs.lemmas.Bool.{true≢false, cases_eq}
-use Rattle.spec_isa.specs.declared.thread.Parts.{Parts}
 use Rattle.spec_play.specs.Progress.{position}
-use Rattle.spec_engine.specs.declared.answers.How.{How}
 use Rattle.spec_engine.specs.Flights.{Flight}
 use Rattle.spec_protocol.specs.declared.event.Event.{Event}
 use Rattle.spec_protocol.specs.Spheres.{Sphere}
-use Rattle.spec_protocol.specs.Commits.{MovedSphere, dma_moved}
 use Rattle.spec_protocol.specs.Placing.{replays}
-use Rattle.spec_protocol.specs.World.{Numbers, What, OfChunk, OfSerial, OfDma, OfRaise, Move, World, sphere_at}
+use Rattle.spec_protocol.specs.World.{Numbers, Move, World, sphere_at}
 use Rattle.spec_protocol.specs.Machine.{SphereSetup, Setup, world_of, happens}
-use Rattle.spec_protocol.specs.Serial.{SerialState, do_serial, do_dma, do_raise}
+use Rattle.spec_protocol.specs.Serial.{SerialState}
 use Rattle.spec_protocol.specs.Shown.{shown, shown_of}
-use Rattle.spec_protocol.specs.Moves.{move_chunk, do_what, do_at, do_move, do_if}
+use Rattle.spec_protocol.specs.Moves.{do_move, do_if}
 use Rattle.spec_protocol.specs.Promises.{IsSetup, after}
 use Rattle.spec_protocol.proofs.Invariants.Preserved.{shown-get}
-use Rattle.spec_protocol.proofs.Moves.Granted.{get-set_other}
+use Rattle.spec_protocol.proofs.Moves.Elsewhere.{at-away}
 use Rattle.spec_protocol.proofs.Invariants.Schedules.{happens-preserved, start-good, after-good, sizes_kept}
 use Rattle.spec_finishing.specs.Ending.{OfReplay}
 use Rattle.spec_finishing.proofs.Ending.Knowing.{after-event, kinds_after, there_is}
 use Rattle.spec_finishing.proofs.Ending.KindsKept.{is_replayed, kind-at}
 use Rattle.dl_machine.specs.Ready.{HasRoom}
 
--- ---- a move leaves the other spheres
-
-chunk_others : (z : Numbers) (x : SerialState) (i j k : ℕ) (how : How) (n limit : ℕ) (p : Sphere) (o : Option Parts) → j ≢ i → slice_get (move_chunk z x i k how n limit p o).spheres j ≡ slice_get x.spheres j
-chunk_others z x i j k how n limit p None ne = refl
-chunk_others z x i j k how n limit p (Some t) ne = get-set_other x.spheres i j _ ne
-
-serial_others : (x : SerialState) (i j k moment : ℕ) (p : Sphere) (o : Option Parts) → j ≢ i → slice_get (do_serial x i k moment p o).spheres j ≡ slice_get x.spheres j
-serial_others x i j k moment p None ne = refl
-serial_others x i j k moment p (Some t) ne = get-set_other x.spheres i j _ ne
-
-dma_others : (x : SerialState) (i j : ℕ) (o : Option MovedSphere) → j ≢ i → slice_get (do_dma x i o).spheres j ≡ slice_get x.spheres j
-dma_others x i j None ne = refl
-dma_others x i j (Some v) ne = get-set_other x.spheres i j _ ne
-
-raise_others : (x : SerialState) (i j k value : ℕ) (p : Sphere) (o : Option Parts) → j ≢ i → slice_get (do_raise x i k value p o).spheres j ≡ slice_get x.spheres j
-raise_others x i j k value p None ne = refl
-raise_others x i j k value p (Some t) ne = get-set_other x.spheres i j _ ne
-
-what_others : (z : Numbers) (x : SerialState) (moment i j : ℕ) (p : Sphere) (a : What) → j ≢ i → slice_get (do_what z x moment i p a).spheres j ≡ slice_get x.spheres j
-what_others z x moment i j p (OfChunk k how n limit) ne = chunk_others z x i j k how n limit p (slice_get p.threads k) ne
-what_others z x moment i j p (OfSerial k) ne = serial_others x i j k moment p (slice_get p.threads k) ne
-what_others z x moment i j p OfDma ne = dma_others x i j (dma_moved x.devices p) ne
-what_others z x moment i j p (OfRaise k value) ne = raise_others x i j k value p (slice_get p.threads k) ne
-
-at_others : (z : Numbers) (x : SerialState) (m : Move) (j : ℕ) (o : Option Sphere) → j ≢ m.sphere → slice_get (do_at z x m o).spheres j ≡ slice_get x.spheres j
-at_others z x m j None ne = refl
-at_others z x m j (Some p) ne = what_others z x m.moment m.sphere j p m.what ne
-
+-- a move leaves the other spheres
 move_others : (z : Numbers) (x : SerialState) (m : Move) (j : ℕ) → j ≢ m.sphere → slice_get (do_move z x m).spheres j ≡ slice_get x.spheres j
 unfolding do_move
-move_others z x m j ne = at_others z x m j (slice_get x.spheres m.sphere) ne
+move_others z x m j ne = at-away z x m j (slice_get x.spheres m.sphere) ne
 
 -- ---- a sphere that is not replayed
 

@@ -64,34 +64,35 @@ continued (Err fault) next y e = cc
 length-assoc : (a b c : List ℕ) → length ((a ++ b) ++ c) ≡ length (a ++ (b ++ c))
 length-assoc a b c = ap length (append_assoc a b c)
 
--- what stands behind what was found
-found_rest : {X : Type 0} (bytes_of : X → List ℕ) (good : X → Type 0) (before bytes : List ℕ) (x : X) (after : ℕ) (f : Found bytes_of good before bytes x after)
-    → All IsByte bytes → All IsByte f.rest
-found_rest bytes_of good before bytes x after f are =
-    subst (λ (z : List ℕ). All IsByte z)
-    (ap (drop (length (bytes_of x))) f.split ∙ drop_at (bytes_of x) f.rest (length (bytes_of x)) refl)
-    (All-drop IsByte (length (bytes_of x)) bytes are)
+-- Before these bytes stand others, and of a value is known how its bytes are written and that it is good: the value x was
+-- read of these bytes, up to a place.
+module _ {X : Type 0} (bytes_of : X → List ℕ) (good : X → Type 0) (before bytes : List ℕ) (x : X) (after : ℕ) where
+  -- what stands behind what was found
+  found_rest : (f : Found bytes_of good before bytes x after) → All IsByte bytes → All IsByte f.rest
+  found_rest f are =
+      subst (λ (z : List ℕ). All IsByte z)
+      (ap (drop (length (bytes_of x))) f.split ∙ drop_at (bytes_of x) f.rest (length (bytes_of x)) refl)
+      (All-drop IsByte (length (bytes_of x)) bytes are)
 
--- what was found is found also with more known of it
-pub found_as : {X : Type 0} (bytes_of : X → List ℕ) (good : X → Type 0) (before bytes : List ℕ) (x : X) (after : ℕ) (as_good : X → Type 0) (y : X) (end : ℕ)
-    → Found bytes_of good before bytes x after → (good x → as_good x) → x ≡ y → after ≡ end → Found bytes_of as_good before bytes y end
-found_as bytes_of good before bytes x after as_good y end f more same there =
-    record {
-      is_good = subst as_good same (more f.is_good);
-      rest = f.rest;
-      split = rw (← same) f.split;
-      here = rw (← same, ← there) f.here;
-    }
+  -- what was found is found also with more known of it
+  pub found_as : (as_good : X → Type 0) (y : X) (end : ℕ)
+      → Found bytes_of good before bytes x after → (good x → as_good x) → x ≡ y → after ≡ end → Found bytes_of as_good before bytes y end
+  found_as as_good y end f more same there =
+      record {
+        is_good = subst as_good same (more f.is_good);
+        rest = f.rest;
+        split = rw (← same) f.split;
+        here = rw (← same, ← there) f.here;
+      }
 
--- where the next reader goes on
-found_next : {X Y : Type 0} (next : Reader Y) (bytes_of : X → List ℕ) (good : X → Type 0) (before bytes : List ℕ) (x : X) (middle : ℕ) (result : Result (Read Y) ParseError)
-    (f : Found bytes_of good before bytes x middle)
-    → next (before ++ bytes) middle ≡ result → next ((before ++ bytes_of x) ++ f.rest) (length (before ++ bytes_of x)) ≡ result
-found_next next bytes_of good before bytes x middle result f e =
-    let same : before ++ bytes ≡ (before ++ bytes_of x) ++ f.rest =
-    ap (λ (z : List ℕ). before ++ z) f.split ∙ sym (append_assoc before (bytes_of x) f.rest) in
-    subst (λ (z : List ℕ). next z (length (before ++ bytes_of x)) ≡ result) same
-    (subst (λ (at : ℕ). next (before ++ bytes) at ≡ result) f.here e)
+  -- where the next reader goes on
+  found_next : {Y : Type 0} (next : Reader Y) (result : Result (Read Y) ParseError) (f : Found bytes_of good before bytes x after)
+      → next (before ++ bytes) after ≡ result → next ((before ++ bytes_of x) ++ f.rest) (length (before ++ bytes_of x)) ≡ result
+  found_next next result f e =
+      let same : before ++ bytes ≡ (before ++ bytes_of x) ++ f.rest =
+      ap (λ (z : List ℕ). before ++ z) f.split ∙ sym (append_assoc before (bytes_of x) f.rest) in
+      subst (λ (z : List ℕ). next z (length (before ++ bytes_of x)) ≡ result) same
+      (subst (λ (at : ℕ). next (before ++ bytes) at ≡ result) f.here e)
 
 -- one reader behind another: a whole is a first value and the rest
 pub Codes-then : {X Y : Type 0} (first : Reader X) (next : X → Reader Y) (bytes_of : X → List ℕ) (good : X → Type 0)
@@ -113,7 +114,7 @@ Codes-then first next bytes_of good rest_of rest_good all_of all_good codes rest
           let s = continued (first (before ++ bytes) (length before)) (λ x at. next x (before ++ bytes) at) (record { value = y; after = after }) e in
           let x = s.0.value in
           let f = codes.finds before bytes x s.0.after are s.1 in
-          let e2 = found_next (next x) bytes_of good before bytes x s.0.after (Ok (record { value = y; after = after })) f s.2 in
+          let e2 = found_next bytes_of good before bytes x s.0.after (next x) (Ok (record { value = y; after = after })) f s.2 in
           let are_rest = found_rest bytes_of good before bytes x s.0.after f are in
           let r = (rests x f.is_good).finds (before ++ bytes_of x) f.rest y after are_rest e2 in
           let j = joins x y f.is_good r.is_good in

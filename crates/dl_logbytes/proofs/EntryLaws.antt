@@ -11,42 +11,46 @@ use Rattle.spec_log.specs.Reading.{Reader, read, gives, raw, number, field, any,
 use Rattle.dl_logbytes.proofs.ByteNumbers.{IsByte}
 use Rattle.dl_logbytes.proofs.Codes.{Codes, Codes-as, Codes-read, Codes-gives, Codes-number, Codes-raw}
 
+-- a part of the values X: how it stands in them, how it is read and written, and which are good
+record Part (X A : Type 0) : Type 1 where
+  of : X → A
+  reader : Reader A
+  bytes_of : A → List ℕ
+  good : A → Type 0
+  codes : Codes reader bytes_of good
+
 -- reading a value of two parts, one behind the other, undoes writing it
-pub Codes-two : {A B X : Type 0} (first : Reader A) (second : Reader B) (make : A → B → X) (a_of : X → A) (b_of : X → B)
-    (a_bytes : A → List ℕ) (b_bytes : B → List ℕ) (a_good : A → Type 0) (b_good : B → Type 0)
-    → Codes first a_bytes a_good → Codes second b_bytes b_good
-    → ((a : A) (b : B) → (a_of (make a b) ≡ a) × (b_of (make a b) ≡ b)) → ((x : X) → x ≡ make (a_of x) (b_of x))
-    → Codes (read first (λ a. read second (λ b. gives (make a b)))) (λ x. a_bytes (a_of x) ++ b_bytes (b_of x)) (λ x. a_good (a_of x) × b_good (b_of x))
-Codes-two {A} {B} {X} first second make a_of b_of a_bytes b_bytes a_good b_good codes_a codes_b parts whole =
-    Codes-read first (λ a. read second (λ b. gives (make a b))) a_of a_bytes a_good (λ x. b_bytes (b_of x)) (λ x. b_good (b_of x)) codes_a
-    (λ a g. Codes-as (read second (λ b. gives (make a b))) (λ x. b_bytes (b_of x) ++ []) (λ x. b_bytes (b_of x)) (λ x. b_good (b_of x) × (a_of x ≡ a)) _
-    (Codes-read second (λ b. gives (make a b)) b_of b_bytes b_good (λ x. []) (λ x. a_of x ≡ a) codes_b
-    (λ b h. Codes-gives (make a b) (λ x. (b_of x ≡ b) × (a_of x ≡ a)) ((parts a b).1, (parts a b).0)
-    (λ x e. whole x ∙ (ap (λ (z : A). make z (b_of x)) e.1 ∙ ap (make a) e.0))))
-    (λ x h. append-nil (b_bytes (b_of x))) (λ x h. (h.1, h.0)) (λ x h. (h.1, h.0)))
+Codes-two : {A B X : Type 0} (a : Part X A) (b : Part X B) (make : A → B → X)
+    → ((x : A) (y : B) → (a.of (make x y) ≡ x) × (b.of (make x y) ≡ y)) → ((z : X) → z ≡ make (a.of z) (b.of z))
+    → Codes (read a.reader (λ x. read b.reader (λ y. gives (make x y)))) (λ z. a.bytes_of (a.of z) ++ b.bytes_of (b.of z)) (λ z. a.good (a.of z) × b.good (b.of z))
+Codes-two {A} {B} {X} a b make parts whole =
+    Codes-read a.reader (λ x. read b.reader (λ y. gives (make x y))) a.of a.bytes_of a.good (λ z. b.bytes_of (b.of z)) (λ z. b.good (b.of z)) a.codes
+    (λ x g. Codes-as (read b.reader (λ y. gives (make x y))) (λ z. b.bytes_of (b.of z) ++ []) (λ z. b.bytes_of (b.of z)) (λ z. b.good (b.of z) × (a.of z ≡ x)) _
+    (Codes-read b.reader (λ y. gives (make x y)) b.of b.bytes_of b.good (λ z. []) (λ z. a.of z ≡ x) b.codes
+    (λ y h. Codes-gives (make x y) (λ z. (b.of z ≡ y) × (a.of z ≡ x)) ((parts x y).1, (parts x y).0)
+    (λ z e. whole z ∙ (ap (λ (w : A). make w (b.of z)) e.1 ∙ ap (make x) e.0))))
+    (λ z h. append-nil (b.bytes_of (b.of z))) (λ z h. (h.1, h.0)) (λ z h. (h.1, h.0)))
 
 -- reading a value of three parts, one behind the other, undoes writing it
-pub Codes-three : {A B C X : Type 0} (first : Reader A) (second : Reader B) (third : Reader C) (make : A → B → C → X) (a_of : X → A) (b_of : X → B) (c_of : X → C)
-    (a_bytes : A → List ℕ) (b_bytes : B → List ℕ) (c_bytes : C → List ℕ) (a_good : A → Type 0) (b_good : B → Type 0) (c_good : C → Type 0)
-    → Codes first a_bytes a_good → Codes second b_bytes b_good → Codes third c_bytes c_good
-    → ((a : A) (b : B) (c : C) → (a_of (make a b c) ≡ a) × (b_of (make a b c) ≡ b) × (c_of (make a b c) ≡ c))
-    → ((x : X) → x ≡ make (a_of x) (b_of x) (c_of x))
-    → Codes (read first (λ a. read second (λ b. read third (λ c. gives (make a b c)))))
-    (λ x. a_bytes (a_of x) ++ b_bytes (b_of x) ++ c_bytes (c_of x)) (λ x. a_good (a_of x) × b_good (b_of x) × c_good (c_of x))
-Codes-three {A} {B} {C} {X} first second third make a_of b_of c_of a_bytes b_bytes c_bytes a_good b_good c_good codes_a codes_b codes_c parts whole =
-    Codes-as _ (λ x. a_bytes (a_of x) ++ (b_bytes (b_of x) ++ (c_bytes (c_of x) ++ []))) _ (λ x. a_good (a_of x) × (b_good (b_of x) × c_good (c_of x))) _
-    (Codes-read first (λ a. read second (λ b. read third (λ c. gives (make a b c)))) a_of a_bytes a_good
-    (λ x. b_bytes (b_of x) ++ (c_bytes (c_of x) ++ [])) (λ x. b_good (b_of x) × c_good (c_of x)) codes_a
-    (λ a g. Codes-as (read second (λ b. read third (λ c. gives (make a b c)))) _ _ (λ x. b_good (b_of x) × ((a_of x ≡ a) × c_good (c_of x))) _
-    (Codes-read second (λ b. read third (λ c. gives (make a b c))) b_of b_bytes b_good (λ x. c_bytes (c_of x) ++ []) (λ x. (a_of x ≡ a) × c_good (c_of x)) codes_b
-    (λ b h. Codes-as (read third (λ c. gives (make a b c))) _ _ (λ x. c_good (c_of x) × ((a_of x ≡ a) × (b_of x ≡ b))) _
-    (Codes-read third (λ c. gives (make a b c)) c_of c_bytes c_good (λ x. []) (λ x. (a_of x ≡ a) × (b_of x ≡ b)) codes_c
-    (λ c i. Codes-gives (make a b c) (λ x. (c_of x ≡ c) × ((a_of x ≡ a) × (b_of x ≡ b))) ((parts a b c).2, ((parts a b c).0, (parts a b c).1))
-    (λ x e. whole x ∙ (ap (λ (z : A). make z (b_of x) (c_of x)) e.1.0 ∙ (ap (λ (z : B). make a z (c_of x)) e.1.1 ∙ ap (make a b) e.0)))))
-    (λ x j. refl) (λ x j. (j.1.1, (j.1.0, j.0))) (λ x j. (j.1.1, (j.1.0, j.0)))))
-    (λ x j. refl) (λ x j. (j.1.0, (j.0, j.1.1))) (λ x j. (j.1.0, (j.0, j.1.1)))))
-    (λ x j. rw (append-nil (c_bytes (c_of x))) (sym (append_assoc (a_bytes (a_of x)) (b_bytes (b_of x)) (c_bytes (c_of x)))))
-    (λ x j. (j.0, j.1.0, j.1.1)) (λ x j. (j.0, (j.1, j.2)))
+Codes-three : {A B C X : Type 0} (a : Part X A) (b : Part X B) (c : Part X C) (make : A → B → C → X)
+    → ((x : A) (y : B) (z : C) → (a.of (make x y z) ≡ x) × (b.of (make x y z) ≡ y) × (c.of (make x y z) ≡ z))
+    → ((v : X) → v ≡ make (a.of v) (b.of v) (c.of v))
+    → Codes (read a.reader (λ x. read b.reader (λ y. read c.reader (λ z. gives (make x y z)))))
+    (λ v. a.bytes_of (a.of v) ++ b.bytes_of (b.of v) ++ c.bytes_of (c.of v)) (λ v. a.good (a.of v) × b.good (b.of v) × c.good (c.of v))
+Codes-three {A} {B} {C} {X} a b c make parts whole =
+    Codes-as _ (λ v. a.bytes_of (a.of v) ++ (b.bytes_of (b.of v) ++ (c.bytes_of (c.of v) ++ []))) _ (λ v. a.good (a.of v) × (b.good (b.of v) × c.good (c.of v))) _
+    (Codes-read a.reader (λ x. read b.reader (λ y. read c.reader (λ z. gives (make x y z)))) a.of a.bytes_of a.good
+    (λ v. b.bytes_of (b.of v) ++ (c.bytes_of (c.of v) ++ [])) (λ v. b.good (b.of v) × c.good (c.of v)) a.codes
+    (λ x g. Codes-as (read b.reader (λ y. read c.reader (λ z. gives (make x y z)))) _ _ (λ v. b.good (b.of v) × ((a.of v ≡ x) × c.good (c.of v))) _
+    (Codes-read b.reader (λ y. read c.reader (λ z. gives (make x y z))) b.of b.bytes_of b.good (λ v. c.bytes_of (c.of v) ++ []) (λ v. (a.of v ≡ x) × c.good (c.of v)) b.codes
+    (λ y h. Codes-as (read c.reader (λ z. gives (make x y z))) _ _ (λ v. c.good (c.of v) × ((a.of v ≡ x) × (b.of v ≡ y))) _
+    (Codes-read c.reader (λ z. gives (make x y z)) c.of c.bytes_of c.good (λ v. []) (λ v. (a.of v ≡ x) × (b.of v ≡ y)) c.codes
+    (λ z i. Codes-gives (make x y z) (λ v. (c.of v ≡ z) × ((a.of v ≡ x) × (b.of v ≡ y))) ((parts x y z).2, ((parts x y z).0, (parts x y z).1))
+    (λ v e. whole v ∙ (ap (λ (w : A). make w (b.of v) (c.of v)) e.1.0 ∙ (ap (λ (w : B). make x w (c.of v)) e.1.1 ∙ ap (make x y) e.0)))))
+    (λ v j. refl) (λ v j. (j.1.1, (j.1.0, j.0))) (λ v j. (j.1.1, (j.1.0, j.0)))))
+    (λ v j. refl) (λ v j. (j.1.0, (j.0, j.1.1))) (λ v j. (j.1.0, (j.0, j.1.1)))))
+    (λ v j. rw (append-nil (c.bytes_of (c.of v))) (sym (append_assoc (a.bytes_of (a.of v)) (b.bytes_of (b.of v)) (c.bytes_of (c.of v)))))
+    (λ v j. (j.0, j.1.0, j.1.1)) (λ v j. (j.0, (j.1, j.2)))
 
 -- a number, with what its test says
 pub Codes-field : (width : ℕ) (fault : ℕ) (test : ℕ → Bool) (is : ℕ → Type 0) → ((x : ℕ) → test x ≡ true → x < 256 ^ width → is x)
@@ -62,6 +66,22 @@ Codes-thread : Codes thread u8 (λ t. t ≤ 14)
 Codes-thread =
     Codes-field 1 5 (at_most 14) (λ t. t ≤ 14) (λ t h l. leb-true t 14 h) (λ t h. (omega arith, le-leb t 14 h))
 
+Codes-counted : Codes counted counted_bytes AreFewBytes
+Codes-counted =
+    Codes-read (field 2 (at_most 4096)) raw length u16 (λ n. n ≤ 4096) (λ bytes. bytes) (All IsByte)
+    (Codes-field 2 5 (at_most 4096) (λ n. n ≤ 4096) (λ n h l. leb-true n 4096 h) (λ n h. (omega arith, le-leb n 4096 h)))
+    (λ n h. Codes-as (raw n) (λ bytes. bytes) (λ bytes. bytes) _ _ (Codes-raw n) (λ x j. refl) (λ x j. (sym j.0, j.1)) (λ x j. (sym j.0, j.1)))
+
+-- the parts that several entries have: a thread, a number of 32 bits, and bytes with their count
+abbrev thread_part : {X : Type 0} → (X → ℕ) → Part X ℕ
+thread_part of = record { of = of; reader = thread; bytes_of = u8; good = λ t. t ≤ 14; codes = Codes-thread }
+
+abbrev u32_part : {X : Type 0} → (X → ℕ) → Part X ℕ
+u32_part of = record { of = of; reader = any 4; bytes_of = u32; good = λ x. x < 2 ^ 32; codes = Codes-u32 }
+
+abbrev bytes_part : {X : Type 0} → (X → List ℕ) → Part X (List ℕ)
+bytes_part of = record { of = of; reader = counted; bytes_of = counted_bytes; good = AreFewBytes; codes = Codes-counted }
+
 -- the test whether an entry comes before another by thread and index says so just where it does
 pub Decides-earlier : (t i u j : ℕ) → Decides (is_earlier t i u j) (ComesBefore t i u j)
 Decides-earlier t i u j =
@@ -71,9 +91,9 @@ Decides-earlier t i u j =
 pub Codes-short_size : (s : ℕ) → s ≤ 4096 → Codes (short_size s) short_size_bytes (IsShortSize s)
 Codes-short_size s small =
     Codes-as (short_size s) short_size_bytes short_size_bytes _ (IsShortSize s)
-    (Codes-three thread (any 4) (field 2 (from_to 1 s)) (λ t i size. record { thread = t; index = i; size = size })
-    (λ x. x.thread) (λ x. x.index) (λ x. x.size) u8 u32 u16 (λ t. t ≤ 14) (λ i. i < 2 ^ 32) (λ size. (1 ≤ size) × (size ≤ s))
-    Codes-thread Codes-u32 (Codes-size s small) (λ t i size. (refl, refl, refl)) (λ x. refl))
+    (Codes-three (thread_part (λ x. x.thread)) (u32_part (λ x. x.index))
+    (record { of = λ x. x.size; reader = field 2 (from_to 1 s); bytes_of = u16; good = λ size. (1 ≤ size) × (size ≤ s); codes = Codes-size s small })
+    (λ t i size. record { thread = t; index = i; size = size }) (λ t i size. (refl, refl, refl)) (λ x. refl))
     (λ x h. refl) (λ x h. (h.0, h.1, h.2.0, h.2.1)) (λ x h. (h.0, h.1, (h.2, h.3))) where
       Codes-size : (s : ℕ) → s ≤ 4096 → Codes (field 2 (from_to 1 s)) u16 (λ size. (1 ≤ size) × (size ≤ s))
       Codes-size s small =
@@ -84,15 +104,8 @@ Codes-short_size s small =
 -- reading an interrupt undoes writing it
 pub Codes-interrupt : Codes interrupt interrupt_bytes IsInterrupt
 Codes-interrupt =
-    Codes-three thread (any 4) (any 4) (λ t i value. record { thread = t; index = i; value = value })
-    (λ x. x.thread) (λ x. x.index) (λ x. x.value) u8 u32 u32 (λ t. t ≤ 14) (λ i. i < 2 ^ 32) (λ value. value < 2 ^ 32)
-    Codes-thread Codes-u32 Codes-u32 (λ t i value. (refl, refl, refl)) (λ x. refl)
-
-Codes-counted : Codes counted counted_bytes AreFewBytes
-Codes-counted =
-    Codes-read (field 2 (at_most 4096)) raw length u16 (λ n. n ≤ 4096) (λ bytes. bytes) (All IsByte)
-    (Codes-field 2 5 (at_most 4096) (λ n. n ≤ 4096) (λ n h l. leb-true n 4096 h) (λ n h. (omega arith, le-leb n 4096 h)))
-    (λ n h. Codes-as (raw n) (λ bytes. bytes) (λ bytes. bytes) _ _ (Codes-raw n) (λ x j. refl) (λ x j. (sym j.0, j.1)) (λ x j. (sym j.0, j.1)))
+    Codes-three (thread_part (λ x. x.thread)) (u32_part (λ x. x.index)) (u32_part (λ x. x.value))
+    (λ t i value. record { thread = t; index = i; value = value }) (λ t i value. (refl, refl, refl)) (λ x. refl)
 
 any-contains : (xs : List ℕ) (x : ℕ) → list_any (λ k. k == x) xs ≡ true → Contains xs x
 any-contains [] x h = cc
@@ -118,14 +131,20 @@ kinds-small x h =
 -- reading an input undoes writing it
 pub Codes-input : Codes input input_bytes IsInput
 Codes-input =
-    Codes-three (field 1 (λ kind. list_any (λ k. k == kind) input_kinds)) (any 4) counted (λ kind answer content. record { kind = kind; result = answer; bytes = content })
-    (λ x. x.kind) (λ x. x.result) (λ x. x.bytes) u8 u32 counted_bytes (Contains input_kinds) (λ answer. answer < 2 ^ 32) AreFewBytes
-    (Codes-field 1 5 (λ kind. list_any (λ k. k == kind) input_kinds) (Contains input_kinds) (λ x h l. any-contains input_kinds x h)
-    (λ x h. (kinds-small x h, contains-any input_kinds x h.0 h.1 h.2)))
-    Codes-u32 Codes-counted (λ kind answer content. (refl, refl, refl)) (λ x. refl)
+    Codes-three
+    (record {
+      of = λ x. x.kind;
+      reader = field 1 (λ kind. list_any (λ k. k == kind) input_kinds);
+      bytes_of = u8;
+      good = Contains input_kinds;
+      codes = Codes-field 1 5 (λ kind. list_any (λ k. k == kind) input_kinds) (Contains input_kinds) (λ x h l. any-contains input_kinds x h)
+          (λ x h. (kinds-small x h, contains-any input_kinds x h.0 h.1 h.2));
+    })
+    (u32_part (λ x. x.result)) (bytes_part (λ x. x.bytes))
+    (λ kind answer content. record { kind = kind; result = answer; bytes = content }) (λ kind answer content. (refl, refl, refl)) (λ x. refl)
 
 -- reading a DMA's record undoes writing it
 pub Codes-dma : Codes dma dma_bytes IsDmaRecord
 Codes-dma =
-    Codes-two (any 4) counted (λ slot content. record { slot = slot; bytes = content }) (λ x. x.slot) (λ x. x.bytes)
-    u32 counted_bytes (λ slot. slot < 2 ^ 32) AreFewBytes Codes-u32 Codes-counted (λ slot content. (refl, refl)) (λ x. refl)
+    Codes-two (u32_part (λ x. x.slot)) (bytes_part (λ x. x.bytes)) (λ slot content. record { slot = slot; bytes = content })
+    (λ slot content. (refl, refl)) (λ x. refl)

@@ -122,26 +122,27 @@ pub record Writing (count : ℕ) (old unit units room into : List ℕ) : Type 0 
   pub gave : Gave count old (unit ++ units) room into
   pub whole : count < length room → unit ≡ []
 
--- where room is left, the next unit is begun
-pub Writing-unit : {count k : ℕ} {old unit next before units room into here after : List ℕ}
-    → Writing count old unit before room into → count < length into → before ≡ next ++ units → Filled k next (part count into) here → after ≡ drop k next
-    → Writing (count + k) old after units room (with_part count into here)
-Writing-unit {count} {k} {old} {unit} {next} {before} {units} {room} {into} {here} {after} w less begun f rest =
-    let none : unit ≡ [] = w.whole (omega (arith, Gave-length w.gave)) in
-    let left : unit ++ before ≡ next ++ units = rw none begun in
-    let now = subst (λ (z : List ℕ). Gave count old z room into) left w.gave in
-    record {
-      gave = rw rest (Gave-more units now f);
-      whole = λ more. rest ∙ drop_all k next (omega (arith, f.most, length-part count into, Gave-length w.gave));
-    }
+-- So many bytes are written, and this unit and those behind it are left.
+module _ {count : ℕ} {old unit units room into : List ℕ} (w : Writing count old unit units room into) where
+  -- where room is left, the next unit is begun
+  pub Writing-unit : {k : ℕ} {next behind here after : List ℕ}
+      → count < length into → units ≡ next ++ behind → Filled k next (part count into) here → after ≡ drop k next
+      → Writing (count + k) old after behind room (with_part count into here)
+  Writing-unit {k} {next} {behind} {here} {after} less begun f rest =
+      let none : unit ≡ [] = w.whole (omega (arith, Gave-length w.gave)) in
+      let left : unit ++ units ≡ next ++ behind = rw none begun in
+      let now = subst (λ (z : List ℕ). Gave count old z room into) left w.gave in
+      record {
+        gave = rw rest (Gave-more behind now f);
+        whole = λ more. rest ∙ drop_all k next (omega (arith, f.most, length-part count into, Gave-length w.gave));
+      }
 
--- where no unit is left, all is written
-pub Writing-all : {count : ℕ} {old unit units room into : List ℕ} → Writing count old unit units room into
-    → units ≡ [] → count ≡ min (length room) (length old)
-Writing-all {count} {old} {unit} {units} {room} w none =
-    elim (eq-or-lt_of_le w.gave.fits) [
-      | inl full ↦ omega (arith, w.gave.there)
-      | inr less ↦
-          let nothing : length (unit ++ units) ≡ 0 = rw (w.whole less, none) refl in
-          omega (arith, w.gave.there, nothing, ap length w.gave.others, length-drop count old)
-    ]
+  -- where no unit is left, all is written
+  pub Writing-all : units ≡ [] → count ≡ min (length room) (length old)
+  Writing-all none =
+      elim (eq-or-lt_of_le w.gave.fits) [
+        | inl full ↦ omega (arith, w.gave.there)
+        | inr less ↦
+            let nothing : length (unit ++ units) ≡ 0 = rw (w.whole less, none) refl in
+            omega (arith, w.gave.there, nothing, ap length w.gave.others, length-drop count old)
+      ]

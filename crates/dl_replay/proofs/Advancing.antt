@@ -126,48 +126,51 @@ set-again [] k t u = refl
 set-again (x ∷ ts) zero t u = refl
 set-again (x ∷ ts) (suc k) t u = ap (λ (xs : List Parts). x ∷ xs) (set-again ts k t u)
 
--- a chunk that goes advances the replay as judging it by its verdict does
-pub chunk-goes : (r : Replaying) (p : Progress) (k n : ℕ) (before ts us : List Parts) (request : Option Request) (served : Served) (f : Finish) (run : Run) (new : Replaying) (v : LogVerdict) (out : Verdict)
-    → Agrees r p → p.request ≡ request → HasRun before ts k n run → verdict_of (Ok f) (chunk_effect k p.request run) ≡ v → out ≡ Went
-    → us ≡ slice_set ts k f.thread ++ [] → new ≡ advanced r.log (r.done + 1) (Some k) (used_seen f.used) us
-    → record { verdict = out; replay = new; threads = us; request = request; served = served } ≡ chunk_judged r p k before ts request served v
-chunk-goes r p k n before ts us request served f run new v out a q h e o t m =
-    let effect : Effect = record (chunk_effect k p.request run) { thread = f.thread } in
-    let u = used_seen f.used in
-    let after = slice_set before k f.thread ++ [] in
-    let settled : us ≡ after = t ∙ ap (λ (xs : List Parts). slice_set xs k f.thread ++ []) h.after ∙ ap (λ (xs : List Parts). xs ++ []) (set-again before k run.thread f.thread) in
-    let replay : new ≡ committed r p k effect u after =
-    m ∙ ap (λ (xs : List Parts). advanced r.log (r.done + 1) (Some k) u xs) settled ∙ committed-is r p k effect u after a in
-    let judged : record { verdict = out; replay = new; threads = us; request = request; served = served } ≡ chunk_judged r p k before ts request served (Goes effect u) =
-    λ i. record { verdict = o i; replay = replay i; threads = settled i; request = sym q i; served = served } in
-    judged ∙ ap (chunk_judged r p k before ts request served) e
+-- A replay r is asked to judge the commit that comes after progress p, where its sphere has this request and these things
+-- were served before; out is what it answers, and new the replay then.
+module _ (r : Replaying) (p : Progress) (request : Option Request) (served : Served) (new : Replaying) (out : Verdict) where
+  -- a chunk that goes advances the replay as judging it by its verdict does
+  pub chunk-goes : (k n : ℕ) (before ts us : List Parts) (f : Finish) (run : Run) (v : LogVerdict)
+      → Agrees r p → p.request ≡ request → HasRun before ts k n run → verdict_of (Ok f) (chunk_effect k p.request run) ≡ v → out ≡ Went
+      → us ≡ slice_set ts k f.thread ++ [] → new ≡ advanced r.log (r.done + 1) (Some k) (used_seen f.used) us
+      → record { verdict = out; replay = new; threads = us; request = request; served = served } ≡ chunk_judged r p k before ts request served v
+  chunk-goes k n before ts us f run v a q h e o t m =
+      let effect : Effect = record (chunk_effect k p.request run) { thread = f.thread } in
+      let u = used_seen f.used in
+      let after = slice_set before k f.thread ++ [] in
+      let settled : us ≡ after = t ∙ ap (λ (xs : List Parts). slice_set xs k f.thread ++ []) h.after ∙ ap (λ (xs : List Parts). xs ++ []) (set-again before k run.thread f.thread) in
+      let replay : new ≡ committed r p k effect u after =
+      m ∙ ap (λ (xs : List Parts). advanced r.log (r.done + 1) (Some k) u xs) settled ∙ committed-is r p k effect u after a in
+      let judged : record { verdict = out; replay = new; threads = us; request = request; served = served } ≡ chunk_judged r p k before ts request served (Goes effect u) =
+      λ i. record { verdict = o i; replay = replay i; threads = settled i; request = sym q i; served = served } in
+      judged ∙ ap (chunk_judged r p k before ts request served) e
 
--- a serial step that goes advances the replay as judging it by its verdict does
-pub step-goes : (r : Replaying) (p : Progress) (k : ℕ) (ts us : List Parts) (request : Option Request) (served now : Served) (d : Done) (new : Replaying) (v : LogVerdict) (out : Verdict)
-    → Agrees r p → step_verdict k (Ok d) ≡ v → out ≡ Went → us ≡ slice_set ts k d.finish.thread ++ made_list d.left.made
-    → new ≡ advanced r.log (r.done + 1) (Some k) (used_seen d.finish.used) us
-    → now.words ≡ served.words ++ d.left.words.words → now.loads ≡ served.loads ++ d.left.loads → now.outputs ≡ served.outputs ++ d.left.outputs
-    → record { verdict = out; replay = new; threads = us; request = d.left.request; served = now } ≡ serial_judged r p k ts request served v
-step-goes r p k ts us request served now d new v out a e o t m w l x =
-    let effect : Effect = record (serial_effect k (result_in d.left)) { thread = d.finish.thread } in
-    let u = used_seen d.finish.used in
-    let after = slice_set ts k d.finish.thread ++ made_list d.left.made in
-    let replay : new ≡ committed r p k effect u after =
-    m ∙ ap (λ (xs : List Parts). advanced r.log (r.done + 1) (Some k) u xs) t ∙ committed-is r p k effect u after a in
-    let judged : record { verdict = out; replay = new; threads = us; request = d.left.request; served = now } ≡ serial_judged r p k ts request served (Goes effect u) =
-    λ i. record { verdict = o i; replay = replay i; threads = t i; request = d.left.request; served = record { words = w i; loads = l i; outputs = x i } } in
-    judged ∙ ap (serial_judged r p k ts request served) e
+  -- a serial step that goes advances the replay as judging it by its verdict does
+  pub step-goes : (k : ℕ) (ts us : List Parts) (now : Served) (d : Done) (v : LogVerdict)
+      → Agrees r p → step_verdict k (Ok d) ≡ v → out ≡ Went → us ≡ slice_set ts k d.finish.thread ++ made_list d.left.made
+      → new ≡ advanced r.log (r.done + 1) (Some k) (used_seen d.finish.used) us
+      → now.words ≡ served.words ++ d.left.words.words → now.loads ≡ served.loads ++ d.left.loads → now.outputs ≡ served.outputs ++ d.left.outputs
+      → record { verdict = out; replay = new; threads = us; request = d.left.request; served = now } ≡ serial_judged r p k ts request served v
+  step-goes k ts us now d v a e o t m w l x =
+      let effect : Effect = record (serial_effect k (result_in d.left)) { thread = d.finish.thread } in
+      let u = used_seen d.finish.used in
+      let after = slice_set ts k d.finish.thread ++ made_list d.left.made in
+      let replay : new ≡ committed r p k effect u after =
+      m ∙ ap (λ (xs : List Parts). advanced r.log (r.done + 1) (Some k) u xs) t ∙ committed-is r p k effect u after a in
+      let judged : record { verdict = out; replay = new; threads = us; request = d.left.request; served = now } ≡ serial_judged r p k ts request served (Goes effect u) =
+      λ i. record { verdict = o i; replay = replay i; threads = t i; request = d.left.request; served = record { words = w i; loads = l i; outputs = x i } } in
+      judged ∙ ap (serial_judged r p k ts request served) e
 
--- a DMA that goes advances the replay as judging it by its verdict does
-pub dma-goes : (r : Replaying) (p : Progress) (ts : List Parts) (request : Option Request) (served now : Served) (words : Words) (new : Replaying) (v : DmaVerdict) (out : Verdict)
-    → Agrees r p → transfer_verdict (Ok words) ≡ v → out ≡ Went → new ≡ advanced r.log (r.done + 1) r.last (with_dma_used r.used) ts
-    → now ≡ record served { words = served.words ++ words.words }
-    → record { verdict = out; replay = new; threads = ts; request = None; served = now } ≡ dma_judged r p ts request served v
-dma-goes r p ts request served now words new v out a e o m s =
-    let replay : new ≡ transferred r p ts = m ∙ transferred-is r p ts a in
-    let judged : record { verdict = out; replay = new; threads = ts; request = None; served = now } ≡ dma_judged r p ts request served (DmaGoes words.words) =
-    λ i. record { verdict = o i; replay = replay i; threads = ts; request = None; served = s i } in
-    judged ∙ ap (dma_judged r p ts request served) e
+  -- a DMA that goes advances the replay as judging it by its verdict does
+  pub dma-goes : (ts : List Parts) (now : Served) (words : Words) (v : DmaVerdict)
+      → Agrees r p → transfer_verdict (Ok words) ≡ v → out ≡ Went → new ≡ advanced r.log (r.done + 1) r.last (with_dma_used r.used) ts
+      → now ≡ record served { words = served.words ++ words.words }
+      → record { verdict = out; replay = new; threads = ts; request = None; served = now } ≡ dma_judged r p ts request served v
+  dma-goes ts now words v a e o m s =
+      let replay : new ≡ transferred r p ts = m ∙ transferred-is r p ts a in
+      let judged : record { verdict = out; replay = new; threads = ts; request = None; served = now } ≡ dma_judged r p ts request served (DmaGoes words.words) =
+      λ i. record { verdict = o i; replay = replay i; threads = ts; request = None; served = s i } in
+      judged ∙ ap (dma_judged r p ts request served) e
 
 -- ---- the first commit
 

@@ -73,12 +73,16 @@ pieces-fit r k i n is e one few =
     let own : pieces_of r.now k r.total ≡ r.total = rw (e, eq-eqb k k refl) refl in
     omega (arith, limit-few r.log k i is, own, few)
 
--- what pieces have left of a whole commit, and at least 1, is the limit of the replayed thread
-pub limit-is : (r : Replaying) (s k : ℕ) (loads : List Load) (ts : List Parts) (t : Parts) (commits whole pieces rest limit : ℕ) → commits ≡ slice_index r.commits k
-    → whole ≡ whole_limit r.log k commits → pieces ≡ pieces_of r.now k r.total → rest ≡ whole - pieces → limit ≡ max rest 1
-    → length ts ≤ 15 → r.commits ≡ commits_of ts → slice_get ts k ≡ Some t → limit ≡ limit_of s (Replay (cursor_of r loads)) k t
-unfolding limit_of
-limit-is r s k loads ts t commits whole pieces rest limit c w p d m few e is =
-    let own : commits ≡ t.commits = c ∙ ap (λ (xs : List ℕ). slice_index xs k) e ∙ commits-found ts k few ∙ ap commits_at is in
-    let size : whole ≡ whole_limit r.log k t.commits = w ∙ ap (whole_limit r.log k) own in
-    omega (arith, size, p, d, m)
+-- Thread k of the replayed threads ts is t, and the replay r counts the commits of these threads.
+module _ (r : Replaying) (k : ℕ) (ts : List Parts) (t : Parts) where
+  thread-commits : length ts ≤ 15 → r.commits ≡ commits_of ts → slice_get ts k ≡ Some t → slice_index r.commits k ≡ t.commits
+  thread-commits few e is = ap (λ (xs : List ℕ). slice_index xs k) e ∙ commits-found ts k few ∙ ap commits_at is
+
+  -- what pieces have left of a whole commit, and at least 1, is the limit of the replayed thread
+  pub limit-is : (s : ℕ) (loads : List Load) (commits whole pieces rest limit : ℕ) → commits ≡ slice_index r.commits k
+      → whole ≡ whole_limit r.log k commits → pieces ≡ pieces_of r.now k r.total → rest ≡ whole - pieces → limit ≡ max rest 1
+      → length ts ≤ 15 → r.commits ≡ commits_of ts → slice_get ts k ≡ Some t → limit ≡ limit_of s (Replay (cursor_of r loads)) k t
+  unfolding limit_of
+  limit-is s loads commits whole pieces rest limit c w p d m few e is =
+      let size : whole ≡ whole_limit r.log k t.commits = w ∙ ap (whole_limit r.log k) (c ∙ thread-commits few e is) in
+      omega (arith, size, p, d, m)

@@ -30,7 +30,7 @@ why_in : Why → Verdict → Why
 why_in d Verdict.Went = d
 why_in d (Verdict.Diverged why) = why
 
--- ---- a commit of a thread went
+-- ---- how a commit went
 
 -- the verdict goes, and the replay, the threads and the request are as its effect says
 pub record HasGone (r : Replaying) (p : Progress) (k : ℕ) (ts : List Parts) (v : LogVerdict) (new : Replaying) (us : List Parts) (q : Option Request) : Type 0 where
@@ -41,22 +41,6 @@ pub record HasGone (r : Replaying) (p : Progress) (k : ℕ) (ts : List Parts) (v
   pub threads : us ≡ with_threads k effect ts
   pub request : q ≡ effect.request
 
--- a chunk that the replayer lets go has a verdict that goes, and leaves what its effect says
-pub chunk-gone : (r : Replaying) (p : Progress) (k : ℕ) (ts : List Parts) (rq : Option Request) (served s : Served) (v : LogVerdict) (new : Replaying) (us : List Parts) (q : Option Request)
-    → record { verdict = Verdict.Went; replay = new; threads = us; request = q; served = s } ≡ chunk_judged r p k ts ts rq served v
-    → HasGone r p k ts v new us q
-unfolding went
-chunk-gone r p k ts rq served s (Fails why) new us q is = absurd (true≢false (ap (λ (j : replay.Judged). went j.verdict) is))
-chunk-gone r p k ts rq served s (Goes e u) new us q is =
-    record {
-      effect = e;
-      used = u;
-      verdict = refl;
-      replay = ap (λ (j : replay.Judged). j.replay) is;
-      threads = ap (λ (j : replay.Judged). j.threads) is;
-      request = ap (λ (j : replay.Judged). j.request) is;
-    }
-
 -- a serial step went, and its words, loads and outputs are those of its effect
 pub record HasServed (r : Replaying) (p : Progress) (k : ℕ) (ts : List Parts) (v : LogVerdict) (new : Replaying) (us : List Parts) (q : Option Request) (left : StepResult) : Type 0 where
   pub gone : HasGone r p k ts v new us q
@@ -64,30 +48,7 @@ pub record HasServed (r : Replaying) (p : Progress) (k : ℕ) (ts : List Parts) 
   pub loads : left.loads ≡ gone.effect.commit.loads
   pub outputs : left.outputs ≡ gone.effect.commit.outputs
 
--- a serial step that the replayer lets go has a verdict that goes, and leaves and serves what its effect says
-pub step-gone : (r : Replaying) (p : Progress) (k : ℕ) (ts : List Parts) (rq : Option Request) (v : LogVerdict) (new : Replaying) (us : List Parts) (q : Option Request) (left : StepResult)
-    → record { verdict = Verdict.Went; replay = new; threads = us; request = q; served = served_left (Ok left) } ≡ serial_judged r p k ts rq nothing_served v
-    → HasServed r p k ts v new us q left
-unfolding went
-step-gone r p k ts rq (Fails why) new us q left is = absurd (true≢false (ap (λ (j : replay.Judged). went j.verdict) is))
-step-gone r p k ts rq (Goes e u) new us q left is =
-    record {
-      gone = record {
-        effect = e;
-        used = u;
-        verdict = refl;
-        replay = ap (λ (j : replay.Judged). j.replay) is;
-        threads = ap (λ (j : replay.Judged). j.threads) is;
-        request = ap (λ (j : replay.Judged). j.request) is;
-      };
-      words = ap (λ (j : replay.Judged). j.served.words) is;
-      loads = ap (λ (j : replay.Judged). j.served.loads) is;
-      outputs = ap (λ (j : replay.Judged). j.served.outputs) is;
-    }
-
--- ---- it didn't
-
--- only the end is noted, with the verdict's reason
+-- it didn't: only the end is noted, with the verdict's reason
 pub record Fell (r : Replaying) (ts : List Parts) (rq : Option Request) (v : LogVerdict) (new : Replaying) (us : List Parts) (q : Option Request) : Type 0 where
   pub why : Why
   pub verdict : v ≡ Fails why
@@ -95,86 +56,117 @@ pub record Fell (r : Replaying) (ts : List Parts) (rq : Option Request) (v : Log
   pub threads : us ≡ ts
   pub request : q ≡ rq
 
--- a chunk at which the replayer diverges has a verdict that fails, and only the end is noted
-pub chunk-fell : (r : Replaying) (p : Progress) (k : ℕ) (ts : List Parts) (rq : Option Request) (served s : Served) (v : LogVerdict) (because : Why) (new : Replaying) (us : List Parts) (q : Option Request)
-    → record { verdict = Verdict.Diverged because; replay = new; threads = us; request = q; served = s } ≡ chunk_judged r p k ts ts rq served v
-    → Fell r ts rq v new us q
-unfolding went
-chunk-fell r p k ts rq served s (Goes e u) because new us q is = absurd (true≢false (sym (ap (λ (j : replay.Judged). went j.verdict) is)))
-chunk-fell r p k ts rq served s (Fails why) because new us q is =
-    record {
-      why = why;
-      verdict = refl;
-      replay = ap (λ (j : replay.Judged). j.replay) is;
-      threads = ap (λ (j : replay.Judged). j.threads) is;
-      request = ap (λ (j : replay.Judged). j.request) is;
-    }
-
--- a serial step at which the replayer diverges has a verdict that fails, and only the end is noted
-pub step-fell : (r : Replaying) (p : Progress) (k : ℕ) (ts : List Parts) (rq : Option Request) (served s : Served) (v : LogVerdict) (because : Why) (new : Replaying) (us : List Parts) (q : Option Request)
-    → record { verdict = Verdict.Diverged because; replay = new; threads = us; request = q; served = s } ≡ serial_judged r p k ts rq served v
-    → Fell r ts rq v new us q
-unfolding went
-step-fell r p k ts rq served s (Goes e u) because new us q is = absurd (true≢false (sym (ap (λ (j : replay.Judged). went j.verdict) is)))
-step-fell r p k ts rq served s (Fails why) because new us q is =
-    record {
-      why = why;
-      verdict = refl;
-      replay = ap (λ (j : replay.Judged). j.replay) is;
-      threads = ap (λ (j : replay.Judged). j.threads) is;
-      request = ap (λ (j : replay.Judged). j.request) is;
-    }
-
--- ---- DMAs
-
 -- a DMA's verdict goes with these words, and no request is left
 pub record HasTransferred (r : Replaying) (p : Progress) (ts : List Parts) (v : DmaVerdict) (new : Replaying) (q : Option Request) (words : List Stored) : Type 0 where
   pub verdict : v ≡ DmaGoes words
   pub replay : new ≡ transferred r p ts
   pub request : q ≡ None
 
--- a DMA that the replayer lets go has a verdict that goes with its words, and leaves no request
-pub dma-gone : (r : Replaying) (p : Progress) (ts us : List Parts) (rq : Option Request) (v : DmaVerdict) (new : Replaying) (q : Option Request) (words : Words)
-    → record { verdict = Verdict.Went; replay = new; threads = us; request = q; served = served_stored (Ok words) } ≡ dma_judged r p ts rq nothing_served v
-    → HasTransferred r p ts v new q words.words
-unfolding went
-dma-gone r p ts us rq (DmaFails why) new q words is = absurd (true≢false (ap (λ (j : replay.Judged). went j.verdict) is))
-dma-gone r p ts us rq (DmaGoes ws) new q words is =
-    record {
-      verdict = ap DmaGoes (sym (ap (λ (j : replay.Judged). j.served.words) is));
-      replay = ap (λ (j : replay.Judged). j.replay) is;
-      request = ap (λ (j : replay.Judged). j.request) is;
-    }
+-- ---- by the replayer's answer
 
--- a DMA at which the replayer diverges has a verdict that fails for that reason, and only the end is noted
-pub dma-fell : (r : Replaying) (p : Progress) (ts us : List Parts) (rq : Option Request) (served s : Served) (v : DmaVerdict) (because : Why) (new : Replaying) (q : Option Request)
-    → record { verdict = Verdict.Diverged because; replay = new; threads = us; request = q; served = s } ≡ dma_judged r p ts rq served v
-    → (v ≡ DmaFails because) × (new ≡ diverged because r) × (q ≡ rq)
-unfolding went why_in
-dma-fell r p ts us rq served s (DmaGoes ws) because new q is = absurd (true≢false (sym (ap (λ (j : replay.Judged). went j.verdict) is)))
-dma-fell r p ts us rq served s (DmaFails why) because new q is =
-    let same : because ≡ why = ap (λ (j : replay.Judged). why_in because j.verdict) is in
-    (ap DmaFails (sym same), ap (λ (j : replay.Judged). j.replay) is ∙ ap (λ (w : Why). diverged w r) (sym same), ap (λ (j : replay.Judged). j.request) is)
+-- The replay r judges the commit after progress p, of a sphere with the threads ts and the request rq, and leaves the replay
+-- new, the threads us and the request q.
+module _ (r : Replaying) (p : Progress) (ts : List Parts) (rq : Option Request) (new : Replaying) (us : List Parts) (q : Option Request) where
+  -- what it answers, with what it has served
+  abbrev answered : Verdict → Served → replay.Judged
+  answered verdict served = record { verdict = verdict; replay = new; threads = us; request = q; served = served }
+
+  -- a chunk that the replayer lets go has a verdict that goes, and leaves what its effect says
+  pub chunk-gone : (k : ℕ) (served s : Served) (v : LogVerdict) → answered Verdict.Went s ≡ chunk_judged r p k ts ts rq served v → HasGone r p k ts v new us q
+  unfolding went
+  chunk-gone k served s (Fails why) is = absurd (true≢false (ap (λ (j : replay.Judged). went j.verdict) is))
+  chunk-gone k served s (Goes e u) is =
+      record {
+        effect = e;
+        used = u;
+        verdict = refl;
+        replay = ap (λ (j : replay.Judged). j.replay) is;
+        threads = ap (λ (j : replay.Judged). j.threads) is;
+        request = ap (λ (j : replay.Judged). j.request) is;
+      }
+
+  -- a serial step that the replayer lets go has a verdict that goes, and leaves and serves what its effect says
+  pub step-gone : (k : ℕ) (v : LogVerdict) (left : StepResult) → answered Verdict.Went (served_left (Ok left)) ≡ serial_judged r p k ts rq nothing_served v → HasServed r p k ts v new us q left
+  unfolding went
+  step-gone k (Fails why) left is = absurd (true≢false (ap (λ (j : replay.Judged). went j.verdict) is))
+  step-gone k (Goes e u) left is =
+      record {
+        gone = record {
+          effect = e;
+          used = u;
+          verdict = refl;
+          replay = ap (λ (j : replay.Judged). j.replay) is;
+          threads = ap (λ (j : replay.Judged). j.threads) is;
+          request = ap (λ (j : replay.Judged). j.request) is;
+        };
+        words = ap (λ (j : replay.Judged). j.served.words) is;
+        loads = ap (λ (j : replay.Judged). j.served.loads) is;
+        outputs = ap (λ (j : replay.Judged). j.served.outputs) is;
+      }
+
+  -- a chunk at which the replayer diverges has a verdict that fails, and only the end is noted
+  pub chunk-fell : (k : ℕ) (served s : Served) (v : LogVerdict) (because : Why) → answered (Verdict.Diverged because) s ≡ chunk_judged r p k ts ts rq served v → Fell r ts rq v new us q
+  unfolding went
+  chunk-fell k served s (Goes e u) because is = absurd (true≢false (sym (ap (λ (j : replay.Judged). went j.verdict) is)))
+  chunk-fell k served s (Fails why) because is =
+      record {
+        why = why;
+        verdict = refl;
+        replay = ap (λ (j : replay.Judged). j.replay) is;
+        threads = ap (λ (j : replay.Judged). j.threads) is;
+        request = ap (λ (j : replay.Judged). j.request) is;
+      }
+
+  -- a serial step at which the replayer diverges has a verdict that fails, and only the end is noted
+  pub step-fell : (k : ℕ) (served s : Served) (v : LogVerdict) (because : Why) → answered (Verdict.Diverged because) s ≡ serial_judged r p k ts rq served v → Fell r ts rq v new us q
+  unfolding went
+  step-fell k served s (Goes e u) because is = absurd (true≢false (sym (ap (λ (j : replay.Judged). went j.verdict) is)))
+  step-fell k served s (Fails why) because is =
+      record {
+        why = why;
+        verdict = refl;
+        replay = ap (λ (j : replay.Judged). j.replay) is;
+        threads = ap (λ (j : replay.Judged). j.threads) is;
+        request = ap (λ (j : replay.Judged). j.request) is;
+      }
+
+  -- a DMA that the replayer lets go has a verdict that goes with its words, and leaves no request
+  pub dma-gone : (v : DmaVerdict) (words : Words) → answered Verdict.Went (served_stored (Ok words)) ≡ dma_judged r p ts rq nothing_served v → HasTransferred r p ts v new q words.words
+  unfolding went
+  dma-gone (DmaFails why) words is = absurd (true≢false (ap (λ (j : replay.Judged). went j.verdict) is))
+  dma-gone (DmaGoes ws) words is =
+      record {
+        verdict = ap DmaGoes (sym (ap (λ (j : replay.Judged). j.served.words) is));
+        replay = ap (λ (j : replay.Judged). j.replay) is;
+        request = ap (λ (j : replay.Judged). j.request) is;
+      }
+
+  -- a DMA at which the replayer diverges has a verdict that fails for that reason, and only the end is noted
+  pub dma-fell : (served s : Served) (v : DmaVerdict) (because : Why) → answered (Verdict.Diverged because) s ≡ dma_judged r p ts rq served v → (v ≡ DmaFails because) × (new ≡ diverged because r) × (q ≡ rq)
+  unfolding went why_in
+  dma-fell served s (DmaGoes ws) because is = absurd (true≢false (sym (ap (λ (j : replay.Judged). went j.verdict) is)))
+  dma-fell served s (DmaFails why) because is =
+      let same : because ≡ why = ap (λ (j : replay.Judged). why_in because j.verdict) is in
+      (ap DmaFails (sym same), ap (λ (j : replay.Judged). j.replay) is ∙ ap (λ (w : Why). diverged w r) (sym same), ap (λ (j : replay.Judged). j.request) is)
+
+  -- a chunk that went is judged as one that served nothing, with its threads as they were before
+  pub went-judged : (k : ℕ) (mid : List Parts) (served s : Served) (v : LogVerdict) → answered Verdict.Went s ≡ chunk_judged r p k ts mid rq served v
+      → answered Verdict.Went nothing_served ≡ chunk_judged r p k ts ts rq nothing_served v
+  unfolding went
+  went-judged k mid served s (Fails why) is = absurd (true≢false (ap (λ (j : replay.Judged). went j.verdict) is))
+  went-judged k mid served s (Goes e u) is =
+      λ i. record { verdict = Verdict.Went; replay = (is i).replay; threads = (is i).threads; request = (is i).request; served = nothing_served }
+
+  -- a chunk at which the replayer diverges is judged as one that served nothing, with the threads put back
+  pub left-judged : (k : ℕ) (mid back : List Parts) (served s : Served) (v : LogVerdict) (why : Why) → back ≡ ts
+      → answered (Verdict.Diverged why) s ≡ chunk_judged r p k ts mid rq served v
+      → record (answered (Verdict.Diverged why) nothing_served) { threads = back } ≡ chunk_judged r p k ts ts rq nothing_served v
+  unfolding went
+  left-judged k mid back served s (Goes e u) why same is = absurd (true≢false (sym (ap (λ (j : replay.Judged). went j.verdict) is)))
+  left-judged k mid back served s (Fails because) why same is =
+      λ i. record { verdict = (is i).verdict; replay = (is i).replay; threads = same i; request = (is i).request; served = nothing_served }
 
 -- ---- the threads while a chunk is judged
-
--- a chunk that went is judged as one that served nothing, with its threads as they were before
-pub went-judged : (r : Replaying) (p : Progress) (k : ℕ) (ts mid : List Parts) (rq : Option Request) (served s : Served) (v : LogVerdict) (new : Replaying) (us : List Parts) (q : Option Request)
-    → record { verdict = Verdict.Went; replay = new; threads = us; request = q; served = s } ≡ chunk_judged r p k ts mid rq served v
-    → record { verdict = Verdict.Went; replay = new; threads = us; request = q; served = nothing_served } ≡ chunk_judged r p k ts ts rq nothing_served v
-unfolding went
-went-judged r p k ts mid rq served s (Fails why) new us q is = absurd (true≢false (ap (λ (j : replay.Judged). went j.verdict) is))
-went-judged r p k ts mid rq served s (Goes e u) new us q is =
-    λ i. record { verdict = Verdict.Went; replay = (is i).replay; threads = (is i).threads; request = (is i).request; served = nothing_served }
-
--- a chunk at which the replayer diverges is judged as one that served nothing, with the threads put back
-pub left-judged : (r : Replaying) (p : Progress) (k : ℕ) (ts mid back : List Parts) (rq : Option Request) (served s : Served) (v : LogVerdict) (why : Why) (new : Replaying) (us : List Parts) (q : Option Request) → back ≡ ts
-    → record { verdict = Verdict.Diverged why; replay = new; threads = us; request = q; served = s } ≡ chunk_judged r p k ts mid rq served v
-    → record { verdict = Verdict.Diverged why; replay = new; threads = back; request = q; served = nothing_served } ≡ chunk_judged r p k ts ts rq nothing_served v
-unfolding went
-left-judged r p k ts mid back rq served s (Goes e u) why new us q same is = absurd (true≢false (sym (ap (λ (j : replay.Judged). went j.verdict) is)))
-left-judged r p k ts mid back rq served s (Fails because) why new us q same is =
-    λ i. record { verdict = (is i).verdict; replay = (is i).replay; threads = same i; request = (is i).request; served = nothing_served }
 
 -- a thread changed and put back leaves the threads as they were
 pub put_back : (ts : List Parts) (k : ℕ) (s t : Parts) → slice_get ts k ≡ Some t → set (set ts k s) k t ≡ ts

@@ -13,7 +13,6 @@ mod replaying;
 mod setup;
 mod sphere;
 mod stepping;
-mod thread;
 mod transferring;
 mod turning;
 mod words;

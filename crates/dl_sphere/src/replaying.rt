@@ -16,11 +16,10 @@ ghost use Rattle.dl_sphere.specs.Replayed.{before};
 
 use crate::commits::{dma_commit, joined_commit, serial_commit};
 use crate::part::Replay;
-use crate::thread::thread_at;
 use dl_chunk::Chunk;
 use dl_entry::{Actor, Commit, OutOfMemory, Request, Why};
 use dl_mem::Memory;
-use dl_replay::{Asking, Served, Verdict};
+use dl_replay::{Asking, Served, Verdict, thread_at};
 use dl_sig::Sig;
 use dl_thread::{Load, Thread, Threads};
 use dl_wbuf::Buffer;

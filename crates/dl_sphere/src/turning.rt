@@ -4,7 +4,7 @@ ghost use Rattle.spec_kernel.specs.Interrupts.{is_live};
 ghost use Rattle.spec_log.specs.Head.{turn as turn_of, first_live as first_of, next_live as next_of};
 ghost use Rattle.dl_replay.specs.Replaying.{lives};
 
-use crate::thread::is_live;
+use dl_replay::is_live;
 use dl_thread::Threads;
 
 // The next live thread after the last that committed, cyclic; at first from thread 0 on.

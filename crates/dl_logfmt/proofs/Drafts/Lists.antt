@@ -52,41 +52,42 @@ Extends-same xs = ([], rw (append-nil xs) refl)
 pub Extends-push : {X : Type 0} (xs ys : List X) (y : X) → Extends xs ys → Extends xs (ys ++ y ∷ [])
 Extends-push xs ys y e = (e.0 ++ y ∷ [], rw e.1 (append_assoc xs e.0 (y ∷ [])))
 
--- an entry that was read is one more
-pub entry-read : {X : Type 0} (earlier : X → X → Bool) (entry : Reader X) (count : ℕ) (bytes : List ℕ) (xs : List X) (at : ℕ) (ys : List X) (from after : ℕ) (y : X)
-    → Streams widest entry → length ys < count → count < 2 ^ 32
-    → CameIn bytes xs at ys from × Leads bytes (more earlier entry count xs) at (more earlier entry count ys) from × Extends xs ys
-    → next_entry earlier entry ys bytes from ≡ Ok (record { value = y; after = after })
-    → CameIn bytes xs at (ys ++ y ∷ []) after × Leads bytes (more earlier entry count xs) at (more earlier entry count (ys ++ y ∷ [])) after × Extends xs (ys ++ y ∷ [])
-entry-read earlier entry count bytes xs at ys from after y s l few (came, leads, ext) e =
-    let step = step-leads widest (next_entry earlier entry ys) (more earlier entry count ys) (more earlier entry count (ys ++ y ∷ [])) bytes from after y
-    (Streams-next widest earlier entry ys s) came.within e (λ whole a b h. more-next earlier entry count ys y whole a b l h) in (
-      record { within = step.1; few = omega (arith, length_push ys y); cost = omega (arith, length_push ys y, came.cost, step.2) },
-      λ before behind. leads before behind ∙ step.0 before behind,
-      Extends-push xs ys y ext,
-    )
+-- A list of this many entries is read on from xs: of the bytes from `at` up to `from` it has become ys.
+module _ {X : Type 0} (earlier : X → X → Bool) (entry : Reader X) (count : ℕ) (bytes : List ℕ) (xs : List X) (at : ℕ) (ys : List X) (from : ℕ) where
+  -- an entry that was read is one more
+  pub entry-read : (after : ℕ) (y : X)
+      → Streams widest entry → length ys < count → count < 2 ^ 32
+      → CameIn bytes xs at ys from × Leads bytes (more earlier entry count xs) at (more earlier entry count ys) from × Extends xs ys
+      → next_entry earlier entry ys bytes from ≡ Ok (record { value = y; after = after })
+      → CameIn bytes xs at (ys ++ y ∷ []) after × Leads bytes (more earlier entry count xs) at (more earlier entry count (ys ++ y ∷ [])) after × Extends xs (ys ++ y ∷ [])
+  entry-read after y s l few (came, leads, ext) e =
+      let step = step-leads widest (next_entry earlier entry ys) (more earlier entry count ys) (more earlier entry count (ys ++ y ∷ [])) bytes from after y
+      (Streams-next widest earlier entry ys s) came.within e (λ whole a b h. more-next earlier entry count ys y whole a b l h) in (
+        record { within = step.1; few = omega (arith, length_push ys y); cost = omega (arith, length_push ys y, came.cost, step.2) },
+        λ before behind. leads before behind ∙ step.0 before behind,
+        Extends-push xs ys y ext,
+      )
 
--- where an entry can't be read
-pub entry-unread : {X : Type 0} (earlier : X → X → Bool) (entry : Reader X) (count : ℕ) (bytes : List ℕ) (xs : List X) (at : ℕ) (ys : List X) (from after : ℕ) (error : LogError)
-    → Streams widest entry → length ys < count
-    → CameIn bytes xs at ys from × Leads bytes (more earlier entry count xs) at (more earlier entry count ys) from × Extends xs ys
-    → Answers (next_entry earlier entry ys bytes from) (Err error) after
-    → ReadsIn (more earlier entry count) bytes xs at (Err error) ys from
-entry-unread earlier entry count bytes xs at ys from after (Malformed number offset) s l (came, leads, ext) e = (
-  came,
-  leads,
-  step-stops widest (next_entry earlier entry ys) (more earlier entry count ys) bytes from (record { number = number; offset = offset })
-      (Streams-next widest earlier entry ys s) came.within e (λ whole a fault h. more-fault earlier entry count ys whole a fault l h),
-)
-entry-unread earlier entry count bytes xs at ys from after OutOfMemory s l k e = tt
+  -- where an entry can't be read, the list stands as far as it was read, with that error
+  pub entry-unread : (after : ℕ) (error : LogError)
+      → Streams widest entry → length ys < count
+      → CameIn bytes xs at ys from × Leads bytes (more earlier entry count xs) at (more earlier entry count ys) from × Extends xs ys
+      → Answers (next_entry earlier entry ys bytes from) (Err error) after
+      → ReadsIn (more earlier entry count) bytes xs at (Err error) ys from
+  entry-unread after (Malformed number offset) s l (came, leads, ext) e = (
+    came,
+    leads,
+    step-stops widest (next_entry earlier entry ys) (more earlier entry count ys) bytes from (record { number = number; offset = offset })
+        (Streams-next widest earlier entry ys s) came.within e (λ whole a fault h. more-fault earlier entry count ys whole a fault l h),
+  )
+  entry-unread after OutOfMemory s l k e = tt
 
--- a list that is whole
-pub entries-read : {X : Type 0} (earlier : X → X → Bool) (entry : Reader X) (count : ℕ) (bytes : List ℕ) (xs : List X) (at : ℕ) (ys : List X) (from : ℕ)
-    → count ≤ length ys
-    → CameIn bytes xs at ys from × Leads bytes (more earlier entry count xs) at (more earlier entry count ys) from × Extends xs ys
-    → CameIn bytes xs at ys from × Leads bytes (more earlier entry count xs) at (gives ys) from
-entries-read earlier entry count bytes xs at ys from l (came, leads, ext) =
-    (came, λ before behind. leads before behind ∙ more-end earlier entry count ys _ _ l)
+  -- where all entries are there, nothing of the list is left to be read
+  pub entries-read : count ≤ length ys
+      → CameIn bytes xs at ys from × Leads bytes (more earlier entry count xs) at (more earlier entry count ys) from × Extends xs ys
+      → CameIn bytes xs at ys from × Leads bytes (more earlier entry count xs) at (gives ys) from
+  entries-read l (came, leads, ext) =
+      (came, λ before behind. leads before behind ∙ more-end earlier entry count ys _ _ l)
 
 -- actors
 

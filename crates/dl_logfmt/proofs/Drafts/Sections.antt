@@ -23,35 +23,36 @@ use Rattle.dl_logfmt.proofs.Drafts.Streams.{Leads-read, Stops-read}
 abbrev Same : {X : Type 0} → Reader X → Reader X → Type 0
 Same first second = (bytes : List ℕ) (at : ℕ) → first bytes at ≡ second bytes at
 
--- a section that was read to its end
-section-came : {X : Type 0} (bytes : List ℕ) (d e : Draft) (at after : ℕ) (xs ys : List X) (all : List X → Reader (List X)) (next : List X → Reader LogParts)
-    → Same (remaining d) (read (all xs) next) → Same (next ys) (remaining e)
-    → CameIn bytes xs at ys after × Leads bytes (all xs) at (gives ys) after → IsFew e → after + reach d ≤ at + reach e → Came bytes d at e after
-section-came bytes d e at after xs ys all next from to (came, leads) few cost =
-    record {
-      leads = λ before behind. from _ _ ∙ (Leads-read bytes (all xs) (gives ys) at after next leads before behind ∙ to _ _);
-      within = came.within;
-      few = few;
-      cost = cost;
-    }
+-- A section is read on, by `all` from what the draft has of it, and `next` reads what comes behind it: at `at` draft d has xs
+-- of the section, and at `after` draft e has ys.
+module _ {X : Type 0} (bytes : List ℕ) (d e : Draft) (at after : ℕ) (xs ys : List X) (all : List X → Reader (List X)) (next : List X → Reader LogParts) where
+  -- a section that was read to its end
+  section-came : Same (remaining d) (read (all xs) next) → Same (next ys) (remaining e)
+      → CameIn bytes xs at ys after × Leads bytes (all xs) at (gives ys) after → IsFew e → after + reach d ≤ at + reach e → Came bytes d at e after
+  section-came from to (came, leads) few cost =
+      record {
+        leads = λ before behind. from _ _ ∙ (Leads-read bytes (all xs) (gives ys) at after next leads before behind ∙ to _ _);
+        within = came.within;
+        few = few;
+        cost = cost;
+      }
 
--- a section that was read in part
-section-stops : {X : Type 0} (bytes : List ℕ) (d e : Draft) (at after : ℕ) (xs ys : List X) (all : List X → Reader (List X)) (next : List X → Reader LogParts) (error : LogError)
-    → Same (remaining d) (read (all xs) next) → Same (remaining e) (read (all ys) next)
-    → ReadsIn all bytes xs at (Err error) ys after → (CameIn bytes xs at ys after → IsFew e × (after + reach d ≤ at + reach e))
-    → ReadsSection bytes d at (Err error) e after
-section-stops bytes d e at after xs ys all next (Malformed number offset) from to (came, leads, stops) known = (
-  record {
-    leads = λ before behind. from _ _ ∙ (Leads-read bytes (all xs) (all ys) at after next leads before behind ∙ sym (to _ _));
-    within = came.within;
-    few = (known came).0;
-    cost = (known came).1;
-  },
-  λ before behind.
-      let s = Stops-read bytes (all ys) after next (record { number = number; offset = offset }) stops before behind in
-      record { within = s.within; short = s.short; same = λ k. to _ _ ∙ s.same k },
-)
-section-stops bytes d e at after xs ys all next OutOfMemory from to h known = tt
+  -- a section that was read in part
+  section-stops : (error : LogError) → Same (remaining d) (read (all xs) next) → Same (remaining e) (read (all ys) next)
+      → ReadsIn all bytes xs at (Err error) ys after → (CameIn bytes xs at ys after → IsFew e × (after + reach d ≤ at + reach e))
+      → ReadsSection bytes d at (Err error) e after
+  section-stops (Malformed number offset) from to (came, leads, stops) known = (
+    record {
+      leads = λ before behind. from _ _ ∙ (Leads-read bytes (all xs) (all ys) at after next leads before behind ∙ sym (to _ _));
+      within = came.within;
+      few = (known came).0;
+      cost = (known came).1;
+    },
+    λ before behind.
+        let s = Stops-read bytes (all ys) after next (record { number = number; offset = offset }) stops before behind in
+        record { within = s.within; short = s.short; same = λ k. to _ _ ∙ s.same k },
+  )
+  section-stops OutOfMemory from to h known = tt
 
 order-from : (d : Draft) (count : ℕ) → d.head.stage ≡ Order count → Same (remaining d) (read (more_actors count d.order) (λ xs. from_size_count (record d { order = xs })))
 order-from d count is bytes at = ap (λ (s : Stage). remaining_at s d bytes at) is

@@ -68,43 +68,49 @@ raw-holds width before bytes behind at false e h =
 pub Streams-raw : (width : ℕ) → Streams width (raw width)
 Streams-raw width = record { holds = λ before bytes behind at h. raw-holds width before bytes behind at _ refl h }
 
--- one stream behind another
-read-holds : {X Y : Type 0} (m n : ℕ) (next : X → Reader Y) (before bytes behind : List ℕ) (at : ℕ) (r whole : Result (Read X) ParseError)
-    → ((x : X) → Streams n (next x)) → Holds m before bytes behind at r whole
-    → Holds (m + n) before bytes behind at (continues r (λ x after. next x bytes after))
-    (continues whole (λ x after. next x (before ++ (bytes ++ behind)) after))
-read-holds m n next before bytes behind at (Ok r) whole s h =
-    rw h.same (Holds-wider n (m + n) before bytes behind at r.after _ _ h.onward (omega (arith, h.few)) ((s r.value).holds before bytes behind r.after h.within))
-read-holds m n next before bytes behind at (Err fault) whole s h =
-    record { within = h.within; short = h.short; same = λ k. rw (h.same k) refl }
+-- These bytes stand between others, and are read from `at`.
+module _ (before bytes behind : List ℕ) (at : ℕ) where
+  abbrev all : List ℕ
+  all = before ++ (bytes ++ behind)
+
+  -- one stream behind another
+  read-holds : {X Y : Type 0} (m n : ℕ) (next : X → Reader Y) (r whole : Result (Read X) ParseError)
+      → ((x : X) → Streams n (next x)) → Holds m before bytes behind at r whole
+      → Holds (m + n) before bytes behind at (continues r (λ x after. next x bytes after)) (continues whole (λ x after. next x all after))
+  read-holds m n next (Ok r) whole s h =
+      rw h.same (Holds-wider n (m + n) before bytes behind at r.after _ _ h.onward (omega (arith, h.few)) ((s r.value).holds before bytes behind r.after h.within))
+  read-holds m n next (Err fault) whole s h =
+      record { within = h.within; short = h.short; same = λ k. rw (h.same k) refl }
+
+  -- a value that has to pass a test, with a fault at the first byte
+  judge-holds : {X Y : Type 0} (fault : ℕ) (value : X → Y) (after most : ℕ) (x : X) (good : Bool) → (fault ≡ 1 → ⊥) → at ≤ length bytes
+      → at ≤ after → after ≤ length bytes → after ≤ at + most
+      → Holds most before bytes behind at (passes good fault at (value x) bytes after) (passes good fault (length before + at) (value x) all (length before + after))
+  judge-holds fault value after most x true other h onward within few =
+      record { same = refl; onward = onward; within = within; few = few }
+  judge-holds fault value after most x false other h onward within few =
+      record { within = h; short = λ e. absurd (other e); same = λ k. refl }
+
+  -- a stream whose value has to pass that test
+  judged-holds : {X Y : Type 0} (m fault : ℕ) (test : X → Bool) (value : X → Y) (r whole : Result (Read X) ParseError) → (fault ≡ 1 → ⊥) → at ≤ length bytes
+      → Holds m before bytes behind at r whole
+      → Holds m before bytes behind at (continues r (λ x after. passes (test x) fault at (value x) bytes after))
+      (continues whole (λ x after. passes (test x) fault (length before + at) (value x) all after))
+  judged-holds m fault test value (Ok r) whole other inside h =
+      rw h.same (judge-holds fault value r.after m r.value (test r.value) other inside h.onward h.within h.few)
+  judged-holds m fault test value (Err f) whole other inside h =
+      record { within = h.within; short = h.short; same = λ k. rw (h.same k) refl }
 
 -- one stream behind another is a stream of at most the bytes of both
 pub Streams-read : {X Y : Type 0} (m n : ℕ) (first : Reader X) (next : X → Reader Y) → Streams m first → ((x : X) → Streams n (next x)) → Streams (m + n) (read first next)
 Streams-read m n first next s t =
-    record { holds = λ before bytes behind at h. read-holds m n next before bytes behind at _ _ t (s.holds before bytes behind at h) }
+    record { holds = λ before bytes behind at h. read-holds before bytes behind at m n next _ _ t (s.holds before bytes behind at h) }
 
--- a stream whose value has to pass a test, with a fault at the first byte
-judge-holds : {X Y : Type 0} (fault : ℕ) (value : X → Y) (before bytes behind : List ℕ) (at after : ℕ) (most : ℕ) (x : X) (good : Bool) → (fault ≡ 1 → ⊥) → at ≤ length bytes
-    → at ≤ after → after ≤ length bytes → after ≤ at + most
-    → Holds most before bytes behind at (passes good fault at (value x) bytes after) (passes good fault (length before + at) (value x) (before ++ (bytes ++ behind)) (length before + after))
-judge-holds fault value before bytes behind at after most x true other h onward within few =
-    record { same = refl; onward = onward; within = within; few = few }
-judge-holds fault value before bytes behind at after most x false other h onward within few =
-    record { within = h; short = λ e. absurd (other e); same = λ k. refl }
-
-judged-holds : {X Y : Type 0} (m fault : ℕ) (test : X → Bool) (value : X → Y) (before bytes behind : List ℕ) (at : ℕ) (r whole : Result (Read X) ParseError) → (fault ≡ 1 → ⊥) → at ≤ length bytes
-    → Holds m before bytes behind at r whole
-    → Holds m before bytes behind at (continues r (λ x after. passes (test x) fault at (value x) bytes after))
-    (continues whole (λ x after. passes (test x) fault (length before + at) (value x) (before ++ (bytes ++ behind)) after))
-judged-holds m fault test value before bytes behind at (Ok r) whole other inside h =
-    rw h.same (judge-holds fault value before bytes behind at r.after m r.value (test r.value) other inside h.onward h.within h.few)
-judged-holds m fault test value before bytes behind at (Err f) whole other inside h =
-    record { within = h.within; short = h.short; same = λ k. rw (h.same k) refl }
-
+-- a stream whose value has to pass a test is one of as many bytes
 pub Streams-judged : {X Y : Type 0} (m fault : ℕ) (first : Reader X) (test : X → Bool) (value : X → Y) → (fault ≡ 1 → ⊥) → Streams m first
     → Streams m (λ bytes start. read first (λ x. passes (test x) fault start (value x)) bytes start)
 Streams-judged m fault first test value other s =
-    record { holds = λ before bytes behind at h. judged-holds m fault test value before bytes behind at _ _ other h (s.holds before bytes behind at h) }
+    record { holds = λ before bytes behind at h. judged-holds before bytes behind at m fault test value _ _ other h (s.holds before bytes behind at h) }
 
 -- an entry that comes after those before it
 pub Streams-next : {X : Type 0} (most : ℕ) (earlier : X → X → Bool) (entry : Reader X) (before : List X) → Streams most entry → Streams most (next_entry earlier entry before)

@@ -54,29 +54,32 @@ set_again [] k a b = refl
 set_again (x ∷ xs) zero a b = refl
 set_again {A = A} (x ∷ xs) (suc k) a b = ap (λ (ys : List A). x ∷ ys) (set_again xs k a b)
 
--- where the core has given up its lines, the parts of a grant are the world after it
-pub grant_done : (cores then_ : Cores) (spheres after_ : Spheres) (flights : Flights) (devices : Devices) (counts : Counts) (points more : List Point) (c : ℕ) (held : Seen) (words : List Stored) (marks : Marks) (point : Point)
-    → then_ ≡ with_held c None cores → after_ ≡ with_nth held.sphere (nth_sphere held.sphere after_) spheres → more ≡ points ++ point ∷ []
-    → let between = world_in then_ after_ flights devices counts more in
-    record between {
-      slots = flown held.sphere words marks (2 ^ c) between.slots;
-      cores = slice_set between.cores c (held_afresh between.numbers held.sphere held.thread (sphere_at between held.sphere));
-    }
-    ≡ with_grant (world_in cores spheres flights devices counts points) c held (nth_sphere held.sphere after_) words marks devices point
-grant_done cores then_ spheres after_ flights devices counts points more c held words marks point ec es ep =
-    let again = set_again cores.held c None (held_afresh (record { chunk = spheres.standard; buffer = cores.capacity; signature = cores.bits }) held.sphere held.thread (nth_sphere held.sphere after_)) in
-    cc
+-- A machine has these parts before a grant.
+module _ (cores : Cores) (spheres : Spheres) (flights : Flights) (devices : Devices) (counts : Counts) (points : List Point) where
+  -- Core c held a thread and asks for its commit: after_ is what the grant makes of the spheres, these words fly with these
+  -- marks, and the points are more, by this one.
+  module _ (c : ℕ) (held : Seen) (after_ : Spheres) (words : List Stored) (marks : Marks) (more : List Point) (point : Point) where
+    -- the world with the words in flight, and the core holding its thread afresh
+    abbrev after_flight : World → World
+    after_flight between =
+        record between {
+          slots = flown held.sphere words marks (2 ^ c) between.slots;
+          cores = slice_set between.cores c (held_afresh between.numbers held.sphere held.thread (sphere_at between held.sphere));
+        }
 
--- where the core has its lines still and the devices have changed, the parts of a grant are the world after it
-pub serial_done : (cores : Cores) (spheres after_ : Spheres) (flights : Flights) (devices then_ : Devices) (counts : Counts) (points more : List Point) (c : ℕ) (held : Seen) (words : List Stored) (marks : Marks) (point : Point)
-    → after_ ≡ with_nth held.sphere (nth_sphere held.sphere after_) spheres → more ≡ points ++ point ∷ []
-    → let between = world_in cores after_ flights then_ counts more in
-    record between {
-      slots = flown held.sphere words marks (2 ^ c) between.slots;
-      cores = slice_set between.cores c (held_afresh between.numbers held.sphere held.thread (sphere_at between held.sphere));
-    }
-    ≡ with_grant (world_in cores spheres flights devices counts points) c held (nth_sphere held.sphere after_) words marks then_ point
-serial_done cores spheres after_ flights devices then_ counts points more c held words marks point es ep = cc
+    -- where the core has given up its lines, the parts of a grant are the world after it
+    pub grant_done : (then_ : Cores) → then_ ≡ with_held c None cores → after_ ≡ with_nth held.sphere (nth_sphere held.sphere after_) spheres → more ≡ points ++ point ∷ []
+        → after_flight (world_in then_ after_ flights devices counts more)
+        ≡ with_grant (world_in cores spheres flights devices counts points) c held (nth_sphere held.sphere after_) words marks devices point
+    grant_done then_ ec es ep =
+        let again = set_again cores.held c None (held_afresh (record { chunk = spheres.standard; buffer = cores.capacity; signature = cores.bits }) held.sphere held.thread (nth_sphere held.sphere after_)) in
+        cc
+
+    -- where the core has its lines still and the devices have changed, the parts of a grant are the world after it
+    pub serial_done : (then_ : Devices) → after_ ≡ with_nth held.sphere (nth_sphere held.sphere after_) spheres → more ≡ points ++ point ∷ []
+        → after_flight (world_in cores after_ flights then_ counts more)
+        ≡ with_grant (world_in cores spheres flights devices counts points) c held (nth_sphere held.sphere after_) words marks then_ point
+    serial_done then_ es ep = cc
 
 -- ---- under what a core holds
 

@@ -29,49 +29,50 @@ moved_by m ts cs k t g v role =
       devices = console_written t m v.outputs g.devices;
     }
 
--- a serial step of a plain or recorded sphere moves it as the definitions do
-pub step_is_moved : (s : ℕ) (x : Keeping) (m : List ℕ) (ts : List Parts) (cs : List Commit) (last : Option ℕ) (q : Option Request) (k moment : ℕ) (t : Parts) (d : Devices)
-    → IsLive x → slice_get ts k ≡ Some t → IsKeepingOf s (sphere_with m ts cs last q (role_of x)) x →
-    let g = taken (need t m) d moment in
-    let v = serve k ts q t m g.input in
-    moved_by m ts cs k t g v (role_of (with_noted (serial_commit k v.loads v.outputs) false g.input None x)) ≡ serial_moved k moment t d (sphere_with m ts cs last q (role_of x))
-unfolding serial_moved
-step_is_moved s Plain m ts cs last q k moment t d live start h = refl
-step_is_moved s (Replaying r loads) m ts cs last q k moment t d live start h = absurd live
-step_is_moved s (Recording r) m ts cs last q k moment t d live start h =
-    let g = taken (need t m) d moment in
-    let v = serve k ts q t m g.input in
-    let c : Commit = serial_commit k v.loads v.outputs in
-    ap (λ l. moved_by m ts cs k t g v (protocol.Record l)) (log_with r c false g.input ∙ ap (λ i. input_noted g.input (noted c i false (as_log r))) (h.done k ∙ ap commits_if start))
+-- A plain or recorded sphere of this memory and these threads has done these commits, the last one of a thread being of the
+-- thread `last`; the devices are d.
+module _ (m : List ℕ) (ts : List Parts) (cs : List Commit) (last : Option ℕ) (d : Devices) where
+  -- a serial step of the sphere moves it as the definitions do
+  pub step_is_moved : (s : ℕ) (x : Keeping) (q : Option Request) (k moment : ℕ) (t : Parts)
+      → IsLive x → slice_get ts k ≡ Some t → IsKeepingOf s (sphere_with m ts cs last q (role_of x)) x →
+      let g = taken (need t m) d moment in
+      let v = serve k ts q t m g.input in
+      moved_by m ts cs k t g v (role_of (with_noted (serial_commit k v.loads v.outputs) false g.input None x)) ≡ serial_moved k moment t d (sphere_with m ts cs last q (role_of x))
+  unfolding serial_moved
+  step_is_moved s Plain q k moment t live start h = refl
+  step_is_moved s (Replaying r loads) q k moment t live start h = absurd live
+  step_is_moved s (Recording r) q k moment t live start h =
+      let g = taken (need t m) d moment in
+      let v = serve k ts q t m g.input in
+      let c : Commit = serial_commit k v.loads v.outputs in
+      ap (λ l. moved_by m ts cs k t g v (protocol.Record l)) (log_with r c false g.input ∙ ap (λ i. input_noted g.input (noted c i false (as_log r))) (h.done k ∙ ap commits_if start))
 
--- ---- a DMA
+  -- without a request it has no DMA
+  pub none_moved : (x : Keeping) → IsLive x → dma_moved d (sphere_with m ts cs last None (role_of x)) ≡ None
+  unfolding dma_moved
+  none_moved Plain live = refl
+  none_moved (Recording r) live = refl
+  none_moved (Replaying r loads) live = absurd live
 
--- a plain or recorded sphere without a request has no DMA
-pub none_moved : (x : Keeping) (m : List ℕ) (ts : List Parts) (cs : List Commit) (last : Option ℕ) (d : Devices) → IsLive x → dma_moved d (sphere_with m ts cs last None (role_of x)) ≡ None
-unfolding dma_moved
-none_moved Plain m ts cs last d live = refl
-none_moved (Recording r) m ts cs last d live = refl
-none_moved (Replaying r loads) m ts cs last d live = absurd live
-
--- a DMA of a plain or recorded sphere moves it as the definitions do
-pub dma_is_moved : (s : ℕ) (x : Keeping) (m : List ℕ) (ts : List Parts) (cs : List Commit) (last : Option ℕ) (request : Request) (d : Devices)
-    → IsLive x → IsKeepingOf s (sphere_with m ts cs last (Some request) (role_of x)) x
-    → dma_moved d (sphere_with m ts cs last (Some request) (role_of x))
-    ≡ Some (record {
-      outcome = Granted;
-      sphere = sphere_with m ts (cs ++ dma_commit ∷ []) last None (role_of (with_noted dma_commit false None (Some (dma_bytes d request)) x));
-      words = dma_words request (dma_bytes d request);
-      devices = dma_taken d request;
-    })
-unfolding dma_moved
-dma_is_moved s Plain m ts cs last request d live h = refl
-dma_is_moved s (Replaying r loads) m ts cs last request d live h = absurd live
-dma_is_moved s (Recording r) m ts cs last request d live h =
-    let moved : protocol.Role → Option MovedSphere = λ role. Some (record {
-      outcome = Granted;
-      sphere = sphere_with m ts (cs ++ dma_commit ∷ []) last None role;
-      words = dma_words request (dma_bytes d request);
-      devices = dma_taken d request;
-    })
-    in
-    ap moved (sym (transferred_role (sphere_with m ts cs last (Some request) (role_of (Recording r))) s (dma_bytes d request) r h))
+  -- a DMA moves it as the definitions do
+  pub dma_is_moved : (s : ℕ) (x : Keeping) (request : Request)
+      → IsLive x → IsKeepingOf s (sphere_with m ts cs last (Some request) (role_of x)) x
+      → dma_moved d (sphere_with m ts cs last (Some request) (role_of x))
+      ≡ Some (record {
+        outcome = Granted;
+        sphere = sphere_with m ts (cs ++ dma_commit ∷ []) last None (role_of (with_noted dma_commit false None (Some (dma_bytes d request)) x));
+        words = dma_words request (dma_bytes d request);
+        devices = dma_taken d request;
+      })
+  unfolding dma_moved
+  dma_is_moved s Plain request live h = refl
+  dma_is_moved s (Replaying r loads) request live h = absurd live
+  dma_is_moved s (Recording r) request live h =
+      let moved : protocol.Role → Option MovedSphere = λ role. Some (record {
+        outcome = Granted;
+        sphere = sphere_with m ts (cs ++ dma_commit ∷ []) last None role;
+        words = dma_words request (dma_bytes d request);
+        devices = dma_taken d request;
+      })
+      in
+      ap moved (sym (transferred_role (sphere_with m ts cs last (Some request) (role_of (Recording r))) s (dma_bytes d request) r h))

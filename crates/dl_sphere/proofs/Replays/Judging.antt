@@ -7,25 +7,22 @@ use Rattle.std.proofs.Math.Seq.{map-set_same}
 use Rattle.dl_entry.specs.declared.Commit.{Commit}
 use Rattle.dl_entry.specs.declared.Request.{Request}
 use Rattle.dl_entry.specs.declared.Why.{Why}
-use Rattle.spec_isa.specs.declared.thread.Load.{Load}
 use Rattle.spec_isa.specs.declared.thread.Parts.{Parts}
 use Rattle.spec_isa.specs.Runs.{Run}
 use Rattle.spec_log.specs.declared.LogParts.{LogParts}
 use Rattle.spec_kernel.specs.Interrupts.{takes_interrupt, interrupted}
-use Rattle.spec_play.specs.Effects.{Effect, chunk_commit, chunk_effect, serial_commit, serial_effect, dma_commit}
+use Rattle.spec_play.specs.Effects.{Effect, chunk_commit, chunk_effect, serial_commit, serial_effect}
 use Rattle.spec_kernel.specs.Serving.{serve}
 use Rattle.spec_play.specs.Progress.{Progress, Used, with_interrupt}
-use Rattle.spec_play.specs.Transfers.{DmaVerdict, DmaGoes, DmaFails}
 use Rattle.spec_play.specs.Verdicts.{LogVerdict, Goes, Fails, Given, with_interrupted, interrupt_at, chunk_verdict, unless, served_verdict, serial_verdict}
-use Rattle.dl_wbuf.specs.Buffers.{Words}
 use Rattle.dl_kernel.specs.declared.serving.StepResult.{StepResult}
 use Rattle.dl_replay.specs.declared.served.Served.{Served}
 use Rattle.dl_replay.specs.declared.asking.Verdict.{Verdict}
 use Rattle.dl_replay.specs.Judged as replay
-use Rattle.dl_replay.specs.Judged.{chunk_judged, serial_judged, dma_judged, committed, diverged, transferred}
-use Rattle.dl_replay.specs.Left.{nothing_served, served_left, served_stored}
+use Rattle.dl_replay.specs.Judged.{chunk_judged, serial_judged}
+use Rattle.dl_replay.specs.Left.{nothing_served, served_left}
 use Rattle.dl_replay.specs.Replaying.{Replaying, commits_of}
-use Rattle.dl_sphere.specs.Judging.{judged_by, dma_judged_by}
+use Rattle.dl_sphere.specs.Judging.{Before, judged_by}
 
 -- ---- the commit of a verdict
 
@@ -101,126 +98,69 @@ why_in : Why → Verdict → Why
 why_in d Verdict.Went = d
 why_in d (Verdict.Diverged why) = why
 
--- a chunk of which the replayer answers that it went is judged so
-pub chunk_went : (r : Replaying) (p : Progress) (k : ℕ) (before mid : List Parts) (request : Option Request) (served : Served) (v : LogVerdict) (cs : List Commit) (loads : List Load) (c : Commit)
-    (new : Replaying) (ts : List Parts) (q : Option Request) (s : Served)
-    → ((f : Effect) (w : Used) → v ≡ Goes f w → f.commit ≡ c)
-    → record { verdict = Verdict.Went; replay = new; threads = ts; request = q; served = s } ≡ chunk_judged r p k before mid request served v
-    → record { why = None; replay = new; loads = []; threads = ts; request = q; commits = cs ++ c ∷ []; words = [] }
-    ≡ record (judged_by p k (record { replay = r; loads = loads; threads = before; request = request; commits = cs }) v) { words = [] }
-unfolding went
-chunk_went r p k before mid request served (Fails why) cs loads c new ts q s commit is = absurd (true≢false (ap (λ (j : replay.Judged). went j.verdict) is))
-chunk_went r p k before mid request served (Goes e u) cs loads c new ts q s commit is =
-    let same : c ≡ e.commit = sym (commit e u refl) in
-    λ i. record {
-      why = None;
-      replay = (is i).replay;
-      loads = [];
-      threads = (is i).threads;
-      request = (is i).request;
-      commits = cs ++ same i ∷ [];
-      words = [];
-    }
+-- The commit of thread k that comes after progress p is judged, of a sphere that is as b says; new, ts and q are the replay,
+-- the threads and the request that the replayer leaves.
+module _ (p : Progress) (k : ℕ) (b : Before) (new : Replaying) (ts : List Parts) (q : Option Request) where
+  -- a chunk of which the replayer answers that it went is judged so
+  pub chunk_went : (mid : List Parts) (served : Served) (v : LogVerdict) (c : Commit) (s : Served)
+      → ((f : Effect) (w : Used) → v ≡ Goes f w → f.commit ≡ c)
+      → record { verdict = Verdict.Went; replay = new; threads = ts; request = q; served = s } ≡ chunk_judged b.replay p k b.threads mid b.request served v
+      → record { why = None; replay = new; loads = []; threads = ts; request = q; commits = b.commits ++ c ∷ []; words = [] }
+      ≡ record (judged_by p k b v) { words = [] }
+  unfolding went
+  chunk_went mid served (Fails why) c s commit is = absurd (true≢false (ap (λ (j : replay.Judged). went j.verdict) is))
+  chunk_went mid served (Goes e u) c s commit is =
+      let same : c ≡ e.commit = sym (commit e u refl) in
+      λ i. record {
+        why = None;
+        replay = (is i).replay;
+        loads = [];
+        threads = (is i).threads;
+        request = (is i).request;
+        commits = b.commits ++ same i ∷ [];
+        words = [];
+      }
 
--- a chunk of which the replayer answers that it diverges is judged so
-pub chunk_left : (r : Replaying) (p : Progress) (k : ℕ) (before mid : List Parts) (request : Option Request) (served : Served) (v : LogVerdict) (cs : List Commit) (loads : List Load) (why : Why)
-    (new : Replaying) (ts : List Parts) (q : Option Request) (s : Served)
-    → record { verdict = Verdict.Diverged why; replay = new; threads = ts; request = q; served = s } ≡ chunk_judged r p k before mid request served v
-    → record { why = Some why; replay = new; loads = loads; threads = before; request = q; commits = cs; words = [] }
-    ≡ record (judged_by p k (record { replay = r; loads = loads; threads = before; request = request; commits = cs }) v) { words = [] }
-unfolding went why_in
-chunk_left r p k before mid request served (Goes e u) cs loads why new ts q s is = absurd (true≢false (sym (ap (λ (j : replay.Judged). went j.verdict) is)))
-chunk_left r p k before mid request served (Fails because) cs loads why new ts q s is =
-    let same : why ≡ because = ap (λ (j : replay.Judged). why_in why j.verdict) is in
-    λ i. record {
-      why = Some (same i);
-      replay = (is i).replay;
-      loads = loads;
-      threads = before;
-      request = (is i).request;
-      commits = cs;
-      words = [];
-    }
+  -- a chunk of which the replayer answers that it diverges is judged so
+  pub chunk_left : (mid : List Parts) (served : Served) (v : LogVerdict) (why : Why) (s : Served)
+      → record { verdict = Verdict.Diverged why; replay = new; threads = ts; request = q; served = s } ≡ chunk_judged b.replay p k b.threads mid b.request served v
+      → record { why = Some why; replay = new; loads = b.loads; threads = b.threads; request = q; commits = b.commits; words = [] }
+      ≡ record (judged_by p k b v) { words = [] }
+  unfolding went why_in
+  chunk_left mid served (Goes e u) why s is = absurd (true≢false (sym (ap (λ (j : replay.Judged). went j.verdict) is)))
+  chunk_left mid served (Fails because) why s is =
+      let same : why ≡ because = ap (λ (j : replay.Judged). why_in why j.verdict) is in
+      λ i. record {
+        why = Some (same i);
+        replay = (is i).replay;
+        loads = b.loads;
+        threads = b.threads;
+        request = (is i).request;
+        commits = b.commits;
+        words = [];
+      }
 
--- a serial step of which the replayer answers that it went is judged so
-pub step_went : (r : Replaying) (p : Progress) (k : ℕ) (before : List Parts) (request : Option Request) (v : LogVerdict) (cs : List Commit) (loads : List Load) (left : StepResult)
-    (new : Replaying) (ts : List Parts) (q : Option Request)
-    → ((f : Effect) (w : Used) → v ≡ Goes f w → f.commit ≡ serial_commit k f.commit.loads f.commit.outputs)
-    → record { verdict = Verdict.Went; replay = new; threads = ts; request = q; served = served_left (Ok left) } ≡ serial_judged r p k before request nothing_served v
-    → record { why = None; replay = new; loads = []; threads = ts; request = q; commits = cs ++ serial_commit k left.loads left.outputs ∷ []; words = left.words.words }
-    ≡ judged_by p k (record { replay = r; loads = loads; threads = before; request = request; commits = cs }) v
-unfolding went
-step_went r p k before request (Fails why) cs loads left new ts q commit is = absurd (true≢false (ap (λ (j : replay.Judged). went j.verdict) is))
-step_went r p k before request (Goes e u) cs loads left new ts q commit is =
-    let lists : left.loads ≡ e.commit.loads = ap (λ (j : replay.Judged). j.served.loads) is in
-    let outputs : left.outputs ≡ e.commit.outputs = ap (λ (j : replay.Judged). j.served.outputs) is in
-    let same : serial_commit k left.loads left.outputs ≡ e.commit = (λ i. serial_commit k (lists i) (outputs i)) ∙ sym (commit e u refl) in
-    λ i. record {
-      why = None;
-      replay = (is i).replay;
-      loads = [];
-      threads = (is i).threads;
-      request = (is i).request;
-      commits = cs ++ same i ∷ [];
-      words = (is i).served.words;
-    }
-
-pub step_left : (r : Replaying) (p : Progress) (k : ℕ) (before : List Parts) (request : Option Request) (v : LogVerdict) (cs : List Commit) (loads : List Load) (why : Why)
-    (new : Replaying) (ts : List Parts) (q : Option Request)
-    → record { verdict = Verdict.Diverged why; replay = new; threads = ts; request = q; served = nothing_served } ≡ serial_judged r p k before request nothing_served v
-    → record { why = Some why; replay = new; loads = loads; threads = ts; request = q; commits = cs; words = [] }
-    ≡ judged_by p k (record { replay = r; loads = loads; threads = before; request = request; commits = cs }) v
-unfolding went why_in
-step_left r p k before request (Goes e u) cs loads why new ts q is = absurd (true≢false (sym (ap (λ (j : replay.Judged). went j.verdict) is)))
-step_left r p k before request (Fails because) cs loads why new ts q is =
-    let same : why ≡ because = ap (λ (j : replay.Judged). why_in why j.verdict) is in
-    λ i. record {
-      why = Some (same i);
-      replay = (is i).replay;
-      loads = loads;
-      threads = (is i).threads;
-      request = (is i).request;
-      commits = cs;
-      words = [];
-    }
-
--- a DMA
-pub dma_went : (r : Replaying) (p : Progress) (before : List Parts) (request : Option Request) (v : DmaVerdict) (cs : List Commit) (loads : List Load) (words : Words)
-    (new : Replaying) (q : Option Request)
-    → record { verdict = Verdict.Went; replay = new; threads = before; request = q; served = served_stored (Ok words) } ≡ dma_judged r p before request nothing_served v
-    → record { why = None; replay = new; loads = []; threads = before; request = q; commits = cs ++ dma_commit ∷ []; words = words.words }
-    ≡ dma_judged_by p (record { replay = r; loads = loads; threads = before; request = request; commits = cs }) v
-unfolding went
-dma_went r p before request (DmaFails why) cs loads words new q is = absurd (true≢false (ap (λ (j : replay.Judged). went j.verdict) is))
-dma_went r p before request (DmaGoes ws) cs loads words new q is =
-    λ i. record {
-      why = None;
-      replay = (is i).replay;
-      loads = [];
-      threads = (is i).threads;
-      request = (is i).request;
-      commits = cs ++ dma_commit ∷ [];
-      words = (is i).served.words;
-    }
-
-pub dma_left : (r : Replaying) (p : Progress) (before : List Parts) (request : Option Request) (v : DmaVerdict) (cs : List Commit) (loads : List Load) (why : Why)
-    (new : Replaying) (q : Option Request)
-    → record { verdict = Verdict.Diverged why; replay = new; threads = before; request = q; served = nothing_served } ≡ dma_judged r p before request nothing_served v
-    → record { why = Some why; replay = new; loads = loads; threads = before; request = q; commits = cs; words = [] }
-    ≡ dma_judged_by p (record { replay = r; loads = loads; threads = before; request = request; commits = cs }) v
-unfolding went why_in
-dma_left r p before request (DmaGoes ws) cs loads why new q is = absurd (true≢false (sym (ap (λ (j : replay.Judged). went j.verdict) is)))
-dma_left r p before request (DmaFails because) cs loads why new q is =
-    let same : why ≡ because = ap (λ (j : replay.Judged). why_in why j.verdict) is in
-    λ i. record {
-      why = Some (same i);
-      replay = (is i).replay;
-      loads = loads;
-      threads = (is i).threads;
-      request = (is i).request;
-      commits = cs;
-      words = [];
-    }
+  -- a serial step of which the replayer answers that it went is judged so
+  pub step_went : (v : LogVerdict) (left : StepResult)
+      → ((f : Effect) (w : Used) → v ≡ Goes f w → f.commit ≡ serial_commit k f.commit.loads f.commit.outputs)
+      → record { verdict = Verdict.Went; replay = new; threads = ts; request = q; served = served_left (Ok left) } ≡ serial_judged b.replay p k b.threads b.request nothing_served v
+      → record { why = None; replay = new; loads = []; threads = ts; request = q; commits = b.commits ++ serial_commit k left.loads left.outputs ∷ []; words = left.words.words }
+      ≡ judged_by p k b v
+  unfolding went
+  step_went (Fails why) left commit is = absurd (true≢false (ap (λ (j : replay.Judged). went j.verdict) is))
+  step_went (Goes e u) left commit is =
+      let lists : left.loads ≡ e.commit.loads = ap (λ (j : replay.Judged). j.served.loads) is in
+      let outputs : left.outputs ≡ e.commit.outputs = ap (λ (j : replay.Judged). j.served.outputs) is in
+      let same : serial_commit k left.loads left.outputs ≡ e.commit = (λ i. serial_commit k (lists i) (outputs i)) ∙ sym (commit e u refl) in
+      λ i. record {
+        why = None;
+        replay = (is i).replay;
+        loads = [];
+        threads = (is i).threads;
+        request = (is i).request;
+        commits = b.commits ++ same i ∷ [];
+        words = (is i).served.words;
+      }
 
 -- ---- the threads while a chunk is judged
 

@@ -16,14 +16,14 @@ use Rattle.spec_play.specs.Transfers.{DmaVerdict, DmaGoes, DmaFails}
 use Rattle.spec_play.specs.Turns.{Over}
 use Rattle.spec_play.specs.Verdicts.{LogVerdict, Goes, Fails}
 use Rattle.spec_protocol.specs.Commits as commits
-use Rattle.spec_protocol.specs.Commits.{MovedSphere, by_verdict, dma_by_verdict}
-use Rattle.spec_protocol.specs.Spheres.{Replay, Role}
+use Rattle.spec_protocol.specs.Commits.{by_verdict, dma_by_verdict}
+use Rattle.spec_protocol.specs.Spheres.{Replay, Sphere}
 use Rattle.spec_protocol.proofs.Logs.Growing.{pushed_length}
 use Rattle.dl_replay.specs.Replaying.{Replaying, commits_of, cursor_of}
 use Rattle.dl_sphere.specs.Inside.{sphere_with}
 use Rattle.dl_sphere.specs.Judging.{JudgedSphere, Before, judged_by, dma_judged_by}
 use Rattle.dl_sphere.specs.Roles as roles
-use Rattle.dl_sphere.specs.Roles.{IsReplayed, IsSphere}
+use Rattle.dl_sphere.specs.Roles.{IsSphere}
 
 -- whether it went on
 went : Option Why → Bool
@@ -34,207 +34,191 @@ why_in : Why → Option Why → Why
 why_in d None = d
 why_in d (Some why) = why
 
-abbrev pub progress_of : List Commit → (last : Option ℕ) → Option Request → Progress
-progress_of cs last q = record { commits = cs; last = last; request = q }
-
--- ---- commits of threads
-
--- a judged commit that goes on moves the sphere as its verdict says
-pub granted : (m : List ℕ) (ts : List Parts) (cs : List Commit) (last : Option ℕ) (rq : Option Request) (r : Replaying) (loads : List Load) (k : ℕ) (v : LogVerdict) (d : Devices)
-    (new : Replaying) (ls : List Load) (us : List Parts) (q : Option Request) (ds : List Commit) (ws : List Stored)
-    → ((e : Effect) (u : Used) → v ≡ Goes e u → e.words ≡ ws)
-    → record { why = None; replay = new; loads = ls; threads = us; request = q; commits = ds; words = [] }
-    ≡ record (judged_by (progress_of cs last rq) k (record { replay = r; loads = loads; threads = ts; request = rq; commits = cs }) v) { words = [] }
-    → record { outcome = commits.Granted; sphere = sphere_with m us ds (Some k) q (Replay (cursor_of new ls)); words = ws; devices = d }
-    ≡ by_verdict (cursor_of r loads) k v d (sphere_with m ts cs last rq (Replay (cursor_of r loads)))
-unfolding went
-granted m ts cs last rq r loads k (Fails why) d new ls us q ds ws words is = absurd (true≢false (ap (λ (j : JudgedSphere). went j.why) is))
-granted m ts cs last rq r loads k (Goes e u) d new ls us q ds ws words is =
-    λ i. record {
-      outcome = commits.Granted;
-      sphere = sphere_with m (is i).threads (is i).commits (Some k) (is i).request (Replay (cursor_of (is i).replay (is i).loads));
-      words = sym (words e u refl) i;
-      devices = d;
-    }
-
--- a judged commit that diverges moves the sphere as its verdict says
-pub left : (m : List ℕ) (ts : List Parts) (cs : List Commit) (last : Option ℕ) (rq : Option Request) (r : Replaying) (loads : List Load) (k : ℕ) (v : LogVerdict) (d : Devices)
-    (why : Why) (new : Replaying) (ls : List Load) (us : List Parts) (q : Option Request) (ds : List Commit)
-    → length cs ≡ r.done
-    → record { why = Some why; replay = new; loads = ls; threads = us; request = q; commits = ds; words = [] }
-    ≡ record (judged_by (progress_of cs last rq) k (record { replay = r; loads = loads; threads = ts; request = rq; commits = cs }) v) { words = [] }
-    → record { outcome = commits.Diverged (length ds) why; sphere = sphere_with m us ds last q (Replay (cursor_of new ls)); words = []; devices = d }
-    ≡ by_verdict (cursor_of r loads) k v d (sphere_with m ts cs last rq (Replay (cursor_of r loads)))
-unfolding went why_in
-left m ts cs last rq r loads k (Goes e u) d why new ls us q ds done is = absurd (true≢false (sym (ap (λ (j : JudgedSphere). went j.why) is)))
-left m ts cs last rq r loads k (Fails because) d why new ls us q ds done is =
-    let same : why ≡ because = ap (λ (j : JudgedSphere). why_in why j.why) is in
-    (λ i. record {
-      outcome = commits.Diverged (length (is i).commits) (same i);
-      sphere = sphere_with m (is i).threads (is i).commits last (is i).request (Replay (cursor_of (is i).replay (is i).loads));
-      words = [];
-      devices = d;
-    })
-    ∙ ap (λ n. record {
-      outcome = commits.Diverged (length cs) because;
-      sphere = sphere_with m ts cs last rq (Replay (record (cursor_of r loads) { now = Over (End.Diverged n because) }));
-      words = [];
-      devices = d;
-    }) (sym done)
-
 -- the words of a commit that went on are those to fly
 pub goes_words : (p : Progress) (k : ℕ) (b : Before) (v : LogVerdict) (j : JudgedSphere) (e : Effect) (u : Used) → j ≡ judged_by p k b v → v ≡ Goes e u → e.words ≡ j.words
 goes_words p k b v j e u is goes = sym (ap (λ (x : JudgedSphere). x.words) is ∙ ap (λ (x : LogVerdict). (judged_by p k b x).words) goes)
 
--- where the replay leaves its log, no commit is added
-pub left_commits : (p : Progress) (k : ℕ) (b : Before) (v : LogVerdict) (why : Why) (new : Replaying) (ls : List Load) (us : List Parts) (q : Option Request) (ds : List Commit)
-    → record { why = Some why; replay = new; loads = ls; threads = us; request = q; commits = ds; words = [] } ≡ record (judged_by p k b v) { words = [] }
-    → length ds ≡ length b.commits
-unfolding went
-left_commits p k b (Goes e u) why new ls us q ds is = absurd (true≢false (sym (ap (λ (j : JudgedSphere). went j.why) is)))
-left_commits p k b (Fails because) why new ls us q ds is = ap (λ (j : JudgedSphere). length j.commits) is
+-- The sphere x is replayed: r is its replay, and these are the loads of the pieces of its present commit.
+module _ (x : Sphere) (r : Replaying) (loads : List Load) where
+  -- what is judged
+  abbrev before : Before
+  before = record { replay = r; loads = loads; threads = x.threads; request = x.progress.request; commits = x.progress.commits }
 
--- a DMA that diverges leaves the commits as they were
-pub dma_left_commits : (p : Progress) (b : Before) (v : DmaVerdict) (why : Why) (new : Replaying) (ls : List Load) (us : List Parts) (q : Option Request) (ds : List Commit)
-    → record { why = Some why; replay = new; loads = ls; threads = us; request = q; commits = ds; words = [] } ≡ dma_judged_by p b v
-    → length ds ≡ length b.commits
-unfolding went
-dma_left_commits p b (DmaGoes words) why new ls us q ds is = absurd (true≢false (sym (ap (λ (j : JudgedSphere). went j.why) is)))
-dma_left_commits p b (DmaFails because) why new ls us q ds is = ap (λ (j : JudgedSphere). length j.commits) is
+  -- the sphere, in the role of this replay
+  abbrev played : Sphere
+  played = record x { role = Replay (cursor_of r loads) }
 
--- the sphere stands after a commit that goes on
-pub stands_granted : (s : ℕ) (m : List ℕ) (ts : List Parts) (cs : List Commit) (last : Option ℕ) (rq : Option Request) (role to : Role) (r : Replaying) (loads : List Load) (k : ℕ) (v : LogVerdict)
-    (new : Replaying) (ls : List Load) (us : List Parts) (q : Option Request) (ds : List Commit)
-    → length us ≤ 15
-    → record { why = None; replay = new; loads = ls; threads = us; request = q; commits = ds; words = [] }
-    ≡ record (judged_by (progress_of cs last rq) k (record { replay = r; loads = loads; threads = ts; request = rq; commits = cs }) v) { words = [] }
-    → IsSphere s (sphere_with m ts cs last rq role) (roles.Replaying r loads)
-    → IsSphere s (sphere_with m us ds (Some k) q to) (roles.Replaying new ls)
-unfolding went
-stands_granted s m ts cs last rq role to r loads k (Fails why) new ls us q ds few is h = absurd (true≢false (ap (λ (j : JudgedSphere). went j.why) is))
-stands_granted s m ts cs last rq role to r loads k (Goes e u) new ls us q ds few is h =
-    let count : length ds ≡ suc (length cs) = ap (λ (j : JudgedSphere). length j.commits) is ∙ pushed_length cs e.commit (length cs) refl in
-    let done : new.done ≡ r.done + 1 = ap (λ (j : JudgedSphere). j.replay.done) is in
-    let was : length cs ≡ r.done = h.kept.agrees.done in
-    record {
-      size = h.size;
-      threads = few;
-      kept = record {
-        is_log = subst IsLog (sym (ap (λ (j : JudgedSphere). j.replay.log) is)) h.kept.is_log;
-        agrees = record { done = omega (arith, count, done, was); last = sym (ap (λ (j : JudgedSphere). j.replay.last) is) };
-        commits = ap (λ (j : JudgedSphere). j.replay.commits) is ∙ sym (ap (λ (j : JudgedSphere). commits_of j.threads) is);
-      };
-    }
+  -- Judging its next commit has left it with the replay new and the loads ls, these threads, this request and these commits.
+  module _ (new : Replaying) (ls : List Load) (us : List Parts) (q : Option Request) (ds : List Commit) where
+    -- what was answered: why the replay has left its log, if it has, and the words to fly
+    abbrev answered : Option Why → List Stored → JudgedSphere
+    answered why words = record { why = why; replay = new; loads = ls; threads = us; request = q; commits = ds; words = words }
 
--- the sphere stands after a commit that diverges
-pub stands_left : (s : ℕ) (m : List ℕ) (ts : List Parts) (cs : List Commit) (last : Option ℕ) (rq : Option Request) (role to : Role) (r : Replaying) (loads : List Load) (k : ℕ) (v : LogVerdict)
-    (why : Why) (new : Replaying) (ls : List Load) (us : List Parts) (q : Option Request) (ds : List Commit)
-    → record { why = Some why; replay = new; loads = ls; threads = us; request = q; commits = ds; words = [] }
-    ≡ record (judged_by (progress_of cs last rq) k (record { replay = r; loads = loads; threads = ts; request = rq; commits = cs }) v) { words = [] }
-    → IsSphere s (sphere_with m ts cs last rq role) (roles.Replaying r loads)
-    → IsSphere s (sphere_with m us ds last q to) (roles.Replaying new ls)
-unfolding went
-stands_left s m ts cs last rq role to r loads k (Goes e u) why new ls us q ds is h = absurd (true≢false (sym (ap (λ (j : JudgedSphere). went j.why) is)))
-stands_left s m ts cs last rq role to r loads k (Fails because) why new ls us q ds is h =
-    record {
-      size = h.size;
-      threads = subst (λ xs. length xs ≤ 15) (sym (ap (λ (j : JudgedSphere). j.threads) is)) h.threads;
-      kept = record {
-        is_log = subst IsLog (sym (ap (λ (j : JudgedSphere). j.replay.log) is)) h.kept.is_log;
-        agrees = record {
-          done = ap (λ (j : JudgedSphere). length j.commits) is ∙ h.kept.agrees.done ∙ sym (ap (λ (j : JudgedSphere). j.replay.done) is);
-          last = h.kept.agrees.last ∙ sym (ap (λ (j : JudgedSphere). j.replay.last) is);
-        };
-        commits = ap (λ (j : JudgedSphere). j.replay.commits) is ∙ h.kept.commits ∙ sym (ap (λ (j : JudgedSphere). commits_of j.threads) is);
-      };
-    }
+    -- the sphere then, the last commit of a thread being one of the thread `last`
+    abbrev after : (last : Option ℕ) → Sphere
+    after last = sphere_with x.memory us ds last q (Replay (cursor_of new ls))
 
--- ---- DMAs
+    -- ---- commits of threads
 
--- a judged DMA that goes on moves the sphere as its verdict says
-pub dma_granted : (m : List ℕ) (ts : List Parts) (cs : List Commit) (last : Option ℕ) (rq : Option Request) (r : Replaying) (loads : List Load) (v : DmaVerdict) (d : Devices)
-    (new : Replaying) (ls : List Load) (us : List Parts) (q : Option Request) (ds : List Commit) (ws : List Stored)
-    → record { why = None; replay = new; loads = ls; threads = us; request = q; commits = ds; words = ws }
-    ≡ dma_judged_by (progress_of cs last rq) (record { replay = r; loads = loads; threads = ts; request = rq; commits = cs }) v
-    → record { outcome = commits.Granted; sphere = sphere_with m us ds last q (Replay (cursor_of new ls)); words = ws; devices = d }
-    ≡ dma_by_verdict (cursor_of r loads) v d (sphere_with m ts cs last rq (Replay (cursor_of r loads)))
-unfolding went
-dma_granted m ts cs last rq r loads (DmaFails why) d new ls us q ds ws is = absurd (true≢false (ap (λ (j : JudgedSphere). went j.why) is))
-dma_granted m ts cs last rq r loads (DmaGoes words) d new ls us q ds ws is =
-    λ i. record {
-      outcome = commits.Granted;
-      sphere = sphere_with m (is i).threads (is i).commits last (is i).request (Replay (cursor_of (is i).replay (is i).loads));
-      words = (is i).words;
-      devices = d;
-    }
+    -- a judged commit that goes on moves the sphere as its verdict says
+    pub granted : (k : ℕ) (v : LogVerdict) (d : Devices) (words : List Stored) → ((e : Effect) (u : Used) → v ≡ Goes e u → e.words ≡ words)
+        → answered None [] ≡ record (judged_by x.progress k before v) { words = [] }
+        → record { outcome = commits.Granted; sphere = after (Some k); words = words; devices = d } ≡ by_verdict (cursor_of r loads) k v d played
+    unfolding went
+    granted k (Fails why) d words flies is = absurd (true≢false (ap (λ (j : JudgedSphere). went j.why) is))
+    granted k (Goes e u) d words flies is =
+        λ i. record {
+          outcome = commits.Granted;
+          sphere = sphere_with x.memory (is i).threads (is i).commits (Some k) (is i).request (Replay (cursor_of (is i).replay (is i).loads));
+          words = sym (flies e u refl) i;
+          devices = d;
+        }
 
--- a judged DMA that diverges moves the sphere as its verdict says
-pub dma_left : (m : List ℕ) (ts : List Parts) (cs : List Commit) (last : Option ℕ) (rq : Option Request) (r : Replaying) (loads : List Load) (v : DmaVerdict) (d : Devices)
-    (why : Why) (new : Replaying) (ls : List Load) (us : List Parts) (q : Option Request) (ds : List Commit) (ws : List Stored)
-    → length cs ≡ r.done
-    → record { why = Some why; replay = new; loads = ls; threads = us; request = q; commits = ds; words = ws }
-    ≡ dma_judged_by (progress_of cs last rq) (record { replay = r; loads = loads; threads = ts; request = rq; commits = cs }) v
-    → record { outcome = commits.Diverged (length ds) why; sphere = sphere_with m us ds last q (Replay (cursor_of new ls)); words = []; devices = d }
-    ≡ dma_by_verdict (cursor_of r loads) v d (sphere_with m ts cs last rq (Replay (cursor_of r loads)))
-unfolding went why_in
-dma_left m ts cs last rq r loads (DmaGoes words) d why new ls us q ds ws done is = absurd (true≢false (sym (ap (λ (j : JudgedSphere). went j.why) is)))
-dma_left m ts cs last rq r loads (DmaFails because) d why new ls us q ds ws done is =
-    let same : why ≡ because = ap (λ (j : JudgedSphere). why_in why j.why) is in
-    (λ i. record {
-      outcome = commits.Diverged (length (is i).commits) (same i);
-      sphere = sphere_with m (is i).threads (is i).commits last (is i).request (Replay (cursor_of (is i).replay (is i).loads));
-      words = [];
-      devices = d;
-    })
-    ∙ ap (λ n. record {
-      outcome = commits.Diverged (length cs) because;
-      sphere = sphere_with m ts cs last rq (Replay (record (cursor_of r loads) { now = Over (End.Diverged n because) }));
-      words = [];
-      devices = d;
-    }) (sym done)
+    -- a judged commit that diverges moves the sphere as its verdict says
+    pub left : (k : ℕ) (v : LogVerdict) (d : Devices) (why : Why) → length x.progress.commits ≡ r.done
+        → answered (Some why) [] ≡ record (judged_by x.progress k before v) { words = [] }
+        → record { outcome = commits.Diverged (length ds) why; sphere = after x.progress.last; words = []; devices = d } ≡ by_verdict (cursor_of r loads) k v d played
+    unfolding went why_in
+    left k (Goes e u) d why done is = absurd (true≢false (sym (ap (λ (j : JudgedSphere). went j.why) is)))
+    left k (Fails because) d why done is =
+        let same : why ≡ because = ap (λ (j : JudgedSphere). why_in why j.why) is in
+        (λ i. record {
+          outcome = commits.Diverged (length (is i).commits) (same i);
+          sphere = sphere_with x.memory (is i).threads (is i).commits x.progress.last (is i).request (Replay (cursor_of (is i).replay (is i).loads));
+          words = [];
+          devices = d;
+        })
+        ∙ ap (λ n. record {
+          outcome = commits.Diverged (length x.progress.commits) because;
+          sphere = record x { role = Replay (record (cursor_of r loads) { now = Over (End.Diverged n because) }) };
+          words = [];
+          devices = d;
+        }) (sym done)
 
--- the sphere stands after a DMA that goes on
-pub dma_stands_granted : (s : ℕ) (m : List ℕ) (ts : List Parts) (cs : List Commit) (last : Option ℕ) (rq : Option Request) (role to : Role) (r : Replaying) (loads : List Load) (v : DmaVerdict)
-    (new : Replaying) (ls : List Load) (us : List Parts) (q : Option Request) (ds : List Commit) (ws : List Stored)
-    → record { why = None; replay = new; loads = ls; threads = us; request = q; commits = ds; words = ws }
-    ≡ dma_judged_by (progress_of cs last rq) (record { replay = r; loads = loads; threads = ts; request = rq; commits = cs }) v
-    → IsSphere s (sphere_with m ts cs last rq role) (roles.Replaying r loads)
-    → IsSphere s (sphere_with m us ds last q to) (roles.Replaying new ls)
-unfolding went
-dma_stands_granted s m ts cs last rq role to r loads (DmaFails why) new ls us q ds ws is h = absurd (true≢false (ap (λ (j : JudgedSphere). went j.why) is))
-dma_stands_granted s m ts cs last rq role to r loads (DmaGoes words) new ls us q ds ws is h =
-    let count : length ds ≡ suc (length cs) = ap (λ (j : JudgedSphere). length j.commits) is ∙ pushed_length cs dma_commit (length cs) refl in
-    let done : new.done ≡ r.done + 1 = ap (λ (j : JudgedSphere). j.replay.done) is in
-    let was : length cs ≡ r.done = h.kept.agrees.done in
-    record {
-      size = h.size;
-      threads = subst (λ xs. length xs ≤ 15) (sym (ap (λ (j : JudgedSphere). j.threads) is)) h.threads;
-      kept = record {
-        is_log = subst IsLog (sym (ap (λ (j : JudgedSphere). j.replay.log) is)) h.kept.is_log;
-        agrees = record { done = omega (arith, count, done, was); last = h.kept.agrees.last ∙ sym (ap (λ (j : JudgedSphere). j.replay.last) is) };
-        commits = ap (λ (j : JudgedSphere). j.replay.commits) is ∙ sym (ap (λ (j : JudgedSphere). commits_of j.threads) is);
-      };
-    }
+    -- where the replay leaves its log, no commit is added
+    pub left_commits : (k : ℕ) (v : LogVerdict) (why : Why) → answered (Some why) [] ≡ record (judged_by x.progress k before v) { words = [] } → length ds ≡ length x.progress.commits
+    unfolding went
+    left_commits k (Goes e u) why is = absurd (true≢false (sym (ap (λ (j : JudgedSphere). went j.why) is)))
+    left_commits k (Fails because) why is = ap (λ (j : JudgedSphere). length j.commits) is
 
--- the sphere stands after a DMA that diverges
-pub dma_stands_left : (s : ℕ) (m : List ℕ) (ts : List Parts) (cs : List Commit) (last : Option ℕ) (rq : Option Request) (role to : Role) (r : Replaying) (loads : List Load) (v : DmaVerdict)
-    (why : Why) (new : Replaying) (ls : List Load) (us : List Parts) (q : Option Request) (ds : List Commit) (ws : List Stored)
-    → record { why = Some why; replay = new; loads = ls; threads = us; request = q; commits = ds; words = ws }
-    ≡ dma_judged_by (progress_of cs last rq) (record { replay = r; loads = loads; threads = ts; request = rq; commits = cs }) v
-    → IsSphere s (sphere_with m ts cs last rq role) (roles.Replaying r loads)
-    → IsSphere s (sphere_with m us ds last q to) (roles.Replaying new ls)
-unfolding went
-dma_stands_left s m ts cs last rq role to r loads (DmaGoes words) why new ls us q ds ws is h = absurd (true≢false (sym (ap (λ (j : JudgedSphere). went j.why) is)))
-dma_stands_left s m ts cs last rq role to r loads (DmaFails because) why new ls us q ds ws is h =
-    record {
-      size = h.size;
-      threads = subst (λ xs. length xs ≤ 15) (sym (ap (λ (j : JudgedSphere). j.threads) is)) h.threads;
-      kept = record {
-        is_log = subst IsLog (sym (ap (λ (j : JudgedSphere). j.replay.log) is)) h.kept.is_log;
-        agrees = record {
-          done = ap (λ (j : JudgedSphere). length j.commits) is ∙ h.kept.agrees.done ∙ sym (ap (λ (j : JudgedSphere). j.replay.done) is);
-          last = h.kept.agrees.last ∙ sym (ap (λ (j : JudgedSphere). j.replay.last) is);
-        };
-        commits = ap (λ (j : JudgedSphere). j.replay.commits) is ∙ h.kept.commits ∙ sym (ap (λ (j : JudgedSphere). commits_of j.threads) is);
-      };
-    }
+    -- the sphere stands after a commit that goes on
+    pub stands_granted : (s k : ℕ) (v : LogVerdict) → length us ≤ 15
+        → answered None [] ≡ record (judged_by x.progress k before v) { words = [] }
+        → IsSphere s x (roles.Replaying r loads) → IsSphere s (after (Some k)) (roles.Replaying new ls)
+    unfolding went
+    stands_granted s k (Fails why) few is h = absurd (true≢false (ap (λ (j : JudgedSphere). went j.why) is))
+    stands_granted s k (Goes e u) few is h =
+        let cs = x.progress.commits in
+        let count : length ds ≡ suc (length cs) = ap (λ (j : JudgedSphere). length j.commits) is ∙ pushed_length cs e.commit (length cs) refl in
+        let done : new.done ≡ r.done + 1 = ap (λ (j : JudgedSphere). j.replay.done) is in
+        let was : length cs ≡ r.done = h.kept.agrees.done in
+        record {
+          size = h.size;
+          threads = few;
+          kept = record {
+            is_log = subst IsLog (sym (ap (λ (j : JudgedSphere). j.replay.log) is)) h.kept.is_log;
+            agrees = record { done = omega (arith, count, done, was); last = sym (ap (λ (j : JudgedSphere). j.replay.last) is) };
+            commits = ap (λ (j : JudgedSphere). j.replay.commits) is ∙ sym (ap (λ (j : JudgedSphere). commits_of j.threads) is);
+          };
+        }
+
+    -- the sphere stands after a commit that diverges
+    pub stands_left : (s k : ℕ) (v : LogVerdict) (why : Why)
+        → answered (Some why) [] ≡ record (judged_by x.progress k before v) { words = [] }
+        → IsSphere s x (roles.Replaying r loads) → IsSphere s (after x.progress.last) (roles.Replaying new ls)
+    unfolding went
+    stands_left s k (Goes e u) why is h = absurd (true≢false (sym (ap (λ (j : JudgedSphere). went j.why) is)))
+    stands_left s k (Fails because) why is h =
+        record {
+          size = h.size;
+          threads = subst (λ xs. length xs ≤ 15) (sym (ap (λ (j : JudgedSphere). j.threads) is)) h.threads;
+          kept = record {
+            is_log = subst IsLog (sym (ap (λ (j : JudgedSphere). j.replay.log) is)) h.kept.is_log;
+            agrees = record {
+              done = ap (λ (j : JudgedSphere). length j.commits) is ∙ h.kept.agrees.done ∙ sym (ap (λ (j : JudgedSphere). j.replay.done) is);
+              last = h.kept.agrees.last ∙ sym (ap (λ (j : JudgedSphere). j.replay.last) is);
+            };
+            commits = ap (λ (j : JudgedSphere). j.replay.commits) is ∙ h.kept.commits ∙ sym (ap (λ (j : JudgedSphere). commits_of j.threads) is);
+          };
+        }
+
+    -- ---- DMAs
+
+    -- a judged DMA that goes on moves the sphere as its verdict says
+    pub dma_granted : (v : DmaVerdict) (d : Devices) (words : List Stored) → answered None words ≡ dma_judged_by x.progress before v
+        → record { outcome = commits.Granted; sphere = after x.progress.last; words = words; devices = d } ≡ dma_by_verdict (cursor_of r loads) v d played
+    unfolding went
+    dma_granted (DmaFails why) d words is = absurd (true≢false (ap (λ (j : JudgedSphere). went j.why) is))
+    dma_granted (DmaGoes stored) d words is =
+        λ i. record {
+          outcome = commits.Granted;
+          sphere = sphere_with x.memory (is i).threads (is i).commits x.progress.last (is i).request (Replay (cursor_of (is i).replay (is i).loads));
+          words = (is i).words;
+          devices = d;
+        }
+
+    -- a judged DMA that diverges moves the sphere as its verdict says
+    pub dma_left : (v : DmaVerdict) (d : Devices) (why : Why) (words : List Stored) → length x.progress.commits ≡ r.done
+        → answered (Some why) words ≡ dma_judged_by x.progress before v
+        → record { outcome = commits.Diverged (length ds) why; sphere = after x.progress.last; words = []; devices = d } ≡ dma_by_verdict (cursor_of r loads) v d played
+    unfolding went why_in
+    dma_left (DmaGoes stored) d why words done is = absurd (true≢false (sym (ap (λ (j : JudgedSphere). went j.why) is)))
+    dma_left (DmaFails because) d why words done is =
+        let same : why ≡ because = ap (λ (j : JudgedSphere). why_in why j.why) is in
+        (λ i. record {
+          outcome = commits.Diverged (length (is i).commits) (same i);
+          sphere = sphere_with x.memory (is i).threads (is i).commits x.progress.last (is i).request (Replay (cursor_of (is i).replay (is i).loads));
+          words = [];
+          devices = d;
+        })
+        ∙ ap (λ n. record {
+          outcome = commits.Diverged (length x.progress.commits) because;
+          sphere = record x { role = Replay (record (cursor_of r loads) { now = Over (End.Diverged n because) }) };
+          words = [];
+          devices = d;
+        }) (sym done)
+
+    -- a DMA that diverges leaves the commits as they were
+    pub dma_left_commits : (v : DmaVerdict) (why : Why) (words : List Stored) → answered (Some why) words ≡ dma_judged_by x.progress before v → length ds ≡ length x.progress.commits
+    unfolding went
+    dma_left_commits (DmaGoes stored) why words is = absurd (true≢false (sym (ap (λ (j : JudgedSphere). went j.why) is)))
+    dma_left_commits (DmaFails because) why words is = ap (λ (j : JudgedSphere). length j.commits) is
+
+    -- the sphere stands after a DMA that goes on
+    pub dma_stands_granted : (s : ℕ) (v : DmaVerdict) (words : List Stored) → answered None words ≡ dma_judged_by x.progress before v
+        → IsSphere s x (roles.Replaying r loads) → IsSphere s (after x.progress.last) (roles.Replaying new ls)
+    unfolding went
+    dma_stands_granted s (DmaFails why) words is h = absurd (true≢false (ap (λ (j : JudgedSphere). went j.why) is))
+    dma_stands_granted s (DmaGoes stored) words is h =
+        let cs = x.progress.commits in
+        let count : length ds ≡ suc (length cs) = ap (λ (j : JudgedSphere). length j.commits) is ∙ pushed_length cs dma_commit (length cs) refl in
+        let done : new.done ≡ r.done + 1 = ap (λ (j : JudgedSphere). j.replay.done) is in
+        let was : length cs ≡ r.done = h.kept.agrees.done in
+        record {
+          size = h.size;
+          threads = subst (λ xs. length xs ≤ 15) (sym (ap (λ (j : JudgedSphere). j.threads) is)) h.threads;
+          kept = record {
+            is_log = subst IsLog (sym (ap (λ (j : JudgedSphere). j.replay.log) is)) h.kept.is_log;
+            agrees = record { done = omega (arith, count, done, was); last = h.kept.agrees.last ∙ sym (ap (λ (j : JudgedSphere). j.replay.last) is) };
+            commits = ap (λ (j : JudgedSphere). j.replay.commits) is ∙ sym (ap (λ (j : JudgedSphere). commits_of j.threads) is);
+          };
+        }
+
+    -- the sphere stands after a DMA that diverges
+    pub dma_stands_left : (s : ℕ) (v : DmaVerdict) (why : Why) (words : List Stored) → answered (Some why) words ≡ dma_judged_by x.progress before v
+        → IsSphere s x (roles.Replaying r loads) → IsSphere s (after x.progress.last) (roles.Replaying new ls)
+    unfolding went
+    dma_stands_left s (DmaGoes stored) why words is h = absurd (true≢false (sym (ap (λ (j : JudgedSphere). went j.why) is)))
+    dma_stands_left s (DmaFails because) why words is h =
+        record {
+          size = h.size;
+          threads = subst (λ xs. length xs ≤ 15) (sym (ap (λ (j : JudgedSphere). j.threads) is)) h.threads;
+          kept = record {
+            is_log = subst IsLog (sym (ap (λ (j : JudgedSphere). j.replay.log) is)) h.kept.is_log;
+            agrees = record {
+              done = ap (λ (j : JudgedSphere). length j.commits) is ∙ h.kept.agrees.done ∙ sym (ap (λ (j : JudgedSphere). j.replay.done) is);
+              last = h.kept.agrees.last ∙ sym (ap (λ (j : JudgedSphere). j.replay.last) is);
+            };
+            commits = ap (λ (j : JudgedSphere). j.replay.commits) is ∙ h.kept.commits ∙ sym (ap (λ (j : JudgedSphere). commits_of j.threads) is);
+          };
+        }

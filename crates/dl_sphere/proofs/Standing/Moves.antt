@@ -42,80 +42,78 @@ pub log_with : (r : Recorded) (c : Commit) (early : Bool) (o : Option Input) →
 log_with r c early None = refl
 log_with r c early (Some i) = refl
 
-pub commits_noted : (p q : Sphere) (k : ℕ) (t u : Parts) (made : List Parts) (c : Commit) (s : ℕ) (r : Recorded) (early : Bool) (o : Option Input) → Commits p q k t u made c → HasRecorded s p r
-    → as_log (with_commit c early o None r) ≡ input_noted o (noted c t.commits early (as_log r))
-commits_noted p q k t u made c s r early o d h =
-    let index : index_of r.kept.done c.actor ≡ t.commits = ap (index_of r.kept.done) d.actor ∙ h.done k ∙ ap commits_if d.start in
-    log_with r c early o ∙ ap (λ n. input_noted o (noted c n early (as_log r))) index
+-- Thread k of the sphere p, which was t and is u, has committed c and made these threads, and the sphere is q.
+module _ (p q : Sphere) (k : ℕ) (t u : Parts) (made : List Parts) (c : Commit) (d : Commits p q k t u made c) where
+  -- what a recorder keeps then is the log with the commit noted as the one that the thread did next
+  commits_noted : (s : ℕ) (r : Recorded) (early : Bool) (o : Option Input) → HasRecorded s p r → as_log (with_commit c early o None r) ≡ input_noted o (noted c t.commits early (as_log r))
+  commits_noted s r early o h =
+      let index : index_of r.kept.done c.actor ≡ t.commits = ap (index_of r.kept.done) d.actor ∙ h.done k ∙ ap commits_if d.start in
+      log_with r c early o ∙ ap (λ n. input_noted o (noted c n early (as_log r))) index
 
-done-after : (p q : Sphere) (k : ℕ) (t u : Parts) (made : List Parts) (c : Commit) (s : ℕ) (r : Recorded) → Commits p q k t u made c → HasRecorded s p r
-    → (j : ℕ) → slice_index (done_with r.kept.done c.actor) j ≡ commits_in q.threads j
-done-after p q k t u made c s r d h j =
-    let done = r.kept.done in
-    let within : k < length done = let n = h.all in let w = d.within in omega arith in
-    let more : List ℕ = set done k (slice_index done k + 1) in
-    let is : done_with done c.actor ≡ more = ap (done_with done) d.actor in
-    let was : slice_index done k ≡ t.commits = h.done k ∙ ap commits_if d.start in
-    ap (λ ds. slice_index ds j) is
-    ∙ elim (cases_eq j k) as (λ _. slice_index more j ≡ commits_in q.threads j) [
-      | inl e ↦
-          subst (λ (n : ℕ). slice_index more n ≡ commits_in q.threads n) (sym e)
-          (get_or-set_same done k (slice_index done k + 1) 0 within ∙ ap (λ n. n + 1) was ∙ sym d.commits ∙ sym (ap (λ ts. commits_in ts k) d.threads ∙ commits-same p.threads made k t u d.start))
-      | inr ne ↦
-          get_or-set_other done k j (slice_index done k + 1) 0 ne ∙ h.done j ∙ sym (ap (λ ts. commits_in ts j) d.threads ∙ commits-other p.threads made k j u d.new ne)
-    ]
+  -- its counts are those of the threads
+  done-after : (s : ℕ) (r : Recorded) → HasRecorded s p r → (j : ℕ) → slice_index (done_with r.kept.done c.actor) j ≡ commits_in q.threads j
+  done-after s r h j =
+      let done = r.kept.done in
+      let within : k < length done = let n = h.all in let w = d.within in omega arith in
+      let more : List ℕ = set done k (slice_index done k + 1) in
+      let is : done_with done c.actor ≡ more = ap (done_with done) d.actor in
+      let was : slice_index done k ≡ t.commits = h.done k ∙ ap commits_if d.start in
+      ap (λ ds. slice_index ds j) is
+      ∙ elim (cases_eq j k) as (λ _. slice_index more j ≡ commits_in q.threads j) [
+        | inl e ↦
+            subst (λ (n : ℕ). slice_index more n ≡ commits_in q.threads n) (sym e)
+            (get_or-set_same done k (slice_index done k + 1) 0 within ∙ ap (λ n. n + 1) was ∙ sym d.commits ∙ sym (ap (λ ts. commits_in ts k) d.threads ∙ commits-same p.threads made k t u d.start))
+        | inr ne ↦
+            get_or-set_other done k j (slice_index done k + 1) 0 ne ∙ h.done j ∙ sym (ap (λ ts. commits_in ts j) d.threads ∙ commits-other p.threads made k j u d.new ne)
+      ]
 
-few-at : (p q : Sphere) (k : ℕ) (t u : Parts) (made : List Parts) (c : Commit) → Commits p q k t u made c → ((j : ℕ) → commits_in p.threads j ≤ position p.progress)
-    → (j : ℕ) → commits_in q.threads j ≤ position q.progress
-few-at p q k t u made c d few j =
-    elim (cases_eq j k) [
-      | inl e ↦
-          subst (λ (n : ℕ). commits_in q.threads n ≤ position q.progress) (sym e)
-          (let is : commits_in q.threads k ≡ u.commits = ap (λ ts. commits_in ts k) d.threads ∙ commits-same p.threads made k t u d.start in
-          let was : commits_in p.threads k ≡ t.commits = ap commits_if d.start in
-          let f = few k in let more = d.commits in let n = d.position_ in omega arith)
-      | inr ne ↦
-          let is : commits_in q.threads j ≡ commits_in p.threads j = ap (λ ts. commits_in ts j) d.threads ∙ commits-other p.threads made k j u d.new ne in
-          let f = few j in let n = d.position_ in omega arith
-    ]
+  few-at : ((j : ℕ) → commits_in p.threads j ≤ position p.progress) → (j : ℕ) → commits_in q.threads j ≤ position q.progress
+  few-at few j =
+      elim (cases_eq j k) [
+        | inl e ↦
+            subst (λ (n : ℕ). commits_in q.threads n ≤ position q.progress) (sym e)
+            (let is : commits_in q.threads k ≡ u.commits = ap (λ ts. commits_in ts k) d.threads ∙ commits-same p.threads made k t u d.start in
+            let was : commits_in p.threads k ≡ t.commits = ap commits_if d.start in
+            let f = few k in let more = d.commits in let n = d.position_ in omega arith)
+        | inr ne ↦
+            let is : commits_in q.threads j ≡ commits_in p.threads j = ap (λ ts. commits_in ts j) d.threads ∙ commits-other p.threads made k j u d.new ne in
+            let f = few j in let n = d.position_ in omega arith
+      ]
 
-few-after : (p q : Sphere) (k : ℕ) (t u : Parts) (made : List Parts) (c : Commit) → Commits p q k t u made c → HasFew p → HasFew q
-few-after p q k t u made c d h = record { few = few-at p q k t u made c d h.few }
+  few-after : HasFew p → HasFew q
+  few-after h = record { few = few-at h.few }
 
-keeping-after : (p q : Sphere) (k : ℕ) (t u : Parts) (made : List Parts) (c : Commit) (s : ℕ) (early : Bool) (o : Option Input) (x : Keeping) → IsLive x → Commits p q k t u made c → IsKeepingOf s p x
-    → IsKeepingOf s q (with_noted c early o None x)
-keeping-after p q k t u made c s early o Plain live d h = few-after p q k t u made c d h
-keeping-after p q k t u made c s early o (Replaying r loads) live d h = absurd live
-keeping-after p q k t u made c s early o (Recording r) live d h =
-    let commit : ThreadCommit = record { thread = k; before = t; after = u; spawned = made; commit = c; short = early; input = o } in
-    let has : HasCommitted commit p q (as_log r) (as_log (with_commit c early o None r)) =
-    record {
-      start = d.start;
-      threads = d.threads;
-      commits = d.commits;
-      new = d.new;
-      position_ = d.position_;
-      actor = d.actor;
-      log_ = commits_noted p q k t u made c s r early o d h;
-    }
-    in
-    record {
-      few = few-after p q k t u made c d h.few;
-      s = h.s;
-      all = ap length (ap (done_with r.kept.done) d.actor) ∙ length-set r.kept.done k (slice_index r.kept.done k + 1) ∙ h.all;
-      done = done-after p q k t u made c s r d h;
-      stands = has_committed-stands commit p q (as_log r) (as_log (with_commit c early o None r)) has h.stands;
-    }
+  keeping-after : (s : ℕ) (early : Bool) (o : Option Input) (x : Keeping) → IsLive x → IsKeepingOf s p x → IsKeepingOf s q (with_noted c early o None x)
+  keeping-after s early o Plain live h = few-after h
+  keeping-after s early o (Replaying r loads) live h = absurd live
+  keeping-after s early o (Recording r) live h =
+      let has : HasCommitted k early p q (as_log r) (as_log (with_commit c early o None r)) t u made c o =
+      record {
+        start = d.start;
+        threads = d.threads;
+        commits = d.commits;
+        new = d.new;
+        position_ = d.position_;
+        actor = d.actor;
+        log_ = commits_noted s r early o h;
+      }
+      in
+      record {
+        few = few-after h.few;
+        s = h.s;
+        all = ap length (ap (done_with r.kept.done) d.actor) ∙ length-set r.kept.done k (slice_index r.kept.done k + 1) ∙ h.all;
+        done = done-after s r h;
+        stands = has_committed-stands commit p q (as_log r) (as_log (with_commit c early o None r)) has h.stands;
+      }
 
--- what a sphere keeps stands by it after a commit of a thread
-pub commits_stand : (p q : Sphere) (k : ℕ) (t u : Parts) (made : List Parts) (c : Commit) (s : ℕ) (early : Bool) (o : Option Input) (x : Keeping) → IsLive x → Commits p q k t u made c → IsSphere s p x
-    → IsSphere s q (with_noted c early o None x)
-commits_stand p q k t u made c s early o x live d h =
-    record {
-      size = h.size;
-      threads = d.few;
-      kept = keeping-after p q k t u made c s early o x live d h.kept;
-    }
+  -- what a sphere keeps stands by it after a commit of a thread
+  pub commits_stand : (s : ℕ) (early : Bool) (o : Option Input) (x : Keeping) → IsLive x → IsSphere s p x → IsSphere s q (with_noted c early o None x)
+  commits_stand s early o x live h =
+      record {
+        size = h.size;
+        threads = d.few;
+        kept = keeping-after s early o x live h.kept;
+      }
 
 -- ---- an interrupt
 

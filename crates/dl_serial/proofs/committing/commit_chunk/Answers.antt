@@ -24,7 +24,7 @@ returns-in-Went-clause-came g c r e w =
     let same = c.in_ok-reserve.ensures.items in
     let playing = reserved-playing r0 s0 s1 refl refl refl same c.requires.playing in
     let said = rw c.in-Went.is at (c.judge.ensures.judged r e) in
-    let gone = chunk-gone r0 p k s0.threads s0.request nothing_served nothing_served v new n.threads n.request said in
+    let gone = chunk-gone r0 p s0.threads s0.request new n.threads n.request k nothing_served nothing_served v said in
     let memory : n.store.memory ≡ lays s0.store.memory r.words =
     ap (λ (o : Overlaid). o.memory) c.commit.ensures ∙ ap (λ (o : Overlaid). lays o.memory o.words) c.judge.ensures.store ∙ ap (lays s0.store.memory) w
     in
@@ -48,7 +48,7 @@ returns-in-Diverged-clause-came g c r e w =
     let same = c.in_ok-reserve.ensures.items in
     let playing = reserved-playing r0 s0 s1 refl refl refl same c.requires.playing in
     let said = rw c.in-Diverged.is at (c.judge.ensures.judged r e) in
-    let fell = chunk-fell r0 p k s0.threads s0.request nothing_served nothing_served v c.in-Diverged.field-0 new n.threads n.request said in
+    let fell = chunk-fell r0 p s0.threads s0.request new n.threads n.request k nothing_served nothing_served v c.in-Diverged.field-0 said in
     subst (λ (y : Played). StandsAt r0.log (settled r0.log y k (chunk_verdict r0.log y.progress y.used k r)) new n)
     (reserved-played r0 s0 s1 refl refl refl same)
     (fell-stands r0 s1 k v new n fell (ap (λ (o : Overlaid). o.memory) c.judge.ensures.store) (ap (λ cs. cs.items) c.judge.ensures.commits) playing)

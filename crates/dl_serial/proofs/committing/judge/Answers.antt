@@ -30,7 +30,7 @@ returns-in-Ok-Went-clause-judged g c r e =
     record { after = c.set.ensures ∙ ap (λ (x : Chunk). slice_set ts k x.thread) e; total = sym (ap (λ (x : Chunk). x.n) e) }
     in
     let said = rw c.in-Ok-Went.field-0-is at (rw c.in-Ok-Went.is at (c.accept.ensures.chunk p k ts r refl refl agrees refl run)) in
-    went-judged r0 p k ts mid s0.request c.new-served.result c.accept.new.served v c.accept.new.self c.accept.new.threads c.accept.new.request said
+    went-judged r0 p ts s0.request c.accept.new.self c.accept.new.threads c.accept.new.request k mid c.new-served.result c.accept.new.served v said
 
 pub returns-in-Ok-Diverged-clause-judged : goal.returns-in-Ok-Diverged-clause-judged
 returns-in-Ok-Diverged-clause-judged g c r e =
@@ -52,7 +52,7 @@ returns-in-Ok-Diverged-clause-judged g c r e =
     let back : c.set-in-Ok-Diverged.new.self ≡ ts =
     c.set-in-Ok-Diverged.ensures ∙ ap (λ xs. slice_set xs k before) (left ∙ c.set.ensures) ∙ put_back ts k c.args.chunk.now.thread before c.thread_at-before.ensures.thread
     in
-    left-judged r0 p k ts mid c.set-in-Ok-Diverged.new.self s0.request c.new-served.result c.accept.new.served v why c.accept.new.self c.accept.new.threads c.accept.new.request back said
+    left-judged r0 p ts s0.request c.accept.new.self c.accept.new.threads c.accept.new.request k mid c.set-in-Ok-Diverged.new.self c.new-served.result c.accept.new.served v why back said
 
 pub unreachable-requires : goal.unreachable-requires
 unreachable-requires g c =

@@ -21,7 +21,7 @@ lay-requires g c =
     let v = dma_verdict r0.log p r0.used in
     let agrees : Agrees r0 p = record { done = c.requires.playing.done; last = refl } in
     let said = rw c.in-Ok.is at (c.in_ok-words.ensures.judged p agrees refl) in
-    let gone = dma-gone r0 p s0.threads s0.threads s0.request v c.serve_dma.new.self c.serve_dma.new.request c.in-Ok.words said in
+    let gone = dma-gone r0 p s0.threads s0.request c.serve_dma.new.self s0.threads c.serve_dma.new.request v c.in-Ok.words said in
     dma-inside (length m) r0.log p r0.used c.in-Ok.words.words (whole-words (length m) (subst (λ (x : List _). IsSize (length x)) c.memory.ensures c.size.ensures.memory.size)) c.requires.playing.request gone.verdict
 
 pub returns-in-Ok-clause-came : goal.returns-in-Ok-clause-came
@@ -32,7 +32,7 @@ returns-in-Ok-clause-came g c =
     let v = dma_verdict r0.log p r0.used in
     let agrees : Agrees r0 p = record { done = c.requires.playing.done; last = refl } in
     let said = rw c.in-Ok.is at (c.in_ok-words.ensures.judged p agrees refl) in
-    let gone = dma-gone r0 p s0.threads s0.threads s0.request v c.serve_dma.new.self c.serve_dma.new.request c.in-Ok.words said in
+    let gone = dma-gone r0 p s0.threads s0.request c.serve_dma.new.self s0.threads c.serve_dma.new.request v c.in-Ok.words said in
     let n : Sphere = record { store = c.lay.new.self; threads = s0.threads; request = c.serve_dma.new.request; commits = c.push_reserved.new.self } in
     let kept : HasStored s0 n c.in-Ok.words.words =
     record {
@@ -54,6 +54,6 @@ returns-in-Err-clause-came g c =
     let agrees : Agrees r0 p = record { done = c.requires.playing.done; last = refl } in
     let said = rw c.in-Err.is at (c.in_ok-words.ensures.judged p agrees refl) in
     let n : Sphere = record { store = s0.store; threads = s0.threads; request = c.serve_dma.new.request; commits = c.reserve.new.self } in
-    let fell = dma-fell r0 p s0.threads s0.threads s0.request nothing_served nothing_served v c.in-Err.field-0 c.serve_dma.new.self n.request said in
+    let fell = dma-fell r0 p s0.threads s0.request c.serve_dma.new.self s0.threads n.request nothing_served nothing_served v c.in-Err.field-0 said in
     dma-fell-stands r0 s0 v c.in-Err.field-0 c.serve_dma.new.self n fell.0
     (record { replay = fell.1; memory = refl; threads = refl; request = fell.2; commits = c.in_ok-reserve.ensures.items }) c.requires.playing

@@ -33,7 +33,7 @@ lay-requires g c =
     in
     let agrees : Agrees r0 p = record { done = c.requires.playing.done; last = refl } in
     let said = rw c.memory-2.ensures at (rw c.in-Ok.is at (c.in_ok-left.ensures.judged p t agrees refl is)) in
-    let gone = step-gone r0 p k s0.threads s0.request v c.serve_step.new.self c.serve_step.new.threads c.serve_step.new.request c.in-Ok.left said in
+    let gone = step-gone r0 p s0.threads s0.request c.serve_step.new.self c.serve_step.new.threads c.serve_step.new.request k v c.in-Ok.left said in
     step-inside r0 s0 k t c.serve_step.new.self c.serve_step.new.threads c.serve_step.new.request c.in-Ok.left can gone
 
 pub returns-in-Ok-clause-came : goal.returns-in-Ok-clause-came
@@ -57,7 +57,7 @@ returns-in-Ok-clause-came g c u there =
     in
     let agrees : Agrees r0 p = record { done = c.requires.playing.done; last = refl } in
     let said = rw c.memory-2.ensures at (rw c.in-Ok.is at (c.in_ok-left.ensures.judged p u agrees refl there)) in
-    let gone = step-gone r0 p k s0.threads s0.request v c.serve_step.new.self c.serve_step.new.threads c.serve_step.new.request c.in-Ok.left said in
+    let gone = step-gone r0 p s0.threads s0.request c.serve_step.new.self c.serve_step.new.threads c.serve_step.new.request k v c.in-Ok.left said in
     let n : Sphere = record { store = c.lay.new.self; threads = c.serve_step.new.threads; request = c.serve_step.new.request; commits = c.push_reserved.new.self } in
     let commits =
     c.push_reserved.ensures.items ∙ ap (λ (cs : List Commit). cs ++ c.serial_commit.result ∷ []) c.in_ok-reserve.ensures.items ∙ ap (λ (x : Commit). s0.commits.items ++ x ∷ []) c.serial_commit.ensures
@@ -74,5 +74,5 @@ returns-in-Err-clause-came g c u there =
     let agrees : Agrees r0 p = record { done = c.requires.playing.done; last = refl } in
     let said = rw c.memory-2.ensures at (rw c.in-Err.is at (c.in_ok-left.ensures.judged p u agrees refl there)) in
     let n : Sphere = record { store = s0.store; threads = c.serve_step.new.threads; request = c.serve_step.new.request; commits = c.reserve.new.self } in
-    let fell = step-fell r0 p k s0.threads s0.request nothing_served nothing_served v c.in-Err.field-0 c.serve_step.new.self n.threads n.request said in
+    let fell = step-fell r0 p s0.threads s0.request c.serve_step.new.self n.threads n.request k nothing_served nothing_served v c.in-Err.field-0 said in
     fell-stands r0 s0 k v c.serve_step.new.self n fell refl c.in_ok-reserve.ensures.items c.requires.playing

@@ -6,6 +6,7 @@ use Rattle.spec_play.specs.Progress.{Used}
 use Rattle.spec_play.specs.Verdicts.{Goes, chunk_verdict}
 use Rattle.dl_replay.specs.Judged.{HasRun}
 use Rattle.dl_replay.specs.Replaying.{commits_of}
+use Rattle.dl_sphere.specs.Replayed.{before}
 use Rattle.dl_sphere.proofs.Replays.Judging.{chunk_commits, chunk_went, chunk_left, put_back, same_commits}
 use Rattle.dl_sphere.proofs.replaying.end_chunk.Goals as goal
 
@@ -15,12 +16,11 @@ end_chunk-requires-clause-commits c =
     let k = c.args.last.thread in
     let s = c.args.last.state.now in
     let t = c.thread_at-found.result in
-    c.requires.commits ∙ sym (same_commits ts k s t c.thread_at-found.ensures.value (c.requires.same t c.thread_at-found.ensures.value)) ∙ sym (ap commits_of c.set.ensures)
+    c.requires.commits ∙ sym (same_commits ts k s t c.thread_at-found.ensures.thread (c.requires.same t c.thread_at-found.ensures.thread)) ∙ sym (ap commits_of c.set.ensures)
 
 pub returns-in-Ok-Went-clause-judged : goal.returns-in-Ok-Went-clause-judged
 returns-in-Ok-Went-clause-judged c p r a q thread n whole =
     let r0 = c.args.replay.now.player in
-    let loads = c.args.replay.now.loads.items in
     let k = c.args.last.thread in
     let ts = c.args.threads.now in
     let mid = c.set.new.self in
@@ -41,7 +41,7 @@ returns-in-Ok-Went-clause-judged c p r a q thread n whole =
       commits = commits i;
       words = [];
     })
-    ∙ chunk_went r0 p k ts mid c.args.request.now c.args.served.now v cs loads c.args.last.commit c.end_chunk.new.self c.end_chunk.new.threads c.end_chunk.new.request c.end_chunk.new.served commit said
+    ∙ chunk_went p k (before c.args.replay.now ts c.args.request.now cs) c.end_chunk.new.self c.end_chunk.new.threads c.end_chunk.new.request mid c.args.served.now v c.args.last.commit c.end_chunk.new.served commit said
 
 pub returns-in-Ok-Diverged-clause-judged : goal.returns-in-Ok-Diverged-clause-judged
 returns-in-Ok-Diverged-clause-judged c p r a q thread n whole =
@@ -58,7 +58,7 @@ returns-in-Ok-Diverged-clause-judged c p r a q thread n whole =
     let said = rw c.in-Ok-Diverged.field-0-is at (rw c.in-Ok-Diverged.is at (c.end_chunk.ensures.chunk p ts r a q run)) in
     let left = (rw c.in-Ok-Diverged.is at (c.end_chunk.ensures.threads_left why)) c.in-Ok-Diverged.field-0-is in
     let back : c.set-in-Ok-Diverged.new.self ≡ ts =
-    c.set-in-Ok-Diverged.ensures ∙ ap (λ xs. slice_set xs k found) (left ∙ c.set.ensures) ∙ put_back ts k c.args.last.state.now found c.thread_at-found.ensures.value
+    c.set-in-Ok-Diverged.ensures ∙ ap (λ xs. slice_set xs k found) (left ∙ c.set.ensures) ∙ put_back ts k c.args.last.state.now found c.thread_at-found.ensures.thread
     in
     (λ i. record {
       why = Some why;
@@ -69,7 +69,7 @@ returns-in-Ok-Diverged-clause-judged c p r a q thread n whole =
       commits = c.in_ok-reserve.ensures.items i;
       words = [];
     })
-    ∙ chunk_left r0 p k ts mid c.args.request.now c.args.served.now v cs loads why c.end_chunk.new.self c.end_chunk.new.threads c.end_chunk.new.request c.end_chunk.new.served said
+    ∙ chunk_left p k (before c.args.replay.now ts c.args.request.now cs) c.end_chunk.new.self c.end_chunk.new.threads c.end_chunk.new.request mid c.args.served.now v why c.end_chunk.new.served said
 
 pub returns-in-Err-clause-threads_still : goal.returns-in-Err-clause-threads_still
 returns-in-Err-clause-threads_still c =
@@ -77,4 +77,4 @@ returns-in-Err-clause-threads_still c =
     let found = c.thread_at-found.result in
     c.set-in-Err.ensures
     ∙ ap (λ xs. slice_set xs k found) ((rw c.in-Err.is at c.end_chunk.ensures.threads_still) ∙ c.set.ensures)
-    ∙ put_back c.args.threads.now k c.args.last.state.now found c.thread_at-found.ensures.value
+    ∙ put_back c.args.threads.now k c.args.last.state.now found c.thread_at-found.ensures.thread

@@ -2,13 +2,13 @@ use Rattle.std.proofs.Common.{◌≡◌, ◌∷◌, ◌++◌, [], List, None, ap
 use Rattle.dl_entry.specs.declared.Commit.{Commit}
 use Rattle.spec_play.specs.Verdicts.{serial_verdict}
 use Rattle.dl_sphere.specs.Judging.{JudgedSphere}
+use Rattle.dl_sphere.specs.Replayed.{before}
 use Rattle.dl_sphere.proofs.Replays.Judging.{serial_commits, step_went}
 use Rattle.dl_sphere.proofs.replaying.serve_step.Goals as goal
 
 pub returns-in-Ok-clause-judged : goal.returns-in-Ok-clause-judged
 returns-in-Ok-clause-judged c p t a q is =
     let r = c.args.replay.now.player in
-    let loads = c.args.replay.now.loads.items in
     let k = c.args.thread in
     let ts = c.args.threads.now in
     let m = c.args.memory.now in
@@ -40,4 +40,4 @@ returns-in-Ok-clause-judged c p t a q is =
       words = left.words.words;
     })
     ∙ ap (λ commit. made (cs ++ commit ∷ [])) c.serial_commit.ensures
-    ∙ step_went r p k ts c.args.request.now v cs loads left c.serve_step.new.self c.serve_step.new.threads c.serve_step.new.request (serial_commits r.log p r.used k ts t m) said
+    ∙ step_went p k (before c.args.replay.now ts c.args.request.now cs) c.serve_step.new.self c.serve_step.new.threads c.serve_step.new.request v left (serial_commits r.log p r.used k ts t m) said

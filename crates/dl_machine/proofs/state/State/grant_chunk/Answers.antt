@@ -54,7 +54,7 @@ returns-in-Granted-clause-world g c =
     let moved : v ≡ moved_by w c.args.held how ch = subst (λ (m : Moved). came m p x.devices ≡ moved_by w c.args.held how ch) c.in-Granted.is (c.in_ok-moved.ensures.ok x.devices how shut) in
     let after = chunk_after w core how (at w.cores core) c.args.held ch _ v held c.chunk-chunk.ensures c.hand_over-writes.ensures.given moved in
     let point : c.push_reserved.new.self.items ≡ x.points.items ++ point_in w c.args.held CommitKind.Chunk ch.done.n (is_short w.numbers.chunk how ch.limit) ∷ [] = cc in
-    let done = grant_done x.cores c.hand_over-writes.new.self x.spheres c.commit_chunk.new.self x.flights x.devices x.counts x.points.items _ core c.args.held c.in-Granted.words.words _ _ c.hand_over-writes.ensures.core c.in_ok-moved.ensures.others point in
+    let done = grant_done x.cores x.spheres x.flights x.devices x.counts x.points.items core c.args.held c.commit_chunk.new.self c.in-Granted.words.words _ _ _ c.hand_over-writes.new.self c.hand_over-writes.ensures.core c.in_ok-moved.ensures.others point in
     subst (λ (u : World). Some c.go_on.new.self ≡ option_map (λ h. left (grant_chunk u core h how)) (at u.cores core)) view
     (ap (λ (u : World). Some u) (c.go_on.ensures ∙ done) ∙ held_after left (λ h. grant_chunk w core h how) (at w.cores core) _ after)
 
@@ -74,6 +74,6 @@ returns-in-Piece-clause-world g c =
     let moved : v ≡ moved_by w c.args.held how ch = subst (λ (m : Moved). came m p x.devices ≡ moved_by w c.args.held how ch) c.in-Piece.is (c.in_ok-moved.ensures.ok x.devices how shut) in
     let after = chunk_after w core how (at w.cores core) c.args.held ch _ v held c.chunk-chunk.ensures c.hand_over-writes-in-Piece.ensures.given moved in
     let point : c.push_reserved-in-Piece.new.self.items ≡ x.points.items ++ point_in w c.args.held CommitKind.Piece ch.done.n (is_short w.numbers.chunk how ch.limit) ∷ [] = cc in
-    let done = grant_done x.cores c.hand_over-writes-in-Piece.new.self x.spheres c.commit_chunk.new.self x.flights x.devices x.counts x.points.items _ core c.args.held c.in-Piece.words.words _ _ c.hand_over-writes-in-Piece.ensures.core c.in_ok-moved.ensures.others point in
+    let done = grant_done x.cores x.spheres x.flights x.devices x.counts x.points.items core c.args.held c.commit_chunk.new.self c.in-Piece.words.words _ _ _ c.hand_over-writes-in-Piece.new.self c.hand_over-writes-in-Piece.ensures.core c.in_ok-moved.ensures.others point in
     subst (λ (u : World). Some c.go_on-in-Piece.new.self ≡ option_map (λ h. left (grant_chunk u core h how)) (at u.cores core)) view
     (ap (λ (u : World). Some u) (c.go_on-in-Piece.ensures ∙ done) ∙ held_after left (λ h. grant_chunk w core h how) (at w.cores core) _ after)

@@ -68,7 +68,7 @@ returns-in-Granted-clause-world g c =
     c.sign.ensures ∙ ap (signed c.args.held.sphere words) (c.in_ok-writes.ensures ∙ ap nothing c.bits.ensures.value)
     in
     let point : c.push_reserved.new.self.items ≡ x.points.items ++ point_in w c.args.held CommitKind.Serial 0 false ∷ [] = cc in
-    let done = serial_done x.cores x.spheres c.serial_step.new.self x.flights x.devices d x.counts x.points.items _ core c.args.held words _ _ c.in_ok-moved.ensures.others point in
+    let done = serial_done x.cores x.spheres x.flights x.devices x.counts x.points.items core c.args.held c.serial_step.new.self words _ _ _ d c.in_ok-moved.ensures.others point in
     subst (λ (u : World). Some c.go_on.new.self ≡ option_map (λ h. left (grant_serial u core h)) (at u.cores core)) view
     (ap (λ (u : World). Some u) (c.go_on.ensures ∙ done ∙ ap (λ (m : Marks). with_grant w core c.args.held p words m d (point_in w c.args.held CommitKind.Serial 0 false)) marks)
     ∙ held_after left (grant_serial w core) (at w.cores core) _ after)
@@ -111,7 +111,7 @@ returns-in-Piece-clause-world g c =
     c.sign-in-Piece.ensures ∙ ap (signed c.args.held.sphere words) (c.in_ok-writes.ensures ∙ ap nothing c.bits.ensures.value)
     in
     let point : c.push_reserved-in-Piece.new.self.items ≡ x.points.items ++ point_in w c.args.held CommitKind.Piece 0 false ∷ [] = cc in
-    let done = serial_done x.cores x.spheres c.serial_step.new.self x.flights x.devices d x.counts x.points.items _ core c.args.held words _ _ c.in_ok-moved.ensures.others point in
+    let done = serial_done x.cores x.spheres x.flights x.devices x.counts x.points.items core c.args.held c.serial_step.new.self words _ _ _ d c.in_ok-moved.ensures.others point in
     subst (λ (u : World). Some c.go_on-in-Piece.new.self ≡ option_map (λ h. left (grant_serial u core h)) (at u.cores core)) view
     (ap (λ (u : World). Some u) (c.go_on-in-Piece.ensures ∙ done ∙ ap (λ (m : Marks). with_grant w core c.args.held p words m d (point_in w c.args.held CommitKind.Piece 0 false)) marks)
     ∙ held_after left (grant_serial w core) (at w.cores core) _ after)

@@ -36,7 +36,7 @@ returns-in-Ok-clause-judged g c p before run request served a q h =
     let is = thread-is before k c.args.total ts run c.thread_at-thread.result h c.requires.thread c.thread_at-thread.ensures.thread in
     let said = c.in-Ok.ensures.verdict p run is h.total in
     let verdict = subst (λ (x : Replaying). verdict_of (Ok f) (chunk_effect k p.request run) ≡ chunk_verdict x.log p x.used k run) c.self.view_is said in
-    chunk-goes r p k c.args.total before ts c.commit.new.threads request served f run c.commit.new.self _ c.commit.result a q h verdict
+    chunk-goes r p request served c.commit.new.self c.commit.result k c.args.total before ts c.commit.new.threads f run _ a q h verdict
     c.commit.ensures.verdict c.commit.ensures.threads c.commit.ensures.replay
 
 pub returns-in-Err-clause-judged : goal.returns-in-Err-clause-judged

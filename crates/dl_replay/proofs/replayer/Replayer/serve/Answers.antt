@@ -33,5 +33,5 @@ returns-in_ok-add-in-Ok-clause-serial g c p t a q is =
     let said = rw c.in-Ok.is at (c.in_ok-done.ensures.verdict p q) in
     let of_log = subst (λ (x : Replaying). step_verdict k (Ok d) ≡ serial_verdict x.log p x.used k ts c.thread_at.result m) c.self.view_is said in
     let verdict = subst (λ (x : Parts). step_verdict k (Ok d) ≡ serial_verdict r.log p r.used k ts x m) same of_log in
-    step-goes r p k ts c.commit.new.threads c.args.request.now c.args.served.now c.add.new.self d c.commit.new.self _ c.commit.result a verdict
+    step-goes r p c.args.request.now c.args.served.now c.commit.new.self c.commit.result k ts c.commit.new.threads c.add.new.self d _ a verdict
     c.commit.ensures.verdict c.commit.ensures.threads c.commit.ensures.replay c.in_ok-add-in-Ok.ensures.words c.in_ok-add-in-Ok.ensures.loads c.in_ok-add-in-Ok.ensures.outputs

@@ -22,4 +22,4 @@ returns-in-Ok-clause-judged g c p a q =
     let used = record (used_seen place.used) { dmas = place.used.dmas + 1 } in
     let went : c.advance.new.self ≡ advanced r.log (r.done + 1) place.last used ts = c.advance.ensures.replay in
     let moved = advanced-same r (replaying c.self.inside.log place c.self.inside.turn c.self.inside.total c.self.inside.commits) c.advance.new.self ts c.self.view_is went in
-    dma-goes r p ts c.args.request.now nothing_served (served_stored (Ok words)) words c.advance.new.self _ Verdict.Went a verdict refl moved refl
+    dma-goes r p c.args.request.now nothing_served c.advance.new.self Verdict.Went ts (served_stored (Ok words)) words _ a verdict refl moved refl

@@ -35,5 +35,5 @@ returns-in-Ok-clause-judged g c p t a q is =
     let said = rw c.in-Ok.is at (c.in_ok-done.ensures.verdict p q) in
     let of_log = subst (λ (x : Replaying). step_verdict k (Ok d) ≡ serial_verdict x.log p x.used k ts c.thread_at.result m) c.self.view_is said in
     let verdict = subst (λ (x : Parts). step_verdict k (Ok d) ≡ serial_verdict r.log p r.used k ts x m) same of_log in
-    step-goes r p k ts c.commit.new.threads c.args.request.now nothing_served (served_left (Ok d.left)) d c.commit.new.self _ Verdict.Went a verdict
+    step-goes r p c.args.request.now nothing_served c.commit.new.self Verdict.Went k ts c.commit.new.threads (served_left (Ok d.left)) d _ a verdict
     refl c.commit.ensures.threads c.commit.ensures.replay refl refl refl

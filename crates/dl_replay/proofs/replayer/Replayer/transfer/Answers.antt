@@ -20,5 +20,5 @@ returns-in_ok-add_words-in-Ok-clause-dma g c p a q =
     let used = record (used_seen place.used) { dmas = place.used.dmas + 1 } in
     let went : c.advance.new.self ≡ advanced r.log (r.done + 1) place.last used ts = c.advance.ensures.replay in
     let moved = advanced-same r (replaying c.self.inside.log place c.self.inside.turn c.self.inside.total c.self.inside.commits) c.advance.new.self ts c.self.view_is went in
-    dma-goes r p ts c.args.request.now c.args.served.now c.add_words.new.self words c.advance.new.self _ c.advance.result a verdict
+    dma-goes r p c.args.request.now c.args.served.now c.advance.new.self c.advance.result ts c.add_words.new.self words _ a verdict
     c.advance.ensures.verdict moved c.in_ok-add_words-in-Ok.ensures.words

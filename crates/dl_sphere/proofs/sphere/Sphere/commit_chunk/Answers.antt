@@ -1,5 +1,6 @@
 use Rattle.std.proofs.Common.{◌≡◌, ◌+◌, ◌^◌, ◌<◌, ◌≤◌, Bool, false, [], length, Some, None, sym, ap, ◌∙◌, subst, refl, set, length-set, append-nil, arith}
 use Rattle.std.specs.Prelude.{slice_get}
+use Rattle.std.proofs.lemmas.Option.{slice_get_within}
 use Rattle.spec_isa.specs.declared.thread.Parts.{Parts}
 use Rattle.dl_entry.specs.declared.Commit.{Commit}
 use Rattle.spec_log.specs.Log.{IsLog}
@@ -12,7 +13,6 @@ use Rattle.spec_protocol.specs.Spheres.{Cursor, Replay, Sphere}
 use Rattle.dl_replay.specs.Replaying.{Replaying, commits_of, cursor_of}
 use Rattle.dl_sphere.specs.declared.part.Part.{Part}
 use Rattle.dl_sphere.specs.Moving.{IsPart, IsPartIn}
-use Rattle.dl_sphere.specs.Replayed.{before}
 use Rattle.spec_protocol.proofs.Logs.Growing.{pushed_length}
 use Rattle.dl_sphere.specs.Roles.{keeping_of, role_in, IsReplayed, IsSphere}
 use Rattle.dl_sphere.specs.Inside.{sphere_in, sphere_with}
@@ -33,12 +33,12 @@ invariant_of-self-2 g c =
     let h = c.self.invariant in
     let q : Sphere = sphere_with a.memory c.set.new.self c.keep.new.commits.items (Some k) a.request (role_in c.keep.new.part) in
     let start : slice_get c.args.self.now.sphere.threads k ≡ Some t =
-    sym (ap (λ (v : SizedSphere). slice_get v.sphere.threads k) c.self.view_is) ∙ c.thread_at-after.ensures.value
+    sym (ap (λ (v : SizedSphere). slice_get v.sphere.threads k) c.self.view_is) ∙ c.thread_at-after.ensures.thread
     in
     let d : Commits (sphere_in a) q k t u [] commit =
     record {
-      start = c.thread_at-after.ensures.value;
-      within = c.thread_at-after.ensures.few;
+      start = c.thread_at-after.ensures.thread;
+      within = let inside = slice_get_within a.threads k t c.thread_at-after.ensures.thread in let few = c.thread_at-after.ensures.few in omega arith;
       threads = c.set.ensures ∙ sym (append-nil (set a.threads k u));
       few =
           let n : length c.set.new.self ≡ length a.threads = ap length c.set.ensures ∙ length-set a.threads k u in
@@ -54,7 +54,7 @@ invariant_of-self-2 g c =
     }
     in
     subst (IsSphere a.standard q) (sym c.in_ok-keep.ensures.noted)
-    (commits_stand (sphere_in a) q k t u [] commit a.standard c.is_short-short.result None (keeping_of a.part) (live_part a.part c.in_default.not-Replayed) d h)
+    (commits_stand (sphere_in a) q k t u [] commit d a.standard c.is_short-short.result None (keeping_of a.part) (live_part a.part c.in_default.not-Replayed) h)
 
 pub invariant_of-self-then-is_piece : goal.invariant_of-self-then-is_piece
 invariant_of-self-then-is_piece g c =
@@ -67,7 +67,7 @@ invariant_of-self-then-is_piece g c =
     let kept : IsReplayed (sphere_in a) r.player = replayed a r c.in-Replayed.is h in
     let e = c.in_ok-commit_piece.ensures in
     let start : slice_get c.args.self.now.sphere.threads k ≡ Some t =
-    sym (ap (λ (v : SizedSphere). slice_get v.sphere.threads k) c.self.view_is) ∙ c.thread_at-after.ensures.value
+    sym (ap (λ (v : SizedSphere). slice_get v.sphere.threads k) c.self.view_is) ∙ c.thread_at-after.ensures.thread
     in
     let same : s.commits ≡ t.commits = ap (λ (v : Parts). v.commits) c.state-state.ensures ∙ c.requires.1.1.0.commits t start in
     record {
@@ -85,7 +85,7 @@ invariant_of-self-then-is_piece g c =
         commits =
             ap (λ (x : Replaying). x.commits) e.replay
             ∙ kept.commits
-            ∙ sym (same_commits a.threads k s t c.thread_at-after.ensures.value same)
+            ∙ sym (same_commits a.threads k s t c.thread_at-after.ensures.thread same)
             ∙ sym (ap commits_of e.threads);
       };
     }
@@ -110,8 +110,8 @@ invariant_of-self-in-Some g c =
     let kept : IsReplayed (sphere_in a) r.player = replayed a r c.in-Replayed.is c.self.invariant in
     let said = rw c.in-Some.is at (c.in_ok-left.ensures.judged (sphere_in a).progress kept.agrees refl) in
     let n = c.commit_last.new in
-    stands_left a.standard a.memory a.threads a.commits.items a.last a.request (role_in a.part) (role_in (Part.Replayed n.replay)) r.player r.loads.items k
-    (chunk_verdict b.log (sphere_in a).progress b.used k (joined b c.args.chunk.now.chunk.done)) c.in-Some.why n.replay.player n.replay.loads.items n.threads n.request n.commits.items said
+    stands_left (sphere_in a) r.player r.loads.items n.replay.player n.replay.loads.items n.threads n.request n.commits.items a.standard k
+    (chunk_verdict b.log (sphere_in a).progress b.used k (joined b c.args.chunk.now.chunk.done)) c.in-Some.why said
     (stands_replayed a r c.in-Replayed.is c.self.invariant)
 
 pub invariant_of-self-in-Replayed : goal.invariant_of-self-in-Replayed
@@ -123,8 +123,8 @@ invariant_of-self-in-Replayed g c =
     let kept : IsReplayed (sphere_in a) r.player = replayed a r c.in-Replayed.is c.self.invariant in
     let said = rw c.in_default-left.is at (c.in_ok-left.ensures.judged (sphere_in a).progress kept.agrees refl) in
     let n = c.commit_last.new in
-    stands_granted a.standard a.memory a.threads a.commits.items a.last a.request (role_in a.part) (role_in (Part.Replayed n.replay)) r.player r.loads.items k
-    (chunk_verdict b.log (sphere_in a).progress b.used k (joined b c.args.chunk.now.chunk.done)) n.replay.player n.replay.loads.items n.threads n.request n.commits.items
+    stands_granted (sphere_in a) r.player r.loads.items n.replay.player n.replay.loads.items n.threads n.request n.commits.items a.standard k
+    (chunk_verdict b.log (sphere_in a).progress b.used k (joined b c.args.chunk.now.chunk.done))
     (subst (λ x. x ≤ 15) c.len.ensures.value c.len.ensures.few) said (stands_replayed a r c.in-Replayed.is c.self.invariant)
 
 pub returns-in-Replayed-clause-ok : goal.returns-in-Replayed-clause-ok
@@ -147,7 +147,7 @@ returns-in-Replayed-clause-ok g c d =
     in
     let short : Bool = is_short a.standard how ch.limit in
     let whole : false ≡ is_piece how = sym c.if-is_piece.false ∙ c.is_piece.ensures how c.requires.1.1.0.closed in
-    granted a.memory a.threads a.commits.items a.last a.request r.player r.loads.items k v d n.replay.player n.replay.loads.items n.threads n.request n.commits.items c.in_ok-words.words.words words said
+    granted (sphere_in a) r.player r.loads.items n.replay.player n.replay.loads.items n.threads n.request n.commits.items k v d c.in_ok-words.words.words words said
     ∙ ap (λ (x : Bool). chunk_moved k x short run d (sphere_with a.memory a.threads a.commits.items a.last a.request (Replay b))) whole
     ∙ ap (λ (x : Part). chunk_moved k (is_piece how) short run d (sphere_with a.memory a.threads a.commits.items a.last a.request (role_in x))) (sym c.in-Replayed.is)
     ∙ ap (λ (x : SizedSphere). chunk_moved k (is_piece how) (is_short x.standard how ch.limit) run d x.sphere) c.self.view_is
@@ -163,7 +163,7 @@ count-requires g c =
     let said = rw c.in-Some.is at (c.in_ok-left.ensures.judged p kept.agrees refl) in
     let n = c.commit_last.new in
     let v = chunk_verdict b.log p b.used k (joined b c.args.chunk.now.chunk.done) in
-    let same : length n.commits.items ≡ length a.commits.items = left_commits p k (before r a.threads a.request a.commits.items) v c.in-Some.why n.replay.player n.replay.loads.items n.threads n.request n.commits.items said in
+    let same : length n.commits.items ≡ length a.commits.items = left_commits (sphere_in a) r.player r.loads.items n.replay.player n.replay.loads.items n.threads n.request n.commits.items k v c.in-Some.why said in
     let few : length a.commits.items < 2 ^ 24 =
     subst (λ n. n < 2 ^ 24) (sym (ap (λ (s : SizedSphere). length s.sphere.progress.commits) c.self.view_is)) c.requires.1.1.1.0
     in
@@ -189,7 +189,7 @@ returns-in-Some-clause-ok g c d =
     let whole : false ≡ is_piece how = sym c.if-is_piece.false ∙ c.is_piece.ensures how c.requires.1.1.0.closed in
     let len : c.count.result ≡ length n.commits.items = c.count.ensures ∙ ap length c.deref.ensures.value in
     ap (λ m. record { outcome = Diverged m c.in-Some.why; sphere = sphere_with a.memory n.threads n.commits.items a.last n.request (Replay (cursor_of n.replay.player n.replay.loads.items)); words = []; devices = d }) len
-    ∙ left a.memory a.threads a.commits.items a.last a.request r.player r.loads.items k v d c.in-Some.why n.replay.player n.replay.loads.items n.threads n.request n.commits.items kept.agrees.done said
+    ∙ left (sphere_in a) r.player r.loads.items n.replay.player n.replay.loads.items n.threads n.request n.commits.items k v d c.in-Some.why kept.agrees.done said
     ∙ ap (λ (x : Bool). chunk_moved k x short run d (sphere_with a.memory a.threads a.commits.items a.last a.request (Replay b))) whole
     ∙ ap (λ (x : Part). chunk_moved k (is_piece how) short run d (sphere_with a.memory a.threads a.commits.items a.last a.request (role_in x))) (sym c.in-Replayed.is)
     ∙ ap (λ (x : SizedSphere). chunk_moved k (is_piece how) (is_short x.standard how ch.limit) run d x.sphere) c.self.view_is

@@ -11,7 +11,6 @@ use Rattle.spec_protocol.proofs.Logs.Growing.{pushed_length}
 use Rattle.dl_replay.specs.Replaying.{cursor_of}
 use Rattle.dl_sphere.specs.declared.part.Part.{Part}
 use Rattle.dl_sphere.specs.Inside.{sphere_in, sphere_with}
-use Rattle.dl_sphere.specs.Replayed.{before}
 use Rattle.dl_sphere.specs.Roles.{keeping_of, role_in, role_of, IsKeepingOf, IsLive, IsReplayed, IsSphere}
 use Rattle.dl_sphere.specs.SizedSpheres.{SizedSphere}
 use Rattle.dl_sphere.proofs.Replays.Moved.{dma_granted, dma_left, dma_left_commits, dma_stands_granted, dma_stands_left}
@@ -28,7 +27,7 @@ unreachable-requires c =
     let some : IsSome (dma_moved d (sphere_in a)) = subst (λ (v : SizedSphere). IsSome (dma_moved d v.sphere)) (sym c.self.view_is) c.requires.some in
     let none : dma_moved d (sphere_in a) ≡ None =
     ap (λ (q : Option Request). dma_moved d (sphere_with a.memory a.threads a.commits.items a.last q (role_in a.part))) c.in_default-request.is
-    ∙ none_moved (keeping_of a.part) a.memory a.threads a.commits.items a.last d live
+    ∙ none_moved a.memory a.threads a.commits.items a.last d (keeping_of a.part) live
     in
     absurd (true≢false (sym (subst (λ (x : Option MovedSphere). IsSome x) none some)))
 
@@ -57,7 +56,7 @@ returns c =
       ok =
           sym (ap (λ (v : SizedSphere). dma_moved d v.sphere) c.self.view_is)
           ∙ ap (λ (q : Option Request). dma_moved d (sphere_with a.memory a.threads a.commits.items a.last q (role_in a.part))) c.in-Some.is
-          ∙ dma_is_moved a.standard (keeping_of a.part) a.memory a.threads a.commits.items a.last request d live here
+          ∙ dma_is_moved a.memory a.threads a.commits.items a.last d a.standard (keeping_of a.part) request live here
           ∙ (λ i. Some (record {
             outcome = Granted;
             sphere = sphere_with a.memory a.threads (sym e.commits i) a.last None (role_of (sym e.noted i));
@@ -78,8 +77,8 @@ invariant_of-self-in-Replayed c =
     let n = c.serve_dma.new in
     let kept : IsReplayed (sphere_in a) r.player = replayed a r c.in-Replayed.is c.self.invariant in
     let said = rw c.in-Ok.is at (c.in_ok-served.ensures.judged p kept.agrees refl) in
-    dma_stands_granted a.standard a.memory a.threads a.commits.items a.last a.request (role_in a.part) (role_in (Part.Replayed n.replay)) r.player r.loads.items v
-    n.replay.player n.replay.loads.items a.threads n.request n.commits.items c.in-Ok.words.words said (stands_replayed a r c.in-Replayed.is c.self.invariant)
+    dma_stands_granted (sphere_in a) r.player r.loads.items n.replay.player n.replay.loads.items a.threads n.request n.commits.items a.standard v
+    c.in-Ok.words.words said (stands_replayed a r c.in-Replayed.is c.self.invariant)
 
 pub invariant_of-self-in-Err : goal.invariant_of-self-in-Err
 invariant_of-self-in-Err c =
@@ -90,8 +89,8 @@ invariant_of-self-in-Err c =
     let n = c.serve_dma.new in
     let kept : IsReplayed (sphere_in a) r.player = replayed a r c.in-Replayed.is c.self.invariant in
     let said = rw c.in-Err.is at (c.in_ok-served.ensures.judged p kept.agrees refl) in
-    dma_stands_left a.standard a.memory a.threads a.commits.items a.last a.request (role_in a.part) (role_in (Part.Replayed n.replay)) r.player r.loads.items v
-    c.in-Err.why n.replay.player n.replay.loads.items a.threads n.request n.commits.items [] said (stands_replayed a r c.in-Replayed.is c.self.invariant)
+    dma_stands_left (sphere_in a) r.player r.loads.items n.replay.player n.replay.loads.items a.threads n.request n.commits.items a.standard v
+    c.in-Err.why [] said (stands_replayed a r c.in-Replayed.is c.self.invariant)
 
 pub count-requires : goal.count-requires
 count-requires c =
@@ -102,7 +101,7 @@ count-requires c =
     let n = c.serve_dma.new in
     let kept : IsReplayed (sphere_in a) r.player = replayed a r c.in-Replayed.is c.self.invariant in
     let said = rw c.in-Err.is at (c.in_ok-served.ensures.judged p kept.agrees refl) in
-    let same : length n.commits.items ≡ length a.commits.items = dma_left_commits p (before r a.threads a.request a.commits.items) v c.in-Err.why n.replay.player n.replay.loads.items a.threads n.request n.commits.items said in
+    let same : length n.commits.items ≡ length a.commits.items = dma_left_commits (sphere_in a) r.player r.loads.items n.replay.player n.replay.loads.items a.threads n.request n.commits.items v c.in-Err.why [] said in
     let few : length a.commits.items < 2 ^ 24 =
     subst (λ n. n < 2 ^ 24) (sym (ap (λ (s : SizedSphere). length s.sphere.progress.commits) c.self.view_is)) c.requires.few
     in
@@ -125,7 +124,7 @@ returns-in-Err-clause-ok c =
     ∙ ap (λ (y : Part). dma_moved d (sphere_with a.memory a.threads a.commits.items a.last a.request (role_in y))) c.in-Replayed.is
     ∙ ap (λ (x : MovedSphere). Some x) (sym (
     ap (λ m. record { outcome = Diverged m c.in-Err.why; sphere = sphere_with a.memory a.threads n.commits.items a.last n.request (Replay (cursor_of n.replay.player n.replay.loads.items)); words = []; devices = d }) len
-    ∙ dma_left a.memory a.threads a.commits.items a.last a.request r.player r.loads.items v d c.in-Err.why n.replay.player n.replay.loads.items a.threads n.request n.commits.items [] kept.agrees.done said))
+    ∙ dma_left (sphere_in a) r.player r.loads.items n.replay.player n.replay.loads.items a.threads n.request n.commits.items v d c.in-Err.why [] kept.agrees.done said))
 
 pub returns-in-Replayed-clause-ok : goal.returns-in-Replayed-clause-ok
 unfolding dma_moved
@@ -141,4 +140,4 @@ returns-in-Replayed-clause-ok c =
     sym (ap (λ (s : SizedSphere). dma_moved d s.sphere) c.self.view_is)
     ∙ ap (λ (y : Part). dma_moved d (sphere_with a.memory a.threads a.commits.items a.last a.request (role_in y))) c.in-Replayed.is
     ∙ ap (λ (x : MovedSphere). Some x) (sym (
-    dma_granted a.memory a.threads a.commits.items a.last a.request r.player r.loads.items v d n.replay.player n.replay.loads.items a.threads n.request n.commits.items c.in-Ok.words.words said))
+    dma_granted (sphere_in a) r.player r.loads.items n.replay.player n.replay.loads.items a.threads n.request n.commits.items v d c.in-Ok.words.words said))

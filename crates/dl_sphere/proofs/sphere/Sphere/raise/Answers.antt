@@ -18,10 +18,10 @@ note_interrupt-requires-clause-fresh c =
     let k = c.args.thread in
     let t = c.thread_at-found.result in
     let start : slice_get c.args.self.now.sphere.threads k ≡ Some t =
-    sym (ap (λ (v : SizedSphere). slice_get v.sphere.threads k) c.self.view_is) ∙ c.thread_at-found.ensures.value
+    sym (ap (λ (v : SizedSphere). slice_get v.sphere.threads k) c.self.view_is) ∙ c.thread_at-found.ensures.thread
     in
     subst (λ n. CanRaise k n (keeping_of a.part)) (sym c.commits.ensures)
-    (can_raise (sphere_in a) k t a.standard (keeping_of a.part) c.thread_at-found.ensures.value (c.requires.there t start) c.self.invariant)
+    (can_raise (sphere_in a) k t a.standard (keeping_of a.part) c.thread_at-found.ensures.thread (c.requires.there t start) c.self.invariant)
 
 pub invariant_of-self-2 : goal.invariant_of-self-2
 invariant_of-self-2 c =
@@ -30,12 +30,12 @@ invariant_of-self-2 c =
     let t = c.thread_at-found.result in
     let q : Sphere = sphere_with a.memory c.set.new.self a.commits.items a.last a.request (role_in c.note_interrupt.new.part) in
     let start : slice_get c.args.self.now.sphere.threads k ≡ Some t =
-    sym (ap (λ (v : SizedSphere). slice_get v.sphere.threads k) c.self.view_is) ∙ c.thread_at-found.ensures.value
+    sym (ap (λ (v : SizedSphere). slice_get v.sphere.threads k) c.self.view_is) ∙ c.thread_at-found.ensures.thread
     in
     let live : IsLive (keeping_of a.part) = live_role (keeping_of a.part) (ap (λ (v : SizedSphere). replays v.sphere.role) c.self.view_is ∙ c.requires.recorded) in
     let noted = c.in_ok-note_interrupt.ensures.noted ∙ ap (λ n. with_raised k n c.args.value (keeping_of a.part)) c.commits.ensures in
     subst (IsSphere a.standard q) (sym noted)
-    (raised_stand (sphere_in a) q k c.args.value t a.standard (keeping_of a.part) c.thread_at-found.ensures.value (c.requires.there t start) (c.set.ensures ∙ ap (set a.threads k) c.interrupted.ensures) refl live c.self.invariant)
+    (raised_stand (sphere_in a) q k c.args.value t a.standard (keeping_of a.part) c.thread_at-found.ensures.thread (c.requires.there t start) (c.set.ensures ∙ ap (set a.threads k) c.interrupted.ensures) refl live c.self.invariant)
 
 pub returns-clause-ok : goal.returns-clause-ok
 unfolding raised
@@ -46,7 +46,7 @@ returns-clause-ok c =
     let v = c.args.value in
     let x = c.thread_at-found.result in
     let start : slice_get c.args.self.now.sphere.threads k ≡ Some x =
-    sym (ap (λ (s : SizedSphere). slice_get s.sphere.threads k) c.self.view_is) ∙ c.thread_at-found.ensures.value
+    sym (ap (λ (s : SizedSphere). slice_get s.sphere.threads k) c.self.view_is) ∙ c.thread_at-found.ensures.thread
     in
     let same : x ≡ t = (let e : Some x ≡ Some t = sym start ∙ is in cc) in
     let made : List Parts → Role → Sphere = λ us role. sphere_with a.memory us a.commits.items a.last a.request role in

@@ -1,5 +1,6 @@
 use Rattle.std.proofs.Common.{◌≡◌, ◌<◌, ◌^◌, ◌+◌, ◌≤◌, false, [], ◌∷◌, ◌++◌, List, length, Option, Some, None, refl, sym, ap, ◌∙◌, subst, set, arith}
 use Rattle.std.specs.Prelude.{slice_get}
+use Rattle.std.proofs.lemmas.Option.{slice_get_within}
 use Rattle.dl_entry.specs.declared.Commit.{Commit}
 use Rattle.dl_entry.specs.declared.Request.{Request}
 use Rattle.spec_isa.specs.declared.thread.Parts.{Parts}
@@ -36,7 +37,7 @@ counted-after-requires c =
     let g = taken (need t a.memory) c.args.devices.now c.args.moment in
     let keeps = serve-keeps k a.threads a.request t a.memory g.input in
     let same : c.in_ok-left.left.thread.commits ≡ t.commits = ap (λ (v : Parts). v.commits) c.in_ok-left.ensures.thread ∙ keeps.commits in
-    let most : t.commits ≤ length a.commits.items = subst (λ n. n ≤ length a.commits.items) (ap commits_if c.thread_at-found.ensures.value) ((few_live a.standard (sphere_in a) (keeping_of a.part) (live_part a.part c.in_default.not-Replayed) c.self.invariant.kept).few k) in
+    let most : t.commits ≤ length a.commits.items = subst (λ n. n ≤ length a.commits.items) (ap commits_if c.thread_at-found.ensures.thread) ((few_live a.standard (sphere_in a) (keeping_of a.part) (live_part a.part c.in_default.not-Replayed) c.self.invariant.kept).few k) in
     let few : length a.commits.items < 2 ^ 24 =
     subst (λ n. n < 2 ^ 24) (sym (ap (λ (v : SizedSphere). length v.sphere.progress.commits) c.self.view_is)) c.requires.few
     in
@@ -58,8 +59,8 @@ invariant_of-self-2 c =
     let threads : c.settle.new.threads ≡ set a.threads k u ++ v.made = c.settle.ensures ∙ ap (λ made. set a.threads k u ++ made) c.in_ok-left.ensures.made in
     let d : Commits (sphere_in a) q k t u v.made commit =
     record {
-      start = c.thread_at-found.ensures.value;
-      within = c.thread_at-found.ensures.few;
+      start = c.thread_at-found.ensures.thread;
+      within = let inside = slice_get_within a.threads k t c.thread_at-found.ensures.thread in let few = c.thread_at-found.ensures.few in omega arith;
       threads = threads;
       few = threads_few a.threads k u left.made c.settle.new.threads c.settle.ensures c.in_ok-left.ensures.room h.threads;
       commits =
@@ -72,7 +73,7 @@ invariant_of-self-2 c =
     }
     in
     subst (IsSphere a.standard q) (sym c.in_ok-left.ensures.noted)
-    (commits_stand (sphere_in a) q k t u v.made commit a.standard false g.input (keeping_of a.part) (live_part a.part c.in_default.not-Replayed) d h)
+    (commits_stand (sphere_in a) q k t u v.made commit d a.standard false g.input (keeping_of a.part) (live_part a.part c.in_default.not-Replayed) h)
 
 pub returns-clause-ok : goal.returns-clause-ok
 returns-clause-ok c =
@@ -83,7 +84,7 @@ returns-clause-ok c =
     let d = c.args.devices.now in
     let x = c.thread_at-found.result in
     let start : slice_get c.args.self.now.sphere.threads k ≡ Some x =
-    sym (ap (λ (s : SizedSphere). slice_get s.sphere.threads k) c.self.view_is) ∙ c.thread_at-found.ensures.value
+    sym (ap (λ (s : SizedSphere). slice_get s.sphere.threads k) c.self.view_is) ∙ c.thread_at-found.ensures.thread
     in
     let same : x ≡ t = (let e : Some x ≡ Some t = sym start ∙ is in cc) in
     let g = taken (need x a.memory) d moment in
@@ -104,7 +105,7 @@ returns-clause-ok c =
     ∙ ap (λ r. made (set a.threads k (counted v.thread) ++ v.made) (a.commits.items ++ commit ∷ []) v.request r left.words.words c.live_step.new.devices) role
     ∙ ap (λ ws. made (set a.threads k (counted v.thread) ++ v.made) (a.commits.items ++ commit ∷ []) v.request (role_of (with_noted commit false g.input None (keeping_of a.part))) ws c.live_step.new.devices) l.words
     ∙ ap (made (set a.threads k (counted v.thread) ++ v.made) (a.commits.items ++ commit ∷ []) v.request (role_of (with_noted commit false g.input None (keeping_of a.part))) v.words) l.devices
-    ∙ step_is_moved a.standard (keeping_of a.part) a.memory a.threads a.commits.items a.last a.request k moment x d (live_part a.part c.in_default.not-Replayed) c.thread_at-found.ensures.value c.self.invariant.kept
+    ∙ step_is_moved a.memory a.threads a.commits.items a.last d a.standard (keeping_of a.part) a.request k moment x (live_part a.part c.in_default.not-Replayed) c.thread_at-found.ensures.thread c.self.invariant.kept
     ∙ ap (λ (y : Parts). serial_moved k moment y d (sphere_in a)) same
     ∙ ap (λ (s : SizedSphere). serial_moved k moment t d s.sphere) c.self.view_is
 
@@ -118,9 +119,8 @@ invariant_of-self-in-Replayed c =
     let v = serial_verdict r.player.log p r.player.used k a.threads x a.memory in
     let n = c.serve_step.new in
     let kept : IsReplayed (sphere_in a) r.player = replayed a r c.in-Replayed.is c.self.invariant in
-    let said = rw c.in-Ok.is at (c.in_ok-served.ensures.judged p x kept.agrees refl c.thread_at-found.ensures.value) in
-    stands_granted a.standard a.memory a.threads a.commits.items a.last a.request (role_in a.part) (role_in (Part.Replayed n.replay)) r.player r.loads.items k v
-    n.replay.player n.replay.loads.items n.threads n.request n.commits.items
+    let said = rw c.in-Ok.is at (c.in_ok-served.ensures.judged p x kept.agrees refl c.thread_at-found.ensures.thread) in
+    stands_granted (sphere_in a) r.player r.loads.items n.replay.player n.replay.loads.items n.threads n.request n.commits.items a.standard k v
     (subst (λ x. x ≤ 15) c.len.ensures.value c.len.ensures.few) (λ i. record (said i) { words = [] }) (stands_replayed a r c.in-Replayed.is c.self.invariant)
 
 pub invariant_of-self-in-Err : goal.invariant_of-self-in-Err
@@ -133,9 +133,9 @@ invariant_of-self-in-Err c =
     let v = serial_verdict r.player.log p r.player.used k a.threads x a.memory in
     let n = c.serve_step.new in
     let kept : IsReplayed (sphere_in a) r.player = replayed a r c.in-Replayed.is c.self.invariant in
-    let said = rw c.in-Err.is at (c.in_ok-served.ensures.judged p x kept.agrees refl c.thread_at-found.ensures.value) in
-    stands_left a.standard a.memory a.threads a.commits.items a.last a.request (role_in a.part) (role_in (Part.Replayed n.replay)) r.player r.loads.items k v
-    c.in-Err.why n.replay.player n.replay.loads.items n.threads n.request n.commits.items (λ i. record (said i) { words = [] }) (stands_replayed a r c.in-Replayed.is c.self.invariant)
+    let said = rw c.in-Err.is at (c.in_ok-served.ensures.judged p x kept.agrees refl c.thread_at-found.ensures.thread) in
+    stands_left (sphere_in a) r.player r.loads.items n.replay.player n.replay.loads.items n.threads n.request n.commits.items a.standard k v
+    c.in-Err.why (λ i. record (said i) { words = [] }) (stands_replayed a r c.in-Replayed.is c.self.invariant)
 
 pub count-requires : goal.count-requires
 count-requires c =
@@ -147,8 +147,8 @@ count-requires c =
     let v = serial_verdict r.player.log p r.player.used k a.threads x a.memory in
     let n = c.serve_step.new in
     let kept : IsReplayed (sphere_in a) r.player = replayed a r c.in-Replayed.is c.self.invariant in
-    let said = rw c.in-Err.is at (c.in_ok-served.ensures.judged p x kept.agrees refl c.thread_at-found.ensures.value) in
-    let same : length n.commits.items ≡ length a.commits.items = left_commits p k (before r a.threads a.request a.commits.items) v c.in-Err.why n.replay.player n.replay.loads.items n.threads n.request n.commits.items (λ i. record (said i) { words = [] }) in
+    let said = rw c.in-Err.is at (c.in_ok-served.ensures.judged p x kept.agrees refl c.thread_at-found.ensures.thread) in
+    let same : length n.commits.items ≡ length a.commits.items = left_commits (sphere_in a) r.player r.loads.items n.replay.player n.replay.loads.items n.threads n.request n.commits.items k v c.in-Err.why (λ i. record (said i) { words = [] }) in
     let few : length a.commits.items < 2 ^ 24 =
     subst (λ n. n < 2 ^ 24) (sym (ap (λ (s : SizedSphere). length s.sphere.progress.commits) c.self.view_is)) c.requires.few
     in
@@ -169,14 +169,14 @@ returns-in-Err-clause-ok c =
     let v = serial_verdict r.player.log p r.player.used k a.threads x a.memory in
     let n = c.serve_step.new in
     let kept : IsReplayed (sphere_in a) r.player = replayed a r c.in-Replayed.is c.self.invariant in
-    let said = rw c.in-Err.is at (c.in_ok-served.ensures.judged p x kept.agrees refl c.thread_at-found.ensures.value) in
+    let said = rw c.in-Err.is at (c.in_ok-served.ensures.judged p x kept.agrees refl c.thread_at-found.ensures.thread) in
     let start : slice_get c.args.self.now.sphere.threads k ≡ Some x =
-    sym (ap (λ (s : SizedSphere). slice_get s.sphere.threads k) c.self.view_is) ∙ c.thread_at-found.ensures.value
+    sym (ap (λ (s : SizedSphere). slice_get s.sphere.threads k) c.self.view_is) ∙ c.thread_at-found.ensures.thread
     in
     let same : x ≡ t = (let e : Some x ≡ Some t = sym start ∙ there in cc) in
     let len : c.count.result ≡ length n.commits.items = c.count.ensures ∙ ap length c.deref.ensures.value in
     ap (λ m. record { outcome = Diverged m c.in-Err.why; sphere = sphere_with a.memory n.threads n.commits.items a.last n.request (Replay (cursor_of n.replay.player n.replay.loads.items)); words = []; devices = d }) len
-    ∙ left a.memory a.threads a.commits.items a.last a.request r.player r.loads.items k v d c.in-Err.why n.replay.player n.replay.loads.items n.threads n.request n.commits.items
+    ∙ left (sphere_in a) r.player r.loads.items n.replay.player n.replay.loads.items n.threads n.request n.commits.items k v d c.in-Err.why
     kept.agrees.done (λ i. record (said i) { words = [] })
     ∙ ap (λ (y : Part). serial_moved k moment x d (sphere_with a.memory a.threads a.commits.items a.last a.request (role_in y))) (sym c.in-Replayed.is)
     ∙ ap (λ (y : Parts). serial_moved k moment y d (sphere_in a)) same
@@ -196,15 +196,15 @@ returns-in-Replayed-clause-ok c =
     let v = serial_verdict r.player.log p r.player.used k a.threads x a.memory in
     let n = c.serve_step.new in
     let kept : IsReplayed (sphere_in a) r.player = replayed a r c.in-Replayed.is c.self.invariant in
-    let said = rw c.in-Ok.is at (c.in_ok-served.ensures.judged p x kept.agrees refl c.thread_at-found.ensures.value) in
+    let said = rw c.in-Ok.is at (c.in_ok-served.ensures.judged p x kept.agrees refl c.thread_at-found.ensures.thread) in
     let start : slice_get c.args.self.now.sphere.threads k ≡ Some x =
-    sym (ap (λ (s : SizedSphere). slice_get s.sphere.threads k) c.self.view_is) ∙ c.thread_at-found.ensures.value
+    sym (ap (λ (s : SizedSphere). slice_get s.sphere.threads k) c.self.view_is) ∙ c.thread_at-found.ensures.thread
     in
     let same : x ≡ t = (let e : Some x ≡ Some t = sym start ∙ there in cc) in
     let words : (e : Effect) (u : Used) → v ≡ Goes e u → e.words ≡ c.in-Ok.words.words =
     λ e u goes. goes_words p k (before r a.threads a.request a.commits.items) v _ e u said goes
     in
-    granted a.memory a.threads a.commits.items a.last a.request r.player r.loads.items k v d n.replay.player n.replay.loads.items n.threads n.request n.commits.items c.in-Ok.words.words words
+    granted (sphere_in a) r.player r.loads.items n.replay.player n.replay.loads.items n.threads n.request n.commits.items k v d c.in-Ok.words.words words
     (λ i. record (said i) { words = [] })
     ∙ ap (λ (y : Part). serial_moved k moment x d (sphere_with a.memory a.threads a.commits.items a.last a.request (role_in y))) (sym c.in-Replayed.is)
     ∙ ap (λ (y : Parts). serial_moved k moment y d (sphere_in a)) same
