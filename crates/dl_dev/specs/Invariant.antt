@@ -1,9 +1,10 @@
 -- What is true of all devices.
-use Rattle.std.specs.Prelude.{◌≡◌, ℕ, ◌≤◌, ◌^◌, List, length}
+use Rattle.std.specs.Prelude.{◌≡◌, ℕ, ◌≤◌, List, length}
 use Rattle.rand_pcg.specs.Lcg.{Lcg, increment_of}
+use Rattle.spec_kernel.specs.Numbers.{most_input, random_stream}
 
--- so many bytes of the input are taken, and the random words are of stream 2
+-- so many bytes of the input are taken, and the random words are of their stream
 pub record AreDevices (input : List ℕ) (taken : ℕ) (words : Lcg) : Type 0 where
   pub within : taken ≤ length input
-  pub few : length input ≤ 2 ^ 24
-  pub stream : words.increment ≡ increment_of 64 2
+  pub few : length input ≤ most_input
+  pub stream : words.increment ≡ increment_of 64 random_stream

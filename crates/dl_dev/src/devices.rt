@@ -1,16 +1,14 @@
 //! The devices.
 ghost use Rattle.std.specs.Prelude.{◌≡◌, ◌≤◌, ◌<◌, ◌^◌, ◌++◌, length, drop, slice_get, replicate, [], IfOk, OnOk, OnErr};
 ghost use Rattle.spec_kernel.specs.Devices.{devices_of, input_taken, console_put, pipe_fitting, pipe_put, pipe_first, pipe_taken, random_bytes, random_taken};
+ghost use Rattle.spec_kernel.specs.Numbers.{most_input, pipe_count};
 
 use crate::pipe::Pipe;
 use crate::random::fill;
 use rand_pcg::Lcg64Xsh32;
+use spec_kernel::numbers::{MOST_INPUT, PIPE_COUNT, RANDOM_STREAM};
 use std::alloc::{AllocError, Global};
 use std::marker::Model;
-
-const MOST_INPUT: usize = 1 << 24;
-
-const STREAM: u64 = 2;
 
 /// What stands outside the spheres. All room but the console's is made by `new`.
 #[derive(Drop)]
@@ -19,7 +17,7 @@ pub struct Devices {
     // how many bytes of the input are taken
     taken: usize,
     console: Vec<u8>,
-    pipes: [Pipe; 8],
+    pipes: [Pipe; PIPE_COUNT],
     words: Lcg64Xsh32,
 }
 
@@ -48,7 +46,7 @@ impl Devices {
             taken: 0,
             console: Vec::new(alloc),
             pipes: empty_pipes(alloc)?,
-            words: Lcg64Xsh32::new(seed, STREAM),
+            words: Lcg64Xsh32::new(seed, RANDOM_STREAM),
         })
     }
 
@@ -63,7 +61,7 @@ impl Devices {
     /// How many bytes of the input are left.
     pub fn input_left(&self) -> u32
         ensures value { result ≡ length self.now.input }
-        ensures few { result ≤ 2 ^ 24 }
+        ensures few { result ≤ most_input }
     {
         (self.input.len() - self.taken) as u32
     }
@@ -102,7 +100,7 @@ impl Devices {
 
     /// Appends bytes to a pipe, as many as there is room for, and gives their number. A pipe holds 256 bytes.
     pub fn pipe_put(&mut self, pipe: u8, bytes: &[u8]) -> u32
-        requires { pipe < 8 }
+        requires { pipe < pipe_count }
         ensures count { result ≡ length (pipe_fitting self.old pipe bytes.now) }
         ensures put { self.new ≡ pipe_put self.old pipe bytes.now }
     {
@@ -111,7 +109,7 @@ impl Devices {
 
     /// Moves a pipe's first bytes into a buffer, as many as that holds, and gives their number. The rest of the buffer stays.
     pub fn pipe_get(&mut self, pipe: u8, into: &mut [u8]) -> u32
-        requires { pipe < 8 }
+        requires { pipe < pipe_count }
         ensures count { result ≡ length (pipe_first self.old pipe (length into.old)) }
         ensures bytes { into.new ≡ pipe_first self.old pipe (length into.old) ++ drop result into.old }
         ensures taken { self.new ≡ pipe_taken self.old pipe (length into.old) }
@@ -122,7 +120,7 @@ impl Devices {
     /// Copies the bytes that `pipe_get` would move, and gives their number.
     #[tactic(auto, using(std::proofs::lemmas::List::take_min))]
     pub fn pipe_first(&self, pipe: u8, into: &mut [u8]) -> u32
-        requires { pipe < 8 }
+        requires { pipe < pipe_count }
         ensures count { result ≡ length (pipe_first self.now pipe (length into.old)) }
         ensures bytes { into.new ≡ pipe_first self.now pipe (length into.old) ++ drop result into.old }
     {
@@ -141,13 +139,13 @@ impl Devices {
     pub fn random_first(&self, into: &mut [u8])
         ensures { into.new ≡ random_bytes (length into.old) self.now.random }
     {
-        let mut words = Lcg64Xsh32::from_state(self.words.state(), STREAM);
+        let mut words = Lcg64Xsh32::from_state(self.words.state(), RANDOM_STREAM);
         fill(&mut words, into);
     }
 }
 
-fn empty_pipes(alloc: Global) -> Result<[Pipe; 8], AllocError>
-    ensures { IfOk result (λ pipes. pipes ≡ replicate 8 []) }
+fn empty_pipes(alloc: Global) -> Result<[Pipe; PIPE_COUNT], AllocError>
+    ensures { IfOk result (λ pipes. pipes ≡ replicate pipe_count []) }
 {
     Ok([
         Pipe::new(alloc)?,

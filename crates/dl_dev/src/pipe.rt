@@ -1,13 +1,13 @@
 //! One pipe.
 ghost use Rattle.std.specs.Prelude.{◌≡◌, ◌-◌, [], ◌++◌, length, take, drop, min, IfOk};
+ghost use Rattle.spec_kernel.specs.Numbers.{pipe_size};
 
 use circular_buffer::HeapCircularBuffer;
+use spec_kernel::numbers::PIPE_SIZE;
 use std::alloc::{AllocError, Global};
 use std::marker::Model;
 
-const CAPACITY: usize = 256;
-
-// Bytes on their way, at most 256, the next one to be read first.
+// Bytes on their way, the next one to be read first.
 #[derive(Drop)]
 pub(crate) struct Pipe {
     ring: HeapCircularBuffer<u8>,
@@ -15,12 +15,13 @@ pub(crate) struct Pipe {
 
 impl Model for Pipe {
     ghost use Rattle.std.specs.Prelude.{◌≡◌, ℕ, List};
+    ghost use Rattle.spec_kernel.specs.Numbers.{pipe_size};
 
     ghost Value = { List ℕ };
 
     ghost view = { λ p. p.ring.items };
 
-    ghost invariant = { λ p. p.ring.capacity ≡ 256 };
+    ghost invariant = { λ p. p.ring.capacity ≡ pipe_size };
 }
 
 impl Pipe {
@@ -28,14 +29,14 @@ impl Pipe {
         ensures { IfOk result (λ pipe. pipe ≡ []) }
     {
         Ok(Pipe {
-            ring: HeapCircularBuffer::with_capacity(alloc, CAPACITY)?,
+            ring: HeapCircularBuffer::with_capacity(alloc, PIPE_SIZE)?,
         })
     }
 
     // Appends as many of the bytes as there is room for, and gives their number.
     pub(crate) fn put(&mut self, bytes: &[u8]) -> u32
-        ensures count { result ≡ length (take (256 - length self.old) bytes.now) }
-        ensures bytes { self.new ≡ self.old ++ take (256 - length self.old) bytes.now }
+        ensures count { result ≡ length (take (pipe_size - length self.old) bytes.now) }
+        ensures bytes { self.new ≡ self.old ++ take (pipe_size - length self.old) bytes.now }
     {
         self.ring.fill_from_slice(bytes) as u32
     }

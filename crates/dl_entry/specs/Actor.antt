@@ -2,8 +2,9 @@
 use Rattle.std.specs.Prelude.{ℕ}
 use Rattle.dl_entry.specs.declared.actor.Actor.{Actor}
 use Rattle.dl_entry.specs.declared.actor.Actor.TheVariants.{Thread, Dma}
+use Rattle.dl_entry.specs.Numbers.{dma_code}
 
--- a thread is its number, and a DMA is 15
+-- a thread is its number, and a DMA is the number behind the last thread
 abbrev pub code : Actor → ℕ
 code (Thread number) = number
-code Dma = 15
+code Dma = dma_code

@@ -1,3 +1,4 @@
+pub mod Numbers
 pub mod Actor
 pub mod ReplyName
 pub mod Counts

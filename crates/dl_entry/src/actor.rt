@@ -2,6 +2,8 @@
 ghost use Rattle.std.specs.Prelude.{◌≡◌};
 ghost use Rattle.dl_entry.specs.Actor.{code};
 
+use crate::numbers::DMA_CODE;
+
 /// Who commits: a thread by its number, or a sphere's DMA.
 #[derive(Clone, Copy, Debug, PartialEq, Eq)]
 pub enum Actor {
@@ -16,7 +18,7 @@ impl Actor {
     {
         match self {
             Actor::Thread(number) => number,
-            Actor::Dma => 15,
+            Actor::Dma => DMA_CODE,
         }
     }
 }

@@ -1,8 +1,8 @@
 //! What a sphere took from outside.
 use crate::sequence::Bytes;
 
-/// The answer of an outside call or of a device load: the kind is the call's number, or 16 or 17 for
-/// the two device words that can be read; the bytes are those stored into the caller's buffer.
+/// The answer of an outside call or of a device load: the kind is the call's number, or stands for
+/// one of the two device words that can be read; the bytes are those stored into the caller's buffer.
 #[derive(Debug, Drop)]
 pub struct Input {
     pub kind: u8,

@@ -6,6 +6,7 @@ mod commit;
 mod counts;
 mod end;
 mod input;
+mod numbers;
 mod out_of_memory;
 mod point;
 mod reply_name;
@@ -16,6 +17,10 @@ pub use commit::{Commit, CommitKind, Load, Loads, Output, Outputs};
 pub use counts::Counts;
 pub use end::{End, SphereLine, Why};
 pub use input::{Input, Request};
+pub use numbers::{
+    DMA_CODE, GREATEST_THREAD, KIND_CLOCK, KIND_INPUT, KIND_MOMENT, KIND_RANDOM, KIND_READ,
+    KIND_WRITE, MOST_BYTES, MOST_THREADS,
+};
 pub use out_of_memory::OutOfMemory;
 pub use point::Point;
 pub use reply_name::ReplyName;

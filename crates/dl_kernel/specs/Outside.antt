@@ -2,6 +2,7 @@
 use Rattle.std.specs.Prelude.{◌≡◌, ℕ, nat_eq, Bool, true, false, Option, Some, None, Result, Ok, Err}
 use Rattle.dl_entry.specs.declared.Input.{Input}
 use Rattle.dl_entry.specs.declared.OutOfMemory.{OutOfMemory}
+use Rattle.spec_kernel.specs.Numbers.{channel_console}
 use Rattle.spec_kernel.specs.Devices.{Devices}
 use Rattle.spec_kernel.specs.Needs.{Need, Write, Read, Random, Clock, MomentWord, InputWord}
 use Rattle.spec_kernel.specs.Answers.{Answered, answer}
@@ -26,7 +27,7 @@ devices_left moment d (Some need) = (answer d need moment).devices
 -- only a write to the console, and what brings bytes, can want memory
 abbrev pub wants_memory : Option Need → Bool
 wants_memory None = false
-wants_memory (Some (Write channel bytes)) = nat_eq channel 8
+wants_memory (Some (Write channel bytes)) = nat_eq channel channel_console
 wants_memory (Some (Read channel buf len)) = true
 wants_memory (Some (Random buf len)) = true
 wants_memory (Some Clock) = false

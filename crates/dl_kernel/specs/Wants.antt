@@ -1,5 +1,6 @@
 -- What a step wants from outside, as the code keeps it.
 use Rattle.std.specs.Prelude.{ℕ, ◌+◌, ◌≤◌, length}
+use Rattle.dl_entry.specs.Numbers.{most_bytes}
 use Rattle.spec_kernel.specs.Needs as needs
 use Rattle.dl_kernel.specs.declared.need.Want.{Want}
 
@@ -11,11 +12,11 @@ wanted Want.Clock = needs.Clock
 wanted Want.MomentWord = needs.MomentWord
 wanted Want.InputWord = needs.InputWord
 
--- no more than 4,096 bytes go at once
+-- no more bytes go at once than a record has
 abbrev pub IsShort : Want → Type 0
-IsShort (Want.Write channel bytes) = length bytes.now ≤ 4096
-IsShort (Want.Read channel buf len) = len ≤ 4096
-IsShort (Want.Random buf len) = len ≤ 4096
+IsShort (Want.Write channel bytes) = length bytes.now ≤ most_bytes
+IsShort (Want.Read channel buf len) = len ≤ most_bytes
+IsShort (Want.Random buf len) = len ≤ most_bytes
 IsShort Want.Clock = Unit {0}
 IsShort Want.MomentWord = Unit {0}
 IsShort Want.InputWord = Unit {0}

@@ -2,27 +2,20 @@
 ghost use Rattle.std.specs.Prelude.{◌≡◌, ◌≢◌, ◌≤◌, ◌<◌, ◌-◌, ℕ, min, false, length, [], Some, IfOk, IsOk, OnOk, OnErr};
 ghost use Rattle.spec_kernel.specs.Answers.{answer, answer_write, answer_read, answer_random, answer_moment, answer_input, went};
 ghost use Rattle.spec_kernel.specs.Devices.{pipe_at};
+ghost use Rattle.spec_kernel.specs.Numbers.{channel_console, channel_input, pipe_count, pipe_size};
+ghost use Rattle.dl_entry.specs.Numbers.{most_bytes};
 ghost use Rattle.dl_kernel.specs.Outside.{Leaves, wants_memory};
 ghost use Rattle.dl_kernel.specs.Wants.{wanted, IsShort};
 
 use crate::need::Want;
 use crate::results::{NOTHING_NOW, REFUSED};
 use dl_dev::Devices;
-use dl_entry::{Bytes, Input, OutOfMemory};
+use dl_entry::{
+    Bytes, Input, KIND_CLOCK, KIND_INPUT, KIND_MOMENT, KIND_RANDOM, KIND_READ, KIND_WRITE,
+    MOST_BYTES, OutOfMemory,
+};
+use spec_kernel::numbers::{CHANNEL_CONSOLE, CHANNEL_INPUT, PIPE_COUNT, PIPE_SIZE};
 use std::alloc::Global;
-
-// The kinds of records.
-pub(crate) const WRITE: u8 = 2;
-
-pub(crate) const READ: u8 = 3;
-
-pub(crate) const RANDOM: u8 = 4;
-
-pub(crate) const CLOCK: u8 = 5;
-
-pub(crate) const MOMENT_WORD: u8 = 16;
-
-pub(crate) const INPUT_WORD: u8 = 17;
 
 // The answer at a moment.
 pub(crate) fn answer(
@@ -56,8 +49,8 @@ pub(crate) fn noted(
         Want::Write { channel, bytes } => Ok(write(alloc, devices, channel, bytes)),
         Want::Read { channel, len, .. } => read(alloc, devices, channel, len),
         Want::Random { len, .. } => random(alloc, devices, len),
-        Want::Clock => Ok(bare(alloc, CLOCK, moment)),
-        Want::MomentWord => Ok(bare(alloc, MOMENT_WORD, moment)),
+        Want::Clock => Ok(bare(alloc, KIND_CLOCK, moment)),
+        Want::MomentWord => Ok(bare(alloc, KIND_MOMENT, moment)),
         Want::InputWord => Ok(next_input(alloc, devices)),
     }
 }
@@ -73,7 +66,7 @@ pub(crate) fn take(want: Want<'_>, devices: &mut Devices) -> Result<(), OutOfMem
     match want {
         Want::Write { channel, bytes } => put(devices, channel, bytes),
         Want::Read { channel, len, .. } => Ok(take_bytes(devices, channel, len)),
-        Want::Random { len, .. } => Ok(devices.random(&mut [0; 4096][..len as usize])),
+        Want::Random { len, .. } => Ok(devices.random(&mut [0; MOST_BYTES][..len as usize])),
         Want::Clock | Want::MomentWord => Ok(()),
         Want::InputWord => Ok(devices.input_take(1)),
     }
@@ -102,80 +95,80 @@ fn went(count: u32, len: u32) -> u32
 }
 
 fn write(alloc: Global, devices: &Devices, channel: u32, bytes: &[u8]) -> Input
-    requires { length bytes.now ≤ 4096 }
+    requires { length bytes.now ≤ most_bytes }
     ensures { result ≡ (answer_write devices.now channel bytes.now).input }
 {
     let len = bytes.len() as u32;
-    if channel < 8 {
+    if channel < PIPE_COUNT as u32 {
         return bare(
             alloc,
-            WRITE,
+            KIND_WRITE,
             went(fitting(devices, channel as u8, len), len),
         );
     }
-    if channel == 8 {
-        return bare(alloc, WRITE, len);
+    if channel == CHANNEL_CONSOLE {
+        return bare(alloc, KIND_WRITE, len);
     }
-    bare(alloc, WRITE, REFUSED)
+    bare(alloc, KIND_WRITE, REFUSED)
 }
 
 // How many of so many bytes find room in a pipe.
 fn fitting(devices: &Devices, pipe: u8, len: u32) -> u32
-    requires { pipe < 8 }
-    ensures { result ≡ min (256 - length (pipe_at devices.now pipe)) len }
+    requires { pipe < pipe_count }
+    ensures { result ≡ min (pipe_size - length (pipe_at devices.now pipe)) len }
 {
-    let held = devices.pipe_first(pipe, &mut [0; 256]);
-    len.min(256 - held)
+    let held = devices.pipe_first(pipe, &mut [0; PIPE_SIZE]);
+    len.min(PIPE_SIZE as u32 - held)
 }
 
 fn put(devices: &mut Devices, channel: u32, bytes: &[u8]) -> Result<(), OutOfMemory>
     ensures ok { OnOk result (devices.new ≡ (answer_write devices.old channel bytes.now).devices) }
     ensures err { OnErr result (devices.new ≡ devices.old) }
-    ensures plenty { channel ≢ 8 → IsOk result }
+    ensures plenty { channel ≢ channel_console → IsOk result }
 {
-    if channel < 8 {
+    if channel < PIPE_COUNT as u32 {
         devices.pipe_put(channel as u8, bytes);
-    } else if channel == 8 {
+    } else if channel == CHANNEL_CONSOLE {
         devices.console_put(bytes)?;
     }
     Ok(())
 }
 
 fn read(alloc: Global, devices: &Devices, channel: u32, len: u32) -> Result<Input, OutOfMemory>
-    requires { len ≤ 4096 }
+    requires { len ≤ most_bytes }
     ensures { IfOk result (λ input. input ≡ (answer_read devices.now channel len).input) }
 {
-    if channel < 8 {
+    if channel < PIPE_COUNT as u32 {
         return read_pipe(alloc, devices, channel as u8, len);
     }
-    if channel == 9 {
+    if channel == CHANNEL_INPUT {
         return read_input(alloc, devices, len);
     }
-    Ok(bare(alloc, READ, REFUSED))
+    Ok(bare(alloc, KIND_READ, REFUSED))
 }
 
 fn read_pipe(alloc: Global, devices: &Devices, pipe: u8, len: u32) -> Result<Input, OutOfMemory>
-    requires pipe { pipe < 8 }
-    requires len { len ≤ 4096 }
+    requires pipe { pipe < pipe_count }
+    requires len { len ≤ most_bytes }
     ensures { IfOk result (λ input. input ≡ (answer_read devices.now pipe len).input) }
 {
-    let mut buffer = [0; 4096];
+    let mut buffer = [0; MOST_BYTES];
     let into = &mut buffer[..len as usize];
     let count = devices.pipe_first(pipe, into);
     Ok(Input {
-        kind: READ,
+        kind: KIND_READ,
         result: went(count, len),
         bytes: Bytes::from_slice(alloc, &into[..count as usize])?,
     })
 }
 
 fn read_input(alloc: Global, devices: &Devices, len: u32) -> Result<Input, OutOfMemory>
-    requires { len ≤ 4096 }
-    ensures { IfOk result (λ input. input ≡ (answer_read devices.now 9 len).input) }
+    requires { len ≤ most_bytes }
+    ensures { IfOk result (λ input. input ≡ (answer_read devices.now channel_input len).input) }
 {
     let count = devices.input_left().min(len);
     Ok(Input {
-        kind: READ,
+        kind: KIND_READ,
         result: went(count, len),
         bytes: Bytes::from_slice(alloc, &devices.input()[..count as usize])?,
     })
@@ -183,25 +176,25 @@ fn read_input(alloc: Global, devices: &Devices, len: u32) -> Result<Input, OutOf
 
 // Takes at most `len` bytes of a channel.
 fn take_bytes(devices: &mut Devices, channel: u32, len: u32)
-    requires { len ≤ 4096 }
+    requires { len ≤ most_bytes }
     ensures { devices.new ≡ (answer_read devices.old channel len).devices }
 {
-    if channel < 8 {
-        devices.pipe_get(channel as u8, &mut [0; 4096][..len as usize]);
-    } else if channel == 9 {
+    if channel < PIPE_COUNT as u32 {
+        devices.pipe_get(channel as u8, &mut [0; MOST_BYTES][..len as usize]);
+    } else if channel == CHANNEL_INPUT {
         devices.input_take(len);
     }
 }
 
 fn random(alloc: Global, devices: &Devices, len: u32) -> Result<Input, OutOfMemory>
-    requires { len ≤ 4096 }
+    requires { len ≤ most_bytes }
     ensures { IfOk result (λ input. input ≡ (answer_random devices.now len).input) }
 {
-    let mut buffer = [0; 4096];
+    let mut buffer = [0; MOST_BYTES];
     let into = &mut buffer[..len as usize];
     devices.random_first(into);
     Ok(Input {
-        kind: RANDOM,
+        kind: KIND_RANDOM,
         result: len,
         bytes: Bytes::from_slice(alloc, into)?,
     })
@@ -214,7 +207,7 @@ fn next_input(alloc: Global, devices: &Devices) -> Input
     let byte = devices.input().first();
     bare(
         alloc,
-        INPUT_WORD,
+        KIND_INPUT,
         byte.map_or(u32::MAX, |byte| u32::from(*byte)),
     )
 }

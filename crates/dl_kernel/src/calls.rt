@@ -1,24 +1,17 @@
 //! The calls that the kernel does by itself, one by one. The arguments are in a0 to a2; the result goes to a0.
 ghost use Rattle.std.specs.Prelude.{◌≡◌, ◌%◌, ◌<◌, length, slice_get, None, OnSome};
+ghost use Rattle.dl_entry.specs.Numbers.{most_threads};
 ghost use Rattle.spec_isa.specs.Threads.{IsThread};
 ghost use Rattle.spec_kernel.specs.Calls.{called, with_result, gives, exit, spawn, spawned, set_handler, iret, returned, is_dma_buffer, request_dma, has_ended};
 ghost use Rattle.dl_kernel.specs.Calls.{called_in};
 
-use crate::need::MOST_BYTES;
 use crate::results::{BAD_BUFFER, REFUSED, UNKNOWN_CALL};
-use dl_entry::Request;
+use dl_entry::{MOST_BYTES, MOST_THREADS, Request};
 use dl_thread::{Parts, Thread, ThreadStatus, Threads};
-
-const MOST_THREADS: u8 = 15;
-
-// The registers of the call's number and of its arguments.
-const A0: usize = 10;
-
-const A1: usize = 11;
-
-const A2: usize = 12;
-
-const A7: usize = 17;
+use spec_isa::numbers::{A0, A1, A2, A7, SP};
+use spec_kernel::numbers::{
+    CALL_DMA, CALL_ENDED, CALL_EXIT, CALL_HANDLER, CALL_IRET, CALL_SELF, CALL_SPAWN, CALL_YIELD,
+};
 
 // What a call leaves: its thread, the thread that it spawned, and the outstanding DMA request.
 #[derive(Clone, Copy)]
@@ -47,18 +40,18 @@ pub(crate) fn call(
     ensures called { called_in result
         ≡ called size caller.now.number threads.now request caller.now.thread }
     ensures thread { IsThread result.thread }
-    ensures room { OnSome result.made (length threads.now < 15) }
+    ensures room { OnSome result.made (length threads.now < most_threads) }
 {
     let t = &caller.thread;
     match t.x[A7] {
-        0 => exit(request, t),
-        1 => spawn(threads, request, t),
-        6 => set_handler(request, t),
-        7 => iret(request, t),
-        8 => request_dma(size, request, t),
-        9 => gives(request, t, u32::from(caller.number)),
-        10 => gives(request, t, 0),
-        11 => gives(request, t, has_ended(threads, t.x[A0])),
+        CALL_EXIT => exit(request, t),
+        CALL_SPAWN => spawn(threads, request, t),
+        CALL_HANDLER => set_handler(request, t),
+        CALL_IRET => iret(request, t),
+        CALL_DMA => request_dma(size, request, t),
+        CALL_SELF => gives(request, t, u32::from(caller.number)),
+        CALL_YIELD => gives(request, t, 0),
+        CALL_ENDED => gives(request, t, has_ended(threads, t.x[A0])),
         _ => gives(request, t, UNKNOWN_CALL),
     }
 }
@@ -113,7 +106,7 @@ fn spawn(threads: &Threads, request: Option<Request>, t: &Parts) -> Called
     requires { IsThread t.now }
     ensures called { called_in result ≡ spawn threads.now request t.now }
     ensures thread { IsThread result.thread }
-    ensures room { OnSome result.made (length threads.now < 15) }
+    ensures room { OnSome result.made (length threads.now < most_threads) }
 {
     if threads.len() >= MOST_THREADS {
         return gives(request, t, REFUSED);
@@ -134,7 +127,7 @@ fn spawned(entry: u32, sp: u32, argument: u32) -> Thread
     ensures { result ≡ spawned entry sp argument }
 {
     let mut parts = Thread::started(entry).parts();
-    parts.x[2] = sp;
+    parts.x[SP] = sp;
     parts.x[A0] = argument;
     Thread::from_parts(&parts)
 }
@@ -204,7 +197,7 @@ fn request_dma(size: u32, request: Option<Request>, t: &Parts) -> Called
     ensures thread { IsThread result.thread }
     ensures none { result.made ≡ None }
 {
-    let (buf, len) = (t.x[A0], t.x[A1].min(MOST_BYTES));
+    let (buf, len) = (t.x[A0], t.x[A1].min(MOST_BYTES as u32));
     if !is_dma_buffer(size, buf, len) {
         return gives(request, t, BAD_BUFFER);
     }

@@ -1,5 +1,6 @@
 //! The words that the kernel and a DMA store, in rising order of their addresses.
 ghost use Rattle.std.specs.Prelude.{◌≡◌, ◌+◌, ◌^◌, ◌<◌, ◌≤◌, ◌%◌, ◌/◌, ℕ, length, IfOk, true};
+ghost use Rattle.dl_entry.specs.Numbers.{most_bytes};
 ghost use Rattle.spec_isa.specs.Words.{put};
 ghost use Rattle.spec_isa.specs.Masks.{bytes_of};
 ghost use Rattle.spec_isa.specs.Operations.{stored};
@@ -69,7 +70,7 @@ fn lane_of(addr: u32, value: u32) -> Lane
 /// The words of a DMA that stores these bytes, at most 4,096: their number in the request's first word, and the bytes behind
 /// it. The request ends below 2^32.
 pub fn dma_words(alloc: Global, request: &Request, bytes: &[u8]) -> Result<Buffer, OutOfMemory>
-    requires few { length bytes.now ≤ 4096 }
+    requires few { length bytes.now ≤ most_bytes }
     requires below { request.now.buf + 4 + length bytes.now < 2 ^ 32 }
     ensures { IfOk result (λ buffer. buffer.words ≡ dma_words request.now bytes.now) }
 {

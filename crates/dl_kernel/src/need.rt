@@ -8,17 +8,14 @@ ghost use Rattle.spec_kernel.specs.Needs.{need, need_of_call, need_of_load, need
 ghost use Rattle.dl_kernel.specs.Wants.{wanted, IsShort, IsIn};
 
 use crate::peek::Peek;
+use dl_entry::MOST_BYTES;
 use dl_isa::decode;
 use dl_mem::Memory;
 use dl_thread::{Did, Kind, Thread, one};
 use spec_isa::field::{Imm12, Reg};
 use spec_isa::instr::Instr;
-
-// Lengths are cut to it.
-pub(crate) const MOST_BYTES: u32 = 4096;
-
-// The device word of the moment.
-const MOMENT: u32 = 0xF000_0000;
+use spec_isa::numbers::{A0, A1, A2, A7, MOMENT_ADDRESS};
+use spec_kernel::numbers::{CALL_CLOCK, CALL_RANDOM, CALL_READ, CALL_WRITE};
 
 // What is wanted.
 #[derive(Clone, Copy)]
@@ -41,7 +38,7 @@ pub(crate) enum Want<'a> {
 pub(crate) fn need<'a>(
     thread: &Thread,
     memory: &Memory,
-    buffer: &'a mut [u8; 4096],
+    buffer: &'a mut [u8; MOST_BYTES],
 ) -> Option<Want<'a>>
     ensures want { option_map wanted result ≡ need thread.now memory.now }
     ensures short { IfSome result IsShort }
@@ -69,17 +66,17 @@ pub(crate) fn next_kind(thread: &Thread, memory: &Memory) -> Option<Kind>
 fn need_of_call<'a>(
     thread: &Thread,
     memory: &Memory,
-    buffer: &'a mut [u8; 4096],
+    buffer: &'a mut [u8; MOST_BYTES],
 ) -> Option<Want<'a>>
     ensures want { option_map wanted result ≡ need_of_call thread.now memory.now }
     ensures short { IfSome result IsShort }
     ensures inside { IfSome result (IsIn (length memory.now)) }
 {
-    match thread.x()[17] {
-        2 => need_of_write(thread, memory, buffer),
-        3 => need_of_read(thread, memory),
-        4 => need_of_random(thread, memory),
-        5 => Some(Want::Clock),
+    match thread.x()[A7] {
+        CALL_WRITE => need_of_write(thread, memory, buffer),
+        CALL_READ => need_of_read(thread, memory),
+        CALL_RANDOM => need_of_random(thread, memory),
+        CALL_CLOCK => Some(Want::Clock),
         _ => None,
     }
 }
@@ -87,14 +84,14 @@ fn need_of_call<'a>(
 fn need_of_write<'a>(
     thread: &Thread,
     memory: &Memory,
-    buffer: &'a mut [u8; 4096],
+    buffer: &'a mut [u8; MOST_BYTES],
 ) -> Option<Want<'a>>
     ensures want { option_map wanted result ≡ need_of_write thread.now memory.now }
     ensures short { IfSome result IsShort }
     ensures inside { IfSome result (IsIn (length memory.now)) }
 {
     let x = thread.x();
-    let (channel, buf, len) = (x[10], x[11], x[12].min(MOST_BYTES));
+    let (channel, buf, len) = (x[A0], x[A1], x[A2].min(MOST_BYTES as u32));
     if !has_buffer(memory, buf, len) {
         return None;
     }
@@ -109,7 +106,7 @@ fn need_of_read<'a>(thread: &Thread, memory: &Memory) -> Option<Want<'a>>
     ensures inside { IfSome result (IsIn (length memory.now)) }
 {
     let x = thread.x();
-    let (channel, buf, len) = (x[10], x[11], x[12].min(MOST_BYTES));
+    let (channel, buf, len) = (x[A0], x[A1], x[A2].min(MOST_BYTES as u32));
     if !has_buffer(memory, buf, len) {
         return None;
     }
@@ -122,7 +119,7 @@ fn need_of_random<'a>(thread: &Thread, memory: &Memory) -> Option<Want<'a>>
     ensures inside { IfSome result (IsIn (length memory.now)) }
 {
     let x = thread.x();
-    let (buf, len) = (x[10], x[11].min(MOST_BYTES));
+    let (buf, len) = (x[A0], x[A1].min(MOST_BYTES as u32));
     if !has_buffer(memory, buf, len) {
         return None;
     }
@@ -158,7 +155,7 @@ fn device_word<'a>(instr: Instr, thread: &Thread) -> Option<Want<'a>>
 {
     match instr {
         Instr::Load { rs1, offset, .. } => {
-            if address(thread, rs1, offset) == MOMENT {
+            if address(thread, rs1, offset) == MOMENT_ADDRESS {
                 return Some(Want::MomentWord);
             }
             Some(Want::InputWord)

@@ -8,7 +8,7 @@ ghost use Rattle.dl_kernel.specs.Outside.{record_left, devices_left, wants_memor
 use crate::answering::{answer, noted, take};
 use crate::need::{need, next_kind};
 use dl_dev::Devices;
-use dl_entry::{Input, OutOfMemory, Outputs};
+use dl_entry::{Input, MOST_BYTES, OutOfMemory, Outputs};
 use dl_mem::Memory;
 use dl_thread::{Kind, Thread};
 use std::alloc::Global;
@@ -28,7 +28,7 @@ pub fn outside_call(
     ensures refused { OnErr result (devices.new ≡ devices.old) }
     ensures plenty { wants_memory (need thread.now memory.now) ≡ false → IsOk result }
 {
-    match need(thread, memory, &mut [0; 4096]) {
+    match need(thread, memory, &mut [0; MOST_BYTES]) {
         None => Ok(None),
         Some(want) => match answer(alloc, want, devices, moment) {
             Ok(input) => Ok(Some(input)),
@@ -48,7 +48,7 @@ pub fn outside_record(
     ensures left { IfOk result (λ input. input ≡ record_left moment devices.now (need thread.now memory.now)) }
     ensures plenty { wants_memory (need thread.now memory.now) ≡ false → IsOk result }
 {
-    match need(thread, memory, &mut [0; 4096]) {
+    match need(thread, memory, &mut [0; MOST_BYTES]) {
         None => Ok(None),
         Some(want) => match noted(alloc, want, devices, moment) {
             Ok(input) => Ok(Some(input)),
@@ -73,7 +73,9 @@ pub fn outside_take(
 {
     match next_kind(thread, memory) {
         Some(Kind::DeviceStore) => tell_console(outputs, devices),
-        _ => take_wanted(thread, memory, devices),
+        Some(Kind::Call | Kind::Break | Kind::DeviceLoad | Kind::Fault(_)) | None => {
+            take_wanted(thread, memory, devices)
+        }
     }
 }
 
@@ -81,7 +83,7 @@ fn take_wanted(thread: &Thread, memory: &Memory, devices: &mut Devices) -> Resul
     ensures devices { (moment : ℕ) → OnOk result (devices.new ≡ devices_left moment devices.old (need thread.now memory.now)) }
     ensures refused { OnErr result (devices.new ≡ devices.old) }
 {
-    match need(thread, memory, &mut [0; 4096]) {
+    match need(thread, memory, &mut [0; MOST_BYTES]) {
         None => Ok(()),
         Some(want) => take(want, devices),
     }

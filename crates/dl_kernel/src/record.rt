@@ -5,10 +5,11 @@ ghost use Rattle.spec_kernel.specs.Records.{fits, fits_if, fits_write, fits_read
 ghost use Rattle.dl_kernel.specs.Outside.{injected};
 ghost use Rattle.dl_kernel.specs.Wants.{wanted};
 
-use crate::answering::{CLOCK, INPUT_WORD, MOMENT_WORD, RANDOM, READ, WRITE};
 use crate::need::{Want, need};
 use crate::results::{NOTHING_NOW, REFUSED};
-use dl_entry::Input;
+use dl_entry::{
+    Input, KIND_CLOCK, KIND_INPUT, KIND_MOMENT, KIND_RANDOM, KIND_READ, KIND_WRITE, MOST_BYTES,
+};
 use dl_mem::Memory;
 use dl_thread::Thread;
 
@@ -23,7 +24,7 @@ pub enum Injected {
 pub fn wants_record(thread: &Thread, memory: &Memory) -> bool
     ensures { result ≡ is_some (need thread.now memory.now) }
 {
-    need(thread, memory, &mut [0; 4096]).is_some()
+    need(thread, memory, &mut [0; MOST_BYTES]).is_some()
 }
 
 /// Whether a record of a log is of the kind that the thread's next step wants, and could have been its answer. No record
@@ -31,7 +32,7 @@ pub fn wants_record(thread: &Thread, memory: &Memory) -> bool
 pub fn inject(input: &Input, thread: &Thread, memory: &Memory) -> Injected
     ensures { result ≡ injected (fits_if (need thread.now memory.now) input.now) }
 {
-    let mut buffer = [0; 4096];
+    let mut buffer = [0; MOST_BYTES];
     let Some(want) = need(thread, memory, &mut buffer) else {
         return Injected::Misfit;
     };
@@ -47,12 +48,12 @@ fn fits(want: Want<'_>, input: &Input) -> bool
     ensures { result ≡ fits (wanted want.entry) input.now }
 {
     match want {
-        Want::Write { bytes, .. } => input.kind == WRITE && fits_write(bytes.len(), input),
-        Want::Read { len, .. } => input.kind == READ && fits_read(len, input),
-        Want::Random { len, .. } => input.kind == RANDOM && fits_random(len, input),
-        Want::Clock => input.kind == CLOCK && input.bytes.is_empty(),
-        Want::MomentWord => input.kind == MOMENT_WORD && input.bytes.is_empty(),
-        Want::InputWord => input.kind == INPUT_WORD && input.bytes.is_empty(),
+        Want::Write { bytes, .. } => input.kind == KIND_WRITE && fits_write(bytes.len(), input),
+        Want::Read { len, .. } => input.kind == KIND_READ && fits_read(len, input),
+        Want::Random { len, .. } => input.kind == KIND_RANDOM && fits_random(len, input),
+        Want::Clock => input.kind == KIND_CLOCK && input.bytes.is_empty(),
+        Want::MomentWord => input.kind == KIND_MOMENT && input.bytes.is_empty(),
+        Want::InputWord => input.kind == KIND_INPUT && input.bytes.is_empty(),
     }
 }
 

@@ -1,5 +1,6 @@
 //! What a serial step leaves, with what came from outside for it.
 ghost use Rattle.std.specs.Prelude.{◌≡◌, ◌≤◌, ◌<◌, ◌∷◌, [], true, length, None, Some, IfOk, IfSome, OnSome, option_map};
+ghost use Rattle.dl_entry.specs.Numbers.{most_bytes, most_threads};
 ghost use Rattle.spec_isa.specs.Operations.{operation, at_pc, following};
 ghost use Rattle.spec_isa.specs.Threads.{IsThread};
 ghost use Rattle.spec_isa.specs.Words.{is_inside};
@@ -14,15 +15,14 @@ use crate::calls::{Caller, call, with_result};
 use crate::copying::copied;
 use crate::need::{Want, address, need, next_kind};
 use crate::results::BAD_BUFFER;
-use dl_entry::{Bytes, Input, Load, Loads, OutOfMemory, Output, Outputs, Request};
+use dl_entry::{Bytes, Input, Load, Loads, MOST_BYTES, OutOfMemory, Output, Outputs, Request};
 use dl_isa::{Instr, Reg, decode};
 use dl_mem::Memory;
 use dl_thread::{Kind, Parts, Thread, ThreadStatus, Threads};
 use dl_wbuf::Buffer;
+use spec_isa::numbers::{A7, BREAKPOINT};
+use spec_kernel::numbers::{CALL_HANDLER, CALL_SPAWN, CHANNEL_CONSOLE};
 use std::alloc::Global;
-
-// The channel of the console.
-const CONSOLE: u32 = 8;
 
 /// A serial step that is to be done: of a thread, which has that number among these, on a memory, with the outstanding DMA
 /// request.
@@ -55,17 +55,17 @@ pub fn serve(
     step: &Step<'_>,
     input: Option<&Input>,
 ) -> Result<StepResult, OutOfMemory>
-    requires { IfSome input (λ r. length r.now.bytes ≤ 4096) }
+    requires { IfSome input (λ r. length r.now.bytes ≤ most_bytes) }
     ensures served { let s = step.now in
         IfOk result (λ a. result_in a ≡ serve s.number s.threads.now s.request s.thread s.memory.now (option_map (λ r. r.now) input.entry)) }
-    ensures room { IfOk result (λ a. OnSome a.made (length step.now.threads.now < 15)) }
+    ensures room { IfOk result (λ a. OnSome a.made (length step.now.threads.now < most_threads)) }
     ensures outputs { IfOk result (λ a. length a.outputs ≤ 1) }
 {
     let kind = next_kind(&step.thread, step.memory);
     match kind {
         None => alone(alloc, step.request, step.thread),
         Some(Kind::Call) => serve_call(alloc, step, input),
-        Some(Kind::Break) => alone(alloc, step.request, faulted(&step.thread, 3)),
+        Some(Kind::Break) => alone(alloc, step.request, faulted(&step.thread, BREAKPOINT)),
         Some(Kind::DeviceLoad) => device_loaded(alloc, step, input),
         Some(Kind::DeviceStore) => device_stored(alloc, step),
         Some(Kind::Fault(cause)) => alone(alloc, step.request, faulted(&step.thread, cause)),
@@ -100,20 +100,20 @@ fn faulted(thread: &Thread, cause: u8) -> Thread
 
 // ---- calls
 
-// Calls 2 to 5 go outside.
+// The calls from write to clock, which stand between spawn and handler, go outside.
 fn serve_call(
     alloc: Global,
     step: &Step<'_>,
     input: Option<&Input>,
 ) -> Result<StepResult, OutOfMemory>
-    requires { IfSome input (λ r. length r.now.bytes ≤ 4096) }
+    requires { IfSome input (λ r. length r.now.bytes ≤ most_bytes) }
     ensures served { let s = step.now in
         IfOk result (λ a. result_in a ≡ serve_kind (Some Kind.Call) s.number s.threads.now s.request s.thread s.memory.now (option_map (λ r. r.now) input.entry)) }
-    ensures room { IfOk result (λ a. OnSome a.made (length step.now.threads.now < 15)) }
+    ensures room { IfOk result (λ a. OnSome a.made (length step.now.threads.now < most_threads)) }
     ensures outputs { IfOk result (λ a. length a.outputs ≤ 1) }
 {
-    let number = step.thread.x()[17];
-    if 1 < number && number < 6 {
+    let number = step.thread.x()[A7];
+    if CALL_SPAWN < number && number < CALL_HANDLER {
         return outside_called(alloc, step, input);
     }
     inside_called(alloc, step)
@@ -125,7 +125,7 @@ fn outside_called(
     step: &Step<'_>,
     input: Option<&Input>,
 ) -> Result<StepResult, OutOfMemory>
-    requires { IfSome input (λ r. length r.now.bytes ≤ 4096) }
+    requires { IfSome input (λ r. length r.now.bytes ≤ most_bytes) }
     ensures served { let s = step.now in
         IfOk result (λ a. result_in a ≡ outside_called (need s.thread s.memory.now) s.request s.thread (option_map (λ r. r.now) input.entry)) }
     ensures none { IfOk result (λ a. a.made ≡ None) }
@@ -135,7 +135,7 @@ fn outside_called(
         let thread = Thread::from_parts(&with_result(BAD_BUFFER, &step.thread.parts()));
         return alone(alloc, step.request, thread);
     };
-    let mut buffer = [0; 4096];
+    let mut buffer = [0; MOST_BYTES];
     let want = need(&step.thread, step.memory, &mut buffer);
     Ok(StepResult {
         thread: Thread::from_parts(&with_result(input.result, &step.thread.parts())),
@@ -154,7 +154,7 @@ fn copy_of(
     memory: &Memory,
     input: &Input,
 ) -> Result<Buffer, OutOfMemory>
-    requires few { length input.now.bytes ≤ 4096 }
+    requires few { length input.now.bytes ≤ most_bytes }
     requires inside { IfSome want (IsIn (length memory.now)) }
     ensures { IfOk result (λ buffer. buffer.words ≡ copy_of (option_map wanted want.entry) input.now) }
 {
@@ -201,7 +201,7 @@ fn one_output(alloc: Global, channel: u32, bytes: &[u8]) -> Result<Outputs, OutO
 fn inside_called(alloc: Global, step: &Step<'_>) -> Result<StepResult, OutOfMemory>
     ensures served { let s = step.now in
         IfOk result (λ a. result_in a ≡ inside_called (called (length s.memory.now) s.number s.threads.now s.request s.thread)) }
-    ensures room { IfOk result (λ a. OnSome a.made (length step.now.threads.now < 15)) }
+    ensures room { IfOk result (λ a. OnSome a.made (length step.now.threads.now < most_threads)) }
     ensures outputs { IfOk result (λ a. length a.outputs ≤ 1) }
 {
     let caller = Caller {
@@ -315,6 +315,6 @@ fn stored_by(alloc: Global, step: &Step<'_>, instr: Instr) -> Result<StepResult,
     let mut parts = step.thread.parts();
     parts.pc = parts.pc.wrapping_add(4);
     let mut served = alone(alloc, step.request, Thread::from_parts(&parts))?;
-    served.outputs = one_output(alloc, CONSOLE, &[byte])?;
+    served.outputs = one_output(alloc, CHANNEL_CONSOLE, &[byte])?;
     Ok(served)
 }

@@ -5,6 +5,7 @@ ghost use Rattle.spec_log.specs.Reading.{raw, any, thread};
 
 use crate::error::LogError;
 use byteorder::{ByteOrder, LittleEndian};
+use dl_entry::GREATEST_THREAD;
 
 /// The number of a value out of its range.
 pub const FIELD: u8 = 5;
@@ -71,6 +72,6 @@ pub fn read_thread(bytes: &[u8], at: &mut usize) -> Result<u8, LogError>
 {
     let start = *at;
     let thread = read_u8(bytes, at)?;
-    judge(thread <= 14, FIELD, start)?;
+    judge(thread <= GREATEST_THREAD, FIELD, start)?;
     Ok(thread)
 }

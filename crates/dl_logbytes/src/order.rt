@@ -1,12 +1,13 @@
 //! The order of a log, as it is read.
 ghost use Rattle.std.specs.Prelude.{◌≡◌, ◌≢◌, ◌==◌, ◌<◌, IfErr};
+ghost use Rattle.dl_entry.specs.Numbers.{dma_code};
 ghost use Rattle.dl_logbytes.specs.Answer.{Answers};
 ghost use Rattle.spec_log.specs.Reading.{actors, actor_of as actor_in, order_of, ordered, field, at_most};
 
 use crate::error::LogError;
 use crate::numbers::{FIELD, judge, read_u8, read_u32};
 use crate::section::Source;
-use dl_entry::Actor;
+use dl_entry::{Actor, DMA_CODE};
 use spec_log::{ModeName, Order};
 
 /// The order: as many actors as there are commits, but in picolog none.
@@ -56,20 +57,20 @@ fn read_actors(source: &Source<'_>, at: &mut usize, count: u32) -> Result<Order,
 
 /// A byte without a high half.
 pub fn read_half(bytes: &[u8], at: &mut usize) -> Result<u8, LogError>
-    ensures value { Answers (field 1 (at_most 15) bytes.now at.old) result at.new }
+    ensures value { Answers (field 1 (at_most dma_code) bytes.now at.old) result at.new }
     ensures no_memory { IfErr result (λ e. e ≢ LogError.OutOfMemory) }
 {
     let start = *at;
     let half = read_u8(bytes, at)?;
-    judge(half <= 15, FIELD, start)?;
+    judge(half <= DMA_CODE, FIELD, start)?;
     Ok(half)
 }
 
-/// The actor in a half byte: 15 is a DMA, else it is a thread.
+/// The actor in a half byte: a DMA by its code, else a thread.
 pub fn actor_of(half: u8) -> Actor
     ensures { result ≡ actor_in half }
 {
-    if half == 15 {
+    if half == DMA_CODE {
         Actor::Dma
     } else {
         Actor::Thread(half)

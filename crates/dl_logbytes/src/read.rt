@@ -138,7 +138,7 @@ pub fn read_count(bytes: &[u8], at: &mut usize) -> Result<u32, LogError>
     Ok(count)
 }
 
-/// The sizes: of each commit in order-size, else of those that were closed early.
+/// The sizes: of each commit in order-size, else of the short chunks.
 fn read_sizes(source: &Source<'_>, at: &mut usize, header: &Header) -> Result<Sizes, LogError>
     ensures { Answers (sizes_of header.now.mode header.now.s header.now.count source.now.bytes.now at.old) result at.new }
 {

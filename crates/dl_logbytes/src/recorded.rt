@@ -1,6 +1,7 @@
 //! The entries of a log's sections, as they are read.
 ghost use Rattle.std.specs.Prelude.{◌≡◌, ◌==◌, nat_lt, true};
 ghost use Rattle.std.specs.List.{list_any};
+ghost use Rattle.dl_entry.specs.Numbers.{most_bytes};
 ghost use Rattle.spec_log.specs.Log.{input_kinds};
 ghost use Rattle.dl_logbytes.specs.Answer.{Answers};
 ghost use Rattle.spec_log.specs.Reading.{short_size, interrupt, input, dma, is_earlier, counted, field, at_most, from_to};
@@ -8,7 +9,10 @@ ghost use Rattle.spec_log.specs.Reading.{short_size, interrupt, input, dma, is_e
 use crate::error::LogError;
 use crate::numbers::{FIELD, judge, read_raw, read_thread, read_u8, read_u16, read_u32};
 use crate::section::{ReadEntry, Source};
-use dl_entry::{Bytes, Input};
+use dl_entry::{
+    Bytes, Input, KIND_CLOCK, KIND_INPUT, KIND_MOMENT, KIND_RANDOM, KIND_READ, KIND_WRITE,
+    MOST_BYTES,
+};
 use spec_log::{DmaRecord, Interrupt, ShortSize};
 
 /// The size of a commit, where each commit has one.
@@ -115,7 +119,7 @@ fn is_before(moment: (u8, u32), later: (u8, u32)) -> bool
     moment.0 < later.0 || (moment.0 == later.0 && moment.1 < later.1)
 }
 
-/// The size of a chunk that was closed early.
+/// The size of a short chunk.
 fn read_short(bytes: &[u8], at: &mut usize, s: u32) -> Result<u32, LogError>
     ensures { Answers (field 2 (from_to 1 s) bytes.now at.old) result at.new }
 {
@@ -131,11 +135,20 @@ fn read_kind(bytes: &[u8], at: &mut usize) -> Result<u8, LogError>
 {
     let start = *at;
     let kind = read_u8(bytes, at)?;
-    judge(matches!(kind, 2..=5 | 16 | 17), FIELD, start)?;
+    judge(is_kind(kind), FIELD, start)?;
     Ok(kind)
 }
 
-/// At most 4,096 bytes behind their number.
+fn is_kind(kind: u8) -> bool
+    ensures { result ≡ list_any (λ k. k == kind) input_kinds }
+{
+    matches!(
+        kind,
+        KIND_WRITE | KIND_READ | KIND_RANDOM | KIND_CLOCK | KIND_MOMENT | KIND_INPUT
+    )
+}
+
+/// The bytes of a record behind their number.
 fn read_counted(source: &Source<'_>, at: &mut usize) -> Result<Bytes, LogError>
     ensures { Answers (counted source.now.bytes.now at.old) result at.new }
 {
@@ -145,10 +158,10 @@ fn read_counted(source: &Source<'_>, at: &mut usize) -> Result<Bytes, LogError>
 }
 
 fn read_length(bytes: &[u8], at: &mut usize) -> Result<u16, LogError>
-    ensures { Answers (field 2 (at_most 4096) bytes.now at.old) result at.new }
+    ensures { Answers (field 2 (at_most most_bytes) bytes.now at.old) result at.new }
 {
     let start = *at;
     let length = read_u16(bytes, at)?;
-    judge(length <= 4096, FIELD, start)?;
+    judge(usize::from(length) <= MOST_BYTES, FIELD, start)?;
     Ok(length)
 }

@@ -29,9 +29,14 @@ schedule_of _ _ = None
 
 abbrev pub role_of : RoleName → Option Mode → (log : Option (List ℕ)) → Option RoleValues
 role_of RoleName.Plain None None = Some Plain
+role_of RoleName.Plain None (Some log) = None
+role_of RoleName.Plain (Some mode) log = None
+role_of RoleName.Record None log = None
+role_of RoleName.Record (Some mode) None = None
 role_of RoleName.Record (Some mode) (Some log) = Some (Record mode log)
+role_of RoleName.Replay None None = None
 role_of RoleName.Replay None (Some log) = Some (Replay log)
-role_of _ _ _ = None
+role_of RoleName.Replay (Some mode) log = None
 
 abbrev pub sphere_asked : SphereEntries → Option SphereValues
 sphere_asked s =

@@ -58,8 +58,9 @@ fn add_sphere<'a>(
     ensures { OnOk result (map output_view outputs.new.items
         ≡ map output_view outputs.old.items ++ written_by number (sphere_view sphere.now)) }
 {
-    if let Role::Record { log, .. } = &sphere.role {
-        add(outputs, Product::Log(number), log.as_str())?;
+    match &sphere.role {
+        Role::Record { log, .. } => add(outputs, Product::Log(number), log.as_str())?,
+        Role::Plain | Role::Replay { .. } => (),
     }
     add_optional(outputs, Product::Account(number), &sphere.account)
 }

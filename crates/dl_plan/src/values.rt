@@ -108,7 +108,9 @@ fn role_of(alloc: Global, entry: &SphereEntries<'_>) -> Result<Role, PlanError>
         (RoleName::Replay, None, Some(log)) => Ok(Role::Replay {
             log: String::from_str(alloc, log)?,
         }),
-        _ => Err(PlanError::Refused(6)),
+        (RoleName::Plain | RoleName::Record | RoleName::Replay, _, _) => {
+            Err(PlanError::Refused(6))
+        }
     }
 }
 

@@ -9,11 +9,12 @@ use crate::access::{load_word, store_part, taken};
 use crate::answer::Did;
 use crate::arithmetic::combined;
 use crate::operation::operation_of_word;
-use crate::refusal::{FETCH_OUTSIDE, has_word, refusal};
+use crate::refusal::{has_word, refusal};
 use crate::sight::{Full, View};
 use crate::state::Thread;
 use spec_isa::field::Reg;
 use spec_isa::instr::StoreOp;
+use spec_isa::numbers::FETCH_OUTSIDE;
 use spec_isa::operation::Operation;
 use spec_isa::thread::{Kind, Load};
 

@@ -5,11 +5,11 @@ ghost use Rattle.spec_isa.specs.Instruction.{operation_of};
 ghost use Rattle.spec_isa.specs.Operations.{branched, operation, register};
 
 use crate::arithmetic::{computed, extend, immediate, is_taken, shifted};
-use crate::refusal::ILLEGAL;
 use crate::state::Thread;
 use dl_isa::decode;
 use spec_isa::field::{Imm12, Imm20, Reg};
 use spec_isa::instr::Instr;
+use spec_isa::numbers::ILLEGAL;
 use spec_isa::operation::Operation;
 use spec_isa::thread::Kind;
 

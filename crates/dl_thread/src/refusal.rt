@@ -4,30 +4,12 @@ ghost use Rattle.spec_isa.specs.Operations.{is_device_load, is_device_store, loa
 ghost use Rattle.spec_isa.specs.Words.{is_inside};
 
 use spec_isa::instr::{LoadOp, StoreOp};
+use spec_isa::numbers::{
+    CONSOLE_ADDRESS, INPUT_ADDRESS, JUMP_MISALIGNED, LOAD_MISALIGNED, LOAD_OUTSIDE, MOMENT_ADDRESS,
+    STORE_MISALIGNED, STORE_OUTSIDE,
+};
 use spec_isa::operation::Operation;
 use spec_isa::thread::Kind;
-
-// The causes of faults: the ISA's numbers.
-const JUMP_MISALIGNED: u8 = 0;
-
-pub(crate) const FETCH_OUTSIDE: u8 = 1;
-
-pub(crate) const ILLEGAL: u8 = 2;
-
-const LOAD_MISALIGNED: u8 = 4;
-
-const LOAD_OUTSIDE: u8 = 5;
-
-const STORE_MISALIGNED: u8 = 6;
-
-const STORE_OUTSIDE: u8 = 7;
-
-// The device words: the moment, the next byte of the input, and the console.
-const MOMENT: u32 = 0xF000_0000;
-
-const INPUT: u32 = 0xF000_0004;
-
-const CONSOLE: u32 = 0xF000_0008;
 
 // Why an operation is serial in a memory of `size` bytes.
 #[inline(always)]
@@ -96,7 +78,7 @@ fn reads_device(op: LoadOp, addr: u32) -> bool
     ensures { result ≡ is_device_load op addr }
 {
     match op {
-        LoadOp::Lw => addr == MOMENT || addr == INPUT,
+        LoadOp::Lw => addr == MOMENT_ADDRESS || addr == INPUT_ADDRESS,
         LoadOp::Lb | LoadOp::Lh | LoadOp::Lbu | LoadOp::Lhu => false,
     }
 }
@@ -106,7 +88,7 @@ fn writes_device(op: StoreOp, addr: u32) -> bool
     ensures { result ≡ is_device_store op addr }
 {
     match op {
-        StoreOp::Sw => addr == CONSOLE,
+        StoreOp::Sw => addr == CONSOLE_ADDRESS,
         StoreOp::Sb | StoreOp::Sh => false,
     }
 }

@@ -5,6 +5,9 @@ ghost use Rattle.spec_isa.specs.Threads.{started};
 use crate::state::Thread;
 use std::marker::Model;
 
+// The most threads.
+const MOST: u8 = 15;
+
 /// The threads of a sphere, at least 1 and at most 15, seen as the list of their parts.
 #[derive(Debug, Drop)]
 pub struct Threads {
@@ -68,7 +71,7 @@ impl Threads {
         ensures added { result ≡ nat_lt (length self.old) 15 }
         ensures threads { self.new ≡ (if result then self.old ++ thread.now ∷ [] else self.old) }
     {
-        if self.len == 15 {
+        if self.len == MOST {
             return false;
         }
         self.row[self.len as usize] = *thread;

@@ -18,28 +18,49 @@ use Rattle.spec_finishing.specs.Rank.{potential, under_way, rank}
 abbrev pub work : Setup → List Event → ℕ
 work s es = plays_work s.spheres + moves_work s.numbers (serial_start s) (moves (world_of s) es)
 
--- the replies of events that did what they are for: none is bounced, denied, busy, full or out of turn
-abbrev pub is_done : Reply → Bool
-is_done Reply.Ran = true
-is_done (Reply.Closed how) = true
-is_done Reply.Granted = true
-is_done Reply.Piece = true
-is_done Reply.Drained = true
-is_done Reply.Delivered = true
-is_done Reply.Squashed = true
-is_done Reply.Retired = true
-is_done Reply.Placed = true
-is_done Reply.DmaDone = true
-is_done (Reply.Diverged i why) = true
-is_done _ = false
+-- the replies of finishing's events that did what they are for: none is bounced, denied, busy, full or out of turn
+abbrev pub furthers_finishing : Reply → Bool
+furthers_finishing Reply.Ran = true
+furthers_finishing (Reply.Closed how) = true
+furthers_finishing (Reply.Bounced k) = false
+furthers_finishing Reply.Waiting = false
+furthers_finishing Reply.Idle = false
+furthers_finishing Reply.Stopped = false
+furthers_finishing Reply.NothingRun = false
+furthers_finishing Reply.Granted = true
+furthers_finishing Reply.Piece = true
+furthers_finishing Reply.NotClosed = false
+furthers_finishing (Reply.NotTurn actor) = false
+furthers_finishing Reply.WindowFull = false
+furthers_finishing (Reply.Denied k) = false
+furthers_finishing (Reply.SphereBusy k) = false
+furthers_finishing Reply.Drained = true
+furthers_finishing Reply.Clean = false
+furthers_finishing Reply.Delivered = true
+furthers_finishing Reply.Squashed = true
+furthers_finishing Reply.Already = false
+furthers_finishing Reply.Retired = true
+furthers_finishing Reply.NotDone = false
+furthers_finishing Reply.NoCommit = false
+furthers_finishing Reply.Placed = true
+furthers_finishing (Reply.Elsewhere c) = false
+furthers_finishing Reply.NoThread = false
+furthers_finishing Reply.Ended = false
+furthers_finishing Reply.Raised = false
+furthers_finishing Reply.Masked = false
+furthers_finishing Reply.NoHandler = false
+furthers_finishing Reply.FromLog = false
+furthers_finishing Reply.DmaDone = true
+furthers_finishing Reply.NoDma = false
+furthers_finishing (Reply.Diverged i why) = true
 
--- each of these events is done and makes less what is left, which is never below 0
+-- each of these events furthers finishing and makes less what is left, which is never below 0
 abbrev pub Falls : Setup → World → List Event → Type 0
 Falls s w [] = under_way w ≤ potential s w
 Falls s w (e ∷ es) =
     let a = happens w e in
     (under_way w ≤ potential s w)
-    × (is_done a.reply ≡ true)
+    × (furthers_finishing a.reply ≡ true)
     × (rank s a.world < rank s w)
     × Falls s a.world es
 

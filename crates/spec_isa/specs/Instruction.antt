@@ -5,13 +5,14 @@ use Rattle.spec_isa.specs.declared.thread.Parts.{Parts}
 use Rattle.spec_isa.specs.declared.thread.Load.{Load}
 use Rattle.spec_isa.specs.declared.thread.Kind.{Kind}
 use Rattle.spec_isa.specs.declared.operation.Operation.{Operation}
+use Rattle.spec_isa.specs.Numbers.{fetch_outside, illegal}
 use Rattle.spec_isa.specs.Denoted.{denoted}
 use Rattle.spec_isa.specs.Words.{Stored, read, is_inside}
 use Rattle.spec_isa.specs.Operations.{operation, refuses, word_loaded, thread_then, load_then, store_then}
 
 -- a word outside the table is illegal
 abbrev pub operation_found : Option Instr → Parts → Operation
-operation_found None t = Operation.Stop (Kind.Fault 2)
+operation_found None t = Operation.Stop (Kind.Fault illegal)
 operation_found (Some i) t = operation i t
 
 abbrev pub operation_of : Parts → (f : ℕ) → Operation
@@ -19,7 +20,7 @@ operation_of t f = operation_found (denoted f) t
 
 -- why the instruction is serial, or none where it is run; a fetch outside memory faults
 unfoldable pub serial_of : Parts → (f size : ℕ) → Option Kind
-serial_of t f size = if is_inside size t.pc then refuses size (operation_of t f) else Some (Kind.Fault 1)
+serial_of t f size = if is_inside size t.pc then refuses size (operation_of t f) else Some (Kind.Fault fetch_outside)
 
 -- the number of the word that it loads
 unfoldable pub loads_of : Parts → (f : ℕ) → Option ℕ

@@ -1,3 +1,4 @@
+pub mod Numbers
 pub mod Encoding
 pub mod Denoted
 pub mod Arithmetic

@@ -7,6 +7,7 @@ use Rattle.spec_isa.specs.declared.thread.Parts.{Parts}
 use Rattle.spec_isa.specs.declared.thread.Load.{Load}
 use Rattle.spec_isa.specs.declared.thread.Kind.{Kind}
 use Rattle.spec_isa.specs.declared.operation.Operation.{Operation}
+use Rattle.spec_isa.specs.Numbers.{jump_misaligned, load_misaligned, load_outside, store_misaligned, store_outside, moment_address, input_address, console_address}
 use Rattle.spec_isa.specs.Arithmetic.{add, extended, holds, immediate_result, shift_result, register_result, amo_result}
 use Rattle.spec_isa.specs.Words.{Stored, is_inside}
 use Rattle.spec_isa.specs.Masks.{some_if}
@@ -70,14 +71,14 @@ store_size StoreOp.Sw = 4
 
 -- LW alone reads a device, and SW alone writes one
 abbrev pub is_device_load : LoadOp → ℕ → Bool
-is_device_load LoadOp.Lw a = nat_eq a 0xF0000000 || nat_eq a 0xF0000004
+is_device_load LoadOp.Lw a = nat_eq a moment_address || nat_eq a input_address
 is_device_load LoadOp.Lb a = false
 is_device_load LoadOp.Lh a = false
 is_device_load LoadOp.Lbu a = false
 is_device_load LoadOp.Lhu a = false
 
 abbrev pub is_device_store : StoreOp → ℕ → Bool
-is_device_store StoreOp.Sw a = nat_eq a 0xF0000008
+is_device_store StoreOp.Sw a = nat_eq a console_address
 is_device_store StoreOp.Sb a = false
 is_device_store StoreOp.Sh a = false
 
@@ -89,14 +90,16 @@ refusal size width a is_device device misaligned outside =
     else Some misaligned
 
 abbrev pub load_refusal : (size width addr : ℕ) → Bool → Option Kind
-load_refusal size width a is_device = refusal size width a is_device Kind.DeviceLoad (Kind.Fault 4) (Kind.Fault 5)
+load_refusal size width a is_device =
+    refusal size width a is_device Kind.DeviceLoad (Kind.Fault load_misaligned) (Kind.Fault load_outside)
 
 abbrev pub store_refusal : (size width addr : ℕ) → Bool → Option Kind
-store_refusal size width a is_device = refusal size width a is_device Kind.DeviceStore (Kind.Fault 6) (Kind.Fault 7)
+store_refusal size width a is_device =
+    refusal size width a is_device Kind.DeviceStore (Kind.Fault store_misaligned) (Kind.Fault store_outside)
 
 -- why the operation is serial, in a memory of that size; a jump faults where its target is misaligned
 abbrev pub refuses : (size : ℕ) → Operation → Option Kind
-refuses size (Operation.Go rd value pc) = if nat_eq (pc % 4) 0 then None else Some (Kind.Fault 0)
+refuses size (Operation.Go rd value pc) = if nat_eq (pc % 4) 0 then None else Some (Kind.Fault jump_misaligned)
 refuses size (Operation.Stop kind) = Some kind
 refuses size (Operation.Load op rd a) = load_refusal size (load_size op) a (is_device_load op a)
 refuses size (Operation.Store op a v) = store_refusal size (store_size op) a (is_device_store op a)

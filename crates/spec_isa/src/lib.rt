@@ -4,5 +4,6 @@
 
 pub mod field;
 pub mod instr;
+pub mod numbers;
 pub mod operation;
 pub mod thread;

@@ -2,6 +2,8 @@
 use Rattle.std.specs.Prelude.{ℕ, ◌%◌, ◌^◌, nat_eq, nat_lt, List, [], ◌∷◌, length, take, if◌then◌else◌, Option, Some, None}
 use Rattle.dl_entry.specs.declared.Input.{Input}
 use Rattle.dl_entry.specs.declared.Request.{Request}
+use Rattle.dl_entry.specs.Numbers.{kind_write, kind_read, kind_random, kind_clock, kind_moment, kind_input}
+use Rattle.spec_kernel.specs.Numbers.{pipe_count, channel_console, channel_input}
 use Rattle.spec_kernel.specs.Devices.{Devices, input_taken, console_put, pipe_fitting, pipe_put, pipe_first, pipe_taken, random_bytes, random_taken}
 use Rattle.spec_kernel.specs.Needs.{Need, Write, Read, Random, Clock, MomentWord, InputWord}
 
@@ -28,31 +30,31 @@ abbrev pub went : (count len : ℕ) → ℕ
 went count len = if nat_eq count 0 then if nat_eq len 0 then 0 else nothing_now else count
 
 abbrev pub write_answer : (result : ℕ) → Devices → Answered
-write_answer result d = record { input = record { kind = 2; result = result; bytes = [] }; devices = d }
+write_answer result d = record { input = record { kind = kind_write; result = result; bytes = [] }; devices = d }
 
--- channels 0 to 7 are pipes, which take what finds room; channel 8 is the console, which takes all
+-- pipes take what finds room, and the console takes all
 abbrev pub answer_write : Devices → (channel : ℕ) → List ℕ → Answered
 answer_write d channel bytes =
-    if nat_lt channel 8 then write_answer (went (length (pipe_fitting d channel bytes)) (length bytes)) (pipe_put d channel bytes)
-    else if nat_eq channel 8 then write_answer (length bytes) (console_put bytes d)
+    if nat_lt channel pipe_count then write_answer (went (length (pipe_fitting d channel bytes)) (length bytes)) (pipe_put d channel bytes)
+    else if nat_eq channel channel_console then write_answer (length bytes) (console_put bytes d)
     else write_answer refused d
 
 abbrev pub read_answer : (result : ℕ) → List ℕ → Devices → Answered
-read_answer result bytes d = record { input = record { kind = 3; result = result; bytes = bytes }; devices = d }
+read_answer result bytes d = record { input = record { kind = kind_read; result = result; bytes = bytes }; devices = d }
 
--- channels 0 to 7 are pipes, and channel 9 is the input
+-- of a pipe, or of the input
 abbrev pub answer_read : Devices → (channel len : ℕ) → Answered
 answer_read d channel len =
-    if nat_lt channel 8
+    if nat_lt channel pipe_count
     then (let bytes = pipe_first d channel len in read_answer (went (length bytes) len) bytes (pipe_taken d channel len))
-    else if nat_eq channel 9
+    else if nat_eq channel channel_input
     then (let bytes = take len d.input in read_answer (went (length bytes) len) bytes (input_taken len d))
     else read_answer refused [] d
 
 abbrev pub answer_random : Devices → (len : ℕ) → Answered
 answer_random d len =
     record {
-      input = record { kind = 4; result = len; bytes = random_bytes len d.random };
+      input = record { kind = kind_random; result = len; bytes = random_bytes len d.random };
       devices = random_taken len d;
     }
 
@@ -68,15 +70,15 @@ first_byte (b ∷ bytes) = b
 
 abbrev pub answer_input : Devices → Answered
 answer_input d =
-    record { input = record { kind = 17; result = first_byte d.input; bytes = [] }; devices = input_taken 1 d }
+    record { input = record { kind = kind_input; result = first_byte d.input; bytes = [] }; devices = input_taken 1 d }
 
 -- the answer of the devices at a moment
 unfoldable pub answer : Devices → Need → (moment : ℕ) → Answered
 answer d (Write channel bytes) moment = answer_write d channel bytes
 answer d (Read channel buf len) moment = answer_read d channel len
 answer d (Random buf len) moment = answer_random d len
-answer d Clock moment = answer_moment d 5 moment
-answer d MomentWord moment = answer_moment d 16 moment
+answer d Clock moment = answer_moment d kind_clock moment
+answer d MomentWord moment = answer_moment d kind_moment moment
 answer d InputWord moment = answer_input d
 
 -- what was taken from outside for a step, if it wanted something, and the devices then

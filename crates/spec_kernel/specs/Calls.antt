@@ -2,10 +2,13 @@
 -- the result goes to a0, and the pc moves on.
 use Rattle.std.specs.Prelude.{ℕ, ◌+◌, ◌%◌, Bool, false, ◌&&◌, nat_eq, nat_le, nat_lt, List, [], ◌∷◌, length, slice_get, Option, Some, None, if◌then◌else◌}
 use Rattle.dl_entry.specs.declared.Request.{Request}
+use Rattle.dl_entry.specs.Numbers.{most_threads}
 use Rattle.spec_isa.specs.declared.thread.Parts.{Parts}
 use Rattle.spec_isa.specs.declared.thread.ThreadStatus.{ThreadStatus}
+use Rattle.spec_isa.specs.Numbers.{register_sp, register_a0, register_a1}
 use Rattle.spec_isa.specs.Operations.{at_pc, following, with_register}
 use Rattle.spec_isa.specs.Threads.{started}
+use Rattle.spec_kernel.specs.Numbers.{call_exit, call_spawn, call_handler, call_iret, call_dma, call_self, call_yield, call_ended}
 use Rattle.spec_kernel.specs.Needs.{number_of, a0, a1, a2, cut}
 use Rattle.spec_kernel.specs.Answers.{unknown_call, bad_buffer, refused}
 use Rattle.spec_kernel.specs.Interrupts.{is_live}
@@ -18,7 +21,7 @@ pub record Called : Type 0 where
 
 -- the thread with a result
 abbrev pub with_result : ℕ → Parts → Parts
-with_result result t = at_pc t 10 result (following t)
+with_result result t = at_pc t register_a0 result (following t)
 
 -- a result, and nothing else
 abbrev pub gives : Option Request → Parts → (result : ℕ) → Called
@@ -29,15 +32,15 @@ abbrev pub exit : Option Request → Parts → Called
 exit request t =
     record { thread = record t { pc = following t; status = ThreadStatus.Ended (a0 t) }; made = []; request = request }
 
--- a new thread at an entry, with sp in x2 and the argument in x10
+-- a new thread at an entry, with its stack pointer, and with the argument in a0
 abbrev pub spawned : (entry sp arg : ℕ) → Parts
 spawned entry sp arg =
-    let t = started entry in record t { x = with_register (with_register t.x 2 sp) 10 arg }
+    let t = started entry in record t { x = with_register (with_register t.x register_sp sp) register_a0 arg }
 
--- spawn: the new thread's number; refused where 15 threads are there, or the entry is no place in code
+-- spawn: the new thread's number; refused where there is no place for one more, or the entry is no place in code
 abbrev pub spawn : List Parts → Option Request → Parts → Called
 spawn threads request t =
-    if nat_lt (length threads) 15 && nat_eq (a0 t % 4) 0
+    if nat_lt (length threads) most_threads && nat_eq (a0 t % 4) 0
     then record { thread = with_result (length threads) t; made = spawned (a0 t) (a1 t) (a2 t) ∷ []; request = request }
     else gives request t refused
 
@@ -53,7 +56,7 @@ abbrev pub returned : Parts → Parts
 returned t =
     record t {
       pc = t.saved_pc;
-      x = with_register (with_register t.x 10 t.saved_a0) 11 t.saved_a1;
+      x = with_register (with_register t.x register_a0 t.saved_a0) register_a1 t.saved_a1;
       mask = false;
       saved_pc = 0;
       saved_a0 = 0;
@@ -86,12 +89,12 @@ has_ended (Some t) = if is_live t then 0 else 1
 -- call by call, for thread number `number` of these, in a memory of that size
 unfoldable pub called : (size number : ℕ) → List Parts → Option Request → Parts → Called
 called size number threads request t =
-    if nat_eq (number_of t) 0 then exit request t
-    else if nat_eq (number_of t) 1 then spawn threads request t
-    else if nat_eq (number_of t) 6 then set_handler request t
-    else if nat_eq (number_of t) 7 then iret request t
-    else if nat_eq (number_of t) 8 then request_dma size request t
-    else if nat_eq (number_of t) 9 then gives request t number
-    else if nat_eq (number_of t) 10 then gives request t 0
-    else if nat_eq (number_of t) 11 then gives request t (has_ended (slice_get threads (a0 t)))
+    if nat_eq (number_of t) call_exit then exit request t
+    else if nat_eq (number_of t) call_spawn then spawn threads request t
+    else if nat_eq (number_of t) call_handler then set_handler request t
+    else if nat_eq (number_of t) call_iret then iret request t
+    else if nat_eq (number_of t) call_dma then request_dma size request t
+    else if nat_eq (number_of t) call_self then gives request t number
+    else if nat_eq (number_of t) call_yield then gives request t 0
+    else if nat_eq (number_of t) call_ended then gives request t (has_ended (slice_get threads (a0 t)))
     else gives request t unknown_call

@@ -2,6 +2,7 @@
 use Rattle.std.specs.Prelude.{ℕ, zero, suc, ◌-◌, ◌%◌, ◌^◌, List, [], ◌∷◌, ◌++◌, length, take, drop, replicate, slice_index_or, slice_set}
 use Rattle.rand_pcg.specs.Lcg.{Lcg, started, increment_of}
 use Rattle.rand_pcg.specs.Pcg.{multiplier_64, pcg32}
+use Rattle.spec_kernel.specs.Numbers.{pipe_count, pipe_size, most_input, random_stream}
 
 pub record Devices : Type 0 where
   -- the bytes of the input that nobody took yet
@@ -17,10 +18,10 @@ pub record Devices : Type 0 where
 abbrev pub devices_of : (input : List ℕ) (seed : ℕ) → Devices
 devices_of input seed =
     record {
-      input = take (2 ^ 24) input;
+      input = take most_input input;
       console = [];
-      pipes = replicate 8 [];
-      random = started 64 multiplier_64 seed (increment_of 64 2);
+      pipes = replicate pipe_count [];
+      random = started 64 multiplier_64 seed (increment_of 64 random_stream);
     }
 
 -- with the first n bytes of the input taken
@@ -39,7 +40,7 @@ with_pipe d pipe bytes = record d { pipes = slice_set d.pipes pipe bytes }
 
 -- as many of these bytes, from the first, as find room in a pipe of 256
 abbrev pub pipe_fitting : Devices → ℕ → List ℕ → List ℕ
-pipe_fitting d pipe bytes = take (256 - length (pipe_at d pipe)) bytes
+pipe_fitting d pipe bytes = take (pipe_size - length (pipe_at d pipe)) bytes
 
 -- with these of the bytes at the pipe's end
 abbrev pub pipe_put : Devices → ℕ → List ℕ → Devices

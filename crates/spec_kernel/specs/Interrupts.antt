@@ -2,6 +2,7 @@
 use Rattle.std.specs.Prelude.{ℕ, Bool, true, false, not, ◌&&◌, nat_eq}
 use Rattle.spec_isa.specs.declared.thread.Parts.{Parts}
 use Rattle.spec_isa.specs.declared.thread.ThreadStatus.{ThreadStatus}
+use Rattle.spec_isa.specs.Numbers.{register_a0, register_a1}
 use Rattle.spec_isa.specs.Operations.{register, with_register}
 
 abbrev pub lives : ThreadStatus → Bool
@@ -24,9 +25,9 @@ abbrev pub interrupted : (value : ℕ) → Parts → Parts
 interrupted value t =
     record t {
       pc = t.handler;
-      x = with_register t.x 10 value;
+      x = with_register t.x register_a0 value;
       mask = true;
       saved_pc = t.pc;
-      saved_a0 = register t 10;
-      saved_a1 = register t 11;
+      saved_a0 = register t register_a0;
+      saved_a1 = register t register_a1;
     }

@@ -1,3 +1,4 @@
+pub mod Numbers
 pub mod Devices
 pub mod Copies
 pub mod Needs

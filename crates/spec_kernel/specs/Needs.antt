@@ -1,11 +1,14 @@
 -- What a thread's next step, where it is serial, wants from outside.
 use Rattle.std.specs.Prelude.{ℕ, ◌+◌, ◌/◌, min, nat_eq, nat_le, List, length, take, drop, Option, Some, None, if◌then◌else◌}
+use Rattle.dl_entry.specs.Numbers.{most_bytes}
 use Rattle.spec_isa.specs.declared.thread.Parts.{Parts}
 use Rattle.spec_isa.specs.declared.thread.Kind.{Kind}
 use Rattle.spec_isa.specs.declared.operation.Operation.{Operation}
+use Rattle.spec_isa.specs.Numbers.{register_a0, register_a1, register_a2, register_a7, moment_address}
 use Rattle.spec_isa.specs.Words.{read}
 use Rattle.spec_isa.specs.Operations.{register}
 use Rattle.spec_isa.specs.Instruction.{serial_of, operation_of}
+use Rattle.spec_kernel.specs.Numbers.{call_write, call_read, call_random, call_clock}
 
 -- ---- the next instruction
 
@@ -39,20 +42,20 @@ pub data Need : Type 0 where
 
 -- the number of a call, and its arguments
 abbrev pub number_of : Parts → ℕ
-number_of t = register t 17
+number_of t = register t register_a7
 
 abbrev pub a0 : Parts → ℕ
-a0 t = register t 10
+a0 t = register t register_a0
 
 abbrev pub a1 : Parts → ℕ
-a1 t = register t 11
+a1 t = register t register_a1
 
 abbrev pub a2 : Parts → ℕ
-a2 t = register t 12
+a2 t = register t register_a2
 
 -- lengths are cut to 4,096
 abbrev pub cut : ℕ → ℕ
-cut len = min len 4096
+cut len = min len most_bytes
 
 -- a buffer that ends beyond the memory is bad, and nothing is wanted for it
 abbrev pub if_inside : (size buf len : ℕ) → Need → Option Need
@@ -73,24 +76,27 @@ need_of_random t m =
     let buf = a0 t in
     let len = cut (a1 t) in if_inside (length m) buf len (Random buf len)
 
--- calls 2 to 5 go outside: write, read, random and clock
+-- write, read, random and clock go outside
 abbrev pub need_of_call : Parts → List ℕ → Option Need
 need_of_call t m =
-    if nat_eq (number_of t) 2 then need_of_write t m
-    else if nat_eq (number_of t) 3 then need_of_read t m
-    else if nat_eq (number_of t) 4 then need_of_random t m
-    else if nat_eq (number_of t) 5 then Some Clock
+    if nat_eq (number_of t) call_write then need_of_write t m
+    else if nat_eq (number_of t) call_read then need_of_read t m
+    else if nat_eq (number_of t) call_random then need_of_random t m
+    else if nat_eq (number_of t) call_clock then Some Clock
     else None
 
 -- a load of the moment's word, or of the input's word
 abbrev pub need_of_load : Operation → Option Need
-need_of_load (Operation.Load op rd a) = Some (if nat_eq a 0xF0000000 then MomentWord else InputWord)
+need_of_load (Operation.Load op rd a) = Some (if nat_eq a moment_address then MomentWord else InputWord)
 need_of_load _ = None
 
 abbrev pub need_of : Option Kind → Parts → List ℕ → Option Need
 need_of (Some Kind.Call) t m = need_of_call t m
 need_of (Some Kind.DeviceLoad) t m = need_of_load (next_operation t m)
-need_of _ t m = None
+need_of (Some Kind.Break) t m = None
+need_of (Some Kind.DeviceStore) t m = None
+need_of (Some (Kind.Fault cause)) t m = None
+need_of None t m = None
 
 -- what the next step wants, if anything
 unfoldable pub need : Parts → List ℕ → Option Need

@@ -1,17 +1,18 @@
 -- Whether a record of a log is what a step wants from outside.
 use Rattle.std.specs.Prelude.{ℕ, Bool, false, ◌&&◌, ◌||◌, nat_eq, nat_le, length, Option, Some, None}
 use Rattle.dl_entry.specs.declared.Input.{Input}
+use Rattle.dl_entry.specs.Numbers.{kind_write, kind_read, kind_random, kind_clock, kind_moment, kind_input}
 use Rattle.spec_kernel.specs.Needs.{Need, Write, Read, Random, Clock, MomentWord, InputWord}
 use Rattle.spec_kernel.specs.Answers.{nothing_now, refused}
 
 -- the kind of record that it leaves
 abbrev pub kind_of : Need → ℕ
-kind_of (Write channel bytes) = 2
-kind_of (Read channel buf len) = 3
-kind_of (Random buf len) = 4
-kind_of Clock = 5
-kind_of MomentWord = 16
-kind_of InputWord = 17
+kind_of (Write channel bytes) = kind_write
+kind_of (Read channel buf len) = kind_read
+kind_of (Random buf len) = kind_random
+kind_of Clock = kind_clock
+kind_of MomentWord = kind_moment
+kind_of InputWord = kind_input
 
 abbrev pub has_no_bytes : Input → Bool
 has_no_bytes r = nat_eq (length r.bytes) 0

@@ -9,10 +9,12 @@ use Rattle.spec_isa.specs.declared.thread.Kind.{Kind}
 use Rattle.spec_isa.specs.declared.thread.ThreadStatus.{ThreadStatus}
 use Rattle.spec_isa.specs.declared.operation.Operation.{Operation}
 use Rattle.spec_isa.specs.Words.{Stored}
+use Rattle.spec_isa.specs.Numbers.{breakpoint}
 use Rattle.spec_isa.specs.Operations.{at_pc, following}
+use Rattle.spec_kernel.specs.Numbers.{call_spawn, call_handler, channel_console}
 use Rattle.spec_kernel.specs.Devices.{Devices, console_put}
 use Rattle.spec_kernel.specs.Copies.{copied}
-use Rattle.spec_kernel.specs.Needs.{Need, Write, Read, Random, next_kind, next_operation, need, number_of}
+use Rattle.spec_kernel.specs.Needs.{Need, Write, Read, Random, Clock, MomentWord, InputWord, next_kind, next_operation, need, number_of}
 use Rattle.spec_kernel.specs.Answers.{bad_buffer}
 use Rattle.spec_kernel.specs.Calls.{Called, called, with_result}
 
@@ -36,13 +38,22 @@ alone request t = record { thread = t; made = []; request = request; words = [];
 abbrev pub copy_of : Option Need → Input → List Stored
 copy_of (Some (Read channel buf len)) r = copied buf r.bytes
 copy_of (Some (Random buf len)) r = copied buf r.bytes
-copy_of _ r = []
+copy_of (Some (Write channel bytes)) r = []
+copy_of (Some Clock) r = []
+copy_of (Some MomentWord) r = []
+copy_of (Some InputWord) r = []
+copy_of None r = []
 
 -- a write's output: as many of its bytes as the result says went
 abbrev pub output_of : Option Need → Input → List Output
 output_of (Some (Write channel bytes)) r =
     record { channel = channel; bytes = if nat_le r.result (length bytes) then take r.result bytes else [] } ∷ []
-output_of _ r = []
+output_of (Some (Read channel buf len)) r = []
+output_of (Some (Random buf len)) r = []
+output_of (Some Clock) r = []
+output_of (Some MomentWord) r = []
+output_of (Some InputWord) r = []
+output_of None r = []
 
 -- an outside call: the record's result goes to a0; without a record its buffer was bad
 abbrev pub outside_called : Option Need → Option Request → Parts → Option Input → StepResult
@@ -60,9 +71,9 @@ outside_called need request t (Some r) =
 abbrev pub inside_called : Called → StepResult
 inside_called c = record { thread = c.thread; made = c.made; request = c.request; words = []; loads = []; outputs = [] }
 
--- calls 2 to 5 go outside
+-- the calls from write to clock, which stand between spawn and handler, go outside
 abbrev pub is_outside : Parts → Bool
-is_outside t = nat_lt 1 (number_of t) && nat_lt (number_of t) 6
+is_outside t = nat_lt call_spawn (number_of t) && nat_lt (number_of t) call_handler
 
 -- ---- device words
 
@@ -72,10 +83,10 @@ device_loaded request t (Operation.Load op rd a) (Some r) =
     record (alone request (at_pc t rd r.result (following t))) { loads = record { address = a; value = r.result } ∷ [] }
 device_loaded request t _ _ = alone request t
 
--- a store to the console's word: its low byte is an output of channel 8
+-- a store to the console's word: its low byte is an output of the console
 abbrev pub device_stored : Option Request → Parts → Operation → StepResult
 device_stored request t (Operation.Store op a v) =
-    record (alone request (record t { pc = following t })) { outputs = record { channel = 8; bytes = v % 2 ^ 8 ∷ [] } ∷ [] }
+    record (alone request (record t { pc = following t })) { outputs = record { channel = channel_console; bytes = v % 2 ^ 8 ∷ [] } ∷ [] }
 device_stored request t _ = alone request t
 
 -- ---- the step
@@ -90,7 +101,7 @@ serve_kind (Some Kind.Call) number threads request t m input =
     if is_outside t
     then outside_called (need t m) request t input
     else inside_called (called (length m) number threads request t)
-serve_kind (Some Kind.Break) number threads request t m input = alone request (faulted 3 t)
+serve_kind (Some Kind.Break) number threads request t m input = alone request (faulted breakpoint t)
 serve_kind (Some Kind.DeviceLoad) number threads request t m input = device_loaded request t (next_operation t m) input
 serve_kind (Some Kind.DeviceStore) number threads request t m input = device_stored request t (next_operation t m)
 serve_kind (Some (Kind.Fault cause)) number threads request t m input = alone request (faulted cause t)
@@ -107,7 +118,11 @@ bytes_out (o ∷ os) = o.bytes ++ bytes_out os
 
 abbrev pub store_written : Option Kind → List Output → Devices → Devices
 store_written (Some Kind.DeviceStore) outputs d = console_put (bytes_out outputs) d
-store_written _ outputs d = d
+store_written (Some Kind.Call) outputs d = d
+store_written (Some Kind.Break) outputs d = d
+store_written (Some Kind.DeviceLoad) outputs d = d
+store_written (Some (Kind.Fault cause)) outputs d = d
+store_written None outputs d = d
 
 -- the devices after a step that left these outputs: a store to the console's word has put its byte there
 unfoldable pub console_written : Parts → List ℕ → List Output → Devices → Devices

@@ -4,6 +4,7 @@ use Rattle.std.specs.List.{AllAdjacentBelow}
 use Rattle.dl_entry.specs.declared.actor.Actor.{Actor}
 use Rattle.dl_entry.specs.declared.actor.Actor.TheVariants.{Thread, Dma}
 use Rattle.dl_entry.specs.declared.input.Input.{Input}
+use Rattle.dl_entry.specs.Numbers.{kind_write, kind_read, kind_random, kind_clock, kind_moment, kind_input, most_bytes, greatest_thread}
 use Rattle.spec_log.specs.declared.mode_name.ModeName.{ModeName}
 use Rattle.spec_log.specs.declared.mode_name.ModeName.TheVariants.{OrderSize, OrderOnly, Picolog}
 use Rattle.spec_log.specs.declared.records.Interrupt.{Interrupt}
@@ -13,9 +14,9 @@ use Rattle.spec_log.specs.declared.sizes.Sizes.{Sizes}
 use Rattle.spec_log.specs.declared.sizes.Sizes.TheVariants.{Each, Short}
 use Rattle.spec_log.specs.declared.log.LogParts.{LogParts}
 
--- an actor of a log is one of 15 threads, or a DMA
+-- an actor of a log is one of the threads that a sphere may have, or a DMA
 abbrev pub IsActor : Actor → Type 0
-IsActor (Thread thread) = thread ≤ 14
+IsActor (Thread thread) = thread ≤ greatest_thread
 IsActor Dma = Unit {0}
 
 -- the order names the actor of each commit; in picolog, where threads take turns, it is empty
@@ -36,7 +37,7 @@ pub record IsSection {X : Type 0} (good : X → Type 0) (before : X → X → Ty
 
 -- the size of a commit that was closed early is over 0 and no more than a standard chunk's
 abbrev pub IsShortSize : ℕ → ShortSize → Type 0
-IsShortSize s short = (short.thread ≤ 14) × (short.index < 2 ^ 32) × (1 ≤ short.size) × (short.size ≤ s)
+IsShortSize s short = (short.thread ≤ greatest_thread) × (short.index < 2 ^ 32) × (1 ≤ short.size) × (short.size ≤ s)
 
 abbrev pub AreShortSizes : ℕ → List ShortSize → Type 0
 AreShortSizes s sizes =
@@ -53,19 +54,19 @@ IsSizes Picolog s count (Short sizes) = AreShortSizes s sizes
 
 -- interrupts stand by thread, and for one thread by the number of its commits before
 abbrev pub IsInterrupt : Interrupt → Type 0
-IsInterrupt interrupt = (interrupt.thread ≤ 14) × (interrupt.index < 2 ^ 32) × (interrupt.value < 2 ^ 32)
+IsInterrupt interrupt = (interrupt.thread ≤ greatest_thread) × (interrupt.index < 2 ^ 32) × (interrupt.value < 2 ^ 32)
 
 abbrev pub AreInterrupts : List Interrupt → Type 0
 AreInterrupts interrupts =
     IsSection IsInterrupt (λ x y. ComesBefore x.thread x.index y.thread y.index) interrupts
 
--- at most 4,096 bytes
+-- no more bytes than a record may have
 abbrev pub AreFewBytes : List ℕ → Type 0
-AreFewBytes bytes = (length bytes ≤ 4096) × All (λ byte. byte < 256) bytes
+AreFewBytes bytes = (length bytes ≤ most_bytes) × All (λ byte. byte < 256) bytes
 
 -- the four outside calls, and the two device words that can be read
 abbrev pub input_kinds : List ℕ
-input_kinds = 2 ∷ 3 ∷ 4 ∷ 5 ∷ 16 ∷ 17 ∷ []
+input_kinds = kind_write ∷ kind_read ∷ kind_random ∷ kind_clock ∷ kind_moment ∷ kind_input ∷ []
 
 -- inputs stand in the order of commits, which they don't name
 abbrev pub IsInput : Input → Type 0

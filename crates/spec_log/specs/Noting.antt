@@ -4,6 +4,7 @@ use Rattle.std.specs.List.{list_all, range_with_len}
 use Rattle.dl_entry.specs.declared.actor.Actor.{Actor}
 use Rattle.dl_entry.specs.declared.actor.Actor.TheVariants.{Thread, Dma}
 use Rattle.dl_entry.specs.declared.input.Input.{Input}
+use Rattle.dl_entry.specs.Numbers.{most_threads}
 use Rattle.spec_log.specs.declared.mode_name.ModeName.{ModeName}
 use Rattle.spec_log.specs.declared.mode_name.ModeName.TheVariants.{OrderSize, OrderOnly, Picolog}
 use Rattle.spec_log.specs.declared.records.Interrupt.{Interrupt}
@@ -36,9 +37,9 @@ no_sizes OrderSize = Each []
 no_sizes OrderOnly = Short []
 no_sizes Picolog = Short []
 
--- nothing is noted yet, of any of the 15 threads
+-- nothing is noted yet, of any of the threads that a sphere may have
 abbrev pub nothing_kept : ModeName → ℕ → Kept
-nothing_kept mode s = record { s = s; count = 0; order = []; sizes = no_sizes mode; done = replicate 15 0 }
+nothing_kept mode s = record { s = s; count = 0; order = []; sizes = no_sizes mode; done = replicate most_threads 0 }
 
 -- the order with an actor more; in picolog there is none
 abbrev pub order_with : ModeName → List Actor → Actor → List Actor
@@ -115,7 +116,7 @@ limit_by s (Some size) = max 1 size
 -- whether every size of a thread is of a commit that it has done; a DMA's size counts as used
 abbrev pub sizes_used : List Actor → Sizes → List ℕ → Bool
 sizes_used order (Each sizes) done =
-    list_all (λ thread. nat_le (length (sizes_of_thread thread order sizes)) (slice_index done thread)) (range_with_len 0 15)
+    list_all (λ thread. nat_le (length (sizes_of_thread thread order sizes)) (slice_index done thread)) (range_with_len 0 most_threads)
 sizes_used order (Short sizes) done = list_all (λ short. nat_lt short.index (slice_index done short.thread)) sizes
 
 -- whose commit is kept at a position, told whether a DMA's slot is there, which thread committed last, and which are live

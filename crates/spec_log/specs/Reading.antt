@@ -5,6 +5,7 @@ use Rattle.std.specs.List.{list_any}
 use Rattle.dl_entry.specs.declared.actor.Actor.{Actor}
 use Rattle.dl_entry.specs.declared.actor.Actor.TheVariants.{Thread, Dma}
 use Rattle.dl_entry.specs.declared.input.Input.{Input}
+use Rattle.dl_entry.specs.Numbers.{most_bytes, greatest_thread, dma_code}
 use Rattle.spec_log.specs.declared.mode_name.ModeName.{ModeName}
 use Rattle.spec_log.specs.declared.mode_name.ModeName.TheVariants.{OrderSize, OrderOnly, Picolog}
 use Rattle.spec_log.specs.declared.records.Interrupt.{Interrupt}
@@ -95,14 +96,14 @@ entries earlier entry before (suc n) bytes start =
 abbrev pub section_of : {X : Type 0} → (X → X → Bool) → Reader X → Reader (List X)
 section_of earlier entry = read (any 4) (λ count. entries earlier entry None count)
 
--- a half byte below 15 is a thread, and 15 a DMA
+-- a half byte is a DMA's code, or the number of a thread
 abbrev pub actor_of : ℕ → Actor
-actor_of half = if half == 15 then Dma else Thread half
+actor_of half = if half == dma_code then Dma else Thread half
 
 -- so many actors, two to a byte; a last byte of one actor has no high half
 abbrev pub actors : ℕ → Reader (List Actor)
 actors zero = gives []
-actors (suc zero) = read (field 1 (at_most 15)) (λ byte. gives (actor_of byte ∷ []))
+actors (suc zero) = read (field 1 (at_most dma_code)) (λ byte. gives (actor_of byte ∷ []))
 actors (suc (suc n)) =
     read (any 1) (λ byte. read (actors n) (λ rest. gives (actor_of (byte % 16) ∷ actor_of (byte / 16) ∷ rest)))
 
@@ -116,7 +117,7 @@ abbrev pub order_of : ModeName → ℕ → Reader (List Actor)
 order_of mode count = read (field 4 (λ n. n == ordered mode count)) actors
 
 abbrev pub thread : Reader ℕ
-thread = field 1 (at_most 14)
+thread = field 1 (at_most greatest_thread)
 
 -- a thread's moment is earlier: of a lower thread, or with fewer of its commits before
 abbrev pub is_earlier : (thread index later_thread later_index : ℕ) → Bool
@@ -149,9 +150,9 @@ interrupt =
 abbrev pub interrupts_of : Reader (List Interrupt)
 interrupts_of = section_of (λ x y. is_earlier x.thread x.index y.thread y.index) interrupt
 
--- at most 4,096 bytes behind their number
+-- the bytes of a record behind their number
 abbrev pub counted : Reader (List ℕ)
-counted = read (field 2 (at_most 4096)) raw
+counted = read (field 2 (at_most most_bytes)) raw
 
 abbrev pub input : Reader Input
 input =

@@ -4,6 +4,7 @@ use Rattle.std.specs.List.{flat_map}
 use Rattle.dl_entry.specs.declared.Commit.{Commit}
 use Rattle.dl_entry.specs.declared.Output.{Output}
 use Rattle.dl_entry.specs.declared.Point.{Point}
+use Rattle.spec_kernel.specs.Numbers.{channel_console}
 use Rattle.spec_play.specs.Progress.{position}
 use Rattle.spec_protocol.specs.declared.event.Event.{Event}
 use Rattle.spec_protocol.specs.Machine.{Setup}
@@ -11,9 +12,9 @@ use Rattle.spec_protocol.specs.Serial.{SerialState, serial_start, do_point}
 use Rattle.spec_protocol.specs.Logged.{sphere_in}
 use Rattle.spec_protocol.specs.Promises.{IsSetup, after}
 
--- channel 8 is the console's
+-- what it puts out, if that is on the console's channel
 abbrev pub on_console : Output → List ℕ
-on_console o = if nat_eq o.channel 8 then o.bytes else []
+on_console o = if nat_eq o.channel channel_console then o.bytes else []
 
 -- what these commits put out on it, in their order
 abbrev pub put_out : List Commit → List ℕ

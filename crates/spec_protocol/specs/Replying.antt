@@ -21,11 +21,39 @@ use Rattle.spec_protocol.specs.Promises.{IsSetup, after}
 
 -- the replies of what takes effect
 abbrev pub makes_point : Reply → Bool
+makes_point Reply.Ran = false
+makes_point (Reply.Closed how) = false
+makes_point (Reply.Bounced k) = false
+makes_point Reply.Waiting = false
+makes_point Reply.Idle = false
+makes_point Reply.Stopped = false
+makes_point Reply.NothingRun = false
 makes_point Reply.Granted = true
 makes_point Reply.Piece = true
-makes_point Reply.DmaDone = true
+makes_point Reply.NotClosed = false
+makes_point (Reply.NotTurn actor) = false
+makes_point Reply.WindowFull = false
+makes_point (Reply.Denied k) = false
+makes_point (Reply.SphereBusy k) = false
+makes_point Reply.Drained = false
+makes_point Reply.Clean = false
+makes_point Reply.Delivered = false
+makes_point Reply.Squashed = false
+makes_point Reply.Already = false
+makes_point Reply.Retired = false
+makes_point Reply.NotDone = false
+makes_point Reply.NoCommit = false
+makes_point Reply.Placed = false
+makes_point (Reply.Elsewhere c) = false
+makes_point Reply.NoThread = false
+makes_point Reply.Ended = false
 makes_point Reply.Raised = true
-makes_point _ = false
+makes_point Reply.Masked = false
+makes_point Reply.NoHandler = false
+makes_point Reply.FromLog = false
+makes_point Reply.DmaDone = true
+makes_point Reply.NoDma = false
+makes_point (Reply.Diverged i why) = false
 
 -- a point of that moment, if there is one
 abbrev pub IsAt : (now : ℕ) → Option Point → Type 0

@@ -2,6 +2,7 @@
 use Rattle.std.specs.Prelude.{◌≡◌, ℕ, ◌+◌, ◌%◌, ◌^◌, ◌<◌, ◌≤◌, Bool, true, false, ◌&&◌, nat_le, nat_lt, if◌then◌else◌, List, [], ◌∷◌, length, take, slice_get, slice_index, slice_index_or, All, Option, Some, None}
 use Rattle.dl_entry.specs.declared.Actor.{Actor}
 use Rattle.dl_entry.specs.declared.Request.{Request}
+use Rattle.dl_entry.specs.Numbers.{most_bytes, most_threads}
 use Rattle.spec_isa.specs.declared.thread.Parts.{Parts}
 use Rattle.spec_isa.specs.Words.{Stored, IsBytes}
 use Rattle.spec_isa.specs.Threads.{IsThread}
@@ -99,11 +100,11 @@ image_at s i = slice_index_or s.spheres i no_image
 abbrev pub size_of : Setup → (i : ℕ) → ℕ
 size_of s i = length (image_at s i).memory
 
--- an outstanding request has a buffer of words inside the memory, one word before at most 4,096 bytes
+-- an outstanding request has a buffer of words inside the memory, one word before at most a record's bytes
 pub record IsSoundRequest (size : ℕ) (request : Request) : Type 0 where
   pub aligned : request.buf % 4 ≡ 0
   pub inside : request.buf + 4 + request.len ≤ size
-  pub few : request.len ≤ 4096
+  pub few : request.len ≤ most_bytes
 
 abbrev pub IsSoundIf : (size : ℕ) → Option Request → Type 0
 IsSoundIf size None = Unit {0}
@@ -206,14 +207,14 @@ pub record IsSoundThread (commits : ℕ) (t : Parts) : Type 0 where
   pub thread : IsThread t
   pub few : t.commits ≤ commits
 
--- a sphere that began as the image, after so many events: its memory has the image's length, it has 1 to 15 threads, and
--- no more commits than there were events
+-- a sphere that began as the image, after so many events: its memory has the image's length, it has a thread at
+-- least and no more than it may, and no more commits than there were events
 pub record IsSoundSphere (s : ℕ) (image : SphereSetup) (events : ℕ) (p : Sphere) : Type 0 where
   pub size : length p.memory ≡ length image.memory
   pub bytes : IsBytes p.memory
   pub request : IsSoundIf (length image.memory) p.progress.request
   pub some : 1 ≤ length p.threads
-  pub few : length p.threads ≤ 15
+  pub few : length p.threads ≤ most_threads
   pub threads : (k : ℕ) (t : Parts)
       → slice_get p.threads k ≡ Some t
       → IsSoundThread (position p.progress) t

@@ -38,8 +38,13 @@ ReplaysArePlays =
 -- the reasons that come between two commits: no live thread has the turn, or something of the log is left over
 abbrev pub is_between : Why → Bool
 is_between Why.NoThread = true
+is_between (Why.Short size run) = false
+is_between Why.NotSerial = false
+is_between Why.Input = false
+is_between Why.Interrupt = false
+is_between Why.Dma = false
+is_between (Why.SizeOfSerial size) = false
 is_between Why.LeftOver = true
-is_between _ = false
 
 -- complete, or diverged between two commits and not within one
 abbrev pub ends_between : End → Bool

@@ -17,7 +17,7 @@ use Rattle.spec_protocol.specs.Asking.{CommitRequest, move_at, granted, chunk_re
 use Rattle.spec_protocol.specs.Transferring.{dma_move, dma_done, transfer, dma_with, dma_if, not_of_dma, turn_before_dma, transferring}
 use Rattle.spec_protocol.specs.Machine.{Setup}
 use Rattle.spec_protocol.specs.Finishing.{standing}
-use Rattle.spec_finishing.specs.Ending.{is_done}
+use Rattle.spec_finishing.specs.Ending.{furthers_finishing}
 use Rattle.spec_finishing.proofs.Paying.Moves.{what_more}
 use Rattle.spec_finishing.proofs.Next.Turns.{no-flight, HasActor}
 use Rattle.spec_finishing.proofs.Next.UnderWay.{OnCore}
@@ -25,7 +25,7 @@ use Rattle.spec_finishing.proofs.Next.StepRises.{none_found}
 
 -- the event is done, and has a move in sphere i, which pays for n events and three
 pub record Commits (i n : ℕ) (a : After) : Type 0 where
-  pub done : is_done a.reply ≡ true
+  pub done : furthers_finishing a.reply ≡ true
   pub move : Move
   pub is : a.move ≡ Some move
   pub sphere : move.sphere ≡ i

@@ -19,7 +19,7 @@ use Rattle.spec_protocol.specs.Machine.{Setup}
 use Rattle.spec_protocol.specs.Finishing.{standing}
 use Rattle.spec_protocol.proofs.Memory.Slots.{at-set_same, at-set_other, at_within}
 use Rattle.spec_finishing.specs.Rank.{held_under_way}
-use Rattle.spec_finishing.specs.Ending.{is_done}
+use Rattle.spec_finishing.specs.Ending.{furthers_finishing}
 use Rattle.spec_finishing.proofs.Paying.Runs.{run-status}
 use Rattle.spec_finishing.proofs.Paying.GoingOn.{play_of, has-run, thread-now}
 use Rattle.spec_finishing.proofs.Next.Turns.{no-flight, HasActor, turn-of}
@@ -51,7 +51,7 @@ runs_it i k h sphere thread = and_from (eqb h.chunk.sphere i) (eqb h.thread k) (
 
 -- the event is done, changes core c alone, which runs the thread then, and more is under way
 pub record Rose (w : World) (i k : ℕ) (a : After) : Type 0 where
-  pub done : is_done a.reply ≡ true
+  pub done : furthers_finishing a.reply ≡ true
   pub core : ℕ
   pub held : Held
   pub is : a.world ≡ with_core w core (Some held)

@@ -22,7 +22,7 @@ use Rattle.spec_protocol.proofs.Memory.Slots.{at_within}
 use Rattle.spec_protocol.proofs.Invariants.Cores.{branch}
 use Rattle.spec_protocol.proofs.Invariants.Schedules.{happens-preserved}
 use Rattle.spec_finishing.specs.Rank.{spheres_rank, potential, held_under_way, core_under_way, actor_under_way, under_way, rank}
-use Rattle.spec_finishing.specs.Ending.{is_done, OfReplay}
+use Rattle.spec_finishing.specs.Ending.{furthers_finishing, OfReplay}
 use Rattle.spec_finishing.proofs.Next.Flights.{FlightFalls, drain-falls, deliver-falls, untold-core, retire-falls}
 use Rattle.spec_finishing.proofs.Left.Rows.{spheres-shown}
 use Rattle.spec_finishing.proofs.Ending.Knowing.{Known}
@@ -34,7 +34,7 @@ use Rattle.spec_finishing.proofs.Next.Cores.{Rose, place-rose}
 
 -- the event is done, less is left after it, and what it does is of a replay
 pub record Lowers (s : Setup) (w : World) (e : Event) : Type 0 where
-  pub done : is_done (happens w e).reply ≡ true
+  pub done : furthers_finishing (happens w e).reply ≡ true
   pub less : rank s (happens w e).world < rank s w
   pub alone : OfReplay w (happens w e).move
 
@@ -142,7 +142,7 @@ rose_falls s w who k e known next_known none is thread r no_move more =
     let now = ap under_way (world_happens w e) ∙ rose_under_way w who k (act w e) none is thread r in
     let same = ap (potential s) (world_happens w e) ∙ rose_potential s w who.sphere k (act w e) r in
     let most = under_way-most s (happens w e).world next_known in
-    record { done = ap is_done (reply_happens w e) ∙ r.done; less = omega (arith, now, same, most, more); alone = nothing_alone w e no_move }
+    record { done = ap furthers_finishing (reply_happens w e) ∙ r.done; less = omega (arith, now, same, most, more); alone = nothing_alone w e no_move }
 
 elsewhere_move : (w : World) (a : After) (o : Option ℕ) → a.move ≡ None → (unless_elsewhere o w a).move ≡ None
 elsewhere_move w a None e = e

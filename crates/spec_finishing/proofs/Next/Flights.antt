@@ -12,13 +12,13 @@ use Rattle.spec_protocol.specs.Flying.{drain_slot, draining, reads_of, writes_of
 use Rattle.spec_protocol.specs.Finishing.{untold}
 use Rattle.spec_protocol.proofs.Memory.Slots.{at_within}
 use Rattle.spec_finishing.specs.Rank.{flight_rank, flights_rank}
-use Rattle.spec_finishing.specs.Ending.{is_done as is_good}
+use Rattle.spec_finishing.specs.Ending.{furthers_finishing}
 use Rattle.spec_finishing.proofs.Left.Slots.{flights-set, untold-tell}
 use Rattle.spec_finishing.proofs.Left.Flying.{told_world}
 
 -- the event is done, and the flights have less left
 pub record FlightFalls (c : ℕ) (w : World) (a : After) : Type 0 where
-  pub done : is_good a.reply ≡ true
+  pub done : furthers_finishing a.reply ≡ true
   pub less : flights_rank c a.world.slots < flights_rank c w.slots
 
 set_less : (c : ℕ) (xs : List (Option Flight)) (k : ℕ) (f : Flight) (v : Option Flight) → at xs k ≡ Some f → flight_rank c v < flight_rank c (Some f) → flights_rank c (set xs k v) < flights_rank c xs
@@ -51,7 +51,7 @@ untold_some : (c n d t : ℕ) → untold c n t ≡ Some d → (d < c + n) × (to
 untold_some c zero d t e = absurd (none-some d e)
 untold_some c (suc n) d t e = untold_if (told_at t c) c n d t refl e (untold_some (suc c) n d t)
 
-told_reply : (w : World) (d : ℕ) (held : Option Held) (b : Bool) → is_good (told w d held (cond b Deliver.Squashed Deliver.Delivered)).reply ≡ true
+told_reply : (w : World) (d : ℕ) (held : Option Held) (b : Bool) → furthers_finishing (told w d held (cond b Deliver.Squashed Deliver.Delivered)).reply ≡ true
 told_reply w d held true = refl
 told_reply w d held false = refl
 

@@ -11,12 +11,12 @@ use Rattle.spec_engine.specs.Chunks.{Chunk, Stepping, closes, marked, ran, at_li
 use Rattle.spec_engine.proofs.Choosing.{keep_option, keep_choose}
 use Rattle.spec_engine.proofs.Searches.{first_some}
 use Rattle.spec_protocol.specs.Stepping.{reply_of_step}
-use Rattle.spec_finishing.specs.Ending.{is_done}
+use Rattle.spec_finishing.specs.Ending.{furthers_finishing}
 
 -- the chunk, which had run n instructions, has run one more or is closed
 pub record Rises (i n : ℕ) (s : Stepping) : Type 0 where
   pub sphere : s.chunk.sphere ≡ i
-  pub done : is_done (reply_of_step s.reply) ≡ true
+  pub done : furthers_finishing (reply_of_step s.reply) ≡ true
   pub more : n < s.chunk.done.n + cond (is_open s.chunk) 0 1
 
 -- where every slot is free, none is found

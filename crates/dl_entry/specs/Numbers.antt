@@ -1,0 +1,44 @@
+-- The numbers of records and logs that stand for something: kinds of records, the code of a DMA, and limits.
+use Rattle.std.specs.Prelude.{ℕ}
+
+-- ---- kinds of records
+
+-- of an outside call the kind is the call's number
+abbrev pub kind_write : ℕ
+kind_write = 2
+
+abbrev pub kind_read : ℕ
+kind_read = 3
+
+abbrev pub kind_random : ℕ
+kind_random = 4
+
+abbrev pub kind_clock : ℕ
+kind_clock = 5
+
+-- of a load of a device word: the moment, and the next byte of the input
+abbrev pub kind_moment : ℕ
+kind_moment = 16
+
+abbrev pub kind_input : ℕ
+kind_input = 17
+
+-- ---- limits
+
+-- the bytes of a record
+abbrev pub most_bytes : ℕ
+most_bytes = 4096
+
+-- the threads of a sphere
+abbrev pub most_threads : ℕ
+most_threads = 15
+
+-- the number of the last of them
+abbrev pub greatest_thread : ℕ
+greatest_thread = 14
+
+-- ---- actors
+
+-- a DMA's code, where a thread has its number
+abbrev pub dma_code : ℕ
+dma_code = 15
