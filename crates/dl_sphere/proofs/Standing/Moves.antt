@@ -87,7 +87,8 @@ module _ (p q : Sphere) (k : ℕ) (t u : Parts) (made : List Parts) (c : Commit)
   keeping-after s early o Plain live h = few-after h
   keeping-after s early o (Replaying r loads) live h = absurd live
   keeping-after s early o (Recording r) live h =
-      let has : HasCommitted k early p q (as_log r) (as_log (with_commit c early o None r)) t u made c o =
+      let commit : ThreadCommit = record { thread = k; before = t; after = u; spawned = made; commit = c; short = early; input = o } in
+      let has : HasCommitted commit p q (as_log r) (as_log (with_commit c early o None r)) =
       record {
         start = d.start;
         threads = d.threads;
