@@ -5,3 +5,4 @@ pub mod Verdicts
 pub mod Transfers
 pub mod Moves
 pub mod All
+pub mod Sizes

@@ -19,8 +19,8 @@ use Rattle.spec_protocol.specs.Machine.{Setup}
 use Rattle.spec_protocol.specs.Finishing.{standing}
 use Rattle.spec_protocol.proofs.Memory.Slots.{at-set_same, at-set_other, at_within}
 use Rattle.spec_finishing.specs.Rank.{held_under_way}
+use Rattle.spec_protocol.proofs.Moves.Threads.{run-status}
 use Rattle.spec_finishing.specs.Ending.{furthers_finishing}
-use Rattle.spec_finishing.proofs.Paying.Runs.{run-status}
 use Rattle.spec_finishing.proofs.Paying.GoingOn.{play_of, has-run, thread-now}
 use Rattle.spec_finishing.proofs.Next.Turns.{no-flight, HasActor, turn-of}
 use Rattle.spec_finishing.proofs.Next.UnderWay.{OnCore}

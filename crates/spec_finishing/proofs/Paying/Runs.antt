@@ -2,12 +2,9 @@
 use Rattle.std.proofs.Common.{◌≡◌, ℕ, zero, suc, ◌+◌, ◌≤◌, inl, inr, Option, Some, None, refl, sym, ap, ◌∙◌, subst, arith, List}
 use Rattle.std.proofs.lemmas.Bool.{cases_lt}
 use Rattle.spec_isa.specs.declared.thread.Parts.{Parts}
-use Rattle.spec_isa.specs.declared.thread.Load.{Load}
 use Rattle.spec_isa.specs.declared.thread.Kind.{Kind}
-use Rattle.spec_isa.specs.declared.operation.Operation.{Operation}
-use Rattle.spec_isa.specs.Operations.{thread_then}
 use Rattle.spec_isa.specs.Words.{Stored, lays, lay, Apart}
-use Rattle.spec_isa.specs.Instruction.{InstructionOutcome, Next, Serial, one, unless, operation_of, next_of}
+use Rattle.spec_isa.specs.Instruction.{InstructionOutcome, Next, Serial, one}
 use Rattle.spec_isa.specs.Runs.{Run, run_start, with_store, followed, more, run}
 use Rattle.spec_isa.proofs.BufferLaws.{lays_put}
 use Rattle.spec_kernel.specs.Needs.{next_kind, fetched}
@@ -96,35 +93,3 @@ pub run-serial : (m : List ℕ) (t : Parts) (kind : Kind) (n : ℕ) → next_kin
 run-serial m t kind zero e = refl
 run-serial m t kind (suc n) e =
     ap (more m) (run-serial m t kind n e) ∙ ap (followed (run_start t)) (one_is_serial t m kind e)
-
--- ---- the thread stays live
-
-operation_status : (p : Operation) (t : Parts) (w : ℕ) → (thread_then p t w).status ≡ t.status
-operation_status (Operation.Go rd value pc) t w = refl
-operation_status (Operation.Stop kind) t w = refl
-operation_status (Operation.Load op rd a) t w = refl
-operation_status (Operation.Store op a v) t w = refl
-operation_status (Operation.LoadReserved rd a) t w = refl
-operation_status (Operation.StoreConditional rd a v) t w = refl
-operation_status (Operation.Amo op rd a v) t w = refl
-
-next_status : (t : Parts) (f w : ℕ) → (next_of t f w).status ≡ t.status
-unfolding next_of
-next_status t f w = operation_status (operation_of t f) t w
-
-unless_status : (t : Parts) (o : Option Kind) (next u : Parts) (made load : Option Load) (put_ store : Option Stored) → next.status ≡ t.status → unless o (Next next made put_) ≡ Next u load store → u.status ≡ t.status
-unless_status t None next u made load put_ store s e = let h : next ≡ u = cc in ap (λ (p : Parts). p.status) (sym h) ∙ s
-unless_status t (Some kind) next u made load put_ store s e = cc
-
-one_status : (t : Parts) (m : List ℕ) (u : Parts) (load : Option Load) (store : Option Stored) → one t m ≡ Next u load store → u.status ≡ t.status
-unfolding one
-one_status t m u load store e = unless_status t _ _ u _ load _ store (next_status t _ _) e
-
-followed_status : (r : Run) (m : List ℕ) (o : InstructionOutcome) → one r.thread m ≡ o → (followed r o).thread.status ≡ r.thread.status
-followed_status r m (Serial kind) e = refl
-followed_status r m (Next u load store) e = one_status r.thread m u load store e
-
--- an instruction ends no thread
-pub run-status : (m : List ℕ) (t : Parts) (n : ℕ) → (run m t n).thread.status ≡ t.status
-run-status m t zero = refl
-run-status m t (suc n) = followed_status (run m t n) (lays m (run m t n).words) _ refl ∙ run-status m t n

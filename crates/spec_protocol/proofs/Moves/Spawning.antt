@@ -1,16 +1,17 @@
 -- A sphere has at most 15 threads: no step spawns a sixteenth.
 use Rattle.std.proofs.Common.{◌≡◌, ℕ, ◌+◌, ◌≤◌, Bool, true, false, ◌&&◌, eqb, cond, List, [], ◌∷◌, length, Option, Some, None, refl, arith}
-use Rattle.std.specs.Prelude.{slice_get, nat_lt, ◌%◌}
+use Rattle.std.specs.Prelude.{nat_lt, ◌%◌}
 use Rattle.std.proofs.lemmas.Bool.{and_parts, ltb-true}
 use Rattle.dl_entry.specs.declared.Input.{Input}
 use Rattle.dl_entry.specs.declared.Request.{Request}
 use Rattle.spec_isa.specs.declared.thread.Parts.{Parts}
 use Rattle.spec_isa.specs.declared.thread.Kind.{Kind}
 use Rattle.spec_isa.specs.declared.operation.Operation.{Operation}
-use Rattle.spec_kernel.specs.Needs.{Need, number_of, a0, a1, a2, cut, need}
-use Rattle.spec_kernel.specs.Answers.{refused, unknown_call, bad_buffer}
-use Rattle.spec_kernel.specs.Calls.{Called, gives, exit, spawned, spawn, set_handler, iret, is_dma_buffer, request_dma, has_ended, called, with_result, returned}
+use Rattle.spec_kernel.specs.Needs.{Need, a0, a1, a2, cut, need}
+use Rattle.spec_kernel.specs.Answers.{refused, bad_buffer}
+use Rattle.spec_kernel.specs.Calls.{Called, gives, spawned, spawn, set_handler, iret, is_dma_buffer, request_dma, called, with_result, returned}
 use Rattle.spec_kernel.specs.Serving.{StepResult, outside_called, is_outside, inside_called, device_loaded, device_stored, serve_kind, serve}
+use Rattle.spec_protocol.proofs.Moves.Threads.{any-call}
 use Rattle.spec_protocol.proofs.Moves.Granted.{either_serve}
 
 -- with the threads that were spawned there are at most 15
@@ -50,25 +51,9 @@ dma_few ts size None t few =
 dma_few ts size (Some request) t few = none_few ts few
 
 called_few : (size k : ℕ) (ts : List Parts) (request : Option Request) (t : Parts) → length ts ≤ 15 → CallFew ts (called size k ts request t)
-unfolding called
 called_few size k ts request t few =
-    let n = number_of t in
     let none : AreFew ts [] = none_few ts few in
-    let c11 = cond (eqb n 11) (gives request t (has_ended (slice_get ts (a0 t)))) (gives request t unknown_call) in
-    let c10 = cond (eqb n 10) (gives request t 0) c11 in
-    let c9 = cond (eqb n 9) (gives request t k) c10 in
-    let c8 = cond (eqb n 8) (request_dma size request t) c9 in
-    let c7 = cond (eqb n 7) (iret request t) c8 in
-    let c6 = cond (eqb n 6) (set_handler request t) c7 in
-    let c1 = cond (eqb n 1) (spawn ts request t) c6 in
-    let k11 : CallFew ts c11 = either (CallFew ts) (eqb n 11) (gives request t (has_ended (slice_get ts (a0 t)))) (gives request t unknown_call) (λ e. none) none in
-    let k10 : CallFew ts c10 = either (CallFew ts) (eqb n 10) (gives request t 0) c11 (λ e. none) k11 in
-    let k9 : CallFew ts c9 = either (CallFew ts) (eqb n 9) (gives request t k) c10 (λ e. none) k10 in
-    let k8 : CallFew ts c8 = either (CallFew ts) (eqb n 8) (request_dma size request t) c9 (λ e. dma_few ts size request t few) k9 in
-    let k7 : CallFew ts c7 = either (CallFew ts) (eqb n 7) (iret request t) c8 (λ e. iret_few ts request t few) k8 in
-    let k6 : CallFew ts c6 = either (CallFew ts) (eqb n 6) (set_handler request t) c7 (λ e. handler_few ts request t few) k7 in
-    let k1 : CallFew ts c1 = either (CallFew ts) (eqb n 1) (spawn ts request t) c6 (λ e. spawn_few ts request t few) k6 in
-    either (CallFew ts) (eqb n 0) (exit request t) c1 (λ e. none) k1
+    any-call (CallFew ts) size k ts request t (λ m. none) none (spawn_few ts request t few) (handler_few ts request t few) (iret_few ts request t few) (dma_few ts size request t few)
 
 -- ---- serial steps
 

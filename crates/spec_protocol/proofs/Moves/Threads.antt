@@ -1,5 +1,5 @@
--- What instructions and serial steps keep of a thread: the number of its commits. What a serial step spawns is new.
-use Rattle.std.proofs.Common.{◌≡◌, ℕ, zero, suc, Bool, true, false, ◌&&◌, eqb, cond, List, [], ◌∷◌, length, Option, Some, None, refl, sym, ap, ◌∙◌}
+-- What instructions and serial steps keep of a thread: the number of its commits, and instructions its status. What a serial step spawns is new.
+use Rattle.std.proofs.Common.{◌≡◌, ℕ, zero, suc, Bool, true, false, ◌&&◌, eqb, cond, List, [], ◌∷◌, length, Option, Some, None, refl, ap, ◌∙◌, subst}
 use Rattle.std.specs.Prelude.{slice_get, nat_lt, ◌%◌}
 use Rattle.dl_entry.specs.declared.Input.{Input}
 use Rattle.dl_entry.specs.declared.Request.{Request}
@@ -15,40 +15,56 @@ use Rattle.spec_kernel.specs.Needs.{Need, number_of, a0, a1, a2, cut, need}
 use Rattle.spec_kernel.specs.Answers.{refused, unknown_call, bad_buffer}
 use Rattle.spec_kernel.specs.Calls.{Called, gives, exit, spawned, spawn, set_handler, iret, is_dma_buffer, request_dma, has_ended, called, with_result, returned}
 use Rattle.spec_kernel.specs.Serving.{StepResult, outside_called, is_outside, inside_called, device_loaded, device_stored, serve_kind, serve}
+use Rattle.spec_protocol.proofs.Moves.AnyEvent.{branch}
 use Rattle.spec_protocol.proofs.Moves.Granted.{either_serve}
 
 -- ---- instructions
 
-pub operation_keeps : (p : Operation) (t : Parts) (w : ℕ) → (thread_then p t w).commits ≡ t.commits
-operation_keeps (Operation.Go rd value pc) t w = refl
-operation_keeps (Operation.Stop kind) t w = refl
-operation_keeps (Operation.Load op rd a) t w = refl
-operation_keeps (Operation.Store op a v) t w = refl
-operation_keeps (Operation.LoadReserved rd a) t w = refl
-operation_keeps (Operation.StoreConditional rd a v) t w = refl
-operation_keeps (Operation.Amo op rd a v) t w = refl
+-- what no instruction touches
+pub record Kept (t u : Parts) : Type 0 where
+  pub commits : u.commits ≡ t.commits
+  pub status : u.status ≡ t.status
 
--- an instruction keeps its thread's number of commits
-pub next_keeps : (t : Parts) (f w : ℕ) → (next_of t f w).commits ≡ t.commits
+operation_kept : (p : Operation) (t : Parts) (w : ℕ) → Kept t (thread_then p t w)
+operation_kept (Operation.Go rd value pc) t w = record { commits = refl; status = refl }
+operation_kept (Operation.Stop kind) t w = record { commits = refl; status = refl }
+operation_kept (Operation.Load op rd a) t w = record { commits = refl; status = refl }
+operation_kept (Operation.Store op a v) t w = record { commits = refl; status = refl }
+operation_kept (Operation.LoadReserved rd a) t w = record { commits = refl; status = refl }
+operation_kept (Operation.StoreConditional rd a v) t w = record { commits = refl; status = refl }
+operation_kept (Operation.Amo op rd a v) t w = record { commits = refl; status = refl }
+
+-- an instruction keeps its thread's number of commits, and its status
+pub next-kept : (t : Parts) (f w : ℕ) → Kept t (next_of t f w)
 unfolding next_of
-next_keeps t f w = operation_keeps (operation_of t f) t w
+next-kept t f w = operation_kept (operation_of t f) t w
 
-unless_keeps : (t : Parts) (o : Option Kind) (next u : Parts) (made load : Option Load) (put_ store : Option Stored) → next.commits ≡ t.commits → unless o (Next next made put_) ≡ Next u load store → u.commits ≡ t.commits
-unless_keeps t None next u made load put_ store s e = let h : next ≡ u = cc in ap (λ (p : Parts). p.commits) (sym h) ∙ s
-unless_keeps t (Some kind) next u made load put_ store s e = cc
+unless_kept : (t : Parts) (o : Option Kind) (next u : Parts) (made load : Option Load) (put_ store : Option Stored) → Kept t next → unless o (Next next made put_) ≡ Next u load store → Kept t u
+unless_kept t None next u made load put_ store s e = let h : next ≡ u = cc in subst (Kept t) h s
+unless_kept t (Some kind) next u made load put_ store s e = cc
 
-one_keeps : (t : Parts) (m : List ℕ) (u : Parts) (load : Option Load) (store : Option Stored) → one t m ≡ Next u load store → u.commits ≡ t.commits
+one_kept : (t : Parts) (m : List ℕ) (u : Parts) (load : Option Load) (store : Option Stored) → one t m ≡ Next u load store → Kept t u
 unfolding one
-one_keeps t m u load store e = unless_keeps t _ _ u _ load _ store (next_keeps t _ _) e
+one_kept t m u load store e = unless_kept t _ _ u _ load _ store (next-kept t _ _) e
 
-followed_keeps : (r : Run) (m : List ℕ) (o : InstructionOutcome) → one r.thread m ≡ o → (followed r o).thread.commits ≡ r.thread.commits
-followed_keeps r m (Serial kind) e = refl
-followed_keeps r m (Next u load store) e = one_keeps r.thread m u load store e
+followed_kept : (r : Run) (m : List ℕ) (o : InstructionOutcome) → one r.thread m ≡ o → Kept r.thread (followed r o).thread
+followed_kept r m (Serial kind) e = record { commits = refl; status = refl }
+followed_kept r m (Next u load store) e = one_kept r.thread m u load store e
+
+run_kept : (m : List ℕ) (t : Parts) (n : ℕ) → Kept t (run m t n).thread
+run_kept m t zero = record { commits = refl; status = refl }
+run_kept m t (suc n) =
+    let last = followed_kept (run m t n) (lays m (run m t n).words) _ refl in
+    let past = run_kept m t n in
+    record { commits = last.commits ∙ past.commits; status = last.status ∙ past.status }
 
 -- a run keeps its thread's number of commits
 pub run-keeps : (m : List ℕ) (t : Parts) (n : ℕ) → (run m t n).thread.commits ≡ t.commits
-run-keeps m t zero = refl
-run-keeps m t (suc n) = followed_keeps (run m t n) (lays m (run m t n).words) _ refl ∙ run-keeps m t n
+run-keeps m t n = (run_kept m t n).commits
+
+-- a run ends no thread
+pub run-status : (m : List ℕ) (t : Parts) (n : ℕ) → (run m t n).thread.status ≡ t.status
+run-status m t n = (run_kept m t n).status
 
 -- ---- calls
 
@@ -101,9 +117,11 @@ dma_keeps size None t =
     either_call (CallKeeps t) (is_dma_buffer size (a0 t) (cut (a1 t))) (gives q t 0) (gives None t bad_buffer) (gives_keeps q t 0) (gives_keeps None t bad_buffer)
 dma_keeps size (Some request) t = record { commits = refl; fresh = tt }
 
-called_keeps : (size k : ℕ) (ts : List Parts) (request : Option Request) (t : Parts) → CallKeeps t (called size k ts request t)
+-- what holds of an answer alone, and of each call that does more, holds of the call that a thread makes
+pub any-call : (Q : Called → Type 0) (size k : ℕ) (ts : List Parts) (request : Option Request) (t : Parts) → ((m : ℕ) → Q (gives request t m)) → Q (exit request t) → Q (spawn ts request t) → Q (set_handler request t) → Q (iret request t) → Q (request_dma size request t)
+    → Q (called size k ts request t)
 unfolding called
-called_keeps size k ts request t =
+any-call Q size k ts request t answers exits spawns handles returns asks =
     let n = number_of t in
     let c11 = cond (eqb n 11) (gives request t (has_ended (slice_get ts (a0 t)))) (gives request t unknown_call) in
     let c10 = cond (eqb n 10) (gives request t 0) c11 in
@@ -112,14 +130,19 @@ called_keeps size k ts request t =
     let c7 = cond (eqb n 7) (iret request t) c8 in
     let c6 = cond (eqb n 6) (set_handler request t) c7 in
     let c1 = cond (eqb n 1) (spawn ts request t) c6 in
-    let k11 : CallKeeps t c11 = either_call (CallKeeps t) (eqb n 11) (gives request t (has_ended (slice_get ts (a0 t)))) (gives request t unknown_call) (gives_keeps request t _) (gives_keeps request t unknown_call) in
-    let k10 : CallKeeps t c10 = either_call (CallKeeps t) (eqb n 10) (gives request t 0) c11 (gives_keeps request t 0) k11 in
-    let k9 : CallKeeps t c9 = either_call (CallKeeps t) (eqb n 9) (gives request t k) c10 (gives_keeps request t k) k10 in
-    let k8 : CallKeeps t c8 = either_call (CallKeeps t) (eqb n 8) (request_dma size request t) c9 (dma_keeps size request t) k9 in
-    let k7 : CallKeeps t c7 = either_call (CallKeeps t) (eqb n 7) (iret request t) c8 (iret_keeps request t) k8 in
-    let k6 : CallKeeps t c6 = either_call (CallKeeps t) (eqb n 6) (set_handler request t) c7 (handler_keeps request t) k7 in
-    let k1 : CallKeeps t c1 = either_call (CallKeeps t) (eqb n 1) (spawn ts request t) c6 (spawn_keeps ts request t) k6 in
-    either_call (CallKeeps t) (eqb n 0) (exit request t) c1 (record { commits = refl; fresh = tt }) k1
+    branch Q (eqb n 0) (exit request t) c1 (λ _. exits)
+    (λ _. branch Q (eqb n 1) (spawn ts request t) c6 (λ _. spawns)
+    (λ _. branch Q (eqb n 6) (set_handler request t) c7 (λ _. handles)
+    (λ _. branch Q (eqb n 7) (iret request t) c8 (λ _. returns)
+    (λ _. branch Q (eqb n 8) (request_dma size request t) c9 (λ _. asks)
+    (λ _. branch Q (eqb n 9) (gives request t k) c10 (λ _. answers k)
+    (λ _. branch Q (eqb n 10) (gives request t 0) c11 (λ _. answers 0)
+    (λ _. branch Q (eqb n 11) (gives request t (has_ended (slice_get ts (a0 t)))) (gives request t unknown_call) (λ _. answers _)
+    (λ _. answers unknown_call))))))))
+
+called_keeps : (size k : ℕ) (ts : List Parts) (request : Option Request) (t : Parts) → CallKeeps t (called size k ts request t)
+called_keeps size k ts request t =
+    any-call (CallKeeps t) size k ts request t (gives_keeps request t) (record { commits = refl; fresh = tt }) (spawn_keeps ts request t) (handler_keeps request t) (iret_keeps request t) (dma_keeps size request t)
 
 -- ---- serial steps
 

@@ -1,5 +1,5 @@
 -- The play of a recorded log follows a commit of a thread.
-use Rattle.std.proofs.Common.{◌≡◌, ℕ, ◌+◌, inl, inr, true, List, ◌++◌, length, Option, Some, None, refl, sym, ap, ◌∙◌, arith, set, ◌<◌, subst, false, map}
+use Rattle.std.proofs.Common.{◌≡◌, ℕ, ◌+◌, ◌⊎◌, inl, inr, true, List, ◌++◌, length, Option, Some, None, refl, sym, ap, ◌∙◌, arith, set, ◌<◌, subst, false, map}
 use Rattle.std.specs.Prelude.{slice_get}
 use Rattle.std.proofs.Math.ListN.{length-set}
 use Rattle.std.proofs.lemmas.Bool.{true≢false, cases_eq}
@@ -14,7 +14,10 @@ use Rattle.spec_play.specs.Verdicts.{Goes, interrupt_at, with_interrupted}
 use Rattle.spec_play.specs.Plays.{Played, settled, play_thread, play_now, play_one}
 use Rattle.spec_protocol.specs.Spheres.{Sphere}
 use Rattle.spec_protocol.proofs.Moves.Granted.{get-set_other, get-set_same, get-append}
-use Rattle.spec_protocol.proofs.Logs.Growing.{Stands, Ahead, ThreadCommit, HasCommitted, has_committed-parts, get_cases, new_is, grows_of, set_none, Behind}
+use Rattle.spec_protocol.proofs.Logs.Growing.{Stands, Ahead, ThreadCommit, HasCommitted, has_committed-parts, get_cases, new_is, grows_of, set_none, SizesAhead, Behind}
+use Rattle.spec_protocol.proofs.PlayingBack.Verdicts.{size-says}
+use Rattle.spec_log.specs.declared.Sizes.{Sizes}
+use Rattle.spec_log.specs.Size.{thread_size}
 use Rattle.spec_protocol.proofs.PlayingBack.Following.{early_by, early, pending_by, pending, early_same, pending_same, sum_from, sum-set, sum-append, Follows, get_past, new_takes_none, early_effect, early_used, same-flags, turn-at, named, Effects, goes_so}
 use Rattle.spec_protocol.proofs.Moves.Threads.{IsNew}
 use Rattle.spec_play.specs.Turns.{Turn, next_actor}
@@ -82,6 +85,13 @@ module _ (L : LogParts) (c : ThreadCommit) (p q : Sphere) (log qlog : LogParts) 
         ];
         there = there;
       }
+
+  -- the log has the size of the commit, or it has none and the commit wasn't short
+  pub commit-size : (thread_size L.order L.sizes c.thread c.before.commits ≡ Some c.commit.size) ⊎ ((thread_size L.order L.sizes c.thread c.before.commits ≡ None) × (c.short ≡ false))
+  commit-size =
+      let n = has_committed-parts c p q log qlog d in
+      size-says L.order log.order c.thread c.commit.size (position p.progress) p.threads q.threads c.before (grows_of c p q log qlog d) log.mode L.sizes log.sizes c.short sp.order sp.sizes (subst (Behind L.order) n.order aq.order)
+      (subst (λ (z : Sizes). SizesAhead L.sizes z q.threads) n.sizes aq.sizes)
 
   -- ---- after the commit
 

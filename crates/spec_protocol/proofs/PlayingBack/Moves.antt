@@ -1,5 +1,5 @@
 -- What each move makes of a recorded sphere and of its log; and that the play of the log, in the end, follows it.
-use Rattle.std.proofs.Common.{◌≡◌, ℕ, zero, suc, ◌+◌, ◌<◌, ◌≤◌, inl, inr, Bool, true, false, not, eqb, cond, List, [], ◌∷◌, ◌++◌, length, map, Option, Some, None, refl, sym, ap, ◌∙◌, subst, arith}
+use Rattle.std.proofs.Common.{◌≡◌, ℕ, zero, suc, ◌+◌, ◌<◌, ◌≤◌, inl, inr, Bool, true, false, not, eqb, cond, List, [], ◌∷◌, length, map, Option, Some, None, refl, sym, ap, ◌∙◌, subst, arith}
 use Rattle.std.specs.Prelude.{slice_get, nat_lt, option_map}
 use Rattle.std.specs.Option.{option_or}
 use Rattle.std.proofs.lemmas.Bool.{true≢false, cases_eq, eqb-true, lt-ltb, cases_lt}
@@ -32,11 +32,11 @@ use Rattle.spec_protocol.specs.Serial.{laid}
 use Rattle.spec_protocol.specs.Moves.{ChunkFits, SerialFits}
 use Rattle.spec_protocol.proofs.Moves.Threads.{run-keeps, serve-keeps}
 use Rattle.spec_protocol.proofs.Moves.Answering.{dma-most}
-use Rattle.spec_protocol.proofs.Logs.Growing.{Stands, Ahead, ThreadCommit, commit_of, HasCommitted, has_committed-parts, grows_of, has_committed-stands, SizesAhead}
+use Rattle.spec_protocol.proofs.Logs.Growing.{Stands, Ahead, ThreadCommit, commit_of, HasCommitted, has_committed-parts, has_committed-stands}
 use Rattle.spec_protocol.proofs.Logs.Coming.{has_committed-ahead, Transferred, transferred-stands, transferred-ahead, WasRaised, raised-stands, raised-ahead}
 use Rattle.spec_protocol.proofs.PlayingBack.Following.{Follows, Effects, look-alike}
-use Rattle.spec_protocol.proofs.PlayingBack.Commits.{commit-follows}
-use Rattle.spec_protocol.proofs.PlayingBack.Verdicts.{run-stops, size-says, chunk-goes, serial-goes}
+use Rattle.spec_protocol.proofs.PlayingBack.Commits.{commit-size, commit-follows}
+use Rattle.spec_protocol.proofs.PlayingBack.Verdicts.{run-stops, chunk-goes, serial-goes}
 use Rattle.spec_protocol.proofs.PlayingBack.Transfers.{transferred-follows, raised-follows}
 use Rattle.std.specs.List.{prefix_len}
 
@@ -170,10 +170,12 @@ abbrev chunk_log : Numbers → LogParts → Sphere → ℕ → Parts → How →
 chunk_log z log p k t how n limit =
     let r = run p.memory t n in noted (chunk_effect k p.progress.request r).commit r.thread.commits (is_short z.chunk how limit) log
 
-chunk_committed : (z : Numbers) (log : LogParts) (p : Sphere) (k : ℕ) (t : Parts) (how : How) (n limit : ℕ) (devices : Devices) → slice_get p.threads k ≡ Some t
-    → let e = chunk_effect k p.progress.request (run p.memory t n) in
-    HasCommitted (commit_of k (is_short z.chunk how limit) t e None) p (laid (recorded_chunk z log p k t how n limit devices)) log (chunk_log z log p k t how n limit)
-chunk_committed z log p k t how n limit devices is =
+-- a recorded chunk is a commit of its thread
+pub chunk-committed : (log : LogParts) (p : Sphere) (k : ℕ) (t : Parts) (piece short : Bool) (n : ℕ) (devices : Devices) → slice_get p.threads k ≡ Some t
+    → let r = run p.memory t n in
+    let e = chunk_effect k p.progress.request r in
+    HasCommitted (commit_of k short t e None) p (laid (chunk_in (Record log) k piece short r devices p)) log (noted e.commit r.thread.commits short log)
+chunk-committed log p k t piece short n devices is =
     let r = run p.memory t n in
     let e = chunk_effect k p.progress.request r in
     record {
@@ -183,7 +185,7 @@ chunk_committed z log p k t how n limit devices is =
       new = tt;
       position_ = (let h = length-append p.progress.commits (e.commit ∷ []) in omega arith);
       actor = refl;
-      log_ = ap (λ (c : ℕ). noted e.commit c (is_short z.chunk how limit) log) (run-keeps p.memory t n);
+      log_ = ap (λ (c : ℕ). noted e.commit c short log) (run-keeps p.memory t n);
     }
 
 -- a recorded sphere and its log have grown after a chunk
@@ -196,15 +198,11 @@ chunk-grown z log p k t how n limit devices role s buffer is fits =
     let q = laid (recorded_chunk z log p k t how n limit devices) in
     let qlog = chunk_log z log p k t how n limit in
     let c = commit_of k short t e None in
-    let d = chunk_committed z log p k t how n limit devices is in
+    let d = chunk-committed log p k t (is_piece how) short n devices is in
     let some = some_ran z log p k t how n limit role buffer fits in
     commit_grown c p q log qlog e d
     (λ L y sp ap_ aq f.
-    let parts = has_committed-parts c p q log qlog d in
-    let g = grows_of c p q log qlog d in
-    let size = size-says L.order log.order k r.n (position p.progress) p.threads q.threads t g log.mode L.sizes log.sizes short sp.order sp.sizes
-    (subst (λ (os : List Actor). (rest : List Actor) × (L.order ≡ os ++ rest)) parts.order aq.order)
-    (subst (λ (x : _). SizesAhead L.sizes x q.threads) parts.sizes aq.sizes) in
+    let size = commit-size L c p q log qlog d sp aq in
     record {
       thread = refl;
       spawned = refl;
@@ -231,10 +229,11 @@ serial_log log p k moment t devices = serial_noted k t (taken (need t p.memory) 
 abbrev effect_of : Sphere → ℕ → (moment : ℕ) → Parts → Devices → Effect
 effect_of p k moment t devices = serial_effect k (serve k p.threads p.progress.request t p.memory (taken (need t p.memory) devices moment).input)
 
-serial_committed : (log : LogParts) (p : Sphere) (k moment : ℕ) (t : Parts) (devices : Devices) → slice_get p.threads k ≡ Some t
+-- a recorded serial step is a commit of its thread
+pub serial-committed : (log : LogParts) (p : Sphere) (k moment : ℕ) (t : Parts) (devices : Devices) → slice_get p.threads k ≡ Some t
     → let e = effect_of p k moment t devices in
     HasCommitted (commit_of k false t e (taken (need t p.memory) devices moment).input) p (laid (recorded_serial log p k moment t devices)) log (serial_log log p k moment t devices)
-serial_committed log p k moment t devices is =
+serial-committed log p k moment t devices is =
     let e = effect_of p k moment t devices in
     let h = serve-keeps k p.threads p.progress.request t p.memory (taken (need t p.memory) devices moment).input in
     record {
@@ -256,14 +255,10 @@ serial-grown log p k moment t devices role is fits =
     let q = laid (recorded_serial log p k moment t devices) in
     let qlog = serial_log log p k moment t devices in
     let c = commit_of k false t e o in
-    let d = serial_committed log p k moment t devices is in
+    let d = serial-committed log p k moment t devices is in
     commit_grown c p q log qlog e d
     (λ L y sp ap_ aq f.
-    let parts = has_committed-parts c p q log qlog d in
-    let g = grows_of c p q log qlog d in
-    let size = size-says L.order log.order k 0 (position p.progress) p.threads q.threads t g log.mode L.sizes log.sizes false sp.order sp.sizes
-    (subst (λ (os : List Actor). (rest : List Actor) × (L.order ≡ os ++ rest)) parts.order aq.order)
-    (subst (λ (x : _). SizesAhead L.sizes x q.threads) parts.sizes aq.sizes) in
+    let size = commit-size L c p q log qlog d sp aq in
     record {
       thread = refl;
       spawned = refl;

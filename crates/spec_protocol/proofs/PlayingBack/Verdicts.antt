@@ -26,6 +26,7 @@ use Rattle.spec_play.specs.Verdicts.{ended, chunk_why, chunk_verdict, serial_why
 use Rattle.spec_log.specs.Noting.{order_with}
 use Rattle.spec_play.specs.Recording.{input_noted}
 use Rattle.spec_play.specs.Plays.{Played, size_or_standard, thread_verdict}
+use Rattle.spec_protocol.proofs.PlayingBack.Sizes.{serial-turn}
 use Rattle.spec_protocol.proofs.Logs.Inserting.{with_size}
 use Rattle.spec_protocol.proofs.Memory.Running.{one-outcome, serial_outcome}
 use Rattle.spec_protocol.proofs.Moves.Answering.{answer-fits}
@@ -170,10 +171,6 @@ serial_goes o h = elim h [
   | inr e ↦ ap serial_why e
 ]
 
-serial_turn : (L : LogParts) (y : Played) (k : ℕ) (t : Parts) (o : Option Kind) → IsSome o → thread_verdict L y k t o ≡ serial_verdict L y.progress y.used k y.threads t y.memory
-serial_turn L y k t None some = absurd (true≢false (sym some))
-serial_turn L y k t (Some kind) some = refl
-
 serial_verdict_is : (L : LogParts) (p : Progress) (u : Used) (k : ℕ) (ts : List Parts) (t : Parts) (m : List ℕ) → serial_verdict L p u k ts t m ≡ unless_why (serial_why (size_in L (Actor.Thread k) t.commits)) (served_verdict L p k ts t m (given (need t m) (slice_get L.inputs u.inputs) u))
 unfolding serial_verdict
 serial_verdict_is L p u k ts t m = refl
@@ -186,7 +183,7 @@ pub serial-goes : (L : LogParts) (y : Played) (k : ℕ) (m : List ℕ) (t : Part
 serial-goes L y k m t p ts d moment log is_m is_p alike inputs some size behind =
     let g : Taken = taken (need t m) d moment in
     let used1 : Used = record y.used { inputs = length (input_noted g.input log).inputs } in
-    ap (λ (x : List ℕ). thread_verdict L y k t (next_kind t x)) is_m ∙ serial_turn L y k t (next_kind t m) some
+    ap (λ (x : List ℕ). thread_verdict L y k t (next_kind t x)) is_m ∙ serial-turn L y k t (next_kind t m) some
     ∙ (λ i. serial_verdict L (is_p i) y.used k y.threads t (is_m i))
     ∙ serial_verdict_is L p y.used k y.threads t m
     ∙ ap (λ (w : Option Why). unless_why w (served_verdict L p k y.threads t m (given (need t m) (slice_get L.inputs y.used.inputs) y.used))) (serial_goes (size_in L (Actor.Thread k) t.commits) size)

@@ -1,5 +1,5 @@
 -- Points done one at a time: the log that a recorded sphere keeps is that of its points.
-use Rattle.std.proofs.Common.{◌≡◌, ℕ, suc, ◌+◌, ◌<◌, ◌≤◌, inl, inr, Bool, true, false, cond, List, [], ◌∷◌, ◌++◌, length, Some, None, refl, sym, ap, ◌∙◌, subst, arith, set}
+use Rattle.std.proofs.Common.{◌≡◌, ℕ, suc, ◌<◌, ◌≤◌, inl, inr, Bool, true, false, cond, List, [], ◌∷◌, ◌++◌, length, Some, None, refl, sym, ap, ◌∙◌, subst, arith, set}
 use Rattle.std.specs.Prelude.{slice_get}
 use Rattle.std.proofs.Math.ListN.{length-set}
 use Rattle.std.proofs.lemmas.Bool.{cases_eq}
@@ -27,11 +27,10 @@ use Rattle.spec_protocol.specs.Commits.{MovedSphere, chunk_in, serial_noted, dma
 use Rattle.spec_protocol.specs.Serial.{SerialState, laid}
 use Rattle.spec_protocol.specs.Logged.{Supplied, actors_of, is_short_chunk, logged}
 use Rattle.spec_protocol.proofs.Moves.Granted.{get-set_other, get-set_same}
-use Rattle.spec_protocol.proofs.Moves.Threads.{run-keeps, serve-keeps}
 use Rattle.spec_protocol.proofs.Logs.Lookups.{count_of}
 use Rattle.spec_protocol.proofs.Logs.Growing.{commits_in, commits_if, ThreadCommit, commit_of, HasCommitted, has_committed-stands, Grows, grows_of, Stands, counts-stand}
 use Rattle.spec_protocol.proofs.Logs.Coming.{transferred-stands, raised-stands}
-use Rattle.spec_protocol.proofs.PlayingBack.Moves.{recorded_serial, recorded_dma}
+use Rattle.spec_protocol.proofs.PlayingBack.Moves.{chunk-committed, serial-committed, recorded_serial, recorded_dma}
 use Rattle.spec_protocol.proofs.PlayingBack.Transfers.{open-takes}
 use Rattle.spec_protocol.proofs.Points.OneMore.{points_so, points-more, commits_of, actors-append}
 use Rattle.spec_protocol.proofs.Points.Noted.{point_of, commit-logged, dma-logged, raise-logged}
@@ -96,17 +95,7 @@ module _ (mode : ModeName) (s : ℕ) (cs : List Supplied) where
       let e = chunk_effect k p.progress.request r in
       let log = logged mode s cs in
       let q = laid (recorded_chunk log k short r devices p) in
-      let d : HasCommitted (commit_of k short t e None) p q log (noted e.commit r.thread.commits short log) =
-      record {
-        start = is;
-        threads = refl;
-        commits = ap (λ (n : ℕ). n + 1) (run-keeps p.memory t size);
-        new = tt;
-        position_ = (let h = length-append p.progress.commits (e.commit ∷ []) in omega arith);
-        actor = refl;
-        log_ = ap (λ (n : ℕ). noted e.commit n short log) (run-keeps p.memory t size);
-      }
-      in
+      let d : HasCommitted (commit_of k short t e None) p q log (noted e.commit r.thread.commits short log) = chunk-committed log p k t false short size devices is in
       commit_keeps (commit_of k short t e None) moment i size CommitKind.Chunk short p q (noted e.commit r.thread.commits short log) keeps d refl ran refl (let l = keeps.few in omega arith)
 
   -- after a serial step the sphere keeps the log of its points and the step's
@@ -115,20 +104,9 @@ module _ (mode : ModeName) (s : ℕ) (cs : List Supplied) where
   serial-keeps moment i k size short p t devices keeps is empty =
       let g : Taken = taken (need t p.memory) devices moment in
       let e = serial_effect k (serve k p.threads p.progress.request t p.memory g.input) in
-      let h = serve-keeps k p.threads p.progress.request t p.memory g.input in
       let log = logged mode s cs in
       let q = laid (recorded_serial log p k moment t devices) in
-      let d : HasCommitted (commit_of k false t e g.input) p q log (serial_noted k t g log p) =
-      record {
-        start = is;
-        threads = refl;
-        commits = ap (λ (n : ℕ). n + 1) h.commits;
-        new = h.fresh;
-        position_ = (let l = length-append p.progress.commits (e.commit ∷ []) in omega arith);
-        actor = refl;
-        log_ = refl;
-      }
-      in
+      let d : HasCommitted (commit_of k false t e g.input) p q log (serial_noted k t g log p) = serial-committed log p k moment t devices is in
       commit_keeps (commit_of k false t e g.input) moment i size CommitKind.Serial short p q (serial_noted k t g log p) keeps d refl (sym empty) refl (serve-few k p.threads p.progress.request t p.memory g.input keeps.few)
 
   -- ---- a DMA

@@ -7,8 +7,7 @@ use Rattle.spec_isa.specs.declared.thread.Parts.{Parts}
 use Rattle.spec_isa.specs.declared.thread.Kind.{Kind}
 use Rattle.spec_isa.specs.Words.{Stored, lays, read, put, holds, is_inside}
 use Rattle.spec_isa.specs.Instruction.{operation_of, serial_of, loads_of, next_of, load_of, store_of}
-use Rattle.spec_isa.specs.declared.operation.Operation.{Operation}
-use Rattle.spec_isa.specs.Operations.{refuses, thread_then}
+use Rattle.spec_isa.specs.Operations.{refuses}
 use Rattle.spec_isa.specs.Runs.{with_store}
 use Rattle.spec_isa.specs.Threads.{IsThread}
 use Rattle.spec_isa.proofs.MemoryLaws.{length_lays}
@@ -21,7 +20,7 @@ use Rattle.spec_engine.specs.Chunks.{Chunk, Stepping, Cutting, fresh, closes, ma
 use Rattle.spec_engine.proofs.Choosing.{keep_option, keep_choose}
 use Rattle.spec_protocol.specs.Invariants.{Closes}
 use Rattle.spec_protocol.specs.Sound.{AreSoundWords, IsSoundChunk}
-use Rattle.spec_protocol.proofs.Moves.Threads.{next_keeps}
+use Rattle.spec_protocol.proofs.Moves.Threads.{next-kept}
 use Rattle.spec_protocol.proofs.Invariants.Cores.{branch}
 use Rattle.spec_protocol.proofs.Sound.Words.{IsSoundWord, sound-none, sound-put, store-sound, held-length, put-length}
 use Rattle.spec_protocol.proofs.Sound.Threads.{then-thread}
@@ -41,20 +40,6 @@ next-thread t f w size e is = then-thread size (operation_of t f) t w (not-refus
 next-store : (t : Parts) (f w size : ℕ) → serial_of t f size ≡ None → (s : Stored) → store_of t f w ≡ Some s → IsSoundWord size s
 unfolding store_of
 next-store t f w size e s is = store-sound size (operation_of t f) t w (not-refused t f size e) s is
-
--- it leaves the status
-operation_status : (p : Operation) (t : Parts) (w : ℕ) → (thread_then p t w).status ≡ t.status
-operation_status (Operation.Go rd value pc) t w = refl
-operation_status (Operation.Stop kind) t w = refl
-operation_status (Operation.Load op rd a) t w = refl
-operation_status (Operation.Store op a v) t w = refl
-operation_status (Operation.LoadReserved rd a) t w = refl
-operation_status (Operation.StoreConditional rd a v) t w = refl
-operation_status (Operation.Amo op rd a v) t w = refl
-
-next_status : (t : Parts) (f w : ℕ) → (next_of t f w).status ≡ t.status
-unfolding next_of
-next_status t f w = operation_status (operation_of t f) t w
 
 with-words : (size : ℕ) (ws : List Stored) (o : Option Stored) → ((s : Stored) → o ≡ Some s → IsSoundWord size s) → AreSoundWords size ws → AreSoundWords size (with_store ws o)
 with-words size ws None each all = all
@@ -106,8 +91,8 @@ storing-sound capacity size i f w ch g e c =
         squashes = was.squashes;
         start = was.start;
         thread = next-thread t f w size e was.thread;
-        commits = next_keeps t f w ∙ was.commits;
-        status = next_status t f w ∙ was.status;
+        commits = (next-kept t f w).commits ∙ was.commits;
+        status = (next-kept t f w).status ∙ was.status;
       };
     }
     in

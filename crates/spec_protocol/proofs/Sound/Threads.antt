@@ -1,7 +1,7 @@
 -- Threads stay threads: an instruction, a serial step and an interrupt keep their places in the code multiples of 4 and
 -- register 0 at 0.
 use Rattle.std.proofs.Common.{◌≡◌, ℕ, ◌+◌, ◌%◌, ◌≤◌, true, ◌&&◌, eqb, cond, List, [], ◌∷◌, length, Option, Some, None, refl, sym, ◌∙◌, arith, get_or-set_other}
-use Rattle.std.specs.Prelude.{slice_index, slice_set, slice_get, replicate, nat_le, nat_lt, take, drop}
+use Rattle.std.specs.Prelude.{slice_index, slice_set, replicate, nat_le, nat_lt, take, drop}
 use Rattle.std.proofs.Math.ListN.{length-set}
 use Rattle.std.proofs.lemmas.Bool.{eqb-true, eqb-false, and_parts, leb-true}
 use Rattle.std.proofs.lemmas.Option.{none-some}
@@ -13,11 +13,12 @@ use Rattle.spec_isa.specs.declared.operation.Operation.{Operation}
 use Rattle.spec_isa.specs.Operations.{with_register, following, at_pc, refuses, loaded, thread_then, reserves}
 use Rattle.spec_isa.specs.Threads.{IsThread, started}
 use Rattle.spec_kernel.specs.Needs.{Need, Write, Read, Random, Clock, MomentWord, InputWord, number_of, a0, a1, a2, cut, if_inside, need_of_write, need_of_read, need_of_random, need_of_call, need_of_load, need_of, next_kind, next_operation, need}
-use Rattle.spec_kernel.specs.Answers.{refused, unknown_call, bad_buffer}
+use Rattle.spec_kernel.specs.Answers.{refused, bad_buffer}
 use Rattle.spec_kernel.specs.Interrupts.{interrupted}
-use Rattle.spec_kernel.specs.Calls.{Called, with_result, gives, exit, spawned, spawn, set_handler, returned, iret, is_dma_buffer, request_dma, has_ended, called}
+use Rattle.spec_kernel.specs.Calls.{Called, with_result, gives, exit, spawned, spawn, set_handler, returned, iret, is_dma_buffer, request_dma, called}
 use Rattle.spec_kernel.specs.Serving.{StepResult, alone, copy_of, outside_called, inside_called, is_outside, device_loaded, device_stored, faulted, serve_kind, serve}
 use Rattle.spec_protocol.specs.Sound.{AreSoundWords, IsSoundRequest, IsSoundIf}
+use Rattle.spec_protocol.proofs.Moves.Threads.{any-call}
 use Rattle.spec_protocol.proofs.Moves.Granted.{either_serve}
 use Rattle.spec_protocol.proofs.Invariants.Cores.{branch}
 use Rattle.spec_protocol.proofs.Sound.Words.{sound-none, copied-sound}
@@ -185,26 +186,9 @@ dma-call-sound size None t is sound =
 dma-call-sound size (Some request) t is sound = gives-sound size (Some request) t _ is sound
 
 called-sound : (size k : ℕ) (ts : List Parts) (request : Option Request) (t : Parts) → IsThread t → IsSoundIf size request → IsSoundCall size (called size k ts request t)
-unfolding called
 called-sound size k ts request t is sound =
-    let n = number_of t in
-    let c11 = cond (eqb n 11) (gives request t (has_ended (slice_get ts (a0 t)))) (gives request t unknown_call) in
-    let c10 = cond (eqb n 10) (gives request t 0) c11 in
-    let c9 = cond (eqb n 9) (gives request t k) c10 in
-    let c8 = cond (eqb n 8) (request_dma size request t) c9 in
-    let c7 = cond (eqb n 7) (iret request t) c8 in
-    let c6 = cond (eqb n 6) (set_handler request t) c7 in
-    let c1 = cond (eqb n 1) (spawn ts request t) c6 in
-    let gives_ : (m : ℕ) → IsSoundCall size (gives request t m) = (λ m. gives-sound size request t m is sound) in
-    branch (IsSoundCall size) (eqb n 0) (exit request t) c1 (λ _. exit-sound size request t is sound)
-    (λ _. branch (IsSoundCall size) (eqb n 1) (spawn ts request t) c6 (λ _. spawn-sound size ts request t is sound)
-    (λ _. branch (IsSoundCall size) (eqb n 6) (set_handler request t) c7 (λ _. handler-sound size request t is sound)
-    (λ _. branch (IsSoundCall size) (eqb n 7) (iret request t) c8 (λ _. iret-sound size request t is sound)
-    (λ _. branch (IsSoundCall size) (eqb n 8) (request_dma size request t) c9 (λ _. dma-call-sound size request t is sound)
-    (λ _. branch (IsSoundCall size) (eqb n 9) (gives request t k) c10 (λ _. gives_ k)
-    (λ _. branch (IsSoundCall size) (eqb n 10) (gives request t 0) c11 (λ _. gives_ 0)
-    (λ _. branch (IsSoundCall size) (eqb n 11) (gives request t (has_ended (slice_get ts (a0 t)))) (gives request t unknown_call) (λ _. gives_ _)
-    (λ _. gives_ unknown_call))))))))
+    any-call (IsSoundCall size) size k ts request t (λ m. gives-sound size request t m is sound) (exit-sound size request t is sound) (spawn-sound size ts request t is sound) (handler-sound size request t is sound) (iret-sound size request t is sound)
+    (dma-call-sound size request t is sound)
 
 -- ---- what a step wants has room in the memory
 

@@ -3,16 +3,14 @@ use Rattle.std.proofs.Common.{◌≡◌, ◌≢◌, ℕ, zero, suc, ◌+◌, ◌
 use Rattle.std.specs.Prelude.{slice_get, max, IsSome}
 use Rattle.std.proofs.lemmas.Bool.{true≢false, ltb-true, cases_eq}
 use Rattle.dl_entry.specs.declared.Actor.{Actor}
-use Rattle.dl_entry.specs.declared.Why.{Why}
 use Rattle.spec_isa.specs.declared.thread.Parts.{Parts}
 use Rattle.spec_isa.specs.Runs.{Run, run}
 use Rattle.spec_log.specs.declared.LogParts.{LogParts}
 use Rattle.spec_log.specs.Size.{size_in}
 use Rattle.spec_kernel.specs.Devices.{Devices}
 use Rattle.spec_kernel.specs.Needs.{next_kind}
-use Rattle.spec_play.specs.Effects.{chunk_effect}
-use Rattle.spec_play.specs.Progress.{Progress, Used}
-use Rattle.spec_play.specs.Verdicts.{LogVerdict, Fails, unless, ended, chunk_why, chunk_verdict}
+use Rattle.spec_play.specs.Progress.{Progress}
+use Rattle.spec_play.specs.Verdicts.{LogVerdict, chunk_verdict}
 use Rattle.spec_play.specs.Plays.{Played, size_or_standard, thread_verdict}
 use Rattle.spec_engine.specs.declared.answers.How.{How}
 use Rattle.spec_protocol.specs.Spheres.{Cursor, Sphere, whole_limit, is_in_pieces}
@@ -23,29 +21,12 @@ use Rattle.spec_protocol.specs.Moves.{ChunkFits}
 use Rattle.spec_protocol.specs.Placing.{replays}
 use Rattle.spec_protocol.proofs.Moves.Threads.{run-keeps}
 use Rattle.spec_protocol.proofs.PlayingBack.Verdicts.{run-first, run-stops}
-use Rattle.spec_replay.proofs.Commits.Standing.{limit_by, limit-is}
+use Rattle.spec_protocol.proofs.PlayingBack.Sizes.{size_by, size-is, limit_by, limit-is, not-serial}
 use Rattle.spec_replay.proofs.Commits.Judging.{AreAlike, chunks-alike}
 use Rattle.spec_replay.proofs.Commits.Pieces.{IsPart, part-is, part-limit, piece-reaches}
 use Rattle.spec_replay.proofs.Commits.Done.{Reaches, HasTurn, commit-reaches}
 
 -- ---- the last part
-
--- where a serial step is logged, no chunk fits
-not_serial : (log : LogParts) (p : Progress) (u : Used) (k commits : ℕ) (r : Run) → r.thread.commits ≡ commits → size_in log (Actor.Thread k) commits ≡ Some 0 → chunk_verdict log p u k r ≡ Fails Why.NotSerial
-unfolding chunk_verdict
-not_serial log p u k commits r is zero_ =
-    ap (λ (o : Option ℕ). unless (chunk_why o r.n) (ended log k (chunk_effect k p.request r) u)) (ap (size_in log (Actor.Thread k)) is ∙ zero_)
-
--- the play runs as many instructions as the limit says, unless it says 0
-abbrev size_by : Option ℕ → (s : ℕ) → ℕ
-size_by None s = s
-size_by (Some z) s = z
-
-size_is : (log : LogParts) (k commits : ℕ) → size_or_standard log k commits ≡ size_by (size_in log (Actor.Thread k) commits) log.s
-size_is log k commits = elim (size_in log (Actor.Thread k) commits) as (λ (o : Option ℕ). elim o [ None ↦ log.s | Some z ↦ z ] ≡ size_by o log.s) [
-  | None ↦ refl
-  | Some z ↦ refl
-]
 
 -- the verdicts of the machine and of the play
 abbrev machine_says : Cursor → Progress → ℕ → Run → LogVerdict
@@ -83,8 +64,8 @@ module _ (log : LogParts) (start y : Played) (p : Sphere) (b : Cursor) (k : ℕ)
         → AreAlike p.memory y.memory (chunk_verdict log y.progress y.used k (joined b r)) (play_says log y k t (size_by o log.s))
     size_says None is same = run_says log.s same
     size_says (Some zero) is same =
-        let mine = not_serial log y.progress y.used k t.commits (joined b r) (ap (λ (x : Parts). x.commits) part.thread ∙ run-keeps y.memory t (b.total + n)) is in
-        let plays_ = not_serial log y.progress y.used k t.commits (run y.memory t 0) refl is in
+        let mine = not-serial log y.progress y.used k t.commits (joined b r) (ap (λ (x : Parts). x.commits) part.thread ∙ run-keeps y.memory t (b.total + n)) is in
+        let plays_ = not-serial log y.progress y.used k t.commits (run y.memory t 0) refl is in
         rw (mine, plays_) refl
     size_says (Some (suc z)) is same =
         let e : max 1 (suc z) ≡ suc z = omega arith in
@@ -92,7 +73,7 @@ module _ (log : LogParts) (start y : Played) (p : Sphere) (b : Cursor) (k : ℕ)
 
     last-alike : run y.memory t (whole_limit log k t.commits) ≡ run y.memory t (b.total + n) → AreAlike p.memory y.memory (machine_says b p.progress k r) (play_says log y k t (size_or_standard log k t.commits))
     last-alike same =
-        rw (says_same r, size_is log k t.commits)
+        rw (says_same r, size-is log k t.commits)
         (size_says (size_in log (Actor.Thread k) t.commits) refl (ap (run y.memory t) (sym (limit-is log k t.commits)) ∙ same))
 
     -- the part that the commit ends with leaves the sphere in its log's play

@@ -1,13 +1,12 @@
 -- Where a replayed sphere has no piece of its next commit, it stands where the play stands.
-use Rattle.std.proofs.Common.{◌≡◌, ℕ, zero, suc, ◌<◌, List, [], ◌∷◌, Option, Some, None, refl, sym, ap, ◌∙◌, subst, arith, set}
-use Rattle.std.specs.Prelude.{slice_get, max}
-use Rattle.dl_entry.specs.declared.Actor.{Actor}
+use Rattle.std.proofs.Common.{◌≡◌, ℕ, zero, suc, ◌<◌, List, [], ◌∷◌, Some, refl, sym, ap, ◌∙◌, set}
+use Rattle.std.specs.Prelude.{slice_get}
 use Rattle.spec_log.specs.declared.LogParts.{LogParts}
-use Rattle.spec_log.specs.Size.{size_in}
 use Rattle.spec_play.specs.Turns.{Now, Turn, TurnOfDma, Over, now_at}
 use Rattle.spec_play.specs.Plays.{Played}
 use Rattle.spec_play.proofs.Going.{Lives, turn-lives}
-use Rattle.spec_protocol.specs.Spheres.{Cursor, Sphere, whole_limit}
+use Rattle.spec_protocol.specs.Spheres.{Cursor, Sphere}
+use Rattle.spec_protocol.proofs.PlayingBack.Sizes.{limit-some}
 use Rattle.spec_replay.specs.Following.{IsWhole, StandsAt}
 
 -- ---- threads
@@ -23,27 +22,6 @@ pub set_twice : {A : Type 0} (xs : List A) (k : ℕ) (x y : A) → set (set xs k
 set_twice [] k x y = refl
 set_twice (z ∷ zs) zero x y = refl
 set_twice (z ∷ zs) (suc k) x y = ap (λ (us : List _). z ∷ us) (set_twice zs k x y)
-
--- ---- limits
-
--- the limit that a size in the log gives, which is at least 1; without one the standard size
-abbrev pub limit_by : Option ℕ → (s : ℕ) → ℕ
-limit_by None s = s
-limit_by (Some z) s = max 1 z
-
-limit_some : (o : Option ℕ) (s : ℕ) → 0 < s → 0 < limit_by o s
-limit_some None s l = l
-limit_some (Some z) s l = omega arith
-
--- the limit of a whole commit is that of the size that the log has of it
-pub limit-is : (log : LogParts) (k commits : ℕ) → whole_limit log k commits ≡ limit_by (size_in log (Actor.Thread k) commits) log.s
-limit-is log k commits = elim (size_in log (Actor.Thread k) commits) as (λ (o : Option ℕ). elim o [ None ↦ log.s | Some z ↦ max 1 z ] ≡ limit_by o log.s) [
-  | None ↦ refl
-  | Some z ↦ refl
-]
-
-pub limit-some : (log : LogParts) (k commits : ℕ) → 0 < log.s → 0 < whole_limit log k commits
-limit-some log k commits l = subst (λ (n : ℕ). 0 < n) (sym (limit-is log k commits)) (limit_some (size_in log (Actor.Thread k) commits) log.s l)
 
 -- ---- without pieces
 

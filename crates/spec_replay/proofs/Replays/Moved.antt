@@ -3,7 +3,6 @@ use Rattle.std.proofs.Common.{◌≡◌, ℕ, ◌<◌, ◌≤◌, inl, inr, fals
 use Rattle.std.specs.Prelude.{slice_get, IsSome, ◌⊎◌}
 use Rattle.std.proofs.lemmas.Bool.{true≢false, ltb-false}
 use Rattle.spec_isa.specs.declared.thread.Parts.{Parts}
-use Rattle.spec_isa.specs.declared.thread.Kind.{Kind}
 use Rattle.spec_isa.specs.Words.{lays}
 use Rattle.spec_isa.specs.Runs.{run}
 use Rattle.spec_log.specs.declared.LogParts.{LogParts}
@@ -13,7 +12,7 @@ use Rattle.spec_play.specs.Progress.{position}
 use Rattle.spec_play.specs.Turns.{Now, Turn, TurnOfDma}
 use Rattle.spec_play.specs.Verdicts.{LogVerdict, serial_verdict}
 use Rattle.spec_play.specs.Transfers.{DmaVerdict, dma_verdict}
-use Rattle.spec_play.specs.Plays.{Played, thread_verdict, plays}
+use Rattle.spec_play.specs.Plays.{Played, plays}
 use Rattle.spec_engine.specs.declared.answers.How.{How}
 use Rattle.spec_protocol.specs.Spheres.{Cursor, Role, Replay, Sphere, is_over, is_stopped, head_in, head_of, is_in_pieces}
 use Rattle.spec_protocol.specs.Commits.{MovedSphere, is_piece, replayed_chunk, by_verdict, chunk_in, chunk_moved, serial_in, serial_moved, dma_by_verdict, dma_in, dma_moved}
@@ -24,6 +23,7 @@ use Rattle.spec_protocol.specs.Serial.{SerialState, laid, do_moved, do_serial, d
 use Rattle.spec_protocol.specs.Moves.{move_chunk, do_what, FitsChunk, SerialFits, FitsSerial, DmaFits, FitsWhat}
 use Rattle.spec_protocol.proofs.Moves.Granted.{get-set_same, turn-is}
 use Rattle.spec_protocol.proofs.Moves.Transfers.{dma-turn_is}
+use Rattle.spec_protocol.proofs.PlayingBack.Sizes.{serial-turn}
 use Rattle.spec_replay.specs.Following.{IsMovedOn, StandsAt, EndsWithin, Follows}
 use Rattle.spec_replay.proofs.Commits.Standing.{set_here}
 use Rattle.spec_replay.proofs.Commits.Judging.{alike_same}
@@ -85,10 +85,6 @@ unmoved log y k t p b m none = (
   m.threads ∙ ap (λ (n : ℕ). set y.threads k (run y.memory t n).thread) none ∙ set_here y.threads k t m.is,
 )
 
-serial_turn : (log : LogParts) (y : Played) (k : ℕ) (t : Parts) (o : Option Kind) → IsSome o → thread_verdict log y k t o ≡ serial_verdict log y.progress y.used k y.threads t y.memory
-serial_turn log y k t None some = absurd (true≢false (sym some))
-serial_turn log y k t (Some kind) some = refl
-
 serial_reaches : (log : LogParts) (start y : Played) (p : Sphere) (b : Cursor) (k : ℕ) (u : Parts) (devices : Devices) → y ≡ plays log start (position p.progress) → Going log y p b (Turn k) → slice_get p.threads k ≡ Some u → SerialFits p k u
     → Reaches log start (laid (by_verdict b k (serial_verdict b.log p.progress b.used k p.threads u p.memory) devices p))
 serial_reaches log start y p b k u devices at_ g there f =
@@ -101,7 +97,7 @@ serial_reaches log start y p b k u devices at_ g there f =
     let w : LogVerdict = serial_verdict log y.progress y.used k y.threads t y.memory in
     let vw : v ≡ w = (λ i. serial_verdict (g.beside.same_log i) (g.beside.progress i) (g.beside.used i) k (same.1 i) (sym tu i) (same.0 i)) in
     let serial : IsSome (next_kind t y.memory) = subst IsSome (λ i. next_kind (sym tu i) (same.0 i)) f.serial in
-    commit-reaches log start y p b k t (has_turn log start y p b k at_ g) v w devices (serial_turn log y k t (next_kind t y.memory) serial) (rw vw (alike_same p.memory y.memory w same.0))
+    commit-reaches log start y p b k t (has_turn log start y p b k at_ g) v w devices (serial-turn log y k t (next_kind t y.memory) serial) (rw vw (alike_same p.memory y.memory w same.0))
 
 -- ---- moves
 
