@@ -1,16 +1,15 @@
 -- A part that could not be read, or is refused, stops the whole that it is of.
-use Rattle.std.proofs.Common.{◌≡◌, ℕ, List, Option, Some, None, option_to_list, IsSome, Result, Ok, Err, ok_or, inl, inr, refl, sym, ◌∙◌, ap, subst}
+use Rattle.std.proofs.Common.{◌≡◌, ℕ, List, Option, Some, None, option_to_list, IsSome, Result, Ok, Err, ok_or, inl, inr, refl, ◌∙◌, ap, subst}
 use Rattle.std.specs.FinMap.{get}
 use Rattle.dl_files.specs.Contents.{Contents}
 use Rattle.dl_files.specs.Count.{Rose}
 use Rattle.dl_plan.specs.Values.{ScheduleValues, Script, Seeded, RoleValues, Plain, Record, Replay, SphereValues}
 use Rattle.spec_program.specs.Ends.{IsReadNext}
 use Rattle.spec_program.specs.Files.{ScheduleRead, RoleRead, SphereRead, log_at, read_at, schedule_read, input_read, role_read, sphere_read}
-use Rattle.spec_program.specs.Stages.{Refused, refusing, ◌>>◌}
-use Rattle.spec_program.specs.Tasks.{absent}
+use Rattle.spec_program.specs.Stages.{Refused, ◌>>◌}
 use Rattle.spec_program.proofs.Turns.{AreThere}
 use Rattle.dl_gather.specs.declared.halt.Halt.{Halt}
-use Rattle.dl_gather.specs.Halts.{IsFault, Unread, Halts, Refuses, IsNotUsage}
+use Rattle.dl_gather.specs.Halts.{IsFault, Unread, Refuses}
 use Rattle.dl_gather.specs.Reads.{read_for_schedule, read_for_role, read_for_sphere}
 
 -- ---- one stage after another
@@ -30,82 +29,37 @@ pub record IsPart {A B : Type 0} (known : Option Contents) (names all : List (Li
   pub absent : (m : Contents) → known ≡ Some m → (name : List ℕ) → part m ≡ Err name → whole m ≡ Err name
   pub next : (m : Contents) → known ≡ Some m → (name : List ℕ) → IsReadNext names m name → IsReadNext all m name
 
-part_fault : (known seen : Option Contents) (reads all : Contents → List (List ℕ)) (start old new : ℕ) (last : Option (List ℕ)) (name : List ℕ) → seen ≡ known → old ≡ start
-    → ((m : Contents) → known ≡ Some m → IsReadNext (reads m) m name → IsReadNext (all m) m name) → IsFault seen reads old new last name → IsFault known all start new last name
-part_fault known seen reads all start old new last name same from next f = record {
-  counted = subst (λ (x : ℕ). Rose x new) from f.counted;
-  named = f.named;
-  next = λ m e. next m e (f.next m (same ∙ e));
-}
+-- These files are known as the whole begins, with so many faults, and they are what its part sees; as the part stops there are
+-- more faults, and the last was at this file.
+module _ (known seen : Option Contents) (start old new : ℕ) (last : Option (List ℕ)) (same : seen ≡ known) (from : old ≡ start) where
+  part_fault : (names all : List (List ℕ)) (name : List ℕ)
+      → ((m : Contents) → known ≡ Some m → IsReadNext names m name → IsReadNext all m name) → IsFault seen (λ _. names) old new last name → IsFault known (λ _. all) start new last name
+  part_fault names all name next f = record {
+    counted = subst (λ (x : ℕ). Rose x new) from f.counted;
+    named = f.named;
+    next = λ m e. next m e (f.next m (same ∙ e));
+  }
 
--- where a part can't be read, the whole can't either, for the same reason
-pub unread_in : {A B : Type 0} (known seen : Option Contents) (names all : List (List ℕ)) (part : Contents → Result A (List ℕ)) (whole : Contents → Result B (List ℕ)) (start old new : ℕ) (last : Option (List ℕ)) (h : Halt)
-    → seen ≡ known → old ≡ start → IsPart known names all part whole → Unread seen names part old new last h → Unread known all whole start new last h
-unread_in known seen names all part whole start old new last (Halt.Refused why text) same from p u = (
-  u.0,
-  (u.1.0, u.1.1, (λ m e. p.absent m e u.1.0 (u.1.2 m (same ∙ e)))),
-  (λ m e. u.2 m (same ∙ e) ∙ from),
-  (λ e. subst (λ (x : ℕ). Rose x new) from (u.3 (same ∙ e))),
-)
-unread_in known seen names all part whole start old new last (Halt.Fault text) same from p u =
-    (u.0, u.1, part_fault known seen (λ _. names) (λ _. all) start old new last u.0 same from (λ m e. p.next m e u.0) u.2)
-unread_in known seen names all part whole start old new last Halt.OutOfMemory same from p (inl steady) = inl (λ m e. steady m (same ∙ e) ∙ from)
-unread_in known seen names all part whole start old new last Halt.OutOfMemory same from p (inr (name, f)) =
-    inr (name, part_fault known seen (λ _. names) (λ _. all) start old new last name same from (λ m e. p.next m e name) f)
+  -- where a part can't be read, the whole can't either, for the same reason
+  pub unread_in : {A B : Type 0} (names all : List (List ℕ)) (part : Contents → Result A (List ℕ)) (whole : Contents → Result B (List ℕ)) (h : Halt)
+      → IsPart known names all part whole → Unread seen names part old new last h → Unread known all whole start new last h
+  unread_in names all part whole (Halt.Refused why text) p u = (
+    u.0,
+    (u.1.0, u.1.1, (λ m e. p.absent m e u.1.0 (u.1.2 m (same ∙ e)))),
+    (λ m e. u.2 m (same ∙ e) ∙ from),
+    (λ e. subst (λ (x : ℕ). Rose x new) from (u.3 (same ∙ e))),
+  )
+  unread_in names all part whole (Halt.Fault text) p u = (u.0, u.1, part_fault names all u.0 (λ m e. p.next m e u.0) u.2)
+  unread_in names all part whole Halt.OutOfMemory p (inl steady) = inl (λ m e. steady m (same ∙ e) ∙ from)
+  unread_in names all part whole Halt.OutOfMemory p (inr (name, f)) = inr (name, part_fault names all name (λ m e. p.next m e name) f)
 
 -- ---- the command
-
--- a file that could not be read stops the stage that begins with reading it, where its turns are turns there
-pub unread_halts : {A B : Type 0} (known : Option Contents) (names : List (List ℕ)) (reads : Contents → List (List ℕ)) (part : Contents → Result A (List ℕ)) (next : Contents → A → Result B Refused) (old new : ℕ) (last : Option (List ℕ)) (h : Halt)
-    → ((m : Contents) (name : List ℕ) → known ≡ Some m → IsReadNext names m name → IsReadNext (reads m) m name)
-    → Unread known names part old new last h → Halts known (λ m. refusing absent (part m) >> next m) reads old new last h
-unread_halts known names reads part next old new last (Halt.Refused why text) turns u = (
-  (λ m e.
-      ap (λ o. refusing absent o >> next m) (u.1.2 m e)
-      ∙ (λ i. Err (record { why = sym u.0 i; line = sym u.1.1 i }))),
-  u.2,
-  (λ other. absurd (other u.0)),
-  (λ e _. u.3 e),
-)
-unread_halts known names reads part next old new last (Halt.Fault text) turns u = (u.0, u.1, part_fault known known (λ _. names) reads old old new last u.0 refl refl (λ m e. turns m u.0 e) u.2)
-unread_halts known names reads part next old new last Halt.OutOfMemory turns (inl steady) = inl steady
-unread_halts known names reads part next old new last Halt.OutOfMemory turns (inr (name, f)) = inr (name, part_fault known known (λ _. names) reads old old new last name refl refl (λ m e. turns m name e) f)
-
--- a stop of the stage is one of the whole, after what gave no stop
-pub halts_in : {A B : Type 0} (known seen : Option Contents) (stage : Contents → Result A Refused) (whole : Contents → Result B Refused) (reads all : Contents → List (List ℕ)) (start old new : ℕ) (last : Option (List ℕ)) (h : Halt)
-    → seen ≡ known → old ≡ start → ((m : Contents) → known ≡ Some m → (r : Refused) → stage m ≡ Err r → whole m ≡ Err r)
-    → ((m : Contents) (name : List ℕ) → known ≡ Some m → IsReadNext (reads m) m name → IsReadNext (all m) m name)
-    → Halts seen stage reads old new last h → Halts known whole all start new last h
-halts_in known seen stage whole reads all start old new last (Halt.Refused why text) same from errs turns u = (
-  (λ m e. errs m e _ (u.0 m (same ∙ e))),
-  (λ m e. u.1 m (same ∙ e) ∙ from),
-  (λ other. u.2 other ∙ from),
-  (λ e a. subst (λ (x : ℕ). Rose x new) from (u.3 (same ∙ e) a)),
-)
-halts_in known seen stage whole reads all start old new last (Halt.Fault text) same from errs turns u =
-    (u.0, u.1, part_fault known seen reads all start old new last u.0 same from (λ m e. turns m u.0 e) u.2)
-halts_in known seen stage whole reads all start old new last Halt.OutOfMemory same from errs turns (inl steady) = inl (λ m e. steady m (same ∙ e) ∙ from)
-halts_in known seen stage whole reads all start old new last Halt.OutOfMemory same from errs turns (inr (name, f)) =
-    inr (name, part_fault known seen reads all start old new last name same from (λ m e. turns m name e) f)
-
--- what is refused once the files are read stops the whole
-pub refused_halts : {A B : Type 0} (known : Option Contents) (stage : Result A Refused) (whole : Contents → Result B Refused) (reads : Contents → List (List ℕ)) (old new : ℕ) (last : Option (List ℕ)) (h : Halt)
-    → ((m : Contents) → known ≡ Some m → (r : Refused) → stage ≡ Err r → whole m ≡ Err r) → new ≡ old → Refuses stage h → Halts known whole reads old new last h
-refused_halts known stage whole reads old new last (Halt.Refused why text) errs steady u = ((λ m e. errs m e _ u.0), (λ m e. steady), (λ other. steady), (λ e a. absurd (u.1 a)))
-refused_halts known stage whole reads old new last (Halt.Fault text) errs steady u = absurd u
-refused_halts known stage whole reads old new last Halt.OutOfMemory errs steady u = inl (λ m e. steady)
 
 -- a stage that is refused stops the stages after it
 pub refuses_in : {A B : Type 0} (stage : Result A Refused) (whole : Result B Refused) (h : Halt) → ((r : Refused) → stage ≡ Err r → whole ≡ Err r) → Refuses stage h → Refuses whole h
 refuses_in stage whole (Halt.Refused why text) errs u = (errs _ u.0, u.1, u.2)
 refuses_in stage whole (Halt.Fault text) errs u = absurd u
 refuses_in stage whole Halt.OutOfMemory errs u = tt
-
--- files that could not be read are no usage
-pub unread_not_usage : {A : Type 0} (known : Option Contents) (names : List (List ℕ)) (part : Contents → Result A (List ℕ)) (old new : ℕ) (last : Option (List ℕ)) (h : Halt) → Unread known names part old new last h → IsNotUsage h
-unread_not_usage known names part old new last (Halt.Refused why text) u = λ e. absurd (cc)
-unread_not_usage known names part old new last (Halt.Fault text) u = tt
-unread_not_usage known names part old new last Halt.OutOfMemory u = tt
 
 -- ---- what is there, once a part is read
 

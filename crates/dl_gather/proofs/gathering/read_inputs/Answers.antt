@@ -18,7 +18,7 @@ returns-in-Err-clause-halt g c =
     let new = g.F.Files.count c.read_schedule.new.files in
     let last = g.F.Files.last_fault c.read_schedule.new.files in
     unread_by_parts known p (λ m. plan_read m p) old new last c.in-Err.halt
-    (unread_in known known (read_for_schedule p.schedule) (named_by_parts p) (λ m. schedule_read m p.schedule) (λ m. plan_read m p) old old new last c.in-Err.halt refl refl
+    (unread_in known known old old new last refl refl (read_for_schedule p.schedule) (named_by_parts p) (λ m. schedule_read m p.schedule) (λ m. plan_read m p) c.in-Err.halt
     (record {
       absent = λ m e name x. err_then (schedule_read m p.schedule) _ name x;
       next = λ m e name n. next_before m (read_for_schedule p.schedule) (option_to_list p.input ++ flat_map read_for_sphere p.spheres) name n;
@@ -35,8 +35,8 @@ returns-in-Err-read_input-clause-halt g c =
     let last = g.F.Files.last_fault c.read_input.new.files in
     let schedule = schedule_view c.in-Ok.schedule in
     unread_by_parts known p (λ m. plan_read m p) (g.F.Files.count c.args.files.now) new last c.in-Err-read_input.halt
-    (unread_in known seen (option_to_list p.input) (named_by_parts p) (λ m. input_read m p.input) (λ m. plan_read m p) (g.F.Files.count c.args.files.now) old new last c.in-Err-read_input.halt
-    c.in-Ok.ensures.kept c.in-Ok.ensures.steady
+    (unread_in known seen (g.F.Files.count c.args.files.now) old new last c.in-Ok.ensures.kept c.in-Ok.ensures.steady
+    (option_to_list p.input) (named_by_parts p) (λ m. input_read m p.input) (λ m. plan_read m p) c.in-Err-read_input.halt
     (record {
       absent = λ m e name x. ok_then (schedule_read m p.schedule) _ schedule (c.in-Ok.ensures.read m e) ∙ err_then (input_read m p.input) _ name x;
       next =
@@ -57,8 +57,8 @@ returns-in-Err-read_spheres-clause-halt g c =
     let schedule = schedule_view c.in-Ok.schedule in
     let bytes = c.in-Ok-read_input.input.items in
     unread_by_parts known p (λ m. plan_read m p) (g.F.Files.count c.args.files.now) new last c.in-Err-read_spheres.halt
-    (unread_in known seen (flat_map read_for_sphere p.spheres) (named_by_parts p) (λ m. spheres_read m p.spheres) (λ m. plan_read m p) (g.F.Files.count c.args.files.now) old new last c.in-Err-read_spheres.halt
-    (c.in-Ok-read_input.ensures.kept ∙ c.in-Ok.ensures.kept) (c.in-Ok-read_input.ensures.steady ∙ c.in-Ok.ensures.steady)
+    (unread_in known seen (g.F.Files.count c.args.files.now) old new last (c.in-Ok-read_input.ensures.kept ∙ c.in-Ok.ensures.kept) (c.in-Ok-read_input.ensures.steady ∙ c.in-Ok.ensures.steady)
+    (flat_map read_for_sphere p.spheres) (named_by_parts p) (λ m. spheres_read m p.spheres) (λ m. plan_read m p) c.in-Err-read_spheres.halt
     (record {
       absent =
           λ m e name x.

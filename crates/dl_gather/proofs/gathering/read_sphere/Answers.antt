@@ -14,6 +14,6 @@ returns-in-Err-clause-halt g c =
     let old = g.F.Files.count c.args.files.now in
     let new = g.F.Files.count c.read_file.new.files in
     let last = g.F.Files.last_fault c.read_file.new.files in
-    unread_in known known (s.image ∷ []) (read_for_sphere s) (λ m. read_at m s.image) (λ m. sphere_read m s) old old new last c.in-Err.halt refl refl
+    unread_in known known old old new last refl refl (s.image ∷ []) (read_for_sphere s) (λ m. read_at m s.image) (λ m. sphere_read m s) c.in-Err.halt
     (record { absent = λ m e name x. err_then _ _ name x; next = λ m e name n. next_before m (s.image ∷ []) (read_for_role s.role) name n })
     (subst (λ (n : List ℕ). Unread known (n ∷ []) (λ m. read_at m n) old new last c.in-Err.halt) c.as_str.ensures.value c.in-Err.ensures.halt)

@@ -25,8 +25,9 @@ returns-in-Err-clause-halt g c =
     let old = g.F.Files.count c.loop-sphere.files in
     let new = g.F.Files.count c.read_sphere.new.files in
     let last = g.F.Files.last_fault c.read_sphere.new.files in
-    unread_in known seen (read_for_sphere here) (flat_map read_for_sphere (map sphere_view ss)) (λ m. sphere_read m here) (λ m. spheres_read m (map sphere_view ss)) (g.F.Files.count c.args.files.now) old new last c.in-Err.halt
-    inv.kept inv.steady (sphere_part known ss i d c.loop-sphere.read.items c.loop-sphere-test.true inv.read inv.turns)
+    unread_in known seen (g.F.Files.count c.args.files.now) old new last inv.kept inv.steady
+    (read_for_sphere here) (flat_map read_for_sphere (map sphere_view ss)) (λ m. sphere_read m here) (λ m. spheres_read m (map sphere_view ss)) c.in-Err.halt
+    (sphere_part known ss i d c.loop-sphere.read.items c.loop-sphere-test.true inv.read inv.turns)
     (subst (λ (s : Sphere). Unread seen (read_for_sphere (sphere_view s)) (λ m. sphere_read m (sphere_view s)) old new last c.in-Err.halt) c.sphere-item.is c.in-Err.ensures.halt)
 
 pub loop-sphere-preserved : goal.loop-sphere-preserved
