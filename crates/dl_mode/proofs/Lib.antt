@@ -1,2 +1,2 @@
-mod EarlyLists
+mod ShortLists
 mod SizeLookups

@@ -12,7 +12,7 @@ use Rattle.std.proofs.lemmas.List.Sums.{fold_more}
 use Rattle.dl_mode.specs.Counts.{done_by, AreAmong, counted}
 use Rattle.spec_log.specs.Reading.{is_earlier}
 use Rattle.spec_log.specs.Size.{is_thread, sizes_of_thread}
-use Rattle.dl_mode.specs.Early.{EarlySizes, size_among}
+use Rattle.dl_mode.specs.ThreadSizes.{ThreadSizes, size_among}
 use Rattle.dl_mode.specs.Whole.{IsWhole}
 use Rattle.spec_log.specs.declared.mode_name.ModeName.TheVariants.{OrderSize}
 use Rattle.spec_log.specs.declared.sizes.Sizes.TheVariants as Sizes
@@ -87,26 +87,26 @@ slice_get-before (y ∷ xs) x zero h = refl
 slice_get-before (y ∷ xs) x (suc i) h = slice_get-before xs x i (λ e. h (omega arith))
 
 abbrev Each : List Actor → List ℕ → List ShortSize → Type 0
-Each order sizes early = (t i : ℕ) → size_among early t i ≡ slice_get (sizes_of_thread t order sizes) i
+Each order sizes short = (t i : ℕ) → size_among short t i ≡ slice_get (sizes_of_thread t order sizes) i
 
 abbrev Done : List Actor → List ℕ → List ℕ → Type 0
 Done order sizes done = (t : ℕ) → slice_index done t ≡ length (sizes_of_thread t order sizes)
 
 -- with a commit more the sizes are found still, and the commits are counted
-pub Each-noted : (order : List Actor) (sizes : List ℕ) (early : List ShortSize) (done : List ℕ) (actor : Actor) (size : ℕ) → length sizes ≡ length order
-    → Each order sizes early → Done order sizes done → Each (order ++ actor ∷ []) (sizes ++ size ∷ []) (short_with early done actor size true)
-Each-noted order sizes early done Dma size h each counted t i =
+pub Each-noted : (order : List Actor) (sizes : List ℕ) (short : List ShortSize) (done : List ℕ) (actor : Actor) (size : ℕ) → length sizes ≡ length order
+    → Each order sizes short → Done order sizes done → Each (order ++ actor ∷ []) (sizes ++ size ∷ []) (short_with short done actor size true)
+Each-noted order sizes short done Dma size h each counted t i =
     rw (sizes_of_thread-push t order sizes Dma size h, append-nil (sizes_of_thread t order sizes)) (each t i)
-Each-noted order sizes early done (Thread u) size h each counted t i =
+Each-noted order sizes short done (Thread u) size h each counted t i =
     let x : ShortSize = record { thread = u; index = slice_index done u; size = size } in
     rw (sizes_of_thread-push t order sizes (Thread u) size h)
     (elim (cases_eq u t) [
       | inr other ↦ rw (ne_eqb u t other, append-nil (sizes_of_thread t order sizes))
-          (size_among-other early x t i (rw (ne_eqb u t other) refl) ∙ each t i)
+          (size_among-other short x t i (rw (ne_eqb u t other) refl) ∙ each t i)
       | inl same ↦ elim (cases_eq (slice_index done u) i) [
-        | inl here ↦ rw (eq-eqb u t same, ← here, ← same, size_among-put early x)
+        | inl here ↦ rw (eq-eqb u t same, ← here, ← same, size_among-put short x)
             (sym (slice_get-push (sizes_of_thread u order sizes) size (slice_index done u) (counted u)))
-        | inr there ↦ rw (eq-eqb u t same, size_among-other early x t i (rw (ne_eqb (slice_index done u) i there) (and-false (u == t))), each t i)
+        | inr there ↦ rw (eq-eqb u t same, size_among-other short x t i (rw (ne_eqb (slice_index done u) i there) (and-false (u == t))), each t i)
             (sym (slice_get-before (sizes_of_thread t order sizes) size i (λ e. there (rw same (counted t ∙ sym e)))))
       ]
     ])
@@ -150,7 +150,7 @@ sizes_of_thread-few t (a ∷ order) (z ∷ sizes) =
     elim (cases_Bool (is_thread t a)) [ inl e ↦ rw e (omega (arith, rest)) | inr e ↦ rw e (omega (arith, rest)) ]
 
 -- where sizes and counts stand together with an order, no thread has more commits than the order
-pub IsWhole-few : (order : List Actor) (sizes : List ℕ) (threads : EarlySizes) → IsWhole order sizes threads → AreAmong (length order) threads.done
+pub IsWhole-few : (order : List Actor) (sizes : List ℕ) (threads : ThreadSizes) → IsWhole order sizes threads → AreAmong (length order) threads.done
 IsWhole-few order sizes threads w t = omega (arith, w.counted t, sizes_of_thread-few t order sizes)
 
 length-done_with : (done : List ℕ) (actor : Actor) → length (done_with done actor) ≡ length done
@@ -158,7 +158,7 @@ length-done_with done (Thread u) = length-set done u (get_or done u 0 + 1)
 length-done_with done Dma = refl
 
 -- sizes and counts stand together with an order still after a commit more
-pub IsWhole-noted : (order : List Actor) (sizes : List ℕ) (threads new : EarlySizes) (actor : Actor) (size : ℕ) → IsWhole order sizes threads
+pub IsWhole-noted : (order : List Actor) (sizes : List ℕ) (threads new : ThreadSizes) (actor : Actor) (size : ℕ) → IsWhole order sizes threads
     → IsActor actor → length order < 2 ^ 24 → new.sizes ≡ short_with threads.sizes threads.done actor size true → new.done ≡ done_with threads.done actor
     → IsWhole (order ++ actor ∷ []) (sizes ++ size ∷ []) new
 IsWhole-noted order sizes threads new actor size w good few e d =
@@ -188,7 +188,7 @@ pub record HasFirst (s i : ℕ) (order : List Actor) (sizes : List ℕ) (kept : 
 
 -- with the next commit noted, one commit more is kept
 pub HasFirst-more : (s i : ℕ) (order : List Actor) (sizes : List ℕ) (kept new : Kept) (d : Actor) → i < length order → i < length sizes
-    → HasFirst s i order sizes kept → new ≡ noted OrderSize kept (record { actor = get_or order i d; size = get_or sizes i 0; early = false })
+    → HasFirst s i order sizes kept → new ≡ noted OrderSize kept (record { actor = get_or order i d; size = get_or sizes i 0; short = false })
     → HasFirst s (i + 1) order sizes new
 HasFirst-more s i order sizes kept new d h l b e =
     record {

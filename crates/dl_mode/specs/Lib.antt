@@ -1,5 +1,5 @@
 pub mod Counts
-pub mod Early
+pub mod ThreadSizes
 pub mod Lists
 pub mod Logged
 pub mod Whole

@@ -19,7 +19,7 @@ pub record AreLists (mode : ModeName) (lists : Lists) : Type 0 where
   pub order : IsOrder mode lists.count lists.order
   pub sizes : IsSizes mode lists.s lists.count lists.sizes
 
--- the sizes are those of chunks that were closed early
-abbrev pub AreEarly : ℕ → Sizes → Type 0
-AreEarly s (Each sizes) = ⊥
-AreEarly s (Short sizes) = AreShortSizes s sizes
+-- the sizes are those of short chunks
+abbrev pub AreShort : ℕ → Sizes → Type 0
+AreShort s (Each sizes) = ⊥
+AreShort s (Short sizes) = AreShortSizes s sizes

@@ -11,7 +11,7 @@ pub record Logged : Type 0 where
 
 -- a commit as a log sees it
 abbrev pub note : Actor → ℕ → Bool → Note
-note actor size early = record { actor = actor; size = size; early = early }
+note actor size short = record { actor = actor; size = size; short = short }
 
 abbrev pub note_of : Commit → Bool → Note
-note_of commit early = note commit.actor commit.size early
+note_of commit short = note commit.actor commit.size short

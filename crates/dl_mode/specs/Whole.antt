@@ -2,10 +2,10 @@
 use Rattle.std.specs.Prelude.{◌≡◌, ℕ, ◌^◌, ◌≤◌, List, length, slice_get, slice_index}
 use Rattle.dl_entry.specs.declared.actor.Actor.{Actor}
 use Rattle.spec_log.specs.Size.{sizes_of_thread}
-use Rattle.dl_mode.specs.Early.{EarlySizes, size_among}
+use Rattle.dl_mode.specs.ThreadSizes.{ThreadSizes, size_among}
 
 -- each commit has an actor and a size, and the sizes by thread and index are those of the thread's commits in their order
-pub record IsWhole (order : List Actor) (sizes : List ℕ) (threads : EarlySizes) : Type 0 where
+pub record IsWhole (order : List Actor) (sizes : List ℕ) (threads : ThreadSizes) : Type 0 where
   pub few : length order ≤ 2 ^ 24
   pub same : length sizes ≡ length order
   pub all : length threads.done ≡ 15

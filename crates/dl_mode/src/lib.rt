@@ -1,12 +1,12 @@
 //! What a log keeps of the order and the sizes of commits, in each of three modes.
 #![tactic(auto)]
 
-mod early;
 mod lists;
 mod mode;
 mod order_only;
 mod order_size;
 mod picolog;
+mod thread_sizes;
 
 pub use dl_entry::{Actor, Commit, OutOfMemory};
 pub use lists::Lists;

@@ -34,7 +34,7 @@ pub trait Mode {
         ensures ok { OnOk result (IsTrue (logged log.new).room) }
         ensures room { IsTrue (logged log.old).room → IsOk result };
 
-    /// Notes a commit, and whether its chunk was closed early. With room it isn't refused.
+    /// Notes a commit, and whether its chunk is short. With room it isn't refused.
     fn note(log: &mut Self::Log, commit: &Commit, closed_short: bool) -> Result<(), OutOfMemory>
         requires actor { IsActor commit.now.actor }
         requires commits { (logged log.old).kept.count < 2 ^ 24 }

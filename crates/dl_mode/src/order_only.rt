@@ -1,10 +1,10 @@
-//! Order-only: the order of commits, and the sizes of chunks that were closed early.
+//! Order-only: the order of commits, and the sizes of short chunks.
 ghost use Rattle.std.specs.Prelude.{◌≡◌};
 ghost use Rattle.spec_log.specs.declared.mode_name.ModeName.TheVariants.{OrderOnly as ByOrder};
 
-use crate::early::Early;
 use crate::lists::Lists;
 use crate::mode::{Mode, limit_of};
+use crate::thread_sizes::ThreadSizes;
 use dl_entry::{Actor, Commit, OutOfMemory};
 use spec_log::{ModeName, Order, Sizes};
 use std::alloc::Global;
@@ -15,7 +15,7 @@ use std::marker::Model;
 pub struct OrderOnlyLog {
     s: u32,
     order: Vec<Actor>,
-    early: Early,
+    short: ThreadSizes,
 }
 
 impl Model for OrderOnlyLog {
@@ -27,11 +27,11 @@ impl Model for OrderOnlyLog {
     ghost Value = { Logged };
 
     ghost view = { λ l. record {
-      kept = record { s = l.s; count = length l.order.items; order = l.order.items; sizes = Short l.early.sizes; done = l.early.done };
-      room = nat_lt (vec_len l.order) (vec_capacity l.order) && l.early.room;
+      kept = record { s = l.s; count = length l.order.items; order = l.order.items; sizes = Short l.short.sizes; done = l.short.done };
+      room = nat_lt (vec_len l.order) (vec_capacity l.order) && l.short.room;
     } };
 
-    ghost invariant = { λ l. (length l.order.items ≤ 2 ^ 24) × AreAmong (length l.order.items) l.early.done };
+    ghost invariant = { λ l. (length l.order.items ≤ 2 ^ 24) × AreAmong (length l.order.items) l.short.done };
 }
 
 /// The mode that logs the order alone, and the sizes that a replay couldn't find.
@@ -52,12 +52,12 @@ impl Mode for OrderOnly {
         Ok(OrderOnlyLog {
             s,
             order: Vec::new(alloc),
-            early: Early::new(alloc)?,
+            short: ThreadSizes::new(alloc)?,
         })
     }
 
     fn reserve(log: &mut OrderOnlyLog) -> Result<(), OutOfMemory> {
-        log.early.reserve()?;
+        log.short.reserve()?;
         log.order.reserve(1)?;
         Ok(())
     }
@@ -68,24 +68,24 @@ impl Mode for OrderOnly {
         closed_short: bool,
     ) -> Result<(), OutOfMemory> {
         log.order.reserve(1)?;
-        log.early.note(commit.actor, commit.size, closed_short)?;
+        log.short.note(commit.actor, commit.size, closed_short)?;
         log.order.push_reserved(commit.actor);
         Ok(())
     }
 
     fn size(log: &OrderOnlyLog, actor: Actor, index: u32) -> Option<u32> {
         match actor {
-            Actor::Thread(thread) => log.early.size(thread, index),
+            Actor::Thread(thread) => log.short.size(thread, index),
             Actor::Dma => None,
         }
     }
 
     fn limit(log: &OrderOnlyLog, thread: u8, index: u32) -> u32 {
-        limit_of(log.s, log.early.size(thread, index))
+        limit_of(log.s, log.short.size(thread, index))
     }
 
     fn used(log: &OrderOnlyLog, done: &[u32]) -> bool {
-        log.early.used(done)
+        log.short.used(done)
     }
 
     fn head(
@@ -104,21 +104,21 @@ impl Mode for OrderOnly {
             s: log.s,
             count: log.order.len() as u32,
             order: Order::from_slice(alloc, &log.order)?,
-            sizes: Sizes::Short(log.early.list(alloc)?),
+            sizes: Sizes::Short(log.short.list(alloc)?),
         })
     }
 
     fn from_lists(alloc: Global, lists: &Lists) -> Result<OrderOnlyLog, OutOfMemory> {
         let order = Vec::from_slice(alloc, lists.order.as_slice())?;
-        let mut early = Early::from_sizes(alloc, &lists.sizes, lists.s)?;
+        let mut short = ThreadSizes::from_sizes(alloc, &lists.sizes, lists.s)?;
         // The sizes stand already: this counts the commits.
         for actor in &order {
-            early.note(*actor, 0, false)?;
+            short.note(*actor, 0, false)?;
         }
         Ok(OrderOnlyLog {
             s: lists.s,
             order,
-            early,
+            short,
         })
     }
 }

@@ -7,9 +7,9 @@ ghost use Rattle.dl_mode.specs.Lists.{AreLists};
 ghost use Rattle.dl_mode.specs.Logged.{note};
 ghost use Rattle.spec_log.specs.declared.sizes.Sizes.TheVariants.{Each};
 
-use crate::early::{Early, count_of};
 use crate::lists::Lists;
 use crate::mode::{Mode, limit_of};
+use crate::thread_sizes::{ThreadSizes, count_of};
 use dl_entry::{Actor, Commit, OutOfMemory, Sequence};
 use spec_log::{ModeName, Order, Sizes};
 use std::alloc::Global;
@@ -21,7 +21,7 @@ pub struct OrderSizeLog {
     s: u32,
     order: Vec<Actor>,
     sizes: Vec<u32>,
-    threads: Early,
+    threads: ThreadSizes,
 }
 
 impl Model for OrderSizeLog {
@@ -48,7 +48,7 @@ impl OrderSizeLog {
             s,
             order: Vec::new(alloc),
             sizes: Vec::new(alloc),
-            threads: Early::new(alloc)?,
+            threads: ThreadSizes::new(alloc)?,
         })
     }
 
@@ -56,7 +56,7 @@ impl OrderSizeLog {
     fn push(&mut self, actor: Actor, size: u32) -> Result<(), OutOfMemory>
         requires actor { IsActor actor }
         requires commits { self.old.kept.count < 2 ^ 24 }
-        ensures ok { (early : Bool) → OnOk result (self.new.kept ≡ noted BySize self.old.kept (note actor size early)) }
+        ensures ok { (short : Bool) → OnOk result (self.new.kept ≡ noted BySize self.old.kept (note actor size short)) }
         ensures err { OnErr result (self.new.kept ≡ self.old.kept) }
         ensures room { IsTrue self.old.room → IsOk result }
     {

@@ -1,11 +1,11 @@
-//! Picolog: no order, since threads take turns, and the sizes of chunks that were closed early.
+//! Picolog: no order, since threads take turns, and the sizes of short chunks.
 ghost use Rattle.std.specs.Prelude.{◌≡◌, ◌<◌, ◌≤◌, length, take, IfSome};
 ghost use Rattle.spec_log.specs.declared.mode_name.ModeName.TheVariants.{Picolog as ByTurn};
 ghost use Rattle.spec_log.specs.Head.{turn as turn_of, first_live as first_of, next_live as next_of};
 
-use crate::early::Early;
 use crate::lists::Lists;
 use crate::mode::{Mode, limit_of};
+use crate::thread_sizes::ThreadSizes;
 use dl_entry::{Actor, Commit, OutOfMemory};
 use dl_moments::THREADS;
 use spec_log::{ModeName, Order, Sizes};
@@ -17,7 +17,7 @@ use std::marker::Model;
 pub struct TurnLog {
     s: u32,
     count: u32,
-    early: Early,
+    short: ThreadSizes,
 }
 
 impl Model for TurnLog {
@@ -29,11 +29,11 @@ impl Model for TurnLog {
     ghost Value = { Logged };
 
     ghost view = { λ l. record {
-      kept = record { s = l.s; count = l.count; order = []; sizes = Short l.early.sizes; done = l.early.done };
-      room = l.early.room;
+      kept = record { s = l.s; count = l.count; order = []; sizes = Short l.short.sizes; done = l.short.done };
+      room = l.short.room;
     } };
 
-    ghost invariant = { λ l. AreAmong l.count l.early.done };
+    ghost invariant = { λ l. AreAmong l.count l.short.done };
 }
 
 /// The mode in which threads take turns.
@@ -54,33 +54,33 @@ impl Mode for PicoLog {
         Ok(TurnLog {
             s,
             count: 0,
-            early: Early::new(alloc)?,
+            short: ThreadSizes::new(alloc)?,
         })
     }
 
     fn reserve(log: &mut TurnLog) -> Result<(), OutOfMemory> {
-        log.early.reserve()
+        log.short.reserve()
     }
 
     fn note(log: &mut TurnLog, commit: &Commit, closed_short: bool) -> Result<(), OutOfMemory> {
-        log.early.note(commit.actor, commit.size, closed_short)?;
+        log.short.note(commit.actor, commit.size, closed_short)?;
         log.count += 1;
         Ok(())
     }
 
     fn size(log: &TurnLog, actor: Actor, index: u32) -> Option<u32> {
         match actor {
-            Actor::Thread(thread) => log.early.size(thread, index),
+            Actor::Thread(thread) => log.short.size(thread, index),
             Actor::Dma => None,
         }
     }
 
     fn limit(log: &TurnLog, thread: u8, index: u32) -> u32 {
-        limit_of(log.s, log.early.size(thread, index))
+        limit_of(log.s, log.short.size(thread, index))
     }
 
     fn used(log: &TurnLog, done: &[u32]) -> bool {
-        log.early.used(done)
+        log.short.used(done)
     }
 
     fn head(_: &TurnLog, _: u32, slot: bool, last: Option<u8>, live: &[bool]) -> Option<Actor> {
@@ -96,7 +96,7 @@ impl Mode for PicoLog {
             s: log.s,
             count: log.count,
             order: Order::new(alloc),
-            sizes: Sizes::Short(log.early.list(alloc)?),
+            sizes: Sizes::Short(log.short.list(alloc)?),
         })
     }
 
@@ -104,7 +104,7 @@ impl Mode for PicoLog {
         Ok(TurnLog {
             s: lists.s,
             count: lists.count,
-            early: Early::from_sizes(alloc, &lists.sizes, lists.s)?,
+            short: ThreadSizes::from_sizes(alloc, &lists.sizes, lists.s)?,
         })
     }
 }

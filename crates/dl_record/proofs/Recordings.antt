@@ -40,10 +40,10 @@ order-noted OrderSize count order actor good o = (omega (arith, length_push orde
 order-noted OrderOnly count order actor good o = (omega (arith, length_push order actor, o.0), All-push IsActor order actor o.1 good)
 order-noted Picolog count order actor good o = o
 
-short-noted : (s count : ℕ) (sizes : List ShortSize) (done : List ℕ) (actor : Actor) (size : ℕ) (early : Bool) → IsActor actor → size ≤ s
-    → (early ≡ true → 1 ≤ size) → count < 2 ^ 24 → ((t : ℕ) → slice_index done t ≤ count) → length sizes ≤ count
-    → AreShortSizes s sizes → AreShortSizes s (short_with sizes done actor size early)
-short-noted s count sizes done Dma size early good fits over few counts room are = are
+short-noted : (s count : ℕ) (sizes : List ShortSize) (done : List ℕ) (actor : Actor) (size : ℕ) (short : Bool) → IsActor actor → size ≤ s
+    → (short ≡ true → 1 ≤ size) → count < 2 ^ 24 → ((t : ℕ) → slice_index done t ≤ count) → length sizes ≤ count
+    → AreShortSizes s sizes → AreShortSizes s (short_with sizes done actor size short)
+short-noted s count sizes done Dma size short good fits over few counts room are = are
 short-noted s count sizes done (Thread t) size false good fits over few counts room are = are
 short-noted s count sizes done (Thread t) size true good fits over few counts room are =
     IsSection-insert (λ x. x.thread) (λ x. x.index) (IsShortSize s) (record { thread = t; index = slice_index done t; size = size }) sizes
@@ -51,27 +51,27 @@ short-noted s count sizes done (Thread t) size true good fits over few counts ro
     (good, omega (arith, counts t), over refl, fits) are
 
 sizes-noted : (mode : ModeName) (s count : ℕ) (sizes : Sizes) (done : List ℕ) (note : Note) → IsActor note.actor → note.size ≤ s
-    → (note.early ≡ true → 1 ≤ note.size) → count < 2 ^ 24 → ((t : ℕ) → slice_index done t ≤ count) → length (short_sizes sizes) ≤ count
+    → (note.short ≡ true → 1 ≤ note.size) → count < 2 ^ 24 → ((t : ℕ) → slice_index done t ≤ count) → length (short_sizes sizes) ≤ count
     → IsSizes mode s count sizes → IsSizes mode s (count + 1) (sizes_with sizes done note)
 sizes-noted OrderSize s count (Each sizes) done note good fits over few counts room are =
     (omega (arith, length_push sizes note.size, are.0), All-push (λ size. size ≤ s) sizes note.size are.1 fits)
 sizes-noted OrderSize s count (Short sizes) done note good fits over few counts room are = absurd are
 sizes-noted OrderOnly s count (Each sizes) done note good fits over few counts room are = absurd are
 sizes-noted OrderOnly s count (Short sizes) done note good fits over few counts room are =
-    short-noted s count sizes done note.actor note.size note.early good fits over few counts room are
+    short-noted s count sizes done note.actor note.size note.short good fits over few counts room are
 sizes-noted Picolog s count (Each sizes) done note good fits over few counts room are = absurd are
 sizes-noted Picolog s count (Short sizes) done note good fits over few counts room are =
-    short-noted s count sizes done note.actor note.size note.early good fits over few counts room are
+    short-noted s count sizes done note.actor note.size note.short good fits over few counts room are
 
-short-length : (sizes : List ShortSize) (done : List ℕ) (actor : Actor) (size : ℕ) (early : Bool) → length (short_with sizes done actor size early) ≤ length sizes + 1
-short-length sizes done Dma size early = omega arith
+short-length : (sizes : List ShortSize) (done : List ℕ) (actor : Actor) (size : ℕ) (short : Bool) → length (short_with sizes done actor size short) ≤ length sizes + 1
+short-length sizes done Dma size short = omega arith
 short-length sizes done (Thread t) size false = omega arith
 short-length sizes done (Thread t) size true =
     length-insert (λ x. x.thread) (λ x. x.index) (record { thread = t; index = slice_index done t; size = size }) sizes
 
 sizes-length : (sizes : Sizes) (done : List ℕ) (note : Note) → length (short_sizes (sizes_with sizes done note)) ≤ length (short_sizes sizes) + 1
 sizes-length (Each sizes) done note = omega arith
-sizes-length (Short sizes) done note = short-length sizes done note.actor note.size note.early
+sizes-length (Short sizes) done note = short-length sizes done note.actor note.size note.short
 
 abbrev pub IfThere : {X : Type 0} → (X → Type 0) → Option X → Type 0
 IfThere P None = Unit {0}
@@ -99,10 +99,10 @@ dmas-with dmas n (Some bytes) few h good slots are =
 
 -- a recording is one still with a commit more and its records
 pub IsRecording-commit : (mode : ModeName) (kept : Kept) (interrupts : List Interrupt) (inputs : List Input) (dmas : List DmaRecord)
-    (commit : Commit) (early : Bool) (input : Option Input) (bytes : Option (List ℕ))
-    → IsRecording mode kept interrupts inputs dmas → CanCommit kept commit early → IfThere IsInput input → IfThere AreFewBytes bytes
-    → IsRecording mode (noted mode kept (note_of commit early)) interrupts (with_input inputs input) (with_dma dmas kept.count bytes)
-IsRecording-commit mode kept interrupts inputs dmas commit early input bytes r can good few =
+    (commit : Commit) (short : Bool) (input : Option Input) (bytes : Option (List ℕ))
+    → IsRecording mode kept interrupts inputs dmas → CanCommit kept commit short → IfThere IsInput input → IfThere AreFewBytes bytes
+    → IsRecording mode (noted mode kept (note_of commit short)) interrupts (with_input inputs input) (with_dma dmas kept.count bytes)
+IsRecording-commit mode kept interrupts inputs dmas commit short input bytes r can good few =
     let i = inputs-with inputs input kept.count can.few r.few_inputs good r.log.inputs in
     let d = dmas-with dmas kept.count bytes can.few r.few_dmas few r.slots r.log.dmas in
     record {
@@ -110,13 +110,13 @@ IsRecording-commit mode kept interrupts inputs dmas commit early input bytes r c
         s = r.log.s;
         count = omega (arith, can.few);
         order = order-noted mode kept.count kept.order commit.actor can.actor r.log.order;
-        sizes = sizes-noted mode kept.s kept.count kept.sizes kept.done (note_of commit early) can.actor can.size can.over can.few r.done r.sizes r.log.sizes;
+        sizes = sizes-noted mode kept.s kept.count kept.sizes kept.done (note_of commit short) can.actor can.size can.over can.few r.done r.sizes r.log.sizes;
         interrupts = r.log.interrupts;
         inputs = i.0;
         dmas = d.0;
       };
       done = done_with-few kept.done commit.actor kept.count r.done;
-      sizes = omega (arith, sizes-length kept.sizes kept.done (note_of commit early), r.sizes);
+      sizes = omega (arith, sizes-length kept.sizes kept.done (note_of commit short), r.sizes);
       few_inputs = i.1;
       few_dmas = d.1;
       slots = d.2;

@@ -20,12 +20,12 @@ pub record Recording : Type 0 where
   pub room : Bool
   pub interrupt_room : Bool
 
--- a commit that can be noted: of an actor of a log, no larger than a standard chunk, over 0 where it was closed early, and
+-- a commit that can be noted: of an actor of a log, no larger than a standard chunk, over 0 where it is short, and
 -- not the 2^24th but one
-pub record CanCommit (kept : Kept) (commit : Commit) (early : Bool) : Type 0 where
+pub record CanCommit (kept : Kept) (commit : Commit) (short : Bool) : Type 0 where
   pub actor : IsActor commit.actor
   pub size : commit.size ≤ kept.s
-  pub over : early ≡ true → 1 ≤ commit.size
+  pub over : short ≡ true → 1 ≤ commit.size
   pub few : kept.count < 2 ^ 24
 
 -- the inputs with that of a commit, if it took one

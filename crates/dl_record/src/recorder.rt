@@ -79,7 +79,7 @@ impl<M: Mode> Recorder<M> {
         self.dmas.reserve()
     }
 
-    /// Notes a commit, whether its chunk was closed early, and its record. With room it isn't refused.
+    /// Notes a commit, whether its chunk is short, and its record. With room it isn't refused.
     pub fn commit(
         &mut self,
         commit: &Commit,

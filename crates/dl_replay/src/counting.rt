@@ -6,10 +6,7 @@ ghost use Rattle.dl_kernel.specs.Calls.{made_list};
 ghost use Rattle.dl_replay.specs.Replaying.{commits_at, commits_of};
 
 use dl_thread::{Parts, Thread, ThreadStatus, Threads};
-
-const A0: usize = 10;
-
-const A1: usize = 11;
+use spec_isa::numbers::{A0, A1};
 
 /// The thread with one commit more, after which no word stays reserved.
 pub fn counted(thread: &Thread) -> Thread

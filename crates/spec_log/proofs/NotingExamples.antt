@@ -5,12 +5,12 @@ use Rattle.spec_log.specs.declared.mode_name.ModeName.TheVariants.{OrderSize, Or
 use Rattle.spec_log.specs.declared.sizes.Sizes.TheVariants.{Each, Short}
 use Rattle.spec_log.specs.Noting.{Note, kept_of}
 
--- thread 1 is closed early, then thread 0, and thread 1 once more; a DMA stands between
+-- thread 1 has a short chunk, then thread 0, and thread 1 once more; a DMA stands between
 abbrev notes : List Note
 notes =
-    record { actor = Thread 1; size = 2; early = true } ∷ record { actor = Dma; size = 0; early = false }
-    ∷ record { actor = Thread 0; size = 100; early = false } ∷ record { actor = Thread 0; size = 8; early = true }
-    ∷ record { actor = Thread 1; size = 3; early = true } ∷ []
+    record { actor = Thread 1; size = 2; short = true } ∷ record { actor = Dma; size = 0; short = false }
+    ∷ record { actor = Thread 0; size = 100; short = false } ∷ record { actor = Thread 0; size = 8; short = true }
+    ∷ record { actor = Thread 1; size = 3; short = true } ∷ []
 
 pub kept_of-order_size : (kept_of OrderSize 100 notes).sizes ≡ Each (2 ∷ 0 ∷ 100 ∷ 8 ∷ 3 ∷ [])
 kept_of-order_size = refl

@@ -35,7 +35,7 @@ pub record IsSection {X : Type 0} (good : X → Type 0) (before : X → X → Ty
   pub each : All good entries
   pub rising : AllAdjacentBelow before entries (length entries)
 
--- the size of a commit that was closed early is over 0 and no more than a standard chunk's
+-- the size of a short chunk is over 0 and no more than a standard chunk's
 abbrev pub IsShortSize : ℕ → ShortSize → Type 0
 IsShortSize s short = (short.thread ≤ greatest_thread) × (short.index < 2 ^ 32) × (1 ≤ short.size) × (short.size ≤ s)
 
@@ -43,7 +43,7 @@ abbrev pub AreShortSizes : ℕ → List ShortSize → Type 0
 AreShortSizes s sizes =
     IsSection (IsShortSize s) (λ x y. ComesBefore x.thread x.index y.thread y.index) sizes
 
--- in order-size each commit has a size, in the other modes those that were closed early
+-- in order-size each commit has a size, in the other modes the short chunks
 abbrev pub IsSizes : ModeName → ℕ → ℕ → Sizes → Type 0
 IsSizes OrderSize s count (Each sizes) = (length sizes ≡ count) × All (λ size. size ≤ s) sizes
 IsSizes OrderSize s count (Short sizes) = ⊥

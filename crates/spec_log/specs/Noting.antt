@@ -17,11 +17,11 @@ use Rattle.spec_log.specs.Head.{head_by_turn}
 use Rattle.spec_log.specs.Reading.{is_earlier}
 use Rattle.spec_log.specs.Size.{thread_size, dma_size, sizes_of_thread}
 
--- a commit as a log sees it: who commits, the size, and whether its chunk was closed early
+-- a commit as a log sees it: who commits, the size, and whether its chunk is short: closed before its standard size
 pub record Note : Type 0 where
   pub actor : Actor
   pub size : ℕ
-  pub early : Bool
+  pub short : Bool
 
 -- what is kept: the standard chunk size, the number of commits, the order, the sizes, and the number of each thread's commits
 pub record Kept : Type 0 where
@@ -31,7 +31,7 @@ pub record Kept : Type 0 where
   pub sizes : Sizes
   pub done : List ℕ
 
--- no size yet: of each commit, or of those that were closed early
+-- no size yet: of each commit, or of the short chunks
 abbrev pub no_sizes : ModeName → Sizes
 no_sizes OrderSize = Each []
 no_sizes OrderOnly = Short []
@@ -66,19 +66,19 @@ abbrev pub index_of : List ℕ → Actor → ℕ
 index_of done (Thread thread) = slice_index done thread
 index_of done Dma = 0
 
--- the short sizes with a chunk more, of an actor with so many commits before: of a thread, where it was closed early
+-- the short sizes with a chunk more, of an actor with so many commits before: of a thread, where it is short
 abbrev pub short_at : List ShortSize → (index : ℕ) → Actor → ℕ → Bool → List ShortSize
-short_at sizes index (Thread thread) size early =
-    if early then insert_size (record { thread = thread; index = index; size = size }) sizes else sizes
-short_at sizes index Dma size early = sizes
+short_at sizes index (Thread thread) size short =
+    if short then insert_size (record { thread = thread; index = index; size = size }) sizes else sizes
+short_at sizes index Dma size short = sizes
 
 abbrev pub short_with : List ShortSize → List ℕ → Actor → ℕ → Bool → List ShortSize
-short_with sizes done actor size early = short_at sizes (index_of done actor) actor size early
+short_with sizes done actor size short = short_at sizes (index_of done actor) actor size short
 
 -- the sizes with a commit more, of an actor with so many before
 abbrev pub sizes_at : Sizes → (index : ℕ) → Note → Sizes
 sizes_at (Each sizes) index note = Each (sizes ++ note.size ∷ [])
-sizes_at (Short sizes) index note = Short (short_at sizes index note.actor note.size note.early)
+sizes_at (Short sizes) index note = Short (short_at sizes index note.actor note.size note.short)
 
 abbrev pub sizes_with : Sizes → List ℕ → Note → Sizes
 sizes_with sizes done note = sizes_at sizes (index_of done note.actor) note

@@ -7,9 +7,9 @@ ghost use Rattle.spec_log.specs.Mode.{mode_code};
 pub enum ModeName {
     /// The order, and the size of every commit.
     OrderSize,
-    /// The order, and the sizes of chunks that were closed early.
+    /// The order, and the sizes of short chunks.
     OrderOnly,
-    /// No order, since threads take turns, and the sizes of chunks that were closed early.
+    /// No order, since threads take turns, and the sizes of short chunks.
     Picolog,
 }
 

@@ -23,7 +23,7 @@ new_log mode s =
 -- ---- a commit
 
 abbrev pub note_of : Commit → (short : Bool) → Note
-note_of c short = record { actor = c.actor; size = c.size; early = short }
+note_of c short = record { actor = c.actor; size = c.size; short = short }
 
 -- a commit more; of a thread's commit the index is the number of its commits before
 abbrev pub noted : Commit → (index : ℕ) → (short : Bool) → LogParts → LogParts

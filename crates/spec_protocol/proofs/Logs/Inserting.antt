@@ -17,7 +17,7 @@ with_short k i n sizes = insert_size (record { thread = k; index = i; size = n }
 
 -- the sizes with that of one more commit, as their mode keeps them
 abbrev pub with_size : Sizes → Actor → (index size : ℕ) → (short : Bool) → Sizes
-with_size sizes actor i n short = sizes_at sizes i (record { actor = actor; size = n; early = short })
+with_size sizes actor i n short = sizes_at sizes i (record { actor = actor; size = n; short = short })
 
 -- ---- entries of a moment
 

@@ -5,4 +5,4 @@ use Rattle.dl_mode.proofs.order_only.OrderOnlyMode.from_lists.Given as goal
 
 abbrev pub invariant-loop-actor : goal.invariant-loop-actor
 invariant-loop-actor l =
-    (l.lists.sizes ≡ Short l.early.sizes) × (l.early.done ≡ counted (take l.actor-index l.actor-items)) × AreAmong l.actor-index l.early.done
+    (l.lists.sizes ≡ Short l.short.sizes) × (l.short.done ≡ counted (take l.actor-index l.actor-items)) × AreAmong l.actor-index l.short.done

@@ -2,8 +2,8 @@ use Rattle.std.proofs.Common.{◌<◌, length, get_or, arith, ◌∙◌}
 use Rattle.std.proofs.lemmas.List.{length-set, get_or_default}
 use Rattle.spec_log.specs.declared.sizes.ShortSize.{ShortSize}
 use Rattle.dl_moments.specs.Marks.{with_mark}
-use Rattle.dl_mode.proofs.EarlyLists.{insert-put, insert-next}
-use Rattle.dl_mode.proofs.early.Early.from_list.Goals as goal
+use Rattle.dl_mode.proofs.ShortLists.{insert-put, insert-next}
+use Rattle.dl_mode.proofs.thread_sizes.ThreadSizes.from_list.Goals as goal
 
 pub loop-short-preserved : goal.loop-short-preserved
 loop-short-preserved c =

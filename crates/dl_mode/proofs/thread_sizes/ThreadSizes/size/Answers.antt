@@ -1,6 +1,6 @@
 use Rattle.std.proofs.Common.{◌∙◌}
-use Rattle.dl_mode.proofs.EarlyLists.{size_among-at}
-use Rattle.dl_mode.proofs.early.Early.size.Goals as goal
+use Rattle.dl_mode.proofs.ShortLists.{size_among-at}
+use Rattle.dl_mode.proofs.thread_sizes.ThreadSizes.size.Goals as goal
 
 pub returns : goal.returns
 returns c =

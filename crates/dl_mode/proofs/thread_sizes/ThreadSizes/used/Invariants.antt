@@ -1,7 +1,7 @@
 use Rattle.std.proofs.Common.{◌≡◌, nat_lt, slice_index, drop}
 use Rattle.std.specs.List.{list_all}
-use Rattle.dl_mode.specs.Early.{sizes_from}
-use Rattle.dl_mode.proofs.early.Early.used.Given as goal
+use Rattle.dl_mode.specs.ThreadSizes.{sizes_from}
+use Rattle.dl_mode.proofs.thread_sizes.ThreadSizes.used.Given as goal
 
 abbrev pub invariant-loop-thread : goal.invariant-loop-thread
 invariant-loop-thread l =

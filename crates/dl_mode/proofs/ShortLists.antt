@@ -13,7 +13,7 @@ use Rattle.dl_moments.specs.declared.lane.Mark.{Mark}
 use Rattle.dl_moments.specs.Marks.{with_mark, value_at}
 use Rattle.dl_moments.proofs.Entries as entries
 use Rattle.dl_moments.proofs.Entries.{earlier-lower, earlier-same}
-use Rattle.dl_mode.specs.Early.{short_of, sizes_from, size_among}
+use Rattle.dl_mode.specs.ThreadSizes.{short_of, sizes_from, size_among}
 
 -- a size put into its thread's lane is inserted into the list
 pub insert-put : (lanes : List (List (Mark ℕ))) (t i v : ℕ) → t < length lanes

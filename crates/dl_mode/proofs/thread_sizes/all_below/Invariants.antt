@@ -1,6 +1,6 @@
 use Rattle.std.proofs.Common.{◌≡◌, nat_lt, drop}
 use Rattle.std.specs.List.{list_all}
-use Rattle.dl_mode.proofs.early.all_below.Given as goal
+use Rattle.dl_mode.proofs.thread_sizes.all_below.Given as goal
 
 abbrev pub invariant-loop-mark : goal.invariant-loop-mark
 invariant-loop-mark l =

@@ -3,9 +3,9 @@ ghost use Rattle.std.specs.Prelude.{◌≡◌, ℕ, ◌+◌, nat_lt, ◌^◌, �
 ghost use Rattle.spec_log.specs.Log.{IsActor, AreShortSizes};
 ghost use Rattle.spec_log.specs.Noting.{short_with, done_with};
 ghost use Rattle.spec_log.specs.declared.sizes.Sizes.TheVariants.{Short};
-ghost use Rattle.dl_mode.specs.Early.{size_among, short_of};
+ghost use Rattle.dl_mode.specs.ThreadSizes.{size_among, short_of};
 ghost use Rattle.std.specs.List.{list_all};
-ghost use Rattle.dl_mode.specs.Lists.{AreEarly};
+ghost use Rattle.dl_mode.specs.Lists.{AreShort};
 ghost use Rattle.dl_mode.specs.Counts.{done_by};
 
 use dl_entry::{Actor, OutOfMemory, Sequence};
@@ -16,58 +16,58 @@ use std::marker::Model;
 
 /// Sizes by thread and index, and the number of each thread's commits.
 #[derive(Debug, Drop)]
-pub struct Early {
+pub struct ThreadSizes {
     sizes: Moments<u32>,
     done: [u32; THREADS],
 }
 
-impl Model for Early {
+impl Model for ThreadSizes {
     ghost use Rattle.std.specs.Prelude.{◌≡◌, length};
-    ghost use Rattle.dl_mode.specs.Early.{EarlySizes, sizes_from};
+    ghost use Rattle.dl_mode.specs.ThreadSizes.{ThreadSizes, sizes_from};
 
-    ghost Value = { EarlySizes };
+    ghost Value = { ThreadSizes };
 
     ghost view = { λ e. record { sizes = sizes_from 0 e.sizes.lanes; done = e.done; room = e.sizes.room } };
 
     ghost invariant = { λ e. length e.sizes.lanes ≡ 15 };
 }
 
-impl Early {
-    pub fn new(alloc: Global) -> Result<Early, OutOfMemory>
-        ensures sizes { IfOk result (λ early. early.sizes ≡ []) }
-        ensures done { IfOk result (λ early. early.done ≡ replicate 15 0) }
+impl ThreadSizes {
+    pub fn new(alloc: Global) -> Result<ThreadSizes, OutOfMemory>
+        ensures sizes { IfOk result (λ threads. threads.sizes ≡ []) }
+        ensures done { IfOk result (λ threads. threads.done ≡ replicate 15 0) }
     {
-        Ok(Early {
+        Ok(ThreadSizes {
             sizes: Moments::new(alloc)?,
             done: [0; THREADS],
         })
     }
 
     /// Sizes in a log's order, of which no commit is counted.
-    pub fn from_list(alloc: Global, list: &[ShortSize], s: u32) -> Result<Early, OutOfMemory>
+    pub fn from_list(alloc: Global, list: &[ShortSize], s: u32) -> Result<ThreadSizes, OutOfMemory>
         requires { AreShortSizes s list.now }
-        ensures sizes { IfOk result (λ early. early.sizes ≡ list.now) }
-        ensures done { IfOk result (λ early. early.done ≡ replicate 15 0) }
+        ensures sizes { IfOk result (λ threads. threads.sizes ≡ list.now) }
+        ensures done { IfOk result (λ threads. threads.done ≡ replicate 15 0) }
     {
         let mut sizes = Moments::new(alloc)?;
         for short in list {
             sizes.put(short.thread, short.index, short.size)?;
         }
-        Ok(Early {
+        Ok(ThreadSizes {
             sizes,
             done: [0; THREADS],
         })
     }
 
-    /// The same of sizes that are those of chunks that were closed early.
-    pub fn from_sizes(alloc: Global, sizes: &Sizes, s: u32) -> Result<Early, OutOfMemory>
-        requires { AreEarly s sizes.now }
-        ensures sizes { IfOk result (λ early. sizes.now ≡ Short early.sizes) }
-        ensures done { IfOk result (λ early. early.done ≡ replicate 15 0) }
+    /// The same of sizes that are those of short chunks.
+    pub fn from_sizes(alloc: Global, sizes: &Sizes, s: u32) -> Result<ThreadSizes, OutOfMemory>
+        requires { AreShort s sizes.now }
+        ensures sizes { IfOk result (λ threads. sizes.now ≡ Short threads.sizes) }
+        ensures done { IfOk result (λ threads. threads.done ≡ replicate 15 0) }
     {
         match sizes {
-            Sizes::Short(sizes) => Early::from_list(alloc, sizes.as_slice(), s),
-            Sizes::Each(_) => Early::new(alloc),
+            Sizes::Short(sizes) => ThreadSizes::from_list(alloc, sizes.as_slice(), s),
+            Sizes::Each(_) => ThreadSizes::new(alloc),
         }
     }
 
@@ -81,11 +81,11 @@ impl Early {
         self.sizes.reserve()
     }
 
-    /// Counts a commit, and keeps its size where its chunk was closed early. With room it isn't refused.
-    pub fn note(&mut self, actor: Actor, size: u32, early: bool) -> Result<(), OutOfMemory>
+    /// Counts a commit, and keeps its size where its chunk is short. With room it isn't refused.
+    pub fn note(&mut self, actor: Actor, size: u32, short: bool) -> Result<(), OutOfMemory>
         requires actor { IsActor actor }
         requires few { done_by self.old.done actor + 1 < 2 ^ 32 }
-        ensures sizes { OnOk result (self.new.sizes ≡ short_with self.old.sizes self.old.done actor size early) }
+        ensures sizes { OnOk result (self.new.sizes ≡ short_with self.old.sizes self.old.done actor size short) }
         ensures done { OnOk result (self.new.done ≡ done_with self.old.done actor) }
         ensures sizes_kept { OnErr result (self.new.sizes ≡ self.old.sizes) }
         ensures done_kept { OnErr result (self.new.done ≡ self.old.done) }
@@ -96,7 +96,7 @@ impl Early {
             Actor::Dma => return Ok(()),
         };
         let index = self.done[usize::from(thread)];
-        if early {
+        if short {
             self.sizes.put(thread, index, size)?;
         }
         self.done[usize::from(thread)] = index + 1;

@@ -1,9 +1,9 @@
 use Rattle.std.proofs.Common.{◌≡◌, ◌<◌, ◌+◌, nat_lt, true, false, [], length, get_or, slice_index, drop, refl, ap, sym, ◌∙◌, arith, rules}
 use Rattle.std.specs.List.{list_all}
 use Rattle.spec_log.specs.declared.sizes.ShortSize.{ShortSize}
-use Rattle.dl_mode.specs.Early.{short_of, sizes_from}
+use Rattle.dl_mode.specs.ThreadSizes.{short_of, sizes_from}
 use Rattle.dl_moments.proofs.Entries.{entries-next, all-lane}
-use Rattle.dl_mode.proofs.early.Early.used.Goals as goal
+use Rattle.dl_mode.proofs.thread_sizes.ThreadSizes.used.Goals as goal
 
 pub returns-then-not-all_below : goal.returns-then-not-all_below
 returns-then-not-all_below c =

@@ -17,7 +17,7 @@ size_among sizes thread index =
     option_map (λ short. short.size) (find (λ short. (short.thread == thread) && (short.index == index)) sizes)
 
 -- the sizes by thread and index, the number of each thread's commits, and whether there is room for one size more
-pub record EarlySizes : Type 0 where
+pub record ThreadSizes : Type 0 where
   pub sizes : List ShortSize
   pub done : List ℕ
   pub room : Bool
