@@ -2,8 +2,6 @@
 #![tactic(auto)]
 
 pub mod arbiter;
-#[cfg(test)]
-mod tests;
 
 pub use arbiter::{ask, ask_serial};
 pub use dl_fly::Flights;

@@ -4,8 +4,6 @@
 
 pub mod chunk;
 mod store;
-#[cfg(test)]
-mod tests;
 mod view;
 
 pub use chunk::Chunk;

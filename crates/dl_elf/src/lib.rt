@@ -6,8 +6,6 @@ pub mod image;
 mod loading;
 mod overlapping;
 mod segment;
-#[cfg(test)]
-mod tests;
 
 pub use image::{ElfError, Image};
 pub use loading::load;

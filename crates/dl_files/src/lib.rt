@@ -15,8 +15,6 @@ mod real_reads;
 mod sink;
 mod std_sink;
 mod store;
-#[cfg(test)]
-mod tests;
 
 pub use error::{FileError, SinkError};
 pub use files::Files;

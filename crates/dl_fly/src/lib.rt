@@ -4,8 +4,6 @@
 pub mod flight;
 pub mod flights;
 mod slot;
-#[cfg(test)]
-mod tests;
 
 pub use dl_mem::Memory;
 pub use dl_sig::Sig;

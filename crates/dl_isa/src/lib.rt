@@ -15,6 +15,3 @@ pub use spec_isa::field::{Imm12, Imm20, Reg};
 pub use spec_isa::instr::{
     AmoOp, BranchOp, ImmediateOp, Instr, LoadOp, RegisterOp, ShiftOp, StoreOp,
 };
-
-#[cfg(test)]
-mod tests;

@@ -10,8 +10,6 @@ mod refusal;
 mod row;
 mod sight;
 mod state;
-#[cfg(test)]
-mod tests;
 
 pub use answer::Did;
 pub use instruction::one;

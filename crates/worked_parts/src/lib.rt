@@ -1,5 +1,5 @@
-//! Worked parts of the machine: write buffers, signatures and devices. There is nothing here but tests, which so cost no second
-//! proof of the crates that they try.
+//! Worked parts: words and instructions, images and memories, write buffers, signatures, flights, chunks and requests, devices,
+//! plain data, and files and sinks. There is nothing here but tests, which so cost no second proof of the crates that they try.
 #![tactic(auto)]
 
 #[cfg(test)]

@@ -1,5 +1,17 @@
-//! What single parts of the machine do.
+//! What single parts of the machine, and of what it is made of, do.
 
 mod buffers;
+mod chunks;
+mod counts;
 mod devices;
+mod encodings;
+mod files;
+mod flights;
+mod images;
+mod instructions;
+mod memories;
+mod moments;
+mod requests;
+mod sequences;
 mod signatures;
+mod small;

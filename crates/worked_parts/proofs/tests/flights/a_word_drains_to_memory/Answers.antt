@@ -1,5 +1,5 @@
 use Rattle.std.proofs.Common.{length}
-use Rattle.dl_fly.proofs.tests.a_word_drains_to_memory.Goals as goal
+use Rattle.worked_parts.proofs.tests.flights.a_word_drains_to_memory.Goals as goal
 
 pub drain-requires-clause-inside : goal.drain-requires-clause-inside
 drain-requires-clause-inside g c =

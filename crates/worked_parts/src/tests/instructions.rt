@@ -3,13 +3,7 @@ ghost use Rattle.std.specs.Prelude.{◌≡◌, ◌*◌, ◌/◌, ◌+◌, ◌<�
 ghost use Rattle.spec_isa.specs.Words.{lay, read, with_byte};
 ghost use Rattle.spec_isa.specs.Masks.{bytes_of, some_if};
 
-use crate::answer::Did;
-use crate::instruction::one;
-use crate::row::Threads;
-use crate::sight::{Full, View};
-use crate::state::Thread;
-use spec_isa::field::Reg;
-use spec_isa::thread::{Kind, Load, ThreadStatus};
+use dl_thread::{Did, Full, Kind, Load, Thread, ThreadStatus, Threads, View, one};
 
 // A memory of 64 bytes, of which flight 3 holds up one word, and which may have no room for stores.
 #[derive(Drop)]
@@ -118,11 +112,11 @@ fn memory_of(program: [u32; 2]) -> Small {
 
 // A thread at 0 with these values of x1 and x2, and 7 in x3.
 fn thread(x1: u32, x2: u32) -> Thread {
-    let mut t = Thread::started(0);
-    t.go(Reg::new(1), x1, 0);
-    t.go(Reg::new(2), x2, 0);
-    t.go(Reg::new(3), 7, 0);
-    t
+    let mut parts = Thread::started(0).parts();
+    parts.x[1] = x1;
+    parts.x[2] = x2;
+    parts.x[3] = 7;
+    Thread::from_parts(&parts)
 }
 
 // What one instruction came to, and what it left.

@@ -1,5 +1,5 @@
 //! Words that an assembler wrote, with the instructions that they denote.
-use crate::{
+use dl_isa::{
     AmoOp, BranchOp, Imm12, Imm20, ImmediateOp, Instr, LoadOp, Reg, RegisterOp, ShiftOp, StoreOp,
     decode, encode, redecoded, respelled,
 };

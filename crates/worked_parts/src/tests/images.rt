@@ -1,6 +1,6 @@
 //! Files of a few instructions, and what is refused of them. The numbers are those of the rules.
-use crate::{ElfError, load};
 use byteorder::{ByteOrder, LittleEndian};
+use dl_elf::{ElfError, load};
 use std::alloc::AllocError;
 use std::test::Fail;
 

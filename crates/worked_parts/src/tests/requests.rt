@@ -1,5 +1,5 @@
 //! Requests beside no flight, beside one that hits, and beside one of the same sphere.
-use super::*;
+use dl_arbiter::{Asked, AskedSerial, Flights, Sig, ask, ask_serial};
 use dl_fly::Flight;
 use dl_sig::Banked;
 use dl_wbuf::Buffer;

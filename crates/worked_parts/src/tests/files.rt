@@ -2,7 +2,7 @@
 ghost use Rattle.std.specs.Prelude.{IsErrOf};
 ghost use Rattle.dl_files.specs.Count.{Rose};
 
-use crate::{
+use dl_files::{
     FileError, Files, GoodFiles, GoodSink, MemFiles, MemSink, RealFiles, Sink, SinkError, StdSink,
 };
 use std::alloc::Global;
