@@ -8,7 +8,7 @@ ghost use Rattle.spec_program.specs.Lines.{line};
 
 use crate::setup::{recording_setup, replaying_setup};
 use dl_entry::OutOfMemory;
-use dl_run::{Run, Schedule};
+use dl_run::{Events, Run, Schedule};
 use spec_log::Log;
 use std::alloc::Global;
 
@@ -55,6 +55,6 @@ fn replay(alloc: Global, number: u32, log: Log) -> Result<Run, OutOfMemory>
     ensures over { IfOk result (IsOver []) }
 {
     let setup = replaying_setup(alloc, number, log)?;
-    let schedule = Schedule::Script(Vec::new(alloc));
+    let schedule = Schedule::Script(Events::new(alloc));
     Run::new(alloc, setup, &schedule)
 }

@@ -1,4 +1,5 @@
 mod Examples
 mod Reading
+mod Repeats
 mod Short
 mod Words

@@ -1,3 +1,4 @@
 pub mod Line
+pub mod Repeated
 pub mod Script
 pub mod Seeded

@@ -1,6 +1,5 @@
 //! Why a text is no script.
-use spec_protocol::Event;
-use std::alloc::AllocFailed;
+use std::alloc::AllocError;
 use thiserror::Error;
 
 /// Why there are no events.
@@ -14,13 +13,13 @@ pub enum ScriptError {
     OutOfMemory,
 }
 
-impl From<AllocFailed<Event>> for ScriptError {
+impl From<AllocError> for ScriptError {
     ghost use Rattle.std.specs.Prelude.{◌≡◌};
     ghost use Rattle.dl_event.specs.declared.error.ScriptError.TheVariants.{OutOfMemory};
 
     ghost from_gives = { λ _ error. error ≡ OutOfMemory };
 
-    fn from(_failed: AllocFailed<Event>) -> ScriptError {
+    fn from(_failed: AllocError) -> ScriptError {
         ScriptError::OutOfMemory
     }
 }

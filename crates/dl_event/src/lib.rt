@@ -2,11 +2,13 @@
 #![tactic(auto)]
 
 pub mod error;
+pub mod events;
 pub mod line;
 pub mod script;
 mod seeded;
 
 pub use error::ScriptError;
+pub use events::{Events, Repeated};
 pub use script::parse_script;
 pub use seeded::Seeded;
 pub use spec_protocol::Event;

@@ -4,11 +4,12 @@ ghost use Rattle.dl_event.specs.declared.line.Line.TheVariants.{Holds};
 ghost use Rattle.dl_event.specs.Script.{lines_of, script_of, Refuses};
 
 use crate::error::ScriptError;
+use crate::events::Events;
 use crate::line::{Line, read_line};
 use spec_protocol::Event;
 use std::alloc::Global;
 
-const MOST_EVENTS: usize = 1 << 24;
+const MOST_EVENTS: u32 = 1 << 24;
 
 // The bytes of `step` as one number, the first one the least.
 const STEP: u32 = 0x7065_7473;
@@ -17,12 +18,12 @@ const STEP: u32 = 0x7065_7473;
 /// with `#`, or is one of `step C`, `cut C`, `ask C`, `drain K`, `deliver C K`, `retire K`, `place C S T`, `raise S T V`
 /// and `dma S`, with spaces between and around: numbers of 1 to 10 decimal digits, V at most 2^32 - 1 and the others at
 /// most 255. Refused is the first line, from 1, that is none of these or holds the event after the 2^24th.
-pub fn parse_script(alloc: Global, bytes: &[u8]) -> Result<Vec<Event>, ScriptError>
-    ensures read { IfOk result (λ events. script_of bytes.now ≡ Ok events.items) }
+pub fn parse_script(alloc: Global, bytes: &[u8]) -> Result<Events, ScriptError>
+    ensures read { IfOk result (λ events. script_of bytes.now ≡ Ok events) }
     ensures refused { IfErr result (Refuses (script_of bytes.now)) }
-    ensures few { IfOk result (λ events. length events.items ≤ 2 ^ 24) }
+    ensures few { IfOk result (λ events. length events ≤ 2 ^ 24) }
 {
-    let mut events = Vec::new(alloc);
+    let mut events = Events::new(alloc);
     let mut number = 0u64;
     let mut left = Some(bytes);
     while let Some(text) = left {

@@ -10,7 +10,7 @@ ghost use Rattle.dl_gather.specs.Inputs.{IsScheduleRead, schedule_view};
 use crate::halt::Halt;
 use crate::inputs::ScheduleInputs;
 use crate::lines::script_line;
-use dl_event::{Event, ScriptError, parse_script};
+use dl_event::{Events, ScriptError, parse_script};
 use dl_run::Schedule;
 use spec_program::status::Refusal;
 use std::alloc::Global;
@@ -31,9 +31,9 @@ pub fn read_events(alloc: Global, seed: u64, inputs: ScheduleInputs) -> Result<S
     }
 }
 
-fn read_script(alloc: Global, bytes: &[u8]) -> Result<Vec<Event>, Halt>
-    ensures events { IfOk result (λ events. script_of bytes.now ≡ Ok events.items) }
-    ensures few { IfOk result (λ events. AreFew events.items) }
+fn read_script(alloc: Global, bytes: &[u8]) -> Result<Events, Halt>
+    ensures events { IfOk result (λ events. script_of bytes.now ≡ Ok events) }
+    ensures few { IfOk result (λ events. AreFew events) }
     ensures halt { IfErr result (Refuses (refusing bad_script (script_of bytes.now))) }
 {
     match parse_script(alloc, bytes) {

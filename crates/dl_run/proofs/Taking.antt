@@ -1,5 +1,6 @@
 -- A machine that takes a schedule one event at a time has room before each, and has taken it once none is left.
-use Rattle.std.proofs.Common.{◌≡◌, ℕ, suc, ◌^◌, ◌<◌, ◌≤◌, ◌+◌, List, [], ◌∷◌, ◌++◌, length, drop, get_or, refl, sym, ap, ◌∙◌, subst, arith, append_assoc}
+use Rattle.std.proofs.Common.{◌≡◌, ℕ, suc, ◌^◌, ◌<◌, ◌≤◌, ◌+◌, ◌-◌, List, [], ◌∷◌, ◌++◌, length, drop, get_or, refl, sym, ap, ◌∙◌, subst, arith, append_assoc}
+use Rattle.std.specs.Prelude.{replicate}
 use Rattle.std.proofs.Math.Seq.{drop-cons}
 use Rattle.std.proofs.Math.ListN.{length-append}
 use Rattle.std.proofs.lemmas.Grind.{common_steps}
@@ -7,6 +8,8 @@ use Rattle.spec_protocol.specs.declared.event.Event.{Event}
 use Rattle.spec_protocol.specs.World.{World}
 use Rattle.spec_protocol.specs.Machine.{Setup}
 use Rattle.rand_pcg.specs.Lcg.{Lcg}
+use Rattle.dl_event.specs.declared.events.Repeated.{Repeated}
+use Rattle.dl_event.specs.Repeated.{expanded}
 use Rattle.dl_event.specs.Seeded.{schedule}
 use Rattle.spec_run.proofs.Room.{leaves_room, schedule_counted}
 use Rattle.dl_machine.specs.Ready.{HasRoom}
@@ -79,13 +82,27 @@ pub driving_end : (all : List Event) (new now : World) → Driving all [] new no
 driving_end all new now d =
     subst (λ (es : List Event). HasTaken es new now) (sym (nothing_behind d.done) ∙ d.both) d.taken
 
--- ---- a list
+-- ---- events that are held with how often each comes in a row
 
--- at an index within it the list goes on with what stands there
-pub left_here : (es : List Event) (i : ℕ) (e : Event) → i < length es → drop i es ≡ get_or es i e ∷ drop (i + 1) es
-left_here es i e l =
+-- at an index within them the events go on with what is held there, as often as it comes
+pub repeated_here : (rs : List Repeated) (i : ℕ) (d : Repeated) → i < length rs → expanded (drop i rs) ≡ replicate ((get_or rs i d).times - 0) (get_or rs i d).event ++ expanded (drop (i + 1) rs)
+repeated_here rs i d l =
     let next : suc i ≡ i + 1 = omega arith in
-    drop-cons es i e l ∙ ap (λ (n : ℕ). get_or es i e ∷ drop n es) next
+    let r : Repeated = get_or rs i d in
+    let all : r.times ≡ r.times - 0 = omega arith in
+    ap expanded (drop-cons rs i d l) ∙ (λ j. replicate (all j) r.event ++ expanded (drop (next j) rs))
+
+-- where it still comes, it comes next
+pub one_of : (times n : ℕ) (e : Event) (rest : List Event) → n < times → replicate (times - n) e ++ rest ≡ e ∷ (replicate (times - (n + 1)) e ++ rest)
+one_of times n e rest l =
+    let more : times - n ≡ suc (times - (n + 1)) = omega arith in
+    ap (λ (m : ℕ). replicate m e ++ rest) more
+
+-- where it comes no more, the others are left
+pub none_of : (times n : ℕ) (e : Event) (rest : List Event) → times ≤ n → replicate (times - n) e ++ rest ≡ rest
+none_of times n e rest l =
+    let none : times - n ≡ 0 = omega arith in
+    ap (λ (m : ℕ). replicate m e ++ rest) none
 
 -- ---- events that are drawn
 

@@ -6,7 +6,7 @@ use Rattle.dl_run.specs.declared.schedule.Schedule.{Schedule}
 
 -- those that are listed, or so many that are drawn from the seed
 abbrev pub events_in : Schedule → List Event
-events_in (Schedule.Script events) = events.items
+events_in (Schedule.Script events) = events
 events_in (Schedule.Seeded seed events) = schedule events (seeded seed)
 
 -- they are at most 2^24

@@ -6,10 +6,9 @@ ghost use Rattle.dl_run.specs.Schedules.{AreFew, events_in};
 
 use crate::schedule::Schedule;
 use dl_entry::OutOfMemory;
-use dl_event::Seeded;
+use dl_event::{Events, Seeded};
 use dl_machine::Machine;
 use dl_sig::Sig;
-use spec_protocol::Event;
 
 // A new machine takes the schedule.
 pub(crate) fn drive<G: Sig>(
@@ -26,13 +25,15 @@ pub(crate) fn drive<G: Sig>(
     }
 }
 
-fn take_listed<G: Sig>(machine: &mut Machine<G>, events: &[Event]) -> Result<(), OutOfMemory>
+fn take_listed<G: Sig>(machine: &mut Machine<G>, events: &Events) -> Result<(), OutOfMemory>
     requires new { IsNew machine.old }
     requires few { AreFew events.now }
     ensures { OnOk result (HasTaken events.now machine.old machine.new) }
 {
-    for event in events {
-        machine.apply(*event)?;
+    for repeated in events.repeated() {
+        for _ in 0..repeated.times {
+            machine.apply(repeated.event)?;
+        }
     }
     Ok(())
 }

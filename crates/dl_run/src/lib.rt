@@ -8,5 +8,6 @@ mod run;
 mod schedule;
 mod texts;
 
+pub use dl_event::Events;
 pub use run::Run;
 pub use schedule::Schedule;

@@ -1,11 +1,11 @@
 //! Where the events of a run come from.
-use spec_protocol::Event;
+use dl_event::Events;
 
 /// The events of a run.
 #[derive(Drop)]
 pub enum Schedule {
     /// These.
-    Script(Vec<Event>),
+    Script(Events),
     /// So many, which are drawn from the seed one at a time.
     Seeded { seed: u64, events: u32 },
 }

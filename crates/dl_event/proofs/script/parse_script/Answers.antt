@@ -9,7 +9,7 @@ use Rattle.dl_event.proofs.script.parse_script.Goals.{in_default-line-via-in-Hol
 use Rattle.dl_event.proofs.script.parse_script.Goals as goal
 
 pub loop-left-init : goal.loop-left-init
-loop-left-init c = rw c.new-events.ensures.items (nothing_read (lines_of c.args.bytes.now), first_left c.args.bytes)
+loop-left-init c = rw c.new-events.ensures (nothing_read (lines_of c.args.bytes.now), first_left c.args.bytes)
 
 pub overflow_add-number : goal.overflow_add-number
 overflow_add-number c =
@@ -20,7 +20,7 @@ pub returns-in_default-line-clause-refused : goal.returns-in_default-line-clause
 returns-in_default-line-clause-refused c =
     let at = left_text _ _ _ _ c.loop-left.invariant.1 c.in-Some.is in
     let next = one_line c.args.bytes.now _ _ _ _ at.lines at.room c.next_line-line.ensures.lines c.next_line-line.ensures.shorter in
-    let refused = λ (line : Line) (is : c.next_line-line.result.0 ≡ line) (wrong : is_refused_after c.loop-left.events.items (Some line) ≡ true). one_refused (lines_of c.args.bytes.now) _ _ line c.loop-left.invariant.0 (next.0 ∙ ap Some is) wrong in
+    let refused = λ (line : Line) (is : c.next_line-line.result.0 ≡ line) (wrong : is_refused_after c.loop-left.events (Some line) ≡ true). one_refused (lines_of c.args.bytes.now) _ _ line c.loop-left.invariant.0 (next.0 ∙ ap Some is) wrong in
     elim c.in_default-line.branch [
       | in_default-line-via-in-Holds+else-len-lt-MOST_EVENTS w ↦ refused (Holds w.in-Holds.event) w.in-Holds.is (grind (arith, nat_tests))
       | in_default-line-via-in_default-line w ↦ refused Wrong w.in_default-line.is refl
@@ -34,7 +34,7 @@ loop-left-preserved-in-Empty c =
     let at = left_text _ _ _ _ c.loop-left.invariant.1 c.in-Some.is in
     let next = one_line c.args.bytes.now _ _ _ _ at.lines at.room c.next_line-line.ensures.lines c.next_line-line.ensures.shorter in
     let read = c.loop-left.invariant.0 in
-    (one_read _ _ _ _ Empty read (next.0 ∙ ap Some c.in-Empty.is) refl (sym (append-nil c.loop-left.events.items)) read.few, next.1)
+    (one_read _ _ _ _ Empty read (next.0 ∙ ap Some c.in-Empty.is) refl (sym (append-nil c.loop-left.events)) read.few, next.1)
 
 pub loop-left-smaller : goal.loop-left-smaller
 loop-left-smaller c = fewer _ _ _ c.in-Some.is c.next_line-line.ensures.shorter
@@ -44,7 +44,7 @@ loop-left-preserved c =
     let at = left_text _ _ _ _ c.loop-left.invariant.1 c.in-Some.is in
     let next = one_line c.args.bytes.now _ _ _ _ at.lines at.room c.next_line-line.ensures.lines c.next_line-line.ensures.shorter in
     let read = c.loop-left.invariant.0 in
-    (one_read _ _ _ _ (Holds c.in-Holds.event) read (next.0 ∙ ap Some c.in-Holds.is) (grind (arith, nat_tests)) c.in_ok-push-in-Holds.ensures.items (omega (arith, ap length c.in_ok-push-in-Holds.ensures.items, length_push c.loop-left.events.items c.in-Holds.event)), next.1)
+    (one_read _ _ _ _ (Holds c.in-Holds.event) read (next.0 ∙ ap Some c.in-Holds.is) (grind (arith, nat_tests)) c.in_ok-push-in-Holds.ensures.ok (omega (arith, ap length c.in_ok-push-in-Holds.ensures.ok, length_push c.loop-left.events c.in-Holds.event)), next.1)
 
 pub returns-clause-read : goal.returns-clause-read
 returns-clause-read c =

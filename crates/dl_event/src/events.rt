@@ -1,0 +1,85 @@
+//! Events in order.
+ghost use Rattle.std.specs.Prelude.{◌≡◌, ◌<◌, ◌^◌, ◌-◌, ◌∷◌, ◌++◌, [], true, length, OnOk, OnErr};
+ghost use Rattle.dl_event.specs.Repeated.{expanded, EndsWith};
+
+use spec_protocol::Event;
+use std::alloc::{AllocError, Global};
+use std::marker::Model;
+
+/// An event, and how often it comes in a row.
+#[derive(Clone, Copy, Debug, PartialEq, Eq)]
+pub struct Repeated {
+    pub event: Event,
+    pub times: u32,
+}
+
+/// Events in order, seen as their list. One that comes several times in a row is held once, with how often it comes.
+#[derive(Debug, Drop)]
+pub struct Events {
+    repeated: Vec<Repeated>,
+    count: u32,
+}
+
+impl Model for Events {
+    ghost use Rattle.std.specs.Prelude.{◌≡◌, List, length};
+    ghost use Rattle.dl_event.specs.Repeated.{expanded};
+    ghost use Rattle.spec_protocol.specs.declared.event.Event.{Event};
+
+    ghost Value = { List Event };
+
+    ghost view = { λ e. expanded e.repeated.items };
+
+    ghost invariant = { λ e. e.count ≡ length (expanded e.repeated.items) };
+}
+
+impl Events {
+    /// No event.
+    pub fn new(alloc: Global) -> Events
+        ensures { result ≡ [] }
+    {
+        Events {
+            repeated: Vec::new(alloc),
+            count: 0,
+        }
+    }
+
+    /// How many events there are.
+    pub fn len(&self) -> u32
+        ensures { result ≡ length self.now }
+    {
+        self.count
+    }
+
+    /// The events, each with how often it comes in a row.
+    pub fn repeated(&self) -> &[Repeated]
+        ensures { expanded result.now ≡ self.now }
+    {
+        &self.repeated
+    }
+
+    /// Puts one event behind the others.
+    pub fn push(&mut self, event: Event) -> Result<(), AllocError>
+        requires { length self.old < 2 ^ 32 - 1 }
+        ensures ok { OnOk result (self.new ≡ self.old ++ event ∷ []) }
+        ensures err { OnErr result (self.new ≡ self.old) }
+    {
+        if ends_with(&self.repeated, event) {
+            let last = self.repeated.len() - 1;
+            self.repeated[last].times += 1;
+        } else {
+            self.repeated.push(Repeated { event, times: 1 })?;
+        }
+        self.count += 1;
+        Ok(())
+    }
+}
+
+// Whether the last one is this event.
+fn ends_with(repeated: &[Repeated], event: Event) -> bool
+    ensures { result ≡ true → EndsWith event repeated.now }
+{
+    match repeated {
+        [.., last] => last.event == event,
+        [] => false,
+    }
+}
