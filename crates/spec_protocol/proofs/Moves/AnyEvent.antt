@@ -1,5 +1,5 @@
--- What an event comes to, taken apart once: the machine only answers, or it does one of the things that change the world. What
--- holds of each of these holds of the event.
+-- What an event comes to, taken apart once: the machine only answers, or it does one of the things that change the world.
+-- What holds of each of these holds of the event.
 use Rattle.std.proofs.Common.{◌≡◌, ℕ, ◌<◌, inl, inr, Bool, true, false, cond, length, Option, Some, None, refl, sym, ap, ◌∙◌}
 use Rattle.std.specs.Prelude.{slice_get}
 use Rattle.std.proofs.lemmas.Bool.{true≢false, cases_lt}
