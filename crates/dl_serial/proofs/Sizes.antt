@@ -1,23 +1,20 @@
 -- A chunk of as many instructions as the log allows gets the verdict of the play's.
 use Rattle.std.proofs.Common.{◌≡◌, ℕ, zero, suc, ◌-◌, ◌<◌, Bool, true, false, cond, eqb, List, Option, Some, None, refl, sym, ap, ◌∙◌, arith}
-use Rattle.std.specs.Prelude.{max, IsSome}
-use Rattle.std.proofs.lemmas.Bool.{true≢false}
+use Rattle.std.specs.Prelude.{max}
 use Rattle.dl_entry.specs.declared.Actor.{Actor}
-use Rattle.dl_entry.specs.declared.Why.{Why}
 use Rattle.spec_isa.specs.declared.thread.Parts.{Parts}
-use Rattle.spec_isa.specs.declared.thread.Kind.{Kind}
-use Rattle.spec_isa.specs.Runs.{Run, run}
+use Rattle.spec_isa.specs.Runs.{run}
 use Rattle.spec_log.specs.declared.LogParts.{LogParts}
 use Rattle.spec_log.specs.Size.{size_in}
 use Rattle.spec_kernel.specs.Needs.{next_kind}
-use Rattle.spec_play.specs.Effects.{chunk_effect}
 use Rattle.spec_play.specs.Progress.{Progress, Used}
 use Rattle.spec_play.specs.Turns.{Now, Turn, TurnOfDma, Over}
-use Rattle.spec_play.specs.Verdicts.{Fails, unless, ended, chunk_why, chunk_verdict, serial_verdict}
+use Rattle.spec_play.specs.Verdicts.{chunk_verdict}
 use Rattle.spec_play.specs.Plays.{Played, size_or_standard, thread_verdict}
 use Rattle.spec_protocol.specs.Spheres.{Cursor, Replay, whole_limit, pieces_of, limit_of}
 use Rattle.spec_protocol.proofs.Moves.Threads.{run-keeps}
 use Rattle.spec_protocol.proofs.PlayingBack.Verdicts.{run-first}
+use Rattle.spec_protocol.proofs.PlayingBack.Sizes.{size_by, size-is, limit_by, limit-is, not-serial}
 
 -- ---- the limit
 
@@ -41,47 +38,20 @@ whole-is s b k t none some =
 
 -- ---- sizes
 
--- the play runs as many instructions as the limit says, unless the log says 0
-abbrev size_by : Option ℕ → (s : ℕ) → ℕ
-size_by None s = s
-size_by (Some z) s = z
-
-size_is : (log : LogParts) (k commits : ℕ) → size_or_standard log k commits ≡ size_by (size_in log (Actor.Thread k) commits) log.s
-size_is log k commits = elim (size_in log (Actor.Thread k) commits) as (λ (o : Option ℕ). elim o [ None ↦ log.s | Some z ↦ z ] ≡ size_by o log.s) [
-  | None ↦ refl
-  | Some z ↦ refl
-]
-
-abbrev limit_by : Option ℕ → (s : ℕ) → ℕ
-limit_by None s = s
-limit_by (Some z) s = max 1 z
-
-limit_is : (log : LogParts) (k commits : ℕ) → whole_limit log k commits ≡ limit_by (size_in log (Actor.Thread k) commits) log.s
-limit_is log k commits = elim (size_in log (Actor.Thread k) commits) as (λ (o : Option ℕ). elim o [ None ↦ log.s | Some z ↦ max 1 z ] ≡ limit_by o log.s) [
-  | None ↦ refl
-  | Some z ↦ refl
-]
-
--- where a serial step is logged, no chunk fits
-not_serial : (log : LogParts) (p : Progress) (u : Used) (k commits : ℕ) (r : Run) → r.thread.commits ≡ commits → size_in log (Actor.Thread k) commits ≡ Some 0 → chunk_verdict log p u k r ≡ Fails Why.NotSerial
-unfolding chunk_verdict
-not_serial log p u k commits r is none =
-    ap (λ (o : Option ℕ). unless (chunk_why o r.n) (ended log k (chunk_effect k p.request r) u)) (ap (size_in log (Actor.Thread k)) is ∙ none)
-
 by_size : (log : LogParts) (p : Progress) (u : Used) (k : ℕ) (m : List ℕ) (t : Parts) (o : Option ℕ) → size_in log (Actor.Thread k) t.commits ≡ o
     → chunk_verdict log p u k (run m t (size_by o log.s)) ≡ chunk_verdict log p u k (run m t (limit_by o log.s))
 by_size log p u k m t None is = refl
 by_size log p u k m t (Some zero) is =
-    not_serial log p u k t.commits (run m t 0) refl is ∙ sym (not_serial log p u k t.commits (run m t (max 1 0)) (run-keeps m t (max 1 0)) is)
+    not-serial log p u k t.commits (run m t 0) refl is ∙ sym (not-serial log p u k t.commits (run m t (max 1 0)) (run-keeps m t (max 1 0)) is)
 by_size log p u k m t (Some (suc z)) is =
     let e : suc z ≡ max 1 (suc z) = omega arith in ap (λ (n : ℕ). chunk_verdict log p u k (run m t n)) e
 
 sized : (log : LogParts) (p : Progress) (u : Used) (k : ℕ) (m : List ℕ) (t : Parts)
     → chunk_verdict log p u k (run m t (size_or_standard log k t.commits)) ≡ chunk_verdict log p u k (run m t (whole_limit log k t.commits))
 sized log p u k m t =
-    ap (λ (n : ℕ). chunk_verdict log p u k (run m t n)) (size_is log k t.commits)
+    ap (λ (n : ℕ). chunk_verdict log p u k (run m t n)) (size-is log k t.commits)
     ∙ by_size log p u k m t (size_in log (Actor.Thread k) t.commits) refl
-    ∙ ap (λ (n : ℕ). chunk_verdict log p u k (run m t n)) (sym (limit_is log k t.commits))
+    ∙ ap (λ (n : ℕ). chunk_verdict log p u k (run m t n)) (sym (limit-is log k t.commits))
 
 -- ---- verdicts
 
@@ -89,11 +59,3 @@ sized log p u k m t =
 pub chunk-turn : (log : LogParts) (y : Played) (k : ℕ) (t : Parts) (n : ℕ) → 0 < n → run y.memory t (whole_limit log k t.commits) ≡ run y.memory t n → (run y.memory t n).n ≡ n
     → thread_verdict log y k t (next_kind t y.memory) ≡ chunk_verdict log y.progress y.used k (run y.memory t (whole_limit log k t.commits))
 chunk-turn log y k t n some same ran = ap (thread_verdict log y k t) (run-first y.memory t n some ran) ∙ sized log y.progress y.used k y.memory t
-
--- a thread whose next instruction is serial gets the verdict on that step
-pub step-turn : (log : LogParts) (y : Played) (k : ℕ) (t : Parts) → IsSome (next_kind t y.memory) → thread_verdict log y k t (next_kind t y.memory) ≡ serial_verdict log y.progress y.used k y.threads t y.memory
-step-turn log y k t some = by_kind (next_kind t y.memory) some
-  where
-    by_kind : (o : Option Kind) → IsSome o → thread_verdict log y k t o ≡ serial_verdict log y.progress y.used k y.threads t y.memory
-    by_kind None some = absurd (true≢false (sym some))
-    by_kind (Some kind) some = refl

@@ -15,7 +15,8 @@ use Rattle.spec_protocol.specs.Spheres.{whole_limit}
 use Rattle.dl_replay.specs.Replaying.{Replaying, end_of}
 use Rattle.dl_serial.specs.Playing.{Playing, StandsAt, played_in}
 use Rattle.dl_serial.specs.declared.sphere.Sphere.{Sphere}
-use Rattle.dl_serial.proofs.Sizes.{chunk-turn, step-turn}
+use Rattle.spec_protocol.proofs.PlayingBack.Sizes.{serial-turn}
+use Rattle.dl_serial.proofs.Sizes.{chunk-turn}
 
 -- ---- turns
 
@@ -38,7 +39,7 @@ pub step-played : (log : LogParts) (was y : Played) (k : ℕ) (t : Parts) → wa
     → settled log was k (serial_verdict log was.progress was.used k was.threads t was.memory) ≡ play_one log y
 step-played log was y k t same turn there serial =
     ap (λ (x : Played). settled log x k (serial_verdict log x.progress x.used k x.threads t x.memory)) same
-    ∙ ap (settled log y k) (sym (step-turn log y k t serial))
+    ∙ ap (settled log y k) (sym (serial-turn log y k t (next_kind t y.memory) serial))
     ∙ sym (thread_turn log y k t turn there)
 
 -- at the turn of a DMA, the play goes on as the verdict on the DMA settles it

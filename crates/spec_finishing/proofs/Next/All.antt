@@ -7,21 +7,20 @@ use Rattle.std.proofs.lemmas.Option.{none-some}
 use Rattle.dl_entry.specs.declared.Actor.{Actor}
 use Rattle.spec_engine.specs.declared.answers.How.{How}
 use Rattle.spec_engine.specs.Flights.{Flight, at}
-use Rattle.spec_engine.specs.Chunks.{Chunk, step, is_open}
+use Rattle.spec_engine.specs.Chunks.{Chunk, is_open}
 use Rattle.spec_engine.proofs.Searches.{first_some}
 use Rattle.spec_protocol.specs.declared.event.Event.{Event}
-use Rattle.spec_protocol.specs.declared.reply.Reply.{Reply}
-use Rattle.spec_protocol.specs.Spheres.{Sphere, is_stopped}
+use Rattle.spec_protocol.specs.Spheres.{Sphere}
 use Rattle.spec_protocol.specs.Placing.{replays}
-use Rattle.spec_protocol.specs.World.{World, Held, After, sphere_at, core_of, answered}
-use Rattle.spec_protocol.specs.Stepping.{stepped, step_held, stepping}
+use Rattle.spec_protocol.specs.World.{World, Held, After, sphere_at, core_of}
+use Rattle.spec_protocol.specs.Stepping.{stepping}
 use Rattle.spec_protocol.specs.Asking.{asking}
 use Rattle.spec_protocol.specs.Transferring.{transferring}
 use Rattle.spec_protocol.specs.Machine.{Setup, core_no, sphere_no, act, happens}
 use Rattle.spec_protocol.specs.Shown.{shown_of}
 use Rattle.spec_protocol.specs.Finishing.{Who, least, standing, for_flight, for_held, for_core, for_actor, for_who, for_slot, for_standing, next}
 use Rattle.spec_protocol.proofs.Memory.Slots.{at_within}
-use Rattle.spec_protocol.proofs.Invariants.Cores.{branch}
+use Rattle.spec_protocol.proofs.Moves.AnyEvent.{any-step}
 use Rattle.spec_finishing.specs.Rank.{held_under_way, core_under_way, actor_under_way, under_way}
 use Rattle.spec_finishing.specs.Ending.{OfReplay, IsFinished}
 use Rattle.spec_finishing.proofs.Left.Slots.{one_unless, one_at_most}
@@ -43,19 +42,8 @@ core_is w c h there = mod-eq_of_lt (at_within w.cores c h there)
 
 -- ---- Step
 
-step_held_move : (w : World) (c : ℕ) (o : Option Held) → (step_held w c o).move ≡ None
-step_held_move w c None = refl
-step_held_move w c (Some h) =
-    let p = sphere_at w h.chunk.sphere in
-    let s = step w.numbers.buffer p.memory w.slots c h.chunk in
-    let P : After → Type 0 = λ a. a.move ≡ None in
-    branch P (is_stopped p.role) (answered w Reply.Stopped) (cond (is_open h.chunk) (stepped w c h s) (answered w Reply.Waiting))
-    (λ _. refl)
-    (λ _. branch P (is_open h.chunk) (stepped w c h s) (answered w Reply.Waiting) (λ _. refl) (λ _. refl))
-
 step_move : (w : World) (c : ℕ) → (stepping w c).move ≡ None
-unfolding stepping
-step_move w c = step_held_move w c (at w.cores c)
+step_move w c = any-step w (λ (a : After). a.move ≡ None) (λ r none. refl) c (λ h is opened. refl)
 
 step_act : (s : Setup) (w : World) (who : Who) (k c : ℕ) (h : Held) → Known s w → Known s (happens w (Event.Step c)).world → standing w ≡ None → least 0 w.spheres ≡ Some who → who.actor ≡ Actor.Thread k → core_of w who.sphere k ≡ Some c → OnCore w who.sphere k c h → is_open h.chunk ≡ true
     → Lowers s w (Event.Step c)

@@ -1,25 +1,21 @@
 -- Where a flight stands, or a thread is on no core, the next event of finishing is done and makes less of what is left.
 use Rattle.std.proofs.Common.{◌≡◌, ℕ, ◌<◌, true, List, [], ◌∷◌, length, Option, Some, None, refl, sym, ap, ◌∙◌, subst, arith}
-use Rattle.std.specs.Prelude.{slice_get}
 use Rattle.std.proofs.Math.Nat.{mod-eq_of_lt}
 use Rattle.dl_entry.specs.declared.Actor.{Actor}
-use Rattle.spec_isa.specs.declared.thread.Parts.{Parts}
 use Rattle.spec_isa.specs.Words.{Stored}
-use Rattle.spec_kernel.specs.Interrupts.{is_live}
 use Rattle.spec_engine.specs.declared.answers.Deliver.{Deliver}
 use Rattle.spec_engine.specs.Flights.{Flight, at, deliver}
 use Rattle.spec_protocol.specs.declared.event.Event.{Event}
-use Rattle.spec_protocol.specs.declared.reply.Reply.{Reply}
-use Rattle.spec_protocol.specs.World.{World, Held, After, sphere_at, with_slot, with_core, held_afresh, core_of, answered}
+use Rattle.spec_protocol.specs.World.{World, Held, After, with_slot, core_of}
 use Rattle.spec_protocol.specs.Flying.{drain_slot, draining, told, delivering, reads_of, writes_of, retiring}
-use Rattle.spec_protocol.specs.Placing.{unless_elsewhere, place_thread, placing}
+use Rattle.spec_protocol.specs.Placing.{placing}
 use Rattle.spec_protocol.specs.Machine.{Setup, core_no, sphere_no, slot_no, act, with_event, happens}
 use Rattle.spec_protocol.specs.Serial.{SerialState}
 use Rattle.spec_protocol.specs.Shown.{shown_of}
 use Rattle.spec_protocol.specs.Moves.{do_if}
 use Rattle.spec_protocol.specs.Finishing.{untold, deliver_or_retire, for_flight, Who, least, standing}
 use Rattle.spec_protocol.proofs.Memory.Slots.{at_within}
-use Rattle.spec_protocol.proofs.Invariants.Cores.{branch}
+use Rattle.spec_protocol.proofs.Moves.AnyEvent.{any-place}
 use Rattle.spec_protocol.proofs.Invariants.Schedules.{happens-preserved}
 use Rattle.spec_finishing.specs.Rank.{spheres_rank, potential, held_under_way, core_under_way, actor_under_way, under_way, rank}
 use Rattle.spec_finishing.specs.Ending.{furthers_finishing, OfReplay}
@@ -144,20 +140,8 @@ rose_falls s w who k e known next_known none is thread r no_move more =
     let most = under_way-most s (happens w e).world next_known in
     record { done = ap furthers_finishing (reply_happens w e) ∙ r.done; less = omega (arith, now, same, most, more); alone = nothing_alone w e no_move }
 
-elsewhere_move : (w : World) (a : After) (o : Option ℕ) → a.move ≡ None → (unless_elsewhere o w a).move ≡ None
-elsewhere_move w a None e = e
-elsewhere_move w a (Some d) e = refl
-
-place_thread_move : (w : World) (c i k : ℕ) (o : Option Parts) → (place_thread w c i k o).move ≡ None
-place_thread_move w c i k None = refl
-place_thread_move w c i k (Some t) =
-    let placed = answered (with_core w c (held_afresh w.numbers i k (sphere_at w i))) Reply.Placed in
-    branch (λ (a : After). a.move ≡ None) (is_live t) (unless_elsewhere (core_of w i k) w placed) (answered w Reply.Ended)
-    (λ _. elsewhere_move w placed (core_of w i k) refl) (λ _. refl)
-
 place_move : (w : World) (c i k : ℕ) → (placing w c i k).move ≡ None
-unfolding placing
-place_move w c i k = place_thread_move w c i k (slice_get (sphere_at w i).threads k)
+place_move w c i k = any-place w (λ (a : After). a.move ≡ None) (λ r none. refl) c i k (λ t is live none. refl)
 
 -- placing the thread whose turn it is leaves less
 pub place_act : (s : Setup) (w : World) (who : Who) (k : ℕ) → Known s w → Known s (happens w (Event.Place 0 who.sphere k)).world → 0 < s.cores → standing w ≡ None → least 0 w.spheres ≡ Some who → who.actor ≡ Actor.Thread k → core_of w who.sphere k ≡ None → Lowers s w (Event.Place 0 who.sphere k)

@@ -11,7 +11,7 @@ use Rattle.spec_engine.specs.declared.answers.Deliver.{Deliver}
 use Rattle.spec_engine.specs.declared.answers.Retire.{Retire}
 use Rattle.spec_engine.specs.Signatures.{Marks, hits}
 use Rattle.spec_engine.specs.Flights.{Flight, at, told_at, all_told, meets_chunk, drain_words, Delivered, tell, deliver, has_none, is_done, Retired, retire}
-use Rattle.spec_engine.specs.Chunks.{Chunk, squash, is_fourth, halved}
+use Rattle.spec_engine.specs.Chunks.{Chunk, squash, is_fourth, halved, fresh, next_squashes}
 use Rattle.spec_engine.specs.Laws.{CoversWords}
 use Rattle.spec_engine.proofs.Searches.{told-tell_other, all_told-at}
 use Rattle.spec_protocol.specs.declared.reply.Reply.{Reply}
@@ -342,27 +342,34 @@ either_most : (b : Bool) (limit most : ℕ) → 0 < limit → limit ≤ most →
 either_most true limit most positive l = omega arith
 either_most false limit most positive l = l
 
+-- on core c, beside those slots and over that memory
+module _ (capacity bits : ℕ) (xs : List (Option Flight)) (c : ℕ) (m : List ℕ) where
+  -- a chunk that has run nothing is good, however often it was squashed
+  pub begun-good : (size i : ℕ) (t : Parts) (limit : ℕ) (halving : Bool) (squashes : ℕ) → size ≡ bits → 0 < limit → IsGoodChunk capacity bits xs c m (record (fresh size i t limit halving) { squashes = squashes })
+  begun-good size i t limit halving squashes same positive =
+      record {
+        reads_size = same;
+        writes_size = same;
+        apart = tt;
+        writes = tt;
+        loads = tt;
+        closes = record {
+          positive = positive;
+          opened = λ e. positive;
+          full = λ e. absurd (none-some _ e);
+          early = λ how e. absurd (none-some how e);
+          cut = λ e. absurd (none-some _ e);
+          room = λ e. absurd (none-some _ e);
+          few = omega arith;
+          few_loads = omega arith;
+        };
+        live = λ q. record { runs = refl; touches = λ j l. absurd (omega arith); next_touches = λ e. absurd (none-some _ e); next_serial = λ e. absurd (none-some _ e); store_touches = λ e. absurd (none-some _ e); store_anew = λ e. absurd (none-some _ e) };
+      }
+
 -- a chunk that begins again from its start
 squash_good : (capacity : ℕ) (xs : List (Option Flight)) (c : ℕ) (m : List ℕ) (ch : Chunk) (bits : ℕ) → 0 < ch.limit → ch.reads.bits ≡ bits → IsGoodChunk capacity bits xs c m (squash ch)
 squash_good capacity xs c m ch bits positive size =
-    record {
-      reads_size = size;
-      writes_size = size;
-      apart = tt;
-      writes = tt;
-      loads = tt;
-      closes = record {
-        positive = either_positive (is_fourth ch) ch.limit positive;
-        opened = λ e. either_positive (is_fourth ch) ch.limit positive;
-        full = λ e. absurd (none-some _ e);
-        early = λ how e. absurd (none-some how e);
-        cut = λ e. absurd (none-some _ e);
-        room = λ e. absurd (none-some _ e);
-        few = omega arith;
-        few_loads = omega arith;
-      };
-      live = λ q. record { runs = refl; touches = λ i l. absurd (omega arith); next_touches = λ e. absurd (none-some _ e); next_serial = λ e. absurd (none-some _ e); store_touches = λ e. absurd (none-some _ e); store_anew = λ e. absurd (none-some _ e) };
-    }
+    begun-good capacity bits xs c m ch.reads.bits ch.sphere ch.start (cond (is_fourth ch) (halved ch.limit) ch.limit) ch.halves (next_squashes ch) size (either_positive (is_fourth ch) ch.limit positive)
 
 not_both : (role : Role) → replays role ≡ true → halves role ≡ false
 not_both Plain r = refl

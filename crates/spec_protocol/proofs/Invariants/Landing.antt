@@ -25,7 +25,7 @@ use Rattle.spec_protocol.proofs.Memory.Slots.{Flew}
 use Rattle.spec_protocol.proofs.Memory.Running.{Live_local}
 use Rattle.spec_protocol.proofs.Moves.AnyMemory.{relaid}
 use Rattle.spec_protocol.proofs.Invariants.Preserved.{sphere-same, sphere-other, shown-set}
-use Rattle.spec_protocol.proofs.Invariants.Flights.{held-beside}
+use Rattle.spec_protocol.proofs.Invariants.Flights.{held-beside, begun-good}
 use Rattle.spec_protocol.specs.Currency.{seen_by}
 use Rattle.spec_protocol.specs.Invariants.{IsFlightCovered, IsGoodChunk, current, IsGoodHeld}
 
@@ -37,26 +37,9 @@ limit-positive s Plain k t positive = positive
 limit-positive s (Record log) k t positive = positive
 limit-positive s (Replay b) k t positive = omega arith
 
+-- a chunk that begins is good
 pub fresh-good : (capacity bits : ℕ) (xs : List (Option Flight)) (c : ℕ) (m : List ℕ) (i : ℕ) (t : Parts) (limit : ℕ) (halving : Bool) → 0 < limit → IsGoodChunk capacity bits xs c m (fresh bits i t limit halving)
-fresh-good capacity bits xs c m i t limit halving positive =
-    record {
-      reads_size = refl;
-      writes_size = refl;
-      apart = tt;
-      writes = tt;
-      loads = tt;
-      closes = record {
-        positive = positive;
-        opened = λ e. positive;
-        full = λ e. absurd (none-some _ e);
-        early = λ how e. absurd (none-some how e);
-        cut = λ e. absurd (none-some _ e);
-        room = λ e. absurd (none-some _ e);
-        few = omega arith;
-        few_loads = omega arith;
-      };
-      live = λ q. record { runs = refl; touches = λ j l. absurd (omega arith); next_touches = λ e. absurd (none-some _ e); next_serial = λ e. absurd (none-some _ e); store_touches = λ e. absurd (none-some _ e); store_anew = λ e. absurd (none-some _ e) };
-    }
+fresh-good capacity bits xs c m i t limit halving positive = begun-good capacity bits xs c m bits i t limit halving 0 refl positive
 
 abbrev afresh : Numbers → (i k : ℕ) → Sphere → Parts → Held
 afresh z i k p t = record { thread = k; chunk = fresh z.signature i t (limit_of z.chunk p.role k t) (halves p.role) }

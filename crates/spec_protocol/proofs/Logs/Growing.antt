@@ -140,17 +140,17 @@ inputs_apart None log = record { mode = refl; s = refl; count = refl; order = re
 inputs_apart (Some r) log = record { mode = refl; s = refl; count = refl; order = refl; sizes = refl; interrupts = refl; dmas = refl }
 
 -- the parts of the log after the commit
-pub record Parts' (k : ℕ) (short : Bool) (log qlog : LogParts) (i n : ℕ) (o : Option Input) : Type 0 where
+pub record LogAfter (c : ThreadCommit) (log qlog : LogParts) : Type 0 where
   pub mode : qlog.mode ≡ log.mode
   pub s : qlog.s ≡ log.s
   pub count : qlog.count ≡ log.count + 1
-  pub order : qlog.order ≡ order_with log.mode log.order (Actor.Thread k)
-  pub sizes : qlog.sizes ≡ with_size log.sizes (Actor.Thread k) i n short
+  pub order : qlog.order ≡ order_with log.mode log.order (Actor.Thread c.thread)
+  pub sizes : qlog.sizes ≡ with_size log.sizes (Actor.Thread c.thread) c.before.commits c.commit.size c.short
   pub interrupts : qlog.interrupts ≡ log.interrupts
   pub dmas : qlog.dmas ≡ log.dmas
 
 -- what a commit of a thread adds to each part of the log
-pub has_committed-parts : (c : ThreadCommit) (p q : Sphere) (log qlog : LogParts) → HasCommitted c p q log qlog → Parts' c.thread c.short log qlog c.before.commits c.commit.size c.input
+pub has_committed-parts : (c : ThreadCommit) (p q : Sphere) (log qlog : LogParts) → HasCommitted c p q log qlog → LogAfter c log qlog
 has_committed-parts c p q log qlog d =
     let a = inputs_apart c.input (noted c.commit c.before.commits c.short log) in
     record {

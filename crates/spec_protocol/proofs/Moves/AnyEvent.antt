@@ -1,5 +1,5 @@
--- What an event comes to, taken apart once: the machine only answers, or it does one of the things that change the world. What
--- holds of each of these holds of the event.
+-- What an event comes to, taken apart once: the machine only answers, or it does one of the things that change the world.
+-- What holds of each of these holds of the event.
 use Rattle.std.proofs.Common.{◌≡◌, ℕ, ◌<◌, inl, inr, Bool, true, false, cond, length, Option, Some, None, refl, sym, ap, ◌∙◌}
 use Rattle.std.specs.Prelude.{slice_get}
 use Rattle.std.proofs.lemmas.Bool.{true≢false, cases_lt}
@@ -57,6 +57,39 @@ pub record Transfers (w : World) (i : ℕ) (v : MovedSphere) : Type 0 where
   pub turn : turn_before_dma (sphere_at w i).role ≡ None
   pub is : dma_moved w.devices (sphere_at w i) ≡ Some v
 
+-- ---- each thing that is done, and what a predicate of it is to hold of
+
+abbrev pub AfterStep : World → (After → Type 0) → (core : ℕ) → Held → Type 0
+AfterStep w Q c h = at w.cores c ≡ Some h → h.chunk.closed ≡ None → Q (stepped w c h (step w.numbers.buffer (sphere_at w h.chunk.sphere).memory w.slots c h.chunk))
+
+abbrev pub AfterCut : World → (After → Type 0) → (core : ℕ) → Held → Type 0
+AfterCut w Q c h = at w.cores c ≡ Some h → Q (cut_to w c h (cut h.chunk))
+
+-- a chunk that meets no flight
+abbrev pub AfterChunk : World → (After → Type 0) → (core : ℕ) → Held → How → Type 0
+AfterChunk w Q c h how = MayAsk w c h how → asks_serial h.chunk (sphere_at w h.chunk.sphere).role ≡ false → first_slot (meets_chunk h.chunk.reads h.chunk.writes) w.slots ≡ None → Q (grant_chunk w c h how)
+
+-- a serial step of a sphere that no flight is of
+abbrev pub AfterSerial : World → (After → Type 0) → (core : ℕ) → Held → How → Type 0
+AfterSerial w Q c h how = MayAsk w c h how → asks_serial h.chunk (sphere_at w h.chunk.sphere).role ≡ true → first_slot (is_of_sphere h.chunk.sphere) w.slots ≡ None → Q (grant_serial w c h)
+
+abbrev pub AfterDrain : World → (After → Type 0) → (slot : ℕ) → Flight → Type 0
+AfterDrain w Q k f = at w.slots k ≡ Some f → Q (drain_slot w k (Some f))
+
+-- a live thread that no core runs
+abbrev pub AfterPlace : World → (After → Type 0) → (core i thread : ℕ) → Parts → Type 0
+AfterPlace w Q c i k t = slice_get (sphere_at w i).threads k ≡ Some t → is_live t ≡ true → core_of w i k ≡ None → Q (answered (with_core w c (held_afresh w.numbers i k (sphere_at w i))) Reply.Placed)
+
+abbrev pub AfterRaise : World → (After → Type 0) → (i thread value : ℕ) → Parts → Type 0
+AfterRaise w Q i k value t = Raises k t (sphere_at w i) → Q (raise_in w i k value t)
+
+-- a DMA that meets no flight
+abbrev pub AfterDma : World → (After → Type 0) → (i : ℕ) → MovedSphere → Type 0
+AfterDma w Q i v = Transfers w i v → is_full w.slots ≡ false → let g = signed i v.words (nothing w.numbers.signature) in first_slot (meets_chunk g g) w.slots ≡ None → Q (dma_done w i g v)
+
+abbrev pub AfterDivergence : World → (After → Type 0) → (i : ℕ) → MovedSphere → (commits : ℕ) → Why → Type 0
+AfterDivergence w Q i v j why = Transfers w i v → v.outcome ≡ Diverged j why → Q (dma_with w i v (Diverged j why))
+
 -- ---- each event
 
 open_is : (ch : Chunk) → is_open ch ≡ true → ch.closed ≡ None
@@ -77,7 +110,7 @@ dma_within w i v e =
 
 -- a predicate of what an event comes to in world w, which holds of every answer alone; no such reply makes a point
 module _ (w : World) (Q : After → Type 0) (still : (r : Reply) → makes_point r ≡ false → Q (answered w r)) where
-  held_step : (c : ℕ) (o : Option Held) → at w.cores c ≡ o → ((h : Held) → at w.cores c ≡ Some h → h.chunk.closed ≡ None → Q (stepped w c h (step w.numbers.buffer (sphere_at w h.chunk.sphere).memory w.slots c h.chunk))) → Q (step_held w c o)
+  held_step : (c : ℕ) (o : Option Held) → at w.cores c ≡ o → ((h : Held) → AfterStep w Q c h) → Q (step_held w c o)
   held_step c None is each = still Reply.Idle refl
   held_step c (Some h) is each =
       let p = sphere_at w h.chunk.sphere in
@@ -89,11 +122,11 @@ module _ (w : World) (Q : After → Type 0) (still : (r : Reply) → makes_point
       (λ _. still Reply.Waiting refl))
 
   -- a step runs an open chunk
-  pub any-step : (c : ℕ) → ((h : Held) → at w.cores c ≡ Some h → h.chunk.closed ≡ None → Q (stepped w c h (step w.numbers.buffer (sphere_at w h.chunk.sphere).memory w.slots c h.chunk))) → Q (stepping w c)
+  pub any-step : (c : ℕ) → ((h : Held) → AfterStep w Q c h) → Q (stepping w c)
   unfolding stepping
   any-step c each = held_step c (at w.cores c) refl each
 
-  held_cut : (c : ℕ) (o : Option Held) → at w.cores c ≡ o → ((h : Held) → at w.cores c ≡ Some h → Q (cut_to w c h (cut h.chunk))) → Q (cut_held w c o)
+  held_cut : (c : ℕ) (o : Option Held) → at w.cores c ≡ o → ((h : Held) → AfterCut w Q c h) → Q (cut_held w c o)
   held_cut c None is each = still Reply.Idle refl
   held_cut c (Some h) is each =
       branch Q (is_stopped (sphere_at w h.chunk.sphere).role) (answered w Reply.Stopped) (cut_to w c h (cut h.chunk))
@@ -101,7 +134,7 @@ module _ (w : World) (Q : After → Type 0) (still : (r : Reply) → makes_point
       (λ _. each h is)
 
   -- a cut closes a chunk
-  pub any-cut : (c : ℕ) → ((h : Held) → at w.cores c ≡ Some h → Q (cut_to w c h (cut h.chunk))) → Q (cutting w c)
+  pub any-cut : (c : ℕ) → ((h : Held) → AfterCut w Q c h) → Q (cutting w c)
   unfolding cutting
   any-cut c each = held_cut c (at w.cores c) refl each
 
@@ -124,8 +157,8 @@ module _ (w : World) (Q : After → Type 0) (still : (r : Reply) → makes_point
 
   -- an ask is granted a chunk that meets no flight, or a serial step of a sphere that none is of
   pub any-closed : (c : ℕ) (h : Held) (o : Option How) → at w.cores c ≡ Some h → h.chunk.closed ≡ o
-      → ((how : How) → MayAsk w c h how → asks_serial h.chunk (sphere_at w h.chunk.sphere).role ≡ false → first_slot (meets_chunk h.chunk.reads h.chunk.writes) w.slots ≡ None → Q (grant_chunk w c h how))
-      → ((how : How) → MayAsk w c h how → asks_serial h.chunk (sphere_at w h.chunk.sphere).role ≡ true → first_slot (is_of_sphere h.chunk.sphere) w.slots ≡ None → Q (grant_serial w c h)) → Q (ask_closed w c h o)
+      → ((how : How) → AfterChunk w Q c h how)
+      → ((how : How) → AfterSerial w Q c h how) → Q (ask_closed w c h o)
   any-closed c h None is closed chunk serial = still Reply.NotClosed refl
   any-closed c h (Some how) is closed chunk serial =
       let p = sphere_at w h.chunk.sphere in
@@ -142,23 +175,23 @@ module _ (w : World) (Q : After → Type 0) (still : (r : Reply) → makes_point
       arbiter c h how (asks_serial h.chunk p.role) refl (chunk how may) (serial how may))))
 
   held_ask : (c : ℕ) (o : Option Held) → at w.cores c ≡ o
-      → ((h : Held) (how : How) → MayAsk w c h how → asks_serial h.chunk (sphere_at w h.chunk.sphere).role ≡ false → first_slot (meets_chunk h.chunk.reads h.chunk.writes) w.slots ≡ None → Q (grant_chunk w c h how))
-      → ((h : Held) (how : How) → MayAsk w c h how → asks_serial h.chunk (sphere_at w h.chunk.sphere).role ≡ true → first_slot (is_of_sphere h.chunk.sphere) w.slots ≡ None → Q (grant_serial w c h)) → Q (ask_held w c o)
+      → ((h : Held) (how : How) → AfterChunk w Q c h how)
+      → ((h : Held) (how : How) → AfterSerial w Q c h how) → Q (ask_held w c o)
   held_ask c None is chunk serial = still Reply.Idle refl
   held_ask c (Some h) is chunk serial = any-closed c h h.chunk.closed is refl (chunk h) (serial h)
 
   -- an ask, of whatever the core holds
-  pub any-ask : (c : ℕ) → ((h : Held) (how : How) → MayAsk w c h how → asks_serial h.chunk (sphere_at w h.chunk.sphere).role ≡ false → first_slot (meets_chunk h.chunk.reads h.chunk.writes) w.slots ≡ None → Q (grant_chunk w c h how))
-      → ((h : Held) (how : How) → MayAsk w c h how → asks_serial h.chunk (sphere_at w h.chunk.sphere).role ≡ true → first_slot (is_of_sphere h.chunk.sphere) w.slots ≡ None → Q (grant_serial w c h)) → Q (asking w c)
+  pub any-ask : (c : ℕ) → ((h : Held) (how : How) → AfterChunk w Q c h how)
+      → ((h : Held) (how : How) → AfterSerial w Q c h how) → Q (asking w c)
   unfolding asking
   any-ask c chunk serial = held_ask c (at w.cores c) refl chunk serial
 
-  slot_drain : (k : ℕ) (o : Option Flight) → at w.slots k ≡ o → ((f : Flight) → at w.slots k ≡ Some f → Q (drain_slot w k (Some f))) → Q (drain_slot w k o)
+  slot_drain : (k : ℕ) (o : Option Flight) → at w.slots k ≡ o → ((f : Flight) → AfterDrain w Q k f) → Q (drain_slot w k o)
   slot_drain k None is each = still Reply.NoCommit refl
   slot_drain k (Some f) is each = each f is
 
   -- a drain is of a flight
-  pub any-drain : (k : ℕ) → ((f : Flight) → at w.slots k ≡ Some f → Q (drain_slot w k (Some f))) → Q (draining w k)
+  pub any-drain : (k : ℕ) → ((f : Flight) → AfterDrain w Q k f) → Q (draining w k)
   unfolding draining
   any-drain k each = slot_drain k (at w.slots k) refl each
 
@@ -167,7 +200,7 @@ module _ (w : World) (Q : After → Type 0) (still : (r : Reply) → makes_point
   elsewhere a (Some d) each = still (Reply.Elsewhere d) refl
 
   thread_place : (c i k : ℕ) (o : Option Parts) → slice_get (sphere_at w i).threads k ≡ o
-      → ((t : Parts) → slice_get (sphere_at w i).threads k ≡ Some t → is_live t ≡ true → core_of w i k ≡ None → Q (answered (with_core w c (held_afresh w.numbers i k (sphere_at w i))) Reply.Placed)) → Q (place_thread w c i k o)
+      → ((t : Parts) → AfterPlace w Q c i k t) → Q (place_thread w c i k o)
   thread_place c i k None is each = still Reply.NoThread refl
   thread_place c i k (Some t) is each =
       let placed = answered (with_core w c (held_afresh w.numbers i k (sphere_at w i))) Reply.Placed in
@@ -176,11 +209,11 @@ module _ (w : World) (Q : After → Type 0) (still : (r : Reply) → makes_point
       (λ _. still Reply.Ended refl)
 
   -- a live thread is placed that no core runs
-  pub any-place : (c i k : ℕ) → ((t : Parts) → slice_get (sphere_at w i).threads k ≡ Some t → is_live t ≡ true → core_of w i k ≡ None → Q (answered (with_core w c (held_afresh w.numbers i k (sphere_at w i))) Reply.Placed)) → Q (placing w c i k)
+  pub any-place : (c i k : ℕ) → ((t : Parts) → AfterPlace w Q c i k t) → Q (placing w c i k)
   unfolding placing
   any-place c i k each = thread_place c i k (slice_get (sphere_at w i).threads k) refl each
 
-  thread_raise : (i k value : ℕ) (o : Option Parts) → slice_get (sphere_at w i).threads k ≡ o → replays (sphere_at w i).role ≡ false → ((t : Parts) → Raises k t (sphere_at w i) → Q (raise_in w i k value t)) → Q (raise_thread w i k value o)
+  thread_raise : (i k value : ℕ) (o : Option Parts) → slice_get (sphere_at w i).threads k ≡ o → replays (sphere_at w i).role ≡ false → ((t : Parts) → AfterRaise w Q i k value t) → Q (raise_thread w i k value o)
   thread_raise i k value None is role each = still Reply.NoThread refl
   thread_raise i k value (Some t) is role each =
       let raised_ = raise_in w i k value t in
@@ -194,7 +227,7 @@ module _ (w : World) (Q : After → Type 0) (still : (r : Reply) → makes_point
       (λ _. still Reply.Ended refl)
 
   -- a thread is interrupted that takes interrupts
-  pub any-raise : (i k value : ℕ) → ((t : Parts) → Raises k t (sphere_at w i) → Q (raise_in w i k value t)) → Q (raising w i k value)
+  pub any-raise : (i k value : ℕ) → ((t : Parts) → AfterRaise w Q i k value t) → Q (raising w i k value)
   unfolding raising
   any-raise i k value each =
       let p = sphere_at w i in
@@ -204,8 +237,8 @@ module _ (w : World) (Q : After → Type 0) (still : (r : Reply) → makes_point
 
   -- v's stores meet no flight, or v diverges
   module _ (i : ℕ)
-      (done : (v : MovedSphere) → Transfers w i v → is_full w.slots ≡ false → let g = signed i v.words (nothing w.numbers.signature) in first_slot (meets_chunk g g) w.slots ≡ None → Q (dma_done w i g v))
-      (diverges : (v : MovedSphere) (j : ℕ) (why : Why) → Transfers w i v → v.outcome ≡ Diverged j why → Q (dma_with w i v (Diverged j why))) where
+      (done : (v : MovedSphere) → AfterDma w Q i v)
+      (diverges : (v : MovedSphere) (j : ℕ) (why : Why) → AfterDivergence w Q i v j why) where
     transferred : (v : MovedSphere) → Transfers w i v → Q (transfer w i v)
     unfolding transfer
     transferred v t =
@@ -238,17 +271,17 @@ module _ (w : World) (Q : After → Type 0) (still : (r : Reply) → makes_point
 -- the predicate holds of all that an event can come to
 pub record Cases (w : World) (Q : After → Type 0) : Type 0 where
   pub answers : (r : Reply) → makes_point r ≡ false → Q (answered w r)
-  pub steps : (c : ℕ) (h : Held) → at w.cores c ≡ Some h → h.chunk.closed ≡ None → Q (stepped w c h (step w.numbers.buffer (sphere_at w h.chunk.sphere).memory w.slots c h.chunk))
-  pub cuts : (c : ℕ) (h : Held) → at w.cores c ≡ Some h → Q (cut_to w c h (cut h.chunk))
-  pub chunks : (c : ℕ) (h : Held) (how : How) → MayAsk w c h how → asks_serial h.chunk (sphere_at w h.chunk.sphere).role ≡ false → first_slot (meets_chunk h.chunk.reads h.chunk.writes) w.slots ≡ None → Q (grant_chunk w c h how)
-  pub serials : (c : ℕ) (h : Held) (how : How) → MayAsk w c h how → asks_serial h.chunk (sphere_at w h.chunk.sphere).role ≡ true → first_slot (is_of_sphere h.chunk.sphere) w.slots ≡ None → Q (grant_serial w c h)
-  pub drains : (k : ℕ) (f : Flight) → at w.slots k ≡ Some f → Q (drain_slot w k (Some f))
+  pub steps : (c : ℕ) (h : Held) → AfterStep w Q c h
+  pub cuts : (c : ℕ) (h : Held) → AfterCut w Q c h
+  pub chunks : (c : ℕ) (h : Held) (how : How) → AfterChunk w Q c h how
+  pub serials : (c : ℕ) (h : Held) (how : How) → AfterSerial w Q c h how
+  pub drains : (k : ℕ) (f : Flight) → AfterDrain w Q k f
   pub delivers : (c k : ℕ) → Q (delivering w c k)
   pub retires : (k : ℕ) → Q (retiring w k)
-  pub places : (c i k : ℕ) (t : Parts) → slice_get (sphere_at w i).threads k ≡ Some t → is_live t ≡ true → core_of w i k ≡ None → Q (answered (with_core w c (held_afresh w.numbers i k (sphere_at w i))) Reply.Placed)
-  pub raises : (i k value : ℕ) (t : Parts) → Raises k t (sphere_at w i) → Q (raise_in w i k value t)
-  pub transfers : (i : ℕ) (v : MovedSphere) → Transfers w i v → is_full w.slots ≡ false → let g = signed i v.words (nothing w.numbers.signature) in first_slot (meets_chunk g g) w.slots ≡ None → Q (dma_done w i g v)
-  pub diverges : (i : ℕ) (v : MovedSphere) (j : ℕ) (why : Why) → Transfers w i v → v.outcome ≡ Diverged j why → Q (dma_with w i v (Diverged j why))
+  pub places : (c i k : ℕ) (t : Parts) → AfterPlace w Q c i k t
+  pub raises : (i k value : ℕ) (t : Parts) → AfterRaise w Q i k value t
+  pub transfers : (i : ℕ) (v : MovedSphere) → AfterDma w Q i v
+  pub diverges : (i : ℕ) (v : MovedSphere) (j : ℕ) (why : Why) → AfterDivergence w Q i v j why
 
 -- and so of what the event comes to
 pub any-event : (w : World) (Q : After → Type 0) → Cases w Q → (e : Event) → Q (act w e)

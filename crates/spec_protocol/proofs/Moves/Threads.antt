@@ -1,4 +1,5 @@
--- What instructions and serial steps keep of a thread: the number of its commits, and instructions its status. What a serial step spawns is new.
+-- What instructions and serial steps keep of a thread: the number of its commits, and instructions its status. What a
+-- serial step spawns is new.
 use Rattle.std.proofs.Common.{◌≡◌, ℕ, zero, suc, Bool, true, false, ◌&&◌, eqb, cond, List, [], ◌∷◌, length, Option, Some, None, refl, ap, ◌∙◌, subst}
 use Rattle.std.specs.Prelude.{slice_get, nat_lt, ◌%◌}
 use Rattle.dl_entry.specs.declared.Input.{Input}

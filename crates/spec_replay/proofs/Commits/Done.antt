@@ -50,6 +50,20 @@ same_end p y why e = ap (λ (g : Progress). Over (End.Diverged (position g) why)
 pub one_more : (cs : List Commit) (c : Commit) → length (cs ++ c ∷ []) ≡ suc (length cs)
 one_more cs c = let h = length-append cs (c ∷ []) in omega arith
 
+-- a replay follows its log's play where no piece stands and all else is the play's
+whole_follows : (log : LogParts) (z : Played) (q : Sphere) (c : Cursor) → q.role ≡ Replay c → c.log ≡ log → 0 < log.s → q.progress ≡ z.progress → c.used ≡ z.used → c.now ≡ z.now → now_at log z.progress z.used z.threads ≡ z.now → IsWhole z q c → Follows log z q
+whole_follows log z q c role same standard progress used now turn w =
+    record {
+      cursor = c;
+      role = role;
+      same_log = same;
+      progress = progress;
+      used = used;
+      now = inl now;
+      ended = λ how h. now ∙ h;
+      state = whole-stands log z q c standard turn w;
+    }
+
 -- the replayed sphere p, with cursor b, stands beside y of its log's play
 module _ (log : LogParts) (y : Played) (p : Sphere) (b : Cursor) (devices : Devices) (s : Beside log y p b) where
   -- where the play's next commit diverges, so does the replay
@@ -84,16 +98,7 @@ module _ (log : LogParts) (y : Played) (p : Sphere) (b : Cursor) (devices : Devi
       ∙ (λ i. set y.threads k (alike.thread i) ++ alike.made i)
       in
       let now : c.now ≡ z.now = (λ i. now_at (s.same_log i) (progress i) (used i) (same i)) in
-      record {
-        cursor = c;
-        role = refl;
-        same_log = s.same_log;
-        progress = progress;
-        used = used;
-        now = inl now;
-        ended = λ how h. now ∙ h;
-        state = whole-stands log z q c s.standard refl (record { memory = alike.memory; threads = same; total = refl; loads = refl });
-      }
+      whole_follows log z q c refl s.same_log s.standard progress used now refl (record { memory = alike.memory; threads = same; total = refl; loads = refl })
 
 -- ---- a commit of a thread
 
@@ -138,16 +143,7 @@ dma_follows log y p b ws devices s w =
     let progress : q.progress ≡ z.progress = ap with_dma s.progress in
     let used : c.used ≡ z.used = ap with_dma_used s.used in
     let now : c.now ≡ z.now = (λ i. now_at (s.same_log i) (progress i) (used i) (w.threads i)) in
-    record {
-      cursor = c;
-      role = refl;
-      same_log = s.same_log;
-      progress = progress;
-      used = used;
-      now = inl now;
-      ended = λ how h. now ∙ h;
-      state = whole-stands log z q c s.standard refl (record { memory = ap (λ (m : List ℕ). lays m ws) w.memory; threads = w.threads; total = refl; loads = refl });
-    }
+    whole_follows log z q c refl s.same_log s.standard progress used now refl (record { memory = ap (λ (m : List ℕ). lays m ws) w.memory; threads = w.threads; total = refl; loads = refl })
 
 play_dma : (log : LogParts) (y : Played) (v : DmaVerdict) → y.now ≡ TurnOfDma → dma_verdict log y.progress y.used ≡ v → play_one log y ≡ dma_settled log y v
 unfolding play_one
