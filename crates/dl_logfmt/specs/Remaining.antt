@@ -94,7 +94,7 @@ from_interrupts n d =
 abbrev pub from_interrupt_count : Draft → Reader LogParts
 from_interrupt_count d = read (any 4) (λ n. from_interrupts n d)
 
--- so many sizes in all, of which some were read: those of each commit, or of those that were closed early
+-- so many sizes in all, of which some were read: those of each commit, or of the short chunks
 abbrev pub more_sizes : ModeName → ℕ → ℕ → List ℕ → List ShortSize → Reader (List ℕ × List ShortSize)
 more_sizes OrderSize s count each short =
     read (more (λ x y. true) (field 2 (at_most s)) count each) (λ each. gives (each, short))

@@ -10,8 +10,8 @@ use dl_logbytes::{LogError, Source, judge};
 use spec_log::{DmaRecord, Interrupt, LogParts, ModeName, Order, ShortSize, Sizes};
 use std::alloc::Global;
 
-/// What was read of a log so far. Either each commit has a size or those that were closed early have: by the mode, one
-/// of the two lists stays empty.
+/// What was read of a log so far. Either each commit has a size or each short chunk has: by the mode, one of the two
+/// lists stays empty.
 #[derive(Drop)]
 pub struct Draft {
     pub head: Head,

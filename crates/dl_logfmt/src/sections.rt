@@ -44,7 +44,7 @@ impl Draft {
         Ok(())
     }
 
-    /// Reads the sizes: of each commit in order-size, else of those that were closed early.
+    /// Reads the sizes: of each commit in order-size, else of the short chunks.
     fn read_sizes(
         &mut self,
         source: &Source<'_>,

@@ -30,10 +30,10 @@ recording_of (Recorders.OrderOnly r) = recorded_by ModeName.OrderOnly r
 recording_of (Recorders.Picolog r) = recorded_by ModeName.Picolog r
 
 -- with a commit more, and its record or its data
-abbrev pub with_commit : Commit → (early : Bool) → Option Input → Option (List ℕ) → Recorded → Recorded
-with_commit c early input dma r =
+abbrev pub with_commit : Commit → (short : Bool) → Option Input → Option (List ℕ) → Recorded → Recorded
+with_commit c short input dma r =
     record r {
-      kept = noted r.mode r.kept (note_of c early);
+      kept = noted r.mode r.kept (note_of c short);
       inputs = with_input r.inputs input;
       dmas = with_dma r.dmas r.kept.count dma;
     }

@@ -43,10 +43,10 @@ role_in part = role_of (keeping_of part)
 -- ---- what is noted
 
 -- with a commit more, and its record or its data
-abbrev pub with_noted : Commit → (early : Bool) → Option Input → Option (List ℕ) → Keeping → Keeping
-with_noted c early input dma Plain = Plain
-with_noted c early input dma (Recording r) = Recording (with_commit c early input dma r)
-with_noted c early input dma (Replaying r loads) = Replaying r loads
+abbrev pub with_noted : Commit → (short : Bool) → Option Input → Option (List ℕ) → Keeping → Keeping
+with_noted c short input dma Plain = Plain
+with_noted c short input dma (Recording r) = Recording (with_commit c short input dma r)
+with_noted c short input dma (Replaying r loads) = Replaying r loads
 
 -- with an interrupt more
 abbrev pub with_raised : (thread index value : ℕ) → Keeping → Keeping
@@ -55,10 +55,10 @@ with_raised thread index value (Recording r) = Recording (interrupt_kept thread 
 with_raised thread index value (Replaying r loads) = Replaying r loads
 
 -- a commit that a recording can note
-abbrev pub CanNote : Commit → (early : Bool) → Keeping → Type 0
-CanNote c early Plain = Unit {0}
-CanNote c early (Recording r) = recorder.CanCommit r.kept c early
-CanNote c early (Replaying r loads) = Unit {0}
+abbrev pub CanNote : Commit → (short : Bool) → Keeping → Type 0
+CanNote c short Plain = Unit {0}
+CanNote c short (Recording r) = recorder.CanCommit r.kept c short
+CanNote c short (Replaying r loads) = Unit {0}
 
 -- an interrupt of a moment that is new
 abbrev pub CanRaise : (thread index : ℕ) → Keeping → Type 0

@@ -27,18 +27,18 @@ pub(crate) fn keep(
     commits: &mut Vec<Commit>,
     part: &mut Part,
     commit: Commit,
-    early: bool,
+    short: bool,
     dma: Option<&[u8]>,
 ) -> Result<(), OutOfMemory>
-    requires commit { CanNote commit early (keeping_of part.old) }
+    requires commit { CanNote commit short (keeping_of part.old) }
     requires dma { IfSome dma (λ bytes. AreFewBytes bytes.now) }
     ensures commits { OnOk result (commits.new.items ≡ commits.old.items ++ commit ∷ []) }
-    ensures noted { OnOk result (keeping_of part.new ≡ with_noted commit early None (option_map (λ b. b.now) dma.entry) (keeping_of part.old)) }
+    ensures noted { OnOk result (keeping_of part.new ≡ with_noted commit short None (option_map (λ b. b.now) dma.entry) (keeping_of part.old)) }
     ensures same_commits { OnErr result (commits.new.items ≡ commits.old.items) }
     ensures same_part { OnErr result (keeping_of part.new ≡ keeping_of part.old) }
 {
     commits.reserve(1)?;
-    note(part, &commit, early, dma)?;
+    note(part, &commit, short, dma)?;
     commits.push_reserved(commit);
     Ok(())
 }
@@ -46,17 +46,17 @@ pub(crate) fn keep(
 fn note(
     part: &mut Part,
     commit: &Commit,
-    early: bool,
+    short: bool,
     dma: Option<&[u8]>,
 ) -> Result<(), OutOfMemory>
-    requires commit { CanNote commit.now early (keeping_of part.old) }
+    requires commit { CanNote commit.now short (keeping_of part.old) }
     requires dma { IfSome dma (λ bytes. AreFewBytes bytes.now) }
-    ensures noted { OnOk result (keeping_of part.new ≡ with_noted commit.now early None (option_map (λ b. b.now) dma.entry) (keeping_of part.old)) }
+    ensures noted { OnOk result (keeping_of part.new ≡ with_noted commit.now short None (option_map (λ b. b.now) dma.entry) (keeping_of part.old)) }
     ensures same { OnErr result (keeping_of part.new ≡ keeping_of part.old) }
 {
     match part {
         Part::Plain | Part::Replayed(_) => Ok(()),
-        Part::Recorded(recording) => recording.commit(commit, early, None, dma),
+        Part::Recorded(recording) => recording.commit(commit, short, None, dma),
     }
 }
 

@@ -74,21 +74,21 @@ impl Recording {
     pub(crate) fn commit(
         &mut self,
         commit: &Commit,
-        early: bool,
+        short: bool,
         input: Option<&Input>,
         dma: Option<&[u8]>,
     ) -> Result<(), OutOfMemory>
-        requires commit { CanCommit self.old.recorded.kept commit.now early }
+        requires commit { CanCommit self.old.recorded.kept commit.now short }
         requires input { IfSome input (λ i. IsInput i.now) }
         requires dma { IfSome dma (λ bytes. AreFewBytes bytes.now) }
-        ensures ok { OnOk result (self.new.recorded ≡ with_commit commit.now early (option_map (λ i. i.now) input.entry) (option_map (λ b. b.now) dma.entry) self.old.recorded) }
+        ensures ok { OnOk result (self.new.recorded ≡ with_commit commit.now short (option_map (λ i. i.now) input.entry) (option_map (λ b. b.now) dma.entry) self.old.recorded) }
         ensures err { OnErr result (self.new.recorded ≡ self.old.recorded) }
         ensures room { IsTrue self.old.room → IsOk result }
     {
         match &mut self.recorders {
-            Recorders::OrderSize(recorder) => recorder.commit(commit, early, input, dma),
-            Recorders::OrderOnly(recorder) => recorder.commit(commit, early, input, dma),
-            Recorders::Picolog(recorder) => recorder.commit(commit, early, input, dma),
+            Recorders::OrderSize(recorder) => recorder.commit(commit, short, input, dma),
+            Recorders::OrderOnly(recorder) => recorder.commit(commit, short, input, dma),
+            Recorders::Picolog(recorder) => recorder.commit(commit, short, input, dma),
         }
     }
 
