@@ -7,8 +7,6 @@ mod committing;
 mod overlay;
 mod player;
 mod sphere;
-#[cfg(test)]
-mod tests;
 mod walked;
 mod walking;
 

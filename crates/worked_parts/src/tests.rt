@@ -12,6 +12,7 @@ mod instructions;
 mod memories;
 mod moments;
 mod requests;
+mod schedules;
 mod sequences;
 mod signatures;
 mod small;

@@ -1,5 +1,6 @@
-//! Worked spheres and what they are made of: calls of the kernel, what logs keep, recordings, replays, and spheres in each of
-//! their roles. There is nothing here but tests, which so cost no second proof of the crates that they try.
+//! Worked spheres and what they are made of: calls of the kernel, what logs keep, recordings, replays, spheres in each of their
+//! roles, and logs walked without a machine. There is nothing here but tests, which so cost no second proof of the crates that
+//! they try.
 #![tactic(auto)]
 
 #[cfg(test)]

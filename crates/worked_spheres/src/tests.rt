@@ -6,3 +6,4 @@ mod modes;
 mod recording;
 mod replaying;
 mod spheres;
+mod walks;

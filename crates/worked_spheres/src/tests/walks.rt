@@ -1,7 +1,7 @@
 //! Worked logs, walked over their images.
-use super::*;
 use dl_entry::{End, Why};
 use dl_logbytes::read_log;
+use dl_serial::{Commit, WalkEnd, Walked, walk};
 use std::alloc::Global;
 use std::test::Fail;
 
