@@ -1,16 +1,18 @@
 -- A script is the events of its lines, where none is refused, and else refused by the first line that is.
-use Rattle.std.proofs.Common.{◌≡◌, ℕ, ◌+◌, ◌^◌, ◌<◌, ◌≤◌, Bool, true, false, cond, List, [], ◌∷◌, ◌++◌, length, take, drop, get_or, map, length-drop, length-take, subst, add-one, MatchOption, IfSome, ◌≢◌, Option, Some, None, Ok, Err, refl, sym, ap, ap₂, ◌∙◌, inl, inr, arith, suc, zero, below_more, eqb, Bor}
+use Rattle.std.proofs.Common.{replicate, length-append, append-nil, append_assoc, ◌≡◌, ℕ, ◌+◌, ◌^◌, ◌<◌, ◌≤◌, Bool, true, false, cond, List, [], ◌∷◌, ◌++◌, length, take, drop, get_or, map, length-drop, length-take, subst, add-one, MatchOption, IfSome, ◌≢◌, Option, Some, None, Ok, Err, refl, sym, ap, ap₂, ◌∙◌, inl, inr, arith, suc, zero, below_more, eqb, Bor}
 use Rattle.std.specs.List.{All, AllWithin, HoldsAt, position_from, range_with_len, slice_get, slice_split}
 use Rattle.std.proofs.Math.Nat.{eq-or-lt_of_le}
 use Rattle.std.proofs.lemmas.Iterator.Adapters.{position_from-zero}
-use Rattle.std.proofs.lemmas.List.{take_more, take_all, take-append-drop, get_or-take}
+use Rattle.std.proofs.lemmas.List.{drop-drop, length-replicate, take_more, take_all, take-append-drop, get_or-take}
 use Rattle.std.proofs.lemmas.List.Splits.{slice_split_none, slice_split_at}
 use Rattle.std.proofs.lemmas.Bool.{ne_eqb}
-use Rattle.std.proofs.Math.Seq.{drop-cons}
+use Rattle.std.proofs.Math.Seq.{drop-cons, drop-append_seam}
+use Rattle.std.proofs.lemmas.Bool.Decides.{nat_tests}
 use Rattle.std.proofs.lemmas.List.Elements.{filter_map-append}
 use Rattle.std.proofs.lemmas.Option.{slice_get_read, slice_get_within, get_or_from_slice_get}
 use Rattle.spec_protocol.specs.declared.event.Event.{Event}
 use Rattle.dl_event.specs.declared.line.Line.{Line}
+use Rattle.dl_event.specs.declared.line.Line.TheVariants.{Holds}
 use Rattle.dl_event.specs.Line.{line_of}
 use Rattle.dl_event.specs.Script.{event_in, events_of, is_refused_after, is_refused, first_refused, outcome, lines_of}
 
@@ -145,3 +147,31 @@ all_read lines i events read end =
     let none = none-from (is_refused lines) 0 (length lines) (λ k l. read.taken k (omega arith)) in
     ap (outcome lines) (position_from-zero (is_refused lines) (range_with_len 0 (length lines)) ∙ none)
     ∙ ap (λ x. Ok (events_of x)) (sym (take_all i lines (omega arith))) ∙ ap Ok (sym read.held)
+
+-- ---- lines in a row that hold one event
+
+-- so many lines in a row that hold one event add it so many times
+pub some_read : (lines : List Line) (i n : ℕ) (events : List Event) (e : Event) (more : List Line) → IsRead lines i events → drop i lines ≡ replicate n (Holds e) ++ more → length events + n ≤ 2 ^ 24 → IsRead lines (i + n) (events ++ replicate n e)
+some_read lines i zero events e more read at few =
+    let same : i ≡ i + 0 = omega arith in
+    subst (λ (k : ℕ). IsRead lines k (events ++ [])) same (subst (IsRead lines i) (sym (append-nil events)) read)
+some_read lines i (suc n) events e more read at few =
+    let here = here-and-behind lines i (Holds e) (replicate n (Holds e) ++ more) at in
+    let longer : length (events ++ e ∷ []) ≡ length events + 1 = length-append events (e ∷ []) in
+    let one = one_read lines i events (events ++ e ∷ []) (Holds e) read here.1 (grind (arith, nat_tests)) refl (omega arith) in
+    let rest = some_read lines (i + 1) n (events ++ e ∷ []) e more one here.2 (omega arith) in
+    let same : i + 1 + n ≡ i + suc n = omega arith in
+    subst (λ (k : ℕ). IsRead lines k (events ++ e ∷ replicate n e)) same (subst (IsRead lines (i + 1 + n)) (append_assoc events (e ∷ []) (replicate n e)) rest)
+
+-- behind them the other lines are left
+pub some_left : (bytes : List ℕ) (n times : ℕ) (text : List ℕ) (e : Event) (rest : Bor (List ℕ)) → IsLeftText bytes n text → lines_of text ≡ replicate times (Holds e) ++ lines_of rest.now → times + length rest.now ≤ length text → IsLeft bytes (n + times) (Some rest)
+some_left bytes n times text e rest left is shorter =
+    let held : List Line = replicate times (Holds e) in
+    let count : length held ≡ times = length-replicate times (Holds e) in
+    let behind : drop times (held ++ lines_of rest.now) ≡ lines_of rest.now =
+    ap (λ (k : ℕ). drop k (held ++ lines_of rest.now)) (sym count) ∙ drop-append_seam held (lines_of rest.now)
+    in
+    record {
+      lines = sym behind ∙ ap (drop times) (sym is ∙ left.lines) ∙ drop-drop times n (lines_of bytes);
+      room = (let r = left.room in omega arith);
+    }

@@ -1,5 +1,5 @@
 //! Events in order.
-ghost use Rattle.std.specs.Prelude.{◌≡◌, ◌<◌, ◌^◌, ◌-◌, ◌∷◌, ◌++◌, [], true, length, OnOk, OnErr};
+ghost use Rattle.std.specs.Prelude.{◌≡◌, ◌<◌, ◌^◌, ◌+◌, ◌++◌, [], true, length, replicate, OnOk, OnErr};
 ghost use Rattle.dl_event.specs.Repeated.{expanded, EndsWith};
 
 use spec_protocol::Event;
@@ -57,19 +57,19 @@ impl Events {
         &self.repeated
     }
 
-    /// Puts one event behind the others.
-    pub fn push(&mut self, event: Event) -> Result<(), AllocError>
-        requires { length self.old < 2 ^ 32 - 1 }
-        ensures ok { OnOk result (self.new ≡ self.old ++ event ∷ []) }
+    /// Puts an event behind the others, so many times in a row.
+    pub fn push(&mut self, event: Event, times: u32) -> Result<(), AllocError>
+        requires { length self.old + times < 2 ^ 32 }
+        ensures ok { OnOk result (self.new ≡ self.old ++ replicate times event) }
         ensures err { OnErr result (self.new ≡ self.old) }
     {
         if ends_with(&self.repeated, event) {
             let last = self.repeated.len() - 1;
-            self.repeated[last].times += 1;
+            self.repeated[last].times += times;
         } else {
-            self.repeated.push(Repeated { event, times: 1 })?;
+            self.repeated.push(Repeated { event, times })?;
         }
-        self.count += 1;
+        self.count += times;
         Ok(())
     }
 }

@@ -1,5 +1,5 @@
 //! Whole scripts.
-ghost use Rattle.std.specs.Prelude.{◌≡◌, ◌≤◌, ◌<◌, ◌^◌, ◌∷◌, [], length, Ok, IfOk, IfErr, IfSome, MatchOption};
+ghost use Rattle.std.specs.Prelude.{◌≡◌, ◌≤◌, ◌<◌, ◌^◌, ◌+◌, ◌∷◌, ◌++◌, [], length, replicate, Ok, IfOk, IfErr, IfSome, MatchOption};
 ghost use Rattle.dl_event.specs.declared.line.Line.TheVariants.{Holds};
 ghost use Rattle.dl_event.specs.Script.{lines_of, script_of, Refuses};
 
@@ -27,11 +27,17 @@ pub fn parse_script(alloc: Global, bytes: &[u8]) -> Result<Events, ScriptError>
     let mut number = 0u64;
     let mut left = Some(bytes);
     while let Some(text) = left {
+        if let Some((event, times, rest)) = short_lines(text, MOST_EVENTS - events.len()) {
+            events.push(event, times)?;
+            number += u64::from(times);
+            left = Some(rest);
+            continue;
+        }
         let (line, rest) = next_line(text);
         number += 1;
         match line {
             Line::Empty => {}
-            Line::Holds(event) if events.len() < MOST_EVENTS => events.push(event)?,
+            Line::Holds(event) if events.len() < MOST_EVENTS => events.push(event, 1)?,
             _ => return Err(ScriptError::Refused(number)),
         }
         left = rest;
@@ -45,16 +51,47 @@ fn next_line(text: &[u8]) -> (Line, Option<&[u8]>)
         (λ rest. lines_of text.now ≡ result.0 ∷ lines_of rest.now) }
     ensures shorter { IfSome result.1 (λ rest. length rest.now < length text.now) }
 {
-    if let Some((event, rest)) = short_line(text) {
-        return (Line::Holds(event), Some(rest));
-    }
     match text.iter().position(|byte| *byte == b'\n') {
         None => (read_line(text), None),
         Some(end) => (read_line(&text[..end]), Some(&text[end + 1..])),
     }
 }
 
+// The event of a first line in its shortest form, how many lines in a row are like it, at most so many, and the text
+// behind them.
+fn short_lines(text: &[u8], most: u32) -> Option<(Event, u32, &[u8])>
+    ensures lines { IfSome result (λ read. lines_of text.now ≡ replicate read.1 (Holds read.0) ++ lines_of read.2.now) }
+    ensures shorter { IfSome result (λ read. read.1 + length read.2.now ≤ length text.now) }
+    ensures some { IfSome result (λ read. 1 ≤ read.1) }
+    ensures most { IfSome result (λ read. read.1 ≤ most) }
+{
+    if most == 0 {
+        return None;
+    }
+    let (event, mut rest) = short_line(text)?;
+    let mut times = 1;
+    while times < most {
+        let Some(behind) = behind_same(rest, event) else {
+            break;
+        };
+        rest = behind;
+        times += 1;
+    }
+    Some((event, times, rest))
+}
+
+// The text behind a first line that is this event in its shortest form.
+#[inline(always)]
+fn behind_same(text: &[u8], event: Event) -> Option<&[u8]>
+    ensures lines { IfSome result (λ rest. lines_of text.now ≡ Holds event ∷ lines_of rest.now) }
+    ensures shorter { IfSome result (λ rest. length rest.now < length text.now) }
+{
+    let (found, rest) = short_line(text)?;
+    if found == event { Some(rest) } else { None }
+}
+
 // The event of a first line in its shortest form, with one digit and no needless space, as programs write nearly all lines.
+#[inline(always)]
 fn short_line(text: &[u8]) -> Option<(Event, &[u8])>
     ensures lines { IfSome result (λ read. lines_of text.now ≡ Holds read.0 ∷ lines_of read.1.now) }
     ensures shorter { IfSome result (λ read. length read.1.now < length text.now) }

@@ -12,11 +12,11 @@ returns-in-None-clause-lines c =
     let none : AllWithin (λ b. b ≢ 10) c.args.text.now 0 (length c.args.text.now) = first in
     line-alone text none ∙ ap (λ line. line ∷ []) (sym c.read_line.ensures)
 
-pub returns-in-Some-position-clause-lines : goal.returns-in-Some-position-clause-lines
-returns-in-Some-position-clause-lines c =
+pub returns-in-Some-clause-lines : goal.returns-in-Some-clause-lines
+returns-in-Some-clause-lines c =
     let text = c.args.text.now in
-    let end = c.in-Some-position.end in
-    let first = IsFirst-from_position _ _ _ (λ b. b ≡ 10) (λ b. b ≢ 10) c.in-Some-position.ensures.ran (YieldsList-from_slice text c.iter.ensures.rest) (λ x q k. search (rules, tests)) (λ x q k. search (rules, tests)) in
+    let end = c.in-Some.end in
+    let first = IsFirst-from_position _ _ _ (λ b. b ≡ 10) (λ b. b ≢ 10) c.in-Some.ensures.ran (YieldsList-from_slice text c.iter.ensures.rest) (λ x q k. search (rules, tests)) (λ x q k. search (rules, tests)) in
     let at : (end < length text) × HoldsAt (λ b. b ≡ 10) text end × AllWithin (λ b. b ≢ 10) text 0 end = first in
-    let all : take (length c.args.text.now - (c.in-Some-position.end + 1)) (drop (c.in-Some-position.end + 1) c.args.text.now) ≡ drop (c.in-Some-position.end + 1) c.args.text.now = take_all _ _ (omega (arith, length-drop (end + 1) text)) in
-    rw (all, c.read_line-in-Some-position.ensures) (line-first text end at.0 at.1 at.2)
+    let all : take (length c.args.text.now - (c.in-Some.end + 1)) (drop (c.in-Some.end + 1) c.args.text.now) ≡ drop (c.in-Some.end + 1) c.args.text.now = take_all _ _ (omega (arith, length-drop (end + 1) text)) in
+    rw (all, c.read_line-in-Some.ensures) (line-first text end at.0 at.1 at.2)

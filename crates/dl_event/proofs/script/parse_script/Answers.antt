@@ -1,20 +1,31 @@
-use Rattle.std.proofs.Common.{◌≡◌, true, length, Some, sym, ap, ◌∙◌, arith, refl, append-nil}
+use Rattle.std.proofs.Common.{◌≡◌, ℕ, ◌+◌, subst, true, length, Some, sym, ap, ◌∙◌, arith, refl, append-nil}
 use Rattle.std.proofs.lemmas.List.{length_push}
 use Rattle.std.proofs.lemmas.Bool.Decides.{nat_tests}
 use Rattle.dl_event.specs.declared.line.Line.TheVariants.{Empty, Holds, Wrong}
 use Rattle.dl_event.specs.declared.line.Line.{Line}
 use Rattle.dl_event.specs.Script.{lines_of, is_refused_after}
-use Rattle.dl_event.proofs.Reading.{first_left, left_text, left_none, one_line, nothing_read, one_read, one_refused, all_read, fewer}
+use Rattle.dl_event.proofs.Reading.{IsRead, IsLeft, some_read, some_left, first_left, left_text, left_none, one_line, nothing_read, one_read, one_refused, all_read, fewer}
 use Rattle.dl_event.proofs.script.parse_script.Goals.{in_default-line-via-in-Holds+else-len-lt-MOST_EVENTS, in_default-line-via-in_default-line}
 use Rattle.dl_event.proofs.script.parse_script.Goals as goal
 
 pub loop-left-init : goal.loop-left-init
 loop-left-init c = rw c.new-events.ensures (nothing_read (lines_of c.args.bytes.now), first_left c.args.bytes)
 
-pub overflow_add-number : goal.overflow_add-number
-overflow_add-number c =
-    let at = left_text _ _ _ _ c.loop-left.invariant.1 c.in-Some.is in
-    omega (arith, at.room)
+pub loop-left-preserved-in-Some-short_lines : goal.loop-left-preserved-in-Some-short_lines
+loop-left-preserved-in-Some-short_lines c =
+    let now = c.loop-left in
+    let held = c.in-Some-short_lines in
+    let bytes = c.args.bytes.now in
+    let at = left_text _ _ _ _ now.invariant.1 c.in-Some.is in
+    let room = held.ensures.most in
+    let count = c.len.ensures in
+    let few = now.invariant.0.few in
+    let read = some_read (lines_of bytes) now.number held.times now.events held.event (lines_of held.rest.now) now.invariant.0 (sym at.lines ∙ held.ensures.lines) (omega arith) in
+    let left = some_left bytes now.number held.times c.in-Some.text.now held.event held.rest at held.ensures.lines held.ensures.shorter in
+    let times = sym c.from-number.ensures in (
+      subst (λ (n : ℕ). IsRead (lines_of bytes) (now.number + n) c.push.new.self) times (subst (IsRead (lines_of bytes) (now.number + held.times)) (sym c.in_ok-push.ensures.ok) read),
+      subst (λ (n : ℕ). IsLeft bytes (now.number + n) (Some held.rest)) times left,
+    )
 
 pub returns-in_default-line-clause-refused : goal.returns-in_default-line-clause-refused
 returns-in_default-line-clause-refused c =
