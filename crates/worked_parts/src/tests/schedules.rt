@@ -1,15 +1,28 @@
 //! Scripts with their events or their first wrong line, and events drawn from a seed.
-use dl_event::{Event, ScriptError, Seeded, parse_script};
+use dl_event::{Event, Events, ScriptError, Seeded, parse_script};
 use spec_protocol::Event::*;
+use std::alloc::{AllocError, Global};
 use std::test::Fail;
 
 #[test]
 fn a_script_is_its_events(rt: HostRuntime) -> Result<(), Fail> {
     for (text, events) in SCRIPTS {
         let read = parse_script(rt.alloc(), text.as_bytes())?;
+        let read = listed(rt.alloc(), &read)?;
         assert!(rt; read.as_slice() == *events, "at {text}");
     }
     Ok(())
+}
+
+// Each event as often as it comes.
+fn listed(alloc: Global, events: &Events) -> Result<Vec<Event>, AllocError> {
+    let mut list = Vec::new(alloc);
+    for repeated in events.repeated() {
+        for _ in 0..repeated.times {
+            list.push(repeated.event)?;
+        }
+    }
+    Ok(list)
 }
 
 #[test]
@@ -31,6 +44,14 @@ const SCRIPTS: &[(&str, &[Event])] = &[
     ("  step   0  ", &[Step(0)]),
     ("step 0\nask 0\n", &[Step(0), Ask(0)]),
     ("\n  step   7 \n\n# step x\nask 255", &[Step(7), Ask(255)]),
+    (
+        "step 0\nstep 0\nstep 0\nstep 1\n step 1\nstep 0",
+        &[Step(0), Step(0), Step(0), Step(1), Step(1), Step(0)],
+    ),
+    (
+        "drain 1\ndrain 1\ndrain 2\ndeliver 0 1\ndeliver 0 1\n",
+        &[Drain(1), Drain(1), Drain(2), Deliver(0, 1), Deliver(0, 1)],
+    ),
     ("step 0000000255\n", &[Step(255)]),
     ("ask 0000000000", &[Ask(0)]),
     (
