@@ -178,27 +178,6 @@ halted_stands task reads m before after Halt.OutOfMemory s e same (inr (name, f)
     memory_stands (outcome_in (task m)) (reads m) m before after s stopped.0
     (inr (inr (name, fault_is before.known (outcome_in (task m)) reads m before after name e (same ∙ e) f (took_none (fault_line name) before.taken after.taken stopped.1))))
 
--- and nothing is done then
-refusal_undone : (why : Refusal) → is_done (status_of why) ≡ true → ⊥
-refusal_undone Refusal.Usage e = true≢false (sym e)
-refusal_undone Refusal.Plan e = true≢false (sym e)
-refusal_undone Refusal.Image e = true≢false (sym e)
-refusal_undone Refusal.Grammar e = true≢false (sym e)
-refusal_undone Refusal.Source e = true≢false (sym e)
-refusal_undone Refusal.Absent e = true≢false (sym e)
-
--- a command that halts doesn't end with a status of one that is done
-pub stopped_undone : (h : Halt) (old new : Option (List ℕ)) (from to : ℕ) (s : Status) → Stopped h old new from to s → is_done s ≡ true → ⊥
-stopped_undone (Halt.Refused why text) old new from to s stopped done = elim stopped.0 [
-  | inl due ↦ refusal_undone why (sym (ap is_done due.0) ∙ done)
-  | inr memory ↦ true≢false (sym done ∙ ap is_done memory.0)
-]
-stopped_undone (Halt.Fault text) old new from to s stopped done = elim stopped.0 [
-  | inl due ↦ true≢false (sym done ∙ ap is_done due.0)
-  | inr memory ↦ true≢false (sym done ∙ ap is_done memory.0)
-]
-stopped_undone Halt.OutOfMemory old new from to s stopped done = true≢false (sym done ∙ ap is_done stopped.0)
-
 -- ---- a fault, and the line on it
 
 no_memory_fault : (s : Status) → s ≡ Status.Memory → s ≡ Status.Fault → ⊥
@@ -226,15 +205,41 @@ performed_fault d ws text old new s (inr (inl (name, b))) e whole = elim b.said.
 ]
 performed_fault d ws text old new s (inr (inr u)) e whole = absurd (no_memory_fault s u.status e)
 
--- a command that halts by a fault of a read says the last fault's line, whole where the sink had no fault
-pub stopped_fault : (known : Option Contents) (task : Contents → Result Work Refused) (reads : Contents → List (List ℕ)) (old new : ℕ) (last : Option (List ℕ)) (h : Halt) (before after : Option (List ℕ)) (from to : ℕ) (s : Status)
-    → Halts known task reads old new last h → Stopped h before after from to s → s ≡ Status.Fault → (Rose from to → ⊥) → FaultSaid last before after
-stopped_fault known task reads old new last (Halt.Refused why text) before after from to s halts stopped e whole = elim stopped.0 [
-  | inl due ↦ absurd (no_refusal_fault why (sym due.0 ∙ e))
-  | inr memory ↦ absurd (no_memory_fault s memory.0 e)
-]
-stopped_fault known task reads old new last (Halt.Fault text) before after from to s halts stopped e whole = elim stopped.0 [
-  | inl due ↦ (halts.0, halts.2.named, subst (λ (t : List ℕ). TookAll t before after) halts.1 (due.1 whole))
-  | inr memory ↦ absurd (no_memory_fault s memory.0 e)
-]
-stopped_fault known task reads old new last Halt.OutOfMemory before after from to s halts stopped e whole = absurd (no_memory_fault s stopped.0 e)
+-- ---- a command that stopped
+
+-- a refusal is not the status of a command that is done
+refusal_undone : (why : Refusal) → is_done (status_of why) ≡ true → ⊥
+refusal_undone Refusal.Usage e = true≢false (sym e)
+refusal_undone Refusal.Plan e = true≢false (sym e)
+refusal_undone Refusal.Image e = true≢false (sym e)
+refusal_undone Refusal.Grammar e = true≢false (sym e)
+refusal_undone Refusal.Source e = true≢false (sym e)
+refusal_undone Refusal.Absent e = true≢false (sym e)
+
+-- A command has stopped with the status s: the sink had taken so much before the line on it, and so much after, and had so
+-- many faults before and after.
+module _ (before after : Option (List ℕ)) (from to : ℕ) (s : Status) where
+  -- its status isn't one of a command that is done
+  pub stopped_undone : (h : Halt) → Stopped h before after from to s → is_done s ≡ true → ⊥
+  stopped_undone (Halt.Refused why text) stopped done = elim stopped.0 [
+    | inl due ↦ refusal_undone why (sym (ap is_done due.0) ∙ done)
+    | inr memory ↦ true≢false (sym done ∙ ap is_done memory.0)
+  ]
+  stopped_undone (Halt.Fault text) stopped done = elim stopped.0 [
+    | inl due ↦ true≢false (sym done ∙ ap is_done due.0)
+    | inr memory ↦ true≢false (sym done ∙ ap is_done memory.0)
+  ]
+  stopped_undone Halt.OutOfMemory stopped done = true≢false (sym done ∙ ap is_done stopped.0)
+
+  -- where it halted by a fault of a read, it says the last fault's line, whole where the sink had no fault
+  pub stopped_fault : (known : Option Contents) (task : Contents → Result Work Refused) (reads : Contents → List (List ℕ)) (old new : ℕ) (last : Option (List ℕ)) (h : Halt)
+      → Halts known task reads old new last h → Stopped h before after from to s → s ≡ Status.Fault → (Rose from to → ⊥) → FaultSaid last before after
+  stopped_fault known task reads old new last (Halt.Refused why text) halts stopped e whole = elim stopped.0 [
+    | inl due ↦ absurd (no_refusal_fault why (sym due.0 ∙ e))
+    | inr memory ↦ absurd (no_memory_fault s memory.0 e)
+  ]
+  stopped_fault known task reads old new last (Halt.Fault text) halts stopped e whole = elim stopped.0 [
+    | inl due ↦ (halts.0, halts.2.named, subst (λ (t : List ℕ). TookAll t before after) halts.1 (due.1 whole))
+    | inr memory ↦ absurd (no_memory_fault s memory.0 e)
+  ]
+  stopped_fault known task reads old new last Halt.OutOfMemory halts stopped e whole = absurd (no_memory_fault s stopped.0 e)

@@ -6,3 +6,4 @@ mod Verdicts
 mod Lists
 mod Limits
 mod Advancing
+pub mod PutBack

@@ -1,9 +1,6 @@
 -- By the replayer's answer a commit went as its verdict says, or the play ends before it.
-use Rattle.std.proofs.Common.{◌≡◌, ℕ, zero, suc, ◌-◌, Bool, true, false, List, [], ◌∷◌, ◌++◌, length, map, set, get_or, length-set, Option, Some, None, Ok, refl, sym, ap, ◌∙◌}
-use Rattle.std.specs.Prelude.{slice_get, replicate}
+use Rattle.std.proofs.Common.{◌≡◌, ℕ, Bool, true, false, List, [], Option, Some, None, Ok, refl, sym, ap, ◌∙◌}
 use Rattle.std.proofs.lemmas.Bool.{true≢false}
-use Rattle.std.proofs.lemmas.Option.{get_or_from_slice_get}
-use Rattle.std.proofs.Math.Seq.{map-set_same}
 use Rattle.dl_entry.specs.declared.Request.{Request}
 use Rattle.dl_entry.specs.declared.Why.{Why}
 use Rattle.spec_isa.specs.declared.thread.Parts.{Parts}
@@ -20,7 +17,7 @@ use Rattle.dl_replay.specs.declared.asking.Verdict.{Verdict}
 use Rattle.dl_replay.specs.Judged as replay
 use Rattle.dl_replay.specs.Judged.{chunk_judged, serial_judged, dma_judged, committed, diverged, transferred}
 use Rattle.dl_replay.specs.Left.{nothing_served, served_left, served_stored}
-use Rattle.dl_replay.specs.Replaying.{Replaying, commits_of}
+use Rattle.dl_replay.specs.Replaying.{Replaying}
 
 went : Verdict → Bool
 went Verdict.Went = true
@@ -165,18 +162,3 @@ module _ (r : Replaying) (p : Progress) (ts : List Parts) (rq : Option Request) 
   left-judged k mid back served s (Goes e u) why same is = absurd (true≢false (sym (ap (λ (j : replay.Judged). went j.verdict) is)))
   left-judged k mid back served s (Fails because) why same is =
       λ i. record { verdict = (is i).verdict; replay = (is i).replay; threads = same i; request = (is i).request; served = nothing_served }
-
--- ---- the threads while a chunk is judged
-
--- a thread changed and put back leaves the threads as they were
-pub put_back : (ts : List Parts) (k : ℕ) (s t : Parts) → slice_get ts k ≡ Some t → set (set ts k s) k t ≡ ts
-put_back [] k s t is = refl
-put_back (x ∷ xs) zero s t is = let same : x ≡ t = (let e : Some x ≡ Some t = is in cc) in ap (λ y. y ∷ xs) (sym same)
-put_back (x ∷ xs) (suc k) s t is = ap (λ ys. x ∷ ys) (put_back xs k s t is)
-
--- where a thread's state moves on and its number of commits stays, so do all counts of commits
-pub same_commits : (ts : List Parts) (k : ℕ) (s t : Parts) → slice_get ts k ≡ Some t → s.commits ≡ t.commits → commits_of (set ts k s) ≡ commits_of ts
-same_commits ts k s t is same =
-    let f : Parts → ℕ = λ p. p.commits in
-    let at : f s ≡ f (get_or ts k t) = same ∙ sym (ap f (get_or_from_slice_get ts k t t is)) in
-    ap (λ xs. xs ++ replicate (15 - length (set ts k s)) 0) (map-set_same f ts k s t at) ∙ ap (λ n. map f ts ++ replicate (15 - n) 0) (length-set ts k s)

@@ -1,9 +1,6 @@
 -- What the replayer answers of a request makes of the sphere what the verdict says.
-use Rattle.std.proofs.Common.{◌≡◌, ℕ, zero, suc, ◌-◌, length, map, set, get_or, length-set, Bool, true, false, List, [], ◌∷◌, ◌++◌, Option, Some, None, Ok, refl, sym, ap, ◌∙◌, cond}
-use Rattle.std.specs.Prelude.{slice_get, replicate}
+use Rattle.std.proofs.Common.{◌≡◌, ℕ, Bool, true, false, List, [], ◌∷◌, ◌++◌, Option, Some, None, Ok, refl, sym, ap, ◌∙◌, cond}
 use Rattle.std.proofs.lemmas.Bool.{true≢false}
-use Rattle.std.proofs.lemmas.Option.{get_or_from_slice_get}
-use Rattle.std.proofs.Math.Seq.{map-set_same}
 use Rattle.dl_entry.specs.declared.Commit.{Commit}
 use Rattle.dl_entry.specs.declared.Request.{Request}
 use Rattle.dl_entry.specs.declared.Why.{Why}
@@ -21,7 +18,7 @@ use Rattle.dl_replay.specs.declared.asking.Verdict.{Verdict}
 use Rattle.dl_replay.specs.Judged as replay
 use Rattle.dl_replay.specs.Judged.{chunk_judged, serial_judged}
 use Rattle.dl_replay.specs.Left.{nothing_served, served_left}
-use Rattle.dl_replay.specs.Replaying.{Replaying, commits_of}
+use Rattle.dl_replay.specs.Replaying.{Replaying}
 use Rattle.dl_sphere.specs.Judging.{Before, judged_by}
 
 -- ---- the commit of a verdict
@@ -161,18 +158,3 @@ module _ (p : Progress) (k : ℕ) (b : Before) (new : Replaying) (ts : List Part
         commits = b.commits ++ same i ∷ [];
         words = (is i).served.words;
       }
-
--- ---- the threads while a chunk is judged
-
--- a thread changed and put back leaves the threads as they were
-pub put_back : (ts : List Parts) (k : ℕ) (s t : Parts) → slice_get ts k ≡ Some t → set (set ts k s) k t ≡ ts
-put_back [] k s t is = refl
-put_back (x ∷ xs) zero s t is = let same : x ≡ t = (let e : Some x ≡ Some t = is in cc) in ap (λ y. y ∷ xs) (sym same)
-put_back (x ∷ xs) (suc k) s t is = ap (λ ys. x ∷ ys) (put_back xs k s t is)
-
--- where a thread's state moves on and its number of commits stays, so do all counts of commits
-pub same_commits : (ts : List Parts) (k : ℕ) (s t : Parts) → slice_get ts k ≡ Some t → s.commits ≡ t.commits → commits_of (set ts k s) ≡ commits_of ts
-same_commits ts k s t is same =
-    let f : Parts → ℕ = λ p. p.commits in
-    let at : f s ≡ f (get_or ts k t) = same ∙ sym (ap f (get_or_from_slice_get ts k t t is)) in
-    ap (λ xs. xs ++ replicate (15 - length (set ts k s)) 0) (map-set_same f ts k s t at) ∙ ap (λ n. map f ts ++ replicate (15 - n) 0) (length-set ts k s)

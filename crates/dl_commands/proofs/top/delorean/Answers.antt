@@ -27,10 +27,10 @@ returns-in-Err-clause-stands g c =
     halted_stands (work_of (texts c.args.words.now)) (reads_of (texts c.args.words.now)) m _ _ c.in-Err.halt c.stop.result e c.in-Err.ensures.kept c.in-Err.ensures.halt c.stop.ensures
 
 pub returns-in-Err-clause-headline : goal.returns-in-Err-clause-headline
-returns-in-Err-clause-headline g c = λ plan m asks e done. absurd (stopped_undone c.in-Err.halt _ _ _ _ c.stop.result c.stop.ensures done)
+returns-in-Err-clause-headline g c = λ plan m asks e done. absurd (stopped_undone _ _ _ _ c.stop.result c.in-Err.halt c.stop.ensures done)
 
 pub returns-in-Err-clause-done : goal.returns-in-Err-clause-done
-returns-in-Err-clause-done g c = λ command m asks e done. absurd (stopped_undone c.in-Err.halt _ _ _ _ c.stop.result c.stop.ensures done)
+returns-in-Err-clause-done g c = λ command m asks e done. absurd (stopped_undone _ _ _ _ c.stop.result c.in-Err.halt c.stop.ensures done)
 
 pub returns-in-Ok-clause-drill : goal.returns-in-Ok-clause-drill
 returns-in-Ok-clause-drill g c = λ number m asks e. drill_ends (texts c.args.words.now) m _ _ c.perform.result number asks (returns-in-Ok-clause-stands g c m e)
@@ -42,7 +42,7 @@ pub returns-in-Ok-clause-fault_said : goal.returns-in-Ok-clause-fault_said
 returns-in-Ok-clause-fault_said g c = λ e whole. performed_fault _ _ _ _ _ c.perform.result c.perform.ensures e whole
 
 pub returns-in-Err-clause-fault_said : goal.returns-in-Err-clause-fault_said
-returns-in-Err-clause-fault_said g c = λ e whole. stopped_fault _ _ _ _ _ _ c.in-Err.halt _ _ _ _ c.stop.result c.in-Err.ensures.halt c.stop.ensures e whole
+returns-in-Err-clause-fault_said g c = λ e whole. stopped_fault _ _ _ _ c.stop.result _ _ _ _ _ _ c.in-Err.halt c.in-Err.ensures.halt c.stop.ensures e whole
 
 pub returns-in-Ok-clause-said : goal.returns-in-Ok-clause-said
 returns-in-Ok-clause-said g c = performed_took _ _ _ _ _ c.perform.result c.perform.ensures

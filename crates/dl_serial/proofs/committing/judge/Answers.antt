@@ -4,9 +4,10 @@ use Rattle.std.proofs.lemmas.Bool.{true≢false}
 use Rattle.spec_play.specs.Verdicts.{chunk_verdict}
 use Rattle.dl_replay.specs.Judged.{HasRun}
 use Rattle.dl_replay.specs.Replaying.{Agrees, commits_of}
+use Rattle.dl_replay.proofs.PutBack.{put_back, same_commits}
 use Rattle.dl_serial.specs.Playing.{progress_in}
 use Rattle.dl_serial.specs.declared.chunk.Chunk.{Chunk}
-use Rattle.dl_serial.proofs.Judging.{went-judged, left-judged, put_back, same_commits}
+use Rattle.dl_serial.proofs.Judging.{went-judged, left-judged}
 use Rattle.dl_serial.proofs.committing.judge.Goals as goal
 
 pub accept-requires-clause-commits : goal.accept-requires-clause-commits

@@ -6,8 +6,9 @@ use Rattle.spec_play.specs.Progress.{Used}
 use Rattle.spec_play.specs.Verdicts.{Goes, chunk_verdict}
 use Rattle.dl_replay.specs.Judged.{HasRun}
 use Rattle.dl_replay.specs.Replaying.{commits_of}
+use Rattle.dl_replay.proofs.PutBack.{put_back, same_commits}
 use Rattle.dl_sphere.specs.Replayed.{before}
-use Rattle.dl_sphere.proofs.Replays.Judging.{chunk_commits, chunk_went, chunk_left, put_back, same_commits}
+use Rattle.dl_sphere.proofs.Replays.Judging.{chunk_commits, chunk_went, chunk_left}
 use Rattle.dl_sphere.proofs.replaying.end_chunk.Goals as goal
 
 pub end_chunk-requires-clause-commits : goal.end_chunk-requires-clause-commits

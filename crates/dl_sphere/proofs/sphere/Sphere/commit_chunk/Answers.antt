@@ -11,6 +11,7 @@ use Rattle.spec_protocol.specs.Asking.{is_short}
 use Rattle.spec_protocol.specs.Commits.{Diverged, is_piece, joined, chunk_moved}
 use Rattle.spec_protocol.specs.Spheres.{Cursor, Replay, Sphere}
 use Rattle.dl_replay.specs.Replaying.{Replaying, commits_of, cursor_of}
+use Rattle.dl_replay.proofs.PutBack.{same_commits}
 use Rattle.dl_sphere.specs.declared.part.Part.{Part}
 use Rattle.dl_sphere.specs.Moving.{IsPart, IsPartIn}
 use Rattle.spec_protocol.proofs.Logs.Growing.{pushed_length}
@@ -19,7 +20,7 @@ use Rattle.dl_sphere.specs.Inside.{sphere_in, sphere_with}
 use Rattle.dl_sphere.specs.SizedSpheres.{SizedSphere}
 use Rattle.dl_sphere.proofs.Standing.Moves.{Commits, commits_stand}
 use Rattle.dl_sphere.proofs.Replays.Moved.{granted, left, left_commits, stands_granted, stands_left}
-use Rattle.dl_sphere.proofs.Replays.Judging.{chunk_words, same_commits}
+use Rattle.dl_sphere.proofs.Replays.Judging.{chunk_words}
 use Rattle.dl_sphere.proofs.Replays.Limits.{replayed, stands_replayed, live_part, part-fits}
 use Rattle.dl_sphere.proofs.sphere.Sphere.commit_chunk.Goals as goal
 
