@@ -1,6 +1,7 @@
 //! Plans that are read, and plans that are refused: each is one plan with a change.
 use dl_plan::{Plan, PlanError, read_plan};
 use std::alloc::Global;
+use std::process::Abort;
 use std::test::Fail;
 
 /// A plan that is accepted under the name `p.toml`.
@@ -22,305 +23,275 @@ fn changed(alloc: Global, from: &str, to: &str) -> Result<Result<Plan, PlanError
     Ok(read_plan(alloc, "p.toml", text.as_bytes()))
 }
 
-/// Why the plan is refused then, if it is.
-fn refusal(alloc: Global, from: &str, to: &str) -> Result<Option<PlanError>, Fail> {
-    Ok(changed(alloc, from, to)?.err())
-}
-
-#[test]
-fn reads_the_plan(rt: HostRuntime) -> Result<(), Fail> {
-    let plan = read_plan(rt.alloc(), "p.toml", PLAN.as_bytes())?;
-    let expected = concat!(
-        "Plan { cores: 1, chunk: 100, buffer: 16, window: 2, signature: 64, seed: 0, schedule: Script(\"s.txt\"), ",
-        "input: None, console: None, report: Some(\"r.txt\"), spheres: [",
-        "Sphere { image: \"a.elf\", memory: 4096, role: Record { mode: OrderSize, log: \"a.log\" }, account: Some(\"a.txt\") }",
-        "] }"
-    );
-    assert_eq!(rt; format!(in rt.alloc(); "{plan:?}")?.as_str(), expected);
-    Ok(())
-}
-
-#[test]
-fn reads_the_other_keys(rt: HostRuntime) -> Result<(), Fail> {
-    let plan = read_plan(rt.alloc(), "p.toml", OTHER.as_bytes())?;
-    let expected = concat!(
-        "Plan { cores: 8, chunk: 64, buffer: 8, window: 1, signature: 128, seed: 9, schedule: Seeded { events: 20000 }, ",
-        "input: Some(\"i.bin\"), console: Some(\"c.bin\"), report: None, spheres: [",
-        "Sphere { image: \"a.elf\", memory: 4096, role: Plain, account: None }, ",
-        "Sphere { image: \"b.elf\", memory: 8192, role: Record { mode: Picolog, log: \"b.log\" }, account: None }, ",
-        "Sphere { image: \"b.elf\", memory: 16777216, role: Replay { log: \"a.log\" }, account: Some(\"c.txt\") }",
-        "] }"
-    );
-    assert_eq!(rt; format!(in rt.alloc(); "{plan:?}")?.as_str(), expected);
-    Ok(())
-}
-
-#[test]
-fn reads_each_spelling(rt: HostRuntime) -> Result<(), Fail> {
-    let plan = read_plan(rt.alloc(), "p.toml", PLAN.as_bytes())?;
-    let expected = format!(in rt.alloc(); "{plan:?}")?;
-    let table = [
-        ("cores = 1", "cores = 0x1"),
-        ("cores = 1", "\"cores\" = +1"),
-        ("cores = 1", "'cores'\t=\t0b1 # one"),
-        ("chunk = 100", "chunk = 1_00"),
-        ("chunk = 100", "chunk = 0x64"),
-        ("chunk = 100", "chunk = 0b110_0100"),
-        ("chunk = 100", "chunk = 0o144"),
-        (
-            "cores = 1\nchunk = 100\n",
-            "chunk = 100\r\n\r\ncores = 1\r\n",
-        ),
-        ("cores = 1\n", "\u{FEFF}cores = 1\n"),
-        ("buffer", "seed = 0\nbuffer"),
-        ("\"s.txt\"", "'s.txt'"),
-        ("\"s.txt\"", "\"\"\"s.txt\"\"\""),
-        ("\"s.txt\"", "'''\ns.txt'''"),
-        ("\"s.txt\"", "\"\\u0073.txt\""),
-        ("\"s.txt\"", "\"\"\"s.\\\n   txt\"\"\""),
-        ("[[sphere]]", "[[ \"sphere\" ]] # the only one"),
-        (
-            SPHERE,
-            "sphere = [{ image = \"a.elf\", memory = 4096, role = \"record\", mode = \"order-size\", log = \"a.log\", account = \"a.txt\" }]",
-        ),
-        (
-            SPHERE,
-            "[[sphere]]\naccount = \"a.txt\"\nlog = \"a.log\"\nmode = 'order-size'\nrole = \"\"\"record\"\"\"\nmemory = 4_096\nimage = \"a.elf\"",
-        ),
-    ];
-    for (from, to) in table {
-        let plan = changed(rt.alloc(), from, to)??;
-        assert_eq!(rt; format!(in rt.alloc(); "{plan:?}")?, expected, "{to}");
+// Whether the plan is refused after each change by the rule of that number.
+fn are_refused(rt: &impl Abort, alloc: Global, changes: &[(&str, &str, u8)]) -> Result<(), Fail> {
+    for (from, to, rule) in changes {
+        let refused = changed(alloc, from, to)?.err();
+        assert!(rt; refused == Some(PlanError::Refused(*rule)), "{to}");
     }
     Ok(())
 }
 
+// A plan as it is shown for debugging.
+fn shown(alloc: Global, plan: &Plan) -> Result<String, Fail> {
+    Ok(format!(in alloc; "{plan:?}")?)
+}
+
+#[test]
+fn reads_each_key(rt: HostRuntime) -> Result<(), Fail> {
+    for (text, expected) in [(PLAN, PLAN_SHOWN), (OTHER, OTHER_SHOWN)] {
+        let plan = read_plan(rt.alloc(), "p.toml", text.as_bytes())?;
+        assert_eq!(rt; shown(rt.alloc(), &plan)?.as_str(), expected);
+    }
+    Ok(())
+}
+
+const PLAN_SHOWN: &str = concat!(
+    "Plan { cores: 1, chunk: 100, buffer: 16, window: 2, signature: 64, seed: 0, schedule: Script(\"s.txt\"), ",
+    "input: None, console: None, report: Some(\"r.txt\"), spheres: [",
+    "Sphere { image: \"a.elf\", memory: 4096, role: Record { mode: OrderSize, log: \"a.log\" }, account: Some(\"a.txt\") }",
+    "] }"
+);
+
+const OTHER_SHOWN: &str = concat!(
+    "Plan { cores: 8, chunk: 64, buffer: 8, window: 1, signature: 128, seed: 9, schedule: Seeded { events: 20000 }, ",
+    "input: Some(\"i.bin\"), console: Some(\"c.bin\"), report: None, spheres: [",
+    "Sphere { image: \"a.elf\", memory: 4096, role: Plain, account: None }, ",
+    "Sphere { image: \"b.elf\", memory: 8192, role: Record { mode: Picolog, log: \"b.log\" }, account: None }, ",
+    "Sphere { image: \"b.elf\", memory: 16777216, role: Replay { log: \"a.log\" }, account: Some(\"c.txt\") }",
+    "] }"
+);
+
+#[test]
+fn reads_each_spelling(rt: HostRuntime) -> Result<(), Fail> {
+    for (from, to) in SPELLINGS {
+        let plan = changed(rt.alloc(), from, to)??;
+        assert_eq!(rt; shown(rt.alloc(), &plan)?.as_str(), PLAN_SHOWN, "{to}");
+    }
+    Ok(())
+}
+
+const SPELLINGS: &[(&str, &str)] = &[
+    ("cores = 1", "cores = 0x1"),
+    ("cores = 1", "\"cores\" = +1"),
+    ("cores = 1", "'cores'\t=\t0b1 # one"),
+    ("chunk = 100", "chunk = 1_00"),
+    ("chunk = 100", "chunk = 0x64"),
+    ("chunk = 100", "chunk = 0b110_0100"),
+    ("chunk = 100", "chunk = 0o144"),
+    (
+        "cores = 1\nchunk = 100\n",
+        "chunk = 100\r\n\r\ncores = 1\r\n",
+    ),
+    ("cores = 1\n", "\u{FEFF}cores = 1\n"),
+    ("buffer", "seed = 0\nbuffer"),
+    ("\"s.txt\"", "'s.txt'"),
+    ("\"s.txt\"", "\"\"\"s.txt\"\"\""),
+    ("\"s.txt\"", "'''\ns.txt'''"),
+    ("\"s.txt\"", "\"\\u0073.txt\""),
+    ("\"s.txt\"", "\"\"\"s.\\\n   txt\"\"\""),
+    ("[[sphere]]", "[[ \"sphere\" ]] # the only one"),
+    (
+        SPHERE,
+        "sphere = [{ image = \"a.elf\", memory = 4096, role = \"record\", mode = \"order-size\", log = \"a.log\", account = \"a.txt\" }]",
+    ),
+    (
+        SPHERE,
+        "[[sphere]]\naccount = \"a.txt\"\nlog = \"a.log\"\nmode = 'order-size'\nrole = \"\"\"record\"\"\"\nmemory = 4_096\nimage = \"a.elf\"",
+    ),
+];
+
 #[test]
 fn accepts_each_limit(rt: HostRuntime) -> Result<(), Fail> {
-    let table = [
-        ("cores = 1", "cores = 8"),
-        ("chunk = 100", "chunk = 16"),
-        ("chunk = 100", "chunk = 4096"),
-        ("buffer = 16", "buffer = 1"),
-        ("buffer = 16", "buffer = 4096"),
-        ("window = 2", "window = 1"),
-        ("window = 2", "window = 8"),
-        ("signature = 64", "signature = 2048"),
-        ("memory = 4096", "memory = 16777216"),
-        ("cores", "seed = 9223372036854775807\ncores"),
-        ("script = \"s.txt\"", "events = 16777216"),
-        ("script = \"s.txt\"", "events = 0"),
-        ("report = \"r.txt\"\n", ""),
-        ("account = \"a.txt\"\n", ""),
-        (
-            "role = \"record\"\nmode = \"order-size\"\nlog = \"a.log\"\n",
-            "role = \"plain\"\n",
-        ),
-        (
-            "role = \"record\"\nmode = \"order-size\"",
-            "role = \"replay\"",
-        ),
-        ("order-size", "order-only"),
-        ("order-size", "picolog"),
-        ("cores", "input = \"s.txt\"\nconsole = \"c.bin\"\ncores"),
-    ];
-    for (from, to) in table {
+    for (from, to) in LIMITS {
         assert_eq!(rt; changed(rt.alloc(), from, to)?.err(), None, "{to}");
     }
     Ok(())
 }
 
+const LIMITS: &[(&str, &str)] = &[
+    ("cores = 1", "cores = 8"),
+    ("chunk = 100", "chunk = 16"),
+    ("chunk = 100", "chunk = 4096"),
+    ("buffer = 16", "buffer = 1"),
+    ("buffer = 16", "buffer = 4096"),
+    ("window = 2", "window = 1"),
+    ("window = 2", "window = 8"),
+    ("signature = 64", "signature = 2048"),
+    ("memory = 4096", "memory = 16777216"),
+    ("cores", "seed = 9223372036854775807\ncores"),
+    ("script = \"s.txt\"", "events = 16777216"),
+    ("script = \"s.txt\"", "events = 0"),
+    ("report = \"r.txt\"\n", ""),
+    ("account = \"a.txt\"\n", ""),
+    (
+        "role = \"record\"\nmode = \"order-size\"\nlog = \"a.log\"\n",
+        "role = \"plain\"\n",
+    ),
+    (
+        "role = \"record\"\nmode = \"order-size\"",
+        "role = \"replay\"",
+    ),
+    ("order-size", "order-only"),
+    ("order-size", "picolog"),
+    ("cores", "input = \"s.txt\"\nconsole = \"c.bin\"\ncores"),
+];
+
 #[test]
 fn refuses_what_is_no_document_or_has_other_keys(rt: HostRuntime) -> Result<(), Fail> {
-    let table = [
-        ("cores = 1", "cores 1", 1),
-        ("cores = 1", "cores = 1\ncores = 1", 1),
-        ("cores = 1", "cores = 01", 1),
-        ("cores = 1", "cores = 9223372036854775808", 1),
-        ("cores = 1", "Cores = 1\ncores = 1", 2),
-        ("cores = 1", "mode = \"order-size\"\ncores = 1", 2),
-        ("account", "more", 2),
-        ("\"a.txt\"\n", "\"a.txt\"\ncores = 1\n", 2),
-        (
-            SPHERE,
-            "sphere = [{ picture = \"a.elf\", memory = 4096, role = \"record\", mode = \"order-size\", log = \"a.log\", account = \"a.txt\" }]",
-            2,
-        ),
-    ];
-    for (from, to, rule) in table {
-        assert_eq!(rt;
-            refusal(rt.alloc(), from, to)?,
-            Some(PlanError::Refused(rule)),
-            "{to}"
-        );
-    }
-    Ok(())
+    are_refused(&rt, rt.alloc(), NO_DOCUMENT_OR_OTHER_KEYS)
 }
+
+const NO_DOCUMENT_OR_OTHER_KEYS: &[(&str, &str, u8)] = &[
+    ("cores = 1", "cores 1", 1),
+    ("cores = 1", "cores = 1\ncores = 1", 1),
+    ("cores = 1", "cores = 01", 1),
+    ("cores = 1", "cores = 9223372036854775808", 1),
+    ("cores = 1", "Cores = 1\ncores = 1", 2),
+    ("cores = 1", "mode = \"order-size\"\ncores = 1", 2),
+    ("account", "more", 2),
+    ("\"a.txt\"\n", "\"a.txt\"\ncores = 1\n", 2),
+    (
+        SPHERE,
+        "sphere = [{ picture = \"a.elf\", memory = 4096, role = \"record\", mode = \"order-size\", log = \"a.log\", account = \"a.txt\" }]",
+        2,
+    ),
+];
 
 #[test]
 fn refuses_missing_keys_and_other_kinds_of_values(rt: HostRuntime) -> Result<(), Fail> {
-    let table = [
-        ("cores = 1\n", "", 3),
-        ("signature = 64\n", "", 3),
-        ("role = \"record\"\n", "", 3),
-        ("cores = 1", "cores = \"1\"", 3),
-        ("chunk = 100", "chunk = 100.0", 3),
-        ("cores", "seed = \"0\"\ncores", 3),
-        ("cores", "events = true\ncores", 3),
-        ("cores", "input = 1979-05-27\ncores", 3),
-        ("4096", "\"4096\"", 3),
-        ("\"record\"", "\"Record\"", 3),
-        ("\"order-size\"", "\"order\"", 3),
-        ("\"a.log\"", "1", 3),
-        ("[[sphere]]", "[sphere]", 3),
-        (SPHERE, "sphere = [1]", 3),
-        (
-            SPHERE,
-            "sphere.image = \"a.elf\"\nsphere.memory = 4096\nsphere.role = \"plain\"",
-            3,
-        ),
-        (
-            SPHERE,
-            "sphere = [{ image = \"a.elf\", memory = 4096, role = \"record\", mode = \"order-size\", log = \"a.log\", account = \"a.txt\" }, []]",
-            3,
-        ),
-    ];
-    for (from, to, rule) in table {
-        assert_eq!(rt;
-            refusal(rt.alloc(), from, to)?,
-            Some(PlanError::Refused(rule)),
-            "{to}"
-        );
-    }
-    Ok(())
+    are_refused(&rt, rt.alloc(), MISSING_KEYS_AND_OTHER_KINDS)
 }
+
+const MISSING_KEYS_AND_OTHER_KINDS: &[(&str, &str, u8)] = &[
+    ("cores = 1\n", "", 3),
+    ("signature = 64\n", "", 3),
+    ("role = \"record\"\n", "", 3),
+    ("cores = 1", "cores = \"1\"", 3),
+    ("chunk = 100", "chunk = 100.0", 3),
+    ("cores", "seed = \"0\"\ncores", 3),
+    ("cores", "events = true\ncores", 3),
+    ("cores", "input = 1979-05-27\ncores", 3),
+    ("4096", "\"4096\"", 3),
+    ("\"record\"", "\"Record\"", 3),
+    ("\"order-size\"", "\"order\"", 3),
+    ("\"a.log\"", "1", 3),
+    ("[[sphere]]", "[sphere]", 3),
+    (SPHERE, "sphere = [1]", 3),
+    (
+        SPHERE,
+        "sphere.image = \"a.elf\"\nsphere.memory = 4096\nsphere.role = \"plain\"",
+        3,
+    ),
+    (
+        SPHERE,
+        "sphere = [{ image = \"a.elf\", memory = 4096, role = \"record\", mode = \"order-size\", log = \"a.log\", account = \"a.txt\" }, []]",
+        3,
+    ),
+];
 
 #[test]
 fn refuses_numbers_outside_their_limits(rt: HostRuntime) -> Result<(), Fail> {
-    let table = [
-        ("cores = 1", "cores = 0", 4),
-        ("cores = 1", "cores = 9", 4),
-        ("chunk = 100", "chunk = 15", 4),
-        ("buffer = 16", "buffer = 0", 4),
-        ("window = 2", "window = 9", 4),
-        ("window = 2", "window = -2", 4),
-        ("signature = 64", "signature = 32", 4),
-        ("signature = 64", "signature = 96", 4),
-        ("cores", "seed = -1\ncores", 4),
-        ("script = \"s.txt\"", "events = 16777217", 4),
-        ("memory = 4096", "memory = 4097", 4),
-        ("memory = 4096", "memory = 16781312", 4),
-        (SPHERE, "", 4),
-        (SPHERE, "sphere = []", 4),
-    ];
-    for (from, to, rule) in table {
-        assert_eq!(rt;
-            refusal(rt.alloc(), from, to)?,
-            Some(PlanError::Refused(rule)),
-            "{to}"
-        );
-    }
-    Ok(())
+    are_refused(&rt, rt.alloc(), OUTSIDE_LIMITS)
 }
+
+const OUTSIDE_LIMITS: &[(&str, &str, u8)] = &[
+    ("cores = 1", "cores = 0", 4),
+    ("cores = 1", "cores = 9", 4),
+    ("chunk = 100", "chunk = 15", 4),
+    ("buffer = 16", "buffer = 0", 4),
+    ("window = 2", "window = 9", 4),
+    ("window = 2", "window = -2", 4),
+    ("signature = 64", "signature = 32", 4),
+    ("signature = 64", "signature = 96", 4),
+    ("cores", "seed = -1\ncores", 4),
+    ("script = \"s.txt\"", "events = 16777217", 4),
+    ("memory = 4096", "memory = 4097", 4),
+    ("memory = 4096", "memory = 16781312", 4),
+    (SPHERE, "", 4),
+    (SPHERE, "sphere = []", 4),
+];
 
 #[test]
 fn refuses_schedules_and_roles_that_lack_something(rt: HostRuntime) -> Result<(), Fail> {
-    let table = [
-        ("script = \"s.txt\"\n", "", 5),
-        ("cores", "events = 9\ncores", 5),
-        ("mode = \"order-size\"\n", "", 6),
-        ("log = \"a.log\"\n", "", 6),
-        ("\"record\"", "\"replay\"", 6),
-        (
-            "role = \"record\"\nmode = \"order-size\"\nlog = \"a.log\"",
-            "role = \"replay\"",
-            6,
-        ),
-        ("\"record\"", "\"plain\"", 6),
-        (
-            "role = \"record\"\nmode = \"order-size\"",
-            "role = \"plain\"",
-            6,
-        ),
-        (
-            "role = \"record\"\nmode = \"order-size\"\nlog = \"a.log\"",
-            "role = \"plain\"\nmode = \"picolog\"",
-            6,
-        ),
-    ];
-    for (from, to, rule) in table {
-        assert_eq!(rt;
-            refusal(rt.alloc(), from, to)?,
-            Some(PlanError::Refused(rule)),
-            "{to}"
-        );
-    }
-    Ok(())
+    are_refused(&rt, rt.alloc(), LACKING)
 }
+
+const LACKING: &[(&str, &str, u8)] = &[
+    ("script = \"s.txt\"\n", "", 5),
+    ("cores", "events = 9\ncores", 5),
+    ("mode = \"order-size\"\n", "", 6),
+    ("log = \"a.log\"\n", "", 6),
+    ("\"record\"", "\"replay\"", 6),
+    (
+        "role = \"record\"\nmode = \"order-size\"\nlog = \"a.log\"",
+        "role = \"replay\"",
+        6,
+    ),
+    ("\"record\"", "\"plain\"", 6),
+    (
+        "role = \"record\"\nmode = \"order-size\"",
+        "role = \"plain\"",
+        6,
+    ),
+    (
+        "role = \"record\"\nmode = \"order-size\"\nlog = \"a.log\"",
+        "role = \"plain\"\nmode = \"picolog\"",
+        6,
+    ),
+];
 
 #[test]
 fn refuses_names_in_conflict(rt: HostRuntime) -> Result<(), Fail> {
-    let table = [
-        ("\"s.txt\"", "\"\"", 7),
-        ("\"r.txt\"", "\"\"", 7),
-        ("\"a.elf\"", "\"\"", 7),
-        ("\"a.log\"", "\"\"", 7),
-        ("\"a.txt\"", "\"\"", 7),
-        ("\"a.log\"", "\"a.txt\"", 7),
-        ("cores", "console = \"r.txt\"\ncores", 7),
-        ("\"a.txt\"", "\"r.txt\"", 7),
-        ("\"r.txt\"", "\"s.txt\"", 7),
-        ("\"a.log\"", "\"p.toml\"", 7),
-        ("\"a.txt\"", "\"a.elf\"", 7),
-        ("cores", "input = \"a.txt\"\ncores", 7),
-        (
-            SPHERE,
-            "[[sphere]]\nimage = \"a.elf\"\nmemory = 4096\nrole = \"record\"\nmode = \"order-size\"\nlog = \"a.log\"\naccount = \"a.txt\"\n[[sphere]]\nimage = \"b.elf\"\nmemory = 8192\nrole = \"replay\"\nlog = \"a.log\"\n",
-            7,
-        ),
-        (
-            SPHERE,
-            "[[sphere]]\nimage = \"a.elf\"\nmemory = 4096\nrole = \"record\"\nmode = \"order-size\"\nlog = \"a.log\"\naccount = \"a.txt\"\n[[sphere]]\nimage = \"b.elf\"\nmemory = 8192\nrole = \"plain\"\naccount = \"a.txt\"\n",
-            7,
-        ),
-    ];
-    for (from, to, rule) in table {
-        assert_eq!(rt;
-            refusal(rt.alloc(), from, to)?,
-            Some(PlanError::Refused(rule)),
-            "{to}"
-        );
-    }
-    Ok(())
+    are_refused(&rt, rt.alloc(), CONFLICTS)
 }
+
+const CONFLICTS: &[(&str, &str, u8)] = &[
+    ("\"s.txt\"", "\"\"", 7),
+    ("\"r.txt\"", "\"\"", 7),
+    ("\"a.elf\"", "\"\"", 7),
+    ("\"a.log\"", "\"\"", 7),
+    ("\"a.txt\"", "\"\"", 7),
+    ("\"a.log\"", "\"a.txt\"", 7),
+    ("cores", "console = \"r.txt\"\ncores", 7),
+    ("\"a.txt\"", "\"r.txt\"", 7),
+    ("\"r.txt\"", "\"s.txt\"", 7),
+    ("\"a.log\"", "\"p.toml\"", 7),
+    ("\"a.txt\"", "\"a.elf\"", 7),
+    ("cores", "input = \"a.txt\"\ncores", 7),
+    (
+        SPHERE,
+        "[[sphere]]\nimage = \"a.elf\"\nmemory = 4096\nrole = \"record\"\nmode = \"order-size\"\nlog = \"a.log\"\naccount = \"a.txt\"\n[[sphere]]\nimage = \"b.elf\"\nmemory = 8192\nrole = \"replay\"\nlog = \"a.log\"\n",
+        7,
+    ),
+    (
+        SPHERE,
+        "[[sphere]]\nimage = \"a.elf\"\nmemory = 4096\nrole = \"record\"\nmode = \"order-size\"\nlog = \"a.log\"\naccount = \"a.txt\"\n[[sphere]]\nimage = \"b.elf\"\nmemory = 8192\nrole = \"plain\"\naccount = \"a.txt\"\n",
+        7,
+    ),
+];
 
 #[test]
 fn refuses_by_the_first_of_two_rules(rt: HostRuntime) -> Result<(), Fail> {
-    let table = [
-        ("account = \"a.txt\"\n", "account = \"\"\nmore = 1\n", 2),
-        ("cores = 1", "cores = 9\nchunks = 1", 2),
-        ("cores = 1", "cores = \"9\"\nevents = -1", 3),
-        ("cores = 1", "cores = 9\nevents = 1", 4),
-        (
-            "script = \"s.txt\"\nreport = \"r.txt\"",
-            "report = \"a.elf\"",
-            5,
-        ),
-        (
-            "mode = \"order-size\"\nlog = \"a.log\"\n",
-            "log = \"\"\n",
-            6,
-        ),
-    ];
-    for (from, to, rule) in table {
-        assert_eq!(rt;
-            refusal(rt.alloc(), from, to)?,
-            Some(PlanError::Refused(rule)),
-            "{to}"
-        );
-    }
-    Ok(())
+    are_refused(&rt, rt.alloc(), TWO_RULES)
 }
+
+const TWO_RULES: &[(&str, &str, u8)] = &[
+    ("account = \"a.txt\"\n", "account = \"\"\nmore = 1\n", 2),
+    ("cores = 1", "cores = 9\nchunks = 1", 2),
+    ("cores = 1", "cores = \"9\"\nevents = -1", 3),
+    ("cores = 1", "cores = 9\nevents = 1", 4),
+    (
+        "script = \"s.txt\"\nreport = \"r.txt\"",
+        "report = \"a.elf\"",
+        5,
+    ),
+    (
+        "mode = \"order-size\"\nlog = \"a.log\"\n",
+        "log = \"\"\n",
+        6,
+    ),
+];
 
 #[test]
 fn refuses_what_no_change_makes(rt: HostRuntime) -> Result<(), Fail> {

@@ -3,83 +3,32 @@ use dl_account::{Counts, Point, SphereLine, report_text};
 use dl_entry::{Actor, CommitKind, ReplyName, Why};
 use std::test::Fail;
 
+/// A run of one sphere, and its report.
+struct Row {
+    points: &'static [Point],
+    events: u64,
+    replies: &'static [(ReplyName, u64)],
+    sphere: SphereLine,
+    report: &'static [u8],
+}
+
 #[test]
 fn reports_are_those_of_the_worked_runs(rt: HostRuntime) -> Result<(), Fail> {
-    let alloc = rt.alloc();
-    let points = [
-        commit(4, Actor::Thread(0), CommitKind::Chunk, 3),
-        commit(6, Actor::Thread(0), CommitKind::Serial, 0),
-        commit(7, Actor::Dma, CommitKind::Dma, 0),
-        commit(17, Actor::Thread(0), CommitKind::Chunk, 2),
-        commit(19, Actor::Thread(0), CommitKind::Serial, 0),
-    ];
-    let counts = counts_of(
-        20,
-        &[
-            (ReplyName::Ran, 6),
-            (ReplyName::Closed, 4),
-            (ReplyName::Granted, 4),
-            (ReplyName::Drained, 2),
-            (ReplyName::Clean, 1),
-            (ReplyName::Squashed, 1),
-            (ReplyName::Retired, 1),
-            (ReplyName::DmaDone, 1),
-        ],
-    );
-    let report = report_text(alloc, &points, &counts, &[SphereLine::Record(5)])?;
-    assert_eq!(rt; report.as_slice(), DMA);
-    let points = [
-        commit(3, Actor::Thread(0), CommitKind::Chunk, 2),
-        commit(5, Actor::Thread(0), CommitKind::Serial, 0),
-        Point::Raise {
-            moment: 6,
-            sphere: 0,
-            thread: 0,
-            value: 5,
-        },
-    ];
-    let counts = counts_of(
-        8,
-        &[
-            (ReplyName::Ran, 2),
-            (ReplyName::Closed, 2),
-            (ReplyName::Granted, 2),
-            (ReplyName::Raised, 1),
-            (ReplyName::Masked, 1),
-        ],
-    );
-    let report = report_text(alloc, &points, &counts, &[SphereLine::Record(2)])?;
-    assert_eq!(rt; report.as_slice(), INTERRUPT);
-    let points = [
-        commit(4, Actor::Thread(0), CommitKind::Piece, 3),
-        commit(10, Actor::Thread(0), CommitKind::Chunk, 2),
-        commit(14, Actor::Thread(0), CommitKind::Serial, 0),
-    ];
-    let counts = counts_of(
-        15,
-        &[
-            (ReplyName::Ran, 5),
-            (ReplyName::Closed, 3),
-            (ReplyName::Granted, 2),
-            (ReplyName::Piece, 1),
-            (ReplyName::Drained, 2),
-            (ReplyName::Retired, 2),
-        ],
-    );
-    let report = report_text(alloc, &points, &counts, &[SphereLine::Complete(2)])?;
-    assert_eq!(rt; report.as_slice(), PIECES);
-    let counts = counts_of(
-        4,
-        &[
-            (ReplyName::Ran, 2),
-            (ReplyName::Closed, 1),
-            (ReplyName::Diverged, 1),
-        ],
-    );
-    let sphere = SphereLine::Diverged(0, Why::Short(3, 2));
-    let report = report_text(alloc, &[], &counts, &[sphere])?;
-    assert_eq!(rt; report.as_slice(), TOO_SHORT);
+    for row in ROWS {
+        let counts = counts_of(row.events, row.replies);
+        let report = report_text(rt.alloc(), row.points, &counts, &[row.sphere])?;
+        assert_eq!(rt; report.as_slice(), row.report);
+    }
     Ok(())
+}
+
+fn counts_of(events: u64, given: &[(ReplyName, u64)]) -> Counts {
+    let mut counts = Counts::new();
+    counts.events = events;
+    for (name, count) in given {
+        counts.replies[name.place()] = *count;
+    }
+    counts
 }
 
 #[test]
@@ -97,26 +46,151 @@ fn every_reply_has_its_place(rt: HostRuntime) -> Result<(), Fail> {
     Ok(())
 }
 
-// A commit of sphere 0.
-fn commit(moment: u64, actor: Actor, kind: CommitKind, size: u32) -> Point {
-    Point::Commit {
-        moment,
-        sphere: 0,
-        actor,
-        kind,
-        size,
-        short: false,
-    }
-}
-
-fn counts_of(events: u64, given: &[(ReplyName, u64)]) -> Counts {
-    let mut counts = Counts::new();
-    counts.events = events;
-    for (name, count) in given {
-        counts.replies[name.place()] = *count;
-    }
-    counts
-}
+const ROWS: &[Row] = &[
+    Row {
+        points: &[
+            Point::Commit {
+                moment: 4,
+                sphere: 0,
+                actor: Actor::Thread(0),
+                kind: CommitKind::Chunk,
+                size: 3,
+                short: false,
+            },
+            Point::Commit {
+                moment: 6,
+                sphere: 0,
+                actor: Actor::Thread(0),
+                kind: CommitKind::Serial,
+                size: 0,
+                short: false,
+            },
+            Point::Commit {
+                moment: 7,
+                sphere: 0,
+                actor: Actor::Dma,
+                kind: CommitKind::Dma,
+                size: 0,
+                short: false,
+            },
+            Point::Commit {
+                moment: 17,
+                sphere: 0,
+                actor: Actor::Thread(0),
+                kind: CommitKind::Chunk,
+                size: 2,
+                short: false,
+            },
+            Point::Commit {
+                moment: 19,
+                sphere: 0,
+                actor: Actor::Thread(0),
+                kind: CommitKind::Serial,
+                size: 0,
+                short: false,
+            },
+        ],
+        events: 20,
+        replies: &[
+            (ReplyName::Ran, 6),
+            (ReplyName::Closed, 4),
+            (ReplyName::Granted, 4),
+            (ReplyName::Drained, 2),
+            (ReplyName::Clean, 1),
+            (ReplyName::Squashed, 1),
+            (ReplyName::Retired, 1),
+            (ReplyName::DmaDone, 1),
+        ],
+        sphere: SphereLine::Record(5),
+        report: DMA,
+    },
+    Row {
+        points: &[
+            Point::Commit {
+                moment: 3,
+                sphere: 0,
+                actor: Actor::Thread(0),
+                kind: CommitKind::Chunk,
+                size: 2,
+                short: false,
+            },
+            Point::Commit {
+                moment: 5,
+                sphere: 0,
+                actor: Actor::Thread(0),
+                kind: CommitKind::Serial,
+                size: 0,
+                short: false,
+            },
+            Point::Raise {
+                moment: 6,
+                sphere: 0,
+                thread: 0,
+                value: 5,
+            },
+        ],
+        events: 8,
+        replies: &[
+            (ReplyName::Ran, 2),
+            (ReplyName::Closed, 2),
+            (ReplyName::Granted, 2),
+            (ReplyName::Raised, 1),
+            (ReplyName::Masked, 1),
+        ],
+        sphere: SphereLine::Record(2),
+        report: INTERRUPT,
+    },
+    Row {
+        points: &[
+            Point::Commit {
+                moment: 4,
+                sphere: 0,
+                actor: Actor::Thread(0),
+                kind: CommitKind::Piece,
+                size: 3,
+                short: false,
+            },
+            Point::Commit {
+                moment: 10,
+                sphere: 0,
+                actor: Actor::Thread(0),
+                kind: CommitKind::Chunk,
+                size: 2,
+                short: false,
+            },
+            Point::Commit {
+                moment: 14,
+                sphere: 0,
+                actor: Actor::Thread(0),
+                kind: CommitKind::Serial,
+                size: 0,
+                short: false,
+            },
+        ],
+        events: 15,
+        replies: &[
+            (ReplyName::Ran, 5),
+            (ReplyName::Closed, 3),
+            (ReplyName::Granted, 2),
+            (ReplyName::Piece, 1),
+            (ReplyName::Drained, 2),
+            (ReplyName::Retired, 2),
+        ],
+        sphere: SphereLine::Complete(2),
+        report: PIECES,
+    },
+    Row {
+        points: &[],
+        events: 4,
+        replies: &[
+            (ReplyName::Ran, 2),
+            (ReplyName::Closed, 1),
+            (ReplyName::Diverged, 1),
+        ],
+        sphere: SphereLine::Diverged(0, Why::Short(3, 2)),
+        report: TOO_SHORT,
+    },
+];
 
 const DMA: &[u8] = b"\
     g 4 0 0 chunk 3\n\

@@ -3,40 +3,54 @@ use dl_account::{Counts, SphereLine, summary_text};
 use dl_entry::Why;
 use std::test::Fail;
 
+/// The events and the spheres of a run, and its summary.
+struct Row {
+    events: u64,
+    spheres: &'static [SphereLine],
+    summary: &'static [u8],
+}
+
 #[test]
 fn summaries_name_each_sphere(rt: HostRuntime) -> Result<(), Fail> {
-    let alloc = rt.alloc();
-    let mut counts = Counts::new();
-    counts.events = 22;
-    let summary = summary_text(
-        alloc,
-        &counts,
-        &[SphereLine::Plain(2), SphereLine::Record(4)],
-    )?;
-    assert_eq!(rt; summary.as_slice(), PIPE_BETWEEN_SPHERES);
-    counts.events = 10;
-    let spheres = [
-        SphereLine::Plain(3),
-        SphereLine::Record(10),
-        SphereLine::Complete(5),
-    ];
-    let summary = summary_text(alloc, &counts, &spheres)?;
-    assert_eq!(rt; summary.as_slice(), EVERY_ROLE);
-    counts.events = u64::MAX;
-    let spheres = [
-        SphereLine::Diverged(1, Why::NoThread),
-        SphereLine::Diverged(2, Why::Short(4096, 4095)),
-        SphereLine::Diverged(3, Why::NotSerial),
-        SphereLine::Diverged(4, Why::Input),
-        SphereLine::Diverged(5, Why::Interrupt),
-        SphereLine::Diverged(6, Why::Dma),
-        SphereLine::Diverged(7, Why::SizeOfSerial(7)),
-        SphereLine::Diverged(8, Why::LeftOver),
-    ];
-    let summary = summary_text(alloc, &counts, &spheres)?;
-    assert_eq!(rt; summary.as_slice(), EVERY_REASON);
+    for row in ROWS {
+        let mut counts = Counts::new();
+        counts.events = row.events;
+        let summary = summary_text(rt.alloc(), &counts, row.spheres)?;
+        assert_eq!(rt; summary.as_slice(), row.summary);
+    }
     Ok(())
 }
+
+const ROWS: &[Row] = &[
+    Row {
+        events: 22,
+        spheres: &[SphereLine::Plain(2), SphereLine::Record(4)],
+        summary: PIPE_BETWEEN_SPHERES,
+    },
+    Row {
+        events: 10,
+        spheres: &[
+            SphereLine::Plain(3),
+            SphereLine::Record(10),
+            SphereLine::Complete(5),
+        ],
+        summary: EVERY_ROLE,
+    },
+    Row {
+        events: u64::MAX,
+        spheres: &[
+            SphereLine::Diverged(1, Why::NoThread),
+            SphereLine::Diverged(2, Why::Short(4096, 4095)),
+            SphereLine::Diverged(3, Why::NotSerial),
+            SphereLine::Diverged(4, Why::Input),
+            SphereLine::Diverged(5, Why::Interrupt),
+            SphereLine::Diverged(6, Why::Dma),
+            SphereLine::Diverged(7, Why::SizeOfSerial(7)),
+            SphereLine::Diverged(8, Why::LeftOver),
+        ],
+        summary: EVERY_REASON,
+    },
+];
 
 const PIPE_BETWEEN_SPHERES: &[u8] = b"\
     events 22\n\
