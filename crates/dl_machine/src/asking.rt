@@ -5,7 +5,7 @@ ghost use Rattle.spec_engine.specs.Signatures.{line, signed};
 ghost use Rattle.spec_protocol.specs.Asking.{ask_arbiter, asking, asks_serial, grant_chunk, grant_serial, is_short as short_of, other_turn as turn_of_other};
 ghost use Rattle.spec_protocol.specs.Spheres.{head_of, is_stopped};
 ghost use Rattle.spec_protocol.specs.World.{flown, held_afresh, sphere_at};
-ghost use Rattle.dl_machine.specs.Events.{passes};
+ghost use Rattle.dl_machine.specs.Events.{passes_checks};
 ghost use Rattle.dl_machine.specs.Held.{IsOf};
 ghost use Rattle.dl_machine.specs.Ready.{HasRoom, IsReady};
 ghost use Rattle.dl_machine.specs.Requests.{Holds, IsClosedBy};
@@ -32,7 +32,7 @@ impl<G: Sig> State<G> {
         ensures reply { IfOk result (λ r. r ≡ (asking self.old core).reply) }
         ensures world { OnOk result (self.new ≡ left (asking self.old core)) }
         ensures err { OnErr result (self.new ≡ self.old) }
-        ensures wanted { OnErr result (passes (asking self.old core).reply ≡ true) }
+        ensures wanted { OnErr result (passes_checks (asking self.old core).reply ≡ true) }
     {
         let Some(held) = self.held(core) else {
             return Ok(Reply::Idle);
@@ -71,7 +71,7 @@ impl<G: Sig> State<G> {
             OnOk result (Some self.new ≡ option_map (λ h. left (ask_arbiter self.old core h how (asks_serial h.chunk role))) (at self.old.cores core)) }
         ensures err { OnErr result (self.new ≡ self.old) }
         ensures wanted { let role = (sphere_at self.old held.sphere).role in
-            OnErr result (Some true ≡ option_map (λ h. passes (ask_arbiter self.old core h how (asks_serial h.chunk role)).reply) (at self.old.cores core)) }
+            OnErr result (Some true ≡ option_map (λ h. passes_checks (ask_arbiter self.old core h how (asks_serial h.chunk role)).reply) (at self.old.cores core)) }
     {
         if self.asks_serial(core, held, how) {
             if let AskedSerial::SphereBusy(k) = ask_serial(held.sphere, &self.flights) {

@@ -5,7 +5,7 @@ ghost use Rattle.spec_kernel.specs.Interrupts.{takes_interrupt};
 ghost use Rattle.spec_protocol.specs.declared.reply.Reply.{Reply};
 ghost use Rattle.spec_protocol.specs.Placing.{placing, raise_in, raising, replays, with_renewed};
 ghost use Rattle.spec_protocol.specs.World.{core_of, held_afresh, sphere_at, with_core};
-ghost use Rattle.dl_machine.specs.Events.{passes};
+ghost use Rattle.dl_machine.specs.Events.{passes_checks};
 ghost use Rattle.dl_machine.specs.Ready.{IsReady};
 ghost use Rattle.dl_machine.specs.States.{left};
 
@@ -46,7 +46,7 @@ impl<G: Sig> State<G> {
         ensures reply { IfOk result (λ r. r ≡ (raising self.old sphere thread value).reply) }
         ensures world { OnOk result (self.new ≡ left (raising self.old sphere thread value)) }
         ensures err { OnErr result (self.new ≡ self.old) }
-        ensures wanted { OnErr result (passes (raising self.old sphere thread value).reply ≡ true) }
+        ensures wanted { OnErr result (passes_checks (raising self.old sphere thread value).reply ≡ true) }
     {
         let of = self.spheres.get(sphere);
         if of.replays() {

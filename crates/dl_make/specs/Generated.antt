@@ -8,6 +8,7 @@ use Rattle.spec_isa.specs.declared.instr.LoadOp.{LoadOp}
 use Rattle.spec_isa.specs.declared.instr.StoreOp.{StoreOp}
 use Rattle.spec_isa.specs.declared.instr.BranchOp.{BranchOp}
 use Rattle.spec_isa.specs.declared.instr.AmoOp.{AmoOp}
+use Rattle.spec_isa.specs.Numbers.{register_a0, register_a1, register_a2, register_a7}
 use Rattle.spec_isa.specs.Encoding.{spelling}
 use Rattle.dl_asm.specs.File.{file_of}
 
@@ -53,41 +54,77 @@ bne_back rs1 rs2 n = Instr.Branch BranchOp.Bne rs1 rs2 (below 13 n / 2)
 abbrev pub amoadd : (rd rs2 rs1 : ℕ) → Instr
 amoadd rd rs2 rs1 = Instr.Amo AmoOp.Amoadd rd rs1 rs2 false false
 
+-- ---- what the program's numbers stand for
+
+-- its calls
+abbrev pub exit : ℕ
+exit = 0
+
+abbrev pub spawn : ℕ
+spawn = 1
+
+-- the register that stays 0, and that of the threads that are still to be spawned
+abbrev pub zero : ℕ
+zero = 0
+
+abbrev pub left : ℕ
+left = 8
+
+-- registers of each thread: the address of its own word, and how often it still adds
+abbrev pub own : ℕ
+own = 5
+
+abbrev pub again : ℕ
+again = 6
+
+-- the number that it adds, the address of the shared word, what stood there, and what its own word takes
+abbrev pub added : ℕ
+added = 7
+
+abbrev pub shared : ℕ
+shared = 28
+
+abbrev pub found : ℕ
+found = 29
+
+abbrev pub sum : ℕ
+sum = 30
+
 -- ---- the program
 
 -- the first thread, from address 0 on: it spawns the others, each with its number, and goes on as they do
 abbrev pub spawning : (spawned : ℕ) → List Instr
 spawning p =
-    addi 8 0 p
-    ∷ addi 17 0 1
-    ∷ addi 10 0 36
-    ∷ addi 11 0 0
-    ∷ addi 12 8 0
+    addi left zero p
+    ∷ addi register_a7 zero spawn
+    ∷ addi register_a0 zero 36
+    ∷ addi register_a1 zero 0
+    ∷ addi register_a2 left 0
     ∷ Instr.Ecall
-    ∷ addi 8 8 (below 12 1)
-    ∷ bne_back 8 0 24
-    ∷ addi 10 0 0
+    ∷ addi left left (below 12 1)
+    ∷ bne_back left zero 24
+    ∷ addi register_a0 zero 0
     ∷ []
 
 -- each thread, from address 36 on: it adds 1 to the word at 992, and what stood there to its own word, behind 1,024
 abbrev pub adding : (power rounds : ℕ) → List Instr
 adding h n =
-    slli 5 10 h
-    ∷ addi 5 5 1024
-    ∷ addi 6 0 n
-    ∷ addi 7 0 1
-    ∷ addi 28 0 992
-    ∷ amoadd 29 7 28
-    ∷ lw 30 0 5
-    ∷ add 30 30 29
-    ∷ sw 30 0 5
-    ∷ addi 6 6 (below 12 1)
-    ∷ bne_back 6 0 28
+    slli own register_a0 h
+    ∷ addi own own 1024
+    ∷ addi again zero n
+    ∷ addi added zero 1
+    ∷ addi shared zero 992
+    ∷ amoadd found added shared
+    ∷ lw sum 0 own
+    ∷ add sum sum found
+    ∷ sw sum 0 own
+    ∷ addi again again (below 12 1)
+    ∷ bne_back again zero 28
     ∷ []
 
 -- and ends with 0
 abbrev pub leaving : List Instr
-leaving = addi 17 0 0 ∷ addi 10 0 0 ∷ Instr.Ecall ∷ []
+leaving = addi register_a7 zero exit ∷ addi register_a0 zero 0 ∷ Instr.Ecall ∷ []
 
 abbrev pub program_of : (number : ℕ) → List Instr
 program_of v = spawning (spawned_of v) ++ adding (power_of v) (rounds_of v) ++ leaving

@@ -8,6 +8,39 @@ use dl_isa::Instr;
 // -1 in twelve bits.
 const MINUS_ONE: u32 = (1 << 12) - 1;
 
+// The program's calls.
+const EXIT: u32 = 0;
+
+const SPAWN: u32 = 1;
+
+// The registers of a call's number and of its arguments.
+const A7: u32 = 17;
+
+const A0: u32 = 10;
+
+const A1: u32 = 11;
+
+const A2: u32 = 12;
+
+// The register that stays 0, and that of the threads that are still to be spawned.
+const ZERO: u32 = 0;
+
+const LEFT: u32 = 8;
+
+// The registers of each thread: the address of its own word, and how often it still adds.
+const OWN: u32 = 5;
+
+const AGAIN: u32 = 6;
+
+// The number that it adds, the address of the shared word, what stood there, and what its own word takes.
+const ADDED: u32 = 7;
+
+const SHARED: u32 = 28;
+
+const FOUND: u32 = 29;
+
+const SUM: u32 = 30;
+
 /// How many threads are spawned.
 pub fn spawned(number: u32) -> u32
     ensures value { result ≡ generated.spawned_of number }
@@ -38,15 +71,15 @@ pub fn spawning(spawned: u32) -> [Instr; 9]
     ensures { result ≡ generated.spawning spawned }
 {
     [
-        addi(8, 0, spawned),
-        addi(17, 0, 1),
-        addi(10, 0, 36),
-        addi(11, 0, 0),
-        addi(12, 8, 0),
+        addi(LEFT, ZERO, spawned),
+        addi(A7, ZERO, SPAWN),
+        addi(A0, ZERO, 36),
+        addi(A1, ZERO, 0),
+        addi(A2, LEFT, 0),
         Instr::Ecall,
-        addi(8, 8, MINUS_ONE),
-        bne_back(8, 24),
-        addi(10, 0, 0),
+        addi(LEFT, LEFT, MINUS_ONE),
+        bne_back(LEFT, 24),
+        addi(A0, ZERO, 0),
     ]
 }
 
@@ -57,17 +90,17 @@ pub fn adding(power: u32, rounds: u32) -> [Instr; 11]
     ensures { result ≡ generated.adding power rounds }
 {
     [
-        slli(5, 10, power),
-        addi(5, 5, 1024),
-        addi(6, 0, rounds),
-        addi(7, 0, 1),
-        addi(28, 0, 992),
-        amoadd(29, 7, 28),
-        lw(30, 5),
-        add(30, 30, 29),
-        sw(30, 5),
-        addi(6, 6, MINUS_ONE),
-        bne_back(6, 28),
+        slli(OWN, A0, power),
+        addi(OWN, OWN, 1024),
+        addi(AGAIN, ZERO, rounds),
+        addi(ADDED, ZERO, 1),
+        addi(SHARED, ZERO, 992),
+        amoadd(FOUND, ADDED, SHARED),
+        lw(SUM, OWN),
+        add(SUM, SUM, FOUND),
+        sw(SUM, OWN),
+        addi(AGAIN, AGAIN, MINUS_ONE),
+        bne_back(AGAIN, 28),
     ]
 }
 
@@ -75,5 +108,5 @@ pub fn adding(power: u32, rounds: u32) -> [Instr; 11]
 pub fn leaving() -> [Instr; 3]
     ensures { result ≡ generated.leaving }
 {
-    [addi(17, 0, 0), addi(10, 0, 0), Instr::Ecall]
+    [addi(A7, ZERO, EXIT), addi(A0, ZERO, 0), Instr::Ecall]
 }

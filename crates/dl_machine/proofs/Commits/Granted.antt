@@ -20,7 +20,7 @@ use Rattle.spec_protocol.specs.Asking.{CommitRequest, is_short, granted, grant_c
 use Rattle.dl_machine.specs.declared.one_core.Held.{Held as Seen}
 use Rattle.dl_machine.specs.Cores.{seen, writes_in}
 use Rattle.dl_machine.specs.Rows.{Cores, Spheres, nth_sphere, with_held, with_nth}
-use Rattle.dl_machine.specs.Events.{passes}
+use Rattle.dl_machine.specs.Events.{passes_checks}
 use Rattle.dl_machine.specs.Ready.{IsReady}
 use Rattle.dl_machine.specs.Requests.{closed_by}
 use Rattle.dl_machine.specs.States.{world_in}
@@ -177,19 +177,19 @@ serial_still w c (Some h) held v ready eo eh ev =
 
 -- ---- what passes every check
 
-granted_passes : (w : World) (c : ℕ) (q : CommitRequest) (marks : Marks) (v : MovedSphere) (o : CommitOutcome) → passes (granted w c q marks v o).reply ≡ true
+granted_passes : (w : World) (c : ℕ) (q : CommitRequest) (marks : Marks) (v : MovedSphere) (o : CommitOutcome) → passes_checks (granted w c q marks v o).reply ≡ true
 granted_passes w c q marks v Granted = refl
 granted_passes w c q marks v Piece = refl
 granted_passes w c q marks v (Diverged i why) = refl
 
 -- a granted chunk answers as what passed every check
-pub chunk_passes : (w : World) (c : ℕ) (h : Held) (how : How) → passes (grant_chunk w c h how).reply ≡ true
+pub chunk_passes : (w : World) (c : ℕ) (h : Held) (how : How) → passes_checks (grant_chunk w c h how).reply ≡ true
 chunk_passes w c h how =
     let v = moved_by w (seen h) how h.chunk in
-    ap (λ (a : After). passes a.reply) (chunk_is w c h how) ∙ granted_passes w c (chunk_asked w (seen h) how h.chunk) h.chunk.writes v v.outcome
+    ap (λ (a : After). passes_checks a.reply) (chunk_is w c h how) ∙ granted_passes w c (chunk_asked w (seen h) how h.chunk) h.chunk.writes v v.outcome
 
 -- a granted serial step answers as what passed every check
-pub serial_passes : (w : World) (c : ℕ) (h : Held) → passes (grant_serial w c h).reply ≡ true
+pub serial_passes : (w : World) (c : ℕ) (h : Held) → passes_checks (grant_serial w c h).reply ≡ true
 serial_passes w c h =
     let v = serial_moved h.thread (moment w) h.chunk.start w.devices (sphere_at w h.chunk.sphere) in
-    ap (λ (a : After). passes a.reply) (serial_is w c h) ∙ granted_passes w c (serial_asked (seen h)) (signed h.chunk.sphere v.words (nothing w.numbers.signature)) v v.outcome
+    ap (λ (a : After). passes_checks a.reply) (serial_is w c h) ∙ granted_passes w c (serial_asked (seen h)) (signed h.chunk.sphere v.words (nothing w.numbers.signature)) v v.outcome

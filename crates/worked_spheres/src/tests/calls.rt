@@ -80,7 +80,7 @@ fn after(threads: &Threads) -> Parts {
 #[test]
 fn calls_give_their_results(rt: HostRuntime) {
     let table = [
-        ([12, 7, 0, 0], 2, None, UNKNOWN_CALL),
+        ([256, 7, 0, 0], 2, None, UNKNOWN_CALL),
         ([u32::MAX, 7, 0, 0], 2, None, UNKNOWN_CALL),
         ([1, 0x20, 0, 0], 2, None, 2),
         ([1, 0x22, 0, 0], 2, None, REFUSED),
