@@ -1,5 +1,4 @@
-use Rattle.std.proofs.Common.{◌<◌, ◌+◌, ◌-◌, ◌++◌, ◌∷◌, List, length, drop, subst, arith}
-use Rattle.std.specs.Prelude.{replicate}
+use Rattle.std.proofs.Common.{◌+◌, List, drop, subst}
 use Rattle.spec_protocol.specs.declared.event.Event.{Event}
 use Rattle.dl_event.specs.Repeated.{expanded}
 use Rattle.dl_run.proofs.Taking.{Driving, driving_next, driving_room, driving_events, repeated_here, one_of, none_of}
