@@ -27,7 +27,7 @@ with_read (Some a) n = record n { reads = insert (line n.sphere a) n.reads }
 abbrev pub with_written : Option Stored → Notes → Notes
 with_written None n = n
 with_written (Some s) n =
-    record n { words = record n.words { words = put n.words.words s }; writes = insert (line n.sphere s.word) n.writes }
+    record n { words = record n.words { words = put n.words.words s }; writes = insert (line n.sphere s.number) n.writes }
 
 -- both signatures have one size
 pub record AreNotes (sphere : ℕ) (reads writes : Marks) : Type 0 where

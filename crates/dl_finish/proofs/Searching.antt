@@ -6,7 +6,7 @@ use Rattle.spec_engine.specs.Flights.{at, passes, told_at}
 use Rattle.spec_engine.proofs.Searches.{first_is, first_is_none}
 use Rattle.spec_protocol.specs.declared.event.Event.{Event}
 use Rattle.spec_protocol.specs.Spheres.{Role, Plain, Record, Replay, Sphere, no_sphere}
-use Rattle.spec_protocol.specs.World.{World, Held, runs, core_of}
+use Rattle.spec_protocol.specs.World.{World, Occupant, runs, core_of}
 use Rattle.spec_protocol.specs.Finishing.{Who, untold, who_in, who_of, least, for_held, for_core}
 use Rattle.dl_finish.specs.Turns.{turn_in, if_runs, on_core}
 
@@ -56,19 +56,19 @@ least_is_none n (p ∷ ps) each =
 
 -- ---- cores that run a thread
 
-if_runs_by : (c : ℕ) (h : Held) (b : Bool) → cond b (for_held c (Some h)) None ≡ None → b ≡ false
+if_runs_by : (c : ℕ) (h : Occupant) (b : Bool) → cond b (for_held c (Some h)) None ≡ None → b ≡ false
 if_runs_by c h true e = absurd (none-some _ (sym e))
 if_runs_by c h false e = refl
 
-none_passes : (c i k : ℕ) (o : Option Held) → if_runs c i k o ≡ None → passes (runs i k) o ≡ false
+none_passes : (c i k : ℕ) (o : Option Occupant) → if_runs c i k o ≡ None → passes (runs i k) o ≡ false
 none_passes c i k None e = refl
 none_passes c i k (Some h) e = if_runs_by c h (runs i k h) e
 
-some_by : (c : ℕ) (h : Held) (b : Bool) (e : Event) → Some e ≡ cond b (for_held c (Some h)) None → (b ≡ true) × (Some e ≡ for_held c (Some h))
+some_by : (c : ℕ) (h : Occupant) (b : Bool) (e : Event) → Some e ≡ cond b (for_held c (Some h)) None → (b ≡ true) × (Some e ≡ for_held c (Some h))
 some_by c h true e is = (refl, is)
 some_by c h false e is = absurd (none-some e (sym is))
 
-some_passes : (c i k : ℕ) (o : Option Held) (e : Event) → Some e ≡ if_runs c i k o → (passes (runs i k) o ≡ true) × (Some e ≡ for_held c o)
+some_passes : (c i k : ℕ) (o : Option Occupant) (e : Event) → Some e ≡ if_runs c i k o → (passes (runs i k) o ≡ true) × (Some e ≡ for_held c o)
 some_passes c i k None e is = absurd (none-some e (sym is))
 some_passes c i k (Some h) e is = some_by c h (runs i k h) e is
 

@@ -4,7 +4,7 @@ use Rattle.dl_entry.specs.declared.Actor.{Actor}
 use Rattle.spec_engine.specs.Flights.{at}
 use Rattle.spec_protocol.specs.declared.event.Event.{Event}
 use Rattle.spec_protocol.specs.Spheres.{Role, Plain, Record, Replay, actor_of}
-use Rattle.spec_protocol.specs.World.{World, Held, runs}
+use Rattle.spec_protocol.specs.World.{World, Occupant, runs}
 use Rattle.spec_protocol.specs.Finishing.{for_held}
 
 -- the actor whose turn it is in a replay that goes on
@@ -13,7 +13,7 @@ turn_in Plain = None
 turn_in (Record log) = None
 turn_in (Replay b) = actor_of b.now
 
-abbrev pub if_runs : (core i thread : ℕ) → Option Held → Option Event
+abbrev pub if_runs : (core i thread : ℕ) → Option Occupant → Option Event
 if_runs c i k None = None
 if_runs c i k (Some h) = if runs i k h then for_held c (Some h) else None
 

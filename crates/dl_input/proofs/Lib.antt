@@ -1,2 +1,2 @@
 pub mod TrackedLists
-mod Slots
+mod Positions

@@ -1,4 +1,4 @@
-//! The data of DMAs by their slots.
+//! The data of DMAs by their positions.
 ghost use Rattle.std.specs.Prelude.{◌≡◌, ℕ, ◌-◌, ◌<◌, ◌≤◌, false, [], ◌∷◌, ◌++◌, None, Some, length, slice_index_or, IfOk, IsOk, IsTrue, MatchOption, OnOk, OnErr};
 ghost use Rattle.std.specs.List.{list_all};
 ghost use Rattle.std.specs.Slice.{IsItemAt};
@@ -11,7 +11,7 @@ use spec_log::DmaRecord;
 use std::alloc::Global;
 use std::marker::Model;
 
-/// The data of DMAs by their slots, which are the indices of their commits.
+/// The data of DMAs by their positions, which are the indices of their commits.
 #[derive(Debug, Drop)]
 pub struct Dmas {
     alloc: Global,
@@ -63,11 +63,11 @@ impl Dmas {
         Ok(())
     }
 
-    /// Adds the data of a DMA with a greater slot at the end. With room it isn't refused.
-    pub fn note(&mut self, slot: u32, bytes: &[u8]) -> Result<(), OutOfMemory>
+    /// Adds the data of a DMA with a greater position at the end. With room it isn't refused.
+    pub fn note(&mut self, position: u32, bytes: &[u8]) -> Result<(), OutOfMemory>
         requires few { length bytes.now ≤ 4096 }
-        requires greater { (d : Record) → 0 < length self.old.dmas → (slice_index_or self.old.dmas (length self.old.dmas - 1) d).slot < slot }
-        ensures ok { OnOk result (self.new.dmas ≡ self.old.dmas ++ record { slot = slot; bytes = bytes.now } ∷ []) }
+        requires greater { (d : Record) → 0 < length self.old.dmas → (slice_index_or self.old.dmas (length self.old.dmas - 1) d).position < position }
+        ensures ok { OnOk result (self.new.dmas ≡ self.old.dmas ++ record { position = position; bytes = bytes.now } ∷ []) }
         ensures taken { OnOk result (self.new.taken ≡ self.old.taken ++ false ∷ []) }
         ensures err { OnErr result (self.new.dmas ≡ self.old.dmas) }
         ensures taken_kept { OnErr result (self.new.taken ≡ self.old.taken) }
@@ -76,33 +76,33 @@ impl Dmas {
         self.entries.reserve(1)?;
         self.taken.reserve(1)?;
         let bytes = copied(self.alloc, bytes, &mut self.spare)?;
-        self.entries.push_reserved(DmaRecord { slot, bytes });
+        self.entries.push_reserved(DmaRecord { position, bytes });
         self.taken.push_reserved(false);
         Ok(())
     }
 
-    /// The bytes of the DMA at a slot, taken or not.
-    pub fn at(&self, slot: u32) -> Option<&[u8]>
-        ensures { MatchOption result (bytes_at slot self.now.dmas ≡ None) (λ bytes. bytes_at slot self.now.dmas ≡ Some bytes.now) }
+    /// The bytes of the DMA at a position, taken or not.
+    pub fn at(&self, position: u32) -> Option<&[u8]>
+        ensures { MatchOption result (bytes_at position self.now.dmas ≡ None) (λ bytes. bytes_at position self.now.dmas ≡ Some bytes.now) }
     {
-        let place = place_of(&self.entries, slot)?;
+        let place = place_of(&self.entries, position)?;
         Some(self.entries[place].bytes.as_slice())
     }
 
-    /// The i-th DMA by slot, from 0, taken or not.
+    /// The i-th DMA by position, from 0, taken or not.
     pub fn nth(&self, i: u32) -> Option<&DmaRecord>
         ensures { IsItemAt self.now.dmas i result }
     {
         self.entries.get(i as usize)
     }
 
-    /// Takes the DMA at a slot, if there is one.
-    pub fn take(&mut self, slot: u32)
+    /// Takes the DMA at a position, if there is one.
+    pub fn take(&mut self, position: u32)
         ensures dmas { self.new.dmas ≡ self.old.dmas }
-        ensures taken { self.new.taken ≡ taken_at slot self.old.dmas self.old.taken }
+        ensures taken { self.new.taken ≡ taken_at position self.old.dmas self.old.taken }
         ensures room { self.new.room ≡ self.old.room }
     {
-        if let Some(place) = place_of(&self.entries, slot) {
+        if let Some(place) = place_of(&self.entries, position) {
             self.taken[place] = true;
         }
     }
@@ -114,7 +114,7 @@ impl Dmas {
         let mut list = Sequence::new(alloc);
         for dma in &self.entries {
             list.push(DmaRecord {
-                slot: dma.slot,
+                position: dma.position,
                 bytes: Bytes::from_slice(alloc, dma.bytes.as_slice())?,
             })?;
         }
@@ -134,25 +134,25 @@ impl Dmas {
     }
 }
 
-/// The place at which a slot stands.
-fn place_of(dmas: &[DmaRecord], slot: u32) -> Option<usize>
+/// The place at which a position stands.
+fn place_of(dmas: &[DmaRecord], position: u32) -> Option<usize>
     requires { Rises dmas.now }
-    ensures { MatchOption result (Misses slot dmas.now) (Stands slot dmas.now) }
+    ensures { MatchOption result (Misses position dmas.now) (Stands position dmas.now) }
 {
-    let place = lowest(dmas, slot);
-    if place < dmas.len() && dmas[place].slot == slot {
+    let place = lowest(dmas, position);
+    if place < dmas.len() && dmas[place].position == position {
         Some(place)
     } else {
         None
     }
 }
 
-/// The place of the first slot that isn't lower.
-fn lowest(dmas: &[DmaRecord], slot: u32) -> usize
+/// The place of the first position that isn't lower.
+fn lowest(dmas: &[DmaRecord], position: u32) -> usize
     requires { Rises dmas.now }
     ensures within { result ≤ length dmas.now }
-    ensures below { (k : ℕ) (d : Record) → k < result → (slice_index_or dmas.now k d).slot < slot }
-    ensures above { (k : ℕ) (d : Record) → result ≤ k → k < length dmas.now → slot ≤ (slice_index_or dmas.now k d).slot }
+    ensures below { (k : ℕ) (d : Record) → k < result → (slice_index_or dmas.now k d).position < position }
+    ensures above { (k : ℕ) (d : Record) → result ≤ k → k < length dmas.now → position ≤ (slice_index_or dmas.now k d).position }
 {
-    dmas.partition_point(|dma| dma.slot < slot)
+    dmas.partition_point(|dma| dma.position < position)
 }

@@ -71,9 +71,9 @@ bytes_word bytes = if nat_eq (length bytes) 0 then codes "-" else hex_bytes byte
 abbrev pub input_line : Input → List ℕ
 input_line input = line (codes "n") (decimal input.kind ∷ hex_word input.result ∷ bytes_word input.bytes ∷ [])
 
--- `d SLOT HEX`
+-- `d POSITION HEX`
 abbrev pub dma_line : DmaRecord → List ℕ
-dma_line dma = line (codes "d") (decimal dma.slot ∷ bytes_word dma.bytes ∷ [])
+dma_line dma = line (codes "d") (decimal dma.position ∷ bytes_word dma.bytes ∷ [])
 
 -- the head, the order, the sizes, the interrupts, the inputs and the DMAs
 abbrev pub inspection_of : LogParts → List ℕ

@@ -54,7 +54,7 @@ impl Entry for DmaRecord {
 
     fn put(&self, text: &mut Text) -> Result<(), OutOfMemory> {
         text.put(b"d")?;
-        text.put_number(u64::from(self.slot))?;
+        text.put_number(u64::from(self.position))?;
         put_bytes(text, self.bytes.as_slice())?;
         text.put(b"\n")
     }

@@ -16,11 +16,11 @@ pub record IsCopying (addr i : ℕ) (words : List Stored) : Type 0 where
   pub held : 0 < i → (addr + i) % 4 ≢ 0 → holds words ((addr + i) / 4) ≡ true
 
 -- a word that was put is held, and no other word comes with it
-holds-put : (ws : List Stored) (s : Stored) → holds (put ws s) s.word ≡ true
+holds-put : (ws : List Stored) (s : Stored) → holds (put ws s) s.number ≡ true
 unfolding merged
-holds-put [] s = elim (eqb_tells s.word s.word) [ inl h ↦ rw h.0 refl | inr h ↦ absurd (h.1 refl) ]
+holds-put [] s = elim (eqb_tells s.number s.number) [ inl h ↦ rw h.0 refl | inr h ↦ absurd (h.1 refl) ]
 holds-put (r ∷ rs) s =
-    elim (eqb_tells r.word s.word) [
+    elim (eqb_tells r.number s.number) [
       | inl h ↦ rw (h.0, h.0) refl
       | inr h ↦ rw (h.0, h.0) (holds-put rs s)
     ]
@@ -28,15 +28,15 @@ holds-put (r ∷ rs) s =
 length-put : (ws : List Stored) (s : Stored) → length (put ws s) ≤ length ws + 1
 length-put [] s = omega arith
 length-put (r ∷ rs) s =
-    elim (eqb_tells r.word s.word) [
+    elim (eqb_tells r.number s.number) [
       | inl h ↦ rw h.0 (omega arith)
       | inr h ↦ rw h.0 (let more = length-put rs s in omega arith)
     ]
 
-length-put-held : (ws : List Stored) (s : Stored) → holds ws s.word ≡ true → length (put ws s) ≡ length ws
+length-put-held : (ws : List Stored) (s : Stored) → holds ws s.number ≡ true → length (put ws s) ≡ length ws
 length-put-held [] s held = cc
 length-put-held (r ∷ rs) s held =
-    elim (eqb_tells r.word s.word) [
+    elim (eqb_tells r.number s.number) [
       | inl h ↦ rw h.0 refl
       | inr h ↦ let rest = rw h.0 at held in rw h.0 (ap suc (length-put-held rs s rest))
     ]

@@ -13,7 +13,7 @@ sight_of m = record { bytes = m; held = λ _. None; room = λ _. false }
 abbrev pub peek_sight : Peek → Sight
 peek_sight p = sight_of p.memory.now
 
-abbrev pub ReadBy : Peek → (word : ℕ) → Peek → Type 0
+abbrev pub ReadBy : Peek → (number : ℕ) → Peek → Type 0
 ReadBy p a after = after ≡ p
 
 -- nothing is stored

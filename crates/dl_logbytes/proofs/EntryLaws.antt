@@ -146,5 +146,5 @@ Codes-input =
 -- reading a DMA's record undoes writing it
 pub Codes-dma : Codes dma dma_bytes IsDmaRecord
 Codes-dma =
-    Codes-two (u32_part (λ x. x.slot)) (bytes_part (λ x. x.bytes)) (λ slot content. record { slot = slot; bytes = content })
-    (λ slot content. (refl, refl)) (λ x. refl)
+    Codes-two (u32_part (λ x. x.position)) (bytes_part (λ x. x.bytes)) (λ position content. record { position = position; bytes = content })
+    (λ position content. (refl, refl)) (λ x. refl)

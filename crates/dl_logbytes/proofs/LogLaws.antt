@@ -78,7 +78,7 @@ Codes-inputs =
 
 Codes-dmas : Codes dmas_of (section dma_bytes) AreDmas
 Codes-dmas =
-    Codes-section (λ x y. nat_lt x.slot y.slot) (λ x y. x.slot < y.slot) dma dma_bytes IsDmaRecord (λ x y. Decides-ltb x.slot y.slot) Codes-dma
+    Codes-section (λ x y. nat_lt x.position y.position) (λ x y. x.position < y.position) dma dma_bytes IsDmaRecord (λ x y. Decides-ltb x.position y.position) Codes-dma
 
 Codes-chunk_size : Codes (field 4 (from_to 16 4096)) u32 IsChunkSize
 Codes-chunk_size =

@@ -84,7 +84,7 @@ impl Entry for DmaRecord {
     ghost bytes = { dma_bytes };
 
     fn put(&self, out: &mut Vec<u8>) -> Result<(), OutOfMemory> {
-        put_u32(out, self.slot)?;
+        put_u32(out, self.position)?;
         put_bytes(out, self.bytes.as_slice())
     }
 }

@@ -99,16 +99,16 @@ impl ReadEntry for Input {
 impl ReadEntry for DmaRecord {
     ghost reader = { λ s. dma };
 
-    ghost earlier = { λ x y. nat_lt x.slot y.slot };
+    ghost earlier = { λ x y. nat_lt x.position y.position };
 
     fn read(source: &Source<'_>, at: &mut usize, _: u32) -> Result<DmaRecord, LogError> {
-        let slot = read_u32(source.bytes, at)?;
+        let position = read_u32(source.bytes, at)?;
         let bytes = read_counted(source, at)?;
-        Ok(DmaRecord { slot, bytes })
+        Ok(DmaRecord { position, bytes })
     }
 
     fn comes_before(&self, later: &DmaRecord) -> bool {
-        self.slot < later.slot
+        self.position < later.position
     }
 }
 

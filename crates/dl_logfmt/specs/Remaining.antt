@@ -75,7 +75,7 @@ log_of d =
 -- the rest of a log from each stage on, the last first
 abbrev pub from_dmas : ℕ → Draft → Reader LogParts
 from_dmas n d =
-    read (more (λ x y. nat_lt x.slot y.slot) dma n d.dmas) (λ dmas. gives (log_of (record d { dmas = dmas })))
+    read (more (λ x y. nat_lt x.position y.position) dma n d.dmas) (λ dmas. gives (log_of (record d { dmas = dmas })))
 
 abbrev pub from_dma_count : Draft → Reader LogParts
 from_dma_count d = read (any 4) (λ n. from_dmas n d)

@@ -82,7 +82,7 @@ impl Entry for DmaRecord {
 
     fn unit(&self) -> Unit<'_> {
         let mut fixed = Fixed::new();
-        fixed.put_u32(self.slot);
+        fixed.put_u32(self.position);
         fixed.put_u16(self.bytes.len() as u16);
         Unit::new(fixed, self.bytes.as_slice())
     }

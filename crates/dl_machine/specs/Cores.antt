@@ -2,7 +2,7 @@
 use Rattle.std.specs.Prelude.{◌≡◌, ℕ, Bool, true, false, not, Option, Some, None}
 use Rattle.spec_engine.specs.Signatures.{Marks, nothing}
 use Rattle.spec_engine.specs.Chunks.{Chunk, Engine, is_open}
-use Rattle.spec_protocol.specs.World.{Held, Numbers, held_afresh}
+use Rattle.spec_protocol.specs.World.{Occupant, Numbers, held_afresh}
 use Rattle.dl_sphere.specs.SizedSpheres.{SizedSphere}
 use Rattle.dl_machine.specs.declared.one_core.Held.{Held as Seen}
 
@@ -11,9 +11,9 @@ pub record Core : Type 0 where
   pub most : ℕ
   pub capacity : ℕ
   pub bits : ℕ
-  pub held : Option Held
+  pub held : Option Occupant
 
-abbrev pub held_if : (busy : Bool) → (thread : ℕ) → Chunk → Option Held
+abbrev pub held_if : (busy : Bool) → (thread : ℕ) → Chunk → Option Occupant
 held_if false k ch = None
 held_if true k ch = Some (record { thread = k; chunk = ch })
 
@@ -29,11 +29,11 @@ abbrev pub idle : (most capacity bits : ℕ) → Core
 idle most capacity bits = record { most = most; capacity = capacity; bits = bits; held = None }
 
 -- with this in its hold
-abbrev pub holding : Option Held → Core → Core
+abbrev pub holding : Option Occupant → Core → Core
 holding held c = record c { held = held }
 
 -- what is seen of what a core holds
-abbrev pub seen : Held → Seen
+abbrev pub seen : Occupant → Seen
 seen h = record { sphere = h.chunk.sphere; thread = h.thread; closed = not (is_open h.chunk) }
 
 -- the numbers of a core and a sphere
@@ -41,23 +41,23 @@ abbrev pub numbers_of : Core → SizedSphere → Numbers
 numbers_of c p = record { chunk = p.standard; buffer = c.capacity; signature = c.bits }
 
 -- thread k of sphere i, which is p, with a fresh chunk
-abbrev pub afresh : Core → SizedSphere → (i thread : ℕ) → Option Held
+abbrev pub afresh : Core → SizedSphere → (i thread : ℕ) → Option Occupant
 afresh c p i k = held_afresh (numbers_of c p) i k p.sphere
 
 -- the lines that are noted
-abbrev pub reads_in : (bits : ℕ) → Option Held → Marks
+abbrev pub reads_in : (bits : ℕ) → Option Occupant → Marks
 reads_in bits None = nothing bits
 reads_in bits (Some h) = h.chunk.reads
 
-abbrev pub writes_in : (bits : ℕ) → Option Held → Marks
+abbrev pub writes_in : (bits : ℕ) → Option Occupant → Marks
 writes_in bits None = nothing bits
 writes_in bits (Some h) = h.chunk.writes
 
 -- the chunk goes on
-abbrev pub IsOpen : Option Held → Type 0
+abbrev pub IsOpen : Option Occupant → Type 0
 IsOpen None = ⊥
 IsOpen (Some h) = h.chunk.closed ≡ None
 
 -- with this done to the chunk
-abbrev pub to_chunk : (Chunk → Chunk) → Held → Held
+abbrev pub to_chunk : (Chunk → Chunk) → Occupant → Occupant
 to_chunk f h = record h { chunk = f h.chunk }

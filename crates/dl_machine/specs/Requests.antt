@@ -2,7 +2,7 @@
 use Rattle.std.specs.Prelude.{◌≡◌, ℕ, Option, Some, option_map}
 use Rattle.spec_engine.specs.declared.answers.How.{How}
 use Rattle.spec_engine.specs.Flights.{at}
-use Rattle.spec_protocol.specs.World.{Held, World}
+use Rattle.spec_protocol.specs.World.{Occupant, World}
 use Rattle.dl_machine.specs.declared.one_core.Held.{Held as Seen}
 use Rattle.dl_machine.specs.Cores.{seen}
 
@@ -10,7 +10,7 @@ use Rattle.dl_machine.specs.Cores.{seen}
 abbrev pub Holds : World → (core : ℕ) → Seen → Type 0
 Holds w c h = option_map seen (at w.cores c) ≡ Some h
 
-abbrev pub closed_by : Held → Option How
+abbrev pub closed_by : Occupant → Option How
 closed_by h = h.chunk.closed
 
 -- its chunk was closed so

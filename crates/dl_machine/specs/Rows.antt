@@ -2,7 +2,7 @@
 use Rattle.std.specs.Prelude.{◌≡◌, ℕ, ◌≤◌, true, All, length, List, Option, slice_set, slice_index_or}
 use Rattle.spec_engine.specs.Signatures.{is_size}
 use Rattle.spec_protocol.specs.Spheres.{Sphere, no_sphere}
-use Rattle.spec_protocol.specs.World.{Held, Numbers}
+use Rattle.spec_protocol.specs.World.{Occupant, Numbers}
 use Rattle.dl_sphere.specs.SizedSpheres.{SizedSphere}
 use Rattle.dl_machine.specs.Cores.{Core}
 
@@ -10,7 +10,7 @@ use Rattle.dl_machine.specs.Cores.{Core}
 pub record Cores : Type 0 where
   pub capacity : ℕ
   pub bits : ℕ
-  pub held : List (Option Held)
+  pub held : List (Option Occupant)
 
 -- the cores are alike
 pub record IsAlike (words lines : ℕ) (c : Core) : Type 0 where
@@ -26,11 +26,11 @@ pub record AreCores (capacity bits : ℕ) (row : List Core) : Type 0 where
   pub size : is_size bits ≡ true
   pub each : All (IsAlike capacity bits) row
 
-abbrev pub held_by : Core → Option Held
+abbrev pub held_by : Core → Option Occupant
 held_by c = c.held
 
 -- with this held by core c
-abbrev pub with_held : (core : ℕ) → Option Held → Cores → Cores
+abbrev pub with_held : (core : ℕ) → Option Occupant → Cores → Cores
 with_held c held r = record r { held = slice_set r.held c held }
 
 -- the standard size of a chunk, and the spheres

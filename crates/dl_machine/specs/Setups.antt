@@ -3,7 +3,7 @@ use Rattle.std.specs.Prelude.{◌≡◌, ℕ, ◌≤◌, true, map, length, Opti
 use Rattle.spec_log.specs.Log.{IsChunkSize}
 use Rattle.spec_engine.specs.Signatures.{is_size}
 use Rattle.spec_protocol.specs.Spheres.{Sphere}
-use Rattle.spec_protocol.specs.World.{Held, Numbers, held_afresh}
+use Rattle.spec_protocol.specs.World.{Occupant, Numbers, held_afresh}
 use Rattle.spec_protocol.specs.Machine as protocol
 use Rattle.spec_protocol.specs.Sound.{AreFew}
 use Rattle.dl_sphere.specs.Setups.{setup_of}
@@ -37,6 +37,6 @@ abbrev pub numbers_with : Setup → Spheres → Numbers
 numbers_with s r = record { chunk = r.standard; buffer = s.buffer; signature = s.signature }
 
 -- what core i holds at first: thread 0 of its own sphere, if there is one
-abbrev pub first_held : Numbers → (i : ℕ) → Option Sphere → Option Held
+abbrev pub first_held : Numbers → (i : ℕ) → Option Sphere → Option Occupant
 first_held z i None = None
 first_held z i (Some p) = held_afresh z i 0 p

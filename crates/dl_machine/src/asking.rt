@@ -260,7 +260,7 @@ pub(crate) fn sign<G: Sig>(marks: &mut G, sphere: u8, words: &Buffer)
 // The line of a word of a sphere.
 #[tactic(auto, unfolding(spec_isa::specs::Masks::bytes_of))]
 fn line_of(sphere: u8, stored: Stored) -> u32
-    ensures { result ≡ line sphere stored.word }
+    ensures { result ≡ line sphere stored.number }
 {
     u32::from(sphere) * (1 << 19) + stored.word / 32
 }

@@ -55,16 +55,16 @@ pub trait Mode {
     fn used(log: &Self::Log, done: &[u32]) -> bool
         ensures { let kept = (logged log.now).kept in result ≡ sizes_used kept.order kept.sizes done.now };
 
-    /// Whose commit stands at a position, told whether a DMA's slot is there, which thread committed last, and which are live,
+    /// Whose commit stands at a position, told whether a DMA commits there, which thread committed last, and which are live,
     /// of which no more than 15 are looked at: a log names no other thread.
     fn head(
         log: &Self::Log,
         position: u32,
-        slot: bool,
+        dma: bool,
         last: Option<u8>,
         live: &[bool],
     ) -> Option<Actor>
-        ensures { result ≡ kept_head mode (logged log.now).kept.order position slot last (take 15 live.now) };
+        ensures { result ≡ kept_head mode (logged log.now).kept.order position dma last (take 15 live.now) };
 
     /// The lists of a log.
     fn lists(alloc: Global, log: &Self::Log) -> Result<Lists, OutOfMemory>

@@ -83,8 +83,8 @@ impl Mode for PicoLog {
         log.short.used(done)
     }
 
-    fn head(_: &TurnLog, _: u32, slot: bool, last: Option<u8>, live: &[bool]) -> Option<Actor> {
-        if slot {
+    fn head(_: &TurnLog, _: u32, dma: bool, last: Option<u8>, live: &[bool]) -> Option<Actor> {
+        if dma {
             return Some(Actor::Dma);
         }
         Some(Actor::Thread(turn(last, named(live))?))

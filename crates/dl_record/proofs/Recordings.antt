@@ -84,17 +84,17 @@ inputs-with inputs (Some input) n few h good are =
     (IsSection-push IsInput (λ x y. Unit {0}) inputs input are (omega arith) good (λ d l. tt), omega (arith, length_push inputs input))
 
 dmas-with : (dmas : List DmaRecord) (n : ℕ) (bytes : Option (List ℕ)) → n < 2 ^ 24 → length dmas ≤ n → IfThere AreFewBytes bytes
-    → All (λ dma. dma.slot < n) dmas → AreDmas dmas
-    → AreDmas (with_dma dmas n bytes) × (length (with_dma dmas n bytes) ≤ n + 1) × All (λ dma. dma.slot < n + 1) (with_dma dmas n bytes)
-dmas-with dmas n None few h good slots are =
-    (are, omega arith, All-weaker (λ dma. dma.slot < n) (λ dma. dma.slot < n + 1) (λ dma l. omega arith) dmas slots)
-dmas-with dmas n (Some bytes) few h good slots are =
-    let dma : DmaRecord = record { slot = n; bytes = bytes } in (
-      IsSection-push IsDmaRecord (λ x y. x.slot < y.slot) dmas dma are (omega arith) (omega arith, good)
-          (λ d l. All-get_or (λ dma. dma.slot < n) dmas (length dmas - 1) d (omega arith) slots),
+    → All (λ dma. dma.position < n) dmas → AreDmas dmas
+    → AreDmas (with_dma dmas n bytes) × (length (with_dma dmas n bytes) ≤ n + 1) × All (λ dma. dma.position < n + 1) (with_dma dmas n bytes)
+dmas-with dmas n None few h good positions are =
+    (are, omega arith, All-weaker (λ dma. dma.position < n) (λ dma. dma.position < n + 1) (λ dma l. omega arith) dmas positions)
+dmas-with dmas n (Some bytes) few h good positions are =
+    let dma : DmaRecord = record { position = n; bytes = bytes } in (
+      IsSection-push IsDmaRecord (λ x y. x.position < y.position) dmas dma are (omega arith) (omega arith, good)
+          (λ d l. All-get_or (λ dma. dma.position < n) dmas (length dmas - 1) d (omega arith) positions),
       omega (arith, length_push dmas dma),
-      All-push (λ dma. dma.slot < n + 1) dmas dma
-          (All-weaker (λ dma. dma.slot < n) (λ dma. dma.slot < n + 1) (λ dma l. omega arith) dmas slots) (omega arith),
+      All-push (λ dma. dma.position < n + 1) dmas dma
+          (All-weaker (λ dma. dma.position < n) (λ dma. dma.position < n + 1) (λ dma l. omega arith) dmas positions) (omega arith),
     )
 
 -- a recording is one still with a commit more and its records
@@ -104,7 +104,7 @@ pub IsRecording-commit : (mode : ModeName) (kept : Kept) (interrupts : List Inte
     → IsRecording mode (noted mode kept (note_of commit short)) interrupts (with_input inputs input) (with_dma dmas kept.count bytes)
 IsRecording-commit mode kept interrupts inputs dmas commit short input bytes r can good few =
     let i = inputs-with inputs input kept.count can.few r.few_inputs good r.log.inputs in
-    let d = dmas-with dmas kept.count bytes can.few r.few_dmas few r.slots r.log.dmas in
+    let d = dmas-with dmas kept.count bytes can.few r.few_dmas few r.positions r.log.dmas in
     record {
       log = record {
         s = r.log.s;
@@ -119,7 +119,7 @@ IsRecording-commit mode kept interrupts inputs dmas commit short input bytes r c
       sizes = omega (arith, sizes-length kept.sizes kept.done (note_of commit short), r.sizes);
       few_inputs = i.1;
       few_dmas = d.1;
-      slots = d.2;
+      positions = d.2;
     }
 
 -- a recording is one still with an interrupt more
@@ -141,7 +141,7 @@ IsRecording-interrupt mode kept interrupts inputs dmas interrupt r good few =
       sizes = r.sizes;
       few_inputs = r.few_inputs;
       few_dmas = r.few_dmas;
-      slots = r.slots;
+      positions = r.positions;
     }
 
 -- a moment that is new among the interrupts of a log is new among those that are held

@@ -33,10 +33,10 @@ abbrev pub with_input : List Input → Option Input → List Input
 with_input inputs None = inputs
 with_input inputs (Some input) = inputs ++ input ∷ []
 
--- the data of DMAs with those of the commit at a slot, if it is one
+-- the data of DMAs with those of the commit at a position, if it is one
 abbrev pub with_dma : List DmaRecord → ℕ → Option (List ℕ) → List DmaRecord
-with_dma dmas slot None = dmas
-with_dma dmas slot (Some bytes) = dmas ++ record { slot = slot; bytes = bytes } ∷ []
+with_dma dmas position None = dmas
+with_dma dmas position (Some bytes) = dmas ++ record { position = position; bytes = bytes } ∷ []
 
 abbrev pub short_sizes : Sizes → List ShortSize
 short_sizes (Each sizes) = []
@@ -49,7 +49,7 @@ pub record IsRecording (mode : ModeName) (kept : Kept) (interrupts : List Interr
   pub sizes : length (short_sizes kept.sizes) ≤ kept.count
   pub few_inputs : length inputs ≤ kept.count
   pub few_dmas : length dmas ≤ kept.count
-  pub slots : All (λ dma. dma.slot < kept.count) dmas
+  pub positions : All (λ dma. dma.position < kept.count) dmas
 
 -- no interrupt of this moment is kept
 abbrev pub IsFresh : List Interrupt → ℕ → ℕ → Type 0

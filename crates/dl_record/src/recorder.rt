@@ -155,15 +155,15 @@ fn note_input(inputs: &mut Inputs, input: Option<&Input>) -> Result<(), OutOfMem
     }
 }
 
-fn note_dma(dmas: &mut Dmas, slot: u32, bytes: Option<&[u8]>) -> Result<(), OutOfMemory>
+fn note_dma(dmas: &mut Dmas, position: u32, bytes: Option<&[u8]>) -> Result<(), OutOfMemory>
     requires few { IfSome bytes (λ b. AreFewBytes b.now) }
-    requires slots { All (λ dma. dma.slot < slot) dmas.old.dmas }
-    ensures ok { OnOk result (dmas.new.dmas ≡ with_dma dmas.old.dmas slot (option_map (λ b. b.now) bytes.entry)) }
+    requires positions { All (λ dma. dma.position < position) dmas.old.dmas }
+    ensures ok { OnOk result (dmas.new.dmas ≡ with_dma dmas.old.dmas position (option_map (λ b. b.now) bytes.entry)) }
     ensures err { OnErr result (dmas.new.dmas ≡ dmas.old.dmas) }
     ensures room { IsTrue dmas.old.room → IsOk result }
 {
     match bytes {
-        Some(bytes) => dmas.note(slot, bytes),
+        Some(bytes) => dmas.note(position, bytes),
         None => Ok(()),
     }
 }

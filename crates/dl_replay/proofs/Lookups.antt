@@ -8,7 +8,7 @@ use Rattle.spec_log.specs.declared.mode_name.ModeName.{ModeName}
 use Rattle.spec_log.specs.declared.mode_name.ModeName.TheVariants.{OrderSize, OrderOnly, Picolog}
 use Rattle.spec_log.specs.declared.records.Interrupt.{Interrupt}
 use Rattle.spec_log.specs.declared.records.DmaRecord.{DmaRecord}
-use Rattle.spec_log.specs.Head.{head, is_slot}
+use Rattle.spec_log.specs.Head.{head, is_dma_at}
 use Rattle.spec_log.specs.Noting.{Kept, kept_size, kept_head, log_of}
 use Rattle.spec_log.specs.Size.{size_in}
 use Rattle.spec_play.specs.Verdicts.{interrupt_at}
@@ -31,27 +31,27 @@ interrupt-is (held ∷ entries) thread commits =
       | inr e ↦ rw e (interrupt-is entries thread commits)
     ]
 
-slot-found : (slot : ℕ) (dmas : List DmaRecord) → is_some (bytes_at slot dmas) ≡ is_slot dmas slot
-slot-found slot [] = refl
-slot-found slot (dma ∷ dmas) =
-    elim (cases_Bool (dma.slot == slot)) [
+dma-found : (position : ℕ) (dmas : List DmaRecord) → is_some (bytes_at position dmas) ≡ is_dma_at dmas position
+dma-found position [] = refl
+dma-found position (dma ∷ dmas) =
+    elim (cases_Bool (dma.position == position)) [
       | inl e ↦ rw e refl
-      | inr e ↦ rw e (slot-found slot dmas)
+      | inr e ↦ rw e (dma-found position dmas)
     ]
 
-abbrev Holds : (slot : ℕ) → List DmaRecord → {B : Type 0} → (B → List ℕ) → Option B → Type 0
-Holds slot dmas now found = MatchOption found (bytes_at slot dmas ≡ None) (λ b. bytes_at slot dmas ≡ Some (now b))
+abbrev Holds : (position : ℕ) → List DmaRecord → {B : Type 0} → (B → List ℕ) → Option B → Type 0
+Holds position dmas now found = MatchOption found (bytes_at position dmas ≡ None) (λ b. bytes_at position dmas ≡ Some (now b))
 
--- bytes are found for a slot just where the log has a DMA at it
-pub slot-is : (slot : ℕ) (dmas : List DmaRecord) {B : Type 0} (now : B → List ℕ) (found : Option B) → Holds slot dmas now found
-    → is_some found ≡ is_slot dmas slot
-slot-is slot dmas now None h = sym (ap is_some h) ∙ slot-found slot dmas
-slot-is slot dmas now (Some b) h = sym (ap is_some h) ∙ slot-found slot dmas
+-- bytes are found for a position just where the log has a DMA at it
+pub dma-is : (position : ℕ) (dmas : List DmaRecord) {B : Type 0} (now : B → List ℕ) (found : Option B) → Holds position dmas now found
+    → is_some found ≡ is_dma_at dmas position
+dma-is position dmas now None h = sym (ap is_some h) ∙ dma-found position dmas
+dma-is position dmas now (Some b) h = sym (ap is_some h) ∙ dma-found position dmas
 
 -- the head by what a mode keeps is the head by the log
 pub head-is : (mode : ModeName) (kept : Kept) (interrupts : List Interrupt) (inputs : List Input) (dmas : List DmaRecord)
     (position : ℕ) (last : Option ℕ) (live : List Bool)
-    → kept_head mode kept.order position (is_slot dmas position) last live ≡ head (log_of mode kept interrupts inputs dmas) position last live
+    → kept_head mode kept.order position (is_dma_at dmas position) last live ≡ head (log_of mode kept interrupts inputs dmas) position last live
 head-is OrderSize kept interrupts inputs dmas position last live = refl
 head-is OrderOnly kept interrupts inputs dmas position last live = refl
 head-is Picolog kept interrupts inputs dmas position last live = refl

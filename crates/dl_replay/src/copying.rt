@@ -64,7 +64,7 @@ pub fn dmas_of(alloc: Global, list: &[DmaRecord]) -> Result<Dmas, OutOfMemory>
 {
     let mut dmas = Dmas::new(alloc);
     for dma in list {
-        dmas.note(dma.slot, dma.bytes.as_slice())?;
+        dmas.note(dma.position, dma.bytes.as_slice())?;
     }
     Ok(dmas)
 }

@@ -232,5 +232,5 @@ pub fn judge_dma<M: Mode>(
 fn is_for(done: u32, request: Request, dma: &DmaRecord) -> bool
     ensures { result ≡ is_for done request dma.now }
 {
-    dma.slot == done && dma.bytes.len() <= request.len as usize
+    dma.position == done && dma.bytes.len() <= request.len as usize
 }

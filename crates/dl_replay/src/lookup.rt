@@ -86,8 +86,8 @@ impl<M: Mode> Lookup<M> {
         requires { length live.now ≤ 15 }
         ensures { result ≡ head self.now position last live.now }
     {
-        let slot = self.dmas.at(position).is_some();
-        M::head(&self.log, position, slot, last, live)
+        let dma = self.dmas.at(position).is_some();
+        M::head(&self.log, position, dma, last, live)
     }
 
     /// Whether no size is left, once all commits are done and each thread has done so many. Where each commit has its size,

@@ -1,30 +1,18 @@
 -- Words over a memory stay inside it, and laying them one after another lays them all.
 use Rattle.std.proofs.Common.{Result, Ok, Err, OnOk, is_ok, is_err, ◌≡◌, ℕ, ◌+◌, ◌*◌, ◌/◌, ◌%◌, ◌<◌, ◌≤◌, Bool, true, false, nat_eq, List, [], ◌∷◌, length, drop, slice_get, Some, None, if◌then◌else◌, refl, sym, ◌∙◌, ap, subst, arith}
-use Rattle.spec_isa.specs.Words.{Stored, Apart, IsBytes, lay, lays, merged, put, read}
+use Rattle.spec_isa.specs.Words.{Stored, Apart, IsBytes, lay, lays, put, read}
 use Rattle.spec_isa.specs.Masks.{over, bytes_of}
 use Rattle.spec_isa.proofs.MemoryLaws.{length_lay, length_lays}
 use Rattle.spec_isa.proofs.BufferLaws.{read_over, lays_put}
 use Rattle.dl_wbuf.specs.Buffers.{Words, has_room}
 use Rattle.dl_thread.specs.Sight.{Lays}
 use Rattle.spec_engine.specs.Flights.{AreInside}
+use Rattle.spec_protocol.proofs.Sound.Words.{inside_put}
 use Rattle.dl_serial.specs.Overlays.{room, sight_of}
 
-merged_word : (r s : Stored) → (merged r s).word ≡ r.word
-unfolding merged
-merged_word r s = refl
-
-put_first : (size : ℕ) (r : Stored) (rs : List Stored) (s : Stored) → AreInside size (r ∷ rs) → AreInside size (put rs s) → (b : Bool)
-    → AreInside size (if b then merged r s ∷ rs else r ∷ put rs s)
-put_first size r rs s all rest true = (subst (λ (w : ℕ). 4 * w + 4 ≤ size) (sym (merged_word r s)) all.0, all.1)
-put_first size r rs s all rest false = (all.0, rest)
-
-pub inside_put : (size : ℕ) (ws : List Stored) (s : Stored) → AreInside size ws → 4 * s.word + 4 ≤ size → AreInside size (put ws s)
-inside_put size [] s all one_ = (one_, tt)
-inside_put size (r ∷ rs) s all one_ = put_first size r rs s all (inside_put size rs s all.1 one_) (nat_eq r.word s.word)
-
-pub first_inside : (size : ℕ) (ws : List Stored) (s : Stored) → slice_get ws 0 ≡ Some s → AreInside size ws → 4 * s.word + 4 ≤ size
+pub first_inside : (size : ℕ) (ws : List Stored) (s : Stored) → slice_get ws 0 ≡ Some s → AreInside size ws → 4 * s.number + 4 ≤ size
 first_inside size [] s e all = cc
-first_inside size (r ∷ rs) s e all = subst (λ (q : Stored). 4 * q.word + 4 ≤ size) (let h : r ≡ s = cc in h) all.0
+first_inside size (r ∷ rs) s e all = subst (λ (q : Stored). 4 * q.number + 4 ≤ size) (let h : r ≡ s = cc in h) all.0
 
 -- the first word laid, and then the others, is all words laid
 pub first_laid : (m : List ℕ) (ws : List Stored) (s : Stored) → slice_get ws 0 ≡ Some s → lays (lay m s) (drop 1 ws) ≡ lays m ws
@@ -66,17 +54,17 @@ shown_put m o n a mask value apart taken capacity e =
     }
 
 -- words inside a memory stay inside it with one more that is
-pub inside_after : (m : List ℕ) (o n : Words) (b : Stored) → AreInside (length m) o.words → 4 * b.word + 4 ≤ length m → n ≡ record { capacity = o.capacity; words = put o.words b } → AreInside (length m) n.words
+pub inside_after : (m : List ℕ) (o n : Words) (b : Stored) → AreInside (length m) o.words → 4 * b.number + 4 ≤ length m → n ≡ record { capacity = o.capacity; words = put o.words b } → AreInside (length m) n.words
 inside_after m o n b all one_ e = subst (λ (w : Words). AreInside (length m) w.words) (sym e) (inside_put (length m) o.words b all one_)
 
-bytes_of_word : (word mask value : ℕ) → (bytes_of word mask value).word ≡ word
+bytes_of_number : (number mask value : ℕ) → (bytes_of number mask value).number ≡ number
 unfolding bytes_of
-bytes_of_word word mask value = refl
+bytes_of_number number mask value = refl
 
 -- a store to an aligned address inside a memory makes a word inside it
-pub store_inside : (m : List ℕ) (ws : List Stored) (addr mask value : ℕ) → addr % 4 ≡ 0 → addr + 4 ≤ length (lays m ws) → 4 * (bytes_of (addr / 4) mask value).word + 4 ≤ length m
+pub store_inside : (m : List ℕ) (ws : List Stored) (addr mask value : ℕ) → addr % 4 ≡ 0 → addr + 4 ≤ length (lays m ws) → 4 * (bytes_of (addr / 4) mask value).number + 4 ≤ length m
 store_inside m ws addr mask value aligned inside =
-    let h = bytes_of_word (addr / 4) mask value in omega (arith, h, within m ws addr inside)
+    let h = bytes_of_number (addr / 4) mask value in omega (arith, h, within m ws addr inside)
 
 -- once the first word is laid into the memory, the others are inside it still
 pub still_inside : (m : List ℕ) (ws : List Stored) (n : List ℕ) (w : Words) {capacity : ℕ} (s : Stored) → n ≡ lay m s → w ≡ record { capacity = capacity; words = drop 1 ws }

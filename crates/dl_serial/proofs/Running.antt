@@ -135,7 +135,7 @@ serial-still o after_ t kind sees = seen_is _ _ _ o after_ sees
 
 room_there : (o : Overlaid) (store : Option Stored) → length o.words < room → sight_room (sight_of o) store ≡ true
 room_there o None few = refl
-room_there o (Some b) few = by_held (holds o.words b.word) (nat_lt (length o.words) room) (lt-ltb (length o.words) room few)
+room_there o (Some b) few = by_held (holds o.words b.number) (nat_lt (length o.words) room) (lt-ltb (length o.words) room few)
   where
     by_held : (a b : Bool) → b ≡ true → (a || b) ≡ true
     by_held true b e = refl

@@ -30,7 +30,7 @@ sight_of o =
     }
 
 -- reading leaves it as it is
-abbrev pub ReadBy : Overlaid → (word : ℕ) → Overlaid → Type 0
+abbrev pub ReadBy : Overlaid → (number : ℕ) → Overlaid → Type 0
 ReadBy o a after = after ≡ o
 
 -- a store goes to the buffer

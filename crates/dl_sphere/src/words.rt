@@ -25,7 +25,7 @@ pub(crate) fn copied(alloc: Global, words: &Buffer) -> Result<Buffer, OutOfMemor
 
 // Stores a word for which there is room.
 fn put(words: &mut Buffer, stored: Stored)
-    requires { has_room words.old stored.word ≡ true }
+    requires { has_room words.old stored.number ≡ true }
     ensures words { words.new.words ≡ put words.old.words stored }
     ensures capacity { words.new.capacity ≡ words.old.capacity }
 {

@@ -6,7 +6,7 @@ use Rattle.spec_isa.specs.Operations.{part, stored}
 
 -- the parts of a value that are stored from byte k of word number w on
 abbrev parts : (size w k v : ℕ) → Stored
-parts size w k v = record { word = w; b0 = part size k v 0; b1 = part size k v 1; b2 = part size k v 2; b3 = part size k v 3 }
+parts size w k v = record { number = w; b0 = part size k v 0; b1 = part size k v 1; b2 = part size k v 2; b3 = part size k v 3 }
 
 byte_from : (w k v : ℕ) → k < 4 → bytes_of w (1 * 2 ^ k % 2 ^ 8) (v % 2 ^ 8 * 2 ^ (8 * k) % 2 ^ 32) ≡ parts 1 w k v
 unfolding bytes_of

@@ -42,7 +42,7 @@ holder s (Some a) = s.held a
 
 abbrev pub has_room : Sight → Option Stored → Bool
 has_room s None = true
-has_room s (Some b) = s.room b.word
+has_room s (Some b) = s.room b.number
 
 -- the load may be held up, and the store may find no room
 abbrev pub accessed : Sight → (read : Option ℕ) → Option Load → Option Stored → Did

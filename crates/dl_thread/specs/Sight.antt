@@ -14,11 +14,11 @@ pub record IsWord (size addr : ℕ) : Type 0 where
   pub inside : addr + 4 ≤ size
 
 -- reading a word gives what is shown, or the flight that holds it up
-abbrev pub Answers : Sight → (word : ℕ) → Result ℕ ℕ → Type 0
+abbrev pub Answers : Sight → (number : ℕ) → Result ℕ ℕ → Type 0
 Answers s a (Ok w) = (s.held a ≡ None) × (w ≡ read s.bytes a)
 Answers s a (Err k) = s.held a ≡ Some k
 
 -- there was room for the store, and it is laid over the bytes
 pub record Lays (s : Sight) (b : Stored) (after : Sight) : Type 0 where
-  pub room : s.room b.word ≡ true
+  pub room : s.room b.number ≡ true
   pub bytes : after.bytes ≡ lay s.bytes b

@@ -124,7 +124,7 @@ lane-clean p q r b d value hp hq clean bit byte =
           rw (e, f) (sym clean)
     ]
 
-place_of : (a m v n u w : ℕ) → 4 * (bytes_of a n u).word ≡ w → 4 * (bytes_of a m v).word ≡ w
+place_of : (a m v n u w : ℕ) → 4 * (bytes_of a n u).number ≡ w → 4 * (bytes_of a m v).number ≡ w
 unfolding bytes_of
 place_of a m v n u w h = h
 

@@ -3,6 +3,7 @@ use Rattle.std.proofs.Common.{◌≡◌, ◌≢◌, ℕ, ◌/◌, ◌%◌, inl, 
 use Rattle.std.proofs.lemmas.Bool.{ne_eqb}
 use Rattle.std.proofs.lemmas.Bool.Decides.{eqb_tells}
 use Rattle.spec_isa.specs.Words.{Stored, later, merged, put}
+use Rattle.spec_isa.proofs.BufferLaws.{merged_number}
 use Rattle.dl_wbuf.specs.Buffers.{lane, byte_held, puts, last_stored}
 
 later_cond : (c : Bool) (x y z w : Option ℕ) → later (cond c x y) (cond c z w) ≡ cond c (later x z) (later y w)
@@ -21,17 +22,13 @@ lane-merged : (r s : Stored) (k : ℕ) → lane (merged r s) k ≡ later (lane r
 unfolding merged
 lane-merged r s k = simp later_cond
 
-word-merged : (r s : Stored) → (merged r s).word ≡ r.word
-unfolding merged
-word-merged r s = refl
+same_word : (r s : Stored) (rs : List Stored) (byte : ℕ) → r.number ≡ s.number → byte_held (merged r s ∷ rs) byte ≡ later (byte_held (r ∷ rs) byte) (byte_held (s ∷ []) byte)
+same_word r s rs byte e = rw (merged_number r s, lane-merged r s (byte % 4), ← e) (sym (later_cond (eqb r.number (byte / 4)) _ _ _ _))
 
-same_word : (r s : Stored) (rs : List Stored) (byte : ℕ) → r.word ≡ s.word → byte_held (merged r s ∷ rs) byte ≡ later (byte_held (r ∷ rs) byte) (byte_held (s ∷ []) byte)
-same_word r s rs byte e = rw (word-merged r s, lane-merged r s (byte % 4), ← e) (sym (later_cond (eqb r.word (byte / 4)) _ _ _ _))
-
-other_word : (r s : Stored) (rs : List Stored) (byte : ℕ) → r.word ≢ s.word → byte_held (put rs s) byte ≡ later (byte_held rs byte) (byte_held (s ∷ []) byte) → byte_held (r ∷ put rs s) byte ≡ later (byte_held (r ∷ rs) byte) (byte_held (s ∷ []) byte)
+other_word : (r s : Stored) (rs : List Stored) (byte : ℕ) → r.number ≢ s.number → byte_held (put rs s) byte ≡ later (byte_held rs byte) (byte_held (s ∷ []) byte) → byte_held (r ∷ put rs s) byte ≡ later (byte_held (r ∷ rs) byte) (byte_held (s ∷ []) byte)
 other_word r s rs byte ne h =
-    elim (eqb_tells r.word (byte / 4)) [
-      | inl here ↦ let other : eqb s.word (byte / 4) ≡ false = ne_eqb _ _ (λ e. ne (here.1 ∙ sym e)) in rw (here.0, other) refl
+    elim (eqb_tells r.number (byte / 4)) [
+      | inl here ↦ let other : eqb s.number (byte / 4) ≡ false = ne_eqb _ _ (λ e. ne (here.1 ∙ sym e)) in rw (here.0, other) refl
       | inr elsewhere ↦ rw elsewhere.0 h
     ]
 
@@ -39,7 +36,7 @@ other_word r s rs byte ne h =
 byte_held-put : (ws : List Stored) (s : Stored) (byte : ℕ) → byte_held (put ws s) byte ≡ later (byte_held ws byte) (byte_held (s ∷ []) byte)
 byte_held-put [] s byte = sym (later_none _)
 byte_held-put (r ∷ rs) s byte =
-    elim (eqb_tells r.word s.word) [
+    elim (eqb_tells r.number s.number) [
       | inl h ↦ rw h.0 (same_word r s rs byte h.1)
       | inr h ↦ rw h.0 (other_word r s rs byte h.1 (byte_held-put rs s byte))
     ]

@@ -11,51 +11,51 @@ use Rattle.dl_wbuf.specs.Buffers.{lane, byte_held}
 
 -- the word is of that number
 abbrev pub is_of : ℕ → Stored → Bool
-is_of a s = eqb s.word a
+is_of a s = eqb s.number a
 
 -- the word of that number stands at a place
 pub record IsFound (ws : List Stored) (a i : ℕ) : Type 0 where
   pub inside : i < length ws
   pub held : holds ws a ≡ true
-  pub word : (d : Stored) → (get_or ws i d).word ≡ a
-  pub puts : (s d : Stored) → s.word ≡ a → put ws s ≡ slice_set ws i (merged (get_or ws i d) s)
+  pub number : (d : Stored) → (get_or ws i d).number ≡ a
+  pub puts : (s d : Stored) → s.number ≡ a → put ws s ≡ slice_set ws i (merged (get_or ws i d) s)
   pub seen : (below : ℕ) (d : Stored) → over ws a below ≡ word_over (get_or ws i d) below
   pub byte : (at : ℕ) (d : Stored) → at / 4 ≡ a → byte_held ws at ≡ lane (get_or ws i d) (at % 4)
 
 -- no word of that number stands
 pub record IsMissing (ws : List Stored) (a : ℕ) : Type 0 where
   pub held : holds ws a ≡ false
-  pub puts : (s : Stored) → s.word ≡ a → put ws s ≡ ws ++ s ∷ []
+  pub puts : (s : Stored) → s.number ≡ a → put ws s ≡ ws ++ s ∷ []
   pub seen : (below : ℕ) → over ws a below ≡ below
   pub byte : (at : ℕ) → at / 4 ≡ a → byte_held ws at ≡ None
 
-IsFound-first : (s : Stored) (ss : List Stored) (a : ℕ) → s.word ≡ a → eqb s.word a ≡ true → IsFound (s ∷ ss) a 0
+IsFound-first : (s : Stored) (ss : List Stored) (a : ℕ) → s.number ≡ a → eqb s.number a ≡ true → IsFound (s ∷ ss) a 0
 IsFound-first s ss a e test =
     record {
       inside = omega arith;
       held = rw test refl;
-      word = λ d. e;
-      puts = λ r d f. let t : eqb s.word r.word ≡ true = rw f test in rw t refl;
+      number = λ d. e;
+      puts = λ r d f. let t : eqb s.number r.number ≡ true = rw f test in rw t refl;
       seen = λ below d. rw test refl;
       byte = λ at d f. rw (f, test) refl;
     }
 
-IsFound-next : (s : Stored) (ss : List Stored) (a i : ℕ) → eqb s.word a ≡ false → IsFound ss a i → IsFound (s ∷ ss) a (suc i)
+IsFound-next : (s : Stored) (ss : List Stored) (a i : ℕ) → eqb s.number a ≡ false → IsFound ss a i → IsFound (s ∷ ss) a (suc i)
 IsFound-next s ss a i test h =
     record {
       inside = omega (arith, h.inside);
       held = rw test h.held;
-      word = h.word;
-      puts = λ r d f. let t : eqb s.word r.word ≡ false = rw f test in rw t (ap (λ rest. s ∷ rest) (h.puts r d f));
+      number = h.number;
+      puts = λ r d f. let t : eqb s.number r.number ≡ false = rw f test in rw t (ap (λ rest. s ∷ rest) (h.puts r d f));
       seen = λ below d. rw test (h.seen below d);
       byte = λ at d f. rw (f, test) (h.byte at d f);
     }
 
-IsMissing-next : (s : Stored) (ss : List Stored) (a : ℕ) → eqb s.word a ≡ false → IsMissing ss a → IsMissing (s ∷ ss) a
+IsMissing-next : (s : Stored) (ss : List Stored) (a : ℕ) → eqb s.number a ≡ false → IsMissing ss a → IsMissing (s ∷ ss) a
 IsMissing-next s ss a test h =
     record {
       held = rw test h.held;
-      puts = λ r f. let t : eqb s.word r.word ≡ false = rw f test in rw t (ap (λ rest. s ∷ rest) (h.puts r f));
+      puts = λ r f. let t : eqb s.number r.number ≡ false = rw f test in rw t (ap (λ rest. s ∷ rest) (h.puts r f));
       seen = λ below. rw test (h.seen below);
       byte = λ at f. rw (f, test) (h.byte at f);
     }
@@ -67,7 +67,7 @@ plus_one n = omega arith
 pub located : (ws : List Stored) (a : ℕ) → IsFound ws a (position_or_len (is_of a) ws) ⊎ (IsMissing ws a × (position_or_len (is_of a) ws ≡ length ws))
 located [] a = inr (record { held = refl; puts = λ s f. refl; seen = λ below. refl; byte = λ at f. refl }, refl)
 located (s ∷ ss) a =
-    elim (eqb_tells s.word a) [
+    elim (eqb_tells s.number a) [
       | inl h ↦ inl (rw h.0 (IsFound-first s ss a h.1 h.0))
       | inr h ↦ elim (located ss a) [
         | inl found ↦ inl (rw h.0 (subst (IsFound (s ∷ ss) a) (plus_one _) (IsFound-next s ss a _ h.0 found)))

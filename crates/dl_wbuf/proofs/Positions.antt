@@ -57,20 +57,20 @@ lacking : (ws : List Stored) (a : ℕ) → Lacks a ws → position_or_len (is_of
 lacking [] a lacks = refl
 lacking (s ∷ ss) a lacks = rw (ne_eqb _ _ lacks.0) (omega (arith, lacking ss a lacks.1))
 
-lacks_at : (ws : List Stored) (a i : ℕ) (d : Stored) → Lacks a ws → i < length ws → (get_or ws i d).word ≢ a
+lacks_at : (ws : List Stored) (a i : ℕ) (d : Stored) → Lacks a ws → i < length ws → (get_or ws i d).number ≢ a
 lacks_at [] a i d lacks inside = absurd (omega arith)
 lacks_at (s ∷ ss) a zero d lacks inside = lacks.0
 lacks_at (s ∷ ss) a (suc i) d lacks inside = lacks_at ss a i d lacks.1 (omega arith)
 
-before : (ws : List Stored) (i : ℕ) (d : Stored) → Apart ws → i < length ws → position_or_len (is_of (get_or ws i d).word) (take i ws) ≡ length (take i ws)
+before : (ws : List Stored) (i : ℕ) (d : Stored) → Apart ws → i < length ws → position_or_len (is_of (get_or ws i d).number) (take i ws) ≡ length (take i ws)
 before [] i d apart inside = absurd (omega arith)
 before (s ∷ ss) zero d apart inside = refl
 before (s ∷ ss) (suc i) d apart inside =
-    let ne : s.word ≢ (get_or ss i d).word = λ e. lacks_at ss s.word i d apart.0 (omega arith) (sym e) in
+    let ne : s.number ≢ (get_or ss i d).number = λ e. lacks_at ss s.number i d apart.0 (omega arith) (sym e) in
     rw (ne_eqb _ _ ne) (omega (arith, before ss i d apart.1 (omega arith)))
 
 -- a word stands nowhere before its place
-pub position-before : (ws : List Stored) (i : ℕ) (d : Stored) → Apart ws → i < length ws → position (is_of (get_or ws i d).word) (take i ws) ≡ None
+pub position-before : (ws : List Stored) (i : ℕ) (d : Stored) → Apart ws → i < length ws → position (is_of (get_or ws i d).number) (take i ws) ≡ None
 position-before ws i d apart inside = none_at_end _ (take i ws) (omega (arith, before ws i d apart inside))
 
 -- ---- the first word is taken out
@@ -100,9 +100,9 @@ left_at d k = rw (le-ltb (d + k) d (omega arith)) (ap (λ n. Some n) (omega arit
 left_gone : (d : ℕ) → left (1 + d) (Some (d + 0)) ≡ None
 left_gone d = rw (lt-ltb (d + 0) (1 + d) (omega arith)) refl
 
-pub left-drained : (d a : ℕ) (o : Option ℕ) (s : Stored) (ss : List Stored) → Lacks s.word ss → left d o ≡ position (is_of a) (s ∷ ss) → left (1 + d) o ≡ position (is_of a) ss
+pub left-drained : (d a : ℕ) (o : Option ℕ) (s : Stored) (ss : List Stored) → Lacks s.number ss → left d o ≡ position (is_of a) (s ∷ ss) → left (1 + d) o ≡ position (is_of a) ss
 left-drained d a o s ss lacks h =
-    elim (eqb_tells s.word a) [
+    elim (eqb_tells s.number a) [
       | inl it ↦
           let zero_at : position_or_len (is_of a) (s ∷ ss) ≡ 0 = rw it.0 refl in
           let first : position (is_of a) (s ∷ ss) ≡ Some 0 = some_before (is_of a) (s ∷ ss) (rw zero_at (omega arith)) ∙ ap (λ n. Some n) zero_at in
@@ -141,7 +141,7 @@ IsPlaced-drained c d n t ws s ss e apart h next ne =
     })
 
 -- a word that stands is stored again
-pub IsPlaced-again : (capacity drained : ℕ) (table : Slots) (ws : List Stored) (i : ℕ) (new d : Stored) → new.word ≡ (get_or ws i d).word → IsPlaced capacity drained table ws → IsPlaced capacity drained table (slice_set ws i new)
+pub IsPlaced-again : (capacity drained : ℕ) (table : Slots) (ws : List Stored) (i : ℕ) (new d : Stored) → new.number ≡ (get_or ws i d).number → IsPlaced capacity drained table ws → IsPlaced capacity drained table (slice_set ws i new)
 IsPlaced-again c n t ws i new d same h =
     record {
       places = λ a. h.places a ∙ sym (position-again (is_of a) ws i new d (ap (λ w. eqb w a) same));
@@ -151,7 +151,7 @@ IsPlaced-again c n t ws i new d same h =
     }
 
 -- a new word comes last
-pub IsPlaced-new : (capacity drained : ℕ) (old table : Slots) (ws : List Stored) (new : Stored) (number : ℕ) → new.word ≡ number → position (is_of number) ws ≡ None → IsPlaced capacity drained old ws → ((a : ℕ) → place table a ≡ cond (eqb a number) (Some (drained + length ws)) (place old a)) → length table.taken ≤ length old.taken + 1 → table.room ≡ old.room → IsPlaced capacity drained table (ws ++ new ∷ [])
+pub IsPlaced-new : (capacity drained : ℕ) (old table : Slots) (ws : List Stored) (new : Stored) (number : ℕ) → new.number ≡ number → position (is_of number) ws ≡ None → IsPlaced capacity drained old ws → ((a : ℕ) → place table a ≡ cond (eqb a number) (Some (drained + length ws)) (place old a)) → length table.taken ≤ length old.taken + 1 → table.room ≡ old.room → IsPlaced capacity drained table (ws ++ new ∷ [])
 IsPlaced-new c n old t ws new number is none h places taken room =
     record {
       places = λ a. rw (places a) (elim (eqb_tells a number) [
@@ -171,14 +171,14 @@ pub record IsFilled (table : Slots) (ws : List Stored) (i : ℕ) : Type 0 where
   pub taken : length table.taken ≤ i
 
 -- a table with the places of the first i words has those of i + 1 once the next word's place is set
-pub IsFilled-more : (old table : Slots) (ws : List Stored) (i number : ℕ) (d : Stored) → Apart ws → i < length ws → number ≡ (get_or ws i d).word → IsFilled old ws i → ((a : ℕ) → place table a ≡ cond (eqb a number) (Some i) (place old a)) → length table.taken ≤ length old.taken + 1 → IsFilled table ws (i + 1)
+pub IsFilled-more : (old table : Slots) (ws : List Stored) (i number : ℕ) (d : Stored) → Apart ws → i < length ws → number ≡ (get_or ws i d).number → IsFilled old ws i → ((a : ℕ) → place table a ≡ cond (eqb a number) (Some i) (place old a)) → length table.taken ≤ length old.taken + 1 → IsFilled table ws (i + 1)
 IsFilled-more old t ws i number d apart inside is h places taken =
     let w : Stored = get_or ws i d in
     let before : List Stored = take i ws in
     let len : length before ≡ i = length-take-le i ws (omega arith) in
     record {
-      places = λ a. rw (take_more ws i d inside, places a, is) (elim (eqb_tells a w.word) [
-        | inl it ↦ rw it.0 (sym (rw it.1 (position-new (is_of w.word) before w (position-before ws i d apart inside) (eq-eqb _ _ refl)) ∙ ap (λ n. Some n) len))
+      places = λ a. rw (take_more ws i d inside, places a, is) (elim (eqb_tells a w.number) [
+        | inl it ↦ rw it.0 (sym (rw it.1 (position-new (is_of w.number) before w (position-before ws i d apart inside) (eq-eqb _ _ refl)) ∙ ap (λ n. Some n) len))
         | inr it ↦ rw it.0 (h.places a ∙ sym (position-other (is_of a) before w (ne_eqb _ _ (λ e. it.1 (sym e)))))
       ]);
       taken = omega (arith, h.taken);

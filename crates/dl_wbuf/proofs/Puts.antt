@@ -10,7 +10,7 @@ use Rattle.dl_wbuf.specs.Buffers.{has_room}
 use Rattle.dl_wbuf.specs.Invariant.{IsBuffer}
 use Rattle.dl_wbuf.proofs.Places.{is_of, IsFound-place, IsMissing-place}
 
-word_of : (a m v : ℕ) → (bytes_of a m v).word ≡ a
+word_of : (a m v : ℕ) → (bytes_of a m v).number ≡ a
 unfolding bytes_of
 word_of a m v = refl
 
@@ -19,20 +19,20 @@ later_none None = refl
 later_none (Some b) = refl
 
 -- the first store of a word
-pub merged-none : (a m v : ℕ) → merged (bytes_of a 0 0) (bytes_of (bytes_of a 0 0).word m v) ≡ bytes_of a m v
+pub merged-none : (a m v : ℕ) → merged (bytes_of a 0 0) (bytes_of (bytes_of a 0 0).number m v) ≡ bytes_of a m v
 unfolding merged bytes_of
 merged-none a m v = simp later_none
 
 -- a store of a word that stands is put by merging the two at its place
-pub put_found : (ws : List Stored) (a i m v : ℕ) (old new : Stored) → position (is_of a) ws ≡ Some i → old ≡ get_or ws i old → new ≡ merged old (bytes_of old.word m v) → slice_set ws i new ≡ put ws (bytes_of a m v)
+pub put_found : (ws : List Stored) (a i m v : ℕ) (old new : Stored) → position (is_of a) ws ≡ Some i → old ≡ get_or ws i old → new ≡ merged old (bytes_of old.number m v) → slice_set ws i new ≡ put ws (bytes_of a m v)
 put_found ws a i m v old new place was is =
     let found = IsFound-place ws a i place in
-    let word : old.word ≡ a = ap (λ s. s.word) was ∙ found.word old in
+    let word : old.number ≡ a = ap (λ s. s.number) was ∙ found.number old in
     let e : new ≡ merged (get_or ws i old) (bytes_of a m v) = rw (← was, ← word) is in
     rw e (sym (found.puts (bytes_of a m v) old (word_of a m v)))
 
 -- a store of a word that doesn't stand is put by adding it behind the others
-pub put_missing : (ws : List Stored) (a m v : ℕ) (none new : Stored) → position (is_of a) ws ≡ None → none ≡ bytes_of a 0 0 → new ≡ merged none (bytes_of none.word m v) → ws ++ new ∷ [] ≡ put ws (bytes_of a m v)
+pub put_missing : (ws : List Stored) (a m v : ℕ) (none new : Stored) → position (is_of a) ws ≡ None → none ≡ bytes_of a 0 0 → new ≡ merged none (bytes_of none.number m v) → ws ++ new ∷ [] ≡ put ws (bytes_of a m v)
 put_missing ws a m v none new place empty is =
     let e : new ≡ bytes_of a m v = (rw empty at is) ∙ merged-none a m v in
     rw e (sym ((IsMissing-place ws a place).puts (bytes_of a m v) (word_of a m v)))
@@ -80,11 +80,11 @@ pub room_missing : (capacity : ℕ) (ws : List Stored) (a : ℕ) → position (i
 room_missing c ws a place = rw ((IsMissing-place ws a place).held) refl
 
 -- what stands at a place is of the same word after a store is merged into it
-pub same_word : (ws : List Stored) (i : ℕ) (old new s : Stored) → old ≡ get_or ws i old → new ≡ merged old s → new.word ≡ (get_or ws i old).word
+pub same_word : (ws : List Stored) (i : ℕ) (old new s : Stored) → old ≡ get_or ws i old → new ≡ merged old s → new.number ≡ (get_or ws i old).number
 unfolding merged
-same_word ws i old new s was is = ap (λ w. w.word) is ∙ ap (λ w. w.word) was
+same_word ws i old new s was is = ap (λ w. w.number) is ∙ ap (λ w. w.number) was
 
 -- a store merged into the empty one of a word is of that word
-pub new_word : (a m v : ℕ) (none new : Stored) → none ≡ bytes_of a 0 0 → new ≡ merged none (bytes_of none.word m v) → new.word ≡ a
+pub new_word : (a m v : ℕ) (none new : Stored) → none ≡ bytes_of a 0 0 → new ≡ merged none (bytes_of none.number m v) → new.number ≡ a
 unfolding merged bytes_of
-new_word a m v none new empty is = ap (λ w. w.word) is ∙ ap (λ w. w.word) empty
+new_word a m v none new empty is = ap (λ w. w.number) is ∙ ap (λ w. w.number) empty

@@ -20,7 +20,7 @@ lane s k = if nat_eq k 0 then s.b0 else (if nat_eq k 1 then s.b1 else (if nat_eq
 -- the byte at that address, if it is held
 abbrev pub byte_held : List Stored → (byte : ℕ) → Option ℕ
 byte_held [] byte = None
-byte_held (s ∷ ss) byte = if nat_eq s.word (byte / 4) then lane s (byte % 4) else byte_held ss byte
+byte_held (s ∷ ss) byte = if nat_eq s.number (byte / 4) then lane s (byte % 4) else byte_held ss byte
 
 -- the words of these stores, put one after another
 abbrev pub puts : List Stored → (stores : List Stored) → List Stored

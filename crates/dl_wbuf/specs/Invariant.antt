@@ -20,7 +20,7 @@ left drained (Some i) = if nat_lt i drained then None else Some (i - drained)
 -- the table has a place for each word left, counted from the first that came since it was last emptied; `drained` of these have
 -- been taken out since, and there is room for twice the capacity
 pub record IsPlaced (capacity drained : ℕ) (table : Slots) (words : List Stored) : Type 0 where
-  pub places : (a : ℕ) → left drained (place table a) ≡ position (λ s. nat_eq s.word a) words
+  pub places : (a : ℕ) → left drained (place table a) ≡ position (λ s. nat_eq s.number a) words
   pub taken : length table.taken ≤ drained + length words
   pub room : table.room ≡ 2 * capacity
   pub few : drained < capacity

@@ -173,7 +173,7 @@ impl Buffer {
     // Where the word of that number stands.
     #[inline(always)]
     fn place(&self, number: u32) -> Option<usize>
-        ensures value { result ≡ position (λ s. s.word == number) self.now.words }
+        ensures value { result ≡ position (λ s. s.number == number) self.now.words }
         ensures apart { Apart self.now.words }
     {
         left(self.table.place(number), self.drained)
@@ -193,7 +193,7 @@ fn fill(table: &mut Table, words: &VecDeque<Stored>)
     requires apart { Apart words.now.items }
     requires room { length words.now.items ≤ table.old.room }
     requires most { length words.now.items ≤ 4096 }
-    ensures places { (a : ℕ) → place table.new a ≡ position (λ s. s.word == a) words.now.items }
+    ensures places { (a : ℕ) → place table.new a ≡ position (λ s. s.number == a) words.now.items }
     ensures taken { length table.new.taken ≤ length words.now.items }
     ensures room { table.new.room ≡ table.old.room }
 {

@@ -23,7 +23,7 @@ impl Model for Stored {
 
     ghost invariant = { λ s. IsExact s.word s.mask s.value };
 
-    ghost inverse = { λ b. record { word = 4 * b.word; mask = mask_of b; value = word_over b 0 } };
+    ghost inverse = { λ b. record { word = 4 * b.number; mask = mask_of b; value = word_over b 0 } };
 
     ghost use Rattle.std.specs.Prelude.{refl};
 
@@ -50,7 +50,7 @@ impl Stored {
 
     /// This store, and after it another to the same word.
     pub(crate) fn then(self, mask: u8, value: u32) -> Stored
-        ensures { result ≡ merged self (bytes_of self.word mask value) }
+        ensures { result ≡ merged self (bytes_of self.number mask value) }
     {
         Stored {
             word: self.word,
@@ -80,7 +80,7 @@ impl Stored {
 
     /// The number of the word, a quarter of its address.
     pub(crate) fn number(&self) -> u32
-        ensures { result ≡ self.now.word }
+        ensures { result ≡ self.now.number }
     {
         self.word / 4
     }

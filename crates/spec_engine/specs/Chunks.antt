@@ -69,12 +69,12 @@ abbrev pub closes : How → Chunk → Stepping
 closes how ch = record { reply = Stepped.Closed how; chunk = record ch { closed = Some how } }
 
 -- the word's line is among those read
-abbrev pub marked : Chunk → (word : ℕ) → Chunk
+abbrev pub marked : Chunk → (number : ℕ) → Chunk
 marked ch a = record ch { reads = insert (line ch.sphere a) ch.reads }
 
 abbrev pub with_line : (sphere : ℕ) → Option Stored → Marks → Marks
 with_line i None g = g
-with_line i (Some s) g = insert (line i s.word) g
+with_line i (Some s) g = insert (line i s.number) g
 
 -- an instruction was run, which left this thread, load and store
 abbrev pub ran : Chunk → Parts → Option Load → Option Stored → Chunk
@@ -87,10 +87,10 @@ at_limit ch = choose (nat_eq ch.done.n ch.limit) (closes How.Limit ch) (record {
 -- a store to a word that is held already finds room, and one to a new word where fewer than the capacity are held
 abbrev pub has_room : (capacity : ℕ) → List Stored → Option Stored → Bool
 has_room capacity ws None = true
-has_room capacity ws (Some s) = holds ws s.word || nat_lt (length ws) capacity
+has_room capacity ws (Some s) = holds ws s.number || nat_lt (length ws) capacity
 
 -- the flights hold the word's reading up, or it is read: its line is noted, whatever then comes
-unfoldable pub reading : List (Option Flight) → (core : ℕ) → Chunk → (word : ℕ) → (Chunk → Stepping) → Stepping
+unfoldable pub reading : List (Option Flight) → (core : ℕ) → Chunk → (number : ℕ) → (Chunk → Stepping) → Stepping
 reading slots c ch a then_ =
     on_option (first_slot (bounces c (line ch.sphere a)) slots) (then_ (marked ch a)) (λ k. record { reply = Stepped.Bounced k; chunk = ch })
 

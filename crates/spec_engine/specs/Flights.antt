@@ -142,7 +142,7 @@ pub record AreOfSize (bits : ℕ) (slots : List (Option Flight)) : Type 0 where
 -- each of these words lies in a memory of that size
 abbrev pub AreInside : (size : ℕ) → List Stored → Type 0
 AreInside size [] = Unit {0}
-AreInside size (s ∷ ss) = (4 * s.word + 4 ≤ size) × AreInside size ss
+AreInside size (s ∷ ss) = (4 * s.number + 4 ≤ size) × AreInside size ss
 
 -- the words left do, if there is a flight
 abbrev pub IsInside : (size : ℕ) → Option Flight → Type 0

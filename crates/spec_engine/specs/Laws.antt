@@ -76,7 +76,7 @@ StepsAreInstructions =
 -- the signature covers the lines of these words of a sphere
 abbrev pub CoversWords : (sphere : ℕ) → Marks → List Stored → Type 0
 CoversWords i g [] = Unit {0}
-CoversWords i g (s ∷ ss) = (covers g (line i s.word) ≡ true) × CoversWords i g ss
+CoversWords i g (s ∷ ss) = (covers g (line i s.number) ≡ true) × CoversWords i g ss
 
 -- and those of the words that these loads read
 abbrev pub CoversLoads : (sphere : ℕ) → Marks → List Load → Type 0

@@ -11,7 +11,7 @@ abbrev pub is_size : (bits : ℕ) → Bool
 is_size bits = list_any (λ size. nat_eq bits size) (64 ∷ 128 ∷ 256 ∷ 512 ∷ 1024 ∷ 2048 ∷ [])
 
 -- the line of a sphere's word, of which a line has eight
-abbrev pub line : (sphere word : ℕ) → ℕ
+abbrev pub line : (sphere number : ℕ) → ℕ
 line i a = i * 2 ^ 19 + a / 8
 
 -- each bank has half of the bits
@@ -59,4 +59,4 @@ hits g h = meets g.low h.low && meets g.high h.high
 -- the lines of these words of a sphere are marked too
 abbrev pub signed : (sphere : ℕ) → List Stored → Marks → Marks
 signed i [] g = g
-signed i (s ∷ ss) g = signed i ss (insert (line i s.word) g)
+signed i (s ∷ ss) g = signed i ss (insert (line i s.number) g)

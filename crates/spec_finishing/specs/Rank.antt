@@ -7,7 +7,7 @@ use Rattle.spec_play.specs.Plays.{Played, opened}
 use Rattle.spec_engine.specs.Flights.{Flight, at, told_at}
 use Rattle.spec_engine.specs.Chunks.{is_open}
 use Rattle.spec_protocol.specs.Spheres.{Cursor, Role, Plain, Record, Replay, Sphere, is_over}
-use Rattle.spec_protocol.specs.World.{World, Held, core_of}
+use Rattle.spec_protocol.specs.World.{World, Occupant, core_of}
 use Rattle.spec_protocol.specs.Machine.{SphereSetup, Setup}
 use Rattle.spec_protocol.specs.Finishing.{Who, least, standing}
 use Rattle.spec_finishing.specs.Work.{commits_work}
@@ -61,7 +61,7 @@ potential s w = flights_rank s.cores w.slots + spheres_rank s.cores s.spheres w.
 -- ---- what is under way
 
 -- one where the thread is on a core, its chunk's instructions, and one where the chunk is closed
-abbrev pub held_under_way : Option Held → ℕ
+abbrev pub held_under_way : Option Occupant → ℕ
 held_under_way None = 0
 held_under_way (Some h) = suc (h.chunk.done.n + (if is_open h.chunk then 0 else 1))
 

@@ -11,11 +11,16 @@ use Rattle.spec_isa.proofs.MemoryLaws.{length_lay, given, byte-lay, read_lay_oth
 
 -- ---- the words stay apart
 
-pub Lacks-put : (a : ℕ) (ws : List Stored) (s : Stored) → Lacks a ws → s.word ≢ a → Lacks a (put ws s)
+-- two stores of one word, as one, are of that word
+pub merged_number : (r s : Stored) → (merged r s).number ≡ r.number
+unfolding merged
+merged_number r s = refl
+
+pub Lacks-put : (a : ℕ) (ws : List Stored) (s : Stored) → Lacks a ws → s.number ≢ a → Lacks a (put ws s)
 unfolding merged
 Lacks-put a [] s lacks ne = (ne, tt)
 Lacks-put a (r ∷ rs) s lacks ne =
-    elim (eqb_tells r.word s.word) [
+    elim (eqb_tells r.number s.number) [
       | inl h ↦ rw h.0 (lacks.0, lacks.1)
       | inr h ↦ rw h.0 (lacks.0, Lacks-put a rs s lacks.1 ne)
     ]
@@ -25,9 +30,9 @@ pub Apart-put : (ws : List Stored) (s : Stored) → Apart ws → Apart (put ws s
 unfolding merged
 Apart-put [] s apart = (tt, tt)
 Apart-put (r ∷ rs) s apart =
-    elim (eqb_tells r.word s.word) [
+    elim (eqb_tells r.number s.number) [
       | inl h ↦ rw h.0 (apart.0, apart.1)
-      | inr h ↦ rw h.0 (Lacks-put r.word rs s apart.0 (λ e. h.1 (sym e)), Apart-put rs s apart.1)
+      | inr h ↦ rw h.0 (Lacks-put r.number rs s apart.0 (λ e. h.1 (sym e)), Apart-put rs s apart.1)
     ]
 
 -- ---- words read through the stores
@@ -36,7 +41,7 @@ pub read_lays_lacking : (m : List ℕ) (ws : List Stored) (a : ℕ) → Lacks a 
 read_lays_lacking m [] a lacks = refl
 read_lays_lacking m (s ∷ ss) a lacks = read_lays_lacking (lay m s) ss a lacks.1 ∙ read_lay_other m s a (λ e. lacks.0 (sym e))
 
-read_same_at : (m : List ℕ) (s : Stored) (a : ℕ) → s.word ≡ a → 4 * a + 3 < length m → IsBytesAt m a → read (lay m s) a ≡ word_over s (read m a)
+read_same_at : (m : List ℕ) (s : Stored) (a : ℕ) → s.number ≡ a → 4 * a + 3 < length m → IsBytesAt m a → read (lay m s) a ≡ word_over s (read m a)
 read_same_at m s a e =
     let P : ℕ → Type 0 = λ w. 4 * w + 3 < length m → IsBytesAt m w → read (lay m s) w ≡ word_over s (read m w) in
     subst P e (read_lay_at m s)
@@ -44,12 +49,12 @@ read_same_at m s a e =
 over_at : (m : List ℕ) (ws : List Stored) (a : ℕ) → Apart ws → IsBytesAt m a → 4 * a + 3 < length m → read (lays m ws) a ≡ over ws a (read m a)
 over_at m [] a apart bytes inside = refl
 over_at m (s ∷ ss) a apart bytes inside =
-    elim (eqb_tells s.word a) [
+    elim (eqb_tells s.number a) [
       | inl h ↦
           let lacks : Lacks a ss = let P : ℕ → Type 0 = λ w. Lacks w ss in subst P h.1 apart.0 in
           rw h.0 (read_lays_lacking (lay m s) ss a lacks ∙ read_same_at m s a h.1 inside bytes)
       | inr h ↦
-          let ne : a ≢ s.word = λ e. h.1 (sym e) in
+          let ne : a ≢ s.number = λ e. h.1 (sym e) in
           rw h.0
           (over_at (lay m s) ss a apart.1 (IsBytesAt-lay_other m s a ne bytes) (rw (length_lay m s) inside)
           ∙ ap (over ss a) (read_lay_other m s a ne))
@@ -69,12 +74,12 @@ later_cond : (c : Bool) (x y z w : Option ℕ) → later (cond c x y) (cond c z 
 later_cond true x y z w = refl
 later_cond false x y z w = refl
 
-given-merged : (r s : Stored) (i : ℕ) → r.word ≡ s.word → given (merged r s) i ≡ later (given r i) (given s i)
+given-merged : (r s : Stored) (i : ℕ) → r.number ≡ s.number → given (merged r s) i ≡ later (given r i) (given s i)
 unfolding merged
 given-merged r s i e = rw (← e) (simp later_cond)
 
 -- two stores of one word, one after the other
-pub lay-merged : (m : List ℕ) (r s : Stored) → r.word ≡ s.word → lay m (merged r s) ≡ lay (lay m r) s
+pub lay-merged : (m : List ℕ) (r s : Stored) → r.number ≡ s.number → lay m (merged r s) ≡ lay (lay m r) s
 lay-merged m r s e =
     same_number_lists _ _ (length_lay m (merged r s) ∙ sym (length_lay (lay m r) s ∙ length_lay m r))
     (λ i h.
@@ -84,15 +89,15 @@ lay-merged m r s e =
     ∙ sym (byte-lay (lay m r) s i (rw (length_lay m r) lt) ∙ ap (or_byte (given s i)) (byte-lay m r i lt)))
 
 -- of two words, at most one is that of an address
-given_apart : (r s : Stored) (i below : ℕ) → r.word ≢ s.word → or_byte (given s i) (or_byte (given r i) below) ≡ or_byte (given r i) (or_byte (given s i) below)
+given_apart : (r s : Stored) (i below : ℕ) → r.number ≢ s.number → or_byte (given s i) (or_byte (given r i) below) ≡ or_byte (given r i) (or_byte (given s i) below)
 given_apart r s i below ne =
-    elim (eqb_tells (i / 4) r.word) [
+    elim (eqb_tells (i / 4) r.number) [
       | inr h ↦ rw h.0 refl
-      | inl h ↦ let other : eqb (i / 4) s.word ≡ false = ne_eqb (i / 4) s.word (λ e. ne (sym h.1 ∙ e)) in rw other refl
+      | inl h ↦ let other : eqb (i / 4) s.number ≡ false = ne_eqb (i / 4) s.number (λ e. ne (sym h.1 ∙ e)) in rw other refl
     ]
 
 -- stores of two words, in either order
-pub lay-lay : (m : List ℕ) (r s : Stored) → r.word ≢ s.word → lay (lay m r) s ≡ lay (lay m s) r
+pub lay-lay : (m : List ℕ) (r s : Stored) → r.number ≢ s.number → lay (lay m r) s ≡ lay (lay m s) r
 lay-lay m r s ne =
     same_number_lists _ _ (length_lay (lay m r) s ∙ length_lay m r ∙ sym (length_lay (lay m s) r ∙ length_lay m s))
     (λ i h.
@@ -101,7 +106,7 @@ lay-lay m r s ne =
     ∙ given_apart r s i (slice_index m i) ne
     ∙ sym (byte-lay (lay m s) r i (rw (length_lay m s) lt) ∙ ap (or_byte (given r i)) (byte-lay m s i lt)))
 
-lay-lays_lacking : (m : List ℕ) (ws : List Stored) (s : Stored) → Lacks s.word ws → lay (lays m ws) s ≡ lays (lay m s) ws
+lay-lays_lacking : (m : List ℕ) (ws : List Stored) (s : Stored) → Lacks s.number ws → lay (lays m ws) s ≡ lays (lay m s) ws
 lay-lays_lacking m [] s lacks = refl
 lay-lays_lacking m (r ∷ rs) s lacks = lay-lays_lacking (lay m r) rs s lacks.1 ∙ ap (λ n. lays n rs) (lay-lay m r s lacks.0)
 
@@ -109,9 +114,9 @@ lay-lays_lacking m (r ∷ rs) s lacks = lay-lays_lacking (lay m r) rs s lacks.1 
 pub lays_put : (m : List ℕ) (ws : List Stored) (s : Stored) → Apart ws → lays m (put ws s) ≡ lay (lays m ws) s
 lays_put m [] s apart = refl
 lays_put m (r ∷ rs) s apart =
-    elim (eqb_tells r.word s.word) [
+    elim (eqb_tells r.number s.number) [
       | inl h ↦
-          let lacks : Lacks s.word rs = let P : ℕ → Type 0 = λ w. Lacks w rs in subst P h.1 apart.0 in
+          let lacks : Lacks s.number rs = let P : ℕ → Type 0 = λ w. Lacks w rs in subst P h.1 apart.0 in
           rw h.0 (ap (λ n. lays n rs) (lay-merged m r s h.1) ∙ sym (lay-lays_lacking (lay m r) rs s lacks))
       | inr h ↦ rw h.0 (lays_put (lay m r) rs s apart.1)
     ]

@@ -37,52 +37,52 @@ byte_there m a i (Some b) e lt = rw e (get_or-set_same m a b 0 lt)
 -- ---- the bytes of one store
 
 -- a store leaves the bytes of other words
-pub byte-lay_other : (m : List ℕ) (s : Stored) (i : ℕ) → i / 4 ≢ s.word → slice_index (lay m s) i ≡ slice_index m i
+pub byte-lay_other : (m : List ℕ) (s : Stored) (i : ℕ) → i / 4 ≢ s.number → slice_index (lay m s) i ≡ slice_index m i
 unfolding lay
 byte-lay_other m s i ne =
-    byte_elsewhere _ (4 * s.word + 3) i s.b3 (λ e. ne (omega arith))
-    ∙ byte_elsewhere _ (4 * s.word + 2) i s.b2 (λ e. ne (omega arith))
-    ∙ byte_elsewhere _ (4 * s.word + 1) i s.b1 (λ e. ne (omega arith))
-    ∙ byte_elsewhere m (4 * s.word) i s.b0 (λ e. ne (omega arith))
+    byte_elsewhere _ (4 * s.number + 3) i s.b3 (λ e. ne (omega arith))
+    ∙ byte_elsewhere _ (4 * s.number + 2) i s.b2 (λ e. ne (omega arith))
+    ∙ byte_elsewhere _ (4 * s.number + 1) i s.b1 (λ e. ne (omega arith))
+    ∙ byte_elsewhere m (4 * s.number) i s.b0 (λ e. ne (omega arith))
 
 -- of its own word it has the bytes
-byte0-lay : (m : List ℕ) (s : Stored) (i : ℕ) → i ≡ 4 * s.word → i < length m → slice_index (lay m s) i ≡ or_byte s.b0 (slice_index m i)
+byte0-lay : (m : List ℕ) (s : Stored) (i : ℕ) → i ≡ 4 * s.number → i < length m → slice_index (lay m s) i ≡ or_byte s.b0 (slice_index m i)
 unfolding lay
 byte0-lay m s i e lt =
-    byte_elsewhere _ (4 * s.word + 3) i s.b3 (λ h. omega arith)
-    ∙ byte_elsewhere _ (4 * s.word + 2) i s.b2 (λ h. omega arith)
-    ∙ byte_elsewhere _ (4 * s.word + 1) i s.b1 (λ h. omega arith)
-    ∙ byte_there m (4 * s.word) i s.b0 e (omega arith)
+    byte_elsewhere _ (4 * s.number + 3) i s.b3 (λ h. omega arith)
+    ∙ byte_elsewhere _ (4 * s.number + 2) i s.b2 (λ h. omega arith)
+    ∙ byte_elsewhere _ (4 * s.number + 1) i s.b1 (λ h. omega arith)
+    ∙ byte_there m (4 * s.number) i s.b0 e (omega arith)
 
-byte1-lay : (m : List ℕ) (s : Stored) (i : ℕ) → i ≡ 4 * s.word + 1 → i < length m → slice_index (lay m s) i ≡ or_byte s.b1 (slice_index m i)
+byte1-lay : (m : List ℕ) (s : Stored) (i : ℕ) → i ≡ 4 * s.number + 1 → i < length m → slice_index (lay m s) i ≡ or_byte s.b1 (slice_index m i)
 unfolding lay
 byte1-lay m s i e lt =
-    byte_elsewhere _ (4 * s.word + 3) i s.b3 (λ h. omega arith)
-    ∙ byte_elsewhere _ (4 * s.word + 2) i s.b2 (λ h. omega arith)
-    ∙ byte_there _ (4 * s.word + 1) i s.b1 e (simp length_with_byte (omega arith))
-    ∙ ap (or_byte s.b1) (byte_elsewhere m (4 * s.word) i s.b0 (λ h. omega arith))
+    byte_elsewhere _ (4 * s.number + 3) i s.b3 (λ h. omega arith)
+    ∙ byte_elsewhere _ (4 * s.number + 2) i s.b2 (λ h. omega arith)
+    ∙ byte_there _ (4 * s.number + 1) i s.b1 e (simp length_with_byte (omega arith))
+    ∙ ap (or_byte s.b1) (byte_elsewhere m (4 * s.number) i s.b0 (λ h. omega arith))
 
-byte2-lay : (m : List ℕ) (s : Stored) (i : ℕ) → i ≡ 4 * s.word + 2 → i < length m → slice_index (lay m s) i ≡ or_byte s.b2 (slice_index m i)
+byte2-lay : (m : List ℕ) (s : Stored) (i : ℕ) → i ≡ 4 * s.number + 2 → i < length m → slice_index (lay m s) i ≡ or_byte s.b2 (slice_index m i)
 unfolding lay
 byte2-lay m s i e lt =
-    byte_elsewhere _ (4 * s.word + 3) i s.b3 (λ h. omega arith)
-    ∙ byte_there _ (4 * s.word + 2) i s.b2 e (simp length_with_byte (omega arith))
-    ∙ ap (or_byte s.b2) (byte_elsewhere _ (4 * s.word + 1) i s.b1 (λ h. omega arith) ∙ byte_elsewhere m (4 * s.word) i s.b0 (λ h. omega arith))
+    byte_elsewhere _ (4 * s.number + 3) i s.b3 (λ h. omega arith)
+    ∙ byte_there _ (4 * s.number + 2) i s.b2 e (simp length_with_byte (omega arith))
+    ∙ ap (or_byte s.b2) (byte_elsewhere _ (4 * s.number + 1) i s.b1 (λ h. omega arith) ∙ byte_elsewhere m (4 * s.number) i s.b0 (λ h. omega arith))
 
-byte3-lay : (m : List ℕ) (s : Stored) (i : ℕ) → i ≡ 4 * s.word + 3 → i < length m → slice_index (lay m s) i ≡ or_byte s.b3 (slice_index m i)
+byte3-lay : (m : List ℕ) (s : Stored) (i : ℕ) → i ≡ 4 * s.number + 3 → i < length m → slice_index (lay m s) i ≡ or_byte s.b3 (slice_index m i)
 unfolding lay
 byte3-lay m s i e lt =
-    byte_there _ (4 * s.word + 3) i s.b3 e (simp length_with_byte (omega arith))
+    byte_there _ (4 * s.number + 3) i s.b3 e (simp length_with_byte (omega arith))
     ∙ ap (or_byte s.b3)
-    (byte_elsewhere _ (4 * s.word + 2) i s.b2 (λ h. omega arith)
-    ∙ byte_elsewhere _ (4 * s.word + 1) i s.b1 (λ h. omega arith)
-    ∙ byte_elsewhere m (4 * s.word) i s.b0 (λ h. omega arith))
+    (byte_elsewhere _ (4 * s.number + 2) i s.b2 (λ h. omega arith)
+    ∙ byte_elsewhere _ (4 * s.number + 1) i s.b1 (λ h. omega arith)
+    ∙ byte_elsewhere m (4 * s.number) i s.b0 (λ h. omega arith))
 
 -- what a store has for the byte of an address
 abbrev pub given : Stored → (addr : ℕ) → Option ℕ
-given s i = cond (eqb (i / 4) s.word) (cond (eqb (i % 4) 0) s.b0 (cond (eqb (i % 4) 1) s.b1 (cond (eqb (i % 4) 2) s.b2 s.b3))) None
+given s i = cond (eqb (i / 4) s.number) (cond (eqb (i % 4) 0) s.b0 (cond (eqb (i % 4) 1) s.b1 (cond (eqb (i % 4) 2) s.b2 s.b3))) None
 
-own_byte-lay : (m : List ℕ) (s : Stored) (i : ℕ) → i / 4 ≡ s.word → i < length m → slice_index (lay m s) i ≡ or_byte (cond (eqb (i % 4) 0) s.b0 (cond (eqb (i % 4) 1) s.b1 (cond (eqb (i % 4) 2) s.b2 s.b3))) (slice_index m i)
+own_byte-lay : (m : List ℕ) (s : Stored) (i : ℕ) → i / 4 ≡ s.number → i < length m → slice_index (lay m s) i ≡ or_byte (cond (eqb (i % 4) 0) s.b0 (cond (eqb (i % 4) 1) s.b1 (cond (eqb (i % 4) 2) s.b2 s.b3))) (slice_index m i)
 own_byte-lay m s i e lt =
     elim (eqb_tells (i % 4) 0) [
       | inl h0 ↦ rw h0.0 (byte0-lay m s i (omega arith) lt)
@@ -98,7 +98,7 @@ own_byte-lay m s i e lt =
 -- the byte of each address after a store
 pub byte-lay : (m : List ℕ) (s : Stored) (i : ℕ) → i < length m → slice_index (lay m s) i ≡ or_byte (given s i) (slice_index m i)
 byte-lay m s i lt =
-    elim (eqb_tells (i / 4) s.word) [
+    elim (eqb_tells (i / 4) s.number) [
       | inl h ↦ rw h.0 (own_byte-lay m s i h.1 lt)
       | inr h ↦ rw h.0 (byte-lay_other m s i h.1)
     ]
@@ -106,7 +106,7 @@ byte-lay m s i lt =
 -- ---- words
 
 -- a store changes no word but its own
-pub read_lay_other : (m : List ℕ) (s : Stored) (a : ℕ) → a ≢ s.word → read (lay m s) a ≡ read m a
+pub read_lay_other : (m : List ℕ) (s : Stored) (a : ℕ) → a ≢ s.number → read (lay m s) a ≡ read m a
 unfolding read
 read_lay_other m s a ne =
     rw (
@@ -128,7 +128,7 @@ pub IsBytesAt-bytes : (m : List ℕ) (a : ℕ) → IsBytes m → IsBytesAt m a
 IsBytesAt-bytes m a h = record { at0 = h.each _; at1 = h.each _; at2 = h.each _; at3 = h.each _ }
 
 -- a store leaves the bytes of any other word bytes
-pub IsBytesAt-lay_other : (m : List ℕ) (s : Stored) (a : ℕ) → a ≢ s.word → IsBytesAt m a → IsBytesAt (lay m s) a
+pub IsBytesAt-lay_other : (m : List ℕ) (s : Stored) (a : ℕ) → a ≢ s.number → IsBytesAt m a → IsBytesAt (lay m s) a
 IsBytesAt-lay_other m s a ne h =
     record {
       at0 = rw (byte-lay_other m s (4 * a) (λ e. ne (omega arith))) h.at0;
@@ -146,24 +146,24 @@ last_byte : (x y z w : ℕ) → x < 2 ^ 8 → y < 2 ^ 8 → z < 2 ^ 8 → w < 2 
 last_byte x y z w hx hy hz hw = omega arith
 
 -- a store's word inside memory reads as before the store, but for the bytes that the store has
-pub read_lay_at : (m : List ℕ) (s : Stored) → 4 * s.word + 3 < length m → IsBytesAt m s.word → read (lay m s) s.word ≡ word_over s (read m s.word)
+pub read_lay_at : (m : List ℕ) (s : Stored) → 4 * s.number + 3 < length m → IsBytesAt m s.number → read (lay m s) s.number ≡ word_over s (read m s.number)
 unfolding read word_over
 read_lay_at m s lt h =
-    let b = word_bytes (slice_index m (4 * s.word)) (slice_index m (4 * s.word + 1)) (slice_index m (4 * s.word + 2)) (slice_index m (4 * s.word + 3)) h.at0 h.at1 h.at2 in
-    let b3 = last_byte (slice_index m (4 * s.word)) (slice_index m (4 * s.word + 1)) (slice_index m (4 * s.word + 2)) (slice_index m (4 * s.word + 3)) h.at0 h.at1 h.at2 h.at3 in
+    let b = word_bytes (slice_index m (4 * s.number)) (slice_index m (4 * s.number + 1)) (slice_index m (4 * s.number + 2)) (slice_index m (4 * s.number + 3)) h.at0 h.at1 h.at2 in
+    let b3 = last_byte (slice_index m (4 * s.number)) (slice_index m (4 * s.number + 1)) (slice_index m (4 * s.number + 2)) (slice_index m (4 * s.number + 3)) h.at0 h.at1 h.at2 h.at3 in
     rw (
-      byte0-lay m s (4 * s.word) refl (omega arith),
-      byte1-lay m s (4 * s.word + 1) refl (omega arith),
-      byte2-lay m s (4 * s.word + 2) refl (omega arith),
-      byte3-lay m s (4 * s.word + 3) refl lt,
+      byte0-lay m s (4 * s.number) refl (omega arith),
+      byte1-lay m s (4 * s.number + 1) refl (omega arith),
+      byte2-lay m s (4 * s.number + 2) refl (omega arith),
+      byte3-lay m s (4 * s.number + 3) refl lt,
       b.0,
       b.1,
       b.2,
       b3,
     ) refl
 
-pub read_lay_same : (m : List ℕ) (s : Stored) → 4 * s.word + 3 < length m → IsBytes m → read (lay m s) s.word ≡ word_over s (read m s.word)
-read_lay_same m s lt h = read_lay_at m s lt (IsBytesAt-bytes m s.word h)
+pub read_lay_same : (m : List ℕ) (s : Stored) → 4 * s.number + 3 < length m → IsBytes m → read (lay m s) s.number ≡ word_over s (read m s.number)
+read_lay_same m s lt h = read_lay_at m s lt (IsBytesAt-bytes m s.number h)
 
 -- ---- bytes stay bytes
 
@@ -184,7 +184,7 @@ IsBytes-with_byte m a true b lt h = IsBytes-set m a b lt h
 IsBytes-with_byte m a false b lt h = h
 
 -- a memory's bytes are bytes still after a store of some bytes of a value
-pub IsBytes-lay : (m : List ℕ) (word mask value : ℕ) → IsBytes m → IsBytes (lay m (bytes_of word mask value))
+pub IsBytes-lay : (m : List ℕ) (number mask value : ℕ) → IsBytes m → IsBytes (lay m (bytes_of number mask value))
 unfolding lay bytes_of
 IsBytes-lay m w k v h =
     IsBytes-with_byte _ (4 * w + 3) _ (v / 2 ^ 24 % 2 ^ 8) (omega arith)

@@ -7,10 +7,10 @@ some_if true b = Some b
 some_if false b = None
 
 -- the store of these bytes of the value in that word
-unfoldable pub bytes_of : (word mask value : ℕ) → Stored
+unfoldable pub bytes_of : (number mask value : ℕ) → Stored
 bytes_of w m v =
     record {
-      word = w;
+      number = w;
       b0 = some_if (nat_eq (m % 2) 1) (v % 2 ^ 8);
       b1 = some_if (nat_eq (m / 2 % 2) 1) (v / 2 ^ 8 % 2 ^ 8);
       b2 = some_if (nat_eq (m / 4 % 2) 1) (v / 2 ^ 16 % 2 ^ 8);
@@ -37,6 +37,6 @@ word_over s w =
     + or_byte s.b3 (w / 2 ^ 24 % 2 ^ 8) * 2 ^ 24
 
 -- a word read through stores that lie over the memory, of which one at most is of it
-abbrev pub over : List Stored → (word below : ℕ) → ℕ
+abbrev pub over : List Stored → (number below : ℕ) → ℕ
 over [] a w = w
-over (s ∷ ss) a w = if nat_eq s.word a then word_over s w else over ss a w
+over (s ∷ ss) a w = if nat_eq s.number a then word_over s w else over ss a w

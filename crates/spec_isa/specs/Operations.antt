@@ -133,7 +133,7 @@ part size from v k = some_if (nat_le from k && nat_lt k (from + size)) (v / 2 ^ 
 
 abbrev pub stored : (size addr value : ℕ) → Stored
 stored size a v =
-    record { word = a / 4; b0 = part size (a % 4) v 0; b1 = part size (a % 4) v 1; b2 = part size (a % 4) v 2; b3 = part size (a % 4) v 3 }
+    record { number = a / 4; b0 = part size (a % 4) v 0; b1 = part size (a % 4) v 1; b2 = part size (a % 4) v 2; b3 = part size (a % 4) v 3 }
 
 abbrev pub reserves : Option ℕ → ℕ → Bool
 reserves None a = false

@@ -1,9 +1,9 @@
 -- Memory as a list of bytes, and words that are stored into it. A word goes by its number, a quarter of its address.
 use Rattle.std.specs.Prelude.{◌≢◌, ℕ, ◌+◌, ◌*◌, ◌/◌, ◌^◌, ◌<◌, Bool, true, false, List, [], ◌∷◌, Option, Some, None, if◌then◌else◌, nat_eq, nat_le, slice_set, slice_index}
 
--- bytes to be stored in word number `word`, the first at address 4 * word
+-- bytes to be stored in the word of that number, the first at address 4 * number
 pub record Stored : Type 0 where
-  pub word : ℕ
+  pub number : ℕ
   pub b0 : Option ℕ
   pub b1 : Option ℕ
   pub b2 : Option ℕ
@@ -17,7 +17,7 @@ with_byte m a (Some b) = slice_set m a b
 -- the memory after one store
 unfoldable pub lay : List ℕ → Stored → List ℕ
 lay m s =
-    with_byte (with_byte (with_byte (with_byte m (4 * s.word) s.b0) (4 * s.word + 1) s.b1) (4 * s.word + 2) s.b2) (4 * s.word + 3) s.b3
+    with_byte (with_byte (with_byte (with_byte m (4 * s.number) s.b0) (4 * s.number + 1) s.b1) (4 * s.number + 2) s.b2) (4 * s.number + 3) s.b3
 
 -- the memory with these stores laid over it, the first one first
 abbrev pub lays : List ℕ → List Stored → List ℕ
@@ -37,27 +37,27 @@ later old (Some b) = Some b
 -- two stores of one word, as one
 unfoldable pub merged : Stored → Stored → Stored
 merged r s =
-    record { word = r.word; b0 = later r.b0 s.b0; b1 = later r.b1 s.b1; b2 = later r.b2 s.b2; b3 = later r.b3 s.b3 }
+    record { number = r.number; b0 = later r.b0 s.b0; b1 = later r.b1 s.b1; b2 = later r.b2 s.b2; b3 = later r.b3 s.b3 }
 
 -- the words stored, each at the place of its first store, after one more
 abbrev pub put : List Stored → Stored → List Stored
 put [] s = s ∷ []
-put (r ∷ rs) s = if nat_eq r.word s.word then merged r s ∷ rs else r ∷ put rs s
+put (r ∷ rs) s = if nat_eq r.number s.number then merged r s ∷ rs else r ∷ put rs s
 
 -- whether the word is among those stored
 abbrev pub holds : List Stored → ℕ → Bool
 holds [] a = false
-holds (r ∷ rs) a = if nat_eq r.word a then true else holds rs a
+holds (r ∷ rs) a = if nat_eq r.number a then true else holds rs a
 
 -- no store is of this word
 abbrev pub Lacks : ℕ → List Stored → Type 0
 Lacks a [] = Unit {0}
-Lacks a (s ∷ ss) = (s.word ≢ a) × Lacks a ss
+Lacks a (s ∷ ss) = (s.number ≢ a) × Lacks a ss
 
 -- no two stores are of one word
 abbrev pub Apart : List Stored → Type 0
 Apart [] = Unit {0}
-Apart (s ∷ ss) = Lacks s.word ss × Apart ss
+Apart (s ∷ ss) = Lacks s.number ss × Apart ss
 
 -- the word in which the byte of that address lies is in a memory of that size
 abbrev pub is_inside : (size addr : ℕ) → Bool

@@ -71,9 +71,9 @@ size_in-whole = refl
 pub head-ordered : head races 2 (Some 1) (true ∷ true ∷ []) ≡ Some Dma
 head-ordered = refl
 
--- in picolog the turn goes on from the last thread, over ended ones and round to thread 0; a DMA has its slot
+-- in picolog the turn goes on from the last thread, over ended ones and round to thread 0; a DMA has its position
 abbrev in_turn : LogParts
-in_turn = record (plain_log Picolog 9 [] (Short [])) { dmas = record { slot = 4; bytes = 0x41 ∷ [] } ∷ [] }
+in_turn = record (plain_log Picolog 9 [] (Short [])) { dmas = record { position = 4; bytes = 0x41 ∷ [] } ∷ [] }
 
 pub head-first_turn : head in_turn 0 None (false ∷ true ∷ true ∷ []) ≡ Some (Thread 1)
 head-first_turn = refl
@@ -87,8 +87,8 @@ head-turn_goes_round = refl
 pub head-alone : head in_turn 3 (Some 1) (false ∷ true ∷ []) ≡ Some (Thread 1)
 head-alone = refl
 
-pub head-slot : head in_turn 4 (Some 1) (true ∷ true ∷ []) ≡ Some Dma
-head-slot = refl
+pub head-dma : head in_turn 4 (Some 1) (true ∷ true ∷ []) ≡ Some Dma
+head-dma = refl
 
 pub head-none_live : head in_turn 5 (Some 1) (false ∷ false ∷ []) ≡ None
 head-none_live = refl

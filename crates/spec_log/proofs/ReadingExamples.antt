@@ -18,7 +18,7 @@ full =
       sizes = Short (record { thread = 0; index = 0x01020304; size = 4096 } ∷ record { thread = 14; index = 0; size = 1 } ∷ []);
       interrupts = record { thread = 3; index = 7; value = 0xFFFFFFFF } ∷ record { thread = 3; index = 8; value = 0 } ∷ [];
       inputs = record { kind = 3; result = 2; bytes = 0x93 ∷ 8 ∷ [] } ∷ record { kind = 17; result = 0; bytes = [] } ∷ [];
-      dmas = record { slot = 1; bytes = 0x41 ∷ 0xFF ∷ [] } ∷ [];
+      dmas = record { position = 1; bytes = 0x41 ∷ 0xFF ∷ [] } ∷ [];
     }
 
 pub read_of-full : read_of (log_bytes full) ≡ Ok full

@@ -65,7 +65,7 @@ abbrev pub input_bytes : Input → List ℕ
 input_bytes input = u8 input.kind ++ u32 input.result ++ counted_bytes input.bytes
 
 abbrev pub dma_bytes : DmaRecord → List ℕ
-dma_bytes dma = u32 dma.slot ++ counted_bytes dma.bytes
+dma_bytes dma = u32 dma.position ++ counted_bytes dma.bytes
 
 -- the bytes of a whole log
 abbrev pub log_bytes : LogParts → List ℕ

@@ -23,18 +23,18 @@ turn None live = first_live live
 turn (Some last) live = option_or (next_live last live) (first_live live)
 
 -- whether a DMA is logged at this position
-abbrev pub is_slot : List DmaRecord → ℕ → Bool
-is_slot dmas position = list_any (λ dma. dma.slot == position) dmas
+abbrev pub is_dma_at : List DmaRecord → ℕ → Bool
+is_dma_at dmas position = list_any (λ dma. dma.position == position) dmas
 
--- without an order, a DMA at its slot, else the thread whose turn it is
+-- without an order, a DMA at its position, else the thread whose turn it is
 abbrev pub head_by_turn : Bool → Option ℕ → List Bool → Option Actor
-head_by_turn slot last live = if slot then Some Dma else option_map Thread (turn last live)
+head_by_turn dma last live = if dma then Some Dma else option_map Thread (turn last live)
 
 -- the actor of the commit at a position, by the thread that committed last and which threads are live
 abbrev pub head_in : ModeName → LogParts → ℕ → Option ℕ → List Bool → Option Actor
 head_in OrderSize log position last live = slice_get log.order position
 head_in OrderOnly log position last live = slice_get log.order position
-head_in Picolog log position last live = head_by_turn (is_slot log.dmas position) last live
+head_in Picolog log position last live = head_by_turn (is_dma_at log.dmas position) last live
 
 abbrev pub head : LogParts → ℕ → Option ℕ → List Bool → Option Actor
 head log position last live = head_in log.mode log position last live

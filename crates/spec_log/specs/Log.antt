@@ -77,10 +77,10 @@ AreInputs inputs = IsSection IsInput (λ x y. Unit {0}) inputs
 
 -- the data of DMAs stand by the indices of their commits
 abbrev pub IsDmaRecord : DmaRecord → Type 0
-IsDmaRecord dma = (dma.slot < 2 ^ 32) × AreFewBytes dma.bytes
+IsDmaRecord dma = (dma.position < 2 ^ 32) × AreFewBytes dma.bytes
 
 abbrev pub AreDmas : List DmaRecord → Type 0
-AreDmas dmas = IsSection IsDmaRecord (λ x y. x.slot < y.slot) dmas
+AreDmas dmas = IsSection IsDmaRecord (λ x y. x.position < y.position) dmas
 
 -- a standard chunk has 16 to 4,096 instructions
 abbrev pub IsChunkSize : ℕ → Type 0

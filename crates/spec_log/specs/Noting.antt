@@ -119,11 +119,11 @@ sizes_used order (Each sizes) done =
     list_all (λ thread. nat_le (length (sizes_of_thread thread order sizes)) (slice_index done thread)) (range_with_len 0 most_threads)
 sizes_used order (Short sizes) done = list_all (λ short. nat_lt short.index (slice_index done short.thread)) sizes
 
--- whose commit is kept at a position, told whether a DMA's slot is there, which thread committed last, and which are live
+-- whose commit is kept at a position, told whether a DMA commits there, which thread committed last, and which are live
 abbrev pub kept_head : ModeName → List Actor → ℕ → Bool → Option ℕ → List Bool → Option Actor
-kept_head OrderSize order position slot last live = slice_get order position
-kept_head OrderOnly order position slot last live = slice_get order position
-kept_head Picolog order position slot last live = head_by_turn slot last live
+kept_head OrderSize order position dma last live = slice_get order position
+kept_head OrderOnly order position dma last live = slice_get order position
+kept_head Picolog order position dma last live = head_by_turn dma last live
 
 -- the log of what is kept, with its records
 abbrev pub log_of : ModeName → Kept → List Interrupt → List Input → List DmaRecord → LogParts

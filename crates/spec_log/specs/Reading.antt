@@ -163,10 +163,10 @@ abbrev pub inputs_of : Reader (List Input)
 inputs_of = section_of (λ x y. true) input
 
 abbrev pub dma : Reader DmaRecord
-dma = read (any 4) (λ slot. read counted (λ content. gives (record { slot = slot; bytes = content })))
+dma = read (any 4) (λ position. read counted (λ content. gives (record { position = position; bytes = content })))
 
 abbrev pub dmas_of : Reader (List DmaRecord)
-dmas_of = section_of (λ x y. nat_lt x.slot y.slot) dma
+dmas_of = section_of (λ x y. nat_lt x.position y.position) dma
 
 abbrev pub mode_of : ℕ → ModeName
 mode_of code = if code == 0 then OrderSize else if code == 1 then OrderOnly else Picolog

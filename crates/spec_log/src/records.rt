@@ -15,6 +15,6 @@ pub struct Interrupt {
 /// What a DMA stored: the index of its commit, and its bytes.
 #[derive(Debug, Drop)]
 pub struct DmaRecord {
-    pub slot: u32,
+    pub position: u32,
     pub bytes: Bytes,
 }

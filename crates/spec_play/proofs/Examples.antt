@@ -73,7 +73,7 @@ no_handler_log =
 -- a DMA that nobody asked for
 abbrev no_request_log : LogParts
 no_request_log =
-    record { mode = ModeName.OrderSize; s = 100; count = 1; order = Actor.Dma ∷ []; sizes = Sizes.Each (0 ∷ []); interrupts = []; inputs = []; dmas = record { slot = 0; bytes = [] } ∷ [] }
+    record { mode = ModeName.OrderSize; s = 100; count = 1; order = Actor.Dma ∷ []; sizes = Sizes.Each (0 ∷ []); interrupts = []; inputs = []; dmas = record { position = 0; bytes = [] } ∷ [] }
 
 -- a size for a serial step
 abbrev size_of_serial_log : LogParts

@@ -28,7 +28,7 @@ grows-alike r =
       }) (dma_sizes r.kept.sizes 0 i);
       interrupt = λ k i value. refl;
       input = λ input. refl;
-      dma = λ slot bytes. refl;
+      dma = λ position bytes. refl;
     }
 
 -- read as a log, what a recorder keeps begins as a new log and grows as the log does

@@ -55,8 +55,8 @@ abbrev of_sizes : List ℕ → List Interrupt → LogParts
 of_sizes sizes interrupts =
     record { mode = ModeName.OrderSize; s = 100; count = length sizes; order = map (λ (n : ℕ). Actor.Thread 0) sizes; sizes = Sizes.Each sizes; interrupts = interrupts; inputs = []; dmas = [] }
 
-abbrev data_at : (slot : ℕ) → List ℕ → DmaRecord
-data_at slot bytes = record { slot = slot; bytes = bytes }
+abbrev data_at : (position : ℕ) → List ℕ → DmaRecord
+data_at position bytes = record { position = position; bytes = bytes }
 
 abbrev interrupt_after : (commits : ℕ) → Interrupt
 interrupt_after n = record { thread = 0; index = n; value = 5 }

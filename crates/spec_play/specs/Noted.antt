@@ -39,8 +39,8 @@ interrupt_kept k i value r =
 abbrev pub input_kept : Input → Recorded → Recorded
 input_kept input r = record r { inputs = r.inputs ++ input ∷ [] }
 
-abbrev pub data_kept : (slot : ℕ) → (bytes : List ℕ) → Recorded → Recorded
-data_kept slot bytes r = record r { dmas = r.dmas ++ record { slot = slot; bytes = bytes } ∷ [] }
+abbrev pub data_kept : (position : ℕ) → (bytes : List ℕ) → Recorded → Recorded
+data_kept position bytes r = record r { dmas = r.dmas ++ record { position = position; bytes = bytes } ∷ [] }
 
 -- the log grows as what is kept does
 pub record GrowsAlike (r : Recorded) : Type 0 where
@@ -53,8 +53,8 @@ pub record GrowsAlike (r : Recorded) : Type 0 where
   pub interrupt : (k i value : ℕ)
       → as_log (interrupt_kept k i value r) ≡ interrupt_noted k i value (as_log r)
   pub input : (input : Input) → as_log (input_kept input r) ≡ input_noted (Some input) (as_log r)
-  pub dma : (slot : ℕ) (bytes : List ℕ)
-      → as_log (data_kept slot bytes r) ≡ dma_noted slot bytes (as_log r)
+  pub dma : (position : ℕ) (bytes : List ℕ)
+      → as_log (data_kept position bytes r) ≡ dma_noted position bytes (as_log r)
 
 pub record RecordersKeepLogs : Type 0 where
   pub first : (mode : ModeName) (s : ℕ) → as_log (nothing_recorded mode s) ≡ new_log mode s

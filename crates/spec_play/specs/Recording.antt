@@ -40,9 +40,9 @@ abbrev pub input_noted : Option Input → LogParts → LogParts
 input_noted None log = log
 input_noted (Some r) log = record log { inputs = log.inputs ++ r ∷ [] }
 
--- the slot is the index of the DMA's commit
-abbrev pub dma_noted : (slot : ℕ) → (bytes : List ℕ) → LogParts → LogParts
-dma_noted slot bytes log = record log { dmas = log.dmas ++ record { slot = slot; bytes = bytes } ∷ [] }
+-- the position is the index of the DMA's commit
+abbrev pub dma_noted : (position : ℕ) → (bytes : List ℕ) → LogParts → LogParts
+dma_noted position bytes log = record log { dmas = log.dmas ++ record { position = position; bytes = bytes } ∷ [] }
 
 -- a thread took an interrupt after so many of its commits
 abbrev pub interrupt_noted : (thread commits value : ℕ) → LogParts → LogParts

@@ -18,7 +18,7 @@ pub data DmaVerdict : Type 0 where
 
 -- the record is for this commit, and no longer than the request
 abbrev pub is_for : (index : ℕ) → Request → DmaRecord → Bool
-is_for i request dma = nat_eq dma.slot i && nat_le (length dma.bytes) request.len
+is_for i request dma = nat_eq dma.position i && nat_le (length dma.bytes) request.len
 
 -- the request and the next record must fit
 abbrev pub transferred : (index : ℕ) → Option Request → Option DmaRecord → DmaVerdict

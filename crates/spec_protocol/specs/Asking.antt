@@ -13,7 +13,7 @@ use Rattle.spec_engine.specs.Asking.{ask, ask_serial}
 use Rattle.spec_protocol.specs.declared.reply.Reply.{Reply}
 use Rattle.spec_protocol.specs.Spheres.{Role, is_stopped, head_of, is_in_pieces}
 use Rattle.spec_protocol.specs.Commits.{CommitOutcome, Granted, Piece, Diverged, MovedSphere, is_piece, chunk_moved, serial_moved}
-use Rattle.spec_protocol.specs.World.{World, Held, moment, sphere_at, with_sphere, with_core, held_afresh, flown, What, OfChunk, OfSerial, Move, After, answered}
+use Rattle.spec_protocol.specs.World.{World, Occupant, moment, sphere_at, with_sphere, with_core, held_afresh, flown, What, OfChunk, OfSerial, Move, After, answered}
 
 -- ---- a granted request
 
@@ -75,7 +75,7 @@ is_short s How.Serial limit = false
 is_short s How.Overflow limit = true
 is_short s How.Cut limit = true
 
-abbrev pub chunk_request : World → Held → How → CommitRequest
+abbrev pub chunk_request : World → Occupant → How → CommitRequest
 chunk_request w h how =
     let ch = h.chunk in
     record {
@@ -87,7 +87,7 @@ chunk_request w h how =
       short = is_short w.numbers.chunk how ch.limit;
     }
 
-unfoldable pub grant_chunk : World → (core : ℕ) → Held → How → After
+unfoldable pub grant_chunk : World → (core : ℕ) → Occupant → How → After
 grant_chunk w c h how =
     let q = chunk_request w h how in
     let v = chunk_moved h.thread (is_piece how) q.short h.chunk.done w.devices (sphere_at w h.chunk.sphere) in
@@ -99,7 +99,7 @@ unless_denied (Asked.Denied k) w a = answered w (Reply.Denied k)
 
 -- ---- a serial step
 
-abbrev pub serial_request : Held → CommitRequest
+abbrev pub serial_request : Occupant → CommitRequest
 serial_request h =
     record {
       sphere = h.chunk.sphere;
@@ -111,7 +111,7 @@ serial_request h =
     }
 
 -- the thread has run nothing since its last commit
-unfoldable pub grant_serial : World → (core : ℕ) → Held → After
+unfoldable pub grant_serial : World → (core : ℕ) → Occupant → After
 grant_serial w c h =
     let i = h.chunk.sphere in
     let v = serial_moved h.thread (moment w) h.chunk.start w.devices (sphere_at w i) in
@@ -127,7 +127,7 @@ unless_busy (AskedSerial.SphereBusy k) w a = answered w (Reply.SphereBusy k)
 abbrev pub asks_serial : Chunk → Role → Bool
 asks_serial ch role = is_empty_serial ch && not (is_in_pieces role)
 
-abbrev pub ask_arbiter : World → (core : ℕ) → Held → How → (serial : Bool) → After
+abbrev pub ask_arbiter : World → (core : ℕ) → Occupant → How → (serial : Bool) → After
 ask_arbiter w c h how true = unless_busy (ask_serial h.chunk.sphere w.slots) w (grant_serial w c h)
 ask_arbiter w c h how false = unless_denied (ask h.chunk.reads h.chunk.writes w.slots) w (grant_chunk w c h how)
 
@@ -141,7 +141,7 @@ abbrev pub unless_turn : Option Actor → World → After → After
 unless_turn None w a = a
 unless_turn (Some actor) w a = answered w (Reply.NotTurn actor)
 
-abbrev pub ask_closed : World → (core : ℕ) → Held → Option How → After
+abbrev pub ask_closed : World → (core : ℕ) → Occupant → Option How → After
 ask_closed w c h None = answered w Reply.NotClosed
 ask_closed w c h (Some how) =
     let p = sphere_at w h.chunk.sphere in
@@ -150,7 +150,7 @@ ask_closed w c h (Some how) =
     (if is_full w.slots then answered w Reply.WindowFull
     else ask_arbiter w c h how (asks_serial h.chunk p.role))
 
-abbrev pub ask_held : World → (core : ℕ) → Option Held → After
+abbrev pub ask_held : World → (core : ℕ) → Option Occupant → After
 ask_held w c None = answered w Reply.Idle
 ask_held w c (Some h) = ask_closed w c h h.chunk.closed
 

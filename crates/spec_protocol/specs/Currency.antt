@@ -25,7 +25,7 @@ abbrev pub RunTouches : (seen : ℕ → Bool) → List ℕ → Parts → (n : �
 RunTouches seen m t n = (i : ℕ) → i < n → Touches seen (run m t i).thread (lays m (run m t i).words)
 
 -- whether a chunk's reads cover a word
-abbrev pub seen_by : Chunk → (word : ℕ) → Bool
+abbrev pub seen_by : Chunk → (number : ℕ) → Bool
 seen_by ch a = covers ch.reads (line ch.sphere a)
 
 -- ---- a current chunk
@@ -36,7 +36,7 @@ pub record StoresAnew (t : Parts) (m : List ℕ) (ws : List Stored) : Type 0 whe
   pub load : Option Load
   pub store : Stored
   pub next : one t m ≡ Next thread load (Some store)
-  pub new : holds ws store.word ≡ false
+  pub new : holds ws store.number ≡ false
 
 -- on this memory the chunk's instructions, from its start, give what it has, and its reads cover what they fetch and load.
 -- Where it was closed before a serial instruction, or before one whose store finds no room, they cover that one's too, and
@@ -63,4 +63,4 @@ pub record IsQuiet (slots : List (Option Flight)) (i c : ℕ) (reads : Marks) : 
 -- no store of the first list is of a word of the second
 abbrev pub AllLack : List Stored → List Stored → Type 0
 AllLack [] ys = Unit {0}
-AllLack (x ∷ xs) ys = Lacks x.word ys × AllLack xs ys
+AllLack (x ∷ xs) ys = Lacks x.number ys × AllLack xs ys

@@ -7,7 +7,7 @@ use Rattle.spec_engine.specs.Flights.{Flight, at, first_slot, told_at}
 use Rattle.spec_engine.specs.Chunks.{is_open}
 use Rattle.spec_protocol.specs.declared.event.Event.{Event}
 use Rattle.spec_protocol.specs.Spheres.{Role, Plain, Record, Replay, Sphere, actor_of}
-use Rattle.spec_protocol.specs.World.{World, Held, core_of}
+use Rattle.spec_protocol.specs.World.{World, Occupant, core_of}
 use Rattle.spec_protocol.specs.Machine.{Setup, world_of, happens, world_after}
 
 -- ---- a standing flight
@@ -51,7 +51,7 @@ abbrev pub least : (i : ℕ) → List Sphere → Option Who
 least i [] = None
 least i (p ∷ ps) = who_of i p.role (least (suc i) ps)
 
-abbrev pub for_held : (core : ℕ) → Option Held → Option Event
+abbrev pub for_held : (core : ℕ) → Option Occupant → Option Event
 for_held c None = None
 for_held c (Some h) = Some (if is_open h.chunk then Event.Step c else Event.Ask c)
 

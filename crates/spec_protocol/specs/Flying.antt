@@ -7,7 +7,7 @@ use Rattle.spec_engine.specs.Signatures.{Marks, nothing}
 use Rattle.spec_engine.specs.Flights.{Flight, at, drain, deliver, retire}
 use Rattle.spec_engine.specs.Chunks.{squash}
 use Rattle.spec_protocol.specs.declared.reply.Reply.{Reply}
-use Rattle.spec_protocol.specs.World.{World, Held, sphere_at, with_memory, with_core, with_slot, After, answered}
+use Rattle.spec_protocol.specs.World.{World, Occupant, sphere_at, with_memory, with_core, with_slot, After, answered}
 
 -- ---- Drain
 
@@ -29,25 +29,25 @@ draining w k = drain_slot w k (at w.slots k)
 -- ---- Deliver
 
 -- an idle core has read and stored nothing
-abbrev pub reads_of : World → Option Held → Marks
+abbrev pub reads_of : World → Option Occupant → Marks
 reads_of w None = nothing w.numbers.signature
 reads_of w (Some h) = h.chunk.reads
 
-abbrev pub writes_of : World → Option Held → Marks
+abbrev pub writes_of : World → Option Occupant → Marks
 writes_of w None = nothing w.numbers.signature
 writes_of w (Some h) = h.chunk.writes
 
-abbrev pub squashed : Option Held → Option Held
+abbrev pub squashed : Option Occupant → Option Occupant
 squashed None = None
 squashed (Some h) = Some (record h { chunk = squash h.chunk })
 
-abbrev pub told : World → (core : ℕ) → Option Held → Deliver → After
+abbrev pub told : World → (core : ℕ) → Option Occupant → Deliver → After
 told w c held Deliver.NoCommit = answered w Reply.NoCommit
 told w c held Deliver.Already = answered w Reply.Already
 told w c held Deliver.Squashed = answered (with_core w c (squashed held)) Reply.Squashed
 told w c held Deliver.Delivered = answered w Reply.Delivered
 
-abbrev pub deliver_to : World → (core slot : ℕ) → Option Held → After
+abbrev pub deliver_to : World → (core slot : ℕ) → Option Occupant → After
 deliver_to w c k held =
     let d = deliver c (reads_of w held) (writes_of w held) (at w.slots k) in
     told (with_slot w k d.slot) c held d.reply

@@ -9,7 +9,7 @@ use Rattle.spec_engine.specs.Chunks.{Chunk}
 use Rattle.spec_engine.specs.Laws.{CoversWords, CoversLoads}
 use Rattle.spec_protocol.specs.Spheres.{Role, is_stopped, limit_of, halves}
 use Rattle.spec_protocol.specs.Placing.{replays}
-use Rattle.spec_protocol.specs.World.{Held, World, sphere_at}
+use Rattle.spec_protocol.specs.World.{Occupant, World, sphere_at}
 use Rattle.spec_protocol.specs.Shown.{flying}
 use Rattle.spec_protocol.specs.Currency.{IsCurrent, IsQuiet}
 
@@ -59,7 +59,7 @@ pub record LimitFits (s : ℕ) (role : Role) (k : ℕ) (t : Parts) (limit : ℕ)
   pub replayed : replays role ≡ true → limit ≡ limit_of s role k t
 
 -- core c holds a live thread of a sphere that there is, and its chunk began from the thread's state
-pub record IsGoodHeld (w : World) (c : ℕ) (h : Held) : Type 0 where
+pub record IsGoodHeld (w : World) (c : ℕ) (h : Occupant) : Type 0 where
   pub sphere : h.chunk.sphere < length w.spheres
   pub start : slice_get (sphere_at w h.chunk.sphere).threads h.thread ≡ Some h.chunk.start
   pub lives : is_live h.chunk.start ≡ true
@@ -72,9 +72,9 @@ pub record IsGoodHeld (w : World) (c : ℕ) (h : Held) : Type 0 where
       (current w h.chunk.sphere) h.chunk
 
 -- a thread is on one core at most
-abbrev pub IsAlone : List (Option Held) → Type 0
+abbrev pub IsAlone : List (Option Occupant) → Type 0
 IsAlone cores =
-    (c d : ℕ) (h g : Held)
+    (c d : ℕ) (h g : Occupant)
     → at cores c ≡ Some h
     → at cores d ≡ Some g
     → h.chunk.sphere ≡ g.chunk.sphere
@@ -90,5 +90,5 @@ pub record IsGood (w : World) : Type 0 where
   pub apart : (i : ℕ) → Apart (flying i w.slots)
   pub covered : AreCovered w.numbers.signature w.slots
   pub flights : (k : ℕ) (f : Flight) → at w.slots k ≡ Some f → f.sphere < length w.spheres
-  pub held : (c : ℕ) (h : Held) → at w.cores c ≡ Some h → IsGoodHeld w c h
+  pub held : (c : ℕ) (h : Occupant) → at w.cores c ≡ Some h → IsGoodHeld w c h
   pub alone : IsAlone w.cores

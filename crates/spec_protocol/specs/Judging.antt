@@ -14,7 +14,7 @@ use Rattle.spec_log.specs.declared.ShortSize.{ShortSize}
 use Rattle.spec_log.specs.declared.Sizes.{Sizes}
 use Rattle.spec_log.specs.declared.LogParts.{LogParts}
 use Rattle.spec_log.specs.Log.{IsLog}
-use Rattle.spec_log.specs.Head.{is_slot, head}
+use Rattle.spec_log.specs.Head.{is_dma_at, head}
 use Rattle.spec_log.specs.Size.{size_in}
 use Rattle.spec_log.specs.Noting.{Kept, kept_size, limit_by, sizes_used, kept_head, log_of}
 use Rattle.spec_kernel.specs.Interrupts.{takes_interrupt}
@@ -54,7 +54,7 @@ ChunksAreJudged =
 pub record IsLogged (mode : ModeName) (kept : Kept) (log : LogParts) : Type 0 where
   pub size : (actor : Actor) (i : ℕ) → size_in log actor i ≡ kept_size kept actor i
   pub head : (i : ℕ) (last : Option ℕ) (live : List Bool)
-      → head log i last live ≡ kept_head mode kept.order i (is_slot log.dmas i) last live
+      → head log i last live ≡ kept_head mode kept.order i (is_dma_at log.dmas i) last live
 
 -- so has the log of what is kept, whatever its records
 abbrev pub KeptIsLogged : Type 0

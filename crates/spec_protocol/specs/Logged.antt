@@ -123,7 +123,7 @@ inputs_of cs = flat_map (λ c. listed c.input) cs
 
 -- the data of a DMA, with the place of its commit
 abbrev pub data_at : (commits : ℕ) → Point → (bytes : List ℕ) → List DmaRecord
-data_at n (Point.Commit moment i Actor.Dma kind size short) bytes = record { slot = n; bytes = bytes } ∷ []
+data_at n (Point.Commit moment i Actor.Dma kind size short) bytes = record { position = n; bytes = bytes } ∷ []
 data_at n (Point.Commit moment i (Actor.Thread k) kind size short) bytes = []
 data_at n (Point.Raise moment i k value) bytes = []
 

@@ -14,7 +14,7 @@ use Rattle.spec_protocol.specs.declared.event.Event.{Event}
 use Rattle.spec_protocol.specs.declared.reply.Reply.{Reply}
 use Rattle.spec_protocol.specs.Spheres.{Role, Plain, Record, Replay, Sphere}
 use Rattle.spec_protocol.specs.Commits.{turned}
-use Rattle.spec_protocol.specs.World.{Numbers, Held, World, held_afresh, After, Move}
+use Rattle.spec_protocol.specs.World.{Numbers, Occupant, World, held_afresh, After, Move}
 use Rattle.spec_protocol.specs.Stepping.{stepping, cutting}
 use Rattle.spec_protocol.specs.Asking.{asking}
 use Rattle.spec_protocol.specs.Flying.{draining, delivering, retiring}
@@ -60,7 +60,7 @@ sphere_of s setup =
     }
 
 -- so many cores from sphere i on: each holds thread 0 of its own sphere, or is idle where there is none
-abbrev pub first_cores : Numbers → (i : ℕ) → (cores : ℕ) → List Sphere → List (Option Held)
+abbrev pub first_cores : Numbers → (i : ℕ) → (cores : ℕ) → List Sphere → List (Option Occupant)
 first_cores z i zero ps = []
 first_cores z i (suc n) [] = None ∷ first_cores z (suc i) n []
 first_cores z i (suc n) (p ∷ ps) = held_afresh z i 0 p ∷ first_cores z (suc i) n ps

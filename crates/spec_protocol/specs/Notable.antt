@@ -13,13 +13,13 @@ use Rattle.spec_engine.specs.Flights.{at}
 use Rattle.spec_protocol.specs.Spheres.{Sphere}
 use Rattle.spec_protocol.specs.Asking.{is_short}
 use Rattle.spec_protocol.specs.Placing.{replays}
-use Rattle.spec_protocol.specs.World.{Held, World, moment, sphere_at}
+use Rattle.spec_protocol.specs.World.{Occupant, World, moment, sphere_at}
 use Rattle.spec_protocol.specs.Machine.{Setup}
 use Rattle.spec_protocol.specs.Invariants.{IsGood}
 use Rattle.spec_protocol.specs.Sound.{IsWithinLimits, IsSound}
 
 -- a chunk that was closed so: it is no larger than a standard chunk, and over 0 where it is short
-pub record IsNotable (s : ℕ) (h : Held) (how : How) : Type 0 where
+pub record IsNotable (s : ℕ) (h : Occupant) (how : How) : Type 0 where
   pub size : h.chunk.done.n ≤ s
   pub over : is_short s how h.chunk.limit ≡ true → 1 ≤ h.chunk.done.n
 
@@ -40,14 +40,14 @@ pub record FitsLog (now : ℕ) (d : Devices) (p : Sphere) : Type 0 where
       → AreFewBytes (dma_bytes d request)
 
 -- core c holds h, which was closed so, of a plain or recorded sphere
-pub record IsClosed (w : World) (c : ℕ) (h : Held) (how : How) : Type 0 where
+pub record IsClosed (w : World) (c : ℕ) (h : Occupant) (how : How) : Type 0 where
   pub is : at w.cores c ≡ Some h
   pub closed : h.chunk.closed ≡ Some how
   pub live : replays (sphere_at w h.chunk.sphere).role ≡ false
 
 pub record FitsLogs (w : World) : Type 0 where
   pub spheres : (i : ℕ) → FitsLog (moment w) w.devices (sphere_at w i)
-  pub chunks : (c : ℕ) (h : Held) (how : How) → IsClosed w c h how → IsNotable w.numbers.chunk h how
+  pub chunks : (c : ℕ) (h : Occupant) (how : How) → IsClosed w c h how → IsNotable w.numbers.chunk h how
 
 abbrev pub NotesFitLogs : Type 0
 NotesFitLogs = (s : Setup) (w : World) → IsWithinLimits s → IsGood w → IsSound s w → FitsLogs w

@@ -12,7 +12,7 @@ use Rattle.spec_protocol.specs.declared.event.Event.{Event}
 use Rattle.spec_protocol.specs.declared.reply.Reply.{Reply}
 use Rattle.spec_protocol.specs.Spheres.{Role, Plain, Record, Replay}
 use Rattle.spec_protocol.specs.Placing.{replays}
-use Rattle.spec_protocol.specs.World.{Held, World, moment, sphere_at}
+use Rattle.spec_protocol.specs.World.{Occupant, World, moment, sphere_at}
 use Rattle.spec_protocol.specs.Machine.{Setup, name_of, core_no, with_point, happens}
 use Rattle.spec_protocol.specs.Currency.{AllLack}
 use Rattle.spec_protocol.specs.Promises.{IsSetup, after}
@@ -81,7 +81,7 @@ IsInTurns (Record log) = log.mode ≡ ModeName.Picolog
 IsInTurns (Replay b) = ⊥
 
 -- core c holds a closed chunk of a plain or recorded sphere, and no flight stands
-pub record CanAsk (w : World) (c : ℕ) (h : Held) (how : How) : Type 0 where
+pub record CanAsk (w : World) (c : ℕ) (h : Occupant) (how : How) : Type 0 where
   pub there : at w.cores (core_no w c) ≡ Some h
   pub closed : h.chunk.closed ≡ Some how
   pub live : replays (sphere_at w h.chunk.sphere).role ≡ false
@@ -95,7 +95,7 @@ IsGranted reply role =
 abbrev pub AsksAreGranted : Type 0
 AsksAreGranted =
     (s : Setup) (es : List Event) → IsSetup s → 0 < s.window
-    → let w = after s es in (c : ℕ) (h : Held) (how : How) → CanAsk w c h how
+    → let w = after s es in (c : ℕ) (h : Occupant) (how : How) → CanAsk w c h how
     → IsGranted (happens w (Event.Ask c)).reply (sphere_at w h.chunk.sphere).role
 
 -- no load is of a word among these
@@ -104,7 +104,7 @@ LoadsLack [] ws = Unit {0}
 LoadsLack (l ∷ ls) ws = Lacks (l.addr / 4) ws × LoadsLack ls ws
 
 -- no word that the chunk stored or loaded is left in the flight
-pub record IsClearOf (h : Held) (f : Flight) : Type 0 where
+pub record IsClearOf (h : Occupant) (f : Flight) : Type 0 where
   pub stores : AllLack h.chunk.done.words f.words
   pub loads : LoadsLack h.chunk.done.loads f.words
 
@@ -112,6 +112,6 @@ pub record IsClearOf (h : Held) (f : Flight) : Type 0 where
 abbrev pub GrantsAreClear : Type 0
 GrantsAreClear =
     (s : Setup) (es : List Event) → IsSetup s
-    → let w = after s es in (c : ℕ) (h : Held) → at w.cores (core_no w c) ≡ Some h
+    → let w = after s es in (c : ℕ) (h : Occupant) → at w.cores (core_no w c) ≡ Some h
     → makes_point (happens w (Event.Ask c)).reply ≡ true
     → (k : ℕ) (f : Flight) → at w.slots k ≡ Some f → f.sphere ≡ h.chunk.sphere → IsClearOf h f

@@ -21,7 +21,7 @@ use Rattle.spec_engine.specs.Flights.{Flight, AreInside, at}
 use Rattle.spec_engine.specs.Chunks.{Chunk}
 use Rattle.spec_protocol.specs.declared.event.Event.{Event}
 use Rattle.spec_protocol.specs.Spheres.{Cursor, Role, Plain, Record, Replay, Sphere, is_over, actor_of, whole_limit}
-use Rattle.spec_protocol.specs.World.{Held, World, moment, sphere_at}
+use Rattle.spec_protocol.specs.World.{Occupant, World, moment, sphere_at}
 use Rattle.spec_protocol.specs.Machine.{RoleSetup, IsPlain, IsRecorded, IsReplayed, SphereSetup, Setup, happens}
 use Rattle.spec_protocol.specs.Promises.{AreSizesKept, after}
 use Rattle.spec_protocol.specs.Invariants.{IsGood}
@@ -255,7 +255,7 @@ pub record IsSound (s : Setup) (w : World) : Type 0 where
   pub flights : (k : ℕ) (f : Flight)
       → at w.slots k ≡ Some f
       → AreSoundWords (size_of s f.sphere) f.words
-  pub held : (c : ℕ) (h : Held)
+  pub held : (c : ℕ) (h : Occupant)
       → at w.cores c ≡ Some h
       → IsSoundChunk s.numbers.buffer (size_of s h.chunk.sphere) h.chunk
 

@@ -20,7 +20,7 @@ pub record Numbers : Type 0 where
   pub signature : ℕ
 
 -- what a core holds that isn't idle: a thread of the chunk's sphere, by its number, and its running chunk
-pub record Held : Type 0 where
+pub record Occupant : Type 0 where
   pub thread : ℕ
   pub chunk : Chunk
 
@@ -29,7 +29,7 @@ pub record World : Type 0 where
   pub spheres : List Sphere
   -- as many slots as the window has, and the cores
   pub slots : List (Option Flight)
-  pub cores : List (Option Held)
+  pub cores : List (Option Occupant)
   pub devices : Devices
   -- how many events there were, and their replies; and the serialisation points that they made
   pub counts : Counts
@@ -50,7 +50,7 @@ with_sphere w i p = record w { spheres = slice_set w.spheres i p }
 abbrev pub with_memory : World → ℕ → List ℕ → World
 with_memory w i m = with_sphere w i (record (sphere_at w i) { memory = m })
 
-abbrev pub with_core : World → ℕ → Option Held → World
+abbrev pub with_core : World → ℕ → Option Occupant → World
 with_core w c held = record w { cores = slice_set w.cores c held }
 
 abbrev pub with_slot : World → ℕ → Option Flight → World
@@ -59,18 +59,18 @@ with_slot w k slot = record w { slots = slice_set w.slots k slot }
 -- ---- threads on cores
 
 -- a chunk of thread k of sphere i, which is p, with a fresh limit; none where the thread isn't live
-abbrev pub thread_afresh : Numbers → (i thread : ℕ) → Sphere → Option Parts → Option Held
+abbrev pub thread_afresh : Numbers → (i thread : ℕ) → Sphere → Option Parts → Option Occupant
 thread_afresh z i k p None = None
 thread_afresh z i k p (Some t) =
     if is_live t
     then Some (record { thread = k; chunk = fresh z.signature i t (limit_of z.chunk p.role k t) (halves p.role) })
     else None
 
-abbrev pub held_afresh : Numbers → (i thread : ℕ) → Sphere → Option Held
+abbrev pub held_afresh : Numbers → (i thread : ℕ) → Sphere → Option Occupant
 held_afresh z i k p = thread_afresh z i k p (slice_get p.threads k)
 
 -- whether a core runs thread k of sphere i
-abbrev pub runs : (i thread : ℕ) → Held → Bool
+abbrev pub runs : (i thread : ℕ) → Occupant → Bool
 runs i k h = nat_eq h.chunk.sphere i && nat_eq h.thread k
 
 -- the core that does

@@ -23,7 +23,7 @@ use Rattle.spec_engine.specs.Chunks.{fresh}
 use Rattle.spec_protocol.specs.declared.event.Event.{Event}
 use Rattle.spec_protocol.specs.Spheres.{Cursor, Role, Plain, Record, Replay, Sphere, no_sphere, limit_of, halves}
 use Rattle.spec_protocol.specs.Commits.{MovedSphere, granted_as, by_verdict, joined, replayed_chunk, chunk_in, chunk_moved, serial_in, serial_moved, live_dma, dma_log, dma_by_verdict, dma_in, dma_moved, role_raised, raised}
-use Rattle.spec_protocol.specs.World.{Numbers, Held, World, After, moment, sphere_at, with_sphere, thread_afresh, core_of}
+use Rattle.spec_protocol.specs.World.{Numbers, Occupant, World, After, moment, sphere_at, with_sphere, thread_afresh, core_of}
 use Rattle.spec_protocol.specs.Flying.{drain_slot, reads_of, writes_of, told, delivering, retiring}
 use Rattle.spec_protocol.specs.Placing.{replays, with_renewed, raise_in}
 use Rattle.spec_protocol.specs.Machine.{SphereSetup, Setup, sphere_of, world_of, act, happens, world_after}
@@ -168,7 +168,7 @@ AreNew ps = (i : ℕ) → IsNew (get_or ps i no_sphere)
 -- no chunk is closed yet
 record HasBegun (w : World) : Type 0 where
   spheres : AreNew w.spheres
-  cores : (c : ℕ) (h : Held) → at w.cores c ≡ Some h → h.chunk.closed ≡ None
+  cores : (c : ℕ) (h : Occupant) → at w.cores c ≡ Some h → h.chunk.closed ≡ None
 
 new-set : (ps : List Sphere) (i : ℕ) (q : Sphere) → IsNew q → AreNew ps → AreNew (set ps i q)
 new-set [] i q new old j = old j
@@ -186,7 +186,7 @@ drain-then w k f new =
     let p = sphere_at w f.sphere in
     new-set w.spheres f.sphere (record p { memory = (drain p.memory (Some f)).memory }) (new f.sphere) new
 
-told-then : (w : World) (c : ℕ) (o : Option Held) (d : Deliver) → AreNew w.spheres → Then (told w c o d)
+told-then : (w : World) (c : ℕ) (o : Option Occupant) (d : Deliver) → AreNew w.spheres → Then (told w c o d)
 told-then w c o Deliver.NoCommit new = new
 told-then w c o Deliver.Already new = new
 told-then w c o Deliver.Squashed new = new
@@ -265,12 +265,12 @@ start-new s [] i live = refl
 start-new s (d ∷ ds) zero live = refl
 start-new s (d ∷ ds) (suc i) live = start-new s ds i live
 
-afresh-open : (z : Numbers) (i k : ℕ) (p : Sphere) (o : Option Parts) (h : Held) → thread_afresh z i k p o ≡ Some h → h.chunk.closed ≡ None
+afresh-open : (z : Numbers) (i k : ℕ) (p : Sphere) (o : Option Parts) (h : Occupant) → thread_afresh z i k p o ≡ Some h → h.chunk.closed ≡ None
 afresh-open z i k p None h e = absurd (none-some h e)
 afresh-open z i k p (Some t) h e =
-    let new : Held = record { thread = k; chunk = fresh z.signature i t (limit_of z.chunk p.role k t) (halves p.role) } in
-    branch (λ (o : Option Held). o ≡ Some h → h.chunk.closed ≡ None) (is_live t) (Some new) None
-    (λ _ q. subst (λ (x : Held). x.chunk.closed ≡ None) (let r : new ≡ h = cc in r) refl)
+    let new : Occupant = record { thread = k; chunk = fresh z.signature i t (limit_of z.chunk p.role k t) (halves p.role) } in
+    branch (λ (o : Option Occupant). o ≡ Some h → h.chunk.closed ≡ None) (is_live t) (Some new) None
+    (λ _ q. subst (λ (x : Occupant). x.chunk.closed ≡ None) (let r : new ≡ h = cc in r) refl)
     (λ _ q. absurd (none-some h q)) e
 
 start-begun : (s : Setup) → HasBegun (world_of s)

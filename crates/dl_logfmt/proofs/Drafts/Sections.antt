@@ -141,7 +141,7 @@ inputs-unread bytes d at after count xs error is few h =
     section-stops bytes d (record d { inputs = xs }) at after d.inputs xs (more (λ x y. true) input count) (λ xs. from_dma_count (record d { inputs = xs })) error
     (inputs-from d count is) (inputs-from (record d { inputs = xs }) count is) h (λ came. (inputs-few bytes d at after xs few came, omega (arith, came.cost)))
 
-dmas-from : (d : Draft) (count : ℕ) → d.head.stage ≡ Dmas count → Same (remaining d) (read (more (λ x y. nat_lt x.slot y.slot) dma count d.dmas) (λ xs. gives (log_of (record d { dmas = xs }))))
+dmas-from : (d : Draft) (count : ℕ) → d.head.stage ≡ Dmas count → Same (remaining d) (read (more (λ x y. nat_lt x.position y.position) dma count d.dmas) (λ xs. gives (log_of (record d { dmas = xs }))))
 dmas-from d count is bytes at = ap (λ (s : Stage). remaining_at s d bytes at) is
 
 dmas-few : (bytes : List ℕ) (d : Draft) (at after : ℕ) (xs : List DmaRecord) → IsFew d → CameIn bytes d.dmas at xs after → IsFew (record d { dmas = xs })
@@ -149,12 +149,12 @@ dmas-few bytes d at after xs few came = record { order = few.order; each = few.e
 
 -- where the records of DMAs are read to their end, the draft has them, and nothing comes next
 pub dmas-read : (bytes : List ℕ) (d : Draft) (at after count : ℕ) (xs : List DmaRecord) → d.head.stage ≡ Dmas count → IsFew d
-    → CameIn bytes d.dmas at xs after × Leads bytes (more (λ x y. nat_lt x.slot y.slot) dma count d.dmas) at (gives xs) after
+    → CameIn bytes d.dmas at xs after × Leads bytes (more (λ x y. nat_lt x.position y.position) dma count d.dmas) at (gives xs) after
     → ReadsSection bytes d at (Ok tt) (record d { head = record d.head { stage = Nothing }; dmas = xs }) after
 dmas-read bytes d at after count xs is few (came, leads) =
     let ranked : stage_number d.head.stage ≡ 12 = ap stage_number is in
     let rest = dmas-few bytes d at after xs few came in (
-      section-came bytes d (record d { head = record d.head { stage = Nothing }; dmas = xs }) at after d.dmas xs (more (λ x y. nat_lt x.slot y.slot) dma count) (λ xs. gives (log_of (record d { dmas = xs })))
+      section-came bytes d (record d { head = record d.head { stage = Nothing }; dmas = xs }) at after d.dmas xs (more (λ x y. nat_lt x.position y.position) dma count) (λ xs. gives (log_of (record d { dmas = xs })))
           (dmas-from d count is) (λ bytes at. refl) (came, leads)
           (record { order = rest.order; each = rest.each; short = rest.short; interrupts = rest.interrupts; inputs = rest.inputs; dmas = rest.dmas })
           (omega (arith, came.cost)),
@@ -164,10 +164,10 @@ dmas-read bytes d at after count xs is few (came, leads) =
 
 -- where the records of DMAs are read in part, the draft has that part, with the error
 pub dmas-unread : (bytes : List ℕ) (d : Draft) (at after count : ℕ) (xs : List DmaRecord) (error : LogError) → d.head.stage ≡ Dmas count → IsFew d
-    → ReadsIn (more (λ x y. nat_lt x.slot y.slot) dma count) bytes d.dmas at (Err error) xs after
+    → ReadsIn (more (λ x y. nat_lt x.position y.position) dma count) bytes d.dmas at (Err error) xs after
     → ReadsSection bytes d at (Err error) (record d { dmas = xs }) after
 dmas-unread bytes d at after count xs error is few h =
-    section-stops bytes d (record d { dmas = xs }) at after d.dmas xs (more (λ x y. nat_lt x.slot y.slot) dma count) (λ xs. gives (log_of (record d { dmas = xs }))) error
+    section-stops bytes d (record d { dmas = xs }) at after d.dmas xs (more (λ x y. nat_lt x.position y.position) dma count) (λ xs. gives (log_of (record d { dmas = xs }))) error
     (dmas-from d count is) (dmas-from (record d { dmas = xs }) count is) h (λ came. (dmas-few bytes d at after xs few came, omega (arith, came.cost)))
 
 -- the lists of sizes, of which one stays

@@ -194,7 +194,7 @@ Streams-input =
 -- the record of a DMA is a stream of at most 4,102 bytes
 pub Streams-dma : Streams 4102 dma
 Streams-dma =
-    Streams-read 4 4098 (any 4) _ (Streams-any 4) (λ slot.
+    Streams-read 4 4098 (any 4) _ (Streams-any 4) (λ position.
     Streams-read 4098 0 counted _ Streams-counted (λ content. Streams-gives _))
 
 -- where a whole is read on behind what a stream read, it leads on, and where it has the stream's fault, it stops

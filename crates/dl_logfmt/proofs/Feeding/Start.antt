@@ -103,7 +103,7 @@ interrupts-start : (m : ModeName) (s c : ℕ) (o : List Actor) (e : List ℕ) (h
 interrupts-start m s c o e h =
     section-start (λ x y. is_earlier x.thread x.index y.thread y.index) interrupt _ _ (λ interrupts.
     section-start (λ x y. true) input _ _ (λ inputs.
-    section-start (λ x y. nat_lt x.slot y.slot) dma _ _ (λ dmas bytes at. refl)))
+    section-start (λ x y. nat_lt x.position y.position) dma _ _ (λ dmas bytes at. refl)))
 
 -- all fields, of a log of which nothing was read
 pub parts-start : Same parts (remaining blank)

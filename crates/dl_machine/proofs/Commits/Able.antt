@@ -16,7 +16,7 @@ use Rattle.spec_protocol.specs.Placing.{replays}
 use Rattle.spec_protocol.specs.Asking.{asks_serial, is_short, other_turn}
 use Rattle.spec_protocol.specs.Commits.{is_piece}
 use Rattle.spec_protocol.specs.Transferring.{not_of_dma, turn_before_dma}
-use Rattle.spec_protocol.specs.World.{Held, World, sphere_at}
+use Rattle.spec_protocol.specs.World.{Occupant, World, sphere_at}
 use Rattle.spec_protocol.specs.Invariants.{Closes, LimitFits}
 use Rattle.spec_protocol.specs.Sound.{IsSoundIf, IsSoundRequest, IsSoundRole}
 use Rattle.dl_sphere.specs.Moving.{CanCommit, IsPartIn, IsTurnOf, IsTurnOfDma}
@@ -131,7 +131,7 @@ part_in (Replay b) z s n capacity ts k how ch sound turn there commits fits clos
       some = some_in_all b capacity how ch closes some closed whole;
     }
 
-can_commit_held : (w : World) (c : ℕ) (h : Held) (how : How) → IsReady w → at w.cores c ≡ Some h → h.chunk.closed ≡ Some how → is_stopped (sphere_at w h.chunk.sphere).role ≡ false → other_turn (head_of (sphere_at w h.chunk.sphere)) h.thread ≡ None
+can_commit_held : (w : World) (c : ℕ) (h : Occupant) (how : How) → IsReady w → at w.cores c ≡ Some h → h.chunk.closed ≡ Some how → is_stopped (sphere_at w h.chunk.sphere).role ≡ false → other_turn (head_of (sphere_at w h.chunk.sphere)) h.thread ≡ None
     → asks_serial h.chunk (sphere_at w h.chunk.sphere).role ≡ false → CanCommit w.numbers.chunk (sphere_at w h.chunk.sphere) h.thread how h.chunk
 can_commit_held w c h how ready is closed going free whole =
     let g = ready.good.held c h is in
@@ -151,7 +151,7 @@ can_commit_held w c h how ready is closed going free whole =
     }
 
 -- a closed chunk of a sphere that goes on can be committed, where it is nobody else's turn and no serial step is asked for
-pub can_commit : (w : World) (c : ℕ) (o : Option Held) (held : Seen) (how : How) (ch : Chunk) → IsReady w → at w.cores c ≡ o → option_map seen o ≡ Some held → option_map closed_by o ≡ Some (Some how) → Some ch ≡ option_map chunk_of o
+pub can_commit : (w : World) (c : ℕ) (o : Option Occupant) (held : Seen) (how : How) (ch : Chunk) → IsReady w → at w.cores c ≡ o → option_map seen o ≡ Some held → option_map closed_by o ≡ Some (Some how) → Some ch ≡ option_map chunk_of o
     → is_stopped (sphere_at w held.sphere).role ≡ false → other_turn (head_of (sphere_at w held.sphere)) held.thread ≡ None → Some false ≡ option_map (λ h. asks_serial h.chunk (sphere_at w held.sphere).role) o
     → CanCommit w.numbers.chunk (sphere_at w held.sphere) held.thread how ch
 can_commit w c None held how ch ready is eh ew ec going free whole = absurd (none-some held eh)

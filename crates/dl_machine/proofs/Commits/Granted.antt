@@ -15,7 +15,7 @@ use Rattle.spec_engine.specs.Chunks.{Chunk}
 use Rattle.spec_engine.specs.Flights.{Flights, at}
 use Rattle.spec_protocol.specs.Spheres.{Sphere}
 use Rattle.spec_protocol.specs.Commits.{CommitOutcome, Granted, Piece, Diverged, MovedSphere, is_piece, chunk_moved, serial_moved}
-use Rattle.spec_protocol.specs.World.{After, Held, World, OfChunk, OfSerial, moment, sphere_at, held_afresh, flown}
+use Rattle.spec_protocol.specs.World.{After, Occupant, World, OfChunk, OfSerial, moment, sphere_at, held_afresh, flown}
 use Rattle.spec_protocol.specs.Asking.{CommitRequest, is_short, granted, grant_chunk, grant_serial}
 use Rattle.dl_machine.specs.declared.one_core.Held.{Held as Seen}
 use Rattle.dl_machine.specs.Cores.{seen, writes_in}
@@ -44,7 +44,7 @@ abbrev pub point_in : World → Seen → CommitKind → (n : ℕ) → (short : B
 point_in w held kind n short = Point.Commit (moment w) held.sphere (Actor.Thread held.thread) kind n short
 
 -- the chunk that a core holds
-abbrev pub chunk_of : Held → Chunk
+abbrev pub chunk_of : Occupant → Chunk
 chunk_of h = h.chunk
 
 -- ---- the code's steps
@@ -84,12 +84,12 @@ module _ (cores : Cores) (spheres : Spheres) (flights : Flights) (devices : Devi
 -- ---- under what a core holds
 
 -- what is read of the event of what a core holds is read of the event
-pub held_after : {A : Type 0} (g : After → A) (f : Held → After) (o : Option Held) (a : After) → Some a ≡ option_map f o → Some (g a) ≡ option_map (λ h. g (f h)) o
+pub held_after : {A : Type 0} (g : After → A) (f : Occupant → After) (o : Option Occupant) (a : After) → Some a ≡ option_map f o → Some (g a) ≡ option_map (λ h. g (f h)) o
 held_after g f None a e = absurd (none-some a (sym e))
 held_after g f (Some h) a e = ap (λ (b : After). Some (g b)) (same_Some _ _ e)
 
 -- the chunk that a core holds was closed as the core says
-pub closed_is : (o : Option Held) (ch : Chunk) (how : How) → option_map closed_by o ≡ Some (Some how) → Some ch ≡ option_map chunk_of o → ch.closed ≡ Some how
+pub closed_is : (o : Option Occupant) (ch : Chunk) (how : How) → option_map closed_by o ≡ Some (Some how) → Some ch ≡ option_map chunk_of o → ch.closed ≡ Some how
 closed_is None ch how e c = absurd (none-some (Some how) e)
 closed_is (Some h) ch how e c = ap (λ (d : Chunk). d.closed) (same_Some _ _ c) ∙ same_Some _ _ e
 
@@ -111,12 +111,12 @@ abbrev pub moved_by : World → Seen → How → Chunk → MovedSphere
 moved_by w held how ch =
     chunk_moved held.thread (is_piece how) (is_short w.numbers.chunk how ch.limit) ch.done w.devices (sphere_at w held.sphere)
 
-chunk_is : (w : World) (c : ℕ) (h : Held) (how : How) → grant_chunk w c h how ≡ (let v = moved_by w (seen h) how h.chunk in granted w c (chunk_asked w (seen h) how h.chunk) h.chunk.writes v v.outcome)
+chunk_is : (w : World) (c : ℕ) (h : Occupant) (how : How) → grant_chunk w c h how ≡ (let v = moved_by w (seen h) how h.chunk in granted w c (chunk_asked w (seen h) how h.chunk) h.chunk.writes v v.outcome)
 unfolding grant_chunk
 chunk_is w c h how = refl
 
 -- a chunk's request comes to what the move of its sphere makes of the world
-pub chunk_after : (w : World) (c : ℕ) (how : How) (o : Option Held) (held : Seen) (ch : Chunk) (marks : Marks) (v : MovedSphere) → option_map seen o ≡ Some held → Some ch ≡ option_map chunk_of o → marks ≡ writes_in w.numbers.signature o → v ≡ moved_by w held how ch
+pub chunk_after : (w : World) (c : ℕ) (how : How) (o : Option Occupant) (held : Seen) (ch : Chunk) (marks : Marks) (v : MovedSphere) → option_map seen o ≡ Some held → Some ch ≡ option_map chunk_of o → marks ≡ writes_in w.numbers.signature o → v ≡ moved_by w held how ch
     → Some (granted w c (chunk_asked w held how ch) marks v v.outcome) ≡ option_map (λ h. grant_chunk w c h how) o
 chunk_after w c how None held ch marks v eh ec em ev = absurd (none-some held eh)
 chunk_after w c how (Some h) held ch marks v eh ec em ev =
@@ -141,7 +141,7 @@ serial_asked held =
       short = false;
     }
 
-serial_is : (w : World) (c : ℕ) (h : Held) → grant_serial w c h ≡ (let v = serial_moved h.thread (moment w) h.chunk.start w.devices (sphere_at w h.chunk.sphere) in granted w c (serial_asked (seen h)) (signed h.chunk.sphere v.words (nothing w.numbers.signature)) v v.outcome)
+serial_is : (w : World) (c : ℕ) (h : Occupant) → grant_serial w c h ≡ (let v = serial_moved h.thread (moment w) h.chunk.start w.devices (sphere_at w h.chunk.sphere) in granted w c (serial_asked (seen h)) (signed h.chunk.sphere v.words (nothing w.numbers.signature)) v v.outcome)
 unfolding grant_serial
 serial_is w c h = refl
 
@@ -149,7 +149,7 @@ abbrev pub serial_after_of : World → (core : ℕ) → Seen → MovedSphere →
 serial_after_of w c held v = granted w c (serial_asked held) (signed held.sphere v.words (nothing w.numbers.signature)) v v.outcome
 
 -- a serial step's request comes to what the move of its sphere makes of the world
-pub serial_after : (w : World) (c : ℕ) (o : Option Held) (held : Seen) (v : MovedSphere) → IsReady w → at w.cores c ≡ o → option_map seen o ≡ Some held
+pub serial_after : (w : World) (c : ℕ) (o : Option Occupant) (held : Seen) (v : MovedSphere) → IsReady w → at w.cores c ≡ o → option_map seen o ≡ Some held
     → ((t : Parts) → slice_get (sphere_at w held.sphere).threads held.thread ≡ Some t → v ≡ serial_moved held.thread (moment w % 2 ^ 32) t w.devices (sphere_at w held.sphere))
     → Some (serial_after_of w c held v) ≡ option_map (grant_serial w c) o
 serial_after w c None held v ready eo eh ev = absurd (none-some held eh)
@@ -164,7 +164,7 @@ serial_after w c (Some h) held v ready eo eh ev =
     ∙ ap (λ (a : After). Some a) (sym (serial_is w c h))
 
 -- where a serial step diverges, the devices stay as they are
-pub serial_still : (w : World) (c : ℕ) (o : Option Held) (held : Seen) (v : MovedSphere) → IsReady w → at w.cores c ≡ o → option_map seen o ≡ Some held
+pub serial_still : (w : World) (c : ℕ) (o : Option Occupant) (held : Seen) (v : MovedSphere) → IsReady w → at w.cores c ≡ o → option_map seen o ≡ Some held
     → ((t : Parts) → slice_get (sphere_at w held.sphere).threads held.thread ≡ Some t → v ≡ serial_moved held.thread (moment w % 2 ^ 32) t w.devices (sphere_at w held.sphere))
     → IsApart w.devices v v.outcome
 serial_still w c None held v ready eo eh ev = absurd (none-some held eh)
@@ -183,13 +183,13 @@ granted_passes w c q marks v Piece = refl
 granted_passes w c q marks v (Diverged i why) = refl
 
 -- a granted chunk answers as what passed every check
-pub chunk_passes : (w : World) (c : ℕ) (h : Held) (how : How) → passes_checks (grant_chunk w c h how).reply ≡ true
+pub chunk_passes : (w : World) (c : ℕ) (h : Occupant) (how : How) → passes_checks (grant_chunk w c h how).reply ≡ true
 chunk_passes w c h how =
     let v = moved_by w (seen h) how h.chunk in
     ap (λ (a : After). passes_checks a.reply) (chunk_is w c h how) ∙ granted_passes w c (chunk_asked w (seen h) how h.chunk) h.chunk.writes v v.outcome
 
 -- a granted serial step answers as what passed every check
-pub serial_passes : (w : World) (c : ℕ) (h : Held) → passes_checks (grant_serial w c h).reply ≡ true
+pub serial_passes : (w : World) (c : ℕ) (h : Occupant) → passes_checks (grant_serial w c h).reply ≡ true
 serial_passes w c h =
     let v = serial_moved h.thread (moment w) h.chunk.start w.devices (sphere_at w h.chunk.sphere) in
     ap (λ (a : After). passes_checks a.reply) (serial_is w c h) ∙ granted_passes w c (serial_asked (seen h)) (signed h.chunk.sphere v.words (nothing w.numbers.signature)) v v.outcome

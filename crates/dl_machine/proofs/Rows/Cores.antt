@@ -5,23 +5,23 @@ use Rattle.std.proofs.lemmas.Grind.{common_steps}
 use Rattle.std.proofs.lemmas.List.Elements.{All-set, All-get_or}
 use Rattle.std.specs.List.{position, position_or_len}
 use Rattle.spec_engine.specs.Flights.{at}
-use Rattle.spec_protocol.specs.World.{Held}
+use Rattle.spec_protocol.specs.World.{Occupant}
 use Rattle.dl_machine.specs.Cores.{Core, holding}
 use Rattle.dl_machine.specs.Rows.{AreCores, IsAlike, Cores, held_by, with_held}
 
-same_core : (c : Core) (most words lines : ℕ) (held : Option Held) → c.most ≡ most → c.capacity ≡ words → c.bits ≡ lines → c.held ≡ held → c ≡ record { most = most; capacity = words; bits = lines; held = held }
+same_core : (c : Core) (most words lines : ℕ) (held : Option Occupant) → c.most ≡ most → c.capacity ≡ words → c.bits ≡ lines → c.held ≡ held → c ≡ record { most = most; capacity = words; bits = lines; held = held }
 same_core c most words lines held e f g h = λ i. record { most = e i; capacity = f i; bits = g i; held = h i }
 
 alike_at : (words lines : ℕ) (row : List Core) (i : ℕ) (c : Core) → AreCores words lines row → i < length row → c ≡ get_or row i c → IsAlike words lines c
 alike_at words lines row i c are within is =
     subst (λ (d : Core). IsAlike words lines d) (sym is) (All-get_or (IsAlike words lines) row i c within are.each)
 
-alike_holding : (words lines : ℕ) (c d : Core) (held : Option Held) → IsAlike words lines c → d ≡ holding held c → IsAlike words lines d
+alike_holding : (words lines : ℕ) (c d : Core) (held : Option Occupant) → IsAlike words lines c → d ≡ holding held c → IsAlike words lines d
 alike_holding words lines c d held are is =
     subst (λ (e : Core). IsAlike words lines e) (sym is) (record { most = are.most; capacity = are.capacity; bits = are.bits })
 
 -- the cores of a row stay alike where one of them has come to hold something else
-pub cores_set : (words lines : ℕ) (row : List Core) (i : ℕ) (c d : Core) (held : Option Held) → AreCores words lines row → i < length row → c ≡ get_or row i c → d ≡ holding held c → AreCores words lines (slice_set row i d)
+pub cores_set : (words lines : ℕ) (row : List Core) (i : ℕ) (c d : Core) (held : Option Occupant) → AreCores words lines row → i < length row → c ≡ get_or row i c → d ≡ holding held c → AreCores words lines (slice_set row i d)
 cores_set words lines row i c d held are within at is =
     let n : length (slice_set row i d) ≡ length row = length-set row i d in
     record {
@@ -45,22 +45,22 @@ core_at words lines row i c r are view within is =
     (same_core c 4096 words lines (at (map held_by row) i) a.most a.capacity a.bits h)
 
 -- where one core has come to hold something else, the row is seen with that alone changed
-pub row_left : (words lines : ℕ) (row : List Core) (i : ℕ) (c d : Core) (f : Core → Option Held) (r : Cores) → AreCores words lines row → cores_of words lines row ≡ r → i < length row → c ≡ get_or row i c → d ≡ holding (f c) c
+pub row_left : (words lines : ℕ) (row : List Core) (i : ℕ) (c d : Core) (f : Core → Option Occupant) (r : Cores) → AreCores words lines row → cores_of words lines row ≡ r → i < length row → c ≡ get_or row i c → d ≡ holding (f c) c
     → cores_of words lines (slice_set row i d) ≡ with_held i (f (record { most = 4096; capacity = r.capacity; bits = r.bits; held = at r.held i })) r
 row_left words lines row i c d f r are view within is left =
     let held : d.held ≡ f (record { most = 4096; capacity = r.capacity; bits = r.bits; held = at r.held i }) = ap held_by left ∙ ap f (core_at words lines row i c r are view within is) in
     let then_ : map held_by (slice_set row i d) ≡ slice_set (map held_by row) i (f (record { most = 4096; capacity = r.capacity; bits = r.bits; held = at r.held i })) = map-set held_by row i d ∙ ap (slice_set (map held_by row) i) held in
-    ap (λ (hs : List (Option Held)). record { capacity = words; bits = lines; held = hs }) then_
+    ap (λ (hs : List (Option Occupant)). record { capacity = words; bits = lines; held = hs }) then_
     ∙ ap (with_held i (f (record { most = 4096; capacity = r.capacity; bits = r.bits; held = at r.held i }))) view
 
 -- the first core that holds what is looked for
 length_held : (row : List Core) → length (map held_by row) ≡ length row
 length_held row = grind (arith, common_steps)
 
-place_held : (p : Option Held → Bool) (row : List Core) → position_or_len p (map held_by row) ≡ position_or_len (λ c. p c.held) row
+place_held : (p : Option Occupant → Bool) (row : List Core) → position_or_len p (map held_by row) ≡ position_or_len (λ c. p c.held) row
 place_held p [] = refl
 place_held p (c ∷ cs) = ap (λ (n : ℕ). cond (not (p c.held)) (1 + n) 0) (place_held p cs)
 
 -- a core is found by what it holds, among cores as among what they hold
-pub position_held : (p : Option Held → Bool) (row : List Core) → position p (map held_by row) ≡ position (λ c. p c.held) row
+pub position_held : (p : Option Occupant → Bool) (row : List Core) → position p (map held_by row) ≡ position (λ c. p c.held) row
 position_held p row = rw (place_held p row, length_held row) refl

@@ -2,17 +2,17 @@
 use Rattle.std.proofs.Common.{◌≡◌, ℕ, zero, suc, ◌+◌, List, [], ◌∷◌, ◌++◌, length, Option, Some, None, refl, sym, ap, ◌∙◌, arith}
 use Rattle.std.specs.Prelude.{slice_get}
 use Rattle.spec_protocol.specs.Spheres.{Sphere}
-use Rattle.spec_protocol.specs.World.{Held, Numbers}
+use Rattle.spec_protocol.specs.World.{Occupant, Numbers}
 use Rattle.spec_protocol.specs.Machine.{first_cores}
 use Rattle.dl_machine.specs.Setups.{first_held}
 
 more_cores : (z : Numbers) (i n : ℕ) (ps : List Sphere) → first_cores z i (suc n) ps ≡ first_cores z i n ps ++ first_held z (i + n) (slice_get ps n) ∷ []
 more_cores z i zero [] = refl
 more_cores z i zero (p ∷ ps) = let e : i + 0 ≡ i = omega arith in ap (λ (j : ℕ). first_held z j (Some p) ∷ []) (sym e)
-more_cores z i (suc n) [] = ap (λ (hs : List (Option Held)). None ∷ hs) (more_cores z (suc i) n [])
+more_cores z i (suc n) [] = ap (λ (hs : List (Option Occupant)). None ∷ hs) (more_cores z (suc i) n [])
 more_cores z i (suc n) (p ∷ ps) =
     let e : suc i + n ≡ i + suc n = omega arith in
-    ap (λ (hs : List (Option Held)). first_held z i (Some p) ∷ hs) (more_cores z (suc i) n ps)
+    ap (λ (hs : List (Option Occupant)). first_held z i (Some p) ∷ hs) (more_cores z (suc i) n ps)
     ∙ ap (λ (j : ℕ). first_held z i (Some p) ∷ (first_cores z (suc i) n ps ++ first_held z j (slice_get ps n) ∷ [])) e
 
 -- the first cores, where there is one more, are those without it and then that one

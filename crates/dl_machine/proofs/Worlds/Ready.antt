@@ -4,13 +4,13 @@ use Rattle.std.specs.Prelude.{IfSome, option_map}
 use Rattle.std.proofs.lemmas.Option.{none-some, same_Some, slice_get_within}
 use Rattle.spec_engine.specs.Flights.{Flight, AreInside, AreOfSize, IsInside, IsOfSize, at}
 use Rattle.spec_engine.specs.Chunks.{Chunk}
-use Rattle.spec_protocol.specs.World.{Held, World, sphere_at}
+use Rattle.spec_protocol.specs.World.{Occupant, World, sphere_at}
 use Rattle.dl_machine.specs.Cores.{seen, reads_in, writes_in}
 use Rattle.dl_machine.specs.declared.one_core.Held.{Held as Seen}
 use Rattle.dl_machine.specs.Held.{IsOf, sphere_of}
 use Rattle.dl_machine.specs.Ready.{HasRoom, IsReady}
 
-seen_of : (w : World) (c : ℕ) (o : Option Held) → IsReady w → at w.cores c ≡ o → IfSome (option_map seen o) (IsOf w)
+seen_of : (w : World) (c : ℕ) (o : Option Occupant) → IsReady w → at w.cores c ≡ o → IfSome (option_map seen o) (IsOf w)
 seen_of w c None ready is = tt
 seen_of w c (Some h) ready is = let g = ready.good.held c h is in record { sphere = g.sphere; thread = slice_get_within _ _ _ g.start }
 
@@ -18,11 +18,11 @@ seen_of w c (Some h) ready is = let g = ready.good.held c h is in record { spher
 pub held_is_of : (w : World) (c : ℕ) (r : Option Seen) → IsReady w → r ≡ option_map seen (at w.cores c) → IfSome r (IsOf w)
 held_is_of w c r ready is = subst (λ (o : Option Seen). IfSome o (IsOf w)) (sym is) (seen_of w c (at w.cores c) ready refl)
 
-reads_size : (w : World) (c : ℕ) (o : Option Held) → IsReady w → at w.cores c ≡ o → (reads_in w.numbers.signature o).bits ≡ w.numbers.signature
+reads_size : (w : World) (c : ℕ) (o : Option Occupant) → IsReady w → at w.cores c ≡ o → (reads_in w.numbers.signature o).bits ≡ w.numbers.signature
 reads_size w c None ready is = refl
 reads_size w c (Some h) ready is = (ready.good.held c h is).chunk.reads_size
 
-writes_size : (w : World) (c : ℕ) (o : Option Held) → IsReady w → at w.cores c ≡ o → (writes_in w.numbers.signature o).bits ≡ w.numbers.signature
+writes_size : (w : World) (c : ℕ) (o : Option Occupant) → IsReady w → at w.cores c ≡ o → (writes_in w.numbers.signature o).bits ≡ w.numbers.signature
 writes_size w c None ready is = refl
 writes_size w c (Some h) ready is = (ready.good.held c h is).chunk.writes_size
 
@@ -50,13 +50,13 @@ pub slots_size : (w : World) → IsReady w → AreOfSize w.numbers.signature w.s
 slots_size w ready = record { each = λ k. slot_size w k (at w.slots k) ready refl }
 
 -- the signature of a held chunk's reads has the size of those in the slots
-pub chunk_reads : (w : World) (c : ℕ) (o : Option Held) (ch : Chunk) → IsReady w → at w.cores c ≡ o → Some ch ≡ option_map (λ h. h.chunk) o → AreOfSize ch.reads.bits w.slots
+pub chunk_reads : (w : World) (c : ℕ) (o : Option Occupant) (ch : Chunk) → IsReady w → at w.cores c ≡ o → Some ch ≡ option_map (λ h. h.chunk) o → AreOfSize ch.reads.bits w.slots
 chunk_reads w c None ch ready is e = absurd (none-some ch (sym e))
 chunk_reads w c (Some h) ch ready is e =
     subst (λ (n : ℕ). AreOfSize n w.slots) (sym (ap (λ (d : Chunk). d.reads.bits) (same_Some _ _ e) ∙ (ready.good.held c h is).chunk.reads_size)) (slots_size w ready)
 
 -- the signature of a held chunk's writes has the size of those in the slots
-pub chunk_writes : (w : World) (c : ℕ) (o : Option Held) (ch : Chunk) → IsReady w → at w.cores c ≡ o → Some ch ≡ option_map (λ h. h.chunk) o → AreOfSize ch.writes.bits w.slots
+pub chunk_writes : (w : World) (c : ℕ) (o : Option Occupant) (ch : Chunk) → IsReady w → at w.cores c ≡ o → Some ch ≡ option_map (λ h. h.chunk) o → AreOfSize ch.writes.bits w.slots
 chunk_writes w c None ch ready is e = absurd (none-some ch (sym e))
 chunk_writes w c (Some h) ch ready is e =
     subst (λ (n : ℕ). AreOfSize n w.slots) (sym (ap (λ (d : Chunk). d.writes.bits) (same_Some _ _ e) ∙ (ready.good.held c h is).chunk.writes_size)) (slots_size w ready)

@@ -9,7 +9,7 @@ use Rattle.spec_engine.specs.Flights.{Flight, at, first_slot, is_of_sphere}
 use Rattle.spec_engine.proofs.Searches.{first_none}
 use Rattle.spec_protocol.specs.Spheres.{Sphere}
 use Rattle.spec_protocol.specs.Commits.{CommitOutcome, Granted, Piece, Diverged, MovedSphere, is_piece, chunk_moved, serial_moved, dma_moved}
-use Rattle.spec_protocol.specs.World.{World, Held, Move, moment, sphere_at}
+use Rattle.spec_protocol.specs.World.{World, Occupant, Move, moment, sphere_at}
 use Rattle.spec_protocol.specs.Asking.{CommitRequest, move_at, granted, chunk_request, grant_chunk, serial_request, grant_serial, asking}
 use Rattle.spec_protocol.specs.Transferring.{dma_move, transferring}
 use Rattle.spec_protocol.specs.Shown.{flying, shown_of}
@@ -35,7 +35,7 @@ granted_flies c w d q writes v Granted l = let r = flown-most c q.sphere v.words
 granted_flies c w d q writes v Piece l = let r = flown-most c q.sphere v.words writes (2 ^ d) w.slots in omega (arith, r, l)
 granted_flies c w d q writes v (Diverged i why) l = omega arith
 
-chunk_flies : (c : ℕ) (w : World) (d : ℕ) (h : Held) (how : How) → IsGoodHeld w d h → Flies c w (grant_chunk w d h how)
+chunk_flies : (c : ℕ) (w : World) (d : ℕ) (h : Occupant) (how : How) → IsGoodHeld w d h → Flies c w (grant_chunk w d h how)
 unfolding grant_chunk
 chunk_flies c w d h how held =
     let q = chunk_request w h how in
@@ -60,7 +60,7 @@ nothing_flies i (Some f ∷ xs) others =
 shown_same : (w : World) (i : ℕ) → flying i w.slots ≡ [] → over (current w i) (sphere_at w i) ≡ sphere_at w i
 shown_same w i e = (λ j. over (lays (sphere_at w i).memory (e j)) (sphere_at w i))
 
-serial_flies : (c : ℕ) (w : World) (d : ℕ) (h : Held) → IsGoodHeld w d h → first_slot (is_of_sphere h.chunk.sphere) w.slots ≡ None → Flies c w (grant_serial w d h)
+serial_flies : (c : ℕ) (w : World) (d : ℕ) (h : Occupant) → IsGoodHeld w d h → first_slot (is_of_sphere h.chunk.sphere) w.slots ≡ None → Flies c w (grant_serial w d h)
 unfolding grant_serial
 serial_flies c w d h held none =
     let i = h.chunk.sphere in

@@ -5,7 +5,7 @@ use Rattle.spec_engine.specs.declared.answers.Deliver.{Deliver}
 use Rattle.spec_engine.specs.declared.answers.Retire.{Retire}
 use Rattle.spec_engine.specs.Signatures.{Marks}
 use Rattle.spec_engine.specs.Flights.{Flight, at, told_at, tell, meets_chunk, drain_words, deliver, Delivered, is_done, retire, Retired}
-use Rattle.spec_protocol.specs.World.{World, Held, After, sphere_at, with_slot}
+use Rattle.spec_protocol.specs.World.{World, Occupant, After, sphere_at, with_slot}
 use Rattle.spec_protocol.specs.Flying.{drain_slot, draining, reads_of, writes_of, told, deliver_to, delivering, retiring}
 use Rattle.spec_protocol.proofs.Memory.Slots.{at_within}
 use Rattle.spec_protocol.proofs.Invariants.Cores.{branch}
@@ -45,7 +45,7 @@ set_none c (x ∷ xs) zero e = omega arith
 set_none c (x ∷ xs) (suc k) e = let r = set_none c xs k e in omega (arith, r)
 
 -- what holds of the slots holds of them in the world in which a core was told
-pub told_world : (P : List (Option Flight) → Type 0) (w : World) (d : ℕ) (held : Option Held) (reply : Deliver) → P w.slots → P (told w d held reply).world.slots
+pub told_world : (P : List (Option Flight) → Type 0) (w : World) (d : ℕ) (held : Option Occupant) (reply : Deliver) → P w.slots → P (told w d held reply).world.slots
 told_world P w d held Deliver.NoCommit p = p
 told_world P w d held Deliver.Already p = p
 told_world P w d held Deliver.Squashed p = p
@@ -60,7 +60,7 @@ deliver_most c d reads writes xs k (Some f) e =
     (λ _. omega arith)
     (λ _. let h = untold-less c f d in omega (arith, h)))
 
-deliver_to_most : (c : ℕ) (w : World) (d k : ℕ) (held : Option Held) → NoMore c w (deliver_to w d k held)
+deliver_to_most : (c : ℕ) (w : World) (d k : ℕ) (held : Option Occupant) → NoMore c w (deliver_to w d k held)
 deliver_to_most c w d k held =
     let v = deliver d (reads_of w held) (writes_of w held) (at w.slots k) in
     told_world (λ xs. flights_rank c xs ≤ flights_rank c w.slots) (with_slot w k v.slot) d held v.reply

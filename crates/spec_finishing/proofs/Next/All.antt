@@ -12,7 +12,7 @@ use Rattle.spec_engine.proofs.Searches.{first_some}
 use Rattle.spec_protocol.specs.declared.event.Event.{Event}
 use Rattle.spec_protocol.specs.Spheres.{Sphere}
 use Rattle.spec_protocol.specs.Placing.{replays}
-use Rattle.spec_protocol.specs.World.{World, Held, After, sphere_at, core_of}
+use Rattle.spec_protocol.specs.World.{World, Occupant, After, sphere_at, core_of}
 use Rattle.spec_protocol.specs.Stepping.{stepping}
 use Rattle.spec_protocol.specs.Asking.{asking}
 use Rattle.spec_protocol.specs.Transferring.{transferring}
@@ -33,11 +33,11 @@ use Rattle.spec_finishing.proofs.Next.Commits.{Commits, ask-commits, dma-commits
 use Rattle.spec_finishing.proofs.Next.Events.{Lowers, words_fall, rose_falls, place_act}
 
 -- what is under way on the core of the thread whose turn it is
-under_way_on : (w : World) (who : Who) (k c : ℕ) (h : Held) → standing w ≡ None → least 0 w.spheres ≡ Some who → who.actor ≡ Actor.Thread k → core_of w who.sphere k ≡ Some c → at w.cores c ≡ Some h → under_way w ≡ held_under_way (Some h)
+under_way_on : (w : World) (who : Who) (k c : ℕ) (h : Occupant) → standing w ≡ None → least 0 w.spheres ≡ Some who → who.actor ≡ Actor.Thread k → core_of w who.sphere k ≡ Some c → at w.cores c ≡ Some h → under_way w ≡ held_under_way (Some h)
 under_way_on w who k c h none is thread found there =
     under_way-actor w who none is ∙ ap (actor_under_way w who.sphere) thread ∙ ap (core_under_way w) found ∙ ap held_under_way there
 
-core_is : (w : World) (c : ℕ) (h : Held) → at w.cores c ≡ Some h → core_no w c ≡ c
+core_is : (w : World) (c : ℕ) (h : Occupant) → at w.cores c ≡ Some h → core_no w c ≡ c
 core_is w c h there = mod-eq_of_lt (at_within w.cores c h there)
 
 -- ---- Step
@@ -45,7 +45,7 @@ core_is w c h there = mod-eq_of_lt (at_within w.cores c h there)
 step_move : (w : World) (c : ℕ) → (stepping w c).move ≡ None
 step_move w c = any-step w (λ (a : After). a.move ≡ None) (λ r none. refl) c (λ h is opened. refl)
 
-step_act : (s : Setup) (w : World) (who : Who) (k c : ℕ) (h : Held) → Known s w → Known s (happens w (Event.Step c)).world → standing w ≡ None → least 0 w.spheres ≡ Some who → who.actor ≡ Actor.Thread k → core_of w who.sphere k ≡ Some c → OnCore w who.sphere k c h → is_open h.chunk ≡ true
+step_act : (s : Setup) (w : World) (who : Who) (k c : ℕ) (h : Occupant) → Known s w → Known s (happens w (Event.Step c)).world → standing w ≡ None → least 0 w.spheres ≡ Some who → who.actor ≡ Actor.Thread k → core_of w who.sphere k ≡ Some c → OnCore w who.sphere k c h → is_open h.chunk ≡ true
     → Lowers s w (Event.Step c)
 unfolding act
 step_act s w who k c h known next_known none is thread found on open_ =
@@ -84,7 +84,7 @@ closed_is ch e =
       | Some how ↦ λ h. (how, refl)
     ] e
 
-ask_act : (s : Setup) (w : World) (who : Who) (k c : ℕ) (h : Held) → Known s w → Known s (happens w (Event.Ask c)).world → 0 < s.window → standing w ≡ None → least 0 w.spheres ≡ Some who → who.actor ≡ Actor.Thread k → core_of w who.sphere k ≡ Some c → OnCore w who.sphere k c h → is_open h.chunk ≡ false
+ask_act : (s : Setup) (w : World) (who : Who) (k c : ℕ) (h : Occupant) → Known s w → Known s (happens w (Event.Ask c)).world → 0 < s.window → standing w ≡ None → least 0 w.spheres ≡ Some who → who.actor ≡ Actor.Thread k → core_of w who.sphere k ≡ Some c → OnCore w who.sphere k c h → is_open h.chunk ≡ false
     → Lowers s w (Event.Ask c)
 unfolding act
 ask_act s w who k c h known next_known window none is thread found on closed =
@@ -119,7 +119,7 @@ pub record Goes (s : Setup) (w : World) : Type 0 where
   pub cores : 0 < s.cores
   pub window : 0 < s.window
 
-open_falls : (s : Setup) (w : World) (who : Who) (k c : ℕ) (h : Held) (e : Event) (b : Bool) → Goes s w → standing w ≡ None → least 0 w.spheres ≡ Some who → who.actor ≡ Actor.Thread k → core_of w who.sphere k ≡ Some c → OnCore w who.sphere k c h → is_open h.chunk ≡ b → cond b (Event.Step c) (Event.Ask c) ≡ e → Lowers s w e
+open_falls : (s : Setup) (w : World) (who : Who) (k c : ℕ) (h : Occupant) (e : Event) (b : Bool) → Goes s w → standing w ≡ None → least 0 w.spheres ≡ Some who → who.actor ≡ Actor.Thread k → core_of w who.sphere k ≡ Some c → OnCore w who.sphere k c h → is_open h.chunk ≡ b → cond b (Event.Step c) (Event.Ask c) ≡ e → Lowers s w e
 open_falls s w who k c h e true g none is thread found on open_ same = subst (Lowers s w) same (step_act s w who k c h g.known (g.next_known (Event.Step c)) none is thread found on open_)
 open_falls s w who k c h e false g none is thread found on open_ same = subst (Lowers s w) same (ask_act s w who k c h g.known (g.next_known (Event.Ask c)) g.window none is thread found on open_)
 

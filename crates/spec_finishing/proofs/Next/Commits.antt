@@ -12,7 +12,7 @@ use Rattle.spec_play.specs.Transfers.{dma_verdict}
 use Rattle.spec_protocol.specs.declared.reply.Reply.{Reply}
 use Rattle.spec_protocol.specs.Spheres.{Cursor, Role, Replay, Sphere, is_stopped, actor_of, head_in, head_of}
 use Rattle.spec_protocol.specs.Commits.{CommitOutcome, Granted, Piece, Diverged, MovedSphere, is_piece, chunk_moved, serial_moved, dma_by_verdict, dma_in, dma_moved}
-use Rattle.spec_protocol.specs.World.{World, Held, Move, After, moment, sphere_at, answered}
+use Rattle.spec_protocol.specs.World.{World, Occupant, Move, After, moment, sphere_at, answered}
 use Rattle.spec_protocol.specs.Asking.{CommitRequest, move_at, granted, chunk_request, grant_chunk, serial_request, grant_serial, unless_denied, unless_busy, asks_serial, ask_arbiter, other_turn, unless_turn, ask_closed, ask_held, asking}
 use Rattle.spec_protocol.specs.Transferring.{dma_move, dma_done, transfer, dma_with, dma_if, not_of_dma, turn_before_dma, transferring}
 use Rattle.spec_protocol.specs.Machine.{Setup}
@@ -55,26 +55,26 @@ granted_commits w c q writes v Granted n l = record { done = refl; move = move_a
 granted_commits w c q writes v Piece n l = record { done = refl; move = move_at (moment w) q; is = refl; sphere = refl; more = l }
 granted_commits w c q writes v (Diverged i why) n l = record { done = refl; move = move_at (moment w) q; is = refl; sphere = refl; more = l }
 
-chunk_commits : (w : World) (c : ℕ) (h : Held) (how : How) → Commits h.chunk.sphere h.chunk.done.n (grant_chunk w c h how)
+chunk_commits : (w : World) (c : ℕ) (h : Occupant) (how : How) → Commits h.chunk.sphere h.chunk.done.n (grant_chunk w c h how)
 unfolding grant_chunk
 chunk_commits w c h how =
     let q = chunk_request w h how in
     let v = chunk_moved h.thread (is_piece how) q.short h.chunk.done w.devices (sphere_at w h.chunk.sphere) in
     granted_commits w c q h.chunk.writes v v.outcome h.chunk.done.n (omega arith)
 
-serial_commits : (w : World) (c : ℕ) (h : Held) → h.chunk.done.n ≡ 0 → Commits h.chunk.sphere h.chunk.done.n (grant_serial w c h)
+serial_commits : (w : World) (c : ℕ) (h : Occupant) → h.chunk.done.n ≡ 0 → Commits h.chunk.sphere h.chunk.done.n (grant_serial w c h)
 unfolding grant_serial
 serial_commits w c h e =
     let v = serial_moved h.thread (moment w) h.chunk.start w.devices (sphere_at w h.chunk.sphere) in
     granted_commits w c (serial_request h) (signed h.chunk.sphere v.words (nothing w.numbers.signature)) v v.outcome h.chunk.done.n (omega (arith, e))
 
-arbiter_commits : (w : World) (c : ℕ) (h : Held) (how : How) (serial : Bool) → ((k : ℕ) → at w.slots k ≡ None) → (serial ≡ true → h.chunk.done.n ≡ 0) → Commits h.chunk.sphere h.chunk.done.n (ask_arbiter w c h how serial)
+arbiter_commits : (w : World) (c : ℕ) (h : Occupant) (how : How) (serial : Bool) → ((k : ℕ) → at w.slots k ≡ None) → (serial ≡ true → h.chunk.done.n ≡ 0) → Commits h.chunk.sphere h.chunk.done.n (ask_arbiter w c h how serial)
 arbiter_commits w c h how true none empty =
     subst (Commits h.chunk.sphere h.chunk.done.n) (sym (not_busy w (grant_serial w c h) h.chunk.sphere none)) (serial_commits w c h (empty refl))
 arbiter_commits w c h how false none empty =
     subst (Commits h.chunk.sphere h.chunk.done.n) (sym (not_denied w (grant_chunk w c h how) h.chunk.reads h.chunk.writes none)) (chunk_commits w c h how)
 
-empty_of : (h : Held) (role : Role) → asks_serial h.chunk role ≡ true → h.chunk.done.n ≡ 0
+empty_of : (h : Occupant) (role : Role) → asks_serial h.chunk role ≡ true → h.chunk.done.n ≡ 0
 empty_of h role e =
     let a = and_parts (is_empty_serial h.chunk) _ e in
     let b = and_parts (eqb h.chunk.done.n 0) (is_serial h.chunk.closed) a.0 in
@@ -88,7 +88,7 @@ unfolding head_of
 turn_of_head p b k role turn =
     ap (λ (r : Role). other_turn (head_in r p) k) role ∙ ap (λ (o : Option Actor). other_turn o k) turn ∙ own_turn k
 
-ask_is : (w : World) (c : ℕ) (h : Held) (how : How) → at w.cores c ≡ Some h → h.chunk.closed ≡ Some how → is_stopped (sphere_at w h.chunk.sphere).role ≡ false → other_turn (head_of (sphere_at w h.chunk.sphere)) h.thread ≡ None → is_full w.slots ≡ false
+ask_is : (w : World) (c : ℕ) (h : Occupant) (how : How) → at w.cores c ≡ Some h → h.chunk.closed ≡ Some how → is_stopped (sphere_at w h.chunk.sphere).role ≡ false → other_turn (head_of (sphere_at w h.chunk.sphere)) h.thread ≡ None → is_full w.slots ≡ false
     → asking w c ≡ ask_arbiter w c h how (asks_serial h.chunk (sphere_at w h.chunk.sphere).role)
 unfolding asking
 ask_is w c h how is closed going turn free =
@@ -102,7 +102,7 @@ ask_is w c h how is closed going turn free =
     ∙ ap {A = Bool} (λ b. cond b (answered w Reply.WindowFull) arbiter) free
 
 -- the ask of the closed chunk of the thread whose turn it is commits it
-pub ask-commits : (s : Setup) (w : World) (i k c : ℕ) (h : Held) (how : How) → standing w ≡ None → 0 < length w.slots → HasActor s w i (Actor.Thread k) → OnCore w i k c h → h.chunk.closed ≡ Some how → Commits i h.chunk.done.n (asking w c)
+pub ask-commits : (s : Setup) (w : World) (i k c : ℕ) (h : Occupant) (how : How) → standing w ≡ None → 0 < length w.slots → HasActor s w i (Actor.Thread k) → OnCore w i k c h → h.chunk.closed ≡ Some how → Commits i h.chunk.done.n (asking w c)
 ask-commits s w i k c h how none l a on closed =
     let p = sphere_at w h.chunk.sphere in
     let same : p ≡ a.sphere = ap (sphere_at w) on.sphere ∙ a.at in

@@ -12,7 +12,7 @@ use Rattle.spec_engine.specs.Chunks.{step, is_open, fresh}
 use Rattle.spec_engine.proofs.Searches.{first_least, first_is}
 use Rattle.spec_protocol.specs.declared.reply.Reply.{Reply}
 use Rattle.spec_protocol.specs.Spheres.{Sphere, is_stopped, limit_of, halves}
-use Rattle.spec_protocol.specs.World.{World, Held, After, sphere_at, with_core, thread_afresh, held_afresh, runs, core_of, answered}
+use Rattle.spec_protocol.specs.World.{World, Occupant, After, sphere_at, with_core, thread_afresh, held_afresh, runs, core_of, answered}
 use Rattle.spec_protocol.specs.Stepping.{stepped, step_held, stepping}
 use Rattle.spec_protocol.specs.Placing.{unless_elsewhere, place_thread, placing}
 use Rattle.spec_protocol.specs.Machine.{Setup}
@@ -44,7 +44,7 @@ first_put : {A : Type 0} (p : A → Bool) (xs : List (Option A)) (v : A) → 0 <
 first_put p xs v l e =
     sym (first_is p (set xs 0 (Some v)) 0 (let h = length-set xs 0 (Some v) in omega (arith, h)) (λ j m. absurd (omega arith)) (ap (passes p) (at-set_same xs 0 (Some v) l) ∙ e))
 
-runs_it : (i k : ℕ) (h : Held) → h.chunk.sphere ≡ i → h.thread ≡ k → runs i k h ≡ true
+runs_it : (i k : ℕ) (h : Occupant) → h.chunk.sphere ≡ i → h.thread ≡ k → runs i k h ≡ true
 runs_it i k h sphere thread = and_from (eqb h.chunk.sphere i) (eqb h.thread k) (eq-eqb h.chunk.sphere i sphere) (eq-eqb h.thread k thread)
 
 -- ---- one core changes
@@ -53,14 +53,14 @@ runs_it i k h sphere thread = and_from (eqb h.chunk.sphere i) (eqb h.thread k) (
 pub record Rose (w : World) (i k : ℕ) (a : After) : Type 0 where
   pub done : furthers_finishing a.reply ≡ true
   pub core : ℕ
-  pub held : Held
+  pub held : Occupant
   pub is : a.world ≡ with_core w core (Some held)
   pub found : core_of a.world i k ≡ Some core
   pub there : at a.world.cores core ≡ Some held
 
 -- ---- Step
 
-step_is : (w : World) (c : ℕ) (h : Held) → at w.cores c ≡ Some h → is_stopped (sphere_at w h.chunk.sphere).role ≡ false → is_open h.chunk ≡ true
+step_is : (w : World) (c : ℕ) (h : Occupant) → at w.cores c ≡ Some h → is_stopped (sphere_at w h.chunk.sphere).role ≡ false → is_open h.chunk ≡ true
     → stepping w c ≡ stepped w c h (step w.numbers.buffer (sphere_at w h.chunk.sphere).memory w.slots c h.chunk)
 unfolding stepping
 step_is w c h is going open_ =
@@ -74,11 +74,11 @@ pub record StepRose (w : World) (i k : ℕ) (n : ℕ) (a : After) : Type 0 where
   pub rose : Rose w i k a
   pub more : suc n < held_under_way (Some rose.held)
 
-step_rose : (w : World) (i k c : ℕ) (h : Held) → standing w ≡ None → OnCore w i k c h → core_of w i k ≡ Some c → StepRose w i k h.chunk.done.n (stepped w c h (step w.numbers.buffer (sphere_at w h.chunk.sphere).memory w.slots c h.chunk))
+step_rose : (w : World) (i k c : ℕ) (h : Occupant) → standing w ≡ None → OnCore w i k c h → core_of w i k ≡ Some c → StepRose w i k h.chunk.done.n (stepped w c h (step w.numbers.buffer (sphere_at w h.chunk.sphere).memory w.slots c h.chunk))
 step_rose w i k c h none on found =
     let s = step w.numbers.buffer (sphere_at w h.chunk.sphere).memory w.slots c h.chunk in
     let r = step-rises w.numbers.buffer (sphere_at w h.chunk.sphere).memory w.slots c h.chunk (no-flight w none) in
-    let g : Held = record h { chunk = s.chunk } in
+    let g : Occupant = record h { chunk = s.chunk } in
     let l = at_within w.cores c h on.there in
     record {
       rose = record {
@@ -93,7 +93,7 @@ step_rose w i k c h none on found =
     }
 
 -- a step of the chunk of the thread whose turn it is runs an instruction or closes the chunk
-pub step-rose : (s : Setup) (w : World) (i k c : ℕ) (h : Held) → standing w ≡ None → HasActor s w i (Actor.Thread k) → OnCore w i k c h → core_of w i k ≡ Some c → is_open h.chunk ≡ true → StepRose w i k h.chunk.done.n (stepping w c)
+pub step-rose : (s : Setup) (w : World) (i k c : ℕ) (h : Occupant) → standing w ≡ None → HasActor s w i (Actor.Thread k) → OnCore w i k c h → core_of w i k ≡ Some c → is_open h.chunk ≡ true → StepRose w i k h.chunk.done.n (stepping w c)
 step-rose s w i k c h none a on found open_ =
     let going : is_stopped (sphere_at w h.chunk.sphere).role ≡ false = ap (λ (j : ℕ). is_stopped (sphere_at w j).role) on.sphere ∙ ap (λ (p : Sphere). is_stopped p.role) a.at ∙ ap is_stopped a.role ∙ a.going in
     subst (StepRose w i k h.chunk.done.n) (sym (step_is w c h on.there going open_)) (step_rose w i k c h none on found)
@@ -108,7 +108,7 @@ thread_lives s w i k a =
     ((run y.memory h.0 a.cursor.total).thread, ap (λ (p : Sphere). slice_get p.threads k) a.at ∙ thread-now a.image a.sphere a.cursor k h.0 h.1, ap lives (run-status y.memory h.0 a.cursor.total) ∙ h.1.live)
 
 -- its chunk, which has run nothing
-abbrev new_held : World → (i k : ℕ) → Parts → Held
+abbrev new_held : World → (i k : ℕ) → Parts → Occupant
 new_held w i k t =
     let p = sphere_at w i in
     record { thread = k; chunk = fresh w.numbers.signature i t (limit_of w.numbers.chunk p.role k t) (halves p.role) }
@@ -120,7 +120,7 @@ chunk_is w i k t is live =
 place_is : (w : World) (c i k : ℕ) (t : Parts) → slice_get (sphere_at w i).threads k ≡ Some t → is_live t ≡ true → core_of w i k ≡ None → placing w c i k ≡ answered (with_core w c (Some (new_held w i k t))) Reply.Placed
 unfolding placing
 place_is w c i k t is live none =
-    let placed = λ (o : Option Held). answered (with_core w c o) Reply.Placed in
+    let placed = λ (o : Option Occupant). answered (with_core w c o) Reply.Placed in
     let new = held_afresh w.numbers i k (sphere_at w i) in
     ap (place_thread w c i k) is
     ∙ ap {A = Bool} (λ b. cond b (unless_elsewhere (core_of w i k) w (placed new)) (answered w Reply.Ended)) live

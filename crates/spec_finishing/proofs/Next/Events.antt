@@ -6,7 +6,7 @@ use Rattle.spec_isa.specs.Words.{Stored}
 use Rattle.spec_engine.specs.declared.answers.Deliver.{Deliver}
 use Rattle.spec_engine.specs.Flights.{Flight, at, deliver}
 use Rattle.spec_protocol.specs.declared.event.Event.{Event}
-use Rattle.spec_protocol.specs.World.{World, Held, After, with_slot, core_of}
+use Rattle.spec_protocol.specs.World.{World, Occupant, After, with_slot, core_of}
 use Rattle.spec_protocol.specs.Flying.{drain_slot, draining, told, delivering, reads_of, writes_of, retiring}
 use Rattle.spec_protocol.specs.Placing.{placing}
 use Rattle.spec_protocol.specs.Machine.{Setup, core_no, sphere_no, slot_no, act, with_event, happens}
@@ -68,7 +68,7 @@ drain_move : (w : World) (k : ℕ) (o : Option Flight) → (drain_slot w k o).mo
 drain_move w k None = refl
 drain_move w k (Some f) = refl
 
-told_move : (w : World) (c : ℕ) (held : Option Held) (reply : Deliver) → (told w c held reply).move ≡ None
+told_move : (w : World) (c : ℕ) (held : Option Occupant) (reply : Deliver) → (told w c held reply).move ≡ None
 told_move w c held Deliver.NoCommit = refl
 told_move w c held Deliver.Already = refl
 told_move w c held Deliver.Squashed = refl

@@ -7,7 +7,7 @@ use Rattle.spec_engine.specs.declared.answers.Deliver.{Deliver}
 use Rattle.spec_engine.specs.declared.answers.Retire.{Retire}
 use Rattle.spec_engine.specs.Flights.{Flight, at, told_at, all_told, tell, meets_chunk, has_none, deliver, Delivered, is_done, retire, Retired}
 use Rattle.spec_engine.proofs.Searches.{all_told-from}
-use Rattle.spec_protocol.specs.World.{World, Held, After, with_slot, answered}
+use Rattle.spec_protocol.specs.World.{World, Occupant, After, with_slot, answered}
 use Rattle.spec_protocol.specs.Flying.{drain_slot, draining, reads_of, writes_of, told, deliver_to, delivering, reply_of_retire, retiring}
 use Rattle.spec_protocol.specs.Finishing.{untold}
 use Rattle.spec_protocol.proofs.Memory.Slots.{at_within}
@@ -51,11 +51,11 @@ untold_some : (c n d t : ℕ) → untold c n t ≡ Some d → (d < c + n) × (to
 untold_some c zero d t e = absurd (none-some d e)
 untold_some c (suc n) d t e = untold_if (told_at t c) c n d t refl e (untold_some (suc c) n d t)
 
-told_reply : (w : World) (d : ℕ) (held : Option Held) (b : Bool) → furthers_finishing (told w d held (cond b Deliver.Squashed Deliver.Delivered)).reply ≡ true
+told_reply : (w : World) (d : ℕ) (held : Option Occupant) (b : Bool) → furthers_finishing (told w d held (cond b Deliver.Squashed Deliver.Delivered)).reply ≡ true
 told_reply w d held true = refl
 told_reply w d held false = refl
 
-delivered : (c : ℕ) (w : World) (d k : ℕ) (held : Option Held) (f : Flight) → at w.slots k ≡ Some f → d < c → told_at f.told d ≡ false → FlightFalls c w (deliver_to w d k held)
+delivered : (c : ℕ) (w : World) (d k : ℕ) (held : Option Occupant) (f : Flight) → at w.slots k ≡ Some f → d < c → told_at f.told d ≡ false → FlightFalls c w (deliver_to w d k held)
 delivered c w d k held f is l untold_ =
     subst (λ (o : Option Flight). FlightFalls c w (let v = deliver d (reads_of w held) (writes_of w held) o in told (with_slot w k v.slot) d held v.reply)) (sym is)
     (subst (λ (b : Bool). FlightFalls c w (let v = cond {A = Delivered} b (record { reply = Deliver.Already; slot = Some f }) (record { reply = cond (meets_chunk (reads_of w held) (writes_of w held) f) Deliver.Squashed Deliver.Delivered; slot = Some (tell f d) }) in told (with_slot w k v.slot) d held v.reply)) (sym untold_)

@@ -12,7 +12,7 @@ use Rattle.spec_engine.specs.Chunks.{Chunk, is_open}
 use Rattle.spec_engine.proofs.Searches.{first_some}
 use Rattle.spec_protocol.specs.Spheres.{Role, Replay, Sphere, is_stopped, limit_of}
 use Rattle.spec_protocol.specs.Placing.{replays}
-use Rattle.spec_protocol.specs.World.{World, Held, sphere_at, runs, core_of}
+use Rattle.spec_protocol.specs.World.{World, Occupant, sphere_at, runs, core_of}
 use Rattle.spec_protocol.specs.Machine.{Setup}
 use Rattle.spec_protocol.specs.Shown.{flying}
 use Rattle.spec_protocol.specs.Invariants.{Closes, current}
@@ -40,14 +40,14 @@ closes_most capacity ch (Some How.Overflow) e closes = let l = closes.early How.
 closes_most capacity ch (Some How.Cut) e closes = let l = closes.early How.Cut e (λ h. cc) in omega (arith, l)
 
 -- with no flight standing, a chunk is what its instructions do on its sphere's memory
-chunk_ran : (s : Setup) (w : World) (c : ℕ) (h : Held) → Known s w → standing w ≡ None → at w.cores c ≡ Some h → (run (sphere_at w h.chunk.sphere).memory h.chunk.start h.chunk.done.n).n ≡ h.chunk.done.n
+chunk_ran : (s : Setup) (w : World) (c : ℕ) (h : Occupant) → Known s w → standing w ≡ None → at w.cores c ≡ Some h → (run (sphere_at w h.chunk.sphere).memory h.chunk.start h.chunk.done.n).n ≡ h.chunk.done.n
 chunk_ran s w c h known none is =
     let i = h.chunk.sphere in
     let empty : flying i w.slots ≡ [] = nothing_flies i w.slots (λ k f e. absurd (none-some f (sym (no-flight w none k) ∙ e))) in
     let live : IsCurrent (current w i) h.chunk = (known.good.held c h is).chunk.live (record { misses = λ k f e same untold. absurd (none-some f (sym (no-flight w none k) ∙ e)) }) in
     subst (λ (m : List ℕ). (run m h.chunk.start h.chunk.done.n).n ≡ h.chunk.done.n) (ap (lays (sphere_at w i).memory) empty) (ap (λ (r : Run). r.n) live.runs)
 
-held_affords : (s : Setup) (w : World) (c : ℕ) (h : Held) → Known s w → standing w ≡ None → at w.cores c ≡ Some h → (a : HasActor s w h.chunk.sphere (Actor.Thread h.thread)) → Afforded (next_work a.image a.sphere a.cursor) a.cursor.total h.chunk.done.n
+held_affords : (s : Setup) (w : World) (c : ℕ) (h : Occupant) → Known s w → standing w ≡ None → at w.cores c ≡ Some h → (a : HasActor s w h.chunk.sphere (Actor.Thread h.thread)) → Afforded (next_work a.image a.sphere a.cursor) a.cursor.total h.chunk.done.n
 held_affords s w c h known none is a =
     let held = known.good.held c h is in
     let turn = turn-of s w h.chunk.sphere h.thread a in
@@ -61,7 +61,7 @@ held_affords s w c h known none is a =
     (subst (λ (l : ℕ). h.chunk.done.n ≤ l) limited (closes_most w.numbers.buffer h.chunk h.chunk.closed refl held.chunk.closes))
 
 -- what a replay has left pays for its running chunk
-held_paid : (s : Setup) (w : World) (c : ℕ) (h : Held) → Known s w → standing w ≡ None → at w.cores c ≡ Some h → HasActor s w h.chunk.sphere (Actor.Thread h.thread) → paid s.cores h.chunk.done.n ≤ spheres_rank s.cores s.spheres w.spheres
+held_paid : (s : Setup) (w : World) (c : ℕ) (h : Occupant) → Known s w → standing w ≡ None → at w.cores c ≡ Some h → HasActor s w h.chunk.sphere (Actor.Thread h.thread) → paid s.cores h.chunk.done.n ≤ spheres_rank s.cores s.spheres w.spheres
 held_paid s w c h known none is a =
     let n = h.chunk.done.n in
     let work = next_work a.image a.sphere a.cursor in
@@ -76,19 +76,19 @@ held_paid s w c h known none is a =
 -- ---- the thread's core
 
 -- core c holds that chunk of thread k of sphere i
-pub record OnCore (w : World) (i k c : ℕ) (h : Held) : Type 0 where
+pub record OnCore (w : World) (i k c : ℕ) (h : Occupant) : Type 0 where
   pub there : at w.cores c ≡ Some h
   pub sphere : h.chunk.sphere ≡ i
   pub thread : h.thread ≡ k
 
 -- the core on which a thread is found holds its chunk
-pub on-core : (w : World) (i k c : ℕ) → core_of w i k ≡ Some c → (h : Held) × OnCore w i k c h
+pub on-core : (w : World) (i k c : ℕ) → core_of w i k ≡ Some c → (h : Occupant) × OnCore w i k c h
 on-core w i k c e =
     let f = first_some (runs i k) w.cores c e in
     let p = and_parts (eqb f.0.chunk.sphere i) (eqb f.0.thread k) f.2 in
     (f.0, record { there = f.1; sphere = eqb-true f.0.chunk.sphere i p.0; thread = eqb-true f.0.thread k p.1 })
 
-pub core-paid : (s : Setup) (w : World) (i k c : ℕ) (h : Held) → Known s w → standing w ≡ None → HasActor s w i (Actor.Thread k) → OnCore w i k c h → paid s.cores h.chunk.done.n ≤ spheres_rank s.cores s.spheres w.spheres
+pub core-paid : (s : Setup) (w : World) (i k c : ℕ) (h : Occupant) → Known s w → standing w ≡ None → HasActor s w i (Actor.Thread k) → OnCore w i k c h → paid s.cores h.chunk.done.n ≤ spheres_rank s.cores s.spheres w.spheres
 core-paid s w i k c h known none a on =
     held_paid s w c h known none on.there
     (subst (λ (j : ℕ). HasActor s w j (Actor.Thread h.thread)) (sym on.sphere) (subst (λ (j : ℕ). HasActor s w i (Actor.Thread j)) (sym on.thread) a))

@@ -15,7 +15,7 @@ use Rattle.spec_engine.specs.Laws.{CoversWords}
 use Rattle.spec_engine.proofs.Searches.{first_none}
 use Rattle.spec_protocol.specs.Spheres.{Role, Plain, Record, Replay, Sphere, is_stopped, recording_turn, head_in, head_of, is_in_pieces}
 use Rattle.spec_protocol.specs.Commits.{MovedSphere, is_piece, chunk_moved, serial_moved}
-use Rattle.spec_protocol.specs.World.{Held, World, moment, sphere_at, answered}
+use Rattle.spec_protocol.specs.World.{Occupant, World, moment, sphere_at, answered}
 use Rattle.spec_protocol.specs.Asking.{move_at, is_short, chunk_request, grant_chunk, serial_request, grant_serial, asks_serial, other_turn, asking}
 use Rattle.spec_protocol.specs.Serial.{do_moved, do_serial}
 use Rattle.spec_protocol.specs.Shown.{flying, shown, shown_of}
@@ -44,12 +44,12 @@ shown_over w i = refl
 
 -- ---- a chunk
 
-abbrev chunk_move : World → Held → How → MovedSphere
+abbrev chunk_move : World → Occupant → How → MovedSphere
 chunk_move w h how =
     chunk_moved h.thread (is_piece how) (is_short w.numbers.chunk how h.chunk.limit) h.chunk.done w.devices (sphere_at w h.chunk.sphere)
 
 -- done whole: a run of its instructions on the current memory
-chunk_whole : (w : World) (h : Held) (how : How) → h.chunk.sphere < length w.spheres → slice_get (sphere_at w h.chunk.sphere).threads h.thread ≡ Some h.chunk.start → run (current w h.chunk.sphere) h.chunk.start h.chunk.done.n ≡ h.chunk.done
+chunk_whole : (w : World) (h : Occupant) (how : How) → h.chunk.sphere < length w.spheres → slice_get (sphere_at w h.chunk.sphere).threads h.thread ≡ Some h.chunk.start → run (current w h.chunk.sphere) h.chunk.start h.chunk.done.n ≡ h.chunk.done
     → do_move w.numbers (shown_of w) (move_at (moment w) (chunk_request w h how)) ≡ do_moved (shown_of w) h.chunk.sphere (relaid (current w h.chunk.sphere) (chunk_move w h how))
 unfolding do_move
 chunk_whole w h how within start runs =
@@ -68,7 +68,7 @@ pub never_hits : (w : World) (ch : Chunk) → first_slot (meets_chunk ch.reads c
 never_hits w ch none k f is =
     or_parts (hits f.writes ch.reads) (hits f.writes ch.writes) (first_none (meets_chunk ch.reads ch.writes) w.slots none k f is)
 
-chunk_lacks : (w : World) (c : ℕ) (h : Held) → IsGood w → IsGoodHeld w c h → first_slot (meets_chunk h.chunk.reads h.chunk.writes) w.slots ≡ None → AllLack h.chunk.done.words (flying h.chunk.sphere w.slots)
+chunk_lacks : (w : World) (c : ℕ) (h : Occupant) → IsGood w → IsGoodHeld w c h → first_slot (meets_chunk h.chunk.reads h.chunk.writes) w.slots ≡ None → AllLack h.chunk.done.words (flying h.chunk.sphere w.slots)
 chunk_lacks w c h good held none =
     flying-all_lack h.chunk.sphere h.chunk.done.words w.slots
     (λ k f is same.
@@ -77,7 +77,7 @@ chunk_lacks w c h good held none =
     (apart-covered h.chunk.sphere f.writes h.chunk.writes f.words h.chunk.done.words (held.chunk.writes_size ∙ sym cov.size) (subst (λ (n : ℕ). CoversWords n f.writes f.words) same cov.words) held.chunk.writes
     (never_hits w h.chunk none k f is).1))
 
-chunk_live : (w : World) (c : ℕ) (h : Held) → IsGoodHeld w c h → first_slot (meets_chunk h.chunk.reads h.chunk.writes) w.slots ≡ None → IsCurrent (current w h.chunk.sphere) h.chunk
+chunk_live : (w : World) (c : ℕ) (h : Occupant) → IsGoodHeld w c h → first_slot (meets_chunk h.chunk.reads h.chunk.writes) w.slots ≡ None → IsCurrent (current w h.chunk.sphere) h.chunk
 chunk_live w c h held none = held.chunk.live (record { misses = λ k f is same untold. (never_hits w h.chunk none k f is).0 })
 
 -- ---- turns
@@ -108,7 +108,7 @@ pieces_before ch role e closed none =
     let empty : is_empty_serial ch ≡ true = and_from (eqb ch.done.n 0) (is_serial ch.closed) (eq-eqb ch.done.n 0 none) (ap is_serial closed) in
     not-false (is_in_pieces role) (ap (λ (b : Bool). b && not (is_in_pieces role)) (sym empty) ∙ e)
 
-chunk_fits : (w : World) (c : ℕ) (h : Held) (how : How) → IsGoodHeld w c h → IsCurrent (current w h.chunk.sphere) h.chunk → h.chunk.closed ≡ Some how → is_stopped (sphere_at w h.chunk.sphere).role ≡ false → other_turn (head_of (sphere_at w h.chunk.sphere)) h.thread ≡ None
+chunk_fits : (w : World) (c : ℕ) (h : Occupant) (how : How) → IsGoodHeld w c h → IsCurrent (current w h.chunk.sphere) h.chunk → h.chunk.closed ≡ Some how → is_stopped (sphere_at w h.chunk.sphere).role ≡ false → other_turn (head_of (sphere_at w h.chunk.sphere)) h.thread ≡ None
     → asks_serial h.chunk (sphere_at w h.chunk.sphere).role ≡ false → ChunkFits w.numbers (over (current w h.chunk.sphere) (sphere_at w h.chunk.sphere)) h.thread h.chunk.start how h.chunk.done.n h.chunk.limit
 chunk_fits w c h how held live closed going turn chunk =
     let p = sphere_at w h.chunk.sphere in
@@ -131,7 +131,7 @@ chunk_fits w c h how held live closed going turn chunk =
       room = λ e. (let a = closes.room (closed ∙ ap Some e) in let b = closes.few in omega arith);
     }
 
-chunk_fits_at : (w : World) (h : Held) (how : How) → h.chunk.sphere < length w.spheres → slice_get (sphere_at w h.chunk.sphere).threads h.thread ≡ Some h.chunk.start
+chunk_fits_at : (w : World) (h : Occupant) (how : How) → h.chunk.sphere < length w.spheres → slice_get (sphere_at w h.chunk.sphere).threads h.thread ≡ Some h.chunk.start
     → ChunkFits w.numbers (over (current w h.chunk.sphere) (sphere_at w h.chunk.sphere)) h.thread h.chunk.start how h.chunk.done.n h.chunk.limit → Fits w.numbers (shown_of w) (move_at (moment w) (chunk_request w h how))
 chunk_fits_at w h how within start fits =
     let i = h.chunk.sphere in
@@ -139,7 +139,7 @@ chunk_fits_at w h how within start fits =
     subst (FitsAt w.numbers w.devices (move_at (moment w) (chunk_request w h how))) (sym (shown_at w i within ∙ ap Some (shown_over w i)))
     (subst (FitsChunk w.numbers p h.thread how h.chunk.done.n h.chunk.limit) (sym start) fits)
 
-chunk_grants : (w : World) (c : ℕ) (h : Held) (how : How) → IsGood w → at w.cores c ≡ Some h → h.chunk.closed ≡ Some how → is_stopped (sphere_at w h.chunk.sphere).role ≡ false → other_turn (head_of (sphere_at w h.chunk.sphere)) h.thread ≡ None
+chunk_grants : (w : World) (c : ℕ) (h : Occupant) (how : How) → IsGood w → at w.cores c ≡ Some h → h.chunk.closed ≡ Some how → is_stopped (sphere_at w h.chunk.sphere).role ≡ false → other_turn (head_of (sphere_at w h.chunk.sphere)) h.thread ≡ None
     → is_full w.slots ≡ false → asks_serial h.chunk (sphere_at w h.chunk.sphere).role ≡ false → first_slot (meets_chunk h.chunk.reads h.chunk.writes) w.slots ≡ None
     → Grants w c h (chunk_request w h how) h.chunk.writes (chunk_move w h how)
 chunk_grants w c h how good is closed going turn free chunk none =
@@ -182,10 +182,10 @@ none_of_sphere w i none = no_flying i w.slots (λ k f is. first_none (is_of_sphe
 memory_itself : (w : World) (i : ℕ) → flying i w.slots ≡ [] → current w i ≡ (sphere_at w i).memory
 memory_itself w i e = ap (lays (sphere_at w i).memory) e
 
-abbrev serial_move : World → Held → MovedSphere
+abbrev serial_move : World → Occupant → MovedSphere
 serial_move w h = serial_moved h.thread (moment w) h.chunk.start w.devices (sphere_at w h.chunk.sphere)
 
-serial_whole : (w : World) (h : Held) → h.chunk.sphere < length w.spheres → slice_get (sphere_at w h.chunk.sphere).threads h.thread ≡ Some h.chunk.start → flying h.chunk.sphere w.slots ≡ [] → (serial_move w h).sphere.memory ≡ (sphere_at w h.chunk.sphere).memory
+serial_whole : (w : World) (h : Occupant) → h.chunk.sphere < length w.spheres → slice_get (sphere_at w h.chunk.sphere).threads h.thread ≡ Some h.chunk.start → flying h.chunk.sphere w.slots ≡ [] → (serial_move w h).sphere.memory ≡ (sphere_at w h.chunk.sphere).memory
     → do_move w.numbers (shown_of w) (move_at (moment w) (serial_request h)) ≡ do_moved (shown_of w) h.chunk.sphere (relaid (current w h.chunk.sphere) (serial_move w h))
 unfolding do_move
 serial_whole w h within start none memory =
@@ -211,14 +211,14 @@ serial_closed (Some How.Serial) e = refl
 serial_closed (Some How.Overflow) e = absurd (true≢false (sym e))
 serial_closed (Some How.Cut) e = absurd (true≢false (sym e))
 
-serial_fits_at : (w : World) (h : Held) → h.chunk.sphere < length w.spheres → slice_get (sphere_at w h.chunk.sphere).threads h.thread ≡ Some h.chunk.start
+serial_fits_at : (w : World) (h : Occupant) → h.chunk.sphere < length w.spheres → slice_get (sphere_at w h.chunk.sphere).threads h.thread ≡ Some h.chunk.start
     → SerialFits (over (current w h.chunk.sphere) (sphere_at w h.chunk.sphere)) h.thread h.chunk.start → Fits w.numbers (shown_of w) (move_at (moment w) (serial_request h))
 serial_fits_at w h within start fits =
     let i = h.chunk.sphere in
     subst (FitsAt w.numbers w.devices (move_at (moment w) (serial_request h))) (sym (shown_at w i within ∙ ap Some (shown_over w i)))
     (subst (FitsSerial (over (current w i) (sphere_at w i)) h.thread) (sym start) fits)
 
-serial_grants : (w : World) (c : ℕ) (h : Held) → IsGood w → at w.cores c ≡ Some h → is_stopped (sphere_at w h.chunk.sphere).role ≡ false → other_turn (head_of (sphere_at w h.chunk.sphere)) h.thread ≡ None → is_full w.slots ≡ false
+serial_grants : (w : World) (c : ℕ) (h : Occupant) → IsGood w → at w.cores c ≡ Some h → is_stopped (sphere_at w h.chunk.sphere).role ≡ false → other_turn (head_of (sphere_at w h.chunk.sphere)) h.thread ≡ None → is_full w.slots ≡ false
     → asks_serial h.chunk (sphere_at w h.chunk.sphere).role ≡ true → first_slot (is_of_sphere h.chunk.sphere) w.slots ≡ None
     → Grants w c h (serial_request h) (signed h.chunk.sphere (serial_move w h).words (nothing w.numbers.signature)) (serial_move w h)
 serial_grants w c h good is going turn free serial none =
@@ -259,11 +259,11 @@ serial_grants w c h good is going turn free serial none =
 
 -- ---- the event
 
-grant_chunk_preserved : (w : World) (c : ℕ) (h : Held) (how : How) → IsGood w → Grants w c h (chunk_request w h how) h.chunk.writes (chunk_move w h how) → Preserved w (grant_chunk w c h how)
+grant_chunk_preserved : (w : World) (c : ℕ) (h : Occupant) (how : How) → IsGood w → Grants w c h (chunk_request w h how) h.chunk.writes (chunk_move w h how) → Preserved w (grant_chunk w c h how)
 unfolding grant_chunk
 grant_chunk_preserved w c h how good g = granted-preserved w c h (chunk_request w h how) h.chunk.writes (chunk_move w h how) _ refl good g
 
-grant_serial_preserved : (w : World) (c : ℕ) (h : Held) → IsGood w → Grants w c h (serial_request h) (signed h.chunk.sphere (serial_move w h).words (nothing w.numbers.signature)) (serial_move w h) → Preserved w (grant_serial w c h)
+grant_serial_preserved : (w : World) (c : ℕ) (h : Occupant) → IsGood w → Grants w c h (serial_request h) (signed h.chunk.sphere (serial_move w h).words (nothing w.numbers.signature)) (serial_move w h) → Preserved w (grant_serial w c h)
 unfolding grant_serial
 grant_serial_preserved w c h good g = granted-preserved w c h (serial_request h) _ (serial_move w h) _ refl good g
 

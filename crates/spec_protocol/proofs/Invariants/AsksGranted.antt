@@ -18,7 +18,7 @@ use Rattle.spec_protocol.specs.declared.reply.Reply.{Reply}
 use Rattle.spec_protocol.specs.Spheres.{Role, Plain, Record, Replay, Sphere, is_stopped, recording_turn, head_in, head_of}
 use Rattle.spec_protocol.specs.Placing.{replays}
 use Rattle.spec_protocol.specs.Commits.{CommitOutcome, Granted, Piece, Diverged, MovedSphere, is_piece, chunk_moved, serial_moved}
-use Rattle.spec_protocol.specs.World.{Held, World, moment, sphere_at, After, answered}
+use Rattle.spec_protocol.specs.World.{Occupant, World, moment, sphere_at, After, answered}
 use Rattle.spec_protocol.specs.Asking.{CommitRequest, chunk_request, granted, grant_chunk, unless_denied, serial_request, grant_serial, unless_busy, asks_serial, ask_arbiter, other_turn, unless_turn, ask_closed, ask_held, asking}
 use Rattle.spec_protocol.specs.Machine.{world_of, core_no, act, happens, world_after}
 use Rattle.spec_protocol.specs.Invariants.{IsGoodHeld, IsGood}
@@ -44,7 +44,7 @@ not_full : (w : World) (o : Option ℕ) → free_slot w.slots ≡ o → Empty w 
 not_full w None e m = absurd (true≢false (sym (ap is_none (m.none 0)) ∙ full_at w.slots e 0 m.some_slot))
 not_full w (Some k) e m = refl
 
-abbrev IsGrantedOr : World → Held → After → Type 0
+abbrev IsGrantedOr : World → Occupant → After → Type 0
 IsGrantedOr w h a = (a.reply ≡ Reply.Granted) ⊎ ((actor : Actor) × (a.reply ≡ Reply.NotTurn actor) × IsInTurns (sphere_at w h.chunk.sphere).role)
 
 granted_reply : (w : World) (c : ℕ) (q : CommitRequest) (writes : Marks) (v : MovedSphere) (o : CommitOutcome) → o ≡ Granted → (granted w c q writes v o).reply ≡ Reply.Granted
@@ -52,14 +52,14 @@ granted_reply w c q writes v Granted e = refl
 granted_reply w c q writes v Piece e = cc
 granted_reply w c q writes v (Diverged i why) e = cc
 
-chunk_reply : (w : World) (c : ℕ) (h : Held) (how : How) → replays (sphere_at w h.chunk.sphere).role ≡ false → (grant_chunk w c h how).reply ≡ Reply.Granted
+chunk_reply : (w : World) (c : ℕ) (h : Occupant) (how : How) → replays (sphere_at w h.chunk.sphere).role ≡ false → (grant_chunk w c h how).reply ≡ Reply.Granted
 unfolding grant_chunk
 chunk_reply w c h how live =
     let q = chunk_request w h how in
     granted_reply w c q h.chunk.writes (chunk_moved h.thread (is_piece how) q.short h.chunk.done w.devices (sphere_at w h.chunk.sphere)) _
     (chunk-lives h.thread (is_piece how) q.short h.chunk.done w.devices (sphere_at w h.chunk.sphere) live)
 
-serial_reply : (w : World) (c : ℕ) (h : Held) → replays (sphere_at w h.chunk.sphere).role ≡ false → (grant_serial w c h).reply ≡ Reply.Granted
+serial_reply : (w : World) (c : ℕ) (h : Occupant) → replays (sphere_at w h.chunk.sphere).role ≡ false → (grant_serial w c h).reply ≡ Reply.Granted
 unfolding grant_serial
 serial_reply w c h live =
     let v = serial_moved h.thread (moment w) h.chunk.start w.devices (sphere_at w h.chunk.sphere) in
@@ -73,7 +73,7 @@ busy_reply : (w : World) (a : After) (o : Option ℕ) → o ≡ None → a.reply
 busy_reply w a None e g = g
 busy_reply w a (Some k) e g = absurd (none-some k (sym e))
 
-arbiter_reply : (w : World) (c : ℕ) (h : Held) (how : How) (serial : Bool) → Empty w → replays (sphere_at w h.chunk.sphere).role ≡ false → (ask_arbiter w c h how serial).reply ≡ Reply.Granted
+arbiter_reply : (w : World) (c : ℕ) (h : Occupant) (how : How) (serial : Bool) → Empty w → replays (sphere_at w h.chunk.sphere).role ≡ false → (ask_arbiter w c h how serial).reply ≡ Reply.Granted
 arbiter_reply w c h how true m live =
     busy_reply w (grant_serial w c h) (first_slot (is_of_sphere h.chunk.sphere) w.slots) (not_found w (is_of_sphere h.chunk.sphere) _ refl m.none) (serial_reply w c h live)
 arbiter_reply w c h how false m live =
@@ -94,7 +94,7 @@ in_turns Plain p k actor live e = none-some actor e
 in_turns (Record log) p k actor live e = recorded_turn log.mode p k actor e
 in_turns (Replay b) p k actor live e = absurd (true≢false live)
 
-turn_reply : (w : World) (h : Held) (a : After) (o : Option Actor) → ((actor : Actor) → o ≡ Some actor → IsInTurns (sphere_at w h.chunk.sphere).role) → IsGrantedOr w h a → IsGrantedOr w h (unless_turn o w a)
+turn_reply : (w : World) (h : Occupant) (a : After) (o : Option Actor) → ((actor : Actor) → o ≡ Some actor → IsInTurns (sphere_at w h.chunk.sphere).role) → IsGrantedOr w h a → IsGrantedOr w h (unless_turn o w a)
 turn_reply w h a None turns g = g
 turn_reply w h a (Some actor) turns g = inr (actor, refl, turns actor refl)
 
@@ -102,7 +102,7 @@ turns_of : (p : Sphere) (k : ℕ) (actor : Actor) → replays p.role ≡ false �
 unfolding head_of
 turns_of p k actor live e = in_turns p.role p k actor live e
 
-closed_reply : (w : World) (c : ℕ) (h : Held) (how : How) → Empty w → replays (sphere_at w h.chunk.sphere).role ≡ false → IsGrantedOr w h (ask_closed w c h (Some how))
+closed_reply : (w : World) (c : ℕ) (h : Occupant) (how : How) → Empty w → replays (sphere_at w h.chunk.sphere).role ≡ false → IsGrantedOr w h (ask_closed w c h (Some how))
 closed_reply w c h how m live =
     let p = sphere_at w h.chunk.sphere in
     let turn = other_turn (head_of p) h.thread in
@@ -114,9 +114,9 @@ closed_reply w c h how m live =
     (λ full. absurd (true≢false (sym full ∙ not_full w (free_slot w.slots) refl m)))
     (λ _. inl (arbiter_reply w c h how (asks_serial h.chunk p.role) m live))))
 
-ask_reply : (w : World) (c : ℕ) (h : Held) (how : How) (o : Option Held) (q : Option How) → o ≡ Some h → h.chunk.closed ≡ Some how → Empty w → replays (sphere_at w h.chunk.sphere).role ≡ false → IsGrantedOr w h (ask_held w c o)
+ask_reply : (w : World) (c : ℕ) (h : Occupant) (how : How) (o : Option Occupant) (q : Option How) → o ≡ Some h → h.chunk.closed ≡ Some how → Empty w → replays (sphere_at w h.chunk.sphere).role ≡ false → IsGrantedOr w h (ask_held w c o)
 ask_reply w c h how o q is closed m live =
-    subst (λ (x : Option Held). IsGrantedOr w h (ask_held w c x)) (sym is)
+    subst (λ (x : Option Occupant). IsGrantedOr w h (ask_held w c x)) (sym is)
     (subst (λ (x : Option How). IsGrantedOr w h (ask_closed w c h x)) (sym closed) (closed_reply w c h how m live))
 
 happens_reply : (w : World) (c : ℕ) → (happens w (Event.Ask c)).reply ≡ (ask_held w (core_no w c) (at w.cores (core_no w c))).reply
@@ -141,7 +141,7 @@ uncovered_loads i g f (l ∷ ls) ws size c lacks e = (
 )
 
 -- no flight of its sphere shares a word with the chunk, where none hits it
-chunk_clear : (w : World) (c : ℕ) (h : Held) (k : ℕ) (f : Flight) → IsGood w → IsGoodHeld w c h → at w.slots k ≡ Some f → f.sphere ≡ h.chunk.sphere → first_slot (meets_chunk h.chunk.reads h.chunk.writes) w.slots ≡ None → IsClearOf h f
+chunk_clear : (w : World) (c : ℕ) (h : Occupant) (k : ℕ) (f : Flight) → IsGood w → IsGoodHeld w c h → at w.slots k ≡ Some f → f.sphere ≡ h.chunk.sphere → first_slot (meets_chunk h.chunk.reads h.chunk.writes) w.slots ≡ None → IsClearOf h f
 chunk_clear w c h k f good held there same none =
     let cov = good.covered k f there in
     let words = subst (λ (n : ℕ). CoversWords n f.writes f.words) same cov.words in
@@ -151,10 +151,10 @@ chunk_clear w c h k f good held there same none =
       loads = uncovered_loads h.chunk.sphere h.chunk.reads f.writes h.chunk.done.loads f.words (held.chunk.reads_size ∙ sym cov.size) held.chunk.loads (λ a e. uncovered-lacks h.chunk.sphere a f.writes f.words words e) miss.0;
     }
 
-abbrev Clear : World → Held → After → Type 0
+abbrev Clear : World → Occupant → After → Type 0
 Clear w h a = makes_point a.reply ≡ true → (k : ℕ) (f : Flight) → at w.slots k ≡ Some f → f.sphere ≡ h.chunk.sphere → IsClearOf h f
 
-closed_clear : (w : World) (c : ℕ) (h : Held) → IsGood w → at w.cores c ≡ Some h → Clear w h (ask_closed w c h h.chunk.closed)
+closed_clear : (w : World) (c : ℕ) (h : Occupant) → IsGood w → at w.cores c ≡ Some h → Clear w h (ask_closed w c h h.chunk.closed)
 closed_clear w c h good is =
     any-closed w (Clear w h) (λ r none made. absurd (true≢false (sym made ∙ none))) c h h.chunk.closed is refl
     (λ how may chunk none made k f there same. chunk_clear w c h k f good (good.held c h is) there same none)
@@ -165,5 +165,5 @@ pub grants_clear : GrantsAreClear
 grants_clear s es is c h there made =
     let w = world_after (world_of s) es in
     let good = after-good (world_of s) es (start-good s is) in
-    subst (λ (o : Option Held). Clear w h (ask_held w (core_no w c) o)) (sym there) (closed_clear w (core_no w c) h good there)
+    subst (λ (o : Option Occupant). Clear w h (ask_held w (core_no w c) o)) (sym there) (closed_clear w (core_no w c) h good there)
     (ap makes_point (sym (happens_reply w c)) ∙ made)

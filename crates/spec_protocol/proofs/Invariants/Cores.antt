@@ -12,7 +12,7 @@ use Rattle.spec_engine.specs.Flights.{Flight, at}
 use Rattle.spec_engine.specs.Chunks.{Chunk, step, Cutting, cut_open}
 use Rattle.spec_protocol.specs.Spheres.{is_stopped, limit_of, halves}
 use Rattle.spec_protocol.specs.Placing.{replays}
-use Rattle.spec_protocol.specs.World.{Held, World, Move, After, sphere_at, with_core, answered}
+use Rattle.spec_protocol.specs.World.{Occupant, World, Move, After, sphere_at, with_core, answered}
 use Rattle.spec_protocol.specs.Shown.{shown_of}
 use Rattle.spec_protocol.specs.Moves.{do_if, FitsIf}
 pub use Rattle.spec_protocol.proofs.Moves.AnyEvent.{branch}
@@ -39,7 +39,7 @@ set-cases xs k j v x e =
     ]
 
 -- after a change at one core each thread is still on one core, if no other core holds the new one's
-pub alone-set : (cores : List (Option Held)) (c : ℕ) (o : Option Held) → IsAlone cores → ((h : Held) → o ≡ Some h → (d : ℕ) (g : Held) → d ≢ c → at cores d ≡ Some g → h.chunk.sphere ≡ g.chunk.sphere → h.thread ≡ g.thread → ⊥) → IsAlone (set cores c o)
+pub alone-set : (cores : List (Option Occupant)) (c : ℕ) (o : Option Occupant) → IsAlone cores → ((h : Occupant) → o ≡ Some h → (d : ℕ) (g : Occupant) → d ≢ c → at cores d ≡ Some g → h.chunk.sphere ≡ g.chunk.sphere → h.thread ≡ g.thread → ⊥) → IsAlone (set cores c o)
 alone-set cores c o alone new a b h g ah bg sphere thread =
     elim (set-cases cores c a o h ah) [
       | inl p ↦ elim (set-cases cores c b o g bg) [
@@ -55,7 +55,7 @@ alone-set cores c o alone new a b h g ah bg sphere thread =
 -- ---- one core changes
 
 -- what another core holds stays good, whatever is put on core c
-pub held_there : (w : World) (c d : ℕ) (o : Option Held) (g : Held) → IsGoodHeld w d g → IsGoodHeld (with_core w c o) d g
+pub held_there : (w : World) (c d : ℕ) (o : Option Occupant) (g : Occupant) → IsGoodHeld w d g → IsGoodHeld (with_core w c o) d g
 held_there w c d o g good =
     record {
       sphere = good.sphere;
@@ -67,8 +67,8 @@ held_there w c d o g good =
     }
 
 -- a world stays good where core c is given something good, whose thread is on no other core
-pub core-good : (w : World) (c : ℕ) (o : Option Held) → IsGood w → ((h : Held) → o ≡ Some h → IsGoodHeld w c h)
-    → ((h : Held) → o ≡ Some h → (d : ℕ) (g : Held) → d ≢ c → at w.cores d ≡ Some g → h.chunk.sphere ≡ g.chunk.sphere → h.thread ≡ g.thread → ⊥) → IsGood (with_core w c o)
+pub core-good : (w : World) (c : ℕ) (o : Option Occupant) → IsGood w → ((h : Occupant) → o ≡ Some h → IsGoodHeld w c h)
+    → ((h : Occupant) → o ≡ Some h → (d : ℕ) (g : Occupant) → d ≢ c → at w.cores d ≡ Some g → h.chunk.sphere ≡ g.chunk.sphere → h.thread ≡ g.thread → ⊥) → IsGood (with_core w c o)
 core-good w c o good new other =
     record {
       buffer = good.buffer;
@@ -84,7 +84,7 @@ core-good w c o good new other =
     }
 
 -- such a change of one core, which moves no sphere and makes no point, keeps the invariant
-pub core-preserved : (w : World) (c : ℕ) (o : Option Held) (a : After) → a.world ≡ with_core w c o → a.move ≡ None → a.point ≡ None → IsGood (with_core w c o) → Preserved w a
+pub core-preserved : (w : World) (c : ℕ) (o : Option Occupant) (a : After) → a.world ≡ with_core w c o → a.move ≡ None → a.point ≡ None → IsGood (with_core w c o) → Preserved w a
 core-preserved w c o a world move point good =
     record {
       good = subst IsGood (sym world) good;
@@ -96,7 +96,7 @@ core-preserved w c o a world move point good =
 
 -- ---- the core's chunk changes, and its base does not
 
-pub held-same : (w : World) (c : ℕ) (h : Held) (dh : Chunk) → IsGoodHeld w c h → SameBase h.chunk dh → IsGoodChunk w.numbers.buffer w.numbers.signature w.slots c (current w h.chunk.sphere) dh → IsGoodHeld w c (record h { chunk = dh })
+pub held-same : (w : World) (c : ℕ) (h : Occupant) (dh : Chunk) → IsGoodHeld w c h → SameBase h.chunk dh → IsGoodChunk w.numbers.buffer w.numbers.signature w.slots c (current w h.chunk.sphere) dh → IsGoodHeld w c (record h { chunk = dh })
 held-same w c h dh good base chunk =
     let limits : limit_of w.numbers.chunk (sphere_at w dh.sphere).role h.thread dh.start ≡ limit_of w.numbers.chunk (sphere_at w h.chunk.sphere).role h.thread h.chunk.start =
     (λ j. limit_of w.numbers.chunk (sphere_at w (base.sphere j)).role h.thread (base.start j))
@@ -116,12 +116,12 @@ held-same w c h dh good base chunk =
     }
 
 -- nobody else runs the thread of core c's chunk
-pub others-differ : (w : World) (c : ℕ) (h : Held) (dh : Chunk) → IsGood w → at w.cores c ≡ Some h → dh.sphere ≡ h.chunk.sphere → (k : Held) → Some (record h { chunk = dh }) ≡ Some k → (d : ℕ) (g : Held) → d ≢ c → at w.cores d ≡ Some g → k.chunk.sphere ≡ g.chunk.sphere → k.thread ≡ g.thread → ⊥
+pub others-differ : (w : World) (c : ℕ) (h : Occupant) (dh : Chunk) → IsGood w → at w.cores c ≡ Some h → dh.sphere ≡ h.chunk.sphere → (k : Occupant) → Some (record h { chunk = dh }) ≡ Some k → (d : ℕ) (g : Occupant) → d ≢ c → at w.cores d ≡ Some g → k.chunk.sphere ≡ g.chunk.sphere → k.thread ≡ g.thread → ⊥
 others-differ w c h dh good is same k e d g ne there sphere thread =
     let q : record h { chunk = dh } ≡ k = cc in
-    ne (good.alone d c g h there is (sym sphere ∙ ap (λ (x : Held). x.chunk.sphere) (sym q) ∙ same) (sym thread ∙ ap (λ (x : Held). x.thread) (sym q)))
+    ne (good.alone d c g h there is (sym sphere ∙ ap (λ (x : Occupant). x.chunk.sphere) (sym q) ∙ same) (sym thread ∙ ap (λ (x : Occupant). x.thread) (sym q)))
 
-chunk_preserved : (w : World) (c : ℕ) (h : Held) (dh : Chunk) (a : After) → IsGood w → at w.cores c ≡ Some h → SameBase h.chunk dh → IsGoodChunk w.numbers.buffer w.numbers.signature w.slots c (current w h.chunk.sphere) dh
+chunk_preserved : (w : World) (c : ℕ) (h : Occupant) (dh : Chunk) (a : After) → IsGood w → at w.cores c ≡ Some h → SameBase h.chunk dh → IsGoodChunk w.numbers.buffer w.numbers.signature w.slots c (current w h.chunk.sphere) dh
     → a.world ≡ with_chunk w c h dh → a.move ≡ None → a.point ≡ None → Preserved w a
 chunk_preserved w c h dh a good is base chunk world move point =
     core-preserved w c (Some (record h { chunk = dh })) a world move point
@@ -178,7 +178,7 @@ cut_good capacity bits xs c m ch open_ some good =
           };
     }
 
-cut_open_preserved : (w : World) (c : ℕ) (h : Held) (o : Option How) → at w.cores c ≡ Some h → h.chunk.closed ≡ o → IsGood w → Preserved w (cut_to w c h (cut_open h.chunk o))
+cut_open_preserved : (w : World) (c : ℕ) (h : Occupant) (o : Option How) → at w.cores c ≡ Some h → h.chunk.closed ≡ o → IsGood w → Preserved w (cut_to w c h (cut_open h.chunk o))
 cut_open_preserved w c h (Some how) is closed good =
     chunk_preserved w c h h.chunk (cut_to w c h (cut_open h.chunk (Some how))) good is (same_base h.chunk) (good.held c h is).chunk refl refl refl
 cut_open_preserved w c h None is closed good =

@@ -17,7 +17,7 @@ use Rattle.spec_engine.proofs.Searches.{told-tell_other, all_told-at}
 use Rattle.spec_protocol.specs.declared.reply.Reply.{Reply}
 use Rattle.spec_protocol.specs.Spheres.{Role, Plain, Record, Replay, Sphere, is_stopped, limit_of, halves}
 use Rattle.spec_protocol.specs.Placing.{replays}
-use Rattle.spec_protocol.specs.World.{Held, World, Move, After, sphere_at, with_memory, with_core, with_slot, answered}
+use Rattle.spec_protocol.specs.World.{Occupant, World, Move, After, sphere_at, with_memory, with_core, with_slot, answered}
 use Rattle.spec_protocol.specs.Shown.{words_of, flying, shown, shown_of}
 use Rattle.spec_protocol.specs.Moves.{do_if, FitsIf}
 use Rattle.spec_protocol.specs.Flying.{reply_of_drain, drain_slot, draining, reads_of, writes_of, squashed, told, delivering, reply_of_retire, retiring}
@@ -43,7 +43,7 @@ chunk-beside capacity bits xs ys c m n ch same quiet good =
     }
 
 -- a world in which the core's sphere has the same threads, role and current memory
-pub record Beside (w v : World) (c : ℕ) (h : Held) : Type 0 where
+pub record Beside (w v : World) (c : ℕ) (h : Occupant) : Type 0 where
   pub numbers : v.numbers ≡ w.numbers
   pub spheres : length v.spheres ≡ length w.spheres
   pub threads : (sphere_at v h.chunk.sphere).threads ≡ (sphere_at w h.chunk.sphere).threads
@@ -52,7 +52,7 @@ pub record Beside (w v : World) (c : ℕ) (h : Held) : Type 0 where
   pub quiet : IsQuiet v.slots h.chunk.sphere c h.chunk.reads → IsQuiet w.slots h.chunk.sphere c h.chunk.reads
 
 -- what a core holds stays good in a world that is beside the first one for it
-pub held-beside : (w v : World) (c : ℕ) (h : Held) → Beside w v c h → IsGoodHeld w c h → IsGoodHeld v c h
+pub held-beside : (w v : World) (c : ℕ) (h : Occupant) → Beside w v c h → IsGoodHeld w c h → IsGoodHeld v c h
 held-beside w v c h b good =
     let limits : limit_of v.numbers.chunk (sphere_at v h.chunk.sphere).role h.thread h.chunk.start ≡ limit_of w.numbers.chunk (sphere_at w h.chunk.sphere).role h.thread h.chunk.start =
     (λ j. limit_of (b.numbers j).chunk (b.role j) h.thread h.chunk.start)
@@ -85,7 +85,7 @@ unchanged w k v e = ap (set_to w k) (sym e) ∙ slot_itself w k
 
 -- ---- Drain
 
-drain_lays : (m : List ℕ) (b h ss : List Stored) (s : Stored) → Lacks s.word b → lays (lay m s) (b ++ (ss ++ h)) ≡ lays m (b ++ ((s ∷ ss) ++ h))
+drain_lays : (m : List ℕ) (b h ss : List Stored) (s : Stored) → Lacks s.number b → lays (lay m s) (b ++ (ss ++ h)) ≡ lays m (b ++ ((s ∷ ss) ++ h))
 drain_lays m b h ss s lacks =
     lays_append (lay m s) b (ss ++ h) ∙ ap (λ (n : List ℕ). lays n (ss ++ h)) (lays-lay m s b lacks) ∙ sym (lays_append m b ((s ∷ ss) ++ h))
 
@@ -104,7 +104,7 @@ shorter_quiet xs k f ss i c reads is q =
       ];
     }
 
-lacks_before : (b h : List Stored) (s : Stored) (ss : List Stored) → Apart (b ++ ((s ∷ ss) ++ h)) → Lacks s.word b
+lacks_before : (b h : List Stored) (s : Stored) (ss : List Stored) → Apart (b ++ ((s ∷ ss) ++ h)) → Lacks s.number b
 lacks_before b h s ss apart = (AllLack_flip b ((s ∷ ss) ++ h) (Apart_lack b ((s ∷ ss) ++ h) apart)).0
 
 without_first : (b h : List Stored) (s : Stored) (ss : List Stored) → Apart (b ++ ((s ∷ ss) ++ h)) → Apart (b ++ (ss ++ h))
@@ -143,7 +143,7 @@ drained_preserved w k f s ss a good is words world move point =
     let v = drained_world w k f s ss in
     let there : sphere_at v i ≡ record (sphere_at w i) { memory = lay m s } = sphere-same w.spheres i (record (sphere_at w i) { memory = lay m s }) inside in
     let elsewhere : (j : ℕ) → j ≢ i → sphere_at v j ≡ sphere_at w j = (λ j ne. sphere-other w.spheres i j (record (sphere_at w i) { memory = lay m s }) ne) in
-    let beside : (c : ℕ) (x : Held) → Beside w v c x =
+    let beside : (c : ℕ) (x : Occupant) → Beside w v c x =
     (λ c x. record {
       numbers = refl;
       spheres = length-set w.spheres i (record (sphere_at w i) { memory = lay m s });
@@ -220,7 +220,7 @@ record SlotKept (w : World) (k : ℕ) (v : Option Flight) : Type 0 where
   covered : (x : Flight) → v ≡ Some x → IsFlightCovered w.numbers.signature x
   flights : (x : Flight) → v ≡ Some x → x.sphere < length w.spheres
 
-slot_beside : (w : World) (k : ℕ) (v : Option Flight) (c : ℕ) (x : Held) → k < length w.slots → SlotKept w k v → (IsQuiet (set w.slots k v) x.chunk.sphere c x.chunk.reads → IsQuiet w.slots x.chunk.sphere c x.chunk.reads) → Beside w (with_slot w k v) c x
+slot_beside : (w : World) (k : ℕ) (v : Option Flight) (c : ℕ) (x : Occupant) → k < length w.slots → SlotKept w k v → (IsQuiet (set w.slots k v) x.chunk.sphere c x.chunk.reads → IsQuiet w.slots x.chunk.sphere c x.chunk.reads) → Beside w (with_slot w k v) c x
 slot_beside w k v c x within s quiet =
     record {
       numbers = refl;
@@ -231,7 +231,7 @@ slot_beside w k v c x within s quiet =
       quiet = quiet;
     }
 
-slot_good : (w : World) (k : ℕ) (v : Option Flight) → k < length w.slots → IsGood w → SlotKept w k v → ((c : ℕ) (x : Held) → at w.cores c ≡ Some x → IsGoodHeld (with_slot w k v) c x) → IsGood (with_slot w k v)
+slot_good : (w : World) (k : ℕ) (v : Option Flight) → k < length w.slots → IsGood w → SlotKept w k v → ((c : ℕ) (x : Occupant) → at w.cores c ≡ Some x → IsGoodHeld (with_slot w k v) c x) → IsGood (with_slot w k v)
 slot_good w k v within good s held =
     record {
       buffer = good.buffer;
@@ -380,7 +380,7 @@ not_both (Replay b) r = refl
 not_halved : (ch : Chunk) (role : Role) → ch.halves ≡ halves role → replays role ≡ true → cond (is_fourth ch) (halved ch.limit) ch.limit ≡ ch.limit
 not_halved ch role e r = ap (λ (b : Bool). cond (b && eqb ch.squashes 3) (halved ch.limit) ch.limit) (e ∙ not_both role r)
 
-squash_held : (w : World) (k c : ℕ) (o : Option Flight) (h : Held) → IsGoodHeld w c h → IsGoodHeld (with_slot w k o) c (record h { chunk = squash h.chunk })
+squash_held : (w : World) (k c : ℕ) (o : Option Flight) (h : Occupant) → IsGoodHeld w c h → IsGoodHeld (with_slot w k o) c (record h { chunk = squash h.chunk })
 squash_held w k c o h good =
     let positive = good.chunk.closes.positive in
     record {
@@ -400,7 +400,7 @@ squash_held w k c o h good =
 abbrev tell_in : World → (slot core : ℕ) → Flight → World
 tell_in w k c f = with_slot w k (Some (tell f c))
 
-told_held : (w : World) (k c : ℕ) (f : Flight) (d : ℕ) (x : Held) → IsGood w → at w.slots k ≡ Some f → (d ≡ c → hits f.writes x.chunk.reads ≡ false) → at w.cores d ≡ Some x → IsGoodHeld (tell_in w k c f) d x
+told_held : (w : World) (k c : ℕ) (f : Flight) (d : ℕ) (x : Occupant) → IsGood w → at w.slots k ≡ Some f → (d ≡ c → hits f.writes x.chunk.reads ≡ false) → at w.cores d ≡ Some x → IsGoodHeld (tell_in w k c f) d x
 told_held w k c f d x good is free there =
     held-beside w (tell_in w k c f) d x
     (slot_beside w k (Some (tell f c)) d x (at_within w.slots k f is) (told_slot w k c f good is) (told_quiet w.slots k f c d x.chunk.sphere x.chunk.reads is free))
@@ -409,14 +409,14 @@ told_held w k c f d x good is free there =
 told_sizes : (w : World) (k c : ℕ) (f : Flight) → SameSizes w (tell_in w k c f)
 told_sizes w k c f = record { numbers = refl; spheres = refl; cores = refl; slots = length-set w.slots k (Some (tell f c)) }
 
-delivered_preserved : (w : World) (k c : ℕ) (f : Flight) (held : Option Held) → IsGood w → at w.slots k ≡ Some f → at w.cores c ≡ held → meets_chunk (reads_of w held) (writes_of w held) f ≡ false → Preserved w (answered (tell_in w k c f) Reply.Delivered)
+delivered_preserved : (w : World) (k c : ℕ) (f : Flight) (held : Option Occupant) → IsGood w → at w.slots k ≡ Some f → at w.cores c ≡ held → meets_chunk (reads_of w held) (writes_of w held) f ≡ false → Preserved w (answered (tell_in w k c f) Reply.Delivered)
 delivered_preserved w k c f held good is there free =
     record {
       good = slot_good w k (Some (tell f c)) (at_within w.slots k f is) good (told_slot w k c f good is)
           (λ d x e. told_held w k c f d x good is
           (λ dc.
           let h : held ≡ Some x = sym there ∙ ap (at w.cores) (sym dc) ∙ e in
-          (or_parts (hits f.writes x.chunk.reads) (hits f.writes x.chunk.writes) (ap (λ (o : Option Held). meets_chunk (reads_of w o) (writes_of w o) f) (sym h) ∙ free)).0)
+          (or_parts (hits f.writes x.chunk.reads) (hits f.writes x.chunk.writes) (ap (λ (o : Option Occupant). meets_chunk (reads_of w o) (writes_of w o) f) (sym h) ∙ free)).0)
           e);
       sizes = told_sizes w k c f;
       point = refl;
@@ -425,8 +425,8 @@ delivered_preserved w k c f held good is there free =
     }
 
 -- core c is told, and what it holds changes
-told_good : (w : World) (k c : ℕ) (f : Flight) (o : Option Held) → IsGood w → at w.slots k ≡ Some f → ((x : Held) → o ≡ Some x → IsGoodHeld (tell_in w k c f) c x)
-    → ((h : Held) → o ≡ Some h → (d : ℕ) (g : Held) → d ≢ c → at w.cores d ≡ Some g → h.chunk.sphere ≡ g.chunk.sphere → h.thread ≡ g.thread → ⊥) → IsGood (with_core (tell_in w k c f) c o)
+told_good : (w : World) (k c : ℕ) (f : Flight) (o : Option Occupant) → IsGood w → at w.slots k ≡ Some f → ((x : Occupant) → o ≡ Some x → IsGoodHeld (tell_in w k c f) c x)
+    → ((h : Occupant) → o ≡ Some h → (d : ℕ) (g : Occupant) → d ≢ c → at w.cores d ≡ Some g → h.chunk.sphere ≡ g.chunk.sphere → h.thread ≡ g.thread → ⊥) → IsGood (with_core (tell_in w k c f) c o)
 told_good w k c f o good is new other =
     let within = at_within w.slots k f is in
     let s = told_slot w k c f good is in
@@ -443,7 +443,7 @@ told_good w k c f o good is new other =
       alone = alone-set w.cores c o good.alone other;
     }
 
-squashed_good : (w : World) (k c : ℕ) (f : Flight) (held : Option Held) → IsGood w → at w.slots k ≡ Some f → at w.cores c ≡ held → IsGood (with_core (tell_in w k c f) c (squashed held))
+squashed_good : (w : World) (k c : ℕ) (f : Flight) (held : Option Occupant) → IsGood w → at w.slots k ≡ Some f → at w.cores c ≡ held → IsGood (with_core (tell_in w k c f) c (squashed held))
 squashed_good w k c f None good is there =
     told_good w k c f None good is (λ x e. absurd (none-some x e)) (λ h e. absurd (none-some h e))
 squashed_good w k c f (Some h) good is there =
@@ -451,7 +451,7 @@ squashed_good w k c f (Some h) good is there =
     (λ x e. subst (IsGoodHeld (tell_in w k c f) c) (let q : record h { chunk = squash h.chunk } ≡ x = cc in q) (squash_held w k c (Some (tell f c)) h (good.held c h there)))
     (others-differ w c h (squash h.chunk) good there refl)
 
-squashed_preserved : (w : World) (k c : ℕ) (f : Flight) (held : Option Held) → IsGood w → at w.slots k ≡ Some f → at w.cores c ≡ held → Preserved w (answered (with_core (tell_in w k c f) c (squashed held)) Reply.Squashed)
+squashed_preserved : (w : World) (k c : ℕ) (f : Flight) (held : Option Occupant) → IsGood w → at w.slots k ≡ Some f → at w.cores c ≡ held → Preserved w (answered (with_core (tell_in w k c f) c (squashed held)) Reply.Squashed)
 squashed_preserved w k c f held good is there =
     record {
       good = squashed_good w k c f held good is there;
@@ -461,7 +461,7 @@ squashed_preserved w k c f held good is there =
       fits = tt;
     }
 
-deliver_slot_preserved : (w : World) (c k : ℕ) (held : Option Held) (o : Option Flight) → at w.cores c ≡ held → at w.slots k ≡ o → IsGood w
+deliver_slot_preserved : (w : World) (c k : ℕ) (held : Option Occupant) (o : Option Flight) → at w.cores c ≡ held → at w.slots k ≡ o → IsGood w
     → let d = deliver c (reads_of w held) (writes_of w held) o in Preserved w (told (with_slot w k d.slot) c held d.reply)
 deliver_slot_preserved w c k held None there is good = unchanged-preserved w _ (unchanged w k None is) refl refl good
 deliver_slot_preserved w c k held (Some f) there is good =

@@ -17,7 +17,7 @@ use Rattle.spec_engine.proofs.Marking.{covers_hit}
 use Rattle.spec_protocol.specs.Spheres.{Role, Plain, Record, Replay, Sphere, is_stopped, limit_of, halves}
 use Rattle.spec_protocol.specs.Placing.{replays}
 use Rattle.spec_protocol.specs.Commits.{MovedSphere}
-use Rattle.spec_protocol.specs.World.{Numbers, Held, World, sphere_at, thread_afresh, held_afresh}
+use Rattle.spec_protocol.specs.World.{Numbers, Occupant, World, sphere_at, thread_afresh, held_afresh}
 use Rattle.spec_protocol.specs.Serial.{do_moved}
 use Rattle.spec_protocol.specs.Shown.{flying, shown, shown_from, shown_of}
 use Rattle.spec_protocol.proofs.Memory.Laying.{Agree-unseen, Unseen}
@@ -41,30 +41,30 @@ limit-positive s (Replay b) k t positive = omega arith
 pub fresh-good : (capacity bits : ℕ) (xs : List (Option Flight)) (c : ℕ) (m : List ℕ) (i : ℕ) (t : Parts) (limit : ℕ) (halving : Bool) → 0 < limit → IsGoodChunk capacity bits xs c m (fresh bits i t limit halving)
 fresh-good capacity bits xs c m i t limit halving positive = begun-good capacity bits xs c m bits i t limit halving 0 refl positive
 
-abbrev afresh : Numbers → (i k : ℕ) → Sphere → Parts → Held
+abbrev afresh : Numbers → (i k : ℕ) → Sphere → Parts → Occupant
 afresh z i k p t = record { thread = k; chunk = fresh z.signature i t (limit_of z.chunk p.role k t) (halves p.role) }
 
 -- what a core begins with, if it does: a live thread of the sphere
-pub record IsAfresh (z : Numbers) (i k : ℕ) (p : Sphere) (h : Held) : Type 0 where
+pub record IsAfresh (z : Numbers) (i k : ℕ) (p : Sphere) (h : Occupant) : Type 0 where
   pub state : Parts
   pub start : slice_get p.threads k ≡ Some state
   pub lives : is_live state ≡ true
   pub is : afresh z i k p state ≡ h
 
-begins_if : (z : Numbers) (i k : ℕ) (p : Sphere) (h : Held) (t : Parts) (b : Bool) → slice_get p.threads k ≡ Some t → is_live t ≡ b → cond b (Some (afresh z i k p t)) None ≡ Some h → IsAfresh z i k p h
+begins_if : (z : Numbers) (i k : ℕ) (p : Sphere) (h : Occupant) (t : Parts) (b : Bool) → slice_get p.threads k ≡ Some t → is_live t ≡ b → cond b (Some (afresh z i k p t)) None ≡ Some h → IsAfresh z i k p h
 begins_if z i k p h t true start lives e = record { state = t; start = start; lives = lives; is = (let q : afresh z i k p t ≡ h = cc in q) }
 begins_if z i k p h t false start lives e = absurd (none-some h e)
 
-begins_thread : (z : Numbers) (i k : ℕ) (p : Sphere) (h : Held) (o : Option Parts) → slice_get p.threads k ≡ o → thread_afresh z i k p o ≡ Some h → IsAfresh z i k p h
+begins_thread : (z : Numbers) (i k : ℕ) (p : Sphere) (h : Occupant) (o : Option Parts) → slice_get p.threads k ≡ o → thread_afresh z i k p o ≡ Some h → IsAfresh z i k p h
 begins_thread z i k p h None start e = absurd (none-some h e)
 begins_thread z i k p h (Some t) start e = begins_if z i k p h t (is_live t) start refl e
 
 -- what is held afresh is a live thread, whose chunk begins from its state
-pub afresh-begins : (z : Numbers) (i k : ℕ) (p : Sphere) (h : Held) → held_afresh z i k p ≡ Some h → IsAfresh z i k p h
+pub afresh-begins : (z : Numbers) (i k : ℕ) (p : Sphere) (h : Occupant) → held_afresh z i k p ≡ Some h → IsAfresh z i k p h
 afresh-begins z i k p h e = begins_thread z i k p h (slice_get p.threads k) refl e
 
 -- in a world whose sphere i is p
-pub afresh-held : (v : World) (i k c : ℕ) (p : Sphere) (h : Held) → i < length v.spheres → 0 < v.numbers.chunk → sphere_at v i ≡ p → IsAfresh v.numbers i k p h → IsGoodHeld v c h
+pub afresh-held : (v : World) (i k c : ℕ) (p : Sphere) (h : Occupant) → i < length v.spheres → 0 < v.numbers.chunk → sphere_at v i ≡ p → IsAfresh v.numbers i k p h → IsGoodHeld v c h
 afresh-held v i k c p h within positive there b =
     let t = b.state in
     subst (IsGoodHeld v c) b.is
@@ -82,15 +82,15 @@ afresh-held v i k c p h within positive there b =
 -- ---- the other chunks
 
 -- the world in which sphere i has become q, with these slots, cores and devices
-abbrev pub moved_world : World → (i : ℕ) → Sphere → List (Option Flight) → List (Option Held) → Devices → World
+abbrev pub moved_world : World → (i : ℕ) → Sphere → List (Option Flight) → List (Option Occupant) → Devices → World
 moved_world w i q ys cores devices = record w { spheres = set w.spheres i q; slots = ys; cores = cores; devices = devices }
 
 -- words of a signature that does not hit these reads
 pub unhit-unseen : (i : ℕ) (g : Marks) (ch : Chunk) (ws : List Stored) → ch.sphere ≡ i → ch.reads.bits ≡ g.bits → CoversWords i g ws → hits g ch.reads ≡ false → Unseen (seen_by ch) ws
 unhit-unseen i g ch [] same size c e = tt
 unhit-unseen i g ch (w ∷ ws) same size c e = (
-  false_from_ne_true (seen_by ch w.word)
-      (λ h. true≢false (sym (covers_hit g ch.reads (line ch.sphere w.word) size (ap (λ (n : ℕ). covers g (line n w.word)) same ∙ c.0) h) ∙ e)),
+  false_from_ne_true (seen_by ch w.number)
+      (λ h. true≢false (sym (covers_hit g ch.reads (line ch.sphere w.number) size (ap (λ (n : ℕ). covers g (line n w.number)) same ∙ c.0) h) ∙ e)),
   unhit-unseen i g ch ws same size c.1 e,
 )
 
@@ -115,7 +115,7 @@ landed_chunk capacity bits xs ys d m ch f flew same cov untold good =
     }
 
 -- all that the chunk of a core d needs in the sphere that moves
-pub record Lands (w : World) (i : ℕ) (q : Sphere) (f : Flight) (ys : List (Option Flight)) (d : ℕ) (x : Held) : Type 0 where
+pub record Lands (w : World) (i : ℕ) (q : Sphere) (f : Flight) (ys : List (Option Flight)) (d : ℕ) (x : Occupant) : Type 0 where
   pub within : i < length w.spheres
   pub flew : Flew i f w.slots ys
   pub sphere : f.sphere ≡ i
@@ -128,7 +128,7 @@ pub record Lands (w : World) (i : ℕ) (q : Sphere) (f : Flight) (ys : List (Opt
   pub replaying : replays q.role ≡ replays (sphere_at w i).role
   pub limits : is_stopped q.role ≡ false → limit_of w.numbers.chunk q.role x.thread x.chunk.start ≡ limit_of w.numbers.chunk (sphere_at w i).role x.thread x.chunk.start
 
-landed_here : (w : World) (q : Sphere) (f : Flight) (ys : List (Option Flight)) (cores : List (Option Held)) (devices : Devices) (d : ℕ) (x : Held) → Lands w x.chunk.sphere q f ys d x → IsGoodHeld w d x
+landed_here : (w : World) (q : Sphere) (f : Flight) (ys : List (Option Flight)) (cores : List (Option Occupant)) (devices : Devices) (d : ℕ) (x : Occupant) → Lands w x.chunk.sphere q f ys d x → IsGoodHeld w d x
     → IsGoodHeld (moved_world w x.chunk.sphere q ys cores devices) d x
 landed_here w q f ys cores devices d x l good =
     let i = x.chunk.sphere in
@@ -157,13 +157,13 @@ landed_here w q f ys cores devices d x l good =
     }
 
 -- what a core holds of the moved sphere stays good, where the words land as they should
-pub landed-held : (w : World) (i : ℕ) (q : Sphere) (f : Flight) (ys : List (Option Flight)) (cores : List (Option Held)) (devices : Devices) (d : ℕ) (x : Held) → x.chunk.sphere ≡ i → Lands w i q f ys d x → IsGoodHeld w d x
+pub landed-held : (w : World) (i : ℕ) (q : Sphere) (f : Flight) (ys : List (Option Flight)) (cores : List (Option Occupant)) (devices : Devices) (d : ℕ) (x : Occupant) → x.chunk.sphere ≡ i → Lands w i q f ys d x → IsGoodHeld w d x
     → IsGoodHeld (moved_world w i q ys cores devices) d x
 landed-held w i q f ys cores devices d x e l good =
     subst (λ (n : ℕ). Lands w n q f ys d x → IsGoodHeld (moved_world w n q ys cores devices) d x) e (λ k. landed_here w q f ys cores devices d x k good) l
 
 -- a good chunk of another sphere is good still after a commit
-pub elsewhere-held : (w : World) (i : ℕ) (q : Sphere) (f : Flight) (ys : List (Option Flight)) (cores : List (Option Held)) (devices : Devices) (d : ℕ) (x : Held) → x.chunk.sphere ≢ i → Flew i f w.slots ys → IsGoodHeld w d x
+pub elsewhere-held : (w : World) (i : ℕ) (q : Sphere) (f : Flight) (ys : List (Option Flight)) (cores : List (Option Occupant)) (devices : Devices) (d : ℕ) (x : Occupant) → x.chunk.sphere ≢ i → Flew i f w.slots ys → IsGoodHeld w d x
     → IsGoodHeld (moved_world w i q ys cores devices) d x
 elsewhere-held w i q f ys cores devices d x ne flew good =
     let v = moved_world w i q ys cores devices in
@@ -182,7 +182,7 @@ elsewhere-held w i q f ys cores devices d x ne flew good =
 -- ---- what is shown
 
 -- the moved world shows what the move, done whole on the current memory, gives
-pub moved-shown : (w : World) (i : ℕ) (v : MovedSphere) (f : Flight) (ys : List (Option Flight)) (cores : List (Option Held)) → v.sphere.memory ≡ (sphere_at w i).memory → f.words ≡ v.words → Flew i f w.slots ys
+pub moved-shown : (w : World) (i : ℕ) (v : MovedSphere) (f : Flight) (ys : List (Option Flight)) (cores : List (Option Occupant)) → v.sphere.memory ≡ (sphere_at w i).memory → f.words ≡ v.words → Flew i f w.slots ys
     → shown_of (moved_world w i v.sphere ys cores v.devices) ≡ do_moved (shown_of w) i (relaid (current w i) v)
 unfolding shown
 moved-shown w i v f ys cores memory words flew =

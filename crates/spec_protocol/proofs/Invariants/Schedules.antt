@@ -5,7 +5,7 @@ use Rattle.spec_isa.specs.Words.{lays, Apart}
 use Rattle.spec_engine.specs.Flights.{Flight, at}
 use Rattle.spec_protocol.specs.declared.event.Event.{Event}
 use Rattle.spec_protocol.specs.Spheres.{Sphere, no_sphere}
-use Rattle.spec_protocol.specs.World.{Numbers, Held, World, Move, After, held_afresh, sphere_at}
+use Rattle.spec_protocol.specs.World.{Numbers, Occupant, World, Move, After, held_afresh, sphere_at}
 use Rattle.spec_protocol.specs.Machine.{SphereSetup, Setup, first_cores, world_of, core_no, sphere_no, slot_no, act, with_event, happens, world_after, with_move, moves, sphere_of}
 use Rattle.spec_protocol.specs.Serial.{SerialState, serial_start}
 use Rattle.spec_protocol.specs.Shown.{flying, shown, shown_from, shown_of}
@@ -36,7 +36,7 @@ act_preserved w (Event.Raise i k value) good = raise-preserved w (sphere_no w i)
 act_preserved w (Event.Dma i) good = dma-preserved w (sphere_no w i) good
 
 -- counts and points are no part of what is kept
-held_counted : (a : After) (c : ℕ) (h : Held) → IsGoodHeld a.world c h → IsGoodHeld (with_event a) c h
+held_counted : (a : After) (c : ℕ) (h : Occupant) → IsGoodHeld a.world c h → IsGoodHeld (with_event a) c h
 held_counted a c h g =
     record { sphere = g.sphere; start = g.start; lives = g.lives; halving = g.halving; limit = g.limit; chunk = g.chunk }
 
@@ -78,7 +78,7 @@ none_flies zero i = refl
 none_flies (suc n) i = none_flies n i
 
 -- what core c holds at first
-pub first_held : (z : Numbers) (i n c : ℕ) (ps : List Sphere) (h : Held) → at (first_cores z i n ps) c ≡ Some h → (c < length ps) × (held_afresh z (i + c) 0 (get_or ps c no_sphere) ≡ Some h)
+pub first_held : (z : Numbers) (i n c : ℕ) (ps : List Sphere) (h : Occupant) → at (first_cores z i n ps) c ≡ Some h → (c < length ps) × (held_afresh z (i + c) 0 (get_or ps c no_sphere) ≡ Some h)
 first_held z i zero c ps h e = absurd (none-some h e)
 first_held z i (suc n) zero [] h e = absurd (none-some h e)
 first_held z i (suc n) (suc c) [] h e = absurd (omega (arith, (first_held z (suc i) n c [] h e).0))
@@ -88,12 +88,12 @@ first_held z i (suc n) (suc c) (p ∷ ps) h e =
     let k : i + suc c ≡ suc i + c = omega arith in
     (omega (arith, r.0), ap (λ (j : ℕ). held_afresh z j 0 (get_or ps c no_sphere)) k ∙ r.1)
 
-first_sphere : (z : Numbers) (n c : ℕ) (ps : List Sphere) (h : Held) → at (first_cores z 0 n ps) c ≡ Some h → h.chunk.sphere ≡ c
+first_sphere : (z : Numbers) (n c : ℕ) (ps : List Sphere) (h : Occupant) → at (first_cores z 0 n ps) c ≡ Some h → h.chunk.sphere ≡ c
 first_sphere z n c ps h e =
     let r = first_held z 0 n c ps h e in
     let b = afresh-begins z (0 + c) 0 (get_or ps c no_sphere) h r.1 in
     let k : 0 + c ≡ c = omega arith in
-    ap (λ (x : Held). x.chunk.sphere) (sym b.is) ∙ k
+    ap (λ (x : Occupant). x.chunk.sphere) (sym b.is) ∙ k
 
 -- the world that a setup starts is good
 pub start-good : (s : Setup) → IsSetup s → IsGood (world_of s)

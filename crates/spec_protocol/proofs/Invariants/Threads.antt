@@ -13,7 +13,7 @@ use Rattle.spec_engine.specs.Flights.{Flight, at}
 use Rattle.spec_engine.proofs.Searches.{first_none, first_some}
 use Rattle.spec_protocol.specs.Spheres.{Role, Plain, Record, Replay, Sphere, no_sphere, is_stopped, limit_of, halves}
 use Rattle.spec_protocol.specs.Commits.{role_raised, raised}
-use Rattle.spec_protocol.specs.World.{Held, World, moment, sphere_at, with_sphere, with_core, held_afresh, runs, core_of, OfRaise, answered}
+use Rattle.spec_protocol.specs.World.{Occupant, World, moment, sphere_at, with_sphere, with_core, held_afresh, runs, core_of, OfRaise, answered}
 use Rattle.spec_protocol.specs.Placing.{placing, replays, with_renewed, raise_in, raising}
 use Rattle.spec_protocol.specs.Serial.{do_raise}
 use Rattle.spec_protocol.specs.Shown.{flying, shown, shown_of}
@@ -37,19 +37,19 @@ inside w i k t e =
     ]
 
 -- no core runs the thread, where none is found
-nobody : (w : World) (i k : ℕ) → core_of w i k ≡ None → (d : ℕ) (g : Held) → at w.cores d ≡ Some g → g.chunk.sphere ≡ i → g.thread ≡ k → ⊥
+nobody : (w : World) (i k : ℕ) → core_of w i k ≡ None → (d : ℕ) (g : Occupant) → at w.cores d ≡ Some g → g.chunk.sphere ≡ i → g.thread ≡ k → ⊥
 nobody w i k none d g there sphere thread =
     true≢false (sym (and_from (eqb g.chunk.sphere i) (eqb g.thread k) (eq-eqb g.chunk.sphere i sphere) (eq-eqb g.thread k thread)) ∙ first_none (runs i k) w.cores none d g there)
 
 -- ---- Place
 
-placed_good : (w : World) (c i k : ℕ) → IsGood w → i < length w.spheres → ((d : ℕ) (g : Held) → d ≢ c → at w.cores d ≡ Some g → g.chunk.sphere ≡ i → g.thread ≡ k → ⊥) → IsGood (with_core w c (held_afresh w.numbers i k (sphere_at w i)))
+placed_good : (w : World) (c i k : ℕ) → IsGood w → i < length w.spheres → ((d : ℕ) (g : Occupant) → d ≢ c → at w.cores d ≡ Some g → g.chunk.sphere ≡ i → g.thread ≡ k → ⊥) → IsGood (with_core w c (held_afresh w.numbers i k (sphere_at w i)))
 placed_good w c i k good within free =
     core-good w c (held_afresh w.numbers i k (sphere_at w i)) good
     (λ h e. afresh-held w i k c (sphere_at w i) h within good.standard refl (afresh-begins w.numbers i k (sphere_at w i) h e))
     (λ h e d g ne there sphere thread.
     let b = afresh-begins w.numbers i k (sphere_at w i) h e in
-    free d g ne there (sym sphere ∙ ap (λ (x : Held). x.chunk.sphere) (sym b.is)) (sym thread ∙ ap (λ (x : Held). x.thread) (sym b.is)))
+    free d g ne there (sym sphere ∙ ap (λ (x : Occupant). x.chunk.sphere) (sym b.is)) (sym thread ∙ ap (λ (x : Occupant). x.thread) (sym b.is)))
 
 -- the event Place keeps the invariant
 pub place-preserved : (w : World) (c i k : ℕ) → IsGood w → Preserved w (placing w c i k)
@@ -67,7 +67,7 @@ raised_role k n value Plain = (refl, refl, λ s j u. refl, refl)
 raised_role k n value (Record log) = (refl, refl, λ s j u. refl, refl)
 raised_role k n value (Replay b) = (refl, refl, λ s j u. refl, refl)
 
-raised_here : (w : World) (k value : ℕ) (t : Parts) (d : ℕ) (x : Held) → x.chunk.sphere < length w.spheres → x.thread ≢ k → IsGoodHeld w d x → IsGoodHeld (with_sphere w x.chunk.sphere (raised k value t (sphere_at w x.chunk.sphere))) d x
+raised_here : (w : World) (k value : ℕ) (t : Parts) (d : ℕ) (x : Occupant) → x.chunk.sphere < length w.spheres → x.thread ≢ k → IsGoodHeld w d x → IsGoodHeld (with_sphere w x.chunk.sphere (raised k value t (sphere_at w x.chunk.sphere))) d x
 unfolding raised
 raised_here w k value t d x within ne good =
     let i = x.chunk.sphere in
@@ -93,7 +93,7 @@ raised_here w k value t d x within ne good =
       chunk = subst (λ (m : List ℕ). IsGoodChunk w.numbers.buffer w.numbers.signature w.slots d m x.chunk) (ap (λ (y : Sphere). lays y.memory (flying i w.slots)) (sym there)) good.chunk;
     }
 
-raised_held : (w : World) (i k value : ℕ) (t : Parts) (d : ℕ) (x : Held) → IsGood w → i < length w.spheres → (x.chunk.sphere ≡ i → x.thread ≢ k) → IsGoodHeld w d x → IsGoodHeld (with_sphere w i (raised k value t (sphere_at w i))) d x
+raised_held : (w : World) (i k value : ℕ) (t : Parts) (d : ℕ) (x : Occupant) → IsGood w → i < length w.spheres → (x.chunk.sphere ≡ i → x.thread ≢ k) → IsGoodHeld w d x → IsGoodHeld (with_sphere w i (raised k value t (sphere_at w i))) d x
 raised_held w i k value t d x good within other held =
     let f : Flight = record { sphere = i; words = []; writes = nothing w.numbers.signature; told = 0 } in
     elim (cases_eq x.chunk.sphere i) [
@@ -102,8 +102,8 @@ raised_held w i k value t d x good within other held =
     ]
 
 -- each chunk but the thread's goes on, and this one is as it should be
-raised_good : (w : World) (i k value : ℕ) (t : Parts) (c : ℕ) (o : Option Held) → IsGood w → i < length w.spheres → ((d : ℕ) (x : Held) → d ≢ c → at w.cores d ≡ Some x → x.chunk.sphere ≡ i → x.thread ≢ k)
-    → ((h : Held) → o ≡ Some h → IsGoodHeld (with_sphere w i (raised k value t (sphere_at w i))) c h × (h.chunk.sphere ≡ i) × (h.thread ≡ k)) → IsGood (with_core (with_sphere w i (raised k value t (sphere_at w i))) c o)
+raised_good : (w : World) (i k value : ℕ) (t : Parts) (c : ℕ) (o : Option Occupant) → IsGood w → i < length w.spheres → ((d : ℕ) (x : Occupant) → d ≢ c → at w.cores d ≡ Some x → x.chunk.sphere ≡ i → x.thread ≢ k)
+    → ((h : Occupant) → o ≡ Some h → IsGoodHeld (with_sphere w i (raised k value t (sphere_at w i))) c h × (h.chunk.sphere ≡ i) × (h.thread ≡ k)) → IsGood (with_core (with_sphere w i (raised k value t (sphere_at w i))) c o)
 raised_good w i k value t c o good within others new =
     let q = raised k value t (sphere_at w i) in
     let v = with_sphere w i q in
@@ -136,7 +136,7 @@ raised_alone w i k value t good within none =
     }
 
 -- the core that is found runs the thread, and no other one does
-only_core : (w : World) (i k c : ℕ) → IsGood w → core_of w i k ≡ Some c → (d : ℕ) (x : Held) → d ≢ c → at w.cores d ≡ Some x → x.chunk.sphere ≡ i → x.thread ≢ k
+only_core : (w : World) (i k c : ℕ) → IsGood w → core_of w i k ≡ Some c → (d : ℕ) (x : Occupant) → d ≢ c → at w.cores d ≡ Some x → x.chunk.sphere ≡ i → x.thread ≢ k
 only_core w i k c good some d x ne there same thread =
     let f = first_some (runs i k) w.cores c some in
     let p = and_parts (eqb f.0.chunk.sphere i) (eqb f.0.thread k) f.2 in
@@ -154,8 +154,8 @@ renewed_good w i k value t (Some c) good within is =
     (λ h e.
     let b = afresh-begins v.numbers i k (sphere_at v i) h e in (
       afresh-held v i k c (sphere_at v i) h (subst (λ (n : ℕ). i < n) (sym (length-set w.spheres i q)) within) good.standard refl b,
-      ap (λ (x : Held). x.chunk.sphere) (sym b.is),
-      ap (λ (x : Held). x.thread) (sym b.is),
+      ap (λ (x : Occupant). x.chunk.sphere) (sym b.is),
+      ap (λ (x : Occupant). x.thread) (sym b.is),
     ))
 
 renewed_shown : (v : World) (i k : ℕ) (o : Option ℕ) → shown_of (with_renewed v i k o) ≡ shown_of v

@@ -22,7 +22,7 @@ use Rattle.spec_play.specs.Recording.{noted, input_noted, dma_noted, interrupt_n
 use Rattle.spec_protocol.specs.Spheres.{Sphere}
 use Rattle.spec_protocol.proofs.Logs.Inserting.{with_short, with_size}
 use Rattle.spec_protocol.proofs.Moves.Granted.{get-set_other, get-set_same, get-append}
-use Rattle.spec_protocol.proofs.Logs.Lookups.{short_at, short-other, interrupt-other, count_of, count-append, SlotsBelow, SlotsFrom, SlotsFrom_less, SlotsBelow_more, SlotsBelow-push}
+use Rattle.spec_protocol.proofs.Logs.Lookups.{short_at, short-other, interrupt-other, count_of, count-append, DmasBelow, DmasFrom, DmasFrom_less, DmasBelow_more, DmasBelow-push}
 use Rattle.spec_protocol.proofs.Logs.Growing.{commits_if, commits_in, OrderStands, SizesStand, Stands, SizesAhead, Behind, Ahead, ThreadCommit, HasCommitted, has_committed-parts, Grows, grows_of, grown_least, pushed_length, set_none}
 
 -- ---- lists that grow
@@ -99,7 +99,7 @@ has_committed-ahead L c p q log qlog d a =
         ]
       ];
       inputs = inputs_ahead c.input (noted c.commit c.before.commits c.short log) L.inputs (subst (λ (l : LogParts). Behind L.inputs l.inputs) d.log_ a.inputs);
-      dmas = let b = a.dmas in (b.0, b.1 ∙ ap (λ (ds : List DmaRecord). ds ++ b.0) n.dmas, SlotsFrom_less (position q.progress) (position p.progress) b.0 (let h = d.position_ in omega arith) b.2);
+      dmas = let b = a.dmas in (b.0, b.1 ∙ ap (λ (ds : List DmaRecord). ds ++ b.0) n.dmas, DmasFrom_less (position q.progress) (position p.progress) b.0 (let h = d.position_ in omega arith) b.2);
     }
 
 -- ---- a DMA
@@ -141,7 +141,7 @@ transferred-stands p q log qlog bytes d s =
       past = λ j i h. s.past j i (subst (λ (ts : List Parts). commits_in ts j < i) d.threads h);
       absent = λ j i e. s.absent j i (ap (λ (ts : List Parts). slice_get ts j) (sym d.threads) ∙ e);
       unmasked = λ j x e m. s.unmasked j x (ap (λ (ts : List Parts). slice_get ts j) (sym d.threads) ∙ e) m;
-      dmas = SlotsBelow-push (position q.progress) log.dmas _ (SlotsBelow_more (position p.progress) (position q.progress) log.dmas (let h = d.position_ in omega arith) s.dmas) (let h = d.position_ in omega arith);
+      dmas = DmasBelow-push (position q.progress) log.dmas _ (DmasBelow_more (position p.progress) (position q.progress) log.dmas (let h = d.position_ in omega arith) s.dmas) (let h = d.position_ in omega arith);
     })
 
 dma_sizes_ahead : (y x : Sizes) (i : ℕ) (ts : List Parts) → SizesAhead y (with_size x Actor.Dma i 0 false) ts → SizesAhead y x ts
@@ -165,7 +165,7 @@ transferred-ahead L p q log qlog bytes d b =
       next = λ j x e. a.next j x (ap (λ (ts : List Parts). slice_get ts j) d.threads ∙ e);
       inputs = a.inputs;
       dmas = let c = a.dmas in
-          (record { slot = position p.progress; bytes = bytes } ∷ c.0, c.1 ∙ append_assoc log.dmas _ c.0, (omega arith, SlotsFrom_less (position q.progress) (position p.progress) c.0 (let h = d.position_ in omega arith) c.2));
+          (record { position = position p.progress; bytes = bytes } ∷ c.0, c.1 ∙ append_assoc log.dmas _ c.0, (omega arith, DmasFrom_less (position q.progress) (position p.progress) c.0 (let h = d.position_ in omega arith) c.2));
     }
 
 -- ---- an interrupt
@@ -226,7 +226,7 @@ raised-stands k value p q log qlog t d s =
         | inr ne ↦ interrupt-other log.interrupts k t.commits value j x.commits (λ kj f. ne (sym kj))
             ∙ s.unmasked j x (sym (get-set_other p.threads k j (interrupted value t) ne) ∙ ap (λ (ts : List Parts). slice_get ts j) (sym d.threads) ∙ e) m
       ];
-      dmas = subst (λ (n : ℕ). SlotsBelow n log.dmas) (ap position (sym d.progress)) s.dmas;
+      dmas = subst (λ (n : ℕ). DmasBelow n log.dmas) (ap position (sym d.progress)) s.dmas;
     })
 
 raised_sizes_ahead : (y x : Sizes) (ts us : List Parts) → ((j : ℕ) → commits_in us j ≡ commits_in ts j) → SizesAhead y x us → SizesAhead y x ts
@@ -258,5 +258,5 @@ raised-ahead L k value p q log qlog t d b =
         ]
       ];
       inputs = a.inputs;
-      dmas = let c = a.dmas in (c.0, c.1, subst (λ (n : ℕ). SlotsFrom n c.0) (ap position d.progress) c.2);
+      dmas = let c = a.dmas in (c.0, c.1, subst (λ (n : ℕ). DmasFrom n c.0) (ap position d.progress) c.2);
     }

@@ -24,7 +24,7 @@ pub use Rattle.spec_protocol.specs.Sound.{commits_if, commits_in}
 use Rattle.spec_protocol.proofs.Logs.Inserting.{with_short, with_size}
 use Rattle.spec_protocol.proofs.Moves.Granted.{get-set_other, get-set_same, get-append}
 use Rattle.spec_protocol.proofs.Moves.Threads.{IsNew, AreNew}
-use Rattle.spec_protocol.proofs.Logs.Lookups.{short_at, short-other, count_of, count-append, SlotsBelow, SlotsFrom, SlotsBelow_more}
+use Rattle.spec_protocol.proofs.Logs.Lookups.{short_at, short-other, count_of, count-append, DmasBelow, DmasFrom, DmasBelow_more}
 
 -- ---- the commits of threads
 
@@ -71,7 +71,7 @@ pub record Stands (p : Sphere) (log : LogParts) : Type 0 where
   pub past : (k i : ℕ) → commits_in p.threads k < i → interrupt_at log.interrupts k i ≡ None
   pub absent : (k i : ℕ) → slice_get p.threads k ≡ None → interrupt_at log.interrupts k i ≡ None
   pub unmasked : (k : ℕ) (t : Parts) → slice_get p.threads k ≡ Some t → t.mask ≡ false → interrupt_at log.interrupts k t.commits ≡ None
-  pub dmas : SlotsBelow (position p.progress) log.dmas
+  pub dmas : DmasBelow (position p.progress) log.dmas
 
 -- the first sizes have those of the second as their past
 abbrev pub SizesAhead : Sizes → Sizes → List Parts → Type 0
@@ -85,7 +85,7 @@ abbrev pub Behind : {A : Type 0} → List A → List A → Type 0
 Behind {A} ys xs = (rest : List A) × (ys ≡ xs ++ rest)
 
 abbrev pub DmasBehind : List DmaRecord → List DmaRecord → (n : ℕ) → Type 0
-DmasBehind ys xs n = (rest : List DmaRecord) × (ys ≡ xs ++ rest) × SlotsFrom n rest
+DmasBehind ys xs n = (rest : List DmaRecord) × (ys ≡ xs ++ rest) × DmasFrom n rest
 
 -- L is what the log has become in the end
 pub record Ahead (L : LogParts) (p : Sphere) (log : LogParts) : Type 0 where
@@ -283,5 +283,5 @@ has_committed-stands c p q log qlog d s =
         ]
         | inr born ↦ s.absent j x.commits (set_none p.threads c.thread j c.after born.0)
       ];
-      dmas = subst (λ (ds : List DmaRecord). SlotsBelow (position q.progress) ds) (sym n.dmas) (SlotsBelow_more (position p.progress) (position q.progress) log.dmas (let h = d.position_ in omega arith) s.dmas);
+      dmas = subst (λ (ds : List DmaRecord). DmasBelow (position q.progress) ds) (sym n.dmas) (DmasBelow_more (position p.progress) (position q.progress) log.dmas (let h = d.position_ in omega arith) s.dmas);
     }

@@ -9,7 +9,7 @@ use Rattle.spec_log.specs.declared.Interrupt.{Interrupt}
 use Rattle.spec_log.specs.declared.DmaRecord.{DmaRecord}
 use Rattle.spec_log.specs.declared.ShortSize.{ShortSize}
 use Rattle.spec_log.specs.Size.{is_thread, sizes_of_thread}
-use Rattle.spec_log.specs.Head.{is_slot}
+use Rattle.spec_log.specs.Head.{is_dma_at}
 use Rattle.spec_play.specs.Verdicts.{interrupt_at}
 use Rattle.spec_log.specs.Noting.{insert_interrupt}
 use Rattle.spec_protocol.proofs.Logs.Inserting.{with_short, find-inserted_other, find-inserted, length-inserted}
@@ -99,44 +99,44 @@ get-behind [] x ys (suc n) e = absurd (omega arith)
 get-behind (y ∷ xs) x ys zero e = absurd (omega arith)
 get-behind (y ∷ xs) x ys (suc n) e = get-behind xs x ys n (omega arith)
 
--- ---- slots
+-- ---- positions
 
 -- every DMA is of a commit before the one with number n
-abbrev pub SlotsBelow : (n : ℕ) → List DmaRecord → Type 0
-SlotsBelow n [] = Unit {0}
-SlotsBelow n (d ∷ ds) = (d.slot < n) × SlotsBelow n ds
+abbrev pub DmasBelow : (n : ℕ) → List DmaRecord → Type 0
+DmasBelow n [] = Unit {0}
+DmasBelow n (d ∷ ds) = (d.position < n) × DmasBelow n ds
 
 -- every DMA is of the commit with number n or a later one
-abbrev pub SlotsFrom : (n : ℕ) → List DmaRecord → Type 0
-SlotsFrom n [] = Unit {0}
-SlotsFrom n (d ∷ ds) = (n ≤ d.slot) × SlotsFrom n ds
+abbrev pub DmasFrom : (n : ℕ) → List DmaRecord → Type 0
+DmasFrom n [] = Unit {0}
+DmasFrom n (d ∷ ds) = (n ≤ d.position) × DmasFrom n ds
 
 -- DMAs before n are before every larger number
-pub SlotsBelow_more : (n m : ℕ) (ds : List DmaRecord) → n ≤ m → SlotsBelow n ds → SlotsBelow m ds
-SlotsBelow_more n m [] l b = tt
-SlotsBelow_more n m (d ∷ ds) l b = (omega (arith, b.0), SlotsBelow_more n m ds l b.1)
+pub DmasBelow_more : (n m : ℕ) (ds : List DmaRecord) → n ≤ m → DmasBelow n ds → DmasBelow m ds
+DmasBelow_more n m [] l b = tt
+DmasBelow_more n m (d ∷ ds) l b = (omega (arith, b.0), DmasBelow_more n m ds l b.1)
 
 -- DMAs from n on are from every smaller number on
-pub SlotsFrom_less : (n m : ℕ) (ds : List DmaRecord) → m ≤ n → SlotsFrom n ds → SlotsFrom m ds
-SlotsFrom_less n m [] l b = tt
-SlotsFrom_less n m (d ∷ ds) l b = (omega (arith, b.0), SlotsFrom_less n m ds l b.1)
+pub DmasFrom_less : (n m : ℕ) (ds : List DmaRecord) → m ≤ n → DmasFrom n ds → DmasFrom m ds
+DmasFrom_less n m [] l b = tt
+DmasFrom_less n m (d ∷ ds) l b = (omega (arith, b.0), DmasFrom_less n m ds l b.1)
 
 -- one more DMA before n leaves all before n
-pub SlotsBelow-push : (n : ℕ) (ds : List DmaRecord) (d : DmaRecord) → SlotsBelow n ds → d.slot < n → SlotsBelow n (ds ++ d ∷ [])
-SlotsBelow-push n [] d b l = (l, tt)
-SlotsBelow-push n (e ∷ ds) d b l = (b.0, SlotsBelow-push n ds d b.1 l)
+pub DmasBelow-push : (n : ℕ) (ds : List DmaRecord) (d : DmaRecord) → DmasBelow n ds → d.position < n → DmasBelow n (ds ++ d ∷ [])
+DmasBelow-push n [] d b l = (l, tt)
+DmasBelow-push n (e ∷ ds) d b l = (b.0, DmasBelow-push n ds d b.1 l)
 
--- no slot of these is n
-pub no_slot : (n : ℕ) (ds es : List DmaRecord) → SlotsBelow n ds → SlotsFrom (suc n) es → is_slot (ds ++ es) n ≡ false
-no_slot n [] [] b f = refl
-no_slot n [] (e ∷ es) b f = or_from (eqb e.slot n) (is_slot es n) (ne_eqb e.slot n (λ h. let l = f.0 in omega (arith, l))) (no_slot n [] es tt f.1)
-no_slot n (d ∷ ds) es b f = or_from (eqb d.slot n) (is_slot (ds ++ es) n) (ne_eqb d.slot n (λ h. let l = b.0 in omega (arith, l))) (no_slot n ds es b.1 f)
+-- no position of these is n
+pub no_dma : (n : ℕ) (ds es : List DmaRecord) → DmasBelow n ds → DmasFrom (suc n) es → is_dma_at (ds ++ es) n ≡ false
+no_dma n [] [] b f = refl
+no_dma n [] (e ∷ es) b f = or_from (eqb e.position n) (is_dma_at es n) (ne_eqb e.position n (λ h. let l = f.0 in omega (arith, l))) (no_dma n [] es tt f.1)
+no_dma n (d ∷ ds) es b f = or_from (eqb d.position n) (is_dma_at (ds ++ es) n) (ne_eqb d.position n (λ h. let l = b.0 in omega (arith, l))) (no_dma n ds es b.1 f)
 
 or_right_true : (x y : Bool) → y ≡ true → (x || y) ≡ true
 or_right_true true y e = refl
 or_right_true false y e = e
 
 -- the commit of a DMA among others is known as one of a DMA
-pub a_slot : (n : ℕ) (ds : List DmaRecord) (d : DmaRecord) (es : List DmaRecord) → d.slot ≡ n → is_slot (ds ++ d ∷ es) n ≡ true
-a_slot n [] d es e = or_left (eqb d.slot n) (is_slot es n) (eq-eqb d.slot n e)
-a_slot n (c ∷ ds) d es e = or_right_true (eqb c.slot n) (is_slot (ds ++ d ∷ es) n) (a_slot n ds d es e)
+pub a_dma : (n : ℕ) (ds : List DmaRecord) (d : DmaRecord) (es : List DmaRecord) → d.position ≡ n → is_dma_at (ds ++ d ∷ es) n ≡ true
+a_dma n [] d es e = or_left (eqb d.position n) (is_dma_at es n) (eq-eqb d.position n e)
+a_dma n (c ∷ ds) d es e = or_right_true (eqb c.position n) (is_dma_at (ds ++ d ∷ es) n) (a_dma n ds d es e)

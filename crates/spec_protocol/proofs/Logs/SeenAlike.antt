@@ -15,7 +15,7 @@ use Rattle.spec_log.specs.declared.DmaRecord.{DmaRecord}
 use Rattle.spec_log.specs.declared.ShortSize.{ShortSize}
 use Rattle.spec_log.specs.declared.Sizes.{Sizes}
 use Rattle.spec_log.specs.Log.{IsOrder, IsSizes}
-use Rattle.spec_log.specs.Head.{is_slot, head}
+use Rattle.spec_log.specs.Head.{is_dma_at, head}
 use Rattle.spec_log.specs.Size.{is_thread, sizes_of_thread, size_in}
 use Rattle.spec_log.specs.Noting.{Kept, kept_size, limit_by, sizes_used, kept_head, log_of}
 use Rattle.spec_kernel.specs.Interrupts.{takes_interrupt, interrupted}
@@ -56,7 +56,7 @@ size_kept mode kept interrupts inputs dmas (Actor.Thread k) i = refl
 size_kept mode kept interrupts inputs dmas Actor.Dma i = refl
 
 head_kept : (mode : ModeName) (kept : Kept) (interrupts : List Interrupt) (inputs : List Input) (dmas : List DmaRecord) (i : ℕ) (last : Option ℕ) (live : List Bool)
-    → head (log_of mode kept interrupts inputs dmas) i last live ≡ kept_head mode kept.order i (is_slot dmas i) last live
+    → head (log_of mode kept interrupts inputs dmas) i last live ≡ kept_head mode kept.order i (is_dma_at dmas i) last live
 head_kept ModeName.OrderSize kept interrupts inputs dmas i last live = refl
 head_kept ModeName.OrderOnly kept interrupts inputs dmas i last live = refl
 head_kept ModeName.Picolog kept interrupts inputs dmas i last live = refl

@@ -25,13 +25,13 @@ use Rattle.spec_protocol.specs.Invariants.{IsFlightCovered, AreCovered}
 
 pub CoversWords_more : (i l : ℕ) (g : Marks) (ws : List Stored) → CoversWords i g ws → CoversWords i (insert l g) ws
 CoversWords_more i l g [] c = tt
-CoversWords_more i l g (w ∷ ws) c = (covers_more l (line i w.word) g c.0, CoversWords_more i l g ws c.1)
+CoversWords_more i l g (w ∷ ws) c = (covers_more l (line i w.number) g c.0, CoversWords_more i l g ws c.1)
 
-put_covered : (i : ℕ) (g : Marks) (s : Stored) (ws : List Stored) → covers g (line i s.word) ≡ true → CoversWords i g ws → CoversWords i g (put ws s)
+put_covered : (i : ℕ) (g : Marks) (s : Stored) (ws : List Stored) → covers g (line i s.number) ≡ true → CoversWords i g ws → CoversWords i g (put ws s)
 unfolding merged
 put_covered i g s [] h c = (h, tt)
 put_covered i g s (w ∷ ws) h c =
-    elim (eqb w.word s.word) as (λ b. CoversWords i g (cond b (merged w s ∷ ws) (w ∷ put ws s))) [
+    elim (eqb w.number s.number) as (λ b. CoversWords i g (cond b (merged w s ∷ ws) (w ∷ put ws s))) [
       | true ↦ (c.0, c.1)
       | false ↦ (c.0, put_covered i g s ws h c.1)
     ]
@@ -40,7 +40,7 @@ put_covered i g s (w ∷ ws) h c =
 pub CoversWords-store : (i : ℕ) (g : Marks) (ws : List Stored) (store : Option Stored) → CoversWords i g ws → CoversWords i (with_line i store g) (with_store ws store)
 CoversWords-store i g ws None c = c
 CoversWords-store i g ws (Some s) c =
-    put_covered i (insert (line i s.word) g) s ws (covers_insert (line i s.word) g) (CoversWords_more i (line i s.word) g ws c)
+    put_covered i (insert (line i s.number) g) s ws (covers_insert (line i s.number) g) (CoversWords_more i (line i s.number) g ws c)
 
 -- no word comes twice after one store more
 pub Apart-store : (ws : List Stored) (store : Option Stored) → Apart ws → Apart (with_store ws store)
@@ -51,7 +51,7 @@ put_length : (ws : List Stored) (s : Stored) → length (put ws s) ≤ suc (leng
 unfolding merged
 put_length [] s = omega arith
 put_length (w ∷ ws) s =
-    elim (eqb w.word s.word) as (λ b. length (cond b (merged w s ∷ ws) (w ∷ put ws s)) ≤ suc (suc (length ws))) [
+    elim (eqb w.number s.number) as (λ b. length (cond b (merged w s ∷ ws) (w ∷ put ws s)) ≤ suc (suc (length ws))) [
       | true ↦ omega arith
       | false ↦ let h = put_length ws s in omega arith
     ]
@@ -103,17 +103,17 @@ bits-with_line i (Some s) g = refl
 -- marking the lines of words in a signature leaves its size
 pub bits-signed : (i : ℕ) (ws : List Stored) (g : Marks) → (signed i ws g).bits ≡ g.bits
 bits-signed i [] g = refl
-bits-signed i (w ∷ ws) g = bits-signed i ws (insert (line i w.word) g)
+bits-signed i (w ∷ ws) g = bits-signed i ws (insert (line i w.number) g)
 
 signed_more : (i l : ℕ) (ws : List Stored) (g : Marks) → covers g l ≡ true → covers (signed i ws g) l ≡ true
 signed_more i l [] g e = e
-signed_more i l (w ∷ ws) g e = signed_more i l ws (insert (line i w.word) g) (covers_more (line i w.word) l g e)
+signed_more i l (w ∷ ws) g e = signed_more i l ws (insert (line i w.number) g) (covers_more (line i w.number) l g e)
 
 -- a signature that the words were signed into covers them
 pub CoversWords-signed : (i : ℕ) (ws : List Stored) (g : Marks) → CoversWords i (signed i ws g) ws
 CoversWords-signed i [] g = tt
 CoversWords-signed i (w ∷ ws) g =
-    (signed_more i (line i w.word) ws (insert (line i w.word) g) (covers_insert (line i w.word) g), CoversWords-signed i ws (insert (line i w.word) g))
+    (signed_more i (line i w.number) ws (insert (line i w.number) g) (covers_insert (line i w.number) g), CoversWords-signed i ws (insert (line i w.number) g))
 
 -- ---- words that are not among those covered
 
@@ -127,7 +127,7 @@ uncovered-lacks i a g (w ∷ ws) c e =
 pub apart-covered : (i : ℕ) (g h : Marks) (xs ys : List Stored) → h.bits ≡ g.bits → CoversWords i g xs → CoversWords i h ys → hits g h ≡ false → AllLack xs ys
 apart-covered i g h [] ys size cx cy e = tt
 apart-covered i g h (x ∷ xs) ys size cx cy e = (
-  uncovered-lacks i x.word h ys cy (false_from_ne_true (covers h (line i x.word)) (λ c. true≢false (sym (covers_hit g h (line i x.word) size cx.0 c) ∙ e))),
+  uncovered-lacks i x.number h ys cy (false_from_ne_true (covers h (line i x.number)) (λ c. true≢false (sym (covers_hit g h (line i x.number) size cx.0 c) ∙ e))),
   apart-covered i g h xs ys size cx.1 cy e,
 )
 
@@ -145,12 +145,12 @@ flying-lacks i a (Some f ∷ xs) each =
 pub flying-all_lack : (i : ℕ) (ws : List Stored) (xs : List (Option Flight)) → ((k : ℕ) (f : Flight) → at xs k ≡ Some f → f.sphere ≡ i → AllLack ws f.words) → AllLack ws (flying i xs)
 flying-all_lack i [] xs each = tt
 flying-all_lack i (w ∷ ws) xs each =
-    (flying-lacks i w.word xs (λ k f e s. (each k f e s).0), flying-all_lack i ws xs (λ k f e s. (each k f e s).1))
+    (flying-lacks i w.number xs (λ k f e s. (each k f e s).0), flying-all_lack i ws xs (λ k f e s. (each k f e s).1))
 
 -- ---- flights that are told, and those that are not
 
 -- a word that the chunk's reads cover, and that no told flight holds up
-abbrev pub clear : List (Option Flight) → (core : ℕ) → Chunk → (word : ℕ) → Bool
+abbrev pub clear : List (Option Flight) → (core : ℕ) → Chunk → (number : ℕ) → Bool
 clear xs c ch a = seen_by ch a && is_none (first_slot (bounces c (line ch.sphere a)) xs)
 
 unbounced : (xs : List (Option Flight)) (c l : ℕ) → is_none (first_slot (bounces c l) xs) ≡ true → first_slot (bounces c l) xs ≡ None
@@ -183,4 +183,4 @@ clear-lacks bits xs c ch a cov size quiet e =
 pub unseen_from : (seen : ℕ → Bool) (ws : List Stored) → ((a : ℕ) → seen a ≡ true → Lacks a ws) → Unseen seen ws
 unseen_from seen [] each = tt
 unseen_from seen (w ∷ ws) each =
-    (false_from_ne_true (seen w.word) (λ h. (each w.word h).0 refl), unseen_from seen ws (λ a h. (each a h).1))
+    (false_from_ne_true (seen w.number) (λ h. (each w.number h).0 refl), unseen_from seen ws (λ a h. (each a h).1))

@@ -34,7 +34,7 @@ pub AllLack_nil : (xs : List Stored) → AllLack xs []
 AllLack_nil [] = tt
 AllLack_nil (x ∷ xs) = (tt, AllLack_nil xs)
 
-AllLack_cons : (xs : List Stored) (y : Stored) (ys : List Stored) → Lacks y.word xs → AllLack xs ys → AllLack xs (y ∷ ys)
+AllLack_cons : (xs : List Stored) (y : Stored) (ys : List Stored) → Lacks y.number xs → AllLack xs ys → AllLack xs (y ∷ ys)
 AllLack_cons [] y ys p q = tt
 AllLack_cons (x ∷ xs) y ys p q = ((λ e. p.0 (sym e), q.0), AllLack_cons xs y ys p.1 q.1)
 
@@ -46,22 +46,22 @@ AllLack_flip (x ∷ xs) ys p = AllLack_cons ys x xs p.0 (AllLack_flip xs ys p.1)
 -- a list that shares no word with two others shares none with both together
 pub AllLack-append : (xs ys zs : List Stored) → AllLack xs ys → AllLack xs zs → AllLack xs (ys ++ zs)
 AllLack-append [] ys zs p q = tt
-AllLack-append (x ∷ xs) ys zs p q = (Lacks-append x.word ys zs p.0 q.0, AllLack-append xs ys zs p.1 q.1)
+AllLack-append (x ∷ xs) ys zs p q = (Lacks-append x.number ys zs p.0 q.0, AllLack-append xs ys zs p.1 q.1)
 
 -- a list that shares no word with two joined shares none with the first
 pub AllLack_left : (xs ys zs : List Stored) → AllLack xs (ys ++ zs) → AllLack xs ys
 AllLack_left [] ys zs p = tt
-AllLack_left (x ∷ xs) ys zs p = (Lacks_left x.word ys zs p.0, AllLack_left xs ys zs p.1)
+AllLack_left (x ∷ xs) ys zs p = (Lacks_left x.number ys zs p.0, AllLack_left xs ys zs p.1)
 
 -- a list that shares no word with two joined shares none with the second
 pub AllLack_right : (xs ys zs : List Stored) → AllLack xs (ys ++ zs) → AllLack xs zs
 AllLack_right [] ys zs p = tt
-AllLack_right (x ∷ xs) ys zs p = (Lacks_right x.word ys zs p.0, AllLack_right xs ys zs p.1)
+AllLack_right (x ∷ xs) ys zs p = (Lacks_right x.number ys zs p.0, AllLack_right xs ys zs p.1)
 
 -- where no word comes twice in two lists, none does in the first
 pub Apart_first : (xs ys : List Stored) → Apart (xs ++ ys) → Apart xs
 Apart_first [] ys p = tt
-Apart_first (x ∷ xs) ys p = (Lacks_left x.word xs ys p.0, Apart_first xs ys p.1)
+Apart_first (x ∷ xs) ys p = (Lacks_left x.number xs ys p.0, Apart_first xs ys p.1)
 
 -- where no word comes twice in two lists, none does in the second
 pub Apart_last : (xs ys : List Stored) → Apart (xs ++ ys) → Apart ys
@@ -71,17 +71,17 @@ Apart_last (x ∷ xs) ys p = Apart_last xs ys p.1
 -- where no word comes twice in two lists, they share none
 pub Apart_lack : (xs ys : List Stored) → Apart (xs ++ ys) → AllLack xs ys
 Apart_lack [] ys p = tt
-Apart_lack (x ∷ xs) ys p = (Lacks_right x.word xs ys p.0, Apart_lack xs ys p.1)
+Apart_lack (x ∷ xs) ys p = (Lacks_right x.number xs ys p.0, Apart_lack xs ys p.1)
 
 -- two lists in which no word comes twice, and which share none, have none twice together
 pub Apart-append : (xs ys : List Stored) → Apart xs → Apart ys → AllLack xs ys → Apart (xs ++ ys)
 Apart-append [] ys p q lack = q
-Apart-append (x ∷ xs) ys p q lack = (Lacks-append x.word xs ys p.0 lack.0, Apart-append xs ys p.1 q lack.1)
+Apart-append (x ∷ xs) ys p q lack = (Lacks-append x.number xs ys p.0 lack.0, Apart-append xs ys p.1 q lack.1)
 
 -- ---- the order of stores of different words
 
 -- a store may be laid before others or after them, if they store to other words
-pub lays-lay : (m : List ℕ) (s : Stored) (ws : List Stored) → Lacks s.word ws → lays (lay m s) ws ≡ lay (lays m ws) s
+pub lays-lay : (m : List ℕ) (s : Stored) (ws : List Stored) → Lacks s.number ws → lays (lay m s) ws ≡ lay (lays m ws) s
 lays-lay m s [] p = refl
 lays-lay m s (w ∷ ws) p =
     ap (λ (n : List ℕ). lays n ws) (lay-lay m s w (λ e. p.0 (sym e))) ∙ lays-lay (lay m w) s ws p.1
@@ -125,9 +125,9 @@ Agree-lays seen m n (w ∷ ws) a = Agree-lays seen (lay m w) (lay n w) ws (Agree
 -- the words of these stores are not among those seen
 abbrev pub Unseen : (ℕ → Bool) → List Stored → Type 0
 Unseen seen [] = Unit {0}
-Unseen seen (w ∷ ws) = (seen w.word ≡ false) × Unseen seen ws
+Unseen seen (w ∷ ws) = (seen w.number ≡ false) × Unseen seen ws
 
-Agree_unseen : (seen : ℕ → Bool) (m : List ℕ) (w : Stored) → seen w.word ≡ false → Agree seen m (lay m w)
+Agree_unseen : (seen : ℕ → Bool) (m : List ℕ) (w : Stored) → seen w.number ≡ false → Agree seen m (lay m w)
 Agree_unseen seen m w e =
     record {
       size = length_lay m w;

@@ -173,12 +173,12 @@ stays_ran capacity xs c m ch g t load store o n looked touches =
 
 no_room : (capacity : ℕ) (ws : List Stored) (store : Option Stored) → has_room capacity ws store ≡ false → capacity ≤ length ws
 no_room capacity ws None e = absurd (true≢false e)
-no_room capacity ws (Some s) e = ltb-false (length ws) capacity (or_parts (holds ws s.word) _ e).1
+no_room capacity ws (Some s) e = ltb-false (length ws) capacity (or_parts (holds ws s.number) _ e).1
 
 -- a store that finds no room is of a word that isn't held
 new_word : (capacity : ℕ) (t u : Parts) (m : List ℕ) (ws : List Stored) (load : Option Load) (store : Option Stored) → one t m ≡ Next u load store → has_room capacity ws store ≡ false → StoresAnew t m ws
 new_word capacity t u m ws load None is e = absurd (true≢false e)
-new_word capacity t u m ws load (Some s) is e = record { thread = u; load = load; store = s; next = is; new = (or_parts (holds ws s.word) _ e).0 }
+new_word capacity t u m ws load (Some s) is e = record { thread = u; load = load; store = s; next = is; new = (or_parts (holds ws s.number) _ e).0 }
 
 -- the next instruction, where it isn't serial
 next_one : (t : Parts) (m : List ℕ) (o : Option ℕ) → serial_of t (fetched t m) (length m) ≡ None → loads_of t (fetched t m) ≡ o

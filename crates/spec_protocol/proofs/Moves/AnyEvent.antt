@@ -18,7 +18,7 @@ use Rattle.spec_protocol.specs.declared.event.Event.{Event}
 use Rattle.spec_protocol.specs.declared.reply.Reply.{Reply}
 use Rattle.spec_protocol.specs.Spheres.{Sphere, no_sphere, is_stopped, head_of}
 use Rattle.spec_protocol.specs.Commits.{CommitOutcome, Granted, Piece, Diverged, MovedSphere, dma_in, dma_moved}
-use Rattle.spec_protocol.specs.World.{Held, World, After, sphere_at, with_core, held_afresh, core_of, answered}
+use Rattle.spec_protocol.specs.World.{Occupant, World, After, sphere_at, with_core, held_afresh, core_of, answered}
 use Rattle.spec_protocol.specs.Stepping.{stepped, step_held, stepping, cut_to, cut_held, cutting}
 use Rattle.spec_protocol.specs.Flying.{drain_slot, draining, delivering, retiring}
 use Rattle.spec_protocol.specs.Asking.{grant_chunk, grant_serial, unless_denied, unless_busy, asks_serial, ask_arbiter, other_turn, unless_turn, ask_closed, ask_held, asking}
@@ -35,7 +35,7 @@ branch P false x y p q = q refl
 -- ---- when the world is changed
 
 -- core c, which holds h, asks for its chunk, which was closed so; no other actor has the turn, and a slot is free
-pub record MayAsk (w : World) (c : ℕ) (h : Held) (how : How) : Type 0 where
+pub record MayAsk (w : World) (c : ℕ) (h : Occupant) (how : How) : Type 0 where
   pub is : at w.cores c ≡ Some h
   pub closed : h.chunk.closed ≡ Some how
   pub going : is_stopped (sphere_at w h.chunk.sphere).role ≡ false
@@ -59,18 +59,18 @@ pub record Transfers (w : World) (i : ℕ) (v : MovedSphere) : Type 0 where
 
 -- ---- each thing that is done, and what a predicate of it is to hold of
 
-abbrev pub AfterStep : World → (After → Type 0) → (core : ℕ) → Held → Type 0
+abbrev pub AfterStep : World → (After → Type 0) → (core : ℕ) → Occupant → Type 0
 AfterStep w Q c h = at w.cores c ≡ Some h → h.chunk.closed ≡ None → Q (stepped w c h (step w.numbers.buffer (sphere_at w h.chunk.sphere).memory w.slots c h.chunk))
 
-abbrev pub AfterCut : World → (After → Type 0) → (core : ℕ) → Held → Type 0
+abbrev pub AfterCut : World → (After → Type 0) → (core : ℕ) → Occupant → Type 0
 AfterCut w Q c h = at w.cores c ≡ Some h → Q (cut_to w c h (cut h.chunk))
 
 -- a chunk that meets no flight
-abbrev pub AfterChunk : World → (After → Type 0) → (core : ℕ) → Held → How → Type 0
+abbrev pub AfterChunk : World → (After → Type 0) → (core : ℕ) → Occupant → How → Type 0
 AfterChunk w Q c h how = MayAsk w c h how → asks_serial h.chunk (sphere_at w h.chunk.sphere).role ≡ false → first_slot (meets_chunk h.chunk.reads h.chunk.writes) w.slots ≡ None → Q (grant_chunk w c h how)
 
 -- a serial step of a sphere that no flight is of
-abbrev pub AfterSerial : World → (After → Type 0) → (core : ℕ) → Held → How → Type 0
+abbrev pub AfterSerial : World → (After → Type 0) → (core : ℕ) → Occupant → How → Type 0
 AfterSerial w Q c h how = MayAsk w c h how → asks_serial h.chunk (sphere_at w h.chunk.sphere).role ≡ true → first_slot (is_of_sphere h.chunk.sphere) w.slots ≡ None → Q (grant_serial w c h)
 
 abbrev pub AfterDrain : World → (After → Type 0) → (slot : ℕ) → Flight → Type 0
@@ -110,7 +110,7 @@ dma_within w i v e =
 
 -- a predicate of what an event comes to in world w, which holds of every answer alone; no such reply makes a point
 module _ (w : World) (Q : After → Type 0) (still : (r : Reply) → makes_point r ≡ false → Q (answered w r)) where
-  held_step : (c : ℕ) (o : Option Held) → at w.cores c ≡ o → ((h : Held) → AfterStep w Q c h) → Q (step_held w c o)
+  held_step : (c : ℕ) (o : Option Occupant) → at w.cores c ≡ o → ((h : Occupant) → AfterStep w Q c h) → Q (step_held w c o)
   held_step c None is each = still Reply.Idle refl
   held_step c (Some h) is each =
       let p = sphere_at w h.chunk.sphere in
@@ -122,11 +122,11 @@ module _ (w : World) (Q : After → Type 0) (still : (r : Reply) → makes_point
       (λ _. still Reply.Waiting refl))
 
   -- a step runs an open chunk
-  pub any-step : (c : ℕ) → ((h : Held) → AfterStep w Q c h) → Q (stepping w c)
+  pub any-step : (c : ℕ) → ((h : Occupant) → AfterStep w Q c h) → Q (stepping w c)
   unfolding stepping
   any-step c each = held_step c (at w.cores c) refl each
 
-  held_cut : (c : ℕ) (o : Option Held) → at w.cores c ≡ o → ((h : Held) → AfterCut w Q c h) → Q (cut_held w c o)
+  held_cut : (c : ℕ) (o : Option Occupant) → at w.cores c ≡ o → ((h : Occupant) → AfterCut w Q c h) → Q (cut_held w c o)
   held_cut c None is each = still Reply.Idle refl
   held_cut c (Some h) is each =
       branch Q (is_stopped (sphere_at w h.chunk.sphere).role) (answered w Reply.Stopped) (cut_to w c h (cut h.chunk))
@@ -134,7 +134,7 @@ module _ (w : World) (Q : After → Type 0) (still : (r : Reply) → makes_point
       (λ _. each h is)
 
   -- a cut closes a chunk
-  pub any-cut : (c : ℕ) → ((h : Held) → AfterCut w Q c h) → Q (cutting w c)
+  pub any-cut : (c : ℕ) → ((h : Occupant) → AfterCut w Q c h) → Q (cutting w c)
   unfolding cutting
   any-cut c each = held_cut c (at w.cores c) refl each
 
@@ -150,13 +150,13 @@ module _ (w : World) (Q : After → Type 0) (still : (r : Reply) → makes_point
   at_turn a None each = each refl
   at_turn a (Some actor) each = still (Reply.NotTurn actor) refl
 
-  arbiter : (c : ℕ) (h : Held) (how : How) (serial : Bool) → asks_serial h.chunk (sphere_at w h.chunk.sphere).role ≡ serial → (asks_serial h.chunk (sphere_at w h.chunk.sphere).role ≡ false → first_slot (meets_chunk h.chunk.reads h.chunk.writes) w.slots ≡ None → Q (grant_chunk w c h how))
+  arbiter : (c : ℕ) (h : Occupant) (how : How) (serial : Bool) → asks_serial h.chunk (sphere_at w h.chunk.sphere).role ≡ serial → (asks_serial h.chunk (sphere_at w h.chunk.sphere).role ≡ false → first_slot (meets_chunk h.chunk.reads h.chunk.writes) w.slots ≡ None → Q (grant_chunk w c h how))
       → (asks_serial h.chunk (sphere_at w h.chunk.sphere).role ≡ true → first_slot (is_of_sphere h.chunk.sphere) w.slots ≡ None → Q (grant_serial w c h)) → Q (ask_arbiter w c h how serial)
   arbiter c h how true is chunk serial = busy (grant_serial w c h) (first_slot (is_of_sphere h.chunk.sphere) w.slots) (serial is)
   arbiter c h how false is chunk serial = denied (grant_chunk w c h how) (first_slot (meets_chunk h.chunk.reads h.chunk.writes) w.slots) (chunk is)
 
   -- an ask is granted a chunk that meets no flight, or a serial step of a sphere that none is of
-  pub any-closed : (c : ℕ) (h : Held) (o : Option How) → at w.cores c ≡ Some h → h.chunk.closed ≡ o
+  pub any-closed : (c : ℕ) (h : Occupant) (o : Option How) → at w.cores c ≡ Some h → h.chunk.closed ≡ o
       → ((how : How) → AfterChunk w Q c h how)
       → ((how : How) → AfterSerial w Q c h how) → Q (ask_closed w c h o)
   any-closed c h None is closed chunk serial = still Reply.NotClosed refl
@@ -174,15 +174,15 @@ module _ (w : World) (Q : After → Type 0) (still : (r : Reply) → makes_point
       let may : MayAsk w c h how = record { is = is; closed = closed; going = going; turn = mine; free = free } in
       arbiter c h how (asks_serial h.chunk p.role) refl (chunk how may) (serial how may))))
 
-  held_ask : (c : ℕ) (o : Option Held) → at w.cores c ≡ o
-      → ((h : Held) (how : How) → AfterChunk w Q c h how)
-      → ((h : Held) (how : How) → AfterSerial w Q c h how) → Q (ask_held w c o)
+  held_ask : (c : ℕ) (o : Option Occupant) → at w.cores c ≡ o
+      → ((h : Occupant) (how : How) → AfterChunk w Q c h how)
+      → ((h : Occupant) (how : How) → AfterSerial w Q c h how) → Q (ask_held w c o)
   held_ask c None is chunk serial = still Reply.Idle refl
   held_ask c (Some h) is chunk serial = any-closed c h h.chunk.closed is refl (chunk h) (serial h)
 
   -- an ask, of whatever the core holds
-  pub any-ask : (c : ℕ) → ((h : Held) (how : How) → AfterChunk w Q c h how)
-      → ((h : Held) (how : How) → AfterSerial w Q c h how) → Q (asking w c)
+  pub any-ask : (c : ℕ) → ((h : Occupant) (how : How) → AfterChunk w Q c h how)
+      → ((h : Occupant) (how : How) → AfterSerial w Q c h how) → Q (asking w c)
   unfolding asking
   any-ask c chunk serial = held_ask c (at w.cores c) refl chunk serial
 
@@ -271,10 +271,10 @@ module _ (w : World) (Q : After → Type 0) (still : (r : Reply) → makes_point
 -- the predicate holds of all that an event can come to
 pub record Cases (w : World) (Q : After → Type 0) : Type 0 where
   pub answers : (r : Reply) → makes_point r ≡ false → Q (answered w r)
-  pub steps : (c : ℕ) (h : Held) → AfterStep w Q c h
-  pub cuts : (c : ℕ) (h : Held) → AfterCut w Q c h
-  pub chunks : (c : ℕ) (h : Held) (how : How) → AfterChunk w Q c h how
-  pub serials : (c : ℕ) (h : Held) (how : How) → AfterSerial w Q c h how
+  pub steps : (c : ℕ) (h : Occupant) → AfterStep w Q c h
+  pub cuts : (c : ℕ) (h : Occupant) → AfterCut w Q c h
+  pub chunks : (c : ℕ) (h : Occupant) (how : How) → AfterChunk w Q c h how
+  pub serials : (c : ℕ) (h : Occupant) (how : How) → AfterSerial w Q c h how
   pub drains : (k : ℕ) (f : Flight) → AfterDrain w Q k f
   pub delivers : (c k : ℕ) → Q (delivering w c k)
   pub retires : (k : ℕ) → Q (retiring w k)

@@ -9,7 +9,7 @@ use Rattle.spec_engine.specs.Flights.{Flight, at, free_slot, has_none, fill_at, 
 use Rattle.spec_engine.proofs.Searches.{told-zero, told-tell, told-tell_other, free_slot-within}
 use Rattle.spec_protocol.specs.declared.event.Event.{Event}
 use Rattle.spec_protocol.specs.Commits.{CommitOutcome, Granted, Piece, Diverged, MovedSphere, is_piece, chunk_moved, serial_moved}
-use Rattle.spec_protocol.specs.World.{Held, World, After, moment, sphere_at, answered}
+use Rattle.spec_protocol.specs.World.{Occupant, World, After, moment, sphere_at, answered}
 use Rattle.spec_protocol.specs.Asking.{CommitRequest, chunk_request, granted, grant_chunk, serial_request, grant_serial}
 use Rattle.spec_protocol.specs.Transferring.{dma_with}
 use Rattle.spec_protocol.specs.Machine.{core_no, sphere_no, act, happens}
@@ -44,14 +44,14 @@ granted_marks w c q writes v Granted = λ k f free stands. flown_by q.sphere v.w
 granted_marks w c q writes v Piece = λ k f free stands. flown_by q.sphere v.words writes (2 ^ c) w.slots (has_none v.words) k f free stands
 granted_marks w c q writes v (Diverged i why) = none_begins w (2 ^ c) (granted w c q writes v (Diverged i why)) refl
 
-chunk_marks : (w : World) (c : ℕ) (h : Held) (how : How) → BeginWith w (2 ^ c) (grant_chunk w c h how)
+chunk_marks : (w : World) (c : ℕ) (h : Occupant) (how : How) → BeginWith w (2 ^ c) (grant_chunk w c h how)
 unfolding grant_chunk
 chunk_marks w c h how =
     let q = chunk_request w h how in
     let v = chunk_moved h.thread (is_piece how) q.short h.chunk.done w.devices (sphere_at w h.chunk.sphere) in
     granted_marks w c q h.chunk.writes v v.outcome
 
-serial_marks : (w : World) (c : ℕ) (h : Held) → BeginWith w (2 ^ c) (grant_serial w c h)
+serial_marks : (w : World) (c : ℕ) (h : Occupant) → BeginWith w (2 ^ c) (grant_serial w c h)
 unfolding grant_serial
 serial_marks w c h =
     let v = serial_moved h.thread (moment w) h.chunk.start w.devices (sphere_at w h.chunk.sphere) in

@@ -22,8 +22,8 @@ use Rattle.spec_protocol.proofs.PlayingBack.Following.{early_by, early, pending_
 use Rattle.spec_protocol.proofs.Moves.Threads.{IsNew}
 use Rattle.spec_play.specs.Turns.{Turn, next_actor}
 use Rattle.spec_log.specs.Noting.{order_with}
-use Rattle.spec_protocol.proofs.Logs.Lookups.{SlotsFrom, no_slot}
-use Rattle.spec_log.specs.Head.{turn, is_slot, head_in}
+use Rattle.spec_protocol.proofs.Logs.Lookups.{DmasFrom, no_dma}
+use Rattle.spec_log.specs.Head.{turn, is_dma_at, head_in}
 use Rattle.spec_isa.specs.Words.{lays}
 use Rattle.std.proofs.lemmas.List.{length-append}
 use Rattle.spec_log.specs.declared.DmaRecord.{DmaRecord}
@@ -164,14 +164,14 @@ module _ (L : LogParts) (c : ThreadCommit) (p q : Sphere) (log qlog : LogParts) 
       let below : position y.progress < L.count = (let a = sp.count in let b = n.count in let h = aq.count in omega arith) in
       let behind : Behind L.order (order_with log.mode log.order (Actor.Thread c.thread)) = subst (Behind L.order) n.order aq.order in
       let rest = aq.dmas in
-      let slot : is_slot L.dmas (position p.progress) ≡ false =
-      ap (λ (ds : List DmaRecord). is_slot ds (position p.progress)) (rest.1 ∙ ap (λ (ds : List DmaRecord). ds ++ rest.0) n.dmas)
-      ∙ no_slot (position p.progress) log.dmas rest.0 sp.dmas (subst (λ (m : ℕ). SlotsFrom m rest.0) d.position_ rest.2)
+      let there : is_dma_at L.dmas (position p.progress) ≡ false =
+      ap (λ (ds : List DmaRecord). is_dma_at ds (position p.progress)) (rest.1 ∙ ap (λ (ds : List DmaRecord). ds ++ rest.0) n.dmas)
+      ∙ no_dma (position p.progress) log.dmas rest.0 sp.dmas (subst (λ (m : ℕ). DmasFrom m rest.0) d.position_ rest.2)
       in
       let actor : next_actor L y.progress y.threads ≡ Some (Actor.Thread c.thread) =
       ap (λ (g : Progress). head_in L.mode L (position g) g.last (map is_live y.threads)) f.progress
       ∙ ap (λ (m : ModeName). head_in m L (position p.progress) p.progress.last (map is_live y.threads)) ap_.mode
-      ∙ named log.mode L (position p.progress) p.progress.last (map is_live y.threads) c.thread log.order p.threads sp.order behind slot
+      ∙ named log.mode L (position p.progress) p.progress.last (map is_live y.threads) c.thread log.order p.threads sp.order behind there
       (λ e. ap (turn p.progress.last) (same-flags L p log y f) ∙ es.turn_ (ap_.mode ∙ e))
       in
       (f.now ∙ turn-at L y.progress y.used y.threads c.thread c.before below actor is es.live, is)

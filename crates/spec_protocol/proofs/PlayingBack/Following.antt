@@ -12,7 +12,7 @@ use Rattle.spec_isa.specs.Words.{lays}
 use Rattle.spec_log.specs.declared.ModeName.{ModeName}
 use Rattle.spec_log.specs.declared.Interrupt.{Interrupt}
 use Rattle.spec_log.specs.declared.LogParts.{LogParts}
-use Rattle.spec_log.specs.Head.{turn, is_slot, head_by_turn, head_in}
+use Rattle.spec_log.specs.Head.{turn, is_dma_at, head_by_turn, head_in}
 use Rattle.spec_kernel.specs.Interrupts.{is_live, has_handler, takes_interrupt, interrupted}
 use Rattle.spec_kernel.specs.Needs.{next_kind}
 use Rattle.spec_kernel.specs.Calls.{has_ended}
@@ -170,14 +170,14 @@ turn-at L p u ts k t below actor is live =
     ∙ ap (turn_of (position p) ts) actor ∙ ap (turn_of_thread (position p) k) is ∙ ap (λ (b : Bool). cond b (Turn k) (turn_of_thread (position p) k None)) live
 
 -- the log names the actor that committed: in its order, or by its turn
-pub named : (mode : ModeName) (L : LogParts) (n : ℕ) (last : Option ℕ) (flags : List Bool) (k : ℕ) (order : List Actor) → (ts : List Parts) → OrderStands mode order n ts → Behind L.order (order_with mode order (Actor.Thread k)) → is_slot L.dmas n ≡ false → (mode ≡ ModeName.Picolog → turn last flags ≡ Some k)
+pub named : (mode : ModeName) (L : LogParts) (n : ℕ) (last : Option ℕ) (flags : List Bool) (k : ℕ) (order : List Actor) → (ts : List Parts) → OrderStands mode order n ts → Behind L.order (order_with mode order (Actor.Thread k)) → is_dma_at L.dmas n ≡ false → (mode ≡ ModeName.Picolog → turn last flags ≡ Some k)
     → head_in mode L n last flags ≡ Some (Actor.Thread k)
-named ModeName.OrderSize L n last flags k order ts s b slot turns =
+named ModeName.OrderSize L n last flags k order ts s b there turns =
     ap (λ (as_ : List Actor). slice_get as_ n) (b.1 ∙ append_assoc order (Actor.Thread k ∷ []) b.0) ∙ get-behind order (Actor.Thread k) b.0 n s.0
-named ModeName.OrderOnly L n last flags k order ts s b slot turns =
+named ModeName.OrderOnly L n last flags k order ts s b there turns =
     ap (λ (as_ : List Actor). slice_get as_ n) (b.1 ∙ append_assoc order (Actor.Thread k ∷ []) b.0) ∙ get-behind order (Actor.Thread k) b.0 n s.0
-named ModeName.Picolog L n last flags k order ts s b slot turns =
-    ap (λ (c : Bool). head_by_turn c last flags) slot ∙ ap (option_map Actor.Thread) (turns refl)
+named ModeName.Picolog L n last flags k order ts s b there turns =
+    ap (λ (c : Bool). head_by_turn c last flags) there ∙ ap (option_map Actor.Thread) (turns refl)
 
 -- ---- a commit of a thread
 

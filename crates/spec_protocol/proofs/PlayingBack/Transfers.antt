@@ -13,7 +13,7 @@ use Rattle.spec_log.specs.declared.ModeName.{ModeName}
 use Rattle.spec_log.specs.declared.DmaRecord.{DmaRecord}
 use Rattle.spec_log.specs.declared.Sizes.{Sizes}
 use Rattle.spec_log.specs.declared.LogParts.{LogParts}
-use Rattle.spec_log.specs.Head.{is_slot, head_by_turn, head_in}
+use Rattle.spec_log.specs.Head.{is_dma_at, head_by_turn, head_in}
 use Rattle.spec_log.specs.Size.{dma_size}
 use Rattle.spec_kernel.specs.Copies.{dma_words}
 use Rattle.spec_kernel.specs.Interrupts.{is_live, has_handler, takes_interrupt, interrupted}
@@ -28,20 +28,20 @@ use Rattle.spec_play.specs.Plays.{Played, dma_settled, play_now, play_one}
 use Rattle.spec_protocol.specs.Spheres.{Sphere}
 use Rattle.spec_protocol.proofs.Logs.Inserting.{with_size}
 use Rattle.spec_protocol.proofs.Moves.Granted.{get-set_other, get-set_same}
-use Rattle.spec_protocol.proofs.Logs.Lookups.{get-behind, a_slot, interrupt-other, interrupt-same, length-raised}
+use Rattle.spec_protocol.proofs.Logs.Lookups.{get-behind, a_dma, interrupt-other, interrupt-same, length-raised}
 use Rattle.spec_protocol.proofs.Logs.Growing.{OrderStands, SizesStand, Stands, SizesAhead, Behind, Ahead}
 use Rattle.spec_protocol.proofs.Logs.Coming.{Transferred, WasRaised}
 use Rattle.spec_protocol.proofs.PlayingBack.Following.{early_by, early, pending_by, pending, sum_from, sum-set, Follows}
 
 -- ---- whose turn it is
 
-dma_named : (mode : ModeName) (L : LogParts) (n : ℕ) (last : Option ℕ) (flags : List Bool) (order : List Actor) → (ts : List Parts) → OrderStands mode order n ts → Behind L.order (order_with mode order Actor.Dma) → is_slot L.dmas n ≡ true
+dma_named : (mode : ModeName) (L : LogParts) (n : ℕ) (last : Option ℕ) (flags : List Bool) (order : List Actor) → (ts : List Parts) → OrderStands mode order n ts → Behind L.order (order_with mode order Actor.Dma) → is_dma_at L.dmas n ≡ true
     → head_in mode L n last flags ≡ Some Actor.Dma
-dma_named ModeName.OrderSize L n last flags order ts s b slot =
+dma_named ModeName.OrderSize L n last flags order ts s b there =
     ap (λ (as_ : List Actor). slice_get as_ n) (b.1 ∙ append_assoc order (Actor.Dma ∷ []) b.0) ∙ get-behind order Actor.Dma b.0 n s.0
-dma_named ModeName.OrderOnly L n last flags order ts s b slot =
+dma_named ModeName.OrderOnly L n last flags order ts s b there =
     ap (λ (as_ : List Actor). slice_get as_ n) (b.1 ∙ append_assoc order (Actor.Dma ∷ []) b.0) ∙ get-behind order Actor.Dma b.0 n s.0
-dma_named ModeName.Picolog L n last flags order ts s b slot = ap (λ (c : Bool). head_by_turn c last flags) slot
+dma_named ModeName.Picolog L n last flags order ts s b there = ap (λ (c : Bool). head_by_turn c last flags) there
 
 dma_turn_at : (L : LogParts) (p : Progress) (u : Used) (ts : List Parts) → position p < L.count → next_actor L p ts ≡ Some Actor.Dma → now_at L p u ts ≡ TurnOfDma
 unfolding now_at
@@ -63,10 +63,10 @@ dma_size_says ModeName.Picolog (Sizes.Each ys) (Sizes.Short xs) n c ts us s a = 
 dma_size_says ModeName.OrderOnly (Sizes.Short ys) (Sizes.Short xs) n c ts us s a = refl
 dma_size_says ModeName.Picolog (Sizes.Short ys) (Sizes.Short xs) n c ts us s a = refl
 
-is_for_it : (n : ℕ) (q : Request) (bytes : List ℕ) → length bytes ≤ q.len → is_for n q (record { slot = n; bytes = bytes }) ≡ true
+is_for_it : (n : ℕ) (q : Request) (bytes : List ℕ) → length bytes ≤ q.len → is_for n q (record { position = n; bytes = bytes }) ≡ true
 is_for_it n q bytes l = and_from (eqb n n) (nat_le (length bytes) q.len) (eq-eqb n n refl) (le-leb (length bytes) q.len l)
 
-dma_goes : (L : LogParts) (p : Progress) (u : Used) (q : Request) (bytes : List ℕ) → p.request ≡ Some q → length bytes ≤ q.len → serial_why (dma_size L.sizes (position p)) ≡ None → slice_get L.dmas u.dmas ≡ Some (record { slot = position p; bytes = bytes })
+dma_goes : (L : LogParts) (p : Progress) (u : Used) (q : Request) (bytes : List ℕ) → p.request ≡ Some q → length bytes ≤ q.len → serial_why (dma_size L.sizes (position p)) ≡ None → slice_get L.dmas u.dmas ≡ Some (record { position = position p; bytes = bytes })
     → dma_verdict L p u ≡ DmaGoes (dma_words q bytes)
 unfolding dma_verdict
 dma_goes L p u q bytes asked most none there =
@@ -84,14 +84,14 @@ dma_now L p q log bytes y sp ap_ aq f =
     let rest = aq.dmas in
     let at_ : position y.progress ≡ position p.progress = ap position f.progress in
     let below : position y.progress < L.count = (let a = sp.count in let h = aq.count in omega arith) in
-    let slot : is_slot L.dmas (position p.progress) ≡ true =
-    ap (λ (ds : List DmaRecord). is_slot ds (position p.progress)) (rest.1 ∙ append_assoc log.dmas (record { slot = position p.progress; bytes = bytes } ∷ []) rest.0)
-    ∙ a_slot (position p.progress) log.dmas (record { slot = position p.progress; bytes = bytes }) rest.0 refl
+    let there : is_dma_at L.dmas (position p.progress) ≡ true =
+    ap (λ (ds : List DmaRecord). is_dma_at ds (position p.progress)) (rest.1 ∙ append_assoc log.dmas (record { position = position p.progress; bytes = bytes } ∷ []) rest.0)
+    ∙ a_dma (position p.progress) log.dmas (record { position = position p.progress; bytes = bytes }) rest.0 refl
     in
     let actor : next_actor L y.progress y.threads ≡ Some Actor.Dma =
     ap (λ (g : Progress). head_in L.mode L (position g) g.last (map is_live y.threads)) f.progress
     ∙ ap (λ (m : ModeName). head_in m L (position p.progress) p.progress.last (map is_live y.threads)) ap_.mode
-    ∙ dma_named log.mode L (position p.progress) p.progress.last (map is_live y.threads) log.order p.threads sp.order aq.order slot
+    ∙ dma_named log.mode L (position p.progress) p.progress.last (map is_live y.threads) log.order p.threads sp.order aq.order there
     in
     f.now ∙ dma_turn_at L y.progress y.used y.threads below actor
 
@@ -100,13 +100,13 @@ dma_says : (L : LogParts) (p q : Sphere) (log : LogParts) (bytes : List ℕ) (re
 dma_says L p q log bytes request y asked most sp ap_ aq f =
     let rest = aq.dmas in
     let at_ : position y.progress ≡ position p.progress = ap position f.progress in
-    let d : DmaRecord = record { slot = position p.progress; bytes = bytes } in
+    let d : DmaRecord = record { position = position p.progress; bytes = bytes } in
     let there : slice_get L.dmas y.used.dmas ≡ Some d =
     ap (λ (ds : List DmaRecord). slice_get ds y.used.dmas) (rest.1 ∙ append_assoc log.dmas (d ∷ []) rest.0) ∙ get-behind log.dmas d rest.0 y.used.dmas (sym f.dmas)
     in
     dma_goes L y.progress y.used request bytes (ap (λ (g : Progress). g.request) f.progress ∙ asked) most
     (ap (λ (n : ℕ). serial_why (dma_size L.sizes n)) at_ ∙ dma_size_says log.mode L.sizes log.sizes (position p.progress) (position p.progress) p.threads q.threads sp.sizes aq.sizes)
-    (there ∙ ap (λ (n : ℕ). Some (record { slot = n; bytes = bytes })) (sym at_))
+    (there ∙ ap (λ (n : ℕ). Some (record { position = n; bytes = bytes })) (sym at_))
 
 -- the play that follows up to a DMA follows behind it
 pub transferred-follows : (L : LogParts) (p q : Sphere) (log qlog : LogParts) (bytes : List ℕ) (request : Request) (y : Played) → Transferred p q log qlog bytes → q.memory ≡ lays p.memory (dma_words request bytes) → q.progress ≡ with_dma p.progress → p.progress.request ≡ Some request → length bytes ≤ request.len
@@ -124,7 +124,7 @@ transferred-follows L p q log qlog bytes request y d mem progress asked most sp 
       threads = λ j t e. f.threads j t (ap (λ (ts : List Parts). slice_get ts j) (sym d.threads) ∙ e);
       progress = ap with_dma f.progress ∙ sym progress;
       inputs = f.inputs;
-      dmas = (let h = f.dmas in let g = length-append log.dmas (record { slot = position p.progress; bytes = bytes } ∷ []) in omega arith);
+      dmas = (let h = f.dmas in let g = length-append log.dmas (record { position = position p.progress; bytes = bytes } ∷ []) in omega arith);
       interrupts = f.interrupts ∙ ap (λ (ts : List Parts). length log.interrupts + sum_from (pending L.interrupts log.interrupts) 0 ts) (sym d.threads);
       now = refl;
     }))

@@ -9,7 +9,7 @@ use Rattle.spec_engine.specs.Flights.{Flight, at, drain, retire}
 use Rattle.spec_engine.specs.Chunks.{step, cut}
 use Rattle.spec_protocol.specs.declared.event.Event.{Event}
 use Rattle.spec_protocol.specs.Commits.{CommitOutcome, Granted, Piece, Diverged, MovedSphere, is_piece, chunk_moved, serial_moved}
-use Rattle.spec_protocol.specs.World.{Held, World, After, moment, sphere_at, with_sphere, with_slot, core_of}
+use Rattle.spec_protocol.specs.World.{Occupant, World, After, moment, sphere_at, with_sphere, with_slot, core_of}
 use Rattle.spec_protocol.specs.Stepping.{reply_of_step, reply_of_cut}
 use Rattle.spec_protocol.specs.Asking.{CommitRequest, chunk_request, granted, grant_chunk, grant_serial}
 use Rattle.spec_protocol.specs.Flying.{drain_slot, told, delivering, retiring, reply_of_drain, reply_of_retire}
@@ -56,20 +56,20 @@ granted_untold w c q writes v Granted = record { points = refl; counts = refl; e
 granted_untold w c q writes v Piece = record { points = refl; counts = refl; exactly = refl; moment = refl }
 granted_untold w c q writes v (Diverged i why) = record { points = refl; counts = refl; exactly = refl; moment = tt }
 
-chunk_untold : (w : World) (c : ℕ) (h : Held) (how : How) → Untold w (grant_chunk w c h how)
+chunk_untold : (w : World) (c : ℕ) (h : Occupant) (how : How) → Untold w (grant_chunk w c h how)
 unfolding grant_chunk
 chunk_untold w c h how =
     let q = chunk_request w h how in
     granted_untold w c q h.chunk.writes (chunk_moved h.thread (is_piece how) q.short h.chunk.done w.devices (sphere_at w h.chunk.sphere)) _
 
-serial_untold : (w : World) (c : ℕ) (h : Held) → Untold w (grant_serial w c h)
+serial_untold : (w : World) (c : ℕ) (h : Occupant) → Untold w (grant_serial w c h)
 unfolding grant_serial
 serial_untold w c h = granted_untold w c _ _ (serial_moved h.thread (moment w) h.chunk.start w.devices (sphere_at w h.chunk.sphere)) _
 
 drain_untold : (w : World) (k : ℕ) (f : Flight) → Untold w (drain_slot w k (Some f))
 drain_untold w k f = record { points = refl; counts = refl; exactly = drain_none (drain (sphere_at w f.sphere).memory (Some f)).reply; moment = tt }
 
-told_untold : (w : World) (k c : ℕ) (v : Option Flight) (held : Option Held) (d : Deliver) → Untold w (told (with_slot w k v) c held d)
+told_untold : (w : World) (k c : ℕ) (v : Option Flight) (held : Option Occupant) (d : Deliver) → Untold w (told (with_slot w k v) c held d)
 told_untold w k c v held Deliver.NoCommit = record { points = refl; counts = refl; exactly = refl; moment = tt }
 told_untold w k c v held Deliver.Already = record { points = refl; counts = refl; exactly = refl; moment = tt }
 told_untold w k c v held Deliver.Squashed = record { points = refl; counts = refl; exactly = refl; moment = tt }

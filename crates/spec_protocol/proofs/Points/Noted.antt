@@ -160,7 +160,7 @@ dma-logged mode s cs moment i n kind short bytes is =
     let q = Point.Commit moment i Actor.Dma kind 0 short in
     let c : Supplied = record { point = q; input = None; bytes = bytes } in
     let all = sym (points-more cs c) in
-    let slot : 0 + length (actors_of ps) ≡ n = omega arith in
+    let here : 0 + length (actors_of ps) ≡ n = omega arith in
     (λ h. record {
       mode = mode;
       s = s;
@@ -169,7 +169,7 @@ dma-logged mode s cs moment i n kind short bytes is =
       sizes = (sizes_of_dma mode ps moment i n kind short ∙ ap (sizes_in mode) all) h;
       interrupts = (no_interrupts ps moment i 0 Actor.Dma kind short ∙ ap all_interrupts all) h;
       inputs = inputs_same cs c refl h;
-      dmas = dmas_more cs c (record { slot = n; bytes = bytes } ∷ []) (ap (λ (m : ℕ). record { slot = m; bytes = bytes } ∷ []) slot) h;
+      dmas = dmas_more cs c (record { position = n; bytes = bytes } ∷ []) (ap (λ (m : ℕ). record { position = m; bytes = bytes } ∷ []) here) h;
     })
 
 -- what a recording notes of an interrupt of thread k, after so many of its commits, is what its point adds to the log

@@ -19,7 +19,7 @@ use Rattle.spec_engine.specs.Chunks.{fresh, step, cut, squash}
 use Rattle.spec_protocol.specs.declared.event.Event.{Event}
 use Rattle.spec_protocol.specs.Spheres.{Sphere, no_sphere, is_stopped, head_of, limit_of, halves}
 use Rattle.spec_protocol.specs.Commits.{CommitOutcome, Granted, Piece, Diverged, MovedSphere, is_piece, chunk_moved, serial_moved, raised}
-use Rattle.spec_protocol.specs.World.{Numbers, Held, World, After, moment, sphere_at, with_sphere, with_memory, with_core, with_slot, thread_afresh, held_afresh, core_of, flown, answered}
+use Rattle.spec_protocol.specs.World.{Numbers, Occupant, World, After, moment, sphere_at, with_sphere, with_memory, with_core, with_slot, thread_afresh, held_afresh, core_of, flown, answered}
 use Rattle.spec_protocol.specs.Stepping.{stepped, cut_to}
 use Rattle.spec_protocol.specs.Flying.{reply_of_drain, reads_of, writes_of, squashed, told, delivering, retiring}
 use Rattle.spec_protocol.specs.Asking.{CommitRequest, granted, is_short, chunk_request, grant_chunk, serial_request, grant_serial, other_turn}
@@ -38,14 +38,14 @@ use Rattle.spec_protocol.proofs.Invariants.Cores.{set-cases, branch}
 pub record Properties : Type 1 where
   pub sphere : (now i : ℕ) → Sphere → Type 0
   pub flight : Flight → Type 0
-  pub held : Held → Type 0
+  pub held : Occupant → Type 0
   pub devices : Devices → Type 0
 
 -- the parts of a world have them
 pub record Holds (P : Properties) (now : ℕ) (w : World) : Type 0 where
   pub spheres : (i : ℕ) → i < length w.spheres → P.sphere now i (sphere_at w i)
   pub flights : (k : ℕ) (f : Flight) → at w.slots k ≡ Some f → P.flight f
-  pub held : (c : ℕ) (h : Held) → at w.cores c ≡ Some h → P.held h
+  pub held : (c : ℕ) (h : Occupant) → at w.cores c ≡ Some h → P.held h
   pub devices : P.devices w.devices
 
 -- what a move leaves has them
@@ -55,7 +55,7 @@ pub record Lands (P : Properties) (now i : ℕ) (v : MovedSphere) : Type 0 where
   pub devices : P.devices v.devices
 
 -- core c, which holds h, asks for its chunk, which was closed so, and no other actor has the turn
-pub record Asks (w : World) (c : ℕ) (h : Held) (how : How) : Type 0 where
+pub record Asks (w : World) (c : ℕ) (h : Occupant) (how : How) : Type 0 where
   pub good : IsGood w
   pub is : at w.cores c ≡ Some h
   pub closed : h.chunk.closed ≡ Some how
@@ -65,15 +65,15 @@ pub record Asks (w : World) (c : ℕ) (h : Held) (how : How) : Type 0 where
 -- each change keeps them
 pub record Keeps (z : Numbers) (P : Properties) : Type 0 where
   pub later : (now i : ℕ) (p : Sphere) → P.sphere now i p → P.sphere (suc now) i p
-  pub stepped : (now c : ℕ) (p : Sphere) (slots : List (Option Flight)) (h : Held) → P.sphere now h.chunk.sphere p → h.chunk.closed ≡ None → P.held h → P.held (record h { chunk = (step z.buffer p.memory slots c h.chunk).chunk })
-  pub cut : (h : Held) → P.held h → P.held (record h { chunk = (cut h.chunk).chunk })
-  pub squashed : (h : Held) → P.held h → P.held (record h { chunk = squash h.chunk })
+  pub stepped : (now c : ℕ) (p : Sphere) (slots : List (Option Flight)) (h : Occupant) → P.sphere now h.chunk.sphere p → h.chunk.closed ≡ None → P.held h → P.held (record h { chunk = (step z.buffer p.memory slots c h.chunk).chunk })
+  pub cut : (h : Occupant) → P.held h → P.held (record h { chunk = (cut h.chunk).chunk })
+  pub squashed : (h : Occupant) → P.held h → P.held (record h { chunk = squash h.chunk })
   pub afresh : (now i k : ℕ) (p : Sphere) (t : Parts) → P.sphere now i p → slice_get p.threads k ≡ Some t → is_live t ≡ true → P.held (record { thread = k; chunk = fresh z.signature i t (limit_of z.chunk p.role k t) (halves p.role) })
   pub told : (f : Flight) (c : ℕ) → P.flight f → P.flight (tell f c)
   pub drained : (now : ℕ) (f : Flight) (s : Stored) (ss : List Stored) (p : Sphere) → f.words ≡ s ∷ ss → P.flight f → P.sphere now f.sphere p → P.flight (record f { words = ss }) × P.sphere now f.sphere (record p { memory = lay p.memory s })
-  pub chunk : (w : World) (c : ℕ) (h : Held) (how : How) → w.numbers ≡ z → Asks w c h how → Holds P (moment w) w
+  pub chunk : (w : World) (c : ℕ) (h : Occupant) (how : How) → w.numbers ≡ z → Asks w c h how → Holds P (moment w) w
       → Lands P (suc (moment w)) h.chunk.sphere (chunk_moved h.thread (is_piece how) (is_short w.numbers.chunk how h.chunk.limit) h.chunk.done w.devices (sphere_at w h.chunk.sphere))
-  pub serial : (w : World) (c : ℕ) (h : Held) (how : How) → Asks w c h how → Holds P (moment w) w → Lands P (suc (moment w)) h.chunk.sphere (serial_moved h.thread (moment w) h.chunk.start w.devices (sphere_at w h.chunk.sphere))
+  pub serial : (w : World) (c : ℕ) (h : Occupant) (how : How) → Asks w c h how → Holds P (moment w) w → Lands P (suc (moment w)) h.chunk.sphere (serial_moved h.thread (moment w) h.chunk.start w.devices (sphere_at w h.chunk.sphere))
   pub dma : (w : World) (i : ℕ) (v : MovedSphere) → Transfers w i v → Holds P (moment w) w → Lands P (suc (moment w)) i v
   pub raised : (now i k value : ℕ) (t : Parts) (p : Sphere) → Raises k t p → P.sphere now i p → P.sphere (suc now) i (raised k value t p)
 
@@ -101,7 +101,7 @@ flown-row F i (s ∷ ss) writes t xs new old j x e = fill-row F xs (record { sph
 
 -- ---- one part changes
 
-core-holds : (P : Properties) (now : ℕ) (w : World) (c : ℕ) (o : Option Held) → ((h : Held) → o ≡ Some h → P.held h) → Holds P now w → Holds P now (with_core w c o)
+core-holds : (P : Properties) (now : ℕ) (w : World) (c : ℕ) (o : Option Occupant) → ((h : Occupant) → o ≡ Some h → P.held h) → Holds P now w → Holds P now (with_core w c o)
 core-holds P now w c o new k =
     record { spheres = k.spheres; flights = k.flights; held = row-set P.held w.cores c o new k.held; devices = k.devices }
 
@@ -120,10 +120,10 @@ later-holds P z w keeps h =
 -- ---- a chunk that begins
 
 -- a chunk begun afresh has the property, if its sphere has
-pub afresh-property : (P : Properties) (z : Numbers) (now i k : ℕ) (p : Sphere) (o : Option Parts) → Keeps z P → P.sphere now i p → slice_get p.threads k ≡ o → (h : Held) → thread_afresh z i k p o ≡ Some h → P.held h
+pub afresh-property : (P : Properties) (z : Numbers) (now i k : ℕ) (p : Sphere) (o : Option Parts) → Keeps z P → P.sphere now i p → slice_get p.threads k ≡ o → (h : Occupant) → thread_afresh z i k p o ≡ Some h → P.held h
 afresh-property P z now i k p None keeps sphere is h e = absurd (none-some h e)
 afresh-property P z now i k p (Some t) keeps sphere is h e =
-    branch (λ (o : Option Held). o ≡ Some h → P.held h) (is_live t) (Some (record { thread = k; chunk = fresh z.signature i t (limit_of z.chunk p.role k t) (halves p.role) })) None
+    branch (λ (o : Option Occupant). o ≡ Some h → P.held h) (is_live t) (Some (record { thread = k; chunk = fresh z.signature i t (limit_of z.chunk p.role k t) (halves p.role) })) None
     (λ live q. subst P.held (let r : record { thread = k; chunk = fresh z.signature i t (limit_of z.chunk p.role k t) (halves p.role) } ≡ h = cc in r) (keeps.afresh now i k p t sphere is live))
     (λ _ q. absurd (none-some h q)) e
 
@@ -133,13 +133,13 @@ afresh-holds P now w c i k p keeps sphere h =
 
 -- ---- what is left
 
-held-is : (P : Properties) (h x : Held) → Some h ≡ Some x → P.held h → P.held x
+held-is : (P : Properties) (h x : Occupant) → Some h ≡ Some x → P.held h → P.held x
 held-is P h x e p = subst P.held (let q : h ≡ x = cc in q) p
 
 flight-is : (P : Properties) (f x : Flight) → Some f ≡ Some x → P.flight f → P.flight x
 flight-is P f x e p = subst P.flight (let q : f ≡ x = cc in q) p
 
-moved-holds : (P : Properties) (w : World) (i : ℕ) (v : MovedSphere) (writes : Marks) (t : ℕ) (cores : List (Option Held)) → Lands P (suc (moment w)) i v → ((c : ℕ) (h : Held) → at cores c ≡ Some h → P.held h) → Holds P (suc (moment w)) w
+moved-holds : (P : Properties) (w : World) (i : ℕ) (v : MovedSphere) (writes : Marks) (t : ℕ) (cores : List (Option Occupant)) → Lands P (suc (moment w)) i v → ((c : ℕ) (h : Occupant) → at cores c ≡ Some h → P.held h) → Holds P (suc (moment w)) w
     → Holds P (suc (moment w)) (record w { spheres = (with_sphere w i v.sphere).spheres; slots = flown i v.words writes t w.slots; cores = cores; devices = v.devices })
 moved-holds P w i v writes t cores lands held k =
     record {
@@ -150,7 +150,7 @@ moved-holds P w i v writes t cores lands held k =
     }
 
 -- a core is told, and its chunk begins again where it is hit
-squashed-held : (P : Properties) (z : Numbers) (o : Option Held) → Keeps z P → ((h : Held) → o ≡ Some h → P.held h) → (x : Held) → squashed o ≡ Some x → P.held x
+squashed-held : (P : Properties) (z : Numbers) (o : Option Occupant) → Keeps z P → ((h : Occupant) → o ≡ Some h → P.held h) → (x : Occupant) → squashed o ≡ Some x → P.held x
 squashed-held P z None keeps old x e = absurd (none-some x e)
 squashed-held P z (Some h) keeps old x e = held-is P (record h { chunk = squash h.chunk }) x e (keeps.squashed h (old h refl))
 
@@ -187,14 +187,14 @@ module _ (P : Properties) (w : World) (keeps : Keeps w.numbers P) (good : IsGood
   same : Holds P (suc (moment w)) w
   same = later-holds P w.numbers w keeps k
 
-  step-then : (c : ℕ) (h : Held) → at w.cores c ≡ Some h → h.chunk.closed ≡ None → Then P w (stepped w c h (step w.numbers.buffer (sphere_at w h.chunk.sphere).memory w.slots c h.chunk))
+  step-then : (c : ℕ) (h : Occupant) → at w.cores c ≡ Some h → h.chunk.closed ≡ None → Then P w (stepped w c h (step w.numbers.buffer (sphere_at w h.chunk.sphere).memory w.slots c h.chunk))
   step-then c h is opened =
       let p = sphere_at w h.chunk.sphere in
       let s = step w.numbers.buffer p.memory w.slots c h.chunk in
       core-holds P (suc (moment w)) w c (Some (record h { chunk = s.chunk }))
       (λ x q. held-is P (record h { chunk = s.chunk }) x q (keeps.stepped (moment w) c p w.slots h (k.spheres h.chunk.sphere (good.held c h is).sphere) opened (k.held c h is))) same
 
-  cut-then : (c : ℕ) (h : Held) → at w.cores c ≡ Some h → Then P w (cut_to w c h (cut h.chunk))
+  cut-then : (c : ℕ) (h : Occupant) → at w.cores c ≡ Some h → Then P w (cut_to w c h (cut h.chunk))
   cut-then c h is =
       core-holds P (suc (moment w)) w c (Some (record h { chunk = (cut h.chunk).chunk }))
       (λ x q. held-is P (record h { chunk = (cut h.chunk).chunk }) x q (keeps.cut h (k.held c h is))) same
@@ -208,16 +208,16 @@ module _ (P : Properties) (w : World) (keeps : Keeps w.numbers P) (good : IsGood
       (afresh-holds P (suc (moment w)) w c q.sphere q.thread v.sphere keeps lands.sphere same).held same
   granted-then c q writes v (Diverged i why) lands = sphere-holds P (suc (moment w)) w q.sphere v.sphere lands.sphere same
 
-  asks : (c : ℕ) (h : Held) (how : How) → MayAsk w c h how → Asks w c h how
+  asks : (c : ℕ) (h : Occupant) (how : How) → MayAsk w c h how → Asks w c h how
   asks c h how may = record { good = good; is = may.is; closed = may.closed; going = may.going; turn = may.turn }
 
-  chunk-then : (c : ℕ) (h : Held) (how : How) → MayAsk w c h how → Then P w (grant_chunk w c h how)
+  chunk-then : (c : ℕ) (h : Occupant) (how : How) → MayAsk w c h how → Then P w (grant_chunk w c h how)
   unfolding grant_chunk
   chunk-then c h how may =
       granted-then c (chunk_request w h how) h.chunk.writes
       (chunk_moved h.thread (is_piece how) (is_short w.numbers.chunk how h.chunk.limit) h.chunk.done w.devices (sphere_at w h.chunk.sphere)) _ (keeps.chunk w c h how refl (asks c h how may) k)
 
-  serial-then : (c : ℕ) (h : Held) (how : How) → MayAsk w c h how → Then P w (grant_serial w c h)
+  serial-then : (c : ℕ) (h : Occupant) (how : How) → MayAsk w c h how → Then P w (grant_serial w c h)
   unfolding grant_serial
   serial-then c h how may =
       granted-then c (serial_request h) _ (serial_moved h.thread (moment w) h.chunk.start w.devices (sphere_at w h.chunk.sphere)) _ (keeps.serial w c h how (asks c h how may) k)

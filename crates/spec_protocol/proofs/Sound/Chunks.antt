@@ -48,7 +48,7 @@ with-words size ws (Some s) each all = sound-put size ws s all (each s refl)
 with-room : (capacity : ℕ) (ws : List Stored) (o : Option Stored) → has_room capacity ws o ≡ true → length ws ≤ capacity → length (with_store ws o) ≤ capacity
 with-room capacity ws None e few = few
 with-room capacity ws (Some s) e few =
-    elim (holds ws s.word) as (λ (b : Bool). holds ws s.word ≡ b → (b || nat_lt (length ws) capacity) ≡ true → length (put ws s) ≤ capacity) [
+    elim (holds ws s.number) as (λ (b : Bool). holds ws s.number ≡ b → (b || nat_lt (length ws) capacity) ≡ true → length (put ws s) ≤ capacity) [
       | true ↦ λ h _. (let l = held-length ws s h in omega (arith, l, few))
       | false ↦ λ _ h. (let l = put-length ws s in let k = ltb-true (length ws) capacity h in omega (arith, l, k))
     ] refl e

@@ -9,7 +9,7 @@ use Rattle.spec_engine.specs.declared.answers.How.{How}
 use Rattle.spec_protocol.specs.Spheres.{Role, Plain, Record, Replay, Sphere, no_sphere, is_stopped, limit_of}
 use Rattle.spec_protocol.specs.Asking.{is_short}
 use Rattle.spec_protocol.specs.Placing.{replays}
-use Rattle.spec_protocol.specs.World.{Held, World, moment, sphere_at}
+use Rattle.spec_protocol.specs.World.{Occupant, World, moment, sphere_at}
 use Rattle.spec_protocol.specs.Machine.{Setup}
 use Rattle.spec_protocol.specs.Invariants.{Closes, IsGood}
 use Rattle.spec_protocol.specs.Sound.{IsSoundRequest, IsSoundIf, image_at, IsSound}
@@ -29,7 +29,7 @@ live-limit s k t Plain e = refl
 live-limit s k t (Record log) e = refl
 live-limit s k t (Replay b) e = absurd (true≢false e)
 
-short-over : (capacity s : ℕ) (h : Held) (how : How) → h.chunk.closed ≡ Some how → 0 < capacity → Closes capacity h.chunk → is_short s how h.chunk.limit ≡ true → 1 ≤ h.chunk.done.n
+short-over : (capacity s : ℕ) (h : Occupant) (how : How) → h.chunk.closed ≡ Some how → 0 < capacity → Closes capacity h.chunk → is_short s how h.chunk.limit ≡ true → 1 ≤ h.chunk.done.n
 short-over capacity s h How.Limit e some c short = let a = c.full e in let l = c.positive in omega (arith, a, l)
 short-over capacity s h How.Serial e some c short = absurd (true≢false (sym short))
 short-over capacity s h How.Overflow e some c short = let a = c.room e in omega (arith, a, some)
@@ -57,7 +57,7 @@ fits_log s w i sound =
           dma-bytes w.devices request r.few sound.devices;
     }
 
-fits_chunk : (w : World) (c : ℕ) (h : Held) (how : How) → IsGood w → IsClosed w c h how → IsNotable w.numbers.chunk h how
+fits_chunk : (w : World) (c : ℕ) (h : Occupant) (how : How) → IsGood w → IsClosed w c h how → IsNotable w.numbers.chunk h how
 fits_chunk w c h how good is =
     let held = good.held c h is.is in
     let role = (sphere_at w h.chunk.sphere).role in

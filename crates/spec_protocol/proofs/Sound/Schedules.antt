@@ -22,7 +22,7 @@ use Rattle.spec_protocol.specs.declared.event.Event.{Event}
 use Rattle.spec_protocol.specs.Spheres.{Cursor, Role, Replay, Sphere, no_sphere, is_over, is_stopped, head_of, head_in, whole_limit, pieces_of, limit_of, halves}
 use Rattle.spec_protocol.specs.Commits.{MovedSphere, is_piece, chunk_moved, serial_moved}
 use Rattle.spec_protocol.specs.Asking.{is_short, other_turn}
-use Rattle.spec_protocol.specs.World.{Numbers, Held, World, After, moment, sphere_at}
+use Rattle.spec_protocol.specs.World.{Numbers, Occupant, World, After, moment, sphere_at}
 use Rattle.spec_protocol.specs.Placing.{replays}
 use Rattle.spec_protocol.specs.Transferring.{turn_before_dma}
 use Rattle.spec_protocol.specs.Machine.{RoleSetup, IsPlain, IsRecorded, IsReplayed, SphereSetup, Setup, role_of, sphere_of, world_of, act, name_of, with_event, happens, world_after}
@@ -134,7 +134,7 @@ room-left n total whole limit a e l = omega (arith, a, e, l)
 cursor-is : (s n : ℕ) (p : Sphere) (b : Cursor) → p.role ≡ Replay b → IsSoundRole s n p.threads p.role → IsSoundCursor n p.threads b
 cursor-is s n p b e h = subst (IsSoundRole s n p.threads) e h
 
-piece-room : (s : Setup) (w : World) (c : ℕ) (h : Held) (how : How) → Asks w c h how → IsSoundSphere s.numbers.chunk (image_at s h.chunk.sphere) (moment w) (sphere_at w h.chunk.sphere)
+piece-room : (s : Setup) (w : World) (c : ℕ) (h : Occupant) (how : How) → Asks w c h how → IsSoundSphere s.numbers.chunk (image_at s h.chunk.sphere) (moment w) (sphere_at w h.chunk.sphere)
     → (b : Cursor) → (sphere_at w h.chunk.sphere).role ≡ Replay b → is_piece how ≡ true → b.total + h.chunk.done.n < whole_limit b.log h.thread h.chunk.start.commits
 piece-room s w c h how asks k b e piece =
     let p = sphere_at w h.chunk.sphere in
@@ -148,7 +148,7 @@ piece-room s w c h how asks k b e piece =
     (turn-room (position p.progress) h.thread p b h.chunk.start cursor turn held.start) limit
     (held.chunk.closes.early how asks.closed (piece-how how piece))
 
-sound-chunk : (s : Setup) (w : World) (c : ℕ) (h : Held) (how : How) → Asks w c h how → Holds (sound s) (moment w) w
+sound-chunk : (s : Setup) (w : World) (c : ℕ) (h : Occupant) (how : How) → Asks w c h how → Holds (sound s) (moment w) w
     → Lands (sound s) (suc (moment w)) h.chunk.sphere (chunk_moved h.thread (is_piece how) (is_short w.numbers.chunk how h.chunk.limit) h.chunk.done w.devices (sphere_at w h.chunk.sphere))
 sound-chunk s w c h how asks k =
     let i = h.chunk.sphere in
@@ -162,7 +162,7 @@ sound-chunk s w c h how asks k =
     (record { live = held.lives; turn = has-turn p h.thread asks.going asks.turn; room = piece-room s w c h how asks sphere })
     (record { thread = ch.thread; commits = ch.commits; status = ch.status; words = ch.words; loads = held.chunk.closes.few_loads }))
 
-sound-serial : (s : Setup) (w : World) (c : ℕ) (h : Held) (how : How) → IsWithinLimits s → Asks w c h how → Holds (sound s) (moment w) w
+sound-serial : (s : Setup) (w : World) (c : ℕ) (h : Occupant) (how : How) → IsWithinLimits s → Asks w c h how → Holds (sound s) (moment w) w
     → Lands (sound s) (suc (moment w)) h.chunk.sphere (serial_moved h.thread (moment w) h.chunk.start w.devices (sphere_at w h.chunk.sphere))
 sound-serial s w c h how limits asks k =
     let i = h.chunk.sphere in
@@ -291,7 +291,7 @@ pub setup-within : (s : Setup) → IsWithinLimits s → IsSetup s
 setup-within s limits =
     record { chunk = (let l = limits.chunk.0 in omega (arith, l)); buffer = (let l = limits.buffer in omega (arith, l)) }
 
-start-held : (s : Setup) (c : ℕ) (h : Held) → IsWithinLimits s → ((i : ℕ) → i < length (world_of s).spheres → IsSoundSphere s.numbers.chunk (image_at s i) 0 (sphere_at (world_of s) i)) → at (world_of s).cores c ≡ Some h → IsSoundChunk s.numbers.buffer (size_of s h.chunk.sphere) h.chunk
+start-held : (s : Setup) (c : ℕ) (h : Occupant) → IsWithinLimits s → ((i : ℕ) → i < length (world_of s).spheres → IsSoundSphere s.numbers.chunk (image_at s i) 0 (sphere_at (world_of s) i)) → at (world_of s).cores c ≡ Some h → IsSoundChunk s.numbers.buffer (size_of s h.chunk.sphere) h.chunk
 start-held s c h limits spheres e =
     let ps = (world_of s).spheres in
     let r = first_held s.numbers 0 s.cores c ps h e in

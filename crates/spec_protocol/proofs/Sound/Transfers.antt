@@ -98,7 +98,7 @@ transferred-goes size log u i (Some q) None whole request is = tt
 transferred-goes size log u i (Some q) (Some dma) whole request is =
     branch (IfDmaGoes size log u) (is_for i q dma) (DmaGoes (dma_words q dma.bytes)) (DmaFails Why.Dma)
     (λ e. record {
-      words_sound = dma-sound size q dma.bytes whole request (leb-true (length dma.bytes) q.len (and_parts (eqb dma.slot i) (nat_le (length dma.bytes) q.len) e).1);
+      words_sound = dma-sound size q dma.bytes whole request (leb-true (length dma.bytes) q.len (and_parts (eqb dma.position i) (nat_le (length dma.bytes) q.len) e).1);
       among = slice_get_within log.dmas u.dmas dma is;
     })
     (λ _. tt)

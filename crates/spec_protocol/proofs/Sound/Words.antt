@@ -14,6 +14,7 @@ use Rattle.spec_isa.specs.Masks.{some_if}
 use Rattle.spec_isa.specs.Words.{Stored, with_byte, lay, merged, later, put, holds, is_inside, IsBytes}
 use Rattle.spec_isa.specs.Operations.{stored, refusal, refuses, store_size, is_device_store, store_then, reserves}
 use Rattle.spec_isa.specs.Arithmetic.{amo_result}
+use Rattle.spec_isa.proofs.BufferLaws.{merged_number}
 use Rattle.spec_kernel.specs.Copies.{bytes_put, copied, dma_words}
 use Rattle.spec_engine.specs.Flights.{AreInside}
 use Rattle.spec_protocol.specs.Sound.{IsByte, HasBytes, HaveBytes, AreSoundWords, IsSoundRequest}
@@ -35,32 +36,29 @@ merged-bytes r s a b =
       b3 = later-byte r.b3 s.b3 a.b3 b.b3;
     }
 
-merged-word : (r s : Stored) → (merged r s).word ≡ r.word
-unfolding merged
-merged-word r s = refl
-
-inside-put : (size : ℕ) (ws : List Stored) (s : Stored) → AreInside size ws → 4 * s.word + 4 ≤ size → AreInside size (put ws s)
-inside-put size [] s all one_ = (one_, tt)
-inside-put size (r ∷ rs) s all one_ =
-    branch (AreInside size) (eqb r.word s.word) (merged r s ∷ rs) (r ∷ put rs s)
-    (λ _. (subst (λ (a : ℕ). 4 * a + 4 ≤ size) (sym (merged-word r s)) all.0, all.1))
-    (λ _. (all.0, inside-put size rs s all.1 one_))
+-- a word put among others inside is inside, as they are
+pub inside_put : (size : ℕ) (ws : List Stored) (s : Stored) → AreInside size ws → 4 * s.number + 4 ≤ size → AreInside size (put ws s)
+inside_put size [] s all one_ = (one_, tt)
+inside_put size (r ∷ rs) s all one_ =
+    branch (AreInside size) (eqb r.number s.number) (merged r s ∷ rs) (r ∷ put rs s)
+    (λ _. (subst (λ (a : ℕ). 4 * a + 4 ≤ size) (sym (merged_number r s)) all.0, all.1))
+    (λ _. (all.0, inside_put size rs s all.1 one_))
 
 bytes-put : (ws : List Stored) (s : Stored) → HaveBytes ws → HasBytes s → HaveBytes (put ws s)
 bytes-put [] s all one_ = (one_, tt)
 bytes-put (r ∷ rs) s all one_ =
-    branch HaveBytes (eqb r.word s.word) (merged r s ∷ rs) (r ∷ put rs s)
+    branch HaveBytes (eqb r.number s.number) (merged r s ∷ rs) (r ∷ put rs s)
     (λ _. (merged-bytes r s all.0 one_, all.1))
     (λ _. (all.0, bytes-put rs s all.1 one_))
 
 -- the stored word lies inside a memory of that size, and stores bytes
 pub record IsSoundWord (size : ℕ) (s : Stored) : Type 0 where
-  pub inside : 4 * s.word + 4 ≤ size
+  pub inside : 4 * s.number + 4 ≤ size
   pub bytes : HasBytes s
 
 -- sound words stay so with a sound store put to them
 pub sound-put : (size : ℕ) (ws : List Stored) (s : Stored) → AreSoundWords size ws → IsSoundWord size s → AreSoundWords size (put ws s)
-sound-put size ws s all one_ = record { inside = inside-put size ws s all.inside one_.inside; bytes = bytes-put ws s all.bytes one_.bytes }
+sound-put size ws s all one_ = record { inside = inside_put size ws s all.inside one_.inside; bytes = bytes-put ws s all.bytes one_.bytes }
 
 -- no words are sound words
 pub sound-none : (size : ℕ) → AreSoundWords size []
@@ -88,7 +86,7 @@ with-bytes m a (Some b) l h = set-bytes m a b l h
 pub lay-bytes : (m : List ℕ) (s : Stored) → HasBytes s → IsBytes m → IsBytes (lay m s)
 unfolding lay
 lay-bytes m s b h =
-    with-bytes _ (4 * s.word + 3) s.b3 b.b3 (with-bytes _ (4 * s.word + 2) s.b2 b.b2 (with-bytes _ (4 * s.word + 1) s.b1 b.b1 (with-bytes m (4 * s.word) s.b0 b.b0 h)))
+    with-bytes _ (4 * s.number + 3) s.b3 b.b3 (with-bytes _ (4 * s.number + 2) s.b2 b.b2 (with-bytes _ (4 * s.number + 1) s.b1 b.b1 (with-bytes m (4 * s.number) s.b0 b.b0 h)))
 
 -- ---- one word
 
@@ -161,10 +159,10 @@ dma-sound size request bytes whole sound few =
 -- ---- words that find room
 
 -- a store to a word that is held makes no word more
-pub held-length : (ws : List Stored) (s : Stored) → holds ws s.word ≡ true → length (put ws s) ≡ length ws
+pub held-length : (ws : List Stored) (s : Stored) → holds ws s.number ≡ true → length (put ws s) ≡ length ws
 held-length [] s e = absurd (true≢false (sym e))
 held-length (r ∷ rs) s e =
-    elim (eqb r.word s.word) as (λ (b : Bool). cond b true (holds rs s.word) ≡ true → length (cond b (merged r s ∷ rs) (r ∷ put rs s)) ≡ suc (length rs)) [
+    elim (eqb r.number s.number) as (λ (b : Bool). cond b true (holds rs s.number) ≡ true → length (cond b (merged r s ∷ rs) (r ∷ put rs s)) ≡ suc (length rs)) [
       | true ↦ λ _. refl
       | false ↦ λ h. ap suc (held-length rs s h)
     ] e
@@ -173,5 +171,5 @@ held-length (r ∷ rs) s e =
 pub put-length : (ws : List Stored) (s : Stored) → length (put ws s) ≤ suc (length ws)
 put-length [] s = omega arith
 put-length (r ∷ rs) s =
-    branch (λ (qs : List Stored). length qs ≤ suc (suc (length rs))) (eqb r.word s.word) (merged r s ∷ rs) (r ∷ put rs s)
+    branch (λ (qs : List Stored). length qs ≤ suc (suc (length rs))) (eqb r.number s.number) (merged r s ∷ rs) (r ∷ put rs s)
     (λ _. omega arith) (λ _. let l = put-length rs s in omega (arith, l))

@@ -290,7 +290,7 @@ const DMA_TOO_LONG: Row = Row {
     console: b"",
 };
 
-// A DMA in picolog comes at its logged slot, and no core is told of its flight until then.
+// A DMA in picolog comes at its logged position, and no core is told of its flight until then.
 const DMA_REPLAYED: Row = Row {
     name: "dma replayed",
     cores: 1,

@@ -51,13 +51,13 @@ fn inputs_are_taken_in_their_order(rt: HostRuntime) -> Result<(), Fail> {
 }
 
 #[test]
-fn the_data_of_a_dma_are_found_at_its_slot(rt: HostRuntime) -> Result<(), Fail> {
+fn the_data_of_a_dma_are_found_at_its_position(rt: HostRuntime) -> Result<(), Fail> {
     let mut dmas = Dmas::new(rt.alloc());
     dmas.reserve()?;
     dmas.note(2, b"AB")?;
     assert_eq!(rt; dmas.at(2), Some(b"AB".as_slice()));
     assert_eq!(rt; dmas.at(1), None);
-    assert_eq!(rt; dmas.nth(0).map(|dma| dma.slot), Some(2));
+    assert_eq!(rt; dmas.nth(0).map(|dma| dma.position), Some(2));
     assert_eq!(rt; dmas.list(rt.alloc())?.len(), 1);
     dmas.take(1);
     assert!(rt; !dmas.used());

@@ -83,13 +83,13 @@ fn picolog_takes_turns(rt: HostRuntime) -> Result<(), Fail> {
         Sizes::Each(_) => assert!(rt; false),
     }
     let live: &[bool] = &[true, false, true];
-    for (slot, last, head) in [
+    for (dma, last, head) in [
         (false, None, Some(Actor::Thread(0))),
         (false, Some(0), Some(Actor::Thread(2))),
         (false, Some(2), Some(Actor::Thread(0))),
         (true, Some(0), Some(Actor::Dma)),
     ] {
-        assert_eq!(rt; PicoLog::head(&log, 0, slot, last, live), head);
+        assert_eq!(rt; PicoLog::head(&log, 0, dma, last, live), head);
     }
     assert!(rt; PicoLog::head(&log, 0, false, Some(1), &[false, false]).is_none());
     Ok(())

@@ -6,7 +6,7 @@ use Rattle.dl_sphere.proofs.Lists.Words.{put_taken}
 use Rattle.dl_sphere.proofs.words.copied.Goals as goal
 
 no-word : Stored
-no-word = record { word = 0; b0 = None; b1 = None; b2 = None; b3 = None }
+no-word = record { number = 0; b0 = None; b1 = None; b2 = None; b3 = None }
 
 pub unreachable-requires : goal.unreachable-requires
 unreachable-requires c =

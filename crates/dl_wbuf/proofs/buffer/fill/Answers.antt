@@ -21,7 +21,7 @@ loop-i-preserved c =
     let inside : c.loop-i.i < length c.args.words.now.items = search rules in
     record {
       filled = IsFilled-more c.loop-i.table c.set.new.self c.args.words.now.items c.loop-i.i c.number-number.result c.index.result.now c.requires.apart inside
-          (c.number-number.ensures ∙ ap (λ s. s.word) c.index.ensures)
+          (c.number-number.ensures ∙ ap (λ s. s.number) c.index.ensures)
           c.loop-i.invariant.filled
           c.set.ensures.places
           c.set.ensures.taken;

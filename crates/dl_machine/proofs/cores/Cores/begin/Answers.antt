@@ -1,7 +1,7 @@
 use Rattle.std.proofs.Common.{◌<◌, length, arith, Option}
 use Rattle.std.proofs.lemmas.Grind.{common_steps}
 use Rattle.dl_machine.specs.Cores.{Core, afresh}
-use Rattle.spec_protocol.specs.World.{Held}
+use Rattle.spec_protocol.specs.World.{Occupant}
 use Rattle.dl_machine.proofs.Rows.Cores.{cores_set, row_left}
 use Rattle.dl_machine.proofs.cores.Cores.begin.Goals as goal
 
@@ -13,5 +13,5 @@ invariant_of-self g c =
 pub returns : goal.returns
 returns g c =
     let within : c.args.core < length c.self.inside.row.items = grind (arith, common_steps) in
-    let f : Core → Option Held = λ r. afresh r c.args.of.now c.args.sphere c.args.thread in
+    let f : Core → Option Occupant = λ r. afresh r c.args.of.now c.args.sphere c.args.thread in
     row_left _ _ _ _ _ _ f _ c.self.invariant c.self.view_is within c.index_mut-core.ensures.value c.begin.ensures

@@ -2,7 +2,7 @@ use Rattle.std.proofs.Common.{◌<◌, length, arith, option_map, Option}
 use Rattle.std.proofs.lemmas.Grind.{common_steps}
 use Rattle.dl_machine.specs.Cores.{Core, to_chunk}
 use Rattle.spec_engine.specs.Chunks.{cut}
-use Rattle.spec_protocol.specs.World.{Held}
+use Rattle.spec_protocol.specs.World.{Occupant}
 use Rattle.dl_machine.proofs.Rows.Cores.{cores_set, row_left}
 use Rattle.dl_machine.proofs.cores.Cores.cut.Goals as goal
 
@@ -14,5 +14,5 @@ invariant_of-self g c =
 pub returns-clause-core : goal.returns-clause-core
 returns-clause-core g c =
     let within : c.args.core < length c.self.inside.row.items = grind (arith, common_steps) in
-    let f : Core → Option Held = λ r. option_map (to_chunk (λ ch. (cut ch).chunk)) r.held in
+    let f : Core → Option Occupant = λ r. option_map (to_chunk (λ ch. (cut ch).chunk)) r.held in
     row_left _ _ _ _ _ _ f _ c.self.invariant c.self.view_is within c.index_mut-core.ensures.value c.cut.ensures.core

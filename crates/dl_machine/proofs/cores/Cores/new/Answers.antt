@@ -2,7 +2,7 @@ use Rattle.std.proofs.Common.{◌∷◌, ◌++◌, [], List, Option, map, refl, 
 use Rattle.std.proofs.lemmas.Grind.{common_steps}
 use Rattle.std.proofs.lemmas.List.{map-append}
 use Rattle.std.proofs.lemmas.List.Elements.{All-push}
-use Rattle.spec_protocol.specs.World.{Held}
+use Rattle.spec_protocol.specs.World.{Occupant}
 use Rattle.spec_protocol.specs.Machine.{first_cores}
 use Rattle.dl_machine.specs.Cores.{Core}
 use Rattle.dl_machine.specs.Rows.{IsAlike, held_by}
@@ -21,7 +21,7 @@ loop-core-preserved g c =
       held =
           ap (λ (row : List Core). map held_by row) c.push_reserved.ensures.items
           ∙ map-append held_by c.loop-core.row.items (c.in_ok-first.field-0 ∷ [])
-          ∙ ap (λ (hs : List (Option Held)). hs ++ held_by c.in_ok-first.field-0 ∷ []) c.loop-core.invariant.held
+          ∙ ap (λ (hs : List (Option Occupant)). hs ++ held_by c.in_ok-first.field-0 ∷ []) c.loop-core.invariant.held
           ∙ ap (λ (d : Core). first_cores z 0 k ps ++ held_by d ∷ []) c.in_ok-first.ensures
           ∙ sym (first_more z k ps);
       each = rw c.push_reserved.ensures.items (All-push (IsAlike s.buffer s.signature) _ _ c.loop-core.invariant.each new);

@@ -2,7 +2,7 @@ use Rattle.std.proofs.Common.{◌<◌, length, arith, Option}
 use Rattle.std.proofs.lemmas.Grind.{common_steps}
 use Rattle.dl_machine.specs.Cores.{Core}
 use Rattle.spec_protocol.specs.Flying.{squashed}
-use Rattle.spec_protocol.specs.World.{Held}
+use Rattle.spec_protocol.specs.World.{Occupant}
 use Rattle.dl_machine.proofs.Rows.Cores.{cores_set, row_left}
 use Rattle.dl_machine.proofs.cores.Cores.squash.Goals as goal
 
@@ -14,5 +14,5 @@ invariant_of-self g c =
 pub returns : goal.returns
 returns g c =
     let within : c.args.core < length c.self.inside.row.items = grind (arith, common_steps) in
-    let f : Core → Option Held = λ r. squashed r.held in
+    let f : Core → Option Occupant = λ r. squashed r.held in
     row_left _ _ _ _ _ _ f _ c.self.invariant c.self.view_is within c.index_mut-core.ensures.value c.squash.ensures

@@ -1,9 +1,9 @@
 use Rattle.std.proofs.Common.{◌≡◌, Bool, List, map, take, ◌∙◌, ap}
 use Rattle.std.proofs.lemmas.List.{take_all}
-use Rattle.spec_log.specs.Head.{is_slot}
+use Rattle.spec_log.specs.Head.{is_dma_at}
 use Rattle.spec_log.specs.Noting.{kept_head}
 use Rattle.dl_input.specs.Tracked.{interrupt_of}
-use Rattle.dl_replay.proofs.Lookups.{head-is, slot-is}
+use Rattle.dl_replay.proofs.Lookups.{head-is, dma-is}
 use Rattle.dl_replay.proofs.lookup.Lookup.head.Goals as goal
 
 pub returns : goal.returns
@@ -11,10 +11,10 @@ returns g c =
     let l = c.self.inside in
     let i = c.args.position in
     let order = (g.M.Mode.logged l.log).kept.order in
-    let slot : c.is_some-slot.result ≡ is_slot l.dmas.dmas i = c.is_some-slot.ensures ∙ slot-is i l.dmas.dmas (λ b. b.now) c.at.result c.at.ensures in
+    let dma : c.is_some-dma.result ≡ is_dma_at l.dmas.dmas i = c.is_some-dma.ensures ∙ dma-is i l.dmas.dmas (λ b. b.now) c.at.result c.at.ensures in
     let live : take 15 c.args.live.now ≡ c.args.live.now = take_all 15 c.args.live.now c.requires in
     rw (← c.self.view_is)
     (c.head.ensures
-    ∙ ap (λ (b : Bool). kept_head g.M.Mode.mode order i b c.args.last (take 15 c.args.live.now)) slot
-    ∙ ap (λ (lives : List Bool). kept_head g.M.Mode.mode order i (is_slot l.dmas.dmas i) c.args.last lives) live
+    ∙ ap (λ (b : Bool). kept_head g.M.Mode.mode order i b c.args.last (take 15 c.args.live.now)) dma
+    ∙ ap (λ (lives : List Bool). kept_head g.M.Mode.mode order i (is_dma_at l.dmas.dmas i) c.args.last lives) live
     ∙ head-is g.M.Mode.mode (g.M.Mode.logged l.log).kept (map interrupt_of l.interrupts.entries) l.inputs.inputs l.dmas.dmas i c.args.last c.args.live.now)
