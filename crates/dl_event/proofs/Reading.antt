@@ -1,5 +1,6 @@
--- A script is the events of its lines, where none is refused, and else refused by the first line that is.
-use Rattle.std.proofs.Common.{replicate, length-append, append-nil, append_assoc, ◌≡◌, ℕ, ◌+◌, ◌^◌, ◌<◌, ◌≤◌, Bool, true, false, cond, List, [], ◌∷◌, ◌++◌, length, take, drop, get_or, map, length-drop, length-take, subst, add-one, MatchOption, IfSome, ◌≢◌, Option, Some, None, Ok, Err, refl, sym, ap, ap₂, ◌∙◌, inl, inr, arith, suc, zero, below_more, eqb, Bor}
+-- A script is the events of its lines, where none is refused, and else refused by the first line that is; and how a reader
+-- comes to them, line after line.
+use Rattle.std.proofs.Common.{replicate, length-append, append-nil, append_assoc, ◌≡◌, ℕ, ◌+◌, ◌-◌, ◌^◌, ◌<◌, ◌≤◌, Bool, true, false, cond, List, [], ◌∷◌, ◌++◌, length, take, drop, get_or, map, length-drop, length-take, subst, add-one, ◌≢◌, Some, None, Ok, Err, refl, sym, ap, ap₂, ◌∙◌, inl, inr, arith, suc, zero, below_more, eqb}
 use Rattle.std.specs.List.{All, AllWithin, HoldsAt, position_from, range_with_len, slice_get, slice_split}
 use Rattle.std.proofs.Math.Nat.{eq-or-lt_of_le}
 use Rattle.std.proofs.lemmas.Iterator.Adapters.{position_from-zero}
@@ -15,6 +16,7 @@ use Rattle.dl_event.specs.declared.line.Line.{Line}
 use Rattle.dl_event.specs.declared.line.Line.TheVariants.{Holds}
 use Rattle.dl_event.specs.Line.{line_of}
 use Rattle.dl_event.specs.Script.{event_in, events_of, is_refused_after, is_refused, first_refused, outcome, lines_of}
+use Rattle.dl_event.specs.Reading.{SoFar, IsRead, IsReadTo, IsBehind}
 
 first-from : (p : ℕ → Bool) (a n i : ℕ) → a ≤ i → i < a + n → p i ≡ true → ((k : ℕ) → k < i → p k ≡ false) → position_from p a (range_with_len a n) ≡ Some i
 first-from p a zero i l m hit miss = absurd (omega arith)
@@ -41,16 +43,16 @@ line-alone text h =
     let all = subst (All (λ b. eqb b 10 ≡ false)) (take_all (length text) text (omega arith)) (no_end (length text) text (omega arith) h) in
     ap (map line_of) (slice_split_none (λ byte. eqb byte 10) text all)
 
--- the first line ends at the first LF
-pub line-first : (text : List ℕ) (end : ℕ) → end < length text → HoldsAt (λ b. b ≡ 10) text end → AllWithin (λ b. b ≢ 10) text 0 end → lines_of text ≡ line_of (take end text) ∷ lines_of (drop (end + 1) text)
-line-first text end within here before =
+-- the first line ends at the first LF, whatever follows the text
+pub line-first : (text tail : List ℕ) (end : ℕ) → end < length text → HoldsAt (λ b. b ≡ 10) text end → AllWithin (λ b. b ≢ 10) text 0 end → lines_of (text ++ tail) ≡ line_of (take end text) ∷ lines_of (drop (end + 1) text ++ tail)
+line-first text tail end within here before =
     let line = take end text in
     let rest = drop (suc end) text in
     let there : drop end text ≡ 10 ∷ rest = drop-cons text end 0 within ∙ ap (λ b. b ∷ rest) (here 0) in
     rw add-one
     (ap (map line_of)
-    (ap (slice_split (λ byte. eqb byte 10)) (sym (take-append-drop end text) ∙ ap (λ t. line ++ t) there)
-    ∙ slice_split_at (λ byte. eqb byte 10) line 10 rest (no_end end text (omega arith) before) refl))
+    (ap (slice_split (λ byte. eqb byte 10)) (ap (λ t. t ++ tail) (sym (take-append-drop end text) ∙ ap (λ t. line ++ t) there) ∙ append_assoc line (10 ∷ rest) tail)
+    ∙ slice_split_at (λ byte. eqb byte 10) line 10 (rest ++ tail) (no_end end text (omega arith) before) refl))
 
 -- the line where the rest of some lines begins, and what follows it
 here-and-behind : (lines : List Line) (n : ℕ) (line : Line) (more : List Line) → drop n lines ≡ line ∷ more → (n < length lines) × (slice_get lines n ≡ Some line) × (drop (n + 1) lines ≡ more)
@@ -61,57 +63,47 @@ here-and-behind lines n line more e =
     let behind : drop (suc n) lines ≡ more = cc in
     (l, slice_get_read lines (length lines) n line refl l same, rw add-one behind)
 
--- after n lines of a script, this much of it is left: nothing, or the text that has the other lines
-pub record IsLeft (bytes : List ℕ) (n : ℕ) (left : Option (Bor (List ℕ))) : Type 0 where
-  pub lines : MatchOption left (n ≡ length (lines_of bytes)) (λ text. lines_of text.now ≡ drop n (lines_of bytes))
-  pub room : IfSome left (λ text. n + length text.now ≤ length bytes)
+-- ---- texts behind one another
 
--- the bytes of the text that is left and one more, or 0 where nothing is left
-abbrev pub bytes_left : Option (Bor (List ℕ)) → ℕ
-bytes_left None = 0
-bytes_left (Some text) = length text.now + 1
+-- a text is behind itself
+pub behind_itself : (text : List ℕ) → IsBehind text text
+behind_itself text = record { short = omega arith; same = ap (λ (n : ℕ). drop n text) (let n : 0 ≡ length text - length text = omega arith in n) }
 
--- before the first line is read, the whole script is left
-pub first_left : (bytes : Bor (List ℕ)) → IsLeft bytes.now 0 (Some bytes)
-first_left bytes = record { lines = refl; room = omega arith }
+-- what is behind what is behind is behind
+pub behind_more : (text left rest : List ℕ) → IsBehind text left → IsBehind left rest → IsBehind text rest
+behind_more text left rest a b =
+    let la = a.short in
+    let lb = b.short in
+    let count : length text - length left + (length left - length rest) ≡ length text - length rest = omega arith in
+    record {
+      short = omega arith;
+      same = b.same ∙ ap (drop (length left - length rest)) a.same ∙ drop-drop (length left - length rest) (length text - length left) text ∙ ap (λ (n : ℕ). drop n text) count;
+    }
 
--- what is known of the text that is left
-pub record IsLeftText (bytes : List ℕ) (n : ℕ) (text : List ℕ) : Type 0 where
-  pub lines : lines_of text ≡ drop n (lines_of bytes)
-  pub room : n + length text ≤ length bytes
+-- the text from a place on is behind it
+pub behind_from : (text : List ℕ) (n : ℕ) → n ≤ length text → IsBehind text (drop n text)
+behind_from text n l =
+    let d = length-drop n text in
+    let count : n ≡ length text - length (drop n text) = omega arith in
+    record { short = omega arith; same = ap (λ (k : ℕ). drop k text) count }
 
--- of a text that is left, it has the lines behind the first n
-pub left_text : (bytes : List ℕ) (n : ℕ) (left : Option (Bor (List ℕ))) (text : Bor (List ℕ)) → IsLeft bytes n left → left ≡ Some text → IsLeftText bytes n text.now
-left_text bytes n None text left is = absurd cc
-left_text bytes n (Some t) text left is =
-    let same : t ≡ text = cc in
-    rw (← same) (record { lines = left.lines; room = left.room })
+-- as many bytes as there are from a place on
+pub behind_part : (text : List ℕ) (n : ℕ) → n ≤ length text → IsBehind text (take (length text - n) (drop n text))
+behind_part text n l = rw (take_all (length text - n) (drop n text) (omega (arith, length-drop n text))) (behind_from text n l)
 
--- where nothing is left, all lines are behind
-pub left_none : (bytes : List ℕ) (n : ℕ) (left : Option (Bor (List ℕ))) → IsLeft bytes n left → left ≡ None → n ≡ length (lines_of bytes)
-left_none bytes n None left is = left.lines
-left_none bytes n (Some t) left is = absurd cc
+-- ---- lines that are read
 
--- behind one line more, less is left
-pub fewer : (left : Option (Bor (List ℕ))) (text : Bor (List ℕ)) (rest : Option (Bor (List ℕ))) → left ≡ Some text → IfSome rest (λ r. length r.now < length text.now) → bytes_left rest < bytes_left left
-fewer left text None is shorter = rw is (omega arith)
-fewer left text (Some r) is shorter = rw is (omega (arith, shorter))
+-- the first line of the text that is left is the next line of the script, and the lines behind it are left
+pub next_left : (script text : List ℕ) (r : SoFar) (line : Line) (rest : List ℕ) → IsReadTo script text r → lines_of text ≡ line ∷ lines_of rest → (slice_get (lines_of script) r.lines ≡ Some line) × (lines_of rest ≡ drop (r.lines + 1) (lines_of script))
+next_left script text r line rest to is =
+    let at = here-and-behind (lines_of script) r.lines line (lines_of rest) (sym to.left ∙ is) in
+    (at.1, sym at.2)
 
--- with line n taken off the text that is left, line n is that line, and what follows is left after n + 1
-pub one_line : (bytes : List ℕ) (n : ℕ) (text : List ℕ) (line : Line) (rest : Option (Bor (List ℕ))) → lines_of text ≡ drop n (lines_of bytes) → n + length text ≤ length bytes → MatchOption rest (lines_of text ≡ line ∷ []) (λ r. lines_of text ≡ line ∷ lines_of r.now) → IfSome rest (λ r. length r.now < length text) → (slice_get (lines_of bytes) n ≡ Some line) × IsLeft bytes (n + 1) rest
-one_line bytes n text line None left room is shorter =
-    let at = here-and-behind (lines_of bytes) n line [] (sym left ∙ is) in
-    (at.1, record { lines = omega (arith, at.0, length-drop (n + 1) (lines_of bytes), ap length at.2); room = tt })
-one_line bytes n text line (Some r) left room is shorter =
-    let at = here-and-behind (lines_of bytes) n line (lines_of r.now) (sym left ∙ is) in
-    (at.1, record { lines = sym at.2; room = omega (arith, shorter) })
-
--- the first i lines are read, and hold these events
-pub record IsRead (lines : List Line) (i : ℕ) (events : List Event) : Type 0 where
-  pub within : i ≤ length lines
-  pub held : events ≡ events_of (take i lines)
-  pub taken : (k : ℕ) → k < i → is_refused lines k ≡ false
-  pub few : length events ≤ 2 ^ 24
+-- the last line of the script is the text that is left
+pub last_left : (script text : List ℕ) (r : SoFar) (line : Line) → IsReadTo script text r → lines_of text ≡ line ∷ [] → (slice_get (lines_of script) r.lines ≡ Some line) × (r.lines + 1 ≡ length (lines_of script))
+last_left script text r line to is =
+    let at = here-and-behind (lines_of script) r.lines line [] (sym to.left ∙ is) in
+    (at.1, omega (arith, at.0, length-drop (r.lines + 1) (lines_of script), ap length at.2))
 
 refused-at : (lines : List Line) (i : ℕ) (events : List Event) (line : Line) → IsRead lines i events → slice_get lines i ≡ Some line → is_refused lines i ≡ is_refused_after events (Some line)
 refused-at lines i events line read at = ap₂ is_refused_after (sym read.held) at
@@ -123,16 +115,15 @@ events-more lines i line at =
 
 -- before the first line is read there is no event
 pub nothing_read : (lines : List Line) → IsRead lines 0 []
-nothing_read lines = record { within = omega arith; held = refl; taken = λ k l. absurd (omega arith); few = omega arith }
+nothing_read lines = record { within = omega arith; held = refl; taken = λ k l. absurd (omega arith) }
 
 -- a line that isn't refused adds the event that it holds, if any, to those that were read
-pub one_read : (lines : List Line) (i : ℕ) (events more : List Event) (line : Line) → IsRead lines i events → slice_get lines i ≡ Some line → is_refused_after events (Some line) ≡ false → more ≡ events ++ events_of (line ∷ []) → length more ≤ 2 ^ 24 → IsRead lines (i + 1) more
-one_read lines i events more line read at right is few =
+pub one_read : (lines : List Line) (i : ℕ) (events more : List Event) (line : Line) → IsRead lines i events → slice_get lines i ≡ Some line → is_refused_after events (Some line) ≡ false → more ≡ events ++ events_of (line ∷ []) → IsRead lines (i + 1) more
+one_read lines i events more line read at right is =
     record {
       within = omega (arith, slice_get_within lines i line at);
       held = is ∙ ap (λ x. x ++ events_of (line ∷ [])) read.held ∙ sym (events-more lines i line at);
       taken = below_more (λ k. is_refused lines k ≡ false) i read.taken (refused-at lines i events line read at ∙ right);
-      few = few;
     }
 
 -- the first line that is refused is the script's error, by its number from 1 on
@@ -158,20 +149,20 @@ some_read lines i zero events e more read at few =
 some_read lines i (suc n) events e more read at few =
     let here = here-and-behind lines i (Holds e) (replicate n (Holds e) ++ more) at in
     let longer : length (events ++ e ∷ []) ≡ length events + 1 = length-append events (e ∷ []) in
-    let one = one_read lines i events (events ++ e ∷ []) (Holds e) read here.1 (grind (arith, nat_tests)) refl (omega arith) in
+    let one = one_read lines i events (events ++ e ∷ []) (Holds e) read here.1 (grind (arith, nat_tests)) refl in
     let rest = some_read lines (i + 1) n (events ++ e ∷ []) e more one here.2 (omega arith) in
     let same : i + 1 + n ≡ i + suc n = omega arith in
     subst (λ (k : ℕ). IsRead lines k (events ++ e ∷ replicate n e)) same (subst (IsRead lines (i + 1 + n)) (append_assoc events (e ∷ []) (replicate n e)) rest)
 
 -- behind them the other lines are left
-pub some_left : (bytes : List ℕ) (n times : ℕ) (text : List ℕ) (e : Event) (rest : Bor (List ℕ)) → IsLeftText bytes n text → lines_of text ≡ replicate times (Holds e) ++ lines_of rest.now → times + length rest.now ≤ length text → IsLeft bytes (n + times) (Some rest)
-some_left bytes n times text e rest left is shorter =
-    let held : List Line = replicate times (Holds e) in
-    let count : length held ≡ times = length-replicate times (Holds e) in
-    let behind : drop times (held ++ lines_of rest.now) ≡ lines_of rest.now =
-    ap (λ (k : ℕ). drop k (held ++ lines_of rest.now)) (sym count) ∙ drop-append_seam held (lines_of rest.now)
+pub some_left : (script text : List ℕ) (r : SoFar) (n : ℕ) (e : Event) (rest : List ℕ) → IsReadTo script text r → lines_of text ≡ replicate n (Holds e) ++ lines_of rest → length r.events + n ≤ 2 ^ 24 → IsReadTo script rest (record { lines = r.lines + n; events = r.events ++ replicate n e })
+some_left script text r n e rest to is few =
+    let held : List Line = replicate n (Holds e) in
+    let count : length held ≡ n = length-replicate n (Holds e) in
+    let behind : drop n (held ++ lines_of rest) ≡ lines_of rest =
+    ap (λ (k : ℕ). drop k (held ++ lines_of rest)) (sym count) ∙ drop-append_seam held (lines_of rest)
     in
     record {
-      lines = sym behind ∙ ap (drop times) (sym is ∙ left.lines) ∙ drop-drop times n (lines_of bytes);
-      room = (let r = left.room in omega arith);
+      read = some_read (lines_of script) r.lines n r.events e (lines_of rest) to.read (sym to.left ∙ is) few;
+      left = sym behind ∙ ap (drop n) (sym is ∙ to.left) ∙ drop-drop n r.lines (lines_of script);
     }

@@ -1,4 +1,5 @@
 pub mod Line
+pub mod Reading
 pub mod Repeated
 pub mod Script
 pub mod Seeded

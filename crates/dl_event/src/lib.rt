@@ -4,11 +4,13 @@
 pub mod error;
 pub mod events;
 pub mod line;
+pub mod reader;
 pub mod script;
 mod seeded;
 
 pub use error::ScriptError;
 pub use events::{Events, Repeated};
+pub use reader::ScriptReader;
 pub use script::parse_script;
 pub use seeded::Seeded;
 pub use spec_protocol::Event;

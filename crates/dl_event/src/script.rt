@@ -1,15 +1,16 @@
 //! Whole scripts.
-ghost use Rattle.std.specs.Prelude.{◌≡◌, ◌≤◌, ◌<◌, ◌^◌, ◌+◌, ◌∷◌, ◌++◌, [], length, replicate, Ok, IfOk, IfErr, IfSome, MatchOption};
+ghost use Rattle.std.specs.Prelude.{◌≡◌, ◌≢◌, ◌≤◌, ◌<◌, ◌^◌, ◌+◌, ℕ, List, ◌∷◌, ◌++◌, length, replicate, Ok, IfOk, IfErr, IfSome, MatchOption};
+ghost use Rattle.std.specs.List.{AllWithin};
 ghost use Rattle.dl_event.specs.declared.line.Line.TheVariants.{Holds};
 ghost use Rattle.dl_event.specs.Script.{lines_of, script_of, Refuses};
+ghost use Rattle.dl_event.specs.Reading.{IsBehind};
 
 use crate::error::ScriptError;
 use crate::events::Events;
 use crate::line::{Line, read_line};
+use crate::reader::ScriptReader;
 use spec_protocol::Event;
 use std::alloc::Global;
-
-const MOST_EVENTS: u32 = 1 << 24;
 
 // The bytes of `step` as one number, the first one the least.
 const STEP: u32 = 0x7065_7473;
@@ -23,44 +24,28 @@ pub fn parse_script(alloc: Global, bytes: &[u8]) -> Result<Events, ScriptError>
     ensures refused { IfErr result (Refuses (script_of bytes.now)) }
     ensures few { IfOk result (λ events. length events ≤ 2 ^ 24) }
 {
-    let mut events = Events::new(alloc);
-    let mut number = 0u64;
-    let mut left = Some(bytes);
-    while let Some(text) = left {
-        if let Some((event, times, rest)) = short_lines(text, MOST_EVENTS - events.len()) {
-            events.push(event, times)?;
-            number += u64::from(times);
-            left = Some(rest);
-            continue;
-        }
-        let (line, rest) = next_line(text);
-        number += 1;
-        match line {
-            Line::Empty => {}
-            Line::Holds(event) if events.len() < MOST_EVENTS => events.push(event, 1)?,
-            _ => return Err(ScriptError::Refused(number)),
-        }
-        left = rest;
-    }
-    Ok(events)
+    let mut reader = ScriptReader::new(alloc);
+    let last = reader.read_lines(bytes)?;
+    reader.read_last(last)
 }
 
-// What the first line of a text says, and the text behind its LF.
-fn next_line(text: &[u8]) -> (Line, Option<&[u8]>)
-    ensures lines { MatchOption result.1 (lines_of text.now ≡ result.0 ∷ [])
-        (λ rest. lines_of text.now ≡ result.0 ∷ lines_of rest.now) }
-    ensures shorter { IfSome result.1 (λ rest. length rest.now < length text.now) }
+// What a first line that ends with LF says, and the text behind the LF.
+pub(crate) fn next_line(text: &[u8]) -> Option<(Line, &[u8])>
+    ensures lines { MatchOption result (AllWithin (λ byte. byte ≢ 10) text.now 0 (length text.now))
+        (λ read. (tail : List ℕ) → lines_of (text.now ++ tail) ≡ read.0 ∷ lines_of (read.1.now ++ tail)) }
+    ensures behind { IfSome result (λ read. IsBehind text.now read.1.now) }
+    ensures shorter { IfSome result (λ read. length read.1.now < length text.now) }
 {
-    match text.iter().position(|byte| *byte == b'\n') {
-        None => (read_line(text), None),
-        Some(end) => (read_line(&text[..end]), Some(&text[end + 1..])),
-    }
+    let end = text.iter().position(|byte| *byte == b'\n')?;
+    Some((read_line(&text[..end]), &text[end + 1..]))
 }
 
 // The event of a first line in its shortest form, how many lines in a row are like it, at most so many, and the text
 // behind them.
-fn short_lines(text: &[u8], most: u32) -> Option<(Event, u32, &[u8])>
-    ensures lines { IfSome result (λ read. lines_of text.now ≡ replicate read.1 (Holds read.0) ++ lines_of read.2.now) }
+pub(crate) fn short_lines(text: &[u8], most: u32) -> Option<(Event, u32, &[u8])>
+    ensures lines { IfSome result (λ read. (tail : List ℕ)
+        → lines_of (text.now ++ tail) ≡ replicate read.1 (Holds read.0) ++ lines_of (read.2.now ++ tail)) }
+    ensures behind { IfSome result (λ read. IsBehind text.now read.2.now) }
     ensures shorter { IfSome result (λ read. read.1 + length read.2.now ≤ length text.now) }
     ensures some { IfSome result (λ read. 1 ≤ read.1) }
     ensures most { IfSome result (λ read. read.1 ≤ most) }
@@ -83,7 +68,9 @@ fn short_lines(text: &[u8], most: u32) -> Option<(Event, u32, &[u8])>
 // The text behind a first line that is this event in its shortest form.
 #[inline(always)]
 fn behind_same(text: &[u8], event: Event) -> Option<&[u8]>
-    ensures lines { IfSome result (λ rest. lines_of text.now ≡ Holds event ∷ lines_of rest.now) }
+    ensures lines { IfSome result (λ rest. (tail : List ℕ)
+        → lines_of (text.now ++ tail) ≡ Holds event ∷ lines_of (rest.now ++ tail)) }
+    ensures behind { IfSome result (λ rest. IsBehind text.now rest.now) }
     ensures shorter { IfSome result (λ rest. length rest.now < length text.now) }
 {
     let (found, rest) = short_line(text)?;
@@ -93,7 +80,9 @@ fn behind_same(text: &[u8], event: Event) -> Option<&[u8]>
 // The event of a first line in its shortest form, with one digit and no needless space, as programs write nearly all lines.
 #[inline(always)]
 fn short_line(text: &[u8]) -> Option<(Event, &[u8])>
-    ensures lines { IfSome result (λ read. lines_of text.now ≡ Holds read.0 ∷ lines_of read.1.now) }
+    ensures lines { IfSome result (λ read. (tail : List ℕ)
+        → lines_of (text.now ++ tail) ≡ Holds read.0 ∷ lines_of (read.1.now ++ tail)) }
+    ensures behind { IfSome result (λ read. IsBehind text.now read.1.now) }
     ensures shorter { IfSome result (λ read. length read.1.now < length text.now) }
 {
     if let [a, b, c, d, b' ', n, b'\n', rest @ ..] = text

@@ -5,7 +5,7 @@ use Rattle.dl_files.specs.Contents.{Contents}
 use Rattle.dl_files.specs.Count.{Rose}
 use Rattle.dl_plan.specs.Values.{ScheduleValues, Script, Seeded, RoleValues, Plain, Record, Replay, SphereValues}
 use Rattle.spec_program.specs.Ends.{IsReadNext}
-use Rattle.spec_program.specs.Files.{ScheduleRead, RoleRead, SphereRead, log_at, read_at, schedule_read, input_read, role_read, sphere_read}
+use Rattle.spec_program.specs.Files.{ScheduleRead, RoleRead, SphereRead, log_at, read_at, script_at, schedule_read, input_read, role_read, sphere_read}
 use Rattle.spec_program.specs.Stages.{Refused, ◌>>◌}
 use Rattle.spec_program.proofs.Turns.{AreThere}
 use Rattle.dl_gather.specs.declared.halt.Halt.{Halt}
@@ -76,7 +76,10 @@ then_ok (Ok a) f b e = (a, refl, e)
 
 -- once a schedule is read, the file that it names is there
 pub schedule_there : (m : Contents) (s : ScheduleValues) (r : ScheduleRead) → schedule_read m s ≡ Ok r → AreThere m (read_for_schedule s)
-schedule_there m (Script name) r e = let t = then_ok (read_at m name) _ r e in (file_there m name t.0 t.1, tt)
+schedule_there m (Script name) r e =
+    let read = then_ok (script_at m name) _ r e in
+    let t = then_ok (read_at m name) _ read.0 read.1 in
+    (file_there m name t.0 t.1, tt)
 schedule_there m (Seeded n) r e = tt
 
 -- once the input is read, the file that it names is there

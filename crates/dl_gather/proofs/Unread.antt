@@ -1,11 +1,12 @@
 -- A file that could not be read stops what is read of it.
 use Rattle.std.proofs.Common.{◌≡◌, ◌≢◌, ℕ, List, [], ◌∷◌, Option, Some, None, IsSome, Result, Ok, Err, ok_or, inl, inr, refl, sym, ◌∙◌, ap, subst}
 use Rattle.std.specs.FinMap.{get}
+use Rattle.dl_event.specs.Script.{script_of}
 use Rattle.dl_files.specs.Contents.{Contents, IsAbsent, IsLast, IsThere}
 use Rattle.dl_files.specs.Count.{Rose}
 use Rattle.dl_files.specs.declared.FileError.{FileError}
 use Rattle.spec_log.specs.Reading.{read_of}
-use Rattle.spec_program.specs.Files.{read_at, log_at}
+use Rattle.spec_program.specs.Files.{read_at, log_at, script_at}
 use Rattle.spec_program.specs.Stages.{◌>>◌}
 use Rattle.dl_gather.specs.declared.halt.Halt.{Halt}
 use Rattle.dl_gather.specs.Halts.{HaltsAt, IsFault, Unread}
@@ -54,10 +55,14 @@ unread_file known name part old new last FileError.Absent Halt.OutOfMemory absen
 unread_file known name part old new last FileError.Failed Halt.OutOfMemory absent u h = inr (name, fault_at known name old new last FileError.Failed u refl)
 unread_file known name part old new last FileError.OutOfMemory Halt.OutOfMemory absent u h = inl (λ m e. u.memory refl)
 
--- bytes and logs are absent with their file
+-- bytes, logs and scripts are absent with their file
 pub no_bytes : (m : Contents) (name : List ℕ) → get m name ≡ None → read_at m name ≡ Err name
 no_bytes m name e = ap (λ (o : Option (List ℕ)). ok_or o name) e
 
 -- what an absent file says as a log is its name, as of bytes
 pub no_log : (m : Contents) (name : List ℕ) → get m name ≡ None → log_at m name ≡ Err name
 no_log m name e = ap (λ (o : Option (List ℕ)). ok_or o name >> λ bytes. Ok (read_of bytes)) e
+
+-- what an absent file says as a script is its name, as of bytes
+pub no_script : (m : Contents) (name : List ℕ) → get m name ≡ None → script_at m name ≡ Err name
+no_script m name e = ap (λ (o : Option (List ℕ)). ok_or o name >> λ bytes. Ok (script_of bytes)) e

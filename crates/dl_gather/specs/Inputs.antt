@@ -1,8 +1,9 @@
--- The files that a plan has read, as the definitions see them, and what is true of them.
-use Rattle.std.specs.Prelude.{◌≡◌, ◌≤◌, ◌^◌, ⊤, List, map, length}
+-- What a plan has read, as the definitions see it, and what is true of it.
+use Rattle.std.specs.Prelude.{◌≡◌, ◌≤◌, ◌^◌, List, map, length, IfOk}
 use Rattle.std.specs.List.{AllByRecursion}
 use Rattle.dl_elf.specs.Images.{Image}
 use Rattle.dl_logio.specs.Files.{read_view}
+use Rattle.dl_scriptio.specs.Files.{read_view as script_view}
 use Rattle.dl_plan.specs.Values.{PlanValues, IsMemory}
 use Rattle.dl_sphere.specs.declared.setup.SphereSetup.{SphereSetup}
 use Rattle.spec_program.specs.Files.{ScheduleRead, ScriptRead, EventsDrawn, RoleRead, PlainRead, RecordRead, ReplayRead, SphereRead, PlanRead}
@@ -12,7 +13,7 @@ use Rattle.dl_gather.specs.declared.inputs.SphereInputs.{SphereInputs}
 use Rattle.dl_gather.specs.declared.inputs.Inputs.{Inputs}
 
 abbrev pub schedule_view : ScheduleInputs → ScheduleRead
-schedule_view (ScheduleInputs.Script bytes) = ScriptRead bytes.items
+schedule_view (ScheduleInputs.Script script) = ScriptRead (script_view script)
 schedule_view (ScheduleInputs.Drawn events) = EventsDrawn events
 
 abbrev pub role_view : RoleInputs → RoleRead
@@ -32,9 +33,9 @@ image_in s = s.image
 
 -- ---- what is true of them
 
--- the events that are drawn are at most 2^24
+-- the events are at most 2^24
 abbrev pub IsScheduleRead : ScheduleRead → Type 0
-IsScheduleRead (ScriptRead bytes) = ⊤
+IsScheduleRead (ScriptRead script) = IfOk script (λ events. length events ≤ 2 ^ 24)
 IsScheduleRead (EventsDrawn events) = events ≤ 2 ^ 24
 
 -- each memory has a size

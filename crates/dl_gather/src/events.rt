@@ -1,17 +1,15 @@
 //! The events of a plan.
 ghost use Rattle.std.specs.Prelude.{◌≡◌, Ok, IfOk, IfErr};
 ghost use Rattle.dl_run.specs.Schedules.{AreFew, events_in};
-ghost use Rattle.dl_event.specs.Script.{script_of};
-ghost use Rattle.spec_program.specs.Built.{bad_script, events_of};
-ghost use Rattle.spec_program.specs.Stages.{refusing};
+ghost use Rattle.spec_program.specs.Built.{events_of};
 ghost use Rattle.dl_gather.specs.Halts.{Refuses};
 ghost use Rattle.dl_gather.specs.Inputs.{IsScheduleRead, schedule_view};
 
 use crate::halt::Halt;
 use crate::inputs::ScheduleInputs;
 use crate::lines::script_line;
-use dl_event::{Events, ScriptError, parse_script};
 use dl_run::Schedule;
+use dl_scriptio::ScriptRead;
 use spec_program::status::Refusal;
 use std::alloc::Global;
 
@@ -23,25 +21,11 @@ pub fn read_events(alloc: Global, seed: u64, inputs: ScheduleInputs) -> Result<S
     ensures halt { IfErr result (Refuses (events_of seed (schedule_view inputs))) }
 {
     match inputs {
-        ScheduleInputs::Script(bytes) => match read_script(alloc, &bytes) {
-            Ok(events) => Ok(Schedule::Script(events)),
-            Err(halt) => Err(halt),
-        },
-        ScheduleInputs::Drawn(events) => Ok(Schedule::Seeded { seed, events }),
-    }
-}
-
-fn read_script(alloc: Global, bytes: &[u8]) -> Result<Events, Halt>
-    ensures events { IfOk result (λ events. script_of bytes.now ≡ Ok events) }
-    ensures few { IfOk result (λ events. AreFew events) }
-    ensures halt { IfErr result (Refuses (refusing bad_script (script_of bytes.now))) }
-{
-    match parse_script(alloc, bytes) {
-        Ok(events) => Ok(events),
-        Err(ScriptError::Refused(line)) => Err(Halt::Refused(
+        ScheduleInputs::Script(ScriptRead::Good(events)) => Ok(Schedule::Script(events)),
+        ScheduleInputs::Script(ScriptRead::Refused(line)) => Err(Halt::Refused(
             Refusal::Grammar,
             script_line(alloc, line)?,
         )),
-        Err(ScriptError::OutOfMemory) => Err(Halt::OutOfMemory),
+        ScheduleInputs::Drawn(events) => Ok(Schedule::Seeded { seed, events }),
     }
 }

@@ -10,7 +10,7 @@ ghost use Rattle.dl_gather.specs.Reads.{read_for_schedule, read_for_role, read_f
 
 use crate::halt::Halt;
 use crate::inputs::{Inputs, RoleInputs, ScheduleInputs, SphereInputs};
-use crate::reading::{read_file, read_log};
+use crate::reading::{read_file, read_log, read_script};
 use dl_files::Files;
 use dl_plan::{Plan, Role, Schedule, Sphere};
 use std::alloc::Global;
@@ -60,8 +60,8 @@ fn read_schedule<F: Files>(
     ensures steady { OnOk result (F.count files.new ≡ F.count files.old) }
 {
     match schedule {
-        Schedule::Script(name) => match read_file(alloc, files, name.as_str()) {
-            Ok(bytes) => Ok(ScheduleInputs::Script(bytes)),
+        Schedule::Script(name) => match read_script(alloc, files, name.as_str()) {
+            Ok(script) => Ok(ScheduleInputs::Script(script)),
             Err(halt) => Err(halt),
         },
         Schedule::Seeded { events } => Ok(ScheduleInputs::Drawn(*events)),

@@ -1,6 +1,7 @@
-//! The files that a plan has read.
+//! What a plan has read.
 use dl_logio::LogRead;
 use dl_plan::Mode;
+use dl_scriptio::ScriptRead;
 
 /// What a plan has read.
 #[derive(Drop)]
@@ -14,8 +15,8 @@ pub struct Inputs {
 /// Where the events come from.
 #[derive(Drop)]
 pub enum ScheduleInputs {
-    /// The bytes of a script.
-    Script(Vec<u8>),
+    /// What the file of a script says.
+    Script(ScriptRead),
     /// So many, which are drawn from the plan's seed.
     Drawn(u32),
 }

@@ -19,4 +19,4 @@ pub use inputs::{Inputs, RoleInputs, ScheduleInputs, SphereInputs};
 pub use lines::{absent_line, assembled_line, fault_line, made_line, source_line, usage_line};
 pub use logs::good_log;
 pub use planning::load_plan;
-pub use reading::{read_file, read_log};
+pub use reading::{read_file, read_log, read_script};

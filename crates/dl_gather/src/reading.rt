@@ -1,14 +1,16 @@
-//! Reading a file, as bytes or as a log.
-ghost use Rattle.std.specs.Prelude.{◌≡◌, ◌∷◌, [], Some, Ok, IfOk, IfErr, OnOk};
+//! Reading a file, as bytes, as a log or as a script.
+ghost use Rattle.std.specs.Prelude.{◌≡◌, ◌≤◌, ◌^◌, ◌∷◌, [], length, Some, Ok, IfOk, IfErr, OnOk};
 ghost use Rattle.dl_files.specs.Contents.{Contents};
 ghost use Rattle.dl_logio.specs.Files.{read_view};
-ghost use Rattle.spec_program.specs.Files.{log_at, read_at};
+ghost use Rattle.spec_program.specs.Files.{log_at, read_at, script_at};
 ghost use Rattle.dl_gather.specs.Halts.{HaltsAt, Unread};
+ghost use Rattle.dl_scriptio.specs.Files.{read_view as script_view};
 
 use crate::halt::Halt;
 use crate::lines::{absent_line, fault_line};
 use dl_files::{FileError, Files};
 use dl_logio::{LogRead, read_log_file};
+use dl_scriptio::{ScriptRead, read_script_file};
 use spec_program::status::Refusal;
 use std::alloc::Global;
 
@@ -37,6 +39,22 @@ pub fn read_log<F: Files>(alloc: Global, files: &mut F, name: &str) -> Result<Lo
     ensures steady { OnOk result (F.count files.new ≡ F.count files.old) }
 {
     match read_log_file(alloc, files, name) {
+        Ok(read) => Ok(read),
+        Err(error) => Err(unread(alloc, name, error)),
+    }
+}
+
+/// What the file `name` says as a script. It is read piece after piece, and nothing behind a line that is refused.
+pub fn read_script<F: Files>(alloc: Global, files: &mut F, name: &str) -> Result<ScriptRead, Halt>
+    ensures read { IfOk result (λ r. (m : Contents) → F.known files.old ≡ Some m
+        → script_at m name.now ≡ Ok (script_view r)) }
+    ensures few { IfOk result (λ r. IfOk (script_view r) (λ events. length events ≤ 2 ^ 24)) }
+    ensures halt { IfErr result (Unread (F.known files.old) (name.now ∷ []) (λ m. script_at m name.now)
+        (F.count files.old) (F.count files.new) (F.last_fault files.new)) }
+    ensures kept { F.known files.new ≡ F.known files.old }
+    ensures steady { OnOk result (F.count files.new ≡ F.count files.old) }
+{
+    match read_script_file(alloc, files, name) {
         Ok(read) => Ok(read),
         Err(error) => Err(unread(alloc, name, error)),
     }

@@ -3,7 +3,6 @@
 use Rattle.std.specs.Prelude.{ℕ, suc, List, [], ◌∷◌, Result, Ok}
 use Rattle.dl_elf.specs.Images.{Image}
 use Rattle.dl_elf.specs.Loading.{image_of}
-use Rattle.dl_event.specs.Script.{script_of}
 use Rattle.dl_event.specs.Seeded.{seeded, schedule}
 use Rattle.dl_plan.specs.declared.Mode.{Mode}
 use Rattle.dl_plan.specs.Values.{PlanValues}
@@ -59,7 +58,7 @@ abbrev pub bad_script : (number : ℕ) → Refused
 bad_script number = record { why = Refusal.Grammar; line = script_line number }
 
 abbrev pub events_of : (seed : ℕ) → ScheduleRead → Result (List Event) Refused
-events_of seed (ScriptRead bytes) = refusing bad_script (script_of bytes)
+events_of seed (ScriptRead script) = refusing bad_script script
 events_of seed (EventsDrawn n) = Ok (schedule n (seeded seed))
 
 -- ---- the machine's setup

@@ -1,16 +1,18 @@
--- What a plan has read: the bytes of its files, and its logs, each where the plan names it, or the first name that is absent.
+-- What a plan has read: the bytes of its files, and what its script and its logs say, each where the plan names it, or the first name that is absent.
 use Rattle.std.specs.Prelude.{ℕ, List, [], ◌∷◌, Option, Some, None, Result, Ok, ok_or}
 use Rattle.std.specs.FinMap.{get}
+use Rattle.dl_event.specs.Script.{script_of}
 use Rattle.dl_files.specs.Contents.{Contents}
 use Rattle.dl_plan.specs.declared.Mode.{Mode}
 use Rattle.dl_plan.specs.Values.{ScheduleValues, Script, Seeded, RoleValues, Plain, Record, Replay, SphereValues, PlanValues}
 use Rattle.spec_log.specs.declared.LogParts.{LogParts}
 use Rattle.spec_log.specs.Reading.{ParseError, read_of}
+use Rattle.spec_protocol.specs.declared.event.Event.{Event}
 use Rattle.spec_program.specs.Stages.{◌>>◌}
 
--- a script, or how many events are to be drawn
+-- of a script its events, or the number of the first line that is refused; or how many events are to be drawn
 pub data ScheduleRead : Type 0 where
-  ScriptRead : (bytes : List ℕ) → ScheduleRead
+  ScriptRead : (script : Result (List Event) ℕ) → ScheduleRead
   EventsDrawn : (events : ℕ) → ScheduleRead
 
 -- of what is replayed, the log, or the first of its fields that isn't good
@@ -39,8 +41,12 @@ read_at m name = ok_or (get m name) name
 abbrev pub log_at : Contents → (name : List ℕ) → Result (Result LogParts ParseError) (List ℕ)
 log_at m name = read_at m name >> λ bytes. Ok (read_of bytes)
 
+-- what the file of that name says as a script
+abbrev pub script_at : Contents → (name : List ℕ) → Result (Result (List Event) ℕ) (List ℕ)
+script_at m name = read_at m name >> λ bytes. Ok (script_of bytes)
+
 abbrev pub schedule_read : Contents → ScheduleValues → Result ScheduleRead (List ℕ)
-schedule_read m (Script name) = read_at m name >> λ bytes. Ok (ScriptRead bytes)
+schedule_read m (Script name) = script_at m name >> λ script. Ok (ScriptRead script)
 schedule_read m (Seeded events) = Ok (EventsDrawn events)
 
 -- without a file there are no bytes

@@ -2,6 +2,7 @@ use Rattle.std.proofs.Common.{◌≡◌, ◌+◌, ◌-◌, ◌∷◌, ◌++◌, 
 use Rattle.std.proofs.lemmas.List.{take_all}
 use Rattle.std.specs.Char.{IsAsciiDigit}
 use Rattle.dl_event.specs.Script.{lines_of}
+use Rattle.dl_event.proofs.Reading.{behind_part}
 use Rattle.dl_event.proofs.Short.{begins, step_line, drain_line, ask_line, retire_line, deliver_line}
 use Rattle.dl_event.proofs.script.short_line.Goals as goal
 
@@ -13,7 +14,7 @@ returns-clause-lines c =
     let front : List ℕ = 115 ∷ 116 ∷ 101 ∷ 112 ∷ 32 ∷ (48 + m) ∷ 10 ∷ [] in
     let is : c.args.text.now ≡ front ++ drop 7 c.args.text.now = begins front text (omega arith) (omega arith, (omega arith, (omega arith, (omega arith, (omega arith, (omega arith, (omega arith, tt))))))) in
     let all : take (length c.args.text.now - 7) (drop 7 c.args.text.now) ≡ drop 7 c.args.text.now = take_all _ _ (omega (arith, length-drop 7 text)) in
-    rw all (ap lines_of is ∙ step_line m (omega arith) (drop 7 text))
+    λ tail. rw all (ap (λ (t : List ℕ). lines_of (t ++ tail)) is ∙ step_line m (omega arith) (drop 7 text ++ tail))
 
 pub returns-2-clause-lines : goal.returns-2-clause-lines
 returns-2-clause-lines c =
@@ -23,7 +24,7 @@ returns-2-clause-lines c =
     let front : List ℕ = 100 ∷ 114 ∷ 97 ∷ 105 ∷ 110 ∷ 32 ∷ (48 + m) ∷ 10 ∷ [] in
     let is : c.args.text.now ≡ front ++ drop 8 c.args.text.now = begins front text (omega arith) (omega arith, (omega arith, (omega arith, (omega arith, (omega arith, (omega arith, (omega arith, (omega arith, tt)))))))) in
     let all : take (length c.args.text.now - 8) (drop 8 c.args.text.now) ≡ drop 8 c.args.text.now = take_all _ _ (omega (arith, length-drop 8 text)) in
-    rw all (ap lines_of is ∙ drain_line m (omega arith) (drop 8 text))
+    λ tail. rw all (ap (λ (t : List ℕ). lines_of (t ++ tail)) is ∙ drain_line m (omega arith) (drop 8 text ++ tail))
 
 pub returns-3-clause-lines : goal.returns-3-clause-lines
 returns-3-clause-lines c =
@@ -33,7 +34,7 @@ returns-3-clause-lines c =
     let front : List ℕ = 97 ∷ 115 ∷ 107 ∷ 32 ∷ (48 + m) ∷ 10 ∷ [] in
     let is : c.args.text.now ≡ front ++ drop 6 c.args.text.now = begins front text (omega arith) (omega arith, (omega arith, (omega arith, (omega arith, (omega arith, (omega arith, tt)))))) in
     let all : take (length c.args.text.now - 6) (drop 6 c.args.text.now) ≡ drop 6 c.args.text.now = take_all _ _ (omega (arith, length-drop 6 text)) in
-    rw all (ap lines_of is ∙ ask_line m (omega arith) (drop 6 text))
+    λ tail. rw all (ap (λ (t : List ℕ). lines_of (t ++ tail)) is ∙ ask_line m (omega arith) (drop 6 text ++ tail))
 
 pub returns-4-clause-lines : goal.returns-4-clause-lines
 returns-4-clause-lines c =
@@ -43,7 +44,7 @@ returns-4-clause-lines c =
     let front : List ℕ = 114 ∷ 101 ∷ 116 ∷ 105 ∷ 114 ∷ 101 ∷ 32 ∷ (48 + m) ∷ 10 ∷ [] in
     let is : c.args.text.now ≡ front ++ drop 9 c.args.text.now = begins front text (omega arith) (omega arith, (omega arith, (omega arith, (omega arith, (omega arith, (omega arith, (omega arith, (omega arith, (omega arith, tt))))))))) in
     let all : take (length c.args.text.now - 9) (drop 9 c.args.text.now) ≡ drop 9 c.args.text.now = take_all _ _ (omega (arith, length-drop 9 text)) in
-    rw all (ap lines_of is ∙ retire_line m (omega arith) (drop 9 text))
+    λ tail. rw all (ap (λ (t : List ℕ). lines_of (t ++ tail)) is ∙ retire_line m (omega arith) (drop 9 text ++ tail))
 
 pub returns-5-clause-lines : goal.returns-5-clause-lines
 returns-5-clause-lines c =
@@ -55,4 +56,19 @@ returns-5-clause-lines c =
     let front : List ℕ = 100 ∷ 101 ∷ 108 ∷ 105 ∷ 118 ∷ 101 ∷ 114 ∷ 32 ∷ (48 + m) ∷ 32 ∷ (48 + n) ∷ 10 ∷ [] in
     let is : c.args.text.now ≡ front ++ drop 12 c.args.text.now = begins front text (omega arith) (omega arith, (omega arith, (omega arith, (omega arith, (omega arith, (omega arith, (omega arith, (omega arith, (omega arith, (omega arith, (omega arith, (omega arith, tt)))))))))))) in
     let all : take (length c.args.text.now - 12) (drop 12 c.args.text.now) ≡ drop 12 c.args.text.now = take_all _ _ (omega (arith, length-drop 12 text)) in
-    rw all (ap lines_of is ∙ deliver_line m (omega arith) n (omega arith) (drop 12 text))
+    λ tail. rw all (ap (λ (t : List ℕ). lines_of (t ++ tail)) is ∙ deliver_line m (omega arith) n (omega arith) (drop 12 text ++ tail))
+
+pub returns-clause-behind : goal.returns-clause-behind
+returns-clause-behind c = behind_part c.args.text.now 7 (omega arith)
+
+pub returns-2-clause-behind : goal.returns-2-clause-behind
+returns-2-clause-behind c = behind_part c.args.text.now 8 (omega arith)
+
+pub returns-3-clause-behind : goal.returns-3-clause-behind
+returns-3-clause-behind c = behind_part c.args.text.now 6 (omega arith)
+
+pub returns-4-clause-behind : goal.returns-4-clause-behind
+returns-4-clause-behind c = behind_part c.args.text.now 9 (omega arith)
+
+pub returns-5-clause-behind : goal.returns-5-clause-behind
+returns-5-clause-behind c = behind_part c.args.text.now 12 (omega arith)

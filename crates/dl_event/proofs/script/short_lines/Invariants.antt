@@ -1,10 +1,11 @@
-use Rattle.std.proofs.Common.{◌-◌, ◌+◌, ◌≡◌, ◌≤◌, ◌++◌, length, replicate}
+use Rattle.std.proofs.Common.{◌-◌, ◌+◌, ◌≡◌, ◌≤◌, ◌++◌, ℕ, List, length, replicate}
 use Rattle.dl_event.specs.declared.line.Line.TheVariants.{Holds}
 use Rattle.dl_event.specs.Script.{lines_of}
+use Rattle.dl_event.specs.Reading.{IsBehind}
 use Rattle.dl_event.proofs.script.short_lines.Given as goal
 
 abbrev pub invariant-loop-times : goal.invariant-loop-times
-invariant-loop-times l = (lines_of l.text ≡ replicate l.times (Holds l.event) ++ lines_of l.rest) × (l.times + length l.rest ≤ length l.text) × (1 ≤ l.times) × (l.times ≤ l.most)
+invariant-loop-times l = ((tail : List ℕ) → lines_of (l.text ++ tail) ≡ replicate l.times (Holds l.event) ++ lines_of (l.rest ++ tail)) × IsBehind l.text l.rest × (l.times + length l.rest ≤ length l.text) × (1 ≤ l.times) × (l.times ≤ l.most)
 
 abbrev pub decreases-loop-times : goal.decreases-loop-times
 decreases-loop-times l = l.most - l.times

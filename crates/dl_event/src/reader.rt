@@ -1,0 +1,106 @@
+//! Scripts that are read part after part.
+ghost use Rattle.std.specs.Prelude.{◌≡◌, ◌≢◌, ◌≤◌, ◌<◌, ◌^◌, ◌+◌, ℕ, List, ◌++◌, length, Ok, Some, IfOk, IfErr, OnOk};
+ghost use Rattle.std.specs.List.{AllWithin, slice_get};
+ghost use Rattle.dl_event.specs.declared.line.Line.{Line};
+ghost use Rattle.dl_event.specs.Script.{script_of, outcome, first_refused, Refuses};
+ghost use Rattle.dl_event.specs.Reading.{IsRead, IsReadTo, IsBehind};
+
+use crate::error::ScriptError;
+use crate::events::Events;
+use crate::line::{Line, read_line};
+use crate::script::{next_line, short_lines};
+use std::alloc::Global;
+use std::marker::Model;
+
+const MOST_EVENTS: u32 = 1 << 24;
+
+/// Reads a script from texts that follow one another, seen as how many lines it has read and the events that they hold.
+#[derive(Debug, Drop)]
+pub struct ScriptReader {
+    lines: u64,
+    events: Events,
+}
+
+impl Model for ScriptReader {
+    ghost use Rattle.std.specs.Prelude.{◌≤◌, ◌^◌, length};
+    ghost use Rattle.dl_event.specs.Reading.{SoFar};
+
+    ghost Value = { SoFar };
+
+    ghost view = { λ r. record { lines = r.lines; events = r.events } };
+
+    ghost invariant = { λ r. length r.events ≤ 2 ^ 24 };
+}
+
+impl ScriptReader {
+    /// A reader of a script of which nothing was read.
+    pub fn new(alloc: Global) -> ScriptReader
+        ensures read { (script : List ℕ) → IsReadTo script script result }
+        ensures lines { result.lines ≡ 0 }
+    {
+        ScriptReader {
+            lines: 0,
+            events: Events::new(alloc),
+        }
+    }
+
+    /// Reads the lines of a text that end with LF, and gives the text behind them, which has no LF: the beginning of a
+    /// line, or the script's last one. Refused is the first line, from 1, that `parse_script` refuses.
+    pub fn read_lines<'a>(&mut self, text: &'a [u8]) -> Result<&'a [u8], ScriptError>
+        requires { self.old.lines + length text.now < 2 ^ 64 }
+        ensures read { IfOk result (λ last. (script tail : List ℕ)
+            → IsReadTo script (text.now ++ tail) self.old → IsReadTo script (last.now ++ tail) self.new) }
+        ensures refused { IfErr result (λ e. (script tail : List ℕ)
+            → IsReadTo script (text.now ++ tail) self.old → Refuses (script_of script) e) }
+        ensures behind { IfOk result (λ last. IsBehind text.now last.now) }
+        ensures no_lf { IfOk result (λ last. AllWithin (λ byte. byte ≢ 10) last.now 0 (length last.now)) }
+        ensures lines { IfOk result (λ last. self.new.lines + length last.now ≤ self.old.lines + length text.now) }
+    {
+        let mut left = text;
+        loop {
+            if let Some((event, times, rest)) = short_lines(left, MOST_EVENTS - self.events.len()) {
+                self.events.push(event, times)?;
+                self.lines += u64::from(times);
+                left = rest;
+                continue;
+            }
+            let Some((line, rest)) = next_line(left) else {
+                return Ok(left);
+            };
+            self.take_line(line)?;
+            left = rest;
+        }
+    }
+
+    /// Reads the last line, which doesn't end with LF, and gives the events of the script.
+    pub fn read_last(mut self, line: &[u8]) -> Result<Events, ScriptError>
+        requires lines { self.lines + 1 < 2 ^ 64 }
+        requires no_lf { AllWithin (λ byte. byte ≢ 10) line.now 0 (length line.now) }
+        ensures read { IfOk result (λ events. (script : List ℕ)
+            → IsReadTo script line.now self → script_of script ≡ Ok events) }
+        ensures refused { IfErr result (λ e. (script : List ℕ)
+            → IsReadTo script line.now self → Refuses (script_of script) e) }
+        ensures few { IfOk result (λ events. length events ≤ 2 ^ 24) }
+    {
+        self.take_line(read_line(line))?;
+        Ok(self.events)
+    }
+
+    // Counts the next line, and takes the event that it holds.
+    fn take_line(&mut self, line: Line) -> Result<(), ScriptError>
+        requires { self.old.lines + 1 < 2 ^ 64 }
+        ensures read { OnOk result ((lines : List Line) → IsRead lines self.old.lines self.old.events
+            → slice_get lines self.old.lines ≡ Some line → IsRead lines self.new.lines self.new.events) }
+        ensures refused { IfErr result (λ e. (lines : List Line) → IsRead lines self.old.lines self.old.events
+            → slice_get lines self.old.lines ≡ Some line → Refuses (outcome lines (first_refused lines)) e) }
+        ensures lines { OnOk result (self.new.lines ≡ self.old.lines + 1) }
+    {
+        self.lines += 1;
+        match line {
+            Line::Empty => {}
+            Line::Holds(event) if self.events.len() < MOST_EVENTS => self.events.push(event, 1)?,
+            _ => return Err(ScriptError::Refused(self.lines)),
+        }
+        Ok(())
+    }
+}

@@ -1,0 +1,71 @@
+use Rattle.std.proofs.Common.{◌≡◌, ℕ, ◌+◌, ◌-◌, List, [], ◌++◌, length, take, drop, ◌∙◌, ap, subst, arith, append-nil}
+use Rattle.std.proofs.lemmas.List.{length-take-le}
+use Rattle.std.proofs.lemmas.Result.{IfOk-weaker, IfErr-weaker}
+use Rattle.dl_event.specs.Reading.{IsReadTo}
+use Rattle.dl_event.specs.Script.{script_of}
+use Rattle.dl_scriptio.specs.Files.{SaysScript, read_view}
+use Rattle.dl_scriptio.proofs.Pieces.{held_by, held_split, no_rest, read_as, read_on, says}
+use Rattle.dl_scriptio.proofs.reading.read_script_file.Goals as goal
+
+pub returns-in-Err-clause-read : goal.returns-in-Err-clause-read
+returns-in-Err-clause-read g c =
+    let known = g.F.Files.known c.args.files.now in
+    let name = c.args.name.now in
+    let offset = c.loop-offset.offset in
+    let room = length c.loop-offset.piece in
+    let piece = take c.in_ok-n.n c.read_at.new.into in
+    let held = held_by known _ name offset room piece c.loop-offset.invariant.known c.in_ok-n.ensures.bytes in
+    IfOk-weaker c.said.result _ (λ r. SaysScript known name (read_view r))
+    (λ r e. says known name offset room piece (read_view r) held (λ m is content there.
+    let split = held_split known m name content offset room piece held is there in
+    let to = subst (λ text. IsReadTo content text c.loop-offset.reader) split (c.loop-offset.invariant.read m is content there) in
+    e (script_of content) (c.in-Err.ensures.refused content (drop room (drop offset content)) to)))
+    c.said.ensures.read
+
+pub returns-then-n-lt-PIECE-clause-read : goal.returns-then-n-lt-PIECE-clause-read
+returns-then-n-lt-PIECE-clause-read g c =
+    let known = g.F.Files.known c.args.files.now in
+    let name = c.args.name.now in
+    let offset = c.loop-offset.offset in
+    let room = length c.loop-offset.piece in
+    let piece = take c.in_ok-n.n c.read_at.new.into in
+    let last = c.in-Ok.last.now in
+    let held = held_by known _ name offset room piece c.loop-offset.invariant.known c.in_ok-n.ensures.bytes in
+    let long : length piece ≡ c.in_ok-n.n = length-take-le c.in_ok-n.n c.read_at.new.into (omega (arith, c.in_ok-n.ensures.most)) in
+    IfOk-weaker c.said-then-n-lt-PIECE.result _ (λ r. SaysScript known name (read_view r))
+    (λ r e. says known name offset room piece (read_view r) held (λ m is content there.
+    let split = held_split known m name content offset room piece held is there in
+    let rest = drop room (drop offset content) in
+    let to = subst (λ text. IsReadTo content text c.loop-offset.reader) split (c.loop-offset.invariant.read m is content there) in
+    let none : rest ≡ [] = no_rest room (drop offset content) piece split (omega (arith, long)) in
+    let end = subst (λ text. IsReadTo content text c.read_lines.new.self) (ap (λ (xs : List ℕ). last ++ xs) none ∙ append-nil last) (c.in-Ok.ensures.read content rest to) in
+    e (script_of content) (read_as (script_of content) c.read_last.result
+    (IfOk-weaker c.read_last.result _ _ (λ events h. h content end) c.read_last.ensures.read)
+    (IfErr-weaker c.read_last.result _ _ (λ error h. h content end) c.read_last.ensures.refused))))
+    c.said-then-n-lt-PIECE.ensures.read
+
+pub loop-offset-preserved : goal.loop-offset-preserved
+loop-offset-preserved g c =
+    let known = g.F.Files.known c.args.files.now in
+    let name = c.args.name.now in
+    let offset = c.loop-offset.offset in
+    let room = length c.loop-offset.piece in
+    let piece = take c.in_ok-n.n c.read_at.new.into in
+    let last = c.in-Ok.last.now in
+    let held = held_by known _ name offset room piece c.loop-offset.invariant.known c.in_ok-n.ensures.bytes in
+    let long : length piece ≡ c.in_ok-n.n = length-take-le c.in_ok-n.n c.read_at.new.into (omega (arith, c.in_ok-n.ensures.most)) in
+    record {
+      read = λ m is content there.
+          let split = held_split known m name content offset room piece held is there in
+          let rest = drop room (drop offset content) in
+          let to = subst (λ text. IsReadTo content text c.loop-offset.reader) split (c.loop-offset.invariant.read m is content there) in
+          subst (λ (n : ℕ). IsReadTo content (drop (offset + (n - length last)) content) c.read_lines.new.self) long
+          (read_on content rest piece last c.read_lines.new.self offset split c.in-Ok.ensures.behind (c.in-Ok.ensures.read content rest to));
+      lines = (
+          let h = c.in-Ok.ensures.lines in
+          let short = c.in-Ok.ensures.behind.short in
+          omega (arith, long, c.loop-offset.invariant.lines)
+          );
+      known = c.in_ok-n.ensures.kept ∙ c.loop-offset.invariant.known;
+      steady = c.in_ok-n.ensures.ok_steady ∙ c.loop-offset.invariant.steady;
+    }

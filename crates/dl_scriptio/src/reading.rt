@@ -1,0 +1,96 @@
+//! A script read from its file.
+ghost use Rattle.std.specs.Prelude.{◌≡◌, ◌≢◌, ◌≤◌, ◌^◌, List, length, Result, IfOk, IfErr, OnOk, IsErrOf};
+ghost use Rattle.dl_event.specs.declared.error.ScriptError.{ScriptError};
+ghost use Rattle.dl_files.specs.Contents.{IsAbsent, IsLast, IsThere};
+ghost use Rattle.dl_files.specs.Count.{Rose};
+ghost use Rattle.spec_protocol.specs.declared.event.Event.{Event};
+ghost use Rattle.dl_scriptio.specs.Files.{IsReadAs, SaysScript, read_view};
+
+use crate::PIECE;
+use dl_event::{Events, ScriptError, ScriptReader, parse_script};
+use dl_files::{FileError, Files};
+use std::alloc::Global;
+
+/// A script of more bytes is read at once, as a file that may be too large for that.
+const LARGEST: u64 = 1 << 30;
+
+/// What a file says as a script.
+#[derive(Drop)]
+pub enum ScriptRead {
+    /// Its events.
+    Good(Events),
+    /// The number of the first line that is refused, from 1.
+    Refused(u64),
+}
+
+/// What the file `name` says as a script, in memory of `alloc`. It is read piece after piece, and nothing behind a line that is refused.
+pub fn read_script_file<F: Files>(
+    alloc: Global,
+    files: &mut F,
+    name: &str,
+) -> Result<ScriptRead, FileError>
+    ensures read { IfOk result (λ r. SaysScript (F.known files.old) name.now (read_view r)) }
+    ensures few { IfOk result (λ r. IfOk (read_view r) (λ events. length events ≤ 2 ^ 24)) }
+    ensures absent { IsErrOf result FileError.Absent
+        → IsAbsent (F.known files.old) name.now (F.count files.old) (F.count files.new) }
+    ensures there { IfErr result (λ e. e ≢ FileError.Absent → IsThere (F.known files.old) name.now) }
+    ensures failed { IsErrOf result FileError.Failed → Rose (F.count files.old) (F.count files.new) }
+    ensures last { IsErrOf result FileError.Failed → IsLast (F.last_fault files.new) name.now }
+    ensures ok_steady { OnOk result (F.count files.new ≡ F.count files.old) }
+    ensures memory_steady { IsErrOf result FileError.OutOfMemory
+        → F.count files.new ≡ F.count files.old }
+    ensures kept { F.known files.new ≡ F.known files.old }
+{
+    let mut reader = ScriptReader::new(alloc);
+    let mut piece = [0; PIECE];
+    let mut offset = 0;
+    while offset < LARGEST {
+        let n = files.read_at(name, offset, &mut piece)?;
+        let last = match reader.read_lines(&piece[..n]) {
+            Ok(last) => last,
+            Err(error) => return said(Err(error)),
+        };
+        if n < PIECE {
+            return said(reader.read_last(last));
+        }
+        let whole_lines = n - last.len();
+        if whole_lines == 0 {
+            break;
+        }
+        offset += whole_lines as u64;
+    }
+    // A line fills a piece, or the script is that large.
+    read_at_once(alloc, files, name)
+}
+
+// The same, in memory of `alloc` for all bytes of the file.
+fn read_at_once<F: Files>(alloc: Global, files: &mut F, name: &str) -> Result<ScriptRead, FileError>
+    ensures read { IfOk result (λ r. SaysScript (F.known files.old) name.now (read_view r)) }
+    ensures few { IfOk result (λ r. IfOk (read_view r) (λ events. length events ≤ 2 ^ 24)) }
+    ensures absent { IsErrOf result FileError.Absent
+        → IsAbsent (F.known files.old) name.now (F.count files.old) (F.count files.new) }
+    ensures there { IfErr result (λ e. e ≢ FileError.Absent → IsThere (F.known files.old) name.now) }
+    ensures failed { IsErrOf result FileError.Failed → Rose (F.count files.old) (F.count files.new) }
+    ensures last { IsErrOf result FileError.Failed → IsLast (F.last_fault files.new) name.now }
+    ensures ok_steady { OnOk result (F.count files.new ≡ F.count files.old) }
+    ensures memory_steady { IsErrOf result FileError.OutOfMemory
+        → F.count files.new ≡ F.count files.old }
+    ensures kept { F.known files.new ≡ F.known files.old }
+{
+    let bytes = files.read(alloc, name)?;
+    said(parse_script(alloc, &bytes))
+}
+
+// What a script says that was read so.
+fn said(read: Result<Events, ScriptError>) -> Result<ScriptRead, FileError>
+    requires { IfOk read (λ events. length events ≤ 2 ^ 24) }
+    ensures read { IfOk result (λ r. (meant : Result (List Event) _) → IsReadAs meant read → meant ≡ read_view r) }
+    ensures few { IfOk result (λ r. IfOk (read_view r) (λ events. length events ≤ 2 ^ 24)) }
+    ensures memory { IfErr result (λ e. e ≡ FileError.OutOfMemory) }
+{
+    match read {
+        Ok(events) => Ok(ScriptRead::Good(events)),
+        Err(ScriptError::Refused(line)) => Ok(ScriptRead::Refused(line)),
+        Err(ScriptError::OutOfMemory) => Err(FileError::OutOfMemory),
+    }
+}
