@@ -1,19 +1,21 @@
 -- A line in its shortest form, with one digit, holds its event.
-use Rattle.std.proofs.Common.{◌≡◌, ℕ, ◌+◌, ◌<◌, ◌≤◌, suc, List, [], ◌∷◌, ◌++◌, length, drop, refl, ap₂, arith, below_more, below_none}
+use Rattle.std.proofs.Common.{◌≡◌, ℕ, ◌+◌, ◌<◌, ◌≤◌, zero, suc, List, [], ◌∷◌, ◌++◌, length, take, drop, replicate, refl, ap, ◌∙◌, ap₂, arith, add-one, append_assoc, below_more, below_none}
 use Rattle.std.proofs.lemmas.Slice.Eq.{HasBytesAt}
 use Rattle.spec_protocol.specs.declared.event.Event.{Event}
 use Rattle.dl_event.specs.declared.line.Line.TheVariants.{Holds}
+use Rattle.dl_event.specs.declared.line.Line.{Line}
 use Rattle.dl_event.specs.Script.{lines_of}
+use Rattle.dl_event.specs.Reading.{IsLine}
 
 behind : (x : ℕ) (xs : List ℕ) (i : ℕ) (p : List ℕ) → HasBytesAt (x ∷ xs) (suc i) p → HasBytesAt xs i p
 behind x xs i [] h = tt
 behind x xs i (b ∷ p) h = (h.0, behind x xs (suc i) p h.1)
 
--- a text whose first bytes were read
-pub begins : (p text : List ℕ) → length p ≤ length text → HasBytesAt text 0 p → text ≡ p ++ drop (length p) text
-begins [] text l h = refl
-begins (b ∷ p) [] l h = absurd (omega arith)
-begins (b ∷ p) (x ∷ xs) l h = ap₂ (λ (y : ℕ) (ys : List ℕ). y ∷ ys) h.0 (begins p xs (omega arith) (behind x xs 0 p h.1))
+-- the front of a text whose first bytes were read
+pub front : (p text : List ℕ) → length p ≤ length text → HasBytesAt text 0 p → take (length p) text ≡ p
+front [] text l h = refl
+front (b ∷ p) [] l h = absurd (omega arith)
+front (b ∷ p) (x ∷ xs) l h = ap₂ (λ (y : ℕ) (ys : List ℕ). y ∷ ys) h.0 (front p xs (omega arith) (behind x xs 0 p h.1))
 
 -- what holds of the ten digits
 at-digits : (P : ℕ → Type 0) → P 0 → P 1 → P 2 → P 3 → P 4 → P 5 → P 6 → P 7 → P 8 → P 9 → (m : ℕ) → m < 10 → P m
@@ -60,3 +62,16 @@ deliver_line c c_small k k_small rest =
     (at-digits (λ (e : ℕ). delivers 8 e rest) refl refl refl refl refl refl refl refl refl refl k k_small)
     (at-digits (λ (e : ℕ). delivers 9 e rest) refl refl refl refl refl refl refl refl refl refl k k_small)
     c c_small
+
+one_more : (n : ℕ) (x : Line) (ys : List Line) → replicate n x ++ (x ∷ ys) ≡ replicate (suc n) x ++ ys
+one_more zero x ys = refl
+one_more (suc n) x ys = ap (λ (l : List Line). x ∷ l) (one_more n x ys)
+
+-- where the text that is left begins with the same line, so many lines and one more are read
+pub same_again : (text line rest tail : List ℕ) (n : ℕ) (e : Event) → IsLine e line → lines_of text ≡ replicate n (Holds e) ++ lines_of (rest ++ tail) → rest ≡ line ++ drop (length line) rest → lines_of text ≡ replicate (n + 1) (Holds e) ++ lines_of (drop (length line) rest ++ tail)
+same_again text line rest tail n e is read begins =
+    let behind = drop (length line) rest in
+    let next : lines_of (rest ++ tail) ≡ Holds e ∷ lines_of (behind ++ tail) =
+    ap (λ (t : List ℕ). lines_of (t ++ tail)) begins ∙ ap lines_of (append_assoc line behind tail) ∙ is (behind ++ tail)
+    in
+    rw add-one (read ∙ ap (λ (l : List Line). replicate n (Holds e) ++ l) next ∙ one_more n (Holds e) (lines_of (behind ++ tail)))

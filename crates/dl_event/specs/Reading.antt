@@ -1,7 +1,8 @@
 -- How far a script is read, line after line.
-use Rattle.std.specs.Prelude.{◌≡◌, ℕ, ◌<◌, ◌≤◌, ◌-◌, false, List, length, take, drop}
+use Rattle.std.specs.Prelude.{◌≡◌, ℕ, ◌<◌, ◌≤◌, ◌-◌, false, List, ◌∷◌, ◌++◌, length, take, drop}
 use Rattle.spec_protocol.specs.declared.event.Event.{Event}
 use Rattle.dl_event.specs.declared.line.Line.{Line}
+use Rattle.dl_event.specs.declared.line.Line.TheVariants.{Holds}
 use Rattle.dl_event.specs.Script.{lines_of, events_of, is_refused}
 
 -- how many lines were read, and the events that they hold
@@ -24,3 +25,7 @@ pub record IsReadTo (script text : List ℕ) (r : SoFar) : Type 0 where
 pub record IsBehind (text end : List ℕ) : Type 0 where
   pub short : length end ≤ length text
   pub same : end ≡ drop (length text - length end) text
+
+-- a line, with the LF at its end, that holds the event, whatever stands behind it
+abbrev pub IsLine : Event → (line : List ℕ) → Type 0
+IsLine event line = (behind : List ℕ) → lines_of (line ++ behind) ≡ Holds event ∷ lines_of behind

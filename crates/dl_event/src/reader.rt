@@ -44,28 +44,29 @@ impl ScriptReader {
         }
     }
 
-    /// Reads the lines of a text that end with LF, and gives the text behind them, which has no LF: the beginning of a
-    /// line, or the script's last one. Refused is the first line, from 1, that `parse_script` refuses.
-    pub fn read_lines<'a>(&mut self, text: &'a [u8]) -> Result<&'a [u8], ScriptError>
-        requires { self.old.lines + length text.now < 2 ^ 64 }
-        ensures read { IfOk result (λ last. (script tail : List ℕ)
-            → IsReadTo script (text.now ++ tail) self.old → IsReadTo script (last.now ++ tail) self.new) }
+    /// Reads the lines of a text that end with LF, and gives the reader and the text behind them, which has no LF: the
+    /// beginning of a line, or the script's last one. Refused is the first line, from 1, that `parse_script` refuses.
+    pub fn read_lines(mut self, text: &[u8]) -> Result<(ScriptReader, &[u8]), ScriptError>
+        requires { self.lines + length text.now < 2 ^ 64 }
+        ensures read { IfOk result (λ r. (script tail : List ℕ)
+            → IsReadTo script (text.now ++ tail) self → IsReadTo script (r.1.now ++ tail) r.0) }
         ensures refused { IfErr result (λ e. (script tail : List ℕ)
-            → IsReadTo script (text.now ++ tail) self.old → Refuses (script_of script) e) }
-        ensures behind { IfOk result (λ last. IsBehind text.now last.now) }
-        ensures no_lf { IfOk result (λ last. AllWithin (λ byte. byte ≢ 10) last.now 0 (length last.now)) }
-        ensures lines { IfOk result (λ last. self.new.lines + length last.now ≤ self.old.lines + length text.now) }
+            → IsReadTo script (text.now ++ tail) self → Refuses (script_of script) e) }
+        ensures behind { IfOk result (λ r. IsBehind text.now r.1.now) }
+        ensures no_lf { IfOk result (λ r. AllWithin (λ byte. byte ≢ 10) r.1.now 0 (length r.1.now)) }
+        ensures lines { IfOk result (λ r. r.0.lines + length r.1.now ≤ self.lines + length text.now) }
     {
         let mut left = text;
         loop {
-            if let Some((event, times, rest)) = short_lines(left, MOST_EVENTS - self.events.len()) {
+            let room = MOST_EVENTS - self.events.len();
+            if let Some((event, times, rest)) = short_lines(left, room) {
                 self.events.push(event, times)?;
                 self.lines += u64::from(times);
                 left = rest;
                 continue;
             }
             let Some((line, rest)) = next_line(left) else {
-                return Ok(left);
+                return Ok((self, left));
             };
             self.take_line(line)?;
             left = rest;

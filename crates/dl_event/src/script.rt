@@ -1,9 +1,9 @@
 //! Whole scripts.
-ghost use Rattle.std.specs.Prelude.{◌≡◌, ◌≢◌, ◌≤◌, ◌<◌, ◌^◌, ◌+◌, ℕ, List, ◌∷◌, ◌++◌, length, replicate, Ok, IfOk, IfErr, IfSome, MatchOption};
+ghost use Rattle.std.specs.Prelude.{◌≡◌, ◌≢◌, ◌≤◌, ◌<◌, ◌^◌, ◌+◌, ℕ, List, ◌∷◌, ◌++◌, length, take, replicate, Ok, IfOk, IfErr, IfSome, MatchOption};
 ghost use Rattle.std.specs.List.{AllWithin};
 ghost use Rattle.dl_event.specs.declared.line.Line.TheVariants.{Holds};
 ghost use Rattle.dl_event.specs.Script.{lines_of, script_of, Refuses};
-ghost use Rattle.dl_event.specs.Reading.{IsBehind};
+ghost use Rattle.dl_event.specs.Reading.{IsBehind, IsLine};
 
 use crate::error::ScriptError;
 use crate::events::Events;
@@ -24,8 +24,7 @@ pub fn parse_script(alloc: Global, bytes: &[u8]) -> Result<Events, ScriptError>
     ensures refused { IfErr result (Refuses (script_of bytes.now)) }
     ensures few { IfOk result (λ events. length events ≤ 2 ^ 24) }
 {
-    let mut reader = ScriptReader::new(alloc);
-    let last = reader.read_lines(bytes)?;
+    let (reader, last) = ScriptReader::new(alloc).read_lines(bytes)?;
     reader.read_last(last)
 }
 
@@ -53,69 +52,44 @@ pub(crate) fn short_lines(text: &[u8], most: u32) -> Option<(Event, u32, &[u8])>
     if most == 0 {
         return None;
     }
-    let (event, mut rest) = short_line(text)?;
+    let (event, size) = short_line(text)?;
+    let (line, mut rest) = text.split_at(size);
     let mut times = 1;
-    while times < most {
-        let Some(behind) = behind_same(rest, event) else {
-            break;
-        };
-        rest = behind;
+    while times < most && rest.starts_with(line) {
+        rest = &rest[size..];
         times += 1;
     }
     Some((event, times, rest))
 }
 
-// The text behind a first line that is this event in its shortest form.
+// The event of a first line in its shortest form, with one digit and no needless space, as programs write nearly all lines;
+// and its size, with its LF.
 #[inline(always)]
-fn behind_same(text: &[u8], event: Event) -> Option<&[u8]>
-    ensures lines { IfSome result (λ rest. (tail : List ℕ)
-        → lines_of (text.now ++ tail) ≡ Holds event ∷ lines_of (rest.now ++ tail)) }
-    ensures behind { IfSome result (λ rest. IsBehind text.now rest.now) }
-    ensures shorter { IfSome result (λ rest. length rest.now < length text.now) }
+fn short_line(text: &[u8]) -> Option<(Event, usize)>
+    ensures line { IfSome result (λ read. IsLine read.0 (take read.1 text.now)) }
+    ensures within { IfSome result (λ read. read.1 ≤ length text.now) }
+    ensures some { IfSome result (λ read. 1 ≤ read.1) }
 {
-    let (found, rest) = short_line(text)?;
-    if found == event { Some(rest) } else { None }
-}
-
-// The event of a first line in its shortest form, with one digit and no needless space, as programs write nearly all lines.
-#[inline(always)]
-fn short_line(text: &[u8]) -> Option<(Event, &[u8])>
-    ensures lines { IfSome result (λ read. (tail : List ℕ)
-        → lines_of (text.now ++ tail) ≡ Holds read.0 ∷ lines_of (read.1.now ++ tail)) }
-    ensures behind { IfSome result (λ read. IsBehind text.now read.1.now) }
-    ensures shorter { IfSome result (λ read. length read.1.now < length text.now) }
-{
-    if let [a, b, c, d, b' ', n, b'\n', rest @ ..] = text
+    if let [a, b, c, d, b' ', n, b'\n', ..] = text
         && u32::from_le_bytes([*a, *b, *c, *d]) == STEP
         && n.is_ascii_digit()
     {
-        return Some((Event::Step(*n - b'0'), rest));
+        return Some((Event::Step(*n - b'0'), 7));
     }
-    if let [b'd', b'r', b'a', b'i', b'n', b' ', n, b'\n', rest @ ..] = text
+    if let [b'd', b'r', b'a', b'i', b'n', b' ', n, b'\n', ..] = text
         && n.is_ascii_digit()
     {
-        return Some((Event::Drain(*n - b'0'), rest));
+        return Some((Event::Drain(*n - b'0'), 8));
     }
-    if let [b'a', b's', b'k', b' ', n, b'\n', rest @ ..] = text
+    if let [b'a', b's', b'k', b' ', n, b'\n', ..] = text
         && n.is_ascii_digit()
     {
-        return Some((Event::Ask(*n - b'0'), rest));
+        return Some((Event::Ask(*n - b'0'), 6));
     }
-    if let [
-        b'r',
-        b'e',
-        b't',
-        b'i',
-        b'r',
-        b'e',
-        b' ',
-        n,
-        b'\n',
-        rest @ ..,
-    ] = text
+    if let [b'r', b'e', b't', b'i', b'r', b'e', b' ', n, b'\n', ..] = text
         && n.is_ascii_digit()
     {
-        return Some((Event::Retire(*n - b'0'), rest));
+        return Some((Event::Retire(*n - b'0'), 9));
     }
     if let [
         b'd',
@@ -130,12 +104,12 @@ fn short_line(text: &[u8]) -> Option<(Event, &[u8])>
         b' ',
         n,
         b'\n',
-        rest @ ..,
+        ..
     ] = text
         && m.is_ascii_digit()
         && n.is_ascii_digit()
     {
-        return Some((Event::Deliver(*m - b'0', *n - b'0'), rest));
+        return Some((Event::Deliver(*m - b'0', *n - b'0'), 12));
     }
     None
 }

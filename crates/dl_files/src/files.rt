@@ -51,6 +51,10 @@ pub trait Files {
         ensures kept { known self.new ≡ known self.old }
         ensures counted { count self.old ≤ count self.new };
 
+    /// Whether the file `name` seems to be one of which `read_at` reads any part: it is there, and is no pipe and no
+    /// device. To ask is no fault, and either answer may be wrong.
+    fn has_parts(&self, name: &str) -> bool;
+
     /// Makes `bytes` the bytes of the file `name`. After `Failed` nothing is known of that file alone.
     fn write(&mut self, name: &str, bytes: &[u8]) -> Result<(), FileError>
         ensures written { OnOk result (known self.new ≡ with_file name.now bytes.now (known self.old)) }

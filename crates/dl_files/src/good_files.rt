@@ -84,6 +84,10 @@ impl Files for GoodFiles {
         Ok(copy_part(self.store.bytes(place), offset, into))
     }
 
+    fn has_parts(&self, _name: &str) -> bool {
+        true
+    }
+
     fn write(&mut self, name: &str, bytes: &[u8]) -> Result<(), FileError>
         ensures written { OnOk result (self.new ≡ insert self.old name.now bytes.now) }
         ensures only { IfErr result (λ e. e ≡ FileError.OutOfMemory) }

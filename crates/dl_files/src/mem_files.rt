@@ -139,6 +139,10 @@ impl Files for MemFiles {
         Ok(count)
     }
 
+    fn has_parts(&self, _name: &str) -> bool {
+        true
+    }
+
     fn write(&mut self, name: &str, bytes: &[u8]) -> Result<(), FileError>
         ensures passes { OnOk result (FailsNext self.old.calls → ⊥) }
         ensures fails { IsErrOf result FileError.Failed → FailsNext self.old.calls }

@@ -98,6 +98,10 @@ impl<R: rt::Files> Files for RealFiles<R> {
         }
     }
 
+    fn has_parts(&self, name: &str) -> bool {
+        fs::metadata(&self.rt, name).is_ok_and(|found| found.is_file())
+    }
+
     fn write(&mut self, name: &str, bytes: &[u8]) -> Result<(), FileError>
         ensures ok { OnOk result (self.new ≡ self.old) }
         ensures only { IfErr result (λ e. e ≡ FileError.Failed) }

@@ -10,7 +10,8 @@ use std::{fs, rt};
 /// The greatest file that is read whole, in bytes.
 const LARGEST: usize = 1 << 30;
 
-const PIECE: usize = 1 << 16;
+// How many bytes are read at a time.
+const PIECE: usize = 1 << 15;
 
 pub(crate) fn read_named(
     rt: &impl rt::Files,

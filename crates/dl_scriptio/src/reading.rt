@@ -23,7 +23,8 @@ pub enum ScriptRead {
     Refused(u64),
 }
 
-/// What the file `name` says as a script, in memory of `alloc`. It is read piece after piece, and nothing behind a line that is refused.
+/// What the file `name` says as a script, in memory of `alloc`. It is read piece after piece, and nothing behind a line
+/// that is refused; but a file that has no parts, as a pipe, and one with a line as long as a piece, are read at once.
 pub fn read_script_file<F: Files>(
     alloc: Global,
     files: &mut F,
@@ -41,13 +42,17 @@ pub fn read_script_file<F: Files>(
         → F.count files.new ≡ F.count files.old }
     ensures kept { F.known files.new ≡ F.known files.old }
 {
+    if !files.has_parts(name) {
+        return read_at_once(alloc, files, name);
+    }
     let mut reader = ScriptReader::new(alloc);
     let mut piece = [0; PIECE];
     let mut offset = 0;
     while offset < LARGEST {
         let n = files.read_at(name, offset, &mut piece)?;
-        let last = match reader.read_lines(&piece[..n]) {
-            Ok(last) => last,
+        let last;
+        (reader, last) = match reader.read_lines(&piece[..n]) {
+            Ok(read) => read,
             Err(error) => return said(Err(error)),
         };
         if n < PIECE {

@@ -29,7 +29,7 @@ returns-then-n-lt-PIECE-clause-read g c =
     let offset = c.loop-offset.offset in
     let room = length c.loop-offset.piece in
     let piece = take c.in_ok-n.n c.read_at.new.into in
-    let last = c.in-Ok.last.now in
+    let last = c.in-Ok.read.1.now in
     let held = held_by known _ name offset room piece c.loop-offset.invariant.known c.in_ok-n.ensures.bytes in
     let long : length piece ≡ c.in_ok-n.n = length-take-le c.in_ok-n.n c.read_at.new.into (omega (arith, c.in_ok-n.ensures.most)) in
     IfOk-weaker c.said-then-n-lt-PIECE.result _ (λ r. SaysScript known name (read_view r))
@@ -38,7 +38,7 @@ returns-then-n-lt-PIECE-clause-read g c =
     let rest = drop room (drop offset content) in
     let to = subst (λ text. IsReadTo content text c.loop-offset.reader) split (c.loop-offset.invariant.read m is content there) in
     let none : rest ≡ [] = no_rest room (drop offset content) piece split (omega (arith, long)) in
-    let end = subst (λ text. IsReadTo content text c.read_lines.new.self) (ap (λ (xs : List ℕ). last ++ xs) none ∙ append-nil last) (c.in-Ok.ensures.read content rest to) in
+    let end = subst (λ text. IsReadTo content text c.in-Ok.read.0) (ap (λ (xs : List ℕ). last ++ xs) none ∙ append-nil last) (c.in-Ok.ensures.read content rest to) in
     e (script_of content) (read_as (script_of content) c.read_last.result
     (IfOk-weaker c.read_last.result _ _ (λ events h. h content end) c.read_last.ensures.read)
     (IfErr-weaker c.read_last.result _ _ (λ error h. h content end) c.read_last.ensures.refused))))
@@ -51,7 +51,7 @@ loop-offset-preserved g c =
     let offset = c.loop-offset.offset in
     let room = length c.loop-offset.piece in
     let piece = take c.in_ok-n.n c.read_at.new.into in
-    let last = c.in-Ok.last.now in
+    let last = c.in-Ok.read.1.now in
     let held = held_by known _ name offset room piece c.loop-offset.invariant.known c.in_ok-n.ensures.bytes in
     let long : length piece ≡ c.in_ok-n.n = length-take-le c.in_ok-n.n c.read_at.new.into (omega (arith, c.in_ok-n.ensures.most)) in
     record {
@@ -59,8 +59,8 @@ loop-offset-preserved g c =
           let split = held_split known m name content offset room piece held is there in
           let rest = drop room (drop offset content) in
           let to = subst (λ text. IsReadTo content text c.loop-offset.reader) split (c.loop-offset.invariant.read m is content there) in
-          subst (λ (n : ℕ). IsReadTo content (drop (offset + (n - length last)) content) c.read_lines.new.self) long
-          (read_on content rest piece last c.read_lines.new.self offset split c.in-Ok.ensures.behind (c.in-Ok.ensures.read content rest to));
+          subst (λ (n : ℕ). IsReadTo content (drop (offset + (n - length last)) content) c.in-Ok.read.0) long
+          (read_on content rest piece last c.in-Ok.read.0 offset split c.in-Ok.ensures.behind (c.in-Ok.ensures.read content rest to));
       lines = (
           let h = c.in-Ok.ensures.lines in
           let short = c.in-Ok.ensures.behind.short in

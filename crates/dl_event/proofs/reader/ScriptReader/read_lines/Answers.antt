@@ -11,7 +11,7 @@ loop-event-preserved-in-Some c =
     let held = c.in-Some in
     let r : SoFar = record { lines = c.self.inside.lines; events = c.self.inside.events } in
     let room = held.ensures.most in
-    let count = c.len.ensures in
+    let count = c.len-room.ensures in
     let few = c.self.invariant in
     record {
       read = λ script tail to.
