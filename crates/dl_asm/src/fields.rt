@@ -11,7 +11,7 @@ use crate::register::read_register;
 use spec_isa::field::Reg;
 
 /// The registers of a statement: x0 where it has none in that place.
-#[derive(Clone, Copy, Debug, PartialEq, Eq)]
+#[derive(Clone, Copy)]
 pub struct Registers {
     pub rd: Reg,
     pub rs1: Reg,
