@@ -1,7 +1,8 @@
 //! The lines of commits: each one, its loads and its outputs.
-ghost use Rattle.std.specs.Prelude.{◌≡◌, ◌++◌, flat_map, OnOk};
+ghost use Rattle.std.specs.Prelude.{◌≡◌, [], ◌∷◌, ◌++◌, codes, decimal, flat_map, OnOk};
 ghost use Rattle.dl_account.specs.Commits.{commit_lines, load_line, output_line};
-ghost use Rattle.dl_account.specs.Lines.{numbered};
+ghost use Rattle.dl_account.specs.Lines.{line, numbered};
+ghost use Rattle.dl_entry.specs.Actor.{code};
 
 use crate::text::{Text, high_digit, low_digit};
 use dl_entry::{Commit, Load, OutOfMemory, Output};
@@ -18,13 +19,20 @@ pub(crate) fn put_commits(text: &mut Text, commits: &[Commit]) -> Result<(), Out
 fn put_commit(text: &mut Text, index: usize, commit: &Commit) -> Result<(), OutOfMemory>
     ensures { OnOk result (text.new ≡ text.old ++ commit_lines index commit.now) }
 {
+    put_commit_line(text, index, commit)?;
+    put_loads(text, commit.loads.as_slice())?;
+    put_outputs(text, commit.outputs.as_slice())
+}
+
+fn put_commit_line(text: &mut Text, index: usize, commit: &Commit) -> Result<(), OutOfMemory>
+    ensures { OnOk result (text.new ≡ text.old
+        ++ line (codes "c") (decimal index ∷ decimal (code commit.now.actor) ∷ decimal commit.now.size ∷ [])) }
+{
     text.put(b"c")?;
     text.put_number(index as u64)?;
     text.put_number(u64::from(commit.actor.code()))?;
     text.put_number(u64::from(commit.size))?;
-    text.put(b"\n")?;
-    put_loads(text, commit.loads.as_slice())?;
-    put_outputs(text, commit.outputs.as_slice())
+    text.put(b"\n")
 }
 
 fn put_loads(text: &mut Text, loads: &[Load]) -> Result<(), OutOfMemory>

@@ -1,5 +1,5 @@
 //! The lines of threads: each one, and what it saved where interrupts are masked.
-ghost use Rattle.std.specs.Prelude.{◌≡◌, ◌<◌, ◌++◌, flat_map, map, drop, length, OnOk};
+ghost use Rattle.std.specs.Prelude.{◌≡◌, ◌<◌, ◌++◌, codes, decimal, flat_map, map, drop, length, OnOk};
 ghost use Rattle.dl_account.specs.Lines.{hex_word, numbered, spaced};
 ghost use Rattle.dl_account.specs.States.{mask_word, saved_line, status_word, thread_line, thread_lines};
 
@@ -23,13 +23,21 @@ pub(crate) fn put_threads(text: &mut Text, threads: &Threads) -> Result<(), OutO
 fn put_thread(text: &mut Text, number: u8, thread: &Thread) -> Result<(), OutOfMemory>
     ensures { OnOk result (text.new ≡ text.old ++ thread_line number thread.now) }
 {
-    text.put(b"t")?;
-    text.put_number(u64::from(number))?;
-    text.put_hex_word(thread.pc())?;
+    put_thread_place(text, number, thread)?;
     put_status(text, thread.status())?;
     put_handler(text, thread)?;
     put_registers(text, thread.x())?;
     text.put(b"\n")
+}
+
+// Which thread it is, and where it is.
+fn put_thread_place(text: &mut Text, number: u8, thread: &Thread) -> Result<(), OutOfMemory>
+    ensures { OnOk result (text.new ≡
+        text.old ++ codes "t" ++ spaced (decimal number) ++ spaced (hex_word thread.now.pc)) }
+{
+    text.put(b"t")?;
+    text.put_number(u64::from(number))?;
+    text.put_hex_word(thread.pc())
 }
 
 // Whether a thread goes on, and how it ended if not.

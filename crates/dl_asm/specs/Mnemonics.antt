@@ -1,5 +1,6 @@
 -- The mnemonics of statements: those of the ISA manual for its instructions, and two of words of data.
-use Rattle.std.specs.Prelude.{ℕ, Bool, true, false, List, codes, Option, Some, None, if◌then◌else◌}
+use Rattle.std.specs.Prelude.{ℕ, Bool, true, false, List, [], ◌∷◌, map, codes, Option, Some, None, if◌then◌else◌}
+use Rattle.std.specs.Borrow.{Bor}
 use Rattle.std.specs.List.{find}
 use Rattle.std.specs.Option.{option_or, option_map, option_and_then}
 use Rattle.std.specs.Str.{bytes_eq}
@@ -130,3 +131,13 @@ form_named name =
     (option_or (option_map Form.Store (find (λ op. bytes_eq name (store_name op)) stores))
     (option_or (option_map Form.Branch (find (λ op. bytes_eq name (branch_name op)) branches))
     (option_or (plain_form name) (atomic_form name)))))))
+
+-- ---- tables of the code, of names with what they name
+
+abbrev pub entries : {A : Type 0} → List (Bor (List ℕ) × A) → List (List ℕ × A)
+entries table = map (λ entry. (entry.0.now, entry.1)) table
+
+-- what stands beside the first entry of that name
+abbrev pub named : {A : Type 0} → (name : List ℕ) → List (List ℕ × A) → Option A
+named name [] = None
+named name (entry ∷ rest) = if bytes_eq name (entry.0) then Some (entry.1) else named name rest

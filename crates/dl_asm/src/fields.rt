@@ -11,7 +11,7 @@ use crate::register::read_register;
 use spec_isa::field::Reg;
 
 /// The registers of a statement: x0 where it has none in that place.
-#[derive(Clone, Copy, Debug, PartialEq, Eq)]
+#[derive(Clone, Copy)]
 pub struct Registers {
     pub rd: Reg,
     pub rs1: Reg,
@@ -39,34 +39,31 @@ pub fn fields(form: Form, text: &[u8]) -> Option<(Registers, &[u8])>
     }
 }
 
+// A statement that takes none.
+fn no_registers() -> Registers
+    ensures { result ≡ record { rd = 0; rs1 = 0; rs2 = 0 } }
+{
+    Registers {
+        rd: Reg::new(0),
+        rs1: Reg::new(0),
+        rs2: Reg::new(0),
+    }
+}
+
 fn nothing(text: &[u8]) -> Option<(Registers, &[u8])>
     ensures { MatchOption result (fields.fields_none text.now ≡ None) (λ read. fields.fields_none text.now ≡ Some (read.0, read.1.now)) }
 {
     if !text.is_empty() {
         return None;
     }
-    Some((
-        Registers {
-            rd: Reg::new(0),
-            rs1: Reg::new(0),
-            rs2: Reg::new(0),
-        },
-        text,
-    ))
+    Some((no_registers(), text))
 }
 
 fn word(text: &[u8]) -> Option<(Registers, &[u8])>
     ensures { MatchOption result (fields.fields_v text.now ≡ None) (λ read. fields.fields_v text.now ≡ Some (read.0, read.1.now)) }
 {
     let value = value(text)?;
-    Some((
-        Registers {
-            rd: Reg::new(0),
-            rs1: Reg::new(0),
-            rs2: Reg::new(0),
-        },
-        value,
-    ))
+    Some((no_registers(), value))
 }
 
 fn zeros(text: &[u8]) -> Option<(Registers, &[u8])>
@@ -75,14 +72,7 @@ fn zeros(text: &[u8]) -> Option<(Registers, &[u8])>
     if Number::read(text).is_none() {
         return None;
     }
-    Some((
-        Registers {
-            rd: Reg::new(0),
-            rs1: Reg::new(0),
-            rs2: Reg::new(0),
-        },
-        text,
-    ))
+    Some((no_registers(), text))
 }
 
 fn upper(text: &[u8]) -> Option<(Registers, &[u8])>
@@ -93,9 +83,8 @@ fn upper(text: &[u8]) -> Option<(Registers, &[u8])>
     let value = value(value_text)?;
     Some((
         Registers {
-            rd: rd,
-            rs1: Reg::new(0),
-            rs2: Reg::new(0),
+            rd,
+            ..no_registers()
         },
         value,
     ))
@@ -111,8 +100,8 @@ fn load(text: &[u8]) -> Option<(Registers, &[u8])>
     let rs1 = read_register(base)?;
     Some((
         Registers {
-            rd: rd,
-            rs1: rs1,
+            rd,
+            rs1,
             rs2: Reg::new(0),
         },
         offset,
@@ -130,8 +119,8 @@ fn store(text: &[u8]) -> Option<(Registers, &[u8])>
     Some((
         Registers {
             rd: Reg::new(0),
-            rs1: rs1,
-            rs2: rs2,
+            rs1,
+            rs2,
         },
         offset,
     ))
@@ -145,8 +134,8 @@ fn reserved(text: &[u8]) -> Option<(Registers, &[u8])>
     let rs1 = address(address_text)?;
     Some((
         Registers {
-            rd: rd,
-            rs1: rs1,
+            rd,
+            rs1,
             rs2: Reg::new(0),
         },
         &[],
@@ -160,14 +149,7 @@ fn three_registers(text: &[u8]) -> Option<(Registers, &[u8])>
     let rd = read_register(rd)?;
     let rs1 = read_register(rs1)?;
     let rs2 = read_register(rs2)?;
-    Some((
-        Registers {
-            rd: rd,
-            rs1: rs1,
-            rs2: rs2,
-        },
-        &[],
-    ))
+    Some((Registers { rd, rs1, rs2 }, &[]))
 }
 
 fn immediate(text: &[u8]) -> Option<(Registers, &[u8])>
@@ -179,8 +161,8 @@ fn immediate(text: &[u8]) -> Option<(Registers, &[u8])>
     let value = value(value_text)?;
     Some((
         Registers {
-            rd: rd,
-            rs1: rs1,
+            rd,
+            rs1,
             rs2: Reg::new(0),
         },
         value,
@@ -197,8 +179,8 @@ fn branch(text: &[u8]) -> Option<(Registers, &[u8])>
     Some((
         Registers {
             rd: Reg::new(0),
-            rs1: rs1,
-            rs2: rs2,
+            rs1,
+            rs2,
         },
         value,
     ))
@@ -211,14 +193,7 @@ fn atomic(text: &[u8]) -> Option<(Registers, &[u8])>
     let rd = read_register(rd)?;
     let rs2 = read_register(rs2)?;
     let rs1 = address(address_text)?;
-    Some((
-        Registers {
-            rd: rd,
-            rs1: rs1,
-            rs2: rs2,
-        },
-        &[],
-    ))
+    Some((Registers { rd, rs1, rs2 }, &[]))
 }
 
 // The text itself, where it is one of a value.

@@ -2,14 +2,14 @@
 use spec_isa::instr::{AmoOp, BranchOp, ImmediateOp, LoadOp, RegisterOp, ShiftOp, StoreOp};
 
 /// The bits aq and rl of an atomic instruction.
-#[derive(Clone, Copy, Debug, PartialEq, Eq)]
+#[derive(Clone, Copy)]
 pub struct Order {
     pub acquire: bool,
     pub release: bool,
 }
 
 /// An instruction without its operands, or words of data.
-#[derive(Clone, Copy, Debug, PartialEq, Eq)]
+#[derive(Clone, Copy)]
 pub enum Form {
     Register(RegisterOp),
     Immediate(ImmediateOp),

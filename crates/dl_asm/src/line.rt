@@ -18,7 +18,7 @@ use crate::text::{after_blanks, is_mnemonic, is_name, split_once, split_word, tr
 use crate::value::MOST_WORDS;
 
 /// What a line says.
-#[derive(Clone, Copy, Debug)]
+#[derive(Clone, Copy)]
 pub enum Line<'a> {
     /// No statement.
     Nothing,

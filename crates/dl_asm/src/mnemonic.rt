@@ -9,6 +9,121 @@ use crate::form::{Form, Order};
 use crate::text::split_once;
 use spec_isa::instr::{AmoOp, BranchOp, ImmediateOp, LoadOp, RegisterOp, ShiftOp, StoreOp};
 
+const REGISTER_OPS: [(&[u8], RegisterOp); 18] = [
+    (b"add", RegisterOp::Add),
+    (b"sub", RegisterOp::Sub),
+    (b"sll", RegisterOp::Sll),
+    (b"slt", RegisterOp::Slt),
+    (b"sltu", RegisterOp::Sltu),
+    (b"xor", RegisterOp::Xor),
+    (b"srl", RegisterOp::Srl),
+    (b"sra", RegisterOp::Sra),
+    (b"or", RegisterOp::Or),
+    (b"and", RegisterOp::And),
+    (b"mul", RegisterOp::Mul),
+    (b"mulh", RegisterOp::Mulh),
+    (b"mulhsu", RegisterOp::Mulhsu),
+    (b"mulhu", RegisterOp::Mulhu),
+    (b"div", RegisterOp::Div),
+    (b"divu", RegisterOp::Divu),
+    (b"rem", RegisterOp::Rem),
+    (b"remu", RegisterOp::Remu),
+];
+
+const IMMEDIATE_OPS: [(&[u8], ImmediateOp); 6] = [
+    (b"addi", ImmediateOp::Addi),
+    (b"slti", ImmediateOp::Slti),
+    (b"sltiu", ImmediateOp::Sltiu),
+    (b"xori", ImmediateOp::Xori),
+    (b"ori", ImmediateOp::Ori),
+    (b"andi", ImmediateOp::Andi),
+];
+
+const SHIFT_OPS: [(&[u8], ShiftOp); 3] = [
+    (b"slli", ShiftOp::Slli),
+    (b"srli", ShiftOp::Srli),
+    (b"srai", ShiftOp::Srai),
+];
+
+const LOAD_OPS: [(&[u8], LoadOp); 5] = [
+    (b"lb", LoadOp::Lb),
+    (b"lh", LoadOp::Lh),
+    (b"lw", LoadOp::Lw),
+    (b"lbu", LoadOp::Lbu),
+    (b"lhu", LoadOp::Lhu),
+];
+
+const STORE_OPS: [(&[u8], StoreOp); 3] = [
+    (b"sb", StoreOp::Sb),
+    (b"sh", StoreOp::Sh),
+    (b"sw", StoreOp::Sw),
+];
+
+const BRANCH_OPS: [(&[u8], BranchOp); 6] = [
+    (b"beq", BranchOp::Beq),
+    (b"bne", BranchOp::Bne),
+    (b"blt", BranchOp::Blt),
+    (b"bge", BranchOp::Bge),
+    (b"bltu", BranchOp::Bltu),
+    (b"bgeu", BranchOp::Bgeu),
+];
+
+const AMO_OPS: [(&[u8], AmoOp); 9] = [
+    (b"amoadd", AmoOp::Amoadd),
+    (b"amoswap", AmoOp::Amoswap),
+    (b"amoxor", AmoOp::Amoxor),
+    (b"amoor", AmoOp::Amoor),
+    (b"amoand", AmoOp::Amoand),
+    (b"amomin", AmoOp::Amomin),
+    (b"amomax", AmoOp::Amomax),
+    (b"amominu", AmoOp::Amominu),
+    (b"amomaxu", AmoOp::Amomaxu),
+];
+
+const PLAIN_FORMS: [(&[u8], Form); 10] = [
+    (b"lui", Form::Lui),
+    (b"auipc", Form::Auipc),
+    (b"jal", Form::Jal),
+    (b"jalr", Form::Jalr),
+    (b"fence", Form::Fence),
+    (b"fence.i", Form::FenceI),
+    (b"ecall", Form::Ecall),
+    (b"ebreak", Form::Ebreak),
+    (b".word", Form::Word),
+    (b".zero", Form::Zero),
+];
+
+const ORDERS: [(&[u8], Order); 4] = [
+    (
+        b"w",
+        Order {
+            acquire: false,
+            release: false,
+        },
+    ),
+    (
+        b"w.aq",
+        Order {
+            acquire: true,
+            release: false,
+        },
+    ),
+    (
+        b"w.rl",
+        Order {
+            acquire: false,
+            release: true,
+        },
+    ),
+    (
+        b"w.aqrl",
+        Order {
+            acquire: true,
+            release: true,
+        },
+    ),
+];
+
 /// The form that a mnemonic names, if it is one.
 #[tactic(auto, unfolding(crate::specs::Mnemonics::form_named))]
 pub fn form_named(name: &[u8]) -> Option<Form>
@@ -41,185 +156,49 @@ pub fn form_named(name: &[u8]) -> Option<Form>
 fn register_op(name: &[u8]) -> Option<RegisterOp>
     ensures { result ≡ find (λ op. bytes_eq name.now (names.register_name op)) registers }
 {
-    if name == b"add".as_slice() {
-        Some(RegisterOp::Add)
-    } else if name == b"sub".as_slice() {
-        Some(RegisterOp::Sub)
-    } else if name == b"sll".as_slice() {
-        Some(RegisterOp::Sll)
-    } else if name == b"slt".as_slice() {
-        Some(RegisterOp::Slt)
-    } else if name == b"sltu".as_slice() {
-        Some(RegisterOp::Sltu)
-    } else if name == b"xor".as_slice() {
-        Some(RegisterOp::Xor)
-    } else if name == b"srl".as_slice() {
-        Some(RegisterOp::Srl)
-    } else if name == b"sra".as_slice() {
-        Some(RegisterOp::Sra)
-    } else if name == b"or".as_slice() {
-        Some(RegisterOp::Or)
-    } else if name == b"and".as_slice() {
-        Some(RegisterOp::And)
-    } else if name == b"mul".as_slice() {
-        Some(RegisterOp::Mul)
-    } else if name == b"mulh".as_slice() {
-        Some(RegisterOp::Mulh)
-    } else if name == b"mulhsu".as_slice() {
-        Some(RegisterOp::Mulhsu)
-    } else if name == b"mulhu".as_slice() {
-        Some(RegisterOp::Mulhu)
-    } else if name == b"div".as_slice() {
-        Some(RegisterOp::Div)
-    } else if name == b"divu".as_slice() {
-        Some(RegisterOp::Divu)
-    } else if name == b"rem".as_slice() {
-        Some(RegisterOp::Rem)
-    } else if name == b"remu".as_slice() {
-        Some(RegisterOp::Remu)
-    } else {
-        None
-    }
+    named(name, &REGISTER_OPS)
 }
 
 fn immediate_op(name: &[u8]) -> Option<ImmediateOp>
     ensures { result ≡ find (λ op. bytes_eq name.now (names.immediate_name op)) immediates }
 {
-    if name == b"addi".as_slice() {
-        Some(ImmediateOp::Addi)
-    } else if name == b"slti".as_slice() {
-        Some(ImmediateOp::Slti)
-    } else if name == b"sltiu".as_slice() {
-        Some(ImmediateOp::Sltiu)
-    } else if name == b"xori".as_slice() {
-        Some(ImmediateOp::Xori)
-    } else if name == b"ori".as_slice() {
-        Some(ImmediateOp::Ori)
-    } else if name == b"andi".as_slice() {
-        Some(ImmediateOp::Andi)
-    } else {
-        None
-    }
+    named(name, &IMMEDIATE_OPS)
 }
 
 fn shift_op(name: &[u8]) -> Option<ShiftOp>
     ensures { result ≡ find (λ op. bytes_eq name.now (names.shift_name op)) shifts }
 {
-    if name == b"slli".as_slice() {
-        Some(ShiftOp::Slli)
-    } else if name == b"srli".as_slice() {
-        Some(ShiftOp::Srli)
-    } else if name == b"srai".as_slice() {
-        Some(ShiftOp::Srai)
-    } else {
-        None
-    }
+    named(name, &SHIFT_OPS)
 }
 
 fn load_op(name: &[u8]) -> Option<LoadOp>
     ensures { result ≡ find (λ op. bytes_eq name.now (names.load_name op)) loads }
 {
-    if name == b"lb".as_slice() {
-        Some(LoadOp::Lb)
-    } else if name == b"lh".as_slice() {
-        Some(LoadOp::Lh)
-    } else if name == b"lw".as_slice() {
-        Some(LoadOp::Lw)
-    } else if name == b"lbu".as_slice() {
-        Some(LoadOp::Lbu)
-    } else if name == b"lhu".as_slice() {
-        Some(LoadOp::Lhu)
-    } else {
-        None
-    }
+    named(name, &LOAD_OPS)
 }
 
 fn store_op(name: &[u8]) -> Option<StoreOp>
     ensures { result ≡ find (λ op. bytes_eq name.now (names.store_name op)) stores }
 {
-    if name == b"sb".as_slice() {
-        Some(StoreOp::Sb)
-    } else if name == b"sh".as_slice() {
-        Some(StoreOp::Sh)
-    } else if name == b"sw".as_slice() {
-        Some(StoreOp::Sw)
-    } else {
-        None
-    }
+    named(name, &STORE_OPS)
 }
 
 fn branch_op(name: &[u8]) -> Option<BranchOp>
     ensures { result ≡ find (λ op. bytes_eq name.now (names.branch_name op)) branches }
 {
-    if name == b"beq".as_slice() {
-        Some(BranchOp::Beq)
-    } else if name == b"bne".as_slice() {
-        Some(BranchOp::Bne)
-    } else if name == b"blt".as_slice() {
-        Some(BranchOp::Blt)
-    } else if name == b"bge".as_slice() {
-        Some(BranchOp::Bge)
-    } else if name == b"bltu".as_slice() {
-        Some(BranchOp::Bltu)
-    } else if name == b"bgeu".as_slice() {
-        Some(BranchOp::Bgeu)
-    } else {
-        None
-    }
+    named(name, &BRANCH_OPS)
 }
 
 fn amo_op(name: &[u8]) -> Option<AmoOp>
     ensures { result ≡ find (λ op. bytes_eq name.now (names.amo_name op)) amos }
 {
-    if name == b"amoadd".as_slice() {
-        Some(AmoOp::Amoadd)
-    } else if name == b"amoswap".as_slice() {
-        Some(AmoOp::Amoswap)
-    } else if name == b"amoxor".as_slice() {
-        Some(AmoOp::Amoxor)
-    } else if name == b"amoor".as_slice() {
-        Some(AmoOp::Amoor)
-    } else if name == b"amoand".as_slice() {
-        Some(AmoOp::Amoand)
-    } else if name == b"amomin".as_slice() {
-        Some(AmoOp::Amomin)
-    } else if name == b"amomax".as_slice() {
-        Some(AmoOp::Amomax)
-    } else if name == b"amominu".as_slice() {
-        Some(AmoOp::Amominu)
-    } else if name == b"amomaxu".as_slice() {
-        Some(AmoOp::Amomaxu)
-    } else {
-        None
-    }
+    named(name, &AMO_OPS)
 }
 
 fn plain_form(name: &[u8]) -> Option<Form>
     ensures { result ≡ names.plain_form name.now }
 {
-    if name == b"lui".as_slice() {
-        Some(Form::Lui)
-    } else if name == b"auipc".as_slice() {
-        Some(Form::Auipc)
-    } else if name == b"jal".as_slice() {
-        Some(Form::Jal)
-    } else if name == b"jalr".as_slice() {
-        Some(Form::Jalr)
-    } else if name == b"fence".as_slice() {
-        Some(Form::Fence)
-    } else if name == b"fence.i".as_slice() {
-        Some(Form::FenceI)
-    } else if name == b"ecall".as_slice() {
-        Some(Form::Ecall)
-    } else if name == b"ebreak".as_slice() {
-        Some(Form::Ebreak)
-    } else if name == b".word".as_slice() {
-        Some(Form::Word)
-    } else if name == b".zero".as_slice() {
-        Some(Form::Zero)
-    } else {
-        None
-    }
+    named(name, &PLAIN_FORMS)
 }
 
 fn atomic_form(name: &[u8]) -> Option<Form>
@@ -232,29 +211,7 @@ fn atomic_form(name: &[u8]) -> Option<Form>
 fn order_named(name: &[u8]) -> Option<Order>
     ensures { result ≡ names.order_named name.now }
 {
-    if name == b"w".as_slice() {
-        Some(Order {
-            acquire: false,
-            release: false,
-        })
-    } else if name == b"w.aq".as_slice() {
-        Some(Order {
-            acquire: true,
-            release: false,
-        })
-    } else if name == b"w.rl".as_slice() {
-        Some(Order {
-            acquire: false,
-            release: true,
-        })
-    } else if name == b"w.aqrl".as_slice() {
-        Some(Order {
-            acquire: true,
-            release: true,
-        })
-    } else {
-        None
-    }
+    named(name, &ORDERS)
 }
 
 fn atomic_named(name: &[u8], order: Order) -> Option<Form>
@@ -267,4 +224,16 @@ fn atomic_named(name: &[u8], order: Order) -> Option<Form>
     } else {
         amo_op(name).map(|op| Form::Amo(op, order))
     }
+}
+
+// What stands beside the name in the table, if it is there.
+fn named<T: Copy>(name: &[u8], table: &[(&[u8], T)]) -> Option<T>
+    ensures { result ≡ names.named name.now (names.entries table.now) }
+{
+    for (other, value) in table {
+        if name == *other {
+            return Some(*value);
+        }
+    }
+    None
 }

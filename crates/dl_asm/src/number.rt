@@ -11,7 +11,7 @@ ghost use Rattle.dl_asm.specs.Numbers.{decimal_in, hexadecimal_in, magnitude_in,
 pub const FAR: u64 = 1 << 33;
 
 /// A number by its sign and how far it is from 0.
-#[derive(Clone, Copy, Debug, PartialEq, Eq)]
+#[derive(Clone, Copy)]
 pub struct Number {
     pub negative: bool,
     pub magnitude: u64,

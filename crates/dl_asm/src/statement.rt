@@ -13,7 +13,7 @@ use dl_isa::encode;
 use std::alloc::AllocError;
 
 /// A statement with the number of its value, 0 where it has none.
-#[derive(Clone, Copy, Debug, PartialEq, Eq)]
+#[derive(Clone, Copy)]
 pub struct Statement {
     pub form: Form,
     pub registers: Registers,

@@ -135,15 +135,27 @@ fn outside_called(
         let thread = Thread::from_parts(&with_result(BAD_BUFFER, &step.thread.parts()));
         return alone(alloc, step.request, thread);
     };
+    answered_by(alloc, step, input)
+}
+
+fn answered_by(alloc: Global, step: &Step<'_>, input: &Input) -> Result<StepResult, OutOfMemory>
+    requires { length input.now.bytes ≤ most_bytes }
+    ensures served { let s = step.now in
+        IfOk result (λ a. result_in a ≡ outside_called (need s.thread s.memory.now) s.request s.thread (Some input.now)) }
+    ensures none { IfOk result (λ a. a.made ≡ None) }
+    ensures outputs { IfOk result (λ a. length a.outputs ≤ 1) }
+{
     let mut buffer = [0; MOST_BYTES];
     let want = need(&step.thread, step.memory, &mut buffer);
+    let words = copy_of(alloc, want, step.memory, input)?;
+    let outputs = output_of(alloc, want, input)?;
     Ok(StepResult {
         thread: Thread::from_parts(&with_result(input.result, &step.thread.parts())),
         made: None,
         request: step.request,
-        words: copy_of(alloc, want, step.memory, input)?,
+        words,
         loads: Loads::new(alloc),
-        outputs: output_of(alloc, want, input)?,
+        outputs,
     })
 }
 

@@ -1,12 +1,13 @@
 //! A log's bytes.
 ghost use Rattle.std.specs.Prelude.{◌≡◌, ◌++◌, OnOk, IfOk, All};
-ghost use Rattle.spec_log.specs.Bytes.{log_bytes, header_bytes, order_bytes, sizes_bytes, nibbles};
+ghost use Rattle.spec_log.specs.Bytes.{log_bytes, header_bytes, order_bytes, sizes_bytes, nibbles, magic, u8, u16};
+ghost use Rattle.spec_log.specs.Mode.{mode_code};
 ghost use Rattle.spec_log.specs.Log.{IsLog, IsActor};
 
 use crate::entry::put_section;
 use crate::fields::{put_u8, put_u16, put_u32};
 use dl_entry::{Actor, OutOfMemory};
-use spec_log::{Log, LogParts, Sizes};
+use spec_log::{Log, LogParts, ModeName, Sizes};
 use std::alloc::Global;
 
 /// The bytes of a log.
@@ -27,12 +28,19 @@ pub fn write_log(alloc: Global, log: &Log) -> Result<Vec<u8>, OutOfMemory>
 fn put_header(out: &mut Vec<u8>, parts: &LogParts) -> Result<(), OutOfMemory>
     ensures { OnOk result (out.new.items ≡ out.old.items ++ header_bytes parts.now) }
 {
-    out.extend_from_slice(b"DLRN")?;
-    put_u8(out, 1)?;
-    put_u8(out, parts.mode.code())?;
-    put_u16(out, 0)?;
+    put_mode(out, parts.mode)?;
     put_u32(out, parts.s)?;
     put_u32(out, parts.count)
+}
+
+// The magic word, the version, the mode and two zero bytes.
+fn put_mode(out: &mut Vec<u8>, mode: ModeName) -> Result<(), OutOfMemory>
+    ensures { OnOk result (out.new.items ≡ out.old.items ++ magic ++ u8 1 ++ u8 (mode_code mode) ++ u16 0) }
+{
+    out.extend_from_slice(b"DLRN")?;
+    put_u8(out, 1)?;
+    put_u8(out, mode.code())?;
+    put_u16(out, 0)
 }
 
 fn put_order(out: &mut Vec<u8>, parts: &LogParts) -> Result<(), OutOfMemory>

@@ -5,7 +5,7 @@ ghost use Rattle.spec_log.specs.Bytes.{u8 as one, u16 as two, u32 as four};
 use std::marker::Model;
 
 /// At most 16 bytes, seen as the list of them.
-#[derive(Debug, Drop)]
+#[derive(Drop)]
 pub struct Fixed {
     bytes: [u8; 16],
     len: usize,

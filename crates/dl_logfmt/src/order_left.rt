@@ -9,7 +9,7 @@ use dl_entry::Actor;
 use std::marker::Model;
 
 /// The actors that are not begun, and whether their count is; seen as the bytes that are left.
-#[derive(Debug, Drop)]
+#[derive(Drop)]
 pub struct OrderLeft<'a> {
     begun: bool,
     actors: &'a [Actor],

@@ -8,7 +8,7 @@ use crate::unit::Unit;
 use std::marker::Model;
 
 /// The entries that are not begun, and whether their count is; seen as the bytes that are left.
-#[derive(Debug, Drop)]
+#[derive(Drop)]
 pub struct SectionLeft<'a, E: Entry> {
     begun: bool,
     entries: &'a [E],

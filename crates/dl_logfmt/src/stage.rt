@@ -1,7 +1,7 @@
 //! How far a log has been read.
 
 /// What is read next of a log: a field, the entries of a section that has so many, or nothing.
-#[derive(Clone, Copy, Debug, PartialEq, Eq)]
+#[derive(Clone, Copy, PartialEq, Eq)]
 pub enum Stage {
     Mode,
     ChunkSize,

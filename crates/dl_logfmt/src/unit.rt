@@ -6,7 +6,7 @@ use crate::fixed::Fixed;
 use std::marker::Model;
 
 /// Fixed bytes and those that they count, seen as the bytes that are left of both.
-#[derive(Debug, Drop)]
+#[derive(Drop)]
 pub struct Unit<'a> {
     fixed: Fixed,
     taken: usize,

@@ -12,7 +12,7 @@ use spec_log::{DmaRecord, Interrupt, LogParts, ShortSize, Sizes};
 use std::marker::Model;
 
 /// What is left of each section, seen as their bytes. One of the two forms of sizes is none.
-#[derive(Debug, Drop)]
+#[derive(Drop)]
 pub struct Units<'a> {
     order: OrderLeft<'a>,
     each: SectionLeft<'a, u32>,

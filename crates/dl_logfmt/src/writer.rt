@@ -9,7 +9,7 @@ use spec_log::{Log, LogParts};
 use std::marker::Model;
 
 /// A log that is being written, seen as the bytes that are left.
-#[derive(Debug, Drop)]
+#[derive(Drop)]
 pub struct LogWriter<'a> {
     unit: Unit<'a>,
     units: Units<'a>,

@@ -8,7 +8,7 @@ use crate::plan::{Plan, Role, Schedule, Sphere};
 use std::alloc::{AllocError, Global};
 
 /// What a file is read for. Spheres are numbered from 0.
-#[derive(Clone, Copy, Debug, PartialEq, Eq)]
+#[derive(Clone, Copy)]
 pub enum Source {
     /// The script, which has the events.
     Script,
@@ -21,7 +21,7 @@ pub enum Source {
 }
 
 /// A file that is read.
-#[derive(Clone, Copy, Debug)]
+#[derive(Clone, Copy)]
 pub struct Input<'a> {
     pub name: &'a str,
     pub source: Source,

@@ -8,7 +8,7 @@ use crate::plan::{Plan, Role, Sphere};
 use std::alloc::{AllocError, Global};
 
 /// What a run makes for a file. Spheres are numbered from 0.
-#[derive(Clone, Copy, Debug, PartialEq, Eq)]
+#[derive(Clone, Copy)]
 pub enum Product {
     /// The log of the sphere of that number.
     Log(usize),
@@ -21,7 +21,7 @@ pub enum Product {
 }
 
 /// A file that is written.
-#[derive(Clone, Copy, Debug)]
+#[derive(Clone, Copy)]
 pub struct Output<'a> {
     pub name: &'a str,
     pub product: Product,

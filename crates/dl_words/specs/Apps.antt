@@ -1,6 +1,7 @@
 -- The command line as `clap` is told it: a program of six subcommands with their operands, each of which has to be there. It
 -- has no options, and neither help nor a version.
-use Rattle.std.specs.Prelude.{true, List, [], ◌∷◌, codes}
+use Rattle.std.specs.Prelude.{true, List, [], ◌∷◌, codes, map}
+use Rattle.std.specs.Borrow.{Bor}
 use Rattle.clap.specs.Words.{Text, Rule, App, new_rule, new_app, with_rule, with_subcommand}
 
 abbrev pub operand : (name : Text) → Rule
@@ -51,3 +52,13 @@ abbrev pub command_line : App
 command_line =
     with_subcommands (bare (new_app (codes "delorean")))
     (run_app ∷ inspect_app ∷ walk_app ∷ make_app ∷ drill_app ∷ asm_app ∷ [])
+
+-- ---- subcommands of the code
+
+-- the bytes of some texts
+abbrev pub texts : List (Bor Text) → List Text
+texts names = map (λ name. name.now) names
+
+-- that of a name and of the names of its operands
+abbrev pub app_by : Bor Text × Bor (List (Bor Text)) → App
+app_by s = subcommand s.0.now (texts s.1.now)

@@ -1,7 +1,7 @@
 //! Commands, with their operands.
 
 /// What the words ask for.
-#[derive(Clone, Copy, Debug, PartialEq, Eq)]
+#[derive(Clone, Copy, PartialEq, Eq)]
 pub enum Command<'a> {
     /// `run PLAN`
     Run {
