@@ -1,3 +1,4 @@
+mod Alike
 mod Examples
 mod Reading
 mod Repeats

@@ -1,11 +1,9 @@
 -- A line in its shortest form, with one digit, holds its event.
-use Rattle.std.proofs.Common.{◌≡◌, ℕ, ◌+◌, ◌<◌, ◌≤◌, zero, suc, List, [], ◌∷◌, ◌++◌, length, take, drop, replicate, refl, ap, ◌∙◌, ap₂, arith, add-one, append_assoc, below_more, below_none}
+use Rattle.std.proofs.Common.{◌≡◌, ℕ, ◌+◌, ◌<◌, ◌≤◌, suc, List, [], ◌∷◌, length, take, refl, ap₂, arith, below_more, below_none}
 use Rattle.std.proofs.lemmas.Slice.Eq.{HasBytesAt}
 use Rattle.spec_protocol.specs.declared.event.Event.{Event}
 use Rattle.dl_event.specs.declared.line.Line.TheVariants.{Holds}
-use Rattle.dl_event.specs.declared.line.Line.{Line}
 use Rattle.dl_event.specs.Script.{lines_of}
-use Rattle.dl_event.specs.Reading.{IsLine}
 
 behind : (x : ℕ) (xs : List ℕ) (i : ℕ) (p : List ℕ) → HasBytesAt (x ∷ xs) (suc i) p → HasBytesAt xs i p
 behind x xs i [] h = tt
@@ -62,16 +60,3 @@ deliver_line c c_small k k_small rest =
     (at-digits (λ (e : ℕ). delivers 8 e rest) refl refl refl refl refl refl refl refl refl refl k k_small)
     (at-digits (λ (e : ℕ). delivers 9 e rest) refl refl refl refl refl refl refl refl refl refl k k_small)
     c c_small
-
-one_more : (n : ℕ) (x : Line) (ys : List Line) → replicate n x ++ (x ∷ ys) ≡ replicate (suc n) x ++ ys
-one_more zero x ys = refl
-one_more (suc n) x ys = ap (λ (l : List Line). x ∷ l) (one_more n x ys)
-
--- where the text that is left begins with the same line, so many lines and one more are read
-pub same_again : (text line rest tail : List ℕ) (n : ℕ) (e : Event) → IsLine e line → lines_of text ≡ replicate n (Holds e) ++ lines_of (rest ++ tail) → rest ≡ line ++ drop (length line) rest → lines_of text ≡ replicate (n + 1) (Holds e) ++ lines_of (drop (length line) rest ++ tail)
-same_again text line rest tail n e is read begins =
-    let behind = drop (length line) rest in
-    let next : lines_of (rest ++ tail) ≡ Holds e ∷ lines_of (behind ++ tail) =
-    ap (λ (t : List ℕ). lines_of (t ++ tail)) begins ∙ ap lines_of (append_assoc line behind tail) ∙ is (behind ++ tail)
-    in
-    rw add-one (read ∙ ap (λ (l : List Line). replicate n (Holds e) ++ l) next ∙ one_more n (Holds e) (lines_of (behind ++ tail)))

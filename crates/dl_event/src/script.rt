@@ -12,6 +12,9 @@ use crate::reader::ScriptReader;
 use spec_protocol::Event;
 use std::alloc::Global;
 
+// How many lines that are alike are compared at once, at most.
+const MOST_AT_ONCE: u32 = 32;
+
 // The bytes of `step` as one number, the first one the least.
 const STEP: u32 = 0x7065_7473;
 
@@ -53,11 +56,19 @@ pub(crate) fn short_lines(text: &[u8], most: u32) -> Option<(Event, u32, &[u8])>
         return None;
     }
     let (event, size) = short_line(text)?;
-    let (line, mut rest) = text.split_at(size);
+    let mut rest = &text[size..];
     let mut times = 1;
-    while times < most && rest.starts_with(line) {
-        rest = &rest[size..];
-        times += 1;
+    // So many lines are compared at once with those at the front: twice as many where they were alike, and else half as many.
+    let mut count = 1;
+    while count > 0 {
+        let bytes = count as usize * size;
+        if count <= most - times && rest.starts_with(&text[..bytes]) {
+            rest = &rest[bytes..];
+            times += count;
+            count = (2 * count).min(MOST_AT_ONCE);
+        } else {
+            count /= 2;
+        }
     }
     Some((event, times, rest))
 }
