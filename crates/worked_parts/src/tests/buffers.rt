@@ -20,34 +20,46 @@ enum Step {
     Len(u32),
 }
 
-fn follow(rt: &impl Abort, buffer: &mut Buffer, step: &Step) {
-    match step {
-        Step::Put((word, mask, value), answer) => {
-            assert!(rt; *word % 4 == 0);
-            assert_eq!(rt; buffer.put(*word, *mask, *value), *answer, "word {word}");
-        }
-        Step::Drain(first) => assert_eq!(rt; buffer.drain_next().map(parts), *first),
-        Step::Clear => buffer.clear(),
-        Step::Nth(i, stored) => assert_eq!(rt; buffer.nth(*i).map(parts), *stored),
-        Step::Get(byte, held) => assert_eq!(rt; buffer.get(*byte), *held, "byte {byte}"),
-        Step::Over(word, below, seen) => {
-            assert_eq!(rt; buffer.over(*word, *below), *seen, "word {word}");
-        }
-        Step::HasRoom(word, room) => assert_eq!(rt; buffer.has_room(*word), *room),
-        Step::Len(count) => assert_eq!(rt; buffer.len(), *count),
+fn follow(rt: &impl Abort, buffer: &mut Buffer, steps: &[Step]) {
+    for (i, step) in steps.iter().enumerate() {
+        assert!(rt; is_answered(buffer, step), "step {i}");
     }
 }
 
-fn parts(stored: Stored) -> Parts {
-    (stored.word, stored.mask, stored.value)
+/// Whether the call has its answer.
+fn is_answered(buffer: &mut Buffer, step: &Step) -> bool {
+    match step {
+        Step::Put(stored, answer) => is_put(buffer, stored, *answer),
+        Step::Drain(first) => are_parts(buffer.drain_next(), first),
+        Step::Clear => {
+            buffer.clear();
+            true
+        }
+        Step::Nth(i, stored) => are_parts(buffer.nth(*i), stored),
+        Step::Get(byte, held) => buffer.get(*byte) == *held,
+        Step::Over(word, below, seen) => buffer.over(*word, *below) == *seen,
+        Step::HasRoom(word, room) => buffer.has_room(*word) == *room,
+        Step::Len(count) => buffer.len() == *count,
+    }
+}
+
+fn is_put(buffer: &mut Buffer, stored: &Parts, answer: Result<(), Full>) -> bool {
+    let (word, mask, value) = *stored;
+    word % 4 == 0 && buffer.put(word, mask, value) == answer
+}
+
+fn are_parts(stored: Option<Stored>, parts: &Option<Parts>) -> bool {
+    match (stored, parts) {
+        (Some(stored), Some(parts)) => (stored.word, stored.mask, stored.value) == *parts,
+        (None, None) => true,
+        _ => false,
+    }
 }
 
 #[test]
 fn merges_a_held_word_in_its_place(rt: HostRuntime) -> Result<(), Fail> {
     let mut buffer = Buffer::new(rt.alloc(), 2)?;
-    for step in MERGES {
-        follow(&rt, &mut buffer, step);
-    }
+    follow(&rt, &mut buffer, MERGES);
     Ok(())
 }
 
@@ -76,9 +88,7 @@ const MERGES: &[Step] = &[
 #[test]
 fn tells_words_apart_that_collide(rt: HostRuntime) -> Result<(), Fail> {
     let mut buffer = Buffer::new(rt.alloc(), 4)?;
-    for step in COLLIDES {
-        follow(&rt, &mut buffer, step);
-    }
+    follow(&rt, &mut buffer, COLLIDES);
     Ok(())
 }
 
@@ -98,16 +108,15 @@ const COLLIDES: &[Step] = &[
 #[test]
 fn finds_the_words_left_as_others_come(rt: HostRuntime) -> Result<(), Fail> {
     let mut buffer = Buffer::new(rt.alloc(), 2)?;
-    follow(&rt, &mut buffer, &Step::Put((0, 0b1111, 0), Ok(())));
+    follow(&rt, &mut buffer, &[Step::Put((0, 0b1111, 0), Ok(()))]);
     for n in 0..9 {
-        for step in [
+        let steps = [
             Step::Put((4 * n + 4, 0b1111, n + 1), Ok(())),
             Step::Drain(Some((4 * n, 0b1111, n))),
             Step::Over(4 * n, 99, 99),
             Step::Over(4 * n + 4, 99, n + 1),
-        ] {
-            follow(&rt, &mut buffer, &step);
-        }
+        ];
+        follow(&rt, &mut buffer, &steps);
     }
     Ok(())
 }
@@ -126,19 +135,18 @@ fn is_filled_twice(rt: &impl Abort, buffer: &mut Buffer, capacity: u16) {
     for _ in 0..2 {
         for n in 0..capacity {
             let n = u32::from(n);
-            follow(rt, buffer, &Step::Put((4 * n, 0b1111, n), Ok(())));
+            follow(rt, buffer, &[Step::Put((4 * n, 0b1111, n), Ok(()))]);
         }
         for n in 0..capacity {
             let n = u32::from(n);
-            follow(rt, buffer, &Step::Over(4 * n, 99, n));
+            follow(rt, buffer, &[Step::Over(4 * n, 99, n)]);
         }
-        for step in [
+        let steps = [
             Step::Put((end, 1, 1), Err(Full)),
             Step::Clear,
             Step::Len(0),
             Step::Over(0, 99, 99),
-        ] {
-            follow(rt, buffer, &step);
-        }
+        ];
+        follow(rt, buffer, &steps);
     }
 }

@@ -9,15 +9,25 @@ use dl_mem::Memory;
 use dl_sig::{Banked, PlainSet, Sig};
 use dl_thread::Thread;
 use std::alloc::{AllocError, Global};
+use std::process::Abort;
 use std::test::Fail;
+
+// A chunk that has just begun.
+fn begun<G: Sig>(alloc: Global, limit: u32, halves: bool) -> Result<Chunk<G>, AllocError>
+    requires least { 1 ≤ limit }
+    requires most { limit ≤ 16 }
+{
+    let mut chunk = Chunk::new(alloc, 16, 1, 64)?;
+    chunk.begin(0, &Thread::started(0), limit, halves);
+    Ok(chunk)
+}
 
 // The limit of a chunk that was squashed so many times.
 fn limit_after(alloc: Global, limit: u32, halves: bool, squashes: u32) -> Result<u32, AllocError>
     requires least { 1 ≤ limit }
     requires most { limit ≤ 16 }
 {
-    let mut chunk: Chunk<PlainSet> = Chunk::new(alloc, 16, 1, 64)?;
-    chunk.begin(0, &Thread::started(0), limit, halves);
+    let mut chunk: Chunk<PlainSet> = begun(alloc, limit, halves)?;
     for _ in 0..squashes {
         chunk.squash();
     }
@@ -26,41 +36,56 @@ fn limit_after(alloc: Global, limit: u32, halves: bool, squashes: u32) -> Result
 
 #[test]
 fn each_fourth_squash_halves_the_limit(rt: HostRuntime) -> Result<(), Fail> {
-    assert_eq!(rt; limit_after(rt.alloc(), 16, true, 3)?, 16);
-    assert_eq!(rt; limit_after(rt.alloc(), 16, true, 4)?, 8);
-    assert_eq!(rt; limit_after(rt.alloc(), 16, true, 8)?, 4);
-    assert_eq!(rt; limit_after(rt.alloc(), 1, true, 8)?, 1);
-    assert_eq!(rt; limit_after(rt.alloc(), 16, false, 8)?, 16);
+    for (limit, halves, squashes, halved) in LIMITS {
+        assert!(rt; 1 <= *limit && *limit <= 16);
+        assert!(rt; limit_after(rt.alloc(), *limit, *halves, *squashes)? == *halved);
+    }
     Ok(())
 }
 
+// A limit, whether it is halved, how many squashes there are, and the limit then.
+const LIMITS: &[(u32, bool, u32, u32)] = &[
+    (16, true, 3, 16),
+    (16, true, 4, 8),
+    (16, true, 8, 4),
+    (1, true, 8, 1),
+    (16, false, 8, 16),
+];
+
 // The next step of core 0, if the chunk is open.
 fn next<G: Sig>(chunk: &mut Chunk<G>, mem: &Memory, flights: &Flights<G>) -> Option<Stepped> {
-    if chunk.closed().is_some() {
-        return None;
+    match chunk.closed() {
+        Some(_) => None,
+        None => Some(chunk.step(mem, flights, 0)),
     }
-    Some(chunk.step(mem, flights, 0))
 }
 
 #[test]
 fn closes_before_a_serial_instruction(rt: HostRuntime) -> Result<(), Fail> {
-    let mem = Memory::new(rt.alloc(), &load(rt.alloc(), &SEVEN, 4096)?)?;
+    let mem = memory(rt.alloc())?;
     let flights = Flights::new(rt.alloc(), 1, 1)?;
-    let mut chunk: Chunk<Banked> = Chunk::new(rt.alloc(), 16, 1, 64)?;
-    chunk.begin(0, &Thread::started(0), 16, true);
-    assert_eq!(rt; chunk.cut(), CutReply::NothingRun);
-    assert_eq!(rt; next(&mut chunk, &mem, &flights), Some(Stepped::Ran));
-    assert_eq!(rt; (chunk.n(), chunk.state().x()[10]), (1, 7));
-    assert_eq!(rt;
-        next(&mut chunk, &mem, &flights),
-        Some(Stepped::Closed(How::Serial))
-    );
-    assert_eq!(rt; next(&mut chunk, &mem, &flights), None);
-    assert_eq!(rt; chunk.cut(), CutReply::Waiting);
-    chunk.squash();
-    assert_eq!(rt;
-        (chunk.n(), chunk.state().x()[10], chunk.closed()),
-        (0, 0, None)
-    );
+    closes(&rt, &mut begun(rt.alloc(), 16, true)?, &mem, &flights);
     Ok(())
+}
+
+fn memory(alloc: Global) -> Result<Memory, Fail> {
+    Ok(Memory::new(alloc, &load(alloc, &SEVEN, 4096)?)?)
+}
+
+// The chunk runs one instruction, closes, and is open again once it is squashed.
+fn closes(rt: &impl Abort, chunk: &mut Chunk<Banked>, mem: &Memory, flights: &Flights<Banked>) {
+    assert!(rt; chunk.cut() == CutReply::NothingRun);
+    assert!(rt; next(chunk, mem, flights) == Some(Stepped::Ran));
+    assert!(rt; has_run(chunk, 1, 7));
+    assert!(rt; next(chunk, mem, flights) == Some(Stepped::Closed(How::Serial)));
+    assert!(rt; next(chunk, mem, flights).is_none());
+    assert!(rt; chunk.cut() == CutReply::Waiting);
+    chunk.squash();
+    assert!(rt; has_run(chunk, 0, 0));
+    assert!(rt; chunk.closed().is_none());
+}
+
+// Whether so many instructions have run, and left this in x10.
+fn has_run(chunk: &Chunk<Banked>, n: u32, x10: u32) -> bool {
+    chunk.n() == n && chunk.state().x()[10] == x10
 }

@@ -6,12 +6,12 @@ use std::test::Fail;
 #[test]
 fn input_ends(rt: HostRuntime) -> Result<(), Fail> {
     let mut devices = Devices::new(rt.alloc(), b"ABCDE", 0)?;
-    assert_eq!(rt; devices.input_left(), 5);
+    assert!(rt; devices.input_left() == 5);
     assert!(rt; devices.input_byte() == Some(0x41));
     devices.input_take(2);
-    assert_eq!(rt; devices.input(), b"DE".as_slice());
+    assert!(rt; devices.input() == b"DE".as_slice());
     devices.input_take(9);
-    assert_eq!(rt; devices.input_left(), 0);
+    assert!(rt; devices.input_left() == 0);
     assert!(rt; devices.input_byte().is_none());
     Ok(())
 }
@@ -22,7 +22,7 @@ fn console_takes_all(rt: HostRuntime) -> Result<(), Fail> {
     devices.console_put(b"A")?;
     devices.console_put(b"")?;
     devices.console_put(b"BC")?;
-    assert_eq!(rt; devices.console(), b"ABC".as_slice());
+    assert!(rt; devices.console() == b"ABC".as_slice());
     Ok(())
 }
 
@@ -45,29 +45,27 @@ fn a_pipe_holds_256_bytes(rt: HostRuntime) -> Result<(), Fail> {
 
 fn follow(rt: &impl Abort, devices: &mut Devices, step: &Step) {
     match step {
-        Step::Put(bytes, count) => assert_eq!(rt; devices.pipe_put(3, bytes), *count),
-        Step::Get(size, bytes) => gets(rt, devices, *size, bytes),
-        Step::Look(size, bytes) => looks_at(rt, devices, *size, bytes),
+        Step::Put(bytes, count) => assert!(rt; devices.pipe_put(3, bytes) == *count),
+        Step::Get(size, bytes) => assert!(rt; gets(devices, *size, bytes)),
+        Step::Look(size, bytes) => assert!(rt; looks_at(devices, *size, bytes)),
     }
 }
 
-fn gets(rt: &impl Abort, devices: &mut Devices, size: usize, bytes: &[u8]) {
+fn gets(devices: &mut Devices, size: usize, bytes: &[u8]) -> bool {
     let mut room = [9; 300];
     let count = devices.pipe_get(3, &mut room[..size.min(300)]);
-    holds(rt, &room, count, bytes);
+    holds(&room, count, bytes)
 }
 
-fn looks_at(rt: &impl Abort, devices: &Devices, size: usize, bytes: &[u8]) {
+fn looks_at(devices: &Devices, size: usize, bytes: &[u8]) -> bool {
     let mut room = [9; 300];
     let count = devices.pipe_first(3, &mut room[..size.min(300)]);
-    holds(rt, &room, count, bytes);
+    holds(&room, count, bytes)
 }
 
 // The room begins with the bytes, and the one behind them is as it was.
-fn holds(rt: &impl Abort, room: &[u8], count: u32, bytes: &[u8]) {
-    assert_eq!(rt; count as usize, bytes.len());
-    assert!(rt; room.starts_with(bytes));
-    assert!(rt; room.get(bytes.len()) == Some(&9));
+fn holds(room: &[u8], count: u32, bytes: &[u8]) -> bool {
+    count as usize == bytes.len() && room.starts_with(bytes) && room.get(bytes.len()) == Some(&9)
 }
 
 const STEPS: &[Step] = &[
@@ -97,11 +95,11 @@ fn pipes_are_apart(rt: HostRuntime) -> Result<(), Fail> {
     let mut devices = Devices::new(rt.alloc(), b"", 0)?;
     let mut byte = [0u8; 1];
     for pipe in 0..8 {
-        assert_eq!(rt; devices.pipe_put(pipe, &[pipe]), 1);
+        assert!(rt; devices.pipe_put(pipe, &[pipe]) == 1);
     }
     for pipe in 0..8 {
-        assert_eq!(rt; devices.pipe_get(pipe, &mut byte), 1);
-        assert_eq!(rt; byte[0], pipe);
+        assert!(rt; devices.pipe_get(pipe, &mut byte) == 1);
+        assert!(rt; byte[0] == pipe);
     }
     Ok(())
 }
@@ -110,20 +108,25 @@ fn pipes_are_apart(rt: HostRuntime) -> Result<(), Fail> {
 #[test]
 fn random_bytes_are_those_of_the_seed(rt: HostRuntime) -> Result<(), Fail> {
     let mut twelve = [0u8; 12];
-    let mut three = [0u8; 3];
-    let mut four = [0u8; 4];
     let mut devices = Devices::new(rt.alloc(), b"", 7)?;
     devices.random_first(&mut twelve);
-    assert_eq!(rt;
-        twelve,
-        [212, 83, 14, 69, 161, 89, 226, 249, 69, 12, 174, 254]
-    );
+    assert!(rt; twelve == [212, 83, 14, 69, 161, 89, 226, 249, 69, 12, 174, 254]);
+    let mut three = [0u8; 3];
     devices.random(&mut three);
-    assert_eq!(rt; three, [212, 83, 14]);
-    devices.random(&mut four);
-    assert_eq!(rt; four, [69, 161, 89, 226]);
-    let mut devices = Devices::new(rt.alloc(), b"", u64::MAX)?;
-    devices.random(&mut four);
-    assert_eq!(rt; four, [145, 198, 23, 79]);
+    assert!(rt; three == [212, 83, 14]);
+    assert!(rt; next_four(&mut devices) == [69, 161, 89, 226]);
     Ok(())
+}
+
+#[test]
+fn a_seed_has_64_bits(rt: HostRuntime) -> Result<(), Fail> {
+    let mut devices = Devices::new(rt.alloc(), b"", u64::MAX)?;
+    assert!(rt; next_four(&mut devices) == [145, 198, 23, 79]);
+    Ok(())
+}
+
+fn next_four(devices: &mut Devices) -> [u8; 4] {
+    let mut four = [0u8; 4];
+    devices.random(&mut four);
+    four
 }

@@ -88,7 +88,7 @@ fn follow<F: Files>(rt: &impl Abort, alloc: Global, files: &mut F, steps: &[Step
 }
 
 // Any files that had none of these names.
-const KEPT: [Step; 17] = [
+const KEPT: &[Step] = &[
     (Call::Write(b"one"), "dl_files_a", Ok(b""), 0),
     (Call::Write(b"longer"), "dl_files_b", Ok(b""), 0),
     (Call::Read, "dl_files_b", Ok(b"longer"), 0),
@@ -109,7 +109,7 @@ const KEPT: [Step; 17] = [
 ];
 
 fn keep_what_is_written<F: Files>(rt: &impl Abort, alloc: Global, files: &mut F) {
-    follow(rt, alloc, files, &KEPT);
+    follow(rt, alloc, files, KEPT);
 }
 
 #[test]
@@ -125,7 +125,7 @@ fn files_keep_what_is_written(rt: HostRuntime) -> Result<(), Fail> {
 }
 
 // Real files without these names, once nothing was refused.
-const REFUSED: [Step; 7] = [
+const REFUSED: &[Step] = &[
     (Call::Read, "dl_files_a", Err(FileError::Absent), 1),
     (Call::Read, ".", Err(FileError::Failed), 2),
     (Call::ReadAt(0), "dl_files_a", Err(FileError::Absent), 3),
@@ -140,18 +140,26 @@ fn real_files_are_read_written_and_counted(rt: HostRuntime) -> Result<(), Fail> 
     let alloc = rt.alloc();
     let mut real = RealFiles::new(rt.clone()?);
     keep_what_is_written(&rt, alloc, &mut real);
-    let long = vec![in alloc; 7; 200_000]?;
-    assert!(rt; real.write("dl_files_a", long.as_slice()) == Ok(()));
-    assert!(rt; is_answer(&real.read(alloc, "dl_files_a"), Ok(long.as_slice())));
-    for name in ["dl_files_a", "dl_files_b", "dl_files_c", "dl_files_d"] {
+    assert!(rt; keeps_long_bytes(alloc, &mut real)?);
+    for name in NAMES {
         fs::remove_file(&rt, name)?;
     }
-    follow(&rt, alloc, &mut real, &REFUSED);
+    follow(&rt, alloc, &mut real, REFUSED);
     Ok(())
 }
 
+const NAMES: &[&str] = &["dl_files_a", "dl_files_b", "dl_files_c", "dl_files_d"];
+
+fn keeps_long_bytes<F: Files>(alloc: Global, files: &mut F) -> Result<bool, Fail> {
+    let long = vec![in alloc; 7; 200_000]?;
+    Ok(
+        files.write("dl_files_a", long.as_slice()) == Ok(())
+            && is_answer(&files.read(alloc, "dl_files_a"), Ok(long.as_slice())),
+    )
+}
+
 // Files of which "a" alone is there, and whose listed calls fail.
-const LISTED: [Step; 16] = [
+const LISTED: &[Step] = &[
     (Call::Write(b"xy"), "b", Ok(b""), 0),
     (Call::Read, "z", Err(FileError::Absent), 0),
     (Call::Read, "a", Err(FileError::Failed), 1),
@@ -176,44 +184,49 @@ fn listed_calls_of_files_fail(rt: HostRuntime) -> Result<(), Fail> {
     let mut good = GoodFiles::new(alloc);
     good.write("a", b"1")?;
     let mut files = MemFiles::new(alloc, good, &[1, 3, 7, 9, 11])?;
-    follow(&rt, alloc, &mut files, &LISTED);
+    follow(&rt, alloc, &mut files, LISTED);
     Ok(())
-}
-
-fn take_a_piece<O: Sink>(rt: &impl Abort, sink: &mut O) {
-    assert_eq!(rt; sink.put(b"piece\n"), Ok(6));
-    assert_eq!(rt; sink.put(b""), Ok(0));
-    assert_eq!(rt; sink.faults(), 0);
 }
 
 #[test]
 fn sinks_take_pieces(rt: HostRuntime) -> Result<(), Fail> {
-    let alloc = rt.alloc();
-    let mut good = GoodSink::new(alloc);
+    let mut good = GoodSink::new(rt.alloc());
     take_a_piece(&rt, &mut good);
-    assert_eq!(rt; good.taken(), b"piece\n".as_slice());
-    let mut mem = MemSink::new(alloc, &[])?;
+    assert!(rt; good.taken() == b"piece\n".as_slice());
+    let mut mem = MemSink::new(rt.alloc(), &[])?;
     take_a_piece(&rt, &mut mem);
-    assert_eq!(rt; mem.taken(), b"piece\n".as_slice());
+    assert!(rt; mem.taken() == b"piece\n".as_slice());
     take_a_piece(&rt, &mut StdSink::new(rt.clone()?));
     Ok(())
+}
+
+fn take_a_piece<O: Sink>(rt: &impl Abort, sink: &mut O) {
+    assert!(rt; sink.put(b"piece\n") == Ok(6));
+    assert!(rt; sink.put(b"") == Ok(0));
+    assert!(rt; sink.faults() == 0);
 }
 
 #[test]
 fn listed_calls_of_a_sink_fail(rt: HostRuntime) -> Result<(), Fail> {
     let mut sink = MemSink::new(rt.alloc(), &[0, 2])?;
-    // The piece, what its call answers, what was taken then, and the count of faults.
-    let steps: [(&[u8], Result<usize, SinkError>, &[u8], u64); 5] = [
-        (b"ab", Err(SinkError::Failed), b"", 1),
-        (b"ab", Ok(2), b"ab", 1),
-        (b"c", Err(SinkError::Failed), b"ab", 2),
-        (b"c", Ok(1), b"abc", 2),
-        (b"", Ok(0), b"abc", 2),
-    ];
-    for (piece, want, taken, faults) in steps {
-        assert_eq!(rt; sink.put(piece), want);
-        assert_eq!(rt; sink.taken(), taken);
-        assert_eq!(rt; sink.faults(), faults);
+    for put in PUTS {
+        assert!(rt; is_put(&mut sink, put));
     }
     Ok(())
+}
+
+// A piece, what its call answers, what was taken then, and the count of faults.
+type Put = (&'static [u8], Result<usize, SinkError>, &'static [u8], u64);
+
+const PUTS: &[Put] = &[
+    (b"ab", Err(SinkError::Failed), b"", 1),
+    (b"ab", Ok(2), b"ab", 1),
+    (b"c", Err(SinkError::Failed), b"ab", 2),
+    (b"c", Ok(1), b"abc", 2),
+    (b"", Ok(0), b"abc", 2),
+];
+
+fn is_put(sink: &mut MemSink, put: &Put) -> bool {
+    let (piece, want, taken, faults) = *put;
+    sink.put(piece) == want && sink.taken() == taken && sink.faults() == faults
 }

@@ -14,10 +14,12 @@ fn empty_flight(alloc: Global, sphere: u8) -> Result<Flight<PlainSet>, AllocErro
     ensures words { IfOk result (λ f. f.words ≡ []) }
     ensures bits { IfOk result (λ f. IsOfSize 64 (Some f)) }
 {
+    let words = Buffer::new(alloc, 1)?;
+    let writes = PlainSet::empty(alloc, 64)?;
     Ok(Flight {
         sphere,
-        words: Buffer::new(alloc, 1)?,
-        writes: PlainSet::empty(alloc, 64)?,
+        words,
+        writes,
         told: 0,
     })
 }
@@ -25,16 +27,19 @@ fn empty_flight(alloc: Global, sphere: u8) -> Result<Flight<PlainSet>, AllocErro
 #[test]
 fn takes_the_least_free_slot(rt: HostRuntime) -> Result<(), Fail> {
     let mut flights = Flights::new(rt.alloc(), 2, 8)?;
-    assert_eq!(rt; flights.window(), 2);
-    assert_eq!(rt; flights.retire(1), Retire::NoCommit);
-    for sphere in [3, 5] {
+    assert!(rt; flights.window() == 2);
+    assert!(rt; flights.retire(1) == Retire::NoCommit);
+    for (sphere, slot) in TAKEN {
+        let flight = empty_flight(rt.alloc(), *sphere)?;
         assert!(rt; !flights.is_full());
-        let slot = flights.add(empty_flight(rt.alloc(), sphere)?);
-        assert_eq!(rt; slot, if sphere == 3 { 0 } else { 1 });
+        assert!(rt; flights.add(flight) == *slot);
     }
     assert!(rt; flights.is_full());
     Ok(())
 }
+
+// A sphere whose flight is added, and the slot that it takes.
+const TAKEN: &[(u8, u8)] = &[(3, 0), (5, 1)];
 
 // A flight of one word, which is 7, at address 4.
 #[tactic(auto, unfolding(spec_isa::specs::Masks::bytes_of))]
@@ -62,9 +67,9 @@ fn standing(alloc: Global, flight: Flight<PlainSet>) -> Result<Flights<PlainSet>
 fn a_word_drains_to_memory(rt: HostRuntime) -> Result<(), Fail> {
     let mut mem = Memory::new(rt.alloc(), &load(rt.alloc(), &SEVEN, 4096)?)?;
     let mut flights = standing(rt.alloc(), storing(rt.alloc())?)?;
-    assert_eq!(rt; flights.drain(0, &mut mem), Drain::Drained);
-    assert_eq!(rt; mem.size(), 4096);
-    assert_eq!(rt; [mem.word(0), mem.word(4)], [0x0070_0513, 7]);
+    assert!(rt; flights.drain(0, &mut mem) == Drain::Drained);
+    assert!(rt; mem.size() == 4096);
+    assert!(rt; mem.word(0) == 0x0070_0513 && mem.word(4) == 7);
     Ok(())
 }
 
@@ -74,7 +79,7 @@ fn a_core_whose_chunk_is_hit_is_squashed(rt: HostRuntime) -> Result<(), Fail> {
     let mut reads = PlainSet::empty(rt.alloc(), 64)?;
     let writes = PlainSet::empty(rt.alloc(), 64)?;
     reads.insert(0);
-    assert_eq!(rt; flights.deliver(0, 0, &reads, &writes), Deliver::Squashed);
+    assert!(rt; flights.deliver(0, 0, &reads, &writes) == Deliver::Squashed);
     Ok(())
 }
 
@@ -83,7 +88,7 @@ fn a_flight_that_is_done_retires(rt: HostRuntime) -> Result<(), Fail> {
     let mut flight = empty_flight(rt.alloc(), 0)?;
     flight.told = 1;
     let mut flights = standing(rt.alloc(), flight)?;
-    assert_eq!(rt; flights.retire(0), Retire::Retired);
-    assert_eq!(rt; flights.retire(0), Retire::NoCommit);
+    assert!(rt; flights.retire(0) == Retire::Retired);
+    assert!(rt; flights.retire(0) == Retire::NoCommit);
     Ok(())
 }

@@ -120,7 +120,7 @@ fn thread(x1: u32, x2: u32) -> Thread {
 }
 
 // What one instruction came to, and what it left.
-#[derive(Clone, Copy, Debug, PartialEq, Eq)]
+#[derive(Clone, Copy, PartialEq, Eq)]
 struct After {
     did: Did,
     pc: u32,
@@ -142,99 +142,196 @@ fn ran(word: u32, x1: u32, x2: u32) -> After {
 
 #[test]
 fn computes_at_the_edges(rt: HostRuntime) {
-    for (word, x1, x2, x3) in [
-        (0x0220_C1B3, 0x8000_0000, 0xFFFF_FFFF, 0x8000_0000),
-        (0x0220_E1B3, 0x8000_0000, 0xFFFF_FFFF, 0),
-        (0x0220_C1B3, 7, 0, 0xFFFF_FFFF),
-        (0x0220_D1B3, 7, 0, 0xFFFF_FFFF),
-        (0x0220_E1B3, 7, 0, 7),
-        (0x0220_F1B3, 7, 0, 7),
-        (0x0220_A1B3, 0x8000_0000, 0xFFFF_FFFF, 0x8000_0000),
-        (0x0220_A1B3, 0xFFFF_FFFF, 0xFFFF_FFFF, 0xFFFF_FFFF),
-        (0x0220_B1B3, 0xFFFF_FFFF, 0xFFFF_FFFF, 0xFFFF_FFFE),
-        (0x0220_91B3, 0x8000_0000, 0x8000_0000, 0x4000_0000),
-        (0x0220_C1B3, 0xFFFF_FFF9, 2, 0xFFFF_FFFD),
-        (0x0220_E1B3, 0xFFFF_FFF9, 2, 0xFFFF_FFFF),
-        (0x4020_D1B3, 0x8000_0000, 33, 0xC000_0000),
-        (0x0020_A1B3, 0xFFFF_FFFF, 0, 1),
-        (0x0020_B1B3, 0xFFFF_FFFF, 0, 0),
-        (0xFFF0_8193, 0, 0, 0xFFFF_FFFF),
-        (0xFFFF_F1B7, 0, 0, 0xFFFF_F000),
-    ] {
+    for (word, x1, x2, x3) in COMPUTED {
         let want = After {
             did: Did::Next(None),
             pc: 4,
-            x3,
+            x3: *x3,
             data: DATA,
         };
-        assert_eq!(rt; ran(word, x1, x2), want, "{word:#x} of {x1:#x} and {x2:#x}");
+        assert!(rt;
+            ran(*word, *x1, *x2) == want,
+            "{word:#x} of {x1:#x} and {x2:#x}"
+        );
     }
 }
 
+// An instruction, x1 and x2, and what x3 then is.
+const COMPUTED: &[(u32, u32, u32, u32)] = &[
+    (0x0220_C1B3, 0x8000_0000, 0xFFFF_FFFF, 0x8000_0000),
+    (0x0220_E1B3, 0x8000_0000, 0xFFFF_FFFF, 0),
+    (0x0220_C1B3, 7, 0, 0xFFFF_FFFF),
+    (0x0220_D1B3, 7, 0, 0xFFFF_FFFF),
+    (0x0220_E1B3, 7, 0, 7),
+    (0x0220_F1B3, 7, 0, 7),
+    (0x0220_A1B3, 0x8000_0000, 0xFFFF_FFFF, 0x8000_0000),
+    (0x0220_A1B3, 0xFFFF_FFFF, 0xFFFF_FFFF, 0xFFFF_FFFF),
+    (0x0220_B1B3, 0xFFFF_FFFF, 0xFFFF_FFFF, 0xFFFF_FFFE),
+    (0x0220_91B3, 0x8000_0000, 0x8000_0000, 0x4000_0000),
+    (0x0220_C1B3, 0xFFFF_FFF9, 2, 0xFFFF_FFFD),
+    (0x0220_E1B3, 0xFFFF_FFF9, 2, 0xFFFF_FFFF),
+    (0x4020_D1B3, 0x8000_0000, 33, 0xC000_0000),
+    (0x0020_A1B3, 0xFFFF_FFFF, 0, 1),
+    (0x0020_B1B3, 0xFFFF_FFFF, 0, 0),
+    (0xFFF0_8193, 0, 0, 0xFFFF_FFFF),
+    (0xFFFF_F1B7, 0, 0, 0xFFFF_F000),
+];
+
 #[test]
 fn loads_stores_and_jumps(rt: HostRuntime) {
-    for (word, x1, did, pc, x3, data) in [
-        (
-            0x0000_8183,
-            34,
-            loaded(34, 0xFFFF_FFFF),
-            4,
-            0xFFFF_FFFF,
-            DATA,
-        ),
-        (0x0000_C183, 34, loaded(34, 0xFF), 4, 0xFF, DATA),
-        (
-            0x0000_9183,
-            34,
-            loaded(34, 0xFFFF_80FF),
-            4,
-            0xFFFF_80FF,
-            DATA,
-        ),
-        (0x0000_D183, 34, loaded(34, 0x80FF), 4, 0x80FF, DATA),
-        (0x0000_A183, 32, loaded(32, DATA), 4, DATA, DATA),
-        (0x0000_8003, 34, loaded(34, 0xFFFF_FFFF), 4, 7, DATA),
-        (0x0000_9183, 33, faulted(4), 0, 7, DATA),
-        (0x0000_A183, 34, faulted(4), 0, 7, DATA),
-        (0x0000_A183, 64, faulted(5), 0, 7, DATA),
-        (
-            0x0000_A183,
-            0xF000_0000,
-            Did::Serial(Kind::DeviceLoad),
-            0,
-            7,
-            DATA,
-        ),
-        (0x0000_9183, 0xF000_0000, faulted(5), 0, 7, DATA),
-        (0x0020_8023, 33, Did::Next(None), 4, 7, 0x80FF_7801),
-        (0x0020_9023, 34, Did::Next(None), 4, 7, 0x5678_7F01),
-        (0x0020_A023, 32, Did::Next(None), 4, 7, 0x1234_5678),
-        (0x0020_9023, 33, faulted(6), 0, 7, DATA),
-        (0x0020_A023, 64, faulted(7), 0, 7, DATA),
-        (
-            0x0020_A023,
-            0xF000_0008,
-            Did::Serial(Kind::DeviceStore),
-            0,
-            7,
-            DATA,
-        ),
-        (0x0020_8023, 0xF000_0008, faulted(7), 0, 7, DATA),
-        (0x0000_81E7, 6, faulted(0), 0, 7, DATA),
-        (0x0000_81E7, 9, Did::Next(None), 8, 4, DATA),
-        (0x1000_A1AF, 34, faulted(4), 0, 7, DATA),
-        (0x1820_A1AF, 64, faulted(7), 0, 7, DATA),
-        (0x1820_A1AF, 32, Did::Next(None), 4, 1, DATA),
-        (0x0020_A1AF, 32, loaded(32, DATA), 4, DATA, 0x9333_D579),
-        (0xA020_A1AF, 32, loaded(32, DATA), 4, DATA, 0x1234_5678),
-        (0x0000_0073, 0, Did::Serial(Kind::Call), 0, 7, DATA),
-        (0x0010_0073, 0, Did::Serial(Kind::Break), 0, 7, DATA),
-        (0x0000_0000, 0, faulted(2), 0, 7, DATA),
-    ] {
-        let want = After { did, pc, x3, data };
-        assert_eq!(rt; ran(word, x1, 0x1234_5678), want, "{word:#x} at {x1:#x}");
+    for (word, x1, did, pc, x3, data) in DONE {
+        let want = After {
+            did: *did,
+            pc: *pc,
+            x3: *x3,
+            data: *data,
+        };
+        assert!(rt;
+            ran(*word, *x1, 0x1234_5678) == want,
+            "{word:#x} at {x1:#x}"
+        );
     }
 }
+
+// An instruction, x1, what it came to, and then pc, x3 and the word of memory.
+const DONE: &[(u32, u32, Did, u32, u32, u32)] = &[
+    (
+        0x0000_8183,
+        34,
+        Did::Next(Some(Load {
+            addr: 34,
+            value: 0xFFFF_FFFF,
+        })),
+        4,
+        0xFFFF_FFFF,
+        DATA,
+    ),
+    (
+        0x0000_C183,
+        34,
+        Did::Next(Some(Load {
+            addr: 34,
+            value: 0xFF,
+        })),
+        4,
+        0xFF,
+        DATA,
+    ),
+    (
+        0x0000_9183,
+        34,
+        Did::Next(Some(Load {
+            addr: 34,
+            value: 0xFFFF_80FF,
+        })),
+        4,
+        0xFFFF_80FF,
+        DATA,
+    ),
+    (
+        0x0000_D183,
+        34,
+        Did::Next(Some(Load {
+            addr: 34,
+            value: 0x80FF,
+        })),
+        4,
+        0x80FF,
+        DATA,
+    ),
+    (
+        0x0000_A183,
+        32,
+        Did::Next(Some(Load {
+            addr: 32,
+            value: DATA,
+        })),
+        4,
+        DATA,
+        DATA,
+    ),
+    (
+        0x0000_8003,
+        34,
+        Did::Next(Some(Load {
+            addr: 34,
+            value: 0xFFFF_FFFF,
+        })),
+        4,
+        7,
+        DATA,
+    ),
+    (0x0000_9183, 33, Did::Serial(Kind::Fault(4)), 0, 7, DATA),
+    (0x0000_A183, 34, Did::Serial(Kind::Fault(4)), 0, 7, DATA),
+    (0x0000_A183, 64, Did::Serial(Kind::Fault(5)), 0, 7, DATA),
+    (
+        0x0000_A183,
+        0xF000_0000,
+        Did::Serial(Kind::DeviceLoad),
+        0,
+        7,
+        DATA,
+    ),
+    (
+        0x0000_9183,
+        0xF000_0000,
+        Did::Serial(Kind::Fault(5)),
+        0,
+        7,
+        DATA,
+    ),
+    (0x0020_8023, 33, Did::Next(None), 4, 7, 0x80FF_7801),
+    (0x0020_9023, 34, Did::Next(None), 4, 7, 0x5678_7F01),
+    (0x0020_A023, 32, Did::Next(None), 4, 7, 0x1234_5678),
+    (0x0020_9023, 33, Did::Serial(Kind::Fault(6)), 0, 7, DATA),
+    (0x0020_A023, 64, Did::Serial(Kind::Fault(7)), 0, 7, DATA),
+    (
+        0x0020_A023,
+        0xF000_0008,
+        Did::Serial(Kind::DeviceStore),
+        0,
+        7,
+        DATA,
+    ),
+    (
+        0x0020_8023,
+        0xF000_0008,
+        Did::Serial(Kind::Fault(7)),
+        0,
+        7,
+        DATA,
+    ),
+    (0x0000_81E7, 6, Did::Serial(Kind::Fault(0)), 0, 7, DATA),
+    (0x0000_81E7, 9, Did::Next(None), 8, 4, DATA),
+    (0x1000_A1AF, 34, Did::Serial(Kind::Fault(4)), 0, 7, DATA),
+    (0x1820_A1AF, 64, Did::Serial(Kind::Fault(7)), 0, 7, DATA),
+    (0x1820_A1AF, 32, Did::Next(None), 4, 1, DATA),
+    (
+        0x0020_A1AF,
+        32,
+        Did::Next(Some(Load {
+            addr: 32,
+            value: DATA,
+        })),
+        4,
+        DATA,
+        0x9333_D579,
+    ),
+    (
+        0xA020_A1AF,
+        32,
+        Did::Next(Some(Load {
+            addr: 32,
+            value: DATA,
+        })),
+        4,
+        DATA,
+        0x1234_5678,
+    ),
+    (0x0000_0073, 0, Did::Serial(Kind::Call), 0, 7, DATA),
+    (0x0010_0073, 0, Did::Serial(Kind::Break), 0, 7, DATA),
+    (0x0000_0000, 0, Did::Serial(Kind::Fault(2)), 0, 7, DATA),
+];
 
 fn loaded(addr: u32, value: u32) -> Did {
     Did::Next(Some(Load { addr, value }))
@@ -251,11 +348,12 @@ const RESERVE_AND_STORE: [u32; 2] = [0x1000_A1AF, 0x1820_A1AF];
 fn stores_where_it_reserved(rt: HostRuntime) {
     let mut view = memory_of(RESERVE_AND_STORE);
     let mut t = thread(AT, 5);
-    assert_eq!(rt; one(&mut t, &mut view), loaded(AT, DATA));
-    assert_eq!(rt; t.reservation(), Some(AT));
-    assert_eq!(rt; one(&mut t, &mut view), Did::Next(None));
-    assert_eq!(rt; t.reservation(), None);
-    assert_eq!(rt; (t.x()[3], word_at(&view.bytes, AT)), (0, 5));
+    assert!(rt; one(&mut t, &mut view) == loaded(AT, DATA));
+    assert!(rt; t.reservation() == Some(AT));
+    assert!(rt; one(&mut t, &mut view) == Did::Next(None));
+    assert!(rt; t.reservation().is_none());
+    assert!(rt; t.x()[3] == 0);
+    assert!(rt; word_at(&view.bytes, AT) == 5);
 }
 
 #[test]
@@ -263,17 +361,17 @@ fn waits_for_flights_and_room(rt: HostRuntime) {
     let mut view = memory_of(RESERVE_AND_STORE);
     let mut t = thread(AT, 5);
     view.held = 0;
-    assert_eq!(rt; one(&mut t, &mut view), Did::Bounced(3));
+    assert!(rt; one(&mut t, &mut view) == Did::Bounced(3));
     view.held = AT;
-    assert_eq!(rt; one(&mut t, &mut view), Did::Bounced(3));
-    assert_eq!(rt; t, thread(AT, 5));
+    assert!(rt; one(&mut t, &mut view) == Did::Bounced(3));
+    assert!(rt; t == thread(AT, 5));
     view.held = 64;
-    assert_eq!(rt; one(&mut t, &mut view), loaded(AT, DATA));
+    assert!(rt; one(&mut t, &mut view) == loaded(AT, DATA));
     let reserved = t;
     view.has_room = false;
-    assert_eq!(rt; one(&mut t, &mut view), Did::NoRoom);
-    assert_eq!(rt; t, reserved);
-    assert_eq!(rt; one(&mut Thread::started(64), &mut view), faulted(1));
+    assert!(rt; one(&mut t, &mut view) == Did::NoRoom);
+    assert!(rt; t == reserved);
+    assert!(rt; one(&mut Thread::started(64), &mut view) == faulted(1));
 }
 
 #[test]
@@ -281,15 +379,16 @@ fn keeps_fifteen_threads(rt: HostRuntime) {
     let mut threads = Threads::start(8);
     let other = thread(1, 2);
     for n in 1..15u8 {
-        assert_eq!(rt; threads.len(), n);
+        assert!(rt; threads.len() == n);
         assert!(rt; threads.add(&other));
     }
     assert!(rt; !threads.add(&other));
     threads.set(0, &Thread::from_parts(&other.parts()));
-    assert_eq!(rt; threads.get(0).map(Thread::pc), Some(0));
-    assert_eq!(rt;
-        threads.get(14).map(Thread::status),
-        Some(ThreadStatus::Live)
+    assert!(rt; threads.get(0).is_some_and(|t| t.pc() == 0));
+    assert!(rt;
+        threads
+            .get(14)
+            .is_some_and(|t| t.status() == ThreadStatus::Live)
     );
     assert!(rt; threads.get(15).is_none());
 }

@@ -1,43 +1,63 @@
 //! Requests beside no flight, beside one that hits, and beside one of the same sphere.
+ghost use Rattle.std.specs.Prelude.{◌≡◌, IfOk};
+ghost use Rattle.spec_engine.specs.Signatures.{insert, nothing};
+
 use dl_arbiter::{Asked, AskedSerial, Flights, Sig, ask, ask_serial};
 use dl_fly::Flight;
 use dl_sig::Banked;
 use dl_wbuf::Buffer;
+use std::alloc::{AllocError, Global};
 use std::test::Fail;
 
 #[test]
 fn waits_for_the_flights_of_its_sphere(rt: HostRuntime) -> Result<(), Fail> {
     let mut flights = Flights::new(rt.alloc(), 2, 1)?;
-    assert_eq!(rt; ask_serial(3, &flights), AskedSerial::Grant);
-    if !flights.is_full() {
-        flights.add(Flight {
-            sphere: 3,
-            words: Buffer::new(rt.alloc(), 1)?,
-            writes: Banked::empty(rt.alloc(), 64)?,
-            told: 0,
-        });
-    }
-    assert_eq!(rt; ask_serial(2, &flights), AskedSerial::Grant);
-    assert_eq!(rt; ask_serial(3, &flights), AskedSerial::SphereBusy(0));
+    assert!(rt; ask_serial(3, &flights) == AskedSerial::Grant);
+    let flight = Flight {
+        sphere: 3,
+        words: Buffer::new(rt.alloc(), 1)?,
+        writes: Banked::empty(rt.alloc(), 64)?,
+        told: 0,
+    };
+    assert!(rt; !flights.is_full());
+    flights.add(flight);
+    assert!(rt; ask_serial(2, &flights) == AskedSerial::Grant);
+    assert!(rt; ask_serial(3, &flights) == AskedSerial::SphereBusy(0));
+    Ok(())
+}
+
+#[test]
+fn is_granted_beside_no_flight(rt: HostRuntime) -> Result<(), Fail> {
+    let flights = Flights::new(rt.alloc(), 1, 1)?;
+    let reads = line_8(rt.alloc())?;
+    let writes = Banked::empty(rt.alloc(), 64)?;
+    assert!(rt; ask(&reads, &writes, &flights) == Asked::Grant);
     Ok(())
 }
 
 #[test]
 #[tactic(auto, unfolding(spec_engine::specs::Flights::free_slot))]
 fn is_denied_by_a_flight_that_hits(rt: HostRuntime) -> Result<(), Fail> {
-    let mut flights = Flights::new(rt.alloc(), 1, 1)?;
-    let mut reads = Banked::empty(rt.alloc(), 64)?;
-    let mut stored = Banked::empty(rt.alloc(), 64)?;
+    let reads = line_8(rt.alloc())?;
     let writes = Banked::empty(rt.alloc(), 64)?;
-    reads.insert(8);
-    stored.insert(8);
-    assert_eq!(rt; ask(&reads, &writes, &flights), Asked::Grant);
+    let words = Buffer::new(rt.alloc(), 1)?;
+    let stored = line_8(rt.alloc())?;
+    let mut flights = Flights::new(rt.alloc(), 1, 1)?;
     flights.add(Flight {
         sphere: 0,
-        words: Buffer::new(rt.alloc(), 1)?,
+        words,
         writes: stored,
         told: 0,
     });
-    assert_eq!(rt; ask(&reads, &writes, &flights), Asked::Denied(0));
+    assert!(rt; ask(&reads, &writes, &flights) == Asked::Denied(0));
     Ok(())
+}
+
+// A signature of 64 bits that has line 8.
+fn line_8(alloc: Global) -> Result<Banked, AllocError>
+    ensures { IfOk result (λ signature. signature ≡ insert 8 (nothing 64)) }
+{
+    let mut signature = Banked::empty(alloc, 64)?;
+    signature.insert(8);
+    Ok(signature)
 }
