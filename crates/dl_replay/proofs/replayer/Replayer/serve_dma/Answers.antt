@@ -1,7 +1,7 @@
 use Rattle.std.proofs.Common.{◌≡◌, ◌+◌, Ok, refl, ap, sym, subst, ◌∙◌}
 use Rattle.spec_play.specs.Progress.{position}
 use Rattle.spec_play.specs.Transfers.{dma_verdict}
-use Rattle.dl_replay.specs.declared.asking.Verdict.{Verdict}
+use Rattle.dl_replay.specs.declared.verdict.Verdict.{Verdict}
 use Rattle.dl_replay.specs.Judging.{transfer_verdict}
 use Rattle.dl_replay.specs.Replays.{advanced, replaying}
 use Rattle.dl_replay.specs.Left.{nothing_served, served_stored}
