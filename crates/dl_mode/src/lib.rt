@@ -13,5 +13,5 @@ pub use lists::Lists;
 pub use mode::Mode;
 pub use order_only::{OrderOnly, OrderOnlyLog};
 pub use order_size::{OrderAndSize, OrderSizeLog};
-pub use picolog::{PicoLog, TurnLog};
+pub use picolog::{PicoLog, TurnLog, turn};
 pub use spec_log::{ModeName, Order, Sizes};

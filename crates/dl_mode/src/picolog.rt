@@ -120,7 +120,7 @@ fn named(live: &[bool]) -> &[bool]
 }
 
 /// The next live thread after the last that committed, cyclic; at first from thread 0 on.
-fn turn(last: Option<u8>, live: &[bool]) -> Option<u8>
+pub fn turn(last: Option<u8>, live: &[bool]) -> Option<u8>
     requires { length live.now ≤ 15 }
     ensures { result ≡ turn_of last live.now }
 {

@@ -3,7 +3,6 @@ mod Lookups
 mod Counts
 mod Turns
 mod Verdicts
-mod Lists
 mod Limits
 mod Advancing
 pub mod PutBack

@@ -2,7 +2,7 @@
 use dl_entry::End;
 
 /// A thread's turn or the DMA's, or how the replay ended.
-#[derive(Clone, Copy, Debug, PartialEq, Eq)]
+#[derive(Clone, Copy)]
 pub enum Now {
     Turn(u8),
     TurnOfDma,

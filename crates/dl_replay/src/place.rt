@@ -1,7 +1,7 @@
 //! How far a replay has come in its log.
 
 /// How many of the records of each kind are taken.
-#[derive(Clone, Copy, Debug, PartialEq, Eq)]
+#[derive(Clone, Copy)]
 pub struct Used {
     pub inputs: u32,
     pub interrupts: u32,
@@ -9,7 +9,7 @@ pub struct Used {
 }
 
 /// The records that are taken, the whole commits that are done, and the thread that committed last.
-#[derive(Clone, Copy, Debug, PartialEq, Eq)]
+#[derive(Clone, Copy)]
 pub struct LogPlace {
     pub used: Used,
     pub done: u32,

@@ -37,8 +37,8 @@ fn next_actor<M: Mode>(log: &Lookup<M>, place: &LogPlace, threads: &Threads) -> 
     log.head(place.done, place.last, live)
 }
 
-// Which of the threads live.
-fn live_of(threads: &Threads) -> [bool; 15]
+/// Which of the threads live.
+pub fn live_of(threads: &Threads) -> [bool; 15]
     ensures { take (length threads.now) result ≡ map is_live threads.now }
 {
     let mut live = [false; 15];

@@ -14,9 +14,9 @@ ghost use Rattle.dl_serial.specs.Playing.{IsPlaying, StandsAt, judged_as, played
 use crate::chunk::Chunk;
 use crate::commits::{chunk_commit, dma_commit, serial_commit};
 use crate::sphere::Sphere;
-use dl_entry::{Actor, OutOfMemory};
+use dl_entry::OutOfMemory;
 use dl_mode::Mode;
-use dl_replay::{Asking, Replayer, Served, Verdict, thread_at};
+use dl_replay::{Replayer, Verdict, thread_at};
 use std::alloc::Global;
 
 /// Commits a chunk that a thread has run. Its words lie over the memory.
@@ -41,7 +41,7 @@ pub fn commit_chunk<M: Mode>(
         OnErr result (StandsAt replayer.old.log y replayer.new sphere.new) }
 {
     sphere.commits.reserve(1)?;
-    match judge(alloc, replayer, sphere, number, &chunk) {
+    match judge(replayer, sphere, number, &chunk) {
         Verdict::Went => {
             sphere.store.commit();
             sphere
@@ -55,7 +55,6 @@ pub fn commit_chunk<M: Mode>(
 
 // Judges a chunk that a thread has run. Its thread is left as its commit leaves it, or as it was before the chunk.
 fn judge<M: Mode>(
-    alloc: Global,
     replayer: &mut Replayer<M>,
     sphere: &mut Sphere,
     number: u8,
@@ -75,27 +74,14 @@ fn judge<M: Mode>(
     ensures store { sphere.new.store ≡ sphere.old.store }
     ensures commits { sphere.new.commits ≡ sphere.old.commits }
 {
-    let asking = Asking {
-        actor: Actor::Thread(number),
-        total: chunk.n,
-        serial: false,
-    };
-    let mut served = Served::new(alloc);
     let before = thread_at(&sphere.threads, number);
     sphere.threads.set(number, &chunk.thread);
-    match replayer.accept(
-        &asking,
-        &mut sphere.threads,
-        &mut sphere.request,
-        sphere.store.memory(),
-        &mut served,
-    ) {
-        Ok(Verdict::Went) => Verdict::Went,
-        Ok(Verdict::Diverged(why)) => {
+    match replayer.end_chunk(number, chunk.n, &mut sphere.threads) {
+        Verdict::Went => Verdict::Went,
+        Verdict::Diverged(why) => {
             sphere.threads.set(number, &before);
             Verdict::Diverged(why)
         }
-        Err(_) => unreachable!(),
     }
 }
 

@@ -1,3 +1,2 @@
--- Words put, and flags set, one after another come to the whole list.
+-- Words put one after another come to the whole list.
 pub mod Words
-pub mod Threads

@@ -14,7 +14,7 @@ pub enum Moved {
 }
 
 /// How many bytes a DMA would store behind its count, or why the replay leaves its log there.
-#[derive(Clone, Copy, Debug, PartialEq, Eq)]
+#[derive(Clone, Copy)]
 pub enum DmaSize {
     Bytes(u32),
     Diverged(Why),

@@ -1,5 +1,5 @@
 //! The replay of a log in any of the three modes.
-ghost use Rattle.std.specs.Prelude.{◌≡◌, ℕ, List, ◌<◌, ◌≤◌, ◌+◌, [], Some, false, IfOk, OnErr, length, slice_get, slice_index};
+ghost use Rattle.std.specs.Prelude.{◌≡◌, ℕ, List, Option, ◌<◌, ◌≤◌, ◌+◌, [], Some, IfOk, OnErr, length, slice_get, slice_index};
 ghost use Rattle.spec_isa.specs.declared.thread.Parts.{Parts};
 ghost use Rattle.spec_isa.specs.declared.thread.Load.{Load};
 ghost use Rattle.dl_entry.specs.declared.Why.{Why};
@@ -9,7 +9,8 @@ ghost use Rattle.spec_play.specs.Turns.{Turn, TurnOfDma};
 ghost use Rattle.spec_play.specs.Transfers.{dma_verdict};
 ghost use Rattle.spec_play.specs.Verdicts.{chunk_verdict, serial_verdict};
 ghost use Rattle.spec_protocol.specs.Spheres.{Replay, actor_of, limit_in, limit_of};
-ghost use Rattle.dl_replay.specs.Judged.{HasRun, IsInside, chunk_judged, dma_judged, is_serial_step, serial_judged};
+ghost use Rattle.dl_replay.specs.Judged.{HasRun, IsInside, chunk_judged, dma_judged, serial_judged};
+ghost use Rattle.dl_replay.specs.Served.{Served};
 ghost use Rattle.dl_replay.specs.Judging.{transfer_verdict};
 ghost use Rattle.dl_replay.specs.Left.{SaysSize, nothing_served, served_left, served_stored, verdict_left, verdict_stored};
 ghost use Rattle.dl_replay.specs.Replaying.{Agrees, replay_start, commits_of, cursor_of, end_of};
@@ -18,7 +19,7 @@ use dl_entry::{Actor, End, OutOfMemory, Request, Why};
 use dl_kernel::StepResult;
 use dl_mem::Memory;
 use dl_mode::{OrderAndSize, OrderOnly, PicoLog};
-use dl_replay::{Asking, Replayer, Served, Verdict};
+use dl_replay::{Replayer, Verdict};
 use dl_thread::Threads;
 use dl_wbuf::Buffer;
 use spec_log::{Log, ModeName};
@@ -117,39 +118,20 @@ impl Player {
     }
 
     // Judges the last part of a chunk, which its thread has run.
-    pub(crate) fn end_chunk(
-        &mut self,
-        thread: u8,
-        asking: &Asking,
-        threads: &mut Threads,
-        request: &mut Option<Request>,
-        memory: &Memory,
-        served: &mut Served,
-    ) -> Result<Verdict, OutOfMemory>
-        requires actor { asking.now.actor ≡ Actor.Thread thread }
-        requires chunk { is_serial_step asking.now ≡ false }
+    pub(crate) fn end_chunk(&mut self, thread: u8, total: u32, threads: &mut Threads) -> Verdict
         requires turn { self.old.now ≡ Turn thread }
         requires thread { thread < length threads.old }
         requires commits { self.old.commits ≡ commits_of threads.old }
-        requires request { IsInside (length memory.now) request.old }
-        ensures chunk { (p : Progress) (before : List Parts) (r : Run) → Agrees self.old p →
-            p.request ≡ request.old → HasRun before threads.old thread asking.now.total r →
-            let v = chunk_verdict self.old.log p self.old.used thread r in
-            IfOk result (λ verdict. record { verdict = verdict; replay = self.new; threads = threads.new; request = request.new; served = served.new }
-            ≡ chunk_judged self.old p thread before threads.old request.old served.old v) }
-        ensures threads_left { (why : Why) → IfOk result (λ v. v ≡ Verdict.Diverged why → threads.new ≡ threads.old) }
-        ensures replay_still { OnErr result (self.new ≡ self.old) }
-        ensures threads_still { OnErr result (threads.new ≡ threads.old) }
-        ensures request_still { OnErr result (request.new ≡ request.old) }
+        ensures threads_left { (why : Why) → result ≡ Verdict.Diverged why → threads.new ≡ threads.old }
+        ensures judged { (p : Progress) (before : List Parts) (r : Run) (request : Option Request) (served : Served) →
+            Agrees self.old p → p.request ≡ request → HasRun before threads.old thread total r →
+            record { verdict = result; replay = self.new; threads = threads.new; request = request; served = served }
+            ≡ chunk_judged self.old p thread before threads.old request served (chunk_verdict self.old.log p self.old.used thread r) }
     {
         match &mut self.players {
-            Players::OrderSize(replayer) => {
-                replayer.accept(asking, threads, request, memory, served)
-            }
-            Players::OrderOnly(replayer) => {
-                replayer.accept(asking, threads, request, memory, served)
-            }
-            Players::Picolog(replayer) => replayer.accept(asking, threads, request, memory, served),
+            Players::OrderSize(replayer) => replayer.end_chunk(thread, total, threads),
+            Players::OrderOnly(replayer) => replayer.end_chunk(thread, total, threads),
+            Players::Picolog(replayer) => replayer.end_chunk(thread, total, threads),
         }
     }
 

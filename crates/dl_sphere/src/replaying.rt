@@ -1,5 +1,6 @@
 //! The commits of a sphere that is replayed, each judged by its log.
-ghost use Rattle.std.specs.Prelude.{◌≡◌, ◌+◌, ◌<◌, ◌≤◌, ◌^◌, [], ◌++◌, Some, None, IfOk, OnOk, OnErr, length, slice_get, slice_index, slice_set};
+ghost use Rattle.std.specs.Prelude.{◌≡◌, ◌+◌, ◌<◌, ◌≤◌, ◌^◌, [], ◌++◌, Option, Some, None, IfOk, OnOk, OnErr, length, slice_get, slice_index, slice_set};
+ghost use Rattle.dl_entry.specs.declared.input.Request.{Request};
 ghost use Rattle.spec_isa.specs.declared.thread.Parts.{Parts};
 ghost use Rattle.spec_play.specs.Progress.{Progress};
 ghost use Rattle.spec_play.specs.Transfers.{dma_verdict};
@@ -17,13 +18,12 @@ ghost use Rattle.dl_sphere.specs.Replayed.{before};
 use crate::commits::{dma_commit, joined_commit, serial_commit};
 use crate::part::Replay;
 use dl_chunk::Chunk;
-use dl_entry::{Actor, Commit, OutOfMemory, Request, Why};
+use dl_entry::{Commit, OutOfMemory, Request, Why};
 use dl_mem::Memory;
-use dl_replay::{Asking, Served, Verdict, thread_at};
+use dl_replay::{Verdict, thread_at};
 use dl_sig::Sig;
 use dl_thread::{Load, Thread, Threads};
 use dl_wbuf::Buffer;
-use spec_engine::answers::How;
 use std::alloc::Global;
 
 // Commits a piece of the thread's commit: so many instructions, which made these loads and left the thread in this state.
@@ -58,8 +58,6 @@ pub(crate) fn commit_last<G: Sig>(
     replay: &mut Replay,
     commits: &mut Vec<Commit>,
     threads: &mut Threads,
-    request: &mut Option<Request>,
-    memory: &Memory,
     thread: u8,
     chunk: &Chunk<G>,
 ) -> Result<Option<Why>, OutOfMemory>
@@ -67,98 +65,57 @@ pub(crate) fn commit_last<G: Sig>(
     requires thread { thread < length threads.old }
     requires commits { replay.old.player.commits ≡ commits_of threads.old }
     requires same { (t : Parts) → slice_get threads.old thread ≡ Some t → chunk.now.chunk.done.thread.commits ≡ t.commits }
-    requires some { 1 ≤ replay.old.player.total + chunk.now.chunk.done.n }
     requires few { replay.old.player.total + chunk.now.chunk.done.n < 2 ^ 32 }
-    requires request { IsInside (length memory.now) request.old }
-    ensures judged { (p : Progress) → Agrees replay.old.player p → p.request ≡ request.old →
+    ensures judged { (p : Progress) (request : Option Request) → Agrees replay.old.player p → p.request ≡ request →
         let b = cursor_of replay.old.player replay.old.loads.items in
         let v = chunk_verdict b.log p b.used thread (joined b chunk.now.chunk.done) in
-        IfOk result (λ why. record { why = why; replay = replay.new.player; loads = replay.new.loads.items; threads = threads.new; request = request.new; commits = commits.new.items; words = [] }
-        ≡ record (judged_by p thread (before replay.old threads.old request.old commits.old.items) v) { words = [] }) }
+        IfOk result (λ why. record { why = why; replay = replay.new.player; loads = replay.new.loads.items; threads = threads.new; request = request; commits = commits.new.items; words = [] }
+        ≡ record (judged_by p thread (before replay.old threads.old request commits.old.items) v) { words = [] }) }
     ensures replay_still { OnErr result (replay.new.player ≡ replay.old.player) }
     ensures loads_still { OnErr result (replay.new.loads.items ≡ replay.old.loads.items) }
     ensures threads_still { OnErr result (threads.new ≡ threads.old) }
-    ensures request_still { OnErr result (request.new ≡ request.old) }
     ensures commits_still { OnErr result (commits.new.items ≡ commits.old.items) }
 {
     let size = replay.player.pieces() + chunk.n();
     let commit = joined_commit(alloc, thread, size, &replay.loads, chunk)?;
-    let last = LastPart {
-        thread,
-        state: chunk.state(),
-        serial: chunk.closed() == Some(How::Serial),
-        commit,
-    };
-    let mut served = Served::new(alloc);
-    end_chunk(replay, commits, threads, request, memory, &mut served, last)
-}
-
-// The last part of a thread's commit: the state that it has left, whether it met a serial instruction, and the commit whole.
-#[derive(Drop)]
-pub(crate) struct LastPart<'a> {
-    pub(crate) thread: u8,
-    pub(crate) state: &'a Thread,
-    pub(crate) serial: bool,
-    pub(crate) commit: Commit,
+    end_chunk(replay, commits, threads, thread, chunk.state(), commit)
 }
 
 // Ends a commit of the thread, whose last part has left it in this state, or tells why the replay leaves its log there.
-pub(crate) fn end_chunk(
+fn end_chunk(
     replay: &mut Replay,
     commits: &mut Vec<Commit>,
     threads: &mut Threads,
-    request: &mut Option<Request>,
-    memory: &Memory,
-    served: &mut Served,
-    last: LastPart<'_>,
+    thread: u8,
+    state: &Thread,
+    commit: Commit,
 ) -> Result<Option<Why>, OutOfMemory>
-    requires turn { replay.old.player.now ≡ Turn last.thread }
-    requires thread { last.thread < length threads.old }
+    requires turn { replay.old.player.now ≡ Turn thread }
+    requires thread { thread < length threads.old }
     requires commits { replay.old.player.commits ≡ commits_of threads.old }
-    requires same { (t : Parts) → slice_get threads.old last.thread ≡ Some t → last.state.now.commits ≡ t.commits }
-    requires some { 0 < last.commit.size }
-    requires request { IsInside (length memory.now) request.old }
-    ensures judged { (p : Progress) (r : Run) → Agrees replay.old.player p → p.request ≡ request.old →
-        r.thread ≡ last.entry.state.now → r.n ≡ last.entry.commit.size → last.entry.commit ≡ chunk_commit last.entry.thread r →
-        let v = chunk_verdict replay.old.player.log p replay.old.player.used last.entry.thread r in
-        IfOk result (λ why. record { why = why; replay = replay.new.player; loads = replay.new.loads.items; threads = threads.new; request = request.new; commits = commits.new.items; words = [] }
-        ≡ record (judged_by p last.entry.thread (before replay.old threads.old request.old commits.old.items) v) { words = [] }) }
+    requires same { (t : Parts) → slice_get threads.old thread ≡ Some t → state.now.commits ≡ t.commits }
+    ensures judged { (p : Progress) (r : Run) (request : Option Request) → Agrees replay.old.player p → p.request ≡ request →
+        r.thread ≡ state.now → r.n ≡ commit.size → commit ≡ chunk_commit thread r →
+        let v = chunk_verdict replay.old.player.log p replay.old.player.used thread r in
+        IfOk result (λ why. record { why = why; replay = replay.new.player; loads = replay.new.loads.items; threads = threads.new; request = request; commits = commits.new.items; words = [] }
+        ≡ record (judged_by p thread (before replay.old threads.old request commits.old.items) v) { words = [] }) }
     ensures replay_still { OnErr result (replay.new.player ≡ replay.old.player) }
     ensures loads_still { OnErr result (replay.new.loads.items ≡ replay.old.loads.items) }
     ensures threads_still { OnErr result (threads.new ≡ threads.old) }
-    ensures request_still { OnErr result (request.new ≡ request.old) }
     ensures commits_still { OnErr result (commits.new.items ≡ commits.old.items) }
 {
-    let LastPart {
-        thread,
-        state,
-        serial,
-        commit,
-    } = last;
     commits.reserve(1)?;
-    let asking = Asking {
-        actor: Actor::Thread(thread),
-        total: commit.size,
-        serial,
-    };
     let found = thread_at(threads, thread);
     threads.set(thread, state);
-    match replay
-        .player
-        .end_chunk(thread, &asking, threads, request, memory, served)
-    {
-        Ok(Verdict::Went) => {
+    match replay.player.end_chunk(thread, commit.size, threads) {
+        Verdict::Went => {
             commits.push_reserved(commit);
             replay.loads.clear();
             Ok(None)
         }
-        Ok(Verdict::Diverged(why)) => {
+        Verdict::Diverged(why) => {
             threads.set(thread, &found);
             Ok(Some(why))
-        }
-        Err(error) => {
-            threads.set(thread, &found);
-            Err(error)
         }
     }
 }

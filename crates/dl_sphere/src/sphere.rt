@@ -89,8 +89,6 @@ impl Sphere {
                 replay,
                 &mut self.commits,
                 &mut self.threads,
-                &mut self.request,
-                &self.memory,
                 thread,
                 chunk,
             )?;

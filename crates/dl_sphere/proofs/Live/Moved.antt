@@ -1,18 +1,19 @@
--- What the code makes of a serial step that real devices answer is what the definitions make of it.
-use Rattle.std.proofs.Common.{◌≡◌, ℕ, false, List, [], ◌∷◌, ◌++◌, Option, Some, None, refl, sym, ap, ◌∙◌, set}
+-- What the code makes of a chunk, and of a serial step and a DMA that real devices answer, is what the definitions make of it.
+use Rattle.std.proofs.Common.{◌≡◌, ℕ, Bool, false, List, [], ◌∷◌, ◌++◌, Option, Some, None, refl, sym, ap, ◌∙◌, set, append-nil}
 use Rattle.std.specs.Prelude.{slice_get}
 use Rattle.dl_entry.specs.declared.Commit.{Commit}
 use Rattle.dl_entry.specs.declared.Request.{Request}
 use Rattle.spec_isa.specs.declared.thread.Parts.{Parts}
+use Rattle.spec_isa.specs.Runs.{Run}
 use Rattle.spec_kernel.specs.Devices.{Devices}
 use Rattle.spec_kernel.specs.Needs.{need}
 use Rattle.spec_kernel.specs.Answers.{Taken, taken, dma_bytes, dma_taken}
 use Rattle.spec_kernel.specs.Copies.{dma_words}
 use Rattle.spec_kernel.specs.Serving.{StepResult, serve, console_written}
-use Rattle.spec_play.specs.Effects.{counted, dma_commit, serial_commit}
+use Rattle.spec_play.specs.Effects.{chunk_commit, counted, dma_commit, serial_commit}
 use Rattle.spec_play.specs.Recording.{noted, input_noted}
 use Rattle.spec_protocol.specs.Spheres as protocol
-use Rattle.spec_protocol.specs.Commits.{Granted, MovedSphere, dma_moved, serial_moved}
+use Rattle.spec_protocol.specs.Commits.{Granted, MovedSphere, chunk_moved, dma_moved, serial_moved}
 use Rattle.spec_protocol.proofs.Logs.Growing.{commits_if}
 use Rattle.dl_sphere.specs.Inside.{sphere_with}
 use Rattle.spec_play.specs.Noted.{as_log}
@@ -27,6 +28,33 @@ moved_by m ts cs k t g v role =
       sphere = sphere_with m (set ts k (counted v.thread) ++ v.made) (cs ++ serial_commit k v.loads v.outputs ∷ []) (Some k) v.request role;
       words = v.words;
       devices = console_written t m v.outputs g.devices;
+    }
+
+-- the chunk of thread k, which is a run
+abbrev pub chunk_by : List ℕ → List Parts → List Commit → (k : ℕ) → Option Request → Run → Devices → protocol.Role → MovedSphere
+chunk_by m ts cs k q r d role =
+    record {
+      outcome = Granted;
+      sphere = sphere_with m (set ts k (counted r.thread)) (cs ++ chunk_commit k r ∷ []) (Some k) q role;
+      words = r.words;
+      devices = d;
+    }
+
+-- it spawns no thread
+chunk_same : (m : List ℕ) (ts : List Parts) (cs : List Commit) (k : ℕ) (q : Option Request) (r : Run) (d : Devices) (role : protocol.Role)
+    → chunk_by m ts cs k q r d role
+    ≡ record {
+      outcome = Granted;
+      sphere = sphere_with m (set ts k (counted r.thread) ++ []) (cs ++ chunk_commit k r ∷ []) (Some k) q role;
+      words = r.words;
+      devices = d;
+    }
+chunk_same m ts cs k q r d role =
+    λ i. record {
+      outcome = Granted;
+      sphere = sphere_with m (sym (append-nil (set ts k (counted r.thread))) i) (cs ++ chunk_commit k r ∷ []) (Some k) q role;
+      words = r.words;
+      devices = d;
     }
 
 -- A plain or recorded sphere of this memory and these threads has done these commits, the last one of a thread being of the
@@ -46,6 +74,19 @@ module _ (m : List ℕ) (ts : List Parts) (cs : List Commit) (last : Option ℕ)
       let v = serve k ts q t m g.input in
       let c : Commit = serial_commit k v.loads v.outputs in
       ap (λ l. moved_by m ts cs k t g v (protocol.Record l)) (log_with r c false g.input ∙ ap (λ i. input_noted g.input (noted c i false (as_log r))) (h.done k ∙ ap commits_if start))
+
+  -- a chunk of the sphere moves it as the definitions do
+  pub chunk_is_moved : (s : ℕ) (x : Keeping) (q : Option Request) (k : ℕ) (t : Parts) (piece short : Bool) (r : Run)
+      → IsLive x → slice_get ts k ≡ Some t → r.thread.commits ≡ t.commits → IsKeepingOf s (sphere_with m ts cs last q (role_of x)) x
+      → chunk_by m ts cs k q r d (role_of (with_noted (chunk_commit k r) short None None x)) ≡ chunk_moved k piece short r d (sphere_with m ts cs last q (role_of x))
+  unfolding chunk_moved
+  chunk_is_moved s Plain q k t piece short r live start same h = chunk_same m ts cs k q r d protocol.Plain
+  chunk_is_moved s (Replaying p loads) q k t piece short r live start same h = absurd live
+  chunk_is_moved s (Recording p) q k t piece short r live start same h =
+      let c : Commit = chunk_commit k r in
+      ap (λ l. chunk_by m ts cs k q r d (protocol.Record l))
+      (log_with p c short None ∙ ap (λ i. noted c i short (as_log p)) (h.done k ∙ ap commits_if start ∙ sym same))
+      ∙ chunk_same m ts cs k q r d (protocol.Record (noted c r.thread.commits short (as_log p)))
 
   -- without a request it has no DMA
   pub none_moved : (x : Keeping) → IsLive x → dma_moved d (sphere_with m ts cs last None (role_of x)) ≡ None

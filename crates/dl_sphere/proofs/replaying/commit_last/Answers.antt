@@ -1,4 +1,4 @@
-use Rattle.std.proofs.Common.{◌≡◌, ◌+◌, ◌≤◌, sym, ap, arith}
+use Rattle.std.proofs.Common.{◌≡◌, ◌+◌, sym, ap}
 use Rattle.dl_entry.specs.declared.Commit.{Commit}
 use Rattle.spec_isa.specs.Runs.{Run}
 use Rattle.spec_play.specs.Effects.{chunk_commit}
@@ -7,20 +7,10 @@ use Rattle.spec_protocol.specs.Spheres.{Cursor}
 use Rattle.dl_replay.specs.Replaying.{cursor_of}
 use Rattle.dl_sphere.proofs.replaying.commit_last.Goals as goal
 
-pub end_chunk-requires-clause-some : goal.end_chunk-requires-clause-some
-end_chunk-requires-clause-some g c =
-    let r = c.args.replay.now in
-    let b : Cursor = cursor_of r.player r.loads.items in
-    let n = c.args.chunk.now.chunk.done.n in
-    let whole = c.in_ok-commit.ensures b (sym c.deref.ensures.value) (λ i. c.pieces.ensures i + c.n.ensures.value i) in
-    let size : c.in_ok-commit.commit.size ≡ b.total + n = ap (λ (x : Commit). x.size) whole in
-    let some : 1 ≤ b.total + n = c.requires.some in
-    omega arith
-
 pub returns-clause-judged : goal.returns-clause-judged
-returns-clause-judged g c p a q =
+returns-clause-judged g c p request a q =
     let r = c.args.replay.now in
     let b : Cursor = cursor_of r.player r.loads.items in
     let run : Run = joined b c.args.chunk.now.chunk.done in
     let whole : c.in_ok-commit.commit ≡ chunk_commit c.args.thread run = c.in_ok-commit.ensures b (sym c.deref.ensures.value) (λ i. c.pieces.ensures i + c.n.ensures.value i) in
-    c.end_chunk.ensures.judged p run a q (sym c.state.ensures) (sym (ap (λ (x : Commit). x.size) whole)) whole
+    c.end_chunk.ensures.judged p run request a q (sym c.state.ensures) (sym (ap (λ (x : Commit). x.size) whole)) whole

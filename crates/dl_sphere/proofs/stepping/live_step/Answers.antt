@@ -1,4 +1,4 @@
-use Rattle.std.proofs.Common.{◌≡◌, ◌≤◌, ◌∙◌, length, sym, ap, subst}
+use Rattle.std.proofs.Common.{◌≡◌, ◌≤◌, ◌∷◌, ◌++◌, [], ◌∙◌, false, length, None, sym, ap, subst}
 use Rattle.std.specs.Prelude.{IfSome}
 use Rattle.dl_entry.specs.declared.Commit.{Commit}
 use Rattle.spec_kernel.specs.Devices.{Devices}
@@ -6,8 +6,10 @@ use Rattle.spec_kernel.specs.Needs.{need}
 use Rattle.spec_kernel.specs.Answers.{taken}
 use Rattle.spec_kernel.specs.Serving.{StepResult, serve, console_written}
 use Rattle.spec_log.specs.Log.{IsInput}
+use Rattle.spec_play.specs.Effects.{serial_commit}
 use Rattle.dl_kernel.specs.StepResults.{result_in}
 use Rattle.dl_kernel.specs.Outside.{devices_left}
+use Rattle.dl_sphere.specs.Roles.{with_noted}
 use Rattle.dl_sphere.proofs.Live.Devices.{record_taken, devices_taken, input_taken, if_copied, few_bytes}
 use Rattle.dl_sphere.proofs.stepping.live_step.Goals as goal
 
@@ -28,6 +30,81 @@ note_reserved-requires-clause-input c =
     let is = c.as_ref-2.ensures.value ∙ c.in_ok-input.ensures.left ∙ record_taken c.args.moment d n in
     if_copied IsInput c.as_ref-2.result
     (subst (λ o. IfSome o IsInput) (sym is) (input_taken s.thread s.memory.now d c.args.moment c.requires.bytes c.requires.devices))
+
+pub returns-clause-thread : goal.returns-clause-thread
+returns-clause-thread c =
+    let s = c.args.step.now in
+    let d = c.args.devices.now in
+    let n = need s.thread s.memory.now in
+    let g = taken n d c.args.moment in
+    let is = c.as_ref.ensures.value ∙ c.in_ok-input.ensures.left ∙ record_taken c.args.moment d n in
+    let served : result_in c.in_ok-served.served ≡ serve s.number s.threads.now s.request s.thread s.memory.now g.input =
+    c.in_ok-served.ensures.served ∙ ap (λ o. serve s.number s.threads.now s.request s.thread s.memory.now o) is
+    in
+    ap (λ (v : StepResult). v.thread) served
+
+pub returns-clause-made : goal.returns-clause-made
+returns-clause-made c =
+    let s = c.args.step.now in
+    let d = c.args.devices.now in
+    let n = need s.thread s.memory.now in
+    let g = taken n d c.args.moment in
+    let is = c.as_ref.ensures.value ∙ c.in_ok-input.ensures.left ∙ record_taken c.args.moment d n in
+    let served : result_in c.in_ok-served.served ≡ serve s.number s.threads.now s.request s.thread s.memory.now g.input =
+    c.in_ok-served.ensures.served ∙ ap (λ o. serve s.number s.threads.now s.request s.thread s.memory.now o) is
+    in
+    ap (λ (v : StepResult). v.made) served
+
+pub returns-clause-request : goal.returns-clause-request
+returns-clause-request c =
+    let s = c.args.step.now in
+    let d = c.args.devices.now in
+    let n = need s.thread s.memory.now in
+    let g = taken n d c.args.moment in
+    let is = c.as_ref.ensures.value ∙ c.in_ok-input.ensures.left ∙ record_taken c.args.moment d n in
+    let served : result_in c.in_ok-served.served ≡ serve s.number s.threads.now s.request s.thread s.memory.now g.input =
+    c.in_ok-served.ensures.served ∙ ap (λ o. serve s.number s.threads.now s.request s.thread s.memory.now o) is
+    in
+    ap (λ (v : StepResult). v.request) served
+
+pub returns-clause-words : goal.returns-clause-words
+returns-clause-words c =
+    let s = c.args.step.now in
+    let d = c.args.devices.now in
+    let n = need s.thread s.memory.now in
+    let g = taken n d c.args.moment in
+    let is = c.as_ref.ensures.value ∙ c.in_ok-input.ensures.left ∙ record_taken c.args.moment d n in
+    let served : result_in c.in_ok-served.served ≡ serve s.number s.threads.now s.request s.thread s.memory.now g.input =
+    c.in_ok-served.ensures.served ∙ ap (λ o. serve s.number s.threads.now s.request s.thread s.memory.now o) is
+    in
+    ap (λ (v : StepResult). v.words) served
+
+pub returns-clause-commits : goal.returns-clause-commits
+returns-clause-commits c =
+    let s = c.args.step.now in
+    let d = c.args.devices.now in
+    let n = need s.thread s.memory.now in
+    let g = taken n d c.args.moment in
+    let is = c.as_ref.ensures.value ∙ c.in_ok-input.ensures.left ∙ record_taken c.args.moment d n in
+    let served : result_in c.in_ok-served.served ≡ serve s.number s.threads.now s.request s.thread s.memory.now g.input =
+    c.in_ok-served.ensures.served ∙ ap (λ o. serve s.number s.threads.now s.request s.thread s.memory.now o) is
+    in
+    let commit = c.serial_commit-commit.ensures ∙ ap (λ (v : StepResult). serial_commit s.number v.loads v.outputs) served in
+    c.push_reserved.ensures.items ∙ (λ i. c.in_ok-reserve.ensures.items i ++ commit i ∷ [])
+
+pub returns-clause-noted : goal.returns-clause-noted
+returns-clause-noted c =
+    let s = c.args.step.now in
+    let d = c.args.devices.now in
+    let n = need s.thread s.memory.now in
+    let g = taken n d c.args.moment in
+    let is = c.as_ref.ensures.value ∙ c.in_ok-input.ensures.left ∙ record_taken c.args.moment d n in
+    let served : result_in c.in_ok-served.served ≡ serve s.number s.threads.now s.request s.thread s.memory.now g.input =
+    c.in_ok-served.ensures.served ∙ ap (λ o. serve s.number s.threads.now s.request s.thread s.memory.now o) is
+    in
+    let commit = c.serial_commit-commit.ensures ∙ ap (λ (v : StepResult). serial_commit s.number v.loads v.outputs) served in
+    let input = c.as_ref-2.ensures.value ∙ c.in_ok-input.ensures.left ∙ record_taken c.args.moment d n in
+    c.note_reserved.ensures ∙ (λ i. with_noted (commit i) false (input i) None (c.in_ok-reserve-2.ensures.same i))
 
 pub returns-clause-devices : goal.returns-clause-devices
 returns-clause-devices c =

@@ -1,8 +1,10 @@
-use Rattle.std.proofs.Common.{◌≡◌, sym, ◌∙◌, ap, subst}
+use Rattle.std.proofs.Common.{◌≡◌, ◌≤◌, sym, ◌∙◌, ap, subst}
+use Rattle.std.specs.Prelude.{slice_index}
+use Rattle.dl_entry.specs.declared.Counts.{Counts}
 use Rattle.spec_protocol.specs.World.{World}
 use Rattle.spec_protocol.specs.Machine.{happens}
 use Rattle.dl_machine.specs.Ready.{IsReady}
-use Rattle.dl_machine.proofs.Worlds.Events.{world_left, ready_after}
+use Rattle.dl_machine.proofs.Worlds.Events.{act_counts, happens_reply, ready_after, replies_few, world_left}
 use Rattle.dl_machine.proofs.Worlds.Promised.{run_more}
 use Rattle.dl_machine.proofs.machine.Machine.apply.Goals as goal
 
@@ -16,3 +18,17 @@ returns-clause-run g c =
     let left = world_left _ c.args.event c.in_ok-reply.reply c.act.new.self c.count.new.self c.in_ok-reply.ensures.reply c.in_ok-reply.ensures.world c.count.ensures in
     let world : c.count.new.self ≡ (happens c.args.self.now c.args.event).world = left ∙ ap (λ (w : World). (happens w c.args.event).world) c.self.view_is in
     λ s es run. run_more s es c.args.event c.args.self.now c.count.new.self world run
+
+pub count-requires-clause-replies : goal.count-requires-clause-replies
+count-requires-clause-replies g c k =
+    let same : c.act.new.self.counts ≡ c.self.inside.state.counts = ap (λ (w : World). w.counts) c.in_ok-reply.ensures.world ∙ act_counts _ c.args.event in
+    subst (λ (n : Counts). slice_index n.replies k ≤ n.events) (sym same) (replies_few _ c.self.invariant k)
+
+pub returns-clause-done : goal.returns-clause-done
+returns-clause-done g c =
+    c.in_ok-reply.ensures.reply ∙ sym (happens_reply _ c.args.event) ∙ ap (λ (w : World). (happens w c.args.event).reply) c.self.view_is
+
+pub returns-clause-world : goal.returns-clause-world
+returns-clause-world g c =
+    let left = world_left _ c.args.event c.in_ok-reply.reply c.act.new.self c.count.new.self c.in_ok-reply.ensures.reply c.in_ok-reply.ensures.world c.count.ensures in
+    left ∙ ap (λ (w : World). (happens w c.args.event).world) c.self.view_is

@@ -1,18 +1,20 @@
-use Rattle.std.proofs.Common.{◌≡◌, [], ◌∷◌, ◌++◌, ◌<◌, false, length, None, Some, refl, sym, ap, ◌∙◌, subst}
+use Rattle.std.proofs.Common.{◌≡◌, [], ◌∷◌, ◌++◌, ◌<◌, false, List, length, None, Some, refl, sym, ap, ◌∙◌, subst}
 use Rattle.std.specs.Prelude.{option_map}
 use Rattle.dl_entry.specs.declared.CommitKind.{CommitKind}
+use Rattle.dl_entry.specs.declared.Point.{Point}
 use Rattle.spec_engine.specs.Flights.{at}
+use Rattle.spec_protocol.specs.declared.reply.Reply.{Reply}
 use Rattle.spec_protocol.specs.Spheres.{Sphere, head_of, is_stopped}
 use Rattle.spec_protocol.specs.Commits.{MovedSphere}
-use Rattle.spec_protocol.specs.World.{World, sphere_at}
+use Rattle.spec_protocol.specs.World.{After, World, sphere_at}
 use Rattle.spec_protocol.specs.Asking.{asks_serial, grant_chunk, is_short, other_turn}
 use Rattle.dl_sphere.specs.declared.moved.Moved.{Moved}
 use Rattle.dl_sphere.specs.declared.moved.Moved.TheVariants as moved_as
 use Rattle.dl_sphere.specs.Moving.{came}
-use Rattle.dl_machine.specs.Cores.{seen}
+use Rattle.dl_machine.specs.Cores.{seen, writes_in}
 use Rattle.dl_machine.specs.Ready.{HasRoom, IsReady}
 use Rattle.dl_machine.specs.Requests.{closed_by}
-use Rattle.dl_machine.specs.Rows.{nth_sphere}
+use Rattle.dl_machine.specs.Rows.{Spheres, nth_sphere, with_nth}
 use Rattle.dl_machine.specs.States.{left, world_in}
 use Rattle.dl_machine.proofs.Commits.Able.{can_commit, few_commits}
 use Rattle.dl_machine.proofs.Commits.Granted.{point_in, moved_by, grant_done, held_after, closed_is, chunk_after}
@@ -38,6 +40,24 @@ commit_chunk-requires-clause-few g c =
     few_commits _ c.args.held.sphere (subst IsReady view c.requires.ready) (subst HasRoom view c.requires.room) (subst (λ (u : World). c.args.held.sphere < length u.spheres) view c.requires.good.sphere)
     (subst (λ (u : World). is_stopped (sphere_at u c.args.held.sphere).role ≡ false) view c.requires.going)
 
+pub returns-in-Granted-clause-reply : goal.returns-in-Granted-clause-reply
+returns-in-Granted-clause-reply g c =
+    let x = c.self.inside in
+    let w : World = world_in x.cores x.spheres x.flights x.devices x.counts x.points.items in
+    let view : w ≡ c.args.self.now = c.self.view_is in
+    let core = c.args.core in
+    let how = c.args.how in
+    let ch = c.chunk-chunk.result.now.chunk in
+    let p : Sphere = nth_sphere c.args.held.sphere c.commit_chunk.new.self in
+    let v : MovedSphere = came (moved_as.Granted c.in-Granted.words) p x.devices in
+    let held : option_map seen (at w.cores core) ≡ Some c.args.held = subst (λ (u : World). option_map seen (at u.cores core) ≡ Some c.args.held) (sym view) c.requires.held in
+    let closed : option_map closed_by (at w.cores core) ≡ Some (Some how) = subst (λ (u : World). option_map closed_by (at u.cores core) ≡ Some (Some how)) (sym view) c.requires.closed in
+    let shut : ch.closed ≡ Some how = closed_is (at w.cores core) ch how closed c.chunk-chunk.ensures in
+    let moved : v ≡ moved_by w c.args.held how ch = subst (λ (m : Moved). came m p x.devices ≡ moved_by w c.args.held how ch) c.in-Granted.is (c.in_ok-moved.ensures.ok x.devices how shut) in
+    let after = chunk_after w core how (at w.cores core) c.args.held ch (writes_in w.numbers.signature (at w.cores core)) v held c.chunk-chunk.ensures refl moved in
+    subst (λ (u : World). Some Reply.Granted ≡ option_map (λ h. (grant_chunk u core h how).reply) (at u.cores core)) view
+    (held_after (λ (a : After). a.reply) (λ h. grant_chunk w core h how) (at w.cores core) _ after)
+
 pub returns-in-Granted-clause-world : goal.returns-in-Granted-clause-world
 returns-in-Granted-clause-world g c =
     let x = c.self.inside in
@@ -58,6 +78,24 @@ returns-in-Granted-clause-world g c =
     subst (λ (u : World). Some c.go_on.new.self ≡ option_map (λ h. left (grant_chunk u core h how)) (at u.cores core)) view
     (ap (λ (u : World). Some u) (c.go_on.ensures ∙ done) ∙ held_after left (λ h. grant_chunk w core h how) (at w.cores core) _ after)
 
+pub returns-in-Piece-clause-reply : goal.returns-in-Piece-clause-reply
+returns-in-Piece-clause-reply g c =
+    let x = c.self.inside in
+    let w : World = world_in x.cores x.spheres x.flights x.devices x.counts x.points.items in
+    let view : w ≡ c.args.self.now = c.self.view_is in
+    let core = c.args.core in
+    let how = c.args.how in
+    let ch = c.chunk-chunk.result.now.chunk in
+    let p : Sphere = nth_sphere c.args.held.sphere c.commit_chunk.new.self in
+    let v : MovedSphere = came (moved_as.Piece c.in-Piece.words) p x.devices in
+    let held : option_map seen (at w.cores core) ≡ Some c.args.held = subst (λ (u : World). option_map seen (at u.cores core) ≡ Some c.args.held) (sym view) c.requires.held in
+    let closed : option_map closed_by (at w.cores core) ≡ Some (Some how) = subst (λ (u : World). option_map closed_by (at u.cores core) ≡ Some (Some how)) (sym view) c.requires.closed in
+    let shut : ch.closed ≡ Some how = closed_is (at w.cores core) ch how closed c.chunk-chunk.ensures in
+    let moved : v ≡ moved_by w c.args.held how ch = subst (λ (m : Moved). came m p x.devices ≡ moved_by w c.args.held how ch) c.in-Piece.is (c.in_ok-moved.ensures.ok x.devices how shut) in
+    let after = chunk_after w core how (at w.cores core) c.args.held ch (writes_in w.numbers.signature (at w.cores core)) v held c.chunk-chunk.ensures refl moved in
+    subst (λ (u : World). Some Reply.Piece ≡ option_map (λ h. (grant_chunk u core h how).reply) (at u.cores core)) view
+    (held_after (λ (a : After). a.reply) (λ h. grant_chunk w core h how) (at w.cores core) _ after)
+
 pub returns-in-Piece-clause-world : goal.returns-in-Piece-clause-world
 returns-in-Piece-clause-world g c =
     let x = c.self.inside in
@@ -77,3 +115,43 @@ returns-in-Piece-clause-world g c =
     let done = grant_done x.cores x.spheres x.flights x.devices x.counts x.points.items core c.args.held c.commit_chunk.new.self c.in-Piece.words.words _ _ _ c.hand_over-writes-in-Piece.new.self c.hand_over-writes-in-Piece.ensures.core c.in_ok-moved.ensures.others point in
     subst (λ (u : World). Some c.go_on-in-Piece.new.self ≡ option_map (λ h. left (grant_chunk u core h how)) (at u.cores core)) view
     (ap (λ (u : World). Some u) (c.go_on-in-Piece.ensures ∙ done) ∙ held_after left (λ h. grant_chunk w core h how) (at w.cores core) _ after)
+
+pub returns-in-Diverged-clause-reply : goal.returns-in-Diverged-clause-reply
+returns-in-Diverged-clause-reply g c =
+    let x = c.self.inside in
+    let w : World = world_in x.cores x.spheres x.flights x.devices x.counts x.points.items in
+    let view : w ≡ c.args.self.now = c.self.view_is in
+    let core = c.args.core in
+    let how = c.args.how in
+    let ch = c.chunk-chunk.result.now.chunk in
+    let p : Sphere = nth_sphere c.args.held.sphere c.commit_chunk.new.self in
+    let v : MovedSphere = came (moved_as.Diverged c.in-Diverged.commits c.in-Diverged.why) p x.devices in
+    let held : option_map seen (at w.cores core) ≡ Some c.args.held = subst (λ (u : World). option_map seen (at u.cores core) ≡ Some c.args.held) (sym view) c.requires.held in
+    let closed : option_map closed_by (at w.cores core) ≡ Some (Some how) = subst (λ (u : World). option_map closed_by (at u.cores core) ≡ Some (Some how)) (sym view) c.requires.closed in
+    let shut : ch.closed ≡ Some how = closed_is (at w.cores core) ch how closed c.chunk-chunk.ensures in
+    let moved : v ≡ moved_by w c.args.held how ch = subst (λ (m : Moved). came m p x.devices ≡ moved_by w c.args.held how ch) c.in-Diverged.is (c.in_ok-moved.ensures.ok x.devices how shut) in
+    let after = chunk_after w core how (at w.cores core) c.args.held ch (writes_in w.numbers.signature (at w.cores core)) v held c.chunk-chunk.ensures refl moved in
+    subst (λ (u : World). Some (Reply.Diverged c.in-Diverged.commits c.in-Diverged.why) ≡ option_map (λ h. (grant_chunk u core h how).reply) (at u.cores core)) view
+    (held_after (λ (a : After). a.reply) (λ h. grant_chunk w core h how) (at w.cores core) _ after)
+
+pub returns-in-Diverged-clause-world : goal.returns-in-Diverged-clause-world
+returns-in-Diverged-clause-world g c =
+    let x = c.self.inside in
+    let w : World = world_in x.cores x.spheres x.flights x.devices x.counts x.points.items in
+    let view : w ≡ c.args.self.now = c.self.view_is in
+    let core = c.args.core in
+    let how = c.args.how in
+    let ch = c.chunk-chunk.result.now.chunk in
+    let p : Sphere = nth_sphere c.args.held.sphere c.commit_chunk.new.self in
+    let v : MovedSphere = came (moved_as.Diverged c.in-Diverged.commits c.in-Diverged.why) p x.devices in
+    let held : option_map seen (at w.cores core) ≡ Some c.args.held = subst (λ (u : World). option_map seen (at u.cores core) ≡ Some c.args.held) (sym view) c.requires.held in
+    let closed : option_map closed_by (at w.cores core) ≡ Some (Some how) = subst (λ (u : World). option_map closed_by (at u.cores core) ≡ Some (Some how)) (sym view) c.requires.closed in
+    let shut : ch.closed ≡ Some how = closed_is (at w.cores core) ch how closed c.chunk-chunk.ensures in
+    let moved : v ≡ moved_by w c.args.held how ch = subst (λ (m : Moved). came m p x.devices ≡ moved_by w c.args.held how ch) c.in-Diverged.is (c.in_ok-moved.ensures.ok x.devices how shut) in
+    let after = chunk_after w core how (at w.cores core) c.args.held ch (writes_in w.numbers.signature (at w.cores core)) v held c.chunk-chunk.ensures refl moved in
+    let world : world_in x.cores c.commit_chunk.new.self x.flights x.devices x.counts c.reserve.new.self.items ≡ world_in x.cores (with_nth c.args.held.sphere p x.spheres) x.flights x.devices x.counts x.points.items =
+    ap (λ (s : Spheres). world_in x.cores s x.flights x.devices x.counts c.reserve.new.self.items) c.in_ok-moved.ensures.others
+    ∙ ap (λ (ps : List Point). world_in x.cores (with_nth c.args.held.sphere p x.spheres) x.flights x.devices x.counts ps) c.reserve.ensures.items
+    in
+    subst (λ (u : World). Some (world_in x.cores c.commit_chunk.new.self x.flights x.devices x.counts c.reserve.new.self.items) ≡ option_map (λ h. left (grant_chunk u core h how)) (at u.cores core)) view
+    (ap (λ (u : World). Some u) world ∙ held_after left (λ h. grant_chunk w core h how) (at w.cores core) _ after)

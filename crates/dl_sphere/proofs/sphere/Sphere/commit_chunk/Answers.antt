@@ -1,23 +1,24 @@
-use Rattle.std.proofs.Common.{◌≡◌, ◌+◌, ◌^◌, ◌<◌, ◌≤◌, Bool, false, [], length, Some, None, sym, ap, ◌∙◌, subst, refl, set, length-set, append-nil, arith}
+use Rattle.std.proofs.Common.{◌≡◌, ◌+◌, ◌^◌, ◌<◌, ◌≤◌, ◌∷◌, ◌++◌, Bool, false, [], length, Some, None, sym, ap, ◌∙◌, subst, refl, set, length-set, append-nil, arith}
 use Rattle.std.specs.Prelude.{slice_get}
 use Rattle.std.proofs.lemmas.Option.{slice_get_within}
 use Rattle.spec_isa.specs.declared.thread.Parts.{Parts}
 use Rattle.dl_entry.specs.declared.Commit.{Commit}
 use Rattle.spec_log.specs.Log.{IsLog}
-use Rattle.spec_play.specs.Effects.{Effect}
+use Rattle.spec_play.specs.Effects.{Effect, chunk_commit, counted}
 use Rattle.spec_play.specs.Progress.{Used}
 use Rattle.spec_play.specs.Verdicts.{Goes, chunk_verdict}
 use Rattle.spec_protocol.specs.Asking.{is_short}
-use Rattle.spec_protocol.specs.Commits.{Diverged, is_piece, joined, chunk_moved}
+use Rattle.spec_protocol.specs.Commits.{Diverged, Granted, is_piece, joined, chunk_moved}
 use Rattle.spec_protocol.specs.Spheres.{Cursor, Replay, Sphere}
 use Rattle.dl_replay.specs.Replaying.{Replaying, commits_of, cursor_of}
 use Rattle.dl_replay.proofs.PutBack.{same_commits}
 use Rattle.dl_sphere.specs.declared.part.Part.{Part}
 use Rattle.dl_sphere.specs.Moving.{IsPart, IsPartIn}
 use Rattle.spec_protocol.proofs.Logs.Growing.{pushed_length}
-use Rattle.dl_sphere.specs.Roles.{keeping_of, role_in, IsReplayed, IsSphere}
+use Rattle.dl_sphere.specs.Roles.{keeping_of, role_in, role_of, with_noted, IsReplayed, IsSphere}
 use Rattle.dl_sphere.specs.Inside.{sphere_in, sphere_with}
 use Rattle.dl_sphere.specs.SizedSpheres.{SizedSphere}
+use Rattle.dl_sphere.proofs.Live.Moved.{chunk_is_moved}
 use Rattle.dl_sphere.proofs.Standing.Moves.{Commits, commits_stand}
 use Rattle.dl_sphere.proofs.Replays.Moved.{granted, left, left_commits, stands_granted, stands_left}
 use Rattle.dl_sphere.proofs.Replays.Judging.{chunk_words}
@@ -56,6 +57,37 @@ invariant_of-self-2 g c =
     in
     subst (IsSphere a.standard q) (sym c.in_ok-keep.ensures.noted)
     (commits_stand (sphere_in a) q k t u [] commit d a.standard c.is_short-short.result None (keeping_of a.part) (live_part a.part c.in_default.not-Replayed) h)
+
+pub returns-clause-ok : goal.returns-clause-ok
+returns-clause-ok g c d =
+    let a = c.self.inside in
+    let k = c.args.thread in
+    let how = g.how in
+    let ch = c.args.chunk.now.chunk in
+    let run = ch.done in
+    let t = c.thread_at-after.result in
+    let start : slice_get c.args.self.now.sphere.threads k ≡ Some t =
+    sym (ap (λ (v : SizedSphere). slice_get v.sphere.threads k) c.self.view_is) ∙ c.thread_at-after.ensures.thread
+    in
+    let threads : c.set.new.self ≡ set a.threads k (counted run.thread) =
+    c.set.ensures ∙ ap (set a.threads k) (c.counted-after.ensures ∙ ap counted c.state.ensures)
+    in
+    let commits : c.keep.new.commits.items ≡ a.commits.items ++ chunk_commit k run ∷ [] =
+    c.in_ok-keep.ensures.commits ∙ ap (λ (x : Commit). a.commits.items ++ x ∷ []) c.in_ok-commit.ensures
+    in
+    let noted : keeping_of c.keep.new.part ≡ with_noted (chunk_commit k run) c.is_short-short.result None None (keeping_of a.part) =
+    c.in_ok-keep.ensures.noted ∙ ap (λ (x : Commit). with_noted x c.is_short-short.result None None (keeping_of a.part)) c.in_ok-commit.ensures
+    in
+    (λ i. record {
+      outcome = Granted;
+      sphere = sphere_with a.memory (threads i) (commits i) (Some k) a.request (role_of (noted i));
+      words = (c.in_ok-words.ensures ∙ c.words.ensures.words) i;
+      devices = d;
+    })
+    ∙ chunk_is_moved a.memory a.threads a.commits.items a.last d a.standard (keeping_of a.part) a.request k t (is_piece how) c.is_short-short.result run
+    (live_part a.part c.in_default.not-Replayed) c.thread_at-after.ensures.thread (c.requires.1.1.0.commits t start) c.self.invariant.kept
+    ∙ ap (λ (x : Bool). chunk_moved k (is_piece how) x run d (sphere_in a)) (c.is_short-short.ensures how c.requires.1.1.0.closed)
+    ∙ ap (λ (x : SizedSphere). chunk_moved k (is_piece how) (is_short x.standard how ch.limit) run d x.sphere) c.self.view_is
 
 pub invariant_of-self-then-is_piece : goal.invariant_of-self-then-is_piece
 invariant_of-self-then-is_piece g c =
@@ -109,9 +141,9 @@ invariant_of-self-in-Some g c =
     let r = c.in-Replayed.replay in
     let b : Cursor = cursor_of r.player r.loads.items in
     let kept : IsReplayed (sphere_in a) r.player = replayed a r c.in-Replayed.is c.self.invariant in
-    let said = rw c.in-Some.is at (c.in_ok-left.ensures.judged (sphere_in a).progress kept.agrees refl) in
+    let said = rw c.in-Some.is at (c.in_ok-left.ensures.judged (sphere_in a).progress a.request kept.agrees refl) in
     let n = c.commit_last.new in
-    stands_left (sphere_in a) r.player r.loads.items n.replay.player n.replay.loads.items n.threads n.request n.commits.items a.standard k
+    stands_left (sphere_in a) r.player r.loads.items n.replay.player n.replay.loads.items n.threads a.request n.commits.items a.standard k
     (chunk_verdict b.log (sphere_in a).progress b.used k (joined b c.args.chunk.now.chunk.done)) c.in-Some.why said
     (stands_replayed a r c.in-Replayed.is c.self.invariant)
 
@@ -122,9 +154,9 @@ invariant_of-self-in-Replayed g c =
     let r = c.in-Replayed.replay in
     let b : Cursor = cursor_of r.player r.loads.items in
     let kept : IsReplayed (sphere_in a) r.player = replayed a r c.in-Replayed.is c.self.invariant in
-    let said = rw c.in_default-left.is at (c.in_ok-left.ensures.judged (sphere_in a).progress kept.agrees refl) in
+    let said = rw c.in_default-left.is at (c.in_ok-left.ensures.judged (sphere_in a).progress a.request kept.agrees refl) in
     let n = c.commit_last.new in
-    stands_granted (sphere_in a) r.player r.loads.items n.replay.player n.replay.loads.items n.threads n.request n.commits.items a.standard k
+    stands_granted (sphere_in a) r.player r.loads.items n.replay.player n.replay.loads.items n.threads a.request n.commits.items a.standard k
     (chunk_verdict b.log (sphere_in a).progress b.used k (joined b c.args.chunk.now.chunk.done))
     (subst (λ x. x ≤ 15) c.len.ensures.value c.len.ensures.few) said (stands_replayed a r c.in-Replayed.is c.self.invariant)
 
@@ -140,7 +172,7 @@ returns-in-Replayed-clause-ok g c d =
     let b : Cursor = cursor_of r.player r.loads.items in
     let p = (sphere_in a).progress in
     let kept : IsReplayed (sphere_in a) r.player = replayed a r c.in-Replayed.is c.self.invariant in
-    let said = rw c.in_default-left.is at (c.in_ok-left.ensures.judged p kept.agrees refl) in
+    let said = rw c.in_default-left.is at (c.in_ok-left.ensures.judged p a.request kept.agrees refl) in
     let n = c.commit_last.new in
     let v = chunk_verdict b.log p b.used k (joined b run) in
     let words : (e : Effect) (u : Used) → v ≡ Goes e u → e.words ≡ c.in_ok-words.words.words =
@@ -148,7 +180,7 @@ returns-in-Replayed-clause-ok g c d =
     in
     let short : Bool = is_short a.standard how ch.limit in
     let whole : false ≡ is_piece how = sym c.if-is_piece.false ∙ c.is_piece.ensures how c.requires.1.1.0.closed in
-    granted (sphere_in a) r.player r.loads.items n.replay.player n.replay.loads.items n.threads n.request n.commits.items k v d c.in_ok-words.words.words words said
+    granted (sphere_in a) r.player r.loads.items n.replay.player n.replay.loads.items n.threads a.request n.commits.items k v d c.in_ok-words.words.words words said
     ∙ ap (λ (x : Bool). chunk_moved k x short run d (sphere_with a.memory a.threads a.commits.items a.last a.request (Replay b))) whole
     ∙ ap (λ (x : Part). chunk_moved k (is_piece how) short run d (sphere_with a.memory a.threads a.commits.items a.last a.request (role_in x))) (sym c.in-Replayed.is)
     ∙ ap (λ (x : SizedSphere). chunk_moved k (is_piece how) (is_short x.standard how ch.limit) run d x.sphere) c.self.view_is
@@ -161,10 +193,10 @@ count-requires g c =
     let b : Cursor = cursor_of r.player r.loads.items in
     let p = (sphere_in a).progress in
     let kept : IsReplayed (sphere_in a) r.player = replayed a r c.in-Replayed.is c.self.invariant in
-    let said = rw c.in-Some.is at (c.in_ok-left.ensures.judged p kept.agrees refl) in
+    let said = rw c.in-Some.is at (c.in_ok-left.ensures.judged p a.request kept.agrees refl) in
     let n = c.commit_last.new in
     let v = chunk_verdict b.log p b.used k (joined b c.args.chunk.now.chunk.done) in
-    let same : length n.commits.items ≡ length a.commits.items = left_commits (sphere_in a) r.player r.loads.items n.replay.player n.replay.loads.items n.threads n.request n.commits.items k v c.in-Some.why said in
+    let same : length n.commits.items ≡ length a.commits.items = left_commits (sphere_in a) r.player r.loads.items n.replay.player n.replay.loads.items n.threads a.request n.commits.items k v c.in-Some.why said in
     let few : length a.commits.items < 2 ^ 24 =
     subst (λ n. n < 2 ^ 24) (sym (ap (λ (s : SizedSphere). length s.sphere.progress.commits) c.self.view_is)) c.requires.1.1.1.0
     in
@@ -180,7 +212,7 @@ returns-in-Some-clause-ok g c d =
     let b : Cursor = cursor_of r.player r.loads.items in
     let p = (sphere_in a).progress in
     let kept : IsReplayed (sphere_in a) r.player = replayed a r c.in-Replayed.is c.self.invariant in
-    let said = rw c.in-Some.is at (c.in_ok-left.ensures.judged p kept.agrees refl) in
+    let said = rw c.in-Some.is at (c.in_ok-left.ensures.judged p a.request kept.agrees refl) in
     let n = c.commit_last.new in
     let how = g.how in
     let ch = c.args.chunk.now.chunk in
@@ -189,8 +221,8 @@ returns-in-Some-clause-ok g c d =
     let short : Bool = is_short a.standard how ch.limit in
     let whole : false ≡ is_piece how = sym c.if-is_piece.false ∙ c.is_piece.ensures how c.requires.1.1.0.closed in
     let len : c.count.result ≡ length n.commits.items = c.count.ensures ∙ ap length c.deref.ensures.value in
-    ap (λ m. record { outcome = Diverged m c.in-Some.why; sphere = sphere_with a.memory n.threads n.commits.items a.last n.request (Replay (cursor_of n.replay.player n.replay.loads.items)); words = []; devices = d }) len
-    ∙ left (sphere_in a) r.player r.loads.items n.replay.player n.replay.loads.items n.threads n.request n.commits.items k v d c.in-Some.why kept.agrees.done said
+    ap (λ m. record { outcome = Diverged m c.in-Some.why; sphere = sphere_with a.memory n.threads n.commits.items a.last a.request (Replay (cursor_of n.replay.player n.replay.loads.items)); words = []; devices = d }) len
+    ∙ left (sphere_in a) r.player r.loads.items n.replay.player n.replay.loads.items n.threads a.request n.commits.items k v d c.in-Some.why kept.agrees.done said
     ∙ ap (λ (x : Bool). chunk_moved k x short run d (sphere_with a.memory a.threads a.commits.items a.last a.request (Replay b))) whole
     ∙ ap (λ (x : Part). chunk_moved k (is_piece how) short run d (sphere_with a.memory a.threads a.commits.items a.last a.request (role_in x))) (sym c.in-Replayed.is)
     ∙ ap (λ (x : SizedSphere). chunk_moved k (is_piece how) (is_short x.standard how ch.limit) run d x.sphere) c.self.view_is
