@@ -3,6 +3,7 @@ mod Lookups
 mod Counts
 mod Turns
 mod Verdicts
+mod Lists
 mod Limits
 mod Advancing
 pub mod PutBack

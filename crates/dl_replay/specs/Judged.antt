@@ -1,5 +1,6 @@
 -- What a log's verdict makes of a replay, and of what its sphere hands in.
-use Rattle.std.specs.Prelude.{◌≡◌, ℕ, ◌+◌, ◌≤◌, List, ◌++◌, slice_set, Option, Some, None}
+use Rattle.std.specs.Prelude.{◌≡◌, ℕ, ◌+◌, ◌<◌, ◌≤◌, Bool, ◌&&◌, nat_eq, List, ◌++◌, length, slice_set, Option, Some, None}
+use Rattle.dl_entry.specs.declared.Actor.{Actor}
 use Rattle.dl_entry.specs.declared.End.{End}
 use Rattle.dl_entry.specs.declared.Request.{Request}
 use Rattle.dl_entry.specs.declared.Why.{Why}
@@ -11,9 +12,10 @@ use Rattle.spec_play.specs.Turns.{Over, now_at}
 use Rattle.spec_play.specs.Verdicts as log
 use Rattle.spec_play.specs.Transfers.{DmaVerdict, DmaGoes, DmaFails}
 use Rattle.spec_play.specs.Plays.{with_threads}
-use Rattle.dl_replay.specs.declared.verdict.Verdict.{Verdict}
+use Rattle.dl_replay.specs.declared.served.Served.{Served}
+use Rattle.dl_replay.specs.declared.asking.Asking.{Asking}
+use Rattle.dl_replay.specs.declared.asking.Verdict.{Verdict}
 use Rattle.dl_replay.specs.Replaying.{Replaying, commits_of}
-use Rattle.dl_replay.specs.Served.{Served}
 
 -- the answer, the replay, and of the sphere its threads, its outstanding DMA request and what its commit serves
 pub record Judged : Type 0 where
@@ -22,6 +24,17 @@ pub record Judged : Type 0 where
   pub threads : List Parts
   pub request : Option Request
   pub served : Served
+
+-- ---- requests
+
+-- a thread that has run nothing before a serial instruction asks for a serial step, and else for a chunk
+abbrev pub is_serial_step : Asking → Bool
+is_serial_step asking = asking.serial && nat_eq asking.total 0
+
+-- the thread is one of these
+abbrev pub IsAmong : Actor → List Parts → Type 0
+IsAmong (Actor.Thread thread) threads = thread < length threads
+IsAmong Actor.Dma threads = Unit {0}
 
 -- the request's buffer, with the word before its bytes, ends in a memory of that size
 abbrev pub IsInside : (size : ℕ) → Option Request → Type 0

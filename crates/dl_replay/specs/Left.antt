@@ -6,8 +6,8 @@ use Rattle.spec_play.specs.Transfers.{DmaVerdict, DmaGoes, DmaFails}
 use Rattle.dl_entry.specs.declared.Why.{Why}
 use Rattle.dl_wbuf.specs.Buffers.{Words}
 use Rattle.dl_kernel.specs.declared.serving.StepResult.{StepResult}
-use Rattle.dl_replay.specs.declared.verdict.Verdict.{Verdict}
-use Rattle.dl_replay.specs.Served.{Served}
+use Rattle.dl_replay.specs.declared.served.Served.{Served}
+use Rattle.dl_replay.specs.declared.asking.Verdict.{Verdict}
 
 abbrev pub nothing_served : Served
 nothing_served = record { words = []; loads = []; outputs = [] }

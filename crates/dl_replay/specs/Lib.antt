@@ -3,6 +3,5 @@ pub mod Lists
 pub mod Judging
 pub mod Replaying
 pub mod Replays
-pub mod Served
 pub mod Judged
 pub mod Left

@@ -1,5 +1,6 @@
 -- How a replay stands: its log, how far it is in it, and of its sphere's progress what the log asks for.
 use Rattle.std.specs.Prelude.{◌≡◌, ℕ, ◌-◌, Bool, false, List, [], ◌∷◌, ◌++◌, length, map, replicate, Option, Some, None}
+use Rattle.dl_entry.specs.declared.Actor.{Actor}
 use Rattle.dl_entry.specs.declared.End.{End}
 use Rattle.spec_isa.specs.declared.thread.Parts.{Parts}
 use Rattle.spec_isa.specs.declared.thread.Load.{Load}
@@ -62,3 +63,8 @@ abbrev pub end_of : Now → Option End
 end_of (Turn thread) = None
 end_of TurnOfDma = None
 end_of (Over how) = Some how
+
+-- it is this actor's turn
+abbrev pub IsTurnOf : Actor → Now → Type 0
+IsTurnOf (Actor.Thread thread) now = now ≡ Turn thread
+IsTurnOf Actor.Dma now = now ≡ TurnOfDma

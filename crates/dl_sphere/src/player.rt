@@ -10,7 +10,7 @@ ghost use Rattle.spec_play.specs.Transfers.{dma_verdict};
 ghost use Rattle.spec_play.specs.Verdicts.{chunk_verdict, serial_verdict};
 ghost use Rattle.spec_protocol.specs.Spheres.{Replay, actor_of, limit_in, limit_of};
 ghost use Rattle.dl_replay.specs.Judged.{HasRun, IsInside, chunk_judged, dma_judged, serial_judged};
-ghost use Rattle.dl_replay.specs.Served.{Served};
+ghost use Rattle.dl_replay.specs.declared.served.Served.{Served};
 ghost use Rattle.dl_replay.specs.Judging.{transfer_verdict};
 ghost use Rattle.dl_replay.specs.Left.{SaysSize, nothing_served, served_left, served_stored, verdict_left, verdict_stored};
 ghost use Rattle.dl_replay.specs.Replaying.{Agrees, replay_start, commits_of, cursor_of, end_of};

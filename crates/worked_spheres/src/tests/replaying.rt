@@ -5,7 +5,7 @@ use dl_entry::{Actor, End, Why};
 use dl_logbytes::read_log;
 use dl_mem::Memory;
 use dl_mode::{Mode, OrderAndSize, OrderOnly, PicoLog};
-use dl_replay::Replayer;
+use dl_replay::{Asking, Replayer, Served};
 use dl_thread::Threads;
 use spec_log::{Log, ModeName};
 use std::alloc::Global;
@@ -61,21 +61,19 @@ fn ended_in<M: Mode>(
 {
     let mut replayer = Replayer::<M>::new(alloc, log)?;
     let mut threads = Threads::start(0);
+    let mut served = Served::new(alloc);
     let Some(actor) = replayer.head() else {
         return Ok(replayer.ended());
     };
-    if actor == Actor::Dma {
-        let _ = replayer.serve_dma(&threads, &mut None, memory)?;
-        return Ok(replayer.ended());
-    }
-    if actor != Actor::Thread(0) {
+    if actor != Actor::Thread(0) && actor != Actor::Dma {
         return Ok(None);
     }
-    if row.serial && row.total == 0 {
-        let _ = replayer.serve_step(0, &mut threads, &mut None, memory)?;
-    } else {
-        replayer.end_chunk(0, row.total, &mut threads);
-    }
+    let asking = Asking {
+        actor,
+        total: row.total,
+        serial: row.serial,
+    };
+    replayer.accept(&asking, &mut threads, &mut None, memory, &mut served)?;
     Ok(replayer.ended())
 }
 

@@ -1,7 +1,7 @@
 use Rattle.std.proofs.Common.{◌≡◌, ◌+◌, Ok, refl, ap, sym, subst, ◌∙◌}
 use Rattle.spec_play.specs.Progress.{position}
 use Rattle.spec_play.specs.Transfers.{DmaVerdict, DmaFails, dma_verdict}
-use Rattle.dl_replay.specs.declared.verdict.Verdict.{Verdict}
+use Rattle.dl_replay.specs.declared.asking.Verdict.{Verdict}
 use Rattle.dl_replay.specs.Judged.{dma_judged}
 use Rattle.dl_replay.specs.Judging.{transfer_verdict}
 use Rattle.dl_replay.specs.Replays.{advanced, replaying}
