@@ -1,6 +1,5 @@
 //! Requests beside no flight, beside one that hits, and beside one of the same sphere.
 ghost use Rattle.std.specs.Prelude.{◌≡◌, IfOk};
-ghost use Rattle.spec_engine.specs.Signatures.{insert, nothing};
 
 use dl_arbiter::{Asked, AskedSerial, Flights, Sig, ask, ask_serial};
 use dl_fly::Flight;
@@ -55,7 +54,7 @@ fn is_denied_by_a_flight_that_hits(rt: HostRuntime) -> Result<(), Fail> {
 
 // A signature of 64 bits that has line 8.
 fn line_8(alloc: Global) -> Result<Banked, AllocError>
-    ensures { IfOk result (λ signature. signature ≡ insert 8 (nothing 64)) }
+    ensures { IfOk result (λ signature. signature.bits ≡ 64) }
 {
     let mut signature = Banked::empty(alloc, 64)?;
     signature.insert(8);

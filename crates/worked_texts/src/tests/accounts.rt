@@ -7,35 +7,32 @@ use dl_elf::load;
 use dl_entry::{Actor, Bytes, CommitKind, Load, Loads, Output, Outputs, Why};
 use dl_thread::{Parts, Thread, ThreadStatus};
 use std::alloc::Global;
+use std::process::Abort;
 use std::test::Fail;
 
 #[test]
 fn accounts_are_those_of_the_worked_runs(rt: HostRuntime) -> Result<(), Fail> {
+    assert!(rt; three_instructions(rt.alloc())?.as_slice() == THREE_INSTRUCTIONS);
+    assert!(rt; interrupt(rt.alloc())?.as_slice() == INTERRUPT);
+    assert!(rt; device_words(rt.alloc())?.as_slice() == DEVICE_WORDS);
+    Ok(())
+}
+
+#[test]
+fn accounts_end_where_their_logs_are_left(rt: HostRuntime) -> Result<(), Fail> {
     let alloc = rt.alloc();
-    let account = three_instructions(alloc)?;
-    assert_eq!(rt; account.as_slice(), THREE_INSTRUCTIONS);
-    let account = interrupt(alloc)?;
-    assert_eq!(rt; account.as_slice(), INTERRUPT);
-    let account = device_words(alloc)?;
-    assert_eq!(rt; account.as_slice(), DEVICE_WORDS);
     let account = diverged(alloc, &[], End::Diverged(0, Why::Short(3, 2)))?;
-    assert_eq!(rt; account.as_slice(), b"end diverged 0 2 3 2\n".as_slice());
-    let account = diverged(
-        alloc,
-        &[commit(alloc, Actor::Thread(0), 3)?],
-        End::Diverged(1, Why::Input),
-    )?;
-    assert_eq!(rt;
-        account.as_slice(),
-        b"c 0 0 3\nend diverged 1 4\n".as_slice()
-    );
+    assert!(rt; account.as_slice() == b"end diverged 0 2 3 2\n".as_slice());
+    let commits = [commit(alloc, Actor::Thread(0), 3)];
+    let account = diverged(alloc, &commits, End::Diverged(1, Why::Input))?;
+    assert!(rt; account.as_slice() == b"c 0 0 3\nend diverged 1 4\n".as_slice());
     Ok(())
 }
 
 fn three_instructions(alloc: Global) -> Result<Vec<u8>, Fail> {
     let commits = [
-        commit(alloc, Actor::Thread(0), 2)?,
-        commit(alloc, Actor::Thread(0), 0)?,
+        commit(alloc, Actor::Thread(0), 2),
+        commit(alloc, Actor::Thread(0), 0),
     ];
     let mut x = [0; 32];
     x[10] = 7;
@@ -53,8 +50,8 @@ fn three_instructions(alloc: Global) -> Result<Vec<u8>, Fail> {
 
 fn interrupt(alloc: Global) -> Result<Vec<u8>, Fail> {
     let commits = [
-        commit(alloc, Actor::Thread(0), 2)?,
-        commit(alloc, Actor::Thread(0), 0)?,
+        commit(alloc, Actor::Thread(0), 2),
+        commit(alloc, Actor::Thread(0), 0),
     ];
     let mut x = [0; 32];
     x[10] = 5;
@@ -79,11 +76,11 @@ fn interrupt(alloc: Global) -> Result<Vec<u8>, Fail> {
 
 fn device_words(alloc: Global) -> Result<Vec<u8>, Fail> {
     let mut commits = [
-        commit(alloc, Actor::Thread(0), 1)?,
-        commit(alloc, Actor::Thread(0), 0)?,
-        commit(alloc, Actor::Thread(0), 0)?,
-        commit(alloc, Actor::Thread(0), 0)?,
-        commit(alloc, Actor::Thread(0), 0)?,
+        commit(alloc, Actor::Thread(0), 1),
+        commit(alloc, Actor::Thread(0), 0),
+        commit(alloc, Actor::Thread(0), 0),
+        commit(alloc, Actor::Thread(0), 0),
+        commit(alloc, Actor::Thread(0), 0),
     ];
     commits[1].loads.push(Load {
         address: 0xF000_0000,
@@ -127,11 +124,15 @@ fn diverged(alloc: Global, commits: &[Commit], end: End) -> Result<Vec<u8>, Fail
 
 #[test]
 fn an_account_has_what_no_worked_run_shows(rt: HostRuntime) -> Result<(), Fail> {
-    let alloc = rt.alloc();
+    assert!(rt; made(&rt, rt.alloc())?.as_slice() == MADE);
+    Ok(())
+}
+
+fn made(rt: &impl Abort, alloc: Global) -> Result<Vec<u8>, Fail> {
     let mut commits = [
-        commit(alloc, Actor::Thread(0), 4096)?,
-        commit(alloc, Actor::Thread(14), 0)?,
-        commit(alloc, Actor::Dma, 0)?,
+        commit(alloc, Actor::Thread(0), 4096),
+        commit(alloc, Actor::Thread(14), 0),
+        commit(alloc, Actor::Dma, 0),
     ];
     commits[0].loads.push(Load {
         address: 0x1FC,
@@ -141,6 +142,22 @@ fn an_account_has_what_no_worked_run_shows(rt: HostRuntime) -> Result<(), Fail> 
     commits[1]
         .outputs
         .push(output(alloc, 8, b"\xFA\xFB\xFC\xFD\xFE\xFF")?)?;
+    let request = Some(Request {
+        buf: 0x1F0,
+        len: 4096,
+    });
+    Ok(account_text(
+        alloc,
+        &commits,
+        &ended_and_masked(rt),
+        &request,
+        &memory_of_two_words(rt, alloc)?,
+        &End::Complete(3),
+    )?)
+}
+
+// A thread that has ended, and one in its handler.
+fn ended_and_masked(rt: &impl Abort) -> Threads {
     let mut x = [0; 32];
     x[1] = 0xDEAD_BEEF;
     x[31] = 0x000A_0B0C;
@@ -155,34 +172,25 @@ fn an_account_has_what_no_worked_run_shows(rt: HostRuntime) -> Result<(), Fail> 
     masked.saved_a1 = 0x7A;
     let mut threads = alone(&first);
     assert!(rt; threads.add(&Thread::from_parts(&masked)));
-    let mut memory = memory(alloc, b"")?;
-    assert_eq!(rt; memory.size(), 4096);
-    memory.put(64, 0b0001, 0x10);
-    memory.put(4092, 0b1111, 0x0DEF_00AB);
-    let request = Some(Request {
-        buf: 0x1F0,
-        len: 4096,
-    });
-    let account = account_text(
-        alloc,
-        &commits,
-        &threads,
-        &request,
-        &memory,
-        &End::Complete(3),
-    )?;
-    assert_eq!(rt; account.as_slice(), MADE);
-    Ok(())
+    threads
 }
 
-fn commit(alloc: Global, actor: Actor, size: u32) -> Result<Commit, OutOfMemory> {
-    Ok(Commit {
+fn memory_of_two_words(rt: &impl Abort, alloc: Global) -> Result<Memory, Fail> {
+    let mut memory = memory(alloc, b"")?;
+    assert!(rt; memory.size() == 4096);
+    memory.put(64, 0b0001, 0x10);
+    memory.put(4092, 0b1111, 0x0DEF_00AB);
+    Ok(memory)
+}
+
+fn commit(alloc: Global, actor: Actor, size: u32) -> Commit {
+    Commit {
         actor,
         kind: CommitKind::Chunk,
         size,
         loads: Loads::new(alloc),
         outputs: Outputs::new(alloc),
-    })
+    }
 }
 
 fn output(alloc: Global, channel: u32, bytes: &[u8]) -> Result<Output, OutOfMemory> {
@@ -221,16 +229,25 @@ fn alone(thread: &Parts) -> Threads
     threads
 }
 
+// The headers of a file whose code, of no byte yet, stands from address 0 on.
+const HEADERS: [u8; 84] = [
+    0x7f, 0x45, 0x4c, 0x46, 0x01, 0x01, 0x01, 0x00, 0x00, 0x00, 0x00, 0x00, 0x00, 0x00, 0x00, 0x00,
+    0x02, 0x00, 0xf3, 0x00, 0x01, 0x00, 0x00, 0x00, 0x00, 0x00, 0x00, 0x00, 0x34, 0x00, 0x00, 0x00,
+    0x00, 0x00, 0x00, 0x00, 0x00, 0x00, 0x00, 0x00, 0x34, 0x00, 0x20, 0x00, 0x01, 0x00, 0x00, 0x00,
+    0x00, 0x00, 0x00, 0x00, 0x01, 0x00, 0x00, 0x00, 0x54, 0x00, 0x00, 0x00, 0x00, 0x00, 0x00, 0x00,
+    0x00, 0x00, 0x00, 0x00, 0x00, 0x00, 0x00, 0x00, 0x00, 0x00, 0x00, 0x00, 0x07, 0x00, 0x00, 0x00,
+    0x04, 0x00, 0x00, 0x00,
+];
+
 // A memory of 4,096 bytes that begins with this code.
 fn memory(alloc: Global, code: &[u8]) -> Result<Memory, Fail>
     requires { length code.now < 256 }
 {
     let length = code.len() as u8;
-    let mut image = Vec::from_slice(alloc, b"\x7FELF\x01\x01\x01\0\0\0\0\0\0\0\0\0")?;
-    image.extend_from_slice(b"\x02\0\xF3\0\x01\0\0\0\0\0\0\0\x34\0\0\0\0\0\0\0\0\0\0\0")?;
-    image.extend_from_slice(b"\x34\0\x20\0\x01\0\0\0\0\0\0\0")?;
-    image.extend_from_slice(b"\x01\0\0\0\x54\0\0\0\0\0\0\0\0\0\0\0")?;
-    image.extend_from_slice(&[length, 0, 0, 0, length, 0, 0, 0, 7, 0, 0, 0, 4, 0, 0, 0])?;
+    let mut headers = HEADERS;
+    headers[68] = length;
+    headers[72] = length;
+    let mut image = Vec::from_slice(alloc, &headers)?;
     image.extend_from_slice(code)?;
     Ok(Memory::new(alloc, &load(alloc, &image, 4096)?)?)
 }

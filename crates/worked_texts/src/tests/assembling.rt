@@ -1,24 +1,28 @@
 //! Sources with their words, by another assembler and a model apart from this code, and sources that are refused.
 use dl_asm::Rule::{LabelTwice, Mnemonic, NoLabel, Operands, Range, Syntax, TooLong};
-use dl_asm::{AsmError, assemble};
-use std::alloc::AllocError;
+use dl_asm::{AsmError, Rule, assemble};
+use std::alloc::Global;
 use std::test::Fail;
 
 #[test]
 fn a_file_is_two_headers_and_the_code(rt: HostRuntime) -> Result<(), Fail> {
-    let wanted: [u8; 96] = [
-        0x7F, 0x45, 0x4C, 0x46, 0x01, 0x01, 0x01, 0x00, 0x00, 0x00, 0x00, 0x00, 0x00, 0x00, 0x00,
-        0x00, 0x02, 0x00, 0xF3, 0x00, 0x01, 0x00, 0x00, 0x00, 0x00, 0x00, 0x00, 0x00, 0x34, 0x00,
-        0x00, 0x00, 0x00, 0x00, 0x00, 0x00, 0x00, 0x00, 0x00, 0x00, 0x34, 0x00, 0x20, 0x00, 0x01,
-        0x00, 0x00, 0x00, 0x00, 0x00, 0x00, 0x00, 0x01, 0x00, 0x00, 0x00, 0x54, 0x00, 0x00, 0x00,
-        0x00, 0x00, 0x00, 0x00, 0x00, 0x00, 0x00, 0x00, 0x0C, 0x00, 0x00, 0x00, 0x0C, 0x00, 0x00,
-        0x00, 0x07, 0x00, 0x00, 0x00, 0x04, 0x00, 0x00, 0x00, 0x93, 0x08, 0x00, 0x00, 0x13, 0x05,
-        0x70, 0x00, 0x73, 0x00, 0x00, 0x00,
-    ];
     let file = assemble(rt.alloc(), b"addi x17, x0, 0\naddi x10, x0, 7\necall\n")?;
-    assert!(rt; file.as_slice() == wanted.as_slice());
-    let file = assemble(rt.alloc(), b"")?;
-    assert_eq!(rt; file.len(), 84);
+    assert!(rt; file.as_slice() == THREE_INSTRUCTIONS);
+    Ok(())
+}
+
+const THREE_INSTRUCTIONS: &[u8] = &[
+    0x7F, 0x45, 0x4C, 0x46, 0x01, 0x01, 0x01, 0x00, 0x00, 0x00, 0x00, 0x00, 0x00, 0x00, 0x00, 0x00,
+    0x02, 0x00, 0xF3, 0x00, 0x01, 0x00, 0x00, 0x00, 0x00, 0x00, 0x00, 0x00, 0x34, 0x00, 0x00, 0x00,
+    0x00, 0x00, 0x00, 0x00, 0x00, 0x00, 0x00, 0x00, 0x34, 0x00, 0x20, 0x00, 0x01, 0x00, 0x00, 0x00,
+    0x00, 0x00, 0x00, 0x00, 0x01, 0x00, 0x00, 0x00, 0x54, 0x00, 0x00, 0x00, 0x00, 0x00, 0x00, 0x00,
+    0x00, 0x00, 0x00, 0x00, 0x0C, 0x00, 0x00, 0x00, 0x0C, 0x00, 0x00, 0x00, 0x07, 0x00, 0x00, 0x00,
+    0x04, 0x00, 0x00, 0x00, 0x93, 0x08, 0x00, 0x00, 0x13, 0x05, 0x70, 0x00, 0x73, 0x00, 0x00, 0x00,
+];
+
+#[test]
+fn a_file_of_nothing_is_two_headers(rt: HostRuntime) -> Result<(), Fail> {
+    assert!(rt; assemble(rt.alloc(), b"")?.len() == 84);
     Ok(())
 }
 
@@ -29,184 +33,183 @@ fn an_instruction_is_its_word(rt: HostRuntime) -> Result<(), Fail> {
         let word = u32::from_str_radix(word, 16)?;
         let file = assemble(rt.alloc(), line.as_bytes())?;
         assert!(rt; file.as_slice().ends_with(&word.to_le_bytes()), "at {line}");
-        assert_eq!(rt; file.len(), 88, "at {line}");
+        assert!(rt; file.len() == 88, "at {line}");
     }
     Ok(())
 }
 
 #[test]
 fn a_source_is_its_words(rt: HostRuntime) -> Result<(), Fail> {
-    let table: [(&str, &[u32]); 10] = [
-        ("\n# nothing\n \t\n", &[]),
-        ("a: jal x0, a\n", &[0x0000_006F]),
-        ("jal x0, a\n\n# b\na: ecall\n", &[0x0040_006F, 0x0000_0073]),
-        (
-            "ecall\n\n  # nothing\na:\n.word a\njal x0, a",
-            &[0x0000_0073, 0x0000_0004, 0xFFDF_F06F],
-        ),
-        ("a:\nb: .word a\n.word b", &[0x0000_0000, 0x0000_0000]),
-        (".zero 2\n.zero -0", &[0x0000_0000, 0x0000_0000]),
-        (
-            " \t_a1:\t# c\nsw x1, 4 ( x2 )\nslli x1 , x2 ,31#d",
-            &[0x0011_2223, 0x01F1_1093],
-        ),
-        (
-            "x32: jal x0, x32\nx5: .word 0xdeadBEEF",
-            &[0x0000_006F, 0xDEAD_BEEF],
-        ),
-        (
-            ".zero 1\naddi x1, x0, a\nlw x2, a(x3)\na: lui x4, a\nslli x5, x6, b\nb: sw x7, b(x8)\nbeq x1, x2, a",
-            &[
-                0x0000_0000,
-                0x00C0_0093,
-                0x00C1_A103,
-                0x0000_C237,
-                0x0143_1293,
-                0x0074_2A23,
-                0xFE20_8AE3,
-            ],
-        ),
-        (
-            EVERY_FORM,
-            &[
-                0x0000_50B7,
-                0xFFFF_F117,
-                0xFFC1_00E7,
-                0xFE20_8AE3,
-                0x05EF_FA63,
-                0x7FFF_F0EF,
-                0x7FF3_0283,
-                0x8074_1023,
-                0xFFF1_3093,
-                0x41F2_5193,
-                0x0273_22B3,
-                0x1401_20AF,
-                0x1A31_20AF,
-                0xE6A5_A4AF,
-                0x0FF0_000F,
-                0x0000_100F,
-                0x0000_0073,
-                0x0010_0073,
-                0xFFFF_FFFF,
-                0xDEAD_BEEF,
-                0x0000_0064,
-                0x0000_0000,
-                0x0000_0000,
-                0x0000_0000,
-                0x0640_0093,
-            ],
-        ),
-    ];
-    for (source, words) in table {
+    for (source, words) in SOURCES {
         let file = assemble(rt.alloc(), source.as_bytes())?;
-        assert!(rt;
-            file.as_slice().ends_with(&bytes_of(&rt, words)?),
-            "at {source}"
-        );
-        assert_eq!(rt; file.len(), 84 + words.len() * 4, "at {source}");
+        assert!(rt; has_words(file.as_slice(), words), "at {source}");
     }
     Ok(())
 }
+
+// Whether a file is two headers and then these words, the least byte of each first.
+pub(super) fn has_words(file: &[u8], words: &[u32]) -> bool {
+    file.len() == 84 + words.len() * 4
+        && file[84..]
+            .chunks_exact(4)
+            .zip(words)
+            .all(|(bytes, word)| bytes == word.to_le_bytes().as_slice())
+}
+
+// A source, and its words.
+const SOURCES: &[(&str, &[u32])] = &[
+    ("\n# nothing\n \t\n", &[]),
+    ("a: jal x0, a\n", &[0x0000_006F]),
+    ("jal x0, a\n\n# b\na: ecall\n", &[0x0040_006F, 0x0000_0073]),
+    (
+        "ecall\n\n  # nothing\na:\n.word a\njal x0, a",
+        &[0x0000_0073, 0x0000_0004, 0xFFDF_F06F],
+    ),
+    ("a:\nb: .word a\n.word b", &[0x0000_0000, 0x0000_0000]),
+    (".zero 2\n.zero -0", &[0x0000_0000, 0x0000_0000]),
+    (
+        " \t_a1:\t# c\nsw x1, 4 ( x2 )\nslli x1 , x2 ,31#d",
+        &[0x0011_2223, 0x01F1_1093],
+    ),
+    (
+        "x32: jal x0, x32\nx5: .word 0xdeadBEEF",
+        &[0x0000_006F, 0xDEAD_BEEF],
+    ),
+    (
+        ".zero 1\naddi x1, x0, a\nlw x2, a(x3)\na: lui x4, a\nslli x5, x6, b\nb: sw x7, b(x8)\nbeq x1, x2, a",
+        &[
+            0x0000_0000,
+            0x00C0_0093,
+            0x00C1_A103,
+            0x0000_C237,
+            0x0143_1293,
+            0x0074_2A23,
+            0xFE20_8AE3,
+        ],
+    ),
+    (
+        EVERY_FORM,
+        &[
+            0x0000_50B7,
+            0xFFFF_F117,
+            0xFFC1_00E7,
+            0xFE20_8AE3,
+            0x05EF_FA63,
+            0x7FFF_F0EF,
+            0x7FF3_0283,
+            0x8074_1023,
+            0xFFF1_3093,
+            0x41F2_5193,
+            0x0273_22B3,
+            0x1401_20AF,
+            0x1A31_20AF,
+            0xE6A5_A4AF,
+            0x0FF0_000F,
+            0x0000_100F,
+            0x0000_0073,
+            0x0010_0073,
+            0xFFFF_FFFF,
+            0xDEAD_BEEF,
+            0x0000_0064,
+            0x0000_0000,
+            0x0000_0000,
+            0x0000_0000,
+            0x0640_0093,
+        ],
+    ),
+];
 
 #[test]
 fn a_label_is_reached_from_afar(rt: HostRuntime) -> Result<(), Fail> {
-    // the length of the file, and a word with its place there
-    let table = [
-        (
-            "beq x0, x0, a\n.zero 1022\na: ecall\n",
-            4180,
-            84,
-            0x7E00_0EE3,
-        ),
-        ("a: .zero 1024\nbne x1, x2, a", 4184, 4180, 0x8020_9063),
-        ("jal x0, a\n.zero 262142\na:", 1_048_656, 84, 0x7FDF_F06F),
-        (
-            "a: .zero 262144\njal x1, a",
-            1_048_664,
-            1_048_660,
-            0x8000_00EF,
-        ),
-        (".zero 511\na: addi x1, x0, a", 2132, 2128, 0x7FC0_0093),
-        (
-            ".zero 4194303\na: ecall",
-            16_777_300,
-            16_777_296,
-            0x0000_0073,
-        ),
-        (".zero 4194304\na:", 16_777_300, 16_777_296, 0x0000_0000),
-    ];
-    for (source, length, place, word) in table {
+    for (source, length, place, word) in FROM_AFAR {
         let file = assemble(rt.alloc(), source.as_bytes())?;
-        let word: u32 = word;
-        let there = file.get(place..).unwrap_or(&[]);
+        let there = file.get(*place..).unwrap_or(&[]);
         assert!(rt; there.starts_with(&word.to_le_bytes()), "at {source}");
-        assert_eq!(rt; file.len(), length, "at {source}");
+        assert!(rt; file.len() == *length, "at {source}");
     }
     Ok(())
 }
 
+// A source, the length of its file, and a word with its place there.
+const FROM_AFAR: &[(&str, usize, usize, u32)] = &[
+    (
+        "beq x0, x0, a\n.zero 1022\na: ecall\n",
+        4180,
+        84,
+        0x7E00_0EE3,
+    ),
+    ("a: .zero 1024\nbne x1, x2, a", 4184, 4180, 0x8020_9063),
+    ("jal x0, a\n.zero 262142\na:", 1_048_656, 84, 0x7FDF_F06F),
+    (
+        "a: .zero 262144\njal x1, a",
+        1_048_664,
+        1_048_660,
+        0x8000_00EF,
+    ),
+    (".zero 511\na: addi x1, x0, a", 2132, 2128, 0x7FC0_0093),
+    (
+        ".zero 4194303\na: ecall",
+        16_777_300,
+        16_777_296,
+        0x0000_0073,
+    ),
+    (".zero 4194304\na:", 16_777_300, 16_777_296, 0x0000_0000),
+];
+
 #[test]
 fn one_line_breaks_its_rule(rt: HostRuntime) {
-    let table = [
-        (OUT_OF_RANGE, Range),
-        (MISSPELLED, Syntax),
-        (UNKNOWN, Mnemonic),
-        (UNFIT, Operands),
-    ];
-    for (lines, rule) in table {
+    for (lines, rule) in WRONG {
         for text in lines.lines() {
-            let refused = assemble(rt.alloc(), text.as_bytes()).err();
-            assert!(rt;
-                refused == Some(AsmError::Refused { line: 1, rule }),
-                "at {text}"
-            );
+            assert!(rt; is_refused(rt.alloc(), text, 1, *rule), "at {text}");
         }
     }
 }
 
+// Whether the source is refused at this line by this rule.
+fn is_refused(alloc: Global, source: &str, line: u64, rule: Rule) -> bool {
+    assemble(alloc, source.as_bytes()).err() == Some(AsmError::Refused { line, rule })
+}
+
+// Lines that break a rule, each alone.
+const WRONG: &[(&str, Rule)] = &[
+    (OUT_OF_RANGE, Range),
+    (MISSPELLED, Syntax),
+    (UNKNOWN, Mnemonic),
+    (UNFIT, Operands),
+];
+
 #[test]
 fn the_first_broken_rule_is_told(rt: HostRuntime) {
-    let table = [
-        ("ecall\nadd x1 x2, x3\n", 2, Syntax),
-        ("ecall\r\n", 1, Syntax),
-        ("addi x1, x0, 1\nnop\n", 2, Mnemonic),
-        ("lw x1, 4(x2)\nadd x1, x2\n", 2, Operands),
-        ("a:\na: nop\na: add\n", 2, Mnemonic),
-        ("a: ecall\n# between\na: ecall\n", 3, LabelTwice),
-        ("a: nop 1 2\na: ecall", 1, Syntax),
-        ("a:\na: addi x1, x0, 2048", 2, Range),
-        ("a:\na: jal x0, b\n", 2, LabelTwice),
-        ("a:\n.zero 4194304\na: ecall", 3, LabelTwice),
-        ("jal x0, there\nthere_: ecall\n", 1, NoLabel),
-        ("x5: jal x0, X5", 1, NoLabel),
-        (".zero 4194304\njal x0, a", 2, NoLabel),
-        (".zero 4194304\necall\n", 2, TooLong),
-        (".zero 4194304\n.zero 0\n.word 1", 3, TooLong),
-        ("jal x0, end\naddi x1, x0, -2049\nnop\nend:\n", 2, Range),
-        ("beq x0, x0, a\n.zero 1023\na: ecall\n", 1, Range),
-        ("a: .zero 1025\nbne x1, x2, a", 2, Range),
-        ("jal x0, a\n.zero 262143\na:", 1, Range),
-        ("a: .zero 262145\njal x1, a", 2, Range),
-        (".zero 512\na: addi x1, x0, a", 2, Range),
-        ("beq x0, x0, a\nnop\n.zero 1023\na:", 1, Range),
-    ];
-    for (source, line, rule) in table {
-        let refused = assemble(rt.alloc(), source.as_bytes()).err();
-        assert!(rt;
-            refused == Some(AsmError::Refused { line, rule }),
-            "at {source}"
-        );
+    for (source, line, rule) in REFUSED {
+        assert!(rt; is_refused(rt.alloc(), source, *line, *rule), "at {source}");
     }
 }
 
-// The words as bytes, the least byte first.
-fn bytes_of(rt: &impl AllocGlobal, words: &[u32]) -> Result<Vec<u8>, AllocError> {
-    let mut bytes = Vec::new(rt.alloc());
-    for word in words {
-        bytes.extend_from_slice(&word.to_le_bytes())?;
-    }
-    Ok(bytes)
-}
+// A source, and the line and the rule that are told.
+const REFUSED: &[(&str, u64, Rule)] = &[
+    ("ecall\nadd x1 x2, x3\n", 2, Syntax),
+    ("ecall\r\n", 1, Syntax),
+    ("addi x1, x0, 1\nnop\n", 2, Mnemonic),
+    ("lw x1, 4(x2)\nadd x1, x2\n", 2, Operands),
+    ("a:\na: nop\na: add\n", 2, Mnemonic),
+    ("a: ecall\n# between\na: ecall\n", 3, LabelTwice),
+    ("a: nop 1 2\na: ecall", 1, Syntax),
+    ("a:\na: addi x1, x0, 2048", 2, Range),
+    ("a:\na: jal x0, b\n", 2, LabelTwice),
+    ("a:\n.zero 4194304\na: ecall", 3, LabelTwice),
+    ("jal x0, there\nthere_: ecall\n", 1, NoLabel),
+    ("x5: jal x0, X5", 1, NoLabel),
+    (".zero 4194304\njal x0, a", 2, NoLabel),
+    (".zero 4194304\necall\n", 2, TooLong),
+    (".zero 4194304\n.zero 0\n.word 1", 3, TooLong),
+    ("jal x0, end\naddi x1, x0, -2049\nnop\nend:\n", 2, Range),
+    ("beq x0, x0, a\n.zero 1023\na: ecall\n", 1, Range),
+    ("a: .zero 1025\nbne x1, x2, a", 2, Range),
+    ("jal x0, a\n.zero 262143\na:", 1, Range),
+    ("a: .zero 262145\njal x1, a", 2, Range),
+    (".zero 512\na: addi x1, x0, a", 2, Range),
+    ("beq x0, x0, a\nnop\n.zero 1023\na:", 1, Range),
+];
 
 // The sixty instructions and `.word`, at the ends of their ranges, each behind its word.
 const INSTRUCTIONS: &str = "\

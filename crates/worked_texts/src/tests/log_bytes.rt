@@ -6,20 +6,18 @@ use std::test::Fail;
 #[test]
 fn logs_are_read_and_written_back(rt: HostRuntime) -> Result<(), Fail> {
     for bytes in LOGS {
-        match read_log(rt.alloc(), bytes) {
-            Ok(log) => assert_eq!(rt; write_log(rt.alloc(), &log)?.as_slice(), bytes),
-            Err(error) => assert!(rt; false, "{error}"),
-        }
+        let log = read_log(rt.alloc(), bytes)?;
+        assert!(rt; write_log(rt.alloc(), &log)?.as_slice() == *bytes);
     }
     Ok(())
 }
 
 #[test]
 fn cut_logs_end_inside_a_field(rt: HostRuntime) {
-    for bytes in [EXITS, FULL] {
+    for bytes in &[EXITS, FULL] {
         for length in 0..bytes.len() {
             let short = Some(LogError::Malformed(1, length as u64));
-            assert_eq!(rt; read_log(rt.alloc(), &bytes[..length]).err(), short);
+            assert!(rt; read_log(rt.alloc(), &bytes[..length]).err() == short);
         }
     }
 }
@@ -27,9 +25,9 @@ fn cut_logs_end_inside_a_field(rt: HostRuntime) {
 #[test]
 fn the_first_wrong_field_is_named(rt: HostRuntime) -> Result<(), Fail> {
     for (bytes, at, wrong, number, offset) in WRONG {
-        let bytes = overwritten(rt.alloc(), bytes, at, wrong)?;
-        let malformed = Some(LogError::Malformed(number, offset));
-        assert_eq!(rt; read_log(rt.alloc(), &bytes).err(), malformed, "{at}");
+        let bytes = overwritten(rt.alloc(), bytes, *at, wrong)?;
+        let malformed = Some(LogError::Malformed(*number, *offset));
+        assert!(rt; read_log(rt.alloc(), &bytes).err() == malformed, "{at}");
     }
     Ok(())
 }
@@ -44,7 +42,7 @@ fn overwritten(alloc: Global, bytes: &[u8], at: usize, wrong: &[u8]) -> Result<V
 }
 
 /// The header, the order, the sizes, the interrupts, the inputs and the DMAs of each.
-const LOGS: [&[u8]; 12] = [
+const LOGS: &[&[u8]] = &[
     // A thread runs two instructions and exits.
     EXITS,
     // The same without sizes.
@@ -140,7 +138,7 @@ const FULL: &[u8] = b"\x44\x4C\x52\x4E\x01\x01\x00\x00\x00\x10\x00\x00\x03\x00\x
   \x02\x00\x00\x00\x01\x00\x00\x00\x02\x00\x41\xFF\x02\x00\x00\x00\x00\x00";
 
 /// A log, the offset at which bytes are wrong, these bytes, and the number and the offset of the fault.
-const WRONG: [(&[u8], usize, &[u8], u8, u64); 32] = [
+const WRONG: &[(&[u8], usize, &[u8], u8, u64)] = &[
     (FULL, 0, b"\x45", 2, 0),
     (FULL, 4, b"\x02", 3, 4),
     (FULL, 5, b"\x03", 4, 5),

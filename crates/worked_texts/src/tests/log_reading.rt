@@ -5,12 +5,10 @@ use std::test::Fail;
 
 #[test]
 fn pieces_give_the_log_of_their_bytes(rt: HostRuntime) -> Result<(), Fail> {
-    for bytes in [EXITS, FULL] {
-        for size in [1, 7, 4096] {
-            match fed(rt.alloc(), bytes, size) {
-                Ok(log) => assert_eq!(rt; write_log(rt.alloc(), &log)?.as_slice(), bytes),
-                Err(error) => assert!(rt; false, "{error}"),
-            }
+    for bytes in &[EXITS, FULL] {
+        for size in &[1, 7, 4096] {
+            let log = fed(rt.alloc(), bytes, *size)?;
+            assert!(rt; write_log(rt.alloc(), &log)?.as_slice() == *bytes);
         }
     }
     Ok(())
@@ -28,24 +26,20 @@ fn fed(alloc: Global, bytes: &[u8], size: usize) -> Result<Log, LogError> {
 fn cut_logs_are_refused_at_their_end_alone(rt: HostRuntime) {
     for length in 0..FULL.len() {
         let mut reader = LogReader::new(rt.alloc());
-        assert_eq!(rt; reader.feed(&FULL[..length]), Ok(()));
-        assert_eq!(rt;
-            reader.end().err(),
-            Some(LogError::Malformed(1, length as u64))
-        );
+        assert!(rt; reader.feed(&FULL[..length]) == Ok(()));
+        assert!(rt; reader.end().err() == Some(LogError::Malformed(1, length as u64)));
     }
 }
 
 #[test]
 fn faults_stay_whatever_follows(rt: HostRuntime) {
     for (bytes, number, offset) in WRONG {
-        let malformed = LogError::Malformed(number, offset);
+        let malformed = LogError::Malformed(*number, *offset);
         let mut reader = LogReader::new(rt.alloc());
-        assert_eq!(rt; reader.feed(bytes), Err(malformed));
-        for piece in [&[], EXITS] {
-            assert_eq!(rt; reader.feed(piece), Err(malformed));
+        for piece in &[*bytes, &[], EXITS] {
+            assert!(rt; reader.feed(piece) == Err(malformed));
         }
-        assert_eq!(rt; reader.end().err(), Some(malformed));
+        assert!(rt; reader.end().err() == Some(malformed));
     }
 }
 
@@ -67,7 +61,7 @@ const FULL: &[u8] = b"\x44\x4C\x52\x4E\x01\x01\x00\x00\x00\x10\x00\x00\x03\x00\x
 
 /// Bytes with the number and the offset of their fault: another version, a header that claims too many commits,
 /// and a byte behind the log.
-const WRONG: [(&[u8], u8, u64); 3] = [
+const WRONG: &[(&[u8], u8, u64)] = &[
     (b"\x44\x4C\x52\x4E\x02", 3, 4),
     (
         b"\x44\x4C\x52\x4E\x01\x00\x00\x00\x64\x00\x00\x00\x01\x00\x00\x01",

@@ -2,35 +2,34 @@
 ghost use Rattle.std.specs.Prelude.{◌<◌, length};
 
 use dl_logfmt::{Log, LogWriter, read_log};
-use std::process::Abort;
+use std::test::Fail;
 
 #[test]
-fn pieces_join_to_the_log(rt: HostRuntime) {
+fn pieces_join_to_the_log(rt: HostRuntime) -> Result<(), Fail> {
     for bytes in LOGS {
-        match read_log(rt.alloc(), bytes) {
-            Ok(log) => {
-                writes(&rt, &log, bytes, &mut [0; 1]);
-                writes(&rt, &log, bytes, &mut [0; 7]);
-                writes(&rt, &log, bytes, &mut [0; 4096]);
-            }
-            Err(error) => assert!(rt; false, "{error}"),
-        }
+        let log = read_log(rt.alloc(), bytes)?;
+        assert!(rt; writes(&log, bytes, &mut [0; 1]));
+        assert!(rt; writes(&log, bytes, &mut [0; 7]));
+        assert!(rt; writes(&log, bytes, &mut [0; 4096]));
     }
+    Ok(())
 }
 
-// The pieces that fill this room are the bytes, and then there is none.
-fn writes(rt: &impl Abort, log: &Log, bytes: &[u8], room: &mut [u8])
+// Whether the pieces that fill this room are the bytes, and then there is none.
+fn writes(log: &Log, bytes: &[u8], room: &mut [u8]) -> bool
     requires { 0 < length room.old }
 {
     let mut writer = LogWriter::new(log);
     for piece in bytes.chunks(room.len()) {
         let count = writer.next(room);
-        assert_eq!(rt; &room[..count], piece);
+        if &room[..count] != piece {
+            return false;
+        }
     }
-    assert_eq!(rt; writer.next(room), 0);
+    writer.next(room) == 0
 }
 
-const LOGS: [&[u8]; 3] = [
+const LOGS: &[&[u8]] = &[
     // Each commit has its size: a thread runs two instructions and exits.
     b"\x44\x4C\x52\x4E\x01\x00\x00\x00\x64\x00\x00\x00\x02\x00\x00\x00\
       \x02\x00\x00\x00\x00\

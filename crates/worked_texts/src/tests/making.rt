@@ -1,18 +1,13 @@
 //! Images of some numbers, from a model apart from this code.
+use super::assembling::has_words;
 use dl_make::make;
 use std::test::Fail;
 
 #[test]
 fn a_number_makes_its_image(rt: HostRuntime) -> Result<(), Fail> {
-    let table: [(u32, u32, u32, u32); 4] = [
-        (0, 0x0010_0413, 0x0025_1293, 0x0100_0313),
-        (6, 0x0070_0413, 0x0035_1293, 0x0100_0313),
-        (8190, 0x0010_0413, 0x0025_1293, 0x40F0_0313),
-        (4_294_967_295, 0x0040_0413, 0x0025_1293, 0x40F0_0313),
-    ];
-    for (number, spawned, power, rounds) in table {
+    for (number, spawned, power, rounds) in IMAGES {
         let words = [
-            spawned,
+            *spawned,
             0x0010_0893,
             0x0240_0513,
             0x0000_0593,
@@ -21,9 +16,9 @@ fn a_number_makes_its_image(rt: HostRuntime) -> Result<(), Fail> {
             0xFFF4_0413,
             0xFE04_14E3,
             0x0000_0513,
-            power,
+            *power,
             0x4002_8293,
-            rounds,
+            *rounds,
             0x0010_0393,
             0x3E00_0E13,
             0x007E_2EAF,
@@ -36,11 +31,16 @@ fn a_number_makes_its_image(rt: HostRuntime) -> Result<(), Fail> {
             0x0000_0513,
             0x0000_0073,
         ];
-        let file = make(rt.alloc(), number)?;
-        assert_eq!(rt; file.len(), 176, "at {number}");
-        for (bytes, word) in file[84..].chunks_exact(4).zip(words) {
-            assert!(rt; bytes == word.to_le_bytes().as_slice(), "at {number}");
-        }
+        let file = make(rt.alloc(), *number)?;
+        assert!(rt; has_words(file.as_slice(), &words), "at {number}");
     }
     Ok(())
 }
+
+// A number, and the words of its image that differ.
+const IMAGES: &[(u32, u32, u32, u32)] = &[
+    (0, 0x0010_0413, 0x0025_1293, 0x0100_0313),
+    (6, 0x0070_0413, 0x0035_1293, 0x0100_0313),
+    (8190, 0x0010_0413, 0x0025_1293, 0x40F0_0313),
+    (4_294_967_295, 0x0040_0413, 0x0025_1293, 0x40F0_0313),
+];

@@ -39,9 +39,9 @@ fn shown(alloc: Global, plan: &Plan) -> Result<String, Fail> {
 
 #[test]
 fn reads_each_key(rt: HostRuntime) -> Result<(), Fail> {
-    for (text, expected) in [(PLAN, PLAN_SHOWN), (OTHER, OTHER_SHOWN)] {
+    for (text, expected) in &[(PLAN, PLAN_SHOWN), (OTHER, OTHER_SHOWN)] {
         let plan = read_plan(rt.alloc(), "p.toml", text.as_bytes())?;
-        assert_eq!(rt; shown(rt.alloc(), &plan)?.as_str(), expected);
+        assert!(rt; shown(rt.alloc(), &plan)?.as_str() == *expected);
     }
     Ok(())
 }
@@ -66,7 +66,7 @@ const OTHER_SHOWN: &str = concat!(
 fn reads_each_spelling(rt: HostRuntime) -> Result<(), Fail> {
     for (from, to) in SPELLINGS {
         let plan = changed(rt.alloc(), from, to)??;
-        assert_eq!(rt; shown(rt.alloc(), &plan)?.as_str(), PLAN_SHOWN, "{to}");
+        assert!(rt; shown(rt.alloc(), &plan)?.as_str() == PLAN_SHOWN, "{to}");
     }
     Ok(())
 }
@@ -104,7 +104,7 @@ const SPELLINGS: &[(&str, &str)] = &[
 #[test]
 fn accepts_each_limit(rt: HostRuntime) -> Result<(), Fail> {
     for (from, to) in LIMITS {
-        assert_eq!(rt; changed(rt.alloc(), from, to)?.err(), None, "{to}");
+        assert!(rt; changed(rt.alloc(), from, to)?.is_ok(), "{to}");
     }
     Ok(())
 }
@@ -300,8 +300,8 @@ fn refuses_what_no_change_makes(rt: HostRuntime) -> Result<(), Fail> {
         spheres.push_str(SPHERE)?;
     }
     let nine = changed(rt.alloc(), SPHERE, spheres.as_str())?.err();
-    assert_eq!(rt; nine, Some(PlanError::Refused(4)));
+    assert!(rt; nine == Some(PlanError::Refused(4)));
     let latin = read_plan(rt.alloc(), "p.toml", b"cores = 1 # \xFF").err();
-    assert_eq!(rt; latin, Some(PlanError::Refused(1)));
+    assert!(rt; latin == Some(PlanError::Refused(1)));
     Ok(())
 }

@@ -17,7 +17,7 @@ fn reports_are_those_of_the_worked_runs(rt: HostRuntime) -> Result<(), Fail> {
     for row in ROWS {
         let counts = counts_of(row.events, row.replies);
         let report = report_text(rt.alloc(), row.points, &counts, &[row.sphere])?;
-        assert_eq!(rt; report.as_slice(), row.report);
+        assert!(rt; report.as_slice() == row.report);
     }
     Ok(())
 }
@@ -42,7 +42,7 @@ fn every_reply_has_its_place(rt: HostRuntime) -> Result<(), Fail> {
     };
     let spheres = [SphereLine::Plain(3), SphereLine::Record(1)];
     let report = report_text(rt.alloc(), &[], &counts, &spheres)?;
-    assert_eq!(rt; report.as_slice(), EVERY_REPLY);
+    assert!(rt; report.as_slice() == EVERY_REPLY);
     Ok(())
 }
 

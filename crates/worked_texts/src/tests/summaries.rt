@@ -16,7 +16,7 @@ fn summaries_name_each_sphere(rt: HostRuntime) -> Result<(), Fail> {
         let mut counts = Counts::new();
         counts.events = row.events;
         let summary = summary_text(rt.alloc(), &counts, row.spheres)?;
-        assert_eq!(rt; summary.as_slice(), row.summary);
+        assert!(rt; summary.as_slice() == row.summary);
     }
     Ok(())
 }

@@ -2,7 +2,7 @@
 use dl_words::{Command, OutOfMemory, read_words};
 use std::alloc::Global;
 
-const COMMANDS: [(&[&str], Command<'static>); 9] = [
+const COMMANDS: &[(&[&str], Command<'static>)] = &[
     (&["run", "p.toml"], Command::Run { plan: "p.toml" }),
     (&["run", "-"], Command::Run { plan: "-" }),
     (&["run", "--", "-p"], Command::Run { plan: "-p" }),
@@ -42,7 +42,7 @@ const COMMANDS: [(&[&str], Command<'static>); 9] = [
     ),
 ];
 
-const NONE: [&[&str]; 30] = [
+const NONE: &[&[&str]] = &[
     &[],
     &[""],
     &["p.toml"],
@@ -78,7 +78,7 @@ const NONE: [&[&str]; 30] = [
 #[test]
 fn words_mean_their_command_or_none(rt: HostRuntime) {
     for (words, command) in COMMANDS {
-        assert!(rt; read(rt.alloc(), words) == Ok(Some(command)));
+        assert!(rt; read(rt.alloc(), words) == Ok(Some(*command)));
     }
     for words in NONE {
         assert!(rt; read(rt.alloc(), words) == Ok(None));

@@ -1,11 +1,15 @@
 //! How spheres stand before their first commit.
+ghost use Rattle.std.specs.Prelude.{◌≡◌, length};
+
 use super::{Begins, begin};
 use dl_entry::{Actor, End, Why};
+use dl_sphere::Sphere;
 use spec_log::ModeName;
+use std::alloc::Global;
 use std::test::Fail;
 
 // A file whose code is `ecall`.
-const FILE: [u8; 88] = [
+const FILE: &[u8] = &[
     0x7f, 0x45, 0x4c, 0x46, 0x01, 0x01, 0x01, 0x00, 0x00, 0x00, 0x00, 0x00, 0x00, 0x00, 0x00, 0x00,
     0x02, 0x00, 0xf3, 0x00, 0x01, 0x00, 0x00, 0x00, 0x00, 0x00, 0x00, 0x00, 0x34, 0x00, 0x00, 0x00,
     0x00, 0x00, 0x00, 0x00, 0x00, 0x00, 0x00, 0x00, 0x34, 0x00, 0x20, 0x00, 0x01, 0x00, 0x00, 0x00,
@@ -26,12 +30,26 @@ struct Row {
 #[test]
 fn spheres_begin_in_their_roles(rt: HostRuntime) -> Result<(), Fail> {
     for row in ROWS {
-        let sphere = begin(rt.alloc(), &FILE, row.role, 1000)?;
-        assert!(rt; sphere.limit(0) == row.limit);
-        assert!(rt; sphere.head() == row.head);
-        assert!(rt; sphere.end() == row.end);
+        assert!(rt; begins(rt.alloc(), row)?);
     }
     Ok(())
+}
+
+fn begins(alloc: Global, row: &Row) -> Result<bool, Fail> {
+    let sphere = begin(alloc, FILE, row.role, 1000)?;
+    Ok(stands(&sphere, row))
+}
+
+fn stands(sphere: &Sphere, row: &Row) -> bool
+    requires { length sphere.now.sphere.threads ≡ 1 }
+{
+    has_limit(sphere, row.limit) && sphere.head() == row.head && sphere.end() == row.end
+}
+
+fn has_limit(sphere: &Sphere, limit: u32) -> bool
+    requires { length sphere.now.sphere.threads ≡ 1 }
+{
+    sphere.limit(0) == limit
 }
 
 const ROWS: &[Row] = &[
