@@ -49,11 +49,12 @@ copies_hold (suc n) line behind e is =
 
 -- ---- a text with such lines at its front
 
+-- so many lines like this one, and then the rest
 pub record HasAlike (text line rest : List ℕ) (times : ℕ) : Type 0 where
   pub some : 1 ≤ length line
   pub split : text ≡ copies times line ++ rest
 
--- behind one line
+-- behind the first line, which is one like itself
 pub first_alike : (text : List ℕ) (size : ℕ) → 1 ≤ size → size ≤ length text → length (take size text) ≡ size → text ≡ take size text ++ drop size text → HasAlike text (take size text) (drop size text) 1
 first_alike text size some within long split = record {
   some = omega arith;
@@ -79,9 +80,11 @@ alike_within text line rest times count h few =
     let split = h.split ∙ ap (λ (j : ℕ). copies j line ++ rest) all ∙ sym (copies_more count (times - count) line rest) in
     omega (arith, ap length split, length-append (copies count line) (copies (times - count) line ++ rest), length_copies count line)
 
+-- the lines and the bytes of the rest are no more than the bytes of the text
 pub alike_shorter : (text line rest : List ℕ) (times : ℕ) → HasAlike text line rest times → times + length rest ≤ length text
 alike_shorter text line rest times h = omega (arith, ap length h.split, length-append (copies times line) rest, copies_long times line h.some)
 
+-- the rest is behind the text
 pub alike_behind : (text line rest : List ℕ) (times : ℕ) → HasAlike text line rest times → IsBehind text rest
 alike_behind text line rest times h =
     let l = ap length h.split ∙ length-append (copies times line) rest in
@@ -91,6 +94,7 @@ alike_behind text line rest times h =
       same = sym (drop-append_seam (copies times line) rest) ∙ ap (drop (length (copies times line))) (sym h.split) ∙ ap (λ (j : ℕ). drop j text) count;
     }
 
+-- the lines of the text are those that hold the event, and then those of the rest, whatever follows
 pub alike_lines : (text line rest tail : List ℕ) (times : ℕ) (e : Event) → IsLine e line → HasAlike text line rest times → lines_of (text ++ tail) ≡ replicate times (Holds e) ++ lines_of (rest ++ tail)
 alike_lines text line rest tail times e is h =
     ap (λ (t : List ℕ). lines_of (t ++ tail)) h.split
