@@ -56,9 +56,9 @@ fn setup_of(plan: &Plan, input: Vec<u8>, spheres: Vec<SphereSetup>) -> Setup
     Setup {
         cores: plan.cores,
         window: plan.window,
-        chunk: plan.chunk,
-        buffer: plan.buffer,
-        signature: plan.signature,
+        s: plan.chunk,
+        capacity: plan.buffer,
+        bits: plan.signature,
         seed: plan.seed,
         input: Bytes::from_vec(input),
         spheres: Sequence::from_vec(spheres),

@@ -16,7 +16,7 @@ setup_in s =
     record {
       cores = s.cores;
       window = s.window;
-      numbers = record { chunk = s.chunk; buffer = s.buffer; signature = s.signature };
+      numbers = record { s = s.s; capacity = s.capacity; bits = s.bits };
       seed = s.seed;
       input = s.input;
       spheres = map setup_of s.spheres;
@@ -27,14 +27,14 @@ pub record IsWithin (s : Setup) : Type 0 where
   pub cores : AreFew s.cores
   pub window : AreFew s.window
   pub few : AreFew (length s.spheres)
-  pub chunk : IsChunkSize s.chunk
-  pub least : 1 ≤ s.buffer
-  pub most : s.buffer ≤ 4096
-  pub signature : is_size s.signature ≡ true
+  pub chunk : IsChunkSize s.s
+  pub least : 1 ≤ s.capacity
+  pub most : s.capacity ≤ 4096
+  pub signature : is_size s.bits ≡ true
 
 -- the numbers of a setup whose spheres are made
 abbrev pub numbers_with : Setup → Spheres → Numbers
-numbers_with s r = record { chunk = r.standard; buffer = s.buffer; signature = s.signature }
+numbers_with s r = record { s = r.standard; capacity = s.capacity; bits = s.bits }
 
 -- what core i holds at first: thread 0 of its own sphere, if there is one
 abbrev pub first_held : Numbers → (i : ℕ) → Option Sphere → Option Occupant

@@ -56,15 +56,15 @@ impl<G: Sig> Cores<G> {
     ) -> Result<Cores<G>, AllocError>
         requires { IsWithin setup.now }
         ensures { let z = numbers_with setup.now spheres.now in
-            IfOk result (λ c. c ≡ record { capacity = setup.now.buffer; bits = setup.now.signature; held = first_cores z 0 setup.now.cores spheres.now.spheres }) }
+            IfOk result (λ c. c ≡ record { capacity = setup.now.capacity; bits = setup.now.bits; held = first_cores z 0 setup.now.cores spheres.now.spheres }) }
     {
         let mut row = Vec::with_capacity(alloc, setup.cores as usize)?;
         for core in 0..setup.cores {
             row.push_reserved(first(alloc, setup, core, spheres)?);
         }
         Ok(Cores {
-            capacity: setup.buffer,
-            bits: setup.signature,
+            capacity: setup.capacity,
+            bits: setup.bits,
             row,
         })
     }
@@ -214,9 +214,9 @@ fn first<G: Sig>(
 ) -> Result<Core<G>, AllocError>
     requires { IsWithin setup.now }
     ensures { let z = numbers_with setup.now spheres.now in
-        IfOk result (λ c. c ≡ holding (first_held z core (slice_get spheres.now.spheres core)) (idle 4096 setup.now.buffer setup.now.signature)) }
+        IfOk result (λ c. c ≡ holding (first_held z core (slice_get spheres.now.spheres core)) (idle 4096 setup.now.capacity setup.now.bits)) }
 {
-    let mut made = Core::new(alloc, setup.buffer, setup.signature)?;
+    let mut made = Core::new(alloc, setup.capacity, setup.bits)?;
     if core < spheres.len() {
         made.begin(core, 0, spheres.get(core));
     }

@@ -8,9 +8,9 @@ pub struct Setup {
     pub cores: u8,
     pub window: u8,
     /// The standard size of a chunk, the words that a write buffer holds, and the bits of a signature.
-    pub chunk: u32,
-    pub buffer: u32,
-    pub signature: u32,
+    pub s: u32,
+    pub capacity: u32,
+    pub bits: u32,
     pub seed: u64,
     pub input: Bytes,
     pub spheres: Sequence<SphereSetup>,

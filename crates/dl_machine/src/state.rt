@@ -61,7 +61,7 @@ impl<G: Sig> State<G> {
         ensures input { IfOk result (λ s. All (λ byte. byte < 2 ^ 8) setup.now.input) }
     {
         let input = bytes_of(&setup.input);
-        let spheres = Spheres::new(alloc, setup.spheres.as_slice(), setup.chunk)?;
+        let spheres = Spheres::new(alloc, setup.spheres.as_slice(), setup.s)?;
         let cores = Cores::new(alloc, setup, &spheres)?;
         Ok(State {
             alloc,

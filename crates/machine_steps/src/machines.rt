@@ -113,9 +113,9 @@ fn machine_of(alloc: Global, cores: u8) -> anyhow::Result<Machine<Banked>> {
     let setup = Setup {
         cores: spheres.len() as u8,
         window: spheres.len() as u8,
-        chunk: 101,
-        buffer: 16,
-        signature: 2048,
+        s: 101,
+        capacity: 16,
+        bits: 2048,
         seed: 0,
         input: Bytes::new(alloc),
         spheres,

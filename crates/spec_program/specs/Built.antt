@@ -68,7 +68,7 @@ setup_of p input spheres =
     record {
       cores = p.cores;
       window = p.window;
-      numbers = record { chunk = p.chunk; buffer = p.buffer; signature = p.signature };
+      numbers = record { s = p.chunk; capacity = p.buffer; bits = p.signature };
       seed = p.seed;
       input = input;
       spheres = spheres;

@@ -25,7 +25,7 @@ recording v =
     record {
       cores = 4;
       window = 2;
-      numbers = record { chunk = 64; buffer = 8; signature = 128 };
+      numbers = record { s = 64; capacity = 8; bits = 128 };
       seed = v;
       input = [];
       spheres = drill_sphere v (IsRecorded ModeName.OrderOnly) ∷ [];
@@ -44,7 +44,7 @@ replaying v =
     record {
       cores = 1;
       window = 1;
-      numbers = record { chunk = 64; buffer = 1; signature = 64 };
+      numbers = record { s = 64; capacity = 1; bits = 64 };
       seed = 0;
       input = [];
       spheres = drill_sphere v (IsReplayed (recorded_log v)) ∷ [];

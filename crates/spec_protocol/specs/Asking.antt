@@ -84,7 +84,7 @@ chunk_request w h how =
       what = OfChunk h.thread how ch.done.n ch.limit;
       kind = CommitKind.Chunk;
       n = ch.done.n;
-      short = is_short w.numbers.chunk how ch.limit;
+      short = is_short w.numbers.s how ch.limit;
     }
 
 unfoldable pub grant_chunk : World → (core : ℕ) → Occupant → How → After
@@ -115,7 +115,7 @@ unfoldable pub grant_serial : World → (core : ℕ) → Occupant → After
 grant_serial w c h =
     let i = h.chunk.sphere in
     let v = serial_moved h.thread (moment w) h.chunk.start w.devices (sphere_at w i) in
-    granted w c (serial_request h) (signed i v.words (nothing w.numbers.signature)) v v.outcome
+    granted w c (serial_request h) (signed i v.words (nothing w.numbers.bits)) v v.outcome
 
 abbrev pub unless_busy : AskedSerial → World → After → After
 unless_busy AskedSerial.Grant w a = a

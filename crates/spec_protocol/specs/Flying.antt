@@ -30,11 +30,11 @@ draining w k = drain_slot w k (at w.slots k)
 
 -- an idle core has read and stored nothing
 abbrev pub reads_of : World → Option Occupant → Marks
-reads_of w None = nothing w.numbers.signature
+reads_of w None = nothing w.numbers.bits
 reads_of w (Some h) = h.chunk.reads
 
 abbrev pub writes_of : World → Option Occupant → Marks
-writes_of w None = nothing w.numbers.signature
+writes_of w None = nothing w.numbers.bits
 writes_of w (Some h) = h.chunk.writes
 
 abbrev pub squashed : Option Occupant → Option Occupant

@@ -66,9 +66,9 @@ pub record IsGoodHeld (w : World) (c : ℕ) (h : Occupant) : Type 0 where
   pub halving : h.chunk.halves ≡ halves (sphere_at w h.chunk.sphere).role
   pub limit : is_stopped (sphere_at w h.chunk.sphere).role ≡ false
       → (let role = (sphere_at w h.chunk.sphere).role in
-      LimitFits w.numbers.chunk role h.thread h.chunk.start h.chunk.limit)
+      LimitFits w.numbers.s role h.thread h.chunk.start h.chunk.limit)
   pub chunk :
-      IsGoodChunk w.numbers.buffer w.numbers.signature w.slots c
+      IsGoodChunk w.numbers.capacity w.numbers.bits w.slots c
       (current w h.chunk.sphere) h.chunk
 
 -- a thread is on one core at most
@@ -85,10 +85,10 @@ IsAlone cores =
 
 -- no two flying words of a sphere are one, each flight is of a sphere that there is, and cores hold what they should
 pub record IsGood (w : World) : Type 0 where
-  pub buffer : 0 < w.numbers.buffer
-  pub standard : 0 < w.numbers.chunk
+  pub buffer : 0 < w.numbers.capacity
+  pub standard : 0 < w.numbers.s
   pub apart : (i : ℕ) → Apart (flying i w.slots)
-  pub covered : AreCovered w.numbers.signature w.slots
+  pub covered : AreCovered w.numbers.bits w.slots
   pub flights : (k : ℕ) (f : Flight) → at w.slots k ≡ Some f → f.sphere < length w.spheres
   pub held : (c : ℕ) (h : Occupant) → at w.cores c ≡ Some h → IsGoodHeld w c h
   pub alone : IsAlone w.cores

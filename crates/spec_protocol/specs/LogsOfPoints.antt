@@ -12,7 +12,7 @@ use Rattle.spec_protocol.specs.Promises.{WillRecord, after}
 
 -- the log that the points of sphere i tell, in this mode
 abbrev pub log_of_points : Setup → List Event → (i : ℕ) → ModeName → LogParts
-log_of_points s es i mode = logged mode s.numbers.chunk (supplied i (serial_start s) (after s es).points)
+log_of_points s es i mode = logged mode s.numbers.s (supplied i (serial_start s) (after s es).points)
 
 -- the log that a sphere has kept is that of its points, with the standard size
 abbrev pub LogsAreOfPoints : Type 0

@@ -68,7 +68,7 @@ first_cores z i (suc n) (p ∷ ps) = held_afresh z i 0 p ∷ first_cores z (suc 
 -- before the first event
 abbrev pub world_of : Setup → World
 world_of s =
-    let spheres = map (sphere_of s.numbers.chunk) s.spheres in
+    let spheres = map (sphere_of s.numbers.s) s.spheres in
     record {
       numbers = s.numbers;
       spheres = spheres;

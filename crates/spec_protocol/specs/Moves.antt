@@ -21,7 +21,7 @@ use Rattle.spec_protocol.specs.Serial.{SerialState, do_moved, do_serial, do_dma,
 abbrev pub move_chunk : Numbers → SerialState → (i thread : ℕ) → How → (n limit : ℕ) → Sphere → Option Parts → SerialState
 move_chunk z x i k how n limit p None = x
 move_chunk z x i k how n limit p (Some t) =
-    do_moved x i (chunk_moved k (is_piece how) (is_short z.chunk how limit) (run p.memory t n) x.devices p)
+    do_moved x i (chunk_moved k (is_piece how) (is_short z.s how limit) (run p.memory t n) x.devices p)
 
 abbrev pub do_what : Numbers → SerialState → (moment i : ℕ) → Sphere → What → SerialState
 do_what z x moment i p (OfChunk k how n limit) = move_chunk z x i k how n limit p (slice_get p.threads k)
@@ -55,8 +55,8 @@ pub record ChunkFits (z : Numbers) (p : Sphere) (k : ℕ) (t : Parts) (how : How
   pub live : is_live t ≡ true
   -- the limit is one that the thread may have: in a replay that of the log, else the standard size or less
   pub positive : 0 < limit
-  pub limited : limit ≤ limit_of z.chunk p.role k t
-  pub replayed : replays p.role ≡ true → limit ≡ limit_of z.chunk p.role k t
+  pub limited : limit ≤ limit_of z.s p.role k t
+  pub replayed : replays p.role ≡ true → limit ≡ limit_of z.s p.role k t
   -- none of the n instructions is serial
   pub ran : (run p.memory t n).n ≡ n
   -- at its limit there are so many instructions, else fewer
@@ -67,7 +67,7 @@ pub record ChunkFits (z : Numbers) (p : Sphere) (k : ℕ) (t : Parts) (how : How
   -- only the last part of a commit in pieces can be empty
   pub some : how ≡ How.Serial → n ≡ 0 → is_in_pieces p.role ≡ true
   pub cut : how ≡ How.Cut → 0 < n
-  pub room : how ≡ How.Overflow → z.buffer ≤ n
+  pub room : how ≡ How.Overflow → z.capacity ≤ n
 
 abbrev pub FitsChunk : Numbers → Sphere → (thread : ℕ) → How → (n limit : ℕ) → Option Parts → Type 0
 FitsChunk z p k how n limit None = ⊥

@@ -47,7 +47,7 @@ pub record IsClosed (w : World) (c : ℕ) (h : Occupant) (how : How) : Type 0 wh
 
 pub record FitsLogs (w : World) : Type 0 where
   pub spheres : (i : ℕ) → FitsLog (moment w) w.devices (sphere_at w i)
-  pub chunks : (c : ℕ) (h : Occupant) (how : How) → IsClosed w c h how → IsNotable w.numbers.chunk h how
+  pub chunks : (c : ℕ) (h : Occupant) (how : How) → IsClosed w c h how → IsNotable w.numbers.s h how
 
 abbrev pub NotesFitLogs : Type 0
 NotesFitLogs = (s : Setup) (w : World) → IsWithinLimits s → IsGood w → IsSound s w → FitsLogs w

@@ -13,8 +13,8 @@ use Rattle.spec_protocol.specs.Moves.{do_moves, FitAll}
 
 -- a chunk can run an instruction, and a write buffer can hold a word
 pub record IsSetup (s : Setup) : Type 0 where
-  pub chunk : 0 < s.numbers.chunk
-  pub buffer : 0 < s.numbers.buffer
+  pub chunk : 0 < s.numbers.s
+  pub buffer : 0 < s.numbers.capacity
 
 -- sphere i is set up by the image, to be recorded in this mode
 pub record WillRecord (s : Setup) (i : ℕ) (image : SphereSetup) (mode : ModeName) : Type 0 where

@@ -22,7 +22,7 @@ pub record SerialState : Type 0 where
 -- the one before the first point
 abbrev pub serial_start : Setup → SerialState
 serial_start s =
-    record { spheres = map (sphere_of s.numbers.chunk) s.spheres; devices = devices_of s.input s.seed }
+    record { spheres = map (sphere_of s.numbers.s) s.spheres; devices = devices_of s.input s.seed }
 
 -- ---- one point
 

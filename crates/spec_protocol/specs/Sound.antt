@@ -52,10 +52,10 @@ pub record IsWithinLimits (s : Setup) : Type 0 where
   pub cores : AreFew s.cores
   pub window : AreFew s.window
   pub few : AreFew (length s.spheres)
-  pub chunk : IsChunkSize s.numbers.chunk
-  pub buffer : 1 ≤ s.numbers.buffer
-  pub most_buffer : s.numbers.buffer ≤ 4096
-  pub signature : is_size s.numbers.signature ≡ true
+  pub chunk : IsChunkSize s.numbers.s
+  pub buffer : 1 ≤ s.numbers.capacity
+  pub most_buffer : s.numbers.capacity ≤ 4096
+  pub signature : is_size s.numbers.bits ≡ true
   pub input : All (λ byte. byte < 2 ^ 8) s.input
   pub images : (i : ℕ) (image : SphereSetup) → slice_get s.spheres i ≡ Some image → IsImage image
 
@@ -251,13 +251,13 @@ pub record IsSound (s : Setup) (w : World) : Type 0 where
   pub replies : (k : ℕ) → slice_index w.counts.replies k ≤ moment w
   pub spheres : (i : ℕ)
       → i < length w.spheres
-      → IsSoundSphere s.numbers.chunk (image_at s i) (moment w) (sphere_at w i)
+      → IsSoundSphere s.numbers.s (image_at s i) (moment w) (sphere_at w i)
   pub flights : (k : ℕ) (f : Flight)
       → at w.slots k ≡ Some f
       → AreSoundWords (size_of s f.sphere) f.words
   pub held : (c : ℕ) (h : Occupant)
       → at w.cores c ≡ Some h
-      → IsSoundChunk s.numbers.buffer (size_of s h.chunk.sphere) h.chunk
+      → IsSoundChunk s.numbers.capacity (size_of s h.chunk.sphere) h.chunk
 
 -- ---- the promises
 

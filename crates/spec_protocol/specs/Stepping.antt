@@ -26,7 +26,7 @@ step_held w c None = answered w Reply.Idle
 step_held w c (Some h) =
     let p = sphere_at w h.chunk.sphere in
     if is_stopped p.role then answered w Reply.Stopped
-    else if is_open h.chunk then stepped w c h (step w.numbers.buffer p.memory w.slots c h.chunk)
+    else if is_open h.chunk then stepped w c h (step w.numbers.capacity p.memory w.slots c h.chunk)
     else answered w Reply.Waiting
 
 -- the core runs one instruction

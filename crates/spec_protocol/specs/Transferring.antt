@@ -32,7 +32,7 @@ dma_done w i writes v =
 -- its stores are denied where they hit a flight
 unfoldable pub transfer : World → (i : ℕ) → MovedSphere → After
 transfer w i v =
-    let writes = signed i v.words (nothing w.numbers.signature) in
+    let writes = signed i v.words (nothing w.numbers.bits) in
     if is_full w.slots then answered w Reply.WindowFull
     else unless_denied (ask writes writes w.slots) w (dma_done w i writes v)
 

@@ -15,9 +15,9 @@ use Rattle.spec_protocol.specs.Spheres.{Sphere, no_sphere, halves, limit_of}
 
 -- the standard size of a chunk, the words that a write buffer holds, and the bits of a signature
 pub record Numbers : Type 0 where
-  pub chunk : ℕ
-  pub buffer : ℕ
-  pub signature : ℕ
+  pub s : ℕ
+  pub capacity : ℕ
+  pub bits : ℕ
 
 -- what a core holds that isn't idle: a thread of the chunk's sphere, by its number, and its running chunk
 pub record Occupant : Type 0 where
@@ -63,7 +63,7 @@ abbrev pub thread_afresh : Numbers → (i thread : ℕ) → Sphere → Option Pa
 thread_afresh z i k p None = None
 thread_afresh z i k p (Some t) =
     if is_live t
-    then Some (record { thread = k; chunk = fresh z.signature i t (limit_of z.chunk p.role k t) (halves p.role) })
+    then Some (record { thread = k; chunk = fresh z.bits i t (limit_of z.s p.role k t) (halves p.role) })
     else None
 
 abbrev pub held_afresh : Numbers → (i thread : ℕ) → Sphere → Option Occupant

@@ -69,7 +69,7 @@ record IsKnown (s : Setup) (w : World) : Type 0 where
   sizes : length w.spheres ≡ length s.spheres
   logs : (i : ℕ) (image : SphereSetup) (mode : ModeName)
       → WillRecord s i image mode
-      → (sphere_at w i).role ≡ Record (logged mode s.numbers.chunk (supplied i (serial_start s) w.points))
+      → (sphere_at w i).role ≡ Record (logged mode s.numbers.s (supplied i (serial_start s) w.points))
   fresh : (i : ℕ) (image : SphereSetup) (mode : ModeName)
       → WillRecord s i image mode
       → (log : LogParts)

@@ -268,7 +268,7 @@ start-new s (d ∷ ds) (suc i) live = start-new s ds i live
 afresh-open : (z : Numbers) (i k : ℕ) (p : Sphere) (o : Option Parts) (h : Occupant) → thread_afresh z i k p o ≡ Some h → h.chunk.closed ≡ None
 afresh-open z i k p None h e = absurd (none-some h e)
 afresh-open z i k p (Some t) h e =
-    let new : Occupant = record { thread = k; chunk = fresh z.signature i t (limit_of z.chunk p.role k t) (halves p.role) } in
+    let new : Occupant = record { thread = k; chunk = fresh z.bits i t (limit_of z.s p.role k t) (halves p.role) } in
     branch (λ (o : Option Occupant). o ≡ Some h → h.chunk.closed ≡ None) (is_live t) (Some new) None
     (λ _ q. subst (λ (x : Occupant). x.chunk.closed ≡ None) (let r : new ≡ h = cc in r) refl)
     (λ _ q. absurd (none-some h q)) e
@@ -277,7 +277,7 @@ start-begun : (s : Setup) → HasBegun (world_of s)
 start-begun s =
     let ps = (world_of s).spheres in
     record {
-      spheres = start-new s.numbers.chunk s.spheres;
+      spheres = start-new s.numbers.s s.spheres;
       cores = λ c h e.
           afresh-open s.numbers (0 + c) 0 (get_or ps c no_sphere) (slice_get (get_or ps c no_sphere).threads 0) h (first_held s.numbers 0 s.cores c ps h e).1;
     }
@@ -351,7 +351,7 @@ schedule_counted s es = let a = all-counted (world_of s) es in omega (arith, a)
 -- after at most 2^24 events a plain or recorded sphere has fewer commits
 pub leaves_room : SchedulesLeaveRoom
 leaves_room s [] i limits few within live =
-    let e = ap position (start-new s.numbers.chunk s.spheres i live) in omega (arith, e)
+    let e = ap position (start-new s.numbers.s s.spheres i live) in omega (arith, e)
 leaves_room s (e ∷ es) i limits few within live =
     let w = (happens (world_of s) e).world in
     let l = (after-roomy 1 w es (first-roomy s e limits)).few.spheres i within live in

@@ -99,7 +99,7 @@ AccountsAgree =
 
 -- the setups differ in cores, windows, buffers and signatures at most
 pub record AreAlike (s z : Setup) : Type 0 where
-  pub chunk : s.numbers.chunk ≡ z.numbers.chunk
+  pub chunk : s.numbers.s ≡ z.numbers.s
   pub seed : s.seed ≡ z.seed
   pub input : s.input ≡ z.input
   pub spheres : s.spheres ≡ z.spheres

@@ -23,7 +23,7 @@ use Rattle.spec_run.specs.Runs.{points_of, counts_of, executed, played, end_of}
 
 -- the log that the points of sphere i tell, in this mode
 abbrev pub log_of_points : Setup → (schedule : List Event) → (i : ℕ) → ModeName → LogParts
-log_of_points s es i mode = logged mode s.numbers.chunk (supplied i (serial_start s) (points_of s es))
+log_of_points s es i mode = logged mode s.numbers.s (supplied i (serial_start s) (points_of s es))
 
 -- a recorded sphere's log as bytes; no other sphere has one
 abbrev pub log_as : Setup → (schedule : List Event) → (i : ℕ) → RoleSetup → List ℕ

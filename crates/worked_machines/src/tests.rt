@@ -28,8 +28,8 @@ struct Row {
     name: &'static str,
     cores: u8,
     window: u8,
-    chunk: u32,
-    buffer: u32,
+    s: u32,
+    capacity: u32,
     input: &'static [u8],
     spheres: &'static [Life],
     events: &'static [(Event, Reply)],
@@ -191,9 +191,9 @@ fn is_within(setup: &Setup) -> bool
     are_few(setup.cores as usize)
         && are_few(setup.window as usize)
         && are_few(setup.spheres.len())
-        && (16..=4096).contains(&setup.chunk)
-        && (1..=4096).contains(&setup.buffer)
-        && setup.signature == 64
+        && (16..=4096).contains(&setup.s)
+        && (1..=4096).contains(&setup.capacity)
+        && setup.bits == 64
 }
 
 fn are_few(count: usize) -> bool
@@ -213,9 +213,9 @@ fn setup_of(alloc: Global, row: &Row) -> Result<Setup, Fail> {
     Ok(Setup {
         cores: row.cores,
         window: row.window,
-        chunk: row.chunk,
-        buffer: row.buffer,
-        signature: 64,
+        s: row.s,
+        capacity: row.capacity,
+        bits: 64,
         seed: 0,
         input: Bytes::from_slice(alloc, row.input)?,
         spheres,

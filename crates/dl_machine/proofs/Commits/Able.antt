@@ -132,7 +132,7 @@ part_in (Replay b) z s n capacity ts k how ch sound turn there commits fits clos
     }
 
 can_commit_held : (w : World) (c : ℕ) (h : Occupant) (how : How) → IsReady w → at w.cores c ≡ Some h → h.chunk.closed ≡ Some how → is_stopped (sphere_at w h.chunk.sphere).role ≡ false → other_turn (head_of (sphere_at w h.chunk.sphere)) h.thread ≡ None
-    → asks_serial h.chunk (sphere_at w h.chunk.sphere).role ≡ false → CanCommit w.numbers.chunk (sphere_at w h.chunk.sphere) h.thread how h.chunk
+    → asks_serial h.chunk (sphere_at w h.chunk.sphere).role ≡ false → CanCommit w.numbers.s (sphere_at w h.chunk.sphere) h.thread how h.chunk
 can_commit_held w c h how ready is closed going free whole =
     let g = ready.good.held c h is in
     let p = sphere_at w h.chunk.sphere in
@@ -144,16 +144,16 @@ can_commit_held w c h how ready is closed going free whole =
       size = λ live.
           let l = within_limit _ h.chunk how g.chunk.closes closed in
           let m = (g.limit going).most in
-          let s = standard_limit p.role w.numbers.chunk h.thread h.chunk.start live in
+          let s = standard_limit p.role w.numbers.s h.thread h.chunk.start live in
           omega arith;
-      some = short_some w.numbers.chunk w.numbers.buffer how h.chunk g.chunk.closes ready.good.buffer closed;
-      part = part_in p.role _ w.numbers.chunk _ w.numbers.buffer p.threads h.thread how h.chunk (ready.sound.spheres h.chunk.sphere g.sphere).role (turn_of p h.thread going free) g.start (ready.sound.held c h is).commits (g.limit going) g.chunk.closes ready.good.buffer closed whole;
+      some = short_some w.numbers.s w.numbers.capacity how h.chunk g.chunk.closes ready.good.buffer closed;
+      part = part_in p.role _ w.numbers.s _ w.numbers.capacity p.threads h.thread how h.chunk (ready.sound.spheres h.chunk.sphere g.sphere).role (turn_of p h.thread going free) g.start (ready.sound.held c h is).commits (g.limit going) g.chunk.closes ready.good.buffer closed whole;
     }
 
 -- a closed chunk of a sphere that goes on can be committed, where it is nobody else's turn and no serial step is asked for
 pub can_commit : (w : World) (c : ℕ) (o : Option Occupant) (held : Seen) (how : How) (ch : Chunk) → IsReady w → at w.cores c ≡ o → option_map seen o ≡ Some held → option_map closed_by o ≡ Some (Some how) → Some ch ≡ option_map chunk_of o
     → is_stopped (sphere_at w held.sphere).role ≡ false → other_turn (head_of (sphere_at w held.sphere)) held.thread ≡ None → Some false ≡ option_map (λ h. asks_serial h.chunk (sphere_at w held.sphere).role) o
-    → CanCommit w.numbers.chunk (sphere_at w held.sphere) held.thread how ch
+    → CanCommit w.numbers.s (sphere_at w held.sphere) held.thread how ch
 can_commit w c None held how ch ready is eh ew ec going free whole = absurd (none-some held eh)
 can_commit w c (Some h) held how ch ready is eh ew ec going free whole =
     let seen_ : seen h ≡ held = same_Some _ _ eh in
@@ -161,8 +161,8 @@ can_commit w c (Some h) held how ch ready is eh ew ec going free whole =
     let at_h : is_stopped (sphere_at w h.chunk.sphere).role ≡ false = subst (λ (s : Seen). is_stopped (sphere_at w s.sphere).role ≡ false) (sym seen_) going in
     let free_h : other_turn (head_of (sphere_at w h.chunk.sphere)) h.thread ≡ None = subst (λ (s : Seen). other_turn (head_of (sphere_at w s.sphere)) s.thread ≡ None) (sym seen_) free in
     let whole_h : asks_serial h.chunk (sphere_at w h.chunk.sphere).role ≡ false = subst (λ (s : Seen). asks_serial h.chunk (sphere_at w s.sphere).role ≡ false) (sym seen_) (sym (same_Some _ _ whole)) in
-    subst (λ (d : Chunk). CanCommit w.numbers.chunk (sphere_at w held.sphere) held.thread how d) same
-    (subst (λ (s : Seen). CanCommit w.numbers.chunk (sphere_at w s.sphere) s.thread how h.chunk) seen_
+    subst (λ (d : Chunk). CanCommit w.numbers.s (sphere_at w held.sphere) held.thread how d) same
+    (subst (λ (s : Seen). CanCommit w.numbers.s (sphere_at w s.sphere) s.thread how h.chunk) seen_
     (can_commit_held w c h how ready is (same_Some _ _ ew) at_h free_h whole_h))
 
 -- ---- transfers

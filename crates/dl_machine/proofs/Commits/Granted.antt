@@ -72,7 +72,7 @@ module _ (cores : Cores) (spheres : Spheres) (flights : Flights) (devices : Devi
         → after_flight (world_in then_ after_ flights devices counts more)
         ≡ with_grant (world_in cores spheres flights devices counts points) c held (nth_sphere held.sphere after_) words marks devices point
     grant_done then_ ec es ep =
-        let again = set_again cores.held c None (held_afresh (record { chunk = spheres.standard; buffer = cores.capacity; signature = cores.bits }) held.sphere held.thread (nth_sphere held.sphere after_)) in
+        let again = set_again cores.held c None (held_afresh (record { s = spheres.standard; capacity = cores.capacity; bits = cores.bits }) held.sphere held.thread (nth_sphere held.sphere after_)) in
         cc
 
     -- where the core has its lines still and the devices have changed, the parts of a grant are the world after it
@@ -103,20 +103,20 @@ chunk_asked w held how ch =
       what = OfChunk held.thread how ch.done.n ch.limit;
       kind = CommitKind.Chunk;
       n = ch.done.n;
-      short = is_short w.numbers.chunk how ch.limit;
+      short = is_short w.numbers.s how ch.limit;
     }
 
 -- what a granted chunk makes of its sphere
 abbrev pub moved_by : World → Seen → How → Chunk → MovedSphere
 moved_by w held how ch =
-    chunk_moved held.thread (is_piece how) (is_short w.numbers.chunk how ch.limit) ch.done w.devices (sphere_at w held.sphere)
+    chunk_moved held.thread (is_piece how) (is_short w.numbers.s how ch.limit) ch.done w.devices (sphere_at w held.sphere)
 
 chunk_is : (w : World) (c : ℕ) (h : Occupant) (how : How) → grant_chunk w c h how ≡ (let v = moved_by w (seen h) how h.chunk in granted w c (chunk_asked w (seen h) how h.chunk) h.chunk.writes v v.outcome)
 unfolding grant_chunk
 chunk_is w c h how = refl
 
 -- a chunk's request comes to what the move of its sphere makes of the world
-pub chunk_after : (w : World) (c : ℕ) (how : How) (o : Option Occupant) (held : Seen) (ch : Chunk) (marks : Marks) (v : MovedSphere) → option_map seen o ≡ Some held → Some ch ≡ option_map chunk_of o → marks ≡ writes_in w.numbers.signature o → v ≡ moved_by w held how ch
+pub chunk_after : (w : World) (c : ℕ) (how : How) (o : Option Occupant) (held : Seen) (ch : Chunk) (marks : Marks) (v : MovedSphere) → option_map seen o ≡ Some held → Some ch ≡ option_map chunk_of o → marks ≡ writes_in w.numbers.bits o → v ≡ moved_by w held how ch
     → Some (granted w c (chunk_asked w held how ch) marks v v.outcome) ≡ option_map (λ h. grant_chunk w c h how) o
 chunk_after w c how None held ch marks v eh ec em ev = absurd (none-some held eh)
 chunk_after w c how (Some h) held ch marks v eh ec em ev =
@@ -141,12 +141,12 @@ serial_asked held =
       short = false;
     }
 
-serial_is : (w : World) (c : ℕ) (h : Occupant) → grant_serial w c h ≡ (let v = serial_moved h.thread (moment w) h.chunk.start w.devices (sphere_at w h.chunk.sphere) in granted w c (serial_asked (seen h)) (signed h.chunk.sphere v.words (nothing w.numbers.signature)) v v.outcome)
+serial_is : (w : World) (c : ℕ) (h : Occupant) → grant_serial w c h ≡ (let v = serial_moved h.thread (moment w) h.chunk.start w.devices (sphere_at w h.chunk.sphere) in granted w c (serial_asked (seen h)) (signed h.chunk.sphere v.words (nothing w.numbers.bits)) v v.outcome)
 unfolding grant_serial
 serial_is w c h = refl
 
 abbrev pub serial_after_of : World → (core : ℕ) → Seen → MovedSphere → After
-serial_after_of w c held v = granted w c (serial_asked held) (signed held.sphere v.words (nothing w.numbers.signature)) v v.outcome
+serial_after_of w c held v = granted w c (serial_asked held) (signed held.sphere v.words (nothing w.numbers.bits)) v v.outcome
 
 -- a serial step's request comes to what the move of its sphere makes of the world
 pub serial_after : (w : World) (c : ℕ) (o : Option Occupant) (held : Seen) (v : MovedSphere) → IsReady w → at w.cores c ≡ o → option_map seen o ≡ Some held
@@ -192,4 +192,4 @@ chunk_passes w c h how =
 pub serial_passes : (w : World) (c : ℕ) (h : Occupant) → passes_checks (grant_serial w c h).reply ≡ true
 serial_passes w c h =
     let v = serial_moved h.thread (moment w) h.chunk.start w.devices (sphere_at w h.chunk.sphere) in
-    ap (λ (a : After). passes_checks a.reply) (serial_is w c h) ∙ granted_passes w c (serial_asked (seen h)) (signed h.chunk.sphere v.words (nothing w.numbers.signature)) v v.outcome
+    ap (λ (a : After). passes_checks a.reply) (serial_is w c h) ∙ granted_passes w c (serial_asked (seen h)) (signed h.chunk.sphere v.words (nothing w.numbers.bits)) v v.outcome

@@ -34,6 +34,6 @@ comes_to o None v c e = absurd c
 comes_to o (Some u) v c e = let same : u ≡ v = cc in ap (λ (x : MovedSphere). x.outcome) (sym same) ∙ c
 
 -- a signature of words has the size of those of the flights
-pub marks_fit : (w : World) (i : ℕ) (words : List Stored) (marks empty : Marks) → IsReady w → marks ≡ signed i words empty → empty ≡ nothing w.numbers.signature → AreOfSize marks.bits w.slots
+pub marks_fit : (w : World) (i : ℕ) (words : List Stored) (marks empty : Marks) → IsReady w → marks ≡ signed i words empty → empty ≡ nothing w.numbers.bits → AreOfSize marks.bits w.slots
 marks_fit w i words marks empty ready em ee =
     subst (λ (n : ℕ). AreOfSize n w.slots) (sym (ap (λ (g : Marks). g.bits) em ∙ bits-signed i words empty ∙ ap (λ (g : Marks). g.bits) ee)) (slots_size w ready)

@@ -18,24 +18,24 @@ seen_of w c (Some h) ready is = let g = ready.good.held c h is in record { spher
 pub held_is_of : (w : World) (c : ℕ) (r : Option Seen) → IsReady w → r ≡ option_map seen (at w.cores c) → IfSome r (IsOf w)
 held_is_of w c r ready is = subst (λ (o : Option Seen). IfSome o (IsOf w)) (sym is) (seen_of w c (at w.cores c) ready refl)
 
-reads_size : (w : World) (c : ℕ) (o : Option Occupant) → IsReady w → at w.cores c ≡ o → (reads_in w.numbers.signature o).bits ≡ w.numbers.signature
+reads_size : (w : World) (c : ℕ) (o : Option Occupant) → IsReady w → at w.cores c ≡ o → (reads_in w.numbers.bits o).bits ≡ w.numbers.bits
 reads_size w c None ready is = refl
 reads_size w c (Some h) ready is = (ready.good.held c h is).chunk.reads_size
 
-writes_size : (w : World) (c : ℕ) (o : Option Occupant) → IsReady w → at w.cores c ≡ o → (writes_in w.numbers.signature o).bits ≡ w.numbers.signature
+writes_size : (w : World) (c : ℕ) (o : Option Occupant) → IsReady w → at w.cores c ≡ o → (writes_in w.numbers.bits o).bits ≡ w.numbers.bits
 writes_size w c None ready is = refl
 writes_size w c (Some h) ready is = (ready.good.held c h is).chunk.writes_size
 
-slot_size : (w : World) (k : ℕ) (o : Option Flight) → IsReady w → at w.slots k ≡ o → IsOfSize w.numbers.signature o
+slot_size : (w : World) (k : ℕ) (o : Option Flight) → IsReady w → at w.slots k ≡ o → IsOfSize w.numbers.bits o
 slot_size w k None ready is = tt
 slot_size w k (Some f) ready is = (ready.good.covered k f is).size
 
 -- the signature of a core's reads has the size of those in the slots
-pub reads_fit : (w : World) (c k : ℕ) → IsReady w → IsOfSize (reads_in w.numbers.signature (at w.cores c)).bits (at w.slots k)
+pub reads_fit : (w : World) (c k : ℕ) → IsReady w → IsOfSize (reads_in w.numbers.bits (at w.cores c)).bits (at w.slots k)
 reads_fit w c k ready = subst (λ (n : ℕ). IsOfSize n (at w.slots k)) (sym (reads_size w c (at w.cores c) ready refl)) (slot_size w k (at w.slots k) ready refl)
 
 -- the signature of a core's writes has the size of those in the slots
-pub writes_fit : (w : World) (c k : ℕ) → IsReady w → IsOfSize (writes_in w.numbers.signature (at w.cores c)).bits (at w.slots k)
+pub writes_fit : (w : World) (c k : ℕ) → IsReady w → IsOfSize (writes_in w.numbers.bits (at w.cores c)).bits (at w.slots k)
 writes_fit w c k ready = subst (λ (n : ℕ). IsOfSize n (at w.slots k)) (sym (writes_size w c (at w.cores c) ready refl)) (slot_size w k (at w.slots k) ready refl)
 
 -- a flight's words lie in the memory of its sphere
@@ -46,7 +46,7 @@ flight_inside w k (Some f) ready is =
     (i, subst (λ (n : ℕ). AreInside n f.words) (sym (ready.sound.spheres f.sphere i).size) (ready.sound.flights k f is).inside)
 
 -- the signatures in the slots have the world's size
-pub slots_size : (w : World) → IsReady w → AreOfSize w.numbers.signature w.slots
+pub slots_size : (w : World) → IsReady w → AreOfSize w.numbers.bits w.slots
 slots_size w ready = record { each = λ k. slot_size w k (at w.slots k) ready refl }
 
 -- the signature of a held chunk's reads has the size of those in the slots

@@ -47,7 +47,7 @@ start_spheres c s (image ∷ images) =
 
 start_potential : (s : Setup) → potential s (world_of s) ≤ price s.cores (plays_work s.spheres)
 start_potential s =
-    let e = free_none s.cores s.window in let r = start_spheres s.cores s.numbers.chunk s.spheres in omega (arith, e, r)
+    let e = free_none s.cores s.window in let r = start_spheres s.cores s.numbers.s s.spheres in omega (arith, e, r)
 
 -- ---- a schedule
 

@@ -123,8 +123,8 @@ start-kinds s (image ∷ images) = (start_kind s _ image.role, start-kinds s ima
 chunk_kinds : (z : Numbers) (images : List SphereSetup) (x : SerialState) (i k : ℕ) (how : How) (n limit : ℕ) (p : Sphere) (o : Option Parts) → slice_get x.spheres i ≡ Some p → AreOfKinds images x.spheres → AreOfKinds images (move_chunk z x i k how n limit p o).spheres
 chunk_kinds z images x i k how n limit p None is all = all
 chunk_kinds z images x i k how n limit p (Some t) is all =
-    kinds_set images x.spheres i p (laid (chunk_moved k (is_piece how) (is_short z.chunk how limit) (run p.memory t n) x.devices p)) is
-    (chunk-kind k (is_piece how) (is_short z.chunk how limit) (run p.memory t n) x.devices p) all
+    kinds_set images x.spheres i p (laid (chunk_moved k (is_piece how) (is_short z.s how limit) (run p.memory t n) x.devices p)) is
+    (chunk-kind k (is_piece how) (is_short z.s how limit) (run p.memory t n) x.devices p) all
 
 serial_kinds : (images : List SphereSetup) (x : SerialState) (i k moment : ℕ) (p : Sphere) (o : Option Parts) → slice_get x.spheres i ≡ Some p → AreOfKinds images x.spheres → AreOfKinds images (do_serial x i k moment p o).spheres
 serial_kinds images x i k moment p None is all = all

@@ -54,7 +54,7 @@ image_of s w sizes i p is =
 pub kinds_after : (s : Setup) (es : List Event) → IsSetup s → AreOfKinds s.spheres (shown_of (after s es)).spheres
 kinds_after s es is =
     subst (λ (x : SerialState). AreOfKinds s.spheres x.spheres) (sym (moves_are s es is).same)
-    (moves-kinds s.numbers s.spheres (serial_start s) (moves (world_of s) es) (start-kinds s.numbers.chunk s.spheres))
+    (moves-kinds s.numbers s.spheres (serial_start s) (moves (world_of s) es) (start-kinds s.numbers.s s.spheres))
 
 replayed_is : (r : RoleSetup) → is_replayed r ≡ true → (log : LogParts) × (r ≡ IsReplayed log)
 replayed_is IsPlain e = absurd (true≢false (sym e))

@@ -87,7 +87,7 @@ current-bytes s w i sound l =
 
 -- what a shown sphere has of a sound one
 record IsFew (z : Numbers) (devices : Devices) (p : Sphere) : Type 0 where
-  limits : (k : ℕ) (t : Parts) → limit_of z.chunk p.role k t ≤ 4096
+  limits : (k : ℕ) (t : Parts) → limit_of z.s p.role k t ≤ 4096
   bytes : IsBytes p.memory
   input : HaveByteInput devices
   request : (q : Request) → p.progress.request ≡ Some q → q.len ≤ 4096
@@ -166,8 +166,8 @@ shown-few s w i p limits sound e =
     let k = sound.spheres i l in
     let same : over (current w i) q ≡ p = (let o : Some (over (current w i) q) ≡ Some p = sym (shown_at w i l ∙ ap Some (shown_over w i)) ∙ e in cc) in
     subst (IsFew w.numbers w.devices) same (record {
-      limits = λ j t. limit-most w.numbers.chunk (position q.progress) q.threads q.role j t (subst (λ (z : Numbers). z.chunk ≤ 4096) (sym sound.sizes.numbers) limits.chunk.1)
-          (subst (λ (z : Numbers). IsSoundRole z.chunk (position q.progress) q.threads q.role) (sym sound.sizes.numbers) k.role);
+      limits = λ j t. limit-most w.numbers.s (position q.progress) q.threads q.role j t (subst (λ (z : Numbers). z.s ≤ 4096) (sym sound.sizes.numbers) limits.chunk.1)
+          (subst (λ (z : Numbers). IsSoundRole z.s (position q.progress) q.threads q.role) (sym sound.sizes.numbers) k.role);
       bytes = current-bytes s w i sound l;
       input = sound.devices;
       request = λ r h. (let c : IsSoundRequest (length (image_at s i).memory) r = subst (IsSoundIf (length (image_at s i).memory)) h k.request in c.few);

@@ -72,7 +72,7 @@ serial_flies c w d h held none =
     ∙ ap (λ (x : Sphere). serial_most c x w.devices (moment w) h.thread (slice_get x.threads h.thread)) (shown_same w i empty)
     ∙ ap (serial_most c p w.devices (moment w) h.thread) held.start
     in
-    granted_flies c w d (serial_request h) (signed i v.words (nothing w.numbers.signature)) v v.outcome (omega (arith, most))
+    granted_flies c w d (serial_request h) (signed i v.words (nothing w.numbers.bits)) v v.outcome (omega (arith, most))
 
 -- ---- the event
 
@@ -99,7 +99,7 @@ pub dma-flies : (c : ℕ) (w : World) (i : ℕ) → Flies c w (transferring w i)
 dma-flies c w i =
     any-transfer w (Flies c w) (λ r none. still_flies c w r) i
     (λ v t free none.
-    let r = flown-most c i v.words (signed i v.words (nothing w.numbers.signature)) 0 w.slots in
+    let r = flown-most c i v.words (signed i v.words (nothing w.numbers.bits)) 0 w.slots in
     let l = dma_most_is c w i t.within ∙ ap (dma_most c) t.is in
     omega (arith, r, l))
     (λ v j why t is. omega arith)

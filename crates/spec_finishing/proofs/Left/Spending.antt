@@ -46,7 +46,7 @@ abbrev pub if_work : SerialState → Option Move → ℕ
 if_work x None = 0
 if_work x (Some m) = move_work x m
 
-if_pays : (s : Setup) (z : Numbers) (x : SerialState) (o : Option Move) → 0 < z.buffer → Stands s x → FitsIf z x o
+if_pays : (s : Setup) (z : Numbers) (x : SerialState) (o : Option Move) → 0 < z.capacity → Stands s x → FitsIf z x o
     → spheres_rank s.cores s.spheres (do_if z x o).spheres + if_most s.cores x o ≤ spheres_rank s.cores s.spheres x.spheres + price s.cores (if_work x o)
 if_pays s z x None positive stands fits = omega arith
 if_pays s z x (Some m) positive stands fits = move-pays s.cores s z x m positive stands fits

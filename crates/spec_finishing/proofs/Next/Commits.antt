@@ -66,7 +66,7 @@ serial_commits : (w : World) (c : ℕ) (h : Occupant) → h.chunk.done.n ≡ 0 �
 unfolding grant_serial
 serial_commits w c h e =
     let v = serial_moved h.thread (moment w) h.chunk.start w.devices (sphere_at w h.chunk.sphere) in
-    granted_commits w c (serial_request h) (signed h.chunk.sphere v.words (nothing w.numbers.signature)) v v.outcome h.chunk.done.n (omega (arith, e))
+    granted_commits w c (serial_request h) (signed h.chunk.sphere v.words (nothing w.numbers.bits)) v v.outcome h.chunk.done.n (omega (arith, e))
 
 arbiter_commits : (w : World) (c : ℕ) (h : Occupant) (how : How) (serial : Bool) → ((k : ℕ) → at w.slots k ≡ None) → (serial ≡ true → h.chunk.done.n ≡ 0) → Commits h.chunk.sphere h.chunk.done.n (ask_arbiter w c h how serial)
 arbiter_commits w c h how true none empty =
@@ -120,7 +120,7 @@ ask-commits s w i k c h how none l a on closed =
 done_commits : (w : World) (i : ℕ) (v : MovedSphere) → ((k : ℕ) → at w.slots k ≡ None) → 0 < length w.slots → Commits i 0 (transfer w i v)
 unfolding transfer
 done_commits w i v none l =
-    let writes = signed i v.words (nothing w.numbers.signature) in
+    let writes = signed i v.words (nothing w.numbers.bits) in
     subst (Commits i 0)
     (sym (ap {A = Bool} (λ b. cond b (answered w Reply.WindowFull) (unless_denied (ask writes writes w.slots) w (dma_done w i writes v))) (room_there w.slots none l)
     ∙ not_denied w (dma_done w i writes v) writes writes none))

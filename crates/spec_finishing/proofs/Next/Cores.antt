@@ -61,10 +61,10 @@ pub record Rose (w : World) (i k : ℕ) (a : After) : Type 0 where
 -- ---- Step
 
 step_is : (w : World) (c : ℕ) (h : Occupant) → at w.cores c ≡ Some h → is_stopped (sphere_at w h.chunk.sphere).role ≡ false → is_open h.chunk ≡ true
-    → stepping w c ≡ stepped w c h (step w.numbers.buffer (sphere_at w h.chunk.sphere).memory w.slots c h.chunk)
+    → stepping w c ≡ stepped w c h (step w.numbers.capacity (sphere_at w h.chunk.sphere).memory w.slots c h.chunk)
 unfolding stepping
 step_is w c h is going open_ =
-    let s = step w.numbers.buffer (sphere_at w h.chunk.sphere).memory w.slots c h.chunk in
+    let s = step w.numbers.capacity (sphere_at w h.chunk.sphere).memory w.slots c h.chunk in
     ap (step_held w c) is
     ∙ ap {A = Bool} (λ b. cond b (answered w Reply.Stopped) (cond (is_open h.chunk) (stepped w c h s) (answered w Reply.Waiting))) going
     ∙ ap {A = Bool} (λ b. cond b (stepped w c h s) (answered w Reply.Waiting)) open_
@@ -74,10 +74,10 @@ pub record StepRose (w : World) (i k : ℕ) (n : ℕ) (a : After) : Type 0 where
   pub rose : Rose w i k a
   pub more : suc n < held_under_way (Some rose.held)
 
-step_rose : (w : World) (i k c : ℕ) (h : Occupant) → standing w ≡ None → OnCore w i k c h → core_of w i k ≡ Some c → StepRose w i k h.chunk.done.n (stepped w c h (step w.numbers.buffer (sphere_at w h.chunk.sphere).memory w.slots c h.chunk))
+step_rose : (w : World) (i k c : ℕ) (h : Occupant) → standing w ≡ None → OnCore w i k c h → core_of w i k ≡ Some c → StepRose w i k h.chunk.done.n (stepped w c h (step w.numbers.capacity (sphere_at w h.chunk.sphere).memory w.slots c h.chunk))
 step_rose w i k c h none on found =
-    let s = step w.numbers.buffer (sphere_at w h.chunk.sphere).memory w.slots c h.chunk in
-    let r = step-rises w.numbers.buffer (sphere_at w h.chunk.sphere).memory w.slots c h.chunk (no-flight w none) in
+    let s = step w.numbers.capacity (sphere_at w h.chunk.sphere).memory w.slots c h.chunk in
+    let r = step-rises w.numbers.capacity (sphere_at w h.chunk.sphere).memory w.slots c h.chunk (no-flight w none) in
     let g : Occupant = record h { chunk = s.chunk } in
     let l = at_within w.cores c h on.there in
     record {
@@ -111,7 +111,7 @@ thread_lives s w i k a =
 abbrev new_held : World → (i k : ℕ) → Parts → Occupant
 new_held w i k t =
     let p = sphere_at w i in
-    record { thread = k; chunk = fresh w.numbers.signature i t (limit_of w.numbers.chunk p.role k t) (halves p.role) }
+    record { thread = k; chunk = fresh w.numbers.bits i t (limit_of w.numbers.s p.role k t) (halves p.role) }
 
 chunk_is : (w : World) (i k : ℕ) (t : Parts) → slice_get (sphere_at w i).threads k ≡ Some t → is_live t ≡ true → held_afresh w.numbers i k (sphere_at w i) ≡ Some (new_held w i k t)
 chunk_is w i k t is live =

@@ -108,14 +108,14 @@ module _ (c : ℕ) (image : SphereSetup) (p : Sphere) (b : Cursor) (role : p.rol
       (afford-paid c (next_work image p b) b.total n afford)
 
   -- a chunk of a replay that can be done as its move says
-  pub chunk-pays : (z : Numbers) (k : ℕ) (u : Parts) (how : How) (n limit : ℕ) (short : Bool) (devices : Devices) → 0 < z.buffer → slice_get p.threads k ≡ Some u → ChunkFits z p k u how n limit
+  pub chunk-pays : (z : Numbers) (k : ℕ) (u : Parts) (how : How) (n limit : ℕ) (short : Bool) (devices : Devices) → 0 < z.capacity → slice_get p.threads k ≡ Some u → ChunkFits z p k u how n limit
       → sphere_rank c image (laid (chunk_moved k (is_piece how) short (run p.memory u n) devices p)) + paid c n ≤ sphere_rank c image p
   unfolding chunk_moved
   chunk-pays z k u how n limit short devices positive is fits =
       let turn = turn_of_thread p b k role fits.going fits.turn in
       let h = has-run image p b k g turn in
-      let limited : limit ≡ limit_of z.chunk (Replay b) k u = fits.replayed (ap replays role) ∙ ap (λ (r : Role). limit_of z.chunk r k u) role in
-      let most : n ≤ limit_of z.chunk (Replay b) k u = subst (λ (l : ℕ). n ≤ l) limited (how_most how n limit fits.full fits.early) in
-      let afford = part-afforded image p b k h.0 u z.chunk n turn h.1 is fits.ran most in
+      let limited : limit ≡ limit_of z.s (Replay b) k u = fits.replayed (ap replays role) ∙ ap (λ (r : Role). limit_of z.s r k u) role in
+      let most : n ≤ limit_of z.s (Replay b) k u = subst (λ (l : ℕ). n ≤ l) limited (how_most how n limit fits.full fits.early) in
+      let afford = part-afforded image p b k h.0 u z.s n turn h.1 is fits.ran most in
       subst (λ (r : Role). sphere_rank c image (laid (chunk_in r k (is_piece how) short (run p.memory u n) devices p)) + paid c n ≤ sphere_rank c image p) (sym role)
-      (part_rank k (is_piece how) (run p.memory u n) n devices fits.ran (how_some how n z.buffer positive fits.cut fits.room) afford)
+      (part_rank k (is_piece how) (run p.memory u n) n devices fits.ran (how_some how n z.capacity positive fits.cut fits.room) afford)

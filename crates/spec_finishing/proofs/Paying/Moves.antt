@@ -71,8 +71,8 @@ module _ (c : ℕ) (images : List SphereSetup) (x : SerialState) (i : ℕ) (imag
         → spheres_rank c images (move_chunk z x i k how n limit p o).spheres + (n + c + 1) ≤ spheres_rank c images x.spheres + price c (suc n)
     chunk_own z k how n limit None = let h = words-paid c n in omega (arith, h)
     chunk_own z k how n limit (Some t) =
-        own_pays (laid (chunk_moved k (is_piece how) (is_short z.chunk how limit) (run p.memory t n) x.devices p)) (n + c + 1) (price c (suc n))
-        (chunk-kind k (is_piece how) (is_short z.chunk how limit) (run p.memory t n) x.devices p ∙ live) (let h = words-paid c n in omega (arith, h))
+        own_pays (laid (chunk_moved k (is_piece how) (is_short z.s how limit) (run p.memory t n) x.devices p)) (n + c + 1) (price c (suc n))
+        (chunk-kind k (is_piece how) (is_short z.s how limit) (run p.memory t n) x.devices p ∙ live) (let h = words-paid c n in omega (arith, h))
 
     serial_own : (k moment : ℕ) (o : Option Parts)
         → spheres_rank c images (do_serial x i k moment p o).spheres + serial_most c p x.devices moment k o ≤ spheres_rank c images x.spheres + price c (serial_work p x.devices moment k o)
@@ -106,13 +106,13 @@ module _ (c : ℕ) (images : List SphereSetup) (x : SerialState) (i : ℕ) (imag
   -- it is a replay, with cursor b, and goes on beside its play unless it is over
   module _ (b : Cursor) (role : p.role ≡ Replay b) (goes : is_over b.now ≡ false → GoesOn image p b) where
     -- a chunk of a replay pays for its flight with what the play has left less
-    pub chunk_paid : (z : Numbers) (k : ℕ) (how : How) (n limit : ℕ) (o : Option Parts) → 0 < z.buffer → slice_get p.threads k ≡ o → FitsChunk z p k how n limit o
+    pub chunk_paid : (z : Numbers) (k : ℕ) (how : How) (n limit : ℕ) (o : Option Parts) → 0 < z.capacity → slice_get p.threads k ≡ o → FitsChunk z p k how n limit o
         → spheres_rank c images (move_chunk z x i k how n limit p o).spheres + paid c n ≤ spheres_rank c images x.spheres + 0
     chunk_paid z k how n limit None positive thread fits = absurd fits
     chunk_paid z k how n limit (Some t) positive thread fits =
         let going : is_over b.now ≡ false = sym (ap is_stopped role) ∙ fits.going in
-        let pays = chunk-pays c image p b role going (goes going) z k t how n limit (is_short z.chunk how limit) x.devices positive thread fits in
-        spheres-pay c images x.spheres i image p (laid (chunk_moved k (is_piece how) (is_short z.chunk how limit) (run p.memory t n) x.devices p)) (paid c n) 0 there is (omega (arith, pays))
+        let pays = chunk-pays c image p b role going (goes going) z k t how n limit (is_short z.s how limit) x.devices positive thread fits in
+        spheres-pay c images x.spheres i image p (laid (chunk_moved k (is_piece how) (is_short z.s how limit) (run p.memory t n) x.devices p)) (paid c n) 0 there is (omega (arith, pays))
 
     -- a serial step of a replay pays for its flight with what the play has left less
     pub serial_paid : (k moment : ℕ) (o : Option Parts) → slice_get p.threads k ≡ o → FitsSerial p k o

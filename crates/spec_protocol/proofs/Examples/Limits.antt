@@ -17,7 +17,7 @@ least =
     record {
       cores = 1;
       window = 1;
-      numbers = record { chunk = 16; buffer = 1; signature = 64 };
+      numbers = record { s = 16; capacity = 1; bits = 64 };
       seed = 0;
       input = [];
       spheres = with_role IsPlain ∷ with_role (IsRecorded ModeName.Picolog) ∷ with_role (IsReplayed (new_log ModeName.OrderSize 16)) ∷ [];

@@ -46,7 +46,7 @@ shown_over w i = refl
 
 abbrev chunk_move : World → Occupant → How → MovedSphere
 chunk_move w h how =
-    chunk_moved h.thread (is_piece how) (is_short w.numbers.chunk how h.chunk.limit) h.chunk.done w.devices (sphere_at w h.chunk.sphere)
+    chunk_moved h.thread (is_piece how) (is_short w.numbers.s how h.chunk.limit) h.chunk.done w.devices (sphere_at w h.chunk.sphere)
 
 -- done whole: a run of its instructions on the current memory
 chunk_whole : (w : World) (h : Occupant) (how : How) → h.chunk.sphere < length w.spheres → slice_get (sphere_at w h.chunk.sphere).threads h.thread ≡ Some h.chunk.start → run (current w h.chunk.sphere) h.chunk.start h.chunk.done.n ≡ h.chunk.done
@@ -60,8 +60,8 @@ chunk_whole w h how within start runs =
     let move = move_at (moment w) (chunk_request w h how) in
     ap (do_at w.numbers (shown_of w) move) (shown_at w i within ∙ ap Some (shown_over w i))
     ∙ ap (move_chunk w.numbers (shown_of w) i h.thread how ch.done.n ch.limit (over m p)) start
-    ∙ ap (λ (r : Run). do_moved (shown_of w) i (chunk_moved h.thread (is_piece how) (is_short w.numbers.chunk how ch.limit) r w.devices (over m p))) runs
-    ∙ ap (do_moved (shown_of w) i) (chunk-relaid h.thread (is_piece how) (is_short w.numbers.chunk how ch.limit) ch.done w.devices p m)
+    ∙ ap (λ (r : Run). do_moved (shown_of w) i (chunk_moved h.thread (is_piece how) (is_short w.numbers.s how ch.limit) r w.devices (over m p))) runs
+    ∙ ap (do_moved (shown_of w) i) (chunk-relaid h.thread (is_piece how) (is_short w.numbers.s how ch.limit) ch.done w.devices p m)
 
 -- no flight at all hits the chunk
 pub never_hits : (w : World) (ch : Chunk) → first_slot (meets_chunk ch.reads ch.writes) w.slots ≡ None → (k : ℕ) (f : Flight) → at w.slots k ≡ Some f → (hits f.writes ch.reads ≡ false) × (hits f.writes ch.writes ≡ false)
@@ -148,7 +148,7 @@ chunk_grants w c h how good is closed going turn free chunk none =
     let p = sphere_at w i in
     let live = chunk_live w c h held none in
     let v = chunk_move w h how in
-    let short = is_short w.numbers.chunk how h.chunk.limit in
+    let short = is_short w.numbers.s how h.chunk.limit in
     record {
       is = is;
       sphere = refl;
@@ -220,7 +220,7 @@ serial_fits_at w h within start fits =
 
 serial_grants : (w : World) (c : ℕ) (h : Occupant) → IsGood w → at w.cores c ≡ Some h → is_stopped (sphere_at w h.chunk.sphere).role ≡ false → other_turn (head_of (sphere_at w h.chunk.sphere)) h.thread ≡ None → is_full w.slots ≡ false
     → asks_serial h.chunk (sphere_at w h.chunk.sphere).role ≡ true → first_slot (is_of_sphere h.chunk.sphere) w.slots ≡ None
-    → Grants w c h (serial_request h) (signed h.chunk.sphere (serial_move w h).words (nothing w.numbers.signature)) (serial_move w h)
+    → Grants w c h (serial_request h) (signed h.chunk.sphere (serial_move w h).words (nothing w.numbers.bits)) (serial_move w h)
 serial_grants w c h good is going turn free serial none =
     let held = good.held c h is in
     let i = h.chunk.sphere in
@@ -240,8 +240,8 @@ serial_grants w c h good is going turn free serial none =
       moves = moves;
       free = free;
       covered = record {
-        size = bits-signed i v.words (nothing w.numbers.signature);
-        words = CoversWords-signed i v.words (nothing w.numbers.signature);
+        size = bits-signed i v.words (nothing w.numbers.bits);
+        words = CoversWords-signed i v.words (nothing w.numbers.bits);
       };
       lack = subst (AllLack v.words) (sym empty) (AllLack_nil v.words);
       lives = λ e. serial-lives h.thread (moment w) h.chunk.start w.devices p e;
@@ -263,7 +263,7 @@ grant_chunk_preserved : (w : World) (c : ℕ) (h : Occupant) (how : How) → IsG
 unfolding grant_chunk
 grant_chunk_preserved w c h how good g = granted-preserved w c h (chunk_request w h how) h.chunk.writes (chunk_move w h how) _ refl good g
 
-grant_serial_preserved : (w : World) (c : ℕ) (h : Occupant) → IsGood w → Grants w c h (serial_request h) (signed h.chunk.sphere (serial_move w h).words (nothing w.numbers.signature)) (serial_move w h) → Preserved w (grant_serial w c h)
+grant_serial_preserved : (w : World) (c : ℕ) (h : Occupant) → IsGood w → Grants w c h (serial_request h) (signed h.chunk.sphere (serial_move w h).words (nothing w.numbers.bits)) (serial_move w h) → Preserved w (grant_serial w c h)
 unfolding grant_serial
 grant_serial_preserved w c h good g = granted-preserved w c h (serial_request h) _ (serial_move w h) _ refl good g
 

@@ -63,7 +63,7 @@ serial_reply : (w : World) (c : ℕ) (h : Occupant) → replays (sphere_at w h.c
 unfolding grant_serial
 serial_reply w c h live =
     let v = serial_moved h.thread (moment w) h.chunk.start w.devices (sphere_at w h.chunk.sphere) in
-    granted_reply w c (serial_request h) (signed h.chunk.sphere v.words (nothing w.numbers.signature)) v _ (serial-lives h.thread (moment w) h.chunk.start w.devices (sphere_at w h.chunk.sphere) live)
+    granted_reply w c (serial_request h) (signed h.chunk.sphere v.words (nothing w.numbers.bits)) v _ (serial-lives h.thread (moment w) h.chunk.start w.devices (sphere_at w h.chunk.sphere) live)
 
 denied_reply : (w : World) (a : After) (o : Option ℕ) → o ≡ None → a.reply ≡ Reply.Granted → (unless_denied (denied_by o) w a).reply ≡ Reply.Granted
 denied_reply w a None e g = g

@@ -96,10 +96,10 @@ core-preserved w c o a world move point good =
 
 -- ---- the core's chunk changes, and its base does not
 
-pub held-same : (w : World) (c : ℕ) (h : Occupant) (dh : Chunk) → IsGoodHeld w c h → SameBase h.chunk dh → IsGoodChunk w.numbers.buffer w.numbers.signature w.slots c (current w h.chunk.sphere) dh → IsGoodHeld w c (record h { chunk = dh })
+pub held-same : (w : World) (c : ℕ) (h : Occupant) (dh : Chunk) → IsGoodHeld w c h → SameBase h.chunk dh → IsGoodChunk w.numbers.capacity w.numbers.bits w.slots c (current w h.chunk.sphere) dh → IsGoodHeld w c (record h { chunk = dh })
 held-same w c h dh good base chunk =
-    let limits : limit_of w.numbers.chunk (sphere_at w dh.sphere).role h.thread dh.start ≡ limit_of w.numbers.chunk (sphere_at w h.chunk.sphere).role h.thread h.chunk.start =
-    (λ j. limit_of w.numbers.chunk (sphere_at w (base.sphere j)).role h.thread (base.start j))
+    let limits : limit_of w.numbers.s (sphere_at w dh.sphere).role h.thread dh.start ≡ limit_of w.numbers.s (sphere_at w h.chunk.sphere).role h.thread h.chunk.start =
+    (λ j. limit_of w.numbers.s (sphere_at w (base.sphere j)).role h.thread (base.start j))
     in
     record {
       sphere = subst (λ (i : ℕ). i < length w.spheres) (sym base.sphere) good.sphere;
@@ -109,10 +109,10 @@ held-same w c h dh good base chunk =
       limit = λ going.
           let l = good.limit (ap (λ (i : ℕ). is_stopped (sphere_at w i).role) (sym base.sphere) ∙ going) in
           record {
-            most = subst (λ (n : ℕ). n ≤ limit_of w.numbers.chunk (sphere_at w dh.sphere).role h.thread dh.start) (sym base.limit) (subst (λ (n : ℕ). h.chunk.limit ≤ n) (sym limits) l.most);
+            most = subst (λ (n : ℕ). n ≤ limit_of w.numbers.s (sphere_at w dh.sphere).role h.thread dh.start) (sym base.limit) (subst (λ (n : ℕ). h.chunk.limit ≤ n) (sym limits) l.most);
             replayed = λ r. base.limit ∙ l.replayed (ap (λ (i : ℕ). replays (sphere_at w i).role) (sym base.sphere) ∙ r) ∙ sym limits;
           };
-      chunk = subst (λ (i : ℕ). IsGoodChunk w.numbers.buffer w.numbers.signature w.slots c (current w i) dh) (sym base.sphere) chunk;
+      chunk = subst (λ (i : ℕ). IsGoodChunk w.numbers.capacity w.numbers.bits w.slots c (current w i) dh) (sym base.sphere) chunk;
     }
 
 -- nobody else runs the thread of core c's chunk
@@ -121,7 +121,7 @@ others-differ w c h dh good is same k e d g ne there sphere thread =
     let q : record h { chunk = dh } ≡ k = cc in
     ne (good.alone d c g h there is (sym sphere ∙ ap (λ (x : Occupant). x.chunk.sphere) (sym q) ∙ same) (sym thread ∙ ap (λ (x : Occupant). x.thread) (sym q)))
 
-chunk_preserved : (w : World) (c : ℕ) (h : Occupant) (dh : Chunk) (a : After) → IsGood w → at w.cores c ≡ Some h → SameBase h.chunk dh → IsGoodChunk w.numbers.buffer w.numbers.signature w.slots c (current w h.chunk.sphere) dh
+chunk_preserved : (w : World) (c : ℕ) (h : Occupant) (dh : Chunk) (a : After) → IsGood w → at w.cores c ≡ Some h → SameBase h.chunk dh → IsGoodChunk w.numbers.capacity w.numbers.bits w.slots c (current w h.chunk.sphere) dh
     → a.world ≡ with_chunk w c h dh → a.move ≡ None → a.point ≡ None → Preserved w a
 chunk_preserved w c h dh a good is base chunk world move point =
     core-preserved w c (Some (record h { chunk = dh })) a world move point
@@ -136,8 +136,8 @@ pub step-preserved : (w : World) (c : ℕ) → IsGood w → Preserved w (steppin
 step-preserved w c good =
     any-step w (Preserved w) (λ r none. unchanged-preserved w (answered w r) refl refl refl good) c
     (λ h is opened.
-    let s = step w.numbers.buffer (sphere_at w h.chunk.sphere).memory w.slots c h.chunk in
-    let r = step-good w.numbers.buffer w.numbers.signature w.slots c (sphere_at w h.chunk.sphere).memory h.chunk good.covered opened (good.held c h is).chunk in
+    let s = step w.numbers.capacity (sphere_at w h.chunk.sphere).memory w.slots c h.chunk in
+    let r = step-good w.numbers.capacity w.numbers.bits w.slots c (sphere_at w h.chunk.sphere).memory h.chunk good.covered opened (good.held c h is).chunk in
     chunk_preserved w c h s.chunk (stepped w c h s) good is r.1 r.0 refl refl refl)
 
 -- ---- Cut
@@ -187,7 +187,7 @@ cut_open_preserved w c h None is closed good =
     (λ e. let dh = record h.chunk { closed = Some How.Cut } in
     chunk_preserved w c h dh (cut_to w c h (record { reply = CutReply.Closed; chunk = dh })) good is
     (record { sphere = refl; start = refl; limit = refl; halves = refl; reads = refl; writes = refl })
-    (cut_good w.numbers.buffer w.numbers.signature w.slots c (current w h.chunk.sphere) h.chunk closed (positive h.chunk.done.n e) (good.held c h is).chunk) refl refl refl)
+    (cut_good w.numbers.capacity w.numbers.bits w.slots c (current w h.chunk.sphere) h.chunk closed (positive h.chunk.done.n e) (good.held c h is).chunk) refl refl refl)
 
 -- the event Cut keeps the invariant
 pub cut-preserved : (w : World) (c : ℕ) → IsGood w → Preserved w (cutting w c)

@@ -54,7 +54,7 @@ pub record Beside (w v : World) (c : ℕ) (h : Occupant) : Type 0 where
 -- what a core holds stays good in a world that is beside the first one for it
 pub held-beside : (w v : World) (c : ℕ) (h : Occupant) → Beside w v c h → IsGoodHeld w c h → IsGoodHeld v c h
 held-beside w v c h b good =
-    let limits : limit_of v.numbers.chunk (sphere_at v h.chunk.sphere).role h.thread h.chunk.start ≡ limit_of w.numbers.chunk (sphere_at w h.chunk.sphere).role h.thread h.chunk.start =
+    let limits : limit_of v.numbers.s (sphere_at v h.chunk.sphere).role h.thread h.chunk.start ≡ limit_of w.numbers.s (sphere_at w h.chunk.sphere).role h.thread h.chunk.start =
     (λ j. limit_of (b.numbers j).chunk (b.role j) h.thread h.chunk.start)
     in
     record {
@@ -68,8 +68,8 @@ held-beside w v c h b good =
             most = subst (λ (n : ℕ). h.chunk.limit ≤ n) (sym limits) l.most;
             replayed = λ r. l.replayed (ap replays (sym b.role) ∙ r) ∙ sym limits;
           };
-      chunk = subst (λ (z : _). IsGoodChunk z.buffer z.signature v.slots c (current v h.chunk.sphere) h.chunk) (sym b.numbers)
-          (chunk-beside w.numbers.buffer w.numbers.signature w.slots v.slots c (current w h.chunk.sphere) (current v h.chunk.sphere) h.chunk b.memory b.quiet good.chunk);
+      chunk = subst (λ (z : _). IsGoodChunk z.capacity z.bits v.slots c (current v h.chunk.sphere) h.chunk) (sym b.numbers)
+          (chunk-beside w.numbers.capacity w.numbers.bits w.slots v.slots c (current w h.chunk.sphere) (current v h.chunk.sphere) h.chunk b.memory b.quiet good.chunk);
     }
 
 -- ---- a slot is set to what stands there
@@ -174,7 +174,7 @@ drained_preserved w k f s ss a good is words world move point =
           | inl p ↦ (
               let c = good.covered k f is in
               let gx : g ≡ x = (let o : Some g ≡ Some x = p.1 in cc) in
-              subst (IsFlightCovered w.numbers.signature) gx (record { size = c.size; words = (subst (CoversWords f.sphere f.writes) words c.words).1 })
+              subst (IsFlightCovered w.numbers.bits) gx (record { size = c.size; words = (subst (CoversWords f.sphere f.writes) words c.words).1 })
               )
           | inr p ↦ good.covered j x p.1
         ];
@@ -217,7 +217,7 @@ drain-preserved w k good = drain_slot_preserved w k (at w.slots k) refl good
 -- only what is told has changed, or the flight had no word left
 record SlotKept (w : World) (k : ℕ) (v : Option Flight) : Type 0 where
   words : (i : ℕ) → words_of i v ≡ words_of i (at w.slots k)
-  covered : (x : Flight) → v ≡ Some x → IsFlightCovered w.numbers.signature x
+  covered : (x : Flight) → v ≡ Some x → IsFlightCovered w.numbers.bits x
   flights : (x : Flight) → v ≡ Some x → x.sphere < length w.spheres
 
 slot_beside : (w : World) (k : ℕ) (v : Option Flight) (c : ℕ) (x : Occupant) → k < length w.slots → SlotKept w k v → (IsQuiet (set w.slots k v) x.chunk.sphere c x.chunk.reads → IsQuiet w.slots x.chunk.sphere c x.chunk.reads) → Beside w (with_slot w k v) c x
@@ -330,7 +330,7 @@ told_slot w k c f good is =
       covered = λ x e.
           let cov = good.covered k f is in
           let q : tell f c ≡ x = cc in
-          subst (IsFlightCovered w.numbers.signature) q (record { size = cov.size; words = cov.words });
+          subst (IsFlightCovered w.numbers.bits) q (record { size = cov.size; words = cov.words });
       flights = λ x e. let q : tell f c ≡ x = cc in subst (λ (y : Flight). y.sphere < length w.spheres) q (good.flights k f is);
     }
 
@@ -394,7 +394,7 @@ squash_held w k c o h good =
             most = either_most (is_fourth h.chunk) h.chunk.limit _ positive l.most;
             replayed = λ r. not_halved h.chunk (sphere_at w h.chunk.sphere).role good.halving r ∙ l.replayed r;
           };
-      chunk = squash_good w.numbers.buffer (set w.slots k o) c (current (with_slot w k o) h.chunk.sphere) h.chunk w.numbers.signature positive good.chunk.reads_size;
+      chunk = squash_good w.numbers.capacity (set w.slots k o) c (current (with_slot w k o) h.chunk.sphere) h.chunk w.numbers.bits positive good.chunk.reads_size;
     }
 
 abbrev tell_in : World → (slot core : ℕ) → Flight → World

@@ -41,7 +41,7 @@ pub record Grants (w : World) (c : ℕ) (h : Occupant) (q : CommitRequest) (writ
   pub going : is_stopped (sphere_at w q.sphere).role ≡ false
   pub moves : MovesOnly q.thread w.devices (sphere_at w q.sphere) v
   pub free : is_full w.slots ≡ false
-  pub covered : IsFlightCovered w.numbers.signature (request_flight w c q writes v)
+  pub covered : IsFlightCovered w.numbers.bits (request_flight w c q writes v)
   pub lack : AllLack v.words (flying q.sphere w.slots)
   -- a plain or recorded sphere grants it, and the point tells it
   pub lives : replays (sphere_at w q.sphere).role ≡ false → v.outcome ≡ Granted
@@ -75,7 +75,7 @@ granted_lands w c d h x q writes v good g ne there same =
       threads = keeps.threads x.thread x.chunk.start other;
       halving = keeps.halving;
       replaying = keeps.replaying;
-      limits = keeps.limits w.numbers.chunk x.thread x.chunk.start other;
+      limits = keeps.limits w.numbers.s x.thread x.chunk.start other;
     }
 
 granted_good : (w : World) (c : ℕ) (h : Occupant) (q : CommitRequest) (writes : Marks) (v : MovedSphere) → IsGood w → Grants w c h q writes v → IsGood (world_with w c q writes v)
@@ -95,7 +95,7 @@ granted_good w c h q writes v good g =
       ];
       covered = λ k x e. elim (flew.stood k x e) [
         | inl p ↦ good.covered k x p
-        | inr p ↦ subst (IsFlightCovered w.numbers.signature) (sym p) g.covered
+        | inr p ↦ subst (IsFlightCovered w.numbers.bits) (sym p) g.covered
       ];
       flights = λ k x e. subst (λ (n : ℕ). x.sphere < n) (sym count) (elim (flew.stood k x e) [
         | inl p ↦ good.flights k x p
@@ -112,7 +112,7 @@ granted_good w c h q writes v good g =
       alone = alone-set w.cores c o good.alone
           (λ y e d x ne there sphere thread.
           let b = afresh-begins w.numbers q.sphere q.thread v.sphere y e in
-          other_thread w c d h x q writes v good g ne there (sym sphere ∙ ap (λ (z : Occupant). z.chunk.sphere) (sym b.is)) (sym thread ∙ ap (λ (z : Occupant). z.thread) (sym b.is)));
+          other_thread w c d h x q writes v good g ne there (sym sphere ∙ ap (λ (z : Occupant). z.s.sphere) (sym b.is)) (sym thread ∙ ap (λ (z : Occupant). z.thread) (sym b.is)));
     }
 
 granted_sizes : (w : World) (c : ℕ) (h : Occupant) (q : CommitRequest) (writes : Marks) (v : MovedSphere) → IsGood w → Grants w c h q writes v → SameSizes w (world_with w c q writes v)
@@ -163,14 +163,14 @@ stopped_here w p c x s good =
       lives = good.lives;
       halving = good.halving ∙ sym s.halving ∙ ap (λ (q : Sphere). halves q.role) (sym there);
       limit = λ going. absurd (true≢false (sym s.stopped ∙ ap (λ (q : Sphere). is_stopped q.role) (sym there) ∙ going));
-      chunk = subst (λ (m : List ℕ). IsGoodChunk w.numbers.buffer w.numbers.signature w.slots c m x.chunk)
+      chunk = subst (λ (m : List ℕ). IsGoodChunk w.numbers.capacity w.numbers.bits w.slots c m x.chunk)
           (ap (λ (m : List ℕ). lays m (flying i w.slots)) (sym s.memory) ∙ ap (λ (q : Sphere). lays q.memory (flying i w.slots)) (sym there)) good.chunk;
     }
 
 -- a world stays good where a replayed sphere stops
 pub stopped-good : (w : World) (i : ℕ) (p : Sphere) → IsGood w → Stops w i p → IsGood (with_sphere w i p)
 stopped-good w i p good s =
-    let f : Flight = record { sphere = i; words = []; writes = nothing w.numbers.signature; told = 0 } in
+    let f : Flight = record { sphere = i; words = []; writes = nothing w.numbers.bits; told = 0 } in
     record {
       buffer = good.buffer;
       standard = good.standard;
@@ -187,7 +187,7 @@ stopped-good w i p good s =
 -- a move that stores nothing and leaves memory and devices shows what it gives when done whole
 pub stopped-shown : (w : World) (i : ℕ) (v : MovedSphere) → IsGood w → v.sphere.memory ≡ (sphere_at w i).memory → v.words ≡ [] → v.devices ≡ w.devices → shown_of (with_sphere w i v.sphere) ≡ do_moved (shown_of w) i (relaid (current w i) v)
 stopped-shown w i v good memory words devices =
-    let f : Flight = record { sphere = i; words = v.words; writes = nothing w.numbers.signature; told = 0 } in
+    let f : Flight = record { sphere = i; words = v.words; writes = nothing w.numbers.bits; told = 0 } in
     sym (λ j. shown_of (moved_world w i v.sphere w.slots w.cores (devices j)))
     ∙ moved-shown w i v f w.slots w.cores memory refl (unflown w i f good words)
 

@@ -42,7 +42,7 @@ pub fresh-good : (capacity bits : ℕ) (xs : List (Option Flight)) (c : ℕ) (m 
 fresh-good capacity bits xs c m i t limit halving positive = begun-good capacity bits xs c m bits i t limit halving 0 refl positive
 
 abbrev afresh : Numbers → (i k : ℕ) → Sphere → Parts → Occupant
-afresh z i k p t = record { thread = k; chunk = fresh z.signature i t (limit_of z.chunk p.role k t) (halves p.role) }
+afresh z i k p t = record { thread = k; chunk = fresh z.bits i t (limit_of z.s p.role k t) (halves p.role) }
 
 -- what a core begins with, if it does: a live thread of the sphere
 pub record IsAfresh (z : Numbers) (i k : ℕ) (p : Sphere) (h : Occupant) : Type 0 where
@@ -64,7 +64,7 @@ pub afresh-begins : (z : Numbers) (i k : ℕ) (p : Sphere) (h : Occupant) → he
 afresh-begins z i k p h e = begins_thread z i k p h (slice_get p.threads k) refl e
 
 -- in a world whose sphere i is p
-pub afresh-held : (v : World) (i k c : ℕ) (p : Sphere) (h : Occupant) → i < length v.spheres → 0 < v.numbers.chunk → sphere_at v i ≡ p → IsAfresh v.numbers i k p h → IsGoodHeld v c h
+pub afresh-held : (v : World) (i k c : ℕ) (p : Sphere) (h : Occupant) → i < length v.spheres → 0 < v.numbers.s → sphere_at v i ≡ p → IsAfresh v.numbers i k p h → IsGoodHeld v c h
 afresh-held v i k c p h within positive there b =
     let t = b.state in
     subst (IsGoodHeld v c) b.is
@@ -74,9 +74,9 @@ afresh-held v i k c p h within positive there b =
       lives = b.lives;
       halving = ap (λ (q : Sphere). halves q.role) (sym there);
       limit = λ going.
-          let e : limit_of v.numbers.chunk p.role k t ≡ limit_of v.numbers.chunk (sphere_at v i).role k t = ap (λ (q : Sphere). limit_of v.numbers.chunk q.role k t) (sym there) in
+          let e : limit_of v.numbers.s p.role k t ≡ limit_of v.numbers.s (sphere_at v i).role k t = ap (λ (q : Sphere). limit_of v.numbers.s q.role k t) (sym there) in
           record { most = omega (arith, e); replayed = λ r. e };
-      chunk = fresh-good v.numbers.buffer v.numbers.signature v.slots c (current v i) i t (limit_of v.numbers.chunk p.role k t) (halves p.role) (limit-positive v.numbers.chunk p.role k t positive);
+      chunk = fresh-good v.numbers.capacity v.numbers.bits v.slots c (current v i) i t (limit_of v.numbers.s p.role k t) (halves p.role) (limit-positive v.numbers.s p.role k t positive);
     })
 
 -- ---- the other chunks
@@ -119,14 +119,14 @@ pub record Lands (w : World) (i : ℕ) (q : Sphere) (f : Flight) (ys : List (Opt
   pub within : i < length w.spheres
   pub flew : Flew i f w.slots ys
   pub sphere : f.sphere ≡ i
-  pub covered : IsFlightCovered w.numbers.signature f
+  pub covered : IsFlightCovered w.numbers.bits f
   pub untold : told_at f.told d ≡ false
   pub memory : q.memory ≡ (sphere_at w i).memory
   pub going : is_stopped (sphere_at w i).role ≡ false
   pub threads : slice_get (sphere_at w i).threads x.thread ≡ Some x.chunk.start → slice_get q.threads x.thread ≡ Some x.chunk.start
   pub halving : halves q.role ≡ halves (sphere_at w i).role
   pub replaying : replays q.role ≡ replays (sphere_at w i).role
-  pub limits : is_stopped q.role ≡ false → limit_of w.numbers.chunk q.role x.thread x.chunk.start ≡ limit_of w.numbers.chunk (sphere_at w i).role x.thread x.chunk.start
+  pub limits : is_stopped q.role ≡ false → limit_of w.numbers.s q.role x.thread x.chunk.start ≡ limit_of w.numbers.s (sphere_at w i).role x.thread x.chunk.start
 
 landed_here : (w : World) (q : Sphere) (f : Flight) (ys : List (Option Flight)) (cores : List (Option Occupant)) (devices : Devices) (d : ℕ) (x : Occupant) → Lands w x.chunk.sphere q f ys d x → IsGoodHeld w d x
     → IsGoodHeld (moved_world w x.chunk.sphere q ys cores devices) d x
@@ -137,8 +137,8 @@ landed_here w q f ys cores devices d x l good =
     let memory : lays (lays (sphere_at w i).memory (flying i w.slots)) f.words ≡ current v i =
     sym (l.flew.lands (sphere_at w i).memory) ∙ ap (λ (m : List ℕ). lays m (flying i ys)) (sym l.memory) ∙ ap (λ (p : Sphere). lays p.memory (flying i ys)) (sym there)
     in
-    let limits : is_stopped q.role ≡ false → limit_of w.numbers.chunk (sphere_at v i).role x.thread x.chunk.start ≡ limit_of w.numbers.chunk (sphere_at w i).role x.thread x.chunk.start =
-    (λ going. ap (λ (p : Sphere). limit_of w.numbers.chunk p.role x.thread x.chunk.start) there ∙ l.limits going)
+    let limits : is_stopped q.role ≡ false → limit_of w.numbers.s (sphere_at v i).role x.thread x.chunk.start ≡ limit_of w.numbers.s (sphere_at w i).role x.thread x.chunk.start =
+    (λ going. ap (λ (p : Sphere). limit_of w.numbers.s p.role x.thread x.chunk.start) there ∙ l.limits going)
     in
     record {
       sphere = subst (λ (n : ℕ). i < n) (sym (length-set w.spheres i q)) good.sphere;
@@ -152,8 +152,8 @@ landed_here w q f ys cores devices d x l good =
             most = subst (λ (n : ℕ). x.chunk.limit ≤ n) (sym (limits g)) fit.most;
             replayed = λ r. fit.replayed (sym l.replaying ∙ ap (λ (p : Sphere). replays p.role) (sym there) ∙ r) ∙ sym (limits g);
           };
-      chunk = subst (λ (m : List ℕ). IsGoodChunk w.numbers.buffer w.numbers.signature ys d m x.chunk) memory
-          (landed_chunk w.numbers.buffer w.numbers.signature w.slots ys d (current w i) x.chunk f l.flew l.sphere l.covered l.untold good.chunk);
+      chunk = subst (λ (m : List ℕ). IsGoodChunk w.numbers.capacity w.numbers.bits ys d m x.chunk) memory
+          (landed_chunk w.numbers.capacity w.numbers.bits w.slots ys d (current w i) x.chunk f l.flew l.sphere l.covered l.untold good.chunk);
     }
 
 -- what a core holds of the moved sphere stays good, where the words land as they should

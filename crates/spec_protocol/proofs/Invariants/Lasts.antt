@@ -91,7 +91,7 @@ chunk_all : (z : Numbers) (x : SerialState) (i k : ℕ) (how : How) (n limit : �
 unfolding chunk_moved
 chunk_all z x i k how n limit p None is all = all
 chunk_all z x i k how n limit p (Some t) is all =
-    set_last x.spheres i p _ is all (chunk_last p.role k (is_piece how) (is_short z.chunk how limit) (run p.memory t n) x.devices p (all i p is))
+    set_last x.spheres i p _ is all (chunk_last p.role k (is_piece how) (is_short z.s how limit) (run p.memory t n) x.devices p (all i p is))
 
 serial_all : (x : SerialState) (i k moment : ℕ) (p : Sphere) (o : Option Parts) → slice_get x.spheres i ≡ Some p → AreLast x.spheres → AreLast (do_serial x i k moment p o).spheres
 unfolding serial_moved
@@ -130,7 +130,7 @@ first_last z None p e = absurd (none-some p e)
 first_last z (Some image) p e = subst (λ (q : Sphere). IsOfCommits q.progress) (let h : sphere_of z image ≡ p = cc in h) refl
 
 start_all : (s : Setup) → AreLast (serial_start s).spheres
-start_all s i p e = first_last s.numbers.chunk (slice_get s.spheres i) p (sym (slice_get-map (sphere_of s.numbers.chunk) s.spheres i) ∙ e)
+start_all s i p e = first_last s.numbers.s (slice_get s.spheres i) p (sym (slice_get-map (sphere_of s.numbers.s) s.spheres i) ∙ e)
 
 -- the thread that committed last is the last one among the sphere's commits, after every schedule
 pub spheres_keep_lasts : SpheresKeepLasts

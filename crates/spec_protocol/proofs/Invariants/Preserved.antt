@@ -25,7 +25,7 @@ pub record SameSizes (w v : World) : Type 0 where
 
 -- the point that a move makes where the sphere is plain or recorded
 abbrev pub point_for : Numbers → (moment i : ℕ) → What → Point
-point_for z now i (OfChunk k how n limit) = Point.Commit now i (Actor.Thread k) CommitKind.Chunk n (is_short z.chunk how limit)
+point_for z now i (OfChunk k how n limit) = Point.Commit now i (Actor.Thread k) CommitKind.Chunk n (is_short z.s how limit)
 point_for z now i (OfSerial k) = Point.Commit now i (Actor.Thread k) CommitKind.Serial 0 false
 point_for z now i OfDma = Point.Commit now i Actor.Dma CommitKind.Dma 0 false
 point_for z now i (OfRaise k value) = Point.Raise now i k value

@@ -201,7 +201,7 @@ sizes_kept s es is =
     let a = after_sizes (world_of s) es (start-good s is) in
     record {
       numbers = a.numbers;
-      spheres = a.spheres ∙ length-map s.spheres (sphere_of s.numbers.chunk);
+      spheres = a.spheres ∙ length-map s.spheres (sphere_of s.numbers.s);
       cores = a.cores ∙ first_length s.numbers 0 s.cores (world_of s).spheres;
       slots = a.slots ∙ length-replicate s.window None;
     }

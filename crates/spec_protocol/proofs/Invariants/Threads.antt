@@ -76,8 +76,8 @@ raised_here w k value t d x within ne good =
     let v = with_sphere w i q in
     let there : sphere_at v i ≡ q = sphere-same w.spheres i q within in
     let r = raised_role k t.commits value p.role in
-    let limits : limit_of w.numbers.chunk (sphere_at v i).role x.thread x.chunk.start ≡ limit_of w.numbers.chunk p.role x.thread x.chunk.start =
-    ap (λ (y : Sphere). limit_of w.numbers.chunk y.role x.thread x.chunk.start) there ∙ r.2 w.numbers.chunk x.thread x.chunk.start
+    let limits : limit_of w.numbers.s (sphere_at v i).role x.thread x.chunk.start ≡ limit_of w.numbers.s p.role x.thread x.chunk.start =
+    ap (λ (y : Sphere). limit_of w.numbers.s y.role x.thread x.chunk.start) there ∙ r.2 w.numbers.s x.thread x.chunk.start
     in
     record {
       sphere = subst (λ (n : ℕ). i < n) (sym (length-set w.spheres i q)) good.sphere;
@@ -90,12 +90,12 @@ raised_here w k value t d x within ne good =
             most = subst (λ (n : ℕ). x.chunk.limit ≤ n) (sym limits) fit.most;
             replayed = λ h. fit.replayed (sym r.1 ∙ ap (λ (y : Sphere). replays y.role) (sym there) ∙ h) ∙ sym limits;
           };
-      chunk = subst (λ (m : List ℕ). IsGoodChunk w.numbers.buffer w.numbers.signature w.slots d m x.chunk) (ap (λ (y : Sphere). lays y.memory (flying i w.slots)) (sym there)) good.chunk;
+      chunk = subst (λ (m : List ℕ). IsGoodChunk w.numbers.capacity w.numbers.bits w.slots d m x.chunk) (ap (λ (y : Sphere). lays y.memory (flying i w.slots)) (sym there)) good.chunk;
     }
 
 raised_held : (w : World) (i k value : ℕ) (t : Parts) (d : ℕ) (x : Occupant) → IsGood w → i < length w.spheres → (x.chunk.sphere ≡ i → x.thread ≢ k) → IsGoodHeld w d x → IsGoodHeld (with_sphere w i (raised k value t (sphere_at w i))) d x
 raised_held w i k value t d x good within other held =
-    let f : Flight = record { sphere = i; words = []; writes = nothing w.numbers.signature; told = 0 } in
+    let f : Flight = record { sphere = i; words = []; writes = nothing w.numbers.bits; told = 0 } in
     elim (cases_eq x.chunk.sphere i) [
       | inl same ↦ subst (λ (n : ℕ). n < length w.spheres → IsGoodHeld (with_sphere w n (raised k value t (sphere_at w n))) d x) same (λ l. raised_here w k value t d x l (other same) held) within
       | inr ne ↦ elsewhere-held w i (raised k value t (sphere_at w i)) f w.slots w.cores w.devices d x ne (unflown w i f good refl) held

@@ -35,16 +35,16 @@ moves_of : (w : World) (i : ℕ) (v : MovedSphere) → Transfers w i v → DmaMo
 moves_of w i v t = dma-moves w.devices (sphere_at w i) v t.going t.turn t.is
 
 abbrev marks_of : World → (i : ℕ) → MovedSphere → Marks
-marks_of w i v = signed i v.words (nothing w.numbers.signature)
+marks_of w i v = signed i v.words (nothing w.numbers.bits)
 
 abbrev dma_flight : World → (i : ℕ) → MovedSphere → Flight
 dma_flight w i v = record { sphere = i; words = v.words; writes = marks_of w i v; told = 0 }
 
-dma_covered : (w : World) (i : ℕ) (v : MovedSphere) → IsFlightCovered w.numbers.signature (dma_flight w i v)
+dma_covered : (w : World) (i : ℕ) (v : MovedSphere) → IsFlightCovered w.numbers.bits (dma_flight w i v)
 dma_covered w i v =
     record {
-      size = bits-signed i v.words (nothing w.numbers.signature);
-      words = CoversWords-signed i v.words (nothing w.numbers.signature);
+      size = bits-signed i v.words (nothing w.numbers.bits);
+      words = CoversWords-signed i v.words (nothing w.numbers.bits);
     }
 
 dma_lacks : (w : World) (i : ℕ) (v : MovedSphere) → IsGood w → first_slot (meets_chunk (marks_of w i v) (marks_of w i v)) w.slots ≡ None → AllLack v.words (flying i w.slots)
@@ -91,7 +91,7 @@ done_good w i v good t free none =
       ];
       covered = λ k x e. elim (flew.stood k x e) [
         | inl p ↦ good.covered k x p
-        | inr p ↦ subst (IsFlightCovered w.numbers.signature) (sym p) (dma_covered w i v)
+        | inr p ↦ subst (IsFlightCovered w.numbers.bits) (sym p) (dma_covered w i v)
       ];
       flights = λ k x e. subst (λ (n : ℕ). x.sphere < n) (sym count) (elim (flew.stood k x e) [
         | inl p ↦ good.flights k x p
@@ -110,7 +110,7 @@ done_good w i v good t free none =
               threads = λ h. ap (λ (ts : List Parts). slice_get ts x.thread) moves.threads ∙ h;
               halving = moves.halving;
               replaying = moves.replaying;
-              limits = moves.limits w.numbers.chunk x.thread x.chunk.start;
+              limits = moves.limits w.numbers.s x.thread x.chunk.start;
             })
             (good.held d x e)
         | inr ne ↦ elsewhere-held w i v.sphere f u.slots w.cores v.devices d x ne flew (good.held d x e)

@@ -60,7 +60,7 @@ pub record Transfers (w : World) (i : ℕ) (v : MovedSphere) : Type 0 where
 -- ---- each thing that is done, and what a predicate of it is to hold of
 
 abbrev pub AfterStep : World → (After → Type 0) → (core : ℕ) → Occupant → Type 0
-AfterStep w Q c h = at w.cores c ≡ Some h → h.chunk.closed ≡ None → Q (stepped w c h (step w.numbers.buffer (sphere_at w h.chunk.sphere).memory w.slots c h.chunk))
+AfterStep w Q c h = at w.cores c ≡ Some h → h.chunk.closed ≡ None → Q (stepped w c h (step w.numbers.capacity (sphere_at w h.chunk.sphere).memory w.slots c h.chunk))
 
 abbrev pub AfterCut : World → (After → Type 0) → (core : ℕ) → Occupant → Type 0
 AfterCut w Q c h = at w.cores c ≡ Some h → Q (cut_to w c h (cut h.chunk))
@@ -85,7 +85,7 @@ AfterRaise w Q i k value t = Raises k t (sphere_at w i) → Q (raise_in w i k va
 
 -- a DMA that meets no flight
 abbrev pub AfterDma : World → (After → Type 0) → (i : ℕ) → MovedSphere → Type 0
-AfterDma w Q i v = Transfers w i v → is_full w.slots ≡ false → let g = signed i v.words (nothing w.numbers.signature) in first_slot (meets_chunk g g) w.slots ≡ None → Q (dma_done w i g v)
+AfterDma w Q i v = Transfers w i v → is_full w.slots ≡ false → let g = signed i v.words (nothing w.numbers.bits) in first_slot (meets_chunk g g) w.slots ≡ None → Q (dma_done w i g v)
 
 abbrev pub AfterDivergence : World → (After → Type 0) → (i : ℕ) → MovedSphere → (commits : ℕ) → Why → Type 0
 AfterDivergence w Q i v j why = Transfers w i v → v.outcome ≡ Diverged j why → Q (dma_with w i v (Diverged j why))
@@ -114,7 +114,7 @@ module _ (w : World) (Q : After → Type 0) (still : (r : Reply) → makes_point
   held_step c None is each = still Reply.Idle refl
   held_step c (Some h) is each =
       let p = sphere_at w h.chunk.sphere in
-      let s = step w.numbers.buffer p.memory w.slots c h.chunk in
+      let s = step w.numbers.capacity p.memory w.slots c h.chunk in
       branch Q (is_stopped p.role) (answered w Reply.Stopped) (cond (is_open h.chunk) (stepped w c h s) (answered w Reply.Waiting))
       (λ _. still Reply.Stopped refl)
       (λ _. branch Q (is_open h.chunk) (stepped w c h s) (answered w Reply.Waiting)
@@ -242,7 +242,7 @@ module _ (w : World) (Q : After → Type 0) (still : (r : Reply) → makes_point
     transferred : (v : MovedSphere) → Transfers w i v → Q (transfer w i v)
     unfolding transfer
     transferred v t =
-        let g = signed i v.words (nothing w.numbers.signature) in
+        let g = signed i v.words (nothing w.numbers.bits) in
         branch Q (is_full w.slots) (answered w Reply.WindowFull) (unless_denied (ask g g w.slots) w (dma_done w i g v))
         (λ _. still Reply.WindowFull refl)
         (λ free. denied (dma_done w i g v) (first_slot (meets_chunk g g) w.slots) (done v t free))

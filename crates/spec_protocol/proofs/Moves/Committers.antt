@@ -55,7 +55,7 @@ serial_marks : (w : World) (c : ℕ) (h : Occupant) → BeginWith w (2 ^ c) (gra
 unfolding grant_serial
 serial_marks w c h =
     let v = serial_moved h.thread (moment w) h.chunk.start w.devices (sphere_at w h.chunk.sphere) in
-    granted_marks w c (serial_request h) (signed h.chunk.sphere v.words (nothing w.numbers.signature)) v v.outcome
+    granted_marks w c (serial_request h) (signed h.chunk.sphere v.words (nothing w.numbers.bits)) v v.outcome
 
 asks_mark : (w : World) (c : ℕ) → BeginWith w (2 ^ core_no w c) (act w (Event.Ask c))
 unfolding act
@@ -70,7 +70,7 @@ unfolding act
 dmas_mark w i =
     let j = sphere_no w i in
     any-transfer w (BeginWith w 0) (λ r none. none_begins w 0 (answered w r) refl) j
-    (λ v t room none k f free stands. flown_by j v.words (signed j v.words (nothing w.numbers.signature)) 0 w.slots (has_none v.words) k f free stands)
+    (λ v t room none k f free stands. flown_by j v.words (signed j v.words (nothing w.numbers.bits)) 0 w.slots (has_none v.words) k f free stands)
     (λ v n why t is. none_begins w 0 (dma_with w j v (Diverged n why)) refl)
 
 -- ---- both

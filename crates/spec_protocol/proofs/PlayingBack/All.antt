@@ -50,14 +50,14 @@ record Comes (x : SerialState) (i : ℕ) (p : Sphere) (plog : LogParts) : Type 0
 moved_comes : (x : SerialState) (i : ℕ) (p : Sphere) (log qlog : LogParts) (v : MovedSphere) → slice_get x.spheres i ≡ Some p → (laid v).role ≡ Record qlog → Grown p (laid v) log qlog → Comes (do_moved x i v) i p log
 moved_comes x i p log qlog v is role grown = record { sphere = laid v; log = qlog; there = get-set_same x.spheres i (laid v) p is; role = role; grown = grown }
 
-chunk_comes : (z : Numbers) (x : SerialState) (i : ℕ) (p : Sphere) (log : LogParts) (k : ℕ) (how : How) (n limit : ℕ) (o : Option Parts) → 0 < z.buffer → log.s ≡ z.chunk → slice_get x.spheres i ≡ Some p → p.role ≡ Record log
+chunk_comes : (z : Numbers) (x : SerialState) (i : ℕ) (p : Sphere) (log : LogParts) (k : ℕ) (how : How) (n limit : ℕ) (o : Option Parts) → 0 < z.capacity → log.s ≡ z.s → slice_get x.spheres i ≡ Some p → p.role ≡ Record log
     → slice_get p.threads k ≡ o → FitsChunk z p k how n limit o → Comes (move_chunk z x i k how n limit p o) i p log
 unfolding chunk_moved
 chunk_comes z x i p log k how n limit None buffer s is role thread fits = absurd fits
 chunk_comes z x i p log k how n limit (Some t) buffer s is role thread fits =
     subst (λ (v : MovedSphere). Comes (do_moved x i v) i p log)
-    (sym (ap (λ (r : Role). chunk_in r k (is_piece how) (is_short z.chunk how limit) (run p.memory t n) x.devices p) role))
-    (moved_comes x i p log _ (chunk_in (Record log) k (is_piece how) (is_short z.chunk how limit) (run p.memory t n) x.devices p) is refl
+    (sym (ap (λ (r : Role). chunk_in r k (is_piece how) (is_short z.s how limit) (run p.memory t n) x.devices p) role))
+    (moved_comes x i p log _ (chunk_in (Record log) k (is_piece how) (is_short z.s how limit) (run p.memory t n) x.devices p) is refl
     (chunk-grown z log p k t how n limit x.devices role s buffer thread fits))
 
 serial_comes : (x : SerialState) (i moment : ℕ) (p : Sphere) (log : LogParts) (k : ℕ) (o : Option Parts) → slice_get x.spheres i ≡ Some p → p.role ≡ Record log
@@ -94,7 +94,7 @@ raise_comes x i p log k value (Some t) is role thread fits =
       grown = raise-grown log p k value t role thread fits.takes;
     }
 
-what_comes : (z : Numbers) (x : SerialState) (moment i : ℕ) (p : Sphere) (log : LogParts) (what : What) → 0 < z.buffer → log.s ≡ z.chunk → slice_get x.spheres i ≡ Some p → p.role ≡ Record log → FitsWhat z x.devices p what → Comes (do_what z x moment i p what) i p log
+what_comes : (z : Numbers) (x : SerialState) (moment i : ℕ) (p : Sphere) (log : LogParts) (what : What) → 0 < z.capacity → log.s ≡ z.s → slice_get x.spheres i ≡ Some p → p.role ≡ Record log → FitsWhat z x.devices p what → Comes (do_what z x moment i p what) i p log
 what_comes z x moment i p log (OfChunk k how n limit) buffer s is role fits = chunk_comes z x i p log k how n limit (slice_get p.threads k) buffer s is role refl fits
 what_comes z x moment i p log (OfSerial k) buffer s is role fits = serial_comes x i moment p log k (slice_get p.threads k) is role refl fits
 what_comes z x moment i p log OfDma buffer s is role fits = dma_comes x i p log p.progress.request is role refl fits.moves
@@ -102,7 +102,7 @@ what_comes z x moment i p log (OfRaise k value) buffer s is role fits = raise_co
 
 -- ---- moves
 
-move_comes : (z : Numbers) (x : SerialState) (m : Move) (i : ℕ) (p : Sphere) (log : LogParts) → 0 < z.buffer → log.s ≡ z.chunk → slice_get x.spheres i ≡ Some p → p.role ≡ Record log → Fits z x m → Comes (do_move z x m) i p log
+move_comes : (z : Numbers) (x : SerialState) (m : Move) (i : ℕ) (p : Sphere) (log : LogParts) → 0 < z.capacity → log.s ≡ z.s → slice_get x.spheres i ≡ Some p → p.role ≡ Record log → Fits z x m → Comes (do_move z x m) i p log
 unfolding do_move
 move_comes z x m i p log buffer s is role fits =
     elim (cases_eq i m.sphere) [
@@ -115,7 +115,7 @@ move_comes z x m i p log buffer s is role fits =
       | inr ne ↦ record { sphere = p; log = log; there = at-away z x m i (slice_get x.spheres m.sphere) ne ∙ is; role = role; grown = grown_refl p log }
     ]
 
-moves_come : (z : Numbers) (x : SerialState) (ms : List Move) (i : ℕ) (p : Sphere) (log : LogParts) → 0 < z.buffer → log.s ≡ z.chunk → slice_get x.spheres i ≡ Some p → p.role ≡ Record log → FitAll z x ms → Comes (do_moves z x ms) i p log
+moves_come : (z : Numbers) (x : SerialState) (ms : List Move) (i : ℕ) (p : Sphere) (log : LogParts) → 0 < z.capacity → log.s ≡ z.s → slice_get x.spheres i ≡ Some p → p.role ≡ Record log → FitAll z x ms → Comes (do_moves z x ms) i p log
 moves_come z x [] i p log buffer s is role fits = record { sphere = p; log = log; there = is; role = role; grown = grown_refl p log }
 moves_come z x (m ∷ ms) i p log buffer s is role fits =
     let a = move_comes z x m i p log buffer s is role fits.0 in
@@ -257,7 +257,7 @@ logs_play_back s es i image mode will p log shown log_ =
     let there = will.there in
     let role = will.role in
     let m = moves_are s es is in
-    let z : ℕ = s.numbers.chunk in
+    let z : ℕ = s.numbers.s in
     let c = moves_come s.numbers (serial_start s) (moves (world_of s) es) i (sphere_of z image) (new_log mode z) is.buffer refl (start-sphere z s.spheres i image there)
     (ap (role_of z (started image.entry ∷ [])) role) m.possible in
     let q : Sphere = c.sphere in

@@ -131,7 +131,7 @@ taken_turn L log p k t role mode is live free pico =
 
 -- ---- a chunk
 
-some_ran : (z : Numbers) (log : LogParts) (p : Sphere) (k : ℕ) (t : Parts) (how : How) (n limit : ℕ) → p.role ≡ Record log → 0 < z.buffer → ChunkFits z p k t how n limit → 0 < n
+some_ran : (z : Numbers) (log : LogParts) (p : Sphere) (k : ℕ) (t : Parts) (how : How) (n limit : ℕ) → p.role ≡ Record log → 0 < z.capacity → ChunkFits z p k t how n limit → 0 < n
 some_ran z log p k t How.Limit n limit role buffer f = let a = f.full refl in let b = f.positive in omega arith
 some_ran z log p k t How.Serial n limit role buffer f =
     elim (cases_eq n 0) [
@@ -141,9 +141,9 @@ some_ran z log p k t How.Serial n limit role buffer f =
 some_ran z log p k t How.Overflow n limit role buffer f = let a = f.room refl in omega arith
 some_ran z log p k t How.Cut n limit role buffer f = f.cut refl
 
-limit_is : (z : Numbers) (log : LogParts) (p : Sphere) (k : ℕ) (t : Parts) → p.role ≡ Record log → limit_of z.chunk p.role k t ≡ z.chunk
+limit_is : (z : Numbers) (log : LogParts) (p : Sphere) (k : ℕ) (t : Parts) → p.role ≡ Record log → limit_of z.s p.role k t ≡ z.s
 unfolding limit_of
-limit_is z log p k t role = ap (λ (r : Role). limit_in r z.chunk k t.commits) role
+limit_is z log p k t role = ap (λ (r : Role). limit_in r z.s k t.commits) role
 
 not_less : (m n : ℕ) → nat_lt m n ≡ false → n ≤ m
 not_less m n e = elim (cases_lt m n) [
@@ -152,23 +152,23 @@ not_less m n e = elim (cases_lt m n) [
 ]
 
 -- a chunk that is not short is as long as a run of the standard size
-whole_run : (z : Numbers) (log : LogParts) (p : Sphere) (k : ℕ) (t : Parts) (how : How) (n limit : ℕ) → p.role ≡ Record log → ChunkFits z p k t how n limit → is_short z.chunk how limit ≡ false → run p.memory t z.chunk ≡ run p.memory t n
+whole_run : (z : Numbers) (log : LogParts) (p : Sphere) (k : ℕ) (t : Parts) (how : How) (n limit : ℕ) → p.role ≡ Record log → ChunkFits z p k t how n limit → is_short z.s how limit ≡ false → run p.memory t z.s ≡ run p.memory t n
 whole_run z log p k t How.Limit n limit role f short =
-    let a = f.full refl in let b = f.limited in let c = limit_is z log p k t role in let d = not_less limit z.chunk short in
-    let e : z.chunk ≡ n = omega arith in
+    let a = f.full refl in let b = f.limited in let c = limit_is z log p k t role in let d = not_less limit z.s short in
+    let e : z.s ≡ n = omega arith in
     ap (run p.memory t) e
 whole_run z log p k t How.Serial n limit role f short =
     let a = f.early (λ h. let g : How.Serial ≡ How.Limit = h in cc) in let b = f.limited in let c = limit_is z log p k t role in
-    run-stops p.memory t n z.chunk (omega arith) (f.serial refl)
+    run-stops p.memory t n z.s (omega arith) (f.serial refl)
 whole_run z log p k t How.Overflow n limit role f short = absurd (true≢false short)
 whole_run z log p k t How.Cut n limit role f short = absurd (true≢false short)
 
 abbrev recorded_chunk : Numbers → LogParts → Sphere → ℕ → Parts → How → (n limit : ℕ) → Devices → MovedSphere
-recorded_chunk z log p k t how n limit devices = chunk_in (Record log) k (is_piece how) (is_short z.chunk how limit) (run p.memory t n) devices p
+recorded_chunk z log p k t how n limit devices = chunk_in (Record log) k (is_piece how) (is_short z.s how limit) (run p.memory t n) devices p
 
 abbrev chunk_log : Numbers → LogParts → Sphere → ℕ → Parts → How → (n limit : ℕ) → LogParts
 chunk_log z log p k t how n limit =
-    let r = run p.memory t n in noted (chunk_effect k p.progress.request r).commit r.thread.commits (is_short z.chunk how limit) log
+    let r = run p.memory t n in noted (chunk_effect k p.progress.request r).commit r.thread.commits (is_short z.s how limit) log
 
 -- a recorded chunk is a commit of its thread
 pub chunk-committed : (log : LogParts) (p : Sphere) (k : ℕ) (t : Parts) (piece short : Bool) (n : ℕ) (devices : Devices) → slice_get p.threads k ≡ Some t
@@ -189,12 +189,12 @@ chunk-committed log p k t piece short n devices is =
     }
 
 -- a recorded sphere and its log have grown after a chunk
-pub chunk-grown : (z : Numbers) (log : LogParts) (p : Sphere) (k : ℕ) (t : Parts) (how : How) (n limit : ℕ) (devices : Devices) → p.role ≡ Record log → log.s ≡ z.chunk → 0 < z.buffer → slice_get p.threads k ≡ Some t → ChunkFits z p k t how n limit
+pub chunk-grown : (z : Numbers) (log : LogParts) (p : Sphere) (k : ℕ) (t : Parts) (how : How) (n limit : ℕ) (devices : Devices) → p.role ≡ Record log → log.s ≡ z.s → 0 < z.capacity → slice_get p.threads k ≡ Some t → ChunkFits z p k t how n limit
     → Grown p (laid (recorded_chunk z log p k t how n limit devices)) log (chunk_log z log p k t how n limit)
 chunk-grown z log p k t how n limit devices role s buffer is fits =
     let r = run p.memory t n in
     let e = chunk_effect k p.progress.request r in
-    let short = is_short z.chunk how limit in
+    let short = is_short z.s how limit in
     let q = laid (recorded_chunk z log p k t how n limit devices) in
     let qlog = chunk_log z log p k t how n limit in
     let c = commit_of k short t e None in

@@ -98,7 +98,7 @@ act-untold w e =
     (record {
       answers = λ r none. record { points = refl; counts = refl; exactly = sym none; moment = tt };
       steps = λ c h is opened.
-          let s = step w.numbers.buffer (sphere_at w h.chunk.sphere).memory w.slots c h.chunk in
+          let s = step w.numbers.capacity (sphere_at w h.chunk.sphere).memory w.slots c h.chunk in
           record { points = refl; counts = refl; exactly = step_none s.reply; moment = tt };
       cuts = λ c h is. record { points = refl; counts = refl; exactly = cut_none (cut h.chunk).reply; moment = tt };
       chunks = λ c h how may chunk none. chunk_untold w c h how;

@@ -56,11 +56,11 @@ stands_shown s es i log st =
 
 -- the sphere, with its current memory, keeps the log of its points
 log_kept : (s : Setup) (es : List Event) (i : ℕ) (image : SphereSetup) (mode : ModeName) → IsSetup s → slice_get s.spheres i ≡ Some image → image.role ≡ IsRecorded mode
-    → let w = after s es in Keeps mode s.numbers.chunk (supplied i (serial_start s) w.points) (shown w.slots i (sphere_at w i))
+    → let w = after s es in Keeps mode s.numbers.s (supplied i (serial_start s) w.points) (shown w.slots i (sphere_at w i))
 unfolding shown
 log_kept s es i image mode is there role =
     let w : World = after s es in
-    let z : ℕ = s.numbers.chunk in
+    let z : ℕ = s.numbers.s in
     let cs = supplied i (serial_start s) w.points in
     let so = serial-after s es is in
     let k : KeepsIn mode z i cs (do_points (serial_start s) w.points) =
@@ -93,8 +93,8 @@ pub logs_are_fresh : LogsAreFresh
 unfolding shown
 logs_are_fresh s es i image mode will log kept =
     let k = log_kept s es i image mode will.setup will.there will.role in
-    let same : logged mode s.numbers.chunk (supplied i (serial_start s) (after s es).points) ≡ log =
-    (let h : Record (logged mode s.numbers.chunk (supplied i (serial_start s) (after s es).points)) ≡ Record log = sym k.role ∙ kept in cc) in
+    let same : logged mode s.numbers.s (supplied i (serial_start s) (after s es).points) ≡ log =
+    (let h : Record (logged mode s.numbers.s (supplied i (serial_start s) (after s es).points)) ≡ Record log = sym k.role ∙ kept in cc) in
     let st : Stands (sphere_at (after s es) i) log = stands_shown s es i log (subst (Stands (shown (after s es).slots i (sphere_at (after s es) i))) same k.stands) in
     record {
       count = st.count;

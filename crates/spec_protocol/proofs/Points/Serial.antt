@@ -148,7 +148,7 @@ moved_replay x y i p v a xi rep l = agrees_replay x y i p (laid v) v.devices a x
 chunk_replay : (z : Numbers) (x y : SerialState) (i k : ℕ) (how : How) (n limit : ℕ) (p : Sphere) (o : Option Parts) → Agrees x y → slice_get x.spheres i ≡ Some p → replays p.role ≡ true → Agrees (move_chunk z x i k how n limit p o) y
 chunk_replay z x y i k how n limit p None a xi rep = a
 chunk_replay z x y i k how n limit p (Some t) a xi rep =
-    moved_replay x y i p _ a xi rep (chunk_leaves k (is_piece how) (is_short z.chunk how limit) (run p.memory t n) x.devices p rep)
+    moved_replay x y i p _ a xi rep (chunk_leaves k (is_piece how) (is_short z.s how limit) (run p.memory t n) x.devices p rep)
 
 serial_replay : (x y : SerialState) (i k moment : ℕ) (p : Sphere) (o : Option Parts) → Agrees x y → slice_get x.spheres i ≡ Some p → replays p.role ≡ true → Agrees (do_serial x i k moment p o) y
 serial_replay x y i k moment p None a xi rep = a
@@ -243,10 +243,10 @@ moved_live : (x y : SerialState) (i : ℕ) (p : Sphere) (v : MovedSphere) → Ag
 moved_live x y i p v a xi yi lives = agrees_set x y i p (laid v) v.devices v.devices a xi yi lives refl
 
 chunk_both : (z : Numbers) (x y : SerialState) (i k : ℕ) (how : How) (n limit : ℕ) (p : Sphere) (o : Option Parts) → Agrees x y → slice_get x.spheres i ≡ Some p → slice_get y.spheres i ≡ Some p → replays p.role ≡ false
-    → Agrees (move_chunk z x i k how n limit p o) (do_chunk y i k n (is_short z.chunk how limit) p o)
+    → Agrees (move_chunk z x i k how n limit p o) (do_chunk y i k n (is_short z.s how limit) p o)
 chunk_both z x y i k how n limit p None a xi yi live = a
 chunk_both z x y i k how n limit p (Some t) a xi yi live =
-    let short = is_short z.chunk how limit in
+    let short = is_short z.s how limit in
     let r = run p.memory t n in
     let e : chunk_moved k (is_piece how) short r x.devices p ≡ chunk_moved k false short r y.devices p =
     chunk_whole k (is_piece how) false short r x.devices p live ∙ ap (λ (d : Devices). chunk_moved k false short r d p) a.devices
@@ -275,7 +275,7 @@ live_what : (z : Numbers) (x y : SerialState) (moment i : ℕ) (p : Sphere) (wha
 unfolding do_point
 live_what z x y moment i p (OfChunk k how n limit) a xi live =
     let yi = a.live i p xi live in
-    let short = is_short z.chunk how limit in
+    let short = is_short z.s how limit in
     subst (λ (u : SerialState). Agrees (do_what z x moment i p (OfChunk k how n limit)) u)
     (sym (ap (do_commit y moment i (Actor.Thread k) CommitKind.Chunk n short) yi ∙ in_living p.role y _ live))
     (chunk_both z x y i k how n limit p (slice_get p.threads k) a xi yi live)
@@ -303,14 +303,14 @@ not_in_pieces Plain e = refl
 not_in_pieces (Record log) e = refl
 not_in_pieces (Replay b) e = absurd (true≢false e)
 
-some_run : (z : Numbers) (p : Sphere) (k : ℕ) (t : Parts) (how : How) (n limit : ℕ) → 0 < z.buffer → replays p.role ≡ false → ChunkFits z p k t how n limit → 0 < n
+some_run : (z : Numbers) (p : Sphere) (k : ℕ) (t : Parts) (how : How) (n limit : ℕ) → 0 < z.capacity → replays p.role ≡ false → ChunkFits z p k t how n limit → 0 < n
 some_run z p k t How.Limit n limit buffer live f = let e = f.full refl in let q = f.positive in omega arith
 some_run z p k t How.Serial zero limit buffer live f = absurd (true≢false (sym (f.some refl refl) ∙ not_in_pieces p.role live))
 some_run z p k t How.Serial (suc n) limit buffer live f = omega arith
 some_run z p k t How.Overflow n limit buffer live f = let r = f.room refl in omega arith
 some_run z p k t How.Cut n limit buffer live f = f.cut refl
 
-can_chunk : (z : Numbers) (p : Sphere) (k : ℕ) (how : How) (n limit : ℕ) (o : Option Parts) → 0 < z.buffer → replays p.role ≡ false → FitsChunk z p k how n limit o → CanChunk n p o
+can_chunk : (z : Numbers) (p : Sphere) (k : ℕ) (how : How) (n limit : ℕ) (o : Option Parts) → 0 < z.capacity → replays p.role ≡ false → FitsChunk z p k how n limit o → CanChunk n p o
 can_chunk z p k how n limit None buffer live f = f
 can_chunk z p k how n limit (Some t) buffer live f = record { live = f.live; some = some_run z p k t how n limit buffer live f; ran = f.ran }
 
@@ -326,7 +326,7 @@ some_moved : (o : Option MovedSphere) → IsSome o → (v : MovedSphere) × (o �
 some_moved None e = absurd (true≢false (sym e))
 some_moved (Some v) e = (v, refl)
 
-live_can : (z : Numbers) (x y : SerialState) (moment i : ℕ) (p : Sphere) (what : What) → Agrees x y → slice_get x.spheres i ≡ Some p → replays p.role ≡ false → 0 < z.buffer → FitsWhat z x.devices p what → CanDo y (point_for z moment i what)
+live_can : (z : Numbers) (x y : SerialState) (moment i : ℕ) (p : Sphere) (what : What) → Agrees x y → slice_get x.spheres i ≡ Some p → replays p.role ≡ false → 0 < z.capacity → FitsWhat z x.devices p what → CanDo y (point_for z moment i what)
 live_can z x y moment i p (OfChunk k how n limit) a xi live buffer fits =
     subst (CanCommit y.devices (Actor.Thread k) CommitKind.Chunk n) (sym (a.live i p xi live)) (can_living p.role _ live (can_chunk z p k how n limit (slice_get p.threads k) buffer live fits))
 live_can z x y moment i p (OfSerial k) a xi live buffer fits =
@@ -370,7 +370,7 @@ replay_follows z x y m p (Some pt) a xi rep fits is =
       can = r.1;
     }
 
-live_follows : (z : Numbers) (x y : SerialState) (m : Move) (p : Sphere) (o : Option Point) → Agrees x y → slice_get x.spheres m.sphere ≡ Some p → replays p.role ≡ false → 0 < z.buffer → FitsWhat z x.devices p m.what → o ≡ Some (point_for z m.moment m.sphere m.what) → Follows x y z (Some m) o
+live_follows : (z : Numbers) (x y : SerialState) (m : Move) (p : Sphere) (o : Option Point) → Agrees x y → slice_get x.spheres m.sphere ≡ Some p → replays p.role ≡ false → 0 < z.capacity → FitsWhat z x.devices p m.what → o ≡ Some (point_for z m.moment m.sphere m.what) → Follows x y z (Some m) o
 unfolding do_move
 live_follows z x y m p o a xi live buffer fits is =
     subst (Follows x y z (Some m)) (sym is)
@@ -395,7 +395,7 @@ shown_role w i p e =
 point_is : (w : World) (m : Move) (o : Option Point) (b : Bool) → PointIs w (Some m) o → replays (sphere_at w m.sphere).role ≡ b → PointOf w.numbers b m o
 point_is w m o b is e = subst (λ (c : Bool). PointOf w.numbers c m o) e is
 
-event_follows : (w : World) (y : SerialState) (move : Option Move) (point : Option Point) → Agrees (shown_of w) y → 0 < w.numbers.buffer → FitsIf w.numbers (shown_of w) move → PointIs w move point → Follows (shown_of w) y w.numbers move point
+event_follows : (w : World) (y : SerialState) (move : Option Move) (point : Option Point) → Agrees (shown_of w) y → 0 < w.numbers.capacity → FitsIf w.numbers (shown_of w) move → PointIs w move point → Follows (shown_of w) y w.numbers move point
 event_follows w y None point a buffer fits is = subst (Follows (shown_of w) y w.numbers None) (sym is) (record { agrees = a; can = tt })
 event_follows w y (Some m) point a buffer fits is =
     let f = fits_at w.numbers w.devices m (slice_get (shown_of w).spheres m.sphere) fits in

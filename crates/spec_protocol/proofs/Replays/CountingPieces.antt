@@ -43,11 +43,11 @@ record Stays (b : Cursor) (i : ℕ) (p : Sphere) (x : SerialState) : Type 0 wher
 chunk_stays : (z : Numbers) (x : SerialState) (i : ℕ) (b : Cursor) (k : ℕ) (how : How) (n limit : ℕ) (p : Sphere) (o : Option Parts) → slice_get x.spheres i ≡ Some p → p.role ≡ Replay b → is_piece how ≡ true → FitsChunk z p k how n limit o → Stays b i p (move_chunk z x i k how n limit p o)
 chunk_stays z x i b k how n limit p None there role piece fits = absurd fits
 chunk_stays z x i b k how n limit p (Some t) there role piece fits =
-    let v : MovedSphere = chunk_moved k (is_piece how) (is_short z.chunk how limit) (run p.memory t n) x.devices p in
+    let v : MovedSphere = chunk_moved k (is_piece how) (is_short z.s how limit) (run p.memory t n) x.devices p in
     record {
       sphere = laid v;
       there = get-set_same x.spheres i (laid v) p there;
-      counts = chunk_counts b k (is_piece how) (is_short z.chunk how limit) (run p.memory t n) x.devices p role piece;
+      counts = chunk_counts b k (is_piece how) (is_short z.s how limit) (run p.memory t n) x.devices p role piece;
     }
 
 move_stays : (z : Numbers) (x : SerialState) (m : Move) (b : Cursor) (k : ℕ) (how : How) (n limit : ℕ) (p : Sphere) → slice_get x.spheres m.sphere ≡ Some p → p.role ≡ Replay b → m.what ≡ OfChunk k how n limit → is_piece how ≡ true → Fits z x m → Stays b m.sphere p (do_move z x m)

@@ -56,9 +56,9 @@ chunk_in_turn Plain k piece short r devices p going free = tt
 chunk_in_turn (Record log) k piece short r devices p going free = tt
 chunk_in_turn (Replay b) k piece short r devices p going free = replayed_turn piece b k r devices p (turn-is b.now k going free)
 
-chunk_turn : (z : Numbers) (k : ℕ) (how : How) (n limit : ℕ) (t : Parts) (devices : Devices) (p : Sphere) → is_stopped p.role ≡ false → other_turn (head_of p) k ≡ None → InTurn (laid (chunk_moved k (is_piece how) (is_short z.chunk how limit) (run p.memory t n) devices p)).role
+chunk_turn : (z : Numbers) (k : ℕ) (how : How) (n limit : ℕ) (t : Parts) (devices : Devices) (p : Sphere) → is_stopped p.role ≡ false → other_turn (head_of p) k ≡ None → InTurn (laid (chunk_moved k (is_piece how) (is_short z.s how limit) (run p.memory t n) devices p)).role
 unfolding chunk_moved head_of
-chunk_turn z k how n limit t devices p going free = chunk_in_turn p.role k (is_piece how) (is_short z.chunk how limit) (run p.memory t n) devices p going free
+chunk_turn z k how n limit t devices p going free = chunk_in_turn p.role k (is_piece how) (is_short z.s how limit) (run p.memory t n) devices p going free
 
 serial_in_turn : (role : Role) (k moment : ℕ) (t : Parts) (devices : Devices) (p : Sphere) → InTurn (serial_in role k moment t devices p).sphere.role
 serial_in_turn Plain k moment t devices p = tt
@@ -110,7 +110,7 @@ turn_set x i p q devices all is turn j r e =
 chunk_keeps_turn : (z : Numbers) (x : SerialState) (i k : ℕ) (how : How) (n limit : ℕ) (p : Sphere) (o : Option Parts) → AllInTurn x → slice_get x.spheres i ≡ Some p → FitsChunk z p k how n limit o → AllInTurn (move_chunk z x i k how n limit p o)
 chunk_keeps_turn z x i k how n limit p None all is fits = all
 chunk_keeps_turn z x i k how n limit p (Some t) all is fits =
-    let v : MovedSphere = chunk_moved k (is_piece how) (is_short z.chunk how limit) (run p.memory t n) x.devices p in
+    let v : MovedSphere = chunk_moved k (is_piece how) (is_short z.s how limit) (run p.memory t n) x.devices p in
     turn_set x i p (laid v) v.devices all is (chunk_turn z k how n limit t x.devices p fits.going fits.turn)
 
 serial_keeps_turn : (x : SerialState) (i k moment : ℕ) (p : Sphere) (o : Option Parts) → AllInTurn x → slice_get x.spheres i ≡ Some p → AllInTurn (do_serial x i k moment p o)
@@ -224,7 +224,7 @@ pieces_stay s es i b is role going some =
     let p : Sphere = shown w.slots i (sphere_at w i) in
     let e : slice_get (shown_of w).spheres i ≡ Some p = shown-get w.slots i w.spheres (there-is w i (ap replays role)) in
     let m = moves_are s es is in
-    let all : AllInTurn (do_moves s.numbers (serial_start s) (moves (world_of s) es)) = moves_keep_turn s.numbers (serial_start s) (moves (world_of s) es) (start_turn s.numbers.chunk s.spheres) m.possible in
+    let all : AllInTurn (do_moves s.numbers (serial_start s) (moves (world_of s) es)) = moves_keep_turn s.numbers (serial_start s) (moves (world_of s) es) (start_turn s.numbers.s s.spheres) m.possible in
     let k = subst InTurn role (all i p (ap (λ (x : SerialState). slice_get x.spheres i) (sym m.same) ∙ e)) going some in (
       k.0,
       record {

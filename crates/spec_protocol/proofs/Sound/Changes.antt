@@ -65,14 +65,14 @@ pub record Asks (w : World) (c : ℕ) (h : Occupant) (how : How) : Type 0 where
 -- each change keeps them
 pub record Keeps (z : Numbers) (P : Properties) : Type 0 where
   pub later : (now i : ℕ) (p : Sphere) → P.sphere now i p → P.sphere (suc now) i p
-  pub stepped : (now c : ℕ) (p : Sphere) (slots : List (Option Flight)) (h : Occupant) → P.sphere now h.chunk.sphere p → h.chunk.closed ≡ None → P.held h → P.held (record h { chunk = (step z.buffer p.memory slots c h.chunk).chunk })
+  pub stepped : (now c : ℕ) (p : Sphere) (slots : List (Option Flight)) (h : Occupant) → P.sphere now h.chunk.sphere p → h.chunk.closed ≡ None → P.held h → P.held (record h { chunk = (step z.capacity p.memory slots c h.chunk).chunk })
   pub cut : (h : Occupant) → P.held h → P.held (record h { chunk = (cut h.chunk).chunk })
   pub squashed : (h : Occupant) → P.held h → P.held (record h { chunk = squash h.chunk })
-  pub afresh : (now i k : ℕ) (p : Sphere) (t : Parts) → P.sphere now i p → slice_get p.threads k ≡ Some t → is_live t ≡ true → P.held (record { thread = k; chunk = fresh z.signature i t (limit_of z.chunk p.role k t) (halves p.role) })
+  pub afresh : (now i k : ℕ) (p : Sphere) (t : Parts) → P.sphere now i p → slice_get p.threads k ≡ Some t → is_live t ≡ true → P.held (record { thread = k; chunk = fresh z.bits i t (limit_of z.s p.role k t) (halves p.role) })
   pub told : (f : Flight) (c : ℕ) → P.flight f → P.flight (tell f c)
   pub drained : (now : ℕ) (f : Flight) (s : Stored) (ss : List Stored) (p : Sphere) → f.words ≡ s ∷ ss → P.flight f → P.sphere now f.sphere p → P.flight (record f { words = ss }) × P.sphere now f.sphere (record p { memory = lay p.memory s })
   pub chunk : (w : World) (c : ℕ) (h : Occupant) (how : How) → w.numbers ≡ z → Asks w c h how → Holds P (moment w) w
-      → Lands P (suc (moment w)) h.chunk.sphere (chunk_moved h.thread (is_piece how) (is_short w.numbers.chunk how h.chunk.limit) h.chunk.done w.devices (sphere_at w h.chunk.sphere))
+      → Lands P (suc (moment w)) h.chunk.sphere (chunk_moved h.thread (is_piece how) (is_short w.numbers.s how h.chunk.limit) h.chunk.done w.devices (sphere_at w h.chunk.sphere))
   pub serial : (w : World) (c : ℕ) (h : Occupant) (how : How) → Asks w c h how → Holds P (moment w) w → Lands P (suc (moment w)) h.chunk.sphere (serial_moved h.thread (moment w) h.chunk.start w.devices (sphere_at w h.chunk.sphere))
   pub dma : (w : World) (i : ℕ) (v : MovedSphere) → Transfers w i v → Holds P (moment w) w → Lands P (suc (moment w)) i v
   pub raised : (now i k value : ℕ) (t : Parts) (p : Sphere) → Raises k t p → P.sphere now i p → P.sphere (suc now) i (raised k value t p)
@@ -123,8 +123,8 @@ later-holds P z w keeps h =
 pub afresh-property : (P : Properties) (z : Numbers) (now i k : ℕ) (p : Sphere) (o : Option Parts) → Keeps z P → P.sphere now i p → slice_get p.threads k ≡ o → (h : Occupant) → thread_afresh z i k p o ≡ Some h → P.held h
 afresh-property P z now i k p None keeps sphere is h e = absurd (none-some h e)
 afresh-property P z now i k p (Some t) keeps sphere is h e =
-    branch (λ (o : Option Occupant). o ≡ Some h → P.held h) (is_live t) (Some (record { thread = k; chunk = fresh z.signature i t (limit_of z.chunk p.role k t) (halves p.role) })) None
-    (λ live q. subst P.held (let r : record { thread = k; chunk = fresh z.signature i t (limit_of z.chunk p.role k t) (halves p.role) } ≡ h = cc in r) (keeps.afresh now i k p t sphere is live))
+    branch (λ (o : Option Occupant). o ≡ Some h → P.held h) (is_live t) (Some (record { thread = k; chunk = fresh z.bits i t (limit_of z.s p.role k t) (halves p.role) })) None
+    (λ live q. subst P.held (let r : record { thread = k; chunk = fresh z.bits i t (limit_of z.s p.role k t) (halves p.role) } ≡ h = cc in r) (keeps.afresh now i k p t sphere is live))
     (λ _ q. absurd (none-some h q)) e
 
 afresh-holds : (P : Properties) (now : ℕ) (w : World) (c i k : ℕ) (p : Sphere) → Keeps w.numbers P → P.sphere now i p → Holds P now w → Holds P now (with_core w c (held_afresh w.numbers i k p))
@@ -187,10 +187,10 @@ module _ (P : Properties) (w : World) (keeps : Keeps w.numbers P) (good : IsGood
   same : Holds P (suc (moment w)) w
   same = later-holds P w.numbers w keeps k
 
-  step-then : (c : ℕ) (h : Occupant) → at w.cores c ≡ Some h → h.chunk.closed ≡ None → Then P w (stepped w c h (step w.numbers.buffer (sphere_at w h.chunk.sphere).memory w.slots c h.chunk))
+  step-then : (c : ℕ) (h : Occupant) → at w.cores c ≡ Some h → h.chunk.closed ≡ None → Then P w (stepped w c h (step w.numbers.capacity (sphere_at w h.chunk.sphere).memory w.slots c h.chunk))
   step-then c h is opened =
       let p = sphere_at w h.chunk.sphere in
-      let s = step w.numbers.buffer p.memory w.slots c h.chunk in
+      let s = step w.numbers.capacity p.memory w.slots c h.chunk in
       core-holds P (suc (moment w)) w c (Some (record h { chunk = s.chunk }))
       (λ x q. held-is P (record h { chunk = s.chunk }) x q (keeps.stepped (moment w) c p w.slots h (k.spheres h.chunk.sphere (good.held c h is).sphere) opened (k.held c h is))) same
 
@@ -215,7 +215,7 @@ module _ (P : Properties) (w : World) (keeps : Keeps w.numbers P) (good : IsGood
   unfolding grant_chunk
   chunk-then c h how may =
       granted-then c (chunk_request w h how) h.chunk.writes
-      (chunk_moved h.thread (is_piece how) (is_short w.numbers.chunk how h.chunk.limit) h.chunk.done w.devices (sphere_at w h.chunk.sphere)) _ (keeps.chunk w c h how refl (asks c h how may) k)
+      (chunk_moved h.thread (is_piece how) (is_short w.numbers.s how h.chunk.limit) h.chunk.done w.devices (sphere_at w h.chunk.sphere)) _ (keeps.chunk w c h how refl (asks c h how may) k)
 
   serial-then : (c : ℕ) (h : Occupant) (how : How) → MayAsk w c h how → Then P w (grant_serial w c h)
   unfolding grant_serial
@@ -268,8 +268,8 @@ module _ (P : Properties) (w : World) (keeps : Keeps w.numbers P) (good : IsGood
       (subst (P.sphere (suc (moment w)) i) (sym (sphere-same w.spheres i q within)) new)
       (sphere-holds P (suc (moment w)) w i q new same)
 
-  dma-then : (i : ℕ) (v : MovedSphere) → Transfers w i v → Then P w (dma_done w i (signed i v.words (nothing w.numbers.signature)) v)
-  dma-then i v t = moved-holds P w i v (signed i v.words (nothing w.numbers.signature)) 0 w.cores (keeps.dma w i v t k) same.held same
+  dma-then : (i : ℕ) (v : MovedSphere) → Transfers w i v → Then P w (dma_done w i (signed i v.words (nothing w.numbers.bits)) v)
+  dma-then i v t = moved-holds P w i v (signed i v.words (nothing w.numbers.bits)) 0 w.cores (keeps.dma w i v t k) same.held same
 
   -- an event keeps properties that each change keeps
   pub act-holds : (e : Event) → Holds P (suc (moment w)) (act w e).world

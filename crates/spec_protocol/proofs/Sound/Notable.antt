@@ -57,14 +57,14 @@ fits_log s w i sound =
           dma-bytes w.devices request r.few sound.devices;
     }
 
-fits_chunk : (w : World) (c : ℕ) (h : Occupant) (how : How) → IsGood w → IsClosed w c h how → IsNotable w.numbers.chunk h how
+fits_chunk : (w : World) (c : ℕ) (h : Occupant) (how : How) → IsGood w → IsClosed w c h how → IsNotable w.numbers.s h how
 fits_chunk w c h how good is =
     let held = good.held c h is.is in
     let role = (sphere_at w h.chunk.sphere).role in
     let most = (held.limit (live-going role is.live)).most in
-    let n = within-limit w.numbers.buffer h.chunk held.chunk.closes in
-    let e = live-limit w.numbers.chunk h.thread h.chunk.start role is.live in
-    record { size = omega (arith, most, n, e); over = short-over w.numbers.buffer w.numbers.chunk h how is.closed good.buffer held.chunk.closes }
+    let n = within-limit w.numbers.capacity h.chunk held.chunk.closes in
+    let e = live-limit w.numbers.s h.thread h.chunk.start role is.live in
+    record { size = omega (arith, most, n, e); over = short-over w.numbers.capacity w.numbers.s h how is.closed good.buffer held.chunk.closes }
 
 -- what is noted of the next commit of a sound world fits a log
 pub notes_fit : NotesFitLogs

@@ -54,9 +54,9 @@ use Rattle.spec_protocol.proofs.Sound.Transfers.{dma-moved-sound, raised-sound}
 abbrev sound : Setup → Properties
 sound s =
     record {
-      sphere = λ now i p. IsSoundSphere s.numbers.chunk (image_at s i) now p;
+      sphere = λ now i p. IsSoundSphere s.numbers.s (image_at s i) now p;
       flight = λ f. AreSoundWords (size_of s f.sphere) f.words;
-      held = λ h. IsSoundChunk s.numbers.buffer (size_of s h.chunk.sphere) h.chunk;
+      held = λ h. IsSoundChunk s.numbers.capacity (size_of s h.chunk.sphere) h.chunk;
       devices = HaveByteInput;
     }
 
@@ -69,12 +69,12 @@ images-whole (d ∷ ds) (suc i) each = images-whole ds i each
 whole : (s : Setup) (i : ℕ) → IsWithinLimits s → length (image_at s i).memory % 4 ≡ 0
 whole s i limits = images-whole s.spheres i (limits.images i)
 
-landed : (s : Setup) (now i : ℕ) (v : MovedSphere) → IsSoundMoved s.numbers.chunk (image_at s i) now v → Lands (sound s) now i v
+landed : (s : Setup) (now i : ℕ) (v : MovedSphere) → IsSoundMoved s.numbers.s (image_at s i) now v → Lands (sound s) now i v
 landed s now i v m = record { sphere = m.sphere; flight = λ writes told. m.words; devices = m.devices }
 
 -- ---- a word more in memory
 
-drained-sphere : (s : Setup) (now i : ℕ) (w : Stored) (ws : List Stored) (p : Sphere) → AreSoundWords (size_of s i) (w ∷ ws) → IsSoundSphere s.numbers.chunk (image_at s i) now p → IsSoundSphere s.numbers.chunk (image_at s i) now (record p { memory = lay p.memory w })
+drained-sphere : (s : Setup) (now i : ℕ) (w : Stored) (ws : List Stored) (p : Sphere) → AreSoundWords (size_of s i) (w ∷ ws) → IsSoundSphere s.numbers.s (image_at s i) now p → IsSoundSphere s.numbers.s (image_at s i) now (record p { memory = lay p.memory w })
 drained-sphere s now i w ws p words k =
     record {
       size = length_lay p.memory w ∙ k.size;
@@ -87,8 +87,8 @@ drained-sphere s now i w ws p words k =
       role = k.role;
     }
 
-drained-both : (s : Setup) (now : ℕ) (f : Flight) (w : Stored) (ws : List Stored) (p : Sphere) → f.words ≡ w ∷ ws → AreSoundWords (size_of s f.sphere) f.words → IsSoundSphere s.numbers.chunk (image_at s f.sphere) now p
-    → AreSoundWords (size_of s f.sphere) ws × IsSoundSphere s.numbers.chunk (image_at s f.sphere) now (record p { memory = lay p.memory w })
+drained-both : (s : Setup) (now : ℕ) (f : Flight) (w : Stored) (ws : List Stored) (p : Sphere) → f.words ≡ w ∷ ws → AreSoundWords (size_of s f.sphere) f.words → IsSoundSphere s.numbers.s (image_at s f.sphere) now p
+    → AreSoundWords (size_of s f.sphere) ws × IsSoundSphere s.numbers.s (image_at s f.sphere) now (record p { memory = lay p.memory w })
 drained-both s now f w ws p e words k =
     let all : AreSoundWords (size_of s f.sphere) (w ∷ ws) = subst (AreSoundWords (size_of s f.sphere)) e words in
     (record { inside = all.inside.1; bytes = all.bytes.1 }, drained-sphere s now f.sphere w ws p all k)
@@ -134,22 +134,22 @@ room-left n total whole limit a e l = omega (arith, a, e, l)
 cursor-is : (s n : ℕ) (p : Sphere) (b : Cursor) → p.role ≡ Replay b → IsSoundRole s n p.threads p.role → IsSoundCursor n p.threads b
 cursor-is s n p b e h = subst (IsSoundRole s n p.threads) e h
 
-piece-room : (s : Setup) (w : World) (c : ℕ) (h : Occupant) (how : How) → Asks w c h how → IsSoundSphere s.numbers.chunk (image_at s h.chunk.sphere) (moment w) (sphere_at w h.chunk.sphere)
+piece-room : (s : Setup) (w : World) (c : ℕ) (h : Occupant) (how : How) → Asks w c h how → IsSoundSphere s.numbers.s (image_at s h.chunk.sphere) (moment w) (sphere_at w h.chunk.sphere)
     → (b : Cursor) → (sphere_at w h.chunk.sphere).role ≡ Replay b → is_piece how ≡ true → b.total + h.chunk.done.n < whole_limit b.log h.thread h.chunk.start.commits
 piece-room s w c h how asks k b e piece =
     let p = sphere_at w h.chunk.sphere in
     let held = asks.good.held c h asks.is in
     let turn = has-turn p h.thread asks.going asks.turn b e in
-    let cursor = cursor-is s.numbers.chunk (position p.progress) p b e k.role in
+    let cursor = cursor-is s.numbers.s (position p.progress) p b e k.role in
     let limit : h.chunk.limit ≡ max 1 (whole_limit b.log h.thread h.chunk.start.commits - b.total) =
-    (held.limit asks.going).replayed (ap replays e) ∙ ap (λ (r : Role). limit_of w.numbers.chunk r h.thread h.chunk.start) e ∙ limit-is w.numbers.chunk h.thread b h.chunk.start turn
+    (held.limit asks.going).replayed (ap replays e) ∙ ap (λ (r : Role). limit_of w.numbers.s r h.thread h.chunk.start) e ∙ limit-is w.numbers.s h.thread b h.chunk.start turn
     in
     room-left h.chunk.done.n b.total (whole_limit b.log h.thread h.chunk.start.commits) h.chunk.limit
     (turn-room (position p.progress) h.thread p b h.chunk.start cursor turn held.start) limit
     (held.chunk.closes.early how asks.closed (piece-how how piece))
 
 sound-chunk : (s : Setup) (w : World) (c : ℕ) (h : Occupant) (how : How) → Asks w c h how → Holds (sound s) (moment w) w
-    → Lands (sound s) (suc (moment w)) h.chunk.sphere (chunk_moved h.thread (is_piece how) (is_short w.numbers.chunk how h.chunk.limit) h.chunk.done w.devices (sphere_at w h.chunk.sphere))
+    → Lands (sound s) (suc (moment w)) h.chunk.sphere (chunk_moved h.thread (is_piece how) (is_short w.numbers.s how h.chunk.limit) h.chunk.done w.devices (sphere_at w h.chunk.sphere))
 sound-chunk s w c h how asks k =
     let i = h.chunk.sphere in
     let p = sphere_at w i in
@@ -157,8 +157,8 @@ sound-chunk s w c h how asks k =
     let ch = k.held c h asks.is in
     let sphere = k.spheres i held.sphere in
     landed s (suc (moment w)) i _
-    (chunk-sound s.numbers.chunk (image_at s i) (moment w) h.thread h.chunk.start w.devices p sphere held.start k.devices
-    (is_piece how) (is_short w.numbers.chunk how h.chunk.limit) h.chunk.done
+    (chunk-sound s.numbers.s (image_at s i) (moment w) h.thread h.chunk.start w.devices p sphere held.start k.devices
+    (is_piece how) (is_short w.numbers.s how h.chunk.limit) h.chunk.done
     (record { live = held.lives; turn = has-turn p h.thread asks.going asks.turn; room = piece-room s w c h how asks sphere })
     (record { thread = ch.thread; commits = ch.commits; status = ch.status; words = ch.words; loads = held.chunk.closes.few_loads }))
 
@@ -169,34 +169,34 @@ sound-serial s w c h how limits asks k =
     let p = sphere_at w i in
     let held = asks.good.held c h asks.is in
     landed s (suc (moment w)) i _
-    (serial-sound s.numbers.chunk (image_at s i) (moment w) h.thread (moment w) h.chunk.start w.devices p (whole s i limits) (has-turn p h.thread asks.going asks.turn) (k.spheres i held.sphere) held.start k.devices)
+    (serial-sound s.numbers.s (image_at s i) (moment w) h.thread (moment w) h.chunk.start w.devices p (whole s i limits) (has-turn p h.thread asks.going asks.turn) (k.spheres i held.sphere) held.start k.devices)
 
 -- ---- every change
 
 -- a chunk that is sound in its sphere's memory
-in-own : (s : Setup) (ch : Chunk) (i : ℕ) → IsSoundIn s.numbers.buffer (size_of s i) i ch → IsSoundChunk s.numbers.buffer (size_of s ch.sphere) ch
-in-own s ch i k = subst (λ (n : ℕ). IsSoundChunk s.numbers.buffer (size_of s n) ch) (sym k.sphere) k.sound
+in-own : (s : Setup) (ch : Chunk) (i : ℕ) → IsSoundIn s.numbers.capacity (size_of s i) i ch → IsSoundChunk s.numbers.capacity (size_of s ch.sphere) ch
+in-own s ch i k = subst (λ (n : ℕ). IsSoundChunk s.numbers.capacity (size_of s n) ch) (sym k.sphere) k.sound
 
 sound-keeps : (s : Setup) → IsWithinLimits s → Keeps s.numbers (sound s)
 sound-keeps s limits =
     record {
-      later = λ now i p k. as-role s.numbers.chunk (image_at s i) now p.role p k.role k;
+      later = λ now i p k. as-role s.numbers.s (image_at s i) now p.role p k.role k;
       stepped = λ now c p slots h sphere opened k.
-          in-own s (step s.numbers.buffer p.memory slots c h.chunk).chunk h.chunk.sphere
-          (step-sound s.numbers.buffer (size_of s h.chunk.sphere) h.chunk.sphere p.memory slots c h.chunk sphere.size (record { sphere = refl; sound = k }));
-      cut = λ h k. in-own s (cut h.chunk).chunk h.chunk.sphere (cut-sound s.numbers.buffer (size_of s h.chunk.sphere) h.chunk.sphere h.chunk (record { sphere = refl; sound = k }));
-      squashed = λ h k. squash-sound s.numbers.buffer (size_of s h.chunk.sphere) h.chunk k;
+          in-own s (step s.numbers.capacity p.memory slots c h.chunk).chunk h.chunk.sphere
+          (step-sound s.numbers.capacity (size_of s h.chunk.sphere) h.chunk.sphere p.memory slots c h.chunk sphere.size (record { sphere = refl; sound = k }));
+      cut = λ h k. in-own s (cut h.chunk).chunk h.chunk.sphere (cut-sound s.numbers.capacity (size_of s h.chunk.sphere) h.chunk.sphere h.chunk (record { sphere = refl; sound = k }));
+      squashed = λ h k. squash-sound s.numbers.capacity (size_of s h.chunk.sphere) h.chunk k;
       afresh = λ now i k p t sphere is live.
-          fresh-sound s.numbers.buffer (size_of s i) s.numbers.signature i t (limit_of s.numbers.chunk p.role k t) (halves p.role)
-          (limit-most s.numbers.chunk (position p.progress) p.threads p.role k t limits.chunk.1 sphere.role) (sphere.threads k t is).thread;
+          fresh-sound s.numbers.capacity (size_of s i) s.numbers.bits i t (limit_of s.numbers.s p.role k t) (halves p.role)
+          (limit-most s.numbers.s (position p.progress) p.threads p.role k t limits.chunk.1 sphere.role) (sphere.threads k t is).thread;
       told = λ f c k. k;
       drained = λ now f w ws p e words k. drained-both s now f w ws p e words k;
       chunk = λ w c h how numbers asks k. sound-chunk s w c h how asks k;
       serial = λ w c h how asks k. sound-serial s w c h how limits asks k;
       dma = λ w i v t k.
           landed s (suc (moment w)) i v
-          (dma-moved-sound s.numbers.chunk (image_at s i) (moment w) w.devices (sphere_at w i) v (whole s i limits) (dma-has-turn (sphere_at w i) t.going t.turn) (k.spheres i t.within) k.devices t.is);
-      raised = λ now i k value t p r sphere. raised-sound s.numbers.chunk (image_at s i) now k value t p r.role r.is sphere;
+          (dma-moved-sound s.numbers.s (image_at s i) (moment w) w.devices (sphere_at w i) v (whole s i limits) (dma-has-turn (sphere_at w i) t.going t.turn) (k.spheres i t.within) k.devices t.is);
+      raised = λ now i k value t p r sphere. raised-sound s.numbers.s (image_at s i) now k value t p r.role r.is sphere;
     }
 
 -- ---- an event
@@ -240,7 +240,7 @@ counted-sound s w a sizes replies e k =
       sizes = sizes;
       devices = k.devices;
       replies = replies;
-      spheres = λ i l. subst (λ (n : ℕ). IsSoundSphere s.numbers.chunk (image_at s i) n (sphere_at a.world i)) (sym e) (k.spheres i l);
+      spheres = λ i l. subst (λ (n : ℕ). IsSoundSphere s.numbers.s (image_at s i) n (sphere_at a.world i)) (sym e) (k.spheres i l);
       flights = k.flights;
       held = k.held;
     }
@@ -291,18 +291,18 @@ pub setup-within : (s : Setup) → IsWithinLimits s → IsSetup s
 setup-within s limits =
     record { chunk = (let l = limits.chunk.0 in omega (arith, l)); buffer = (let l = limits.buffer in omega (arith, l)) }
 
-start-held : (s : Setup) (c : ℕ) (h : Occupant) → IsWithinLimits s → ((i : ℕ) → i < length (world_of s).spheres → IsSoundSphere s.numbers.chunk (image_at s i) 0 (sphere_at (world_of s) i)) → at (world_of s).cores c ≡ Some h → IsSoundChunk s.numbers.buffer (size_of s h.chunk.sphere) h.chunk
+start-held : (s : Setup) (c : ℕ) (h : Occupant) → IsWithinLimits s → ((i : ℕ) → i < length (world_of s).spheres → IsSoundSphere s.numbers.s (image_at s i) 0 (sphere_at (world_of s) i)) → at (world_of s).cores c ≡ Some h → IsSoundChunk s.numbers.capacity (size_of s h.chunk.sphere) h.chunk
 start-held s c h limits spheres e =
     let ps = (world_of s).spheres in
     let r = first_held s.numbers 0 s.cores c ps h e in
     let k : 0 + c ≡ c = omega arith in
     afresh-property (sound s) s.numbers 0 (0 + c) 0 (get_or ps c no_sphere) (slice_get (get_or ps c no_sphere).threads 0) (sound-keeps s limits)
-    (subst (λ (j : ℕ). IsSoundSphere s.numbers.chunk (image_at s j) 0 (get_or ps c no_sphere)) (sym k) (spheres c r.0)) refl h r.1
+    (subst (λ (j : ℕ). IsSoundSphere s.numbers.s (image_at s j) 0 (get_or ps c no_sphere)) (sym k) (spheres c r.0)) refl h r.1
 
 start-sound : (s : Setup) → IsWithinLimits s → IsSound s (world_of s)
 start-sound s limits =
-    let spheres : (i : ℕ) → i < length (world_of s).spheres → IsSoundSphere s.numbers.chunk (image_at s i) 0 (sphere_at (world_of s) i) =
-    (λ i l. first-spheres s.numbers.chunk s.spheres i (limits.images i) (let q = length-map s.spheres (sphere_of s.numbers.chunk) in omega (arith, l, q)))
+    let spheres : (i : ℕ) → i < length (world_of s).spheres → IsSoundSphere s.numbers.s (image_at s i) 0 (sphere_at (world_of s) i) =
+    (λ i l. first-spheres s.numbers.s s.spheres i (limits.images i) (let q = length-map s.spheres (sphere_of s.numbers.s) in omega (arith, l, q)))
     in
     record {
       sizes = sizes_kept s [] (setup-within s limits);

@@ -68,12 +68,12 @@ module _ (log : LogParts) (start y : Played) (p : Sphere) (b : Cursor) (k : ℕ)
   -- ---- the limit of a part
 
   -- the instructions of the pieces and the limit of a new part are together the limit of the commit
-  pub part-limit : (z : Numbers) (u : Parts) (limit : ℕ) → u.commits ≡ t.commits → limit ≡ limit_of z.chunk p.role k u → b.total + limit ≡ whole_limit log k t.commits
+  pub part-limit : (z : Numbers) (u : Parts) (limit : ℕ) → u.commits ≡ t.commits → limit ≡ limit_of z.s p.role k u → b.total + limit ≡ whole_limit log k t.commits
   unfolding limit_of
   part-limit z u limit commits limited =
       let turn : b.now ≡ Turn k = h.same ∙ h.turn in
       let l : limit ≡ max 1 (whole_limit log k t.commits - b.total) =
-      limited ∙ ap (λ (r : Role). limit_in r z.chunk k u.commits) h.beside.role
+      limited ∙ ap (λ (r : Role). limit_in r z.s k u.commits) h.beside.role
       ∙ (λ i. max 1 (whole_limit (h.beside.same_log i) k (commits i) - pieces_of (turn i) k b.total))
       ∙ ap (λ (n : ℕ). max 1 (whole_limit log k t.commits - n)) (pieces_own k b.total)
       in

@@ -61,7 +61,7 @@ pub replays_follow : ReplaysArePlays
 replays_follow image log s es i p r =
     let m = moves_are s es r.setup in
     let y0 : Played = opened log image.memory image.entry in
-    let z : ℕ = s.numbers.chunk in
+    let z : ℕ = s.numbers.s in
     let first : Stands log y0 (serial_start s) i = record { sphere = sphere_of z image; there = start-sphere z s.spheres i image r.there; reaches = start_reaches log z image r.standard r.replays } in
     let last : Stands log y0 (do_moves s.numbers (serial_start s) (moves (world_of s) es)) i = moves_stand log y0 s.numbers (serial_start s) (moves (world_of s) es) i r.standard first m.possible in
     let same : last.sphere ≡ p = (let h : Some last.sphere ≡ Some p = sym last.there ∙ ap (λ (x : SerialState). slice_get x.spheres i) (sym m.same) ∙ r.shown in cc) in

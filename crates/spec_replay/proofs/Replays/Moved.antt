@@ -124,7 +124,7 @@ module _ (log : LogParts) (start : Played) (x : SerialState) (i : ℕ) (p : Sphe
       let b : Cursor = f.cursor in
       let g : Going log y p b (Turn k) = thread_going k fits.going fits.turn in
       subst (λ (v : MovedSphere). Stands log start (do_moved x i v) i)
-      (sym (ap (λ (r : Role). chunk_in r k (is_piece how) (is_short z.chunk how limit) (run p.memory u n) x.devices p) f.role))
+      (sym (ap (λ (r : Role). chunk_in r k (is_piece how) (is_short z.s how limit) (run p.memory u n) x.devices p) f.role))
       (moved_stands (replayed_chunk (is_piece how) b k (run p.memory u n) x.devices p)
       (chunk-reaches log start y p b k g.state.0 (has_turn log start y p b k refl g) z u how n limit x.devices there fits))
 

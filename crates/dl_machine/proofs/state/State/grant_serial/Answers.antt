@@ -64,7 +64,7 @@ returns-in-Granted-clause-world g c =
     in
     let after = serial_after w core (at w.cores core) c.args.held v ready refl held moved in
     let words = c.in-Granted.words.words in
-    let marks : g.G.Sig.marks c.sign.new.marks ≡ signed c.args.held.sphere words (nothing w.numbers.signature) =
+    let marks : g.G.Sig.marks c.sign.new.marks ≡ signed c.args.held.sphere words (nothing w.numbers.bits) =
     c.sign.ensures ∙ ap (signed c.args.held.sphere words) (c.in_ok-writes.ensures ∙ ap nothing c.bits.ensures.value)
     in
     let point : c.push_reserved.new.self.items ≡ x.points.items ++ point_in w c.args.held CommitKind.Serial 0 false ∷ [] = cc in
@@ -107,7 +107,7 @@ returns-in-Piece-clause-world g c =
     in
     let after = serial_after w core (at w.cores core) c.args.held v ready refl held moved in
     let words = c.in-Piece.words.words in
-    let marks : g.G.Sig.marks c.sign-in-Piece.new.marks ≡ signed c.args.held.sphere words (nothing w.numbers.signature) =
+    let marks : g.G.Sig.marks c.sign-in-Piece.new.marks ≡ signed c.args.held.sphere words (nothing w.numbers.bits) =
     c.sign-in-Piece.ensures ∙ ap (signed c.args.held.sphere words) (c.in_ok-writes.ensures ∙ ap nothing c.bits.ensures.value)
     in
     let point : c.push_reserved-in-Piece.new.self.items ≡ x.points.items ++ point_in w c.args.held CommitKind.Piece 0 false ∷ [] = cc in
