@@ -38,7 +38,7 @@ seen h = record { sphere = h.chunk.sphere; thread = h.thread; closed = not (is_o
 
 -- the numbers of a core and a sphere
 abbrev pub numbers_of : Core → SizedSphere → Numbers
-numbers_of c p = record { s = p.standard; capacity = c.capacity; bits = c.bits }
+numbers_of c p = record { s = p.s; capacity = c.capacity; bits = c.bits }
 
 -- thread k of sphere i, which is p, with a fresh chunk
 abbrev pub afresh : Core → SizedSphere → (i thread : ℕ) → Option Occupant

@@ -35,7 +35,7 @@ with_held c held r = record r { held = slice_set r.held c held }
 
 -- the standard size of a chunk, and the spheres
 pub record Spheres : Type 0 where
-  pub standard : ℕ
+  pub s : ℕ
   pub spheres : List Sphere
 
 abbrev pub sphere_in : SizedSphere → Sphere
@@ -43,12 +43,12 @@ sphere_in p = p.sphere
 
 -- the spheres have one standard size
 pub record IsOfStandard (s : ℕ) (p : SizedSphere) : Type 0 where
-  pub standard : p.standard ≡ s
+  pub standard : p.s ≡ s
 
-pub record AreSpheres (standard : ℕ) (row : List SizedSphere) : Type 0 where
+pub record AreSpheres (s : ℕ) (row : List SizedSphere) : Type 0 where
   pub some_sphere : 1 ≤ length row
   pub most_spheres : length row ≤ 8
-  pub each : All (IsOfStandard standard) row
+  pub each : All (IsOfStandard s) row
 
 abbrev pub nth_sphere : (i : ℕ) → Spheres → Sphere
 nth_sphere i r = slice_index_or r.spheres i no_sphere
@@ -58,4 +58,4 @@ with_nth i p r = record r { spheres = slice_set r.spheres i p }
 
 -- the numbers of the cores and a sphere
 abbrev pub numbers_in : Cores → SizedSphere → Numbers
-numbers_in r p = record { s = p.standard; capacity = r.capacity; bits = r.bits }
+numbers_in r p = record { s = p.s; capacity = r.capacity; bits = r.bits }

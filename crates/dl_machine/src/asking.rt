@@ -123,7 +123,7 @@ impl<G: Sig> State<G> {
         let empty = G::empty(self.alloc, self.cores.bits())?;
         let chunk = self.cores.chunk(core);
         let (n, limit) = (chunk.n(), chunk.limit());
-        let short = is_short(self.spheres.standard(), how, limit);
+        let short = is_short(self.spheres.s(), how, limit);
         let moment = self.counts.events;
         let moved = self.spheres.commit_chunk(held.sphere, held.thread, chunk)?;
         match moved {
@@ -222,11 +222,11 @@ fn point_of(moment: u64, held: Held, kind: CommitKind, size: u32, short: bool) -
 }
 
 // Whether a chunk that was closed so was closed before its standard size.
-fn is_short(standard: u32, how: How, limit: u32) -> bool
-    ensures { result ≡ short_of standard how limit }
+fn is_short(s: u32, how: How, limit: u32) -> bool
+    ensures { result ≡ short_of s how limit }
 {
     match how {
-        How::Limit => limit < standard,
+        How::Limit => limit < s,
         How::Serial => false,
         How::Overflow | How::Cut => true,
     }

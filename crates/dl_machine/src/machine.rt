@@ -105,7 +105,7 @@ impl<G: Sig> Machine<G> {
     pub fn sphere(&self, number: u8) -> &Sphere
         requires { number < length self.now.spheres }
         ensures sphere { result.now.sphere ≡ sphere_at self.now number }
-        ensures standard { result.now.standard ≡ self.now.numbers.s }
+        ensures standard { result.now.s ≡ self.now.numbers.s }
         ensures promised { (s : SetupOf) (es : List Event) → IsRun s es self.now → IsPromised s number self.now }
     {
         self.state.spheres.get(number)

@@ -28,7 +28,7 @@ use std::marker::Model;
 // From 1 to 8 spheres, of one standard size of a chunk.
 #[derive(Drop)]
 pub(crate) struct Spheres {
-    standard: u32,
+    s: u32,
     row: Vec<Sphere>,
 }
 
@@ -38,9 +38,9 @@ impl Model for Spheres {
 
     ghost Value = { Spheres };
 
-    ghost view = { λ s. record { standard = s.standard; spheres = map sphere_in s.row.items } };
+    ghost view = { λ r. record { s = r.s; spheres = map sphere_in r.row.items } };
 
-    ghost invariant = { λ s. AreSpheres s.standard s.row.items };
+    ghost invariant = { λ r. AreSpheres r.s r.row.items };
 }
 
 impl Spheres {
@@ -50,18 +50,18 @@ impl Spheres {
     pub(crate) fn new(
         alloc: Global,
         setups: &[SphereSetup],
-        standard: u32,
+        s: u32,
     ) -> Result<Spheres, OutOfMemory>
         requires few { AreFew (length setups.now) }
-        requires size { IsChunkSize standard }
-        ensures made { IfOk result (λ s. s ≡ record { standard = standard; spheres = map (sphere_of standard) (map setup_of setups.now) }) }
-        ensures images { IfOk result (λ s. All (λ setup. IsImage (setup_of setup)) setups.now) }
+        requires size { IsChunkSize s }
+        ensures made { IfOk result (λ r. r ≡ record { s = s; spheres = map (sphere_of s) (map setup_of setups.now) }) }
+        ensures images { IfOk result (λ r. All (λ setup. IsImage (setup_of setup)) setups.now) }
     {
         let mut row = Vec::with_capacity(alloc, setups.len())?;
         for setup in setups {
-            row.push_reserved(Sphere::new(alloc, setup, standard)?);
+            row.push_reserved(Sphere::new(alloc, setup, s)?);
         }
-        Ok(Spheres { standard, row })
+        Ok(Spheres { s, row })
     }
 
     /// How many there are, from 1 to 8.
@@ -74,16 +74,16 @@ impl Spheres {
     }
 
     /// The standard size of a chunk.
-    pub(crate) fn standard(&self) -> u32
-        ensures { result ≡ self.now.standard }
+    pub(crate) fn s(&self) -> u32
+        ensures { result ≡ self.now.s }
     {
-        self.standard
+        self.s
     }
 
     /// The i-th.
     pub(crate) fn get(&self, i: u8) -> &Sphere
         requires { i < length self.now.spheres }
-        ensures { result.now ≡ record { standard = self.now.standard; sphere = nth_sphere i self.now } }
+        ensures { result.now ≡ record { s = self.now.s; sphere = nth_sphere i self.now } }
     {
         &self.row[i as usize]
     }
@@ -112,12 +112,12 @@ impl Spheres {
     ) -> Result<Moved, OutOfMemory>
         requires sphere { i < length self.old.spheres }
         requires thread { thread < length (nth_sphere i self.old).threads }
-        requires chunk { (how : How) × CanCommit self.old.standard (nth_sphere i self.old) thread how chunk.now.chunk }
+        requires chunk { (how : How) × CanCommit self.old.s (nth_sphere i self.old) thread how chunk.now.chunk }
         requires few { length (nth_sphere i self.old).progress.commits < 2 ^ 24 }
         requires request { let p = nth_sphere i self.old in IfSome p.progress.request (IsSoundRequest (length p.memory)) }
         ensures ok { IfOk result (λ m. (d : Devices) (how : How) → chunk.now.chunk.closed ≡ Some how →
             let p = nth_sphere i self.old in
-            let short = is_short self.old.standard how chunk.now.chunk.limit in
+            let short = is_short self.old.s how chunk.now.chunk.limit in
             came m (nth_sphere i self.new) d ≡ chunk_moved thread (is_piece how) short chunk.now.chunk.done d p) }
         ensures others { self.new ≡ with_nth i (nth_sphere i self.new) self.old }
         ensures err { OnErr result (self.new ≡ self.old) }

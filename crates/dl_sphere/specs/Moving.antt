@@ -56,9 +56,9 @@ IsPartIn (Replay b) k how ch = IsPart b k how ch
 -- a chunk of thread k, closed so, that can be committed: it began from the thread's own number of commits; in a sphere that
 -- isn't replayed it has no more than a standard chunk's instructions; it has some where it is short; and in one that is
 -- replayed it is a part of the commit whose turn it is
-pub record CanCommit (standard : ℕ) (p : Sphere) (k : ℕ) (how : How) (ch : Chunk) : Type 0 where
+pub record CanCommit (s : ℕ) (p : Sphere) (k : ℕ) (how : How) (ch : Chunk) : Type 0 where
   pub closed : ch.closed ≡ Some how
   pub commits : (t : Parts) → slice_get p.threads k ≡ Some t → ch.done.thread.commits ≡ t.commits
-  pub size : replays p.role ≡ false → ch.done.n ≤ standard
-  pub some : is_short standard how ch.limit ≡ true → 1 ≤ ch.done.n
+  pub size : replays p.role ≡ false → ch.done.n ≤ s
+  pub some : is_short s how ch.limit ≡ true → 1 ≤ ch.done.n
   pub part : IsPartIn p.role k how ch

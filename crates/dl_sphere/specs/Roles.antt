@@ -87,16 +87,16 @@ pub record IsReplayed (p : protocol.Sphere) (r : Replay) : Type 0 where
   pub agrees : Agrees r p.progress
   pub commits : r.commits ≡ commits_of p.threads
 
-abbrev pub IsKeepingOf : (standard : ℕ) → protocol.Sphere → Keeping → Type 0
-IsKeepingOf standard p Plain = HasFew p
-IsKeepingOf standard p (Recording r) = HasRecorded standard p r
-IsKeepingOf standard p (Replaying r loads) = IsReplayed p r
+abbrev pub IsKeepingOf : (s : ℕ) → protocol.Sphere → Keeping → Type 0
+IsKeepingOf s p Plain = HasFew p
+IsKeepingOf s p (Recording r) = HasRecorded s p r
+IsKeepingOf s p (Replaying r loads) = IsReplayed p r
 
 -- what is true of every sphere: its standard size is a log's, and there are at most 15 threads
-pub record IsSphere (standard : ℕ) (p : protocol.Sphere) (keeping : Keeping) : Type 0 where
-  pub size : IsChunkSize standard
+pub record IsSphere (s : ℕ) (p : protocol.Sphere) (keeping : Keeping) : Type 0 where
+  pub size : IsChunkSize s
   pub threads : length p.threads ≤ 15
-  pub kept : IsKeepingOf standard p keeping
+  pub kept : IsKeepingOf s p keeping
 
 -- the sphere is not replayed
 abbrev pub IsLive : Keeping → Type 0

@@ -3,7 +3,7 @@ use Rattle.std.specs.Prelude.{ℕ}
 use Rattle.spec_protocol.specs.Spheres.{Sphere}
 
 pub record SizedSphere : Type 0 where
-  pub standard : ℕ
+  pub s : ℕ
   pub sphere : Sphere
 
 abbrev pub with_sphere : Sphere → SizedSphere → SizedSphere

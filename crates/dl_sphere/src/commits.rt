@@ -106,11 +106,11 @@ pub(crate) fn count(commits: &[Commit]) -> u32
 }
 
 // Whether the closed chunk was closed before its standard size.
-pub(crate) fn is_short<G: Sig>(standard: u32, chunk: &Chunk<G>) -> bool
-    ensures { (how : How) → chunk.now.chunk.closed ≡ Some how → result ≡ is_short standard how chunk.now.chunk.limit }
+pub(crate) fn is_short<G: Sig>(s: u32, chunk: &Chunk<G>) -> bool
+    ensures { (how : How) → chunk.now.chunk.closed ≡ Some how → result ≡ is_short s how chunk.now.chunk.limit }
 {
     match chunk.closed() {
-        Some(How::Limit) => chunk.limit() < standard,
+        Some(How::Limit) => chunk.limit() < s,
         Some(How::Overflow | How::Cut) => true,
         Some(How::Serial) | None => false,
     }

@@ -21,13 +21,13 @@ impl Sphere {
     /// A sphere of this plan, with standard chunks of so many instructions.
     pub fn new(alloc: Global, setup: &SphereSetup, s: u32) -> Result<Sphere, OutOfMemory>
         requires { IsChunkSize s }
-        ensures made { IfOk result (λ p. p ≡ record { standard = s; sphere = sphere_of s (setup_of setup.now) }) }
+        ensures made { IfOk result (λ p. p ≡ record { s = s; sphere = sphere_of s (setup_of setup.now) }) }
         ensures image { IfOk result (λ p. IsImage (setup_of setup.now)) }
     {
         let image = &setup.image;
         Ok(Sphere {
             alloc,
-            standard: s,
+            s,
             memory: Memory::new(alloc, image)?,
             threads: Threads::start(image.entry()),
             commits: Vec::new(alloc),

@@ -32,12 +32,12 @@ impl Sphere {
     pub fn limit(&self, thread: u8) -> u32
         requires { thread < length self.now.sphere.threads }
         ensures value { (t : Parts) → slice_get self.now.sphere.threads thread ≡ Some t →
-            result ≡ limit_of self.now.standard self.now.sphere.role thread t }
+            result ≡ limit_of self.now.s self.now.sphere.role thread t }
         ensures least { 1 ≤ result }
         ensures most { result ≤ 4096 }
     {
         match &self.part {
-            Part::Plain | Part::Recorded(_) => self.standard,
+            Part::Plain | Part::Recorded(_) => self.s,
             Part::Replayed(replay) => replay.player.limit(thread),
         }
     }

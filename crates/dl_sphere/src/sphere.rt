@@ -37,7 +37,7 @@ use std::marker::Model;
 #[derive(Drop)]
 pub struct Sphere {
     pub(crate) alloc: Global,
-    pub(crate) standard: u32,
+    pub(crate) s: u32,
     pub(crate) memory: Memory,
     pub(crate) threads: Threads,
     pub(crate) commits: Vec<Commit>,
@@ -53,9 +53,9 @@ impl Model for Sphere {
 
     ghost Value = { SizedSphere };
 
-    ghost view = { λ p. record { standard = p.standard; sphere = sphere_in p } };
+    ghost view = { λ p. record { s = p.s; sphere = sphere_in p } };
 
-    ghost invariant = { λ p. IsSphere p.standard (sphere_in p) (keeping_of p.part) };
+    ghost invariant = { λ p. IsSphere p.s (sphere_in p) (keeping_of p.part) };
 }
 
 impl Sphere {
@@ -68,12 +68,12 @@ impl Sphere {
     ) -> Result<Moved, OutOfMemory>
         ghost how: { How }
         requires thread { thread < length self.old.sphere.threads }
-        requires chunk { CanCommit self.old.standard self.old.sphere thread how chunk.now.chunk }
+        requires chunk { CanCommit self.old.s self.old.sphere thread how chunk.now.chunk }
         requires few { length self.old.sphere.progress.commits < 2 ^ 24 }
         requires request { IfSome self.old.sphere.progress.request (IsSoundRequest (length self.old.sphere.memory)) }
         ensures ok { IfOk result (λ m. (d : Devices) →
-            came m self.new.sphere d ≡ chunk_moved thread (is_piece how) (is_short self.old.standard how chunk.now.chunk.limit) chunk.now.chunk.done d self.old.sphere) }
-        ensures standard { self.new.standard ≡ self.old.standard }
+            came m self.new.sphere d ≡ chunk_moved thread (is_piece how) (is_short self.old.s how chunk.now.chunk.limit) chunk.now.chunk.done d self.old.sphere) }
+        ensures standard { self.new.s ≡ self.old.s }
         ensures err { OnErr result (self.new ≡ self.old) }
     {
         let _ = thread_at(&self.threads, thread);
@@ -100,7 +100,7 @@ impl Sphere {
             return Ok(Moved::Granted(words));
         }
         let commit = chunk_commit(self.alloc, thread, chunk)?;
-        let short = is_short(self.standard, chunk);
+        let short = is_short(self.s, chunk);
         keep(&mut self.commits, &mut self.part, commit, short, None)?;
         let after = counted(chunk.state());
         self.threads.set(thread, &after);
@@ -122,7 +122,7 @@ impl Sphere {
         requires devices { HaveByteInput devices.old }
         ensures ok { IfOk result (λ m. (t : Parts) → slice_get self.old.sphere.threads thread ≡ Some t →
             came m self.new.sphere devices.new ≡ serial_moved thread moment t devices.old self.old.sphere) }
-        ensures standard { self.new.standard ≡ self.old.standard }
+        ensures standard { self.new.s ≡ self.old.s }
         ensures err { OnErr result (self.new ≡ self.old) }
         ensures devices { OnErr result (devices.new ≡ devices.old) }
     {
@@ -174,7 +174,7 @@ impl Sphere {
         requires few { length self.old.sphere.progress.commits < 2 ^ 24 }
         requires devices { HaveByteInput devices.old }
         ensures ok { IfOk result (λ m. dma_moved devices.old self.old.sphere ≡ Some (came m self.new.sphere devices.new)) }
-        ensures standard { self.new.standard ≡ self.old.standard }
+        ensures standard { self.new.s ≡ self.old.s }
         ensures err { OnErr result (self.new ≡ self.old) }
         ensures devices { OnErr result (devices.new ≡ devices.old) }
     {
@@ -215,7 +215,7 @@ impl Sphere {
         requires recorded { replays self.old.sphere.role ≡ false }
         ensures ok { OnOk result ((t : Parts) → slice_get self.old.sphere.threads thread ≡ Some t →
             self.new.sphere ≡ raised thread value t self.old.sphere) }
-        ensures standard { self.new.standard ≡ self.old.standard }
+        ensures standard { self.new.s ≡ self.old.s }
         ensures err { OnErr result (self.new ≡ self.old) }
     {
         let found = thread_at(&self.threads, thread);

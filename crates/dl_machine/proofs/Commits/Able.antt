@@ -79,11 +79,11 @@ standard_limit Plain s k t e = refl
 standard_limit (Record log) s k t e = refl
 standard_limit (Replay b) s k t e = cc
 
-short_some : (standard capacity : ℕ) (how : How) (ch : Chunk) → Closes capacity ch → 0 < capacity → ch.closed ≡ Some how → is_short standard how ch.limit ≡ true → 1 ≤ ch.done.n
-short_some standard capacity How.Limit ch closes some is short = let f = closes.full is in let p = closes.positive in omega arith
-short_some standard capacity How.Serial ch closes some is short = absurd (true≢false (sym short))
-short_some standard capacity How.Overflow ch closes some is short = let r = closes.room is in omega arith
-short_some standard capacity How.Cut ch closes some is short = let c = closes.cut is in omega arith
+short_some : (s capacity : ℕ) (how : How) (ch : Chunk) → Closes capacity ch → 0 < capacity → ch.closed ≡ Some how → is_short s how ch.limit ≡ true → 1 ≤ ch.done.n
+short_some s capacity How.Limit ch closes some is short = let f = closes.full is in let p = closes.positive in omega arith
+short_some s capacity How.Serial ch closes some is short = absurd (true≢false (sym short))
+short_some s capacity How.Overflow ch closes some is short = let r = closes.room is in omega arith
+short_some s capacity How.Cut ch closes some is short = let c = closes.cut is in omega arith
 
 within_limit : (capacity : ℕ) (ch : Chunk) (how : How) → Closes capacity ch → ch.closed ≡ Some how → ch.done.n ≤ ch.limit
 within_limit capacity ch How.Limit closes is = let f = closes.full is in omega arith

@@ -16,8 +16,8 @@ pub how_is : (o : Option How) (how : How) → o ≡ Some how → how_of o ≡ ho
 how_is o how e = ap how_of e
 
 -- a chunk that can commit somehow can commit as it was closed
-pub can_commit_so : (standard : ℕ) (p : Sphere) (k : ℕ) (ch : Chunk) → (how : How) × CanCommit standard p k how ch → CanCommit standard p k (how_of ch.closed) ch
-can_commit_so standard p k ch can = subst (λ (how : How). CanCommit standard p k how ch) (sym (how_is ch.closed can.0 can.1.closed)) can.1
+pub can_commit_so : (s : ℕ) (p : Sphere) (k : ℕ) (ch : Chunk) → (how : How) × CanCommit s p k how ch → CanCommit s p k (how_of ch.closed) ch
+can_commit_so s p k ch can = subst (λ (how : How). CanCommit s p k how ch) (sym (how_is ch.closed can.0 can.1.closed)) can.1
 
 -- an Ok of which P holds is one of which Q does, where P implies Q
 pub if_ok : {A E : Type 0} (r : Result A E) (P Q : A → Type 0) → ((x : A) → P x → Q x) → IfOk r P → IfOk r Q

@@ -72,7 +72,7 @@ module _ (cores : Cores) (spheres : Spheres) (flights : Flights) (devices : Devi
         → after_flight (world_in then_ after_ flights devices counts more)
         ≡ with_grant (world_in cores spheres flights devices counts points) c held (nth_sphere held.sphere after_) words marks devices point
     grant_done then_ ec es ep =
-        let again = set_again cores.held c None (held_afresh (record { s = spheres.standard; capacity = cores.capacity; bits = cores.bits }) held.sphere held.thread (nth_sphere held.sphere after_)) in
+        let again = set_again cores.held c None (held_afresh (record { s = spheres.s; capacity = cores.capacity; bits = cores.bits }) held.sphere held.thread (nth_sphere held.sphere after_)) in
         cc
 
     -- where the core has its lines still and the devices have changed, the parts of a grant are the world after it

@@ -16,13 +16,13 @@ use Rattle.dl_sphere.specs.declared.part.Replay.{Replay as Replaying}
 use Rattle.dl_sphere.specs.declared.sphere.Sphere.TheInside.{Inside}
 
 -- a replayed sphere that stands is as far in its log as its player
-pub replayed : (a : Inside) (r : Replaying) → a.part ≡ Part.Replayed r → IsSphere a.standard (sphere_in a) (keeping_of a.part) → IsReplayed (sphere_in a) r.player
-replayed a r is h = subst (λ (part : Part). IsKeepingOf a.standard (sphere_in a) (keeping_of part)) is h.kept
+pub replayed : (a : Inside) (r : Replaying) → a.part ≡ Part.Replayed r → IsSphere a.s (sphere_in a) (keeping_of a.part) → IsReplayed (sphere_in a) r.player
+replayed a r is h = subst (λ (part : Part). IsKeepingOf a.s (sphere_in a) (keeping_of part)) is h.kept
 
 -- a replayed sphere stands with its player and its loads
-pub stands_replayed : (a : Inside) (r : Replaying) → a.part ≡ Part.Replayed r → IsSphere a.standard (sphere_in a) (keeping_of a.part)
-    → IsSphere a.standard (sphere_in a) (Replays r.player r.loads.items)
-stands_replayed a r is h = subst (λ (part : Part). IsSphere a.standard (sphere_in a) (keeping_of part)) is h
+pub stands_replayed : (a : Inside) (r : Replaying) → a.part ≡ Part.Replayed r → IsSphere a.s (sphere_in a) (keeping_of a.part)
+    → IsSphere a.s (sphere_in a) (Replays r.player r.loads.items)
+stands_replayed a r is h = subst (λ (part : Part). IsSphere a.s (sphere_in a) (keeping_of part)) is h
 
 -- a part that isn't a replayed one is live
 pub live_part : (part : Part) → ((r : Replaying) → part ≡ Part.Replayed r → ⊥) → IsLive (keeping_of part)

@@ -64,6 +64,6 @@ start_standing s setup m ts cs x size is h =
 
 -- a sphere that has just been set up is seen as its setup starts it
 pub start_seen : (s : ℕ) (setup : SphereSetup) (m : List ℕ) (ts : List Parts) (cs : List Commit) (x : Keeping) → Starts s setup m ts cs x
-    → let v : SizedSphere = record { standard = s; sphere = sphere_with m ts cs None None (role_of x) } in v ≡ record { standard = s; sphere = sphere_of s setup }
+    → let v : SizedSphere = record { s = s; sphere = sphere_with m ts cs None None (role_of x) } in v ≡ record { s = s; sphere = sphere_of s setup }
 start_seen s setup m ts cs x h =
     rw (h.memory, h.threads, h.commits, h.kept, start_role s setup.entry setup.role) refl

@@ -24,10 +24,10 @@ use Rattle.spec_finishing.proofs.Paying.Runs.{run-longer, run-joined, run-serial
 abbrev LimitIs : (whole size : ℕ) → Type 0
 LimitIs whole size = (whole ≡ size) ⊎ ((size ≡ 0) × (whole ≡ 1))
 
-size_limit : (standard : ℕ) (o : Option ℕ) → LimitIs (elim o [ None ↦ standard | Some z ↦ max 1 z ]) (elim o [ None ↦ standard | Some z ↦ z ])
-size_limit standard None = inl refl
-size_limit standard (Some zero) = inr (refl, refl)
-size_limit standard (Some (suc z)) = inl (max-eq_right (omega arith))
+size_limit : (s : ℕ) (o : Option ℕ) → LimitIs (elim o [ None ↦ s | Some z ↦ max 1 z ]) (elim o [ None ↦ s | Some z ↦ z ])
+size_limit s None = inl refl
+size_limit s (Some zero) = inr (refl, refl)
+size_limit s (Some (suc z)) = inl (max-eq_right (omega arith))
 
 limit_is : (log : LogParts) (k commits : ℕ) → LimitIs (whole_limit log k commits) (size_or_standard log k commits)
 limit_is log k commits = size_limit log.s (size_in log (Actor.Thread k) commits)

@@ -18,15 +18,15 @@ enum Begins {
     Replayed(&'static [u8]),
 }
 
-fn begin(alloc: Global, file: &[u8], begins: Begins, standard: u32) -> Result<Sphere, Fail>
-    requires { IsChunkSize standard }
+fn begin(alloc: Global, file: &[u8], begins: Begins, s: u32) -> Result<Sphere, Fail>
+    requires { IsChunkSize s }
     ensures { IfOk result (λ p. length p.sphere.threads ≡ 1) }
 {
     let setup = SphereSetup {
         image: dl_elf::load(alloc, file, 4096)?,
         role: role(alloc, begins)?,
     };
-    Ok(Sphere::new(alloc, &setup, standard)?)
+    Ok(Sphere::new(alloc, &setup, s)?)
 }
 
 fn role(alloc: Global, begins: Begins) -> Result<Role, Fail> {

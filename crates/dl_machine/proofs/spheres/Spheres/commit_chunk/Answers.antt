@@ -18,7 +18,7 @@ pub commit_chunk-requires : goal.commit_chunk-requires
 commit_chunk-requires g c =
     let within : c.args.i < length c.self.inside.row.items = grind (arith, common_steps) in
     let ch = c.args.chunk.now.chunk in
-    let said : (P : SizedSphere → Type 0) → P (record { standard = c.args.self.now.standard; sphere = nth_sphere c.args.i c.args.self.now }) → P c.index_mut-sphere.result.now =
+    let said : (P : SizedSphere → Type 0) → P (record { s = c.args.self.now.s; sphere = nth_sphere c.args.i c.args.self.now }) → P c.index_mut-sphere.result.now =
     λ P. row_says P _ _ _ _ _ c.self.invariant c.self.view_is within c.index_mut-sphere.ensures.value
     in
     λ κs below. (
@@ -26,7 +26,7 @@ commit_chunk-requires g c =
       (
         said (λ p. c.args.thread < length p.sphere.threads) c.requires.thread,
         (
-          said (λ p. CanCommit p.standard p.sphere c.args.thread (how_of ch.closed) ch) (can_commit_so _ _ _ ch c.requires.chunk),
+          said (λ p. CanCommit p.s p.sphere c.args.thread (how_of ch.closed) ch) (can_commit_so _ _ _ ch c.requires.chunk),
           (
             said (λ p. length p.sphere.progress.commits < 2 ^ 24) c.requires.few,
             said (λ p. IfSome p.sphere.progress.request (IsSoundRequest (length p.sphere.memory))) c.requires.request,
@@ -39,7 +39,7 @@ pub returns-clause-ok : goal.returns-clause-ok
 returns-clause-ok g c =
     let within : c.args.i < length c.self.inside.row.items = grind (arith, common_steps) in
     let ch = c.args.chunk.now.chunk in
-    let so : SizedSphere → Sphere → How → Moved → Devices → Type 0 = λ o q how m d. came m q d ≡ chunk_moved c.args.thread (is_piece how) (is_short o.standard how ch.limit) ch.done d o.sphere in
+    let so : SizedSphere → Sphere → How → Moved → Devices → Type 0 = λ o q how m d. came m q d ≡ chunk_moved c.args.thread (is_piece how) (is_short o.s how ch.limit) ch.done d o.sphere in
     let P : SizedSphere → Sphere → Type 0 = λ o q. IfOk c.commit_chunk.result (λ m. (d : Devices) → (how : How) → ch.closed ≡ Some how → so o q how m d) in
     let o = c.index_mut-sphere.result.now in
     let q = c.commit_chunk.new.self.sphere in

@@ -13,8 +13,8 @@ use Rattle.dl_machine.proofs.spheres.Spheres.new.Goals as goal
 
 pub returns-clause-made : goal.returns-clause-made
 returns-clause-made c =
-    let all : map sphere_in c.loop-setup.row.items ≡ map (λ x. sphere_of c.args.standard (setup_of x)) c.args.setups.now = grind (arith, common_steps) in
-    ap (λ (ps : List Sphere). record { standard = c.args.standard; spheres = ps }) (all ∙ sym (map-map (sphere_of c.args.standard) setup_of c.args.setups.now))
+    let all : map sphere_in c.loop-setup.row.items ≡ map (λ x. sphere_of c.args.s (setup_of x)) c.args.setups.now = grind (arith, common_steps) in
+    ap (λ (ps : List Sphere). record { s = c.args.s; spheres = ps }) (all ∙ sym (map-map (sphere_of c.args.s) setup_of c.args.setups.now))
 
 all_pushed : {X : Type 0} (P : X → Type 0) (xs : List X) (x : X) → All P xs → P x → All P (xs ++ x ∷ [])
 all_pushed P [] x h px zero d l = px
@@ -27,7 +27,7 @@ loop-setup-preserved c =
     let i = c.loop-setup.setup-index in
     let setups = c.args.setups.now in
     let item = c.setup-item.result in
-    let f : SphereSetup → Sphere = λ x. sphere_of c.args.standard (setup_of x) in
+    let f : SphereSetup → Sphere = λ x. sphere_of c.args.s (setup_of x) in
     let inv = c.loop-setup.invariant in
     let x = c.in_ok-new.field-0 in
     let more : take (i + 1) setups ≡ take i setups ++ item ∷ [] = take_more setups i item c.loop-setup-test.true ∙ ap (λ y. take i setups ++ y ∷ []) (sym c.setup-item.is) in
@@ -40,8 +40,8 @@ loop-setup-preserved c =
           ∙ sym (map-append f (take i setups) (item ∷ []))
           ∙ sym (ap (λ (xs : List SphereSetup). map f xs) more);
       each =
-          subst (λ (xs : List SizedSphere). All (IsOfStandard c.args.standard) xs) (sym c.push_reserved.ensures.items)
-          (all_pushed (IsOfStandard c.args.standard) c.loop-setup.row.items x inv.each (record { standard = ap (λ (y : SizedSphere). y.standard) c.in_ok-new.ensures.made }));
+          subst (λ (xs : List SizedSphere). All (IsOfStandard c.args.s) xs) (sym c.push_reserved.ensures.items)
+          (all_pushed (IsOfStandard c.args.s) c.loop-setup.row.items x inv.each (record { standard = ap (λ (y : SizedSphere). y.s) c.in_ok-new.ensures.made }));
       images =
           subst (λ (xs : List SphereSetup). All (λ y. IsImage (setup_of y)) xs) (sym more)
           (all_pushed (λ y. IsImage (setup_of y)) (take i setups) item inv.images c.in_ok-new.ensures.image);

@@ -7,8 +7,8 @@ use Rattle.dl_machine.proofs.spheres.Spheres.new.Given as goal
 
 abbrev pub invariant-loop-setup : goal.invariant-loop-setup
 invariant-loop-setup l = record {
-  spheres : map sphere_in l.row.items ≡ map (λ x. sphere_of l.standard (setup_of x)) (take l.setup-index l.setups);
-  each : All (IsOfStandard l.standard) l.row.items;
+  spheres : map sphere_in l.row.items ≡ map (λ x. sphere_of l.s (setup_of x)) (take l.setup-index l.setups);
+  each : All (IsOfStandard l.s) l.row.items;
   images : All (λ x. IsImage (setup_of x)) (take l.setup-index l.setups);
   len : vec_len l.row ≡ l.setup-index;
   room : length l.setups ≤ vec_capacity l.row;

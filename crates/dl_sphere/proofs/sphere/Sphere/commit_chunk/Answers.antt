@@ -55,8 +55,8 @@ invariant_of-self-2 g c =
       actor = ap (λ (v : Commit). v.actor) c.in_ok-commit.ensures;
     }
     in
-    subst (IsSphere a.standard q) (sym c.in_ok-keep.ensures.noted)
-    (commits_stand (sphere_in a) q k t u [] commit d a.standard c.is_short-short.result None (keeping_of a.part) (live_part a.part c.in_default.not-Replayed) h)
+    subst (IsSphere a.s q) (sym c.in_ok-keep.ensures.noted)
+    (commits_stand (sphere_in a) q k t u [] commit d a.s c.is_short-short.result None (keeping_of a.part) (live_part a.part c.in_default.not-Replayed) h)
 
 pub returns-clause-ok : goal.returns-clause-ok
 returns-clause-ok g c d =
@@ -84,10 +84,10 @@ returns-clause-ok g c d =
       words = (c.in_ok-words.ensures ∙ c.words.ensures.words) i;
       devices = d;
     })
-    ∙ chunk_is_moved a.memory a.threads a.commits.items a.last d a.standard (keeping_of a.part) a.request k t (is_piece how) c.is_short-short.result run
+    ∙ chunk_is_moved a.memory a.threads a.commits.items a.last d a.s (keeping_of a.part) a.request k t (is_piece how) c.is_short-short.result run
     (live_part a.part c.in_default.not-Replayed) c.thread_at-after.ensures.thread (c.requires.1.1.0.commits t start) c.self.invariant.kept
     ∙ ap (λ (x : Bool). chunk_moved k (is_piece how) x run d (sphere_in a)) (c.is_short-short.ensures how c.requires.1.1.0.closed)
-    ∙ ap (λ (x : SizedSphere). chunk_moved k (is_piece how) (is_short x.standard how ch.limit) run d x.sphere) c.self.view_is
+    ∙ ap (λ (x : SizedSphere). chunk_moved k (is_piece how) (is_short x.s how ch.limit) run d x.sphere) c.self.view_is
 
 pub invariant_of-self-then-is_piece : goal.invariant_of-self-then-is_piece
 invariant_of-self-then-is_piece g c =
@@ -143,7 +143,7 @@ invariant_of-self-in-Some g c =
     let kept : IsReplayed (sphere_in a) r.player = replayed a r c.in-Replayed.is c.self.invariant in
     let said = rw c.in-Some.is at (c.in_ok-left.ensures.judged (sphere_in a).progress a.request kept.agrees refl) in
     let n = c.commit_last.new in
-    stands_left (sphere_in a) r.player r.loads.items n.replay.player n.replay.loads.items n.threads a.request n.commits.items a.standard k
+    stands_left (sphere_in a) r.player r.loads.items n.replay.player n.replay.loads.items n.threads a.request n.commits.items a.s k
     (chunk_verdict b.log (sphere_in a).progress b.used k (joined b c.args.chunk.now.chunk.done)) c.in-Some.why said
     (stands_replayed a r c.in-Replayed.is c.self.invariant)
 
@@ -156,7 +156,7 @@ invariant_of-self-in-Replayed g c =
     let kept : IsReplayed (sphere_in a) r.player = replayed a r c.in-Replayed.is c.self.invariant in
     let said = rw c.in_default-left.is at (c.in_ok-left.ensures.judged (sphere_in a).progress a.request kept.agrees refl) in
     let n = c.commit_last.new in
-    stands_granted (sphere_in a) r.player r.loads.items n.replay.player n.replay.loads.items n.threads a.request n.commits.items a.standard k
+    stands_granted (sphere_in a) r.player r.loads.items n.replay.player n.replay.loads.items n.threads a.request n.commits.items a.s k
     (chunk_verdict b.log (sphere_in a).progress b.used k (joined b c.args.chunk.now.chunk.done))
     (subst (λ x. x ≤ 15) c.len.ensures.value c.len.ensures.few) said (stands_replayed a r c.in-Replayed.is c.self.invariant)
 
@@ -178,12 +178,12 @@ returns-in-Replayed-clause-ok g c d =
     let words : (e : Effect) (u : Used) → v ≡ Goes e u → e.words ≡ c.in_ok-words.words.words =
     λ e u is. chunk_words b.log p b.used k (joined b run) e u is ∙ sym (c.in_ok-words.ensures ∙ c.words.ensures.words)
     in
-    let short : Bool = is_short a.standard how ch.limit in
+    let short : Bool = is_short a.s how ch.limit in
     let whole : false ≡ is_piece how = sym c.if-is_piece.false ∙ c.is_piece.ensures how c.requires.1.1.0.closed in
     granted (sphere_in a) r.player r.loads.items n.replay.player n.replay.loads.items n.threads a.request n.commits.items k v d c.in_ok-words.words.words words said
     ∙ ap (λ (x : Bool). chunk_moved k x short run d (sphere_with a.memory a.threads a.commits.items a.last a.request (Replay b))) whole
     ∙ ap (λ (x : Part). chunk_moved k (is_piece how) short run d (sphere_with a.memory a.threads a.commits.items a.last a.request (role_in x))) (sym c.in-Replayed.is)
-    ∙ ap (λ (x : SizedSphere). chunk_moved k (is_piece how) (is_short x.standard how ch.limit) run d x.sphere) c.self.view_is
+    ∙ ap (λ (x : SizedSphere). chunk_moved k (is_piece how) (is_short x.s how ch.limit) run d x.sphere) c.self.view_is
 
 pub count-requires : goal.count-requires
 count-requires g c =
@@ -218,11 +218,11 @@ returns-in-Some-clause-ok g c d =
     let ch = c.args.chunk.now.chunk in
     let run = ch.done in
     let v = chunk_verdict b.log p b.used k (joined b run) in
-    let short : Bool = is_short a.standard how ch.limit in
+    let short : Bool = is_short a.s how ch.limit in
     let whole : false ≡ is_piece how = sym c.if-is_piece.false ∙ c.is_piece.ensures how c.requires.1.1.0.closed in
     let len : c.count.result ≡ length n.commits.items = c.count.ensures ∙ ap length c.deref.ensures.value in
     ap (λ m. record { outcome = Diverged m c.in-Some.why; sphere = sphere_with a.memory n.threads n.commits.items a.last a.request (Replay (cursor_of n.replay.player n.replay.loads.items)); words = []; devices = d }) len
     ∙ left (sphere_in a) r.player r.loads.items n.replay.player n.replay.loads.items n.threads a.request n.commits.items k v d c.in-Some.why kept.agrees.done said
     ∙ ap (λ (x : Bool). chunk_moved k x short run d (sphere_with a.memory a.threads a.commits.items a.last a.request (Replay b))) whole
     ∙ ap (λ (x : Part). chunk_moved k (is_piece how) short run d (sphere_with a.memory a.threads a.commits.items a.last a.request (role_in x))) (sym c.in-Replayed.is)
-    ∙ ap (λ (x : SizedSphere). chunk_moved k (is_piece how) (is_short x.standard how ch.limit) run d x.sphere) c.self.view_is
+    ∙ ap (λ (x : SizedSphere). chunk_moved k (is_piece how) (is_short x.s how ch.limit) run d x.sphere) c.self.view_is

@@ -38,8 +38,8 @@ invariant_of-self-2 c =
     let live : IsLive (keeping_of a.part) = live_part a.part c.in_default.not-Replayed in
     let e = c.in_ok-words.ensures in
     let q : Sphere = sphere_with a.memory a.threads c.live_dma.new.commits.items a.last None (role_in c.live_dma.new.part) in
-    subst (IsSphere a.standard q) (sym e.noted)
-    (transferred_stand (sphere_in a) q a.standard (dma_bytes c.args.devices.now request) (keeping_of a.part) live refl
+    subst (IsSphere a.s q) (sym e.noted)
+    (transferred_stand (sphere_in a) q a.s (dma_bytes c.args.devices.now request) (keeping_of a.part) live refl
     (ap length e.commits ∙ pushed_length a.commits.items dma_commit (length a.commits.items) refl) c.self.invariant)
 
 pub returns : goal.returns
@@ -49,21 +49,21 @@ returns c =
     let request = c.in-Some.request in
     let live : IsLive (keeping_of a.part) = live_part a.part c.in_default.not-Replayed in
     let e = c.in_ok-words.ensures in
-    let here : IsKeepingOf a.standard (sphere_with a.memory a.threads a.commits.items a.last (Some request) (role_in a.part)) (keeping_of a.part) =
-    subst (λ (q : Option Request). IsKeepingOf a.standard (sphere_with a.memory a.threads a.commits.items a.last q (role_in a.part)) (keeping_of a.part)) c.in-Some.is c.self.invariant.kept
+    let here : IsKeepingOf a.s (sphere_with a.memory a.threads a.commits.items a.last (Some request) (role_in a.part)) (keeping_of a.part) =
+    subst (λ (q : Option Request). IsKeepingOf a.s (sphere_with a.memory a.threads a.commits.items a.last q (role_in a.part)) (keeping_of a.part)) c.in-Some.is c.self.invariant.kept
     in
     record {
       ok =
           sym (ap (λ (v : SizedSphere). dma_moved d v.sphere) c.self.view_is)
           ∙ ap (λ (q : Option Request). dma_moved d (sphere_with a.memory a.threads a.commits.items a.last q (role_in a.part))) c.in-Some.is
-          ∙ dma_is_moved a.memory a.threads a.commits.items a.last d a.standard (keeping_of a.part) request live here
+          ∙ dma_is_moved a.memory a.threads a.commits.items a.last d a.s (keeping_of a.part) request live here
           ∙ (λ i. Some (record {
             outcome = Granted;
             sphere = sphere_with a.memory a.threads (sym e.commits i) a.last None (role_of (sym e.noted i));
             words = sym e.words i;
             devices = sym e.devices i;
           }));
-      standard = ap (λ (v : SizedSphere). v.standard) c.self.view_is;
+      standard = ap (λ (v : SizedSphere). v.s) c.self.view_is;
       err = tt;
       devices = tt;
     }
@@ -77,7 +77,7 @@ invariant_of-self-in-Replayed c =
     let n = c.serve_dma.new in
     let kept : IsReplayed (sphere_in a) r.player = replayed a r c.in-Replayed.is c.self.invariant in
     let said = rw c.in-Ok.is at (c.in_ok-served.ensures.judged p kept.agrees refl) in
-    dma_stands_granted (sphere_in a) r.player r.loads.items n.replay.player n.replay.loads.items a.threads n.request n.commits.items a.standard v
+    dma_stands_granted (sphere_in a) r.player r.loads.items n.replay.player n.replay.loads.items a.threads n.request n.commits.items a.s v
     c.in-Ok.words.words said (stands_replayed a r c.in-Replayed.is c.self.invariant)
 
 pub invariant_of-self-in-Err : goal.invariant_of-self-in-Err
@@ -89,7 +89,7 @@ invariant_of-self-in-Err c =
     let n = c.serve_dma.new in
     let kept : IsReplayed (sphere_in a) r.player = replayed a r c.in-Replayed.is c.self.invariant in
     let said = rw c.in-Err.is at (c.in_ok-served.ensures.judged p kept.agrees refl) in
-    dma_stands_left (sphere_in a) r.player r.loads.items n.replay.player n.replay.loads.items a.threads n.request n.commits.items a.standard v
+    dma_stands_left (sphere_in a) r.player r.loads.items n.replay.player n.replay.loads.items a.threads n.request n.commits.items a.s v
     c.in-Err.why [] said (stands_replayed a r c.in-Replayed.is c.self.invariant)
 
 pub count-requires : goal.count-requires

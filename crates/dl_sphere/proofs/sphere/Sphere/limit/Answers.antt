@@ -14,9 +14,9 @@ returns-in-Replayed-clause-value c t is =
     let r = c.in-Replayed.replay in
     let kept = replayed a r c.in-Replayed.is c.self.invariant in
     let here : slice_get a.threads c.args.thread ≡ Some t = ap (λ (v : SizedSphere). slice_get v.sphere.threads c.args.thread) c.self.view_is ∙ is in
-    c.limit.ensures a.standard r.loads.items a.threads t c.self.invariant.threads kept.commits here
-    ∙ sym (ap (λ (part : Part). limit_of a.standard (role_in part) c.args.thread t) c.in-Replayed.is)
-    ∙ ap (λ (v : SizedSphere). limit_of v.standard v.sphere.role c.args.thread t) c.self.view_is
+    c.limit.ensures a.s r.loads.items a.threads t c.self.invariant.threads kept.commits here
+    ∙ sym (ap (λ (part : Part). limit_of a.s (role_in part) c.args.thread t) c.in-Replayed.is)
+    ∙ ap (λ (v : SizedSphere). limit_of v.s v.sphere.role c.args.thread t) c.self.view_is
 
 pub returns-in-Replayed-clause-least : goal.returns-in-Replayed-clause-least
 returns-in-Replayed-clause-least c =
@@ -26,8 +26,8 @@ returns-in-Replayed-clause-least c =
     let kept = replayed a r c.in-Replayed.is c.self.invariant in
     let few : k < length a.threads = subst (λ (v : SizedSphere). k < length v.sphere.threads) (sym c.self.view_is) c.requires in
     let h = there a.threads k few in
-    subst (λ n. 1 ≤ n) (sym (c.limit.ensures a.standard r.loads.items a.threads h.thread c.self.invariant.threads kept.commits h.is))
-    (replay-least a.standard (cursor_of r.player r.loads.items) k h.thread)
+    subst (λ n. 1 ≤ n) (sym (c.limit.ensures a.s r.loads.items a.threads h.thread c.self.invariant.threads kept.commits h.is))
+    (replay-least a.s (cursor_of r.player r.loads.items) k h.thread)
 
 pub returns-in-Replayed-clause-most : goal.returns-in-Replayed-clause-most
 returns-in-Replayed-clause-most c =
@@ -37,5 +37,5 @@ returns-in-Replayed-clause-most c =
     let kept = replayed a r c.in-Replayed.is c.self.invariant in
     let few : k < length a.threads = subst (λ (v : SizedSphere). k < length v.sphere.threads) (sym c.self.view_is) c.requires in
     let h = there a.threads k few in
-    subst (λ n. n ≤ 4096) (sym (c.limit.ensures a.standard r.loads.items a.threads h.thread c.self.invariant.threads kept.commits h.is))
-    (replay-most a.standard (cursor_of r.player r.loads.items) k h.thread kept.is_log)
+    subst (λ n. n ≤ 4096) (sym (c.limit.ensures a.s r.loads.items a.threads h.thread c.self.invariant.threads kept.commits h.is))
+    (replay-most a.s (cursor_of r.player r.loads.items) k h.thread kept.is_log)

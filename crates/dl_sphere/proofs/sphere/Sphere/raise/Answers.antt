@@ -21,7 +21,7 @@ note_interrupt-requires-clause-fresh c =
     sym (ap (λ (v : SizedSphere). slice_get v.sphere.threads k) c.self.view_is) ∙ c.thread_at-found.ensures.thread
     in
     subst (λ n. CanRaise k n (keeping_of a.part)) (sym c.commits.ensures)
-    (can_raise (sphere_in a) k t a.standard (keeping_of a.part) c.thread_at-found.ensures.thread (c.requires.there t start) c.self.invariant)
+    (can_raise (sphere_in a) k t a.s (keeping_of a.part) c.thread_at-found.ensures.thread (c.requires.there t start) c.self.invariant)
 
 pub invariant_of-self-2 : goal.invariant_of-self-2
 invariant_of-self-2 c =
@@ -34,8 +34,8 @@ invariant_of-self-2 c =
     in
     let live : IsLive (keeping_of a.part) = live_role (keeping_of a.part) (ap (λ (v : SizedSphere). replays v.sphere.role) c.self.view_is ∙ c.requires.recorded) in
     let noted = c.in_ok-note_interrupt.ensures.noted ∙ ap (λ n. with_raised k n c.args.value (keeping_of a.part)) c.commits.ensures in
-    subst (IsSphere a.standard q) (sym noted)
-    (raised_stand (sphere_in a) q k c.args.value t a.standard (keeping_of a.part) c.thread_at-found.ensures.thread (c.requires.there t start) (c.set.ensures ∙ ap (set a.threads k) c.interrupted.ensures) refl live c.self.invariant)
+    subst (IsSphere a.s q) (sym noted)
+    (raised_stand (sphere_in a) q k c.args.value t a.s (keeping_of a.part) c.thread_at-found.ensures.thread (c.requires.there t start) (c.set.ensures ∙ ap (set a.threads k) c.interrupted.ensures) refl live c.self.invariant)
 
 pub returns-clause-ok : goal.returns-clause-ok
 unfolding raised

@@ -37,7 +37,7 @@ counted-after-requires c =
     let g = taken (need t a.memory) c.args.devices.now c.args.moment in
     let keeps = serve-keeps k a.threads a.request t a.memory g.input in
     let same : c.in_ok-left.left.thread.commits ≡ t.commits = ap (λ (v : Parts). v.commits) c.in_ok-left.ensures.thread ∙ keeps.commits in
-    let most : t.commits ≤ length a.commits.items = subst (λ n. n ≤ length a.commits.items) (ap commits_if c.thread_at-found.ensures.thread) ((few_live a.standard (sphere_in a) (keeping_of a.part) (live_part a.part c.in_default.not-Replayed) c.self.invariant.kept).few k) in
+    let most : t.commits ≤ length a.commits.items = subst (λ n. n ≤ length a.commits.items) (ap commits_if c.thread_at-found.ensures.thread) ((few_live a.s (sphere_in a) (keeping_of a.part) (live_part a.part c.in_default.not-Replayed) c.self.invariant.kept).few k) in
     let few : length a.commits.items < 2 ^ 24 =
     subst (λ n. n < 2 ^ 24) (sym (ap (λ (v : SizedSphere). length v.sphere.progress.commits) c.self.view_is)) c.requires.few
     in
@@ -72,8 +72,8 @@ invariant_of-self-2 c =
       actor = refl;
     }
     in
-    subst (IsSphere a.standard q) (sym c.in_ok-left.ensures.noted)
-    (commits_stand (sphere_in a) q k t u v.made commit d a.standard false g.input (keeping_of a.part) (live_part a.part c.in_default.not-Replayed) h)
+    subst (IsSphere a.s q) (sym c.in_ok-left.ensures.noted)
+    (commits_stand (sphere_in a) q k t u v.made commit d a.s false g.input (keeping_of a.part) (live_part a.part c.in_default.not-Replayed) h)
 
 pub returns-clause-ok : goal.returns-clause-ok
 returns-clause-ok c =
@@ -105,7 +105,7 @@ returns-clause-ok c =
     ∙ ap (λ r. made (set a.threads k (counted v.thread) ++ v.made) (a.commits.items ++ commit ∷ []) v.request r left.words.words c.live_step.new.devices) role
     ∙ ap (λ ws. made (set a.threads k (counted v.thread) ++ v.made) (a.commits.items ++ commit ∷ []) v.request (role_of (with_noted commit false g.input None (keeping_of a.part))) ws c.live_step.new.devices) l.words
     ∙ ap (made (set a.threads k (counted v.thread) ++ v.made) (a.commits.items ++ commit ∷ []) v.request (role_of (with_noted commit false g.input None (keeping_of a.part))) v.words) l.devices
-    ∙ step_is_moved a.memory a.threads a.commits.items a.last d a.standard (keeping_of a.part) a.request k moment x (live_part a.part c.in_default.not-Replayed) c.thread_at-found.ensures.thread c.self.invariant.kept
+    ∙ step_is_moved a.memory a.threads a.commits.items a.last d a.s (keeping_of a.part) a.request k moment x (live_part a.part c.in_default.not-Replayed) c.thread_at-found.ensures.thread c.self.invariant.kept
     ∙ ap (λ (y : Parts). serial_moved k moment y d (sphere_in a)) same
     ∙ ap (λ (s : SizedSphere). serial_moved k moment t d s.sphere) c.self.view_is
 
@@ -120,7 +120,7 @@ invariant_of-self-in-Replayed c =
     let n = c.serve_step.new in
     let kept : IsReplayed (sphere_in a) r.player = replayed a r c.in-Replayed.is c.self.invariant in
     let said = rw c.in-Ok.is at (c.in_ok-served.ensures.judged p x kept.agrees refl c.thread_at-found.ensures.thread) in
-    stands_granted (sphere_in a) r.player r.loads.items n.replay.player n.replay.loads.items n.threads n.request n.commits.items a.standard k v
+    stands_granted (sphere_in a) r.player r.loads.items n.replay.player n.replay.loads.items n.threads n.request n.commits.items a.s k v
     (subst (λ x. x ≤ 15) c.len.ensures.value c.len.ensures.few) (λ i. record (said i) { words = [] }) (stands_replayed a r c.in-Replayed.is c.self.invariant)
 
 pub invariant_of-self-in-Err : goal.invariant_of-self-in-Err
@@ -134,7 +134,7 @@ invariant_of-self-in-Err c =
     let n = c.serve_step.new in
     let kept : IsReplayed (sphere_in a) r.player = replayed a r c.in-Replayed.is c.self.invariant in
     let said = rw c.in-Err.is at (c.in_ok-served.ensures.judged p x kept.agrees refl c.thread_at-found.ensures.thread) in
-    stands_left (sphere_in a) r.player r.loads.items n.replay.player n.replay.loads.items n.threads n.request n.commits.items a.standard k v
+    stands_left (sphere_in a) r.player r.loads.items n.replay.player n.replay.loads.items n.threads n.request n.commits.items a.s k v
     c.in-Err.why (λ i. record (said i) { words = [] }) (stands_replayed a r c.in-Replayed.is c.self.invariant)
 
 pub count-requires : goal.count-requires

@@ -66,7 +66,7 @@ commit_chunk-requires g c =
     let t = c.first-thread.result in
     let ch = c.args.chunk.now.chunk in
     let closed : ch.closed ≡ Some c.args.how = search rules in
-    let seen : Seen p.standard p.sphere.role t c.args.how ch =
+    let seen : Seen p.s p.sphere.role t c.args.how ch =
     record {
       turn = c.is_turn.ensures;
       commits = search rules;
@@ -82,7 +82,7 @@ commit_chunk-requires g c =
       (
         slice_get_within _ _ _ c.first-thread.ensures,
         (
-          subst (λ (how : How). CanCommit p.standard p.sphere 0 how ch) (sym (ap how_of closed)) (can_commit p.standard p.sphere t c.args.how ch closed c.first-thread.ensures seen),
+          subst (λ (how : How). CanCommit p.s p.sphere 0 how ch) (sym (ap how_of closed)) (can_commit p.s p.sphere t c.args.how ch closed c.first-thread.ensures seen),
           (search rules, search rules),
         ),
       ),
