@@ -11,7 +11,7 @@ use Rattle.dl_thread.specs.Answer.{did, accessed, fetched_word, thread_next, sto
 use Rattle.spec_engine.specs.declared.answers.How.{How}
 use Rattle.spec_engine.specs.declared.answers.Stepped.{Stepped}
 use Rattle.spec_engine.specs.Choices.{on_option, choose}
-use Rattle.spec_engine.specs.Signatures.{Marks}
+use Rattle.spec_engine.specs.Signatures.{Signature}
 use Rattle.spec_engine.specs.Flights.{Flight}
 use Rattle.spec_engine.specs.Chunks.{Chunk, Engine, Stepping, with_chunk, marked, ran, closes, at_limit, has_room, reading, storing, loading, running, step}
 use Rattle.dl_chunk.specs.Stores.{Notes, with_read, with_written}
@@ -69,7 +69,7 @@ module _ (m : List ℕ) (slots : List (Option Flight)) (c : ℕ) (t : Terms) (p 
   s = shown m slots c n
 
   -- the chunk, with these lines read
-  abbrev ch : Marks → Chunk
+  abbrev ch : Signature → Chunk
   ch g = chunk_of t p (record n { reads = g })
 
   room_same : (store : Option Stored) → has_room n.words.capacity n.words.words store ≡ sight_room s store
@@ -80,7 +80,7 @@ module _ (m : List ℕ) (slots : List (Option Flight)) (c : ℕ) (t : Terms) (p 
   abbrev stored_as : (f w : ℕ) → Did
   stored_as f w = if sight_room s (store_of p.thread f w) then Did.Next (load_of p.thread f w) else Did.NoRoom
 
-  storing_is : (f w : ℕ) (l : Option ℕ) (g : Marks)
+  storing_is : (f w : ℕ) (l : Option ℕ) (g : Signature)
       → storing n.words.capacity f w (noted l (ch g)) ≡ finish (stored_as f w) (next_of p.thread f w) (store_of p.thread f w) (noted (load_read (stored_as f w) l) (ch g))
   unfolding storing
   storing_is f w None g =
@@ -93,7 +93,7 @@ module _ (m : List ℕ) (slots : List (Option Flight)) (c : ℕ) (t : Terms) (p 
   abbrev accessed_as : (f : ℕ) → Option ℕ → Did
   accessed_as f o = let w = value_at s.bytes o in accessed s o (load_of p.thread f w) (store_of p.thread f w)
 
-  load_is : (f : ℕ) (o : Option ℕ) (g : Marks)
+  load_is : (f : ℕ) (o : Option ℕ) (g : Signature)
       → on_option o (storing n.words.capacity f 0 (ch g)) (λ a. reading slots c (ch g) a (storing n.words.capacity f (read s.bytes a)))
       ≡ (let w = value_at s.bytes o in finish (accessed_as f o) (next_of p.thread f w) (store_of p.thread f w) (noted (load_read (accessed_as f o) o) (ch g)))
   unfolding on_option reading
@@ -108,7 +108,7 @@ module _ (m : List ℕ) (slots : List (Option Flight)) (c : ℕ) (t : Terms) (p 
   abbrev o_ : Option ℕ
   o_ = loads_of p.thread f_
 
-  running_is : (g : Marks)
+  running_is : (g : Signature)
       → running n.words.capacity s.bytes slots c f_ (ch g)
       ≡ (let d = unless_serial (serial_of p.thread f_ (length s.bytes)) (accessed_as f_ o_) in
       finish d (thread_next s p.thread) (store_made s p.thread) (noted (load_read d o_) (ch g)))

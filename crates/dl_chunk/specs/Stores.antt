@@ -2,13 +2,13 @@
 use Rattle.std.specs.Prelude.{◌≡◌, ℕ, [], Option, Some, None}
 use Rattle.spec_isa.specs.Words.{Stored, put}
 use Rattle.dl_wbuf.specs.Buffers.{Words}
-use Rattle.spec_engine.specs.Signatures.{Marks, nothing, insert, line}
+use Rattle.spec_engine.specs.Signatures.{Signature, nothing, insert, line}
 
 pub record Notes : Type 0 where
   pub sphere : ℕ
   pub words : Words
-  pub reads : Marks
-  pub writes : Marks
+  pub reads : Signature
+  pub writes : Signature
 
 -- with no word and no line
 abbrev pub bare : (capacity bits sphere : ℕ) → Notes
@@ -30,5 +30,5 @@ with_written (Some s) n =
     record n { words = record n.words { words = put n.words.words s }; writes = insert (line n.sphere s.number) n.writes }
 
 -- both signatures have one size
-pub record AreNotes (sphere : ℕ) (reads writes : Marks) : Type 0 where
+pub record AreNotes (sphere : ℕ) (reads writes : Signature) : Type 0 where
   pub size : writes.bits ≡ reads.bits

@@ -1,6 +1,6 @@
 -- A core in code.
 use Rattle.std.specs.Prelude.{◌≡◌, ℕ, Bool, true, false, not, Option, Some, None}
-use Rattle.spec_engine.specs.Signatures.{Marks, nothing}
+use Rattle.spec_engine.specs.Signatures.{Signature, nothing}
 use Rattle.spec_engine.specs.Chunks.{Chunk, Engine, is_open}
 use Rattle.spec_protocol.specs.World.{Occupant, Numbers, held_afresh}
 use Rattle.dl_sphere.specs.SizedSpheres.{SizedSphere}
@@ -45,11 +45,11 @@ abbrev pub afresh : Core → SizedSphere → (i thread : ℕ) → Option Occupan
 afresh c p i k = held_afresh (numbers_of c p) i k p.sphere
 
 -- the lines that are noted
-abbrev pub reads_in : (bits : ℕ) → Option Occupant → Marks
+abbrev pub reads_in : (bits : ℕ) → Option Occupant → Signature
 reads_in bits None = nothing bits
 reads_in bits (Some h) = h.chunk.reads
 
-abbrev pub writes_in : (bits : ℕ) → Option Occupant → Marks
+abbrev pub writes_in : (bits : ℕ) → Option Occupant → Signature
 writes_in bits None = nothing bits
 writes_in bits (Some h) = h.chunk.writes
 

@@ -1,6 +1,6 @@
 -- The union of two signatures of one size, bank by bank.
 use Rattle.std.specs.FinSet as set
-use Rattle.spec_engine.specs.Signatures.{Marks}
+use Rattle.spec_engine.specs.Signatures.{Signature}
 
-abbrev pub union : Marks → Marks → Marks
+abbrev pub union : Signature → Signature → Signature
 union g h = record g { low = set.union g.low h.low; high = set.union g.high h.high }

@@ -17,10 +17,10 @@ pub struct PlainSet {
 
 impl Model for PlainSet {
     ghost use Rattle.std.specs.Coded.{codes};
-    ghost use Rattle.spec_engine.specs.Signatures.{Marks, places_code};
+    ghost use Rattle.spec_engine.specs.Signatures.{Signature, places_code};
     ghost use Rattle.dl_sig.specs.Banks.{AreBanks};
 
-    ghost Value = { Marks };
+    ghost Value = { Signature };
 
     ghost coded = { Prim.hlevel (codes, places_code) };
 

@@ -1,6 +1,6 @@
 //! What every kind of signature does.
 ghost use Rattle.std.specs.Prelude.{◌≡◌, true, IfOk};
-ghost use Rattle.spec_engine.specs.Signatures.{Marks, is_size, nothing, insert as with_line, covers, hits};
+ghost use Rattle.spec_engine.specs.Signatures.{Signature, is_size, nothing, insert as with_line, covers, hits};
 ghost use Rattle.dl_sig.specs.Unions.{union};
 
 use std::alloc::{AllocError, Global};
@@ -8,7 +8,7 @@ use std::alloc::{AllocError, Global};
 /// A signature: the lines that were inserted, and some that were not, since lines share places.
 pub trait Sig: Drop {
     /// Its size in bits, and the places set in its two banks.
-    ghost marks: { Self → Marks };
+    ghost marks: { Self → Signature };
 
     /// A signature of no line. `bits` is a power of two from 64 to 2,048. The one call that takes memory.
     fn empty(alloc: Global, bits: u32) -> Result<Self, AllocError>

@@ -9,7 +9,7 @@ use Rattle.spec_isa.specs.Operations.{word_loaded, load_then}
 use Rattle.spec_isa.specs.Runs.{with_load, with_store}
 use Rattle.spec_isa.proofs.BufferLaws.{merged_number}
 use Rattle.spec_engine.specs.Flights.{Flight}
-use Rattle.spec_engine.specs.Signatures.{Marks, line, insert, covers}
+use Rattle.spec_engine.specs.Signatures.{Signature, line, insert, covers}
 use Rattle.spec_engine.specs.Chunks.{Chunk, Stepping, marked, ran, with_line, at_limit, reading, storing, loading, running, step}
 use Rattle.spec_engine.specs.Laws.{CoversWords, CoversLoads, IsCovered, ChunksAreCovered}
 use Rattle.spec_engine.proofs.Marking.{covers_insert, covers_more}
@@ -17,30 +17,30 @@ use Rattle.spec_engine.proofs.Choosing.{keep_option, keep_choose}
 
 -- ---- one line more
 
-words_more : (i l : ℕ) (g : Marks) (ws : List Stored) → CoversWords i g ws → CoversWords i (insert l g) ws
+words_more : (i l : ℕ) (g : Signature) (ws : List Stored) → CoversWords i g ws → CoversWords i (insert l g) ws
 words_more i l g [] all = tt
 words_more i l g (s ∷ ss) all = (covers_more l (line i s.number) g all.0, words_more i l g ss all.1)
 
-loads_more : (i l : ℕ) (g : Marks) (ls : List Load) → CoversLoads i g ls → CoversLoads i (insert l g) ls
+loads_more : (i l : ℕ) (g : Signature) (ls : List Load) → CoversLoads i g ls → CoversLoads i (insert l g) ls
 loads_more i l g [] all = tt
 loads_more i l g (x ∷ xs) all = (covers_more l (line i (x.addr / 4)) g all.0, loads_more i l g xs all.1)
 
 -- ---- one word or load more
 
-put_by : (i : ℕ) (g : Marks) (r : Stored) (rs : List Stored) (s : Stored) (b : Bool) → covers g (line i r.number) ≡ true → CoversWords i g rs → CoversWords i g (put rs s)
+put_by : (i : ℕ) (g : Signature) (r : Stored) (rs : List Stored) (s : Stored) (b : Bool) → covers g (line i r.number) ≡ true → CoversWords i g rs → CoversWords i g (put rs s)
     → CoversWords i g (if b then merged r s ∷ rs else r ∷ put rs s)
 put_by i g r rs s true one rest after = (subst (λ (a : ℕ). covers g (line i a) ≡ true) (sym (merged_number r s)) one, rest)
 put_by i g r rs s false one rest after = (one, after)
 
-words_put : (i : ℕ) (g : Marks) (ws : List Stored) (s : Stored) → CoversWords i g ws → covers g (line i s.number) ≡ true → CoversWords i g (put ws s)
+words_put : (i : ℕ) (g : Signature) (ws : List Stored) (s : Stored) → CoversWords i g ws → covers g (line i s.number) ≡ true → CoversWords i g (put ws s)
 words_put i g [] s all one = (one, tt)
 words_put i g (r ∷ rs) s all one = put_by i g r rs s (nat_eq r.number s.number) all.0 all.1 (words_put i g rs s all.1 one)
 
-loads_push : (i : ℕ) (g : Marks) (ls : List Load) (l : Load) → CoversLoads i g ls → covers g (line i (l.addr / 4)) ≡ true → CoversLoads i g (ls ++ l ∷ [])
+loads_push : (i : ℕ) (g : Signature) (ls : List Load) (l : Load) → CoversLoads i g ls → covers g (line i (l.addr / 4)) ≡ true → CoversLoads i g (ls ++ l ∷ [])
 loads_push i g [] l all one = (one, tt)
 loads_push i g (x ∷ xs) l all one = (all.0, loads_push i g xs l all.1 one)
 
-words_stored : (i : ℕ) (g : Marks) (ws : List Stored) (store : Option Stored) → CoversWords i g ws → CoversWords i (with_line i store g) (with_store ws store)
+words_stored : (i : ℕ) (g : Signature) (ws : List Stored) (store : Option Stored) → CoversWords i g ws → CoversWords i (with_line i store g) (with_store ws store)
 words_stored i g ws None all = all
 words_stored i g ws (Some s) all = words_put i (insert (line i s.number) g) ws s (words_more i (line i s.number) g ws all) (covers_insert (line i s.number) g)
 
@@ -64,11 +64,11 @@ unfolding loads_of load_of
 loaded_from t f w = operation_loads (operation_of t f) w
 
 -- the signature covers the word, if there is one
-abbrev CoversRead : (sphere : ℕ) → Marks → Option ℕ → Type 0
+abbrev CoversRead : (sphere : ℕ) → Signature → Option ℕ → Type 0
 CoversRead i g None = Unit {0}
 CoversRead i g (Some a) = covers g (line i a) ≡ true
 
-loads_loaded : (i : ℕ) (g : Marks) (ls : List Load) (o : Option ℕ) (load : Option Load) → CoversLoads i g ls → CoversRead i g o → LoadedFrom o load → CoversLoads i g (with_load ls load)
+loads_loaded : (i : ℕ) (g : Signature) (ls : List Load) (o : Option ℕ) (load : Option Load) → CoversLoads i g ls → CoversRead i g o → LoadedFrom o load → CoversLoads i g (with_load ls load)
 loads_loaded i g ls o None all one from = all
 loads_loaded i g ls o (Some l) all one from = loads_push i g ls l all (subst (CoversRead i g) from one)
 

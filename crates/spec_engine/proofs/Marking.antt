@@ -5,7 +5,7 @@ use Rattle.std.specs.Cmp.{nat_cmp_total}
 use Rattle.std.specs.FinSet as set
 use Rattle.std.specs.FinSet.{members, contains-empty, contains-intersection, empty_of_len, len-empty, same_set, nat_cmp-IsAntisymmetric}
 use Rattle.std.specs.Ordering.{nat_cmp}
-use Rattle.spec_engine.specs.Signatures.{Marks, low_place, high_place, nothing, insert, covers, meets, hits}
+use Rattle.spec_engine.specs.Signatures.{Signature, low_place, high_place, nothing, insert, covers, meets, hits}
 
 -- ---- two sets that share a place, or none
 
@@ -41,15 +41,15 @@ meets_more s t u v more met =
 -- ---- signatures
 
 -- a signature covers a line inserted into it
-pub covers_insert : (l : ℕ) (g : Marks) → covers (insert l g) l ≡ true
+pub covers_insert : (l : ℕ) (g : Signature) → covers (insert l g) l ≡ true
 covers_insert l g = grind (members, rules)
 
 -- a signature covers after an insert what it covered before
-pub covers_more : (l k : ℕ) (g : Marks) → covers g k ≡ true → covers (insert l g) k ≡ true
+pub covers_more : (l k : ℕ) (g : Signature) → covers g k ≡ true → covers (insert l g) k ≡ true
 covers_more l k g e = grind (members, rules)
 
 -- two signatures of one size that cover the same line hit
-pub covers_hit : (g h : Marks) (l : ℕ) → h.bits ≡ g.bits → covers g l ≡ true → covers h l ≡ true → hits g h ≡ true
+pub covers_hit : (g h : Signature) (l : ℕ) → h.bits ≡ g.bits → covers g l ≡ true → covers h l ≡ true → hits g h ≡ true
 covers_hit g h l same a b =
     let p = and_parts (set.contains g.low (low_place g.bits l)) (set.contains g.high (high_place g.bits l)) a in
     let q = and_parts (set.contains h.low (low_place h.bits l)) (set.contains h.high (high_place h.bits l)) b in
@@ -64,13 +64,13 @@ more_left : (s t : set.FinSet nat_cmp) (a : ℕ) → meets s t ≡ true → meet
 more_left s t a = meets_more s t (set.insert s a) t (λ p e. grind (members, rules))
 
 -- signatures that hit do so still after an insert into the second
-pub hits_more : (l : ℕ) (g h : Marks) → hits g h ≡ true → hits g (insert l h) ≡ true
+pub hits_more : (l : ℕ) (g h : Signature) → hits g h ≡ true → hits g (insert l h) ≡ true
 hits_more l g h e =
     let p = and_parts (meets g.low h.low) (meets g.high h.high) e in
     and_from (meets g.low (insert l h).low) (meets g.high (insert l h).high) (more_right g.low h.low _ p.0) (more_right g.high h.high _ p.1)
 
 -- signatures that hit do so still after an insert into the first
-pub hits_more_left : (l : ℕ) (g h : Marks) → hits g h ≡ true → hits (insert l g) h ≡ true
+pub hits_more_left : (l : ℕ) (g h : Signature) → hits g h ≡ true → hits (insert l g) h ≡ true
 hits_more_left l g h e =
     let p = and_parts (meets g.low h.low) (meets g.high h.high) e in
     and_from (meets (insert l g).low h.low) (meets (insert l g).high h.high) (more_left g.low h.low _ p.0) (more_left g.high h.high _ p.1)
@@ -85,7 +85,7 @@ one_low s a =
     ] refl
 
 -- a signature hits that of one line alone exactly where it covers the line
-pub hits_one : (g : Marks) (l : ℕ) → hits g (insert l (nothing g.bits)) ≡ covers g l
+pub hits_one : (g : Signature) (l : ℕ) → hits g (insert l (nothing g.bits)) ≡ covers g l
 hits_one g l = (λ i. one_low g.low (low_place g.bits l) i && one_low g.high (high_place g.bits l) i)
 
 -- ---- whether two sets share a place, by one place at a time

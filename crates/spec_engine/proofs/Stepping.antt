@@ -6,7 +6,7 @@ use Rattle.spec_isa.specs.Instruction.{InstructionOutcome, Next, Serial, one, un
 use Rattle.spec_isa.specs.Runs.{more, followed}
 use Rattle.spec_engine.specs.declared.answers.How.{How}
 use Rattle.spec_engine.specs.Flights.{Flight}
-use Rattle.spec_engine.specs.Signatures.{Marks}
+use Rattle.spec_engine.specs.Signatures.{Signature}
 use Rattle.spec_engine.specs.Chunks.{Chunk, Stepping, closes, at_limit, reading, storing, loading, running, step}
 use Rattle.spec_engine.specs.Laws.{StepAgrees, StepsAreInstructions}
 use Rattle.spec_engine.proofs.Choosing.{keep_option, keep_choose}
@@ -29,18 +29,18 @@ shown m ch = lays m ch.done.words
 abbrev here : List ℕ → Chunk → InstructionOutcome
 here m ch = one ch.done.thread (shown m ch)
 
-storing_agrees : (m : List ℕ) (capacity f w : ℕ) (ch : Chunk) (g : Marks) → here m ch ≡ ran_to ch f w → Agrees m ch (storing capacity f w (record ch { reads = g }))
+storing_agrees : (m : List ℕ) (capacity f w : ℕ) (ch : Chunk) (g : Signature) → here m ch ≡ ran_to ch f w → Agrees m ch (storing capacity f w (record ch { reads = g }))
 unfolding Agrees storing at_limit
 storing_agrees m capacity f w ch g e =
     let done : followed ch.done (ran_to ch f w) ≡ more m ch.done = ap (followed ch.done) (sym e) in
     keep_choose (Agrees m ch) _ _ _ (λ _. keep_choose (Agrees m ch) _ _ _ (λ _. done) (λ _. done)) (λ _. refl)
 
-reading_agrees : (m : List ℕ) (slots : List (Option Flight)) (c : ℕ) (ch : Chunk) (g : Marks) (a : ℕ) (then_ : Chunk → Stepping)
-    → ((h : Marks) → Agrees m ch (then_ (record ch { reads = h }))) → Agrees m ch (reading slots c (record ch { reads = g }) a then_)
+reading_agrees : (m : List ℕ) (slots : List (Option Flight)) (c : ℕ) (ch : Chunk) (g : Signature) (a : ℕ) (then_ : Chunk → Stepping)
+    → ((h : Signature) → Agrees m ch (then_ (record ch { reads = h }))) → Agrees m ch (reading slots c (record ch { reads = g }) a then_)
 unfolding Agrees reading
 reading_agrees m slots c ch g a then_ agrees = keep_option (Agrees m ch) _ _ _ (λ _. agrees _) (λ k _. refl)
 
-loading_agrees : (m : List ℕ) (capacity : ℕ) (slots : List (Option Flight)) (c f : ℕ) (ch : Chunk) (g : Marks)
+loading_agrees : (m : List ℕ) (capacity : ℕ) (slots : List (Option Flight)) (c f : ℕ) (ch : Chunk) (g : Signature)
     → here m ch ≡ ran_to ch f (value_at (shown m ch) (loads_of ch.done.thread f)) → Agrees m ch (loading capacity (shown m ch) slots c f (record ch { reads = g }))
 unfolding loading
 loading_agrees m capacity slots c f ch g e =
@@ -49,7 +49,7 @@ loading_agrees m capacity slots c f ch g e =
     (λ a some. reading_agrees m slots c ch g a (storing capacity f (read (shown m ch) a))
     (λ h. storing_agrees m capacity f (read (shown m ch) a) ch h (e ∙ ap (λ (o : Option ℕ). ran_to ch f (value_at (shown m ch) o)) some)))
 
-running_agrees : (m : List ℕ) (capacity : ℕ) (slots : List (Option Flight)) (c f : ℕ) (ch : Chunk) (g : Marks)
+running_agrees : (m : List ℕ) (capacity : ℕ) (slots : List (Option Flight)) (c f : ℕ) (ch : Chunk) (g : Signature)
     → here m ch ≡ unless (serial_of ch.done.thread f (length (shown m ch))) (ran_to ch f (value_at (shown m ch) (loads_of ch.done.thread f)))
     → Agrees m ch (running capacity (shown m ch) slots c f (record ch { reads = g }))
 unfolding Agrees running

@@ -2,7 +2,7 @@
 use Rattle.std.specs.Prelude.{ℕ, List, Option, Some, None}
 use Rattle.spec_engine.specs.declared.answers.Asked.{Asked}
 use Rattle.spec_engine.specs.declared.answers.AskedSerial.{AskedSerial}
-use Rattle.spec_engine.specs.Signatures.{Marks}
+use Rattle.spec_engine.specs.Signatures.{Signature}
 use Rattle.spec_engine.specs.Flights.{Flight, first_slot, meets_chunk, is_of_sphere}
 
 abbrev pub denied_by : Option ℕ → Asked
@@ -10,7 +10,7 @@ denied_by None = Asked.Grant
 denied_by (Some k) = Asked.Denied k
 
 -- a chunk is denied by the least flight that its reads or writes hit
-abbrev pub ask : (reads writes : Marks) → List (Option Flight) → Asked
+abbrev pub ask : (reads writes : Signature) → List (Option Flight) → Asked
 ask reads writes slots = denied_by (first_slot (meets_chunk reads writes) slots)
 
 abbrev pub busy_by : Option ℕ → AskedSerial

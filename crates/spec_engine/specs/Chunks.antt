@@ -10,7 +10,7 @@ use Rattle.spec_engine.specs.declared.answers.How.{How}
 use Rattle.spec_engine.specs.declared.answers.Stepped.{Stepped}
 use Rattle.spec_engine.specs.declared.answers.CutReply.{CutReply}
 use Rattle.spec_engine.specs.Choices.{on_option, choose}
-use Rattle.spec_engine.specs.Signatures.{Marks, nothing, insert, line}
+use Rattle.spec_engine.specs.Signatures.{Signature, nothing, insert, line}
 use Rattle.spec_engine.specs.Flights.{Flight, first_slot, bounces}
 
 pub record Chunk : Type 0 where
@@ -20,8 +20,8 @@ pub record Chunk : Type 0 where
   -- the run so far: the present thread, the words stored, the loads, and the number of instructions
   pub done : Run
   -- the lines read and those stored to
-  pub reads : Marks
-  pub writes : Marks
+  pub reads : Signature
+  pub writes : Signature
   pub closed : Option How
   -- how many instructions it may run
   pub limit : ℕ
@@ -72,7 +72,7 @@ closes how ch = record { reply = Stepped.Closed how; chunk = record ch { closed 
 abbrev pub marked : Chunk → (number : ℕ) → Chunk
 marked ch a = record ch { reads = insert (line ch.sphere a) ch.reads }
 
-abbrev pub with_line : (sphere : ℕ) → Option Stored → Marks → Marks
+abbrev pub with_line : (sphere : ℕ) → Option Stored → Signature → Signature
 with_line i None g = g
 with_line i (Some s) g = insert (line i s.number) g
 

@@ -5,13 +5,13 @@ use Rattle.spec_isa.specs.Words.{Stored, lay}
 use Rattle.spec_engine.specs.declared.answers.Drain.{Drain}
 use Rattle.spec_engine.specs.declared.answers.Deliver.{Deliver}
 use Rattle.spec_engine.specs.declared.answers.Retire.{Retire}
-use Rattle.spec_engine.specs.Signatures.{Marks, covers, hits}
+use Rattle.spec_engine.specs.Signatures.{Signature, covers, hits}
 
 -- the sphere, the words left in the order of their first store, the lines stored to, and the cores told: bit c stands for core c
 pub record Flight : Type 0 where
   pub sphere : ℕ
   pub words : List Stored
-  pub writes : Marks
+  pub writes : Signature
   pub told : ℕ
 
 -- the number of cores that each flight is told to, and the slots
@@ -69,7 +69,7 @@ abbrev pub bounces : (core line : ℕ) → Flight → Bool
 bounces c l f = told_at f.told c && covers f.writes l
 
 -- it hits what a chunk has read or written
-abbrev pub meets_chunk : (reads writes : Marks) → Flight → Bool
+abbrev pub meets_chunk : (reads writes : Signature) → Flight → Bool
 meets_chunk reads writes f = hits f.writes reads || hits f.writes writes
 
 abbrev pub is_of_sphere : (sphere : ℕ) → Flight → Bool
@@ -100,7 +100,7 @@ abbrev pub tell : Flight → (core : ℕ) → Flight
 tell f c = record f { told = bit_or f.told (2 ^ c) }
 
 -- core c, whose chunk has these reads and writes, is told; the chunk is to be squashed where the flight hits it
-abbrev pub deliver : (core : ℕ) → (reads writes : Marks) → Option Flight → Delivered
+abbrev pub deliver : (core : ℕ) → (reads writes : Signature) → Option Flight → Delivered
 deliver c reads writes None = record { reply = Deliver.NoCommit; slot = None }
 deliver c reads writes (Some f) =
     if told_at f.told c

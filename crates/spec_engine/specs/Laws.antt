@@ -8,26 +8,26 @@ use Rattle.spec_isa.specs.Instruction.{Serial, one}
 use Rattle.spec_isa.specs.Runs.{more}
 use Rattle.spec_engine.specs.declared.answers.How.{How}
 use Rattle.spec_engine.specs.declared.answers.Stepped.{Stepped}
-use Rattle.spec_engine.specs.Signatures.{Marks, nothing, line, insert, covers, hits}
+use Rattle.spec_engine.specs.Signatures.{Signature, nothing, line, insert, covers, hits}
 use Rattle.spec_engine.specs.Flights.{Flight, at, first_slot, told_at, all_told, tell}
 use Rattle.spec_engine.specs.Chunks.{Chunk, Stepping, fresh, squash, step}
 
 -- a signature covers a line that was inserted, and what it covered before
 pub record SignaturesCover : Type 0 where
-  pub inserted : (l : ℕ) (g : Marks) → covers (insert l g) l ≡ true
-  pub earlier : (l k : ℕ) (g : Marks) → covers g k ≡ true → covers (insert l g) k ≡ true
+  pub inserted : (l : ℕ) (g : Signature) → covers (insert l g) l ≡ true
+  pub earlier : (l k : ℕ) (g : Signature) → covers g k ≡ true → covers (insert l g) k ≡ true
 
 -- two signatures of one size that cover one line hit, an insert loses no hit, and a line hits as the signature of that
 -- line alone
 pub record SignaturesHit : Type 0 where
-  pub shared : (g h : Marks) (l : ℕ)
+  pub shared : (g h : Signature) (l : ℕ)
       → h.bits ≡ g.bits
       → covers g l ≡ true
       → covers h l ≡ true
       → hits g h ≡ true
-  pub kept : (l : ℕ) (g h : Marks) → hits g h ≡ true → hits g (insert l h) ≡ true
-  pub kept_left : (l : ℕ) (g h : Marks) → hits g h ≡ true → hits (insert l g) h ≡ true
-  pub alone : (g : Marks) (l : ℕ) → hits g (insert l (nothing g.bits)) ≡ covers g l
+  pub kept : (l : ℕ) (g h : Signature) → hits g h ≡ true → hits g (insert l h) ≡ true
+  pub kept_left : (l : ℕ) (g h : Signature) → hits g h ≡ true → hits (insert l g) h ≡ true
+  pub alone : (g : Signature) (l : ℕ) → hits g (insert l (nothing g.bits)) ≡ covers g l
 
 -- telling a core changes what is known of no other, and all are told exactly where each is
 pub record CoresAreTold : Type 0 where
@@ -74,12 +74,12 @@ StepsAreInstructions =
 -- ---- the lines of a chunk
 
 -- the signature covers the lines of these words of a sphere
-abbrev pub CoversWords : (sphere : ℕ) → Marks → List Stored → Type 0
+abbrev pub CoversWords : (sphere : ℕ) → Signature → List Stored → Type 0
 CoversWords i g [] = Unit {0}
 CoversWords i g (s ∷ ss) = (covers g (line i s.number) ≡ true) × CoversWords i g ss
 
 -- and those of the words that these loads read
-abbrev pub CoversLoads : (sphere : ℕ) → Marks → List Load → Type 0
+abbrev pub CoversLoads : (sphere : ℕ) → Signature → List Load → Type 0
 CoversLoads i g [] = Unit {0}
 CoversLoads i g (l ∷ ls) = (covers g (line i (l.addr / 4)) ≡ true) × CoversLoads i g ls
 

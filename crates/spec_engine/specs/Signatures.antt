@@ -27,7 +27,7 @@ abbrev pub high_place : (bits line : ℕ) → ℕ
 high_place bits l = l * 2654435761 % 2 ^ 32 / (2 ^ 32 / bank bits)
 
 -- the size, and the places that are set in each bank
-pub record Marks : Type 0 where
+pub record Signature : Type 0 where
   pub bits : ℕ
   pub low : set.FinSet nat_cmp
   pub high : set.FinSet nat_cmp
@@ -37,15 +37,15 @@ abbrev pub places_code : Coded (set.FinSet nat_cmp)
 places_code = set.code coded_ℕ
 
 -- no line is marked
-abbrev pub nothing : (bits : ℕ) → Marks
+abbrev pub nothing : (bits : ℕ) → Signature
 nothing bits = record { bits = bits; low = set.empty; high = set.empty }
 
 -- one line more is marked
-abbrev pub insert : (line : ℕ) → Marks → Marks
+abbrev pub insert : (line : ℕ) → Signature → Signature
 insert l g = record g { low = set.insert g.low (low_place g.bits l); high = set.insert g.high (high_place g.bits l) }
 
 -- both bits of the line are set
-abbrev pub covers : Marks → (line : ℕ) → Bool
+abbrev pub covers : Signature → (line : ℕ) → Bool
 covers g l = set.contains g.low (low_place g.bits l) && set.contains g.high (high_place g.bits l)
 
 -- two sets share a place
@@ -53,10 +53,10 @@ unfoldable pub meets : set.FinSet nat_cmp → set.FinSet nat_cmp → Bool
 meets s t = not (nat_eq (set.len (set.intersection s t)) 0)
 
 -- two signatures hit where both banks share a set bit
-abbrev pub hits : Marks → Marks → Bool
+abbrev pub hits : Signature → Signature → Bool
 hits g h = meets g.low h.low && meets g.high h.high
 
 -- the lines of these words of a sphere are marked too
-abbrev pub signed : (sphere : ℕ) → List Stored → Marks → Marks
+abbrev pub signed : (sphere : ℕ) → List Stored → Signature → Signature
 signed i [] g = g
 signed i (s ∷ ss) g = signed i ss (insert (line i s.number) g)

@@ -6,7 +6,7 @@ use Rattle.dl_entry.specs.declared.Point.{Point}
 use Rattle.spec_engine.specs.declared.answers.How.{How}
 use Rattle.spec_engine.specs.declared.answers.Asked.{Asked}
 use Rattle.spec_engine.specs.declared.answers.AskedSerial.{AskedSerial}
-use Rattle.spec_engine.specs.Signatures.{Marks, nothing, signed}
+use Rattle.spec_engine.specs.Signatures.{Signature, nothing, signed}
 use Rattle.spec_engine.specs.Flights.{at, is_full}
 use Rattle.spec_engine.specs.Chunks.{Chunk, is_empty_serial}
 use Rattle.spec_engine.specs.Asking.{ask, ask_serial}
@@ -34,7 +34,7 @@ abbrev pub move_at : (moment : ℕ) → CommitRequest → Move
 move_at now q = record { moment = now; sphere = q.sphere; what = q.what }
 
 -- the words fly, and the core, which is told, goes on with its thread as it is now
-abbrev pub world_with : World → (core : ℕ) → CommitRequest → Marks → MovedSphere → World
+abbrev pub world_with : World → (core : ℕ) → CommitRequest → Signature → MovedSphere → World
 world_with w c q writes v =
     record w {
       spheres = (with_sphere w q.sphere v.sphere).spheres;
@@ -43,7 +43,7 @@ world_with w c q writes v =
       devices = v.devices;
     }
 
-abbrev pub granted : World → (core : ℕ) → CommitRequest → Marks → MovedSphere → CommitOutcome → After
+abbrev pub granted : World → (core : ℕ) → CommitRequest → Signature → MovedSphere → CommitOutcome → After
 granted w c q writes v Granted =
     record {
       reply = Reply.Granted;

@@ -8,7 +8,7 @@ use Rattle.spec_isa.specs.Instruction.{Next, serial_of, loads_of, one}
 use Rattle.spec_isa.specs.Runs.{run}
 use Rattle.spec_kernel.specs.Needs.{fetched, next_kind}
 use Rattle.spec_engine.specs.declared.answers.How.{How}
-use Rattle.spec_engine.specs.Signatures.{Marks, line, covers, hits}
+use Rattle.spec_engine.specs.Signatures.{Signature, line, covers, hits}
 use Rattle.spec_engine.specs.Flights.{Flight, at, told_at}
 use Rattle.spec_engine.specs.Chunks.{Chunk}
 
@@ -54,7 +54,7 @@ pub record IsCurrent (m : List ℕ) (ch : Chunk) : Type 0 where
       → StoresAnew ch.done.thread (lays m ch.done.words) ch.done.words
 
 -- no flight of sphere i that core c was not told of hits these reads
-pub record IsQuiet (slots : List (Option Flight)) (i c : ℕ) (reads : Marks) : Type 0 where
+pub record IsQuiet (slots : List (Option Flight)) (i c : ℕ) (reads : Signature) : Type 0 where
   pub misses : (k : ℕ) (f : Flight) → at slots k ≡ Some f → f.sphere ≡ i → told_at f.told c ≡ false
       → hits f.writes reads ≡ false
 

@@ -3,7 +3,7 @@ use Rattle.std.specs.Prelude.{ℕ, length, Option, Some, None}
 use Rattle.spec_engine.specs.declared.answers.Drain.{Drain}
 use Rattle.spec_engine.specs.declared.answers.Deliver.{Deliver}
 use Rattle.spec_engine.specs.declared.answers.Retire.{Retire}
-use Rattle.spec_engine.specs.Signatures.{Marks, nothing}
+use Rattle.spec_engine.specs.Signatures.{Signature, nothing}
 use Rattle.spec_engine.specs.Flights.{Flight, at, drain, deliver, retire}
 use Rattle.spec_engine.specs.Chunks.{squash}
 use Rattle.spec_protocol.specs.declared.reply.Reply.{Reply}
@@ -29,11 +29,11 @@ draining w k = drain_slot w k (at w.slots k)
 -- ---- Deliver
 
 -- an idle core has read and stored nothing
-abbrev pub reads_of : World → Option Occupant → Marks
+abbrev pub reads_of : World → Option Occupant → Signature
 reads_of w None = nothing w.numbers.bits
 reads_of w (Some h) = h.chunk.reads
 
-abbrev pub writes_of : World → Option Occupant → Marks
+abbrev pub writes_of : World → Option Occupant → Signature
 writes_of w None = nothing w.numbers.bits
 writes_of w (Some h) = h.chunk.writes
 

@@ -3,7 +3,7 @@ use Rattle.std.specs.Prelude.{ℕ, false, Option, Some, None, if◌then◌else�
 use Rattle.dl_entry.specs.declared.Actor.{Actor}
 use Rattle.dl_entry.specs.declared.CommitKind.{CommitKind}
 use Rattle.dl_entry.specs.declared.Point.{Point}
-use Rattle.spec_engine.specs.Signatures.{Marks, nothing, signed}
+use Rattle.spec_engine.specs.Signatures.{Signature, nothing, signed}
 use Rattle.spec_engine.specs.Flights.{is_full}
 use Rattle.spec_engine.specs.Asking.{ask}
 use Rattle.spec_protocol.specs.declared.reply.Reply.{Reply}
@@ -16,7 +16,7 @@ abbrev pub dma_move : World → (i : ℕ) → Move
 dma_move w i = record { moment = moment w; sphere = i; what = OfDma }
 
 -- no core is told yet
-abbrev pub dma_done : World → (i : ℕ) → Marks → MovedSphere → After
+abbrev pub dma_done : World → (i : ℕ) → Signature → MovedSphere → After
 dma_done w i writes v =
     record {
       reply = Reply.DmaDone;

@@ -7,7 +7,7 @@ use Rattle.spec_isa.specs.Words.{Stored}
 use Rattle.spec_kernel.specs.Devices.{Devices}
 use Rattle.spec_kernel.specs.Interrupts.{is_live}
 use Rattle.spec_engine.specs.declared.answers.How.{How}
-use Rattle.spec_engine.specs.Signatures.{Marks}
+use Rattle.spec_engine.specs.Signatures.{Signature}
 use Rattle.spec_engine.specs.Flights.{Flight, first_slot, fill, has_none}
 use Rattle.spec_engine.specs.Chunks.{Chunk, fresh}
 use Rattle.spec_protocol.specs.declared.reply.Reply.{Reply}
@@ -80,7 +80,7 @@ core_of w i k = first_slot (runs i k) w.cores
 -- ---- flights
 
 -- the words of sphere i's commit fly in the least free slot, if there are any
-abbrev pub flown : (i : ℕ) → List Stored → Marks → (told : ℕ) → List (Option Flight) → List (Option Flight)
+abbrev pub flown : (i : ℕ) → List Stored → Signature → (told : ℕ) → List (Option Flight) → List (Option Flight)
 flown i words writes told slots =
     if has_none words then slots
     else fill (record { sphere = i; words = words; writes = writes; told = told }) slots

@@ -10,7 +10,7 @@ use Rattle.spec_isa.specs.declared.thread.Parts.{Parts}
 use Rattle.spec_isa.specs.Words.{Stored}
 use Rattle.spec_kernel.specs.Devices.{Devices}
 use Rattle.spec_engine.specs.declared.answers.How.{How}
-use Rattle.spec_engine.specs.Signatures.{Marks, nothing, signed}
+use Rattle.spec_engine.specs.Signatures.{Signature, nothing, signed}
 use Rattle.spec_engine.specs.Chunks.{Chunk}
 use Rattle.spec_engine.specs.Flights.{Flights, at}
 use Rattle.spec_protocol.specs.Spheres.{Sphere}
@@ -29,7 +29,7 @@ use Rattle.dl_machine.proofs.Commits.Diverging.{IsApart, serial_apart}
 
 -- the world after a grant: the sphere has moved, its words fly, the core holds its thread afresh, and the point is
 -- kept
-abbrev pub with_grant : World → (core : ℕ) → Seen → Sphere → List Stored → Marks → Devices → Point → World
+abbrev pub with_grant : World → (core : ℕ) → Seen → Sphere → List Stored → Signature → Devices → Point → World
 with_grant w c held p words marks devices point =
     record w {
       spheres = slice_set w.spheres held.sphere p;
@@ -58,7 +58,7 @@ set_again {A = A} (x ∷ xs) (suc k) a b = ap (λ (ys : List A). x ∷ ys) (set_
 module _ (cores : Cores) (spheres : Spheres) (flights : Flights) (devices : Devices) (counts : Counts) (points : List Point) where
   -- Core c held a thread and asks for its commit: after_ is what the grant makes of the spheres, these words fly with these
   -- marks, and the points are more, by this one.
-  module _ (c : ℕ) (held : Seen) (after_ : Spheres) (words : List Stored) (marks : Marks) (more : List Point) (point : Point) where
+  module _ (c : ℕ) (held : Seen) (after_ : Spheres) (words : List Stored) (marks : Signature) (more : List Point) (point : Point) where
     -- the world with the words in flight, and the core holding its thread afresh
     abbrev after_flight : World → World
     after_flight between =
@@ -116,14 +116,14 @@ unfolding grant_chunk
 chunk_is w c h how = refl
 
 -- a chunk's request comes to what the move of its sphere makes of the world
-pub chunk_after : (w : World) (c : ℕ) (how : How) (o : Option Occupant) (held : Seen) (ch : Chunk) (marks : Marks) (v : MovedSphere) → option_map seen o ≡ Some held → Some ch ≡ option_map chunk_of o → marks ≡ writes_in w.numbers.bits o → v ≡ moved_by w held how ch
+pub chunk_after : (w : World) (c : ℕ) (how : How) (o : Option Occupant) (held : Seen) (ch : Chunk) (marks : Signature) (v : MovedSphere) → option_map seen o ≡ Some held → Some ch ≡ option_map chunk_of o → marks ≡ writes_in w.numbers.bits o → v ≡ moved_by w held how ch
     → Some (granted w c (chunk_asked w held how ch) marks v v.outcome) ≡ option_map (λ h. grant_chunk w c h how) o
 chunk_after w c how None held ch marks v eh ec em ev = absurd (none-some held eh)
 chunk_after w c how (Some h) held ch marks v eh ec em ev =
     let seen_ : held ≡ seen h = sym (same_Some _ _ eh) in
     let same : ch ≡ h.chunk = same_Some _ _ ec in
     ap (λ (u : MovedSphere). Some (granted w c (chunk_asked w held how ch) marks u u.outcome)) ev
-    ∙ ap (λ (m : Marks). Some (let u = moved_by w held how ch in granted w c (chunk_asked w held how ch) m u u.outcome)) em
+    ∙ ap (λ (m : Signature). Some (let u = moved_by w held how ch in granted w c (chunk_asked w held how ch) m u u.outcome)) em
     ∙ ap (λ (d : Chunk). Some (let u = moved_by w held how d in granted w c (chunk_asked w held how d) h.chunk.writes u u.outcome)) same
     ∙ ap (λ (s : Seen). Some (let u = moved_by w s how h.chunk in granted w c (chunk_asked w s how h.chunk) h.chunk.writes u u.outcome)) seen_
     ∙ ap (λ (a : After). Some a) (sym (chunk_is w c h how))
@@ -177,7 +177,7 @@ serial_still w c (Some h) held v ready eo eh ev =
 
 -- ---- what passes every check
 
-granted_passes : (w : World) (c : ℕ) (q : CommitRequest) (marks : Marks) (v : MovedSphere) (o : CommitOutcome) → passes_checks (granted w c q marks v o).reply ≡ true
+granted_passes : (w : World) (c : ℕ) (q : CommitRequest) (marks : Signature) (v : MovedSphere) (o : CommitOutcome) → passes_checks (granted w c q marks v o).reply ≡ true
 granted_passes w c q marks v Granted = refl
 granted_passes w c q marks v Piece = refl
 granted_passes w c q marks v (Diverged i why) = refl

@@ -4,7 +4,7 @@ use Rattle.dl_entry.specs.declared.Request.{Request}
 use Rattle.spec_isa.specs.Words.{Stored}
 use Rattle.spec_kernel.specs.Devices.{Devices}
 use Rattle.spec_engine.specs.Flights.{AreOfSize}
-use Rattle.spec_engine.specs.Signatures.{Marks, nothing, signed}
+use Rattle.spec_engine.specs.Signatures.{Signature, nothing, signed}
 use Rattle.spec_protocol.specs.Spheres.{Role, Plain, Record, Replay, Sphere}
 use Rattle.spec_protocol.specs.Placing.{replays}
 use Rattle.spec_protocol.specs.Commits.{CommitOutcome, MovedSphere, live_dma, dma_in, dma_moved}
@@ -34,6 +34,6 @@ comes_to o None v c e = absurd c
 comes_to o (Some u) v c e = let same : u ≡ v = cc in ap (λ (x : MovedSphere). x.outcome) (sym same) ∙ c
 
 -- a signature of words has the size of those of the flights
-pub marks_fit : (w : World) (i : ℕ) (words : List Stored) (marks empty : Marks) → IsReady w → marks ≡ signed i words empty → empty ≡ nothing w.numbers.bits → AreOfSize marks.bits w.slots
+pub marks_fit : (w : World) (i : ℕ) (words : List Stored) (marks empty : Signature) → IsReady w → marks ≡ signed i words empty → empty ≡ nothing w.numbers.bits → AreOfSize marks.bits w.slots
 marks_fit w i words marks empty ready em ee =
-    subst (λ (n : ℕ). AreOfSize n w.slots) (sym (ap (λ (g : Marks). g.bits) em ∙ bits-signed i words empty ∙ ap (λ (g : Marks). g.bits) ee)) (slots_size w ready)
+    subst (λ (n : ℕ). AreOfSize n w.slots) (sym (ap (λ (g : Signature). g.bits) em ∙ bits-signed i words empty ∙ ap (λ (g : Signature). g.bits) ee)) (slots_size w ready)

@@ -4,7 +4,7 @@ use Rattle.std.specs.Prelude.{slice_get, option_map}
 use Rattle.std.proofs.lemmas.Bool.{eqb-false}
 use Rattle.spec_isa.specs.Words.{Stored, lays}
 use Rattle.spec_engine.specs.declared.answers.How.{How}
-use Rattle.spec_engine.specs.Signatures.{Marks, nothing, signed}
+use Rattle.spec_engine.specs.Signatures.{Signature, nothing, signed}
 use Rattle.spec_engine.specs.Flights.{Flight, at, first_slot, is_of_sphere}
 use Rattle.spec_engine.proofs.Searches.{first_none}
 use Rattle.spec_protocol.specs.Spheres.{Sphere}
@@ -30,7 +30,7 @@ most_at c w m within = ap (sphere_most c w.devices m) (shown_at w m.sphere withi
 
 -- ---- granted
 
-granted_flies : (c : ℕ) (w : World) (d : ℕ) (q : CommitRequest) (writes : Marks) (v : MovedSphere) (o : CommitOutcome) → length v.words + c + 1 ≤ move_most c (shown_of w) (move_at (moment w) q) → Flies c w (granted w d q writes v o)
+granted_flies : (c : ℕ) (w : World) (d : ℕ) (q : CommitRequest) (writes : Signature) (v : MovedSphere) (o : CommitOutcome) → length v.words + c + 1 ≤ move_most c (shown_of w) (move_at (moment w) q) → Flies c w (granted w d q writes v o)
 granted_flies c w d q writes v Granted l = let r = flown-most c q.sphere v.words writes (2 ^ d) w.slots in omega (arith, r, l)
 granted_flies c w d q writes v Piece l = let r = flown-most c q.sphere v.words writes (2 ^ d) w.slots in omega (arith, r, l)
 granted_flies c w d q writes v (Diverged i why) l = omega arith

@@ -3,7 +3,7 @@ use Rattle.std.proofs.Common.{◌≡◌, ℕ, zero, suc, ◌≤◌, cond, List, 
 use Rattle.spec_isa.specs.Words.{Stored}
 use Rattle.spec_engine.specs.declared.answers.Deliver.{Deliver}
 use Rattle.spec_engine.specs.declared.answers.Retire.{Retire}
-use Rattle.spec_engine.specs.Signatures.{Marks}
+use Rattle.spec_engine.specs.Signatures.{Signature}
 use Rattle.spec_engine.specs.Flights.{Flight, at, told_at, tell, meets_chunk, drain_words, deliver, Delivered, is_done, retire, Retired}
 use Rattle.spec_protocol.specs.World.{World, Occupant, After, sphere_at, with_slot}
 use Rattle.spec_protocol.specs.Flying.{drain_slot, draining, reads_of, writes_of, told, deliver_to, delivering, retiring}
@@ -51,7 +51,7 @@ told_world P w d held Deliver.Already p = p
 told_world P w d held Deliver.Squashed p = p
 told_world P w d held Deliver.Delivered p = p
 
-deliver_most : (c d : ℕ) (reads writes : Marks) (xs : List (Option Flight)) (k : ℕ) (o : Option Flight) → at xs k ≡ o → flights_rank c (set xs k (deliver d reads writes o).slot) ≤ flights_rank c xs
+deliver_most : (c d : ℕ) (reads writes : Signature) (xs : List (Option Flight)) (k : ℕ) (o : Option Flight) → at xs k ≡ o → flights_rank c (set xs k (deliver d reads writes o).slot) ≤ flights_rank c xs
 deliver_most c d reads writes xs k None e = set_none c xs k e
 deliver_most c d reads writes xs k (Some f) e =
     set_most c xs k f _ e

@@ -2,7 +2,7 @@
 use Rattle.std.proofs.Common.{◌≡◌, ℕ, zero, suc, ◌+◌, ◌<◌, ◌≤◌, inl, inr, Bool, true, false, cond, List, [], ◌∷◌, length, Option, Some, None, refl, ap, ◌∙◌, arith, set}
 use Rattle.std.proofs.lemmas.Bool.{cases_eq}
 use Rattle.spec_isa.specs.Words.{Stored}
-use Rattle.spec_engine.specs.Signatures.{Marks}
+use Rattle.spec_engine.specs.Signatures.{Signature}
 use Rattle.spec_engine.specs.Flights.{Flight, at, told_at, tell, free_slot, fill_at}
 use Rattle.spec_engine.proofs.Searches.{told-tell, told-tell_other, free_slot-within, free_slot-free}
 use Rattle.spec_protocol.specs.World.{flown}
@@ -88,7 +88,7 @@ filled_most c f xs (Some k) e =
     omega (arith, r, h)
 
 -- a new flight adds at most its words, a delivery to each core and a retiring
-pub flown-most : (c i : ℕ) (ws : List Stored) (writes : Marks) (t : ℕ) (xs : List (Option Flight)) → flights_rank c (flown i ws writes t xs) ≤ flights_rank c xs + (length ws + c + 1)
+pub flown-most : (c i : ℕ) (ws : List Stored) (writes : Signature) (t : ℕ) (xs : List (Option Flight)) → flights_rank c (flown i ws writes t xs) ≤ flights_rank c xs + (length ws + c + 1)
 flown-most c i [] writes t xs = omega arith
 flown-most c i (w ∷ ws) writes t xs =
     let f : Flight = record { sphere = i; words = w ∷ ws; writes = writes; told = t } in

@@ -3,7 +3,7 @@ use Rattle.std.proofs.Common.{◌≡◌, ℕ, ◌+◌, ◌<◌, ◌≤◌, Bool,
 use Rattle.std.proofs.lemmas.Bool.{true≢false, and_parts, eqb-true, eq-eqb}
 use Rattle.dl_entry.specs.declared.Actor.{Actor}
 use Rattle.spec_engine.specs.declared.answers.How.{How}
-use Rattle.spec_engine.specs.Signatures.{Marks, nothing, signed}
+use Rattle.spec_engine.specs.Signatures.{Signature, nothing, signed}
 use Rattle.spec_engine.specs.Flights.{Flight, at, is_none, free_slot, is_full, first_slot, meets_chunk, is_of_sphere}
 use Rattle.spec_engine.specs.Chunks.{is_serial, is_empty_serial}
 use Rattle.spec_engine.specs.Asking.{ask, ask_serial, denied_by, busy_by}
@@ -40,7 +40,7 @@ not_full xs (Some k) e none l = refl
 room_there : (xs : List (Option Flight)) → ((k : ℕ) → at xs k ≡ None) → 0 < length xs → is_full xs ≡ false
 room_there xs none l = not_full xs (free_slot xs) refl none l
 
-not_denied : (w : World) (a : After) (reads writes : Marks) → ((k : ℕ) → at w.slots k ≡ None) → unless_denied (ask reads writes w.slots) w a ≡ a
+not_denied : (w : World) (a : After) (reads writes : Signature) → ((k : ℕ) → at w.slots k ≡ None) → unless_denied (ask reads writes w.slots) w a ≡ a
 not_denied w a reads writes none =
     ap (λ (o : Option ℕ). unless_denied (denied_by o) w a) (none_found (meets_chunk reads writes) w.slots (first_slot (meets_chunk reads writes) w.slots) refl none)
 
@@ -50,7 +50,7 @@ not_busy w a i none =
 
 -- ---- Ask
 
-granted_commits : (w : World) (c : ℕ) (q : CommitRequest) (writes : Marks) (v : MovedSphere) (o : CommitOutcome) (n : ℕ) → n + 3 ≤ what_more q.what → Commits q.sphere n (granted w c q writes v o)
+granted_commits : (w : World) (c : ℕ) (q : CommitRequest) (writes : Signature) (v : MovedSphere) (o : CommitOutcome) (n : ℕ) → n + 3 ≤ what_more q.what → Commits q.sphere n (granted w c q writes v o)
 granted_commits w c q writes v Granted n l = record { done = refl; move = move_at (moment w) q; is = refl; sphere = refl; more = l }
 granted_commits w c q writes v Piece n l = record { done = refl; move = move_at (moment w) q; is = refl; sphere = refl; more = l }
 granted_commits w c q writes v (Diverged i why) n l = record { done = refl; move = move_at (moment w) q; is = refl; sphere = refl; more = l }

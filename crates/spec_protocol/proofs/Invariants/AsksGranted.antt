@@ -7,7 +7,7 @@ use Rattle.spec_isa.specs.declared.thread.Load.{Load}
 use Rattle.spec_isa.specs.Words.{Stored, Lacks}
 use Rattle.spec_log.specs.declared.ModeName.{ModeName}
 use Rattle.spec_engine.specs.declared.answers.How.{How}
-use Rattle.spec_engine.specs.Signatures.{Marks, hits, covers, line, nothing, signed}
+use Rattle.spec_engine.specs.Signatures.{Signature, hits, covers, line, nothing, signed}
 use Rattle.spec_engine.specs.Flights.{Flight, at, is_none, first_slot, free_slot, is_full, meets_chunk, is_of_sphere}
 use Rattle.spec_engine.specs.Asking.{denied_by, busy_by}
 use Rattle.spec_engine.specs.Laws.{CoversLoads, CoversWords}
@@ -47,7 +47,7 @@ not_full w (Some k) e m = refl
 abbrev IsGrantedOr : World → Occupant → After → Type 0
 IsGrantedOr w h a = (a.reply ≡ Reply.Granted) ⊎ ((actor : Actor) × (a.reply ≡ Reply.NotTurn actor) × IsInTurns (sphere_at w h.chunk.sphere).role)
 
-granted_reply : (w : World) (c : ℕ) (q : CommitRequest) (writes : Marks) (v : MovedSphere) (o : CommitOutcome) → o ≡ Granted → (granted w c q writes v o).reply ≡ Reply.Granted
+granted_reply : (w : World) (c : ℕ) (q : CommitRequest) (writes : Signature) (v : MovedSphere) (o : CommitOutcome) → o ≡ Granted → (granted w c q writes v o).reply ≡ Reply.Granted
 granted_reply w c q writes v Granted e = refl
 granted_reply w c q writes v Piece e = cc
 granted_reply w c q writes v (Diverged i why) e = cc
@@ -133,7 +133,7 @@ asks_granted s es is window c h how can =
 
 -- ---- what a granted chunk is clear of
 
-uncovered_loads : (i : ℕ) (g f : Marks) (ls : List Load) (ws : List Stored) → g.bits ≡ f.bits → CoversLoads i g ls → ((a : ℕ) → covers f (line i a) ≡ false → Lacks a ws) → hits f g ≡ false → LoadsLack ls ws
+uncovered_loads : (i : ℕ) (g f : Signature) (ls : List Load) (ws : List Stored) → g.bits ≡ f.bits → CoversLoads i g ls → ((a : ℕ) → covers f (line i a) ≡ false → Lacks a ws) → hits f g ≡ false → LoadsLack ls ws
 uncovered_loads i g f [] ws size c lacks e = tt
 uncovered_loads i g f (l ∷ ls) ws size c lacks e = (
   lacks (l.addr / 4) (false_from_ne_true (covers f (line i (l.addr / 4))) (λ h. true≢false (sym (covers_hit f g (line i (l.addr / 4)) size h c.0) ∙ e))),

@@ -9,7 +9,7 @@ use Rattle.spec_isa.specs.declared.thread.Parts.{Parts}
 use Rattle.spec_isa.specs.Words.{Stored, lay, lays, Lacks, Apart}
 use Rattle.spec_engine.specs.declared.answers.Deliver.{Deliver}
 use Rattle.spec_engine.specs.declared.answers.Retire.{Retire}
-use Rattle.spec_engine.specs.Signatures.{Marks, hits}
+use Rattle.spec_engine.specs.Signatures.{Signature, hits}
 use Rattle.spec_engine.specs.Flights.{Flight, at, told_at, all_told, meets_chunk, drain_words, Delivered, tell, deliver, has_none, is_done, Retired, retire}
 use Rattle.spec_engine.specs.Chunks.{Chunk, squash, is_fourth, halved, fresh, next_squashes}
 use Rattle.spec_engine.specs.Laws.{CoversWords}
@@ -90,7 +90,7 @@ drain_lays m b h ss s lacks =
     lays_append (lay m s) b (ss ++ h) ∙ ap (λ (n : List ℕ). lays n (ss ++ h)) (lays-lay m s b lacks) ∙ sym (lays_append m b ((s ∷ ss) ++ h))
 
 -- flights of which one has a word less
-shorter_quiet : (xs : List (Option Flight)) (k : ℕ) (f : Flight) (ss : List Stored) (i c : ℕ) (reads : Marks) → at xs k ≡ Some f → IsQuiet (set xs k (Some (record f { words = ss }))) i c reads → IsQuiet xs i c reads
+shorter_quiet : (xs : List (Option Flight)) (k : ℕ) (f : Flight) (ss : List Stored) (i c : ℕ) (reads : Signature) → at xs k ≡ Some f → IsQuiet (set xs k (Some (record f { words = ss }))) i c reads → IsQuiet xs i c reads
 shorter_quiet xs k f ss i c reads is q =
     record {
       misses = λ j g there same untold. elim (cases_eq j k) [
@@ -260,7 +260,7 @@ empty_words i f e =
       | false ↦ refl
     ]
 
-retired_quiet : (w : World) (k : ℕ) (f : Flight) (i c : ℕ) (reads : Marks) → at w.slots k ≡ Some f → all_told (length w.cores) f.told ≡ true → c < length w.cores → IsQuiet (set w.slots k None) i c reads → IsQuiet w.slots i c reads
+retired_quiet : (w : World) (k : ℕ) (f : Flight) (i c : ℕ) (reads : Signature) → at w.slots k ≡ Some f → all_told (length w.cores) f.told ≡ true → c < length w.cores → IsQuiet (set w.slots k None) i c reads → IsQuiet w.slots i c reads
 retired_quiet w k f i c reads is all l q =
     record {
       misses = λ j g there same untold. elim (cases_eq j k) [
@@ -307,7 +307,7 @@ retire-preserved w k good = retire_slot_preserved w k (at w.slots k) refl good
 
 -- ---- Deliver
 
-told_quiet : (xs : List (Option Flight)) (k : ℕ) (f : Flight) (c d i : ℕ) (reads : Marks) → at xs k ≡ Some f → (d ≡ c → hits f.writes reads ≡ false) → IsQuiet (set xs k (Some (tell f c))) i d reads → IsQuiet xs i d reads
+told_quiet : (xs : List (Option Flight)) (k : ℕ) (f : Flight) (c d i : ℕ) (reads : Signature) → at xs k ≡ Some f → (d ≡ c → hits f.writes reads ≡ false) → IsQuiet (set xs k (Some (tell f c))) i d reads → IsQuiet xs i d reads
 told_quiet xs k f c d i reads is free q =
     record {
       misses = λ j g there same untold. elim (cases_eq j k) [

@@ -7,7 +7,7 @@ use Rattle.std.proofs.lemmas.Nat.Bits.{bit_at-pow_other}
 use Rattle.dl_entry.specs.declared.Point.{Point}
 use Rattle.spec_isa.specs.declared.thread.Parts.{Parts}
 use Rattle.spec_isa.specs.Words.{lays, Apart}
-use Rattle.spec_engine.specs.Signatures.{Marks, nothing}
+use Rattle.spec_engine.specs.Signatures.{Signature, nothing}
 use Rattle.spec_engine.specs.Flights.{Flight, at, is_full}
 use Rattle.spec_protocol.specs.Spheres.{Sphere, is_stopped, halves}
 use Rattle.spec_protocol.specs.Placing.{replays}
@@ -29,11 +29,11 @@ use Rattle.spec_protocol.specs.Currency.{AllLack}
 
 -- ---- a request that is granted, or diverges
 
-abbrev pub request_flight : World → (core : ℕ) → CommitRequest → Marks → MovedSphere → Flight
+abbrev pub request_flight : World → (core : ℕ) → CommitRequest → Signature → MovedSphere → Flight
 request_flight w c q writes v = record { sphere = q.sphere; words = v.words; writes = writes; told = 2 ^ c }
 
 -- core c holds h, whose request q moves its sphere by v; its stores meet no flight, and v is what it gives on current memory
-pub record Grants (w : World) (c : ℕ) (h : Occupant) (q : CommitRequest) (writes : Marks) (v : MovedSphere) : Type 0 where
+pub record Grants (w : World) (c : ℕ) (h : Occupant) (q : CommitRequest) (writes : Signature) (v : MovedSphere) : Type 0 where
   pub is : at w.cores c ≡ Some h
   pub sphere : h.chunk.sphere ≡ q.sphere
   pub thread : h.thread ≡ q.thread
@@ -49,17 +49,17 @@ pub record Grants (w : World) (c : ℕ) (h : Occupant) (q : CommitRequest) (writ
   pub whole : do_move w.numbers (shown_of w) (move_at (moment w) q) ≡ do_moved (shown_of w) q.sphere (relaid (current w q.sphere) v)
   pub fits : Fits w.numbers (shown_of w) (move_at (moment w) q)
 
-grant_flew : (w : World) (c : ℕ) (h : Occupant) (q : CommitRequest) (writes : Marks) (v : MovedSphere) → IsGood w → Grants w c h q writes v
+grant_flew : (w : World) (c : ℕ) (h : Occupant) (q : CommitRequest) (writes : Signature) (v : MovedSphere) → IsGood w → Grants w c h q writes v
     → Flew q.sphere (request_flight w c q writes v) w.slots (flown q.sphere v.words writes (2 ^ c) w.slots)
 grant_flew w c h q writes v good g =
     flown-flew q.sphere v.words writes (2 ^ c) w.slots g.free (good.apart q.sphere) g.moves.apart g.lack
 
 -- another core's thread in the sphere is another thread
-other_thread : (w : World) (c d : ℕ) (h x : Occupant) (q : CommitRequest) (writes : Marks) (v : MovedSphere) → IsGood w → Grants w c h q writes v → d ≢ c → at w.cores d ≡ Some x → x.chunk.sphere ≡ q.sphere → x.thread ≢ q.thread
+other_thread : (w : World) (c d : ℕ) (h x : Occupant) (q : CommitRequest) (writes : Signature) (v : MovedSphere) → IsGood w → Grants w c h q writes v → d ≢ c → at w.cores d ≡ Some x → x.chunk.sphere ≡ q.sphere → x.thread ≢ q.thread
 other_thread w c d h x q writes v good g ne there same e =
     ne (good.alone d c x h there g.is (same ∙ sym g.sphere) (e ∙ sym g.thread))
 
-granted_lands : (w : World) (c d : ℕ) (h x : Occupant) (q : CommitRequest) (writes : Marks) (v : MovedSphere) → IsGood w → Grants w c h q writes v → d ≢ c → at w.cores d ≡ Some x → x.chunk.sphere ≡ q.sphere
+granted_lands : (w : World) (c d : ℕ) (h x : Occupant) (q : CommitRequest) (writes : Signature) (v : MovedSphere) → IsGood w → Grants w c h q writes v → d ≢ c → at w.cores d ≡ Some x → x.chunk.sphere ≡ q.sphere
     → Lands w q.sphere v.sphere (request_flight w c q writes v) (flown q.sphere v.words writes (2 ^ c) w.slots) d x
 granted_lands w c d h x q writes v good g ne there same =
     let other = other_thread w c d h x q writes v good g ne there same in
@@ -78,7 +78,7 @@ granted_lands w c d h x q writes v good g ne there same =
       limits = keeps.limits w.numbers.s x.thread x.chunk.start other;
     }
 
-granted_good : (w : World) (c : ℕ) (h : Occupant) (q : CommitRequest) (writes : Marks) (v : MovedSphere) → IsGood w → Grants w c h q writes v → IsGood (world_with w c q writes v)
+granted_good : (w : World) (c : ℕ) (h : Occupant) (q : CommitRequest) (writes : Signature) (v : MovedSphere) → IsGood w → Grants w c h q writes v → IsGood (world_with w c q writes v)
 granted_good w c h q writes v good g =
     let flew = grant_flew w c h q writes v good g in
     let f = request_flight w c q writes v in
@@ -115,7 +115,7 @@ granted_good w c h q writes v good g =
           other_thread w c d h x q writes v good g ne there (sym sphere ∙ ap (λ (z : Occupant). z.s.sphere) (sym b.is)) (sym thread ∙ ap (λ (z : Occupant). z.thread) (sym b.is)));
     }
 
-granted_sizes : (w : World) (c : ℕ) (h : Occupant) (q : CommitRequest) (writes : Marks) (v : MovedSphere) → IsGood w → Grants w c h q writes v → SameSizes w (world_with w c q writes v)
+granted_sizes : (w : World) (c : ℕ) (h : Occupant) (q : CommitRequest) (writes : Signature) (v : MovedSphere) → IsGood w → Grants w c h q writes v → SameSizes w (world_with w c q writes v)
 granted_sizes w c h q writes v good g =
     record {
       numbers = refl;
@@ -124,7 +124,7 @@ granted_sizes w c h q writes v good g =
       slots = (grant_flew w c h q writes v good g).size;
     }
 
-granted_whole : (w : World) (c : ℕ) (h : Occupant) (q : CommitRequest) (writes : Marks) (v : MovedSphere) → IsGood w → Grants w c h q writes v → shown_of (world_with w c q writes v) ≡ do_move w.numbers (shown_of w) (move_at (moment w) q)
+granted_whole : (w : World) (c : ℕ) (h : Occupant) (q : CommitRequest) (writes : Signature) (v : MovedSphere) → IsGood w → Grants w c h q writes v → shown_of (world_with w c q writes v) ≡ do_move w.numbers (shown_of w) (move_at (moment w) q)
 granted_whole w c h q writes v good g =
     moved-shown w q.sphere v (request_flight w c q writes v) (flown q.sphere v.words writes (2 ^ c) w.slots) (set w.cores c (held_afresh w.numbers q.sphere q.thread v.sphere)) g.moves.keeps.memory refl (grant_flew w c h q writes v good g)
     ∙ sym g.whole
@@ -192,7 +192,7 @@ stopped-shown w i v good memory words devices =
     ∙ moved-shown w i v f w.slots w.cores memory refl (unflown w i f good words)
 
 -- granting a request that may be granted keeps the invariant, whatever its outcome
-pub granted-preserved : (w : World) (c : ℕ) (h : Occupant) (q : CommitRequest) (writes : Marks) (v : MovedSphere) (o : CommitOutcome) → v.outcome ≡ o → IsGood w → Grants w c h q writes v → Preserved w (granted w c q writes v o)
+pub granted-preserved : (w : World) (c : ℕ) (h : Occupant) (q : CommitRequest) (writes : Signature) (v : MovedSphere) (o : CommitOutcome) → v.outcome ≡ o → IsGood w → Grants w c h q writes v → Preserved w (granted w c q writes v o)
 granted-preserved w c h q writes v Granted is good g =
     let m = move_at (moment w) q in
     let b = replays (sphere_at w q.sphere).role in

@@ -9,7 +9,7 @@ use Rattle.spec_isa.specs.declared.thread.Parts.{Parts}
 use Rattle.spec_isa.specs.Words.{Stored, lays}
 use Rattle.spec_kernel.specs.Devices.{Devices}
 use Rattle.spec_kernel.specs.Interrupts.{is_live}
-use Rattle.spec_engine.specs.Signatures.{Marks, covers, hits, line}
+use Rattle.spec_engine.specs.Signatures.{Signature, covers, hits, line}
 use Rattle.spec_engine.specs.Flights.{Flight, told_at}
 use Rattle.spec_engine.specs.Chunks.{Chunk, fresh}
 use Rattle.spec_engine.specs.Laws.{CoversWords}
@@ -86,7 +86,7 @@ abbrev pub moved_world : World → (i : ℕ) → Sphere → List (Option Flight)
 moved_world w i q ys cores devices = record w { spheres = set w.spheres i q; slots = ys; cores = cores; devices = devices }
 
 -- words of a signature that does not hit these reads
-pub unhit-unseen : (i : ℕ) (g : Marks) (ch : Chunk) (ws : List Stored) → ch.sphere ≡ i → ch.reads.bits ≡ g.bits → CoversWords i g ws → hits g ch.reads ≡ false → Unseen (seen_by ch) ws
+pub unhit-unseen : (i : ℕ) (g : Signature) (ch : Chunk) (ws : List Stored) → ch.sphere ≡ i → ch.reads.bits ≡ g.bits → CoversWords i g ws → hits g ch.reads ≡ false → Unseen (seen_by ch) ws
 unhit-unseen i g ch [] same size c e = tt
 unhit-unseen i g ch (w ∷ ws) same size c e = (
   false_from_ne_true (seen_by ch w.number)

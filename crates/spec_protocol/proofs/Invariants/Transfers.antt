@@ -6,7 +6,7 @@ use Rattle.std.proofs.lemmas.Bool.{or_parts, cases_eq}
 use Rattle.dl_entry.specs.declared.Why.{Why}
 use Rattle.spec_isa.specs.declared.thread.Parts.{Parts}
 use Rattle.spec_isa.specs.Words.{Apart}
-use Rattle.spec_engine.specs.Signatures.{Marks, hits, nothing, signed}
+use Rattle.spec_engine.specs.Signatures.{Signature, hits, nothing, signed}
 use Rattle.spec_engine.specs.Flights.{Flight, first_slot, is_full, meets_chunk}
 use Rattle.spec_engine.specs.Laws.{CoversWords}
 use Rattle.spec_engine.proofs.Searches.{first_none, told-zero}
@@ -34,7 +34,7 @@ use Rattle.spec_protocol.specs.Invariants.{IsFlightCovered, current, IsGood}
 moves_of : (w : World) (i : ℕ) (v : MovedSphere) → Transfers w i v → DmaMoves w.devices (sphere_at w i) v
 moves_of w i v t = dma-moves w.devices (sphere_at w i) v t.going t.turn t.is
 
-abbrev marks_of : World → (i : ℕ) → MovedSphere → Marks
+abbrev marks_of : World → (i : ℕ) → MovedSphere → Signature
 marks_of w i v = signed i v.words (nothing w.numbers.bits)
 
 abbrev dma_flight : World → (i : ℕ) → MovedSphere → Flight

@@ -12,7 +12,7 @@ use Rattle.spec_isa.specs.Operations.{loaded, word_loaded, load_then}
 use Rattle.spec_isa.specs.Instruction.{operation_of, loads_of, load_of}
 use Rattle.spec_isa.specs.Runs.{with_load, with_store}
 use Rattle.spec_isa.proofs.BufferLaws.{Apart-put}
-use Rattle.spec_engine.specs.Signatures.{Marks, insert, covers, hits, line, signed}
+use Rattle.spec_engine.specs.Signatures.{Signature, insert, covers, hits, line, signed}
 use Rattle.spec_engine.specs.Flights.{Flight, at, is_none, first_slot, told_at, bounces}
 use Rattle.spec_engine.specs.Chunks.{Chunk, with_line}
 use Rattle.spec_engine.specs.Laws.{CoversLoads, CoversWords}
@@ -23,11 +23,11 @@ use Rattle.spec_protocol.proofs.Memory.Laying.{Lacks-append, Unseen}
 use Rattle.spec_protocol.specs.Currency.{seen_by, IsQuiet, AllLack}
 use Rattle.spec_protocol.specs.Invariants.{IsFlightCovered, AreCovered}
 
-pub CoversWords_more : (i l : ℕ) (g : Marks) (ws : List Stored) → CoversWords i g ws → CoversWords i (insert l g) ws
+pub CoversWords_more : (i l : ℕ) (g : Signature) (ws : List Stored) → CoversWords i g ws → CoversWords i (insert l g) ws
 CoversWords_more i l g [] c = tt
 CoversWords_more i l g (w ∷ ws) c = (covers_more l (line i w.number) g c.0, CoversWords_more i l g ws c.1)
 
-put_covered : (i : ℕ) (g : Marks) (s : Stored) (ws : List Stored) → covers g (line i s.number) ≡ true → CoversWords i g ws → CoversWords i g (put ws s)
+put_covered : (i : ℕ) (g : Signature) (s : Stored) (ws : List Stored) → covers g (line i s.number) ≡ true → CoversWords i g ws → CoversWords i g (put ws s)
 unfolding merged
 put_covered i g s [] h c = (h, tt)
 put_covered i g s (w ∷ ws) h c =
@@ -37,7 +37,7 @@ put_covered i g s (w ∷ ws) h c =
     ]
 
 -- a store's line is marked with it
-pub CoversWords-store : (i : ℕ) (g : Marks) (ws : List Stored) (store : Option Stored) → CoversWords i g ws → CoversWords i (with_line i store g) (with_store ws store)
+pub CoversWords-store : (i : ℕ) (g : Signature) (ws : List Stored) (store : Option Stored) → CoversWords i g ws → CoversWords i (with_line i store g) (with_store ws store)
 CoversWords-store i g ws None c = c
 CoversWords-store i g ws (Some s) c =
     put_covered i (insert (line i s.number) g) s ws (covers_insert (line i s.number) g) (CoversWords_more i (line i s.number) g ws c)
@@ -62,16 +62,16 @@ length-store ws None = omega arith
 length-store ws (Some s) = put_length ws s
 
 -- loads that one signature covers and another, which covers more
-pub CoversLoads_more : (i : ℕ) (g h : Marks) (ls : List Load) → ((a : ℕ) → covers g (line i a) ≡ true → covers h (line i a) ≡ true) → CoversLoads i g ls → CoversLoads i h ls
+pub CoversLoads_more : (i : ℕ) (g h : Signature) (ls : List Load) → ((a : ℕ) → covers g (line i a) ≡ true → covers h (line i a) ≡ true) → CoversLoads i g ls → CoversLoads i h ls
 CoversLoads_more i g h [] more_ c = tt
 CoversLoads_more i g h (l ∷ ls) more_ c = (more_ (l.addr / 4) c.0, CoversLoads_more i g h ls more_ c.1)
 
-loads_push : (i : ℕ) (g : Marks) (ls : List Load) (l : Load) → covers g (line i (l.addr / 4)) ≡ true → CoversLoads i g ls → CoversLoads i g (ls ++ l ∷ [])
+loads_push : (i : ℕ) (g : Signature) (ls : List Load) (l : Load) → covers g (line i (l.addr / 4)) ≡ true → CoversLoads i g ls → CoversLoads i g (ls ++ l ∷ [])
 loads_push i g [] l e c = (e, tt)
 loads_push i g (k ∷ ls) l e c = (c.0, loads_push i g ls l e c.1)
 
 -- a signature covers one load more, if it covers the load's line
-pub CoversLoads-load : (i : ℕ) (g : Marks) (ls : List Load) (load : Option Load) → ((l : Load) → load ≡ Some l → covers g (line i (l.addr / 4)) ≡ true) → CoversLoads i g ls → CoversLoads i g (with_load ls load)
+pub CoversLoads-load : (i : ℕ) (g : Signature) (ls : List Load) (load : Option Load) → ((l : Load) → load ≡ Some l → covers g (line i (l.addr / 4)) ≡ true) → CoversLoads i g ls → CoversLoads i g (with_load ls load)
 CoversLoads-load i g ls None e c = c
 CoversLoads-load i g ls (Some l) e c = loads_push i g ls l (e l refl) c
 
@@ -96,21 +96,21 @@ unfolding load_of loads_of
 load-word t f w l e = operation_load (operation_of t f) w l e
 
 -- a signature keeps its size when a store's line is put in
-pub bits-with_line : (i : ℕ) (store : Option Stored) (g : Marks) → (with_line i store g).bits ≡ g.bits
+pub bits-with_line : (i : ℕ) (store : Option Stored) (g : Signature) → (with_line i store g).bits ≡ g.bits
 bits-with_line i None g = refl
 bits-with_line i (Some s) g = refl
 
 -- marking the lines of words in a signature leaves its size
-pub bits-signed : (i : ℕ) (ws : List Stored) (g : Marks) → (signed i ws g).bits ≡ g.bits
+pub bits-signed : (i : ℕ) (ws : List Stored) (g : Signature) → (signed i ws g).bits ≡ g.bits
 bits-signed i [] g = refl
 bits-signed i (w ∷ ws) g = bits-signed i ws (insert (line i w.number) g)
 
-signed_more : (i l : ℕ) (ws : List Stored) (g : Marks) → covers g l ≡ true → covers (signed i ws g) l ≡ true
+signed_more : (i l : ℕ) (ws : List Stored) (g : Signature) → covers g l ≡ true → covers (signed i ws g) l ≡ true
 signed_more i l [] g e = e
 signed_more i l (w ∷ ws) g e = signed_more i l ws (insert (line i w.number) g) (covers_more (line i w.number) l g e)
 
 -- a signature that the words were signed into covers them
-pub CoversWords-signed : (i : ℕ) (ws : List Stored) (g : Marks) → CoversWords i (signed i ws g) ws
+pub CoversWords-signed : (i : ℕ) (ws : List Stored) (g : Signature) → CoversWords i (signed i ws g) ws
 CoversWords-signed i [] g = tt
 CoversWords-signed i (w ∷ ws) g =
     (signed_more i (line i w.number) ws (insert (line i w.number) g) (covers_insert (line i w.number) g), CoversWords-signed i ws (insert (line i w.number) g))
@@ -118,13 +118,13 @@ CoversWords-signed i (w ∷ ws) g =
 -- ---- words that are not among those covered
 
 -- a word whose line the signature doesn't cover is none of the covered ones
-pub uncovered-lacks : (i a : ℕ) (g : Marks) (ws : List Stored) → CoversWords i g ws → covers g (line i a) ≡ false → Lacks a ws
+pub uncovered-lacks : (i a : ℕ) (g : Signature) (ws : List Stored) → CoversWords i g ws → covers g (line i a) ≡ false → Lacks a ws
 uncovered-lacks i a g [] c e = tt
 uncovered-lacks i a g (w ∷ ws) c e =
     ((λ same. true≢false (sym c.0 ∙ ap (λ (b : ℕ). covers g (line i b)) same ∙ e)), uncovered-lacks i a g ws c.1 e)
 
 -- two signatures of one size that do not hit: no word of the one is a word of the other
-pub apart-covered : (i : ℕ) (g h : Marks) (xs ys : List Stored) → h.bits ≡ g.bits → CoversWords i g xs → CoversWords i h ys → hits g h ≡ false → AllLack xs ys
+pub apart-covered : (i : ℕ) (g h : Signature) (xs ys : List Stored) → h.bits ≡ g.bits → CoversWords i g xs → CoversWords i h ys → hits g h ≡ false → AllLack xs ys
 apart-covered i g h [] ys size cx cy e = tt
 apart-covered i g h (x ∷ xs) ys size cx cy e = (
   uncovered-lacks i x.number h ys cy (false_from_ne_true (covers h (line i x.number)) (λ c. true≢false (sym (covers_hit g h (line i x.number) size cx.0 c) ∙ e))),

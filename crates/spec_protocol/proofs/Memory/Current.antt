@@ -10,7 +10,7 @@ use Rattle.spec_isa.specs.Runs.{Run, followed, more, run}
 use Rattle.spec_kernel.specs.Needs.{next_kind}
 use Rattle.spec_engine.specs.declared.answers.How.{How}
 use Rattle.spec_engine.specs.declared.answers.Stepped.{Stepped}
-use Rattle.spec_engine.specs.Signatures.{Marks, hits, line}
+use Rattle.spec_engine.specs.Signatures.{Signature, hits, line}
 use Rattle.spec_engine.specs.Flights.{Flight, is_none, first_slot, bounces}
 use Rattle.spec_engine.specs.Chunks.{Chunk, Stepping, step}
 use Rattle.spec_engine.specs.Laws.{StepAgrees}
@@ -141,7 +141,7 @@ live_step xs c r m ch s (Stepped.Bounced k) live base more_ g looks agrees =
     live_same m ch s.chunk live base.start more_ (subst EndsAfter (sym looks) tt) (ap (λ (q : Chunk). q.done) agrees)
 
 -- no untold flight hits fewer reads
-quiet_less : (xs : List (Option Flight)) (c : ℕ) (ch dh : Chunk) → dh.sphere ≡ ch.sphere → ((g : Marks) → hits g ch.reads ≡ true → hits g dh.reads ≡ true) → IsQuiet xs dh.sphere c dh.reads → IsQuiet xs ch.sphere c ch.reads
+quiet_less : (xs : List (Option Flight)) (c : ℕ) (ch dh : Chunk) → dh.sphere ≡ ch.sphere → ((g : Signature) → hits g ch.reads ≡ true → hits g dh.reads ≡ true) → IsQuiet xs dh.sphere c dh.reads → IsQuiet xs ch.sphere c ch.reads
 quiet_less xs c ch dh same less q =
     record {
       misses = λ k f is e untold. false_from_ne_true (hits f.writes ch.reads) (λ h. true≢false (sym (less f.writes h) ∙ q.misses k f is (e ∙ sym same) untold));

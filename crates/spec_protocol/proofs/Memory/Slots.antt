@@ -5,7 +5,7 @@ use Rattle.std.proofs.lemmas.Bool.{cases_lt, cases_eq, eq-eqb, ne_eqb}
 use Rattle.std.proofs.lemmas.Option.{none-some}
 use Rattle.std.proofs.lemmas.List.{get_or_past, append_assoc}
 use Rattle.spec_isa.specs.Words.{Stored, lays, Apart}
-use Rattle.spec_engine.specs.Signatures.{Marks}
+use Rattle.spec_engine.specs.Signatures.{Signature}
 use Rattle.spec_engine.specs.Flights.{Flight, at, is_none, free_slot, is_full, fill, fill_at}
 use Rattle.spec_engine.proofs.Searches.{free_slot-within, free_slot-free}
 use Rattle.spec_protocol.specs.World.{flown}
@@ -191,7 +191,7 @@ unflown_flew i f xs e old =
     }
 
 -- the words of a commit fly in a slot that was free, and no other slot has changed
-pub flown-flew : (i : ℕ) (ws : List Stored) (writes : Marks) (told : ℕ) (xs : List (Option Flight)) → is_full xs ≡ false → Apart (flying i xs) → Apart ws → AllLack ws (flying i xs)
+pub flown-flew : (i : ℕ) (ws : List Stored) (writes : Signature) (told : ℕ) (xs : List (Option Flight)) → is_full xs ≡ false → Apart (flying i xs) → Apart ws → AllLack ws (flying i xs)
     → Flew i (record { sphere = i; words = ws; writes = writes; told = told }) xs (flown i ws writes told xs)
 flown-flew i [] writes told xs full old apart lack = unflown_flew i _ xs refl old
 flown-flew i (w ∷ ws) writes told xs full old apart lack = filled_flew i _ xs refl full old apart lack

@@ -12,7 +12,7 @@ use Rattle.spec_isa.specs.Runs.{with_load, with_store}
 use Rattle.spec_kernel.specs.Needs.{fetched}
 use Rattle.spec_engine.specs.declared.answers.How.{How}
 use Rattle.spec_engine.specs.declared.answers.Stepped.{Stepped}
-use Rattle.spec_engine.specs.Signatures.{Marks, insert, covers, hits, line}
+use Rattle.spec_engine.specs.Signatures.{Signature, insert, covers, hits, line}
 use Rattle.spec_engine.specs.Flights.{Flight, is_none, first_slot, bounces}
 use Rattle.spec_engine.specs.Chunks.{Chunk, Stepping, closes, marked, ran, at_limit, has_room, reading, storing, loading, running, step}
 use Rattle.spec_engine.specs.Laws.{CoversLoads, CoversWords}
@@ -46,7 +46,7 @@ Looks xs c m ch dh (Stepped.Bounced k) = (dh.closed ≡ None)
 pub record Stays (capacity : ℕ) (xs : List (Option Flight)) (c : ℕ) (m : List ℕ) (ch : Chunk) (s : Stepping) : Type 0 where
   pub base : SameBase ch s.chunk
   pub more_reads : (a : ℕ) → seen_by ch a ≡ true → seen_by s.chunk a ≡ true
-  pub less_hits : (g : Marks) → hits g ch.reads ≡ true → hits g s.chunk.reads ≡ true
+  pub less_hits : (g : Signature) → hits g ch.reads ≡ true → hits g s.chunk.reads ≡ true
   pub apart : Apart s.chunk.done.words
   pub writes : CoversWords s.chunk.sphere s.chunk.writes s.chunk.done.words
   pub loads : CoversLoads s.chunk.sphere s.chunk.reads s.chunk.done.loads
@@ -63,15 +63,15 @@ pub record IsOpen (capacity : ℕ) (ch : Chunk) : Type 0 where
   pub loads : CoversLoads ch.sphere ch.reads ch.done.loads
 
 -- g has the chunk's reads and maybe more
-record Grown (ch : Chunk) (g : Marks) : Type 0 where
+record Grown (ch : Chunk) (g : Signature) : Type 0 where
   size : g.bits ≡ ch.reads.bits
   more_ : (a : ℕ) → covers ch.reads (line ch.sphere a) ≡ true → covers g (line ch.sphere a) ≡ true
-  hits_ : (h : Marks) → hits h ch.reads ≡ true → hits h g ≡ true
+  hits_ : (h : Signature) → hits h ch.reads ≡ true → hits h g ≡ true
 
 grown_same : (ch : Chunk) → Grown ch ch.reads
 grown_same ch = record { size = refl; more_ = λ a e. e; hits_ = λ h e. e }
 
-grown_insert : (ch : Chunk) (g : Marks) (l : ℕ) → Grown ch g → Grown ch (insert l g)
+grown_insert : (ch : Chunk) (g : Signature) (l : ℕ) → Grown ch g → Grown ch (insert l g)
 grown_insert ch g l n =
     record {
       size = n.size;
@@ -79,11 +79,11 @@ grown_insert ch g l n =
       hits_ = λ h e. hits_more l h g (n.hits_ h e);
     }
 
-abbrev with_reads : Chunk → Marks → Chunk
+abbrev with_reads : Chunk → Signature → Chunk
 with_reads ch g = record ch { reads = g }
 
 -- closing changes nothing else
-closed_closes : (capacity : ℕ) (ch : Chunk) (g : Marks) (how : How) → IsOpen capacity ch → how ≢ How.Limit → how ≢ How.Cut → (how ≡ How.Overflow → capacity ≤ length ch.done.words) → Closes capacity (record (with_reads ch g) { closed = Some how })
+closed_closes : (capacity : ℕ) (ch : Chunk) (g : Signature) (how : How) → IsOpen capacity ch → how ≢ How.Limit → how ≢ How.Cut → (how ≡ How.Overflow → capacity ≤ length ch.done.words) → Closes capacity (record (with_reads ch g) { closed = Some how })
 closed_closes capacity ch g how o limit cut room =
     record {
       positive = o.closes.positive;
@@ -96,7 +96,7 @@ closed_closes capacity ch g how o limit cut room =
       few_loads = o.closes.few_loads;
     }
 
-stays_closed : (capacity : ℕ) (xs : List (Option Flight)) (c : ℕ) (m : List ℕ) (ch : Chunk) (g : Marks) (how : How) → IsOpen capacity ch → Grown ch g → how ≢ How.Limit → how ≢ How.Cut → (how ≡ How.Overflow → capacity ≤ length ch.done.words)
+stays_closed : (capacity : ℕ) (xs : List (Option Flight)) (c : ℕ) (m : List ℕ) (ch : Chunk) (g : Signature) (how : How) → IsOpen capacity ch → Grown ch g → how ≢ How.Limit → how ≢ How.Cut → (how ≡ How.Overflow → capacity ≤ length ch.done.words)
     → Looks xs c m ch (record (with_reads ch g) { closed = Some how }) (Stepped.Closed how) → Stays capacity xs c m ch (closes how (with_reads ch g))
 stays_closed capacity xs c m ch g how o n limit cut room looks =
     record {
@@ -118,7 +118,7 @@ ran_few ch store few = let h = length-store ch.done.words store in omega arith
 ran_few_loads : (ch : Chunk) (load : Option Load) → length ch.done.loads ≤ ch.done.n → length (with_load ch.done.loads load) ≤ suc ch.done.n
 ran_few_loads ch load few = let h = length-load ch.done.loads load in omega arith
 
-ran_open : (capacity : ℕ) (ch : Chunk) (g : Marks) (t : Parts) (load : Option Load) (store : Option Stored) → IsOpen capacity ch → eqb (suc ch.done.n) ch.limit ≡ false → Closes capacity (ran (with_reads ch g) t load store)
+ran_open : (capacity : ℕ) (ch : Chunk) (g : Signature) (t : Parts) (load : Option Load) (store : Option Stored) → IsOpen capacity ch → eqb (suc ch.done.n) ch.limit ≡ false → Closes capacity (ran (with_reads ch g) t load store)
 ran_open capacity ch g t load store o e =
     record {
       positive = o.closes.positive;
@@ -131,7 +131,7 @@ ran_open capacity ch g t load store o e =
       few_loads = ran_few_loads ch load o.closes.few_loads;
     }
 
-ran_full : (capacity : ℕ) (ch : Chunk) (g : Marks) (t : Parts) (load : Option Load) (store : Option Stored) → IsOpen capacity ch → eqb (suc ch.done.n) ch.limit ≡ true → Closes capacity (record (ran (with_reads ch g) t load store) { closed = Some How.Limit })
+ran_full : (capacity : ℕ) (ch : Chunk) (g : Signature) (t : Parts) (load : Option Load) (store : Option Stored) → IsOpen capacity ch → eqb (suc ch.done.n) ch.limit ≡ true → Closes capacity (record (ran (with_reads ch g) t load store) { closed = Some How.Limit })
 ran_full capacity ch g t load store o e =
     record {
       positive = o.closes.positive;
@@ -145,7 +145,7 @@ ran_full capacity ch g t load store o e =
     }
 
 -- an instruction was run
-stays_ran : (capacity : ℕ) (xs : List (Option Flight)) (c : ℕ) (m : List ℕ) (ch : Chunk) (g : Marks) (t : Parts) (load : Option Load) (store : Option Stored) → IsOpen capacity ch → Grown ch g → ((l : Load) → load ≡ Some l → covers g (line ch.sphere (l.addr / 4)) ≡ true)
+stays_ran : (capacity : ℕ) (xs : List (Option Flight)) (c : ℕ) (m : List ℕ) (ch : Chunk) (g : Signature) (t : Parts) (load : Option Load) (store : Option Stored) → IsOpen capacity ch → Grown ch g → ((l : Load) → load ≡ Some l → covers g (line ch.sphere (l.addr / 4)) ≡ true)
     → Touches (clear xs c (with_reads ch g)) ch.done.thread m → Stays capacity xs c m ch (at_limit (ran (with_reads ch g) t load store))
 unfolding at_limit
 stays_ran capacity xs c m ch g t load store o n looked touches =
@@ -188,7 +188,7 @@ next_one t m o plain is =
     let f = fetched t m in
     (λ i. unless (plain i) (Next (next_of t f (value_at m (is i))) (load_of t f (value_at m (is i))) (store_of t f (value_at m (is i)))))
 
-stays_storing : (capacity : ℕ) (xs : List (Option Flight)) (c : ℕ) (m : List ℕ) (f w : ℕ) (ch : Chunk) (g : Marks) → IsOpen capacity ch → Grown ch g → ((a : ℕ) → loads_of ch.done.thread f ≡ Some a → covers g (line ch.sphere a) ≡ true)
+stays_storing : (capacity : ℕ) (xs : List (Option Flight)) (c : ℕ) (m : List ℕ) (f w : ℕ) (ch : Chunk) (g : Signature) → IsOpen capacity ch → Grown ch g → ((a : ℕ) → loads_of ch.done.thread f ≡ Some a → covers g (line ch.sphere a) ≡ true)
     → let t = ch.done.thread in one t m ≡ Next (next_of t f w) (load_of t f w) (store_of t f w) → Touches (clear xs c (with_reads ch g)) ch.done.thread m → Stays capacity xs c m ch (storing capacity f w (with_reads ch g))
 unfolding storing
 stays_storing capacity xs c m f w ch g o n looked is touches =
@@ -202,17 +202,17 @@ stays_storing capacity xs c m f w ch g o n looked is touches =
 -- ---- the load
 
 -- a word that is marked, and that no told flight holds up
-clear_marked : (xs : List (Option Flight)) (c : ℕ) (ch : Chunk) (g : Marks) (a : ℕ) → first_slot (bounces c (line ch.sphere a)) xs ≡ None → clear xs c (with_reads ch (insert (line ch.sphere a) g)) a ≡ true
+clear_marked : (xs : List (Option Flight)) (c : ℕ) (ch : Chunk) (g : Signature) (a : ℕ) → first_slot (bounces c (line ch.sphere a)) xs ≡ None → clear xs c (with_reads ch (insert (line ch.sphere a) g)) a ≡ true
 clear_marked xs c ch g a e =
     and_from _ (is_none (first_slot (bounces c (line ch.sphere a)) xs)) (covers_insert (line ch.sphere a) g) (ap is_none e)
 
-clear_more : (xs : List (Option Flight)) (c : ℕ) (ch : Chunk) (g : Marks) (l a : ℕ) → clear xs c (with_reads ch g) a ≡ true → clear xs c (with_reads ch (insert l g)) a ≡ true
+clear_more : (xs : List (Option Flight)) (c : ℕ) (ch : Chunk) (g : Signature) (l a : ℕ) → clear xs c (with_reads ch g) a ≡ true → clear xs c (with_reads ch (insert l g)) a ≡ true
 clear_more xs c ch g l a e =
     let p = and_parts (covers g (line ch.sphere a)) (is_none (first_slot (bounces c (line ch.sphere a)) xs)) e in
     and_from _ (is_none (first_slot (bounces c (line ch.sphere a)) xs)) (covers_more l (line ch.sphere a) g p.0) p.1
 
 -- a word is read, unless a flight holds it up
-stays_reading : (capacity : ℕ) (xs : List (Option Flight)) (c : ℕ) (m : List ℕ) (ch : Chunk) (g : Marks) (a : ℕ) (then_ : Chunk → Stepping) → IsOpen capacity ch → Grown ch g
+stays_reading : (capacity : ℕ) (xs : List (Option Flight)) (c : ℕ) (m : List ℕ) (ch : Chunk) (g : Signature) (a : ℕ) (then_ : Chunk → Stepping) → IsOpen capacity ch → Grown ch g
     → (first_slot (bounces c (line ch.sphere a)) xs ≡ None → Stays capacity xs c m ch (then_ (with_reads ch (insert (line ch.sphere a) g)))) → Stays capacity xs c m ch (reading xs c (with_reads ch g) a then_)
 unfolding reading
 stays_reading capacity xs c m ch g a then_ o n stays =
@@ -245,10 +245,10 @@ abbrev fetched_by : List ℕ → Chunk → ℕ
 fetched_by m ch = fetched ch.done.thread (shown_in m ch)
 
 -- the fetched word is clear; the loaded one, if there is one, will be
-touches_none : (xs : List (Option Flight)) (c : ℕ) (m : List ℕ) (ch : Chunk) (g : Marks) → clear xs c (with_reads ch g) (ch.done.thread.pc / 4) ≡ true → loads_of ch.done.thread (fetched_by m ch) ≡ None → Touches (clear xs c (with_reads ch g)) ch.done.thread (shown_in m ch)
+touches_none : (xs : List (Option Flight)) (c : ℕ) (m : List ℕ) (ch : Chunk) (g : Signature) → clear xs c (with_reads ch g) (ch.done.thread.pc / 4) ≡ true → loads_of ch.done.thread (fetched_by m ch) ≡ None → Touches (clear xs c (with_reads ch g)) ch.done.thread (shown_in m ch)
 touches_none xs c m ch g e none = record { fetch = λ _. e; load = λ _ a some. absurd (none-some a (sym none ∙ some)) }
 
-touches_some : (xs : List (Option Flight)) (c : ℕ) (m : List ℕ) (ch : Chunk) (g : Marks) (a : ℕ) → clear xs c (with_reads ch g) (ch.done.thread.pc / 4) ≡ true → loads_of ch.done.thread (fetched_by m ch) ≡ Some a → first_slot (bounces c (line ch.sphere a)) xs ≡ None
+touches_some : (xs : List (Option Flight)) (c : ℕ) (m : List ℕ) (ch : Chunk) (g : Signature) (a : ℕ) → clear xs c (with_reads ch g) (ch.done.thread.pc / 4) ≡ true → loads_of ch.done.thread (fetched_by m ch) ≡ Some a → first_slot (bounces c (line ch.sphere a)) xs ≡ None
     → Touches (clear xs c (with_reads ch (insert (line ch.sphere a) g))) ch.done.thread (shown_in m ch)
 touches_some xs c m ch g a e some free =
     record {
@@ -262,7 +262,7 @@ touches_serial : (xs : List (Option Flight)) (c : ℕ) (m : List ℕ) (ch dh : C
     → Touches (clear xs c dh) ch.done.thread (shown_in m ch)
 touches_serial xs c m ch dh kind e some = record { fetch = e; load = λ none a is. absurd (none-some kind (sym none ∙ some)) }
 
-stays_loading : (capacity : ℕ) (xs : List (Option Flight)) (c : ℕ) (m : List ℕ) (ch : Chunk) (g : Marks) → IsOpen capacity ch → Grown ch g → serial_of ch.done.thread (fetched_by m ch) (length (shown_in m ch)) ≡ None → clear xs c (with_reads ch g) (ch.done.thread.pc / 4) ≡ true
+stays_loading : (capacity : ℕ) (xs : List (Option Flight)) (c : ℕ) (m : List ℕ) (ch : Chunk) (g : Signature) → IsOpen capacity ch → Grown ch g → serial_of ch.done.thread (fetched_by m ch) (length (shown_in m ch)) ≡ None → clear xs c (with_reads ch g) (ch.done.thread.pc / 4) ≡ true
     → Stays capacity xs c (shown_in m ch) ch (loading capacity (shown_in m ch) xs c (fetched_by m ch) (with_reads ch g))
 unfolding loading
 stays_loading capacity xs c m ch g o n plain e =
@@ -277,7 +277,7 @@ stays_loading capacity xs c m ch g o n plain e =
 
 -- ---- the whole step
 
-stays_running : (capacity : ℕ) (xs : List (Option Flight)) (c : ℕ) (m : List ℕ) (ch : Chunk) (g : Marks) → IsOpen capacity ch → Grown ch g → clear xs c (with_reads ch g) (ch.done.thread.pc / 4) ≡ true
+stays_running : (capacity : ℕ) (xs : List (Option Flight)) (c : ℕ) (m : List ℕ) (ch : Chunk) (g : Signature) → IsOpen capacity ch → Grown ch g → clear xs c (with_reads ch g) (ch.done.thread.pc / 4) ≡ true
     → Stays capacity xs c (shown_in m ch) ch (running capacity (shown_in m ch) xs c (fetched_by m ch) (with_reads ch g))
 unfolding running
 stays_running capacity xs c m ch g o n e =

@@ -4,7 +4,7 @@ use Rattle.std.specs.Int.Bits.{or_zero_l}
 use Rattle.std.proofs.lemmas.Option.{none-some}
 use Rattle.spec_isa.specs.Words.{Stored}
 use Rattle.spec_engine.specs.declared.answers.How.{How}
-use Rattle.spec_engine.specs.Signatures.{Marks, nothing, signed}
+use Rattle.spec_engine.specs.Signatures.{Signature, nothing, signed}
 use Rattle.spec_engine.specs.Flights.{Flight, at, free_slot, has_none, fill_at, fill, told_at, tell}
 use Rattle.spec_engine.proofs.Searches.{told-zero, told-tell, told-tell_other, free_slot-within}
 use Rattle.spec_protocol.specs.declared.event.Event.{Event}
@@ -32,14 +32,14 @@ filled_by xs (Some j) g is k f free stands = elim (at-set xs j k (Some g) (free_
   | inr e ↦ absurd (none-some f (sym free ∙ sym e.1 ∙ stands))
 ]
 
-flown_by : (i : ℕ) (words : List Stored) (writes : Marks) (mark : ℕ) (xs : List (Option Flight)) (b : Bool) (k : ℕ) (f : Flight) → at xs k ≡ None
+flown_by : (i : ℕ) (words : List Stored) (writes : Signature) (mark : ℕ) (xs : List (Option Flight)) (b : Bool) (k : ℕ) (f : Flight) → at xs k ≡ None
     → at (cond b xs (fill (record { sphere = i; words = words; writes = writes; told = mark }) xs)) k ≡ Some f → f.told ≡ mark
 flown_by i words writes mark xs true k f free stands = absurd (none-some f (sym free ∙ stands))
 flown_by i words writes mark xs false k f free stands = filled_by xs (free_slot xs) (record { sphere = i; words = words; writes = writes; told = mark }) refl k f free stands
 
 -- ---- an ask
 
-granted_marks : (w : World) (c : ℕ) (q : CommitRequest) (writes : Marks) (v : MovedSphere) (o : CommitOutcome) → BeginWith w (2 ^ c) (granted w c q writes v o)
+granted_marks : (w : World) (c : ℕ) (q : CommitRequest) (writes : Signature) (v : MovedSphere) (o : CommitOutcome) → BeginWith w (2 ^ c) (granted w c q writes v o)
 granted_marks w c q writes v Granted = λ k f free stands. flown_by q.sphere v.words writes (2 ^ c) w.slots (has_none v.words) k f free stands
 granted_marks w c q writes v Piece = λ k f free stands. flown_by q.sphere v.words writes (2 ^ c) w.slots (has_none v.words) k f free stands
 granted_marks w c q writes v (Diverged i why) = none_begins w (2 ^ c) (granted w c q writes v (Diverged i why)) refl

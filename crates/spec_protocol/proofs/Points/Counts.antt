@@ -4,7 +4,7 @@ use Rattle.std.specs.Prelude.{is_some}
 use Rattle.spec_isa.specs.declared.thread.Parts.{Parts}
 use Rattle.spec_engine.specs.declared.answers.How.{How}
 use Rattle.spec_engine.specs.declared.answers.Deliver.{Deliver}
-use Rattle.spec_engine.specs.Signatures.{Marks}
+use Rattle.spec_engine.specs.Signatures.{Signature}
 use Rattle.spec_engine.specs.Flights.{Flight, at, drain, retire}
 use Rattle.spec_engine.specs.Chunks.{step, cut}
 use Rattle.spec_protocol.specs.declared.event.Event.{Event}
@@ -51,7 +51,7 @@ retire_none Retire.NoCommit = refl
 retire_none Retire.NotDone = refl
 retire_none Retire.Retired = refl
 
-granted_untold : (w : World) (c : ℕ) (q : CommitRequest) (writes : Marks) (v : MovedSphere) (o : CommitOutcome) → Untold w (granted w c q writes v o)
+granted_untold : (w : World) (c : ℕ) (q : CommitRequest) (writes : Signature) (v : MovedSphere) (o : CommitOutcome) → Untold w (granted w c q writes v o)
 granted_untold w c q writes v Granted = record { points = refl; counts = refl; exactly = refl; moment = refl }
 granted_untold w c q writes v Piece = record { points = refl; counts = refl; exactly = refl; moment = refl }
 granted_untold w c q writes v (Diverged i why) = record { points = refl; counts = refl; exactly = refl; moment = tt }

@@ -13,7 +13,7 @@ use Rattle.spec_kernel.specs.Interrupts.{is_live}
 use Rattle.spec_engine.specs.declared.answers.How.{How}
 use Rattle.spec_engine.specs.declared.answers.Deliver.{Deliver}
 use Rattle.spec_engine.specs.declared.answers.Retire.{Retire}
-use Rattle.spec_engine.specs.Signatures.{Marks, nothing, signed}
+use Rattle.spec_engine.specs.Signatures.{Signature, nothing, signed}
 use Rattle.spec_engine.specs.Flights.{Flight, at, free_slot, fill_at, meets_chunk, told_at, drain_words, tell, Delivered, deliver, is_done, Retired, retire}
 use Rattle.spec_engine.specs.Chunks.{fresh, step, cut, squash}
 use Rattle.spec_protocol.specs.declared.event.Event.{Event}
@@ -51,7 +51,7 @@ pub record Holds (P : Properties) (now : ℕ) (w : World) : Type 0 where
 -- what a move leaves has them
 pub record Lands (P : Properties) (now i : ℕ) (v : MovedSphere) : Type 0 where
   pub sphere : P.sphere now i v.sphere
-  pub flight : (writes : Marks) (told : ℕ) → P.flight (record { sphere = i; words = v.words; writes = writes; told = told })
+  pub flight : (writes : Signature) (told : ℕ) → P.flight (record { sphere = i; words = v.words; writes = writes; told = told })
   pub devices : P.devices v.devices
 
 -- core c, which holds h, asks for its chunk, which was closed so, and no other actor has the turn
@@ -94,7 +94,7 @@ fill-row : (F : Flight → Type 0) (xs : List (Option Flight)) (f : Flight) (o :
 fill-row F xs f None new old j x e = old j x e
 fill-row F xs f (Some k) new old j x e = row-set F xs k (Some f) (λ y h. subst F (let q : f ≡ y = cc in q) new) old j x e
 
-flown-row : (F : Flight → Type 0) (i : ℕ) (words : List Stored) (writes : Marks) (t : ℕ) (xs : List (Option Flight)) → F (record { sphere = i; words = words; writes = writes; told = t }) → ((j : ℕ) (x : Flight) → at xs j ≡ Some x → F x)
+flown-row : (F : Flight → Type 0) (i : ℕ) (words : List Stored) (writes : Signature) (t : ℕ) (xs : List (Option Flight)) → F (record { sphere = i; words = words; writes = writes; told = t }) → ((j : ℕ) (x : Flight) → at xs j ≡ Some x → F x)
     → (j : ℕ) (x : Flight) → at (flown i words writes t xs) j ≡ Some x → F x
 flown-row F i [] writes t xs new old j x e = old j x e
 flown-row F i (s ∷ ss) writes t xs new old j x e = fill-row F xs (record { sphere = i; words = s ∷ ss; writes = writes; told = t }) (free_slot xs) new old j x e
@@ -139,7 +139,7 @@ held-is P h x e p = subst P.held (let q : h ≡ x = cc in q) p
 flight-is : (P : Properties) (f x : Flight) → Some f ≡ Some x → P.flight f → P.flight x
 flight-is P f x e p = subst P.flight (let q : f ≡ x = cc in q) p
 
-moved-holds : (P : Properties) (w : World) (i : ℕ) (v : MovedSphere) (writes : Marks) (t : ℕ) (cores : List (Option Occupant)) → Lands P (suc (moment w)) i v → ((c : ℕ) (h : Occupant) → at cores c ≡ Some h → P.held h) → Holds P (suc (moment w)) w
+moved-holds : (P : Properties) (w : World) (i : ℕ) (v : MovedSphere) (writes : Signature) (t : ℕ) (cores : List (Option Occupant)) → Lands P (suc (moment w)) i v → ((c : ℕ) (h : Occupant) → at cores c ≡ Some h → P.held h) → Holds P (suc (moment w)) w
     → Holds P (suc (moment w)) (record w { spheres = (with_sphere w i v.sphere).spheres; slots = flown i v.words writes t w.slots; cores = cores; devices = v.devices })
 moved-holds P w i v writes t cores lands held k =
     record {
@@ -154,7 +154,7 @@ squashed-held : (P : Properties) (z : Numbers) (o : Option Occupant) → Keeps z
 squashed-held P z None keeps old x e = absurd (none-some x e)
 squashed-held P z (Some h) keeps old x e = held-is P (record h { chunk = squash h.chunk }) x e (keeps.squashed h (old h refl))
 
-delivered-slot : (P : Properties) (z : Numbers) (c : ℕ) (reads writes : Marks) (o : Option Flight) → Keeps z P → ((f : Flight) → o ≡ Some f → P.flight f) → (x : Flight) → (deliver c reads writes o).slot ≡ Some x → P.flight x
+delivered-slot : (P : Properties) (z : Numbers) (c : ℕ) (reads writes : Signature) (o : Option Flight) → Keeps z P → ((f : Flight) → o ≡ Some f → P.flight f) → (x : Flight) → (deliver c reads writes o).slot ≡ Some x → P.flight x
 delivered-slot P z c reads writes None keeps old x e = absurd (none-some x e)
 delivered-slot P z c reads writes (Some f) keeps old x e =
     branch (λ (d : Delivered). d.slot ≡ Some x → P.flight x) (told_at f.told c) (record { reply = Deliver.Already; slot = Some f })
@@ -199,7 +199,7 @@ module _ (P : Properties) (w : World) (keeps : Keeps w.numbers P) (good : IsGood
       core-holds P (suc (moment w)) w c (Some (record h { chunk = (cut h.chunk).chunk }))
       (λ x q. held-is P (record h { chunk = (cut h.chunk).chunk }) x q (keeps.cut h (k.held c h is))) same
 
-  granted-then : (c : ℕ) (q : CommitRequest) (writes : Marks) (v : MovedSphere) (o : CommitOutcome) → Lands P (suc (moment w)) q.sphere v → Then P w (granted w c q writes v o)
+  granted-then : (c : ℕ) (q : CommitRequest) (writes : Signature) (v : MovedSphere) (o : CommitOutcome) → Lands P (suc (moment w)) q.sphere v → Then P w (granted w c q writes v o)
   granted-then c q writes v Granted lands =
       moved-holds P w q.sphere v writes (2 ^ c) (with_core w c (held_afresh w.numbers q.sphere q.thread v.sphere)).cores lands
       (afresh-holds P (suc (moment w)) w c q.sphere q.thread v.sphere keeps lands.sphere same).held same

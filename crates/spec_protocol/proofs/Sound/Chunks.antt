@@ -14,7 +14,7 @@ use Rattle.spec_isa.proofs.MemoryLaws.{length_lays}
 use Rattle.spec_engine.specs.declared.answers.How.{How}
 use Rattle.spec_engine.specs.declared.answers.Stepped.{Stepped}
 use Rattle.spec_engine.specs.declared.answers.CutReply.{CutReply}
-use Rattle.spec_engine.specs.Signatures.{Marks, insert, line}
+use Rattle.spec_engine.specs.Signatures.{Signature, insert, line}
 use Rattle.spec_engine.specs.Flights.{Flight, first_slot, bounces}
 use Rattle.spec_engine.specs.Chunks.{Chunk, Stepping, Cutting, fresh, closes, marked, ran, at_limit, has_room, reading, storing, loading, running, step, cut_open, cut, squash, is_fourth, halved, next_squashes}
 use Rattle.spec_engine.proofs.Choosing.{keep_option, keep_choose}
@@ -61,7 +61,7 @@ pub record IsSoundIn (capacity size i : ℕ) (ch : Chunk) : Type 0 where
   pub sound : IsSoundChunk capacity size ch
 
 -- lines read and closing are no part of it
-as-closed : (capacity size i : ℕ) (ch : Chunk) (g : Marks) (o : Option How) → IsSoundIn capacity size i ch → IsSoundIn capacity size i (record ch { reads = g; closed = o })
+as-closed : (capacity size i : ℕ) (ch : Chunk) (g : Signature) (o : Option How) → IsSoundIn capacity size i ch → IsSoundIn capacity size i (record ch { reads = g; closed = o })
 as-closed capacity size i ch g o k =
     let c = k.sound in
     record {
@@ -72,7 +72,7 @@ as-closed capacity size i ch g o k =
 abbrev Steps : (capacity size i : ℕ) → Stepping → Type 0
 Steps capacity size i s = IsSoundIn capacity size i s.chunk
 
-storing-sound : (capacity size i f w : ℕ) (ch : Chunk) (g : Marks) → serial_of ch.done.thread f size ≡ None → IsSoundIn capacity size i ch → Steps capacity size i (storing capacity f w (record ch { reads = g }))
+storing-sound : (capacity size i f w : ℕ) (ch : Chunk) (g : Signature) → serial_of ch.done.thread f size ≡ None → IsSoundIn capacity size i ch → Steps capacity size i (storing capacity f w (record ch { reads = g }))
 unfolding storing at_limit
 storing-sound capacity size i f w ch g e c =
     let t = ch.done.thread in
@@ -101,7 +101,7 @@ storing-sound capacity size i f w ch g e c =
     (λ _. k))
     (λ _. as-closed capacity size i ch g (Some How.Overflow) c)
 
-reading-sound : (capacity size i : ℕ) (slots : List (Option Flight)) (core : ℕ) (ch : Chunk) (g : Marks) (a : ℕ) (then_ : Chunk → Stepping) → ((h : Marks) → Steps capacity size i (then_ (record ch { reads = h }))) → IsSoundIn capacity size i ch
+reading-sound : (capacity size i : ℕ) (slots : List (Option Flight)) (core : ℕ) (ch : Chunk) (g : Signature) (a : ℕ) (then_ : Chunk → Stepping) → ((h : Signature) → Steps capacity size i (then_ (record ch { reads = h }))) → IsSoundIn capacity size i ch
     → Steps capacity size i (reading slots core (record ch { reads = g }) a then_)
 unfolding reading
 reading-sound capacity size i slots core ch g a then_ each c =
@@ -109,7 +109,7 @@ reading-sound capacity size i slots core ch g a then_ each c =
     (λ _. each (insert (line ch.sphere a) g))
     (λ k _. as-closed capacity size i ch g ch.closed c)
 
-loading-sound : (capacity size i : ℕ) (shown : List ℕ) (slots : List (Option Flight)) (core f : ℕ) (ch : Chunk) (g : Marks) → serial_of ch.done.thread f size ≡ None → IsSoundIn capacity size i ch
+loading-sound : (capacity size i : ℕ) (shown : List ℕ) (slots : List (Option Flight)) (core f : ℕ) (ch : Chunk) (g : Signature) → serial_of ch.done.thread f size ≡ None → IsSoundIn capacity size i ch
     → Steps capacity size i (loading capacity shown slots core f (record ch { reads = g }))
 unfolding loading
 loading-sound capacity size i shown slots core f ch g e c =
@@ -117,7 +117,7 @@ loading-sound capacity size i shown slots core f ch g e c =
     (λ _. storing-sound capacity size i f 0 ch g e c)
     (λ a _. reading-sound capacity size i slots core ch g a (storing capacity f (read shown a)) (λ h. storing-sound capacity size i f (read shown a) ch h e c) c)
 
-running-sound : (capacity size i : ℕ) (shown : List ℕ) (slots : List (Option Flight)) (core f : ℕ) (ch : Chunk) (g : Marks) → length shown ≡ size → IsSoundIn capacity size i ch
+running-sound : (capacity size i : ℕ) (shown : List ℕ) (slots : List (Option Flight)) (core f : ℕ) (ch : Chunk) (g : Signature) → length shown ≡ size → IsSoundIn capacity size i ch
     → Steps capacity size i (running capacity shown slots core f (record ch { reads = g }))
 unfolding running
 running-sound capacity size i shown slots core f ch g same c =

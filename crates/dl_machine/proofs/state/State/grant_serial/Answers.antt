@@ -5,7 +5,7 @@ use Rattle.dl_entry.specs.declared.Point.{Point}
 use Rattle.spec_isa.specs.declared.thread.Parts.{Parts}
 use Rattle.spec_kernel.specs.Devices.{Devices}
 use Rattle.spec_engine.specs.Flights.{at}
-use Rattle.spec_engine.specs.Signatures.{Marks, nothing, signed}
+use Rattle.spec_engine.specs.Signatures.{Signature, nothing, signed}
 use Rattle.spec_protocol.specs.declared.reply.Reply.{Reply}
 use Rattle.spec_protocol.specs.Spheres.{Sphere, head_of, is_stopped}
 use Rattle.spec_protocol.specs.Commits.{MovedSphere, serial_moved}
@@ -70,7 +70,7 @@ returns-in-Granted-clause-world g c =
     let point : c.push_reserved.new.self.items ≡ x.points.items ++ point_in w c.args.held CommitKind.Serial 0 false ∷ [] = cc in
     let done = serial_done x.cores x.spheres x.flights x.devices x.counts x.points.items core c.args.held c.serial_step.new.self words _ _ _ d c.in_ok-moved.ensures.others point in
     subst (λ (u : World). Some c.go_on.new.self ≡ option_map (λ h. left (grant_serial u core h)) (at u.cores core)) view
-    (ap (λ (u : World). Some u) (c.go_on.ensures ∙ done ∙ ap (λ (m : Marks). with_grant w core c.args.held p words m d (point_in w c.args.held CommitKind.Serial 0 false)) marks)
+    (ap (λ (u : World). Some u) (c.go_on.ensures ∙ done ∙ ap (λ (m : Signature). with_grant w core c.args.held p words m d (point_in w c.args.held CommitKind.Serial 0 false)) marks)
     ∙ held_after left (grant_serial w core) (at w.cores core) _ after)
 
 pub returns-in-Piece-clause-reply : goal.returns-in-Piece-clause-reply
@@ -113,7 +113,7 @@ returns-in-Piece-clause-world g c =
     let point : c.push_reserved-in-Piece.new.self.items ≡ x.points.items ++ point_in w c.args.held CommitKind.Piece 0 false ∷ [] = cc in
     let done = serial_done x.cores x.spheres x.flights x.devices x.counts x.points.items core c.args.held c.serial_step.new.self words _ _ _ d c.in_ok-moved.ensures.others point in
     subst (λ (u : World). Some c.go_on-in-Piece.new.self ≡ option_map (λ h. left (grant_serial u core h)) (at u.cores core)) view
-    (ap (λ (u : World). Some u) (c.go_on-in-Piece.ensures ∙ done ∙ ap (λ (m : Marks). with_grant w core c.args.held p words m d (point_in w c.args.held CommitKind.Piece 0 false)) marks)
+    (ap (λ (u : World). Some u) (c.go_on-in-Piece.ensures ∙ done ∙ ap (λ (m : Signature). with_grant w core c.args.held p words m d (point_in w c.args.held CommitKind.Piece 0 false)) marks)
     ∙ held_after left (grant_serial w core) (at w.cores core) _ after)
 
 pub returns-in-Diverged-clause-reply : goal.returns-in-Diverged-clause-reply
