@@ -4,10 +4,10 @@ use Rattle.spec_isa.specs.declared.thread.Parts.{Parts}
 use Rattle.spec_kernel.specs.Calls as kernel
 use Rattle.dl_kernel.specs.declared.calls.Called.{Called}
 
--- at most one thread is made
-abbrev pub made_list : Option Parts → List Parts
-made_list None = []
-made_list (Some t) = t ∷ []
+-- at most one thread is spawned
+abbrev pub spawned_list : Option Parts → List Parts
+spawned_list None = []
+spawned_list (Some t) = t ∷ []
 
 abbrev pub called_in : Called → kernel.Called
-called_in c = record { thread = c.thread; made = made_list c.made; request = c.request }
+called_in c = record { thread = c.thread; spawned = spawned_list c.spawned; request = c.request }

@@ -17,7 +17,7 @@ use spec_kernel::numbers::{
 #[derive(Clone, Copy)]
 pub(crate) struct Called {
     pub(crate) thread: Parts,
-    pub(crate) made: Option<Thread>,
+    pub(crate) spawned: Option<Thread>,
     pub(crate) request: Option<Request>,
 }
 
@@ -40,7 +40,7 @@ pub(crate) fn call(
     ensures called { called_in result
         ≡ called size caller.now.number threads.now request caller.now.thread }
     ensures thread { IsThread result.thread }
-    ensures room { OnSome result.made (length threads.now < most_threads) }
+    ensures room { OnSome result.spawned (length threads.now < most_threads) }
 {
     let t = &caller.thread;
     match t.x[A7] {
@@ -73,11 +73,11 @@ fn gives(request: Option<Request>, t: &Parts, answer: u32) -> Called
     requires { IsThread t.now }
     ensures called { called_in result ≡ gives request t.now answer }
     ensures thread { IsThread result.thread }
-    ensures none { result.made ≡ None }
+    ensures none { result.spawned ≡ None }
 {
     Called {
         thread: with_result(answer, t),
-        made: None,
+        spawned: None,
         request,
     }
 }
@@ -87,7 +87,7 @@ fn exit(request: Option<Request>, t: &Parts) -> Called
     requires { IsThread t.now }
     ensures called { called_in result ≡ exit request t.now }
     ensures thread { IsThread result.thread }
-    ensures none { result.made ≡ None }
+    ensures none { result.spawned ≡ None }
 {
     let thread = Parts {
         pc: t.pc.wrapping_add(4),
@@ -96,7 +96,7 @@ fn exit(request: Option<Request>, t: &Parts) -> Called
     };
     Called {
         thread,
-        made: None,
+        spawned: None,
         request,
     }
 }
@@ -106,7 +106,7 @@ fn spawn(threads: &Threads, request: Option<Request>, t: &Parts) -> Called
     requires { IsThread t.now }
     ensures called { called_in result ≡ spawn threads.now request t.now }
     ensures thread { IsThread result.thread }
-    ensures room { OnSome result.made (length threads.now < most_threads) }
+    ensures room { OnSome result.spawned (length threads.now < most_threads) }
 {
     if threads.len() >= MOST_THREADS {
         return gives(request, t, REFUSED);
@@ -116,7 +116,7 @@ fn spawn(threads: &Threads, request: Option<Request>, t: &Parts) -> Called
     }
     Called {
         thread: with_result(u32::from(threads.len()), t),
-        made: Some(spawned(t.x[A0], t.x[A1], t.x[A2])),
+        spawned: Some(spawned(t.x[A0], t.x[A1], t.x[A2])),
         request,
     }
 }
@@ -137,7 +137,7 @@ fn set_handler(request: Option<Request>, t: &Parts) -> Called
     requires { IsThread t.now }
     ensures called { called_in result ≡ set_handler request t.now }
     ensures thread { IsThread result.thread }
-    ensures none { result.made ≡ None }
+    ensures none { result.spawned ≡ None }
 {
     let handler = t.x[A0];
     if handler % 4 != 0 {
@@ -149,7 +149,7 @@ fn set_handler(request: Option<Request>, t: &Parts) -> Called
     };
     Called {
         thread,
-        made: None,
+        spawned: None,
         request,
     }
 }
@@ -159,14 +159,14 @@ fn iret(request: Option<Request>, t: &Parts) -> Called
     requires { IsThread t.now }
     ensures called { called_in result ≡ iret request t.now }
     ensures thread { IsThread result.thread }
-    ensures none { result.made ≡ None }
+    ensures none { result.spawned ≡ None }
 {
     if !t.mask {
         return gives(request, t, REFUSED);
     }
     Called {
         thread: returned(t),
-        made: None,
+        spawned: None,
         request,
     }
 }
@@ -195,7 +195,7 @@ fn request_dma(size: u32, request: Option<Request>, t: &Parts) -> Called
     requires { IsThread t.now }
     ensures called { called_in result ≡ request_dma size request t.now }
     ensures thread { IsThread result.thread }
-    ensures none { result.made ≡ None }
+    ensures none { result.spawned ≡ None }
 {
     let (buf, len) = (t.x[A0], t.x[A1].min(MOST_BYTES as u32));
     if !is_dma_buffer(size, buf, len) {

@@ -9,12 +9,12 @@ use dl_thread::{Thread, Threads};
 
 /// Does the call of thread `thread`, whose next instruction is an ECALL that asks for nothing from outside: exit, spawn,
 /// handler, iret, dma, self, yield or ended, or one that is unknown. `size` is the number of bytes of the memory. Only
-/// this thread changes, and a thread that is made comes last.
+/// this thread changes, and a thread that is spawned comes last.
 pub fn sphere_call(threads: &mut Threads, thread: u8, request: &mut Option<Request>, size: u32)
     requires { thread < length threads.old }
     ensures threads { (t : Parts) → slice_get threads.old thread ≡ Some t →
         let c = called size thread threads.old request.old t in
-        threads.new ≡ slice_set threads.old thread c.thread ++ c.made }
+        threads.new ≡ slice_set threads.old thread c.thread ++ c.spawned }
     ensures request { (t : Parts) → slice_get threads.old thread ≡ Some t →
         request.new ≡ (called size thread threads.old request.old t).request }
     ensures others { (k : ℕ) → k < length threads.old → k ≢ thread →
@@ -30,8 +30,8 @@ pub fn sphere_call(threads: &mut Threads, thread: u8, request: &mut Option<Reque
     };
     let called = call(size, threads, *request, &caller);
     threads.set(thread, &Thread::from_parts(&called.thread));
-    if let Some(made) = called.made {
-        let _ = threads.add(&made);
+    if let Some(spawned) = called.spawned {
+        let _ = threads.add(&spawned);
     }
     *request = called.request;
 }

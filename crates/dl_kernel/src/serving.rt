@@ -40,7 +40,7 @@ pub struct Step<'a> {
 #[derive(Drop)]
 pub struct StepResult {
     pub thread: Thread,
-    pub made: Option<Thread>,
+    pub spawned: Option<Thread>,
     pub request: Option<Request>,
     pub words: Buffer,
     pub loads: Loads,
@@ -58,7 +58,7 @@ pub fn serve(
     requires { IfSome input (λ r. length r.now.bytes ≤ most_bytes) }
     ensures served { let s = step.now in
         IfOk result (λ a. result_in a ≡ serve s.number s.threads.now s.request s.thread s.memory.now (option_map (λ r. r.now) input.entry)) }
-    ensures room { IfOk result (λ a. OnSome a.made (length step.now.threads.now < most_threads)) }
+    ensures room { IfOk result (λ a. OnSome a.spawned (length step.now.threads.now < most_threads)) }
     ensures outputs { IfOk result (λ a. length a.outputs ≤ 1) }
 {
     let kind = next_kind(&step.thread, step.memory);
@@ -75,12 +75,12 @@ pub fn serve(
 // The thread, and nothing else.
 fn alone(alloc: Global, request: Option<Request>, thread: Thread) -> Result<StepResult, OutOfMemory>
     ensures served { IfOk result (λ a. result_in a ≡ alone request thread) }
-    ensures none { IfOk result (λ a. a.made ≡ None) }
+    ensures none { IfOk result (λ a. a.spawned ≡ None) }
     ensures outputs { IfOk result (λ a. length a.outputs ≤ 1) }
 {
     Ok(StepResult {
         thread,
-        made: None,
+        spawned: None,
         request,
         words: Buffer::new(alloc, 1)?,
         loads: Loads::new(alloc),
@@ -109,7 +109,7 @@ fn serve_call(
     requires { IfSome input (λ r. length r.now.bytes ≤ most_bytes) }
     ensures served { let s = step.now in
         IfOk result (λ a. result_in a ≡ serve_kind (Some Kind.Call) s.number s.threads.now s.request s.thread s.memory.now (option_map (λ r. r.now) input.entry)) }
-    ensures room { IfOk result (λ a. OnSome a.made (length step.now.threads.now < most_threads)) }
+    ensures room { IfOk result (λ a. OnSome a.spawned (length step.now.threads.now < most_threads)) }
     ensures outputs { IfOk result (λ a. length a.outputs ≤ 1) }
 {
     let number = step.thread.x()[A7];
@@ -128,7 +128,7 @@ fn outside_called(
     requires { IfSome input (λ r. length r.now.bytes ≤ most_bytes) }
     ensures served { let s = step.now in
         IfOk result (λ a. result_in a ≡ outside_called (need s.thread s.memory.now) s.request s.thread (option_map (λ r. r.now) input.entry)) }
-    ensures none { IfOk result (λ a. a.made ≡ None) }
+    ensures none { IfOk result (λ a. a.spawned ≡ None) }
     ensures outputs { IfOk result (λ a. length a.outputs ≤ 1) }
 {
     let Some(input) = input else {
@@ -142,7 +142,7 @@ fn answered_by(alloc: Global, step: &Step<'_>, input: &Input) -> Result<StepResu
     requires { length input.now.bytes ≤ most_bytes }
     ensures served { let s = step.now in
         IfOk result (λ a. result_in a ≡ outside_called (need s.thread s.memory.now) s.request s.thread (Some input.now)) }
-    ensures none { IfOk result (λ a. a.made ≡ None) }
+    ensures none { IfOk result (λ a. a.spawned ≡ None) }
     ensures outputs { IfOk result (λ a. length a.outputs ≤ 1) }
 {
     let mut buffer = [0; MOST_BYTES];
@@ -151,7 +151,7 @@ fn answered_by(alloc: Global, step: &Step<'_>, input: &Input) -> Result<StepResu
     let outputs = output_of(alloc, want, input)?;
     Ok(StepResult {
         thread: Thread::from_parts(&with_result(input.result, &step.thread.parts())),
-        made: None,
+        spawned: None,
         request: step.request,
         words,
         loads: Loads::new(alloc),
@@ -213,7 +213,7 @@ fn one_output(alloc: Global, channel: u32, bytes: &[u8]) -> Result<Outputs, OutO
 fn inside_called(alloc: Global, step: &Step<'_>) -> Result<StepResult, OutOfMemory>
     ensures served { let s = step.now in
         IfOk result (λ a. result_in a ≡ inside_called (called (length s.memory.now) s.number s.threads.now s.request s.thread)) }
-    ensures room { IfOk result (λ a. OnSome a.made (length step.now.threads.now < most_threads)) }
+    ensures room { IfOk result (λ a. OnSome a.spawned (length step.now.threads.now < most_threads)) }
     ensures outputs { IfOk result (λ a. length a.outputs ≤ 1) }
 {
     let caller = Caller {
@@ -223,7 +223,7 @@ fn inside_called(alloc: Global, step: &Step<'_>) -> Result<StepResult, OutOfMemo
     let called = call(step.memory.size(), step.threads, step.request, &caller);
     Ok(StepResult {
         thread: Thread::from_parts(&called.thread),
-        made: called.made,
+        spawned: called.spawned,
         request: called.request,
         words: Buffer::new(alloc, 1)?,
         loads: Loads::new(alloc),
@@ -243,7 +243,7 @@ fn device_loaded(
     requires { is_inside (length step.now.memory.now) step.now.thread.pc ≡ true }
     ensures served { let s = step.now in
         IfOk result (λ a. result_in a ≡ device_loaded s.request s.thread (next_operation s.thread s.memory.now) (option_map (λ r. r.now) input.entry)) }
-    ensures none { IfOk result (λ a. a.made ≡ None) }
+    ensures none { IfOk result (λ a. a.spawned ≡ None) }
     ensures outputs { IfOk result (λ a. length a.outputs ≤ 1) }
 {
     let Some(input) = input else {
@@ -263,7 +263,7 @@ fn loaded_by(
 ) -> Result<StepResult, OutOfMemory>
     ensures served { let s = step.now in
         IfOk result (λ a. result_in a ≡ device_loaded s.request s.thread (operation instr s.thread) (Some input.now)) }
-    ensures none { IfOk result (λ a. a.made ≡ None) }
+    ensures none { IfOk result (λ a. a.spawned ≡ None) }
     ensures outputs { IfOk result (λ a. length a.outputs ≤ 1) }
 {
     let Instr::Load {
@@ -306,7 +306,7 @@ fn device_stored(alloc: Global, step: &Step<'_>) -> Result<StepResult, OutOfMemo
     requires { is_inside (length step.now.memory.now) step.now.thread.pc ≡ true }
     ensures served { let s = step.now in
         IfOk result (λ a. result_in a ≡ device_stored s.request s.thread (next_operation s.thread s.memory.now)) }
-    ensures none { IfOk result (λ a. a.made ≡ None) }
+    ensures none { IfOk result (λ a. a.spawned ≡ None) }
     ensures outputs { IfOk result (λ a. length a.outputs ≤ 1) }
 {
     match decode(step.memory.word(step.thread.pc())) {
@@ -317,7 +317,7 @@ fn device_stored(alloc: Global, step: &Step<'_>) -> Result<StepResult, OutOfMemo
 
 fn stored_by(alloc: Global, step: &Step<'_>, instr: Instr) -> Result<StepResult, OutOfMemory>
     ensures served { IfOk result (λ a. result_in a ≡ device_stored step.now.request step.now.thread (operation instr step.now.thread)) }
-    ensures none { IfOk result (λ a. a.made ≡ None) }
+    ensures none { IfOk result (λ a. a.spawned ≡ None) }
     ensures outputs { IfOk result (λ a. length a.outputs ≤ 1) }
 {
     let Instr::Store { rs2, .. } = instr else {

@@ -21,7 +21,7 @@ use Rattle.spec_play.specs.Transfers.{DmaVerdict, DmaGoes}
 use Rattle.spec_play.specs.Turns.{Now, now_at, turn_of, at_end, is_size_used, are_sizes_used, has_left_over}
 use Rattle.spec_play.specs.Verdicts.{LogVerdict, Goes}
 use Rattle.spec_protocol.proofs.Moves.Threads.{AreNew}
-use Rattle.dl_kernel.specs.Calls.{made_list}
+use Rattle.dl_kernel.specs.Calls.{spawned_list}
 use Rattle.dl_replay.specs.Replaying.{Replaying, Agrees, replay_start, commits_at, commits_of}
 use Rattle.dl_replay.specs.Replays.{now_for, advanced}
 use Rattle.dl_kernel.specs.StepResults.{result_in}
@@ -71,10 +71,10 @@ advanced-same r same new ts e m =
 abbrev AreBelow : ℕ → List Parts → Type 0
 AreBelow n ts = (j : ℕ) → commits_at (slice_get ts j) ≤ n
 
-made-below : (n : ℕ) (made : Option Parts) → AreNew (made_list made) → AreBelow n (made_list made)
-made-below n None new j = omega arith
-made-below n (Some t) new zero = omega (arith, new.0.commits)
-made-below n (Some t) new (suc j) = omega arith
+spawned-below : (n : ℕ) (spawned : Option Parts) → AreNew (spawned_list spawned) → AreBelow n (spawned_list spawned)
+spawned-below n None new j = omega arith
+spawned-below n (Some t) new zero = omega (arith, new.0.commits)
+spawned-below n (Some t) new (suc j) = omega arith
 
 append-below : (n : ℕ) (ts us : List Parts) → AreBelow n ts → AreBelow n us → AreBelow n (ts ++ us)
 append-below n [] us h l j = l j
@@ -95,18 +95,18 @@ thread-below n ts commits k t few e h is =
     let same : slice_index commits k ≡ t.commits = ap (λ (xs : List ℕ). slice_index xs k) e ∙ commits-found ts k few ∙ ap commits_at is in
     omega (arith, same, h k)
 
-settled-few : (ts : List Parts) (k : ℕ) (t : Parts) (made : Option Parts) → length ts ≤ 15 → OnSome made (length ts < 15) → length (slice_set ts k t ++ made_list made) ≤ 15
+settled-few : (ts : List Parts) (k : ℕ) (t : Parts) (spawned : Option Parts) → length ts ≤ 15 → OnSome spawned (length ts < 15) → length (slice_set ts k t ++ spawned_list spawned) ≤ 15
 settled-few ts k t None few room = omega (arith, length-append (slice_set ts k t) [], length-set ts k t)
 settled-few ts k t (Some u) few room = omega (arith, length-append (slice_set ts k t) (u ∷ []), length-set ts k t)
 
 -- no thread has done more than one commit more than before
-pub settled-below : (n : ℕ) (ts us : List Parts) (commits : List ℕ) (k : ℕ) (t : Parts) (made : Option Parts) → length ts ≤ 15 → OnSome made (length ts < 15) → commits ≡ commits_of ts
-    → ((j : ℕ) → slice_index commits j ≤ n) → t.commits ≤ n + 1 → AreNew (made_list made) → us ≡ slice_set ts k t ++ made_list made
+pub settled-below : (n : ℕ) (ts us : List Parts) (commits : List ℕ) (k : ℕ) (t : Parts) (spawned : Option Parts) → length ts ≤ 15 → OnSome spawned (length ts < 15) → commits ≡ commits_of ts
+    → ((j : ℕ) → slice_index commits j ≤ n) → t.commits ≤ n + 1 → AreNew (spawned_list spawned) → us ≡ slice_set ts k t ++ spawned_list spawned
     → (j : ℕ) → slice_index (commits_of us) j ≤ n + 1
-settled-below n ts us commits k t made few room e h l new is j =
+settled-below n ts us commits k t spawned few room e h l new is j =
     let before : AreBelow n ts = λ i. let same : slice_index commits i ≡ commits_at (slice_get ts i) = ap (λ (xs : List ℕ). slice_index xs i) e ∙ commits-found ts i few in omega (arith, same, h i) in
-    let after : AreBelow (n + 1) us = subst (AreBelow (n + 1)) (sym is) (append-below (n + 1) (slice_set ts k t) (made_list made) (set-below n ts k t before l) (made-below (n + 1) made new)) in
-    let few2 : length us ≤ 15 = rw is (settled-few ts k t made few room) in
+    let after : AreBelow (n + 1) us = subst (AreBelow (n + 1)) (sym is) (append-below (n + 1) (slice_set ts k t) (spawned_list spawned) (set-below n ts k t before l) (spawned-below (n + 1) spawned new)) in
+    let few2 : length us ≤ 15 = rw is (settled-few ts k t spawned few room) in
     omega (arith, commits-found us j few2, after j)
 
 -- ---- what is answered
@@ -147,14 +147,14 @@ module _ (r : Replaying) (p : Progress) (request : Option Request) (served : Ser
 
   -- a serial step that goes advances the replay as judging it by its verdict does
   pub step-goes : (k : ℕ) (ts us : List Parts) (now : Served) (d : Done) (v : LogVerdict)
-      → Agrees r p → step_verdict k (Ok d) ≡ v → out ≡ Went → us ≡ slice_set ts k d.finish.thread ++ made_list d.left.made
+      → Agrees r p → step_verdict k (Ok d) ≡ v → out ≡ Went → us ≡ slice_set ts k d.finish.thread ++ spawned_list d.left.spawned
       → new ≡ advanced r.log (r.done + 1) (Some k) (used_seen d.finish.used) us
       → now.words ≡ served.words ++ d.left.words.words → now.loads ≡ served.loads ++ d.left.loads → now.outputs ≡ served.outputs ++ d.left.outputs
       → record { verdict = out; replay = new; threads = us; request = d.left.request; served = now } ≡ serial_judged r p k ts request served v
   step-goes k ts us now d v a e o t m w l x =
       let effect : Effect = record (serial_effect k (result_in d.left)) { thread = d.finish.thread } in
       let u = used_seen d.finish.used in
-      let after = slice_set ts k d.finish.thread ++ made_list d.left.made in
+      let after = slice_set ts k d.finish.thread ++ spawned_list d.left.spawned in
       let replay : new ≡ committed r p k effect u after =
       m ∙ ap (λ (xs : List Parts). advanced r.log (r.done + 1) (Some k) u xs) t ∙ committed-is r p k effect u after a in
       let judged : record { verdict = out; replay = new; threads = us; request = d.left.request; served = now } ≡ serial_judged r p k ts request served (Goes effect u) =

@@ -2,7 +2,7 @@
 ghost use Rattle.std.specs.Prelude.{◌≡◌, ◌+◌, ◌++◌, ◌<◌, ◌≤◌, ◌^◌, Some, OnSome, length, slice_get, slice_set};
 ghost use Rattle.spec_kernel.specs.Interrupts.{takes_interrupt, interrupted, is_live};
 ghost use Rattle.spec_play.specs.Effects.{counted};
-ghost use Rattle.dl_kernel.specs.Calls.{made_list};
+ghost use Rattle.dl_kernel.specs.Calls.{spawned_list};
 ghost use Rattle.dl_replay.specs.Replaying.{commits_at, commits_of};
 
 use dl_thread::{Parts, Thread, ThreadStatus, Threads};
@@ -85,14 +85,14 @@ pub fn thread_at(threads: &Threads, number: u8) -> Thread
     }
 }
 
-/// Puts a thread in the place of another, and one that was made behind all.
-pub fn settle(threads: &mut Threads, number: u8, thread: &Thread, made: Option<Thread>)
+/// Puts a thread in the place of another, and one that was spawned behind all.
+pub fn settle(threads: &mut Threads, number: u8, thread: &Thread, spawned: Option<Thread>)
     requires thread { number < length threads.old }
-    requires room { OnSome made (length threads.old < 15) }
-    ensures { threads.new ≡ slice_set threads.old number thread.now ++ made_list made }
+    requires room { OnSome spawned (length threads.old < 15) }
+    ensures { threads.new ≡ slice_set threads.old number thread.now ++ spawned_list spawned }
 {
     threads.set(number, thread);
-    if let Some(made) = made {
-        threads.add(&made);
+    if let Some(spawned) = spawned {
+        threads.add(&spawned);
     }
 }

@@ -7,7 +7,7 @@ ghost use Rattle.spec_play.specs.Progress.{Progress, position};
 ghost use Rattle.spec_play.specs.Verdicts.{ended, chunk_why, chunk_verdict, serial_why, given, serial_verdict};
 ghost use Rattle.spec_play.specs.Transfers.{is_for, dma_verdict};
 ghost use Rattle.spec_protocol.proofs.Moves.Threads.{AreNew};
-ghost use Rattle.dl_kernel.specs.Calls.{made_list};
+ghost use Rattle.dl_kernel.specs.Calls.{spawned_list};
 ghost use Rattle.dl_replay.specs.Seen.{used_seen};
 ghost use Rattle.dl_replay.specs.Judging.{verdict_of, given_by, step_verdict, transfer_seen, transfer_verdict};
 
@@ -119,8 +119,8 @@ pub fn judge_step<M: Mode>(
         IfOk result (λ r. step_verdict s.number r ≡ serial_verdict log.now p (used_seen used) s.number s.threads.now s.thread s.memory.now) }
     ensures commits { IfOk result (λ r. IfOk r (λ d. d.finish.thread.commits ≡ step.now.thread.commits + 1)) }
     ensures interrupts { IfOk result (λ r. IfOk r (λ d. d.finish.used.interrupts ≤ used.interrupts + 1)) }
-    ensures made { IfOk result (λ r. IfOk r (λ d. AreNew (made_list d.left.made))) }
-    ensures room { IfOk result (λ r. IfOk r (λ d. OnSome d.left.made (length step.now.threads.now < 15))) }
+    ensures spawned { IfOk result (λ r. IfOk r (λ d. AreNew (spawned_list d.left.spawned))) }
+    ensures room { IfOk result (λ r. IfOk r (λ d. OnSome d.left.spawned (length step.now.threads.now < 15))) }
 {
     let size = log.size(Actor::Thread(step.number), step.thread.commits());
     if let Some(why) = serial_why(size) {

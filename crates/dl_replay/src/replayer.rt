@@ -10,7 +10,7 @@ ghost use Rattle.spec_play.specs.Verdicts.{chunk_verdict, serial_verdict};
 ghost use Rattle.spec_play.specs.Transfers.{dma_verdict};
 ghost use Rattle.spec_protocol.specs.Spheres.{Replay, actor_of, limit_in, limit_of, pieces_of};
 ghost use Rattle.spec_protocol.proofs.Moves.Threads.{AreNew};
-ghost use Rattle.dl_kernel.specs.Calls.{made_list};
+ghost use Rattle.dl_kernel.specs.Calls.{spawned_list};
 ghost use Rattle.dl_replay.specs.Seen.{used_seen};
 ghost use Rattle.dl_replay.specs.Replaying.{Agrees, IsTurnOf, replay_start, commits_of, cursor_of, end_of};
 ghost use Rattle.dl_replay.specs.Replays.{advanced};
@@ -242,7 +242,7 @@ impl<M: Mode> Replayer<M> {
             Ok(done) => {
                 served.add(self.alloc, &done.left)?;
                 *request = done.left.request;
-                Ok(self.commit(number, &done.finish, done.left.made, threads))
+                Ok(self.commit(number, &done.finish, done.left.spawned, threads))
             }
             Err(why) => Ok(self.diverge(why)),
         }
@@ -280,7 +280,7 @@ impl<M: Mode> Replayer<M> {
         match judge_step(self.alloc, &self.log, self.place.used, &step)? {
             Ok(done) => {
                 *request = done.left.request;
-                self.commit(number, &done.finish, done.left.made, threads);
+                self.commit(number, &done.finish, done.left.spawned, threads);
                 Ok(Ok(done.left))
             }
             Err(why) => {
@@ -402,7 +402,7 @@ impl<M: Mode> Replayer<M> {
         &mut self,
         number: u8,
         finish: &Finish,
-        made: Option<Thread>,
+        spawned: Option<Thread>,
         threads: &mut Threads,
     ) -> Verdict
         requires left { self.old.done < self.old.log.count }
@@ -412,13 +412,13 @@ impl<M: Mode> Replayer<M> {
         requires below { (k : ℕ) → slice_index self.old.commits k ≤ self.old.done }
         requires counted { finish.now.thread.commits ≤ self.old.done + 1 }
         requires interrupts { finish.now.used.interrupts ≤ self.old.used.interrupts + 1 }
-        requires made { AreNew (made_list made) }
-        requires room { OnSome made (length threads.old < 15) }
+        requires spawned { AreNew (spawned_list spawned) }
+        requires room { OnSome spawned (length threads.old < 15) }
         ensures verdict { result ≡ Verdict.Went }
-        ensures threads { threads.new ≡ slice_set threads.old number finish.now.thread ++ made_list made }
+        ensures threads { threads.new ≡ slice_set threads.old number finish.now.thread ++ spawned_list spawned }
         ensures replay { self.new ≡ advanced self.old.log (self.old.done + 1) (Some number) (used_seen finish.now.used) threads.new }
     {
-        settle(threads, number, &finish.thread, made);
+        settle(threads, number, &finish.thread, spawned);
         self.advance(finish.used, Some(number), threads)
     }
 

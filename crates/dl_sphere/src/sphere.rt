@@ -160,7 +160,7 @@ impl Sphere {
             moment,
         )?;
         let after = counted(&left.thread);
-        settle(&mut self.threads, thread, &after, left.made);
+        settle(&mut self.threads, thread, &after, left.spawned);
         self.request = left.request;
         self.last = Some(thread);
         Ok(Moved::Granted(left.words))

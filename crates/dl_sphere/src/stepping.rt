@@ -5,7 +5,7 @@ ghost use Rattle.spec_kernel.specs.Serving.{console_written};
 ghost use Rattle.spec_log.specs.Log.{IsInput};
 ghost use Rattle.spec_play.specs.Effects.{serial_commit};
 ghost use Rattle.spec_protocol.specs.Sound.{HaveByteInput};
-ghost use Rattle.dl_kernel.specs.Calls.{made_list};
+ghost use Rattle.dl_kernel.specs.Calls.{spawned_list};
 ghost use Rattle.dl_sphere.specs.Roles.{keeping_of, with_noted, CanNote};
 ghost use Rattle.dl_sphere.specs.Stepping.{taken_by, served_by, commit_by};
 
@@ -18,12 +18,12 @@ use dl_thread::Thread;
 use dl_wbuf::Buffer;
 use std::alloc::Global;
 
-// What a step leaves of its sphere, but for the commit: its thread, the thread that it made, the outstanding DMA request, and
+// What a step leaves of its sphere, but for the commit: its thread, the thread that it spawned, the outstanding DMA request, and
 // the words to fly.
 #[derive(Drop)]
 pub(crate) struct Left {
     pub(crate) thread: Thread,
-    pub(crate) made: Option<Thread>,
+    pub(crate) spawned: Option<Thread>,
     pub(crate) request: Option<Request>,
     pub(crate) words: Buffer,
 }
@@ -42,8 +42,8 @@ pub(crate) fn live_step(
     requires bytes { IsBytes step.now.memory.now }
     requires devices { HaveByteInput devices.old }
     ensures thread { IfOk result (λ l. l.thread ≡ (served_by step.now devices.old moment).thread) }
-    ensures made { IfOk result (λ l. made_list l.made ≡ (served_by step.now devices.old moment).made) }
-    ensures room { IfOk result (λ l. OnSome l.made (length step.now.threads.now < 15)) }
+    ensures spawned { IfOk result (λ l. spawned_list l.spawned ≡ (served_by step.now devices.old moment).spawned) }
+    ensures room { IfOk result (λ l. OnSome l.spawned (length step.now.threads.now < 15)) }
     ensures request { IfOk result (λ l. l.request ≡ (served_by step.now devices.old moment).request) }
     ensures words { IfOk result (λ l. l.words.words ≡ (served_by step.now devices.old moment).words) }
     ensures commits { OnOk result (commits.new.items ≡ commits.old.items ++ commit_by step.now devices.old moment ∷ []) }
@@ -59,7 +59,7 @@ pub(crate) fn live_step(
     let served = serve(alloc, step, input.as_ref())?;
     let StepResult {
         thread,
-        made,
+        spawned,
         request,
         words,
         loads,
@@ -73,7 +73,7 @@ pub(crate) fn live_step(
     commits.push_reserved(commit);
     Ok(Left {
         thread,
-        made,
+        spawned,
         request,
         words,
     })

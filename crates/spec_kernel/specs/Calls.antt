@@ -16,7 +16,7 @@ use Rattle.spec_kernel.specs.Interrupts.{is_live}
 -- what a call leaves: the thread, the threads that it spawned, and the outstanding DMA request
 pub record Called : Type 0 where
   pub thread : Parts
-  pub made : List Parts
+  pub spawned : List Parts
   pub request : Option Request
 
 -- the thread with a result
@@ -25,12 +25,12 @@ with_result result t = at_pc t register_a0 result (following t)
 
 -- a result, and nothing else
 abbrev pub gives : Option Request → Parts → (result : ℕ) → Called
-gives request t result = record { thread = with_result result t; made = []; request = request }
+gives request t result = record { thread = with_result result t; spawned = []; request = request }
 
 -- exit: the thread ends with the code; a0 stays
 abbrev pub exit : Option Request → Parts → Called
 exit request t =
-    record { thread = record t { pc = following t; status = ThreadStatus.Ended (a0 t) }; made = []; request = request }
+    record { thread = record t { pc = following t; status = ThreadStatus.Ended (a0 t) }; spawned = []; request = request }
 
 -- a new thread at an entry, with its stack pointer, and with the argument in a0
 abbrev pub spawned : (entry sp arg : ℕ) → Parts
@@ -41,14 +41,14 @@ spawned entry sp arg =
 abbrev pub spawn : List Parts → Option Request → Parts → Called
 spawn threads request t =
     if nat_lt (length threads) most_threads && nat_eq (a0 t % 4) 0
-    then record { thread = with_result (length threads) t; made = spawned (a0 t) (a1 t) (a2 t) ∷ []; request = request }
+    then record { thread = with_result (length threads) t; spawned = spawned (a0 t) (a1 t) (a2 t) ∷ []; request = request }
     else gives request t refused
 
 -- handler: where interrupts go, 0 for none; refused where that is no place in code
 abbrev pub set_handler : Option Request → Parts → Called
 set_handler request t =
     if nat_eq (a0 t % 4) 0
-    then record { thread = with_result 0 (record t { handler = a0 t }); made = []; request = request }
+    then record { thread = with_result 0 (record t { handler = a0 t }); spawned = []; request = request }
     else gives request t refused
 
 -- the thread where its interrupt came, with the pc, a0 and a1 of then
@@ -66,7 +66,7 @@ returned t =
 -- iret: the handler returns; refused where none runs
 abbrev pub iret : Option Request → Parts → Called
 iret request t =
-    if t.mask then record { thread = returned t; made = []; request = request } else gives request t refused
+    if t.mask then record { thread = returned t; spawned = []; request = request } else gives request t refused
 
 -- a buffer for a DMA is words, with one word before the bytes
 abbrev pub is_dma_buffer : (size buf len : ℕ) → Bool

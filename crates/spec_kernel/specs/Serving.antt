@@ -22,7 +22,7 @@ use Rattle.spec_kernel.specs.Calls.{Called, called, with_result}
 -- kernel stored for it, and what the account tells of it. No other thread changes
 pub record StepResult : Type 0 where
   pub thread : Parts
-  pub made : List Parts
+  pub spawned : List Parts
   pub request : Option Request
   pub words : List Stored
   pub loads : List Load
@@ -30,7 +30,7 @@ pub record StepResult : Type 0 where
 
 -- the thread alone
 abbrev pub alone : Option Request → Parts → StepResult
-alone request t = record { thread = t; made = []; request = request; words = []; loads = []; outputs = [] }
+alone request t = record { thread = t; spawned = []; request = request; words = []; loads = []; outputs = [] }
 
 -- ---- calls
 
@@ -61,7 +61,7 @@ outside_called need request t None = alone request (with_result bad_buffer t)
 outside_called need request t (Some r) =
     record {
       thread = with_result r.result t;
-      made = [];
+      spawned = [];
       request = request;
       words = copy_of need r;
       loads = [];
@@ -69,7 +69,7 @@ outside_called need request t (Some r) =
     }
 
 abbrev pub inside_called : Called → StepResult
-inside_called c = record { thread = c.thread; made = c.made; request = c.request; words = []; loads = []; outputs = [] }
+inside_called c = record { thread = c.thread; spawned = c.spawned; request = c.request; words = []; loads = []; outputs = [] }
 
 -- the calls from write to clock, which stand between spawn and handler, go outside
 abbrev pub is_outside : Parts → Bool

@@ -16,7 +16,7 @@ use Rattle.spec_kernel.specs.Serving.{StepResult}
 -- accounts tell it
 pub record Effect : Type 0 where
   pub thread : Parts
-  pub made : List Parts
+  pub spawned : List Parts
   pub words : List Stored
   pub request : Option Request
   pub commit : Commit
@@ -36,7 +36,7 @@ chunk_commit k r =
 -- of a chunk of thread k, which is a run
 abbrev pub chunk_effect : (thread : ℕ) → Option Request → Run → Effect
 chunk_effect k request r =
-    record { thread = counted r.thread; made = []; words = r.words; request = request; commit = chunk_commit k r }
+    record { thread = counted r.thread; spawned = []; words = r.words; request = request; commit = chunk_commit k r }
 
 abbrev pub serial_commit : (thread : ℕ) → List EntryLoad → List Output → Commit
 serial_commit k loads outputs =
@@ -47,7 +47,7 @@ abbrev pub serial_effect : (thread : ℕ) → StepResult → Effect
 serial_effect k v =
     record {
       thread = counted v.thread;
-      made = v.made;
+      spawned = v.spawned;
       words = v.words;
       request = v.request;
       commit = serial_commit k v.loads v.outputs;

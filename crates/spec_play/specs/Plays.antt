@@ -40,7 +40,7 @@ opened log memory entry =
 
 -- thread k has this state now, and the spawned ones stand behind all others
 abbrev pub with_threads : (thread : ℕ) → Effect → List Parts → List Parts
-with_threads k e threads = slice_set threads k e.thread ++ e.made
+with_threads k e threads = slice_set threads k e.thread ++ e.spawned
 
 abbrev pub settled : LogParts → Played → (thread : ℕ) → LogVerdict → Played
 settled log y k (Fails why) = record y { now = Over (End.Diverged (position y.progress) why) }

@@ -25,7 +25,7 @@ abbrev pub moved_by : List ℕ → List Parts → List Commit → (k : ℕ) → 
 moved_by m ts cs k t g v role =
     record {
       outcome = Granted;
-      sphere = sphere_with m (set ts k (counted v.thread) ++ v.made) (cs ++ serial_commit k v.loads v.outputs ∷ []) (Some k) v.request role;
+      sphere = sphere_with m (set ts k (counted v.thread) ++ v.spawned) (cs ++ serial_commit k v.loads v.outputs ∷ []) (Some k) v.request role;
       words = v.words;
       devices = console_written t m v.outputs g.devices;
     }

@@ -1,7 +1,7 @@
 -- What is true of every sphere stays true as it commits, transfers and takes interrupts.
 use Rattle.std.proofs.Common.{◌≡◌, ℕ, suc, ◌+◌, ◌<◌, ◌≤◌, Bool, true, false, ◌&&◌, not, List, [], ◌∷◌, ◌++◌, length, Option, Some, None, slice_index, refl, sym, ap, ◌∙◌, subst, arith, inl, inr, set, get_or-set_same, get_or-set_other, length-set, length-append, append-nil}
 use Rattle.std.specs.Prelude.{slice_get, OnSome}
-use Rattle.dl_kernel.specs.Calls.{made_list}
+use Rattle.dl_kernel.specs.Calls.{spawned_list}
 use Rattle.std.proofs.lemmas.Bool.{cases_eq, and_parts, true≢false}
 use Rattle.dl_entry.specs.declared.Actor.{Actor}
 use Rattle.dl_entry.specs.declared.Commit.{Commit}
@@ -26,14 +26,14 @@ use Rattle.dl_sphere.specs.Roles.{Keeping, Plain, Recording, Replaying, role_of,
 
 -- ---- the commit of a thread
 
--- thread k, which was t and is u, has committed c, with a record or without, and has made these threads
-pub record Commits (p q : Sphere) (k : ℕ) (t u : Parts) (made : List Parts) (c : Commit) : Type 0 where
+-- thread k, which was t and is u, has committed c, with a record or without, and has spawned these threads
+pub record Commits (p q : Sphere) (k : ℕ) (t u : Parts) (spawned : List Parts) (c : Commit) : Type 0 where
   pub start : slice_get p.threads k ≡ Some t
   pub within : k ≤ 14
-  pub threads : q.threads ≡ set p.threads k u ++ made
+  pub threads : q.threads ≡ set p.threads k u ++ spawned
   pub few : length q.threads ≤ 15
   pub commits : u.commits ≡ t.commits + 1
-  pub new : AreNew made
+  pub new : AreNew spawned
   pub position_ : position q.progress ≡ suc (position p.progress)
   pub actor : c.actor ≡ Actor.Thread k
 
@@ -42,8 +42,8 @@ pub log_with : (r : Recorded) (c : Commit) (early : Bool) (o : Option Input) →
 log_with r c early None = refl
 log_with r c early (Some i) = refl
 
--- Thread k of the sphere p, which was t and is u, has committed c and made these threads, and the sphere is q.
-module _ (p q : Sphere) (k : ℕ) (t u : Parts) (made : List Parts) (c : Commit) (d : Commits p q k t u made c) where
+-- Thread k of the sphere p, which was t and is u, has committed c and spawned these threads, and the sphere is q.
+module _ (p q : Sphere) (k : ℕ) (t u : Parts) (spawned : List Parts) (c : Commit) (d : Commits p q k t u spawned c) where
   -- what a recorder keeps then is the log with the commit noted as the one that the thread did next
   commits_noted : (s : ℕ) (r : Recorded) (early : Bool) (o : Option Input) → HasRecorded s p r → as_log (with_commit c early o None r) ≡ input_noted o (noted c t.commits early (as_log r))
   commits_noted s r early o h =
@@ -62,9 +62,9 @@ module _ (p q : Sphere) (k : ℕ) (t u : Parts) (made : List Parts) (c : Commit)
       ∙ elim (cases_eq j k) as (λ _. slice_index more j ≡ commits_in q.threads j) [
         | inl e ↦
             subst (λ (n : ℕ). slice_index more n ≡ commits_in q.threads n) (sym e)
-            (get_or-set_same done k (slice_index done k + 1) 0 within ∙ ap (λ n. n + 1) was ∙ sym d.commits ∙ sym (ap (λ ts. commits_in ts k) d.threads ∙ commits-same p.threads made k t u d.start))
+            (get_or-set_same done k (slice_index done k + 1) 0 within ∙ ap (λ n. n + 1) was ∙ sym d.commits ∙ sym (ap (λ ts. commits_in ts k) d.threads ∙ commits-same p.threads spawned k t u d.start))
         | inr ne ↦
-            get_or-set_other done k j (slice_index done k + 1) 0 ne ∙ h.done j ∙ sym (ap (λ ts. commits_in ts j) d.threads ∙ commits-other p.threads made k j u d.new ne)
+            get_or-set_other done k j (slice_index done k + 1) 0 ne ∙ h.done j ∙ sym (ap (λ ts. commits_in ts j) d.threads ∙ commits-other p.threads spawned k j u d.new ne)
       ]
 
   few-at : ((j : ℕ) → commits_in p.threads j ≤ position p.progress) → (j : ℕ) → commits_in q.threads j ≤ position q.progress
@@ -72,11 +72,11 @@ module _ (p q : Sphere) (k : ℕ) (t u : Parts) (made : List Parts) (c : Commit)
       elim (cases_eq j k) [
         | inl e ↦
             subst (λ (n : ℕ). commits_in q.threads n ≤ position q.progress) (sym e)
-            (let is : commits_in q.threads k ≡ u.commits = ap (λ ts. commits_in ts k) d.threads ∙ commits-same p.threads made k t u d.start in
+            (let is : commits_in q.threads k ≡ u.commits = ap (λ ts. commits_in ts k) d.threads ∙ commits-same p.threads spawned k t u d.start in
             let was : commits_in p.threads k ≡ t.commits = ap commits_if d.start in
             let f = few k in let more = d.commits in let n = d.position_ in omega arith)
         | inr ne ↦
-            let is : commits_in q.threads j ≡ commits_in p.threads j = ap (λ ts. commits_in ts j) d.threads ∙ commits-other p.threads made k j u d.new ne in
+            let is : commits_in q.threads j ≡ commits_in p.threads j = ap (λ ts. commits_in ts j) d.threads ∙ commits-other p.threads spawned k j u d.new ne in
             let f = few j in let n = d.position_ in omega arith
       ]
 
@@ -87,7 +87,7 @@ module _ (p q : Sphere) (k : ℕ) (t u : Parts) (made : List Parts) (c : Commit)
   keeping-after s early o Plain live h = few-after h
   keeping-after s early o (Replaying r loads) live h = absurd live
   keeping-after s early o (Recording r) live h =
-      let commit : ThreadCommit = record { thread = k; before = t; after = u; spawned = made; commit = c; short = early; input = o } in
+      let commit : ThreadCommit = record { thread = k; before = t; after = u; spawned = spawned; commit = c; short = early; input = o } in
       let has : HasCommitted commit p q (as_log r) (as_log (with_commit c early o None r)) =
       record {
         start = d.start;
@@ -179,12 +179,12 @@ raised_role k i value Plain = refl
 raised_role k i value (Recording r) = refl
 raised_role k i value (Replaying r loads) = refl
 
--- a thread is made only where there is a place for it
-pub threads_few : (ts : List Parts) (k : ℕ) (u : Parts) (made : Option Parts) (after : List Parts) → after ≡ set ts k u ++ made_list made → OnSome made (length ts < 15) → length ts ≤ 15 → length after ≤ 15
+-- a thread is spawned only where there is a place for it
+pub threads_few : (ts : List Parts) (k : ℕ) (u : Parts) (spawned : Option Parts) (after : List Parts) → after ≡ set ts k u ++ spawned_list spawned → OnSome spawned (length ts < 15) → length ts ≤ 15 → length after ≤ 15
 threads_few ts k u None after is room few =
     let n : length after ≡ length ts = ap length is ∙ ap length (append-nil (set ts k u)) ∙ length-set ts k u in omega arith
-threads_few ts k u (Some made) after is room few =
-    let n : length after ≡ length ts + 1 = ap length is ∙ length-append (set ts k u) (made ∷ []) ∙ ap (λ n. n + 1) (length-set ts k u) in
+threads_few ts k u (Some spawned) after is room few =
+    let n : length after ≡ length ts + 1 = ap length is ∙ length-append (set ts k u) (spawned ∷ []) ∙ ap (λ n. n + 1) (length-set ts k u) in
     let l : length ts < 15 = room in
     omega arith
 

@@ -29,33 +29,33 @@ at-set_parts (t ∷ ts) (suc k) (suc j) u x e = deeper ts t k j u x (at-set_part
 
 -- ---- a commit
 
-none-after : (ts made : List Parts) (k j : ℕ) (u : Parts) → slice_get (set ts k u ++ made) j ≡ None → slice_get ts j ≡ None
-none-after ts made k j u e = set_none ts k j u (append_none (set ts k u) made j e)
+none-after : (ts spawned : List Parts) (k j : ℕ) (u : Parts) → slice_get (set ts k u ++ spawned) j ≡ None → slice_get ts j ≡ None
+none-after ts spawned k j u e = set_none ts k j u (append_none (set ts k u) spawned j e)
 
 -- the thread of number j after the commit: the committer, one that was there, or a new one
 abbrev Becomes : (ts : List Parts) (k j : ℕ) (u x : Parts) → Type 0
 Becomes ts k j u x = ((j ≡ k) × (u ≡ x)) ⊎ ((slice_get ts j ≡ Some x) ⊎ (slice_get ts j ≡ None))
 
-becomes : (ts made : List Parts) (k j : ℕ) (u x : Parts) → slice_get (set ts k u ++ made) j ≡ Some x → Becomes ts k j u x
-becomes ts made k j u x e =
-    elim (get_cases (set ts k u) made j x e) [
+becomes : (ts spawned : List Parts) (k j : ℕ) (u x : Parts) → slice_get (set ts k u ++ spawned) j ≡ Some x → Becomes ts k j u x
+becomes ts spawned k j u x e =
+    elim (get_cases (set ts k u) spawned j x e) [
       | inl q ↦ elim (at-set_parts ts k j u x q) [ inl p ↦ inl p | inr p ↦ inr (inl p.1) ]
       | inr q ↦ inr (inr (set_none ts k j u q.0))
     ]
 
 -- interrupts that are fresh stay so when a thread commits once more
-pub fresh-commit : (ts made : List Parts) (k : ℕ) (t u : Parts) (is : List Interrupt) → slice_get ts k ≡ Some t → u.commits ≡ t.commits + 1 → AreFresh ts is → AreFresh (set ts k u ++ made) is
-fresh-commit ts made k t u is there commits fresh =
+pub fresh-commit : (ts spawned : List Parts) (k : ℕ) (t u : Parts) (is : List Interrupt) → slice_get ts k ≡ Some t → u.commits ≡ t.commits + 1 → AreFresh ts is → AreFresh (set ts k u ++ spawned) is
+fresh-commit ts spawned k t u is there commits fresh =
     record {
-      later = λ j i x e l. elim (becomes ts made k j u x e) [
+      later = λ j i x e l. elim (becomes ts spawned k j u x e) [
         | inl p ↦ (let c = ap (λ (y : Parts). y.commits) p.1 in ap (λ (n : ℕ). interrupt_at is n i) p.0 ∙ fresh.later k i t there (omega (arith, l, c, commits)))
         | inr p ↦ elim p [ inl q ↦ fresh.later j i x q l | inr q ↦ fresh.absent j i q ]
       ];
-      unmasked = λ j x e mask. elim (becomes ts made k j u x e) [
+      unmasked = λ j x e mask. elim (becomes ts spawned k j u x e) [
         | inl p ↦ (let c = ap (λ (y : Parts). y.commits) p.1 in ap (λ (n : ℕ). interrupt_at is n x.commits) p.0 ∙ fresh.later k x.commits t there (omega (arith, c, commits)))
         | inr p ↦ elim p [ inl q ↦ fresh.unmasked j x q mask | inr q ↦ fresh.absent j x.commits q ]
       ];
-      absent = λ j i e. fresh.absent j i (none-after ts made k j u e);
+      absent = λ j i e. fresh.absent j i (none-after ts spawned k j u e);
     }
 
 -- ---- an interrupt

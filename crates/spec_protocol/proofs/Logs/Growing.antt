@@ -28,23 +28,23 @@ use Rattle.spec_protocol.proofs.Logs.Lookups.{short_at, short-other, count_of, c
 
 -- ---- the commits of threads
 
-new_commits : (made : List Parts) (j : ℕ) → AreNew made → commits_in made j ≡ 0
+new_commits : (spawned : List Parts) (j : ℕ) → AreNew spawned → commits_in spawned j ≡ 0
 new_commits [] j new = refl
-new_commits (m ∷ made) zero new = new.0.commits
-new_commits (m ∷ made) (suc j) new = new_commits made j new.1
+new_commits (m ∷ spawned) zero new = new.0.commits
+new_commits (m ∷ spawned) (suc j) new = new_commits spawned j new.1
 
-append_commits : (ts made : List Parts) (j : ℕ) → AreNew made → commits_in (ts ++ made) j ≡ commits_in ts j
-append_commits [] made j new = new_commits made j new
-append_commits (t ∷ ts) made zero new = refl
-append_commits (t ∷ ts) made (suc j) new = append_commits ts made j new
+append_commits : (ts spawned : List Parts) (j : ℕ) → AreNew spawned → commits_in (ts ++ spawned) j ≡ commits_in ts j
+append_commits [] spawned j new = new_commits spawned j new
+append_commits (t ∷ ts) spawned zero new = refl
+append_commits (t ∷ ts) spawned (suc j) new = append_commits ts spawned j new
 
 -- a commit of thread k leaves the number of every other thread's commits
-pub commits-other : (ts made : List Parts) (k j : ℕ) (u : Parts) → AreNew made → j ≢ k → commits_in (set ts k u ++ made) j ≡ commits_in ts j
-commits-other ts made k j u new ne = append_commits (set ts k u) made j new ∙ ap commits_if (get-set_other ts k j u ne)
+pub commits-other : (ts spawned : List Parts) (k j : ℕ) (u : Parts) → AreNew spawned → j ≢ k → commits_in (set ts k u ++ spawned) j ≡ commits_in ts j
+commits-other ts spawned k j u new ne = append_commits (set ts k u) spawned j new ∙ ap commits_if (get-set_other ts k j u ne)
 
 -- after a commit of thread k its number of commits is that of what it has become
-pub commits-same : (ts made : List Parts) (k : ℕ) (t u : Parts) → slice_get ts k ≡ Some t → commits_in (set ts k u ++ made) k ≡ u.commits
-commits-same ts made k t u is = ap commits_if (get-append (set ts k u) made k u (get-set_same ts k u t is))
+pub commits-same : (ts spawned : List Parts) (k : ℕ) (t u : Parts) → slice_get ts k ≡ Some t → commits_in (set ts k u ++ spawned) k ≡ u.commits
+commits-same ts spawned k t u is = ap commits_if (get-append (set ts k u) spawned k u (get-set_same ts k u t is))
 
 -- ---- what stands
 
@@ -114,7 +114,7 @@ pub record ThreadCommit : Type 0 where
 
 -- the commit of a thread that was t, with this effect
 abbrev pub commit_of : (thread : ℕ) → (short : Bool) → Parts → Effect → Option Input → ThreadCommit
-commit_of k short t e o = record { thread = k; before = t; after = e.thread; spawned = e.made; commit = e.commit; short = short; input = o }
+commit_of k short t e o = record { thread = k; before = t; after = e.thread; spawned = e.spawned; commit = e.commit; short = short; input = o }
 
 -- the commit has made q of p, and qlog of its log
 pub record HasCommitted (c : ThreadCommit) (p q : Sphere) (log qlog : LogParts) : Type 0 where
@@ -230,16 +230,16 @@ sizes_stand ModeName.Picolog (Sizes.Short xs) k true size n ts us t g s = shorts
 sizes_stand ModeName.Picolog (Sizes.Short xs) k false size n ts us t g s = shorts_kept k xs ts us t g s
 
 -- a thread that is there after the commit: the committer, one that was there, or a new one
-pub get_cases : (ts made : List Parts) (j : ℕ) (x : Parts) → slice_get (ts ++ made) j ≡ Some x → (slice_get ts j ≡ Some x) ⊎ ((slice_get ts j ≡ None) × ((i : ℕ) × (slice_get made i ≡ Some x)))
-get_cases [] made j x e = inr (refl, (j, e))
-get_cases (t ∷ ts) made zero x e = inl e
-get_cases (t ∷ ts) made (suc j) x e = get_cases ts made j x e
+pub get_cases : (ts spawned : List Parts) (j : ℕ) (x : Parts) → slice_get (ts ++ spawned) j ≡ Some x → (slice_get ts j ≡ Some x) ⊎ ((slice_get ts j ≡ None) × ((i : ℕ) × (slice_get spawned i ≡ Some x)))
+get_cases [] spawned j x e = inr (refl, (j, e))
+get_cases (t ∷ ts) spawned zero x e = inl e
+get_cases (t ∷ ts) spawned (suc j) x e = get_cases ts spawned j x e
 
 -- a thread that is found among new ones is new
-pub new_is : (made : List Parts) (i : ℕ) (x : Parts) → AreNew made → slice_get made i ≡ Some x → IsNew x
+pub new_is : (spawned : List Parts) (i : ℕ) (x : Parts) → AreNew spawned → slice_get spawned i ≡ Some x → IsNew x
 new_is [] i x new e = absurd (none-some x e)
-new_is (m ∷ made) zero x new e = subst IsNew (let h : m ≡ x = cc in h) new.0
-new_is (m ∷ made) (suc i) x new e = new_is made i x new.1 e
+new_is (m ∷ spawned) zero x new e = subst IsNew (let h : m ≡ x = cc in h) new.0
+new_is (m ∷ spawned) (suc i) x new e = new_is spawned i x new.1 e
 
 -- there is no thread j before a change if there is none after it
 pub set_none : (ts : List Parts) (k j : ℕ) (u : Parts) → slice_get (set ts k u) j ≡ None → slice_get ts j ≡ None
@@ -250,10 +250,10 @@ set_none (t ∷ ts) (suc k) zero u e = e
 set_none (t ∷ ts) (suc k) (suc j) u e = set_none ts k j u e
 
 -- there is no thread j if there is none with others behind
-pub append_none : (ts made : List Parts) (j : ℕ) → slice_get (ts ++ made) j ≡ None → slice_get ts j ≡ None
-append_none [] made j e = refl
-append_none (t ∷ ts) made zero e = e
-append_none (t ∷ ts) made (suc j) e = append_none ts made j e
+pub append_none : (ts spawned : List Parts) (j : ℕ) → slice_get (ts ++ spawned) j ≡ None → slice_get ts j ≡ None
+append_none [] spawned j e = refl
+append_none (t ∷ ts) spawned zero e = e
+append_none (t ∷ ts) spawned (suc j) e = append_none ts spawned j e
 
 -- the log stands by its sphere after a commit of a thread, if it did before
 pub has_committed-stands : (c : ThreadCommit) (p q : Sphere) (log qlog : LogParts) → HasCommitted c p q log qlog → Stands p log → Stands q qlog

@@ -110,7 +110,7 @@ pub record HasTurn (k : ℕ) (role : Role) (p : Sphere) : Type 0 where
   pub turn : other_turn (head_in role p) k ≡ None
 
 threads_kept : (k : ℕ) (e : Effect) (ts : List Parts) (j : ℕ) (t : Parts) → j ≢ k → slice_get ts j ≡ Some t → slice_get (with_threads k e ts) j ≡ Some t
-threads_kept k e ts j t ne is = get-append (slice_set ts k e.thread) e.made j t (get-set_other ts k j e.thread ne ∙ is)
+threads_kept k e ts j t ne is = get-append (slice_set ts k e.thread) e.spawned j t (get-set_other ts k j e.thread ne ∙ is)
 
 verdict_moves : (k : ℕ) (b : Cursor) (verdict : LogVerdict) (devices : Devices) (p : Sphere) → p.role ≡ Replay b → b.now ≡ Turn k → ((e : Effect) (u : Used) → verdict ≡ Goes e u → Apart e.words) → MovesOnly k devices p (by_verdict b k verdict devices p)
 unfolding limit_of

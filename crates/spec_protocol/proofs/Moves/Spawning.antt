@@ -16,10 +16,10 @@ use Rattle.spec_protocol.proofs.Moves.Granted.{either_serve}
 
 -- with the threads that were spawned there are at most 15
 abbrev pub AreFew : List Parts → List Parts → Type 0
-AreFew ts made = length ts + length made ≤ 15
+AreFew ts spawned = length ts + length spawned ≤ 15
 
 abbrev CallFew : List Parts → Called → Type 0
-CallFew ts c = AreFew ts c.made
+CallFew ts c = AreFew ts c.spawned
 
 either : (P : Called → Type 0) (b : Bool) (x y : Called) → (b ≡ true → P x) → P y → P (cond b x y)
 either P true x y p q = p refl
@@ -31,18 +31,18 @@ none_few ts few = omega (arith, few)
 spawn_few : (ts : List Parts) (request : Option Request) (t : Parts) → length ts ≤ 15 → CallFew ts (spawn ts request t)
 spawn_few ts request t few =
     either (CallFew ts) (nat_lt (length ts) 15 && eqb (a0 t % 4) 0)
-    (record { thread = with_result (length ts) t; made = spawned (a0 t) (a1 t) (a2 t) ∷ []; request = request })
+    (record { thread = with_result (length ts) t; spawned = spawned (a0 t) (a1 t) (a2 t) ∷ []; request = request })
     (gives request t refused)
     (λ e. let h = ltb-true (length ts) 15 ((and_parts (nat_lt (length ts) 15) (eqb (a0 t % 4) 0) e).0) in omega arith)
     (none_few ts few)
 
 handler_few : (ts : List Parts) (request : Option Request) (t : Parts) → length ts ≤ 15 → CallFew ts (set_handler request t)
 handler_few ts request t few =
-    either (CallFew ts) (eqb (a0 t % 4) 0) (record { thread = with_result 0 (record t { handler = a0 t }); made = []; request = request }) (gives request t refused) (λ e. none_few ts few) (none_few ts few)
+    either (CallFew ts) (eqb (a0 t % 4) 0) (record { thread = with_result 0 (record t { handler = a0 t }); spawned = []; request = request }) (gives request t refused) (λ e. none_few ts few) (none_few ts few)
 
 iret_few : (ts : List Parts) (request : Option Request) (t : Parts) → length ts ≤ 15 → CallFew ts (iret request t)
 iret_few ts request t few =
-    either (CallFew ts) t.mask (record { thread = returned t; made = []; request = request }) (gives request t refused) (λ e. none_few ts few) (none_few ts few)
+    either (CallFew ts) t.mask (record { thread = returned t; spawned = []; request = request }) (gives request t refused) (λ e. none_few ts few) (none_few ts few)
 
 dma_few : (ts : List Parts) (size : ℕ) (request : Option Request) (t : Parts) → length ts ≤ 15 → CallFew ts (request_dma size request t)
 dma_few ts size None t few =
@@ -58,7 +58,7 @@ called_few size k ts request t few =
 -- ---- serial steps
 
 abbrev ServeFew : List Parts → StepResult → Type 0
-ServeFew ts v = AreFew ts v.made
+ServeFew ts v = AreFew ts v.spawned
 
 outside_few : (ts : List Parts) (o : Option Need) (request : Option Request) (t : Parts) (input : Option Input) → length ts ≤ 15 → ServeFew ts (outside_called o request t input)
 outside_few ts o request t None few = none_few ts few
@@ -94,6 +94,6 @@ kind_few (Some Kind.DeviceStore) k ts request t m input few = stored_few ts requ
 kind_few (Some (Kind.Fault cause)) k ts request t m input few = none_few ts few
 
 -- a serial step leaves a sphere of at most 15 threads with at most 15
-pub serve-few : (k : ℕ) (ts : List Parts) (request : Option Request) (t : Parts) (m : List ℕ) (input : Option Input) → length ts ≤ 15 → AreFew ts (serve k ts request t m input).made
+pub serve-few : (k : ℕ) (ts : List Parts) (request : Option Request) (t : Parts) (m : List ℕ) (input : Option Input) → length ts ≤ 15 → AreFew ts (serve k ts request t m input).spawned
 unfolding serve
 serve-few k ts request t m input few = kind_few _ k ts request t m input few

@@ -80,12 +80,12 @@ AreNew [] = Unit {0}
 AreNew (t ∷ ts) = IsNew t × AreNew ts
 
 -- the thread keeps its number of commits, and those that it spawned are new
-pub record KeepsCommits (t : Parts) (thread : Parts) (made : List Parts) : Type 0 where
+pub record KeepsCommits (t : Parts) (thread : Parts) (spawned : List Parts) : Type 0 where
   pub commits : thread.commits ≡ t.commits
-  pub fresh : AreNew made
+  pub fresh : AreNew spawned
 
 abbrev CallKeeps : Parts → Called → Type 0
-CallKeeps t c = KeepsCommits t c.thread c.made
+CallKeeps t c = KeepsCommits t c.thread c.spawned
 
 either_call : (P : Called → Type 0) (b : Bool) (x y : Called) → P x → P y → P (cond b x y)
 either_call P true x y p q = p
@@ -97,20 +97,20 @@ gives_keeps request t n = record { commits = refl; fresh = tt }
 spawn_keeps : (ts : List Parts) (request : Option Request) (t : Parts) → CallKeeps t (spawn ts request t)
 spawn_keeps ts request t =
     either_call (CallKeeps t) (nat_lt (length ts) 15 && eqb (a0 t % 4) 0)
-    (record { thread = with_result (length ts) t; made = spawned (a0 t) (a1 t) (a2 t) ∷ []; request = request })
+    (record { thread = with_result (length ts) t; spawned = spawned (a0 t) (a1 t) (a2 t) ∷ []; request = request })
     (gives request t refused)
     (record { commits = refl; fresh = (record { commits = refl; handler = refl }, tt) })
     (gives_keeps request t refused)
 
 handler_keeps : (request : Option Request) (t : Parts) → CallKeeps t (set_handler request t)
 handler_keeps request t =
-    either_call (CallKeeps t) (eqb (a0 t % 4) 0) (record { thread = with_result 0 (record t { handler = a0 t }); made = []; request = request }) (gives request t refused)
+    either_call (CallKeeps t) (eqb (a0 t % 4) 0) (record { thread = with_result 0 (record t { handler = a0 t }); spawned = []; request = request }) (gives request t refused)
     (record { commits = refl; fresh = tt })
     (gives_keeps request t refused)
 
 iret_keeps : (request : Option Request) (t : Parts) → CallKeeps t (iret request t)
 iret_keeps request t =
-    either_call (CallKeeps t) t.mask (record { thread = returned t; made = []; request = request }) (gives request t refused) (record { commits = refl; fresh = tt }) (gives_keeps request t refused)
+    either_call (CallKeeps t) t.mask (record { thread = returned t; spawned = []; request = request }) (gives request t refused) (record { commits = refl; fresh = tt }) (gives_keeps request t refused)
 
 dma_keeps : (size : ℕ) (request : Option Request) (t : Parts) → CallKeeps t (request_dma size request t)
 dma_keeps size None t =
@@ -148,7 +148,7 @@ called_keeps size k ts request t =
 -- ---- serial steps
 
 abbrev ServeKeeps : Parts → StepResult → Type 0
-ServeKeeps t v = KeepsCommits t v.thread v.made
+ServeKeeps t v = KeepsCommits t v.thread v.spawned
 
 outside_keeps : (o : Option Need) (request : Option Request) (t : Parts) (input : Option Input) → ServeKeeps t (outside_called o request t input)
 outside_keeps o request t None = record { commits = refl; fresh = tt }
@@ -205,7 +205,7 @@ called_alike size k ts us request t a =
     cond (eqb (number_of t) 0) (exit request t)
     (cond (eqb (number_of t) 1)
     (cond (nat_lt (a.size i) 15 && eqb (a0 t % 4) 0)
-    (record { thread = with_result (a.size i) t; made = spawned (a0 t) (a1 t) (a2 t) ∷ []; request = request })
+    (record { thread = with_result (a.size i) t; spawned = spawned (a0 t) (a1 t) (a2 t) ∷ []; request = request })
     (gives request t refused))
     (cond (eqb (number_of t) 6) (set_handler request t)
     (cond (eqb (number_of t) 7) (iret request t)

@@ -40,9 +40,9 @@ early_words : (o : Option ℕ) (e : Effect) → (early_effect o e).words ≡ e.w
 early_words None e = refl
 early_words (Some v) e = refl
 
-early_made : (o : Option ℕ) (e : Effect) → (early_effect o e).made ≡ e.made
-early_made None e = refl
-early_made (Some v) e = refl
+early_spawned : (o : Option ℕ) (e : Effect) → (early_effect o e).spawned ≡ e.spawned
+early_spawned None e = refl
+early_spawned (Some v) e = refl
 
 early_progress : (o : Option ℕ) (e : Effect) (k : ℕ) (p : Progress) → with_effect k (early_effect o e) p ≡ with_effect k e p
 early_progress None e k p = refl
@@ -187,10 +187,10 @@ module _ (L : LogParts) (c : ThreadCommit) (p q : Sphere) (log qlog : LogParts) 
       let thread : e2.thread ≡ early L.interrupts qlog.interrupts c.thread c.after =
       ap (λ (x : Effect). x.thread) is_e ∙ early_thread oe e ∙ ap (early_by None oe) es.thread ∙ ap (λ (x : Option ℕ). early_by x oe c.after) (sym s.none_yet)
       in
-      let born : e2.made ≡ c.spawned = ap (λ (x : Effect). x.made) is_e ∙ early_made oe e ∙ es.spawned in
+      let born : e2.spawned ≡ c.spawned = ap (λ (x : Effect). x.spawned) is_e ∙ early_spawned oe e ∙ es.spawned in
       record {
         memory = ap (lays y.memory) (ap (λ (x : Effect). x.words) is_e ∙ early_words oe e) ∙ ap (λ (m : List ℕ). lays m e.words) f.memory ∙ sym es.memory;
-        size = length-append (set y.threads c.thread e2.thread) e2.made
+        size = length-append (set y.threads c.thread e2.thread) e2.spawned
             ∙ (let a = length-set y.threads c.thread e2.thread in let b = length-set p.threads c.thread c.after in let g = f.size in let h = ap (λ (x : List Parts). length x) born in let i = ap (λ (x : List Parts). length x) d.threads in let j = length-append (set p.threads c.thread c.after) c.spawned in omega arith);
         threads = λ j x h.
             ap (λ (ms : List Parts). slice_get (set y.threads c.thread e2.thread ++ ms) j) born

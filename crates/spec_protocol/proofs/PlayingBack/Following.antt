@@ -105,10 +105,10 @@ sum-zero f n (t ∷ ts) each =
     omega arith
 
 -- threads at the end that count nothing
-pub sum-append : (f : ℕ → Parts → ℕ) (n : ℕ) (ts made : List Parts) → ((j : ℕ) (m : Parts) → slice_get (ts ++ made) j ≡ Some m → slice_get ts j ≡ None → f (n + j) m ≡ 0) → sum_from f n (ts ++ made) ≡ sum_from f n ts
-sum-append f n [] made each = sum-zero f n made (λ j m e. each j m e refl)
-sum-append f n (t ∷ ts) made each =
-    ap (λ (x : ℕ). f n t + x) (sum-append f (suc n) ts made (λ j m e none. let k : suc n + j ≡ n + suc j = omega arith in ap (λ (x : ℕ). f x m) k ∙ each (suc j) m e none))
+pub sum-append : (f : ℕ → Parts → ℕ) (n : ℕ) (ts spawned : List Parts) → ((j : ℕ) (m : Parts) → slice_get (ts ++ spawned) j ≡ Some m → slice_get ts j ≡ None → f (n + j) m ≡ 0) → sum_from f n (ts ++ spawned) ≡ sum_from f n ts
+sum-append f n [] spawned each = sum-zero f n spawned (λ j m e. each j m e refl)
+sum-append f n (t ∷ ts) spawned each =
+    ap (λ (x : ℕ). f n t + x) (sum-append f (suc n) ts spawned (λ j m e none. let k : suc n + j ≡ n + suc j = omega arith in ap (λ (x : ℕ). f x m) k ∙ each (suc j) m e none))
 
 -- ---- the play beside the recording
 
@@ -184,7 +184,7 @@ named ModeName.Picolog L n last flags k order ts s b there turns =
 -- what its effect is, and that the play's verdict is that it goes
 pub record Effects (L : LogParts) (c : ThreadCommit) (p q : Sphere) (qlog : LogParts) (y : Played) (e : Effect) : Type 0 where
   pub thread : e.thread ≡ c.after
-  pub spawned : e.made ≡ c.spawned
+  pub spawned : e.spawned ≡ c.spawned
   pub memory : q.memory ≡ lays p.memory e.words
   pub progress : q.progress ≡ with_effect c.thread e p.progress
   pub live : is_live c.before ≡ true
@@ -192,12 +192,12 @@ pub record Effects (L : LogParts) (c : ThreadCommit) (p q : Sphere) (qlog : LogP
   pub verdict : thread_verdict L y c.thread c.before (next_kind c.before y.memory) ≡ ended L c.thread e (record y.used { inputs = length qlog.inputs })
 
 -- a spawned thread has the same number behind as many others
-pub get_past : (ts us made : List Parts) (j : ℕ) (x : Parts) → length us ≡ length ts → slice_get ts j ≡ None → slice_get (ts ++ made) j ≡ Some x → slice_get (us ++ made) j ≡ Some x
-get_past [] [] made j x size none e = e
-get_past [] (u ∷ us) made j x size none e = absurd (omega arith)
-get_past (t ∷ ts) [] made j x size none e = absurd (omega arith)
-get_past (t ∷ ts) (u ∷ us) made zero x size none e = absurd (none-some t (sym none))
-get_past (t ∷ ts) (u ∷ us) made (suc j) x size none e = get_past ts us made j x (omega arith) none e
+pub get_past : (ts us spawned : List Parts) (j : ℕ) (x : Parts) → length us ≡ length ts → slice_get ts j ≡ None → slice_get (ts ++ spawned) j ≡ Some x → slice_get (us ++ spawned) j ≡ Some x
+get_past [] [] spawned j x size none e = e
+get_past [] (u ∷ us) spawned j x size none e = absurd (omega arith)
+get_past (t ∷ ts) [] spawned j x size none e = absurd (omega arith)
+get_past (t ∷ ts) (u ∷ us) spawned zero x size none e = absurd (none-some t (sym none))
+get_past (t ∷ ts) (u ∷ us) spawned (suc j) x size none e = get_past ts us spawned j x (omega arith) none e
 
 -- a new thread takes no interrupt
 pub new_takes_none : (x : Parts) → IsNew x → takes_interrupt x ≡ false

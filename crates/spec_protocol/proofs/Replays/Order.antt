@@ -48,26 +48,26 @@ other j k ne = ap one_if (ne_eqb k j (λ e. ne (sym e)))
 abbrev InOrder : (order : List Actor) → (n : ℕ) → List Parts → Type 0
 InOrder order n threads = (k : ℕ) → commits_if (slice_get threads k) ≡ commits_among k (take n order)
 
-in-order-commit : (order : List Actor) (n k : ℕ) (ts made : List Parts) (t u : Parts) → slice_get ts k ≡ Some t → u.commits ≡ t.commits + 1 → AreNew made → slice_get order n ≡ Some (Actor.Thread k) → InOrder order n ts → InOrder order (suc n) (set ts k u ++ made)
-in-order-commit order n k ts made t u there commits new named was j =
+in-order-commit : (order : List Actor) (n k : ℕ) (ts spawned : List Parts) (t u : Parts) → slice_get ts k ≡ Some t → u.commits ≡ t.commits + 1 → AreNew spawned → slice_get order n ≡ Some (Actor.Thread k) → InOrder order n ts → InOrder order (suc n) (set ts k u ++ spawned)
+in-order-commit order n k ts spawned t u there commits new named was j =
     let next = among-next j n order (Actor.Thread k) named in
     let old = was j in
     elim (cases_eq j k) [
       | inl e ↦ (
-          let here = ap (λ (i : ℕ). commits_if (slice_get (set ts k u ++ made) i)) e ∙ commits-same ts made k t u there in
+          let here = ap (λ (i : ℕ). commits_if (slice_get (set ts k u ++ spawned) i)) e ∙ commits-same ts spawned k t u there in
           let before = ap (λ (i : ℕ). commits_if (slice_get ts i)) e ∙ ap commits_if there in
           let one_ = ap (λ (i : ℕ). one_if (is_thread i (Actor.Thread k))) e ∙ own k in
           omega (arith, next, old, here, before, one_, commits)
           )
-      | inr ne ↦ (let same = commits-other ts made k j u new ne in let none = other j k ne in omega (arith, next, old, same, none))
+      | inr ne ↦ (let same = commits-other ts spawned k j u new ne in let none = other j k ne in omega (arith, next, old, same, none))
     ]
 
 -- after a commit that the log names next the commits are done in its order still
-pub done-commit : (mode : ModeName) (order : List Actor) (n k : ℕ) (ts made : List Parts) (t u : Parts) → slice_get ts k ≡ Some t → u.commits ≡ t.commits + 1 → AreNew made → IsNamed mode order n (Actor.Thread k) → IsDoneInOrder mode order n ts
-    → IsDoneInOrder mode order (suc n) (set ts k u ++ made)
-done-commit ModeName.OrderSize order n k ts made t u there commits new named was = in-order-commit order n k ts made t u there commits new named was
-done-commit ModeName.OrderOnly order n k ts made t u there commits new named was = in-order-commit order n k ts made t u there commits new named was
-done-commit ModeName.Picolog order n k ts made t u there commits new named was = tt
+pub done-commit : (mode : ModeName) (order : List Actor) (n k : ℕ) (ts spawned : List Parts) (t u : Parts) → slice_get ts k ≡ Some t → u.commits ≡ t.commits + 1 → AreNew spawned → IsNamed mode order n (Actor.Thread k) → IsDoneInOrder mode order n ts
+    → IsDoneInOrder mode order (suc n) (set ts k u ++ spawned)
+done-commit ModeName.OrderSize order n k ts spawned t u there commits new named was = in-order-commit order n k ts spawned t u there commits new named was
+done-commit ModeName.OrderOnly order n k ts spawned t u there commits new named was = in-order-commit order n k ts spawned t u there commits new named was
+done-commit ModeName.Picolog order n k ts spawned t u there commits new named was = tt
 
 in-order-dma : (order : List Actor) (n : ℕ) (ts : List Parts) → slice_get order n ≡ Some Actor.Dma → InOrder order n ts → InOrder order (suc n) ts
 in-order-dma order n ts named was j = let next = among-next j n order Actor.Dma named in let old = was j in omega (arith, next, old)

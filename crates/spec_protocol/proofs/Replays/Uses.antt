@@ -99,12 +99,12 @@ pub record OnceMore (ts us : List Parts) (k c : ℕ) : Type 0 where
   pub others : (j : ℕ) → j ≢ k → commits_if (slice_get us j) ≡ commits_if (slice_get ts j)
 
 -- a commit of thread k makes its number one more, and no other's
-pub once-more : (ts made : List Parts) (k : ℕ) (t u : Parts) → slice_get ts k ≡ Some t → u.commits ≡ t.commits + 1 → AreNew made → OnceMore ts (set ts k u ++ made) k t.commits
-once-more ts made k t u there commits new =
+pub once-more : (ts spawned : List Parts) (k : ℕ) (t u : Parts) → slice_get ts k ≡ Some t → u.commits ≡ t.commits + 1 → AreNew spawned → OnceMore ts (set ts k u ++ spawned) k t.commits
+once-more ts spawned k t u there commits new =
     record {
       before = ap commits_if there;
-      after = commits-same ts made k t u there ∙ (omega (arith, commits));
-      others = λ j ne. commits-other ts made k j u new ne;
+      after = commits-same ts spawned k t u there ∙ (omega (arith, commits));
+      others = λ j ne. commits-other ts spawned k j u new ne;
     }
 
 -- an interrupt of another moment

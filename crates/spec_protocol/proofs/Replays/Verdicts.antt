@@ -52,13 +52,13 @@ SoundlyIn size log k ts t e u = IsSoundEffect size ts t e × Uses log (with_thre
 interrupted-goes : (size : ℕ) (log : LogParts) (k : ℕ) (ts : List Parts) (t : Parts) (e : Effect) (u : Used) (o : Option ℕ) → interrupt_at log.interrupts k e.thread.commits ≡ o → slice_get ts k ≡ Some t → IsSoundEffect size ts t e → Uses log ts u
     → IfGoes (SoundlyIn size log k ts t) (with_interrupted o e u)
 interrupted-goes size log k ts t e u None at is sound uses =
-    let m = once-more ts e.made k t e.thread is sound.commits sound.fresh in
+    let m = once-more ts e.spawned k t e.thread is sound.commits sound.fresh in
     let c : suc t.commits ≡ e.thread.commits = (let h = sound.commits in omega (arith, h)) in
     let d = same-due log.interrupts ts (with_threads k e ts) k t.commits m (ap (interrupt_at log.interrupts k) c ∙ at) in
     (sound, record { rising = uses.rising; inputs = uses.inputs; dmas = uses.dmas; interrupts = uses.interrupts ∙ sym d })
 interrupted-goes size log k ts t e u (Some value) at is sound uses =
     let f = record e { thread = interrupted value e.thread } in
-    let m = once-more ts f.made k t f.thread is sound.commits sound.fresh in
+    let m = once-more ts f.spawned k t f.thread is sound.commits sound.fresh in
     let c : suc t.commits ≡ e.thread.commits = (let h = sound.commits in omega (arith, h)) in
     let d = one-due log.interrupts ts (with_threads k f ts) k t.commits value uses.rising m (ap (interrupt_at log.interrupts k) c ∙ at) in
     branch (IfGoes (SoundlyIn size log k ts t)) (takes_interrupt e.thread) (Goes f (with_interrupt u)) (Fails Why.Interrupt)
@@ -117,7 +117,7 @@ verdict-sound s image now k b t (Goes e u) devices p cursor turn sound is goes d
     let n = next-position k e p.progress in
     let l = cursor.going (ap is_over turn) in
     let effect = goes.0 in
-    let done = done-commit b.log.mode b.log.order (position p.progress) k p.threads e.made t e.thread is effect.commits effect.fresh (cursor.named (Actor.Thread k) (ap actor_of turn)) cursor.done in
+    let done = done-commit b.log.mode b.log.order (position p.progress) k p.threads e.spawned t e.thread is effect.commits effect.fresh (cursor.named (Actor.Thread k) (ap actor_of turn)) cursor.done in
     granted-sound s image now k _ t e devices p sound is effect
     (turned-sound b.log (with_effect k e p.progress) u (with_threads k e p.threads) cursor.log (omega (arith, n, l))
     (subst (λ (m : ℕ). IsDoneInOrder b.log.mode b.log.order m (with_threads k e p.threads)) (sym n) done) goes.1.inputs goes.1.dmas goes.1.interrupts) d

@@ -33,11 +33,11 @@ use Rattle.spec_protocol.proofs.Logs.Fresh.{at-set_parts, fresh-commit}
 pub set-all : (P : Parts → Type 0) (ts : List Parts) (k : ℕ) (u : Parts) → P u → ((j : ℕ) (x : Parts) → slice_get ts j ≡ Some x → P x) → (j : ℕ) (x : Parts) → slice_get (set ts k u) j ≡ Some x → P x
 set-all P ts k u new old j x e = elim (at-set_parts ts k j u x e) [ inl q ↦ subst P q.1 new | inr q ↦ old j x q.1 ]
 
-made-sound : (n : ℕ) (made : List Parts) (j : ℕ) (x : Parts) → AreThreads made → AreNew made → slice_get made j ≡ Some x → IsSoundThread n x
-made-sound n [] j x threads new e = absurd (none-some x e)
-made-sound n (t ∷ made) zero x threads new e =
+spawned-sound : (n : ℕ) (spawned : List Parts) (j : ℕ) (x : Parts) → AreThreads spawned → AreNew spawned → slice_get spawned j ≡ Some x → IsSoundThread n x
+spawned-sound n [] j x threads new e = absurd (none-some x e)
+spawned-sound n (t ∷ spawned) zero x threads new e =
     subst (IsSoundThread n) (let q : t ≡ x = cc in q) (record { thread = threads.0; few = (let l = new.0.commits in omega (arith, l)) })
-made-sound n (t ∷ made) (suc j) x threads new e = made-sound n made j x threads.1 new.1 e
+spawned-sound n (t ∷ spawned) (suc j) x threads new e = spawned-sound n spawned j x threads.1 new.1 e
 
 -- ---- a commit of a thread
 
@@ -45,9 +45,9 @@ made-sound n (t ∷ made) (suc j) x threads new e = made-sound n made j x thread
 pub record IsSoundEffect (size : ℕ) (ts : List Parts) (t : Parts) (e : Effect) : Type 0 where
   pub thread : IsThread e.thread
   pub commits : e.thread.commits ≡ t.commits + 1
-  pub made : AreThreads e.made
-  pub fresh : AreNew e.made
-  pub few : length ts + length e.made ≤ 15
+  pub spawned : AreThreads e.spawned
+  pub fresh : AreNew e.spawned
+  pub few : length ts + length e.spawned ≤ 15
   pub request : IsSoundIf size e.request
   pub words : AreSoundWords size e.words
 
@@ -62,15 +62,15 @@ next-position k e p = pushed_length p.commits e.commit (length p.commits) refl
 commit-threads : (n size k : ℕ) (ts : List Parts) (t : Parts) (e : Effect) → slice_get ts k ≡ Some t → IsSoundEffect size ts t e → ((j : ℕ) (x : Parts) → slice_get ts j ≡ Some x → IsSoundThread n x)
     → (j : ℕ) (x : Parts) → slice_get (with_threads k e ts) j ≡ Some x → IsSoundThread (suc n) x
 commit-threads n size k ts t e is effect old j x there =
-    elim (get_cases (slice_set ts k e.thread) e.made j x there) [
+    elim (get_cases (slice_set ts k e.thread) e.spawned j x there) [
       | inl q ↦ set-all (IsSoundThread (suc n)) ts k e.thread
           (record { thread = effect.thread; few = (let l = (old k t is).few in let c = effect.commits in omega (arith, l, c)) })
           (λ i y h. later-thread n (suc n) y (omega arith) (old i y h)) j x q
-      | inr q ↦ made-sound (suc n) e.made q.1.0 x effect.made effect.fresh q.1.1
+      | inr q ↦ spawned-sound (suc n) e.spawned q.1.0 x effect.spawned effect.fresh q.1.1
     ]
 
-commit-length : (k : ℕ) (ts : List Parts) (e : Effect) → length (with_threads k e ts) ≡ length ts + length e.made
-commit-length k ts e = length-append (slice_set ts k e.thread) e.made ∙ ap (λ (n : ℕ). n + length e.made) (length-set ts k e.thread)
+commit-length : (k : ℕ) (ts : List Parts) (e : Effect) → length (with_threads k e ts) ≡ length ts + length e.spawned
+commit-length k ts e = length-append (slice_set ts k e.thread) e.spawned ∙ ap (λ (n : ℕ). n + length e.spawned) (length-set ts k e.thread)
 
 -- what a move leaves of a sphere that began as the image
 pub record IsSoundMoved (s : ℕ) (image : SphereSetup) (now : ℕ) (v : MovedSphere) : Type 0 where
@@ -107,7 +107,7 @@ chunk-effect size k ts t request r thread commits words sound few =
     record {
       thread = record { pc = thread.pc; saved_pc = thread.saved_pc; handler = thread.handler; zero = thread.zero; registers = thread.registers };
       commits = ap (λ (n : ℕ). n + 1) commits;
-      made = tt;
+      spawned = tt;
       fresh = tt;
       few = omega (arith, few);
       request = sound;
@@ -127,7 +127,7 @@ serial-effect size k ts request t m input same whole brings thread sound few =
     record {
       thread = record { pc = th.pc; saved_pc = th.saved_pc; handler = th.handler; zero = th.zero; registers = th.registers };
       commits = ap (λ (n : ℕ). n + 1) keeps.commits;
-      made = served.made;
+      spawned = served.spawned;
       fresh = keeps.fresh;
       few = serve-few k ts request t m input few;
       request = served.request;
@@ -140,7 +140,7 @@ interrupted-effect size value ts t e s =
     record {
       thread = interrupted-thread value e.thread s.thread;
       commits = s.commits;
-      made = s.made;
+      spawned = s.spawned;
       fresh = s.fresh;
       few = s.few;
       request = s.request;
@@ -155,4 +155,4 @@ pub noted-sound : (s k i : ℕ) (short : Bool) (log : LogParts) (t : Parts) (e :
 noted-sound s k i short log t e p is commits role =
     let n = next-position k e p.progress in
     let c = role.count in
-    record { size = role.size; count = omega (arith, n, c); interrupts = fresh-commit p.threads e.made k t e.thread log.interrupts is commits role.interrupts }
+    record { size = role.size; count = omega (arith, n, c); interrupts = fresh-commit p.threads e.spawned k t e.thread log.interrupts is commits role.interrupts }

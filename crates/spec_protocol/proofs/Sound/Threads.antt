@@ -109,28 +109,28 @@ AreThreads (t ∷ ts) = IsThread t × AreThreads ts
 -- what a call leaves in a memory of that size
 record IsSoundCall (size : ℕ) (c : Called) : Type 0 where
   thread : IsThread c.thread
-  made : AreThreads c.made
+  spawned : AreThreads c.spawned
   request : IsSoundIf size c.request
 
 gives-sound : (size : ℕ) (request : Option Request) (t : Parts) (n : ℕ) → IsThread t → IsSoundIf size request → IsSoundCall size (gives request t n)
-gives-sound size request t n is sound = record { thread = follows-thread t 10 n is; made = tt; request = sound }
+gives-sound size request t n is sound = record { thread = follows-thread t 10 n is; spawned = tt; request = sound }
 
 exit-sound : (size : ℕ) (request : Option Request) (t : Parts) → IsThread t → IsSoundIf size request → IsSoundCall size (exit request t)
 exit-sound size request t is sound =
     record {
       thread = record { pc = following-aligned t is.pc; saved_pc = is.saved_pc; handler = is.handler; zero = is.zero; registers = is.registers };
-      made = tt;
+      spawned = tt;
       request = sound;
     }
 
 spawn-sound : (size : ℕ) (ts : List Parts) (request : Option Request) (t : Parts) → IsThread t → IsSoundIf size request → IsSoundCall size (spawn ts request t)
 spawn-sound size ts request t is sound =
     branch (IsSoundCall size) (nat_lt (length ts) 15 && eqb (a0 t % 4) 0)
-    (record { thread = with_result (length ts) t; made = spawned (a0 t) (a1 t) (a2 t) ∷ []; request = request })
+    (record { thread = with_result (length ts) t; spawned = spawned (a0 t) (a1 t) (a2 t) ∷ []; request = request })
     (gives request t refused)
     (λ e. record {
       thread = follows-thread t 10 (length ts) is;
-      made = (spawned-thread (a0 t) (a1 t) (a2 t) (eqb-true (a0 t % 4) 0 (and_parts (nat_lt (length ts) 15) (eqb (a0 t % 4) 0) e).1), tt);
+      spawned = (spawned-thread (a0 t) (a1 t) (a2 t) (eqb-true (a0 t % 4) 0 (and_parts (nat_lt (length ts) 15) (eqb (a0 t % 4) 0) e).1), tt);
       request = sound;
     })
     (λ _. gives-sound size request t refused is sound)
@@ -138,7 +138,7 @@ spawn-sound size ts request t is sound =
 handler-sound : (size : ℕ) (request : Option Request) (t : Parts) → IsThread t → IsSoundIf size request → IsSoundCall size (set_handler request t)
 handler-sound size request t is sound =
     branch (IsSoundCall size) (eqb (a0 t % 4) 0)
-    (record { thread = with_result 0 (record t { handler = a0 t }); made = []; request = request })
+    (record { thread = with_result 0 (record t { handler = a0 t }); spawned = []; request = request })
     (gives request t refused)
     (λ e. record {
       thread = record {
@@ -148,7 +148,7 @@ handler-sound size request t is sound =
         zero = register-zero t.x 10 0 is.zero;
         registers = register-length t.x 10 0 is.registers;
       };
-      made = tt;
+      spawned = tt;
       request = sound;
     })
     (λ _. gives-sound size request t refused is sound)
@@ -165,8 +165,8 @@ returned-thread t is =
 
 iret-sound : (size : ℕ) (request : Option Request) (t : Parts) → IsThread t → IsSoundIf size request → IsSoundCall size (iret request t)
 iret-sound size request t is sound =
-    branch (IsSoundCall size) t.mask (record { thread = returned t; made = []; request = request }) (gives request t refused)
-    (λ _. record { thread = returned-thread t is; made = tt; request = sound })
+    branch (IsSoundCall size) t.mask (record { thread = returned t; spawned = []; request = request }) (gives request t refused)
+    (λ _. record { thread = returned-thread t is; spawned = tt; request = sound })
     (λ _. gives-sound size request t refused is sound)
 
 cut-most : (len : ℕ) → cut len ≤ 4096
@@ -263,7 +263,7 @@ BringsIf need (Some r) = Brings need r
 -- what a serial step leaves in a memory of that size
 pub record IsSoundStepResult (size : ℕ) (v : StepResult) : Type 0 where
   pub thread : IsThread v.thread
-  pub made : AreThreads v.made
+  pub spawned : AreThreads v.spawned
   pub request : IsSoundIf size v.request
   pub words : AreSoundWords size v.words
 
@@ -278,16 +278,16 @@ copy-words size (Some InputWord) r whole room brings = sound-none size
 
 outside-sound : (size : ℕ) (o : Option Need) (request : Option Request) (t : Parts) (input : Option Input) → size % 4 ≡ 0 → HasRoom size o → BringsIf o input → IsThread t → IsSoundIf size request → IsSoundStepResult size (outside_called o request t input)
 outside-sound size o request t None whole room brings is sound =
-    record { thread = follows-thread t 10 bad_buffer is; made = tt; request = sound; words = sound-none size }
+    record { thread = follows-thread t 10 bad_buffer is; spawned = tt; request = sound; words = sound-none size }
 outside-sound size o request t (Some r) whole room brings is sound =
-    record { thread = follows-thread t 10 r.result is; made = tt; request = sound; words = copy-words size o r whole room brings }
+    record { thread = follows-thread t 10 r.result is; spawned = tt; request = sound; words = copy-words size o r whole room brings }
 
 alone-sound : (size : ℕ) (request : Option Request) (t : Parts) → IsThread t → IsSoundIf size request → IsSoundStepResult size (alone request t)
-alone-sound size request t is sound = record { thread = is; made = tt; request = sound; words = sound-none size }
+alone-sound size request t is sound = record { thread = is; spawned = tt; request = sound; words = sound-none size }
 
 loaded-sound : (size : ℕ) (request : Option Request) (t : Parts) (p : Operation) (input : Option Input) → IsThread t → IsSoundIf size request → IsSoundStepResult size (device_loaded request t p input)
 loaded-sound size request t (Operation.Load op rd a) (Some r) is sound =
-    record { thread = follows-thread t rd r.result is; made = tt; request = sound; words = sound-none size }
+    record { thread = follows-thread t rd r.result is; spawned = tt; request = sound; words = sound-none size }
 loaded-sound size request t (Operation.Load op rd a) None is sound = alone-sound size request t is sound
 loaded-sound size request t (Operation.Go rd value pc) input is sound = alone-sound size request t is sound
 loaded-sound size request t (Operation.Stop kind) input is sound = alone-sound size request t is sound
@@ -300,7 +300,7 @@ device_stored-sound : (size : ℕ) (request : Option Request) (t : Parts) (p : O
 device_stored-sound size request t (Operation.Store op a v) is sound =
     record {
       thread = record { pc = following-aligned t is.pc; saved_pc = is.saved_pc; handler = is.handler; zero = is.zero; registers = is.registers };
-      made = tt;
+      spawned = tt;
       request = sound;
       words = sound-none size;
     }
@@ -316,7 +316,7 @@ fault-sound size cause request t is sound =
     alone-sound size request (faulted cause t) (record { pc = is.pc; saved_pc = is.saved_pc; handler = is.handler; zero = is.zero; registers = is.registers }) sound
 
 inside-sound : (size : ℕ) (c : Called) → IsSoundCall size c → IsSoundStepResult size (inside_called c)
-inside-sound size c s = record { thread = s.thread; made = s.made; request = s.request; words = sound-none size }
+inside-sound size c s = record { thread = s.thread; spawned = s.spawned; request = s.request; words = sound-none size }
 
 kind-sound : (o : Option Kind) (k : ℕ) (ts : List Parts) (request : Option Request) (t : Parts) (m : List ℕ) (input : Option Input) → length m % 4 ≡ 0 → BringsIf (need t m) input → IsThread t → IsSoundIf (length m) request
     → IsSoundStepResult (length m) (serve_kind o k ts request t m input)

@@ -93,9 +93,9 @@ module _ (log : LogParts) (y : Played) (p : Sphere) (b : Cursor) (devices : Devi
       (λ i. record { commits = (s.progress i).commits ++ alike.commit i ∷ []; last = Some k; request = alike.request i })
       in
       let same : q.threads ≡ z.threads =
-      ap (λ (ts : List Parts). set ts k e.thread ++ e.made) threads
-      ∙ ap (λ (ts : List Parts). ts ++ e.made) (set_twice y.threads k x e.thread)
-      ∙ (λ i. set y.threads k (alike.thread i) ++ alike.made i)
+      ap (λ (ts : List Parts). set ts k e.thread ++ e.spawned) threads
+      ∙ ap (λ (ts : List Parts). ts ++ e.spawned) (set_twice y.threads k x e.thread)
+      ∙ (λ i. set y.threads k (alike.thread i) ++ alike.spawned i)
       in
       let now : c.now ≡ z.now = (λ i. now_at (s.same_log i) (progress i) (used i) (same i)) in
       whole_follows log z q c refl s.same_log s.standard progress used now refl (record { memory = alike.memory; threads = same; total = refl; loads = refl })

@@ -16,7 +16,7 @@ use Rattle.spec_play.specs.Verdicts.{LogVerdict, Goes, Fails, unless, interrupt_
 -- all but the lists of words is the same, and on m and on n these leave the same memory
 pub record AlikeEffects (m n : List ℕ) (e f : Effect) : Type 0 where
   pub thread : e.thread ≡ f.thread
-  pub made : e.made ≡ f.made
+  pub spawned : e.spawned ≡ f.spawned
   pub memory : lays m e.words ≡ lays n f.words
   pub request : e.request ≡ f.request
   pub commit : e.commit ≡ f.commit
@@ -30,7 +30,7 @@ AreAlike m n (Fails why) (Fails other) = why ≡ other
 
 -- a verdict is alike to itself on one memory
 pub alike_same : (m n : List ℕ) (v : LogVerdict) → m ≡ n → AreAlike m n v v
-alike_same m n (Goes e u) h = (record { thread = refl; made = refl; memory = ap (λ (x : List ℕ). lays x e.words) h; request = refl; commit = refl }, refl)
+alike_same m n (Goes e u) h = (record { thread = refl; spawned = refl; memory = ap (λ (x : List ℕ). lays x e.words) h; request = refl; commit = refl }, refl)
 alike_same m n (Fails why) h = refl
 
 -- ---- with other words
@@ -40,7 +40,7 @@ with_words ws (Goes e u) = Goes (record e { words = ws }) u
 with_words ws (Fails why) = Fails why
 
 alike_words : (m n : List ℕ) (ws xs : List Stored) (v : LogVerdict) → lays m ws ≡ lays n xs → AreAlike m n (with_words ws v) (with_words xs v)
-alike_words m n ws xs (Goes e u) h = (record { thread = refl; made = refl; memory = h; request = refl; commit = refl }, refl)
+alike_words m n ws xs (Goes e u) h = (record { thread = refl; spawned = refl; memory = h; request = refl; commit = refl }, refl)
 alike_words m n ws xs (Fails why) h = refl
 
 taken_words : (b : Bool) (ws : List Stored) (e : Effect) (value : ℕ) (u : Used)

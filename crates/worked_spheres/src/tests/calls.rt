@@ -136,11 +136,11 @@ fn an_exit_keeps_its_code(rt: HostRuntime) {
 fn a_spawned_thread_has_its_argument(rt: HostRuntime) {
     let mut threads = threads(&caller(4, [1, 0x20, 0x100, 9]), 2);
     sphere_call(&mut threads, 0, &mut None, 4096);
-    let Some(made) = threads.get(2) else {
+    let Some(spawned) = threads.get(2) else {
         assert!(rt; false);
         return;
     };
-    assert_eq!(rt; (made.pc(), made.x()[2], made.x()[10]), (0x20, 0x100, 9));
+    assert_eq!(rt; (spawned.pc(), spawned.x()[2], spawned.x()[10]), (0x20, 0x100, 9));
 }
 
 #[test]

@@ -28,7 +28,7 @@ returns-in_default-given-clause-verdict g c p q =
     sym (serial-is c.args.log.now p (used_seen c.args.used) s.number s.threads.now s.thread s.memory.now none missing why
     (sym (ap (option_map given_by) c.in_default-given.is) ∙ c.given.ensures.value))
 
-abbrev same : {left v : StepResult} (t : Parts) → left ≡ v → KeepsCommits t v.thread v.made → left.thread.commits ≡ t.commits
+abbrev same : {left v : StepResult} (t : Parts) → left ≡ v → KeepsCommits t v.thread v.spawned → left.thread.commits ≡ t.commits
 same t e keeps = ap (λ (v : StepResult). v.thread.commits) e ∙ keeps.commits
 
 pub counted-requires : goal.counted-requires
@@ -53,11 +53,11 @@ returns-in-Ok-clause-commits g c =
     let keeps = serve-keeps s.number s.threads.now s.request s.thread s.memory.now (option_copied c.in-Some-given.given.input) in
     c.in-Ok.ensures.commits ∙ ap (λ (t : Parts). t.commits) c.counted.ensures ∙ ap (λ (n : ℕ). n + 1) (same s.thread c.in_ok-left.ensures.served keeps)
 
-pub returns-in-Ok-clause-made : goal.returns-in-Ok-clause-made
-returns-in-Ok-clause-made g c =
+pub returns-in-Ok-clause-spawned : goal.returns-in-Ok-clause-spawned
+returns-in-Ok-clause-spawned g c =
     let s = c.args.step.now in
     let keeps = serve-keeps s.number s.threads.now s.request s.thread s.memory.now (option_copied c.in-Some-given.given.input) in
-    subst (λ (ts : List Parts). AreNew ts) (sym (ap (λ (v : StepResult). v.made) c.in_ok-left.ensures.served)) keeps.fresh
+    subst (λ (ts : List Parts). AreNew ts) (sym (ap (λ (v : StepResult). v.spawned) c.in_ok-left.ensures.served)) keeps.fresh
 
 pub returns-in-Err-clause-verdict : goal.returns-in-Err-clause-verdict
 returns-in-Err-clause-verdict g c p q =

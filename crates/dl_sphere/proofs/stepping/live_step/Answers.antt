@@ -43,8 +43,8 @@ returns-clause-thread c =
     in
     ap (λ (v : StepResult). v.thread) served
 
-pub returns-clause-made : goal.returns-clause-made
-returns-clause-made c =
+pub returns-clause-spawned : goal.returns-clause-spawned
+returns-clause-spawned c =
     let s = c.args.step.now in
     let d = c.args.devices.now in
     let n = need s.thread s.memory.now in
@@ -53,7 +53,7 @@ returns-clause-made c =
     let served : result_in c.in_ok-served.served ≡ serve s.number s.threads.now s.request s.thread s.memory.now g.input =
     c.in_ok-served.ensures.served ∙ ap (λ o. serve s.number s.threads.now s.request s.thread s.memory.now o) is
     in
-    ap (λ (v : StepResult). v.made) served
+    ap (λ (v : StepResult). v.spawned) served
 
 pub returns-clause-request : goal.returns-clause-request
 returns-clause-request c =

@@ -19,7 +19,7 @@ use Rattle.dl_sphere.specs.Replayed.{before}
 use Rattle.spec_protocol.specs.Commits.{Diverged, Granted, MovedSphere, serial_moved}
 use Rattle.spec_protocol.proofs.Logs.Growing.{commits_if, pushed_length}
 use Rattle.spec_protocol.proofs.Moves.Threads.{serve-keeps}
-use Rattle.dl_kernel.specs.Calls.{made_list}
+use Rattle.dl_kernel.specs.Calls.{spawned_list}
 use Rattle.dl_sphere.specs.Roles.{keeping_of, role_in, role_of, with_noted, IsReplayed, IsSphere}
 use Rattle.dl_sphere.specs.Inside.{sphere_in, sphere_with}
 use Rattle.dl_sphere.specs.SizedSpheres.{SizedSphere}
@@ -56,13 +56,13 @@ invariant_of-self-2 c =
     let commit : Commit = serial_commit k v.loads v.outputs in
     let h = c.self.invariant in
     let q : Sphere = sphere_with a.memory c.settle.new.threads c.live_step.new.commits.items (Some k) left.request (role_in c.live_step.new.part) in
-    let threads : c.settle.new.threads ≡ set a.threads k u ++ v.made = c.settle.ensures ∙ ap (λ made. set a.threads k u ++ made) c.in_ok-left.ensures.made in
-    let d : Commits (sphere_in a) q k t u v.made commit =
+    let threads : c.settle.new.threads ≡ set a.threads k u ++ v.spawned = c.settle.ensures ∙ ap (λ spawned. set a.threads k u ++ spawned) c.in_ok-left.ensures.spawned in
+    let d : Commits (sphere_in a) q k t u v.spawned commit =
     record {
       start = c.thread_at-found.ensures.thread;
       within = let inside = slice_get_within a.threads k t c.thread_at-found.ensures.thread in let few = c.thread_at-found.ensures.few in omega arith;
       threads = threads;
-      few = threads_few a.threads k u left.made c.settle.new.threads c.settle.ensures c.in_ok-left.ensures.room h.threads;
+      few = threads_few a.threads k u left.spawned c.settle.new.threads c.settle.ensures c.in_ok-left.ensures.room h.threads;
       commits =
           ap (λ (x : Parts). x.commits) c.counted-after.ensures
           ∙ ap (λ (x : Parts). x.commits + 1) c.in_ok-left.ensures.thread
@@ -73,7 +73,7 @@ invariant_of-self-2 c =
     }
     in
     subst (IsSphere a.s q) (sym c.in_ok-left.ensures.noted)
-    (commits_stand (sphere_in a) q k t u v.made commit d a.s false g.input (keeping_of a.part) (live_part a.part c.in_default.not-Replayed) h)
+    (commits_stand (sphere_in a) q k t u v.spawned commit d a.s false g.input (keeping_of a.part) (live_part a.part c.in_default.not-Replayed) h)
 
 pub returns-clause-ok : goal.returns-clause-ok
 returns-clause-ok c =
@@ -95,16 +95,16 @@ returns-clause-ok c =
     let made : List Parts → List Commit → Option Request → Role → List Stored → Devices → MovedSphere =
     λ us cs rq role ws e. record { outcome = Granted; sphere = sphere_with a.memory us cs (Some k) rq role; words = ws; devices = e }
     in
-    let threads : c.settle.new.threads ≡ set a.threads k (counted v.thread) ++ v.made =
-    c.settle.ensures ∙ ap (λ u. set a.threads k u ++ made_list left.made) (c.counted-after.ensures ∙ ap counted l.thread) ∙ ap (λ xs. set a.threads k (counted v.thread) ++ xs) l.made
+    let threads : c.settle.new.threads ≡ set a.threads k (counted v.thread) ++ v.spawned =
+    c.settle.ensures ∙ ap (λ u. set a.threads k u ++ spawned_list left.spawned) (c.counted-after.ensures ∙ ap counted l.thread) ∙ ap (λ xs. set a.threads k (counted v.thread) ++ xs) l.spawned
     in
     let role : role_in c.live_step.new.part ≡ role_of (with_noted commit false g.input None (keeping_of a.part)) = ap role_of l.noted in
     ap (λ us. made us c.live_step.new.commits.items left.request (role_in c.live_step.new.part) left.words.words c.live_step.new.devices) threads
-    ∙ ap (λ cs. made (set a.threads k (counted v.thread) ++ v.made) cs left.request (role_in c.live_step.new.part) left.words.words c.live_step.new.devices) l.commits
-    ∙ ap (λ rq. made (set a.threads k (counted v.thread) ++ v.made) (a.commits.items ++ commit ∷ []) rq (role_in c.live_step.new.part) left.words.words c.live_step.new.devices) l.request
-    ∙ ap (λ r. made (set a.threads k (counted v.thread) ++ v.made) (a.commits.items ++ commit ∷ []) v.request r left.words.words c.live_step.new.devices) role
-    ∙ ap (λ ws. made (set a.threads k (counted v.thread) ++ v.made) (a.commits.items ++ commit ∷ []) v.request (role_of (with_noted commit false g.input None (keeping_of a.part))) ws c.live_step.new.devices) l.words
-    ∙ ap (made (set a.threads k (counted v.thread) ++ v.made) (a.commits.items ++ commit ∷ []) v.request (role_of (with_noted commit false g.input None (keeping_of a.part))) v.words) l.devices
+    ∙ ap (λ cs. made (set a.threads k (counted v.thread) ++ v.spawned) cs left.request (role_in c.live_step.new.part) left.words.words c.live_step.new.devices) l.commits
+    ∙ ap (λ rq. made (set a.threads k (counted v.thread) ++ v.spawned) (a.commits.items ++ commit ∷ []) rq (role_in c.live_step.new.part) left.words.words c.live_step.new.devices) l.request
+    ∙ ap (λ r. made (set a.threads k (counted v.thread) ++ v.spawned) (a.commits.items ++ commit ∷ []) v.request r left.words.words c.live_step.new.devices) role
+    ∙ ap (λ ws. made (set a.threads k (counted v.thread) ++ v.spawned) (a.commits.items ++ commit ∷ []) v.request (role_of (with_noted commit false g.input None (keeping_of a.part))) ws c.live_step.new.devices) l.words
+    ∙ ap (made (set a.threads k (counted v.thread) ++ v.spawned) (a.commits.items ++ commit ∷ []) v.request (role_of (with_noted commit false g.input None (keeping_of a.part))) v.words) l.devices
     ∙ step_is_moved a.memory a.threads a.commits.items a.last d a.s (keeping_of a.part) a.request k moment x (live_part a.part c.in_default.not-Replayed) c.thread_at-found.ensures.thread c.self.invariant.kept
     ∙ ap (λ (y : Parts). serial_moved k moment y d (sphere_in a)) same
     ∙ ap (λ (s : SizedSphere). serial_moved k moment t d s.sphere) c.self.view_is
