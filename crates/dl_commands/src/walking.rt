@@ -119,6 +119,6 @@ fn whole_end(end: WalkEnd) -> End
 {
     match end {
         WalkEnd::Ended(end) => end,
-        WalkEnd::Stopped(_) => unreachable!(),
+        WalkEnd::Reached(_) => unreachable!(),
     }
 }

@@ -8,7 +8,7 @@ use Rattle.spec_isa.specs.declared.thread.Parts.{Parts}
 use Rattle.spec_isa.specs.Runs.{Run}
 use Rattle.spec_play.specs.Effects.{Effect}
 use Rattle.spec_play.specs.Progress.{Progress, with_effect, with_dma, Used, with_dma_used}
-use Rattle.spec_play.specs.Turns.{Over, now_at}
+use Rattle.spec_play.specs.Turns.{Ended, now_at}
 use Rattle.spec_play.specs.Verdicts as log
 use Rattle.spec_play.specs.Transfers.{DmaVerdict, DmaGoes, DmaFails}
 use Rattle.spec_play.specs.Plays.{with_threads}
@@ -50,7 +50,7 @@ pub record HasRun (before threads : List Parts) (k n : ℕ) (r : Run) : Type 0 w
 
 -- only the end is noted
 abbrev pub diverged : Why → Replaying → Replaying
-diverged why r = record r { now = Over (End.Diverged r.done why) }
+diverged why r = record r { now = Ended (End.Diverged r.done why) }
 
 -- a commit of thread k more, behind which these are the threads
 abbrev pub committed : Replaying → Progress → (thread : ℕ) → Effect → Used → List Parts → Replaying

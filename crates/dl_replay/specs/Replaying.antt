@@ -8,7 +8,7 @@ use Rattle.spec_isa.specs.Threads.{started}
 use Rattle.spec_log.specs.declared.LogParts.{LogParts}
 use Rattle.spec_kernel.specs.Interrupts.{is_live}
 use Rattle.spec_play.specs.Progress.{Progress, no_progress, position, Used, nothing_used}
-use Rattle.spec_play.specs.Turns.{Now, Turn, TurnOfDma, Over, now_at}
+use Rattle.spec_play.specs.Turns.{Now, Turn, TurnOfDma, Ended, now_at}
 use Rattle.spec_protocol.specs.Spheres.{Cursor}
 
 pub record Replaying : Type 0 where
@@ -62,7 +62,7 @@ replay_start log entry =
 abbrev pub end_of : Now → Option End
 end_of (Turn thread) = None
 end_of TurnOfDma = None
-end_of (Over how) = Some how
+end_of (Ended how) = Some how
 
 -- it is this actor's turn
 abbrev pub IsTurnOf : Actor → Now → Type 0

@@ -9,7 +9,7 @@ use Rattle.dl_replay.specs.declared.place.LogPlace.{LogPlace}
 abbrev pub now_seen : Now → turns.Now
 now_seen (Now.Turn thread) = turns.Turn thread
 now_seen Now.TurnOfDma = turns.TurnOfDma
-now_seen (Now.Over how) = turns.Over how
+now_seen (Now.Ended how) = turns.Ended how
 
 abbrev pub used_seen : Used → play.Used
 used_seen u = record { inputs = u.inputs; interrupts = u.interrupts; dmas = u.dmas }

@@ -6,5 +6,5 @@ use dl_entry::End;
 pub enum Now {
     Turn(u8),
     TurnOfDma,
-    Over(End),
+    Ended(End),
 }

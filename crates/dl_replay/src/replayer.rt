@@ -85,7 +85,7 @@ impl<M: Mode> Replayer<M> {
         match self.turn {
             Now::Turn(thread) => Some(Actor::Thread(thread)),
             Now::TurnOfDma => Some(Actor::Dma),
-            Now::Over(_) => None,
+            Now::Ended(_) => None,
         }
     }
 
@@ -94,7 +94,7 @@ impl<M: Mode> Replayer<M> {
         ensures { result ≡ end_of self.now.now }
     {
         match self.turn {
-            Now::Over(end) => Some(end),
+            Now::Ended(end) => Some(end),
             Now::Turn(_) | Now::TurnOfDma => None,
         }
     }
@@ -127,7 +127,7 @@ impl<M: Mode> Replayer<M> {
     {
         match self.turn {
             Now::Turn(head) if head == thread => self.total,
-            Now::Turn(_) | Now::TurnOfDma | Now::Over(_) => 0,
+            Now::Turn(_) | Now::TurnOfDma | Now::Ended(_) => 0,
         }
     }
 
@@ -445,7 +445,7 @@ impl<M: Mode> Replayer<M> {
         ensures verdict { result ≡ Verdict.Diverged why }
         ensures replay { self.new ≡ diverged why self.old }
     {
-        self.turn = Now::Over(End::Diverged(self.place.done, why));
+        self.turn = Now::Ended(End::Diverged(self.place.done, why));
         Verdict::Diverged(why)
     }
 }

@@ -55,7 +55,7 @@ fn turn_of(done: u32, threads: &Threads, actor: Option<Actor>) -> Now
     match actor {
         Some(Actor::Dma) => Now::TurnOfDma,
         Some(Actor::Thread(number)) if lives(threads, number) => Now::Turn(number),
-        Some(Actor::Thread(_)) | None => Now::Over(End::Diverged(done, Why::NoThread)),
+        Some(Actor::Thread(_)) | None => Now::Ended(End::Diverged(done, Why::NoThread)),
     }
 }
 
@@ -63,9 +63,9 @@ fn at_end(done: u32, left_over: bool) -> Now
     ensures { now_seen result ≡ at_end done left_over }
 {
     if left_over {
-        Now::Over(End::Diverged(done, Why::LeftOver))
+        Now::Ended(End::Diverged(done, Why::LeftOver))
     } else {
-        Now::Over(End::Complete(done))
+        Now::Ended(End::Complete(done))
     }
 }
 

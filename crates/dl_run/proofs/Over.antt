@@ -13,7 +13,7 @@ use Rattle.spec_log.specs.declared.LogParts.{LogParts}
 use Rattle.spec_log.specs.Bytes.{log_bytes}
 use Rattle.spec_kernel.specs.Devices.{Devices}
 use Rattle.spec_play.specs.Progress.{position}
-use Rattle.spec_play.specs.Turns.{Now, Turn, TurnOfDma, Over}
+use Rattle.spec_play.specs.Turns.{Now, Turn, TurnOfDma, Ended}
 use Rattle.spec_protocol.specs.declared.event.Event.{Event}
 use Rattle.spec_protocol.specs.Spheres.{Role, Plain, Record, Replay, Cursor, is_over}
 use Rattle.spec_protocol.specs.Placing.{replays}
@@ -96,7 +96,7 @@ few_commits es r i over inside live =
 end_now : (b : Cursor) (now : Now) (how : End) → end_in (Replay (record b { now = now })) ≡ Some how → how ≡ end_of now
 end_now b (Turn k) how e = absurd (none-some how e)
 end_now b TurnOfDma how e = absurd (none-some how e)
-end_now b (Over x) how e = cc
+end_now b (Ended x) how e = cc
 
 -- where a sphere has an end, it is what its role ends with
 pub end-some : (role : Role) (n : ℕ) (how : End) → end_in role ≡ Some how → how ≡ end_as role n
@@ -107,7 +107,7 @@ end-some (Replay b) n how e = end_now b b.now how e
 none_now : (b : Cursor) (now : Now) → is_over now ≡ true → end_in (Replay (record b { now = now })) ≡ None → ⊥
 none_now b (Turn k) end e = true≢false (sym end)
 none_now b TurnOfDma end e = true≢false (sym end)
-none_now b (Over x) end e = none-some x (sym e)
+none_now b (Ended x) end e = none-some x (sym e)
 
 -- a sphere that is at its end and has none isn't replayed
 pub end-none : (role : Role) → IsAtEnd role → end_in role ≡ None → replays role ≡ false

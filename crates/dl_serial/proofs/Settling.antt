@@ -15,7 +15,7 @@ use Rattle.spec_engine.specs.Flights.{AreInside}
 use Rattle.spec_play.specs.Effects.{Effect, chunk_commit, serial_commit, dma_commit}
 use Rattle.spec_play.specs.Progress.{Progress, position, with_effect, Used, with_dma, with_dma_used}
 use Rattle.spec_play.specs.Plays.{with_threads, settled, dma_settled}
-use Rattle.spec_play.specs.Turns.{Now, Turn, Over, now_at}
+use Rattle.spec_play.specs.Turns.{Now, Turn, Ended, now_at}
 use Rattle.spec_play.proofs.Going.{turn-lives}
 use Rattle.spec_play.specs.Transfers.{DmaVerdict, DmaFails}
 use Rattle.spec_play.specs.Verdicts.{LogVerdict, Fails, chunk_verdict, serial_verdict}
@@ -38,7 +38,7 @@ named log p u ts us k is same e =
     let lives = turn-lives log p u ts k (sym is ∙ e) in
     subst (λ (xs : List Parts). k < length xs) (sym same) (slice_get_within ts k lives.thread lives.is)
 
-never-turn : {how : End} {k : ℕ} → Over how ≡ Turn k → ⊥
+never-turn : {how : End} {k : ℕ} → Ended how ≡ Turn k → ⊥
 never-turn e = cc
 
 -- ---- a commit of a thread went
@@ -91,7 +91,7 @@ pub record HasLeft (r new : Replaying) (s n : Sphere) (why : Why) : Type 0 where
   pub commits : n.commits.items ≡ s.commits.items
 
 left-played : (r : Replaying) (s : Sphere) (why : Why) (new : Replaying) (n : Sphere) → HasLeft r new s n why → IsPlaying r s
-    → played_in new n ≡ record (played_in r s) { now = Over (End.Diverged (position (progress_in r s)) why) }
+    → played_in new n ≡ record (played_in r s) { now = Ended (End.Diverged (position (progress_in r s)) why) }
 left-played r s why new n l h =
     (λ i. record {
       memory = l.memory i;
@@ -100,7 +100,7 @@ left-played r s why new n l h =
       used = (l.replay i).used;
       now = (l.replay i).now;
     })
-    ∙ ap (λ (done : ℕ). record (played_in r s) { now = Over (End.Diverged done why) }) (sym h.done)
+    ∙ ap (λ (done : ℕ). record (played_in r s) { now = Ended (End.Diverged done why) }) (sym h.done)
 
 pub left-settled : (r : Replaying) (s : Sphere) (k : ℕ) (v : LogVerdict) (why : Why) (new : Replaying) (n : Sphere) → v ≡ Fails why → HasLeft r new s n why → IsPlaying r s
     → played_in new n ≡ settled r.log (played_in r s) k v

@@ -8,7 +8,7 @@ use Rattle.spec_log.specs.declared.LogParts.{LogParts}
 use Rattle.spec_log.specs.Size.{size_in}
 use Rattle.spec_kernel.specs.Needs.{next_kind}
 use Rattle.spec_play.specs.Progress.{Progress, Used}
-use Rattle.spec_play.specs.Turns.{Now, Turn, TurnOfDma, Over}
+use Rattle.spec_play.specs.Turns.{Now, Turn, TurnOfDma, Ended}
 use Rattle.spec_play.specs.Verdicts.{chunk_verdict}
 use Rattle.spec_play.specs.Plays.{Played, size_or_standard, thread_verdict}
 use Rattle.spec_protocol.specs.Spheres.{Cursor, Replay, whole_limit, pieces_of, limit_of}
@@ -25,7 +25,7 @@ if_zero false = refl
 no_pieces : (now : Now) (k : ℕ) → pieces_of now k 0 ≡ 0
 no_pieces (Turn j) k = if_zero (eqb j k)
 no_pieces TurnOfDma k = refl
-no_pieces (Over how) k = refl
+no_pieces (Ended how) k = refl
 
 max_of : (w : ℕ) → 0 < w → max 1 (w - 0) ≡ w
 max_of w l = omega arith

@@ -6,7 +6,7 @@ use Rattle.spec_isa.specs.declared.thread.Parts.{Parts}
 use Rattle.spec_isa.specs.Runs.{run}
 use Rattle.spec_log.specs.declared.LogParts.{LogParts}
 use Rattle.spec_kernel.specs.Needs.{next_kind}
-use Rattle.spec_play.specs.Turns.{Now, Turn, TurnOfDma, Over}
+use Rattle.spec_play.specs.Turns.{Now, Turn, TurnOfDma, Ended}
 use Rattle.spec_play.specs.Transfers.{dma_verdict}
 use Rattle.spec_play.specs.Verdicts.{chunk_verdict, serial_verdict}
 use Rattle.spec_play.specs.Plays.{Played, settled, dma_settled, thread_verdict, play_thread, play_now, play_one, plays}
@@ -73,6 +73,6 @@ on-both (Err e) P Q R f g p q = g q
 pub over-played : (log : LogParts) (start : Played) (i to : ℕ) (now : Now) → i ≤ to → IsSome (end_of now) → (plays log start i).now ≡ now → plays log start i ≡ plays log start to
 over-played log start i to (Turn k) l some is = absurd (true≢false (sym some))
 over-played log start i to TurnOfDma l some is = absurd (true≢false (sym some))
-over-played log start i to (Over how) l some is =
+over-played log start i to (Ended how) l some is =
     let e : (to - i) + i ≡ to = omega arith in
     sym (ap (plays log start) (sym e) ∙ plays-stay log start i (to - i) how is)

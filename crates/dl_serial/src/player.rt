@@ -143,7 +143,7 @@ impl<M: Mode> Player<M> {
         let done = self.sphere.commits.len() as u32;
         match self.replayer.ended() {
             Some(end) if done < to || self.count <= to => WalkEnd::Ended(end),
-            Some(_) | None => WalkEnd::Stopped(done),
+            Some(_) | None => WalkEnd::Reached(done),
         }
     }
 }

@@ -6,7 +6,7 @@ use Rattle.spec_isa.specs.Runs.{run}
 use Rattle.spec_log.specs.declared.LogParts.{LogParts}
 use Rattle.spec_kernel.specs.Devices.{Devices}
 use Rattle.spec_kernel.specs.Needs.{next_kind}
-use Rattle.spec_play.specs.Turns.{Now, Turn, TurnOfDma, Over}
+use Rattle.spec_play.specs.Turns.{Now, Turn, TurnOfDma, Ended}
 use Rattle.spec_play.specs.Verdicts.{LogVerdict, Goes, Fails, serial_verdict}
 use Rattle.spec_play.specs.Transfers.{DmaVerdict, DmaGoes, DmaFails, dma_verdict}
 use Rattle.spec_play.specs.Plays.{Played, opened, size_or_standard, plays}
@@ -39,7 +39,7 @@ turn_work log y k None = 0
 turn_work log y k (Some t) = suc (thread_work log y k t (next_kind t y.memory))
 
 abbrev pub now_work : LogParts → Played → Now → ℕ
-now_work log y (Over how) = 0
+now_work log y (Ended how) = 0
 now_work log y TurnOfDma = suc (dma_stored (dma_verdict log y.progress y.used))
 now_work log y (Turn k) = turn_work log y k (slice_get y.threads k)
 

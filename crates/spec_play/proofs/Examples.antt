@@ -7,7 +7,7 @@ use Rattle.spec_log.specs.declared.ModeName.{ModeName}
 use Rattle.spec_log.specs.declared.Sizes.{Sizes}
 use Rattle.spec_log.specs.declared.LogParts.{LogParts}
 use Rattle.spec_play.specs.declared.walk_end.WalkEnd.{WalkEnd}
-use Rattle.spec_play.specs.Turns.{Over}
+use Rattle.spec_play.specs.Turns.{Ended}
 use Rattle.spec_play.specs.Plays.{play}
 use Rattle.spec_play.specs.Walks.{walked}
 use Rattle.spec_isa.specs.Instruction.{serial_of, loads_of, next_of, load_of, store_of, one}
@@ -111,23 +111,23 @@ none_live_log =
     record { mode = ModeName.Picolog; s = 100; count = 3; order = []; sizes = Sizes.Short []; interrupts = []; inputs = []; dmas = [] }
 
 pub record ArePlayed : Type 0 where
-  pub complete : (play complete_log exits_code 0).now ≡ Over (End.Complete 2)
-  pub complete_in_turn : (play complete_in_turn_log exits_code 0).now ≡ Over (End.Complete 2)
-  pub no_thread : (play no_thread_log exits_code 0).now ≡ Over (End.Diverged 0 Why.NoThread)
-  pub short : (play short_log exits_code 0).now ≡ Over (End.Diverged 0 (Why.Short 3 2))
-  pub not_serial : (play not_serial_log exits_code 0).now ≡ Over (End.Diverged 0 Why.NotSerial)
-  pub no_input : (play no_input_log clock_code 0).now ≡ Over (End.Diverged 1 Why.Input)
-  pub other_input : (play other_input_log clock_code 0).now ≡ Over (End.Diverged 1 Why.Input)
-  pub clocked : (play clocked_log clock_code 0).now ≡ Over (End.Complete 2)
-  pub no_handler : (play no_handler_log exits_code 0).now ≡ Over (End.Diverged 0 Why.Interrupt)
-  pub no_request : (play no_request_log exits_code 0).now ≡ Over (End.Diverged 0 Why.Dma)
-  pub size_of_serial : (play size_of_serial_log exits_code 0).now ≡ Over (End.Diverged 1 (Why.SizeOfSerial 1))
-  pub size_of_dma : (play size_of_dma_log exits_code 0).now ≡ Over (End.Diverged 0 (Why.SizeOfSerial 3))
-  pub left_over : (play left_over_log exits_code 0).now ≡ Over (End.Diverged 2 Why.LeftOver)
-  pub size_left_over : (play size_left_over_log exits_code 0).now ≡ Over (End.Diverged 2 Why.LeftOver)
-  pub ended_at_once : (play ended_at_once_log exits_code 0).now ≡ Over (End.Complete 0)
-  pub goes_on : (play goes_on_log exits_code 0).now ≡ Over (End.Diverged 2 Why.NoThread)
-  pub none_live : (play none_live_log exits_code 0).now ≡ Over (End.Diverged 2 Why.NoThread)
+  pub complete : (play complete_log exits_code 0).now ≡ Ended (End.Complete 2)
+  pub complete_in_turn : (play complete_in_turn_log exits_code 0).now ≡ Ended (End.Complete 2)
+  pub no_thread : (play no_thread_log exits_code 0).now ≡ Ended (End.Diverged 0 Why.NoThread)
+  pub short : (play short_log exits_code 0).now ≡ Ended (End.Diverged 0 (Why.Short 3 2))
+  pub not_serial : (play not_serial_log exits_code 0).now ≡ Ended (End.Diverged 0 Why.NotSerial)
+  pub no_input : (play no_input_log clock_code 0).now ≡ Ended (End.Diverged 1 Why.Input)
+  pub other_input : (play other_input_log clock_code 0).now ≡ Ended (End.Diverged 1 Why.Input)
+  pub clocked : (play clocked_log clock_code 0).now ≡ Ended (End.Complete 2)
+  pub no_handler : (play no_handler_log exits_code 0).now ≡ Ended (End.Diverged 0 Why.Interrupt)
+  pub no_request : (play no_request_log exits_code 0).now ≡ Ended (End.Diverged 0 Why.Dma)
+  pub size_of_serial : (play size_of_serial_log exits_code 0).now ≡ Ended (End.Diverged 1 (Why.SizeOfSerial 1))
+  pub size_of_dma : (play size_of_dma_log exits_code 0).now ≡ Ended (End.Diverged 0 (Why.SizeOfSerial 3))
+  pub left_over : (play left_over_log exits_code 0).now ≡ Ended (End.Diverged 2 Why.LeftOver)
+  pub size_left_over : (play size_left_over_log exits_code 0).now ≡ Ended (End.Diverged 2 Why.LeftOver)
+  pub ended_at_once : (play ended_at_once_log exits_code 0).now ≡ Ended (End.Complete 0)
+  pub goes_on : (play goes_on_log exits_code 0).now ≡ Ended (End.Diverged 2 Why.NoThread)
+  pub none_live : (play none_live_log exits_code 0).now ≡ Ended (End.Diverged 2 Why.NoThread)
 
 pub plays_end : ArePlayed
 unfolding serial_of loads_of next_of load_of store_of one lay read merged answer called bytes_put random_bytes random_after next_kind next_operation need fits serve console_written play_one dma_verdict has_left_over now_at chunk_verdict serial_verdict
@@ -158,8 +158,8 @@ abbrev how_walked : LogParts → (memory : List ℕ) → (to : ℕ) → WalkEnd
 how_walked log memory to = (walked log memory 0 to).end
 
 pub record AreWalked : Type 0 where
-  pub not_begun : how_walked complete_log exits_code 0 ≡ WalkEnd.Stopped 0
-  pub one : how_walked complete_log exits_code 1 ≡ WalkEnd.Stopped 1
+  pub not_begun : how_walked complete_log exits_code 0 ≡ WalkEnd.Reached 0
+  pub one : how_walked complete_log exits_code 1 ≡ WalkEnd.Reached 1
   pub one_commit : length (walked complete_log exits_code 0 1).commits ≡ 1
   -- at the count the end is looked at, and it is no other for more
   pub all : how_walked complete_log exits_code 2 ≡ WalkEnd.Ended (End.Complete 2)
@@ -167,9 +167,9 @@ pub record AreWalked : Type 0 where
   pub none : how_walked ended_at_once_log exits_code 0 ≡ WalkEnd.Ended (End.Complete 0)
   pub left_over : how_walked left_over_log exits_code 2 ≡ WalkEnd.Ended (End.Diverged 2 Why.LeftOver)
   -- a thread that isn't live is looked at below the number alone
-  pub before_no_thread : how_walked goes_on_log exits_code 2 ≡ WalkEnd.Stopped 2
+  pub before_no_thread : how_walked goes_on_log exits_code 2 ≡ WalkEnd.Reached 2
   pub at_no_thread : how_walked goes_on_log exits_code 3 ≡ WalkEnd.Ended (End.Diverged 2 Why.NoThread)
-  pub before_short : how_walked short_log exits_code 0 ≡ WalkEnd.Stopped 0
+  pub before_short : how_walked short_log exits_code 0 ≡ WalkEnd.Reached 0
   pub at_short : how_walked short_log exits_code 1 ≡ WalkEnd.Ended (End.Diverged 0 (Why.Short 3 2))
 
 pub walks_end : AreWalked

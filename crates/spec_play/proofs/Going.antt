@@ -13,7 +13,7 @@ use Rattle.spec_kernel.specs.Interrupts.{is_live}
 use Rattle.spec_kernel.specs.Needs.{next_kind}
 use Rattle.spec_play.specs.Effects.{dma_commit}
 use Rattle.spec_play.specs.Progress.{Progress, position, Used}
-use Rattle.spec_play.specs.Turns.{Now, Turn, TurnOfDma, Over, has_left_over, at_end, turn_of_thread, turn_of, next_actor, now_at}
+use Rattle.spec_play.specs.Turns.{Now, Turn, TurnOfDma, Ended, has_left_over, at_end, turn_of_thread, turn_of, next_actor, now_at}
 use Rattle.spec_play.specs.Verdicts.{LogVerdict, Goes, Fails}
 use Rattle.spec_play.specs.Transfers.{DmaVerdict, DmaGoes, DmaFails, dma_verdict}
 use Rattle.spec_play.specs.Plays.{Played, opened, settled, thread_verdict, play_thread, dma_settled, play_now, play_one, plays, play}
@@ -21,12 +21,12 @@ use Rattle.spec_play.specs.Plays.{Played, opened, settled, thread_verdict, play_
 -- ---- a play that has ended stays
 
 -- a play that has ended is the same after one commit more is asked for
-pub over-stays : (log : LogParts) (y : Played) (how : End) → y.now ≡ Over how → play_one log y ≡ y
+pub over-stays : (log : LogParts) (y : Played) (how : End) → y.now ≡ Ended how → play_one log y ≡ y
 unfolding play_one
 over-stays log y how e = ap (play_now log y) e
 
 -- a play that has ended after i commits is the same after any number more
-pub plays-stay : (log : LogParts) (y : Played) (i n : ℕ) (how : End) → (plays log y i).now ≡ Over how → plays log y (n + i) ≡ plays log y i
+pub plays-stay : (log : LogParts) (y : Played) (i n : ℕ) (how : End) → (plays log y i).now ≡ Ended how → plays log y (n + i) ≡ plays log y i
 plays-stay log y i zero how e = let h : 0 + i ≡ i = omega arith in ap (plays log y) h
 plays-stay log y i (suc n) how e =
     let h : suc n + i ≡ suc (n + i) = omega arith in
@@ -70,7 +70,7 @@ dma_more log y (DmaGoes words) = one_more y (dma_settled log y (DmaGoes words)) 
 dma_more log y (DmaFails why) = no_more y (dma_settled log y (DmaFails why)) refl
 
 now_more : (log : LogParts) (y : Played) (now : Now) → OneMore y (play_now log y now)
-now_more log y (Over how) = no_more y y refl
+now_more log y (Ended how) = no_more y y refl
 now_more log y TurnOfDma = dma_more log y (dma_verdict log y.progress y.used)
 now_more log y (Turn k) = thread_more log y k (slice_get y.threads k)
 
@@ -108,7 +108,7 @@ pub record GoesOn (log : LogParts) (y : Played) (i : ℕ) : Type 0 where
   pub now : now_at log y.progress y.used y.threads ≡ y.now
 
 abbrev pub EndsOr : LogParts → Played → ℕ → Type 0
-EndsOr log y i = ((how : End) × (y.now ≡ Over how)) ⊎ GoesOn log y i
+EndsOr log y i = ((how : End) × (y.now ≡ Ended how)) ⊎ GoesOn log y i
 
 counted_one : (cs : List Commit) (c : Commit) (i : ℕ) → length cs ≡ i → length (cs ++ c ∷ []) ≡ suc i
 counted_one cs c i e = let h = length-append cs (c ∷ []) in omega arith
@@ -127,7 +127,7 @@ pub record Lives (ts : List Parts) (k : ℕ) : Type 0 where
   pub is : slice_get ts k ≡ Some thread
   pub live : is_live thread ≡ true
 
-turn_live : (i j k : ℕ) (ts : List Parts) (t : Parts) (b : Bool) → slice_get ts j ≡ Some t → is_live t ≡ b → cond b (Turn j) (Over (End.Diverged i Why.NoThread)) ≡ Turn k → Lives ts k
+turn_live : (i j k : ℕ) (ts : List Parts) (t : Parts) (b : Bool) → slice_get ts j ≡ Some t → is_live t ≡ b → cond b (Turn j) (Ended (End.Diverged i Why.NoThread)) ≡ Turn k → Lives ts k
 turn_live i j k ts t true is live e = let h : j ≡ k = cc in record { thread = t; is = ap (slice_get ts) (sym h) ∙ is; live = live }
 turn_live i j k ts t false is live e = cc
 
@@ -154,7 +154,7 @@ unfolding now_at
 turn-lives log p u ts k e = turn_below (position p) k ts (next_actor log p ts) (nat_lt (position p) log.count) (has_left_over log u ts) e
 
 now_goes : (log : LogParts) (y : Played) (i : ℕ) (now : Now) → y.now ≡ now → GoesOn log y i → EndsOr log (play_now log y now) (suc i)
-now_goes log y i (Over how) is g = inl (how, is)
+now_goes log y i (Ended how) is g = inl (how, is)
 now_goes log y i TurnOfDma is g = dma_goes log y i (dma_verdict log y.progress y.used) g.done
 now_goes log y i (Turn k) is g =
     let l : Lives y.threads k = turn-lives log y.progress y.used y.threads k (g.now ∙ is) in
@@ -171,29 +171,29 @@ pub plays-go : (log : LogParts) (memory : List ℕ) (entry i : ℕ) → EndsOr l
 plays-go log memory entry zero = inr (record { done = refl; now = refl })
 plays-go log memory entry (suc i) = one_goes log (plays log (opened log memory entry) i) i (plays-go log memory entry i)
 
-ended_at : (i : ℕ) (left : Bool) → (how : End) × (at_end i left ≡ Over how)
+ended_at : (i : ℕ) (left : Bool) → (how : End) × (at_end i left ≡ Ended how)
 ended_at i true = (End.Diverged i Why.LeftOver, refl)
 ended_at i false = (End.Complete i, refl)
 
 -- with all commits done the log says how it ends
-pub over-at : (log : LogParts) (p : Progress) (u : Used) (ts : List Parts) → log.count ≤ position p → (how : End) × (now_at log p u ts ≡ Over how)
+pub over-at : (log : LogParts) (p : Progress) (u : Used) (ts : List Parts) → log.count ≤ position p → (how : End) × (now_at log p u ts ≡ Ended how)
 unfolding now_at
 over-at log p u ts done =
     let e = ended_at (position p) (has_left_over log u ts) in
     (e.0, ap (λ (b : Bool). cond b (turn_of (position p) ts (next_actor log p ts)) (at_end (position p) (has_left_over log u ts))) (le-ltb (position p) log.count done) ∙ e.1)
 
-goes_over : (log : LogParts) (y : Played) → EndsOr log y log.count → (how : End) × (y.now ≡ Over how)
+goes_over : (log : LogParts) (y : Played) → EndsOr log y log.count → (how : End) × (y.now ≡ Ended how)
 goes_over log y (inl e) = e
 goes_over log y (inr g) =
     let h = g.done in
     let o = over-at log y.progress y.used y.threads (omega arith) in (o.0, sym g.now ∙ o.1)
 
 -- a whole play has ended, in some way
-pub play-over : (log : LogParts) (memory : List ℕ) (entry : ℕ) → (how : End) × ((play log memory entry).now ≡ Over how)
+pub play-over : (log : LogParts) (memory : List ℕ) (entry : ℕ) → (how : End) × ((play log memory entry).now ≡ Ended how)
 play-over log memory entry = goes_over log (play log memory entry) (plays-go log memory entry log.count)
 
 -- where a play has ended is where the whole play has
-pub last-is : (log : LogParts) (memory : List ℕ) (entry i : ℕ) (how : End) → (plays log (opened log memory entry) i).now ≡ Over how → plays log (opened log memory entry) i ≡ play log memory entry
+pub last-is : (log : LogParts) (memory : List ℕ) (entry i : ℕ) (how : End) → (plays log (opened log memory entry) i).now ≡ Ended how → plays log (opened log memory entry) i ≡ play log memory entry
 last-is log memory entry i how e =
     let start = opened log memory entry in
     let o = play-over log memory entry in

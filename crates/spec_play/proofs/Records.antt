@@ -8,7 +8,7 @@ use Rattle.spec_log.specs.declared.Interrupt.{Interrupt}
 use Rattle.spec_log.specs.declared.DmaRecord.{DmaRecord}
 use Rattle.spec_log.specs.declared.Sizes.{Sizes}
 use Rattle.spec_log.specs.declared.LogParts.{LogParts}
-use Rattle.spec_play.specs.Turns.{Over}
+use Rattle.spec_play.specs.Turns.{Ended}
 use Rattle.spec_play.specs.Plays.{play}
 use Rattle.spec_isa.specs.Instruction.{serial_of, loads_of, next_of, load_of, store_of, one}
 use Rattle.spec_isa.specs.Words.{lay, read, merged}
@@ -65,28 +65,28 @@ interrupt_after n = record { thread = 0; index = n; value = 5 }
 
 pub record AreRead : Type 0 where
   -- a DMA's record is of its index, and no longer than the request
-  pub dma_fits : (play (of_dma (data_at 2 (65 ∷ 66 ∷ []) ∷ [])) dma_code 0).now ≡ Over (End.Complete 3)
-  pub dma_full : (play (of_dma (data_at 2 (65 ∷ 66 ∷ 67 ∷ 68 ∷ []) ∷ [])) dma_code 0).now ≡ Over (End.Complete 3)
-  pub dma_too_long : (play (of_dma (data_at 2 (65 ∷ 66 ∷ 67 ∷ 68 ∷ 69 ∷ []) ∷ [])) dma_code 0).now ≡ Over (End.Diverged 2 Why.Dma)
-  pub dma_of_another_index : (play (of_dma (data_at 1 (65 ∷ 66 ∷ []) ∷ [])) dma_code 0).now ≡ Over (End.Diverged 2 Why.Dma)
-  pub dma_missing : (play (of_dma []) dma_code 0).now ≡ Over (End.Diverged 2 Why.Dma)
-  pub dma_without_request : (play (of_two_dmas (data_at 2 (65 ∷ 66 ∷ []) ∷ data_at 3 (65 ∷ 66 ∷ []) ∷ [])) dma_code 0).now ≡ Over (End.Diverged 3 Why.Dma)
-  pub dma_unused : (play (of_dmas 2 (Actor.Thread 0 ∷ Actor.Thread 0 ∷ []) (2 ∷ 0 ∷ []) (data_at 1 (65 ∷ []) ∷ [])) exits_code 0).now ≡ Over (End.Diverged 2 Why.LeftOver)
-  pub dma_in_turn : (play (of_dma_in_turn (data_at 2 (65 ∷ 66 ∷ []) ∷ [])) dma_code 0).now ≡ Over (End.Complete 3)
+  pub dma_fits : (play (of_dma (data_at 2 (65 ∷ 66 ∷ []) ∷ [])) dma_code 0).now ≡ Ended (End.Complete 3)
+  pub dma_full : (play (of_dma (data_at 2 (65 ∷ 66 ∷ 67 ∷ 68 ∷ []) ∷ [])) dma_code 0).now ≡ Ended (End.Complete 3)
+  pub dma_too_long : (play (of_dma (data_at 2 (65 ∷ 66 ∷ 67 ∷ 68 ∷ 69 ∷ []) ∷ [])) dma_code 0).now ≡ Ended (End.Diverged 2 Why.Dma)
+  pub dma_of_another_index : (play (of_dma (data_at 1 (65 ∷ 66 ∷ []) ∷ [])) dma_code 0).now ≡ Ended (End.Diverged 2 Why.Dma)
+  pub dma_missing : (play (of_dma []) dma_code 0).now ≡ Ended (End.Diverged 2 Why.Dma)
+  pub dma_without_request : (play (of_two_dmas (data_at 2 (65 ∷ 66 ∷ []) ∷ data_at 3 (65 ∷ 66 ∷ []) ∷ [])) dma_code 0).now ≡ Ended (End.Diverged 3 Why.Dma)
+  pub dma_unused : (play (of_dmas 2 (Actor.Thread 0 ∷ Actor.Thread 0 ∷ []) (2 ∷ 0 ∷ []) (data_at 1 (65 ∷ []) ∷ [])) exits_code 0).now ≡ Ended (End.Diverged 2 Why.LeftOver)
+  pub dma_in_turn : (play (of_dma_in_turn (data_at 2 (65 ∷ 66 ∷ []) ∷ [])) dma_code 0).now ≡ Ended (End.Complete 3)
   -- an interrupt comes after as many commits of its thread as it says
-  pub interrupt_taken : (play (of_two (2 ∷ 0 ∷ []) (interrupt_after 2 ∷ [])) handler_code 0).now ≡ Over (End.Complete 2)
-  pub interrupt_early : (play (of_two (2 ∷ 0 ∷ []) (interrupt_after 1 ∷ [])) handler_code 0).now ≡ Over (End.Diverged 0 Why.Interrupt)
-  pub interrupt_late : (play (of_two (2 ∷ 0 ∷ []) (interrupt_after 3 ∷ [])) handler_code 0).now ≡ Over (End.Diverged 2 Why.LeftOver)
+  pub interrupt_taken : (play (of_two (2 ∷ 0 ∷ []) (interrupt_after 2 ∷ [])) handler_code 0).now ≡ Ended (End.Complete 2)
+  pub interrupt_early : (play (of_two (2 ∷ 0 ∷ []) (interrupt_after 1 ∷ [])) handler_code 0).now ≡ Ended (End.Diverged 0 Why.Interrupt)
+  pub interrupt_late : (play (of_two (2 ∷ 0 ∷ []) (interrupt_after 3 ∷ [])) handler_code 0).now ≡ Ended (End.Diverged 2 Why.LeftOver)
   -- a thread with a handler takes none while it handles one, and none once it has ended
-  pub interrupt_masked : (play (of_sizes (2 ∷ 0 ∷ 1 ∷ []) (interrupt_after 2 ∷ interrupt_after 3 ∷ [])) handler_code 0).now ≡ Over (End.Diverged 2 Why.Interrupt)
-  pub not_masked : (play (of_sizes (2 ∷ 0 ∷ 1 ∷ []) (interrupt_after 3 ∷ [])) handler_code 0).now ≡ Over (End.Complete 3)
-  pub interrupt_ended : (play (of_sizes (2 ∷ 0 ∷ 1 ∷ 0 ∷ []) (interrupt_after 4 ∷ [])) handler_exits_code 0).now ≡ Over (End.Diverged 3 Why.Interrupt)
-  pub not_ended : (play (of_sizes (2 ∷ 0 ∷ 1 ∷ []) (interrupt_after 3 ∷ [])) handler_exits_code 0).now ≡ Over (End.Complete 3)
+  pub interrupt_masked : (play (of_sizes (2 ∷ 0 ∷ 1 ∷ []) (interrupt_after 2 ∷ interrupt_after 3 ∷ [])) handler_code 0).now ≡ Ended (End.Diverged 2 Why.Interrupt)
+  pub not_masked : (play (of_sizes (2 ∷ 0 ∷ 1 ∷ []) (interrupt_after 3 ∷ [])) handler_code 0).now ≡ Ended (End.Complete 3)
+  pub interrupt_ended : (play (of_sizes (2 ∷ 0 ∷ 1 ∷ 0 ∷ []) (interrupt_after 4 ∷ [])) handler_exits_code 0).now ≡ Ended (End.Diverged 3 Why.Interrupt)
+  pub not_ended : (play (of_sizes (2 ∷ 0 ∷ 1 ∷ []) (interrupt_after 3 ∷ [])) handler_exits_code 0).now ≡ Ended (End.Complete 3)
   -- a wrong size comes before a missing record, and a wrong interrupt last
-  pub size_before_input : (play (of_two (1 ∷ 1 ∷ []) []) clock_code 0).now ≡ Over (End.Diverged 1 (Why.SizeOfSerial 1))
-  pub input_before_interrupt : (play (of_two (1 ∷ 0 ∷ []) (interrupt_after 2 ∷ [])) clock_code 0).now ≡ Over (End.Diverged 1 Why.Input)
-  pub short_before_interrupt : (play (of_two (3 ∷ 0 ∷ []) (interrupt_after 1 ∷ [])) exits_code 0).now ≡ Over (End.Diverged 0 (Why.Short 3 2))
-  pub not_serial_before_interrupt : (play (of_two (0 ∷ 0 ∷ []) (interrupt_after 1 ∷ [])) exits_code 0).now ≡ Over (End.Diverged 0 Why.NotSerial)
+  pub size_before_input : (play (of_two (1 ∷ 1 ∷ []) []) clock_code 0).now ≡ Ended (End.Diverged 1 (Why.SizeOfSerial 1))
+  pub input_before_interrupt : (play (of_two (1 ∷ 0 ∷ []) (interrupt_after 2 ∷ [])) clock_code 0).now ≡ Ended (End.Diverged 1 Why.Input)
+  pub short_before_interrupt : (play (of_two (3 ∷ 0 ∷ []) (interrupt_after 1 ∷ [])) exits_code 0).now ≡ Ended (End.Diverged 0 (Why.Short 3 2))
+  pub not_serial_before_interrupt : (play (of_two (0 ∷ 0 ∷ []) (interrupt_after 1 ∷ [])) exits_code 0).now ≡ Ended (End.Diverged 0 Why.NotSerial)
 
 pub records_are_read : AreRead
 unfolding serial_of loads_of next_of load_of store_of one lay read merged answer called bytes_put random_bytes random_after next_kind next_operation need fits serve console_written play_one dma_verdict has_left_over now_at chunk_verdict serial_verdict

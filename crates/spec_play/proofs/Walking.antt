@@ -9,21 +9,21 @@ use Rattle.dl_entry.specs.declared.End.{End}
 use Rattle.spec_log.specs.declared.LogParts.{LogParts}
 use Rattle.spec_play.specs.declared.walk_end.WalkEnd.{WalkEnd}
 use Rattle.spec_play.specs.Progress.{position}
-use Rattle.spec_play.specs.Turns.{Now, Turn, TurnOfDma, Over}
+use Rattle.spec_play.specs.Turns.{Now, Turn, TurnOfDma, Ended}
 use Rattle.spec_play.specs.Plays.{Played, opened, plays, play}
 use Rattle.spec_play.specs.Walks.{is_looked_at, walk_end, walked, IsWalk, WalksArePlays}
 use Rattle.spec_play.proofs.Going.{GoesOn, IsBehind, plays-behind, plays-most, plays-go, over-at, last-is}
 
 -- ---- whether the end is looked at
 
-looked : (log : LogParts) (to done : ℕ) → (done < to) ⊎ (log.count ≤ to) → is_looked_at log to done ≡ true
-looked log to done (inl l) = or_left _ _ (lt-ltb done to l)
-looked log to done (inr l) = or_right _ _ (le-leb log.count to l)
+looked : (log : LogParts) (to i : ℕ) → (i < to) ⊎ (log.count ≤ to) → is_looked_at log to i ≡ true
+looked log to i (inl l) = or_left _ _ (lt-ltb i to l)
+looked log to i (inr l) = or_right _ _ (le-leb log.count to l)
 
-unlooked : (log : LogParts) (to done : ℕ) → is_looked_at log to done ≡ false → (to ≤ done) × (to < log.count)
-unlooked log to done e =
-    let not_so : (done < to) ⊎ (log.count ≤ to) → ⊥ = (λ o. true≢false (sym (looked log to done o) ∙ e)) in
-    elim (cases_lt done to) [
+unlooked : (log : LogParts) (to i : ℕ) → is_looked_at log to i ≡ false → (to ≤ i) × (to < log.count)
+unlooked log to i e =
+    let not_so : (i < to) ⊎ (log.count ≤ to) → ⊥ = (λ o. true≢false (sym (looked log to i o) ∙ e)) in
+    elim (cases_lt i to) [
       | inl l ↦ absurd (not_so (inl l))
       | inr past ↦ elim (cases_lt to log.count) [
         | inl l ↦ (past, l)
@@ -37,65 +37,65 @@ take_all zero (c ∷ cs) l = absurd (omega arith)
 take_all (suc n) [] l = refl
 take_all (suc n) (c ∷ cs) l = ap (λ (ds : List Commit). c ∷ ds) (take_all n cs (omega arith))
 
-same_how : (a b : End) → Over a ≡ Over b → a ≡ b
+same_how : (a b : End) → Ended a ≡ Ended b → a ≡ b
 same_how a b e = cc
 
 same_end : (a b : End) → WalkEnd.Ended a ≡ WalkEnd.Ended b → a ≡ b
 same_end a b e = cc
 
-same_stop : (m n : ℕ) → WalkEnd.Stopped m ≡ WalkEnd.Stopped n → m ≡ n
+same_stop : (m n : ℕ) → WalkEnd.Reached m ≡ WalkEnd.Reached n → m ≡ n
 same_stop m n e = cc
 
-no_end : (n : ℕ) (how : End) → WalkEnd.Stopped n ≡ WalkEnd.Ended how → ⊥
+no_end : (n : ℕ) (how : End) → WalkEnd.Reached n ≡ WalkEnd.Ended how → ⊥
 no_end n how e = cc
 
-no_stop : (n : ℕ) (how : End) → WalkEnd.Ended how ≡ WalkEnd.Stopped n → ⊥
+no_stop : (n : ℕ) (how : End) → WalkEnd.Ended how ≡ WalkEnd.Reached n → ⊥
 no_stop n how e = cc
 
 -- ---- where the play has ended by then
 
-over_walk : (log : LogParts) (memory : List ℕ) (entry to : ℕ) (how : End) → (plays log (opened log memory entry) to).now ≡ Over how → IsWalk log (walked log memory entry to) (play log memory entry) to
+over_walk : (log : LogParts) (memory : List ℕ) (entry to : ℕ) (how : End) → (plays log (opened log memory entry) to).now ≡ Ended how → IsWalk log (walked log memory entry to) (play log memory entry) to
 over_walk log memory entry to how is =
     let y : Played = plays log (opened log memory entry) to in
     let z : Played = play log memory entry in
-    let done : ℕ = position y.progress in
+    let i : ℕ = position y.progress in
     let last : y ≡ z = last-is log memory entry to how is in
-    let most : done ≤ to = plays-most log memory entry to in
-    let end : walk_end log to done y.now ≡ cond (is_looked_at log to done) (WalkEnd.Ended how) (WalkEnd.Stopped done) = ap (walk_end log to done) is in
-    let over : z.now ≡ Over how = ap (λ (x : Played). x.now) (sym last) ∙ is in
-    let by : (b : Bool) → is_looked_at log to done ≡ b → walk_end log to done y.now ≡ cond b (WalkEnd.Ended how) (WalkEnd.Stopped done) =
-    (λ b e. end ∙ ap (λ (c : Bool). cond c (WalkEnd.Ended how) (WalkEnd.Stopped done)) e) in
+    let most : i ≤ to = plays-most log memory entry to in
+    let end : walk_end log to i y.now ≡ cond (is_looked_at log to i) (WalkEnd.Ended how) (WalkEnd.Reached i) = ap (walk_end log to i) is in
+    let over : z.now ≡ Ended how = ap (λ (x : Played). x.now) (sym last) ∙ is in
+    let by : (b : Bool) → is_looked_at log to i ≡ b → walk_end log to i y.now ≡ cond b (WalkEnd.Ended how) (WalkEnd.Reached i) =
+    (λ b e. end ∙ ap (λ (c : Bool). cond c (WalkEnd.Ended how) (WalkEnd.Reached i)) e) in
     record {
       commits = ap (λ (x : Played). x.progress.commits) last ∙ sym (take_all to z.progress.commits (let h = ap (λ (x : Played). position x.progress) last in omega arith));
-      ended = λ other e. elim (cases_Bool (is_looked_at log to done)) [
+      ended = λ other e. elim (cases_Bool (is_looked_at log to i)) [
         | inl so ↦ record {
-          now = over ∙ ap Over (same_end how other (sym (by true so) ∙ e));
+          now = over ∙ ap Ended (same_end how other (sym (by true so) ∙ e));
           threads = ap (λ (x : Played). x.threads) last;
           memory = ap (λ (x : Played). x.memory) last;
           request = ap (λ (x : Played). x.progress.request) last;
         }
-        | inr not_so ↦ absurd (no_end done other (sym (by false not_so) ∙ e))
+        | inr not_so ↦ absurd (no_end i other (sym (by false not_so) ∙ e))
       ];
-      stopped = λ n e. elim (cases_Bool (is_looked_at log to done)) [
+      reached = λ n e. elim (cases_Bool (is_looked_at log to i)) [
         | inl so ↦ absurd (no_stop n how (sym (by true so) ∙ e))
         | inr not_so ↦ (
-            let u = unlooked log to done not_so in
-            let same = same_stop done n (sym (by false not_so) ∙ e) in
+            let u = unlooked log to i not_so in
+            let same = same_stop i n (sym (by false not_so) ∙ e) in
             record { all = (let l = u.0 in omega arith); commits = (let l = u.0 in omega arith); more = u.1 }
             )
       ];
       ends = λ other e where_.
-          let at_ : (done < to) ⊎ (log.count ≤ to) = elim where_ [
+          let at_ : (i < to) ⊎ (log.count ≤ to) = elim where_ [
             | inl l ↦ inl (let h = ap (λ (x : Played). position x.progress) last in omega arith)
             | inr l ↦ inr l
           ]
           in
-          by true (looked log to done at_) ∙ ap WalkEnd.Ended (same_how how other (sym over ∙ e));
+          by true (looked log to i at_) ∙ ap WalkEnd.Ended (same_how how other (sym over ∙ e));
     }
 
 -- ---- where it goes on
 
-going_walk : (log : LogParts) (memory : List ℕ) (entry to : ℕ) → let y = plays log (opened log memory entry) to in GoesOn log y to → ((how : End) → y.now ≡ Over how → ⊥) → walk_end log to (position y.progress) y.now ≡ WalkEnd.Stopped (position y.progress)
+going_walk : (log : LogParts) (memory : List ℕ) (entry to : ℕ) → let y = plays log (opened log memory entry) to in GoesOn log y to → ((how : End) → y.now ≡ Ended how → ⊥) → walk_end log to (position y.progress) y.now ≡ WalkEnd.Reached (position y.progress)
     → IsWalk log (walked log memory entry to) (play log memory entry) to
 going_walk log memory entry to g going stops =
     let start : Played = opened log memory entry in
@@ -113,7 +113,7 @@ going_walk log memory entry to g going stops =
     record {
       commits = sym (ap (take to) same ∙ ap (λ (n : ℕ). take n (y.progress.commits ++ b.rest)) (sym done) ∙ take-append_seam y.progress.commits b.rest);
       ended = λ how e. absurd (no_end (position y.progress) how (sym stops ∙ e));
-      stopped = λ n e. record { all = sym (same_stop (position y.progress) n (sym stops ∙ e)) ∙ done; commits = done; more = more };
+      reached = λ n e. record { all = sym (same_stop (position y.progress) n (sym stops ∙ e)) ∙ done; commits = done; more = more };
       ends = λ how e where_. elim where_ [
         | inl l ↦ absurd (let h = ap (λ (cs : List Commit). length cs) same in let a = length-append y.progress.commits b.rest in omega arith)
         | inr l ↦ absurd (omega arith)
@@ -123,17 +123,17 @@ going_walk log memory entry to g going stops =
 -- ---- both
 
 turn_walk : (log : LogParts) (memory : List ℕ) (entry to : ℕ) (now : Now) → (plays log (opened log memory entry) to).now ≡ now → IsWalk log (walked log memory entry to) (play log memory entry) to
-turn_walk log memory entry to (Over how) is = over_walk log memory entry to how is
+turn_walk log memory entry to (Ended how) is = over_walk log memory entry to how is
 turn_walk log memory entry to (Turn k) is =
     let y : Played = plays log (opened log memory entry) to in
-    let going : (how : End) → y.now ≡ Over how → ⊥ = (λ how e. let h : Turn k ≡ Over how = sym is ∙ e in cc) in
+    let going : (how : End) → y.now ≡ Ended how → ⊥ = (λ how e. let h : Turn k ≡ Ended how = sym is ∙ e in cc) in
     elim (plays-go log memory entry to) [
       | inl over ↦ absurd (going over.0 over.1)
       | inr g ↦ going_walk log memory entry to g going (ap (walk_end log to (position y.progress)) is)
     ]
 turn_walk log memory entry to TurnOfDma is =
     let y : Played = plays log (opened log memory entry) to in
-    let going : (how : End) → y.now ≡ Over how → ⊥ = (λ how e. let h : TurnOfDma ≡ Over how = sym is ∙ e in cc) in
+    let going : (how : End) → y.now ≡ Ended how → ⊥ = (λ how e. let h : TurnOfDma ≡ Ended how = sym is ∙ e in cc) in
     elim (plays-go log memory entry to) [
       | inl over ↦ absurd (going over.0 over.1)
       | inr g ↦ going_walk log memory entry to g going (ap (walk_end log to (position y.progress)) is)

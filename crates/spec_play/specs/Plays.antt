@@ -12,7 +12,7 @@ use Rattle.spec_log.specs.Size.{size_in}
 use Rattle.spec_kernel.specs.Needs.{next_kind}
 use Rattle.spec_play.specs.Effects.{Effect}
 use Rattle.spec_play.specs.Progress.{Progress, no_progress, position, with_effect, with_dma, Used, nothing_used, with_dma_used}
-use Rattle.spec_play.specs.Turns.{Now, Turn, TurnOfDma, Over, now_at}
+use Rattle.spec_play.specs.Turns.{Now, Turn, TurnOfDma, Ended, now_at}
 use Rattle.spec_play.specs.Verdicts.{LogVerdict, Goes, Fails, chunk_verdict, serial_verdict}
 use Rattle.spec_play.specs.Transfers.{DmaVerdict, DmaGoes, DmaFails, dma_verdict}
 
@@ -43,7 +43,7 @@ abbrev pub with_threads : (thread : ℕ) → Effect → List Parts → List Part
 with_threads k e threads = slice_set threads k e.thread ++ e.spawned
 
 abbrev pub settled : LogParts → Played → (thread : ℕ) → LogVerdict → Played
-settled log y k (Fails why) = record y { now = Over (End.Diverged (position y.progress) why) }
+settled log y k (Fails why) = record y { now = Ended (End.Diverged (position y.progress) why) }
 settled log y k (Goes e u) =
     let threads = with_threads k e y.threads in
     let progress = with_effect k e y.progress in
@@ -70,7 +70,7 @@ play_thread log y k None = y
 play_thread log y k (Some t) = settled log y k (thread_verdict log y k t (next_kind t y.memory))
 
 abbrev pub dma_settled : LogParts → Played → DmaVerdict → Played
-dma_settled log y (DmaFails why) = record y { now = Over (End.Diverged (position y.progress) why) }
+dma_settled log y (DmaFails why) = record y { now = Ended (End.Diverged (position y.progress) why) }
 dma_settled log y (DmaGoes words) =
     let progress = with_dma y.progress in
     let used = with_dma_used y.used in
@@ -83,7 +83,7 @@ dma_settled log y (DmaGoes words) =
     }
 
 abbrev pub play_now : LogParts → Played → Now → Played
-play_now log y (Over how) = y
+play_now log y (Ended how) = y
 play_now log y TurnOfDma = dma_settled log y (dma_verdict log y.progress y.used)
 play_now log y (Turn k) = play_thread log y k (slice_get y.threads k)
 
@@ -104,4 +104,4 @@ play log memory entry = plays log (opened log memory entry) log.count
 
 -- a log fits an image whose play is complete
 abbrev pub FitsImage : LogParts → (memory : List ℕ) → (entry : ℕ) → Type 0
-FitsImage log memory entry = (play log memory entry).now ≡ Over (End.Complete log.count)
+FitsImage log memory entry = (play log memory entry).now ≡ Ended (End.Complete log.count)

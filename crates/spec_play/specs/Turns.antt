@@ -15,7 +15,7 @@ use Rattle.spec_play.specs.Progress.{Progress, position, Used}
 pub data Now : Type 0 where
   Turn : (thread : ℕ) → Now
   TurnOfDma : Now
-  Over : (how : End) → Now
+  Ended : (how : End) → Now
 
 -- ---- at the end of the log
 
@@ -40,18 +40,18 @@ has_left_over log u threads =
     else true
 
 abbrev pub at_end : (commits : ℕ) → (left_over : Bool) → Now
-at_end i true = Over (End.Diverged i Why.LeftOver)
-at_end i false = Over (End.Complete i)
+at_end i true = Ended (End.Diverged i Why.LeftOver)
+at_end i false = Ended (End.Complete i)
 
 -- ---- before it
 
 -- a thread whose turn it is must live
 abbrev pub turn_of_thread : (commits thread : ℕ) → Option Parts → Now
-turn_of_thread i k None = Over (End.Diverged i Why.NoThread)
-turn_of_thread i k (Some t) = if is_live t then Turn k else Over (End.Diverged i Why.NoThread)
+turn_of_thread i k None = Ended (End.Diverged i Why.NoThread)
+turn_of_thread i k (Some t) = if is_live t then Turn k else Ended (End.Diverged i Why.NoThread)
 
 abbrev pub turn_of : (commits : ℕ) → List Parts → Option Actor → Now
-turn_of i threads None = Over (End.Diverged i Why.NoThread)
+turn_of i threads None = Ended (End.Diverged i Why.NoThread)
 turn_of i threads (Some Actor.Dma) = TurnOfDma
 turn_of i threads (Some (Actor.Thread k)) = turn_of_thread i k (slice_get threads k)
 

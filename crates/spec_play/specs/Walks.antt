@@ -7,7 +7,7 @@ use Rattle.spec_isa.specs.declared.thread.Parts.{Parts}
 use Rattle.spec_log.specs.declared.LogParts.{LogParts}
 use Rattle.spec_play.specs.declared.walk_end.WalkEnd.{WalkEnd}
 use Rattle.spec_play.specs.Progress.{position}
-use Rattle.spec_play.specs.Turns.{Now, Turn, TurnOfDma, Over}
+use Rattle.spec_play.specs.Turns.{Now, Turn, TurnOfDma, Ended}
 use Rattle.spec_play.specs.Plays.{Played, opened, plays, play}
 
 -- what a walk leaves
@@ -19,13 +19,13 @@ pub record Walked : Type 0 where
   pub end : WalkEnd
 
 -- with `to` commits done where the log has more, the end isn't looked at
-abbrev pub is_looked_at : LogParts → (to done : ℕ) → Bool
-is_looked_at log to done = nat_lt done to || nat_le log.count to
+abbrev pub is_looked_at : LogParts → (to i : ℕ) → Bool
+is_looked_at log to i = nat_lt i to || nat_le log.count to
 
-abbrev pub walk_end : LogParts → (to done : ℕ) → Now → WalkEnd
-walk_end log to done (Over how) = if is_looked_at log to done then WalkEnd.Ended how else WalkEnd.Stopped done
-walk_end log to done (Turn k) = WalkEnd.Stopped done
-walk_end log to done TurnOfDma = WalkEnd.Stopped done
+abbrev pub walk_end : LogParts → (to i : ℕ) → Now → WalkEnd
+walk_end log to i (Ended how) = if is_looked_at log to i then WalkEnd.Ended how else WalkEnd.Reached i
+walk_end log to i (Turn k) = WalkEnd.Reached i
+walk_end log to i TurnOfDma = WalkEnd.Reached i
 
 -- the play's state after a walk of up to `to` commits
 abbrev pub walked_at : LogParts → (to : ℕ) → Played → Walked
@@ -46,22 +46,22 @@ walked log memory entry to = walked_at log to (plays log (opened log memory entr
 
 -- what a walk that has ended leaves is what the play leaves
 pub record HasEnded (v : Walked) (y : Played) (how : End) : Type 0 where
-  pub now : y.now ≡ Over how
+  pub now : y.now ≡ Ended how
   pub threads : v.threads ≡ y.threads
   pub memory : v.memory ≡ y.memory
   pub request : v.request ≡ y.progress.request
 
-pub record HasStopped (log : LogParts) (v : Walked) (to done : ℕ) : Type 0 where
-  pub all : done ≡ to
+pub record HasReached (log : LogParts) (v : Walked) (to i : ℕ) : Type 0 where
+  pub all : i ≡ to
   pub commits : length v.commits ≡ to
   pub more : to < log.count
 
 pub record IsWalk (log : LogParts) (v : Walked) (y : Played) (to : ℕ) : Type 0 where
   pub commits : v.commits ≡ take to y.progress.commits
   pub ended : (how : End) → v.end ≡ WalkEnd.Ended how → HasEnded v y how
-  pub stopped : (done : ℕ) → v.end ≡ WalkEnd.Stopped done → HasStopped log v to done
+  pub reached : (i : ℕ) → v.end ≡ WalkEnd.Reached i → HasReached log v to i
   -- it ends where the play ends at fewer commits, or the log has no more
-  pub ends : (how : End) → y.now ≡ Over how → (position y.progress < to) ⊎ (log.count ≤ to)
+  pub ends : (how : End) → y.now ≡ Ended how → (position y.progress < to) ⊎ (log.count ≤ to)
       → v.end ≡ WalkEnd.Ended how
 
 abbrev pub WalksArePlays : Type 0

@@ -7,5 +7,5 @@ pub enum WalkEnd {
     /// The play has ended so.
     Ended(End),
     /// So many commits are done, as many as were asked for, and the log has more.
-    Stopped(u32),
+    Reached(u32),
 }

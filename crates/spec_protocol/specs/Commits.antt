@@ -15,7 +15,7 @@ use Rattle.spec_kernel.specs.Interrupts.{interrupted}
 use Rattle.spec_kernel.specs.Serving.{serve, console_written}
 use Rattle.spec_play.specs.Effects.{Effect, chunk_effect, serial_effect, dma_commit}
 use Rattle.spec_play.specs.Progress.{Progress, position, with_effect, with_dma, Used, with_dma_used}
-use Rattle.spec_play.specs.Turns.{Over, now_at}
+use Rattle.spec_play.specs.Turns.{Ended, now_at}
 use Rattle.spec_play.specs.Verdicts.{LogVerdict, Goes, Fails, chunk_verdict, serial_verdict}
 use Rattle.spec_play.specs.Transfers.{DmaVerdict, DmaGoes, DmaFails, dma_verdict}
 use Rattle.spec_play.specs.Plays.{with_threads}
@@ -58,7 +58,7 @@ abbrev pub diverged : Cursor → Why → Devices → Sphere → MovedSphere
 diverged b why devices p =
     record {
       outcome = Diverged (position p.progress) why;
-      sphere = record p { role = Replay (record b { now = Over (End.Diverged (position p.progress) why) }) };
+      sphere = record p { role = Replay (record b { now = Ended (End.Diverged (position p.progress) why) }) };
       words = [];
       devices = devices;
     }

@@ -9,7 +9,7 @@ use Rattle.spec_log.specs.Head.{turn}
 use Rattle.spec_log.specs.Size.{size_in}
 use Rattle.spec_kernel.specs.Interrupts.{is_live}
 use Rattle.spec_play.specs.Progress.{Progress, no_progress, Used}
-use Rattle.spec_play.specs.Turns.{Now, Turn, TurnOfDma, Over}
+use Rattle.spec_play.specs.Turns.{Now, Turn, TurnOfDma, Ended}
 
 -- a replayed sphere's log, how far it is in it, and of the pieces of the present commit the instructions and the loads
 pub record Cursor : Type 0 where
@@ -40,7 +40,7 @@ no_sphere = record { memory = []; threads = []; progress = no_progress; role = P
 abbrev pub is_over : Now → Bool
 is_over (Turn k) = false
 is_over TurnOfDma = false
-is_over (Over how) = true
+is_over (Ended how) = true
 
 -- a replayed sphere stops once it is complete or has diverged
 abbrev pub is_stopped : Role → Bool
@@ -51,7 +51,7 @@ is_stopped (Replay b) = is_over b.now
 abbrev pub actor_of : Now → Option Actor
 actor_of (Turn k) = Some (Actor.Thread k)
 actor_of TurnOfDma = Some Actor.Dma
-actor_of (Over how) = None
+actor_of (Ended how) = None
 
 -- while picolog is recorded threads take turns
 abbrev pub recording_turn : ModeName → Sphere → Option Actor
@@ -78,7 +78,7 @@ whole_limit log k commits = elim (size_in log (Actor.Thread k) commits) [ None �
 abbrev pub pieces_of : Now → (thread total : ℕ) → ℕ
 pieces_of (Turn j) k total = if nat_eq j k then total else 0
 pieces_of TurnOfDma k total = 0
-pieces_of (Over how) k total = 0
+pieces_of (Ended how) k total = 0
 
 abbrev pub limit_in : Role → (s thread commits : ℕ) → ℕ
 limit_in Plain s k commits = s

@@ -23,7 +23,7 @@ use Rattle.spec_kernel.specs.Records.{fits}
 use Rattle.spec_kernel.specs.Serving.{serve, console_written}
 use Rattle.spec_play.specs.Plays.{play_one}
 use Rattle.spec_play.specs.Transfers.{dma_verdict}
-use Rattle.spec_play.specs.Turns.{Now, Turn, Over, has_left_over, now_at}
+use Rattle.spec_play.specs.Turns.{Now, Turn, Ended, has_left_over, now_at}
 use Rattle.spec_play.specs.Verdicts.{chunk_verdict, serial_verdict}
 use Rattle.spec_play.proofs.Programs.{image}
 use Rattle.spec_engine.specs.Choices.{on_option, choose}
@@ -153,21 +153,21 @@ two_commits =
 
 pub record AreReplayed : Type 0 where
   -- a replay can be over before its first commit
-  pub empty_now : now_after (replay empty_log) [] ≡ Some (Over (End.Complete 0))
+  pub empty_now : now_after (replay empty_log) [] ≡ Some (Ended (End.Complete 0))
   pub empty_replies : replies (replay empty_log) asks_at_once ≡ Reply.Stopped ∷ Reply.NotClosed ∷ Reply.Stopped ∷ []
   pub empty_next : next (replay empty_log) ≡ None
-  pub no_thread_now : now_after (replay no_thread_log) [] ≡ Some (Over (End.Diverged 0 Why.NoThread))
+  pub no_thread_now : now_after (replay no_thread_log) [] ≡ Some (Ended (End.Diverged 0 Why.NoThread))
   pub no_thread_next : next (replay no_thread_log) ≡ None
   -- whole, in two pieces, and with an empty last part the commits are the same
   pub whole_replies : replies (replay whole_log) whole_events
       ≡ Reply.Ran ∷ Reply.Closed How.Limit ∷ Reply.Granted ∷ Reply.Closed How.Serial ∷ Reply.Granted ∷ Reply.Idle ∷ []
   pub whole_commits : commits_after (replay whole_log) whole_events ≡ two_commits
-  pub whole_now : now_after (replay whole_log) whole_events ≡ Some (Over (End.Complete 2))
+  pub whole_now : now_after (replay whole_log) whole_events ≡ Some (Ended (End.Complete 2))
   pub piece_replies : replies (replay whole_log) piece_events
       ≡ Reply.Ran ∷ Reply.Closed How.Cut ∷ Reply.Piece ∷ Reply.Closed How.Limit ∷ Reply.Granted ∷ Reply.Closed How.Serial
       ∷ Reply.Granted ∷ Reply.Idle ∷ []
   pub piece_commits : commits_after (replay whole_log) piece_events ≡ two_commits
-  pub piece_now : now_after (replay whole_log) piece_events ≡ Some (Over (End.Complete 2))
+  pub piece_now : now_after (replay whole_log) piece_events ≡ Some (Ended (End.Complete 2))
   pub piece_points : (world_after (replay whole_log) piece_events).points
       ≡ Point.Commit 2 0 (Actor.Thread 0) CommitKind.Piece 1 true ∷ Point.Commit 4 0 (Actor.Thread 0) CommitKind.Chunk 1 true
       ∷ Point.Commit 6 0 (Actor.Thread 0) CommitKind.Serial 0 false ∷ []
@@ -175,13 +175,13 @@ pub record AreReplayed : Type 0 where
       ≡ Reply.Ran ∷ Reply.Ran ∷ Reply.Closed How.Cut ∷ Reply.Piece ∷ Reply.Closed How.Serial ∷ Reply.Granted
       ∷ Reply.Closed How.Serial ∷ Reply.Granted ∷ Reply.Idle ∷ []
   pub empty_last_commits : commits_after (replay unsized_log) empty_last_events ≡ two_commits
-  pub empty_last_now : now_after (replay unsized_log) empty_last_events ≡ Some (Over (End.Complete 2))
+  pub empty_last_now : now_after (replay unsized_log) empty_last_events ≡ Some (Ended (End.Complete 2))
   -- the pieces count where a commit is too short, and no commit is noted
   pub longer_replies : replies (replay longer_log) longer_events
       ≡ Reply.Ran ∷ Reply.Closed How.Cut ∷ Reply.Piece ∷ Reply.Ran ∷ Reply.Closed How.Serial ∷ Reply.Diverged 0 (Why.Short 3 2)
       ∷ Reply.Stopped ∷ []
   pub longer_commits : commits_after (replay longer_log) longer_events ≡ []
-  pub longer_now : now_after (replay longer_log) longer_events ≡ Some (Over (End.Diverged 0 (Why.Short 3 2)))
+  pub longer_now : now_after (replay longer_log) longer_events ≡ Some (Ended (End.Diverged 0 (Why.Short 3 2)))
   -- where a serial step is logged one instruction is run
   pub serial_replies : replies (replay serial_log) serial_events ≡ Reply.Closed How.Limit ∷ Reply.Waiting ∷ Reply.Diverged 0 Why.NotSerial ∷ Reply.Stopped ∷ []
   -- after a piece it is the same thread's turn

@@ -8,7 +8,7 @@ use Rattle.spec_isa.specs.Runs.{run}
 use Rattle.spec_log.specs.declared.LogParts.{LogParts}
 use Rattle.spec_kernel.specs.Interrupts.{is_live}
 use Rattle.spec_play.specs.Progress.{position}
-use Rattle.spec_play.specs.Turns.{Now, Turn, TurnOfDma, Over}
+use Rattle.spec_play.specs.Turns.{Now, Turn, TurnOfDma, Ended}
 use Rattle.spec_play.specs.Plays.{Played, play_one}
 use Rattle.spec_protocol.specs.Spheres.{Cursor, Replay, Sphere, whole_limit}
 
@@ -36,15 +36,15 @@ pub record IsMovedOn (log : LogParts) (y : Played) (k : ℕ) (t : Parts) (p : Sp
 abbrev pub StandsAt : LogParts → Played → Now → Sphere → Cursor → Type 0
 StandsAt log y (Turn k) p b = (t : Parts) × IsMovedOn log y k t p b
 StandsAt log y TurnOfDma p b = IsWhole y p b
-StandsAt log y (Over how) p b = IsWhole y p b
+StandsAt log y (Ended how) p b = IsWhole y p b
 
 -- ---- the end
 
 -- the replay has ended within the play's next commit, which diverges: it gives the play this end, and nothing else
 pub record EndsWithin (log : LogParts) (y : Played) (b : Cursor) : Type 0 where
   pub why : Why
-  pub over : b.now ≡ Over (End.Diverged (position y.progress) why)
-  pub diverges : play_one log y ≡ record y { now = Over (End.Diverged (position y.progress) why) }
+  pub over : b.now ≡ Ended (End.Diverged (position y.progress) why)
+  pub diverges : play_one log y ≡ record y { now = Ended (End.Diverged (position y.progress) why) }
 
 -- ---- both
 
@@ -59,5 +59,5 @@ pub record Follows (log : LogParts) (y : Played) (p : Sphere) : Type 0 where
   -- it is the same actor's turn, or both have ended in the same way; or the replay has, within the play's next commit
   pub now : (cursor.now ≡ y.now) ⊎ EndsWithin log y cursor
   -- where the play has ended, so has the replay
-  pub ended : (how : End) → y.now ≡ Over how → cursor.now ≡ Over how
+  pub ended : (how : End) → y.now ≡ Ended how → cursor.now ≡ Ended how
   pub state : StandsAt log y y.now p cursor

@@ -4,7 +4,7 @@ use Rattle.dl_entry.specs.declared.End.{End}
 use Rattle.dl_entry.specs.declared.Why.{Why}
 use Rattle.spec_log.specs.declared.LogParts.{LogParts}
 use Rattle.spec_play.specs.Progress.{position}
-use Rattle.spec_play.specs.Turns.{Over}
+use Rattle.spec_play.specs.Turns.{Ended}
 use Rattle.spec_play.specs.Plays.{Played, opened, plays, play}
 use Rattle.spec_protocol.specs.declared.event.Event.{Event}
 use Rattle.spec_protocol.specs.Spheres.{Cursor, Replay, Sphere, is_over}
@@ -56,8 +56,8 @@ ends_between (End.Diverged commits why) = is_between why
 pub record IsPlayed (y : Played) (p : Sphere) (b : Cursor) : Type 0 where
   pub progress : p.progress ≡ y.progress
   pub now : b.now ≡ y.now
-  pub memory : (how : End) → b.now ≡ Over how → ends_between how ≡ true → p.memory ≡ y.memory
-  pub threads : (how : End) → b.now ≡ Over how → ends_between how ≡ true → p.threads ≡ y.threads
+  pub memory : (how : End) → b.now ≡ Ended how → ends_between how ≡ true → p.memory ≡ y.memory
+  pub threads : (how : End) → b.now ≡ Ended how → ends_between how ≡ true → p.threads ≡ y.threads
 
 abbrev pub StoppedArePlayed : Type 0
 StoppedArePlayed =
@@ -83,7 +83,7 @@ pub record Agree (p q : Sphere) (b c : Cursor) : Type 0 where
   pub ends : is_over b.now ≡ true → is_over c.now ≡ true → b.now ≡ c.now
   -- and with the same memory and threads, unless that was within a commit, of which they may have done other
   -- pieces
-  pub final : (how : End) → b.now ≡ Over how → ends_between how ≡ true → is_over c.now ≡ true
+  pub final : (how : End) → b.now ≡ Ended how → ends_between how ≡ true → is_over c.now ≡ true
       → SameState p q
 
 -- whatever else differs: cores, buffers, window, signatures, devices, events and the other spheres

@@ -8,7 +8,7 @@ use Rattle.dl_entry.specs.declared.End.{End}
 use Rattle.spec_log.specs.declared.ModeName.{ModeName}
 use Rattle.spec_log.specs.declared.LogParts.{LogParts}
 use Rattle.spec_play.specs.Progress.{position}
-use Rattle.spec_play.specs.Turns.{Now, Turn, TurnOfDma, Over}
+use Rattle.spec_play.specs.Turns.{Now, Turn, TurnOfDma, Ended}
 use Rattle.spec_play.specs.Plays.{Played, play}
 use Rattle.spec_protocol.specs.declared.event.Event.{Event}
 use Rattle.spec_protocol.specs.Spheres.{Role, Plain, Record, Replay, Cursor, Sphere, no_sphere, is_over}
@@ -147,13 +147,13 @@ held_executed : (p : Sphere) → replays p.role ≡ false → account_held p ≡
 held_executed p live =
     ap (account_of p.progress.commits p.threads p.progress.request p.memory) (live_end p.role (position p.progress) live)
 
-over_how : (now : Now) → is_over now ≡ true → (how : End) × (now ≡ Over how)
+over_how : (now : Now) → is_over now ≡ true → (how : End) × (now ≡ Ended how)
 over_how (Turn k) e = absurd (true≢false (sym e))
 over_how TurnOfDma e = absurd (true≢false (sym e))
-over_how (Over how) e = (how, refl)
+over_how (Ended how) e = (how, refl)
 
 -- a play that is complete leaves its state; of one that diverged none is described
-held_played : (y : Played) (p : Sphere) (b : Cursor) (how : End) → IsPlayed y p b → b.now ≡ Over how → account_of p.progress.commits p.threads p.progress.request p.memory (end_of b.now) ≡ played_account y
+held_played : (y : Played) (p : Sphere) (b : Cursor) (how : End) → IsPlayed y p b → b.now ≡ Ended how → account_of p.progress.commits p.threads p.progress.request p.memory (end_of b.now) ≡ played_account y
 held_played y p b (End.Complete n) is over =
     let progress = is.progress in
     let threads = is.threads (End.Complete n) over refl in
@@ -179,7 +179,7 @@ record IsReplayedTo (s : Setup) (es : List Event) (i : ℕ) (image : SphereSetup
   cursor : Cursor
   role : p.role ≡ Replay cursor
   played : IsPlayed (play log image.memory image.entry) p cursor
-  over : (how : End) × (cursor.now ≡ Over how)
+  over : (how : End) × (cursor.now ≡ Ended how)
 
 same_sphere : (p q : Sphere) → Some p ≡ Some q → p ≡ q
 same_sphere p q e = cc
@@ -268,7 +268,7 @@ runs_described s es is =
 -- ---- what follows
 
 -- a play that is complete has the account of what it leaves
-play_account : (y : Played) (p : Sphere) (n : ℕ) → y.now ≡ Over (End.Complete n) → n ≡ position p.progress → y.memory ≡ p.memory → y.threads ≡ p.threads → y.progress ≡ p.progress → played_account y ≡ executed_account p
+play_account : (y : Played) (p : Sphere) (n : ℕ) → y.now ≡ Ended (End.Complete n) → n ≡ position p.progress → y.memory ≡ p.memory → y.threads ≡ p.threads → y.progress ≡ p.progress → played_account y ≡ executed_account p
 play_account y p n now few memory threads progress =
     let end_is : end_of y.now ≡ End.Complete (position p.progress) = ap end_of now ∙ ap End.Complete few in
     (λ j. account_of (progress j).commits (threads j) (progress j).request (memory j) (end_is j))

@@ -5,7 +5,7 @@ use Rattle.dl_entry.specs.declared.End.{End}
 use Rattle.dl_entry.specs.declared.Point.{Point}
 use Rattle.dl_entry.specs.declared.Counts.{Counts}
 use Rattle.spec_log.specs.declared.LogParts.{LogParts}
-use Rattle.spec_play.specs.Turns.{Now, Turn, TurnOfDma, Over}
+use Rattle.spec_play.specs.Turns.{Now, Turn, TurnOfDma, Ended}
 use Rattle.spec_play.specs.Plays.{Played, play}
 use Rattle.spec_protocol.specs.declared.event.Event.{Event}
 use Rattle.spec_protocol.specs.Machine.{RoleSetup, IsPlain, IsRecorded, IsReplayed, SphereSetup, Setup}
@@ -35,7 +35,7 @@ played log image = play log image.memory image.entry
 
 -- how a whole play ended; each has
 abbrev pub end_of : Now → End
-end_of (Over how) = how
+end_of (Ended how) = how
 end_of (Turn thread) = End.Complete 0
 end_of TurnOfDma = End.Complete 0
 

@@ -7,7 +7,7 @@ use Rattle.dl_entry.specs.declared.Actor.{Actor}
 use Rattle.dl_entry.specs.declared.Request.{Request}
 use Rattle.spec_isa.specs.declared.thread.Parts.{Parts}
 use Rattle.spec_play.specs.Progress.{position}
-use Rattle.spec_play.specs.Turns.{Now, Turn, TurnOfDma, Over}
+use Rattle.spec_play.specs.Turns.{Now, Turn, TurnOfDma, Ended}
 use Rattle.spec_engine.specs.declared.answers.How.{How}
 use Rattle.spec_engine.specs.Chunks.{Chunk, is_serial}
 use Rattle.spec_engine.specs.Flights.{at}
@@ -48,7 +48,7 @@ only_if false a actor e = cc
 turn_now : (now : Now) (k : ℕ) → is_over now ≡ false → other_turn (actor_of now) k ≡ None → now ≡ Turn k
 turn_now (Turn j) k going free = ap Turn (eqb-true j k (only_if (nat_eq j k) None (Actor.Thread j) free))
 turn_now TurnOfDma k going free = cc
-turn_now (Over how) k going free = cc
+turn_now (Ended how) k going free = cc
 
 turn_in : (role : Role) (p : Sphere) (k : ℕ) → is_stopped role ≡ false → other_turn (head_in role p) k ≡ None → IsTurnOf k role
 turn_in Plain p k going free = tt
@@ -63,7 +63,7 @@ turn_of p k going free = turn_in p.role p k going free
 dma_now : (now : Now) → is_over now ≡ false → not_of_dma (actor_of now) ≡ None → now ≡ TurnOfDma
 dma_now (Turn j) going free = cc
 dma_now TurnOfDma going free = refl
-dma_now (Over how) going free = cc
+dma_now (Ended how) going free = cc
 
 -- in a replay that goes on it is the turn of a DMA where it is nobody else's
 pub turn_of_dma : (role : Role) → is_stopped role ≡ false → turn_before_dma role ≡ None → IsTurnOfDma role

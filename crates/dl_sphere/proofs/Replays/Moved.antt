@@ -13,7 +13,7 @@ use Rattle.spec_kernel.specs.Devices.{Devices}
 use Rattle.spec_play.specs.Effects.{Effect, dma_commit}
 use Rattle.spec_play.specs.Progress.{Progress, Used}
 use Rattle.spec_play.specs.Transfers.{DmaVerdict, DmaGoes, DmaFails}
-use Rattle.spec_play.specs.Turns.{Over}
+use Rattle.spec_play.specs.Turns.{Ended}
 use Rattle.spec_play.specs.Verdicts.{LogVerdict, Goes, Fails}
 use Rattle.spec_protocol.specs.Commits as commits
 use Rattle.spec_protocol.specs.Commits.{by_verdict, dma_by_verdict}
@@ -90,7 +90,7 @@ module _ (x : Sphere) (r : Replaying) (loads : List Load) where
         })
         ∙ ap (λ n. record {
           outcome = commits.Diverged (length x.progress.commits) because;
-          sphere = record x { role = Replay (record (cursor_of r loads) { now = Over (End.Diverged n because) }) };
+          sphere = record x { role = Replay (record (cursor_of r loads) { now = Ended (End.Diverged n because) }) };
           words = [];
           devices = d;
         }) (sym done)
@@ -173,7 +173,7 @@ module _ (x : Sphere) (r : Replaying) (loads : List Load) where
         })
         ∙ ap (λ n. record {
           outcome = commits.Diverged (length x.progress.commits) because;
-          sphere = record x { role = Replay (record (cursor_of r loads) { now = Over (End.Diverged n because) }) };
+          sphere = record x { role = Replay (record (cursor_of r loads) { now = Ended (End.Diverged n because) }) };
           words = [];
           devices = d;
         }) (sym done)

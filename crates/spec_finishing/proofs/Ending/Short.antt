@@ -21,7 +21,7 @@ use Rattle.spec_kernel.specs.Calls.{called}
 use Rattle.spec_kernel.specs.Serving.{StepResult, copy_of, outside_called, inside_called, is_outside, device_loaded, device_stored, serve_kind, serve}
 use Rattle.spec_play.specs.Effects.{Effect, serial_effect}
 use Rattle.spec_play.specs.Progress.{Progress, position, Used}
-use Rattle.spec_play.specs.Turns.{Now, Turn, TurnOfDma, Over}
+use Rattle.spec_play.specs.Turns.{Now, Turn, TurnOfDma, Ended}
 use Rattle.spec_play.specs.Verdicts.{LogVerdict, Goes, Fails, unless, interrupt_at, with_interrupted, Given, given, serial_why, served_verdict, serial_verdict}
 use Rattle.spec_play.specs.Transfers.{DmaVerdict, DmaGoes, DmaFails, is_for, transferred, dma_unless, dma_verdict}
 use Rattle.spec_play.specs.Plays.{Played, size_or_standard, plays}
@@ -186,7 +186,7 @@ turn-few log y k None is = omega arith
 turn-few log y k (Some t) is = let l = thread-few log y k t (next_kind t y.memory) is in omega (arith, l)
 
 now-few : (log : LogParts) (y : Played) (now : Now) → IsLog log → now_work log y now ≤ 4101
-now-few log y (Over how) is = omega arith
+now-few log y (Ended how) is = omega arith
 now-few log y TurnOfDma is = let l = dma-verdict-words log y.progress y.used is in omega (arith, l)
 now-few log y (Turn k) is = turn-few log y k (slice_get y.threads k) is
 

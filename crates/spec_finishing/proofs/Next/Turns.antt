@@ -7,7 +7,7 @@ use Rattle.dl_entry.specs.declared.Actor.{Actor}
 use Rattle.spec_isa.specs.Words.{lays}
 use Rattle.spec_engine.specs.Flights.{Flight, at}
 use Rattle.spec_engine.proofs.Searches.{first_none}
-use Rattle.spec_play.specs.Turns.{Now, Turn, TurnOfDma, Over}
+use Rattle.spec_play.specs.Turns.{Now, Turn, TurnOfDma, Ended}
 use Rattle.spec_protocol.specs.Spheres.{Cursor, Role, Plain, Record, Replay, Sphere, no_sphere, is_over, actor_of}
 use Rattle.spec_protocol.specs.World.{World, sphere_at}
 use Rattle.spec_protocol.specs.Machine.{SphereSetup, Setup}
@@ -67,7 +67,7 @@ least-some i (p ∷ ps) who e = found_by i p ps who p.role refl e (λ h. found_l
 over_now : (now : Now) → actor_of now ≡ None → is_over now ≡ true
 over_now (Turn k) e = absurd (none-some (Actor.Thread k) (sym e))
 over_now TurnOfDma e = absurd (none-some Actor.Dma (sym e))
-over_now (Over how) e = refl
+over_now (Ended how) e = refl
 
 ends_in : (i : ℕ) (b : Cursor) (o : Option Actor) (others : Option Who) → actor_of b.now ≡ o → who_in i o others ≡ None → IsAtEnd (Replay b) × (others ≡ None)
 ends_in i b None others is e = (over_now b.now is, e)
@@ -133,7 +133,7 @@ pub record HasActor (s : Setup) (w : World) (i : ℕ) (actor : Actor) : Type 0 w
 going_now : (now : Now) (actor : Actor) → actor_of now ≡ Some actor → is_over now ≡ false
 going_now (Turn k) actor e = refl
 going_now TurnOfDma actor e = refl
-going_now (Over how) actor e = absurd (none-some actor e)
+going_now (Ended how) actor e = absurd (none-some actor e)
 
 -- the replay that is to go on next has the actor whose turn it is
 pub has-actor : (s : Setup) (w : World) (who : Who) → Known s w → standing w ≡ None → least 0 w.spheres ≡ Some who → HasActor s w who.sphere who.actor
@@ -163,7 +163,7 @@ has-actor s w who known none e =
 thread_turn : (now : Now) (k : ℕ) → actor_of now ≡ Some (Actor.Thread k) → now ≡ Turn k
 thread_turn (Turn j) k e = let h : j ≡ k = cc in ap Turn h
 thread_turn TurnOfDma k e = cc
-thread_turn (Over how) k e = absurd (none-some (Actor.Thread k) e)
+thread_turn (Ended how) k e = absurd (none-some (Actor.Thread k) e)
 
 -- where a thread has the turn the replay's cursor says so
 pub turn-of : (s : Setup) (w : World) (i k : ℕ) → (h : HasActor s w i (Actor.Thread k)) → h.cursor.now ≡ Turn k

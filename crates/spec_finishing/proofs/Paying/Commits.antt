@@ -8,7 +8,7 @@ use Rattle.spec_isa.specs.declared.thread.Parts.{Parts}
 use Rattle.spec_isa.specs.Runs.{Run, run}
 use Rattle.spec_kernel.specs.Devices.{Devices}
 use Rattle.spec_play.specs.Progress.{position, with_effect}
-use Rattle.spec_play.specs.Turns.{Over}
+use Rattle.spec_play.specs.Turns.{Ended}
 use Rattle.spec_play.specs.Verdicts.{LogVerdict, Goes, Fails, chunk_verdict}
 use Rattle.spec_play.specs.Plays.{opened, with_threads}
 use Rattle.spec_engine.specs.declared.answers.How.{How}
@@ -71,7 +71,7 @@ module _ (c : ℕ) (image : SphereSetup) (p : Sphere) (b : Cursor) (role : p.rol
       → sphere_rank c image (laid (by_verdict b k x devices p)) + l ≤ sphere_rank c image p
   verdict-pays k (Fails why) devices l some enough =
       let before = rank-before in
-      let ended : Cursor = record b { now = Over (End.Diverged (position p.progress) why) } in
+      let ended : Cursor = record b { now = Ended (End.Diverged (position p.progress) why) } in
       let over = left-over image ended (position p.progress) refl in
       let pays = whole-pays c (next_work image p b) b.total (behind image p b) l some enough (replay_left image ended (position p.progress)) (omega (arith, over)) in
       omega (arith, before, pays)

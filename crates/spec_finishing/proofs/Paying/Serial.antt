@@ -12,7 +12,7 @@ use Rattle.spec_kernel.specs.Devices.{Devices}
 use Rattle.spec_kernel.specs.Needs.{next_kind}
 use Rattle.spec_play.specs.Effects.{dma_commit}
 use Rattle.spec_play.specs.Progress.{position, with_dma, with_dma_used}
-use Rattle.spec_play.specs.Turns.{TurnOfDma, Over}
+use Rattle.spec_play.specs.Turns.{TurnOfDma, Ended}
 use Rattle.spec_play.specs.Verdicts.{LogVerdict, Goes, Fails, serial_verdict}
 use Rattle.spec_play.specs.Transfers.{DmaVerdict, DmaGoes, DmaFails, dma_verdict}
 use Rattle.spec_protocol.specs.Spheres.{Cursor, Role, Replay, Sphere, is_over, is_in_pieces}
@@ -101,7 +101,7 @@ dma_rank : (c : ℕ) (image : SphereSetup) (p : Sphere) (b : Cursor) (x : DmaVer
     → let v = dma_by_verdict b x devices p in sphere_rank c image (laid v) + ((length v.words + c + 1) + 3) ≤ sphere_rank c image p
 dma_rank c image p b (DmaFails why) devices role going g none work =
     let before = rank-before c image p b role going g in
-    let ended : Cursor = record b { now = Over (End.Diverged (position p.progress) why) } in
+    let ended : Cursor = record b { now = Ended (End.Diverged (position p.progress) why) } in
     let over = left-over image ended (position p.progress) refl in
     let e : next_work image p b - b.total ≡ 1 = omega (arith, none, work) in
     let h = ap (price c) e in

@@ -20,7 +20,7 @@ use Rattle.spec_kernel.specs.Records.{fits}
 use Rattle.spec_kernel.specs.Serving.{serve, console_written}
 use Rattle.spec_play.specs.Plays.{Played, play_one, play}
 use Rattle.spec_play.specs.Transfers.{dma_verdict}
-use Rattle.spec_play.specs.Turns.{Over, has_left_over, now_at}
+use Rattle.spec_play.specs.Turns.{Ended, has_left_over, now_at}
 use Rattle.spec_play.specs.Verdicts.{chunk_verdict, serial_verdict}
 use Rattle.spec_protocol.specs.Commits.{chunk_moved, serial_moved, dma_moved}
 use Rattle.spec_protocol.specs.Machine.{IsRecorded, Setup}
@@ -78,7 +78,7 @@ pub record AreNoted : Type 0 where
       ∷ 0x05 ∷ 0x00 ∷ 0x00 ∷ 0x00 ∷ 0x01 ∷ 0x00 ∷ 0x01 ∷ 0x00 ∷ 0x00 ∷ 0x00 ∷ 0x00 ∷ 0x01 ∷ 0x00 ∷ 0x01 ∷ 0x01 ∷ 0x00
       ∷ 0x00 ∷ 0x00 ∷ 0x01 ∷ 0x00 ∷ 0x00 ∷ 0x00 ∷ 0x00 ∷ 0x00 ∷ 0x00 ∷ 0x00 ∷ 0x00 ∷ 0x00 ∷ 0x01 ∷ 0x00 ∷ 0x00 ∷ 0x00
       ∷ 0x06 ∷ 0x00 ∷ 0x00 ∷ 0x00 ∷ 0x03 ∷ 0x00 ∷ 0x41 ∷ 0x42 ∷ 0x43 ∷ []
-  pub complete : (played ModeName.Picolog).now ≡ Over (End.Complete 9)
+  pub complete : (played ModeName.Picolog).now ≡ Ended (End.Complete 9)
   pub turns : actors (played ModeName.Picolog)
       ≡ Actor.Thread 0 ∷ Actor.Thread 0 ∷ Actor.Thread 0 ∷ Actor.Thread 0 ∷ Actor.Thread 1 ∷ Actor.Thread 0
       ∷ Actor.Dma ∷ Actor.Thread 1 ∷ Actor.Thread 0 ∷ []

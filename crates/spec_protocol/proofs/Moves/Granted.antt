@@ -24,7 +24,7 @@ use Rattle.spec_kernel.specs.Serving.{StepResult, copy_of, outside_called, is_ou
 use Rattle.spec_kernel.specs.Calls.{called}
 use Rattle.spec_play.specs.Effects.{Effect, chunk_effect, serial_effect}
 use Rattle.spec_play.specs.Progress.{Progress, Used}
-use Rattle.spec_play.specs.Turns.{Now, Turn, TurnOfDma, Over}
+use Rattle.spec_play.specs.Turns.{Now, Turn, TurnOfDma, Ended}
 use Rattle.spec_play.specs.Verdicts.{LogVerdict, Goes, Fails, unless, interrupt_at, with_interrupted, chunk_why, chunk_verdict, Given, given, serial_why, served_verdict, serial_verdict}
 use Rattle.spec_play.specs.Plays.{with_threads}
 use Rattle.spec_protocol.specs.Spheres.{Cursor, Role, Plain, Record, Replay, Sphere, is_over, is_stopped, actor_of, head_in, whole_limit, pieces_of, limit_in, limit_of, halves}
@@ -68,7 +68,7 @@ either_none false = refl
 pub pieces_none : (now : Now) (j : ℕ) → pieces_of now j 0 ≡ 0
 pieces_none (Turn k) j = either_none (eqb k j)
 pieces_none TurnOfDma j = refl
-pieces_none (Over how) j = refl
+pieces_none (Ended how) j = refl
 
 pieces_other : (k j total : ℕ) → j ≢ k → pieces_of (Turn k) j total ≡ 0
 pieces_other k j total ne = ap (λ (b : Bool). pieces_if b total) (ne_eqb k j (λ e. ne (sym e)))
@@ -81,7 +81,7 @@ turn-is (Turn j) k going e =
       | false ↦ λ h. absurd (none-some (Actor.Thread j) (sym h))
     ] e))
 turn-is TurnOfDma k going e = absurd (none-some Actor.Dma (sym e))
-turn-is (Over how) k going e = absurd (true≢false going)
+turn-is (Ended how) k going e = absurd (true≢false going)
 
 -- ---- what a commit of thread k keeps of its sphere
 

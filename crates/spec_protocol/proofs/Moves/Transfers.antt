@@ -15,7 +15,7 @@ use Rattle.spec_kernel.specs.Devices.{Devices}
 use Rattle.spec_kernel.specs.Copies.{dma_words}
 use Rattle.spec_kernel.specs.Answers.{dma_bytes, dma_taken}
 use Rattle.spec_play.specs.Progress.{Progress, position, Used}
-use Rattle.spec_play.specs.Turns.{Now, Turn, TurnOfDma, Over}
+use Rattle.spec_play.specs.Turns.{Now, Turn, TurnOfDma, Ended}
 use Rattle.spec_play.specs.Verdicts.{serial_why}
 use Rattle.spec_play.specs.Transfers.{DmaVerdict, DmaGoes, DmaFails, is_for, transferred, dma_unless, dma_verdict}
 use Rattle.spec_protocol.specs.Spheres.{Cursor, Role, Plain, Record, Replay, Sphere, is_over, is_stopped, actor_of, whole_limit, pieces_of, limit_in, limit_of, halves}
@@ -41,7 +41,7 @@ words_apart request bytes = bytes_apart _ request.buf _ tt
 pub dma-turn_is : (now : Now) → is_over now ≡ false → not_of_dma (actor_of now) ≡ None → now ≡ TurnOfDma
 dma-turn_is (Turn k) going e = absurd (none-some (Actor.Thread k) (sym e))
 dma-turn_is TurnOfDma going e = refl
-dma-turn_is (Over how) going e = absurd (true≢false going)
+dma-turn_is (Ended how) going e = absurd (true≢false going)
 
 as_moves : (role : Role) (words : List Stored) (ds devices : Devices) (p : Sphere) → halves role ≡ halves p.role → replays role ≡ replays p.role → ((s j : ℕ) (t : Parts) → limit_of s role j t ≡ limit_of s p.role j t) → Apart words
     → DmaMoves ds p (dma_as role words devices p)

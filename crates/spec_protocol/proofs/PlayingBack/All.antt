@@ -15,7 +15,7 @@ use Rattle.spec_log.specs.declared.Sizes.{Sizes}
 use Rattle.spec_log.specs.declared.LogParts.{LogParts}
 use Rattle.spec_kernel.specs.Interrupts.{takes_interrupt}
 use Rattle.spec_play.specs.Progress.{Progress, position, Used}
-use Rattle.spec_play.specs.Turns.{Over, is_size_used, are_sizes_used, has_left_over, at_end, turn_of, next_actor, now_at}
+use Rattle.spec_play.specs.Turns.{Ended, is_size_used, are_sizes_used, has_left_over, at_end, turn_of, next_actor, now_at}
 use Rattle.spec_play.specs.Verdicts.{interrupt_at}
 use Rattle.spec_log.specs.Noting.{no_sizes}
 use Rattle.spec_play.specs.Recording.{new_log, interrupt_noted}
@@ -225,11 +225,11 @@ none_left L u ts sizes inputs interrupts dmas =
     ∙ ap (λ (b : Bool). cond b true (nat_lt u.dmas (length L.dmas))) (le-ltb u.inputs (length L.inputs) (omega arith))
     ∙ le-ltb u.dmas (length L.dmas) (omega arith)
 
-over_at : (L : LogParts) (p : Progress) (u : Used) (ts : List Parts) → position p ≡ L.count → has_left_over L u ts ≡ false → now_at L p u ts ≡ Over (End.Complete L.count)
+over_at : (L : LogParts) (p : Progress) (u : Used) (ts : List Parts) → position p ≡ L.count → has_left_over L u ts ≡ false → now_at L p u ts ≡ Ended (End.Complete L.count)
 unfolding now_at
 over_at L p u ts at_ left =
     ap (λ (b : Bool). cond b (turn_of (position p) ts (next_actor L p ts)) (at_end (position p) (has_left_over L u ts))) (le-ltb (position p) L.count (omega arith))
-    ∙ ap (at_end (position p)) left ∙ ap (λ (n : ℕ). Over (End.Complete n)) at_
+    ∙ ap (at_end (position p)) left ∙ ap (λ (n : ℕ). Ended (End.Complete n)) at_
 
 ends : (L : LogParts) (image : SphereSetup) (q : Sphere) → Stands q L → Reaches L (opened L image.memory image.entry) q L → PlaysBack L image q
 ends L image q s r =

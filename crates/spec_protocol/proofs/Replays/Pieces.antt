@@ -10,7 +10,7 @@ use Rattle.spec_isa.specs.declared.thread.Parts.{Parts}
 use Rattle.spec_isa.specs.Runs.{Run, run}
 use Rattle.spec_isa.specs.Threads.{started}
 use Rattle.spec_kernel.specs.Devices.{Devices}
-use Rattle.spec_play.specs.Turns.{Now, Turn, TurnOfDma, Over}
+use Rattle.spec_play.specs.Turns.{Now, Turn, TurnOfDma, Ended}
 use Rattle.spec_play.specs.Verdicts.{LogVerdict, Goes, Fails, chunk_verdict, serial_verdict}
 use Rattle.spec_play.specs.Transfers.{DmaVerdict, DmaGoes, DmaFails, dma_verdict}
 use Rattle.spec_engine.specs.declared.answers.How.{How}
@@ -165,7 +165,7 @@ unfolding head_of
 own_chunk z p b k j how n limit None role turn fits = absurd fits
 own_chunk z p b k j how n limit (Some t) role turn fits =
     let same : Turn k ≡ Turn j = sym turn ∙ turn-is b.now j (sym (ap is_stopped role) ∙ fits.going) (sym (ap (λ (r : Role). other_turn (head_in r p) j) role) ∙ fits.turn) in
-    sym (ap (λ (now : Now). elim now [ Turn i ↦ i | TurnOfDma ↦ 0 | Over how ↦ 0 ]) same)
+    sym (ap (λ (now : Now). elim now [ Turn i ↦ i | TurnOfDma ↦ 0 | Ended how ↦ 0 ]) same)
 
 no_serial : (p : Sphere) (b : Cursor) (k : ℕ) (o : Option Parts) → p.role ≡ Replay b → 0 < b.total → FitsSerial p k o → ⊥
 no_serial p b k None role some fits = fits

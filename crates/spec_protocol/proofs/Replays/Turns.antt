@@ -10,7 +10,7 @@ use Rattle.spec_log.specs.declared.LogParts.{LogParts}
 use Rattle.spec_log.specs.Log.{IsLog}
 use Rattle.spec_kernel.specs.Interrupts.{is_live}
 use Rattle.spec_play.specs.Progress.{Progress, position, Used}
-use Rattle.spec_play.specs.Turns.{Now, Turn, TurnOfDma, Over, has_left_over, at_end, turn_of_thread, turn_of, next_actor, now_at}
+use Rattle.spec_play.specs.Turns.{Now, Turn, TurnOfDma, Ended, has_left_over, at_end, turn_of_thread, turn_of, next_actor, now_at}
 use Rattle.spec_protocol.specs.Spheres.{is_over}
 use Rattle.spec_protocol.specs.Commits.{turned}
 use Rattle.spec_protocol.specs.Sound.{IsDoneInOrder, due, IsSoundCursor}
@@ -21,7 +21,7 @@ use Rattle.spec_protocol.proofs.Replays.Order.{now-named}
 -- ---- a turn
 
 -- where a replay is over it is no thread's turn
-pub over-turn : (how : End) (k : ℕ) → Over how ≡ Turn k → ⊥
+pub over-turn : (how : End) (k : ℕ) → Ended how ≡ Turn k → ⊥
 over-turn how k e = cc
 
 dma-turn : (k : ℕ) → TurnOfDma ≡ Turn k → ⊥
@@ -36,7 +36,7 @@ record IsTurn (threads : List Parts) (k : ℕ) : Type 0 where
 thread-turn : (i j k : ℕ) (threads : List Parts) (o : Option Parts) → slice_get threads j ≡ o → turn_of_thread i j o ≡ Turn k → IsTurn threads k
 thread-turn i j k threads None is e = absurd (over-turn (End.Diverged i Why.NoThread) k e)
 thread-turn i j k threads (Some t) is e =
-    branch (λ (now : Now). now ≡ Turn k → IsTurn threads k) (is_live t) (Turn j) (Over (End.Diverged i Why.NoThread))
+    branch (λ (now : Now). now ≡ Turn k → IsTurn threads k) (is_live t) (Turn j) (Ended (End.Diverged i Why.NoThread))
     (λ live h. subst (IsTurn threads) (let q : j ≡ k = cc in q) (record { thread = t; there = is; live = live }))
     (λ _ h. absurd (over-turn (End.Diverged i Why.NoThread) k h)) e
 

@@ -12,7 +12,7 @@ use Rattle.spec_kernel.specs.Devices.{Devices}
 use Rattle.spec_kernel.specs.Interrupts.{takes_interrupt, interrupted}
 use Rattle.spec_play.specs.Effects.{Effect}
 use Rattle.spec_play.specs.Progress.{position, with_effect, Used, with_interrupt}
-use Rattle.spec_play.specs.Turns.{Turn, Over}
+use Rattle.spec_play.specs.Turns.{Turn, Ended}
 use Rattle.spec_play.specs.Plays.{with_threads}
 use Rattle.spec_play.specs.Verdicts.{LogVerdict, Goes, Fails, unless, interrupt_at, with_interrupted, ended}
 use Rattle.spec_protocol.specs.Spheres.{Cursor, Role, Replay, Sphere, is_over, actor_of}
@@ -71,7 +71,7 @@ ended-goes size log k ts t e u is sound uses = interrupted-goes size log k ts t 
 
 -- ---- by a verdict
 
-over-sound : (commits : ℕ) (threads : List Parts) (b : Cursor) (how : End) → IsSoundCursor commits threads b → IsSoundCursor commits threads (record b { now = Over how })
+over-sound : (commits : ℕ) (threads : List Parts) (b : Cursor) (how : End) → IsSoundCursor commits threads b → IsSoundCursor commits threads (record b { now = Ended how })
 over-sound commits threads b how s =
     record {
       log = s.log;
@@ -104,7 +104,7 @@ as-role s image now role p new sound =
 pub diverged-sound : (s : ℕ) (image : SphereSetup) (now : ℕ) (b : Cursor) (why : Why) (devices : Devices) (p : Sphere) → IsSoundCursor (position p.progress) p.threads b → IsSoundSphere s image now p → HaveByteInput devices → IsSoundMoved s image (suc now) (diverged b why devices p)
 diverged-sound s image now b why devices p cursor sound d =
     record {
-      sphere = as-role s image now (Replay (record b { now = Over (End.Diverged (position p.progress) why) })) p (over-sound (position p.progress) p.threads b (End.Diverged (position p.progress) why) cursor) sound;
+      sphere = as-role s image now (Replay (record b { now = Ended (End.Diverged (position p.progress) why) })) p (over-sound (position p.progress) p.threads b (End.Diverged (position p.progress) why) cursor) sound;
       words = sound-none (length image.memory);
       devices = d;
     }

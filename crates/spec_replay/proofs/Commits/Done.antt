@@ -12,7 +12,7 @@ use Rattle.spec_kernel.specs.Devices.{Devices}
 use Rattle.spec_kernel.specs.Needs.{next_kind}
 use Rattle.spec_play.specs.Effects.{Effect, dma_commit}
 use Rattle.spec_play.specs.Progress.{Progress, position, with_effect, with_dma, Used, with_dma_used}
-use Rattle.spec_play.specs.Turns.{Now, Turn, TurnOfDma, Over, now_at}
+use Rattle.spec_play.specs.Turns.{Now, Turn, TurnOfDma, Ended, now_at}
 use Rattle.spec_play.specs.Verdicts.{LogVerdict, Goes, Fails}
 use Rattle.spec_play.specs.Transfers.{DmaVerdict, DmaGoes, DmaFails, dma_verdict}
 use Rattle.spec_play.specs.Plays.{Played, with_threads, settled, thread_verdict, play_thread, dma_settled, play_now, play_one, plays}
@@ -41,10 +41,10 @@ pub record Beside (log : LogParts) (y : Played) (p : Sphere) (b : Cursor) : Type
 
 -- the play is given this end alone
 abbrev pub ended_by : Played → Why → Played
-ended_by y why = record y { now = Over (End.Diverged (position y.progress) why) }
+ended_by y why = record y { now = Ended (End.Diverged (position y.progress) why) }
 
-same_end : (p : Progress) (y : Played) (why : Why) → p ≡ y.progress → Over (End.Diverged (position p) why) ≡ Over (End.Diverged (position y.progress) why)
-same_end p y why e = ap (λ (g : Progress). Over (End.Diverged (position g) why)) e
+same_end : (p : Progress) (y : Played) (why : Why) → p ≡ y.progress → Ended (End.Diverged (position p) why) ≡ Ended (End.Diverged (position y.progress) why)
+same_end p y why e = ap (λ (g : Progress). Ended (End.Diverged (position g) why)) e
 
 -- one commit more makes the list longer by one
 pub one_more : (cs : List Commit) (c : Commit) → length (cs ++ c ∷ []) ≡ suc (length cs)
@@ -67,10 +67,10 @@ whole_follows log z q c role same standard progress used now turn w =
 -- the replayed sphere p, with cursor b, stands beside y of its log's play
 module _ (log : LogParts) (y : Played) (p : Sphere) (b : Cursor) (devices : Devices) (s : Beside log y p b) where
   -- where the play's next commit diverges, so does the replay
-  diverged-follows : (why : Why) (now : Now) → y.now ≡ now → ((how : End) → now ≡ Over how → ⊥) → StandsAt log y now p b → play_one log y ≡ ended_by y why
+  diverged-follows : (why : Why) (now : Now) → y.now ≡ now → ((how : End) → now ≡ Ended how → ⊥) → StandsAt log y now p b → play_one log y ≡ ended_by y why
       → ((c : Cursor) → c.total ≡ b.total → c.loads ≡ b.loads → StandsAt log y now p b → StandsAt log y now (laid (diverged b why devices p)) c) → Follows log y (laid (diverged b why devices p))
   diverged-follows why now is going state one keeps =
-      let c : Cursor = record b { now = Over (End.Diverged (position p.progress) why) } in
+      let c : Cursor = record b { now = Ended (End.Diverged (position p.progress) why) } in
       record {
         cursor = c;
         role = refl;
@@ -110,7 +110,7 @@ pub record HasTurn (log : LogParts) (start y : Played) (p : Sphere) (b : Cursor)
   pub turn : y.now ≡ Turn k
   pub moved : IsMovedOn log y k t p b
 
-turn_goes_on : (k : ℕ) (how : End) → Turn k ≡ Over how → ⊥
+turn_goes_on : (k : ℕ) (how : End) → Turn k ≡ Ended how → ⊥
 turn_goes_on k how e = cc
 
 -- the thread has the turn
@@ -149,7 +149,7 @@ play_dma : (log : LogParts) (y : Played) (v : DmaVerdict) → y.now ≡ TurnOfDm
 unfolding play_one
 play_dma log y v turn is = ap (play_now log y) turn ∙ ap (dma_settled log y) is
 
-dma_goes_on : (how : End) → TurnOfDma ≡ Over how → ⊥
+dma_goes_on : (how : End) → TurnOfDma ≡ Ended how → ⊥
 dma_goes_on how e = cc
 
 -- a DMA of a replayed sphere, done or diverging, leaves it in its log's play

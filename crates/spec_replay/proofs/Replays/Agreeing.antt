@@ -6,7 +6,7 @@ use Rattle.spec_isa.specs.Words.{lays}
 use Rattle.spec_isa.specs.Runs.{run}
 use Rattle.spec_log.specs.declared.LogParts.{LogParts}
 use Rattle.spec_play.specs.Progress.{position}
-use Rattle.spec_play.specs.Turns.{Now, Turn, TurnOfDma, Over}
+use Rattle.spec_play.specs.Turns.{Now, Turn, TurnOfDma, Ended}
 use Rattle.spec_play.specs.Plays.{Played, opened, plays}
 use Rattle.spec_protocol.specs.Spheres.{Cursor, Sphere, is_over}
 use Rattle.spec_replay.specs.Following.{IsWhole, IsMovedOn, StandsAt}
@@ -31,7 +31,7 @@ whole_same y p q b c m n = record { memory = m.memory ∙ sym n.memory; threads 
 state_same : (log : LogParts) (y : Played) (now : Now) (p q : Sphere) (b c : Cursor) → StandsAt log y now p b → StandsAt log y now q c → b.total ≡ c.total → SameState p q
 state_same log y (Turn k) p q b c m n total = moved_same log y k m.0 n.0 p q b c m.1 n.1 total
 state_same log y TurnOfDma p q b c m n total = whole_same y p q b c m n
-state_same log y (Over how) p q b c m n total = whole_same y p q b c m n
+state_same log y (Ended how) p q b c m n total = whole_same y p q b c m n
 
 -- ---- the promise
 
@@ -50,12 +50,12 @@ both_stopped : (log : LogParts) (start : Played) (p q : Sphere) (b c : Cursor) �
 both_stopped log start p q b c k l e h =
     last_meet log start (suc (position p.progress)) (suc (position q.progress)) p q b c (last_of log start p b k e) (last_of log start q c l h)
 
-final_same : (log : LogParts) (start : Played) (p q : Sphere) (b c : Cursor) (how : End) → Reached log start p b → Reached log start q c → b.now ≡ Over how → ends_between how ≡ true → is_over c.now ≡ true → SameState p q
+final_same : (log : LogParts) (start : Played) (p q : Sphere) (b c : Cursor) (how : End) → Reached log start p b → Reached log start q c → b.now ≡ Ended how → ends_between how ≡ true → is_over c.now ≡ true → SameState p q
 final_same log start p q b c how k l is between stopped =
     let y : Played = plays log start (position p.progress) in
     let both = both_stopped log start p q b c k l (ap is_over is) stopped in
     let g : IsAt log y q c = same_place log start p q c l (ap position both.0) in
-    let over : y.now ≡ Over how = end_between log y b how k.now is between in
+    let over : y.now ≡ Ended how = end_between log y b how k.now is between in
     whole_same y p q b c (whole_now log y p b how over k.state) (whole_now log y q c how over g.state)
 
 two_agree : (log : LogParts) (start : Played) (p q : Sphere) (b c : Cursor) → Reached log start p b → Reached log start q c → Agree p q b c

@@ -19,7 +19,7 @@ use Rattle.spec_kernel.specs.Interrupts.{takes_interrupt, interrupted}
 use Rattle.spec_kernel.specs.Serving.{serve}
 use Rattle.spec_play.specs.Effects.{Effect, chunk_effect, serial_effect, dma_commit}
 use Rattle.spec_play.specs.Progress.{Progress, position, with_effect, with_dma, Used, with_interrupt}
-use Rattle.spec_play.specs.Turns.{Now, Turn, TurnOfDma, Over}
+use Rattle.spec_play.specs.Turns.{Now, Turn, TurnOfDma, Ended}
 use Rattle.spec_play.specs.Verdicts.{LogVerdict, Goes, Fails, unless, interrupt_at, with_interrupted, chunk_why, chunk_verdict, serial_why, Given, given, served_verdict, serial_verdict}
 use Rattle.spec_play.specs.Transfers.{DmaVerdict, DmaGoes, DmaFails, is_for, transferred, dma_unless, dma_verdict}
 use Rattle.spec_play.specs.Plays.{Played, settled, size_or_standard, thread_verdict, play_thread, dma_settled, play_now, play_one}
@@ -106,13 +106,13 @@ dma_within log p u =
 
 -- the play had ended so before
 abbrev EndedBefore : Played → Why → Type 0
-EndedBefore y why = y.now ≡ Over (End.Diverged (position y.progress) why)
+EndedBefore y why = y.now ≡ Ended (End.Diverged (position y.progress) why)
 
 -- one commit more is not none
 no_more : (cs : List Commit) (c : Commit) (ds : List Commit) → length ds ≡ suc (length cs) → cs ≡ ds → {A : Type 0} → A
 no_more cs c ds size same = absurd (let h : length cs ≡ length ds = ap (λ (x : List Commit). length x) same in omega arith)
 
-same_why : (i j : ℕ) (why other : Why) → Over (End.Diverged i why) ≡ Over (End.Diverged j other) → why ≡ other
+same_why : (i j : ℕ) (why other : Why) → Ended (End.Diverged i why) ≡ Ended (End.Diverged j other) → why ≡ other
 same_why i j why other e = cc
 
 within_settled : (log : LogParts) (y : Played) (k : ℕ) (v : LogVerdict) (why : Why) → FailsWithin v → settled log y k v ≡ ended_by y why → is_between why ≡ true → EndedBefore y why
@@ -134,11 +134,11 @@ within_dma log y (DmaFails other) why f same between =
     absurd (true≢false (sym between ∙ ap is_between (sym h) ∙ f))
 
 within_now : (log : LogParts) (y : Played) (now : Now) (why : Why) → play_now log y now ≡ ended_by y why → is_between why ≡ true → EndedBefore y why
-within_now log y (Over how) why same between = ap (λ (x : Played). x.now) same
+within_now log y (Ended how) why same between = ap (λ (x : Played). x.now) same
 within_now log y (Turn k) why same between = within_thread log y k (slice_get y.threads k) why same between
 within_now log y TurnOfDma why same between = within_dma log y (dma_verdict log y.progress y.used) why (dma_within log y.progress y.used) same between
 
 -- where a play's next commit gives it an end that comes between two commits, and nothing else, it had ended so before
-pub ends-between : (log : LogParts) (y : Played) (why : Why) → play_one log y ≡ ended_by y why → is_between why ≡ true → y.now ≡ Over (End.Diverged (position y.progress) why)
+pub ends-between : (log : LogParts) (y : Played) (why : Why) → play_one log y ≡ ended_by y why → is_between why ≡ true → y.now ≡ Ended (End.Diverged (position y.progress) why)
 unfolding play_one
 ends-between log y why same between = within_now log y y.now why same between

@@ -5,7 +5,7 @@ use Rattle.std.proofs.lemmas.Bool.{true≢false}
 use Rattle.dl_entry.specs.declared.End.{End}
 use Rattle.spec_log.specs.declared.LogParts.{LogParts}
 use Rattle.spec_play.specs.Progress.{position}
-use Rattle.spec_play.specs.Turns.{Now, Turn, TurnOfDma, Over}
+use Rattle.spec_play.specs.Turns.{Now, Turn, TurnOfDma, Ended}
 use Rattle.spec_play.specs.Plays.{Played, opened, play_one, plays, play}
 use Rattle.spec_play.proofs.Going.{over-stays, plays-stay, play-over}
 use Rattle.spec_protocol.specs.Spheres.{Cursor, Replay, Sphere, is_over}
@@ -19,14 +19,14 @@ use Rattle.spec_replay.proofs.Replays.All.{replays_follow}
 -- this is how far the play comes
 pub record IsLast (log : LogParts) (start : Played) (n : ℕ) (p : Sphere) (b : Cursor) : Type 0 where
   pub how : End
-  pub over : b.now ≡ Over how
-  pub now : (plays log start n).now ≡ Over how
+  pub over : b.now ≡ Ended how
+  pub now : (plays log start n).now ≡ Ended how
   pub progress : p.progress ≡ (plays log start n).progress
 
-stopped_how : (now : Now) → is_over now ≡ true → (how : End) × (now ≡ Over how)
+stopped_how : (now : Now) → is_over now ≡ true → (how : End) × (now ≡ Ended how)
 stopped_how (Turn k) e = absurd (true≢false (sym e))
 stopped_how TurnOfDma e = absurd (true≢false (sym e))
-stopped_how (Over how) e = (how, refl)
+stopped_how (Ended how) e = (how, refl)
 
 last_with : (log : LogParts) (start : Played) (p : Sphere) (b : Cursor) (o : (b.now ≡ (plays log start (position p.progress)).now) ⊎ EndsWithin log (plays log start (position p.progress)) b) → is_over b.now ≡ true → p.progress ≡ (plays log start (position p.progress)).progress
     → IsLast log start (suc (position p.progress)) p b
@@ -67,23 +67,23 @@ pub last_of : (log : LogParts) (start : Played) (p : Sphere) (b : Cursor) → Re
 last_of log start p b k stopped = last_with log start p b k.now stopped k.progress
 
 -- the play comes to one last state, from wherever it is looked at
-pub meet : (log : LogParts) (start : Played) (m n : ℕ) (how other : End) → (plays log start m).now ≡ Over how → (plays log start n).now ≡ Over other → plays log start m ≡ plays log start n
+pub meet : (log : LogParts) (start : Played) (m n : ℕ) (how other : End) → (plays log start m).now ≡ Ended how → (plays log start n).now ≡ Ended other → plays log start m ≡ plays log start n
 meet log start m n how other a b =
     let e : n + m ≡ m + n = omega arith in
     sym (plays-stay log start m n how a) ∙ ap (plays log start) e ∙ plays-stay log start n m other b
 
-same_end : (a b : End) → Over a ≡ Over b → a ≡ b
+same_end : (a b : End) → Ended a ≡ Ended b → a ≡ b
 same_end a b e = cc
 
 -- a replay that has ended between two commits stands where the play has ended
-pub end_between : (log : LogParts) (y : Played) (b : Cursor) (how : End) (o : (b.now ≡ y.now) ⊎ EndsWithin log y b) → b.now ≡ Over how → ends_between how ≡ true → y.now ≡ Over how
+pub end_between : (log : LogParts) (y : Played) (b : Cursor) (how : End) (o : (b.now ≡ y.now) ⊎ EndsWithin log y b) → b.now ≡ Ended how → ends_between how ≡ true → y.now ≡ Ended how
 end_between log y b how (inl e) is between = sym e ∙ is
 end_between log y b how (inr w) is between =
     let h : End.Diverged (position y.progress) w.why ≡ how = same_end _ how (sym w.over ∙ is) in
-    ends-between log y w.why w.diverges (ap ends_between h ∙ between) ∙ ap Over h
+    ends-between log y w.why w.diverges (ap ends_between h ∙ between) ∙ ap Ended h
 
 -- where the play is over the replay has done whole commits
-pub whole_now : (log : LogParts) (y : Played) (p : Sphere) (b : Cursor) (how : End) → y.now ≡ Over how → StandsAt log y y.now p b → IsWhole y p b
+pub whole_now : (log : LogParts) (y : Played) (p : Sphere) (b : Cursor) (how : End) → y.now ≡ Ended how → StandsAt log y y.now p b → IsWhole y p b
 whole_now log y p b how e s = subst (λ (now : Now). StandsAt log y now p b) e s
 
 -- ---- the promise
@@ -98,9 +98,9 @@ stopped_played image log s es i p b x role stopped =
     let l = last_of log start p b k stopped in
     let o = play-over log image.memory image.entry in
     let same : plays log start (suc n) ≡ play log image.memory image.entry = meet log start (suc n) log.count l.how o.0 l.now o.1 in
-    let whole : (how : End) → b.now ≡ Over how → ends_between how ≡ true → (y ≡ play log image.memory image.entry) × IsWhole y p b =
+    let whole : (how : End) → b.now ≡ Ended how → ends_between how ≡ true → (y ≡ play log image.memory image.entry) × IsWhole y p b =
     (λ how is between.
-    let over : y.now ≡ Over how = end_between log y b how k.now is between in
+    let over : y.now ≡ Ended how = end_between log y b how k.now is between in
     (meet log start n log.count how o.0 over o.1, whole_now log y p b how over k.state))
     in
     record {

@@ -101,14 +101,14 @@ const ROWS: &[Row] = &[
         log: RECORDED,
         to: 0,
         sizes: &[],
-        end: WalkEnd::Stopped(0),
+        end: WalkEnd::Reached(0),
     },
     Row {
         file: EXIT,
         log: RECORDED,
         to: 1,
         sizes: &[2],
-        end: WalkEnd::Stopped(1),
+        end: WalkEnd::Reached(1),
     },
     Row {
         file: EXIT,
@@ -136,7 +136,7 @@ const ROWS: &[Row] = &[
         log: TOO_LONG,
         to: 0,
         sizes: &[],
-        end: WalkEnd::Stopped(0),
+        end: WalkEnd::Reached(0),
     },
     Row {
         file: EXIT,
@@ -157,7 +157,7 @@ const ROWS: &[Row] = &[
         log: LEFT_OVER,
         to: 1,
         sizes: &[2],
-        end: WalkEnd::Stopped(1),
+        end: WalkEnd::Reached(1),
     },
     Row {
         file: EXIT,

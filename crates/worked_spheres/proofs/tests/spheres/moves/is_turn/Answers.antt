@@ -2,7 +2,7 @@
 use Rattle.std.proofs.Common.{rules, ◌≡◌, false, Some, sym, ◌∙◌}
 use Rattle.std.proofs.lemmas.Bool.{true≢false}
 use Rattle.dl_entry.specs.declared.Actor.{Actor}
-use Rattle.spec_play.specs.Turns.{Now, Turn, TurnOfDma, Over}
+use Rattle.spec_play.specs.Turns.{Now, Turn, TurnOfDma, Ended}
 use Rattle.spec_protocol.specs.Placing.{replays}
 use Rattle.spec_protocol.specs.Spheres.{Sphere, Role, Plain, Record, Replay, actor_of, head_in, head_of}
 use Rattle.dl_sphere.specs.Moving.{IsTurnOf}
@@ -17,7 +17,7 @@ live (Replay b) off = absurd (true≢false off)
 turn_now : (now : Now) → actor_of now ≡ Some (Actor.Thread 0) → now ≡ Turn 0
 turn_now (Turn k) is = cc
 turn_now TurnOfDma is = cc
-turn_now (Over how) is = cc
+turn_now (Ended how) is = cc
 
 turn_in : (role : Role) (p : Sphere) → head_in role p ≡ Some (Actor.Thread 0) → IsTurnOf 0 role
 turn_in Plain p is = tt
