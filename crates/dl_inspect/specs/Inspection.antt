@@ -1,4 +1,4 @@
--- A log as text: a line for its head, and one for each entry of its sections.
+-- A log as text: a line for its header, and one for each entry of its sections.
 use Rattle.std.specs.Prelude.{ℕ, nat_eq, if◌then◌else◌, List, [], ◌∷◌, ◌++◌, length, codes, decimal, flat_map}
 use Rattle.std.specs.List.{zip}
 use Rattle.dl_entry.specs.Actor.{code}
@@ -75,7 +75,7 @@ input_line input = line (codes "n") (decimal input.kind ∷ hex_word input.resul
 abbrev pub dma_line : DmaRecord → List ℕ
 dma_line dma = line (codes "d") (decimal dma.position ∷ bytes_word dma.bytes ∷ [])
 
--- the head, the order, the sizes, the interrupts, the inputs and the DMAs
+-- the header, the order, the sizes, the interrupts, the inputs and the DMAs
 abbrev pub inspection_of : LogParts → List ℕ
 inspection_of log =
     head_line log

@@ -10,7 +10,7 @@ use dl_entry::OutOfMemory;
 use spec_log::{Log, LogParts, ModeName};
 use std::alloc::Global;
 
-/// A log as text: a line for its head, and one for each entry of its order, its sizes, its interrupts, its inputs and
+/// A log as text: a line for its header, and one for each entry of its order, its sizes, its interrupts, its inputs and
 /// its DMAs.
 pub fn inspect_text(alloc: Global, log: &Log) -> Result<Vec<u8>, OutOfMemory>
     ensures { IfOk result (λ text. text.items ≡ inspection_of log.now) }

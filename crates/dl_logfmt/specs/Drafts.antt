@@ -17,7 +17,7 @@ use Rattle.dl_logfmt.specs.Streams.{Leads, Stops}
 abbrev pub blank : Draft
 blank =
     record {
-      head = record { stage = Mode; mode = OrderSize; s = 0; count = 0 };
+      header = record { stage = Mode; mode = OrderSize; s = 0; count = 0 };
       order = [];
       each = [];
       short = [];
@@ -43,7 +43,7 @@ pub record Grew (d e : Draft) : Type 0 where
 abbrev pub mark_of : Draft → Mark
 mark_of d =
     record {
-      head = d.head;
+      header = d.header;
       order = length d.order;
       each = length d.each;
       short = length d.short;
@@ -56,7 +56,7 @@ mark_of d =
 abbrev pub cut : Mark → Draft → Draft
 cut mark d =
     record {
-      head = mark.head;
+      header = mark.header;
       order = take mark.order d.order;
       each = take mark.each d.each;
       short = take mark.short d.short;
@@ -82,7 +82,7 @@ widest = 4103
 abbrev pub reach : Draft → ℕ
 reach d =
     widest * (length d.order + length d.each + length d.short + length d.interrupts + length d.inputs + length d.dmas)
-    + 8 * stage_number d.head.stage
+    + 8 * stage_number d.header.stage
 
 -- a call read on in the bytes, from one draft to another
 pub record Came (bytes : List ℕ) (d : Draft) (at : ℕ) (e : Draft) (after : ℕ) : Type 0 where
@@ -93,7 +93,7 @@ pub record Came (bytes : List ℕ) (d : Draft) (at : ℕ) (e : Draft) (after : �
 
 -- it read the log to its end, or came to a fault; want of memory alone has no cause
 abbrev pub Reads : List ℕ → Draft → ℕ → Result (Unit {0}) LogError → Draft → ℕ → Type 0
-Reads bytes d at (Ok x) e after = Came bytes d at e after × (e.head.stage ≡ Nothing)
+Reads bytes d at (Ok x) e after = Came bytes d at e after × (e.header.stage ≡ Nothing)
 Reads bytes d at (Err (Malformed number offset)) e after =
     Came bytes d at e after × Stops bytes (remaining e) after (record { number = number; offset = offset })
 Reads bytes d at (Err OutOfMemory) e after = Unit {0}
@@ -119,7 +119,7 @@ IsSection Nothing = ⊥
 abbrev pub ReadsField : List ℕ → Draft → ℕ → Result (Unit {0}) LogError → Draft → ℕ → Type 0
 ReadsField bytes d at (Ok x) e after =
     Came bytes d at e after
-    × ((stage_number d.head.stage < stage_number e.head.stage) ⊎ ((e.head.stage ≡ d.head.stage) × IsSection d.head.stage))
+    × ((stage_number d.header.stage < stage_number e.header.stage) ⊎ ((e.header.stage ≡ d.header.stage) × IsSection d.header.stage))
 ReadsField bytes d at (Err (Malformed number offset)) e after =
     Came bytes d at e after × Stops bytes (remaining e) after (record { number = number; offset = offset })
 ReadsField bytes d at (Err OutOfMemory) e after = Unit {0}
@@ -127,8 +127,8 @@ ReadsField bytes d at (Err OutOfMemory) e after = Unit {0}
 -- a stage is passed where entries come next
 abbrev pub ReadsSection : List ℕ → Draft → ℕ → Result (Unit {0}) LogError → Draft → ℕ → Type 0
 ReadsSection bytes d at (Ok x) e after =
-    Came bytes d at e after × (stage_number d.head.stage ≤ stage_number e.head.stage)
-    × (IsSection d.head.stage → stage_number d.head.stage < stage_number e.head.stage)
+    Came bytes d at e after × (stage_number d.header.stage ≤ stage_number e.header.stage)
+    × (IsSection d.header.stage → stage_number d.header.stage < stage_number e.header.stage)
 ReadsSection bytes d at (Err (Malformed number offset)) e after =
     Came bytes d at e after × Stops bytes (remaining e) after (record { number = number; offset = offset })
 ReadsSection bytes d at (Err OutOfMemory) e after = Unit {0}
@@ -156,7 +156,7 @@ said_at Nothing d bytes = Ok (log_of d)
 
 -- what bytes say of which this draft was read
 abbrev pub said : Draft → List ℕ → Result LogParts ParseError
-said d bytes = said_at d.head.stage d bytes
+said d bytes = said_at d.header.stage d bytes
 
 -- a call read on as far as the bytes go, or came to a fault that stays whatever follows
 abbrev pub Feeds : List ℕ → Draft → ℕ → Result (Unit {0}) LogError → Draft → ℕ → Type 0

@@ -11,7 +11,7 @@ use Rattle.spec_log.specs.Reading.{Reader, read, gives, any, field, at_most, fro
 use Rattle.dl_logbytes.specs.Answer.{last}
 use Rattle.dl_logfmt.specs.declared.stage.Stage.{Stage}
 use Rattle.dl_logfmt.specs.declared.stage.Stage.TheVariants.{Mode, ChunkSize, Count, OrderCount, Order, SizeCount, Sizes as SizesOf, InterruptCount, Interrupts, InputCount, Inputs, DmaCount, Dmas, Nothing}
-use Rattle.dl_logfmt.specs.declared.head.Head.{Head}
+use Rattle.dl_logfmt.specs.declared.header.Header.{Header}
 use Rattle.dl_logfmt.specs.declared.draft.Draft.{Draft}
 
 -- the number of sizes is that of the commits where each commit has one
@@ -20,8 +20,8 @@ size_count OrderSize count = field 4 (λ n. n == count)
 size_count OrderOnly count = any 4
 size_count Picolog count = any 4
 
--- the field that comes next, and the head behind it
-abbrev pub field_at : Stage → Head → Reader Head
+-- the field that comes next, and the header behind it
+abbrev pub field_at : Stage → Header → Reader Header
 field_at Mode h = read mode (λ m. gives (record h { stage = ChunkSize; mode = m }))
 field_at ChunkSize h = read (field 4 (from_to 16 4096)) (λ s. gives (record h { stage = Count; s = s }))
 field_at Count h = read (field 4 (at_most (2 ^ 24))) (λ count. gives (record h { stage = OrderCount; count = count }))
@@ -37,7 +37,7 @@ field_at DmaCount h = read (any 4) (λ n. gives (record h { stage = Dmas n }))
 field_at (Dmas n) h = gives h
 field_at Nothing h = gives h
 
-abbrev pub next_field : Head → Reader Head
+abbrev pub next_field : Header → Reader Header
 next_field h = field_at h.stage h
 
 -- what was read of a list, and behind it what the reader reads
@@ -62,11 +62,11 @@ sizes_in Picolog each short = Short short
 abbrev pub log_of : Draft → LogParts
 log_of d =
     record {
-      mode = d.head.mode;
-      s = d.head.s;
-      count = d.head.count;
+      mode = d.header.mode;
+      s = d.header.s;
+      count = d.header.count;
       order = d.order;
-      sizes = sizes_in d.head.mode d.each d.short;
+      sizes = sizes_in d.header.mode d.each d.short;
       interrupts = d.interrupts;
       inputs = d.inputs;
       dmas = d.dmas;
@@ -107,28 +107,28 @@ more_sizes Picolog s count each short =
 
 abbrev pub from_sizes : ℕ → Draft → Reader LogParts
 from_sizes n d =
-    read (more_sizes d.head.mode d.head.s n d.each d.short) (λ sizes.
+    read (more_sizes d.header.mode d.header.s n d.each d.short) (λ sizes.
     from_interrupt_count (record d { each = sizes.0; short = sizes.1 }))
 
 abbrev pub from_size_count : Draft → Reader LogParts
-from_size_count d = read (size_count d.head.mode d.head.count) (λ n. from_sizes n d)
+from_size_count d = read (size_count d.header.mode d.header.count) (λ n. from_sizes n d)
 
 abbrev pub from_order : ℕ → Draft → Reader LogParts
 from_order n d = read (more_actors n d.order) (λ order. from_size_count (record d { order = order }))
 
 abbrev pub from_order_count : Draft → Reader LogParts
-from_order_count d = read (field 4 (λ n. n == ordered d.head.mode d.head.count)) (λ n. from_order n d)
+from_order_count d = read (field 4 (λ n. n == ordered d.header.mode d.header.count)) (λ n. from_order n d)
 
 abbrev pub from_count : Draft → Reader LogParts
 from_count d =
-    read (field 4 (at_most (2 ^ 24))) (λ count. from_order_count (record d { head = record d.head { count = count } }))
+    read (field 4 (at_most (2 ^ 24))) (λ count. from_order_count (record d { header = record d.header { count = count } }))
 
 abbrev pub from_chunk_size : Draft → Reader LogParts
 from_chunk_size d =
-    read (field 4 (from_to 16 4096)) (λ s. from_count (record d { head = record d.head { s = s } }))
+    read (field 4 (from_to 16 4096)) (λ s. from_count (record d { header = record d.header { s = s } }))
 
 abbrev pub from_mode : Draft → Reader LogParts
-from_mode d = read mode (λ m. from_chunk_size (record d { head = record d.head { mode = m } }))
+from_mode d = read mode (λ m. from_chunk_size (record d { header = record d.header { mode = m } }))
 
 -- the rest of a log at a stage
 abbrev pub remaining_at : Stage → Draft → Reader LogParts
@@ -149,7 +149,7 @@ remaining_at Nothing d = gives (log_of d)
 
 -- the rest of the log of which this was read
 abbrev pub remaining : Draft → Reader LogParts
-remaining d = remaining_at d.head.stage d
+remaining d = remaining_at d.header.stage d
 
 -- how many stages were passed
 abbrev pub stage_number : Stage → ℕ

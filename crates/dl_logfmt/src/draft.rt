@@ -3,7 +3,7 @@ ghost use Rattle.std.specs.Prelude.{◌≡◌, ◌≢◌, ◌≤◌, length, Mat
 ghost use Rattle.dl_logfmt.specs.Drafts.{Grew, IsFew, Feeds, Reads, ReadsField, blank};
 ghost use Rattle.dl_logfmt.specs.Remaining.{log_of};
 
-use crate::head::Head;
+use crate::header::Header;
 use crate::stage::Stage;
 use dl_entry::{Input, Sequence};
 use dl_logbytes::{LogError, Source, judge};
@@ -14,7 +14,7 @@ use std::alloc::Global;
 /// lists stays empty.
 #[derive(Drop)]
 pub struct Draft {
-    pub head: Head,
+    pub header: Header,
     pub order: Order,
     pub each: Sequence<u32>,
     pub short: Sequence<ShortSize>,
@@ -29,7 +29,7 @@ impl Draft {
         ensures { result ≡ blank }
     {
         Draft {
-            head: Head {
+            header: Header {
                 stage: Stage::Mode,
                 mode: ModeName::OrderSize,
                 s: 0,
@@ -65,7 +65,7 @@ impl Draft {
         ensures reads { Reads source.now.bytes.now self.old at.old result self.new at.new }
         ensures grown { Grew self.old self.new }
     {
-        while self.head.stage != Stage::Nothing {
+        while self.header.stage != Stage::Nothing {
             self.read_field(source.bytes, at)?;
             self.read_section(source, at)?;
         }
@@ -74,14 +74,14 @@ impl Draft {
 
     /// Reads the next field, unless entries come next.
     fn read_field(&mut self, bytes: &[u8], at: &mut usize) -> Result<(), LogError>
-        requires stage { self.old.head.stage ≢ Stage.Nothing }
+        requires stage { self.old.header.stage ≢ Stage.Nothing }
         requires within { at.old ≤ length bytes.now }
         requires few { IsFew self.old }
         ensures reads { ReadsField bytes.now self.old at.old result self.new at.new }
         ensures grown { Grew self.old self.new }
     {
         let mut after = *at;
-        self.head = self.head.next(bytes, &mut after)?;
+        self.header = self.header.next(bytes, &mut after)?;
         *at = after;
         Ok(())
     }
@@ -91,7 +91,7 @@ impl Draft {
         ensures { result ≡ log_of self }
     {
         let Draft {
-            head,
+            header,
             order,
             each,
             short,
@@ -99,14 +99,14 @@ impl Draft {
             inputs,
             dmas,
         } = self;
-        let sizes = match head.mode {
+        let sizes = match header.mode {
             ModeName::OrderSize => Sizes::Each(each),
             ModeName::OrderOnly | ModeName::Picolog => Sizes::Short(short),
         };
         LogParts {
-            mode: head.mode,
-            s: head.s,
-            count: head.count,
+            mode: header.mode,
+            s: header.s,
+            count: header.count,
             order,
             sizes,
             interrupts,

@@ -4,7 +4,7 @@
 mod draft;
 mod entry;
 mod fixed;
-mod head;
+mod header;
 mod list;
 mod mark;
 mod order_left;

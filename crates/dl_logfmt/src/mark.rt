@@ -3,13 +3,13 @@ ghost use Rattle.std.specs.Prelude.{◌≡◌};
 ghost use Rattle.dl_logfmt.specs.Drafts.{cut as cut_back, mark_of};
 
 use crate::draft::Draft;
-use crate::head::Head;
+use crate::header::Header;
 use crate::list::cut;
 
-/// A draft's head, and the numbers of its entries.
+/// A draft's header, and the numbers of its entries.
 #[derive(Clone, Copy)]
 pub struct Mark {
-    pub head: Head,
+    pub header: Header,
     pub order: usize,
     pub each: usize,
     pub short: usize,
@@ -24,7 +24,7 @@ impl Draft {
         ensures { result ≡ mark_of self.now }
     {
         Mark {
-            head: self.head,
+            header: self.header,
             order: self.order.len(),
             each: self.each.len(),
             short: self.short.len(),
@@ -38,7 +38,7 @@ impl Draft {
     pub fn cut(&mut self, mark: Mark)
         ensures { self.new ≡ cut_back mark self.old }
     {
-        self.head = mark.head;
+        self.header = mark.header;
         cut(&mut self.order, mark.order);
         cut(&mut self.each, mark.each);
         cut(&mut self.short, mark.short);

@@ -99,7 +99,7 @@ impl LogReader {
         if let Some(refusal) = self.refusal {
             return Err(LogError::Malformed(refusal.number, refusal.offset));
         }
-        if self.draft.head.stage != Stage::Nothing {
+        if self.draft.header.stage != Stage::Nothing {
             return Err(LogError::Malformed(1, self.start + self.pending.len() as u64));
         }
         Ok(Log::new(self.draft.into_parts()))

@@ -16,7 +16,7 @@ impl Draft {
         ensures reads { ReadsSection source.now.bytes.now self.old at.old result self.new at.new }
         ensures grown { Grew self.old self.new }
     {
-        match self.head.stage {
+        match self.header.stage {
             Stage::Order(count) => self.read_order(source, at, count),
             Stage::Sizes(count) => self.read_sizes(source, at, count),
             Stage::Interrupts(count) => self.read_interrupts(source, at, count),
@@ -33,14 +33,14 @@ impl Draft {
         at: &mut usize,
         count: u32,
     ) -> Result<(), LogError>
-        requires stage { self.old.head.stage ≡ Stage.Order count }
+        requires stage { self.old.header.stage ≡ Stage.Order count }
         requires within { at.old ≤ length source.now.bytes.now }
         requires few { IsFew self.old }
         ensures reads { ReadsSection source.now.bytes.now self.old at.old result self.new at.new }
         ensures grown { Grew self.old self.new }
     {
         read_order(&mut self.order, source.bytes, at, count)?;
-        self.head.stage = Stage::SizeCount;
+        self.header.stage = Stage::SizeCount;
         Ok(())
     }
 
@@ -51,28 +51,28 @@ impl Draft {
         at: &mut usize,
         count: u32,
     ) -> Result<(), LogError>
-        requires stage { self.old.head.stage ≡ Stage.Sizes count }
+        requires stage { self.old.header.stage ≡ Stage.Sizes count }
         requires within { at.old ≤ length source.now.bytes.now }
         requires few { IsFew self.old }
         ensures reads { ReadsSection source.now.bytes.now self.old at.old result self.new at.new }
         ensures grown { Grew self.old self.new }
     {
-        match self.head.mode {
+        match self.header.mode {
             ModeName::OrderSize => self.read_each(source, at, count),
             ModeName::OrderOnly | ModeName::Picolog => self.read_short(source, at, count),
         }
     }
 
     fn read_each(&mut self, source: &Source<'_>, at: &mut usize, count: u32) -> Result<(), LogError>
-        requires stage { self.old.head.stage ≡ Stage.Sizes count }
-        requires mode { self.old.head.mode ≡ ModeName.OrderSize }
+        requires stage { self.old.header.stage ≡ Stage.Sizes count }
+        requires mode { self.old.header.mode ≡ ModeName.OrderSize }
         requires within { at.old ≤ length source.now.bytes.now }
         requires few { IsFew self.old }
         ensures reads { ReadsSection source.now.bytes.now self.old at.old result self.new at.new }
         ensures grown { Grew self.old self.new }
     {
-        read_more(&mut self.each, source, at, self.head.s, count)?;
-        self.head.stage = Stage::InterruptCount;
+        read_more(&mut self.each, source, at, self.header.s, count)?;
+        self.header.stage = Stage::InterruptCount;
         Ok(())
     }
 
@@ -82,15 +82,15 @@ impl Draft {
         at: &mut usize,
         count: u32,
     ) -> Result<(), LogError>
-        requires stage { self.old.head.stage ≡ Stage.Sizes count }
-        requires mode { self.old.head.mode ≢ ModeName.OrderSize }
+        requires stage { self.old.header.stage ≡ Stage.Sizes count }
+        requires mode { self.old.header.mode ≢ ModeName.OrderSize }
         requires within { at.old ≤ length source.now.bytes.now }
         requires few { IsFew self.old }
         ensures reads { ReadsSection source.now.bytes.now self.old at.old result self.new at.new }
         ensures grown { Grew self.old self.new }
     {
-        read_more(&mut self.short, source, at, self.head.s, count)?;
-        self.head.stage = Stage::InterruptCount;
+        read_more(&mut self.short, source, at, self.header.s, count)?;
+        self.header.stage = Stage::InterruptCount;
         Ok(())
     }
 
@@ -101,14 +101,14 @@ impl Draft {
         at: &mut usize,
         count: u32,
     ) -> Result<(), LogError>
-        requires stage { self.old.head.stage ≡ Stage.Interrupts count }
+        requires stage { self.old.header.stage ≡ Stage.Interrupts count }
         requires within { at.old ≤ length source.now.bytes.now }
         requires few { IsFew self.old }
         ensures reads { ReadsSection source.now.bytes.now self.old at.old result self.new at.new }
         ensures grown { Grew self.old self.new }
     {
-        read_more(&mut self.interrupts, source, at, self.head.s, count)?;
-        self.head.stage = Stage::InputCount;
+        read_more(&mut self.interrupts, source, at, self.header.s, count)?;
+        self.header.stage = Stage::InputCount;
         Ok(())
     }
 
@@ -119,27 +119,27 @@ impl Draft {
         at: &mut usize,
         count: u32,
     ) -> Result<(), LogError>
-        requires stage { self.old.head.stage ≡ Stage.Inputs count }
+        requires stage { self.old.header.stage ≡ Stage.Inputs count }
         requires within { at.old ≤ length source.now.bytes.now }
         requires few { IsFew self.old }
         ensures reads { ReadsSection source.now.bytes.now self.old at.old result self.new at.new }
         ensures grown { Grew self.old self.new }
     {
-        read_more(&mut self.inputs, source, at, self.head.s, count)?;
-        self.head.stage = Stage::DmaCount;
+        read_more(&mut self.inputs, source, at, self.header.s, count)?;
+        self.header.stage = Stage::DmaCount;
         Ok(())
     }
 
     /// Reads the DMAs until there are so many.
     fn read_dmas(&mut self, source: &Source<'_>, at: &mut usize, count: u32) -> Result<(), LogError>
-        requires stage { self.old.head.stage ≡ Stage.Dmas count }
+        requires stage { self.old.header.stage ≡ Stage.Dmas count }
         requires within { at.old ≤ length source.now.bytes.now }
         requires few { IsFew self.old }
         ensures reads { ReadsSection source.now.bytes.now self.old at.old result self.new at.new }
         ensures grown { Grew self.old self.new }
     {
-        read_more(&mut self.dmas, source, at, self.head.s, count)?;
-        self.head.stage = Stage::Nothing;
+        read_more(&mut self.dmas, source, at, self.header.s, count)?;
+        self.header.stage = Stage::Nothing;
         Ok(())
     }
 }

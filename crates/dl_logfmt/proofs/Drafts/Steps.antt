@@ -53,14 +53,14 @@ section-exit bytes d at e middle f after (Malformed number offset) came h = (Cam
 section-exit bytes d at e middle f after OutOfMemory came h = tt
 
 -- the log that a whole draft is
-whole-remaining : (e : Draft) (bytes : List ℕ) (at : ℕ) → e.head.stage ≡ Nothing → remaining e bytes at ≡ gives (log_of e) bytes at
+whole-remaining : (e : Draft) (bytes : List ℕ) (at : ℕ) → e.header.stage ≡ Nothing → remaining e bytes at ≡ gives (log_of e) bytes at
 whole-remaining e bytes at is = ap (λ (s : Stage). remaining_at s e bytes at) is
 
-whole-said : (e : Draft) (bytes : List ℕ) → e.head.stage ≡ Nothing → said e bytes ≡ Ok (log_of e)
+whole-said : (e : Draft) (bytes : List ℕ) → e.header.stage ≡ Nothing → said e bytes ≡ Ok (log_of e)
 whole-said e bytes is = ap (λ (s : Stage). said_at s e bytes) is
 
 -- a byte follows
-pub feeds-behind : (bytes : List ℕ) (d : Draft) (at : ℕ) (e : Draft) (after : ℕ) → Came bytes d at e after → e.head.stage ≡ Nothing → after < length bytes
+pub feeds-behind : (bytes : List ℕ) (d : Draft) (at : ℕ) (e : Draft) (after : ℕ) → Came bytes d at e after → e.header.stage ≡ Nothing → after < length bytes
     → Feeds bytes d at (Err (Malformed 7 after)) e after
 feeds-behind bytes d at e after came is more = (
   (λ k. absurd (omega arith)),
@@ -72,7 +72,7 @@ feeds-behind bytes d at e after came is more = (
 )
 
 -- nothing follows
-pub feeds-whole : (bytes : List ℕ) (d : Draft) (at : ℕ) (e : Draft) (after : ℕ) → Came bytes d at e after → e.head.stage ≡ Nothing → length bytes ≤ after
+pub feeds-whole : (bytes : List ℕ) (d : Draft) (at : ℕ) (e : Draft) (after : ℕ) → Came bytes d at e after → e.header.stage ≡ Nothing → length bytes ≤ after
     → Feeds bytes d at (Ok tt) e after
 feeds-whole bytes d at e after came is none = (
   came,
@@ -109,7 +109,7 @@ feeds-short bytes d at e after offset (came, stops) = (
       let here : remaining e (before ++ bytes) (length before + after) ≡ Err fault =
       subst (λ (b : List ℕ). remaining e (before ++ b) (length before + after) ≡ Err fault) (append-nil bytes) (s.same (λ k. refl)) in
       let end : length before + offset ≡ length (before ++ bytes) = omega (arith, length-append before bytes, s.short refl) in
-      rw (here, end) (said-cut e.head.stage e (before ++ bytes) (length before + after) fault here),
+      rw (here, end) (said-cut e.header.stage e (before ++ bytes) (length before + after) fault here),
 )
 
 -- a fault that stays

@@ -151,7 +151,7 @@ said-fed Nothing d bytes = refl
 
 -- of bytes that a reader holds with no refusal, feeding them answers no fault
 pub held-fed : (bytes : List ℕ) (r : Feeding) → Holding bytes r → fed (read_of bytes) ≡ Ok tt
-held-fed bytes r h = ap fed h.now ∙ said-fed r.draft.head.stage r.draft bytes
+held-fed bytes r h = ap fed h.now ∙ said-fed r.draft.header.stage r.draft bytes
 
 said-open : (stage : Stage) (d : Draft) (bytes : List ℕ) → (stage ≡ Nothing → ⊥) → said_at stage d bytes ≡ fails 1 (length bytes)
 said-open Mode d bytes more = refl
@@ -170,14 +170,14 @@ said-open (Dmas n) d bytes more = refl
 said-open Nothing d bytes more = absurd (more refl)
 
 -- a log that was cut short
-pub held-short : (bytes : List ℕ) (r : Feeding) → Holding bytes r → (r.draft.head.stage ≡ Nothing → ⊥)
+pub held-short : (bytes : List ℕ) (r : Feeding) → Holding bytes r → (r.draft.header.stage ≡ Nothing → ⊥)
     → read_of bytes ≡ Err (record { number = 1; offset = r.start + length r.pending })
 held-short bytes r h more =
     let end : length bytes ≡ r.start + length r.pending = omega (arith, ap length h.split, length-append h.used r.pending, h.start) in
-    h.now ∙ (said-open r.draft.head.stage r.draft bytes more ∙ ap (λ (n : ℕ). fails 1 n) end)
+    h.now ∙ (said-open r.draft.header.stage r.draft bytes more ∙ ap (λ (n : ℕ). fails 1 n) end)
 
 -- a log that is whole
-pub held-whole : (bytes : List ℕ) (r : Feeding) → Holding bytes r → r.draft.head.stage ≡ Nothing → read_of bytes ≡ Ok (log_of r.draft)
+pub held-whole : (bytes : List ℕ) (r : Feeding) → Holding bytes r → r.draft.header.stage ≡ Nothing → read_of bytes ≡ Ok (log_of r.draft)
 held-whole bytes r h is = h.now ∙ ap (λ (s : Stage). said_at s r.draft bytes) is
 
 read-whole : (bytes : List ℕ) (r : Result (Read LogParts) ParseError) (log : LogParts)
@@ -189,7 +189,7 @@ read-whole bytes (Ok x) log e = (x, refl, value (nat_lt x.after (length bytes)) 
 read-whole bytes (Err fault) log e = cc
 
 -- what was read of bytes is a log
-pub held-good : (bytes : List ℕ) (r : Feeding) → Holding bytes r → All (λ byte. byte < 256) bytes → r.draft.head.stage ≡ Nothing → IsLog (log_of r.draft)
+pub held-good : (bytes : List ℕ) (r : Feeding) → Holding bytes r → All (λ byte. byte < 256) bytes → r.draft.header.stage ≡ Nothing → IsLog (log_of r.draft)
 held-good bytes r h are is =
     let w = read-whole bytes (parts bytes 0) (log_of r.draft) (held-whole bytes r h is) in
     subst IsLog w.2 (parts-good bytes w.0.value w.0.after are w.1)
@@ -213,4 +213,4 @@ stage_number-most Nothing = omega arith
 -- the offset from which a reader's bytes are pending is below 2^47
 pub start-low : (bytes : List ℕ) (r : Feeding) → Holding bytes r → r.start < 2 ^ 47
 start-low bytes r h =
-    omega (arith, h.low, h.few.order, h.few.each, h.few.short, h.few.interrupts, h.few.inputs, h.few.dmas, stage_number-most r.draft.head.stage)
+    omega (arith, h.low, h.few.order, h.few.each, h.few.short, h.few.interrupts, h.few.inputs, h.few.dmas, stage_number-most r.draft.header.stage)

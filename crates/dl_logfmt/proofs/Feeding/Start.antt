@@ -87,7 +87,7 @@ sizes-start Picolog s count next other same bytes at = short-start s next other 
 abbrev draft : ModeName → ℕ → ℕ → List Actor → List ℕ → List ShortSize → Draft
 draft m s c o e h =
     record {
-      head = record { stage = Mode; mode = m; s = s; count = c };
+      header = record { stage = Mode; mode = m; s = s; count = c };
       order = o;
       each = e;
       short = h;

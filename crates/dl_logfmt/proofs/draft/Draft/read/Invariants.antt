@@ -9,4 +9,4 @@ invariant-loop-self l =
     Came l.source.bytes.now l.initial.self l.initial.at l.self l.at × Grew l.initial.self l.self
 
 abbrev pub decreases-loop-self : goal.decreases-loop-self
-decreases-loop-self l = 13 - stage_number l.self.head.stage
+decreases-loop-self l = 13 - stage_number l.self.header.stage

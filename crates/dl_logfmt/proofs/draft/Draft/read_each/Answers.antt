@@ -6,7 +6,7 @@ use Rattle.dl_logfmt.proofs.Drafts.Sections.{each-read, each-unread}
 use Rattle.dl_logfmt.proofs.draft.Draft.read_each.Goals as goal
 
 pub read_more-requires-clause-streams : goal.read_more-requires-clause-streams
-read_more-requires-clause-streams c = Streams-wider 2 4103 _ (omega arith) (Streams-field 2 (at_most c.args.self.now.head.s))
+read_more-requires-clause-streams c = Streams-wider 2 4103 _ (omega arith) (Streams-field 2 (at_most c.args.self.now.header.s))
 
 pub returns-in_err-read_more-clause-reads : goal.returns-in_err-read_more-clause-reads
 returns-in_err-read_more-clause-reads c =

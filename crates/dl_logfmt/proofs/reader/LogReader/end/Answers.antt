@@ -14,18 +14,18 @@ returns-in-Some-clause-log c bytes fed =
 pub returns-then-ne-clause-log : goal.returns-then-ne-clause-log
 returns-then-ne-clause-log c bytes fed =
     let inside = subst (HasFed bytes) (sym c.self.view_is) fed in
-    let other : c.self.inside.draft.head.stage ≡ Nothing → ⊥ = search rules in
+    let other : c.self.inside.draft.header.stage ≡ Nothing → ⊥ = search rules in
     let end : length c.self.inside.pending.items ≡ c.len.result = omega arith in
     held-short bytes _ (holding bytes _ c.in_default.is inside) other ∙ ap (λ n. fails 1 (c.self.inside.start + n)) end
 
 pub new-requires : goal.new-requires
 new-requires c =
     let (bytes, are, fed) = c.self.invariant in
-    let whole : c.self.inside.draft.head.stage ≡ Nothing = search rules in
+    let whole : c.self.inside.draft.header.stage ≡ Nothing = search rules in
     subst IsLog (sym c.into_parts.ensures) (held-good bytes _ (holding bytes _ c.in_default.is fed) are whole)
 
 pub returns-clause-log : goal.returns-clause-log
 returns-clause-log c bytes fed =
     let inside = subst (HasFed bytes) (sym c.self.view_is) fed in
-    let whole : c.self.inside.draft.head.stage ≡ Nothing = search rules in
+    let whole : c.self.inside.draft.header.stage ≡ Nothing = search rules in
     held-whole bytes _ (holding bytes _ c.in_default.is inside) whole ∙ cc

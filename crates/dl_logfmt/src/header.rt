@@ -10,30 +10,30 @@ use spec_log::ModeName;
 
 /// What is read next, and what was read of the header so far.
 #[derive(Clone, Copy)]
-pub struct Head {
+pub struct Header {
     pub stage: Stage,
     pub mode: ModeName,
     pub s: u32,
     pub count: u32,
 }
 
-impl Head {
-    /// The head behind the next field; where entries come next, the same.
-    pub fn next(self, bytes: &[u8], at: &mut usize) -> Result<Head, LogError>
+impl Header {
+    /// The header behind the next field; where entries come next, the same.
+    pub fn next(self, bytes: &[u8], at: &mut usize) -> Result<Header, LogError>
         ensures { Answers (next_field self bytes.now at.old) result at.new }
     {
-        let mut head = self;
-        head.stage = match self.stage {
+        let mut header = self;
+        header.stage = match self.stage {
             Stage::Mode => {
-                head.mode = read_mode(bytes, at)?;
+                header.mode = read_mode(bytes, at)?;
                 Stage::ChunkSize
             }
             Stage::ChunkSize => {
-                head.s = read_chunk_size(bytes, at)?;
+                header.s = read_chunk_size(bytes, at)?;
                 Stage::Count
             }
             Stage::Count => {
-                head.count = read_count(bytes, at)?;
+                header.count = read_count(bytes, at)?;
                 Stage::OrderCount
             }
             Stage::OrderCount => Stage::Order(read_named(bytes, at, self.mode, self.count)?),
@@ -43,7 +43,7 @@ impl Head {
             Stage::DmaCount => Stage::Dmas(read_u32(bytes, at)?),
             stage => stage,
         };
-        Ok(head)
+        Ok(header)
     }
 
     /// The number of sizes: that of the commits where each commit has one.
