@@ -47,11 +47,7 @@ impl Spheres {
     ghost use Rattle.dl_machine.specs.Rows.{nth_sphere, with_nth};
 
     /// The spheres of these setups, from 1 to 8.
-    pub(crate) fn new(
-        alloc: Global,
-        setups: &[SphereSetup],
-        s: u32,
-    ) -> Result<Spheres, OutOfMemory>
+    pub(crate) fn new(alloc: Global, setups: &[SphereSetup], s: u32) -> Result<Spheres, OutOfMemory>
         requires few { AreFew (length setups.now) }
         requires size { IsChunkSize s }
         ensures made { IfOk result (λ r. r ≡ record { s = s; spheres = map (sphere_of s) (map setup_of setups.now) }) }

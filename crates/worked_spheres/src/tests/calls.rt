@@ -140,7 +140,10 @@ fn a_spawned_thread_has_its_argument(rt: HostRuntime) {
         assert!(rt; false);
         return;
     };
-    assert_eq!(rt; (spawned.pc(), spawned.x()[2], spawned.x()[10]), (0x20, 0x100, 9));
+    assert_eq!(rt;
+        (spawned.pc(), spawned.x()[2], spawned.x()[10]),
+        (0x20, 0x100, 9)
+    );
 }
 
 #[test]
