@@ -18,8 +18,8 @@ use dl_thread::Thread;
 use dl_wbuf::Buffer;
 use std::alloc::Global;
 
-// What a step leaves of its sphere, but for the commit: its thread, the thread that it spawned, the outstanding DMA request, and
-// the words to fly.
+// What a step leaves of its sphere, but for the commit: its thread, the thread that it spawned, the outstanding DMA request,
+// and the words to fly.
 #[derive(Drop)]
 pub(crate) struct Left {
     pub(crate) thread: Thread,

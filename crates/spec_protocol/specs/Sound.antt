@@ -225,9 +225,9 @@ pub record IsSoundSphere (s : ℕ) (image : SphereSetup) (events : ℕ) (p : Sph
 
 -- a running chunk: its words lie in the memory of its sphere and find room in the buffer; its limit is a size that a log
 -- can have; squashes are counted to 3; and its thread has the commits and the status that it began with
-pub record IsSoundChunk (buffer size : ℕ) (ch : Chunk) : Type 0 where
+pub record IsSoundChunk (capacity size : ℕ) (ch : Chunk) : Type 0 where
   pub words : AreSoundWords size ch.done.words
-  pub room : length ch.done.words ≤ buffer
+  pub room : length ch.done.words ≤ capacity
   pub limit : ch.limit ≤ 4096
   pub squashes : ch.squashes < 4
   pub start : IsThread ch.start

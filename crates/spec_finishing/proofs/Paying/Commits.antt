@@ -49,11 +49,11 @@ how_most How.Serial n limit full early = let l = early (λ h. cc) in omega (arit
 how_most How.Overflow n limit full early = let l = early (λ h. cc) in omega (arith, l)
 how_most How.Cut n limit full early = let l = early (λ h. cc) in omega (arith, l)
 
-how_some : (how : How) (n buffer : ℕ) → 0 < buffer → (how ≡ How.Cut → 0 < n) → (how ≡ How.Overflow → buffer ≤ n) → is_piece how ≡ true → 0 < n
-how_some How.Limit n buffer positive cut room e = absurd (true≢false (sym e))
-how_some How.Serial n buffer positive cut room e = absurd (true≢false (sym e))
-how_some How.Overflow n buffer positive cut room e = let l = room refl in omega (arith, l)
-how_some How.Cut n buffer positive cut room e = cut refl
+how_some : (how : How) (n capacity : ℕ) → 0 < capacity → (how ≡ How.Cut → 0 < n) → (how ≡ How.Overflow → capacity ≤ n) → is_piece how ≡ true → 0 < n
+how_some How.Limit n capacity positive cut room e = absurd (true≢false (sym e))
+how_some How.Serial n capacity positive cut room e = absurd (true≢false (sym e))
+how_some How.Overflow n capacity positive cut room e = let l = room refl in omega (arith, l)
+how_some How.Cut n capacity positive cut room e = cut refl
 
 -- ---- a replay that goes on
 
