@@ -55,7 +55,7 @@ pub record Beside (w v : World) (c : ℕ) (h : Occupant) : Type 0 where
 pub held-beside : (w v : World) (c : ℕ) (h : Occupant) → Beside w v c h → IsGoodHeld w c h → IsGoodHeld v c h
 held-beside w v c h b good =
     let limits : limit_of v.numbers.s (sphere_at v h.chunk.sphere).role h.thread h.chunk.start ≡ limit_of w.numbers.s (sphere_at w h.chunk.sphere).role h.thread h.chunk.start =
-    (λ j. limit_of (b.numbers j).chunk (b.role j) h.thread h.chunk.start)
+    (λ j. limit_of (b.numbers j).s (b.role j) h.thread h.chunk.start)
     in
     record {
       sphere = subst (λ (n : ℕ). h.chunk.sphere < n) (sym b.spheres) good.sphere;
