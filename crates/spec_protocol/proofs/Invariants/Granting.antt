@@ -112,7 +112,7 @@ granted_good w c h q writes v good g =
       alone = alone-set w.cores c o good.alone
           (λ y e d x ne there sphere thread.
           let b = afresh-begins w.numbers q.sphere q.thread v.sphere y e in
-          other_thread w c d h x q writes v good g ne there (sym sphere ∙ ap (λ (z : Occupant). z.s.sphere) (sym b.is)) (sym thread ∙ ap (λ (z : Occupant). z.thread) (sym b.is)));
+          other_thread w c d h x q writes v good g ne there (sym sphere ∙ ap (λ (z : Occupant). z.chunk.sphere) (sym b.is)) (sym thread ∙ ap (λ (z : Occupant). z.thread) (sym b.is)));
     }
 
 granted_sizes : (w : World) (c : ℕ) (h : Occupant) (q : CommitRequest) (writes : Signature) (v : MovedSphere) → IsGood w → Grants w c h q writes v → SameSizes w (world_with w c q writes v)
