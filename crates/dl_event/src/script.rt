@@ -1,5 +1,6 @@
 //! Whole scripts.
-ghost use Rattle.std.specs.Prelude.{◌≡◌, ◌≢◌, ◌≤◌, ◌<◌, ◌^◌, ◌+◌, ℕ, List, ◌∷◌, ◌++◌, length, take, replicate, Ok, IfOk, IfErr, IfSome, MatchOption};
+ghost use Rattle.std.specs.Prelude.{◌≡◌, ◌≢◌, ◌≤◌, ◌<◌, ◌^◌, ◌+◌, ℕ, List, ◌∷◌, ◌++◌, length, take, drop, replicate, Ok, IfOk, IfErr, IfSome, MatchOption};
+ghost use Rattle.std.specs.Int.{to_le_bytes, w64};
 ghost use Rattle.std.specs.List.{AllWithin};
 ghost use Rattle.dl_event.specs.declared.line.Line.TheVariants.{Holds};
 ghost use Rattle.dl_event.specs.Script.{lines_of, script_of, Refuses};
@@ -11,9 +12,6 @@ use crate::line::{Line, read_line};
 use crate::reader::ScriptReader;
 use spec_protocol::Event;
 use std::alloc::Global;
-
-// How many lines that are alike are compared at once, at most.
-const MOST_AT_ONCE: u32 = 32;
 
 // The bytes of `step` as one number, the first one the least.
 const STEP: u32 = 0x7065_7473;
@@ -56,21 +54,33 @@ pub(crate) fn short_lines(text: &[u8], most: u32) -> Option<(Event, u32, &[u8])>
         return None;
     }
     let (event, size) = short_line(text)?;
-    let mut rest = &text[size..];
-    let mut times = 1;
-    // So many lines are compared at once with those at the front: twice as many where they were alike, and else half as many.
-    let mut count = 1;
-    while count > 0 {
-        let bytes = count as usize * size;
-        if count <= most - times && rest.starts_with(&text[..bytes]) {
-            rest = &rest[bytes..];
-            times += count;
-            count = (2 * count).min(MOST_AT_ONCE);
-        } else {
-            count /= 2;
-        }
+    let behind = &text[size..];
+    let more = (common(text, behind) / size).min(most as usize - 1);
+    Some((event, 1 + more as u32, &behind[more * size..]))
+}
+
+// At least how many bytes two texts have in common at their front. They are compared in eights.
+fn common(a: &[u8], b: &[u8]) -> usize
+    ensures same { take result a.now ≡ take result b.now }
+    ensures within { result ≤ length a.now }
+    ensures within_other { result ≤ length b.now }
+{
+    let mut n = 0;
+    while let (Some(x), Some(y)) = (eight_at(a, n), eight_at(b, n))
+        && x == y
+    {
+        n += 8;
     }
-    Some((event, times, rest))
+    n
+}
+
+// The eight bytes of a text from a place on, as one number, where there are as many.
+fn eight_at(text: &[u8], at: usize) -> Option<u64>
+    requires { at ≤ length text.now }
+    ensures { IfSome result (λ n. (at + 8 ≤ length text.now) × (take 8 (drop at text.now) ≡ to_le_bytes w64 n)) }
+{
+    let bytes = text[at..].first_chunk::<8>()?;
+    Some(u64::from_le_bytes(*bytes))
 }
 
 // The event of a first line in its shortest form, with one digit and no needless space, as programs write nearly all lines;
