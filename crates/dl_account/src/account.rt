@@ -4,7 +4,7 @@ ghost use Rattle.dl_account.specs.Account.{account_of, end_fields, final_lines};
 ghost use Rattle.dl_account.specs.Lines.{line, spaced};
 ghost use Rattle.dl_account.specs.States.{request_lines, state_lines};
 
-use crate::commits::put_commits;
+use crate::commits::{put_commits, room_for};
 use crate::memory::put_memory;
 use crate::replays::put_why;
 use crate::text::Text;
@@ -27,7 +27,7 @@ pub fn account_text(
     ensures { IfOk result (λ text.
         text.items ≡ account_of commits.now threads.now request.now memory.now end.now) }
 {
-    let mut text = Text::new(alloc);
+    let mut text = Text::with_room(alloc, room_for(commits))?;
     put_commits(&mut text, commits)?;
     put_final(&mut text, threads, *request, memory, *end)?;
     put_end(&mut text, *end)?;

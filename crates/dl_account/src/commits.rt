@@ -7,6 +7,18 @@ ghost use Rattle.dl_entry.specs.Actor.{code};
 use crate::text::{Text, high_digit, low_digit};
 use dl_entry::{Commit, Load, OutOfMemory, Output};
 
+/// The bytes of a load's line. A commit's has fewer, or hardly more.
+const LINE: usize = 20;
+
+// How many bytes the lines of commits take, or a few more, if none has an output: so a text with this room seldom grows.
+pub(crate) fn room_for(commits: &[Commit]) -> usize {
+    let mut room: usize = 0;
+    for commit in commits {
+        room = room.saturating_add(commit.loads.len().saturating_add(1).saturating_mul(LINE));
+    }
+    room
+}
+
 pub(crate) fn put_commits(text: &mut Text, commits: &[Commit]) -> Result<(), OutOfMemory>
     ensures { OnOk result (text.new ≡ text.old ++ numbered commit_lines 0 commits.now) }
 {
@@ -45,7 +57,7 @@ fn put_loads(text: &mut Text, loads: &[Load]) -> Result<(), OutOfMemory>
 }
 
 #[tactic(auto, unfolding(crate::specs::Lines::hex_word))]
-fn load_line(load: &Load) -> [u8; 20]
+fn load_line(load: &Load) -> [u8; LINE]
     ensures { result ≡ load_line load.now }
 {
     let [a, b, c, d] = load.address.to_be_bytes();

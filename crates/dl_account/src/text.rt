@@ -1,5 +1,5 @@
 //! A text that is being written.
-ghost use Rattle.std.specs.Prelude.{◌≡◌, ◌<◌, ◌/◌, ◌%◌, [], ◌∷◌, ◌++◌, true, take, decimal, OnOk, OnErr};
+ghost use Rattle.std.specs.Prelude.{◌≡◌, ◌<◌, ◌/◌, ◌%◌, [], ◌∷◌, ◌++◌, true, take, decimal, IfOk, OnOk, OnErr};
 ghost use Rattle.std.specs.Fmt.{digit_glyph};
 ghost use Rattle.dl_account.specs.Lines.{spaced, hex_byte, hex_bytes, hex_word};
 
@@ -29,6 +29,15 @@ impl Text {
         Text {
             bytes: Vec::new(alloc),
         }
+    }
+
+    /// A text with nothing in it, and with room for so many bytes.
+    pub fn with_room(alloc: Global, bytes: usize) -> Result<Text, OutOfMemory>
+        ensures { IfOk result (λ text. text ≡ []) }
+    {
+        Ok(Text {
+            bytes: Vec::with_capacity(alloc, bytes)?,
+        })
     }
 
     /// The text as it is.
