@@ -11,6 +11,7 @@ use crate::next::next_event;
 use dl_entry::OutOfMemory;
 use dl_machine::Machine;
 use dl_sig::Sig;
+use spec_protocol::{Event, Reply};
 
 /// Takes the next event until none is left. Then no flight stands, and every replay is complete or has diverged; for each unit
 /// of the run's work there were as many events at most as there are cores, and six; and none was bounced, denied, busy, full
@@ -26,7 +27,11 @@ pub fn finish<G: Sig>(machine: &mut Machine<G>) -> Result<(), OutOfMemory>
         IsRun s schedule machine.old → HasBegun s schedule machine.new) }
 {
     while let Some(event) = next_event(machine) {
-        machine.apply(event)?;
+        let mut reply = machine.apply(event)?;
+        // A step whose instruction ran is the next event again.
+        while let (Event::Step(_), Reply::Ran) = (event, reply) {
+            reply = machine.apply(event)?;
+        }
     }
     Ok(())
 }

@@ -7,3 +7,4 @@ pub mod Cores
 pub mod Commits
 pub mod Events
 pub mod All
+pub mod Again

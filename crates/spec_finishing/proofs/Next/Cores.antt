@@ -33,7 +33,7 @@ passes_no p None each = refl
 passes_no p (Some x) each = each x refl
 
 -- what is put where the search ended is found again
-first_set : {A : Type 0} (p : A → Bool) (xs : List (Option A)) (c : ℕ) (v : A) → first_slot p xs ≡ Some c → c < length xs → p v ≡ true → first_slot p (set xs c (Some v)) ≡ Some c
+pub first_set : {A : Type 0} (p : A → Bool) (xs : List (Option A)) (c : ℕ) (v : A) → first_slot p xs ≡ Some c → c < length xs → p v ≡ true → first_slot p (set xs c (Some v)) ≡ Some c
 first_set p xs c v found l e =
     sym (first_is p (set xs c (Some v)) c (let h = length-set xs c (Some v) in omega (arith, h))
     (λ j m. ap (passes p) (at-set_other xs c j (Some v) (λ h. omega arith)) ∙ passes_no p (at xs j) (λ x h. first_least p xs c found j x m h))
@@ -44,7 +44,8 @@ first_put : {A : Type 0} (p : A → Bool) (xs : List (Option A)) (v : A) → 0 <
 first_put p xs v l e =
     sym (first_is p (set xs 0 (Some v)) 0 (let h = length-set xs 0 (Some v) in omega (arith, h)) (λ j m. absurd (omega arith)) (ap (passes p) (at-set_same xs 0 (Some v) l) ∙ e))
 
-runs_it : (i k : ℕ) (h : Occupant) → h.chunk.sphere ≡ i → h.thread ≡ k → runs i k h ≡ true
+-- an occupant of this sphere and thread is what is looked for
+pub runs_it : (i k : ℕ) (h : Occupant) → h.chunk.sphere ≡ i → h.thread ≡ k → runs i k h ≡ true
 runs_it i k h sphere thread = and_from (eqb h.chunk.sphere i) (eqb h.thread k) (eq-eqb h.chunk.sphere i sphere) (eq-eqb h.thread k thread)
 
 -- ---- one core changes
@@ -60,7 +61,8 @@ pub record Rose (w : World) (i k : ℕ) (a : After) : Type 0 where
 
 -- ---- Step
 
-step_is : (w : World) (c : ℕ) (h : Occupant) → at w.cores c ≡ Some h → is_stopped (sphere_at w h.chunk.sphere).role ≡ false → is_open h.chunk ≡ true
+-- an open chunk of a sphere that goes on is stepped
+pub step_is : (w : World) (c : ℕ) (h : Occupant) → at w.cores c ≡ Some h → is_stopped (sphere_at w h.chunk.sphere).role ≡ false → is_open h.chunk ≡ true
     → stepping w c ≡ stepped w c h (step w.numbers.capacity (sphere_at w h.chunk.sphere).memory w.slots c h.chunk)
 unfolding stepping
 step_is w c h is going open_ =
