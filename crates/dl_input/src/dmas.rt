@@ -1,5 +1,6 @@
 //! The data of DMAs by their positions.
 ghost use Rattle.std.specs.Prelude.{◌≡◌, ℕ, ◌-◌, ◌<◌, ◌≤◌, false, [], ◌∷◌, ◌++◌, None, Some, length, slice_index_or, IfOk, IsOk, IsTrue, MatchOption, OnOk, OnErr};
+ghost use Rattle.dl_entry.specs.Numbers.{most_bytes};
 ghost use Rattle.std.specs.List.{list_all};
 ghost use Rattle.std.specs.Slice.{IsItemAt};
 ghost use Rattle.spec_log.specs.declared.records.DmaRecord.{DmaRecord as Record};
@@ -21,6 +22,7 @@ pub struct Dmas {
 }
 
 impl Model for Dmas {
+    ghost use Rattle.dl_entry.specs.Numbers.{most_bytes};
     ghost use Rattle.std.specs.Prelude.{◌≡◌, nat_lt, nat_le, ◌&&◌, [], length, vec_len, vec_capacity};
     ghost use Rattle.dl_input.specs.Dmas.{DmaList, Rises};
 
@@ -30,7 +32,7 @@ impl Model for Dmas {
       dmas = d.entries.items;
       taken = d.taken.items;
       room = nat_lt (vec_len d.entries) (vec_capacity d.entries) && nat_lt (vec_len d.taken) (vec_capacity d.taken)
-          && nat_le 4096 (vec_capacity d.spare);
+          && nat_le most_bytes (vec_capacity d.spare);
     } };
 
     ghost invariant = { λ d. (length d.taken.items ≡ length d.entries.items) × Rises d.entries.items × (d.spare.items ≡ []) };
@@ -65,7 +67,7 @@ impl Dmas {
 
     /// Adds the data of a DMA with a greater position at the end. With room it isn't refused.
     pub fn note(&mut self, position: u32, bytes: &[u8]) -> Result<(), OutOfMemory>
-        requires few { length bytes.now ≤ 4096 }
+        requires few { length bytes.now ≤ most_bytes }
         requires greater { (d : Record) → 0 < length self.old.dmas → (slice_index_or self.old.dmas (length self.old.dmas - 1) d).position < position }
         ensures ok { OnOk result (self.new.dmas ≡ self.old.dmas ++ record { position = position; bytes = bytes.now } ∷ []) }
         ensures taken { OnOk result (self.new.taken ≡ self.old.taken ++ false ∷ []) }

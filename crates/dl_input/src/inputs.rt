@@ -1,5 +1,6 @@
 //! Inputs in the order of commits.
 ghost use Rattle.std.specs.Prelude.{◌≡◌, ◌==◌, ◌≤◌, [], ◌∷◌, ◌++◌, length, IfOk, IsOk, IsTrue, OnOk, OnErr};
+ghost use Rattle.dl_entry.specs.Numbers.{most_bytes};
 ghost use Rattle.std.specs.Slice.{IsItemAt};
 ghost use Rattle.dl_input.specs.Inputs.{one_taken};
 
@@ -18,6 +19,7 @@ pub struct Inputs {
 }
 
 impl Model for Inputs {
+    ghost use Rattle.dl_entry.specs.Numbers.{most_bytes};
     ghost use Rattle.std.specs.Prelude.{◌≡◌, ◌≤◌, nat_lt, nat_le, ◌&&◌, [], length, vec_len, vec_capacity};
     ghost use Rattle.dl_input.specs.Inputs.{InputList};
 
@@ -26,7 +28,7 @@ impl Model for Inputs {
     ghost view = { λ i. record {
       inputs = i.entries.items;
       taken = i.taken;
-      room = nat_lt (vec_len i.entries) (vec_capacity i.entries) && nat_le 4096 (vec_capacity i.spare);
+      room = nat_lt (vec_len i.entries) (vec_capacity i.entries) && nat_le most_bytes (vec_capacity i.spare);
     } };
 
     ghost invariant = { λ i. (i.taken ≤ length i.entries.items) × (i.spare.items ≡ []) };
@@ -60,7 +62,7 @@ impl Inputs {
 
     /// Adds an input at the end. With room it isn't refused.
     pub fn note(&mut self, input: &Input) -> Result<(), OutOfMemory>
-        requires { length input.now.bytes ≤ 4096 }
+        requires { length input.now.bytes ≤ most_bytes }
         ensures ok { OnOk result (self.new.inputs ≡ self.old.inputs ++ input.now ∷ []) }
         ensures err { OnErr result (self.new.inputs ≡ self.old.inputs) }
         ensures taken { self.new.taken ≡ self.old.taken }

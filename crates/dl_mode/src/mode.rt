@@ -1,5 +1,6 @@
 //! What each mode of recording does.
 ghost use Rattle.std.specs.Prelude.{◌≡◌, ◌^◌, ◌<◌, take, IfOk, IsOk, IsTrue, OnOk, OnErr};
+ghost use Rattle.dl_entry.specs.Numbers.{most_threads};
 ghost use Rattle.spec_log.specs.declared.mode_name.ModeName.{ModeName};
 ghost use Rattle.spec_log.specs.Log.{IsActor};
 ghost use Rattle.spec_log.specs.Noting.{nothing_kept, noted, kept_size, limit_by, sizes_used, kept_head};
@@ -64,7 +65,7 @@ pub trait Mode {
         last: Option<u8>,
         live: &[bool],
     ) -> Option<Actor>
-        ensures { result ≡ kept_head mode (logged log.now).kept.order position dma last (take 15 live.now) };
+        ensures { result ≡ kept_head mode (logged log.now).kept.order position dma last (take most_threads live.now) };
 
     /// The lists of a log.
     fn lists(alloc: Global, log: &Self::Log) -> Result<Lists, OutOfMemory>

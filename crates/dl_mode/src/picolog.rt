@@ -1,5 +1,6 @@
 //! Picolog: no order, since threads take turns, and the sizes of short chunks.
 ghost use Rattle.std.specs.Prelude.{◌≡◌, ◌<◌, ◌≤◌, length, take, IfSome};
+ghost use Rattle.dl_entry.specs.Numbers.{most_threads};
 ghost use Rattle.spec_log.specs.declared.mode_name.ModeName.TheVariants.{Picolog as ByTurn};
 ghost use Rattle.spec_log.specs.Head.{turn as turn_of, first_live as first_of, next_live as next_of};
 
@@ -111,7 +112,7 @@ impl Mode for PicoLog {
 
 /// Those that a log can name.
 fn named(live: &[bool]) -> &[bool]
-    ensures { result.now ≡ take 15 live.now }
+    ensures { result.now ≡ take most_threads live.now }
 {
     match live.get(..THREADS) {
         Some(named) => named,
@@ -121,7 +122,7 @@ fn named(live: &[bool]) -> &[bool]
 
 /// The next live thread after the last that committed, cyclic; at first from thread 0 on.
 pub fn turn(last: Option<u8>, live: &[bool]) -> Option<u8>
-    requires { length live.now ≤ 15 }
+    requires { length live.now ≤ most_threads }
     ensures { result ≡ turn_of last live.now }
 {
     match last {
@@ -135,7 +136,7 @@ pub fn turn(last: Option<u8>, live: &[bool]) -> Option<u8>
 
 /// The first live thread of a higher number.
 fn next_live(last: u8, live: &[bool]) -> Option<u8>
-    requires { length live.now ≤ 15 }
+    requires { length live.now ≤ most_threads }
     ensures { result ≡ next_of last live.now }
 {
     let start = usize::from(last) + 1;
@@ -144,7 +145,7 @@ fn next_live(last: u8, live: &[bool]) -> Option<u8>
 }
 
 fn first_live(live: &[bool]) -> Option<u8>
-    requires { length live.now ≤ 15 }
+    requires { length live.now ≤ most_threads }
     ensures { result ≡ first_of live.now }
 {
     let place = first(live)?;

@@ -1,5 +1,6 @@
 //! Sizes by thread and index, and the number of each thread's commits.
 ghost use Rattle.std.specs.Prelude.{◌≡◌, ℕ, ◌+◌, nat_lt, ◌^◌, ◌<◌, ◌≤◌, [], ◌++◌, All, length, map, replicate, slice_index, IfOk, IsOk, IsTrue, OnOk, OnErr};
+ghost use Rattle.dl_entry.specs.Numbers.{most_threads};
 ghost use Rattle.spec_log.specs.Log.{IsActor, AreShortSizes};
 ghost use Rattle.spec_log.specs.Noting.{short_with, done_with};
 ghost use Rattle.spec_log.specs.declared.sizes.Sizes.TheVariants.{Short};
@@ -22,6 +23,7 @@ pub struct ThreadSizes {
 }
 
 impl Model for ThreadSizes {
+    ghost use Rattle.dl_entry.specs.Numbers.{most_threads};
     ghost use Rattle.std.specs.Prelude.{◌≡◌, length};
     ghost use Rattle.dl_mode.specs.ThreadSizes.{ThreadSizes, sizes_from};
 
@@ -29,13 +31,13 @@ impl Model for ThreadSizes {
 
     ghost view = { λ e. record { sizes = sizes_from 0 e.sizes.lanes; done = e.done; room = e.sizes.room } };
 
-    ghost invariant = { λ e. length e.sizes.lanes ≡ 15 };
+    ghost invariant = { λ e. length e.sizes.lanes ≡ most_threads };
 }
 
 impl ThreadSizes {
     pub fn new(alloc: Global) -> Result<ThreadSizes, OutOfMemory>
         ensures sizes { IfOk result (λ threads. threads.sizes ≡ []) }
-        ensures done { IfOk result (λ threads. threads.done ≡ replicate 15 0) }
+        ensures done { IfOk result (λ threads. threads.done ≡ replicate most_threads 0) }
     {
         Ok(ThreadSizes {
             sizes: Moments::new(alloc)?,
@@ -47,7 +49,7 @@ impl ThreadSizes {
     pub fn from_list(alloc: Global, list: &[ShortSize], s: u32) -> Result<ThreadSizes, OutOfMemory>
         requires { AreShortSizes s list.now }
         ensures sizes { IfOk result (λ threads. threads.sizes ≡ list.now) }
-        ensures done { IfOk result (λ threads. threads.done ≡ replicate 15 0) }
+        ensures done { IfOk result (λ threads. threads.done ≡ replicate most_threads 0) }
     {
         let mut sizes = Moments::new(alloc)?;
         for short in list {
@@ -63,7 +65,7 @@ impl ThreadSizes {
     pub fn from_sizes(alloc: Global, sizes: &Sizes, s: u32) -> Result<ThreadSizes, OutOfMemory>
         requires { AreShort s sizes.now }
         ensures sizes { IfOk result (λ threads. sizes.now ≡ Short threads.sizes) }
-        ensures done { IfOk result (λ threads. threads.done ≡ replicate 15 0) }
+        ensures done { IfOk result (λ threads. threads.done ≡ replicate most_threads 0) }
     {
         match sizes {
             Sizes::Short(sizes) => ThreadSizes::from_list(alloc, sizes.as_slice(), s),

@@ -1,5 +1,6 @@
 //! Values by thread and index.
 ghost use Rattle.std.specs.Prelude.{◌≡◌, ◌≤◌, List, [], length, replicate, slice_set, slice_index_or, IfOk, IsOk, IsTrue, OnOk, OnErr};
+ghost use Rattle.dl_entry.specs.Numbers.{greatest_thread, most_threads};
 ghost use Rattle.dl_moments.specs.Views.{By};
 ghost use Rattle.dl_moments.specs.Marks.{Rises, with_mark, with_mark_if, value_at};
 
@@ -18,6 +19,7 @@ pub struct Moments<V> {
 }
 
 impl<V> Model for Moments<V> {
+    ghost use Rattle.dl_entry.specs.Numbers.{most_threads};
     ghost use Rattle.std.specs.Prelude.{◌≡◌, length, map};
     ghost use Rattle.std.specs.List.{list_all};
     ghost use Rattle.dl_moments.specs.Views.{By};
@@ -26,13 +28,13 @@ impl<V> Model for Moments<V> {
 
     ghost view = { λ m. record { lanes = map (λ lane. lane.marks) m.lanes.items; room = list_all (λ lane. lane.room) m.lanes.items } };
 
-    ghost invariant = { λ m. length m.lanes.items ≡ 15 };
+    ghost invariant = { λ m. length m.lanes.items ≡ most_threads };
 }
 
 impl<V: Copy> Moments<V> {
     /// No value of any thread.
     pub fn new(alloc: Global) -> Result<Self, OutOfMemory>
-        ensures { IfOk result (λ moments. moments.lanes ≡ replicate 15 []) }
+        ensures { IfOk result (λ moments. moments.lanes ≡ replicate most_threads []) }
     {
         let mut lanes = Vec::new(alloc);
         for _ in 0..THREADS {
@@ -56,7 +58,7 @@ impl<V: Copy> Moments<V> {
 
     /// Puts a thread's value at an index, in place of another that stands there. With room it isn't refused.
     pub fn put(&mut self, thread: u8, index: u32, value: V) -> Result<(), OutOfMemory>
-        requires { thread ≤ 14 }
+        requires { thread ≤ greatest_thread }
         ensures ok { let lane = slice_index_or self.old.lanes thread [] in
             OnOk result (self.new.lanes ≡ slice_set self.old.lanes thread (with_mark index value lane)) }
         ensures err { OnErr result (self.new.lanes ≡ self.old.lanes) }
@@ -89,7 +91,7 @@ impl<V: Copy> Moments<V> {
     /// A thread's values by rising indices.
     pub fn lane(&self, thread: u8) -> &[Mark<V>]
         ensures marks { result.now ≡ slice_index_or self.now.lanes thread [] }
-        ensures threads { length self.now.lanes ≡ 15 }
+        ensures threads { length self.now.lanes ≡ most_threads }
         ensures rises { Rises result.now }
     {
         match self.lanes.get(usize::from(thread)) {

@@ -1,5 +1,6 @@
 //! Threads one by one: how many commits each has done, and the end of a commit.
 ghost use Rattle.std.specs.Prelude.{◌≡◌, ◌+◌, ◌++◌, ◌<◌, ◌≤◌, ◌^◌, Some, OnSome, length, slice_get, slice_set};
+ghost use Rattle.dl_entry.specs.Numbers.{most_threads};
 ghost use Rattle.spec_kernel.specs.Interrupts.{takes_interrupt, interrupted, is_live};
 ghost use Rattle.spec_play.specs.Effects.{counted};
 ghost use Rattle.dl_kernel.specs.Calls.{spawned_list};
@@ -54,7 +55,7 @@ pub fn interrupted(value: u32, thread: &Thread) -> Thread
 /// How many commits each thread has done, 0 where there is none.
 pub fn commits_of(threads: &Threads) -> [u32; 15]
     ensures value { result ≡ commits_of threads.now }
-    ensures few { length threads.now ≤ 15 }
+    ensures few { length threads.now ≤ most_threads }
 {
     let mut commits = [0; 15];
     for number in 0..threads.len() {
@@ -76,7 +77,7 @@ fn commits_at(threads: &Threads, number: u8) -> u32
 pub fn thread_at(threads: &Threads, number: u8) -> Thread
     requires { number < length threads.now }
     ensures thread { slice_get threads.now number ≡ Some result }
-    ensures few { length threads.now ≤ 15 }
+    ensures few { length threads.now ≤ most_threads }
 {
     let _ = threads.len();
     match threads.get(number) {
@@ -88,7 +89,7 @@ pub fn thread_at(threads: &Threads, number: u8) -> Thread
 /// Puts a thread in the place of another, and one that was spawned behind all.
 pub fn settle(threads: &mut Threads, number: u8, thread: &Thread, spawned: Option<Thread>)
     requires thread { number < length threads.old }
-    requires room { OnSome spawned (length threads.old < 15) }
+    requires room { OnSome spawned (length threads.old < most_threads) }
     ensures { threads.new ≡ slice_set threads.old number thread.now ++ spawned_list spawned }
 {
     threads.set(number, thread);

@@ -1,5 +1,6 @@
 //! What the log says of a commit: it goes as logged, or why it doesn't.
 ghost use Rattle.std.specs.Prelude.{◌≡◌, Some, ℕ, ◌+◌, ◌<◌, ◌≤◌, ◌^◌, length, slice_get, IfOk, OnOk, IfSome, OnSome, option_map};
+ghost use Rattle.dl_entry.specs.Numbers.{most_bytes, most_threads};
 ghost use Rattle.spec_isa.specs.Runs.{Run};
 ghost use Rattle.spec_kernel.specs.Needs.{need};
 ghost use Rattle.spec_play.specs.Effects.{Effect, chunk_effect};
@@ -120,7 +121,7 @@ pub fn judge_step<M: Mode>(
     ensures commits { IfOk result (λ r. IfOk r (λ d. d.finish.thread.commits ≡ step.now.thread.commits + 1)) }
     ensures interrupts { IfOk result (λ r. IfOk r (λ d. d.finish.used.interrupts ≤ used.interrupts + 1)) }
     ensures spawned { IfOk result (λ r. IfOk r (λ d. AreNew (spawned_list d.left.spawned))) }
-    ensures room { IfOk result (λ r. IfOk r (λ d. OnSome d.left.spawned (length step.now.threads.now < 15))) }
+    ensures room { IfOk result (λ r. IfOk r (λ d. OnSome d.left.spawned (length step.now.threads.now < most_threads))) }
 {
     let size = log.size(Actor::Thread(step.number), step.thread.commits());
     if let Some(why) = serial_why(size) {
@@ -154,7 +155,7 @@ fn given<'a, M: Mode>(
     memory: &Memory,
 ) -> Option<Taken<'a>>
     ensures value { option_map given_by result ≡ given (need thread.now memory.now) (slice_get log.now.inputs used.inputs) (used_seen used) }
-    ensures few { IfSome result (λ g. IfSome g.input (λ r. length r.now.bytes ≤ 4096)) }
+    ensures few { IfSome result (λ g. IfSome g.input (λ r. length r.now.bytes ≤ most_bytes)) }
     ensures interrupts { IfSome result (λ g. g.used.interrupts ≡ used.interrupts) }
 {
     if !wants_record(thread, memory) {
@@ -193,7 +194,7 @@ pub fn transfer_of<'a, M: Mode>(
     ensures few { OnOk result (place.now.used.dmas + 1 < 2 ^ 32) }
     ensures request { IfOk result (λ t. request ≡ Some t.request) }
     ensures bytes { IfOk result (λ t. length t.bytes.now ≤ t.request.len) }
-    ensures short { IfOk result (λ t. length t.bytes.now ≤ 4096) }
+    ensures short { IfOk result (λ t. length t.bytes.now ≤ most_bytes) }
 {
     if let Some(why) = serial_why(log.size(Actor::Dma, place.done)) {
         return Err(why);

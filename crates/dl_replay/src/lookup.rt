@@ -1,5 +1,6 @@
 //! A log as a replay looks things up in it.
 ghost use Rattle.std.specs.Prelude.{◌≡◌, ℕ, ◌≤◌, ◌+◌, ◌<◌, ◌^◌, nat_lt, List, length, IfOk, IfSome, OnSome, is_some, slice_get, option_copied};
+ghost use Rattle.dl_entry.specs.Numbers.{most_bytes, most_threads};
 ghost use Rattle.spec_isa.specs.declared.thread.Parts.{Parts};
 ghost use Rattle.spec_log.specs.Log.{IsLog};
 ghost use Rattle.spec_log.specs.Size.{size_in};
@@ -83,7 +84,7 @@ impl<M: Mode> Lookup<M> {
 
     /// The actor of the commit at a position, by the thread that committed last and which threads are live.
     pub fn head(&self, position: u32, last: Option<u8>, live: &[bool]) -> Option<Actor>
-        requires { length live.now ≤ 15 }
+        requires { length live.now ≤ most_threads }
         ensures { result ≡ head self.now position last live.now }
     {
         let dma = self.dmas.at(position).is_some();
@@ -93,7 +94,7 @@ impl<M: Mode> Lookup<M> {
     /// Whether no size is left, once all commits are done and each thread has done so many. Where each commit has its size,
     /// each is used then.
     pub fn are_sizes_used(&self, commits: &[u32]) -> bool
-        ensures { (threads : List Parts) → length threads ≤ 15 → commits.now ≡ commits_of threads →
+        ensures { (threads : List Parts) → length threads ≤ most_threads → commits.now ≡ commits_of threads →
             result ≡ are_sizes_used threads self.now.sizes }
     {
         match M::name() {
@@ -121,7 +122,7 @@ impl<M: Mode> Lookup<M> {
         ensures input { option_copied result ≡ slice_get self.now.inputs i }
         ensures there { is_some result ≡ nat_lt i (length self.now.inputs) }
         ensures next { OnSome result (i + 1 < 2 ^ 32) }
-        ensures few { IfSome result (λ input. length input.now.bytes ≤ 4096) }
+        ensures few { IfSome result (λ input. length input.now.bytes ≤ most_bytes) }
     {
         self.inputs.nth(i)
     }
@@ -131,7 +132,7 @@ impl<M: Mode> Lookup<M> {
         ensures dma { option_copied result ≡ slice_get self.now.dmas i }
         ensures there { is_some result ≡ nat_lt i (length self.now.dmas) }
         ensures next { OnSome result (i + 1 < 2 ^ 32) }
-        ensures few { IfSome result (λ dma. length dma.now.bytes ≤ 4096) }
+        ensures few { IfSome result (λ dma. length dma.now.bytes ≤ most_bytes) }
     {
         self.dmas.nth(i)
     }

@@ -1,5 +1,6 @@
 //! The replayer of a sphere.
 ghost use Rattle.std.specs.Prelude.{◌≡◌, ℕ, List, Option, ◌+◌, ◌<◌, ◌≤◌, ◌^◌, [], ◌++◌, false, true, length, slice_get, slice_index, slice_set, Some, IfOk, IsOk, OnErr, OnSome};
+ghost use Rattle.dl_entry.specs.Numbers.{most_threads};
 ghost use Rattle.spec_isa.specs.declared.thread.Parts.{Parts};
 ghost use Rattle.spec_isa.specs.declared.thread.Load.{Load};
 ghost use Rattle.spec_isa.specs.Runs.{Run};
@@ -105,7 +106,7 @@ impl<M: Mode> Replayer<M> {
         ensures value { (s : ℕ) (loads : List Load) →
             result ≡ limit_in (Replay (cursor_of self.now loads)) s thread (slice_index self.now.commits thread) }
         ensures of_thread { (s : ℕ) (loads : List Load) (threads : List Parts) (t : Parts) →
-            length threads ≤ 15 → self.now.commits ≡ commits_of threads → slice_get threads thread ≡ Some t →
+            length threads ≤ most_threads → self.now.commits ≡ commits_of threads → slice_get threads thread ≡ Some t →
             result ≡ limit_of s (Replay (cursor_of self.now loads)) thread t }
     {
         let whole = self.log.limit(thread, self.commits_of(thread));
@@ -407,13 +408,13 @@ impl<M: Mode> Replayer<M> {
     ) -> Verdict
         requires left { self.old.done < self.old.log.count }
         requires thread { number < length threads.old }
-        requires few { length threads.old ≤ 15 }
+        requires few { length threads.old ≤ most_threads }
         requires commits { self.old.commits ≡ commits_of threads.old }
         requires below { (k : ℕ) → slice_index self.old.commits k ≤ self.old.done }
         requires counted { finish.now.thread.commits ≤ self.old.done + 1 }
         requires interrupts { finish.now.used.interrupts ≤ self.old.used.interrupts + 1 }
         requires spawned { AreNew (spawned_list spawned) }
-        requires room { OnSome spawned (length threads.old < 15) }
+        requires room { OnSome spawned (length threads.old < most_threads) }
         ensures verdict { result ≡ Verdict.Went }
         ensures threads { threads.new ≡ slice_set threads.old number finish.now.thread ++ spawned_list spawned }
         ensures replay { self.new ≡ advanced self.old.log (self.old.done + 1) (Some number) (used_seen finish.now.used) threads.new }

@@ -1,5 +1,6 @@
 //! The replay of a log in any of the three modes.
 ghost use Rattle.std.specs.Prelude.{◌≡◌, ℕ, List, Option, ◌<◌, ◌≤◌, ◌+◌, [], Some, IfOk, OnErr, length, slice_get, slice_index};
+ghost use Rattle.dl_entry.specs.Numbers.{most_threads};
 ghost use Rattle.spec_isa.specs.declared.thread.Parts.{Parts};
 ghost use Rattle.spec_isa.specs.declared.thread.Load.{Load};
 ghost use Rattle.dl_entry.specs.declared.Why.{Why};
@@ -93,7 +94,7 @@ impl Player {
 
     pub(crate) fn limit(&self, thread: u8) -> u32
         ensures { (s : ℕ) (loads : List Load) (threads : List Parts) (t : Parts) →
-            length threads ≤ 15 → self.now.commits ≡ commits_of threads → slice_get threads thread ≡ Some t →
+            length threads ≤ most_threads → self.now.commits ≡ commits_of threads → slice_get threads thread ≡ Some t →
             result ≡ limit_of s (Replay (cursor_of self.now loads)) thread t }
     {
         match &self.players {

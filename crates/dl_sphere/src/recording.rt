@@ -1,5 +1,6 @@
 //! A recording in any of the three modes.
 ghost use Rattle.std.specs.Prelude.{◌≡◌, ◌≤◌, [], IfOk, IfSome, IsOk, IsTrue, OnOk, OnErr, option_map};
+ghost use Rattle.dl_entry.specs.Numbers.{greatest_thread};
 ghost use Rattle.spec_log.specs.Log.{IsChunkSize, IsInput, AreFewBytes};
 ghost use Rattle.dl_record.specs.Recording.{CanCommit, IsFresh};
 ghost use Rattle.spec_play.specs.Noted.{nothing_recorded, interrupt_kept, as_log};
@@ -99,7 +100,7 @@ impl Recording {
         index: u32,
         value: u32,
     ) -> Result<(), OutOfMemory>
-        requires thread { thread ≤ 14 }
+        requires thread { thread ≤ greatest_thread }
         requires fresh { IsFresh self.old.recorded.interrupts thread index }
         ensures ok { OnOk result (self.new.recorded ≡ interrupt_kept thread index value self.old.recorded) }
         ensures err { OnErr result (self.new.recorded ≡ self.old.recorded) }

@@ -1,5 +1,6 @@
 //! The serial step of a sphere that isn't replayed.
 ghost use Rattle.std.specs.Prelude.{◌≡◌, ◌^◌, ◌<◌, ◌∷◌, ◌++◌, [], ℕ, None, false, IfOk, OnOk, OnErr, OnSome, IfSome, length, option_map, IsTrue};
+ghost use Rattle.dl_entry.specs.Numbers.{most_threads};
 ghost use Rattle.spec_isa.specs.Words.{IsBytes};
 ghost use Rattle.spec_kernel.specs.Serving.{console_written};
 ghost use Rattle.spec_log.specs.Log.{IsInput};
@@ -43,7 +44,7 @@ pub(crate) fn live_step(
     requires devices { HaveByteInput devices.old }
     ensures thread { IfOk result (λ l. l.thread ≡ (served_by step.now devices.old moment).thread) }
     ensures spawned { IfOk result (λ l. spawned_list l.spawned ≡ (served_by step.now devices.old moment).spawned) }
-    ensures room { IfOk result (λ l. OnSome l.spawned (length step.now.threads.now < 15)) }
+    ensures room { IfOk result (λ l. OnSome l.spawned (length step.now.threads.now < most_threads)) }
     ensures request { IfOk result (λ l. l.request ≡ (served_by step.now devices.old moment).request) }
     ensures words { IfOk result (λ l. l.words.words ≡ (served_by step.now devices.old moment).words) }
     ensures commits { OnOk result (commits.new.items ≡ commits.old.items ++ commit_by step.now devices.old moment ∷ []) }
