@@ -1,5 +1,5 @@
 -- Lines in a row that are alike: what they hold, and how they stand at the front of a text.
-use Rattle.std.proofs.Common.{◌≡◌, ℕ, zero, suc, ◌+◌, ◌-◌, ◌*◌, ◌/◌, ◌<◌, ◌≤◌, List, [], ◌∷◌, ◌++◌, length, take, drop, replicate, length-append, refl, sym, ap, ap₂, subst, ◌∙◌, arith, append-nil, append_assoc, get_or, inl, inr, min}
+use Rattle.std.proofs.Common.{◌≡◌, ℕ, zero, suc, ◌+◌, ◌-◌, ◌*◌, ◌/◌, ◌<◌, ◌≤◌, List, [], ◌∷◌, ◌++◌, length, take, drop, replicate, length-append, refl, sym, ap, ap₂, subst, ◌∙◌, arith, append_assoc, get_or, inl, inr, min}
 use Rattle.std.specs.Array.{IsFirstChunk}
 use Rattle.std.specs.Int.{from_le_bytes, to_le_bytes, w64}
 use Rattle.std.proofs.Math.Nat.{le-div_iff_mul-le, min-le_left}

@@ -1,10 +1,11 @@
 -- Finishing goes on event by event, and ends where all events that finish the run are done.
-use Rattle.std.proofs.Common.{◌≡◌, ◌+◌, true, ◌^◌, ◌<◌, ◌≤◌, List, [], ◌∷◌, ◌++◌, length, take, Some, None, refl, sym, ap, ◌∙◌, subst, arith, append_assoc}
+use Rattle.std.proofs.Common.{◌≡◌, ℕ, ◌+◌, true, ◌^◌, ◌<◌, ◌≤◌, List, [], ◌∷◌, ◌++◌, length, take, Some, None, refl, sym, ap, ◌∙◌, subst, arith, append_assoc}
 use Rattle.std.specs.Prelude.{slice_get}
 use Rattle.std.proofs.lemmas.Option.{none-some, same_Some}
 use Rattle.std.proofs.lemmas.Grind.{common_steps}
 use Rattle.dl_entry.specs.declared.Counts.{Counts}
 use Rattle.spec_protocol.specs.declared.event.Event.{Event}
+use Rattle.spec_protocol.specs.declared.reply.Reply.{Reply}
 use Rattle.spec_protocol.specs.World.{World}
 use Rattle.spec_protocol.specs.Machine.{Setup, world_of, happens, world_after}
 use Rattle.spec_protocol.specs.Finishing.{next, Finishes}
@@ -14,6 +15,7 @@ use Rattle.spec_finishing.specs.Function.{most_events, finishing_of}
 use Rattle.spec_finishing.proofs.Ending.Function.{function_finishes}
 use Rattle.spec_finishing.proofs.Ending.Knowing.{after-event}
 use Rattle.spec_finishing.proofs.Next.All.{next-none}
+use Rattle.spec_finishing.proofs.Next.Again.{ran_again}
 use Rattle.spec_finishing.proofs.Ending.Played.{replays_finished}
 use Rattle.spec_finishing.proofs.Ending.ShortRuns.{setups_finish, runs_short}
 use Rattle.dl_machine.specs.Events.{wants_memory}
@@ -129,6 +131,13 @@ going_by from now e done (f ∷ left) is finishes at goes alone room run few =
 -- the next event brings finishing one event further
 pub going_next : (from now : World) (e : Event) → Going from now → Some e ≡ next now → Going from (happens now e).world
 going_next from now e g is = going_by from now e g.done g.left is g.finishes g.is g.goes g.alone g.room g.run g.few
+
+-- where it was a step, and its instruction ran, the same event is next again
+pub step_again : (now new : World) (e : Event) (r : Reply) → next now ≡ Some e → new ≡ (happens now e).world → r ≡ (happens now e).reply → (c : ℕ) → e ≡ Event.Step c → r ≡ Reply.Ran → next new ≡ Some e
+step_again now new e r is world reply c step ran =
+    let same : next now ≡ Some (Event.Step c) = is ∙ ap (λ (x : Event). Some x) step in
+    let ran_ : (happens now (Event.Step c)).reply ≡ Reply.Ran = sym (ap (λ (x : Event). (happens now x).reply) step) ∙ sym reply ∙ ran in
+    ap next (world ∙ ap (λ (x : Event). (happens now x).world) step) ∙ ran_again now c same ran_ ∙ ap (λ (x : Event). Some x) (sym step)
 
 -- ---- the end
 

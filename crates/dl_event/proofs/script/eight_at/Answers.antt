@@ -1,4 +1,4 @@
-use Rattle.std.proofs.Common.{ℕ, List, drop, subst}
+use Rattle.std.proofs.Common.{ℕ, List, subst}
 use Rattle.std.specs.Array.{IsFirstChunk}
 use Rattle.std.proofs.lemmas.List.{take_rest}
 use Rattle.dl_event.proofs.Alike.{eight_are}

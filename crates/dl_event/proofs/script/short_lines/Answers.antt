@@ -2,7 +2,7 @@ use Rattle.std.proofs.Common.{◌≡◌, ◌≤◌, ◌*◌, ◌-◌, ◌+◌, �
 use Rattle.std.proofs.lemmas.List.{take_rest}
 use Rattle.dl_event.specs.declared.line.Line.TheVariants.{Holds}
 use Rattle.dl_event.specs.Script.{lines_of}
-use Rattle.dl_event.proofs.Alike.{HasAlike, alike_first, alike_lines, lines_few}
+use Rattle.dl_event.proofs.Alike.{alike_first, alike_lines, lines_few}
 use Rattle.dl_event.proofs.script.short_lines.Goals as goal
 
 pub returns-clause-lines : goal.returns-clause-lines
