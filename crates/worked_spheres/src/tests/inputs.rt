@@ -1,67 +1,126 @@
 //! Records that are noted, looked at and taken.
-use dl_entry::{Bytes, Input};
+use dl_entry::{Bytes, Input, OutOfMemory};
 use dl_input::{Dmas, Inputs, Interrupts};
 use spec_log::Interrupt;
+use std::alloc::Global;
 use std::test::Fail;
 
 #[test]
 fn an_interrupt_is_found_at_its_moment(rt: HostRuntime) -> Result<(), Fail> {
-    let mut interrupts = Interrupts::new(rt.alloc())?;
-    interrupts.reserve()?;
-    interrupts.note(2, 7, 5)?;
-    let noted = Interrupt {
-        thread: 2,
-        index: 7,
-        value: 5,
-    };
-    assert_eq!(rt; interrupts.at(2, 7), Some(5));
-    assert_eq!(rt; interrupts.at(2, 6), None);
-    assert_eq!(rt; interrupts.nth(0), Some(noted));
-    assert_eq!(rt; interrupts.nth(1), None);
-    assert!(rt; interrupts.list(rt.alloc())?.get(0) == Some(&noted));
-    interrupts.take(2, 6);
-    assert!(rt; !interrupts.used());
-    interrupts.take(2, 7);
-    assert!(rt; interrupts.used());
-    assert_eq!(rt; interrupts.at(2, 7), Some(5));
+    let mut interrupts = one_interrupt(rt.alloc())?;
+    assert!(rt; is_found(&interrupts));
+    assert!(rt; is_listed(rt.alloc(), &interrupts)?);
+    assert!(rt; !is_used_once_taken(&mut interrupts, 2, 6));
+    assert!(rt; is_used_once_taken(&mut interrupts, 2, 7));
+    assert!(rt; interrupts.at(2, 7) == Some(5));
     Ok(())
 }
+
+const NOTED: Interrupt = Interrupt {
+    thread: 2,
+    index: 7,
+    value: 5,
+};
+
+fn one_interrupt(alloc: Global) -> Result<Interrupts, OutOfMemory> {
+    let mut interrupts = Interrupts::new(alloc)?;
+    interrupts.reserve()?;
+    interrupts.note(2, 7, 5)?;
+    Ok(interrupts)
+}
+
+fn is_found(interrupts: &Interrupts) -> bool {
+    interrupts.at(2, 7) == Some(5)
+        && interrupts.at(2, 6).is_none()
+        && interrupts.nth(0) == Some(NOTED)
+        && interrupts.nth(1).is_none()
+}
+
+fn is_listed(alloc: Global, interrupts: &Interrupts) -> Result<bool, OutOfMemory> {
+    let list = interrupts.list(alloc)?;
+    Ok(list.get(0) == Some(&NOTED))
+}
+
+fn is_used_once_taken(interrupts: &mut Interrupts, thread: u8, index: u32) -> bool {
+    interrupts.take(thread, index);
+    interrupts.used()
+}
+
+const KINDS: &[u8] = &[3, 16];
 
 #[test]
 fn inputs_are_taken_in_their_order(rt: HostRuntime) -> Result<(), Fail> {
     let mut inputs = Inputs::new(rt.alloc());
-    inputs.reserve()?;
-    for kind in [3, 16] {
-        inputs.note(&Input {
-            kind,
-            result: 2,
-            bytes: Bytes::new(rt.alloc()),
-        })?;
+    for kind in KINDS {
+        note(rt.alloc(), &mut inputs, *kind)?;
     }
-    for kind in [3, 16] {
+    for kind in KINDS {
         assert!(rt; !inputs.used());
-        assert_eq!(rt; inputs.next().map(|input| input.kind), Some(kind));
+        assert!(rt; is_of_kind(inputs.next(), *kind));
         inputs.take();
     }
     assert!(rt; inputs.used());
     assert!(rt; inputs.next().is_none());
-    assert_eq!(rt; inputs.nth(1).map(|input| input.kind), Some(16));
-    assert_eq!(rt; inputs.list(rt.alloc())?.len(), 2);
+    assert!(rt; is_of_kind(inputs.nth(1), 16));
+    assert!(rt; count(rt.alloc(), &inputs)? == 2);
     Ok(())
+}
+
+fn note(alloc: Global, inputs: &mut Inputs, kind: u8) -> Result<(), OutOfMemory> {
+    inputs.reserve()?;
+    inputs.note(&Input {
+        kind,
+        result: 2,
+        bytes: Bytes::new(alloc),
+    })
+}
+
+fn is_of_kind(input: Option<&Input>, kind: u8) -> bool {
+    match input {
+        Some(input) => input.kind == kind,
+        None => false,
+    }
+}
+
+fn count(alloc: Global, inputs: &Inputs) -> Result<usize, OutOfMemory> {
+    let list = inputs.list(alloc)?;
+    Ok(list.len())
 }
 
 #[test]
 fn the_data_of_a_dma_are_found_at_its_position(rt: HostRuntime) -> Result<(), Fail> {
-    let mut dmas = Dmas::new(rt.alloc());
+    let mut dmas = one_dma(rt.alloc())?;
+    assert!(rt; stands_at_2(&dmas));
+    assert!(rt; count_of_dmas(rt.alloc(), &dmas)? == 1);
+    assert!(rt; !are_used_once_taken(&mut dmas, 1));
+    assert!(rt; are_used_once_taken(&mut dmas, 2));
+    Ok(())
+}
+
+fn one_dma(alloc: Global) -> Result<Dmas, OutOfMemory> {
+    let mut dmas = Dmas::new(alloc);
     dmas.reserve()?;
     dmas.note(2, b"AB")?;
-    assert_eq!(rt; dmas.at(2), Some(b"AB".as_slice()));
-    assert_eq!(rt; dmas.at(1), None);
-    assert_eq!(rt; dmas.nth(0).map(|dma| dma.position), Some(2));
-    assert_eq!(rt; dmas.list(rt.alloc())?.len(), 1);
-    dmas.take(1);
-    assert!(rt; !dmas.used());
-    dmas.take(2);
-    assert!(rt; dmas.used());
-    Ok(())
+    Ok(dmas)
+}
+
+fn stands_at_2(dmas: &Dmas) -> bool {
+    dmas.at(2) == Some(b"AB".as_slice()) && dmas.at(1).is_none() && first_position(dmas) == Some(2)
+}
+
+fn first_position(dmas: &Dmas) -> Option<u32> {
+    match dmas.nth(0) {
+        Some(dma) => Some(dma.position),
+        None => None,
+    }
+}
+
+fn count_of_dmas(alloc: Global, dmas: &Dmas) -> Result<usize, OutOfMemory> {
+    let list = dmas.list(alloc)?;
+    Ok(list.len())
+}
+
+fn are_used_once_taken(dmas: &mut Dmas, position: u32) -> bool {
+    dmas.take(position);
+    dmas.used()
 }

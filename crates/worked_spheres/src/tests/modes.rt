@@ -8,11 +8,12 @@ use dl_entry::{Actor, Commit, CommitKind, Loads, OutOfMemory, Outputs, Sequence}
 use dl_mode::{Lists, Mode, OrderAndSize, OrderOnly, PicoLog};
 use spec_log::{ModeName, Order, ShortSize, Sizes};
 use std::alloc::Global;
+use std::process::Abort;
 use std::test::Fail;
 
 /// The actors, the sizes, and whether the chunks were closed early: two threads, whose early closed chunks stand between
 /// others and a DMA.
-const COMMITS: [(u8, u32, bool); 6] = [
+const COMMITS: &[(u8, u32, bool)] = &[
     (1, 2, true),
     (15, 0, false),
     (0, 100, false),
@@ -21,94 +22,164 @@ const COMMITS: [(u8, u32, bool); 6] = [
     (0, 0, false),
 ];
 
+/// What a log of them keeps: its mode, the order, the sizes, and what is seen of it.
+struct Told {
+    mode: ModeName,
+    order: &'static [Actor],
+    sizes: Kept,
+    looks: &'static [Look],
+}
+
+/// The size of each commit, or those of the chunks that were closed early.
+enum Kept {
+    Each(&'static [u32]),
+    Short(&'static [ShortSize]),
+}
+
+/// A question with its answer: an actor's size at an index; a thread's limit at an index; whether all sizes are used by so many
+/// commits of each thread; whose commit is next at a position, after which thread's, of those that live.
+enum Look {
+    Size(Actor, u32, Option<u32>),
+    Limit(u8, u32, u32),
+    Used(&'static [u32], bool),
+    Head(u32, bool, Option<u8>, &'static [bool], Option<Actor>),
+}
+
 #[test]
 fn order_size_keeps_every_size(rt: HostRuntime) -> Result<(), Fail> {
-    let log = noted::<OrderAndSize>(rt.alloc())?;
-    let lists = OrderAndSize::lists(rt.alloc(), &log)?;
-    assert_eq!(rt;
-        (lists.mode, lists.s, lists.count),
-        (ModeName::OrderSize, 100, 6)
-    );
-    assert!(rt; lists.order.as_slice() == ORDER);
-    match &lists.sizes {
-        Sizes::Each(sizes) => assert_eq!(rt; sizes.as_slice(), SIZES),
-        Sizes::Short(_) => assert!(rt; false),
-    }
-    for (actor, index, size) in [
-        (Actor::Thread(1), 1, Some(3)),
-        (Actor::Thread(0), 2, Some(0)),
-        (Actor::Thread(0), 3, None),
-        (Actor::Dma, 1, Some(0)),
-    ] {
-        assert_eq!(rt; OrderAndSize::size(&log, actor, index), size);
-    }
-    assert_eq!(rt; OrderAndSize::limit(&log, 0, 2), 1);
-    assert!(rt; OrderAndSize::used(&log, &[3, 2]));
-    assert!(rt; !OrderAndSize::used(&log, &[3, 1]));
-    assert!(rt; OrderAndSize::head(&log, 1, false, None, &[]) == Some(Actor::Dma));
-    Ok(())
+    keeps::<OrderAndSize>(&rt, rt.alloc(), &ORDER_SIZE)
 }
 
 #[test]
 fn order_only_keeps_early_sizes_by_thread_and_index(rt: HostRuntime) -> Result<(), Fail> {
-    let log = noted::<OrderOnly>(rt.alloc())?;
-    let lists = OrderOnly::lists(rt.alloc(), &log)?;
-    assert_eq!(rt;
-        (lists.mode, lists.s, lists.count),
-        (ModeName::OrderOnly, 100, 6)
-    );
-    assert!(rt; lists.order.as_slice() == ORDER);
-    match &lists.sizes {
-        Sizes::Short(sizes) => assert!(rt; sizes.as_slice() == EARLY),
-        Sizes::Each(_) => assert!(rt; false),
-    }
-    assert_eq!(rt; OrderOnly::limit(&log, 0, 1), 8);
-    assert_eq!(rt; OrderOnly::limit(&log, 0, 0), 100);
-    assert!(rt; OrderOnly::used(&log, &[2, 2]));
-    assert!(rt; !OrderOnly::used(&log, &[1, 2]));
-    Ok(())
+    keeps::<OrderOnly>(&rt, rt.alloc(), &ORDER_ONLY)
 }
 
 #[test]
 fn picolog_takes_turns(rt: HostRuntime) -> Result<(), Fail> {
-    let log = noted::<PicoLog>(rt.alloc())?;
-    let lists = PicoLog::lists(rt.alloc(), &log)?;
-    assert_eq!(rt;
-        (lists.mode, lists.s, lists.count),
-        (ModeName::Picolog, 100, 6)
-    );
-    assert!(rt; lists.order.is_empty());
-    match &lists.sizes {
-        Sizes::Short(sizes) => assert!(rt; sizes.as_slice() == EARLY),
-        Sizes::Each(_) => assert!(rt; false),
-    }
-    let live: &[bool] = &[true, false, true];
-    for (dma, last, head) in [
-        (false, None, Some(Actor::Thread(0))),
-        (false, Some(0), Some(Actor::Thread(2))),
-        (false, Some(2), Some(Actor::Thread(0))),
-        (true, Some(0), Some(Actor::Dma)),
-    ] {
-        assert_eq!(rt; PicoLog::head(&log, 0, dma, last, live), head);
-    }
-    assert!(rt; PicoLog::head(&log, 0, false, Some(1), &[false, false]).is_none());
+    keeps::<PicoLog>(&rt, rt.alloc(), &PICOLOG)
+}
+
+fn keeps<M: Mode>(rt: &impl Abort, alloc: Global, told: &Told) -> Result<(), Fail> {
+    let log = noted::<M>(alloc)?;
+    assert!(rt; has_lists::<M>(alloc, &log, told)?);
+    shows::<M>(rt, &log, told.looks);
     Ok(())
 }
 
+fn has_lists<M: Mode>(alloc: Global, log: &M::Log, told: &Told) -> Result<bool, OutOfMemory> {
+    let lists = M::lists(alloc, log)?;
+    Ok(are_as_told(&lists, told) && lists.order.as_slice() == told.order)
+}
+
+fn are_as_told(lists: &Lists, told: &Told) -> bool {
+    lists.mode == told.mode
+        && lists.s == 100
+        && lists.count == 6
+        && are_sizes(&lists.sizes, &told.sizes)
+}
+
+fn are_sizes(sizes: &Sizes, kept: &Kept) -> bool {
+    match (sizes, kept) {
+        (Sizes::Each(sizes), Kept::Each(kept)) => sizes.as_slice() == *kept,
+        (Sizes::Short(sizes), Kept::Short(kept)) => sizes.as_slice() == *kept,
+        _ => false,
+    }
+}
+
+fn shows<M: Mode>(rt: &impl Abort, log: &M::Log, looks: &[Look]) {
+    for (i, look) in looks.iter().enumerate() {
+        assert!(rt; is_seen::<M>(log, look), "look {i}");
+    }
+}
+
+fn is_seen<M: Mode>(log: &M::Log, look: &Look) -> bool {
+    match look {
+        Look::Size(actor, index, size) => M::size(log, *actor, *index) == *size,
+        Look::Limit(thread, index, limit) => M::limit(log, *thread, *index) == *limit,
+        Look::Used(done, used) => M::used(log, done) == *used,
+        Look::Head(position, dma, last, live, head) => {
+            M::head(log, *position, *dma, *last, live) == *head
+        }
+    }
+}
+
+const ORDER_SIZE: Told = Told {
+    mode: ModeName::OrderSize,
+    order: ORDER,
+    sizes: Kept::Each(SIZES),
+    looks: &[
+        Look::Size(Actor::Thread(1), 1, Some(3)),
+        Look::Size(Actor::Thread(0), 2, Some(0)),
+        Look::Size(Actor::Thread(0), 3, None),
+        Look::Size(Actor::Dma, 1, Some(0)),
+        Look::Limit(0, 2, 1),
+        Look::Used(&[3, 2], true),
+        Look::Used(&[3, 1], false),
+        Look::Head(1, false, None, &[], Some(Actor::Dma)),
+    ],
+};
+
+const ORDER_ONLY: Told = Told {
+    mode: ModeName::OrderOnly,
+    order: ORDER,
+    sizes: Kept::Short(EARLY),
+    looks: &[
+        Look::Limit(0, 1, 8),
+        Look::Limit(0, 0, 100),
+        Look::Used(&[2, 2], true),
+        Look::Used(&[1, 2], false),
+    ],
+};
+
+const PICOLOG: Told = Told {
+    mode: ModeName::Picolog,
+    order: &[],
+    sizes: Kept::Short(EARLY),
+    looks: &[
+        Look::Head(0, false, None, THREE, Some(Actor::Thread(0))),
+        Look::Head(0, false, Some(0), THREE, Some(Actor::Thread(2))),
+        Look::Head(0, false, Some(2), THREE, Some(Actor::Thread(0))),
+        Look::Head(0, true, Some(0), THREE, Some(Actor::Dma)),
+        Look::Head(0, false, Some(1), &[false, false], None),
+    ],
+};
+
+// Of three threads the second doesn't live.
+const THREE: &[bool] = &[true, false, true];
+
 #[test]
 fn logs_are_made_of_their_lists(rt: HostRuntime) -> Result<(), Fail> {
-    let each = Sizes::Each(Sequence::from_slice(rt.alloc(), SIZES)?);
-    let log = made::<OrderAndSize>(rt.alloc(), ORDER, each)?;
-    assert_eq!(rt; OrderAndSize::size(&log, Actor::Thread(1), 1), Some(3));
-    assert_eq!(rt; OrderAndSize::limit(&log, 0, 2), 1);
-    assert!(rt; !OrderAndSize::used(&log, &[3, 1]));
-    let log = made::<OrderOnly>(rt.alloc(), ORDER, early(rt.alloc())?)?;
-    assert_eq!(rt; OrderOnly::limit(&log, 0, 1), 8);
-    assert!(rt; OrderOnly::head(&log, 1, false, None, &[]) == Some(Actor::Dma));
-    let log = made::<PicoLog>(rt.alloc(), &[], early(rt.alloc())?)?;
-    assert_eq!(rt; PicoLog::limit(&log, 1, 1), 3);
-    assert!(rt; PicoLog::used(&log, &[2, 2]));
+    shows::<OrderAndSize>(&rt, &order_size(rt.alloc())?, MADE_OF_EACH);
+    shows::<OrderOnly>(&rt, &order_only(rt.alloc())?, MADE_OF_SHORT);
+    shows::<PicoLog>(&rt, &picolog(rt.alloc())?, MADE_OF_TURNS);
     Ok(())
+}
+
+const MADE_OF_EACH: &[Look] = &[
+    Look::Size(Actor::Thread(1), 1, Some(3)),
+    Look::Limit(0, 2, 1),
+    Look::Used(&[3, 1], false),
+];
+
+const MADE_OF_SHORT: &[Look] = &[
+    Look::Limit(0, 1, 8),
+    Look::Head(1, false, None, &[], Some(Actor::Dma)),
+];
+
+const MADE_OF_TURNS: &[Look] = &[Look::Limit(1, 1, 3), Look::Used(&[2, 2], true)];
+
+fn order_size(alloc: Global) -> Result<<OrderAndSize as Mode>::Log, OutOfMemory> {
+    let each = Sizes::Each(Sequence::from_slice(alloc, SIZES)?);
+    made::<OrderAndSize>(alloc, ORDER, each)
+}
+
+fn order_only(alloc: Global) -> Result<<OrderOnly as Mode>::Log, OutOfMemory> {
+    made::<OrderOnly>(alloc, ORDER, early(alloc)?)
+}
+
+fn picolog(alloc: Global) -> Result<<PicoLog as Mode>::Log, OutOfMemory> {
+    made::<PicoLog>(alloc, &[], early(alloc)?)
 }
 
 const ORDER: &[Actor] = &[
@@ -142,7 +213,7 @@ const EARLY: &[ShortSize] = &[
 
 fn noted<M: Mode>(alloc: Global) -> Result<M::Log, OutOfMemory> {
     let mut log = M::new(alloc, 100)?;
-    for (code, size, early) in &COMMITS {
+    for (code, size, early) in COMMITS {
         let commit = Commit {
             actor: actor_of(*code),
             kind: CommitKind::Chunk,

@@ -1,8 +1,9 @@
 //! The bytes of logs that were recorded.
 ghost use Rattle.std.specs.Prelude.{◌≡◌, ◌+◌, ◌<◌, Contains, IfOk, IfSome, OnOk};
 ghost use Rattle.spec_log.specs.Log.{IsActor, IsInput, AreFewBytes, input_kinds};
+ghost use Rattle.dl_record.specs.Recording.{CanCommit};
 
-use dl_entry::{Actor, Bytes, Commit, CommitKind, Input, Loads, Outputs};
+use dl_entry::{Actor, Bytes, Commit, CommitKind, Input, Loads, OutOfMemory, Outputs};
 use dl_logbytes::write_log;
 use dl_mode::{Mode, OrderAndSize, OrderOnly, PicoLog};
 use dl_record::Recorder;
@@ -83,7 +84,25 @@ fn note<M: Mode>(
     assert!(rt; !*early || *size > 0);
     let input = input(rt, alloc, record)?;
     let commit = commit(alloc, *code, *size);
-    recorder.commit(&commit, *early, input.as_ref(), dma(rt, record))?;
+    note_commit(recorder, &commit, *early, input.as_ref(), dma(rt, record))?;
+    Ok(())
+}
+
+fn note_commit<M: Mode>(
+    recorder: &mut Recorder<M>,
+    commit: &Commit,
+    early: bool,
+    input: Option<&Input>,
+    dma: Option<&[u8]>,
+) -> Result<(), OutOfMemory>
+    requires commit { CanCommit recorder.old.kept commit.now early }
+    requires input { IfSome input (λ i. IsInput i.now) }
+    requires dma { IfSome dma (λ bytes. AreFewBytes bytes.now) }
+    ensures s { OnOk result (recorder.new.kept.s ≡ recorder.old.kept.s) }
+    ensures count { OnOk result (recorder.new.kept.count ≡ recorder.old.kept.count + 1) }
+    ensures interrupts { OnOk result (recorder.new.interrupts ≡ recorder.old.interrupts) }
+{
+    recorder.commit(commit, early, input, dma)?;
     Ok(())
 }
 

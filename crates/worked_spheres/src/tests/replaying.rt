@@ -1,7 +1,10 @@
 //! Logs of one commit, and how their replays end.
-ghost use Rattle.std.specs.Prelude.{◌≡◌};
+ghost use Rattle.std.specs.Prelude.{◌≡◌, ◌∷◌, []};
+ghost use Rattle.spec_isa.specs.Threads.{started};
+ghost use Rattle.dl_replay.specs.Judged.{IsAmong};
+ghost use Rattle.dl_replay.specs.Replaying.{IsTurnOf, commits_of};
 
-use dl_entry::{Actor, End, Why};
+use dl_entry::{Actor, End, OutOfMemory, Why};
 use dl_logbytes::read_log;
 use dl_mem::Memory;
 use dl_mode::{Mode, OrderAndSize, OrderOnly, PicoLog};
@@ -12,7 +15,7 @@ use std::alloc::Global;
 use std::test::Fail;
 
 // A file whose code is `ecall`.
-const FILE: [u8; 88] = [
+const FILE: &[u8] = &[
     0x7f, 0x45, 0x4c, 0x46, 0x01, 0x01, 0x01, 0x00, 0x00, 0x00, 0x00, 0x00, 0x00, 0x00, 0x00, 0x00,
     0x02, 0x00, 0xf3, 0x00, 0x01, 0x00, 0x00, 0x00, 0x00, 0x00, 0x00, 0x00, 0x34, 0x00, 0x00, 0x00,
     0x00, 0x00, 0x00, 0x00, 0x00, 0x00, 0x00, 0x00, 0x34, 0x00, 0x20, 0x00, 0x01, 0x00, 0x00, 0x00,
@@ -32,21 +35,25 @@ struct Row {
 
 #[test]
 fn replays_end_where_they_leave_their_logs(rt: HostRuntime) -> Result<(), Fail> {
-    let image = dl_elf::load(rt.alloc(), &FILE, 4096)?;
-    let memory = Memory::new(rt.alloc(), &image)?;
+    let memory = memory(rt.alloc(), FILE)?;
     for row in ROWS {
-        let log = read_log(rt.alloc(), row.log)?;
-        let end = ended(rt.alloc(), &log, row, &memory)?;
+        let end = ended(rt.alloc(), row, &memory)?;
         assert!(rt; end == Some(row.end));
     }
     Ok(())
 }
 
-fn ended(alloc: Global, log: &Log, row: &Row, memory: &Memory) -> Result<Option<End>, Fail> {
+fn memory(alloc: Global, file: &[u8]) -> Result<Memory, Fail> {
+    let image = dl_elf::load(alloc, file, 4096)?;
+    Ok(Memory::new(alloc, &image)?)
+}
+
+fn ended(alloc: Global, row: &Row, memory: &Memory) -> Result<Option<End>, Fail> {
+    let log = read_log(alloc, row.log)?;
     match log.parts().mode {
-        ModeName::OrderSize => ended_in::<OrderAndSize>(alloc, log, row, memory),
-        ModeName::OrderOnly => ended_in::<OrderOnly>(alloc, log, row, memory),
-        ModeName::Picolog => ended_in::<PicoLog>(alloc, log, row, memory),
+        ModeName::OrderSize => ended_in::<OrderAndSize>(alloc, &log, row, memory),
+        ModeName::OrderOnly => ended_in::<OrderOnly>(alloc, &log, row, memory),
+        ModeName::Picolog => ended_in::<PicoLog>(alloc, &log, row, memory),
     }
 }
 
@@ -60,21 +67,41 @@ fn ended_in<M: Mode>(
     requires { log.now.mode ≡ M.mode }
 {
     let mut replayer = Replayer::<M>::new(alloc, log)?;
-    let mut threads = Threads::start(0);
-    let mut served = Served::new(alloc);
     let Some(actor) = replayer.head() else {
         return Ok(replayer.ended());
     };
     if actor != Actor::Thread(0) && actor != Actor::Dma {
         return Ok(None);
     }
-    let asking = Asking {
+    ask(alloc, &mut replayer, &asking(actor, row), memory)?;
+    Ok(replayer.ended())
+}
+
+fn asking(actor: Actor, row: &Row) -> Asking
+    ensures { result.actor ≡ actor }
+{
+    Asking {
         actor,
         total: row.total,
         serial: row.serial,
-    };
-    replayer.accept(&asking, &mut threads, &mut None, memory, &mut served)?;
-    Ok(replayer.ended())
+    }
+}
+
+/// The actor asks, where thread 0 stands alone.
+fn ask<M: Mode>(
+    alloc: Global,
+    replayer: &mut Replayer<M>,
+    asking: &Asking,
+    memory: &Memory,
+) -> Result<(), OutOfMemory>
+    requires turn { IsTurnOf asking.now.actor replayer.old.now }
+    requires thread { IsAmong asking.now.actor (started 0 ∷ []) }
+    requires commits { replayer.old.commits ≡ commits_of (started 0 ∷ []) }
+{
+    let mut threads = Threads::start(0);
+    let mut served = Served::new(alloc);
+    replayer.accept(asking, &mut threads, &mut None, memory, &mut served)?;
+    Ok(())
 }
 
 const ROWS: &[Row] = &[
