@@ -1,6 +1,6 @@
 //! The program over files and sinks in memory, and once over the real ones.
 use dl_commands::{delorean, delorean_in_memory};
-use dl_files::{Files, GoodFiles, GoodSink, MemFiles, MemSink, RealFiles, StdSink};
+use dl_files::{Files, GoodFiles, GoodSink, MemFiles, MemSink, RealFiles, Sink, StdSink};
 use dl_logfmt::{Log, LogError, LogReader, read_log, write_log};
 use spec_program::status::Status;
 use std::alloc::Global;
@@ -60,7 +60,10 @@ const INSPECTION: &[u8] = b"log 1 order-size 100 2\np 0 0 2\np 1 0 0\n";
 const DMA_LOG: &[u8] =
     b"DLRN\x01\x02\0\0d\0\0\0\x05\0\0\0\0\0\0\0\0\0\0\0\0\0\0\0\0\0\0\0\x01\0\0\0\x02\0\0\0\x02\0AB";
 
-const RUN: [&str; 2] = ["run", "plan.toml"];
+const RUN: &[&str] = &["run", "plan.toml"];
+
+// What the first recording writes.
+const RECORDED: &[(&str, &[u8])] = &[("a.log", LOG), ("a.txt", ACCOUNT), ("r.txt", REPORT)];
 
 fn three_instructions(alloc: Global) -> Result<GoodFiles, Fail> {
     let mut files = GoodFiles::new(alloc);
@@ -70,24 +73,64 @@ fn three_instructions(alloc: Global) -> Result<GoodFiles, Fail> {
     Ok(files)
 }
 
-fn holds<F: Files>(rt: &impl Abort, alloc: Global, files: &mut F, name: &str, want: &[u8]) {
+// What the program answers.
+fn answer<F: Files, O: Sink>(alloc: Global, words: &[&str], files: &mut F, out: &mut O) -> Status {
+    delorean(alloc, words, files, out)
+}
+
+fn answer_in_memory(
+    alloc: Global,
+    words: &[&str],
+    files: &mut GoodFiles,
+    out: &mut GoodSink,
+) -> Status {
+    delorean_in_memory(alloc, words, files, out)
+}
+
+fn holds<F: Files>(alloc: Global, files: &mut F, name: &str, want: &[u8]) -> bool {
     match files.read(alloc, name) {
-        Ok(bytes) => assert_eq!(rt; bytes.as_slice(), want, "{name}"),
-        Err(error) => panic!(rt; "{name}: {error}"),
+        Ok(bytes) => bytes.as_slice() == want,
+        Err(_) => false,
     }
 }
 
-fn write_all(files: &mut GoodFiles, read: &[(&str, &[u8])]) -> Result<(), Fail> {
+fn hold_all<F: Files>(rt: &impl Abort, alloc: Global, files: &mut F, written: &[(&str, &[u8])]) {
+    for (name, want) in written {
+        assert!(rt; holds(alloc, files, name, want), "{name}");
+    }
+}
+
+fn write_all<F: Files>(files: &mut F, read: &[(&str, &[u8])]) -> Result<(), Fail> {
     for (name, bytes) in read {
         files.write(name, bytes)?;
     }
     Ok(())
 }
 
-fn hold_all(rt: &impl Abort, alloc: Global, files: &mut GoodFiles, written: &[(&str, &[u8])]) {
-    for (name, want) in written {
-        holds(rt, alloc, files, name, want);
+/// Words, the files that are read, what is answered and said, and the files that are written.
+struct Case {
+    words: &'static [&'static str],
+    read: &'static [(&'static str, &'static [u8])],
+    status: Status,
+    said: &'static [u8],
+    written: &'static [(&'static str, &'static [u8])],
+}
+
+fn come_out(rt: &impl Abort, alloc: Global, cases: &[Case]) -> Result<(), Fail> {
+    for case in cases {
+        comes_out(rt, alloc, case)?;
     }
+    Ok(())
+}
+
+fn comes_out(rt: &impl Abort, alloc: Global, case: &Case) -> Result<(), Fail> {
+    let mut files = GoodFiles::new(alloc);
+    write_all(&mut files, case.read)?;
+    let mut out = GoodSink::new(alloc);
+    assert!(rt; answer_in_memory(alloc, case.words, &mut files, &mut out) == case.status);
+    assert!(rt; out.taken() == case.said);
+    hold_all(rt, alloc, &mut files, case.written);
+    Ok(())
 }
 
 #[test]
@@ -95,11 +138,9 @@ fn three_instructions_are_recorded(rt: HostRuntime) -> Result<(), Fail> {
     let alloc = rt.alloc();
     let mut files = MemFiles::new(alloc, three_instructions(alloc)?, &[])?;
     let mut out = MemSink::new(alloc, &[])?;
-    assert_eq!(rt; delorean(alloc, &RUN, &mut files, &mut out), Status::Done);
-    assert_eq!(rt; out.taken(), SUMMARY);
-    for (name, want) in [("a.log", LOG), ("a.txt", ACCOUNT), ("r.txt", REPORT)] {
-        holds(&rt, alloc, &mut files, name, want);
-    }
+    assert!(rt; answer(alloc, RUN, &mut files, &mut out) == Status::Done);
+    assert!(rt; out.taken() == SUMMARY);
+    hold_all(&rt, alloc, &mut files, RECORDED);
     Ok(())
 }
 
@@ -110,144 +151,162 @@ fn an_empty_script_records_nothing(rt: HostRuntime) -> Result<(), Fail> {
     let mut files = three_instructions(alloc)?;
     files.write("s.txt", b"")?;
     let mut out = GoodSink::new(alloc);
-    assert_eq!(rt;
-        delorean_in_memory(alloc, &RUN, &mut files, &mut out),
-        Status::Done
-    );
-    assert_eq!(rt; out.taken(), EMPTY_SUMMARY);
-    for (name, want) in [
-        ("a.log", EMPTY_LOG),
-        ("a.txt", EMPTY_ACCOUNT),
-        ("r.txt", EMPTY_SUMMARY),
-    ] {
-        holds(&rt, alloc, &mut files, name, want);
-    }
+    assert!(rt; answer_in_memory(alloc, RUN, &mut files, &mut out) == Status::Done);
+    assert!(rt; out.taken() == EMPTY_SUMMARY);
+    hold_all(&rt, alloc, &mut files, NOTHING_RECORDED);
     Ok(())
 }
 
-#[derive(Clone, Copy)]
-struct Case {
+const NOTHING_RECORDED: &[(&str, &[u8])] = &[
+    ("a.log", EMPTY_LOG),
+    ("a.txt", EMPTY_ACCOUNT),
+    ("r.txt", EMPTY_SUMMARY),
+];
+
+/// A file of the first recording that is changed, and what is then answered and said.
+struct Changed {
     name: &'static str,
     bytes: &'static [u8],
     status: Status,
     said: &'static [u8],
 }
 
-// Each case is the first recording with one file changed, what it answers and what it says.
 #[test]
 fn what_is_read_decides_the_answer(rt: HostRuntime) -> Result<(), Fail> {
-    let alloc = rt.alloc();
-    for case in [
-        Case {
-            name: "s.txt",
-            bytes: b"step x",
-            status: Status::Grammar,
-            said: b"refused script 1\n",
-        },
-        Case {
-            name: "s.txt",
-            bytes: b"step 0\n\nhalt 0\n",
-            status: Status::Grammar,
-            said: b"refused script 3\n",
-        },
-        Case {
-            name: "a.elf",
-            bytes: b"\x7fELF\x01\x01\x01\0\0\0\0\0\0\0\0\0\x02\0\xf3\0\x01\0\0\0\0\0\0\04\0\0\0\0\0\0\0\0\0\0\04\0 \0\x01\0\0\0\0\0\0",
-            status: Status::Image,
-            said: b"refused image 0 1\n",
-        },
-        Case {
-            name: "plan.toml",
-            bytes: b"cores = 9\n",
-            status: Status::Plan,
-            said: b"refused plan 3\n",
-        },
-        Case {
-            name: "plan.toml",
-            bytes: NINE_CORES,
-            status: Status::Plan,
-            said: b"refused plan 4\n",
-        },
-    ] {
-        let mut files = three_instructions(alloc)?;
+    for case in CHANGED {
+        let mut files = three_instructions(rt.alloc())?;
         files.write(case.name, case.bytes)?;
-        let mut files = MemFiles::new(alloc, files, &[])?;
-        let mut out = MemSink::new(alloc, &[])?;
-        assert_eq!(rt; delorean(alloc, &RUN, &mut files, &mut out), case.status);
-        assert_eq!(rt; out.taken(), case.said);
+        answers(&rt, rt.alloc(), RUN, files, case.status, case.said)?;
     }
     Ok(())
 }
 
-#[derive(Clone, Copy)]
+fn answers(
+    rt: &impl Abort,
+    alloc: Global,
+    words: &[&str],
+    files: GoodFiles,
+    status: Status,
+    said: &[u8],
+) -> Result<(), Fail> {
+    let mut files = MemFiles::new(alloc, files, &[])?;
+    let mut out = MemSink::new(alloc, &[])?;
+    assert!(rt; answer(alloc, words, &mut files, &mut out) == status);
+    assert!(rt; out.taken() == said);
+    Ok(())
+}
+
+const CHANGED: &[Changed] = &[
+    Changed {
+        name: "s.txt",
+        bytes: b"step x",
+        status: Status::Grammar,
+        said: b"refused script 1\n",
+    },
+    Changed {
+        name: "s.txt",
+        bytes: b"step 0\n\nhalt 0\n",
+        status: Status::Grammar,
+        said: b"refused script 3\n",
+    },
+    Changed {
+        name: "a.elf",
+        bytes: b"\x7fELF\x01\x01\x01\0\0\0\0\0\0\0\0\0\x02\0\xf3\0\x01\0\0\0\0\0\0\04\0\0\0\0\0\0\0\0\0\0\04\0 \0\x01\0\0\0\0\0\0",
+        status: Status::Image,
+        said: b"refused image 0 1\n",
+    },
+    Changed {
+        name: "plan.toml",
+        bytes: b"cores = 9\n",
+        status: Status::Plan,
+        said: b"refused plan 3\n",
+    },
+    Changed {
+        name: "plan.toml",
+        bytes: NINE_CORES,
+        status: Status::Plan,
+        said: b"refused plan 4\n",
+    },
+];
+
+/// Words, and what is answered and said where no file but the plan and the script is there.
 struct Words {
     words: &'static [&'static str],
     status: Status,
     said: &'static [u8],
 }
 
-// No file but the script is there.
 #[test]
 fn words_and_absent_files_decide_the_answer(rt: HostRuntime) -> Result<(), Fail> {
-    let alloc = rt.alloc();
-    for case in [
-        Words {
-            words: &[],
-            status: Status::Usage,
-            said: b"usage\n",
-        },
-        Words {
-            words: &["run"],
-            status: Status::Usage,
-            said: b"usage\n",
-        },
-        Words {
-            words: &["run", "-x"],
-            status: Status::Usage,
-            said: b"usage\n",
-        },
-        Words {
-            words: &["walk", "plan.toml"],
-            status: Status::Usage,
-            said: b"usage\n",
-        },
-        Words {
-            words: &["run", "p", "q"],
-            status: Status::Usage,
-            said: b"usage\n",
-        },
-        Words {
-            words: &["run", "p"],
-            status: Status::Absent,
-            said: b"absent p\n",
-        },
-        Words {
-            words: &["run", "plan.toml"],
-            status: Status::Absent,
-            said: b"absent a.elf\n",
-        },
-    ] {
-        let mut files = GoodFiles::new(alloc);
-        files.write("plan.toml", PLAN)?;
-        files.write("s.txt", SCRIPT)?;
-        let mut files = MemFiles::new(alloc, files, &[])?;
-        let mut out = MemSink::new(alloc, &[])?;
-        assert_eq!(rt;
-            delorean(alloc, case.words, &mut files, &mut out),
-            case.status
-        );
-        assert_eq!(rt; out.taken(), case.said);
+    for case in WORDS {
+        let files = plan_and_script(rt.alloc())?;
+        answers(&rt, rt.alloc(), case.words, files, case.status, case.said)?;
     }
     Ok(())
 }
 
+fn plan_and_script(alloc: Global) -> Result<GoodFiles, Fail> {
+    let mut files = GoodFiles::new(alloc);
+    files.write("plan.toml", PLAN)?;
+    files.write("s.txt", SCRIPT)?;
+    Ok(files)
+}
+
+const WORDS: &[Words] = &[
+    Words {
+        words: &[],
+        status: Status::Usage,
+        said: b"usage\n",
+    },
+    Words {
+        words: &["run"],
+        status: Status::Usage,
+        said: b"usage\n",
+    },
+    Words {
+        words: &["run", "-x"],
+        status: Status::Usage,
+        said: b"usage\n",
+    },
+    Words {
+        words: &["walk", "plan.toml"],
+        status: Status::Usage,
+        said: b"usage\n",
+    },
+    Words {
+        words: &["run", "p", "q"],
+        status: Status::Usage,
+        said: b"usage\n",
+    },
+    Words {
+        words: &["run", "p"],
+        status: Status::Absent,
+        said: b"absent p\n",
+    },
+    Words {
+        words: &["run", "plan.toml"],
+        status: Status::Absent,
+        said: b"absent a.elf\n",
+    },
+];
+
+/// What is answered and said where calls fail, and how many of the files are then whole.
 #[derive(Clone, Copy)]
-struct Failing {
-    files: &'static [u64],
-    sink: &'static [u64],
+struct Left {
     status: Status,
     said: &'static [u8],
     whole: usize,
+}
+
+// A call of the files that fails, what is then said, and how many files are whole.
+type Fault = (u64, &'static [u8], usize);
+
+fn fault(said: &'static [u8], whole: usize) -> Left {
+    Left {
+        status: Status::Fault,
+        said,
+        whole,
+    }
 }
 
 // Three files are read and three are written, the log by two calls, and the text is put in one call. Each call fails in
@@ -255,159 +314,183 @@ struct Failing {
 #[test]
 fn a_call_that_fails_ends_the_work(rt: HostRuntime) -> Result<(), Fail> {
     let alloc = rt.alloc();
-    for case in [
-        failed_file(&[0], b"fault plan.toml\n", 0),
-        failed_file(&[1], b"fault s.txt\n", 0),
-        failed_file(&[2], b"fault a.elf\n", 0),
-        failed_file(&[3], b"fault a.log\n", 0),
-        failed_file(&[4], b"fault a.log\n", 0),
-        failed_file(&[5], b"fault a.txt\n", 1),
-        failed_file(&[6], b"fault r.txt\n", 2),
-        Failing {
-            files: &[],
-            sink: &[0],
+    for (call, said, whole) in FAULTS {
+        let files = MemFiles::new(alloc, three_instructions(alloc)?, &[*call])?;
+        ends(&rt, alloc, files, &[], &fault(said, *whole), RECORDED)?;
+    }
+    for (calls, left) in FAULTS_OF_SINK {
+        let files = MemFiles::new(alloc, three_instructions(alloc)?, calls)?;
+        ends(&rt, alloc, files, &[0], left, RECORDED)?;
+    }
+    Ok(())
+}
+
+const FAULTS: &[Fault] = &[
+    (0, b"fault plan.toml\n", 0),
+    (1, b"fault s.txt\n", 0),
+    (2, b"fault a.elf\n", 0),
+    (3, b"fault a.log\n", 0),
+    (4, b"fault a.log\n", 0),
+    (5, b"fault a.txt\n", 1),
+    (6, b"fault r.txt\n", 2),
+];
+
+// The calls of the files that fail where the first put fails too.
+const FAULTS_OF_SINK: &[(&[u64], Left)] = &[
+    (
+        &[],
+        Left {
             status: Status::Sink,
             said: b"",
             whole: 3,
         },
-        Failing {
-            files: &[3],
-            sink: &[0],
+    ),
+    (
+        &[3],
+        Left {
             status: Status::Fault,
             said: b"",
             whole: 0,
         },
-    ] {
-        let written = [("a.log", LOG), ("a.txt", ACCOUNT), ("r.txt", REPORT)];
-        fails(&rt, alloc, three_instructions(alloc)?, &case, &written)?;
-    }
-    Ok(())
-}
+    ),
+];
 
 // Two spheres are recorded and a third is replayed, whose log is read by two calls, the second at its end; seven files are
 // written. Each call fails in turn.
 #[test]
 fn a_call_that_fails_ends_the_work_of_three_spheres(rt: HostRuntime) -> Result<(), Fail> {
     let alloc = rt.alloc();
-    for case in [
-        failed_file(&[4], b"fault a.elf\n", 0),
-        failed_file(&[5], b"fault c.log\n", 0),
-        failed_file(&[6], b"fault c.log\n", 0),
-        failed_file(&[7], b"fault a.log\n", 0),
-        failed_file(&[8], b"fault a.log\n", 0),
-        failed_file(&[9], b"fault a.txt\n", 1),
-        failed_file(&[10], b"fault b.log\n", 2),
-        failed_file(&[11], b"fault b.log\n", 2),
-        failed_file(&[12], b"fault b.txt\n", 3),
-        failed_file(&[13], b"fault c.txt\n", 4),
-        failed_file(&[14], b"fault con\n", 5),
-        failed_file(&[15], b"fault r.txt\n", 6),
-    ] {
-        let mut files = three_instructions(alloc)?;
-        files.write("plan.toml", THREE_SPHERES)?;
-        files.write("c.log", LOG)?;
-        let written = [
-            ("a.log", LOG),
-            ("a.txt", ACCOUNT),
-            ("b.log", EMPTY_PICOLOG),
-            ("b.txt", EMPTY_ACCOUNT),
-            ("c.txt", ACCOUNT),
-            ("con", b"".as_slice()),
-            ("r.txt", THREE_REPORT),
-        ];
-        fails(&rt, alloc, files, &case, &written)?;
+    for (call, said, whole) in FAULTS_OF_THREE {
+        let files = MemFiles::new(alloc, three_spheres(alloc)?, &[*call])?;
+        ends(&rt, alloc, files, &[], &fault(said, *whole), THREE_RECORDED)?;
     }
     Ok(())
 }
 
-// The names before the one that failed are written whole, and those after it aren't there.
-fn fails(
+fn three_spheres(alloc: Global) -> Result<GoodFiles, Fail> {
+    let mut files = three_instructions(alloc)?;
+    files.write("plan.toml", THREE_SPHERES)?;
+    files.write("c.log", LOG)?;
+    Ok(files)
+}
+
+const FAULTS_OF_THREE: &[Fault] = &[
+    (4, b"fault a.elf\n", 0),
+    (5, b"fault c.log\n", 0),
+    (6, b"fault c.log\n", 0),
+    (7, b"fault a.log\n", 0),
+    (8, b"fault a.log\n", 0),
+    (9, b"fault a.txt\n", 1),
+    (10, b"fault b.log\n", 2),
+    (11, b"fault b.log\n", 2),
+    (12, b"fault b.txt\n", 3),
+    (13, b"fault c.txt\n", 4),
+    (14, b"fault con\n", 5),
+    (15, b"fault r.txt\n", 6),
+];
+
+const THREE_RECORDED: &[(&str, &[u8])] = &[
+    ("a.log", LOG),
+    ("a.txt", ACCOUNT),
+    ("b.log", EMPTY_PICOLOG),
+    ("b.txt", EMPTY_ACCOUNT),
+    ("c.txt", ACCOUNT),
+    ("con", b""),
+    ("r.txt", THREE_REPORT),
+];
+
+fn ends(
     rt: &impl Abort,
     alloc: Global,
-    files: GoodFiles,
-    case: &Failing,
+    mut files: MemFiles,
+    puts: &[u64],
+    left: &Left,
     written: &[(&str, &[u8])],
 ) -> Result<(), Fail> {
-    let mut files = MemFiles::new(alloc, files, case.files)?;
-    let mut out = MemSink::new(alloc, case.sink)?;
-    assert_eq!(rt; delorean(alloc, &RUN, &mut files, &mut out), case.status);
-    assert_eq!(rt; out.taken(), case.said);
+    let mut out = MemSink::new(alloc, puts)?;
+    assert!(rt; answer(alloc, RUN, &mut files, &mut out) == left.status);
+    assert!(rt; out.taken() == left.said);
+    are_left(rt, alloc, &mut files, left.whole, written);
+    Ok(())
+}
+
+// The names before the one that failed are written whole, and those after it aren't there.
+fn are_left<F: Files>(
+    rt: &impl Abort,
+    alloc: Global,
+    files: &mut F,
+    whole: usize,
+    written: &[(&str, &[u8])],
+) {
     for (i, (name, want)) in written.iter().enumerate() {
-        let found = files.read(alloc, name);
-        if i < case.whole {
-            assert!(rt;
-                found.is_ok_and(|bytes| bytes.as_slice() == *want),
-                "{name}"
-            );
-        } else if i > case.whole {
-            assert!(rt; found.is_err(), "{name}");
+        if i < whole {
+            assert!(rt; holds(alloc, files, name, want), "{name}");
+        }
+        if i > whole {
+            assert!(rt; files.read(alloc, name).is_err(), "{name}");
         }
     }
-    Ok(())
 }
 
 // A sink that takes one byte a call takes the same, and where its second call fails, one byte; the files are written whole.
 #[test]
 fn a_narrow_sink_takes_byte_after_byte(rt: HostRuntime) -> Result<(), Fail> {
-    let alloc = rt.alloc();
-    for (failing, status, said) in [
-        (&[][..], Status::Done, SUMMARY),
-        (&[1], Status::Sink, &SUMMARY[..1]),
-    ] {
-        let mut files = three_instructions(alloc)?;
-        let mut out = Narrow::new(alloc, failing)?;
-        assert_eq!(rt; delorean(alloc, &RUN, &mut files, &mut out), status);
-        assert_eq!(rt; out.taken(), said);
-        for (name, want) in [("a.log", LOG), ("a.txt", ACCOUNT), ("r.txt", REPORT)] {
-            holds(&rt, alloc, &mut files, name, want);
-        }
-    }
-    Ok(())
+    takes(&rt, rt.alloc(), &[], Status::Done, SUMMARY)?;
+    takes(&rt, rt.alloc(), &[1], Status::Sink, &SUMMARY[..1])
 }
 
-fn failed_file(files: &'static [u64], said: &'static [u8], whole: usize) -> Failing {
-    Failing {
-        files,
-        sink: &[],
-        status: Status::Fault,
-        said,
-        whole,
-    }
+fn takes(
+    rt: &impl Abort,
+    alloc: Global,
+    puts: &[u64],
+    status: Status,
+    said: &[u8],
+) -> Result<(), Fail> {
+    let mut files = three_instructions(alloc)?;
+    let mut out = Narrow::new(alloc, puts)?;
+    assert!(rt; answer(alloc, RUN, &mut files, &mut out) == status);
+    assert!(rt; out.taken() == said);
+    hold_all(rt, alloc, &mut files, RECORDED);
+    Ok(())
 }
 
 // The trusted edge: std's own calls write what is read, and find what is written.
 #[test]
 fn real_files_are_read_and_written(rt: HostRuntime) -> Result<(), Fail> {
     let alloc = rt.alloc();
-    for (name, bytes) in [("plan.toml", PLAN), ("s.txt", SCRIPT), ("a.elf", IMAGE)] {
-        fs::write(&rt, name, bytes)?;
+    for (name, bytes) in FILES {
+        fs::write(&rt, name, *bytes)?;
     }
     let mut files = RealFiles::new(rt.clone()?);
     let mut out = StdSink::new(rt.clone()?);
-    assert_eq!(rt; delorean(alloc, &RUN, &mut files, &mut out), Status::Done);
-    for (name, want) in [("a.log", LOG), ("a.txt", ACCOUNT), ("r.txt", REPORT)] {
+    assert!(rt; answer(alloc, RUN, &mut files, &mut out) == Status::Done);
+    for (name, want) in RECORDED {
         let found = fs::read(&rt, name)?;
-        assert_eq!(rt; found.as_slice(), want, "{name}");
+        assert!(rt; found.as_slice() == *want, "{name}");
     }
     let mut said = MemSink::new(alloc, &[])?;
-    assert_eq!(rt;
-        delorean(alloc, &["inspect", "a.log"], &mut files, &mut said),
-        Status::Done
-    );
-    assert_eq!(rt; said.taken(), INSPECTION);
+    assert!(rt; answer(alloc, INSPECT, &mut files, &mut said) == Status::Done);
+    assert!(rt; said.taken() == INSPECTION);
     Ok(())
 }
+
+const FILES: &[(&str, &[u8])] = &[("plan.toml", PLAN), ("s.txt", SCRIPT), ("a.elf", IMAGE)];
+
+const INSPECT: &[&str] = &["inspect", "a.log"];
 
 // A log that is cut anywhere says in pieces of any size what it says at once.
 #[test]
 fn cut_logs_say_in_pieces_what_they_say_at_once(rt: HostRuntime) {
     for length in 0..DMA_LOG.len() {
-        let bytes = &DMA_LOG[..length];
-        for size in [1, 7, 4096] {
-            let once = read_log(rt.alloc(), bytes).err();
-            assert_eq!(rt; fed(rt.alloc(), bytes, size).err(), once, "{length}");
+        for size in &[1, 7, 4096] {
+            let is_same = says_the_same(rt.alloc(), &DMA_LOG[..length], *size);
+            assert!(rt; is_same, "{length}");
         }
     }
+}
+
+fn says_the_same(alloc: Global, bytes: &[u8], size: usize) -> bool {
+    fed(alloc, bytes, size).err() == read_log(alloc, bytes).err()
 }
 
 fn fed(alloc: Global, bytes: &[u8], size: usize) -> Result<Log, LogError> {
@@ -422,6 +505,6 @@ fn fed(alloc: Global, bytes: &[u8], size: usize) -> Result<Log, LogError> {
 #[test]
 fn bytes_one_by_one_give_the_log(rt: HostRuntime) -> Result<(), Fail> {
     let log = fed(rt.alloc(), DMA_LOG, 1)?;
-    assert_eq!(rt; write_log(rt.alloc(), &log)?.as_slice(), DMA_LOG);
+    assert!(rt; write_log(rt.alloc(), &log)?.as_slice() == DMA_LOG);
     Ok(())
 }

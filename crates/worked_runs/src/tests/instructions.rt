@@ -1,8 +1,9 @@
 //! Recordings whose instructions meet their edges.
-use super::{PLAN, RUN, holds};
-use dl_commands::delorean_in_memory;
+use super::{PLAN, RUN, answer_in_memory, holds};
 use dl_files::{Files, GoodFiles, GoodSink};
 use spec_program::status::Status;
+use std::alloc::Global;
+use std::process::Abort;
 use std::test::Fail;
 
 // DIV and REM of -2^31 by -1; DIV, DIVU, REM and REMU of 7 by 0; MULHSU twice and MULHU. The results stand in x11 to x20.
@@ -30,7 +31,6 @@ const JUMP_LOG: &[u8] =
 const JUMP_ACCOUNT: &[u8] =
     b"c 0 0 1\nc 1 0 0\nt 0 00000004 fault:0 00000000 0 00000000 00000000 00000000 00000000 00000006 00000000 00000000 00000000 00000000 00000000 00000000 00000000 00000000 00000000 00000000 00000000 00000000 00000000 00000000 00000000 00000000 00000000 00000000 00000000 00000000 00000000 00000000 00000000 00000000 00000000 00000000\nm 00000000 93026000E7800200000000000000000000000000000000000000000000000000\nend complete 2\n";
 
-#[derive(Clone, Copy)]
 struct Recording {
     image: &'static [u8],
     script: &'static [u8],
@@ -38,34 +38,42 @@ struct Recording {
     account: &'static [u8],
 }
 
+const RECORDINGS: &[Recording] = &[
+    Recording {
+        image: DIVISION_IMAGE,
+        script: DIVISION_SCRIPT,
+        log: DIVISION_LOG,
+        account: DIVISION_ACCOUNT,
+    },
+    Recording {
+        image: JUMP_IMAGE,
+        script: JUMP_SCRIPT,
+        log: JUMP_LOG,
+        account: JUMP_ACCOUNT,
+    },
+];
+
 #[test]
 fn instructions_at_their_edges(rt: HostRuntime) -> Result<(), Fail> {
-    let alloc = rt.alloc();
-    for recording in [
-        Recording {
-            image: DIVISION_IMAGE,
-            script: DIVISION_SCRIPT,
-            log: DIVISION_LOG,
-            account: DIVISION_ACCOUNT,
-        },
-        Recording {
-            image: JUMP_IMAGE,
-            script: JUMP_SCRIPT,
-            log: JUMP_LOG,
-            account: JUMP_ACCOUNT,
-        },
-    ] {
-        let mut files = GoodFiles::new(alloc);
-        files.write("plan.toml", PLAN)?;
-        files.write("s.txt", recording.script)?;
-        files.write("a.elf", recording.image)?;
-        let mut out = GoodSink::new(alloc);
-        assert_eq!(rt;
-            delorean_in_memory(alloc, &RUN, &mut files, &mut out),
-            Status::Done
-        );
-        holds(&rt, alloc, &mut files, "a.log", recording.log);
-        holds(&rt, alloc, &mut files, "a.txt", recording.account);
+    for recording in RECORDINGS {
+        is_recorded(&rt, rt.alloc(), recording)?;
     }
     Ok(())
+}
+
+fn is_recorded(rt: &impl Abort, alloc: Global, recording: &Recording) -> Result<(), Fail> {
+    let mut files = of_instructions(alloc, recording)?;
+    let mut out = GoodSink::new(alloc);
+    assert!(rt; answer_in_memory(alloc, RUN, &mut files, &mut out) == Status::Done);
+    assert!(rt; holds(alloc, &mut files, "a.log", recording.log));
+    assert!(rt; holds(alloc, &mut files, "a.txt", recording.account));
+    Ok(())
+}
+
+fn of_instructions(alloc: Global, recording: &Recording) -> Result<GoodFiles, Fail> {
+    let mut files = GoodFiles::new(alloc);
+    files.write("plan.toml", PLAN)?;
+    files.write("s.txt", recording.script)?;
+    files.write("a.elf", recording.image)?;
+    Ok(files)
 }
