@@ -11,9 +11,9 @@ use Rattle.spec_engine.specs.Flights.{at, is_full}
 use Rattle.spec_engine.specs.Chunks.{Chunk, is_empty_serial}
 use Rattle.spec_engine.specs.Asking.{ask, ask_serial}
 use Rattle.spec_protocol.specs.declared.reply.Reply.{Reply}
-use Rattle.spec_protocol.specs.Spheres.{Role, is_stopped, head_of, is_in_pieces}
+use Rattle.spec_protocol.specs.Spheres.{Role, Sphere, is_stopped, head_of, is_in_pieces}
 use Rattle.spec_protocol.specs.Commits.{CommitOutcome, Granted, Piece, Diverged, MovedSphere, is_piece, chunk_moved, serial_moved}
-use Rattle.spec_protocol.specs.World.{World, Occupant, moment, sphere_at, with_sphere, with_core, held_afresh, flown, What, OfChunk, OfSerial, Move, After, answered}
+use Rattle.spec_protocol.specs.World.{Numbers, World, Occupant, moment, sphere_at, with_sphere, with_core, held_afresh, flown, What, OfChunk, OfSerial, Move, After, answered}
 
 -- ---- a granted request
 
@@ -33,13 +33,17 @@ point_at now q kind = Point.Commit now q.sphere (Actor.Thread q.thread) kind q.n
 abbrev pub move_at : (moment : ℕ) → CommitRequest → Move
 move_at now q = record { moment = now; sphere = q.sphere; what = q.what }
 
+-- what a core goes on with after its granted request, where the sphere is p: the thread as it is now, and a new chunk of it
+abbrev pub goes_on_with : Numbers → CommitRequest → Sphere → Option Occupant
+goes_on_with z q p = held_afresh z q.sphere q.thread p
+
 -- the words fly, and the core, which is told, goes on with its thread as it is now
 abbrev pub world_with : World → (core : ℕ) → CommitRequest → Signature → MovedSphere → World
 world_with w c q writes v =
     record w {
       spheres = (with_sphere w q.sphere v.sphere).spheres;
       slots = flown q.sphere v.words writes (2 ^ c) w.slots;
-      cores = (with_core w c (held_afresh w.numbers q.sphere q.thread v.sphere)).cores;
+      cores = (with_core w c (goes_on_with w.numbers q v.sphere)).cores;
       devices = v.devices;
     }
 

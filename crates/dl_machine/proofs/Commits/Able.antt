@@ -147,7 +147,7 @@ can_commit_held w c h how ready is closed going free whole =
           let s = standard_limit p.role w.numbers.s h.thread h.chunk.start live in
           omega arith;
       some = short_some w.numbers.s w.numbers.capacity how h.chunk g.chunk.closes ready.good.buffer closed;
-      part = part_in p.role _ w.numbers.s _ w.numbers.capacity p.threads h.thread how h.chunk (ready.sound.spheres h.chunk.sphere g.sphere).role (turn_of p h.thread going free) g.start (ready.sound.held c h is).commits (g.limit going) g.chunk.closes ready.good.buffer closed whole;
+      part = part_in p.role _ w.numbers.s _ w.numbers.capacity p.threads h.thread how h.chunk (ready.sound.spheres h.chunk.sphere g.sphere).role (turn_of p h.thread going free) g.thread.start (ready.sound.held c h is).commits (g.thread.limit going) g.chunk.closes ready.good.buffer closed whole;
     }
 
 -- a closed chunk of a sphere that goes on can be committed, where it is nobody else's turn and no serial step is asked for

@@ -113,12 +113,12 @@ chunk_fits : (w : World) (c : ℕ) (h : Occupant) (how : How) → IsGoodHeld w c
 chunk_fits w c h how held live closed going turn chunk =
     let p = sphere_at w h.chunk.sphere in
     let m = current w h.chunk.sphere in
-    let limit = held.limit going in
+    let limit = held.thread.limit going in
     let closes = held.chunk.closes in
     record {
       going = going;
       turn = ap (λ (o : Option Actor). other_turn o h.thread) (head_over p m) ∙ turn;
-      live = held.lives;
+      live = held.thread.lives;
       positive = closes.positive;
       limited = limit.most;
       replayed = limit.replayed;
@@ -164,8 +164,8 @@ chunk_grants w c h how good is closed going turn free chunk none =
       lack = chunk-stores (λ (ws : List Stored). AllLack ws (flying i w.slots)) h.thread (is_piece how) short h.chunk.done w.devices p tt (chunk_lacks w c h good held none);
       lives = λ e. chunk-lives h.thread (is_piece how) short h.chunk.done w.devices p e;
       tells = refl;
-      whole = chunk_whole w h how held.sphere held.start live.runs;
-      fits = chunk_fits_at w h how held.sphere held.start (chunk_fits w c h how held live closed going turn chunk);
+      whole = chunk_whole w h how held.sphere held.thread.start live.runs;
+      fits = chunk_fits_at w h how held.sphere held.thread.start (chunk_fits w c h how held live closed going turn chunk);
     }
 
 -- ---- a serial step
@@ -246,12 +246,12 @@ serial_grants w c h good is going turn free serial none =
       lack = subst (AllLack v.words) (sym empty) (AllLack_nil v.words);
       lives = λ e. serial-lives h.thread (moment w) h.chunk.start w.devices p e;
       tells = refl;
-      whole = serial_whole w h held.sphere held.start empty moves.keeps.memory;
-      fits = serial_fits_at w h held.sphere held.start
+      whole = serial_whole w h held.sphere held.thread.start empty moves.keeps.memory;
+      fits = serial_fits_at w h held.sphere held.thread.start
           (record {
             going = going;
             turn = ap (λ (o : Option Actor). other_turn o h.thread) (head_over p (current w i)) ∙ turn;
-            live = held.lives;
+            live = held.thread.lives;
             whole = not-true (is_in_pieces p.role) asks.1;
             serial = serial_next (current w i) h.chunk live (serial_closed h.chunk.closed parts.1) (eqb-true h.chunk.done.n 0 parts.0);
           });

@@ -106,11 +106,13 @@ done_good w i v good t free none =
               covered = dma_covered w i v;
               untold = told-zero d;
               memory = moves.memory;
-              going = t.going;
-              threads = λ h. ap (λ (ts : List Parts). slice_get ts x.thread) moves.threads ∙ h;
-              halving = moves.halving;
-              replaying = moves.replaying;
-              limits = moves.limits w.numbers.s x.thread x.chunk.start;
+              keeps = record {
+                threads = λ u h. ap (λ (ts : List Parts). slice_get ts x.thread) moves.threads ∙ h;
+                halving = moves.halving;
+                replaying = moves.replaying;
+                going = λ h. t.going;
+                limits = λ h u. moves.limits w.numbers.s x.thread u h;
+              };
             })
             (good.held d x e)
         | inr ne ↦ elsewhere-held w i v.sphere f u.slots w.cores v.devices d x ne flew (good.held d x e)
@@ -135,7 +137,7 @@ diverged_preserved w i v j why good t is =
     let moves = moves_of w i v t in
     let d : Divergence w.devices (sphere_at w i) v (Diverged j why) = subst (Divergence w.devices (sphere_at w i) v) is moves.divergence in
     record {
-      good = stopped-good w i v.sphere good (record { within = t.within; memory = moves.memory; threads = d.2; halving = moves.halving; stopped = d.3 });
+      good = stopped-good w i v.sphere good (record { within = t.within; memory = moves.memory; threads = d.2; halving = moves.halving; replaying = moves.replaying; stopped = d.3 });
       sizes = record { numbers = refl; spheres = length-set w.spheres i v.sphere; cores = refl; slots = refl };
       point = point-other w.numbers (replays (sphere_at w i).role) (dma_move w i) _
           (λ live. let e : Granted ≡ Diverged j why = sym (dma-lives w.devices (sphere_at w i) v live t.is) ∙ is in cc) tt;

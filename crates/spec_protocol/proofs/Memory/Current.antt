@@ -4,7 +4,7 @@ use Rattle.std.specs.Prelude.{IsSome}
 use Rattle.std.proofs.lemmas.Bool.{true≢false, and_parts, cases_lt, false_from_ne_true}
 use Rattle.spec_isa.specs.declared.thread.Parts.{Parts}
 use Rattle.spec_isa.specs.declared.thread.Kind.{Kind}
-use Rattle.spec_isa.specs.Words.{lays}
+use Rattle.spec_isa.specs.Words.{Stored, lays}
 use Rattle.spec_isa.specs.Instruction.{InstructionOutcome, Next, Serial, one}
 use Rattle.spec_isa.specs.Runs.{Run, followed, more, run}
 use Rattle.spec_kernel.specs.Needs.{next_kind}
@@ -147,12 +147,13 @@ quiet_less xs c ch dh same less q =
       misses = λ k f is e untold. false_from_ne_true (hits f.writes ch.reads) (λ h. true≢false (sym (less f.writes h) ∙ q.misses k f is (e ∙ sym same) untold));
     }
 
--- a step of an open chunk keeps it good over the current memory, and keeps what it began from
-pub step-good : (capacity bits : ℕ) (xs : List (Option Flight)) (c : ℕ) (r : List ℕ) (ch : Chunk) → AreCovered bits xs → ch.closed ≡ None → IsGoodChunk capacity bits xs c (lays r (flying ch.sphere xs)) ch
-    → let dh = (step capacity r xs c ch).chunk in IsGoodChunk capacity bits xs c (lays r (flying ch.sphere xs)) dh × SameBase ch dh
-step-good capacity bits xs c r ch cov open_ good =
-    let s = step capacity r xs c ch in
-    let st = step-stays capacity r xs c ch (record { open_ = open_; closes = good.closes; apart = good.apart; writes = good.writes; loads = good.loads }) in (
+-- a step of an open chunk, on a memory with these words laid over it, keeps it good over the current memory with the words
+-- laid over that, and keeps what it began from
+pub step-good : (capacity bits : ℕ) (xs : List (Option Flight)) (c : ℕ) (r : List ℕ) (ws : List Stored) (ch : Chunk) → AreCovered bits xs → ch.closed ≡ None → IsGoodChunk capacity bits xs c (lays (lays r (flying ch.sphere xs)) ws) ch
+    → let dh = (step capacity (lays r ws) xs c ch).chunk in IsGoodChunk capacity bits xs c (lays (lays r (flying ch.sphere xs)) ws) dh × SameBase ch dh
+step-good capacity bits xs c r ws ch cov open_ good =
+    let s = step capacity (lays r ws) xs c ch in
+    let st = step-stays capacity (lays r ws) xs c ch (record { open_ = open_; closes = good.closes; apart = good.apart; writes = good.writes; loads = good.loads }) in (
       record {
         reads_size = st.base.reads ∙ good.reads_size;
         writes_size = st.base.writes ∙ good.writes_size;
@@ -161,16 +162,17 @@ step-good capacity bits xs c r ch cov open_ good =
         loads = st.loads;
         closes = st.closes;
         live = λ quiet.
-            live_step xs c r (lays r (flying ch.sphere xs)) ch s s.reply
+            live_step xs c (lays r ws) (lays (lays r (flying ch.sphere xs)) ws) ch s s.reply
             (good.live (quiet_less xs c ch s.chunk st.base.sphere st.less_hits quiet))
             st.base
             st.more_reads
+            (Agree-lays (clear xs c s.chunk) r (lays r (flying ch.sphere xs)) ws
             (subst (λ (i : ℕ). Agree (clear xs c s.chunk) r (lays r (flying i xs))) st.base.sphere
             (Agree-unseen (clear xs c s.chunk) r (flying s.chunk.sphere xs)
             (unseen_from (clear xs c s.chunk) (flying s.chunk.sphere xs)
-            (λ a e. clear-lacks bits xs c s.chunk a cov (st.base.reads ∙ good.reads_size) quiet e))))
+            (λ a e. clear-lacks bits xs c s.chunk a cov (st.base.reads ∙ good.reads_size) quiet e)))))
             st.looks
-            (steps_are capacity r xs c ch);
+            (steps_are capacity (lays r ws) xs c ch);
       },
       st.base,
     )

@@ -61,7 +61,7 @@ fits_chunk : (w : World) (c : ℕ) (h : Occupant) (how : How) → IsGood w → I
 fits_chunk w c h how good is =
     let held = good.held c h is.is in
     let role = (sphere_at w h.chunk.sphere).role in
-    let most = (held.limit (live-going role is.live)).most in
+    let most = (held.thread.limit (live-going role is.live)).most in
     let n = within-limit w.numbers.capacity h.chunk held.chunk.closes in
     let e = live-limit w.numbers.s h.thread h.chunk.start role is.live in
     record { size = omega (arith, most, n, e); over = short-over w.numbers.capacity w.numbers.s h how is.closed good.buffer held.chunk.closes }

@@ -142,10 +142,10 @@ piece-room s w c h how asks k b e piece =
     let turn = has-turn p h.thread asks.going asks.turn b e in
     let cursor = cursor-is s.numbers.s (position p.progress) p b e k.role in
     let limit : h.chunk.limit ≡ max 1 (whole_limit b.log h.thread h.chunk.start.commits - b.total) =
-    (held.limit asks.going).replayed (ap replays e) ∙ ap (λ (r : Role). limit_of w.numbers.s r h.thread h.chunk.start) e ∙ limit-is w.numbers.s h.thread b h.chunk.start turn
+    (held.thread.limit asks.going).replayed (ap replays e) ∙ ap (λ (r : Role). limit_of w.numbers.s r h.thread h.chunk.start) e ∙ limit-is w.numbers.s h.thread b h.chunk.start turn
     in
     room-left h.chunk.done.n b.total (whole_limit b.log h.thread h.chunk.start.commits) h.chunk.limit
-    (turn-room (position p.progress) h.thread p b h.chunk.start cursor turn held.start) limit
+    (turn-room (position p.progress) h.thread p b h.chunk.start cursor turn held.thread.start) limit
     (held.chunk.closes.early how asks.closed (piece-how how piece))
 
 sound-chunk : (s : Setup) (w : World) (c : ℕ) (h : Occupant) (how : How) → Asks w c h how → Holds (sound s) (moment w) w
@@ -157,9 +157,9 @@ sound-chunk s w c h how asks k =
     let ch = k.held c h asks.is in
     let sphere = k.spheres i held.sphere in
     landed s (suc (moment w)) i _
-    (chunk-sound s.numbers.s (image_at s i) (moment w) h.thread h.chunk.start w.devices p sphere held.start k.devices
+    (chunk-sound s.numbers.s (image_at s i) (moment w) h.thread h.chunk.start w.devices p sphere held.thread.start k.devices
     (is_piece how) (is_short w.numbers.s how h.chunk.limit) h.chunk.done
-    (record { live = held.lives; turn = has-turn p h.thread asks.going asks.turn; room = piece-room s w c h how asks sphere })
+    (record { live = held.thread.lives; turn = has-turn p h.thread asks.going asks.turn; room = piece-room s w c h how asks sphere })
     (record { thread = ch.thread; commits = ch.commits; status = ch.status; words = ch.words; loads = held.chunk.closes.few_loads }))
 
 sound-serial : (s : Setup) (w : World) (c : ℕ) (h : Occupant) (how : How) → IsWithinLimits s → Asks w c h how → Holds (sound s) (moment w) w
@@ -169,7 +169,7 @@ sound-serial s w c h how limits asks k =
     let p = sphere_at w i in
     let held = asks.good.held c h asks.is in
     landed s (suc (moment w)) i _
-    (serial-sound s.numbers.s (image_at s i) (moment w) h.thread (moment w) h.chunk.start w.devices p (whole s i limits) (has-turn p h.thread asks.going asks.turn) (k.spheres i held.sphere) held.start k.devices)
+    (serial-sound s.numbers.s (image_at s i) (moment w) h.thread (moment w) h.chunk.start w.devices p (whole s i limits) (has-turn p h.thread asks.going asks.turn) (k.spheres i held.sphere) held.thread.start k.devices)
 
 -- ---- every change
 
