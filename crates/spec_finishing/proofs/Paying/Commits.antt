@@ -16,7 +16,7 @@ use Rattle.spec_protocol.specs.Spheres.{Cursor, Role, Replay, Sphere, is_over, l
 use Rattle.spec_protocol.specs.Commits.{turned, is_piece, joined, by_verdict, replayed_chunk, chunk_in, chunk_moved}
 use Rattle.spec_protocol.specs.Placing.{replays}
 use Rattle.spec_protocol.specs.World.{Numbers}
-use Rattle.spec_protocol.specs.Machine.{SphereSetup}
+use Rattle.spec_protocol.specs.Machine.{first_played, SphereSetup}
 use Rattle.spec_protocol.specs.Serial.{laid}
 use Rattle.spec_protocol.specs.Moves.{ChunkFits}
 use Rattle.spec_finishing.specs.Work.{commit_work}
@@ -35,7 +35,7 @@ next_work image p b = commit_work b.log (play_of image b p)
 
 -- the work that a play has behind its next commit
 abbrev pub behind : SphereSetup → Sphere → Cursor → ℕ
-behind image p b = later b.log (opened b.log image.memory image.entry) (position p.progress)
+behind image p b = later b.log (first_played image b.log) (position p.progress)
 
 -- ---- parts of a commit
 
@@ -64,7 +64,7 @@ module _ (c : ℕ) (image : SphereSetup) (p : Sphere) (b : Cursor) (role : p.rol
   pub rank-before : sphere_rank c image p ≡ price c ((next_work image p b + behind image p b) - b.total)
   rank-before =
       (λ i. sphere_rank c image (record p { role = role i }))
-      ∙ ap (price c) (left-going image b (position p.progress) going ∙ left-step b.log (opened b.log image.memory image.entry) (position p.progress) b.total g.ahead)
+      ∙ ap (price c) (left-going image b (position p.progress) going ∙ left-step b.log (first_played image b.log) (position p.progress) b.total g.ahead)
 
   -- a verdict on the whole commit, with what its flight costs, leaves the sphere no more to do than before
   pub verdict-pays : (k : ℕ) (x : LogVerdict) (devices : Devices) (l : ℕ) → suc b.total ≤ next_work image p b → l ≤ price c (next_work image p b - b.total)
@@ -92,7 +92,7 @@ module _ (c : ℕ) (image : SphereSetup) (p : Sphere) (b : Cursor) (role : p.rol
   piece_rank k r n devices is some afford =
       let before = rank-before in
       let part : Cursor = record b { total = b.total + r.n; loads = b.loads ++ r.loads } in
-      let x = opened b.log image.memory image.entry in
+      let x = first_played image b.log in
       let after : price c (replay_left image part (position p.progress)) ≡ price c ((next_work image p b + behind image p b) - (b.total + n)) =
       ap (price c) (left-going image part (position p.progress) going ∙ left-step b.log x (position p.progress) part.total g.ahead
       ∙ ap (λ (a : ℕ). (next_work image p b + behind image p b) - (b.total + a)) is)

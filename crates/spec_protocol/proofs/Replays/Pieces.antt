@@ -20,7 +20,7 @@ use Rattle.spec_protocol.specs.World.{Numbers, World, What, OfChunk, OfSerial, O
 use Rattle.spec_protocol.specs.Asking.{is_short, other_turn}
 use Rattle.spec_protocol.specs.Transferring.{not_of_dma, turn_before_dma}
 use Rattle.spec_protocol.specs.Placing.{replays}
-use Rattle.spec_protocol.specs.Machine.{RoleSetup, IsPlain, IsRecorded, IsReplayed, SphereSetup, role_of, sphere_of, moves, world_of}
+use Rattle.spec_protocol.specs.Machine.{first_threads, RoleSetup, IsPlain, IsRecorded, IsReplayed, SphereSetup, role_of, sphere_of, moves, world_of}
 use Rattle.spec_protocol.specs.Serial.{SerialState, serial_start, laid, do_serial, do_dma, do_raise}
 use Rattle.spec_protocol.specs.Shown.{shown, shown_of}
 use Rattle.spec_protocol.specs.Moves.{move_chunk, do_what, do_at, do_move, do_moves, FitsChunk, FitsSerial, FitsRaise, FitsWhat, FitsAt, Fits, FitsIf, FitAll}
@@ -152,7 +152,7 @@ start_role z threads (IsReplayed asked) = λ going some. absurd (omega arith)
 
 start_turn : (z : ℕ) (ds : List SphereSetup) (i : ℕ) (p : Sphere) → slice_get (map (sphere_of z) ds) i ≡ Some p → InTurn p.role
 start_turn z [] i p e = absurd (none-some p e)
-start_turn z (d ∷ ds) zero p e = subst (λ (q : Sphere). InTurn q.role) (let h : sphere_of z d ≡ p = cc in h) (start_role z (started d.entry ∷ []) d.role)
+start_turn z (d ∷ ds) zero p e = subst (λ (q : Sphere). InTurn q.role) (let h : sphere_of z d ≡ p = cc in h) (start_role z (first_threads d) d.role)
 start_turn z (d ∷ ds) (suc i) p e = start_turn z ds i p e
 
 -- ---- what can come next
