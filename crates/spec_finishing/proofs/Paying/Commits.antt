@@ -26,6 +26,7 @@ use Rattle.spec_finishing.proofs.Paying.Plays.{left-over, left-going, left-step,
 use Rattle.spec_finishing.proofs.Paying.GoingOn.{play_of, GoesOn, has-run, part-afforded}
 use Rattle.spec_finishing.proofs.Left.Rows.{sphere_rank}
 use Rattle.spec_replay.proofs.Replays.Moved.{turn_of_thread}
+use Rattle.spec_play.proofs.Positions.{position-more}
 
 -- ---- before and after
 
@@ -78,7 +79,7 @@ module _ (c : ℕ) (image : SphereSetup) (p : Sphere) (b : Cursor) (role : p.rol
   verdict-pays k (Goes e u) devices l some enough =
       let before = rank-before in
       let progress = with_effect k e p.progress in
-      let size : position progress ≡ suc (position p.progress) = (let h = length-append p.progress.commits (e.commit ∷ []) in omega (arith, h)) in
+      let size : position progress ≡ suc (position p.progress) = position-more p.progress e.commit in
       let after = turned b.log progress u (with_threads k e p.threads) in
       let most = left-turned image b.log progress u (with_threads k e p.threads) (position p.progress) size in
       let pays = whole-pays c (next_work image p b) b.total (behind image p b) l some enough (replay_left image after (position progress)) most in

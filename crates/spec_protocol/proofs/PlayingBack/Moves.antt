@@ -39,6 +39,7 @@ use Rattle.spec_protocol.proofs.PlayingBack.Commits.{commit-size, commit-follows
 use Rattle.spec_protocol.proofs.PlayingBack.Verdicts.{run-stops, chunk-goes, serial-goes}
 use Rattle.spec_protocol.proofs.PlayingBack.Transfers.{transferred-follows, raised-follows}
 use Rattle.std.specs.List.{prefix_len}
+use Rattle.spec_play.proofs.Positions.{position-more}
 
 -- ---- a sphere and its log, before and after
 
@@ -183,7 +184,7 @@ chunk-committed recording p k t piece short n devices is =
       threads = refl;
       commits = ap (λ (c : ℕ). c + 1) (run-keeps p.memory t n);
       new = tt;
-      position_ = (let h = length-append p.progress.commits (e.commit ∷ []) in omega arith);
+      position_ = position-more p.progress e.commit;
       actor = refl;
       log_ = ap (λ (c : ℕ). noted e.commit c short recording.log) (run-keeps p.memory t n);
     }
@@ -241,7 +242,7 @@ serial-committed recording p k moment t devices is =
       threads = refl;
       commits = ap (λ (c : ℕ). c + 1) h.commits;
       new = h.fresh;
-      position_ = (let h = length-append p.progress.commits (e.commit ∷ []) in omega arith);
+      position_ = position-more p.progress e.commit;
       actor = refl;
       log_ = refl;
     }
@@ -286,7 +287,7 @@ dma-grown recording p devices request asked =
     let q = laid (recorded_dma recording p devices request) in
     let qlog = dma_log log devices p (Some request) in
     let bytes = dma_bytes devices request in
-    let d : Transferred p q log qlog bytes = record { threads = refl; position_ = (let h = length-append p.progress.commits (dma_commit ∷ []) in omega arith); log_ = refl } in
+    let d : Transferred p q log qlog bytes = record { threads = refl; position_ = position-more p.progress dma_commit; log_ = refl } in
     record {
       stands = transferred-stands p q log qlog bytes d;
       s = refl;
