@@ -23,6 +23,12 @@ pub record IsRun (s : Setup) (es : List Event) (w : World) : Type 0 where
   pub limits : IsWithinLimits s
   pub here : w ≡ after s es
 
+-- some setup within the limits and some schedule have led to the world
+pub record HasRun (w : World) : Type 0 where
+  pub setup : Setup
+  pub schedule : List Event
+  pub run : IsRun setup schedule w
+
 -- the plain and recorded spheres, with their current memories, and the devices are those of doing these points whole, one
 -- at a time; and each point can be done as it says
 pub record IsSerial (s : Setup) (w : World) (points : List Point) : Type 0 where
