@@ -28,7 +28,7 @@ use Rattle.spec_protocol.proofs.Moves.AnyMemory.{over, relaid, chunk-relaid}
 use Rattle.spec_protocol.proofs.Invariants.Preserved.{Preserved, shown-get, unchanged-preserved}
 use Rattle.spec_protocol.proofs.Moves.AnyEvent.{any-ask}
 use Rattle.spec_protocol.proofs.Invariants.Granting.{Grants, granted-preserved}
-use Rattle.spec_protocol.specs.Currency.{IsCurrent, AllLack}
+use Rattle.spec_protocol.specs.Currency.{seen_by, Meets, IsCurrent, AllLack}
 use Rattle.spec_protocol.specs.Invariants.{current, IsGoodHeld, IsGood}
 
 -- ---- what is shown of the sphere that asks
@@ -126,7 +126,7 @@ chunk_fits w c h how held live closed going turn chunk =
       ran = ap (λ (r : Run). r.n) live.runs;
       full = λ e. closes.full (closed ∙ ap Some e);
       early = λ ne. closes.early how closed ne;
-      serial = λ e. subst (λ (r : Run). IsSome (next_kind r.thread (lays m r.words))) (sym live.runs) (live.next_serial (closed ∙ ap Some e));
+      serial = λ e. subst (λ (r : Run). IsSome (next_kind r.thread (lays m r.words))) (sym live.runs) (subst (Meets (seen_by h.chunk) m h.chunk.done) (closed ∙ ap Some e) live.next).serial;
       some = λ e none. pieces_before h.chunk p.role chunk (closed ∙ ap Some e) none;
       cut = λ e. closes.cut (closed ∙ ap Some e);
       room = λ e. (let a = closes.room (closed ∙ ap Some e) in let b = closes.few in omega arith);
@@ -203,7 +203,7 @@ serial_whole w h within start none memory =
 serial_next : (m : List ℕ) (ch : Chunk) → IsCurrent m ch → ch.closed ≡ Some How.Serial → ch.done.n ≡ 0 → IsSome (next_kind ch.start m)
 serial_next m ch live closed none =
     let e : run_start ch.start ≡ ch.done = subst (λ (n : ℕ). run m ch.start n ≡ ch.done) none live.runs in
-    subst (λ (r : Run). IsSome (next_kind r.thread (lays m r.words))) (sym e) (live.next_serial closed)
+    subst (λ (r : Run). IsSome (next_kind r.thread (lays m r.words))) (sym e) (subst (Meets (seen_by ch) m ch.done) closed live.next).serial
 
 serial_closed : (o : Option How) → is_serial o ≡ true → o ≡ Some How.Serial
 serial_closed None e = absurd (true≢false (sym e))
