@@ -10,7 +10,7 @@ ghost use Rattle.spec_play.specs.Turns.{Turn, TurnOfDma};
 ghost use Rattle.spec_play.specs.Verdicts.{chunk_verdict, serial_verdict};
 ghost use Rattle.spec_play.specs.Transfers.{dma_verdict};
 ghost use Rattle.spec_protocol.specs.Spheres.{Replay, actor_of, limit_in, limit_of, pieces_of};
-ghost use Rattle.spec_protocol.proofs.Moves.Threads.{AreNew};
+ghost use Rattle.spec_protocol.specs.Standing.{AreNew};
 ghost use Rattle.dl_kernel.specs.Calls.{spawned_list};
 ghost use Rattle.dl_replay.specs.Seen.{used_seen};
 ghost use Rattle.dl_replay.specs.Replaying.{Agrees, IsTurnOf, replay_start, commits_of, cursor_of, end_of};
