@@ -4,7 +4,7 @@ ghost use Rattle.spec_log.specs.Log.{IsActor, IsInput, AreFewBytes, input_kinds}
 ghost use Rattle.dl_record.specs.Recording.{CanCommit};
 
 use dl_entry::{Actor, Bytes, Commit, CommitKind, Input, Loads, OutOfMemory, Outputs};
-use dl_logbytes::write_log;
+use dl_logfmt::write_log;
 use dl_mode::{Mode, OrderAndSize, OrderOnly, PicoLog};
 use dl_record::Recorder;
 use spec_log::ModeName;

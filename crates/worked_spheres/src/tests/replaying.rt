@@ -5,7 +5,7 @@ ghost use Rattle.dl_replay.specs.Judged.{IsAmong};
 ghost use Rattle.dl_replay.specs.Replaying.{IsTurnOf, commits_of};
 
 use dl_entry::{Actor, End, OutOfMemory, Why};
-use dl_logbytes::read_log;
+use dl_logfmt::read_log;
 use dl_mem::Memory;
 use dl_mode::{Mode, OrderAndSize, OrderOnly, PicoLog};
 use dl_replay::{Asking, Replayer, Served};
