@@ -5,7 +5,7 @@ ghost use Rattle.spec_log.specs.declared.sizes.Sizes.TheVariants.{Short};
 ghost use Rattle.dl_mode.specs.Lists.{AreLists};
 
 use dl_entry::{Actor, Commit, CommitKind, Loads, OutOfMemory, Outputs, Sequence};
-use dl_mode::{Lists, Mode, OrderAndSize, OrderOnly, PicoLog};
+use dl_mode::{Lists, Mode, Noting, OrderAndSize, OrderOnly, PicoLog};
 use spec_log::{ModeName, Order, ShortSize, Sizes};
 use std::alloc::Global;
 use std::process::Abort;
