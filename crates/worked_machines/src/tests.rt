@@ -6,7 +6,7 @@ ghost use Rattle.dl_machine.specs.Setups.{IsWithin};
 use dl_elf::load;
 use dl_entry::{Actor, Bytes, Commit, End, Load, OutOfMemory, Sequence};
 use dl_finish::{finish, next_event};
-use dl_logbytes::{read_log, write_log};
+use dl_logfmt::{read_log, write_log};
 use dl_machine::{Machine, Setup};
 use dl_sig::Banked;
 use dl_sphere::{Role, Sphere, SphereSetup};

@@ -9,7 +9,7 @@ use dl_chunk::Chunk;
 use dl_dev::Devices;
 use dl_entry::{Actor, CommitKind, End, Request};
 use dl_fly::Flights;
-use dl_logbytes::write_log;
+use dl_logfmt::write_log;
 use dl_replay::thread_at;
 use dl_sig::{PlainSet, Sig};
 use dl_sphere::{Moved, Sphere};
