@@ -3,7 +3,7 @@ use Rattle.std.specs.Prelude.{◌≡◌, ℕ, ◌+◌, ◌<◌, true, List, ◌+
 use Rattle.spec_log.specs.declared.LogParts.{LogParts}
 use Rattle.spec_protocol.specs.declared.event.Event.{Event}
 use Rattle.spec_protocol.specs.World.{World}
-use Rattle.spec_protocol.specs.Machine.{IsReplayed, SphereSetup, Setup}
+use Rattle.spec_protocol.specs.Machine.{ReplaySetup, IsReplayed, SphereSetup, Setup}
 use Rattle.spec_finishing.specs.Ending.{Ends}
 use Rattle.spec_finishing.specs.Finished.{HasPlayed}
 use Rattle.spec_finishing.specs.Function.{finishing_of, finished}
@@ -22,10 +22,10 @@ pub record HasEnded (s : Setup) (es : List Event) (w : World) : Type 0 where
   pub run : IsRun s (es ++ finishing_of s es) w
   pub ends : Ends s es (finishing_of s es)
   pub events : w.counts.events ≡ length es + length (finishing_of s es)
-  pub played : (i : ℕ) (image : SphereSetup) (log : LogParts)
+  pub played : (i : ℕ) (image : SphereSetup) (asked : ReplaySetup)
       → slice_get s.spheres i ≡ Some image
-      → image.role ≡ IsReplayed log
-      → HasPlayed image log s (es ++ finishing_of s es) i
+      → image.role ≡ IsReplayed asked
+      → HasPlayed image asked.log s (es ++ finishing_of s es) i
 
 -- the first ones of them have, and not all: the next one takes memory
 pub record HasBegun (s : Setup) (es : List Event) (w : World) : Type 0 where

@@ -34,7 +34,7 @@ has_room (Part.Replayed r) = true
 
 abbrev pub role_of : Keeping → protocol.Role
 role_of Plain = protocol.Plain
-role_of (Recording r) = protocol.Record (as_log r)
+role_of (Recording r) = protocol.Record (record { log = as_log r })
 role_of (Replaying r loads) = protocol.Replay (cursor_of r loads)
 
 abbrev pub role_in : Part → protocol.Role

@@ -54,7 +54,7 @@ replay code log =
       numbers = record { s = 100; capacity = 1; bits = 64 };
       seed = 0;
       input = [];
-      spheres = record { memory = image 512 code; entry = 0; role = IsReplayed log } ∷ [];
+      spheres = record { memory = image 512 code; entry = 0; role = IsReplayed (record { log = log }) } ∷ [];
     }
 
 -- in order-only, without sizes, of thread 0

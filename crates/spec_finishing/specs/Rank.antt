@@ -45,7 +45,7 @@ price cores work = (cores + 6) * work
 
 abbrev pub role_rank : (cores : ℕ) → SphereSetup → Sphere → Role → ℕ
 role_rank cores image p Plain = 0
-role_rank cores image p (Record log) = 0
+role_rank cores image p (Record recording) = 0
 role_rank cores image p (Replay b) = price cores (replay_left image b (position p.progress))
 
 -- of the spheres that began as these images

@@ -12,7 +12,7 @@ use Rattle.spec_play.specs.Progress.{no_progress, nothing_used}
 use Rattle.spec_play.specs.Recording.{new_log}
 use Rattle.spec_protocol.specs.declared.event.Event.{Event}
 use Rattle.spec_protocol.specs.declared.reply.Reply.{Reply}
-use Rattle.spec_protocol.specs.Spheres.{Role, Plain, Record, Replay, Sphere}
+use Rattle.spec_protocol.specs.Spheres.{Recording, Role, Plain, Record, Replay, Sphere}
 use Rattle.spec_protocol.specs.Commits.{turned}
 use Rattle.spec_protocol.specs.World.{Numbers, Occupant, World, held_afresh, After, Move}
 use Rattle.spec_protocol.specs.Stepping.{stepping, cutting}
@@ -23,11 +23,23 @@ use Rattle.spec_protocol.specs.Transferring.{transferring}
 
 -- ---- the start
 
--- what a plan says of a sphere: it is plain, or recorded in a mode, or its log is replayed
+-- how a sphere is recorded
+pub record RecordSetup : Type 0 where
+  pub mode : ModeName
+
+-- what is replayed
+pub record ReplaySetup : Type 0 where
+  pub log : LogParts
+
+-- what a plan says of a sphere: it is plain, or recorded, or replayed
 pub data RoleSetup : Type 0 where
   IsPlain : RoleSetup
-  IsRecorded : (mode : ModeName) → RoleSetup
-  IsReplayed : (log : LogParts) → RoleSetup
+  IsRecorded : (asked : RecordSetup) → RoleSetup
+  IsReplayed : (asked : ReplaySetup) → RoleSetup
+
+-- what a recorded sphere begins with
+abbrev pub new_recording : RecordSetup → (s : ℕ) → Recording
+new_recording asked s = record { log = new_log asked.mode s }
 
 -- of its image the bytes of memory, and where thread 0 starts
 pub record SphereSetup : Type 0 where
@@ -45,8 +57,8 @@ pub record Setup : Type 0 where
 
 abbrev pub role_of : (s : ℕ) → List Parts → RoleSetup → Role
 role_of s threads IsPlain = Plain
-role_of s threads (IsRecorded mode) = Record (new_log mode s)
-role_of s threads (IsReplayed log) = Replay (turned log no_progress nothing_used threads)
+role_of s threads (IsRecorded asked) = Record (new_recording asked s)
+role_of s threads (IsReplayed asked) = Replay (turned asked.log no_progress nothing_used threads)
 
 -- thread 0 alone, at the entry
 abbrev pub sphere_of : (s : ℕ) → SphereSetup → Sphere

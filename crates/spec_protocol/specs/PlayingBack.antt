@@ -1,11 +1,10 @@
 -- What is promised of recorded logs: that they play back what was recorded.
 use Rattle.std.specs.Prelude.{◌≡◌, ℕ, List, slice_get, Some}
-use Rattle.spec_log.specs.declared.ModeName.{ModeName}
 use Rattle.spec_log.specs.declared.LogParts.{LogParts}
 use Rattle.spec_play.specs.Plays.{play, FitsImage}
 use Rattle.spec_protocol.specs.declared.event.Event.{Event}
-use Rattle.spec_protocol.specs.Spheres.{Record, Sphere}
-use Rattle.spec_protocol.specs.Machine.{SphereSetup, Setup}
+use Rattle.spec_protocol.specs.Spheres.{Recording, Record, Sphere}
+use Rattle.spec_protocol.specs.Machine.{RecordSetup, SphereSetup, Setup}
 use Rattle.spec_protocol.specs.Shown.{shown_of}
 use Rattle.spec_protocol.specs.Promises.{WillRecord, after}
 
@@ -19,9 +18,9 @@ pub record PlaysBack (log : LogParts) (image : SphereSetup) (p : Sphere) : Type 
 -- the sphere is p now, with its current memory and its log so far
 abbrev pub LogsPlayBack : Type 0
 LogsPlayBack =
-    (s : Setup) (es : List Event) (i : ℕ) (image : SphereSetup) (mode : ModeName)
-    → WillRecord s i image mode
-    → (p : Sphere) (log : LogParts)
+    (s : Setup) (es : List Event) (i : ℕ) (image : SphereSetup) (asked : RecordSetup)
+    → WillRecord s i image asked
+    → (p : Sphere) (recording : Recording)
     → slice_get (shown_of (after s es)).spheres i ≡ Some p
-    → p.role ≡ Record log
-    → PlaysBack log image p
+    → p.role ≡ Record recording
+    → PlaysBack recording.log image p

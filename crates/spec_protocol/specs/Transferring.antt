@@ -59,7 +59,7 @@ not_of_dma (Some (Actor.Thread k)) = Some (Actor.Thread k)
 
 abbrev pub turn_before_dma : Role → Option Actor
 turn_before_dma Plain = None
-turn_before_dma (Record log) = None
+turn_before_dma (Record recording) = None
 turn_before_dma (Replay b) = not_of_dma (actor_of b.now)
 
 -- the outstanding request of sphere i is done

@@ -59,7 +59,7 @@ replay log =
       numbers = record { s = 100; capacity = 16; bits = 64 };
       seed = 0;
       input = [];
-      spheres = record { memory = code; entry = 0; role = IsReplayed log } ∷ [];
+      spheres = record { memory = code; entry = 0; role = IsReplayed (record { log = log }) } ∷ [];
     })
 
 abbrev replies : World → List Event → List Reply
@@ -68,7 +68,7 @@ replies w (e ∷ es) = let a = happens w e in a.reply ∷ replies a.world es
 
 abbrev now_in : Role → Option Now
 now_in Plain = None
-now_in (Record log) = None
+now_in (Record recording) = None
 now_in (Replay b) = Some b.now
 
 -- whose turn it is then, or how the replay has ended

@@ -46,8 +46,8 @@ has_diverged (End.Diverged index why) = true
 -- whether the play of what is replayed on the image diverges
 abbrev pub diverges_as : SphereSetup → RoleSetup → Bool
 diverges_as image IsPlain = false
-diverges_as image (IsRecorded mode) = false
-diverges_as image (IsReplayed log) = has_diverged (end_of (played log image).now)
+diverges_as image (IsRecorded asked) = false
+diverges_as image (IsReplayed asked) = has_diverged (end_of (played asked.log image).now)
 
 -- whether that of any sphere does
 abbrev pub diverges : List SphereSetup → Bool

@@ -30,7 +30,7 @@ use Rattle.dl_machine.proofs.Commits.Granted.{chunk_of}
 
 few_in : (role : Role) (s n : ℕ) (ts : List Parts) → IsSoundRole s n ts role → is_stopped role ≡ false → (replays role ≡ false → n < 2 ^ 24) → n < 2 ^ 24
 few_in Plain s n ts sound going few = few refl
-few_in (Record log) s n ts sound going few = few refl
+few_in (Record recording) s n ts sound going few = few refl
 few_in (Replay b) s n ts sound going few = let l = sound.going going in let m = sound.log.count in omega arith
 
 -- a sphere that goes on has fewer commits than a log may have
@@ -52,7 +52,7 @@ turn_now (Ended how) k going free = cc
 
 turn_in : (role : Role) (p : Sphere) (k : ℕ) → is_stopped role ≡ false → other_turn (head_in role p) k ≡ None → IsTurnOf k role
 turn_in Plain p k going free = tt
-turn_in (Record log) p k going free = tt
+turn_in (Record recording) p k going free = tt
 turn_in (Replay b) p k going free = turn_now b.now k going free
 
 -- in a replay that goes on it is the turn of a thread where it is nobody else's
@@ -68,7 +68,7 @@ dma_now (Ended how) going free = cc
 -- in a replay that goes on it is the turn of a DMA where it is nobody else's
 pub turn_of_dma : (role : Role) → is_stopped role ≡ false → turn_before_dma role ≡ None → IsTurnOfDma role
 turn_of_dma Plain going free = tt
-turn_of_dma (Record log) going free = tt
+turn_of_dma (Record recording) going free = tt
 turn_of_dma (Replay b) going free = dma_now b.now going free
 
 -- ---- chunks
@@ -76,7 +76,7 @@ turn_of_dma (Replay b) going free = dma_now b.now going free
 standard_limit : (role : Role) (s k : ℕ) (t : Parts) → replays role ≡ false → limit_of s role k t ≡ s
 unfolding limit_of
 standard_limit Plain s k t e = refl
-standard_limit (Record log) s k t e = refl
+standard_limit (Record recording) s k t e = refl
 standard_limit (Replay b) s k t e = cc
 
 short_some : (s capacity : ℕ) (how : How) (ch : Chunk) → Closes capacity ch → 0 < capacity → ch.closed ≡ Some how → is_short s how ch.limit ≡ true → 1 ≤ ch.done.n
@@ -117,7 +117,7 @@ some_in_all b capacity How.Cut ch closes some is whole = let c = closes.cut is i
 part_in : (role : Role) (z s n capacity : ℕ) (ts : List Parts) (k : ℕ) (how : How) (ch : Chunk) → IsSoundRole z n ts role → IsTurnOf k role → slice_get ts k ≡ Some ch.start → ch.done.thread.commits ≡ ch.start.commits
     → LimitFits s role k ch.start ch.limit → Closes capacity ch → 0 < capacity → ch.closed ≡ Some how → asks_serial ch role ≡ false → IsPartIn role k how ch
 part_in Plain z s n capacity ts k how ch sound turn there commits fits closes some closed whole = tt
-part_in (Record log) z s n capacity ts k how ch sound turn there commits fits closes some closed whole = tt
+part_in (Record recording) z s n capacity ts k how ch sound turn there commits fits closes some closed whole = tt
 part_in (Replay b) z s n capacity ts k how ch sound turn there commits fits closes some closed whole =
     let now = sound.turn k turn in
     let same : now.thread ≡ ch.start = same_Some _ _ (sym now.there ∙ there) in

@@ -5,7 +5,7 @@ use Rattle.spec_log.specs.declared.LogParts.{LogParts}
 use Rattle.spec_log.specs.Log.{IsLog}
 use Rattle.spec_protocol.specs.declared.event.Event.{Event}
 use Rattle.spec_protocol.specs.World.{World}
-use Rattle.spec_protocol.specs.Machine.{RoleSetup, IsReplayed, Setup, SphereSetup, happens, world_after, world_of}
+use Rattle.spec_protocol.specs.Machine.{ReplaySetup, RoleSetup, IsReplayed, Setup, SphereSetup, happens, world_after, world_of}
 use Rattle.spec_protocol.specs.Promises.{after}
 use Rattle.spec_protocol.specs.Sound.{IsRole, IsWithinLimits}
 use Rattle.spec_protocol.proofs.Points.Serial.{commits_are}
@@ -41,19 +41,19 @@ serial_after s es limits =
 pub serial_run : (s : Setup) (es : List Event) (w : World) → IsRun s es w → IsSerial s w w.points
 serial_run s es w run = subst (λ (u : World). IsSerial s u u.points) (sym run.here) (serial_after s es run.limits)
 
-role_log : (role : RoleSetup) (log : LogParts) → role ≡ IsReplayed log → IsRole role → IsLog log
-role_log role log is of_role = subst IsRole is of_role
+role_log : (role : RoleSetup) (asked : ReplaySetup) → role ≡ IsReplayed asked → IsRole role → IsLog asked.log
+role_log role asked is of_role = subst IsRole is of_role
 
 promised_after : (s : Setup) (i : ℕ) (es : List Event) → IsWithinLimits s → IsPromised s i (after s es)
 promised_after s i es limits =
     let within = setup_within s limits in
-    let standard : (image : SphereSetup) (log : LogParts) → slice_get s.spheres i ≡ Some image → image.role ≡ IsReplayed log → 0 < log.s =
-    λ image log there role. (let l = (role_log image.role log role (limits.images i image there).role).s in omega arith)
+    let standard : (image : SphereSetup) (asked : ReplaySetup) → slice_get s.spheres i ≡ Some image → image.role ≡ IsReplayed asked → 0 < asked.log.s =
+    λ image asked.log there role. (let l = (role_log image.role asked role (limits.images i image there).role).s in omega arith)
     in
     record {
-      recorded = λ image mode p log now was is. logs_play_back s es i image mode (record { setup = within; there = now.there; role = was }) p log now.shown is;
-      replayed = λ image log p now was. replays_follow image log s es i p (record { setup = within; there = now.there; replays = was; standard = standard image log now.there was; shown = now.shown });
-      stopped = λ image log p b now was is over. stopped_played image log s es i p b (record { setup = within; there = now.there; replays = was; standard = standard image log now.there was; shown = now.shown }) is over;
+      recorded = λ image asked p recording now was is. logs_play_back s es i image asked (record { setup = within; there = now.there; role = was }) p recording now.shown is;
+      replayed = λ image asked p now was. replays_follow image asked s es i p (record { setup = within; there = now.there; replays = was; standard = standard image asked now.there was; shown = now.shown });
+      stopped = λ image asked p b now was is over. stopped_played image asked s es i p b (record { setup = within; there = now.there; replays = was; standard = standard image asked now.there was; shown = now.shown }) is over;
     }
 
 -- what the protocol promises of a sphere holds after every run

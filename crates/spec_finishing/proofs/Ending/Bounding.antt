@@ -29,13 +29,13 @@ free_none c (suc n) = let r = free_none c n in omega (arith, r)
 
 start_role : (c s : ℕ) (image : SphereSetup) (r : RoleSetup) → role_rank c image (sphere_of s image) (role_of s (started image.entry ∷ []) r) ≤ price c (setup_work image r)
 start_role c s image IsPlain = omega arith
-start_role c s image (IsRecorded mode) = omega arith
-start_role c s image (IsReplayed log) =
-    let x = opened log image.memory image.entry in
-    let l = left-most image (turned log no_progress nothing_used (started image.entry ∷ [])) 0 in
-    let none : log.count - 0 ≡ log.count = omega arith in
-    let e : play_left log x 0 0 ≡ commits_work log x 0 log.count - 0 = ap (λ (n : ℕ). commits_work log x 0 n - 0) none in
-    price-least c (replay_left image (turned log no_progress nothing_used (started image.entry ∷ [])) 0) (commits_work log x 0 log.count) (omega (arith, l, e))
+start_role c s image (IsRecorded asked) = omega arith
+start_role c s image (IsReplayed asked) =
+    let x = opened asked.log image.memory image.entry in
+    let l = left-most image (turned asked.log no_progress nothing_used (started image.entry ∷ [])) 0 in
+    let none : asked.log.count - 0 ≡ asked.log.count = omega arith in
+    let e : play_left asked.log x 0 0 ≡ commits_work asked.log x 0 asked.log.count - 0 = ap (λ (n : ℕ). commits_work asked.log x 0 n - 0) none in
+    price-least c (replay_left image (turned asked.log no_progress nothing_used (started image.entry ∷ [])) 0) (commits_work asked.log x 0 asked.log.count) (omega (arith, l, e))
 
 start_spheres : (c s : ℕ) (images : List SphereSetup) → spheres_rank c images (map (sphere_of s) images) ≤ price c (plays_work images)
 start_spheres c s [] = let e = price-none c in omega (arith, e)

@@ -89,7 +89,7 @@ recording_over ModeName.OrderOnly p m = refl
 
 head_in_over : (role : Role) (p : Sphere) (m : List ℕ) → head_in role (over m p) ≡ head_in role p
 head_in_over Plain p m = refl
-head_in_over (Record log) p m = recording_over log.mode p m
+head_in_over (Record recording) p m = recording_over recording.log.mode p m
 head_in_over (Replay b) p m = refl
 
 head_over : (p : Sphere) (m : List ℕ) → head_of (over m p) ≡ head_of p

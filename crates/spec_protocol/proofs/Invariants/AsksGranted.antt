@@ -81,7 +81,7 @@ arbiter_reply w c h how false m live =
 
 live_going : (role : Role) → replays role ≡ false → is_stopped role ≡ false
 live_going Plain e = refl
-live_going (Record log) e = refl
+live_going (Record recording) e = refl
 live_going (Replay b) e = absurd (true≢false e)
 
 recorded_turn : (mode : ModeName) (p : Sphere) (k : ℕ) (actor : Actor) → other_turn (recording_turn mode p) k ≡ Some actor → mode ≡ ModeName.Picolog
@@ -91,7 +91,7 @@ recorded_turn ModeName.OrderOnly p k actor e = absurd (none-some actor e)
 
 in_turns : (role : Role) (p : Sphere) (k : ℕ) (actor : Actor) → replays role ≡ false → other_turn (head_in role p) k ≡ Some actor → IsInTurns role
 in_turns Plain p k actor live e = none-some actor e
-in_turns (Record log) p k actor live e = recorded_turn log.mode p k actor e
+in_turns (Record recording) p k actor live e = recorded_turn recording.log.mode p k actor e
 in_turns (Replay b) p k actor live e = absurd (true≢false live)
 
 turn_reply : (w : World) (h : Occupant) (a : After) (o : Option Actor) → ((actor : Actor) → o ≡ Some actor → IsInTurns (sphere_at w h.chunk.sphere).role) → IsGrantedOr w h a → IsGrantedOr w h (unless_turn o w a)

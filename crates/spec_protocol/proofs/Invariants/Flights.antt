@@ -332,7 +332,7 @@ squash_good capacity xs c m ch bits positive size =
 
 not_both : (role : Role) → replays role ≡ true → halves role ≡ false
 not_both Plain r = refl
-not_both (Record log) r = absurd (true≢false (sym r))
+not_both (Record recording) r = absurd (true≢false (sym r))
 not_both (Replay b) r = refl
 
 -- of a sphere that is not recorded no squash changes the limit

@@ -34,7 +34,7 @@ use Rattle.spec_protocol.specs.Invariants.{IsFlightCovered, IsGoodChunk, current
 pub limit-positive : (s : ℕ) (role : Role) (k : ℕ) (t : Parts) → 0 < s → 0 < limit_of s role k t
 unfolding limit_of
 limit-positive s Plain k t positive = positive
-limit-positive s (Record log) k t positive = positive
+limit-positive s (Record recording) k t positive = positive
 limit-positive s (Replay b) k t positive = omega arith
 
 -- a chunk that begins is good

@@ -65,7 +65,7 @@ place-preserved w c i k good =
 raised_role : (k n value : ℕ) (role : Role) → (halves (role_raised k n value role) ≡ halves role) × (replays (role_raised k n value role) ≡ replays role) × ((s j : ℕ) (u : Parts) → limit_of s (role_raised k n value role) j u ≡ limit_of s role j u) × (is_stopped (role_raised k n value role) ≡ is_stopped role)
 unfolding limit_of
 raised_role k n value Plain = (refl, refl, λ s j u. refl, refl)
-raised_role k n value (Record log) = (refl, refl, λ s j u. refl, refl)
+raised_role k n value (Record recording) = (refl, refl, λ s j u. refl, refl)
 raised_role k n value (Replay b) = (refl, refl, λ s j u. refl, refl)
 
 raised_here : (w : World) (k value : ℕ) (t : Parts) (d : ℕ) (x : Occupant) → x.chunk.sphere < length w.spheres → x.thread ≢ k → IsGoodHeld w d x → IsGoodHeld (with_sphere w x.chunk.sphere (raised k value t (sphere_at w x.chunk.sphere))) d x

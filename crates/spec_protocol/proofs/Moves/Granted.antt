@@ -206,7 +206,7 @@ chunk_in_moves : (k : ℕ) (role : Role) (piece short : Bool) (r : Run) (devices
 unfolding limit_of
 chunk_in_moves k Plain piece short r devices p is turn apart =
     granted_moves k Plain (chunk_effect k p.progress.request r) devices devices p (ap halves (sym is)) (ap replays (sym is)) (λ s j t. ap (λ (q : Role). limit_in q s j t.commits) (sym is)) apart
-chunk_in_moves k (Record log) piece short r devices p is turn apart =
+chunk_in_moves k (Record recording) piece short r devices p is turn apart =
     granted_moves k (Record _) (chunk_effect k p.progress.request r) devices devices p (ap halves (sym is)) (ap replays (sym is)) (λ s j t. ap (λ (q : Role). limit_in q s j t.commits) (sym is)) apart
 chunk_in_moves k (Replay b) piece short r devices p is turn apart =
     replayed_moves k b piece r devices p is (turn-is b.now k turn.going turn.turn) apart
@@ -229,7 +229,7 @@ replayed_stores P b k false r devices p none some =
 
 stores_in : (P : List Stored → Type 0) (role : Role) (k : ℕ) (piece short : Bool) (r : Run) (devices : Devices) (p : Sphere) → P [] → P r.words → P (chunk_in role k piece short r devices p).words
 stores_in P Plain k piece short r devices p none some = some
-stores_in P (Record log) k piece short r devices p none some = some
+stores_in P (Record recording) k piece short r devices p none some = some
 stores_in P (Replay b) k piece short r devices p none some = replayed_stores P b k piece r devices p none some
 
 -- a granted chunk stores the words of its run, or nothing
@@ -317,10 +317,10 @@ serial_in_moves k moment Plain t devices p is turn =
     let g = taken (need t p.memory) devices moment in
     let v = serve k p.threads p.progress.request t p.memory g.input in
     granted_moves k Plain (serial_effect k v) devices (console_written t p.memory v.outputs g.devices) p (ap halves (sym is)) (ap replays (sym is)) (λ s j u. ap (λ (q : Role). limit_in q s j u.commits) (sym is)) (serve-apart k p.threads p.progress.request t p.memory g.input)
-serial_in_moves k moment (Record log) t devices p is turn =
+serial_in_moves k moment (Record recording) t devices p is turn =
     let g = taken (need t p.memory) devices moment in
     let v = serve k p.threads p.progress.request t p.memory g.input in
-    granted_moves k (Record (serial_noted k t g log p)) (serial_effect k v) devices (console_written t p.memory v.outputs g.devices) p (ap halves (sym is)) (ap replays (sym is)) (λ s j u. ap (λ (q : Role). limit_in q s j u.commits) (sym is)) (serve-apart k p.threads p.progress.request t p.memory g.input)
+    granted_moves k (Record (record recording { log = serial_noted k t g recording.log p })) (serial_effect k v) devices (console_written t p.memory v.outputs g.devices) p (ap halves (sym is)) (ap replays (sym is)) (λ s j u. ap (λ (q : Role). limit_in q s j u.commits) (sym is)) (serve-apart k p.threads p.progress.request t p.memory g.input)
 serial_in_moves k moment (Replay b) t devices p is turn =
     verdict_moves k b (serial_verdict b.log p.progress b.used k p.threads t p.memory) devices p is (turn-is b.now k turn.going turn.turn)
     (λ e u h. serial_apart b.log p.progress b.used k p.threads t p.memory e u h)
@@ -334,7 +334,7 @@ serial-moves k moment t devices p turn = serial_in_moves k moment p.role t devic
 
 chunk_in_lives : (role : Role) (k : ℕ) (piece short : Bool) (r : Run) (devices : Devices) (p : Sphere) → replays role ≡ false → (chunk_in role k piece short r devices p).outcome ≡ Granted
 chunk_in_lives Plain k piece short r devices p live = refl
-chunk_in_lives (Record log) k piece short r devices p live = refl
+chunk_in_lives (Record recording) k piece short r devices p live = refl
 chunk_in_lives (Replay b) k piece short r devices p live = absurd (true≢false live)
 
 -- outside replays the answer to a granted chunk is Granted
@@ -344,7 +344,7 @@ chunk-lives k piece short r devices p live = chunk_in_lives p.role k piece short
 
 serial_in_lives : (role : Role) (k moment : ℕ) (t : Parts) (devices : Devices) (p : Sphere) → replays role ≡ false → (serial_in role k moment t devices p).outcome ≡ Granted
 serial_in_lives Plain k moment t devices p live = refl
-serial_in_lives (Record log) k moment t devices p live = refl
+serial_in_lives (Record recording) k moment t devices p live = refl
 serial_in_lives (Replay b) k moment t devices p live = absurd (true≢false live)
 
 -- outside replays the answer to a granted serial step is Granted

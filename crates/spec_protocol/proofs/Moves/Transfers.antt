@@ -107,8 +107,8 @@ in_moves : (role : Role) (devices : Devices) (p : Sphere) (v : MovedSphere) → 
 unfolding limit_of
 in_moves Plain devices p v is going turn e =
     live_moves Plain devices p p.progress.request v (ap halves (sym is)) (ap replays (sym is)) (λ s j t. ap (λ (q : Role). limit_in q s j t.commits) (sym is)) e
-in_moves (Record log) devices p v is going turn e =
-    live_moves (Record (dma_log log devices p p.progress.request)) devices p p.progress.request v (ap halves (sym is)) (ap replays (sym is)) (λ s j t. ap (λ (q : Role). limit_in q s j t.commits) (sym is)) e
+in_moves (Record recording) devices p v is going turn e =
+    live_moves (Record (record recording { log = dma_log recording.log devices p p.progress.request })) devices p p.progress.request v (ap halves (sym is)) (ap replays (sym is)) (λ s j t. ap (λ (q : Role). limit_in q s j t.commits) (sym is)) e
 in_moves (Replay b) devices p v is going turn e =
     subst (DmaMoves devices p) (let h : dma_by_verdict b (dma_verdict b.log p.progress b.used) devices p ≡ v = cc in h)
     (verdict_moves b (dma_verdict b.log p.progress b.used) devices p is (dma-turn_is b.now going turn) (λ ws h. verdict_apart b.log p.progress b.used ws h))
@@ -125,7 +125,7 @@ live_grants role devices p (Some request) v e =
 
 in_lives : (role : Role) (devices : Devices) (p : Sphere) (v : MovedSphere) → replays role ≡ false → dma_in role devices p ≡ Some v → v.outcome ≡ Granted
 in_lives Plain devices p v live e = live_grants Plain devices p p.progress.request v e
-in_lives (Record log) devices p v live e = live_grants (Record (dma_log log devices p p.progress.request)) devices p p.progress.request v e
+in_lives (Record recording) devices p v live e = live_grants (Record (record recording { log = dma_log recording.log devices p p.progress.request })) devices p p.progress.request v e
 in_lives (Replay b) devices p v live e = absurd (true≢false live)
 
 -- outside replays the answer to a DMA that is done is Granted

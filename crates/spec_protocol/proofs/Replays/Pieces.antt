@@ -35,7 +35,7 @@ use Rattle.spec_protocol.proofs.Invariants.Schedules.{happens-preserved, moves_a
 -- a sphere in pieces that hasn't stopped has a thread whose turn it is
 abbrev InTurn : Role → Type 0
 InTurn Plain = Unit {0}
-InTurn (Record log) = Unit {0}
+InTurn (Record recording) = Unit {0}
 InTurn (Replay b) = is_over b.now ≡ false → 0 < b.total → (k : ℕ) × (b.now ≡ Turn k)
 
 abbrev AllInTurn : SerialState → Type 0
@@ -53,7 +53,7 @@ replayed_turn false b k r devices p turn = verdict_turn b k (chunk_verdict b.log
 
 chunk_in_turn : (role : Role) (k : ℕ) (piece short : Bool) (r : Run) (devices : Devices) (p : Sphere) → is_stopped role ≡ false → other_turn (head_in role p) k ≡ None → InTurn (chunk_in role k piece short r devices p).sphere.role
 chunk_in_turn Plain k piece short r devices p going free = tt
-chunk_in_turn (Record log) k piece short r devices p going free = tt
+chunk_in_turn (Record recording) k piece short r devices p going free = tt
 chunk_in_turn (Replay b) k piece short r devices p going free = replayed_turn piece b k r devices p (turn-is b.now k going free)
 
 chunk_turn : (z : Numbers) (k : ℕ) (how : How) (n limit : ℕ) (t : Parts) (devices : Devices) (p : Sphere) → is_stopped p.role ≡ false → other_turn (head_of p) k ≡ None → InTurn (laid (chunk_moved k (is_piece how) (is_short z.s how limit) (run p.memory t n) devices p)).role
@@ -62,7 +62,7 @@ chunk_turn z k how n limit t devices p going free = chunk_in_turn p.role k (is_p
 
 serial_in_turn : (role : Role) (k moment : ℕ) (t : Parts) (devices : Devices) (p : Sphere) → InTurn (serial_in role k moment t devices p).sphere.role
 serial_in_turn Plain k moment t devices p = tt
-serial_in_turn (Record log) k moment t devices p = tt
+serial_in_turn (Record recording) k moment t devices p = tt
 serial_in_turn (Replay b) k moment t devices p = verdict_turn b k (serial_verdict b.log p.progress b.used k p.threads t p.memory) devices p
 
 serial_turn : (k moment : ℕ) (t : Parts) (devices : Devices) (p : Sphere) → InTurn (laid (serial_moved k moment t devices p)).role
@@ -83,7 +83,7 @@ dma_verdict_turn b (DmaFails why) devices p = λ going some. absurd (true≢fals
 
 dma_in_turn : (role : Role) (devices : Devices) (p : Sphere) → MovedInTurn (dma_in role devices p)
 dma_in_turn Plain devices p = live_turn Plain devices p p.progress.request tt
-dma_in_turn (Record log) devices p = live_turn (Record (dma_log log devices p p.progress.request)) devices p p.progress.request tt
+dma_in_turn (Record recording) devices p = live_turn (Record (record recording { log = dma_log recording.log devices p p.progress.request })) devices p p.progress.request tt
 dma_in_turn (Replay b) devices p = dma_verdict_turn b (dma_verdict b.log p.progress b.used) devices p
 
 dma_turn : (devices : Devices) (p : Sphere) → MovedInTurn (dma_moved devices p)
@@ -92,7 +92,7 @@ dma_turn devices p = dma_in_turn p.role devices p
 
 raise_turn : (k n value : ℕ) (role : Role) → InTurn role → InTurn (role_raised k n value role)
 raise_turn k n value Plain turn = tt
-raise_turn k n value (Record log) turn = tt
+raise_turn k n value (Record recording) turn = tt
 raise_turn k n value (Replay b) turn = turn
 
 -- ---- all moves
@@ -147,8 +147,8 @@ moves_keep_turn z x (m ∷ ms) all fits = moves_keep_turn z (do_move z x m) ms (
 
 start_role : (z : ℕ) (threads : List Parts) (setup : RoleSetup) → InTurn (role_of z threads setup)
 start_role z threads IsPlain = tt
-start_role z threads (IsRecorded mode) = tt
-start_role z threads (IsReplayed log) = λ going some. absurd (omega arith)
+start_role z threads (IsRecorded asked) = tt
+start_role z threads (IsReplayed asked) = λ going some. absurd (omega arith)
 
 start_turn : (z : ℕ) (ds : List SphereSetup) (i : ℕ) (p : Sphere) → slice_get (map (sphere_of z) ds) i ≡ Some p → InTurn p.role
 start_turn z [] i p e = absurd (none-some p e)
@@ -186,7 +186,7 @@ only_chunks z devices p b k (OfRaise j value) role turn some fits = no_raise p b
 -- nothing where it has stopped
 stopped_replays : (role : Role) → is_stopped role ≡ true → replays role ≡ true
 stopped_replays Plain stopped = absurd (true≢false (sym stopped))
-stopped_replays (Record log) stopped = absurd (true≢false (sym stopped))
+stopped_replays (Record recording) stopped = absurd (true≢false (sym stopped))
 stopped_replays (Replay b) stopped = refl
 
 no_chunk_there : (z : Numbers) (p : Sphere) (k : ℕ) (how : How) (n limit : ℕ) (o : Option Parts) → is_stopped p.role ≡ true → FitsChunk z p k how n limit o → ⊥

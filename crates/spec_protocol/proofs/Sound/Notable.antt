@@ -20,13 +20,13 @@ use Rattle.spec_protocol.proofs.Sound.Devices.{taken-sound, dma-bytes}
 
 live-going : (role : Role) → replays role ≡ false → is_stopped role ≡ false
 live-going Plain e = refl
-live-going (Record log) e = refl
+live-going (Record recording) e = refl
 live-going (Replay b) e = absurd (true≢false e)
 
 live-limit : (s k : ℕ) (t : Parts) (role : Role) → replays role ≡ false → limit_of s role k t ≡ s
 unfolding limit_of
 live-limit s k t Plain e = refl
-live-limit s k t (Record log) e = refl
+live-limit s k t (Record recording) e = refl
 live-limit s k t (Replay b) e = absurd (true≢false e)
 
 short-over : (capacity s : ℕ) (h : Occupant) (how : How) → h.chunk.closed ≡ Some how → 0 < capacity → Closes capacity h.chunk → is_short s how h.chunk.limit ≡ true → 1 ≤ h.chunk.done.n

@@ -263,10 +263,10 @@ first-thread entry (suc k) t aligned e = absurd (none-some t e)
 
 first-role : (s entry : ℕ) (r : RoleSetup) → IsRole r → let threads = started entry ∷ [] in IsSoundRole s 0 threads (role_of s threads r)
 first-role s entry IsPlain is = tt
-first-role s entry (IsRecorded mode) is = record { size = refl; count = refl; interrupts = fresh-none (started entry ∷ []) }
-first-role s entry (IsReplayed log) is =
-    turned-sound log no_progress nothing_used (started entry ∷ []) is (omega arith) (done-none log.mode log.order (started entry) refl) (omega arith) (omega arith)
-    (sym (none-due_first (started entry) log.interrupts refl))
+first-role s entry (IsRecorded asked) is = record { size = refl; count = refl; interrupts = fresh-none (started entry ∷ []) }
+first-role s entry (IsReplayed asked) is =
+    turned-sound asked.log no_progress nothing_used (started entry ∷ []) is (omega arith) (done-none asked.log.mode asked.log.order (started entry) refl) (omega arith) (omega arith)
+    (sym (none-due_first (started entry) asked.log.interrupts refl))
 
 first-sphere : (s : ℕ) (image : SphereSetup) → IsImage image → IsSoundSphere s image 0 (sphere_of s image)
 first-sphere s image is =

@@ -71,8 +71,9 @@ two_agree log start p q b c k l =
 
 -- two replays of one log on one image agree
 pub replays_alike : ReplaysAgree
-replays_alike image log s z es fs i j p q b c x w role other =
+replays_alike image asked s z es fs i j p q b c x w role other =
+    let log = asked.log in
     let start : Played = opened log image.memory image.entry in
     two_agree log start p q b c
-    (is_at log (plays log start (position p.progress)) p b role (replays_follow image log s es i p x))
-    (is_at log (plays log start (position q.progress)) q c other (replays_follow image log z fs j q w))
+    (is_at log (plays log start (position p.progress)) p b role (replays_follow image asked s es i p x))
+    (is_at log (plays log start (position q.progress)) q c other (replays_follow image asked z fs j q w))

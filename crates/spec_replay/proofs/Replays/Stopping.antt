@@ -90,11 +90,12 @@ whole_now log y p b how e s = subst (λ (now : Now). StandsAt log y now p b) e s
 
 -- a replay that has stopped has done its log's whole play
 pub stopped_played : StoppedArePlayed
-stopped_played image log s es i p b x role stopped =
+stopped_played image asked s es i p b x role stopped =
+    let log = asked.log in
     let start : Played = opened log image.memory image.entry in
     let n : ℕ = position p.progress in
     let y : Played = plays log start n in
-    let k : Reached log start p b = is_at log y p b role (replays_follow image log s es i p x) in
+    let k : Reached log start p b = is_at log y p b role (replays_follow image asked s es i p x) in
     let l = last_of log start p b k stopped in
     let o = play-over log image.memory image.entry in
     let same : plays log start (suc n) ≡ play log image.memory image.entry = meet log start (suc n) log.count l.how o.0 l.now o.1 in
