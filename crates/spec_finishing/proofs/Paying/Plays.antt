@@ -90,12 +90,20 @@ left-most image b i = less_or_none (is_over b.now) (play_left b.log (first_playe
 
 -- the work of so many commits is that of the first ones and of those behind them
 work_split : (log : LogParts) (x : Played) (i m n : ℕ) → commits_work log x i (m + n) ≡ commits_work log x i m + commits_work log x (m + i) n
-work_split log x i zero n = refl
+work_split log x i zero n =
+    let few : 0 + n ≡ n = omega arith in
+    let here : 0 + i ≡ i = omega arith in
+    let a = ap (commits_work log x i) few in
+    let b = ap (λ (j : ℕ). commits_work log x j n) here in
+    let none : commits_work log x i 0 ≡ 0 = refl in
+    omega (arith, a, b, none)
 work_split log x i (suc m) n =
     let h = work_split log x (suc i) m n in
-    let e : m + suc i ≡ suc (m + i) = omega arith in
-    let k = ap (λ (j : ℕ). commits_work log x j n) e in
-    omega (arith, h, k)
+    let few : suc m + n ≡ suc (m + n) = omega arith in
+    let e : m + suc i ≡ suc m + i = omega arith in
+    let a = ap (commits_work log x i) few in
+    let b = ap (λ (j : ℕ). commits_work log x j n) e in
+    omega (arith, h, a, b)
 
 -- what a play has left is the work of the commits behind those that are done, but for the pieces that are
 left-behind : (log : LogParts) (x : Played) (i total : ℕ) → play_left log x i total ≡ commits_work log x i (log.count - i) - total
