@@ -76,7 +76,7 @@ goes-on image log p b f role going =
 -- ---- the thread whose turn it is
 
 -- thread k, which was t in the play, has run b.total instructions of its present commit
-pub record HasRun (image : SphereSetup) (p : Sphere) (b : Cursor) (k : ℕ) (t : Parts) : Type 0 where
+pub record HasPieces (image : SphereSetup) (p : Sphere) (b : Cursor) (k : ℕ) (t : Parts) : Type 0 where
   pub turn : (play_of image b p).now ≡ Turn k
   pub is : slice_get (play_of image b p).threads k ≡ Some t
   pub live : is_live t ≡ true
@@ -85,7 +85,7 @@ pub record HasRun (image : SphereSetup) (p : Sphere) (b : Cursor) (k : ℕ) (t :
   pub threads : p.threads ≡ set (play_of image b p).threads k (run (play_of image b p).memory t b.total).thread
   pub within : b.total < whole_limit b.log k t.commits
 
-moved_on : (image : SphereSetup) (p : Sphere) (b : Cursor) (k : ℕ) → (play_of image b p).now ≡ Turn k → StandsAt b.log (play_of image b p) (Turn k) p b → (t : Parts) × HasRun image p b k t
+moved_on : (image : SphereSetup) (p : Sphere) (b : Cursor) (k : ℕ) → (play_of image b p).now ≡ Turn k → StandsAt b.log (play_of image b p) (Turn k) p b → (t : Parts) × HasPieces image p b k t
 moved_on image p b k turn s =
     let m = s.1 in (
       s.0,
@@ -101,7 +101,7 @@ moved_on image p b k turn s =
     )
 
 -- the thread whose turn it is has run the pieces that its cursor has
-pub has-run : (image : SphereSetup) (p : Sphere) (b : Cursor) (k : ℕ) → GoesOn image p b → b.now ≡ Turn k → (t : Parts) × HasRun image p b k t
+pub has-run : (image : SphereSetup) (p : Sphere) (b : Cursor) (k : ℕ) → GoesOn image p b → b.now ≡ Turn k → (t : Parts) × HasPieces image p b k t
 has-run image p b k g turn =
     let now = sym g.now ∙ turn in
     moved_on image p b k now (subst (λ (n : Now). StandsAt b.log (play_of image b p) n p b) now g.state)
@@ -111,13 +111,13 @@ pub is-whole : (image : SphereSetup) (p : Sphere) (b : Cursor) → GoesOn image 
 is-whole image p b g turn = subst (λ (n : Now). StandsAt b.log (play_of image b p) n p b) (sym g.now ∙ turn) g.state
 
 -- the thread as it is now
-pub thread-now : (image : SphereSetup) (p : Sphere) (b : Cursor) (k : ℕ) (t : Parts) → HasRun image p b k t → slice_get p.threads k ≡ Some (run (play_of image b p).memory t b.total).thread
+pub thread-now : (image : SphereSetup) (p : Sphere) (b : Cursor) (k : ℕ) (t : Parts) → HasPieces image p b k t → slice_get p.threads k ≡ Some (run (play_of image b p).memory t b.total).thread
 thread-now image p b k t h =
     ap (λ (ts : List Parts). slice_get ts k) h.threads
     ∙ get-set_same (play_of image b p).threads k (run (play_of image b p).memory t b.total).thread t h.is
 
 -- a part of n instructions more is paid for
-pub part-afforded : (image : SphereSetup) (p : Sphere) (b : Cursor) (k : ℕ) (t u : Parts) (s n : ℕ) → b.now ≡ Turn k → HasRun image p b k t → slice_get p.threads k ≡ Some u → (run p.memory u n).n ≡ n → n ≤ limit_of s (Replay b) k u
+pub part-afforded : (image : SphereSetup) (p : Sphere) (b : Cursor) (k : ℕ) (t u : Parts) (s n : ℕ) → b.now ≡ Turn k → HasPieces image p b k t → slice_get p.threads k ≡ Some u → (run p.memory u n).n ≡ n → n ≤ limit_of s (Replay b) k u
     → Afforded (commit_work b.log (play_of image b p)) b.total n
 part-afforded image p b k t u s n turn h is ran most =
     let y = play_of image b p in
