@@ -6,9 +6,9 @@ use Rattle.spec_play.specs.Progress.{Progress}
 use Rattle.spec_play.specs.Turns.{Turn}
 use Rattle.spec_play.specs.Plays.{Played}
 use Rattle.spec_protocol.specs.Sound.{IsSoundIf}
-use Rattle.dl_replay.specs.declared.asking.Verdict.{Verdict}
+use Rattle.dl_replay.specs.Served.{nothing_served}
+use Rattle.dl_replay.specs.declared.verdict.Verdict.{Verdict}
 use Rattle.dl_replay.specs.Judged.{Judged}
-use Rattle.dl_replay.specs.Left.{nothing_served}
 use Rattle.dl_replay.specs.Replaying.{Replaying, commits_of}
 use Rattle.dl_serial.specs.declared.sphere.Sphere.{Sphere}
 
