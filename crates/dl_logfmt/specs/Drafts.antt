@@ -4,8 +4,8 @@ use Rattle.dl_entry.specs.declared.actor.Actor.{Actor}
 use Rattle.spec_log.specs.declared.mode_name.ModeName.TheVariants.{OrderSize}
 use Rattle.spec_log.specs.declared.log.LogParts.{LogParts}
 use Rattle.spec_log.specs.Reading.{ParseError, Read, Reader, gives, continues, fails}
-use Rattle.dl_logbytes.specs.declared.error.LogError.{LogError}
-use Rattle.dl_logbytes.specs.declared.error.LogError.TheVariants.{Malformed, OutOfMemory}
+use Rattle.dl_logfmt.specs.declared.error.LogError.{LogError}
+use Rattle.dl_logfmt.specs.declared.error.LogError.TheVariants.{Malformed, OutOfMemory}
 use Rattle.dl_logfmt.specs.declared.stage.Stage.{Stage}
 use Rattle.dl_logfmt.specs.declared.stage.Stage.TheVariants.{Mode, ChunkSize, Count, OrderCount, Order, SizeCount, Sizes as SizesOf, InterruptCount, Interrupts, InputCount, Inputs, DmaCount, Dmas, Nothing}
 use Rattle.dl_logfmt.specs.declared.draft.Draft.{Draft}

@@ -2,8 +2,8 @@
 use Rattle.std.specs.Prelude.{◌≡◌, ℕ, ◌≤◌, ◌==◌, List, ◌++◌, length, Option, Some, None, Result, Ok, Err, if◌then◌else◌}
 use Rattle.spec_log.specs.declared.log.LogParts.{LogParts}
 use Rattle.spec_log.specs.Reading.{ParseError, fails, read_of}
-use Rattle.dl_logbytes.specs.declared.error.LogError.{LogError}
-use Rattle.dl_logbytes.specs.declared.error.LogError.TheVariants.{Malformed, OutOfMemory}
+use Rattle.dl_logfmt.specs.declared.error.LogError.{LogError}
+use Rattle.dl_logfmt.specs.declared.error.LogError.TheVariants.{Malformed, OutOfMemory}
 use Rattle.dl_logfmt.specs.declared.draft.Draft.{Draft}
 use Rattle.dl_logfmt.specs.declared.refusal.Refusal.{Refusal}
 use Rattle.dl_logfmt.specs.Drafts.{IsFew, reach, ended, said}

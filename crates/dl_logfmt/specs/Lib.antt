@@ -1,3 +1,4 @@
+pub mod Answer
 pub mod Drafts
 pub mod Feeding
 pub mod Remaining

@@ -8,7 +8,7 @@ use Rattle.spec_log.specs.declared.sizes.Sizes.{Sizes}
 use Rattle.spec_log.specs.declared.sizes.Sizes.TheVariants.{Each, Short}
 use Rattle.spec_log.specs.declared.log.LogParts.{LogParts}
 use Rattle.spec_log.specs.Reading.{Reader, read, gives, any, field, at_most, from_to, mode, ordered, actors, entries, is_earlier, short_size, interrupt, input, dma}
-use Rattle.dl_logbytes.specs.Answer.{last}
+use Rattle.dl_logfmt.specs.Answer.{last}
 use Rattle.dl_logfmt.specs.declared.stage.Stage.{Stage}
 use Rattle.dl_logfmt.specs.declared.stage.Stage.TheVariants.{Mode, ChunkSize, Count, OrderCount, Order, SizeCount, Sizes as SizesOf, InterruptCount, Interrupts, InputCount, Inputs, DmaCount, Dmas, Nothing}
 use Rattle.dl_logfmt.specs.declared.header.Header.{Header}

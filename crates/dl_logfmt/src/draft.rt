@@ -3,10 +3,12 @@ ghost use Rattle.std.specs.Prelude.{◌≡◌, ◌≢◌, ◌≤◌, length, Mat
 ghost use Rattle.dl_logfmt.specs.Drafts.{Grew, IsFew, Feeds, Reads, ReadsField, blank};
 ghost use Rattle.dl_logfmt.specs.Remaining.{log_of};
 
+use crate::error::LogError;
 use crate::header::Header;
+use crate::numbers::judge;
+use crate::source::Source;
 use crate::stage::Stage;
 use dl_entry::{Input, Sequence};
-use dl_logbytes::{LogError, Source, judge};
 use spec_log::{DmaRecord, Interrupt, LogParts, ModeName, Order, ShortSize, Sizes};
 use std::alloc::Global;
 

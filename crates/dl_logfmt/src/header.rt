@@ -1,11 +1,12 @@
 //! The header of a log that is being read, and the fields that stand alone.
-ghost use Rattle.dl_logbytes.specs.Answer.{Answers};
+ghost use Rattle.dl_logfmt.specs.Answer.{Answers};
 ghost use Rattle.dl_logfmt.specs.Remaining.{next_field, size_count};
 
+use crate::error::LogError;
+use crate::fields::{read_chunk_size, read_count, read_mode, read_sized};
+use crate::numbers::read_u32;
+use crate::order::read_named;
 use crate::stage::Stage;
-use dl_logbytes::{
-    LogError, read_chunk_size, read_count, read_mode, read_named, read_sized, read_u32,
-};
 use spec_log::ModeName;
 
 /// What is read next, and what was read of the header so far.

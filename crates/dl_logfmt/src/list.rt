@@ -4,12 +4,17 @@ ghost use Rattle.dl_logfmt.specs.Drafts.{Extends, ReadsIn, ReadsPairs, widest};
 ghost use Rattle.dl_logfmt.specs.Remaining.{more, more_actors};
 ghost use Rattle.dl_logfmt.specs.Streams.{Streams};
 
+use crate::entry::Entry;
+use crate::error::LogError;
+use crate::numbers::read_u8;
+use crate::order::{actor_of, read_half};
+use crate::section::read_entry;
+use crate::source::Source;
 use dl_entry::Sequence;
-use dl_logbytes::{LogError, ReadEntry, Source, actor_of, read_entry, read_half, read_u8};
 use spec_log::Order;
 
 /// Reads entries, in a log whose standard chunks have `s` instructions, until there are so many.
-pub fn read_more<E: ReadEntry>(
+pub fn read_more<E: Entry>(
     list: &mut Sequence<E>,
     source: &Source<'_>,
     at: &mut usize,

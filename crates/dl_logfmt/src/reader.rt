@@ -1,13 +1,15 @@
 //! A log read from its bytes in pieces.
 ghost use Rattle.std.specs.Prelude.{◌≡◌, ℕ, ◌<◌, ◌^◌, List, [], ◌++◌, ◌≤◌, length, drop, IsErrOf, OnOk};
 ghost use Rattle.spec_log.specs.Reading.{read_of};
-ghost use Rattle.dl_logbytes.specs.Answer.{IsReading};
+ghost use Rattle.dl_logfmt.specs.Answer.{IsReading};
 ghost use Rattle.dl_logfmt.specs.Feeding.{HasFed, IsFeeding, fed};
 
 use crate::draft::Draft;
+use crate::error::LogError;
 use crate::refusal::Refusal;
+use crate::source::Source;
 use crate::stage::Stage;
-use dl_logbytes::{LogError, OutOfMemory, Source};
+use dl_entry::OutOfMemory;
 use spec_log::Log;
 use std::alloc::Global;
 use std::marker::Model;

@@ -3,9 +3,10 @@ ghost use Rattle.std.specs.Prelude.{◌≡◌, ◌≢◌, ◌≤◌, length};
 ghost use Rattle.dl_logfmt.specs.Drafts.{Grew, IsFew, ReadsSection};
 
 use crate::draft::Draft;
+use crate::error::LogError;
 use crate::list::{read_more, read_order};
+use crate::source::Source;
 use crate::stage::Stage;
-use dl_logbytes::{LogError, Source};
 use spec_log::ModeName;
 
 impl Draft {

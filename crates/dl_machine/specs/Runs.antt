@@ -9,7 +9,7 @@ use Rattle.spec_protocol.specs.declared.event.Event.{Event}
 use Rattle.spec_protocol.specs.Spheres.{Recording, Cursor, Record, Replay, Sphere, is_over}
 use Rattle.spec_protocol.specs.Placing.{replays}
 use Rattle.spec_protocol.specs.World.{World}
-use Rattle.spec_protocol.specs.Machine.{ReplaySetup, RecordSetup, IsRecorded, IsReplayed, Setup, SphereSetup}
+use Rattle.spec_protocol.specs.Machine.{last_played, first_played, ReplaySetup, RecordSetup, IsRecorded, IsReplayed, Setup, SphereSetup}
 use Rattle.spec_protocol.specs.Serial.{CanDoAll, serial, serial_start}
 use Rattle.spec_protocol.specs.Shown.{shown_of}
 use Rattle.spec_protocol.specs.Promises.{after}
@@ -22,6 +22,12 @@ use Rattle.spec_replay.specs.Promises.{IsPlayed}
 pub record IsRun (s : Setup) (es : List Event) (w : World) : Type 0 where
   pub limits : IsWithinLimits s
   pub here : w ≡ after s es
+
+-- some setup within the limits and some schedule have led to the world
+pub record HasRun (w : World) : Type 0 where
+  pub setup : Setup
+  pub schedule : List Event
+  pub run : IsRun setup schedule w
 
 -- the plain and recorded spheres, with their current memories, and the devices are those of doing these points whole, one
 -- at a time; and each point can be done as it says
@@ -39,5 +45,5 @@ pub record IsNow (s : Setup) (i : ℕ) (w : World) (image : SphereSetup) (p : Sp
 -- its log, and once it has stopped it has done the whole play
 pub record IsPromised (s : Setup) (i : ℕ) (w : World) : Type 0 where
   pub recorded : (image : SphereSetup) (asked : RecordSetup) (p : Sphere) (recording : Recording) → IsNow s i w image p → image.role ≡ IsRecorded asked → p.role ≡ Record recording → PlaysBack recording.log image p
-  pub replayed : (image : SphereSetup) (asked : ReplaySetup) (p : Sphere) → IsNow s i w image p → image.role ≡ IsReplayed asked → Follows asked.log (plays asked.log (opened asked.log image.memory image.entry) (position p.progress)) p
-  pub stopped : (image : SphereSetup) (asked : ReplaySetup) (p : Sphere) (b : Cursor) → IsNow s i w image p → image.role ≡ IsReplayed asked → p.role ≡ Replay b → is_over b.now ≡ true → IsPlayed (play asked.log image.memory image.entry) p b
+  pub replayed : (image : SphereSetup) (asked : ReplaySetup) (p : Sphere) → IsNow s i w image p → image.role ≡ IsReplayed asked → Follows asked.log (plays asked.log (first_played image asked.log) (position p.progress)) p
+  pub stopped : (image : SphereSetup) (asked : ReplaySetup) (p : Sphere) (b : Cursor) → IsNow s i w image p → image.role ≡ IsReplayed asked → p.role ≡ Replay b → is_over b.now ≡ true → IsPlayed (last_played image asked.log) p b

@@ -3,9 +3,9 @@ use Rattle.std.proofs.Common.{◌≡◌, ℕ, suc, ◌+◌, ◌-◌, ◌/◌, �
 use Rattle.std.proofs.lemmas.List.{length_push}
 use Rattle.dl_entry.specs.declared.actor.Actor.{Actor}
 use Rattle.spec_log.specs.Reading.{ParseError, Read, Reader, continues, gives, entries, any, field, at_most, actor_of, actors}
-use Rattle.dl_logbytes.specs.Answer.{last, next_entry, Answers}
-use Rattle.dl_logbytes.specs.declared.error.LogError.{LogError}
-use Rattle.dl_logbytes.specs.declared.error.LogError.TheVariants.{Malformed, OutOfMemory}
+use Rattle.dl_logfmt.specs.Answer.{last, next_entry, Answers}
+use Rattle.dl_logfmt.specs.declared.error.LogError.{LogError}
+use Rattle.dl_logfmt.specs.declared.error.LogError.TheVariants.{Malformed, OutOfMemory}
 use Rattle.dl_logfmt.specs.Drafts.{CameIn, Extends, ReadsIn, ReadsPairs, widest}
 use Rattle.dl_logfmt.specs.Remaining.{more, more_actors}
 use Rattle.dl_logfmt.specs.Streams.{Streams, Leads}

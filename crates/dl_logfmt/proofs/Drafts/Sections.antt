@@ -9,8 +9,8 @@ use Rattle.spec_log.specs.declared.records.DmaRecord.{DmaRecord}
 use Rattle.spec_log.specs.declared.records.Interrupt.{Interrupt}
 use Rattle.spec_log.specs.declared.sizes.ShortSize.{ShortSize}
 use Rattle.spec_log.specs.Reading.{ParseError, Read, Reader, continues, read, gives, field, at_most, is_earlier, short_size, interrupt, input, dma}
-use Rattle.dl_logbytes.specs.declared.error.LogError.{LogError}
-use Rattle.dl_logbytes.specs.declared.error.LogError.TheVariants.{Malformed, OutOfMemory}
+use Rattle.dl_logfmt.specs.declared.error.LogError.{LogError}
+use Rattle.dl_logfmt.specs.declared.error.LogError.TheVariants.{Malformed, OutOfMemory}
 use Rattle.dl_logfmt.specs.declared.stage.Stage.{Stage}
 use Rattle.dl_logfmt.specs.declared.stage.Stage.TheVariants.{Order, SizeCount, Sizes as SizesOf, InterruptCount, Interrupts, InputCount, Inputs, DmaCount, Dmas, Nothing}
 use Rattle.dl_logfmt.specs.declared.draft.Draft.{Draft}

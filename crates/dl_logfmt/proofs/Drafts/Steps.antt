@@ -3,8 +3,8 @@ use Rattle.std.proofs.Common.{◌≡◌, ℕ, ◌+◌, ◌<◌, ◌≤◌, ◌==
 use Rattle.std.proofs.lemmas.Bool.{lt-ltb, le-ltb, eqb-true, eqb-false}
 use Rattle.std.proofs.lemmas.List.{take_at}
 use Rattle.spec_log.specs.Reading.{ParseError, fails, gives}
-use Rattle.dl_logbytes.specs.declared.error.LogError.{LogError}
-use Rattle.dl_logbytes.specs.declared.error.LogError.TheVariants.{Malformed, OutOfMemory}
+use Rattle.dl_logfmt.specs.declared.error.LogError.{LogError}
+use Rattle.dl_logfmt.specs.declared.error.LogError.TheVariants.{Malformed, OutOfMemory}
 use Rattle.dl_logfmt.specs.declared.stage.Stage.{Stage}
 use Rattle.dl_logfmt.specs.declared.stage.Stage.TheVariants.{Mode, ChunkSize, Count, OrderCount, Order, SizeCount, Sizes as SizesOf, InterruptCount, Interrupts, InputCount, Inputs, DmaCount, Dmas, Nothing}
 use Rattle.dl_logfmt.specs.declared.draft.Draft.{Draft}

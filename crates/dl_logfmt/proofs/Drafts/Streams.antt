@@ -5,7 +5,7 @@ use Rattle.std.proofs.lemmas.Bool.{ltb-false, ltb-true, le-ltb, lt-ltb, leb-true
 use Rattle.std.proofs.lemmas.List.{drop_at, drop-drop, drop-append-le, take-append-le, length-drop}
 use Rattle.spec_log.specs.Log.{input_kinds}
 use Rattle.spec_log.specs.Reading.{ParseError, Read, Reader, continues, fails, read, gives, raw, passes, number, number_of, field, any, at_most, from_to, mode, thread, short_size, interrupt, counted, input, dma}
-use Rattle.dl_logbytes.specs.Answer.{next_entry, last}
+use Rattle.dl_logfmt.specs.Answer.{next_entry, last}
 use Rattle.spec_log.specs.Reading.{comes_after}
 use Rattle.dl_logfmt.specs.Streams.{Holds, Streams, Leads, Stops}
 

@@ -5,8 +5,8 @@ use Rattle.std.proofs.lemmas.List.{take-append-drop, length-take-le}
 use Rattle.spec_log.specs.Log.{IsLog}
 use Rattle.spec_log.specs.declared.log.LogParts.{LogParts}
 use Rattle.spec_log.specs.Reading.{ParseError, Read, fails, parts, read_of}
-use Rattle.dl_logbytes.proofs.LogLaws.{parts-good}
-use Rattle.dl_logbytes.specs.declared.error.LogError.TheVariants.{Malformed}
+use Rattle.dl_logfmt.proofs.LogLaws.{parts-good}
+use Rattle.dl_logfmt.specs.declared.error.LogError.TheVariants.{Malformed}
 use Rattle.dl_logfmt.specs.declared.stage.Stage.{Stage}
 use Rattle.dl_logfmt.specs.declared.stage.Stage.TheVariants.{Mode, ChunkSize, Count, OrderCount, Order, SizeCount, Sizes as SizesOf, InterruptCount, Interrupts, InputCount, Inputs, DmaCount, Dmas, Nothing}
 use Rattle.dl_logfmt.specs.declared.draft.Draft.{Draft}

@@ -5,9 +5,9 @@ ghost use Rattle.spec_play.specs.Turns.{Turn, TurnOfDma};
 ghost use Rattle.dl_replay.specs.Replaying.{commits_of};
 
 use dl_entry::{Actor, End, OutOfMemory, Why};
-use dl_logbytes::read_log;
+use dl_logfmt::read_log;
 use dl_mem::Memory;
-use dl_mode::{Mode, OrderAndSize, OrderOnly, PicoLog};
+use dl_mode::{Noting, OrderAndSize, OrderOnly, PicoLog};
 use dl_replay::Replayer;
 use dl_thread::Threads;
 use spec_log::{Log, ModeName};
@@ -58,7 +58,7 @@ fn ended(alloc: Global, row: &Row, memory: &Memory) -> Result<Option<End>, Fail>
 }
 
 /// How the replay has ended once its first actor has asked.
-fn ended_in<M: Mode>(
+fn ended_in<M: Noting>(
     alloc: Global,
     log: &Log,
     row: &Row,
@@ -76,7 +76,7 @@ fn ended_in<M: Mode>(
 }
 
 /// The thread asks, where thread 0 is alone.
-fn ask<M: Mode>(
+fn ask<M: Noting>(
     replayer: &mut Replayer<M>,
     thread: u8,
     row: &Row,
@@ -98,7 +98,7 @@ fn ask<M: Mode>(
 }
 
 /// The DMA is done, which nobody asked for.
-fn ask_for_dma<M: Mode>(replayer: &mut Replayer<M>, memory: &Memory) -> Result<(), OutOfMemory>
+fn ask_for_dma<M: Noting>(replayer: &mut Replayer<M>, memory: &Memory) -> Result<(), OutOfMemory>
     requires turn { replayer.old.now ≡ TurnOfDma }
     requires commits { replayer.old.commits ≡ commits_of (started 0 ∷ []) }
 {

@@ -7,7 +7,7 @@ use Rattle.dl_logfmt.proofs.list.read_more.Given as goal
 -- the entries so far were read
 abbrev pub invariant-loop-after : goal.invariant-loop-after
 invariant-loop-after g l =
-    let all = more g.E.ReadEntry.earlier (g.E.ReadEntry.reader l.s) l.count in
+    let all = more g.E.Entry.earlier (g.E.Entry.reader l.s) l.count in
     CameIn l.source.bytes.now l.initial.list l.initial.at l.list l.at
     × Leads l.source.bytes.now (all l.initial.list) l.initial.at (all l.list) l.at
     × Extends l.initial.list l.list

@@ -10,7 +10,7 @@ use dl_dev::Devices;
 use dl_entry::{Actor, CommitKind, End, Request};
 use dl_fly::Flights;
 use dl_kernel::thread_at;
-use dl_logbytes::write_log;
+use dl_logfmt::write_log;
 use dl_sig::{PlainSet, Sig};
 use dl_sphere::{Moved, Sphere};
 use dl_thread::{Thread, ThreadStatus};
