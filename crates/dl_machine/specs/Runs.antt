@@ -32,7 +32,10 @@ pub record HasRun (w : World) : Type 0 where
 -- the plain and recorded spheres, with their current memories, and the devices are those of doing these points whole, one
 -- at a time; and each point can be done as it says
 pub record IsSerial (s : Setup) (w : World) (points : List Point) : Type 0 where
-  pub spheres : (i : ℕ) (p : Sphere) → slice_get (shown_of w).spheres i ≡ Some p → replays p.role ≡ false → slice_get (serial s points).spheres i ≡ Some p
+  pub spheres : (i : ℕ) (p : Sphere)
+      → slice_get (shown_of w).spheres i ≡ Some p
+      → replays p.role ≡ false
+      → slice_get (serial s points).spheres i ≡ Some p
   pub devices : w.devices ≡ (serial s points).devices
   pub possible : CanDoAll (serial_start s) points
 
@@ -44,6 +47,18 @@ pub record IsNow (s : Setup) (i : ℕ) (w : World) (image : SphereSetup) (p : Sp
 -- where sphere i is recorded, its log so far fits its image and plays back; where it is replayed, it stands in the play of
 -- its log, and once it has stopped it has done the whole play
 pub record IsPromised (s : Setup) (i : ℕ) (w : World) : Type 0 where
-  pub recorded : (image : SphereSetup) (asked : RecordSetup) (p : Sphere) (recording : Recording) → IsNow s i w image p → image.role ≡ IsRecorded asked → p.role ≡ Record recording → PlaysBack recording.log image p
-  pub replayed : (image : SphereSetup) (asked : ReplaySetup) (p : Sphere) → IsNow s i w image p → image.role ≡ IsReplayed asked → Follows asked.log (plays asked.log (first_played image asked.log) (position p.progress)) p
-  pub stopped : (image : SphereSetup) (asked : ReplaySetup) (p : Sphere) (b : Cursor) → IsNow s i w image p → image.role ≡ IsReplayed asked → p.role ≡ Replay b → is_over b.now ≡ true → IsPlayed (last_played image asked.log) p b
+  pub recorded : (image : SphereSetup) (asked : RecordSetup) (p : Sphere) (recording : Recording)
+      → IsNow s i w image p
+      → image.role ≡ IsRecorded asked
+      → p.role ≡ Record recording
+      → PlaysBack recording.log image p
+  pub replayed : (image : SphereSetup) (asked : ReplaySetup) (p : Sphere)
+      → IsNow s i w image p
+      → image.role ≡ IsReplayed asked
+      → Follows asked.log (plays asked.log (first_played image asked.log) (position p.progress)) p
+  pub stopped : (image : SphereSetup) (asked : ReplaySetup) (p : Sphere) (b : Cursor)
+      → IsNow s i w image p
+      → image.role ≡ IsReplayed asked
+      → p.role ≡ Replay b
+      → is_over b.now ≡ true
+      → IsPlayed (last_played image asked.log) p b
