@@ -24,7 +24,12 @@ pub fn walk(alloc: Global, image: &Image, log: &Log, to: u32) -> Result<Walked, 
     }
 }
 
-fn walk_in<M: Noting>(alloc: Global, image: &Image, log: &Log, to: u32) -> Result<Walked, OutOfMemory>
+fn walk_in<M: Noting>(
+    alloc: Global,
+    image: &Image,
+    log: &Log,
+    to: u32,
+) -> Result<Walked, OutOfMemory>
     requires { log.now.mode ≡ M.mode }
     ensures { let i = image.now in
         IfOk result (λ w. walked_in w ≡ walked log.now i.bytes i.entry to) }

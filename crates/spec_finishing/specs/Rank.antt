@@ -30,9 +30,10 @@ flights_rank cores (slot ∷ slots) = flight_rank cores slot + flights_rank core
 
 -- ---- replays
 
--- the work that a play has left behind its first i commits, without the instructions that pieces of the next have run
+-- the work that a play has left after its first i commits and so many instructions of the next one's pieces: all of it
+-- less theirs
 abbrev pub play_left : LogParts → Played → (i total : ℕ) → ℕ
-play_left log y i total = commits_work log y i (log.count - i) - total
+play_left log y i total = commits_work log y 0 log.count - commits_work log y 0 i - total
 
 -- what a replay of the image has left after so many commits: none where it has stopped
 unfoldable pub replay_left : SphereSetup → Cursor → (commits : ℕ) → ℕ

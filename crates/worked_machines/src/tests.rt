@@ -118,8 +118,7 @@ fn finished(alloc: Global, row: &Row) -> Result<Machine<Banked>, Fail> {
 }
 
 // The reply, if the machine is young enough.
-fn take(machine: &mut Machine<Banked>, event: Event) -> Result<Option<Reply>, OutOfMemory>
-{
+fn take(machine: &mut Machine<Banked>, event: Event) -> Result<Option<Reply>, OutOfMemory> {
     if machine.counts().events >= 1 << 24 {
         return Ok(None);
     }
@@ -172,8 +171,7 @@ fn has_done(alloc: Global, commits: &[Commit], life: &Life) -> Result<bool, Allo
     Ok(done.as_slice() == life.commits && loads.as_slice() == life.loads)
 }
 
-fn machine_of(alloc: Global, row: &Row) -> Result<Machine<Banked>, Fail>
-{
+fn machine_of(alloc: Global, row: &Row) -> Result<Machine<Banked>, Fail> {
     let setup = setup_of(alloc, row)?;
     if !is_within(&setup) {
         return Err("a number is out of its limits".into());

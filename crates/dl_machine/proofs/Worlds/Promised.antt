@@ -71,7 +71,7 @@ promised_after : (s : Setup) (i : ℕ) (es : List Event) → IsWithinLimits s �
 promised_after s i es limits =
     let within = setup_within s limits in
     let standard : (image : SphereSetup) (asked : ReplaySetup) → slice_get s.spheres i ≡ Some image → image.role ≡ IsReplayed asked → 0 < asked.log.s =
-    λ image asked.log there role. (let l = (role_log image.role asked role (limits.images i image there).role).s in omega arith)
+    λ image asked there role. (let l = (role_log image.role asked role (limits.images i image there).role).s in omega arith)
     in
     record {
       recorded = λ image asked p recording now was is. logs_play_back s es i image asked (record { setup = within; there = now.there; role = was }) p recording now.shown is;

@@ -33,8 +33,7 @@ start_role c s image (IsRecorded asked) = omega arith
 start_role c s image (IsReplayed asked) =
     let x = first_played image asked.log in
     let l = left-most image (turned asked.log no_progress nothing_used (first_threads image)) 0 in
-    let none : asked.log.count - 0 ≡ asked.log.count = omega arith in
-    let e : play_left asked.log x 0 0 ≡ commits_work asked.log x 0 asked.log.count - 0 = ap (λ (n : ℕ). commits_work asked.log x 0 n - 0) none in
+    let e : play_left asked.log x 0 0 ≡ commits_work asked.log x 0 asked.log.count = omega arith in
     price-least c (replay_left image (turned asked.log no_progress nothing_used (first_threads image)) 0) (commits_work asked.log x 0 asked.log.count) (omega (arith, l, e))
 
 start_spheres : (c s : ℕ) (images : List SphereSetup) → spheres_rank c images (map (sphere_of s) images) ≤ price c (plays_work images)
