@@ -13,6 +13,7 @@ mod spheres;
 mod state;
 mod stepping;
 mod transferring;
+mod turns;
 
 pub use machine::Machine;
 pub use one_core::Held;

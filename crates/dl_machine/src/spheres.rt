@@ -6,6 +6,7 @@ ghost use Rattle.spec_engine.specs.Flights.{IsInside, at, drain};
 ghost use Rattle.spec_isa.specs.Words.{IsBytes};
 ghost use Rattle.spec_kernel.specs.Devices.{Devices};
 ghost use Rattle.spec_kernel.specs.Interrupts.{takes_interrupt};
+ghost use Rattle.spec_play.specs.Progress.{position};
 ghost use Rattle.spec_protocol.specs.Placing.{replays};
 ghost use Rattle.spec_protocol.specs.Sound.{AreFew, HaveByteInput, IsImage, IsSoundRequest};
 ghost use Rattle.spec_protocol.specs.Asking.{is_short};
@@ -109,7 +110,7 @@ impl Spheres {
         requires sphere { i < length self.old.spheres }
         requires thread { thread < length (nth_sphere i self.old).threads }
         requires chunk { (how : How) × CanCommit self.old.s (nth_sphere i self.old) thread how chunk.now.chunk }
-        requires few { length (nth_sphere i self.old).progress.commits < 2 ^ 24 }
+        requires few { position (nth_sphere i self.old).progress < 2 ^ 24 }
         requires request { let p = nth_sphere i self.old in IfSome p.progress.request (IsSoundRequest (length p.memory)) }
         ensures ok { IfOk result (λ m. (d : Devices) (how : How) → chunk.now.chunk.closed ≡ Some how →
             let p = nth_sphere i self.old in
@@ -133,7 +134,7 @@ impl Spheres {
         requires sphere { i < length self.old.spheres }
         requires thread { thread < length (nth_sphere i self.old).threads }
         requires turn { IsTurnOf thread (nth_sphere i self.old).role }
-        requires few { length (nth_sphere i self.old).progress.commits < 2 ^ 24 }
+        requires few { position (nth_sphere i self.old).progress < 2 ^ 24 }
         requires bytes { IsBytes (nth_sphere i self.old).memory }
         requires devices { HaveByteInput devices.old }
         ensures ok { IfOk result (λ m. (t : Parts) → slice_get (nth_sphere i self.old).threads thread ≡ Some t →
@@ -168,7 +169,7 @@ impl Spheres {
         requires request { let p = nth_sphere i self.old in IfSome p.progress.request (IsSoundRequest (length p.memory)) }
         requires turn { IsTurnOfDma (nth_sphere i self.old).role }
         requires some { IsSome (dma_moved devices.old (nth_sphere i self.old)) }
-        requires few { length (nth_sphere i self.old).progress.commits < 2 ^ 24 }
+        requires few { position (nth_sphere i self.old).progress < 2 ^ 24 }
         requires devices { HaveByteInput devices.old }
         ensures ok { IfOk result (λ m. let p = nth_sphere i self.old in
             dma_moved devices.old p ≡ Some (came m (nth_sphere i self.new) devices.new)) }

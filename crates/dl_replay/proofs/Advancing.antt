@@ -2,7 +2,7 @@
 use Rattle.std.proofs.Common.{◌≡◌, ℕ, zero, suc, ◌+◌, ◌<◌, ◌≤◌, Bool, true, false, List, [], ◌∷◌, ◌++◌, length, slice_get, slice_index, nat_lt, cond, Option, Some, None, Ok, refl, ap, sym, subst, ◌∙◌, arith, add-one}
 use Rattle.std.specs.Prelude.{slice_set}
 use Rattle.std.specs.Option.{OnSome}
-use Rattle.std.proofs.lemmas.List.{length_push, length-append, length-set}
+use Rattle.std.proofs.lemmas.List.{length-append, length-set}
 use Rattle.dl_entry.specs.declared.commit.Commit.{Commit}
 use Rattle.spec_isa.specs.declared.thread.Parts.{Parts}
 use Rattle.dl_entry.specs.declared.actor.Actor.{Actor}
@@ -15,6 +15,7 @@ use Rattle.spec_log.specs.declared.sizes.ShortSize.{ShortSize}
 use Rattle.spec_log.specs.declared.sizes.Sizes.{Sizes}
 use Rattle.spec_log.specs.declared.sizes.Sizes.TheVariants.{Each, Short}
 use Rattle.spec_log.specs.declared.log.LogParts.{LogParts}
+use Rattle.spec_play.proofs.Positions.{position-more}
 use Rattle.spec_play.specs.Effects.{Effect, dma_commit, chunk_effect, serial_effect}
 use Rattle.spec_play.specs.Progress.{Progress, position, no_progress, with_effect, with_dma, Used, nothing_used, with_dma_used}
 use Rattle.spec_play.specs.Transfers.{DmaVerdict, DmaGoes}
@@ -42,19 +43,19 @@ now-is : (log : LogParts) (p : Progress) (u : Used) (ts : List Parts) (done : �
 unfolding now_at
 now-is log p u ts done last d l = rw (← d, ← l) refl
 
-one-more : (commits : List Commit) (c : Commit) (done : ℕ) → length commits ≡ done → length (commits ++ c ∷ []) ≡ done + 1
-one-more commits c done d = omega (arith, length_push commits c)
+one-more : (p : Progress) (c : Commit) (done : ℕ) → position p ≡ done → p.first + length (p.commits ++ c ∷ []) ≡ done + 1
+one-more p c done d = omega (arith, position-more p c, d)
 
 pub committed-is : (r : Replaying) (p : Progress) (k : ℕ) (e : Effect) (u : Used) (ts : List Parts) → Agrees r p
     → advanced r.log (r.done + 1) (Some k) u ts ≡ committed r p k e u ts
 committed-is r p k e u ts a =
     ap (λ (n : Now). record { log = r.log; used = u; now = n; total = 0; done = r.done + 1; last = Some k; commits = commits_of ts })
-    (now-is r.log (with_effect k e p) u ts (r.done + 1) (Some k) (one-more p.commits e.commit r.done a.done) refl)
+    (now-is r.log (with_effect k e p) u ts (r.done + 1) (Some k) (one-more p e.commit r.done a.done) refl)
 
 pub transferred-is : (r : Replaying) (p : Progress) (ts : List Parts) → Agrees r p → advanced r.log (r.done + 1) r.last (with_dma_used r.used) ts ≡ transferred r p ts
 transferred-is r p ts a =
     ap (λ (n : Now). record { log = r.log; used = with_dma_used r.used; now = n; total = 0; done = r.done + 1; last = r.last; commits = commits_of ts })
-    (now-is r.log (with_dma p) (with_dma_used r.used) ts (r.done + 1) r.last (one-more p.commits dma_commit r.done a.done) a.last)
+    (now-is r.log (with_dma p) (with_dma_used r.used) ts (r.done + 1) r.last (one-more p dma_commit r.done a.done) a.last)
 
 one-used : (u : Used) → record u { dmas = u.dmas + 1 } ≡ with_dma_used u
 one-used u = ap (λ (n : ℕ). record u { dmas = n }) (add-one u.dmas)

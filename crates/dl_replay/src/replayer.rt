@@ -10,7 +10,7 @@ ghost use Rattle.spec_play.specs.Turns.{Turn, TurnOfDma};
 ghost use Rattle.spec_play.specs.Verdicts.{chunk_verdict, serial_verdict};
 ghost use Rattle.spec_play.specs.Transfers.{dma_verdict};
 ghost use Rattle.spec_protocol.specs.Spheres.{Replay, actor_of, limit_in, limit_of, pieces_of};
-ghost use Rattle.spec_protocol.proofs.Moves.Threads.{AreNew};
+ghost use Rattle.spec_protocol.specs.Standing.{AreNew};
 ghost use Rattle.dl_kernel.specs.Calls.{spawned_list};
 ghost use Rattle.dl_replay.specs.Seen.{used_seen};
 ghost use Rattle.dl_replay.specs.Replaying.{Agrees, IsTurnOf, replay_start, commits_of, cursor_of, end_of};
@@ -30,7 +30,7 @@ use crate::turning::now_at;
 use dl_entry::{Actor, End, OutOfMemory, Request, Why};
 use dl_kernel::{Step, StepResult};
 use dl_mem::Memory;
-use dl_mode::Mode;
+use dl_mode::{Mode, Noting};
 use dl_thread::{Thread, Threads};
 use dl_wbuf::Buffer;
 use spec_log::Log;
@@ -59,7 +59,7 @@ impl<M: Mode> Model for Replayer<M> {
     ghost invariant = { λ r. IsReplaying (replaying r.log r.place r.turn r.total r.commits) };
 }
 
-impl<M: Mode> Replayer<M> {
+impl<M: Noting> Replayer<M> {
     /// The replay of a log from its first commit on. Thread 0 stands alone, at whatever entry.
     pub fn new(alloc: Global, log: &Log) -> Result<Replayer<M>, OutOfMemory>
         requires mode { log.now.mode ≡ M.mode }
@@ -78,7 +78,9 @@ impl<M: Mode> Replayer<M> {
             commits: commits_of(&threads),
         })
     }
+}
 
+impl<M: Mode> Replayer<M> {
     /// Whose commit is next, unless the replay has ended.
     pub fn head(&self) -> Option<Actor>
         ensures { result ≡ actor_of self.now.now }

@@ -55,7 +55,7 @@ gone-settled r s k v new n g kept =
     (λ i. record {
       memory = kept.memory i;
       threads = g.threads i;
-      progress = record { commits = kept.commits i; last = (g.replay i).last; request = g.request i };
+      progress = record { first = 0; commits = kept.commits i; last = (g.replay i).last; request = g.request i };
       used = (g.replay i).used;
       now = (g.replay i).now;
     })
@@ -96,7 +96,7 @@ left-played r s why new n l h =
     (λ i. record {
       memory = l.memory i;
       threads = l.threads i;
-      progress = record { commits = l.commits i; last = (l.replay i).last; request = l.request i };
+      progress = record { first = 0; commits = l.commits i; last = (l.replay i).last; request = l.request i };
       used = (l.replay i).used;
       now = (l.replay i).now;
     })
@@ -131,7 +131,7 @@ dma-settled r s v new n ws g kept =
     (λ i. record {
       memory = kept.memory i;
       threads = kept.threads i;
-      progress = record { commits = kept.commits i; last = (g.replay i).last; request = g.request i };
+      progress = record { first = 0; commits = kept.commits i; last = (g.replay i).last; request = g.request i };
       used = (g.replay i).used;
       now = (g.replay i).now;
     })
@@ -164,7 +164,7 @@ reserved-played r s n store threads request commits =
     λ i. record {
       memory = (store i).memory;
       threads = threads i;
-      progress = record { commits = commits i; last = r.last; request = request i };
+      progress = record { first = 0; commits = commits i; last = r.last; request = request i };
       used = r.used;
       now = r.now;
     }

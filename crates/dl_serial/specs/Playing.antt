@@ -18,7 +18,7 @@ pub record Playing : Type 0 where
   pub played : Played
 
 abbrev pub progress_in : Replaying → Sphere → Progress
-progress_in r s = record { commits = s.commits.items; last = r.last; request = s.request }
+progress_in r s = record { first = 0; commits = s.commits.items; last = r.last; request = s.request }
 
 abbrev pub played_in : Replaying → Sphere → Played
 played_in r s =

@@ -131,7 +131,8 @@ impl Sphere {
 
     /// The whole commits so far, the first one first.
     pub fn commits(&self) -> &[Commit]
-        ensures { result.now ≡ self.now.sphere.progress.commits }
+        ensures value { result.now ≡ self.now.sphere.progress.commits }
+        ensures all { position self.now.sphere.progress ≡ length result.now }
     {
         &self.commits
     }

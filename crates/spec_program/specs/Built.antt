@@ -42,8 +42,8 @@ mode_named Mode.Picolog = ModeName.Picolog
 
 abbrev pub role_of : (i : ℕ) → RoleRead → Result RoleSetup Refused
 role_of i PlainRead = Ok IsPlain
-role_of i (RecordRead mode) = Ok (IsRecorded (mode_named mode))
-role_of i (ReplayRead read) = refusing (bad_log i) read >> λ log. Ok (IsReplayed log)
+role_of i (RecordRead inputs) = Ok (IsRecorded (record { mode = mode_named inputs.mode }))
+role_of i (ReplayRead inputs) = refusing (bad_log i) inputs.log >> λ log. Ok (IsReplayed (record { log = log }))
 
 abbrev pub spheres_of : (i : ℕ) → List SphereRead → List Image → Result (List SphereSetup) Refused
 spheres_of i (s ∷ ss) (image ∷ images) =

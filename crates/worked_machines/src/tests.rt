@@ -2,7 +2,6 @@
 ghost use Rattle.std.specs.Prelude.{◌≡◌, true, IfOk};
 ghost use Rattle.spec_protocol.specs.Sound.{AreFew};
 ghost use Rattle.dl_machine.specs.Setups.{IsWithin};
-ghost use Rattle.dl_finish.specs.Runs.{HasRun};
 
 use dl_elf::load;
 use dl_entry::{Actor, Bytes, Commit, End, Load, OutOfMemory, Sequence};
@@ -120,8 +119,6 @@ fn finished(alloc: Global, row: &Row) -> Result<Machine<Banked>, Fail> {
 
 // The reply, if the machine is young enough.
 fn take(machine: &mut Machine<Banked>, event: Event) -> Result<Option<Reply>, OutOfMemory>
-    requires { HasRun machine.old }
-    ensures { HasRun machine.new }
 {
     if machine.counts().events >= 1 << 24 {
         return Ok(None);
@@ -176,7 +173,6 @@ fn has_done(alloc: Global, commits: &[Commit], life: &Life) -> Result<bool, Allo
 }
 
 fn machine_of(alloc: Global, row: &Row) -> Result<Machine<Banked>, Fail>
-    ensures { IfOk result HasRun }
 {
     let setup = setup_of(alloc, row)?;
     if !is_within(&setup) {

@@ -20,7 +20,7 @@ verdict_apart b k (Goes e u) d p = tt
 
 serial_in_apart : (role : Role) (k moment : ℕ) (t : Parts) (d : Devices) (p : Sphere) → let v = serial_in role k moment t d p in IsApart d v v.outcome
 serial_in_apart Plain k moment t d p = tt
-serial_in_apart (Record log) k moment t d p = tt
+serial_in_apart (Record recording) k moment t d p = tt
 serial_in_apart (Replay b) k moment t d p = verdict_apart b k (serial_verdict b.log p.progress b.used k p.threads t p.memory) d p
 
 -- a serial step that diverges leaves the devices as they are
@@ -43,7 +43,7 @@ dma_verdict_apart b (DmaGoes words) d p = tt
 
 dma_in_apart : (role : Role) (d : Devices) (p : Sphere) → AreApart d (dma_in role d p)
 dma_in_apart Plain d p = live_apart Plain d p p.progress.request
-dma_in_apart (Record log) d p = live_apart _ d p p.progress.request
+dma_in_apart (Record recording) d p = live_apart _ d p p.progress.request
 dma_in_apart (Replay b) d p = dma_verdict_apart b (dma_verdict b.log p.progress b.used) d p
 
 -- a DMA that diverges leaves the devices as they are

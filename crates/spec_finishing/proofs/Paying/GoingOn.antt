@@ -11,7 +11,7 @@ use Rattle.spec_play.specs.Progress.{position}
 use Rattle.spec_play.specs.Turns.{Now, Turn, TurnOfDma}
 use Rattle.spec_play.specs.Plays.{Played, opened, plays}
 use Rattle.spec_protocol.specs.Spheres.{Cursor, Replay, Sphere, is_over, whole_limit, limit_of}
-use Rattle.spec_protocol.specs.Machine.{SphereSetup}
+use Rattle.spec_protocol.specs.Machine.{first_played, SphereSetup}
 use Rattle.spec_protocol.proofs.Moves.Granted.{get-set_same}
 use Rattle.spec_replay.specs.Following.{IsWhole, StandsAt, Follows}
 use Rattle.spec_finishing.specs.Work.{commit_work}
@@ -22,7 +22,7 @@ use Rattle.spec_finishing.proofs.Paying.Plays.{plays-ahead}
 
 -- where the play of its log stands after the replay's whole commits
 abbrev pub play_of : SphereSetup → Cursor → Sphere → Played
-play_of image b p = plays b.log (opened b.log image.memory image.entry) (position p.progress)
+play_of image b p = plays b.log (first_played image b.log) (position p.progress)
 
 record Beside (log : LogParts) (y : Played) (p : Sphere) (b : Cursor) : Type 0 where
   now : b.now ≡ y.now
@@ -61,14 +61,14 @@ goes_with image p b going s =
       ahead = subst (λ (n : ℕ). n < b.log.count) (sym (ap position s.progress)) (plays-ahead b.log image.memory image.entry (position p.progress) (sym (ap is_over s.now) ∙ going));
     }
 
-goes_cursor : (image : SphereSetup) (log : LogParts) (p : Sphere) → (f : Follows log (plays log (opened log image.memory image.entry) (position p.progress)) p) → is_over f.cursor.now ≡ false → GoesOn image p f.cursor
+goes_cursor : (image : SphereSetup) (log : LogParts) (p : Sphere) → (f : Follows log (plays log (first_played image log) (position p.progress)) p) → is_over f.cursor.now ≡ false → GoesOn image p f.cursor
 goes_cursor image log p f going =
     goes_with image p f.cursor going
-    (subst (λ (l : LogParts). Beside l (plays l (opened l image.memory image.entry) (position p.progress)) p f.cursor) (sym f.same_log)
-    (beside_cursor log (plays log (opened log image.memory image.entry) (position p.progress)) p f going))
+    (subst (λ (l : LogParts). Beside l (plays l (first_played image l) (position p.progress)) p f.cursor) (sym f.same_log)
+    (beside_cursor log (plays log (first_played image log) (position p.progress)) p f going))
 
 -- a replay that follows its log's play and isn't over goes on beside it
-pub goes-on : (image : SphereSetup) (log : LogParts) (p : Sphere) (b : Cursor) → Follows log (plays log (opened log image.memory image.entry) (position p.progress)) p → p.role ≡ Replay b → is_over b.now ≡ false → GoesOn image p b
+pub goes-on : (image : SphereSetup) (log : LogParts) (p : Sphere) (b : Cursor) → Follows log (plays log (first_played image log) (position p.progress)) p → p.role ≡ Replay b → is_over b.now ≡ false → GoesOn image p b
 goes-on image log p b f role going =
     let e : f.cursor ≡ b = (let h : Replay f.cursor ≡ Replay b = sym f.role ∙ role in cc) in
     subst (λ (c : Cursor). is_over c.now ≡ false → GoesOn image p c) e (goes_cursor image log p f) going

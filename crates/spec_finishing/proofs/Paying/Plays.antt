@@ -12,7 +12,7 @@ use Rattle.spec_play.specs.Plays.{Played, opened, settled, thread_verdict, play_
 use Rattle.spec_kernel.specs.Needs.{next_kind}
 use Rattle.spec_protocol.specs.Spheres.{Cursor, is_over}
 use Rattle.spec_protocol.specs.Commits.{turned}
-use Rattle.spec_protocol.specs.Machine.{SphereSetup}
+use Rattle.spec_protocol.specs.Machine.{first_played, SphereSetup}
 use Rattle.spec_finishing.specs.Work.{commit_work, commits_work}
 use Rattle.spec_finishing.specs.Rank.{play_left, replay_left, price}
 use Rattle.spec_finishing.proofs.Left.Pricing.{price-sum, price-least, price-most}
@@ -72,21 +72,21 @@ plays-ahead log m entry i going =
 -- a replay that is over has nothing left
 pub left-over : (image : SphereSetup) (b : Cursor) (i : ℕ) → is_over b.now ≡ true → replay_left image b i ≡ 0
 unfolding replay_left
-left-over image b i e = ap {A = Bool} (λ o. cond o 0 (play_left b.log (opened b.log image.memory image.entry) i b.total)) e
+left-over image b i e = ap {A = Bool} (λ o. cond o 0 (play_left b.log (first_played image b.log) i b.total)) e
 
 -- a replay that goes on has left what its play has, but for the pieces that are done
-pub left-going : (image : SphereSetup) (b : Cursor) (i : ℕ) → is_over b.now ≡ false → replay_left image b i ≡ play_left b.log (opened b.log image.memory image.entry) i b.total
+pub left-going : (image : SphereSetup) (b : Cursor) (i : ℕ) → is_over b.now ≡ false → replay_left image b i ≡ play_left b.log (first_played image b.log) i b.total
 unfolding replay_left
-left-going image b i e = ap {A = Bool} (λ o. cond o 0 (play_left b.log (opened b.log image.memory image.entry) i b.total)) e
+left-going image b i e = ap {A = Bool} (λ o. cond o 0 (play_left b.log (first_played image b.log) i b.total)) e
 
 less_or_none : (o : Bool) (n : ℕ) → cond o 0 n ≤ n
 less_or_none true n = omega arith
 less_or_none false n = omega arith
 
 -- a replay has no more left than its play
-pub left-most : (image : SphereSetup) (b : Cursor) (i : ℕ) → replay_left image b i ≤ play_left b.log (opened b.log image.memory image.entry) i b.total
+pub left-most : (image : SphereSetup) (b : Cursor) (i : ℕ) → replay_left image b i ≤ play_left b.log (first_played image b.log) i b.total
 unfolding replay_left
-left-most image b i = less_or_none (is_over b.now) (play_left b.log (opened b.log image.memory image.entry) i b.total)
+left-most image b i = less_or_none (is_over b.now) (play_left b.log (first_played image b.log) i b.total)
 
 -- the commits behind the next one
 abbrev pub later : LogParts → Played → ℕ → ℕ
@@ -99,9 +99,9 @@ left-step log x i total l =
     ap (λ (n : ℕ). commits_work log x i n - total) e
 
 -- behind a whole commit a replay has no more left than its play has from the next one on
-pub left-turned : (image : SphereSetup) (log : LogParts) (p : Progress) (u : Used) (ts : List Parts) (i : ℕ) → position p ≡ suc i → replay_left image (turned log p u ts) (position p) ≤ later log (opened log image.memory image.entry) i
+pub left-turned : (image : SphereSetup) (log : LogParts) (p : Progress) (u : Used) (ts : List Parts) (i : ℕ) → position p ≡ suc i → replay_left image (turned log p u ts) (position p) ≤ later log (first_played image log) i
 left-turned image log p u ts i e =
-    let x = opened log image.memory image.entry in
+    let x = first_played image log in
     let most = left-most image (turned log p u ts) (position p) in
     let h : commits_work log x (position p) (log.count - position p) ≡ later log x i = ap (λ (n : ℕ). commits_work log x n (log.count - n)) e in
     omega (arith, most, h)

@@ -28,6 +28,7 @@ use Rattle.spec_finishing.proofs.Left.Rows.{sphere_rank}
 use Rattle.spec_finishing.proofs.Paying.Commits.{next_work, behind, rank-before, verdict-pays}
 use Rattle.spec_replay.proofs.Replays.Moved.{turn_of_thread, turn_of_dma}
 use Rattle.spec_replay.proofs.Commits.Standing.{set_here}
+use Rattle.spec_play.proofs.Positions.{position-more}
 
 -- ---- serial steps
 
@@ -112,7 +113,7 @@ dma_rank c image p b (DmaGoes words) devices role going g none work =
     let before = rank-before c image p b role going g in
     let progress = with_dma p.progress in
     let after = turned b.log progress (with_dma_used b.used) p.threads in
-    let size : position progress ≡ suc (position p.progress) = (let h = length-append p.progress.commits (dma_commit ∷ []) in omega (arith, h)) in
+    let size : position progress ≡ suc (position p.progress) = position-more p.progress dma_commit in
     let most = left-turned image b.log progress (with_dma_used b.used) p.threads (position p.progress) size in
     let e : next_work image p b - b.total ≡ suc (length words) = omega (arith, none, work) in
     let h = ap (price c) e in

@@ -43,12 +43,12 @@ what_paid c images z x moment i image p b (OfRaise k value) positive there is ro
 -- a role that is replayed has a cursor
 pub replay-role : (role : Role) → replays role ≡ true → (b : Cursor) × (role ≡ Replay b)
 replay-role Plain e = absurd (true≢false (sym e))
-replay-role (Record log) e = absurd (true≢false (sym e))
+replay-role (Record recording) e = absurd (true≢false (sym e))
 replay-role (Replay b) e = (b, refl)
 
 live_work : (p : Sphere) (devices : Devices) (m : Move) (role : Role) → replays role ≡ false → role_work p devices m role ≡ what_work p devices m.moment m.what
 live_work p devices m Plain e = refl
-live_work p devices m (Record log) e = refl
+live_work p devices m (Record recording) e = refl
 live_work p devices m (Replay b) e = absurd (true≢false e)
 
 role_pays : (c : ℕ) (s : Setup) (z : Numbers) (x : SerialState) (m : Move) (p : Sphere) (b : Bool) → 0 < z.capacity → Stands s x → slice_get x.spheres m.sphere ≡ Some p → replays p.role ≡ b → FitsWhat z x.devices p m.what

@@ -2,6 +2,7 @@
 use Rattle.std.proofs.Common.{◌≡◌, ℕ, ◌<◌, ◌≤◌, inl, inr, false, List, Option, Some, None, refl, sym, ap, ◌∙◌, subst, arith, set}
 use Rattle.std.specs.Prelude.{slice_get, IsSome, ◌⊎◌}
 use Rattle.std.proofs.lemmas.Bool.{true≢false, ltb-false}
+use Rattle.dl_entry.specs.declared.Actor.{Actor}
 use Rattle.spec_isa.specs.declared.thread.Parts.{Parts}
 use Rattle.spec_isa.specs.Words.{lays}
 use Rattle.spec_isa.specs.Runs.{run}
@@ -14,11 +15,10 @@ use Rattle.spec_play.specs.Verdicts.{LogVerdict, serial_verdict}
 use Rattle.spec_play.specs.Transfers.{DmaVerdict, dma_verdict}
 use Rattle.spec_play.specs.Plays.{Played, plays}
 use Rattle.spec_engine.specs.declared.answers.How.{How}
-use Rattle.spec_protocol.specs.Spheres.{Cursor, Role, Replay, Sphere, is_over, is_stopped, head_in, head_of, is_in_pieces}
+use Rattle.spec_protocol.specs.Spheres.{turn_in, turn_against, Cursor, Role, Replay, Sphere, is_over, is_stopped, head_in, head_of, is_in_pieces}
 use Rattle.spec_protocol.specs.Commits.{MovedSphere, is_piece, replayed_chunk, by_verdict, chunk_in, chunk_moved, serial_in, serial_moved, dma_by_verdict, dma_in, dma_moved}
 use Rattle.spec_protocol.specs.World.{Numbers, What, OfChunk, OfSerial, OfDma, OfRaise}
-use Rattle.spec_protocol.specs.Asking.{is_short, other_turn}
-use Rattle.spec_protocol.specs.Transferring.{turn_before_dma}
+use Rattle.spec_protocol.specs.Asking.{is_short}
 use Rattle.spec_protocol.specs.Serial.{SerialState, laid, do_moved, do_serial, do_dma}
 use Rattle.spec_protocol.specs.Moves.{move_chunk, do_what, FitsChunk, SerialFits, FitsSerial, DmaFits, FitsWhat}
 use Rattle.spec_protocol.proofs.Moves.Granted.{get-set_same, turn-is}
@@ -60,14 +60,15 @@ not_over : (r : Role) (b : Cursor) → r ≡ Replay b → is_stopped r ≡ false
 not_over r b role going = ap is_stopped (sym role) ∙ going
 
 -- a replay that another thread's turn doesn't hold up has this thread's turn
-pub turn_of_thread : (p : Sphere) (b : Cursor) (k : ℕ) → p.role ≡ Replay b → is_stopped p.role ≡ false → other_turn (head_of p) k ≡ None → b.now ≡ Turn k
-unfolding head_of
+pub turn_of_thread : (p : Sphere) (b : Cursor) (k : ℕ) → p.role ≡ Replay b → is_stopped p.role ≡ false → turn_against p (Actor.Thread k) ≡ None → b.now ≡ Turn k
+unfolding turn_against
 turn_of_thread p b k role going free =
-    turn-is b.now k (not_over p.role b role going) (ap (λ (r : Role). other_turn (head_in r p) k) (sym role) ∙ free)
+    turn-is b.now k (not_over p.role b role going) (ap (λ (r : Role). turn_in r p (Actor.Thread k)) (sym role) ∙ free)
 
 -- a replay that no thread's turn holds up before a DMA has the DMA's
-pub turn_of_dma : (p : Sphere) (b : Cursor) → p.role ≡ Replay b → is_stopped p.role ≡ false → turn_before_dma p.role ≡ None → b.now ≡ TurnOfDma
-turn_of_dma p b role going free = dma-turn_is b.now (not_over p.role b role going) (ap turn_before_dma (sym role) ∙ free)
+pub turn_of_dma : (p : Sphere) (b : Cursor) → p.role ≡ Replay b → is_stopped p.role ≡ false → turn_against p Actor.Dma ≡ None → b.now ≡ TurnOfDma
+unfolding turn_against
+turn_of_dma p b role going free = dma-turn_is b.now (not_over p.role b role going) (ap (λ (r : Role). turn_in r p Actor.Dma) (sym role) ∙ free)
 
 -- where it is a thread's, that thread has the turn
 has_turn : (log : LogParts) (start y : Played) (p : Sphere) (b : Cursor) (k : ℕ) → y ≡ plays log start (position p.progress) → (g : Going log y p b (Turn k)) → HasTurn log start y p b k g.state.0
@@ -112,7 +113,7 @@ module _ (log : LogParts) (start : Played) (x : SerialState) (i : ℕ) (p : Sphe
   moved_stands : (v : MovedSphere) → Reaches log start (laid v) → Stands log start (do_moved x i v) i
   moved_stands v r = record { sphere = laid v; there = get-set_same x.spheres i (laid v) p is; reaches = r }
 
-  thread_going : (k : ℕ) → is_stopped p.role ≡ false → other_turn (head_of p) k ≡ None → Going log (plays log start (position p.progress)) p f.cursor (Turn k)
+  thread_going : (k : ℕ) → is_stopped p.role ≡ false → turn_against p (Actor.Thread k) ≡ None → Going log (plays log start (position p.progress)) p f.cursor (Turn k)
   thread_going k going free =
       going_at log (plays log start (position p.progress)) p (Turn k) s f (not_over p.role f.cursor f.role going) (turn_of_thread p f.cursor k f.role going free)
 

@@ -7,7 +7,7 @@ ghost use Rattle.dl_replay.specs.Replaying.{IsTurnOf, commits_of};
 use dl_entry::{Actor, End, OutOfMemory, Why};
 use dl_logfmt::read_log;
 use dl_mem::Memory;
-use dl_mode::{Mode, OrderAndSize, OrderOnly, PicoLog};
+use dl_mode::{Noting, OrderAndSize, OrderOnly, PicoLog};
 use dl_replay::{Asking, Replayer, Served};
 use dl_thread::Threads;
 use spec_log::{Log, ModeName};
@@ -58,7 +58,7 @@ fn ended(alloc: Global, row: &Row, memory: &Memory) -> Result<Option<End>, Fail>
 }
 
 /// How the replay has ended once its first actor has asked.
-fn ended_in<M: Mode>(
+fn ended_in<M: Noting>(
     alloc: Global,
     log: &Log,
     row: &Row,
@@ -88,7 +88,7 @@ fn asking(actor: Actor, row: &Row) -> Asking
 }
 
 /// The actor asks, where thread 0 stands alone.
-fn ask<M: Mode>(
+fn ask<M: Noting>(
     alloc: Global,
     replayer: &mut Replayer<M>,
     asking: &Asking,

@@ -13,6 +13,7 @@ use Rattle.dl_machine.specs.Rows.{nth_sphere}
 use Rattle.dl_machine.proofs.Commits.AsClosed.{how_of, how_is, can_commit_so, if_ok}
 use Rattle.dl_machine.proofs.Rows.Spheres.{row_says, said_of_row, others_left}
 use Rattle.dl_machine.proofs.spheres.Spheres.commit_chunk.Goals as goal
+use Rattle.spec_play.specs.Progress.{position}
 
 pub commit_chunk-requires : goal.commit_chunk-requires
 commit_chunk-requires g c =
@@ -28,7 +29,7 @@ commit_chunk-requires g c =
         (
           said (λ p. CanCommit p.s p.sphere c.args.thread (how_of ch.closed) ch) (can_commit_so _ _ _ ch c.requires.chunk),
           (
-            said (λ p. length p.sphere.progress.commits < 2 ^ 24) c.requires.few,
+            said (λ p. position p.sphere.progress < 2 ^ 24) c.requires.few,
             said (λ p. IfSome p.sphere.progress.request (IsSoundRequest (length p.sphere.memory))) c.requires.request,
           ),
         ),

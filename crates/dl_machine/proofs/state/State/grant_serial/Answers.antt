@@ -1,5 +1,6 @@
 use Rattle.std.proofs.Common.{◌≡◌, ◌%◌, ◌^◌, false, [], ◌∷◌, ◌++◌, List, None, Some, refl, sym, ap, ◌∙◌, subst}
 use Rattle.std.specs.Prelude.{option_map, slice_get}
+use Rattle.dl_entry.specs.declared.Actor.{Actor}
 use Rattle.dl_entry.specs.declared.CommitKind.{CommitKind}
 use Rattle.dl_entry.specs.declared.Point.{Point}
 use Rattle.spec_isa.specs.declared.thread.Parts.{Parts}
@@ -7,10 +8,10 @@ use Rattle.spec_kernel.specs.Devices.{Devices}
 use Rattle.spec_engine.specs.Flights.{at}
 use Rattle.spec_engine.specs.Signatures.{Signature, nothing, signed}
 use Rattle.spec_protocol.specs.declared.reply.Reply.{Reply}
-use Rattle.spec_protocol.specs.Spheres.{Sphere, head_of, is_stopped}
+use Rattle.spec_protocol.specs.Spheres.{turn_against, Sphere, head_of, is_stopped}
 use Rattle.spec_protocol.specs.Commits.{MovedSphere, serial_moved}
 use Rattle.spec_protocol.specs.World.{After, World, moment, sphere_at}
-use Rattle.spec_protocol.specs.Asking.{grant_serial, other_turn}
+use Rattle.spec_protocol.specs.Asking.{grant_serial}
 use Rattle.dl_sphere.specs.declared.moved.Moved.{Moved}
 use Rattle.dl_sphere.specs.declared.moved.Moved.TheVariants as moved_as
 use Rattle.dl_sphere.specs.Moving.{came}
@@ -28,7 +29,7 @@ serial_step-requires-clause-turn g c =
     let w : World = world_in x.cores x.spheres x.flights x.devices x.counts x.points.items in
     let view : w ≡ c.args.self.now = c.self.view_is in
     turn_of (sphere_at w c.args.held.sphere) c.args.held.thread (subst (λ (u : World). is_stopped (sphere_at u c.args.held.sphere).role ≡ false) (sym view) c.requires.going)
-    (subst (λ (u : World). other_turn (head_of (sphere_at u c.args.held.sphere)) c.args.held.thread ≡ None) (sym view) c.requires.turn)
+    (subst (λ (u : World). turn_against (sphere_at u c.args.held.sphere) (Actor.Thread c.args.held.thread) ≡ None) (sym view) c.requires.turn)
 
 pub returns-in-Granted-clause-reply : goal.returns-in-Granted-clause-reply
 returns-in-Granted-clause-reply g c =

@@ -5,7 +5,7 @@ use Rattle.spec_isa.specs.declared.thread.Parts.{Parts}
 use Rattle.dl_entry.specs.declared.Commit.{Commit}
 use Rattle.spec_log.specs.Log.{IsLog}
 use Rattle.spec_play.specs.Effects.{Effect, chunk_commit, counted}
-use Rattle.spec_play.specs.Progress.{Used}
+use Rattle.spec_play.specs.Progress.{position, Used}
 use Rattle.spec_play.specs.Verdicts.{Goes, chunk_verdict}
 use Rattle.spec_protocol.specs.Asking.{is_short}
 use Rattle.spec_protocol.specs.Commits.{Diverged, Granted, is_piece, joined, chunk_moved}
@@ -198,7 +198,7 @@ count-requires g c =
     let v = chunk_verdict b.log p b.used k (joined b c.args.chunk.now.chunk.done) in
     let same : length n.commits.items ≡ length a.commits.items = left_commits (sphere_in a) r.player r.loads.items n.replay.player n.replay.loads.items n.threads a.request n.commits.items k v c.in-Some.why said in
     let few : length a.commits.items < 2 ^ 24 =
-    subst (λ n. n < 2 ^ 24) (sym (ap (λ (s : SizedSphere). length s.sphere.progress.commits) c.self.view_is)) c.requires.1.1.1.0
+    subst (λ n. n < 2 ^ 24) (sym (ap (λ (s : SizedSphere). position s.sphere.progress) c.self.view_is)) c.requires.1.1.1.0
     in
     let here : length c.deref.result.now ≡ length n.commits.items = ap length c.deref.ensures.value in
     omega (arith, same, few, here)

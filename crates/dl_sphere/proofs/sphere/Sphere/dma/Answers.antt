@@ -18,6 +18,7 @@ use Rattle.dl_sphere.proofs.Standing.Moves.{transferred_stand}
 use Rattle.dl_sphere.proofs.Replays.Limits.{replayed, stands_replayed, live_part}
 use Rattle.dl_sphere.proofs.Live.Moved.{none_moved, dma_is_moved}
 use Rattle.dl_sphere.proofs.sphere.Sphere.dma.Goals as goal
+use Rattle.spec_play.specs.Progress.{position}
 
 pub unreachable-requires : goal.unreachable-requires
 unreachable-requires c =
@@ -103,7 +104,7 @@ count-requires c =
     let said = rw c.in-Err.is at (c.in_ok-served.ensures.judged p kept.agrees refl) in
     let same : length n.commits.items ≡ length a.commits.items = dma_left_commits (sphere_in a) r.player r.loads.items n.replay.player n.replay.loads.items a.threads n.request n.commits.items v c.in-Err.why [] said in
     let few : length a.commits.items < 2 ^ 24 =
-    subst (λ n. n < 2 ^ 24) (sym (ap (λ (s : SizedSphere). length s.sphere.progress.commits) c.self.view_is)) c.requires.few
+    subst (λ n. n < 2 ^ 24) (sym (ap (λ (s : SizedSphere). position s.sphere.progress) c.self.view_is)) c.requires.few
     in
     let here : length c.deref.result.now ≡ length n.commits.items = ap length c.deref.ensures.value in
     omega (arith, same, few, here)

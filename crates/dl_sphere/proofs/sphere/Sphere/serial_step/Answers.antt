@@ -10,7 +10,7 @@ use Rattle.spec_kernel.specs.Needs.{need}
 use Rattle.spec_kernel.specs.Answers.{taken}
 use Rattle.spec_kernel.specs.Serving.{serve}
 use Rattle.spec_play.specs.Effects.{Effect, counted, serial_commit}
-use Rattle.spec_play.specs.Progress.{Used}
+use Rattle.spec_play.specs.Progress.{position, Used}
 use Rattle.spec_play.specs.Verdicts.{Goes, serial_verdict}
 use Rattle.spec_protocol.specs.Spheres.{Replay, Sphere, Role}
 use Rattle.dl_replay.specs.Replaying.{cursor_of}
@@ -39,7 +39,7 @@ counted-after-requires c =
     let same : c.in_ok-left.left.thread.commits ≡ t.commits = ap (λ (v : Parts). v.commits) c.in_ok-left.ensures.thread ∙ keeps.commits in
     let most : t.commits ≤ length a.commits.items = subst (λ n. n ≤ length a.commits.items) (ap commits_if c.thread_at-found.ensures.thread) ((few_live a.s (sphere_in a) (keeping_of a.part) (live_part a.part c.in_default.not-Replayed) c.self.invariant.kept).few k) in
     let few : length a.commits.items < 2 ^ 24 =
-    subst (λ n. n < 2 ^ 24) (sym (ap (λ (v : SizedSphere). length v.sphere.progress.commits) c.self.view_is)) c.requires.few
+    subst (λ n. n < 2 ^ 24) (sym (ap (λ (v : SizedSphere). position v.sphere.progress) c.self.view_is)) c.requires.few
     in
     omega arith
 
@@ -150,7 +150,7 @@ count-requires c =
     let said = rw c.in-Err.is at (c.in_ok-served.ensures.judged p x kept.agrees refl c.thread_at-found.ensures.thread) in
     let same : length n.commits.items ≡ length a.commits.items = left_commits (sphere_in a) r.player r.loads.items n.replay.player n.replay.loads.items n.threads n.request n.commits.items k v c.in-Err.why (λ i. record (said i) { words = [] }) in
     let few : length a.commits.items < 2 ^ 24 =
-    subst (λ n. n < 2 ^ 24) (sym (ap (λ (s : SizedSphere). length s.sphere.progress.commits) c.self.view_is)) c.requires.few
+    subst (λ n. n < 2 ^ 24) (sym (ap (λ (s : SizedSphere). position s.sphere.progress) c.self.view_is)) c.requires.few
     in
     let here : length c.deref.result.now ≡ length n.commits.items = ap length c.deref.ensures.value in
     omega (arith, same, few, here)

@@ -1,7 +1,7 @@
 use Rattle.std.proofs.Common.{◌≡◌, take}
 use Rattle.spec_log.specs.declared.sizes.Sizes.TheVariants.{Short}
 use Rattle.dl_mode.specs.Counts.{AreAmong, counted}
-use Rattle.dl_mode.proofs.order_only.OrderOnlyMode.from_lists.Given as goal
+use Rattle.dl_mode.proofs.order_only.OrderOnlyNoting.from_lists.Given as goal
 
 abbrev pub invariant-loop-actor : goal.invariant-loop-actor
 invariant-loop-actor l =

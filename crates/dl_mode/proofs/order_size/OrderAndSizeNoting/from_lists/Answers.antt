@@ -1,7 +1,7 @@
 use Rattle.std.proofs.Common.{◌<◌, false, length, ap, arith}
 use Rattle.dl_entry.specs.declared.actor.Actor.TheVariants.{Thread}
 use Rattle.dl_mode.proofs.SizeLookups.{HasFirst-more}
-use Rattle.dl_mode.proofs.order_size.OrderAndSizeMode.from_lists.Goals as goal
+use Rattle.dl_mode.proofs.order_size.OrderAndSizeNoting.from_lists.Goals as goal
 
 pub loop-i-preserved : goal.loop-i-preserved
 loop-i-preserved c =
