@@ -7,7 +7,8 @@ use Rattle.spec_log.specs.declared.log.LogParts.{LogParts}
 use Rattle.dl_logfmt.specs.declared.error.LogError.{LogError}
 use Rattle.dl_logfmt.specs.declared.error.LogError.TheVariants.{Malformed, OutOfMemory}
 use Rattle.dl_logfmt.specs.declared.stage_name.StageName.{StageName}
-use Rattle.dl_logfmt.specs.declared.stage_name.StageName.TheVariants.{Magic, Version, Mode, Spare, ChunkSize, Count, Order, Sizes, Interrupts, Inputs, Dmas, End}
+use Rattle.dl_logfmt.specs.declared.stage_name.StageName.TheVariants.{Magic, Version, Mode, Spare, ChunkSize, Count}
+use Rattle.dl_logfmt.specs.declared.stage_name.StageName.TheVariants.{Order, Sizes, Interrupts, Inputs, Dmas, End}
 use Rattle.dl_logfmt.specs.declared.parser.Parser.{Parser}
 use Rattle.dl_logfmt.specs.declared.mark.Mark.{Mark}
 use Rattle.dl_logfmt.specs.Streams.{Leads, Stops, rest_in}

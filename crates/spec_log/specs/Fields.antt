@@ -1,6 +1,7 @@
 -- What bytes say, field by field: readers of single fields, and of files that are read stage by stage. Fields are read in
 -- order, and each is checked when it has been read whole.
-use Rattle.std.specs.Prelude.{ℕ, zero, suc, ◌+◌, ◌-◌, ◌*◌, nat_lt, nat_le, Bool, true, ◌&&◌, List, [], ◌∷◌, ◌++◌, length, take, drop, Option, Some, None, slice_get, Result, Ok, Err, if◌then◌else◌}
+use Rattle.std.specs.Prelude.{ℕ, zero, suc, ◌+◌, ◌-◌, ◌*◌, nat_lt, nat_le, Bool, true, ◌&&◌, List, []}
+use Rattle.std.specs.Prelude.{◌∷◌, ◌++◌, length, take, drop, Option, Some, None, slice_get, Result, Ok, Err, if◌then◌else◌}
 
 -- what is wrong, by number: 1 is that the bytes end inside a field. The offset is that of the field or entry, but for 1
 -- the number of all bytes.

@@ -15,7 +15,8 @@ use Rattle.spec_log.specs.declared.sizes.Sizes.TheVariants.{Each, Short}
 use Rattle.spec_log.specs.declared.draft.Draft.{Draft}
 use Rattle.spec_log.specs.declared.log.LogParts.{LogParts}
 pub use Rattle.spec_log.specs.Fields.{ParseError}
-use Rattle.spec_log.specs.Fields.{Read, Reader, Stage, fails, continues, gives, read, number, field, any, at_most, from_to, counted_in, one_more, once, listed, all_of}
+use Rattle.spec_log.specs.Fields.{Read, Reader, Stage, fails, continues, gives, read, number}
+use Rattle.spec_log.specs.Fields.{field, any, at_most, from_to, counted_in, one_more, once, listed, all_of}
 use Rattle.spec_log.specs.Log.{input_kinds}
 
 -- Faults of a log: 1 the bytes end inside a field, 2 the magic word, 3 the version, 4 the mode, 5 another value out of its
