@@ -1,0 +1,102 @@
+"""What is looked for in a Trace: updates that are lost, words that changed and changed back, and who does what to a word."""
+
+from collections import namedtuple
+
+from . import isa
+
+# A context loads a word; others store to it (each of them, in order); the context stores on top. Each is (Commit, Access).
+Lost = namedtuple("Lost", "word load others store")
+# A context loads a word; others store to it; the context's SC or exchange finds the loaded value there again.
+Aba = namedtuple("Aba", "word load others store")
+# What a context does to a word at one pc. of: (thread, whether in an interrupt). first, last: commits.
+Use = namedtuple("Use", "of kind pc count first last")
+
+_UPDATES = frozenset((isa.SC, isa.SWAP))
+_OWN_LOADS = isa.LOADS - {isa.OUT}
+
+
+class _Seen:
+    """What a context has loaded of a word, and what others have stored there since."""
+
+    __slots__ = ("context", "load", "others")
+
+    def __init__(self, context, load):
+        self.context, self.load, self.others = context, load, []
+
+
+def _lane(commit):
+    return commit.actor, commit.handler > 0
+
+
+def shared_words(trace):
+    """The words that more than one context accesses and at least one stores to, rising."""
+    out = []
+    for word, indices in trace.words.items():
+        accesses = [trace.accesses[j] for j in indices]
+        if any(a.kind in isa.STORES for a in accesses):
+            first = trace.commit_of(accesses[0].step)
+            context = trace.context(first)
+            if any(a.step >= first.last and trace.context(trace.commit_of(a.step)) != context for a in accesses):
+                out.append(word)
+    return sorted(out)
+
+
+def _bits(access):
+    """The bytes of the word that it accesses, as a mask of bits."""
+    return ((1 << 8 * access.width) - 1) << 8 * (access.addr & 3)
+
+
+def _passes(trace, word, loads):
+    """For each store by a context with something seen: (seen, store), the seen being of the last of its `loads` before."""
+    seen = {}
+    for commit, access in trace.of_word(word):
+        lane, context = _lane(commit), trace.context(commit)
+        is_store, mine = access.kind in isa.STORES, seen.get(lane)
+        if is_store and mine and mine.context == context and mine.others:
+            yield mine, (commit, access)
+        if is_store:
+            seen.pop(lane, None)
+            for other, entry in seen.items():
+                if other != lane and _bits(entry.load[1]) & _bits(access):
+                    entry.others.append((commit, access))
+        elif access.kind in loads:
+            seen[lane] = _Seen(context, (commit, access))
+
+
+def lost(trace):
+    """The lost updates, in the order of the stores on top. One that changes nothing in what it loaded is left out."""
+    out = []
+    for word in shared_words(trace):
+        for seen, (commit, access) in _passes(trace, word, _OWN_LOADS):
+            bits = _bits(seen.load[1]) & _bits(access)
+            if access.kind == isa.STORE and (access.old ^ seen.load[1].new) & bits:
+                out.append(Lost(word, seen.load, seen.others, (commit, access)))
+    return sorted(out, key=lambda found: found.store[1].step)
+
+
+def aba(trace):
+    """The SCs and exchanges that find what was loaded before, though others have stored since, in their order."""
+    out = []
+    for word in shared_words(trace):
+        for seen, (commit, access) in _passes(trace, word, frozenset((isa.LOAD,))):
+            if access.kind in _UPDATES and access.old == seen.load[1].new:
+                out.append(Aba(word, seen.load, seen.others, (commit, access)))
+    return sorted(out, key=lambda found: found.store[1].step)
+
+
+def uses(trace, word):
+    """What each context does to the word, in the order of the first access."""
+    found = {}
+    for commit, a in trace.of_word(word):
+        key = (_lane(commit), a.kind, a.pc)
+        count, first = found[key][:2] if key in found else (0, commit.number)
+        found[key] = (count + 1, first, commit.number)
+    return [Use(lane, kind, pc, *rest) for (lane, kind, pc), rest in found.items()]
+
+
+def last_store(trace, word, before=None):
+    """The last store to the word in a commit below `before`, as (Commit, Access), or None."""
+    for commit, access in reversed(trace.of_word(word)):
+        if access.kind in isa.STORES and (before is None or commit.number < before):
+            return commit, access
+    return None
