@@ -85,12 +85,12 @@ class Names:
         self.data_at = [s.addr for s in self.data]
 
     def function(self, pc):
-        """The function of a pc, as `work`, or None."""
+        """The function of a pc, as `work`, or None; without what a compiler puts behind a name, as in `work.isra.0`."""
         j = bisect_right(self.code_at, pc) - 1
         if j < 0:
             return None
         s = self.code[j]
-        return s.name if not s.size or pc < s.addr + s.size else None
+        return s.name.partition(".")[0] if not s.size or pc < s.addr + s.size else None
 
     def line(self, pc):
         """The source line of a pc, as `race.c:24`, or None."""

@@ -5,9 +5,11 @@ from collections import namedtuple
 from . import isa
 
 # A context loads a word; others store to it (each of them, in order); the context stores on top. Each is (Commit, Access).
-Lost = namedtuple("Lost", "word load others store")
-# A context loads a word; others store to it; the context's SC or exchange finds the loaded value there again.
-Aba = namedtuple("Aba", "word load others store")
+# is_same: the store on top finds the value that was loaded, since the others stored that, or it came back.
+Lost = namedtuple("Lost", "word load others store is_same")
+# A context loads a word; others store to it; the context's SC or exchange finds the loaded value there again. source: the
+# context's load of what it stores, since the first load; None where it didn't load that. now: what stands there by then.
+Aba = namedtuple("Aba", "word load others store source now")
 # What a context does to a word at one pc. of: (thread, whether in an interrupt). first, last: commits.
 Use = namedtuple("Use", "of kind pc count first last")
 
@@ -64,13 +66,14 @@ def _passes(trace, word, loads):
 
 
 def lost(trace):
-    """The lost updates, in the order of the stores on top. One that changes nothing in what it loaded is left out."""
+    """The lost updates, in the order of the stores on top."""
     out = []
     for word in shared_words(trace):
         for seen, (commit, access) in _passes(trace, word, _OWN_LOADS):
             bits = _bits(seen.load[1]) & _bits(access)
-            if access.kind == isa.STORE and (access.old ^ seen.load[1].new) & bits:
-                out.append(Lost(word, seen.load, seen.others, (commit, access)))
+            if access.kind == isa.STORE and bits:
+                is_same = not (access.old ^ seen.load[1].new) & bits
+                out.append(Lost(word, seen.load, seen.others, (commit, access), is_same))
     return sorted(out, key=lambda found: found.store[1].step)
 
 
@@ -80,8 +83,35 @@ def aba(trace):
     for word in shared_words(trace):
         for seen, (commit, access) in _passes(trace, word, frozenset((isa.LOAD,))):
             if access.kind in _UPDATES and access.old == seen.load[1].new:
-                out.append(Aba(word, seen.load, seen.others, (commit, access)))
+                source = _source(trace, seen.load, (commit, access))
+                now = _value_before(trace, source[1].addr, access.step) if source else None
+                out.append(Aba(word, seen.load, seen.others, (commit, access), source, now))
     return sorted(out, key=lambda found: found.store[1].step)
+
+
+def _source(trace, load, store):
+    """The last load of the stored value by the context that stores, behind its `load`, as (Commit, Access), or None."""
+    commit, access = store
+    context = trace.context(commit)
+    for number in range(commit.number, load[0].number - 1, -1):
+        mine = trace.commits[number]
+        if trace.context(mine) != context:
+            continue
+        for a in reversed(trace.accesses_of(mine)):
+            if load[1].step < a.step < access.step and a.kind == isa.LOAD and a.width == 4 and a.value == access.new:
+                return mine, a
+    return None
+
+
+def _value_before(trace, word, step):
+    """What a word was before a step."""
+    value = trace.first_value(word)
+    for j in trace.words.get(word & ~3, ()):
+        a = trace.accesses[j]
+        if a.step >= step:
+            break
+        value = a.new
+    return value
 
 
 def uses(trace, word):
