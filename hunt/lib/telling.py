@@ -47,8 +47,11 @@ def access_row(trace, commit, a, note=""):
     return ("commit %d" % commit.number, context_name(trace.context(commit)), verb(a.kind), values(a), place(trace, a.pc), note)
 
 
-def what_served(served):
+def what_served(commit):
     """A serial step in words: `read(9, 400, 8) answers 8`."""
+    served = commit.served
+    if served.name == "iret" and commit.before.masked:
+        return "iret()"
     if served.name == "exit":
         return "exit(%X)" % served.arguments[0]
     if served.name in ("fault", "break"):
@@ -64,7 +67,7 @@ def commit_line(trace, commit):
     """`commit 14: thread 2, 15 instructions, work, race.c:20 to work, race.c:24`."""
     head = "commit %d: %s" % (commit.number, context_name(trace.context(commit)))
     if commit.served:
-        return "%s, %s, %s" % (head, what_served(commit.served), place(trace, trace.pcs[commit.first]))
+        return "%s, %s, %s" % (head, what_served(commit), place(trace, trace.pcs[commit.first]))
     if commit.actor == DMA:
         return head
     first, last = place(trace, trace.pcs[commit.first]), place(trace, trace.pcs[commit.last - 1])

@@ -31,14 +31,13 @@ def _lane(commit):
 
 
 def shared_words(trace):
-    """The words that more than one context accesses and at least one stores to, rising."""
+    """The words that more than one thread accesses, or a thread and its interrupts, and at least one stores to, rising."""
     out = []
     for word, indices in trace.words.items():
         accesses = [trace.accesses[j] for j in indices]
         if any(a.kind in isa.STORES for a in accesses):
             first = trace.commit_of(accesses[0].step)
-            context = trace.context(first)
-            if any(a.step >= first.last and trace.context(trace.commit_of(a.step)) != context for a in accesses):
+            if any(a.step >= first.last and _lane(trace.commit_of(a.step)) != _lane(first) for a in accesses):
                 out.append(word)
     return sorted(out)
 

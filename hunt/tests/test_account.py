@@ -1,0 +1,105 @@
+"""No account of an example differs from what the interpreter finds, and a fault in either is told with its place."""
+
+import unittest
+from unittest import mock
+
+import support
+from lib import isa
+from lib.account import Differs, Walk, account_lines, compare
+from lib.image import read_image
+from lib.logs import read_log
+from lib.play import play
+
+
+class Accounts(unittest.TestCase):
+    def test_stored_accounts(self):
+        found = support.recorded()
+        self.assertGreater(len(found), 20)
+        for r in found:
+            with self.subTest(r.name):
+                compare(support.played(r)[2], r.account.read_bytes())
+
+    @unittest.skipUnless(support.can_walk(), support.NOT_BUILT)
+    def test_walks(self):
+        for r in support.recorded():
+            with self.subTest(r.name):
+                compare(support.played(r)[2], Walk(r.image, r.memory, r.log).account())
+
+    def test_reasons(self):
+        """The logs of examples/diverged leave the program for the eight reasons."""
+        folder = support.TOP / "examples/diverged"
+        image = read_image((folder / "a.elf").read_bytes(), 4096)
+        said = [line for line in (folder / "expected/stdout").read_text().splitlines() if line.startswith("end diverged ")]
+        for n in range(1, 9):
+            found = play(image, read_log((folder / "expected" / ("%d.log" % n)).read_bytes()))
+            self.assertEqual(found.end[2], n)
+            self.assertEqual(account_lines(found)[0][-1], said[n - 1])
+
+
+class PlantedFaults(unittest.TestCase):
+    def setUp(self):
+        self.race = support.example("race, plan.toml")
+        self.played = support.played(self.race)[2]
+        self.account = self.race.account.read_bytes()
+
+    def difference(self, account):
+        with self.assertRaises(Differs) as raised:
+            compare(self.played, account)
+        return raised.exception
+
+    def test_in_each_line_of_the_account(self):
+        lines = self.account.decode().splitlines(keepends=True)
+        commit = None
+        for j, line in enumerate(lines):
+            if line.startswith("c "):
+                commit = int(line.split()[1])
+            elif not line.startswith(("l ", "o ")):
+                commit = None
+            changed = line[:-2] + ("1" if line[-2] != "1" else "2") + "\n"
+            found = self.difference("".join(lines[:j] + [changed] + lines[j + 1 :]).encode())
+            self.assertEqual((found.line, found.commit, found.theirs), (j + 1, commit, changed[:-1]))
+            self.assertEqual(found.ours, line[:-1])
+
+    def test_a_line_more_or_less(self):
+        lines = self.account.splitlines(keepends=True)
+        for j in range(len(lines)):
+            self.difference(b"".join(lines[:j] + lines[j + 1 :]))
+            self.difference(b"".join(lines[: j + 1] + [b"l 00000000 00000000\n"] + lines[j + 1 :]))
+        self.difference(self.account[:-1])
+        self.difference(b"")
+        self.difference(self.account + b"\n")
+        self.difference(b"\xff" + self.account)
+
+    def test_the_place_is_told(self):
+        found = self.difference(self.account.replace(b"l 00000600 00000004\n", b"l 00000600 00000005\n", 1))
+        self.assertIn("commit 13, thread 1, pc 00000068", str(found))
+
+    def test_in_the_interpreter(self):
+        """An addition that is wrong by one where it comes to 5: the first wrong load is told."""
+        faulty = dict(isa._VALUES)
+        faulty[0, 0] = lambda a, b: (a + b) & isa.M
+        wrong = isa._Operations()
+        right = isa._addi
+
+        def addi(rd, a, imm):
+            f = right(rd, a, imm)
+
+            def wrongly(x, pc, m):
+                after = f(x, pc, m)
+                if imm == 1 and x[rd] == 5:
+                    x[rd] = 6
+                return after
+
+            return wrongly
+
+        image, log = support.played(self.race)[:2]
+        with mock.patch.object(isa, "_addi", addi), mock.patch.object(isa, "OPS", wrong):
+            found = play(image, log)
+        with self.assertRaises(Differs) as raised:
+            compare(found, self.account)
+        self.assertEqual((raised.exception.ours, raised.exception.theirs), ("l 00000600 00000006", "l 00000600 00000005"))
+        self.assertIn("commit 13, thread 1, pc 00000068", str(raised.exception))
+
+
+if __name__ == "__main__":
+    unittest.main()
