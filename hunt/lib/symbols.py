@@ -18,6 +18,11 @@ class NoWord(Exception):
     """args: what was asked for, and why it is no word."""
 
 
+def printable(name):
+    """The bytes of a name as text for a terminal: what can't be shown is `?`."""
+    return "".join(c if c.isprintable() else "?" for c in name.decode("utf-8", "replace"))
+
+
 def _symbols(data):
     """The symbols of a well-formed symbol table, as Symbols; none where there is none."""
     headers, size, count = struct.unpack_from("<I", data, 32)[0], *struct.unpack_from("<HH", data, 46)
@@ -30,7 +35,7 @@ def _symbols(data):
         for at in range(offset, offset + length, entry):
             name, value, extent, info, _, section = struct.unpack_from("<IIIBBH", data, at)
             start = names + name
-            text = data[start : data.index(b"\0", start, names + names_length)].decode("utf-8", "replace")
+            text = printable(data[start : data.index(b"\0", start, names + names_length)])
             if not text or text.startswith("$") or not 0 < section < len(sections):
                 continue
             is_code = bool(sections[section][2] & _EXECUTED)
@@ -62,7 +67,7 @@ def _lines(data):
             if state.end_sequence:
                 out.append((state.address, 0, None))
             else:
-                name = os.path.basename(files[state.file - first].name.decode("utf-8", "replace"))
+                name = printable(os.path.basename(files[state.file - first].name))
                 out.append((state.address, 1, "%s:%d" % (name, state.line)))
     # Of several entries at an address the last one counts, and a begin counts more than another sequence's end.
     return sorted({addr: (addr, order, text) for addr, order, text in sorted(out, key=lambda e: e[:2])}.values())

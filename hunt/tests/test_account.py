@@ -7,7 +7,7 @@ import support
 from lib import isa
 from lib.account import Differs, Walk, account_lines, compare
 from lib.image import read_image
-from lib.logs import read_log
+from lib.logs import ORDER_ONLY, read_log
 from lib.play import play
 
 
@@ -34,6 +34,21 @@ class Accounts(unittest.TestCase):
             found = play(image, read_log((folder / "expected" / ("%d.log" % n)).read_bytes()))
             self.assertEqual(found.end[2], n)
             self.assertEqual(account_lines(found)[0][-1], said[n - 1])
+
+    def test_transfers_that_do_not_fit(self):
+        """A DMA record of another commit, or longer than the request, or without one, is reason 6."""
+        image, log, played = support.played(support.example("input, plan.toml"))
+        log = log._replace(mode=ORDER_ONLY, order=[c.actor for c in played.commits])
+        self.assertEqual(play(image, log).end, played.end)
+        ((at, data),) = log.dmas
+        asked = next(c for c in played.commits if c.served and c.served.name == "dma")
+        longest = asked.served.arguments[1]
+        self.assertEqual(play(image, log._replace(dmas=[(at, bytes(longest))])).commits[at].kind, "dma")
+        for dmas in ([(at, bytes(longest + 1))], [(at + 1, data)], [], [(at - 1, data)]):
+            self.assertEqual(play(image, log._replace(dmas=dmas)).end, ("diverged", at, 6))
+        first, moved = asked.number, list(log.order)
+        moved.insert(first, moved.pop(at))
+        self.assertEqual(play(image, log._replace(order=moved, dmas=[(first, data)])).end, ("diverged", first, 6))
 
 
 class PlantedFaults(unittest.TestCase):

@@ -86,6 +86,8 @@ class Instructions(unittest.TestCase):
         m, t = machine(0xFFDFF0EF)  # jal x1, -4
         m.run(0, 1)
         self.assertEqual((t.pc, t.x[1]), (0xFFFFFFFC, 4))
+        m, t = machine(0x002000EF)  # jal x1, 2
+        self.assertEqual((m.run(0, 1), m.stop, t.x[1]), (0, isa.fault(0), 0))
         m, t = machine(0x00208163)  # beq x1, x2, 2: taken it faults
         self.assertEqual((m.run(0, 1), m.stop), (0, isa.fault(0)))
         t.x[1] = 1

@@ -7,7 +7,7 @@ import support
 from lib import isa
 from lib.logs import DMA
 from lib.machine import Machine, fits
-from lib.trace import Moment
+from lib.trace import Moment, Trace
 
 
 class Moments(unittest.TestCase):
@@ -52,7 +52,10 @@ class ByHand(unittest.TestCase):
         for r in support.recorded():
             image, log, played = support.played(r)
             machine, inputs, dmas, other = Machine(image, log.threads), list(log.inputs), list(log.dmas), Machine(image)
+            moment = Moment(Trace(image, log, played))
             for commit in played.commits:
+                moment.seek(commit.first)
+                self.assertEqual(moment.machine.save(), machine.save(), (r.name, commit.number))
                 for again in range(2):
                     mark = machine.mark()
                     state = machine.save()

@@ -7,6 +7,7 @@ from lib import isa
 from lib.image import Image
 from lib.logs import ORDER_SIZE, Log
 from lib.play import play
+from lib.symbols import Names as Symbols
 from lib.symbols import NoWord
 from lib.trace import Trace
 from lib.words import aba, last_store, lost, shared_words, uses
@@ -104,6 +105,43 @@ class ByHand(unittest.TestCase):
         self.assertEqual([commits(f) for f in lost(by_hand((0, LW), (1, LW), (0, SW), (1, SW)))], [(4, [5], 6)])
 
 
+def interrupted(turns, interrupts):
+    """The trace of a thread that does these instructions, one a commit, behind two commits of its own; its handler stores 1
+    to the word where its value isn't 0, and else loads it. interrupts: values by the number of commits before."""
+    handler = [0x00050663, SW, 0x0080006F, LW, 0x00700893, 0x00000073]  # beq x10, x0, 12; sw; jal 8; lw; iret
+    code = [0x40000093, 0x00100113, 0x04000513, 0x00600893, 0x00000073, *turns]
+    code += [0x13] * (16 - len(code)) + handler
+    memory = b"".join(w.to_bytes(4, "little") for w in code)
+    sizes = [4, 0]
+    left = len(turns)
+    while left or len(sizes) in interrupts:
+        if len(sizes) in interrupts:
+            sizes += [4 if interrupts[len(sizes)] else 3, 0]
+        else:
+            sizes, left = sizes + [1], left - 1
+    picture = Image(4096, 0, memory + bytes(4096 - len(memory)), b"\x7fELF" + bytes(60))
+    log = Log(1, 15, ORDER_SIZE, 16, len(sizes), [0] * len(sizes), sizes, {(0, n): v for n, v in interrupts.items()}, [], [])
+    played = play(picture, log)
+    assert played.end == ("complete", len(sizes)), played.end
+    return Trace(picture, log, played)
+
+
+class Interrupts(unittest.TestCase):
+    def test_a_handler_between(self):
+        (find,) = lost(interrupted([LW, SW], {3: 1}))
+        self.assertEqual(commits(find), (2, [3], 5))
+
+    def test_each_interrupt_is_a_context_of_its_own(self):
+        """The first one loads, the thread stores, the second one stores: it has loaded nothing."""
+        trace = interrupted([SW, SW], {2: 0, 5: 1})
+        self.assertEqual([tuple(c) for c in trace.contexts()], [(0, 0), (0, 1), (0, 2)])
+        self.assertEqual(lost(trace), [])
+        self.assertEqual(shared_words(trace), [0x400])
+
+    def test_a_handler_that_only_loads(self):
+        self.assertEqual(lost(interrupted([LW, SW], {3: 0})), [])
+
+
 class Names(unittest.TestCase):
     def test_words(self):
         names = support.traced("race, plan.toml").names
@@ -115,6 +153,18 @@ class Names(unittest.TestCase):
         for text in ("count", "counter+x", "counter-4", "", "1000", "F0000000", "counter+0x1000", "600 "):
             with self.assertRaises(NoWord, msg=text):
                 names.word(text)
+
+    def test_odd_names(self):
+        """Names of any bytes are shown without control characters, and a damaged table of symbols is as none."""
+        data = support.example("race, plan.toml").image.read_bytes()
+        odd = data.replace(b"counter\0", b"c\x1b[1m\n\xff\0")
+        self.assertEqual(Symbols(Image(4096, 0, b"", odd)).name(0x600), "c?[1m?\ufffd")
+        for at in range(0, len(data), 7):
+            changed = bytearray(data)
+            changed[at] ^= 0xFF
+            names = Symbols(Image(4096, 0, b"", bytes(changed)))
+            names.place(0x68) if at % 245 == 0 else names.function(0x68)
+        Symbols(Image(4096, 0, b"", data[:200])).place(0x68)
 
     def test_functions(self):
         names = support.traced("race, plan.toml").names
