@@ -1,5 +1,6 @@
 """The account of a play as text, and the one that the proved program's `walk` puts; `first_difference` compares them."""
 
+from collections import namedtuple
 import os
 import shlex
 import subprocess
@@ -45,7 +46,7 @@ def state_lines(machine):
 
 
 def account_lines(played, dma_actor=15):
-    """The lines, and of each the number of its commit (None behind the last)."""
+    """The lines, and for each the number of its commit (None after the last commit)."""
     lines, commits = [], []
     for commit in played.commits:
         mine = commit_lines(commit, played.machine.accesses, dma_actor)
@@ -57,19 +58,22 @@ def account_lines(played, dma_actor=15):
     return lines, commits + [None] * (len(lines) - len(commits))
 
 
-# Where an account differs. line: from 1. commit: its number, or None behind the last. ours, theirs: the two lines, or None.
+# The first difference. line: its number in the account, from 1. commit: its number, or None after the last commit. place: the
+# same in words. ours, theirs: the line as the interpreter and as the account has it, or None.
+Difference = namedtuple("Difference", "line commit place ours theirs")
+
+
 class Differs(Exception):
-    def __init__(self, line, commit, ours, theirs, where):
-        super().__init__(line, commit, ours, theirs, where)
-        self.line, self.commit, self.ours, self.theirs, self.where = line, commit, ours, theirs, where
+    """args: the Difference between a play and an account."""
 
     def __str__(self):
+        (found,) = self.args
         return "line %d of the account, %s: the account has '%s', the interpreter '%s'" % (
-            self.line, self.where, self.theirs or "no line", self.ours or "no line")
+            found.line, found.place, found.theirs or "no line", found.ours or "no line")
 
 
 def compare(played, account):
-    """Nothing, where the account (bytes) is the play's; else raises Differs. DMAs may be called by either number."""
+    """Raises Differs if the account (bytes) isn't the play's. A DMA may have either number in it."""
     for actor in DMA_ACTORS:
         lines, commits = account_lines(played, actor)
         if ("\n".join(lines) + "\n").encode() == account:
@@ -85,22 +89,21 @@ def compare(played, account):
         ours = lines[j] if j < len(lines) else None
         other = theirs[j] if j < len(theirs) else None
         if ours != other:
-            commit = commits[j] if j < len(commits) else None
-            raise Differs(j + 1, commit, ours, other, _where(played, lines, commits, j))
-    raise Differs(len(lines), None, lines[-1], theirs[-1] + " (without the line's end)", "at the end")
+            number = commits[j] if j < len(commits) else None
+            nth_load = j - 1 - commits.index(number) if number is not None and ours.startswith("l ") else None
+            raise Differs(Difference(j + 1, number, _place(played, number, nth_load), ours, other))
+    raise Differs(Difference(len(lines), None, "at the end", lines[-1], theirs[-1] + " (without the line's end)"))
 
 
-def _where(played, lines, commits, j):
-    """In words: the commit, its thread, and the pc of the load where it is one."""
-    number = commits[j] if j < len(commits) else None
+def _place(played, number, nth_load):
+    """In words: the commit, its thread, and the pc of the load, if the line is of one."""
     if number is None:
-        return "behind commit %d" % (len(played.commits) - 1) if played.commits else "at the end"
+        return "after commit %d" % (len(played.commits) - 1) if played.commits else "at the end"
     commit = played.commits[number]
     text = "commit %d, %s" % (number, "a DMA" if commit.actor == DMA else "thread %d" % commit.actor)
-    if lines[j].startswith("l "):
-        nth = j - 1 - commits.index(number)
+    if nth_load is not None:
         told = [a for a in played.machine.accesses[commit.first_access : commit.last_access] if a.kind in isa.TOLD]
-        text += ", pc %08X" % told[nth].pc
+        text += ", pc %08X" % told[nth_load].pc
     return text
 
 
@@ -108,16 +111,16 @@ def _where(played, lines, commits, j):
 
 
 class NotWalked(Exception):
-    """The program refused what it was given, or could not be run. args: what it said, its status."""
+    """The program refused its files, or could not be run. args: what it said, its status."""
 
 
 def program():
-    """The words that run the proved program: those of the environment's DELOREAN, or bin/delorean beside hunt/."""
+    """The words that run the proved program: those of the environment variable DELOREAN, else bin/delorean beside hunt/."""
     return shlex.split(os.environ["DELOREAN"]) if os.environ.get("DELOREAN") else [str(TOP / "bin" / "delorean")]
 
 
 class Walk:
-    """A walk that runs beside this program until its account is asked for."""
+    """A walk of the proved program. It runs beside this one until its account is asked for."""
 
     def __init__(self, image, memory, log):
         try:

@@ -1,13 +1,13 @@
 """RV32IMA: `OPS[word]` is a function that does the instruction which the word of code denotes.
 
-It takes the thread's registers, its pc and the machine, and answers the next pc. An instruction that is no part of a chunk
-(a call, a break, a device's word, a fault) does nothing and answers a number below 0, which says what it is.
+It takes the thread's registers, its pc and the machine, and returns the next pc. An instruction that can't be in a chunk (a
+call, a break, a device's word, a fault) does nothing and returns a number below 0, which says what it is.
 """
 
 from collections import namedtuple
 
 M = 0xFFFFFFFF
-BIN = 32  # the register that takes what is written to x0
+BIN = 32  # the register that gets what is written to x0
 
 # Numbers below 0: a fault of cause c is -1 - c.
 CALL, BREAK, DEVICE_LOAD, DEVICE_STORE = -10, -11, -12, -13
@@ -22,15 +22,15 @@ def is_fault(stop):
     return -8 <= stop <= -1
 
 
-# One access to a word of memory or of a device. step: the number of the instruction (or DMA) that made it; kind: below;
-# addr, width: the bytes; value: what a register took, or the bytes stored; old, new: the whole word before and after.
+# One access to a word of memory or of a device. step: the number of the instruction (or DMA) that made it. kind: below.
+# addr, width: the bytes. value: what a register got, or the bytes that were stored. old, new: the whole word before and after.
 Access = namedtuple("Access", "step pc kind addr width value old new")
 LOAD, STORE, LR, SC, SC_FAILED, AMO, SWAP, COPY, DMA, OUT, DEVICE, CONSOLE = range(12)
 KIND_NAMES = ("load", "store", "lr", "sc", "sc failed", "amo", "swap", "kernel store", "dma store", "kernel load",
               "device load", "device store")
 LOADS = frozenset((LOAD, LR, AMO, SWAP, OUT))          # kinds that read a word of memory
 STORES = frozenset((STORE, SC, AMO, SWAP, COPY, DMA))  # kinds that write one
-TOLD = frozenset((LOAD, LR, AMO, SWAP, DEVICE))        # kinds that an account has an `l` line for
+TOLD = frozenset((LOAD, LR, AMO, SWAP, DEVICE))        # kinds that have an `l` line in an account
 _new = tuple.__new__
 
 
@@ -194,7 +194,8 @@ def _lw(rd, a, imm):
     return lw
 
 
-def _load(rd, a, imm, width, has_sign):
+def _load(rd, a, imm, form):
+    width, has_sign = form
     bits = 8 * width
 
     def load(x, pc, m):
@@ -282,7 +283,9 @@ def _sc(rd, a, b):
     return sc
 
 
-def _amo(rd, a, b, value, kind):
+def _amo(rd, a, b, f5):
+    value, kind = _ATOMIC[f5], SWAP if f5 == 0x01 else AMO
+
     def amo(x, pc, m):
         addr = x[a]
         if addr & 3:
@@ -302,7 +305,7 @@ def _passes(x, pc, m):
     return pc + 4
 
 
-_LOAD_FORMS = {0: (1, True), 1: (2, True), 4: (1, False), 5: (2, False)}
+_LOAD_FORMS = {0: (1, True), 1: (2, True), 4: (1, False), 5: (2, False)}  # width, whether with a sign
 
 
 def operation(w):
@@ -322,7 +325,7 @@ def operation(w):
     if op == 0x03 and f3 == 2:
         return _lw(rd, a, imm)
     if op == 0x03 and f3 in _LOAD_FORMS:
-        return _load(rd, a, imm, *_LOAD_FORMS[f3])
+        return _load(rd, a, imm, _LOAD_FORMS[f3])
     if op == 0x23 and f3 <= 2:
         to = extend(f7 << 5 | w >> 7 & 31, 12)
         return _sw(a, b, to) if f3 == 2 else _store(a, b, to, 1 << f3)
@@ -351,12 +354,12 @@ def _atomic(f5, rd, a, b):
     if f5 == 0x03:
         return _sc(rd, a, b)
     if f5 in _ATOMIC:
-        return _amo(rd, a, b, _ATOMIC[f5], SWAP if f5 == 0x01 else AMO)
+        return _amo(rd, a, b, f5)
     return _ILLEGAL
 
 
 class _Operations(dict):
-    """Functions by word; each is made when it is first asked for."""
+    """Functions by word. Each is made when it is first asked for."""
 
     def __missing__(self, word):
         f = self[word] = operation(word)

@@ -1,17 +1,18 @@
 """A sphere that is moved by hand: threads, memory and kernel, without cores, order or log.
 
-    m = Machine(image)              # thread 0 stands at the entry
-    m.run(k, n)                     # thread k does up to n instructions; how many. It stops before a serial one: m.stop < 0
-    m.serial(k)                     # what thread k's next instruction is, if serial, else 0; nothing is changed
-    m.need(k)                       # the Need of a serial instruction that is answered from outside, or None
-    m.serve(k, record)              # does it, with the Input for its need, or None; a Served
-    m.end_commit(k)                 # the reservation ends, the thread has one commit more
-    m.interrupt(k, value)           # enters the handler; False where the thread can't take it
+    m = Machine(image)              # thread 0 is at the entry
+    m.run(k, n)                     # thread k does up to n instructions; returns how many. It stops before a serial one, and
+                                    # then m.stop says which (below 0)
+    m.serial(k)                     # what thread k's next instruction is if it is serial (below 0), else 0; changes nothing
+    m.need(k)                       # what that instruction wants from outside, a Need, or None
+    m.serve(k, record)              # does it, with an Input if it has a need; returns a Served
+    m.end_commit(k)                 # ends the reservation, and counts the commit
+    m.interrupt(k, value)           # enters the handler; False if the thread can't
     m.dma(data)                     # does the outstanding request
-    mark = m.mark(); m.back(mark)   # back to an earlier state of this same machine: costs what was stored since
-    state = m.save(); m.restore(state)   # to any saved state: costs a copy of the memory
+    mark = m.mark(); m.back(mark)   # goes back to an earlier state of the same machine; costs what was stored since
+    state = m.save(); m.restore(state)   # goes to any saved state; costs a copy of the memory
 
-Every instruction adds its pc to `m.pcs`, and every access to memory an Access to `m.accesses`, so each step has a number.
+Every step adds its pc to `m.pcs`, and every access to memory adds an Access to `m.accesses`, so each step has a number.
 """
 
 from array import array
@@ -30,7 +31,7 @@ WRITE, READ, RANDOM, CLOCK, MOMENT_LOAD, INPUT_LOAD = 2, 3, 4, 5, 16, 17
 # What a serial instruction wants from outside. kind: of the Input that answers it. data: the bytes to be written (a write's).
 Need = namedtuple("Need", "kind channel buffer length data")
 # What a serial step did. name: of the call, or `fault`, `break`, `device load`, `device store`. arguments: a0 to a2. result:
-# what a0 (or a device load's register) took, or the cause of a fault. output: (channel, bytes) or None.
+# what a0 (or a device load's register) got, or the cause of a fault. output: (channel, bytes) or None.
 Served = namedtuple("Served", "name arguments result output record")
 # A thread as it was: registers are x0 to x31 (and one more number, of no meaning).
 Registers = namedtuple("Registers", "pc x reservation handler masked saved status commits interrupts")
@@ -102,7 +103,7 @@ class Machine:
         return n - left
 
     def serial(self, k):
-        """What thread k's next instruction is, where it is serial (a number below 0 of isa); else 0."""
+        """What thread k's next instruction is if it is serial, as a number of isa below 0; else 0."""
         t, steps, accesses = self.threads[k], len(self.pcs), len(self.accesses)
         if t.pc >= self.size:
             return isa.fault(1)
@@ -140,7 +141,7 @@ class Machine:
         return Need(call, channel, buffer, length, bytes(self.memory[buffer : buffer + length]) if call == WRITE else b"")
 
     def serve(self, k, record=None):
-        """Does the next instruction of thread k, which is serial."""
+        """Does the next instruction of thread k, which is serial, and says what it did."""
         t, stop, need = self.threads[k], self.serial(k), self.need(k)
         self.pcs.append(t.pc)
         if isa.is_fault(stop) or stop == isa.BREAK:
@@ -252,13 +253,13 @@ class Machine:
         return True
 
     def dma(self, data):
-        """Does the outstanding request, with these bytes (no more than it asked for)."""
+        """Does the outstanding request with these bytes, which are no more than it asked for."""
         self.pcs.append(NO_PC)
         buffer, self.request = self.request[0], None
         self.lay(NO_PC, isa.DMA, buffer, len(data).to_bytes(4, "little") + data)
 
     def lay(self, pc, kind, at, data):
-        """Bytes go to memory, one access for each word."""
+        """Puts bytes into memory, with an access for each word."""
         if not data:
             return
         step, end = len(self.pcs) - 1, at + len(data)
@@ -271,7 +272,7 @@ class Machine:
             self.note(Access(step, pc, kind, low, high - low, value, old, self.words[j]))
 
     def read_out(self, pc, at, length):
-        """The kernel reads bytes, one access for each word."""
+        """Notes that the kernel reads bytes, with an access for each word."""
         step, end = len(self.pcs) - 1, at + length
         for j in range(at >> 2, end + 3 >> 2 if length else at >> 2):
             low, high = max(4 * j, at), min(4 * j + 4, end)
@@ -285,7 +286,7 @@ class Machine:
         return Mark(len(self.pcs), len(self.accesses), tuple(t.save() for t in self.threads), self.request)
 
     def undo(self, steps, accesses):
-        """Memory, pcs and accesses are as they were; threads and request are the caller's."""
+        """Puts memory, pcs and accesses back. Threads and request are the caller's."""
         words, done = self.words, self.accesses
         for a in reversed(done[accesses:]):
             if a.old != a.new:
@@ -302,7 +303,7 @@ class Machine:
         return State(bytes(self.memory), tuple(t.save() for t in self.threads), self.request)
 
     def restore(self, state):
-        """To a saved state of any machine with memory of this size; pcs and accesses begin anew."""
+        """Goes to a saved state of any machine with a memory of this size. pcs and accesses begin anew."""
         self.memory[:] = state.memory
         self.threads = [Thread.of(r) for r in state.threads]
         self.request = state.request

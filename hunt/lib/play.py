@@ -5,20 +5,24 @@ from collections import namedtuple
 import gc
 
 from .logs import DMA, ORDER_SIZE, PICOLOG
-from .machine import Machine, fits
+from .machine import Machine, Thread, fits
 
 CHUNK, SERIAL, TRANSFER = "chunk", "serial", "dma"
 NO_THREAD, SHORT, NOT_SERIAL, INPUT, INTERRUPT, BAD_DMA, SIZE_OF_SERIAL, LEFT_OVER = range(1, 9)
 
 # One commit. number: from 0. actor: a thread, or DMA. handler: 0, or which interrupt of the thread (from 1) is being handled.
-# kind: chunk, serial or dma. size: its instructions as an account tells them (0 but of chunks). first, last: its steps are
-# those from first to below last. loads from `accesses`: first_access to below last_access. before: the thread's Registers at its
-# beginning (None of a DMA). served: what a serial step did. raised: the value of an interrupt that came after it, or None.
+# kind: chunk, serial or dma. size: its instructions as an account tells them (0 except for a chunk). first, last: its steps
+# are those from first to below last; first_access, last_access: its accesses likewise. before: the thread's Registers at the
+# beginning (None for a DMA). served: what a serial step did. raised: the value of an interrupt that came after it, or None.
 # threads, request: the number of threads, and the outstanding DMA, before it.
 Commit = namedtuple("Commit", "number actor handler kind size first last first_access last_access before served raised"
                     " threads request")
 # end: ("complete", commits) or ("diverged", commits, reason, ..).
 Played = namedtuple("Played", "commits machine end")
+
+
+# What a commit begins with, and what an undone one goes back to.
+_Start = namedtuple("_Start", "steps accesses threads request before")
 
 
 class _Leaves(Exception):
@@ -38,7 +42,7 @@ class Player:
     # ------------------------------------------------------------ what the log says
 
     def head(self):
-        """The next actor, or None where none is live."""
+        """The next actor, or None if no thread is live."""
         i = len(self.commits)
         if self.log.mode != PICOLOG:
             return self.log.order[i]
@@ -59,7 +63,7 @@ class Player:
         return self.log.sizes.get((actor, self.machine.threads[actor].commits))
 
     def look(self):
-        """The end, where one is reached before the next commit."""
+        """Sets the end, if there is one before the next commit."""
         i, log = len(self.commits), self.log
         if i == log.count:
             sizes = 0 if log.mode == ORDER_SIZE else len(log.sizes)
@@ -74,35 +78,40 @@ class Player:
     # ------------------------------------------------------------ one commit
 
     def step(self):
-        machine, actor = self.machine, self.head()
-        steps, accesses, threads, request = (len(machine.pcs), len(machine.accesses), len(machine.threads), machine.request)
-        before = machine.threads[actor].save() if actor != DMA else None
+        actor = self.head()
+        start = self.start(actor)
         try:
-            if actor == DMA:
-                kind, size, served, raised = TRANSFER, 0, self.transfer(), None
-            else:
-                kind, size, served = self.thread_step(actor)
-                raised = self.interrupt(actor)
+            done = self.transfer() if actor == DMA else self.thread_step(actor)
         except _Leaves as leaves:
-            self.undo(actor, steps, accesses, before, threads, request)
+            self.undo(actor, start)
             self.end = ("diverged", len(self.commits)) + leaves.args
             return
-        handler = before.interrupts if before and before.masked else 0
-        self.commits.append(Commit(len(self.commits), actor, handler, kind, size, steps, len(machine.pcs), accesses,
-                                   len(machine.accesses), before, served, raised, threads, request))
+        self.commits.append(self.commit(actor, start, done))
         if actor != DMA:
             self.last = actor
         self.look()
 
-    def undo(self, actor, steps, accesses, before, threads, request):
-        machine = self.machine
-        machine.undo(steps, accesses)
-        del machine.threads[threads:]
-        machine.request = request
-        if before is not None:
-            machine.threads[actor] = type(machine.threads[actor]).of(before)
+    def start(self, actor):
+        m = self.machine
+        before = None if actor == DMA else m.threads[actor].save()
+        return _Start(len(m.pcs), len(m.accesses), len(m.threads), m.request, before)
+
+    def commit(self, actor, start, done):
+        m, (kind, size, served, raised), before = self.machine, done, start.before
+        handler = before.interrupts if before and before.masked else 0
+        return Commit(len(self.commits), actor, handler, kind, size, start.steps, len(m.pcs), start.accesses, len(m.accesses),
+                      before, served, raised, start.threads, start.request)
+
+    def undo(self, actor, start):
+        m = self.machine
+        m.undo(start.steps, start.accesses)
+        m.request = start.request
+        del m.threads[start.threads :]
+        if actor != DMA:
+            m.threads[actor] = Thread.of(start.before)
 
     def transfer(self):
+        """The commit of a DMA, as (kind, size, served, raised)."""
         size = self.size(DMA)
         if size:
             raise _Leaves(SIZE_OF_SERIAL, size)
@@ -112,9 +121,10 @@ class Player:
             raise _Leaves(BAD_DMA)
         self.machine.dma(data)
         self.dmas += 1
+        return TRANSFER, 0, None, None
 
     def thread_step(self, k):
-        """The commit of a thread, as (kind, size, served)."""
+        """The commit of a thread, as (kind, size, served, raised)."""
         size = self.size(k)
         ran = self.machine.run(k, 1 if size == 0 else self.log.s if size is None else size)
         if size == 0 and ran:
@@ -127,7 +137,7 @@ class Player:
         if self.log.mode != ORDER_SIZE and size is not None:
             self.sized += 1
         self.machine.end_commit(k)
-        return CHUNK if ran else SERIAL, ran, served
+        return CHUNK if ran else SERIAL, ran, served, self.interrupt(k)
 
     def serial(self, k):
         need, record = self.machine.need(k), None
@@ -139,7 +149,7 @@ class Player:
         return self.machine.serve(k, record)
 
     def interrupt(self, k):
-        """The value of an interrupt that is logged after the thread's commit, which it enters; else None."""
+        """Enters the interrupt that is logged after the thread's commit; its value, or None if there is none."""
         value = self.log.interrupts.get((k, self.machine.threads[k].commits))
         if value is None:
             return None

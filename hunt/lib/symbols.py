@@ -1,5 +1,5 @@
-"""Names and source lines of an image: `Names(image)`. Symbols are read here; lines by pyelftools, where it is there and the
-image has any. Without symbols everything has its number alone."""
+"""Names and source lines of an image: `Names(image)`. Symbols are read here, and lines by pyelftools if it is installed and
+the image has any. Without symbols everything has its number alone."""
 
 from bisect import bisect_right
 from collections import namedtuple
@@ -15,7 +15,7 @@ _EXECUTED = 4
 
 
 class NoWord(Exception):
-    """args: what was asked for, and why it is no word."""
+    """args: what was asked for, and why it isn't a word."""
 
 
 def printable(name):
@@ -24,7 +24,7 @@ def printable(name):
 
 
 def _symbols(data):
-    """The symbols of a well-formed symbol table, as Symbols; none where there is none."""
+    """The symbols of the image's symbol tables. Fails if they are damaged."""
     headers, size, count = struct.unpack_from("<I", data, 32)[0], *struct.unpack_from("<HH", data, 46)
     sections = [struct.unpack_from("<10I", data, headers + size * j) for j in range(count)] if size == 40 else []
     out = []
@@ -45,7 +45,7 @@ def _symbols(data):
 
 
 def _lines(data):
-    """(addr, "file:line" or None where a sequence ends), rising."""
+    """(addr, order, "file:line"), rising; None in place of the line if a sequence ends there."""
     import io
 
     from elftools.elf.elffile import ELFFile
@@ -78,7 +78,7 @@ class Names:
         self.file, self.size, self._table = image.file, image.size, None
         try:
             found = _symbols(image.file)
-        except (struct.error, ValueError, IndexError):  # a damaged table is as none
+        except (struct.error, ValueError, IndexError):  # a damaged table counts as no table
             found = []
         self.symbols = sorted(set(found))
         self.by_name = {}
@@ -90,7 +90,7 @@ class Names:
         self.data_at = [s.addr for s in self.data]
 
     def function(self, pc):
-        """The function of a pc, as `work`, or None; without what a compiler puts behind a name, as in `work.isra.0`."""
+        """The function of a pc, for example `work`, or None. Of `work.isra.0`, a compiler's name, it is `work` too."""
         j = bisect_right(self.code_at, pc) - 1
         if j < 0:
             return None
@@ -98,7 +98,7 @@ class Names:
         return s.name.partition(".")[0] if not s.size or pc < s.addr + s.size else None
 
     def line(self, pc):
-        """The source line of a pc, as `race.c:24`, or None."""
+        """The source line of a pc, for example `race.c:24`, or None."""
         if self._table is None:
             self._table = self._read_lines()
         j = bisect_right(self._table[0], pc) - 1
@@ -109,12 +109,12 @@ class Names:
             return [], []
         try:
             found = _lines(self.file)
-        except Exception:  # not there, or debug information that it can't read: no lines
+        except Exception:  # pyelftools isn't there, or can't read this: no lines
             found = []
         return [e[0] for e in found], [e[2] for e in found]
 
     def place(self, pc):
-        """A pc in words: `work, race.c:24`, or as much of it as is known, else its number."""
+        """A pc in words: `work, race.c:24`, or as much as is known, or its number."""
         function, line = self.function(pc), self.line(pc)
         if function is None and line is None:
             return "%08X" % pc
@@ -129,7 +129,7 @@ class Names:
         return "%08X" % addr
 
     def word(self, text):
-        """The address that a WORD says: a symbol, or a hexadecimal number, and `+OFFSET` behind it (decimal, or 0x..)."""
+        """The address that a WORD means: a symbol or a hexadecimal number, then perhaps `+OFFSET`, decimal or 0x.."""
         base, plus, offset = text.partition("+")
         if base in self.by_name:
             addr = self.by_name[base].addr

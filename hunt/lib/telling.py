@@ -38,7 +38,7 @@ def word_name(trace, word):
 
 
 def columns(rows):
-    """Rows of texts as lines, each column as wide as it must be."""
+    """Rows of texts as lines, with each column as wide as it must be."""
     widths = [max(map(len, column)) for column in zip(*rows)] if rows else []
     return ["  ".join(text.ljust(width) for text, width in zip(row, widths)).rstrip() for row in rows]
 
@@ -48,7 +48,7 @@ def access_row(trace, commit, a, note=""):
 
 
 def what_served(commit):
-    """A serial step in words: `read(9, 400, 8) answers 8`."""
+    """A serial step in words, for example `read(9, 400, 8) answers 8`."""
     served = commit.served
     if served.name == "iret" and commit.before.masked:
         return "iret()"
@@ -64,7 +64,7 @@ _ARGUMENTS = {"random": 2, "clock": 0, "handler": 1, "iret": 0, "dma": 2, "self"
 
 
 def commit_line(trace, commit):
-    """`commit 14: thread 2, 15 instructions, work, race.c:20 to work, race.c:24`."""
+    """For example `commit 14: thread 2, 15 instructions, work, race.c:20 to work, race.c:24`."""
     head = "commit %d: %s" % (commit.number, context_name(trace.context(commit)))
     if commit.served:
         return "%s, %s, %s" % (head, what_served(commit), place(trace, trace.pcs[commit.first]))

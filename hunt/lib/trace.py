@@ -55,7 +55,7 @@ class Trace:
 
     @property
     def words(self):
-        """Of each word that was accessed, by its address: the indices of its accesses, in order."""
+        """For each word that was accessed, by its address: the indices of its accesses, in order."""
         if self._words is None:
             self._words = words = {}
             for j, a in enumerate(self.accesses):
@@ -73,20 +73,17 @@ class Trace:
     # ------------------------------------------------------------ threads at a moment
 
     def thread_at(self, k, number):
-        """Registers of thread k before commit `number` (the number of commits: at the end); None where it isn't there yet."""
+        """Registers of thread k before commit `number`, or at the end if that is the number of commits. None if there is no
+        such thread yet."""
         if self._of_thread is None:
             self._of_thread = {}
             for c in self.commits:
                 self._of_thread.setdefault(c.actor, []).append(c.number)
         mine = self._of_thread.get(k, ())
-        j = bisect_right(mine, number - 1)
-        if j < len(mine):
-            born = self.commits[mine[j]].before
-        elif k < len(self.machine.threads):
-            born = self.machine.threads[k].save()
-        else:
+        if k >= self.threads_at(number):
             return None
-        return born if k < self.threads_at(number) else None
+        j = bisect_right(mine, number - 1)
+        return self.commits[mine[j]].before if j < len(mine) else self.machine.threads[k].save()
 
     def threads_at(self, number):
         """How many threads there are before commit `number`."""
@@ -94,9 +91,9 @@ class Trace:
 
 
 class Moment:
-    """The machine as it was before a step, which can be sought forwards and backwards: `moment = Moment(trace)`, then
-    `moment.seek(step)`; `moment.machine` has memory and threads, `moment.commit` is the commit that the step is in (None at
-    the end). What the machine's own pcs and accesses hold is of no meaning."""
+    """The machine as it was before a step. `moment = Moment(trace)`, then `moment.seek(step)`, forwards or back;
+    `moment.machine` has memory and threads, and `moment.commit` is the commit that the step is in (None at the end). The
+    machine's own pcs and accesses have no meaning."""
 
     def __init__(self, trace):
         self.trace, self.step, self.done = trace, 0, 0  # done: how many accesses are in the memory
@@ -105,7 +102,7 @@ class Moment:
         self.seek(0)
 
     def seek(self, step):
-        """Before this step: 0 to the number of steps."""
+        """Goes to before this step, from 0 to the number of steps."""
         trace = self.trace
         step = max(0, min(step, trace.steps))
         is_end = step == trace.steps
@@ -135,7 +132,7 @@ class Moment:
                 words[a.addr >> 2] = a.old
 
     def thread(self):
-        """The number of the thread whose step comes next; None before a DMA and at the end."""
+        """The thread whose step is next; None before a DMA and at the end."""
         return None if self.commit is None or self.commit.actor == DMA else self.commit.actor
 
     def step_forward(self):
@@ -158,9 +155,8 @@ def memory_size(text):
 
 
 def open_trace(image, memory, log, account=None):
-    """The Trace of files, played and compared with the account that the proved program's walk puts (or with the file
-    `account`). Raises NotWalked where the program refuses the files, NotRead where this one does, Differs where the accounts
-    aren't the same."""
+    """The Trace of files, played and compared with the account of the proved program's walk, or with the file `account`.
+    Raises NotWalked if that program refuses the files, NotRead if this one does, Differs if the accounts aren't the same."""
     walk = None if account else Walk(image, memory, log)
     try:
         loaded = read_image(Path(image).read_bytes(), memory_size(memory))

@@ -5,10 +5,10 @@ from collections import namedtuple
 from . import isa
 
 # A context loads a word; others store to it (each of them, in order); the context stores on top. Each is (Commit, Access).
-# is_same: the store on top finds the value that was loaded, since the others stored that, or it came back.
+# is_same: the store on top finds the value that was loaded, because the others stored that value, or it came back.
 Lost = namedtuple("Lost", "word load others store is_same")
-# A context loads a word; others store to it; the context's SC or exchange finds the loaded value there again. source: the
-# context's load of what it stores, since the first load; None where it didn't load that. now: what stands there by then.
+# A context loads a word; others store to it; the context's SC or exchange finds the loaded value there again. source: where
+# the context has loaded what it stores, since the first load; None if it hasn't. now: the word at that place by then.
 Aba = namedtuple("Aba", "word load others store source now")
 # What a context does to a word at one pc. of: (thread, whether in an interrupt). first, last: commits.
 Use = namedtuple("Use", "of kind pc count first last")
@@ -48,7 +48,8 @@ def _bits(access):
 
 
 def _passes(trace, word, loads):
-    """For each store by a context with something seen: (seen, store), the seen being of the last of its `loads` before."""
+    """(seen, store) for each store by a context that has seen the word, by one of these kinds of `loads`, and others have
+    stored to it since."""
     seen = {}
     for commit, access in trace.of_word(word):
         lane, context = _lane(commit), trace.context(commit)
@@ -77,7 +78,7 @@ def lost(trace):
 
 
 def aba(trace):
-    """The SCs and exchanges that find what was loaded before, though others have stored since, in their order."""
+    """The SCs and exchanges that find what was loaded before, although others have stored since, in their order."""
     out = []
     for word in shared_words(trace):
         for seen, (commit, access) in _passes(trace, word, frozenset((isa.LOAD,))):
@@ -89,7 +90,7 @@ def aba(trace):
 
 
 def _source(trace, load, store):
-    """The last load of the stored value by the context that stores, behind its `load`, as (Commit, Access), or None."""
+    """The last load of the stored value by the context that stores, after its `load`, as (Commit, Access), or None."""
     commit, access = store
     context = trace.context(commit)
     for number in range(commit.number, load[0].number - 1, -1):

@@ -54,4 +54,4 @@ def can_walk():
     return bool(os.environ.get("DELOREAN")) or (TOP / "crates/delorean/out/delorean").is_file()
 
 
-NOT_BUILT = "the walks of the proved program, which isn't built: stored accounts stand in for them"
+NOT_BUILT = "the walks of the proved program, which isn't built: stored accounts are taken instead"

@@ -60,7 +60,7 @@ class PlantedFaults(unittest.TestCase):
     def difference(self, account):
         with self.assertRaises(Differs) as raised:
             compare(self.played, account)
-        return raised.exception
+        return raised.exception.args[0]
 
     def test_in_each_line_of_the_account(self):
         lines = self.account.decode().splitlines(keepends=True)
@@ -87,12 +87,10 @@ class PlantedFaults(unittest.TestCase):
 
     def test_the_place_is_told(self):
         found = self.difference(self.account.replace(b"l 00000600 00000004\n", b"l 00000600 00000005\n", 1))
-        self.assertIn("commit 13, thread 1, pc 00000068", str(found))
+        self.assertEqual(found.place, "commit 13, thread 1, pc 00000068")
 
     def test_in_the_interpreter(self):
-        """An addition that is wrong by one where it comes to 5: the first wrong load is told."""
-        faulty = dict(isa._VALUES)
-        faulty[0, 0] = lambda a, b: (a + b) & isa.M
+        """An addition that is wrong by one when it comes to 5: the first wrong load is told."""
         wrong = isa._Operations()
         right = isa._addi
 
@@ -112,8 +110,8 @@ class PlantedFaults(unittest.TestCase):
             found = play(image, log)
         with self.assertRaises(Differs) as raised:
             compare(found, self.account)
-        self.assertEqual((raised.exception.ours, raised.exception.theirs), ("l 00000600 00000006", "l 00000600 00000005"))
-        self.assertIn("commit 13, thread 1, pc 00000068", str(raised.exception))
+        self.assertEqual(str(raised.exception), "line 58 of the account, commit 13, thread 1, pc 00000068: "
+                         "the account has 'l 00000600 00000005', the interpreter 'l 00000600 00000006'")
 
 
 if __name__ == "__main__":

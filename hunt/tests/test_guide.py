@@ -1,4 +1,4 @@
-"""The guide's commands say what it shows. A line `..` stands for some lines, or none."""
+"""The guide's commands say what it shows. A line `..` means some lines, or none."""
 
 import importlib.machinery
 import importlib.util
@@ -31,12 +31,12 @@ def command(name):
 
 
 def shown(text):
-    """Of each `$ ../trace ..` in the guide: the folder, its words, and the lines behind it."""
+    """For each `$ ../trace ..` in the guide: the folder, its words, and the lines after it."""
     folder, found = None, []
     for line in text.splitlines():
-        stands = re.match(r"In `((?:hunt/)?examples/[\w-]+)`", line)
-        if stands:
-            folder = support.TOP / stands.group(1)
+        named = re.match(r"In `((?:hunt/)?examples/[\w-]+)`", line)
+        if named:
+            folder = support.TOP / named.group(1)
         if re.match(r"    \$ \S*/trace ", line) and folder:
             found.append((folder, line.split()[2:], []))
             is_open = True

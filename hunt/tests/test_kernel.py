@@ -65,6 +65,8 @@ class Calls(unittest.TestCase):
         self.assertEqual(call(m, 3, 0, 0x1FFD, 3, record=Input(3, 3, b"abc")), 3)
         self.assertEqual([(a.kind, a.addr, a.width, a.value) for a in m.accesses[-1:]], [(isa.COPY, 0x1FFD, 3, 0x636261)])
         self.assertEqual(call(m, 3, 0, 0x1000, 3, record=Input(3, NOTHING, b"")), NOTHING)
+        self.assertEqual(call(m, 3, 0, 0x1000, 5000, record=Input(3, 2, b"ab")), 2)
+        self.assertEqual(call(m, 2, 8, 0x1000, 5000, record=Input(2, 4096, b"")), 4096)
         self.assertEqual(call(m, 5, record=Input(5, 77, b"")), 77)
 
     def test_what_is_written(self):
@@ -128,7 +130,8 @@ class InterruptsAndTransfers(unittest.TestCase):
         self.assertEqual((bytes(m.memory[-12:-3]), m.request), (b"\5\0\0\0abcde", None))
         self.assertEqual([(a.kind, a.addr, a.width) for a in m.accesses],
                          [(isa.DMA, SIZE - 12, 4), (isa.DMA, SIZE - 8, 4), (isa.DMA, SIZE - 4, 1)])
-        self.assertEqual((call(m, 8, 0x1000, 5000), m.request), (0, (0x1000, 4096)) if SIZE > 0x2003 else (BAD_BUFFER, None))
+        self.assertEqual((call(m, 8, 0x1000, 5000), m.request), (BAD_BUFFER, None))
+        self.assertEqual((call(m, 8, 0xFFC, 5000), m.request), (0, (0xFFC, 4096)))
 
     def test_devices(self):
         lw, sw = 0x0000A183, 0x0030A023  # lw x3, 0(x1); sw x3, 0(x1)

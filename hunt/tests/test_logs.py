@@ -74,12 +74,18 @@ class Images(unittest.TestCase):
     def test_refused(self):
         good = (support.TOP / "examples/three-instructions/a.elf").read_bytes()
         for at, value, rule in ((0, 0, 2), (6, 2, 2), (4, 2, 3), (5, 2, 4), (16, 3, 5), (18, 62, 6), (36, 1, 7), (42, 40, 8),
-                                (68, 200, 9), (62, 1, 10), (24, 2, 12), (25, 16, 12), (52, 2, 13)):
+                                (68, 200, 9), (72, 8, 9), (62, 1, 10), (24, 2, 12), (25, 16, 12), (52, 2, 13)):
             changed = bytearray(good)
             changed[at] = value
             with self.assertRaises(NotAnImage) as raised:
                 read_image(bytes(changed), 4096)
             self.assertEqual(raised.exception.args, (rule,), at)
+        two = bytearray((support.TOP / "examples/race/race.elf").read_bytes())
+        read_image(two, 4096)
+        two[52 + 32 + 8 : 52 + 32 + 10] = b"\0\0"  # the second segment's address
+        with self.assertRaises(NotAnImage) as raised:
+            read_image(two, 4096)
+        self.assertEqual(raised.exception.args, (11,))
         with self.assertRaises(NotAnImage) as raised:
             read_image(good[:51], 4096)
         self.assertEqual(raised.exception.args, (1,))

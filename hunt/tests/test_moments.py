@@ -1,4 +1,4 @@
-"""A machine that is sent to and fro stands each time as it did before, and a machine by hand does what a log's play does."""
+"""A machine that is sent to and fro is each time as it was before, and a machine by hand does what a log's play does."""
 
 import random
 import unittest

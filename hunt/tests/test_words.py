@@ -106,8 +106,8 @@ class ByHand(unittest.TestCase):
 
 
 def interrupted(turns, interrupts):
-    """The trace of a thread that does these instructions, one a commit, behind two commits of its own; its handler stores 1
-    to the word where its value isn't 0, and else loads it. interrupts: values by the number of commits before."""
+    """The trace of a thread that does these instructions, one a commit, after two commits of its own. Its handler stores 1 to
+    the word if the interrupt's value isn't 0, and else loads it. interrupts: values by the number of commits before."""
     handler = [0x00050663, SW, 0x0080006F, LW, 0x00700893, 0x00000073]  # beq x10, x0, 12; sw; jal 8; lw; iret
     code = [0x40000093, 0x00100113, 0x04000513, 0x00600893, 0x00000073, *turns]
     code += [0x13] * (16 - len(code)) + handler
@@ -155,7 +155,7 @@ class Names(unittest.TestCase):
                 names.word(text)
 
     def test_odd_names(self):
-        """Names of any bytes are shown without control characters, and a damaged table of symbols is as none."""
+        """Names of any bytes are shown without control characters, and a damaged table of symbols counts as no table."""
         data = support.example("race, plan.toml").image.read_bytes()
         odd = data.replace(b"counter\0", b"c\x1b[1m\n\xff\0")
         self.assertEqual(Symbols(Image(4096, 0, b"", odd)).name(0x600), "c?[1m?\ufffd")

@@ -1,5 +1,5 @@
-/* stack.c, mended: beside the number of the block on top stands how often the top was changed, so a top that was changed and
-   changed back isn't what was loaded. */
+/* stack.c, mended: the top also has how often it was changed, so a top that was changed and changed back isn't the one that
+   was loaded. */
 #include "delorean.h"
 
 enum { THREADS = 3, ROUNDS = 4, BLOCKS = 4 };

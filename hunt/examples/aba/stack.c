@@ -1,6 +1,6 @@
-/* Three threads take blocks from a stack and give them back, without a lock: the top is exchanged where it is still the
-   block that was loaded. A thread that gets a block writes its name into it, and looks whether another's stands there. Ends
-   with 0 where no two threads ever had one block, and else with 1. */
+/* Three threads take blocks from a stack and give them back, without a lock: the top is exchanged if it is still the block
+   that was loaded. A thread that gets a block writes its name into it, and looks whether another name is there. Ends with 0
+   if no two threads ever had the same block, and else with 1. */
 #include "delorean.h"
 
 enum { THREADS = 3, ROUNDS = 4, BLOCKS = 4 };

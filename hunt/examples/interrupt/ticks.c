@@ -1,4 +1,4 @@
-/* A thread counts its rounds, and its interrupt handler counts interrupts, both in one counter. Ends with 0 where the counter
+/* A thread counts its rounds, and its interrupt handler counts interrupts, both in one counter. Ends with 0 if the counter
    is right, and else with what is missing. */
 #include "delorean.h"
 

@@ -10,7 +10,7 @@ static struct stack stacks[2];
 
 static void wake(void) { awake = 1; }
 
-/* Sleeps until it is woken; 0 where nobody comes. */
+/* Sleeps until it is woken; 0 if nobody comes. */
 static int sleep(void) {
     for (int i = 0; i < PATIENCE; i++) {
         if (awake)

@@ -1,5 +1,5 @@
-/* One thread puts numbers into a ring, and another takes them out. The taker sleeps where the ring is empty, until the putter
-   wakes it. Ends with 0 where all numbers were taken, and else with how many were, and 100. */
+/* One thread puts numbers into a ring, and another takes them out. The taker sleeps when the ring is empty, until the putter
+   wakes it. Ends with 0 if all numbers were taken, and else with 100 and how many were. */
 #include "delorean.h"
 
 enum { NUMBERS = 6, ROOM = 2, PATIENCE = 40 };
@@ -11,7 +11,7 @@ static struct stack stacks[2];
 
 static void wake(void) { awake = 1; }
 
-/* Sleeps until it is woken; 0 where nobody comes. */
+/* Sleeps until it is woken; 0 if nobody comes. */
 static int sleep(void) {
     for (int i = 0; i < PATIENCE; i++) {
         if (awake)
