@@ -4,6 +4,7 @@ from collections import namedtuple
 import os
 import shlex
 import subprocess
+import tempfile
 from pathlib import Path
 
 from . import isa
@@ -120,17 +121,24 @@ def program():
 
 
 class Walk:
-    """A walk of the proved program. It runs beside this one until its account is asked for."""
+    """A walk of the proved program. It runs beside this one until its account is asked for. Messages of bin/delorean, which may
+    have to build the program first, go to standard error."""
 
     def __init__(self, image, memory, log):
+        self.output = tempfile.TemporaryFile()  # and no pipe, which would hold the walk up when it is full
         try:
             self.process = subprocess.Popen([*program(), "walk", "--", str(image), str(memory), str(log)],
-                                            stdin=subprocess.DEVNULL, stdout=subprocess.PIPE, stderr=subprocess.PIPE)
+                                            stdin=subprocess.DEVNULL, stdout=self.output)
         except OSError as error:
+            self.output.close()
             raise NotWalked("%s: %s" % (program()[0], error.strerror), 125) from error
 
     def account(self):
-        out, err = self.process.communicate()
-        if self.process.returncode not in (0, 1):
-            raise NotWalked((out + err).decode("utf-8", "replace").strip(), self.process.returncode)
-        return out
+        status = self.process.wait()
+        with self.output:
+            self.output.seek(0)
+            text = self.output.read()
+        if status not in (0, 1):
+            said = text.decode("utf-8", "replace").strip()
+            raise NotWalked(said or "%s ended with status %d" % (program()[0], status), status)
+        return text

@@ -147,22 +147,23 @@ class NotRead(Exception):
 
 
 def memory_size(text):
-    """The bytes of memory that a word says."""
-    size = int(text)
+    """The bytes of memory that MEMORY means."""
+    size = int(text) if str(text).isdecimal() else 0
     if size % 4096 or not 4096 <= size <= 1 << 24:
-        raise ValueError("MEMORY is a multiple of 4096 from 4096 to 16777216")
+        raise NotRead("MEMORY is a multiple of 4096 from 4096 to 16777216")
     return size
 
 
 def open_trace(image, memory, log, account=None):
     """The Trace of files, played and compared with the account of the proved program's walk, or with the file `account`.
     Raises NotWalked if that program refuses the files, NotRead if this one does, Differs if the accounts aren't the same."""
-    walk = None if account else Walk(image, memory, log)
+    size = memory_size(memory)
+    walk = None if account else Walk(image, size, log)
     try:
-        loaded = read_image(Path(image).read_bytes(), memory_size(memory))
+        loaded = read_image(Path(image).read_bytes(), size)
         read = read_log(Path(log).read_bytes())
         text = Path(account).read_bytes() if account else None
-    except (OSError, ValueError, NotAnImage, Malformed) as error:
+    except (OSError, NotAnImage, Malformed) as error:
         if walk:
             walk.account()  # refuses it in the program's own words
         raise NotRead(_in_words(error)) from error
@@ -176,6 +177,4 @@ def _in_words(error):
         return "%s: %s" % (error.filename, error.strerror)
     if isinstance(error, NotAnImage):
         return "refused image 0 %d" % error.args
-    if isinstance(error, Malformed):
-        return "refused log 0 %d %d" % error.args
-    return str(error)
+    return "refused log 0 %d %d" % error.args
