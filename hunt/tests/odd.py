@@ -6,7 +6,7 @@ import support
 NAMES = ((b"counter", b"<b>&\"'\n"), (b"lock", b"\x1b[m\xff"), (b"thread_entry", b"</script><b>"))
 FILE, TITLE = "<img src=x onerror=a()>\x1b[1m.elf", "<img src=x onerror=a()>\\x1B[1m.elf, race.log"
 FUNCTION = "</script><b>"
-SHOWN = {"<b>&\"'\\x0A", "\\x1B[m\ufffd"}
+SHOWN = {"<b>&\"'?", "?[m\ufffd"}  # as lib/symbols.py has them
 
 
 def odd_image(folder):

@@ -140,6 +140,22 @@ class Points(unittest.TestCase):
                     line.go(line.steps)
                     self.assertEqual(self.walk(line, point, lambda: line.backward([point]), -1), wanted[::-1])
 
+    def test_of_several_points_the_nearest_stops(self):
+        draw = random.Random(2)
+        for name, trace in traces():
+            shared = [addr for addr, indices in trace.words.items() if len(indices) > 1 and addr < trace.image.size][:10]
+            points = [Point(BREAK, pc, 0) for pc in list(dict.fromkeys(trace.pcs))[::5][:12]]
+            points += [Point(kind, addr, 4) for kind in (WRITE, READ, ACCESS) for addr in shared]
+            line = Timeline(trace)
+            for _ in range(100 if points else 0):
+                some, at, thread = draw.sample(points, min(3, len(points))), draw.randrange(trace.steps + 1), draw.randrange(line.threads)
+                line.go(at)
+                on, back = line.forward(some, thread), line.backward(some, thread)
+                each = [line.forward([point]).at for point in some] + [line.forward([], thread).at]
+                self.assertEqual(on.at, min(each))
+                each = [line.backward([point]).at for point in some] + [line.backward([], thread).at]
+                self.assertEqual(back.at, max(each))
+
     def walk(self, line, point, go, way):
         """The steps that a point stops at, one after another, each stepped over as gdb does."""
         found = []

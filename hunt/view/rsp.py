@@ -33,7 +33,10 @@ class Packets:
         self._put(b"$%s#%02x" % (data, sum(data) & 255))
 
     def _byte(self):
-        byte = self.reader.read(1)
+        try:
+            byte = self.reader.read(1)
+        except OSError as error:
+            raise Gone from error
         if not byte:
             raise Gone
         return byte

@@ -10,24 +10,20 @@ KEY = ("counter=7<13: loads 7 of counter, which commit 13 stored; counter:=8: st
 
 
 def rows(picture, first, last, width, has_colour=False):
-    """The lines, of the commits from first to last."""
-    number = max(6, len(str(max(0, len(picture.lane) - 1))))
+    """The lines, of the commits from first to last, and of the findings in these."""
+    last = min(last, len(picture.lane) - 1)
+    number = max(6, len(str(last)))
     column = max(LEAST, (width - number - 1) // max(1, len(picture.lanes)) - 1)
-    yield _row(["commit".rjust(number), *(name[:column] for name in picture.lanes)], column)
+    yield " ".join(["commit".rjust(number), *(name[:column].ljust(column) for name in picture.lanes)]).rstrip()
     cells = _Cells(picture)
-    for i in range(first, min(last + 1, len(picture.lane))):
+    for i in range(first, last + 1):
         head = str(i).rjust(number)
         for words in _wrapped(cells.of(i), column):
-            texts = [head] + [""] * len(picture.lanes)
-            texts[1 + picture.lane[i]] = " ".join(words)
-            line = _row(texts, column)
-            yield _coloured(line, words) if has_colour else line
+            yield head + " " * (1 + picture.lane[i] * (column + 1)) + " ".join(_coloured(words) if has_colour else words)
             head = " " * number
-    yield from ("! " + finding.text for finding in picture.found)
-
-
-def _row(texts, column):
-    return " ".join([texts[0], *(text.ljust(column) for text in texts[1:])]).rstrip()
+    if first <= last:
+        entries = range(picture.first[first], picture.first[last + 1])
+        yield from ("! " + finding.text for finding in picture.found if any(e in entries for e in finding.accesses))
 
 
 def _wrapped(words, column):
@@ -41,11 +37,8 @@ def _wrapped(words, column):
     yield line
 
 
-def _coloured(line, words):
-    for word in dict.fromkeys(words):
-        if word.endswith("!"):
-            line = line.replace(word, RED + word + PLAIN)
-    return line
+def _coloured(words):
+    return [RED + word + PLAIN if word.endswith("!") else word for word in words]
 
 
 class _Cells:
