@@ -3,7 +3,6 @@ ghost use Rattle.std.specs.Prelude.{◌≡◌, ◌≤◌, ◌<◌, ◌^◌, IfOk
 ghost use Rattle.spec_isa.specs.declared.thread.Parts.{Parts};
 ghost use Rattle.spec_engine.specs.declared.answers.How.{How};
 ghost use Rattle.spec_engine.specs.Flights.{IsInside, at, drain};
-ghost use Rattle.spec_isa.specs.Words.{IsBytes};
 ghost use Rattle.spec_kernel.specs.Devices.{Devices};
 ghost use Rattle.spec_kernel.specs.Interrupts.{takes_interrupt};
 ghost use Rattle.spec_play.specs.Progress.{position};
@@ -111,7 +110,6 @@ impl Spheres {
         requires thread { thread < length (nth_sphere i self.old).threads }
         requires chunk { (how : How) × CanCommit self.old.s (nth_sphere i self.old) thread how chunk.now.chunk }
         requires few { position (nth_sphere i self.old).progress < 2 ^ 24 }
-        requires request { let p = nth_sphere i self.old in IfSome p.progress.request (IsSoundRequest (length p.memory)) }
         ensures ok { IfOk result (λ m. (d : Devices) (how : How) → chunk.now.chunk.closed ≡ Some how →
             let p = nth_sphere i self.old in
             let short = is_short self.old.s how chunk.now.chunk.limit in
@@ -135,7 +133,6 @@ impl Spheres {
         requires thread { thread < length (nth_sphere i self.old).threads }
         requires turn { IsTurnOf thread (nth_sphere i self.old).role }
         requires few { position (nth_sphere i self.old).progress < 2 ^ 24 }
-        requires bytes { IsBytes (nth_sphere i self.old).memory }
         requires devices { HaveByteInput devices.old }
         ensures ok { IfOk result (λ m. (t : Parts) → slice_get (nth_sphere i self.old).threads thread ≡ Some t →
             let p = nth_sphere i self.old in

@@ -23,14 +23,14 @@ use Rattle.spec_play.specs.Turns.{Now, now_at, turn_of, at_end, is_size_used, ar
 use Rattle.spec_play.specs.Verdicts.{LogVerdict, Goes}
 use Rattle.spec_protocol.proofs.Moves.Threads.{AreNew}
 use Rattle.dl_kernel.specs.Calls.{spawned_list}
+use Rattle.dl_replay.specs.Served.{Served}
 use Rattle.dl_replay.specs.Replaying.{Replaying, Agrees, replay_start, commits_at, commits_of}
 use Rattle.dl_replay.specs.Replays.{now_for, advanced}
 use Rattle.dl_kernel.specs.StepResults.{result_in}
-use Rattle.dl_replay.specs.declared.asking.Verdict.{Verdict}
-use Rattle.dl_replay.specs.declared.asking.Verdict.TheVariants.{Went}
+use Rattle.dl_replay.specs.declared.verdict.Verdict.{Verdict}
+use Rattle.dl_replay.specs.declared.verdict.Verdict.TheVariants.{Went}
 use Rattle.dl_replay.specs.declared.judging.Done.{Done}
 use Rattle.dl_replay.specs.declared.judging.Finish.{Finish}
-use Rattle.dl_replay.specs.declared.served.Served.{Served}
 use Rattle.dl_replay.specs.Seen.{used_seen}
 use Rattle.dl_replay.specs.Judging.{verdict_of, step_verdict, transfer_verdict}
 use Rattle.dl_replay.specs.Judged.{HasRun, committed, transferred, chunk_judged, serial_judged, dma_judged}

@@ -69,7 +69,7 @@ pub gone-playing : (r : Replaying) (s : Sphere) (k : ℕ) (v : LogVerdict) (new 
 gone-playing r s k v new n g kept sound h =
     let count : length n.commits.items ≡ suc (length s.commits.items) = ap length kept.commits ∙ pushed_length s.commits.items g.effect.commit (length s.commits.items) refl in
     let done : new.done ≡ r.done + 1 = ap (λ (x : Replaying). x.done) g.replay in
-    let was : length s.commits.items ≡ r.done = h.done in
+    let was : 0 + length s.commits.items ≡ r.done = h.done in
     let size : length s.store.memory ≡ length n.store.memory = sym (ap length kept.memory ∙ length_lays s.store.memory g.effect.words) in
     record {
       is_log = subst IsLog (sym (ap (λ (x : Replaying). x.log) g.replay)) h.is_log;
@@ -110,7 +110,7 @@ pub left-playing : (r : Replaying) (s : Sphere) (why : Why) (new : Replaying) (n
 left-playing r s why new n l h =
     record {
       is_log = subst IsLog (sym (ap (λ (x : Replaying). x.log) l.replay)) h.is_log;
-      done = ap length l.commits ∙ h.done ∙ sym (ap (λ (x : Replaying). x.done) l.replay);
+      done = ap (λ (cs : List Commit). 0 + length cs) l.commits ∙ h.done ∙ sym (ap (λ (x : Replaying). x.done) l.replay);
       commits = ap (λ (x : Replaying). x.commits) l.replay ∙ h.commits ∙ sym (ap commits_of l.threads);
       whole = ap (λ (x : Replaying). x.total) l.replay ∙ h.whole;
       turn = λ j e. absurd (never-turn (sym (ap (λ (x : Replaying). x.now) l.replay) ∙ e));
@@ -142,7 +142,7 @@ pub dma-playing : (r : Replaying) (s : Sphere) (v : DmaVerdict) (new : Replaying
 dma-playing r s v new n ws g kept h =
     let count : length n.commits.items ≡ suc (length s.commits.items) = ap length kept.commits ∙ pushed_length s.commits.items dma_commit (length s.commits.items) refl in
     let done : new.done ≡ r.done + 1 = ap (λ (x : Replaying). x.done) g.replay in
-    let was : length s.commits.items ≡ r.done = h.done in
+    let was : 0 + length s.commits.items ≡ r.done = h.done in
     record {
       is_log = subst IsLog (sym (ap (λ (x : Replaying). x.log) g.replay)) h.is_log;
       done = omega (arith, count, done, was);
@@ -174,7 +174,7 @@ pub reserved-playing : (r : Replaying) (s n : Sphere) → n.store ≡ s.store �
 reserved-playing r s n store threads request commits h =
     record {
       is_log = h.is_log;
-      done = ap length commits ∙ h.done;
+      done = ap (λ (cs : List Commit). 0 + length cs) commits ∙ h.done;
       commits = h.commits ∙ sym (ap commits_of threads);
       whole = h.whole;
       turn = λ j e. subst (λ (ts : List Parts). j < length ts) (sym threads) (h.turn j e);
