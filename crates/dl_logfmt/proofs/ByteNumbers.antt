@@ -5,7 +5,7 @@ use Rattle.std.proofs.lemmas.List.Elements.{All-head, All-tail}
 use Rattle.std.specs.Int.{byte_at, bytes_low_first}
 use Rattle.byteorder.specs.Endian.{little_from}
 use Rattle.byteorder.specs.Numbers.{little_from-cons, length-bytes_low_first, little_number-reads_back}
-use Rattle.spec_log.specs.Reading.{number_of}
+use Rattle.spec_log.specs.Fields.{number_of}
 use Rattle.spec_log.specs.Bytes.{little}
 
 -- the number is one of a byte

@@ -6,7 +6,7 @@ use Rattle.std.proofs.lemmas.List.{drop_at, take_at, take-append-drop, length-ta
 use Rattle.std.proofs.lemmas.List.Elements.{All-nil, All-cons, All-drop, All-take}
 use Rattle.std.specs.Int.{byte_at, bytes_low_first}
 use Rattle.spec_log.specs.Bytes.{little}
-use Rattle.spec_log.specs.Reading.{ParseError, Read, Reader, continues, read, gives, raw, passes as judge, number, number_of}
+use Rattle.spec_log.specs.Fields.{ParseError, Read, Reader, continues, read, gives, raw, passes as judge, number, number_of}
 use Rattle.dl_logfmt.proofs.ByteNumbers.{IsByte, length-little, number_of-little, little-number_of, number_of-below}
 
 -- what was read: a good value, whose bytes these are, and the bytes behind it
@@ -33,6 +33,15 @@ Codes-as reader bytes_of as_bytes good as_good codes same to from =
       finds = λ before bytes x after are e.
           let f = codes.finds before bytes x after are e in
           record { is_good = to x f.is_good; rest = f.rest; split = rw (← same x f.is_good) f.split; here = rw (← same x f.is_good) f.here };
+    }
+
+-- a reader that reads as another does reads what that one reads
+pub Codes-via : {X : Type 0} (reader other : Reader X) (bytes_of : X → List ℕ) (good : X → Type 0)
+    → ((bytes : List ℕ) (at : ℕ) → reader bytes at ≡ other bytes at) → Codes other bytes_of good → Codes reader bytes_of good
+Codes-via reader other bytes_of good same codes =
+    record {
+      reads = λ x g before rest. same _ _ ∙ codes.reads x g before rest;
+      finds = λ before bytes x after are e. codes.finds before bytes x after are (sym (same _ _) ∙ e);
     }
 
 same_ok : {X : Type 0} (r : Result X ParseError) (x y : X) → r ≡ Ok x → r ≡ Ok y → x ≡ y

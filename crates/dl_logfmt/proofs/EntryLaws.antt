@@ -7,7 +7,8 @@ use Rattle.std.proofs.lemmas.Bool.Decides.{Decides-or, Decides-and, Decides-ltb,
 use Rattle.std.proofs.lemmas.List.Elements.{All-contains, All-from_recursion}
 use Rattle.spec_log.specs.Bytes.{little, u8, u16, u32, counted_bytes, short_size_bytes, interrupt_bytes, input_bytes, dma_bytes}
 use Rattle.spec_log.specs.Log.{ComesBefore, IsShortSize, IsInterrupt, AreFewBytes, input_kinds, IsInput, IsDmaRecord}
-use Rattle.spec_log.specs.Reading.{Reader, read, gives, raw, number, field, any, at_most, from_to, thread, is_earlier, short_size, interrupt, counted, input, dma}
+use Rattle.spec_log.specs.Fields.{Reader, read, gives, raw, number, field, any, at_most, from_to}
+use Rattle.spec_log.specs.Reading.{thread, is_earlier, short_size, interrupt, counted, input, dma}
 use Rattle.dl_logfmt.proofs.ByteNumbers.{IsByte}
 use Rattle.dl_logfmt.proofs.Codes.{Codes, Codes-as, Codes-read, Codes-gives, Codes-number, Codes-raw}
 

@@ -1,11 +1,12 @@
+mod AtOnce
 mod ByteNumbers
-mod Codes
-pub mod Drafts
+pub mod Codes
 mod EntryLaws
 pub mod Feeding
 pub mod LogLaws
 mod OrderLaws
+pub mod Parsing
 mod SectionLaws
 mod SizeLaws
-mod AtOnce
+pub mod Streams
 mod Written

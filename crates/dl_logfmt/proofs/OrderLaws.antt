@@ -1,7 +1,7 @@
 -- Reading the order of a log undoes writing it.
-use Rattle.std.proofs.Common.{◌≡◌, ℕ, zero, suc, ◌+◌, ◌*◌, ◌/◌, ◌%◌, ◌<◌, ◌≤◌, ◌^◌, ◌==◌, true, List, [], ◌∷◌, ◌++◌, All, length, drop, refl, append-nil, arith, inl, inr, eq-eqb}
+use Rattle.std.proofs.Common.{◌≡◌, ℕ, zero, suc, ◌+◌, ◌*◌, ◌/◌, ◌%◌, ◌<◌, ◌≤◌, ◌^◌, ◌==◌, true, false, List, [], ◌∷◌, ◌++◌, All, Result, Ok, Err, append_assoc, length, drop, refl, ◌∙◌, append-nil, arith, inl, inr, eq-eqb}
 use Rattle.std.proofs.lemmas.Bool.{leb-true, le-leb, eqb-true, ne_eqb, cases_eq}
-use Rattle.std.proofs.lemmas.List.{nil_from_length}
+use Rattle.std.proofs.lemmas.List.{nil_from_length, length_push}
 use Rattle.std.proofs.lemmas.List.Elements.{All-nil, All-cons, All-head, All-tail}
 use Rattle.dl_entry.specs.Actor.{code}
 use Rattle.dl_entry.specs.declared.actor.Actor.{Actor}
@@ -10,9 +10,21 @@ use Rattle.spec_log.specs.declared.mode_name.ModeName.{ModeName}
 use Rattle.spec_log.specs.declared.mode_name.ModeName.TheVariants.{OrderSize, OrderOnly, Picolog}
 use Rattle.spec_log.specs.Bytes.{u8, u32, nibbles, order_bytes}
 use Rattle.spec_log.specs.Log.{IsActor, IsOrder}
-use Rattle.spec_log.specs.Reading.{read, gives, any, field, at_most, actor_of, actors, ordered, order_of}
+use Rattle.spec_log.specs.Fields.{ParseError, Read, Reader, continues, read, gives, raw, any, field, at_most, repeated}
+use Rattle.spec_log.specs.Reading.{actor_of, more_actors, ordered}
+use Rattle.dl_logfmt.proofs.Streams.{number-passed}
 use Rattle.dl_logfmt.proofs.Codes.{Codes, Codes-as, Codes-read, Codes-then, Codes-gives}
 use Rattle.dl_logfmt.proofs.EntryLaws.{Codes-field}
+
+-- so many actors, two to a byte; a last byte of one actor has no high half
+abbrev pub actors : ℕ → Reader (List Actor)
+actors zero = gives []
+actors (suc zero) = read (field 1 (at_most 15)) (λ byte. gives (actor_of byte ∷ []))
+actors (suc (suc n)) =
+    read (any 1) (λ byte. read (actors n) (λ rest. gives (actor_of (byte % 16) ∷ actor_of (byte / 16) ∷ rest)))
+
+abbrev pub order_of : ModeName → ℕ → Reader (List Actor)
+order_of mode count = read (field 4 (λ n. n == ordered mode count)) actors
 
 actor_of-thread : (half : ℕ) → (half ≡ 15 → ⊥) → actor_of half ≡ Thread half
 actor_of-thread half h = rw (ne_eqb half 15 h) refl
@@ -137,3 +149,68 @@ Codes-order mode count small =
     (λ n h. (rw h (ordered-small mode count small), eq-eqb n (ordered mode count) h)))
     (λ n g. Codes-actors n))
     (λ order h. refl) (order_good mode count) (order_parts mode count)
+
+-- A stage of a file reads one byte of actors each time, of as many actors as this count.
+module _ {D : Type 0} (one : D → Reader D) (set : List Actor → D) (count : ℕ)
+    (on : (xs : List Actor) (bytes : List ℕ) (at : ℕ) → one (set xs) bytes at ≡ read (more_actors count xs) (λ ys. gives (set ys)) bytes at) where
+  last-one : (xs : List Actor) (bytes : List ℕ) (r : Result (Read ℕ) ParseError)
+      → continues (continues (continues r (λ byte. gives (xs ++ actor_of byte ∷ []) bytes)) (λ ys. gives (set ys) bytes)) (λ d after. gives d bytes after)
+      ≡ continues (continues r (λ byte. gives (actor_of byte ∷ []) bytes)) (λ ys. gives (set (xs ++ ys)) bytes)
+  last-one xs bytes (Ok r) = refl
+  last-one xs bytes (Err fault) = refl
+
+  two-pushed : (xs : List Actor) (a b : Actor) (bytes : List ℕ) (r : Result (Read (List Actor)) ParseError)
+      → continues r (λ ys. gives (set (((xs ++ a ∷ []) ++ b ∷ []) ++ ys)) bytes)
+      ≡ continues (continues r (λ ys. gives (a ∷ b ∷ ys) bytes)) (λ ys. gives (set (xs ++ ys)) bytes)
+  two-pushed xs a b bytes (Ok r) =
+      let same : ((xs ++ a ∷ []) ++ b ∷ []) ++ r.value ≡ xs ++ a ∷ b ∷ r.value = simp append_assoc in rw same refl
+  two-pushed xs a b bytes (Err fault) = refl
+
+  two-more : (n k : ℕ) (xs : List Actor) (bytes : List ℕ)
+      → ((a b : Actor) (at : ℕ) → repeated one k (set ((xs ++ a ∷ []) ++ b ∷ [])) bytes at
+      ≡ read (actors n) (λ ys. gives (set (((xs ++ a ∷ []) ++ b ∷ []) ++ ys))) bytes at)
+      → (r : Result (Read ℕ) ParseError)
+      → continues (continues (continues r (λ byte. gives ((xs ++ actor_of (byte % 16) ∷ []) ++ actor_of (byte / 16) ∷ []) bytes)) (λ ys. gives (set ys) bytes)) (λ d after. repeated one k d bytes after)
+      ≡ continues (continues r (λ byte after. read (actors n) (λ ys. gives (actor_of (byte % 16) ∷ actor_of (byte / 16) ∷ ys)) bytes after)) (λ ys. gives (set (xs ++ ys)) bytes)
+  two-more n k xs bytes rest (Ok r) =
+      rw (rest (actor_of (r.value % 16)) (actor_of (r.value / 16)) r.after) (two-pushed xs (actor_of (r.value % 16)) (actor_of (r.value / 16)) bytes (actors n bytes r.after))
+  two-more n k xs bytes rest (Err fault) = refl
+
+  -- so many times are all actors that are left
+  repeated-actors : (n : ℕ) (xs : List Actor) (bytes : List ℕ) (at : ℕ) → (0 < n → length xs + n ≡ count)
+      → repeated one (n / 2 + n % 2) (set xs) bytes at ≡ read (actors n) (λ ys. gives (set (xs ++ ys))) bytes at
+  repeated-actors zero xs bytes at left = rw (append-nil xs) refl
+  repeated-actors (suc zero) xs bytes at left =
+      let is : (length xs + 1 == count) ≡ true = eq-eqb (length xs + 1) count (left (omega arith)) in
+      rw (on xs bytes at, is) (last-one xs bytes (field 1 (at_most 15) bytes at))
+  repeated-actors (suc (suc n)) xs bytes at left =
+      let all = left (omega arith) in
+      let times : suc (suc n) / 2 + suc (suc n) % 2 ≡ suc (n / 2 + n % 2) = omega arith in
+      let more : (length xs + 1 == count) ≡ false = ne_eqb (length xs + 1) count (λ e. omega arith) in
+      rw (times, on xs bytes at, more)
+      (two-more n (n / 2 + n % 2) xs bytes
+      (λ a b to. repeated-actors n ((xs ++ a ∷ []) ++ b ∷ []) bytes to (λ h. omega (arith, length_push (xs ++ a ∷ []) b, length_push xs a)))
+      (any 1 bytes at))
+
+  counted-actors : (n : ℕ) (bytes : List ℕ) (r : Result (Read ℕ) ParseError) → ((x : Read ℕ) → r ≡ Ok x → 0 < x.value → x.value ≡ count)
+      → continues (continues r (λ n. gives (n / 2 + n % 2) bytes)) (λ k after. repeated one k (set []) bytes after)
+      ≡ continues (continues r (λ n after. actors n bytes after)) (λ xs. gives (set xs) bytes)
+  counted-actors n bytes (Ok r) all = repeated-actors r.value [] bytes r.after (λ h. omega (arith, all r refl h))
+  counted-actors n bytes (Err fault) all = refl
+
+ordered-all : (mode : ModeName) (count : ℕ) → 0 < ordered mode count → ordered mode count ≡ count
+ordered-all OrderSize count h = refl
+ordered-all OrderOnly count h = refl
+ordered-all Picolog count h = absurd (omega arith)
+
+-- the stage reads the actors behind their number
+pub staged-actors : {D : Type 0} (one : D → Reader D) (set : List Actor → D) (mode : ModeName) (count : ℕ)
+    → ((xs : List Actor) (bytes : List ℕ) (at : ℕ) → one (set xs) bytes at ≡ read (more_actors count xs) (λ ys. gives (set ys)) bytes at)
+    → (bytes : List ℕ) (at : ℕ)
+    → read (read (field 4 (λ n. n == ordered mode count)) (λ n. gives (n / 2 + n % 2))) (λ k. repeated one k (set [])) bytes at
+    ≡ read (order_of mode count) (λ xs. gives (set xs)) bytes at
+staged-actors one set mode count on bytes at =
+    counted-actors one set count on 0 bytes (field 4 (λ n. n == ordered mode count) bytes at)
+    (λ x e h.
+    let same : x.value ≡ ordered mode count = eqb-true x.value (ordered mode count) (number-passed 5 at (λ n. n == ordered mode count) (raw 4 bytes at) bytes x e) in
+    same ∙ ordered-all mode count (omega arith))

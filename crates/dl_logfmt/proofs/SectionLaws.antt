@@ -1,13 +1,24 @@
 -- Reading a section undoes writing it, where it does so for each entry.
-use Rattle.std.proofs.Common.{◌≡◌, ℕ, zero, suc, ◌<◌, ◌^◌, Bool, true, List, [], ◌∷◌, ◌++◌, length, drop, get_or, Option, Some, None, Result, refl, ap, subst, append-nil, add-one, arith}
+use Rattle.std.proofs.Common.{◌≡◌, ℕ, zero, suc, ◌<◌, ◌^◌, Bool, true, List, [], ◌∷◌, ◌++◌, ◌-◌, length, drop, get_or, slice_get, Option, Some, None, Result, Ok, Err, refl, ap, subst, append-nil, append_assoc, add-one, arith}
 use Rattle.std.specs.List.{flat_map, AllByRecursion, AllAdjacentBelow}
-use Rattle.std.proofs.lemmas.List.{nil_from_length}
+use Rattle.std.proofs.lemmas.List.{nil_from_length, length_push}
 use Rattle.std.proofs.lemmas.List.Elements.{All-from_recursion, recursion_from_All}
 use Rattle.std.specs.Bool.{Decides}
 use Rattle.spec_log.specs.Log.{IsSection}
 use Rattle.spec_log.specs.Bytes.{little, section}
-use Rattle.spec_log.specs.Reading.{ParseError, Read, Reader, read, gives, any, passes, comes_after, entries, section_of}
+use Rattle.spec_log.specs.Fields.{ParseError, Read, Reader, continues, read, gives, any, passes, comes_after, last, next_entry, one_more, repeated}
 use Rattle.dl_logfmt.proofs.Codes.{Codes, Codes-as, Codes-read, Codes-then, Codes-gives, Codes-number, continued, tested, found_as}
+
+-- so many entries, each of which comes after the one before it; the fault is at the entry's first byte
+abbrev pub entries : {X : Type 0} → (X → X → Bool) → Reader X → Option X → ℕ → Reader (List X)
+entries earlier entry before zero bytes start = gives [] bytes start
+entries earlier entry before (suc n) bytes start =
+    continues (read entry (λ x. passes (comes_after earlier before x) 6 start x) bytes start)
+    (λ x after. read (entries earlier entry (Some x) n) (λ xs. gives (x ∷ xs)) bytes after)
+
+-- a section: any count of entries, and the entries
+abbrev pub section_of : {X : Type 0} → (X → X → Bool) → Reader X → Reader (List X)
+section_of earlier entry = read (any 4) (λ count. entries earlier entry None count)
 
 -- each entry comes after the one before it
 abbrev pub Rises : {X : Type 0} → (X → X → Bool) → Option X → List X → Type 0
@@ -115,3 +126,48 @@ Codes-section {X} earlier before entry bytes_of good decides codes =
       rising = λ k d l. rw add-one (Rises-adjacent earlier before decides xs None h.1.1 k d (omega arith));
     })
     (λ xs h. ((h.few, refl), (recursion_from_All good xs h.each, Rises-first earlier before decides xs h.rising)))
+
+slice_get-end : {X : Type 0} (xs : List X) (x : X) → slice_get (xs ++ x ∷ []) (length xs) ≡ Some x
+slice_get-end [] x = refl
+slice_get-end (y ∷ xs) x = slice_get-end xs x
+
+last-push : {X : Type 0} (xs : List X) (x : X) → last (xs ++ x ∷ []) ≡ Some x
+last-push xs x =
+    let e : length (xs ++ x ∷ []) - 1 ≡ length xs = omega (arith, length_push xs x) in rw e (slice_get-end xs x)
+
+-- A stage of a file reads one entry more each time.
+module _ {D X : Type 0} (one : D → Reader D) (set : List X → D) (earlier : X → X → Bool) (entry : Reader X)
+    (on : (xs : List X) (bytes : List ℕ) (at : ℕ) → one (set xs) bytes at ≡ read (one_more earlier entry xs) (λ ys. gives (set ys)) bytes at) where
+  one-pushed : (xs : List X) (x : X) (bytes : List ℕ) (r : Result (Read (List X)) ParseError)
+      → continues r (λ ys. gives (set ((xs ++ x ∷ []) ++ ys)) bytes)
+      ≡ continues (continues r (λ ys. gives (x ∷ ys) bytes)) (λ ys. gives (set (xs ++ ys)) bytes)
+  one-pushed xs x bytes (Ok r) = rw append_assoc refl
+  one-pushed xs x bytes (Err fault) = refl
+
+  one-entered : (n : ℕ) (xs : List X) (bytes : List ℕ)
+      → ((xs : List X) (at : ℕ) → repeated one n (set xs) bytes at ≡ read (entries earlier entry (last xs) n) (λ ys. gives (set (xs ++ ys))) bytes at)
+      → (r : Result (Read X) ParseError)
+      → continues (continues (continues r (λ x. gives (xs ++ x ∷ []) bytes)) (λ ys. gives (set ys) bytes)) (λ d after. repeated one n d bytes after)
+      ≡ continues (continues r (λ x after. read (entries earlier entry (Some x) n) (λ ys. gives (x ∷ ys)) bytes after)) (λ ys. gives (set (xs ++ ys)) bytes)
+  one-entered n xs bytes rest (Ok r) =
+      rw (rest (xs ++ r.value ∷ []) r.after, last-push xs r.value) (one-pushed xs r.value bytes (entries earlier entry (Some r.value) n bytes r.after))
+  one-entered n xs bytes rest (Err fault) = refl
+
+  -- so many times are so many entries
+  repeated-entries : (n : ℕ) (xs : List X) (bytes : List ℕ) (at : ℕ)
+      → repeated one n (set xs) bytes at ≡ read (entries earlier entry (last xs) n) (λ ys. gives (set (xs ++ ys))) bytes at
+  repeated-entries zero xs bytes at = rw (append-nil xs) refl
+  repeated-entries (suc n) xs bytes at =
+      rw (on xs bytes at) (one-entered n xs bytes (λ ys to. repeated-entries n ys bytes to) (next_entry earlier entry xs bytes at))
+
+  counted-entries : (bytes : List ℕ) (r : Result (Read ℕ) ParseError)
+      → continues r (λ n after. repeated one n (set []) bytes after)
+      ≡ continues (continues r (λ n after. entries earlier entry None n bytes after)) (λ xs. gives (set xs) bytes)
+  counted-entries bytes (Ok r) = repeated-entries r.value [] bytes r.after
+  counted-entries bytes (Err fault) = refl
+
+  -- the stage reads the entries behind their number
+  pub staged-entries : (count : Reader ℕ) (bytes : List ℕ) (at : ℕ)
+      → read count (λ n. repeated one n (set [])) bytes at
+      ≡ read (read count (λ n. entries earlier entry None n)) (λ xs. gives (set xs)) bytes at
+  staged-entries count bytes at = counted-entries bytes (count bytes at)

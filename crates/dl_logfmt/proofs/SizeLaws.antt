@@ -10,10 +10,26 @@ use Rattle.spec_log.specs.declared.sizes.Sizes.{Sizes}
 use Rattle.spec_log.specs.declared.sizes.Sizes.TheVariants.{Each, Short}
 use Rattle.spec_log.specs.Bytes.{u16, u32, section, sizes_bytes, short_size_bytes}
 use Rattle.spec_log.specs.Log.{ComesBefore, IsShortSize, AreShortSizes, IsSizes}
-use Rattle.spec_log.specs.Reading.{read, gives, field, at_most, entries, section_of, is_earlier, short_size, short_sizes, each_size, sizes_of}
+use Rattle.spec_log.specs.Fields.{Reader, read, gives, field, at_most}
+use Rattle.spec_log.specs.Reading.{is_earlier, short_size}
 use Rattle.dl_logfmt.proofs.Codes.{Codes, Codes-as, Codes-then, Codes-gives}
 use Rattle.dl_logfmt.proofs.EntryLaws.{Codes-field, Codes-short_size, Decides-earlier}
-use Rattle.dl_logfmt.proofs.SectionLaws.{Rises, AreEntries, Codes-entries, Codes-section}
+use Rattle.dl_logfmt.proofs.SectionLaws.{entries, section_of, Rises, AreEntries, Codes-entries, Codes-section}
+
+-- the sizes of the short chunks, those of each commit, and those of a log in a mode
+abbrev pub short_sizes : ℕ → Reader Sizes
+short_sizes s =
+    read (section_of (λ x y. is_earlier x.thread x.index y.thread y.index) (short_size s)) (λ sizes. gives (Short sizes))
+
+abbrev pub each_size : ℕ → ℕ → Reader Sizes
+each_size s count =
+    read (field 4 (λ n. n == count)) (λ n. read (entries (λ x y. true) (field 2 (at_most s)) None n) (λ sizes.
+    gives (Each sizes)))
+
+abbrev pub sizes_of : ModeName → ℕ → ℕ → Reader Sizes
+sizes_of OrderSize s count = each_size s count
+sizes_of OrderOnly s count = short_sizes s
+sizes_of Picolog s count = short_sizes s
 
 -- in any order
 abbrev any_order : ℕ → ℕ → Bool
@@ -24,7 +40,7 @@ Rises-any [] last = tt
 Rises-any (x ∷ xs) None = (refl, Rises-any xs (Some x))
 Rises-any (x ∷ xs) (Some y) = (refl, Rises-any xs (Some x))
 
-abbrev each_of : Sizes → List ℕ
+abbrev pub each_of : Sizes → List ℕ
 each_of (Each sizes) = sizes
 each_of (Short sizes) = []
 

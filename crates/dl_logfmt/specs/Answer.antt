@@ -1,6 +1,6 @@
 -- What a reader of a log's bytes answers.
-use Rattle.std.specs.Prelude.{◌≡◌, ℕ, Bool, ◌-◌, List, length, Option, slice_get, Result, Ok, Err}
-use Rattle.spec_log.specs.Reading.{ParseError, Read, Reader, read, passes, comes_after}
+use Rattle.std.specs.Prelude.{◌≡◌, ℕ, Result, Ok, Err}
+use Rattle.spec_log.specs.Fields.{ParseError, Read}
 use Rattle.spec_log.specs.declared.log.LogParts.{LogParts}
 use Rattle.dl_logfmt.specs.declared.error.LogError.{LogError}
 use Rattle.dl_logfmt.specs.declared.error.LogError.TheVariants.{Malformed, OutOfMemory}
@@ -11,14 +11,12 @@ Answers reading (Ok x) after = reading ≡ Ok (record { value = x; after = after
 Answers reading (Err (Malformed number offset)) after = reading ≡ Err (record { number = number; offset = offset })
 Answers reading (Err OutOfMemory) after = Unit {0}
 
--- the last entry so far
-abbrev pub last : {X : Type 0} → List X → Option X
-last entries = slice_get entries (length entries - 1)
-
--- an entry that comes after those before it, or the fault at its first byte
-abbrev pub next_entry : {X : Type 0} → (X → X → Bool) → Reader X → List X → Reader X
-next_entry earlier entry before bytes start =
-    read entry (λ x. passes (comes_after earlier (last before) x) 6 start x) bytes start
+-- the same of a call that makes of a value what is read, or leaves it with the fault
+abbrev pub Makes : {X : Type 0} → Result (Read X) ParseError → Result (Unit {0}) LogError → (old new : X) → ℕ → Type 0
+Makes reading (Ok x) old new after = reading ≡ Ok (record { value = new; after = after })
+Makes reading (Err (Malformed number offset)) old new after =
+    (reading ≡ Err (record { number = number; offset = offset })) × (new ≡ old)
+Makes reading (Err OutOfMemory) old new after = Unit {0}
 
 -- the parts of the log that was read, or the fault; want of memory alone has no cause
 abbrev pub IsReading : Result LogParts ParseError → Result LogParts LogError → Type 0

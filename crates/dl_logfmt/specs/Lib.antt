@@ -1,6 +1,5 @@
 pub mod Answer
-pub mod Drafts
 pub mod Feeding
-pub mod Remaining
+pub mod Parsing
 pub mod Streams
 pub mod Writing

@@ -2,7 +2,8 @@
 ghost use Rattle.std.specs.Prelude.{◌≡◌, ℕ, ◌<◌, ◌≤◌, Bool, true, List, length, nat_lt};
 ghost use Rattle.spec_log.specs.Bytes.{u16 as size_bytes, short_size_bytes, interrupt_bytes, input_bytes, dma_bytes};
 ghost use Rattle.spec_log.specs.Log.{IsShortSize, IsInterrupt, IsInput, IsDmaRecord};
-ghost use Rattle.spec_log.specs.Reading.{Reader, short_size, interrupt, input, dma, is_earlier, field, at_most};
+ghost use Rattle.spec_log.specs.Fields.{Reader, field, at_most};
+ghost use Rattle.spec_log.specs.Reading.{short_size, interrupt, input, dma, is_earlier};
 ghost use Rattle.dl_logfmt.specs.Answer.{Answers};
 
 use crate::error::LogError;

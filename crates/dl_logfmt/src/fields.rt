@@ -1,25 +1,15 @@
 //! The fields of a log that stand alone.
 ghost use Rattle.std.specs.Prelude.{◌≡◌, ◌≢◌, ◌^◌, ◌==◌, IfErr};
-ghost use Rattle.spec_log.specs.Reading.{number, field, at_most, from_to, mode as mode_field, mode_of as mode_by};
+ghost use Rattle.spec_log.specs.Fields.{number, field, at_most, from_to};
+ghost use Rattle.spec_log.specs.Reading.{mode_of as mode_by};
 ghost use Rattle.dl_logfmt.specs.Answer.{Answers};
 
 use crate::error::LogError;
 use crate::numbers::{FIELD, judge, read_u8, read_u16, read_u32};
 use spec_log::ModeName;
 
-/// The magic word, the version, the mode and two zero bytes.
-pub fn read_mode(bytes: &[u8], at: &mut usize) -> Result<ModeName, LogError>
-    ensures value { Answers (mode_field bytes.now at.old) result at.new }
-    ensures no_memory { IfErr result (λ e. e ≢ LogError.OutOfMemory) }
-{
-    read_magic(bytes, at)?;
-    read_version(bytes, at)?;
-    let code = read_code(bytes, at)?;
-    read_spare(bytes, at)?;
-    Ok(mode_of(code))
-}
-
-fn read_magic(bytes: &[u8], at: &mut usize) -> Result<u32, LogError>
+/// The magic word.
+pub fn read_magic(bytes: &[u8], at: &mut usize) -> Result<u32, LogError>
     ensures value { Answers (number 4 2 (λ word. word == 0x4E524C44) bytes.now at.old) result at.new }
     ensures no_memory { IfErr result (λ e. e ≢ LogError.OutOfMemory) }
 {
@@ -29,7 +19,8 @@ fn read_magic(bytes: &[u8], at: &mut usize) -> Result<u32, LogError>
     Ok(word)
 }
 
-fn read_version(bytes: &[u8], at: &mut usize) -> Result<u8, LogError>
+/// The version.
+pub fn read_version(bytes: &[u8], at: &mut usize) -> Result<u8, LogError>
     ensures value { Answers (number 1 3 (λ version. version == 1) bytes.now at.old) result at.new }
     ensures no_memory { IfErr result (λ e. e ≢ LogError.OutOfMemory) }
 {
@@ -39,7 +30,8 @@ fn read_version(bytes: &[u8], at: &mut usize) -> Result<u8, LogError>
     Ok(version)
 }
 
-fn read_code(bytes: &[u8], at: &mut usize) -> Result<u8, LogError>
+/// The mode's code.
+pub fn read_code(bytes: &[u8], at: &mut usize) -> Result<u8, LogError>
     ensures value { Answers (number 1 4 (at_most 2) bytes.now at.old) result at.new }
     ensures no_memory { IfErr result (λ e. e ≢ LogError.OutOfMemory) }
 {
@@ -49,7 +41,8 @@ fn read_code(bytes: &[u8], at: &mut usize) -> Result<u8, LogError>
     Ok(code)
 }
 
-fn read_spare(bytes: &[u8], at: &mut usize) -> Result<u16, LogError>
+/// The two zero bytes.
+pub fn read_spare(bytes: &[u8], at: &mut usize) -> Result<u16, LogError>
     ensures value { Answers (field 2 (λ spare. spare == 0) bytes.now at.old) result at.new }
     ensures no_memory { IfErr result (λ e. e ≢ LogError.OutOfMemory) }
 {
@@ -59,7 +52,8 @@ fn read_spare(bytes: &[u8], at: &mut usize) -> Result<u16, LogError>
     Ok(spare)
 }
 
-fn mode_of(code: u8) -> ModeName
+/// The mode of a code.
+pub fn mode_of(code: u8) -> ModeName
     ensures { result ≡ mode_by code }
 {
     match code {

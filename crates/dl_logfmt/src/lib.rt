@@ -1,26 +1,24 @@
 //! Logs as bytes: whole, or in pieces.
 #![tactic(auto)]
 
-mod draft;
 mod entry;
 mod error;
 mod fields;
 mod fixed;
-mod header;
 mod law;
-mod list;
 mod mark;
 mod numbers;
 mod order;
 mod order_left;
+mod parser;
 mod reader;
 mod recorded;
 mod refusal;
 mod section;
 mod section_left;
-mod sections;
 mod source;
-mod stage;
+mod stage_name;
+mod stages;
 mod unit;
 mod units;
 mod whole;

@@ -1,7 +1,8 @@
 //! Numbers read from a log's bytes. Each call reads at an offset, which it moves behind what it has read.
 ghost use Rattle.std.specs.Prelude.{◌≡◌, ◌≢◌, true, false, MatchResult, IfErr};
 ghost use Rattle.dl_logfmt.specs.Answer.{Answers};
-ghost use Rattle.spec_log.specs.Reading.{raw, any, thread};
+ghost use Rattle.spec_log.specs.Fields.{raw, any};
+ghost use Rattle.spec_log.specs.Reading.{thread};
 
 use crate::error::LogError;
 use byteorder::{ByteOrder, LittleEndian};

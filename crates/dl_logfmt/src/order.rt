@@ -1,13 +1,15 @@
-//! The fields of a log's order.
-ghost use Rattle.std.specs.Prelude.{◌≡◌, ◌≢◌, ◌==◌, IfErr};
+//! The order of a log, as it is read.
+ghost use Rattle.std.specs.Prelude.{◌≡◌, ◌≢◌, ◌+◌, ◌==◌, IfErr};
 ghost use Rattle.dl_entry.specs.Numbers.{dma_code};
-ghost use Rattle.dl_logfmt.specs.Answer.{Answers};
-ghost use Rattle.spec_log.specs.Reading.{actor_of as actor_in, ordered, field, at_most};
+ghost use Rattle.dl_logfmt.specs.Answer.{Answers, Makes};
+ghost use Rattle.dl_logfmt.specs.Parsing.{Extends};
+ghost use Rattle.spec_log.specs.Fields.{field, at_most};
+ghost use Rattle.spec_log.specs.Reading.{actor_of as actor_in, more_actors, ordered};
 
 use crate::error::LogError;
 use crate::numbers::{FIELD, judge, read_u8, read_u32};
 use dl_entry::{Actor, DMA_CODE};
-use spec_log::ModeName;
+use spec_log::{ModeName, Order};
 
 /// The number of actors.
 pub fn read_named(bytes: &[u8], at: &mut usize, mode: ModeName, count: u32) -> Result<u32, LogError>
@@ -22,6 +24,35 @@ pub fn read_named(bytes: &[u8], at: &mut usize, mode: ModeName, count: u32) -> R
     };
     judge(named == wanted, FIELD, start)?;
     Ok(named)
+}
+
+/// Reads the next byte of an order of so many actors: two of them, or the last one.
+pub fn read_actors(
+    order: &mut Order,
+    bytes: &[u8],
+    at: &mut usize,
+    count: u32,
+) -> Result<(), LogError>
+    ensures made { Makes (more_actors count order.old bytes.now at.old) result order.old order.new at.new }
+    ensures grown { Extends order.old order.new }
+{
+    if is_last(order.len(), count) {
+        let last = read_half(bytes, at)?;
+        order.push(actor_of(last))?;
+    } else {
+        let pair = read_u8(bytes, at)?;
+        order.push(actor_of(pair % 16))?;
+        order.push(actor_of(pair / 16))?;
+    }
+    Ok(())
+}
+
+/// Whether one actor is left of so many.
+fn is_last(len: usize, count: u32) -> bool
+    ensures { result ≡ (len + 1 == count) }
+{
+    let count = count as usize;
+    len < count && len + 1 == count
 }
 
 /// A byte without a high half.

@@ -3,7 +3,8 @@ ghost use Rattle.std.specs.Prelude.{◌≡◌, ◌==◌};
 ghost use Rattle.std.specs.List.{list_any};
 ghost use Rattle.dl_entry.specs.Numbers.{most_bytes};
 ghost use Rattle.spec_log.specs.Log.{input_kinds};
-ghost use Rattle.spec_log.specs.Reading.{is_earlier, counted, field, at_most, from_to};
+ghost use Rattle.spec_log.specs.Fields.{field, at_most, from_to};
+ghost use Rattle.spec_log.specs.Reading.{is_earlier, counted};
 ghost use Rattle.dl_logfmt.specs.Answer.{Answers};
 
 use crate::error::LogError;

@@ -10,7 +10,7 @@ ghost use Rattle.spec_log.specs.declared.sizes.Sizes.TheVariants.{Each};
 use crate::lists::Lists;
 use crate::mode::{Mode, Noting, limit_of};
 use crate::thread_sizes::{ThreadSizes, count_of};
-use dl_entry::{Actor, Commit, OutOfMemory, Sequence};
+use dl_entry::{Actor, Commit, MOST_THREADS, OutOfMemory, Sequence};
 use spec_log::{ModeName, Order, Sizes};
 use std::alloc::Global;
 use std::marker::Model;
@@ -95,7 +95,7 @@ impl Mode for OrderAndSize {
     }
 
     fn used(log: &OrderSizeLog, done: &[u32]) -> bool {
-        for thread in 0..15u8 {
+        for thread in 0..MOST_THREADS {
             if log.threads.done(thread) > count_of(done, thread) {
                 return false;
             }

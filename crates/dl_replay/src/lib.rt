@@ -11,5 +11,12 @@ mod replayer;
 mod turning;
 mod verdict;
 
+pub use dl_entry::{Actor, End, OutOfMemory, Request, Why};
+pub use dl_kernel::StepResult;
+pub use dl_mem::Memory;
+pub use dl_mode::{Mode, Noting};
+pub use dl_thread::Threads;
+pub use dl_wbuf::Buffer;
 pub use replayer::Replayer;
+pub use spec_log::Log;
 pub use verdict::Verdict;
