@@ -176,13 +176,7 @@ impl<G: Sig> State<G> {
                 self.go_on(core, held, words, writes);
                 Ok(Reply::Granted)
             }
-            Moved::Piece(words) => {
-                sign(&mut writes, held.sphere, &words);
-                self.points
-                    .push_reserved(point_of(moment, held, CommitKind::Piece, 0, false));
-                self.go_on(core, held, words, writes);
-                Ok(Reply::Piece)
-            }
+            Moved::Piece(_) => unreachable!(),
             Moved::Diverged(commits, why) => Ok(Reply::Diverged(commits, why)),
         }
     }

@@ -60,7 +60,9 @@ impl<G: Sig> Machine<G> {
     /// Some setup within the limits and some schedule have led here: what is promised of runs holds of every machine.
     pub fn has_run(&self)
         ensures { HasRun self.now }
-    {}
+    {
+        let _ = &self.state;
+    }
 
     /// Takes one event.
     #[inline(always)]

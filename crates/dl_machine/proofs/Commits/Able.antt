@@ -142,11 +142,11 @@ can_commit_held w c h how ready is closed going free whole =
     record {
       closed = closed;
       commits = λ t there.
-          let same : h.chunk.start ≡ t = same_Some _ _ (sym g.start ∙ there) in
+          let same : h.chunk.start ≡ t = same_Some _ _ (sym g.thread.start ∙ there) in
           (ready.sound.held c h is).commits ∙ ap (λ (u : Parts). u.commits) same;
       size = λ live.
           let l = within_limit _ h.chunk how g.chunk.closes closed in
-          let m = (g.limit going).most in
+          let m = (g.thread.limit going).most in
           let s = standard_limit p.role w.numbers.s h.thread h.chunk.start live in
           omega arith;
       some = short_some w.numbers.s w.numbers.capacity how h.chunk g.chunk.closes ready.good.buffer closed;
