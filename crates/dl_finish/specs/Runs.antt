@@ -10,12 +10,6 @@ use Rattle.spec_finishing.specs.Function.{finishing_of, finished}
 use Rattle.dl_machine.specs.Events.{wants_memory}
 use Rattle.dl_machine.specs.Runs.{IsRun}
 
--- some setup within its limits and some schedule have led to the world
-pub record HasRun (w : World) : Type 0 where
-  pub setup : Setup
-  pub schedule : List Event
-  pub run : IsRun setup schedule w
-
 -- the events that finish the run have happened, all of them and no others, and each replay has done its log's whole play
 pub record HasEnded (s : Setup) (es : List Event) (w : World) : Type 0 where
   pub world : w ≡ finished s es

@@ -13,7 +13,7 @@ use Rattle.spec_program.specs.Built.{bad_log, role_of, spheres_of}
 use Rattle.spec_program.specs.Files.{RoleRead, PlainRead, RecordRead, ReplayRead, SphereRead, PlanRead, read_at, log_at, schedule_read, input_read, role_read, sphere_read, spheres_read, plan_read}
 use Rattle.spec_program.specs.Stages.{Refused, refusing}
 use Rattle.spec_program.specs.Tasks.{Task, IsTask, setup_in}
-use Rattle.spec_program.proofs.LogRead.{log_sized}
+use Rattle.spec_log.proofs.Sized.{log_sized}
 use Rattle.spec_program.proofs.Made.{then_ok, not_refused, task_built}
 use Rattle.spec_program.proofs.Sizing.{plan_sized}
 

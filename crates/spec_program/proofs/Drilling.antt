@@ -36,5 +36,5 @@ can_finish v =
 pub drill_reproduced : (v : ℕ) → IsReproduced v
 unfolding account_text
 drill_reproduced v =
-    let reproduced = recordings_reproduced (recording v) (recording_events v) 0 (recorded v) ModeName.OrderOnly (can_finish v) refl refl in
+    let reproduced = recordings_reproduced (recording v) (recording_events v) 0 (recorded v) (record { mode = ModeName.OrderOnly }) (can_finish v) refl refl in
     record { account = reproduced.account; complete = ap (λ (n : Now). has_diverged (end_of n) || false) reproduced.fits }

@@ -10,6 +10,7 @@ use Rattle.spec_log.specs.declared.LogParts.{LogParts}
 use Rattle.spec_kernel.specs.Devices.{devices_of}
 use Rattle.spec_play.specs.Progress.{no_progress, nothing_used}
 use Rattle.spec_play.specs.Recording.{new_log}
+use Rattle.spec_play.specs.Plays.{Played, opened, plays}
 use Rattle.spec_protocol.specs.declared.event.Event.{Event}
 use Rattle.spec_protocol.specs.declared.reply.Reply.{Reply}
 use Rattle.spec_protocol.specs.Spheres.{Recording, Role, Plain, Record, Replay, Sphere}
@@ -60,16 +61,26 @@ role_of s threads IsPlain = Plain
 role_of s threads (IsRecorded asked) = Record (new_recording asked s)
 role_of s threads (IsReplayed asked) = Replay (turned asked.log no_progress nothing_used threads)
 
--- thread 0 alone, at the entry
+-- thread 0 alone, at the entry of the image
+abbrev pub first_threads : SphereSetup → List Parts
+first_threads image = started image.entry ∷ []
+
 abbrev pub sphere_of : (s : ℕ) → SphereSetup → Sphere
-sphere_of s setup =
-    let threads = started setup.entry ∷ [] in
+sphere_of s image =
+    let threads = first_threads image in
     record {
-      memory = setup.memory;
+      memory = image.memory;
       threads = threads;
       progress = no_progress;
-      role = role_of s threads setup.role;
+      role = role_of s threads image.role;
     }
+
+-- the play of a log on the image: where it begins, and where it has ended
+abbrev pub first_played : SphereSetup → LogParts → Played
+first_played image log = opened log image.memory image.entry
+
+abbrev pub last_played : SphereSetup → LogParts → Played
+last_played image log = plays log (first_played image log) log.count
 
 -- so many cores from sphere i on: each holds thread 0 of its own sphere, or is idle where there is none
 abbrev pub first_cores : Numbers → (i : ℕ) → (cores : ℕ) → List Sphere → List (Option Occupant)

@@ -71,6 +71,28 @@ head_in (Replay b) p = actor_of b.now
 unfoldable pub head_of : Sphere → Option Actor
 head_of p = head_in p.role p
 
+-- the actor whose turn it is, unless it is this one
+abbrev pub other_than : Actor → Option Actor → Option Actor
+other_than actor None = None
+other_than (Actor.Thread k) (Some (Actor.Thread j)) = if nat_eq j k then None else Some (Actor.Thread j)
+other_than (Actor.Thread k) (Some Actor.Dma) = Some Actor.Dma
+other_than Actor.Dma (Some (Actor.Thread j)) = Some (Actor.Thread j)
+other_than Actor.Dma (Some Actor.Dma) = None
+
+-- whether the actor waits for its turn: threads do, and in a replay DMAs too
+abbrev pub takes_turns : Actor → Role → Bool
+takes_turns (Actor.Thread k) role = true
+takes_turns Actor.Dma Plain = false
+takes_turns Actor.Dma (Record recording) = false
+takes_turns Actor.Dma (Replay b) = true
+
+abbrev pub turn_in : Role → Sphere → Actor → Option Actor
+turn_in role p actor = if takes_turns actor role then other_than actor (head_in role p) else None
+
+-- the actor whose turn keeps this one from committing; none where it may commit
+unfoldable pub turn_against : Sphere → Actor → Option Actor
+turn_against p actor = turn_in p.role p actor
+
 -- ---- limits of chunks
 
 -- the size that is logged for a thread's commit, but 1 for a logged 0; where none is logged the log's standard size

@@ -7,7 +7,7 @@ use Rattle.spec_play.specs.Turns.{Ended}
 use Rattle.spec_play.specs.Plays.{Played, opened, plays, play}
 use Rattle.spec_protocol.specs.declared.event.Event.{Event}
 use Rattle.spec_protocol.specs.Spheres.{Cursor, Replay, Sphere, is_over}
-use Rattle.spec_protocol.specs.Machine.{ReplaySetup, IsReplayed, SphereSetup, Setup}
+use Rattle.spec_protocol.specs.Machine.{last_played, first_played, ReplaySetup, IsReplayed, SphereSetup, Setup}
 use Rattle.spec_protocol.specs.Shown.{shown_of}
 use Rattle.spec_protocol.specs.Promises.{IsSetup, after}
 use Rattle.spec_replay.specs.Following.{Follows}
@@ -30,7 +30,7 @@ abbrev pub ReplaysArePlays : Type 0
 ReplaysArePlays =
     (image : SphereSetup) (asked : ReplaySetup) (s : Setup) (es : List Event) (i : ℕ) (p : Sphere)
     → IsReplay image asked s es i p
-    → Follows asked.log (plays asked.log (opened asked.log image.memory image.entry) (position p.progress)) p
+    → Follows asked.log (plays asked.log (first_played image asked.log) (position p.progress)) p
 
 -- ---- a replay that has stopped has done the whole play
 
@@ -63,7 +63,7 @@ StoppedArePlayed =
     (image : SphereSetup) (asked : ReplaySetup)
     (s : Setup) (es : List Event) (i : ℕ) (p : Sphere) (b : Cursor)
     → IsReplay image asked s es i p → p.role ≡ Replay b → is_over b.now ≡ true
-    → IsPlayed (play asked.log image.memory image.entry) p b
+    → IsPlayed (last_played image asked.log) p b
 
 -- ---- all replays of one log on one image agree
 

@@ -14,7 +14,7 @@ use Rattle.spec_protocol.specs.declared.event.Event.{Event}
 use Rattle.spec_protocol.specs.Spheres.{Recording, Role, Plain, Record, Replay, Cursor, Sphere, no_sphere, is_over}
 use Rattle.spec_protocol.specs.Placing.{replays}
 use Rattle.spec_protocol.specs.World.{World, sphere_at}
-use Rattle.spec_protocol.specs.Machine.{ReplaySetup, RecordSetup, RoleSetup, IsPlain, IsRecorded, IsReplayed, SphereSetup, Setup, world_of, happens, world_after}
+use Rattle.spec_protocol.specs.Machine.{last_played, ReplaySetup, RecordSetup, RoleSetup, IsPlain, IsRecorded, IsReplayed, SphereSetup, Setup, world_of, happens, world_after}
 use Rattle.spec_protocol.specs.Serial.{serial_start, serial, CanDoAll}
 use Rattle.spec_protocol.specs.Logged.{sphere_in, supplied, logged}
 use Rattle.spec_protocol.specs.Logs.{IsLogFresh}
@@ -178,7 +178,7 @@ live_described s es i image p can t live =
 record IsReplayedTo (s : Setup) (es : List Event) (i : ℕ) (image : SphereSetup) (log : LogParts) (p : Sphere) : Type 0 where
   cursor : Cursor
   role : p.role ≡ Replay cursor
-  played : IsPlayed (play log image.memory image.entry) p cursor
+  played : IsPlayed (last_played image log) p cursor
   over : (how : End) × (cursor.now ≡ Ended how)
 
 same_sphere : (p q : Sphere) → Some p ≡ Some q → p ≡ q
@@ -186,7 +186,7 @@ same_sphere p q e = cc
 
 abbrev HasPlayedIn : (image : SphereSetup) (log : LogParts) (i : ℕ) → World → Type 0
 HasPlayedIn image log i w =
-    (p : Sphere) × ((b : Cursor) × ((slice_get w.spheres i ≡ Some p) × ((p.role ≡ Replay b) × IsPlayed (play log image.memory image.entry) p b)))
+    (p : Sphere) × ((b : Cursor) × ((slice_get w.spheres i ≡ Some p) × ((p.role ≡ Replay b) × IsPlayed (last_played image log) p b)))
 
 has_played : (s : Setup) (es : List Event) (i : ℕ) (image : SphereSetup) (asked : ReplaySetup) → CanFinish s → slice_get s.spheres i ≡ Some image → image.role ≡ IsReplayed asked → HasPlayedIn image asked.log i (finished s es)
 has_played s es i image asked can is role =
@@ -203,7 +203,7 @@ replayed-to s es i image asked p can is t role =
     record {
       cursor = b;
       role = ap (λ (q : Sphere). q.role) (sym same) ∙ h.1.1.1.0;
-      played = subst (λ (q : Sphere). IsPlayed (play asked.log image.memory image.entry) q b) same h.1.1.1.1;
+      played = subst (λ (q : Sphere). IsPlayed (last_played image asked.log) q b) same h.1.1.1.1;
       over = over_how b.now over;
     }
 

@@ -38,6 +38,7 @@ use Rattle.spec_protocol.proofs.Sound.Commits.{next-position}
 use Rattle.spec_protocol.proofs.Sound.Schedules.{setup-within}
 use Rattle.spec_protocol.proofs.Sound.Changes.{Properties, Holds, Lands, Keeps, act-holds}
 use Rattle.spec_run.specs.Promise.{SchedulesLeaveRoom}
+use Rattle.spec_play.proofs.Positions.{position-more}
 
 -- ---- fewer commits than events
 
@@ -79,7 +80,7 @@ live-few : (now : ℕ) (role : Role) (devices : Devices) (p : Sphere) (request :
 live-few now role devices p None v few e live = absurd (none-some v e)
 live-few now role devices p (Some request) v few e live =
     let q = ap (λ (o : Option MovedSphere). elim o as (λ (x : Option MovedSphere). ℕ) [ None ↦ 0 | Some x ↦ position x.sphere.progress ]) e in
-    let n = pushed_length p.progress.commits dma_commit (position p.progress) refl in
+    let n = position-more p.progress dma_commit in
     omega (arith, q, n, few)
 
 dma-verdict_few : (now : ℕ) (b : Cursor) (d : DmaVerdict) (devices : Devices) (p : Sphere) → Few now (dma_by_verdict b d devices p).sphere

@@ -1,4 +1,4 @@
--- A divergence leaves the devices as they are.
+-- A divergence leaves the devices as they are, and no serial step or DMA is a piece of a commit.
 use Rattle.std.proofs.Common.{◌≡◌, ℕ, Option, Some, None, refl}
 use Rattle.dl_entry.specs.declared.Request.{Request}
 use Rattle.spec_isa.specs.declared.thread.Parts.{Parts}
@@ -8,10 +8,10 @@ use Rattle.spec_play.specs.Transfers.{DmaVerdict, DmaGoes, DmaFails, dma_verdict
 use Rattle.spec_protocol.specs.Spheres.{Cursor, Role, Plain, Record, Replay, Sphere}
 use Rattle.spec_protocol.specs.Commits.{CommitOutcome, Granted, Piece, Diverged, MovedSphere, by_verdict, serial_in, serial_moved, dma_by_verdict, live_dma, dma_in, dma_moved}
 
--- a move that diverges leaves the devices as they were
+-- a move that diverges leaves the devices as they were, and none is a piece
 abbrev pub IsApart : Devices → MovedSphere → CommitOutcome → Type 0
 IsApart d v Granted = Unit {0}
-IsApart d v Piece = Unit {0}
+IsApart d v Piece = ⊥
 IsApart d v (Diverged i why) = v.devices ≡ d
 
 verdict_apart : (b : Cursor) (k : ℕ) (x : LogVerdict) (d : Devices) (p : Sphere) → let v = by_verdict b k x d p in IsApart d v v.outcome

@@ -18,14 +18,14 @@ use Rattle.spec_replay.specs.Promises.{ReplaysArePlays}
 use Rattle.spec_finishing.specs.Ending.{CanFinish}
 use Rattle.spec_finishing.proofs.Paying.GoingOn.{GoesOn, goes-on}
 use Rattle.spec_finishing.proofs.Ending.KindsKept.{is_replayed, AreOfKinds, kind-at, start-kinds, moves-kinds}
-use Rattle.spec_finishing.proofs.Paying.Standing.{Stands}
+use Rattle.spec_finishing.proofs.Paying.Standing.{AllGoOn}
 use Rattle.spec_protocol.proofs.Points.Serial.{shown_length}
 
 -- the world is good, has the sizes of its setup, and its replays stand beside their plays
 pub record Known (s : Setup) (w : World) : Type 0 where
   pub good : IsGood w
   pub sizes : AreSizesKept s w
-  pub stands : Stands s (shown_of w)
+  pub stands : AllGoOn s (shown_of w)
 
 -- ---- images
 

@@ -18,7 +18,7 @@ use Rattle.spec_protocol.specs.Spheres.{Role, Plain, Record, Replay, Sphere, lim
 use Rattle.spec_protocol.specs.Commits.{serial_in, serial_moved, live_dma, dma_log, dma_in, dma_moved}
 use Rattle.spec_protocol.specs.Placing.{replays}
 use Rattle.spec_protocol.specs.World.{Numbers, World, What, OfChunk, OfSerial, OfDma, OfRaise, Move, sphere_at}
-use Rattle.spec_protocol.specs.Machine.{RoleSetup, IsPlain, IsRecorded, IsReplayed, SphereSetup, Setup, world_of, happens, moves}
+use Rattle.spec_protocol.specs.Machine.{first_played, RoleSetup, IsPlain, IsRecorded, IsReplayed, SphereSetup, Setup, world_of, happens, moves}
 use Rattle.spec_protocol.specs.Serial.{SerialState}
 use Rattle.spec_protocol.specs.Shown.{words_of, flying, shown_of}
 use Rattle.spec_protocol.specs.Moves.{ChunkFits, FitsChunk, FitsWhat, FitsAt, FitsIf}
@@ -52,7 +52,7 @@ setup-few : (image : SphereSetup) (r : RoleSetup) → IsRole r → setup_work im
 setup-few image IsPlain is = omega arith
 setup-few image (IsRecorded asked) is = omega arith
 setup-few image (IsReplayed asked) is =
-    let l = commits-few asked.log (opened asked.log image.memory image.entry) 0 asked.log.count is in let c = is.count in omega (arith, l, c)
+    let l = commits-few asked.log (first_played image asked.log) 0 asked.log.count is in let c = is.count in omega (arith, l, c)
 
 plays-few : (ds : List SphereSetup) → ((i : ℕ) (d : SphereSetup) → slice_get ds i ≡ Some d → IsImage d) → plays_work ds ≤ (4101 * 2 ^ 24) * length ds
 plays-few [] each = omega arith

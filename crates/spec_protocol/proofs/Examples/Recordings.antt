@@ -33,7 +33,7 @@ use Rattle.spec_protocol.specs.Machine.{act, happens}
 use Rattle.spec_protocol.specs.Placing.{placing, raising}
 use Rattle.spec_protocol.specs.Serial.{do_point}
 use Rattle.spec_protocol.specs.Shown.{shown}
-use Rattle.spec_protocol.specs.Spheres.{head_of, limit_of}
+use Rattle.spec_protocol.specs.Spheres.{head_of, turn_against, limit_of}
 use Rattle.spec_protocol.specs.Stepping.{stepping, cutting}
 use Rattle.spec_protocol.specs.Transferring.{transfer, transferring}
 use Rattle.spec_protocol.proofs.Examples.Scenes.{alone, replies, log_in}
@@ -162,7 +162,7 @@ pub record AreRecorded : Type 0 where
       ∷ 0x00 ∷ 0x00 ∷ 0x00 ∷ 0x00 ∷ 0x11 ∷ 0x41 ∷ 0x00 ∷ 0x00 ∷ 0x00 ∷ 0x00 ∷ 0x00 ∷ 0x00 ∷ 0x00 ∷ 0x00 ∷ 0x00 ∷ []
 
 pub recordings : AreRecorded
-unfolding serial_of loads_of next_of load_of store_of one lay read merged answer called bytes_put random_bytes random_after next_kind next_operation need fits serve console_written play_one dma_verdict has_left_over now_at chunk_verdict serial_verdict on_option choose at_limit reading storing loading running step first_slot free_slot meets grant_chunk grant_serial asking chunk_moved serial_moved dma_moved raised next draining delivering retiring act happens placing raising do_point shown head_of limit_of stepping cutting transfer transferring
+unfolding serial_of loads_of next_of load_of store_of one lay read merged answer called bytes_put random_bytes random_after next_kind next_operation need fits serve console_written play_one dma_verdict has_left_over now_at chunk_verdict serial_verdict on_option choose at_limit reading storing loading running step first_slot free_slot meets grant_chunk grant_serial asking chunk_moved serial_moved dma_moved raised next draining delivering retiring act happens placing raising do_point shown head_of turn_against limit_of stepping cutting transfer transferring
 recordings =
     record {
       exits_replies = refl;

@@ -152,10 +152,7 @@ cut_good capacity bits xs c m ch open_ some good =
           record {
             runs = live.runs;
             touches = live.touches;
-            next_touches = λ e. absurd (let h : How.Cut ≡ How.Serial = cc in cc);
-            next_serial = λ e. absurd (let h : How.Cut ≡ How.Serial = cc in cc);
-            store_touches = λ e. absurd (let h : How.Cut ≡ How.Overflow = cc in cc);
-            store_anew = λ e. absurd (let h : How.Cut ≡ How.Overflow = cc in cc);
+            next = tt;
           };
     }
 

@@ -322,7 +322,7 @@ module _ (capacity bits : ℕ) (xs : List (Option Flight)) (c : ℕ) (m : List �
           few = omega arith;
           few_loads = omega arith;
         };
-        live = λ q. record { runs = refl; touches = λ j l. absurd (omega arith); next_touches = λ e. absurd (none-some _ e); next_serial = λ e. absurd (none-some _ e); store_touches = λ e. absurd (none-some _ e); store_anew = λ e. absurd (none-some _ e) };
+        live = λ q. record { runs = refl; touches = λ j l. absurd (omega arith); next = tt };
       }
 
 -- a chunk that begins again from its start

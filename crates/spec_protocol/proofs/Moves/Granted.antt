@@ -27,9 +27,8 @@ use Rattle.spec_play.specs.Progress.{Progress, Used}
 use Rattle.spec_play.specs.Turns.{Now, Turn, TurnOfDma, Ended}
 use Rattle.spec_play.specs.Verdicts.{LogVerdict, Goes, Fails, unless, interrupt_at, with_interrupted, chunk_why, chunk_verdict, Given, given, serial_why, served_verdict, serial_verdict}
 use Rattle.spec_play.specs.Plays.{with_threads}
-use Rattle.spec_protocol.specs.Spheres.{Cursor, Role, Plain, Record, Replay, Sphere, is_over, is_stopped, actor_of, head_in, whole_limit, pieces_of, limit_in, limit_of, halves}
+use Rattle.spec_protocol.specs.Spheres.{other_than, turn_in, Cursor, Role, Plain, Record, Replay, Sphere, is_over, is_stopped, actor_of, head_in, whole_limit, pieces_of, limit_in, limit_of, halves}
 use Rattle.spec_protocol.specs.Commits.{CommitOutcome, Granted, Piece, Diverged, MovedSphere, granted_as, by_verdict, joined, piece_moved, replayed_chunk, chunk_in, chunk_moved, serial_in, serial_moved, serial_noted}
-use Rattle.spec_protocol.specs.Asking.{other_turn}
 use Rattle.spec_protocol.specs.Placing.{replays}
 use Rattle.spec_kernel.specs.Answers.{taken}
 
@@ -74,7 +73,7 @@ pieces_other : (k j total : ℕ) → j ≢ k → pieces_of (Turn k) j total ≡ 
 pieces_other k j total ne = ap (λ (b : Bool). pieces_if b total) (ne_eqb k j (λ e. ne (sym e)))
 
 -- the thread has the turn in a replay that hasn't stopped
-pub turn-is : (now : Now) (k : ℕ) → is_over now ≡ false → other_turn (actor_of now) k ≡ None → now ≡ Turn k
+pub turn-is : (now : Now) (k : ℕ) → is_over now ≡ false → other_than (Actor.Thread k) (actor_of now) ≡ None → now ≡ Turn k
 turn-is (Turn j) k going e =
     ap Turn (eqb-true j k (elim (eqb j k) as (λ b. cond b None (Some (Actor.Thread j)) ≡ None → b ≡ true) [
       | true ↦ λ h. refl
@@ -107,7 +106,7 @@ pub record MovesOnly (k : ℕ) (devices : Devices) (p : Sphere) (v : MovedSphere
 -- the thread of a replay that goes on has the turn
 pub record HasTurn (k : ℕ) (role : Role) (p : Sphere) : Type 0 where
   pub going : is_stopped role ≡ false
-  pub turn : other_turn (head_in role p) k ≡ None
+  pub turn : turn_in role p (Actor.Thread k) ≡ None
 
 threads_kept : (k : ℕ) (e : Effect) (ts : List Parts) (j : ℕ) (t : Parts) → j ≢ k → slice_get ts j ≡ Some t → slice_get (with_threads k e ts) j ≡ Some t
 threads_kept k e ts j t ne is = get-append (slice_set ts k e.thread) e.spawned j t (get-set_other ts k j e.thread ne ∙ is)

@@ -24,10 +24,10 @@ use Rattle.spec_play.specs.Progress.{position}
 use Rattle.spec_play.specs.Recording.{noted, interrupt_noted}
 use Rattle.spec_play.specs.Plays.{Played, plays}
 use Rattle.spec_engine.specs.declared.answers.How.{How}
-use Rattle.spec_protocol.specs.Spheres.{Recording, Role, Record, Sphere, recording_turn, head_in, head_of, limit_in, limit_of, is_in_pieces}
+use Rattle.spec_protocol.specs.Spheres.{other_than, turn_in, turn_against, Recording, Role, Record, Sphere, recording_turn, head_in, head_of, limit_in, limit_of, is_in_pieces}
 use Rattle.spec_protocol.specs.Commits.{MovedSphere, is_piece, chunk_in, serial_noted, serial_in, dma_log, raised, dma_as}
 use Rattle.spec_protocol.specs.World.{Numbers}
-use Rattle.spec_protocol.specs.Asking.{is_short, other_turn}
+use Rattle.spec_protocol.specs.Asking.{is_short}
 use Rattle.spec_protocol.specs.Serial.{laid}
 use Rattle.spec_protocol.specs.Moves.{ChunkFits, SerialFits}
 use Rattle.spec_protocol.proofs.Moves.Threads.{run-keeps, serve-keeps}
@@ -39,6 +39,7 @@ use Rattle.spec_protocol.proofs.PlayingBack.Commits.{commit-size, commit-follows
 use Rattle.spec_protocol.proofs.PlayingBack.Verdicts.{run-stops, chunk-goes, serial-goes}
 use Rattle.spec_protocol.proofs.PlayingBack.Transfers.{transferred-follows, raised-follows}
 use Rattle.std.specs.List.{prefix_len}
+use Rattle.spec_play.proofs.Positions.{position-more}
 
 -- ---- a sphere and its log, before and after
 
@@ -108,7 +109,7 @@ turn_some : (last : Option ℕ) (ts : List Parts) (k : ℕ) (t : Parts) → slic
 turn_some None ts k t e live = first_some ts k t e live
 turn_some (Some last) ts k t e live = let f = first_some ts k t e live in or_some (next_live last (map is_live ts)) (first_live (map is_live ts)) f.0 f.1
 
-no_other : (j k : ℕ) → other_turn (Some (Actor.Thread j)) k ≡ None → j ≡ k
+no_other : (j k : ℕ) → other_than (Actor.Thread k) (Some (Actor.Thread j)) ≡ None → j ≡ k
 no_other j k e =
     eqb-true j k (elim (eqb j k) as (λ b. cond b None (Some (Actor.Thread j)) ≡ None → b ≡ true) [
       | true ↦ λ h. refl
@@ -116,14 +117,14 @@ no_other j k e =
     ] e)
 
 -- in picolog the thread whose chunk or step is granted has the turn
-taken_turn : (L : LogParts) (recording : Recording) (p : Sphere) (k : ℕ) (t : Parts) → p.role ≡ Record recording → L.mode ≡ recording.log.mode → slice_get p.threads k ≡ Some t → is_live t ≡ true → other_turn (head_of p) k ≡ None → L.mode ≡ ModeName.Picolog → turn p.progress.last (map is_live p.threads) ≡ Some k
-unfolding head_of
+taken_turn : (L : LogParts) (recording : Recording) (p : Sphere) (k : ℕ) (t : Parts) → p.role ≡ Record recording → L.mode ≡ recording.log.mode → slice_get p.threads k ≡ Some t → is_live t ≡ true → turn_against p (Actor.Thread k) ≡ None → L.mode ≡ ModeName.Picolog → turn p.progress.last (map is_live p.threads) ≡ Some k
+unfolding turn_against
 taken_turn L recording p k t role mode is live free pico =
     let some = turn_some p.progress.last p.threads k t is live in
-    let head : other_turn (Some (Actor.Thread some.0)) k ≡ None =
+    let head : other_than (Actor.Thread k) (Some (Actor.Thread some.0)) ≡ None =
     sym (
-    ap (λ (r : Role). other_turn (head_in r p) k) role ∙ ap (λ (m : ModeName). other_turn (recording_turn m p) k) (sym mode ∙ pico)
-    ∙ ap (λ (o : Option ℕ). other_turn (option_map Actor.Thread o) k) some.1
+    ap (λ (r : Role). turn_in r p (Actor.Thread k)) role ∙ ap (λ (m : ModeName). other_than (Actor.Thread k) (recording_turn m p)) (sym mode ∙ pico)
+    ∙ ap (λ (o : Option ℕ). other_than (Actor.Thread k) (option_map Actor.Thread o)) some.1
     )
     ∙ free
     in
@@ -183,7 +184,7 @@ chunk-committed recording p k t piece short n devices is =
       threads = refl;
       commits = ap (λ (c : ℕ). c + 1) (run-keeps p.memory t n);
       new = tt;
-      position_ = (let h = length-append p.progress.commits (e.commit ∷ []) in omega arith);
+      position_ = position-more p.progress e.commit;
       actor = refl;
       log_ = ap (λ (c : ℕ). noted e.commit c short recording.log) (run-keeps p.memory t n);
     }
@@ -241,7 +242,7 @@ serial-committed recording p k moment t devices is =
       threads = refl;
       commits = ap (λ (c : ℕ). c + 1) h.commits;
       new = h.fresh;
-      position_ = (let h = length-append p.progress.commits (e.commit ∷ []) in omega arith);
+      position_ = position-more p.progress e.commit;
       actor = refl;
       log_ = refl;
     }
@@ -286,7 +287,7 @@ dma-grown recording p devices request asked =
     let q = laid (recorded_dma recording p devices request) in
     let qlog = dma_log log devices p (Some request) in
     let bytes = dma_bytes devices request in
-    let d : Transferred p q log qlog bytes = record { threads = refl; position_ = (let h = length-append p.progress.commits (dma_commit ∷ []) in omega arith); log_ = refl } in
+    let d : Transferred p q log qlog bytes = record { threads = refl; position_ = position-more p.progress dma_commit; log_ = refl } in
     record {
       stands = transferred-stands p q log qlog bytes d;
       s = refl;

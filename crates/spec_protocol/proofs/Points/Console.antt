@@ -48,7 +48,7 @@ moved_puts i x p v c is commits console =
     let was : sphere_in x i ≡ p = get_or_from_slice_get x.spheres i p no_sphere is in
     let now : sphere_in (do_moved x i v) i ≡ laid v = get_or_from_slice_get (slice_set x.spheres i (laid v)) i (laid v) no_sphere (get-set_same x.spheres i (laid v) p is) in
     let new : new_commits i x (do_moved x i v) ≡ c ∷ [] =
-    (λ h. drop (position (was h).progress) (now h).progress.commits) ∙ ap (drop (length p.progress.commits)) commits ∙ drop-append_seam p.progress.commits (c ∷ [])
+    (λ h. drop (length (was h).progress.commits) (now h).progress.commits) ∙ ap (drop (length p.progress.commits)) commits ∙ drop-append_seam p.progress.commits (c ∷ [])
     in
     console
     ∙ ap (λ (bytes : List ℕ). x.devices.console ++ bytes) (sym (append-nil (flat_map on_console c.outputs)))

@@ -35,6 +35,7 @@ use Rattle.spec_protocol.proofs.PlayingBack.Transfers.{open-takes}
 use Rattle.spec_protocol.proofs.Points.OneMore.{points_so, points-more, commits_of, actors-append}
 use Rattle.spec_protocol.proofs.Points.Noted.{point_of, commit-logged, dma-logged, raise-logged}
 use Rattle.spec_protocol.proofs.Moves.Spawning.{AreFew, serve-few}
+use Rattle.spec_play.proofs.Positions.{position-more}
 
 -- ---- what stands between two points
 
@@ -125,12 +126,12 @@ module _ (mode : ModeName) (s : ℕ) (cs : List Supplied) where
       let log = logged mode s cs in
       let q = laid (recorded_dma (keeping log) p devices request) in
       let now : dma_log log devices p (Some request) ≡ logged mode s (cs ++ c ∷ []) = dma-logged mode s cs moment i (position p.progress) CommitKind.Dma short bytes (sym keeps.place) in
-      let one : position q.progress ≡ suc (position p.progress) = (let h = length-append p.progress.commits (dma_commit ∷ []) in omega arith) in
+      let one : position q.progress ≡ suc (position p.progress) = position-more p.progress dma_commit in
       record {
         role = ap (λ (log : LogParts). Record (keeping log)) now;
         stands = subst (Stands q) now (transferred-stands p q log (dma_log log devices p (Some request)) bytes (record { threads = refl; position_ = one; log_ = refl }) keeps.stands);
         commits = λ j. ap (count_of j) (more_actors cs c) ∙ no_thread_more j (actors_of ps) ∙ keeps.commits j;
-        place = (let a = ap (λ (as_ : List Actor). length as_) (more_actors cs c) in let b = length-append (actors_of ps) (Actor.Dma ∷ []) in let h = keeps.place in let l = length-append p.progress.commits (dma_commit ∷ []) in omega arith);
+        place = (let a = ap (λ (as_ : List Actor). length as_) (more_actors cs c) in let b = length-append (actors_of ps) (Actor.Dma ∷ []) in let h = keeps.place in let l = position-more p.progress dma_commit in omega arith);
         few = keeps.few;
       }
 

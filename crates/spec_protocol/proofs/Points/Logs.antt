@@ -11,7 +11,7 @@ use Rattle.spec_protocol.specs.Spheres.{Record, Sphere}
 use Rattle.spec_protocol.specs.Placing.{replays}
 use Rattle.spec_protocol.specs.World.{World, sphere_at}
 use Rattle.spec_protocol.specs.declared.event.Event.{Event}
-use Rattle.spec_protocol.specs.Machine.{RecordSetup, IsRecorded, SphereSetup, Setup, role_of, sphere_of}
+use Rattle.spec_protocol.specs.Machine.{first_threads, RecordSetup, IsRecorded, SphereSetup, Setup, role_of, sphere_of}
 use Rattle.spec_protocol.specs.Serial.{serial_start, do_points}
 use Rattle.spec_protocol.specs.Shown.{shown, shown_of}
 use Rattle.spec_protocol.specs.Logged.{supplied, logged}
@@ -37,7 +37,7 @@ no_commits : (entry k : ℕ) → 0 ≡ commits_in (started entry ∷ []) k
 no_commits entry zero = refl
 no_commits entry (suc k) = refl
 
-start_keeps : (mode : ModeName) (s : ℕ) (image : SphereSetup) → role_of s (started image.entry ∷ []) image.role ≡ Record (keeping (new_log mode s)) → Keeps mode s [] (sphere_of s image)
+start_keeps : (mode : ModeName) (s : ℕ) (image : SphereSetup) → role_of s (first_threads image) image.role ≡ Record (keeping (new_log mode s)) → Keeps mode s [] (sphere_of s image)
 start_keeps mode s image role =
     record {
       role = role ∙ ap (λ (log : LogParts). Record (keeping log)) (no_points mode s);
@@ -65,7 +65,7 @@ log_kept s es i image asked is there role =
     let so = serial-after s es is in
     let k : KeepsIn asked.mode z i cs (do_points (serial_start s) w.points) =
     points-kept asked.mode z i [] (serial_start s) w.points
-    (record { sphere = sphere_of z image; there = slice_get-map (sphere_of z) s.spheres i ∙ ap (option_map (sphere_of z)) there; keeps = start_keeps asked.mode z image (ap (role_of z (started image.entry ∷ [])) role) })
+    (record { sphere = sphere_of z image; there = slice_get-map (sphere_of z) s.spheres i ∙ ap (option_map (sphere_of z)) there; keeps = start_keeps asked.mode z image (ap (role_of z (first_threads image)) role) })
     so.possible
     in
     let p : Sphere = shown w.slots i (sphere_at w i) in

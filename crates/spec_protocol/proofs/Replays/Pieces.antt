@@ -14,13 +14,12 @@ use Rattle.spec_play.specs.Turns.{Now, Turn, TurnOfDma, Ended}
 use Rattle.spec_play.specs.Verdicts.{LogVerdict, Goes, Fails, chunk_verdict, serial_verdict}
 use Rattle.spec_play.specs.Transfers.{DmaVerdict, DmaGoes, DmaFails, dma_verdict}
 use Rattle.spec_engine.specs.declared.answers.How.{How}
-use Rattle.spec_protocol.specs.Spheres.{Cursor, Role, Plain, Record, Replay, Sphere, is_over, is_stopped, actor_of, head_in, head_of, is_in_pieces, no_sphere}
+use Rattle.spec_protocol.specs.Spheres.{other_than, turn_in, turn_against, Cursor, Role, Plain, Record, Replay, Sphere, is_over, is_stopped, actor_of, head_in, head_of, is_in_pieces, no_sphere}
 use Rattle.spec_protocol.specs.Commits.{MovedSphere, is_piece, joined, by_verdict, replayed_chunk, chunk_in, chunk_moved, serial_in, serial_moved, live_dma, dma_by_verdict, dma_log, dma_in, dma_moved, role_raised, raised}
 use Rattle.spec_protocol.specs.World.{Numbers, World, What, OfChunk, OfSerial, OfDma, OfRaise, Move, sphere_at}
-use Rattle.spec_protocol.specs.Asking.{is_short, other_turn}
-use Rattle.spec_protocol.specs.Transferring.{not_of_dma, turn_before_dma}
+use Rattle.spec_protocol.specs.Asking.{is_short}
 use Rattle.spec_protocol.specs.Placing.{replays}
-use Rattle.spec_protocol.specs.Machine.{RoleSetup, IsPlain, IsRecorded, IsReplayed, SphereSetup, role_of, sphere_of, moves, world_of}
+use Rattle.spec_protocol.specs.Machine.{first_threads, RoleSetup, IsPlain, IsRecorded, IsReplayed, SphereSetup, role_of, sphere_of, moves, world_of}
 use Rattle.spec_protocol.specs.Serial.{SerialState, serial_start, laid, do_serial, do_dma, do_raise}
 use Rattle.spec_protocol.specs.Shown.{shown, shown_of}
 use Rattle.spec_protocol.specs.Moves.{move_chunk, do_what, do_at, do_move, do_moves, FitsChunk, FitsSerial, FitsRaise, FitsWhat, FitsAt, Fits, FitsIf, FitAll}
@@ -51,13 +50,13 @@ replayed_turn : (piece : Bool) (b : Cursor) (k : ℕ) (r : Run) (devices : Devic
 replayed_turn true b k r devices p turn = λ going some. (k, turn)
 replayed_turn false b k r devices p turn = verdict_turn b k (chunk_verdict b.log p.progress b.used k (joined b r)) devices p
 
-chunk_in_turn : (role : Role) (k : ℕ) (piece short : Bool) (r : Run) (devices : Devices) (p : Sphere) → is_stopped role ≡ false → other_turn (head_in role p) k ≡ None → InTurn (chunk_in role k piece short r devices p).sphere.role
+chunk_in_turn : (role : Role) (k : ℕ) (piece short : Bool) (r : Run) (devices : Devices) (p : Sphere) → is_stopped role ≡ false → turn_in role p (Actor.Thread k) ≡ None → InTurn (chunk_in role k piece short r devices p).sphere.role
 chunk_in_turn Plain k piece short r devices p going free = tt
 chunk_in_turn (Record recording) k piece short r devices p going free = tt
 chunk_in_turn (Replay b) k piece short r devices p going free = replayed_turn piece b k r devices p (turn-is b.now k going free)
 
-chunk_turn : (z : Numbers) (k : ℕ) (how : How) (n limit : ℕ) (t : Parts) (devices : Devices) (p : Sphere) → is_stopped p.role ≡ false → other_turn (head_of p) k ≡ None → InTurn (laid (chunk_moved k (is_piece how) (is_short z.s how limit) (run p.memory t n) devices p)).role
-unfolding chunk_moved head_of
+chunk_turn : (z : Numbers) (k : ℕ) (how : How) (n limit : ℕ) (t : Parts) (devices : Devices) (p : Sphere) → is_stopped p.role ≡ false → turn_against p (Actor.Thread k) ≡ None → InTurn (laid (chunk_moved k (is_piece how) (is_short z.s how limit) (run p.memory t n) devices p)).role
+unfolding chunk_moved turn_against
 chunk_turn z k how n limit t devices p going free = chunk_in_turn p.role k (is_piece how) (is_short z.s how limit) (run p.memory t n) devices p going free
 
 serial_in_turn : (role : Role) (k moment : ℕ) (t : Parts) (devices : Devices) (p : Sphere) → InTurn (serial_in role k moment t devices p).sphere.role
@@ -152,7 +151,7 @@ start_role z threads (IsReplayed asked) = λ going some. absurd (omega arith)
 
 start_turn : (z : ℕ) (ds : List SphereSetup) (i : ℕ) (p : Sphere) → slice_get (map (sphere_of z) ds) i ≡ Some p → InTurn p.role
 start_turn z [] i p e = absurd (none-some p e)
-start_turn z (d ∷ ds) zero p e = subst (λ (q : Sphere). InTurn q.role) (let h : sphere_of z d ≡ p = cc in h) (start_role z (started d.entry ∷ []) d.role)
+start_turn z (d ∷ ds) zero p e = subst (λ (q : Sphere). InTurn q.role) (let h : sphere_of z d ≡ p = cc in h) (start_role z (first_threads d) d.role)
 start_turn z (d ∷ ds) (suc i) p e = start_turn z ds i p e
 
 -- ---- what can come next
@@ -161,10 +160,10 @@ some_total : (b : Cursor) (role : Role) → role ≡ Replay b → 0 < b.total �
 some_total b role is some = ap is_in_pieces is ∙ lt-ltb 0 b.total some
 
 own_chunk : (z : Numbers) (p : Sphere) (b : Cursor) (k j : ℕ) (how : How) (n limit : ℕ) (o : Option Parts) → p.role ≡ Replay b → b.now ≡ Turn k → FitsChunk z p j how n limit o → j ≡ k
-unfolding head_of
+unfolding turn_against
 own_chunk z p b k j how n limit None role turn fits = absurd fits
 own_chunk z p b k j how n limit (Some t) role turn fits =
-    let same : Turn k ≡ Turn j = sym turn ∙ turn-is b.now j (sym (ap is_stopped role) ∙ fits.going) (sym (ap (λ (r : Role). other_turn (head_in r p) j) role) ∙ fits.turn) in
+    let same : Turn k ≡ Turn j = sym turn ∙ turn-is b.now j (sym (ap is_stopped role) ∙ fits.going) (sym (ap (λ (r : Role). turn_in r p (Actor.Thread j)) role) ∙ fits.turn) in
     sym (ap (λ (now : Now). elim now [ Turn i ↦ i | TurnOfDma ↦ 0 | Ended how ↦ 0 ]) same)
 
 no_serial : (p : Sphere) (b : Cursor) (k : ℕ) (o : Option Parts) → p.role ≡ Replay b → 0 < b.total → FitsSerial p k o → ⊥
@@ -177,10 +176,11 @@ no_raise p b None role fits = fits
 no_raise p b (Some t) role fits = true≢false (sym (ap replays role) ∙ fits.live)
 
 only_chunks : (z : Numbers) (devices : Devices) (p : Sphere) (b : Cursor) (k : ℕ) (what : What) → p.role ≡ Replay b → b.now ≡ Turn k → 0 < b.total → FitsWhat z devices p what → IsChunkOf k what
+unfolding turn_against
 only_chunks z devices p b k (OfChunk j how n limit) role turn some fits = own_chunk z p b k j how n limit (slice_get p.threads j) role turn fits
 only_chunks z devices p b k (OfSerial j) role turn some fits = no_serial p b j (slice_get p.threads j) role some fits
 only_chunks z devices p b k OfDma role turn some fits =
-    none-some (Actor.Thread k) (sym (sym (ap turn_before_dma role ∙ ap (λ (now : Now). not_of_dma (actor_of now)) turn) ∙ fits.turn))
+    none-some (Actor.Thread k) (sym (sym (ap (λ (r : Role). turn_in r p Actor.Dma) role ∙ ap (λ (now : Now). other_than Actor.Dma (actor_of now)) turn) ∙ fits.turn))
 only_chunks z devices p b k (OfRaise j value) role turn some fits = no_raise p b (slice_get p.threads j) role fits
 
 -- nothing where it has stopped

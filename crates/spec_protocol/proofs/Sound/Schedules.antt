@@ -5,6 +5,7 @@ use Rattle.std.proofs.lemmas.Bool.{true≢false, eq-eqb, cases_eq, cases_lt}
 use Rattle.std.proofs.Math.ListN.{length-set}
 use Rattle.std.proofs.lemmas.Option.{none-some}
 use Rattle.std.proofs.lemmas.List.{length-map, get_or_past}
+use Rattle.dl_entry.specs.declared.Actor.{Actor}
 use Rattle.dl_entry.specs.declared.Counts.{Counts}
 use Rattle.dl_entry.specs.declared.ReplyName.{ReplyName}
 use Rattle.dl_entry.specs.ReplyName.{place}
@@ -19,12 +20,11 @@ use Rattle.spec_engine.specs.declared.answers.How.{How}
 use Rattle.spec_engine.specs.Flights.{Flight, at}
 use Rattle.spec_engine.specs.Chunks.{Chunk, step, cut}
 use Rattle.spec_protocol.specs.declared.event.Event.{Event}
-use Rattle.spec_protocol.specs.Spheres.{Cursor, Role, Replay, Sphere, no_sphere, is_over, is_stopped, head_of, head_in, whole_limit, pieces_of, limit_of, halves}
+use Rattle.spec_protocol.specs.Spheres.{turn_in, turn_against, Cursor, Role, Replay, Sphere, no_sphere, is_over, is_stopped, head_of, head_in, whole_limit, pieces_of, limit_of, halves}
 use Rattle.spec_protocol.specs.Commits.{MovedSphere, is_piece, chunk_moved, serial_moved}
-use Rattle.spec_protocol.specs.Asking.{is_short, other_turn}
+use Rattle.spec_protocol.specs.Asking.{is_short}
 use Rattle.spec_protocol.specs.World.{Numbers, Occupant, World, After, moment, sphere_at}
 use Rattle.spec_protocol.specs.Placing.{replays}
-use Rattle.spec_protocol.specs.Transferring.{turn_before_dma}
 use Rattle.spec_protocol.specs.Machine.{RoleSetup, IsPlain, IsRecorded, IsReplayed, SphereSetup, Setup, role_of, sphere_of, world_of, act, name_of, with_event, happens, world_after}
 use Rattle.spec_protocol.specs.Invariants.{IsGood}
 use Rattle.spec_protocol.specs.Promises.{IsSetup, AreSizesKept}
@@ -98,13 +98,14 @@ drained-both s now f w ws p e words k =
 going-on : (p : Sphere) → is_stopped p.role ≡ false → (b : Cursor) → p.role ≡ Replay b → is_over b.now ≡ false
 going-on p going b e = ap is_stopped (sym e) ∙ going
 
-has-turn : (p : Sphere) (k : ℕ) → is_stopped p.role ≡ false → other_turn (head_of p) k ≡ None → (b : Cursor) → p.role ≡ Replay b → b.now ≡ Turn k
-unfolding head_of
+has-turn : (p : Sphere) (k : ℕ) → is_stopped p.role ≡ false → turn_against p (Actor.Thread k) ≡ None → (b : Cursor) → p.role ≡ Replay b → b.now ≡ Turn k
+unfolding turn_against
 has-turn p k going turn b e =
-    turn-is b.now k (going-on p going b e) (ap (λ (r : Role). other_turn (head_in r p) k) (sym e) ∙ turn)
+    turn-is b.now k (going-on p going b e) (ap (λ (r : Role). turn_in r p (Actor.Thread k)) (sym e) ∙ turn)
 
-dma-has-turn : (p : Sphere) → is_stopped p.role ≡ false → turn_before_dma p.role ≡ None → (b : Cursor) → p.role ≡ Replay b → b.now ≡ TurnOfDma
-dma-has-turn p going turn b e = dma-turn_is b.now (going-on p going b e) (ap turn_before_dma (sym e) ∙ turn)
+dma-has-turn : (p : Sphere) → is_stopped p.role ≡ false → turn_against p Actor.Dma ≡ None → (b : Cursor) → p.role ≡ Replay b → b.now ≡ TurnOfDma
+unfolding turn_against
+dma-has-turn p going turn b e = dma-turn_is b.now (going-on p going b e) (ap (λ (r : Role). turn_in r p Actor.Dma) (sym e) ∙ turn)
 
 -- before its limit a chunk is a piece that leaves room for an instruction
 piece-how : (how : How) → is_piece how ≡ true → how ≢ How.Limit

@@ -36,11 +36,12 @@ use Rattle.spec_protocol.proofs.Replays.Order.{done-dma}
 use Rattle.spec_protocol.proofs.Sound.Commits.{set-all, later-thread, IsSoundMoved}
 use Rattle.spec_protocol.proofs.Replays.Turns.{turned-sound}
 use Rattle.spec_protocol.proofs.Replays.Verdicts.{diverged-sound}
+use Rattle.spec_play.proofs.Positions.{position-more}
 
 -- ---- DMAs
 
 dma-position : (p : Progress) → position (with_dma p) ≡ suc (position p)
-dma-position p = pushed_length p.commits dma_commit (length p.commits) refl
+dma-position p = position-more p dma_commit
 
 dma-as-sound : (s : ℕ) (image : SphereSetup) (now : ℕ) (role : Role) (words : List Stored) (devices : Devices) (p : Sphere) → IsSoundSphere s image now p → AreSoundWords (length image.memory) words → IsSoundRole s (position (with_dma p.progress)) p.threads role
     → HaveByteInput devices → IsSoundMoved s image (suc now) (dma_as role words devices p)

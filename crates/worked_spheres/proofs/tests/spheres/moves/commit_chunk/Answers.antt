@@ -83,7 +83,7 @@ commit_chunk-requires g c =
         slice_get_within _ _ _ c.first-thread.ensures,
         (
           subst (λ (how : How). CanCommit p.s p.sphere 0 how ch) (sym (ap how_of closed)) (can_commit p.s p.sphere t c.args.how ch closed c.first-thread.ensures seen),
-          (search rules, search rules),
+          search rules,
         ),
       ),
     )
