@@ -34,7 +34,7 @@ pub fn compute(alloc: Global, plan: &Plan, inputs: Inputs) -> Result<Job, Halt>
         Ok(()) => {}
         Err(halt) => return Err(halt),
     }
-    let schedule = match read_events(alloc, plan.seed, inputs.schedule) {
+    let schedule = match read_events(alloc, plan.sizes.seed, inputs.schedule) {
         Ok(schedule) => schedule,
         Err(halt) => return Err(halt),
     };
@@ -54,12 +54,12 @@ fn setup_of(plan: &Plan, input: Vec<u8>, spheres: Vec<SphereSetup>) -> Setup
     ensures count { length result.spheres ≡ length (plan_view plan.now).spheres }
 {
     Setup {
-        cores: plan.cores,
-        window: plan.window,
-        s: plan.chunk,
-        capacity: plan.buffer,
-        bits: plan.signature,
-        seed: plan.seed,
+        cores: plan.sizes.cores,
+        window: plan.sizes.window,
+        s: plan.sizes.chunk,
+        capacity: plan.sizes.buffer,
+        bits: plan.sizes.signature,
+        seed: plan.sizes.seed,
         input: Bytes::from_vec(input),
         spheres: Sequence::from_vec(spheres),
     }

@@ -98,7 +98,7 @@ task_built name m t is =
     let read = then_ok (refusing absent (plan_read m plan.0)) (task_read plan.0) t plan.2 in
     let images = then_ok (images_of 0 read.0.spheres) _ t read.2 in
     let spheres = then_ok (spheres_of 0 read.0.spheres images.0) _ t images.2 in
-    let events = then_ok (events_of plan.0.seed read.0.schedule) _ t spheres.2 in
+    let events = then_ok (events_of plan.0.sizes.seed read.0.schedule) _ t spheres.2 in
     let made : Task = record { plan = plan.0; read = read.0; spheres = spheres.0; events = events.0 } in
     let same : made ≡ t = cc in
     subst (IsBuilt m) same (record {
