@@ -110,12 +110,15 @@ class Pages(unittest.TestCase):
     def test_a_page_of_a_part_has_the_chosen_words_whole(self):
         image, log, played = support.played(support.example("aba, plan.toml"))
         trace = Trace(image, log, played)
-        whole, part = Picture(trace, (trace.names.word("top"),)), Picture(trace, (trace.names.word("top"),), most=150)
+        top, found = trace.names.word("top"), findings(trace)
+        whole, part = Picture(trace, (top,), found), Picture(trace, (top,), found, most=150)
         self.assertEqual((whole.is_partial, part.is_partial), (False, True))
         self.assertLess(len(part.word), len(whole.word))
         for i in range(len(trace.commits)):
             marks = [[(p.value[e], p.letter(e), n) for e, n in p.marks(i)] for p in (whole, part)]
             self.assertEqual(*marks)
+        self.assertEqual([f.text for f in part.found], [f.text for f in whole.found])
+        self.assertEqual([[part.value[e] for e in f.accesses] for f in part.found], [[whole.value[e] for e in f.accesses] for f in whole.found])
 
     def test_odd_names_are_escaped(self):
         race = support.example("race, plan.toml")

@@ -69,7 +69,7 @@ class Picture:
         shared = self._shared()
         self.chosen_addrs = list(chosen) or self._choose(shared, findings)
         self.is_partial = len(trace.accesses) > most
-        self._fill(self._kept(shared, most) if self.is_partial else None)
+        self._fill(self._kept(shared, findings, most) if self.is_partial else None)
         self.found = [self._finding(f) for f in findings]
 
     # ------------------------------------------------------------ words
@@ -97,15 +97,18 @@ class Picture:
     def _choose(self, shared, findings):
         """Words to mark where none are asked for: those of findings, then those that went most often from one to another, by
         their addresses. One that did so once, as an argument does, is marked only where there is no other."""
-        accesses = self.trace.accesses
-        found = list(dict.fromkeys(accesses[f.accesses[0]].addr & ~3 for f in findings))
+        found = self._of_findings(findings)
         often, once = ([addr for crossings, addr in shared if test(-crossings)] for test in (lambda n: n > 1, lambda n: n == 1))
         best = found + [addr for addr in often if addr not in found] or once
         return sorted(best[:MOST_WORDS])
 
-    def _kept(self, shared, most):
-        """Words whose accesses a page has where it can't have all."""
-        words, kept = self.trace.words, list(self.chosen_addrs)
+    def _of_findings(self, findings):
+        return list(dict.fromkeys(self.trace.accesses[f.accesses[0]].addr & ~3 for f in findings))
+
+    def _kept(self, shared, findings, most):
+        """Words whose accesses a page has when it can't have all: the chosen ones, those of findings, and of the others as many as
+        there is room for."""
+        words, kept = self.trace.words, list(dict.fromkeys(self.chosen_addrs + self._of_findings(findings)))
         total = sum(len(words.get(addr, ())) for addr in kept)
         for _, addr in shared:
             total += len(words[addr])
@@ -151,11 +154,10 @@ class Picture:
 
     def _finding(self, finding):
         """The finding by entries: the loads of its loads, the stores of its stores."""
-        trace, out = self.trace, []
+        out = []
         for n, j in enumerate(finding.accesses):
-            if j in self.entries_of:
-                is_pair = len(_NUMBERS[trace.accesses[j].kind]) == 2
-                out.append(self.entries_of[j] + (1 if is_pair and n else 0))
+            is_pair = len(_NUMBERS[self.trace.accesses[j].kind]) == 2
+            out.append(self.entries_of[j] + (1 if is_pair and n else 0))
         return Finding(finding.kind, out, shown(finding.text))
 
     # ------------------------------------------------------------ marks

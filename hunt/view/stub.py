@@ -3,8 +3,6 @@ since gdb takes no thread of number 0 and forgets those that it misses."""
 
 import re
 
-from lib.trace import context_name
-
 from . import monitor
 from .rsp import INTERRUPT, Gone
 from .shown import shown
