@@ -10,6 +10,7 @@ use std::test::Fail;
 
 mod instructions;
 mod narrow;
+mod pieces;
 mod rows;
 mod tools;
 

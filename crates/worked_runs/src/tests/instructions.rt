@@ -17,8 +17,7 @@ const DIVISION_IMAGE: &[u8] =
       \x13\x03\xf3\xff3\xa9b\x02\xb7\x02\0\0\x93\x82\xf2\xff7\x03\0\0\x13\x03\xf3\xff\xb3\xb9b\x02\x93\x08\0\0s\0\0\
       \0";
 
-const DIVISION_SCRIPT: &[u8] =
-    b"step 0\n\
+const DIVISION_SCRIPT: &[u8] = b"step 0\n\
       step 0\n\
       step 0\n\
       step 0\n\
@@ -72,8 +71,7 @@ const DIVISION_SCRIPT: &[u8] =
 const DIVISION_LOG: &[u8] =
     b"DLRN\x01\0\0\0d\0\0\0\x02\0\0\0\x02\0\0\0\0\x02\0\0\0.\0\0\0\0\0\0\0\0\0\0\0\0\0\0\0";
 
-const DIVISION_ACCOUNT: &[u8] =
-    b"c 0 0 46\n\
+const DIVISION_ACCOUNT: &[u8] = b"c 0 0 46\n\
       c 1 0 0\n\
       t 0 000000BC ended:0 00000000 0 00000000 00000000 00000000 00000000 FFFFFFFF FFFFFFFF 00000000 00000000 \
       00000000 00000000 80000000 00000000 FFFFFFFF FFFFFFFF 00000007 00000007 00000000 FFFFFFFF FFFFFFFE 00000000 \
@@ -96,8 +94,7 @@ const JUMP_SCRIPT: &[u8] = b"step 0\nstep 0\nask 0\nstep 0\nask 0\n";
 const JUMP_LOG: &[u8] =
     b"DLRN\x01\0\0\0d\0\0\0\x02\0\0\0\x02\0\0\0\0\x02\0\0\0\x01\0\0\0\0\0\0\0\0\0\0\0\0\0\0\0";
 
-const JUMP_ACCOUNT: &[u8] =
-    b"c 0 0 1\n\
+const JUMP_ACCOUNT: &[u8] = b"c 0 0 1\n\
       c 1 0 0\n\
       t 0 00000004 fault:0 00000000 0 00000000 00000000 00000000 00000000 00000006 00000000 00000000 00000000 \
       00000000 00000000 00000000 00000000 00000000 00000000 00000000 00000000 00000000 00000000 00000000 00000000 \
