@@ -192,11 +192,11 @@ module _ {D : Type 0} (one : D → Reader D) (set : List Actor → D) (count : �
       (λ a b to. repeated-actors n ((xs ++ a ∷ []) ++ b ∷ []) bytes to (λ h. omega (arith, length_push (xs ++ a ∷ []) b, length_push xs a)))
       (any 1 bytes at))
 
-  counted-actors : (n : ℕ) (bytes : List ℕ) (r : Result (Read ℕ) ParseError) → ((x : Read ℕ) → r ≡ Ok x → 0 < x.value → x.value ≡ count)
+  counted-actors : (bytes : List ℕ) (r : Result (Read ℕ) ParseError) → ((x : Read ℕ) → r ≡ Ok x → 0 < x.value → x.value ≡ count)
       → continues (continues r (λ n. gives (n / 2 + n % 2) bytes)) (λ k after. repeated one k (set []) bytes after)
       ≡ continues (continues r (λ n after. actors n bytes after)) (λ xs. gives (set xs) bytes)
-  counted-actors n bytes (Ok r) all = repeated-actors r.value [] bytes r.after (λ h. omega (arith, all r refl h))
-  counted-actors n bytes (Err fault) all = refl
+  counted-actors bytes (Ok r) all = repeated-actors r.value [] bytes r.after (λ h. omega (arith, all r refl h))
+  counted-actors bytes (Err fault) all = refl
 
 ordered-all : (mode : ModeName) (count : ℕ) → 0 < ordered mode count → ordered mode count ≡ count
 ordered-all OrderSize count h = refl
@@ -210,7 +210,7 @@ pub staged-actors : {D : Type 0} (one : D → Reader D) (set : List Actor → D)
     → read (read (field 4 (λ n. n == ordered mode count)) (λ n. gives (n / 2 + n % 2))) (λ k. repeated one k (set [])) bytes at
     ≡ read (order_of mode count) (λ xs. gives (set xs)) bytes at
 staged-actors one set mode count on bytes at =
-    counted-actors one set count on 0 bytes (field 4 (λ n. n == ordered mode count) bytes at)
+    counted-actors one set count on bytes (field 4 (λ n. n == ordered mode count) bytes at)
     (λ x e h.
     let same : x.value ≡ ordered mode count = eqb-true x.value (ordered mode count) (number-passed 5 at (λ n. n == ordered mode count) (raw 4 bytes at) bytes x e) in
     same ∙ ordered-all mode count (omega arith))
