@@ -1,6 +1,7 @@
 """The examples as the tests take them, and whether the proved program is there."""
 
 import os
+import shutil
 import sys
 import tomllib
 from collections import namedtuple
@@ -52,6 +53,11 @@ def traced(name):
 def can_walk():
     """Whether the proved program can be called without being built first."""
     return bool(os.environ.get("DELOREAN")) or (TOP / "crates/delorean/out/delorean").is_file()
+
+
+def tool(name):
+    """The path of a program that isn't this project's, or None if it isn't there, or if only tests without such are to run."""
+    return None if os.environ.get("HUNT_TOOLS") == "none" else shutil.which(name)
 
 
 NOT_BUILT = "the walks of the proved program, which isn't built: stored accounts are taken instead"

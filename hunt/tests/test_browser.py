@@ -15,7 +15,7 @@ from view.page import page
 from view.picture import Picture
 from test_picture import pictures
 
-PROGRAM = shutil.which("chromium")
+PROGRAM = support.tool("chromium")
 PARTS = ("lane", "kind", "size", "note", "ran"), ("word", "value", "entry", "at", "width", "place")  # of a commit, of an entry
 
 
@@ -35,7 +35,7 @@ def short_pictures():
     return (each for each in pictures() if 0 < len(each[1].commits) < 100)
 
 
-@unittest.skipUnless(PROGRAM, "pages in a browser, since there is no chromium")
+@unittest.skipUnless(PROGRAM, "pages in a browser (chromium; --all asks for it)")
 class Shown(unittest.TestCase):
     """All recordings for what is drawn; those of fewer than a hundred commits for keys and pointer."""
 

@@ -5,7 +5,6 @@ import importlib.util
 import json
 from pathlib import Path
 import random
-import shutil
 import socket
 import subprocess
 import tempfile
@@ -21,7 +20,7 @@ from view.rsp import Packets
 from view.stub import Stub
 from view.timeline import ACCESS, BEGIN, BREAK, END, READ, WRITE, Point, Timeline
 
-PROGRAM = shutil.which("gdb-multiarch")
+PROGRAM = support.tool("gdb-multiarch")
 HAS_LINES = importlib.util.find_spec("elftools") is not None
 NO_LINES = "what gdb's guide shows of source lines, since pyelftools isn't there"
 LONGEST = 2500  # steps of a run that is gone back over whole
@@ -214,7 +213,7 @@ class Refusals(unittest.TestCase):
         client.close()
 
 
-@unittest.skipUnless(PROGRAM, "gdb itself, since there is no gdb-multiarch")
+@unittest.skipUnless(PROGRAM, "gdb itself (gdb-multiarch; --all asks for it)")
 class Driven(unittest.TestCase):
     @classmethod
     def setUpClass(cls):
