@@ -457,17 +457,14 @@ void run_access(struct machine *m, uint32_t number, uint32_t address, struct ser
         *load = (struct served){.loads = loads, .load_address = address, .load_value = result};
 }
 
-bool is_load_reserved(const struct machine *m, const struct thread *t) {
-    return t->pc < m->setup->size && taken_apart(word_at(m, t->pc)).operation == LR;
-}
+/* Of a thread whose next instruction was looked at. */
+static int operation_of(const struct machine *m, const struct thread *t) { return m->code[t->pc / 4].operation; }
 
-bool is_store(const struct machine *m, const struct thread *t) {
-    return t->pc < m->setup->size && !only_loads(taken_apart(word_at(m, t->pc)).operation);
-}
+bool is_load_reserved(const struct machine *m, const struct thread *t) { return operation_of(m, t) == LR; }
 
-bool is_store_conditional(const struct machine *m, const struct thread *t) {
-    return t->pc < m->setup->size && taken_apart(word_at(m, t->pc)).operation == SC;
-}
+bool is_store(const struct machine *m, const struct thread *t) { return !only_loads(operation_of(m, t)); }
+
+bool is_store_conditional(const struct machine *m, const struct thread *t) { return operation_of(m, t) == SC; }
 
 void end_chunk(struct thread *t) { t->reservation = NO_RESERVATION; }
 

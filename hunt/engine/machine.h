@@ -116,6 +116,7 @@ bool can_interrupt(const struct thread *t);
 void interrupt(struct machine *m, uint32_t number, uint32_t value);
 uint32_t do_request(struct machine *m);
 uint32_t word_at(const struct machine *m, uint32_t address);
+/* Of a thread's next instruction, which next_of was asked for: */
 bool is_load_reserved(const struct machine *m, const struct thread *t);
 bool is_store(const struct machine *m, const struct thread *t);
 bool is_store_conditional(const struct machine *m, const struct thread *t);

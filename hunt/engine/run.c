@@ -35,6 +35,7 @@ static struct turn *present(struct run *r) { return &r->turns[r->turn_count - 1]
 
 void begin_turn(struct run *r, uint32_t actor) {
     add_turn(r, actor);
+    r->seats[actor].waits = false;
     r->current = actor;
     r->still_turn = 0;
     r->mark_power = 1;
@@ -82,8 +83,8 @@ static bool is_place(const struct run *r, const struct thread *t, struct next ne
     switch (next.kind) {
     case LOCAL:
         return is_shared(t->pc);
-    case MEMORY:
-        return is_shared(next.address) || is_shared(t->pc);
+    case MEMORY: /* an SC looks whether its chunk began before the LR, so it matters to it whether another came between */
+        return is_shared(next.address) || is_shared(t->pc) || (t->reservation == next.address && is_store_conditional(&r->machine, t));
     case CALL: {
         uint32_t call = t->x[17];
         if (call == HANDLER || call == IRET)

@@ -79,9 +79,18 @@ static void find_path(uint32_t item) {
 
 /* ---------------------------------------------------------------- states */
 
+/* The threads that are known to wait, as bits: else it might be found out of each in another run, and in none of all. */
+static uint64_t waiting(void) {
+    uint64_t bits = 0;
+    for (uint32_t k = 0; k < run->machine.thread_count; k++)
+        if (k != run->current && run->machine.threads[k].status == LIVE && !is_enabled(run, k))
+            bits |= 1ull << k;
+    return bits;
+}
+
 /* Of the state with this thread to go on: at a place, or about to come. */
 static struct hash key_of(struct hash state, uint32_t thread, uint32_t how) {
-    return sum(state, mixed(thread, 0x5EA4C400u + how));
+    return sum(state, mixed(waiting(), thread | how << 8));
 }
 
 /* The states at places of the present turn, since the path's end. */
@@ -155,7 +164,8 @@ static void offer_switches(struct trial *t) {
     if (cost > limits->switches)
         return;
     bool offered = false;
-    if (!t->fresh) {
+    /* Whoever has touched nothing might as well come later; but a reservation is lost by leaving. */
+    if (!t->fresh || current->reservation != NO_RESERVATION) {
         struct hash after = state_after_chunk();
         for (uint32_t u = 0; u < m->thread_count; u++) {
             if (u == run->current || !is_choice(u))
