@@ -6,13 +6,12 @@ each of the loop's stores memory must be as it was. Only then may anything be wr
 """
 
 from collections import namedtuple
-from pathlib import Path
 import re
 import tempfile
 
 from .account import Walk
 from .conditions import Ended
-from .logs import DMA, write_log
+from .logs import write_log
 
 MOST_WALKS = 64  # of one thread's loop
 
@@ -92,11 +91,3 @@ class Judge:
 def switches_of(order):
     """How often another actor commits next."""
     return sum(1 for before, after in zip(order, order[1:]) if before != after)
-
-
-def writes(name, log):
-    Path(name).write_bytes(log)
-
-
-def actor_name(actor):
-    return "DMA" if actor == DMA else "thread %d" % actor

@@ -5,7 +5,8 @@ import re
 
 from .account import NotWalked
 from .conditions import BadCondition, read_condition
-from .engine import Engine, NoEngine, Options
+from .engine import DMA as DMA_TURN
+from .engine import Engine, Options
 from .image import NotAnImage, read_image
 from .judge import Differs, Judge, switches_of
 from .symbols import Names, NoWord
@@ -39,6 +40,11 @@ def add_common(parser, with_log=False):
     parser.add_argument("--turn", type=int, default=10_000, metavar="N",
                         help="another thread comes, for nothing, where one has done so many steps (10000)")
     parser.add_argument("--steps", type=int, default=1_000_000, metavar="N", help="a run is left after so many (1000000)")
+
+
+def counted(number, what):
+    ending = "" if number == 1 else "es" if what.endswith("ch") else "s"
+    return "%d %s%s" % (number, what, ending)
 
 
 def read_raise(text):
@@ -85,9 +91,11 @@ class Job:
 
     def summary(self, told, verdict):
         log = told.log
-        forced = sum(turn.end == "forced" for turn in told.turns[:-1])
-        yield "%s: %d commits, %d switches, %d of them forced; walked" % (
-            self.given.out, log.count, switches_of(log.order), forced)
+        pairs = [(turn, after) for turn, after in zip(told.turns, told.turns[1:]) if turn.actor != after.actor]
+        forced = sum(turn.end == "forced" and after.actor < DMA_TURN for turn, after in pairs)
+        counts = [counted(log.count, "commit"), "%s, %d forced" % (counted(switches_of(log.order), "switch"), forced)]
+        counts += [counted(n, what) for n, what in ((len(log.interrupts), "interrupt"), (len(log.dmas), "DMA")) if n]
+        yield "%s: %s; walked" % (self.given.out, ", ".join(counts))
         for thread, (status, code) in enumerate(verdict.ended.threads):
             yield "thread %d %s" % (thread, {"live": "is live", "ended": "ended with %d" % code,
                                              "fault": "faulted, cause %d" % code}[status])

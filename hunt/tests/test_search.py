@@ -92,7 +92,7 @@ class Bugs(unittest.TestCase):
                 status, said = command("search", image, 4096, "--bad", bad, "--out", log)
                 self.assertEqual(status, 0, said)
                 self.assertIn("found with %d forced switch" % switches, said)
-                self.assertIn("%d of them forced; walked" % switches, said)
+                self.assertRegex(said, ", %d forced; walked" % switches)
                 self.replays(image, log)
 
     def replays(self, image, log):
@@ -196,13 +196,13 @@ class Ends(unittest.TestCase):
     def test_limit(self):
         status, said = self.said(self.COUNTS, "--bad", "hang", "--steps", "5000")
         self.assertEqual(status, 1, said)
-        self.assertIn("but 1 runs were left at the limit of steps", said)
+        self.assertIn("but 1 run was left at the limit of steps", said)
 
     def test_limit_of_tries(self):
         status, said = command("search", RACE / "race.elf", 4096, "--bad", "exit 0 = 3", "--out", "/nowhere/a.log", "--tries", "100")
         self.assertEqual(status, 1, said)
         self.assertRegex(said, "no order without a forced switch among [0-9]+ places ends so, in [0-9]+ runs\n"
-                               "the limit of tries was met with 1 forced: [0-9]+ runs of them were tried, the rest isn't covered")
+                               "the limit of tries was met with 1 forced: [0-9]+ runs of them tried, the rest isn't covered")
 
     def test_no_end_of_that_kind(self):
         status, said = self.said(self.GIVES_UP, "--bad", "hang", "--bad", "fault")
