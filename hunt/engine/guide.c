@@ -33,7 +33,7 @@ static enum stop take_turn(struct run *r, const struct turn *turn) {
 }
 
 /* The least thread that can go on, the last one first. */
-static uint32_t next_thread(const struct run *r, uint32_t last) {
+static uint32_t next_thread(struct run *r, uint32_t last) {
     if (last < r->machine.thread_count && is_enabled(r, last))
         return last;
     for (uint32_t k = 0; k < r->machine.thread_count; k++)

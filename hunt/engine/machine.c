@@ -82,6 +82,7 @@ struct hash hash_of_rest(const struct machine *m) {
     h = chained(h, d->random);
     h = chained(h, d->input_at | (uint64_t)d->reads_of_clock << 32);
     h = chained(h, d->console.a);
+    h = chained(h, m->answers_taken.a + (m->setup->dma_count ? m->dmas_done : 0));
     for (int p = 0; p < PIPES; p++) {
         h = chained(h, d->held[p]);
         for (int j = 0; j < d->held[p]; j++)
@@ -100,7 +101,6 @@ uint32_t word_at(const struct machine *m, uint32_t address) {
 
 static void happened(struct machine *m) {
     m->events++;
-    m->news++;
 }
 
 static void put_word(struct machine *m, uint32_t address, uint32_t word) {
@@ -117,7 +117,6 @@ static void put_word(struct machine *m, uint32_t address, uint32_t word) {
     m->memory_hash.a += after.a - before.a;
     m->memory_hash.b += after.b - before.b;
     m->stores++;
-    m->news += is_shared(address);
 }
 
 static void put_bytes(struct machine *m, uint32_t context, uint32_t address, const uint8_t *bytes, uint32_t length) {
@@ -166,8 +165,10 @@ void reset_machine(struct machine *m) {
     m->thread_count = 1;
     m->requested = false;
     m->request_buffer = m->request_length = 0;
-    m->stores = m->events = m->news = m->time = 0;
+    m->stores = m->events = m->time = 0;
     m->dmas_done = 0;
+    m->ended = 0;
+    m->answers_taken = (struct hash){0, 0};
     for (size_t j = 0; j < m->setup->answer_count; j++)
         m->setup->answers[j].used = 0;
     new_run();
@@ -520,6 +521,7 @@ static bool take_answer(struct machine *m, uint32_t number, struct need n, struc
         if (!fits(n, a))
             return false;
         a->used = 1;
+        m->answers_taken = sum(m->answers_taken, mixed(j, 5));
         *got = *a;
         return true;
     }
@@ -608,6 +610,7 @@ static void put_console(struct machine *m, const uint8_t *bytes, uint32_t length
 static void stop_thread(struct machine *m, struct thread *t, uint32_t status, uint32_t code) {
     t->status = status;
     t->code = code;
+    m->ended |= 1ull << (t - m->threads);
     happened(m);
 }
 

@@ -90,9 +90,10 @@ struct machine {
     size_t journal_length, journal_room;
     uint64_t stores; /* those that changed a word */
     uint64_t events; /* ends and starts of threads, requests, interrupts, and whatever moved the devices */
-    uint64_t news;   /* events, and stores that changed a shared word: what another thread may wait for */
     uint64_t time;   /* steps of all threads */
     size_t dmas_done;
+    uint64_t ended;            /* the threads that have ended, as bits */
+    struct hash answers_taken; /* which of the answers that were handed in */
 };
 
 /* What one serial step did, beside what it changed. */

@@ -35,7 +35,7 @@ static struct turn *present(struct run *r) { return &r->turns[r->turn_count - 1]
 
 void begin_turn(struct run *r, uint32_t actor) {
     add_turn(r, actor);
-    r->seats[actor].waits = false;
+    r->seats[actor] = (struct hash){0, 0};
     r->current = actor;
     r->still_turn = 0;
     r->mark_power = 1;
@@ -125,21 +125,9 @@ static bool comes_again(struct run *r) {
 
 static bool is_outside(uint32_t call) { return call >= WRITE && call <= CLOCK; }
 
-static void look_at(struct seat *s, const struct machine *m, uint32_t address) {
-    for (uint32_t j = 0; j < s->count; j++)
-        if (s->address[j] == (address & ~3u))
-            return;
-    if (s->count == LOOKED_AT) {
-        s->for_any = true;
-        return;
-    }
-    s->address[s->count] = address & ~3u;
-    s->value[s->count++] = word_at(m, address);
-}
-
 /* The current thread is in a loop of so many steps that comes back to each of its states. It goes on to that one of them in
-   which it waits: before the place of the least pc. */
-static void settle(struct run *r, uint64_t length, struct seat *seat) {
+   which it waits, before the place of the least pc, and finds out what the loop looks at. */
+static void settle(struct run *r, uint64_t length, struct looks *looks) {
     struct machine *m = &r->machine;
     struct thread *t = &m->threads[r->current];
     uint64_t best = 0, best_rank = UINT64_MAX;
@@ -151,32 +139,47 @@ static void settle(struct run *r, uint64_t length, struct seat *seat) {
             best = j;
         }
         if (next.kind == MEMORY && is_shared(next.address))
-            look_at(seat, m, next.address);
-        if (is_shared(t->pc) || (next.kind == CALL && is_outside(t->x[17])))
-            seat->for_any = true;
+            look_at(looks, next.address);
+        if (is_shared(t->pc) || next.kind == DEVICE_LOAD || (next.kind == CALL && is_outside(t->x[17])))
+            looks->at_all = true;
         take_step(r, next);
     }
     for (uint64_t j = 0; j < best; j++)
         take_step(r, next_of(m, t));
 }
 
-static void wait_here(struct run *r) {
-    struct machine *m = &r->machine;
-    struct seat seat = {.waits = true, .pure = m->stores == r->mark_stores};
-    seat.for_any = !seat.pure;
-    settle(r, r->mark_age + 1, &seat);
-    seat.news = m->news;
-    seat.events = m->events;
-    r->seats[r->current] = seat;
+/* Of a thread as it is once it is left. */
+static struct hash hash_when_left(struct run *r, uint32_t number) {
+    struct thread t = r->machine.threads[number];
+    end_chunk(&t);
+    struct hash h = hash_of_thread(&t);
+    return mixed(h.a + number, h.b);
 }
 
-static bool has_news(const struct run *r, const struct seat *s) {
-    if (s->for_any)
-        return s->news != r->machine.news;
-    for (uint32_t j = 0; j < s->count; j++)
-        if (word_at(&r->machine, s->address[j]) != s->value[j])
-            return true;
-    return s->events != r->machine.events;
+static void keep_loop(struct run *r, uint64_t length, const struct looks *looks, enum waiting how) {
+    struct machine *m = &r->machine;
+    if (how_waits(hash_when_left(r, r->current), m) != IS_UNKNOWN)
+        return;
+    for (uint64_t j = 0; j < length; j++) {
+        keep_waiting(hash_when_left(r, r->current), looks, m, how);
+        take_step(r, next_of(m, &m->threads[r->current]));
+    }
+}
+
+static void wait_here(struct run *r) {
+    bool pure = r->machine.stores == r->mark_stores;
+    uint64_t length = r->mark_age + 1;
+    struct looks looks = {.at_all = !pure};
+    settle(r, length, &looks);
+    keep_loop(r, length, &looks, pure ? WAITS_PURELY : WAITS_WITH_STORES);
+}
+
+enum waiting waiting_of(struct run *r, uint32_t thread) {
+    if (thread == r->current)
+        return IS_UNKNOWN;
+    if (r->seats[thread].a == 0 && r->seats[thread].b == 0)
+        r->seats[thread] = hash_when_left(r, thread);
+    return how_waits(r->seats[thread], &r->machine);
 }
 
 /* One step, then how it stands. AT_PLACE means that nothing has ended. */
@@ -215,10 +218,8 @@ enum stop go_steps(struct run *r, uint64_t steps) {
     return AT_PLACE;
 }
 
-bool is_enabled(const struct run *r, uint32_t thread) {
-    const struct machine *m = &r->machine;
-    const struct seat *s = &r->seats[thread];
-    return m->threads[thread].status == LIVE && (!s->waits || has_news(r, s));
+bool is_enabled(struct run *r, uint32_t thread) {
+    return r->machine.threads[thread].status == LIVE && waiting_of(r, thread) == IS_UNKNOWN;
 }
 
 uint32_t live_count(const struct run *r) {
@@ -249,6 +250,6 @@ void do_raise(struct run *r, uint32_t number) {
     *t = (struct turn){.actor = (uint8_t)(RAISE + number), .end = STOPPED, .steps = r->raises[number].thread,
                        .value = r->raises[number].value};
     r->raised |= 1ull << number;
-    r->seats[t->steps].waits = false;
+    r->seats[t->steps] = (struct hash){0, 0};
     interrupt(&r->machine, (uint32_t)t->steps, t->value);
 }

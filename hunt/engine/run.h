@@ -1,8 +1,9 @@
-/* A run in progress: whose turn it is, who waits, and the turns so far. A turn is what one thread does until another actor
+/* A run in progress: whose turn it is, and the turns so far. A turn is what one thread does until another actor
    comes; in the log that is written of it, it is a commit for each chunk and serial step. */
 #ifndef RUN_H
 #define RUN_H
 
+#include "loops.h"
 #include "machine.h"
 
 enum { CUT = 126, DMA = 127, RAISE = 128, NO_ONE = 255 }; /* actors beside threads; RAISE and a number: that interrupt */
@@ -21,21 +22,12 @@ struct turn {
     uint32_t value;     /* of an interrupt; its thread is in steps */
 };
 
-/* Whether the thread waits: alone it comes back to where it is, until a word that its loop looks at changes, or an event comes.
-   pure: it changes no word meanwhile. A loop with stores, or one that looks at many words, waits for any news. */
-enum { LOOKED_AT = 4 };
-struct seat {
-    bool waits, pure, for_any;
-    uint64_t news, events;
-    uint32_t count, address[LOOKED_AT], value[LOOKED_AT];
-};
-
 struct run {
     struct machine machine;
     struct raise raises[MOST_RAISES];
     uint32_t raise_count;
     uint64_t raised; /* which of them have come, as bits */
-    struct seat seats[MOST_THREADS];
+    struct hash seats[MOST_THREADS]; /* hashes of the threads, as they were left; 0 if it isn't known */
     uint32_t current; /* or NO_ONE */
     struct turn *turns;
     size_t turn_count, turn_room;
@@ -60,7 +52,9 @@ void end_turn(struct run *r, enum turn_end end);
 enum stop go_on(struct run *r, bool past);
 /* The current thread goes on for so many steps at most. */
 enum stop go_steps(struct run *r, uint64_t steps);
-bool is_enabled(const struct run *r, uint32_t thread);
+enum waiting waiting_of(struct run *r, uint32_t thread);
+/* Whether the thread is live, and not known to wait. */
+bool is_enabled(struct run *r, uint32_t thread);
 bool can_raise(const struct run *r, uint32_t number);
 void do_dma(struct run *r);
 void do_raise(struct run *r, uint32_t number);

@@ -79,18 +79,9 @@ static void find_path(uint32_t item) {
 
 /* ---------------------------------------------------------------- states */
 
-/* The threads that are known to wait, as bits: else it might be found out of each in another run, and in none of all. */
-static uint64_t waiting(void) {
-    uint64_t bits = 0;
-    for (uint32_t k = 0; k < run->machine.thread_count; k++)
-        if (k != run->current && run->machine.threads[k].status == LIVE && !is_enabled(run, k))
-            bits |= 1ull << k;
-    return bits;
-}
-
 /* Of the state with this thread to go on: at a place, or about to come. */
 static struct hash key_of(struct hash state, uint32_t thread, uint32_t how) {
-    return sum(state, mixed(waiting(), thread | how << 8));
+    return sum(state, mixed(thread, how));
 }
 
 /* The states at places of the present turn, since the path's end. */
@@ -152,7 +143,7 @@ static void take_choice(struct trial *t, uint32_t choice, enum turn_end end) {
 static bool is_choice(uint32_t choice) {
     const struct machine *m = &run->machine;
     if (choice < m->thread_count)
-        return is_enabled(run, choice) || (m->threads[choice].status == LIVE && !run->seats[choice].pure);
+        return m->threads[choice].status == LIVE && waiting_of(run, choice) != WAITS_PURELY;
     return choice == DMA ? m->requested : choice >= RAISE && can_raise(run, choice - RAISE);
 }
 
@@ -186,12 +177,12 @@ static void offer_switches(struct trial *t) {
     t->choices += offered;
 }
 
-enum leaf leaf_of(const struct run *r) {
+enum leaf leaf_of(struct run *r) {
     bool pure = true;
     if (live_count(r) == 0)
         return ALL_ENDED;
     for (uint32_t k = 0; k < r->machine.thread_count; k++)
-        pure = pure && (r->machine.threads[k].status != LIVE || r->seats[k].pure);
+        pure = pure && (r->machine.threads[k].status != LIVE || waiting_of(r, k) == WAITS_PURELY);
     return pure ? ALL_WAIT : COMES_AGAIN;
 }
 

@@ -22,6 +22,6 @@ struct tally {
 enum finish search(struct run *r, const struct condition *bad, const struct limits *limits, struct tally *tally);
 /* What a state is in which no thread is enabled: all have ended, all wait, or it comes again in turns. */
 enum leaf { ALL_ENDED, ALL_WAIT, COMES_AGAIN };
-enum leaf leaf_of(const struct run *r);
+enum leaf leaf_of(struct run *r);
 
 #endif
