@@ -85,11 +85,10 @@ static bool is_place(const struct run *r, const struct thread *t, struct next ne
         return is_shared(t->pc);
     case MEMORY: /* an SC looks whether its chunk began before the LR, so it matters to it whether another came between */
         return is_shared(next.address) || is_shared(t->pc) || (t->reservation == next.address && is_store_conditional(&r->machine, t));
-    case CALL: {
+    case CALL: { /* an interrupt may come before any, and leaves another number in a7 */
         uint32_t call = t->x[17];
-        if (call == HANDLER || call == IRET)
-            return r->raise_count > 0;
-        return call <= HAS_ENDED && call != SELF && call != YIELD;
+        bool is_own = call > HAS_ENDED || call == HANDLER || call == IRET || call == SELF || call == YIELD;
+        return !is_own || r->raise_count > 0;
     }
     default:
         return true;
@@ -182,6 +181,13 @@ enum waiting waiting_of(struct run *r, uint32_t thread) {
     return how_waits(r->seats[thread], &r->machine);
 }
 
+/* A turn isn't ended between an LR and its SC, unless there is none for long. */
+static bool is_spent(const struct run *r) {
+    uint64_t steps = r->turns[r->turn_count - 1].steps;
+    bool reserves = r->machine.threads[r->current].reservation != NO_RESERVATION;
+    return steps >= r->turn_limit && (!reserves || steps >= 2 * r->turn_limit);
+}
+
 /* One step, then how it stands. AT_PLACE means that nothing has ended. */
 static enum stop step_on(struct run *r, struct next next) {
     struct machine *m = &r->machine;
@@ -194,7 +200,7 @@ static enum stop step_on(struct run *r, struct next next) {
     }
     if (m->time >= r->step_limit)
         return AT_LIMIT;
-    return present(r)->steps >= r->turn_limit ? AT_SPENT : AT_PLACE;
+    return is_spent(r) ? AT_SPENT : AT_PLACE;
 }
 
 enum stop go_on(struct run *r, bool past) {

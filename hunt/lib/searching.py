@@ -43,8 +43,9 @@ def add_common(parser, with_log=False):
 
 
 def counted(number, what):
-    ending = "" if number == 1 else "es" if what.endswith("ch") else "s"
-    return "%d %s%s" % (number, what, ending)
+    noun, _, rest = what.partition(" ended")
+    ending = "" if number == 1 else "es" if noun.endswith("ch") else "s"
+    return "%d %s%s" % (number, noun + ending, " ended" + rest if rest else "")
 
 
 def read_raise(text):
@@ -94,7 +95,9 @@ class Job:
         pairs = [(turn, after) for turn, after in zip(told.turns, told.turns[1:]) if turn.actor != after.actor]
         forced = sum(turn.end == "forced" and after.actor < DMA_TURN for turn, after in pairs)
         counts = [counted(log.count, "commit"), "%s, %d forced" % (counted(switches_of(log.order), "switch"), forced)]
-        counts += [counted(n, what) for n, what in ((len(log.interrupts), "interrupt"), (len(log.dmas), "DMA")) if n]
+        cut = sum(turn.end == "forced" and turn.actor == after.actor for turn, after in zip(told.turns, told.turns[1:]))
+        others = (cut, "chunk ended early"), (len(log.interrupts), "interrupt"), (len(log.dmas), "DMA")
+        counts += [counted(n, what) for n, what in others if n]
         yield "%s: %s; walked" % (self.given.out, ", ".join(counts))
         for thread, (status, code) in enumerate(verdict.ended.threads):
             yield "thread %d %s" % (thread, {"live": "is live", "ended": "ended with %d" % code,

@@ -22,8 +22,8 @@ from lib.judge import Differs, Judge, one_dma
 from lib.logs import read_log, write_log
 from lib.play import play
 from lib.symbols import Names
-from small_programs import (RESULTS, SHARED, addi, beq, call, elf, explored, image_of, lw, random_program, step, sw,
-                            waiting_step)
+from small_programs import (LR, RESULTS, SC, SHARED, addi, atomic, beq, bne, call, elf, explored, image_of, lw, random_program,
+                            step, waiting_step)
 
 CAN_BUILD = shutil.which(os.environ.get("CC", "cc")) is not None
 NO_COMPILER = "the search, since there is no C compiler"
@@ -140,6 +140,16 @@ class Bugs(unittest.TestCase):
         self.assertLessEqual(read_log(log.read_bytes()).count, 27)
         self.assertIn("no thread goes on, in whatever order", said)
 
+    def test_every_recording_shrunk(self):
+        """With their inputs, interrupts and DMAs, in all modes; each result was compared with its walk."""
+        recordings = [r for r in support.recorded() if r.account.read_bytes().splitlines()[-1].startswith(b"end complete")]
+        self.assertGreater(len(recordings), 20)
+        for r in recordings:
+            if b"\nt 0 " in r.account.read_bytes() and b" live " not in r.account.read_bytes():
+                log = self.folder / "small.log"
+                status, said = command("shrink", r.image, r.memory, r.log, "--bad", "exit 0 >= 0", "--out", log)
+                self.assertEqual(status, 0, (r.name, said))
+
     def test_good_log_not_shrunk(self):
         log = self.folder / "small.log"
         status, said = command("shrink", RACE / "race.elf", 4096, RACE / "expected/race.log", "--bad", "exit 0 = 0", "--out", log)
@@ -222,6 +232,29 @@ class Ends(unittest.TestCase):
         status, said = self.said(laid(0), "--bad", "fault 0 = 2")
         self.assertEqual(status, 0, said)
         self.assertIn("thread 0 faulted, cause 2", said)
+
+    def test_chunks(self):
+        """A chunk of more than a standard size is several commits, and none ends between an LR and its SC unless it is forced."""
+        code = laid(addi(6, 0, SHARED), addi(9, 0, 1000), atomic(LR, 7, 6, 0), addi(7, 7, 1), atomic(SC, 8, 6, 7), addi(9, 9, -1),
+                    bne(9, 0, -16), *call(0))
+        status, said = self.said(code, "--bad", "word 400 = 1000")
+        self.assertEqual(status, 0, said)
+        self.assertIn("found with 0 forced switches, in 1 run", said)
+        self.assertIn("3 commits, 0 switches, 0 forced; walked", said)
+        status, said = self.said(code, "--bad", "word 400 = 999")
+        self.assertIn("found with 1 forced switch", said)
+        self.assertIn("0 switches, 0 forced, 1 chunk ended early; walked", said)
+
+    def test_interrupt(self):
+        ticks, log = EXAMPLES / "interrupt/ticks.elf", "/nowhere/a.log"
+        status, said = command("search", ticks, 4096, "--bad", "exit 0 > 2", "--out", log, "--raise", "0:1", "--raise", "0:2")
+        self.assertEqual(status, 1, said)
+        self.assertIn("no order ends so, with however many switches", said)
+        with tempfile.TemporaryDirectory() as folder:
+            log = Path(folder) / "a.log"
+            status, said = command("search", ticks, 4096, "--bad", "exit 0 = 2", "--out", log, "--raise", "0:1", "--raise", "0:2")
+            self.assertEqual(status, 0, said)
+            self.assertIn("0 forced, 2 interrupts; walked", said)
 
     def test_refused_words(self):
         for words in (["--bad", "exit 0"], ["--bad", "word nothing = 1"], ["--bad", "hang 99"], ["--bad", "console has"],
