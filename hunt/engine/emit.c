@@ -229,7 +229,8 @@ static void put_texts(void) {
         if (fclose(files[j]) != 0)
             fail("out of memory");
     put_text("order", 0);
-    qsort(interrupts, interrupt_count, sizeof *interrupts, by_moment);
+    if (interrupt_count > 0)
+        qsort(interrupts, interrupt_count, sizeof *interrupts, by_moment);
     for (size_t j = 0; j < interrupt_count; j++)
         printf("interrupt %u %u %08X\n", interrupts[j].thread, interrupts[j].index, interrupts[j].value);
     put_text("inputs", 1);
