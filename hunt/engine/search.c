@@ -254,9 +254,16 @@ static enum result at_place(struct trial *t, size_t length, bool *past) {
     return GOES_ON;
 }
 
+static bool others_could_come(void) {
+    for (uint32_t c = 0; c < RAISE + run->raise_count; c++)
+        if (c != run->current && is_choice(c))
+            return true;
+    return false;
+}
+
 static enum result at_turn_end(struct trial *t, size_t length, enum turn_end end) {
     t->place++;
-    tally->spent += end == SPENT && t->done == length;
+    tally->spent += end == SPENT && t->done == length && others_could_come();
     if (holds_for_good(bad, &run->machine)) {
         end_turn(run, end);
         return IS_BAD;

@@ -87,7 +87,10 @@ class Job:
             verdict = self.judge.judged(told)
         except NotWalked as error:
             raise Refused("the walk failed: %s" % error.args[0]) from None
-        Path(self.given.out).write_bytes(verdict.log)
+        try:
+            Path(self.given.out).write_bytes(verdict.log)
+        except OSError as error:
+            raise Refused("%s: %s" % (error.filename, error.strerror)) from None
         print("\n".join(self.summary(told, verdict)))
 
     def summary(self, told, verdict):
