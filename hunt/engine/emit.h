@@ -4,10 +4,10 @@
 
 #include "run.h"
 
-/* Does the turns once more from the start, and prints the log's text, as `inspect` prints it, and the account. A turn that ends
-   in waiting is cut to its first step at which the thread waits. With `loops`, each thread that is live at the end has its loop
-   told: commits with which it comes back to that state. */
+/* Does the turns once more from the start, and prints the parts of the log, as `inspect` prints them, and the account. A turn
+   that ends in waiting is cut to its first step at which the thread waits. */
 void emit(struct run *r, const struct turn *turns, size_t count, uint32_t standard);
+/* Then, of each thread that is live, the commits with which it comes back to this state. */
 void emit_loops(struct run *r);
 
 #endif

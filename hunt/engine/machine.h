@@ -7,7 +7,7 @@
 #include <stddef.h>
 #include <stdint.h>
 
-enum { MOST_THREADS = 63, PIPES = 8, PIPE_ROOM = 256, LONGEST = 4096, PAGE = 4096 };
+enum { MOST_THREADS = 63, PIPES = 8, PIPE_ROOM = 256, LONGEST = 4096 };
 enum { NO_RESERVATION = 1 }; /* no address of a word */
 enum { LIVE, EXITED, FAULTED };
 enum { EXIT, SPAWN, WRITE, READ, RANDOM, CLOCK, HANDLER, IRET, REQUEST, SELF, YIELD, HAS_ENDED, MOMENT_LOAD = 16, INPUT_LOAD };

@@ -22,8 +22,8 @@ from lib.judge import Differs, Judge, one_dma
 from lib.logs import read_log, write_log
 from lib.play import play
 from lib.symbols import Names
-from small_programs import (LR, RESULTS, SC, SHARED, addi, atomic, beq, bne, call, elf, explored, image_of, lw, random_program,
-                            step, waiting_step)
+from small_programs import (ADD, LR, RESULTS, SC, SHARED, addi, atomic, beq, bne, call, elf, explored, image_of, lw,
+                            random_program, step, waiting_step)
 
 CAN_BUILD = shutil.which(os.environ.get("CC", "cc")) is not None
 NO_COMPILER = "the search, since there is no C compiler"
@@ -198,6 +198,8 @@ class Ends(unittest.TestCase):
 
     WAITS = laid(lw(7, SHARED), beq(7, 0, -4))
     COUNTS = laid(addi(7, 7, 1), beq(0, 0, -4))
+    COUNTS_IN_MEMORY = laid(addi(6, 0, SHARED), addi(7, 0, 1), atomic(ADD, 0, 6, 7), beq(0, 0, -4))
+    PRINTS = laid(addi(10, 0, 8), addi(12, 0, 1), *call(2), beq(0, 0, -16))
     GIVES_UP = laid(*call(0))
 
     def said(self, code, *words):
@@ -213,9 +215,10 @@ class Ends(unittest.TestCase):
         self.assertIn("no thread goes on, in whatever order", said)
 
     def test_limit(self):
-        status, said = self.said(self.COUNTS, "--bad", "hang", "--steps", "5000")
-        self.assertEqual(status, 1, said)
-        self.assertIn("but 1 run was left at the limit of steps", said)
+        for code in (self.COUNTS, self.COUNTS_IN_MEMORY, self.PRINTS):
+            status, said = self.said(code, "--bad", "hang", "--steps", "5000")
+            self.assertEqual(status, 1, said)
+            self.assertIn("but 1 run was left at the limit of steps", said)
 
     def test_limit_of_tries(self):
         status, said = command("search", RACE / "race.elf", 4096, "--bad", "exit 0 = 3", "--out", "/nowhere/a.log", "--tries", "100")
