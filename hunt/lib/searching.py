@@ -108,6 +108,6 @@ class Job:
         if told.leaf == "waits":
             yield "no thread goes on, in whatever order: the loop of each that is live was walked, and changes nothing"
         if told.leaf == "repeats":
-            yield "the state comes again: the loop of each that is live was walked, one after another, and leads back to it"
+            yield "the state comes again: the loop of each that is live was walked, and leads back to it"
         if told.leaf == "goes-on":
             yield "others could go on; that changes nothing of this"

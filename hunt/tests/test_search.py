@@ -23,7 +23,7 @@ from lib.logs import read_log, write_log
 from lib.play import play
 from lib.symbols import Names
 from small_programs import (ADD, LR, RESULTS, SC, SHARED, addi, atomic, beq, bne, call, elf, explored, image_of, lw,
-                            random_program, step, waiting_step)
+                            random_program, step, sw, waiting_step)
 
 CAN_BUILD = shutil.which(os.environ.get("CC", "cc")) is not None
 NO_COMPILER = "the search, since there is no C compiler"
@@ -214,6 +214,11 @@ class Ends(unittest.TestCase):
         self.assertEqual(status, 0, said)
         self.assertIn("no thread goes on, in whatever order", said)
 
+    def test_state_that_comes_again(self):
+        status, said = self.said(laid(addi(7, 0, 1), sw(7, SHARED), sw(0, SHARED), beq(0, 0, -8)), "--bad", "hang")
+        self.assertEqual(status, 0, said)
+        self.assertIn("the state comes again", said)
+
     def test_limit(self):
         for code in (self.COUNTS, self.COUNTS_IN_MEMORY, self.PRINTS):
             status, said = self.said(code, "--bad", "hang", "--steps", "5000")
@@ -247,6 +252,18 @@ class Ends(unittest.TestCase):
         status, said = self.said(code, "--bad", "word 400 = 999")
         self.assertIn("found with 1 forced switch", said)
         self.assertIn("0 switches, 0 forced, 1 chunk ended early; walked", said)
+
+    def test_devices(self):
+        """Input is read, and put on the console; a pipe gives back what was put into it; random bytes are a plan's."""
+        code = laid(addi(10, 0, 9), addi(11, 0, SHARED), addi(12, 0, 2), *call(3), addi(10, 0, 8), addi(12, 0, 2), *call(2),
+                    addi(10, 0, 3), addi(12, 0, 2), *call(2), addi(10, 0, 3), addi(11, 0, SHARED + 4), *call(3),
+                    addi(10, 0, SHARED + 8), addi(11, 0, 4), *call(4), lw(10, SHARED + 8), *call(0))
+        with tempfile.NamedTemporaryFile() as given:
+            given.write(b"hi there")
+            given.flush()
+            status, said = self.said(code, "--bad", "console = hi and word 404 = 0x6968 and exit 0 = 0xB96C55CA", "--input", given.name,
+                                     "--seed", "5")
+        self.assertEqual(status, 0, said)
 
     def test_interrupt(self):
         ticks, log = EXAMPLES / "interrupt/ticks.elf", "/nowhere/a.log"
