@@ -34,6 +34,17 @@ pub(crate) enum Players {
     Picolog(Replayer<PicoLog>),
 }
 
+// Does the same with the replayer of whichever mode.
+macro_rules! in_mode {
+    ($players:expr, $one:ident => $done:expr) => {
+        match $players {
+            Players::OrderSize($one) => $done,
+            Players::OrderOnly($one) => $done,
+            Players::Picolog($one) => $done,
+        }
+    };
+}
+
 // A replayer of one of the modes.
 #[derive(Drop)]
 pub(crate) struct Player {
@@ -65,31 +76,19 @@ impl Player {
     pub(crate) fn head(&self) -> Option<Actor>
         ensures { result ≡ actor_of self.now.now }
     {
-        match &self.players {
-            Players::OrderSize(replayer) => replayer.head(),
-            Players::OrderOnly(replayer) => replayer.head(),
-            Players::Picolog(replayer) => replayer.head(),
-        }
+        in_mode!(&self.players, replayer => replayer.head())
     }
 
     pub(crate) fn ended(&self) -> Option<End>
         ensures { result ≡ end_of self.now.now }
     {
-        match &self.players {
-            Players::OrderSize(replayer) => replayer.ended(),
-            Players::OrderOnly(replayer) => replayer.ended(),
-            Players::Picolog(replayer) => replayer.ended(),
-        }
+        in_mode!(&self.players, replayer => replayer.ended())
     }
 
     pub(crate) fn pieces(&self) -> u32
         ensures { result ≡ self.now.total }
     {
-        match &self.players {
-            Players::OrderSize(replayer) => replayer.pieces(),
-            Players::OrderOnly(replayer) => replayer.pieces(),
-            Players::Picolog(replayer) => replayer.pieces(),
-        }
+        in_mode!(&self.players, replayer => replayer.pieces())
     }
 
     pub(crate) fn limit(&self, thread: u8) -> u32
@@ -99,11 +98,7 @@ impl Player {
             length threads ≤ most_threads → self.now.commits ≡ commits_of threads → slice_get threads thread ≡ Some t →
             result ≡ limit_of s (Replay (cursor_of self.now loads)) thread t }
     {
-        match &self.players {
-            Players::OrderSize(replayer) => replayer.limit(thread),
-            Players::OrderOnly(replayer) => replayer.limit(thread),
-            Players::Picolog(replayer) => replayer.limit(thread),
-        }
+        in_mode!(&self.players, replayer => replayer.limit(thread))
     }
 
     // A piece of the present commit went, of `n` instructions.
@@ -113,11 +108,7 @@ impl Player {
         requires few { n < limit_in (Replay (cursor_of self.old [])) 0 thread (slice_index self.old.commits thread) }
         ensures { self.new ≡ record self.old { total = self.old.total + n } }
     {
-        match &mut self.players {
-            Players::OrderSize(replayer) => replayer.accept_piece(thread, n),
-            Players::OrderOnly(replayer) => replayer.accept_piece(thread, n),
-            Players::Picolog(replayer) => replayer.accept_piece(thread, n),
-        }
+        in_mode!(&mut self.players, replayer => replayer.accept_piece(thread, n))
     }
 
     // Judges the last part of a chunk, which its thread has run.
@@ -131,11 +122,7 @@ impl Player {
             record { verdict = result; replay = self.new; threads = threads.new; request = request; served = served }
             ≡ chunk_judged self.old p thread before threads.old request served (chunk_verdict self.old.log p self.old.used thread r) }
     {
-        match &mut self.players {
-            Players::OrderSize(replayer) => replayer.end_chunk(thread, total, threads),
-            Players::OrderOnly(replayer) => replayer.end_chunk(thread, total, threads),
-            Players::Picolog(replayer) => replayer.end_chunk(thread, total, threads),
-        }
+        in_mode!(&mut self.players, replayer => replayer.end_chunk(thread, total, threads))
     }
 
     // Judges a serial step, and does it.
@@ -158,11 +145,7 @@ impl Player {
         ensures threads_still { OnErr result (threads.new ≡ threads.old) }
         ensures request_still { OnErr result (request.new ≡ request.old) }
     {
-        match &mut self.players {
-            Players::OrderSize(replayer) => replayer.serve_step(thread, threads, request, memory),
-            Players::OrderOnly(replayer) => replayer.serve_step(thread, threads, request, memory),
-            Players::Picolog(replayer) => replayer.serve_step(thread, threads, request, memory),
-        }
+        in_mode!(&mut self.players, replayer => replayer.serve_step(thread, threads, request, memory))
     }
 
     // Judges a DMA, and gives the words that it stores.
@@ -182,11 +165,7 @@ impl Player {
         ensures replay_still { OnErr result (self.new ≡ self.old) }
         ensures request_still { OnErr result (request.new ≡ request.old) }
     {
-        match &mut self.players {
-            Players::OrderSize(replayer) => replayer.serve_dma(threads, request, memory),
-            Players::OrderOnly(replayer) => replayer.serve_dma(threads, request, memory),
-            Players::Picolog(replayer) => replayer.serve_dma(threads, request, memory),
-        }
+        in_mode!(&mut self.players, replayer => replayer.serve_dma(threads, request, memory))
     }
 
     // The words that a DMA would store, or why it diverges.
@@ -199,11 +178,7 @@ impl Player {
         ensures { (p : Progress) → Agrees self.now p → p.request ≡ request →
             IfOk result (λ r. transfer_verdict r ≡ dma_verdict self.now.log p self.now.used) }
     {
-        match &self.players {
-            Players::OrderSize(replayer) => replayer.dma_words(request, memory),
-            Players::OrderOnly(replayer) => replayer.dma_words(request, memory),
-            Players::Picolog(replayer) => replayer.dma_words(request, memory),
-        }
+        in_mode!(&self.players, replayer => replayer.dma_words(request, memory))
     }
 
     // How many bytes a DMA would store, or why it diverges.
@@ -211,10 +186,6 @@ impl Player {
         ensures { (p : Progress) → Agrees self.now p → p.request ≡ request →
             SaysSize result request (dma_verdict self.now.log p self.now.used) }
     {
-        match &self.players {
-            Players::OrderSize(replayer) => replayer.dma_size(request),
-            Players::OrderOnly(replayer) => replayer.dma_size(request),
-            Players::Picolog(replayer) => replayer.dma_size(request),
-        }
+        in_mode!(&self.players, replayer => replayer.dma_size(request))
     }
 }

@@ -20,6 +20,17 @@ pub(crate) enum Recorders {
     Picolog(Recorder<PicoLog>),
 }
 
+// Does the same with the recorder of whichever mode.
+macro_rules! in_mode {
+    ($recorders:expr, $one:ident => $done:expr) => {
+        match $recorders {
+            Recorders::OrderSize($one) => $done,
+            Recorders::OrderOnly($one) => $done,
+            Recorders::Picolog($one) => $done,
+        }
+    };
+}
+
 // A recorder of one of the modes.
 #[derive(Drop)]
 pub(crate) struct Recording {
@@ -64,11 +75,7 @@ impl Recording {
         ensures room { OnOk result (IsTrue self.new.room) }
         ensures interrupt_room { OnOk result (IsTrue self.new.interrupt_room) }
     {
-        match &mut self.recorders {
-            Recorders::OrderSize(recorder) => recorder.reserve(),
-            Recorders::OrderOnly(recorder) => recorder.reserve(),
-            Recorders::Picolog(recorder) => recorder.reserve(),
-        }
+        in_mode!(&mut self.recorders, recorder => recorder.reserve())
     }
 
     // Notes a commit with its record or its data. With room it isn't refused.
@@ -86,11 +93,7 @@ impl Recording {
         ensures err { OnErr result (self.new.recorded ≡ self.old.recorded) }
         ensures room { IsTrue self.old.room → IsOk result }
     {
-        match &mut self.recorders {
-            Recorders::OrderSize(recorder) => recorder.commit(commit, short, input, dma),
-            Recorders::OrderOnly(recorder) => recorder.commit(commit, short, input, dma),
-            Recorders::Picolog(recorder) => recorder.commit(commit, short, input, dma),
-        }
+        in_mode!(&mut self.recorders, recorder => recorder.commit(commit, short, input, dma))
     }
 
     // Notes an interrupt of a new moment. With room it isn't refused.
@@ -106,21 +109,13 @@ impl Recording {
         ensures err { OnErr result (self.new.recorded ≡ self.old.recorded) }
         ensures room { IsTrue self.old.interrupt_room → IsOk result }
     {
-        match &mut self.recorders {
-            Recorders::OrderSize(recorder) => recorder.interrupt(thread, index, value),
-            Recorders::OrderOnly(recorder) => recorder.interrupt(thread, index, value),
-            Recorders::Picolog(recorder) => recorder.interrupt(thread, index, value),
-        }
+        in_mode!(&mut self.recorders, recorder => recorder.interrupt(thread, index, value))
     }
 
     // The log of what was noted.
     pub(crate) fn finish(&self) -> Result<Log, OutOfMemory>
         ensures { IfOk result (λ log. log ≡ as_log self.now.recorded) }
     {
-        match &self.recorders {
-            Recorders::OrderSize(recorder) => recorder.finish(),
-            Recorders::OrderOnly(recorder) => recorder.finish(),
-            Recorders::Picolog(recorder) => recorder.finish(),
-        }
+        in_mode!(&self.recorders, recorder => recorder.finish())
     }
 }
