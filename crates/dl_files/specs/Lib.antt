@@ -3,4 +3,5 @@ pub mod Contents
 pub mod Count
 pub mod Entries
 pub mod Staged
+pub mod Streams
 pub mod Taken

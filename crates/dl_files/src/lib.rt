@@ -9,12 +9,13 @@ mod good_files;
 mod good_sink;
 mod mem_files;
 mod mem_sink;
+mod opened;
 mod part;
 mod real_files;
-mod real_reads;
 mod sink;
 mod std_sink;
 mod store;
+mod streams;
 
 pub use error::{FileError, SinkError};
 pub use files::Files;

@@ -1,12 +1,13 @@
-//! The files of the system: the trusted edge, which tells nothing of their contents.
-ghost use Rattle.std.specs.Prelude.{◌≡◌, ◌≢◌, None, ◌≤◌, ◌^◌, length, vec_len, IfOk, IfErr, OnOk, IsErrOf};
+//! The files of the system, which tell nothing of their contents. What is read and written of an opened file is proved of any
+//! file, in `opened.rt`; which name is opened, and whether to be read, emptied or added to, is trusted.
+ghost use Rattle.std.specs.Fs.{asks_append, asks_create, asks_truncate};
+ghost use Rattle.std.specs.Prelude.{◌≡◌, ◌≢◌, ◌↔◌, None, true, false, ◌≤◌, ◌^◌, length, vec_len, IfOk, IfErr, IsOk, OnOk, IsErrOf};
 ghost use Rattle.dl_files.specs.Count.{next};
 
-use crate::real_reads::{read_named, read_part};
+use crate::opened::{fill_opened, read_opened, write_opened};
 use crate::{FileError, Files};
 use std::alloc::Global;
 use std::fs::OpenOptions;
-use std::io::Write;
 use std::marker::Model;
 use std::{fs, io, rt};
 
@@ -41,13 +42,14 @@ impl<R: rt::Files> RealFiles<R> {
         self.faults = self.faults.saturating_add(1);
     }
 
-    fn settle(&mut self, done: io::Result<()>) -> Result<(), FileError>
+    fn settle<T: Drop>(&mut self, done: io::Result<T>) -> Result<(), FileError>
+        ensures done { IsOk result ↔ IsOk done }
         ensures ok { OnOk result (self.new ≡ self.old) }
         ensures only { IfErr result (λ e. e ≡ FileError.Failed) }
         ensures refused { IfErr result (λ _. self.new ≡ next self.old) }
     {
         match done {
-            Ok(()) => Ok(()),
+            Ok(_) => Ok(()),
             Err(_) => {
                 self.fault();
                 Err(FileError::Failed)
@@ -73,7 +75,7 @@ impl<R: rt::Files> Files for RealFiles<R> {
         ensures refused { IfErr result (λ e. e ≢ FileError.OutOfMemory → self.new ≡ next self.old) }
         ensures memory { IsErrOf result FileError.OutOfMemory → self.new ≡ self.old }
     {
-        match read_named(&self.rt, alloc, name) {
+        match read_opened(fs::open(&self.rt, name), alloc) {
             Ok(bytes) => Ok(bytes),
             Err(FileError::OutOfMemory) => Err(FileError::OutOfMemory),
             Err(error) => {
@@ -89,7 +91,7 @@ impl<R: rt::Files> Files for RealFiles<R> {
         ensures no_memory { IfErr result (λ e. e ≢ FileError.OutOfMemory) }
         ensures refused { IfErr result (λ _. self.new ≡ next self.old) }
     {
-        match read_part(&self.rt, name, offset, into) {
+        match fill_opened(fs::open(&self.rt, name), offset, into) {
             Ok(count) => Ok(count),
             Err(error) => {
                 self.fault();
@@ -107,7 +109,7 @@ impl<R: rt::Files> Files for RealFiles<R> {
         ensures only { IfErr result (λ e. e ≡ FileError.Failed) }
         ensures refused { IfErr result (λ _. self.new ≡ next self.old) }
     {
-        let done = fs::write(&self.rt, name, bytes);
+        let done = write_opened(fs::create(&self.rt, name), bytes);
         self.settle(done)
     }
 
@@ -124,12 +126,18 @@ impl<R: rt::Files> Files for RealFiles<R> {
         ensures only { IfErr result (λ e. e ≡ FileError.Failed) }
         ensures refused { IfErr result (λ _. self.new ≡ next self.old) }
     {
-        let done = append_to(&self.rt, name, bytes);
+        let done = write_opened(added_to().open(&self.rt, name), bytes);
         self.settle(done)
     }
 }
 
-fn append_to(rt: &impl rt::Files, name: &str, bytes: &[u8]) -> io::Result<()> {
-    let mut file = OpenOptions::new().append(true).create(true).open(rt, name)?;
-    file.write_all(bytes)
+// A file that is added to, and made where it isn't there.
+fn added_to() -> OpenOptions
+    ensures append { asks_append result ≡ true }
+    ensures create { asks_create result ≡ true }
+    ensures truncate { asks_truncate result ≡ false }
+{
+    let mut options = OpenOptions::new();
+    options.append(true).create(true);
+    options
 }
