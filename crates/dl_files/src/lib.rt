@@ -2,6 +2,7 @@
 //! ones in memory, ones in memory whose calls fail as a list says, and the real ones.
 #![tactic(auto)]
 
+mod beginning;
 mod calls;
 mod error;
 mod files;
@@ -17,6 +18,7 @@ mod std_sink;
 mod store;
 mod streams;
 
+pub use beginning::Beginning;
 pub use error::{FileError, SinkError};
 pub use files::Files;
 pub use good_files::GoodFiles;
