@@ -12,5 +12,7 @@ SECTIONS
     .data : { *(.data .data.* .sdata .sdata.*) } :data
     .bss : { *(.sbss .sbss.* .bss .bss.* COMMON) } :data
     memory_used = .;
+    .tls : { *(.tdata .tdata.* .tbss .tbss.* .tcommon) } :data
     /DISCARD/ : { *(.comment) *(.note .note.*) *(.eh_frame .eh_frame_hdr) *(.riscv.attributes) }
 }
+ASSERT(SIZEOF(.tls) == 0, "_Thread_local: threads here have no variables of their own, since tp is 0 in all")

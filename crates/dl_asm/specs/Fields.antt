@@ -45,31 +45,65 @@ fields_rv texts = option_and_then (λ rd. option_map (λ value. fields rd 0 0 va
 -- loads and JALR have the register that they write in front, stores the one that they store
 abbrev pub fields_load : List ℕ × List ℕ → Option Fields
 fields_load texts =
-    option_and_then (λ rd. option_and_then (λ memory. option_and_then (λ value. option_map (λ rs1. fields rd rs1 0 value) (base_of memory)) (offset_of memory)) (memory_in (texts.1))) (register_in (texts.0))
+    option_and_then (λ rd.
+    option_and_then (λ memory.
+    option_and_then (λ value.
+    option_map (λ rs1. fields rd rs1 0 value)
+    (base_of memory))
+    (offset_of memory))
+    (memory_in (texts.1)))
+    (register_in (texts.0))
 
 abbrev pub fields_store : List ℕ × List ℕ → Option Fields
 fields_store texts =
-    option_and_then (λ rs2. option_and_then (λ memory. option_and_then (λ value. option_map (λ rs1. fields 0 rs1 rs2 value) (base_of memory)) (offset_of memory)) (memory_in (texts.1))) (register_in (texts.0))
+    option_and_then (λ rs2.
+    option_and_then (λ memory.
+    option_and_then (λ value.
+    option_map (λ rs1. fields 0 rs1 rs2 value)
+    (base_of memory))
+    (offset_of memory))
+    (memory_in (texts.1)))
+    (register_in (texts.0))
 
 abbrev pub fields_ra : List ℕ × List ℕ → Option Fields
 fields_ra texts = option_and_then (λ rd. option_map (λ rs1. fields rd rs1 0 []) (address_in (texts.1))) (register_in (texts.0))
 
 abbrev pub fields_rrr : List ℕ × List ℕ × List ℕ → Option Fields
 fields_rrr texts =
-    option_and_then (λ rd. option_and_then (λ rs1. option_map (λ rs2. fields rd rs1 rs2 []) (register_in (texts.2))) (register_in (texts.1))) (register_in (texts.0))
+    option_and_then (λ rd.
+    option_and_then (λ rs1.
+    option_map (λ rs2. fields rd rs1 rs2 [])
+    (register_in (texts.2)))
+    (register_in (texts.1)))
+    (register_in (texts.0))
 
 abbrev pub fields_rrv : List ℕ × List ℕ × List ℕ → Option Fields
 fields_rrv texts =
-    option_and_then (λ rd. option_and_then (λ rs1. option_map (λ value. fields rd rs1 0 value) (value_in (texts.2))) (register_in (texts.1))) (register_in (texts.0))
+    option_and_then (λ rd.
+    option_and_then (λ rs1.
+    option_map (λ value. fields rd rs1 0 value)
+    (value_in (texts.2)))
+    (register_in (texts.1)))
+    (register_in (texts.0))
 
 -- a branch writes no register
 abbrev pub fields_branch : List ℕ × List ℕ × List ℕ → Option Fields
 fields_branch texts =
-    option_and_then (λ rs1. option_and_then (λ rs2. option_map (λ value. fields 0 rs1 rs2 value) (value_in (texts.2))) (register_in (texts.1))) (register_in (texts.0))
+    option_and_then (λ rs1.
+    option_and_then (λ rs2.
+    option_map (λ value. fields 0 rs1 rs2 value)
+    (value_in (texts.2)))
+    (register_in (texts.1)))
+    (register_in (texts.0))
 
 abbrev pub fields_rra : List ℕ × List ℕ × List ℕ → Option Fields
 fields_rra texts =
-    option_and_then (λ rd. option_and_then (λ rs2. option_map (λ rs1. fields rd rs1 rs2 []) (address_in (texts.2))) (register_in (texts.1))) (register_in (texts.0))
+    option_and_then (λ rd.
+    option_and_then (λ rs2.
+    option_map (λ rs1. fields rd rs1 rs2 [])
+    (address_in (texts.2)))
+    (register_in (texts.1)))
+    (register_in (texts.0))
 
 -- ---- by forms
 

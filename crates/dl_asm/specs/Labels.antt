@@ -1,16 +1,17 @@
 -- A table of labels, as the code keeps it: for each name the first line that has it, and the words before that line.
 use Rattle.std.specs.Prelude.{◌≡◌, ℕ, Bool, List, Option, Some, None, if◌then◌else◌}
-use Rattle.std.specs.HashMap.{get_by}
+use Rattle.std.specs.BTreeMap.{get_by}
+use Rattle.std.specs.Cmp.Lexicographic.{slice_cmp}
 use Rattle.std.specs.List.{position}
 use Rattle.std.specs.Option.{option_map, option_or}
-use Rattle.std.specs.Str.{bytes_eq}
+use Rattle.std.specs.Ordering.{nat_cmp}
 use Rattle.dl_asm.specs.declared.labels.Labels.{Labels}
 use Rattle.dl_asm.specs.declared.labels.LabelPlace.{LabelPlace}
 use Rattle.dl_asm.specs.Numbers.{capped}
 use Rattle.dl_asm.specs.Sources.{place_of, has_label}
 
 unfoldable pub entry_in : Labels → (name : List ℕ) → Option LabelPlace
-entry_in labels name = get_by (λ key. bytes_eq name key.now) labels.places
+entry_in labels name = get_by (λ key. slice_cmp nat_cmp name key.now) labels.places
 
 -- the place of the line of an index, cut beyond every range
 abbrev pub entry_at : List (List ℕ) → (index : ℕ) → LabelPlace

@@ -6,7 +6,7 @@ ghost use Rattle.dl_asm.specs.Sources.{lines_of};
 use crate::line::{count, label, read_line};
 use crate::number::FAR;
 use std::alloc::{AllocError, Global};
-use std::collections::HashMap;
+use std::collections::BTreeMap;
 
 /// A line by its index from 0, and the number of words before it.
 #[derive(Clone, Copy)]
@@ -18,7 +18,8 @@ pub struct LabelPlace {
 /// For each label the first line that has it.
 #[derive(Drop)]
 pub struct Labels<'a> {
-    places: HashMap<&'a [u8], LabelPlace>,
+    // In the order of their names: whoever writes a source chooses them, and could choose many of one hash.
+    places: BTreeMap<&'a [u8], LabelPlace>,
 }
 
 impl<'a> Labels<'a> {
@@ -31,7 +32,7 @@ impl<'a> Labels<'a> {
         ensures { (name : List ℕ) → entry_in result name ≡ None }
     {
         Labels {
-            places: HashMap::new(alloc),
+            places: BTreeMap::new(alloc),
         }
     }
 

@@ -64,10 +64,10 @@ role_given whole number x rest now e role inside is given =
 
 -- the task, whose run comes to the job
 pub job_is : (p : PlanValues) (r : PlanRead) (images : List Image) (spheres : List protocol.SphereSetup) (es : List Event) (s : protocol.Setup) (job : Job)
-    → images_of 0 r.spheres ≡ Ok images → spheres_of 0 r.spheres images ≡ Ok spheres → events_of p.seed r.schedule ≡ Ok es → s ≡ setup_of p r.input spheres → IsRunOf p s es job
+    → images_of 0 r.spheres ≡ Ok images → spheres_of 0 r.spheres images ≡ Ok spheres → events_of p.sizes.seed r.schedule ≡ Ok es → s ≡ setup_of p r.input spheres → IsRunOf p s es job
     → IsTaskJob (task_read p r) job
 job_is p r images spheres es s job are made events same run = (
   record { plan = p; read = r; spheres = spheres; events = es },
-  ok_then (images_of 0 r.spheres) _ images are ∙ ok_then (spheres_of 0 r.spheres images) _ spheres made ∙ ok_then (events_of p.seed r.schedule) _ es events,
+  ok_then (images_of 0 r.spheres) _ images are ∙ ok_then (spheres_of 0 r.spheres images) _ spheres made ∙ ok_then (events_of p.sizes.seed r.schedule) _ es events,
   subst (λ (x : protocol.Setup). IsRunOf p x es job) same run,
 )

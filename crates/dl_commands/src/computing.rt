@@ -28,7 +28,7 @@ pub fn compute(alloc: Global, plan: &Plan, inputs: Inputs) -> Result<Job, Halt>
 {
     let mut spheres = load_spheres(alloc, &inputs.spheres)?;
     give_roles(alloc, inputs.spheres, &mut spheres)?;
-    let schedule = read_events(alloc, plan.seed, inputs.schedule)?;
+    let schedule = read_events(alloc, plan.sizes.seed, inputs.schedule)?;
     let setup = setup_of(plan, inputs.input, spheres);
     match run(alloc, plan, setup, &schedule) {
         Ok(job) => Ok(job),
@@ -45,12 +45,12 @@ fn setup_of(plan: &Plan, input: Vec<u8>, spheres: Vec<SphereSetup>) -> Setup
     ensures count { length result.spheres ≡ length (plan_view plan.now).spheres }
 {
     Setup {
-        cores: plan.cores,
-        window: plan.window,
-        s: plan.chunk,
-        capacity: plan.buffer,
-        bits: plan.signature,
-        seed: plan.seed,
+        cores: plan.sizes.cores,
+        window: plan.sizes.window,
+        s: plan.sizes.chunk,
+        capacity: plan.sizes.buffer,
+        bits: plan.sizes.signature,
+        seed: plan.sizes.seed,
         input: Bytes::from_vec(input),
         spheres: Sequence::from_vec(spheres),
     }

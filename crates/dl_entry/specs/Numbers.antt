@@ -29,6 +29,13 @@ kind_input = 17
 abbrev pub most_bytes : ℕ
 most_bytes = 4096
 
+-- the fewest and the most instructions of a standard chunk
+abbrev pub least_chunk : ℕ
+least_chunk = 16
+
+abbrev pub most_chunk : ℕ
+most_chunk = 4096
+
 -- the threads of a sphere
 abbrev pub most_threads : ℕ
 most_threads = 15

@@ -20,8 +20,9 @@ use Rattle.spec_finishing.proofs.Ending.Played.{replays_finished}
 use Rattle.spec_finishing.proofs.Ending.ShortRuns.{setups_finish, runs_short}
 use Rattle.dl_machine.specs.Events.{wants_memory}
 use Rattle.dl_machine.specs.Ready.{HasRoom}
-use Rattle.dl_machine.specs.Runs.{IsRun}
-use Rattle.dl_finish.specs.Runs.{HasRun, HasEnded, HasBegun}
+use Rattle.dl_machine.specs.Runs.{HasRun, IsRun}
+use Rattle.dl_machine.proofs.Worlds.Promised.{led_on}
+use Rattle.dl_finish.specs.Runs.{HasEnded, HasBegun}
 use Rattle.dl_finish.proofs.Room.{room_kept}
 
 -- ---- events are counted
@@ -52,17 +53,6 @@ run_on s es fs from now run is =
 
 ends_of : (s : Setup) (es : List Event) (w : World) → IsRun s es w → Ends s es (finishing_of s es)
 ends_of s es w run = function_finishes s es (most_events s es) (setups_finish s run.limits) (omega arith)
-
-run_next : (w : World) (e : Event) → HasRun w → HasRun (happens w e).world
-run_next w e r =
-    record {
-      setup = r.setup;
-      schedule = r.schedule ++ e ∷ [];
-      run = record {
-        limits = r.run.limits;
-        here = ap (λ (v : World). (happens v e).world) r.run.here ∙ sym (after-event (world_of r.setup) r.schedule e);
-      };
-    }
 
 room_next : (w : World) (e : Event) → HasRun w → OfReplay w (happens w e).move → HasRoom w → HasRoom (happens w e).world
 room_next w e r =
@@ -124,7 +114,7 @@ going_by from now e done (f ∷ left) is finishes at goes alone room run few =
       goes = subst (λ (x : Event). Finishes (happens now x).world left) same goes.1;
       alone = subst (λ (x : Event). OfReplays (happens now x).world left) same alone.1;
       room = room_next now e run of room;
-      run = run_next now e run;
+      run = led_on now _ e refl run;
       few = omega (arith, one, few);
     }
 

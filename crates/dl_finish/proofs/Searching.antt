@@ -32,7 +32,7 @@ untold_here c n t l told =
 
 who_turn : (i : ℕ) (role : Role) (others : Option Who) → who_of i role others ≡ who_in i (turn_in role) others
 who_turn i Plain others = refl
-who_turn i (Record log) others = refl
+who_turn i (Record recording) others = refl
 who_turn i (Replay b) others = refl
 
 -- the first sphere with an actor whose turn it is is the one that goes on

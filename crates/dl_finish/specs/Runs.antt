@@ -3,18 +3,12 @@ use Rattle.std.specs.Prelude.{◌≡◌, ℕ, ◌+◌, ◌<◌, true, List, ◌+
 use Rattle.spec_log.specs.declared.LogParts.{LogParts}
 use Rattle.spec_protocol.specs.declared.event.Event.{Event}
 use Rattle.spec_protocol.specs.World.{World}
-use Rattle.spec_protocol.specs.Machine.{IsReplayed, SphereSetup, Setup}
+use Rattle.spec_protocol.specs.Machine.{ReplaySetup, IsReplayed, SphereSetup, Setup}
 use Rattle.spec_finishing.specs.Ending.{Ends}
 use Rattle.spec_finishing.specs.Finished.{HasPlayed}
 use Rattle.spec_finishing.specs.Function.{finishing_of, finished}
 use Rattle.dl_machine.specs.Events.{wants_memory}
 use Rattle.dl_machine.specs.Runs.{IsRun}
-
--- some setup within its limits and some schedule have led to the world
-pub record HasRun (w : World) : Type 0 where
-  pub setup : Setup
-  pub schedule : List Event
-  pub run : IsRun setup schedule w
 
 -- the events that finish the run have happened, all of them and no others, and each replay has done its log's whole play
 pub record HasEnded (s : Setup) (es : List Event) (w : World) : Type 0 where
@@ -22,10 +16,10 @@ pub record HasEnded (s : Setup) (es : List Event) (w : World) : Type 0 where
   pub run : IsRun s (es ++ finishing_of s es) w
   pub ends : Ends s es (finishing_of s es)
   pub events : w.counts.events ≡ length es + length (finishing_of s es)
-  pub played : (i : ℕ) (image : SphereSetup) (log : LogParts)
+  pub played : (i : ℕ) (image : SphereSetup) (asked : ReplaySetup)
       → slice_get s.spheres i ≡ Some image
-      → image.role ≡ IsReplayed log
-      → HasPlayed image log s (es ++ finishing_of s es) i
+      → image.role ≡ IsReplayed asked
+      → HasPlayed image asked.log s (es ++ finishing_of s es) i
 
 -- the first ones of them have, and not all: the next one takes memory
 pub record HasBegun (s : Setup) (es : List Event) (w : World) : Type 0 where

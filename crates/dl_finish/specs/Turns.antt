@@ -10,7 +10,7 @@ use Rattle.spec_protocol.specs.Finishing.{for_held}
 -- the actor whose turn it is in a replay that goes on
 abbrev pub turn_in : Role → Option Actor
 turn_in Plain = None
-turn_in (Record log) = None
+turn_in (Record recording) = None
 turn_in (Replay b) = actor_of b.now
 
 abbrev pub if_runs : (core i thread : ℕ) → Option Occupant → Option Event

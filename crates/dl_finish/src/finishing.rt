@@ -5,7 +5,7 @@ ghost use Rattle.spec_protocol.specs.Machine.{Setup};
 ghost use Rattle.spec_finishing.specs.Ending.{IsFinished};
 ghost use Rattle.dl_machine.specs.Ready.{HasRoom};
 ghost use Rattle.dl_machine.specs.Runs.{IsRun};
-ghost use Rattle.dl_finish.specs.Runs.{HasBegun, HasEnded, HasRun};
+ghost use Rattle.dl_finish.specs.Runs.{HasBegun, HasEnded};
 
 use crate::next::next_event;
 use dl_entry::OutOfMemory;
@@ -17,7 +17,6 @@ use spec_protocol::{Event, Reply};
 /// of the run's work there were as many events at most as there are cores, and six; and none was bounced, denied, busy, full
 /// or out of turn. Where memory was wanting some of these events have happened, each of them whole.
 pub fn finish<G: Sig>(machine: &mut Machine<G>) -> Result<(), OutOfMemory>
-    requires run { HasRun machine.old }
     requires events { machine.old.counts.events ≤ 2 ^ 32 }
     requires commits { HasRoom machine.old }
     ensures finished { OnOk result (IsFinished machine.new) }
@@ -26,6 +25,7 @@ pub fn finish<G: Sig>(machine: &mut Machine<G>) -> Result<(), OutOfMemory>
     ensures refused { OnErr result ((s : Setup) (schedule : List Event) →
         IsRun s schedule machine.old → HasBegun s schedule machine.new) }
 {
+    machine.has_run();
     while let Some(event) = next_event(machine) {
         let mut reply = machine.apply(event)?;
         // A step whose instruction ran is the next event again.

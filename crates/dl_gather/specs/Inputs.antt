@@ -18,8 +18,8 @@ schedule_view (ScheduleInputs.Drawn events) = EventsDrawn events
 
 abbrev pub role_view : RoleInputs → RoleRead
 role_view RoleInputs.Plain = PlainRead
-role_view (RoleInputs.Record mode) = RecordRead mode
-role_view (RoleInputs.Replay log) = ReplayRead (read_view log)
+role_view (RoleInputs.Record mode) = RecordRead (record { mode = mode })
+role_view (RoleInputs.Replay log) = ReplayRead (record { log = read_view log })
 
 abbrev pub sphere_view : SphereInputs → SphereRead
 sphere_view s = record { image = s.image.items; memory = s.memory; role = role_view s.role }

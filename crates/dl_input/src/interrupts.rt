@@ -4,7 +4,7 @@ ghost use Rattle.dl_entry.specs.Numbers.{greatest_thread};
 ghost use Rattle.std.specs.List.{list_all};
 ghost use Rattle.dl_input.specs.Tracked.{tracked_of, new_tracked, raised_at, insert_tracked, interrupt_of, taken_at};
 
-use dl_entry::{OutOfMemory, Sequence};
+use dl_entry::{MOST_THREADS, OutOfMemory, Sequence};
 use dl_moments::{Mark, Moments};
 use spec_log::Interrupt;
 use std::alloc::Global;
@@ -116,7 +116,7 @@ impl Interrupts {
     pub fn used(&self) -> bool
         ensures { result ≡ list_all (λ s. s.raised.taken) self.now.entries }
     {
-        for thread in 0..15u8 {
+        for thread in 0..MOST_THREADS {
             if !all_taken(self.moments.lane(thread)) {
                 return false;
             }
@@ -129,7 +129,7 @@ impl Interrupts {
         ensures { result ≡ option_map interrupt_of (slice_get self.now.entries i) }
     {
         let mut left = i as usize;
-        for thread in 0..15u8 {
+        for thread in 0..MOST_THREADS {
             let lane = self.moments.lane(thread);
             if left < lane.len() {
                 return Some(seen(thread, &lane[left]));
@@ -144,7 +144,7 @@ impl Interrupts {
         ensures { IfOk result (λ list. list ≡ map interrupt_of self.now.entries) }
     {
         let mut list = Sequence::new(alloc);
-        for thread in 0..15u8 {
+        for thread in 0..MOST_THREADS {
             add_lane(&mut list, thread, self.moments.lane(thread))?;
         }
         Ok(list)

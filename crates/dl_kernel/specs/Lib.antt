@@ -3,3 +3,4 @@ pub mod Peeks
 pub mod Wants
 pub mod Outside
 pub mod StepResults
+pub mod Threads

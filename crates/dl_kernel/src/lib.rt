@@ -12,6 +12,7 @@ mod peek;
 mod record;
 mod results;
 mod serving;
+mod threads;
 
 pub use copying::{copied, dma_words};
 pub use dl_dev::Devices;
@@ -22,3 +23,6 @@ pub use inside::sphere_call;
 pub use outside::{outside_call, outside_record, outside_take};
 pub use record::{Injected, inject, wants_record};
 pub use serving::{Step, StepResult, serve};
+pub use threads::{
+    counted, interrupted, is_live, live_of, lives, settle, takes_interrupt, thread_at,
+};

@@ -1,3 +1,12 @@
-pub mod Drafts
+mod AtOnce
+mod ByteNumbers
+pub mod Codes
+mod EntryLaws
 pub mod Feeding
+pub mod LogLaws
+mod OrderLaws
+pub mod Parsing
+mod SectionLaws
+mod SizeLaws
+pub mod Streams
 mod Written

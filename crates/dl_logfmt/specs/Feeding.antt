@@ -1,13 +1,13 @@
 -- A log that is read from its bytes in pieces.
-use Rattle.std.specs.Prelude.{◌≡◌, ℕ, ◌≤◌, ◌==◌, List, ◌++◌, length, Option, Some, None, Result, Ok, Err, if◌then◌else◌}
+use Rattle.std.specs.Prelude.{◌≡◌, ℕ, ◌+◌, ◌*◌, ◌≤◌, ◌==◌, List, ◌++◌, length, Option, Some, None, Result, Ok, Err, if◌then◌else◌}
 use Rattle.spec_log.specs.declared.log.LogParts.{LogParts}
-use Rattle.spec_log.specs.Reading.{ParseError, fails, read_of}
-use Rattle.dl_logbytes.specs.declared.error.LogError.{LogError}
-use Rattle.dl_logbytes.specs.declared.error.LogError.TheVariants.{Malformed, OutOfMemory}
-use Rattle.dl_logfmt.specs.declared.draft.Draft.{Draft}
+use Rattle.spec_log.specs.Fields.{fails}
+use Rattle.spec_log.specs.Reading.{ParseError, ended, read_of}
+use Rattle.dl_logfmt.specs.declared.error.LogError.{LogError}
+use Rattle.dl_logfmt.specs.declared.error.LogError.TheVariants.{Malformed, OutOfMemory}
+use Rattle.dl_logfmt.specs.declared.parser.Parser.{Parser}
 use Rattle.dl_logfmt.specs.declared.refusal.Refusal.{Refusal}
-use Rattle.dl_logfmt.specs.Drafts.{IsFew, reach, ended, said}
-use Rattle.dl_logfmt.specs.Remaining.{remaining}
+use Rattle.dl_logfmt.specs.Parsing.{most, remaining, said, unread, widest}
 
 -- what is said of bytes that may go on: their fault, unless they end inside a field
 abbrev pub fed : Result LogParts ParseError → Result (Unit {0}) ParseError
@@ -22,22 +22,21 @@ IsFeeding said (Err OutOfMemory) = Unit {0}
 
 -- a reader: what it has read, the bytes that it couldn't yet use and the offset of the first of them, or the fault
 pub record Feeding : Type 0 where
-  pub draft : Draft
+  pub parser : Parser
   pub pending : List ℕ
   pub start : ℕ
   pub refusal : Option Refusal
 
--- the bytes are those that were used and the pending ones; they say what the draft is, and whatever follows, they and
+-- the bytes are those that were used and the pending ones; they say what the parser has, and whatever follows, they and
 -- it are read as the reader reads on
 pub record Holding (bytes : List ℕ) (r : Feeding) : Type 0 where
   pub used : List ℕ
   pub split : bytes ≡ used ++ r.pending
   pub start : r.start ≡ length used
-  pub few : IsFew r.draft
-  pub low : r.start ≤ reach r.draft
-  pub now : read_of bytes ≡ said r.draft bytes
+  pub low : r.start + widest * most r.parser ≤ widest * most unread
+  pub now : read_of bytes ≡ said r.parser bytes
   pub later : (rest : List ℕ)
-      → read_of (bytes ++ rest) ≡ ended (bytes ++ rest) (remaining r.draft (bytes ++ rest) (length used))
+      → read_of (bytes ++ rest) ≡ ended (bytes ++ rest) (remaining r.parser (bytes ++ rest) (length used))
 
 -- whatever follows, the bytes have this fault, which isn't that they end inside a field
 pub record Refused (bytes : List ℕ) (refusal : Refusal) : Type 0 where

@@ -1,5 +1,5 @@
-pub mod Drafts
+pub mod Answer
 pub mod Feeding
-pub mod Remaining
+pub mod Parsing
 pub mod Streams
 pub mod Writing

@@ -1,7 +1,7 @@
--- Readers whose answer holds wherever their bytes stand: it stays whatever stands before these bytes, and, unless they
+-- Readers in pieces, and those whose answer holds wherever their bytes stand: it stays whatever stands before these bytes, and, unless they
 -- end inside a field, whatever stands behind them.
-use Rattle.std.specs.Prelude.{◌≡◌, ℕ, ◌+◌, ◌≤◌, List, [], ◌++◌, length, Result, Ok, Err}
-use Rattle.spec_log.specs.Reading.{ParseError, Read, Reader}
+use Rattle.std.specs.Prelude.{◌≡◌, ℕ, ◌+◌, ◌≤◌, List, [], ◌∷◌, ◌++◌, length, Option, Some, None, Result, Ok, Err}
+use Rattle.spec_log.specs.Fields.{ParseError, Read, Reader, Stage, read, gives, repeated, all_of}
 
 -- what was read at an offset of the bytes, at most so many of them, is what is read of the whole
 pub record Goes {X : Type 0} (most : ℕ) (before bytes : List ℕ) (at : ℕ) (r : Read X) (whole : Result (Read X) ParseError)
@@ -42,3 +42,9 @@ abbrev pub Stops : {X : Type 0} → List ℕ → Reader X → ℕ → ParseError
 Stops bytes reader at fault =
     (before behind : List ℕ)
     → Stays before bytes behind fault (reader (before ++ (bytes ++ behind)) (length before + at))
+
+-- what is left to be read of these stages, where the first is still read so many times, if that is known
+abbrev pub rest_in : {D : Type 0} → List (Stage D) → Option ℕ → D → Reader D
+rest_in stages None d = all_of stages d
+rest_in [] (Some left) d = gives d
+rest_in (stage ∷ stages) (Some left) d = read (repeated stage.one left d) (all_of stages)

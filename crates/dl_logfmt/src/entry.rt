@@ -1,18 +1,39 @@
-//! The entries of a log's sections, each as a unit.
-ghost use Rattle.std.specs.Prelude.{◌≡◌, ℕ, ◌<◌, ◌≤◌, List, length};
+//! The entries of a log's sections.
+ghost use Rattle.std.specs.Prelude.{◌≡◌, ℕ, ◌<◌, ◌≤◌, Bool, true, List, length, nat_lt};
 ghost use Rattle.spec_log.specs.Bytes.{u16 as size_bytes, short_size_bytes, interrupt_bytes, input_bytes, dma_bytes};
 ghost use Rattle.spec_log.specs.Log.{IsShortSize, IsInterrupt, IsInput, IsDmaRecord};
+ghost use Rattle.spec_log.specs.Fields.{Reader, field, at_most};
+ghost use Rattle.spec_log.specs.Reading.{short_size, interrupt, input, dma, is_earlier};
+ghost use Rattle.dl_logfmt.specs.Answer.{Answers};
 
+use crate::error::LogError;
 use crate::fixed::Fixed;
+use crate::numbers::{FIELD, judge, read_thread, read_u16, read_u32};
+use crate::recorded::{is_before, read_counted, read_kind, read_short};
+use crate::source::Source;
 use crate::unit::Unit;
 use dl_entry::Input;
 use spec_log::{DmaRecord, Interrupt, ShortSize};
 
 /// What stands in a section.
-pub trait Entry {
+pub trait Entry: Drop {
+    ghost reader: { ℕ → Reader Self };
+
+    ghost earlier: { Self → Self → Bool };
+
     ghost good: { Self → Type 0 };
 
     ghost bytes: { Self → List ℕ };
+
+    /// The next entry of a log whose standard chunks have `s` instructions.
+    fn read(source: &Source<'_>, at: &mut usize, s: u32) -> Result<Self, LogError>
+    where
+        Self: Sized,
+        ensures { Answers (reader s source.now.bytes.now at.old) result at.new };
+
+    /// Whether a later entry of the section may follow this one.
+    fn comes_before(&self, later: &Self) -> bool
+        ensures { result ≡ earlier self.now later.now };
 
     fn unit(&self) -> Unit<'_>
         requires { good self.now }
@@ -22,9 +43,24 @@ pub trait Entry {
 
 /// The size of a commit, where each commit has one.
 impl Entry for u32 {
+    ghost reader = { λ s. field 2 (at_most s) };
+
+    ghost earlier = { λ x y. true };
+
     ghost good = { λ size. size ≤ 4096 };
 
     ghost bytes = { size_bytes };
+
+    fn read(source: &Source<'_>, at: &mut usize, s: u32) -> Result<u32, LogError> {
+        let start = *at;
+        let size = u32::from(read_u16(source.bytes, at)?);
+        judge(size <= s, FIELD, start)?;
+        Ok(size)
+    }
+
+    fn comes_before(&self, _: &u32) -> bool {
+        true
+    }
 
     fn unit(&self) -> Unit<'_> {
         let mut fixed = Fixed::new();
@@ -34,9 +70,28 @@ impl Entry for u32 {
 }
 
 impl Entry for ShortSize {
+    ghost reader = { short_size };
+
+    ghost earlier = { λ x y. is_earlier x.thread x.index y.thread y.index };
+
     ghost good = { IsShortSize 4096 };
 
     ghost bytes = { short_size_bytes };
+
+    fn read(source: &Source<'_>, at: &mut usize, s: u32) -> Result<ShortSize, LogError> {
+        let thread = read_thread(source.bytes, at)?;
+        let index = read_u32(source.bytes, at)?;
+        let size = read_short(source.bytes, at, s)?;
+        Ok(ShortSize {
+            thread,
+            index,
+            size,
+        })
+    }
+
+    fn comes_before(&self, later: &ShortSize) -> bool {
+        is_before((self.thread, self.index), (later.thread, later.index))
+    }
 
     fn unit(&self) -> Unit<'_> {
         let mut fixed = Fixed::new();
@@ -48,9 +103,28 @@ impl Entry for ShortSize {
 }
 
 impl Entry for Interrupt {
+    ghost reader = { λ s. interrupt };
+
+    ghost earlier = { λ x y. is_earlier x.thread x.index y.thread y.index };
+
     ghost good = { IsInterrupt };
 
     ghost bytes = { interrupt_bytes };
+
+    fn read(source: &Source<'_>, at: &mut usize, _: u32) -> Result<Interrupt, LogError> {
+        let thread = read_thread(source.bytes, at)?;
+        let index = read_u32(source.bytes, at)?;
+        let value = read_u32(source.bytes, at)?;
+        Ok(Interrupt {
+            thread,
+            index,
+            value,
+        })
+    }
+
+    fn comes_before(&self, later: &Interrupt) -> bool {
+        is_before((self.thread, self.index), (later.thread, later.index))
+    }
 
     fn unit(&self) -> Unit<'_> {
         let mut fixed = Fixed::new();
@@ -62,9 +136,28 @@ impl Entry for Interrupt {
 }
 
 impl Entry for Input {
+    ghost reader = { λ s. input };
+
+    ghost earlier = { λ x y. true };
+
     ghost good = { IsInput };
 
     ghost bytes = { input_bytes };
+
+    fn read(source: &Source<'_>, at: &mut usize, _: u32) -> Result<Input, LogError> {
+        let kind = read_kind(source.bytes, at)?;
+        let answer = read_u32(source.bytes, at)?;
+        let bytes = read_counted(source, at)?;
+        Ok(Input {
+            kind,
+            result: answer,
+            bytes,
+        })
+    }
+
+    fn comes_before(&self, _: &Input) -> bool {
+        true
+    }
 
     fn unit(&self) -> Unit<'_> {
         let mut fixed = Fixed::new();
@@ -76,9 +169,23 @@ impl Entry for Input {
 }
 
 impl Entry for DmaRecord {
+    ghost reader = { λ s. dma };
+
+    ghost earlier = { λ x y. nat_lt x.position y.position };
+
     ghost good = { IsDmaRecord };
 
     ghost bytes = { dma_bytes };
+
+    fn read(source: &Source<'_>, at: &mut usize, _: u32) -> Result<DmaRecord, LogError> {
+        let position = read_u32(source.bytes, at)?;
+        let bytes = read_counted(source, at)?;
+        Ok(DmaRecord { position, bytes })
+    }
+
+    fn comes_before(&self, later: &DmaRecord) -> bool {
+        self.position < later.position
+    }
 
     fn unit(&self) -> Unit<'_> {
         let mut fixed = Fixed::new();

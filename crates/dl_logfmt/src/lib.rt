@@ -1,23 +1,33 @@
 //! Logs as bytes: whole, or in pieces.
 #![tactic(auto)]
 
-mod draft;
 mod entry;
+mod error;
+mod fields;
 mod fixed;
-mod header;
-mod list;
+mod law;
 mod mark;
+mod numbers;
+mod order;
 mod order_left;
+mod parser;
 mod reader;
+mod recorded;
 mod refusal;
+mod section;
 mod section_left;
-mod sections;
-mod stage;
+mod source;
+mod stage_name;
+mod stages;
 mod unit;
 mod units;
+mod whole;
 mod writer;
 
-pub use dl_logbytes::{LogError, OutOfMemory, read_log, write_log};
+pub use dl_entry::OutOfMemory;
+pub use error::LogError;
+pub use law::reading_undoes_writing;
 pub use reader::LogReader;
 pub use spec_log::{DmaRecord, Interrupt, Log, LogParts, ModeName, Order, ShortSize, Sizes};
+pub use whole::{read_log, write_log};
 pub use writer::LogWriter;

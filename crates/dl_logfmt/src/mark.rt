@@ -1,15 +1,20 @@
-//! Where a draft stands, so that what was read behind it can be taken away.
-ghost use Rattle.std.specs.Prelude.{◌≡◌};
-ghost use Rattle.dl_logfmt.specs.Drafts.{cut as cut_back, mark_of};
+//! Where a parser stands, so that what was read behind it can be taken away.
+ghost use Rattle.std.specs.Prelude.{◌≡◌, take};
+ghost use Rattle.dl_logfmt.specs.Parsing.{cut as cut_back, mark_of};
 
-use crate::draft::Draft;
-use crate::header::Header;
-use crate::list::cut;
+use crate::parser::Parser;
+use crate::stage_name::StageName;
+use dl_entry::Sequence;
+use spec_log::ModeName;
 
-/// A draft's header, and the numbers of its entries.
+/// What a parser reads next, the fields that it has read, and the numbers of its entries.
 #[derive(Clone, Copy)]
 pub struct Mark {
-    pub header: Header,
+    pub stage: StageName,
+    pub left: Option<u32>,
+    pub mode: ModeName,
+    pub s: u32,
+    pub count: u32,
     pub order: usize,
     pub each: usize,
     pub short: usize,
@@ -18,19 +23,24 @@ pub struct Mark {
     pub dmas: usize,
 }
 
-impl Draft {
-    /// Where the draft stands.
+impl Parser {
+    /// Where the parser stands.
     pub fn mark(&self) -> Mark
         ensures { result ≡ mark_of self.now }
     {
+        let draft = &self.draft;
         Mark {
-            header: self.header,
-            order: self.order.len(),
-            each: self.each.len(),
-            short: self.short.len(),
-            interrupts: self.interrupts.len(),
-            inputs: self.inputs.len(),
-            dmas: self.dmas.len(),
+            stage: self.stage,
+            left: self.left,
+            mode: draft.mode,
+            s: draft.s,
+            count: draft.count,
+            order: draft.order.len(),
+            each: draft.each.len(),
+            short: draft.short.len(),
+            interrupts: draft.interrupts.len(),
+            inputs: draft.inputs.len(),
+            dmas: draft.dmas.len(),
         }
     }
 
@@ -38,12 +48,25 @@ impl Draft {
     pub fn cut(&mut self, mark: Mark)
         ensures { self.new ≡ cut_back mark self.old }
     {
-        self.header = mark.header;
-        cut(&mut self.order, mark.order);
-        cut(&mut self.each, mark.each);
-        cut(&mut self.short, mark.short);
-        cut(&mut self.interrupts, mark.interrupts);
-        cut(&mut self.inputs, mark.inputs);
-        cut(&mut self.dmas, mark.dmas);
+        self.stage = mark.stage;
+        self.left = mark.left;
+        self.draft.mode = mark.mode;
+        self.draft.s = mark.s;
+        self.draft.count = mark.count;
+        cut(&mut self.draft.order, mark.order);
+        cut(&mut self.draft.each, mark.each);
+        cut(&mut self.draft.short, mark.short);
+        cut(&mut self.draft.interrupts, mark.interrupts);
+        cut(&mut self.draft.inputs, mark.inputs);
+        cut(&mut self.draft.dmas, mark.dmas);
+    }
+}
+
+/// Takes away what stands behind so many entries.
+fn cut<T: Drop>(list: &mut Sequence<T>, len: usize)
+    ensures { list.new ≡ take len list.old }
+{
+    while len < list.len() {
+        list.drop_last();
     }
 }

@@ -1,14 +1,16 @@
 //! A log read from its bytes in pieces.
-ghost use Rattle.std.specs.Prelude.{◌≡◌, ℕ, ◌<◌, ◌^◌, List, [], ◌++◌, ◌≤◌, length, drop, IsErrOf, OnOk};
-ghost use Rattle.spec_log.specs.Reading.{read_of};
-ghost use Rattle.dl_logbytes.specs.Answer.{IsReading};
+ghost use Rattle.std.specs.Prelude.{◌≡◌, ℕ, ◌<◌, ◌^◌, List, [], ◌++◌, ◌≤◌, length, drop, Err, IsErrOf, OnOk};
+ghost use Rattle.spec_log.specs.Reading.{ParseError, log_of as log_in, read_of};
+ghost use Rattle.dl_logfmt.specs.Answer.{IsReading};
 ghost use Rattle.dl_logfmt.specs.Feeding.{HasFed, IsFeeding, fed};
 
-use crate::draft::Draft;
+use crate::error::LogError;
+use crate::parser::Parser;
 use crate::refusal::Refusal;
-use crate::stage::Stage;
-use dl_logbytes::{LogError, OutOfMemory, Source};
-use spec_log::Log;
+use crate::source::Source;
+use crate::stage_name::StageName;
+use dl_entry::OutOfMemory;
+use spec_log::{Draft, Log, LogParts, ModeName, Sizes};
 use std::alloc::Global;
 use std::marker::Model;
 
@@ -16,7 +18,7 @@ use std::marker::Model;
 #[derive(Drop)]
 pub struct LogReader {
     alloc: Global,
-    draft: Draft,
+    parser: Parser,
     pending: Vec<u8>,
     start: u64,
     refusal: Option<Refusal>,
@@ -28,10 +30,10 @@ impl Model for LogReader {
 
     ghost Value = { Feeding };
 
-    ghost view = { λ r. record { draft = r.draft; pending = r.pending.items; start = r.start; refusal = r.refusal } };
+    ghost view = { λ r. record { parser = r.parser; pending = r.pending.items; start = r.start; refusal = r.refusal } };
 
     ghost invariant = { λ r. (bytes : List ℕ) × All (λ byte. byte < 256) bytes
-        × HasFed bytes (record { draft = r.draft; pending = r.pending.items; start = r.start; refusal = r.refusal }) };
+        × HasFed bytes (record { parser = r.parser; pending = r.pending.items; start = r.start; refusal = r.refusal }) };
 }
 
 impl LogReader {
@@ -41,7 +43,7 @@ impl LogReader {
     {
         LogReader {
             alloc,
-            draft: Draft::new(alloc),
+            parser: Parser::new(alloc),
             pending: Vec::new(alloc),
             start: 0,
             refusal: None,
@@ -50,19 +52,21 @@ impl LogReader {
 
     /// Reads the log's next bytes: Ok as long as every field that is whole is good and no byte follows the last
     /// section, else what `read_log` answers of the bytes so far, and the same at later calls. Where no memory is
-    /// left, nothing of the piece is taken.
+    /// left, nothing of the piece is taken; once it has refused, no call wants memory.
     pub fn feed(&mut self, piece: &[u8]) -> Result<(), LogError>
         ensures answer { (bytes : List ℕ) → HasFed bytes self.old
             → IsFeeding (fed (read_of (bytes ++ piece.now))) result }
         ensures fed { (bytes : List ℕ) → HasFed bytes self.old → ¬ (IsErrOf result LogError.OutOfMemory)
             → HasFed (bytes ++ piece.now) self.new }
         ensures memory { IsErrOf result LogError.OutOfMemory → self.new ≡ self.old }
+        ensures refused { (bytes : List ℕ) (fault : ParseError) → HasFed bytes self.old
+            → fed (read_of bytes) ≡ Err fault → ¬ (IsErrOf result LogError.OutOfMemory) }
         ensures few { OnOk result ((bytes : List ℕ) → HasFed bytes self.old → length (bytes ++ piece.now) < 2 ^ 64) }
     {
         if let Some(refusal) = self.refusal {
             return Err(LogError::Malformed(refusal.number, refusal.offset));
         }
-        let mark = self.draft.mark();
+        let mark = self.parser.mark();
         let held = self.pending.len();
         self.pending
             .extend_from_slice(piece)
@@ -72,7 +76,7 @@ impl LogReader {
             bytes: &self.pending,
         };
         let mut at = 0;
-        match self.draft.feed(&source, &mut at) {
+        match self.parser.feed(&source, &mut at) {
             Ok(()) => {
                 drop_front(&mut self.pending, at);
                 self.start += at as u64;
@@ -85,7 +89,7 @@ impl LogReader {
             }
             Err(LogError::OutOfMemory) => {
                 self.pending.truncate(held);
-                self.draft.cut(mark);
+                self.parser.cut(mark);
                 Err(LogError::OutOfMemory)
             }
         }
@@ -99,10 +103,10 @@ impl LogReader {
         if let Some(refusal) = self.refusal {
             return Err(LogError::Malformed(refusal.number, refusal.offset));
         }
-        if self.draft.header.stage != Stage::Nothing {
+        if self.parser.stage != StageName::End {
             return Err(LogError::Malformed(1, self.start + self.pending.len() as u64));
         }
-        Ok(Log::new(self.draft.into_parts()))
+        Ok(Log::new(log_of(self.parser.draft)))
     }
 }
 
@@ -115,4 +119,35 @@ fn drop_front(bytes: &mut Vec<u8>, count: usize)
     let left = bytes.len() - count;
     bytes.copy_within(count.., 0);
     bytes.truncate(left);
+}
+
+/// The log that was read.
+fn log_of(draft: Draft) -> LogParts
+    ensures { result ≡ log_in draft }
+{
+    let Draft {
+        mode,
+        s,
+        count,
+        order,
+        each,
+        short,
+        interrupts,
+        inputs,
+        dmas,
+    } = draft;
+    let sizes = match mode {
+        ModeName::OrderSize => Sizes::Each(each),
+        ModeName::OrderOnly | ModeName::Picolog => Sizes::Short(short),
+    };
+    LogParts {
+        mode,
+        s,
+        count,
+        order,
+        sizes,
+        interrupts,
+        inputs,
+        dmas,
+    }
 }

@@ -7,7 +7,7 @@ use Rattle.std.specs.FinMap.{get}
 use Rattle.std.specs.Option.{option_map}
 use Rattle.dl_files.specs.Contents.{Contents, HoldsAt, part_of}
 use Rattle.dl_logio.specs.Files.{SaysLog}
-use Rattle.dl_logbytes.specs.declared.error.LogError.{LogError}
+use Rattle.dl_logfmt.specs.declared.error.LogError.{LogError}
 use Rattle.spec_log.specs.Reading.{ParseError, read_of}
 use Rattle.spec_log.specs.declared.log.LogParts.{LogParts}
 

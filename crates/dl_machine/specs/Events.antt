@@ -1,7 +1,8 @@
 -- Which events may want memory, and where.
-use Rattle.std.specs.Prelude.{◌≡◌, Bool, true, false}
+use Rattle.std.specs.Prelude.{◌≡◌, ◌||◌, Bool, true, false}
 use Rattle.spec_protocol.specs.declared.event.Event.{Event}
 use Rattle.spec_protocol.specs.declared.reply.Reply.{Reply}
+use Rattle.spec_protocol.specs.Replying.{makes_point}
 
 -- those that commit, or interrupt
 abbrev pub wants_memory : Event → Bool
@@ -15,41 +16,13 @@ wants_memory (Event.Place core sphere thread) = false
 wants_memory (Event.Raise sphere thread value) = true
 wants_memory (Event.Dma sphere) = true
 
+abbrev pub is_divergence : Reply → Bool
+is_divergence (Reply.Diverged i why) = true
+is_divergence _ = false
+
 -- what has passed every check, and takes effect or leaves its log
 abbrev pub passes_checks : Reply → Bool
-passes_checks Reply.Ran = false
-passes_checks (Reply.Closed how) = false
-passes_checks (Reply.Bounced k) = false
-passes_checks Reply.Waiting = false
-passes_checks Reply.Idle = false
-passes_checks Reply.Stopped = false
-passes_checks Reply.NothingRun = false
-passes_checks Reply.Granted = true
-passes_checks Reply.Piece = true
-passes_checks Reply.NotClosed = false
-passes_checks (Reply.NotTurn actor) = false
-passes_checks Reply.WindowFull = false
-passes_checks (Reply.Denied k) = false
-passes_checks (Reply.SphereBusy k) = false
-passes_checks Reply.Drained = false
-passes_checks Reply.Clean = false
-passes_checks Reply.Delivered = false
-passes_checks Reply.Squashed = false
-passes_checks Reply.Already = false
-passes_checks Reply.Retired = false
-passes_checks Reply.NotDone = false
-passes_checks Reply.NoCommit = false
-passes_checks Reply.Placed = false
-passes_checks (Reply.Elsewhere c) = false
-passes_checks Reply.NoThread = false
-passes_checks Reply.Ended = false
-passes_checks Reply.Raised = true
-passes_checks Reply.Masked = false
-passes_checks Reply.NoHandler = false
-passes_checks Reply.FromLog = false
-passes_checks Reply.DmaDone = true
-passes_checks Reply.NoDma = false
-passes_checks (Reply.Diverged i why) = true
+passes_checks r = makes_point r || is_divergence r
 
 -- where an event may want memory, which would answer so: an ask or an interrupt only where it passes every check
 abbrev pub IsWanted : Event → Reply → Type 0

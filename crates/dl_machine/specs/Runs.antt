@@ -6,10 +6,10 @@ use Rattle.spec_log.specs.declared.LogParts.{LogParts}
 use Rattle.spec_play.specs.Progress.{position}
 use Rattle.spec_play.specs.Plays.{opened, play, plays}
 use Rattle.spec_protocol.specs.declared.event.Event.{Event}
-use Rattle.spec_protocol.specs.Spheres.{Cursor, Record, Replay, Sphere, is_over}
+use Rattle.spec_protocol.specs.Spheres.{Recording, Cursor, Record, Replay, Sphere, is_over}
 use Rattle.spec_protocol.specs.Placing.{replays}
 use Rattle.spec_protocol.specs.World.{World}
-use Rattle.spec_protocol.specs.Machine.{IsRecorded, IsReplayed, Setup, SphereSetup}
+use Rattle.spec_protocol.specs.Machine.{last_played, first_played, ReplaySetup, RecordSetup, IsRecorded, IsReplayed, Setup, SphereSetup}
 use Rattle.spec_protocol.specs.Serial.{CanDoAll, serial, serial_start}
 use Rattle.spec_protocol.specs.Shown.{shown_of}
 use Rattle.spec_protocol.specs.Promises.{after}
@@ -23,10 +23,19 @@ pub record IsRun (s : Setup) (es : List Event) (w : World) : Type 0 where
   pub limits : IsWithinLimits s
   pub here : w ≡ after s es
 
+-- some setup within the limits and some schedule have led to the world
+pub record HasRun (w : World) : Type 0 where
+  pub setup : Setup
+  pub schedule : List Event
+  pub run : IsRun setup schedule w
+
 -- the plain and recorded spheres, with their current memories, and the devices are those of doing these points whole, one
 -- at a time; and each point can be done as it says
 pub record IsSerial (s : Setup) (w : World) (points : List Point) : Type 0 where
-  pub spheres : (i : ℕ) (p : Sphere) → slice_get (shown_of w).spheres i ≡ Some p → replays p.role ≡ false → slice_get (serial s points).spheres i ≡ Some p
+  pub spheres : (i : ℕ) (p : Sphere)
+      → slice_get (shown_of w).spheres i ≡ Some p
+      → replays p.role ≡ false
+      → slice_get (serial s points).spheres i ≡ Some p
   pub devices : w.devices ≡ (serial s points).devices
   pub possible : CanDoAll (serial_start s) points
 
@@ -38,6 +47,18 @@ pub record IsNow (s : Setup) (i : ℕ) (w : World) (image : SphereSetup) (p : Sp
 -- where sphere i is recorded, its log so far fits its image and plays back; where it is replayed, it stands in the play of
 -- its log, and once it has stopped it has done the whole play
 pub record IsPromised (s : Setup) (i : ℕ) (w : World) : Type 0 where
-  pub recorded : (image : SphereSetup) (mode : ModeName) (p : Sphere) (log : LogParts) → IsNow s i w image p → image.role ≡ IsRecorded mode → p.role ≡ Record log → PlaysBack log image p
-  pub replayed : (image : SphereSetup) (log : LogParts) (p : Sphere) → IsNow s i w image p → image.role ≡ IsReplayed log → Follows log (plays log (opened log image.memory image.entry) (position p.progress)) p
-  pub stopped : (image : SphereSetup) (log : LogParts) (p : Sphere) (b : Cursor) → IsNow s i w image p → image.role ≡ IsReplayed log → p.role ≡ Replay b → is_over b.now ≡ true → IsPlayed (play log image.memory image.entry) p b
+  pub recorded : (image : SphereSetup) (asked : RecordSetup) (p : Sphere) (recording : Recording)
+      → IsNow s i w image p
+      → image.role ≡ IsRecorded asked
+      → p.role ≡ Record recording
+      → PlaysBack recording.log image p
+  pub replayed : (image : SphereSetup) (asked : ReplaySetup) (p : Sphere)
+      → IsNow s i w image p
+      → image.role ≡ IsReplayed asked
+      → Follows asked.log (plays asked.log (first_played image asked.log) (position p.progress)) p
+  pub stopped : (image : SphereSetup) (asked : ReplaySetup) (p : Sphere) (b : Cursor)
+      → IsNow s i w image p
+      → image.role ≡ IsReplayed asked
+      → p.role ≡ Replay b
+      → is_over b.now ≡ true
+      → IsPlayed (last_played image asked.log) p b

@@ -2,8 +2,8 @@
 ghost use Rattle.std.specs.Prelude.{◌≡◌, ◌<◌, ◌^◌, None, Some, true, false, length, option_map, slice_set, IfOk, OnErr, OnOk};
 ghost use Rattle.spec_engine.specs.Flights.{at, is_full};
 ghost use Rattle.spec_engine.specs.Signatures.{line, signed};
-ghost use Rattle.spec_protocol.specs.Asking.{ask_arbiter, asking, asks_serial, grant_chunk, grant_serial, is_short as short_of, other_turn as turn_of_other};
-ghost use Rattle.spec_protocol.specs.Spheres.{head_of, is_stopped};
+ghost use Rattle.spec_protocol.specs.Asking.{ask_arbiter, asking, asks_serial, grant_chunk, grant_serial, is_short as short_of};
+ghost use Rattle.spec_protocol.specs.Spheres.{is_stopped, turn_against as turn_before};
 ghost use Rattle.spec_protocol.specs.World.{flown, held_afresh, sphere_at};
 ghost use Rattle.dl_machine.specs.Events.{passes_checks};
 ghost use Rattle.dl_machine.specs.Held.{IsOf};
@@ -13,6 +13,7 @@ ghost use Rattle.dl_machine.specs.States.{left};
 
 use crate::one_core::Held;
 use crate::state::State;
+use crate::turns::turn_against;
 use dl_arbiter::{Asked, AskedSerial, ask, ask_serial};
 use dl_chunk::How;
 use dl_entry::{Actor, CommitKind, OutOfMemory, Point};
@@ -44,7 +45,7 @@ impl<G: Sig> State<G> {
         if sphere.stopped() {
             return Ok(Reply::Stopped);
         }
-        if let Some(actor) = other_turn(sphere.head(), held.thread) {
+        if let Some(actor) = turn_against(sphere, Actor::Thread(held.thread)) {
             return Ok(Reply::NotTurn(actor));
         }
         if self.flights.is_full() {
@@ -63,7 +64,7 @@ impl<G: Sig> State<G> {
         requires closed { IsClosedBy self.old core how }
         requires room { HasRoom self.old }
         requires going { is_stopped (sphere_at self.old held.sphere).role ≡ false }
-        requires turn { turn_of_other (head_of (sphere_at self.old held.sphere)) held.thread ≡ None }
+        requires turn { turn_before (sphere_at self.old held.sphere) (Actor.Thread held.thread) ≡ None }
         requires window { is_full self.old.slots ≡ false }
         ensures reply { let role = (sphere_at self.old held.sphere).role in
             IfOk result (λ r. Some r ≡ option_map (λ h. (ask_arbiter self.old core h how (asks_serial h.chunk role)).reply) (at self.old.cores core)) }
@@ -111,7 +112,7 @@ impl<G: Sig> State<G> {
         requires closed { IsClosedBy self.old core how }
         requires room { HasRoom self.old }
         requires going { is_stopped (sphere_at self.old held.sphere).role ≡ false }
-        requires turn { turn_of_other (head_of (sphere_at self.old held.sphere)) held.thread ≡ None }
+        requires turn { turn_before (sphere_at self.old held.sphere) (Actor.Thread held.thread) ≡ None }
         requires window { is_full self.old.slots ≡ false }
         requires chunk { let role = (sphere_at self.old held.sphere).role in
             Some false ≡ option_map (λ h. asks_serial h.chunk role) (at self.old.cores core) }
@@ -154,7 +155,7 @@ impl<G: Sig> State<G> {
         requires good { IsOf self.old held }
         requires room { HasRoom self.old }
         requires going { is_stopped (sphere_at self.old held.sphere).role ≡ false }
-        requires turn { turn_of_other (head_of (sphere_at self.old held.sphere)) held.thread ≡ None }
+        requires turn { turn_before (sphere_at self.old held.sphere) (Actor.Thread held.thread) ≡ None }
         requires window { is_full self.old.slots ≡ false }
         ensures reply { IfOk result (λ r. Some r ≡ option_map (λ h. (grant_serial self.old core h).reply) (at self.old.cores core)) }
         ensures world { OnOk result (Some self.new ≡ option_map (λ h. left (grant_serial self.old core h)) (at self.old.cores core)) }
@@ -175,13 +176,7 @@ impl<G: Sig> State<G> {
                 self.go_on(core, held, words, writes);
                 Ok(Reply::Granted)
             }
-            Moved::Piece(words) => {
-                sign(&mut writes, held.sphere, &words);
-                self.points
-                    .push_reserved(point_of(moment, held, CommitKind::Piece, 0, false));
-                self.go_on(core, held, words, writes);
-                Ok(Reply::Piece)
-            }
+            Moved::Piece(_) => unreachable!(),
             Moved::Diverged(commits, why) => Ok(Reply::Diverged(commits, why)),
         }
     }
@@ -229,18 +224,6 @@ fn is_short(s: u32, how: How, limit: u32) -> bool
         How::Limit => limit < s,
         How::Serial => false,
         How::Overflow | How::Cut => true,
-    }
-}
-
-// The actor whose turn it is, where that isn't the thread.
-fn other_turn(head: Option<Actor>, thread: u8) -> Option<Actor>
-    ensures { result ≡ turn_of_other head thread }
-{
-    match head {
-        None => None,
-        Some(Actor::Dma) => Some(Actor::Dma),
-        Some(Actor::Thread(other)) if other == thread => None,
-        Some(Actor::Thread(other)) => Some(Actor::Thread(other)),
     }
 }
 

@@ -78,15 +78,6 @@ impl<G: Sig> Cores<G> {
         self.row.len() as u8
     }
 
-    /// How many words a chunk may store.
-    pub(crate) fn capacity(&self) -> u32
-        ensures value { result ≡ self.now.capacity }
-        ensures least { 1 ≤ result }
-        ensures most { result ≤ 4096 }
-    {
-        self.capacity
-    }
-
     /// How many bits a signature has.
     pub(crate) fn bits(&self) -> u32
         ensures value { result ≡ self.now.bits }

@@ -13,7 +13,14 @@ mod spheres;
 mod state;
 mod stepping;
 mod transferring;
+mod turns;
 
+pub use dl_entry::{Counts, OutOfMemory, Point};
+pub use dl_fly::Flights;
+pub use dl_sig::Sig;
+pub use dl_sphere::{Role, Sphere, SphereSetup};
 pub use machine::Machine;
 pub use one_core::Held;
 pub use setup::Setup;
+pub use spec_log::ModeName;
+pub use spec_protocol::{Event, Reply};

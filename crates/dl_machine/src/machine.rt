@@ -28,7 +28,7 @@ impl<G: Sig> Model for Machine<G> {
     ghost use Rattle.spec_engine.specs.Signatures.{places_code};
     ghost use Rattle.spec_protocol.specs.Sound.{IsWithinLimits};
     ghost use Rattle.spec_protocol.specs.World.{World};
-    ghost use Rattle.dl_machine.specs.Ready.{IsReady};
+    ghost use Rattle.dl_machine.specs.Runs.{HasRun};
 
     ghost Value = { World };
 
@@ -36,14 +36,14 @@ impl<G: Sig> Model for Machine<G> {
 
     ghost view = { λ m. m.state };
 
-    ghost invariant = { λ m. IsReady m.state };
+    ghost invariant = { λ m. HasRun m.state };
 }
 
 impl<G: Sig> Machine<G> {
     ghost use Rattle.dl_machine.specs.Cores.{seen};
     ghost use Rattle.dl_machine.specs.Ready.{HasRoom};
     ghost use Rattle.dl_machine.specs.Events.{IsWanted, wants_memory};
-    ghost use Rattle.dl_machine.specs.Runs.{IsPromised, IsRun, IsSerial};
+    ghost use Rattle.dl_machine.specs.Runs.{HasRun, IsPromised, IsRun, IsSerial};
     ghost use Rattle.dl_machine.specs.Setups.{IsWithin, setup_in};
 
     /// The machine of a setup, before the first event.
@@ -57,9 +57,16 @@ impl<G: Sig> Machine<G> {
         })
     }
 
+    /// Some setup within the limits and some schedule have led here: what is promised of runs holds of every machine.
+    pub fn has_run(&self)
+        ensures { HasRun self.now }
+    {
+        let _ = &self.state;
+    }
+
     /// Takes one event.
     #[inline(always)]
-    #[tactic(auto, using(crate::proofs::Worlds::Events::ready_after, crate::proofs::Worlds::Events::act_counts, crate::proofs::Worlds::Events::happens_world, crate::proofs::Worlds::Events::happens_reply, crate::proofs::Worlds::Events::replies_few))]
+    #[tactic(auto, using(crate::proofs::Worlds::Events::act_counts, crate::proofs::Worlds::Events::happens_world, crate::proofs::Worlds::Events::happens_reply, crate::proofs::Worlds::Events::replies_few))]
     pub fn apply(&mut self, event: Event) -> Result<Reply, OutOfMemory>
         requires events { self.old.counts.events < 2 ^ 63 }
         requires commits { HasRoom self.old }
@@ -84,7 +91,7 @@ impl<G: Sig> Machine<G> {
     }
 
     /// How many events there were, and how often each reply was given. Before 2^24 events there is room for another commit.
-    #[tactic(auto, using(crate::proofs::Worlds::Ready::young_has_room))]
+    #[tactic(auto, using(crate::proofs::Worlds::Promised::young_run_has_room))]
     pub fn counts(&self) -> &Counts
         ensures value { result.now ≡ self.now.counts }
         ensures room { self.now.counts.events < 2 ^ 24 → HasRoom self.now }

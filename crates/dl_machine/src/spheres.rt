@@ -3,9 +3,9 @@ ghost use Rattle.std.specs.Prelude.{◌≡◌, ◌≤◌, ◌<◌, ◌^◌, IfOk
 ghost use Rattle.spec_isa.specs.declared.thread.Parts.{Parts};
 ghost use Rattle.spec_engine.specs.declared.answers.How.{How};
 ghost use Rattle.spec_engine.specs.Flights.{IsInside, at, drain};
-ghost use Rattle.spec_isa.specs.Words.{IsBytes};
 ghost use Rattle.spec_kernel.specs.Devices.{Devices};
 ghost use Rattle.spec_kernel.specs.Interrupts.{takes_interrupt};
+ghost use Rattle.spec_play.specs.Progress.{position};
 ghost use Rattle.spec_protocol.specs.Placing.{replays};
 ghost use Rattle.spec_protocol.specs.Sound.{AreFew, HaveByteInput, IsImage, IsSoundRequest};
 ghost use Rattle.spec_protocol.specs.Asking.{is_short};
@@ -109,8 +109,7 @@ impl Spheres {
         requires sphere { i < length self.old.spheres }
         requires thread { thread < length (nth_sphere i self.old).threads }
         requires chunk { (how : How) × CanCommit self.old.s (nth_sphere i self.old) thread how chunk.now.chunk }
-        requires few { length (nth_sphere i self.old).progress.commits < 2 ^ 24 }
-        requires request { let p = nth_sphere i self.old in IfSome p.progress.request (IsSoundRequest (length p.memory)) }
+        requires few { position (nth_sphere i self.old).progress < 2 ^ 24 }
         ensures ok { IfOk result (λ m. (d : Devices) (how : How) → chunk.now.chunk.closed ≡ Some how →
             let p = nth_sphere i self.old in
             let short = is_short self.old.s how chunk.now.chunk.limit in
@@ -133,8 +132,7 @@ impl Spheres {
         requires sphere { i < length self.old.spheres }
         requires thread { thread < length (nth_sphere i self.old).threads }
         requires turn { IsTurnOf thread (nth_sphere i self.old).role }
-        requires few { length (nth_sphere i self.old).progress.commits < 2 ^ 24 }
-        requires bytes { IsBytes (nth_sphere i self.old).memory }
+        requires few { position (nth_sphere i self.old).progress < 2 ^ 24 }
         requires devices { HaveByteInput devices.old }
         ensures ok { IfOk result (λ m. (t : Parts) → slice_get (nth_sphere i self.old).threads thread ≡ Some t →
             let p = nth_sphere i self.old in
@@ -168,7 +166,7 @@ impl Spheres {
         requires request { let p = nth_sphere i self.old in IfSome p.progress.request (IsSoundRequest (length p.memory)) }
         requires turn { IsTurnOfDma (nth_sphere i self.old).role }
         requires some { IsSome (dma_moved devices.old (nth_sphere i self.old)) }
-        requires few { length (nth_sphere i self.old).progress.commits < 2 ^ 24 }
+        requires few { position (nth_sphere i self.old).progress < 2 ^ 24 }
         requires devices { HaveByteInput devices.old }
         ensures ok { IfOk result (λ m. let p = nth_sphere i self.old in
             dma_moved devices.old p ≡ Some (came m (nth_sphere i self.new) devices.new)) }

@@ -3,9 +3,8 @@ ghost use Rattle.std.specs.Prelude.{◌≡◌, ◌<◌, ◌⊎◌, None, Some, f
 ghost use Rattle.spec_engine.specs.Flights.{is_full};
 ghost use Rattle.spec_play.specs.Progress.{position};
 ghost use Rattle.spec_protocol.specs.Commits.{Diverged, Granted, MovedSphere, dma_moved};
-ghost use Rattle.spec_protocol.specs.Placing.{replays};
-ghost use Rattle.spec_protocol.specs.Spheres.{is_stopped};
-ghost use Rattle.spec_protocol.specs.Transferring.{dma_done, dma_with, transfer, transferring, turn_before_dma as turn_in};
+ghost use Rattle.spec_protocol.specs.Spheres.{is_stopped, turn_against as turn_before};
+ghost use Rattle.spec_protocol.specs.Transferring.{dma_done, dma_with, transfer, transferring};
 ghost use Rattle.spec_protocol.specs.World.{sphere_at};
 ghost use Rattle.dl_machine.specs.Ready.{HasRoom, IsReady};
 ghost use Rattle.dl_machine.specs.Transfers.{ComesTo};
@@ -13,11 +12,12 @@ ghost use Rattle.dl_machine.specs.States.{left};
 
 use crate::asking::sign;
 use crate::state::State;
+use crate::turns::turn_against;
 use dl_arbiter::{Asked, ask};
 use dl_entry::{Actor, CommitKind, OutOfMemory, Point, Why};
 use dl_fly::Flight;
 use dl_sig::Sig;
-use dl_sphere::{DmaSize, Moved, Sphere};
+use dl_sphere::{DmaSize, Moved};
 use spec_protocol::Reply;
 
 impl<G: Sig> State<G> {
@@ -35,7 +35,7 @@ impl<G: Sig> State<G> {
         if of.stopped() {
             return Ok(Reply::Stopped);
         }
-        if let Some(actor) = turn_before_dma(of) {
+        if let Some(actor) = turn_against(of, Actor::Dma) {
             return Ok(Reply::NotTurn(actor));
         }
         if !of.replays() && of.request().is_none() {
@@ -53,7 +53,7 @@ impl<G: Sig> State<G> {
         requires ready { IsReady self.old }
         requires room { HasRoom self.old }
         requires going { is_stopped (sphere_at self.old sphere).role ≡ false }
-        requires turn { turn_in (sphere_at self.old sphere).role ≡ None }
+        requires turn { turn_before (sphere_at self.old sphere) Actor.Dma ≡ None }
         requires diverges { let p = sphere_at self.old sphere in
             ComesTo (Diverged (position p.progress) why) (dma_moved self.old.devices p) }
         ensures reply { IfOk result (λ r. (v : MovedSphere) → dma_moved self.old.devices (sphere_at self.old sphere) ≡ Some v →
@@ -73,7 +73,7 @@ impl<G: Sig> State<G> {
     fn transfer(&mut self, sphere: u8) -> Result<Reply, OutOfMemory>
         requires sphere { sphere < length self.old.spheres }
         requires going { is_stopped (sphere_at self.old sphere).role ≡ false }
-        requires turn { turn_in (sphere_at self.old sphere).role ≡ None }
+        requires turn { turn_before (sphere_at self.old sphere) Actor.Dma ≡ None }
         requires goes { ComesTo Granted (dma_moved self.old.devices (sphere_at self.old sphere)) }
         requires ready { IsReady self.old }
         requires room { HasRoom self.old }
@@ -101,7 +101,7 @@ impl<G: Sig> State<G> {
         requires ready { IsReady self.old }
         requires room { HasRoom self.old }
         requires going { is_stopped (sphere_at self.old sphere).role ≡ false }
-        requires turn { turn_in (sphere_at self.old sphere).role ≡ None }
+        requires turn { turn_before (sphere_at self.old sphere) Actor.Dma ≡ None }
         requires goes { ComesTo Granted (dma_moved self.old.devices (sphere_at self.old sphere)) }
         requires window { is_full self.old.slots ≡ false }
         ensures reply { IfOk result (λ r. r ≡ Reply.DmaDone) }
@@ -130,20 +130,5 @@ impl<G: Sig> State<G> {
             }
             Moved::Diverged(_, _) => unreachable!(),
         }
-    }
-}
-
-// In a replay a DMA has its turn.
-#[tactic(auto, unfolding(spec_protocol::specs::Spheres::head_of))]
-fn turn_before_dma(sphere: &Sphere) -> Option<Actor>
-    ensures { result ≡ turn_in sphere.now.sphere.role }
-{
-    if !sphere.replays() {
-        return None;
-    }
-    match sphere.head() {
-        Some(Actor::Thread(thread)) => Some(Actor::Thread(thread)),
-        Some(Actor::Dma) => None,
-        None => None,
     }
 }

@@ -1,5 +1,6 @@
 -- The number of an actor's commits.
 use Rattle.std.specs.Prelude.{ℕ, ◌≤◌, List, fold, replicate, slice_index}
+use Rattle.dl_entry.specs.Numbers.{most_threads}
 use Rattle.dl_entry.specs.declared.actor.Actor.{Actor}
 use Rattle.dl_entry.specs.declared.actor.Actor.TheVariants.{Thread, Dma}
 use Rattle.spec_log.specs.Noting.{done_with}
@@ -15,4 +16,4 @@ AreAmong count done = (thread : ℕ) → slice_index done thread ≤ count
 
 -- the number of each thread's commits in an order
 abbrev pub counted : List Actor → List ℕ
-counted order = fold done_with (replicate 15 0) order
+counted order = fold done_with (replicate most_threads 0) order

@@ -1,5 +1,6 @@
 -- What stands together in a log in order-size.
 use Rattle.std.specs.Prelude.{◌≡◌, ℕ, ◌^◌, ◌≤◌, List, length, slice_get, slice_index}
+use Rattle.dl_entry.specs.Numbers.{most_threads}
 use Rattle.dl_entry.specs.declared.actor.Actor.{Actor}
 use Rattle.spec_log.specs.Size.{sizes_of_thread}
 use Rattle.dl_mode.specs.ThreadSizes.{ThreadSizes, size_among}
@@ -8,6 +9,6 @@ use Rattle.dl_mode.specs.ThreadSizes.{ThreadSizes, size_among}
 pub record IsWhole (order : List Actor) (sizes : List ℕ) (threads : ThreadSizes) : Type 0 where
   pub few : length order ≤ 2 ^ 24
   pub same : length sizes ≡ length order
-  pub all : length threads.done ≡ 15
+  pub all : length threads.done ≡ most_threads
   pub each : (t i : ℕ) → size_among threads.sizes t i ≡ slice_get (sizes_of_thread t order sizes) i
   pub counted : (t : ℕ) → slice_index threads.done t ≡ length (sizes_of_thread t order sizes)

@@ -10,7 +10,7 @@ mod thread_sizes;
 
 pub use dl_entry::{Actor, Commit, OutOfMemory};
 pub use lists::Lists;
-pub use mode::Mode;
+pub use mode::{Mode, Noting};
 pub use order_only::{OrderOnly, OrderOnlyLog};
 pub use order_size::{OrderAndSize, OrderSizeLog};
 pub use picolog::{PicoLog, TurnLog, turn};

@@ -13,7 +13,7 @@ use dl_entry::{Actor, Commit, OutOfMemory};
 use spec_log::ModeName;
 use std::alloc::Global;
 
-/// A mode of recording: its log keeps what a replay needs of the order and the sizes of commits.
+/// A mode of recording: what a log of it says of the next commit and of its size.
 pub trait Mode {
     type Log: Drop;
 
@@ -24,24 +24,6 @@ pub trait Mode {
     /// The mode's name.
     fn name() -> ModeName
         ensures { result ≡ mode };
-
-    /// The log of no commit, with standard chunks of `s` instructions.
-    fn new(alloc: Global, s: u32) -> Result<Self::Log, OutOfMemory>
-        ensures { IfOk result (λ log. (logged log).kept ≡ nothing_kept mode s) };
-
-    /// Makes room for one commit more.
-    fn reserve(log: &mut Self::Log) -> Result<(), OutOfMemory>
-        ensures kept { (logged log.new).kept ≡ (logged log.old).kept }
-        ensures ok { OnOk result (IsTrue (logged log.new).room) }
-        ensures room { IsTrue (logged log.old).room → IsOk result };
-
-    /// Notes a commit, and whether its chunk is short. With room it isn't refused.
-    fn note(log: &mut Self::Log, commit: &Commit, closed_short: bool) -> Result<(), OutOfMemory>
-        requires actor { IsActor commit.now.actor }
-        requires commits { (logged log.old).kept.count < 2 ^ 24 }
-        ensures ok { OnOk result ((logged log.new).kept ≡ noted mode (logged log.old).kept (note_of commit.now closed_short)) }
-        ensures err { OnErr result ((logged log.new).kept ≡ (logged log.old).kept) }
-        ensures room { IsTrue (logged log.old).room → IsOk result };
 
     /// The logged size of an actor's commit: of a thread by the number of its commits before, of a DMA by its position.
     fn size(log: &Self::Log, actor: Actor, index: u32) -> Option<u32>
@@ -56,8 +38,8 @@ pub trait Mode {
     fn used(log: &Self::Log, done: &[u32]) -> bool
         ensures { let kept = (logged log.now).kept in result ≡ sizes_used kept.order kept.sizes done.now };
 
-    /// Whose commit stands at a position, told whether a DMA commits there, which thread committed last, and which are live,
-    /// of which no more than 15 are looked at: a log names no other thread.
+    /// Whose commit comes at a position, told whether a DMA commits there, which thread committed last, and which are live.
+    /// Of these no more are looked at than a log can name.
     fn head(
         log: &Self::Log,
         position: u32,
@@ -66,16 +48,37 @@ pub trait Mode {
         live: &[bool],
     ) -> Option<Actor>
         ensures { result ≡ kept_head mode (logged log.now).kept.order position dma last (take most_threads live.now) };
+}
+
+/// A mode in which commits are noted, so that its log grows: it keeps what a replay needs of their order and sizes.
+pub trait Noting: Mode {
+    /// The log of no commit, with standard chunks of `s` instructions.
+    fn new(alloc: Global, s: u32) -> Result<Self::Log, OutOfMemory>
+        ensures { IfOk result (λ log. (Self.logged log).kept ≡ nothing_kept Self.mode s) };
+
+    /// Makes room for one commit more.
+    fn reserve(log: &mut Self::Log) -> Result<(), OutOfMemory>
+        ensures kept { (Self.logged log.new).kept ≡ (Self.logged log.old).kept }
+        ensures ok { OnOk result (IsTrue (Self.logged log.new).room) }
+        ensures room { IsTrue (Self.logged log.old).room → IsOk result };
+
+    /// Notes a commit, and whether its chunk is short. With room it isn't refused.
+    fn note(log: &mut Self::Log, commit: &Commit, closed_short: bool) -> Result<(), OutOfMemory>
+        requires actor { IsActor commit.now.actor }
+        requires commits { (Self.logged log.old).kept.count < 2 ^ 24 }
+        ensures ok { OnOk result ((Self.logged log.new).kept ≡ noted Self.mode (Self.logged log.old).kept (note_of commit.now closed_short)) }
+        ensures err { OnErr result ((Self.logged log.new).kept ≡ (Self.logged log.old).kept) }
+        ensures room { IsTrue (Self.logged log.old).room → IsOk result };
 
     /// The lists of a log.
     fn lists(alloc: Global, log: &Self::Log) -> Result<Lists, OutOfMemory>
-        ensures { IfOk result (λ lists. lists ≡ lists_of mode (logged log.now).kept) };
+        ensures { IfOk result (λ lists. lists ≡ lists_of Self.mode (Self.logged log.now).kept) };
 
     /// The log of these lists, in which the commits of their order are counted: in picolog, which has no order, none.
     fn from_lists(alloc: Global, lists: &Lists) -> Result<Self::Log, OutOfMemory>
-        requires { AreLists mode lists.now }
-        ensures lists { IfOk result (λ log. lists_of mode (logged log).kept ≡ lists.now) }
-        ensures done { IfOk result (λ log. (logged log).kept.done ≡ counted lists.now.order) };
+        requires { AreLists Self.mode lists.now }
+        ensures lists { IfOk result (λ log. lists_of Self.mode (Self.logged log).kept ≡ lists.now) }
+        ensures done { IfOk result (λ log. (Self.logged log).kept.done ≡ counted lists.now.order) };
 }
 
 /// The limit of a chunk with this logged size.

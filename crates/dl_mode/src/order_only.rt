@@ -3,7 +3,7 @@ ghost use Rattle.std.specs.Prelude.{◌≡◌};
 ghost use Rattle.spec_log.specs.declared.mode_name.ModeName.TheVariants.{OrderOnly as ByOrder};
 
 use crate::lists::Lists;
-use crate::mode::{Mode, limit_of};
+use crate::mode::{Mode, Noting, limit_of};
 use crate::thread_sizes::ThreadSizes;
 use dl_entry::{Actor, Commit, OutOfMemory};
 use spec_log::{ModeName, Order, Sizes};
@@ -48,31 +48,6 @@ impl Mode for OrderOnly {
         ModeName::OrderOnly
     }
 
-    fn new(alloc: Global, s: u32) -> Result<OrderOnlyLog, OutOfMemory> {
-        Ok(OrderOnlyLog {
-            s,
-            order: Vec::new(alloc),
-            short: ThreadSizes::new(alloc)?,
-        })
-    }
-
-    fn reserve(log: &mut OrderOnlyLog) -> Result<(), OutOfMemory> {
-        log.short.reserve()?;
-        log.order.reserve(1)?;
-        Ok(())
-    }
-
-    fn note(
-        log: &mut OrderOnlyLog,
-        commit: &Commit,
-        closed_short: bool,
-    ) -> Result<(), OutOfMemory> {
-        log.order.reserve(1)?;
-        log.short.note(commit.actor, commit.size, closed_short)?;
-        log.order.push_reserved(commit.actor);
-        Ok(())
-    }
-
     fn size(log: &OrderOnlyLog, actor: Actor, index: u32) -> Option<u32> {
         match actor {
             Actor::Thread(thread) => log.short.size(thread, index),
@@ -96,6 +71,33 @@ impl Mode for OrderOnly {
         _: &[bool],
     ) -> Option<Actor> {
         log.order.get(position as usize).copied()
+    }
+}
+
+impl Noting for OrderOnly {
+    fn new(alloc: Global, s: u32) -> Result<OrderOnlyLog, OutOfMemory> {
+        Ok(OrderOnlyLog {
+            s,
+            order: Vec::new(alloc),
+            short: ThreadSizes::new(alloc)?,
+        })
+    }
+
+    fn reserve(log: &mut OrderOnlyLog) -> Result<(), OutOfMemory> {
+        log.short.reserve()?;
+        log.order.reserve(1)?;
+        Ok(())
+    }
+
+    fn note(
+        log: &mut OrderOnlyLog,
+        commit: &Commit,
+        closed_short: bool,
+    ) -> Result<(), OutOfMemory> {
+        log.order.reserve(1)?;
+        log.short.note(commit.actor, commit.size, closed_short)?;
+        log.order.push_reserved(commit.actor);
+        Ok(())
     }
 
     fn lists(alloc: Global, log: &OrderOnlyLog) -> Result<Lists, OutOfMemory> {

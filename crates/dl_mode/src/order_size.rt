@@ -8,9 +8,9 @@ ghost use Rattle.dl_mode.specs.Logged.{note};
 ghost use Rattle.spec_log.specs.declared.sizes.Sizes.TheVariants.{Each};
 
 use crate::lists::Lists;
-use crate::mode::{Mode, limit_of};
+use crate::mode::{Mode, Noting, limit_of};
 use crate::thread_sizes::{ThreadSizes, count_of};
-use dl_entry::{Actor, Commit, OutOfMemory, Sequence};
+use dl_entry::{Actor, Commit, MOST_THREADS, OutOfMemory, Sequence};
 use spec_log::{ModeName, Order, Sizes};
 use std::alloc::Global;
 use std::marker::Model;
@@ -83,21 +83,6 @@ impl Mode for OrderAndSize {
         ModeName::OrderSize
     }
 
-    fn new(alloc: Global, s: u32) -> Result<OrderSizeLog, OutOfMemory> {
-        OrderSizeLog::empty(alloc, s)
-    }
-
-    fn reserve(log: &mut OrderSizeLog) -> Result<(), OutOfMemory> {
-        log.threads.reserve()?;
-        log.order.reserve(1)?;
-        log.sizes.reserve(1)?;
-        Ok(())
-    }
-
-    fn note(log: &mut OrderSizeLog, commit: &Commit, _: bool) -> Result<(), OutOfMemory> {
-        log.push(commit.actor, commit.size)
-    }
-
     fn size(log: &OrderSizeLog, actor: Actor, index: u32) -> Option<u32> {
         match actor {
             Actor::Thread(thread) => log.threads.size(thread, index),
@@ -110,7 +95,7 @@ impl Mode for OrderAndSize {
     }
 
     fn used(log: &OrderSizeLog, done: &[u32]) -> bool {
-        for thread in 0..15u8 {
+        for thread in 0..MOST_THREADS {
             if log.threads.done(thread) > count_of(done, thread) {
                 return false;
             }
@@ -126,6 +111,23 @@ impl Mode for OrderAndSize {
         _: &[bool],
     ) -> Option<Actor> {
         log.order.get(position as usize).copied()
+    }
+}
+
+impl Noting for OrderAndSize {
+    fn new(alloc: Global, s: u32) -> Result<OrderSizeLog, OutOfMemory> {
+        OrderSizeLog::empty(alloc, s)
+    }
+
+    fn reserve(log: &mut OrderSizeLog) -> Result<(), OutOfMemory> {
+        log.threads.reserve()?;
+        log.order.reserve(1)?;
+        log.sizes.reserve(1)?;
+        Ok(())
+    }
+
+    fn note(log: &mut OrderSizeLog, commit: &Commit, _: bool) -> Result<(), OutOfMemory> {
+        log.push(commit.actor, commit.size)
     }
 
     fn lists(alloc: Global, log: &OrderSizeLog) -> Result<Lists, OutOfMemory> {

@@ -5,7 +5,7 @@ ghost use Rattle.spec_log.specs.declared.mode_name.ModeName.TheVariants.{Picolog
 ghost use Rattle.spec_log.specs.Head.{turn as turn_of, first_live as first_of, next_live as next_of};
 
 use crate::lists::Lists;
-use crate::mode::{Mode, limit_of};
+use crate::mode::{Mode, Noting, limit_of};
 use crate::thread_sizes::ThreadSizes;
 use dl_entry::{Actor, Commit, OutOfMemory};
 use dl_moments::THREADS;
@@ -51,24 +51,6 @@ impl Mode for PicoLog {
         ModeName::Picolog
     }
 
-    fn new(alloc: Global, s: u32) -> Result<TurnLog, OutOfMemory> {
-        Ok(TurnLog {
-            s,
-            count: 0,
-            short: ThreadSizes::new(alloc)?,
-        })
-    }
-
-    fn reserve(log: &mut TurnLog) -> Result<(), OutOfMemory> {
-        log.short.reserve()
-    }
-
-    fn note(log: &mut TurnLog, commit: &Commit, closed_short: bool) -> Result<(), OutOfMemory> {
-        log.short.note(commit.actor, commit.size, closed_short)?;
-        log.count += 1;
-        Ok(())
-    }
-
     fn size(log: &TurnLog, actor: Actor, index: u32) -> Option<u32> {
         match actor {
             Actor::Thread(thread) => log.short.size(thread, index),
@@ -89,6 +71,26 @@ impl Mode for PicoLog {
             return Some(Actor::Dma);
         }
         Some(Actor::Thread(turn(last, named(live))?))
+    }
+}
+
+impl Noting for PicoLog {
+    fn new(alloc: Global, s: u32) -> Result<TurnLog, OutOfMemory> {
+        Ok(TurnLog {
+            s,
+            count: 0,
+            short: ThreadSizes::new(alloc)?,
+        })
+    }
+
+    fn reserve(log: &mut TurnLog) -> Result<(), OutOfMemory> {
+        log.short.reserve()
+    }
+
+    fn note(log: &mut TurnLog, commit: &Commit, closed_short: bool) -> Result<(), OutOfMemory> {
+        log.short.note(commit.actor, commit.size, closed_short)?;
+        log.count += 1;
+        Ok(())
     }
 
     fn lists(alloc: Global, log: &TurnLog) -> Result<Lists, OutOfMemory> {

@@ -9,7 +9,7 @@ ghost use Rattle.std.specs.List.{list_all};
 ghost use Rattle.dl_mode.specs.Lists.{AreShort};
 ghost use Rattle.dl_mode.specs.Counts.{done_by};
 
-use dl_entry::{Actor, OutOfMemory, Sequence};
+use dl_entry::{Actor, MOST_THREADS, OutOfMemory, Sequence};
 use dl_moments::{Mark, Moments, THREADS};
 use spec_log::{ShortSize, Sizes};
 use std::alloc::Global;
@@ -123,7 +123,7 @@ impl ThreadSizes {
     pub fn used(&self, done: &[u32]) -> bool
         ensures { result ≡ list_all (λ short. nat_lt short.index (slice_index done.now short.thread)) self.now.sizes }
     {
-        for thread in 0..15u8 {
+        for thread in 0..MOST_THREADS {
             if !all_below(self.sizes.lane(thread), count_of(done, thread)) {
                 return false;
             }
@@ -136,7 +136,7 @@ impl ThreadSizes {
         ensures { IfOk result (λ list. list ≡ self.now.sizes) }
     {
         let mut list = Sequence::new(alloc);
-        for thread in 0..15u8 {
+        for thread in 0..MOST_THREADS {
             add_lane(&mut list, thread, self.sizes.lane(thread))?;
         }
         Ok(list)

@@ -5,14 +5,14 @@ ghost use Rattle.dl_moments.specs.Views.{By};
 ghost use Rattle.dl_moments.specs.Marks.{Rises, with_mark, with_mark_if, value_at};
 
 use crate::lane::{Lane, Mark};
-use dl_entry::OutOfMemory;
+use dl_entry::{MOST_THREADS, OutOfMemory};
 use std::alloc::Global;
 use std::marker::Model;
 
 /// How many threads there may be.
-pub const THREADS: usize = 15;
+pub const THREADS: usize = MOST_THREADS as usize;
 
-/// Values of 15 threads, each thread's by rising indices, and whether there is room for one more of any thread.
+/// Values of all threads that there may be, each thread's by rising indices, and whether there is room for one more of any thread.
 #[derive(Debug, Drop)]
 pub struct Moments<V> {
     lanes: Vec<Lane<V>>,

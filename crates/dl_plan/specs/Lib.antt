@@ -6,6 +6,7 @@ pub mod Names
 pub mod Optional
 pub mod Plans
 pub mod Refusal
+pub mod Roles
 pub mod Sizes
 pub mod Values
 pub mod Views

@@ -3,15 +3,15 @@ use Rattle.std.specs.Prelude.{ℕ, Bool, ◌&&◌, List, Option, Some, None, if�
 use Rattle.std.specs.Str.{is_utf8}
 use Rattle.toml.specs.Data.{Members}
 use Rattle.toml.specs.Parse.{parse_document}
-use Rattle.dl_plan.specs.declared.plan.Mode.{Mode}
-use Rattle.dl_plan.specs.declared.sphere.RoleName.{RoleName}
+use Rattle.dl_plan.specs.declared.plan.Sizes.{Sizes}
 use Rattle.dl_plan.specs.Entries.{has_known_keys, TopEntries, SphereEntries, Entries, entries_of}
 use Rattle.dl_plan.specs.Files.{written_names, read_names}
 use Rattle.dl_plan.specs.Limits.{memory_of}
 use Rattle.dl_plan.specs.Names.{none_is_empty, all_differ, none_is_one_of}
 use Rattle.dl_plan.specs.Optional.{◌>>=◌, ◌>>◌, each_of}
-use Rattle.dl_plan.specs.Sizes.{Sizes, sizes_in}
-use Rattle.dl_plan.specs.Values.{ScheduleValues, Script, Seeded, RoleValues, Plain, Record, Replay, SphereValues, PlanValues}
+use Rattle.dl_plan.specs.Roles.{role_of}
+use Rattle.dl_plan.specs.Sizes.{sizes_in, events_in}
+use Rattle.dl_plan.specs.Values.{ScheduleValues, Script, Seeded, SphereValues, PlanValues}
 
 -- ---- rule 1: a TOML document
 
@@ -25,22 +25,11 @@ schedule_of (Some events) None = Some (Seeded events)
 schedule_of None (Some script) = Some (Script script)
 schedule_of _ _ = None
 
--- ---- rule 6: a recorded sphere has a mode and a log, a replayed one a log alone, a plain one neither
-
-abbrev pub role_of : RoleName → Option Mode → (log : Option (List ℕ)) → Option RoleValues
-role_of RoleName.Plain None None = Some Plain
-role_of RoleName.Plain None (Some log) = None
-role_of RoleName.Plain (Some mode) log = None
-role_of RoleName.Record None log = None
-role_of RoleName.Record (Some mode) None = None
-role_of RoleName.Record (Some mode) (Some log) = Some (Record mode log)
-role_of RoleName.Replay None None = None
-role_of RoleName.Replay None (Some log) = Some (Replay log)
-role_of RoleName.Replay (Some mode) log = None
+-- ---- rules 4 and 6, of one sphere
 
 abbrev pub sphere_asked : SphereEntries → Option SphereValues
 sphere_asked s =
-    role_of s.role s.mode s.log >>= λ role.
+    role_of s >>= λ role.
     memory_of s.memory >>= λ memory.
     Some (record { image = s.image; memory = memory; role = role; account = s.account })
 
@@ -60,12 +49,7 @@ entries_in ms = if has_known_keys ms then ok_or (entries_of ms) 3 else Err 2
 
 abbrev pub values_of : TopEntries → Sizes → ScheduleValues → List SphereValues → PlanValues
 values_of top sizes schedule spheres = record {
-  cores = sizes.cores;
-  chunk = sizes.chunk;
-  buffer = sizes.buffer;
-  window = sizes.window;
-  signature = sizes.signature;
-  seed = sizes.seed;
+  sizes = sizes;
   schedule = schedule;
   input = top.input;
   console = top.console;
@@ -77,7 +61,8 @@ values_of top sizes schedule spheres = record {
 abbrev pub values_in : Entries → Result PlanValues ℕ
 values_in e =
     ok_or (sizes_in e) 4 >> λ sizes.
-    ok_or (schedule_of sizes.events e.top.script) 5 >> λ schedule.
+    ok_or (events_in e.top) 4 >> λ events.
+    ok_or (schedule_of events e.top.script) 5 >> λ schedule.
     ok_or (each_of sphere_asked e.spheres) 6 >> λ spheres.
     Ok (values_of e.top sizes schedule spheres)
 
@@ -85,6 +70,10 @@ values_in e =
 abbrev pub named_well : (name : List ℕ) → PlanValues → Result PlanValues ℕ
 named_well name p = if has_good_names name p then Ok p else Err 7
 
+-- rules 4 to 7, all of the same entries
+abbrev pub plan_in : (name : List ℕ) → Entries → Result PlanValues ℕ
+plan_in name e = values_in e >> named_well name
+
 -- the plan in the bytes of the file `name`, or the first rule that they break
 unfoldable pub plan_of : (name bytes : List ℕ) → Result PlanValues ℕ
-plan_of name bytes = ok_or (document bytes) 1 >> entries_in >> values_in >> named_well name
+plan_of name bytes = ok_or (document bytes) 1 >> entries_in >> plan_in name

@@ -1,18 +1,10 @@
 -- Rule 4: each number is in its limits, and there are 1 to 8 spheres.
 use Rattle.std.specs.Prelude.{ℕ, pos, nat_le, Bool, ◌&&◌, List, length, is_some, Option, Some, None, unwrap_or, if◌then◌else◌}
 use Rattle.std.specs.List.{list_all}
+use Rattle.dl_plan.specs.declared.plan.Sizes.{Sizes}
 use Rattle.dl_plan.specs.Entries.{TopEntries, SphereEntries, Entries}
 use Rattle.dl_plan.specs.Limits.{limited, signature_of, memory_of}
 use Rattle.dl_plan.specs.Optional.{◌>>=◌, if_there}
-
-pub record Sizes : Type 0 where
-  pub cores : ℕ
-  pub chunk : ℕ
-  pub buffer : ℕ
-  pub window : ℕ
-  pub signature : ℕ
-  pub seed : ℕ
-  pub events : Option ℕ
 
 -- the numbers at the top; a seed that is absent is 0
 abbrev pub sizes_of : TopEntries → Option Sizes
@@ -23,8 +15,11 @@ sizes_of top =
     limited 1 8 top.window >>= λ window.
     signature_of top.signature >>= λ signature.
     limited 0 9223372036854775807 (unwrap_or top.seed (pos 0)) >>= λ seed.
-    if_there (limited 0 16777216) top.events >>= λ events.
-    Some (record { cores = cores; chunk = chunk; buffer = buffer; window = window; signature = signature; seed = seed; events = events })
+    Some (record { cores = cores; chunk = chunk; buffer = buffer; window = window; signature = signature; seed = seed })
+
+-- the number of events, if one is there
+abbrev pub events_in : TopEntries → Option (Option ℕ)
+events_in top = if_there (limited 0 16777216) top.events
 
 -- the memory of each sphere is in its limits
 abbrev pub have_memories : List SphereEntries → Bool

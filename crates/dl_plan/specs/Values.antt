@@ -5,6 +5,7 @@ use Rattle.dl_plan.specs.declared.plan.Mode.{Mode}
 use Rattle.dl_plan.specs.declared.plan.Plan.{Plan}
 use Rattle.dl_plan.specs.declared.plan.Role.{Role}
 use Rattle.dl_plan.specs.declared.plan.Schedule.{Schedule}
+use Rattle.dl_plan.specs.declared.plan.Sizes.{Sizes}
 use Rattle.dl_plan.specs.declared.plan.Sphere.{Sphere}
 use Rattle.dl_plan.specs.Limits.{is_signature}
 
@@ -27,12 +28,7 @@ pub record SphereValues : Type 0 where
 
 -- a plan, with its names as bytes
 pub record PlanValues : Type 0 where
-  pub cores : ℕ
-  pub chunk : ℕ
-  pub buffer : ℕ
-  pub window : ℕ
-  pub signature : ℕ
-  pub seed : ℕ
+  pub sizes : Sizes
   pub schedule : ScheduleValues
   pub input : Option (List ℕ)
   pub console : Option (List ℕ)
@@ -55,12 +51,7 @@ sphere_view s = record { image = string_bytes s.image; memory = s.memory; role =
 
 abbrev pub plan_view : Plan → PlanValues
 plan_view p = record {
-  cores = p.cores;
-  chunk = p.chunk;
-  buffer = p.buffer;
-  window = p.window;
-  signature = p.signature;
-  seed = p.seed;
+  sizes = p.sizes;
   schedule = schedule_view p.schedule;
   input = option_map string_bytes p.input;
   console = option_map string_bytes p.console;
@@ -75,13 +66,14 @@ pub record IsMemory (n : ℕ) : Type 0 where
   pub within : (4096 ≤ n) × (n ≤ 2 ^ 24)
   pub paged : n % 4096 ≡ 0
 
--- c cores, chunks of s instructions, buffers of b words, w commits in flight and signatures of n bits are in their limits
-pub record AreSizes (c s b w n : ℕ) : Type 0 where
-  pub cores : (1 ≤ c) × (c ≤ 8)
-  pub chunk : (16 ≤ s) × (s ≤ 4096)
-  pub buffer : (1 ≤ b) × (b ≤ 4096)
-  pub window : (1 ≤ w) × (w ≤ 8)
-  pub signature : IsTrue (is_signature n)
+-- the cores, the instructions of a chunk, the words of a buffer, the commits in flight, the bits of a signature and the seed
+pub record AreSizes (s : Sizes) : Type 0 where
+  pub cores : (1 ≤ s.cores) × (s.cores ≤ 8)
+  pub chunk : (16 ≤ s.chunk) × (s.chunk ≤ 4096)
+  pub buffer : (1 ≤ s.buffer) × (s.buffer ≤ 4096)
+  pub window : (1 ≤ s.window) × (s.window ≤ 8)
+  pub signature : IsTrue (is_signature s.signature)
+  pub seed : s.seed < 2 ^ 63
 
 -- the events that are drawn are in their limits
 abbrev pub IsSchedule : ScheduleValues → Type 0
@@ -94,8 +86,7 @@ AreMemories spheres = AllByRecursion (λ (s : SphereValues). IsMemory s.memory) 
 
 -- each number of a plan is in its limits
 pub record IsPlan (p : PlanValues) : Type 0 where
-  pub sizes : AreSizes p.cores p.chunk p.buffer p.window p.signature
-  pub seed : p.seed < 2 ^ 63
+  pub sizes : AreSizes p.sizes
   pub schedule : IsSchedule p.schedule
   pub spheres : (1 ≤ length p.spheres) × (length p.spheres ≤ 8)
   pub memories : AreMemories p.spheres

@@ -4,12 +4,10 @@ use Rattle.std.specs.Borrow.{Bor}
 use Rattle.dl_plan.specs.declared.inputs.Input.{Input}
 use Rattle.dl_plan.specs.declared.outputs.Output.{Output}
 use Rattle.dl_plan.specs.declared.entries.Entries.{Entries as EntriesStruct}
-use Rattle.dl_plan.specs.declared.sizes.Sizes.{Sizes as SizesStruct}
 use Rattle.dl_plan.specs.declared.sphere.SphereEntries.{SphereEntries as SphereStruct}
 use Rattle.dl_plan.specs.declared.top.TopEntries.{TopEntries as TopStruct}
 use Rattle.dl_plan.specs.Entries.{TopEntries, SphereEntries, Entries}
 use Rattle.dl_plan.specs.Files.{InputValues, OutputValues}
-use Rattle.dl_plan.specs.Sizes.{Sizes}
 
 abbrev pub top_view : TopStruct → TopEntries
 top_view t = record {
@@ -31,9 +29,6 @@ entry_view s = record { image = s.image.now; memory = s.memory; role = s.role; m
 
 abbrev pub entries_view : EntriesStruct → Entries
 entries_view e = record { top = top_view e.top; spheres = map entry_view e.spheres.items }
-
-abbrev pub sizes_view : SizesStruct → Sizes
-sizes_view s = record { cores = s.cores; chunk = s.chunk; buffer = s.buffer; window = s.window; signature = s.signature; seed = s.seed; events = s.events }
 
 -- the bytes of some texts
 abbrev pub texts : List (Bor (List ℕ)) → List (List ℕ)

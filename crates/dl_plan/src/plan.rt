@@ -3,6 +3,22 @@
 /// An accepted plan. Its numbers are in their limits, and its names do not conflict.
 #[derive(Debug, Drop)]
 pub struct Plan {
+    pub sizes: Sizes,
+    /// Where the events come from.
+    pub schedule: Schedule,
+    /// The file of the device's input; without one it has no bytes.
+    pub input: Option<String>,
+    /// The file that takes the console's bytes.
+    pub console: Option<String>,
+    /// The file that takes the report.
+    pub report: Option<String>,
+    /// The spheres, 1 to 8.
+    pub spheres: Vec<Sphere>,
+}
+
+/// The numbers of a plan's machine.
+#[derive(Clone, Copy, Debug)]
+pub struct Sizes {
     /// Cores of the machine, 1 to 8.
     pub cores: u8,
     /// Instructions in a standard chunk, 16 to 4096.
@@ -15,16 +31,6 @@ pub struct Plan {
     pub signature: u32,
     /// The seed of the devices' random bytes and of a schedule that is drawn, below 2^63.
     pub seed: u64,
-    /// Where the events come from.
-    pub schedule: Schedule,
-    /// The file of the device's input; without one it has no bytes.
-    pub input: Option<String>,
-    /// The file that takes the console's bytes.
-    pub console: Option<String>,
-    /// The file that takes the report.
-    pub report: Option<String>,
-    /// The spheres, 1 to 8.
-    pub spheres: Vec<Sphere>,
 }
 
 /// Where a run's events come from.

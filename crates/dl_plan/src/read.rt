@@ -1,11 +1,12 @@
 //! From the bytes of a plan to what it asks for.
 ghost use Rattle.std.specs.Prelude.{◌≡◌, Ok, IfOk, IfErr};
-ghost use Rattle.dl_plan.specs.Plans.{plan_of, named_well};
+ghost use Rattle.dl_plan.specs.Plans.{plan_of, plan_in};
 ghost use Rattle.dl_plan.specs.Refusal.{Says};
 ghost use Rattle.dl_plan.specs.Values.{plan_view, IsPlan};
+ghost use Rattle.dl_plan.specs.Views.{entries_view};
 
 use crate::document::read_document;
-use crate::entries::read_entries;
+use crate::entries::{Entries, read_entries};
 use crate::error::PlanError;
 use crate::naming::has_good_names;
 use crate::plan::Plan;
@@ -23,7 +24,16 @@ pub fn read_plan(alloc: Global, name: &str, bytes: &[u8]) -> Result<Plan, PlanEr
 {
     let table = read_document(alloc, bytes)?;
     let entries = read_entries(alloc, &table)?;
-    let plan = to_plan(alloc, &entries)?;
+    plan_in(alloc, name, &entries)
+}
+
+/// The plan of these entries: what the keys hold, judged by rules 4 to 7.
+fn plan_in(alloc: Global, name: &str, entries: &Entries<'_>) -> Result<Plan, PlanError>
+    ensures ok { IfOk result (λ p. plan_in name.now (entries_view entries.now) ≡ Ok (plan_view p)) }
+    ensures limits { IfOk result (λ p. IsPlan (plan_view p)) }
+    ensures refused { IfErr result (Says (plan_in name.now (entries_view entries.now))) }
+{
+    let plan = to_plan(alloc, entries)?;
     if has_good_names(alloc, name, &plan)? {
         Ok(plan)
     } else {

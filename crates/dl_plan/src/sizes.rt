@@ -1,36 +1,22 @@
 //! The numbers in a plan, each in its limits.
-ghost use Rattle.std.specs.Prelude.{◌≡◌, ◌<◌, ◌≤◌, ◌^◌, IfSome, IsTrue, option_map, map};
+ghost use Rattle.std.specs.Prelude.{◌≡◌, ◌≤◌, ◌^◌, IfSome, IsTrue, map};
 ghost use Rattle.dl_plan.specs.Limits.{limited, is_signature, signature_of, memory_of};
-ghost use Rattle.dl_plan.specs.Sizes.{sizes_of, sizes_in, has_good_spheres, have_memories};
-ghost use Rattle.dl_plan.specs.Optional.{if_there};
+ghost use Rattle.dl_plan.specs.Sizes.{sizes_of, sizes_in, events_in, has_good_spheres, have_memories};
 ghost use Rattle.dl_plan.specs.Values.{AreSizes, IsMemory};
-ghost use Rattle.dl_plan.specs.Views.{top_view, entry_view, entries_view, sizes_view};
+ghost use Rattle.dl_plan.specs.Views.{top_view, entry_view, entries_view};
 
 use crate::entries::Entries;
+use crate::plan::Sizes;
 use crate::sphere::SphereEntries;
 use crate::top::TopEntries;
 
 /// The most events of a schedule, and the most bytes of a memory.
 const MOST: u64 = 1 << 24;
 
-/// The numbers at a plan's top.
-#[derive(Clone, Copy)]
-pub(crate) struct Sizes {
-    pub cores: u8,
-    pub chunk: u32,
-    pub buffer: u32,
-    pub window: u8,
-    pub signature: u32,
-    pub seed: u64,
-    pub events: Option<u32>,
-}
-
-/// The numbers of a plan. `None` where one is outside its limits, or there are not 1 to 8 spheres.
+/// The numbers of a plan's machine. `None` if one is outside its limits, or there are not 1 to 8 spheres.
 pub(crate) fn sizes_in(entries: &Entries<'_>) -> Option<Sizes>
-    ensures value { option_map sizes_view result ≡ sizes_in (entries_view entries.now) }
-    ensures limits { IfSome result (λ s. AreSizes s.cores s.chunk s.buffer s.window s.signature) }
-    ensures seed { IfSome result (λ s. s.seed < 2 ^ 63) }
-    ensures events { IfSome result (λ s. IfSome s.events (λ n. n ≤ 2 ^ 24)) }
+    ensures value { result ≡ sizes_in (entries_view entries.now) }
+    ensures limits { IfSome result AreSizes }
     ensures spheres { IfSome result (λ s. IsTrue (has_good_spheres (map entry_view entries.now.spheres.items))) }
 {
     if has_good_spheres(&entries.spheres) {
@@ -57,12 +43,10 @@ fn have_memories(spheres: &[SphereEntries<'_>]) -> bool
         .all(|sphere| memory_of(sphere.memory).is_some())
 }
 
-/// The numbers at a plan's top. `None` where one is outside its limits.
+/// The numbers at a plan's top. `None` if one is outside its limits.
 fn sizes_of(top: &TopEntries<'_>) -> Option<Sizes>
-    ensures value { option_map sizes_view result ≡ sizes_of (top_view top.now) }
-    ensures limits { IfSome result (λ s. AreSizes s.cores s.chunk s.buffer s.window s.signature) }
-    ensures seed { IfSome result (λ s. s.seed < 2 ^ 63) }
-    ensures events { IfSome result (λ s. IfSome s.events (λ n. n ≤ 2 ^ 24)) }
+    ensures value { result ≡ sizes_of (top_view top.now) }
+    ensures limits { IfSome result AreSizes }
 {
     Some(Sizes {
         cores: limited(top.cores, 1, 8)? as u8,
@@ -71,16 +55,15 @@ fn sizes_of(top: &TopEntries<'_>) -> Option<Sizes>
         window: limited(top.window, 1, 8)? as u8,
         signature: signature_of(top.signature)?,
         seed: limited(top.seed.unwrap_or(0), 0, i64::MAX as u64)?,
-        events: events_of(top.events)?,
     })
 }
 
-/// The number of events, if one is there. `None` where it is outside its limits.
-fn events_of(number: Option<i64>) -> Option<Option<u32>>
-    ensures value { result ≡ if_there (limited 0 16777216) number }
+/// The number of events, if one is there. `None` if it is outside its limits.
+pub(crate) fn events_in(top: &TopEntries<'_>) -> Option<Option<u32>>
+    ensures value { result ≡ events_in (top_view top.now) }
     ensures within { IfSome result (λ events. IfSome events (λ n. n ≤ 2 ^ 24)) }
 {
-    match number {
+    match top.events {
         Some(number) => Some(Some(limited(number, 0, MOST)? as u32)),
         None => Some(None),
     }

@@ -1,16 +1,17 @@
 //! From what a plan's keys hold to what it asks for.
 ghost use Rattle.std.specs.Prelude.{◌≡◌, ◌≤◌, ◌^◌, Ok, Some, IfOk, IfErr, IfSome, map, option_map, option_copied, string_bytes};
 ghost use Rattle.dl_plan.specs.Optional.{each_of};
-ghost use Rattle.dl_plan.specs.Plans.{schedule_of, role_of, sphere_asked, values_in};
+ghost use Rattle.dl_plan.specs.Plans.{schedule_of, sphere_asked, values_in};
 ghost use Rattle.dl_plan.specs.Refusal.{Says, IsBroken};
-ghost use Rattle.dl_plan.specs.Values.{plan_view, schedule_view, role_view, sphere_view, IsPlan, IsSchedule, IsMemory, AreMemories};
+ghost use Rattle.dl_plan.specs.Values.{plan_view, schedule_view, sphere_view, IsPlan, IsSchedule, IsMemory, AreMemories};
 ghost use Rattle.dl_plan.specs.Views.{entry_view, entries_view};
 
 use crate::entries::Entries;
 use crate::error::PlanError;
-use crate::plan::{Plan, Role, Schedule, Sphere};
-use crate::sizes::{Sizes, memory_of, sizes_in};
-use crate::sphere::{RoleName, SphereEntries};
+use crate::plan::{Plan, Schedule, Sphere};
+use crate::roles::role_of;
+use crate::sizes::{events_in, memory_of, sizes_in};
+use crate::sphere::SphereEntries;
 use std::alloc::{AllocError, Global};
 
 /// The plan of these entries. Refused by rule 4 where a number is outside its limits, else by rule 5 where there is not
@@ -24,15 +25,14 @@ pub(crate) fn to_plan(alloc: Global, entries: &Entries<'_>) -> Result<Plan, Plan
         Some(sizes) => sizes,
         None => return Err(PlanError::Refused(4)),
     };
-    let schedule = schedule_of(alloc, &sizes, entries.top.script)?;
+    let events = match events_in(&entries.top) {
+        Some(events) => events,
+        None => return Err(PlanError::Refused(4)),
+    };
+    let schedule = schedule_of(alloc, events, entries.top.script)?;
     let spheres = spheres_of(alloc, &entries.spheres)?;
     Ok(Plan {
-        cores: sizes.cores,
-        chunk: sizes.chunk,
-        buffer: sizes.buffer,
-        window: sizes.window,
-        signature: sizes.signature,
-        seed: sizes.seed,
+        sizes,
         schedule,
         input: owned(alloc, entries.top.input)?,
         console: owned(alloc, entries.top.console)?,
@@ -42,13 +42,17 @@ pub(crate) fn to_plan(alloc: Global, entries: &Entries<'_>) -> Result<Plan, Plan
 }
 
 /// The schedule. Refused by rule 5 where there is not one.
-fn schedule_of(alloc: Global, sizes: &Sizes, script: Option<&str>) -> Result<Schedule, PlanError>
-    requires { IfSome sizes.now.events (λ n. n ≤ 2 ^ 24) }
-    ensures ok { IfOk result (λ s. schedule_of sizes.now.events (option_copied script.entry) ≡ Some (schedule_view s)) }
+fn schedule_of(
+    alloc: Global,
+    events: Option<u32>,
+    script: Option<&str>,
+) -> Result<Schedule, PlanError>
+    requires { IfSome events (λ n. n ≤ 2 ^ 24) }
+    ensures ok { IfOk result (λ s. schedule_of events (option_copied script.entry) ≡ Some (schedule_view s)) }
     ensures limits { IfOk result (λ s. IsSchedule (schedule_view s)) }
-    ensures refused { IfErr result (IsBroken 5 (schedule_of sizes.now.events (option_copied script.entry))) }
+    ensures refused { IfErr result (IsBroken 5 (schedule_of events (option_copied script.entry))) }
 {
-    match (sizes.events, script) {
+    match (events, script) {
         (Some(events), None) => Ok(Schedule::Seeded { events }),
         (None, Some(name)) => Ok(Schedule::Script(String::from_str(alloc, name)?)),
         _ => Err(PlanError::Refused(5)),
@@ -92,26 +96,6 @@ fn sphere_of(alloc: Global, entry: &SphereEntries<'_>) -> Result<Sphere, PlanErr
         role,
         account: owned(alloc, entry.account)?,
     })
-}
-
-/// The role of a sphere. Refused by rule 6 where it has not what it needs, or has more.
-fn role_of(alloc: Global, entry: &SphereEntries<'_>) -> Result<Role, PlanError>
-    ensures ok { IfOk result (λ r. role_of entry.now.role entry.now.mode (option_copied entry.now.log) ≡ Some (role_view r)) }
-    ensures refused { IfErr result (IsBroken 6 (role_of entry.now.role entry.now.mode (option_copied entry.now.log))) }
-{
-    match (entry.role, entry.mode, entry.log) {
-        (RoleName::Plain, None, None) => Ok(Role::Plain),
-        (RoleName::Record, Some(mode), Some(log)) => Ok(Role::Record {
-            mode,
-            log: String::from_str(alloc, log)?,
-        }),
-        (RoleName::Replay, None, Some(log)) => Ok(Role::Replay {
-            log: String::from_str(alloc, log)?,
-        }),
-        (RoleName::Plain | RoleName::Record | RoleName::Replay, _, _) => {
-            Err(PlanError::Refused(6))
-        }
-    }
 }
 
 /// The text, if one is there, copied out of the document.

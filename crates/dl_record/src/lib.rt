@@ -4,6 +4,6 @@
 mod recorder;
 
 pub use dl_entry::{Commit, Input, OutOfMemory};
-pub use dl_mode::Mode;
+pub use dl_mode::Noting;
 pub use recorder::Recorder;
 pub use spec_log::Log;

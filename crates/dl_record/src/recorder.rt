@@ -8,14 +8,14 @@ ghost use Rattle.dl_record.specs.Recording.{CanCommit, IsFresh, interrupt, with_
 
 use dl_entry::{Commit, Input, OutOfMemory};
 use dl_input::{Dmas, Inputs, Interrupts};
-use dl_mode::Mode;
+use dl_mode::Noting;
 use spec_log::{Log, LogParts};
 use std::alloc::Global;
 use std::marker::Model;
 
 /// Notes a sphere's commits with their records, and its interrupts.
 #[derive(Drop)]
-pub struct Recorder<M: Mode> {
+pub struct Recorder<M: Noting> {
     alloc: Global,
     count: u32,
     log: M::Log,
@@ -24,7 +24,7 @@ pub struct Recorder<M: Mode> {
     dmas: Dmas,
 }
 
-impl<M: Mode> Model for Recorder<M> {
+impl<M: Noting> Model for Recorder<M> {
     ghost use Rattle.std.specs.Prelude.{◌≡◌, map, ◌&&◌};
     ghost use Rattle.dl_input.specs.Tracked.{interrupt_of};
     ghost use Rattle.dl_record.specs.Recording.{Recording, IsRecording};
@@ -45,7 +45,7 @@ impl<M: Mode> Model for Recorder<M> {
         × (r.count ≡ (M.logged r.log).kept.count) };
 }
 
-impl<M: Mode> Recorder<M> {
+impl<M: Noting> Recorder<M> {
     /// Nothing is noted yet; a standard chunk has `s` instructions.
     pub fn new(alloc: Global, s: u32) -> Result<Recorder<M>, OutOfMemory>
         requires { IsChunkSize s }

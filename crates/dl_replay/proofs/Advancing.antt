@@ -2,7 +2,7 @@
 use Rattle.std.proofs.Common.{◌≡◌, ℕ, zero, suc, ◌+◌, ◌<◌, ◌≤◌, Bool, true, false, List, [], ◌∷◌, ◌++◌, length, slice_get, slice_index, nat_lt, cond, Option, Some, None, Ok, refl, ap, sym, subst, ◌∙◌, arith, add-one}
 use Rattle.std.specs.Prelude.{slice_set}
 use Rattle.std.specs.Option.{OnSome}
-use Rattle.std.proofs.lemmas.List.{length_push, length-append, length-set}
+use Rattle.std.proofs.lemmas.List.{length-append, length-set}
 use Rattle.dl_entry.specs.declared.commit.Commit.{Commit}
 use Rattle.spec_isa.specs.declared.thread.Parts.{Parts}
 use Rattle.dl_entry.specs.declared.actor.Actor.{Actor}
@@ -15,6 +15,7 @@ use Rattle.spec_log.specs.declared.sizes.ShortSize.{ShortSize}
 use Rattle.spec_log.specs.declared.sizes.Sizes.{Sizes}
 use Rattle.spec_log.specs.declared.sizes.Sizes.TheVariants.{Each, Short}
 use Rattle.spec_log.specs.declared.log.LogParts.{LogParts}
+use Rattle.spec_play.proofs.Positions.{position-more}
 use Rattle.spec_play.specs.Effects.{Effect, dma_commit, chunk_effect, serial_effect}
 use Rattle.spec_play.specs.Progress.{Progress, position, no_progress, with_effect, with_dma, Used, nothing_used, with_dma_used}
 use Rattle.spec_play.specs.Transfers.{DmaVerdict, DmaGoes}
@@ -22,14 +23,14 @@ use Rattle.spec_play.specs.Turns.{Now, now_at, turn_of, at_end, is_size_used, ar
 use Rattle.spec_play.specs.Verdicts.{LogVerdict, Goes}
 use Rattle.spec_protocol.proofs.Moves.Threads.{AreNew}
 use Rattle.dl_kernel.specs.Calls.{spawned_list}
+use Rattle.dl_replay.specs.Served.{Served}
 use Rattle.dl_replay.specs.Replaying.{Replaying, Agrees, replay_start, commits_at, commits_of}
 use Rattle.dl_replay.specs.Replays.{now_for, advanced}
 use Rattle.dl_kernel.specs.StepResults.{result_in}
-use Rattle.dl_replay.specs.declared.asking.Verdict.{Verdict}
-use Rattle.dl_replay.specs.declared.asking.Verdict.TheVariants.{Went}
+use Rattle.dl_replay.specs.declared.verdict.Verdict.{Verdict}
+use Rattle.dl_replay.specs.declared.verdict.Verdict.TheVariants.{Went}
 use Rattle.dl_replay.specs.declared.judging.Done.{Done}
 use Rattle.dl_replay.specs.declared.judging.Finish.{Finish}
-use Rattle.dl_replay.specs.declared.served.Served.{Served}
 use Rattle.dl_replay.specs.Seen.{used_seen}
 use Rattle.dl_replay.specs.Judging.{verdict_of, step_verdict, transfer_verdict}
 use Rattle.dl_replay.specs.Judged.{HasRun, committed, transferred, chunk_judged, serial_judged, dma_judged}
@@ -42,19 +43,19 @@ now-is : (log : LogParts) (p : Progress) (u : Used) (ts : List Parts) (done : �
 unfolding now_at
 now-is log p u ts done last d l = rw (← d, ← l) refl
 
-one-more : (commits : List Commit) (c : Commit) (done : ℕ) → length commits ≡ done → length (commits ++ c ∷ []) ≡ done + 1
-one-more commits c done d = omega (arith, length_push commits c)
+one-more : (p : Progress) (c : Commit) (done : ℕ) → position p ≡ done → p.first + length (p.commits ++ c ∷ []) ≡ done + 1
+one-more p c done d = omega (arith, position-more p c, d)
 
 pub committed-is : (r : Replaying) (p : Progress) (k : ℕ) (e : Effect) (u : Used) (ts : List Parts) → Agrees r p
     → advanced r.log (r.done + 1) (Some k) u ts ≡ committed r p k e u ts
 committed-is r p k e u ts a =
     ap (λ (n : Now). record { log = r.log; used = u; now = n; total = 0; done = r.done + 1; last = Some k; commits = commits_of ts })
-    (now-is r.log (with_effect k e p) u ts (r.done + 1) (Some k) (one-more p.commits e.commit r.done a.done) refl)
+    (now-is r.log (with_effect k e p) u ts (r.done + 1) (Some k) (one-more p e.commit r.done a.done) refl)
 
 pub transferred-is : (r : Replaying) (p : Progress) (ts : List Parts) → Agrees r p → advanced r.log (r.done + 1) r.last (with_dma_used r.used) ts ≡ transferred r p ts
 transferred-is r p ts a =
     ap (λ (n : Now). record { log = r.log; used = with_dma_used r.used; now = n; total = 0; done = r.done + 1; last = r.last; commits = commits_of ts })
-    (now-is r.log (with_dma p) (with_dma_used r.used) ts (r.done + 1) r.last (one-more p.commits dma_commit r.done a.done) a.last)
+    (now-is r.log (with_dma p) (with_dma_used r.used) ts (r.done + 1) r.last (one-more p dma_commit r.done a.done) a.last)
 
 one-used : (u : Used) → record u { dmas = u.dmas + 1 } ≡ with_dma_used u
 one-used u = ap (λ (n : ℕ). record u { dmas = n }) (add-one u.dmas)

@@ -1,31 +1,16 @@
--- With commits left it is the turn of the log's head, and without any the end is by what is left over.
-use Rattle.std.proofs.Common.{◌≡◌, ℕ, ◌<◌, ◌≤◌, true, List, length, map, Option, refl}
-use Rattle.std.proofs.lemmas.Bool.{lt-ltb, le-ltb}
+-- At the end of a log its sizes are used just where the threads have done their commits.
+use Rattle.std.proofs.Common.{◌≡◌, ℕ, ◌≤◌, true, List, length, refl}
 use Rattle.spec_isa.specs.declared.thread.Parts.{Parts}
-use Rattle.spec_kernel.specs.Interrupts.{is_live}
 use Rattle.spec_log.specs.declared.mode_name.ModeName.{ModeName}
 use Rattle.spec_log.specs.declared.mode_name.ModeName.TheVariants.{OrderSize, OrderOnly, Picolog}
-use Rattle.spec_log.specs.declared.log.LogParts.{LogParts}
 use Rattle.spec_log.specs.declared.sizes.Sizes.{Sizes}
 use Rattle.spec_log.specs.declared.sizes.Sizes.TheVariants.{Each, Short}
-use Rattle.spec_log.specs.Head.{head}
 use Rattle.spec_log.specs.Log.{IsSizes}
 use Rattle.spec_log.specs.Noting.{sizes_used}
 use Rattle.dl_entry.specs.declared.actor.Actor.{Actor}
-use Rattle.spec_play.specs.Progress.{Progress, position, Used}
-use Rattle.spec_play.specs.Turns.{now_at, turn_of, at_end, has_left_over, are_sizes_used}
+use Rattle.spec_play.specs.Turns.{are_sizes_used}
 use Rattle.dl_replay.specs.Replaying.{commits_of}
 use Rattle.dl_replay.proofs.Counts.{sizes-used}
-
-pub now-before : (log : LogParts) (p : Progress) (u : Used) (ts : List Parts) (done : ℕ) (last : Option ℕ) → position p ≡ done → p.last ≡ last → done < log.count
-    → now_at log p u ts ≡ turn_of done ts (head log done last (map is_live ts))
-unfolding now_at
-now-before log p u ts done last d l h = rw (d, l, lt-ltb done log.count h) refl
-
-pub now-at-end : (log : LogParts) (p : Progress) (u : Used) (ts : List Parts) (done : ℕ) → position p ≡ done → log.count ≤ done
-    → now_at log p u ts ≡ at_end done (has_left_over log u ts)
-unfolding now_at
-now-at-end log p u ts done d h = rw (d, le-ltb done log.count h) refl
 
 -- where each commit has its size, all are used
 pub each-used : (mode : ModeName) (s count : ℕ) (sizes : Sizes) (ts : List Parts) → mode ≡ OrderSize → IsSizes mode s count sizes → are_sizes_used ts sizes ≡ true

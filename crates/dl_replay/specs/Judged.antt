@@ -1,6 +1,5 @@
 -- What a log's verdict makes of a replay, and of what its sphere hands in.
-use Rattle.std.specs.Prelude.{◌≡◌, ℕ, ◌+◌, ◌<◌, ◌≤◌, Bool, ◌&&◌, nat_eq, List, ◌++◌, length, slice_set, Option, Some, None}
-use Rattle.dl_entry.specs.declared.Actor.{Actor}
+use Rattle.std.specs.Prelude.{◌≡◌, ℕ, ◌+◌, ◌≤◌, List, ◌++◌, length, slice_set, Option, Some, None}
 use Rattle.dl_entry.specs.declared.End.{End}
 use Rattle.dl_entry.specs.declared.Request.{Request}
 use Rattle.dl_entry.specs.declared.Why.{Why}
@@ -12,10 +11,9 @@ use Rattle.spec_play.specs.Turns.{Ended, now_at}
 use Rattle.spec_play.specs.Verdicts as log
 use Rattle.spec_play.specs.Transfers.{DmaVerdict, DmaGoes, DmaFails}
 use Rattle.spec_play.specs.Plays.{with_threads}
-use Rattle.dl_replay.specs.declared.served.Served.{Served}
-use Rattle.dl_replay.specs.declared.asking.Asking.{Asking}
-use Rattle.dl_replay.specs.declared.asking.Verdict.{Verdict}
+use Rattle.dl_replay.specs.declared.verdict.Verdict.{Verdict}
 use Rattle.dl_replay.specs.Replaying.{Replaying, commits_of}
+use Rattle.dl_replay.specs.Served.{Served, with_served}
 
 -- the answer, the replay, and of the sphere its threads, its outstanding DMA request and what its commit serves
 pub record Judged : Type 0 where
@@ -26,15 +24,6 @@ pub record Judged : Type 0 where
   pub served : Served
 
 -- ---- requests
-
--- a thread that has run nothing before a serial instruction asks for a serial step, and else for a chunk
-abbrev pub is_serial_step : Asking → Bool
-is_serial_step asking = asking.serial && nat_eq asking.total 0
-
--- the thread is one of these
-abbrev pub IsAmong : Actor → List Parts → Type 0
-IsAmong (Actor.Thread thread) threads = thread < length threads
-IsAmong Actor.Dma threads = Unit {0}
 
 -- the request's buffer, with the word before its bytes, ends in a memory of that size
 abbrev pub IsInside : (size : ℕ) → Option Request → Type 0
@@ -72,15 +61,6 @@ chunk_judged r p k before threads request served (log.Fails why) =
 chunk_judged r p k before threads request served (log.Goes e u) =
     let after = with_threads k e before in
     record { verdict = Verdict.Went; replay = committed r p k e u after; threads = after; request = e.request; served = served }
-
--- what is served, with that of an effect
-abbrev pub with_served : Served → Effect → Served
-with_served served e =
-    record {
-      words = served.words ++ e.words;
-      loads = served.loads ++ e.commit.loads;
-      outputs = served.outputs ++ e.commit.outputs;
-    }
 
 -- a serial step of thread k
 abbrev pub serial_judged : Replaying → Progress → (thread : ℕ) → List Parts → Option Request → Served → log.LogVerdict → Judged

@@ -1,32 +1,20 @@
 -- What a serial step or a DMA came to that gives what it left.
-use Rattle.std.specs.Prelude.{◌≡◌, ℕ, List, [], length, Option, Some, Result, Ok, Err}
+use Rattle.std.specs.Prelude.{◌≡◌, ℕ, List, length, Option, Some, Result, Ok, Err}
 use Rattle.dl_entry.specs.declared.Request.{Request}
 use Rattle.spec_kernel.specs.Copies.{dma_words}
 use Rattle.spec_play.specs.Transfers.{DmaVerdict, DmaGoes, DmaFails}
 use Rattle.dl_entry.specs.declared.Why.{Why}
 use Rattle.dl_wbuf.specs.Buffers.{Words}
 use Rattle.dl_kernel.specs.declared.serving.StepResult.{StepResult}
-use Rattle.dl_replay.specs.declared.served.Served.{Served}
-use Rattle.dl_replay.specs.declared.asking.Verdict.{Verdict}
-
-abbrev pub nothing_served : Served
-nothing_served = record { words = []; loads = []; outputs = [] }
+use Rattle.dl_replay.specs.declared.verdict.Verdict.{Verdict}
 
 abbrev pub verdict_left : Result StepResult Why → Verdict
 verdict_left (Ok left) = Verdict.Went
 verdict_left (Err why) = Verdict.Diverged why
 
-abbrev pub served_left : Result StepResult Why → Served
-served_left (Ok left) = record { words = left.words.words; loads = left.loads; outputs = left.outputs }
-served_left (Err why) = nothing_served
-
 abbrev pub verdict_stored : Result Words Why → Verdict
 verdict_stored (Ok words) = Verdict.Went
 verdict_stored (Err why) = Verdict.Diverged why
-
-abbrev pub served_stored : Result Words Why → Served
-served_stored (Ok words) = record { words = words.words; loads = []; outputs = [] }
-served_stored (Err why) = nothing_served
 
 -- a DMA stores so many bytes, behind their number; or the log says why not
 pub record Stores (n : ℕ) (request : Option Request) (v : DmaVerdict) : Type 0 where

@@ -3,5 +3,6 @@ pub mod Lists
 pub mod Judging
 pub mod Replaying
 pub mod Replays
+pub mod Served
 pub mod Judged
 pub mod Left

@@ -1,12 +1,10 @@
 -- How a replay stands: its log, how far it is in it, and of its sphere's progress what the log asks for.
-use Rattle.std.specs.Prelude.{◌≡◌, ℕ, ◌-◌, Bool, false, List, [], ◌∷◌, ◌++◌, length, map, replicate, Option, Some, None}
-use Rattle.dl_entry.specs.declared.Actor.{Actor}
+use Rattle.std.specs.Prelude.{◌≡◌, ℕ, ◌-◌, List, [], ◌∷◌, ◌++◌, length, map, replicate, Option, Some, None}
 use Rattle.dl_entry.specs.declared.End.{End}
 use Rattle.spec_isa.specs.declared.thread.Parts.{Parts}
 use Rattle.spec_isa.specs.declared.thread.Load.{Load}
 use Rattle.spec_isa.specs.Threads.{started}
 use Rattle.spec_log.specs.declared.LogParts.{LogParts}
-use Rattle.spec_kernel.specs.Interrupts.{is_live}
 use Rattle.spec_play.specs.Progress.{Progress, no_progress, position, Used, nothing_used}
 use Rattle.spec_play.specs.Turns.{Now, Turn, TurnOfDma, Ended, now_at}
 use Rattle.spec_protocol.specs.Spheres.{Cursor}
@@ -29,11 +27,6 @@ commits_of threads = map (λ t. t.commits) threads ++ replicate (15 - length thr
 abbrev pub commits_at : Option Parts → ℕ
 commits_at None = 0
 commits_at (Some t) = t.commits
-
--- a thread that is there lives
-abbrev pub lives : Option Parts → Bool
-lives None = false
-lives (Some t) = is_live t
 
 -- the cursor of the replayed sphere, with the loads of the pieces
 abbrev pub cursor_of : Replaying → List Load → Cursor
@@ -63,8 +56,3 @@ abbrev pub end_of : Now → Option End
 end_of (Turn thread) = None
 end_of TurnOfDma = None
 end_of (Ended how) = Some how
-
--- it is this actor's turn
-abbrev pub IsTurnOf : Actor → Now → Type 0
-IsTurnOf (Actor.Thread thread) now = now ≡ Turn thread
-IsTurnOf Actor.Dma now = now ≡ TurnOfDma

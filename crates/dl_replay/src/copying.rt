@@ -7,12 +7,12 @@ ghost use Rattle.dl_replay.specs.Lists.{lists_in};
 
 use dl_entry::{Input, OutOfMemory, Sequence};
 use dl_input::{Dmas, Inputs, Interrupts};
-use dl_mode::{Lists, Mode};
+use dl_mode::{Lists, Noting};
 use spec_log::{DmaRecord, Interrupt, LogParts, Order, Sizes};
 use std::alloc::Global;
 
 /// The order and the sizes.
-pub fn kept_of<M: Mode>(alloc: Global, parts: &LogParts) -> Result<M::Log, OutOfMemory>
+pub fn kept_of<M: Noting>(alloc: Global, parts: &LogParts) -> Result<M::Log, OutOfMemory>
     requires log { IsLog parts.now }
     requires mode { parts.now.mode ≡ M.mode }
     ensures { IfOk result (λ log. lists_of M.mode (M.logged log).kept ≡ lists_in parts.now) }

@@ -7,16 +7,18 @@ ghost use Rattle.spec_play.specs.Effects.{Effect, chunk_effect};
 ghost use Rattle.spec_play.specs.Progress.{Progress, position};
 ghost use Rattle.spec_play.specs.Verdicts.{ended, chunk_why, chunk_verdict, serial_why, given, serial_verdict};
 ghost use Rattle.spec_play.specs.Transfers.{is_for, dma_verdict};
-ghost use Rattle.spec_protocol.proofs.Moves.Threads.{AreNew};
+ghost use Rattle.spec_protocol.specs.Standing.{AreNew};
 ghost use Rattle.dl_kernel.specs.Calls.{spawned_list};
 ghost use Rattle.dl_replay.specs.Seen.{used_seen};
 ghost use Rattle.dl_replay.specs.Judging.{verdict_of, given_by, step_verdict, transfer_seen, transfer_verdict};
 
-use crate::counting::{counted, interrupted, takes_interrupt};
 use crate::lookup::Lookup;
 use crate::place::{LogPlace, Used};
 use dl_entry::{Actor, Input, OutOfMemory, Request, Why};
-use dl_kernel::{Injected, Step, StepResult, dma_words, inject, serve, wants_record};
+use dl_kernel::{
+    Injected, Step, StepResult, counted, dma_words, inject, interrupted, serve, takes_interrupt,
+    wants_record,
+};
 use dl_mem::Memory;
 use dl_mode::Mode;
 use dl_thread::Thread;

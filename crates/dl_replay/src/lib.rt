@@ -1,7 +1,6 @@
 //! Replaying: what a log, in any mode, makes of the requests of its sphere, one commit after another.
 #![tactic(auto)]
 
-mod asking;
 mod copying;
 mod counting;
 mod judging;
@@ -9,11 +8,15 @@ mod lookup;
 mod now;
 mod place;
 mod replayer;
-mod served;
 mod turning;
+mod verdict;
 
-pub use asking::{Asking, Verdict};
-pub use counting::{counted, interrupted, is_live, settle, thread_at};
+pub use dl_entry::{Actor, End, OutOfMemory, Request, Why};
+pub use dl_kernel::StepResult;
+pub use dl_mem::Memory;
+pub use dl_mode::{Mode, Noting};
+pub use dl_thread::Threads;
+pub use dl_wbuf::Buffer;
 pub use replayer::Replayer;
-pub use served::{Served, Words};
-pub use turning::live_of;
+pub use spec_log::Log;
+pub use verdict::Verdict;

@@ -13,7 +13,7 @@ ghost use Rattle.dl_replay.specs.Replaying.{commits_of};
 use crate::copying::{dmas_of, inputs_of, interrupts_of, kept_of};
 use dl_entry::{Actor, Input, OutOfMemory};
 use dl_input::{Dmas, Inputs, Interrupts};
-use dl_mode::Mode;
+use dl_mode::{Mode, Noting};
 use spec_log::{DmaRecord, Log, ModeName};
 use std::alloc::Global;
 use std::marker::Model;
@@ -44,7 +44,7 @@ impl<M: Mode> Model for Lookup<M> {
         × (l.count ≡ (M.logged l.log).kept.count) };
 }
 
-impl<M: Mode> Lookup<M> {
+impl<M: Noting> Lookup<M> {
     pub fn new(alloc: Global, log: &Log) -> Result<Lookup<M>, OutOfMemory>
         requires { log.now.mode ≡ M.mode }
         ensures { IfOk result (λ lookup. lookup ≡ log.now) }
@@ -58,7 +58,9 @@ impl<M: Mode> Lookup<M> {
             dmas: dmas_of(alloc, parts.dmas.as_slice())?,
         })
     }
+}
 
+impl<M: Mode> Lookup<M> {
     /// The number of its commits.
     pub fn count(&self) -> u32
         ensures value { result ≡ self.now.count }

@@ -10,27 +10,27 @@ ghost use Rattle.spec_play.specs.Turns.{Turn, TurnOfDma};
 ghost use Rattle.spec_play.specs.Verdicts.{chunk_verdict, serial_verdict};
 ghost use Rattle.spec_play.specs.Transfers.{dma_verdict};
 ghost use Rattle.spec_protocol.specs.Spheres.{Replay, actor_of, limit_in, limit_of, pieces_of};
-ghost use Rattle.spec_protocol.proofs.Moves.Threads.{AreNew};
+ghost use Rattle.spec_protocol.specs.Standing.{AreNew};
 ghost use Rattle.dl_kernel.specs.Calls.{spawned_list};
 ghost use Rattle.dl_replay.specs.Seen.{used_seen};
-ghost use Rattle.dl_replay.specs.Replaying.{Agrees, IsTurnOf, replay_start, commits_of, cursor_of, end_of};
+ghost use Rattle.dl_replay.specs.Replaying.{Agrees, replay_start, commits_of, cursor_of, end_of};
 ghost use Rattle.dl_replay.specs.Replays.{advanced};
 ghost use Rattle.dl_replay.specs.Judging.{transfer_verdict};
-ghost use Rattle.dl_replay.specs.Left.{SaysSize, nothing_served, served_left, served_stored, verdict_left, verdict_stored};
-ghost use Rattle.dl_replay.specs.Judged.{HasRun, IsAmong, IsInside, chunk_judged, diverged, dma_judged, is_serial_step, serial_judged};
+ghost use Rattle.dl_replay.specs.Left.{SaysSize, verdict_left, verdict_stored};
+ghost use Rattle.dl_replay.specs.Judged.{HasRun, IsInside, chunk_judged, diverged, dma_judged, serial_judged};
+ghost use Rattle.dl_replay.specs.Served.{Served, nothing_served, served_left, served_stored};
 
-use crate::asking::{Asking, Verdict};
-use crate::counting::{commits_of, settle, thread_at};
+use crate::counting::commits_of;
 use crate::judging::{Finish, judge_chunk, judge_dma, judge_step, transfer_of};
 use crate::lookup::Lookup;
 use crate::now::Now;
 use crate::place::{LogPlace, Used};
-use crate::served::Served;
 use crate::turning::now_at;
+use crate::verdict::Verdict;
 use dl_entry::{Actor, End, OutOfMemory, Request, Why};
-use dl_kernel::{Step, StepResult};
+use dl_kernel::{Step, StepResult, settle, thread_at};
 use dl_mem::Memory;
-use dl_mode::Mode;
+use dl_mode::{Mode, Noting};
 use dl_thread::{Thread, Threads};
 use dl_wbuf::Buffer;
 use spec_log::Log;
@@ -59,7 +59,7 @@ impl<M: Mode> Model for Replayer<M> {
     ghost invariant = { λ r. IsReplaying (replaying r.log r.place r.turn r.total r.commits) };
 }
 
-impl<M: Mode> Replayer<M> {
+impl<M: Noting> Replayer<M> {
     /// The replay of a log from its first commit on. Thread 0 stands alone, at whatever entry.
     pub fn new(alloc: Global, log: &Log) -> Result<Replayer<M>, OutOfMemory>
         requires mode { log.now.mode ≡ M.mode }
@@ -78,7 +78,9 @@ impl<M: Mode> Replayer<M> {
             commits: commits_of(&threads),
         })
     }
+}
 
+impl<M: Mode> Replayer<M> {
     /// Whose commit is next, unless the replay has ended.
     pub fn head(&self) -> Option<Actor>
         ensures { result ≡ actor_of self.now.now }
@@ -142,54 +144,6 @@ impl<M: Mode> Replayer<M> {
         self.total += n;
     }
 
-    /// Judges a granted request of the actor whose turn it is. Where a chunk asks, the threads hold the state behind it
-    /// already, which ends here as a commit does. A serial step and a DMA are done here, and add what they serve at the end
-    /// of its lists. Where the replay diverges, only its end is noted; after want of memory all is as before.
-    pub fn accept(
-        &mut self,
-        asking: &Asking,
-        threads: &mut Threads,
-        request: &mut Option<Request>,
-        memory: &Memory,
-        served: &mut Served,
-    ) -> Result<Verdict, OutOfMemory>
-        requires turn { IsTurnOf asking.now.actor self.old.now }
-        requires thread { IsAmong asking.now.actor threads.old }
-        requires commits { self.old.commits ≡ commits_of threads.old }
-        requires request { IsInside (length memory.now) request.old }
-        ensures chunk { (p : Progress) (k : ℕ) (before : List Parts) (r : Run) →
-            asking.now.actor ≡ Actor.Thread k → is_serial_step asking.now ≡ false → Agrees self.old p →
-            p.request ≡ request.old → HasRun before threads.old k asking.now.total r →
-            let v = chunk_verdict self.old.log p self.old.used k r in
-            IfOk result (λ verdict. record { verdict = verdict; replay = self.new; threads = threads.new; request = request.new; served = served.new }
-            ≡ chunk_judged self.old p k before threads.old request.old served.old v) }
-        ensures serial { (p : Progress) (k : ℕ) (t : Parts) →
-            asking.now.actor ≡ Actor.Thread k → is_serial_step asking.now ≡ true → Agrees self.old p →
-            p.request ≡ request.old → slice_get threads.old k ≡ Some t →
-            let v = serial_verdict self.old.log p self.old.used k threads.old t memory.now in
-            IfOk result (λ verdict. record { verdict = verdict; replay = self.new; threads = threads.new; request = request.new; served = served.new }
-            ≡ serial_judged self.old p k threads.old request.old served.old v) }
-        ensures dma { (p : Progress) →
-            asking.now.actor ≡ Actor.Dma → Agrees self.old p → p.request ≡ request.old →
-            let v = dma_verdict self.old.log p self.old.used in
-            IfOk result (λ verdict. record { verdict = verdict; replay = self.new; threads = threads.new; request = request.new; served = served.new }
-            ≡ dma_judged self.old p threads.old request.old served.old v) }
-        ensures threads_left { (why : Why) → IfOk result (λ v. v ≡ Verdict.Diverged why → threads.new ≡ threads.old) }
-        ensures plenty { (k : ℕ) → asking.now.actor ≡ Actor.Thread k → is_serial_step asking.now ≡ false → IsOk result }
-        ensures replay_still { OnErr result (self.new ≡ self.old) }
-        ensures threads_still { OnErr result (threads.new ≡ threads.old) }
-        ensures request_still { OnErr result (request.new ≡ request.old) }
-        ensures served_still { OnErr result (served.new ≡ served.old) }
-    {
-        match asking.actor {
-            Actor::Dma => self.transfer(threads, request, memory, served),
-            Actor::Thread(thread) if asking.serial && asking.total == 0 => {
-                self.serve(thread, threads, request, memory, served)
-            }
-            Actor::Thread(thread) => Ok(self.end_chunk(thread, asking.total, threads)),
-        }
-    }
-
     /// Judges a chunk of so many instructions of the thread whose turn it is. The threads hold the state behind it already,
     /// which ends here as a commit does. Where the replay diverges, only its end is noted.
     pub fn end_chunk(&mut self, number: u8, total: u32, threads: &mut Threads) -> Verdict
@@ -206,46 +160,6 @@ impl<M: Mode> Replayer<M> {
         match judge_chunk(&self.log, self.place.used, number, &thread, total) {
             Ok(finish) => self.commit(number, &finish, None, threads),
             Err(why) => self.diverge(why),
-        }
-    }
-
-    // Does a serial step.
-    fn serve(
-        &mut self,
-        number: u8,
-        threads: &mut Threads,
-        request: &mut Option<Request>,
-        memory: &Memory,
-        served: &mut Served,
-    ) -> Result<Verdict, OutOfMemory>
-        requires turn { self.old.now ≡ Turn number }
-        requires thread { number < length threads.old }
-        requires commits { self.old.commits ≡ commits_of threads.old }
-        ensures serial { (p : Progress) (t : Parts) → Agrees self.old p →
-            p.request ≡ request.old → slice_get threads.old number ≡ Some t →
-            let v = serial_verdict self.old.log p self.old.used number threads.old t memory.now in
-            IfOk result (λ verdict. record { verdict = verdict; replay = self.new; threads = threads.new; request = request.new; served = served.new }
-            ≡ serial_judged self.old p number threads.old request.old served.old v) }
-        ensures threads_left { (why : Why) → IfOk result (λ v. v ≡ Verdict.Diverged why → threads.new ≡ threads.old) }
-        ensures replay_still { OnErr result (self.new ≡ self.old) }
-        ensures threads_still { OnErr result (threads.new ≡ threads.old) }
-        ensures request_still { OnErr result (request.new ≡ request.old) }
-        ensures served_still { OnErr result (served.new ≡ served.old) }
-    {
-        let step = Step {
-            number,
-            thread: thread_at(threads, number),
-            threads,
-            request: *request,
-            memory,
-        };
-        match judge_step(self.alloc, &self.log, self.place.used, &step)? {
-            Ok(done) => {
-                served.add(self.alloc, &done.left)?;
-                *request = done.left.request;
-                Ok(self.commit(number, &done.finish, done.left.spawned, threads))
-            }
-            Err(why) => Ok(self.diverge(why)),
         }
     }
 
@@ -360,42 +274,6 @@ impl<M: Mode> Replayer<M> {
         ensures { result ≡ self.now.total }
     {
         self.total
-    }
-
-    // Does a DMA.
-    fn transfer(
-        &mut self,
-        threads: &Threads,
-        request: &mut Option<Request>,
-        memory: &Memory,
-        served: &mut Served,
-    ) -> Result<Verdict, OutOfMemory>
-        requires turn { self.old.now ≡ TurnOfDma }
-        requires commits { self.old.commits ≡ commits_of threads.now }
-        requires request { IsInside (length memory.now) request.old }
-        ensures dma { (p : Progress) → Agrees self.old p → p.request ≡ request.old →
-            let v = dma_verdict self.old.log p self.old.used in
-            IfOk result (λ verdict. record { verdict = verdict; replay = self.new; threads = threads.now; request = request.new; served = served.new }
-            ≡ dma_judged self.old p threads.now request.old served.old v) }
-        ensures replay_still { OnErr result (self.new ≡ self.old) }
-        ensures request_still { OnErr result (request.new ≡ request.old) }
-        ensures served_still { OnErr result (served.new ≡ served.old) }
-    {
-        // a memory ends below 2^32
-        let _ = memory.size();
-        let place = self.place;
-        match judge_dma(self.alloc, &self.log, &place, *request)? {
-            Ok(words) => {
-                served.add_words(&words)?;
-                *request = None;
-                let used = Used {
-                    dmas: place.used.dmas + 1,
-                    ..place.used
-                };
-                Ok(self.advance(used, place.last, threads))
-            }
-            Err(why) => Ok(self.diverge(why)),
-        }
     }
 
     // A thread's commit went: here is its end, and the thread that it spawned.

@@ -1,18 +1,18 @@
 //! Whose turn it is, or how the replay ends: looked at before the first commit and after each whole one.
-ghost use Rattle.std.specs.Prelude.{◌≡◌, ◌<◌, ◌≤◌, length, map, slice_get, take};
+ghost use Rattle.std.specs.Prelude.{◌≡◌, map};
 ghost use Rattle.spec_log.specs.Head.{head};
 ghost use Rattle.spec_log.specs.Log.{IsLog};
 ghost use Rattle.spec_kernel.specs.Interrupts.{is_live};
 ghost use Rattle.spec_play.specs.Turns.{turn_of, at_end, has_left_over};
 ghost use Rattle.dl_replay.specs.Seen.{now_seen, used_seen};
 ghost use Rattle.dl_replay.specs.Replays.{now_for};
-ghost use Rattle.dl_replay.specs.Replaying.{lives};
 
-use crate::counting::{commits_of, is_live};
+use crate::counting::commits_of;
 use crate::lookup::Lookup;
 use crate::now::Now;
 use crate::place::{LogPlace, Used};
 use dl_entry::{Actor, End, Why};
+use dl_kernel::{live_of, lives};
 use dl_mode::Mode;
 use dl_thread::Threads;
 
@@ -35,17 +35,6 @@ fn next_actor<M: Mode>(log: &Lookup<M>, place: &LogPlace, threads: &Threads) -> 
     let live = live_of(threads);
     let live = &live[..usize::from(threads.len())];
     log.head(place.done, place.last, live)
-}
-
-/// Which of the threads live.
-pub fn live_of(threads: &Threads) -> [bool; 15]
-    ensures { take (length threads.now) result ≡ map is_live threads.now }
-{
-    let mut live = [false; 15];
-    for number in 0..threads.len() {
-        live[usize::from(number)] = lives(threads, number);
-    }
-    live
 }
 
 // A thread whose turn it is must live.
@@ -80,14 +69,4 @@ fn has_left_over<M: Mode>(log: &Lookup<M>, used: Used, threads: &Threads) -> boo
     log.has_interrupt(used.interrupts)
         || log.input(used.inputs).is_some()
         || log.dma(used.dmas).is_some()
-}
-
-// Whether there is a thread of that number, and it lives.
-fn lives(threads: &Threads, number: u8) -> bool
-    ensures { result ≡ lives (slice_get threads.now number) }
-{
-    match threads.get(number) {
-        Some(thread) => is_live(thread),
-        None => false,
-    }
 }

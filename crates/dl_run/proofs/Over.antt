@@ -18,7 +18,7 @@ use Rattle.spec_protocol.specs.declared.event.Event.{Event}
 use Rattle.spec_protocol.specs.Spheres.{Role, Plain, Record, Replay, Cursor, is_over}
 use Rattle.spec_protocol.specs.Placing.{replays}
 use Rattle.spec_protocol.specs.World.{World, sphere_at}
-use Rattle.spec_protocol.specs.Machine.{RoleSetup, IsPlain, IsRecorded, IsReplayed, SphereSetup, Setup, world_of, world_after}
+use Rattle.spec_protocol.specs.Machine.{ReplaySetup, RecordSetup, RoleSetup, IsPlain, IsRecorded, IsReplayed, SphereSetup, Setup, world_of, world_after}
 use Rattle.spec_protocol.specs.Logged.{sphere_in}
 use Rattle.spec_protocol.specs.Serial.{SerialState}
 use Rattle.spec_protocol.specs.Promises.{IsSetup, after}
@@ -101,7 +101,7 @@ end_now b (Ended x) how e = cc
 -- where a sphere has an end, it is what its role ends with
 pub end-some : (role : Role) (n : ℕ) (how : End) → end_in role ≡ Some how → how ≡ end_as role n
 end-some Plain n how e = absurd (none-some how e)
-end-some (Record log) n how e = absurd (none-some how e)
+end-some (Record recording) n how e = absurd (none-some how e)
 end-some (Replay b) n how e = end_now b b.now how e
 
 none_now : (b : Cursor) (now : Now) → is_over now ≡ true → end_in (Replay (record b { now = now })) ≡ None → ⊥
@@ -112,35 +112,35 @@ none_now b (Ended x) end e = none-some x (sym e)
 -- a sphere that is at its end and has none isn't replayed
 pub end-none : (role : Role) → IsAtEnd role → end_in role ≡ None → replays role ≡ false
 end-none Plain end e = refl
-end-none (Record log) end e = refl
+end-none (Record recording) end e = refl
 end-none (Replay b) end e = absurd (none_now b b.now end e)
 
 -- a sphere that isn't replayed ends as complete, with its commits
 pub live-end : (role : Role) (n : ℕ) → replays role ≡ false → end_as role n ≡ End.Complete n
 live-end Plain n e = refl
-live-end (Record log) n e = refl
+live-end (Record recording) n e = refl
 live-end (Replay b) n e = absurd (true≢false e)
 
 -- ---- logs
 
 -- a sphere that was set up to be recorded holds the log that the run tells
-pub recorded-role : (es : List Event) (r : Ran) (i : ℕ) (mode : ModeName) → IsOver es r → i < length r.setup.spheres → (image_at r.setup i).role ≡ IsRecorded mode → (sphere_at r.world i).role ≡ Record (log_of_points r.setup es i mode)
-recorded-role es r i mode over inside is = has_role es r i (IsRecorded mode) over inside is
+pub recorded-role : (es : List Event) (r : Ran) (i : ℕ) (asked : RecordSetup) → IsOver es r → i < length r.setup.spheres → (image_at r.setup i).role ≡ IsRecorded asked → (sphere_at r.world i).role ≡ Record (record { log = log_of_points r.setup es i asked.mode })
+recorded-role es r i asked over inside is = has_role es r i (IsRecorded asked) over inside is
 
 -- the log that the machine has of a recorded sphere is the one that the run tells
-pub log-of_points : (es : List Event) (r : Ran) (i : ℕ) (mode : ModeName) (log : LogParts) → IsOver es r → i < length r.setup.spheres → (image_at r.setup i).role ≡ IsRecorded mode → log_in (sphere_at r.world i).role ≡ Some log → log ≡ log_of_points r.setup es i mode
-log-of_points es r i mode log over inside is there =
-    let role = recorded-role es r i mode over inside is in
-    let e : Some log ≡ Some (log_of_points r.setup es i mode) = sym there ∙ ap log_in role in
+pub log-of_points : (es : List Event) (r : Ran) (i : ℕ) (asked : RecordSetup) (log : LogParts) → IsOver es r → i < length r.setup.spheres → (image_at r.setup i).role ≡ IsRecorded asked → log_in (sphere_at r.world i).role ≡ Some log → log ≡ log_of_points r.setup es i asked.mode
+log-of_points es r i asked log over inside is there =
+    let role = recorded-role es r i asked over inside is in
+    let e : Some log ≡ Some (log_of_points r.setup es i asked.mode) = sym there ∙ ap log_in role in
     cc
 
 -- the bytes of the log that the run tells are the text of a recorded sphere's log
-pub log-is : (s : Setup) (es : List Event) (i : ℕ) (mode : ModeName) (log : LogParts) → (image_at s i).role ≡ IsRecorded mode → log ≡ log_of_points s es i mode → log_bytes log ≡ log_text s es i
+pub log-is : (s : Setup) (es : List Event) (i : ℕ) (asked : RecordSetup) (log : LogParts) → (image_at s i).role ≡ IsRecorded asked → log ≡ log_of_points s es i asked.mode → log_bytes log ≡ log_text s es i
 unfolding log_text
-log-is s es i mode log is same = ap log_bytes same ∙ ap (log_as s es i) (sym is)
+log-is s es i asked log is same = ap log_bytes same ∙ ap (log_as s es i) (sym is)
 
 -- a sphere that isn't recorded has none
-pub no-log : (s : Setup) (es : List Event) (i : ℕ) → ((image_at s i).role ≡ IsPlain) ⊎ ((log : LogParts) × ((image_at s i).role ≡ IsReplayed log)) → [] ≡ log_text s es i
+pub no-log : (s : Setup) (es : List Event) (i : ℕ) → ((image_at s i).role ≡ IsPlain) ⊎ ((asked : ReplaySetup) × ((image_at s i).role ≡ IsReplayed asked)) → [] ≡ log_text s es i
 unfolding log_text
 no-log s es i (inl is) = ap (log_as s es i) (sym is)
 no-log s es i (inr is) = ap (log_as s es i) (sym is.1)
@@ -165,8 +165,8 @@ console-is es r over =
 -- a sphere that wasn't set up to be replayed isn't
 pub not-replayed : (es : List Event) (r : Ran) (i : ℕ) (role : RoleSetup) → IsOver es r → i < length r.setup.spheres → (image_at r.setup i).role ≡ role → is_replayed role ≡ false → replays (sphere_at r.world i).role ≡ false
 not-replayed es r i IsPlain over inside is live = has_role es r i IsPlain over inside is
-not-replayed es r i (IsRecorded mode) over inside is live = ap replays (has_role es r i (IsRecorded mode) over inside is)
-not-replayed es r i (IsReplayed log) over inside is live = absurd (true≢false live)
+not-replayed es r i (IsRecorded asked) over inside is live = ap replays (has_role es r i (IsRecorded asked) over inside is)
+not-replayed es r i (IsReplayed asked) over inside is live = absurd (true≢false live)
 
 -- the commits of a plain or recorded sphere are the executed ones
 pub commits-are : (es : List Event) (r : Ran) (i : ℕ) → IsOver es r → i < length r.setup.spheres → replays (sphere_at r.world i).role ≡ false → position (sphere_at r.world i).progress ≡ position (sphere_in (executed r.setup es) i).progress
@@ -175,11 +175,11 @@ commits-are es r i over inside live =
     ap (λ (w : World). position (sphere_at w i).progress) over.world ∙ ap position ((described es r i over inside).executed l)
 
 -- a replayed one ends as its log's play
-pub ends-as-played : (es : List Event) (r : Ran) (i : ℕ) (log : LogParts) (n : ℕ) → IsOver es r → i < length r.setup.spheres → (image_at r.setup i).role ≡ IsReplayed log → end_as (sphere_at r.world i).role n ≡ end_of (played log (image_at r.setup i)).now
-ends-as-played es r i log n over inside is =
-    let h = has_role es r i (IsReplayed log) over inside is in
+pub ends-as-played : (es : List Event) (r : Ran) (i : ℕ) (asked : ReplaySetup) (n : ℕ) → IsOver es r → i < length r.setup.spheres → (image_at r.setup i).role ≡ IsReplayed asked → end_as (sphere_at r.world i).role n ≡ end_of (played asked.log (image_at r.setup i)).now
+ends-as-played es r i asked n over inside is =
+    let h = has_role es r i (IsReplayed asked) over inside is in
     let there : (sphere_at (finished r.setup es) i).role ≡ Replay h.0 = subst (λ (w : World). (sphere_at w i).role ≡ Replay h.0) over.world h.1 in
-    ap (λ (x : Role). end_as x n) h.1 ∙ ap end_of ((described es r i over inside).played log h.0 is there)
+    ap (λ (x : Role). end_as x n) h.1 ∙ ap end_of ((described es r i over inside).played asked h.0 is there)
 
 -- a plain sphere's line, of its commits in the machine, is that of the texts
 pub line-plain : (es : List Event) (r : Ran) (i : ℕ) → IsOver es r → i < length r.setup.spheres → (image_at r.setup i).role ≡ IsPlain → SphereLine.Plain (position (sphere_at r.world i).progress) ≡ line_as (image_at r.setup i) (sphere_in (executed r.setup es) i) (image_at r.setup i).role
@@ -188,21 +188,21 @@ line-plain es r i over inside is =
     ∙ ap (line_as (image_at r.setup i) (sphere_in (executed r.setup es) i)) (sym is)
 
 -- a recorded sphere's line, of its commits in the machine, is that of the texts
-pub line-recorded : (es : List Event) (r : Ran) (i : ℕ) (mode : ModeName) → IsOver es r → i < length r.setup.spheres → (image_at r.setup i).role ≡ IsRecorded mode → SphereLine.Record (position (sphere_at r.world i).progress) ≡ line_as (image_at r.setup i) (sphere_in (executed r.setup es) i) (image_at r.setup i).role
-line-recorded es r i mode over inside is =
-    ap SphereLine.Record (commits-are es r i over inside (not-replayed es r i (IsRecorded mode) over inside is refl))
+pub line-recorded : (es : List Event) (r : Ran) (i : ℕ) (asked : RecordSetup) → IsOver es r → i < length r.setup.spheres → (image_at r.setup i).role ≡ IsRecorded asked → SphereLine.Record (position (sphere_at r.world i).progress) ≡ line_as (image_at r.setup i) (sphere_in (executed r.setup es) i) (image_at r.setup i).role
+line-recorded es r i asked over inside is =
+    ap SphereLine.Record (commits-are es r i over inside (not-replayed es r i (IsRecorded asked) over inside is refl))
     ∙ ap (line_as (image_at r.setup i) (sphere_in (executed r.setup es) i)) (sym is)
 
 -- a replayed sphere's line, of its end in the machine, is that of the texts
-pub line-replayed : (es : List Event) (r : Ran) (i : ℕ) (log : LogParts) (how : End) → IsOver es r → i < length r.setup.spheres → (image_at r.setup i).role ≡ IsReplayed log → how ≡ end_as (sphere_at r.world i).role (position (sphere_at r.world i).progress) → line_of_end how ≡ line_as (image_at r.setup i) (sphere_in (executed r.setup es) i) (image_at r.setup i).role
-line-replayed es r i log how over inside is ended =
-    ap line_of_end (ended ∙ ends-as-played es r i log (position (sphere_at r.world i).progress) over inside is)
+pub line-replayed : (es : List Event) (r : Ran) (i : ℕ) (asked : ReplaySetup) (how : End) → IsOver es r → i < length r.setup.spheres → (image_at r.setup i).role ≡ IsReplayed asked → how ≡ end_as (sphere_at r.world i).role (position (sphere_at r.world i).progress) → line_of_end how ≡ line_as (image_at r.setup i) (sphere_in (executed r.setup es) i) (image_at r.setup i).role
+line-replayed es r i asked how over inside is ended =
+    ap line_of_end (ended ∙ ends-as-played es r i asked (position (sphere_at r.world i).progress) over inside is)
     ∙ ap (line_as (image_at r.setup i) (sphere_in (executed r.setup es) i)) (sym is)
 
 -- a replayed sphere has diverged in the machine where it does in the texts
-pub diverges-replayed : (es : List Event) (r : Ran) (i : ℕ) (log : LogParts) (how : End) → IsOver es r → i < length r.setup.spheres → (image_at r.setup i).role ≡ IsReplayed log → how ≡ end_as (sphere_at r.world i).role (position (sphere_at r.world i).progress) → has_diverged how ≡ diverges_as (image_at r.setup i) (image_at r.setup i).role
-diverges-replayed es r i log how over inside is ended =
-    ap has_diverged (ended ∙ ends-as-played es r i log (position (sphere_at r.world i).progress) over inside is)
+pub diverges-replayed : (es : List Event) (r : Ran) (i : ℕ) (asked : ReplaySetup) (how : End) → IsOver es r → i < length r.setup.spheres → (image_at r.setup i).role ≡ IsReplayed asked → how ≡ end_as (sphere_at r.world i).role (position (sphere_at r.world i).progress) → has_diverged how ≡ diverges_as (image_at r.setup i) (image_at r.setup i).role
+diverges-replayed es r i asked how over inside is ended =
+    ap has_diverged (ended ∙ ends-as-played es r i asked (position (sphere_at r.world i).progress) over inside is)
     ∙ ap (diverges_as (image_at r.setup i)) (sym is)
 
 -- ---- rows of spheres

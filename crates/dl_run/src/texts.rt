@@ -1,8 +1,7 @@
 //! The texts of a run that is over.
 ghost use Rattle.std.specs.Prelude.{◌≡◌, ◌<◌, List, IfOk, length};
-ghost use Rattle.spec_log.specs.declared.ModeName.{ModeName};
 ghost use Rattle.spec_protocol.specs.declared.event.Event.{Event};
-ghost use Rattle.spec_protocol.specs.Machine.{IsRecorded};
+ghost use Rattle.spec_protocol.specs.Machine.{RecordSetup, IsRecorded};
 ghost use Rattle.spec_protocol.specs.Sound.{image_at};
 ghost use Rattle.spec_run.specs.Texts.{account_text as account_of, console_text, log_of_points, log_text, report_text as report_of, summary_text as summary_of};
 ghost use Rattle.dl_run.specs.Logs.{log_bytes_if};
@@ -31,9 +30,9 @@ impl Run {
     /// The log of a recorded sphere.
     pub fn recording(&self, sphere: usize) -> Result<Log, OutOfMemory>
         requires inside { sphere < length self.now.setup.spheres }
-        requires recorded { (mode : ModeName) × ((image_at self.now.setup sphere).role ≡ IsRecorded mode) }
-        ensures { IfOk result (λ log. (es : List Event) (mode : ModeName) → IsOver es self.now
-            → (image_at self.now.setup sphere).role ≡ IsRecorded mode → log ≡ log_of_points self.now.setup es sphere mode) }
+        requires recorded { (asked : RecordSetup) × ((image_at self.now.setup sphere).role ≡ IsRecorded asked) }
+        ensures { IfOk result (λ log. (es : List Event) (asked : RecordSetup) → IsOver es self.now
+            → (image_at self.now.setup sphere).role ≡ IsRecorded asked → log ≡ log_of_points self.now.setup es sphere asked.mode) }
     {
         self.sphere(sphere).log()
     }

@@ -12,12 +12,11 @@ use Rattle.spec_play.specs.Transfers.{DmaVerdict, DmaGoes, DmaFails}
 use Rattle.spec_play.specs.Verdicts.{LogVerdict, Goes, Fails}
 use Rattle.dl_kernel.specs.declared.serving.StepResult.{StepResult}
 use Rattle.dl_wbuf.specs.Buffers.{Words}
-use Rattle.dl_replay.specs.declared.asking.Verdict.{Verdict}
+use Rattle.dl_replay.specs.Served.{Served, nothing_served, served_left, served_stored}
+use Rattle.dl_replay.specs.declared.verdict.Verdict.{Verdict}
 use Rattle.dl_replay.specs.Judged as replay
 use Rattle.dl_replay.specs.Judged.{chunk_judged, serial_judged, dma_judged, committed, diverged, transferred}
-use Rattle.dl_replay.specs.Left.{nothing_served, served_left, served_stored}
 use Rattle.dl_replay.specs.Replaying.{Replaying}
-use Rattle.dl_replay.specs.declared.served.Served.{Served}
 
 went : Verdict → Bool
 went Verdict.Went = true

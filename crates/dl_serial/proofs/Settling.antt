@@ -55,7 +55,7 @@ gone-settled r s k v new n g kept =
     (λ i. record {
       memory = kept.memory i;
       threads = g.threads i;
-      progress = record { commits = kept.commits i; last = (g.replay i).last; request = g.request i };
+      progress = record { first = 0; commits = kept.commits i; last = (g.replay i).last; request = g.request i };
       used = (g.replay i).used;
       now = (g.replay i).now;
     })
@@ -69,7 +69,7 @@ pub gone-playing : (r : Replaying) (s : Sphere) (k : ℕ) (v : LogVerdict) (new 
 gone-playing r s k v new n g kept sound h =
     let count : length n.commits.items ≡ suc (length s.commits.items) = ap length kept.commits ∙ pushed_length s.commits.items g.effect.commit (length s.commits.items) refl in
     let done : new.done ≡ r.done + 1 = ap (λ (x : Replaying). x.done) g.replay in
-    let was : length s.commits.items ≡ r.done = h.done in
+    let was : 0 + length s.commits.items ≡ r.done = h.done in
     let size : length s.store.memory ≡ length n.store.memory = sym (ap length kept.memory ∙ length_lays s.store.memory g.effect.words) in
     record {
       is_log = subst IsLog (sym (ap (λ (x : Replaying). x.log) g.replay)) h.is_log;
@@ -96,7 +96,7 @@ left-played r s why new n l h =
     (λ i. record {
       memory = l.memory i;
       threads = l.threads i;
-      progress = record { commits = l.commits i; last = (l.replay i).last; request = l.request i };
+      progress = record { first = 0; commits = l.commits i; last = (l.replay i).last; request = l.request i };
       used = (l.replay i).used;
       now = (l.replay i).now;
     })
@@ -110,7 +110,7 @@ pub left-playing : (r : Replaying) (s : Sphere) (why : Why) (new : Replaying) (n
 left-playing r s why new n l h =
     record {
       is_log = subst IsLog (sym (ap (λ (x : Replaying). x.log) l.replay)) h.is_log;
-      done = ap length l.commits ∙ h.done ∙ sym (ap (λ (x : Replaying). x.done) l.replay);
+      done = ap (λ (cs : List Commit). 0 + length cs) l.commits ∙ h.done ∙ sym (ap (λ (x : Replaying). x.done) l.replay);
       commits = ap (λ (x : Replaying). x.commits) l.replay ∙ h.commits ∙ sym (ap commits_of l.threads);
       whole = ap (λ (x : Replaying). x.total) l.replay ∙ h.whole;
       turn = λ j e. absurd (never-turn (sym (ap (λ (x : Replaying). x.now) l.replay) ∙ e));
@@ -131,7 +131,7 @@ dma-settled r s v new n ws g kept =
     (λ i. record {
       memory = kept.memory i;
       threads = kept.threads i;
-      progress = record { commits = kept.commits i; last = (g.replay i).last; request = g.request i };
+      progress = record { first = 0; commits = kept.commits i; last = (g.replay i).last; request = g.request i };
       used = (g.replay i).used;
       now = (g.replay i).now;
     })
@@ -142,7 +142,7 @@ pub dma-playing : (r : Replaying) (s : Sphere) (v : DmaVerdict) (new : Replaying
 dma-playing r s v new n ws g kept h =
     let count : length n.commits.items ≡ suc (length s.commits.items) = ap length kept.commits ∙ pushed_length s.commits.items dma_commit (length s.commits.items) refl in
     let done : new.done ≡ r.done + 1 = ap (λ (x : Replaying). x.done) g.replay in
-    let was : length s.commits.items ≡ r.done = h.done in
+    let was : 0 + length s.commits.items ≡ r.done = h.done in
     record {
       is_log = subst IsLog (sym (ap (λ (x : Replaying). x.log) g.replay)) h.is_log;
       done = omega (arith, count, done, was);
@@ -164,7 +164,7 @@ reserved-played r s n store threads request commits =
     λ i. record {
       memory = (store i).memory;
       threads = threads i;
-      progress = record { commits = commits i; last = r.last; request = request i };
+      progress = record { first = 0; commits = commits i; last = r.last; request = request i };
       used = r.used;
       now = r.now;
     }
@@ -174,7 +174,7 @@ pub reserved-playing : (r : Replaying) (s n : Sphere) → n.store ≡ s.store �
 reserved-playing r s n store threads request commits h =
     record {
       is_log = h.is_log;
-      done = ap length commits ∙ h.done;
+      done = ap (λ (cs : List Commit). 0 + length cs) commits ∙ h.done;
       commits = h.commits ∙ sym (ap commits_of threads);
       whole = h.whole;
       turn = λ j e. subst (λ (ts : List Parts). j < length ts) (sym threads) (h.turn j e);

@@ -2,13 +2,13 @@
 use Rattle.std.specs.Prelude.{◌≡◌, ℕ, ◌<◌, length}
 use Rattle.spec_log.specs.declared.LogParts.{LogParts}
 use Rattle.spec_log.specs.Log.{IsLog}
-use Rattle.spec_play.specs.Progress.{Progress}
+use Rattle.spec_play.specs.Progress.{Progress, position}
 use Rattle.spec_play.specs.Turns.{Turn}
 use Rattle.spec_play.specs.Plays.{Played}
 use Rattle.spec_protocol.specs.Sound.{IsSoundIf}
-use Rattle.dl_replay.specs.declared.asking.Verdict.{Verdict}
+use Rattle.dl_replay.specs.Served.{nothing_served}
+use Rattle.dl_replay.specs.declared.verdict.Verdict.{Verdict}
 use Rattle.dl_replay.specs.Judged.{Judged}
-use Rattle.dl_replay.specs.Left.{nothing_served}
 use Rattle.dl_replay.specs.Replaying.{Replaying, commits_of}
 use Rattle.dl_serial.specs.declared.sphere.Sphere.{Sphere}
 
@@ -18,7 +18,7 @@ pub record Playing : Type 0 where
   pub played : Played
 
 abbrev pub progress_in : Replaying → Sphere → Progress
-progress_in r s = record { commits = s.commits.items; last = r.last; request = s.request }
+progress_in r s = record { first = 0; commits = s.commits.items; last = r.last; request = s.request }
 
 abbrev pub played_in : Replaying → Sphere → Played
 played_in r s =
@@ -34,7 +34,7 @@ played_in r s =
 -- inside the memory
 pub record IsPlaying (r : Replaying) (s : Sphere) : Type 0 where
   pub is_log : IsLog r.log
-  pub done : length s.commits.items ≡ r.done
+  pub done : position (progress_in r s) ≡ r.done
   pub commits : r.commits ≡ commits_of s.threads
   pub whole : r.total ≡ 0
   pub turn : (k : ℕ) → r.now ≡ Turn k → k < length s.threads

@@ -6,8 +6,8 @@ ghost use Rattle.spec_play.specs.Turns.{Turn, TurnOfDma};
 ghost use Rattle.spec_play.specs.Verdicts.{chunk_verdict, serial_verdict};
 ghost use Rattle.spec_play.specs.Transfers.{dma_verdict};
 ghost use Rattle.spec_play.specs.Plays.{dma_settled, settled};
+ghost use Rattle.dl_replay.specs.Served.{nothing_served};
 ghost use Rattle.dl_replay.specs.Judged.{chunk_judged};
-ghost use Rattle.dl_replay.specs.Left.{nothing_served};
 ghost use Rattle.dl_serial.specs.Chunks.{chunk_of};
 ghost use Rattle.dl_serial.specs.Playing.{IsPlaying, StandsAt, judged_as, played_in, progress_in};
 
@@ -15,8 +15,9 @@ use crate::chunk::Chunk;
 use crate::commits::{chunk_commit, dma_commit, serial_commit};
 use crate::sphere::Sphere;
 use dl_entry::OutOfMemory;
+use dl_kernel::thread_at;
 use dl_mode::Mode;
-use dl_replay::{Replayer, Verdict, thread_at};
+use dl_replay::{Replayer, Verdict};
 use std::alloc::Global;
 
 /// Commits a chunk that a thread has run. Its words lie over the memory.

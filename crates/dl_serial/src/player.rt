@@ -13,8 +13,9 @@ use crate::sphere::Sphere;
 use crate::walked::Walked;
 use dl_elf::Image;
 use dl_entry::{Actor, OutOfMemory, Sequence};
-use dl_mode::Mode;
-use dl_replay::{Replayer, thread_at};
+use dl_kernel::thread_at;
+use dl_mode::{Mode, Noting};
+use dl_replay::Replayer;
 use dl_thread::Threads;
 use spec_log::Log;
 use spec_play::WalkEnd;
@@ -41,7 +42,7 @@ impl<M: Mode> Model for Player<M> {
     ghost invariant = { λ p. IsPlaying p.replayer p.sphere × (p.count ≡ p.replayer.log.count) };
 }
 
-impl<M: Mode> Player<M> {
+impl<M: Noting> Player<M> {
     /// The player of a log on an image, before the first commit.
     pub fn new(alloc: Global, image: &Image, log: &Log) -> Result<Player<M>, OutOfMemory>
         requires { log.now.mode ≡ M.mode }
@@ -61,7 +62,9 @@ impl<M: Mode> Player<M> {
             sphere,
         })
     }
+}
 
+impl<M: Mode> Player<M> {
     /// Plays up to so many whole commits more, and no further than the end. After want of memory some may be played.
     pub fn play_up_to(&mut self, to: u32) -> Result<(), OutOfMemory>
         ensures { let p = self.old in OnOk result (self.new ≡ record p { played = plays p.log p.played to }) }

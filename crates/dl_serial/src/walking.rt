@@ -7,7 +7,7 @@ use crate::player::Player;
 use crate::walked::Walked;
 use dl_elf::Image;
 use dl_entry::OutOfMemory;
-use dl_mode::{Mode, OrderAndSize, OrderOnly, PicoLog};
+use dl_mode::{Noting, OrderAndSize, OrderOnly, PicoLog};
 use spec_log::{Log, ModeName};
 use std::alloc::Global;
 
@@ -24,7 +24,12 @@ pub fn walk(alloc: Global, image: &Image, log: &Log, to: u32) -> Result<Walked, 
     }
 }
 
-fn walk_in<M: Mode>(alloc: Global, image: &Image, log: &Log, to: u32) -> Result<Walked, OutOfMemory>
+fn walk_in<M: Noting>(
+    alloc: Global,
+    image: &Image,
+    log: &Log,
+    to: u32,
+) -> Result<Walked, OutOfMemory>
     requires { log.now.mode ≡ M.mode }
     ensures { let i = image.now in
         IfOk result (λ w. walked_in w ≡ walked log.now i.bytes i.entry to) }

@@ -13,7 +13,7 @@ sphere_with m threads commits last request role =
     record {
       memory = m;
       threads = threads;
-      progress = record { commits = commits; last = last; request = request };
+      progress = record { first = 0; commits = commits; last = last; request = request };
       role = role;
     }
 

@@ -38,19 +38,19 @@ pub record IsPart (b : Cursor) (k : ℕ) (how : How) (ch : Chunk) : Type 0 where
 -- it is thread k's turn, where the sphere is replayed
 abbrev pub IsTurnOf : (thread : ℕ) → Role → Type 0
 IsTurnOf k Plain = Unit {0}
-IsTurnOf k (Record log) = Unit {0}
+IsTurnOf k (Record recording) = Unit {0}
 IsTurnOf k (Replay b) = b.now ≡ Turn k
 
 -- it is the turn of a DMA, where the sphere is replayed
 abbrev pub IsTurnOfDma : Role → Type 0
 IsTurnOfDma Plain = Unit {0}
-IsTurnOfDma (Record log) = Unit {0}
+IsTurnOfDma (Record recording) = Unit {0}
 IsTurnOfDma (Replay b) = b.now ≡ TurnOfDma
 
 -- in a replay the chunk is a part of the commit whose turn it is
 abbrev pub IsPartIn : Role → (thread : ℕ) → How → Chunk → Type 0
 IsPartIn Plain k how ch = Unit {0}
-IsPartIn (Record log) k how ch = Unit {0}
+IsPartIn (Record recording) k how ch = Unit {0}
 IsPartIn (Replay b) k how ch = IsPart b k how ch
 
 -- a chunk of thread k, closed so, that can be committed: it began from the thread's own number of commits; in a sphere that

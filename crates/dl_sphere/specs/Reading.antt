@@ -13,19 +13,19 @@ use Rattle.dl_sphere.specs.declared.moved.DmaSize.{DmaSize}
 -- how a replay ended, if it did
 abbrev pub end_in : Role → Option End
 end_in Plain = None
-end_in (Record log) = None
+end_in (Record recording) = None
 end_in (Replay b) = end_of b.now
 
 -- the instructions of the pieces of a replay's present commit
 abbrev pub pieces_in : Role → ℕ
 pieces_in Plain = 0
-pieces_in (Record log) = 0
+pieces_in (Record recording) = 0
 pieces_in (Replay b) = b.total
 
 -- the log of a recording so far
 abbrev pub log_in : Role → Option LogParts
 log_in Plain = None
-log_in (Record log) = Some log
+log_in (Record recording) = Some recording.log
 log_in (Replay b) = None
 
 -- a size is the number of the bytes that a DMA stores behind it

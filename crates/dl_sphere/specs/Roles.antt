@@ -5,7 +5,8 @@ use Rattle.dl_entry.specs.declared.Input.{Input}
 use Rattle.spec_log.specs.Log.{IsChunkSize}
 use Rattle.spec_play.specs.Progress.{position}
 use Rattle.spec_protocol.specs.Spheres as protocol
-use Rattle.spec_protocol.proofs.Logs.Growing.{Stands, commits_in}
+use Rattle.spec_protocol.specs.Sound.{commits_in}
+use Rattle.spec_protocol.specs.Standing.{Stands}
 use Rattle.dl_record.specs.Recording.{IsFresh}
 use Rattle.dl_record.specs.Recording as recorder
 use Rattle.spec_play.specs.Noted.{Recorded, as_log, interrupt_kept}
@@ -34,7 +35,7 @@ has_room (Part.Replayed r) = true
 
 abbrev pub role_of : Keeping → protocol.Role
 role_of Plain = protocol.Plain
-role_of (Recording r) = protocol.Record (as_log r)
+role_of (Recording r) = protocol.Record (record { log = as_log r })
 role_of (Replaying r loads) = protocol.Replay (cursor_of r loads)
 
 abbrev pub role_in : Part → protocol.Role

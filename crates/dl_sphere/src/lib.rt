@@ -17,6 +17,16 @@ mod transferring;
 mod turning;
 mod words;
 
+pub use dl_chunk::Chunk;
+pub use dl_dev::Devices;
+pub use dl_elf::Image;
+pub use dl_entry::{Actor, Commit, End, OutOfMemory, Request, Why};
+pub use dl_fly::{Drain, Flights};
+pub use dl_mem::Memory;
+pub use dl_sig::Sig;
+pub use dl_thread::Threads;
+pub use dl_wbuf::Buffer;
 pub use moved::{DmaSize, Moved};
 pub use setup::{Role, SphereSetup};
+pub use spec_log::{Log, ModeName};
 pub use sphere::Sphere;

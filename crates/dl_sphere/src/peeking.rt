@@ -1,5 +1,5 @@
 //! What a DMA of a sphere that isn't replayed would do.
-ghost use Rattle.std.specs.Prelude.{◌≡◌, ◌^◌, IfOk, IfSome, IsSome, min, length, Some};
+ghost use Rattle.std.specs.Prelude.{◌≡◌, ◌^◌, IfOk, IfSome, IsSome, min, length, Some, None, []};
 ghost use Rattle.spec_kernel.specs.Answers.{dma_bytes};
 ghost use Rattle.spec_kernel.specs.Copies.{dma_words};
 ghost use Rattle.spec_protocol.specs.Sound.{IsSoundRequest};
@@ -28,7 +28,8 @@ pub(crate) fn live_words(
     devices: &Devices,
 ) -> Result<Buffer, OutOfMemory>
     requires { IfSome request (IsSoundRequest (2 ^ 24)) }
-    ensures { IfOk result (λ b. IfSome request (λ r. b.words ≡ dma_words r (dma_bytes devices.now r))) }
+    ensures words { IfOk result (λ b. IfSome request (λ r. b.words ≡ dma_words r (dma_bytes devices.now r))) }
+    ensures none { IfOk result (λ b. request ≡ None → b.words ≡ []) }
 {
     let Some(request) = request else {
         return Ok(Buffer::new(alloc, 1)?);

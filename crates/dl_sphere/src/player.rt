@@ -10,10 +10,10 @@ ghost use Rattle.spec_play.specs.Turns.{Turn, TurnOfDma};
 ghost use Rattle.spec_play.specs.Transfers.{dma_verdict};
 ghost use Rattle.spec_play.specs.Verdicts.{chunk_verdict, serial_verdict};
 ghost use Rattle.spec_protocol.specs.Spheres.{Replay, actor_of, limit_in, limit_of};
+ghost use Rattle.dl_replay.specs.Served.{Served, nothing_served, served_left, served_stored};
 ghost use Rattle.dl_replay.specs.Judged.{HasRun, IsInside, chunk_judged, dma_judged, serial_judged};
-ghost use Rattle.dl_replay.specs.declared.served.Served.{Served};
 ghost use Rattle.dl_replay.specs.Judging.{transfer_verdict};
-ghost use Rattle.dl_replay.specs.Left.{SaysSize, nothing_served, served_left, served_stored, verdict_left, verdict_stored};
+ghost use Rattle.dl_replay.specs.Left.{SaysSize, verdict_left, verdict_stored};
 ghost use Rattle.dl_replay.specs.Replaying.{Agrees, replay_start, commits_of, cursor_of, end_of};
 
 use dl_entry::{Actor, End, OutOfMemory, Request, Why};
@@ -93,7 +93,9 @@ impl Player {
     }
 
     pub(crate) fn limit(&self, thread: u8) -> u32
-        ensures { (s : ℕ) (loads : List Load) (threads : List Parts) (t : Parts) →
+        ensures value { (s : ℕ) (loads : List Load) →
+            result ≡ limit_in (Replay (cursor_of self.now loads)) s thread (slice_index self.now.commits thread) }
+        ensures of_thread { (s : ℕ) (loads : List Load) (threads : List Parts) (t : Parts) →
             length threads ≤ most_threads → self.now.commits ≡ commits_of threads → slice_get threads thread ≡ Some t →
             result ≡ limit_of s (Replay (cursor_of self.now loads)) thread t }
     {

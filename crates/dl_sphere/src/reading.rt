@@ -1,5 +1,5 @@
 //! What a sphere tells of itself, and the words of a flight that are laid into its memory.
-ghost use Rattle.std.specs.Prelude.{◌≡◌, ◌<◌, ◌≤◌, ◌⊎◌, true, IfOk, IfSome, IsSome, Some, length, slice_get};
+ghost use Rattle.std.specs.Prelude.{◌≡◌, ◌<◌, ◌≤◌, ◌⊎◌, [], None, true, IfOk, IfSome, IsSome, Some, length, slice_get};
 ghost use Rattle.spec_isa.specs.declared.thread.Parts.{Parts};
 ghost use Rattle.spec_engine.specs.Flights.{IsInside, at, drain};
 ghost use Rattle.spec_kernel.specs.Devices.{Devices};
@@ -30,7 +30,6 @@ impl Sphere {
     /// How many instructions a new chunk of a thread may run.
     #[tactic(auto, unfolding(spec_protocol::specs::Spheres::limit_of))]
     pub fn limit(&self, thread: u8) -> u32
-        requires { thread < length self.now.sphere.threads }
         ensures value { (t : Parts) → slice_get self.now.sphere.threads thread ≡ Some t →
             result ≡ limit_of self.now.s self.now.sphere.role thread t }
         ensures least { 1 ≤ result }
@@ -131,7 +130,8 @@ impl Sphere {
 
     /// The whole commits so far, the first one first.
     pub fn commits(&self) -> &[Commit]
-        ensures { result.now ≡ self.now.sphere.progress.commits }
+        ensures value { result.now ≡ self.now.sphere.progress.commits }
+        ensures all { position self.now.sphere.progress ≡ length result.now }
     {
         &self.commits
     }
@@ -178,11 +178,12 @@ impl Sphere {
         }
     }
 
-    /// The words that a DMA would store, none where the replay leaves its log there.
+    /// The words that a DMA would store: none where the replay leaves its log there, or none is asked for.
     #[tactic(auto, unfolding(spec_protocol::specs::Commits::dma_moved))]
     pub fn dma_words(&self, devices: &Devices) -> Result<Buffer, OutOfMemory>
         requires request { IfSome self.now.sphere.progress.request (IsSoundRequest (length self.now.sphere.memory)) }
-        ensures { IfOk result (λ words. (v : MovedSphere) → dma_moved devices.now self.now.sphere ≡ Some v → words.words ≡ v.words) }
+        ensures words { IfOk result (λ words. (v : MovedSphere) → dma_moved devices.now self.now.sphere ≡ Some v → words.words ≡ v.words) }
+        ensures none { IfOk result (λ words. dma_moved devices.now self.now.sphere ≡ None → words.words ≡ []) }
     {
         let _ = self.memory.size();
         match &self.part {

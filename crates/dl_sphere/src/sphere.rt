@@ -4,13 +4,13 @@ ghost use Rattle.spec_isa.specs.declared.thread.Parts.{Parts};
 ghost use Rattle.spec_engine.specs.declared.answers.How.{How};
 ghost use Rattle.spec_kernel.specs.Devices.{Devices};
 ghost use Rattle.spec_kernel.specs.Interrupts.{takes_interrupt};
+ghost use Rattle.spec_play.specs.Progress.{position};
 ghost use Rattle.spec_log.specs.Log.{IsChunkSize};
 ghost use Rattle.spec_protocol.specs.Asking.{is_short};
 ghost use Rattle.spec_protocol.specs.Commits.{is_piece, chunk_moved, serial_moved, dma_moved, raised};
 ghost use Rattle.spec_protocol.specs.Machine.{sphere_of};
 ghost use Rattle.spec_protocol.specs.Placing.{replays};
 ghost use Rattle.spec_protocol.specs.Spheres.{limit_of, head_of, is_stopped, halves};
-ghost use Rattle.spec_isa.specs.Words.{IsBytes};
 ghost use Rattle.spec_protocol.specs.Sound.{HaveByteInput, IsSoundRequest};
 ghost use Rattle.dl_sphere.specs.Moving.{came, CanCommit, IsTurnOf, IsTurnOfDma};
 ghost use Rattle.dl_sphere.specs.Setups.{setup_of};
@@ -25,9 +25,8 @@ use crate::words;
 use dl_chunk::Chunk;
 use dl_dev::Devices;
 use dl_entry::{Commit, OutOfMemory, Request};
-use dl_kernel::Step;
+use dl_kernel::{Step, counted, interrupted, settle, thread_at};
 use dl_mem::Memory;
-use dl_replay::{counted, interrupted, settle, thread_at};
 use dl_sig::Sig;
 use dl_thread::Threads;
 use std::alloc::Global;
@@ -69,8 +68,7 @@ impl Sphere {
         ghost how: { How }
         requires thread { thread < length self.old.sphere.threads }
         requires chunk { CanCommit self.old.s self.old.sphere thread how chunk.now.chunk }
-        requires few { length self.old.sphere.progress.commits < 2 ^ 24 }
-        requires request { IfSome self.old.sphere.progress.request (IsSoundRequest (length self.old.sphere.memory)) }
+        requires few { position self.old.sphere.progress < 2 ^ 24 }
         ensures ok { IfOk result (λ m. (d : Devices) →
             came m self.new.sphere d ≡ chunk_moved thread (is_piece how) (is_short self.old.s how chunk.now.chunk.limit) chunk.now.chunk.done d self.old.sphere) }
         ensures standard { self.new.s ≡ self.old.s }
@@ -117,8 +115,7 @@ impl Sphere {
     ) -> Result<Moved, OutOfMemory>
         requires thread { thread < length self.old.sphere.threads }
         requires turn { IsTurnOf thread self.old.sphere.role }
-        requires few { length self.old.sphere.progress.commits < 2 ^ 24 }
-        requires bytes { IsBytes self.old.sphere.memory }
+        requires few { position self.old.sphere.progress < 2 ^ 24 }
         requires devices { HaveByteInput devices.old }
         ensures ok { IfOk result (λ m. (t : Parts) → slice_get self.old.sphere.threads thread ≡ Some t →
             came m self.new.sphere devices.new ≡ serial_moved thread moment t devices.old self.old.sphere) }
@@ -171,7 +168,7 @@ impl Sphere {
         requires request { IfSome self.old.sphere.progress.request (IsSoundRequest (length self.old.sphere.memory)) }
         requires turn { IsTurnOfDma self.old.sphere.role }
         requires some { IsSome (dma_moved devices.old self.old.sphere) }
-        requires few { length self.old.sphere.progress.commits < 2 ^ 24 }
+        requires few { position self.old.sphere.progress < 2 ^ 24 }
         requires devices { HaveByteInput devices.old }
         ensures ok { IfOk result (λ m. dma_moved devices.old self.old.sphere ≡ Some (came m self.new.sphere devices.new)) }
         ensures standard { self.new.s ≡ self.old.s }

@@ -1,7 +1,6 @@
 //! The serial step of a sphere that isn't replayed.
 ghost use Rattle.std.specs.Prelude.{◌≡◌, ◌^◌, ◌<◌, ◌∷◌, ◌++◌, [], ℕ, None, false, IfOk, OnOk, OnErr, OnSome, IfSome, length, option_map, IsTrue};
 ghost use Rattle.dl_entry.specs.Numbers.{most_threads};
-ghost use Rattle.spec_isa.specs.Words.{IsBytes};
 ghost use Rattle.spec_kernel.specs.Serving.{console_written};
 ghost use Rattle.spec_log.specs.Log.{IsInput};
 ghost use Rattle.spec_play.specs.Effects.{serial_commit};
@@ -40,7 +39,6 @@ pub(crate) fn live_step(
     moment: u32,
 ) -> Result<Left, OutOfMemory>
     requires note { CanNote (commit_by step.now devices.old moment) false (keeping_of part.old) }
-    requires bytes { IsBytes step.now.memory.now }
     requires devices { HaveByteInput devices.old }
     ensures thread { IfOk result (λ l. l.thread ≡ (served_by step.now devices.old moment).thread) }
     ensures spawned { IfOk result (λ l. spawned_list l.spawned ≡ (served_by step.now devices.old moment).spawned) }
@@ -56,6 +54,8 @@ pub(crate) fn live_step(
     ensures part_still { OnErr result (keeping_of part.new ≡ keeping_of part.old) }
     ensures devices_still { OnErr result (devices.new ≡ devices.old) }
 {
+    // a memory has bytes
+    let _ = step.memory.size();
     let input = outside_record(alloc, &step.thread, step.memory, devices, moment)?;
     let served = serve(alloc, step, input.as_ref())?;
     let StepResult {

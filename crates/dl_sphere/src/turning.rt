@@ -3,7 +3,7 @@ ghost use Rattle.std.specs.Prelude.{◌≡◌, map};
 ghost use Rattle.spec_kernel.specs.Interrupts.{is_live};
 ghost use Rattle.spec_log.specs.Head.{turn as turn_of};
 
-use dl_replay::live_of;
+use dl_kernel::live_of;
 use dl_thread::Threads;
 
 // The next live thread after the last that committed, cyclic; at first from thread 0 on.

@@ -107,7 +107,8 @@ MayWrite Wrote None v w = w ≡ v
 MayWrite Wrote (Some b) v w = Wrote v b w
 
 -- how the view changes: by a fetch, a load and a store, each if there is one
-pub record Seen {V : Type 0} (Read : V → ℕ → V → Type 0) (Wrote : V → Stored → V → Type 0) (fetch load : Option ℕ) (store : Option Stored) (v w : V) : Type 0 where
+pub record Seen {V : Type 0} (Read : V → ℕ → V → Type 0) (Wrote : V → Stored → V → Type 0)
+    (fetch load : Option ℕ) (store : Option Stored) (v w : V) : Type 0 where
   pub fetched : V
   pub loaded : V
   pub fetches : MayRead Read fetch v fetched

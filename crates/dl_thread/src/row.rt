@@ -1,29 +1,31 @@
 //! The threads of a sphere, by number.
 ghost use Rattle.std.specs.Prelude.{◌≡◌, ◌%◌, ◌<◌, ◌≤◌, List, [], ◌∷◌, ◌++◌, length, slice_get, slice_set, option_copied, nat_lt, if◌then◌else◌};
+ghost use Rattle.spec_isa.specs.Numbers.{row_places};
 ghost use Rattle.spec_isa.specs.Threads.{started};
 
 use crate::state::Thread;
 use std::marker::Model;
 
-// The most threads.
-const MOST: u8 = 15;
+/// How many places for threads a row has.
+pub const PLACES: usize = 15;
 
-/// The threads of a sphere, at least 1 and at most 15, seen as the list of their parts.
+/// The threads of a sphere, at least 1 and at most as many as a row has places, seen as the list of their parts.
 #[derive(Debug, Drop)]
 pub struct Threads {
-    row: [Thread; 15],
+    row: [Thread; PLACES],
     len: u8,
 }
 
 impl Model for Threads {
     ghost use Rattle.std.specs.Prelude.{◌≡◌, ◌<◌, ◌≤◌, List, length, take};
+    ghost use Rattle.spec_isa.specs.Numbers.{row_places};
     ghost use Rattle.spec_isa.specs.declared.thread.Parts.{Parts};
 
     ghost Value = { List Parts };
 
     ghost view = { λ a. take a.len a.row };
 
-    ghost invariant = { λ a. (0 < a.len) × (a.len ≤ 15) × (length a.row ≡ 15) };
+    ghost invariant = { λ a. (0 < a.len) × (a.len ≤ row_places) × (length a.row ≡ row_places) };
 }
 
 impl Threads {
@@ -33,7 +35,7 @@ impl Threads {
         ensures { result ≡ started entry ∷ [] }
     {
         Threads {
-            row: [Thread::started(entry); 15],
+            row: [Thread::started(entry); PLACES],
             len: 1,
         }
     }
@@ -42,7 +44,7 @@ impl Threads {
     pub fn len(&self) -> u8
         ensures value { result ≡ length self.now }
         ensures some { 0 < result }
-        ensures few { result ≤ 15 }
+        ensures few { result ≤ row_places }
     {
         self.len
     }
@@ -66,12 +68,12 @@ impl Threads {
         self.row[n as usize] = *thread;
     }
 
-    /// Adds a thread at the end. False, with nothing changed, where there are 15.
+    /// Adds a thread at the end. False, with nothing changed, if no place is free.
     pub fn add(&mut self, thread: &Thread) -> bool
-        ensures added { result ≡ nat_lt (length self.old) 15 }
+        ensures added { result ≡ nat_lt (length self.old) row_places }
         ensures threads { self.new ≡ (if result then self.old ++ thread.now ∷ [] else self.old) }
     {
-        if self.len == MOST {
+        if usize::from(self.len) == PLACES {
             return false;
         }
         self.row[self.len as usize] = *thread;

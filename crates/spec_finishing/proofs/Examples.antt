@@ -28,7 +28,7 @@ use Rattle.spec_protocol.specs.Finishing.{next, Finishes}
 use Rattle.spec_protocol.specs.Flying.{draining, delivering, retiring}
 use Rattle.spec_protocol.specs.Machine.{IsReplayed, Setup, world_of, act, happens}
 use Rattle.spec_protocol.specs.Placing.{placing, raising}
-use Rattle.spec_protocol.specs.Spheres.{head_of, limit_of}
+use Rattle.spec_protocol.specs.Spheres.{head_of, turn_against, limit_of}
 use Rattle.spec_protocol.specs.Stepping.{stepping, cutting}
 use Rattle.spec_protocol.specs.Transferring.{transfer, transferring}
 use Rattle.spec_play.proofs.Programs.{image}
@@ -54,7 +54,7 @@ replay code log =
       numbers = record { s = 100; capacity = 1; bits = 64 };
       seed = 0;
       input = [];
-      spheres = record { memory = image 512 code; entry = 0; role = IsReplayed log } ∷ [];
+      spheres = record { memory = image 512 code; entry = 0; role = IsReplayed (record { log = log }) } ∷ [];
     }
 
 -- in order-only, without sizes, of thread 0
@@ -88,7 +88,7 @@ pub record AreFinished : Type 0 where
   pub reserves_work : plays_work (replay reserves two_log).spheres ≡ 7
 
 pub replays_finish : AreFinished
-unfolding serial_of loads_of next_of load_of store_of one lay read merged answer called bytes_put random_bytes random_after next_kind next_operation need fits serve console_written play_one dma_verdict has_left_over now_at chunk_verdict serial_verdict on_option choose at_limit reading storing loading running step first_slot free_slot meets grant_chunk grant_serial asking chunk_moved serial_moved dma_moved raised next draining delivering retiring act happens placing raising head_of limit_of stepping cutting transfer transferring commit_work replay_left price under_way
+unfolding serial_of loads_of next_of load_of store_of one lay read merged answer called bytes_put random_bytes random_after next_kind next_operation need fits serve console_written play_one dma_verdict has_left_over now_at chunk_verdict serial_verdict on_option choose at_limit reading storing loading running step first_slot free_slot meets grant_chunk grant_serial asking chunk_moved serial_moved dma_moved raised next draining delivering retiring act happens placing raising head_of turn_against limit_of stepping cutting transfer transferring commit_work replay_left price under_way
 replays_finish =
     record {
       empty_next = refl;

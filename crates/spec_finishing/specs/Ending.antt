@@ -7,7 +7,7 @@ use Rattle.spec_protocol.specs.declared.reply.Reply.{Reply}
 use Rattle.spec_protocol.specs.Spheres.{Role, Plain, Record, Replay, Sphere, is_over}
 use Rattle.spec_protocol.specs.World.{World, Move, sphere_at}
 use Rattle.spec_protocol.specs.Placing.{replays}
-use Rattle.spec_protocol.specs.Machine.{IsReplayed, SphereSetup, Setup, world_of, happens, world_after, moves}
+use Rattle.spec_protocol.specs.Machine.{ReplaySetup, IsReplayed, SphereSetup, Setup, world_of, happens, world_after, moves}
 use Rattle.spec_protocol.specs.Serial.{serial_start}
 use Rattle.spec_protocol.specs.Finishing.{Finishes}
 use Rattle.spec_protocol.specs.Promises.{IsSetup, after}
@@ -77,7 +77,7 @@ OfReplays w (e ∷ es) = let a = happens w e in OfReplay w a.move × OfReplays a
 -- a replay that goes on no more; plain and recorded spheres have no end
 abbrev pub IsAtEnd : Role → Type 0
 IsAtEnd Plain = Unit {0}
-IsAtEnd (Record log) = Unit {0}
+IsAtEnd (Record recording) = Unit {0}
 IsAtEnd (Replay b) = is_over b.now ≡ true
 
 -- no flight stands, and every replay is complete or has diverged
@@ -101,10 +101,10 @@ pub record CanFinish (s : Setup) : Type 0 where
   pub setup : IsSetup s
   pub cores : 0 < s.cores
   pub window : 0 < s.window
-  pub standard : (i : ℕ) (image : SphereSetup) (log : LogParts)
+  pub standard : (i : ℕ) (image : SphereSetup) (asked : ReplaySetup)
       → slice_get s.spheres i ≡ Some image
-      → image.role ≡ IsReplayed log
-      → 0 < log.s
+      → image.role ≡ IsReplayed asked
+      → 0 < asked.log.s
 
 -- after any schedule
 abbrev pub FinishingEnds : Type 0

@@ -4,7 +4,7 @@ use Rattle.spec_log.specs.declared.LogParts.{LogParts}
 use Rattle.spec_play.specs.Plays.{play}
 use Rattle.spec_protocol.specs.declared.event.Event.{Event}
 use Rattle.spec_protocol.specs.Spheres.{Cursor, Replay, Sphere}
-use Rattle.spec_protocol.specs.Machine.{IsReplayed, SphereSetup, Setup}
+use Rattle.spec_protocol.specs.Machine.{last_played, ReplaySetup, IsReplayed, SphereSetup, Setup}
 use Rattle.spec_protocol.specs.Finishing.{FinishesAfter}
 use Rattle.spec_protocol.specs.Promises.{after}
 use Rattle.spec_replay.specs.Promises.{IsPlayed}
@@ -16,12 +16,12 @@ pub record HasPlayed (image : SphereSetup) (log : LogParts) (s : Setup) (es : Li
   pub cursor : Cursor
   pub there : slice_get (after s es).spheres i ≡ Some sphere
   pub role : sphere.role ≡ Replay cursor
-  pub played : IsPlayed (play log image.memory image.entry) sphere cursor
+  pub played : IsPlayed (last_played image log) sphere cursor
 
 -- whatever the schedule, after the events that finish it
 abbrev pub ReplaysAreFinished : Type 0
 ReplaysAreFinished =
-    (image : SphereSetup) (log : LogParts) (s : Setup) (es finishing : List Event) (i : ℕ)
+    (image : SphereSetup) (asked : ReplaySetup) (s : Setup) (es finishing : List Event) (i : ℕ)
     → CanFinish s → FinishesAfter s es finishing → slice_get s.spheres i ≡ Some image
-    → image.role ≡ IsReplayed log
-    → HasPlayed image log s (es ++ finishing) i
+    → image.role ≡ IsReplayed asked
+    → HasPlayed image asked.log s (es ++ finishing) i

@@ -8,7 +8,7 @@ use Rattle.spec_engine.specs.Flights.{Flight, at, told_at}
 use Rattle.spec_engine.specs.Chunks.{is_open}
 use Rattle.spec_protocol.specs.Spheres.{Cursor, Role, Plain, Record, Replay, Sphere, is_over}
 use Rattle.spec_protocol.specs.World.{World, Occupant, core_of}
-use Rattle.spec_protocol.specs.Machine.{SphereSetup, Setup}
+use Rattle.spec_protocol.specs.Machine.{first_played, SphereSetup, Setup}
 use Rattle.spec_protocol.specs.Finishing.{Who, least, standing}
 use Rattle.spec_finishing.specs.Work.{commits_work}
 
@@ -30,14 +30,15 @@ flights_rank cores (slot ∷ slots) = flight_rank cores slot + flights_rank core
 
 -- ---- replays
 
--- the work that a play has left behind its first i commits, without the instructions that pieces of the next have run
+-- the work that a play has left after its first i commits and so many instructions of the next one's pieces: all of it
+-- less theirs
 abbrev pub play_left : LogParts → Played → (i total : ℕ) → ℕ
-play_left log y i total = commits_work log y i (log.count - i) - total
+play_left log y i total = commits_work log y 0 log.count - commits_work log y 0 i - total
 
 -- what a replay of the image has left after so many commits: none where it has stopped
 unfoldable pub replay_left : SphereSetup → Cursor → (commits : ℕ) → ℕ
 replay_left image b i =
-    if is_over b.now then 0 else play_left b.log (opened b.log image.memory image.entry) i b.total
+    if is_over b.now then 0 else play_left b.log (first_played image b.log) i b.total
 
 -- how many events there may be for so much work
 unfoldable pub price : (cores work : ℕ) → ℕ
@@ -45,7 +46,7 @@ price cores work = (cores + 6) * work
 
 abbrev pub role_rank : (cores : ℕ) → SphereSetup → Sphere → Role → ℕ
 role_rank cores image p Plain = 0
-role_rank cores image p (Record log) = 0
+role_rank cores image p (Record recording) = 0
 role_rank cores image p (Replay b) = price cores (replay_left image b (position p.progress))
 
 -- of the spheres that began as these images

@@ -13,7 +13,7 @@ use Rattle.spec_play.specs.Plays.{Played, opened, size_or_standard, plays}
 use Rattle.spec_protocol.specs.Spheres.{Role, Plain, Record, Replay, Sphere}
 use Rattle.spec_protocol.specs.Commits.{MovedSphere, serial_moved, dma_moved}
 use Rattle.spec_protocol.specs.World.{Numbers, What, OfChunk, OfSerial, OfDma, OfRaise, Move}
-use Rattle.spec_protocol.specs.Machine.{RoleSetup, IsPlain, IsRecorded, IsReplayed, SphereSetup}
+use Rattle.spec_protocol.specs.Machine.{first_played, RoleSetup, IsPlain, IsRecorded, IsReplayed, SphereSetup}
 use Rattle.spec_protocol.specs.Serial.{SerialState}
 use Rattle.spec_protocol.specs.Moves.{do_move}
 
@@ -55,8 +55,8 @@ commits_work log y i (suc n) = commit_work log (plays log y i) + commits_work lo
 -- of a sphere that is replayed, its log's play
 abbrev pub setup_work : SphereSetup → RoleSetup → ℕ
 setup_work image IsPlain = 0
-setup_work image (IsRecorded mode) = 0
-setup_work image (IsReplayed log) = commits_work log (opened log image.memory image.entry) 0 log.count
+setup_work image (IsRecorded asked) = 0
+setup_work image (IsReplayed asked) = commits_work asked.log (first_played image asked.log) 0 asked.log.count
 
 -- of the plays of all spheres that are replayed
 abbrev pub plays_work : List SphereSetup → ℕ
@@ -83,7 +83,7 @@ what_work p devices moment (OfRaise k value) = 0
 -- a replayed sphere's commits are its play's
 abbrev pub role_work : Sphere → Devices → Move → Role → ℕ
 role_work p devices m Plain = what_work p devices m.moment m.what
-role_work p devices m (Record log) = what_work p devices m.moment m.what
+role_work p devices m (Record recording) = what_work p devices m.moment m.what
 role_work p devices m (Replay b) = 0
 
 abbrev pub sphere_work : Devices → Move → Option Sphere → ℕ

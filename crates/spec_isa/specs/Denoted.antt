@@ -49,7 +49,10 @@ shift_op funct3 funct7 =
     shifts
 
 abbrev pub registers : List RegisterOp
-registers = RegisterOp.Add ∷ RegisterOp.Sub ∷ RegisterOp.Sll ∷ RegisterOp.Slt ∷ RegisterOp.Sltu ∷ RegisterOp.Xor ∷ RegisterOp.Srl ∷ RegisterOp.Sra ∷ RegisterOp.Or ∷ RegisterOp.And ∷ RegisterOp.Mul ∷ RegisterOp.Mulh ∷ RegisterOp.Mulhsu ∷ RegisterOp.Mulhu ∷ RegisterOp.Div ∷ RegisterOp.Divu ∷ RegisterOp.Rem ∷ RegisterOp.Remu ∷ []
+registers =
+    RegisterOp.Add ∷ RegisterOp.Sub ∷ RegisterOp.Sll ∷ RegisterOp.Slt ∷ RegisterOp.Sltu ∷ RegisterOp.Xor ∷ RegisterOp.Srl ∷ RegisterOp.Sra
+    ∷ RegisterOp.Or ∷ RegisterOp.And ∷ RegisterOp.Mul ∷ RegisterOp.Mulh ∷ RegisterOp.Mulhsu ∷ RegisterOp.Mulhu ∷ RegisterOp.Div ∷ RegisterOp.Divu
+    ∷ RegisterOp.Rem ∷ RegisterOp.Remu ∷ []
 
 abbrev pub register_op : ℕ → ℕ → Option RegisterOp
 register_op funct3 funct7 =

@@ -64,3 +64,7 @@ input_address = 0xF0000004
 -- to be stored to: a byte for the console
 abbrev pub console_address : ℕ
 console_address = 0xF0000008
+
+-- how many threads a sphere has places for
+abbrev pub row_places : ℕ
+row_places = 15

@@ -1,4 +1,6 @@
 //! The numbers that stand for something.
+ghost use Rattle.std.specs.Prelude.{◌≡◌};
+ghost use Rattle.spec_isa.specs.Numbers.{register_sp, register_a0, register_a1, register_a2, register_a7, jump_misaligned, fetch_outside, illegal, breakpoint, load_misaligned, load_outside, store_misaligned, store_outside, moment_address, input_address, console_address};
 
 /// The registers of a call, by their names in the calling convention: the stack pointer, the arguments, of which the
 /// first takes the result, and the call's number.
@@ -35,3 +37,15 @@ pub const MOMENT_ADDRESS: u32 = 0xF000_0000;
 pub const INPUT_ADDRESS: u32 = 0xF000_0004;
 
 pub const CONSOLE_ADDRESS: u32 = 0xF000_0008;
+
+/// Each constant is the number that its definition gives.
+pub fn are_as_defined()
+    ensures registers { (SP ≡ register_sp) × (A0 ≡ register_a0) × (A1 ≡ register_a1) × (A2 ≡ register_a2)
+        × (A7 ≡ register_a7) }
+    ensures causes { (JUMP_MISALIGNED ≡ jump_misaligned) × (FETCH_OUTSIDE ≡ fetch_outside) × (ILLEGAL ≡ illegal)
+        × (BREAKPOINT ≡ breakpoint) × (LOAD_MISALIGNED ≡ load_misaligned)
+        × (LOAD_OUTSIDE ≡ load_outside) × (STORE_MISALIGNED ≡ store_misaligned)
+        × (STORE_OUTSIDE ≡ store_outside) }
+    ensures addresses { (MOMENT_ADDRESS ≡ moment_address) × (INPUT_ADDRESS ≡ input_address)
+        × (CONSOLE_ADDRESS ≡ console_address) }
+{}

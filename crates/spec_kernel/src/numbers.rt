@@ -1,4 +1,6 @@
 //! The numbers that stand for something.
+ghost use Rattle.std.specs.Prelude.{◌≡◌};
+ghost use Rattle.spec_kernel.specs.Numbers.{call_exit, call_spawn, call_write, call_read, call_random, call_clock, call_handler, call_iret, call_dma, call_self, call_yield, call_ended, pipe_count, channel_console, channel_input, pipe_size, most_input, random_stream};
 
 /// The kernel calls.
 pub const CALL_EXIT: u32 = 0;
@@ -40,3 +42,15 @@ pub const MOST_INPUT: usize = 1 << 24;
 
 /// The stream of the random words.
 pub const RANDOM_STREAM: u64 = 2;
+
+/// Each constant is the number that its definition gives.
+pub fn are_as_defined()
+    ensures calls { (CALL_EXIT ≡ call_exit) × (CALL_SPAWN ≡ call_spawn) × (CALL_WRITE ≡ call_write)
+        × (CALL_READ ≡ call_read) × (CALL_RANDOM ≡ call_random) × (CALL_CLOCK ≡ call_clock)
+        × (CALL_HANDLER ≡ call_handler) × (CALL_IRET ≡ call_iret) × (CALL_DMA ≡ call_dma)
+        × (CALL_SELF ≡ call_self) × (CALL_YIELD ≡ call_yield) × (CALL_ENDED ≡ call_ended) }
+    ensures channels { (PIPE_COUNT ≡ pipe_count) × (CHANNEL_CONSOLE ≡ channel_console)
+        × (CHANNEL_INPUT ≡ channel_input) }
+    ensures sizes { (PIPE_SIZE ≡ pipe_size) × (MOST_INPUT ≡ most_input) }
+    ensures stream { RANDOM_STREAM ≡ random_stream }
+{}

@@ -2,3 +2,4 @@ mod Examples
 mod NotingExamples
 mod ReadingExamples
 pub mod Sections
+pub mod Sized

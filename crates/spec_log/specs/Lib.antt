@@ -1,4 +1,5 @@
 pub mod Bytes
+pub mod Fields
 pub mod Head
 pub mod Log
 pub mod Mode

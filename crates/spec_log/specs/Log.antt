@@ -4,7 +4,7 @@ use Rattle.std.specs.List.{AllAdjacentBelow}
 use Rattle.dl_entry.specs.declared.actor.Actor.{Actor}
 use Rattle.dl_entry.specs.declared.actor.Actor.TheVariants.{Thread, Dma}
 use Rattle.dl_entry.specs.declared.input.Input.{Input}
-use Rattle.dl_entry.specs.Numbers.{kind_write, kind_read, kind_random, kind_clock, kind_moment, kind_input, most_bytes, greatest_thread}
+use Rattle.dl_entry.specs.Numbers.{kind_write, kind_read, kind_random, kind_clock, kind_moment, kind_input, most_bytes, least_chunk, most_chunk, greatest_thread}
 use Rattle.spec_log.specs.declared.mode_name.ModeName.{ModeName}
 use Rattle.spec_log.specs.declared.mode_name.ModeName.TheVariants.{OrderSize, OrderOnly, Picolog}
 use Rattle.spec_log.specs.declared.records.Interrupt.{Interrupt}
@@ -84,7 +84,7 @@ AreDmas dmas = IsSection IsDmaRecord (λ x y. x.position < y.position) dmas
 
 -- a standard chunk has 16 to 4,096 instructions
 abbrev pub IsChunkSize : ℕ → Type 0
-IsChunkSize s = (16 ≤ s) × (s ≤ 4096)
+IsChunkSize s = (least_chunk ≤ s) × (s ≤ most_chunk)
 
 -- the parts are a log's
 pub record IsLog (log : LogParts) : Type 0 where

@@ -1,6 +1,5 @@
--- What bytes say as a log: its parts, or the first field that isn't good. Fields are read in order, and each is
--- checked when it has been read whole.
-use Rattle.std.specs.Prelude.{ℕ, zero, suc, ◌+◌, ◌*◌, ◌/◌, ◌%◌, ◌^◌, ◌==◌, nat_lt, nat_le, Bool, true, ◌&&◌, ◌||◌, List, [], ◌∷◌, length, take, drop, Option, Some, None, Result, Ok, Err, if◌then◌else◌}
+-- What bytes say as a log: its parts, or the first field that isn't good.
+use Rattle.std.specs.Prelude.{ℕ, ◌+◌, ◌/◌, ◌%◌, ◌^◌, ◌==◌, nat_lt, Bool, true, ◌&&◌, ◌||◌, List, [], ◌∷◌, ◌++◌, length, Result, Ok, if◌then◌else◌}
 use Rattle.std.specs.List.{list_any}
 use Rattle.dl_entry.specs.declared.actor.Actor.{Actor}
 use Rattle.dl_entry.specs.declared.actor.Actor.TheVariants.{Thread, Dma}
@@ -13,99 +12,55 @@ use Rattle.spec_log.specs.declared.records.DmaRecord.{DmaRecord}
 use Rattle.spec_log.specs.declared.sizes.ShortSize.{ShortSize}
 use Rattle.spec_log.specs.declared.sizes.Sizes.{Sizes}
 use Rattle.spec_log.specs.declared.sizes.Sizes.TheVariants.{Each, Short}
+use Rattle.spec_log.specs.declared.draft.Draft.{Draft}
 use Rattle.spec_log.specs.declared.log.LogParts.{LogParts}
+pub use Rattle.spec_log.specs.Fields.{ParseError}
+use Rattle.spec_log.specs.Fields.{Read, Reader, Stage, fails, continues, gives, read, number}
+use Rattle.spec_log.specs.Fields.{field, any, at_most, from_to, counted_in, one_more, once, listed, all_of}
 use Rattle.spec_log.specs.Log.{input_kinds}
 
--- what is wrong: 1 the bytes end inside a field, 2 the magic word, 3 the version, 4 the mode, 5 another value out of
--- its range, 6 an entry that doesn't come after the one before it, 7 bytes behind the last section. The offset is that
--- of the field or entry, but for 1 the number of all bytes.
-pub record ParseError : Type 0 where
-  pub number : ℕ
-  pub offset : ℕ
+-- Faults of a log: 1 the bytes end inside a field, 2 the magic word, 3 the version, 4 the mode, 5 another value out of its
+-- range, 6 an entry that doesn't come after the one before it, 7 bytes behind the last section.
 
-abbrev pub fails : {X : Type 0} → ℕ → ℕ → Result X ParseError
-fails number offset = Err (record { number = number; offset = offset })
+-- a number that has one value, which a draft needn't keep
+abbrev pub constant : (width fault value : ℕ) → Stage Draft
+constant width fault value = once (λ d. read (number width fault (λ x. x == value)) (λ x. gives d))
 
--- what was read, and the offset behind it
-pub record Read (X : Type 0) : Type 0 where
-  pub value : X
-  pub after : ℕ
+-- "DLRN", the version, the mode, and two zero bytes
+abbrev pub magic : Stage Draft
+magic = constant 4 2 0x4E524C44
 
--- a reader gives what stands at an offset of the bytes, or a fault
-abbrev pub Reader : Type 0 → Type 0
-Reader X = List ℕ → ℕ → Result (Read X) ParseError
+abbrev pub version : Stage Draft
+version = constant 1 3 1
 
-abbrev pub continues : {X Y : Type 0} → Result (Read X) ParseError → (X → ℕ → Result Y ParseError) → Result Y ParseError
-continues (Ok r) next = next r.value r.after
-continues (Err fault) next = Err fault
+abbrev pub mode_of : ℕ → ModeName
+mode_of code = if code == 0 then OrderSize else if code == 1 then OrderOnly else Picolog
 
--- reads nothing, and gives the value
-abbrev pub gives : {X : Type 0} → X → Reader X
-gives x bytes at = Ok (record { value = x; after = at })
+abbrev pub mode : Stage Draft
+mode = once (λ d. read (number 1 4 (at_most 2)) (λ code. gives (record d { mode = mode_of code })))
 
--- one reader behind another, which may look at what the first has read
-abbrev pub read : {X Y : Type 0} → Reader X → (X → Reader Y) → Reader Y
-read first next bytes at = continues (first bytes at) (λ x after. next x bytes after)
+abbrev pub spare : Stage Draft
+spare = constant 2 5 0
 
--- so many bytes as they are
-abbrev pub raw : ℕ → Reader (List ℕ)
-raw width bytes at =
-    if nat_lt (length bytes) (at + width) then fails 1 (length bytes)
-    else Ok (record { value = take width (drop at bytes); after = at + width })
+abbrev pub chunk_size : Stage Draft
+chunk_size = once (λ d. read (field 4 (from_to 16 4096)) (λ s. gives (record d { s = s })))
 
--- the number in bytes, the low one first
-abbrev pub number_of : List ℕ → ℕ
-number_of [] = 0
-number_of (byte ∷ bytes) = byte + 256 * number_of bytes
-
--- a value that has to pass a test, else this is the fault at its first byte
-abbrev pub passes : {X : Type 0} → Bool → ℕ → ℕ → X → Reader X
-passes good fault start x bytes at = if good then gives x bytes at else fails fault start
-
--- a number of so many bytes, with the fault where it fails its test
-abbrev pub number : ℕ → ℕ → (ℕ → Bool) → Reader ℕ
-number width fault good bytes start =
-    read (raw width) (λ field. passes (good (number_of field)) fault start (number_of field)) bytes start
-
--- a number in a range, and any number
-abbrev pub field : ℕ → (ℕ → Bool) → Reader ℕ
-field width good = number width 5 good
-
-abbrev pub any : ℕ → Reader ℕ
-any width = field width (λ x. true)
-
-abbrev pub at_most : ℕ → ℕ → Bool
-at_most limit x = nat_le x limit
-
-abbrev pub from_to : ℕ → ℕ → ℕ → Bool
-from_to low high x = nat_le low x && nat_le x high
-
--- whether an entry comes after the one before it, if there is one
-abbrev pub comes_after : {X : Type 0} → (X → X → Bool) → Option X → X → Bool
-comes_after earlier None x = true
-comes_after earlier (Some before) x = earlier before x
-
--- so many entries, each of which comes after the one before it; the fault is at the entry's first byte
-abbrev pub entries : {X : Type 0} → (X → X → Bool) → Reader X → Option X → ℕ → Reader (List X)
-entries earlier entry before zero bytes start = gives [] bytes start
-entries earlier entry before (suc n) bytes start =
-    continues (read entry (λ x. passes (comes_after earlier before x) 6 start x) bytes start)
-    (λ x after. read (entries earlier entry (Some x) n) (λ xs. gives (x ∷ xs)) bytes after)
-
--- a section: any count of entries, and the entries
-abbrev pub section_of : {X : Type 0} → (X → X → Bool) → Reader X → Reader (List X)
-section_of earlier entry = read (any 4) (λ count. entries earlier entry None count)
+abbrev pub commits : Stage Draft
+commits = once (λ d. read (field 4 (at_most (2 ^ 24))) (λ count. gives (record d { count = count })))
 
 -- a half byte is a DMA's code, or the number of a thread
 abbrev pub actor_of : ℕ → Actor
 actor_of half = if half == dma_code then Dma else Thread half
 
--- so many actors, two to a byte; a last byte of one actor has no high half
-abbrev pub actors : ℕ → Reader (List Actor)
-actors zero = gives []
-actors (suc zero) = read (field 1 (at_most dma_code)) (λ byte. gives (actor_of byte ∷ []))
-actors (suc (suc n)) =
-    read (any 1) (λ byte. read (actors n) (λ rest. gives (actor_of (byte % 16) ∷ actor_of (byte / 16) ∷ rest)))
+-- a byte has two actors, the first in its low half; a last byte of one actor has no high half
+abbrev pub two_actors : List Actor → Reader (List Actor)
+two_actors order = read (any 1) (λ byte. gives ((order ++ actor_of (byte % 16) ∷ []) ++ actor_of (byte / 16) ∷ []))
+
+abbrev pub last_actor : List Actor → Reader (List Actor)
+last_actor order = read (field 1 (at_most dma_code)) (λ byte. gives (order ++ actor_of byte ∷ []))
+
+abbrev pub more_actors : ℕ → List Actor → Reader (List Actor)
+more_actors count order = if length order + 1 == count then last_actor order else two_actors order
 
 -- the number of actors is that of the commits, but in picolog 0
 abbrev pub ordered : ModeName → ℕ → ℕ
@@ -113,8 +68,12 @@ ordered OrderSize count = count
 ordered OrderOnly count = count
 ordered Picolog count = 0
 
-abbrev pub order_of : ModeName → ℕ → Reader (List Actor)
-order_of mode count = read (field 4 (λ n. n == ordered mode count)) actors
+abbrev pub order : Stage Draft
+order =
+    record {
+      times = λ d. read (field 4 (λ n. n == ordered d.mode d.count)) (λ n. gives (n / 2 + n % 2));
+      one = λ d. read (more_actors d.count d.order) (λ order. gives (record d { order = order }));
+    }
 
 abbrev pub thread : Reader ℕ
 thread = field 1 (at_most greatest_thread)
@@ -128,73 +87,96 @@ short_size s =
     read thread (λ t. read (any 4) (λ i. read (field 2 (from_to 1 s)) (λ size.
     gives (record { thread = t; index = i; size = size }))))
 
-abbrev pub short_sizes : ℕ → Reader Sizes
-short_sizes s =
-    read (section_of (λ x y. is_earlier x.thread x.index y.thread y.index) (short_size s)) (λ sizes. gives (Short sizes))
+-- the number of sizes is that of the commits where each commit has one
+abbrev pub size_count : ModeName → ℕ → Reader ℕ
+size_count OrderSize count = field 4 (λ n. n == count)
+size_count OrderOnly count = any 4
+size_count Picolog count = any 4
 
-abbrev pub each_size : ℕ → ℕ → Reader Sizes
-each_size s count =
-    read (field 4 (λ n. n == count)) (λ n. read (entries (λ x y. true) (field 2 (at_most s)) None n) (λ sizes.
-    gives (Each sizes)))
+abbrev pub one_size : ModeName → Draft → Reader Draft
+one_size OrderSize d = read (one_more (λ x y. true) (field 2 (at_most d.s)) d.each) (λ each. gives (record d { each = each }))
+one_size OrderOnly d =
+    read (one_more (λ x y. is_earlier x.thread x.index y.thread y.index) (short_size d.s) d.short) (λ short.
+    gives (record d { short = short }))
+one_size Picolog d =
+    read (one_more (λ x y. is_earlier x.thread x.index y.thread y.index) (short_size d.s) d.short) (λ short.
+    gives (record d { short = short }))
 
-abbrev pub sizes_of : ModeName → ℕ → ℕ → Reader Sizes
-sizes_of OrderSize s count = each_size s count
-sizes_of OrderOnly s count = short_sizes s
-sizes_of Picolog s count = short_sizes s
+abbrev pub sizes : Stage Draft
+sizes = record { times = λ d. size_count d.mode d.count; one = λ d. one_size d.mode d }
 
 abbrev pub interrupt : Reader Interrupt
 interrupt =
     read thread (λ t. read (any 4) (λ i. read (any 4) (λ value.
     gives (record { thread = t; index = i; value = value }))))
 
-abbrev pub interrupts_of : Reader (List Interrupt)
-interrupts_of = section_of (λ x y. is_earlier x.thread x.index y.thread y.index) interrupt
+abbrev pub interrupts : Stage Draft
+interrupts =
+    listed (λ d. read (one_more (λ x y. is_earlier x.thread x.index y.thread y.index) interrupt d.interrupts) (λ interrupts.
+    gives (record d { interrupts = interrupts })))
 
--- the bytes of a record behind their number
 abbrev pub counted : Reader (List ℕ)
-counted = read (field 2 (at_most most_bytes)) raw
+counted = counted_in most_bytes
 
 abbrev pub input : Reader Input
 input =
     read (field 1 (λ kind. list_any (λ k. k == kind) input_kinds)) (λ kind. read (any 4) (λ answer. read counted (λ content.
     gives (record { kind = kind; result = answer; bytes = content }))))
 
-abbrev pub inputs_of : Reader (List Input)
-inputs_of = section_of (λ x y. true) input
+abbrev pub inputs : Stage Draft
+inputs = listed (λ d. read (one_more (λ x y. true) input d.inputs) (λ inputs. gives (record d { inputs = inputs })))
 
 abbrev pub dma : Reader DmaRecord
 dma = read (any 4) (λ position. read counted (λ content. gives (record { position = position; bytes = content })))
 
-abbrev pub dmas_of : Reader (List DmaRecord)
-dmas_of = section_of (λ x y. nat_lt x.position y.position) dma
+abbrev pub dmas : Stage Draft
+dmas =
+    listed (λ d. read (one_more (λ x y. nat_lt x.position y.position) dma d.dmas) (λ dmas.
+    gives (record d { dmas = dmas })))
 
-abbrev pub mode_of : ℕ → ModeName
-mode_of code = if code == 0 then OrderSize else if code == 1 then OrderOnly else Picolog
+-- the stages of a log
+abbrev pub stages : List (Stage Draft)
+stages =
+    magic ∷ version ∷ mode ∷ spare ∷ chunk_size ∷ commits ∷ order ∷ sizes ∷ interrupts ∷ inputs ∷ dmas ∷ []
 
--- "DLRN", version 1, the mode, and two zero bytes
-abbrev pub mode : Reader ModeName
-mode =
-    read (number 4 2 (λ word. word == 0x4E524C44)) (λ word. read (number 1 3 (λ version. version == 1)) (λ version.
-    read (number 1 4 (at_most 2)) (λ code. read (field 2 (λ spare. spare == 0)) (λ spare. gives (mode_of code)))))
+-- nothing was read
+abbrev pub blank : Draft
+blank =
+    record {
+      mode = OrderSize;
+      s = 0;
+      count = 0;
+      order = [];
+      each = [];
+      short = [];
+      interrupts = [];
+      inputs = [];
+      dmas = [];
+    }
 
--- all fields of a log
-abbrev pub parts : Reader LogParts
-parts =
-    read mode (λ m. read (field 4 (from_to 16 4096)) (λ s. read (field 4 (at_most (2 ^ 24))) (λ count.
-    read (order_of m count) (λ order. read (sizes_of m s count) (λ sizes. read interrupts_of (λ interrupts.
-    read inputs_of (λ inputs. read dmas_of (λ dmas.
-    gives (record {
-      mode = m;
-      s = s;
-      count = count;
-      order = order;
-      sizes = sizes;
-      interrupts = interrupts;
-      inputs = inputs;
-      dmas = dmas;
-    })))))))))
+-- the sizes of a log in this mode
+abbrev pub sizes_in : ModeName → List ℕ → List ShortSize → Sizes
+sizes_in OrderSize each short = Each each
+sizes_in OrderOnly each short = Short short
+sizes_in Picolog each short = Short short
+
+-- the log that was read
+abbrev pub log_of : Draft → LogParts
+log_of d =
+    record {
+      mode = d.mode;
+      s = d.s;
+      count = d.count;
+      order = d.order;
+      sizes = sizes_in d.mode d.each d.short;
+      interrupts = d.interrupts;
+      inputs = d.inputs;
+      dmas = d.dmas;
+    }
 
 -- a log, behind which nothing follows
+abbrev pub ended : List ℕ → Result (Read Draft) ParseError → Result LogParts ParseError
+ended bytes reading = continues reading (λ d after. if nat_lt after (length bytes) then fails 7 after else Ok (log_of d))
+
 abbrev pub read_of : List ℕ → Result LogParts ParseError
-read_of bytes =
-    continues (parts bytes 0) (λ log after. if nat_lt after (length bytes) then fails 7 after else Ok log)
+read_of bytes = ended bytes (all_of stages blank bytes 0)

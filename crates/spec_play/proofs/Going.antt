@@ -17,6 +17,7 @@ use Rattle.spec_play.specs.Turns.{Now, Turn, TurnOfDma, Ended, has_left_over, at
 use Rattle.spec_play.specs.Verdicts.{LogVerdict, Goes, Fails}
 use Rattle.spec_play.specs.Transfers.{DmaVerdict, DmaGoes, DmaFails, dma_verdict}
 use Rattle.spec_play.specs.Plays.{Played, opened, settled, thread_verdict, play_thread, dma_settled, play_now, play_one, plays, play}
+use Rattle.spec_play.proofs.Positions.{position-more}
 
 -- ---- a play that has ended stays
 
@@ -42,23 +43,26 @@ pub record IsBehind (xs ys : List Commit) : Type 0 where
 record OneMore (y z : Played) : Type 0 where
   behind : IsBehind y.progress.commits z.progress.commits
   most : position z.progress ≤ suc (position y.progress)
+  first : z.progress.first ≡ y.progress.first
 
 no_more : (y z : Played) → z.progress ≡ y.progress → OneMore y z
 no_more y z e =
     record {
       behind = record { rest = []; same = ap (λ (p : Progress). p.commits) e ∙ sym (append-nil y.progress.commits) };
       most = let h = ap position e in omega arith;
+      first = ap (λ (p : Progress). p.first) e;
     }
 
-one_more : (y z : Played) (c : Commit) → z.progress.commits ≡ y.progress.commits ++ c ∷ [] → OneMore y z
-one_more y z c e =
+one_more : (y z : Played) (c : Commit) → z.progress.first ≡ y.progress.first → z.progress.commits ≡ y.progress.commits ++ c ∷ [] → OneMore y z
+one_more y z c first e =
     record {
       behind = record { rest = c ∷ []; same = e };
-      most = let h = ap (λ (cs : List Commit). length cs) e in let l = length-append y.progress.commits (c ∷ []) in omega arith;
+      most = let h = ap (λ (cs : List Commit). length cs) e in let l = position-more y.progress c in omega arith;
+      first = first;
     }
 
 settled_more : (log : LogParts) (y : Played) (k : ℕ) (v : LogVerdict) → OneMore y (settled log y k v)
-settled_more log y k (Goes e u) = one_more y (settled log y k (Goes e u)) e.commit refl
+settled_more log y k (Goes e u) = one_more y (settled log y k (Goes e u)) e.commit refl refl
 settled_more log y k (Fails why) = no_more y (settled log y k (Fails why)) refl
 
 thread_more : (log : LogParts) (y : Played) (k : ℕ) (o : Option Parts) → OneMore y (play_thread log y k o)
@@ -66,7 +70,7 @@ thread_more log y k None = no_more y y refl
 thread_more log y k (Some t) = settled_more log y k (thread_verdict log y k t (next_kind t y.memory))
 
 dma_more : (log : LogParts) (y : Played) (v : DmaVerdict) → OneMore y (dma_settled log y v)
-dma_more log y (DmaGoes words) = one_more y (dma_settled log y (DmaGoes words)) dma_commit refl
+dma_more log y (DmaGoes words) = one_more y (dma_settled log y (DmaGoes words)) dma_commit refl refl
 dma_more log y (DmaFails why) = no_more y (dma_settled log y (DmaFails why)) refl
 
 now_more : (log : LogParts) (y : Played) (now : Now) → OneMore y (play_now log y now)
@@ -100,6 +104,11 @@ plays-most log memory entry (suc i) =
     let m = (play_more log (plays log (opened log memory entry) i)).most in
     omega arith
 
+-- its first commit stays where it is
+pub plays-first : (log : LogParts) (y : Played) (i : ℕ) → (plays log y i).progress.first ≡ y.progress.first
+plays-first log y zero = refl
+plays-first log y (suc i) = (play_more log (plays log y i)).first ∙ plays-first log y i
+
 -- ---- a play comes to an end
 
 -- a play that goes on has done as many commits as it was asked for, and its turn is the log's
@@ -110,15 +119,15 @@ pub record GoesOn (log : LogParts) (y : Played) (i : ℕ) : Type 0 where
 abbrev pub EndsOr : LogParts → Played → ℕ → Type 0
 EndsOr log y i = ((how : End) × (y.now ≡ Ended how)) ⊎ GoesOn log y i
 
-counted_one : (cs : List Commit) (c : Commit) (i : ℕ) → length cs ≡ i → length (cs ++ c ∷ []) ≡ suc i
-counted_one cs c i e = let h = length-append cs (c ∷ []) in omega arith
+counted_one : (p : Progress) (c : Commit) (i : ℕ) → position p ≡ i → p.first + length (p.commits ++ c ∷ []) ≡ suc i
+counted_one p c i e = position-more p c ∙ ap suc e
 
 settled_goes : (log : LogParts) (y : Played) (k i : ℕ) (v : LogVerdict) → position y.progress ≡ i → EndsOr log (settled log y k v) (suc i)
-settled_goes log y k i (Goes e u) done = inr (record { done = counted_one y.progress.commits e.commit i done; now = refl })
+settled_goes log y k i (Goes e u) done = inr (record { done = counted_one y.progress e.commit i done; now = refl })
 settled_goes log y k i (Fails why) done = inl (End.Diverged (position y.progress) why, refl)
 
 dma_goes : (log : LogParts) (y : Played) (i : ℕ) (v : DmaVerdict) → position y.progress ≡ i → EndsOr log (dma_settled log y v) (suc i)
-dma_goes log y i (DmaGoes words) done = inr (record { done = counted_one y.progress.commits dma_commit i done; now = refl })
+dma_goes log y i (DmaGoes words) done = inr (record { done = counted_one y.progress dma_commit i done; now = refl })
 dma_goes log y i (DmaFails why) done = inl (End.Diverged (position y.progress) why, refl)
 
 -- thread k is there and live

@@ -12,7 +12,7 @@ use Rattle.spec_play.specs.Progress.{position}
 use Rattle.spec_play.specs.Turns.{Now, Turn, TurnOfDma, Ended}
 use Rattle.spec_play.specs.Plays.{Played, opened, plays, play}
 use Rattle.spec_play.specs.Walks.{is_looked_at, walk_end, walked, IsWalk, WalksArePlays}
-use Rattle.spec_play.proofs.Going.{GoesOn, IsBehind, plays-behind, plays-most, plays-go, over-at, last-is}
+use Rattle.spec_play.proofs.Going.{plays-first, GoesOn, IsBehind, plays-behind, plays-most, plays-go, over-at, last-is}
 
 -- ---- whether the end is looked at
 
@@ -80,6 +80,7 @@ over_walk log memory entry to how is =
         | inl so ↦ absurd (no_stop n how (sym (by true so) ∙ e))
         | inr not_so ↦ (
             let u = unlooked log to i not_so in
+            let first : y.progress.first ≡ 0 = plays-first log (opened log memory entry) to in
             let same = same_stop i n (sym (by false not_so) ∙ e) in
             record { all = (let l = u.0 in omega arith); commits = (let l = u.0 in omega arith); more = u.1 }
             )
@@ -101,7 +102,8 @@ going_walk log memory entry to g going stops =
     let start : Played = opened log memory entry in
     let y : Played = plays log start to in
     let z : Played = play log memory entry in
-    let done : position y.progress ≡ to = g.done in
+    let first : y.progress.first ≡ 0 = plays-first log start to in
+    let done : length y.progress.commits ≡ to = (let d = g.done in omega arith) in
     let more : to < log.count = elim (cases_lt to log.count) [
       | inl l ↦ l
       | inr past ↦ (let o = over-at log y.progress y.used y.threads (omega arith) in absurd (going o.0 (sym g.now ∙ o.1)))
@@ -113,7 +115,7 @@ going_walk log memory entry to g going stops =
     record {
       commits = sym (ap (take to) same ∙ ap (λ (n : ℕ). take n (y.progress.commits ++ b.rest)) (sym done) ∙ take-append_seam y.progress.commits b.rest);
       ended = λ how e. absurd (no_end (position y.progress) how (sym stops ∙ e));
-      reached = λ n e. record { all = sym (same_stop (position y.progress) n (sym stops ∙ e)) ∙ done; commits = done; more = more };
+      reached = λ n e. record { all = sym (same_stop (position y.progress) n (sym stops ∙ e)) ∙ g.done; commits = done; more = more };
       ends = λ how e where_. elim where_ [
         | inl l ↦ absurd (let h = ap (λ (cs : List Commit). length cs) same in let a = length-append y.progress.commits b.rest in omega arith)
         | inr l ↦ absurd (omega arith)

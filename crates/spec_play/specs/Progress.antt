@@ -1,19 +1,21 @@
 -- How far a sphere has come, and how much of a log is used.
-use Rattle.std.specs.Prelude.{ℕ, suc, List, [], ◌∷◌, ◌++◌, length, Option, Some, None}
+use Rattle.std.specs.Prelude.{ℕ, suc, ◌+◌, List, [], ◌∷◌, ◌++◌, length, Option, Some, None}
 use Rattle.std.specs.Option.{option_or}
 use Rattle.dl_entry.specs.declared.Actor.{Actor}
 use Rattle.dl_entry.specs.declared.Commit.{Commit}
 use Rattle.dl_entry.specs.declared.Request.{Request}
 use Rattle.spec_play.specs.Effects.{Effect, dma_commit}
 
--- the whole commits that are done, the thread that committed last, and the outstanding DMA request
+-- the whole commits that are done, with the place of the first one, the thread that committed last, and the outstanding
+-- DMA request
 pub record Progress : Type 0 where
+  pub first : ℕ
   pub commits : List Commit
   pub last : Option ℕ
   pub request : Option Request
 
 abbrev pub no_progress : Progress
-no_progress = record { commits = []; last = None; request = None }
+no_progress = record { first = 0; commits = []; last = None; request = None }
 
 -- the thread of an actor that is one
 abbrev pub thread_of : Actor → Option ℕ
@@ -25,17 +27,17 @@ abbrev pub last_thread : List Commit → Option ℕ
 last_thread [] = None
 last_thread (c ∷ cs) = option_or (last_thread cs) (thread_of c.actor)
 
--- how many commits are done: the index of the next
+-- how many commits are done, with those before the first: the index of the next
 abbrev pub position : Progress → ℕ
-position p = length p.commits
+position p = p.first + length p.commits
 
 -- a commit of thread k more
 abbrev pub with_effect : (thread : ℕ) → Effect → Progress → Progress
-with_effect k e p = record { commits = p.commits ++ e.commit ∷ []; last = Some k; request = e.request }
+with_effect k e p = record p { commits = p.commits ++ e.commit ∷ []; last = Some k; request = e.request }
 
 -- a DMA more, which moves no turn
 abbrev pub with_dma : Progress → Progress
-with_dma p = record { commits = p.commits ++ dma_commit ∷ []; last = p.last; request = None }
+with_dma p = record p { commits = p.commits ++ dma_commit ∷ []; request = None }
 
 -- how many input, interrupt and DMA records of a log are taken
 pub record Used : Type 0 where

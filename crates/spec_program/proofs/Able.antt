@@ -7,20 +7,20 @@ use Rattle.dl_files.specs.Contents.{Contents}
 use Rattle.dl_plan.specs.Values.{RoleValues, Plain, Record, Replay, SphereValues, PlanValues}
 use Rattle.spec_log.specs.declared.LogParts.{LogParts}
 use Rattle.spec_log.specs.Reading.{read_of}
-use Rattle.spec_protocol.specs.Machine.{RoleSetup, IsReplayed, SphereSetup}
+use Rattle.spec_protocol.specs.Machine.{ReplaySetup, RoleSetup, IsReplayed, SphereSetup}
 use Rattle.spec_finishing.specs.Ending.{CanFinish}
 use Rattle.spec_program.specs.Built.{bad_log, role_of, spheres_of}
 use Rattle.spec_program.specs.Files.{RoleRead, PlainRead, RecordRead, ReplayRead, SphereRead, PlanRead, read_at, log_at, schedule_read, input_read, role_read, sphere_read, spheres_read, plan_read}
 use Rattle.spec_program.specs.Stages.{Refused, refusing}
 use Rattle.spec_program.specs.Tasks.{Task, IsTask, setup_in}
-use Rattle.spec_program.proofs.LogRead.{log_sized}
+use Rattle.spec_log.proofs.Sized.{log_sized}
 use Rattle.spec_program.proofs.Made.{then_ok, not_refused, task_built}
 use Rattle.spec_program.proofs.Sizing.{plan_sized}
 
 same_role : (a b : RoleSetup) → ◌≡◌ {A = Result RoleSetup Refused} (Ok a) (Ok b) → a ≡ b
 same_role a b e = cc
 
-same_log : (a b : LogParts) → IsReplayed a ≡ IsReplayed b → a ≡ b
+same_log : (a b : ReplaySetup) → IsReplayed a ≡ IsReplayed b → a ≡ b
 same_log a b e = cc
 
 same_Ok : {A E : Type 0} (a b : A) → ◌≡◌ {A = Result A E} (Ok a) (Ok b) → a ≡ b
@@ -30,8 +30,8 @@ same_Ok a b e = cc
 
 abbrev IsOfBytes : RoleRead → Type 0
 IsOfBytes PlainRead = Unit {0}
-IsOfBytes (RecordRead mode) = Unit {0}
-IsOfBytes (ReplayRead read) = (bytes : List ℕ) × (read_of bytes ≡ read)
+IsOfBytes (RecordRead inputs) = Unit {0}
+IsOfBytes (ReplayRead inputs) = (bytes : List ℕ) × (read_of bytes ≡ inputs.log)
 
 abbrev AreOfBytes : List SphereRead → Type 0
 AreOfBytes [] = Unit {0}
@@ -39,11 +39,11 @@ AreOfBytes (s ∷ ss) = IsOfBytes s.role × AreOfBytes ss
 
 role_of_bytes : (m : Contents) (role : RoleValues) (r : RoleRead) → role_read m role ≡ Ok r → IsOfBytes r
 role_of_bytes m Plain r e = subst IsOfBytes (same_Ok PlainRead r e) tt
-role_of_bytes m (Record mode log) r e = subst IsOfBytes (same_Ok (RecordRead mode) r e) tt
+role_of_bytes m (Record mode log) r e = subst IsOfBytes (same_Ok (RecordRead (record { mode = mode })) r e) tt
 role_of_bytes m (Replay log) r e =
     let read = then_ok (log_at m log) _ r e in
     let file = then_ok (read_at m log) _ read.0 read.1 in
-    subst IsOfBytes (same_Ok (ReplayRead read.0) r read.2) (file.0, same_Ok (read_of file.0) read.0 file.2)
+    subst IsOfBytes (same_Ok (ReplayRead (record { log = read.0 })) r read.2) (file.0, same_Ok (read_of file.0) read.0 file.2)
 
 spheres_of_bytes : (m : Contents) (ss : List SphereValues) (rs : List SphereRead) → spheres_read m ss ≡ Ok rs → AreOfBytes rs
 spheres_of_bytes m [] rs e = subst AreOfBytes (same_Ok [] rs e) tt
@@ -66,35 +66,36 @@ plan_of_bytes m p r e =
 
 -- ---- so it has its numbers
 
-role_sized : (i : ℕ) (role : RoleRead) (log : LogParts) → IsOfBytes role → role_of i role ≡ Ok (IsReplayed log) → 0 < log.s
-role_sized i PlainRead log is e = absurd cc
-role_sized i (RecordRead mode) log is e = absurd cc
-role_sized i (ReplayRead read) log is e =
-    let p = then_ok (refusing (bad_log i) read) _ (IsReplayed log) e in
-    let same = same_log p.0 log (same_role (IsReplayed p.0) (IsReplayed log) p.2) in
-    subst (λ (l : LogParts). 0 < l.s) same (log_sized is.0 p.0 (is.1 ∙ not_refused (bad_log i) read p.0 p.1))
+role_sized : (i : ℕ) (role : RoleRead) (asked : ReplaySetup) → IsOfBytes role → role_of i role ≡ Ok (IsReplayed asked) → 0 < asked.log.s
+role_sized i PlainRead asked is e = absurd cc
+role_sized i (RecordRead inputs) asked is e = absurd cc
+role_sized i (ReplayRead inputs) asked is e =
+    let p = then_ok (refusing (bad_log i) inputs.log) _ (IsReplayed asked) e in
+    let made : ReplaySetup = record { log = p.0 } in
+    let same = same_log made asked (same_role (IsReplayed made) (IsReplayed asked) p.2) in
+    subst (λ (r : ReplaySetup). 0 < r.log.s) same (log_sized is.0 p.0 (is.1 ∙ not_refused (bad_log i) inputs.log p.0 p.1))
 
 same_spheres : (ys xs : List SphereSetup) → ◌≡◌ {A = Result (List SphereSetup) Refused} (Ok ys) (Ok xs) → ys ≡ xs
 same_spheres ys xs e = cc
 
-spheres_sized : (k i : ℕ) (ss : List SphereRead) (images : List Image) (xs : List SphereSetup) (x : SphereSetup) (log : LogParts) → AreOfBytes ss → spheres_of k ss images ≡ Ok xs → slice_get xs i ≡ Some x → x.role ≡ IsReplayed log → 0 < log.s
-spheres_sized k i [] images xs x log are made at is =
+spheres_sized : (k i : ℕ) (ss : List SphereRead) (images : List Image) (xs : List SphereSetup) (x : SphereSetup) (asked : ReplaySetup) → AreOfBytes ss → spheres_of k ss images ≡ Ok xs → slice_get xs i ≡ Some x → x.role ≡ IsReplayed asked → 0 < asked.log.s
+spheres_sized k i [] images xs x asked are made at is =
     absurd (none-some x (ap (λ (ys : List SphereSetup). slice_get ys i) (same_spheres [] xs made) ∙ at))
-spheres_sized k i (s ∷ ss) [] xs x log are made at is =
+spheres_sized k i (s ∷ ss) [] xs x asked are made at is =
     absurd (none-some x (ap (λ (ys : List SphereSetup). slice_get ys i) (same_spheres [] xs made) ∙ at))
-spheres_sized k zero (s ∷ ss) (image ∷ images) xs x log are made at is =
+spheres_sized k zero (s ∷ ss) (image ∷ images) xs x asked are made at is =
     let here = then_ok (role_of k s.role) _ xs made in
     let rest = then_ok (spheres_of (suc k) ss images) _ xs here.2 in
     let first : SphereSetup = record { memory = image.bytes; entry = image.entry; role = here.0 } in
     let all = same_spheres (first ∷ rest.0) xs rest.2 in
     let same = same_Some first x (ap (λ (ys : List SphereSetup). slice_get ys 0) all ∙ at) in
-    role_sized k s.role log are.0 (here.1 ∙ ap Ok (ap (λ (y : SphereSetup). y.role) same ∙ is))
-spheres_sized k (suc i) (s ∷ ss) (image ∷ images) xs x log are made at is =
+    role_sized k s.role asked are.0 (here.1 ∙ ap Ok (ap (λ (y : SphereSetup). y.role) same ∙ is))
+spheres_sized k (suc i) (s ∷ ss) (image ∷ images) xs x asked are made at is =
     let here = then_ok (role_of k s.role) _ xs made in
     let rest = then_ok (spheres_of (suc k) ss images) _ xs here.2 in
     let first : SphereSetup = record { memory = image.bytes; entry = image.entry; role = here.0 } in
     let all = same_spheres (first ∷ rest.0) xs rest.2 in
-    spheres_sized (suc k) i ss images rest.0 x log are.1 rest.1 (ap (λ (ys : List SphereSetup). slice_get ys (suc i)) all ∙ at) is
+    spheres_sized (suc k) i ss images rest.0 x asked are.1 rest.1 (ap (λ (ys : List SphereSetup). slice_get ys (suc i)) all ∙ at) is
 
 -- the machine of a task can be finished
 pub task_can_finish : (plan : List ℕ) (m : Contents) (t : Task) → IsTask plan m t → CanFinish (setup_in t)
@@ -106,5 +107,5 @@ task_can_finish plan m t is =
       setup = record { chunk = sized.chunk; buffer = sized.buffer };
       cores = sized.cores;
       window = sized.window;
-      standard = λ i x log at role. spheres_sized 0 i t.read.spheres built.images t.spheres x log are built.spheres at role;
+      standard = λ i x asked at role. spheres_sized 0 i t.read.spheres built.images t.spheres x asked are built.spheres at role;
     }

@@ -5,13 +5,13 @@ use Rattle.dl_elf.specs.Loading.{image_of}
 use Rattle.spec_log.specs.declared.LogParts.{LogParts}
 use Rattle.spec_log.specs.Reading.{ParseError}
 use Rattle.spec_protocol.specs.Logged.{sphere_in}
-use Rattle.spec_protocol.specs.Machine.{RoleSetup, IsRecorded, IsReplayed, SphereSetup}
+use Rattle.spec_protocol.specs.Machine.{RecordSetup, RoleSetup, IsRecorded, IsReplayed, SphereSetup}
 use Rattle.spec_run.specs.Runs.{executed}
 use Rattle.spec_run.specs.Texts.{account_as, account_text, log_of_points}
 use Rattle.spec_run.proofs.Described.{recordings_reproduced}
 use Rattle.spec_program.specs.Agreement.{AccountsAgree, RecordingsAreReplayed}
 use Rattle.spec_program.specs.Built.{bad_log, mode_named, role_of}
-use Rattle.spec_program.specs.Files.{ReplayRead, SphereRead}
+use Rattle.spec_program.specs.Files.{ReplayInputs, ReplayRead, SphereRead}
 use Rattle.spec_program.specs.Stages.{refusing, ◌>>◌}
 use Rattle.spec_program.specs.Tasks.{setup_in}
 use Rattle.spec_program.proofs.Able.{task_can_finish}
@@ -25,56 +25,61 @@ same_Ok a b e = cc
 same_image : (s r : SphereRead) (x y : SphereSetup) → s.image ≡ r.image → s.memory ≡ r.memory → (a : IsMade s x) → (b : IsMade r y) → a.image ≡ b.image
 same_image s r x y file size a b = same_Ok a.image b.image (sym a.loaded ∙ (λ k. image_of (file k) (size k)) ∙ b.loaded)
 
-replayed_by : (i : ℕ) (o : Result LogParts ParseError) (r : RoleSetup) → (refusing (bad_log i) o >> λ log. Ok (IsReplayed log)) ≡ Ok r → (parts : LogParts) × (o ≡ Ok parts) × (r ≡ IsReplayed parts)
-replayed_by i (Err fault) r e = absurd cc
-replayed_by i (Ok parts) r e = (parts, refl, sym (same_Ok (IsReplayed parts) r e))
-
 -- the role that replays a log
-replayed : (log : Result LogParts ParseError) (s : SphereRead) (x : SphereSetup) → s.role ≡ ReplayRead log → IsMade s x → (parts : LogParts) × (log ≡ Ok parts) × (x.role ≡ IsReplayed parts)
-replayed log s x role made = replayed_by 0 log x.role (ap (role_of 0) (sym role) ∙ made.role)
+abbrev replays_log : LogParts → RoleSetup
+replays_log log = IsReplayed (record { log = log })
+
+replayed_by : (i : ℕ) (o : Result LogParts ParseError) (r : RoleSetup) → (refusing (bad_log i) o >> λ log. Ok (replays_log log)) ≡ Ok r → (parts : LogParts) × (o ≡ Ok parts) × (r ≡ replays_log parts)
+replayed_by i (Err fault) r e = absurd cc
+replayed_by i (Ok parts) r e = (parts, refl, sym (same_Ok (replays_log parts) r e))
+
+-- what is replayed
+replayed : (inputs : ReplayInputs) (s : SphereRead) (x : SphereSetup) → s.role ≡ ReplayRead inputs → IsMade s x → (parts : LogParts) × (inputs.log ≡ Ok parts) × (x.role ≡ replays_log parts)
+replayed inputs s x role made = replayed_by 0 inputs.log x.role (ap (role_of 0) (sym role) ∙ made.role)
 
 -- ---- accounts
 
 -- two tasks that replay a sphere of the same image, memory size and log write equal accounts of it
 pub accounts_agree : AccountsAgree
 unfolding account_text
-accounts_agree plan other m n t u i j s log is is_too role at there =
+accounts_agree plan other m n t u i j s inputs is is_too role at there =
     let a = sphere_of_task plan m t i s is at in
     let b = sphere_of_task other n u j s is_too there in
     let image = same_image s s a.setup b.setup refl refl a.made b.made in
-    let p = replayed log s a.setup role a.made in
-    let q = replayed log s b.setup role b.made in
+    let p = replayed inputs s a.setup role a.made in
+    let q = replayed inputs s b.setup role b.made in
     let parts : p.0 ≡ q.0 = same_Ok p.0 q.0 (sym p.1 ∙ q.1) in
-    let setup : a.setup ≡ b.setup = (λ k. record { memory = (a.made.memory ∙ ap (λ (x : Image). x.bytes) image ∙ sym b.made.memory) k; entry = (a.made.entry ∙ ap (λ (x : Image). x.entry) image ∙ sym b.made.entry) k; role = (p.2 ∙ ap IsReplayed parts ∙ sym q.2) k }) in
+    let setup : a.setup ≡ b.setup = (λ k. record { memory = (a.made.memory ∙ ap (λ (x : Image). x.bytes) image ∙ sym b.made.memory) k; entry = (a.made.entry ∙ ap (λ (x : Image). x.entry) image ∙ sym b.made.entry) k; role = (p.2 ∙ ap replays_log parts ∙ sym q.2) k }) in
     let x = sphere_in (executed (setup_in t) t.events) i in
     let y = sphere_in (executed (setup_in u) u.events) j in
     ap (λ (d : SphereSetup). account_as d x d.role) a.at
     ∙ ap (account_as a.setup x) p.2
-    ∙ ap (λ (d : SphereSetup). account_as d y (IsReplayed p.0)) setup
-    ∙ ap (account_as b.setup y) (ap IsReplayed parts ∙ sym q.2)
+    ∙ ap (λ (d : SphereSetup). account_as d y (replays_log p.0)) setup
+    ∙ ap (account_as b.setup y) (ap replays_log parts ∙ sym q.2)
     ∙ ap (λ (d : SphereSetup). account_as d y d.role) (sym b.at)
 
 -- where one task records a sphere and another replays what it recorded, both write the same account
 pub recordings_replayed : RecordingsAreReplayed
 unfolding account_text
-recordings_replayed plan other m n t u i j s mode is is_too role at there =
-    let log : Result LogParts ParseError = Ok (log_of_points (setup_in t) t.events i (mode_named mode)) in
-    let r : SphereRead = record s { role = ReplayRead log } in
+recordings_replayed plan other m n t u i j s inputs is is_too role at there =
+    let asked : RecordSetup = record { mode = mode_named inputs.mode } in
+    let noted_log = log_of_points (setup_in t) t.events i asked.mode in
+    let replay : ReplayInputs = record { log = Ok noted_log } in
+    let r : SphereRead = record s { role = ReplayRead replay } in
     let a = sphere_of_task plan m t i s is at in
     let b = sphere_of_task other n u j r is_too there in
     let image = same_image s r a.setup b.setup refl refl a.made b.made in
-    let noted_log = log_of_points (setup_in t) t.events i (mode_named mode) in
-    let recorded : a.setup.role ≡ IsRecorded (mode_named mode) = sym (same_Ok (IsRecorded (mode_named mode)) a.setup.role (ap (role_of 0) (sym role) ∙ a.made.role)) in
-    let q = replayed log r b.setup refl b.made in
+    let recorded : a.setup.role ≡ IsRecorded asked = sym (same_Ok (IsRecorded asked) a.setup.role (ap (role_of 0) (sym role) ∙ a.made.role)) in
+    let q = replayed replay r b.setup refl b.made in
     let parts : q.0 ≡ noted_log = same_Ok q.0 noted_log (sym q.1) in
     let x = sphere_in (executed (setup_in t) t.events) i in
     let y = sphere_in (executed (setup_in u) u.events) j in
-    let plays : account_as a.setup y (IsReplayed noted_log) ≡ account_as b.setup y (IsReplayed noted_log) =
-    (λ k. account_as (record { memory = (a.made.memory ∙ ap (λ (d : Image). d.bytes) image ∙ sym b.made.memory) k; entry = (a.made.entry ∙ ap (λ (d : Image). d.entry) image ∙ sym b.made.entry) k; role = IsReplayed noted_log }) y (IsReplayed noted_log))
+    let plays : account_as a.setup y (replays_log noted_log) ≡ account_as b.setup y (replays_log noted_log) =
+    (λ k. account_as (record { memory = (a.made.memory ∙ ap (λ (d : Image). d.bytes) image ∙ sym b.made.memory) k; entry = (a.made.entry ∙ ap (λ (d : Image). d.entry) image ∙ sym b.made.entry) k; role = replays_log noted_log }) y (replays_log noted_log))
     in
     ap (λ (d : SphereSetup). account_as d x d.role) a.at
     ∙ ap (account_as a.setup x) recorded
-    ∙ sym (recordings_reproduced (setup_in t) t.events i a.setup (mode_named mode) (task_can_finish plan m t is) a.there recorded).account
+    ∙ sym (recordings_reproduced (setup_in t) t.events i a.setup asked (task_can_finish plan m t is) a.there recorded).account
     ∙ plays
-    ∙ ap (account_as b.setup y) (ap IsReplayed (sym parts) ∙ sym q.2)
+    ∙ ap (account_as b.setup y) (ap replays_log (sym parts) ∙ sym q.2)
     ∙ ap (λ (d : SphereSetup). account_as d y d.role) (sym b.at)

@@ -5,7 +5,7 @@ use Rattle.std.proofs.lemmas.Option.{none-some, same_Some}
 use Rattle.spec_log.specs.declared.LogParts.{LogParts}
 use Rattle.spec_log.specs.declared.ModeName.{ModeName}
 use Rattle.spec_play.specs.Turns.{Now}
-use Rattle.spec_protocol.specs.Machine.{IsRecorded, IsReplayed, SphereSetup}
+use Rattle.spec_protocol.specs.Machine.{ReplaySetup, IsRecorded, IsReplayed, SphereSetup}
 use Rattle.spec_finishing.specs.Ending.{CanFinish}
 use Rattle.spec_run.specs.Runs.{end_of, has_diverged}
 use Rattle.spec_run.specs.Texts.{account_text}
@@ -14,14 +14,14 @@ use Rattle.spec_program.specs.Drilled.{IsReproduced}
 use Rattle.spec_program.specs.Drills.{drill_sphere, recording, recording_events}
 
 abbrev recorded : (number : ℕ) → SphereSetup
-recorded v = drill_sphere v (IsRecorded ModeName.OrderOnly)
+recorded v = drill_sphere v (IsRecorded (record { mode = ModeName.OrderOnly }))
 
 -- nothing is replayed
-none_replayed : (v i : ℕ) (image : SphereSetup) (log : LogParts) → slice_get (recorded v ∷ []) i ≡ Some image → image.role ≡ IsReplayed log → 0 < log.s
-none_replayed v zero image log is role =
-    let other : IsRecorded ModeName.OrderOnly ≡ IsReplayed log = ap (λ (x : SphereSetup). x.role) (same_Some (recorded v) image is) ∙ role in
+none_replayed : (v i : ℕ) (image : SphereSetup) (asked : ReplaySetup) → slice_get (recorded v ∷ []) i ≡ Some image → image.role ≡ IsReplayed asked → 0 < asked.log.s
+none_replayed v zero image asked is role =
+    let other : IsRecorded (record { mode = ModeName.OrderOnly }) ≡ IsReplayed asked = ap (λ (x : SphereSetup). x.role) (same_Some (recorded v) image is) ∙ role in
     absurd cc
-none_replayed v (suc i) image log is role = absurd (none-some image is)
+none_replayed v (suc i) image asked is role = absurd (none-some image is)
 
 can_finish : (v : ℕ) → CanFinish (recording v)
 can_finish v =
@@ -36,5 +36,5 @@ can_finish v =
 pub drill_reproduced : (v : ℕ) → IsReproduced v
 unfolding account_text
 drill_reproduced v =
-    let reproduced = recordings_reproduced (recording v) (recording_events v) 0 (recorded v) ModeName.OrderOnly (can_finish v) refl refl in
+    let reproduced = recordings_reproduced (recording v) (recording_events v) 0 (recorded v) (record { mode = ModeName.OrderOnly }) (can_finish v) refl refl in
     record { account = reproduced.account; complete = ap (λ (n : Now). has_diverged (end_of n) || false) reproduced.fits }

@@ -1,6 +1,5 @@
 pub mod Turns
 pub mod Sizing
-pub mod LogRead
 pub mod Made
 pub mod Able
 pub mod Finishing

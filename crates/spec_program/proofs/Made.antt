@@ -35,15 +35,15 @@ pub record IsMade (s : SphereRead) (x : SphereSetup) : Type 0 where
   pub entry : x.entry ≡ image.entry
   pub role : role_of 0 s.role ≡ Ok x.role
 
-log_any : (i j : ℕ) (o : Result LogParts ParseError) (r : RoleSetup) → (refusing (bad_log i) o >> λ log. Ok (IsReplayed log)) ≡ Ok r → (refusing (bad_log j) o >> λ log. Ok (IsReplayed log)) ≡ Ok r
+log_any : (i j : ℕ) (o : Result LogParts ParseError) (r : RoleSetup) → (refusing (bad_log i) o >> λ log. Ok (IsReplayed (record { log = log }))) ≡ Ok r → (refusing (bad_log j) o >> λ log. Ok (IsReplayed (record { log = log }))) ≡ Ok r
 log_any i j (Err fault) r e = absurd cc
 log_any i j (Ok log) r e = e
 
 -- a role that is not refused is one by any number
 role_any : (i j : ℕ) (role : RoleRead) (r : RoleSetup) → role_of i role ≡ Ok r → role_of j role ≡ Ok r
 role_any i j PlainRead r e = e
-role_any i j (RecordRead mode) r e = e
-role_any i j (ReplayRead read) r e = log_any i j read r e
+role_any i j (RecordRead inputs) r e = e
+role_any i j (ReplayRead inputs) r e = log_any i j inputs.log r e
 
 pub sphere_made : (k i : ℕ) (ss : List SphereRead) (images : List Image) (xs : List SphereSetup) (s : SphereRead) → images_of k ss ≡ Ok images → spheres_of k ss images ≡ Ok xs → slice_get ss i ≡ Some s
     → (x : SphereSetup) × (slice_get xs i ≡ Some x) × IsMade s x
@@ -98,7 +98,7 @@ task_built name m t is =
     let read = then_ok (refusing absent (plan_read m plan.0)) (task_read plan.0) t plan.2 in
     let images = then_ok (images_of 0 read.0.spheres) _ t read.2 in
     let spheres = then_ok (spheres_of 0 read.0.spheres images.0) _ t images.2 in
-    let events = then_ok (events_of plan.0.seed read.0.schedule) _ t spheres.2 in
+    let events = then_ok (events_of plan.0.sizes.seed read.0.schedule) _ t spheres.2 in
     let made : Task = record { plan = plan.0; read = read.0; spheres = spheres.0; events = events.0 } in
     let same : made ≡ t = cc in
     subst (IsBuilt m) same (record {

@@ -3,9 +3,10 @@ use Rattle.std.proofs.Common.{◌≡◌, ℕ, ◌<◌, ◌≤◌, ◌&&◌, pos,
 use Rattle.std.proofs.lemmas.Option.{none-some, same_Some}
 use Rattle.dl_plan.specs.Entries.{Entries}
 use Rattle.dl_plan.specs.Limits.{limited, signature_of}
-use Rattle.dl_plan.specs.Optional.{◌>>=◌, ◌>>◌, each_of, if_there}
-use Rattle.dl_plan.specs.Plans.{plan_of, document, entries_in, values_in, values_of, named_well, has_good_names, schedule_of, sphere_asked}
-use Rattle.dl_plan.specs.Sizes.{Sizes, sizes_in, sizes_of, has_good_spheres}
+use Rattle.dl_plan.specs.Optional.{◌>>=◌, ◌>>◌, each_of}
+use Rattle.dl_plan.specs.declared.Sizes.{Sizes}
+use Rattle.dl_plan.specs.Plans.{plan_of, plan_in, document, entries_in, values_in, values_of, named_well, has_good_names, schedule_of, sphere_asked}
+use Rattle.dl_plan.specs.Sizes.{sizes_in, sizes_of, events_in, has_good_spheres}
 use Rattle.dl_plan.specs.Values.{PlanValues}
 
 then_some : {A B : Type 0} (o : Option A) (f : A → Option B) (b : B) → (o >>= f) ≡ Some b → (a : A) × (o ≡ Some a) × (f a ≡ Some b)
@@ -28,10 +29,10 @@ some_ok (Some b) rule a e = cc
 
 -- there is a core and a slot, a chunk runs an instruction, and a buffer holds a word
 pub record IsSized (p : PlanValues) : Type 0 where
-  pub cores : 0 < p.cores
-  pub chunk : 0 < p.chunk
-  pub buffer : 0 < p.buffer
-  pub window : 0 < p.window
+  pub cores : 0 < p.sizes.cores
+  pub chunk : 0 < p.sizes.chunk
+  pub buffer : 0 < p.sizes.buffer
+  pub window : 0 < p.sizes.window
 
 and_first : (a b : Bool) → (a && b) ≡ true → a ≡ true
 and_first true b e = refl
@@ -61,8 +62,7 @@ sizes_least en s e =
     let window = then_some (limited 1 8 en.top.window) _ s buffer.2 in
     let signature = then_some (signature_of en.top.signature) _ s window.2 in
     let seed = then_some (limited 0 9223372036854775807 (unwrap_or en.top.seed (pos 0))) _ s signature.2 in
-    let events = then_some (if_there (limited 0 16777216) en.top.events) _ s seed.2 in
-    subst AreLeast (same_Some _ s events.2) (record {
+    subst AreLeast (same_Some _ s seed.2) (record {
       cores = limited_low 1 8 en.top.cores cores.0 cores.1;
       chunk = limited_low 16 4096 en.top.chunk chunk.0 chunk.1;
       buffer = limited_low 1 4096 en.top.buffer buffer.0 buffer.1;
@@ -79,7 +79,8 @@ named_same false q p e = absurd cc
 values_sized : (en : Entries) (p : PlanValues) → values_in en ≡ Ok p → IsSized p
 values_sized en p e =
     let sizes = then_ok (ok_or (sizes_in en) 4) _ p e in
-    let schedule = then_ok (ok_or (schedule_of sizes.0.events en.top.script) 5) _ p sizes.2 in
+    let events = then_ok (ok_or (events_in en.top) 4) _ p sizes.2 in
+    let schedule = then_ok (ok_or (schedule_of events.0 en.top.script) 5) _ p events.2 in
     let spheres = then_ok (ok_or (each_of sphere_asked en.spheres) 6) _ p schedule.2 in
     let least = sizes_least en sizes.0 (some_ok (sizes_in en) 4 sizes.0 sizes.1) in
     subst IsSized (same_ok (values_of en.top sizes.0 schedule.0 spheres.0) p spheres.2) (record {
@@ -93,6 +94,6 @@ values_sized en p e =
 pub plan_sized : (name bytes : List ℕ) (p : PlanValues) → plan_of name bytes ≡ Ok p → IsSized p
 unfolding plan_of
 plan_sized name bytes p e =
-    let values = then_ok (ok_or (document bytes) 1 >> entries_in >> values_in) (named_well name) p e in
-    let entries = then_ok (ok_or (document bytes) 1 >> entries_in) values_in values.0 values.1 in
-    subst IsSized (named_same (has_good_names name values.0) values.0 p values.2) (values_sized entries.0 values.0 entries.2)
+    let entries = then_ok (ok_or (document bytes) 1 >> entries_in) (plan_in name) p e in
+    let values = then_ok (values_in entries.0) (named_well name) p entries.2 in
+    subst IsSized (named_same (has_good_names name values.0) values.0 p values.2) (values_sized entries.0 values.0 values.1)

@@ -1,13 +1,10 @@
 -- What tasks have in common that agree on a sphere.
-use Rattle.std.specs.Prelude.{◌≡◌, ℕ, List, slice_get, Some, Result, Ok}
+use Rattle.std.specs.Prelude.{◌≡◌, ℕ, List, slice_get, Some, Ok}
 use Rattle.dl_files.specs.Contents.{Contents}
-use Rattle.dl_plan.specs.declared.Mode.{Mode}
 use Rattle.dl_plan.specs.declared.Product.{Product}
-use Rattle.spec_log.specs.declared.LogParts.{LogParts}
-use Rattle.spec_log.specs.Reading.{ParseError}
 use Rattle.spec_run.specs.Texts.{log_of_points}
 use Rattle.spec_program.specs.Built.{mode_named}
-use Rattle.spec_program.specs.Files.{RecordRead, ReplayRead, SphereRead}
+use Rattle.spec_program.specs.Files.{RecordInputs, ReplayInputs, RecordRead, ReplayRead, SphereRead}
 use Rattle.spec_program.specs.Outcomes.{product_for}
 use Rattle.spec_program.specs.Tasks.{Task, IsTask, setup_in}
 
@@ -19,10 +16,10 @@ account_in t i = product_for (setup_in t) t.events (Product.Account i)
 -- plans and files say
 abbrev pub AccountsAgree : Type 0
 AccountsAgree =
-    (plan other : List ℕ) (m n : Contents) (t u : Task) (i j : ℕ) (s : SphereRead) (log : Result LogParts ParseError)
+    (plan other : List ℕ) (m n : Contents) (t u : Task) (i j : ℕ) (s : SphereRead) (inputs : ReplayInputs)
     → IsTask plan m t
     → IsTask other n u
-    → s.role ≡ ReplayRead log
+    → s.role ≡ ReplayRead inputs
     → slice_get t.read.spheres i ≡ Some s
     → slice_get u.read.spheres j ≡ Some s
     → account_in t i ≡ account_in u j
@@ -31,11 +28,11 @@ AccountsAgree =
 -- write the same account
 abbrev pub RecordingsAreReplayed : Type 0
 RecordingsAreReplayed =
-    (plan other : List ℕ) (m n : Contents) (t u : Task) (i j : ℕ) (s : SphereRead) (mode : Mode)
+    (plan other : List ℕ) (m n : Contents) (t u : Task) (i j : ℕ) (s : SphereRead) (inputs : RecordInputs)
     → IsTask plan m t
     → IsTask other n u
-    → s.role ≡ RecordRead mode
+    → s.role ≡ RecordRead inputs
     → slice_get t.read.spheres i ≡ Some s
     → slice_get u.read.spheres j
-    ≡ Some (record s { role = ReplayRead (Ok (log_of_points (setup_in t) t.events i (mode_named mode))) })
+    ≡ Some (record s { role = ReplayRead (record { log = Ok (log_of_points (setup_in t) t.events i (mode_named inputs.mode)) }) })
     → account_in t i ≡ account_in u j

@@ -5,11 +5,13 @@ use Rattle.dl_elf.specs.Images.{Image}
 use Rattle.dl_elf.specs.Loading.{image_of}
 use Rattle.dl_event.specs.Seeded.{seeded, schedule}
 use Rattle.dl_plan.specs.declared.Mode.{Mode}
+use Rattle.dl_plan.specs.declared.Sizes.{Sizes}
 use Rattle.dl_plan.specs.Values.{PlanValues}
 use Rattle.spec_log.specs.declared.ModeName.{ModeName}
 use Rattle.spec_log.specs.Reading.{ParseError}
 use Rattle.spec_protocol.specs.declared.event.Event.{Event}
 use Rattle.spec_protocol.specs.Machine.{RoleSetup, IsPlain, IsRecorded, IsReplayed, SphereSetup, Setup}
+use Rattle.spec_protocol.specs.World.{Numbers}
 use Rattle.spec_program.specs.declared.status.Refusal.{Refusal}
 use Rattle.spec_program.specs.Files.{ScheduleRead, ScriptRead, EventsDrawn, RoleRead, PlainRead, RecordRead, ReplayRead, SphereRead}
 use Rattle.spec_program.specs.Lines.{image_line, log_line, script_line}
@@ -42,8 +44,8 @@ mode_named Mode.Picolog = ModeName.Picolog
 
 abbrev pub role_of : (i : ℕ) → RoleRead → Result RoleSetup Refused
 role_of i PlainRead = Ok IsPlain
-role_of i (RecordRead mode) = Ok (IsRecorded (mode_named mode))
-role_of i (ReplayRead read) = refusing (bad_log i) read >> λ log. Ok (IsReplayed log)
+role_of i (RecordRead inputs) = Ok (IsRecorded (record { mode = mode_named inputs.mode }))
+role_of i (ReplayRead inputs) = refusing (bad_log i) inputs.log >> λ log. Ok (IsReplayed (record { log = log }))
 
 abbrev pub spheres_of : (i : ℕ) → List SphereRead → List Image → Result (List SphereSetup) Refused
 spheres_of i (s ∷ ss) (image ∷ images) =
@@ -63,13 +65,16 @@ events_of seed (EventsDrawn n) = Ok (schedule n (seeded seed))
 
 -- ---- the machine's setup
 
+abbrev pub numbers_of : Sizes → Numbers
+numbers_of s = record { s = s.chunk; capacity = s.buffer; bits = s.signature }
+
 abbrev pub setup_of : PlanValues → (input : List ℕ) → List SphereSetup → Setup
 setup_of p input spheres =
     record {
-      cores = p.cores;
-      window = p.window;
-      numbers = record { s = p.chunk; capacity = p.buffer; bits = p.signature };
-      seed = p.seed;
+      cores = p.sizes.cores;
+      window = p.sizes.window;
+      numbers = numbers_of p.sizes;
+      seed = p.sizes.seed;
       input = input;
       spheres = spheres;
     }

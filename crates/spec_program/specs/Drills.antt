@@ -28,7 +28,7 @@ recording v =
       numbers = record { s = 64; capacity = 8; bits = 128 };
       seed = v;
       input = [];
-      spheres = drill_sphere v (IsRecorded ModeName.OrderOnly) ∷ [];
+      spheres = drill_sphere v (IsRecorded (record { mode = ModeName.OrderOnly })) ∷ [];
     }
 
 abbrev pub recording_events : (number : ℕ) → List Event
@@ -47,7 +47,7 @@ replaying v =
       numbers = record { s = 64; capacity = 1; bits = 64 };
       seed = 0;
       input = [];
-      spheres = drill_sphere v (IsReplayed (recorded_log v)) ∷ [];
+      spheres = drill_sphere v (IsReplayed (record { log = recorded_log v })) ∷ [];
     }
 
 -- ---- what is said

@@ -15,11 +15,18 @@ pub data ScheduleRead : Type 0 where
   ScriptRead : (script : Result (List Event) ℕ) → ScheduleRead
   EventsDrawn : (events : ℕ) → ScheduleRead
 
+-- of what is recorded, the mode
+pub record RecordInputs : Type 0 where
+  pub mode : Mode
+
 -- of what is replayed, the log, or the first of its fields that isn't good
+pub record ReplayInputs : Type 0 where
+  pub log : Result LogParts ParseError
+
 pub data RoleRead : Type 0 where
   PlainRead : RoleRead
-  RecordRead : Mode → RoleRead
-  ReplayRead : (log : Result LogParts ParseError) → RoleRead
+  RecordRead : (inputs : RecordInputs) → RoleRead
+  ReplayRead : (inputs : ReplayInputs) → RoleRead
 
 pub record SphereRead : Type 0 where
   pub image : List ℕ
@@ -56,8 +63,8 @@ input_read m (Some name) = read_at m name
 
 abbrev pub role_read : Contents → RoleValues → Result RoleRead (List ℕ)
 role_read m Plain = Ok PlainRead
-role_read m (Record mode log) = Ok (RecordRead mode)
-role_read m (Replay log) = log_at m log >> λ read. Ok (ReplayRead read)
+role_read m (Record mode log) = Ok (RecordRead (record { mode = mode }))
+role_read m (Replay log) = log_at m log >> λ read. Ok (ReplayRead (record { log = read }))
 
 abbrev pub sphere_read : Contents → SphereValues → Result SphereRead (List ℕ)
 sphere_read m s =

@@ -34,7 +34,7 @@ abbrev pub task_read : PlanValues → PlanRead → Result Task Refused
 task_read p read =
     images_of 0 read.spheres >> λ images.
     spheres_of 0 read.spheres images >> λ spheres.
-    events_of p.seed read.schedule >> λ events.
+    events_of p.sizes.seed read.schedule >> λ events.
     Ok (record { plan = p; read = read; spheres = spheres; events = events })
 
 abbrev pub absent : (name : List ℕ) → Refused

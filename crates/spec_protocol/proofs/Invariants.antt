@@ -1,5 +1,6 @@
 -- What holds of every world that the machine comes to: the start has it, and each event keeps it.
 pub mod Preserved
+pub mod Held
 pub mod Cores
 pub mod Flights
 pub mod Landing

@@ -2,9 +2,8 @@
 use Rattle.std.specs.Prelude.{◌≡◌, ℕ, Bool, Option, Some, None}
 use Rattle.spec_isa.specs.declared.thread.Parts.{Parts}
 use Rattle.spec_isa.specs.Runs.{Run}
-use Rattle.spec_log.specs.declared.LogParts.{LogParts}
 use Rattle.spec_kernel.specs.Devices.{Devices}
-use Rattle.spec_protocol.specs.Spheres.{Role, Plain, Record, Sphere}
+use Rattle.spec_protocol.specs.Spheres.{Recording, Role, Plain, Record, Sphere}
 use Rattle.spec_protocol.specs.Commits.{MovedSphere, chunk_moved, serial_moved, dma_moved, raised}
 
 abbrev pub in_role : Role → Sphere → Sphere
@@ -38,4 +37,4 @@ pub record MovesAlike (p q : Sphere) : Type 0 where
 -- whatever the log so far
 abbrev pub PlainMovesAsRecorded : Type 0
 PlainMovesAsRecorded =
-    (p : Sphere) (log : LogParts) → MovesAlike (in_role Plain p) (in_role (Record log) p)
+    (p : Sphere) (recording : Recording) → MovesAlike (in_role Plain p) (in_role (Record recording) p)

@@ -11,9 +11,9 @@ use Rattle.spec_engine.specs.Flights.{at, is_full}
 use Rattle.spec_engine.specs.Chunks.{Chunk, is_empty_serial}
 use Rattle.spec_engine.specs.Asking.{ask, ask_serial}
 use Rattle.spec_protocol.specs.declared.reply.Reply.{Reply}
-use Rattle.spec_protocol.specs.Spheres.{Role, is_stopped, head_of, is_in_pieces}
+use Rattle.spec_protocol.specs.Spheres.{turn_against, Role, Sphere, is_stopped, head_of, is_in_pieces}
 use Rattle.spec_protocol.specs.Commits.{CommitOutcome, Granted, Piece, Diverged, MovedSphere, is_piece, chunk_moved, serial_moved}
-use Rattle.spec_protocol.specs.World.{World, Occupant, moment, sphere_at, with_sphere, with_core, held_afresh, flown, What, OfChunk, OfSerial, Move, After, answered}
+use Rattle.spec_protocol.specs.World.{Numbers, World, Occupant, moment, sphere_at, with_sphere, with_core, held_afresh, flown, What, OfChunk, OfSerial, Move, After, answered}
 
 -- ---- a granted request
 
@@ -33,13 +33,17 @@ point_at now q kind = Point.Commit now q.sphere (Actor.Thread q.thread) kind q.n
 abbrev pub move_at : (moment : ℕ) → CommitRequest → Move
 move_at now q = record { moment = now; sphere = q.sphere; what = q.what }
 
+-- what a core goes on with after its granted request, where the sphere is p: the thread as it is now, and a new chunk of it
+abbrev pub goes_on_with : Numbers → CommitRequest → Sphere → Option Occupant
+goes_on_with z q p = held_afresh z q.sphere q.thread p
+
 -- the words fly, and the core, which is told, goes on with its thread as it is now
 abbrev pub world_with : World → (core : ℕ) → CommitRequest → Signature → MovedSphere → World
 world_with w c q writes v =
     record w {
       spheres = (with_sphere w q.sphere v.sphere).spheres;
       slots = flown q.sphere v.words writes (2 ^ c) w.slots;
-      cores = (with_core w c (held_afresh w.numbers q.sphere q.thread v.sphere)).cores;
+      cores = (with_core w c (goes_on_with w.numbers q v.sphere)).cores;
       devices = v.devices;
     }
 
@@ -131,12 +135,6 @@ abbrev pub ask_arbiter : World → (core : ℕ) → Occupant → How → (serial
 ask_arbiter w c h how true = unless_busy (ask_serial h.chunk.sphere w.slots) w (grant_serial w c h)
 ask_arbiter w c h how false = unless_denied (ask h.chunk.reads h.chunk.writes w.slots) w (grant_chunk w c h how)
 
--- the actor whose turn it is, where that isn't the thread
-abbrev pub other_turn : Option Actor → (thread : ℕ) → Option Actor
-other_turn None k = None
-other_turn (Some Actor.Dma) k = Some Actor.Dma
-other_turn (Some (Actor.Thread j)) k = if nat_eq j k then None else Some (Actor.Thread j)
-
 abbrev pub unless_turn : Option Actor → World → After → After
 unless_turn None w a = a
 unless_turn (Some actor) w a = answered w (Reply.NotTurn actor)
@@ -146,7 +144,7 @@ ask_closed w c h None = answered w Reply.NotClosed
 ask_closed w c h (Some how) =
     let p = sphere_at w h.chunk.sphere in
     if is_stopped p.role then answered w Reply.Stopped
-    else unless_turn (other_turn (head_of p) h.thread) w
+    else unless_turn (turn_against p (Actor.Thread h.thread)) w
     (if is_full w.slots then answered w Reply.WindowFull
     else ask_arbiter w c h how (asks_serial h.chunk p.role))
 

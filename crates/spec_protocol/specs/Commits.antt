@@ -107,9 +107,9 @@ replayed_chunk false b k r devices p =
 
 abbrev pub chunk_in : Role → (thread : ℕ) → (is_piece short : Bool) → Run → Devices → Sphere → MovedSphere
 chunk_in Plain k piece short r devices p = granted_as Plain k (chunk_effect k p.progress.request r) devices p
-chunk_in (Record log) k piece short r devices p =
+chunk_in (Record recording) k piece short r devices p =
     let e = chunk_effect k p.progress.request r in
-    granted_as (Record (noted e.commit r.thread.commits short log)) k e devices p
+    granted_as (Record (record recording { log = noted e.commit r.thread.commits short recording.log })) k e devices p
 chunk_in (Replay b) k piece short r devices p = replayed_chunk piece b k r devices p
 
 -- the chunk of thread k, which is a run. In a replay it may be a piece; in a recording it may be short, which is closed
@@ -133,8 +133,8 @@ serial_noted k t g log p =
 
 abbrev pub serial_in : Role → (thread : ℕ) → (moment : ℕ) → Parts → Devices → Sphere → MovedSphere
 serial_in Plain k moment t devices p = served_as Plain k t (taken (need t p.memory) devices moment) p
-serial_in (Record log) k moment t devices p =
-    let g = taken (need t p.memory) devices moment in served_as (Record (serial_noted k t g log p)) k t g p
+serial_in (Record recording) k moment t devices p =
+    let g = taken (need t p.memory) devices moment in served_as (Record (record recording { log = serial_noted k t g recording.log p })) k t g p
 serial_in (Replay b) k moment t devices p =
     by_verdict b k (serial_verdict b.log p.progress b.used k p.threads t p.memory) devices p
 
@@ -171,8 +171,8 @@ dma_by_verdict b (DmaGoes words) devices p =
 
 abbrev pub dma_in : Role → Devices → Sphere → Option MovedSphere
 dma_in Plain devices p = live_dma Plain devices p p.progress.request
-dma_in (Record log) devices p =
-    live_dma (Record (dma_log log devices p p.progress.request)) devices p p.progress.request
+dma_in (Record recording) devices p =
+    live_dma (Record (record recording { log = dma_log recording.log devices p p.progress.request })) devices p p.progress.request
 dma_in (Replay b) devices p = Some (dma_by_verdict b (dma_verdict b.log p.progress b.used) devices p)
 
 -- the sphere's DMA; none where no request is outstanding, which in a replay is a reason to diverge
@@ -183,7 +183,7 @@ dma_moved devices p = dma_in p.role devices p
 
 abbrev pub role_raised : (thread commits value : ℕ) → Role → Role
 role_raised k commits value Plain = Plain
-role_raised k commits value (Record log) = Record (interrupt_noted k commits value log)
+role_raised k commits value (Record recording) = Record (record recording { log = interrupt_noted k commits value recording.log })
 role_raised k commits value (Replay b) = Replay b
 
 -- thread k, which is t, is interrupted with the value

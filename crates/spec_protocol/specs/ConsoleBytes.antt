@@ -1,11 +1,10 @@
 -- The bytes of the console: what commits put out on its channel, in the order of the points.
-use Rattle.std.specs.Prelude.{◌≡◌, ℕ, nat_eq, List, [], ◌∷◌, ◌++◌, drop, if◌then◌else◌}
+use Rattle.std.specs.Prelude.{◌≡◌, ℕ, nat_eq, List, [], ◌∷◌, ◌++◌, length, drop, if◌then◌else◌}
 use Rattle.std.specs.List.{flat_map}
 use Rattle.dl_entry.specs.declared.Commit.{Commit}
 use Rattle.dl_entry.specs.declared.Output.{Output}
 use Rattle.dl_entry.specs.declared.Point.{Point}
 use Rattle.spec_kernel.specs.Numbers.{channel_console}
-use Rattle.spec_play.specs.Progress.{position}
 use Rattle.spec_protocol.specs.declared.event.Event.{Event}
 use Rattle.spec_protocol.specs.Machine.{Setup}
 use Rattle.spec_protocol.specs.Serial.{SerialState, serial_start, do_point}
@@ -26,7 +25,7 @@ place_of (Point.Raise moment i k value) = i
 
 -- the commits of sphere i in y behind those in x
 abbrev pub new_commits : (i : ℕ) → (x y : SerialState) → List Commit
-new_commits i x y = drop (position (sphere_in x i).progress) (sphere_in y i).progress.commits
+new_commits i x y = drop (length (sphere_in x i).progress.commits) (sphere_in y i).progress.commits
 
 -- what the commits of these points put out, done one at a time; those of replayed spheres put out nothing
 abbrev pub console_of : SerialState → List Point → List ℕ

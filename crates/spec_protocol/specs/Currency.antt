@@ -5,7 +5,7 @@ use Rattle.spec_isa.specs.declared.thread.Parts.{Parts}
 use Rattle.spec_isa.specs.declared.thread.Load.{Load}
 use Rattle.spec_isa.specs.Words.{Stored, lays, holds, Lacks, is_inside}
 use Rattle.spec_isa.specs.Instruction.{Next, serial_of, loads_of, one}
-use Rattle.spec_isa.specs.Runs.{run}
+use Rattle.spec_isa.specs.Runs.{Run, run}
 use Rattle.spec_kernel.specs.Needs.{fetched, next_kind}
 use Rattle.spec_engine.specs.declared.answers.How.{How}
 use Rattle.spec_engine.specs.Signatures.{Signature, line, covers, hits}
@@ -38,20 +38,31 @@ pub record StoresAnew (t : Parts) (m : List ℕ) (ws : List Stored) : Type 0 whe
   pub next : one t m ≡ Next thread load (Some store)
   pub new : holds ws store.number ≡ false
 
+-- after a run a serial instruction comes next, of which everything is seen
+pub record MeetsSerial (seen : ℕ → Bool) (m : List ℕ) (r : Run) : Type 0 where
+  pub touches : Touches seen r.thread (lays m r.words)
+  pub serial : IsSome (next_kind r.thread (lays m r.words))
+
+-- so does one whose store is of a word that the run hasn't stored
+pub record MeetsStore (seen : ℕ → Bool) (m : List ℕ) (r : Run) : Type 0 where
+  pub touches : Touches seen r.thread (lays m r.words)
+  pub anew : StoresAnew r.thread (lays m r.words) r.words
+
+-- what comes after a run that was closed so
+abbrev pub Meets : (seen : ℕ → Bool) → List ℕ → Run → Option How → Type 0
+Meets seen m r None = Unit {0}
+Meets seen m r (Some How.Limit) = Unit {0}
+Meets seen m r (Some How.Serial) = MeetsSerial seen m r
+Meets seen m r (Some How.Overflow) = MeetsStore seen m r
+Meets seen m r (Some How.Cut) = Unit {0}
+
 -- on this memory the chunk's instructions, from its start, give what it has, and its reads cover what they fetch and load.
 -- Where it was closed before a serial instruction, or before one whose store finds no room, they cover that one's too, and
 -- it comes next
 pub record IsCurrent (m : List ℕ) (ch : Chunk) : Type 0 where
   pub runs : run m ch.start ch.done.n ≡ ch.done
   pub touches : RunTouches (seen_by ch) m ch.start ch.done.n
-  pub next_touches : ch.closed ≡ Some How.Serial
-      → Touches (seen_by ch) ch.done.thread (lays m ch.done.words)
-  pub next_serial : ch.closed ≡ Some How.Serial
-      → IsSome (next_kind ch.done.thread (lays m ch.done.words))
-  pub store_touches : ch.closed ≡ Some How.Overflow
-      → Touches (seen_by ch) ch.done.thread (lays m ch.done.words)
-  pub store_anew : ch.closed ≡ Some How.Overflow
-      → StoresAnew ch.done.thread (lays m ch.done.words) ch.done.words
+  pub next : Meets (seen_by ch) m ch.done ch.closed
 
 -- no flight of sphere i that core c was not told of hits these reads
 pub record IsQuiet (slots : List (Option Flight)) (i c : ℕ) (reads : Signature) : Type 0 where

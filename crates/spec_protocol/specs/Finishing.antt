@@ -43,7 +43,7 @@ who_in i (Some actor) others = Some (record { sphere = i; actor = actor })
 
 abbrev pub who_of : (i : ℕ) → Role → Option Who → Option Who
 who_of i Plain others = others
-who_of i (Record log) others = others
+who_of i (Record recording) others = others
 who_of i (Replay b) others = who_in i (actor_of b.now) others
 
 -- of the spheres from i on the least replay that has not stopped

@@ -1,13 +1,13 @@
 -- What holds of every world that the machine comes to.
-use Rattle.std.specs.Prelude.{◌≡◌, ◌≢◌, ℕ, ◌<◌, ◌≤◌, true, false, List, length, slice_get, Option, Some, None}
+use Rattle.std.specs.Prelude.{◌≡◌, ◌≢◌, ℕ, ◌<◌, ◌≤◌, true, false, List, [], length, slice_get, Option, Some, None}
 use Rattle.spec_isa.specs.declared.thread.Parts.{Parts}
-use Rattle.spec_isa.specs.Words.{lays, Apart}
+use Rattle.spec_isa.specs.Words.{Stored, lays, Apart}
 use Rattle.spec_kernel.specs.Interrupts.{is_live}
 use Rattle.spec_engine.specs.declared.answers.How.{How}
 use Rattle.spec_engine.specs.Flights.{Flight, at}
 use Rattle.spec_engine.specs.Chunks.{Chunk}
 use Rattle.spec_engine.specs.Laws.{CoversWords, CoversLoads}
-use Rattle.spec_protocol.specs.Spheres.{Role, is_stopped, limit_of, halves}
+use Rattle.spec_protocol.specs.Spheres.{Role, Sphere, is_stopped, limit_of, halves}
 use Rattle.spec_protocol.specs.Placing.{replays}
 use Rattle.spec_protocol.specs.World.{Occupant, World, sphere_at}
 use Rattle.spec_protocol.specs.Shown.{flying}
@@ -58,18 +58,22 @@ pub record LimitFits (s : ℕ) (role : Role) (k : ℕ) (t : Parts) (limit : ℕ)
   pub most : limit ≤ limit_of s role k t
   pub replayed : replays role ≡ true → limit ≡ limit_of s role k t
 
--- core c holds a live thread of a sphere that there is, and its chunk began from the thread's state
+-- the chunk of core c is good where these words lie over the current memory of sphere i
+abbrev pub IsGoodOver : World → (core i : ℕ) → List Stored → Chunk → Type 0
+IsGoodOver w c i ws ch = IsGoodChunk w.numbers.capacity w.numbers.bits w.slots c (lays (current w i) ws) ch
+
+-- the chunk began from the state of thread k of sphere p, which lives, and has the limit of the thread's commit
+pub record IsOfThread (s : ℕ) (p : Sphere) (k : ℕ) (ch : Chunk) : Type 0 where
+  pub start : slice_get p.threads k ≡ Some ch.start
+  pub lives : is_live ch.start ≡ true
+  pub halving : ch.halves ≡ halves p.role
+  pub limit : is_stopped p.role ≡ false → LimitFits s p.role k ch.start ch.limit
+
+-- core c holds a thread of a sphere that there is, whose chunk is good over the current memory
 pub record IsGoodHeld (w : World) (c : ℕ) (h : Occupant) : Type 0 where
   pub sphere : h.chunk.sphere < length w.spheres
-  pub start : slice_get (sphere_at w h.chunk.sphere).threads h.thread ≡ Some h.chunk.start
-  pub lives : is_live h.chunk.start ≡ true
-  pub halving : h.chunk.halves ≡ halves (sphere_at w h.chunk.sphere).role
-  pub limit : is_stopped (sphere_at w h.chunk.sphere).role ≡ false
-      → (let role = (sphere_at w h.chunk.sphere).role in
-      LimitFits w.numbers.s role h.thread h.chunk.start h.chunk.limit)
-  pub chunk :
-      IsGoodChunk w.numbers.capacity w.numbers.bits w.slots c
-      (current w h.chunk.sphere) h.chunk
+  pub thread : IsOfThread w.numbers.s (sphere_at w h.chunk.sphere) h.thread h.chunk
+  pub chunk : IsGoodOver w c h.chunk.sphere [] h.chunk
 
 -- a thread is on one core at most
 abbrev pub IsAlone : List (Option Occupant) → Type 0

@@ -20,6 +20,7 @@ pub mod PlayingBack
 pub mod LogsOfPoints
 pub mod Pieces
 pub mod Sound
+pub mod Standing
 pub mod Notable
 pub mod Judging
 pub mod Logs

@@ -1,14 +1,13 @@
 -- What holds of every log that is kept: it has what its sphere has done, and nothing of what comes next.
 use Rattle.std.specs.Prelude.{◌≡◌, ℕ, ◌<◌, false, List, slice_get, Some, None}
 use Rattle.spec_isa.specs.declared.thread.Parts.{Parts}
-use Rattle.spec_log.specs.declared.ModeName.{ModeName}
 use Rattle.spec_log.specs.declared.LogParts.{LogParts}
 use Rattle.spec_play.specs.Progress.{position}
 use Rattle.spec_play.specs.Verdicts.{interrupt_at}
 use Rattle.spec_protocol.specs.declared.event.Event.{Event}
-use Rattle.spec_protocol.specs.Spheres.{Record, Sphere}
+use Rattle.spec_protocol.specs.Spheres.{Recording, Record, Sphere}
 use Rattle.spec_protocol.specs.World.{sphere_at}
-use Rattle.spec_protocol.specs.Machine.{SphereSetup, Setup}
+use Rattle.spec_protocol.specs.Machine.{RecordSetup, SphereSetup, Setup}
 use Rattle.spec_protocol.specs.Promises.{WillRecord, after}
 
 -- it counts the sphere's commits; and of a thread it has no interrupt at a later number of commits than the thread's, and
@@ -23,8 +22,8 @@ pub record IsLogFresh (log : LogParts) (p : Sphere) : Type 0 where
 -- so it is of the log that a sphere has kept
 abbrev pub LogsAreFresh : Type 0
 LogsAreFresh =
-    (s : Setup) (es : List Event) (i : ℕ) (image : SphereSetup) (mode : ModeName)
-    → WillRecord s i image mode
-    → (log : LogParts)
-    → (sphere_at (after s es) i).role ≡ Record log
-    → IsLogFresh log (sphere_at (after s es) i)
+    (s : Setup) (es : List Event) (i : ℕ) (image : SphereSetup) (asked : RecordSetup)
+    → WillRecord s i image asked
+    → (recording : Recording)
+    → (sphere_at (after s es) i).role ≡ Record recording
+    → IsLogFresh recording.log (sphere_at (after s es) i)

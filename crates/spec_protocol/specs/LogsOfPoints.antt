@@ -3,9 +3,9 @@ use Rattle.std.specs.Prelude.{◌≡◌, ℕ, List}
 use Rattle.spec_log.specs.declared.ModeName.{ModeName}
 use Rattle.spec_log.specs.declared.LogParts.{LogParts}
 use Rattle.spec_protocol.specs.declared.event.Event.{Event}
-use Rattle.spec_protocol.specs.Spheres.{Record}
+use Rattle.spec_protocol.specs.Spheres.{Recording, Record}
 use Rattle.spec_protocol.specs.World.{sphere_at}
-use Rattle.spec_protocol.specs.Machine.{SphereSetup, Setup}
+use Rattle.spec_protocol.specs.Machine.{RecordSetup, SphereSetup, Setup}
 use Rattle.spec_protocol.specs.Serial.{serial_start}
 use Rattle.spec_protocol.specs.Logged.{supplied, logged}
 use Rattle.spec_protocol.specs.Promises.{WillRecord, after}
@@ -14,9 +14,13 @@ use Rattle.spec_protocol.specs.Promises.{WillRecord, after}
 abbrev pub log_of_points : Setup → List Event → (i : ℕ) → ModeName → LogParts
 log_of_points s es i mode = logged mode s.numbers.s (supplied i (serial_start s) (after s es).points)
 
+-- what a recorded sphere keeps by its points
+abbrev pub recording_of_points : Setup → List Event → (i : ℕ) → RecordSetup → Recording
+recording_of_points s es i asked = record { log = log_of_points s es i asked.mode }
+
 -- the log that a sphere has kept is that of its points, with the standard size
 abbrev pub LogsAreOfPoints : Type 0
 LogsAreOfPoints =
-    (s : Setup) (es : List Event) (i : ℕ) (image : SphereSetup) (mode : ModeName)
-    → WillRecord s i image mode
-    → (sphere_at (after s es) i).role ≡ Record (log_of_points s es i mode)
+    (s : Setup) (es : List Event) (i : ℕ) (image : SphereSetup) (asked : RecordSetup)
+    → WillRecord s i image asked
+    → (sphere_at (after s es) i).role ≡ Record (recording_of_points s es i asked)

@@ -10,9 +10,10 @@ use Rattle.spec_log.specs.declared.LogParts.{LogParts}
 use Rattle.spec_kernel.specs.Devices.{devices_of}
 use Rattle.spec_play.specs.Progress.{no_progress, nothing_used}
 use Rattle.spec_play.specs.Recording.{new_log}
+use Rattle.spec_play.specs.Plays.{Played, opened, plays}
 use Rattle.spec_protocol.specs.declared.event.Event.{Event}
 use Rattle.spec_protocol.specs.declared.reply.Reply.{Reply}
-use Rattle.spec_protocol.specs.Spheres.{Role, Plain, Record, Replay, Sphere}
+use Rattle.spec_protocol.specs.Spheres.{Recording, Role, Plain, Record, Replay, Sphere}
 use Rattle.spec_protocol.specs.Commits.{turned}
 use Rattle.spec_protocol.specs.World.{Numbers, Occupant, World, held_afresh, After, Move}
 use Rattle.spec_protocol.specs.Stepping.{stepping, cutting}
@@ -23,11 +24,23 @@ use Rattle.spec_protocol.specs.Transferring.{transferring}
 
 -- ---- the start
 
--- what a plan says of a sphere: it is plain, or recorded in a mode, or its log is replayed
+-- how a sphere is recorded
+pub record RecordSetup : Type 0 where
+  pub mode : ModeName
+
+-- what is replayed
+pub record ReplaySetup : Type 0 where
+  pub log : LogParts
+
+-- what a plan says of a sphere: it is plain, or recorded, or replayed
 pub data RoleSetup : Type 0 where
   IsPlain : RoleSetup
-  IsRecorded : (mode : ModeName) → RoleSetup
-  IsReplayed : (log : LogParts) → RoleSetup
+  IsRecorded : (asked : RecordSetup) → RoleSetup
+  IsReplayed : (asked : ReplaySetup) → RoleSetup
+
+-- what a recorded sphere begins with
+abbrev pub new_recording : RecordSetup → (s : ℕ) → Recording
+new_recording asked s = record { log = new_log asked.mode s }
 
 -- of its image the bytes of memory, and where thread 0 starts
 pub record SphereSetup : Type 0 where
@@ -45,19 +58,29 @@ pub record Setup : Type 0 where
 
 abbrev pub role_of : (s : ℕ) → List Parts → RoleSetup → Role
 role_of s threads IsPlain = Plain
-role_of s threads (IsRecorded mode) = Record (new_log mode s)
-role_of s threads (IsReplayed log) = Replay (turned log no_progress nothing_used threads)
+role_of s threads (IsRecorded asked) = Record (new_recording asked s)
+role_of s threads (IsReplayed asked) = Replay (turned asked.log no_progress nothing_used threads)
 
--- thread 0 alone, at the entry
+-- thread 0 alone, at the entry of the image
+abbrev pub first_threads : SphereSetup → List Parts
+first_threads image = started image.entry ∷ []
+
 abbrev pub sphere_of : (s : ℕ) → SphereSetup → Sphere
-sphere_of s setup =
-    let threads = started setup.entry ∷ [] in
+sphere_of s image =
+    let threads = first_threads image in
     record {
-      memory = setup.memory;
+      memory = image.memory;
       threads = threads;
       progress = no_progress;
-      role = role_of s threads setup.role;
+      role = role_of s threads image.role;
     }
+
+-- the play of a log on the image: where it begins, and where it has ended
+abbrev pub first_played : SphereSetup → LogParts → Played
+first_played image log = opened log image.memory image.entry
+
+abbrev pub last_played : SphereSetup → LogParts → Played
+last_played image log = plays log (first_played image log) log.count
 
 -- so many cores from sphere i on: each holds thread 0 of its own sphere, or is idle where there is none
 abbrev pub first_cores : Numbers → (i : ℕ) → (cores : ℕ) → List Sphere → List (Option Occupant)

@@ -1,5 +1,6 @@
 -- All that takes effect done whole, one at a time, in replayed spheres too: pieces and divergences beside the points.
 use Rattle.std.specs.Prelude.{◌≡◌, ◌≢◌, ℕ, ◌<◌, ◌≤◌, true, false, List, [], ◌∷◌, slice_get, Option, Some, None, IsSome}
+use Rattle.dl_entry.specs.declared.Actor.{Actor}
 use Rattle.spec_isa.specs.declared.thread.Parts.{Parts}
 use Rattle.spec_isa.specs.Words.{lays}
 use Rattle.spec_isa.specs.Runs.{run}
@@ -7,11 +8,10 @@ use Rattle.spec_kernel.specs.Devices.{Devices}
 use Rattle.spec_kernel.specs.Needs.{next_kind}
 use Rattle.spec_kernel.specs.Interrupts.{is_live, takes_interrupt}
 use Rattle.spec_engine.specs.declared.answers.How.{How}
-use Rattle.spec_protocol.specs.Spheres.{Sphere, is_stopped, head_of, limit_of, is_in_pieces}
+use Rattle.spec_protocol.specs.Spheres.{turn_against, Sphere, is_stopped, head_of, limit_of, is_in_pieces}
 use Rattle.spec_protocol.specs.Commits.{is_piece, chunk_moved, dma_moved}
 use Rattle.spec_protocol.specs.World.{Numbers, What, OfChunk, OfSerial, OfDma, OfRaise, Move}
-use Rattle.spec_protocol.specs.Asking.{is_short, other_turn}
-use Rattle.spec_protocol.specs.Transferring.{turn_before_dma}
+use Rattle.spec_protocol.specs.Asking.{is_short}
 use Rattle.spec_protocol.specs.Placing.{replays}
 use Rattle.spec_protocol.specs.Serial.{SerialState, do_moved, do_serial, do_dma, do_raise}
 
@@ -51,7 +51,7 @@ do_moves z x (m ∷ ms) = do_moves z (do_move z x m) ms
 pub record ChunkFits (z : Numbers) (p : Sphere) (k : ℕ) (t : Parts) (how : How) (n limit : ℕ) : Type 0 where
   -- the sphere hasn't stopped, no other actor has the turn, and the thread lives
   pub going : is_stopped p.role ≡ false
-  pub turn : other_turn (head_of p) k ≡ None
+  pub turn : turn_against p (Actor.Thread k) ≡ None
   pub live : is_live t ≡ true
   -- the limit is one that the thread may have: in a replay that of the log, else the standard size or less
   pub positive : 0 < limit
@@ -76,7 +76,7 @@ FitsChunk z p k how n limit (Some t) = ChunkFits z p k t how n limit
 -- a serial step of thread k, which is t
 pub record SerialFits (p : Sphere) (k : ℕ) (t : Parts) : Type 0 where
   pub going : is_stopped p.role ≡ false
-  pub turn : other_turn (head_of p) k ≡ None
+  pub turn : turn_against p (Actor.Thread k) ≡ None
   pub live : is_live t ≡ true
   -- no piece stands before it, and the next instruction is serial
   pub whole : is_in_pieces p.role ≡ false
@@ -89,7 +89,7 @@ FitsSerial p k (Some t) = SerialFits p k t
 -- a DMA: where the sphere isn't replayed, a request is outstanding
 pub record DmaFits (devices : Devices) (p : Sphere) : Type 0 where
   pub going : is_stopped p.role ≡ false
-  pub turn : turn_before_dma p.role ≡ None
+  pub turn : turn_against p Actor.Dma ≡ None
   pub moves : IsSome (dma_moved devices p)
 
 -- an interrupt

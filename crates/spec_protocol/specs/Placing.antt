@@ -29,7 +29,7 @@ placing w c i k = place_thread w c i k (slice_get (sphere_at w i).threads k)
 
 abbrev pub replays : Role → Bool
 replays Plain = false
-replays (Record log) = false
+replays (Record recording) = false
 replays (Replay b) = true
 
 -- a core that runs the thread abandons its chunk

@@ -1,11 +1,10 @@
 -- What is promised of these definitions, for every setup within its limits and every list of events.
 use Rattle.std.specs.Prelude.{◌≡◌, ℕ, ◌<◌, false, List, length, slice_get, Some}
-use Rattle.spec_log.specs.declared.ModeName.{ModeName}
 use Rattle.spec_protocol.specs.declared.event.Event.{Event}
 use Rattle.spec_protocol.specs.Spheres.{Sphere}
 use Rattle.spec_protocol.specs.Placing.{replays}
 use Rattle.spec_protocol.specs.World.{World}
-use Rattle.spec_protocol.specs.Machine.{IsRecorded, SphereSetup, Setup, world_of, world_after, moves}
+use Rattle.spec_protocol.specs.Machine.{RecordSetup, IsRecorded, SphereSetup, Setup, world_of, world_after, moves}
 use Rattle.spec_protocol.specs.Serial.{serial_start, serial, CanDoAll}
 use Rattle.spec_protocol.specs.Shown.{shown_of}
 use Rattle.spec_protocol.specs.Invariants.{IsGood}
@@ -16,11 +15,11 @@ pub record IsSetup (s : Setup) : Type 0 where
   pub chunk : 0 < s.numbers.s
   pub buffer : 0 < s.numbers.capacity
 
--- sphere i is set up by the image, to be recorded in this mode
-pub record WillRecord (s : Setup) (i : ℕ) (image : SphereSetup) (mode : ModeName) : Type 0 where
+-- sphere i is set up by the image, to be recorded so
+pub record WillRecord (s : Setup) (i : ℕ) (image : SphereSetup) (asked : RecordSetup) : Type 0 where
   pub setup : IsSetup s
   pub there : slice_get s.spheres i ≡ Some image
-  pub role : image.role ≡ IsRecorded mode
+  pub role : image.role ≡ IsRecorded asked
 
 -- the world of a schedule
 abbrev pub after : Setup → List Event → World

@@ -77,7 +77,7 @@ PointsAreMade = (w : World) (e : Event) → MakesPoint w e
 -- a recording in picolog
 abbrev pub IsInTurns : Role → Type 0
 IsInTurns Plain = ⊥
-IsInTurns (Record log) = log.mode ≡ ModeName.Picolog
+IsInTurns (Record recording) = recording.log.mode ≡ ModeName.Picolog
 IsInTurns (Replay b) = ⊥
 
 -- core c holds a closed chunk of a plain or recorded sphere, and no flight stands

@@ -66,7 +66,7 @@ do_kind x moment i Actor.Dma CommitKind.Piece size short p = x
 -- only in plain and recorded spheres
 abbrev pub in_live : Role → SerialState → SerialState → SerialState
 in_live Plain x done = done
-in_live (Record log) x done = done
+in_live (Record recording) x done = done
 in_live (Replay b) x done = x
 
 abbrev pub do_commit : SerialState → (moment i : ℕ) → Actor → CommitKind → (size : ℕ) → (short : Bool) → Option Sphere → SerialState
@@ -130,7 +130,7 @@ CanKind devices Actor.Dma CommitKind.Piece size p = ⊥
 
 abbrev pub InLive : Role → Type 0 → Type 0
 InLive Plain can = can
-InLive (Record log) can = can
+InLive (Record recording) can = can
 InLive (Replay b) can = Unit {0}
 
 abbrev pub CanCommit : Devices → Actor → CommitKind → (size : ℕ) → Option Sphere → Type 0

@@ -35,8 +35,8 @@ AreFew n = (1 ≤ n) × (n ≤ 8)
 -- what is replayed is a log
 abbrev pub IsRole : RoleSetup → Type 0
 IsRole IsPlain = Unit {0}
-IsRole (IsRecorded mode) = Unit {0}
-IsRole (IsReplayed log) = IsLog log
+IsRole (IsRecorded asked) = Unit {0}
+IsRole (IsReplayed asked) = IsLog asked.log
 
 -- memory is 1 to 4,096 pages of 4,096 bytes, and the entry is the address of a word in it
 pub record IsImage (image : SphereSetup) : Type 0 where
@@ -197,7 +197,7 @@ pub record IsSoundLog (s commits : ℕ) (threads : List Parts) (log : LogParts) 
 
 abbrev pub IsSoundRole : (s commits : ℕ) → List Parts → Role → Type 0
 IsSoundRole s commits threads Plain = Unit {0}
-IsSoundRole s commits threads (Record log) = IsSoundLog s commits threads log
+IsSoundRole s commits threads (Record recording) = IsSoundLog s commits threads recording.log
 IsSoundRole s commits threads (Replay b) = IsSoundCursor commits threads b
 
 -- ---- a sphere

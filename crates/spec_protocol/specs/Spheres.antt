@@ -19,10 +19,13 @@ pub record Cursor : Type 0 where
   pub total : ℕ
   pub loads : List Load
 
+-- what a recorded sphere keeps: the log so far
+pub record Recording : Type 0 where
+  pub log : LogParts
+
 pub data Role : Type 0 where
   Plain : Role
-  -- with the log so far
-  Record : (log : LogParts) → Role
+  Record : (recording : Recording) → Role
   Replay : (cursor : Cursor) → Role
 
 pub record Sphere : Type 0 where
@@ -45,7 +48,7 @@ is_over (Ended how) = true
 -- a replayed sphere stops once it is complete or has diverged
 abbrev pub is_stopped : Role → Bool
 is_stopped Plain = false
-is_stopped (Record log) = false
+is_stopped (Record recording) = false
 is_stopped (Replay b) = is_over b.now
 
 abbrev pub actor_of : Now → Option Actor
@@ -61,12 +64,34 @@ recording_turn ModeName.OrderOnly p = None
 
 abbrev pub head_in : Role → Sphere → Option Actor
 head_in Plain p = None
-head_in (Record log) p = recording_turn log.mode p
+head_in (Record recording) p = recording_turn recording.log.mode p
 head_in (Replay b) p = actor_of b.now
 
 -- the actor whose turn it is to commit, where not every one may
 unfoldable pub head_of : Sphere → Option Actor
 head_of p = head_in p.role p
+
+-- the actor whose turn it is, unless it is this one
+abbrev pub other_than : Actor → Option Actor → Option Actor
+other_than actor None = None
+other_than (Actor.Thread k) (Some (Actor.Thread j)) = if nat_eq j k then None else Some (Actor.Thread j)
+other_than (Actor.Thread k) (Some Actor.Dma) = Some Actor.Dma
+other_than Actor.Dma (Some (Actor.Thread j)) = Some (Actor.Thread j)
+other_than Actor.Dma (Some Actor.Dma) = None
+
+-- whether the actor waits for its turn: threads do, and in a replay DMAs too
+abbrev pub takes_turns : Actor → Role → Bool
+takes_turns (Actor.Thread k) role = true
+takes_turns Actor.Dma Plain = false
+takes_turns Actor.Dma (Record recording) = false
+takes_turns Actor.Dma (Replay b) = true
+
+abbrev pub turn_in : Role → Sphere → Actor → Option Actor
+turn_in role p actor = if takes_turns actor role then other_than actor (head_in role p) else None
+
+-- the actor whose turn keeps this one from committing; none where it may commit
+unfoldable pub turn_against : Sphere → Actor → Option Actor
+turn_against p actor = turn_in p.role p actor
 
 -- ---- limits of chunks
 
@@ -82,7 +107,7 @@ pieces_of (Ended how) k total = 0
 
 abbrev pub limit_in : Role → (s thread commits : ℕ) → ℕ
 limit_in Plain s k commits = s
-limit_in (Record log) s k commits = s
+limit_in (Record recording) s k commits = s
 limit_in (Replay b) s k commits = max 1 (whole_limit b.log k commits - pieces_of b.now k b.total)
 
 -- how many instructions a new chunk of thread k, which is t, may run, where the plan's standard size is s
@@ -94,11 +119,11 @@ limit_of s role k t = limit_in role s k t.commits
 -- in a recorded sphere squashes halve a chunk's limit
 abbrev pub halves : Role → Bool
 halves Plain = false
-halves (Record log) = true
+halves (Record recording) = true
 halves (Replay b) = false
 
 -- the present commit has pieces already
 abbrev pub is_in_pieces : Role → Bool
 is_in_pieces Plain = false
-is_in_pieces (Record log) = false
+is_in_pieces (Record recording) = false
 is_in_pieces (Replay b) = nat_lt 0 b.total

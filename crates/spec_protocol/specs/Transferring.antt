@@ -7,7 +7,7 @@ use Rattle.spec_engine.specs.Signatures.{Signature, nothing, signed}
 use Rattle.spec_engine.specs.Flights.{is_full}
 use Rattle.spec_engine.specs.Asking.{ask}
 use Rattle.spec_protocol.specs.declared.reply.Reply.{Reply}
-use Rattle.spec_protocol.specs.Spheres.{Role, Plain, Record, Replay, is_stopped, actor_of}
+use Rattle.spec_protocol.specs.Spheres.{is_stopped, turn_against}
 use Rattle.spec_protocol.specs.Commits.{CommitOutcome, Granted, Piece, Diverged, MovedSphere, dma_moved}
 use Rattle.spec_protocol.specs.World.{World, moment, sphere_at, with_sphere, flown, OfDma, Move, After, answered}
 use Rattle.spec_protocol.specs.Asking.{unless_denied, unless_turn}
@@ -51,20 +51,9 @@ abbrev pub dma_if : World → (i : ℕ) → Option MovedSphere → After
 dma_if w i None = answered w Reply.NoDma
 dma_if w i (Some v) = dma_with w i v v.outcome
 
--- in a replay a DMA has its turn
-abbrev pub not_of_dma : Option Actor → Option Actor
-not_of_dma None = None
-not_of_dma (Some Actor.Dma) = None
-not_of_dma (Some (Actor.Thread k)) = Some (Actor.Thread k)
-
-abbrev pub turn_before_dma : Role → Option Actor
-turn_before_dma Plain = None
-turn_before_dma (Record log) = None
-turn_before_dma (Replay b) = not_of_dma (actor_of b.now)
-
 -- the outstanding request of sphere i is done
 unfoldable pub transferring : World → (i : ℕ) → After
 transferring w i =
     let p = sphere_at w i in
     if is_stopped p.role then answered w Reply.Stopped
-    else unless_turn (turn_before_dma p.role) w (dma_if w i (dma_moved w.devices p))
+    else unless_turn (turn_against p Actor.Dma) w (dma_if w i (dma_moved w.devices p))

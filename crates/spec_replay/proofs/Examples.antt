@@ -38,7 +38,7 @@ use Rattle.spec_protocol.specs.Machine.{IsReplayed, world_of, act, happens, worl
 use Rattle.spec_protocol.specs.Placing.{placing, raising}
 use Rattle.spec_protocol.specs.Serial.{do_point}
 use Rattle.spec_protocol.specs.Shown.{shown}
-use Rattle.spec_protocol.specs.Spheres.{Role, Plain, Record, Replay, head_of, limit_of}
+use Rattle.spec_protocol.specs.Spheres.{Role, Plain, Record, Replay, head_of, turn_against, limit_of}
 use Rattle.spec_protocol.specs.Stepping.{stepping, cutting}
 use Rattle.spec_protocol.specs.Transferring.{transfer, transferring}
 use Rattle.spec_protocol.specs.World.{World, sphere_at}
@@ -59,7 +59,7 @@ replay log =
       numbers = record { s = 100; capacity = 16; bits = 64 };
       seed = 0;
       input = [];
-      spheres = record { memory = code; entry = 0; role = IsReplayed log } ∷ [];
+      spheres = record { memory = code; entry = 0; role = IsReplayed (record { log = log }) } ∷ [];
     })
 
 abbrev replies : World → List Event → List Reply
@@ -68,7 +68,7 @@ replies w (e ∷ es) = let a = happens w e in a.reply ∷ replies a.world es
 
 abbrev now_in : Role → Option Now
 now_in Plain = None
-now_in (Record log) = None
+now_in (Record recording) = None
 now_in (Replay b) = Some b.now
 
 -- whose turn it is then, or how the replay has ended
@@ -191,7 +191,7 @@ pub record AreReplayed : Type 0 where
   pub refused_now : now_after (replay whole_log) refused_events ≡ Some (Turn 0)
 
 pub replays_end : AreReplayed
-unfolding serial_of loads_of next_of load_of store_of one lay read merged answer called bytes_put random_bytes random_after next_kind next_operation need fits serve console_written play_one dma_verdict has_left_over now_at chunk_verdict serial_verdict on_option choose at_limit reading storing loading running step first_slot free_slot meets grant_chunk grant_serial asking chunk_moved serial_moved dma_moved raised next draining delivering retiring act happens placing raising do_point shown head_of limit_of stepping cutting transfer transferring
+unfolding serial_of loads_of next_of load_of store_of one lay read merged answer called bytes_put random_bytes random_after next_kind next_operation need fits serve console_written play_one dma_verdict has_left_over now_at chunk_verdict serial_verdict on_option choose at_limit reading storing loading running step first_slot free_slot meets grant_chunk grant_serial asking chunk_moved serial_moved dma_moved raised next draining delivering retiring act happens placing raising do_point shown head_of turn_against limit_of stepping cutting transfer transferring
 replays_end =
     record {
       empty_now = refl;

@@ -2,13 +2,12 @@
 use Rattle.std.specs.Prelude.{◌≡◌, ℕ, ◌<◌, Bool, true, false, slice_get, Some, List}
 use Rattle.dl_entry.specs.declared.End.{End}
 use Rattle.dl_entry.specs.declared.Why.{Why}
-use Rattle.spec_log.specs.declared.LogParts.{LogParts}
 use Rattle.spec_play.specs.Progress.{position}
 use Rattle.spec_play.specs.Turns.{Ended}
 use Rattle.spec_play.specs.Plays.{Played, opened, plays, play}
 use Rattle.spec_protocol.specs.declared.event.Event.{Event}
 use Rattle.spec_protocol.specs.Spheres.{Cursor, Replay, Sphere, is_over}
-use Rattle.spec_protocol.specs.Machine.{IsReplayed, SphereSetup, Setup}
+use Rattle.spec_protocol.specs.Machine.{last_played, first_played, ReplaySetup, IsReplayed, SphereSetup, Setup}
 use Rattle.spec_protocol.specs.Shown.{shown_of}
 use Rattle.spec_protocol.specs.Promises.{IsSetup, after}
 use Rattle.spec_replay.specs.Following.{Follows}
@@ -18,20 +17,20 @@ use Rattle.spec_replay.specs.Following.{Follows}
 -- sphere i was set up by the image, to replay the log, whose standard size is over 0; after the events it is p, with its
 -- current memory
 pub record IsReplay
-    (image : SphereSetup) (log : LogParts) (s : Setup) (es : List Event) (i : ℕ) (p : Sphere)
+    (image : SphereSetup) (asked : ReplaySetup) (s : Setup) (es : List Event) (i : ℕ) (p : Sphere)
     : Type 0 where
   pub setup : IsSetup s
   pub there : slice_get s.spheres i ≡ Some image
-  pub replays : image.role ≡ IsReplayed log
-  pub standard : 0 < log.s
+  pub replays : image.role ≡ IsReplayed asked
+  pub standard : 0 < asked.log.s
   pub shown : slice_get (shown_of (after s es)).spheres i ≡ Some p
 
 -- it stands in the play of its log on its image at the number of its whole commits
 abbrev pub ReplaysArePlays : Type 0
 ReplaysArePlays =
-    (image : SphereSetup) (log : LogParts) (s : Setup) (es : List Event) (i : ℕ) (p : Sphere)
-    → IsReplay image log s es i p
-    → Follows log (plays log (opened log image.memory image.entry) (position p.progress)) p
+    (image : SphereSetup) (asked : ReplaySetup) (s : Setup) (es : List Event) (i : ℕ) (p : Sphere)
+    → IsReplay image asked s es i p
+    → Follows asked.log (plays asked.log (first_played image asked.log) (position p.progress)) p
 
 -- ---- a replay that has stopped has done the whole play
 
@@ -61,10 +60,10 @@ pub record IsPlayed (y : Played) (p : Sphere) (b : Cursor) : Type 0 where
 
 abbrev pub StoppedArePlayed : Type 0
 StoppedArePlayed =
-    (image : SphereSetup) (log : LogParts)
+    (image : SphereSetup) (asked : ReplaySetup)
     (s : Setup) (es : List Event) (i : ℕ) (p : Sphere) (b : Cursor)
-    → IsReplay image log s es i p → p.role ≡ Replay b → is_over b.now ≡ true
-    → IsPlayed (play log image.memory image.entry) p b
+    → IsReplay image asked s es i p → p.role ≡ Replay b → is_over b.now ≡ true
+    → IsPlayed (last_played image asked.log) p b
 
 -- ---- all replays of one log on one image agree
 
@@ -89,7 +88,7 @@ pub record Agree (p q : Sphere) (b c : Cursor) : Type 0 where
 -- whatever else differs: cores, buffers, window, signatures, devices, events and the other spheres
 abbrev pub ReplaysAgree : Type 0
 ReplaysAgree =
-    (image : SphereSetup) (log : LogParts)
+    (image : SphereSetup) (asked : ReplaySetup)
     (s z : Setup) (es fs : List Event) (i j : ℕ) (p q : Sphere) (b c : Cursor)
-    → IsReplay image log s es i p → IsReplay image log z fs j q
+    → IsReplay image asked s es i p → IsReplay image asked z fs j q
     → p.role ≡ Replay b → q.role ≡ Replay c → Agree p q b c

@@ -44,8 +44,8 @@ log_of_points-same s z es fs i mode a points =
 
 log_same : (s z : Setup) (es fs : List Event) (i : ℕ) (role : RoleSetup) → AreAlike s z → points_of s es ≡ points_of z fs → log_as s es i role ≡ log_as z fs i role
 log_same s z es fs i IsPlain a points = refl
-log_same s z es fs i (IsRecorded mode) a points = ap log_bytes (log_of_points-same s z es fs i mode a points)
-log_same s z es fs i (IsReplayed log) a points = refl
+log_same s z es fs i (IsRecorded asked) a points = ap log_bytes (log_of_points-same s z es fs i asked.mode a points)
+log_same s z es fs i (IsReplayed asked) a points = refl
 
 image_same : (s z : Setup) (i : ℕ) → AreAlike s z → image_at s i ≡ image_at z i
 image_same s z i a = ap (λ (images : List SphereSetup). get_or images i no_image) a.spheres

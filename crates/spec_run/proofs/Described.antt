@@ -11,10 +11,10 @@ use Rattle.spec_play.specs.Progress.{position}
 use Rattle.spec_play.specs.Turns.{Now, Turn, TurnOfDma, Ended}
 use Rattle.spec_play.specs.Plays.{Played, play}
 use Rattle.spec_protocol.specs.declared.event.Event.{Event}
-use Rattle.spec_protocol.specs.Spheres.{Role, Plain, Record, Replay, Cursor, Sphere, no_sphere, is_over}
+use Rattle.spec_protocol.specs.Spheres.{Recording, Role, Plain, Record, Replay, Cursor, Sphere, no_sphere, is_over}
 use Rattle.spec_protocol.specs.Placing.{replays}
 use Rattle.spec_protocol.specs.World.{World, sphere_at}
-use Rattle.spec_protocol.specs.Machine.{RoleSetup, IsPlain, IsRecorded, IsReplayed, SphereSetup, Setup, world_of, happens, world_after}
+use Rattle.spec_protocol.specs.Machine.{last_played, ReplaySetup, RecordSetup, RoleSetup, IsPlain, IsRecorded, IsReplayed, SphereSetup, Setup, world_of, happens, world_after}
 use Rattle.spec_protocol.specs.Serial.{serial_start, serial, CanDoAll}
 use Rattle.spec_protocol.specs.Logged.{sphere_in, supplied, logged}
 use Rattle.spec_protocol.specs.Logs.{IsLogFresh}
@@ -67,20 +67,20 @@ record IsKnown (s : Setup) (w : World) : Type 0 where
   possible : CanDoAll (serial_start s) w.points
   kinds : AreOfKinds s.spheres (shown_of w).spheres
   sizes : length w.spheres ≡ length s.spheres
-  logs : (i : ℕ) (image : SphereSetup) (mode : ModeName)
-      → WillRecord s i image mode
-      → (sphere_at w i).role ≡ Record (logged mode s.numbers.s (supplied i (serial_start s) w.points))
-  fresh : (i : ℕ) (image : SphereSetup) (mode : ModeName)
-      → WillRecord s i image mode
-      → (log : LogParts)
-      → (sphere_at w i).role ≡ Record log
-      → IsLogFresh log (sphere_at w i)
-  plays_back : (i : ℕ) (image : SphereSetup) (mode : ModeName)
-      → WillRecord s i image mode
-      → (p : Sphere) (log : LogParts)
+  logs : (i : ℕ) (image : SphereSetup) (asked : RecordSetup)
+      → WillRecord s i image asked
+      → (sphere_at w i).role ≡ Record (record { log = logged asked.mode s.numbers.s (supplied i (serial_start s) w.points) })
+  fresh : (i : ℕ) (image : SphereSetup) (asked : RecordSetup)
+      → WillRecord s i image asked
+      → (recording : Recording)
+      → (sphere_at w i).role ≡ Record recording
+      → IsLogFresh recording.log (sphere_at w i)
+  plays_back : (i : ℕ) (image : SphereSetup) (asked : RecordSetup)
+      → WillRecord s i image asked
+      → (p : Sphere) (recording : Recording)
       → slice_get (shown_of w).spheres i ≡ Some p
-      → p.role ≡ Record log
-      → PlaysBack log image p
+      → p.role ≡ Record recording
+      → PlaysBack recording.log image p
 
 known-after : (s : Setup) (es : List Event) → IsSetup s → IsKnown s (after s es)
 known-after s es is =
@@ -140,7 +140,7 @@ executed-is s es i image p can t live = get_is (executed s es).spheres i p ((kno
 
 live_end : (role : Role) (n : ℕ) → replays role ≡ false → end_as role n ≡ End.Complete n
 live_end Plain n e = refl
-live_end (Record log) n e = refl
+live_end (Record recording) n e = refl
 live_end (Replay b) n e = absurd (true≢false e)
 
 held_executed : (p : Sphere) → replays p.role ≡ false → account_held p ≡ executed_account p
@@ -178,7 +178,7 @@ live_described s es i image p can t live =
 record IsReplayedTo (s : Setup) (es : List Event) (i : ℕ) (image : SphereSetup) (log : LogParts) (p : Sphere) : Type 0 where
   cursor : Cursor
   role : p.role ≡ Replay cursor
-  played : IsPlayed (play log image.memory image.entry) p cursor
+  played : IsPlayed (last_played image log) p cursor
   over : (how : End) × (cursor.now ≡ Ended how)
 
 same_sphere : (p q : Sphere) → Some p ≡ Some q → p ≡ q
@@ -186,16 +186,16 @@ same_sphere p q e = cc
 
 abbrev HasPlayedIn : (image : SphereSetup) (log : LogParts) (i : ℕ) → World → Type 0
 HasPlayedIn image log i w =
-    (p : Sphere) × ((b : Cursor) × ((slice_get w.spheres i ≡ Some p) × ((p.role ≡ Replay b) × IsPlayed (play log image.memory image.entry) p b)))
+    (p : Sphere) × ((b : Cursor) × ((slice_get w.spheres i ≡ Some p) × ((p.role ≡ Replay b) × IsPlayed (last_played image log) p b)))
 
-has_played : (s : Setup) (es : List Event) (i : ℕ) (image : SphereSetup) (log : LogParts) → CanFinish s → slice_get s.spheres i ≡ Some image → image.role ≡ IsReplayed log → HasPlayedIn image log i (finished s es)
-has_played s es i image log can is role =
-    let h = replays_finished image log s es (finishing_of s es) i can (ends s es can).finishes is role in
-    subst (HasPlayedIn image log i) (after_both (world_of s) es (finishing_of s es)) (h.sphere, (h.cursor, (h.there, (h.role, h.played))))
+has_played : (s : Setup) (es : List Event) (i : ℕ) (image : SphereSetup) (asked : ReplaySetup) → CanFinish s → slice_get s.spheres i ≡ Some image → image.role ≡ IsReplayed asked → HasPlayedIn image asked.log i (finished s es)
+has_played s es i image asked can is role =
+    let h = replays_finished image asked s es (finishing_of s es) i can (ends s es can).finishes is role in
+    subst (HasPlayedIn image asked.log i) (after_both (world_of s) es (finishing_of s es)) (h.sphere, (h.cursor, (h.there, (h.role, h.played))))
 
-replayed-to : (s : Setup) (es : List Event) (i : ℕ) (image : SphereSetup) (log : LogParts) (p : Sphere) → CanFinish s → slice_get s.spheres i ≡ Some image → IsThere s es i image p → image.role ≡ IsReplayed log → IsReplayedTo s es i image log p
-replayed-to s es i image log p can is t role =
-    let h = has_played s es i image log can is role in
+replayed-to : (s : Setup) (es : List Event) (i : ℕ) (image : SphereSetup) (asked : ReplaySetup) (p : Sphere) → CanFinish s → slice_get s.spheres i ≡ Some image → IsThere s es i image p → image.role ≡ IsReplayed asked → IsReplayedTo s es i image asked.log p
+replayed-to s es i image asked p can is t role =
+    let h = has_played s es i image asked can is role in
     let b : Cursor = h.1.0 in
     let same : h.0 ≡ p = same_sphere h.0 p (sym h.1.1.0 ∙ t.there) in
     let end : IsAtEnd h.0.role = (ends s es can).finished.replays i h.0 h.1.1.0 in
@@ -203,7 +203,7 @@ replayed-to s es i image log p can is t role =
     record {
       cursor = b;
       role = ap (λ (q : Sphere). q.role) (sym same) ∙ h.1.1.1.0;
-      played = subst (λ (q : Sphere). IsPlayed (play log image.memory image.entry) q b) same h.1.1.1.1;
+      played = subst (λ (q : Sphere). IsPlayed (last_played image asked.log) q b) same h.1.1.1.1;
       over = over_how b.now over;
     }
 
@@ -215,29 +215,29 @@ replayed_described s es i image log p t r =
 
 -- ---- a sphere
 
-will_record : (s : Setup) (i : ℕ) (image : SphereSetup) (mode : ModeName) → CanFinish s → slice_get s.spheres i ≡ Some image → image.role ≡ IsRecorded mode → WillRecord s i image mode
-will_record s i image mode can is role = record { setup = can.setup; there = is; role = role }
+will_record : (s : Setup) (i : ℕ) (image : SphereSetup) (asked : RecordSetup) → CanFinish s → slice_get s.spheres i ≡ Some image → image.role ≡ IsRecorded asked → WillRecord s i image asked
+will_record s i image asked can is role = record { setup = can.setup; there = is; role = role }
 
 has_role : (s : Setup) (es : List Event) (i : ℕ) (image : SphereSetup) (p : Sphere) (role : RoleSetup) → CanFinish s → slice_get s.spheres i ≡ Some image → IsThere s es i image p → image.role ≡ role → HasRole s es i role (sphere_at (finished s es) i).role
 has_role s es i image p IsPlain can is t role =
     ap (λ (q : Sphere). replays q.role) t.at ∙ t.kind ∙ ap is_replayed role
-has_role s es i image p (IsRecorded mode) can is t role =
-    (known s es can.setup).logs i image mode (will_record s i image mode can is role)
-has_role s es i image p (IsReplayed log) can is t role =
-    let r = replayed-to s es i image log p can is t role in
+has_role s es i image p (IsRecorded asked) can is t role =
+    (known s es can.setup).logs i image asked (will_record s i image asked can is role)
+has_role s es i image p (IsReplayed asked) can is t role =
+    let r = replayed-to s es i image asked p can is t role in
     (r.cursor, ap (λ (q : Sphere). q.role) t.at ∙ r.role)
 
 account_described : (s : Setup) (es : List Event) (i : ℕ) (image : SphereSetup) (p : Sphere) (role : RoleSetup) → CanFinish s → slice_get s.spheres i ≡ Some image → IsThere s es i image p → image.role ≡ role → account_held (sphere_at (finished s es) i) ≡ account_as image (sphere_in (executed s es) i) role
 account_described s es i image p IsPlain can is t role = live_described s es i image p can t (t.kind ∙ ap is_replayed role)
-account_described s es i image p (IsRecorded mode) can is t role = live_described s es i image p can t (t.kind ∙ ap is_replayed role)
-account_described s es i image p (IsReplayed log) can is t role = replayed_described s es i image log p t (replayed-to s es i image log p can is t role)
+account_described s es i image p (IsRecorded asked) can is t role = live_described s es i image p can t (t.kind ∙ ap is_replayed role)
+account_described s es i image p (IsReplayed asked) can is t role = replayed_described s es i image asked.log p t (replayed-to s es i image asked p can is t role)
 
 same_cursor : (b c : Cursor) → Replay b ≡ Replay c → b ≡ c
 same_cursor b c e = cc
 
-played_to : (s : Setup) (es : List Event) (i : ℕ) (image : SphereSetup) (p : Sphere) (log : LogParts) (b : Cursor) → CanFinish s → slice_get s.spheres i ≡ Some image → IsThere s es i image p → image.role ≡ IsReplayed log → (sphere_at (finished s es) i).role ≡ Replay b → b.now ≡ (played log image).now
-played_to s es i image p log b can is t role replay =
-    let r = replayed-to s es i image log p can is t role in
+played_to : (s : Setup) (es : List Event) (i : ℕ) (image : SphereSetup) (p : Sphere) (asked : ReplaySetup) (b : Cursor) → CanFinish s → slice_get s.spheres i ≡ Some image → IsThere s es i image p → image.role ≡ IsReplayed asked → (sphere_at (finished s es) i).role ≡ Replay b → b.now ≡ (played asked.log image).now
+played_to s es i image p asked b can is t role replay =
+    let r = replayed-to s es i image asked p can is t role in
     let same : b ≡ r.cursor = same_cursor b r.cursor (sym replay ∙ ap (λ (q : Sphere). q.role) t.at ∙ r.role) in
     ap (λ (c : Cursor). c.now) same ∙ r.played.now
 
@@ -253,7 +253,7 @@ spheres_described s es i image can is =
           let l : replays p.0.role ≡ false = ap (λ (q : Sphere). replays q.role) (sym t.at) ∙ live in
           ap (λ (q : Sphere). q.progress) (t.at ∙ sym (executed-is s es i image p.0 can t l));
       over = subst IsAtEnd (ap (λ (q : Sphere). q.role) (sym t.at)) ((ends s es can).finished.replays i p.0 t.there);
-      played = λ log b role replay. played_to s es i image p.0 log b can is t role replay;
+      played = λ asked b role replay. played_to s es i image p.0 asked b can is t role replay;
     }
 
 -- ---- the run
@@ -275,17 +275,17 @@ play_account y p n now few memory threads progress =
 
 -- the log of a recorded sphere fits its image, and the account of its play is that of the recording
 pub recordings_reproduced : RecordingsAreReproduced
-recordings_reproduced s es i image mode can is role =
+recordings_reproduced s es i image asked can is role =
     let t = sphere-there s es i image can is in
     let p : Sphere = t.0 in
-    let log : LogParts = log_of_points s es i mode in
+    let log : LogParts = log_of_points s es i asked.mode in
     let k = known s es can.setup in
-    let will = will_record s i image mode can is role in
-    let recorded : p.role ≡ Record log = ap (λ (q : Sphere). q.role) (sym t.1.at) ∙ k.logs i image mode will in
-    let back = k.plays_back i image mode will p log t.1.shows recorded in
+    let will = will_record s i image asked can is role in
+    let recorded : p.role ≡ Record (record { log = log }) = ap (λ (q : Sphere). q.role) (sym t.1.at) ∙ k.logs i image asked will in
+    let back = k.plays_back i image asked will p (record { log = log }) t.1.shows recorded in
     let live : replays p.role ≡ false = ap replays recorded in
     let x = executed-is s es i image p can t.1 live in
-    let fresh = k.fresh i image mode will log (k.logs i image mode will) in
+    let fresh = k.fresh i image asked will (record { log = log }) (k.logs i image asked will) in
     let count : log.count ≡ position p.progress = fresh.count ∙ ap (λ (q : Sphere). position q.progress) t.1.at in
     record {
       fits = back.fit;

@@ -38,6 +38,7 @@ use Rattle.spec_protocol.proofs.Sound.Commits.{next-position}
 use Rattle.spec_protocol.proofs.Sound.Schedules.{setup-within}
 use Rattle.spec_protocol.proofs.Sound.Changes.{Properties, Holds, Lands, Keeps, act-holds}
 use Rattle.spec_run.specs.Promise.{SchedulesLeaveRoom}
+use Rattle.spec_play.proofs.Positions.{position-more}
 
 -- ---- fewer commits than events
 
@@ -61,16 +62,16 @@ replayed-few now k b false r devices p live = verdict-few now k b (chunk_verdict
 
 chunk-few : (now k : ℕ) (role : Role) (piece short : Bool) (r : Run) (devices : Devices) (p : Sphere) → (replays role ≡ false → position p.progress < now) → Few (suc now) (chunk_in role k piece short r devices p).sphere
 chunk-few now k Plain piece short r devices p few live = granted-few now k Plain (chunk_effect k p.progress.request r) devices p (few refl) refl
-chunk-few now k (Record log) piece short r devices p few live = granted-few now k (Record log) (chunk_effect k p.progress.request r) devices p (few refl) refl
+chunk-few now k (Record recording) piece short r devices p few live = granted-few now k (Record recording) (chunk_effect k p.progress.request r) devices p (few refl) refl
 chunk-few now k (Replay b) piece short r devices p few live = replayed-few (suc now) k b piece r devices p live
 
 serial-few : (now k m : ℕ) (role : Role) (t : Parts) (devices : Devices) (p : Sphere) → (replays role ≡ false → position p.progress < now) → Few (suc now) (serial_in role k m t devices p).sphere
 serial-few now k m Plain t devices p few live =
     let g = taken (need t p.memory) devices m in
     granted-few now k Plain (serial_effect k (serve k p.threads p.progress.request t p.memory g.input)) devices p (few refl) refl
-serial-few now k m (Record log) t devices p few live =
+serial-few now k m (Record recording) t devices p few live =
     let g = taken (need t p.memory) devices m in
-    granted-few now k (Record log) (serial_effect k (serve k p.threads p.progress.request t p.memory g.input)) devices p (few refl) refl
+    granted-few now k (Record recording) (serial_effect k (serve k p.threads p.progress.request t p.memory g.input)) devices p (few refl) refl
 serial-few now k m (Replay b) t devices p few live =
     verdict-few (suc now) k b (serial_verdict b.log p.progress b.used k p.threads t p.memory) devices p live
 
@@ -79,7 +80,7 @@ live-few : (now : ℕ) (role : Role) (devices : Devices) (p : Sphere) (request :
 live-few now role devices p None v few e live = absurd (none-some v e)
 live-few now role devices p (Some request) v few e live =
     let q = ap (λ (o : Option MovedSphere). elim o as (λ (x : Option MovedSphere). ℕ) [ None ↦ 0 | Some x ↦ position x.sphere.progress ]) e in
-    let n = pushed_length p.progress.commits dma_commit (position p.progress) refl in
+    let n = position-more p.progress dma_commit in
     omega (arith, q, n, few)
 
 dma-verdict_few : (now : ℕ) (b : Cursor) (d : DmaVerdict) (devices : Devices) (p : Sphere) → Few now (dma_by_verdict b d devices p).sphere
@@ -91,7 +92,7 @@ moved-is P x v e k = subst (λ (y : MovedSphere). P y.sphere) (let q : x ≡ v =
 
 dma-few : (now : ℕ) (role : Role) (devices : Devices) (p : Sphere) (v : MovedSphere) → (replays role ≡ false → position p.progress < now) → dma_in role devices p ≡ Some v → Few (suc now) v.sphere
 dma-few now Plain devices p v few e live = live-few now Plain devices p p.progress.request v (few refl) e live
-dma-few now (Record log) devices p v few e live = live-few now (Record (dma_log log devices p p.progress.request)) devices p p.progress.request v (few refl) e live
+dma-few now (Record recording) devices p v few e live = live-few now (Record (record recording { log = dma_log recording.log devices p p.progress.request })) devices p p.progress.request v (few refl) e live
 dma-few now (Replay b) devices p v few e live =
     let d = dma_verdict b.log p.progress b.used in
     moved-is (Few (suc now)) (dma_by_verdict b d devices p) v e (dma-verdict_few (suc now) b d devices p) live
@@ -99,7 +100,7 @@ dma-few now (Replay b) devices p v few e live =
 -- an interrupt leaves a sphere what it is
 still-live : (k commits value : ℕ) (role : Role) → replays (role_raised k commits value role) ≡ replays role
 still-live k commits value Plain = refl
-still-live k commits value (Record log) = refl
+still-live k commits value (Record recording) = refl
 still-live k commits value (Replay b) = refl
 
 -- ---- each further event
@@ -227,7 +228,7 @@ replays-still b (DmaGoes words) devices p live = true≢false live
 
 dma-new : (role : Role) (devices : Devices) (p : Sphere) (v : MovedSphere) → (replays role ≡ false → p.progress ≡ no_progress) → dma_in role devices p ≡ Some v → IsNew v.sphere
 dma-new Plain devices p v new e live = absurd (no-live Plain devices p v (new refl) e)
-dma-new (Record log) devices p v new e live = absurd (no-live (Record (dma_log log devices p p.progress.request)) devices p v (new refl) e)
+dma-new (Record recording) devices p v new e live = absurd (no-live (Record (record recording { log = dma_log recording.log devices p p.progress.request })) devices p v (new refl) e)
 dma-new (Replay b) devices p v new e live =
     let d = dma_verdict b.log p.progress b.used in
     absurd (moved-is (λ (q : Sphere). replays q.role ≡ false → ⊥) (dma_by_verdict b d devices p) v e (replays-still b d devices p) live)

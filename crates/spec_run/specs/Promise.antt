@@ -10,7 +10,7 @@ use Rattle.spec_protocol.specs.declared.event.Event.{Event}
 use Rattle.spec_protocol.specs.Spheres.{Role, Plain, Record, Replay, Cursor, Sphere}
 use Rattle.spec_protocol.specs.Placing.{replays}
 use Rattle.spec_protocol.specs.World.{sphere_at}
-use Rattle.spec_protocol.specs.Machine.{RoleSetup, IsPlain, IsRecorded, IsReplayed, SphereSetup, Setup}
+use Rattle.spec_protocol.specs.Machine.{ReplaySetup, RecordSetup, RoleSetup, IsPlain, IsRecorded, IsReplayed, SphereSetup, Setup}
 use Rattle.spec_protocol.specs.Serial.{serial_start, CanDoAll}
 use Rattle.spec_protocol.specs.Logged.{sphere_in}
 use Rattle.spec_protocol.specs.Sound.{IsWithinLimits, image_at}
@@ -25,7 +25,7 @@ use Rattle.spec_run.specs.Texts.{account_as, account_text, console_text, execute
 -- how a sphere's run ended: a replay as its cursor says; the others are complete
 abbrev pub end_as : Role → (commits : ℕ) → End
 end_as Plain n = End.Complete n
-end_as (Record log) n = End.Complete n
+end_as (Record recording) n = End.Complete n
 end_as (Replay b) n = end_of b.now
 
 -- the account of what a sphere holds
@@ -36,8 +36,8 @@ account_held p =
 -- a sphere is replayed where it was set up so; and a recording has this log
 abbrev pub HasRole : Setup → (schedule : List Event) → (i : ℕ) → RoleSetup → Role → Type 0
 HasRole s es i IsPlain role = replays role ≡ false
-HasRole s es i (IsRecorded mode) role = role ≡ Record (log_of_points s es i mode)
-HasRole s es i (IsReplayed log) role = (b : Cursor) × (role ≡ Replay b)
+HasRole s es i (IsRecorded asked) role = role ≡ Record (record { log = log_of_points s es i asked.mode })
+HasRole s es i (IsReplayed asked) role = (b : Cursor) × (role ≡ Replay b)
 
 -- sphere i of the finished machine, which was set up by the image
 pub record IsDescribed (s : Setup) (es : List Event) (i : ℕ) (image : SphereSetup) : Type 0 where
@@ -49,10 +49,10 @@ pub record IsDescribed (s : Setup) (es : List Event) (i : ℕ) (image : SphereSe
       → (sphere_at (finished s es) i).progress ≡ (sphere_in (executed s es) i).progress
   -- a replayed one has ended, as its log's play
   pub over : IsAtEnd (sphere_at (finished s es) i).role
-  pub played : (log : LogParts) (b : Cursor)
-      → image.role ≡ IsReplayed log
+  pub played : (asked : ReplaySetup) (b : Cursor)
+      → image.role ≡ IsReplayed asked
       → (sphere_at (finished s es) i).role ≡ Replay b
-      → b.now ≡ (played log image).now
+      → b.now ≡ (played asked.log image).now
 
 -- for every setup that can be finished and every schedule
 abbrev pub SpheresAreDescribed : Type 0
@@ -82,18 +82,18 @@ pub record IsReproduced (image : SphereSetup) (log : LogParts) (p : Sphere) : Ty
 
 abbrev pub RecordingsAreReproduced : Type 0
 RecordingsAreReproduced =
-    (s : Setup) (es : List Event) (i : ℕ) (image : SphereSetup) (mode : ModeName)
+    (s : Setup) (es : List Event) (i : ℕ) (image : SphereSetup) (asked : RecordSetup)
     → CanFinish s
     → slice_get s.spheres i ≡ Some image
-    → image.role ≡ IsRecorded mode
-    → IsReproduced image (log_of_points s es i mode) (sphere_in (executed s es) i)
+    → image.role ≡ IsRecorded asked
+    → IsReproduced image (log_of_points s es i asked.mode) (sphere_in (executed s es) i)
 
 -- two runs that agree on a sphere's image, memory size and log write equal accounts of it, whatever else differs: cores,
 -- buffers, windows, signatures, schedules, devices and the other spheres
 abbrev pub AccountsAgree : Type 0
 AccountsAgree =
-    (s z : Setup) (es fs : List Event) (i j : ℕ) (log : LogParts)
-    → (image_at s i).role ≡ IsReplayed log
+    (s z : Setup) (es fs : List Event) (i j : ℕ) (asked : ReplaySetup)
+    → (image_at s i).role ≡ IsReplayed asked
     → image_at z j ≡ image_at s i
     → account_text z fs j ≡ account_text s es i
 

@@ -8,7 +8,7 @@ use Rattle.spec_log.specs.declared.LogParts.{LogParts}
 use Rattle.spec_play.specs.Turns.{Now, Turn, TurnOfDma, Ended}
 use Rattle.spec_play.specs.Plays.{Played, play}
 use Rattle.spec_protocol.specs.declared.event.Event.{Event}
-use Rattle.spec_protocol.specs.Machine.{RoleSetup, IsPlain, IsRecorded, IsReplayed, SphereSetup, Setup}
+use Rattle.spec_protocol.specs.Machine.{last_played, RoleSetup, IsPlain, IsRecorded, IsReplayed, SphereSetup, Setup}
 use Rattle.spec_protocol.specs.Serial.{SerialState, serial}
 use Rattle.spec_finishing.specs.Function.{finished}
 
@@ -31,7 +31,7 @@ executed s es = serial s (points_of s es)
 
 -- the play of a log on an image
 abbrev pub played : LogParts → SphereSetup → Played
-played log image = play log image.memory image.entry
+played log image = last_played image log
 
 -- how a whole play ended; each has
 abbrev pub end_of : Now → End
@@ -46,8 +46,8 @@ has_diverged (End.Diverged index why) = true
 -- whether the play of what is replayed on the image diverges
 abbrev pub diverges_as : SphereSetup → RoleSetup → Bool
 diverges_as image IsPlain = false
-diverges_as image (IsRecorded mode) = false
-diverges_as image (IsReplayed log) = has_diverged (end_of (played log image).now)
+diverges_as image (IsRecorded asked) = false
+diverges_as image (IsReplayed asked) = has_diverged (end_of (played asked.log image).now)
 
 -- whether that of any sphere does
 abbrev pub diverges : List SphereSetup → Bool

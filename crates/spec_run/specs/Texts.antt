@@ -28,8 +28,8 @@ log_of_points s es i mode = logged mode s.numbers.s (supplied i (serial_start s)
 -- a recorded sphere's log as bytes; no other sphere has one
 abbrev pub log_as : Setup → (schedule : List Event) → (i : ℕ) → RoleSetup → List ℕ
 log_as s es i IsPlain = []
-log_as s es i (IsRecorded mode) = log_bytes (log_of_points s es i mode)
-log_as s es i (IsReplayed log) = []
+log_as s es i (IsRecorded asked) = log_bytes (log_of_points s es i asked.mode)
+log_as s es i (IsReplayed asked) = []
 
 unfoldable pub log_text : Setup → (schedule : List Event) → (i : ℕ) → List ℕ
 log_text s es i = log_as s es i (image_at s i).role
@@ -48,8 +48,8 @@ played_account y = account_of y.progress.commits y.threads y.progress.request y.
 -- a replayed sphere's account is that of its log's play on its image, and no more is told of it
 abbrev pub account_as : SphereSetup → (executed : Sphere) → RoleSetup → List ℕ
 account_as image p IsPlain = executed_account p
-account_as image p (IsRecorded mode) = executed_account p
-account_as image p (IsReplayed log) = played_account (played log image)
+account_as image p (IsRecorded asked) = executed_account p
+account_as image p (IsReplayed asked) = played_account (played asked.log image)
 
 unfoldable pub account_text : Setup → (schedule : List Event) → (i : ℕ) → List ℕ
 account_text s es i = let image = image_at s i in account_as image (sphere_in (executed s es) i) image.role
@@ -68,8 +68,8 @@ line_of_end (End.Diverged index why) = SphereLine.Diverged index why
 -- what the summary says of a sphere: its commits, or how its log's play ended
 abbrev pub line_as : SphereSetup → (executed : Sphere) → RoleSetup → SphereLine
 line_as image p IsPlain = SphereLine.Plain (position p.progress)
-line_as image p (IsRecorded mode) = SphereLine.Record (position p.progress)
-line_as image p (IsReplayed log) = line_of_end (end_of (played log image).now)
+line_as image p (IsRecorded asked) = SphereLine.Record (position p.progress)
+line_as image p (IsReplayed asked) = line_of_end (end_of (played asked.log image).now)
 
 -- of the spheres from number i on
 abbrev pub lines_from : SerialState → (i : ℕ) → List SphereSetup → List SphereLine

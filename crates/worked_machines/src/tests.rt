@@ -2,12 +2,11 @@
 ghost use Rattle.std.specs.Prelude.{◌≡◌, true, IfOk};
 ghost use Rattle.spec_protocol.specs.Sound.{AreFew};
 ghost use Rattle.dl_machine.specs.Setups.{IsWithin};
-ghost use Rattle.dl_finish.specs.Runs.{HasRun};
 
 use dl_elf::load;
 use dl_entry::{Actor, Bytes, Commit, End, Load, OutOfMemory, Sequence};
 use dl_finish::{finish, next_event};
-use dl_logbytes::{read_log, write_log};
+use dl_logfmt::{read_log, write_log};
 use dl_machine::{Machine, Setup};
 use dl_sig::Banked;
 use dl_sphere::{Role, Sphere, SphereSetup};
@@ -119,10 +118,7 @@ fn finished(alloc: Global, row: &Row) -> Result<Machine<Banked>, Fail> {
 }
 
 // The reply, if the machine is young enough.
-fn take(machine: &mut Machine<Banked>, event: Event) -> Result<Option<Reply>, OutOfMemory>
-    requires { HasRun machine.old }
-    ensures { HasRun machine.new }
-{
+fn take(machine: &mut Machine<Banked>, event: Event) -> Result<Option<Reply>, OutOfMemory> {
     if machine.counts().events >= 1 << 24 {
         return Ok(None);
     }
@@ -175,9 +171,7 @@ fn has_done(alloc: Global, commits: &[Commit], life: &Life) -> Result<bool, Allo
     Ok(done.as_slice() == life.commits && loads.as_slice() == life.loads)
 }
 
-fn machine_of(alloc: Global, row: &Row) -> Result<Machine<Banked>, Fail>
-    ensures { IfOk result HasRun }
-{
+fn machine_of(alloc: Global, row: &Row) -> Result<Machine<Banked>, Fail> {
     let setup = setup_of(alloc, row)?;
     if !is_within(&setup) {
         return Err("a number is out of its limits".into());

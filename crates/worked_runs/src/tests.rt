@@ -15,23 +15,53 @@ mod tools;
 
 use narrow::Narrow;
 
-const PLAN: &[u8] =
-    b"cores = 1\nchunk = 100\nbuffer = 16\nwindow = 2\nsignature = 64\nscript = \"s.txt\"\nreport = \"r.txt\"\n[[sphere]]\nimage = \"a.elf\"\nmemory = 4096\nrole = \"record\"\nmode = \"order-size\"\nlog = \"a.log\"\naccount = \"a.txt\"\n";
+const PLAN: &[u8] = b"cores = 1\n\
+      chunk = 100\n\
+      buffer = 16\n\
+      window = 2\n\
+      signature = 64\n\
+      script = \"s.txt\"\n\
+      report = \"r.txt\"\n\
+      [[sphere]]\n\
+      image = \"a.elf\"\n\
+      memory = 4096\n\
+      role = \"record\"\n\
+      mode = \"order-size\"\n\
+      log = \"a.log\"\n\
+      account = \"a.txt\"\n";
 
-const NINE_CORES: &[u8] =
-    b"cores = 9\nchunk = 100\nbuffer = 16\nwindow = 2\nsignature = 64\nscript = \"s.txt\"\nreport = \"r.txt\"\n[[sphere]]\nimage = \"a.elf\"\nmemory = 4096\nrole = \"record\"\nmode = \"order-size\"\nlog = \"a.log\"\naccount = \"a.txt\"\n";
+const NINE_CORES: &[u8] = b"cores = 9\n\
+      chunk = 100\n\
+      buffer = 16\n\
+      window = 2\n\
+      signature = 64\n\
+      script = \"s.txt\"\n\
+      report = \"r.txt\"\n\
+      [[sphere]]\n\
+      image = \"a.elf\"\n\
+      memory = 4096\n\
+      role = \"record\"\n\
+      mode = \"order-size\"\n\
+      log = \"a.log\"\n\
+      account = \"a.txt\"\n";
 
 const SCRIPT: &[u8] = b"step 0\nstep 0\nstep 0\nask 0\nstep 0\nask 0\n";
 
 // addi x17, x0, 0; addi x10, x0, 7; ecall
 const IMAGE: &[u8] =
-    b"\x7fELF\x01\x01\x01\0\0\0\0\0\0\0\0\0\x02\0\xf3\0\x01\0\0\0\0\0\0\04\0\0\0\0\0\0\0\0\0\0\04\0 \0\x01\0\0\0\0\0\0\0\x01\0\0\0T\0\0\0\0\0\0\0\0\0\0\0\x0c\0\0\0\x0c\0\0\0\x07\0\0\0\x04\0\0\0\x93\x08\0\0\x13\x05p\0s\0\0\0";
+    b"\x7fELF\x01\x01\x01\0\0\0\0\0\0\0\0\0\x02\0\xf3\0\x01\0\0\0\0\0\0\04\0\0\0\0\0\0\0\0\0\0\04\0 \0\x01\0\0\0\0\0\
+      \0\0\x01\0\0\0T\0\0\0\0\0\0\0\0\0\0\0\x0c\0\0\0\x0c\0\0\0\x07\0\0\0\x04\0\0\0\x93\x08\0\0\x13\x05p\0s\0\0\0";
 
 const LOG: &[u8] =
     b"DLRN\x01\0\0\0d\0\0\0\x02\0\0\0\x02\0\0\0\0\x02\0\0\0\x02\0\0\0\0\0\0\0\0\0\0\0\0\0\0\0";
 
-const ACCOUNT: &[u8] =
-    b"c 0 0 2\nc 1 0 0\nt 0 0000000C ended:7 00000000 0 00000000 00000000 00000000 00000000 00000000 00000000 00000000 00000000 00000000 00000007 00000000 00000000 00000000 00000000 00000000 00000000 00000000 00000000 00000000 00000000 00000000 00000000 00000000 00000000 00000000 00000000 00000000 00000000 00000000 00000000 00000000\nm 00000000 9308000013057000730000000000000000000000000000000000000000000000\nend complete 2\n";
+const ACCOUNT: &[u8] = b"c 0 0 2\n\
+      c 1 0 0\n\
+      t 0 0000000C ended:7 00000000 0 00000000 00000000 00000000 00000000 00000000 00000000 00000000 00000000 \
+      00000000 00000007 00000000 00000000 00000000 00000000 00000000 00000000 00000000 00000000 00000000 00000000 \
+      00000000 00000000 00000000 00000000 00000000 00000000 00000000 00000000 00000000 00000000 00000000\n\
+      m 00000000 9308000013057000730000000000000000000000000000000000000000000000\n\
+      end complete 2\n";
 
 const REPORT: &[u8] =
     b"g 3 0 0 chunk 2\ng 5 0 0 serial 0\nr Ran 2\nr Closed 2\nr Granted 2\nevents 6\ncommits 2\ns 0 record 2\n";
@@ -41,19 +71,60 @@ const SUMMARY: &[u8] = b"events 6\ncommits 2\ns 0 record 2\n";
 const EMPTY_LOG: &[u8] = b"DLRN\x01\0\0\0d\0\0\0\0\0\0\0\0\0\0\0\0\0\0\0\0\0\0\0\0\0\0\0\0\0\0\0";
 
 const EMPTY_ACCOUNT: &[u8] =
-    b"t 0 00000000 live 00000000 0 00000000 00000000 00000000 00000000 00000000 00000000 00000000 00000000 00000000 00000000 00000000 00000000 00000000 00000000 00000000 00000000 00000000 00000000 00000000 00000000 00000000 00000000 00000000 00000000 00000000 00000000 00000000 00000000 00000000 00000000 00000000\nm 00000000 9308000013057000730000000000000000000000000000000000000000000000\nend complete 0\n";
+    b"t 0 00000000 live 00000000 0 00000000 00000000 00000000 00000000 00000000 00000000 00000000 00000000 00000000 \
+      00000000 00000000 00000000 00000000 00000000 00000000 00000000 00000000 00000000 00000000 00000000 00000000 \
+      00000000 00000000 00000000 00000000 00000000 00000000 00000000 00000000 00000000 00000000\n\
+      m 00000000 9308000013057000730000000000000000000000000000000000000000000000\n\
+      end complete 0\n";
 
 const EMPTY_SUMMARY: &[u8] = b"events 0\ncommits 0\ns 0 record 0\n";
 
 // On one core: a sphere that the script records, one that no event reaches, and one that replays what the first records.
-const THREE_SPHERES: &[u8] =
-    b"cores = 1\nchunk = 100\nbuffer = 16\nwindow = 2\nsignature = 64\nscript = \"s.txt\"\nconsole = \"con\"\nreport = \"r.txt\"\n[[sphere]]\nimage = \"a.elf\"\nmemory = 4096\nrole = \"record\"\nmode = \"order-size\"\nlog = \"a.log\"\naccount = \"a.txt\"\n[[sphere]]\nimage = \"a.elf\"\nmemory = 4096\nrole = \"record\"\nmode = \"picolog\"\nlog = \"b.log\"\naccount = \"b.txt\"\n[[sphere]]\nimage = \"a.elf\"\nmemory = 4096\nrole = \"replay\"\nlog = \"c.log\"\naccount = \"c.txt\"\n";
+const THREE_SPHERES: &[u8] = b"cores = 1\n\
+      chunk = 100\n\
+      buffer = 16\n\
+      window = 2\n\
+      signature = 64\n\
+      script = \"s.txt\"\n\
+      console = \"con\"\n\
+      report = \"r.txt\"\n\
+      [[sphere]]\n\
+      image = \"a.elf\"\n\
+      memory = 4096\n\
+      role = \"record\"\n\
+      mode = \"order-size\"\n\
+      log = \"a.log\"\n\
+      account = \"a.txt\"\n\
+      [[sphere]]\n\
+      image = \"a.elf\"\n\
+      memory = 4096\n\
+      role = \"record\"\n\
+      mode = \"picolog\"\n\
+      log = \"b.log\"\n\
+      account = \"b.txt\"\n\
+      [[sphere]]\n\
+      image = \"a.elf\"\n\
+      memory = 4096\n\
+      role = \"replay\"\n\
+      log = \"c.log\"\n\
+      account = \"c.txt\"\n";
 
 const EMPTY_PICOLOG: &[u8] =
     b"DLRN\x01\x02\0\0d\0\0\0\0\0\0\0\0\0\0\0\0\0\0\0\0\0\0\0\0\0\0\0\0\0\0\0";
 
-const THREE_REPORT: &[u8] =
-    b"g 3 0 0 chunk 2\ng 5 0 0 serial 0\ng 9 2 0 chunk 2\ng 11 2 0 serial 0\nr Ran 3\nr Closed 4\nr Granted 4\nr Placed 1\nevents 12\ncommits 4\ns 0 record 2\ns 1 record 0\ns 2 complete 2\n";
+const THREE_REPORT: &[u8] = b"g 3 0 0 chunk 2\n\
+      g 5 0 0 serial 0\n\
+      g 9 2 0 chunk 2\n\
+      g 11 2 0 serial 0\n\
+      r Ran 3\n\
+      r Closed 4\n\
+      r Granted 4\n\
+      r Placed 1\n\
+      events 12\n\
+      commits 4\n\
+      s 0 record 2\n\
+      s 1 record 0\n\
+      s 2 complete 2\n";
 
 const INSPECTION: &[u8] = b"log 1 order-size 100 2\np 0 0 2\np 1 0 0\n";
 

@@ -11,11 +11,10 @@ use Rattle.spec_play.specs.Turns.{Now, Turn, TurnOfDma, Ended}
 use Rattle.spec_engine.specs.declared.answers.How.{How}
 use Rattle.spec_engine.specs.Chunks.{Chunk, is_serial}
 use Rattle.spec_engine.specs.Flights.{at}
-use Rattle.spec_protocol.specs.Spheres.{Cursor, Role, Plain, Record, Replay, Sphere, actor_of, head_in, head_of, is_over, is_stopped, limit_in, limit_of, whole_limit}
+use Rattle.spec_protocol.specs.Spheres.{other_than, turn_in, turn_against, Cursor, Role, Plain, Record, Replay, Sphere, actor_of, head_in, head_of, is_over, is_stopped, limit_in, limit_of, whole_limit}
 use Rattle.spec_protocol.specs.Placing.{replays}
-use Rattle.spec_protocol.specs.Asking.{asks_serial, is_short, other_turn}
+use Rattle.spec_protocol.specs.Asking.{asks_serial, is_short}
 use Rattle.spec_protocol.specs.Commits.{is_piece}
-use Rattle.spec_protocol.specs.Transferring.{not_of_dma, turn_before_dma}
 use Rattle.spec_protocol.specs.World.{Occupant, World, sphere_at}
 use Rattle.spec_protocol.specs.Invariants.{Closes, LimitFits}
 use Rattle.spec_protocol.specs.Sound.{IsSoundIf, IsSoundRequest, IsSoundRole}
@@ -30,7 +29,7 @@ use Rattle.dl_machine.proofs.Commits.Granted.{chunk_of}
 
 few_in : (role : Role) (s n : ℕ) (ts : List Parts) → IsSoundRole s n ts role → is_stopped role ≡ false → (replays role ≡ false → n < 2 ^ 24) → n < 2 ^ 24
 few_in Plain s n ts sound going few = few refl
-few_in (Record log) s n ts sound going few = few refl
+few_in (Record recording) s n ts sound going few = few refl
 few_in (Replay b) s n ts sound going few = let l = sound.going going in let m = sound.log.count in omega arith
 
 -- a sphere that goes on has fewer commits than a log may have
@@ -45,38 +44,42 @@ only_if : (same : Bool) (a : Option Actor) (actor : Actor) → (if same then Non
 only_if true a actor e = refl
 only_if false a actor e = cc
 
-turn_now : (now : Now) (k : ℕ) → is_over now ≡ false → other_turn (actor_of now) k ≡ None → now ≡ Turn k
+turn_now : (now : Now) (k : ℕ) → is_over now ≡ false → other_than (Actor.Thread k) (actor_of now) ≡ None → now ≡ Turn k
 turn_now (Turn j) k going free = ap Turn (eqb-true j k (only_if (nat_eq j k) None (Actor.Thread j) free))
 turn_now TurnOfDma k going free = cc
 turn_now (Ended how) k going free = cc
 
-turn_in : (role : Role) (p : Sphere) (k : ℕ) → is_stopped role ≡ false → other_turn (head_in role p) k ≡ None → IsTurnOf k role
-turn_in Plain p k going free = tt
-turn_in (Record log) p k going free = tt
-turn_in (Replay b) p k going free = turn_now b.now k going free
+thread_turn : (role : Role) (p : Sphere) (k : ℕ) → is_stopped role ≡ false → turn_in role p (Actor.Thread k) ≡ None → IsTurnOf k role
+thread_turn Plain p k going free = tt
+thread_turn (Record recording) p k going free = tt
+thread_turn (Replay b) p k going free = turn_now b.now k going free
 
 -- in a replay that goes on it is the turn of a thread where it is nobody else's
-pub turn_of : (p : Sphere) (k : ℕ) → is_stopped p.role ≡ false → other_turn (head_of p) k ≡ None → IsTurnOf k p.role
-unfolding head_of
-turn_of p k going free = turn_in p.role p k going free
+pub turn_of : (p : Sphere) (k : ℕ) → is_stopped p.role ≡ false → turn_against p (Actor.Thread k) ≡ None → IsTurnOf k p.role
+unfolding turn_against
+turn_of p k going free = thread_turn p.role p k going free
 
-dma_now : (now : Now) → is_over now ≡ false → not_of_dma (actor_of now) ≡ None → now ≡ TurnOfDma
+dma_now : (now : Now) → is_over now ≡ false → other_than Actor.Dma (actor_of now) ≡ None → now ≡ TurnOfDma
 dma_now (Turn j) going free = cc
 dma_now TurnOfDma going free = refl
 dma_now (Ended how) going free = cc
 
+dma_turn : (role : Role) (p : Sphere) → is_stopped role ≡ false → turn_in role p Actor.Dma ≡ None → IsTurnOfDma role
+dma_turn Plain p going free = tt
+dma_turn (Record recording) p going free = tt
+dma_turn (Replay b) p going free = dma_now b.now going free
+
 -- in a replay that goes on it is the turn of a DMA where it is nobody else's
-pub turn_of_dma : (role : Role) → is_stopped role ≡ false → turn_before_dma role ≡ None → IsTurnOfDma role
-turn_of_dma Plain going free = tt
-turn_of_dma (Record log) going free = tt
-turn_of_dma (Replay b) going free = dma_now b.now going free
+pub turn_of_dma : (p : Sphere) → is_stopped p.role ≡ false → turn_against p Actor.Dma ≡ None → IsTurnOfDma p.role
+unfolding turn_against
+turn_of_dma p going free = dma_turn p.role p going free
 
 -- ---- chunks
 
 standard_limit : (role : Role) (s k : ℕ) (t : Parts) → replays role ≡ false → limit_of s role k t ≡ s
 unfolding limit_of
 standard_limit Plain s k t e = refl
-standard_limit (Record log) s k t e = refl
+standard_limit (Record recording) s k t e = refl
 standard_limit (Replay b) s k t e = cc
 
 short_some : (s capacity : ℕ) (how : How) (ch : Chunk) → Closes capacity ch → 0 < capacity → ch.closed ≡ Some how → is_short s how ch.limit ≡ true → 1 ≤ ch.done.n
@@ -117,7 +120,7 @@ some_in_all b capacity How.Cut ch closes some is whole = let c = closes.cut is i
 part_in : (role : Role) (z s n capacity : ℕ) (ts : List Parts) (k : ℕ) (how : How) (ch : Chunk) → IsSoundRole z n ts role → IsTurnOf k role → slice_get ts k ≡ Some ch.start → ch.done.thread.commits ≡ ch.start.commits
     → LimitFits s role k ch.start ch.limit → Closes capacity ch → 0 < capacity → ch.closed ≡ Some how → asks_serial ch role ≡ false → IsPartIn role k how ch
 part_in Plain z s n capacity ts k how ch sound turn there commits fits closes some closed whole = tt
-part_in (Record log) z s n capacity ts k how ch sound turn there commits fits closes some closed whole = tt
+part_in (Record recording) z s n capacity ts k how ch sound turn there commits fits closes some closed whole = tt
 part_in (Replay b) z s n capacity ts k how ch sound turn there commits fits closes some closed whole =
     let now = sound.turn k turn in
     let same : now.thread ≡ ch.start = same_Some _ _ (sym now.there ∙ there) in
@@ -131,7 +134,7 @@ part_in (Replay b) z s n capacity ts k how ch sound turn there commits fits clos
       some = some_in_all b capacity how ch closes some closed whole;
     }
 
-can_commit_held : (w : World) (c : ℕ) (h : Occupant) (how : How) → IsReady w → at w.cores c ≡ Some h → h.chunk.closed ≡ Some how → is_stopped (sphere_at w h.chunk.sphere).role ≡ false → other_turn (head_of (sphere_at w h.chunk.sphere)) h.thread ≡ None
+can_commit_held : (w : World) (c : ℕ) (h : Occupant) (how : How) → IsReady w → at w.cores c ≡ Some h → h.chunk.closed ≡ Some how → is_stopped (sphere_at w h.chunk.sphere).role ≡ false → turn_against (sphere_at w h.chunk.sphere) (Actor.Thread h.thread) ≡ None
     → asks_serial h.chunk (sphere_at w h.chunk.sphere).role ≡ false → CanCommit w.numbers.s (sphere_at w h.chunk.sphere) h.thread how h.chunk
 can_commit_held w c h how ready is closed going free whole =
     let g = ready.good.held c h is in
@@ -139,27 +142,27 @@ can_commit_held w c h how ready is closed going free whole =
     record {
       closed = closed;
       commits = λ t there.
-          let same : h.chunk.start ≡ t = same_Some _ _ (sym g.start ∙ there) in
+          let same : h.chunk.start ≡ t = same_Some _ _ (sym g.thread.start ∙ there) in
           (ready.sound.held c h is).commits ∙ ap (λ (u : Parts). u.commits) same;
       size = λ live.
           let l = within_limit _ h.chunk how g.chunk.closes closed in
-          let m = (g.limit going).most in
+          let m = (g.thread.limit going).most in
           let s = standard_limit p.role w.numbers.s h.thread h.chunk.start live in
           omega arith;
       some = short_some w.numbers.s w.numbers.capacity how h.chunk g.chunk.closes ready.good.buffer closed;
-      part = part_in p.role _ w.numbers.s _ w.numbers.capacity p.threads h.thread how h.chunk (ready.sound.spheres h.chunk.sphere g.sphere).role (turn_of p h.thread going free) g.start (ready.sound.held c h is).commits (g.limit going) g.chunk.closes ready.good.buffer closed whole;
+      part = part_in p.role _ w.numbers.s _ w.numbers.capacity p.threads h.thread how h.chunk (ready.sound.spheres h.chunk.sphere g.sphere).role (turn_of p h.thread going free) g.thread.start (ready.sound.held c h is).commits (g.thread.limit going) g.chunk.closes ready.good.buffer closed whole;
     }
 
 -- a closed chunk of a sphere that goes on can be committed, where it is nobody else's turn and no serial step is asked for
 pub can_commit : (w : World) (c : ℕ) (o : Option Occupant) (held : Seen) (how : How) (ch : Chunk) → IsReady w → at w.cores c ≡ o → option_map seen o ≡ Some held → option_map closed_by o ≡ Some (Some how) → Some ch ≡ option_map chunk_of o
-    → is_stopped (sphere_at w held.sphere).role ≡ false → other_turn (head_of (sphere_at w held.sphere)) held.thread ≡ None → Some false ≡ option_map (λ h. asks_serial h.chunk (sphere_at w held.sphere).role) o
+    → is_stopped (sphere_at w held.sphere).role ≡ false → turn_against (sphere_at w held.sphere) (Actor.Thread held.thread) ≡ None → Some false ≡ option_map (λ h. asks_serial h.chunk (sphere_at w held.sphere).role) o
     → CanCommit w.numbers.s (sphere_at w held.sphere) held.thread how ch
 can_commit w c None held how ch ready is eh ew ec going free whole = absurd (none-some held eh)
 can_commit w c (Some h) held how ch ready is eh ew ec going free whole =
     let seen_ : seen h ≡ held = same_Some _ _ eh in
     let same : h.chunk ≡ ch = sym (same_Some _ _ ec) in
     let at_h : is_stopped (sphere_at w h.chunk.sphere).role ≡ false = subst (λ (s : Seen). is_stopped (sphere_at w s.sphere).role ≡ false) (sym seen_) going in
-    let free_h : other_turn (head_of (sphere_at w h.chunk.sphere)) h.thread ≡ None = subst (λ (s : Seen). other_turn (head_of (sphere_at w s.sphere)) s.thread ≡ None) (sym seen_) free in
+    let free_h : turn_against (sphere_at w h.chunk.sphere) (Actor.Thread h.thread) ≡ None = subst (λ (s : Seen). turn_against (sphere_at w s.sphere) (Actor.Thread s.thread) ≡ None) (sym seen_) free in
     let whole_h : asks_serial h.chunk (sphere_at w h.chunk.sphere).role ≡ false = subst (λ (s : Seen). asks_serial h.chunk (sphere_at w s.sphere).role ≡ false) (sym seen_) (sym (same_Some _ _ whole)) in
     subst (λ (d : Chunk). CanCommit w.numbers.s (sphere_at w held.sphere) held.thread how d) same
     (subst (λ (s : Seen). CanCommit w.numbers.s (sphere_at w s.sphere) s.thread how h.chunk) seen_

@@ -1,4 +1,4 @@
--- A divergence leaves the devices as they are.
+-- A divergence leaves the devices as they are, and no serial step or DMA is a piece of a commit.
 use Rattle.std.proofs.Common.{◌≡◌, ℕ, Option, Some, None, refl}
 use Rattle.dl_entry.specs.declared.Request.{Request}
 use Rattle.spec_isa.specs.declared.thread.Parts.{Parts}
@@ -8,10 +8,10 @@ use Rattle.spec_play.specs.Transfers.{DmaVerdict, DmaGoes, DmaFails, dma_verdict
 use Rattle.spec_protocol.specs.Spheres.{Cursor, Role, Plain, Record, Replay, Sphere}
 use Rattle.spec_protocol.specs.Commits.{CommitOutcome, Granted, Piece, Diverged, MovedSphere, by_verdict, serial_in, serial_moved, dma_by_verdict, live_dma, dma_in, dma_moved}
 
--- a move that diverges leaves the devices as they were
+-- a move that diverges leaves the devices as they were, and none is a piece
 abbrev pub IsApart : Devices → MovedSphere → CommitOutcome → Type 0
 IsApart d v Granted = Unit {0}
-IsApart d v Piece = Unit {0}
+IsApart d v Piece = ⊥
 IsApart d v (Diverged i why) = v.devices ≡ d
 
 verdict_apart : (b : Cursor) (k : ℕ) (x : LogVerdict) (d : Devices) (p : Sphere) → let v = by_verdict b k x d p in IsApart d v v.outcome
@@ -20,7 +20,7 @@ verdict_apart b k (Goes e u) d p = tt
 
 serial_in_apart : (role : Role) (k moment : ℕ) (t : Parts) (d : Devices) (p : Sphere) → let v = serial_in role k moment t d p in IsApart d v v.outcome
 serial_in_apart Plain k moment t d p = tt
-serial_in_apart (Record log) k moment t d p = tt
+serial_in_apart (Record recording) k moment t d p = tt
 serial_in_apart (Replay b) k moment t d p = verdict_apart b k (serial_verdict b.log p.progress b.used k p.threads t p.memory) d p
 
 -- a serial step that diverges leaves the devices as they are
@@ -43,7 +43,7 @@ dma_verdict_apart b (DmaGoes words) d p = tt
 
 dma_in_apart : (role : Role) (d : Devices) (p : Sphere) → AreApart d (dma_in role d p)
 dma_in_apart Plain d p = live_apart Plain d p p.progress.request
-dma_in_apart (Record log) d p = live_apart _ d p p.progress.request
+dma_in_apart (Record recording) d p = live_apart _ d p p.progress.request
 dma_in_apart (Replay b) d p = dma_verdict_apart b (dma_verdict b.log p.progress b.used) d p
 
 -- a DMA that diverges leaves the devices as they are

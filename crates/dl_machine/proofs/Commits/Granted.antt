@@ -156,7 +156,7 @@ serial_after w c None held v ready eo eh ev = absurd (none-some held eh)
 serial_after w c (Some h) held v ready eo eh ev =
     let seen_ : held ≡ seen h = sym (same_Some _ _ eh) in
     let moved : v ≡ serial_moved h.thread (moment w % 2 ^ 32) h.chunk.start w.devices (sphere_at w h.chunk.sphere) =
-    subst (λ (s : Seen). (t : Parts) → slice_get (sphere_at w s.sphere).threads s.thread ≡ Some t → v ≡ serial_moved s.thread (moment w % 2 ^ 32) t w.devices (sphere_at w s.sphere)) seen_ ev h.chunk.start (ready.good.held c h eo).start
+    subst (λ (s : Seen). (t : Parts) → slice_get (sphere_at w s.sphere).threads s.thread ≡ Some t → v ≡ serial_moved s.thread (moment w % 2 ^ 32) t w.devices (sphere_at w s.sphere)) seen_ ev h.chunk.start (ready.good.held c h eo).thread.start
     in
     let whole : v ≡ serial_moved h.thread (moment w) h.chunk.start w.devices (sphere_at w h.chunk.sphere) = moved ∙ serial_cut h.thread (moment w) h.chunk.start w.devices (sphere_at w h.chunk.sphere) in
     ap (λ (s : Seen). Some (serial_after_of w c s v)) seen_
@@ -171,7 +171,7 @@ serial_still w c None held v ready eo eh ev = absurd (none-some held eh)
 serial_still w c (Some h) held v ready eo eh ev =
     let seen_ : held ≡ seen h = sym (same_Some _ _ eh) in
     let moved : v ≡ serial_moved h.thread (moment w % 2 ^ 32) h.chunk.start w.devices (sphere_at w h.chunk.sphere) =
-    subst (λ (s : Seen). (t : Parts) → slice_get (sphere_at w s.sphere).threads s.thread ≡ Some t → v ≡ serial_moved s.thread (moment w % 2 ^ 32) t w.devices (sphere_at w s.sphere)) seen_ ev h.chunk.start (ready.good.held c h eo).start
+    subst (λ (s : Seen). (t : Parts) → slice_get (sphere_at w s.sphere).threads s.thread ≡ Some t → v ≡ serial_moved s.thread (moment w % 2 ^ 32) t w.devices (sphere_at w s.sphere)) seen_ ev h.chunk.start (ready.good.held c h eo).thread.start
     in
     subst (λ (u : MovedSphere). IsApart w.devices u u.outcome) (sym moved) (serial_apart h.thread (moment w % 2 ^ 32) h.chunk.start w.devices (sphere_at w h.chunk.sphere))
 

@@ -27,7 +27,7 @@ taken_cut (Some n) d moment = ap (λ (a : Answered). record { input = Some a.inp
 
 serial_in_cut : (role : Role) (k moment : ℕ) (t : Parts) (d : Devices) (p : Sphere) → serial_in role k (moment % 2 ^ 32) t d p ≡ serial_in role k moment t d p
 serial_in_cut Plain k moment t d p = ap (λ (g : Taken). served_as Plain k t g p) (taken_cut (need t p.memory) d moment)
-serial_in_cut (Record log) k moment t d p = ap (λ (g : Taken). served_as (Record (serial_noted k t g log p)) k t g p) (taken_cut (need t p.memory) d moment)
+serial_in_cut (Record recording) k moment t d p = ap (λ (g : Taken). served_as (Record (record recording { log = serial_noted k t g recording.log p })) k t g p) (taken_cut (need t p.memory) d moment)
 serial_in_cut (Replay b) k moment t d p = refl
 
 -- a serial step sees its moment modulo 2^32

@@ -20,7 +20,7 @@ none_live role d p (Some r) e = cc
 
 none_in : (role : Role) (d : Devices) (p : Sphere) → replays role ≡ false → p.progress.request ≡ None → dma_in role d p ≡ None
 none_in Plain d p e none = none_live Plain d p p.progress.request none
-none_in (Record log) d p e none = none_live _ d p p.progress.request none
+none_in (Record recording) d p e none = none_live _ d p p.progress.request none
 none_in (Replay b) d p e none = cc
 
 -- without a request there is no DMA, but in a replay

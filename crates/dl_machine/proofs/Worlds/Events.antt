@@ -1,4 +1,4 @@
--- Every event keeps the world ready, and is counted once, with its reply.
+-- Every event is counted once, with its reply.
 use Rattle.std.proofs.Common.{◌≡◌, ℕ, ◌≤◌, refl, ap, ◌∙◌}
 use Rattle.std.specs.Prelude.{slice_index}
 use Rattle.dl_entry.specs.Counts.{counted}
@@ -7,8 +7,6 @@ use Rattle.spec_protocol.specs.declared.reply.Reply.{Reply}
 use Rattle.spec_protocol.specs.World.{World}
 use Rattle.spec_protocol.specs.Machine.{act, happens, name_of}
 use Rattle.spec_protocol.proofs.Points.Counts.{act-untold}
-use Rattle.spec_protocol.proofs.Invariants.Schedules.{happens-preserved}
-use Rattle.spec_protocol.proofs.Sound.Schedules.{happens-sound}
 use Rattle.dl_machine.specs.Ready.{IsReady}
 use Rattle.dl_machine.specs.States.{left}
 
@@ -37,13 +35,3 @@ world_left w e reply between new er eb en =
 -- no reply was given more often than there were events
 pub replies_few : (w : World) → IsReady w → (k : ℕ) → slice_index w.counts.replies k ≤ w.counts.events
 replies_few w ready k = ready.sound.replies k
-
--- any event keeps the world ready
-pub ready_after : (w : World) (e : Event) → IsReady w → IsReady (happens w e).world
-ready_after w e ready =
-    record {
-      setup = ready.setup;
-      limits = ready.limits;
-      good = (happens-preserved w e ready.good).good;
-      sound = happens-sound ready.setup w e ready.limits ready.good ready.sound;
-    }

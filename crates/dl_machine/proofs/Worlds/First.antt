@@ -39,7 +39,3 @@ limits_within s within images input =
 -- a setup within the limits is a setup
 pub setup_within : (s : protocol.Setup) → IsWithinLimits s → IsSetup s
 setup_within s limits = record { chunk = let c = limits.chunk in omega arith; buffer = let b = limits.buffer in omega arith }
-
--- what a setup comes to is ready
-pub ready_first : (s : protocol.Setup) → IsWithinLimits s → IsReady (world_of s)
-ready_first s limits = record { setup = s; limits = limits; good = start-good s (setup_within s limits); sound = worlds_sound s [] limits }

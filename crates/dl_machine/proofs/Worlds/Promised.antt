@@ -1,19 +1,23 @@
 -- What the protocol promises holds of every world that a setup has come to.
-use Rattle.std.proofs.Common.{◌≡◌, ℕ, ◌<◌, [], ◌∷◌, ◌++◌, List, Some, refl, sym, ap, ◌∙◌, subst, arith}
+use Rattle.std.proofs.Common.{◌≡◌, ℕ, ◌<◌, ◌^◌, [], ◌∷◌, ◌++◌, List, Some, refl, sym, ap, ◌∙◌, subst, arith}
 use Rattle.std.specs.Prelude.{slice_get}
 use Rattle.spec_log.specs.declared.LogParts.{LogParts}
 use Rattle.spec_log.specs.Log.{IsLog}
 use Rattle.spec_protocol.specs.declared.event.Event.{Event}
 use Rattle.spec_protocol.specs.World.{World}
-use Rattle.spec_protocol.specs.Machine.{RoleSetup, IsReplayed, Setup, SphereSetup, happens, world_after, world_of}
+use Rattle.spec_protocol.specs.Machine.{ReplaySetup, RoleSetup, IsReplayed, Setup, SphereSetup, happens, world_after, world_of}
 use Rattle.spec_protocol.specs.Promises.{after}
 use Rattle.spec_protocol.specs.Sound.{IsRole, IsWithinLimits}
 use Rattle.spec_protocol.proofs.Points.Serial.{commits_are}
 use Rattle.spec_protocol.proofs.PlayingBack.All.{logs_play_back}
 use Rattle.spec_replay.proofs.Replays.All.{replays_follow}
 use Rattle.spec_replay.proofs.Replays.Stopping.{stopped_played}
-use Rattle.dl_machine.specs.Runs.{IsRun, IsSerial, IsPromised}
+use Rattle.dl_machine.specs.Runs.{HasRun, IsRun, IsSerial, IsPromised}
+use Rattle.spec_protocol.proofs.Invariants.Schedules.{invariants_hold}
+use Rattle.spec_protocol.proofs.Sound.Schedules.{worlds_sound}
+use Rattle.dl_machine.specs.Ready.{HasRoom, IsReady}
 use Rattle.dl_machine.proofs.Worlds.First.{setup_within}
+use Rattle.dl_machine.proofs.Worlds.Ready.{young_has_room}
 
 -- ---- one event more
 
@@ -30,6 +34,25 @@ pub run_more : (s : Setup) (es : List Event) (e : Event) (w next : World) → ne
 run_more s es e w next is run =
     record { limits = run.limits; here = is ∙ ap (λ (u : World). (happens u e).world) run.here ∙ sym (after_more (world_of s) es e) }
 
+-- so does a machine that some run has led to
+pub led_on : (w next : World) (e : Event) → next ≡ (happens w e).world → HasRun w → HasRun next
+led_on w next e is r = record { setup = r.setup; schedule = r.schedule ++ e ∷ []; run = run_more r.setup r.schedule e w next is r.run }
+
+-- what a run has led to is ready
+pub run_ready : (w : World) → HasRun w → IsReady w
+run_ready w r =
+    subst IsReady (sym r.run.here)
+    (record {
+      setup = r.setup;
+      limits = r.run.limits;
+      good = invariants_hold r.setup r.schedule (setup_within r.setup r.run.limits);
+      sound = worlds_sound r.setup r.schedule r.run.limits;
+    })
+
+-- before so many events it has room
+pub young_run_has_room : (w : World) → HasRun w → w.counts.events < 2 ^ 24 → HasRoom w
+young_run_has_room w r young = young_has_room w (run_ready w r) young
+
 -- ---- what is promised
 
 serial_after : (s : Setup) (es : List Event) → IsWithinLimits s → IsSerial s (after s es) (after s es).points
@@ -41,19 +64,19 @@ serial_after s es limits =
 pub serial_run : (s : Setup) (es : List Event) (w : World) → IsRun s es w → IsSerial s w w.points
 serial_run s es w run = subst (λ (u : World). IsSerial s u u.points) (sym run.here) (serial_after s es run.limits)
 
-role_log : (role : RoleSetup) (log : LogParts) → role ≡ IsReplayed log → IsRole role → IsLog log
-role_log role log is of_role = subst IsRole is of_role
+role_log : (role : RoleSetup) (asked : ReplaySetup) → role ≡ IsReplayed asked → IsRole role → IsLog asked.log
+role_log role asked is of_role = subst IsRole is of_role
 
 promised_after : (s : Setup) (i : ℕ) (es : List Event) → IsWithinLimits s → IsPromised s i (after s es)
 promised_after s i es limits =
     let within = setup_within s limits in
-    let standard : (image : SphereSetup) (log : LogParts) → slice_get s.spheres i ≡ Some image → image.role ≡ IsReplayed log → 0 < log.s =
-    λ image log there role. (let l = (role_log image.role log role (limits.images i image there).role).s in omega arith)
+    let standard : (image : SphereSetup) (asked : ReplaySetup) → slice_get s.spheres i ≡ Some image → image.role ≡ IsReplayed asked → 0 < asked.log.s =
+    λ image asked there role. (let l = (role_log image.role asked role (limits.images i image there).role).s in omega arith)
     in
     record {
-      recorded = λ image mode p log now was is. logs_play_back s es i image mode (record { setup = within; there = now.there; role = was }) p log now.shown is;
-      replayed = λ image log p now was. replays_follow image log s es i p (record { setup = within; there = now.there; replays = was; standard = standard image log now.there was; shown = now.shown });
-      stopped = λ image log p b now was is over. stopped_played image log s es i p b (record { setup = within; there = now.there; replays = was; standard = standard image log now.there was; shown = now.shown }) is over;
+      recorded = λ image asked p recording now was is. logs_play_back s es i image asked (record { setup = within; there = now.there; role = was }) p recording now.shown is;
+      replayed = λ image asked p now was. replays_follow image asked s es i p (record { setup = within; there = now.there; replays = was; standard = standard image asked now.there was; shown = now.shown });
+      stopped = λ image asked p b now was is over. stopped_played image asked s es i p b (record { setup = within; there = now.there; replays = was; standard = standard image asked now.there was; shown = now.shown }) is over;
     }
 
 -- what the protocol promises of a sphere holds after every run

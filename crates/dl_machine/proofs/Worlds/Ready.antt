@@ -12,7 +12,7 @@ use Rattle.dl_machine.specs.Ready.{HasRoom, IsReady}
 
 seen_of : (w : World) (c : ℕ) (o : Option Occupant) → IsReady w → at w.cores c ≡ o → IfSome (option_map seen o) (IsOf w)
 seen_of w c None ready is = tt
-seen_of w c (Some h) ready is = let g = ready.good.held c h is in record { sphere = g.sphere; thread = slice_get_within _ _ _ g.start }
+seen_of w c (Some h) ready is = let g = ready.good.held c h is in record { sphere = g.sphere; thread = slice_get_within _ _ _ g.thread.start }
 
 -- what a core holds is of a sphere and a thread that there are
 pub held_is_of : (w : World) (c : ℕ) (r : Option Seen) → IsReady w → r ≡ option_map seen (at w.cores c) → IfSome r (IsOf w)

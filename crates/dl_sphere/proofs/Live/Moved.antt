@@ -73,7 +73,7 @@ module _ (m : List ℕ) (ts : List Parts) (cs : List Commit) (last : Option ℕ)
       let g = taken (need t m) d moment in
       let v = serve k ts q t m g.input in
       let c : Commit = serial_commit k v.loads v.outputs in
-      ap (λ l. moved_by m ts cs k t g v (protocol.Record l)) (log_with r c false g.input ∙ ap (λ i. input_noted g.input (noted c i false (as_log r))) (h.done k ∙ ap commits_if start))
+      ap (λ l. moved_by m ts cs k t g v (protocol.Record (record { log = l }))) (log_with r c false g.input ∙ ap (λ i. input_noted g.input (noted c i false (as_log r))) (h.done k ∙ ap commits_if start))
 
   -- a chunk of the sphere moves it as the definitions do
   pub chunk_is_moved : (s : ℕ) (x : Keeping) (q : Option Request) (k : ℕ) (t : Parts) (piece short : Bool) (r : Run)
@@ -84,9 +84,9 @@ module _ (m : List ℕ) (ts : List Parts) (cs : List Commit) (last : Option ℕ)
   chunk_is_moved s (Replaying p loads) q k t piece short r live start same h = absurd live
   chunk_is_moved s (Recording p) q k t piece short r live start same h =
       let c : Commit = chunk_commit k r in
-      ap (λ l. chunk_by m ts cs k q r d (protocol.Record l))
+      ap (λ l. chunk_by m ts cs k q r d (protocol.Record (record { log = l })))
       (log_with p c short None ∙ ap (λ i. noted c i short (as_log p)) (h.done k ∙ ap commits_if start ∙ sym same))
-      ∙ chunk_same m ts cs k q r d (protocol.Record (noted c r.thread.commits short (as_log p)))
+      ∙ chunk_same m ts cs k q r d (protocol.Record (record { log = noted c r.thread.commits short (as_log p) }))
 
   -- without a request it has no DMA
   pub none_moved : (x : Keeping) → IsLive x → dma_moved d (sphere_with m ts cs last None (role_of x)) ≡ None

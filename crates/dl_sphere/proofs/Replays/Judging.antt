@@ -13,12 +13,11 @@ use Rattle.spec_kernel.specs.Serving.{serve}
 use Rattle.spec_play.specs.Progress.{Progress, Used, with_interrupt}
 use Rattle.spec_play.specs.Verdicts.{LogVerdict, Goes, Fails, Given, with_interrupted, interrupt_at, chunk_verdict, unless, served_verdict, serial_verdict}
 use Rattle.dl_kernel.specs.declared.serving.StepResult.{StepResult}
-use Rattle.dl_replay.specs.declared.asking.Verdict.{Verdict}
+use Rattle.dl_replay.specs.Served.{Served, nothing_served, served_left}
+use Rattle.dl_replay.specs.declared.verdict.Verdict.{Verdict}
 use Rattle.dl_replay.specs.Judged as replay
 use Rattle.dl_replay.specs.Judged.{chunk_judged, serial_judged}
-use Rattle.dl_replay.specs.Left.{nothing_served, served_left}
 use Rattle.dl_replay.specs.Replaying.{Replaying}
-use Rattle.dl_replay.specs.declared.served.Served.{Served}
 use Rattle.dl_sphere.specs.Judging.{Before, judged_by}
 
 -- ---- the commit of a verdict

@@ -46,26 +46,13 @@ few_live s p (Replays r loads) live h = absurd live
 pub part-fits : (b : Cursor) (k n : ℕ) (t : Parts) → IsLog b.log → b.total < whole_limit b.log k t.commits → n ≤ limit_in (Replay b) 0 k t.commits → b.total + n < 2 ^ 32
 part-fits b k n t is room within = let a = whole-most b.log k t.commits is in let c = is.s.1 in omega (arith, a, c, room, within)
 
--- a thread that there is
-pub record There (ts : List Parts) (k : ℕ) : Type 0 where
-  pub thread : Parts
-  pub is : slice_get ts k ≡ Some thread
-
--- a thread of a number below their count is there
-pub there : (ts : List Parts) (k : ℕ) → k < length ts → There ts k
-there [] k l = absurd (omega arith)
-there (t ∷ ts) zero l = record { thread = t; is = refl }
-there (t ∷ ts) (suc k) l = let h = there ts k (omega arith) in record { thread = h.thread; is = h.is }
-
 -- the limit of a replay's chunk is at least 1
-pub replay-least : (s : ℕ) (b : Cursor) (k : ℕ) (t : Parts) → 1 ≤ limit_of s (Replay b) k t
-unfolding limit_of
-replay-least s b k t = omega arith
+pub replay-least : (s : ℕ) (b : Cursor) (k n : ℕ) → 1 ≤ limit_in (Replay b) s k n
+replay-least s b k n = omega arith
 
 -- the limit of a replay's chunk is at most 4,096
-pub replay-most : (s : ℕ) (b : Cursor) (k : ℕ) (t : Parts) → IsLog b.log → limit_of s (Replay b) k t ≤ 4096
-unfolding limit_of
-replay-most s b k t is = let a = whole-most b.log k t.commits is in let c = is.s.1 in omega (arith, a, c)
+pub replay-most : (s : ℕ) (b : Cursor) (k n : ℕ) → IsLog b.log → limit_in (Replay b) s k n ≤ 4096
+replay-most s b k n is = let a = whole-most b.log k n is in let c = is.s.1 in omega (arith, a, c)
 
 -- a request inside a memory is inside the largest
 pub sound-within : (size most : ℕ) (o : Option Request) → size ≤ most → IfSome o (IsSoundRequest size) → IfSome o (IsSoundRequest most)

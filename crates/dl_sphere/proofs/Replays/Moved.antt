@@ -11,16 +11,15 @@ use Rattle.spec_isa.specs.Words.{Stored}
 use Rattle.spec_log.specs.Log.{IsLog}
 use Rattle.spec_kernel.specs.Devices.{Devices}
 use Rattle.spec_play.specs.Effects.{Effect, dma_commit}
-use Rattle.spec_play.specs.Progress.{Progress, Used}
+use Rattle.spec_play.specs.Progress.{Progress, position, Used}
 use Rattle.spec_play.specs.Transfers.{DmaVerdict, DmaGoes, DmaFails}
 use Rattle.spec_play.specs.Turns.{Ended}
 use Rattle.spec_play.specs.Verdicts.{LogVerdict, Goes, Fails}
 use Rattle.spec_protocol.specs.Commits as commits
 use Rattle.spec_protocol.specs.Commits.{by_verdict, dma_by_verdict}
-use Rattle.spec_protocol.specs.Spheres.{Replay, Sphere}
+use Rattle.spec_protocol.specs.Spheres.{Role, Replay, Sphere}
 use Rattle.spec_protocol.proofs.Logs.Growing.{pushed_length}
 use Rattle.dl_replay.specs.Replaying.{Replaying, commits_of, cursor_of}
-use Rattle.dl_sphere.specs.Inside.{sphere_with}
 use Rattle.dl_sphere.specs.Judging.{JudgedSphere, Before, judged_by, dma_judged_by}
 use Rattle.dl_sphere.specs.Roles as roles
 use Rattle.dl_sphere.specs.Roles.{IsSphere}
@@ -48,6 +47,11 @@ module _ (x : Sphere) (r : Replaying) (loads : List Load) where
   abbrev played : Sphere
   played = record x { role = Replay (cursor_of r loads) }
 
+  -- with these threads, commits and request, in this role
+  abbrev moved_to : List Parts → List Commit → (last : Option ℕ) → Option Request → Role → Sphere
+  moved_to us ds last q role =
+      record x { threads = us; progress = record x.progress { commits = ds; last = last; request = q }; role = role }
+
   -- Judging its next commit has left it with the replay new and the loads ls, these threads, this request and these commits.
   module _ (new : Replaying) (ls : List Load) (us : List Parts) (q : Option Request) (ds : List Commit) where
     -- what was answered: why the replay has left its log, if it has, and the words to fly
@@ -56,7 +60,7 @@ module _ (x : Sphere) (r : Replaying) (loads : List Load) where
 
     -- the sphere then, the last commit of a thread being one of the thread `last`
     abbrev after : (last : Option ℕ) → Sphere
-    after last = sphere_with x.memory us ds last q (Replay (cursor_of new ls))
+    after last = moved_to us ds last q (Replay (cursor_of new ls))
 
     -- ---- commits of threads
 
@@ -69,27 +73,27 @@ module _ (x : Sphere) (r : Replaying) (loads : List Load) where
     granted k (Goes e u) d words flies is =
         λ i. record {
           outcome = commits.Granted;
-          sphere = sphere_with x.memory (is i).threads (is i).commits (Some k) (is i).request (Replay (cursor_of (is i).replay (is i).loads));
+          sphere = moved_to (is i).threads (is i).commits (Some k) (is i).request (Replay (cursor_of (is i).replay (is i).loads));
           words = sym (flies e u refl) i;
           devices = d;
         }
 
     -- a judged commit that diverges moves the sphere as its verdict says
-    pub left : (k : ℕ) (v : LogVerdict) (d : Devices) (why : Why) → length x.progress.commits ≡ r.done
+    pub left : (k : ℕ) (v : LogVerdict) (d : Devices) (why : Why) → position x.progress ≡ r.done
         → answered (Some why) [] ≡ record (judged_by x.progress k before v) { words = [] }
-        → record { outcome = commits.Diverged (length ds) why; sphere = after x.progress.last; words = []; devices = d } ≡ by_verdict (cursor_of r loads) k v d played
+        → record { outcome = commits.Diverged (x.progress.first + length ds) why; sphere = after x.progress.last; words = []; devices = d } ≡ by_verdict (cursor_of r loads) k v d played
     unfolding went why_in
     left k (Goes e u) d why done is = absurd (true≢false (sym (ap (λ (j : JudgedSphere). went j.why) is)))
     left k (Fails because) d why done is =
         let same : why ≡ because = ap (λ (j : JudgedSphere). why_in why j.why) is in
         (λ i. record {
-          outcome = commits.Diverged (length (is i).commits) (same i);
-          sphere = sphere_with x.memory (is i).threads (is i).commits x.progress.last (is i).request (Replay (cursor_of (is i).replay (is i).loads));
+          outcome = commits.Diverged (x.progress.first + length (is i).commits) (same i);
+          sphere = moved_to (is i).threads (is i).commits x.progress.last (is i).request (Replay (cursor_of (is i).replay (is i).loads));
           words = [];
           devices = d;
         })
         ∙ ap (λ n. record {
-          outcome = commits.Diverged (length x.progress.commits) because;
+          outcome = commits.Diverged (position x.progress) because;
           sphere = record x { role = Replay (record (cursor_of r loads) { now = Ended (End.Diverged n because) }) };
           words = [];
           devices = d;
@@ -111,7 +115,7 @@ module _ (x : Sphere) (r : Replaying) (loads : List Load) where
         let cs = x.progress.commits in
         let count : length ds ≡ suc (length cs) = ap (λ (j : JudgedSphere). length j.commits) is ∙ pushed_length cs e.commit (length cs) refl in
         let done : new.done ≡ r.done + 1 = ap (λ (j : JudgedSphere). j.replay.done) is in
-        let was : length cs ≡ r.done = h.kept.agrees.done in
+        let was : position x.progress ≡ r.done = h.kept.agrees.done in
         record {
           size = h.size;
           threads = few;
@@ -135,7 +139,7 @@ module _ (x : Sphere) (r : Replaying) (loads : List Load) where
           kept = record {
             is_log = subst IsLog (sym (ap (λ (j : JudgedSphere). j.replay.log) is)) h.kept.is_log;
             agrees = record {
-              done = ap (λ (j : JudgedSphere). length j.commits) is ∙ h.kept.agrees.done ∙ sym (ap (λ (j : JudgedSphere). j.replay.done) is);
+              done = ap (λ (j : JudgedSphere). x.progress.first + length j.commits) is ∙ h.kept.agrees.done ∙ sym (ap (λ (j : JudgedSphere). j.replay.done) is);
               last = h.kept.agrees.last ∙ sym (ap (λ (j : JudgedSphere). j.replay.last) is);
             };
             commits = ap (λ (j : JudgedSphere). j.replay.commits) is ∙ h.kept.commits ∙ sym (ap (λ (j : JudgedSphere). commits_of j.threads) is);
@@ -152,27 +156,27 @@ module _ (x : Sphere) (r : Replaying) (loads : List Load) where
     dma_granted (DmaGoes stored) d words is =
         λ i. record {
           outcome = commits.Granted;
-          sphere = sphere_with x.memory (is i).threads (is i).commits x.progress.last (is i).request (Replay (cursor_of (is i).replay (is i).loads));
+          sphere = moved_to (is i).threads (is i).commits x.progress.last (is i).request (Replay (cursor_of (is i).replay (is i).loads));
           words = (is i).words;
           devices = d;
         }
 
     -- a judged DMA that diverges moves the sphere as its verdict says
-    pub dma_left : (v : DmaVerdict) (d : Devices) (why : Why) (words : List Stored) → length x.progress.commits ≡ r.done
+    pub dma_left : (v : DmaVerdict) (d : Devices) (why : Why) (words : List Stored) → position x.progress ≡ r.done
         → answered (Some why) words ≡ dma_judged_by x.progress before v
-        → record { outcome = commits.Diverged (length ds) why; sphere = after x.progress.last; words = []; devices = d } ≡ dma_by_verdict (cursor_of r loads) v d played
+        → record { outcome = commits.Diverged (x.progress.first + length ds) why; sphere = after x.progress.last; words = []; devices = d } ≡ dma_by_verdict (cursor_of r loads) v d played
     unfolding went why_in
     dma_left (DmaGoes stored) d why words done is = absurd (true≢false (sym (ap (λ (j : JudgedSphere). went j.why) is)))
     dma_left (DmaFails because) d why words done is =
         let same : why ≡ because = ap (λ (j : JudgedSphere). why_in why j.why) is in
         (λ i. record {
-          outcome = commits.Diverged (length (is i).commits) (same i);
-          sphere = sphere_with x.memory (is i).threads (is i).commits x.progress.last (is i).request (Replay (cursor_of (is i).replay (is i).loads));
+          outcome = commits.Diverged (x.progress.first + length (is i).commits) (same i);
+          sphere = moved_to (is i).threads (is i).commits x.progress.last (is i).request (Replay (cursor_of (is i).replay (is i).loads));
           words = [];
           devices = d;
         })
         ∙ ap (λ n. record {
-          outcome = commits.Diverged (length x.progress.commits) because;
+          outcome = commits.Diverged (position x.progress) because;
           sphere = record x { role = Replay (record (cursor_of r loads) { now = Ended (End.Diverged n because) }) };
           words = [];
           devices = d;
@@ -193,7 +197,7 @@ module _ (x : Sphere) (r : Replaying) (loads : List Load) where
         let cs = x.progress.commits in
         let count : length ds ≡ suc (length cs) = ap (λ (j : JudgedSphere). length j.commits) is ∙ pushed_length cs dma_commit (length cs) refl in
         let done : new.done ≡ r.done + 1 = ap (λ (j : JudgedSphere). j.replay.done) is in
-        let was : length cs ≡ r.done = h.kept.agrees.done in
+        let was : position x.progress ≡ r.done = h.kept.agrees.done in
         record {
           size = h.size;
           threads = subst (λ xs. length xs ≤ 15) (sym (ap (λ (j : JudgedSphere). j.threads) is)) h.threads;
@@ -216,7 +220,7 @@ module _ (x : Sphere) (r : Replaying) (loads : List Load) where
           kept = record {
             is_log = subst IsLog (sym (ap (λ (j : JudgedSphere). j.replay.log) is)) h.kept.is_log;
             agrees = record {
-              done = ap (λ (j : JudgedSphere). length j.commits) is ∙ h.kept.agrees.done ∙ sym (ap (λ (j : JudgedSphere). j.replay.done) is);
+              done = ap (λ (j : JudgedSphere). x.progress.first + length j.commits) is ∙ h.kept.agrees.done ∙ sym (ap (λ (j : JudgedSphere). j.replay.done) is);
               last = h.kept.agrees.last ∙ sym (ap (λ (j : JudgedSphere). j.replay.last) is);
             };
             commits = ap (λ (j : JudgedSphere). j.replay.commits) is ∙ h.kept.commits ∙ sym (ap (λ (j : JudgedSphere). commits_of j.threads) is);

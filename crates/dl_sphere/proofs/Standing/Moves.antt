@@ -225,5 +225,5 @@ transferred_stand p q s bytes x live threads more h =
     }
 
 -- a DMA of a recorded sphere leaves its log with the commit and the bytes noted
-pub transferred_role : (p : Sphere) (s : ℕ) (bytes : List ℕ) (r : Recorded) → HasRecorded s p r → role_of (with_noted dma_commit false None (Some bytes) (Recording r)) ≡ Record (dma_noted (position p.progress) bytes (noted dma_commit (position p.progress) false (as_log r)))
-transferred_role p s bytes r h = ap Record (dma_log_at r bytes (position p.progress) h.stands.count)
+pub transferred_role : (p : Sphere) (s : ℕ) (bytes : List ℕ) (r : Recorded) → HasRecorded s p r → role_of (with_noted dma_commit false None (Some bytes) (Recording r)) ≡ Record (record { log = dma_noted (position p.progress) bytes (noted dma_commit (position p.progress) false (as_log r)) })
+transferred_role p s bytes r h = ap (λ l. Record (record { log = l })) (dma_log_at r bytes (position p.progress) h.stands.count)

@@ -32,20 +32,20 @@ none-done entry (suc k) = zeros 14 k
 
 start_role : (s entry : ℕ) (role : RoleSetup) → role_of (keeping_at entry s role) ≡ role_at s (started entry ∷ []) role
 start_role s entry IsPlain = refl
-start_role s entry (IsRecorded mode) = refl
-start_role s entry (IsReplayed log) = refl
+start_role s entry (IsRecorded asked) = refl
+start_role s entry (IsReplayed asked) = refl
 
 start_keeping : (s entry : ℕ) (m : List ℕ) (role : RoleSetup) → IsRole role → IsKeepingOf s (sphere_with m (started entry ∷ []) [] None None (role_of (keeping_at entry s role))) (keeping_at entry s role)
 start_keeping s entry m IsPlain is = record { few = no-more entry }
-start_keeping s entry m (IsRecorded mode) is =
+start_keeping s entry m (IsRecorded asked) is =
     record {
       few = record { few = no-more entry };
       s = refl;
       all = refl;
       done = none-done entry;
-      stands = start-stands s (record { memory = m; entry = entry; role = IsRecorded mode }) mode;
+      stands = start-stands s (record { memory = m; entry = entry; role = IsRecorded asked }) asked.mode;
     }
-start_keeping s entry m (IsReplayed log) is =
+start_keeping s entry m (IsReplayed asked) is =
     record { is_log = is; agrees = record { done = refl; last = refl }; commits = refl }
 
 -- a sphere of these parts is at the start of its setup

@@ -5,7 +5,7 @@ use Rattle.spec_play.specs.Plays.{opened}
 use Rattle.spec_protocol.specs.declared.event.Event.{Event}
 use Rattle.spec_protocol.specs.World.{Numbers, World, Move}
 use Rattle.spec_protocol.specs.Commits.{turned}
-use Rattle.spec_protocol.specs.Machine.{RoleSetup, IsPlain, IsRecorded, IsReplayed, SphereSetup, Setup, role_of, sphere_of, world_of, happens, world_after, with_move, moves}
+use Rattle.spec_protocol.specs.Machine.{first_threads, first_played, RoleSetup, IsPlain, IsRecorded, IsReplayed, SphereSetup, Setup, role_of, sphere_of, world_of, happens, world_after, with_move, moves}
 use Rattle.spec_isa.specs.Threads.{started}
 use Rattle.spec_protocol.specs.Serial.{SerialState, serial_start}
 use Rattle.spec_protocol.specs.Shown.{shown_of}
@@ -27,15 +27,14 @@ free_none : (c n : ℕ) → flights_rank c (replicate n None) ≡ 0
 free_none c zero = refl
 free_none c (suc n) = let r = free_none c n in omega (arith, r)
 
-start_role : (c s : ℕ) (image : SphereSetup) (r : RoleSetup) → role_rank c image (sphere_of s image) (role_of s (started image.entry ∷ []) r) ≤ price c (setup_work image r)
+start_role : (c s : ℕ) (image : SphereSetup) (r : RoleSetup) → role_rank c image (sphere_of s image) (role_of s (first_threads image) r) ≤ price c (setup_work image r)
 start_role c s image IsPlain = omega arith
-start_role c s image (IsRecorded mode) = omega arith
-start_role c s image (IsReplayed log) =
-    let x = opened log image.memory image.entry in
-    let l = left-most image (turned log no_progress nothing_used (started image.entry ∷ [])) 0 in
-    let none : log.count - 0 ≡ log.count = omega arith in
-    let e : play_left log x 0 0 ≡ commits_work log x 0 log.count - 0 = ap (λ (n : ℕ). commits_work log x 0 n - 0) none in
-    price-least c (replay_left image (turned log no_progress nothing_used (started image.entry ∷ [])) 0) (commits_work log x 0 log.count) (omega (arith, l, e))
+start_role c s image (IsRecorded asked) = omega arith
+start_role c s image (IsReplayed asked) =
+    let x = first_played image asked.log in
+    let l = left-most image (turned asked.log no_progress nothing_used (first_threads image)) 0 in
+    let e : play_left asked.log x 0 0 ≡ commits_work asked.log x 0 asked.log.count = omega arith in
+    price-least c (replay_left image (turned asked.log no_progress nothing_used (first_threads image)) 0) (commits_work asked.log x 0 asked.log.count) (omega (arith, l, e))
 
 start_spheres : (c s : ℕ) (images : List SphereSetup) → spheres_rank c images (map (sphere_of s) images) ≤ price c (plays_work images)
 start_spheres c s [] = let e = price-none c in omega (arith, e)

@@ -26,7 +26,7 @@ verdict_kind b k (Fails why) devices p = refl
 
 chunk_in_kind : (role : Role) (k : ℕ) (piece short : Bool) (r : Run) (devices : Devices) (p : Sphere) → replays (chunk_in role k piece short r devices p).sphere.role ≡ replays role
 chunk_in_kind Plain k piece short r devices p = refl
-chunk_in_kind (Record log) k piece short r devices p = refl
+chunk_in_kind (Record recording) k piece short r devices p = refl
 chunk_in_kind (Replay b) k true short r devices p = refl
 chunk_in_kind (Replay b) k false short r devices p = verdict_kind b k _ devices p
 
@@ -37,7 +37,7 @@ chunk-kind k piece short r devices p = chunk_in_kind p.role k piece short r devi
 
 serial_in_kind : (role : Role) (k moment : ℕ) (t : Parts) (devices : Devices) (p : Sphere) → replays (serial_in role k moment t devices p).sphere.role ≡ replays role
 serial_in_kind Plain k moment t devices p = refl
-serial_in_kind (Record log) k moment t devices p = refl
+serial_in_kind (Record recording) k moment t devices p = refl
 serial_in_kind (Replay b) k moment t devices p = verdict_kind b k _ devices p
 
 -- a serial step leaves a sphere replayed, or not, as it was
@@ -60,7 +60,7 @@ dma_verdict_kind b (DmaFails why) devices p = refl
 
 dma_in_kind : (role : Role) (devices : Devices) (p : Sphere) → DmaKind role (dma_in role devices p)
 dma_in_kind Plain devices p = live_kind Plain Plain devices p p.progress.request refl
-dma_in_kind (Record log) devices p = live_kind (Record (dma_log log devices p p.progress.request)) (Record log) devices p p.progress.request refl
+dma_in_kind (Record recording) devices p = live_kind (Record (record recording { log = dma_log recording.log devices p p.progress.request })) (Record recording) devices p p.progress.request refl
 dma_in_kind (Replay b) devices p = dma_verdict_kind b _ devices p
 
 -- a DMA leaves a sphere replayed, or not, as it was
@@ -70,7 +70,7 @@ dma-kind devices p = dma_in_kind p.role devices p
 
 role_raised_kind : (k n value : ℕ) (role : Role) → replays (role_raised k n value role) ≡ replays role
 role_raised_kind k n value Plain = refl
-role_raised_kind k n value (Record log) = refl
+role_raised_kind k n value (Record recording) = refl
 role_raised_kind k n value (Replay b) = refl
 
 -- an interrupt leaves a sphere replayed, or not, as it was
@@ -83,8 +83,8 @@ raised-kind k value t p = role_raised_kind k t.commits value p.role
 -- whether the role of a setup is a replayed one
 abbrev pub is_replayed : RoleSetup → Bool
 is_replayed IsPlain = false
-is_replayed (IsRecorded mode) = false
-is_replayed (IsReplayed log) = true
+is_replayed (IsRecorded asked) = false
+is_replayed (IsReplayed asked) = true
 
 -- the spheres that the setups have replayed are replayed, and no others
 abbrev pub AreOfKinds : List SphereSetup → List Sphere → Type 0
@@ -110,8 +110,8 @@ kind-at (a ∷ images) (x ∷ ps) (suc i) image p there is all = kind-at images 
 
 start_kind : (s : ℕ) (ts : List Parts) (r : RoleSetup) → replays (role_of s ts r) ≡ is_replayed r
 start_kind s ts IsPlain = refl
-start_kind s ts (IsRecorded mode) = refl
-start_kind s ts (IsReplayed log) = refl
+start_kind s ts (IsRecorded asked) = refl
+start_kind s ts (IsReplayed asked) = refl
 
 -- the spheres that a setup starts are of their setups' kinds
 pub start-kinds : (s : ℕ) (images : List SphereSetup) → AreOfKinds images (map (sphere_of s) images)

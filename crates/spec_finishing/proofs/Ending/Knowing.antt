@@ -8,7 +8,7 @@ use Rattle.spec_protocol.specs.declared.event.Event.{Event}
 use Rattle.spec_protocol.specs.Spheres.{Cursor, Replay, Sphere, is_over}
 use Rattle.spec_protocol.specs.Placing.{replays}
 use Rattle.spec_protocol.specs.World.{World}
-use Rattle.spec_protocol.specs.Machine.{RoleSetup, IsPlain, IsRecorded, IsReplayed, SphereSetup, Setup, world_of, happens, world_after, moves}
+use Rattle.spec_protocol.specs.Machine.{ReplaySetup, RoleSetup, IsPlain, IsRecorded, IsReplayed, SphereSetup, Setup, world_of, happens, world_after, moves}
 use Rattle.spec_protocol.specs.Serial.{SerialState, serial_start}
 use Rattle.spec_protocol.specs.Shown.{shown_of}
 use Rattle.spec_protocol.specs.Invariants.{IsGood}
@@ -18,14 +18,14 @@ use Rattle.spec_replay.specs.Promises.{ReplaysArePlays}
 use Rattle.spec_finishing.specs.Ending.{CanFinish}
 use Rattle.spec_finishing.proofs.Paying.GoingOn.{GoesOn, goes-on}
 use Rattle.spec_finishing.proofs.Ending.KindsKept.{is_replayed, AreOfKinds, kind-at, start-kinds, moves-kinds}
-use Rattle.spec_finishing.proofs.Paying.Standing.{Stands}
+use Rattle.spec_finishing.proofs.Paying.Standing.{AllGoOn}
 use Rattle.spec_protocol.proofs.Points.Serial.{shown_length}
 
 -- the world is good, has the sizes of its setup, and its replays stand beside their plays
 pub record Known (s : Setup) (w : World) : Type 0 where
   pub good : IsGood w
   pub sizes : AreSizesKept s w
-  pub stands : Stands s (shown_of w)
+  pub stands : AllGoOn s (shown_of w)
 
 -- ---- images
 
@@ -56,18 +56,18 @@ kinds_after s es is =
     subst (λ (x : SerialState). AreOfKinds s.spheres x.spheres) (sym (moves_are s es is).same)
     (moves-kinds s.numbers s.spheres (serial_start s) (moves (world_of s) es) (start-kinds s.numbers.s s.spheres))
 
-replayed_is : (r : RoleSetup) → is_replayed r ≡ true → (log : LogParts) × (r ≡ IsReplayed log)
+replayed_is : (r : RoleSetup) → is_replayed r ≡ true → (asked : ReplaySetup) × (r ≡ IsReplayed asked)
 replayed_is IsPlain e = absurd (true≢false (sym e))
-replayed_is (IsRecorded mode) e = absurd (true≢false (sym e))
-replayed_is (IsReplayed log) e = (log, refl)
+replayed_is (IsRecorded asked) e = absurd (true≢false (sym e))
+replayed_is (IsReplayed asked) e = (asked, refl)
 
 goes_after : ReplaysArePlays → (s : Setup) (es : List Event) → CanFinish s → (i : ℕ) (image : SphereSetup) (p : Sphere) (b : Cursor) → slice_get s.spheres i ≡ Some image → slice_get (shown_of (after s es)).spheres i ≡ Some p → p.role ≡ Replay b → is_over b.now ≡ false → GoesOn image p b
 goes_after plays s es can i image p b there is role going =
     let kind = kind-at s.spheres (shown_of (after s es)).spheres i image p there is (kinds_after s es can.setup) in
-    let log = replayed_is image.role (sym kind ∙ ap replays role) in
-    goes-on image log.0 p b
-    (plays image log.0 s es i p
-    (record { setup = can.setup; there = there; replays = log.1; standard = can.standard i image log.0 there log.1; shown = is })) role going
+    let asked = replayed_is image.role (sym kind ∙ ap replays role) in
+    goes-on image asked.0.log p b
+    (plays image asked.0 s es i p
+    (record { setup = can.setup; there = there; replays = asked.1; standard = can.standard i image asked.0 there asked.1; shown = is })) role going
 
 -- so much is known of the world after every schedule
 pub known-after : ReplaysArePlays → (s : Setup) (es : List Event) → CanFinish s → Known s (after s es)

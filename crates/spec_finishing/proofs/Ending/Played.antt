@@ -5,7 +5,7 @@ use Rattle.spec_log.specs.declared.LogParts.{LogParts}
 use Rattle.spec_protocol.specs.declared.event.Event.{Event}
 use Rattle.spec_protocol.specs.Spheres.{Sphere, is_over}
 use Rattle.spec_protocol.specs.World.{World}
-use Rattle.spec_protocol.specs.Machine.{IsReplayed, SphereSetup, Setup, world_of, happens, world_after}
+use Rattle.spec_protocol.specs.Machine.{ReplaySetup, IsReplayed, SphereSetup, Setup, world_of, happens, world_after}
 use Rattle.spec_protocol.specs.Shown.{shown_of}
 use Rattle.spec_protocol.specs.Finishing.{next, Finishes}
 use Rattle.spec_protocol.specs.Promises.{after}
@@ -28,8 +28,8 @@ after_both : (w : World) (es fs : List Event) → world_after w (es ++ fs) ≡ w
 after_both w [] fs = refl
 after_both w (e ∷ es) fs = after_both (happens w e).world es fs
 
-played_at : (image : SphereSetup) (log : LogParts) (s : Setup) (es : List Event) (i : ℕ) → CanFinish s → next (after s es) ≡ None → slice_get s.spheres i ≡ Some image → image.role ≡ IsReplayed log → HasPlayed image log s es i
-played_at image log s es i can none there replayed =
+played_at : (image : SphereSetup) (asked : ReplaySetup) (s : Setup) (es : List Event) (i : ℕ) → CanFinish s → next (after s es) ≡ None → slice_get s.spheres i ≡ Some image → image.role ≡ IsReplayed asked → HasPlayed image asked.log s es i
+played_at image asked s es i can none there replayed =
     let w = after s es in
     let shown = shown-itself w (next-stands w none) in
     let inside : i < length w.spheres = (let l = within s.spheres i image there in let e = (sizes_kept s es can.setup).spheres in omega (arith, l, e)) in
@@ -43,12 +43,12 @@ played_at image log s es i can none there replayed =
       cursor = b.0;
       there = p.1;
       role = b.1;
-      played = stopped_played image log s es i p.0 b.0
-          (record { setup = can.setup; there = there; replays = replayed; standard = can.standard i image log there replayed; shown = shows }) b.1 over;
+      played = stopped_played image asked s es i p.0 b.0
+          (record { setup = can.setup; there = there; replays = replayed; standard = can.standard i image asked there replayed; shown = shows }) b.1 over;
     }
 
 -- once finishing has ended, each replay has done its log's whole play
 pub replays_finished : ReplaysAreFinished
-replays_finished image log s es finishing i can finishes there replayed =
+replays_finished image asked s es finishing i can finishes there replayed =
     let same = after_both (world_of s) es finishing in
-    played_at image log s (es ++ finishing) i can (ap next same ∙ last_next (after s es) finishing finishes) there replayed
+    played_at image asked s (es ++ finishing) i can (ap next same ∙ last_next (after s es) finishing finishes) there replayed

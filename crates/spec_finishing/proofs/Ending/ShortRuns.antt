@@ -18,7 +18,7 @@ use Rattle.spec_protocol.specs.Spheres.{Role, Plain, Record, Replay, Sphere, lim
 use Rattle.spec_protocol.specs.Commits.{serial_in, serial_moved, live_dma, dma_log, dma_in, dma_moved}
 use Rattle.spec_protocol.specs.Placing.{replays}
 use Rattle.spec_protocol.specs.World.{Numbers, World, What, OfChunk, OfSerial, OfDma, OfRaise, Move, sphere_at}
-use Rattle.spec_protocol.specs.Machine.{RoleSetup, IsPlain, IsRecorded, IsReplayed, SphereSetup, Setup, world_of, happens, moves}
+use Rattle.spec_protocol.specs.Machine.{first_played, RoleSetup, IsPlain, IsRecorded, IsReplayed, SphereSetup, Setup, world_of, happens, moves}
 use Rattle.spec_protocol.specs.Serial.{SerialState}
 use Rattle.spec_protocol.specs.Shown.{words_of, flying, shown_of}
 use Rattle.spec_protocol.specs.Moves.{ChunkFits, FitsChunk, FitsWhat, FitsAt, FitsIf}
@@ -50,9 +50,9 @@ use Rattle.spec_finishing.proofs.Ending.Short.{FewIf, record-few, serve-most, dm
 
 setup-few : (image : SphereSetup) (r : RoleSetup) → IsRole r → setup_work image r ≤ 4101 * 2 ^ 24
 setup-few image IsPlain is = omega arith
-setup-few image (IsRecorded mode) is = omega arith
-setup-few image (IsReplayed log) is =
-    let l = commits-few log (opened log image.memory image.entry) 0 log.count is in let c = is.count in omega (arith, l, c)
+setup-few image (IsRecorded asked) is = omega arith
+setup-few image (IsReplayed asked) is =
+    let l = commits-few asked.log (first_played image asked.log) 0 asked.log.count is in let c = is.count in omega (arith, l, c)
 
 plays-few : (ds : List SphereSetup) → ((i : ℕ) (d : SphereSetup) → slice_get ds i ≡ Some d → IsImage d) → plays_work ds ≤ (4101 * 2 ^ 24) * length ds
 plays-few [] each = omega arith
@@ -113,7 +113,7 @@ taken-few o g sound = input-few o g.input sound.input
 serial-in-few : (z : Numbers) (role : Role) (k moment : ℕ) (t : Parts) (devices : Devices) (p : Sphere) → replays role ≡ false → IsFew z devices p → length (serial_in role k moment t devices p).words ≤ 4096
 serial-in-few z Plain k moment t devices p live few =
     serve-most k p.threads p.progress.request t p.memory (taken (need t p.memory) devices moment).input (taken-few (need t p.memory) (taken (need t p.memory) devices moment) (taken-sound t p.memory devices moment few.bytes few.input))
-serial-in-few z (Record log) k moment t devices p live few =
+serial-in-few z (Record recording) k moment t devices p live few =
     serve-most k p.threads p.progress.request t p.memory (taken (need t p.memory) devices moment).input (taken-few (need t p.memory) (taken (need t p.memory) devices moment) (taken-sound t p.memory devices moment few.bytes few.input))
 serial-in-few z (Replay b) k moment t devices p live few = absurd (true≢false live)
 
@@ -132,7 +132,7 @@ live-dma-few role devices p (Some q) few =
 
 dma-in-few : (z : Numbers) (role : Role) (devices : Devices) (p : Sphere) → replays role ≡ false → IsFew z devices p → dma_work (dma_in role devices p) ≤ 4101
 dma-in-few z Plain devices p live few = live-dma-few Plain devices p p.progress.request few.request
-dma-in-few z (Record log) devices p live few = live-dma-few (Record (dma_log log devices p p.progress.request)) devices p p.progress.request few.request
+dma-in-few z (Record recording) devices p live few = live-dma-few (Record (record recording { log = dma_log recording.log devices p p.progress.request })) devices p p.progress.request few.request
 dma-in-few z (Replay b) devices p live few = absurd (true≢false live)
 
 dma-moved-few : (z : Numbers) (devices : Devices) (p : Sphere) → replays p.role ≡ false → IsFew z devices p → dma_work (dma_moved devices p) ≤ 4101
@@ -147,7 +147,7 @@ what-few z devices p moment (OfRaise k value) live few fits = omega arith
 
 role-few : (p : Sphere) (devices : Devices) (m : Move) (role : Role) → (replays role ≡ false → what_work p devices m.moment m.what ≤ 4101) → role_work p devices m role ≤ 4101
 role-few p devices m Plain few = few refl
-role-few p devices m (Record log) few = few refl
+role-few p devices m (Record recording) few = few refl
 role-few p devices m (Replay b) few = omega arith
 
 at-few : (z : Numbers) (devices : Devices) (m : Move) (o : Option Sphere) → ((p : Sphere) → o ≡ Some p → IsFew z devices p) → FitsAt z devices m o → sphere_work devices m o ≤ 4101
@@ -187,7 +187,7 @@ setups_finish s limits =
       setup = setup-within s limits;
       cores = (let l = limits.cores.0 in omega (arith, l));
       window = (let l = limits.window.0 in omega (arith, l));
-      standard = λ i image log there replays_.
+      standard = λ i image asked there replays_.
           let is = subst IsRole replays_ (limits.images i image there).role in
           let l = is.s.0 in
           omega (arith, l);

@@ -70,7 +70,7 @@ serial_flies c w d h held none =
     let most : move_most c (shown_of w) (move_at (moment w) (serial_request h)) ≡ length v.words + c + 1 =
     most_at c w (move_at (moment w) (serial_request h)) held.sphere
     ∙ ap (λ (x : Sphere). serial_most c x w.devices (moment w) h.thread (slice_get x.threads h.thread)) (shown_same w i empty)
-    ∙ ap (serial_most c p w.devices (moment w) h.thread) held.start
+    ∙ ap (serial_most c p w.devices (moment w) h.thread) held.thread.start
     in
     granted_flies c w d (serial_request h) (signed i v.words (nothing w.numbers.bits)) v v.outcome (omega (arith, most))
 

@@ -41,7 +41,7 @@ spheres-shown c (a ∷ images) xs n (p ∷ ps) = let r = spheres-shown c images 
 -- nothing is left of a plain or recorded one
 live_none : (c : ℕ) (image : SphereSetup) (p : Sphere) (role : Role) → replays role ≡ false → role_rank c image p role ≡ 0
 live_none c image p Plain e = refl
-live_none c image p (Record log) e = refl
+live_none c image p (Record recording) e = refl
 live_none c image p (Replay b) e = absurd (true≢false e)
 
 -- a sphere that isn't replayed has nothing left

@@ -16,7 +16,7 @@ use Rattle.spec_finishing.specs.Work.{move_work}
 use Rattle.spec_finishing.specs.Rank.{spheres_rank, price, potential}
 use Rattle.spec_finishing.proofs.Left.Rows.{spheres-shown}
 use Rattle.spec_finishing.proofs.Paying.Moves.{what_more}
-use Rattle.spec_finishing.proofs.Paying.Standing.{Stands, move-pays, move-pays_more}
+use Rattle.spec_finishing.proofs.Paying.Standing.{AllGoOn, move-pays, move-pays_more}
 use Rattle.spec_finishing.proofs.Ending.Knowing.{Known}
 use Rattle.spec_finishing.proofs.Left.AnyEvent.{if_most, Flies, step-flies, cut-flies, drain-flies, deliver-flies, retire-flies, place-flies, raise-flies}
 use Rattle.spec_finishing.proofs.Left.AnyAsk.{ask-flies, dma-flies}
@@ -46,7 +46,7 @@ abbrev pub if_work : SerialState → Option Move → ℕ
 if_work x None = 0
 if_work x (Some m) = move_work x m
 
-if_pays : (s : Setup) (z : Numbers) (x : SerialState) (o : Option Move) → 0 < z.capacity → Stands s x → FitsIf z x o
+if_pays : (s : Setup) (z : Numbers) (x : SerialState) (o : Option Move) → 0 < z.capacity → AllGoOn s x → FitsIf z x o
     → spheres_rank s.cores s.spheres (do_if z x o).spheres + if_most s.cores x o ≤ spheres_rank s.cores s.spheres x.spheres + price s.cores (if_work x o)
 if_pays s z x None positive stands fits = omega arith
 if_pays s z x (Some m) positive stands fits = move-pays s.cores s z x m positive stands fits

@@ -10,11 +10,11 @@ use Rattle.spec_engine.specs.Asking.{ask, ask_serial, denied_by, busy_by}
 use Rattle.spec_engine.proofs.Searches.{full_at}
 use Rattle.spec_play.specs.Transfers.{dma_verdict}
 use Rattle.spec_protocol.specs.declared.reply.Reply.{Reply}
-use Rattle.spec_protocol.specs.Spheres.{Cursor, Role, Replay, Sphere, is_stopped, actor_of, head_in, head_of}
+use Rattle.spec_protocol.specs.Spheres.{other_than, turn_in, turn_against, Cursor, Role, Replay, Sphere, is_stopped, actor_of, head_in, head_of}
 use Rattle.spec_protocol.specs.Commits.{CommitOutcome, Granted, Piece, Diverged, MovedSphere, is_piece, chunk_moved, serial_moved, dma_by_verdict, dma_in, dma_moved}
 use Rattle.spec_protocol.specs.World.{World, Occupant, Move, After, moment, sphere_at, answered}
-use Rattle.spec_protocol.specs.Asking.{CommitRequest, move_at, granted, chunk_request, grant_chunk, serial_request, grant_serial, unless_denied, unless_busy, asks_serial, ask_arbiter, other_turn, unless_turn, ask_closed, ask_held, asking}
-use Rattle.spec_protocol.specs.Transferring.{dma_move, dma_done, transfer, dma_with, dma_if, not_of_dma, turn_before_dma, transferring}
+use Rattle.spec_protocol.specs.Asking.{CommitRequest, move_at, granted, chunk_request, grant_chunk, serial_request, grant_serial, unless_denied, unless_busy, asks_serial, ask_arbiter, unless_turn, ask_closed, ask_held, asking}
+use Rattle.spec_protocol.specs.Transferring.{dma_move, dma_done, transfer, dma_with, dma_if, transferring}
 use Rattle.spec_protocol.specs.Machine.{Setup}
 use Rattle.spec_protocol.specs.Finishing.{standing}
 use Rattle.spec_finishing.specs.Ending.{furthers_finishing}
@@ -80,15 +80,15 @@ empty_of h role e =
     let b = and_parts (eqb h.chunk.done.n 0) (is_serial h.chunk.closed) a.0 in
     eqb-true h.chunk.done.n 0 b.0
 
-own_turn : (k : ℕ) → other_turn (Some (Actor.Thread k)) k ≡ None
+own_turn : (k : ℕ) → other_than (Actor.Thread k) (Some (Actor.Thread k)) ≡ None
 own_turn k = ap {A = Bool} (λ b. cond b None (Some (Actor.Thread k))) (eq-eqb k k refl)
 
-turn_of_head : (p : Sphere) (b : Cursor) (k : ℕ) → p.role ≡ Replay b → actor_of b.now ≡ Some (Actor.Thread k) → other_turn (head_of p) k ≡ None
-unfolding head_of
+turn_of_head : (p : Sphere) (b : Cursor) (k : ℕ) → p.role ≡ Replay b → actor_of b.now ≡ Some (Actor.Thread k) → turn_against p (Actor.Thread k) ≡ None
+unfolding turn_against
 turn_of_head p b k role turn =
-    ap (λ (r : Role). other_turn (head_in r p) k) role ∙ ap (λ (o : Option Actor). other_turn o k) turn ∙ own_turn k
+    ap (λ (r : Role). turn_in r p (Actor.Thread k)) role ∙ ap (λ (o : Option Actor). other_than (Actor.Thread k) o) turn ∙ own_turn k
 
-ask_is : (w : World) (c : ℕ) (h : Occupant) (how : How) → at w.cores c ≡ Some h → h.chunk.closed ≡ Some how → is_stopped (sphere_at w h.chunk.sphere).role ≡ false → other_turn (head_of (sphere_at w h.chunk.sphere)) h.thread ≡ None → is_full w.slots ≡ false
+ask_is : (w : World) (c : ℕ) (h : Occupant) (how : How) → at w.cores c ≡ Some h → h.chunk.closed ≡ Some how → is_stopped (sphere_at w h.chunk.sphere).role ≡ false → turn_against (sphere_at w h.chunk.sphere) (Actor.Thread h.thread) ≡ None → is_full w.slots ≡ false
     → asking w c ≡ ask_arbiter w c h how (asks_serial h.chunk (sphere_at w h.chunk.sphere).role)
 unfolding asking
 ask_is w c h how is closed going turn free =
@@ -97,7 +97,7 @@ ask_is w c h how is closed going turn free =
     let room = cond (is_full w.slots) (answered w Reply.WindowFull) arbiter in
     ap (ask_held w c) is
     ∙ ap (ask_closed w c h) closed
-    ∙ ap {A = Bool} (λ b. cond b (answered w Reply.Stopped) (unless_turn (other_turn (head_of p) h.thread) w room)) going
+    ∙ ap {A = Bool} (λ b. cond b (answered w Reply.Stopped) (unless_turn (turn_against p (Actor.Thread h.thread)) w room)) going
     ∙ ap (λ (o : Option Actor). unless_turn o w room) turn
     ∙ ap {A = Bool} (λ b. cond b (answered w Reply.WindowFull) arbiter) free
 
@@ -107,8 +107,8 @@ ask-commits s w i k c h how none l a on closed =
     let p = sphere_at w h.chunk.sphere in
     let same : p ≡ a.sphere = ap (sphere_at w) on.sphere ∙ a.at in
     let going : is_stopped p.role ≡ false = ap (λ (q : Sphere). is_stopped q.role) same ∙ ap is_stopped a.role ∙ a.going in
-    let turn : other_turn (head_of p) h.thread ≡ None =
-    ap (other_turn (head_of p)) on.thread ∙ turn_of_head p a.cursor k (ap (λ (q : Sphere). q.role) same ∙ a.role) a.turn
+    let turn : turn_against p (Actor.Thread h.thread) ≡ None =
+    ap (λ (j : ℕ). turn_against p (Actor.Thread j)) on.thread ∙ turn_of_head p a.cursor k (ap (λ (q : Sphere). q.role) same ∙ a.role) a.turn
     in
     let e = ask_is w c h how on.there closed going turn (room_there w.slots (no-flight w none) l) in
     subst (λ (j : ℕ). Commits j h.chunk.done.n (asking w c)) on.sphere
@@ -133,12 +133,12 @@ outcome_commits w i v (Diverged j why) none l = record { done = refl; move = dma
 
 dma_is : (w : World) (i : ℕ) (p : Sphere) (b : Cursor) → sphere_at w i ≡ p → p.role ≡ Replay b → is_stopped (Replay b) ≡ false → actor_of b.now ≡ Some Actor.Dma
     → transferring w i ≡ dma_if w i (dma_in (Replay b) w.devices p)
-unfolding transferring dma_moved
+unfolding transferring dma_moved turn_against
 dma_is w i p b at role going turn =
-    let by = λ (q : Sphere) (r : Role). cond (is_stopped r) (answered w Reply.Stopped) (unless_turn (turn_before_dma r) w (dma_if w i (dma_in r w.devices q))) in
+    let by = λ (q : Sphere) (r : Role). cond (is_stopped r) (answered w Reply.Stopped) (unless_turn (turn_in r q Actor.Dma) w (dma_if w i (dma_in r w.devices q))) in
     (λ j. by (at j) (at j).role) ∙ ap (by p) role
-    ∙ ap {A = Bool} (λ c. cond c (answered w Reply.Stopped) (unless_turn (turn_before_dma (Replay b)) w (dma_if w i (dma_in (Replay b) w.devices p)))) going
-    ∙ ap (λ (o : Option Actor). unless_turn (not_of_dma o) w (dma_if w i (dma_in (Replay b) w.devices p))) turn
+    ∙ ap {A = Bool} (λ c. cond c (answered w Reply.Stopped) (unless_turn (turn_in (Replay b) p Actor.Dma) w (dma_if w i (dma_in (Replay b) w.devices p)))) going
+    ∙ ap (λ (o : Option Actor). unless_turn (other_than Actor.Dma o) w (dma_if w i (dma_in (Replay b) w.devices p))) turn
 
 -- at the DMA's turn it is done
 pub dma-commits : (s : Setup) (w : World) (i : ℕ) → standing w ≡ None → 0 < length w.slots → HasActor s w i Actor.Dma → Commits i 0 (transferring w i)

@@ -57,7 +57,7 @@ found_now i p ps who b (Some actor) role is e later =
 
 found_by : (i : ℕ) (p : Sphere) (ps : List Sphere) (who : Who) (role : Role) → p.role ≡ role → who_of i role (least (suc i) ps) ≡ Some who → (least (suc i) ps ≡ Some who → FoundIn i (p ∷ ps) who) → FoundIn i (p ∷ ps) who
 found_by i p ps who Plain is e later = later e
-found_by i p ps who (Record log) is e later = later e
+found_by i p ps who (Record recording) is e later = later e
 found_by i p ps who (Replay b) is e later = found_now i p ps who b (actor_of b.now) is refl e later
 
 pub least-some : (i : ℕ) (ps : List Sphere) (who : Who) → least i ps ≡ Some who → FoundIn i ps who
@@ -75,7 +75,7 @@ ends_in i b (Some actor) others is e = absurd (none-some _ (sym e))
 
 ends_of : (i : ℕ) (role : Role) (others : Option Who) → who_of i role others ≡ None → IsAtEnd role × (others ≡ None)
 ends_of i Plain others e = (tt, e)
-ends_of i (Record log) others e = (tt, e)
+ends_of i (Record recording) others e = (tt, e)
 ends_of i (Replay b) others e = ends_in i b (actor_of b.now) others refl e
 
 -- where no sphere is the next to go on, no replay is short of its end

@@ -53,10 +53,10 @@ held_affords s w c h known none is a =
     let turn = turn-of s w h.chunk.sphere h.thread a in
     let t = has-run a.image a.sphere a.cursor h.thread a.goes turn in
     let role : (sphere_at w h.chunk.sphere).role ≡ Replay a.cursor = ap (λ (p : Sphere). p.role) a.at ∙ a.role in
-    let fits = held.limit (ap is_stopped role ∙ a.going) in
+    let fits = held.thread.limit (ap is_stopped role ∙ a.going) in
     let limited : h.chunk.limit ≡ limit_of w.numbers.s (Replay a.cursor) h.thread h.chunk.start = fits.replayed (ap replays role) ∙ ap (λ (r : Role). limit_of w.numbers.s r h.thread h.chunk.start) role in
     part-afforded a.image a.sphere a.cursor h.thread t.0 h.chunk.start w.numbers.s h.chunk.done.n turn t.1
-    (sym (ap (λ (p : Sphere). slice_get p.threads h.thread) a.at) ∙ held.start)
+    (sym (ap (λ (p : Sphere). slice_get p.threads h.thread) a.at) ∙ held.thread.start)
     (subst (λ (p : Sphere). (run p.memory h.chunk.start h.chunk.done.n).n ≡ h.chunk.done.n) a.at (chunk_ran s w c h known none is))
     (subst (λ (l : ℕ). h.chunk.done.n ≤ l) limited (closes_most w.numbers.capacity h.chunk h.chunk.closed refl held.chunk.closes))
 

@@ -16,7 +16,7 @@ use Rattle.spec_protocol.specs.Spheres.{Cursor, Role, Replay, Sphere, is_over, l
 use Rattle.spec_protocol.specs.Commits.{turned, is_piece, joined, by_verdict, replayed_chunk, chunk_in, chunk_moved}
 use Rattle.spec_protocol.specs.Placing.{replays}
 use Rattle.spec_protocol.specs.World.{Numbers}
-use Rattle.spec_protocol.specs.Machine.{SphereSetup}
+use Rattle.spec_protocol.specs.Machine.{first_played, SphereSetup}
 use Rattle.spec_protocol.specs.Serial.{laid}
 use Rattle.spec_protocol.specs.Moves.{ChunkFits}
 use Rattle.spec_finishing.specs.Work.{commit_work}
@@ -26,6 +26,7 @@ use Rattle.spec_finishing.proofs.Paying.Plays.{left-over, left-going, left-step,
 use Rattle.spec_finishing.proofs.Paying.GoingOn.{play_of, GoesOn, has-run, part-afforded}
 use Rattle.spec_finishing.proofs.Left.Rows.{sphere_rank}
 use Rattle.spec_replay.proofs.Replays.Moved.{turn_of_thread}
+use Rattle.spec_play.proofs.Positions.{position-more}
 
 -- ---- before and after
 
@@ -35,7 +36,7 @@ next_work image p b = commit_work b.log (play_of image b p)
 
 -- the work that a play has behind its next commit
 abbrev pub behind : SphereSetup → Sphere → Cursor → ℕ
-behind image p b = later b.log (opened b.log image.memory image.entry) (position p.progress)
+behind image p b = later b.log (first_played image b.log) (position p.progress)
 
 -- ---- parts of a commit
 
@@ -64,7 +65,7 @@ module _ (c : ℕ) (image : SphereSetup) (p : Sphere) (b : Cursor) (role : p.rol
   pub rank-before : sphere_rank c image p ≡ price c ((next_work image p b + behind image p b) - b.total)
   rank-before =
       (λ i. sphere_rank c image (record p { role = role i }))
-      ∙ ap (price c) (left-going image b (position p.progress) going ∙ left-step b.log (opened b.log image.memory image.entry) (position p.progress) b.total g.ahead)
+      ∙ ap (price c) (left-going image b (position p.progress) going ∙ left-step b.log (first_played image b.log) (position p.progress) b.total g.ahead)
 
   -- a verdict on the whole commit, with what its flight costs, leaves the sphere no more to do than before
   pub verdict-pays : (k : ℕ) (x : LogVerdict) (devices : Devices) (l : ℕ) → suc b.total ≤ next_work image p b → l ≤ price c (next_work image p b - b.total)
@@ -78,7 +79,7 @@ module _ (c : ℕ) (image : SphereSetup) (p : Sphere) (b : Cursor) (role : p.rol
   verdict-pays k (Goes e u) devices l some enough =
       let before = rank-before in
       let progress = with_effect k e p.progress in
-      let size : position progress ≡ suc (position p.progress) = (let h = length-append p.progress.commits (e.commit ∷ []) in omega (arith, h)) in
+      let size : position progress ≡ suc (position p.progress) = position-more p.progress e.commit in
       let after = turned b.log progress u (with_threads k e p.threads) in
       let most = left-turned image b.log progress u (with_threads k e p.threads) (position p.progress) size in
       let pays = whole-pays c (next_work image p b) b.total (behind image p b) l some enough (replay_left image after (position progress)) most in
@@ -92,7 +93,7 @@ module _ (c : ℕ) (image : SphereSetup) (p : Sphere) (b : Cursor) (role : p.rol
   piece_rank k r n devices is some afford =
       let before = rank-before in
       let part : Cursor = record b { total = b.total + r.n; loads = b.loads ++ r.loads } in
-      let x = opened b.log image.memory image.entry in
+      let x = first_played image b.log in
       let after : price c (replay_left image part (position p.progress)) ≡ price c ((next_work image p b + behind image p b) - (b.total + n)) =
       ap (price c) (left-going image part (position p.progress) going ∙ left-step b.log x (position p.progress) part.total g.ahead
       ∙ ap (λ (a : ℕ). (next_work image p b + behind image p b) - (b.total + a)) is)

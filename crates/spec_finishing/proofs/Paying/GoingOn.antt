@@ -11,7 +11,7 @@ use Rattle.spec_play.specs.Progress.{position}
 use Rattle.spec_play.specs.Turns.{Now, Turn, TurnOfDma}
 use Rattle.spec_play.specs.Plays.{Played, opened, plays}
 use Rattle.spec_protocol.specs.Spheres.{Cursor, Replay, Sphere, is_over, whole_limit, limit_of}
-use Rattle.spec_protocol.specs.Machine.{SphereSetup}
+use Rattle.spec_protocol.specs.Machine.{first_played, SphereSetup}
 use Rattle.spec_protocol.proofs.Moves.Granted.{get-set_same}
 use Rattle.spec_replay.specs.Following.{IsWhole, StandsAt, Follows}
 use Rattle.spec_finishing.specs.Work.{commit_work}
@@ -22,7 +22,7 @@ use Rattle.spec_finishing.proofs.Paying.Plays.{plays-ahead}
 
 -- where the play of its log stands after the replay's whole commits
 abbrev pub play_of : SphereSetup → Cursor → Sphere → Played
-play_of image b p = plays b.log (opened b.log image.memory image.entry) (position p.progress)
+play_of image b p = plays b.log (first_played image b.log) (position p.progress)
 
 record Beside (log : LogParts) (y : Played) (p : Sphere) (b : Cursor) : Type 0 where
   now : b.now ≡ y.now
@@ -61,14 +61,14 @@ goes_with image p b going s =
       ahead = subst (λ (n : ℕ). n < b.log.count) (sym (ap position s.progress)) (plays-ahead b.log image.memory image.entry (position p.progress) (sym (ap is_over s.now) ∙ going));
     }
 
-goes_cursor : (image : SphereSetup) (log : LogParts) (p : Sphere) → (f : Follows log (plays log (opened log image.memory image.entry) (position p.progress)) p) → is_over f.cursor.now ≡ false → GoesOn image p f.cursor
+goes_cursor : (image : SphereSetup) (log : LogParts) (p : Sphere) → (f : Follows log (plays log (first_played image log) (position p.progress)) p) → is_over f.cursor.now ≡ false → GoesOn image p f.cursor
 goes_cursor image log p f going =
     goes_with image p f.cursor going
-    (subst (λ (l : LogParts). Beside l (plays l (opened l image.memory image.entry) (position p.progress)) p f.cursor) (sym f.same_log)
-    (beside_cursor log (plays log (opened log image.memory image.entry) (position p.progress)) p f going))
+    (subst (λ (l : LogParts). Beside l (plays l (first_played image l) (position p.progress)) p f.cursor) (sym f.same_log)
+    (beside_cursor log (plays log (first_played image log) (position p.progress)) p f going))
 
 -- a replay that follows its log's play and isn't over goes on beside it
-pub goes-on : (image : SphereSetup) (log : LogParts) (p : Sphere) (b : Cursor) → Follows log (plays log (opened log image.memory image.entry) (position p.progress)) p → p.role ≡ Replay b → is_over b.now ≡ false → GoesOn image p b
+pub goes-on : (image : SphereSetup) (log : LogParts) (p : Sphere) (b : Cursor) → Follows log (plays log (first_played image log) (position p.progress)) p → p.role ≡ Replay b → is_over b.now ≡ false → GoesOn image p b
 goes-on image log p b f role going =
     let e : f.cursor ≡ b = (let h : Replay f.cursor ≡ Replay b = sym f.role ∙ role in cc) in
     subst (λ (c : Cursor). is_over c.now ≡ false → GoesOn image p c) e (goes_cursor image log p f) going
@@ -76,7 +76,7 @@ goes-on image log p b f role going =
 -- ---- the thread whose turn it is
 
 -- thread k, which was t in the play, has run b.total instructions of its present commit
-pub record HasRun (image : SphereSetup) (p : Sphere) (b : Cursor) (k : ℕ) (t : Parts) : Type 0 where
+pub record HasPieces (image : SphereSetup) (p : Sphere) (b : Cursor) (k : ℕ) (t : Parts) : Type 0 where
   pub turn : (play_of image b p).now ≡ Turn k
   pub is : slice_get (play_of image b p).threads k ≡ Some t
   pub live : is_live t ≡ true
@@ -85,7 +85,7 @@ pub record HasRun (image : SphereSetup) (p : Sphere) (b : Cursor) (k : ℕ) (t :
   pub threads : p.threads ≡ set (play_of image b p).threads k (run (play_of image b p).memory t b.total).thread
   pub within : b.total < whole_limit b.log k t.commits
 
-moved_on : (image : SphereSetup) (p : Sphere) (b : Cursor) (k : ℕ) → (play_of image b p).now ≡ Turn k → StandsAt b.log (play_of image b p) (Turn k) p b → (t : Parts) × HasRun image p b k t
+moved_on : (image : SphereSetup) (p : Sphere) (b : Cursor) (k : ℕ) → (play_of image b p).now ≡ Turn k → StandsAt b.log (play_of image b p) (Turn k) p b → (t : Parts) × HasPieces image p b k t
 moved_on image p b k turn s =
     let m = s.1 in (
       s.0,
@@ -101,7 +101,7 @@ moved_on image p b k turn s =
     )
 
 -- the thread whose turn it is has run the pieces that its cursor has
-pub has-run : (image : SphereSetup) (p : Sphere) (b : Cursor) (k : ℕ) → GoesOn image p b → b.now ≡ Turn k → (t : Parts) × HasRun image p b k t
+pub has-run : (image : SphereSetup) (p : Sphere) (b : Cursor) (k : ℕ) → GoesOn image p b → b.now ≡ Turn k → (t : Parts) × HasPieces image p b k t
 has-run image p b k g turn =
     let now = sym g.now ∙ turn in
     moved_on image p b k now (subst (λ (n : Now). StandsAt b.log (play_of image b p) n p b) now g.state)
@@ -111,13 +111,13 @@ pub is-whole : (image : SphereSetup) (p : Sphere) (b : Cursor) → GoesOn image 
 is-whole image p b g turn = subst (λ (n : Now). StandsAt b.log (play_of image b p) n p b) (sym g.now ∙ turn) g.state
 
 -- the thread as it is now
-pub thread-now : (image : SphereSetup) (p : Sphere) (b : Cursor) (k : ℕ) (t : Parts) → HasRun image p b k t → slice_get p.threads k ≡ Some (run (play_of image b p).memory t b.total).thread
+pub thread-now : (image : SphereSetup) (p : Sphere) (b : Cursor) (k : ℕ) (t : Parts) → HasPieces image p b k t → slice_get p.threads k ≡ Some (run (play_of image b p).memory t b.total).thread
 thread-now image p b k t h =
     ap (λ (ts : List Parts). slice_get ts k) h.threads
     ∙ get-set_same (play_of image b p).threads k (run (play_of image b p).memory t b.total).thread t h.is
 
 -- a part of n instructions more is paid for
-pub part-afforded : (image : SphereSetup) (p : Sphere) (b : Cursor) (k : ℕ) (t u : Parts) (s n : ℕ) → b.now ≡ Turn k → HasRun image p b k t → slice_get p.threads k ≡ Some u → (run p.memory u n).n ≡ n → n ≤ limit_of s (Replay b) k u
+pub part-afforded : (image : SphereSetup) (p : Sphere) (b : Cursor) (k : ℕ) (t u : Parts) (s n : ℕ) → b.now ≡ Turn k → HasPieces image p b k t → slice_get p.threads k ≡ Some u → (run p.memory u n).n ≡ n → n ≤ limit_of s (Replay b) k u
     → Afforded (commit_work b.log (play_of image b p)) b.total n
 part-afforded image p b k t u s n turn h is ran most =
     let y = play_of image b p in

@@ -12,7 +12,7 @@ use Rattle.spec_play.specs.Plays.{Played, opened, settled, thread_verdict, play_
 use Rattle.spec_kernel.specs.Needs.{next_kind}
 use Rattle.spec_protocol.specs.Spheres.{Cursor, is_over}
 use Rattle.spec_protocol.specs.Commits.{turned}
-use Rattle.spec_protocol.specs.Machine.{SphereSetup}
+use Rattle.spec_protocol.specs.Machine.{first_played, SphereSetup}
 use Rattle.spec_finishing.specs.Work.{commit_work, commits_work}
 use Rattle.spec_finishing.specs.Rank.{play_left, replay_left, price}
 use Rattle.spec_finishing.proofs.Left.Pricing.{price-sum, price-least, price-most}
@@ -72,21 +72,63 @@ plays-ahead log m entry i going =
 -- a replay that is over has nothing left
 pub left-over : (image : SphereSetup) (b : Cursor) (i : ℕ) → is_over b.now ≡ true → replay_left image b i ≡ 0
 unfolding replay_left
-left-over image b i e = ap {A = Bool} (λ o. cond o 0 (play_left b.log (opened b.log image.memory image.entry) i b.total)) e
+left-over image b i e = ap {A = Bool} (λ o. cond o 0 (play_left b.log (first_played image b.log) i b.total)) e
 
 -- a replay that goes on has left what its play has, but for the pieces that are done
-pub left-going : (image : SphereSetup) (b : Cursor) (i : ℕ) → is_over b.now ≡ false → replay_left image b i ≡ play_left b.log (opened b.log image.memory image.entry) i b.total
+pub left-going : (image : SphereSetup) (b : Cursor) (i : ℕ) → is_over b.now ≡ false → replay_left image b i ≡ play_left b.log (first_played image b.log) i b.total
 unfolding replay_left
-left-going image b i e = ap {A = Bool} (λ o. cond o 0 (play_left b.log (opened b.log image.memory image.entry) i b.total)) e
+left-going image b i e = ap {A = Bool} (λ o. cond o 0 (play_left b.log (first_played image b.log) i b.total)) e
 
 less_or_none : (o : Bool) (n : ℕ) → cond o 0 n ≤ n
 less_or_none true n = omega arith
 less_or_none false n = omega arith
 
 -- a replay has no more left than its play
-pub left-most : (image : SphereSetup) (b : Cursor) (i : ℕ) → replay_left image b i ≤ play_left b.log (opened b.log image.memory image.entry) i b.total
+pub left-most : (image : SphereSetup) (b : Cursor) (i : ℕ) → replay_left image b i ≤ play_left b.log (first_played image b.log) i b.total
 unfolding replay_left
-left-most image b i = less_or_none (is_over b.now) (play_left b.log (opened b.log image.memory image.entry) i b.total)
+left-most image b i = less_or_none (is_over b.now) (play_left b.log (first_played image b.log) i b.total)
+
+-- the work of so many commits is that of the first ones and of those behind them
+work_split : (log : LogParts) (x : Played) (i m n : ℕ) → commits_work log x i (m + n) ≡ commits_work log x i m + commits_work log x (m + i) n
+work_split log x i zero n =
+    let few : 0 + n ≡ n = omega arith in
+    let here : 0 + i ≡ i = omega arith in
+    let a = ap (commits_work log x i) few in
+    let b = ap (λ (j : ℕ). commits_work log x j n) here in
+    let none : commits_work log x i 0 ≡ 0 = refl in
+    omega (arith, a, b, none)
+work_split log x i (suc m) n =
+    let h = work_split log x (suc i) m n in
+    let few : suc m + n ≡ suc (m + n) = omega arith in
+    let e : m + suc i ≡ suc m + i = omega arith in
+    let a = ap (commits_work log x i) few in
+    let b = ap (λ (j : ℕ). commits_work log x j n) e in
+    omega (arith, h, a, b)
+
+-- what a play has left is the work of the commits behind those that are done, but for the pieces that are
+left-behind : (log : LogParts) (x : Played) (i total : ℕ) → play_left log x i total ≡ commits_work log x i (log.count - i) - total
+left-behind log x i total =
+    let behind : commits_work log x 0 log.count - commits_work log x 0 i ≡ commits_work log x i (log.count - i) =
+    elim (cases_lt i log.count) [
+      | inl before ↦ (
+          let split = work_split log x 0 i (log.count - i) in
+          let all : i + (log.count - i) ≡ log.count = omega arith in
+          let here : i + 0 ≡ i = omega arith in
+          let whole = ap (commits_work log x 0) all in
+          let from = ap (λ (j : ℕ). commits_work log x j (log.count - i)) here in
+          omega (arith, split, whole, from)
+          )
+      | inr past ↦ (
+          let split = work_split log x 0 log.count (i - log.count) in
+          let all : log.count + (i - log.count) ≡ i = omega arith in
+          let over : log.count - i ≡ 0 = omega arith in
+          let whole = ap (commits_work log x 0) all in
+          let none = ap (commits_work log x i) over in
+          omega (arith, split, whole, none)
+          )
+    ]
+    in
+    ap (λ (n : ℕ). n - total) behind
 
 -- the commits behind the next one
 abbrev pub later : LogParts → Played → ℕ → ℕ
@@ -96,15 +138,16 @@ later log x i = commits_work log x (suc i) (log.count - suc i)
 pub left-step : (log : LogParts) (x : Played) (i total : ℕ) → i < log.count → play_left log x i total ≡ (commit_work log (plays log x i) + later log x i) - total
 left-step log x i total l =
     let e : log.count - i ≡ suc (log.count - suc i) = omega arith in
-    ap (λ (n : ℕ). commits_work log x i n - total) e
+    left-behind log x i total ∙ ap (λ (n : ℕ). commits_work log x i n - total) e
 
 -- behind a whole commit a replay has no more left than its play has from the next one on
-pub left-turned : (image : SphereSetup) (log : LogParts) (p : Progress) (u : Used) (ts : List Parts) (i : ℕ) → position p ≡ suc i → replay_left image (turned log p u ts) (position p) ≤ later log (opened log image.memory image.entry) i
+pub left-turned : (image : SphereSetup) (log : LogParts) (p : Progress) (u : Used) (ts : List Parts) (i : ℕ) → position p ≡ suc i → replay_left image (turned log p u ts) (position p) ≤ later log (first_played image log) i
 left-turned image log p u ts i e =
-    let x = opened log image.memory image.entry in
+    let x = first_played image log in
     let most = left-most image (turned log p u ts) (position p) in
+    let left = left-behind log x (position p) 0 in
     let h : commits_work log x (position p) (log.count - position p) ≡ later log x i = ap (λ (n : ℕ). commits_work log x n (log.count - n)) e in
-    omega (arith, most, h)
+    omega (arith, most, left, h)
 
 -- ---- what is paid
 

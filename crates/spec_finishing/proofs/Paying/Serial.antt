@@ -23,11 +23,12 @@ use Rattle.spec_protocol.specs.Moves.{SerialFits, DmaFits}
 use Rattle.spec_finishing.specs.Work.{stored, dma_stored, thread_work, turn_work, now_work, commit_work}
 use Rattle.spec_finishing.specs.Rank.{replay_left, price}
 use Rattle.spec_finishing.proofs.Paying.Plays.{left-over, left-turned, words-paid, whole-pays}
-use Rattle.spec_finishing.proofs.Paying.GoingOn.{play_of, GoesOn, HasRun, has-run, is-whole, thread-now}
+use Rattle.spec_finishing.proofs.Paying.GoingOn.{play_of, GoesOn, HasPieces, has-run, is-whole, thread-now}
 use Rattle.spec_finishing.proofs.Left.Rows.{sphere_rank}
 use Rattle.spec_finishing.proofs.Paying.Commits.{next_work, behind, rank-before, verdict-pays}
 use Rattle.spec_replay.proofs.Replays.Moved.{turn_of_thread, turn_of_dma}
 use Rattle.spec_replay.proofs.Commits.Standing.{set_here}
+use Rattle.spec_play.proofs.Positions.{position-more}
 
 -- ---- serial steps
 
@@ -48,7 +49,7 @@ record Unmoved (image : SphereSetup) (p : Sphere) (b : Cursor) (t u : Parts) : T
   memory : p.memory ≡ (play_of image b p).memory
   threads : p.threads ≡ (play_of image b p).threads
 
-unmoved : (image : SphereSetup) (p : Sphere) (b : Cursor) (k : ℕ) (t u : Parts) → HasRun image p b k t → b.total ≡ 0 → slice_get p.threads k ≡ Some u → Unmoved image p b t u
+unmoved : (image : SphereSetup) (p : Sphere) (b : Cursor) (k : ℕ) (t u : Parts) → HasPieces image p b k t → b.total ≡ 0 → slice_get p.threads k ≡ Some u → Unmoved image p b t u
 unmoved image p b k t u h none is =
     let y = play_of image b p in
     let start : run y.memory t b.total ≡ run y.memory t 0 = ap (run y.memory t) none in
@@ -63,7 +64,7 @@ kind_is None some = absurd (true≢false (sym some))
 kind_is (Some kind) some = (kind, refl)
 
 -- the work of the commit is that of this verdict
-serial_is : (image : SphereSetup) (p : Sphere) (b : Cursor) (k : ℕ) (t u : Parts) (kind : Kind) → GoesOn image p b → HasRun image p b k t → Unmoved image p b t u → next_kind u p.memory ≡ Some kind
+serial_is : (image : SphereSetup) (p : Sphere) (b : Cursor) (k : ℕ) (t u : Parts) (kind : Kind) → GoesOn image p b → HasPieces image p b k t → Unmoved image p b t u → next_kind u p.memory ≡ Some kind
     → next_work image p b ≡ suc (stored (serial_verdict b.log p.progress b.used k p.threads u p.memory))
 unfolding commit_work
 serial_is image p b k t u kind g h s next =
@@ -112,7 +113,7 @@ dma_rank c image p b (DmaGoes words) devices role going g none work =
     let before = rank-before c image p b role going g in
     let progress = with_dma p.progress in
     let after = turned b.log progress (with_dma_used b.used) p.threads in
-    let size : position progress ≡ suc (position p.progress) = (let h = length-append p.progress.commits (dma_commit ∷ []) in omega (arith, h)) in
+    let size : position progress ≡ suc (position p.progress) = position-more p.progress dma_commit in
     let most = left-turned image b.log progress (with_dma_used b.used) p.threads (position p.progress) size in
     let e : next_work image p b - b.total ≡ suc (length words) = omega (arith, none, work) in
     let h = ap (price c) e in

@@ -19,7 +19,7 @@ use Rattle.spec_finishing.proofs.Paying.Moves.{what_most, sphere_most, move_most
 use Rattle.spec_protocol.proofs.Replays.Pieces.{no_raise}
 
 -- every sphere has its image, and every replay that goes on stands beside its play
-pub record Stands (s : Setup) (x : SerialState) : Type 0 where
+pub record AllGoOn (s : Setup) (x : SerialState) : Type 0 where
   pub images : (i : ℕ) (p : Sphere) → slice_get x.spheres i ≡ Some p → (image : SphereSetup) × (slice_get s.spheres i ≡ Some image)
   pub goes : (i : ℕ) (image : SphereSetup) (p : Sphere) (b : Cursor) → slice_get s.spheres i ≡ Some image → slice_get x.spheres i ≡ Some p → p.role ≡ Replay b → is_over b.now ≡ false → GoesOn image p b
 
@@ -43,15 +43,15 @@ what_paid c images z x moment i image p b (OfRaise k value) positive there is ro
 -- a role that is replayed has a cursor
 pub replay-role : (role : Role) → replays role ≡ true → (b : Cursor) × (role ≡ Replay b)
 replay-role Plain e = absurd (true≢false (sym e))
-replay-role (Record log) e = absurd (true≢false (sym e))
+replay-role (Record recording) e = absurd (true≢false (sym e))
 replay-role (Replay b) e = (b, refl)
 
 live_work : (p : Sphere) (devices : Devices) (m : Move) (role : Role) → replays role ≡ false → role_work p devices m role ≡ what_work p devices m.moment m.what
 live_work p devices m Plain e = refl
-live_work p devices m (Record log) e = refl
+live_work p devices m (Record recording) e = refl
 live_work p devices m (Replay b) e = absurd (true≢false e)
 
-role_pays : (c : ℕ) (s : Setup) (z : Numbers) (x : SerialState) (m : Move) (p : Sphere) (b : Bool) → 0 < z.capacity → Stands s x → slice_get x.spheres m.sphere ≡ Some p → replays p.role ≡ b → FitsWhat z x.devices p m.what
+role_pays : (c : ℕ) (s : Setup) (z : Numbers) (x : SerialState) (m : Move) (p : Sphere) (b : Bool) → 0 < z.capacity → AllGoOn s x → slice_get x.spheres m.sphere ≡ Some p → replays p.role ≡ b → FitsWhat z x.devices p m.what
     → spheres_rank c s.spheres (do_what z x m.moment m.sphere p m.what).spheres + what_most c p x.devices m.moment m.what ≤ spheres_rank c s.spheres x.spheres + price c (role_work p x.devices m p.role)
 role_pays c s z x m p true positive stands is kind fits =
     let image = stands.images m.sphere p is in
@@ -64,19 +64,19 @@ role_pays c s z x m p false positive stands is kind fits =
     let e = ap (price c) (live_work p x.devices m p.role kind) in
     omega (arith, r, e)
 
-at_pays : (c : ℕ) (s : Setup) (z : Numbers) (x : SerialState) (m : Move) (o : Option Sphere) → 0 < z.capacity → Stands s x → slice_get x.spheres m.sphere ≡ o → FitsAt z x.devices m o
+at_pays : (c : ℕ) (s : Setup) (z : Numbers) (x : SerialState) (m : Move) (o : Option Sphere) → 0 < z.capacity → AllGoOn s x → slice_get x.spheres m.sphere ≡ o → FitsAt z x.devices m o
     → spheres_rank c s.spheres (do_at z x m o).spheres + sphere_most c x.devices m o ≤ spheres_rank c s.spheres x.spheres + price c (sphere_work x.devices m o)
 at_pays c s z x m None positive stands is fits = absurd fits
 at_pays c s z x m (Some p) positive stands is fits = role_pays c s z x m p (replays p.role) positive stands is refl fits
 
 -- a move pays for its flight, with its own work at most
-pub move-pays : (c : ℕ) (s : Setup) (z : Numbers) (x : SerialState) (m : Move) → 0 < z.capacity → Stands s x → Fits z x m
+pub move-pays : (c : ℕ) (s : Setup) (z : Numbers) (x : SerialState) (m : Move) → 0 < z.capacity → AllGoOn s x → Fits z x m
     → spheres_rank c s.spheres (do_move z x m).spheres + move_most c x m ≤ spheres_rank c s.spheres x.spheres + price c (move_work x m)
 unfolding do_move
 move-pays c s z x m positive stands fits = at_pays c s z x m (slice_get x.spheres m.sphere) positive stands refl fits
 
 -- and in a replay it pays for its flight and for more
-at_more : (c : ℕ) (s : Setup) (z : Numbers) (x : SerialState) (m : Move) (p : Sphere) (b : Cursor) (o : Option Sphere) → o ≡ Some p → 0 < z.capacity → Stands s x → slice_get x.spheres m.sphere ≡ o → p.role ≡ Replay b → FitsAt z x.devices m o
+at_more : (c : ℕ) (s : Setup) (z : Numbers) (x : SerialState) (m : Move) (p : Sphere) (b : Cursor) (o : Option Sphere) → o ≡ Some p → 0 < z.capacity → AllGoOn s x → slice_get x.spheres m.sphere ≡ o → p.role ≡ Replay b → FitsAt z x.devices m o
     → spheres_rank c s.spheres (do_at z x m o).spheres + (sphere_most c x.devices m o + what_more m.what) ≤ spheres_rank c s.spheres x.spheres + 0
 at_more c s z x m p b None e positive stands is role fits = absurd fits
 at_more c s z x m p b (Some q) e positive stands is role fits =
@@ -86,7 +86,7 @@ at_more c s z x m p b (Some q) e positive stands is role fits =
     what_paid c s.spheres z x m.moment m.sphere image.0 q b m.what positive image.1 is of_q (λ going. stands.goes m.sphere image.0 q b image.1 is of_q going) fits
 
 -- a move of a replay pays for its flight and for what it does beside that
-pub move-pays_more : (c : ℕ) (s : Setup) (z : Numbers) (x : SerialState) (m : Move) (p : Sphere) (b : Cursor) → 0 < z.capacity → Stands s x → slice_get x.spheres m.sphere ≡ Some p → p.role ≡ Replay b → Fits z x m
+pub move-pays_more : (c : ℕ) (s : Setup) (z : Numbers) (x : SerialState) (m : Move) (p : Sphere) (b : Cursor) → 0 < z.capacity → AllGoOn s x → slice_get x.spheres m.sphere ≡ Some p → p.role ≡ Replay b → Fits z x m
     → spheres_rank c s.spheres (do_move z x m).spheres + (move_most c x m + what_more m.what) ≤ spheres_rank c s.spheres x.spheres
 unfolding do_move
 move-pays_more c s z x m p b positive stands is role fits =

@@ -20,7 +20,7 @@ least =
       numbers = record { s = 16; capacity = 1; bits = 64 };
       seed = 0;
       input = [];
-      spheres = with_role IsPlain ∷ with_role (IsRecorded ModeName.Picolog) ∷ with_role (IsReplayed (new_log ModeName.OrderSize 16)) ∷ [];
+      spheres = with_role IsPlain ∷ with_role (IsRecorded (record { mode = ModeName.Picolog })) ∷ with_role (IsReplayed (record { log = new_log ModeName.OrderSize 16 })) ∷ [];
     }
 
 zeros : (n i : ℕ) → slice_index (replicate n 0) i ≡ 0
@@ -60,9 +60,9 @@ image role is =
 image_is : (i : ℕ) (x : SphereSetup) → slice_get least.spheres i ≡ Some x → IsImage x
 image_is zero x e = subst IsImage (let q : with_role IsPlain ≡ x = cc in q) (image IsPlain tt)
 image_is (suc zero) x e =
-    subst IsImage (let q : with_role (IsRecorded ModeName.Picolog) ≡ x = cc in q) (image (IsRecorded ModeName.Picolog) tt)
+    subst IsImage (let q : with_role (IsRecorded (record { mode = ModeName.Picolog })) ≡ x = cc in q) (image (IsRecorded (record { mode = ModeName.Picolog })) tt)
 image_is (suc (suc zero)) x e =
-    let r = IsReplayed (new_log ModeName.OrderSize 16) in
+    let r = IsReplayed (record { log = new_log ModeName.OrderSize 16 }) in
     subst IsImage (let q : with_role r ≡ x = cc in q) (image r empty_log)
 image_is (suc (suc (suc i))) x e = absurd (none-some x e)
 

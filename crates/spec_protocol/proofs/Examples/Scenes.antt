@@ -27,7 +27,7 @@ replies w (e ∷ es) = let a = happens w e in a.reply ∷ replies a.world es
 
 abbrev log_of : Role → List ℕ
 log_of Plain = []
-log_of (Record log) = log_bytes log
+log_of (Record recording) = log_bytes recording.log
 log_of (Replay b) = log_bytes b.log
 
 -- the bytes of sphere i's log

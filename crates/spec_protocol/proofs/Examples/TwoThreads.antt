@@ -36,7 +36,7 @@ code =
     ∷ 0x00200293 ∷ 0x00300293 ∷ []
 
 abbrev two_threads : ModeName → Setup
-two_threads mode = record (alone 2 (IsRecorded mode) 60 code) { input = 0x41 ∷ 0x42 ∷ 0x43 ∷ [] }
+two_threads mode = record (alone 2 (IsRecorded (record { mode = mode })) 60 code) { input = 0x41 ∷ 0x42 ∷ 0x43 ∷ [] }
 
 abbrev points : List Point
 points =

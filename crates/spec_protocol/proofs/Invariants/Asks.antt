@@ -1,5 +1,5 @@
 -- The event Ask keeps the invariant.
-use Rattle.std.proofs.Common.{◌≡◌, ℕ, zero, suc, ◌<◌, Bool, true, false, not, ◌&&◌, eqb, List, [], ◌∷◌, ◌++◌, length, Option, Some, None, refl, sym, ap, ◌∙◌, subst, arith}
+use Rattle.std.proofs.Common.{cond, ◌≡◌, ℕ, zero, suc, ◌<◌, Bool, true, false, not, ◌&&◌, eqb, List, [], ◌∷◌, ◌++◌, length, Option, Some, None, refl, sym, ap, ◌∙◌, subst, arith}
 use Rattle.std.specs.Prelude.{slice_get, IsSome}
 use Rattle.std.proofs.lemmas.Bool.{true≢false, and_parts, and_from, or_parts, eqb-true, eqb-false, eq-eqb, not-true, not-false}
 use Rattle.dl_entry.specs.declared.Actor.{Actor}
@@ -13,10 +13,10 @@ use Rattle.spec_engine.specs.Flights.{Flight, at, first_slot, is_full, meets_chu
 use Rattle.spec_engine.specs.Chunks.{Chunk, is_serial, is_empty_serial}
 use Rattle.spec_engine.specs.Laws.{CoversWords}
 use Rattle.spec_engine.proofs.Searches.{first_none}
-use Rattle.spec_protocol.specs.Spheres.{Role, Plain, Record, Replay, Sphere, is_stopped, recording_turn, head_in, head_of, is_in_pieces}
+use Rattle.spec_protocol.specs.Spheres.{other_than, takes_turns, turn_against, Role, Plain, Record, Replay, Sphere, is_stopped, recording_turn, head_in, head_of, is_in_pieces}
 use Rattle.spec_protocol.specs.Commits.{MovedSphere, is_piece, chunk_moved, serial_moved}
 use Rattle.spec_protocol.specs.World.{Occupant, World, moment, sphere_at, answered}
-use Rattle.spec_protocol.specs.Asking.{move_at, is_short, chunk_request, grant_chunk, serial_request, grant_serial, asks_serial, other_turn, asking}
+use Rattle.spec_protocol.specs.Asking.{move_at, is_short, chunk_request, grant_chunk, serial_request, grant_serial, asks_serial, asking}
 use Rattle.spec_protocol.specs.Serial.{do_moved, do_serial}
 use Rattle.spec_protocol.specs.Shown.{flying, shown, shown_of}
 use Rattle.spec_protocol.specs.Moves.{move_chunk, do_at, do_move, ChunkFits, SerialFits, FitsChunk, FitsSerial, FitsAt, Fits}
@@ -28,7 +28,7 @@ use Rattle.spec_protocol.proofs.Moves.AnyMemory.{over, relaid, chunk-relaid}
 use Rattle.spec_protocol.proofs.Invariants.Preserved.{Preserved, shown-get, unchanged-preserved}
 use Rattle.spec_protocol.proofs.Moves.AnyEvent.{any-ask}
 use Rattle.spec_protocol.proofs.Invariants.Granting.{Grants, granted-preserved}
-use Rattle.spec_protocol.specs.Currency.{IsCurrent, AllLack}
+use Rattle.spec_protocol.specs.Currency.{seen_by, Meets, IsCurrent, AllLack}
 use Rattle.spec_protocol.specs.Invariants.{current, IsGoodHeld, IsGood}
 
 -- ---- what is shown of the sphere that asks
@@ -89,15 +89,16 @@ recording_over ModeName.OrderOnly p m = refl
 
 head_in_over : (role : Role) (p : Sphere) (m : List ℕ) → head_in role (over m p) ≡ head_in role p
 head_in_over Plain p m = refl
-head_in_over (Record log) p m = recording_over log.mode p m
+head_in_over (Record recording) p m = recording_over recording.log.mode p m
 head_in_over (Replay b) p m = refl
 
-head_over : (p : Sphere) (m : List ℕ) → head_of (over m p) ≡ head_of p
-unfolding head_of
-head_over p m = head_in_over p.role p m
+-- whose turn it is doesn't depend on the memory
+pub turn_over : (p : Sphere) (actor : Actor) (m : List ℕ) → turn_against (over m p) actor ≡ turn_against p actor
+unfolding turn_against
+turn_over p actor m = ap (λ (head : Option Actor). cond (takes_turns actor p.role) (other_than actor head) None) (head_in_over p.role p m)
 
-has_turn : (k : ℕ) (p : Sphere) → is_stopped p.role ≡ false → other_turn (head_of p) k ≡ None → HasTurn k p.role p
-unfolding head_of
+has_turn : (k : ℕ) (p : Sphere) → is_stopped p.role ≡ false → turn_against p (Actor.Thread k) ≡ None → HasTurn k p.role p
+unfolding turn_against
 has_turn k p going turn = record { going = going; turn = turn }
 
 -- ---- a chunk
@@ -108,24 +109,24 @@ pieces_before ch role e closed none =
     let empty : is_empty_serial ch ≡ true = and_from (eqb ch.done.n 0) (is_serial ch.closed) (eq-eqb ch.done.n 0 none) (ap is_serial closed) in
     not-false (is_in_pieces role) (ap (λ (b : Bool). b && not (is_in_pieces role)) (sym empty) ∙ e)
 
-chunk_fits : (w : World) (c : ℕ) (h : Occupant) (how : How) → IsGoodHeld w c h → IsCurrent (current w h.chunk.sphere) h.chunk → h.chunk.closed ≡ Some how → is_stopped (sphere_at w h.chunk.sphere).role ≡ false → other_turn (head_of (sphere_at w h.chunk.sphere)) h.thread ≡ None
+chunk_fits : (w : World) (c : ℕ) (h : Occupant) (how : How) → IsGoodHeld w c h → IsCurrent (current w h.chunk.sphere) h.chunk → h.chunk.closed ≡ Some how → is_stopped (sphere_at w h.chunk.sphere).role ≡ false → turn_against (sphere_at w h.chunk.sphere) (Actor.Thread h.thread) ≡ None
     → asks_serial h.chunk (sphere_at w h.chunk.sphere).role ≡ false → ChunkFits w.numbers (over (current w h.chunk.sphere) (sphere_at w h.chunk.sphere)) h.thread h.chunk.start how h.chunk.done.n h.chunk.limit
 chunk_fits w c h how held live closed going turn chunk =
     let p = sphere_at w h.chunk.sphere in
     let m = current w h.chunk.sphere in
-    let limit = held.limit going in
+    let limit = held.thread.limit going in
     let closes = held.chunk.closes in
     record {
       going = going;
-      turn = ap (λ (o : Option Actor). other_turn o h.thread) (head_over p m) ∙ turn;
-      live = held.lives;
+      turn = turn_over p (Actor.Thread h.thread) m ∙ turn;
+      live = held.thread.lives;
       positive = closes.positive;
       limited = limit.most;
       replayed = limit.replayed;
       ran = ap (λ (r : Run). r.n) live.runs;
       full = λ e. closes.full (closed ∙ ap Some e);
       early = λ ne. closes.early how closed ne;
-      serial = λ e. subst (λ (r : Run). IsSome (next_kind r.thread (lays m r.words))) (sym live.runs) (live.next_serial (closed ∙ ap Some e));
+      serial = λ e. subst (λ (r : Run). IsSome (next_kind r.thread (lays m r.words))) (sym live.runs) (subst (Meets (seen_by h.chunk) m h.chunk.done) (closed ∙ ap Some e) live.next).serial;
       some = λ e none. pieces_before h.chunk p.role chunk (closed ∙ ap Some e) none;
       cut = λ e. closes.cut (closed ∙ ap Some e);
       room = λ e. (let a = closes.room (closed ∙ ap Some e) in let b = closes.few in omega arith);
@@ -139,7 +140,7 @@ chunk_fits_at w h how within start fits =
     subst (FitsAt w.numbers w.devices (move_at (moment w) (chunk_request w h how))) (sym (shown_at w i within ∙ ap Some (shown_over w i)))
     (subst (FitsChunk w.numbers p h.thread how h.chunk.done.n h.chunk.limit) (sym start) fits)
 
-chunk_grants : (w : World) (c : ℕ) (h : Occupant) (how : How) → IsGood w → at w.cores c ≡ Some h → h.chunk.closed ≡ Some how → is_stopped (sphere_at w h.chunk.sphere).role ≡ false → other_turn (head_of (sphere_at w h.chunk.sphere)) h.thread ≡ None
+chunk_grants : (w : World) (c : ℕ) (h : Occupant) (how : How) → IsGood w → at w.cores c ≡ Some h → h.chunk.closed ≡ Some how → is_stopped (sphere_at w h.chunk.sphere).role ≡ false → turn_against (sphere_at w h.chunk.sphere) (Actor.Thread h.thread) ≡ None
     → is_full w.slots ≡ false → asks_serial h.chunk (sphere_at w h.chunk.sphere).role ≡ false → first_slot (meets_chunk h.chunk.reads h.chunk.writes) w.slots ≡ None
     → Grants w c h (chunk_request w h how) h.chunk.writes (chunk_move w h how)
 chunk_grants w c h how good is closed going turn free chunk none =
@@ -164,8 +165,8 @@ chunk_grants w c h how good is closed going turn free chunk none =
       lack = chunk-stores (λ (ws : List Stored). AllLack ws (flying i w.slots)) h.thread (is_piece how) short h.chunk.done w.devices p tt (chunk_lacks w c h good held none);
       lives = λ e. chunk-lives h.thread (is_piece how) short h.chunk.done w.devices p e;
       tells = refl;
-      whole = chunk_whole w h how held.sphere held.start live.runs;
-      fits = chunk_fits_at w h how held.sphere held.start (chunk_fits w c h how held live closed going turn chunk);
+      whole = chunk_whole w h how held.sphere held.thread.start live.runs;
+      fits = chunk_fits_at w h how held.sphere held.thread.start (chunk_fits w c h how held live closed going turn chunk);
     }
 
 -- ---- a serial step
@@ -202,7 +203,7 @@ serial_whole w h within start none memory =
 serial_next : (m : List ℕ) (ch : Chunk) → IsCurrent m ch → ch.closed ≡ Some How.Serial → ch.done.n ≡ 0 → IsSome (next_kind ch.start m)
 serial_next m ch live closed none =
     let e : run_start ch.start ≡ ch.done = subst (λ (n : ℕ). run m ch.start n ≡ ch.done) none live.runs in
-    subst (λ (r : Run). IsSome (next_kind r.thread (lays m r.words))) (sym e) (live.next_serial closed)
+    subst (λ (r : Run). IsSome (next_kind r.thread (lays m r.words))) (sym e) (subst (Meets (seen_by ch) m ch.done) closed live.next).serial
 
 serial_closed : (o : Option How) → is_serial o ≡ true → o ≡ Some How.Serial
 serial_closed None e = absurd (true≢false (sym e))
@@ -218,7 +219,7 @@ serial_fits_at w h within start fits =
     subst (FitsAt w.numbers w.devices (move_at (moment w) (serial_request h))) (sym (shown_at w i within ∙ ap Some (shown_over w i)))
     (subst (FitsSerial (over (current w i) (sphere_at w i)) h.thread) (sym start) fits)
 
-serial_grants : (w : World) (c : ℕ) (h : Occupant) → IsGood w → at w.cores c ≡ Some h → is_stopped (sphere_at w h.chunk.sphere).role ≡ false → other_turn (head_of (sphere_at w h.chunk.sphere)) h.thread ≡ None → is_full w.slots ≡ false
+serial_grants : (w : World) (c : ℕ) (h : Occupant) → IsGood w → at w.cores c ≡ Some h → is_stopped (sphere_at w h.chunk.sphere).role ≡ false → turn_against (sphere_at w h.chunk.sphere) (Actor.Thread h.thread) ≡ None → is_full w.slots ≡ false
     → asks_serial h.chunk (sphere_at w h.chunk.sphere).role ≡ true → first_slot (is_of_sphere h.chunk.sphere) w.slots ≡ None
     → Grants w c h (serial_request h) (signed h.chunk.sphere (serial_move w h).words (nothing w.numbers.bits)) (serial_move w h)
 serial_grants w c h good is going turn free serial none =
@@ -246,12 +247,12 @@ serial_grants w c h good is going turn free serial none =
       lack = subst (AllLack v.words) (sym empty) (AllLack_nil v.words);
       lives = λ e. serial-lives h.thread (moment w) h.chunk.start w.devices p e;
       tells = refl;
-      whole = serial_whole w h held.sphere held.start empty moves.keeps.memory;
-      fits = serial_fits_at w h held.sphere held.start
+      whole = serial_whole w h held.sphere held.thread.start empty moves.keeps.memory;
+      fits = serial_fits_at w h held.sphere held.thread.start
           (record {
             going = going;
-            turn = ap (λ (o : Option Actor). other_turn o h.thread) (head_over p (current w i)) ∙ turn;
-            live = held.lives;
+            turn = turn_over p (Actor.Thread h.thread) (current w i) ∙ turn;
+            live = held.thread.lives;
             whole = not-true (is_in_pieces p.role) asks.1;
             serial = serial_next (current w i) h.chunk live (serial_closed h.chunk.closed parts.1) (eqb-true h.chunk.done.n 0 parts.0);
           });

@@ -15,11 +15,11 @@ use Rattle.spec_engine.proofs.Marking.{covers_hit}
 use Rattle.spec_engine.proofs.Searches.{first_none, first_some, full_at}
 use Rattle.spec_protocol.specs.declared.event.Event.{Event}
 use Rattle.spec_protocol.specs.declared.reply.Reply.{Reply}
-use Rattle.spec_protocol.specs.Spheres.{Role, Plain, Record, Replay, Sphere, is_stopped, recording_turn, head_in, head_of}
+use Rattle.spec_protocol.specs.Spheres.{other_than, turn_in, turn_against, Role, Plain, Record, Replay, Sphere, is_stopped, recording_turn, head_in, head_of}
 use Rattle.spec_protocol.specs.Placing.{replays}
 use Rattle.spec_protocol.specs.Commits.{CommitOutcome, Granted, Piece, Diverged, MovedSphere, is_piece, chunk_moved, serial_moved}
 use Rattle.spec_protocol.specs.World.{Occupant, World, moment, sphere_at, After, answered}
-use Rattle.spec_protocol.specs.Asking.{CommitRequest, chunk_request, granted, grant_chunk, unless_denied, serial_request, grant_serial, unless_busy, asks_serial, ask_arbiter, other_turn, unless_turn, ask_closed, ask_held, asking}
+use Rattle.spec_protocol.specs.Asking.{CommitRequest, chunk_request, granted, grant_chunk, unless_denied, serial_request, grant_serial, unless_busy, asks_serial, ask_arbiter, unless_turn, ask_closed, ask_held, asking}
 use Rattle.spec_protocol.specs.Machine.{world_of, core_no, act, happens, world_after}
 use Rattle.spec_protocol.specs.Invariants.{IsGoodHeld, IsGood}
 use Rattle.spec_protocol.specs.Replying.{makes_point, IsInTurns, IsGranted, AsksAreGranted, LoadsLack, IsClearOf, GrantsAreClear}
@@ -81,31 +81,31 @@ arbiter_reply w c h how false m live =
 
 live_going : (role : Role) → replays role ≡ false → is_stopped role ≡ false
 live_going Plain e = refl
-live_going (Record log) e = refl
+live_going (Record recording) e = refl
 live_going (Replay b) e = absurd (true≢false e)
 
-recorded_turn : (mode : ModeName) (p : Sphere) (k : ℕ) (actor : Actor) → other_turn (recording_turn mode p) k ≡ Some actor → mode ≡ ModeName.Picolog
+recorded_turn : (mode : ModeName) (p : Sphere) (k : ℕ) (actor : Actor) → other_than (Actor.Thread k) (recording_turn mode p) ≡ Some actor → mode ≡ ModeName.Picolog
 recorded_turn ModeName.Picolog p k actor e = refl
 recorded_turn ModeName.OrderSize p k actor e = absurd (none-some actor e)
 recorded_turn ModeName.OrderOnly p k actor e = absurd (none-some actor e)
 
-in_turns : (role : Role) (p : Sphere) (k : ℕ) (actor : Actor) → replays role ≡ false → other_turn (head_in role p) k ≡ Some actor → IsInTurns role
+in_turns : (role : Role) (p : Sphere) (k : ℕ) (actor : Actor) → replays role ≡ false → turn_in role p (Actor.Thread k) ≡ Some actor → IsInTurns role
 in_turns Plain p k actor live e = none-some actor e
-in_turns (Record log) p k actor live e = recorded_turn log.mode p k actor e
+in_turns (Record recording) p k actor live e = recorded_turn recording.log.mode p k actor e
 in_turns (Replay b) p k actor live e = absurd (true≢false live)
 
 turn_reply : (w : World) (h : Occupant) (a : After) (o : Option Actor) → ((actor : Actor) → o ≡ Some actor → IsInTurns (sphere_at w h.chunk.sphere).role) → IsGrantedOr w h a → IsGrantedOr w h (unless_turn o w a)
 turn_reply w h a None turns g = g
 turn_reply w h a (Some actor) turns g = inr (actor, refl, turns actor refl)
 
-turns_of : (p : Sphere) (k : ℕ) (actor : Actor) → replays p.role ≡ false → other_turn (head_of p) k ≡ Some actor → IsInTurns p.role
-unfolding head_of
+turns_of : (p : Sphere) (k : ℕ) (actor : Actor) → replays p.role ≡ false → turn_against p (Actor.Thread k) ≡ Some actor → IsInTurns p.role
+unfolding turn_against
 turns_of p k actor live e = in_turns p.role p k actor live e
 
 closed_reply : (w : World) (c : ℕ) (h : Occupant) (how : How) → Empty w → replays (sphere_at w h.chunk.sphere).role ≡ false → IsGrantedOr w h (ask_closed w c h (Some how))
 closed_reply w c h how m live =
     let p = sphere_at w h.chunk.sphere in
-    let turn = other_turn (head_of p) h.thread in
+    let turn = turn_against p (Actor.Thread h.thread) in
     let arbiter = ask_arbiter w c h how (asks_serial h.chunk p.role) in
     branch (IsGrantedOr w h) (is_stopped p.role) (answered w Reply.Stopped) (unless_turn turn w (cond (is_full w.slots) (answered w Reply.WindowFull) arbiter))
     (λ stopped. absurd (true≢false (sym stopped ∙ live_going p.role live)))

@@ -1,17 +1,13 @@
 -- The events of running chunks keep the invariant: Step and Cut.
-use Rattle.std.proofs.Common.{◌≡◌, ◌≢◌, ℕ, ◌<◌, ◌≤◌, ◌⊎◌, inl, inr, false, eqb, List, length, Option, Some, None, refl, sym, ap, ◌∙◌, subst, arith, set}
-use Rattle.std.specs.Prelude.{slice_get}
+use Rattle.std.proofs.Common.{◌≡◌, ◌≢◌, ℕ, ◌<◌, ◌⊎◌, inl, inr, false, eqb, List, [], length, Option, Some, None, refl, sym, ap, ◌∙◌, subst, arith, set}
 use Rattle.std.proofs.Math.ListN.{length-set}
 use Rattle.std.proofs.lemmas.Bool.{eqb-false, cases_lt, cases_eq}
 use Rattle.std.proofs.lemmas.List.{get_or_past}
 use Rattle.std.proofs.lemmas.Option.{none-some}
-use Rattle.spec_kernel.specs.Interrupts.{is_live}
 use Rattle.spec_engine.specs.declared.answers.How.{How}
 use Rattle.spec_engine.specs.declared.answers.CutReply.{CutReply}
 use Rattle.spec_engine.specs.Flights.{Flight, at}
 use Rattle.spec_engine.specs.Chunks.{Chunk, step, Cutting, cut_open}
-use Rattle.spec_protocol.specs.Spheres.{is_stopped, limit_of, halves}
-use Rattle.spec_protocol.specs.Placing.{replays}
 use Rattle.spec_protocol.specs.World.{Occupant, World, Move, After, sphere_at, with_core, answered}
 use Rattle.spec_protocol.specs.Shown.{shown_of}
 use Rattle.spec_protocol.specs.Moves.{do_if, FitsIf}
@@ -23,7 +19,8 @@ use Rattle.spec_protocol.proofs.Memory.Steps.{SameBase}
 use Rattle.spec_protocol.proofs.Memory.Current.{step-good}
 use Rattle.spec_protocol.proofs.Invariants.Preserved.{SameSizes, PointIs, Preserved, unchanged-preserved}
 use Rattle.spec_protocol.specs.Currency.{IsCurrent}
-use Rattle.spec_protocol.specs.Invariants.{IsGoodChunk, current, IsGoodHeld, IsAlone, IsGood}
+use Rattle.spec_protocol.proofs.Invariants.Held.{thread-same}
+use Rattle.spec_protocol.specs.Invariants.{IsGoodChunk, current, IsGoodOver, IsOfThread, IsGoodHeld, IsAlone, IsGood}
 
 -- ---- rows of cores and slots
 
@@ -57,14 +54,7 @@ alone-set cores c o alone new a b h g ah bg sphere thread =
 -- what another core holds stays good, whatever is put on core c
 pub held_there : (w : World) (c d : ℕ) (o : Option Occupant) (g : Occupant) → IsGoodHeld w d g → IsGoodHeld (with_core w c o) d g
 held_there w c d o g good =
-    record {
-      sphere = good.sphere;
-      start = good.start;
-      lives = good.lives;
-      halving = good.halving;
-      limit = good.limit;
-      chunk = good.chunk;
-    }
+    record { sphere = good.sphere; thread = good.thread; chunk = good.chunk }
 
 -- a world stays good where core c is given something good, whose thread is on no other core
 pub core-good : (w : World) (c : ℕ) (o : Option Occupant) → IsGood w → ((h : Occupant) → o ≡ Some h → IsGoodHeld w c h)
@@ -96,23 +86,14 @@ core-preserved w c o a world move point good =
 
 -- ---- the core's chunk changes, and its base does not
 
-pub held-same : (w : World) (c : ℕ) (h : Occupant) (dh : Chunk) → IsGoodHeld w c h → SameBase h.chunk dh → IsGoodChunk w.numbers.capacity w.numbers.bits w.slots c (current w h.chunk.sphere) dh → IsGoodHeld w c (record h { chunk = dh })
+-- what core c holds is good with a chunk of the same base that is good over the current memory
+held-same : (w : World) (c : ℕ) (h : Occupant) (dh : Chunk) → IsGoodHeld w c h → SameBase h.chunk dh → IsGoodOver w c h.chunk.sphere [] dh → IsGoodHeld w c (record h { chunk = dh })
 held-same w c h dh good base chunk =
-    let limits : limit_of w.numbers.s (sphere_at w dh.sphere).role h.thread dh.start ≡ limit_of w.numbers.s (sphere_at w h.chunk.sphere).role h.thread h.chunk.start =
-    (λ j. limit_of w.numbers.s (sphere_at w (base.sphere j)).role h.thread (base.start j))
-    in
     record {
       sphere = subst (λ (i : ℕ). i < length w.spheres) (sym base.sphere) good.sphere;
-      start = ap (λ (i : ℕ). slice_get (sphere_at w i).threads h.thread) base.sphere ∙ good.start ∙ ap Some (sym base.start);
-      lives = ap is_live base.start ∙ good.lives;
-      halving = base.halves ∙ good.halving ∙ ap (λ (i : ℕ). halves (sphere_at w i).role) (sym base.sphere);
-      limit = λ going.
-          let l = good.limit (ap (λ (i : ℕ). is_stopped (sphere_at w i).role) (sym base.sphere) ∙ going) in
-          record {
-            most = subst (λ (n : ℕ). n ≤ limit_of w.numbers.s (sphere_at w dh.sphere).role h.thread dh.start) (sym base.limit) (subst (λ (n : ℕ). h.chunk.limit ≤ n) (sym limits) l.most);
-            replayed = λ r. base.limit ∙ l.replayed (ap (λ (i : ℕ). replays (sphere_at w i).role) (sym base.sphere) ∙ r) ∙ sym limits;
-          };
-      chunk = subst (λ (i : ℕ). IsGoodChunk w.numbers.capacity w.numbers.bits w.slots c (current w i) dh) (sym base.sphere) chunk;
+      thread = subst (λ (i : ℕ). IsOfThread w.numbers.s (sphere_at w i) h.thread dh) (sym base.sphere)
+          (thread-same w.numbers.s (sphere_at w h.chunk.sphere) h.thread h.chunk dh base good.thread);
+      chunk = subst (λ (i : ℕ). IsGoodOver w c i [] dh) (sym base.sphere) chunk;
     }
 
 -- nobody else runs the thread of core c's chunk
@@ -121,7 +102,7 @@ others-differ w c h dh good is same k e d g ne there sphere thread =
     let q : record h { chunk = dh } ≡ k = cc in
     ne (good.alone d c g h there is (sym sphere ∙ ap (λ (x : Occupant). x.chunk.sphere) (sym q) ∙ same) (sym thread ∙ ap (λ (x : Occupant). x.thread) (sym q)))
 
-chunk_preserved : (w : World) (c : ℕ) (h : Occupant) (dh : Chunk) (a : After) → IsGood w → at w.cores c ≡ Some h → SameBase h.chunk dh → IsGoodChunk w.numbers.capacity w.numbers.bits w.slots c (current w h.chunk.sphere) dh
+chunk_preserved : (w : World) (c : ℕ) (h : Occupant) (dh : Chunk) (a : After) → IsGood w → at w.cores c ≡ Some h → SameBase h.chunk dh → IsGoodOver w c h.chunk.sphere [] dh
     → a.world ≡ with_chunk w c h dh → a.move ≡ None → a.point ≡ None → Preserved w a
 chunk_preserved w c h dh a good is base chunk world move point =
     core-preserved w c (Some (record h { chunk = dh })) a world move point
@@ -137,7 +118,7 @@ step-preserved w c good =
     any-step w (Preserved w) (λ r none. unchanged-preserved w (answered w r) refl refl refl good) c
     (λ h is opened.
     let s = step w.numbers.capacity (sphere_at w h.chunk.sphere).memory w.slots c h.chunk in
-    let r = step-good w.numbers.capacity w.numbers.bits w.slots c (sphere_at w h.chunk.sphere).memory h.chunk good.covered opened (good.held c h is).chunk in
+    let r = step-good w.numbers.capacity w.numbers.bits w.slots c (sphere_at w h.chunk.sphere).memory [] h.chunk good.covered opened (good.held c h is).chunk in
     chunk_preserved w c h s.chunk (stepped w c h s) good is r.1 r.0 refl refl refl)
 
 -- ---- Cut
@@ -171,10 +152,7 @@ cut_good capacity bits xs c m ch open_ some good =
           record {
             runs = live.runs;
             touches = live.touches;
-            next_touches = λ e. absurd (let h : How.Cut ≡ How.Serial = cc in cc);
-            next_serial = λ e. absurd (let h : How.Cut ≡ How.Serial = cc in cc);
-            store_touches = λ e. absurd (let h : How.Cut ≡ How.Overflow = cc in cc);
-            store_anew = λ e. absurd (let h : How.Cut ≡ How.Overflow = cc in cc);
+            next = tt;
           };
     }
 

@@ -1,6 +1,5 @@
 -- The events of flights keep the invariant: Drain, Deliver and Retire.
 use Rattle.std.proofs.Common.{◌≡◌, ◌≢◌, ℕ, ◌<◌, ◌≤◌, inl, inr, Bool, true, false, eqb, cond, ◌&&◌, List, [], ◌∷◌, ◌++◌, length, Option, Some, None, refl, sym, ap, ◌∙◌, subst, arith, set}
-use Rattle.std.specs.Prelude.{slice_get}
 use Rattle.std.proofs.Math.ListN.{length-set}
 use Rattle.std.proofs.lemmas.Bool.{true≢false, and_parts, or_parts, cases_eq}
 use Rattle.std.proofs.lemmas.List.{set-get_or}
@@ -15,7 +14,7 @@ use Rattle.spec_engine.specs.Chunks.{Chunk, squash, is_fourth, halved, fresh, ne
 use Rattle.spec_engine.specs.Laws.{CoversWords}
 use Rattle.spec_engine.proofs.Searches.{told-tell_other, all_told-at}
 use Rattle.spec_protocol.specs.declared.reply.Reply.{Reply}
-use Rattle.spec_protocol.specs.Spheres.{Role, Plain, Record, Replay, Sphere, is_stopped, limit_of, halves}
+use Rattle.spec_protocol.specs.Spheres.{Role, Plain, Record, Replay, Sphere, halves}
 use Rattle.spec_protocol.specs.Placing.{replays}
 use Rattle.spec_protocol.specs.World.{Occupant, World, Move, After, sphere_at, with_memory, with_core, with_slot, answered}
 use Rattle.spec_protocol.specs.Shown.{words_of, flying, shown, shown_of}
@@ -25,52 +24,9 @@ use Rattle.spec_protocol.proofs.Memory.Laying.{lays_append, AllLack_flip, Apart_
 use Rattle.spec_protocol.proofs.Memory.Slots.{at-set_same, at-set_other, at_within, before, behind, flying-at, flying-set, flying_same, words-same, words-other}
 use Rattle.spec_protocol.proofs.Invariants.Preserved.{SameSizes, PointIs, Preserved, sphere-same, sphere-other, shown_from-same, shown-unmoved, set-itself, unchanged-preserved}
 use Rattle.spec_protocol.proofs.Invariants.Cores.{set-cases, alone-set, held_there, others-differ, branch}
-use Rattle.spec_protocol.specs.Currency.{IsCurrent, IsQuiet}
-use Rattle.spec_protocol.specs.Invariants.{IsFlightCovered, IsGoodChunk, current, IsGoodHeld, IsGood}
-
--- ---- a chunk beside other slots
-
-pub chunk-beside : (capacity bits : ℕ) (xs ys : List (Option Flight)) (c : ℕ) (m n : List ℕ) (ch : Chunk) → n ≡ m → (IsQuiet ys ch.sphere c ch.reads → IsQuiet xs ch.sphere c ch.reads) → IsGoodChunk capacity bits xs c m ch → IsGoodChunk capacity bits ys c n ch
-chunk-beside capacity bits xs ys c m n ch same quiet good =
-    record {
-      reads_size = good.reads_size;
-      writes_size = good.writes_size;
-      apart = good.apart;
-      writes = good.writes;
-      loads = good.loads;
-      closes = good.closes;
-      live = λ q. subst (λ (k : List ℕ). IsCurrent k ch) (sym same) (good.live (quiet q));
-    }
-
--- a world in which the core's sphere has the same threads, role and current memory
-pub record Beside (w v : World) (c : ℕ) (h : Occupant) : Type 0 where
-  pub numbers : v.numbers ≡ w.numbers
-  pub spheres : length v.spheres ≡ length w.spheres
-  pub threads : (sphere_at v h.chunk.sphere).threads ≡ (sphere_at w h.chunk.sphere).threads
-  pub role : (sphere_at v h.chunk.sphere).role ≡ (sphere_at w h.chunk.sphere).role
-  pub memory : current v h.chunk.sphere ≡ current w h.chunk.sphere
-  pub quiet : IsQuiet v.slots h.chunk.sphere c h.chunk.reads → IsQuiet w.slots h.chunk.sphere c h.chunk.reads
-
--- what a core holds stays good in a world that is beside the first one for it
-pub held-beside : (w v : World) (c : ℕ) (h : Occupant) → Beside w v c h → IsGoodHeld w c h → IsGoodHeld v c h
-held-beside w v c h b good =
-    let limits : limit_of v.numbers.s (sphere_at v h.chunk.sphere).role h.thread h.chunk.start ≡ limit_of w.numbers.s (sphere_at w h.chunk.sphere).role h.thread h.chunk.start =
-    (λ j. limit_of (b.numbers j).s (b.role j) h.thread h.chunk.start)
-    in
-    record {
-      sphere = subst (λ (n : ℕ). h.chunk.sphere < n) (sym b.spheres) good.sphere;
-      start = ap (λ (ts : List Parts). slice_get ts h.thread) b.threads ∙ good.start;
-      lives = good.lives;
-      halving = good.halving ∙ ap halves (sym b.role);
-      limit = λ going.
-          let l = good.limit (ap is_stopped (sym b.role) ∙ going) in
-          record {
-            most = subst (λ (n : ℕ). h.chunk.limit ≤ n) (sym limits) l.most;
-            replayed = λ r. l.replayed (ap replays (sym b.role) ∙ r) ∙ sym limits;
-          };
-      chunk = subst (λ (z : _). IsGoodChunk z.capacity z.bits v.slots c (current v h.chunk.sphere) h.chunk) (sym b.numbers)
-          (chunk-beside w.numbers.capacity w.numbers.bits w.slots v.slots c (current w h.chunk.sphere) (current v h.chunk.sphere) h.chunk b.memory b.quiet good.chunk);
-    }
+use Rattle.spec_protocol.proofs.Invariants.Held.{chunk-beside, Beside, held-beside}
+use Rattle.spec_protocol.specs.Currency.{IsQuiet}
+use Rattle.spec_protocol.specs.Invariants.{IsFlightCovered, IsGoodChunk, current, IsGoodOver, IsOfThread, IsGoodHeld, IsGood}
 
 -- ---- a slot is set to what stands there
 
@@ -143,23 +99,23 @@ drained_preserved w k f s ss a good is words world move point =
     let v = drained_world w k f s ss in
     let there : sphere_at v i ≡ record (sphere_at w i) { memory = lay m s } = sphere-same w.spheres i (record (sphere_at w i) { memory = lay m s }) inside in
     let elsewhere : (j : ℕ) → j ≢ i → sphere_at v j ≡ sphere_at w j = (λ j ne. sphere-other w.spheres i j (record (sphere_at w i) { memory = lay m s }) ne) in
-    let beside : (c : ℕ) (x : Occupant) → Beside w v c x =
-    (λ c x. record {
+    let beside : (c n : ℕ) → Beside w v c n =
+    (λ c n. record {
       numbers = refl;
       spheres = length-set w.spheres i (record (sphere_at w i) { memory = lay m s });
-      threads = elim (cases_eq x.chunk.sphere i) [
+      threads = elim (cases_eq n i) [
         | inl e ↦ (λ j. (sphere_at v (e j)).threads) ∙ ap (λ (p : Sphere). p.threads) there ∙ sym (λ j. (sphere_at w (e j)).threads)
-        | inr ne ↦ ap (λ (p : Sphere). p.threads) (elsewhere x.chunk.sphere ne)
+        | inr ne ↦ ap (λ (p : Sphere). p.threads) (elsewhere n ne)
       ];
-      role = elim (cases_eq x.chunk.sphere i) [
+      role = elim (cases_eq n i) [
         | inl e ↦ (λ j. (sphere_at v (e j)).role) ∙ ap (λ (p : Sphere). p.role) there ∙ sym (λ j. (sphere_at w (e j)).role)
-        | inr ne ↦ ap (λ (p : Sphere). p.role) (elsewhere x.chunk.sphere ne)
+        | inr ne ↦ ap (λ (p : Sphere). p.role) (elsewhere n ne)
       ];
-      memory = elim (cases_eq x.chunk.sphere i) [
+      memory = elim (cases_eq n i) [
         | inl e ↦ (λ j. current v (e j)) ∙ ap (λ (p : Sphere). lays p.memory (flying i ys)) there ∙ memory ∙ sym (λ j. current w (e j))
-        | inr ne ↦ (λ j. lays (elsewhere x.chunk.sphere ne j).memory (others x.chunk.sphere ne j))
+        | inr ne ↦ (λ j. lays (elsewhere n ne j).memory (others n ne j))
       ];
-      quiet = shorter_quiet w.slots k f ss x.chunk.sphere c x.chunk.reads is;
+      quiet = λ reads. shorter_quiet w.slots k f ss n c reads is;
     })
     in
     record {
@@ -182,7 +138,7 @@ drained_preserved w k f s ss a good is words world move point =
           | inl p ↦ (let gx : g ≡ x = (let o : Some g ≡ Some x = p.1 in cc) in subst (λ (y : Flight). y.sphere < length w.spheres) gx inside)
           | inr p ↦ good.flights j x p.1
         ]);
-        held = λ c x e. held-beside w v c x (beside c x) (good.held c x e);
+        held = λ c x e. held-beside w v c x (beside c x.chunk.sphere) (good.held c x e);
         alone = good.alone;
       });
       sizes = subst (SameSizes w) (sym world) (record { numbers = refl; spheres = length-set w.spheres i (record (sphere_at w i) { memory = lay m s }); cores = refl; slots = length-set w.slots k (Some g) });
@@ -220,14 +176,17 @@ record SlotKept (w : World) (k : ℕ) (v : Option Flight) : Type 0 where
   covered : (x : Flight) → v ≡ Some x → IsFlightCovered w.numbers.bits x
   flights : (x : Flight) → v ≡ Some x → x.sphere < length w.spheres
 
-slot_beside : (w : World) (k : ℕ) (v : Option Flight) (c : ℕ) (x : Occupant) → k < length w.slots → SlotKept w k v → (IsQuiet (set w.slots k v) x.chunk.sphere c x.chunk.reads → IsQuiet w.slots x.chunk.sphere c x.chunk.reads) → Beside w (with_slot w k v) c x
-slot_beside w k v c x within s quiet =
+slot_memory : (w : World) (k : ℕ) (v : Option Flight) (i : ℕ) → k < length w.slots → SlotKept w k v → current (with_slot w k v) i ≡ current w i
+slot_memory w k v i within s = ap (lays (sphere_at w i).memory) (flying_same i w.slots k v within (s.words i))
+
+slot_beside : (w : World) (k : ℕ) (v : Option Flight) (c i : ℕ) → k < length w.slots → SlotKept w k v → ((reads : Signature) → IsQuiet (set w.slots k v) i c reads → IsQuiet w.slots i c reads) → Beside w (with_slot w k v) c i
+slot_beside w k v c i within s quiet =
     record {
       numbers = refl;
       spheres = refl;
       threads = refl;
       role = refl;
-      memory = ap (lays (sphere_at w x.chunk.sphere).memory) (flying_same x.chunk.sphere w.slots k v within (s.words x.chunk.sphere));
+      memory = slot_memory w k v i within s;
       quiet = quiet;
     }
 
@@ -285,7 +244,7 @@ retired_preserved w k f a good is done world move point =
     record {
       good = subst IsGood (sym world) (slot_good w k None within good s
           (λ c x e. held-beside w (with_slot w k None) c x
-          (slot_beside w k None c x within s (retired_quiet w k f x.chunk.sphere c x.chunk.reads is p.1 (at_within w.cores c x e))) (good.held c x e)));
+          (slot_beside w k None c x.chunk.sphere within s (λ reads. retired_quiet w k f x.chunk.sphere c reads is p.1 (at_within w.cores c x e))) (good.held c x e)));
       sizes = subst (SameSizes w) (sym world) (record { numbers = refl; spheres = refl; cores = refl; slots = length-set w.slots k None });
       point = subst (λ (m : Option Move). PointIs w m a.point) (sym move) point;
       whole = ap shown_of world ∙ slot_shown w k None within s ∙ sym (ap (do_if w.numbers (shown_of w)) move);
@@ -363,7 +322,7 @@ module _ (capacity bits : ℕ) (xs : List (Option Flight)) (c : ℕ) (m : List �
           few = omega arith;
           few_loads = omega arith;
         };
-        live = λ q. record { runs = refl; touches = λ j l. absurd (omega arith); next_touches = λ e. absurd (none-some _ e); next_serial = λ e. absurd (none-some _ e); store_touches = λ e. absurd (none-some _ e); store_anew = λ e. absurd (none-some _ e) };
+        live = λ q. record { runs = refl; touches = λ j l. absurd (omega arith); next = tt };
       }
 
 -- a chunk that begins again from its start
@@ -373,38 +332,58 @@ squash_good capacity xs c m ch bits positive size =
 
 not_both : (role : Role) → replays role ≡ true → halves role ≡ false
 not_both Plain r = refl
-not_both (Record log) r = absurd (true≢false (sym r))
+not_both (Record recording) r = absurd (true≢false (sym r))
 not_both (Replay b) r = refl
 
 -- of a sphere that is not recorded no squash changes the limit
 not_halved : (ch : Chunk) (role : Role) → ch.halves ≡ halves role → replays role ≡ true → cond (is_fourth ch) (halved ch.limit) ch.limit ≡ ch.limit
 not_halved ch role e r = ap (λ (b : Bool). cond (b && eqb ch.squashes 3) (halved ch.limit) ch.limit) (e ∙ not_both role r)
 
+squash_thread : (s : ℕ) (p : Sphere) (k : ℕ) (ch : Chunk) → 0 < ch.limit → IsOfThread s p k ch → IsOfThread s p k (squash ch)
+squash_thread s p k ch positive is =
+    record {
+      start = is.start;
+      lives = is.lives;
+      halving = is.halving;
+      limit = λ going.
+          let l = is.limit going in
+          record {
+            most = either_most (is_fourth ch) ch.limit _ positive l.most;
+            replayed = λ r. not_halved ch p.role is.halving r ∙ l.replayed r;
+          };
+    }
+
 squash_held : (w : World) (k c : ℕ) (o : Option Flight) (h : Occupant) → IsGoodHeld w c h → IsGoodHeld (with_slot w k o) c (record h { chunk = squash h.chunk })
 squash_held w k c o h good =
     let positive = good.chunk.closes.positive in
     record {
       sphere = good.sphere;
-      start = good.start;
-      lives = good.lives;
-      halving = good.halving;
-      limit = λ going.
-          let l = good.limit going in
-          record {
-            most = either_most (is_fourth h.chunk) h.chunk.limit _ positive l.most;
-            replayed = λ r. not_halved h.chunk (sphere_at w h.chunk.sphere).role good.halving r ∙ l.replayed r;
-          };
+      thread = squash_thread w.numbers.s (sphere_at w h.chunk.sphere) h.thread h.chunk positive good.thread;
       chunk = squash_good w.numbers.capacity (set w.slots k o) c (current (with_slot w k o) h.chunk.sphere) h.chunk w.numbers.bits positive good.chunk.reads_size;
     }
 
 abbrev tell_in : World → (slot core : ℕ) → Flight → World
 tell_in w k c f = with_slot w k (Some (tell f c))
 
-told_held : (w : World) (k c : ℕ) (f : Flight) (d : ℕ) (x : Occupant) → IsGood w → at w.slots k ≡ Some f → (d ≡ c → hits f.writes x.chunk.reads ≡ false) → at w.cores d ≡ Some x → IsGoodHeld (tell_in w k c f) d x
-told_held w k c f d x good is free there =
+-- another core's chunks stay good
+told_other : (w : World) (k c : ℕ) (f : Flight) (d : ℕ) (x : Occupant) → IsGood w → at w.slots k ≡ Some f → d ≢ c → at w.cores d ≡ Some x → IsGoodHeld (tell_in w k c f) d x
+told_other w k c f d x good is ne there =
     held-beside w (tell_in w k c f) d x
-    (slot_beside w k (Some (tell f c)) d x (at_within w.slots k f is) (told_slot w k c f good is) (told_quiet w.slots k f c d x.chunk.sphere x.chunk.reads is free))
+    (slot_beside w k (Some (tell f c)) d x.chunk.sphere (at_within w.slots k f is) (told_slot w k c f good is) (λ reads. told_quiet w.slots k f c d x.chunk.sphere reads is (λ dc. absurd (ne dc))))
     (good.held d x there)
+
+-- a chunk of the core that is told stays good over its base where the flight doesn't hit what it has read
+told_over : (w : World) (k c : ℕ) (f : Flight) (i : ℕ) (ws : List Stored) (ch : Chunk) → IsGood w → at w.slots k ≡ Some f → hits f.writes ch.reads ≡ false → IsGoodOver w c i ws ch → IsGoodOver (tell_in w k c f) c i ws ch
+told_over w k c f i ws ch good is free chunk =
+    let v = tell_in w k c f in
+    chunk-beside w.numbers.capacity w.numbers.bits w.slots v.slots c (lays (current w i) ws) (lays (current v i) ws) ch
+    (ap (λ (m : List ℕ). lays m ws) (slot_memory w k (Some (tell f c)) i (at_within w.slots k f is) (told_slot w k c f good is)))
+    (told_quiet w.slots k f c c ch.sphere ch.reads is (λ _. free)) chunk
+
+told_own : (w : World) (k c : ℕ) (f : Flight) (x : Occupant) → IsGood w → at w.slots k ≡ Some f → hits f.writes x.chunk.reads ≡ false → at w.cores c ≡ Some x → IsGoodHeld (tell_in w k c f) c x
+told_own w k c f x good is free there =
+    let held = good.held c x there in
+    record { sphere = held.sphere; thread = held.thread; chunk = told_over w k c f x.chunk.sphere [] x.chunk good is free held.chunk }
 
 told_sizes : (w : World) (k c : ℕ) (f : Flight) → SameSizes w (tell_in w k c f)
 told_sizes w k c f = record { numbers = refl; spheres = refl; cores = refl; slots = length-set w.slots k (Some (tell f c)) }
@@ -413,11 +392,17 @@ delivered_preserved : (w : World) (k c : ℕ) (f : Flight) (held : Option Occupa
 delivered_preserved w k c f held good is there free =
     record {
       good = slot_good w k (Some (tell f c)) (at_within w.slots k f is) good (told_slot w k c f good is)
-          (λ d x e. told_held w k c f d x good is
-          (λ dc.
-          let h : held ≡ Some x = sym there ∙ ap (at w.cores) (sym dc) ∙ e in
-          (or_parts (hits f.writes x.chunk.reads) (hits f.writes x.chunk.writes) (ap (λ (o : Option Occupant). meets_chunk (reads_of w o) (writes_of w o) f) (sym h) ∙ free)).0)
-          e);
+          (λ d x e. elim (cases_eq d c) [
+            | inl dc ↦ (
+                let own : at w.cores c ≡ Some x = ap (at w.cores) (sym dc) ∙ e in
+                let h : held ≡ Some x = sym there ∙ own in
+                subst (λ (n : ℕ). IsGoodHeld (tell_in w k c f) n x) (sym dc)
+                (told_own w k c f x good is
+                (or_parts (hits f.writes x.chunk.reads) (hits f.writes x.chunk.writes) (ap (λ (o : Option Occupant). meets_chunk (reads_of w o) (writes_of w o) f) (sym h) ∙ free)).0
+                own)
+                )
+            | inr ne ↦ told_other w k c f d x good is ne e
+          ]);
       sizes = told_sizes w k c f;
       point = refl;
       whole = slot_shown w k (Some (tell f c)) (at_within w.slots k f is) (told_slot w k c f good is);
@@ -438,7 +423,7 @@ told_good w k c f o good is new other =
       flights = λ j x e. elim (set-cases w.slots k j (Some (tell f c)) x e) [ inl p ↦ s.flights x p.1 | inr p ↦ good.flights j x p.1 ];
       held = λ d x e. elim (set-cases w.cores c d o x e) [
         | inl p ↦ held_there (tell_in w k c f) c d o x (subst (λ (n : ℕ). IsGoodHeld (tell_in w k c f) n x) (sym p.0) (new x p.1))
-        | inr p ↦ held_there (tell_in w k c f) c d o x (told_held w k c f d x good is (λ dc. absurd (p.0 dc)) p.1)
+        | inr p ↦ held_there (tell_in w k c f) c d o x (told_other w k c f d x good is p.0 p.1)
       ];
       alone = alone-set w.cores c o good.alone other;
     }

@@ -12,8 +12,8 @@ use Rattle.spec_engine.specs.Flights.{Flight, at, is_full}
 use Rattle.spec_protocol.specs.Spheres.{Sphere, is_stopped, halves}
 use Rattle.spec_protocol.specs.Placing.{replays}
 use Rattle.spec_protocol.specs.Commits.{CommitOutcome, Granted, Piece, Diverged, MovedSphere}
-use Rattle.spec_protocol.specs.World.{Occupant, World, moment, sphere_at, with_sphere, held_afresh, flown}
-use Rattle.spec_protocol.specs.Asking.{CommitRequest, point_at, move_at, world_with, granted}
+use Rattle.spec_protocol.specs.World.{Numbers, Occupant, World, moment, sphere_at, with_sphere, flown}
+use Rattle.spec_protocol.specs.Asking.{CommitRequest, goes_on_with, point_at, move_at, world_with, granted}
 use Rattle.spec_protocol.specs.Serial.{do_moved}
 use Rattle.spec_protocol.specs.Shown.{flying, shown_of}
 use Rattle.spec_protocol.specs.Moves.{do_move, Fits}
@@ -24,7 +24,8 @@ use Rattle.spec_protocol.proofs.Moves.AnyMemory.{relaid}
 use Rattle.spec_protocol.proofs.Invariants.Preserved.{SameSizes, point_for, PointOf, Preserved, point-made, point-other, sphere-same}
 use Rattle.spec_protocol.proofs.Invariants.Cores.{set-cases, alone-set}
 use Rattle.spec_protocol.proofs.Invariants.Landing.{afresh-begins, afresh-held, moved_world, Lands, landed-held, elsewhere-held, moved-shown}
-use Rattle.spec_protocol.specs.Invariants.{IsFlightCovered, IsGoodChunk, current, IsGoodHeld, IsGood}
+use Rattle.spec_protocol.proofs.Invariants.Held.{KeepsThread, thread-stays}
+use Rattle.spec_protocol.specs.Invariants.{IsFlightCovered, IsGoodChunk, current, IsOfThread, IsGoodHeld, IsGood}
 use Rattle.spec_protocol.specs.Currency.{AllLack}
 
 -- ---- a request that is granted, or diverges
@@ -71,19 +72,31 @@ granted_lands w c d h x q writes v good g ne there same =
       covered = g.covered;
       untold = ap (λ (b : ℕ). eqb b 1) (bit_at-pow_other c d ne);
       memory = keeps.memory;
-      going = g.going;
-      threads = keeps.threads x.thread x.chunk.start other;
-      halving = keeps.halving;
-      replaying = keeps.replaying;
-      limits = keeps.limits w.numbers.s x.thread x.chunk.start other;
+      keeps = record {
+        threads = λ t. keeps.threads x.thread t other;
+        halving = keeps.halving;
+        replaying = keeps.replaying;
+        going = λ e. g.going;
+        limits = λ e t. keeps.limits w.numbers.s x.thread t other e;
+      };
     }
+
+-- what goes on is of the request's thread
+goes_on_as : (z : Numbers) (q : CommitRequest) (p : Sphere) (x : Occupant) → goes_on_with z q p ≡ Some x → (x.chunk.sphere ≡ q.sphere) × (x.thread ≡ q.thread)
+goes_on_as z q p x e =
+    let b = afresh-begins z q.sphere q.thread p x e in (ap (λ (y : Occupant). y.chunk.sphere) (sym b.is), ap (λ (y : Occupant). y.thread) (sym b.is))
+
+-- and good, in a world whose sphere is p
+goes_on_held : (u : World) (c : ℕ) (q : CommitRequest) (p : Sphere) (x : Occupant) → q.sphere < length u.spheres → 0 < u.numbers.s → sphere_at u q.sphere ≡ p → goes_on_with u.numbers q p ≡ Some x → IsGoodHeld u c x
+goes_on_held u c q p x within positive there e =
+    afresh-held u q.sphere q.thread c p x within positive there (afresh-begins u.numbers q.sphere q.thread p x e)
 
 granted_good : (w : World) (c : ℕ) (h : Occupant) (q : CommitRequest) (writes : Signature) (v : MovedSphere) → IsGood w → Grants w c h q writes v → IsGood (world_with w c q writes v)
 granted_good w c h q writes v good g =
     let flew = grant_flew w c h q writes v good g in
     let f = request_flight w c q writes v in
     let u = world_with w c q writes v in
-    let o = held_afresh w.numbers q.sphere q.thread v.sphere in
+    let o = goes_on_with w.numbers q v.sphere in
     let count = length-set w.spheres q.sphere v.sphere in
     let there : sphere_at u q.sphere ≡ v.sphere = sphere-same w.spheres q.sphere v.sphere g.within in
     record {
@@ -103,7 +116,7 @@ granted_good w c h q writes v good g =
       ]);
       held = λ d x e. elim (set-cases w.cores c d o x e) [
         | inl p ↦ subst (λ (n : ℕ). IsGoodHeld u n x) (sym p.0)
-            (afresh-held u q.sphere q.thread c v.sphere x (subst (λ (n : ℕ). q.sphere < n) (sym count) g.within) good.standard there (afresh-begins w.numbers q.sphere q.thread v.sphere x p.1))
+            (goes_on_held u c q v.sphere x (subst (λ (n : ℕ). q.sphere < n) (sym count) g.within) good.standard there p.1)
         | inr p ↦ elim (cases_eq x.chunk.sphere q.sphere) [
           | inl same ↦ landed-held w q.sphere v.sphere f u.slots u.cores v.devices d x same (granted_lands w c d h x q writes v good g p.0 p.1 same) (good.held d x p.1)
           | inr ne ↦ elsewhere-held w q.sphere v.sphere f u.slots u.cores v.devices d x ne flew (good.held d x p.1)
@@ -111,8 +124,8 @@ granted_good w c h q writes v good g =
       ];
       alone = alone-set w.cores c o good.alone
           (λ y e d x ne there sphere thread.
-          let b = afresh-begins w.numbers q.sphere q.thread v.sphere y e in
-          other_thread w c d h x q writes v good g ne there (sym sphere ∙ ap (λ (z : Occupant). z.chunk.sphere) (sym b.is)) (sym thread ∙ ap (λ (z : Occupant). z.thread) (sym b.is)));
+          let b = goes_on_as w.numbers q v.sphere y e in
+          other_thread w c d h x q writes v good g ne there (sym sphere ∙ b.0) (sym thread ∙ b.1));
     }
 
 granted_sizes : (w : World) (c : ℕ) (h : Occupant) (q : CommitRequest) (writes : Signature) (v : MovedSphere) → IsGood w → Grants w c h q writes v → SameSizes w (world_with w c q writes v)
@@ -120,13 +133,13 @@ granted_sizes w c h q writes v good g =
     record {
       numbers = refl;
       spheres = length-set w.spheres q.sphere v.sphere;
-      cores = length-set w.cores c (held_afresh w.numbers q.sphere q.thread v.sphere);
+      cores = length-set w.cores c (goes_on_with w.numbers q v.sphere);
       slots = (grant_flew w c h q writes v good g).size;
     }
 
 granted_whole : (w : World) (c : ℕ) (h : Occupant) (q : CommitRequest) (writes : Signature) (v : MovedSphere) → IsGood w → Grants w c h q writes v → shown_of (world_with w c q writes v) ≡ do_move w.numbers (shown_of w) (move_at (moment w) q)
 granted_whole w c h q writes v good g =
-    moved-shown w q.sphere v (request_flight w c q writes v) (flown q.sphere v.words writes (2 ^ c) w.slots) (set w.cores c (held_afresh w.numbers q.sphere q.thread v.sphere)) g.moves.keeps.memory refl (grant_flew w c h q writes v good g)
+    moved-shown w q.sphere v (request_flight w c q writes v) (flown q.sphere v.words writes (2 ^ c) w.slots) (set w.cores c (goes_on_with w.numbers q v.sphere)) g.moves.keeps.memory refl (grant_flew w c h q writes v good g)
     ∙ sym g.whole
 
 -- ---- a divergence, which stops the sphere
@@ -150,7 +163,18 @@ pub record Stops (w : World) (i : ℕ) (p : Sphere) : Type 0 where
   pub memory : p.memory ≡ (sphere_at w i).memory
   pub threads : p.threads ≡ (sphere_at w i).threads
   pub halving : halves p.role ≡ halves (sphere_at w i).role
+  pub replaying : replays p.role ≡ replays (sphere_at w i).role
   pub stopped : is_stopped p.role ≡ true
+
+stops_keep : (w : World) (i : ℕ) (p : Sphere) (k : ℕ) → Stops w i p → KeepsThread w.numbers.s (sphere_at w i) p k
+stops_keep w i p k s =
+    record {
+      threads = λ t e. ap (λ (ts : List Parts). slice_get ts k) s.threads ∙ e;
+      halving = s.halving;
+      replaying = s.replaying;
+      going = λ e. absurd (true≢false (sym s.stopped ∙ e));
+      limits = λ e t. absurd (true≢false (sym s.stopped ∙ e));
+    }
 
 stopped_here : (w : World) (p : Sphere) (c : ℕ) (x : Occupant) → Stops w x.chunk.sphere p → IsGoodHeld w c x → IsGoodHeld (with_sphere w x.chunk.sphere p) c x
 stopped_here w p c x s good =
@@ -159,10 +183,7 @@ stopped_here w p c x s good =
     let there : sphere_at v i ≡ p = sphere-same w.spheres i p s.within in
     record {
       sphere = subst (λ (n : ℕ). i < n) (sym (length-set w.spheres i p)) good.sphere;
-      start = ap (λ (q : Sphere). slice_get q.threads x.thread) there ∙ ap (λ (ts : List Parts). slice_get ts x.thread) s.threads ∙ good.start;
-      lives = good.lives;
-      halving = good.halving ∙ sym s.halving ∙ ap (λ (q : Sphere). halves q.role) (sym there);
-      limit = λ going. absurd (true≢false (sym s.stopped ∙ ap (λ (q : Sphere). is_stopped q.role) (sym there) ∙ going));
+      thread = subst (λ (q : Sphere). IsOfThread w.numbers.s q x.thread x.chunk) (sym there) (thread-stays w.numbers.s (sphere_at w i) p x.thread x.chunk (stops_keep w i p x.thread s) good.thread);
       chunk = subst (λ (m : List ℕ). IsGoodChunk w.numbers.capacity w.numbers.bits w.slots c m x.chunk)
           (ap (λ (m : List ℕ). lays m (flying i w.slots)) (sym s.memory) ∙ ap (λ (q : Sphere). lays q.memory (flying i w.slots)) (sym there)) good.chunk;
     }
@@ -216,7 +237,7 @@ granted-preserved w c h q writes v (Diverged i why) is good g =
     let d : Divergence w.devices (sphere_at w q.sphere) v (Diverged i why) = subst (Divergence w.devices (sphere_at w q.sphere) v) is g.moves.divergence in
     record {
       good = stopped-good w q.sphere v.sphere good
-          (record { within = g.within; memory = g.moves.keeps.memory; threads = d.2; halving = g.moves.keeps.halving; stopped = d.3 });
+          (record { within = g.within; memory = g.moves.keeps.memory; threads = d.2; halving = g.moves.keeps.halving; replaying = g.moves.keeps.replaying; stopped = d.3 });
       sizes = record { numbers = refl; spheres = length-set w.spheres q.sphere v.sphere; cores = refl; slots = refl };
       point = point-other w.numbers (replays (sphere_at w q.sphere).role) (move_at (moment w) q) _
           (λ live. let e : Granted ≡ Diverged i why = sym (g.lives live) ∙ is in cc) tt;

@@ -1,6 +1,6 @@
 -- A commit moves one sphere: its words land on the current memory, every chunk that goes on stays current, and the world
 -- shows what the commit, done whole, gives.
-use Rattle.std.proofs.Common.{◌≡◌, ◌≢◌, ℕ, ◌<◌, ◌≤◌, inl, inr, Bool, true, false, cond, List, [], ◌∷◌, length, Option, Some, None, refl, sym, ap, ◌∙◌, subst, arith, set}
+use Rattle.std.proofs.Common.{◌≡◌, ◌≢◌, ℕ, ◌<◌, inl, inr, Bool, true, false, cond, List, [], ◌∷◌, length, Option, Some, None, refl, sym, ap, ◌∙◌, subst, arith, set}
 use Rattle.std.specs.Prelude.{slice_get}
 use Rattle.std.proofs.Math.ListN.{length-set}
 use Rattle.std.proofs.lemmas.Bool.{true≢false, false_from_ne_true}
@@ -14,27 +14,27 @@ use Rattle.spec_engine.specs.Flights.{Flight, told_at}
 use Rattle.spec_engine.specs.Chunks.{Chunk, fresh}
 use Rattle.spec_engine.specs.Laws.{CoversWords}
 use Rattle.spec_engine.proofs.Marking.{covers_hit}
-use Rattle.spec_protocol.specs.Spheres.{Role, Plain, Record, Replay, Sphere, is_stopped, limit_of, halves}
-use Rattle.spec_protocol.specs.Placing.{replays}
+use Rattle.spec_protocol.specs.Spheres.{Role, Plain, Record, Replay, Sphere, limit_of, halves}
 use Rattle.spec_protocol.specs.Commits.{MovedSphere}
 use Rattle.spec_protocol.specs.World.{Numbers, Occupant, World, sphere_at, thread_afresh, held_afresh}
 use Rattle.spec_protocol.specs.Serial.{do_moved}
 use Rattle.spec_protocol.specs.Shown.{flying, shown, shown_from, shown_of}
-use Rattle.spec_protocol.proofs.Memory.Laying.{Agree-unseen, Unseen}
+use Rattle.spec_protocol.proofs.Memory.Laying.{Agree-lays, Agree-unseen, Unseen}
 use Rattle.spec_protocol.proofs.Memory.Slots.{Flew}
 use Rattle.spec_protocol.proofs.Memory.Running.{Live_local}
 use Rattle.spec_protocol.proofs.Moves.AnyMemory.{relaid}
 use Rattle.spec_protocol.proofs.Invariants.Preserved.{sphere-same, sphere-other, shown-set}
-use Rattle.spec_protocol.proofs.Invariants.Flights.{held-beside, begun-good}
+use Rattle.spec_protocol.proofs.Invariants.Flights.{begun-good}
+use Rattle.spec_protocol.proofs.Invariants.Held.{KeepsThread, thread-stays, held-beside}
 use Rattle.spec_protocol.specs.Currency.{seen_by}
-use Rattle.spec_protocol.specs.Invariants.{IsFlightCovered, IsGoodChunk, current, IsGoodHeld}
+use Rattle.spec_protocol.specs.Invariants.{IsFlightCovered, IsGoodChunk, current, IsOfThread, IsGoodHeld}
 
 -- ---- a chunk at its beginning
 
 pub limit-positive : (s : ℕ) (role : Role) (k : ℕ) (t : Parts) → 0 < s → 0 < limit_of s role k t
 unfolding limit_of
 limit-positive s Plain k t positive = positive
-limit-positive s (Record log) k t positive = positive
+limit-positive s (Record recording) k t positive = positive
 limit-positive s (Replay b) k t positive = omega arith
 
 -- a chunk that begins is good
@@ -70,12 +70,8 @@ afresh-held v i k c p h within positive there b =
     subst (IsGoodHeld v c) b.is
     (record {
       sphere = within;
-      start = ap (λ (q : Sphere). slice_get q.threads k) there ∙ b.start;
-      lives = b.lives;
-      halving = ap (λ (q : Sphere). halves q.role) (sym there);
-      limit = λ going.
-          let e : limit_of v.numbers.s p.role k t ≡ limit_of v.numbers.s (sphere_at v i).role k t = ap (λ (q : Sphere). limit_of v.numbers.s q.role k t) (sym there) in
-          record { most = omega (arith, e); replayed = λ r. e };
+      thread = subst (λ (q : Sphere). IsOfThread v.numbers.s q k (afresh v.numbers i k p t).chunk) (sym there)
+          (record { start = b.start; lives = b.lives; halving = refl; limit = λ going. record { most = omega arith; replayed = λ r. refl } });
       chunk = fresh-good v.numbers.capacity v.numbers.bits v.slots c (current v i) i t (limit_of v.numbers.s p.role k t) (halves p.role) (limit-positive v.numbers.s p.role k t positive);
     })
 
@@ -94,9 +90,10 @@ unhit-unseen i g ch (w ∷ ws) same size c e = (
   unhit-unseen i g ch ws same size c.1 e,
 )
 
-landed_chunk : (capacity bits : ℕ) (xs ys : List (Option Flight)) (d : ℕ) (m : List ℕ) (ch : Chunk) (f : Flight) → Flew ch.sphere f xs ys → f.sphere ≡ ch.sphere → IsFlightCovered bits f → told_at f.told d ≡ false → IsGoodChunk capacity bits xs d m ch
-    → IsGoodChunk capacity bits ys d (lays m f.words) ch
-landed_chunk capacity bits xs ys d m ch f flew same cov untold good =
+-- a chunk of the flight's sphere, over whatever words, stays good where the flight's words land
+landed_chunk : (capacity bits : ℕ) (xs ys : List (Option Flight)) (d : ℕ) (m : List ℕ) (ws : List Stored) (ch : Chunk) (f : Flight) → Flew ch.sphere f xs ys → f.sphere ≡ ch.sphere → IsFlightCovered bits f → told_at f.told d ≡ false → IsGoodChunk capacity bits xs d (lays m ws) ch
+    → IsGoodChunk capacity bits ys d (lays (lays m f.words) ws) ch
+landed_chunk capacity bits xs ys d m ws ch f flew same cov untold good =
     record {
       reads_size = good.reads_size;
       writes_size = good.writes_size;
@@ -110,7 +107,7 @@ landed_chunk capacity bits xs ys d m ch f flew same cov untold good =
             | inr at_k ↦ unhit-unseen f.sphere f.writes ch f.words (sym same) (good.reads_size ∙ sym cov.size) cov.words (quiet.misses at_k.0 f at_k.1 same untold)
           ]
           in
-          Live_local m (lays m f.words) ch (Agree-unseen (seen_by ch) m f.words unseen)
+          Live_local (lays m ws) (lays (lays m f.words) ws) ch (Agree-lays (seen_by ch) m (lays m f.words) ws (Agree-unseen (seen_by ch) m f.words unseen))
           (good.live (record { misses = λ k g there gs gu. quiet.misses k g (flew.stays k g there) gs gu }));
     }
 
@@ -122,11 +119,7 @@ pub record Lands (w : World) (i : ℕ) (q : Sphere) (f : Flight) (ys : List (Opt
   pub covered : IsFlightCovered w.numbers.bits f
   pub untold : told_at f.told d ≡ false
   pub memory : q.memory ≡ (sphere_at w i).memory
-  pub going : is_stopped (sphere_at w i).role ≡ false
-  pub threads : slice_get (sphere_at w i).threads x.thread ≡ Some x.chunk.start → slice_get q.threads x.thread ≡ Some x.chunk.start
-  pub halving : halves q.role ≡ halves (sphere_at w i).role
-  pub replaying : replays q.role ≡ replays (sphere_at w i).role
-  pub limits : is_stopped q.role ≡ false → limit_of w.numbers.s q.role x.thread x.chunk.start ≡ limit_of w.numbers.s (sphere_at w i).role x.thread x.chunk.start
+  pub keeps : KeepsThread w.numbers.s (sphere_at w i) q x.thread
 
 landed_here : (w : World) (q : Sphere) (f : Flight) (ys : List (Option Flight)) (cores : List (Option Occupant)) (devices : Devices) (d : ℕ) (x : Occupant) → Lands w x.chunk.sphere q f ys d x → IsGoodHeld w d x
     → IsGoodHeld (moved_world w x.chunk.sphere q ys cores devices) d x
@@ -137,23 +130,11 @@ landed_here w q f ys cores devices d x l good =
     let memory : lays (lays (sphere_at w i).memory (flying i w.slots)) f.words ≡ current v i =
     sym (l.flew.lands (sphere_at w i).memory) ∙ ap (λ (m : List ℕ). lays m (flying i ys)) (sym l.memory) ∙ ap (λ (p : Sphere). lays p.memory (flying i ys)) (sym there)
     in
-    let limits : is_stopped q.role ≡ false → limit_of w.numbers.s (sphere_at v i).role x.thread x.chunk.start ≡ limit_of w.numbers.s (sphere_at w i).role x.thread x.chunk.start =
-    (λ going. ap (λ (p : Sphere). limit_of w.numbers.s p.role x.thread x.chunk.start) there ∙ l.limits going)
-    in
     record {
       sphere = subst (λ (n : ℕ). i < n) (sym (length-set w.spheres i q)) good.sphere;
-      start = ap (λ (p : Sphere). slice_get p.threads x.thread) there ∙ l.threads good.start;
-      lives = good.lives;
-      halving = good.halving ∙ sym l.halving ∙ ap (λ (p : Sphere). halves p.role) (sym there);
-      limit = λ going.
-          let g : is_stopped q.role ≡ false = ap (λ (p : Sphere). is_stopped p.role) (sym there) ∙ going in
-          let fit = good.limit l.going in
-          record {
-            most = subst (λ (n : ℕ). x.chunk.limit ≤ n) (sym (limits g)) fit.most;
-            replayed = λ r. fit.replayed (sym l.replaying ∙ ap (λ (p : Sphere). replays p.role) (sym there) ∙ r) ∙ sym (limits g);
-          };
+      thread = subst (λ (p : Sphere). IsOfThread w.numbers.s p x.thread x.chunk) (sym there) (thread-stays w.numbers.s (sphere_at w i) q x.thread x.chunk l.keeps good.thread);
       chunk = subst (λ (m : List ℕ). IsGoodChunk w.numbers.capacity w.numbers.bits ys d m x.chunk) memory
-          (landed_chunk w.numbers.capacity w.numbers.bits w.slots ys d (current w i) x.chunk f l.flew l.sphere l.covered l.untold good.chunk);
+          (landed_chunk w.numbers.capacity w.numbers.bits w.slots ys d (current w i) [] x.chunk f l.flew l.sphere l.covered l.untold good.chunk);
     }
 
 -- what a core holds of the moved sphere stays good, where the words land as they should
@@ -175,7 +156,7 @@ elsewhere-held w i q f ys cores devices d x ne flew good =
       threads = ap (λ (p : Sphere). p.threads) there;
       role = ap (λ (p : Sphere). p.role) there;
       memory = (λ j. lays (there j).memory (flew.others x.chunk.sphere ne j));
-      quiet = λ quiet. record { misses = λ k g at_k gs gu. quiet.misses k g (flew.stays k g at_k) gs gu };
+      quiet = λ reads quiet. record { misses = λ k g at_k gs gu. quiet.misses k g (flew.stays k g at_k) gs gu };
     })
     good
 

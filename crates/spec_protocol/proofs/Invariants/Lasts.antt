@@ -42,7 +42,7 @@ replayed_last false b k r devices p last = verdict_last b k (chunk_verdict b.log
 
 chunk_last : (role : Role) (k : ℕ) (piece short : Bool) (r : Run) (devices : Devices) (p : Sphere) → IsOfCommits p.progress → IsOfCommits (chunk_in role k piece short r devices p).sphere.progress
 chunk_last Plain k piece short r devices p last = last-effect k (chunk_effect k p.progress.request r) p.progress refl
-chunk_last (Record log) k piece short r devices p last = last-effect k (chunk_effect k p.progress.request r) p.progress refl
+chunk_last (Record recording) k piece short r devices p last = last-effect k (chunk_effect k p.progress.request r) p.progress refl
 chunk_last (Replay b) k piece short r devices p last = replayed_last piece b k r devices p last
 
 -- what the devices' answer leaves of a serial step
@@ -52,7 +52,7 @@ served_effect k moment t devices p =
 
 serial_last : (role : Role) (k moment : ℕ) (t : Parts) (devices : Devices) (p : Sphere) → IsOfCommits p.progress → IsOfCommits (serial_in role k moment t devices p).sphere.progress
 serial_last Plain k moment t devices p last = last-effect k (served_effect k moment t devices p) p.progress refl
-serial_last (Record log) k moment t devices p last = last-effect k (served_effect k moment t devices p) p.progress refl
+serial_last (Record recording) k moment t devices p last = last-effect k (served_effect k moment t devices p) p.progress refl
 serial_last (Replay b) k moment t devices p last = verdict_last b k (serial_verdict b.log p.progress b.used k p.threads t p.memory) devices p (serial-of b.log p.progress b.used k p.threads t p.memory) last
 
 -- after a DMA, if there is one
@@ -70,7 +70,7 @@ dma_verdict_last b (DmaFails why) devices p last = last
 
 dma_last : (role : Role) (devices : Devices) (p : Sphere) → IsOfCommits p.progress → LastIf (dma_in role devices p)
 dma_last Plain devices p last = live_last Plain devices p p.progress.request last
-dma_last (Record log) devices p last = live_last (Record (dma_log log devices p p.progress.request)) devices p p.progress.request last
+dma_last (Record recording) devices p last = live_last (Record (record recording { log = dma_log recording.log devices p p.progress.request })) devices p p.progress.request last
 dma_last (Replay b) devices p last = dma_verdict_last b (dma_verdict b.log p.progress b.used) devices p last
 
 -- ---- all spheres

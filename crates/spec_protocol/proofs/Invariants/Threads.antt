@@ -1,5 +1,5 @@
 -- The events of threads keep the invariant: Place and Raise.
-use Rattle.std.proofs.Common.{◌≡◌, ◌≢◌, ℕ, ◌<◌, ◌≤◌, inl, inr, true, false, not, eqb, List, [], length, Option, Some, None, refl, sym, ap, ◌∙◌, subst}
+use Rattle.std.proofs.Common.{◌≡◌, ◌≢◌, ℕ, ◌<◌, inl, inr, true, false, not, eqb, List, [], length, Option, Some, None, refl, sym, ap, ◌∙◌, subst}
 use Rattle.std.specs.Prelude.{slice_get}
 use Rattle.std.proofs.Math.ListN.{length-set}
 use Rattle.std.proofs.lemmas.Bool.{true≢false, and_parts, and_from, eqb-true, eq-eqb, cases_eq, cases_lt}
@@ -26,7 +26,8 @@ use Rattle.spec_protocol.proofs.Invariants.Cores.{set-cases, alone-set, held_the
 use Rattle.spec_protocol.proofs.Invariants.Landing.{afresh-begins, afresh-held, elsewhere-held}
 use Rattle.spec_protocol.proofs.Invariants.Granting.{unflown}
 use Rattle.spec_protocol.proofs.Invariants.Asks.{shown_at, shown_over}
-use Rattle.spec_protocol.specs.Invariants.{IsGoodChunk, current, IsGoodHeld, IsGood}
+use Rattle.spec_protocol.proofs.Invariants.Held.{KeepsThread, thread-stays}
+use Rattle.spec_protocol.specs.Invariants.{IsGoodChunk, current, IsOfThread, IsGoodHeld, IsGood}
 
 -- a sphere with a thread is one of the spheres
 inside : (w : World) (i k : ℕ) (t : Parts) → slice_get (sphere_at w i).threads k ≡ Some t → i < length w.spheres
@@ -64,7 +65,7 @@ place-preserved w c i k good =
 raised_role : (k n value : ℕ) (role : Role) → (halves (role_raised k n value role) ≡ halves role) × (replays (role_raised k n value role) ≡ replays role) × ((s j : ℕ) (u : Parts) → limit_of s (role_raised k n value role) j u ≡ limit_of s role j u) × (is_stopped (role_raised k n value role) ≡ is_stopped role)
 unfolding limit_of
 raised_role k n value Plain = (refl, refl, λ s j u. refl, refl)
-raised_role k n value (Record log) = (refl, refl, λ s j u. refl, refl)
+raised_role k n value (Record recording) = (refl, refl, λ s j u. refl, refl)
 raised_role k n value (Replay b) = (refl, refl, λ s j u. refl, refl)
 
 raised_here : (w : World) (k value : ℕ) (t : Parts) (d : ℕ) (x : Occupant) → x.chunk.sphere < length w.spheres → x.thread ≢ k → IsGoodHeld w d x → IsGoodHeld (with_sphere w x.chunk.sphere (raised k value t (sphere_at w x.chunk.sphere))) d x
@@ -76,20 +77,17 @@ raised_here w k value t d x within ne good =
     let v = with_sphere w i q in
     let there : sphere_at v i ≡ q = sphere-same w.spheres i q within in
     let r = raised_role k t.commits value p.role in
-    let limits : limit_of w.numbers.s (sphere_at v i).role x.thread x.chunk.start ≡ limit_of w.numbers.s p.role x.thread x.chunk.start =
-    ap (λ (y : Sphere). limit_of w.numbers.s y.role x.thread x.chunk.start) there ∙ r.2 w.numbers.s x.thread x.chunk.start
+    let keeps : KeepsThread w.numbers.s p q x.thread = record {
+      threads = λ u e. get-set_other p.threads k x.thread (interrupted value t) ne ∙ e;
+      halving = r.0;
+      replaying = r.1;
+      going = λ e. sym r.3 ∙ e;
+      limits = λ e u. r.2 w.numbers.s x.thread u;
+    }
     in
     record {
       sphere = subst (λ (n : ℕ). i < n) (sym (length-set w.spheres i q)) good.sphere;
-      start = ap (λ (y : Sphere). slice_get y.threads x.thread) there ∙ get-set_other p.threads k x.thread (interrupted value t) ne ∙ good.start;
-      lives = good.lives;
-      halving = good.halving ∙ sym r.0 ∙ ap (λ (y : Sphere). halves y.role) (sym there);
-      limit = λ going.
-          let fit = good.limit (sym r.3 ∙ ap (λ (y : Sphere). is_stopped y.role) (sym there) ∙ going) in
-          record {
-            most = subst (λ (n : ℕ). x.chunk.limit ≤ n) (sym limits) fit.most;
-            replayed = λ h. fit.replayed (sym r.1 ∙ ap (λ (y : Sphere). replays y.role) (sym there) ∙ h) ∙ sym limits;
-          };
+      thread = subst (λ (y : Sphere). IsOfThread w.numbers.s y x.thread x.chunk) (sym there) (thread-stays w.numbers.s p q x.thread x.chunk keeps good.thread);
       chunk = subst (λ (m : List ℕ). IsGoodChunk w.numbers.capacity w.numbers.bits w.slots d m x.chunk) (ap (λ (y : Sphere). lays y.memory (flying i w.slots)) (sym there)) good.chunk;
     }
 

@@ -3,6 +3,7 @@ use Rattle.std.proofs.Common.{◌≡◌, ℕ, ◌<◌, inl, inr, false, List, le
 use Rattle.std.specs.Prelude.{slice_get, option_map, IsSome}
 use Rattle.std.proofs.Math.ListN.{length-set}
 use Rattle.std.proofs.lemmas.Bool.{or_parts, cases_eq}
+use Rattle.dl_entry.specs.declared.Actor.{Actor}
 use Rattle.dl_entry.specs.declared.Why.{Why}
 use Rattle.spec_isa.specs.declared.thread.Parts.{Parts}
 use Rattle.spec_isa.specs.Words.{Apart}
@@ -27,7 +28,7 @@ use Rattle.spec_protocol.proofs.Invariants.Preserved.{Preserved, point-made, poi
 use Rattle.spec_protocol.proofs.Moves.AnyEvent.{Transfers, any-transfer}
 use Rattle.spec_protocol.proofs.Invariants.Landing.{landed-held, elsewhere-held, moved-shown}
 use Rattle.spec_protocol.proofs.Invariants.Granting.{stopped-good, stopped-shown}
-use Rattle.spec_protocol.proofs.Invariants.Asks.{shown_at, shown_over}
+use Rattle.spec_protocol.proofs.Invariants.Asks.{shown_at, shown_over, turn_over}
 use Rattle.spec_protocol.specs.Currency.{AllLack}
 use Rattle.spec_protocol.specs.Invariants.{IsFlightCovered, current, IsGood}
 
@@ -71,7 +72,7 @@ dma_fits : (w : World) (i : ℕ) (v : MovedSphere) → Transfers w i v → Fits 
 dma_fits w i v t =
     let m = current w i in
     subst (FitsAt w.numbers w.devices (dma_move w i)) (sym (shown_at w i t.within ∙ ap Some (shown_over w i)))
-    (record { going = t.going; turn = t.turn; moves = subst IsSome (sym (dma-relaid w.devices (sphere_at w i) m ∙ ap (option_map (relaid m)) t.is)) refl })
+    (record { going = t.going; turn = turn_over (sphere_at w i) Actor.Dma m ∙ t.turn; moves = subst IsSome (sym (dma-relaid w.devices (sphere_at w i) m ∙ ap (option_map (relaid m)) t.is)) refl })
 
 -- ---- the event
 
@@ -106,11 +107,13 @@ done_good w i v good t free none =
               covered = dma_covered w i v;
               untold = told-zero d;
               memory = moves.memory;
-              going = t.going;
-              threads = λ h. ap (λ (ts : List Parts). slice_get ts x.thread) moves.threads ∙ h;
-              halving = moves.halving;
-              replaying = moves.replaying;
-              limits = moves.limits w.numbers.s x.thread x.chunk.start;
+              keeps = record {
+                threads = λ u h. ap (λ (ts : List Parts). slice_get ts x.thread) moves.threads ∙ h;
+                halving = moves.halving;
+                replaying = moves.replaying;
+                going = λ h. t.going;
+                limits = λ h u. moves.limits w.numbers.s x.thread u h;
+              };
             })
             (good.held d x e)
         | inr ne ↦ elsewhere-held w i v.sphere f u.slots w.cores v.devices d x ne flew (good.held d x e)
@@ -135,7 +138,7 @@ diverged_preserved w i v j why good t is =
     let moves = moves_of w i v t in
     let d : Divergence w.devices (sphere_at w i) v (Diverged j why) = subst (Divergence w.devices (sphere_at w i) v) is moves.divergence in
     record {
-      good = stopped-good w i v.sphere good (record { within = t.within; memory = moves.memory; threads = d.2; halving = moves.halving; stopped = d.3 });
+      good = stopped-good w i v.sphere good (record { within = t.within; memory = moves.memory; threads = d.2; halving = moves.halving; replaying = moves.replaying; stopped = d.3 });
       sizes = record { numbers = refl; spheres = length-set w.spheres i v.sphere; cores = refl; slots = refl };
       point = point-other w.numbers (replays (sphere_at w i).role) (dma_move w i) _
           (λ live. let e : Granted ≡ Diverged j why = sym (dma-lives w.devices (sphere_at w i) v live t.is) ∙ is in cc) tt;

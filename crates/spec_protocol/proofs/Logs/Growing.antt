@@ -21,6 +21,7 @@ use Rattle.spec_log.specs.Noting.{order_with}
 use Rattle.spec_play.specs.Recording.{noted, input_noted}
 use Rattle.spec_protocol.specs.Spheres.{Sphere}
 pub use Rattle.spec_protocol.specs.Sound.{commits_if, commits_in}
+pub use Rattle.spec_protocol.specs.Standing.{OrderStands, SizesStand, Stands}
 use Rattle.spec_protocol.proofs.Logs.Inserting.{with_short, with_size}
 use Rattle.spec_protocol.proofs.Moves.Granted.{get-set_other, get-set_same, get-append}
 use Rattle.spec_protocol.proofs.Moves.Threads.{IsNew, AreNew}
@@ -47,31 +48,6 @@ pub commits-same : (ts spawned : List Parts) (k : ℕ) (t u : Parts) → slice_g
 commits-same ts spawned k t u is = ap commits_if (get-append (set ts k u) spawned k u (get-set_same ts k u t is))
 
 -- ---- what stands
-
--- the order has as many actors as there were commits, and each thread as often as it committed
-abbrev pub OrderStands : ModeName → List Actor → (n : ℕ) → List Parts → Type 0
-OrderStands ModeName.OrderSize order n ts = (length order ≡ n) × ((k : ℕ) → count_of k order ≡ commits_in ts k)
-OrderStands ModeName.OrderOnly order n ts = (length order ≡ n) × ((k : ℕ) → count_of k order ≡ commits_in ts k)
-OrderStands ModeName.Picolog order n ts = Unit {0}
-
--- the sizes are those of the commits so far: all of them, or none past a thread's last
-abbrev pub SizesStand : ModeName → Sizes → (n : ℕ) → List Parts → Type 0
-SizesStand ModeName.OrderSize (Sizes.Each xs) n ts = length xs ≡ n
-SizesStand ModeName.OrderSize (Sizes.Short xs) n ts = ⊥
-SizesStand ModeName.OrderOnly (Sizes.Each xs) n ts = ⊥
-SizesStand ModeName.OrderOnly (Sizes.Short xs) n ts = (k i : ℕ) → commits_in ts k ≤ i → short_at xs k i ≡ None
-SizesStand ModeName.Picolog (Sizes.Each xs) n ts = ⊥
-SizesStand ModeName.Picolog (Sizes.Short xs) n ts = (k i : ℕ) → commits_in ts k ≤ i → short_at xs k i ≡ None
-
--- the log has what was done so far, and nothing more
-pub record Stands (p : Sphere) (log : LogParts) : Type 0 where
-  pub count : log.count ≡ position p.progress
-  pub order : OrderStands log.mode log.order (position p.progress) p.threads
-  pub sizes : SizesStand log.mode log.sizes (position p.progress) p.threads
-  pub past : (k i : ℕ) → commits_in p.threads k < i → interrupt_at log.interrupts k i ≡ None
-  pub absent : (k i : ℕ) → slice_get p.threads k ≡ None → interrupt_at log.interrupts k i ≡ None
-  pub unmasked : (k : ℕ) (t : Parts) → slice_get p.threads k ≡ Some t → t.mask ≡ false → interrupt_at log.interrupts k t.commits ≡ None
-  pub dmas : DmasBelow (position p.progress) log.dmas
 
 -- the first sizes have those of the second as their past
 abbrev pub SizesAhead : Sizes → Sizes → List Parts → Type 0

@@ -12,13 +12,10 @@ use Rattle.spec_log.specs.Size.{is_thread, sizes_of_thread}
 use Rattle.spec_log.specs.Head.{is_dma_at}
 use Rattle.spec_play.specs.Verdicts.{interrupt_at}
 use Rattle.spec_log.specs.Noting.{insert_interrupt}
+pub use Rattle.spec_protocol.specs.Standing.{short_at, count_of, DmasBelow}
 use Rattle.spec_protocol.proofs.Logs.Inserting.{with_short, find-inserted_other, find-inserted, length-inserted}
 
 -- ---- by thread and commits
-
--- the size that is kept of a thread's commit, if it was short
-abbrev pub short_at : List ShortSize → (thread index : ℕ) → Option ℕ
-short_at sizes k i = option_map (λ (s : ShortSize). s.size) (find (λ (s : ShortSize). eqb s.thread k && eqb s.index i) sizes)
 
 -- a short size that is put in place leaves what is found of every other commit
 pub short-other : (sizes : List ShortSize) (k i n l j : ℕ) → (k ≡ l → i ≡ j → ⊥) → short_at (with_short k i n sizes) l j ≡ short_at sizes l j
@@ -61,11 +58,6 @@ length-raised is k i v none =
 
 -- ---- the size of each commit
 
--- how many of the actors are the thread
-abbrev pub count_of : (thread : ℕ) → List Actor → ℕ
-count_of k [] = 0
-count_of k (a ∷ acts) = cond (is_thread k a) (suc (count_of k acts)) (count_of k acts)
-
 count_cond : (k : ℕ) (b : Bool) (acts bs : List Actor) (n : ℕ) → count_of k (acts ++ bs) ≡ count_of k acts + count_of k bs → cond b (suc (count_of k (acts ++ bs))) (count_of k (acts ++ bs)) ≡ cond b (suc (count_of k acts)) (count_of k acts) + count_of k bs
 count_cond k true acts bs n e = omega (arith, e)
 count_cond k false acts bs n e = e
@@ -100,11 +92,6 @@ get-behind (y ∷ xs) x ys zero e = absurd (omega arith)
 get-behind (y ∷ xs) x ys (suc n) e = get-behind xs x ys n (omega arith)
 
 -- ---- positions
-
--- every DMA is of a commit before the one with number n
-abbrev pub DmasBelow : (n : ℕ) → List DmaRecord → Type 0
-DmasBelow n [] = Unit {0}
-DmasBelow n (d ∷ ds) = (d.position < n) × DmasBelow n ds
 
 -- every DMA is of the commit with number n or a later one
 abbrev pub DmasFrom : (n : ℕ) → List DmaRecord → Type 0

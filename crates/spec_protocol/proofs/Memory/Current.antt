@@ -4,7 +4,7 @@ use Rattle.std.specs.Prelude.{IsSome}
 use Rattle.std.proofs.lemmas.Bool.{true≢false, and_parts, cases_lt, false_from_ne_true}
 use Rattle.spec_isa.specs.declared.thread.Parts.{Parts}
 use Rattle.spec_isa.specs.declared.thread.Kind.{Kind}
-use Rattle.spec_isa.specs.Words.{lays}
+use Rattle.spec_isa.specs.Words.{Stored, lays}
 use Rattle.spec_isa.specs.Instruction.{InstructionOutcome, Next, Serial, one}
 use Rattle.spec_isa.specs.Runs.{Run, followed, more, run}
 use Rattle.spec_kernel.specs.Needs.{next_kind}
@@ -20,22 +20,18 @@ use Rattle.spec_protocol.proofs.Memory.Laying.{Agree, Agree-lays, Agree-unseen}
 use Rattle.spec_protocol.proofs.Memory.Running.{Touches_local, Touches_more, one_local, one_serial}
 use Rattle.spec_protocol.proofs.Memory.Covering.{clear, clear-lacks, unseen_from}
 use Rattle.spec_protocol.proofs.Memory.Steps.{SameBase, Looks, step-stays}
-use Rattle.spec_protocol.specs.Currency.{Touches, RunTouches, seen_by, StoresAnew, IsCurrent, IsQuiet}
+use Rattle.spec_protocol.specs.Currency.{Meets, Touches, RunTouches, seen_by, StoresAnew, IsCurrent, IsQuiet}
 use Rattle.spec_protocol.specs.Invariants.{AreCovered, IsGoodChunk}
 
 -- ---- a run that goes on
 
 make_live : (m : List ℕ) (dh : Chunk) (t : Parts) (r : Run) → dh.start ≡ t → dh.done ≡ r → run m t r.n ≡ r → RunTouches (seen_by dh) m t r.n
-    → (dh.closed ≡ Some How.Serial → Touches (seen_by dh) r.thread (lays m r.words)) → (dh.closed ≡ Some How.Serial → IsSome (next_kind r.thread (lays m r.words)))
-    → (dh.closed ≡ Some How.Overflow → Touches (seen_by dh) r.thread (lays m r.words)) → (dh.closed ≡ Some How.Overflow → StoresAnew r.thread (lays m r.words) r.words) → IsCurrent m dh
-make_live m dh t r start done runs touches next_ serial store anew =
+    → Meets (seen_by dh) m r dh.closed → IsCurrent m dh
+make_live m dh t r start done runs touches meets =
     record {
       runs = (λ i. run m (start i) (done i).n) ∙ runs ∙ sym done;
       touches = subst (λ (q : Run). RunTouches (seen_by dh) m dh.start q.n) (sym done) (subst (λ (u : Parts). RunTouches (seen_by dh) m u r.n) (sym start) touches);
-      next_touches = λ e. subst (λ (q : Run). Touches (seen_by dh) q.thread (lays m q.words)) (sym done) (next_ e);
-      next_serial = λ e. subst (λ (q : Run). IsSome (next_kind q.thread (lays m q.words))) (sym done) (serial e);
-      store_touches = λ e. subst (λ (q : Run). Touches (seen_by dh) q.thread (lays m q.words)) (sym done) (store e);
-      store_anew = λ e. subst (λ (q : Run). StoresAnew q.thread (lays m q.words) q.words) (sym done) (anew e);
+      next = subst (λ (q : Run). Meets (seen_by dh) m q dh.closed) (sym done) meets;
     }
 
 -- it is not closed before an instruction
@@ -46,11 +42,12 @@ EndsAfter (Some How.Serial) = ⊥
 EndsAfter (Some How.Overflow) = ⊥
 EndsAfter (Some How.Cut) = Unit {0}
 
-not_serial : (o : Option How) → EndsAfter o → o ≡ Some How.Serial → ⊥
-not_serial o after e = subst EndsAfter e after
-
-not_overflow : (o : Option How) → EndsAfter o → o ≡ Some How.Overflow → ⊥
-not_overflow o after e = subst EndsAfter e after
+meets_none : (seen : ℕ → Bool) (m : List ℕ) (r : Run) (o : Option How) → EndsAfter o → Meets seen m r o
+meets_none seen m r None after = tt
+meets_none seen m r (Some How.Limit) after = tt
+meets_none seen m r (Some How.Serial) after = absurd after
+meets_none seen m r (Some How.Overflow) after = absurd after
+meets_none seen m r (Some How.Cut) after = tt
 
 -- more reads cover what fewer did
 touches_on : (ch dh : Chunk) (m : List ℕ) → ((a : ℕ) → seen_by ch a ≡ true → seen_by dh a ≡ true) → RunTouches (seen_by ch) m ch.start ch.done.n → RunTouches (seen_by dh) m ch.start ch.done.n
@@ -70,40 +67,31 @@ last_touches seen m t r n runs last touches i l =
 live_followed : (m : List ℕ) (ch dh : Chunk) (o : InstructionOutcome) → IsCurrent m ch → dh.start ≡ ch.start → ((a : ℕ) → seen_by ch a ≡ true → seen_by dh a ≡ true) → EndsAfter dh.closed → one ch.done.thread (lays m ch.done.words) ≡ o
     → dh.done ≡ followed ch.done o → Touches (seen_by dh) ch.done.thread (lays m ch.done.words) → IsCurrent m dh
 live_followed m ch dh (Serial kind) live start more_ open_ is done touches =
-    make_live m dh ch.start ch.done start done live.runs (touches_on ch dh m more_ live.touches) (λ e. absurd (not_serial dh.closed open_ e)) (λ e. absurd (not_serial dh.closed open_ e)) (λ e. absurd (not_overflow dh.closed open_ e)) (λ e. absurd (not_overflow dh.closed open_ e))
+    make_live m dh ch.start ch.done start done live.runs (touches_on ch dh m more_ live.touches) (meets_none (seen_by dh) m ch.done dh.closed open_)
 live_followed m ch dh (Next u load store) live start more_ open_ is done touches =
     make_live m dh ch.start (followed ch.done (Next u load store)) start done
     (ap (more m) live.runs ∙ ap (followed ch.done) is)
     (last_touches (seen_by dh) m ch.start ch.done ch.done.n live.runs touches (touches_on ch dh m more_ live.touches))
-    (λ e. absurd (not_serial dh.closed open_ e))
-    (λ e. absurd (not_serial dh.closed open_ e))
-    (λ e. absurd (not_overflow dh.closed open_ e))
-    (λ e. absurd (not_overflow dh.closed open_ e))
+    (meets_none (seen_by dh) m (followed ch.done (Next u load store)) dh.closed open_)
 
 -- nothing was run, and the chunk is not closed for a serial instruction
 live_same : (m : List ℕ) (ch dh : Chunk) → IsCurrent m ch → dh.start ≡ ch.start → ((a : ℕ) → seen_by ch a ≡ true → seen_by dh a ≡ true) → EndsAfter dh.closed → dh.done ≡ ch.done → IsCurrent m dh
 live_same m ch dh live start more_ open_ done =
-    make_live m dh ch.start ch.done start done live.runs (touches_on ch dh m more_ live.touches) (λ e. absurd (not_serial dh.closed open_ e)) (λ e. absurd (not_serial dh.closed open_ e)) (λ e. absurd (not_overflow dh.closed open_ e)) (λ e. absurd (not_overflow dh.closed open_ e))
+    make_live m dh ch.start ch.done start done live.runs (touches_on ch dh m more_ live.touches) (meets_none (seen_by dh) m ch.done dh.closed open_)
 
 -- it met a serial instruction
 live_serial : (m : List ℕ) (ch dh : Chunk) (kind : Kind) → IsCurrent m ch → dh.start ≡ ch.start → ((a : ℕ) → seen_by ch a ≡ true → seen_by dh a ≡ true) → dh.closed ≡ Some How.Serial → dh.done ≡ ch.done → one ch.done.thread (lays m ch.done.words) ≡ Serial kind
     → Touches (seen_by dh) ch.done.thread (lays m ch.done.words) → IsCurrent m dh
 live_serial m ch dh kind live start more_ closed done is touches =
-    let other : dh.closed ≡ Some How.Overflow → ⊥ = (λ e. let k : Some How.Serial ≡ Some How.Overflow = sym closed ∙ e in cc) in
-    make_live m dh ch.start ch.done start done live.runs (touches_on ch dh m more_ live.touches) (λ e. touches) (λ e. subst IsSome (sym (one_serial _ _ kind is)) refl)
-    (λ e. absurd (other e))
-    (λ e. absurd (other e))
+    make_live m dh ch.start ch.done start done live.runs (touches_on ch dh m more_ live.touches)
+    (subst (Meets (seen_by dh) m ch.done) (sym closed) (record { touches = touches; serial = subst IsSome (sym (one_serial _ _ kind is)) refl }))
 
 -- it met a store that found no room
 live_overflow : (m : List ℕ) (ch dh : Chunk) → IsCurrent m ch → dh.start ≡ ch.start → ((a : ℕ) → seen_by ch a ≡ true → seen_by dh a ≡ true) → dh.closed ≡ Some How.Overflow → dh.done ≡ ch.done → StoresAnew ch.done.thread (lays m ch.done.words) ch.done.words
     → Touches (seen_by dh) ch.done.thread (lays m ch.done.words) → IsCurrent m dh
 live_overflow m ch dh live start more_ closed done anew touches =
-    let other : dh.closed ≡ Some How.Serial → ⊥ = (λ e. let k : Some How.Overflow ≡ Some How.Serial = sym closed ∙ e in cc) in
     make_live m dh ch.start ch.done start done live.runs (touches_on ch dh m more_ live.touches)
-    (λ e. absurd (other e))
-    (λ e. absurd (other e))
-    (λ e. touches)
-    (λ e. anew)
+    (subst (Meets (seen_by dh) m ch.done) (sym closed) (record { touches = touches; anew = anew }))
 
 -- ---- one step on a memory r, beside flights whose words lie over it in the current memory
 
@@ -147,12 +135,13 @@ quiet_less xs c ch dh same less q =
       misses = λ k f is e untold. false_from_ne_true (hits f.writes ch.reads) (λ h. true≢false (sym (less f.writes h) ∙ q.misses k f is (e ∙ sym same) untold));
     }
 
--- a step of an open chunk keeps it good over the current memory, and keeps what it began from
-pub step-good : (capacity bits : ℕ) (xs : List (Option Flight)) (c : ℕ) (r : List ℕ) (ch : Chunk) → AreCovered bits xs → ch.closed ≡ None → IsGoodChunk capacity bits xs c (lays r (flying ch.sphere xs)) ch
-    → let dh = (step capacity r xs c ch).chunk in IsGoodChunk capacity bits xs c (lays r (flying ch.sphere xs)) dh × SameBase ch dh
-step-good capacity bits xs c r ch cov open_ good =
-    let s = step capacity r xs c ch in
-    let st = step-stays capacity r xs c ch (record { open_ = open_; closes = good.closes; apart = good.apart; writes = good.writes; loads = good.loads }) in (
+-- a step of an open chunk, on a memory with these words laid over it, keeps it good over the current memory with the words
+-- laid over that, and keeps what it began from
+pub step-good : (capacity bits : ℕ) (xs : List (Option Flight)) (c : ℕ) (r : List ℕ) (ws : List Stored) (ch : Chunk) → AreCovered bits xs → ch.closed ≡ None → IsGoodChunk capacity bits xs c (lays (lays r (flying ch.sphere xs)) ws) ch
+    → let dh = (step capacity (lays r ws) xs c ch).chunk in IsGoodChunk capacity bits xs c (lays (lays r (flying ch.sphere xs)) ws) dh × SameBase ch dh
+step-good capacity bits xs c r ws ch cov open_ good =
+    let s = step capacity (lays r ws) xs c ch in
+    let st = step-stays capacity (lays r ws) xs c ch (record { open_ = open_; closes = good.closes; apart = good.apart; writes = good.writes; loads = good.loads }) in (
       record {
         reads_size = st.base.reads ∙ good.reads_size;
         writes_size = st.base.writes ∙ good.writes_size;
@@ -161,16 +150,17 @@ step-good capacity bits xs c r ch cov open_ good =
         loads = st.loads;
         closes = st.closes;
         live = λ quiet.
-            live_step xs c r (lays r (flying ch.sphere xs)) ch s s.reply
+            live_step xs c (lays r ws) (lays (lays r (flying ch.sphere xs)) ws) ch s s.reply
             (good.live (quiet_less xs c ch s.chunk st.base.sphere st.less_hits quiet))
             st.base
             st.more_reads
+            (Agree-lays (clear xs c s.chunk) r (lays r (flying ch.sphere xs)) ws
             (subst (λ (i : ℕ). Agree (clear xs c s.chunk) r (lays r (flying i xs))) st.base.sphere
             (Agree-unseen (clear xs c s.chunk) r (flying s.chunk.sphere xs)
             (unseen_from (clear xs c s.chunk) (flying s.chunk.sphere xs)
-            (λ a e. clear-lacks bits xs c s.chunk a cov (st.base.reads ∙ good.reads_size) quiet e))))
+            (λ a e. clear-lacks bits xs c s.chunk a cov (st.base.reads ∙ good.reads_size) quiet e)))))
             st.looks
-            (steps_are capacity r xs c ch);
+            (steps_are capacity (lays r ws) xs c ch);
       },
       st.base,
     )

@@ -8,9 +8,10 @@ use Rattle.spec_isa.specs.Words.{Stored, lays, read, is_inside}
 use Rattle.spec_isa.specs.Instruction.{InstructionOutcome, Next, Serial, one, unless, value_at, outcome_with, serial_of, loads_of, next_of, load_of, store_of}
 use Rattle.spec_isa.specs.Runs.{Run, followed, more, run}
 use Rattle.spec_kernel.specs.Needs.{fetched, next_kind}
+use Rattle.spec_engine.specs.declared.answers.How.{How}
 use Rattle.spec_engine.specs.Chunks.{Chunk}
 use Rattle.spec_protocol.proofs.Memory.Laying.{Agree, Agree-lays, Agree-read}
-use Rattle.spec_protocol.specs.Currency.{Touches, RunTouches, seen_by, IsCurrent}
+use Rattle.spec_protocol.specs.Currency.{Meets, Touches, RunTouches, seen_by, IsCurrent}
 
 -- ---- one instruction
 
@@ -121,6 +122,19 @@ RunTouches_local seen m n t k g touches i l =
 
 -- ---- a chunk
 
+Meets_local : (seen : ℕ → Bool) (m n : List ℕ) (r : Run) (o : Option How) → Agree seen (lays m r.words) (lays n r.words) → Meets seen m r o → Meets seen n r o
+Meets_local seen m n r None g meets = tt
+Meets_local seen m n r (Some How.Limit) g meets = tt
+Meets_local seen m n r (Some How.Serial) g meets =
+    record { touches = Touches_local seen r.thread _ _ g meets.touches; serial = subst IsSome (sym (kind_local seen r.thread _ _ g meets.touches)) meets.serial }
+Meets_local seen m n r (Some How.Overflow) g meets =
+    let a = meets.anew in
+    record {
+      touches = Touches_local seen r.thread _ _ g meets.touches;
+      anew = record { thread = a.thread; load = a.load; store = a.store; next = one_local seen r.thread _ _ g meets.touches ∙ a.next; new = a.new };
+    }
+Meets_local seen m n r (Some How.Cut) g meets = tt
+
 -- a chunk that is current on one memory is so on another that agrees on what it has seen
 pub Live_local : (m n : List ℕ) (ch : Chunk) → Agree (seen_by ch) m n → IsCurrent m ch → IsCurrent n ch
 Live_local m n ch g live =
@@ -128,10 +142,5 @@ Live_local m n ch g live =
     record {
       runs = run_local (seen_by ch) m n ch.start ch.done.n g live.touches ∙ live.runs;
       touches = RunTouches_local (seen_by ch) m n ch.start ch.done.n g live.touches;
-      next_touches = λ e. Touches_local (seen_by ch) ch.done.thread _ _ later (live.next_touches e);
-      next_serial = λ e. subst IsSome (sym (kind_local (seen_by ch) ch.done.thread _ _ later (live.next_touches e))) (live.next_serial e);
-      store_touches = λ e. Touches_local (seen_by ch) ch.done.thread _ _ later (live.store_touches e);
-      store_anew = λ e.
-          let a = live.store_anew e in
-          record { thread = a.thread; load = a.load; store = a.store; next = one_local (seen_by ch) ch.done.thread _ _ later (live.store_touches e) ∙ a.next; new = a.new };
+      next = Meets_local (seen_by ch) m n ch.done ch.closed later live.next;
     }

@@ -16,13 +16,13 @@ use Rattle.spec_engine.specs.Chunks.{Chunk, step, cut, is_open}
 use Rattle.spec_engine.specs.Asking.{ask, denied_by, busy_by}
 use Rattle.spec_protocol.specs.declared.event.Event.{Event}
 use Rattle.spec_protocol.specs.declared.reply.Reply.{Reply}
-use Rattle.spec_protocol.specs.Spheres.{Sphere, no_sphere, is_stopped, head_of}
+use Rattle.spec_protocol.specs.Spheres.{turn_against, Sphere, no_sphere, is_stopped, head_of}
 use Rattle.spec_protocol.specs.Commits.{CommitOutcome, Granted, Piece, Diverged, MovedSphere, dma_in, dma_moved}
 use Rattle.spec_protocol.specs.World.{Occupant, World, After, sphere_at, with_core, held_afresh, core_of, answered}
 use Rattle.spec_protocol.specs.Stepping.{stepped, step_held, stepping, cut_to, cut_held, cutting}
 use Rattle.spec_protocol.specs.Flying.{drain_slot, draining, delivering, retiring}
-use Rattle.spec_protocol.specs.Asking.{grant_chunk, grant_serial, unless_denied, unless_busy, asks_serial, ask_arbiter, other_turn, unless_turn, ask_closed, ask_held, asking}
-use Rattle.spec_protocol.specs.Transferring.{dma_done, transfer, dma_with, dma_if, turn_before_dma, transferring}
+use Rattle.spec_protocol.specs.Asking.{grant_chunk, grant_serial, unless_denied, unless_busy, asks_serial, ask_arbiter, unless_turn, ask_closed, ask_held, asking}
+use Rattle.spec_protocol.specs.Transferring.{dma_done, transfer, dma_with, dma_if, transferring}
 use Rattle.spec_protocol.specs.Placing.{unless_elsewhere, place_thread, placing, replays, raise_in, raise_thread, raising}
 use Rattle.spec_protocol.specs.Machine.{core_no, sphere_no, slot_no, act}
 use Rattle.spec_protocol.specs.Replying.{makes_point}
@@ -39,7 +39,7 @@ pub record MayAsk (w : World) (c : ℕ) (h : Occupant) (how : How) : Type 0 wher
   pub is : at w.cores c ≡ Some h
   pub closed : h.chunk.closed ≡ Some how
   pub going : is_stopped (sphere_at w h.chunk.sphere).role ≡ false
-  pub turn : other_turn (head_of (sphere_at w h.chunk.sphere)) h.thread ≡ None
+  pub turn : turn_against (sphere_at w h.chunk.sphere) (Actor.Thread h.thread) ≡ None
   pub free : is_full w.slots ≡ false
 
 -- thread k of sphere p, which is t, takes an interrupt
@@ -54,7 +54,7 @@ pub record Raises (k : ℕ) (t : Parts) (p : Sphere) : Type 0 where
 pub record Transfers (w : World) (i : ℕ) (v : MovedSphere) : Type 0 where
   pub within : i < length w.spheres
   pub going : is_stopped (sphere_at w i).role ≡ false
-  pub turn : turn_before_dma (sphere_at w i).role ≡ None
+  pub turn : turn_against (sphere_at w i) Actor.Dma ≡ None
   pub is : dma_moved w.devices (sphere_at w i) ≡ Some v
 
 -- ---- each thing that is done, and what a predicate of it is to hold of
@@ -162,7 +162,7 @@ module _ (w : World) (Q : After → Type 0) (still : (r : Reply) → makes_point
   any-closed c h None is closed chunk serial = still Reply.NotClosed refl
   any-closed c h (Some how) is closed chunk serial =
       let p = sphere_at w h.chunk.sphere in
-      let turn = other_turn (head_of p) h.thread in
+      let turn = turn_against p (Actor.Thread h.thread) in
       let asked = ask_arbiter w c h how (asks_serial h.chunk p.role) in
       let room = cond (is_full w.slots) (answered w Reply.WindowFull) asked in
       branch Q (is_stopped p.role) (answered w Reply.Stopped) (unless_turn turn w room)
@@ -252,7 +252,7 @@ module _ (w : World) (Q : After → Type 0) (still : (r : Reply) → makes_point
     dma_outcome v Piece t is = transferred v t
     dma_outcome v (Diverged j why) t is = diverges v j why t is
 
-    dma_or_none : (o : Option MovedSphere) → dma_moved w.devices (sphere_at w i) ≡ o → is_stopped (sphere_at w i).role ≡ false → turn_before_dma (sphere_at w i).role ≡ None → Q (dma_if w i o)
+    dma_or_none : (o : Option MovedSphere) → dma_moved w.devices (sphere_at w i) ≡ o → is_stopped (sphere_at w i).role ≡ false → turn_against (sphere_at w i) Actor.Dma ≡ None → Q (dma_if w i o)
     dma_or_none None is going turn = still Reply.NoDma refl
     dma_or_none (Some v) is going turn = dma_outcome v v.outcome (record { within = dma_within w i v is; going = going; turn = turn; is = is }) refl
 
@@ -262,9 +262,9 @@ module _ (w : World) (Q : After → Type 0) (still : (r : Reply) → makes_point
     any-transfer =
         let p = sphere_at w i in
         let rest = dma_if w i (dma_moved w.devices p) in
-        branch Q (is_stopped p.role) (answered w Reply.Stopped) (unless_turn (turn_before_dma p.role) w rest)
+        branch Q (is_stopped p.role) (answered w Reply.Stopped) (unless_turn (turn_against p Actor.Dma) w rest)
         (λ _. still Reply.Stopped refl)
-        (λ going. at_turn rest (turn_before_dma p.role) (λ turn. dma_or_none (dma_moved w.devices p) refl going turn))
+        (λ going. at_turn rest (turn_against p Actor.Dma) (λ turn. dma_or_none (dma_moved w.devices p) refl going turn))
 
 -- ---- any event
 

@@ -7,7 +7,7 @@ use Rattle.spec_log.specs.declared.LogParts.{LogParts}
 use Rattle.spec_kernel.specs.Devices.{Devices}
 use Rattle.spec_play.specs.Verdicts.{LogVerdict, Goes, Fails, chunk_verdict}
 use Rattle.spec_play.specs.Transfers.{DmaVerdict, DmaGoes, DmaFails, dma_verdict}
-use Rattle.spec_protocol.specs.Spheres.{Cursor, Role, Plain, Record, Replay, Sphere}
+use Rattle.spec_protocol.specs.Spheres.{Recording, Cursor, Role, Plain, Record, Replay, Sphere}
 use Rattle.spec_protocol.specs.Commits.{MovedSphere, by_verdict, joined, replayed_chunk, chunk_in, chunk_moved, dma_by_verdict, live_dma, dma_log, dma_in, dma_moved}
 
 -- the sphere over another memory
@@ -28,7 +28,7 @@ replayed_relaid b k false r devices p m = verdict_relaid b k (chunk_verdict b.lo
 
 chunk_in_relaid : (role : Role) (k : ℕ) (piece short : Bool) (r : Run) (devices : Devices) (p : Sphere) (m : List ℕ) → chunk_in role k piece short r devices (over m p) ≡ relaid m (chunk_in role k piece short r devices p)
 chunk_in_relaid Plain k piece short r devices p m = refl
-chunk_in_relaid (Record log) k piece short r devices p m = refl
+chunk_in_relaid (Record recording) k piece short r devices p m = refl
 chunk_in_relaid (Replay b) k piece short r devices p m = replayed_relaid b k piece r devices p m
 
 -- a granted chunk moves the sphere over another memory in the same way
@@ -44,14 +44,14 @@ dma_verdict_relaid : (b : Cursor) (verdict : DmaVerdict) (devices : Devices) (p 
 dma_verdict_relaid b (DmaGoes words) devices p m = refl
 dma_verdict_relaid b (DmaFails why) devices p m = refl
 
-recorded_relaid : (log : LogParts) (devices : Devices) (p : Sphere) (o : Option Request) (m : List ℕ)
-    → live_dma (Record (dma_log log devices (over m p) o)) devices (over m p) o ≡ option_map (relaid m) (live_dma (Record (dma_log log devices p o)) devices p o)
-recorded_relaid log devices p None m = refl
-recorded_relaid log devices p (Some request) m = refl
+recorded_relaid : (recording : Recording) (devices : Devices) (p : Sphere) (o : Option Request) (m : List ℕ)
+    → live_dma (Record (record recording { log = dma_log recording.log devices (over m p) o })) devices (over m p) o ≡ option_map (relaid m) (live_dma (Record (record recording { log = dma_log recording.log devices p o })) devices p o)
+recorded_relaid recording devices p None m = refl
+recorded_relaid recording devices p (Some request) m = refl
 
 dma_log_relaid : (role : Role) (devices : Devices) (p : Sphere) (m : List ℕ) → dma_in role devices (over m p) ≡ option_map (relaid m) (dma_in role devices p)
 dma_log_relaid Plain devices p m = live_relaid Plain devices p p.progress.request m
-dma_log_relaid (Record log) devices p m = recorded_relaid log devices p p.progress.request m
+dma_log_relaid (Record recording) devices p m = recorded_relaid recording devices p p.progress.request m
 dma_log_relaid (Replay b) devices p m = ap Some (dma_verdict_relaid b (dma_verdict b.log p.progress b.used) devices p m)
 
 -- a DMA moves the sphere over another memory in the same way

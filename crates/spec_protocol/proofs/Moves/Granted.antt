@@ -27,9 +27,8 @@ use Rattle.spec_play.specs.Progress.{Progress, Used}
 use Rattle.spec_play.specs.Turns.{Now, Turn, TurnOfDma, Ended}
 use Rattle.spec_play.specs.Verdicts.{LogVerdict, Goes, Fails, unless, interrupt_at, with_interrupted, chunk_why, chunk_verdict, Given, given, serial_why, served_verdict, serial_verdict}
 use Rattle.spec_play.specs.Plays.{with_threads}
-use Rattle.spec_protocol.specs.Spheres.{Cursor, Role, Plain, Record, Replay, Sphere, is_over, is_stopped, actor_of, head_in, whole_limit, pieces_of, limit_in, limit_of, halves}
+use Rattle.spec_protocol.specs.Spheres.{other_than, turn_in, Cursor, Role, Plain, Record, Replay, Sphere, is_over, is_stopped, actor_of, head_in, whole_limit, pieces_of, limit_in, limit_of, halves}
 use Rattle.spec_protocol.specs.Commits.{CommitOutcome, Granted, Piece, Diverged, MovedSphere, granted_as, by_verdict, joined, piece_moved, replayed_chunk, chunk_in, chunk_moved, serial_in, serial_moved, serial_noted}
-use Rattle.spec_protocol.specs.Asking.{other_turn}
 use Rattle.spec_protocol.specs.Placing.{replays}
 use Rattle.spec_kernel.specs.Answers.{taken}
 
@@ -74,7 +73,7 @@ pieces_other : (k j total : ℕ) → j ≢ k → pieces_of (Turn k) j total ≡ 
 pieces_other k j total ne = ap (λ (b : Bool). pieces_if b total) (ne_eqb k j (λ e. ne (sym e)))
 
 -- the thread has the turn in a replay that hasn't stopped
-pub turn-is : (now : Now) (k : ℕ) → is_over now ≡ false → other_turn (actor_of now) k ≡ None → now ≡ Turn k
+pub turn-is : (now : Now) (k : ℕ) → is_over now ≡ false → other_than (Actor.Thread k) (actor_of now) ≡ None → now ≡ Turn k
 turn-is (Turn j) k going e =
     ap Turn (eqb-true j k (elim (eqb j k) as (λ b. cond b None (Some (Actor.Thread j)) ≡ None → b ≡ true) [
       | true ↦ λ h. refl
@@ -107,7 +106,7 @@ pub record MovesOnly (k : ℕ) (devices : Devices) (p : Sphere) (v : MovedSphere
 -- the thread of a replay that goes on has the turn
 pub record HasTurn (k : ℕ) (role : Role) (p : Sphere) : Type 0 where
   pub going : is_stopped role ≡ false
-  pub turn : other_turn (head_in role p) k ≡ None
+  pub turn : turn_in role p (Actor.Thread k) ≡ None
 
 threads_kept : (k : ℕ) (e : Effect) (ts : List Parts) (j : ℕ) (t : Parts) → j ≢ k → slice_get ts j ≡ Some t → slice_get (with_threads k e ts) j ≡ Some t
 threads_kept k e ts j t ne is = get-append (slice_set ts k e.thread) e.spawned j t (get-set_other ts k j e.thread ne ∙ is)
@@ -206,7 +205,7 @@ chunk_in_moves : (k : ℕ) (role : Role) (piece short : Bool) (r : Run) (devices
 unfolding limit_of
 chunk_in_moves k Plain piece short r devices p is turn apart =
     granted_moves k Plain (chunk_effect k p.progress.request r) devices devices p (ap halves (sym is)) (ap replays (sym is)) (λ s j t. ap (λ (q : Role). limit_in q s j t.commits) (sym is)) apart
-chunk_in_moves k (Record log) piece short r devices p is turn apart =
+chunk_in_moves k (Record recording) piece short r devices p is turn apart =
     granted_moves k (Record _) (chunk_effect k p.progress.request r) devices devices p (ap halves (sym is)) (ap replays (sym is)) (λ s j t. ap (λ (q : Role). limit_in q s j t.commits) (sym is)) apart
 chunk_in_moves k (Replay b) piece short r devices p is turn apart =
     replayed_moves k b piece r devices p is (turn-is b.now k turn.going turn.turn) apart
@@ -229,7 +228,7 @@ replayed_stores P b k false r devices p none some =
 
 stores_in : (P : List Stored → Type 0) (role : Role) (k : ℕ) (piece short : Bool) (r : Run) (devices : Devices) (p : Sphere) → P [] → P r.words → P (chunk_in role k piece short r devices p).words
 stores_in P Plain k piece short r devices p none some = some
-stores_in P (Record log) k piece short r devices p none some = some
+stores_in P (Record recording) k piece short r devices p none some = some
 stores_in P (Replay b) k piece short r devices p none some = replayed_stores P b k piece r devices p none some
 
 -- a granted chunk stores the words of its run, or nothing
@@ -317,10 +316,10 @@ serial_in_moves k moment Plain t devices p is turn =
     let g = taken (need t p.memory) devices moment in
     let v = serve k p.threads p.progress.request t p.memory g.input in
     granted_moves k Plain (serial_effect k v) devices (console_written t p.memory v.outputs g.devices) p (ap halves (sym is)) (ap replays (sym is)) (λ s j u. ap (λ (q : Role). limit_in q s j u.commits) (sym is)) (serve-apart k p.threads p.progress.request t p.memory g.input)
-serial_in_moves k moment (Record log) t devices p is turn =
+serial_in_moves k moment (Record recording) t devices p is turn =
     let g = taken (need t p.memory) devices moment in
     let v = serve k p.threads p.progress.request t p.memory g.input in
-    granted_moves k (Record (serial_noted k t g log p)) (serial_effect k v) devices (console_written t p.memory v.outputs g.devices) p (ap halves (sym is)) (ap replays (sym is)) (λ s j u. ap (λ (q : Role). limit_in q s j u.commits) (sym is)) (serve-apart k p.threads p.progress.request t p.memory g.input)
+    granted_moves k (Record (record recording { log = serial_noted k t g recording.log p })) (serial_effect k v) devices (console_written t p.memory v.outputs g.devices) p (ap halves (sym is)) (ap replays (sym is)) (λ s j u. ap (λ (q : Role). limit_in q s j u.commits) (sym is)) (serve-apart k p.threads p.progress.request t p.memory g.input)
 serial_in_moves k moment (Replay b) t devices p is turn =
     verdict_moves k b (serial_verdict b.log p.progress b.used k p.threads t p.memory) devices p is (turn-is b.now k turn.going turn.turn)
     (λ e u h. serial_apart b.log p.progress b.used k p.threads t p.memory e u h)
@@ -334,7 +333,7 @@ serial-moves k moment t devices p turn = serial_in_moves k moment p.role t devic
 
 chunk_in_lives : (role : Role) (k : ℕ) (piece short : Bool) (r : Run) (devices : Devices) (p : Sphere) → replays role ≡ false → (chunk_in role k piece short r devices p).outcome ≡ Granted
 chunk_in_lives Plain k piece short r devices p live = refl
-chunk_in_lives (Record log) k piece short r devices p live = refl
+chunk_in_lives (Record recording) k piece short r devices p live = refl
 chunk_in_lives (Replay b) k piece short r devices p live = absurd (true≢false live)
 
 -- outside replays the answer to a granted chunk is Granted
@@ -344,7 +343,7 @@ chunk-lives k piece short r devices p live = chunk_in_lives p.role k piece short
 
 serial_in_lives : (role : Role) (k moment : ℕ) (t : Parts) (devices : Devices) (p : Sphere) → replays role ≡ false → (serial_in role k moment t devices p).outcome ≡ Granted
 serial_in_lives Plain k moment t devices p live = refl
-serial_in_lives (Record log) k moment t devices p live = refl
+serial_in_lives (Record recording) k moment t devices p live = refl
 serial_in_lives (Replay b) k moment t devices p live = absurd (true≢false live)
 
 -- outside replays the answer to a granted serial step is Granted

@@ -18,6 +18,7 @@ use Rattle.spec_kernel.specs.Calls.{Called, gives, exit, spawned, spawn, set_han
 use Rattle.spec_kernel.specs.Serving.{StepResult, outside_called, is_outside, inside_called, device_loaded, device_stored, serve_kind, serve}
 use Rattle.spec_protocol.proofs.Moves.AnyEvent.{branch}
 use Rattle.spec_protocol.proofs.Moves.Granted.{either_serve}
+pub use Rattle.spec_protocol.specs.Standing.{IsNew, AreNew}
 
 -- ---- instructions
 
@@ -68,16 +69,6 @@ pub run-status : (m : List ℕ) (t : Parts) (n : ℕ) → (run m t n).thread.sta
 run-status m t n = (run_kept m t n).status
 
 -- ---- calls
-
--- the thread's commits stay; each spawned thread has none, and no handler
-pub record IsNew (t : Parts) : Type 0 where
-  pub commits : t.commits ≡ 0
-  pub handler : t.handler ≡ 0
-
--- each of the threads is new
-abbrev pub AreNew : List Parts → Type 0
-AreNew [] = Unit {0}
-AreNew (t ∷ ts) = IsNew t × AreNew ts
 
 -- the thread keeps its number of commits, and those that it spawned are new
 pub record KeepsCommits (t : Parts) (thread : Parts) (spawned : List Parts) : Type 0 where

@@ -18,9 +18,8 @@ use Rattle.spec_play.specs.Progress.{Progress, position, Used}
 use Rattle.spec_play.specs.Turns.{Now, Turn, TurnOfDma, Ended}
 use Rattle.spec_play.specs.Verdicts.{serial_why}
 use Rattle.spec_play.specs.Transfers.{DmaVerdict, DmaGoes, DmaFails, is_for, transferred, dma_unless, dma_verdict}
-use Rattle.spec_protocol.specs.Spheres.{Cursor, Role, Plain, Record, Replay, Sphere, is_over, is_stopped, actor_of, whole_limit, pieces_of, limit_in, limit_of, halves}
+use Rattle.spec_protocol.specs.Spheres.{other_than, turn_in, turn_against, Cursor, Role, Plain, Record, Replay, Sphere, is_over, is_stopped, actor_of, whole_limit, pieces_of, limit_in, limit_of, halves}
 use Rattle.spec_protocol.specs.Commits.{Granted, MovedSphere, dma_as, live_dma, dma_log, dma_by_verdict, dma_in, dma_moved}
-use Rattle.spec_protocol.specs.Transferring.{not_of_dma, turn_before_dma}
 use Rattle.spec_protocol.specs.Placing.{replays}
 use Rattle.spec_protocol.proofs.Moves.Granted.{bytes_apart, pieces_none, Divergence}
 
@@ -38,7 +37,7 @@ words_apart : (request : Request) (bytes : List ℕ) → Apart (dma_words reques
 words_apart request bytes = bytes_apart _ request.buf _ tt
 
 -- it is the DMA's turn in a replay that hasn't stopped
-pub dma-turn_is : (now : Now) → is_over now ≡ false → not_of_dma (actor_of now) ≡ None → now ≡ TurnOfDma
+pub dma-turn_is : (now : Now) → is_over now ≡ false → other_than Actor.Dma (actor_of now) ≡ None → now ≡ TurnOfDma
 dma-turn_is (Turn k) going e = absurd (none-some (Actor.Thread k) (sym e))
 dma-turn_is TurnOfDma going e = refl
 dma-turn_is (Ended how) going e = absurd (true≢false going)
@@ -103,19 +102,19 @@ verdict_apart log p u ws e =
     let next = slice_get log.dmas u.dmas in
     unless_apart (serial_why (size_in log Actor.Dma (position p))) (transferred (position p) p.request next) (λ vs h. transferred_apart (position p) p.request next vs h) ws e
 
-in_moves : (role : Role) (devices : Devices) (p : Sphere) (v : MovedSphere) → p.role ≡ role → is_stopped role ≡ false → turn_before_dma role ≡ None → dma_in role devices p ≡ Some v → DmaMoves devices p v
+in_moves : (role : Role) (devices : Devices) (p : Sphere) (v : MovedSphere) → p.role ≡ role → is_stopped role ≡ false → turn_in role p Actor.Dma ≡ None → dma_in role devices p ≡ Some v → DmaMoves devices p v
 unfolding limit_of
 in_moves Plain devices p v is going turn e =
     live_moves Plain devices p p.progress.request v (ap halves (sym is)) (ap replays (sym is)) (λ s j t. ap (λ (q : Role). limit_in q s j t.commits) (sym is)) e
-in_moves (Record log) devices p v is going turn e =
-    live_moves (Record (dma_log log devices p p.progress.request)) devices p p.progress.request v (ap halves (sym is)) (ap replays (sym is)) (λ s j t. ap (λ (q : Role). limit_in q s j t.commits) (sym is)) e
+in_moves (Record recording) devices p v is going turn e =
+    live_moves (Record (record recording { log = dma_log recording.log devices p p.progress.request })) devices p p.progress.request v (ap halves (sym is)) (ap replays (sym is)) (λ s j t. ap (λ (q : Role). limit_in q s j t.commits) (sym is)) e
 in_moves (Replay b) devices p v is going turn e =
     subst (DmaMoves devices p) (let h : dma_by_verdict b (dma_verdict b.log p.progress b.used) devices p ≡ v = cc in h)
     (verdict_moves b (dma_verdict b.log p.progress b.used) devices p is (dma-turn_is b.now going turn) (λ ws h. verdict_apart b.log p.progress b.used ws h))
 
 -- a DMA that is done leaves the memory, the threads, their limits and the role
-pub dma-moves : (devices : Devices) (p : Sphere) (v : MovedSphere) → is_stopped p.role ≡ false → turn_before_dma p.role ≡ None → dma_moved devices p ≡ Some v → DmaMoves devices p v
-unfolding dma_moved
+pub dma-moves : (devices : Devices) (p : Sphere) (v : MovedSphere) → is_stopped p.role ≡ false → turn_against p Actor.Dma ≡ None → dma_moved devices p ≡ Some v → DmaMoves devices p v
+unfolding dma_moved turn_against
 dma-moves devices p v going turn e = in_moves p.role devices p v refl going turn e
 
 live_grants : (role : Role) (devices : Devices) (p : Sphere) (o : Option Request) (v : MovedSphere) → live_dma role devices p o ≡ Some v → v.outcome ≡ Granted
@@ -125,7 +124,7 @@ live_grants role devices p (Some request) v e =
 
 in_lives : (role : Role) (devices : Devices) (p : Sphere) (v : MovedSphere) → replays role ≡ false → dma_in role devices p ≡ Some v → v.outcome ≡ Granted
 in_lives Plain devices p v live e = live_grants Plain devices p p.progress.request v e
-in_lives (Record log) devices p v live e = live_grants (Record (dma_log log devices p p.progress.request)) devices p p.progress.request v e
+in_lives (Record recording) devices p v live e = live_grants (Record (record recording { log = dma_log recording.log devices p p.progress.request })) devices p p.progress.request v e
 in_lives (Replay b) devices p v live e = absurd (true≢false live)
 
 -- outside replays the answer to a DMA that is done is Granted

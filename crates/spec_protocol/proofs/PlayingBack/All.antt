@@ -21,11 +21,11 @@ use Rattle.spec_log.specs.Noting.{no_sizes}
 use Rattle.spec_play.specs.Recording.{new_log, interrupt_noted}
 use Rattle.spec_play.specs.Plays.{Played, opened, plays, play}
 use Rattle.spec_engine.specs.declared.answers.How.{How}
-use Rattle.spec_protocol.specs.Spheres.{Role, Record, Sphere}
+use Rattle.spec_protocol.specs.Spheres.{Recording, Role, Record, Sphere}
 use Rattle.spec_protocol.specs.Commits.{MovedSphere, is_piece, chunk_in, chunk_moved, serial_in, serial_moved, dma_in, dma_moved, live_dma, dma_log, role_raised, raised}
 use Rattle.spec_protocol.specs.World.{Numbers, What, OfChunk, OfSerial, OfDma, OfRaise, Move}
 use Rattle.spec_protocol.specs.Asking.{is_short}
-use Rattle.spec_protocol.specs.Machine.{SphereSetup, role_of, sphere_of, moves, world_of}
+use Rattle.spec_protocol.specs.Machine.{first_threads, last_played, first_played, new_recording, SphereSetup, role_of, sphere_of, moves, world_of}
 use Rattle.spec_protocol.specs.Serial.{SerialState, serial_start, laid, do_moved, do_serial, do_dma, do_raise}
 use Rattle.spec_protocol.specs.Moves.{move_chunk, do_what, do_at, do_move, do_moves, FitsChunk, FitsSerial, FitsRaise, FitsWhat, FitsAt, Fits, FitAll}
 use Rattle.spec_protocol.specs.PlayingBack.{PlaysBack, LogsPlayBack}
@@ -42,85 +42,85 @@ use Rattle.spec_protocol.proofs.Invariants.Schedules.{start-sphere, moves_are}
 
 record Comes (x : SerialState) (i : ℕ) (p : Sphere) (plog : LogParts) : Type 0 where
   sphere : Sphere
-  log : LogParts
+  recording : Recording
   there : slice_get x.spheres i ≡ Some sphere
-  role : sphere.role ≡ Record log
-  grown : Grown p sphere plog log
+  role : sphere.role ≡ Record recording
+  grown : Grown p sphere plog recording.log
 
-moved_comes : (x : SerialState) (i : ℕ) (p : Sphere) (log qlog : LogParts) (v : MovedSphere) → slice_get x.spheres i ≡ Some p → (laid v).role ≡ Record qlog → Grown p (laid v) log qlog → Comes (do_moved x i v) i p log
-moved_comes x i p log qlog v is role grown = record { sphere = laid v; log = qlog; there = get-set_same x.spheres i (laid v) p is; role = role; grown = grown }
+moved_comes : (x : SerialState) (i : ℕ) (p : Sphere) (log : LogParts) (q : Recording) (v : MovedSphere) → slice_get x.spheres i ≡ Some p → (laid v).role ≡ Record q → Grown p (laid v) log q.log → Comes (do_moved x i v) i p log
+moved_comes x i p log q v is role grown = record { sphere = laid v; recording = q; there = get-set_same x.spheres i (laid v) p is; role = role; grown = grown }
 
-chunk_comes : (z : Numbers) (x : SerialState) (i : ℕ) (p : Sphere) (log : LogParts) (k : ℕ) (how : How) (n limit : ℕ) (o : Option Parts) → 0 < z.capacity → log.s ≡ z.s → slice_get x.spheres i ≡ Some p → p.role ≡ Record log
-    → slice_get p.threads k ≡ o → FitsChunk z p k how n limit o → Comes (move_chunk z x i k how n limit p o) i p log
+chunk_comes : (z : Numbers) (x : SerialState) (i : ℕ) (p : Sphere) (recording : Recording) (k : ℕ) (how : How) (n limit : ℕ) (o : Option Parts) → 0 < z.capacity → recording.log.s ≡ z.s → slice_get x.spheres i ≡ Some p → p.role ≡ Record recording
+    → slice_get p.threads k ≡ o → FitsChunk z p k how n limit o → Comes (move_chunk z x i k how n limit p o) i p recording.log
 unfolding chunk_moved
-chunk_comes z x i p log k how n limit None buffer s is role thread fits = absurd fits
-chunk_comes z x i p log k how n limit (Some t) buffer s is role thread fits =
-    subst (λ (v : MovedSphere). Comes (do_moved x i v) i p log)
+chunk_comes z x i p recording k how n limit None buffer s is role thread fits = absurd fits
+chunk_comes z x i p recording k how n limit (Some t) buffer s is role thread fits =
+    subst (λ (v : MovedSphere). Comes (do_moved x i v) i p recording.log)
     (sym (ap (λ (r : Role). chunk_in r k (is_piece how) (is_short z.s how limit) (run p.memory t n) x.devices p) role))
-    (moved_comes x i p log _ (chunk_in (Record log) k (is_piece how) (is_short z.s how limit) (run p.memory t n) x.devices p) is refl
-    (chunk-grown z log p k t how n limit x.devices role s buffer thread fits))
+    (moved_comes x i p recording.log _ (chunk_in (Record recording) k (is_piece how) (is_short z.s how limit) (run p.memory t n) x.devices p) is refl
+    (chunk-grown z recording p k t how n limit x.devices role s buffer thread fits))
 
-serial_comes : (x : SerialState) (i moment : ℕ) (p : Sphere) (log : LogParts) (k : ℕ) (o : Option Parts) → slice_get x.spheres i ≡ Some p → p.role ≡ Record log
-    → slice_get p.threads k ≡ o → FitsSerial p k o → Comes (do_serial x i k moment p o) i p log
+serial_comes : (x : SerialState) (i moment : ℕ) (p : Sphere) (recording : Recording) (k : ℕ) (o : Option Parts) → slice_get x.spheres i ≡ Some p → p.role ≡ Record recording
+    → slice_get p.threads k ≡ o → FitsSerial p k o → Comes (do_serial x i k moment p o) i p recording.log
 unfolding serial_moved
-serial_comes x i moment p log k None is role thread fits = absurd fits
-serial_comes x i moment p log k (Some t) is role thread fits =
-    subst (λ (v : MovedSphere). Comes (do_moved x i v) i p log)
+serial_comes x i moment p recording k None is role thread fits = absurd fits
+serial_comes x i moment p recording k (Some t) is role thread fits =
+    subst (λ (v : MovedSphere). Comes (do_moved x i v) i p recording.log)
     (sym (ap (λ (r : Role). serial_in r k moment t x.devices p) role))
-    (moved_comes x i p log _ (serial_in (Record log) k moment t x.devices p) is refl (serial-grown log p k moment t x.devices role thread fits))
+    (moved_comes x i p recording.log _ (serial_in (Record recording) k moment t x.devices p) is refl (serial-grown recording p k moment t x.devices role thread fits))
 
-dma_comes : (x : SerialState) (i : ℕ) (p : Sphere) (log : LogParts) (o : Option Request) → slice_get x.spheres i ≡ Some p → p.role ≡ Record log
-    → p.progress.request ≡ o → IsSome (dma_moved x.devices p) → Comes (do_dma x i (dma_moved x.devices p)) i p log
+dma_comes : (x : SerialState) (i : ℕ) (p : Sphere) (recording : Recording) (o : Option Request) → slice_get x.spheres i ≡ Some p → p.role ≡ Record recording
+    → p.progress.request ≡ o → IsSome (dma_moved x.devices p) → Comes (do_dma x i (dma_moved x.devices p)) i p recording.log
 unfolding dma_moved
-dma_comes x i p log None is role asked some =
+dma_comes x i p recording None is role asked some =
     let none : dma_in p.role x.devices p ≡ None =
-    ap (λ (r : Role). dma_in r x.devices p) role ∙ (λ j. live_dma (Record (dma_log log x.devices p (asked j))) x.devices p (asked j)) in
+    ap (λ (r : Role). dma_in r x.devices p) role ∙ (λ j. live_dma (Record (record recording { log = dma_log recording.log x.devices p (asked j) })) x.devices p (asked j)) in
     absurd (true≢false (sym (subst IsSome none some)))
-dma_comes x i p log (Some request) is role asked some =
-    subst (λ (o : Option MovedSphere). Comes (do_dma x i o) i p log)
-    (sym (ap (λ (r : Role). dma_in r x.devices p) role ∙ (λ j. live_dma (Record (dma_log log x.devices p (asked j))) x.devices p (asked j))))
-    (moved_comes x i p log (dma_log log x.devices p (Some request)) (recorded_dma log p x.devices request) is refl (dma-grown log p x.devices request asked))
+dma_comes x i p recording (Some request) is role asked some =
+    subst (λ (o : Option MovedSphere). Comes (do_dma x i o) i p recording.log)
+    (sym (ap (λ (r : Role). dma_in r x.devices p) role ∙ (λ j. live_dma (Record (record recording { log = dma_log recording.log x.devices p (asked j) })) x.devices p (asked j))))
+    (moved_comes x i p recording.log (record recording { log = dma_log recording.log x.devices p (Some request) }) (recorded_dma recording p x.devices request) is refl (dma-grown recording p x.devices request asked))
 
-raise_comes : (x : SerialState) (i : ℕ) (p : Sphere) (log : LogParts) (k value : ℕ) (o : Option Parts) → slice_get x.spheres i ≡ Some p → p.role ≡ Record log
-    → slice_get p.threads k ≡ o → FitsRaise p o → Comes (do_raise x i k value p o) i p log
+raise_comes : (x : SerialState) (i : ℕ) (p : Sphere) (recording : Recording) (k value : ℕ) (o : Option Parts) → slice_get x.spheres i ≡ Some p → p.role ≡ Record recording
+    → slice_get p.threads k ≡ o → FitsRaise p o → Comes (do_raise x i k value p o) i p recording.log
 unfolding raised
-raise_comes x i p log k value None is role thread fits = absurd fits
-raise_comes x i p log k value (Some t) is role thread fits =
+raise_comes x i p recording k value None is role thread fits = absurd fits
+raise_comes x i p recording k value (Some t) is role thread fits =
     record {
       sphere = raised k value t p;
-      log = interrupt_noted k t.commits value log;
+      recording = record recording { log = interrupt_noted k t.commits value recording.log };
       there = get-set_same x.spheres i (raised k value t p) p is;
       role = ap (role_raised k t.commits value) role;
-      grown = raise-grown log p k value t role thread fits.takes;
+      grown = raise-grown recording p k value t role thread fits.takes;
     }
 
-what_comes : (z : Numbers) (x : SerialState) (moment i : ℕ) (p : Sphere) (log : LogParts) (what : What) → 0 < z.capacity → log.s ≡ z.s → slice_get x.spheres i ≡ Some p → p.role ≡ Record log → FitsWhat z x.devices p what → Comes (do_what z x moment i p what) i p log
-what_comes z x moment i p log (OfChunk k how n limit) buffer s is role fits = chunk_comes z x i p log k how n limit (slice_get p.threads k) buffer s is role refl fits
-what_comes z x moment i p log (OfSerial k) buffer s is role fits = serial_comes x i moment p log k (slice_get p.threads k) is role refl fits
-what_comes z x moment i p log OfDma buffer s is role fits = dma_comes x i p log p.progress.request is role refl fits.moves
-what_comes z x moment i p log (OfRaise k value) buffer s is role fits = raise_comes x i p log k value (slice_get p.threads k) is role refl fits
+what_comes : (z : Numbers) (x : SerialState) (moment i : ℕ) (p : Sphere) (recording : Recording) (what : What) → 0 < z.capacity → recording.log.s ≡ z.s → slice_get x.spheres i ≡ Some p → p.role ≡ Record recording → FitsWhat z x.devices p what → Comes (do_what z x moment i p what) i p recording.log
+what_comes z x moment i p recording (OfChunk k how n limit) buffer s is role fits = chunk_comes z x i p recording k how n limit (slice_get p.threads k) buffer s is role refl fits
+what_comes z x moment i p recording (OfSerial k) buffer s is role fits = serial_comes x i moment p recording k (slice_get p.threads k) is role refl fits
+what_comes z x moment i p recording OfDma buffer s is role fits = dma_comes x i p recording p.progress.request is role refl fits.moves
+what_comes z x moment i p recording (OfRaise k value) buffer s is role fits = raise_comes x i p recording k value (slice_get p.threads k) is role refl fits
 
 -- ---- moves
 
-move_comes : (z : Numbers) (x : SerialState) (m : Move) (i : ℕ) (p : Sphere) (log : LogParts) → 0 < z.capacity → log.s ≡ z.s → slice_get x.spheres i ≡ Some p → p.role ≡ Record log → Fits z x m → Comes (do_move z x m) i p log
+move_comes : (z : Numbers) (x : SerialState) (m : Move) (i : ℕ) (p : Sphere) (recording : Recording) → 0 < z.capacity → recording.log.s ≡ z.s → slice_get x.spheres i ≡ Some p → p.role ≡ Record recording → Fits z x m → Comes (do_move z x m) i p recording.log
 unfolding do_move
-move_comes z x m i p log buffer s is role fits =
+move_comes z x m i p recording buffer s is role fits =
     elim (cases_eq i m.sphere) [
       | inl e ↦ (
           let there : slice_get x.spheres m.sphere ≡ Some p = ap (slice_get x.spheres) (sym e) ∙ is in
-          subst (λ (o : Option Sphere). Comes (do_at z x m o) i p log) (sym there)
-          (subst (λ (n : ℕ). Comes (do_what z x m.moment m.sphere p m.what) n p log) (sym e)
-          (what_comes z x m.moment m.sphere p log m.what buffer s there role (subst (FitsAt z x.devices m) there fits)))
+          subst (λ (o : Option Sphere). Comes (do_at z x m o) i p recording.log) (sym there)
+          (subst (λ (n : ℕ). Comes (do_what z x m.moment m.sphere p m.what) n p recording.log) (sym e)
+          (what_comes z x m.moment m.sphere p recording m.what buffer s there role (subst (FitsAt z x.devices m) there fits)))
           )
-      | inr ne ↦ record { sphere = p; log = log; there = at-away z x m i (slice_get x.spheres m.sphere) ne ∙ is; role = role; grown = grown_refl p log }
+      | inr ne ↦ record { sphere = p; recording = recording; there = at-away z x m i (slice_get x.spheres m.sphere) ne ∙ is; role = role; grown = grown_refl p recording.log }
     ]
 
-moves_come : (z : Numbers) (x : SerialState) (ms : List Move) (i : ℕ) (p : Sphere) (log : LogParts) → 0 < z.capacity → log.s ≡ z.s → slice_get x.spheres i ≡ Some p → p.role ≡ Record log → FitAll z x ms → Comes (do_moves z x ms) i p log
-moves_come z x [] i p log buffer s is role fits = record { sphere = p; log = log; there = is; role = role; grown = grown_refl p log }
-moves_come z x (m ∷ ms) i p log buffer s is role fits =
-    let a = move_comes z x m i p log buffer s is role fits.0 in
-    let b = moves_come z (do_move z x m) ms i a.sphere a.log buffer (a.grown.s ∙ s) a.there a.role fits.1 in
-    record { sphere = b.sphere; log = b.log; there = b.there; role = b.role; grown = grown_trans p a.sphere b.sphere log a.log b.log a.grown b.grown }
+moves_come : (z : Numbers) (x : SerialState) (ms : List Move) (i : ℕ) (p : Sphere) (recording : Recording) → 0 < z.capacity → recording.log.s ≡ z.s → slice_get x.spheres i ≡ Some p → p.role ≡ Record recording → FitAll z x ms → Comes (do_moves z x ms) i p recording.log
+moves_come z x [] i p recording buffer s is role fits = record { sphere = p; recording = recording; there = is; role = role; grown = grown_refl p recording.log }
+moves_come z x (m ∷ ms) i p recording buffer s is role fits =
+    let a = move_comes z x m i p recording buffer s is role fits.0 in
+    let b = moves_come z (do_move z x m) ms i a.sphere a.recording buffer (a.grown.s ∙ s) a.there a.role fits.1 in
+    record { sphere = b.sphere; recording = b.recording; there = b.there; role = b.role; grown = grown_trans p a.sphere b.sphere recording.log a.recording.log b.recording.log a.grown b.grown }
 
 -- ---- the start
 
@@ -151,14 +151,14 @@ start-stands s image mode =
       dmas = tt;
     }
 
-start_none : (L : LogParts) (s : ℕ) (image : SphereSetup) (mode : ModeName) → Ahead L (sphere_of s image) (new_log mode s) → (j : ℕ) (t : Parts) → slice_get (started image.entry ∷ []) j ≡ Some t → interrupt_at L.interrupts j t.commits ≡ None
+start_none : (L : LogParts) (s : ℕ) (image : SphereSetup) (mode : ModeName) → Ahead L (sphere_of s image) (new_log mode s) → (j : ℕ) (t : Parts) → slice_get (first_threads image) j ≡ Some t → interrupt_at L.interrupts j t.commits ≡ None
 start_none L s image mode a zero t e = elim (a.next zero t e) [
   | inl h ↦ h
   | inr takes ↦ absurd (true≢false (sym takes ∙ ap takes_interrupt (let g : started image.entry ≡ t = cc in sym g)))
 ]
 start_none L s image mode a (suc j) t e = absurd (none-some t e)
 
-start_reaches : (L : LogParts) (s : ℕ) (image : SphereSetup) (mode : ModeName) → Ahead L (sphere_of s image) (new_log mode s) → Reaches L (opened L image.memory image.entry) (sphere_of s image) (new_log mode s)
+start_reaches : (L : LogParts) (s : ℕ) (image : SphereSetup) (mode : ModeName) → Ahead L (sphere_of s image) (new_log mode s) → Reaches L (first_played image L) (sphere_of s image) (new_log mode s)
 start_reaches L s image mode a =
     record {
       memory = refl;
@@ -167,7 +167,7 @@ start_reaches L s image mode a =
       progress = refl;
       inputs = refl;
       dmas = refl;
-      interrupts = (let h = sum-zero (pending L.interrupts []) 0 (started image.entry ∷ []) (λ j t e.
+      interrupts = (let h = sum-zero (pending L.interrupts []) 0 (first_threads image) (λ j t e.
           let k : 0 + j ≡ j = omega arith in
           ap (λ (n : ℕ). pending L.interrupts [] n t) k ∙ pending_same None (interrupt_at L.interrupts j t.commits) (start_none L s image mode a j t e)) in omega arith);
       now = refl;
@@ -231,11 +231,11 @@ over_at L p u ts at_ left =
     ap (λ (b : Bool). cond b (turn_of (position p) ts (next_actor L p ts)) (at_end (position p) (has_left_over L u ts))) (le-ltb (position p) L.count (omega arith))
     ∙ ap (at_end (position p)) left ∙ ap (λ (n : ℕ). Ended (End.Complete n)) at_
 
-ends : (L : LogParts) (image : SphereSetup) (q : Sphere) → Stands q L → Reaches L (opened L image.memory image.entry) q L → PlaysBack L image q
+ends : (L : LogParts) (image : SphereSetup) (q : Sphere) → Stands q L → Reaches L (first_played image L) q L → PlaysBack L image q
 ends L image q s r =
-    let y0 : Played = opened L image.memory image.entry in
-    let f : Follows L q L (play L image.memory image.entry) = subst (λ (n : ℕ). Follows L q L (plays L y0 n)) (sym s.count) r in
-    let y : Played = play L image.memory image.entry in
+    let y0 : Played = first_played image L in
+    let f : Follows L q L (last_played image L) = subst (λ (n : ℕ). Follows L q L (plays L y0 n)) (sym s.count) r in
+    let y : Played = last_played image L in
     let threads : y.threads ≡ q.threads = same_list y.threads q.threads f.size (λ j t e. f.threads j t e ∙ ap Some (early_same (interrupt_at L.interrupts j t.commits) (interrupt_at L.interrupts j t.commits) t refl)) in
     let sum : sum_from (pending L.interrupts L.interrupts) 0 q.threads ≡ 0 =
     sum-zero (pending L.interrupts L.interrupts) 0 q.threads (λ j t e. pending_same (interrupt_at L.interrupts (0 + j) t.commits) (interrupt_at L.interrupts (0 + j) t.commits) refl) in
@@ -252,19 +252,19 @@ ends L image q s r =
 
 -- the log of a recorded sphere fits its image, and its play leaves what the recording has
 pub logs_play_back : LogsPlayBack
-logs_play_back s es i image mode will p log shown log_ =
+logs_play_back s es i image asked will p recording shown role_ =
     let is = will.setup in
     let there = will.there in
     let role = will.role in
     let m = moves_are s es is in
     let z : ℕ = s.numbers.s in
-    let c = moves_come s.numbers (serial_start s) (moves (world_of s) es) i (sphere_of z image) (new_log mode z) is.buffer refl (start-sphere z s.spheres i image there)
-    (ap (role_of z (started image.entry ∷ [])) role) m.possible in
+    let c = moves_come s.numbers (serial_start s) (moves (world_of s) es) i (sphere_of z image) (new_recording asked z) is.buffer refl (start-sphere z s.spheres i image there)
+    (ap (role_of z (first_threads image)) role) m.possible in
     let q : Sphere = c.sphere in
-    let L : LogParts = c.log in
+    let L : LogParts = c.recording.log in
     let same : q ≡ p = (let h : Some q ≡ Some p = sym c.there ∙ ap (λ (x : SerialState). slice_get x.spheres i) (sym m.same) ∙ shown in cc) in
-    let logs : L ≡ log = (let h : Record L ≡ Record log = sym c.role ∙ ap (λ (x : Sphere). x.role) same ∙ log_ in cc) in
-    let st = start-stands z image mode in
+    let kept : c.recording ≡ recording = (let h : Record c.recording ≡ Record recording = sym c.role ∙ ap (λ (x : Sphere). x.role) same ∙ role_ in cc) in
+    let st = start-stands z image asked.mode in
     let last : Ahead L q L = ahead-end q L in
-    let done : PlaysBack L image q = ends L image q (c.grown.stands st) (c.grown.reaches L (opened L image.memory image.entry) st last (start_reaches L z image mode (c.grown.ahead L last))) in
-    subst (λ (l : LogParts). PlaysBack l image p) logs (subst (PlaysBack L image) same done)
+    let done : PlaysBack L image q = ends L image q (c.grown.stands st) (c.grown.reaches L (first_played image L) st last (start_reaches L z image asked.mode (c.grown.ahead L last))) in
+    subst (λ (r : Recording). PlaysBack r.log image p) kept (subst (PlaysBack L image) same done)

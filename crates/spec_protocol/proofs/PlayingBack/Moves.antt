@@ -24,10 +24,10 @@ use Rattle.spec_play.specs.Progress.{position}
 use Rattle.spec_play.specs.Recording.{noted, interrupt_noted}
 use Rattle.spec_play.specs.Plays.{Played, plays}
 use Rattle.spec_engine.specs.declared.answers.How.{How}
-use Rattle.spec_protocol.specs.Spheres.{Role, Record, Sphere, recording_turn, head_in, head_of, limit_in, limit_of, is_in_pieces}
+use Rattle.spec_protocol.specs.Spheres.{other_than, turn_in, turn_against, Recording, Role, Record, Sphere, recording_turn, head_in, head_of, limit_in, limit_of, is_in_pieces}
 use Rattle.spec_protocol.specs.Commits.{MovedSphere, is_piece, chunk_in, serial_noted, serial_in, dma_log, raised, dma_as}
 use Rattle.spec_protocol.specs.World.{Numbers}
-use Rattle.spec_protocol.specs.Asking.{is_short, other_turn}
+use Rattle.spec_protocol.specs.Asking.{is_short}
 use Rattle.spec_protocol.specs.Serial.{laid}
 use Rattle.spec_protocol.specs.Moves.{ChunkFits, SerialFits}
 use Rattle.spec_protocol.proofs.Moves.Threads.{run-keeps, serve-keeps}
@@ -39,6 +39,7 @@ use Rattle.spec_protocol.proofs.PlayingBack.Commits.{commit-size, commit-follows
 use Rattle.spec_protocol.proofs.PlayingBack.Verdicts.{run-stops, chunk-goes, serial-goes}
 use Rattle.spec_protocol.proofs.PlayingBack.Transfers.{transferred-follows, raised-follows}
 use Rattle.std.specs.List.{prefix_len}
+use Rattle.spec_play.proofs.Positions.{position-more}
 
 -- ---- a sphere and its log, before and after
 
@@ -108,7 +109,7 @@ turn_some : (last : Option ℕ) (ts : List Parts) (k : ℕ) (t : Parts) → slic
 turn_some None ts k t e live = first_some ts k t e live
 turn_some (Some last) ts k t e live = let f = first_some ts k t e live in or_some (next_live last (map is_live ts)) (first_live (map is_live ts)) f.0 f.1
 
-no_other : (j k : ℕ) → other_turn (Some (Actor.Thread j)) k ≡ None → j ≡ k
+no_other : (j k : ℕ) → other_than (Actor.Thread k) (Some (Actor.Thread j)) ≡ None → j ≡ k
 no_other j k e =
     eqb-true j k (elim (eqb j k) as (λ b. cond b None (Some (Actor.Thread j)) ≡ None → b ≡ true) [
       | true ↦ λ h. refl
@@ -116,14 +117,14 @@ no_other j k e =
     ] e)
 
 -- in picolog the thread whose chunk or step is granted has the turn
-taken_turn : (L log : LogParts) (p : Sphere) (k : ℕ) (t : Parts) → p.role ≡ Record log → L.mode ≡ log.mode → slice_get p.threads k ≡ Some t → is_live t ≡ true → other_turn (head_of p) k ≡ None → L.mode ≡ ModeName.Picolog → turn p.progress.last (map is_live p.threads) ≡ Some k
-unfolding head_of
-taken_turn L log p k t role mode is live free pico =
+taken_turn : (L : LogParts) (recording : Recording) (p : Sphere) (k : ℕ) (t : Parts) → p.role ≡ Record recording → L.mode ≡ recording.log.mode → slice_get p.threads k ≡ Some t → is_live t ≡ true → turn_against p (Actor.Thread k) ≡ None → L.mode ≡ ModeName.Picolog → turn p.progress.last (map is_live p.threads) ≡ Some k
+unfolding turn_against
+taken_turn L recording p k t role mode is live free pico =
     let some = turn_some p.progress.last p.threads k t is live in
-    let head : other_turn (Some (Actor.Thread some.0)) k ≡ None =
+    let head : other_than (Actor.Thread k) (Some (Actor.Thread some.0)) ≡ None =
     sym (
-    ap (λ (r : Role). other_turn (head_in r p) k) role ∙ ap (λ (m : ModeName). other_turn (recording_turn m p) k) (sym mode ∙ pico)
-    ∙ ap (λ (o : Option ℕ). other_turn (option_map Actor.Thread o) k) some.1
+    ap (λ (r : Role). turn_in r p (Actor.Thread k)) role ∙ ap (λ (m : ModeName). other_than (Actor.Thread k) (recording_turn m p)) (sym mode ∙ pico)
+    ∙ ap (λ (o : Option ℕ). other_than (Actor.Thread k) (option_map Actor.Thread o)) some.1
     )
     ∙ free
     in
@@ -131,19 +132,19 @@ taken_turn L log p k t role mode is live free pico =
 
 -- ---- a chunk
 
-some_ran : (z : Numbers) (log : LogParts) (p : Sphere) (k : ℕ) (t : Parts) (how : How) (n limit : ℕ) → p.role ≡ Record log → 0 < z.capacity → ChunkFits z p k t how n limit → 0 < n
-some_ran z log p k t How.Limit n limit role buffer f = let a = f.full refl in let b = f.positive in omega arith
-some_ran z log p k t How.Serial n limit role buffer f =
+some_ran : (z : Numbers) (recording : Recording) (p : Sphere) (k : ℕ) (t : Parts) (how : How) (n limit : ℕ) → p.role ≡ Record recording → 0 < z.capacity → ChunkFits z p k t how n limit → 0 < n
+some_ran z recording p k t How.Limit n limit role buffer f = let a = f.full refl in let b = f.positive in omega arith
+some_ran z recording p k t How.Serial n limit role buffer f =
     elim (cases_eq n 0) [
       | inl e ↦ absurd (true≢false (sym (f.some refl e) ∙ ap is_in_pieces role))
       | inr ne ↦ omega arith
     ]
-some_ran z log p k t How.Overflow n limit role buffer f = let a = f.room refl in omega arith
-some_ran z log p k t How.Cut n limit role buffer f = f.cut refl
+some_ran z recording p k t How.Overflow n limit role buffer f = let a = f.room refl in omega arith
+some_ran z recording p k t How.Cut n limit role buffer f = f.cut refl
 
-limit_is : (z : Numbers) (log : LogParts) (p : Sphere) (k : ℕ) (t : Parts) → p.role ≡ Record log → limit_of z.s p.role k t ≡ z.s
+limit_is : (z : Numbers) (recording : Recording) (p : Sphere) (k : ℕ) (t : Parts) → p.role ≡ Record recording → limit_of z.s p.role k t ≡ z.s
 unfolding limit_of
-limit_is z log p k t role = ap (λ (r : Role). limit_in r z.s k t.commits) role
+limit_is z recording p k t role = ap (λ (r : Role). limit_in r z.s k t.commits) role
 
 not_less : (m n : ℕ) → nat_lt m n ≡ false → n ≤ m
 not_less m n e = elim (cases_lt m n) [
@@ -152,30 +153,30 @@ not_less m n e = elim (cases_lt m n) [
 ]
 
 -- a chunk that is not short is as long as a run of the standard size
-whole_run : (z : Numbers) (log : LogParts) (p : Sphere) (k : ℕ) (t : Parts) (how : How) (n limit : ℕ) → p.role ≡ Record log → ChunkFits z p k t how n limit → is_short z.s how limit ≡ false → run p.memory t z.s ≡ run p.memory t n
-whole_run z log p k t How.Limit n limit role f short =
-    let a = f.full refl in let b = f.limited in let c = limit_is z log p k t role in let d = not_less limit z.s short in
+whole_run : (z : Numbers) (recording : Recording) (p : Sphere) (k : ℕ) (t : Parts) (how : How) (n limit : ℕ) → p.role ≡ Record recording → ChunkFits z p k t how n limit → is_short z.s how limit ≡ false → run p.memory t z.s ≡ run p.memory t n
+whole_run z recording p k t How.Limit n limit role f short =
+    let a = f.full refl in let b = f.limited in let c = limit_is z recording p k t role in let d = not_less limit z.s short in
     let e : z.s ≡ n = omega arith in
     ap (run p.memory t) e
-whole_run z log p k t How.Serial n limit role f short =
-    let a = f.early (λ h. let g : How.Serial ≡ How.Limit = h in cc) in let b = f.limited in let c = limit_is z log p k t role in
+whole_run z recording p k t How.Serial n limit role f short =
+    let a = f.early (λ h. let g : How.Serial ≡ How.Limit = h in cc) in let b = f.limited in let c = limit_is z recording p k t role in
     run-stops p.memory t n z.s (omega arith) (f.serial refl)
-whole_run z log p k t How.Overflow n limit role f short = absurd (true≢false short)
-whole_run z log p k t How.Cut n limit role f short = absurd (true≢false short)
+whole_run z recording p k t How.Overflow n limit role f short = absurd (true≢false short)
+whole_run z recording p k t How.Cut n limit role f short = absurd (true≢false short)
 
-abbrev recorded_chunk : Numbers → LogParts → Sphere → ℕ → Parts → How → (n limit : ℕ) → Devices → MovedSphere
-recorded_chunk z log p k t how n limit devices = chunk_in (Record log) k (is_piece how) (is_short z.s how limit) (run p.memory t n) devices p
+abbrev recorded_chunk : Numbers → Recording → Sphere → ℕ → Parts → How → (n limit : ℕ) → Devices → MovedSphere
+recorded_chunk z recording p k t how n limit devices = chunk_in (Record recording) k (is_piece how) (is_short z.s how limit) (run p.memory t n) devices p
 
 abbrev chunk_log : Numbers → LogParts → Sphere → ℕ → Parts → How → (n limit : ℕ) → LogParts
 chunk_log z log p k t how n limit =
     let r = run p.memory t n in noted (chunk_effect k p.progress.request r).commit r.thread.commits (is_short z.s how limit) log
 
 -- a recorded chunk is a commit of its thread
-pub chunk-committed : (log : LogParts) (p : Sphere) (k : ℕ) (t : Parts) (piece short : Bool) (n : ℕ) (devices : Devices) → slice_get p.threads k ≡ Some t
+pub chunk-committed : (recording : Recording) (p : Sphere) (k : ℕ) (t : Parts) (piece short : Bool) (n : ℕ) (devices : Devices) → slice_get p.threads k ≡ Some t
     → let r = run p.memory t n in
     let e = chunk_effect k p.progress.request r in
-    HasCommitted (commit_of k short t e None) p (laid (chunk_in (Record log) k piece short r devices p)) log (noted e.commit r.thread.commits short log)
-chunk-committed log p k t piece short n devices is =
+    HasCommitted (commit_of k short t e None) p (laid (chunk_in (Record recording) k piece short r devices p)) recording.log (noted e.commit r.thread.commits short recording.log)
+chunk-committed recording p k t piece short n devices is =
     let r = run p.memory t n in
     let e = chunk_effect k p.progress.request r in
     record {
@@ -183,45 +184,45 @@ chunk-committed log p k t piece short n devices is =
       threads = refl;
       commits = ap (λ (c : ℕ). c + 1) (run-keeps p.memory t n);
       new = tt;
-      position_ = (let h = length-append p.progress.commits (e.commit ∷ []) in omega arith);
+      position_ = position-more p.progress e.commit;
       actor = refl;
-      log_ = ap (λ (c : ℕ). noted e.commit c short log) (run-keeps p.memory t n);
+      log_ = ap (λ (c : ℕ). noted e.commit c short recording.log) (run-keeps p.memory t n);
     }
 
 -- a recorded sphere and its log have grown after a chunk
-pub chunk-grown : (z : Numbers) (log : LogParts) (p : Sphere) (k : ℕ) (t : Parts) (how : How) (n limit : ℕ) (devices : Devices) → p.role ≡ Record log → log.s ≡ z.s → 0 < z.capacity → slice_get p.threads k ≡ Some t → ChunkFits z p k t how n limit
-    → Grown p (laid (recorded_chunk z log p k t how n limit devices)) log (chunk_log z log p k t how n limit)
-chunk-grown z log p k t how n limit devices role s buffer is fits =
+pub chunk-grown : (z : Numbers) (recording : Recording) (p : Sphere) (k : ℕ) (t : Parts) (how : How) (n limit : ℕ) (devices : Devices) → p.role ≡ Record recording → recording.log.s ≡ z.s → 0 < z.capacity → slice_get p.threads k ≡ Some t → ChunkFits z p k t how n limit
+    → Grown p (laid (recorded_chunk z recording p k t how n limit devices)) recording.log (chunk_log z recording.log p k t how n limit)
+chunk-grown z recording p k t how n limit devices role s buffer is fits =
     let r = run p.memory t n in
     let e = chunk_effect k p.progress.request r in
     let short = is_short z.s how limit in
-    let q = laid (recorded_chunk z log p k t how n limit devices) in
-    let qlog = chunk_log z log p k t how n limit in
+    let q = laid (recorded_chunk z recording p k t how n limit devices) in
+    let qlog = chunk_log z recording.log p k t how n limit in
     let c = commit_of k short t e None in
-    let d = chunk-committed log p k t (is_piece how) short n devices is in
-    let some = some_ran z log p k t how n limit role buffer fits in
-    commit_grown c p q log qlog e d
+    let d = chunk-committed recording p k t (is_piece how) short n devices is in
+    let some = some_ran z recording p k t how n limit role buffer fits in
+    commit_grown c p q recording.log qlog e d
     (λ L y sp ap_ aq f.
-    let size = commit-size L c p q log qlog d sp aq in
+    let size = commit-size L c p q recording.log qlog d sp aq in
     record {
       thread = refl;
       spawned = refl;
       memory = refl;
       progress = refl;
       live = fits.live;
-      turn_ = taken_turn L log p k t role ap_.mode is fits.live fits.turn;
+      turn_ = taken_turn L recording p k t role ap_.mode is fits.live fits.turn;
       verdict = chunk-goes L y k n p.memory t p.progress (record y.used { inputs = length qlog.inputs }) some fits.ran f.memory f.progress (λ i. record y.used { inputs = f.inputs i })
           (elim size [
             | inl h ↦ inl (h ∙ ap (λ (m : ℕ). Some m) fits.ran)
-            | inr h ↦ inr (h.0, ap (run p.memory t) (ap_.s ∙ s) ∙ whole_run z log p k t how n limit role fits h.1)
+            | inr h ↦ inr (h.0, ap (run p.memory t) (ap_.s ∙ s) ∙ whole_run z recording p k t how n limit role fits h.1)
           ]);
     })
 
 -- ---- a serial step
 
 -- what a serial step makes of a recorded sphere
-abbrev pub recorded_serial : LogParts → Sphere → ℕ → (moment : ℕ) → Parts → Devices → MovedSphere
-recorded_serial log p k moment t devices = serial_in (Record log) k moment t devices p
+abbrev pub recorded_serial : Recording → Sphere → ℕ → (moment : ℕ) → Parts → Devices → MovedSphere
+recorded_serial recording p k moment t devices = serial_in (Record recording) k moment t devices p
 
 abbrev serial_log : LogParts → Sphere → ℕ → (moment : ℕ) → Parts → Devices → LogParts
 serial_log log p k moment t devices = serial_noted k t (taken (need t p.memory) devices moment) log p
@@ -230,10 +231,10 @@ abbrev effect_of : Sphere → ℕ → (moment : ℕ) → Parts → Devices → E
 effect_of p k moment t devices = serial_effect k (serve k p.threads p.progress.request t p.memory (taken (need t p.memory) devices moment).input)
 
 -- a recorded serial step is a commit of its thread
-pub serial-committed : (log : LogParts) (p : Sphere) (k moment : ℕ) (t : Parts) (devices : Devices) → slice_get p.threads k ≡ Some t
+pub serial-committed : (recording : Recording) (p : Sphere) (k moment : ℕ) (t : Parts) (devices : Devices) → slice_get p.threads k ≡ Some t
     → let e = effect_of p k moment t devices in
-    HasCommitted (commit_of k false t e (taken (need t p.memory) devices moment).input) p (laid (recorded_serial log p k moment t devices)) log (serial_log log p k moment t devices)
-serial-committed log p k moment t devices is =
+    HasCommitted (commit_of k false t e (taken (need t p.memory) devices moment).input) p (laid (recorded_serial recording p k moment t devices)) recording.log (serial_log recording.log p k moment t devices)
+serial-committed recording p k moment t devices is =
     let e = effect_of p k moment t devices in
     let h = serve-keeps k p.threads p.progress.request t p.memory (taken (need t p.memory) devices moment).input in
     record {
@@ -241,32 +242,32 @@ serial-committed log p k moment t devices is =
       threads = refl;
       commits = ap (λ (c : ℕ). c + 1) h.commits;
       new = h.fresh;
-      position_ = (let h = length-append p.progress.commits (e.commit ∷ []) in omega arith);
+      position_ = position-more p.progress e.commit;
       actor = refl;
       log_ = refl;
     }
 
 -- a recorded sphere and its log have grown after a serial step
-pub serial-grown : (log : LogParts) (p : Sphere) (k moment : ℕ) (t : Parts) (devices : Devices) → p.role ≡ Record log → slice_get p.threads k ≡ Some t → SerialFits p k t
-    → Grown p (laid (recorded_serial log p k moment t devices)) log (serial_log log p k moment t devices)
-serial-grown log p k moment t devices role is fits =
+pub serial-grown : (recording : Recording) (p : Sphere) (k moment : ℕ) (t : Parts) (devices : Devices) → p.role ≡ Record recording → slice_get p.threads k ≡ Some t → SerialFits p k t
+    → Grown p (laid (recorded_serial recording p k moment t devices)) recording.log (serial_log recording.log p k moment t devices)
+serial-grown recording p k moment t devices role is fits =
     let e = effect_of p k moment t devices in
     let o : Option Input = (taken (need t p.memory) devices moment).input in
-    let q = laid (recorded_serial log p k moment t devices) in
-    let qlog = serial_log log p k moment t devices in
+    let q = laid (recorded_serial recording p k moment t devices) in
+    let qlog = serial_log recording.log p k moment t devices in
     let c = commit_of k false t e o in
-    let d = serial-committed log p k moment t devices is in
-    commit_grown c p q log qlog e d
+    let d = serial-committed recording p k moment t devices is in
+    commit_grown c p q recording.log qlog e d
     (λ L y sp ap_ aq f.
-    let size = commit-size L c p q log qlog d sp aq in
+    let size = commit-size L c p q recording.log qlog d sp aq in
     record {
       thread = refl;
       spawned = refl;
       memory = refl;
       progress = refl;
       live = fits.live;
-      turn_ = taken_turn L log p k t role ap_.mode is fits.live fits.turn;
-      verdict = serial-goes L y k p.memory t p.progress p.threads devices moment (noted e.commit t.commits false log) f.memory f.progress (look-alike L p log y f) f.inputs fits.serial
+      turn_ = taken_turn L recording p k t role ap_.mode is fits.live fits.turn;
+      verdict = serial-goes L y k p.memory t p.progress p.threads devices moment (noted e.commit t.commits false recording.log) f.memory f.progress (look-alike L p recording.log y f) f.inputs fits.serial
           (elim size [
             | inl h ↦ inl h
             | inr h ↦ inr h.0
@@ -276,16 +277,17 @@ serial-grown log p k moment t devices role is fits =
 -- ---- a DMA
 
 -- what a DMA makes of a recorded sphere
-abbrev pub recorded_dma : LogParts → Sphere → Devices → Request → MovedSphere
-recorded_dma log p devices request = dma_as (Record (dma_log log devices p (Some request))) (dma_words request (dma_bytes devices request)) (dma_taken devices request) p
+abbrev pub recorded_dma : Recording → Sphere → Devices → Request → MovedSphere
+recorded_dma recording p devices request = dma_as (Record (record recording { log = dma_log recording.log devices p (Some request) })) (dma_words request (dma_bytes devices request)) (dma_taken devices request) p
 
 -- a recorded sphere and its log have grown after a DMA
-pub dma-grown : (log : LogParts) (p : Sphere) (devices : Devices) (request : Request) → p.progress.request ≡ Some request → Grown p (laid (recorded_dma log p devices request)) log (dma_log log devices p (Some request))
-dma-grown log p devices request asked =
-    let q = laid (recorded_dma log p devices request) in
+pub dma-grown : (recording : Recording) (p : Sphere) (devices : Devices) (request : Request) → p.progress.request ≡ Some request → Grown p (laid (recorded_dma recording p devices request)) recording.log (dma_log recording.log devices p (Some request))
+dma-grown recording p devices request asked =
+    let log = recording.log in
+    let q = laid (recorded_dma recording p devices request) in
     let qlog = dma_log log devices p (Some request) in
     let bytes = dma_bytes devices request in
-    let d : Transferred p q log qlog bytes = record { threads = refl; position_ = (let h = length-append p.progress.commits (dma_commit ∷ []) in omega arith); log_ = refl } in
+    let d : Transferred p q log qlog bytes = record { threads = refl; position_ = position-more p.progress dma_commit; log_ = refl } in
     record {
       stands = transferred-stands p q log qlog bytes d;
       s = refl;
@@ -298,15 +300,15 @@ dma-grown log p devices request asked =
 -- ---- an interrupt
 
 -- a recorded sphere and its log have grown after an interrupt
-pub raise-grown : (log : LogParts) (p : Sphere) (k value : ℕ) (t : Parts) → p.role ≡ Record log → slice_get p.threads k ≡ Some t → takes_interrupt t ≡ true → Grown p (raised k value t p) log (interrupt_noted k t.commits value log)
+pub raise-grown : (recording : Recording) (p : Sphere) (k value : ℕ) (t : Parts) → p.role ≡ Record recording → slice_get p.threads k ≡ Some t → takes_interrupt t ≡ true → Grown p (raised k value t p) recording.log (interrupt_noted k t.commits value recording.log)
 unfolding raised
-raise-grown log p k value t role is takes =
+raise-grown recording p k value t role is takes =
     let q = raised k value t p in
-    let qlog = interrupt_noted k t.commits value log in
-    let d : WasRaised k value p q log qlog t = record { start = is; takes = takes; threads = refl; progress = refl; log_ = refl } in
+    let qlog = interrupt_noted k t.commits value recording.log in
+    let d : WasRaised k value p q recording.log qlog t = record { start = is; takes = takes; threads = refl; progress = refl; log_ = refl } in
     record {
-      stands = raised-stands k value p q log qlog t d;
+      stands = raised-stands k value p q recording.log qlog t d;
       s = refl;
-      ahead = λ L a. raised-ahead L k value p q log qlog t d a;
-      reaches = λ L y s a f. raised-follows L p q log qlog k value t d s a (plays L y (position p.progress)) refl f;
+      ahead = λ L a. raised-ahead L k value p q recording.log qlog t d a;
+      reaches = λ L y s a f. raised-follows L p q recording.log qlog k value t d s a (plays L y (position p.progress)) refl f;
     }

@@ -48,7 +48,7 @@ moved_puts i x p v c is commits console =
     let was : sphere_in x i ≡ p = get_or_from_slice_get x.spheres i p no_sphere is in
     let now : sphere_in (do_moved x i v) i ≡ laid v = get_or_from_slice_get (slice_set x.spheres i (laid v)) i (laid v) no_sphere (get-set_same x.spheres i (laid v) p is) in
     let new : new_commits i x (do_moved x i v) ≡ c ∷ [] =
-    (λ h. drop (position (was h).progress) (now h).progress.commits) ∙ ap (drop (length p.progress.commits)) commits ∙ drop-append_seam p.progress.commits (c ∷ [])
+    (λ h. drop (length (was h).progress.commits) (now h).progress.commits) ∙ ap (drop (length p.progress.commits)) commits ∙ drop-append_seam p.progress.commits (c ∷ [])
     in
     console
     ∙ ap (λ (bytes : List ℕ). x.devices.console ++ bytes) (sym (append-nil (flat_map on_console c.outputs)))
@@ -63,14 +63,14 @@ silent_puts i x p v c is commits silent same =
 
 abbrev IsLive : Role → Type 0
 IsLive Plain = Unit {0}
-IsLive (Record log) = Unit {0}
+IsLive (Record recording) = Unit {0}
 IsLive (Replay b) = ⊥
 
 chunk_puts : (role : Role) (i : ℕ) (x : SerialState) (k size : ℕ) (short : Bool) (p : Sphere) (t : Parts) → IsLive role → slice_get x.spheres i ≡ Some p → Puts i x (do_moved x i (chunk_in role k false short (run p.memory t size) x.devices p))
 chunk_puts Plain i x k size short p t live is =
     silent_puts i x p (chunk_in Plain k false short (run p.memory t size) x.devices p) (chunk_commit k (run p.memory t size)) is refl refl refl
-chunk_puts (Record log) i x k size short p t live is =
-    silent_puts i x p (chunk_in (Record log) k false short (run p.memory t size) x.devices p) (chunk_commit k (run p.memory t size)) is refl refl refl
+chunk_puts (Record recording) i x k size short p t live is =
+    silent_puts i x p (chunk_in (Record recording) k false short (run p.memory t size) x.devices p) (chunk_commit k (run p.memory t size)) is refl refl refl
 chunk_puts (Replay b) i x k size short p t live is = absurd live
 
 chunk_if : (i : ℕ) (x : SerialState) (k size : ℕ) (short : Bool) (p : Sphere) (o : Option Parts) → IsLive p.role → slice_get x.spheres i ≡ Some p → Puts i x (do_chunk x i k size short p o)
@@ -85,8 +85,8 @@ served_commit k moment t devices p =
 serial_puts : (role : Role) (i : ℕ) (x : SerialState) (k moment : ℕ) (p : Sphere) (t : Parts) → IsLive role → slice_get x.spheres i ≡ Some p → Puts i x (do_moved x i (serial_in role k moment t x.devices p))
 serial_puts Plain i x k moment p t live is =
     moved_puts i x p (serial_in Plain k moment t x.devices p) (served_commit k moment t x.devices p) is refl (serve-tells k p.threads p.progress.request t p.memory x.devices moment)
-serial_puts (Record log) i x k moment p t live is =
-    moved_puts i x p (serial_in (Record log) k moment t x.devices p) (served_commit k moment t x.devices p) is refl (serve-tells k p.threads p.progress.request t p.memory x.devices moment)
+serial_puts (Record recording) i x k moment p t live is =
+    moved_puts i x p (serial_in (Record recording) k moment t x.devices p) (served_commit k moment t x.devices p) is refl (serve-tells k p.threads p.progress.request t p.memory x.devices moment)
 serial_puts (Replay b) i x k moment p t live is = absurd live
 
 serial_if : (i : ℕ) (x : SerialState) (k moment : ℕ) (p : Sphere) (o : Option Parts) → IsLive p.role → slice_get x.spheres i ≡ Some p → Puts i x (do_serial x i k moment p o)
@@ -101,7 +101,7 @@ live_puts role i x p (Some request) is =
 
 dma_puts : (role : Role) (i : ℕ) (x : SerialState) (p : Sphere) → IsLive role → slice_get x.spheres i ≡ Some p → Puts i x (do_dma x i (dma_in role x.devices p))
 dma_puts Plain i x p live is = live_puts Plain i x p p.progress.request is
-dma_puts (Record log) i x p live is = live_puts (Record (dma_log log x.devices p p.progress.request)) i x p p.progress.request is
+dma_puts (Record recording) i x p live is = live_puts (Record (record recording { log = dma_log recording.log x.devices p p.progress.request })) i x p p.progress.request is
 dma_puts (Replay b) i x p live is = absurd live
 
 raise_puts : (i : ℕ) (x : SerialState) (k value : ℕ) (p : Sphere) (o : Option Parts) → slice_get x.spheres i ≡ Some p → Puts i x (do_raise x i k value p o)
@@ -129,7 +129,7 @@ kind_puts i x moment Actor.Dma CommitKind.Dma size short p live is = dma_puts p.
 
 role_puts : (role : Role) (i : ℕ) (x done : SerialState) → (IsLive role → Puts i x done) → Puts i x (in_live role x done)
 role_puts Plain i x done puts = puts tt
-role_puts (Record log) i x done puts = puts tt
+role_puts (Record recording) i x done puts = puts tt
 role_puts (Replay b) i x done puts = still_puts i x x refl refl
 
 commit_puts : (i : ℕ) (x : SerialState) (moment : ℕ) (actor : Actor) (kind : CommitKind) (size : ℕ) (short : Bool) (o : Option Sphere) → slice_get x.spheres i ≡ o → Puts i x (do_commit x moment i actor kind size short o)

@@ -22,7 +22,7 @@ use Rattle.spec_kernel.specs.Serving.{serve}
 use Rattle.spec_play.specs.Effects.{chunk_effect, serial_effect, dma_commit}
 use Rattle.spec_play.specs.Progress.{position}
 use Rattle.spec_play.specs.Recording.{noted, interrupt_noted}
-use Rattle.spec_protocol.specs.Spheres.{Record, Sphere}
+use Rattle.spec_protocol.specs.Spheres.{Recording, Record, Sphere}
 use Rattle.spec_protocol.specs.Commits.{MovedSphere, chunk_in, serial_noted, dma_log, role_raised, raised}
 use Rattle.spec_protocol.specs.Serial.{SerialState, laid}
 use Rattle.spec_protocol.specs.Logged.{Supplied, actors_of, is_short_chunk, logged}
@@ -35,12 +35,17 @@ use Rattle.spec_protocol.proofs.PlayingBack.Transfers.{open-takes}
 use Rattle.spec_protocol.proofs.Points.OneMore.{points_so, points-more, commits_of, actors-append}
 use Rattle.spec_protocol.proofs.Points.Noted.{point_of, commit-logged, dma-logged, raise-logged}
 use Rattle.spec_protocol.proofs.Moves.Spawning.{AreFew, serve-few}
+use Rattle.spec_play.proofs.Positions.{position-more}
 
 -- ---- what stands between two points
 
+-- what a sphere keeps whose log is this
+abbrev pub keeping : LogParts → Recording
+keeping log = record { log = log }
+
 -- the sphere keeps the log of these points, has as many commits as they tell, and not too many threads
 pub record Keeps (mode : ModeName) (s : ℕ) (cs : List Supplied) (p : Sphere) : Type 0 where
-  pub role : p.role ≡ Record (logged mode s cs)
+  pub role : p.role ≡ Record (keeping (logged mode s cs))
   pub commits : (k : ℕ) → commits_of k (points_so cs) ≡ commits_in p.threads k
   pub place : length (actors_of (points_so cs)) ≡ position p.progress
   pub stands : Stands p (logged mode s cs)
@@ -61,7 +66,7 @@ no_thread_more j (a ∷ acts) = ap (λ (n : ℕ). cond (is_thread j a) (suc n) n
 
 -- what a chunk makes of a recorded sphere
 abbrev pub recorded_chunk : LogParts → (thread : ℕ) → (short : Bool) → Run → Devices → Sphere → MovedSphere
-recorded_chunk log k short r devices p = chunk_in (Record log) k false short r devices p
+recorded_chunk log k short r devices p = chunk_in (Record (keeping log)) k false short r devices p
 
 -- ---- one point more
 
@@ -70,7 +75,7 @@ module _ (mode : ModeName) (s : ℕ) (cs : List Supplied) where
   -- ---- a commit of a thread
 
   commit_keeps : (c : ThreadCommit) (moment i size : ℕ) (kind : CommitKind) (short : Bool) (p q : Sphere) (qlog : LogParts)
-      → Keeps mode s cs p → HasCommitted c p q (logged mode s cs) qlog → q.role ≡ Record qlog → c.commit.size ≡ size → c.short ≡ is_short_chunk kind short → AreFew p.threads c.spawned
+      → Keeps mode s cs p → HasCommitted c p q (logged mode s cs) qlog → q.role ≡ Record (keeping qlog) → c.commit.size ≡ size → c.short ≡ is_short_chunk kind short → AreFew p.threads c.spawned
       → Keeps mode s (cs ++ point_of moment i size kind short c ∷ []) q
   commit_keeps c moment i size kind short p q qlog keeps d role sized early few =
       let ps = points_so cs in
@@ -80,7 +85,7 @@ module _ (mode : ModeName) (s : ℕ) (cs : List Supplied) where
       let before_ : c.before.commits ≡ commits_of c.thread ps = sym (keeps.commits c.thread ∙ g.was) in
       let now : qlog ≡ logged mode s (cs ++ x ∷ []) = d.log_ ∙ commit-logged mode s cs c moment i size kind short below before_ d.actor sized early in
       record {
-        role = role ∙ ap (λ (log : LogParts). Record log) now;
+        role = role ∙ ap (λ (log : LogParts). Record (keeping log)) now;
         stands = subst (Stands q) now (has_committed-stands c p q (logged mode s cs) qlog d keeps.stands);
         commits = λ j. ap (count_of j) (more_actors cs x) ∙ counts-stand c.thread (actors_of ps) p.threads q.threads c.before g keeps.commits j;
         place = (let a = ap (λ (as_ : List Actor). length as_) (more_actors cs x) in let b = length-append (actors_of ps) (Actor.Thread c.thread ∷ []) in let h = keeps.place in let e = d.position_ in omega arith);
@@ -95,38 +100,38 @@ module _ (mode : ModeName) (s : ℕ) (cs : List Supplied) where
       let e = chunk_effect k p.progress.request r in
       let log = logged mode s cs in
       let q = laid (recorded_chunk log k short r devices p) in
-      let d : HasCommitted (commit_of k short t e None) p q log (noted e.commit r.thread.commits short log) = chunk-committed log p k t false short size devices is in
+      let d : HasCommitted (commit_of k short t e None) p q log (noted e.commit r.thread.commits short log) = chunk-committed (keeping log) p k t false short size devices is in
       commit_keeps (commit_of k short t e None) moment i size CommitKind.Chunk short p q (noted e.commit r.thread.commits short log) keeps d refl ran refl (let l = keeps.few in omega arith)
 
   -- after a serial step the sphere keeps the log of its points and the step's
   pub serial-keeps : (moment i k size : ℕ) (short : Bool) (p : Sphere) (t : Parts) (devices : Devices) → Keeps mode s cs p → slice_get p.threads k ≡ Some t → size ≡ 0
-      → Keeps mode s (cs ++ record { point = Point.Commit moment i (Actor.Thread k) CommitKind.Serial size short; input = (taken (need t p.memory) devices moment).input; bytes = [] } ∷ []) (laid (recorded_serial (logged mode s cs) p k moment t devices))
+      → Keeps mode s (cs ++ record { point = Point.Commit moment i (Actor.Thread k) CommitKind.Serial size short; input = (taken (need t p.memory) devices moment).input; bytes = [] } ∷ []) (laid (recorded_serial (keeping (logged mode s cs)) p k moment t devices))
   serial-keeps moment i k size short p t devices keeps is empty =
       let g : Taken = taken (need t p.memory) devices moment in
       let e = serial_effect k (serve k p.threads p.progress.request t p.memory g.input) in
       let log = logged mode s cs in
-      let q = laid (recorded_serial log p k moment t devices) in
-      let d : HasCommitted (commit_of k false t e g.input) p q log (serial_noted k t g log p) = serial-committed log p k moment t devices is in
+      let q = laid (recorded_serial (keeping log) p k moment t devices) in
+      let d : HasCommitted (commit_of k false t e g.input) p q log (serial_noted k t g log p) = serial-committed (keeping log) p k moment t devices is in
       commit_keeps (commit_of k false t e g.input) moment i size CommitKind.Serial short p q (serial_noted k t g log p) keeps d refl (sym empty) refl (serve-few k p.threads p.progress.request t p.memory g.input keeps.few)
 
   -- ---- a DMA
 
   -- after a DMA the sphere keeps the log of its points and the DMA's
   pub dma-keeps : (moment i : ℕ) (short : Bool) (p : Sphere) (request : Request) (devices : Devices) → Keeps mode s cs p
-      → Keeps mode s (cs ++ record { point = Point.Commit moment i Actor.Dma CommitKind.Dma 0 short; input = None; bytes = dma_bytes devices request } ∷ []) (laid (recorded_dma (logged mode s cs) p devices request))
+      → Keeps mode s (cs ++ record { point = Point.Commit moment i Actor.Dma CommitKind.Dma 0 short; input = None; bytes = dma_bytes devices request } ∷ []) (laid (recorded_dma (keeping (logged mode s cs)) p devices request))
   dma-keeps moment i short p request devices keeps =
       let bytes = dma_bytes devices request in
       let ps = points_so cs in
       let c : Supplied = record { point = Point.Commit moment i Actor.Dma CommitKind.Dma 0 short; input = None; bytes = bytes } in
       let log = logged mode s cs in
-      let q = laid (recorded_dma log p devices request) in
+      let q = laid (recorded_dma (keeping log) p devices request) in
       let now : dma_log log devices p (Some request) ≡ logged mode s (cs ++ c ∷ []) = dma-logged mode s cs moment i (position p.progress) CommitKind.Dma short bytes (sym keeps.place) in
-      let one : position q.progress ≡ suc (position p.progress) = (let h = length-append p.progress.commits (dma_commit ∷ []) in omega arith) in
+      let one : position q.progress ≡ suc (position p.progress) = position-more p.progress dma_commit in
       record {
-        role = ap (λ (log : LogParts). Record log) now;
+        role = ap (λ (log : LogParts). Record (keeping log)) now;
         stands = subst (Stands q) now (transferred-stands p q log (dma_log log devices p (Some request)) bytes (record { threads = refl; position_ = one; log_ = refl }) keeps.stands);
         commits = λ j. ap (count_of j) (more_actors cs c) ∙ no_thread_more j (actors_of ps) ∙ keeps.commits j;
-        place = (let a = ap (λ (as_ : List Actor). length as_) (more_actors cs c) in let b = length-append (actors_of ps) (Actor.Dma ∷ []) in let h = keeps.place in let l = length-append p.progress.commits (dma_commit ∷ []) in omega arith);
+        place = (let a = ap (λ (as_ : List Actor). length as_) (more_actors cs c) in let b = length-append (actors_of ps) (Actor.Dma ∷ []) in let h = keeps.place in let l = position-more p.progress dma_commit in omega arith);
         few = keeps.few;
       }
 
@@ -146,7 +151,7 @@ module _ (mode : ModeName) (s : ℕ) (cs : List Supplied) where
       let fresh = keeps.stands.unmasked k t is (open-takes t takes) in
       let now : interrupt_noted k t.commits value log ≡ logged mode s (cs ++ c ∷ []) = raise-logged mode s cs moment i k t.commits value below (sym (keeps.commits k ∙ ap commits_if is)) fresh in
       record {
-        role = ap (role_raised k t.commits value) keeps.role ∙ ap (λ (log : LogParts). Record log) now;
+        role = ap (role_raised k t.commits value) keeps.role ∙ ap (λ (log : LogParts). Record (keeping log)) now;
         stands = subst (Stands (raised k value t p)) now
             (raised-stands k value p (raised k value t p) log (interrupt_noted k t.commits value log) t (record { start = is; takes = takes; threads = refl; progress = refl; log_ = refl }) keeps.stands);
         commits = λ j. ap (count_of j) same ∙ keeps.commits j ∙ elim (cases_eq j k) [

@@ -11,7 +11,7 @@ use Rattle.spec_protocol.specs.Spheres.{Record, Sphere}
 use Rattle.spec_protocol.specs.Placing.{replays}
 use Rattle.spec_protocol.specs.World.{World, sphere_at}
 use Rattle.spec_protocol.specs.declared.event.Event.{Event}
-use Rattle.spec_protocol.specs.Machine.{IsRecorded, SphereSetup, Setup, role_of, sphere_of}
+use Rattle.spec_protocol.specs.Machine.{first_threads, RecordSetup, IsRecorded, SphereSetup, Setup, role_of, sphere_of}
 use Rattle.spec_protocol.specs.Serial.{serial_start, do_points}
 use Rattle.spec_protocol.specs.Shown.{shown, shown_of}
 use Rattle.spec_protocol.specs.Logged.{supplied, logged}
@@ -23,7 +23,7 @@ use Rattle.spec_protocol.proofs.Logs.Growing.{commits_in, commits_if, Stands}
 use Rattle.spec_protocol.proofs.PlayingBack.All.{start-stands}
 use Rattle.spec_protocol.proofs.Invariants.Schedules.{sizes_kept}
 use Rattle.spec_protocol.proofs.Points.Serial.{serial-after}
-use Rattle.spec_protocol.proofs.Points.KeptLogs.{Keeps, KeepsIn}
+use Rattle.spec_protocol.proofs.Points.KeptLogs.{keeping, Keeps, KeepsIn}
 use Rattle.spec_protocol.proofs.Points.OneByOne.{points-kept}
 
 -- ---- the start
@@ -37,10 +37,10 @@ no_commits : (entry k : ℕ) → 0 ≡ commits_in (started entry ∷ []) k
 no_commits entry zero = refl
 no_commits entry (suc k) = refl
 
-start_keeps : (mode : ModeName) (s : ℕ) (image : SphereSetup) → role_of s (started image.entry ∷ []) image.role ≡ Record (new_log mode s) → Keeps mode s [] (sphere_of s image)
+start_keeps : (mode : ModeName) (s : ℕ) (image : SphereSetup) → role_of s (first_threads image) image.role ≡ Record (keeping (new_log mode s)) → Keeps mode s [] (sphere_of s image)
 start_keeps mode s image role =
     record {
-      role = role ∙ ap (λ (log : LogParts). Record log) (no_points mode s);
+      role = role ∙ ap (λ (log : LogParts). Record (keeping log)) (no_points mode s);
       commits = no_commits image.entry;
       place = refl;
       stands = subst (Stands (sphere_of s image)) (no_points mode s) (start-stands s image mode);
@@ -55,17 +55,17 @@ stands_shown s es i log st =
     record { count = st.count; order = st.order; sizes = st.sizes; past = st.past; absent = st.absent; unmasked = st.unmasked; dmas = st.dmas }
 
 -- the sphere, with its current memory, keeps the log of its points
-log_kept : (s : Setup) (es : List Event) (i : ℕ) (image : SphereSetup) (mode : ModeName) → IsSetup s → slice_get s.spheres i ≡ Some image → image.role ≡ IsRecorded mode
-    → let w = after s es in Keeps mode s.numbers.s (supplied i (serial_start s) w.points) (shown w.slots i (sphere_at w i))
+log_kept : (s : Setup) (es : List Event) (i : ℕ) (image : SphereSetup) (asked : RecordSetup) → IsSetup s → slice_get s.spheres i ≡ Some image → image.role ≡ IsRecorded asked
+    → let w = after s es in Keeps asked.mode s.numbers.s (supplied i (serial_start s) w.points) (shown w.slots i (sphere_at w i))
 unfolding shown
-log_kept s es i image mode is there role =
+log_kept s es i image asked is there role =
     let w : World = after s es in
     let z : ℕ = s.numbers.s in
     let cs = supplied i (serial_start s) w.points in
     let so = serial-after s es is in
-    let k : KeepsIn mode z i cs (do_points (serial_start s) w.points) =
-    points-kept mode z i [] (serial_start s) w.points
-    (record { sphere = sphere_of z image; there = slice_get-map (sphere_of z) s.spheres i ∙ ap (option_map (sphere_of z)) there; keeps = start_keeps mode z image (ap (role_of z (started image.entry ∷ [])) role) })
+    let k : KeepsIn asked.mode z i cs (do_points (serial_start s) w.points) =
+    points-kept asked.mode z i [] (serial_start s) w.points
+    (record { sphere = sphere_of z image; there = slice_get-map (sphere_of z) s.spheres i ∙ ap (option_map (sphere_of z)) there; keeps = start_keeps asked.mode z image (ap (role_of z (first_threads image)) role) })
     so.possible
     in
     let p : Sphere = shown w.slots i (sphere_at w i) in
@@ -79,22 +79,23 @@ log_kept s es i image mode is there role =
           )
       | inr live ↦ (
           let same : k.sphere ≡ p = (let h : Some k.sphere ≡ Some p = sym k.there ∙ so.agrees.live i p e live in cc) in
-          subst (Keeps mode z cs) same k.keeps
+          subst (Keeps asked.mode z cs) same k.keeps
           )
     ]
 
 -- the log of a recorded sphere is the one that its points tell
 pub logs_are : LogsAreOfPoints
 unfolding shown
-logs_are s es i image mode will = (log_kept s es i image mode will.setup will.there will.role).role
+logs_are s es i image asked will = (log_kept s es i image asked will.setup will.there will.role).role
 
 -- a kept log has nothing of what comes next
 pub logs_are_fresh : LogsAreFresh
 unfolding shown
-logs_are_fresh s es i image mode will log kept =
-    let k = log_kept s es i image mode will.setup will.there will.role in
-    let same : logged mode s.numbers.s (supplied i (serial_start s) (after s es).points) ≡ log =
-    (let h : Record (logged mode s.numbers.s (supplied i (serial_start s) (after s es).points)) ≡ Record log = sym k.role ∙ kept in cc) in
+logs_are_fresh s es i image asked will recording kept =
+    let log = recording.log in
+    let k = log_kept s es i image asked will.setup will.there will.role in
+    let same : logged asked.mode s.numbers.s (supplied i (serial_start s) (after s es).points) ≡ log =
+    (let h : Record (keeping (logged asked.mode s.numbers.s (supplied i (serial_start s) (after s es).points))) ≡ Record recording = sym k.role ∙ kept in cc) in
     let st : Stands (sphere_at (after s es) i) log = stands_shown s es i log (subst (Stands (shown (after s es).slots i (sphere_at (after s es) i))) same k.stands) in
     record {
       count = st.count;

@@ -21,7 +21,7 @@ use Rattle.spec_protocol.proofs.Moves.Granted.{get-set_other, get-set_same}
 use Rattle.spec_protocol.proofs.Moves.Elsewhere.{serial-away, dma-away, raise-away}
 use Rattle.spec_protocol.proofs.Invariants.Preserved.{sphere_of_point}
 use Rattle.spec_protocol.proofs.PlayingBack.Moves.{recorded_serial, recorded_dma}
-use Rattle.spec_protocol.proofs.Points.KeptLogs.{Keeps, KeepsIn, recorded_chunk, chunk-keeps, serial-keeps, dma-keeps, raise-keeps}
+use Rattle.spec_protocol.proofs.Points.KeptLogs.{keeping, Keeps, KeepsIn, recorded_chunk, chunk-keeps, serial-keeps, dma-keeps, raise-keeps}
 
 -- ---- in its sphere
 
@@ -52,7 +52,7 @@ module _ (mode : ModeName) (s : ℕ) (cs : List Supplied) (x : SerialState) wher
       let all = cs ++ record { point = Point.Commit moment i (Actor.Thread k) CommitKind.Serial size short; input = (taken (need t p.memory) x.devices moment).input; bytes = [] } ∷ [] in
       subst (λ (v : MovedSphere). KeepsIn mode s i all (do_moved x i v))
       (sym (ap (λ (r : Role). serial_in r k moment t x.devices p) keeps.role))
-      (at_once mode s i all x p (recorded_serial (logged mode s cs) p k moment t x.devices) is (serial-keeps mode s cs moment i k size short p t x.devices keeps thread can.empty))
+      (at_once mode s i all x p (recorded_serial (keeping (logged mode s cs)) p k moment t x.devices) is (serial-keeps mode s cs moment i k size short p t x.devices keeps thread can.empty))
 
   dma_kept : (moment i : ℕ) (short : Bool) (p : Sphere) (o : Option Request) → slice_get x.spheres i ≡ Some p → Keeps mode s cs p → p.progress.request ≡ o → IsSome o
       → KeepsIn mode s i (cs ++ record { point = Point.Commit moment i Actor.Dma CommitKind.Dma 0 short; input = None; bytes = bytes_for x.devices o } ∷ []) (do_dma x i (dma_moved x.devices p))
@@ -62,8 +62,8 @@ module _ (mode : ModeName) (s : ℕ) (cs : List Supplied) (x : SerialState) wher
       let log = logged mode s cs in
       let all = cs ++ record { point = Point.Commit moment i Actor.Dma CommitKind.Dma 0 short; input = None; bytes = dma_bytes x.devices request } ∷ [] in
       subst (λ (v : Option MovedSphere). KeepsIn mode s i all (do_dma x i v))
-      (sym (ap (λ (r : Role). dma_in r x.devices p) keeps.role ∙ (λ j. live_dma (Record (dma_log log x.devices p (asked j))) x.devices p (asked j))))
-      (at_once mode s i all x p (recorded_dma log p x.devices request) is (dma-keeps mode s cs moment i short p request x.devices keeps))
+      (sym (ap (λ (r : Role). dma_in r x.devices p) keeps.role ∙ (λ j. live_dma (Record (keeping (dma_log log x.devices p (asked j)))) x.devices p (asked j))))
+      (at_once mode s i all x p (recorded_dma (keeping log) p x.devices request) is (dma-keeps mode s cs moment i short p request x.devices keeps))
 
   raise_kept : (moment i k value : ℕ) (p : Sphere) (o : Option Parts) → slice_get x.spheres i ≡ Some p → Keeps mode s cs p → slice_get p.threads k ≡ o → CanTake o
       → KeepsIn mode s i (cs ++ record { point = Point.Raise moment i k value; input = None; bytes = [] } ∷ []) (do_raise x i k value p o)
@@ -110,7 +110,7 @@ module _ (mode : ModeName) (s : ℕ) (cs : List Supplied) (x : SerialState) wher
 
 live_away : (role : Role) (x done : SerialState) (j : ℕ) → slice_get done.spheres j ≡ slice_get x.spheres j → slice_get (in_live role x done).spheres j ≡ slice_get x.spheres j
 live_away Plain x done j e = e
-live_away (Record log) x done j e = e
+live_away (Record recording) x done j e = e
 live_away (Replay b) x done j e = refl
 
 chunk_away : (x : SerialState) (i j k size : ℕ) (short : Bool) (p : Sphere) (o : Option Parts) → j ≢ i → slice_get (do_chunk x i k size short p o).spheres j ≡ slice_get x.spheres j

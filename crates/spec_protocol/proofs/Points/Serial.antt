@@ -50,7 +50,7 @@ replayed_leaves b k false r devices p = verdict_leaves b k (chunk_verdict b.log 
 
 chunk_in_leaves : (role : Role) (k : ℕ) (piece short : Bool) (r : Run) (devices : Devices) (p : Sphere) → replays role ≡ true → LeavesDevices devices (chunk_in role k piece short r devices p)
 chunk_in_leaves Plain k piece short r devices p e = absurd (true≢false (sym e))
-chunk_in_leaves (Record log) k piece short r devices p e = absurd (true≢false (sym e))
+chunk_in_leaves (Record recording) k piece short r devices p e = absurd (true≢false (sym e))
 chunk_in_leaves (Replay b) k piece short r devices p e = replayed_leaves b k piece r devices p
 
 chunk_leaves : (k : ℕ) (piece short : Bool) (r : Run) (devices : Devices) (p : Sphere) → replays p.role ≡ true → LeavesDevices devices (chunk_moved k piece short r devices p)
@@ -59,7 +59,7 @@ chunk_leaves k piece short r devices p e = chunk_in_leaves p.role k piece short 
 
 serial_in_leaves : (role : Role) (k moment : ℕ) (t : Parts) (devices : Devices) (p : Sphere) → replays role ≡ true → LeavesDevices devices (serial_in role k moment t devices p)
 serial_in_leaves Plain k moment t devices p e = absurd (true≢false (sym e))
-serial_in_leaves (Record log) k moment t devices p e = absurd (true≢false (sym e))
+serial_in_leaves (Record recording) k moment t devices p e = absurd (true≢false (sym e))
 serial_in_leaves (Replay b) k moment t devices p e = verdict_leaves b k (serial_verdict b.log p.progress b.used k p.threads t p.memory) devices p
 
 serial_leaves : (k moment : ℕ) (t : Parts) (devices : Devices) (p : Sphere) → replays p.role ≡ true → LeavesDevices devices (serial_moved k moment t devices p)
@@ -72,7 +72,7 @@ dma_verdict_leaves b (DmaFails why) devices p = record { devices_ = refl; replay
 
 dma_in_leaves : (role : Role) (devices : Devices) (p : Sphere) (v : MovedSphere) → replays role ≡ true → dma_in role devices p ≡ Some v → LeavesDevices devices v
 dma_in_leaves Plain devices p v e is = absurd (true≢false (sym e))
-dma_in_leaves (Record log) devices p v e is = absurd (true≢false (sym e))
+dma_in_leaves (Record recording) devices p v e is = absurd (true≢false (sym e))
 dma_in_leaves (Replay b) devices p v e is =
     subst (LeavesDevices devices) (let h : dma_by_verdict b (dma_verdict b.log p.progress b.used) devices p ≡ v = cc in h) (dma_verdict_leaves b (dma_verdict b.log p.progress b.used) devices p)
 
@@ -83,7 +83,7 @@ dma_leaves devices p v e is = dma_in_leaves p.role devices p v e is
 -- in a plain or recorded sphere no chunk is a piece
 chunk_in_whole : (role : Role) (k : ℕ) (a b short : Bool) (r : Run) (devices : Devices) (p : Sphere) → replays role ≡ false → chunk_in role k a short r devices p ≡ chunk_in role k b short r devices p
 chunk_in_whole Plain k a b short r devices p e = refl
-chunk_in_whole (Record log) k a b short r devices p e = refl
+chunk_in_whole (Record recording) k a b short r devices p e = refl
 chunk_in_whole (Replay c) k a b short r devices p e = absurd (true≢false e)
 
 chunk_whole : (k : ℕ) (a b short : Bool) (r : Run) (devices : Devices) (p : Sphere) → replays p.role ≡ false → chunk_moved k a short r devices p ≡ chunk_moved k b short r devices p
@@ -170,12 +170,12 @@ replay_what z x y moment i p (OfRaise k value) a xi rep fits = absurd (raise_rep
 
 in_replay : (role : Role) (y done : SerialState) → replays role ≡ true → in_live role y done ≡ y
 in_replay Plain y done e = absurd (true≢false (sym e))
-in_replay (Record log) y done e = absurd (true≢false (sym e))
+in_replay (Record recording) y done e = absurd (true≢false (sym e))
 in_replay (Replay b) y done e = refl
 
 can_replay : (role : Role) (can : Type 0) → replays role ≡ true → InLive role can
 can_replay Plain can e = absurd (true≢false (sym e))
-can_replay (Record log) can e = absurd (true≢false (sym e))
+can_replay (Record recording) can e = absurd (true≢false (sym e))
 can_replay (Replay b) can e = tt
 
 -- a point of a replayed sphere does nothing here
@@ -192,17 +192,17 @@ replay_point y (Point.Raise moment i k value) q yi rep =
 
 in_living : (role : Role) (y done : SerialState) → replays role ≡ false → in_live role y done ≡ done
 in_living Plain y done e = refl
-in_living (Record log) y done e = refl
+in_living (Record recording) y done e = refl
 in_living (Replay b) y done e = absurd (true≢false e)
 
 can_living : (role : Role) (can : Type 0) → replays role ≡ false → can → InLive role can
 can_living Plain can e c = c
-can_living (Record log) can e c = c
+can_living (Record recording) can e c = c
 can_living (Replay b) can e c = absurd (true≢false e)
 
 chunk_in_stays : (role : Role) (k : ℕ) (piece short : Bool) (r : Run) (devices : Devices) (p : Sphere) → replays role ≡ false → replays (chunk_in role k piece short r devices p).sphere.role ≡ false
 chunk_in_stays Plain k piece short r devices p e = refl
-chunk_in_stays (Record log) k piece short r devices p e = refl
+chunk_in_stays (Record recording) k piece short r devices p e = refl
 chunk_in_stays (Replay b) k piece short r devices p e = absurd (true≢false e)
 
 chunk_stays : (k : ℕ) (piece short : Bool) (r : Run) (devices : Devices) (p : Sphere) → replays p.role ≡ false → replays (chunk_moved k piece short r devices p).sphere.role ≡ false
@@ -211,7 +211,7 @@ chunk_stays k piece short r devices p e = chunk_in_stays p.role k piece short r 
 
 serial_in_stays : (role : Role) (k moment : ℕ) (t : Parts) (devices : Devices) (p : Sphere) → replays role ≡ false → replays (serial_in role k moment t devices p).sphere.role ≡ false
 serial_in_stays Plain k moment t devices p e = refl
-serial_in_stays (Record log) k moment t devices p e = refl
+serial_in_stays (Record recording) k moment t devices p e = refl
 serial_in_stays (Replay b) k moment t devices p e = absurd (true≢false e)
 
 serial_stays : (k moment : ℕ) (t : Parts) (devices : Devices) (p : Sphere) → replays p.role ≡ false → replays (serial_moved k moment t devices p).sphere.role ≡ false
@@ -226,7 +226,7 @@ live_stays role devices p (Some request) v live e =
 
 dma_in_stays : (role : Role) (devices : Devices) (p : Sphere) (v : MovedSphere) → replays role ≡ false → dma_in role devices p ≡ Some v → (replays v.sphere.role ≡ false) × IsSome p.progress.request
 dma_in_stays Plain devices p v live e = live_stays Plain devices p p.progress.request v refl e
-dma_in_stays (Record log) devices p v live e = live_stays (Record (dma_log log devices p p.progress.request)) devices p p.progress.request v refl e
+dma_in_stays (Record recording) devices p v live e = live_stays (Record (record recording { log = dma_log recording.log devices p p.progress.request })) devices p p.progress.request v refl e
 dma_in_stays (Replay b) devices p v live e = absurd (true≢false live)
 
 dma_stays : (devices : Devices) (p : Sphere) (v : MovedSphere) → replays p.role ≡ false → dma_moved devices p ≡ Some v → (replays v.sphere.role ≡ false) × IsSome p.progress.request
@@ -235,7 +235,7 @@ dma_stays devices p v live e = dma_in_stays p.role devices p v live e
 
 raised_stays : (k n value : ℕ) (role : Role) → replays role ≡ false → replays (role_raised k n value role) ≡ false
 raised_stays k n value Plain e = refl
-raised_stays k n value (Record log) e = refl
+raised_stays k n value (Record recording) e = refl
 raised_stays k n value (Replay b) e = e
 
 -- what both sides do to the same sphere
@@ -300,7 +300,7 @@ live_what z x y moment i p (OfRaise k value) a xi live =
 
 not_in_pieces : (role : Role) → replays role ≡ false → is_in_pieces role ≡ false
 not_in_pieces Plain e = refl
-not_in_pieces (Record log) e = refl
+not_in_pieces (Record recording) e = refl
 not_in_pieces (Replay b) e = absurd (true≢false e)
 
 some_run : (z : Numbers) (p : Sphere) (k : ℕ) (t : Parts) (how : How) (n limit : ℕ) → 0 < z.capacity → replays p.role ≡ false → ChunkFits z p k t how n limit → 0 < n

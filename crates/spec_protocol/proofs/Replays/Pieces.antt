@@ -14,13 +14,12 @@ use Rattle.spec_play.specs.Turns.{Now, Turn, TurnOfDma, Ended}
 use Rattle.spec_play.specs.Verdicts.{LogVerdict, Goes, Fails, chunk_verdict, serial_verdict}
 use Rattle.spec_play.specs.Transfers.{DmaVerdict, DmaGoes, DmaFails, dma_verdict}
 use Rattle.spec_engine.specs.declared.answers.How.{How}
-use Rattle.spec_protocol.specs.Spheres.{Cursor, Role, Plain, Record, Replay, Sphere, is_over, is_stopped, actor_of, head_in, head_of, is_in_pieces, no_sphere}
+use Rattle.spec_protocol.specs.Spheres.{other_than, turn_in, turn_against, Cursor, Role, Plain, Record, Replay, Sphere, is_over, is_stopped, actor_of, head_in, head_of, is_in_pieces, no_sphere}
 use Rattle.spec_protocol.specs.Commits.{MovedSphere, is_piece, joined, by_verdict, replayed_chunk, chunk_in, chunk_moved, serial_in, serial_moved, live_dma, dma_by_verdict, dma_log, dma_in, dma_moved, role_raised, raised}
 use Rattle.spec_protocol.specs.World.{Numbers, World, What, OfChunk, OfSerial, OfDma, OfRaise, Move, sphere_at}
-use Rattle.spec_protocol.specs.Asking.{is_short, other_turn}
-use Rattle.spec_protocol.specs.Transferring.{not_of_dma, turn_before_dma}
+use Rattle.spec_protocol.specs.Asking.{is_short}
 use Rattle.spec_protocol.specs.Placing.{replays}
-use Rattle.spec_protocol.specs.Machine.{RoleSetup, IsPlain, IsRecorded, IsReplayed, SphereSetup, role_of, sphere_of, moves, world_of}
+use Rattle.spec_protocol.specs.Machine.{first_threads, RoleSetup, IsPlain, IsRecorded, IsReplayed, SphereSetup, role_of, sphere_of, moves, world_of}
 use Rattle.spec_protocol.specs.Serial.{SerialState, serial_start, laid, do_serial, do_dma, do_raise}
 use Rattle.spec_protocol.specs.Shown.{shown, shown_of}
 use Rattle.spec_protocol.specs.Moves.{move_chunk, do_what, do_at, do_move, do_moves, FitsChunk, FitsSerial, FitsRaise, FitsWhat, FitsAt, Fits, FitsIf, FitAll}
@@ -35,7 +34,7 @@ use Rattle.spec_protocol.proofs.Invariants.Schedules.{happens-preserved, moves_a
 -- a sphere in pieces that hasn't stopped has a thread whose turn it is
 abbrev InTurn : Role → Type 0
 InTurn Plain = Unit {0}
-InTurn (Record log) = Unit {0}
+InTurn (Record recording) = Unit {0}
 InTurn (Replay b) = is_over b.now ≡ false → 0 < b.total → (k : ℕ) × (b.now ≡ Turn k)
 
 abbrev AllInTurn : SerialState → Type 0
@@ -51,18 +50,18 @@ replayed_turn : (piece : Bool) (b : Cursor) (k : ℕ) (r : Run) (devices : Devic
 replayed_turn true b k r devices p turn = λ going some. (k, turn)
 replayed_turn false b k r devices p turn = verdict_turn b k (chunk_verdict b.log p.progress b.used k (joined b r)) devices p
 
-chunk_in_turn : (role : Role) (k : ℕ) (piece short : Bool) (r : Run) (devices : Devices) (p : Sphere) → is_stopped role ≡ false → other_turn (head_in role p) k ≡ None → InTurn (chunk_in role k piece short r devices p).sphere.role
+chunk_in_turn : (role : Role) (k : ℕ) (piece short : Bool) (r : Run) (devices : Devices) (p : Sphere) → is_stopped role ≡ false → turn_in role p (Actor.Thread k) ≡ None → InTurn (chunk_in role k piece short r devices p).sphere.role
 chunk_in_turn Plain k piece short r devices p going free = tt
-chunk_in_turn (Record log) k piece short r devices p going free = tt
+chunk_in_turn (Record recording) k piece short r devices p going free = tt
 chunk_in_turn (Replay b) k piece short r devices p going free = replayed_turn piece b k r devices p (turn-is b.now k going free)
 
-chunk_turn : (z : Numbers) (k : ℕ) (how : How) (n limit : ℕ) (t : Parts) (devices : Devices) (p : Sphere) → is_stopped p.role ≡ false → other_turn (head_of p) k ≡ None → InTurn (laid (chunk_moved k (is_piece how) (is_short z.s how limit) (run p.memory t n) devices p)).role
-unfolding chunk_moved head_of
+chunk_turn : (z : Numbers) (k : ℕ) (how : How) (n limit : ℕ) (t : Parts) (devices : Devices) (p : Sphere) → is_stopped p.role ≡ false → turn_against p (Actor.Thread k) ≡ None → InTurn (laid (chunk_moved k (is_piece how) (is_short z.s how limit) (run p.memory t n) devices p)).role
+unfolding chunk_moved turn_against
 chunk_turn z k how n limit t devices p going free = chunk_in_turn p.role k (is_piece how) (is_short z.s how limit) (run p.memory t n) devices p going free
 
 serial_in_turn : (role : Role) (k moment : ℕ) (t : Parts) (devices : Devices) (p : Sphere) → InTurn (serial_in role k moment t devices p).sphere.role
 serial_in_turn Plain k moment t devices p = tt
-serial_in_turn (Record log) k moment t devices p = tt
+serial_in_turn (Record recording) k moment t devices p = tt
 serial_in_turn (Replay b) k moment t devices p = verdict_turn b k (serial_verdict b.log p.progress b.used k p.threads t p.memory) devices p
 
 serial_turn : (k moment : ℕ) (t : Parts) (devices : Devices) (p : Sphere) → InTurn (laid (serial_moved k moment t devices p)).role
@@ -83,7 +82,7 @@ dma_verdict_turn b (DmaFails why) devices p = λ going some. absurd (true≢fals
 
 dma_in_turn : (role : Role) (devices : Devices) (p : Sphere) → MovedInTurn (dma_in role devices p)
 dma_in_turn Plain devices p = live_turn Plain devices p p.progress.request tt
-dma_in_turn (Record log) devices p = live_turn (Record (dma_log log devices p p.progress.request)) devices p p.progress.request tt
+dma_in_turn (Record recording) devices p = live_turn (Record (record recording { log = dma_log recording.log devices p p.progress.request })) devices p p.progress.request tt
 dma_in_turn (Replay b) devices p = dma_verdict_turn b (dma_verdict b.log p.progress b.used) devices p
 
 dma_turn : (devices : Devices) (p : Sphere) → MovedInTurn (dma_moved devices p)
@@ -92,7 +91,7 @@ dma_turn devices p = dma_in_turn p.role devices p
 
 raise_turn : (k n value : ℕ) (role : Role) → InTurn role → InTurn (role_raised k n value role)
 raise_turn k n value Plain turn = tt
-raise_turn k n value (Record log) turn = tt
+raise_turn k n value (Record recording) turn = tt
 raise_turn k n value (Replay b) turn = turn
 
 -- ---- all moves
@@ -147,12 +146,12 @@ moves_keep_turn z x (m ∷ ms) all fits = moves_keep_turn z (do_move z x m) ms (
 
 start_role : (z : ℕ) (threads : List Parts) (setup : RoleSetup) → InTurn (role_of z threads setup)
 start_role z threads IsPlain = tt
-start_role z threads (IsRecorded mode) = tt
-start_role z threads (IsReplayed log) = λ going some. absurd (omega arith)
+start_role z threads (IsRecorded asked) = tt
+start_role z threads (IsReplayed asked) = λ going some. absurd (omega arith)
 
 start_turn : (z : ℕ) (ds : List SphereSetup) (i : ℕ) (p : Sphere) → slice_get (map (sphere_of z) ds) i ≡ Some p → InTurn p.role
 start_turn z [] i p e = absurd (none-some p e)
-start_turn z (d ∷ ds) zero p e = subst (λ (q : Sphere). InTurn q.role) (let h : sphere_of z d ≡ p = cc in h) (start_role z (started d.entry ∷ []) d.role)
+start_turn z (d ∷ ds) zero p e = subst (λ (q : Sphere). InTurn q.role) (let h : sphere_of z d ≡ p = cc in h) (start_role z (first_threads d) d.role)
 start_turn z (d ∷ ds) (suc i) p e = start_turn z ds i p e
 
 -- ---- what can come next
@@ -161,10 +160,10 @@ some_total : (b : Cursor) (role : Role) → role ≡ Replay b → 0 < b.total �
 some_total b role is some = ap is_in_pieces is ∙ lt-ltb 0 b.total some
 
 own_chunk : (z : Numbers) (p : Sphere) (b : Cursor) (k j : ℕ) (how : How) (n limit : ℕ) (o : Option Parts) → p.role ≡ Replay b → b.now ≡ Turn k → FitsChunk z p j how n limit o → j ≡ k
-unfolding head_of
+unfolding turn_against
 own_chunk z p b k j how n limit None role turn fits = absurd fits
 own_chunk z p b k j how n limit (Some t) role turn fits =
-    let same : Turn k ≡ Turn j = sym turn ∙ turn-is b.now j (sym (ap is_stopped role) ∙ fits.going) (sym (ap (λ (r : Role). other_turn (head_in r p) j) role) ∙ fits.turn) in
+    let same : Turn k ≡ Turn j = sym turn ∙ turn-is b.now j (sym (ap is_stopped role) ∙ fits.going) (sym (ap (λ (r : Role). turn_in r p (Actor.Thread j)) role) ∙ fits.turn) in
     sym (ap (λ (now : Now). elim now [ Turn i ↦ i | TurnOfDma ↦ 0 | Ended how ↦ 0 ]) same)
 
 no_serial : (p : Sphere) (b : Cursor) (k : ℕ) (o : Option Parts) → p.role ≡ Replay b → 0 < b.total → FitsSerial p k o → ⊥
@@ -177,16 +176,17 @@ no_raise p b None role fits = fits
 no_raise p b (Some t) role fits = true≢false (sym (ap replays role) ∙ fits.live)
 
 only_chunks : (z : Numbers) (devices : Devices) (p : Sphere) (b : Cursor) (k : ℕ) (what : What) → p.role ≡ Replay b → b.now ≡ Turn k → 0 < b.total → FitsWhat z devices p what → IsChunkOf k what
+unfolding turn_against
 only_chunks z devices p b k (OfChunk j how n limit) role turn some fits = own_chunk z p b k j how n limit (slice_get p.threads j) role turn fits
 only_chunks z devices p b k (OfSerial j) role turn some fits = no_serial p b j (slice_get p.threads j) role some fits
 only_chunks z devices p b k OfDma role turn some fits =
-    none-some (Actor.Thread k) (sym (sym (ap turn_before_dma role ∙ ap (λ (now : Now). not_of_dma (actor_of now)) turn) ∙ fits.turn))
+    none-some (Actor.Thread k) (sym (sym (ap (λ (r : Role). turn_in r p Actor.Dma) role ∙ ap (λ (now : Now). other_than Actor.Dma (actor_of now)) turn) ∙ fits.turn))
 only_chunks z devices p b k (OfRaise j value) role turn some fits = no_raise p b (slice_get p.threads j) role fits
 
 -- nothing where it has stopped
 stopped_replays : (role : Role) → is_stopped role ≡ true → replays role ≡ true
 stopped_replays Plain stopped = absurd (true≢false (sym stopped))
-stopped_replays (Record log) stopped = absurd (true≢false (sym stopped))
+stopped_replays (Record recording) stopped = absurd (true≢false (sym stopped))
 stopped_replays (Replay b) stopped = refl
 
 no_chunk_there : (z : Numbers) (p : Sphere) (k : ℕ) (how : How) (n limit : ℕ) (o : Option Parts) → is_stopped p.role ≡ true → FitsChunk z p k how n limit o → ⊥

@@ -6,6 +6,7 @@ use Rattle.std.proofs.Math.ListN.{length-set}
 use Rattle.std.proofs.lemmas.Bool.{cases_eq, cases_lt}
 use Rattle.std.proofs.lemmas.List.{get_or_past}
 use Rattle.std.proofs.lemmas.Option.{none-some}
+use Rattle.dl_entry.specs.declared.Actor.{Actor}
 use Rattle.spec_isa.specs.declared.thread.Parts.{Parts}
 use Rattle.spec_isa.specs.Words.{Stored, lay}
 use Rattle.spec_kernel.specs.Devices.{Devices}
@@ -17,12 +18,12 @@ use Rattle.spec_engine.specs.Signatures.{Signature, nothing, signed}
 use Rattle.spec_engine.specs.Flights.{Flight, at, free_slot, fill_at, meets_chunk, told_at, drain_words, tell, Delivered, deliver, is_done, Retired, retire}
 use Rattle.spec_engine.specs.Chunks.{fresh, step, cut, squash}
 use Rattle.spec_protocol.specs.declared.event.Event.{Event}
-use Rattle.spec_protocol.specs.Spheres.{Sphere, no_sphere, is_stopped, head_of, limit_of, halves}
+use Rattle.spec_protocol.specs.Spheres.{turn_against, Sphere, no_sphere, is_stopped, head_of, limit_of, halves}
 use Rattle.spec_protocol.specs.Commits.{CommitOutcome, Granted, Piece, Diverged, MovedSphere, is_piece, chunk_moved, serial_moved, raised}
 use Rattle.spec_protocol.specs.World.{Numbers, Occupant, World, After, moment, sphere_at, with_sphere, with_memory, with_core, with_slot, thread_afresh, held_afresh, core_of, flown, answered}
 use Rattle.spec_protocol.specs.Stepping.{stepped, cut_to}
 use Rattle.spec_protocol.specs.Flying.{reply_of_drain, reads_of, writes_of, squashed, told, delivering, retiring}
-use Rattle.spec_protocol.specs.Asking.{CommitRequest, granted, is_short, chunk_request, grant_chunk, serial_request, grant_serial, other_turn}
+use Rattle.spec_protocol.specs.Asking.{CommitRequest, goes_on_with, granted, is_short, chunk_request, grant_chunk, serial_request, grant_serial}
 use Rattle.spec_protocol.specs.Transferring.{dma_done}
 use Rattle.spec_protocol.specs.Placing.{with_renewed, raise_in}
 use Rattle.spec_protocol.specs.Machine.{act}
@@ -60,7 +61,7 @@ pub record Asks (w : World) (c : ℕ) (h : Occupant) (how : How) : Type 0 where
   pub is : at w.cores c ≡ Some h
   pub closed : h.chunk.closed ≡ Some how
   pub going : is_stopped (sphere_at w h.chunk.sphere).role ≡ false
-  pub turn : other_turn (head_of (sphere_at w h.chunk.sphere)) h.thread ≡ None
+  pub turn : turn_against (sphere_at w h.chunk.sphere) (Actor.Thread h.thread) ≡ None
 
 -- each change keeps them
 pub record Keeps (z : Numbers) (P : Properties) : Type 0 where
@@ -199,13 +200,16 @@ module _ (P : Properties) (w : World) (keeps : Keeps w.numbers P) (good : IsGood
       core-holds P (suc (moment w)) w c (Some (record h { chunk = (cut h.chunk).chunk }))
       (λ x q. held-is P (record h { chunk = (cut h.chunk).chunk }) x q (keeps.cut h (k.held c h is))) same
 
+  goes-on-holds : (c : ℕ) (q : CommitRequest) (p : Sphere) → P.sphere (suc (moment w)) q.sphere p → Holds P (suc (moment w)) (with_core w c (goes_on_with w.numbers q p))
+  goes-on-holds c q p sphere = afresh-holds P (suc (moment w)) w c q.sphere q.thread p keeps sphere same
+
   granted-then : (c : ℕ) (q : CommitRequest) (writes : Signature) (v : MovedSphere) (o : CommitOutcome) → Lands P (suc (moment w)) q.sphere v → Then P w (granted w c q writes v o)
   granted-then c q writes v Granted lands =
-      moved-holds P w q.sphere v writes (2 ^ c) (with_core w c (held_afresh w.numbers q.sphere q.thread v.sphere)).cores lands
-      (afresh-holds P (suc (moment w)) w c q.sphere q.thread v.sphere keeps lands.sphere same).held same
+      moved-holds P w q.sphere v writes (2 ^ c) (with_core w c (goes_on_with w.numbers q v.sphere)).cores lands
+      (goes-on-holds c q v.sphere lands.sphere).held same
   granted-then c q writes v Piece lands =
-      moved-holds P w q.sphere v writes (2 ^ c) (with_core w c (held_afresh w.numbers q.sphere q.thread v.sphere)).cores lands
-      (afresh-holds P (suc (moment w)) w c q.sphere q.thread v.sphere keeps lands.sphere same).held same
+      moved-holds P w q.sphere v writes (2 ^ c) (with_core w c (goes_on_with w.numbers q v.sphere)).cores lands
+      (goes-on-holds c q v.sphere lands.sphere).held same
   granted-then c q writes v (Diverged i why) lands = sphere-holds P (suc (moment w)) w q.sphere v.sphere lands.sphere same
 
   asks : (c : ℕ) (h : Occupant) (how : How) → MayAsk w c h how → Asks w c h how

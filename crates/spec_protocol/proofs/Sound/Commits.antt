@@ -26,6 +26,7 @@ use Rattle.spec_protocol.proofs.Logs.Growing.{get_cases, pushed_length}
 use Rattle.spec_protocol.proofs.Moves.Spawning.{serve-few}
 use Rattle.spec_protocol.proofs.Sound.Threads.{AreThreads, BringsIf, interrupted-thread, IsSoundStepResult, serve-sound}
 use Rattle.spec_protocol.proofs.Logs.Fresh.{at-set_parts, fresh-commit}
+use Rattle.spec_play.proofs.Positions.{position-more}
 
 -- ---- rows of threads
 
@@ -57,7 +58,7 @@ later-thread m n x l s = record { thread = s.thread; few = (let k = s.few in ome
 
 -- a commit makes the sphere's number of commits one more
 pub next-position : (k : ℕ) (e : Effect) (p : Progress) → position (with_effect k e p) ≡ suc (position p)
-next-position k e p = pushed_length p.commits e.commit (length p.commits) refl
+next-position k e p = position-more p e.commit
 
 commit-threads : (n size k : ℕ) (ts : List Parts) (t : Parts) (e : Effect) → slice_get ts k ≡ Some t → IsSoundEffect size ts t e → ((j : ℕ) (x : Parts) → slice_get ts j ≡ Some x → IsSoundThread n x)
     → (j : ℕ) (x : Parts) → slice_get (with_threads k e ts) j ≡ Some x → IsSoundThread (suc n) x

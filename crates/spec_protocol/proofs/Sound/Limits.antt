@@ -97,6 +97,6 @@ whole-most log k n is =
 pub limit-most : (s commits : ℕ) (threads : List Parts) (role : Role) (k : ℕ) (t : Parts) → s ≤ 4096 → IsSoundRole s commits threads role → limit_of s role k t ≤ 4096
 unfolding limit_of
 limit-most s commits threads Plain k t l is = l
-limit-most s commits threads (Record log) k t l is = l
+limit-most s commits threads (Record recording) k t l is = l
 limit-most s commits threads (Replay b) k t l is =
     let a = whole-most b.log k t.commits is.log in let c = is.log.s.1 in omega (arith, a, c)

@@ -114,11 +114,11 @@ module _ (s : ℕ) (image : SphereSetup) (now k : ℕ) (t : Parts) (devices : De
   chunk-in-sound Plain piece short r role fits run =
       granted-sound s image now k Plain t (chunk_effect k p.progress.request r) devices p sound is
       (chunk-effect (length image.memory) k p.threads t p.progress.request r run.thread run.commits run.words sound.request sound.few) tt d
-  chunk-in-sound (Record log) piece short r role fits run =
+  chunk-in-sound (Record recording) piece short r role fits run =
       let e = chunk_effect k p.progress.request r in
       let effect = chunk-effect (length image.memory) k p.threads t p.progress.request r run.thread run.commits run.words sound.request sound.few in
-      granted-sound s image now k (Record (noted e.commit r.thread.commits short log)) t e devices p sound is effect
-      (noted-sound s k r.thread.commits short log t e p is effect.commits role) d
+      granted-sound s image now k (Record (record recording { log = noted e.commit r.thread.commits short recording.log })) t e devices p sound is effect
+      (noted-sound s k r.thread.commits short recording.log t e p is effect.commits role) d
   chunk-in-sound (Replay b) piece short r role fits run = replayed-sound b piece r role fits run
 
   -- a granted chunk leaves a sound sphere
@@ -202,13 +202,13 @@ serial-in-sound : (s : ℕ) (image : SphereSetup) (now k moment : ℕ) (role : R
     → IsSoundSphere s image now p → slice_get p.threads k ≡ Some t → HaveByteInput devices → IsSoundMoved s image (suc now) (serial_in role k moment t devices p)
 serial-in-sound s image now k moment Plain t devices p whole role going sound is d =
     served-sound s image now k Plain t (taken (need t p.memory) devices moment) p whole sound is (taken-sound t p.memory devices moment sound.bytes d) tt
-serial-in-sound s image now k moment (Record log) t devices p whole role going sound is d =
+serial-in-sound s image now k moment (Record recording) t devices p whole role going sound is d =
     let g = taken (need t p.memory) devices moment in
     let e = serial_effect k (serve k p.threads p.progress.request t p.memory g.input) in
     let taken_ = taken-sound t p.memory devices moment sound.bytes d in
     let effect = serial-effect (length image.memory) k p.threads p.progress.request t p.memory g.input sound.size whole taken_.brings (sound.threads k t is).thread sound.request sound.few in
-    served-sound s image now k (Record (serial_noted k t g log p)) t g p whole sound is taken_
-    (input-log s (position (with_effect k e p.progress)) (with_threads k e p.threads) g.input (noted e.commit t.commits false log) (noted-sound s k t.commits false log t e p is effect.commits role))
+    served-sound s image now k (Record (record recording { log = serial_noted k t g recording.log p })) t g p whole sound is taken_
+    (input-log s (position (with_effect k e p.progress)) (with_threads k e p.threads) g.input (noted e.commit t.commits false recording.log) (noted-sound s k t.commits false recording.log t e p is effect.commits role))
 serial-in-sound s image now k moment (Replay b) t devices p whole role going sound is d =
     verdict-sound s image now k b t (serial_verdict b.log p.progress b.used k p.threads t p.memory) devices p role (going b refl) sound is
     (serial-goes (length image.memory) k b.log p.progress b.used p.threads t p.memory is (cursor-uses (position p.progress) p.threads b role) sound.size whole (sound.threads k t is).thread sound.request sound.few) d

@@ -20,13 +20,13 @@ use Rattle.spec_protocol.proofs.Sound.Devices.{taken-sound, dma-bytes}
 
 live-going : (role : Role) → replays role ≡ false → is_stopped role ≡ false
 live-going Plain e = refl
-live-going (Record log) e = refl
+live-going (Record recording) e = refl
 live-going (Replay b) e = absurd (true≢false e)
 
 live-limit : (s k : ℕ) (t : Parts) (role : Role) → replays role ≡ false → limit_of s role k t ≡ s
 unfolding limit_of
 live-limit s k t Plain e = refl
-live-limit s k t (Record log) e = refl
+live-limit s k t (Record recording) e = refl
 live-limit s k t (Replay b) e = absurd (true≢false e)
 
 short-over : (capacity s : ℕ) (h : Occupant) (how : How) → h.chunk.closed ≡ Some how → 0 < capacity → Closes capacity h.chunk → is_short s how h.chunk.limit ≡ true → 1 ≤ h.chunk.done.n
@@ -61,7 +61,7 @@ fits_chunk : (w : World) (c : ℕ) (h : Occupant) (how : How) → IsGood w → I
 fits_chunk w c h how good is =
     let held = good.held c h is.is in
     let role = (sphere_at w h.chunk.sphere).role in
-    let most = (held.limit (live-going role is.live)).most in
+    let most = (held.thread.limit (live-going role is.live)).most in
     let n = within-limit w.numbers.capacity h.chunk held.chunk.closes in
     let e = live-limit w.numbers.s h.thread h.chunk.start role is.live in
     record { size = omega (arith, most, n, e); over = short-over w.numbers.capacity w.numbers.s h how is.closed good.buffer held.chunk.closes }

@@ -5,6 +5,7 @@ use Rattle.std.proofs.lemmas.Bool.{true≢false, eq-eqb, cases_eq, cases_lt}
 use Rattle.std.proofs.Math.ListN.{length-set}
 use Rattle.std.proofs.lemmas.Option.{none-some}
 use Rattle.std.proofs.lemmas.List.{length-map, get_or_past}
+use Rattle.dl_entry.specs.declared.Actor.{Actor}
 use Rattle.dl_entry.specs.declared.Counts.{Counts}
 use Rattle.dl_entry.specs.declared.ReplyName.{ReplyName}
 use Rattle.dl_entry.specs.ReplyName.{place}
@@ -19,12 +20,11 @@ use Rattle.spec_engine.specs.declared.answers.How.{How}
 use Rattle.spec_engine.specs.Flights.{Flight, at}
 use Rattle.spec_engine.specs.Chunks.{Chunk, step, cut}
 use Rattle.spec_protocol.specs.declared.event.Event.{Event}
-use Rattle.spec_protocol.specs.Spheres.{Cursor, Role, Replay, Sphere, no_sphere, is_over, is_stopped, head_of, head_in, whole_limit, pieces_of, limit_of, halves}
+use Rattle.spec_protocol.specs.Spheres.{turn_in, turn_against, Cursor, Role, Replay, Sphere, no_sphere, is_over, is_stopped, head_of, head_in, whole_limit, pieces_of, limit_of, halves}
 use Rattle.spec_protocol.specs.Commits.{MovedSphere, is_piece, chunk_moved, serial_moved}
-use Rattle.spec_protocol.specs.Asking.{is_short, other_turn}
+use Rattle.spec_protocol.specs.Asking.{is_short}
 use Rattle.spec_protocol.specs.World.{Numbers, Occupant, World, After, moment, sphere_at}
 use Rattle.spec_protocol.specs.Placing.{replays}
-use Rattle.spec_protocol.specs.Transferring.{turn_before_dma}
 use Rattle.spec_protocol.specs.Machine.{RoleSetup, IsPlain, IsRecorded, IsReplayed, SphereSetup, Setup, role_of, sphere_of, world_of, act, name_of, with_event, happens, world_after}
 use Rattle.spec_protocol.specs.Invariants.{IsGood}
 use Rattle.spec_protocol.specs.Promises.{IsSetup, AreSizesKept}
@@ -98,13 +98,14 @@ drained-both s now f w ws p e words k =
 going-on : (p : Sphere) → is_stopped p.role ≡ false → (b : Cursor) → p.role ≡ Replay b → is_over b.now ≡ false
 going-on p going b e = ap is_stopped (sym e) ∙ going
 
-has-turn : (p : Sphere) (k : ℕ) → is_stopped p.role ≡ false → other_turn (head_of p) k ≡ None → (b : Cursor) → p.role ≡ Replay b → b.now ≡ Turn k
-unfolding head_of
+has-turn : (p : Sphere) (k : ℕ) → is_stopped p.role ≡ false → turn_against p (Actor.Thread k) ≡ None → (b : Cursor) → p.role ≡ Replay b → b.now ≡ Turn k
+unfolding turn_against
 has-turn p k going turn b e =
-    turn-is b.now k (going-on p going b e) (ap (λ (r : Role). other_turn (head_in r p) k) (sym e) ∙ turn)
+    turn-is b.now k (going-on p going b e) (ap (λ (r : Role). turn_in r p (Actor.Thread k)) (sym e) ∙ turn)
 
-dma-has-turn : (p : Sphere) → is_stopped p.role ≡ false → turn_before_dma p.role ≡ None → (b : Cursor) → p.role ≡ Replay b → b.now ≡ TurnOfDma
-dma-has-turn p going turn b e = dma-turn_is b.now (going-on p going b e) (ap turn_before_dma (sym e) ∙ turn)
+dma-has-turn : (p : Sphere) → is_stopped p.role ≡ false → turn_against p Actor.Dma ≡ None → (b : Cursor) → p.role ≡ Replay b → b.now ≡ TurnOfDma
+unfolding turn_against
+dma-has-turn p going turn b e = dma-turn_is b.now (going-on p going b e) (ap (λ (r : Role). turn_in r p Actor.Dma) (sym e) ∙ turn)
 
 -- before its limit a chunk is a piece that leaves room for an instruction
 piece-how : (how : How) → is_piece how ≡ true → how ≢ How.Limit
@@ -142,10 +143,10 @@ piece-room s w c h how asks k b e piece =
     let turn = has-turn p h.thread asks.going asks.turn b e in
     let cursor = cursor-is s.numbers.s (position p.progress) p b e k.role in
     let limit : h.chunk.limit ≡ max 1 (whole_limit b.log h.thread h.chunk.start.commits - b.total) =
-    (held.limit asks.going).replayed (ap replays e) ∙ ap (λ (r : Role). limit_of w.numbers.s r h.thread h.chunk.start) e ∙ limit-is w.numbers.s h.thread b h.chunk.start turn
+    (held.thread.limit asks.going).replayed (ap replays e) ∙ ap (λ (r : Role). limit_of w.numbers.s r h.thread h.chunk.start) e ∙ limit-is w.numbers.s h.thread b h.chunk.start turn
     in
     room-left h.chunk.done.n b.total (whole_limit b.log h.thread h.chunk.start.commits) h.chunk.limit
-    (turn-room (position p.progress) h.thread p b h.chunk.start cursor turn held.start) limit
+    (turn-room (position p.progress) h.thread p b h.chunk.start cursor turn held.thread.start) limit
     (held.chunk.closes.early how asks.closed (piece-how how piece))
 
 sound-chunk : (s : Setup) (w : World) (c : ℕ) (h : Occupant) (how : How) → Asks w c h how → Holds (sound s) (moment w) w
@@ -157,9 +158,9 @@ sound-chunk s w c h how asks k =
     let ch = k.held c h asks.is in
     let sphere = k.spheres i held.sphere in
     landed s (suc (moment w)) i _
-    (chunk-sound s.numbers.s (image_at s i) (moment w) h.thread h.chunk.start w.devices p sphere held.start k.devices
+    (chunk-sound s.numbers.s (image_at s i) (moment w) h.thread h.chunk.start w.devices p sphere held.thread.start k.devices
     (is_piece how) (is_short w.numbers.s how h.chunk.limit) h.chunk.done
-    (record { live = held.lives; turn = has-turn p h.thread asks.going asks.turn; room = piece-room s w c h how asks sphere })
+    (record { live = held.thread.lives; turn = has-turn p h.thread asks.going asks.turn; room = piece-room s w c h how asks sphere })
     (record { thread = ch.thread; commits = ch.commits; status = ch.status; words = ch.words; loads = held.chunk.closes.few_loads }))
 
 sound-serial : (s : Setup) (w : World) (c : ℕ) (h : Occupant) (how : How) → IsWithinLimits s → Asks w c h how → Holds (sound s) (moment w) w
@@ -169,7 +170,7 @@ sound-serial s w c h how limits asks k =
     let p = sphere_at w i in
     let held = asks.good.held c h asks.is in
     landed s (suc (moment w)) i _
-    (serial-sound s.numbers.s (image_at s i) (moment w) h.thread (moment w) h.chunk.start w.devices p (whole s i limits) (has-turn p h.thread asks.going asks.turn) (k.spheres i held.sphere) held.start k.devices)
+    (serial-sound s.numbers.s (image_at s i) (moment w) h.thread (moment w) h.chunk.start w.devices p (whole s i limits) (has-turn p h.thread asks.going asks.turn) (k.spheres i held.sphere) held.thread.start k.devices)
 
 -- ---- every change
 
@@ -263,10 +264,10 @@ first-thread entry (suc k) t aligned e = absurd (none-some t e)
 
 first-role : (s entry : ℕ) (r : RoleSetup) → IsRole r → let threads = started entry ∷ [] in IsSoundRole s 0 threads (role_of s threads r)
 first-role s entry IsPlain is = tt
-first-role s entry (IsRecorded mode) is = record { size = refl; count = refl; interrupts = fresh-none (started entry ∷ []) }
-first-role s entry (IsReplayed log) is =
-    turned-sound log no_progress nothing_used (started entry ∷ []) is (omega arith) (done-none log.mode log.order (started entry) refl) (omega arith) (omega arith)
-    (sym (none-due_first (started entry) log.interrupts refl))
+first-role s entry (IsRecorded asked) is = record { size = refl; count = refl; interrupts = fresh-none (started entry ∷ []) }
+first-role s entry (IsReplayed asked) is =
+    turned-sound asked.log no_progress nothing_used (started entry ∷ []) is (omega arith) (done-none asked.log.mode asked.log.order (started entry) refl) (omega arith) (omega arith)
+    (sym (none-due_first (started entry) asked.log.interrupts refl))
 
 first-sphere : (s : ℕ) (image : SphereSetup) → IsImage image → IsSoundSphere s image 0 (sphere_of s image)
 first-sphere s image is =

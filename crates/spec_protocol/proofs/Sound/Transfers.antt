@@ -21,7 +21,7 @@ use Rattle.spec_play.specs.Progress.{Progress, position, with_dma, Used, with_dm
 use Rattle.spec_play.specs.Turns.{TurnOfDma}
 use Rattle.spec_play.specs.Verdicts.{serial_why}
 use Rattle.spec_play.specs.Transfers.{DmaVerdict, DmaGoes, DmaFails, is_for, transferred, dma_unless, dma_verdict}
-use Rattle.spec_protocol.specs.Spheres.{Cursor, Role, Plain, Record, Replay, Sphere, is_over, actor_of}
+use Rattle.spec_protocol.specs.Spheres.{Recording, Cursor, Role, Plain, Record, Replay, Sphere, is_over, actor_of}
 use Rattle.spec_protocol.specs.Commits.{MovedSphere, dma_as, live_dma, dma_log, dma_by_verdict, dma_in, dma_moved, role_raised, raised}
 use Rattle.spec_protocol.specs.Placing.{replays}
 use Rattle.spec_protocol.specs.Machine.{SphereSetup}
@@ -36,11 +36,12 @@ use Rattle.spec_protocol.proofs.Replays.Order.{done-dma}
 use Rattle.spec_protocol.proofs.Sound.Commits.{set-all, later-thread, IsSoundMoved}
 use Rattle.spec_protocol.proofs.Replays.Turns.{turned-sound}
 use Rattle.spec_protocol.proofs.Replays.Verdicts.{diverged-sound}
+use Rattle.spec_play.proofs.Positions.{position-more}
 
 -- ---- DMAs
 
 dma-position : (p : Progress) → position (with_dma p) ≡ suc (position p)
-dma-position p = pushed_length p.commits dma_commit (length p.commits) refl
+dma-position p = position-more p dma_commit
 
 dma-as-sound : (s : ℕ) (image : SphereSetup) (now : ℕ) (role : Role) (words : List Stored) (devices : Devices) (p : Sphere) → IsSoundSphere s image now p → AreSoundWords (length image.memory) words → IsSoundRole s (position (with_dma p.progress)) p.threads role
     → HaveByteInput devices → IsSoundMoved s image (suc now) (dma_as role words devices p)
@@ -75,12 +76,12 @@ dma-log-sound : (s n m : ℕ) (log : LogParts) (devices : Devices) (p : Sphere) 
 dma-log-sound s n m log devices p None e some h = absurd (some refl)
 dma-log-sound s n m log devices p (Some q) e some h = record { size = h.size; count = (let c = h.count in omega (arith, c, e)); interrupts = h.interrupts }
 
-recorded-dma-sound : (s : ℕ) (image : SphereSetup) (now : ℕ) (log : LogParts) (devices : Devices) (p : Sphere) (o : Option Request) → length image.memory % 4 ≡ 0 → IsSoundSphere s image now p → IsSoundIf (length image.memory) o → IsSoundLog s (position p.progress) p.threads log
-    → HaveByteInput devices → IfMoved s image (suc now) (live_dma (Record (dma_log log devices p o)) devices p o)
-recorded-dma-sound s image now log devices p None whole sound request role d = tt
-recorded-dma-sound s image now log devices p (Some q) whole sound request role d =
-    live-dma-sound s image now (Record (dma_log log devices p (Some q))) devices p (Some q) whole sound request
-    (dma-log-sound s (position p.progress) (position (with_dma p.progress)) log devices p (Some q) (dma-position p.progress) (λ e. none-some q (sym e)) role) d
+recorded-dma-sound : (s : ℕ) (image : SphereSetup) (now : ℕ) (recording : Recording) (devices : Devices) (p : Sphere) (o : Option Request) → length image.memory % 4 ≡ 0 → IsSoundSphere s image now p → IsSoundIf (length image.memory) o → IsSoundLog s (position p.progress) p.threads recording.log
+    → HaveByteInput devices → IfMoved s image (suc now) (live_dma (Record (record recording { log = dma_log recording.log devices p o })) devices p o)
+recorded-dma-sound s image now recording devices p None whole sound request role d = tt
+recorded-dma-sound s image now recording devices p (Some q) whole sound request role d =
+    live-dma-sound s image now (Record (record recording { log = dma_log recording.log devices p (Some q) })) devices p (Some q) whole sound request
+    (dma-log-sound s (position p.progress) (position (with_dma p.progress)) recording.log devices p (Some q) (dma-position p.progress) (λ e. none-some q (sym e)) role) d
 
 -- what the log says of it
 pub record DmaUses (size : ℕ) (log : LogParts) (u : Used) (words : List Stored) : Type 0 where
@@ -128,7 +129,7 @@ dma-verdict-sound s image now b (DmaGoes words) devices p cursor turn sound goes
 dma-in-sound : (s : ℕ) (image : SphereSetup) (now : ℕ) (role : Role) (devices : Devices) (p : Sphere) → length image.memory % 4 ≡ 0 → IsSoundRole s (position p.progress) p.threads role → ((b : Cursor) → role ≡ Replay b → b.now ≡ TurnOfDma) → IsSoundSphere s image now p
     → HaveByteInput devices → IfMoved s image (suc now) (dma_in role devices p)
 dma-in-sound s image now Plain devices p whole role going sound d = live-dma-sound s image now Plain devices p p.progress.request whole sound sound.request tt d
-dma-in-sound s image now (Record log) devices p whole role going sound d = recorded-dma-sound s image now log devices p p.progress.request whole sound sound.request role d
+dma-in-sound s image now (Record recording) devices p whole role going sound d = recorded-dma-sound s image now recording devices p p.progress.request whole sound sound.request role d
 dma-in-sound s image now (Replay b) devices p whole role going sound d =
     dma-verdict-sound s image now b (dma_verdict b.log p.progress b.used) devices p role (going b refl) sound (dma-goes (length image.memory) b.log p.progress b.used whole sound.request) d
 
@@ -142,7 +143,7 @@ dma-moved-sound s image now devices p v whole going sound d is = subst (IfMoved 
 
 role-raised-sound : (s n k value : ℕ) (t : Parts) (threads : List Parts) (role : Role) → replays role ≡ false → slice_get threads k ≡ Some t → IsSoundRole s n threads role → IsSoundRole s n (set threads k (interrupted value t)) (role_raised k t.commits value role)
 role-raised-sound s n k value t threads Plain live is h = tt
-role-raised-sound s n k value t threads (Record log) live is h = record { size = h.size; count = h.count; interrupts = fresh-raise threads k value t log.interrupts is h.interrupts }
+role-raised-sound s n k value t threads (Record recording) live is h = record { size = h.size; count = h.count; interrupts = fresh-raise threads k value t recording.log.interrupts is h.interrupts }
 role-raised-sound s n k value t threads (Replay b) live is h = absurd (true≢false live)
 
 -- an interrupt leaves a sound sphere

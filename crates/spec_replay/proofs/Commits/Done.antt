@@ -22,6 +22,7 @@ use Rattle.spec_protocol.specs.Serial.{laid}
 use Rattle.spec_replay.specs.Following.{IsWhole, IsMovedOn, StandsAt, Follows}
 use Rattle.spec_replay.proofs.Commits.Standing.{set_twice, whole-stands}
 use Rattle.spec_replay.proofs.Commits.Judging.{AlikeEffects, AreAlike}
+use Rattle.spec_play.proofs.Positions.{position-more}
 
 -- ---- where a sphere stands
 
@@ -90,7 +91,7 @@ module _ (log : LogParts) (y : Played) (p : Sphere) (b : Cursor) (devices : Devi
       let q : Sphere = laid (by_verdict b k (Goes e u) devices p) in
       let c : Cursor = turned b.log (with_effect k e p.progress) u (with_threads k e p.threads) in
       let progress : q.progress ≡ z.progress =
-      (λ i. record { commits = (s.progress i).commits ++ alike.commit i ∷ []; last = Some k; request = alike.request i })
+      (λ i. record { first = (s.progress i).first; commits = (s.progress i).commits ++ alike.commit i ∷ []; last = Some k; request = alike.request i })
       in
       let same : q.threads ≡ z.threads =
       ap (λ (ts : List Parts). set ts k e.thread ++ e.spawned) threads
@@ -123,7 +124,7 @@ module _ (log : LogParts) (start y : Played) (p : Sphere) (b : Cursor) (k : ℕ)
   pub commit-reaches : (v w : LogVerdict) (devices : Devices) → thread_verdict log y k t (next_kind t y.memory) ≡ w → AreAlike p.memory y.memory v w → Reaches log start (laid (by_verdict b k v devices p))
   commit-reaches (Goes e u) (Goes f g) devices is alike =
       let one : plays log start (suc (position p.progress)) ≡ settled log y k (Goes f g) = ap (play_one log) (sym h.at_) ∙ play_judged (Goes f g) is in
-      rw (one_more p.progress.commits e.commit)
+      rw (position-more p.progress e.commit)
       (rw one (goes_follow log y p b devices h.beside k (run y.memory t b.total).thread e f u g h.moved.threads alike.0 alike.1))
   commit-reaches (Fails why) (Fails other) devices is alike =
       let one : play_one log y ≡ ended_by y why = play_judged (Fails other) is ∙ ap (ended_by y) (sym alike) in
@@ -157,7 +158,7 @@ pub transfer-reaches : (log : LogParts) (start y : Played) (p : Sphere) (b : Cur
     → Reaches log start (laid (dma_by_verdict b v devices p))
 transfer-reaches log start y p b (DmaGoes ws) devices at_ s turn w is =
     let one : plays log start (suc (position p.progress)) ≡ dma_settled log y (DmaGoes ws) = ap (play_one log) (sym at_) ∙ play_dma log y (DmaGoes ws) turn is in
-    rw (one_more p.progress.commits dma_commit)
+    rw (position-more p.progress dma_commit)
     (rw one (dma_follows log y p b ws devices s w))
 transfer-reaches log start y p b (DmaFails why) devices at_ s turn w is =
     subst (λ (z : Played). Follows log z (laid (dma_by_verdict b (DmaFails why) devices p))) at_

@@ -13,6 +13,7 @@ use Rattle.spec_replay.specs.Following.{IsWhole, IsMovedOn, StandsAt}
 use Rattle.spec_replay.specs.Promises.{SameState, ends_between, Agree, ReplaysAgree}
 use Rattle.spec_replay.proofs.Replays.Stopping.{IsLast, IsAt, is_at, Reached, last_of, meet, end_between, whole_now}
 use Rattle.spec_replay.proofs.Replays.All.{replays_follow}
+use Rattle.spec_protocol.specs.Machine.{first_played}
 
 -- ---- states
 
@@ -71,8 +72,9 @@ two_agree log start p q b c k l =
 
 -- two replays of one log on one image agree
 pub replays_alike : ReplaysAgree
-replays_alike image log s z es fs i j p q b c x w role other =
-    let start : Played = opened log image.memory image.entry in
+replays_alike image asked s z es fs i j p q b c x w role other =
+    let log = asked.log in
+    let start : Played = first_played image log in
     two_agree log start p q b c
-    (is_at log (plays log start (position p.progress)) p b role (replays_follow image log s es i p x))
-    (is_at log (plays log start (position q.progress)) q c other (replays_follow image log z fs j q w))
+    (is_at log (plays log start (position p.progress)) p b role (replays_follow image asked s es i p x))
+    (is_at log (plays log start (position q.progress)) q c other (replays_follow image asked z fs j q w))

@@ -2,6 +2,7 @@
 use Rattle.std.proofs.Common.{◌≡◌, ℕ, ◌<◌, ◌≤◌, inl, inr, false, List, Option, Some, None, refl, sym, ap, ◌∙◌, subst, arith, set}
 use Rattle.std.specs.Prelude.{slice_get, IsSome, ◌⊎◌}
 use Rattle.std.proofs.lemmas.Bool.{true≢false, ltb-false}
+use Rattle.dl_entry.specs.declared.Actor.{Actor}
 use Rattle.spec_isa.specs.declared.thread.Parts.{Parts}
 use Rattle.spec_isa.specs.Words.{lays}
 use Rattle.spec_isa.specs.Runs.{run}
@@ -14,11 +15,10 @@ use Rattle.spec_play.specs.Verdicts.{LogVerdict, serial_verdict}
 use Rattle.spec_play.specs.Transfers.{DmaVerdict, dma_verdict}
 use Rattle.spec_play.specs.Plays.{Played, plays}
 use Rattle.spec_engine.specs.declared.answers.How.{How}
-use Rattle.spec_protocol.specs.Spheres.{Cursor, Role, Replay, Sphere, is_over, is_stopped, head_in, head_of, is_in_pieces}
+use Rattle.spec_protocol.specs.Spheres.{turn_in, turn_against, Cursor, Role, Replay, Sphere, is_over, is_stopped, head_in, head_of, is_in_pieces}
 use Rattle.spec_protocol.specs.Commits.{MovedSphere, is_piece, replayed_chunk, by_verdict, chunk_in, chunk_moved, serial_in, serial_moved, dma_by_verdict, dma_in, dma_moved}
 use Rattle.spec_protocol.specs.World.{Numbers, What, OfChunk, OfSerial, OfDma, OfRaise}
-use Rattle.spec_protocol.specs.Asking.{is_short, other_turn}
-use Rattle.spec_protocol.specs.Transferring.{turn_before_dma}
+use Rattle.spec_protocol.specs.Asking.{is_short}
 use Rattle.spec_protocol.specs.Serial.{SerialState, laid, do_moved, do_serial, do_dma}
 use Rattle.spec_protocol.specs.Moves.{move_chunk, do_what, FitsChunk, SerialFits, FitsSerial, DmaFits, FitsWhat}
 use Rattle.spec_protocol.proofs.Moves.Granted.{get-set_same, turn-is}
@@ -60,14 +60,15 @@ not_over : (r : Role) (b : Cursor) → r ≡ Replay b → is_stopped r ≡ false
 not_over r b role going = ap is_stopped (sym role) ∙ going
 
 -- a replay that another thread's turn doesn't hold up has this thread's turn
-pub turn_of_thread : (p : Sphere) (b : Cursor) (k : ℕ) → p.role ≡ Replay b → is_stopped p.role ≡ false → other_turn (head_of p) k ≡ None → b.now ≡ Turn k
-unfolding head_of
+pub turn_of_thread : (p : Sphere) (b : Cursor) (k : ℕ) → p.role ≡ Replay b → is_stopped p.role ≡ false → turn_against p (Actor.Thread k) ≡ None → b.now ≡ Turn k
+unfolding turn_against
 turn_of_thread p b k role going free =
-    turn-is b.now k (not_over p.role b role going) (ap (λ (r : Role). other_turn (head_in r p) k) (sym role) ∙ free)
+    turn-is b.now k (not_over p.role b role going) (ap (λ (r : Role). turn_in r p (Actor.Thread k)) (sym role) ∙ free)
 
 -- a replay that no thread's turn holds up before a DMA has the DMA's
-pub turn_of_dma : (p : Sphere) (b : Cursor) → p.role ≡ Replay b → is_stopped p.role ≡ false → turn_before_dma p.role ≡ None → b.now ≡ TurnOfDma
-turn_of_dma p b role going free = dma-turn_is b.now (not_over p.role b role going) (ap turn_before_dma (sym role) ∙ free)
+pub turn_of_dma : (p : Sphere) (b : Cursor) → p.role ≡ Replay b → is_stopped p.role ≡ false → turn_against p Actor.Dma ≡ None → b.now ≡ TurnOfDma
+unfolding turn_against
+turn_of_dma p b role going free = dma-turn_is b.now (not_over p.role b role going) (ap (λ (r : Role). turn_in r p Actor.Dma) (sym role) ∙ free)
 
 -- where it is a thread's, that thread has the turn
 has_turn : (log : LogParts) (start y : Played) (p : Sphere) (b : Cursor) (k : ℕ) → y ≡ plays log start (position p.progress) → (g : Going log y p b (Turn k)) → HasTurn log start y p b k g.state.0
@@ -102,43 +103,43 @@ serial_reaches log start y p b k u devices at_ g there f =
 -- ---- moves
 
 -- the sphere i stands in the play
-pub record Stands (log : LogParts) (start : Played) (x : SerialState) (i : ℕ) : Type 0 where
+pub record StandsInPlay (log : LogParts) (start : Played) (x : SerialState) (i : ℕ) : Type 0 where
   pub sphere : Sphere
   pub there : slice_get x.spheres i ≡ Some sphere
   pub reaches : Reaches log start sphere
 
 -- the replayed sphere i, which is p, stands in the play of its log
 module _ (log : LogParts) (start : Played) (x : SerialState) (i : ℕ) (p : Sphere) (s : 0 < log.s) (is : slice_get x.spheres i ≡ Some p) (f : Reaches log start p) where
-  moved_stands : (v : MovedSphere) → Reaches log start (laid v) → Stands log start (do_moved x i v) i
+  moved_stands : (v : MovedSphere) → Reaches log start (laid v) → StandsInPlay log start (do_moved x i v) i
   moved_stands v r = record { sphere = laid v; there = get-set_same x.spheres i (laid v) p is; reaches = r }
 
-  thread_going : (k : ℕ) → is_stopped p.role ≡ false → other_turn (head_of p) k ≡ None → Going log (plays log start (position p.progress)) p f.cursor (Turn k)
+  thread_going : (k : ℕ) → is_stopped p.role ≡ false → turn_against p (Actor.Thread k) ≡ None → Going log (plays log start (position p.progress)) p f.cursor (Turn k)
   thread_going k going free =
       going_at log (plays log start (position p.progress)) p (Turn k) s f (not_over p.role f.cursor f.role going) (turn_of_thread p f.cursor k f.role going free)
 
-  chunk_stands : (z : Numbers) (k : ℕ) (how : How) (n limit : ℕ) (o : Option Parts) → slice_get p.threads k ≡ o → FitsChunk z p k how n limit o → Stands log start (move_chunk z x i k how n limit p o) i
+  chunk_stands : (z : Numbers) (k : ℕ) (how : How) (n limit : ℕ) (o : Option Parts) → slice_get p.threads k ≡ o → FitsChunk z p k how n limit o → StandsInPlay log start (move_chunk z x i k how n limit p o) i
   unfolding chunk_moved
   chunk_stands z k how n limit None there fits = absurd fits
   chunk_stands z k how n limit (Some u) there fits =
       let y : Played = plays log start (position p.progress) in
       let b : Cursor = f.cursor in
       let g : Going log y p b (Turn k) = thread_going k fits.going fits.turn in
-      subst (λ (v : MovedSphere). Stands log start (do_moved x i v) i)
+      subst (λ (v : MovedSphere). StandsInPlay log start (do_moved x i v) i)
       (sym (ap (λ (r : Role). chunk_in r k (is_piece how) (is_short z.s how limit) (run p.memory u n) x.devices p) f.role))
       (moved_stands (replayed_chunk (is_piece how) b k (run p.memory u n) x.devices p)
       (chunk-reaches log start y p b k g.state.0 (has_turn log start y p b k refl g) z u how n limit x.devices there fits))
 
-  serial_stands : (moment k : ℕ) (o : Option Parts) → slice_get p.threads k ≡ o → FitsSerial p k o → Stands log start (do_serial x i k moment p o) i
+  serial_stands : (moment k : ℕ) (o : Option Parts) → slice_get p.threads k ≡ o → FitsSerial p k o → StandsInPlay log start (do_serial x i k moment p o) i
   unfolding serial_moved
   serial_stands moment k None there fits = absurd fits
   serial_stands moment k (Some u) there fits =
       let y : Played = plays log start (position p.progress) in
       let b : Cursor = f.cursor in
-      subst (λ (v : MovedSphere). Stands log start (do_moved x i v) i)
+      subst (λ (v : MovedSphere). StandsInPlay log start (do_moved x i v) i)
       (sym (ap (λ (r : Role). serial_in r k moment u x.devices p) f.role))
       (moved_stands (serial_in (Replay b) k moment u x.devices p) (serial_reaches log start y p b k u x.devices refl (thread_going k fits.going fits.turn) there fits))
 
-  dma_stands : DmaFits x.devices p → Stands log start (do_dma x i (dma_moved x.devices p)) i
+  dma_stands : DmaFits x.devices p → StandsInPlay log start (do_dma x i (dma_moved x.devices p)) i
   unfolding dma_moved
   dma_stands fits =
       let y : Played = plays log start (position p.progress) in
@@ -146,13 +147,13 @@ module _ (log : LogParts) (start : Played) (x : SerialState) (i : ℕ) (p : Sphe
       let turn : b.now ≡ TurnOfDma = turn_of_dma p b f.role fits.going fits.turn in
       let g : Going log y p b TurnOfDma = going_at log y p TurnOfDma s f (not_over p.role b f.role fits.going) turn in
       let v : DmaVerdict = dma_verdict b.log p.progress b.used in
-      subst (λ (o : Option MovedSphere). Stands log start (do_dma x i o) i)
+      subst (λ (o : Option MovedSphere). StandsInPlay log start (do_dma x i o) i)
       (sym (ap (λ (r : Role). dma_in r x.devices p) f.role))
       (moved_stands (dma_by_verdict b v x.devices p)
       (transfer-reaches log start y p b v x.devices refl g.beside g.turn g.state (λ j. dma_verdict (sym g.beside.same_log j) (sym g.beside.progress j) (sym g.beside.used j))))
 
   -- a move of a replayed sphere leaves it in its log's play
-  pub what-stands : (z : Numbers) (moment : ℕ) (what : What) → FitsWhat z x.devices p what → Stands log start (do_what z x moment i p what) i
+  pub what-stands : (z : Numbers) (moment : ℕ) (what : What) → FitsWhat z x.devices p what → StandsInPlay log start (do_what z x moment i p what) i
   what-stands z moment (OfChunk k how n limit) fits = chunk_stands z k how n limit (slice_get p.threads k) refl fits
   what-stands z moment (OfSerial k) fits = serial_stands moment k (slice_get p.threads k) refl fits
   what-stands z moment OfDma fits = dma_stands fits

@@ -13,6 +13,7 @@ use Rattle.spec_replay.specs.Following.{IsWhole, StandsAt, EndsWithin, Follows}
 use Rattle.spec_replay.specs.Promises.{ends_between, StoppedArePlayed}
 use Rattle.spec_replay.proofs.Replays.Ending.{ends-between}
 use Rattle.spec_replay.proofs.Replays.All.{replays_follow}
+use Rattle.spec_protocol.specs.Machine.{last_played, first_played}
 
 -- ---- the last state of a play, told by a replay that has stopped
 
@@ -90,15 +91,16 @@ whole_now log y p b how e s = subst (λ (now : Now). StandsAt log y now p b) e s
 
 -- a replay that has stopped has done its log's whole play
 pub stopped_played : StoppedArePlayed
-stopped_played image log s es i p b x role stopped =
-    let start : Played = opened log image.memory image.entry in
+stopped_played image asked s es i p b x role stopped =
+    let log = asked.log in
+    let start : Played = first_played image log in
     let n : ℕ = position p.progress in
     let y : Played = plays log start n in
-    let k : Reached log start p b = is_at log y p b role (replays_follow image log s es i p x) in
+    let k : Reached log start p b = is_at log y p b role (replays_follow image asked s es i p x) in
     let l = last_of log start p b k stopped in
     let o = play-over log image.memory image.entry in
-    let same : plays log start (suc n) ≡ play log image.memory image.entry = meet log start (suc n) log.count l.how o.0 l.now o.1 in
-    let whole : (how : End) → b.now ≡ Ended how → ends_between how ≡ true → (y ≡ play log image.memory image.entry) × IsWhole y p b =
+    let same : plays log start (suc n) ≡ last_played image log = meet log start (suc n) log.count l.how o.0 l.now o.1 in
+    let whole : (how : End) → b.now ≡ Ended how → ends_between how ≡ true → (y ≡ last_played image log) × IsWhole y p b =
     (λ how is between.
     let over : y.now ≡ Ended how = end_between log y b how k.now is between in
     (meet log start n log.count how o.0 over o.1, whole_now log y p b how over k.state))

@@ -5,7 +5,7 @@ ghost use Rattle.spec_log.specs.declared.sizes.Sizes.TheVariants.{Short};
 ghost use Rattle.dl_mode.specs.Lists.{AreLists};
 
 use dl_entry::{Actor, Commit, CommitKind, Loads, OutOfMemory, Outputs, Sequence};
-use dl_mode::{Lists, Mode, OrderAndSize, OrderOnly, PicoLog};
+use dl_mode::{Lists, Mode, Noting, OrderAndSize, OrderOnly, PicoLog};
 use spec_log::{ModeName, Order, ShortSize, Sizes};
 use std::alloc::Global;
 use std::process::Abort;
@@ -60,14 +60,14 @@ fn picolog_takes_turns(rt: HostRuntime) -> Result<(), Fail> {
     keeps::<PicoLog>(&rt, rt.alloc(), &PICOLOG)
 }
 
-fn keeps<M: Mode>(rt: &impl Abort, alloc: Global, told: &Told) -> Result<(), Fail> {
+fn keeps<M: Noting>(rt: &impl Abort, alloc: Global, told: &Told) -> Result<(), Fail> {
     let log = noted::<M>(alloc)?;
     assert!(rt; has_lists::<M>(alloc, &log, told)?);
     shows::<M>(rt, &log, told.looks);
     Ok(())
 }
 
-fn has_lists<M: Mode>(alloc: Global, log: &M::Log, told: &Told) -> Result<bool, OutOfMemory> {
+fn has_lists<M: Noting>(alloc: Global, log: &M::Log, told: &Told) -> Result<bool, OutOfMemory> {
     let lists = M::lists(alloc, log)?;
     Ok(are_as_told(&lists, told) && lists.order.as_slice() == told.order)
 }
@@ -211,7 +211,7 @@ const EARLY: &[ShortSize] = &[
     },
 ];
 
-fn noted<M: Mode>(alloc: Global) -> Result<M::Log, OutOfMemory> {
+fn noted<M: Noting>(alloc: Global) -> Result<M::Log, OutOfMemory> {
     let mut log = M::new(alloc, 100)?;
     for (code, size, early) in COMMITS {
         let commit = Commit {
@@ -238,7 +238,7 @@ fn actor_of(code: u8) -> Actor
 }
 
 /// A log of the lists of six commits.
-fn made<M: Mode>(alloc: Global, order: &[Actor], sizes: Sizes) -> Result<M::Log, OutOfMemory>
+fn made<M: Noting>(alloc: Global, order: &[Actor], sizes: Sizes) -> Result<M::Log, OutOfMemory>
     requires { AreLists M.mode (record { mode = M.mode; s = 100; count = 6; order = order.now; sizes = sizes }) }
 {
     let lists = Lists {

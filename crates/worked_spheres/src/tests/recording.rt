@@ -4,8 +4,8 @@ ghost use Rattle.spec_log.specs.Log.{IsActor, IsInput, AreFewBytes, input_kinds}
 ghost use Rattle.dl_record.specs.Recording.{CanCommit};
 
 use dl_entry::{Actor, Bytes, Commit, CommitKind, Input, Loads, OutOfMemory, Outputs};
-use dl_logbytes::write_log;
-use dl_mode::{Mode, OrderAndSize, OrderOnly, PicoLog};
+use dl_logfmt::write_log;
+use dl_mode::{Noting, OrderAndSize, OrderOnly, PicoLog};
 use dl_record::Recorder;
 use spec_log::ModeName;
 use std::alloc::Global;
@@ -51,7 +51,7 @@ struct Row {
 }
 
 /// The bytes of a recording's log. A step that no recorder takes fails.
-fn recorded<M: Mode>(rt: &impl Abort, alloc: Global, row: &Row) -> Result<Vec<u8>, Fail> {
+fn recorded<M: Noting>(rt: &impl Abort, alloc: Global, row: &Row) -> Result<Vec<u8>, Fail> {
     assert!(rt; 16 <= row.s && row.s <= 4096);
     assert!(rt; row.steps.len() < 100);
     let mut recorder = Recorder::<M>::new(alloc, row.s)?;
@@ -66,7 +66,7 @@ fn recorded<M: Mode>(rt: &impl Abort, alloc: Global, row: &Row) -> Result<Vec<u8
     Ok(write_log(alloc, &recorder.finish()?)?)
 }
 
-fn note<M: Mode>(
+fn note<M: Noting>(
     rt: &impl Abort,
     alloc: Global,
     recorder: &mut Recorder<M>,
@@ -88,7 +88,7 @@ fn note<M: Mode>(
     Ok(())
 }
 
-fn note_commit<M: Mode>(
+fn note_commit<M: Noting>(
     recorder: &mut Recorder<M>,
     commit: &Commit,
     early: bool,

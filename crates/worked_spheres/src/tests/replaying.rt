@@ -1,14 +1,14 @@
 //! Logs of one commit, and how their replays end.
 ghost use Rattle.std.specs.Prelude.{◌≡◌, ◌∷◌, []};
 ghost use Rattle.spec_isa.specs.Threads.{started};
-ghost use Rattle.dl_replay.specs.Judged.{IsAmong};
-ghost use Rattle.dl_replay.specs.Replaying.{IsTurnOf, commits_of};
+ghost use Rattle.spec_play.specs.Turns.{Turn, TurnOfDma};
+ghost use Rattle.dl_replay.specs.Replaying.{commits_of};
 
 use dl_entry::{Actor, End, OutOfMemory, Why};
-use dl_logbytes::read_log;
+use dl_logfmt::read_log;
 use dl_mem::Memory;
-use dl_mode::{Mode, OrderAndSize, OrderOnly, PicoLog};
-use dl_replay::{Asking, Replayer, Served};
+use dl_mode::{Noting, OrderAndSize, OrderOnly, PicoLog};
+use dl_replay::Replayer;
 use dl_thread::Threads;
 use spec_log::{Log, ModeName};
 use std::alloc::Global;
@@ -58,7 +58,7 @@ fn ended(alloc: Global, row: &Row, memory: &Memory) -> Result<Option<End>, Fail>
 }
 
 /// How the replay has ended once its first actor has asked.
-fn ended_in<M: Mode>(
+fn ended_in<M: Noting>(
     alloc: Global,
     log: &Log,
     row: &Row,
@@ -67,40 +67,42 @@ fn ended_in<M: Mode>(
     requires { log.now.mode ≡ M.mode }
 {
     let mut replayer = Replayer::<M>::new(alloc, log)?;
-    let Some(actor) = replayer.head() else {
-        return Ok(replayer.ended());
-    };
-    if actor != Actor::Thread(0) && actor != Actor::Dma {
-        return Ok(None);
+    match replayer.head() {
+        Some(Actor::Thread(thread)) => ask(&mut replayer, thread, row, memory)?,
+        Some(Actor::Dma) => ask_for_dma(&mut replayer, memory)?,
+        None => {}
     }
-    ask(alloc, &mut replayer, &asking(actor, row), memory)?;
     Ok(replayer.ended())
 }
 
-fn asking(actor: Actor, row: &Row) -> Asking
-    ensures { result.actor ≡ actor }
-{
-    Asking {
-        actor,
-        total: row.total,
-        serial: row.serial,
-    }
-}
-
-/// The actor asks, where thread 0 stands alone.
-fn ask<M: Mode>(
-    alloc: Global,
+/// The thread asks, where thread 0 is alone.
+fn ask<M: Noting>(
     replayer: &mut Replayer<M>,
-    asking: &Asking,
+    thread: u8,
+    row: &Row,
     memory: &Memory,
 ) -> Result<(), OutOfMemory>
-    requires turn { IsTurnOf asking.now.actor replayer.old.now }
-    requires thread { IsAmong asking.now.actor (started 0 ∷ []) }
+    requires turn { replayer.old.now ≡ Turn thread }
     requires commits { replayer.old.commits ≡ commits_of (started 0 ∷ []) }
 {
     let mut threads = Threads::start(0);
-    let mut served = Served::new(alloc);
-    replayer.accept(asking, &mut threads, &mut None, memory, &mut served)?;
+    if thread != 0 {
+        return Ok(());
+    }
+    if row.serial && row.total == 0 {
+        let _ = replayer.serve_step(thread, &mut threads, &mut None, memory)?;
+        return Ok(());
+    }
+    let _ = replayer.end_chunk(thread, row.total, &mut threads);
+    Ok(())
+}
+
+/// The DMA is done, which nobody asked for.
+fn ask_for_dma<M: Noting>(replayer: &mut Replayer<M>, memory: &Memory) -> Result<(), OutOfMemory>
+    requires turn { replayer.old.now ≡ TurnOfDma }
+    requires commits { replayer.old.commits ≡ commits_of (started 0 ∷ []) }
+{
+    let _ = replayer.serve_dma(&Threads::start(0), &mut None, memory)?;
     Ok(())
 }
 

@@ -5,7 +5,7 @@ ghost use Rattle.spec_log.specs.Log.{IsChunkSize};
 mod beginnings;
 mod moves;
 
-use dl_logbytes::read_log;
+use dl_logfmt::read_log;
 use dl_sphere::{Role, Sphere, SphereSetup};
 use spec_log::ModeName;
 use std::alloc::Global;

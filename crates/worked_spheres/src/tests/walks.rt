@@ -1,6 +1,6 @@
 //! Worked logs, walked over their images.
 use dl_entry::{End, Why};
-use dl_logbytes::read_log;
+use dl_logfmt::read_log;
 use dl_mem::Memory;
 use dl_serial::{Commit, WalkEnd, Walked, walk};
 use dl_thread::Thread;

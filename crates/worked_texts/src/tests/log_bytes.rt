@@ -1,5 +1,5 @@
 //! The bytes of the logs of small recordings, and bytes that are no log.
-use dl_logbytes::{LogError, read_log, write_log};
+use dl_logfmt::{LogError, read_log, write_log};
 use std::alloc::Global;
 use std::test::Fail;
 

@@ -1,6 +1,6 @@
 //! The texts of small logs, of each mode.
 use dl_inspect::inspect_text;
-use dl_logbytes::read_log;
+use dl_logfmt::read_log;
 use std::test::Fail;
 
 #[test]

@@ -6,7 +6,20 @@ use std::test::Fail;
 
 /// A plan that is accepted under the name `p.toml`.
 const PLAN: &str =
-    "cores = 1\nchunk = 100\nbuffer = 16\nwindow = 2\nsignature = 64\nscript = \"s.txt\"\nreport = \"r.txt\"\n[[sphere]]\nimage = \"a.elf\"\nmemory = 4096\nrole = \"record\"\nmode = \"order-size\"\nlog = \"a.log\"\naccount = \"a.txt\"\n";
+    "cores = 1\n\
+      chunk = 100\n\
+      buffer = 16\n\
+      window = 2\n\
+      signature = 64\n\
+      script = \"s.txt\"\n\
+      report = \"r.txt\"\n\
+      [[sphere]]\n\
+      image = \"a.elf\"\n\
+      memory = 4096\n\
+      role = \"record\"\n\
+      mode = \"order-size\"\n\
+      log = \"a.log\"\n\
+      account = \"a.txt\"\n";
 
 /// Its sphere.
 const SPHERE: &str =
@@ -14,7 +27,31 @@ const SPHERE: &str =
 
 /// A plan with what the other has not.
 const OTHER: &str =
-    "cores = 8\nchunk = 64\nbuffer = 8\nwindow = 1\nsignature = 128\nseed = 9\nevents = 20000\ninput = \"i.bin\"\nconsole = \"c.bin\"\n[[sphere]]\nimage = \"a.elf\"\nmemory = 4096\nrole = \"plain\"\n[[sphere]]\nimage = \"b.elf\"\nmemory = 8192\nrole = \"record\"\nmode = \"picolog\"\nlog = \"b.log\"\n[[sphere]]\nimage = \"b.elf\"\nmemory = 16777216\nrole = \"replay\"\nlog = \"a.log\"\naccount = \"c.txt\"\n";
+    "cores = 8\n\
+      chunk = 64\n\
+      buffer = 8\n\
+      window = 1\n\
+      signature = 128\n\
+      seed = 9\n\
+      events = 20000\n\
+      input = \"i.bin\"\n\
+      console = \"c.bin\"\n\
+      [[sphere]]\n\
+      image = \"a.elf\"\n\
+      memory = 4096\n\
+      role = \"plain\"\n\
+      [[sphere]]\n\
+      image = \"b.elf\"\n\
+      memory = 8192\n\
+      role = \"record\"\n\
+      mode = \"picolog\"\n\
+      log = \"b.log\"\n\
+      [[sphere]]\n\
+      image = \"b.elf\"\n\
+      memory = 16777216\n\
+      role = \"replay\"\n\
+      log = \"a.log\"\n\
+      account = \"c.txt\"\n";
 
 /// What the plan reads as once its first `from` is `to`.
 fn changed(alloc: Global, from: &str, to: &str) -> Result<Result<Plan, PlanError>, Fail> {
@@ -261,12 +298,34 @@ const CONFLICTS: &[(&str, &str, u8)] = &[
     ("cores", "input = \"a.txt\"\ncores", 7),
     (
         SPHERE,
-        "[[sphere]]\nimage = \"a.elf\"\nmemory = 4096\nrole = \"record\"\nmode = \"order-size\"\nlog = \"a.log\"\naccount = \"a.txt\"\n[[sphere]]\nimage = \"b.elf\"\nmemory = 8192\nrole = \"replay\"\nlog = \"a.log\"\n",
+        "[[sphere]]\n\
+          image = \"a.elf\"\n\
+          memory = 4096\n\
+          role = \"record\"\n\
+          mode = \"order-size\"\n\
+          log = \"a.log\"\n\
+          account = \"a.txt\"\n\
+          [[sphere]]\n\
+          image = \"b.elf\"\n\
+          memory = 8192\n\
+          role = \"replay\"\n\
+          log = \"a.log\"\n",
         7,
     ),
     (
         SPHERE,
-        "[[sphere]]\nimage = \"a.elf\"\nmemory = 4096\nrole = \"record\"\nmode = \"order-size\"\nlog = \"a.log\"\naccount = \"a.txt\"\n[[sphere]]\nimage = \"b.elf\"\nmemory = 8192\nrole = \"plain\"\naccount = \"a.txt\"\n",
+        "[[sphere]]\n\
+          image = \"a.elf\"\n\
+          memory = 4096\n\
+          role = \"record\"\n\
+          mode = \"order-size\"\n\
+          log = \"a.log\"\n\
+          account = \"a.txt\"\n\
+          [[sphere]]\n\
+          image = \"b.elf\"\n\
+          memory = 8192\n\
+          role = \"plain\"\n\
+          account = \"a.txt\"\n",
         7,
     ),
 ];

@@ -15,7 +15,7 @@ wants_if true or_else = refl
 wants_if false or_else = or_else refl
 
 pub loop-event-init : goal.loop-event-init
-loop-event-init g c = going_start c.args.machine.now c.requires.run c.requires.events c.requires.commits
+loop-event-init g c = going_start c.args.machine.now c.has_run.ensures c.requires.events c.requires.commits
 
 pub loop-machine-init : goal.loop-machine-init
 loop-machine-init g c =

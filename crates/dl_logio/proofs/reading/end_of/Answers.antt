@@ -1,5 +1,5 @@
 use Rattle.std.proofs.Common.{Err, subst}
-use Rattle.dl_logbytes.specs.Answer.{IsReading}
+use Rattle.dl_logfmt.specs.Answer.{IsReading}
 use Rattle.spec_log.specs.Reading.{read_of}
 use Rattle.dl_logio.proofs.reading.end_of.Goals as goal
 

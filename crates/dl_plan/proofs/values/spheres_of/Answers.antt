@@ -1,4 +1,4 @@
-use Rattle.std.proofs.Common.{◌≡◌, ◌++◌, List, [], ◌∷◌, map}
+use Rattle.std.proofs.Common.{◌++◌, List, [], ◌∷◌, map}
 use Rattle.dl_plan.specs.declared.plan.Sphere.{Sphere}
 use Rattle.dl_plan.specs.Plans.{sphere_asked}
 use Rattle.dl_plan.specs.Values.{AreMemories, IsMemory, sphere_view}

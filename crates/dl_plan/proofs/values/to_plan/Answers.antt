@@ -12,7 +12,6 @@ returns-clause-limits c =
     let few = few_spheres (map entry_view c.args.entries.now.spheres.items) c.in-Some.ensures.spheres in
     record {
       sizes = c.in-Some.ensures.limits;
-      seed = c.in-Some.ensures.seed;
       schedule = c.in_ok-schedule.ensures.limits;
       spheres = (omega (arith, same, few, ap (λ x. length (map entry_view x)) c.deref.ensures.value), omega (arith, same, few, ap (λ x. length (map entry_view x)) c.deref.ensures.value));
       memories = c.in_ok-spheres.ensures.limits;

@@ -1,5 +1,6 @@
 use Rattle.std.proofs.Common.{◌<◌, ◌≤◌, length, arith}
-use Rattle.dl_replay.proofs.Counts.{counted-next}
+use Rattle.dl_kernel.proofs.Rows.{row-next}
+use Rattle.dl_replay.specs.Replaying.{commits_at}
 use Rattle.dl_replay.proofs.counting.commits_of.Goals as goal
 
 pub loop-number-preserved : goal.loop-number-preserved
@@ -8,4 +9,4 @@ loop-number-preserved c =
     let i = c.loop-number.number in
     let h : i < length ts = omega arith in
     let l : length ts ≤ 15 = omega arith in
-    rw (c.from.ensures, c.loop-number.invariant, c.commits_at.ensures) (counted-next 15 ts i h l)
+    rw (c.from.ensures, c.loop-number.invariant, c.commits_at.ensures) (row-next commits_at 15 ts i h l)

@@ -1,9 +1,9 @@
+use Rattle.dl_replay.specs.Served.{nothing_served}
 use Rattle.std.proofs.Common.{◌≡◌, ◌∷◌, ◌++◌, [], refl, ap, ◌∙◌, subst}
 use Rattle.dl_entry.specs.declared.Commit.{Commit}
 use Rattle.spec_isa.specs.Words.{lays}
 use Rattle.spec_play.specs.Plays.{Played, settled}
 use Rattle.spec_play.specs.Verdicts.{chunk_verdict}
-use Rattle.dl_replay.specs.Left.{nothing_served}
 use Rattle.dl_serial.specs.Overlays.{Overlaid}
 use Rattle.dl_serial.specs.Playing.{StandsAt, progress_in}
 use Rattle.dl_serial.specs.declared.sphere.Sphere.{Sphere}

@@ -1,8 +1,8 @@
 use Rattle.std.proofs.Common.{◌≡◌, refl, sym, ap, ◌∙◌}
 use Rattle.std.specs.Prelude.{slice_set}
 use Rattle.spec_play.specs.Verdicts.{chunk_verdict}
+use Rattle.dl_replay.specs.Served.{nothing_served}
 use Rattle.dl_replay.specs.Judged.{HasRun}
-use Rattle.dl_replay.specs.Left.{nothing_served}
 use Rattle.dl_replay.specs.Replaying.{Agrees, commits_of}
 use Rattle.dl_replay.proofs.PutBack.{put_back, same_commits}
 use Rattle.dl_serial.specs.Playing.{progress_in}

@@ -2,7 +2,7 @@ use Rattle.std.proofs.Common.{◌∷◌, ◌++◌, [], List, length, refl, ap, �
 use Rattle.dl_elf.specs.Images.{IsSize}
 use Rattle.dl_entry.specs.declared.Commit.{Commit}
 use Rattle.spec_play.specs.Transfers.{dma_verdict}
-use Rattle.dl_replay.specs.Left.{nothing_served}
+use Rattle.dl_replay.specs.Served.{nothing_served}
 use Rattle.dl_replay.specs.Replaying.{Agrees}
 use Rattle.dl_serial.specs.Overlays.{Overlaid}
 use Rattle.dl_serial.specs.Playing.{progress_in}

@@ -4,8 +4,8 @@ use Rattle.dl_entry.specs.declared.Commit.{Commit}
 use Rattle.spec_play.specs.Effects.{Effect}
 use Rattle.spec_play.specs.Progress.{Used}
 use Rattle.spec_play.specs.Verdicts.{Goes, chunk_verdict}
+use Rattle.dl_replay.specs.Served.{nothing_served}
 use Rattle.dl_replay.specs.Judged.{HasRun}
-use Rattle.dl_replay.specs.Left.{nothing_served}
 use Rattle.dl_replay.specs.Replaying.{commits_of}
 use Rattle.dl_replay.proofs.PutBack.{put_back, same_commits}
 use Rattle.dl_sphere.specs.Replayed.{before}

@@ -9,8 +9,8 @@ use dl_chunk::Chunk;
 use dl_dev::Devices;
 use dl_entry::{Actor, CommitKind, End, Request};
 use dl_fly::Flights;
-use dl_logbytes::write_log;
-use dl_replay::thread_at;
+use dl_kernel::thread_at;
+use dl_logfmt::write_log;
 use dl_sig::{PlainSet, Sig};
 use dl_sphere::{Moved, Sphere};
 use dl_thread::{Thread, ThreadStatus};
@@ -168,7 +168,7 @@ fn devices(alloc: Global) -> Result<Devices, Fail>
 /// Does the serial step of thread 0.
 fn serial_step(rt: &impl Abort, alloc: Global, sphere: &mut Sphere) -> Result<(), Fail> {
     let mut devices = devices(alloc)?;
-    let _ = (sphere.memory().size(), first(sphere));
+    let _ = first(sphere);
     is_turn(rt, sphere);
     assert!(rt; sphere.commits().len() == 1);
     let moved = sphere.serial_step(0, &mut devices, 5)?;

@@ -2,9 +2,9 @@ use Rattle.std.proofs.Common.{◌≡◌, ◌<◌, ◌++◌, ◌∙◌, take, dro
 use Rattle.std.proofs.lemmas.List.{take_at}
 use Rattle.std.proofs.lemmas.List.Elements.{All-append, All-from_get_or}
 use Rattle.std.proofs.lemmas.Grind.{common_steps}
-use Rattle.dl_logfmt.specs.Drafts.{cut}
+use Rattle.dl_logfmt.specs.Parsing.{cut}
 use Rattle.dl_logfmt.specs.Feeding.{HasFed}
-use Rattle.dl_logfmt.proofs.Drafts.Steps.{cut-grew}
+use Rattle.dl_logfmt.proofs.Parsing.{cut-grew}
 use Rattle.dl_logfmt.proofs.Feeding.Pieces.{holding, fed-on, fed-refused, held-fed, refused-fed, start-low}
 use Rattle.dl_logfmt.proofs.reader.LogReader.feed.Goals as goal
 
@@ -30,8 +30,8 @@ invariant_of-self-in-Err-Malformed c =
 
 pub invariant_of-self-in-Err-OutOfMemory : goal.invariant_of-self-in-Err-OutOfMemory
 invariant_of-self-in-Err-OutOfMemory c =
-    let back : c.cut.new.self ≡ c.self.inside.draft =
-    c.cut.ensures ∙ (ap (λ m. cut m c.feed.new.self) c.mark-mark.ensures ∙ cut-grew _ _ c.feed.ensures.grown) in
+    let back : c.cut.new.self ≡ c.self.inside.parser =
+    c.cut.ensures ∙ (ap (λ m. cut m c.feed.new.self) c.mark-mark.ensures ∙ cut-grew c.self.inside.parser c.feed.new.self c.feed.ensures.grown) in
     let all : c.extend_from_slice.new.self.items ≡ c.self.inside.pending.items ++ c.args.piece.now = grind (arith, common_steps) in
     let held : length c.self.inside.pending.items ≡ c.len-held.result = omega arith in
     let items : c.truncate.new.self.items ≡ c.self.inside.pending.items =

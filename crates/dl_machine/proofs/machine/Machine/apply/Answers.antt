@@ -3,15 +3,17 @@ use Rattle.std.specs.Prelude.{slice_index}
 use Rattle.dl_entry.specs.declared.Counts.{Counts}
 use Rattle.spec_protocol.specs.World.{World}
 use Rattle.spec_protocol.specs.Machine.{happens}
-use Rattle.dl_machine.specs.Ready.{IsReady}
-use Rattle.dl_machine.proofs.Worlds.Events.{act_counts, happens_reply, ready_after, replies_few, world_left}
-use Rattle.dl_machine.proofs.Worlds.Promised.{run_more}
+use Rattle.dl_machine.proofs.Worlds.Events.{act_counts, happens_reply, replies_few, world_left}
+use Rattle.dl_machine.proofs.Worlds.Promised.{led_on, run_more, run_ready}
 use Rattle.dl_machine.proofs.machine.Machine.apply.Goals as goal
 
 pub invariant_of-self-2 : goal.invariant_of-self-2
 invariant_of-self-2 g c =
     let left = world_left _ c.args.event c.in_ok-reply.reply c.act.new.self c.count.new.self c.in_ok-reply.ensures.reply c.in_ok-reply.ensures.world c.count.ensures in
-    subst IsReady (sym left) (ready_after _ c.args.event c.self.invariant)
+    led_on _ _ c.args.event left c.self.invariant
+
+pub act-requires-clause-ready : goal.act-requires-clause-ready
+act-requires-clause-ready g c = run_ready _ c.self.invariant
 
 pub returns-clause-run : goal.returns-clause-run
 returns-clause-run g c =
@@ -22,7 +24,7 @@ returns-clause-run g c =
 pub count-requires-clause-replies : goal.count-requires-clause-replies
 count-requires-clause-replies g c k =
     let same : c.act.new.self.counts ≡ c.self.inside.state.counts = ap (λ (w : World). w.counts) c.in_ok-reply.ensures.world ∙ act_counts _ c.args.event in
-    subst (λ (n : Counts). slice_index n.replies k ≤ n.events) (sym same) (replies_few _ c.self.invariant k)
+    subst (λ (n : Counts). slice_index n.replies k ≤ n.events) (sym same) (replies_few _ (run_ready _ c.self.invariant) k)
 
 pub returns-clause-done : goal.returns-clause-done
 returns-clause-done g c =

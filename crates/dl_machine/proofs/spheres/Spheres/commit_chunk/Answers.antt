@@ -1,10 +1,9 @@
-use Rattle.std.proofs.Common.{◌≡◌, ◌^◌, ◌<◌, length, IfOk, IfSome, Some, subst, arith, rules}
+use Rattle.std.proofs.Common.{◌≡◌, ◌^◌, ◌<◌, length, IfOk, Some, subst, arith, rules}
 use Rattle.std.proofs.lemmas.Grind.{common_steps}
 use Rattle.spec_kernel.specs.Devices.{Devices}
 use Rattle.spec_engine.specs.declared.answers.How.{How}
 use Rattle.spec_protocol.specs.Asking.{is_short}
 use Rattle.spec_protocol.specs.Commits.{chunk_moved, is_piece}
-use Rattle.spec_protocol.specs.Sound.{IsSoundRequest}
 use Rattle.spec_protocol.specs.Spheres.{Sphere}
 use Rattle.dl_sphere.specs.declared.moved.Moved.{Moved}
 use Rattle.dl_sphere.specs.SizedSpheres.{SizedSphere}
@@ -13,6 +12,7 @@ use Rattle.dl_machine.specs.Rows.{nth_sphere}
 use Rattle.dl_machine.proofs.Commits.AsClosed.{how_of, how_is, can_commit_so, if_ok}
 use Rattle.dl_machine.proofs.Rows.Spheres.{row_says, said_of_row, others_left}
 use Rattle.dl_machine.proofs.spheres.Spheres.commit_chunk.Goals as goal
+use Rattle.spec_play.specs.Progress.{position}
 
 pub commit_chunk-requires : goal.commit_chunk-requires
 commit_chunk-requires g c =
@@ -27,10 +27,7 @@ commit_chunk-requires g c =
         said (λ p. c.args.thread < length p.sphere.threads) c.requires.thread,
         (
           said (λ p. CanCommit p.s p.sphere c.args.thread (how_of ch.closed) ch) (can_commit_so _ _ _ ch c.requires.chunk),
-          (
-            said (λ p. length p.sphere.progress.commits < 2 ^ 24) c.requires.few,
-            said (λ p. IfSome p.sphere.progress.request (IsSoundRequest (length p.sphere.memory))) c.requires.request,
-          ),
+          said (λ p. position p.sphere.progress < 2 ^ 24) c.requires.few,
         ),
       ),
     )

@@ -1,11 +1,12 @@
 use Rattle.std.proofs.Common.{◌≡◌, inl, inr, None, Some, Option, false, sym, ap, ◌∙◌, subst}
 use Rattle.std.proofs.lemmas.Option.{same_Some}
+use Rattle.dl_entry.specs.declared.Actor.{Actor}
 use Rattle.spec_kernel.specs.Devices.{Devices}
 use Rattle.spec_play.specs.Progress.{position}
-use Rattle.spec_protocol.specs.Spheres.{Sphere, is_stopped}
+use Rattle.spec_protocol.specs.Spheres.{turn_against, Sphere, is_stopped}
 use Rattle.spec_protocol.specs.Commits.{CommitOutcome, Granted, Piece, Diverged, MovedSphere, dma_moved}
 use Rattle.spec_protocol.specs.World.{World, sphere_at}
-use Rattle.spec_protocol.specs.Transferring.{dma_with, turn_before_dma}
+use Rattle.spec_protocol.specs.Transferring.{dma_with}
 use Rattle.dl_sphere.specs.declared.moved.Moved.{Moved}
 use Rattle.dl_sphere.specs.declared.moved.Moved.TheVariants as moved_as
 use Rattle.dl_sphere.specs.Moving.{came}
@@ -22,8 +23,8 @@ dma-requires-clause-turn g c =
     let x = c.self.inside in
     let w : World = world_in x.cores x.spheres x.flights x.devices x.counts x.points.items in
     let view : w ≡ c.args.self.now = c.self.view_is in
-    turn_of_dma (sphere_at w c.args.sphere).role (subst (λ (u : World). is_stopped (sphere_at u c.args.sphere).role ≡ false) (sym view) c.requires.going)
-    (subst (λ (u : World). turn_before_dma (sphere_at u c.args.sphere).role ≡ None) (sym view) c.requires.turn)
+    turn_of_dma (sphere_at w c.args.sphere) (subst (λ (u : World). is_stopped (sphere_at u c.args.sphere).role ≡ false) (sym view) c.requires.going)
+    (subst (λ (u : World). turn_against (sphere_at u c.args.sphere) Actor.Dma ≡ None) (sym view) c.requires.turn)
 
 pub unreachable-requires : goal.unreachable-requires
 unreachable-requires g c =

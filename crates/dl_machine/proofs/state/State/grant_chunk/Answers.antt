@@ -1,13 +1,14 @@
 use Rattle.std.proofs.Common.{◌≡◌, [], ◌∷◌, ◌++◌, ◌<◌, false, List, length, None, Some, refl, sym, ap, ◌∙◌, subst}
 use Rattle.std.specs.Prelude.{option_map}
+use Rattle.dl_entry.specs.declared.Actor.{Actor}
 use Rattle.dl_entry.specs.declared.CommitKind.{CommitKind}
 use Rattle.dl_entry.specs.declared.Point.{Point}
 use Rattle.spec_engine.specs.Flights.{at}
 use Rattle.spec_protocol.specs.declared.reply.Reply.{Reply}
-use Rattle.spec_protocol.specs.Spheres.{Sphere, head_of, is_stopped}
+use Rattle.spec_protocol.specs.Spheres.{turn_against, Sphere, head_of, is_stopped}
 use Rattle.spec_protocol.specs.Commits.{MovedSphere}
 use Rattle.spec_protocol.specs.World.{After, World, sphere_at}
-use Rattle.spec_protocol.specs.Asking.{asks_serial, grant_chunk, is_short, other_turn}
+use Rattle.spec_protocol.specs.Asking.{asks_serial, grant_chunk, is_short}
 use Rattle.dl_sphere.specs.declared.moved.Moved.{Moved}
 use Rattle.dl_sphere.specs.declared.moved.Moved.TheVariants as moved_as
 use Rattle.dl_sphere.specs.Moving.{came}
@@ -30,7 +31,7 @@ commit_chunk-requires-clause-chunk g c =
     let held : option_map seen (at w.cores core) ≡ Some c.args.held = subst (λ (u : World). option_map seen (at u.cores core) ≡ Some c.args.held) (sym view) c.requires.held in
     let closed : option_map closed_by (at w.cores core) ≡ Some (Some c.args.how) = subst (λ (u : World). option_map closed_by (at u.cores core) ≡ Some (Some c.args.how)) (sym view) c.requires.closed in
     let going : is_stopped (sphere_at w c.args.held.sphere).role ≡ false = subst (λ (u : World). is_stopped (sphere_at u c.args.held.sphere).role ≡ false) (sym view) c.requires.going in
-    let free : other_turn (head_of (sphere_at w c.args.held.sphere)) c.args.held.thread ≡ None = subst (λ (u : World). other_turn (head_of (sphere_at u c.args.held.sphere)) c.args.held.thread ≡ None) (sym view) c.requires.turn in
+    let free : turn_against (sphere_at w c.args.held.sphere) (Actor.Thread c.args.held.thread) ≡ None = subst (λ (u : World). turn_against (sphere_at u c.args.held.sphere) (Actor.Thread c.args.held.thread) ≡ None) (sym view) c.requires.turn in
     let whole : Some false ≡ option_map (λ h. asks_serial h.chunk (sphere_at w c.args.held.sphere).role) (at w.cores core) = subst (λ (u : World). Some false ≡ option_map (λ h. asks_serial h.chunk (sphere_at u c.args.held.sphere).role) (at u.cores core)) (sym view) c.requires.chunk in
     (c.args.how, can_commit w core _ c.args.held c.args.how c.chunk-chunk.result.now.chunk ready refl held closed c.chunk-chunk.ensures going free whole)
 

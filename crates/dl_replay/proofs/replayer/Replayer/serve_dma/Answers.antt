@@ -1,11 +1,11 @@
 use Rattle.std.proofs.Common.{◌≡◌, ◌+◌, Ok, refl, ap, sym, subst, ◌∙◌}
 use Rattle.spec_play.specs.Progress.{position}
 use Rattle.spec_play.specs.Transfers.{DmaVerdict, DmaFails, dma_verdict}
-use Rattle.dl_replay.specs.declared.asking.Verdict.{Verdict}
+use Rattle.dl_replay.specs.Served.{nothing_served, served_stored}
+use Rattle.dl_replay.specs.declared.verdict.Verdict.{Verdict}
 use Rattle.dl_replay.specs.Judged.{dma_judged}
 use Rattle.dl_replay.specs.Judging.{transfer_verdict}
 use Rattle.dl_replay.specs.Replays.{advanced, replaying}
-use Rattle.dl_replay.specs.Left.{nothing_served, served_stored}
 use Rattle.dl_replay.specs.Replaying.{Replaying}
 use Rattle.dl_replay.specs.Seen.{used_seen}
 use Rattle.dl_replay.proofs.Advancing.{advanced-same, dma-goes}

@@ -1,8 +1,8 @@
 use Rattle.std.proofs.Common.{◌≡◌, Ok, refl, sym, subst, ◌∙◌, arith}
 use Rattle.spec_isa.specs.declared.thread.Parts.{Parts}
 use Rattle.spec_play.specs.Verdicts.{LogVerdict, Fails, serial_verdict}
-use Rattle.dl_replay.specs.declared.asking.Verdict.{Verdict}
-use Rattle.dl_replay.specs.Left.{nothing_served, served_left}
+use Rattle.dl_replay.specs.Served.{nothing_served, served_left}
+use Rattle.dl_replay.specs.declared.verdict.Verdict.{Verdict}
 use Rattle.dl_replay.specs.Judged.{serial_judged}
 use Rattle.dl_replay.specs.Judging.{step_verdict}
 use Rattle.dl_replay.specs.Replays.{IsReplaying}

@@ -7,5 +7,5 @@ pub returns-in-Replay : goal.returns-in-Replay
 returns-in-Replay c =
     let over = c.role.ensures.over in
     c.is_divergence.ensures
-    ∙ diverges-replayed over.0 c.args.self.now c.args.sphere c.in-Replay.field-0 c.end.result over.1 c.requires
+    ∙ diverges-replayed over.0 c.args.self.now c.args.sphere (record { log = c.in-Replay.field-0 }) c.end.result over.1 c.requires
     (sym c.role.ensures.value ∙ ap role_setup c.in-Replay.is) c.end.ensures

@@ -2,6 +2,7 @@ use Rattle.std.proofs.Common.{◌∙◌, ap, sym, inl, inr}
 use Rattle.dl_sphere.specs.Setups.{role_setup}
 use Rattle.dl_run.proofs.Over.{log-is, no-log}
 use Rattle.dl_run.proofs.run.Run.log.Goals as goal
+use Rattle.spec_protocol.specs.Machine.{RecordSetup}
 
 pub returns-in-Plain : goal.returns-in-Plain
 returns-in-Plain c es over =
@@ -10,11 +11,11 @@ returns-in-Plain c es over =
 pub returns-in-Replay : goal.returns-in-Replay
 returns-in-Replay c es over =
     no-log c.args.self.now.setup es c.args.sphere
-    (inr (c.in-Replay.field-0, sym c.role.ensures.value ∙ ap role_setup c.in-Replay.is))
+    (inr (record { log = c.in-Replay.field-0 }, sym c.role.ensures.value ∙ ap role_setup c.in-Replay.is))
 
 pub returns-in_ok-recording-in-Record : goal.returns-in_ok-recording-in-Record
 returns-in_ok-recording-in-Record c es over =
-    let mode = c.in-Record.field-0 in
+    let asked : RecordSetup = record { mode = c.in-Record.field-0 } in
     let is = sym c.role.ensures.value ∙ ap role_setup c.in-Record.is in
     let log = c.in_ok-recording-in-Record in
-    log-is c.args.self.now.setup es c.args.sphere mode log.field-0 is (log.ensures es mode over is)
+    log-is c.args.self.now.setup es c.args.sphere asked log.field-0 is (log.ensures es asked over is)

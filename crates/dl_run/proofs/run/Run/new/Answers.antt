@@ -4,11 +4,6 @@ use Rattle.dl_run.specs.Schedules.{events_in}
 use Rattle.dl_run.proofs.Taking.{run_room, run_events, run_over}
 use Rattle.dl_run.proofs.run.Run.new.Goals as goal
 
-pub finish-requires-clause-run : goal.finish-requires-clause-run
-finish-requires-clause-run c =
-    let s = setup_in c.args.setup in
-    record { setup = s; schedule = events_in c.args.schedule.now; run = c.in_ok-drive.ensures s c.in_ok-machine.ensures.run }
-
 pub finish-requires-clause-events : goal.finish-requires-clause-events
 finish-requires-clause-events c =
     let s = setup_in c.args.setup in

@@ -3,7 +3,7 @@ use Rattle.std.specs.Prelude.{IsSome, Some}
 use Rattle.std.proofs.lemmas.Result.{IfOk-weaker}
 use Rattle.spec_log.specs.declared.ModeName.{ModeName}
 use Rattle.spec_protocol.specs.declared.event.Event.{Event}
-use Rattle.spec_protocol.specs.Machine.{IsRecorded}
+use Rattle.spec_protocol.specs.Machine.{RecordSetup, IsRecorded}
 use Rattle.spec_protocol.specs.Sound.{image_at}
 use Rattle.spec_protocol.specs.Spheres.{Role, Sphere}
 use Rattle.spec_run.specs.Texts.{log_of_points}
@@ -24,8 +24,8 @@ returns c =
     let i = c.args.sphere in
     IfOk-weaker c.log.result
     (λ log. log_in c.sphere.result.now.sphere.role ≡ Some log)
-    (λ log. (es : List Event) (mode : ModeName) → IsOver es r → (image_at r.setup i).role ≡ IsRecorded mode → log ≡ log_of_points r.setup es i mode)
-    (λ log e es mode over is.
-    log-of_points es r i mode log over c.requires.inside is
+    (λ log. (es : List Event) (asked : RecordSetup) → IsOver es r → (image_at r.setup i).role ≡ IsRecorded asked → log ≡ log_of_points r.setup es i asked.mode)
+    (λ log e es asked over is.
+    log-of_points es r i asked log over c.requires.inside is
     (ap (λ (q : Sphere). log_in q.role) (sym c.sphere.ensures.value) ∙ e))
     c.log.ensures

@@ -1,4 +1,5 @@
-use Rattle.std.proofs.Common.{◌∷◌, [], length, sym, ap, ◌∙◌, subst}
+use Rattle.std.proofs.Common.{◌+◌, List, ◌∷◌, [], length, sym, ap, ◌∙◌, subst}
+use Rattle.dl_entry.specs.declared.Commit.{Commit}
 use Rattle.spec_isa.specs.Threads.{started}
 use Rattle.spec_log.specs.declared.LogParts.{LogParts}
 use Rattle.spec_log.specs.Log.{IsLog}
@@ -14,7 +15,7 @@ invariant_of-result g c =
     let begun = c.in_ok-new-2.ensures entry in (
       record {
         is_log = subst IsLog (sym (ap (λ (r : Replaying). r.log) begun)) c.parts.ensures.good;
-        done = ap length c.new-2.ensures.items ∙ sym (ap (λ (r : Replaying). r.done) begun);
+        done = ap (λ (cs : List Commit). 0 + length cs) c.new-2.ensures.items ∙ sym (ap (λ (r : Replaying). r.done) begun);
         commits = ap (λ (r : Replaying). r.commits) begun ∙ sym (ap commits_of c.start.ensures);
         whole = ap (λ (r : Replaying). r.total) begun;
         turn = λ k e. named log no_progress nothing_used (started entry ∷ []) c.start.result k (ap (λ (r : Replaying). r.now) begun) c.start.ensures e;

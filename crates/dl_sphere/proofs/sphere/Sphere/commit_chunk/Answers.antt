@@ -1,11 +1,11 @@
-use Rattle.std.proofs.Common.{◌≡◌, ◌+◌, ◌^◌, ◌<◌, ◌≤◌, ◌∷◌, ◌++◌, Bool, false, [], length, Some, None, sym, ap, ◌∙◌, subst, refl, set, length-set, append-nil, arith}
+use Rattle.std.proofs.Common.{◌≡◌, ◌+◌, ◌^◌, ◌<◌, ◌≤◌, ◌∷◌, ◌++◌, Bool, false, [], length, Some, None, sym, ap, ◌∙◌, subst, refl, set, length-set, append-nil, arith, suc, zero-add}
 use Rattle.std.specs.Prelude.{slice_get}
 use Rattle.std.proofs.lemmas.Option.{slice_get_within}
 use Rattle.spec_isa.specs.declared.thread.Parts.{Parts}
 use Rattle.dl_entry.specs.declared.Commit.{Commit}
 use Rattle.spec_log.specs.Log.{IsLog}
 use Rattle.spec_play.specs.Effects.{Effect, chunk_commit, counted}
-use Rattle.spec_play.specs.Progress.{Used}
+use Rattle.spec_play.specs.Progress.{position, Used}
 use Rattle.spec_play.specs.Verdicts.{Goes, chunk_verdict}
 use Rattle.spec_protocol.specs.Asking.{is_short}
 use Rattle.spec_protocol.specs.Commits.{Diverged, Granted, is_piece, joined, chunk_moved}
@@ -51,7 +51,9 @@ invariant_of-self-2 g c =
           ∙ ap (λ (v : Parts). v.commits + 1) c.state.ensures
           ∙ ap (λ n. n + 1) (c.requires.1.1.0.commits t start);
       new = tt;
-      position_ = ap length c.in_ok-keep.ensures.commits ∙ pushed_length a.commits.items commit (length a.commits.items) refl;
+      position_ =
+          let count : length c.keep.new.commits.items ≡ suc (length a.commits.items) = ap length c.in_ok-keep.ensures.commits ∙ pushed_length a.commits.items commit (length a.commits.items) refl in
+          omega arith;
       actor = ap (λ (v : Commit). v.actor) c.in_ok-commit.ensures;
     }
     in
@@ -197,8 +199,8 @@ count-requires g c =
     let n = c.commit_last.new in
     let v = chunk_verdict b.log p b.used k (joined b c.args.chunk.now.chunk.done) in
     let same : length n.commits.items ≡ length a.commits.items = left_commits (sphere_in a) r.player r.loads.items n.replay.player n.replay.loads.items n.threads a.request n.commits.items k v c.in-Some.why said in
-    let few : length a.commits.items < 2 ^ 24 =
-    subst (λ n. n < 2 ^ 24) (sym (ap (λ (s : SizedSphere). length s.sphere.progress.commits) c.self.view_is)) c.requires.1.1.1.0
+    let few : 0 + length a.commits.items < 2 ^ 24 =
+    subst (λ n. n < 2 ^ 24) (sym (ap (λ (s : SizedSphere). position s.sphere.progress) c.self.view_is)) c.requires.1.1.1
     in
     let here : length c.deref.result.now ≡ length n.commits.items = ap length c.deref.ensures.value in
     omega (arith, same, few, here)
@@ -220,7 +222,7 @@ returns-in-Some-clause-ok g c d =
     let v = chunk_verdict b.log p b.used k (joined b run) in
     let short : Bool = is_short a.s how ch.limit in
     let whole : false ≡ is_piece how = sym c.if-is_piece.false ∙ c.is_piece.ensures how c.requires.1.1.0.closed in
-    let len : c.count.result ≡ length n.commits.items = c.count.ensures ∙ ap length c.deref.ensures.value in
+    let len : c.count.result ≡ 0 + length n.commits.items = c.count.ensures ∙ ap length c.deref.ensures.value ∙ sym (zero-add (length n.commits.items)) in
     ap (λ m. record { outcome = Diverged m c.in-Some.why; sphere = sphere_with a.memory n.threads n.commits.items a.last a.request (Replay (cursor_of n.replay.player n.replay.loads.items)); words = []; devices = d }) len
     ∙ left (sphere_in a) r.player r.loads.items n.replay.player n.replay.loads.items n.threads a.request n.commits.items k v d c.in-Some.why kept.agrees.done said
     ∙ ap (λ (x : Bool). chunk_moved k x short run d (sphere_with a.memory a.threads a.commits.items a.last a.request (Replay b))) whole

@@ -1,4 +1,4 @@
-use Rattle.std.proofs.Common.{◌≡◌, ◌<◌, ◌^◌, [], length, Option, Some, None, refl, sym, ap, ◌∙◌, subst, arith}
+use Rattle.std.proofs.Common.{◌≡◌, ◌<◌, ◌^◌, [], length, Option, Some, None, refl, sym, ap, ◌∙◌, subst, arith, suc, ◌+◌, zero-add}
 use Rattle.std.specs.Prelude.{IsSome}
 use Rattle.std.proofs.lemmas.Bool.{true≢false}
 use Rattle.dl_entry.specs.declared.Request.{Request}
@@ -18,6 +18,7 @@ use Rattle.dl_sphere.proofs.Standing.Moves.{transferred_stand}
 use Rattle.dl_sphere.proofs.Replays.Limits.{replayed, stands_replayed, live_part}
 use Rattle.dl_sphere.proofs.Live.Moved.{none_moved, dma_is_moved}
 use Rattle.dl_sphere.proofs.sphere.Sphere.dma.Goals as goal
+use Rattle.spec_play.specs.Progress.{position}
 
 pub unreachable-requires : goal.unreachable-requires
 unreachable-requires c =
@@ -40,7 +41,7 @@ invariant_of-self-2 c =
     let q : Sphere = sphere_with a.memory a.threads c.live_dma.new.commits.items a.last None (role_in c.live_dma.new.part) in
     subst (IsSphere a.s q) (sym e.noted)
     (transferred_stand (sphere_in a) q a.s (dma_bytes c.args.devices.now request) (keeping_of a.part) live refl
-    (ap length e.commits ∙ pushed_length a.commits.items dma_commit (length a.commits.items) refl) c.self.invariant)
+    (let count : length c.live_dma.new.commits.items ≡ suc (length a.commits.items) = ap length e.commits ∙ pushed_length a.commits.items dma_commit (length a.commits.items) refl in omega arith) c.self.invariant)
 
 pub returns : goal.returns
 returns c =
@@ -102,8 +103,8 @@ count-requires c =
     let kept : IsReplayed (sphere_in a) r.player = replayed a r c.in-Replayed.is c.self.invariant in
     let said = rw c.in-Err.is at (c.in_ok-served.ensures.judged p kept.agrees refl) in
     let same : length n.commits.items ≡ length a.commits.items = dma_left_commits (sphere_in a) r.player r.loads.items n.replay.player n.replay.loads.items a.threads n.request n.commits.items v c.in-Err.why [] said in
-    let few : length a.commits.items < 2 ^ 24 =
-    subst (λ n. n < 2 ^ 24) (sym (ap (λ (s : SizedSphere). length s.sphere.progress.commits) c.self.view_is)) c.requires.few
+    let few : 0 + length a.commits.items < 2 ^ 24 =
+    subst (λ n. n < 2 ^ 24) (sym (ap (λ (s : SizedSphere). position s.sphere.progress) c.self.view_is)) c.requires.few
     in
     let here : length c.deref.result.now ≡ length n.commits.items = ap length c.deref.ensures.value in
     omega (arith, same, few, here)
@@ -119,7 +120,7 @@ returns-in-Err-clause-ok c =
     let n = c.serve_dma.new in
     let kept : IsReplayed (sphere_in a) r.player = replayed a r c.in-Replayed.is c.self.invariant in
     let said = rw c.in-Err.is at (c.in_ok-served.ensures.judged p kept.agrees refl) in
-    let len : c.count.result ≡ length n.commits.items = c.count.ensures ∙ ap length c.deref.ensures.value in
+    let len : c.count.result ≡ 0 + length n.commits.items = c.count.ensures ∙ ap length c.deref.ensures.value ∙ sym (zero-add (length n.commits.items)) in
     sym (ap (λ (s : SizedSphere). dma_moved d s.sphere) c.self.view_is)
     ∙ ap (λ (y : Part). dma_moved d (sphere_with a.memory a.threads a.commits.items a.last a.request (role_in y))) c.in-Replayed.is
     ∙ ap (λ (x : MovedSphere). Some x) (sym (

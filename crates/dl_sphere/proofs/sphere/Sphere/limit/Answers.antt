@@ -1,11 +1,11 @@
-use Rattle.std.proofs.Common.{◌≡◌, ◌≤◌, ◌<◌, ◌∙◌, length, Some, sym, ap, subst}
-use Rattle.std.specs.Prelude.{slice_get}
+use Rattle.std.proofs.Common.{◌≡◌, ◌≤◌, ◌∙◌, Some, sym, ap, subst}
+use Rattle.std.specs.Prelude.{slice_get, slice_index}
 use Rattle.spec_protocol.specs.Spheres.{limit_of}
 use Rattle.dl_replay.specs.Replaying.{cursor_of}
 use Rattle.dl_sphere.specs.declared.part.Part.{Part}
 use Rattle.dl_sphere.specs.Roles.{role_in}
 use Rattle.dl_sphere.specs.SizedSpheres.{SizedSphere}
-use Rattle.dl_sphere.proofs.Replays.Limits.{replayed, there, replay-least, replay-most}
+use Rattle.dl_sphere.proofs.Replays.Limits.{replayed, replay-least, replay-most}
 use Rattle.dl_sphere.proofs.sphere.Sphere.limit.Goals as goal
 
 pub returns-in-Replayed-clause-value : goal.returns-in-Replayed-clause-value
@@ -14,7 +14,7 @@ returns-in-Replayed-clause-value c t is =
     let r = c.in-Replayed.replay in
     let kept = replayed a r c.in-Replayed.is c.self.invariant in
     let here : slice_get a.threads c.args.thread ≡ Some t = ap (λ (v : SizedSphere). slice_get v.sphere.threads c.args.thread) c.self.view_is ∙ is in
-    c.limit.ensures a.s r.loads.items a.threads t c.self.invariant.threads kept.commits here
+    c.limit.ensures.of_thread a.s r.loads.items a.threads t c.self.invariant.threads kept.commits here
     ∙ sym (ap (λ (part : Part). limit_of a.s (role_in part) c.args.thread t) c.in-Replayed.is)
     ∙ ap (λ (v : SizedSphere). limit_of v.s v.sphere.role c.args.thread t) c.self.view_is
 
@@ -23,11 +23,7 @@ returns-in-Replayed-clause-least c =
     let a = c.self.inside in
     let k = c.args.thread in
     let r = c.in-Replayed.replay in
-    let kept = replayed a r c.in-Replayed.is c.self.invariant in
-    let few : k < length a.threads = subst (λ (v : SizedSphere). k < length v.sphere.threads) (sym c.self.view_is) c.requires in
-    let h = there a.threads k few in
-    subst (λ n. 1 ≤ n) (sym (c.limit.ensures a.s r.loads.items a.threads h.thread c.self.invariant.threads kept.commits h.is))
-    (replay-least a.s (cursor_of r.player r.loads.items) k h.thread)
+    subst (λ n. 1 ≤ n) (sym (c.limit.ensures.value a.s r.loads.items)) (replay-least a.s (cursor_of r.player r.loads.items) k (slice_index r.player.commits k))
 
 pub returns-in-Replayed-clause-most : goal.returns-in-Replayed-clause-most
 returns-in-Replayed-clause-most c =
@@ -35,7 +31,4 @@ returns-in-Replayed-clause-most c =
     let k = c.args.thread in
     let r = c.in-Replayed.replay in
     let kept = replayed a r c.in-Replayed.is c.self.invariant in
-    let few : k < length a.threads = subst (λ (v : SizedSphere). k < length v.sphere.threads) (sym c.self.view_is) c.requires in
-    let h = there a.threads k few in
-    subst (λ n. n ≤ 4096) (sym (c.limit.ensures a.s r.loads.items a.threads h.thread c.self.invariant.threads kept.commits h.is))
-    (replay-most a.s (cursor_of r.player r.loads.items) k h.thread kept.is_log)
+    subst (λ n. n ≤ 4096) (sym (c.limit.ensures.value a.s r.loads.items)) (replay-most a.s (cursor_of r.player r.loads.items) k (slice_index r.player.commits k) kept.is_log)

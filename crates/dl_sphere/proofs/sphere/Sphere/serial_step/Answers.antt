@@ -1,4 +1,4 @@
-use Rattle.std.proofs.Common.{◌≡◌, ◌<◌, ◌^◌, ◌+◌, ◌≤◌, false, [], ◌∷◌, ◌++◌, List, length, Option, Some, None, refl, sym, ap, ◌∙◌, subst, set, arith}
+use Rattle.std.proofs.Common.{◌≡◌, ◌<◌, ◌^◌, ◌+◌, ◌≤◌, false, [], ◌∷◌, ◌++◌, List, length, Option, Some, None, refl, sym, ap, ◌∙◌, subst, set, arith, suc, zero-add}
 use Rattle.std.specs.Prelude.{slice_get}
 use Rattle.std.proofs.lemmas.Option.{slice_get_within}
 use Rattle.dl_entry.specs.declared.Commit.{Commit}
@@ -10,7 +10,7 @@ use Rattle.spec_kernel.specs.Needs.{need}
 use Rattle.spec_kernel.specs.Answers.{taken}
 use Rattle.spec_kernel.specs.Serving.{serve}
 use Rattle.spec_play.specs.Effects.{Effect, counted, serial_commit}
-use Rattle.spec_play.specs.Progress.{Used}
+use Rattle.spec_play.specs.Progress.{position, Used}
 use Rattle.spec_play.specs.Verdicts.{Goes, serial_verdict}
 use Rattle.spec_protocol.specs.Spheres.{Replay, Sphere, Role}
 use Rattle.dl_replay.specs.Replaying.{cursor_of}
@@ -37,9 +37,9 @@ counted-after-requires c =
     let g = taken (need t a.memory) c.args.devices.now c.args.moment in
     let keeps = serve-keeps k a.threads a.request t a.memory g.input in
     let same : c.in_ok-left.left.thread.commits ≡ t.commits = ap (λ (v : Parts). v.commits) c.in_ok-left.ensures.thread ∙ keeps.commits in
-    let most : t.commits ≤ length a.commits.items = subst (λ n. n ≤ length a.commits.items) (ap commits_if c.thread_at-found.ensures.thread) ((few_live a.s (sphere_in a) (keeping_of a.part) (live_part a.part c.in_default.not-Replayed) c.self.invariant.kept).few k) in
-    let few : length a.commits.items < 2 ^ 24 =
-    subst (λ n. n < 2 ^ 24) (sym (ap (λ (v : SizedSphere). length v.sphere.progress.commits) c.self.view_is)) c.requires.few
+    let most : t.commits ≤ 0 + length a.commits.items = subst (λ n. n ≤ 0 + length a.commits.items) (ap commits_if c.thread_at-found.ensures.thread) ((few_live a.s (sphere_in a) (keeping_of a.part) (live_part a.part c.in_default.not-Replayed) c.self.invariant.kept).few k) in
+    let few : 0 + length a.commits.items < 2 ^ 24 =
+    subst (λ n. n < 2 ^ 24) (sym (ap (λ (v : SizedSphere). position v.sphere.progress) c.self.view_is)) c.requires.few
     in
     omega arith
 
@@ -68,7 +68,9 @@ invariant_of-self-2 c =
           ∙ ap (λ (x : Parts). x.commits + 1) c.in_ok-left.ensures.thread
           ∙ ap (λ n. n + 1) keeps.commits;
       new = keeps.fresh;
-      position_ = ap length c.in_ok-left.ensures.commits ∙ pushed_length a.commits.items commit (length a.commits.items) refl;
+      position_ =
+          let count : length c.live_step.new.commits.items ≡ suc (length a.commits.items) = ap length c.in_ok-left.ensures.commits ∙ pushed_length a.commits.items commit (length a.commits.items) refl in
+          omega arith;
       actor = refl;
     }
     in
@@ -149,8 +151,8 @@ count-requires c =
     let kept : IsReplayed (sphere_in a) r.player = replayed a r c.in-Replayed.is c.self.invariant in
     let said = rw c.in-Err.is at (c.in_ok-served.ensures.judged p x kept.agrees refl c.thread_at-found.ensures.thread) in
     let same : length n.commits.items ≡ length a.commits.items = left_commits (sphere_in a) r.player r.loads.items n.replay.player n.replay.loads.items n.threads n.request n.commits.items k v c.in-Err.why (λ i. record (said i) { words = [] }) in
-    let few : length a.commits.items < 2 ^ 24 =
-    subst (λ n. n < 2 ^ 24) (sym (ap (λ (s : SizedSphere). length s.sphere.progress.commits) c.self.view_is)) c.requires.few
+    let few : 0 + length a.commits.items < 2 ^ 24 =
+    subst (λ n. n < 2 ^ 24) (sym (ap (λ (s : SizedSphere). position s.sphere.progress) c.self.view_is)) c.requires.few
     in
     let here : length c.deref.result.now ≡ length n.commits.items = ap length c.deref.ensures.value in
     omega (arith, same, few, here)
@@ -174,7 +176,7 @@ returns-in-Err-clause-ok c =
     sym (ap (λ (s : SizedSphere). slice_get s.sphere.threads k) c.self.view_is) ∙ c.thread_at-found.ensures.thread
     in
     let same : x ≡ t = (let e : Some x ≡ Some t = sym start ∙ there in cc) in
-    let len : c.count.result ≡ length n.commits.items = c.count.ensures ∙ ap length c.deref.ensures.value in
+    let len : c.count.result ≡ 0 + length n.commits.items = c.count.ensures ∙ ap length c.deref.ensures.value ∙ sym (zero-add (length n.commits.items)) in
     ap (λ m. record { outcome = Diverged m c.in-Err.why; sphere = sphere_with a.memory n.threads n.commits.items a.last n.request (Replay (cursor_of n.replay.player n.replay.loads.items)); words = []; devices = d }) len
     ∙ left (sphere_in a) r.player r.loads.items n.replay.player n.replay.loads.items n.threads n.request n.commits.items k v d c.in-Err.why
     kept.agrees.done (λ i. record (said i) { words = [] })

@@ -27,7 +27,7 @@ record Seen (s : ℕ) (role : Role) (t : Parts) (how : How) (ch : Chunk) : Type 
 within : (role : Role) (s n : ℕ) (t : Parts) → n ≤ limit_of s role 0 t → replays role ≡ false → n ≤ s
 unfolding limit_of
 within Plain s n t most live = most
-within (Record log) s n t most live = most
+within (Record recording) s n t most live = most
 within (Replay b) s n t most live = absurd (true≢false live)
 
 room : (b : Cursor) (m n : ℕ) → b.now ≡ Turn 0 → n ≡ limit_in (Replay b) 0 0 m → 2 ≤ n → b.total < whole_limit b.log 0 m
@@ -38,7 +38,7 @@ room b m n turn is some =
 part_in : (role : Role) (s : ℕ) (t : Parts) (how : How) (ch : Chunk) → Seen s role t how ch → IsPartIn role 0 how ch
 unfolding limit_of
 part_in Plain s t how ch h = tt
-part_in (Record log) s t how ch h = tt
+part_in (Record recording) s t how ch h = tt
 part_in (Replay b) s t how ch h =
     let limit : ch.limit ≡ limit_in (Replay b) 0 0 ch.done.thread.commits = h.limit ∙ ap (λ (m : ℕ). limit_in (Replay b) 0 0 m) (sym h.commits) in
     record {
@@ -83,7 +83,7 @@ commit_chunk-requires g c =
         slice_get_within _ _ _ c.first-thread.ensures,
         (
           subst (λ (how : How). CanCommit p.s p.sphere 0 how ch) (sym (ap how_of closed)) (can_commit p.s p.sphere t c.args.how ch closed c.first-thread.ensures seen),
-          (search rules, search rules),
+          search rules,
         ),
       ),
     )

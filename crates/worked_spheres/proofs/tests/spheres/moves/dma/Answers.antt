@@ -9,7 +9,7 @@ use Rattle.worked_spheres.proofs.tests.spheres.moves.dma.Goals as goal
 
 some_in : (role : Role) (d : Devices) (p : Sphere) (q : Request) → p.progress.request ≡ Some q → IsSome (dma_in role d p)
 some_in Plain d p q is = subst (λ (o : Option Request). IsSome (live_dma Plain d p o)) (sym is) refl
-some_in (Record log) d p q is = subst (λ (o : Option Request). IsSome (live_dma (Record (dma_log log d p p.progress.request)) d p o)) (sym is) refl
+some_in (Record recording) d p q is = subst (λ (o : Option Request). IsSome (live_dma (Record (record recording { log = dma_log recording.log d p p.progress.request })) d p o)) (sym is) refl
 some_in (Replay b) d p q is = refl
 
 some_moved : (d : Devices) (p : Sphere) (q : Request) → p.progress.request ≡ Some q → IsSome (dma_moved d p)

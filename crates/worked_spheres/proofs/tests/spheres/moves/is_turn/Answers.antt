@@ -11,7 +11,7 @@ use Rattle.worked_spheres.proofs.tests.spheres.moves.is_turn.Goals.{then-not-rep
 
 live : (role : Role) → replays role ≡ false → IsTurnOf 0 role
 live Plain off = tt
-live (Record log) off = tt
+live (Record recording) off = tt
 live (Replay b) off = absurd (true≢false off)
 
 turn_now : (now : Now) → actor_of now ≡ Some (Actor.Thread 0) → now ≡ Turn 0
@@ -21,7 +21,7 @@ turn_now (Ended how) is = cc
 
 turn_in : (role : Role) (p : Sphere) → head_in role p ≡ Some (Actor.Thread 0) → IsTurnOf 0 role
 turn_in Plain p is = tt
-turn_in (Record log) p is = tt
+turn_in (Record recording) p is = tt
 turn_in (Replay b) p is = turn_now b.now is
 
 turn_of : (p : Sphere) → head_of p ≡ Some (Actor.Thread 0) → IsTurnOf 0 p.role

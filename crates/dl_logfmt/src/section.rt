@@ -1,0 +1,50 @@
+//! An entry of a section, as it is read behind those before it.
+ghost use Rattle.std.specs.Prelude.{◌≡◌};
+ghost use Rattle.spec_log.specs.Fields.{comes_after, last, next_entry, one_more};
+ghost use Rattle.dl_logfmt.specs.Answer.{Answers, Makes};
+ghost use Rattle.dl_logfmt.specs.Parsing.{Extends};
+
+use crate::entry::Entry;
+use crate::error::LogError;
+use crate::numbers::judge;
+use crate::source::Source;
+use dl_entry::Sequence;
+
+/// Reads one entry more of a list, in a log whose standard chunks have `s` instructions.
+pub fn read_next<E: Entry>(
+    list: &mut Sequence<E>,
+    source: &Source<'_>,
+    at: &mut usize,
+    s: u32,
+) -> Result<(), LogError>
+    ensures made { Makes (one_more E.earlier (E.reader s) list.old source.now.bytes.now at.old) result list.old list.new at.new }
+    ensures grown { Extends list.old list.new }
+{
+    let entry = read_entry(source, at, s, list)?;
+    list.push(entry)?;
+    Ok(())
+}
+
+/// An entry that comes after those before it.
+fn read_entry<E: Entry>(
+    source: &Source<'_>,
+    at: &mut usize,
+    s: u32,
+    before: &Sequence<E>,
+) -> Result<E, LogError>
+    ensures { Answers (next_entry E.earlier (E.reader s) before.now source.now.bytes.now at.old) result at.new }
+{
+    let start = *at;
+    let entry = E::read(source, at, s)?;
+    judge(follows(before, &entry), 6, start)?;
+    Ok(entry)
+}
+
+fn follows<E: Entry>(before: &Sequence<E>, entry: &E) -> bool
+    ensures { result ≡ comes_after E.earlier (last before.now) entry.now }
+{
+    match before.as_slice().last() {
+        Some(last) => last.comes_before(entry),
+        None => true,
+    }
+}

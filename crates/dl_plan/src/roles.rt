@@ -1,0 +1,44 @@
+//! The role of a sphere, by the keys that stand with it.
+ghost use Rattle.std.specs.Prelude.{◌≡◌, Some, IfOk, IfErr};
+ghost use Rattle.dl_plan.specs.Refusal.{IsBroken};
+ghost use Rattle.dl_plan.specs.Roles.{has_role_keys, role_of};
+ghost use Rattle.dl_plan.specs.Values.{role_view};
+ghost use Rattle.dl_plan.specs.Views.{entry_view};
+
+use crate::error::PlanError;
+use crate::plan::Role;
+use crate::sphere::{RoleName, SphereEntries};
+use std::alloc::Global;
+
+/// The role of a sphere. Refused by rule 6 if it has not the keys that it needs, or has one that it may not have.
+pub(crate) fn role_of(alloc: Global, entry: &SphereEntries<'_>) -> Result<Role, PlanError>
+    ensures ok { IfOk result (λ r. role_of (entry_view entry.now) ≡ Some (role_view r)) }
+    ensures refused { IfErr result (IsBroken 6 (role_of (entry_view entry.now))) }
+{
+    if !has_role_keys(entry) {
+        return Err(PlanError::Refused(6));
+    }
+    match (entry.role, entry.mode, entry.log) {
+        (RoleName::Plain, _, _) => Ok(Role::Plain),
+        (RoleName::Record, Some(mode), Some(log)) => Ok(Role::Record {
+            mode,
+            log: String::from_str(alloc, log)?,
+        }),
+        (RoleName::Replay, _, Some(log)) => Ok(Role::Replay {
+            log: String::from_str(alloc, log)?,
+        }),
+        (RoleName::Record | RoleName::Replay, _, _) => Err(PlanError::Refused(6)),
+    }
+}
+
+/// Whether the sphere has each key that its role needs, and none that it may not have.
+fn has_role_keys(entry: &SphereEntries<'_>) -> bool
+    ensures { result ≡ has_role_keys (entry_view entry.now) }
+{
+    let (mode, log) = (entry.mode.is_some(), entry.log.is_some());
+    match entry.role {
+        RoleName::Plain => !mode && !log,
+        RoleName::Record => mode && log,
+        RoleName::Replay => !mode && log,
+    }
+}

@@ -1,0 +1,64 @@
+#include "condition.h"
+
+#include <string.h>
+
+static bool compares(uint32_t v, enum comparison comparison, uint32_t w) {
+    switch (comparison) {
+    case EQUAL: return v == w;
+    case UNEQUAL: return v != w;
+    case LESS: return v < w;
+    case MORE: return v > w;
+    case AT_MOST: return v <= w;
+    default: return v >= w;
+    }
+}
+
+static bool holds_of_thread(const struct atom *a, const struct thread *t) {
+    switch (a->kind) {
+    case EXITS: return t->status == EXITED && compares(t->code, a->comparison, a->value);
+    case FAULTS: return t->status == FAULTED && compares(t->code, a->comparison, a->value);
+    default: return t->status == LIVE;
+    }
+}
+
+static bool console_has(const struct atom *a, const struct machine *m) {
+    for (uint32_t at = 0; at + a->length <= m->devices.console_length; at++)
+        if (memcmp(m->console + at, a->bytes, a->length) == 0)
+            return true;
+    return false;
+}
+
+static bool console_is(const struct atom *a, const struct machine *m) {
+    return m->devices.console_length == a->length && memcmp(m->console, a->bytes, a->length) == 0;
+}
+
+static bool holds(const struct atom *a, const struct machine *m) {
+    switch (a->kind) {
+    case WORD_IS: return compares(word_at(m, a->address), a->comparison, a->value);
+    case CONSOLE_IS: return console_is(a, m) == (a->comparison == EQUAL);
+    case CONSOLE_HAS: return console_has(a, m);
+    default:
+        for (uint32_t k = 0; k < m->thread_count; k++)
+            if ((a->thread == ANYONE || a->thread == k) && holds_of_thread(a, &m->threads[k]))
+                return true;
+        return false;
+    }
+}
+
+static bool some_case_holds(const struct condition *c, const struct machine *m, bool for_good) {
+    bool all = false;
+    for (size_t j = 0; j < c->count; j++) {
+        if (c->atoms[j].begins_case) {
+            if (all)
+                return true;
+            all = true;
+        }
+        bool lasts = c->atoms[j].kind == EXITS || c->atoms[j].kind == FAULTS;
+        all = all && (lasts || !for_good) && holds(&c->atoms[j], m);
+    }
+    return all;
+}
+
+bool holds_at_end(const struct condition *c, const struct machine *m) { return some_case_holds(c, m, false); }
+
+bool holds_for_good(const struct condition *c, const struct machine *m) { return some_case_holds(c, m, true); }

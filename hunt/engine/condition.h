@@ -1,0 +1,30 @@
+/* What a bad end is: any of some cases, each of which holds where all its atoms do. */
+#ifndef CONDITION_H
+#define CONDITION_H
+
+#include "machine.h"
+
+enum atom_kind { EXITS, FAULTS, LIVES, WORD_IS, CONSOLE_IS, CONSOLE_HAS };
+enum comparison { EQUAL, UNEQUAL, LESS, MORE, AT_MOST, AT_LEAST };
+
+struct atom {
+    enum atom_kind kind;
+    enum comparison comparison;
+    uint32_t thread; /* or ANYONE */
+    uint32_t value, address;
+    uint8_t *bytes;
+    uint32_t length;
+    bool begins_case;
+};
+
+struct condition {
+    struct atom *atoms;
+    size_t count;
+};
+
+/* At an end, where nothing goes on. */
+bool holds_at_end(const struct condition *c, const struct machine *m);
+/* Where it holds already and whatever comes: of exits and faults alone. */
+bool holds_for_good(const struct condition *c, const struct machine *m);
+
+#endif

@@ -1,0 +1,22 @@
+/* The loops in which threads were seen to wait: alone, a thread comes back to each of a loop's states, until a word that the loop
+   looks at changes. So what is kept of a state is those words, with their values; and the whole memory, if the loop changes
+   words, looks at many, or asks devices. */
+#ifndef LOOPS_H
+#define LOOPS_H
+
+#include "machine.h"
+
+enum { LOOKED_AT = 4 };
+struct looks {
+    bool at_all; /* or at the words of these addresses */
+    uint32_t count, address[LOOKED_AT];
+};
+
+enum waiting { IS_UNKNOWN, WAITS_PURELY, WAITS_WITH_STORES };
+
+void look_at(struct looks *l, uint32_t address);
+/* From now on it is known that a thread of this hash waits while memory is as it is. */
+void keep_waiting(struct hash thread, const struct looks *l, const struct machine *m, enum waiting how);
+enum waiting how_waits(struct hash thread, const struct machine *m);
+
+#endif

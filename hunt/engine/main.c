@@ -1,0 +1,211 @@
+/* Searches orders of a program's commits, or plays one that it is led by. It is told on standard input what to do, a line at a
+   time, by the programs beside this folder, and answers on standard output. */
+#include "condition.h"
+#include "emit.h"
+#include "guide.h"
+#include "run.h"
+#include "search.h"
+
+#include <stdio.h>
+#include <stdlib.h>
+#include <string.h>
+
+static struct setup setup = {.most_threads = 15, .tick = 64, .input = (uint8_t *)""};
+static struct condition bad;
+static struct run run = {.turn_limit = 10000, .step_limit = 1000000};
+static uint32_t standard = 4096;
+static struct turn *guide;
+static size_t guide_count;
+
+static uint8_t *file_bytes(const char *name, size_t *length) {
+    FILE *f = fopen(name, "rb");
+    if (f == NULL || fseek(f, 0, SEEK_END) != 0)
+        fail("a file could not be read");
+    *length = (size_t)ftell(f);
+    rewind(f);
+    uint8_t *bytes = room(*length, 1);
+    if (fread(bytes, 1, *length, f) != *length)
+        fail("a file could not be read");
+    fclose(f);
+    return bytes;
+}
+
+/* The bytes of pairs of hexadecimal digits; - is none. */
+static uint8_t *bytes_of(const char *text, uint32_t *length) {
+    *length = text[0] == '-' ? 0 : (uint32_t)strlen(text) / 2;
+    uint8_t *bytes = room(*length, 1);
+    for (uint32_t j = 0; j < *length; j++) {
+        unsigned v;
+        if (sscanf(text + 2 * j, "%2x", &v) != 1)
+            fail("no bytes");
+        bytes[j] = (uint8_t)v;
+    }
+    return bytes;
+}
+
+static char *rest_of(char *line) { return line[strcspn(line, " ")] ? line + strcspn(line, " ") + 1 : line + strlen(line); }
+
+static void take_memory(char *rest) {
+    int used = 0;
+    size_t length;
+    if (sscanf(rest, "%u %u %n", &setup.size, &setup.entry, &used) != 2)
+        fail("no memory");
+    setup.image = file_bytes(rest + used, &length);
+    if (length != setup.size)
+        fail("a memory of another size");
+}
+
+static void take_input(char *rest) {
+    size_t length;
+    setup.input = file_bytes(rest, &length);
+    setup.input_length = length < 1 << 24 ? (uint32_t)length : 1 << 24;
+}
+
+static void add_answer(struct answer **list, size_t *count, struct answer answer) {
+    *list = more_room(*list, *count + 1, sizeof **list);
+    (*list)[(*count)++] = answer;
+}
+
+static void take_answer(char *rest) {
+    unsigned thread, kind, result;
+    uint32_t length;
+    static char text[2 * LONGEST + 2];
+    if (sscanf(rest, "%u %u %x %8193s", &thread, &kind, &result, text) != 4)
+        fail("no answer");
+    struct answer a = {.kind = (uint8_t)kind, .thread = (uint8_t)thread, .result = result};
+    a.bytes = bytes_of(text, &length);
+    a.length = (uint16_t)length;
+    add_answer(&setup.answers, &setup.answer_count, a);
+}
+
+static void take_dma(char *rest) {
+    struct answer a = {.kind = 0};
+    uint32_t length;
+    a.bytes = bytes_of(rest, &length);
+    a.length = (uint16_t)length;
+    add_answer(&setup.dmas, &setup.dma_count, a);
+}
+
+static void take_atom(char *rest) {
+    unsigned kind, comparison, begins;
+    static char text[1 << 16];
+    struct atom a = {.thread = 0};
+    if (sscanf(rest, "%u %u %u %u %u %u %65535s", &begins, &kind, &comparison, &a.thread, &a.value, &a.address, text) != 7)
+        fail("no atom");
+    a.kind = kind;
+    a.comparison = comparison;
+    a.begins_case = begins;
+    a.bytes = bytes_of(text, &a.length);
+    bad.atoms = more_room(bad.atoms, bad.count + 1, sizeof a);
+    bad.atoms[bad.count++] = a;
+}
+
+static void take_raise(char *rest) {
+    struct raise raise;
+    if (run.raise_count == MOST_RAISES || sscanf(rest, "%u %x", &raise.thread, &raise.value) != 2)
+        fail("no interrupt");
+    run.raises[run.raise_count++] = raise;
+}
+
+static void take_turn(char *rest) {
+    unsigned actor;
+    unsigned long long steps;
+    struct turn turn = {.end = FORCED};
+    if (sscanf(rest, "%u %llu %x", &actor, &steps, &turn.value) != 3)
+        fail("no turn");
+    turn.actor = (uint8_t)actor;
+    turn.steps = steps;
+    guide = more_room(guide, guide_count + 1, sizeof turn);
+    guide[guide_count++] = turn;
+}
+
+static void ready(void) {
+    if (run.machine.setup == NULL)
+        start_machine(&run.machine, &setup);
+}
+
+static void tell_turns(void) {
+    static const char *const ends[] = {"forced", "stopped", "waits", "spent"};
+    for (size_t j = 0; j < run.turn_count; j++) {
+        const struct turn *t = &run.turns[j];
+        printf("turn %u %llu %08X %s\n", t->actor, (unsigned long long)t->steps, t->value, ends[t->end]);
+    }
+}
+
+/* The run as it stands, told in full. */
+static void tell_run(void) {
+    static const char *const leaves[] = {"ended", "waits", "repeats"};
+    bool goes_on = false;
+    for (uint32_t k = 0; k < run.machine.thread_count; k++)
+        goes_on = goes_on || is_enabled(&run, k);
+    printf("leaf %s\n", goes_on ? "goes-on" : leaves[leaf_of(&run)]);
+    tell_turns();
+    emit(&run, run.turns, run.turn_count, standard);
+    printf("loops %u\n", goes_on ? 0 : live_count(&run));
+    if (!goes_on)
+        emit_loops(&run);
+}
+
+static void do_search(char *rest) {
+    static const char *const finishes[] = {"found", "bound", "all", "tries", "seconds", "states"};
+    struct limits limits;
+    struct tally tally = {.tries = 0};
+    unsigned long long tries, states;
+    if (sscanf(rest, "%u %llu %llu %lf", &limits.switches, &tries, &states, &limits.seconds) != 4)
+        fail("no limits");
+    limits.tries = tries;
+    limits.states = states;
+    ready();
+    enum finish finish = search(&run, &bad, &limits, &tally);
+    printf("tally %llu %llu %llu %llu %llu %u %u %u\n", (unsigned long long)tally.tries, (unsigned long long)tally.ended,
+           (unsigned long long)(tally.waited + tally.repeated), (unsigned long long)tally.limited,
+           (unsigned long long)tally.spent, tally.most_places, tally.bound, tally.restarts);
+    if (finish == FOUND)
+        tell_run();
+    printf("end %s\n", finishes[finish]);
+}
+
+static void do_guide(bool in_full) {
+    static const char *const outcomes[] = {"good", "bad", "limited"};
+    ready();
+    printf("outcome %s\n", outcomes[guided(&run, guide, guide_count, &bad)]);
+    if (in_full)
+        tell_run();
+    else
+        tell_turns();
+    printf("end guide\n");
+    guide_count = 0;
+}
+
+static void take_line(char *line) {
+    char *rest = rest_of(line);
+    line[strcspn(line, " ")] = 0;
+    if (strcmp(line, "memory") == 0) take_memory(rest);
+    else if (strcmp(line, "threads") == 0) setup.most_threads = (uint32_t)strtoul(rest, NULL, 10);
+    else if (strcmp(line, "standard") == 0) standard = (uint32_t)strtoul(rest, NULL, 10);
+    else if (strcmp(line, "seed") == 0) setup.seed = strtoull(rest, NULL, 10);
+    else if (strcmp(line, "tick") == 0) setup.tick = (uint32_t)strtoul(rest, NULL, 10);
+    else if (strcmp(line, "turns") == 0) run.turn_limit = strtoull(rest, NULL, 10);
+    else if (strcmp(line, "steps") == 0) run.step_limit = strtoull(rest, NULL, 10);
+    else if (strcmp(line, "input") == 0) take_input(rest);
+    else if (strcmp(line, "answer") == 0) take_answer(rest);
+    else if (strcmp(line, "dma") == 0) take_dma(rest);
+    else if (strcmp(line, "atom") == 0) take_atom(rest);
+    else if (strcmp(line, "raise") == 0) take_raise(rest);
+    else if (strcmp(line, "turn") == 0) take_turn(rest);
+    else if (strcmp(line, "search") == 0) do_search(rest);
+    else if (strcmp(line, "ready") == 0) ready(), printf("ready\n");
+    else if (strcmp(line, "guide") == 0) do_guide(false);
+    else if (strcmp(line, "tell") == 0) do_guide(true);
+    else fail("no such line");
+}
+
+int main(void) {
+    static char line[1 << 17];
+    while (fgets(line, sizeof line, stdin) != NULL) {
+        line[strcspn(line, "\n")] = 0;
+        take_line(line);
+        fflush(stdout);
+    }
+    return 0;
+}

@@ -1,0 +1,261 @@
+#include "run.h"
+
+#include "sharing.h"
+
+#include <string.h>
+
+void start_run(struct run *r) {
+    reset_machine(&r->machine);
+    memset(r->seats, 0, sizeof r->seats);
+    r->raised = 0;
+    r->turn_count = 0;
+    r->current = NO_ONE;
+}
+
+static void set_mark(struct run *r) {
+    struct machine *m = &r->machine;
+    r->mark = m->threads[r->current];
+    r->mark_memory = m->memory_hash;
+    r->mark_stores = m->stores;
+    r->mark_events = m->events;
+    r->mark_age = 0;
+}
+
+static struct turn *add_turn(struct run *r, uint32_t actor) {
+    if (r->turn_count == r->turn_room) {
+        r->turn_room = r->turn_room ? 2 * r->turn_room : 256;
+        r->turns = more_room(r->turns, r->turn_room, sizeof *r->turns);
+    }
+    struct turn *t = &r->turns[r->turn_count++];
+    *t = (struct turn){.actor = (uint8_t)actor, .end = FORCED};
+    return t;
+}
+
+static struct turn *present(struct run *r) { return &r->turns[r->turn_count - 1]; }
+
+void begin_turn(struct run *r, uint32_t actor) {
+    add_turn(r, actor);
+    r->seats[actor] = (struct hash){0, 0};
+    r->current = actor;
+    r->still_turn = 0;
+    r->mark_power = 1;
+    set_mark(r);
+}
+
+static struct hash of_thread(const struct machine *m, uint32_t number) {
+    struct hash t = hash_of_thread(&m->threads[number]);
+    return mixed(t.a + number, t.b);
+}
+
+static struct hash of_others(const struct run *r) {
+    const struct machine *m = &r->machine;
+    struct hash h = sum(hash_of_rest(m), mixed(r->raised, 77));
+    for (uint32_t k = 0; k < m->thread_count; k++)
+        if (k != r->current)
+            h = sum(h, of_thread(m, k));
+    return h;
+}
+
+/* Of the whole state, as far as it matters for what can come. */
+struct hash state_of(struct run *r) {
+    const struct machine *m = &r->machine;
+    if (r->current == NO_ONE)
+        return sum(m->memory_hash, of_others(r));
+    if (r->still_turn != r->turn_count || r->still_events != m->events) {
+        r->still = of_others(r);
+        r->still_turn = r->turn_count;
+        r->still_events = m->events;
+    }
+    return sum(sum(m->memory_hash, r->still), of_thread(m, r->current));
+}
+
+void end_turn(struct run *r, enum turn_end end) {
+    if (r->current == NO_ONE)
+        return;
+    present(r)->end = end;
+    if (end == WAITS)
+        present(r)->target = state_of(r);
+    end_chunk(&r->machine.threads[r->current]);
+    r->current = NO_ONE;
+}
+
+static bool is_place(const struct run *r, const struct thread *t, struct next next) {
+    switch (next.kind) {
+    case LOCAL:
+        return is_shared(t->pc);
+    case MEMORY: /* an SC looks whether its chunk began before the LR, so it matters to it whether another came between */
+        return is_shared(next.address) || is_shared(t->pc) || (t->reservation == next.address && is_store_conditional(&r->machine, t));
+    case CALL: { /* an interrupt may come before any, and leaves another number in a7 */
+        uint32_t call = t->x[17];
+        bool is_own = call > HAS_ENDED || call == HANDLER || call == IRET || call == SELF || call == YIELD;
+        return !is_own || r->raise_count > 0;
+    }
+    default:
+        return true;
+    }
+}
+
+static void take_step(struct run *r, struct next next) {
+    struct served served;
+    present(r)->steps++;
+    if (next.kind == LOCAL)
+        run_local(&r->machine, r->current);
+    else if (next.kind == MEMORY)
+        run_access(&r->machine, r->current, next.address, NULL);
+    else
+        serve(&r->machine, r->current, next, &served);
+}
+
+static bool same_thread(const struct thread *t, const struct thread *u) { return memcmp(t, u, sizeof *t) == 0; }
+
+/* Whether thread and memory are as they were at the mark. */
+static bool comes_again(struct run *r) {
+    struct machine *m = &r->machine;
+    const struct thread *t = &m->threads[r->current];
+    if (t->pc == r->mark.pc && same_hash(m->memory_hash, r->mark_memory) && m->events == r->mark_events
+        && same_thread(t, &r->mark))
+        return true;
+    if (++r->mark_age == r->mark_power) {
+        r->mark_power *= 2;
+        set_mark(r);
+    }
+    return false;
+}
+
+static bool is_outside(uint32_t call) { return call >= WRITE && call <= CLOCK; }
+
+/* The current thread is in a loop of so many steps that comes back to each of its states. It goes on to that one of them in
+   which it waits, before the place of the least pc, and finds out what the loop looks at. */
+static void settle(struct run *r, uint64_t length, struct looks *looks) {
+    struct machine *m = &r->machine;
+    struct thread *t = &m->threads[r->current];
+    uint64_t best = 0, best_rank = UINT64_MAX;
+    for (uint64_t j = 0; j < length; j++) {
+        struct next next = next_of(m, t);
+        uint64_t rank = (uint64_t)!is_place(r, t, next) << 32 | t->pc;
+        if (rank < best_rank) {
+            best_rank = rank;
+            best = j;
+        }
+        if (next.kind == MEMORY && is_shared(next.address))
+            look_at(looks, next.address);
+        if (is_shared(t->pc) || next.kind == DEVICE_LOAD || (next.kind == CALL && is_outside(t->x[17])))
+            looks->at_all = true;
+        take_step(r, next);
+    }
+    for (uint64_t j = 0; j < best; j++)
+        take_step(r, next_of(m, t));
+}
+
+/* Of a thread as it is once it is left. */
+static struct hash hash_when_left(struct run *r, uint32_t number) {
+    struct thread t = r->machine.threads[number];
+    end_chunk(&t);
+    struct hash h = hash_of_thread(&t);
+    return mixed(h.a + number, h.b);
+}
+
+static void keep_loop(struct run *r, uint64_t length, const struct looks *looks, enum waiting how) {
+    struct machine *m = &r->machine;
+    if (how_waits(hash_when_left(r, r->current), m) != IS_UNKNOWN)
+        return;
+    for (uint64_t j = 0; j < length; j++) {
+        keep_waiting(hash_when_left(r, r->current), looks, m, how);
+        take_step(r, next_of(m, &m->threads[r->current]));
+    }
+}
+
+static void wait_here(struct run *r) {
+    bool pure = r->machine.stores == r->mark_stores;
+    uint64_t length = r->mark_age + 1;
+    struct looks looks = {.at_all = !pure};
+    settle(r, length, &looks);
+    keep_loop(r, length, &looks, pure ? WAITS_PURELY : WAITS_WITH_STORES);
+}
+
+enum waiting waiting_of(struct run *r, uint32_t thread) {
+    if (thread == r->current)
+        return IS_UNKNOWN;
+    if (r->seats[thread].a == 0 && r->seats[thread].b == 0)
+        r->seats[thread] = hash_when_left(r, thread);
+    return how_waits(r->seats[thread], &r->machine);
+}
+
+/* A turn isn't ended between an LR and its SC, unless there is none for long. */
+static bool is_spent(const struct run *r) {
+    uint64_t steps = r->turns[r->turn_count - 1].steps;
+    bool reserves = r->machine.threads[r->current].reservation != NO_RESERVATION;
+    return steps >= r->turn_limit && (!reserves || steps >= 2 * r->turn_limit);
+}
+
+/* One step, then how it stands. AT_PLACE means that nothing has ended. */
+static enum stop step_on(struct run *r, struct next next) {
+    struct machine *m = &r->machine;
+    take_step(r, next);
+    if (m->threads[r->current].status != LIVE)
+        return AT_STOP;
+    if (comes_again(r)) {
+        wait_here(r);
+        return AT_WAIT;
+    }
+    if (m->time >= r->step_limit)
+        return AT_LIMIT;
+    return is_spent(r) ? AT_SPENT : AT_PLACE;
+}
+
+enum stop go_on(struct run *r, bool past) {
+    for (;; past = false) {
+        const struct thread *t = &r->machine.threads[r->current];
+        struct next next = next_of(&r->machine, t);
+        if (!past && is_place(r, t, next))
+            return AT_PLACE;
+        enum stop stop = step_on(r, next);
+        if (stop != AT_PLACE)
+            return stop;
+    }
+}
+
+enum stop go_steps(struct run *r, uint64_t steps) {
+    for (uint64_t j = 0; j < steps; j++) {
+        enum stop stop = step_on(r, next_of(&r->machine, &r->machine.threads[r->current]));
+        if (stop != AT_PLACE && stop != AT_SPENT)
+            return stop;
+    }
+    return AT_PLACE;
+}
+
+bool is_enabled(struct run *r, uint32_t thread) {
+    return r->machine.threads[thread].status == LIVE && waiting_of(r, thread) == IS_UNKNOWN;
+}
+
+uint32_t live_count(const struct run *r) {
+    uint32_t count = 0;
+    for (uint32_t k = 0; k < r->machine.thread_count; k++)
+        count += r->machine.threads[k].status == LIVE;
+    return count;
+}
+
+/* The interrupts of one thread come in the order in which they were given. */
+bool can_raise(const struct run *r, uint32_t number) {
+    const struct raise *raise = &r->raises[number];
+    if (r->raised >> number & 1 || raise->thread >= r->machine.thread_count)
+        return false;
+    for (uint32_t j = 0; j < number; j++)
+        if (r->raises[j].thread == raise->thread && !(r->raised >> j & 1))
+            return false;
+    return can_interrupt(&r->machine.threads[raise->thread]);
+}
+
+void do_dma(struct run *r) {
+    add_turn(r, DMA)->end = STOPPED;
+    do_request(&r->machine);
+}
+
+void do_raise(struct run *r, uint32_t number) {
+    struct turn *t = add_turn(r, RAISE + number);
+    *t = (struct turn){.actor = (uint8_t)(RAISE + number), .end = STOPPED, .steps = r->raises[number].thread,
+                       .value = r->raises[number].value};
+    r->raised |= 1ull << number;
+    r->seats[t->steps] = (struct hash){0, 0};
+    interrupt(&r->machine, (uint32_t)t->steps, t->value);
+}

@@ -1,0 +1,64 @@
+/* A run in progress: whose turn it is, and the turns so far. A turn is what one thread does until another actor
+   comes; in the log that is written of it, it is a commit for each chunk and serial step. */
+#ifndef RUN_H
+#define RUN_H
+
+#include "loops.h"
+#include "machine.h"
+
+enum { CUT = 126, DMA = 127, RAISE = 128, NO_ONE = 255 }; /* actors beside threads; RAISE and a number: that interrupt */
+enum { MOST_RAISES = 64 };
+
+struct raise { uint32_t thread, value; };
+
+/* A turn's end: another actor came though the thread could go on; it ended; it waits; or it had its steps. */
+enum turn_end { FORCED, STOPPED, WAITS, SPENT };
+
+struct turn {
+    uint8_t actor;
+    enum turn_end end;
+    uint64_t steps;
+    struct hash target; /* of a turn that ends in waiting: the state in which it waits */
+    uint32_t value;     /* of an interrupt; its thread is in steps */
+};
+
+struct run {
+    struct machine machine;
+    struct raise raises[MOST_RAISES];
+    uint32_t raise_count;
+    uint64_t raised; /* which of them have come, as bits */
+    struct hash seats[MOST_THREADS]; /* hashes of the threads, as they were left; 0 if it isn't known */
+    uint32_t current; /* or NO_ONE */
+    struct turn *turns;
+    size_t turn_count, turn_room;
+    uint64_t turn_limit, step_limit;
+    /* Where the present turn is looked at for a state that comes again: after 1, 2, 4, .. steps. */
+    struct thread mark;
+    struct hash mark_memory;
+    uint64_t mark_stores, mark_events, mark_power, mark_age;
+    /* The hash of all that the present turn leaves alone, as long as there is no further event. */
+    struct hash still;
+    uint64_t still_events;
+    size_t still_turn;
+};
+
+/* What a thread came to: a place, where it is about to touch what others see; or its turn's end. */
+enum stop { AT_PLACE, AT_STOP, AT_WAIT, AT_SPENT, AT_LIMIT };
+
+void start_run(struct run *r);
+void begin_turn(struct run *r, uint32_t actor);
+void end_turn(struct run *r, enum turn_end end);
+/* The current thread goes on to its next place; past the one where it is, if it is at one. */
+enum stop go_on(struct run *r, bool past);
+/* The current thread goes on for so many steps at most. */
+enum stop go_steps(struct run *r, uint64_t steps);
+enum waiting waiting_of(struct run *r, uint32_t thread);
+/* Whether the thread is live, and not known to wait. */
+bool is_enabled(struct run *r, uint32_t thread);
+bool can_raise(const struct run *r, uint32_t number);
+void do_dma(struct run *r);
+void do_raise(struct run *r, uint32_t number);
+struct hash state_of(struct run *r);
+uint32_t live_count(const struct run *r);
+
+#endif

@@ -1,0 +1,27 @@
+/* The search: all orders with no forced switch, then those with one, then with two, up to the limits. */
+#ifndef SEARCH_H
+#define SEARCH_H
+
+#include "condition.h"
+#include "run.h"
+
+struct limits {
+    uint32_t switches;
+    uint64_t tries, states;
+    double seconds;
+};
+
+/* Why the search ended. */
+enum finish { FOUND, BOUND_DONE, ALL_DONE, OUT_OF_TRIES, OUT_OF_TIME, OUT_OF_STATES };
+
+struct tally {
+    uint64_t tries, ended, waited, repeated, limited, spent;
+    uint32_t most_places, bound, restarts;
+};
+
+enum finish search(struct run *r, const struct condition *bad, const struct limits *limits, struct tally *tally);
+/* What a state is in which no thread is enabled: all have ended, all wait, or it comes again in turns. */
+enum leaf { ALL_ENDED, ALL_WAIT, COMES_AGAIN };
+enum leaf leaf_of(struct run *r);
+
+#endif

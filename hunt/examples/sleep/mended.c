@@ -1,0 +1,49 @@
+/* sleep.c, mended: the taker says that it will sleep before it looks whether the ring is empty. */
+#include "delorean.h"
+
+enum { NUMBERS = 6, ROOM = 2 };
+
+static volatile unsigned ring[ROOM];
+static volatile unsigned put, taken; /* how many numbers were */
+static volatile unsigned awake;      /* set by the putter, taken away by the taker before it sleeps */
+static struct stack stacks[2];
+
+static void wake(void) { awake = 1; }
+
+static void sleep(void) {
+    while (!awake)
+        yield();
+}
+
+static unsigned putter(unsigned unused) {
+    (void)unused;
+    for (unsigned number = 1; number <= NUMBERS; number++) {
+        while (put - taken == ROOM)
+            yield();
+        ring[put % ROOM] = number;
+        put = put + 1;
+        wake();
+    }
+    return 0;
+}
+
+static unsigned taker(unsigned unused) {
+    (void)unused;
+    unsigned sum = 0;
+    while (taken < NUMBERS) {
+        sleep();
+        awake = 0;
+        while (taken != put) {
+            sum += ring[taken % ROOM];
+            taken = taken + 1;
+        }
+    }
+    return sum;
+}
+
+int main(void) {
+    unsigned one = start_thread(putter, 0, &stacks[0]), two = start_thread(taker, 0, &stacks[1]);
+    join(one);
+    join(two);
+    return taken == NUMBERS ? 0 : 1;
+}

@@ -1,0 +1,154 @@
+"""What a bad end is, in words: `read_condition(texts, names)` is any of the texts, each of which is atoms with `and` between.
+
+    exit THREAD = CODE       the thread has ended with the code; also != < > <= >=. THREAD is a number, or `any`
+    fault [THREAD [= CAUSE]] it has faulted
+    hang [THREAD]            it never ends: neither it nor any other thread goes on
+    word WORD = VALUE        at the end the word has the value; WORD is a symbol or an address, with +OFFSET or without
+    console = TEXT           what was put on the console, or != TEXT
+    console has TEXT
+
+Codes and values are decimal or 0x and hexadecimal digits; TEXT is a word of the shell, with \\n and \\xHH in it. An account
+(Ended, below) meets the condition, or doesn't: that is looked up in the account alone.
+"""
+
+from collections import namedtuple
+import re
+import shlex
+
+KINDS = ("exit", "fault", "hang", "word", "is", "has")
+COMPARISONS = ("=", "!=", "<", ">", "<=", ">=")
+ANY = 255
+HOLDS = (lambda a, b: a == b, lambda a, b: a != b, lambda a, b: a < b, lambda a, b: a > b, lambda a, b: a <= b,
+         lambda a, b: a >= b)
+
+Atom = namedtuple("Atom", "kind comparison thread value address text")
+
+
+class BadCondition(Exception):
+    pass
+
+
+def number(text):
+    if not re.fullmatch(r"-?(?:0x[0-9A-Fa-f]{1,8}|[0-9]{1,10})", text):
+        raise BadCondition("%s isn't a number" % text)
+    value = int(text, 0 if "x" in text else 10)
+    if not -(1 << 31) <= value < 1 << 32:
+        raise BadCondition("%s isn't one of 32 bits" % text)
+    return value & 0xFFFFFFFF
+
+
+def thread(text):
+    if text == "any":
+        return ANY
+    if not re.fullmatch(r"[0-9]{1,2}", text) or int(text) > 62:
+        raise BadCondition("%s is no thread" % text)
+    return int(text)
+
+
+def comparison(text):
+    if text not in COMPARISONS:
+        raise BadCondition("%s is none of %s" % (text, " ".join(COMPARISONS)))
+    return COMPARISONS.index(text)
+
+
+def text_bytes(text):
+    try:
+        return re.sub(rb"\\(n|t|\\|x[0-9A-Fa-f]{2})", unescaped, text.encode())
+    except ValueError as error:
+        raise BadCondition(str(error)) from None
+
+
+def unescaped(match):
+    what = match[1]
+    return bytes.fromhex(what[1:].decode()) if what[:1] == b"x" else {b"n": b"\n", b"t": b"\t", b"\\": b"\\"}[what]
+
+
+def read_atom(words, names):
+    match words:
+        case ["exit", who, how, code]:
+            return Atom("exit", comparison(how), thread(who), number(code), 0, b"")
+        case ["fault"]:
+            return Atom("fault", COMPARISONS.index(">="), ANY, 0, 0, b"")
+        case ["fault", who]:
+            return Atom("fault", COMPARISONS.index(">="), thread(who), 0, 0, b"")
+        case ["fault", who, how, cause]:
+            return Atom("fault", comparison(how), thread(who), number(cause), 0, b"")
+        case ["hang"]:
+            return Atom("hang", 0, ANY, 0, 0, b"")
+        case ["hang", who]:
+            return Atom("hang", 0, thread(who), 0, 0, b"")
+        case ["word", word, how, value]:
+            return Atom("word", comparison(how), 0, number(value), names.word(word), b"")
+        case ["console", ("=" | "!=") as how, text]:
+            return Atom("is", comparison(how), 0, 0, 0, text_bytes(text))
+        case ["console", "has", text]:
+            return Atom("has", 0, 0, 0, 0, text_bytes(text))
+    raise BadCondition("`%s` is no condition" % " ".join(words))
+
+
+def split(words, between):
+    parts = [[]]
+    for word in words:
+        if word == between:
+            parts.append([])
+        else:
+            parts[-1].append(word)
+    return parts
+
+
+def read_condition(texts, names):
+    """The cases, each a list of Atoms."""
+    try:
+        return [[read_atom(words, names) for words in split(shlex.split(text), "and")] for text in texts]
+    except ValueError as error:
+        raise BadCondition(str(error)) from None
+
+
+# ---------------------------------------------------------------- accounts
+
+
+class Ended:
+    """What an account tells of the end: of each thread how it stands, the words of memory, and what the console got."""
+
+    def __init__(self, account):
+        self.threads, self.rows, self.console, self.state, self.commits = [], {}, b"", [], 0
+        self.is_complete = False
+        for line in account.decode().split("\n"):
+            words = line.split(" ")
+            if words[0] == "t":
+                status, _, code = words[3].partition(":")
+                self.threads.append((status, int(code or 0)))
+            elif words[0] == "m":
+                self.rows[int(words[1], 16)] = bytes.fromhex(words[2])
+            elif words[:2] == ["o", "8"]:
+                self.console += bytes.fromhex(words[2])
+            elif words[0] == "c":
+                self.commits += 1
+            elif words[:2] == ["end", "complete"]:
+                self.is_complete = True
+            if words[0] in ("t", "h", "d", "m"):
+                self.state.append(line)
+
+    def word(self, address):
+        row = self.rows.get(address & ~31, bytes(32))
+        return int.from_bytes(row[address & 28 : (address & 28) + 4], "little")
+
+    def holds_of_thread(self, atom, status, code):
+        if atom.kind == "hang":
+            return status == "live"
+        return status == {"exit": "ended", "fault": "fault"}[atom.kind] and HOLDS[atom.comparison](code, atom.value)
+
+    def holds(self, atom):
+        if atom.kind == "word":
+            return HOLDS[atom.comparison](self.word(atom.address), atom.value)
+        if atom.kind == "is":
+            return HOLDS[atom.comparison](self.console, atom.text)
+        if atom.kind == "has":
+            return atom.text in self.console
+        threads = self.threads if atom.thread == ANY else self.threads[atom.thread : atom.thread + 1]
+        return any(self.holds_of_thread(atom, *thread) for thread in threads)
+
+    def meets(self, condition, is_end):
+        """Whether one of the cases holds. Where the run isn't at an end, exits and faults alone tell anything."""
+        return self.is_complete and any(
+            all((is_end or atom.kind in ("exit", "fault")) and self.holds(atom) for atom in case) for case in condition)

@@ -1,0 +1,204 @@
+"""The search's engine, a program in C that is built on first use: `Engine(image, options)` starts one.
+
+It searches orders of commits (`search`) and does runs that a list of turns leads (`guided`, `told`). What it finds comes back
+as turns, and as a Told: a log and the account that the engine expects of it. Nothing here is to be believed: judge.py has
+each log walked by the proved program, and compares.
+"""
+
+from collections import namedtuple
+import hashlib
+import os
+from pathlib import Path
+import shutil
+import subprocess
+import tempfile
+
+from .conditions import KINDS
+from .logs import ORDER_SIZE, Input, Log
+
+SOURCES = Path(__file__).resolve().parent.parent / "engine"
+FLAGS = ("-std=c11", "-O2")
+DMA, RAISE = 127, 128  # actors of turns beside threads; an interrupt has its thread as `steps`
+WHOLE = (1 << 62)      # steps of a turn that goes on until its thread ends or waits
+
+# actor: a thread, DMA, or RAISE and more. end: forced, stopped (the thread ended), waits, or spent (its steps were over).
+Turn = namedtuple("Turn", "actor steps value end")
+# leaf: ended, waits (no thread ever goes on), repeats (each one alone comes back to this state), or goes-on. loops: of each
+# thread that is live its commits until it is back in this state, as (size, Input or None), or None. answers: (thread, Input).
+Told = namedtuple("Told", "leaf turns log account loops answers")
+Bound = namedtuple("Bound", "bound tries states places shared seconds")
+# how: found, bound (all up to the greatest bound are done), all (there are no more orders), tries, seconds or states.
+Search = namedtuple("Search", "how bounds tries ended hung limited spent places bound told")
+Options = namedtuple("Options", "seed input tick turn steps raises version", defaults=(0, None, 64, 10000, 1000000, (), 1))
+
+
+class NoEngine(Exception):
+    """There is none, or it failed; args: why."""
+
+
+def cache_folder():
+    base = os.environ.get("XDG_CACHE_HOME") or os.path.join(os.path.expanduser("~"), ".cache")
+    return Path(base) / "delorean-hunt"
+
+
+def built():
+    """The engine's program, built by the C compiler ($CC, or cc) where this version of its sources wasn't yet."""
+    compiler = os.environ.get("CC", "cc")
+    if shutil.which(compiler) is None:
+        raise NoEngine("the search wants a C compiler, and there is no %s" % compiler)
+    sources = sorted(SOURCES.glob("*.[ch]"))
+    key = hashlib.sha256(b"\0".join([compiler.encode(), *[s.read_bytes() for s in sources]])).hexdigest()[:24]
+    program = cache_folder() / ("engine-" + key)
+    if not program.exists():
+        program.parent.mkdir(parents=True, exist_ok=True)
+        with tempfile.TemporaryDirectory(dir=program.parent) as scratch:
+            fresh = Path(scratch) / "engine"
+            made = subprocess.run([compiler, *FLAGS, "-o", fresh, *[s for s in sources if s.suffix == ".c"]],
+                                  capture_output=True, text=True)
+            if made.returncode != 0:
+                raise NoEngine("the engine wasn't built: " + made.stderr.strip())
+            fresh.replace(program)
+    return program
+
+
+def hexed(data):
+    return data.hex().upper() or "-"
+
+
+def atom_lines(condition):
+    for case in condition:
+        for place, a in enumerate(case):
+            begins = int(place == 0)
+            yield "atom %d %d %d %d %d %d %s" % (begins, KINDS.index(a.kind), a.comparison, a.thread, a.value, a.address,
+                                                 hexed(a.text))
+
+
+class Engine:
+    def __init__(self, image, condition, options, answers=(), dmas=()):
+        self.options = options
+        self.process = subprocess.Popen([built()], stdin=subprocess.PIPE, stdout=subprocess.PIPE)
+        with tempfile.NamedTemporaryFile(prefix="memory-") as memory:
+            memory.write(image.memory)
+            memory.flush()
+            self.send(*self.setup_lines(image, memory.name), *atom_lines(condition))
+            self.send(*("answer %d %d %x %s" % (t, a.kind, a.result, hexed(a.bytes)) for t, a in answers))
+            self.send(*("dma " + hexed(data) for data in dmas))
+            self.send("ready")
+            self.line()
+
+    def setup_lines(self, image, name):
+        o = self.options
+        yield "memory %d %d %s" % (image.size, image.entry, name)
+        yield "threads %d" % (15 if o.version == 1 else 63)
+        yield "standard %d" % self.standard()
+        yield "seed %d" % o.seed
+        yield "tick %d" % o.tick
+        yield "turns %d" % o.turn
+        yield "steps %d" % o.steps
+        if o.input:
+            yield "input %s" % Path(o.input).resolve()
+        yield from ("raise %d %x" % raised for raised in o.raises)
+
+    def standard(self):
+        return 4096 if self.options.version == 1 else 65536
+
+    def close(self):
+        self.process.stdin.close()
+        self.process.wait()
+
+    def send(self, *lines):
+        try:
+            self.process.stdin.write("".join(line + "\n" for line in lines).encode())
+            self.process.stdin.flush()
+        except BrokenPipeError:
+            pass  # what it said is read next
+
+    def line(self):
+        """The words of the engine's next line."""
+        words = self.process.stdout.readline().decode().split()
+        if not words or words[0] == "failed":
+            raise NoEngine("the engine failed: " + " ".join(words[1:]))
+        return words
+
+    def text(self, words):
+        return self.process.stdout.read(int(words[2])).decode()
+
+    # ------------------------------------------------------------ what it does
+
+    def search(self, switches, tries, states, seconds, on_bound=lambda bound: None):
+        self.send("search %d %d %d %f" % (switches, tries, states, seconds))
+        bounds, told = [], None
+        while (words := self.line())[0] == "bound":
+            bounds.append(Bound(*map(int, words[1:10:2]), float(words[11])))
+            on_bound(bounds[-1])
+        tries, ended, hung, limited, spent, places, bound, _ = map(int, words[1:])
+        words = self.line()
+        if words[0] == "leaf":
+            told = self.read_told(words)
+            words = self.line()
+        return Search(words[1], bounds, tries, ended, hung, limited, spent, places, bound, told)
+
+    def lead(self, turns, word):
+        self.send(*("turn %d %d %x" % (t.actor, t.steps, t.value) for t in turns), word)
+        return self.line()[1]
+
+    def guided(self, turns):
+        """(outcome, turns): bad, good, or limited, and the turns that were taken."""
+        outcome, taken = self.lead(turns, "guide"), []
+        while (words := self.line())[0] == "turn":
+            taken.append(self.read_turn(words))
+        return outcome, taken
+
+    def told(self, turns):
+        """(outcome, Told)."""
+        outcome = self.lead(turns, "tell")
+        told = self.read_told(self.line())
+        self.line()
+        return outcome, told
+
+    # ------------------------------------------------------------ what it says
+
+    @staticmethod
+    def read_turn(words):
+        return Turn(int(words[1]), int(words[2]), int(words[3], 16), words[4])
+
+    def read_told(self, words):
+        leaf, turns, interrupts, texts, loops = words[1], [], {}, {}, {}
+        words = self.line()
+        while words[0] == "turn":
+            turns.append(self.read_turn(words))
+            words = self.line()
+        while len(texts) < 4:
+            if words[0] == "text":
+                texts[words[1]] = self.text(words)
+            else:
+                interrupts[int(words[1]), int(words[2])] = int(words[3], 16)
+            words = self.line() if len(texts) < 4 else words
+        for _ in range(int(self.line()[1])):
+            thread, loop = self.read_loop(self.line())
+            loops[thread] = loop
+        answers = [read_answer(line) for line in texts["inputs"].splitlines()]
+        log = self.read_log(texts, interrupts, [answer for _, answer in answers])
+        return Told(leaf, turns, log, texts["account"].encode(), loops, answers)
+
+    def read_log(self, texts, interrupts, answers):
+        commits = [line.split()[2:] for line in texts["order"].splitlines()]
+        order, sizes = [int(actor) for actor, _ in commits], [int(size) for _, size in commits]
+        dmas = [(int(at), bytes.fromhex(data.strip("-"))) for _, at, data in map(str.split, texts["dmas"].splitlines())]
+        threads = 15 if self.options.version == 1 else 63
+        return Log(self.options.version, threads, ORDER_SIZE, self.standard(), len(order), order, sizes, interrupts, answers, dmas)
+
+    @staticmethod
+    def read_loop(words):
+        if words[-1] == "none":
+            return int(words[1]), None
+        commits = []
+        for word in words[2:]:
+            size, *answer = word.split(":")
+            commits.append((int(size), Input(int(answer[0]), int(answer[1], 16), b"") if answer else None))
+        return int(words[1]), commits
+
+
+def read_answer(line):
+    _, kind, result, data, thread = line.split()
+    return int(thread), Input(int(kind), int(result, 16), bytes.fromhex(data.strip("-")))

@@ -1,0 +1,113 @@
+"""What search and shrink have in common: words, files, and the end, where a log is judged and written."""
+
+from pathlib import Path
+import re
+
+from .account import NotWalked
+from .conditions import BadCondition, read_condition
+from .engine import DMA as DMA_TURN
+from .engine import Engine, Options
+from .image import NotAnImage, read_image
+from .judge import Differs, Judge, switches_of
+from .symbols import Names, NoWord
+
+CONDITIONS = """\
+  exit THREAD = CODE        the thread has ended with the code; or != < > <= >=. THREAD is a number, or any
+  fault [THREAD [= CAUSE]]  it has faulted
+  hang [THREAD]             it never ends: neither it nor any other thread goes on
+  word WORD = VALUE         at the end the word has the value; WORD is a symbol or an address, with +OFFSET or without
+  console = TEXT            what was put on the console; or !=
+  console has TEXT          TEXT is a word of the shell, with \\n and \\xHH in it
+Several of them may be joined by `and`; of several --bad one is enough."""
+
+
+class Refused(Exception):
+    """What was given won't do; args: why."""
+
+
+def add_common(parser, with_log=False):
+    parser.add_argument("image", metavar="IMAGE")
+    parser.add_argument("memory", metavar="MEMORY", help="bytes of memory, as walk takes them")
+    if with_log:
+        parser.add_argument("log", metavar="LOG", help="the log that ends badly")
+    else:
+        parser.add_argument("--log-version", type=int, choices=(1, 2), default=1, help="of the log; 2 has up to 63 threads (1)")
+    parser.add_argument("--bad", action="append", required=True, metavar="CONDITION", help="what a bad end is, below")
+    parser.add_argument("--out", required=True, metavar="LOG", help="the log to be written")
+    parser.add_argument("--seed", type=int, default=0, metavar="N", help="of the random bytes, as a plan's (0)")
+    parser.add_argument("--input", metavar="FILE", help="the devices' input")
+    parser.add_argument("--tick", type=int, default=64, metavar="N", help="what the clock goes on by when it is read (64)")
+    parser.add_argument("--turn", type=int, default=10_000, metavar="N",
+                        help="another thread comes, for nothing, where one has done so many steps (10000)")
+    parser.add_argument("--steps", type=int, default=1_000_000, metavar="N", help="a run is left after so many (1000000)")
+
+
+def counted(number, what):
+    noun, _, rest = what.partition(" ended")
+    ending = "" if number == 1 else "es" if noun.endswith("ch") else "s"
+    return "%d %s%s" % (number, noun + ending, " ended" + rest if rest else "")
+
+
+def read_raise(text):
+    match = re.fullmatch(r"(\d{1,2}):(0x[0-9A-Fa-f]{1,8}|\d{1,10})", text)
+    if not match:
+        raise Refused("--raise %s isn't THREAD:VALUE" % text)
+    return int(match[1]), int(match[2], 0)
+
+
+class Job:
+    """Image, condition and options of the words that were given."""
+
+    def __init__(self, given):
+        self.given = given
+        if not re.fullmatch(r"[1-9][0-9]{3,7}", given.memory) or int(given.memory) % 4096 or int(given.memory) > 1 << 24:
+            raise Refused("MEMORY is a multiple of 4096 up to 16777216")
+        try:
+            self.image = read_image(Path(given.image).read_bytes(), int(given.memory))
+            if given.input:
+                Path(given.input).read_bytes()
+        except OSError as error:
+            raise Refused("%s: %s" % (error.filename, error.strerror)) from None
+        except NotAnImage as error:
+            raise Refused("refused image 0 %d" % error.args) from None
+        try:
+            self.condition = read_condition(given.bad, Names(self.image))
+        except NoWord as error:
+            raise BadCondition("%s: %s" % error.args) from None
+        raises = tuple(map(read_raise, getattr(given, "raises", ())))
+        self.options = Options(given.seed, given.input, given.tick, given.turn, given.steps, raises, given.log_version)
+        self.judge = Judge(given.image, given.memory, self.condition, given.log_version)
+
+    def engine(self, answers=(), dmas=()):
+        return Engine(self.image, self.condition, self.options, answers, dmas)
+
+    def write(self, told):
+        """Has the run judged, writes its log, and says what it is."""
+        try:
+            verdict = self.judge.judged(told)
+        except NotWalked as error:
+            raise Refused("the walk failed: %s" % error.args[0]) from None
+        try:
+            Path(self.given.out).write_bytes(verdict.log)
+        except OSError as error:
+            raise Refused("%s: %s" % (error.filename, error.strerror)) from None
+        print("\n".join(self.summary(told, verdict)))
+
+    def summary(self, told, verdict):
+        log = told.log
+        pairs = [(turn, after) for turn, after in zip(told.turns, told.turns[1:]) if turn.actor != after.actor]
+        forced = sum(turn.end == "forced" and after.actor < DMA_TURN for turn, after in pairs)
+        counts = [counted(log.count, "commit"), "%s, %d forced" % (counted(switches_of(log.order), "switch"), forced)]
+        cut = sum(turn.end == "forced" and turn.actor == after.actor for turn, after in zip(told.turns, told.turns[1:]))
+        others = (cut, "chunk ended early"), (len(log.interrupts), "interrupt"), (len(log.dmas), "DMA")
+        counts += [counted(n, what) for n, what in others if n]
+        yield "%s: %s; walked" % (self.given.out, ", ".join(counts))
+        for thread, (status, code) in enumerate(verdict.ended.threads):
+            yield "thread %d %s" % (thread, {"live": "is live", "ended": "ended with %d" % code,
+                                             "fault": "faulted, cause %d" % code}[status])
+        if told.leaf == "waits":
+            yield "no thread goes on, in whatever order: the loop of each that is live was walked, and changes nothing"
+        if told.leaf == "repeats":
+            yield "the state comes again: the loop of each that is live was walked, one after another, and leads back to it"
+        if told.leaf == "goes-on":
+            yield "others could go on; that changes nothing of this"

@@ -1,0 +1,146 @@
+"""Names and source lines of an image: `Names(image)`. Symbols are read here, and lines by pyelftools if it is installed and
+the image has any. Without symbols everything has its number alone."""
+
+from bisect import bisect_right
+from collections import namedtuple
+import os
+import re
+import struct
+
+Symbol = namedtuple("Symbol", "addr size name is_code")
+
+_NOTYPE, _OBJECT, _FUNCTION = 0, 1, 2
+_LOCAL = 0
+_EXECUTED = 4
+
+
+class NoWord(Exception):
+    """args: what was asked for, and why it isn't a word."""
+
+
+def printable(name):
+    """The bytes of a name as text for a terminal: what can't be shown is `?`."""
+    return "".join(c if c.isprintable() else "?" for c in name.decode("utf-8", "replace"))
+
+
+def _symbols(data):
+    """The symbols of the image's symbol tables. Fails if they are damaged."""
+    headers, size, count = struct.unpack_from("<I", data, 32)[0], *struct.unpack_from("<HH", data, 46)
+    sections = [struct.unpack_from("<10I", data, headers + size * j) for j in range(count)] if size == 40 else []
+    out = []
+    for _, kind, _, _, offset, length, link, _, _, entry in sections:
+        if kind != 2 or entry != 16:
+            continue
+        names, names_length = sections[link][4], sections[link][5]
+        for at in range(offset, offset + length, entry):
+            name, value, extent, info, _, section = struct.unpack_from("<IIIBBH", data, at)
+            start = names + name
+            text = printable(data[start : data.index(b"\0", start, names + names_length)])
+            if not text or text.startswith("$") or not 0 < section < len(sections):
+                continue
+            is_code = bool(sections[section][2] & _EXECUTED)
+            if info & 15 in (_OBJECT, _FUNCTION) or (info & 15 == _NOTYPE and info >> 4 != _LOCAL):
+                out.append(Symbol(value, extent, text, is_code))
+    return out
+
+
+def _lines(data):
+    """(addr, order, "file:line"), rising; None in place of the line if a sequence ends there."""
+    import io
+
+    from elftools.elf.elffile import ELFFile
+
+    elf = ELFFile(io.BytesIO(data))
+    if not elf.has_dwarf_info():
+        return []
+    out = []
+    dwarf = elf.get_dwarf_info()
+    for unit in dwarf.iter_CUs():
+        program = dwarf.line_program_for_CU(unit)
+        if program is None:
+            continue
+        files, first = program["file_entry"], 0 if program["version"] >= 5 else 1
+        for entry in program.get_entries():
+            state = entry.state
+            if state is None:
+                continue
+            if state.end_sequence:
+                out.append((state.address, 0, None))
+            else:
+                name = printable(os.path.basename(files[state.file - first].name))
+                out.append((state.address, 1, "%s:%d" % (name, state.line)))
+    # Of several entries at an address the last one counts, and a begin counts more than another sequence's end.
+    return sorted({addr: (addr, order, text) for addr, order, text in sorted(out, key=lambda e: e[:2])}.values())
+
+
+class Names:
+    def __init__(self, image):
+        self.file, self.size, self._table = image.file, image.size, None
+        try:
+            found = _symbols(image.file)
+        except (struct.error, ValueError, IndexError):  # a damaged table counts as no table
+            found = []
+        self.symbols = sorted(set(found))
+        self.by_name = {}
+        for s in self.symbols:
+            self.by_name.setdefault(s.name, s)
+        self.code = [s for s in self.symbols if s.is_code]
+        self.data = [s for s in self.symbols if not s.is_code and s.size]
+        self.code_at = [s.addr for s in self.code]
+        self.data_at = [s.addr for s in self.data]
+
+    def function(self, pc):
+        """The function of a pc, for example `work`, or None. Of `work.isra.0`, a compiler's name, it is `work` too."""
+        j = bisect_right(self.code_at, pc) - 1
+        if j < 0:
+            return None
+        s = self.code[j]
+        return s.name.partition(".")[0] if not s.size or pc < s.addr + s.size else None
+
+    def line(self, pc):
+        """The source line of a pc, for example `race.c:24`, or None."""
+        if self._table is None:
+            self._table = self._read_lines()
+        j = bisect_right(self._table[0], pc) - 1
+        return self._table[1][j] if j >= 0 else None
+
+    def _read_lines(self):
+        if b".debug_line" not in self.file:
+            return [], []
+        try:
+            found = _lines(self.file)
+        except Exception:  # pyelftools isn't there, or can't read this: no lines
+            found = []
+        return [e[0] for e in found], [e[2] for e in found]
+
+    def place(self, pc):
+        """A pc in words: `work, race.c:24`, or as much as is known, or its number."""
+        function, line = self.function(pc), self.line(pc)
+        if function is None and line is None:
+            return "%08X" % pc
+        return ", ".join(filter(None, (function, line))) if line else "%s, %08X" % (function, pc)
+
+    def name(self, addr):
+        """An address of data in words: `counter`, `stacks+0x40`, or its number."""
+        j = bisect_right(self.data_at, addr) - 1
+        if j >= 0 and addr < self.data[j].addr + self.data[j].size:
+            away = addr - self.data[j].addr
+            return self.data[j].name + ("+0x%X" % away if away else "")
+        return "%08X" % addr
+
+    def word(self, text):
+        """The address that a WORD means: a symbol or a hexadecimal number, then perhaps `+OFFSET`, decimal or 0x.."""
+        base, plus, offset = text.partition("+")
+        if base in self.by_name:
+            addr = self.by_name[base].addr
+        elif re.fullmatch(r"(0[xX])?[0-9A-Fa-f]{1,8}", base):
+            addr = int(base, 16)
+        else:
+            raise NoWord(text, "there is no such symbol, and it isn't a hexadecimal number")
+        if plus:
+            if not re.fullmatch(r"0[xX][0-9A-Fa-f]{1,8}|[0-9]{1,8}", offset):
+                raise NoWord(text, "the offset isn't a number")
+            addr += int(offset, 0)
+        if addr >= self.size:
+            raise NoWord(text, "it isn't in the memory")
+        return addr & ~3

@@ -1,0 +1,92 @@
+"""The guide's commands say what it shows. A line `..` means some lines, or none."""
+
+import importlib.machinery
+import importlib.util
+import re
+import unittest
+
+import support
+from lib.account import compare
+from lib.image import read_image
+from lib.logs import read_log
+from lib.play import play
+from lib.trace import Trace
+
+try:
+    import elftools  # noqa: F401
+
+    HAS_LINES = True
+except ImportError:
+    HAS_LINES = False
+
+NO_LINES = "source lines, since pyelftools isn't there: the guide's lines are compared without them"
+
+
+def command(name):
+    """A command of hunt/ as a module."""
+    loader = importlib.machinery.SourceFileLoader("hunt_" + name, str(support.TOP / "hunt" / name))
+    module = importlib.util.module_from_spec(importlib.util.spec_from_loader(loader.name, loader))
+    loader.exec_module(module)
+    return module
+
+
+def shown(text):
+    """For each `$ ../trace ..` in the guide: the folder, its words, and the lines after it."""
+    folder, found = None, []
+    for line in text.splitlines():
+        named = re.match(r"In `((?:hunt/)?examples/[\w-]+)`", line)
+        if named:
+            folder = support.TOP / named.group(1)
+        if re.match(r"    \$ \S*/trace ", line) and folder:
+            found.append((folder, line.split()[2:], []))
+            is_open = True
+        elif not line.startswith("    "):
+            is_open = False
+        elif found and is_open:
+            found[-1][2].append(line[4:])
+    return found
+
+
+def without_lines(text):
+    """A line without source lines and addresses of code, and with single spaces."""
+    text = re.sub(r"(\w+), (\w+\.\w+:\d+|[0-9A-F]{8})", r"\1", text)
+    return re.sub(r" +", " ", re.sub(r"\b(\w+) to \1\b", r"\1", text)).strip()
+
+
+def pattern(lines):
+    return re.compile("".join(r"(?:.*\n)*" if line.strip() == ".." else re.escape(line) + r"\n" for line in lines))
+
+
+class Guide(unittest.TestCase):
+    @classmethod
+    def setUpClass(cls):
+        cls.trace = command("trace")
+        cls.text = (support.TOP / "hunt/README.md").read_text()
+
+    def say(self, folder, words):
+        image, memory, log, *rest = words
+        recording = next(r for r in support.recorded() if r.log == folder / "expected" / log)
+        self.assertEqual((recording.image, recording.memory), (folder / image, int(memory)))
+        loaded, read = read_image(recording.image.read_bytes(), recording.memory), read_log(recording.log.read_bytes())
+        played = play(loaded, read)
+        compare(played, recording.account.read_bytes())
+        return list(self.trace.answer(Trace(loaded, read, played), rest))
+
+    def compare_all(self, changed):
+        found = shown(self.text)
+        self.assertGreater(len(found), 10)
+        for folder, words, lines in found:
+            with self.subTest(" ".join(words)):
+                said = "".join(changed(line) + "\n" for line in self.say(folder, words))
+                self.assertRegex(said, re.compile(r"\A" + pattern(map(changed, lines)).pattern + r"\Z"))
+
+    def test_what_it_shows(self):
+        self.compare_all(without_lines)
+
+    @unittest.skipUnless(HAS_LINES, NO_LINES)
+    def test_what_it_shows_with_source_lines(self):
+        self.compare_all(str.rstrip)
+
+
+if __name__ == "__main__":
+    unittest.main()
