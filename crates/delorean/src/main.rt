@@ -1,5 +1,6 @@
 //! The program: it hands its words, the real files and the standard output to the one call `delorean`, and ends with its status.
 #![tactic(auto)]
+
 ghost use Rattle.std.specs.Prelude.{◌≡◌, ◌≢◌, [], drop, map, string_bytes, IfOk, IfErr, OnErr, IsErr};
 ghost use Rattle.std.specs.IoError.{error_kind};
 ghost use Rattle.std.specs.Vec.Iter.{into_iter_items};

@@ -1,5 +1,5 @@
 -- However a command is done or stops, what it leaves is what its status says.
-use Rattle.std.proofs.Common.{◌≡◌, ◌⊎◌, ℕ, ◌<◌, Bool, true, false, true≢false, if◌then◌else◌, List, [], slice_get, Option, Some, None, Result, Ok, inl, inr, refl, sym, ◌∙◌, ap, subst, arith, append-nil}
+use Rattle.std.proofs.Common.{◌≡◌, ◌⊎◌, ℕ, Bool, true, false, true≢false, if◌then◌else◌, List, [], slice_get, Option, Some, None, Result, Ok, inl, inr, refl, sym, ◌∙◌, ap, subst, arith, append-nil}
 use Rattle.std.proofs.lemmas.Option.{none-some}
 use Rattle.dl_files.specs.Contents.{Contents, IsLast}
 use Rattle.dl_files.specs.Count.{Rose}
@@ -16,7 +16,7 @@ use Rattle.spec_program.specs.Tasks.{Task}
 use Rattle.spec_program.specs.Works.{Work, Drilling, Running, work_of}
 use Rattle.spec_program.specs.Outcomes.{Outcome, Refuses, Finishes, outcome_in, outcome_of}
 use Rattle.spec_program.specs.Done.{IsDone}
-use Rattle.spec_program.specs.Ends.{CutAt, IsReadNext, Took, TookAll, Partly, Stands, IsFaulted, IsFinished, IsShort, is_done, is_refusal, reads_of, status_in, writes_in}
+use Rattle.spec_program.specs.Ends.{Took, TookAll, Partly, Stands, IsFaulted, IsFinished, IsShort, is_done, is_refusal, reads_of, status_in, writes_in}
 use Rattle.spec_program.proofs.Doing.{done_at, finished}
 use Rattle.spec_program.proofs.Finishing.{work_is}
 use Rattle.dl_gather.specs.declared.halt.Halt.{Halt}
@@ -248,7 +248,7 @@ module _ (old new : Seen) (before after : Option (List ℕ)) (from to : ℕ) whe
   pub halted_kept : (task : Contents → Result Work Refused) (reads : Contents → List (List ℕ)) (h : Halt) → Halts task reads old new h → IsKept old new
   halted_kept task reads (Halt.Refused why text) halts = halts.kept
   halted_kept task reads (Halt.Fault text) halts = halts.2.unread.kept
-  halted_kept task reads Halt.OutOfMemory (inl same) = record { known = ap (λ (x : Seen). x.known) same; changes = ap (λ (x : Seen). x.changes) same; }
+  halted_kept task reads Halt.OutOfMemory (inl same) = record { known = ap (λ (x : Seen). x.known) same; changes = ap (λ (x : Seen). x.changes) same }
   halted_kept task reads Halt.OutOfMemory (inr (name, f)) = f.unread.kept
 
   -- its refusal is said in the form of its kind

@@ -1,20 +1,17 @@
 -- Writes that are done one after another leave what all of them leave, and where memory ran out the first of them.
-use Rattle.std.proofs.Common.{◌≡◌, true, ℕ, zero, suc, ◌+◌, ◌<◌, List, [], ◌∷◌, length, take, get_or, slice_get, Option, Some, inl, inr, sym, ◌∙◌, ap, subst, arith, add-one}
+use Rattle.std.proofs.Common.{◌≡◌, ℕ, zero, suc, ◌+◌, ◌<◌, List, [], ◌∷◌, length, take, get_or, slice_get, Option, Some, inl, inr, sym, ◌∙◌, ap, subst, arith, add-one}
 use Rattle.std.specs.Prelude.{string_bytes}
 use Rattle.std.specs.FinMap.{insert}
 use Rattle.std.specs.Option.{option_map}
 use Rattle.std.proofs.lemmas.List.{length-map}
 use Rattle.std.proofs.lemmas.Option.{slice_get-map}
 use Rattle.dl_files.specs.Contents.{Contents, with_file, SameBut}
-use Rattle.dl_files.specs.declared.FileError.{FileError}
-use Rattle.dl_files.specs.Seen.{Seen, WriteStops}
-use Rattle.dl_logio.specs.Files.{LogStops}
-use Rattle.dl_commands.specs.declared.writing.Content.{Content}
+use Rattle.dl_files.specs.Seen.{Seen}
 use Rattle.spec_program.specs.Ends.{IsBegun, Partly}
 use Rattle.spec_program.specs.Writes.{Write, written}
 use Rattle.dl_commands.specs.declared.writing.NamedContent.{NamedContent}
-use Rattle.dl_commands.specs.Jobs.{bytes_in, is_in_pieces, write_of, writes_of}
-use Rattle.dl_commands.specs.Stops.{ContentStops, IsCutShort}
+use Rattle.dl_commands.specs.Jobs.{bytes_in, write_of, writes_of}
+use Rattle.dl_commands.specs.Stops.{IsCutShort}
 
 slice_get_at : (xs : List NamedContent) (i : ℕ) (x : NamedContent) → i < length xs → x ≡ get_or xs i x → slice_get xs i ≡ Some x
 slice_get_at [] i x h e = absurd (omega arith)
@@ -45,39 +42,14 @@ same_but_at name shown old known new named same s =
     subst (λ (n : List ℕ). SameBut n old new) named (subst (λ (t : Option Contents). SameBut shown t new) same s)
 
 -- where memory ran out in write i, the first i are done, and of that one a part or nothing
-pub cut_short : (xs : List NamedContent) (i : ℕ) (x : NamedContent) (m : Contents) (shown : List ℕ) (old mid new : Seen) → i < length xs → x ≡ get_or xs i x → shown ≡ string_bytes x.name
+pub cut_short : (xs : List NamedContent) (i : ℕ) (x : NamedContent) (m : Contents) (shown : List ℕ) (mid new : Seen) → i < length xs → x ≡ get_or xs i x → shown ≡ string_bytes x.name
     → mid.known ≡ Some (written (take i (writes_of xs)) m) → IsCutShort x.content shown mid new → Partly (writes_of xs) m new.known
-cut_short xs i x m shown old mid new h e named are short = elim short.known [
+cut_short xs i x m shown mid new h e named are short = elim short.known [
   | inl same ↦ (i, omega (arith, h, length-map xs write_of), inl (same ∙ are))
   | inr part ↦ (
-      i,
-      omega (arith, h, length-map xs write_of),
-      inr (subst (λ (o : Option Write). IsBegun o (written (take i (writes_of xs)) m) new.known) (sym (write_at xs i x h e))
-          (part.0, part.1, part.2 ∙ (λ j. with_file (named j) (take part.1 (bytes_in x.content)) (are j)))),
-    )
+    i,
+    omega (arith, h, length-map xs write_of),
+    inr (subst (λ (o : Option Write). IsBegun o (written (take i (writes_of xs)) m) new.known) (sym (write_at xs i x h e))
+        (part.0, part.1, part.2 ∙ (λ j. with_file (named j) (take part.1 (bytes_in x.content)) (are j)))),
+  )
 ]
-
--- ---- one file
-
--- the write of a file at once stopped so
-pub at_once_stops : (content : Content) (name : List ℕ) (old new : Seen) (e : FileError) → WriteStops name old new e → ContentStops content name old new e
-at_once_stops content name old new FileError.Failed stops = stops
-at_once_stops content name old new FileError.Absent stops = stops
-at_once_stops content name old new FileError.OutOfMemory stops = record {
-  known = inl (ap (λ (s : Seen). s.known) stops);
-  faults = ap (λ (s : Seen). s.faults) stops;
-  unread = ap (λ (s : Seen). s.unread) stops;
-}
-
--- the write of a log stopped so
-pub log_stops : (content : Content) (name bytes : List ℕ) (old new : Seen) (e : FileError) → is_in_pieces content ≡ true → bytes_in content ≡ bytes → LogStops name bytes old new e → ContentStops content name old new e
-log_stops content name bytes old new FileError.Failed pieces is stops = stops
-log_stops content name bytes old new FileError.Absent pieces is stops = stops
-log_stops content name bytes old new FileError.OutOfMemory pieces is stops = record {
-  known = elim stops.known [
-    | inl same ↦ inl same
-    | inr part ↦ inr (pieces, part.0, part.1 ∙ ap (λ (b : List ℕ). with_file name (take part.0 b) old.known) (sym is))
-  ];
-  faults = stops.faults;
-  unread = stops.unread;
-}

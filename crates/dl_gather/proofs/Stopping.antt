@@ -42,7 +42,7 @@ pub record IsPart {A B : Type 0} (known : Option Contents) (names all : List (Li
 
 part_fault : (names all : List (List ℕ)) (name : List ℕ) (old new : Seen) → ((m : Contents) → old.known ≡ Some m → IsReadNext names m name → IsReadNext all m name)
     → IsFault (λ _. names) name old new → IsFault (λ _. all) name old new
-part_fault names all name old new next f = record { unread = f.unread; next = λ m e. next m e (f.next m e); }
+part_fault names all name old new next f = record { unread = f.unread; next = λ m e. next m e (f.next m e) }
 
 -- where a part can't be read, the whole can't either, for the same reason
 pub unread_in : {A B : Type 0} (old new : Seen) (names all : List (List ℕ)) (part : Contents → Result A (List ℕ)) (whole : Contents → Result B (List ℕ)) (h : Halt)
@@ -51,7 +51,7 @@ unread_in old new names all part whole (Halt.Refused why text) p u = (
   u.0,
   u.1,
   u.2,
-  record { known = λ m e. (p.absent m e u.1 (u.3.known m e).0, (u.3.known m e).1); unknown = u.3.unknown; },
+  record { known = λ m e. (p.absent m e u.1 (u.3.known m e).0, (u.3.known m e).1); unknown = u.3.unknown },
 )
 unread_in old new names all part whole (Halt.Fault text) p u = (u.0, u.1, part_fault names all u.0 old new (λ m e. p.next m e u.0) u.2)
 unread_in old new names all part whole Halt.OutOfMemory p (inl same) = inl same
@@ -62,7 +62,7 @@ missing_kept : {A : Type 0} (part : Contents → Result A (List ℕ)) (name : Li
 missing_kept part name old new None e u = (u.unknown e).kept
 missing_kept part name old new (Some m) e u =
     let same = (u.known m e).1 in
-    record { known = ap (λ (s : Seen). s.known) same; changes = ap (λ (s : Seen). s.changes) same; }
+    record { known = ap (λ (s : Seen). s.known) same; changes = ap (λ (s : Seen). s.changes) same }
 
 -- what comes of a file that is absent is its refusal
 pub file_refused : {A B : Type 0} (o : Result A (List ℕ)) (f : A → Result B Refused) (name : List ℕ) → o ≡ Err name → (refusing absent o >> f) ≡ Err (absent name)
@@ -80,10 +80,10 @@ unread_halts names reads part stage old new (Halt.Refused why text) errs next u 
   form = subst (λ (w : Refusal). IsLineOf w text.items) (sym u.0) (u.1, u.2);
 }
 unread_halts names reads part stage old new (Halt.Fault text) errs next u =
-    (u.0, u.1, record { unread = u.2.unread; next = λ m e. next m u.0 (u.2.next m e); })
+    (u.0, u.1, record { unread = u.2.unread; next = λ m e. next m u.0 (u.2.next m e) })
 unread_halts names reads part stage old new Halt.OutOfMemory errs next (inl same) = inl same
 unread_halts names reads part stage old new Halt.OutOfMemory errs next (inr (name, f)) =
-    inr (name, record { unread = f.unread; next = λ m e. next m name (f.next m e); })
+    inr (name, record { unread = f.unread; next = λ m e. next m name (f.next m e) })
 
 -- where a stage halts, so does the whole that it is a part of
 pub halts_in : {A B : Type 0} (reads all : Contents → List (List ℕ)) (stage : Contents → Result A Refused) (whole : Contents → Result B Refused) (old new : Seen) (h : Halt)
@@ -97,10 +97,10 @@ halts_in reads all stage whole old new (Halt.Refused why text) errs next u = rec
   form = u.form;
 }
 halts_in reads all stage whole old new (Halt.Fault text) errs next u =
-    (u.0, u.1, record { unread = u.2.unread; next = λ m e. next m e u.0 (u.2.next m e); })
+    (u.0, u.1, record { unread = u.2.unread; next = λ m e. next m e u.0 (u.2.next m e) })
 halts_in reads all stage whole old new Halt.OutOfMemory errs next (inl same) = inl same
 halts_in reads all stage whole old new Halt.OutOfMemory errs next (inr (name, f)) =
-    inr (name, record { unread = f.unread; next = λ m e. next m e name (f.next m e); })
+    inr (name, record { unread = f.unread; next = λ m e. next m e name (f.next m e) })
 
 -- ---- the command
 

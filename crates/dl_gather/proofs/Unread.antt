@@ -35,10 +35,13 @@ fault_at name old new there u = record {
 -- memory ran out over the line on a file that is absent
 starved_absent : (known : Option Contents) (name : List ℕ) (old new : Seen) → old.known ≡ known → IsAbsent name old new → IsStarved (λ _. name ∷ []) old new
 starved_absent (Some m) name old new is a = inl (if_some old.known (λ (x : Contents). (get x name ≡ None) × (new ≡ old)) m a.known is).1
-starved_absent None name old new is a = inr (name, record {
-  unread = if_none old.known (IsUnread name old new) a.unknown is;
-  next = λ m e. let no : None ≡ Some m = sym is ∙ e in absurd cc;
-})
+starved_absent None name old new is a = inr (
+  name,
+  record {
+    unread = if_none old.known (IsUnread name old new) a.unknown is;
+    next = λ m e. let no : None ≡ Some m = sym is ∙ e in absurd cc;
+  },
+)
 
 -- of a part that is absent with its file
 pub unread_file : {A : Type 0} (name : List ℕ) (part : Contents → Result A (List ℕ)) (old new : Seen) (error : FileError) (halt : Halt)

@@ -1,6 +1,5 @@
 use Rattle.std.proofs.lemmas.Result.{IfOk-weaker, IfErr-weaker}
-use Rattle.spec_program.specs.Ends.{inputs_of}
-use Rattle.spec_program.specs.Tasks.{plan_at, task_named}
+use Rattle.spec_program.specs.Tasks.{task_named}
 use Rattle.dl_commands.proofs.Finishing.{run_halts, run_is}
 use Rattle.dl_commands.proofs.preparing.run.Goals as goal
 

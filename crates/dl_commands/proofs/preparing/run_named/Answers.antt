@@ -14,7 +14,7 @@ use Rattle.dl_commands.proofs.preparing.run_named.Goals as goal
 pub returns-in_err-plan-clause-halt : goal.returns-in_err-plan-clause-halt
 returns-in_err-plan-clause-halt g c =
     let name = c.args.name.now in
-    let reads = λ m. name ∷ inputs_of (plan_at m name) in
+    let reads : Contents → List (List ℕ) = λ m. name ∷ inputs_of (plan_at m name) in
     let old = g.F.Files.seen c.args.files.now in
     let new = g.F.Files.seen c.load_plan.new.files in
     let halt = c.in_err-plan.field-0.0 in
@@ -26,7 +26,7 @@ pub returns-clause-halt : goal.returns-clause-halt
 returns-clause-halt g c =
     let name = c.args.name.now in
     let p = plan_view c.in_ok-plan.plan in
-    let reads = λ m. name ∷ inputs_of (plan_at m name) in
+    let reads : Contents → List (List ℕ) = λ m. name ∷ inputs_of (plan_at m name) in
     let old = g.F.Files.seen c.args.files.now in
     let new = g.F.Files.seen c.run_plan.new.files in
     let planned : (m : Contents) → old.known ≡ Some m → plan_at m name ≡ Ok p = c.in_ok-plan.ensures.plan in

@@ -1,8 +1,6 @@
 use Rattle.std.proofs.Common.{ℕ, ◌<◌, length, Some, refl, ap, sym, ◌∙◌, subst, arith}
-use Rattle.dl_files.specs.declared.FileError.{FileError}
 use Rattle.dl_files.specs.Contents.{IsLast}
 use Rattle.dl_files.specs.Count.{Rose}
-use Rattle.dl_files.specs.Seen.{Seen}
 use Rattle.dl_commands.specs.Jobs.{write_of}
 use Rattle.dl_commands.specs.Stops.{ContentStops}
 use Rattle.dl_commands.proofs.Storing.{cut_short, write_at, written_more, with_file_same, same_but_at}
@@ -45,7 +43,7 @@ returns-in-Err-OutOfMemory-clause-stop g c =
     let done = c.loop-i.invariant.written in
     let short = subst (ContentStops _ _ (g.F.Files.seen c.loop-i.files) (g.F.Files.seen c.write_content.new.files)) c.in-Err-OutOfMemory.field-0-is c.in-Err-OutOfMemory.ensures.err in
     record {
-      known = λ m e. cut_short c.args.writes.now c.loop-i.i c.index-writes-i.result m _ (g.F.Files.seen c.args.files.now) _ _ within c.index-writes-i.is c.as_str.ensures.value (done.known m e) short;
+      known = λ m e. cut_short c.args.writes.now c.loop-i.i c.index-writes-i.result m _ _ _ within c.index-writes-i.is c.as_str.ensures.value (done.known m e) short;
       faults = short.faults ∙ done.faults;
       unread = short.unread ∙ done.unread;
     }

@@ -7,7 +7,7 @@ use Rattle.dl_logio.proofs.Appending.{all_given, err_carried, pieces_join, stops
 use Rattle.dl_logio.proofs.writing.write_log_file.Goals as goal
 
 pub loop-writer-init : goal.loop-writer-init
-loop-writer-init g c = record { done = ([], c.new-writer.ensures, c.in_ok-create.ensures.created); }
+loop-writer-init g c = record { done = ([], c.new-writer.ensures, c.in_ok-create.ensures.created) }
 
 pub returns-in_err-create-clause-err : goal.returns-in_err-create-clause-err
 returns-in_err-create-clause-err g c =
