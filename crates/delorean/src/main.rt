@@ -1,44 +1,76 @@
 //! The program: it hands its words, the real files and the standard output to the one call `delorean`, and ends with its status.
 #![tactic(auto)]
 
+ghost use Rattle.std.specs.Prelude.{◌≡◌, ◌≢◌, [], drop, map, string_bytes, IfOk, IfErr, OnErr, IsErr};
+ghost use Rattle.std.specs.IoError.{error_kind};
+ghost use Rattle.std.specs.Vec.Iter.{into_iter_items};
+ghost use Rattle.dl_commands.specs.Texts.{texts};
+ghost use Rattle.spec_program.specs.declared.status.Status.{Status};
+
 use dl_commands::delorean;
 use dl_files::{RealFiles, StdSink};
 use spec_program::status::Status;
+use std::alloc::{AllocError, Global};
+use std::env::Args;
 use std::io::ErrorKind;
 use std::process::ExitCode;
-use std::rt::Env;
 use std::{env, io};
 
 fn main(rt: HostRuntime) -> ExitCode {
-    let status = match run(rt) {
-        Ok(status) => status,
-        Err(_) => Status::Memory,
-    };
-    ExitCode::from(status.code())
+    ExitCode::from(status_of(run(rt)).code())
 }
 
 fn run(rt: HostRuntime) -> io::Result<Status> {
-    let owned = words(&rt)?;
-    let mut words = Vec::new(rt.alloc());
-    for word in &owned {
-        words.push(word.as_str())?;
-    }
+    let alloc = rt.alloc();
+    let words = words_of(alloc, env::args(&rt))?;
     let mut files = RealFiles::new(rt.clone()?);
     let mut out = StdSink::new(rt.clone()?);
-    Ok(delorean(rt.alloc(), &words, &mut files, &mut out))
+    Ok(delorean(alloc, &texts_of(alloc, &words)?, &mut files, &mut out))
+}
+
+// The status of the program; what the runtime refuses, it refuses for memory.
+fn status_of(ended: io::Result<Status>) -> Status
+    ensures answer { IfOk ended (λ status. result ≡ status) }
+    ensures refused { OnErr ended (result ≡ Status.Memory) }
+{
+    match ended {
+        Ok(status) => status,
+        Err(_) => Status::Memory,
+    }
 }
 
 // The words without the program's name; none where one of them is no text, since these mean no command either.
-fn words<R: Env + AllocGlobal>(rt: &R) -> io::Result<Vec<String>> {
-    let mut words = Vec::new(rt.alloc());
-    match env::args(rt) {
-        Ok(args) => {
-            for word in args.skip(1) {
-                words.push(word)?;
-            }
-        }
-        Err(error) if error.kind() == ErrorKind::InvalidData => {}
-        Err(error) => return Err(error),
+fn words_of(alloc: Global, args: io::Result<Args<Global>>) -> io::Result<Vec<String>>
+    ensures words { IfOk result (λ words. IfOk args (λ all. words.items ≡ drop 1 (into_iter_items all))) }
+    ensures no_text { IfErr args (λ e. error_kind e ≡ ErrorKind.InvalidData
+        → IfOk result (λ words. words.items ≡ [])) }
+    ensures refused { IfErr args (λ e. error_kind e ≢ ErrorKind.InvalidData → IsErr result) }
+{
+    match args {
+        Ok(args) => Ok(behind_first(alloc, args)?),
+        Err(error) if error.kind() == ErrorKind::InvalidData => Ok(Vec::new(alloc)),
+        Err(error) => Err(error),
+    }
+}
+
+fn behind_first(alloc: Global, mut args: Args<Global>) -> Result<Vec<String>, AllocError>
+    ensures { IfOk result (λ words. words.items ≡ drop 1 (into_iter_items args)) }
+{
+    let mut words = Vec::new(alloc);
+    let _ = args.next();
+    for word in args {
+        words.push(word)?;
     }
     Ok(words)
+}
+
+// The words as texts.
+fn texts_of<'a>(alloc: Global, words: &'a [String]) -> Result<Vec<&'a str>, AllocError>
+    ensures { IfOk result (λ borrowed. texts borrowed.items ≡ map string_bytes words.now) }
+{
+    let mut borrowed = Vec::new(alloc);
+    for word in words {
+        borrowed.push(word.as_str())?;
+    }
+    Ok(borrowed)
 }

@@ -1,29 +1,29 @@
 -- However a command is done or stops, what it leaves is what its status says.
-use Rattle.std.proofs.Common.{◌≡◌, ◌⊎◌, ℕ, ◌<◌, Bool, true, false, true≢false, if◌then◌else◌, List, [], Option, Some, None, Result, Ok, inl, inr, refl, sym, ◌∙◌, ap, subst, arith, append-nil}
+use Rattle.std.proofs.Common.{◌≡◌, ◌⊎◌, ℕ, Bool, true, false, true≢false, if◌then◌else◌, List, [], slice_get, Option, Some, None, Result, Ok, inl, inr, refl, sym, ◌∙◌, ap, subst, arith, append-nil}
 use Rattle.std.proofs.lemmas.Option.{none-some}
 use Rattle.dl_files.specs.Contents.{Contents, IsLast}
 use Rattle.dl_files.specs.Count.{Rose}
-use Rattle.dl_words.specs.Commands.{CommandValues, Drill, command_of}
+use Rattle.dl_files.specs.Seen.{Seen, IsKept}
+use Rattle.dl_words.specs.Commands.{CommandValues, command_of}
 use Rattle.spec_program.specs.declared.status.Status.{Status}
 use Rattle.spec_program.specs.declared.status.Refusal.{Refusal}
 use Rattle.spec_program.specs.Statuses.{code_of, status_of}
-use Rattle.spec_program.specs.Lines.{fault_line}
-use Rattle.spec_program.specs.Outside.{Outside}
+use Rattle.spec_program.specs.Lines.{absent_line, fault_line}
+use Rattle.spec_program.specs.Outside.{Outside, outside}
 use Rattle.spec_program.specs.Writes.{Write, written}
 use Rattle.spec_program.specs.Stages.{Refused, ◌>>◌}
 use Rattle.spec_program.specs.Tasks.{Task}
-use Rattle.spec_program.specs.Works.{Work, Running, work_of}
+use Rattle.spec_program.specs.Works.{Work, Drilling, Running, work_of}
 use Rattle.spec_program.specs.Outcomes.{Outcome, Refuses, Finishes, outcome_in, outcome_of}
 use Rattle.spec_program.specs.Done.{IsDone}
-use Rattle.spec_program.specs.Drills.{drill_text}
-use Rattle.spec_program.specs.Ends.{CutAt, IsReadNext, Took, TookAll, Partly, Stands, IsFaulted, IsFinished, IsShort, is_done, reads_of, reads_of_command}
+use Rattle.spec_program.specs.Ends.{Took, TookAll, Partly, Stands, IsFaulted, IsFinished, IsShort, is_done, is_refusal, reads_of, status_in, writes_in}
 use Rattle.spec_program.proofs.Doing.{done_at, finished}
 use Rattle.spec_program.proofs.Finishing.{work_is}
 use Rattle.dl_gather.specs.declared.halt.Halt.{Halt}
 use Rattle.dl_commands.specs.declared.job.Job.{Job}
-use Rattle.dl_commands.specs.Jobs.{writes_of, IsJobOf, IsTaskJob}
+use Rattle.dl_commands.specs.Jobs.{writes_of, IsJob, IsJobOf, IsTaskJob}
 use Rattle.dl_gather.specs.Halts.{Halts, IsFault}
-use Rattle.dl_commands.specs.Ended.{Said, Stopped}
+use Rattle.dl_commands.specs.Ended.{IsRefusalSaid, Said, Stopped}
 use Rattle.dl_commands.specs.Performed.{IsCut, IsPerformed}
 
 memory_stands : (o : Outcome) (reads : List (List ℕ)) (m : Contents) (before after : Outside) (s : Status) → s ≡ Status.Memory → IsShort o reads m before after → Stands o reads m before after s
@@ -51,32 +51,57 @@ said_stands d ws text reads m before after Status.Fault e n said = absurd said
 said_stands d ws text reads m before after Status.Source e n said = absurd said
 said_stands d ws text reads m before after Status.Absent e n said = absurd said
 
-cut_stands : (d : Bool) (ws : List Write) (text : List ℕ) (reads : List (List ℕ)) (m : Contents) (before old after : Outside) (s : Status) (name : List ℕ)
-    → old.known ≡ Some m → old.faults ≡ before.faults → old.taken ≡ before.taken → IsCut ws name old after s → Stands (Finishes d ws text) reads m before after s
-cut_stands d ws text reads m before old after s name e n took b =
+cut_stands : (d : Bool) (ws : List Write) (text : List ℕ) (reads : List (List ℕ)) (m : Contents) (before after : Outside) (s : Status) (name : List ℕ)
+    → before.known ≡ Some m → IsCut ws name before after s → Stands (Finishes d ws text) reads m before after s
+cut_stands d ws text reads m before after s name e b =
     let faulted : IsFaulted (Finishes d ws text) reads m before after name =
-    record { counted = subst (λ (x : ℕ). Rose x after.faults) n b.counted; named = b.named; files = inr (b.files m e); output = subst (λ (x : Option (List ℕ)). Took (fault_line name) x after.taken) took b.said.1 } in
+    record { counted = b.counted; named = b.named; files = inr (b.files m e); output = b.said.1 } in
     elim b.said.0 [
       | inl due ↦ fault_stands (Finishes d ws text) reads m before after s name due.0 faulted
       | inr memory ↦ memory_stands (Finishes d ws text) reads m before after s memory.0 (inr (inr (name, faulted)))
     ]
 
-finishing_stands : (d : Bool) (ws : List Write) (text : List ℕ) (reads : List (List ℕ)) (m : Contents) (before old after : Outside) (s : Status)
-    → old.known ≡ Some m → old.faults ≡ before.faults → old.taken ≡ before.taken → old.sink_faults ≡ before.sink_faults → IsPerformed d ws text old after s → Stands (Finishes d ws text) reads m before after s
-finishing_stands d ws text reads m before old after s e n took k (inl w) =
-    said_stands d ws text reads m before after s (w.files m e) (w.counted ∙ n)
-    (subst (λ (x : Option (List ℕ)). Said d text x after.taken before.sink_faults after.sink_faults s) took (subst (λ (x : ℕ). Said d text old.taken after.taken x after.sink_faults s) k w.said))
-finishing_stands d ws text reads m before old after s e n took k (inr (inl (name, b))) = cut_stands d ws text reads m before old after s name e n took b
-finishing_stands d ws text reads m before old after s e n took k (inr (inr u)) =
-    memory_stands (Finishes d ws text) reads m before after s u.status (inl (record { files = u.files m e; counted = u.counted ∙ n; output = u.output ∙ took }))
+finishing_stands : (d : Bool) (ws : List Write) (text : List ℕ) (reads : List (List ℕ)) (m : Contents) (before after : Outside) (s : Status)
+    → before.known ≡ Some m → IsPerformed d ws text before after s → Stands (Finishes d ws text) reads m before after s
+finishing_stands d ws text reads m before after s e (inl w) = said_stands d ws text reads m before after s (w.files m e) w.counted w.said
+finishing_stands d ws text reads m before after s e (inr (inl (name, b))) = cut_stands d ws text reads m before after s name e b
+finishing_stands d ws text reads m before after s e (inr (inr u)) =
+    memory_stands (Finishes d ws text) reads m before after s u.status (inl (record { files = u.files m e; counted = u.counted; output = u.output }))
 
--- what was outside when the writing began is what was before, but for the last fault
-pub performed_stands : (work : Result Work Refused) (job : Job) (reads : List (List ℕ)) (m : Contents) (before old after : Outside) (s : Status)
-    → IsJobOf work job → old.known ≡ Some m → old.faults ≡ before.faults → old.taken ≡ before.taken → old.sink_faults ≡ before.sink_faults
-    → IsPerformed job.diverged (writes_of job.writes.items) job.text.items old after s → Stands (outcome_in work) reads m before after s
-performed_stands work job reads m before old after s (w, is, made) e n took k performed =
+-- what a command that is computed, and then done, leaves outside is what its status says
+pub performed_stands : (work : Result Work Refused) (job : Job) (reads : List (List ℕ)) (m : Contents) (before after : Outside) (s : Status)
+    → IsJobOf work job → before.known ≡ Some m → IsPerformed job.diverged (writes_of job.writes.items) job.text.items before after s → Stands (outcome_in work) reads m before after s
+performed_stands work job reads m before after s (w, is, made) e performed =
     subst (λ (x : Outcome). Stands x reads m before after s) (sym (ap outcome_in is ∙ made.outcome))
-    (finishing_stands job.diverged (writes_of job.writes.items) job.text.items reads m before old after s e n took k performed)
+    (finishing_stands job.diverged (writes_of job.writes.items) job.text.items reads m before after s e performed)
+
+-- no read failed
+pub performed_unread : (d : Bool) (ws : List Write) (text : List ℕ) (before after : Outside) (s : Status) → IsPerformed d ws text before after s → after.unread ≡ before.unread
+performed_unread d ws text before after s (inl w) = w.unread
+performed_unread d ws text before after s (inr (inl (name, b))) = b.unread
+performed_unread d ws text before after s (inr (inr u)) = u.unread
+
+said_unrefused : (d : Bool) (text : List ℕ) (old new : Option (List ℕ)) (from to : ℕ) (s : Status) → Said d text old new from to s → is_refusal s ≡ true → ⊥
+said_unrefused d text old new from to Status.Done said e = true≢false (sym e)
+said_unrefused d text old new from to Status.Diverged said e = true≢false (sym e)
+said_unrefused d text old new from to Status.Sink said e = true≢false (sym e)
+said_unrefused d text old new from to Status.Memory said e = true≢false (sym e)
+said_unrefused d text old new from to Status.Usage said e = said
+said_unrefused d text old new from to Status.Plan said e = said
+said_unrefused d text old new from to Status.Image said e = said
+said_unrefused d text old new from to Status.Grammar said e = said
+said_unrefused d text old new from to Status.Fault said e = said
+said_unrefused d text old new from to Status.Source said e = said
+said_unrefused d text old new from to Status.Absent said e = said
+
+-- and nothing is refused
+pub performed_unrefused : (d : Bool) (ws : List Write) (text : List ℕ) (before after : Outside) (s : Status) → IsPerformed d ws text before after s → is_refusal s ≡ true → ⊥
+performed_unrefused d ws text before after s (inl w) e = said_unrefused d text before.taken after.taken before.sink_faults after.sink_faults s w.said e
+performed_unrefused d ws text before after s (inr (inl (name, b))) e = elim b.said.0 [
+  | inl due ↦ true≢false (sym e ∙ ap is_refusal due.0)
+  | inr memory ↦ true≢false (sym e ∙ ap is_refusal memory.0)
+]
+performed_unrefused d ws text before after s (inr (inr u)) e = true≢false (sym e ∙ ap is_refusal u.status)
 
 -- a run comes to what its task is to come to
 pub run_is : (task : Result Task Refused) (job : Job) → IsTaskJob task job → IsJobOf (task >> λ t. Ok (Running t)) job
@@ -86,6 +111,18 @@ run_is task job (t, is, run) = (
   record { within = run.limits; outcome = λ i. Finishes (sym run.diverged i) (sym run.writes i) (sym run.text i) },
 )
 
+-- where the task of a run can't be had, the run can't either
+pub run_halts : (task : Contents → Result Task Refused) (reads : Contents → List (List ℕ)) (old new : Seen) (h : Halt) → Halts task reads old new h → Halts (λ m. task m >> λ t. Ok (Running t)) reads old new h
+run_halts task reads old new (Halt.Refused why text) halts = record {
+  known = λ m e. (ap (λ (o : Result Task Refused). o >> λ t. Ok (Running t)) (halts.known m e).0, (halts.known m e).1);
+  unknown = halts.unknown;
+  other = halts.other;
+  kept = halts.kept;
+  form = halts.form;
+}
+run_halts task reads old new (Halt.Fault text) halts = halts
+run_halts task reads old new Halt.OutOfMemory halts = halts
+
 -- what a command that is done says
 pub done_is : (words : List (List ℕ)) (m : Contents) (before after : Outside) (s : Status) (command : CommandValues) (job : Job)
     → command_of words ≡ Some command → IsJobOf (work_of words m) job → Stands (outcome_of words m) (reads_of words m) m before after s → is_done s ≡ true
@@ -94,35 +131,42 @@ done_is words m before after s command job asks (w, is, made) stands done =
     done_at m before after s command w (sym (work_is words m command asks) ∙ is) made.within
     (subst (λ (o : Outcome). IsFinished o m before after s) (ap outcome_in is) (finished (outcome_of words m) (reads_of words m) m before after s stands done))
 
--- where nothing is read or written, and nothing diverges
-not_done : (s : Status) → s ≡ Status.Done → 0 < code_of s → ⊥
-not_done s e over = omega (arith, over, ap code_of e)
+-- ---- a drill
 
-none_fails : (m : Contents) (known : Option Contents) (name : List ℕ) → ((known ≡ Some m) × IsReadNext [] m name) ⊎ CutAt [] m known name → ⊥
-none_fails m known name (inl (same, next)) = next
-none_fails m known name (inr (i, (w, at, named, same))) = none-some w at
+abbrev IsDrillEnd : Status → Type 0
+IsDrillEnd s = (s ≡ Status.Done) ⊎ ((s ≡ Status.Sink) ⊎ (s ≡ Status.Memory))
 
-all_said : (text : List ℕ) (m : Contents) (before after : Outside) (s : Status) → Stands (Finishes false [] text) [] m before after s → (s ≡ Status.Done) ⊎ ((s ≡ Status.Sink) ⊎ (s ≡ Status.Memory))
-all_said text m before after Status.Done e = inl refl
-all_said text m before after Status.Sink e = inr (inl refl)
-all_said text m before after Status.Memory e = inr (inr refl)
-all_said text m before after Status.Diverged e = absurd (not_done Status.Diverged e.status (omega arith))
-all_said text m before after Status.Usage e = absurd (not_done Status.Usage e.status (omega arith))
-all_said text m before after Status.Plan e = absurd (not_done Status.Plan e.status (omega arith))
-all_said text m before after Status.Image e = absurd (not_done Status.Image e.status (omega arith))
-all_said text m before after Status.Grammar e = absurd (not_done Status.Grammar e.status (omega arith))
-all_said text m before after Status.Source e = absurd (not_done Status.Source e.status (omega arith))
-all_said text m before after Status.Absent e = absurd (not_done Status.Absent e.status (omega arith))
-all_said text m before after Status.Fault (name, f) = absurd (none_fails m after.known name f.files)
+no_divergence : (d : Bool) → Status.Done ≡ (if d then Status.Diverged else Status.Done) → d ≡ true → ⊥
+no_divergence true e is = omega (arith, ap code_of e)
+no_divergence false e is = true≢false (sym is)
 
--- a drill ends well, or by the sink, or by want of memory
-pub drill_ends : (words : List (List ℕ)) (m : Contents) (before after : Outside) (s : Status) (number : ℕ)
-    → command_of words ≡ Some (Drill number) → Stands (outcome_of words m) (reads_of words m) m before after s
-    → (s ≡ Status.Done) ⊎ ((s ≡ Status.Sink) ⊎ (s ≡ Status.Memory))
-drill_ends words m before after s number asks stands =
-    all_said (drill_text number) m before after s
-    (subst (λ (o : Outcome). Stands o [] m before after s) (ap outcome_in (work_is words m (Drill number) asks))
-    (subst (λ (reads : List (List ℕ)). Stands (outcome_of words m) reads m before after s) (ap (reads_of_command m) asks) stands))
+drill_said : (d : Bool) (text : List ℕ) (old new : Option (List ℕ)) (from to : ℕ) (s : Status) → Status.Done ≡ (if d then Status.Diverged else Status.Done) → Said d text old new from to s → IsDrillEnd s
+drill_said d text old new from to Status.Done e said = inl refl
+drill_said d text old new from to Status.Diverged e said = absurd (no_divergence d e said.0)
+drill_said d text old new from to Status.Sink e said = inr (inl refl)
+drill_said d text old new from to Status.Memory e said = inr (inr refl)
+drill_said d text old new from to Status.Usage e said = absurd said
+drill_said d text old new from to Status.Plan e said = absurd said
+drill_said d text old new from to Status.Image e said = absurd said
+drill_said d text old new from to Status.Grammar e said = absurd said
+drill_said d text old new from to Status.Fault e said = absurd said
+drill_said d text old new from to Status.Source e said = absurd said
+drill_said d text old new from to Status.Absent e said = absurd said
+
+none_due : (ws : List Write) (i : ℕ) (w : Write) → [] ≡ ws → slice_get ws i ≡ Some w → ⊥
+none_due ws i w none at = none-some w (ap (λ (xs : List Write). slice_get xs i) none ∙ at)
+
+-- a drill that is computed writes nothing: it ends well, or by the sink, or since memory ran out, and no file failed
+pub drill_performed : (number : ℕ) (job : Job) (before after : Outside) (s : Status) → IsJob (Drilling number) job → IsPerformed job.diverged (writes_of job.writes.items) job.text.items before after s
+    → IsDrillEnd s × (after.faults ≡ before.faults)
+drill_performed number job before after s made (inl w) =
+    (drill_said job.diverged job.text.items before.taken after.taken before.sink_faults after.sink_faults s (ap status_in made.outcome) w.said, w.counted)
+drill_performed number job before after s made (inr (inl (name, b))) = absurd (none_due (writes_of job.writes.items) b.due.0 b.due.1 (ap writes_in made.outcome) b.due.2)
+drill_performed number job before after s made (inr (inr u)) = (inr (inr u.status), u.counted)
+
+-- a drill that isn't computed ends since memory ran out
+pub drill_halted : (h : Halt) (old new : Option (List ℕ)) (from to : ℕ) (s : Status) → h ≡ Halt.OutOfMemory → Stopped h old new from to s → IsDrillEnd s
+drill_halted h old new from to s is stopped = let memory : Stopped Halt.OutOfMemory old new from to s = subst (λ (x : Halt). Stopped x old new from to s) is stopped in inr (inr memory.0)
 
 -- ---- a command that stops
 
@@ -143,40 +187,97 @@ took_none : (text : List ℕ) (old new : Option (List ℕ)) → new ≡ old → 
 took_none text None new e = (0, omega arith, e)
 took_none text (Some t) new e = (0, omega arith, e ∙ ap Some (sym (append-nil t)))
 
--- a read that failed, before anything was written
-fault_is : (known : Option Contents) (o : Outcome) (reads : Contents → List (List ℕ)) (m : Contents) (before after : Outside) (name : List ℕ) → known ≡ Some m → after.known ≡ Some m
-    → IsFault known reads before.faults after.faults after.last name → Took (fault_line name) before.taken after.taken → IsFaulted o (reads m) m before after name
-fault_is known o reads m before after name e same f took = record { counted = f.counted; named = f.named; files = inl (same, f.next m e); output = took }
+no_memory_absent : (s : Status) → s ≡ Status.Memory → s ≡ Status.Absent → ⊥
+no_memory_absent s e f = omega (arith, ap code_of (sym e ∙ f))
 
--- what a command that halts before anything is written leaves outside is what its status says
-pub halted_stands : (task : Contents → Result Work Refused) (reads : Contents → List (List ℕ)) (m : Contents) (before after : Outside) (h : Halt) (s : Status)
-    → before.known ≡ Some m → after.known ≡ before.known → Halts before.known task reads before.faults after.faults after.last h
-    → Stopped h before.taken after.taken before.sink_faults after.sink_faults s → Stands (outcome_in (task m)) (reads m) m before after s
-halted_stands task reads m before after (Halt.Refused why text) s e same halts stopped =
-    let o : outcome_in (task m) ≡ Refuses why text.items = ap outcome_in (halts.0 m e) in
-    let n = halts.1 m e in
-    elim stopped.0 [
-      | inl due ↦
-          subst (Stands (outcome_in (task m)) (reads m) m before after) (sym due.0)
-          (subst (λ (x : Outcome). Stands x (reads m) m before after (status_of why)) (sym o) (refused_stands why text.items (reads m) m before after (same ∙ e) n stopped.1))
-      | inr memory ↦
-          memory_stands (outcome_in (task m)) (reads m) m before after s memory.0
-          (subst (λ (x : Outcome). IsShort x (reads m) m before after) (sym o) (inr (inl (record { files = same ∙ e; counted = n; output = stopped.1 }))))
-    ]
-halted_stands task reads m before after (Halt.Fault text) s e same halts stopped =
-    let name = halts.0 in
-    let took : Took (fault_line name) before.taken after.taken = subst (λ (x : List ℕ). Took x before.taken after.taken) halts.1 stopped.1 in
-    let faulted = fault_is before.known (outcome_in (task m)) reads m before after name e (same ∙ e) halts.2 took in
-    elim stopped.0 [
-      | inl due ↦ fault_stands (outcome_in (task m)) (reads m) m before after s name due.0 faulted
-      | inr memory ↦ memory_stands (outcome_in (task m)) (reads m) m before after s memory.0 (inr (inr (name, faulted)))
-    ]
-halted_stands task reads m before after Halt.OutOfMemory s e same (inl steady) stopped =
-    memory_stands (outcome_in (task m)) (reads m) m before after s stopped.0
-    (inl (record { files = none_written _ m after.known (same ∙ e); counted = steady m e; output = stopped.1 }))
-halted_stands task reads m before after Halt.OutOfMemory s e same (inr (name, f)) stopped =
-    memory_stands (outcome_in (task m)) (reads m) m before after s stopped.0
-    (inr (inr (name, fault_is before.known (outcome_in (task m)) reads m before after name e (same ∙ e) f (took_none (fault_line name) before.taken after.taken stopped.1))))
+no_fault_absent : (s : Status) → s ≡ Status.Fault → s ≡ Status.Absent → ⊥
+no_fault_absent s e f = omega (arith, ap code_of (sym e ∙ f))
+
+absent_is : (why : Refusal) → status_of why ≡ Status.Absent → why ≡ Refusal.Absent
+absent_is Refusal.Usage e = absurd (omega (arith, ap code_of e))
+absent_is Refusal.Plan e = absurd (omega (arith, ap code_of e))
+absent_is Refusal.Image e = absurd (omega (arith, ap code_of e))
+absent_is Refusal.Grammar e = absurd (omega (arith, ap code_of e))
+absent_is Refusal.Source e = absurd (omega (arith, ap code_of e))
+absent_is Refusal.Absent e = refl
+
+-- A command halts before anything is written: the files were seen as `old` and then as `new`. The sink had taken so much, and
+-- then so much, and so its count of faults.
+module _ (old new : Seen) (before after : Option (List ℕ)) (from to : ℕ) where
+  -- a read that failed
+  fault_is : (o : Outcome) (reads : Contents → List (List ℕ)) (m : Contents) (name : List ℕ) → old.known ≡ Some m → IsFault reads name old new → Took (fault_line name) before after
+      → IsFaulted o (reads m) m (outside old before from) (outside new after to) name
+  fault_is o reads m name e f took = record { counted = f.unread.counted; named = f.unread.named; files = inl (f.unread.kept.known ∙ e, f.next m e); output = took }
+
+  -- what it leaves outside is what its status says
+  pub halted_stands : (task : Contents → Result Work Refused) (reads : Contents → List (List ℕ)) (m : Contents) (h : Halt) (s : Status) → old.known ≡ Some m → Halts task reads old new h
+      → Stopped h before after from to s → Stands (outcome_in (task m)) (reads m) m (outside old before from) (outside new after to) s
+  halted_stands task reads m (Halt.Refused why text) s e halts stopped =
+      let was = outside old before from in
+      let is = outside new after to in
+      let o : outcome_in (task m) ≡ Refuses why text.items = ap outcome_in (halts.known m e).0 in
+      let same = (halts.known m e).1 in
+      let known = ap (λ (x : Seen). x.known) same ∙ e in
+      let n = ap (λ (x : Seen). x.faults) same in
+      elim stopped.0 [
+        | inl due ↦
+            subst (Stands (outcome_in (task m)) (reads m) m was is) (sym due.0)
+            (subst (λ (x : Outcome). Stands x (reads m) m was is (status_of why)) (sym o) (refused_stands why text.items (reads m) m was is known n stopped.1))
+        | inr memory ↦
+            memory_stands (outcome_in (task m)) (reads m) m was is s memory.0
+            (subst (λ (x : Outcome). IsShort x (reads m) m was is) (sym o) (inr (inl (record { files = known; counted = n; output = stopped.1 }))))
+      ]
+  halted_stands task reads m (Halt.Fault text) s e halts stopped =
+      let was = outside old before from in
+      let is = outside new after to in
+      let name = halts.0 in
+      let took : Took (fault_line name) before after = subst (λ (x : List ℕ). Took x before after) halts.1 stopped.1 in
+      let faulted = fault_is (outcome_in (task m)) reads m name e halts.2 took in
+      elim stopped.0 [
+        | inl due ↦ fault_stands (outcome_in (task m)) (reads m) m was is s name due.0 faulted
+        | inr memory ↦ memory_stands (outcome_in (task m)) (reads m) m was is s memory.0 (inr (inr (name, faulted)))
+      ]
+  halted_stands task reads m Halt.OutOfMemory s e (inl same) stopped =
+      memory_stands (outcome_in (task m)) (reads m) m (outside old before from) (outside new after to) s stopped.0
+      (inl (record { files = none_written _ m new.known (ap (λ (x : Seen). x.known) same ∙ e); counted = ap (λ (x : Seen). x.faults) same; output = stopped.1 }))
+  halted_stands task reads m Halt.OutOfMemory s e (inr (name, f)) stopped =
+      memory_stands (outcome_in (task m)) (reads m) m (outside old before from) (outside new after to) s stopped.0
+      (inr (inr (name, fault_is (outcome_in (task m)) reads m name e f (took_none (fault_line name) before after stopped.1))))
+
+  -- no file has changed
+  pub halted_kept : (task : Contents → Result Work Refused) (reads : Contents → List (List ℕ)) (h : Halt) → Halts task reads old new h → IsKept old new
+  halted_kept task reads (Halt.Refused why text) halts = halts.kept
+  halted_kept task reads (Halt.Fault text) halts = halts.2.unread.kept
+  halted_kept task reads Halt.OutOfMemory (inl same) = record { known = ap (λ (x : Seen). x.known) same; changes = ap (λ (x : Seen). x.changes) same }
+  halted_kept task reads Halt.OutOfMemory (inr (name, f)) = f.unread.kept
+
+  -- its refusal is said in the form of its kind
+  pub halted_line : (task : Contents → Result Work Refused) (reads : Contents → List (List ℕ)) (h : Halt) (s : Status) → Halts task reads old new h → Stopped h before after from to s
+      → is_refusal s ≡ true → IsRefusalSaid s before after from to
+  halted_line task reads (Halt.Refused why text) s halts stopped e = elim stopped.0 [
+    | inl due ↦ (why, text.items, due.0, halts.form, stopped.1, due.1)
+    | inr memory ↦ absurd (true≢false (sym e ∙ ap is_refusal memory.0))
+  ]
+  halted_line task reads (Halt.Fault text) s halts stopped e = elim stopped.0 [
+    | inl due ↦ absurd (true≢false (sym e ∙ ap is_refusal due.0))
+    | inr memory ↦ absurd (true≢false (sym e ∙ ap is_refusal memory.0))
+  ]
+  halted_line task reads Halt.OutOfMemory s halts stopped e = absurd (true≢false (sym e ∙ ap is_refusal stopped.0))
+
+  -- a name that is said to be absent, where no contents are known, is the last fault's
+  pub halted_absent : (task : Contents → Result Work Refused) (reads : Contents → List (List ℕ)) (h : Halt) (s : Status) → Halts task reads old new h → Stopped h before after from to s
+      → old.known ≡ None → s ≡ Status.Absent → (Rose from to → ⊥) → (name : List ℕ) × IsLast new.last name × TookAll (absent_line name) before after
+  halted_absent task reads (Halt.Refused why text) s halts stopped none e whole = elim stopped.0 [
+    | inl due ↦
+        let absent = halts.unknown none (absent_is why (sym due.0 ∙ e)) in
+        (absent.0, absent.2.named, subst (λ (t : List ℕ). TookAll t before after) absent.1 (due.1 whole))
+    | inr memory ↦ absurd (no_memory_absent s memory.0 e)
+  ]
+  halted_absent task reads (Halt.Fault text) s halts stopped none e whole = elim stopped.0 [
+    | inl due ↦ absurd (no_fault_absent s due.0 e)
+    | inr memory ↦ absurd (no_memory_absent s memory.0 e)
+  ]
+  halted_absent task reads Halt.OutOfMemory s halts stopped none e whole = absurd (no_memory_absent s stopped.0 e)
 
 -- ---- a fault, and the line on it
 
@@ -232,14 +333,14 @@ module _ (before after : Option (List ℕ)) (from to : ℕ) (s : Status) where
   stopped_undone Halt.OutOfMemory stopped done = true≢false (sym done ∙ ap is_done stopped.0)
 
   -- where it halted by a fault of a read, it says the last fault's line, whole where the sink had no fault
-  pub stopped_fault : (known : Option Contents) (task : Contents → Result Work Refused) (reads : Contents → List (List ℕ)) (old new : ℕ) (last : Option (List ℕ)) (h : Halt)
-      → Halts known task reads old new last h → Stopped h before after from to s → s ≡ Status.Fault → (Rose from to → ⊥) → FaultSaid last before after
-  stopped_fault known task reads old new last (Halt.Refused why text) halts stopped e whole = elim stopped.0 [
+  pub stopped_fault : (task : Contents → Result Work Refused) (reads : Contents → List (List ℕ)) (old new : Seen) (h : Halt)
+      → Halts task reads old new h → Stopped h before after from to s → s ≡ Status.Fault → (Rose from to → ⊥) → FaultSaid new.last before after
+  stopped_fault task reads old new (Halt.Refused why text) halts stopped e whole = elim stopped.0 [
     | inl due ↦ absurd (no_refusal_fault why (sym due.0 ∙ e))
     | inr memory ↦ absurd (no_memory_fault s memory.0 e)
   ]
-  stopped_fault known task reads old new last (Halt.Fault text) halts stopped e whole = elim stopped.0 [
-    | inl due ↦ (halts.0, halts.2.named, subst (λ (t : List ℕ). TookAll t before after) halts.1 (due.1 whole))
+  stopped_fault task reads old new (Halt.Fault text) halts stopped e whole = elim stopped.0 [
+    | inl due ↦ (halts.0, halts.2.unread.named, subst (λ (t : List ℕ). TookAll t before after) halts.1 (due.1 whole))
     | inr memory ↦ absurd (no_memory_fault s memory.0 e)
   ]
-  stopped_fault known task reads old new last Halt.OutOfMemory halts stopped e whole = absurd (no_memory_fault s stopped.0 e)
+  stopped_fault task reads old new Halt.OutOfMemory halts stopped e whole = absurd (no_memory_fault s stopped.0 e)

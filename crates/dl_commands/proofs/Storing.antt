@@ -6,6 +6,7 @@ use Rattle.std.specs.Option.{option_map}
 use Rattle.std.proofs.lemmas.List.{length-map}
 use Rattle.std.proofs.lemmas.Option.{slice_get-map}
 use Rattle.dl_files.specs.Contents.{Contents, with_file, SameBut}
+use Rattle.dl_files.specs.Seen.{Seen}
 use Rattle.spec_program.specs.Ends.{IsBegun, Partly}
 use Rattle.spec_program.specs.Writes.{Write, written}
 use Rattle.dl_commands.specs.declared.writing.NamedContent.{NamedContent}
@@ -41,12 +42,14 @@ same_but_at name shown old known new named same s =
     subst (λ (n : List ℕ). SameBut n old new) named (subst (λ (t : Option Contents). SameBut shown t new) same s)
 
 -- where memory ran out in write i, the first i are done, and of that one a part or nothing
-pub cut_short : (xs : List NamedContent) (i : ℕ) (x : NamedContent) (m : Contents) (shown : List ℕ) (known new : Option Contents) → i < length xs → x ≡ get_or xs i x → shown ≡ string_bytes x.name
-    → known ≡ Some (written (take i (writes_of xs)) m) → IsCutShort x.content shown known new → Partly (writes_of xs) m new
-cut_short xs i x m shown known new h e named are (inl same) = (i, omega (arith, h, length-map xs write_of), inl (same ∙ are))
-cut_short xs i x m shown known new h e named are (inr (pieces, k, is)) = (
-  i,
-  omega (arith, h, length-map xs write_of),
-  inr (subst (λ (o : Option Write). IsBegun o (written (take i (writes_of xs)) m) new) (sym (write_at xs i x h e))
-      (pieces, k, is ∙ (λ j. with_file (named j) (take k (bytes_in x.content)) (are j)))),
-)
+pub cut_short : (xs : List NamedContent) (i : ℕ) (x : NamedContent) (m : Contents) (shown : List ℕ) (mid new : Seen) → i < length xs → x ≡ get_or xs i x → shown ≡ string_bytes x.name
+    → mid.known ≡ Some (written (take i (writes_of xs)) m) → IsCutShort x.content shown mid new → Partly (writes_of xs) m new.known
+cut_short xs i x m shown mid new h e named are short = elim short.known [
+  | inl same ↦ (i, omega (arith, h, length-map xs write_of), inl (same ∙ are))
+  | inr part ↦ (
+    i,
+    omega (arith, h, length-map xs write_of),
+    inr (subst (λ (o : Option Write). IsBegun o (written (take i (writes_of xs)) m) new.known) (sym (write_at xs i x h e))
+        (part.0, part.1, part.2 ∙ (λ j. with_file (named j) (take part.1 (bytes_in x.content)) (are j)))),
+  )
+]

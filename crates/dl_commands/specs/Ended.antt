@@ -5,7 +5,9 @@ use Rattle.dl_files.specs.Count.{Rose}
 use Rattle.spec_program.specs.declared.status.Status.{Status}
 use Rattle.spec_program.specs.Statuses.{status_of}
 use Rattle.spec_program.specs.Ends.{Took, TookAll}
+use Rattle.spec_program.specs.declared.status.Refusal.{Refusal}
 use Rattle.dl_gather.specs.declared.halt.Halt.{Halt}
+use Rattle.dl_gather.specs.Forms.{IsLineOf}
 
 -- the text of a command that is done, whose replays diverged or not
 abbrev pub Said : (diverged : Bool) → (text : List ℕ) → (old new : Option (List ℕ)) → (from to : ℕ) → Status → Type 0
@@ -35,3 +37,8 @@ abbrev pub Stopped : Halt → (old new : Option (List ℕ)) → (from to : ℕ) 
 Stopped (Halt.Refused why text) old new from to s = SaidLine (status_of why) text.items old new from to s
 Stopped (Halt.Fault text) old new from to s = SaidLine Status.Fault text.items old new from to s
 Stopped Halt.OutOfMemory old new from to s = (s ≡ Status.Memory) × (new ≡ old) × (to ≡ from)
+
+-- the line of a refusal of this status is said, in the form of its kind, whole where the sink's count did not rise
+abbrev pub IsRefusalSaid : Status → (old new : Option (List ℕ)) → (from to : ℕ) → Type 0
+IsRefusalSaid s old new from to =
+    (why : Refusal) × (line : List ℕ) × (s ≡ status_of why) × IsLineOf why line × Took line old new × IsDue line old new from to

@@ -1,5 +1,5 @@
 -- What is left to be done, once it is computed.
-use Rattle.std.specs.Prelude.{◌≡◌, ℕ, Bool, true, false, List, map, string_bytes, Result, Ok}
+use Rattle.std.specs.Prelude.{◌≡◌, ℕ, Bool, true, false, List, map, string_bytes, Result, Ok, Err}
 use Rattle.dl_plan.specs.Values.{PlanValues}
 use Rattle.dl_run.specs.Logs.{log_bytes_if}
 use Rattle.spec_protocol.specs.declared.event.Event.{Event}
@@ -10,8 +10,9 @@ use Rattle.spec_run.specs.Texts.{summary_text}
 use Rattle.spec_program.specs.Outcomes.{Finishes, outcome_for, writes_for}
 use Rattle.spec_program.specs.Stages.{Refused}
 use Rattle.spec_program.specs.Tasks.{Task, setup_in}
-use Rattle.spec_program.specs.Works.{Work, IsWithin}
+use Rattle.spec_program.specs.Works.{Work, Drilling, IsWithin}
 use Rattle.spec_program.specs.Writes.{Write}
+use Rattle.dl_gather.specs.declared.halt.Halt.{Halt}
 use Rattle.dl_commands.specs.declared.job.Job.{Job}
 use Rattle.dl_commands.specs.declared.writing.Content.{Content}
 use Rattle.dl_commands.specs.declared.writing.NamedContent.{NamedContent}
@@ -51,3 +52,8 @@ pub record IsJob (work : Work) (job : Job) : Type 0 where
 -- there is something to do, and this is what it comes to
 abbrev pub IsJobOf : Result Work Refused → Job → Type 0
 IsJobOf work job = (w : Work) × (work ≡ Ok w) × IsJob w job
+
+-- the drill of that number is computed, or memory ran out
+abbrev pub IsDrill : (number : ℕ) → Result Job Halt → Type 0
+IsDrill number (Ok job) = IsJob (Drilling number) job
+IsDrill number (Err halt) = halt ≡ Halt.OutOfMemory

@@ -1,5 +1,5 @@
 -- How the writes and the text of a command are done.
-use Rattle.std.specs.Prelude.{◌≡◌, ◌⊎◌, ℕ, Bool, List, Some}
+use Rattle.std.specs.Prelude.{◌≡◌, ◌⊎◌, ℕ, Bool, List, slice_get, Some}
 use Rattle.dl_files.specs.Contents.{Contents, IsLast}
 use Rattle.dl_files.specs.Count.{Rose}
 use Rattle.spec_program.specs.declared.status.Status.{Status}
@@ -13,12 +13,15 @@ use Rattle.dl_commands.specs.Ended.{Said, SaidLine}
 pub record IsWritten (diverged : Bool) (writes : List Write) (text : List ℕ) (old new : Outside) (s : Status) : Type 0 where
   pub files : (m : Contents) → old.known ≡ Some m → new.known ≡ Some (written writes m)
   pub counted : new.faults ≡ old.faults
+  pub unread : new.unread ≡ old.unread
   pub said : Said diverged text old.taken new.taken old.sink_faults new.sink_faults s
 
 -- the write to that name failed, and this is said
 pub record IsCut (writes : List Write) (name : List ℕ) (old new : Outside) (s : Status) : Type 0 where
+  pub due : (i : ℕ) × (w : Write) × (slice_get writes i ≡ Some w) × (w.name ≡ name)
   pub counted : Rose old.faults new.faults
   pub named : IsLast new.last name
+  pub unread : new.unread ≡ old.unread
   pub files : (m : Contents) → old.known ≡ Some m → CutAt writes m new.known name
   pub said : SaidLine Status.Fault (fault_line name) old.taken new.taken old.sink_faults new.sink_faults s
 
@@ -26,6 +29,7 @@ pub record IsCut (writes : List Write) (name : List ℕ) (old new : Outside) (s 
 pub record IsUnwritten (writes : List Write) (old new : Outside) (s : Status) : Type 0 where
   pub files : (m : Contents) → old.known ≡ Some m → Partly writes m new.known
   pub counted : new.faults ≡ old.faults
+  pub unread : new.unread ≡ old.unread
   pub status : s ≡ Status.Memory
   pub output : new.taken ≡ old.taken
   pub steady : new.sink_faults ≡ old.sink_faults

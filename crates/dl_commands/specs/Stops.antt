@@ -1,20 +1,52 @@
--- How writing stops before its end.
-use Rattle.std.specs.Prelude.{◌≡◌, ◌⊎◌, ℕ, true, List, take, slice_get, Option, Some}
-use Rattle.dl_files.specs.Contents.{Contents, SameBut, IsLast, with_file}
+-- How writing ends, or stops before its end. The files were seen as `old` before, and as `new` after it.
+use Rattle.std.specs.Prelude.{◌≡◌, ◌⊎◌, ℕ, true, List, take, slice_get, Some}
+use Rattle.dl_files.specs.Contents.{Contents, IsLast, SameBut, with_file}
 use Rattle.dl_files.specs.Count.{Rose}
+use Rattle.dl_files.specs.declared.FileError.{FileError}
+use Rattle.dl_files.specs.Seen.{Seen, IsUnwritten}
 use Rattle.spec_program.specs.Writes.{Write, written}
 use Rattle.spec_program.specs.Ends.{Partly}
 use Rattle.dl_commands.specs.declared.writing.Content.{Content}
 use Rattle.dl_commands.specs.declared.writing.Stop.{Stop}
 use Rattle.dl_commands.specs.Jobs.{bytes_in, is_in_pieces}
 
--- memory ran out in the write of a file: nothing has changed, or, where it is written in pieces, the first of its bytes stand
-abbrev pub IsCutShort : Content → (name : List ℕ) → (old new : Option Contents) → Type 0
-IsCutShort content name old new =
-    (new ≡ old) ⊎ ((is_in_pieces content ≡ true) × (k : ℕ) × (new ≡ with_file name (take k (bytes_in content)) old))
+-- ---- one file
 
--- a write failed, or memory ran out, after the first writes
-abbrev pub Stopped : (known : Option Contents) → List Write → (after : Option Contents) → (old new : ℕ) → (last : Option (List ℕ)) → Stop → Type 0
-Stopped known writes after old new last (Stop.Failed i) =
-    Rose old new × ((w : Write) × (slice_get writes i ≡ Some w) × IsLast last w.name × ((m : Contents) → known ≡ Some m → SameBut w.name (Some (written (take i writes) m)) after))
-Stopped known writes after old new last Stop.OutOfMemory = (new ≡ old) × ((m : Contents) → known ≡ Some m → Partly writes m after)
+-- memory ran out in the write of a file: nothing has changed, or, where it is written in pieces, the first of its bytes stand
+pub record IsCutShort (content : Content) (name : List ℕ) (old new : Seen) : Type 0 where
+  pub known : (new.known ≡ old.known) ⊎ ((is_in_pieces content ≡ true) × (k : ℕ) × (new.known ≡ with_file name (take k (bytes_in content)) old.known))
+  pub faults : new.faults ≡ old.faults
+  pub unread : new.unread ≡ old.unread
+
+-- the write of a file stopped so
+abbrev pub ContentStops : Content → (name : List ℕ) → (old new : Seen) → FileError → Type 0
+ContentStops content name old new FileError.Failed = IsUnwritten name old new
+ContentStops content name old new FileError.Absent = ⊥
+ContentStops content name old new FileError.OutOfMemory = IsCutShort content name old new
+
+-- ---- all files
+
+-- each is written
+pub record AreWritten (writes : List Write) (old new : Seen) : Type 0 where
+  pub known : (m : Contents) → old.known ≡ Some m → new.known ≡ Some (written writes m)
+  pub faults : new.faults ≡ old.faults
+  pub unread : new.unread ≡ old.unread
+
+-- the first are written, and then the write of index i failed
+pub record IsCutAt (writes : List Write) (i : ℕ) (old new : Seen) : Type 0 where
+  pub write : Write
+  pub at : slice_get writes i ≡ Some write
+  pub counted : Rose old.faults new.faults
+  pub named : IsLast new.last write.name
+  pub known : (m : Contents) → old.known ≡ Some m → SameBut write.name (Some (written (take i writes) m)) new.known
+  pub unread : new.unread ≡ old.unread
+
+-- the first are written, and then memory ran out
+pub record AreCutShort (writes : List Write) (old new : Seen) : Type 0 where
+  pub known : (m : Contents) → old.known ≡ Some m → Partly writes m new.known
+  pub faults : new.faults ≡ old.faults
+  pub unread : new.unread ≡ old.unread
+
+abbrev pub Stopped : List Write → (old new : Seen) → Stop → Type 0
+Stopped writes old new (Stop.Failed i) = IsCutAt writes i old new
+Stopped writes old new Stop.OutOfMemory = AreCutShort writes old new

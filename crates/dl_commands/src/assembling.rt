@@ -21,32 +21,22 @@ pub fn assemble_source<F: Files>(
     source: &str,
     name: &str,
 ) -> Result<Job, Halt>
-    ensures job { IfOk result (λ job. (m : Contents) → F.known files.old ≡ Some m
+    ensures job { IfOk result (λ job. (m : Contents) → (F.seen files.old).known ≡ Some m
         → IsJobOf (asm_at m source.now name.now) job) }
-    ensures halt { IfErr result (Halts (F.known files.old) (λ m. asm_at m source.now name.now)
-        (λ m. source.now ∷ []) (F.count files.old) (F.count files.new) (F.last_fault files.new)) }
+    ensures halt { IfErr result (Halts (λ m. asm_at m source.now name.now)
+        (λ m. source.now ∷ []) (F.seen files.old) (F.seen files.new)) }
     ensures usage { IfErr result IsNotUsage }
-    ensures kept { F.known files.new ≡ F.known files.old }
-    ensures steady { OnOk result (F.count files.new ≡ F.count files.old) }
+    ensures same { OnOk result (F.seen files.new ≡ F.seen files.old) }
 {
-    let bytes = match read_file(alloc, files, source) {
-        Ok(bytes) => bytes,
-        Err(halt) => return Err(halt),
-    };
-    match assemble_bytes(alloc, &bytes, name) {
-        Ok(job) => Ok(job),
-        Err(halt) => Err(halt),
-    }
+    let bytes = read_file(alloc, files, source)?;
+    assemble_bytes(alloc, &bytes, name)
 }
 
 fn assemble_bytes(alloc: Global, bytes: &[u8], name: &str) -> Result<Job, Halt>
     ensures job { IfOk result (IsJobOf (asm_in name.now bytes.now)) }
     ensures halt { IfErr result (Refuses (asm_in name.now bytes.now)) }
 {
-    let file = match assembly(alloc, bytes) {
-        Ok(file) => file,
-        Err(halt) => return Err(halt),
-    };
+    let file = assembly(alloc, bytes)?;
     match assembled_job(alloc, file, name) {
         Ok(job) => Ok(job),
         Err(_) => Err(Halt::OutOfMemory),

@@ -26,18 +26,9 @@ pub fn compute(alloc: Global, plan: &Plan, inputs: Inputs) -> Result<Job, Halt>
     ensures job { IfOk result (IsTaskJob (task_read (plan_view plan.now) (inputs_view inputs))) }
     ensures halt { IfErr result (Refuses (task_read (plan_view plan.now) (inputs_view inputs))) }
 {
-    let mut spheres = match load_spheres(alloc, &inputs.spheres) {
-        Ok(spheres) => spheres,
-        Err(halt) => return Err(halt),
-    };
-    match give_roles(alloc, inputs.spheres, &mut spheres) {
-        Ok(()) => {}
-        Err(halt) => return Err(halt),
-    }
-    let schedule = match read_events(alloc, plan.sizes.seed, inputs.schedule) {
-        Ok(schedule) => schedule,
-        Err(halt) => return Err(halt),
-    };
+    let mut spheres = load_spheres(alloc, &inputs.spheres)?;
+    give_roles(alloc, inputs.spheres, &mut spheres)?;
+    let schedule = read_events(alloc, plan.sizes.seed, inputs.schedule)?;
     let setup = setup_of(plan, inputs.input, spheres);
     match run(alloc, plan, setup, &schedule) {
         Ok(job) => Ok(job),

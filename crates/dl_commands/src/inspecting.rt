@@ -17,32 +17,22 @@ use std::alloc::Global;
 
 /// The log in that file, inspected.
 pub fn inspect<F: Files>(alloc: Global, files: &mut F, name: &str) -> Result<Job, Halt>
-    ensures job { IfOk result (λ job. (m : Contents) → F.known files.old ≡ Some m
+    ensures job { IfOk result (λ job. (m : Contents) → (F.seen files.old).known ≡ Some m
         → IsJobOf (inspect_at m name.now) job) }
-    ensures halt { IfErr result (Halts (F.known files.old) (λ m. inspect_at m name.now) (λ m. name.now ∷ [])
-        (F.count files.old) (F.count files.new) (F.last_fault files.new)) }
+    ensures halt { IfErr result (Halts (λ m. inspect_at m name.now) (λ m. name.now ∷ [])
+        (F.seen files.old) (F.seen files.new)) }
     ensures usage { IfErr result IsNotUsage }
-    ensures kept { F.known files.new ≡ F.known files.old }
-    ensures steady { OnOk result (F.count files.new ≡ F.count files.old) }
+    ensures same { OnOk result (F.seen files.new ≡ F.seen files.old) }
 {
-    let read = match read_log(alloc, files, name) {
-        Ok(read) => read,
-        Err(halt) => return Err(halt),
-    };
-    match inspect_read(alloc, read) {
-        Ok(job) => Ok(job),
-        Err(halt) => Err(halt),
-    }
+    let read = read_log(alloc, files, name)?;
+    inspect_read(alloc, read)
 }
 
 fn inspect_read(alloc: Global, read: LogRead) -> Result<Job, Halt>
     ensures job { IfOk result (IsJobOf (inspect_in (read_view read))) }
     ensures halt { IfErr result (Refuses (inspect_in (read_view read))) }
 {
-    let log = match good_log(alloc, 0, read) {
-        Ok(log) => log,
-        Err(halt) => return Err(halt),
-    };
+    let log = good_log(alloc, 0, read)?;
     match inspection(alloc, &log) {
         Ok(job) => Ok(job),
         Err(_) => Err(Halt::OutOfMemory),

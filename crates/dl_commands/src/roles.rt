@@ -25,10 +25,8 @@ pub fn give_roles(
 {
     let mut number = 0;
     for input in inputs {
-        match give_role(alloc, number, input.role) {
-            Ok(role) => spheres[number].role = role,
-            Err(halt) => return Err(halt),
-        }
+        let role = give_role(alloc, number, input.role)?;
+        spheres[number].role = role;
         number += 1;
     }
     Ok(())
@@ -42,10 +40,10 @@ fn give_role(alloc: Global, sphere: usize, role: RoleInputs) -> Result<Role, Hal
     match role {
         RoleInputs::Plain => Ok(Role::Plain),
         RoleInputs::Record(mode) => Ok(Role::Record(mode_named(mode))),
-        RoleInputs::Replay(read) => match good_log(alloc, sphere, read) {
-            Ok(log) => Ok(Role::Replay(log)),
-            Err(halt) => Err(halt),
-        },
+        RoleInputs::Replay(read) => {
+            let log = good_log(alloc, sphere, read)?;
+            Ok(Role::Replay(log))
+        }
     }
 }
 

@@ -7,9 +7,10 @@ ghost use Rattle.dl_words.specs.Commands.{CommandValues, Run, Drill, command_of}
 ghost use Rattle.spec_program.specs.Done.{IsDone};
 ghost use Rattle.spec_program.specs.Ends.{Stands, Took, TookAll, is_done, is_refusal, is_of_files, is_of_sink, reads_of, status_in, text_in};
 ghost use Rattle.spec_program.specs.Headline.{Headline};
-ghost use Rattle.spec_program.specs.Lines.{fault_line as fault_text, usage_line as usage_text};
+ghost use Rattle.spec_program.specs.Lines.{absent_line as absent_text, fault_line as fault_text, usage_line as usage_text};
 ghost use Rattle.spec_program.specs.Outcomes.{outcome_of};
-ghost use Rattle.spec_program.specs.Outside.{in_memory};
+ghost use Rattle.spec_program.specs.Outside.{in_memory, outside};
+ghost use Rattle.dl_commands.specs.Ended.{IsRefusalSaid};
 ghost use Rattle.dl_commands.specs.Jobs.{writes_of};
 ghost use Rattle.dl_commands.specs.Performed.{IsPerformed};
 ghost use Rattle.dl_commands.specs.Texts.{texts};
@@ -37,48 +38,36 @@ pub fn delorean<F: Files, O: Sink>(
 ) -> Status
     // What 0 and 1 say of a run.
     ensures headline { (plan : List ℕ) (m : Contents)
-        → command_of (texts words.now) ≡ Some (Run plan) → F.known files.old ≡ Some m → is_done result ≡ true
-        → Headline plan m (F.known files.new) (O.taken out.old) (O.taken out.new) result }
+        → command_of (texts words.now) ≡ Some (Run plan) → (F.seen files.old).known ≡ Some m → is_done result ≡ true
+        → Headline plan m (F.seen files.new).known (O.taken out.old) (O.taken out.new) result }
 
     // What they say of each command, of `inspect`, `walk`, `make`, `drill` and `asm` too.
     ensures done { (command : CommandValues) (m : Contents)
-        → command_of (texts words.now) ≡ Some command → F.known files.old ≡ Some m → is_done result ≡ true
-        → IsDone command m (F.known files.new) (O.taken out.old) (O.taken out.new) result }
+        → command_of (texts words.now) ≡ Some command → (F.seen files.old).known ≡ Some m → is_done result ≡ true
+        → IsDone command m (F.seen files.new).known (O.taken out.old) (O.taken out.new) result }
 
-    // A drill is done, for every number, but where memory or the sink is wanting.
-    ensures drill { (number : ℕ) (m : Contents)
-        → command_of (texts words.now) ≡ Some (Drill number) → F.known files.old ≡ Some m
-        → (result ≡ Status.Done) ⊎ ((result ≡ Status.Sink) ⊎ (result ≡ Status.Memory)) }
+    // A drill is done, for every number and over any files, except if memory runs out or the sink fails; no file fails.
+    ensures drill { (number : ℕ) → command_of (texts words.now) ≡ Some (Drill number)
+        → ((result ≡ Status.Done) ⊎ ((result ≡ Status.Sink) ⊎ (result ≡ Status.Memory)))
+        × ((F.seen files.new).faults ≡ (F.seen files.old).faults) }
 
     // What each answer says.
-    ensures stands { (m : Contents) → F.known files.old ≡ Some m
+    ensures stands { (m : Contents) → (F.seen files.old).known ≡ Some m
         → Stands (outcome_of (texts words.now) m) (reads_of (texts words.now) m) m
-        (record {
-          known = F.known files.old;
-          faults = F.count files.old;
-          last = F.last_fault files.old;
-          taken = O.taken out.old;
-          sink_faults = O.count out.old;
-        })
-        (record {
-          known = F.known files.new;
-          faults = F.count files.new;
-          last = F.last_fault files.new;
-          taken = O.taken out.new;
-          sink_faults = O.count out.new;
-        })
+        (outside (F.seen files.old) (O.taken out.old) (O.count out.old))
+        (outside (F.seen files.new) (O.taken out.new) (O.count out.new))
         result }
 
     // The line of a refusal, and of a fault, is said whole where the sink's count did not rise.
-    ensures whole { (m : Contents) → F.known files.old ≡ Some m
+    ensures whole { (m : Contents) → (F.seen files.old).known ≡ Some m
         → is_refusal result ≡ true → (Rose (O.count out.old) (O.count out.new) → ⊥)
         → TookAll (text_in (outcome_of (texts words.now) m)) (O.taken out.old) (O.taken out.new) }
     ensures fault_said { result ≡ Status.Fault → (Rose (O.count out.old) (O.count out.new) → ⊥)
-        → (name : List ℕ) × IsLast (F.last_fault files.new) name
+        → (name : List ℕ) × IsLast (F.seen files.new).last name
         × TookAll (fault_text name) (O.taken out.old) (O.taken out.new) }
 
     // What each answer shows, also where no contents are known.
-    ensures files_steady { is_of_files result ≡ false → F.count files.new ≡ F.count files.old }
+    ensures files_steady { is_of_files result ≡ false → (F.seen files.new).faults ≡ (F.seen files.old).faults }
     ensures sink_steady { is_of_sink result ≡ false → O.count out.new ≡ O.count out.old }
     ensures said { (text : List ℕ) × Took text (O.taken out.old) (O.taken out.new) }
     ensures usage_said { result ≡ Status.Usage → Took usage_text (O.taken out.old) (O.taken out.new) }
@@ -87,14 +76,27 @@ pub fn delorean<F: Files, O: Sink>(
     ensures usage { result ≡ Status.Usage → command_of (texts words.now) ≡ None }
     ensures no_command { command_of (texts words.now) ≡ None
         → (result ≡ Status.Usage) ⊎ (result ≡ Status.Memory) }
-    ensures fault { result ≡ Status.Fault → Rose (F.count files.old) (F.count files.new) }
+    ensures fault { result ≡ Status.Fault → Rose (F.seen files.old).faults (F.seen files.new).faults }
     ensures sink { result ≡ Status.Sink → Rose (O.count out.old) (O.count out.new) }
-    ensures absent { F.known files.old ≡ None → result ≡ Status.Absent
-        → Rose (F.count files.old) (F.count files.new) }
+    ensures absent { (F.seen files.old).known ≡ None → result ≡ Status.Absent
+        → Rose (F.seen files.old).faults (F.seen files.new).faults }
+    ensures absent_said { (F.seen files.old).known ≡ None → result ≡ Status.Absent
+        → (Rose (O.count out.old) (O.count out.new) → ⊥)
+        → (name : List ℕ) × IsLast (F.seen files.new).last name
+        × TookAll (absent_text name) (O.taken out.old) (O.taken out.new) }
+
+    // The line of a refusal has the form of its kind.
+    ensures line { is_refusal result ≡ true
+        → IsRefusalSaid result (O.taken out.old) (O.taken out.new) (O.count out.old) (O.count out.new) }
+
+    // After a refusal, and after a read that failed, no file has changed.
+    ensures refused_kept { is_refusal result ≡ true → (F.seen files.new).changes ≡ (F.seen files.old).changes }
+    ensures unread_kept { ((F.seen files.new).unread ≡ (F.seen files.old).unread → ⊥)
+        → (F.seen files.new).changes ≡ (F.seen files.old).changes }
 
     // Where no count rose, the answer is the outcome's, or memory ran out.
-    ensures complete { (m : Contents) → F.known files.old ≡ Some m
-        → (Rose (F.count files.old) (F.count files.new) → ⊥)
+    ensures complete { (m : Contents) → (F.seen files.old).known ≡ Some m
+        → (Rose (F.seen files.old).faults (F.seen files.new).faults → ⊥)
         → (Rose (O.count out.old) (O.count out.new) → ⊥)
         → (result ≡ status_in (outcome_of (texts words.now) m)) ⊎ (result ≡ Status.Memory) }
 {
@@ -129,20 +131,8 @@ pub fn delorean_in_memory(
 // Writes the files, and then says the text.
 fn perform<F: Files, O: Sink>(alloc: Global, job: &Job, files: &mut F, out: &mut O) -> Status
     ensures { IsPerformed job.now.diverged (writes_of job.now.writes.items) job.now.text.items
-        (record {
-          known = F.known files.old;
-          faults = F.count files.old;
-          last = F.last_fault files.old;
-          taken = O.taken out.old;
-          sink_faults = O.count out.old;
-        })
-        (record {
-          known = F.known files.new;
-          faults = F.count files.new;
-          last = F.last_fault files.new;
-          taken = O.taken out.new;
-          sink_faults = O.count out.new;
-        })
+        (outside (F.seen files.old) (O.taken out.old) (O.count out.old))
+        (outside (F.seen files.new) (O.taken out.new) (O.count out.new))
         result }
 {
     match write_all(files, &job.writes) {

@@ -29,22 +29,15 @@ pub fn walk_log<F: Files>(
     log: &str,
 ) -> Result<Job, Halt>
     requires { is_size memory ≡ true }
-    ensures job { IfOk result (λ job. (m : Contents) → F.known files.old ≡ Some m
+    ensures job { IfOk result (λ job. (m : Contents) → (F.seen files.old).known ≡ Some m
         → IsJobOf (walk_at m image.now memory log.now) job) }
-    ensures halt { IfErr result (Halts (F.known files.old) (λ m. walk_at m image.now memory log.now)
-        (λ m. image.now ∷ log.now ∷ []) (F.count files.old) (F.count files.new) (F.last_fault files.new)) }
+    ensures halt { IfErr result (Halts (λ m. walk_at m image.now memory log.now)
+        (λ m. image.now ∷ log.now ∷ []) (F.seen files.old) (F.seen files.new)) }
     ensures usage { IfErr result IsNotUsage }
-    ensures kept { F.known files.new ≡ F.known files.old }
-    ensures steady { OnOk result (F.count files.new ≡ F.count files.old) }
+    ensures same { OnOk result (F.seen files.new ≡ F.seen files.old) }
 {
-    let program = match read_file(alloc, files, image) {
-        Ok(program) => program,
-        Err(halt) => return Err(halt),
-    };
-    match walk_on(alloc, files, &program, memory, log) {
-        Ok(job) => Ok(job),
-        Err(halt) => Err(halt),
-    }
+    let program = read_file(alloc, files, image)?;
+    walk_on(alloc, files, &program, memory, log)
 }
 
 // On the image of a program that is read.
@@ -56,23 +49,15 @@ fn walk_on<F: Files>(
     log: &str,
 ) -> Result<Job, Halt>
     requires { is_size memory ≡ true }
-    ensures job { IfOk result (λ job. (m : Contents) → F.known files.old ≡ Some m
+    ensures job { IfOk result (λ job. (m : Contents) → (F.seen files.old).known ≡ Some m
         → IsJobOf (walk_on m memory program.now log.now) job) }
-    ensures halt { IfErr result (Halts (F.known files.old)
-        (λ m. walk_on m memory program.now log.now)
-        (λ m. log.now ∷ []) (F.count files.old) (F.count files.new) (F.last_fault files.new)) }
+    ensures halt { IfErr result (Halts (λ m. walk_on m memory program.now log.now)
+        (λ m. log.now ∷ []) (F.seen files.old) (F.seen files.new)) }
     ensures usage { IfErr result IsNotUsage }
-    ensures kept { F.known files.new ≡ F.known files.old }
-    ensures steady { OnOk result (F.count files.new ≡ F.count files.old) }
+    ensures same { OnOk result (F.seen files.new ≡ F.seen files.old) }
 {
-    let read = match read_log(alloc, files, log) {
-        Ok(read) => read,
-        Err(halt) => return Err(halt),
-    };
-    match walk_read(alloc, program, memory, read) {
-        Ok(job) => Ok(job),
-        Err(halt) => Err(halt),
-    }
+    let read = read_log(alloc, files, log)?;
+    walk_read(alloc, program, memory, read)
 }
 
 // Both files are read.
@@ -81,14 +66,8 @@ fn walk_read(alloc: Global, program: &[u8], memory: u32, read: LogRead) -> Resul
     ensures job { IfOk result (IsJobOf (walk_in memory program.now (read_view read))) }
     ensures halt { IfErr result (Refuses (walk_in memory program.now (read_view read))) }
 {
-    let image = match load_image(alloc, 0, program, memory) {
-        Ok(image) => image,
-        Err(halt) => return Err(halt),
-    };
-    let log = match good_log(alloc, 0, read) {
-        Ok(log) => log,
-        Err(halt) => return Err(halt),
-    };
+    let image = load_image(alloc, 0, program, memory)?;
+    let log = good_log(alloc, 0, read)?;
     match walk_whole(alloc, &image, &log) {
         Ok(job) => Ok(job),
         Err(_) => Err(Halt::OutOfMemory),

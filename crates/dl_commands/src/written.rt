@@ -1,10 +1,9 @@
 //! Writing the files of a command, in their order.
-ghost use Rattle.std.specs.Prelude.{◌≡◌, ◌≢◌, Some, OnOk, IfErr, IsErrOf};
-ghost use Rattle.dl_files.specs.Contents.{Contents, IsLast, SameBut, with_file};
-ghost use Rattle.dl_files.specs.Count.{Rose};
-ghost use Rattle.spec_program.specs.Writes.{written as after_writes};
+ghost use Rattle.std.specs.Prelude.{OnOk, IfErr};
+ghost use Rattle.dl_files.specs.Contents.{with_file};
+ghost use Rattle.dl_files.specs.Seen.{IsWritten};
 ghost use Rattle.dl_commands.specs.Jobs.{bytes_in, writes_of};
-ghost use Rattle.dl_commands.specs.Stops.{IsCutShort, Stopped};
+ghost use Rattle.dl_commands.specs.Stops.{AreWritten, ContentStops, Stopped};
 
 use crate::writing::{Content, NamedContent, Stop};
 use dl_files::{FileError, Files};
@@ -12,10 +11,8 @@ use dl_logio::write_log_file;
 
 /// Writes each file whole, and nothing after one that fails.
 pub fn write_all<F: Files>(files: &mut F, writes: &[NamedContent]) -> Result<(), Stop>
-    ensures ok { OnOk result ((m : Contents) → F.known files.old ≡ Some m → F.known files.new ≡ Some (after_writes (writes_of writes.now) m)) }
-    ensures stop { IfErr result (Stopped (F.known files.old) (writes_of writes.now) (F.known files.new)
-        (F.count files.old) (F.count files.new) (F.last_fault files.new)) }
-    ensures steady { OnOk result (F.count files.new ≡ F.count files.old) }
+    ensures written { OnOk result (AreWritten (writes_of writes.now) (F.seen files.old) (F.seen files.new)) }
+    ensures stop { IfErr result (Stopped (writes_of writes.now) (F.seen files.old) (F.seen files.new)) }
 {
     for (i, write) in writes.iter().enumerate() {
         match write_content(files, write.name.as_str(), &write.content) {
@@ -30,15 +27,9 @@ pub fn write_all<F: Files>(files: &mut F, writes: &[NamedContent]) -> Result<(),
 
 // Writes one file.
 fn write_content<F: Files>(files: &mut F, name: &str, content: &Content) -> Result<(), FileError>
-    ensures written { OnOk result (F.known files.new ≡ with_file name.now (bytes_in content.now) (F.known files.old)) }
-    ensures memory { IsErrOf result FileError.OutOfMemory
-        → IsCutShort content.now name.now (F.known files.old) (F.known files.new) }
-    ensures others { IsErrOf result FileError.Failed → SameBut name.now (F.known files.old) (F.known files.new) }
-    ensures not_absent { IfErr result (λ e. e ≢ FileError.Absent) }
-    ensures failed { IsErrOf result FileError.Failed → Rose (F.count files.old) (F.count files.new) }
-    ensures last { IsErrOf result FileError.Failed → IsLast (F.last_fault files.new) name.now }
-    ensures ok_steady { OnOk result (F.count files.new ≡ F.count files.old) }
-    ensures memory_steady { IsErrOf result FileError.OutOfMemory → F.count files.new ≡ F.count files.old }
+    ensures written { OnOk result (IsWritten (with_file name.now (bytes_in content.now) (F.seen files.old).known)
+        (F.seen files.old) (F.seen files.new)) }
+    ensures err { IfErr result (ContentStops content.now name.now (F.seen files.old) (F.seen files.new)) }
 {
     match content {
         Content::Bytes(bytes) => files.write(name, bytes),

@@ -1,10 +1,10 @@
 -- What files hold, where it is known: a finite map from names to bytes.
-use Rattle.std.specs.Prelude.{◌≡◌, ◌≢◌, ℕ, List, [], ◌++◌, take, drop, Option, None, Some, IsSome, IfSome, option_map, unwrap_or}
+use Rattle.std.specs.Prelude.{◌≡◌, ◌≢◌, ℕ, ◌≤◌, List, [], ◌++◌, take, drop, Option, None, Some, IsSome, IfSome, option_map, unwrap_or}
 use Rattle.std.specs.Ordering.{nat_cmp}
 use Rattle.std.specs.Cmp.Lexicographic.{slice_cmp}
 use Rattle.std.specs.FinMap.{FinMap, code, get, insert}
 use Rattle.std.specs.Coded.{Coded, coded_ℕ, coded_list}
-use Rattle.dl_files.specs.Count.{Rose}
+use Rattle.dl_files.specs.declared.beginning.Beginning.{Beginning}
 
 -- names and bytes are lists of bytes
 abbrev pub Contents : Type 0
@@ -30,10 +30,10 @@ HoldsAt known name offset room bytes = IfSome known (λ m. part_of m name offset
 abbrev pub IsThere : Option Contents → List ℕ → Type 0
 IsThere known name = IfSome known (λ m. IsSome (get m name))
 
--- what the answer Absent shows: a name that is known to be missing, or else a count that rose
-abbrev pub IsAbsent : Option Contents → List ℕ → ℕ → ℕ → Type 0
-IsAbsent None name old new = Rose old new
-IsAbsent (Some m) name old new = (get m name ≡ None) × (new ≡ old)
+-- where known, these are the first bytes of a name, as many as fit in a piece of that room, or all of them
+abbrev pub Begins : Option Contents → (name : List ℕ) → (room : ℕ) → (piece : List ℕ) → Beginning → Type 0
+Begins known name room piece (Beginning.Part n) = (n ≤ room) × HoldsAt known name 0 room (take n piece)
+Begins known name room piece (Beginning.Whole bytes) = Holds known name bytes.items
 
 -- the contents once the name holds these bytes
 abbrev pub with_file : List ℕ → List ℕ → Option Contents → Option Contents

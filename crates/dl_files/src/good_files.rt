@@ -3,6 +3,7 @@ ghost use Rattle.std.specs.Prelude.{◌≡◌, ◌↔◌, ◌≤◌, [], length,
 ghost use Rattle.std.specs.FinMap.{empty, get, insert};
 ghost use Rattle.dl_files.specs.Contents.{part_of, more};
 ghost use Rattle.dl_files.specs.Entries.{contents_of};
+ghost use Rattle.dl_files.specs.Seen.{telling};
 
 use crate::part::copy_part;
 use crate::store::Store;
@@ -46,11 +47,7 @@ impl GoodFiles {
 }
 
 impl Files for GoodFiles {
-    ghost known = { λ files. Some files };
-
-    ghost last_fault = { λ _. None };
-
-    ghost count = { λ _. 0 };
+    ghost seen = { λ files. telling files 0 None };
 
     fn faults(&self) -> u64
         ensures { result ≡ 0 }
@@ -82,10 +79,6 @@ impl Files for GoodFiles {
             return Err(FileError::Absent);
         };
         Ok(copy_part(self.store.bytes(place), offset, into))
-    }
-
-    fn has_parts(&self, _name: &str) -> bool {
-        true
     }
 
     fn write(&mut self, name: &str, bytes: &[u8]) -> Result<(), FileError>

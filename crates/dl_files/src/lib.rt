@@ -2,6 +2,7 @@
 //! ones in memory, ones in memory whose calls fail as a list says, and the real ones.
 #![tactic(auto)]
 
+mod beginning;
 mod calls;
 mod error;
 mod files;
@@ -9,13 +10,15 @@ mod good_files;
 mod good_sink;
 mod mem_files;
 mod mem_sink;
+mod opened;
 mod part;
 mod real_files;
-mod real_reads;
 mod sink;
 mod std_sink;
 mod store;
+mod streams;
 
+pub use beginning::Beginning;
 pub use error::{FileError, SinkError};
 pub use files::Files;
 pub use good_files::GoodFiles;

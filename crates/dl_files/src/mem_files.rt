@@ -3,6 +3,7 @@ ghost use Rattle.std.specs.Prelude.{◌≡◌, ◌≢◌, ◌↔◌, ◌≤◌, 
 ghost use Rattle.std.specs.FinMap.{get, insert};
 ghost use Rattle.dl_files.specs.Calls.{unmade, FailsNext, passed, faulted};
 ghost use Rattle.dl_files.specs.Contents.{part_of, more, SameBut};
+ghost use Rattle.dl_files.specs.Seen.{telling};
 
 use crate::calls::Calls;
 use crate::part::copy_part;
@@ -76,11 +77,7 @@ impl MemFiles {
 }
 
 impl Files for MemFiles {
-    ghost known = { λ files. Some files.contents };
-
-    ghost last_fault = { λ files. files.last_fault };
-
-    ghost count = { λ files. files.calls.faults };
+    ghost seen = { λ files. telling files.contents files.calls.faults files.last_fault };
 
     fn faults(&self) -> u64 {
         self.calls.faults()
@@ -137,10 +134,6 @@ impl Files for MemFiles {
         let count = copy_part(self.store.bytes(place), offset, into);
         self.calls.pass();
         Ok(count)
-    }
-
-    fn has_parts(&self, _name: &str) -> bool {
-        true
     }
 
     fn write(&mut self, name: &str, bytes: &[u8]) -> Result<(), FileError>

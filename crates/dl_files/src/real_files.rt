@@ -1,55 +1,86 @@
-//! The files of the system: the trusted edge, which tells nothing of their contents.
-ghost use Rattle.std.specs.Prelude.{◌≡◌, ◌≢◌, None, ◌≤◌, ◌^◌, length, vec_len, IfOk, IfErr, OnOk, IsErrOf};
-ghost use Rattle.dl_files.specs.Count.{next};
+//! The files of the system, which tell nothing of their contents. What is read and written of an opened file is proved of any
+//! file, in `opened.rt`; which name is opened, and whether to be read, emptied or added to, is trusted.
+ghost use Rattle.std.specs.Fs.{asks_append, asks_create, asks_truncate};
+ghost use Rattle.std.specs.Prelude.{◌≡◌, ◌≢◌, ◌↔◌, None, true, false, ◌≤◌, ◌^◌, length, vec_len, IfOk, IfErr, IsOk, OnOk, IsErrOf};
+ghost use Rattle.dl_files.specs.Seen.{uncounted, untold, with_change, with_unread, with_unwritten};
 
-use crate::real_reads::{read_named, read_part};
-use crate::{FileError, Files};
+use crate::opened::{fill_opened, read_opened, write_opened};
+use crate::{Beginning, FileError, Files};
 use std::alloc::Global;
 use std::fs::OpenOptions;
-use std::io::Write;
 use std::marker::Model;
 use std::{fs, io, rt};
 
-/// The files of the system that `R` reaches, seen as their count of faults. Each refusal but for memory
-/// is counted, also that of an absent file. To read a file of more than 2^30 bytes whole is a fault, once
-/// so many are read; a part is read of a file of any size.
+/// The files of the system that `R` reaches, seen as their counts. Each refusal but for memory is counted, also that of an
+/// absent file. To read a file of more than 2^30 bytes whole is a fault, once so many are read; a part is read of a file of
+/// any size.
 #[derive(Drop)]
 pub struct RealFiles<R> {
     rt: R,
     faults: u64,
+    unread: u64,
+    changes: u64,
 }
 
 impl<R> Model for RealFiles<R> {
-    ghost use Rattle.std.specs.Prelude.{ℕ};
+    ghost use Rattle.dl_files.specs.Seen.{Counts};
 
-    ghost Value = { ℕ };
+    ghost Value = { Counts };
 
-    ghost view = { λ files. files.faults };
+    ghost view = { λ files. record {
+      faults = files.faults;
+      unread = files.unread;
+      changes = files.changes;
+    } };
 }
 
 impl<R: rt::Files> RealFiles<R> {
-    /// The files that `rt` reaches, with no fault yet.
+    /// The files that `rt` reaches, with nothing counted yet.
     pub fn new(rt: R) -> Self
-        ensures { result ≡ 0 }
+        ensures { result ≡ uncounted }
     {
-        Self { rt, faults: 0 }
+        Self {
+            rt,
+            faults: 0,
+            unread: 0,
+            changes: 0,
+        }
     }
 
-    fn fault(&mut self)
-        ensures { self.new ≡ next self.old }
+    // A read that failed, or that found no file.
+    fn unread(&mut self)
+        ensures { self.new ≡ with_unread self.old }
     {
         self.faults = self.faults.saturating_add(1);
+        self.unread = self.unread.saturating_add(1);
     }
 
-    fn settle(&mut self, done: io::Result<()>) -> Result<(), FileError>
+    // What is answered of a read. One that failed is counted.
+    fn settle_read<T: Drop>(&mut self, read: Result<T, FileError>) -> Result<T, FileError>
+        ensures answer { result ≡ read }
         ensures ok { OnOk result (self.new ≡ self.old) }
-        ensures only { IfErr result (λ e. e ≡ FileError.Failed) }
-        ensures refused { IfErr result (λ _. self.new ≡ next self.old) }
+        ensures refused { IfErr result (λ e. e ≢ FileError.OutOfMemory → self.new ≡ with_unread self.old) }
+        ensures memory { IsErrOf result FileError.OutOfMemory → self.new ≡ self.old }
     {
+        match read {
+            Err(FileError::Failed | FileError::Absent) => self.unread(),
+            Ok(_) | Err(FileError::OutOfMemory) => {}
+        }
+        read
+    }
+
+    // What is answered of a write, which is counted.
+    fn settle_write<T: Drop>(&mut self, done: io::Result<T>) -> Result<(), FileError>
+        ensures done { IsOk result ↔ IsOk done }
+        ensures ok { OnOk result (self.new ≡ with_change self.old) }
+        ensures only { IfErr result (λ e. e ≡ FileError.Failed) }
+        ensures refused { IfErr result (λ _. self.new ≡ with_unwritten self.old) }
+    {
+        self.changes = self.changes.saturating_add(1);
         match done {
-            Ok(()) => Ok(()),
+            Ok(_) => Ok(()),
             Err(_) => {
-                self.fault();
+                self.faults = self.faults.saturating_add(1);
                 Err(FileError::Failed)
             }
         }
@@ -57,11 +88,7 @@ impl<R: rt::Files> RealFiles<R> {
 }
 
 impl<R: rt::Files> Files for RealFiles<R> {
-    ghost known = { λ _. None };
-
-    ghost last_fault = { λ _. None };
-
-    ghost count = { λ faults. faults };
+    ghost seen = { untold };
 
     fn faults(&self) -> u64 {
         self.faults
@@ -70,66 +97,72 @@ impl<R: rt::Files> Files for RealFiles<R> {
     fn read(&mut self, alloc: Global, name: &str) -> Result<Vec<u8>, FileError>
         ensures size { IfOk result (λ bytes. vec_len bytes ≤ 2 ^ 30) }
         ensures ok { OnOk result (self.new ≡ self.old) }
-        ensures refused { IfErr result (λ e. e ≢ FileError.OutOfMemory → self.new ≡ next self.old) }
+        ensures refused { IfErr result (λ e. e ≢ FileError.OutOfMemory → self.new ≡ with_unread self.old) }
         ensures memory { IsErrOf result FileError.OutOfMemory → self.new ≡ self.old }
     {
-        match read_named(&self.rt, alloc, name) {
-            Ok(bytes) => Ok(bytes),
-            Err(FileError::OutOfMemory) => Err(FileError::OutOfMemory),
-            Err(error) => {
-                self.fault();
-                Err(error)
-            }
-        }
+        let read = read_opened(fs::open(&self.rt, name), alloc);
+        self.settle_read(read)
     }
 
     fn read_at(&mut self, name: &str, offset: u64, into: &mut [u8]) -> Result<usize, FileError>
         ensures most { IfOk result (λ n. n ≤ length into.old) }
         ensures ok { OnOk result (self.new ≡ self.old) }
         ensures no_memory { IfErr result (λ e. e ≢ FileError.OutOfMemory) }
-        ensures refused { IfErr result (λ _. self.new ≡ next self.old) }
+        ensures refused { IfErr result (λ _. self.new ≡ with_unread self.old) }
     {
-        match read_part(&self.rt, name, offset, into) {
-            Ok(count) => Ok(count),
-            Err(error) => {
-                self.fault();
-                Err(error)
-            }
-        }
+        let read = fill_opened(fs::open(&self.rt, name), offset, into);
+        self.settle_read(read)
     }
 
-    fn has_parts(&self, name: &str) -> bool {
-        fs::metadata(&self.rt, name).is_ok_and(|found| found.is_file())
+    // Of a pipe or a device no part can be read but the next.
+    fn begin(
+        &mut self,
+        alloc: Global,
+        name: &str,
+        into: &mut [u8],
+    ) -> Result<Beginning, FileError> {
+        if fs::metadata(&self.rt, name).is_ok_and(|found| found.is_file()) {
+            let n = self.read_at(name, 0, into)?;
+            return Ok(Beginning::Part(n));
+        }
+        let bytes = self.read(alloc, name)?;
+        Ok(Beginning::Whole(bytes))
     }
 
     fn write(&mut self, name: &str, bytes: &[u8]) -> Result<(), FileError>
-        ensures ok { OnOk result (self.new ≡ self.old) }
+        ensures ok { OnOk result (self.new ≡ with_change self.old) }
         ensures only { IfErr result (λ e. e ≡ FileError.Failed) }
-        ensures refused { IfErr result (λ _. self.new ≡ next self.old) }
+        ensures refused { IfErr result (λ _. self.new ≡ with_unwritten self.old) }
     {
-        let done = fs::write(&self.rt, name, bytes);
-        self.settle(done)
+        let done = write_opened(fs::create(&self.rt, name), bytes);
+        self.settle_write(done)
     }
 
     fn create(&mut self, name: &str) -> Result<(), FileError>
-        ensures ok { OnOk result (self.new ≡ self.old) }
+        ensures ok { OnOk result (self.new ≡ with_change self.old) }
         ensures only { IfErr result (λ e. e ≡ FileError.Failed) }
-        ensures refused { IfErr result (λ _. self.new ≡ next self.old) }
+        ensures refused { IfErr result (λ _. self.new ≡ with_unwritten self.old) }
     {
         self.write(name, b"")
     }
 
     fn append(&mut self, name: &str, bytes: &[u8]) -> Result<(), FileError>
-        ensures ok { OnOk result (self.new ≡ self.old) }
+        ensures ok { OnOk result (self.new ≡ with_change self.old) }
         ensures only { IfErr result (λ e. e ≡ FileError.Failed) }
-        ensures refused { IfErr result (λ _. self.new ≡ next self.old) }
+        ensures refused { IfErr result (λ _. self.new ≡ with_unwritten self.old) }
     {
-        let done = append_to(&self.rt, name, bytes);
-        self.settle(done)
+        let done = write_opened(added_to().open(&self.rt, name), bytes);
+        self.settle_write(done)
     }
 }
 
-fn append_to(rt: &impl rt::Files, name: &str, bytes: &[u8]) -> io::Result<()> {
-    let mut file = OpenOptions::new().append(true).create(true).open(rt, name)?;
-    file.write_all(bytes)
+// A file that is added to, and made where it isn't there.
+fn added_to() -> OpenOptions
+    ensures append { asks_append result ≡ true }
+    ensures create { asks_create result ≡ true }
+    ensures truncate { asks_truncate result ≡ false }
+{
+    let mut options = OpenOptions::new();
+    options.append(true).create(true);
+    options
 }

@@ -1,10 +1,11 @@
-//! The standard output: the trusted edge, which does not tell what it took.
+//! The standard output, which does not tell what it took. How bytes are handed to it is proved of any writer, in `streams.rt`;
+//! that it is the one which they are handed to is trusted.
 ghost use Rattle.std.specs.Prelude.{◌≡◌, None, ◌≤◌, ◌<◌, length, IfOk, IfErr, OnOk};
 ghost use Rattle.dl_files.specs.Count.{next};
 
+use crate::streams::write_some;
 use crate::{Sink, SinkError};
 use std::io;
-use std::io::Write;
 use std::marker::Model;
 
 /// The standard output of `R`, seen as its count of faults. It keeps nothing, so it needs no memory.
@@ -47,9 +48,9 @@ impl<R: Print> Sink for StdSink<R> {
         ensures only { IfErr result (λ e. e ≡ SinkError.Failed) }
         ensures refused { IfErr result (λ _. self.new ≡ next self.old) }
     {
-        match io::writer(&self.rt).write(bytes) {
-            Ok(n) if n > 0 || bytes.is_empty() => Ok(n),
-            _ => {
+        match write_some(&mut io::writer(&self.rt), bytes) {
+            Ok(n) => Ok(n),
+            Err(_) => {
                 self.faults = self.faults.saturating_add(1);
                 Err(SinkError::Failed)
             }

@@ -2,6 +2,7 @@
 use Rattle.std.proofs.Common.{◌≡◌, ℕ, suc, List, [], ◌∷◌, ◌++◌, map, flat_map, Option, Some, None, option_to_list, Result, refl, ap, sym, subst, ◌∙◌}
 use Rattle.std.proofs.lemmas.List.{map-append}
 use Rattle.dl_files.specs.Contents.{Contents}
+use Rattle.dl_files.specs.Seen.{Seen}
 use Rattle.dl_plan.specs.declared.Source.{Source}
 use Rattle.dl_plan.specs.Files.{InputValues, from, script_read, log_read, read_by, read_from, input_names}
 use Rattle.dl_plan.specs.Values.{ScheduleValues, Script, Seeded, RoleValues, Plain, Record, Replay, SphereValues, PlanValues}
@@ -46,6 +47,5 @@ names_of p =
     (both (from Source.Input p.input) (read_from 0 p.spheres) (of_optional Source.Input p.input) (of_spheres 0 p.spheres))
 
 -- what is unread of the parts is unread of the plan
-pub unread_by_parts : {A : Type 0} (known : Option Contents) (p : PlanValues) (read : Contents → Result A (List ℕ)) (old new : ℕ) (last : Option (List ℕ)) (h : Halt)
-    → Unread known (named_by_parts p) read old new last h → Unread known (input_names p) read old new last h
-unread_by_parts known p read old new last h = subst (λ (ns : List (List ℕ)). Unread known ns read old new last h) (sym (names_of p))
+pub unread_by_parts : {A : Type 0} (p : PlanValues) (read : Contents → Result A (List ℕ)) (old new : Seen) (h : Halt) → Unread (named_by_parts p) read old new h → Unread (input_names p) read old new h
+unread_by_parts p read old new h = subst (λ (ns : List (List ℕ)). Unread ns read old new h) (sym (names_of p))

@@ -1,15 +1,19 @@
 -- A part that could not be read, or is refused, stops the whole that it is of.
-use Rattle.std.proofs.Common.{◌≡◌, ℕ, List, Option, Some, None, option_to_list, IsSome, Result, Ok, Err, ok_or, inl, inr, refl, ◌∙◌, ap, subst}
+use Rattle.std.proofs.Common.{◌≡◌, ℕ, List, Option, Some, None, option_to_list, IsSome, Result, Ok, Err, ok_or, inl, inr, refl, sym, ◌∙◌, ap, subst}
+use Rattle.std.specs.Prelude.{IfErr, IsErrAnd}
 use Rattle.std.specs.FinMap.{get}
 use Rattle.dl_files.specs.Contents.{Contents}
-use Rattle.dl_files.specs.Count.{Rose}
-use Rattle.dl_plan.specs.Values.{ScheduleValues, Script, Seeded, RoleValues, Plain, Record, Replay, SphereValues}
+use Rattle.dl_files.specs.Seen.{Seen, IsKept}
+use Rattle.dl_plan.specs.Values.{PlanValues, ScheduleValues, Script, Seeded, RoleValues, Plain, Record, Replay, SphereValues}
 use Rattle.spec_program.specs.Ends.{IsReadNext}
 use Rattle.spec_program.specs.Files.{ScheduleRead, RoleRead, SphereRead, log_at, read_at, script_at, schedule_read, input_read, role_read, sphere_read}
-use Rattle.spec_program.specs.Stages.{Refused, ◌>>◌}
+use Rattle.spec_program.specs.Stages.{Refused, refusing, ◌>>◌}
+use Rattle.spec_program.specs.Tasks.{absent, plan_at}
+use Rattle.spec_program.specs.declared.status.Refusal.{Refusal}
 use Rattle.spec_program.proofs.Turns.{AreThere}
 use Rattle.dl_gather.specs.declared.halt.Halt.{Halt}
-use Rattle.dl_gather.specs.Halts.{IsFault, Unread, Refuses}
+use Rattle.dl_gather.specs.Forms.{IsLineOf}
+use Rattle.dl_gather.specs.Halts.{Halts, IsFault, IsMissing, Unread, Refuses}
 use Rattle.dl_gather.specs.Reads.{read_for_schedule, read_for_role, read_for_sphere}
 
 -- ---- one stage after another
@@ -22,6 +26,13 @@ err_then o f e is = ap (λ x. x >> f) is
 pub ok_then : {A B E : Type 0} (o : Result A E) (f : A → Result B E) (a : A) → o ≡ Ok a → (o >> f) ≡ f a
 ok_then o f a is = ap (λ x. x >> f) is
 
+-- ---- halts that are handed on
+
+-- what is true of a halt is true of the answer that hands it on
+pub halt_carried : {T : Type 0} (r : Result T Halt) (h : Halt) (P : Halt → Type 0) → IsErrAnd r (λ x. x ≡ h) → P h → IfErr r P
+halt_carried (Ok x) h P is p = tt
+halt_carried (Err x) h P is p = subst P (sym is) p
+
 -- ---- parts
 
 -- what is absent in the part is so in the whole, and the turns of the part's names are turns in the whole
@@ -29,35 +40,73 @@ pub record IsPart {A B : Type 0} (known : Option Contents) (names all : List (Li
   pub absent : (m : Contents) → known ≡ Some m → (name : List ℕ) → part m ≡ Err name → whole m ≡ Err name
   pub next : (m : Contents) → known ≡ Some m → (name : List ℕ) → IsReadNext names m name → IsReadNext all m name
 
--- These files are known as the whole begins, with so many faults, and they are what its part sees; as the part stops there are
--- more faults, and the last was at this file.
-module _ (known seen : Option Contents) (start old new : ℕ) (last : Option (List ℕ)) (same : seen ≡ known) (from : old ≡ start) where
-  part_fault : (names all : List (List ℕ)) (name : List ℕ)
-      → ((m : Contents) → known ≡ Some m → IsReadNext names m name → IsReadNext all m name) → IsFault seen (λ _. names) old new last name → IsFault known (λ _. all) start new last name
-  part_fault names all name next f = record {
-    counted = subst (λ (x : ℕ). Rose x new) from f.counted;
-    named = f.named;
-    next = λ m e. next m e (f.next m (same ∙ e));
-  }
+part_fault : (names all : List (List ℕ)) (name : List ℕ) (old new : Seen) → ((m : Contents) → old.known ≡ Some m → IsReadNext names m name → IsReadNext all m name)
+    → IsFault (λ _. names) name old new → IsFault (λ _. all) name old new
+part_fault names all name old new next f = record { unread = f.unread; next = λ m e. next m e (f.next m e) }
 
-  -- where a part can't be read, the whole can't either, for the same reason
-  pub unread_in : {A B : Type 0} (names all : List (List ℕ)) (part : Contents → Result A (List ℕ)) (whole : Contents → Result B (List ℕ)) (h : Halt)
-      → IsPart known names all part whole → Unread seen names part old new last h → Unread known all whole start new last h
-  unread_in names all part whole (Halt.Refused why text) p u = (
-    u.0,
-    (u.1.0, u.1.1, (λ m e. p.absent m e u.1.0 (u.1.2 m (same ∙ e)))),
-    (λ m e. u.2 m (same ∙ e) ∙ from),
-    (λ e. subst (λ (x : ℕ). Rose x new) from (u.3 (same ∙ e))),
-  )
-  unread_in names all part whole (Halt.Fault text) p u = (u.0, u.1, part_fault names all u.0 (λ m e. p.next m e u.0) u.2)
-  unread_in names all part whole Halt.OutOfMemory p (inl steady) = inl (λ m e. steady m (same ∙ e) ∙ from)
-  unread_in names all part whole Halt.OutOfMemory p (inr (name, f)) = inr (name, part_fault names all name (λ m e. p.next m e name) f)
+-- where a part can't be read, the whole can't either, for the same reason
+pub unread_in : {A B : Type 0} (old new : Seen) (names all : List (List ℕ)) (part : Contents → Result A (List ℕ)) (whole : Contents → Result B (List ℕ)) (h : Halt)
+    → IsPart old.known names all part whole → Unread names part old new h → Unread all whole old new h
+unread_in old new names all part whole (Halt.Refused why text) p u = (
+  u.0,
+  u.1,
+  u.2,
+  record { known = λ m e. (p.absent m e u.1 (u.3.known m e).0, (u.3.known m e).1); unknown = u.3.unknown },
+)
+unread_in old new names all part whole (Halt.Fault text) p u = (u.0, u.1, part_fault names all u.0 old new (λ m e. p.next m e u.0) u.2)
+unread_in old new names all part whole Halt.OutOfMemory p (inl same) = inl same
+unread_in old new names all part whole Halt.OutOfMemory p (inr (name, f)) = inr (name, part_fault names all name old new (λ m e. p.next m e name) f)
+
+-- a part that is missing has left all as it was, or its read failed
+missing_kept : {A : Type 0} (part : Contents → Result A (List ℕ)) (name : List ℕ) (old new : Seen) (known : Option Contents) → old.known ≡ known → IsMissing part name old new → IsKept old new
+missing_kept part name old new None e u = (u.unknown e).kept
+missing_kept part name old new (Some m) e u =
+    let same = (u.known m e).1 in
+    record { known = ap (λ (s : Seen). s.known) same; changes = ap (λ (s : Seen). s.changes) same }
+
+-- what comes of a file that is absent is its refusal
+pub file_refused : {A B : Type 0} (o : Result A (List ℕ)) (f : A → Result B Refused) (name : List ℕ) → o ≡ Err name → (refusing absent o >> f) ≡ Err (absent name)
+file_refused o f name is = ap (λ x. refusing absent x >> f) is
+
+-- a part that can't be read stops the stage that it is of
+pub unread_halts : {A B : Type 0} (names : List (List ℕ)) (reads : Contents → List (List ℕ)) (part : Contents → Result A (List ℕ)) (stage : Contents → Result B Refused) (old new : Seen) (h : Halt)
+    → ((m : Contents) (name : List ℕ) → part m ≡ Err name → stage m ≡ Err (absent name)) → ((m : Contents) (name : List ℕ) → IsReadNext names m name → IsReadNext (reads m) m name)
+    → Unread names part old new h → Halts stage reads old new h
+unread_halts names reads part stage old new (Halt.Refused why text) errs next u = record {
+  known = λ m e. (errs m u.1 (u.3.known m e).0 ∙ (λ i. Err (record { why = sym u.0 i; line = sym u.2 i })), (u.3.known m e).1);
+  unknown = λ e is. (u.1, u.2, u.3.unknown e);
+  other = λ n. absurd (n u.0);
+  kept = missing_kept part u.1 old new old.known refl u.3;
+  form = subst (λ (w : Refusal). IsLineOf w text.items) (sym u.0) (u.1, u.2);
+}
+unread_halts names reads part stage old new (Halt.Fault text) errs next u =
+    (u.0, u.1, record { unread = u.2.unread; next = λ m e. next m u.0 (u.2.next m e) })
+unread_halts names reads part stage old new Halt.OutOfMemory errs next (inl same) = inl same
+unread_halts names reads part stage old new Halt.OutOfMemory errs next (inr (name, f)) =
+    inr (name, record { unread = f.unread; next = λ m e. next m name (f.next m e) })
+
+-- where a stage halts, so does the whole that it is a part of
+pub halts_in : {A B : Type 0} (reads all : Contents → List (List ℕ)) (stage : Contents → Result A Refused) (whole : Contents → Result B Refused) (old new : Seen) (h : Halt)
+    → ((m : Contents) → old.known ≡ Some m → (r : Refused) → stage m ≡ Err r → whole m ≡ Err r) → ((m : Contents) → old.known ≡ Some m → (name : List ℕ) → IsReadNext (reads m) m name → IsReadNext (all m) m name)
+    → Halts stage reads old new h → Halts whole all old new h
+halts_in reads all stage whole old new (Halt.Refused why text) errs next u = record {
+  known = λ m e. (errs m e _ (u.known m e).0, (u.known m e).1);
+  unknown = u.unknown;
+  other = u.other;
+  kept = u.kept;
+  form = u.form;
+}
+halts_in reads all stage whole old new (Halt.Fault text) errs next u =
+    (u.0, u.1, record { unread = u.2.unread; next = λ m e. next m e u.0 (u.2.next m e) })
+halts_in reads all stage whole old new Halt.OutOfMemory errs next (inl same) = inl same
+halts_in reads all stage whole old new Halt.OutOfMemory errs next (inr (name, f)) =
+    inr (name, record { unread = f.unread; next = λ m e. next m e name (f.next m e) })
 
 -- ---- the command
 
 -- a stage that is refused stops the stages after it
 pub refuses_in : {A B : Type 0} (stage : Result A Refused) (whole : Result B Refused) (h : Halt) → ((r : Refused) → stage ≡ Err r → whole ≡ Err r) → Refuses stage h → Refuses whole h
-refuses_in stage whole (Halt.Refused why text) errs u = (errs _ u.0, u.1, u.2)
+refuses_in stage whole (Halt.Refused why text) errs u = (errs _ u.0, u.1, u.2, u.3)
 refuses_in stage whole (Halt.Fault text) errs u = absurd u
 refuses_in stage whole Halt.OutOfMemory errs u = tt
 
@@ -86,6 +135,14 @@ schedule_there m (Seeded n) r e = tt
 pub input_there : (m : Contents) (o : Option (List ℕ)) (bytes : List ℕ) → input_read m o ≡ Ok bytes → AreThere m (option_to_list o)
 input_there m None bytes e = tt
 input_there m (Some name) bytes e = (file_there m name bytes e, tt)
+
+there_refused : {B : Type 0} (m : Contents) (name : List ℕ) (o : Option (List ℕ)) (f : List ℕ → Result B Refused) (b : B) → (refusing absent (ok_or o name) >> f) ≡ Ok b → IsSome o
+there_refused m name None f b e = absurd cc
+there_refused m name (Some bytes) f b e = refl
+
+-- once a plan is read, its file is there
+pub plan_there : (m : Contents) (name : List ℕ) (p : PlanValues) → plan_at m name ≡ Ok p → IsSome (get m name)
+plan_there m name p e = there_refused m name (get m name) _ p e
 
 role_there : (m : Contents) (role : RoleValues) (r : RoleRead) → role_read m role ≡ Ok r → AreThere m (read_for_role role)
 role_there m Plain r e = tt

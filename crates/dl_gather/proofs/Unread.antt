@@ -1,59 +1,59 @@
 -- A file that could not be read stops what is read of it.
-use Rattle.std.proofs.Common.{◌≡◌, ◌≢◌, ℕ, List, [], ◌∷◌, Option, Some, None, IsSome, Result, Ok, Err, ok_or, inl, inr, refl, sym, ◌∙◌, ap, subst}
+use Rattle.std.proofs.Common.{◌≡◌, ℕ, List, [], ◌∷◌, Option, Some, None, IsSome, Result, Ok, Err, ok_or, inl, inr, refl, sym, ◌∙◌, ap, subst}
+use Rattle.std.specs.Prelude.{IfSome, IfNone}
 use Rattle.std.specs.FinMap.{get}
 use Rattle.dl_event.specs.Script.{script_of}
-use Rattle.dl_files.specs.Contents.{Contents, IsAbsent, IsLast, IsThere}
-use Rattle.dl_files.specs.Count.{Rose}
+use Rattle.dl_files.specs.Contents.{Contents, IsThere}
 use Rattle.dl_files.specs.declared.FileError.{FileError}
+use Rattle.dl_files.specs.Seen.{Seen, IsAbsent, IsUnread, ReadStops}
 use Rattle.spec_log.specs.Reading.{read_of}
 use Rattle.spec_program.specs.Files.{read_at, log_at, script_at}
 use Rattle.spec_program.specs.Stages.{◌>>◌}
 use Rattle.dl_gather.specs.declared.halt.Halt.{Halt}
-use Rattle.dl_gather.specs.Halts.{HaltsAt, IsFault, Unread}
+use Rattle.dl_gather.specs.Halts.{HaltsAt, IsFault, IsMissing, IsStarved, Unread}
 
--- what is known once a file could not be read
-pub record IsUnread (known : Option Contents) (name : List ℕ) (old new : ℕ) (last : Option (List ℕ)) (error : FileError) : Type 0 where
-  pub absent : error ≡ FileError.Absent → IsAbsent known name old new
-  pub there : error ≢ FileError.Absent → IsThere known name
-  pub failed : error ≡ FileError.Failed → Rose old new
-  pub named : error ≡ FileError.Failed → IsLast last name
-  pub memory : error ≡ FileError.OutOfMemory → new ≡ old
+if_some : (known : Option Contents) (P : Contents → Type 0) (m : Contents) → IfSome known P → known ≡ Some m → P m
+if_some None P m h e = absurd cc
+if_some (Some k) P m h e = let same : k ≡ m = cc in subst P same h
 
-absent_at : (known : Option Contents) (name : List ℕ) (old new : ℕ) (m : Contents) → IsAbsent known name old new → known ≡ Some m → (get m name ≡ None) × (new ≡ old)
-absent_at None name old new m a e = absurd cc
-absent_at (Some k) name old new m a e = let same : k ≡ m = cc in subst (λ (x : Contents). (get x name ≡ None) × (new ≡ old)) same a
+if_none : (known : Option Contents) (P : Type 0) → IfNone known P → known ≡ None → P
+if_none None P h e = h
+if_none (Some k) P h e = absurd cc
 
-unknown_rose : (known : Option Contents) (name : List ℕ) (old new : ℕ) → IsAbsent known name old new → known ≡ None → Rose old new
-unknown_rose None name old new a e = a
-unknown_rose (Some k) name old new a e = absurd cc
-
-there_at : (known : Option Contents) (name : List ℕ) (m : Contents) → IsThere known name → known ≡ Some m → IsSome (get m name)
-there_at None name m h e = absurd cc
-there_at (Some k) name m h e = let same : k ≡ m = cc in subst (λ (x : Contents). IsSome (get x name)) same h
-
-not_absent : (error : FileError) → error ≡ FileError.Failed → error ≢ FileError.Absent
-not_absent error is other = let both : FileError.Failed ≡ FileError.Absent = sym is ∙ other in absurd cc
-
-fault_at : (known : Option Contents) (name : List ℕ) (old new : ℕ) (last : Option (List ℕ)) (error : FileError) → IsUnread known name old new last error → error ≡ FileError.Failed → IsFault known (λ _. name ∷ []) old new last name
-fault_at known name old new last error u is = record {
-  counted = u.failed is;
-  named = u.named is;
-  next = λ m e. (there_at known name m (u.there (not_absent error is)) e, inl refl);
+missing : {A : Type 0} (part : Contents → Result A (List ℕ)) (name : List ℕ) (old new : Seen) → ((m : Contents) → get m name ≡ None → part m ≡ Err name) → IsAbsent name old new → IsMissing part name old new
+missing part name old new absent a = record {
+  known = λ m e. let gone = if_some old.known (λ (x : Contents). (get x name ≡ None) × (new ≡ old)) m a.known e in (absent m gone.0, gone.1);
+  unknown = λ e. if_none old.known (IsUnread name old new) a.unknown e;
 }
 
--- of a part that is absent with its file
-pub unread_file : {A : Type 0} (known : Option Contents) (name : List ℕ) (part : Contents → Result A (List ℕ)) (old new : ℕ) (last : Option (List ℕ)) (error : FileError) (halt : Halt)
-    → ((m : Contents) → get m name ≡ None → part m ≡ Err name) → IsUnread known name old new last error → HaltsAt name error halt → Unread known (name ∷ []) part old new last halt
-unread_file known name part old new last error (Halt.Refused why text) absent u h = (
-  h.1,
-  (name, h.2, λ m e. absent m (absent_at known name old new m (u.absent h.0) e).0),
-  (λ m e. (absent_at known name old new m (u.absent h.0) e).1),
-  (λ e. unknown_rose known name old new (u.absent h.0) e),
+fault_at : (name : List ℕ) (old new : Seen) → IsThere old.known name → IsUnread name old new → IsFault (λ _. name ∷ []) name old new
+fault_at name old new there u = record {
+  unread = u;
+  next = λ m e. (if_some old.known (λ (x : Contents). IsSome (get x name)) m there e, inl refl);
+}
+
+-- memory ran out over the line on a file that is absent
+starved_absent : (known : Option Contents) (name : List ℕ) (old new : Seen) → old.known ≡ known → IsAbsent name old new → IsStarved (λ _. name ∷ []) old new
+starved_absent (Some m) name old new is a = inl (if_some old.known (λ (x : Contents). (get x name ≡ None) × (new ≡ old)) m a.known is).1
+starved_absent None name old new is a = inr (
+  name,
+  record {
+    unread = if_none old.known (IsUnread name old new) a.unknown is;
+    next = λ m e. let no : None ≡ Some m = sym is ∙ e in absurd cc;
+  },
 )
-unread_file known name part old new last error (Halt.Fault text) absent u h = (name, h.1, fault_at known name old new last error u h.0)
-unread_file known name part old new last FileError.Absent Halt.OutOfMemory absent u h = inl (λ m e. (absent_at known name old new m (u.absent refl) e).1)
-unread_file known name part old new last FileError.Failed Halt.OutOfMemory absent u h = inr (name, fault_at known name old new last FileError.Failed u refl)
-unread_file known name part old new last FileError.OutOfMemory Halt.OutOfMemory absent u h = inl (λ m e. u.memory refl)
+
+-- of a part that is absent with its file
+pub unread_file : {A : Type 0} (name : List ℕ) (part : Contents → Result A (List ℕ)) (old new : Seen) (error : FileError) (halt : Halt)
+    → ((m : Contents) → get m name ≡ None → part m ≡ Err name) → ReadStops name old new error → HaltsAt name error halt → Unread (name ∷ []) part old new halt
+unread_file name part old new error (Halt.Refused why text) absent stops h =
+    (h.1, name, h.2, missing part name old new absent (subst (ReadStops name old new) h.0 stops))
+unread_file name part old new error (Halt.Fault text) absent stops h =
+    let failed : ReadStops name old new FileError.Failed = subst (ReadStops name old new) h.0 stops in
+    (name, h.1, fault_at name old new failed.0 failed.1)
+unread_file name part old new FileError.Absent Halt.OutOfMemory absent stops h = starved_absent old.known name old new refl stops
+unread_file name part old new FileError.Failed Halt.OutOfMemory absent stops h = inr (name, fault_at name old new stops.0 stops.1)
+unread_file name part old new FileError.OutOfMemory Halt.OutOfMemory absent stops h = inl stops.1
 
 -- bytes, logs and scripts are absent with their file
 pub no_bytes : (m : Contents) (name : List ℕ) → get m name ≡ None → read_at m name ≡ Err name

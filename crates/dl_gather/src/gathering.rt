@@ -18,26 +18,16 @@ use std::alloc::Global;
 /// The files that the plan has read: the script, the input, and of each sphere its image and its log.
 pub fn read_inputs<F: Files>(alloc: Global, files: &mut F, plan: &Plan) -> Result<Inputs, Halt>
     requires { IsPlan (plan_view plan.now) }
-    ensures read { IfOk result (λ r. (m : Contents) → F.known files.old ≡ Some m
+    ensures read { IfOk result (λ r. (m : Contents) → (F.seen files.old).known ≡ Some m
         → plan_read m (plan_view plan.now) ≡ Ok (inputs_view r)) }
     ensures limits { IfOk result (λ r. AreOf (plan_view plan.now) (inputs_view r)) }
-    ensures halt { IfErr result (Unread (F.known files.old) (input_names (plan_view plan.now))
-        (λ m. plan_read m (plan_view plan.now)) (F.count files.old) (F.count files.new) (F.last_fault files.new)) }
-    ensures kept { F.known files.new ≡ F.known files.old }
-    ensures steady { OnOk result (F.count files.new ≡ F.count files.old) }
+    ensures halt { IfErr result (Unread (input_names (plan_view plan.now))
+        (λ m. plan_read m (plan_view plan.now)) (F.seen files.old) (F.seen files.new)) }
+    ensures same { OnOk result (F.seen files.new ≡ F.seen files.old) }
 {
-    let schedule = match read_schedule(alloc, files, &plan.schedule) {
-        Ok(schedule) => schedule,
-        Err(halt) => return Err(halt),
-    };
-    let input = match read_input(alloc, files, &plan.input) {
-        Ok(input) => input,
-        Err(halt) => return Err(halt),
-    };
-    let spheres = match read_spheres(alloc, files, &plan.spheres) {
-        Ok(spheres) => spheres,
-        Err(halt) => return Err(halt),
-    };
+    let schedule = read_schedule(alloc, files, &plan.schedule)?;
+    let input = read_input(alloc, files, &plan.input)?;
+    let spheres = read_spheres(alloc, files, &plan.spheres)?;
     Ok(Inputs {
         schedule,
         input,
@@ -51,19 +41,18 @@ fn read_schedule<F: Files>(
     schedule: &Schedule,
 ) -> Result<ScheduleInputs, Halt>
     requires { IsSchedule (schedule_view schedule.now) }
-    ensures read { IfOk result (λ s. (m : Contents) → F.known files.old ≡ Some m
+    ensures read { IfOk result (λ s. (m : Contents) → (F.seen files.old).known ≡ Some m
         → schedule_read m (schedule_view schedule.now) ≡ Ok (schedule_inputs s)) }
     ensures few { IfOk result (λ s. IsScheduleRead (schedule_inputs s)) }
-    ensures halt { IfErr result (Unread (F.known files.old) (read_for_schedule (schedule_view schedule.now))
-        (λ m. schedule_read m (schedule_view schedule.now)) (F.count files.old) (F.count files.new) (F.last_fault files.new)) }
-    ensures kept { F.known files.new ≡ F.known files.old }
-    ensures steady { OnOk result (F.count files.new ≡ F.count files.old) }
+    ensures halt { IfErr result (Unread (read_for_schedule (schedule_view schedule.now))
+        (λ m. schedule_read m (schedule_view schedule.now)) (F.seen files.old) (F.seen files.new)) }
+    ensures same { OnOk result (F.seen files.new ≡ F.seen files.old) }
 {
     match schedule {
-        Schedule::Script(name) => match read_script(alloc, files, name.as_str()) {
-            Ok(script) => Ok(ScheduleInputs::Script(script)),
-            Err(halt) => Err(halt),
-        },
+        Schedule::Script(name) => {
+            let script = read_script(alloc, files, name.as_str())?;
+            Ok(ScheduleInputs::Script(script))
+        }
         Schedule::Seeded { events } => Ok(ScheduleInputs::Drawn(*events)),
     }
 }
@@ -73,18 +62,14 @@ fn read_input<F: Files>(
     files: &mut F,
     name: &Option<String>,
 ) -> Result<Vec<u8>, Halt>
-    ensures read { IfOk result (λ bytes. (m : Contents) → F.known files.old ≡ Some m
+    ensures read { IfOk result (λ bytes. (m : Contents) → (F.seen files.old).known ≡ Some m
         → input_read m (option_map string_bytes name.now) ≡ Ok bytes.items) }
-    ensures halt { IfErr result (Unread (F.known files.old) (option_to_list (option_map string_bytes name.now))
-        (λ m. input_read m (option_map string_bytes name.now)) (F.count files.old) (F.count files.new) (F.last_fault files.new)) }
-    ensures kept { F.known files.new ≡ F.known files.old }
-    ensures steady { OnOk result (F.count files.new ≡ F.count files.old) }
+    ensures halt { IfErr result (Unread (option_to_list (option_map string_bytes name.now))
+        (λ m. input_read m (option_map string_bytes name.now)) (F.seen files.old) (F.seen files.new)) }
+    ensures same { OnOk result (F.seen files.new ≡ F.seen files.old) }
 {
     match name {
-        Some(name) => match read_file(alloc, files, name.as_str()) {
-            Ok(bytes) => Ok(bytes),
-            Err(halt) => Err(halt),
-        },
+        Some(name) => read_file(alloc, files, name.as_str()),
         None => Ok(Vec::new(alloc)),
     }
 }
@@ -95,21 +80,17 @@ fn read_spheres<F: Files>(
     spheres: &[Sphere],
 ) -> Result<Vec<SphereInputs>, Halt>
     requires { AreMemories (map sphere_view spheres.now) }
-    ensures read { IfOk result (λ ss. (m : Contents) → F.known files.old ≡ Some m
+    ensures read { IfOk result (λ ss. (m : Contents) → (F.seen files.old).known ≡ Some m
         → spheres_read m (map sphere_view spheres.now) ≡ Ok (map sphere_inputs ss.items)) }
     ensures count { IfOk result (λ ss. length ss.items ≡ length spheres.now) }
     ensures memories { IfOk result (λ ss. HaveMemories (map sphere_inputs ss.items)) }
-    ensures halt { IfErr result (Unread (F.known files.old) (flat_map read_for_sphere (map sphere_view spheres.now))
-        (λ m. spheres_read m (map sphere_view spheres.now)) (F.count files.old) (F.count files.new) (F.last_fault files.new)) }
-    ensures kept { F.known files.new ≡ F.known files.old }
-    ensures steady { OnOk result (F.count files.new ≡ F.count files.old) }
+    ensures halt { IfErr result (Unread (flat_map read_for_sphere (map sphere_view spheres.now))
+        (λ m. spheres_read m (map sphere_view spheres.now)) (F.seen files.old) (F.seen files.new)) }
+    ensures same { OnOk result (F.seen files.new ≡ F.seen files.old) }
 {
     let mut read = Vec::new(alloc);
     for sphere in spheres {
-        let sphere = match read_sphere(alloc, files, sphere) {
-            Ok(sphere) => sphere,
-            Err(halt) => return Err(halt),
-        };
+        let sphere = read_sphere(alloc, files, sphere)?;
         match read.push(sphere) {
             Ok(()) => {}
             Err(_) => return Err(Halt::OutOfMemory),
@@ -123,22 +104,15 @@ fn read_sphere<F: Files>(
     files: &mut F,
     sphere: &Sphere,
 ) -> Result<SphereInputs, Halt>
-    ensures read { IfOk result (λ s. (m : Contents) → F.known files.old ≡ Some m
+    ensures read { IfOk result (λ s. (m : Contents) → (F.seen files.old).known ≡ Some m
         → sphere_read m (sphere_view sphere.now) ≡ Ok (sphere_inputs s)) }
     ensures memory { IfOk result (λ s. s.memory ≡ sphere.now.memory) }
-    ensures halt { IfErr result (Unread (F.known files.old) (read_for_sphere (sphere_view sphere.now))
-        (λ m. sphere_read m (sphere_view sphere.now)) (F.count files.old) (F.count files.new) (F.last_fault files.new)) }
-    ensures kept { F.known files.new ≡ F.known files.old }
-    ensures steady { OnOk result (F.count files.new ≡ F.count files.old) }
+    ensures halt { IfErr result (Unread (read_for_sphere (sphere_view sphere.now))
+        (λ m. sphere_read m (sphere_view sphere.now)) (F.seen files.old) (F.seen files.new)) }
+    ensures same { OnOk result (F.seen files.new ≡ F.seen files.old) }
 {
-    let image = match read_file(alloc, files, sphere.image.as_str()) {
-        Ok(image) => image,
-        Err(halt) => return Err(halt),
-    };
-    let role = match read_role(alloc, files, &sphere.role) {
-        Ok(role) => role,
-        Err(halt) => return Err(halt),
-    };
+    let image = read_file(alloc, files, sphere.image.as_str())?;
+    let role = read_role(alloc, files, &sphere.role)?;
     Ok(SphereInputs {
         image,
         memory: sphere.memory,
@@ -147,19 +121,18 @@ fn read_sphere<F: Files>(
 }
 
 fn read_role<F: Files>(alloc: Global, files: &mut F, role: &Role) -> Result<RoleInputs, Halt>
-    ensures read { IfOk result (λ r. (m : Contents) → F.known files.old ≡ Some m
+    ensures read { IfOk result (λ r. (m : Contents) → (F.seen files.old).known ≡ Some m
         → role_read m (role_view role.now) ≡ Ok (role_inputs r)) }
-    ensures halt { IfErr result (Unread (F.known files.old) (read_for_role (role_view role.now))
-        (λ m. role_read m (role_view role.now)) (F.count files.old) (F.count files.new) (F.last_fault files.new)) }
-    ensures kept { F.known files.new ≡ F.known files.old }
-    ensures steady { OnOk result (F.count files.new ≡ F.count files.old) }
+    ensures halt { IfErr result (Unread (read_for_role (role_view role.now))
+        (λ m. role_read m (role_view role.now)) (F.seen files.old) (F.seen files.new)) }
+    ensures same { OnOk result (F.seen files.new ≡ F.seen files.old) }
 {
     match role {
         Role::Plain => Ok(RoleInputs::Plain),
         Role::Record { mode, .. } => Ok(RoleInputs::Record(*mode)),
-        Role::Replay { log } => match read_log(alloc, files, log.as_str()) {
-            Ok(read) => Ok(RoleInputs::Replay(read)),
-            Err(halt) => Err(halt),
-        },
+        Role::Replay { log } => {
+            let read = read_log(alloc, files, log.as_str())?;
+            Ok(RoleInputs::Replay(read))
+        }
     }
 }

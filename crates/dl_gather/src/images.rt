@@ -24,10 +24,7 @@ pub fn load_spheres(alloc: Global, inputs: &[SphereInputs]) -> Result<Vec<Sphere
 {
     let mut spheres = Vec::new(alloc);
     for (i, input) in inputs.iter().enumerate() {
-        let sphere = match load_sphere(alloc, i, input) {
-            Ok(sphere) => sphere,
-            Err(halt) => return Err(halt),
-        };
+        let sphere = load_sphere(alloc, i, input)?;
         match spheres.push(sphere) {
             Ok(()) => {}
             Err(_) => return Err(Halt::OutOfMemory),
@@ -42,13 +39,11 @@ fn load_sphere(alloc: Global, number: usize, input: &SphereInputs) -> Result<Sph
     ensures image { IfOk result (λ s. image_read number (sphere_view input.now) ≡ Ok (image_in s)) }
     ensures halt { IfErr result (Refuses (image_read number (sphere_view input.now))) }
 {
-    match load_image(alloc, number, &input.image, input.memory) {
-        Ok(image) => Ok(SphereSetup {
-            image,
-            role: Role::Plain,
-        }),
-        Err(halt) => Err(halt),
-    }
+    let image = load_image(alloc, number, &input.image, input.memory)?;
+    Ok(SphereSetup {
+        image,
+        role: Role::Plain,
+    })
 }
 
 /// The image of the sphere of that number, in a memory of that size; the first rule that the file breaks is refused.

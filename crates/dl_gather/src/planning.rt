@@ -16,19 +16,15 @@ use std::alloc::Global;
 
 /// The plan in the file `name`.
 pub fn load_plan<F: Files>(alloc: Global, files: &mut F, name: &str) -> Result<Plan, Halt>
-    ensures plan { IfOk result (λ p. (m : Contents) → F.known files.old ≡ Some m
+    ensures plan { IfOk result (λ p. (m : Contents) → (F.seen files.old).known ≡ Some m
         → plan_at m name.now ≡ Ok (plan_view p)) }
     ensures limits { IfOk result (λ p. IsPlan (plan_view p)) }
-    ensures halt { IfErr result (Halts (F.known files.old) (λ m. plan_at m name.now)
-        (λ m. name.now ∷ inputs_of (plan_at m name.now)) (F.count files.old) (F.count files.new) (F.last_fault files.new)) }
+    ensures halt { IfErr result (Halts (λ m. plan_at m name.now)
+        (λ m. name.now ∷ inputs_of (plan_at m name.now)) (F.seen files.old) (F.seen files.new)) }
     ensures usage { IfErr result IsNotUsage }
-    ensures kept { F.known files.new ≡ F.known files.old }
-    ensures steady { OnOk result (F.count files.new ≡ F.count files.old) }
+    ensures same { OnOk result (F.seen files.new ≡ F.seen files.old) }
 {
-    let bytes = match read_file(alloc, files, name) {
-        Ok(bytes) => bytes,
-        Err(halt) => return Err(halt),
-    };
+    let bytes = read_file(alloc, files, name)?;
     match read_plan(alloc, name, &bytes) {
         Ok(plan) => Ok(plan),
         Err(PlanError::Refused(rule)) => Err(Halt::Refused(Refusal::Plan, plan_line(alloc, rule)?)),

@@ -16,12 +16,11 @@ use std::alloc::Global;
 
 /// The bytes of the file `name`.
 pub fn read_file<F: Files>(alloc: Global, files: &mut F, name: &str) -> Result<Vec<u8>, Halt>
-    ensures bytes { IfOk result (λ bytes. (m : Contents) → F.known files.old ≡ Some m
+    ensures bytes { IfOk result (λ bytes. (m : Contents) → (F.seen files.old).known ≡ Some m
         → read_at m name.now ≡ Ok bytes.items) }
-    ensures halt { IfErr result (Unread (F.known files.old) (name.now ∷ []) (λ m. read_at m name.now)
-        (F.count files.old) (F.count files.new) (F.last_fault files.new)) }
-    ensures kept { F.known files.new ≡ F.known files.old }
-    ensures steady { OnOk result (F.count files.new ≡ F.count files.old) }
+    ensures halt { IfErr result (Unread (name.now ∷ []) (λ m. read_at m name.now)
+        (F.seen files.old) (F.seen files.new)) }
+    ensures same { OnOk result (F.seen files.new ≡ F.seen files.old) }
 {
     match files.read(alloc, name) {
         Ok(bytes) => Ok(bytes),
@@ -31,12 +30,11 @@ pub fn read_file<F: Files>(alloc: Global, files: &mut F, name: &str) -> Result<V
 
 /// What the file `name` says as a log. It is read piece after piece, and nothing behind a field that isn't good.
 pub fn read_log<F: Files>(alloc: Global, files: &mut F, name: &str) -> Result<LogRead, Halt>
-    ensures read { IfOk result (λ r. (m : Contents) → F.known files.old ≡ Some m
+    ensures read { IfOk result (λ r. (m : Contents) → (F.seen files.old).known ≡ Some m
         → log_at m name.now ≡ Ok (read_view r)) }
-    ensures halt { IfErr result (Unread (F.known files.old) (name.now ∷ []) (λ m. log_at m name.now)
-        (F.count files.old) (F.count files.new) (F.last_fault files.new)) }
-    ensures kept { F.known files.new ≡ F.known files.old }
-    ensures steady { OnOk result (F.count files.new ≡ F.count files.old) }
+    ensures halt { IfErr result (Unread (name.now ∷ []) (λ m. log_at m name.now)
+        (F.seen files.old) (F.seen files.new)) }
+    ensures same { OnOk result (F.seen files.new ≡ F.seen files.old) }
 {
     match read_log_file(alloc, files, name) {
         Ok(read) => Ok(read),
@@ -46,13 +44,12 @@ pub fn read_log<F: Files>(alloc: Global, files: &mut F, name: &str) -> Result<Lo
 
 /// What the file `name` says as a script. It is read piece after piece, and nothing behind a line that is refused.
 pub fn read_script<F: Files>(alloc: Global, files: &mut F, name: &str) -> Result<ScriptRead, Halt>
-    ensures read { IfOk result (λ r. (m : Contents) → F.known files.old ≡ Some m
+    ensures read { IfOk result (λ r. (m : Contents) → (F.seen files.old).known ≡ Some m
         → script_at m name.now ≡ Ok (script_view r)) }
     ensures few { IfOk result (λ r. IfOk (script_view r) (λ events. length events ≤ 2 ^ 24)) }
-    ensures halt { IfErr result (Unread (F.known files.old) (name.now ∷ []) (λ m. script_at m name.now)
-        (F.count files.old) (F.count files.new) (F.last_fault files.new)) }
-    ensures kept { F.known files.new ≡ F.known files.old }
-    ensures steady { OnOk result (F.count files.new ≡ F.count files.old) }
+    ensures halt { IfErr result (Unread (name.now ∷ []) (λ m. script_at m name.now)
+        (F.seen files.old) (F.seen files.new)) }
+    ensures same { OnOk result (F.seen files.new ≡ F.seen files.old) }
 {
     match read_script_file(alloc, files, name) {
         Ok(read) => Ok(read),

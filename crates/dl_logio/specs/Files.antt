@@ -2,6 +2,8 @@
 use Rattle.std.specs.Prelude.{◌≡◌, ◌⊎◌, ℕ, List, take, Option, Some, IfSome, option_map, Result, Ok, Err}
 use Rattle.std.specs.FinMap.{get}
 use Rattle.dl_files.specs.Contents.{Contents, with_file}
+use Rattle.dl_files.specs.Seen.{Seen, IsUnwritten}
+use Rattle.dl_files.specs.declared.FileError.{FileError}
 use Rattle.dl_logio.specs.declared.reading.LogRead.{LogRead}
 use Rattle.spec_log.specs.Reading.{ParseError, read_of}
 use Rattle.spec_log.specs.declared.log.LogParts.{LogParts}
@@ -15,6 +17,14 @@ read_view (LogRead.Malformed number offset) = Err (record { number = number; off
 abbrev pub SaysLog : Option Contents → (name : List ℕ) → Result LogParts ParseError → Type 0
 SaysLog known name read = IfSome known (λ m. option_map read_of (get m name) ≡ Some read)
 
--- nothing is written yet, or the first of these bytes are, and nothing else has changed
-abbrev pub IsPartly : (name bytes : List ℕ) → (old new : Option Contents) → Type 0
-IsPartly name bytes old new = (new ≡ old) ⊎ ((k : ℕ) × (new ≡ with_file name (take k bytes) old))
+-- memory ran out in the write of these bytes to that name: nothing has changed, or it holds the first of them
+pub record IsPartly (name bytes : List ℕ) (old new : Seen) : Type 0 where
+  pub known : (new.known ≡ old.known) ⊎ ((k : ℕ) × (new.known ≡ with_file name (take k bytes) old.known))
+  pub faults : new.faults ≡ old.faults
+  pub unread : new.unread ≡ old.unread
+
+-- the write of a log of these bytes to that name stopped so
+abbrev pub LogStops : (name bytes : List ℕ) → (old new : Seen) → FileError → Type 0
+LogStops name bytes old new FileError.Failed = IsUnwritten name old new
+LogStops name bytes old new FileError.Absent = ⊥
+LogStops name bytes old new FileError.OutOfMemory = IsPartly name bytes old new

@@ -1,7 +1,6 @@
 //! A log read from its file.
-ghost use Rattle.std.specs.Prelude.{◌≡◌, ◌≢◌, ◌≤◌, ℕ, List, IfOk, IfErr, OnOk, IsErrOf};
-ghost use Rattle.dl_files.specs.Contents.{IsAbsent, IsLast, IsThere};
-ghost use Rattle.dl_files.specs.Count.{Rose};
+ghost use Rattle.std.specs.Prelude.{◌≡◌, ℕ, List, IfOk, IfErr, OnOk};
+ghost use Rattle.dl_files.specs.Seen.{ReadStops};
 ghost use Rattle.dl_logfmt.specs.Feeding.{HasFed};
 ghost use Rattle.dl_logio.specs.Files.{SaysLog, read_view};
 ghost use Rattle.spec_log.specs.Reading.{read_of};
@@ -26,17 +25,9 @@ pub fn read_log_file<F: Files>(
     files: &mut F,
     name: &str,
 ) -> Result<LogRead, FileError>
-    ensures read { IfOk result (λ r. SaysLog (F.known files.old) name.now (read_view r)) }
-    ensures absent { IsErrOf result FileError.Absent
-        → IsAbsent (F.known files.old) name.now (F.count files.old) (F.count files.new) }
-    ensures there { IfErr result (λ e. e ≢ FileError.Absent → IsThere (F.known files.old) name.now) }
-    ensures failed { IsErrOf result FileError.Failed → Rose (F.count files.old) (F.count files.new) }
-    ensures last { IsErrOf result FileError.Failed → IsLast (F.last_fault files.new) name.now }
-    ensures ok_steady { OnOk result (F.count files.new ≡ F.count files.old) }
-    ensures memory_steady { IsErrOf result FileError.OutOfMemory
-        → F.count files.new ≡ F.count files.old }
-    ensures kept { F.known files.new ≡ F.known files.old }
-    ensures counted { F.count files.old ≤ F.count files.new }
+    ensures read { IfOk result (λ r. SaysLog (F.seen files.old).known name.now (read_view r)) }
+    ensures ok { OnOk result (F.seen files.new ≡ F.seen files.old) }
+    ensures err { IfErr result (ReadStops name.now (F.seen files.old) (F.seen files.new)) }
 {
     let mut reader = LogReader::new(alloc);
     let mut piece = [0; PIECE];

@@ -1,14 +1,14 @@
 //! A script read from its file.
-ghost use Rattle.std.specs.Prelude.{◌≡◌, ◌≢◌, ◌≤◌, ◌^◌, List, length, Result, IfOk, IfErr, OnOk, IsErrOf};
+ghost use Rattle.std.specs.Prelude.{◌≡◌, ◌≤◌, ◌^◌, List, length, Result, IfOk, IfErr, OnOk};
+ghost use Rattle.dl_event.specs.Script.{script_of};
 ghost use Rattle.dl_event.specs.declared.error.ScriptError.{ScriptError};
-ghost use Rattle.dl_files.specs.Contents.{IsAbsent, IsLast, IsThere};
-ghost use Rattle.dl_files.specs.Count.{Rose};
+ghost use Rattle.dl_files.specs.Seen.{ReadStops};
 ghost use Rattle.spec_protocol.specs.declared.event.Event.{Event};
 ghost use Rattle.dl_scriptio.specs.Files.{IsReadAs, SaysScript, read_view};
 
 use crate::PIECE;
 use dl_event::{Events, ScriptError, ScriptReader, parse_script};
-use dl_files::{FileError, Files};
+use dl_files::{Beginning, FileError, Files};
 use std::alloc::Global;
 
 /// A script of more bytes is read at once, as a file that may be too large for that.
@@ -24,32 +24,26 @@ pub enum ScriptRead {
 }
 
 /// What the file `name` says as a script, in memory of `alloc`. It is read piece after piece, and nothing behind a line
-/// that is refused; but a file that has no parts, as a pipe, and one with a line as long as a piece, are read at once.
+/// that is refused; but a file of which no part can be read, as a pipe, and one with a line as long as a piece, are read at once.
 pub fn read_script_file<F: Files>(
     alloc: Global,
     files: &mut F,
     name: &str,
 ) -> Result<ScriptRead, FileError>
-    ensures read { IfOk result (λ r. SaysScript (F.known files.old) name.now (read_view r)) }
+    ensures read { IfOk result (λ r. SaysScript (F.seen files.old).known name.now (read_view r)) }
     ensures few { IfOk result (λ r. IfOk (read_view r) (λ events. length events ≤ 2 ^ 24)) }
-    ensures absent { IsErrOf result FileError.Absent
-        → IsAbsent (F.known files.old) name.now (F.count files.old) (F.count files.new) }
-    ensures there { IfErr result (λ e. e ≢ FileError.Absent → IsThere (F.known files.old) name.now) }
-    ensures failed { IsErrOf result FileError.Failed → Rose (F.count files.old) (F.count files.new) }
-    ensures last { IsErrOf result FileError.Failed → IsLast (F.last_fault files.new) name.now }
-    ensures ok_steady { OnOk result (F.count files.new ≡ F.count files.old) }
-    ensures memory_steady { IsErrOf result FileError.OutOfMemory
-        → F.count files.new ≡ F.count files.old }
-    ensures kept { F.known files.new ≡ F.known files.old }
+    ensures ok { OnOk result (F.seen files.new ≡ F.seen files.old) }
+    ensures err { IfErr result (ReadStops name.now (F.seen files.old) (F.seen files.new)) }
 {
-    if !files.has_parts(name) {
-        return read_at_once(alloc, files, name);
-    }
     let mut reader = ScriptReader::new(alloc);
     let mut piece = [0; PIECE];
+    let beginning = files.begin(alloc, name, &mut piece)?;
+    let mut n = match beginning {
+        Beginning::Part(n) => n,
+        Beginning::Whole(bytes) => return script_in(alloc, &bytes),
+    };
     let mut offset = 0;
     while offset < LARGEST {
-        let n = files.read_at(name, offset, &mut piece)?;
         let last;
         (reader, last) = match reader.read_lines(&piece[..n]) {
             Ok(read) => read,
@@ -63,6 +57,7 @@ pub fn read_script_file<F: Files>(
             break;
         }
         offset += whole_lines as u64;
+        n = files.read_at(name, offset, &mut piece)?;
     }
     // A line fills a piece, or the script is that large.
     read_at_once(alloc, files, name)
@@ -70,20 +65,22 @@ pub fn read_script_file<F: Files>(
 
 // The same, in memory of `alloc` for all bytes of the file.
 fn read_at_once<F: Files>(alloc: Global, files: &mut F, name: &str) -> Result<ScriptRead, FileError>
-    ensures read { IfOk result (λ r. SaysScript (F.known files.old) name.now (read_view r)) }
+    ensures read { IfOk result (λ r. SaysScript (F.seen files.old).known name.now (read_view r)) }
     ensures few { IfOk result (λ r. IfOk (read_view r) (λ events. length events ≤ 2 ^ 24)) }
-    ensures absent { IsErrOf result FileError.Absent
-        → IsAbsent (F.known files.old) name.now (F.count files.old) (F.count files.new) }
-    ensures there { IfErr result (λ e. e ≢ FileError.Absent → IsThere (F.known files.old) name.now) }
-    ensures failed { IsErrOf result FileError.Failed → Rose (F.count files.old) (F.count files.new) }
-    ensures last { IsErrOf result FileError.Failed → IsLast (F.last_fault files.new) name.now }
-    ensures ok_steady { OnOk result (F.count files.new ≡ F.count files.old) }
-    ensures memory_steady { IsErrOf result FileError.OutOfMemory
-        → F.count files.new ≡ F.count files.old }
-    ensures kept { F.known files.new ≡ F.known files.old }
+    ensures ok { OnOk result (F.seen files.new ≡ F.seen files.old) }
+    ensures err { IfErr result (ReadStops name.now (F.seen files.old) (F.seen files.new)) }
 {
     let bytes = files.read(alloc, name)?;
-    said(parse_script(alloc, &bytes))
+    script_in(alloc, &bytes)
+}
+
+// What these bytes say as a script.
+fn script_in(alloc: Global, bytes: &[u8]) -> Result<ScriptRead, FileError>
+    ensures read { IfOk result (λ r. script_of bytes.now ≡ read_view r) }
+    ensures few { IfOk result (λ r. IfOk (read_view r) (λ events. length events ≤ 2 ^ 24)) }
+    ensures memory { IfErr result (λ e. e ≡ FileError.OutOfMemory) }
+{
+    said(parse_script(alloc, bytes))
 }
 
 // What a script says that was read so.

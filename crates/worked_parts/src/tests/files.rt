@@ -11,7 +11,7 @@ use std::process::Abort;
 use std::test::Fail;
 
 fn copy<F: Files>(alloc: Global, files: &mut F, from: &str, to: &str) -> Result<(), FileError>
-    ensures fault { IsErrOf result FileError.Failed → Rose (F.count files.old) (F.count files.new) }
+    ensures fault { IsErrOf result FileError.Failed → Rose (F.seen files.old).faults (F.seen files.new).faults }
 {
     let bytes = files.read(alloc, from)?;
     files.write(to, bytes.as_slice())

@@ -21,4 +21,5 @@ returns-in_ok-source_line-in-Err-Refused-clause-halt c =
           ∙ ap refused_by (sym (c.in_ok-source_line-in-Err-Refused.ensures ∙ ap (source_line line) c.number.ensures)),
       (λ e. absurd cc),
       (λ e. absurd cc),
+      (line, c.number.result, c.in_ok-source_line-in-Err-Refused.ensures),
     )

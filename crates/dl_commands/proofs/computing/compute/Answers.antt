@@ -11,21 +11,21 @@ use Rattle.dl_gather.specs.Inputs.{image_in, inputs_view, sphere_view}
 use Rattle.dl_commands.proofs.Building.{job_is}
 use Rattle.dl_commands.proofs.computing.compute.Goals as goal
 
-pub returns-in-Ok-run-clause-job : goal.returns-in-Ok-run-clause-job
-returns-in-Ok-run-clause-job c =
+pub returns-in-Ok-clause-job : goal.returns-in-Ok-clause-job
+returns-in-Ok-clause-job c =
     let p = plan_view c.args.plan.now in
     let r = inputs_view c.args.inputs in
-    let images = map image_in c.in-Ok.spheres.items in
+    let images = map image_in c.in_ok-spheres.spheres.items in
     let given = c.give_roles.new.spheres in
     let spheres = map sphere_setup given in
-    let rest = drop (length given) c.in-Ok.spheres.items in
-    let back : take c.in-Ok.spheres.len (given ++ rest) ≡ given =
+    let rest = drop (length given) c.in_ok-spheres.spheres.items in
+    let back : take c.in_ok-spheres.spheres.len (given ++ rest) ≡ given =
     ap (λ (n : ℕ). take n (given ++ rest)) (sym (c.give_roles.ensures.count ∙ c.deref_mut.ensures.len)) ∙ take-append_seam given rest
     in
-    job_is p r images spheres (events_in c.in-Ok-read_events.schedule) (setup_in c.setup_of-setup.result) c.in-Ok-run.job
-    (ap (λ (ss : List SphereInputs). images_of 0 (map sphere_view ss)) (sym c.deref.ensures.value) ∙ c.in-Ok.ensures.images)
+    job_is p r images spheres (events_in c.in_ok-schedule.schedule) (setup_in c.setup_of-setup.result) c.in-Ok.job
+    (ap (λ (ss : List SphereInputs). images_of 0 (map sphere_view ss)) (sym c.deref.ensures.value) ∙ c.in_ok-spheres.ensures.images)
     (ap (λ (ss : List SphereSetup). spheres_of 0 r.spheres (map image_in ss)) (sym c.deref_mut.ensures.value)
-    ∙ c.in-Ok-give_roles.ensures.roles)
-    c.in-Ok-read_events.ensures.events
+    ∙ c.in_ok-give_roles.ensures.roles)
+    c.in_ok-schedule.ensures.events
     (c.setup_of-setup.ensures.value ∙ ap (λ (ss : List SphereSetup). setup_of p r.input (map sphere_setup ss)) back)
-    c.in-Ok-run.ensures
+    c.in-Ok.ensures

@@ -1,17 +1,23 @@
-use Rattle.std.proofs.Common.{refl, ◌∙◌}
+use Rattle.std.proofs.Common.{◌∙◌, ap, subst}
+use Rattle.dl_files.specs.Seen.{Seen}
 use Rattle.dl_words.specs.Commands.{Run}
 use Rattle.spec_program.specs.Ends.{reads_of}
+use Rattle.spec_program.specs.Outside.{outside}
 use Rattle.spec_program.specs.Works.{work_of}
+use Rattle.dl_commands.specs.Jobs.{writes_of}
+use Rattle.dl_commands.specs.Performed.{IsPerformed}
 use Rattle.dl_commands.specs.Texts.{texts}
-use Rattle.dl_commands.proofs.Finishing.{done_is, drill_ends, performed_fault, stopped_fault, performed_stands, halted_stands, stopped_undone}
+use Rattle.dl_commands.proofs.Finishing.{done_is, drill_halted, drill_performed, performed_fault, performed_stands, performed_unread, performed_unrefused, stopped_fault, halted_absent, halted_kept, halted_line, halted_stands, stopped_undone}
 use Rattle.dl_commands.proofs.Growing.{performed_took, stopped_took}
 use Rattle.dl_commands.proofs.top.delorean.Goals as goal
+
+-- ---- a command that is computed, and then done
 
 pub returns-in-Ok-clause-stands : goal.returns-in-Ok-clause-stands
 returns-in-Ok-clause-stands g c =
     λ m e.
-    performed_stands (work_of (texts c.args.words.now) m) c.in-Ok.job (reads_of (texts c.args.words.now) m) m _ _ _ c.perform.result
-    (c.in-Ok.ensures.job m e) (c.in-Ok.ensures.kept ∙ e) c.in-Ok.ensures.steady refl refl c.perform.ensures
+    performed_stands (work_of (texts c.args.words.now) m) c.in-Ok.job (reads_of (texts c.args.words.now) m) m _ _ c.perform.result (c.in-Ok.ensures.job m e) e
+    (subst (λ (s : Seen). IsPerformed c.in-Ok.job.diverged (writes_of c.in-Ok.job.writes.items) c.in-Ok.job.text.items (outside s (g.O.Sink.taken c.args.out.now) (g.O.Sink.count c.args.out.now)) (outside (g.F.Files.seen c.perform.new.files) (g.O.Sink.taken c.perform.new.out) (g.O.Sink.count c.perform.new.out)) c.perform.result) c.in-Ok.ensures.same c.perform.ensures)
 
 pub returns-in-Ok-clause-done : goal.returns-in-Ok-clause-done
 returns-in-Ok-clause-done g c =
@@ -21,10 +27,32 @@ returns-in-Ok-clause-done g c =
 pub returns-in-Ok-clause-headline : goal.returns-in-Ok-clause-headline
 returns-in-Ok-clause-headline g c = λ plan m asks e done. returns-in-Ok-clause-done g c (Run plan) m asks e done
 
+pub returns-in-Ok-clause-drill : goal.returns-in-Ok-clause-drill
+returns-in-Ok-clause-drill g c = λ number asks.
+    let done = drill_performed number c.in-Ok.job _ _ c.perform.result (c.in-Ok.ensures.drill number asks).0 c.perform.ensures in
+    (done.0, done.1 ∙ ap (λ (s : Seen). s.faults) c.in-Ok.ensures.same)
+
+pub returns-in-Ok-clause-fault_said : goal.returns-in-Ok-clause-fault_said
+returns-in-Ok-clause-fault_said g c = λ e whole. performed_fault _ _ _ _ _ c.perform.result c.perform.ensures e whole
+
+pub returns-in-Ok-clause-said : goal.returns-in-Ok-clause-said
+returns-in-Ok-clause-said g c = performed_took _ _ _ _ _ c.perform.result c.perform.ensures
+
+pub returns-in-Ok-clause-line : goal.returns-in-Ok-clause-line
+returns-in-Ok-clause-line g c = λ e. absurd (performed_unrefused _ _ _ _ _ c.perform.result c.perform.ensures e)
+
+pub returns-in-Ok-clause-refused_kept : goal.returns-in-Ok-clause-refused_kept
+returns-in-Ok-clause-refused_kept g c = λ e. absurd (performed_unrefused _ _ _ _ _ c.perform.result c.perform.ensures e)
+
+pub returns-in-Ok-clause-unread_kept : goal.returns-in-Ok-clause-unread_kept
+returns-in-Ok-clause-unread_kept g c = λ n. absurd (n (performed_unread _ _ _ _ _ c.perform.result c.perform.ensures ∙ ap (λ (s : Seen). s.unread) c.in-Ok.ensures.same))
+
+-- ---- a command that halts
+
 pub returns-in-Err-clause-stands : goal.returns-in-Err-clause-stands
 returns-in-Err-clause-stands g c =
     λ m e.
-    halted_stands (work_of (texts c.args.words.now)) (reads_of (texts c.args.words.now)) m _ _ c.in-Err.halt c.stop.result e c.in-Err.ensures.kept c.in-Err.ensures.halt c.stop.ensures
+    halted_stands _ _ _ _ _ _ (work_of (texts c.args.words.now)) (reads_of (texts c.args.words.now)) m c.in-Err.halt c.stop.result e c.in-Err.ensures.halt c.stop.ensures
 
 pub returns-in-Err-clause-headline : goal.returns-in-Err-clause-headline
 returns-in-Err-clause-headline g c = λ plan m asks e done. absurd (stopped_undone _ _ _ _ c.stop.result c.in-Err.halt c.stop.ensures done)
@@ -32,20 +60,25 @@ returns-in-Err-clause-headline g c = λ plan m asks e done. absurd (stopped_undo
 pub returns-in-Err-clause-done : goal.returns-in-Err-clause-done
 returns-in-Err-clause-done g c = λ command m asks e done. absurd (stopped_undone _ _ _ _ c.stop.result c.in-Err.halt c.stop.ensures done)
 
-pub returns-in-Ok-clause-drill : goal.returns-in-Ok-clause-drill
-returns-in-Ok-clause-drill g c = λ number m asks e. drill_ends (texts c.args.words.now) m _ _ c.perform.result number asks (returns-in-Ok-clause-stands g c m e)
-
 pub returns-in-Err-clause-drill : goal.returns-in-Err-clause-drill
-returns-in-Err-clause-drill g c = λ number m asks e. drill_ends (texts c.args.words.now) m _ _ c.stop.result number asks (returns-in-Err-clause-stands g c m e)
-
-pub returns-in-Ok-clause-fault_said : goal.returns-in-Ok-clause-fault_said
-returns-in-Ok-clause-fault_said g c = λ e whole. performed_fault _ _ _ _ _ c.perform.result c.perform.ensures e whole
+returns-in-Err-clause-drill g c = λ number asks.
+    let drill = c.in-Err.ensures.drill number asks in
+    (drill_halted c.in-Err.halt _ _ _ _ c.stop.result drill.0 c.stop.ensures, ap (λ (s : Seen). s.faults) drill.1)
 
 pub returns-in-Err-clause-fault_said : goal.returns-in-Err-clause-fault_said
-returns-in-Err-clause-fault_said g c = λ e whole. stopped_fault _ _ _ _ c.stop.result _ _ _ _ _ _ c.in-Err.halt c.in-Err.ensures.halt c.stop.ensures e whole
-
-pub returns-in-Ok-clause-said : goal.returns-in-Ok-clause-said
-returns-in-Ok-clause-said g c = performed_took _ _ _ _ _ c.perform.result c.perform.ensures
+returns-in-Err-clause-fault_said g c = λ e whole. stopped_fault _ _ _ _ c.stop.result _ _ _ _ c.in-Err.halt c.in-Err.ensures.halt c.stop.ensures e whole
 
 pub returns-in-Err-clause-said : goal.returns-in-Err-clause-said
 returns-in-Err-clause-said g c = stopped_took c.in-Err.halt _ _ _ _ c.stop.result c.stop.ensures
+
+pub returns-in-Err-clause-absent_said : goal.returns-in-Err-clause-absent_said
+returns-in-Err-clause-absent_said g c = λ none e whole. halted_absent _ _ _ _ _ _ _ _ c.in-Err.halt c.stop.result c.in-Err.ensures.halt c.stop.ensures none e whole
+
+pub returns-in-Err-clause-line : goal.returns-in-Err-clause-line
+returns-in-Err-clause-line g c = λ e. halted_line _ _ _ _ _ _ _ _ c.in-Err.halt c.stop.result c.in-Err.ensures.halt c.stop.ensures e
+
+pub returns-in-Err-clause-refused_kept : goal.returns-in-Err-clause-refused_kept
+returns-in-Err-clause-refused_kept g c = λ e. (halted_kept _ _ (g.O.Sink.taken c.args.out.now) (g.O.Sink.taken c.args.out.now) 0 0 _ _ c.in-Err.halt c.in-Err.ensures.halt).changes
+
+pub returns-in-Err-clause-unread_kept : goal.returns-in-Err-clause-unread_kept
+returns-in-Err-clause-unread_kept g c = λ n. (halted_kept _ _ (g.O.Sink.taken c.args.out.now) (g.O.Sink.taken c.args.out.now) 0 0 _ _ c.in-Err.halt c.in-Err.ensures.halt).changes

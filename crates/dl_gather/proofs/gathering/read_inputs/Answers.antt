@@ -1,5 +1,7 @@
-use Rattle.std.proofs.Common.{List, ◌++◌, map, flat_map, option_to_list, refl, ◌∙◌, subst}
+use Rattle.std.proofs.Common.{List, ◌++◌, map, flat_map, option_to_list, ap, sym, ◌∙◌, subst}
+use Rattle.dl_files.specs.Seen.{Seen}
 use Rattle.dl_plan.specs.declared.Sphere.{Sphere}
+use Rattle.dl_plan.specs.Files.{input_names}
 use Rattle.dl_plan.specs.Values.{plan_view, sphere_view}
 use Rattle.spec_program.specs.Files.{plan_read, schedule_read, input_read, spheres_read}
 use Rattle.spec_program.proofs.Turns.{next_before, next_behind}
@@ -7,67 +9,65 @@ use Rattle.dl_gather.specs.Halts.{Unread}
 use Rattle.dl_gather.specs.Inputs.{schedule_view}
 use Rattle.dl_gather.specs.Reads.{read_for_schedule, read_for_sphere}
 use Rattle.dl_gather.proofs.Named.{named_by_parts, unread_by_parts}
-use Rattle.dl_gather.proofs.Stopping.{err_then, ok_then, unread_in, schedule_there, input_there}
+use Rattle.dl_gather.proofs.Stopping.{err_then, halt_carried, ok_then, unread_in, schedule_there, input_there}
 use Rattle.dl_gather.proofs.gathering.read_inputs.Goals as goal
 
-pub returns-in-Err-clause-halt : goal.returns-in-Err-clause-halt
-returns-in-Err-clause-halt g c =
+pub returns-in_err-schedule-clause-halt : goal.returns-in_err-schedule-clause-halt
+returns-in_err-schedule-clause-halt g c =
     let p = plan_view c.args.plan.now in
-    let known = g.F.Files.known c.args.files.now in
-    let old = g.F.Files.count c.args.files.now in
-    let new = g.F.Files.count c.read_schedule.new.files in
-    let last = g.F.Files.last_fault c.read_schedule.new.files in
-    unread_by_parts known p (λ m. plan_read m p) old new last c.in-Err.halt
-    (unread_in known known old old new last refl refl (read_for_schedule p.schedule) (named_by_parts p) (λ m. schedule_read m p.schedule) (λ m. plan_read m p) c.in-Err.halt
+    let old = g.F.Files.seen c.args.files.now in
+    let new = g.F.Files.seen c.read_schedule.new.files in
+    let halt = c.in_err-schedule.field-0.0 in
+    halt_carried c.from_residual.result halt (Unread (input_names p) (λ m. plan_read m p) old new) c.from_residual.ensures.1
+    (unread_by_parts p (λ m. plan_read m p) old new halt
+    (unread_in old new (read_for_schedule p.schedule) (named_by_parts p) (λ m. schedule_read m p.schedule) (λ m. plan_read m p) halt
     (record {
       absent = λ m e name x. err_then (schedule_read m p.schedule) _ name x;
       next = λ m e name n. next_before m (read_for_schedule p.schedule) (option_to_list p.input ++ flat_map read_for_sphere p.spheres) name n;
     })
-    c.in-Err.ensures.halt)
+    c.in_err-schedule.ensures.halt))
 
-pub returns-in-Err-read_input-clause-halt : goal.returns-in-Err-read_input-clause-halt
-returns-in-Err-read_input-clause-halt g c =
+pub returns-in_err-input-clause-halt : goal.returns-in_err-input-clause-halt
+returns-in_err-input-clause-halt g c =
     let p = plan_view c.args.plan.now in
-    let known = g.F.Files.known c.args.files.now in
-    let seen = g.F.Files.known c.read_schedule.new.files in
-    let old = g.F.Files.count c.read_schedule.new.files in
-    let new = g.F.Files.count c.read_input.new.files in
-    let last = g.F.Files.last_fault c.read_input.new.files in
-    let schedule = schedule_view c.in-Ok.schedule in
-    unread_by_parts known p (λ m. plan_read m p) (g.F.Files.count c.args.files.now) new last c.in-Err-read_input.halt
-    (unread_in known seen (g.F.Files.count c.args.files.now) old new last c.in-Ok.ensures.kept c.in-Ok.ensures.steady
-    (option_to_list p.input) (named_by_parts p) (λ m. input_read m p.input) (λ m. plan_read m p) c.in-Err-read_input.halt
+    let old = g.F.Files.seen c.args.files.now in
+    let new = g.F.Files.seen c.read_input.new.files in
+    let schedule = schedule_view c.in_ok-schedule.schedule in
+    let halt = c.in_err-input.field-0.0 in
+    halt_carried c.from_residual-in_err-input.result halt (Unread (input_names p) (λ m. plan_read m p) old new) c.from_residual-in_err-input.ensures.1
+    (unread_by_parts p (λ m. plan_read m p) old new halt
+    (unread_in old new (option_to_list p.input) (named_by_parts p) (λ m. input_read m p.input) (λ m. plan_read m p) halt
     (record {
-      absent = λ m e name x. ok_then (schedule_read m p.schedule) _ schedule (c.in-Ok.ensures.read m e) ∙ err_then (input_read m p.input) _ name x;
+      absent = λ m e name x. ok_then (schedule_read m p.schedule) _ schedule (c.in_ok-schedule.ensures.read m e) ∙ err_then (input_read m p.input) _ name x;
       next =
           λ m e name n.
-          next_behind m (read_for_schedule p.schedule) (option_to_list p.input ++ flat_map read_for_sphere p.spheres) name (schedule_there m p.schedule schedule (c.in-Ok.ensures.read m e))
+          next_behind m (read_for_schedule p.schedule) (option_to_list p.input ++ flat_map read_for_sphere p.spheres) name (schedule_there m p.schedule schedule (c.in_ok-schedule.ensures.read m e))
           (next_before m (option_to_list p.input) (flat_map read_for_sphere p.spheres) name n);
     })
-    c.in-Err-read_input.ensures.halt)
+    (subst (λ (s : Seen). Unread (option_to_list p.input) (λ m. input_read m p.input) s new halt) c.in_ok-schedule.ensures.same c.in_err-input.ensures.halt)))
 
-pub returns-in-Err-read_spheres-clause-halt : goal.returns-in-Err-read_spheres-clause-halt
-returns-in-Err-read_spheres-clause-halt g c =
+pub returns-in_err-spheres-clause-halt : goal.returns-in_err-spheres-clause-halt
+returns-in_err-spheres-clause-halt g c =
     let p = plan_view c.args.plan.now in
-    let known = g.F.Files.known c.args.files.now in
-    let seen = g.F.Files.known c.read_input.new.files in
-    let old = g.F.Files.count c.read_input.new.files in
-    let new = g.F.Files.count c.read_spheres.new.files in
-    let last = g.F.Files.last_fault c.read_spheres.new.files in
-    let schedule = schedule_view c.in-Ok.schedule in
-    let bytes = c.in-Ok-read_input.input.items in
-    unread_by_parts known p (λ m. plan_read m p) (g.F.Files.count c.args.files.now) new last c.in-Err-read_spheres.halt
-    (unread_in known seen (g.F.Files.count c.args.files.now) old new last (c.in-Ok-read_input.ensures.kept ∙ c.in-Ok.ensures.kept) (c.in-Ok-read_input.ensures.steady ∙ c.in-Ok.ensures.steady)
-    (flat_map read_for_sphere p.spheres) (named_by_parts p) (λ m. spheres_read m p.spheres) (λ m. plan_read m p) c.in-Err-read_spheres.halt
+    let old = g.F.Files.seen c.args.files.now in
+    let new = g.F.Files.seen c.read_spheres.new.files in
+    let schedule = schedule_view c.in_ok-schedule.schedule in
+    let bytes = c.in_ok-input.input.items in
+    let halt = c.in_err-spheres.field-0.0 in
+    let same = c.in_ok-input.ensures.same ∙ c.in_ok-schedule.ensures.same in
+    halt_carried c.from_residual-in_err-spheres.result halt (Unread (input_names p) (λ m. plan_read m p) old new) c.from_residual-in_err-spheres.ensures.1
+    (unread_by_parts p (λ m. plan_read m p) old new halt
+    (unread_in old new (flat_map read_for_sphere p.spheres) (named_by_parts p) (λ m. spheres_read m p.spheres) (λ m. plan_read m p) halt
     (record {
       absent =
           λ m e name x.
-          ok_then (schedule_read m p.schedule) _ schedule (c.in-Ok.ensures.read m e)
-          ∙ ok_then (input_read m p.input) _ bytes (c.in-Ok-read_input.ensures.read m (c.in-Ok.ensures.kept ∙ e))
+          ok_then (schedule_read m p.schedule) _ schedule (c.in_ok-schedule.ensures.read m e)
+          ∙ ok_then (input_read m p.input) _ bytes (c.in_ok-input.ensures.read m (ap (λ (s : Seen). s.known) c.in_ok-schedule.ensures.same ∙ e))
           ∙ err_then (spheres_read m p.spheres) _ name x;
       next =
           λ m e name n.
-          next_behind m (read_for_schedule p.schedule) (option_to_list p.input ++ flat_map read_for_sphere p.spheres) name (schedule_there m p.schedule schedule (c.in-Ok.ensures.read m e))
-          (next_behind m (option_to_list p.input) (flat_map read_for_sphere p.spheres) name (input_there m p.input bytes (c.in-Ok-read_input.ensures.read m (c.in-Ok.ensures.kept ∙ e))) n);
+          next_behind m (read_for_schedule p.schedule) (option_to_list p.input ++ flat_map read_for_sphere p.spheres) name (schedule_there m p.schedule schedule (c.in_ok-schedule.ensures.read m e))
+          (next_behind m (option_to_list p.input) (flat_map read_for_sphere p.spheres) name (input_there m p.input bytes (c.in_ok-input.ensures.read m (ap (λ (s : Seen). s.known) c.in_ok-schedule.ensures.same ∙ e))) n);
     })
-    (subst (λ (ss : List Sphere). Unread seen (flat_map read_for_sphere (map sphere_view ss)) (λ m. spheres_read m (map sphere_view ss)) old new last c.in-Err-read_spheres.halt) c.deref.ensures.value c.in-Err-read_spheres.ensures.halt))
+    (subst (λ (s : Seen). Unread (flat_map read_for_sphere p.spheres) (λ m. spheres_read m p.spheres) s new halt) same
+    (subst (λ (ss : List Sphere). Unread (flat_map read_for_sphere (map sphere_view ss)) (λ m. spheres_read m (map sphere_view ss)) (g.F.Files.seen c.read_input.new.files) new halt) c.deref.ensures.value c.in_err-spheres.ensures.halt))))

@@ -11,10 +11,9 @@ use Rattle.dl_gather.proofs.gathering.read_spheres.Given as goal
 -- the spheres come first in what is read of all, and the turns of the names to come are turns
 abbrev pub invariant-loop-sphere : goal.invariant-loop-sphere
 invariant-loop-sphere g l = record {
-  read : (m : Contents) → g.F.Files.known l.fn.files ≡ Some m → spheres_read m (map sphere_view l.spheres) ≡ after (map sphere_inputs l.read.items) (spheres_read m (map sphere_view (drop l.sphere-index l.spheres)));
-  turns : (m : Contents) → g.F.Files.known l.fn.files ≡ Some m → (name : List ℕ) → IsReadNext (flat_map read_for_sphere (map sphere_view (drop l.sphere-index l.spheres))) m name → IsReadNext (flat_map read_for_sphere (map sphere_view l.spheres)) m name;
-  kept : g.F.Files.known l.files ≡ g.F.Files.known l.fn.files;
-  steady : g.F.Files.count l.files ≡ g.F.Files.count l.fn.files;
+  read : (m : Contents) → (g.F.Files.seen l.fn.files).known ≡ Some m → spheres_read m (map sphere_view l.spheres) ≡ after (map sphere_inputs l.read.items) (spheres_read m (map sphere_view (drop l.sphere-index l.spheres)));
+  turns : (m : Contents) → (g.F.Files.seen l.fn.files).known ≡ Some m → (name : List ℕ) → IsReadNext (flat_map read_for_sphere (map sphere_view (drop l.sphere-index l.spheres))) m name → IsReadNext (flat_map read_for_sphere (map sphere_view l.spheres)) m name;
+  seen : g.F.Files.seen l.files ≡ g.F.Files.seen l.fn.files;
   count : length l.read.items ≡ l.sphere-index;
   memories : HaveMemories (map sphere_inputs l.read.items);
 }

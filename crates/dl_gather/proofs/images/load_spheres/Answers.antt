@@ -21,9 +21,9 @@ loop-i-preserved c =
     let within : i < length inputs = omega arith in
     let d = c.index-inputs-i.result in
     let done = c.loop-i.spheres.items in
-    let x = c.in-Ok.sphere in
-    let pushed : c.push.new.self.items ≡ done ++ x ∷ [] = c.in-Ok-push.ensures.items in
-    let made : image_read i (sphere_view (get_or inputs i d)) ≡ Ok (image_in x) = ap (λ (s : SphereInputs). image_read i (sphere_view s)) (sym c.index-inputs-i.is) ∙ c.in-Ok.ensures.image in (
+    let x = c.in_ok-sphere.sphere in
+    let pushed : c.push.new.self.items ≡ done ++ x ∷ [] = c.in-Ok.ensures.items in
+    let made : image_read i (sphere_view (get_or inputs i d)) ≡ Ok (image_in x) = ap (λ (s : SphereInputs). image_read i (sphere_view s)) (sym c.index-inputs-i.is) ∙ c.in_ok-sphere.ensures.image in (
       images_more inputs i d done x within c.loop-i.invariant.0 made
           ∙ ap (λ (xs : List SphereSetup). after (map image_in xs) (images_of (i + 1) (map sphere_view (drop (i + 1) inputs)))) (sym pushed),
       ap length pushed ∙ length_pushed done x ∙ ap (λ (n : ℕ). n + 1) c.loop-i.invariant.1,

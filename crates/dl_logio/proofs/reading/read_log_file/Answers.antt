@@ -1,7 +1,8 @@
-use Rattle.std.proofs.Common.{◌≡◌, ℕ, [], ◌++◌, length, take, Err, sym, refl, ◌∙◌, subst, arith}
+use Rattle.std.proofs.Common.{◌≡◌, ℕ, [], ◌++◌, length, take, Err, sym, refl, ap, ◌∙◌, subst, arith}
 use Rattle.std.proofs.lemmas.List.{length-append, length-take-le}
 use Rattle.std.proofs.lemmas.Result.{IfOk-weaker}
 use Rattle.dl_files.specs.Contents.{HoldsAt}
+use Rattle.dl_files.specs.Seen.{Seen}
 use Rattle.dl_logio.specs.Files.{SaysLog, read_view}
 use Rattle.dl_logfmt.specs.Feeding.{IsFeeding, fed as said_of}
 use Rattle.dl_logfmt.proofs.Feeding.Faults.{faults_last}
@@ -12,18 +13,17 @@ use Rattle.dl_logio.proofs.reading.read_log_file.Goals as goal
 pub loop-reader-init : goal.loop-reader-init
 loop-reader-init g c = record {
   fed = ([], c.new-reader.ensures, refl, omega arith, none_read _ _);
-  known = refl;
-  steady = refl;
+  seen = refl;
 }
 
 pub returns-then-n-eq0-clause-read : goal.returns-then-n-eq0-clause-read
 returns-then-n-eq0-clause-read g c =
     let fed = c.loop-reader.invariant.fed in
-    let known = g.F.Files.known c.args.files.now in
+    let known = (g.F.Files.seen c.args.files.now).known in
     let name = c.args.name.now in
     let offset = c.loop-reader.offset in
     let into = c.read_at.new.into in
-    let held = held_by known _ name offset _ (take c.in_ok-n.n into) c.loop-reader.invariant.known c.in_ok-n.ensures.bytes in
+    let held = held_by known _ name offset _ (take c.in_ok-n.n into) (ap (λ (s : Seen). s.known) c.loop-reader.invariant.seen) c.in_ok-n.ensures.bytes in
     let none = subst (λ (n : ℕ). HoldsAt known name offset (length c.loop-reader.piece) (take n into)) c.if-n-eq0.true held in
     IfOk-weaker c.end_of.result _ (λ r. SaysLog known name (read_view r))
     (λ r e. all_read known name fed.0 offset (length c.loop-reader.piece) (read_view r) (omega arith) fed.2 fed.4 none (e fed.0 fed.1))
@@ -32,11 +32,11 @@ returns-then-n-eq0-clause-read g c =
 pub returns-in-Err-Malformed-clause-read : goal.returns-in-Err-Malformed-clause-read
 returns-in-Err-Malformed-clause-read g c =
     let fed = c.loop-reader.invariant.fed in
-    let known = g.F.Files.known c.args.files.now in
+    let known = (g.F.Files.seen c.args.files.now).known in
     let name = c.args.name.now in
     let offset = c.loop-reader.offset in
     let piece = take c.in_ok-n.n c.read_at.new.into in
-    let held = held_by known _ name offset _ piece c.loop-reader.invariant.known c.in_ok-n.ensures.bytes in
+    let held = held_by known _ name offset _ piece (ap (λ (s : Seen). s.known) c.loop-reader.invariant.seen) c.in_ok-n.ensures.bytes in
     let bad = c.in-Err-Malformed in
     let whole = fed.0 ++ piece in
     let fault : ParseError = record { number = bad.number; offset = bad.at } in
@@ -48,11 +48,11 @@ returns-in-Err-Malformed-clause-read g c =
 pub loop-reader-preserved : goal.loop-reader-preserved
 loop-reader-preserved g c =
     let fed = c.loop-reader.invariant.fed in
-    let known = g.F.Files.known c.args.files.now in
+    let known = (g.F.Files.seen c.args.files.now).known in
     let name = c.args.name.now in
     let offset = c.loop-reader.offset in
     let piece = take c.in_ok-n.n c.read_at.new.into in
-    let held = held_by known _ name offset _ piece c.loop-reader.invariant.known c.in_ok-n.ensures.bytes in
+    let held = held_by known _ name offset _ piece (ap (λ (s : Seen). s.known) c.loop-reader.invariant.seen) c.in_ok-n.ensures.bytes in
     let long : length piece ≡ c.in_ok-n.n = length-take-le c.in_ok-n.n c.read_at.new.into (omega (arith, c.in_ok-n.ensures.most)) in
     record {
       fed = (
@@ -62,8 +62,7 @@ loop-reader-preserved g c =
         c.in-Ok.ensures.few fed.0 fed.1,
         more_read known name fed.0 offset (length c.loop-reader.piece) piece fed.2 fed.4 held,
       );
-      known = c.in_ok-n.ensures.kept ∙ c.loop-reader.invariant.known;
-      steady = c.in_ok-n.ensures.ok_steady ∙ c.loop-reader.invariant.steady;
+      seen = c.in_ok-n.ensures.ok ∙ c.loop-reader.invariant.seen;
     }
 
 pub overflow_add-offset : goal.overflow_add-offset

@@ -3,12 +3,11 @@ use Rattle.dl_logfmt.specs.Feeding.{HasFed}
 use Rattle.dl_logio.proofs.Pieces.{IsFront}
 use Rattle.dl_logio.proofs.reading.read_log_file.Given as goal
 
--- the reader was fed the first bytes of the file, up to the offset, and no call has failed
+-- the reader was fed the first bytes of the file, up to the offset, and the files are as before
 abbrev pub invariant-loop-reader : goal.invariant-loop-reader
 invariant-loop-reader g l = record {
-  fed : (bytes : List ℕ) × HasFed bytes l.reader × (length bytes ≡ l.offset) × (length bytes < 2 ^ 64) × IsFront (g.F.Files.known l.fn.files) l.name bytes;
-  known : g.F.Files.known l.files ≡ g.F.Files.known l.fn.files;
-  steady : g.F.Files.count l.files ≡ g.F.Files.count l.fn.files;
+  fed : (bytes : List ℕ) × HasFed bytes l.reader × (length bytes ≡ l.offset) × (length bytes < 2 ^ 64) × IsFront (g.F.Files.seen l.fn.files).known l.name bytes;
+  seen : g.F.Files.seen l.files ≡ g.F.Files.seen l.fn.files;
 }
 
 abbrev pub decreases-loop-reader : goal.decreases-loop-reader

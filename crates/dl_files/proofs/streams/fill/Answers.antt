@@ -4,8 +4,8 @@ use Rattle.std.specs.Io.KnownBytes.{Consumes, Keeps}
 use Rattle.std.proofs.KnownBytes.{Consumes-trans, Consumes-kept}
 use borrow.Rule.Slice.PartMut.{put_mid, post_of}
 use lib.Seq.{take-add, take-append-le}
-use Rattle.dl_files.proofs.real_reads.fill.Goals as goal
-use Rattle.dl_files.proofs.real_reads.fill.Goals.{in-Ok, in-Err}
+use Rattle.dl_files.proofs.streams.fill.Goals as goal
+use Rattle.dl_files.proofs.streams.fill.Goals.{in-Ok, in-Err}
 
 -- what stands in front once n bytes more were read behind the first a
 front-read : (a k n : ℕ) (xs ys : List ℕ) → a ≤ length xs → n ≤ length ys → take (a + n) (put_mid a k xs ys) ≡ take a xs ++ take n ys
