@@ -28,7 +28,7 @@ pub fn account_text(
         text.items ≡ account_of commits.now threads.now request.now memory.now end.now) }
 {
     let mut text = Text::with_room(alloc, room_for(commits))?;
-    put_commits(&mut text, commits)?;
+    put_commits(&mut text, 0, commits)?;
     put_final(&mut text, threads, *request, memory, *end)?;
     put_end(&mut text, *end)?;
     Ok(text.into_bytes())

@@ -19,29 +19,34 @@ pub(crate) fn room_for(commits: &[Commit]) -> usize {
     room
 }
 
-pub(crate) fn put_commits(text: &mut Text, commits: &[Commit]) -> Result<(), OutOfMemory>
-    ensures { OnOk result (text.new ≡ text.old ++ numbered commit_lines 0 commits.now) }
+// The lines of each, of which the first has that number.
+pub(crate) fn put_commits(
+    text: &mut Text,
+    first: u32,
+    commits: &[Commit],
+) -> Result<(), OutOfMemory>
+    ensures { OnOk result (text.new ≡ text.old ++ numbered commit_lines first commits.now) }
 {
     for (index, commit) in commits.iter().enumerate() {
-        put_commit(text, index, commit)?;
+        put_commit(text, first as u64 + index as u64, commit)?;
     }
     Ok(())
 }
 
-fn put_commit(text: &mut Text, index: usize, commit: &Commit) -> Result<(), OutOfMemory>
-    ensures { OnOk result (text.new ≡ text.old ++ commit_lines index commit.now) }
+fn put_commit(text: &mut Text, number: u64, commit: &Commit) -> Result<(), OutOfMemory>
+    ensures { OnOk result (text.new ≡ text.old ++ commit_lines number commit.now) }
 {
-    put_commit_line(text, index, commit)?;
+    put_commit_line(text, number, commit)?;
     put_loads(text, commit.loads.as_slice())?;
     put_outputs(text, commit.outputs.as_slice())
 }
 
-fn put_commit_line(text: &mut Text, index: usize, commit: &Commit) -> Result<(), OutOfMemory>
+fn put_commit_line(text: &mut Text, number: u64, commit: &Commit) -> Result<(), OutOfMemory>
     ensures { OnOk result (text.new ≡ text.old
-        ++ line (codes "c") (decimal index ∷ decimal (code commit.now.actor) ∷ decimal commit.now.size ∷ [])) }
+        ++ line (codes "c") (decimal number ∷ decimal (code commit.now.actor) ∷ decimal commit.now.size ∷ [])) }
 {
     text.put(b"c")?;
-    text.put_number(index as u64)?;
+    text.put_number(number)?;
     text.put_number(u64::from(commit.actor.code()))?;
     text.put_number(u64::from(commit.size))?;
     text.put(b"\n")

@@ -4,4 +4,4 @@ use Rattle.dl_account.specs.Lines.{numbered}
 use Rattle.dl_account.proofs.commits.put_commits.Given as goal
 
 abbrev pub invariant-loop-index : goal.invariant-loop-index
-invariant-loop-index l = l.text ≡ l.initial.text ++ numbered commit_lines 0 (take l.index l.commits)
+invariant-loop-index l = l.text ≡ l.initial.text ++ numbered commit_lines l.first (take l.index l.commits)
