@@ -169,6 +169,9 @@ class Names(unittest.TestCase):
     def test_functions(self):
         names = support.traced("race, plan.toml").names
         self.assertEqual([names.function(pc) for pc in (0, 0x5C, 0x68)], ["_start", "work", "work"])
+        main = names.by_name["main"]
+        end = main.addr + main.size
+        self.assertEqual([names.function(pc) for pc in (main.addr, end - 4, end)], ["main", "main", None])
         self.assertEqual(support.traced("two-threads, plan.toml").names.place(0x10), "00000010")
 
 
