@@ -5,8 +5,7 @@ use std::process::Abort;
 use std::test::Fail;
 
 /// A plan that is accepted under the name `p.toml`.
-const PLAN: &str =
-    "cores = 1\n\
+const PLAN: &str = "cores = 1\n\
       chunk = 100\n\
       buffer = 16\n\
       window = 2\n\
@@ -26,8 +25,7 @@ const SPHERE: &str =
     "[[sphere]]\nimage = \"a.elf\"\nmemory = 4096\nrole = \"record\"\nmode = \"order-size\"\nlog = \"a.log\"\naccount = \"a.txt\"\n";
 
 /// A plan with what the other has not.
-const OTHER: &str =
-    "cores = 8\n\
+const OTHER: &str = "cores = 8\n\
       chunk = 64\n\
       buffer = 8\n\
       window = 1\n\
@@ -84,14 +82,14 @@ fn reads_each_key(rt: HostRuntime) -> Result<(), Fail> {
 }
 
 const PLAN_SHOWN: &str = concat!(
-    "Plan { cores: 1, chunk: 100, buffer: 16, window: 2, signature: 64, seed: 0, schedule: Script(\"s.txt\"), ",
+    "Plan { sizes: Sizes { cores: 1, chunk: 100, buffer: 16, window: 2, signature: 64, seed: 0 }, schedule: Script(\"s.txt\"), ",
     "input: None, console: None, report: Some(\"r.txt\"), spheres: [",
     "Sphere { image: \"a.elf\", memory: 4096, role: Record { mode: OrderSize, log: \"a.log\" }, account: Some(\"a.txt\") }",
     "] }"
 );
 
 const OTHER_SHOWN: &str = concat!(
-    "Plan { cores: 8, chunk: 64, buffer: 8, window: 1, signature: 128, seed: 9, schedule: Seeded { events: 20000 }, ",
+    "Plan { sizes: Sizes { cores: 8, chunk: 64, buffer: 8, window: 1, signature: 128, seed: 9 }, schedule: Seeded { events: 20000 }, ",
     "input: Some(\"i.bin\"), console: Some(\"c.bin\"), report: None, spheres: [",
     "Sphere { image: \"a.elf\", memory: 4096, role: Plain, account: None }, ",
     "Sphere { image: \"b.elf\", memory: 8192, role: Record { mode: Picolog, log: \"b.log\" }, account: None }, ",
