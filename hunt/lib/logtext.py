@@ -1,4 +1,4 @@
-"""Logs as texts: `packed(text)` is the inverse of `delorean inspect`, in both versions, and `inspected(log)` is its text.
+"""Logs as texts: `packed(text)` is the inverse of `delorean inspect`, and `inspected(log)` is its text.
 
 A text that isn't one of a log is refused by its first wrong line, counted from 1: BadText(line, why). With `edited=True` the
 lines count in the order in which they are: the numbers of the p lines and the header's number of commits aren't looked at,
