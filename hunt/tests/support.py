@@ -52,7 +52,8 @@ def traced(name):
 
 def can_walk():
     """Whether the proved program can be called without being built first."""
-    return bool(os.environ.get("DELOREAN")) or (TOP / "crates/delorean/out/delorean").is_file()
+    places = TOP / "out/delorean", TOP / "crates/delorean/out/delorean"
+    return bool(os.environ.get("DELOREAN")) or any(place.is_file() for place in places)
 
 
 def tool(name):
