@@ -8,7 +8,7 @@ use Rattle.dl_sphere.specs.declared.setup.SphereSetup.{SphereSetup}
 use Rattle.dl_sphere.specs.declared.Role.{Role}
 use Rattle.dl_sphere.specs.Setups.{role_setup, setup_of as sphere_setup}
 use Rattle.spec_protocol.specs.declared.event.Event.{Event}
-use Rattle.spec_protocol.specs.Machine as protocol
+use Rattle.spec_protocol.specs.machine.Machine as protocol
 use Rattle.spec_program.specs.Built.{images_of, role_of, spheres_of, events_of, setup_of}
 use Rattle.spec_program.specs.Files.{PlanRead}
 use Rattle.spec_program.specs.Stages.{Refused, ◌>>◌}

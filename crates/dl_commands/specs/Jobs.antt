@@ -3,8 +3,8 @@ use Rattle.std.specs.Prelude.{◌≡◌, ℕ, Bool, true, false, List, map, stri
 use Rattle.dl_plan.specs.Values.{PlanValues}
 use Rattle.dl_run.specs.Logs.{log_bytes_if}
 use Rattle.spec_protocol.specs.declared.event.Event.{Event}
-use Rattle.spec_protocol.specs.Machine.{Setup}
-use Rattle.spec_protocol.specs.Sound.{IsWithinLimits}
+use Rattle.spec_protocol.specs.machine.Machine.{Setup}
+use Rattle.spec_protocol.specs.promises.Sound.{IsWithinLimits}
 use Rattle.spec_run.specs.Runs.{diverges}
 use Rattle.spec_run.specs.Texts.{summary_text}
 use Rattle.spec_program.specs.Outcomes.{Finishes, outcome_for, writes_for}

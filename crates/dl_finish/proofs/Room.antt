@@ -5,14 +5,14 @@ use Rattle.std.proofs.lemmas.Bool.{true≢false, cases_eq}
 use Rattle.spec_play.specs.Progress.{position}
 use Rattle.spec_engine.specs.Flights.{Flight}
 use Rattle.spec_protocol.specs.declared.event.Event.{Event}
-use Rattle.spec_protocol.specs.Spheres.{Sphere}
-use Rattle.spec_protocol.specs.Placing.{replays}
-use Rattle.spec_protocol.specs.World.{Numbers, Move, World, sphere_at}
-use Rattle.spec_protocol.specs.Machine.{SphereSetup, Setup, world_of, happens}
-use Rattle.spec_protocol.specs.Serial.{SerialState}
-use Rattle.spec_protocol.specs.Shown.{shown, shown_of}
-use Rattle.spec_protocol.specs.Moves.{do_move, do_if}
-use Rattle.spec_protocol.specs.Promises.{IsSetup, after}
+use Rattle.spec_protocol.specs.machine.Spheres.{Sphere}
+use Rattle.spec_protocol.specs.machine.Placing.{replays}
+use Rattle.spec_protocol.specs.machine.World.{Numbers, Move, World, sphere_at}
+use Rattle.spec_protocol.specs.machine.Machine.{SphereSetup, Setup, world_of, happens}
+use Rattle.spec_protocol.specs.machine.Serial.{SerialState}
+use Rattle.spec_protocol.specs.machine.Shown.{shown, shown_of}
+use Rattle.spec_protocol.specs.machine.Moves.{do_move, do_if}
+use Rattle.spec_protocol.specs.promises.Promises.{IsSetup, after}
 use Rattle.spec_protocol.proofs.Invariants.Preserved.{shown-get}
 use Rattle.spec_protocol.proofs.Moves.Elsewhere.{at-away}
 use Rattle.spec_protocol.proofs.Invariants.Schedules.{happens-preserved, start-good, after-good, sizes_kept}

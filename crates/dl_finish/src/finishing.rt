@@ -1,7 +1,7 @@
 //! Finishing, to its end.
 ghost use Rattle.std.specs.Prelude.{◌≡◌, ◌≤◌, ◌^◌, List, OnErr, OnOk};
 ghost use Rattle.spec_protocol.specs.declared.event.Event.{Event};
-ghost use Rattle.spec_protocol.specs.Machine.{Setup};
+ghost use Rattle.spec_protocol.specs.machine.Machine.{Setup};
 ghost use Rattle.spec_finishing.specs.Ending.{IsFinished};
 ghost use Rattle.dl_machine.specs.Ready.{HasRoom};
 ghost use Rattle.dl_machine.specs.Runs.{IsRun};

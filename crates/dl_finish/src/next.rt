@@ -1,8 +1,8 @@
 //! The next event of finishing. It is found without memory.
 ghost use Rattle.std.specs.Prelude.{◌≡◌, ◌≤◌, ◌<◌, true, Some, IfSome, length};
 ghost use Rattle.spec_engine.specs.Flights.{first_slot, passes, told_at};
-ghost use Rattle.spec_protocol.specs.Finishing.{for_actor as event_of_actor, for_core, for_flight as event_of_flight, for_who, least, next, standing as standing_in, untold as untold_from};
-ghost use Rattle.spec_protocol.specs.World.{core_of};
+ghost use Rattle.spec_protocol.specs.machine.Finishing.{for_actor as event_of_actor, for_core, for_flight as event_of_flight, for_who, least, next, standing as standing_in, untold as untold_from};
+ghost use Rattle.spec_protocol.specs.machine.World.{core_of};
 ghost use Rattle.dl_finish.specs.Turns.{on_core as event_on_core, turn_in};
 
 use dl_entry::Actor;
@@ -14,7 +14,7 @@ use spec_protocol::Event;
 
 /// The event that comes next once a schedule has ended: the least slot's flight is made visible, or else the least replay
 /// goes on. None comes where no flight stands and every replay is complete or has diverged.
-#[tactic(auto, unfolding(spec_protocol::specs::Finishing::next))]
+#[tactic(auto, unfolding(spec_protocol::specs::machine::Finishing::next))]
 pub fn next_event<G: Sig>(machine: &Machine<G>) -> Option<Event>
     ensures { result ≡ next machine.now }
 {
@@ -104,7 +104,7 @@ fn for_replays<G: Sig>(machine: &Machine<G>) -> Option<Event>
 }
 
 // Whose turn it is in a replay that goes on.
-#[tactic(auto, unfolding(spec_protocol::specs::Spheres::head_of))]
+#[tactic(auto, unfolding(spec_protocol::specs::machine::Spheres::head_of))]
 fn turn(sphere: &Sphere) -> Option<Actor>
     ensures { result ≡ turn_in sphere.now.sphere.role }
 {

@@ -2,7 +2,7 @@
 use Rattle.std.specs.Prelude.{◌≡◌, ℕ, Bool, true, false, not, Option, Some, None}
 use Rattle.spec_engine.specs.Signatures.{Signature, nothing}
 use Rattle.spec_engine.specs.Chunks.{Chunk, Engine, is_open}
-use Rattle.spec_protocol.specs.World.{Occupant, Numbers, held_afresh}
+use Rattle.spec_protocol.specs.machine.World.{Occupant, Numbers, held_afresh}
 use Rattle.dl_sphere.specs.SizedSpheres.{SizedSphere}
 use Rattle.dl_machine.specs.declared.one_core.Held.{Held as Seen}
 

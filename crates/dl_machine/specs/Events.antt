@@ -2,7 +2,7 @@
 use Rattle.std.specs.Prelude.{◌≡◌, ◌||◌, Bool, true, false}
 use Rattle.spec_protocol.specs.declared.event.Event.{Event}
 use Rattle.spec_protocol.specs.declared.reply.Reply.{Reply}
-use Rattle.spec_protocol.specs.Replying.{makes_point}
+use Rattle.spec_protocol.specs.promises.Replying.{makes_point}
 
 -- those that commit, or interrupt
 abbrev pub wants_memory : Event → Bool

@@ -1,7 +1,7 @@
 -- What the code sees of what a core holds.
 use Rattle.std.specs.Prelude.{ℕ, ◌<◌, length}
 use Rattle.spec_engine.specs.Flights.{Flight}
-use Rattle.spec_protocol.specs.World.{World, sphere_at}
+use Rattle.spec_protocol.specs.machine.World.{World, sphere_at}
 use Rattle.dl_machine.specs.declared.one_core.Held.{Held}
 
 -- it is of a sphere and a thread that there are

@@ -1,11 +1,11 @@
 -- What the code asks of the world before an event.
 use Rattle.std.specs.Prelude.{◌≡◌, ℕ, ◌<◌, ◌^◌, false, length}
 use Rattle.spec_play.specs.Progress.{position}
-use Rattle.spec_protocol.specs.Placing.{replays}
-use Rattle.spec_protocol.specs.World.{World, sphere_at}
-use Rattle.spec_protocol.specs.Machine.{Setup}
-use Rattle.spec_protocol.specs.Invariants.{IsGood}
-use Rattle.spec_protocol.specs.Sound.{IsWithinLimits, IsSound}
+use Rattle.spec_protocol.specs.machine.Placing.{replays}
+use Rattle.spec_protocol.specs.machine.World.{World, sphere_at}
+use Rattle.spec_protocol.specs.machine.Machine.{Setup}
+use Rattle.spec_protocol.specs.promises.Invariants.{IsGood}
+use Rattle.spec_protocol.specs.promises.Sound.{IsWithinLimits, IsSound}
 
 -- a setup within the limits has come to it, and the invariant holds
 pub record IsReady (w : World) : Type 0 where

@@ -2,7 +2,7 @@
 use Rattle.std.specs.Prelude.{◌≡◌, ℕ, Option, Some, option_map}
 use Rattle.spec_engine.specs.declared.answers.How.{How}
 use Rattle.spec_engine.specs.Flights.{at}
-use Rattle.spec_protocol.specs.World.{Occupant, World}
+use Rattle.spec_protocol.specs.machine.World.{Occupant, World}
 use Rattle.dl_machine.specs.declared.one_core.Held.{Held as Seen}
 use Rattle.dl_machine.specs.Cores.{seen}
 

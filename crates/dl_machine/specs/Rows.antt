@@ -1,8 +1,8 @@
 -- The rows of cores and of spheres in code.
 use Rattle.std.specs.Prelude.{◌≡◌, ℕ, ◌≤◌, true, All, length, List, Option, slice_set, slice_index_or}
 use Rattle.spec_engine.specs.Signatures.{is_size}
-use Rattle.spec_protocol.specs.Spheres.{Sphere, no_sphere}
-use Rattle.spec_protocol.specs.World.{Occupant, Numbers}
+use Rattle.spec_protocol.specs.machine.Spheres.{Sphere, no_sphere}
+use Rattle.spec_protocol.specs.machine.World.{Occupant, Numbers}
 use Rattle.dl_sphere.specs.SizedSpheres.{SizedSphere}
 use Rattle.dl_machine.specs.Cores.{Core}
 

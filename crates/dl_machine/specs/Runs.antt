@@ -6,15 +6,15 @@ use Rattle.spec_log.specs.declared.LogParts.{LogParts}
 use Rattle.spec_play.specs.Progress.{position}
 use Rattle.spec_play.specs.Plays.{opened, play, plays}
 use Rattle.spec_protocol.specs.declared.event.Event.{Event}
-use Rattle.spec_protocol.specs.Spheres.{Recording, Cursor, Record, Replay, Sphere, is_over}
-use Rattle.spec_protocol.specs.Placing.{replays}
-use Rattle.spec_protocol.specs.World.{World}
-use Rattle.spec_protocol.specs.Machine.{last_played, first_played, ReplaySetup, RecordSetup, IsRecorded, IsReplayed, Setup, SphereSetup}
-use Rattle.spec_protocol.specs.Serial.{CanDoAll, serial, serial_start}
-use Rattle.spec_protocol.specs.Shown.{shown_of}
-use Rattle.spec_protocol.specs.Promises.{after}
-use Rattle.spec_protocol.specs.PlayingBack.{PlaysBack}
-use Rattle.spec_protocol.specs.Sound.{IsWithinLimits}
+use Rattle.spec_protocol.specs.machine.Spheres.{Recording, Cursor, Record, Replay, Sphere, is_over}
+use Rattle.spec_protocol.specs.machine.Placing.{replays}
+use Rattle.spec_protocol.specs.machine.World.{World}
+use Rattle.spec_protocol.specs.machine.Machine.{last_played, first_played, ReplaySetup, RecordSetup, IsRecorded, IsReplayed, Setup, SphereSetup}
+use Rattle.spec_protocol.specs.machine.Serial.{CanDoAll, serial, serial_start}
+use Rattle.spec_protocol.specs.machine.Shown.{shown_of}
+use Rattle.spec_protocol.specs.promises.Promises.{after}
+use Rattle.spec_protocol.specs.promises.PlayingBack.{PlaysBack}
+use Rattle.spec_protocol.specs.promises.Sound.{IsWithinLimits}
 use Rattle.spec_replay.specs.Following.{Follows}
 use Rattle.spec_replay.specs.Promises.{IsPlayed}
 

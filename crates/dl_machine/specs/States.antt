@@ -4,8 +4,8 @@ use Rattle.dl_entry.specs.declared.Counts.{Counts}
 use Rattle.dl_entry.specs.declared.Point.{Point}
 use Rattle.spec_engine.specs.Flights.{Flights}
 use Rattle.spec_kernel.specs.Devices.{Devices}
-use Rattle.spec_protocol.specs.World.{World, After}
-use Rattle.spec_protocol.specs.Machine.{with_point}
+use Rattle.spec_protocol.specs.machine.World.{World, After}
+use Rattle.spec_protocol.specs.machine.Machine.{with_point}
 use Rattle.dl_machine.specs.Rows.{Cores, Spheres}
 
 -- as a world

@@ -2,9 +2,9 @@
 ghost use Rattle.std.specs.Prelude.{◌≡◌, ◌<◌, ◌^◌, None, Some, true, false, length, option_map, slice_set, IfOk, OnErr, OnOk};
 ghost use Rattle.spec_engine.specs.Flights.{at, is_full};
 ghost use Rattle.spec_engine.specs.Signatures.{line, signed};
-ghost use Rattle.spec_protocol.specs.Asking.{ask_arbiter, asking, asks_serial, grant_chunk, grant_serial, is_short as short_of};
-ghost use Rattle.spec_protocol.specs.Spheres.{is_stopped, turn_against as turn_before};
-ghost use Rattle.spec_protocol.specs.World.{flown, held_afresh, sphere_at};
+ghost use Rattle.spec_protocol.specs.machine.Asking.{ask_arbiter, asking, asks_serial, grant_chunk, grant_serial, is_short as short_of};
+ghost use Rattle.spec_protocol.specs.machine.Spheres.{is_stopped, turn_against as turn_before};
+ghost use Rattle.spec_protocol.specs.machine.World.{flown, held_afresh, sphere_at};
 ghost use Rattle.dl_machine.specs.Events.{passes_checks};
 ghost use Rattle.dl_machine.specs.Held.{IsOf};
 ghost use Rattle.dl_machine.specs.Ready.{HasRoom, IsReady};
@@ -25,7 +25,7 @@ use spec_protocol::Reply;
 
 impl<G: Sig> State<G> {
     // The core asks.
-    #[tactic(auto, unfolding(spec_protocol::specs::Asking::asking))]
+    #[tactic(auto, unfolding(spec_protocol::specs::machine::Asking::asking))]
     pub(crate) fn ask(&mut self, core: u8) -> Result<Reply, OutOfMemory>
         requires core { core < length self.old.cores }
         requires ready { IsReady self.old }
@@ -103,7 +103,7 @@ impl<G: Sig> State<G> {
     }
 
     // The chunk is committed.
-    #[tactic(auto, unfolding(spec_protocol::specs::Asking::grant_chunk))]
+    #[tactic(auto, unfolding(spec_protocol::specs::machine::Asking::grant_chunk))]
     fn grant_chunk(&mut self, core: u8, held: Held, how: How) -> Result<Reply, OutOfMemory>
         requires core { core < length self.old.cores }
         requires ready { IsReady self.old }
@@ -147,7 +147,7 @@ impl<G: Sig> State<G> {
     }
 
     // The serial step is done.
-    #[tactic(auto, unfolding(spec_protocol::specs::Asking::grant_serial))]
+    #[tactic(auto, unfolding(spec_protocol::specs::machine::Asking::grant_serial))]
     fn grant_serial(&mut self, core: u8, held: Held) -> Result<Reply, OutOfMemory>
         requires core { core < length self.old.cores }
         requires ready { IsReady self.old }

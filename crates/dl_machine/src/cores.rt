@@ -4,9 +4,9 @@ ghost use Rattle.std.specs.List.{position};
 ghost use Rattle.spec_engine.specs.Chunks.{cut, step};
 ghost use Rattle.spec_engine.specs.Flights.{at, first_slot, passes};
 ghost use Rattle.spec_engine.specs.Signatures.{is_size, nothing};
-ghost use Rattle.spec_protocol.specs.Flying.{squashed};
-ghost use Rattle.spec_protocol.specs.Machine.{first_cores};
-ghost use Rattle.spec_protocol.specs.World.{held_afresh, runs};
+ghost use Rattle.spec_protocol.specs.machine.Flying.{squashed};
+ghost use Rattle.spec_protocol.specs.machine.Machine.{first_cores};
+ghost use Rattle.spec_protocol.specs.machine.World.{held_afresh, runs};
 ghost use Rattle.dl_machine.specs.Cores.{holding, idle};
 ghost use Rattle.dl_machine.specs.Setups.{IsWithin, first_held, numbers_with};
 

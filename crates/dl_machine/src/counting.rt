@@ -1,7 +1,7 @@
 //! How events are counted.
 ghost use Rattle.std.specs.Prelude.{◌≡◌, ◌≤◌, ◌<◌, ◌+◌, ◌^◌, ℕ, slice_index};
 ghost use Rattle.dl_entry.specs.Counts.{counted};
-ghost use Rattle.spec_protocol.specs.Machine.{name_of as name_in};
+ghost use Rattle.spec_protocol.specs.machine.Machine.{name_of as name_in};
 
 use crate::state::State;
 use dl_entry::ReplyName;

@@ -1,8 +1,8 @@
 //! The events of flights: Drain, Deliver and Retire.
 ghost use Rattle.std.specs.Prelude.{◌≡◌, ◌<◌, false, length};
 ghost use Rattle.spec_engine.specs.Flights.{at, is_full};
-ghost use Rattle.spec_protocol.specs.Flying.{delivering, draining, reply_of_drain as drain_named, reply_of_retire as retire_named, retiring, told};
-ghost use Rattle.spec_protocol.specs.World.{flown};
+ghost use Rattle.spec_protocol.specs.machine.Flying.{delivering, draining, reply_of_drain as drain_named, reply_of_retire as retire_named, retiring, told};
+ghost use Rattle.spec_protocol.specs.machine.World.{flown};
 ghost use Rattle.dl_machine.specs.Ready.{IsReady};
 ghost use Rattle.dl_machine.specs.States.{left};
 
@@ -13,7 +13,7 @@ use spec_protocol::Reply;
 
 impl<G: Sig> State<G> {
     // The first word left of the slot's flight goes to the memory of its sphere.
-    #[tactic(auto, unfolding(spec_protocol::specs::Flying::draining))]
+    #[tactic(auto, unfolding(spec_protocol::specs::machine::Flying::draining))]
     pub(crate) fn drain(&mut self, k: u8) -> Reply
         requires slot { k < length self.old.slots }
         requires ready { IsReady self.old }
@@ -28,7 +28,7 @@ impl<G: Sig> State<G> {
     }
 
     // The core is told of the slot's flight.
-    #[tactic(auto, unfolding(spec_protocol::specs::Flying::delivering))]
+    #[tactic(auto, unfolding(spec_protocol::specs::machine::Flying::delivering))]
     pub(crate) fn deliver(&mut self, core: u8, k: u8) -> Reply
         requires core { core < length self.old.cores }
         requires slot { k < length self.old.slots }
@@ -43,7 +43,7 @@ impl<G: Sig> State<G> {
     }
 
     // The slot of a flight with no word left and all cores told becomes free.
-    #[tactic(auto, unfolding(spec_protocol::specs::Flying::retiring))]
+    #[tactic(auto, unfolding(spec_protocol::specs::machine::Flying::retiring))]
     pub(crate) fn retire(&mut self, k: u8) -> Reply
         requires slot { k < length self.old.slots }
         ensures reply { result ≡ (retiring self.old k).reply }

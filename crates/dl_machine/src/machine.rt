@@ -2,9 +2,9 @@
 ghost use Rattle.std.specs.Prelude.{◌≡◌, ◌≤◌, ◌<◌, ◌^◌, ◌∷◌, ◌++◌, [], List, false, IfOk, IsOk, OnErr, OnOk, length, option_map};
 ghost use Rattle.spec_engine.specs.Flights.{at};
 ghost use Rattle.spec_protocol.specs.declared.event.Event.{Event};
-ghost use Rattle.spec_protocol.specs.Machine.{Setup as SetupOf, happens, world_of};
-ghost use Rattle.spec_protocol.specs.Serial.{serial};
-ghost use Rattle.spec_protocol.specs.World.{sphere_at};
+ghost use Rattle.spec_protocol.specs.machine.Machine.{Setup as SetupOf, happens, world_of};
+ghost use Rattle.spec_protocol.specs.machine.Serial.{serial};
+ghost use Rattle.spec_protocol.specs.machine.World.{sphere_at};
 
 use crate::one_core::Held;
 use crate::setup::Setup;
@@ -26,8 +26,8 @@ pub struct Machine<G: Sig> {
 impl<G: Sig> Model for Machine<G> {
     ghost use Rattle.std.specs.Coded.{codes};
     ghost use Rattle.spec_engine.specs.Signatures.{places_code};
-    ghost use Rattle.spec_protocol.specs.Sound.{IsWithinLimits};
-    ghost use Rattle.spec_protocol.specs.World.{World};
+    ghost use Rattle.spec_protocol.specs.promises.Sound.{IsWithinLimits};
+    ghost use Rattle.spec_protocol.specs.machine.World.{World};
     ghost use Rattle.dl_machine.specs.Runs.{HasRun};
 
     ghost Value = { World };

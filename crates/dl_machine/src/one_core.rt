@@ -3,8 +3,8 @@ ghost use Rattle.std.specs.Prelude.{◌≡◌, ◌≤◌, true, Some, IfOk, IsSo
 ghost use Rattle.spec_engine.specs.Chunks.{cut, step};
 ghost use Rattle.spec_engine.specs.Signatures.{is_size, nothing};
 ghost use Rattle.spec_engine.specs.Flights.{passes};
-ghost use Rattle.spec_protocol.specs.Flying.{squashed};
-ghost use Rattle.spec_protocol.specs.World.{runs};
+ghost use Rattle.spec_protocol.specs.machine.Flying.{squashed};
+ghost use Rattle.spec_protocol.specs.machine.World.{runs};
 
 use dl_chunk::{Chunk, CutReply, Stepped};
 use dl_fly::Flights;

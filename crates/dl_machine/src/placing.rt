@@ -3,8 +3,8 @@ ghost use Rattle.std.specs.Prelude.{◌≡◌, ◌<◌, true, false, length, sli
 ghost use Rattle.spec_isa.specs.declared.thread.Parts.{Parts};
 ghost use Rattle.spec_kernel.specs.Interrupts.{takes_interrupt};
 ghost use Rattle.spec_protocol.specs.declared.reply.Reply.{Reply};
-ghost use Rattle.spec_protocol.specs.Placing.{placing, raise_in, raising, replays, with_renewed};
-ghost use Rattle.spec_protocol.specs.World.{core_of, held_afresh, sphere_at, with_core};
+ghost use Rattle.spec_protocol.specs.machine.Placing.{placing, raise_in, raising, replays, with_renewed};
+ghost use Rattle.spec_protocol.specs.machine.World.{core_of, held_afresh, sphere_at, with_core};
 ghost use Rattle.dl_machine.specs.Events.{passes_checks};
 ghost use Rattle.dl_machine.specs.Ready.{IsReady};
 ghost use Rattle.dl_machine.specs.States.{left};
@@ -17,7 +17,7 @@ use spec_protocol::Reply;
 
 impl<G: Sig> State<G> {
     // The core takes the sphere's thread.
-    #[tactic(auto, unfolding(spec_protocol::specs::Placing::placing))]
+    #[tactic(auto, unfolding(spec_protocol::specs::machine::Placing::placing))]
     pub(crate) fn place(&mut self, core: u8, sphere: u8, thread: u8) -> Reply
         requires core { core < length self.old.cores }
         requires sphere { sphere < length self.old.spheres }
@@ -39,7 +39,7 @@ impl<G: Sig> State<G> {
     }
 
     // The sphere's thread is interrupted with the value.
-    #[tactic(auto, unfolding(spec_protocol::specs::Placing::raising))]
+    #[tactic(auto, unfolding(spec_protocol::specs::machine::Placing::raising))]
     pub(crate) fn raise(&mut self, sphere: u8, thread: u8, value: u32) -> Result<Reply, OutOfMemory>
         requires sphere { sphere < length self.old.spheres }
         requires ready { IsReady self.old }

@@ -6,13 +6,13 @@ ghost use Rattle.spec_engine.specs.Flights.{IsInside, at, drain};
 ghost use Rattle.spec_kernel.specs.Devices.{Devices};
 ghost use Rattle.spec_kernel.specs.Interrupts.{takes_interrupt};
 ghost use Rattle.spec_play.specs.Progress.{position};
-ghost use Rattle.spec_protocol.specs.Placing.{replays};
-ghost use Rattle.spec_protocol.specs.Sound.{AreFew, HaveByteInput, IsImage, IsSoundRequest};
-ghost use Rattle.spec_protocol.specs.Asking.{is_short};
-ghost use Rattle.spec_protocol.specs.Commits.{chunk_moved, dma_moved, is_piece, raised, serial_moved};
+ghost use Rattle.spec_protocol.specs.machine.Placing.{replays};
+ghost use Rattle.spec_protocol.specs.promises.Sound.{AreFew, HaveByteInput, IsImage, IsSoundRequest};
+ghost use Rattle.spec_protocol.specs.machine.Asking.{is_short};
+ghost use Rattle.spec_protocol.specs.machine.Commits.{chunk_moved, dma_moved, is_piece, raised, serial_moved};
 ghost use Rattle.dl_fly.specs.Slots.{set_slot};
 ghost use Rattle.spec_log.specs.Log.{IsChunkSize};
-ghost use Rattle.spec_protocol.specs.Machine.{sphere_of};
+ghost use Rattle.spec_protocol.specs.machine.Machine.{sphere_of};
 ghost use Rattle.dl_sphere.specs.Setups.{setup_of};
 ghost use Rattle.dl_sphere.specs.Moving.{CanCommit, IsTurnOf, IsTurnOfDma, came};
 

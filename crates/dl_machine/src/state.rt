@@ -1,9 +1,9 @@
 //! The state of the machine, with one method for each event.
 ghost use Rattle.std.specs.Prelude.{◌≡◌, ◌<◌, ◌%◌, ◌^◌, false, IfOk, IfSome, IsOk, OnErr, OnOk, All, length, option_map};
 ghost use Rattle.spec_engine.specs.Flights.{IsInside, at};
-ghost use Rattle.spec_protocol.specs.Machine.{act, world_of};
-ghost use Rattle.spec_protocol.specs.World.{sphere_at};
-ghost use Rattle.spec_protocol.specs.Sound.{IsImage};
+ghost use Rattle.spec_protocol.specs.machine.Machine.{act, world_of};
+ghost use Rattle.spec_protocol.specs.machine.World.{sphere_at};
+ghost use Rattle.spec_protocol.specs.promises.Sound.{IsImage};
 ghost use Rattle.dl_sphere.specs.Setups.{setup_of};
 ghost use Rattle.dl_machine.specs.Setups.{IsWithin, setup_in};
 ghost use Rattle.dl_machine.specs.Events.{IsWanted, wants_memory};
@@ -37,7 +37,7 @@ pub(crate) struct State<G: Sig> {
 impl<G: Sig> Model for State<G> {
     ghost use Rattle.std.specs.Coded.{codes};
     ghost use Rattle.spec_engine.specs.Signatures.{places_code};
-    ghost use Rattle.spec_protocol.specs.World.{World};
+    ghost use Rattle.spec_protocol.specs.machine.World.{World};
     ghost use Rattle.dl_machine.specs.States.{IsState, world_in};
 
     ghost Value = { World };
@@ -100,7 +100,7 @@ impl<G: Sig> State<G> {
 
     // What the event answers and leaves, before it is counted. Numbers are taken modulo how many there are.
     #[inline(always)]
-    #[tactic(auto, unfolding(spec_protocol::specs::Machine::act))]
+    #[tactic(auto, unfolding(spec_protocol::specs::machine::Machine::act))]
     pub(crate) fn act(&mut self, event: Event) -> Result<Reply, OutOfMemory>
         requires ready { IsReady self.old }
         requires room { HasRoom self.old }

@@ -1,6 +1,6 @@
 //! The events of a running chunk: Step and Cut.
 ghost use Rattle.std.specs.Prelude.{◌≡◌, ◌<◌, length};
-ghost use Rattle.spec_protocol.specs.Stepping.{cutting, reply_of_cut as cut_named, reply_of_step as step_named, stepping};
+ghost use Rattle.spec_protocol.specs.machine.Stepping.{cutting, reply_of_cut as cut_named, reply_of_step as step_named, stepping};
 ghost use Rattle.dl_machine.specs.Ready.{IsReady};
 ghost use Rattle.dl_machine.specs.States.{left};
 
@@ -12,7 +12,7 @@ use spec_protocol::Reply;
 impl<G: Sig> State<G> {
     // The core runs one instruction.
     #[inline(always)]
-    #[tactic(auto, unfolding(spec_protocol::specs::Stepping::stepping))]
+    #[tactic(auto, unfolding(spec_protocol::specs::machine::Stepping::stepping))]
     pub(crate) fn step(&mut self, core: u8) -> Reply
         requires core { core < length self.old.cores }
         requires ready { IsReady self.old }
@@ -34,7 +34,7 @@ impl<G: Sig> State<G> {
     }
 
     // The core's chunk is cut off.
-    #[tactic(auto, unfolding(spec_protocol::specs::Stepping::cutting))]
+    #[tactic(auto, unfolding(spec_protocol::specs::machine::Stepping::cutting))]
     pub(crate) fn cut(&mut self, core: u8) -> Reply
         requires core { core < length self.old.cores }
         requires ready { IsReady self.old }

@@ -2,10 +2,10 @@
 ghost use Rattle.std.specs.Prelude.{◌≡◌, ◌<◌, ◌⊎◌, None, Some, false, true, length, IfOk, IsSome, OnErr, OnOk};
 ghost use Rattle.spec_engine.specs.Flights.{is_full};
 ghost use Rattle.spec_play.specs.Progress.{position};
-ghost use Rattle.spec_protocol.specs.Commits.{Diverged, Granted, MovedSphere, dma_moved};
-ghost use Rattle.spec_protocol.specs.Spheres.{is_stopped, turn_against as turn_before};
-ghost use Rattle.spec_protocol.specs.Transferring.{dma_done, dma_with, transfer, transferring};
-ghost use Rattle.spec_protocol.specs.World.{sphere_at};
+ghost use Rattle.spec_protocol.specs.machine.Commits.{Diverged, Granted, MovedSphere, dma_moved};
+ghost use Rattle.spec_protocol.specs.machine.Spheres.{is_stopped, turn_against as turn_before};
+ghost use Rattle.spec_protocol.specs.machine.Transferring.{dma_done, dma_with, transfer, transferring};
+ghost use Rattle.spec_protocol.specs.machine.World.{sphere_at};
 ghost use Rattle.dl_machine.specs.Ready.{HasRoom, IsReady};
 ghost use Rattle.dl_machine.specs.Transfers.{ComesTo};
 ghost use Rattle.dl_machine.specs.States.{left};
@@ -22,7 +22,7 @@ use spec_protocol::Reply;
 
 impl<G: Sig> State<G> {
     // The outstanding request of the sphere is done.
-    #[tactic(auto, using(crate::proofs::Commits::Transfers::no_dma), unfolding(spec_protocol::specs::Transferring::transferring))]
+    #[tactic(auto, using(crate::proofs::Commits::Transfers::no_dma), unfolding(spec_protocol::specs::machine::Transferring::transferring))]
     pub(crate) fn dma(&mut self, sphere: u8) -> Result<Reply, OutOfMemory>
         requires sphere { sphere < length self.old.spheres }
         requires ready { IsReady self.old }
@@ -69,7 +69,7 @@ impl<G: Sig> State<G> {
     }
 
     // The stores are asked for.
-    #[tactic(auto, unfolding(spec_protocol::specs::Transferring::transfer))]
+    #[tactic(auto, unfolding(spec_protocol::specs::machine::Transferring::transfer))]
     fn transfer(&mut self, sphere: u8) -> Result<Reply, OutOfMemory>
         requires sphere { sphere < length self.old.spheres }
         requires going { is_stopped (sphere_at self.old sphere).role ≡ false }

@@ -14,7 +14,7 @@ use Rattle.spec_log.specs.declared.sizes.Sizes.TheVariants.{Each, Short}
 use Rattle.spec_log.specs.Log.{IsLog, IsSizes, IsShortSize}
 use Rattle.spec_log.specs.Size.{is_thread, sizes_of_thread, thread_size}
 use Rattle.spec_play.specs.Turns.{Turn}
-use Rattle.spec_protocol.specs.Spheres.{Replay, limit_in, limit_of, whole_limit, pieces_of}
+use Rattle.spec_protocol.specs.machine.Spheres.{Replay, limit_in, limit_of, whole_limit, pieces_of}
 use Rattle.dl_replay.specs.Replaying.{Replaying, commits_at, commits_of, cursor_of}
 use Rattle.dl_replay.proofs.Counts.{commits-found}
 

@@ -7,7 +7,7 @@ use Rattle.spec_isa.specs.Threads.{started}
 use Rattle.spec_log.specs.declared.LogParts.{LogParts}
 use Rattle.spec_play.specs.Progress.{Progress, no_progress, position, Used, nothing_used}
 use Rattle.spec_play.specs.Turns.{Now, Turn, TurnOfDma, Ended, now_at}
-use Rattle.spec_protocol.specs.Spheres.{Cursor}
+use Rattle.spec_protocol.specs.machine.Spheres.{Cursor}
 
 pub record Replaying : Type 0 where
   pub log : LogParts

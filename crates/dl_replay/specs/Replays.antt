@@ -7,7 +7,7 @@ use Rattle.spec_log.specs.Log.{IsLog}
 use Rattle.spec_kernel.specs.Interrupts.{is_live}
 use Rattle.spec_play.specs.Progress as play
 use Rattle.spec_play.specs.Turns as turns
-use Rattle.spec_protocol.specs.Spheres.{is_over}
+use Rattle.spec_protocol.specs.machine.Spheres.{is_over}
 use Rattle.dl_replay.specs.declared.now.Now.{Now}
 use Rattle.dl_replay.specs.declared.place.LogPlace.{LogPlace}
 use Rattle.dl_replay.specs.Seen.{now_seen, used_seen}

@@ -7,7 +7,7 @@ ghost use Rattle.spec_play.specs.Effects.{Effect, chunk_effect};
 ghost use Rattle.spec_play.specs.Progress.{Progress, position};
 ghost use Rattle.spec_play.specs.Verdicts.{ended, chunk_why, chunk_verdict, serial_why, given, serial_verdict};
 ghost use Rattle.spec_play.specs.Transfers.{is_for, dma_verdict};
-ghost use Rattle.spec_protocol.specs.Standing.{AreNew};
+ghost use Rattle.spec_protocol.specs.promises.Standing.{AreNew};
 ghost use Rattle.dl_kernel.specs.Calls.{spawned_list};
 ghost use Rattle.dl_replay.specs.Seen.{used_seen};
 ghost use Rattle.dl_replay.specs.Judging.{verdict_of, given_by, step_verdict, transfer_seen, transfer_verdict};

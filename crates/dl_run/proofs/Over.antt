@@ -15,14 +15,14 @@ use Rattle.spec_kernel.specs.Devices.{Devices}
 use Rattle.spec_play.specs.Progress.{position}
 use Rattle.spec_play.specs.Turns.{Now, Turn, TurnOfDma, Ended}
 use Rattle.spec_protocol.specs.declared.event.Event.{Event}
-use Rattle.spec_protocol.specs.Spheres.{Role, Plain, Record, Replay, Cursor, is_over}
-use Rattle.spec_protocol.specs.Placing.{replays}
-use Rattle.spec_protocol.specs.World.{World, sphere_at}
-use Rattle.spec_protocol.specs.Machine.{ReplaySetup, RecordSetup, RoleSetup, IsPlain, IsRecorded, IsReplayed, SphereSetup, Setup, world_of, world_after}
-use Rattle.spec_protocol.specs.Logged.{sphere_in}
-use Rattle.spec_protocol.specs.Serial.{SerialState}
-use Rattle.spec_protocol.specs.Promises.{IsSetup, after}
-use Rattle.spec_protocol.specs.Sound.{no_image, image_at}
+use Rattle.spec_protocol.specs.machine.Spheres.{Role, Plain, Record, Replay, Cursor, is_over}
+use Rattle.spec_protocol.specs.machine.Placing.{replays}
+use Rattle.spec_protocol.specs.machine.World.{World, sphere_at}
+use Rattle.spec_protocol.specs.machine.Machine.{ReplaySetup, RecordSetup, RoleSetup, IsPlain, IsRecorded, IsReplayed, SphereSetup, Setup, world_of, world_after}
+use Rattle.spec_protocol.specs.machine.Logged.{sphere_in}
+use Rattle.spec_protocol.specs.machine.Serial.{SerialState}
+use Rattle.spec_protocol.specs.promises.Promises.{IsSetup, after}
+use Rattle.spec_protocol.specs.promises.Sound.{no_image, image_at}
 use Rattle.spec_finishing.specs.Ending.{IsAtEnd, OfReplays}
 use Rattle.spec_finishing.specs.Function.{finished, finishing_of, most_events}
 use Rattle.spec_finishing.proofs.Ending.Function.{function_finishes}

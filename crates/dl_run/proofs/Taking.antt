@@ -5,8 +5,8 @@ use Rattle.std.proofs.Math.Seq.{drop-cons}
 use Rattle.std.proofs.Math.ListN.{length-append}
 use Rattle.std.proofs.lemmas.Grind.{common_steps}
 use Rattle.spec_protocol.specs.declared.event.Event.{Event}
-use Rattle.spec_protocol.specs.World.{World}
-use Rattle.spec_protocol.specs.Machine.{Setup}
+use Rattle.spec_protocol.specs.machine.World.{World}
+use Rattle.spec_protocol.specs.machine.Machine.{Setup}
 use Rattle.rand_pcg.specs.Lcg.{Lcg}
 use Rattle.dl_event.specs.declared.events.Repeated.{Repeated}
 use Rattle.dl_event.specs.Repeated.{expanded}

@@ -1,9 +1,9 @@
 -- A machine whose run is over, beside the setup that it was made of.
 use Rattle.std.specs.Prelude.{◌≡◌, ◌≤◌, ◌^◌, List, length}
 use Rattle.spec_protocol.specs.declared.event.Event.{Event}
-use Rattle.spec_protocol.specs.World.{World}
-use Rattle.spec_protocol.specs.Machine.{Setup}
-use Rattle.spec_protocol.specs.Sound.{IsWithinLimits}
+use Rattle.spec_protocol.specs.machine.World.{World}
+use Rattle.spec_protocol.specs.machine.Machine.{Setup}
+use Rattle.spec_protocol.specs.promises.Sound.{IsWithinLimits}
 use Rattle.spec_finishing.specs.Function.{finished}
 
 pub record Ran : Type 0 where

@@ -1,8 +1,8 @@
 -- What a machine is asked to take, and what it has taken.
 use Rattle.std.specs.Prelude.{List, []}
 use Rattle.spec_protocol.specs.declared.event.Event.{Event}
-use Rattle.spec_protocol.specs.World.{World}
-use Rattle.spec_protocol.specs.Machine.{Setup}
+use Rattle.spec_protocol.specs.machine.World.{World}
+use Rattle.spec_protocol.specs.machine.Machine.{Setup}
 use Rattle.dl_machine.specs.Runs.{IsRun}
 
 -- some setup within its limits has made the world, and no event has happened

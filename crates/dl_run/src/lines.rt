@@ -1,8 +1,8 @@
 //! What the summary says of each sphere.
 ghost use Rattle.std.specs.Prelude.{◌≡◌, ◌<◌, List, IfOk, length};
 ghost use Rattle.spec_protocol.specs.declared.event.Event.{Event};
-ghost use Rattle.spec_protocol.specs.Logged.{sphere_in};
-ghost use Rattle.spec_protocol.specs.Sound.{image_at};
+ghost use Rattle.spec_protocol.specs.machine.Logged.{sphere_in};
+ghost use Rattle.spec_protocol.specs.promises.Sound.{image_at};
 ghost use Rattle.spec_run.specs.Runs.{diverges, diverges_as, executed, has_diverged};
 ghost use Rattle.spec_run.specs.Texts.{line_as, line_of_end, lines_of};
 ghost use Rattle.dl_run.specs.Ran.{IsOver};

@@ -2,9 +2,9 @@
 ghost use Rattle.std.specs.Prelude.{◌≡◌, ◌<◌, List, false, length};
 ghost use Rattle.spec_play.specs.Progress.{position};
 ghost use Rattle.spec_protocol.specs.declared.event.Event.{Event};
-ghost use Rattle.spec_protocol.specs.Placing.{replays};
-ghost use Rattle.spec_protocol.specs.Sound.{image_at};
-ghost use Rattle.spec_protocol.specs.World.{sphere_at};
+ghost use Rattle.spec_protocol.specs.machine.Placing.{replays};
+ghost use Rattle.spec_protocol.specs.promises.Sound.{image_at};
+ghost use Rattle.spec_protocol.specs.machine.World.{sphere_at};
 ghost use Rattle.spec_run.specs.Promise.{end_as};
 ghost use Rattle.dl_sphere.specs.Setups.{role_setup};
 ghost use Rattle.dl_run.specs.Ran.{IsOver};

@@ -1,8 +1,8 @@
 //! The texts of a run that is over.
 ghost use Rattle.std.specs.Prelude.{◌≡◌, ◌<◌, List, IfOk, length};
 ghost use Rattle.spec_protocol.specs.declared.event.Event.{Event};
-ghost use Rattle.spec_protocol.specs.Machine.{RecordSetup, IsRecorded};
-ghost use Rattle.spec_protocol.specs.Sound.{image_at};
+ghost use Rattle.spec_protocol.specs.machine.Machine.{RecordSetup, IsRecorded};
+ghost use Rattle.spec_protocol.specs.promises.Sound.{image_at};
 ghost use Rattle.spec_run.specs.Texts.{account_text as account_of, console_text, log_of_points, log_text, report_text as report_of, summary_text as summary_of};
 ghost use Rattle.dl_run.specs.Logs.{log_bytes_if};
 ghost use Rattle.dl_run.specs.Ran.{IsOver};

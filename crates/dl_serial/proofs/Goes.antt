@@ -21,7 +21,7 @@ use Rattle.spec_play.specs.Effects.{Effect, chunk_commit, chunk_effect, serial_c
 use Rattle.spec_play.specs.Progress.{Progress, Used, with_input, with_interrupt}
 use Rattle.spec_play.specs.Transfers.{DmaVerdict, DmaGoes, dma_verdict}
 use Rattle.spec_play.specs.Verdicts.{LogVerdict, Goes, Fails, Given, given, with_interrupted, interrupt_at, chunk_verdict, unless, served_verdict, serial_verdict}
-use Rattle.spec_protocol.specs.Sound.{IsSoundIf}
+use Rattle.spec_protocol.specs.promises.Sound.{IsSoundIf}
 use Rattle.spec_protocol.proofs.Invariants.Cores.{branch}
 use Rattle.spec_protocol.proofs.Sound.Threads.{BringsIf}
 use Rattle.spec_protocol.proofs.Sound.Commits.{IsSoundEffect, serial-effect}

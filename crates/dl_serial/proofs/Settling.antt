@@ -19,7 +19,7 @@ use Rattle.spec_play.specs.Turns.{Now, Turn, Ended, now_at}
 use Rattle.spec_play.proofs.Going.{turn-lives}
 use Rattle.spec_play.specs.Transfers.{DmaVerdict, DmaFails}
 use Rattle.spec_play.specs.Verdicts.{LogVerdict, Fails, chunk_verdict, serial_verdict}
-use Rattle.spec_protocol.specs.Sound.{IsSoundIf}
+use Rattle.spec_protocol.specs.promises.Sound.{IsSoundIf}
 use Rattle.spec_protocol.proofs.Logs.Growing.{pushed_length}
 use Rattle.dl_kernel.specs.declared.serving.StepResult.{StepResult}
 use Rattle.dl_replay.specs.Judged.{diverged}

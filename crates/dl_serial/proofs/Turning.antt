@@ -11,7 +11,7 @@ use Rattle.spec_play.specs.Transfers.{dma_verdict}
 use Rattle.spec_play.specs.Verdicts.{chunk_verdict, serial_verdict}
 use Rattle.spec_play.specs.Plays.{Played, settled, dma_settled, thread_verdict, play_thread, play_now, play_one, plays}
 use Rattle.spec_play.proofs.Going.{plays-stay}
-use Rattle.spec_protocol.specs.Spheres.{whole_limit}
+use Rattle.spec_protocol.specs.machine.Spheres.{whole_limit}
 use Rattle.dl_replay.specs.Replaying.{Replaying, end_of}
 use Rattle.dl_serial.specs.Playing.{Playing, StandsAt, played_in}
 use Rattle.dl_serial.specs.declared.sphere.Sphere.{Sphere}

@@ -5,7 +5,7 @@ use Rattle.spec_log.specs.Log.{IsLog}
 use Rattle.spec_play.specs.Progress.{Progress, position}
 use Rattle.spec_play.specs.Turns.{Turn}
 use Rattle.spec_play.specs.Plays.{Played}
-use Rattle.spec_protocol.specs.Sound.{IsSoundIf}
+use Rattle.spec_protocol.specs.promises.Sound.{IsSoundIf}
 use Rattle.dl_replay.specs.Served.{nothing_served}
 use Rattle.dl_replay.specs.declared.verdict.Verdict.{Verdict}
 use Rattle.dl_replay.specs.Judged.{Judged}

@@ -5,11 +5,11 @@ use Rattle.spec_engine.specs.declared.answers.How.{How}
 use Rattle.spec_engine.specs.Chunks.{Chunk}
 use Rattle.spec_kernel.specs.Devices.{Devices}
 use Rattle.spec_play.specs.Turns.{Turn, TurnOfDma}
-use Rattle.spec_protocol.specs.Spheres.{Cursor, Role, Plain, Record, Replay, Sphere, limit_in, whole_limit}
-use Rattle.spec_protocol.specs.Placing.{replays}
-use Rattle.spec_protocol.specs.Asking.{is_short}
-use Rattle.spec_protocol.specs.Commits as commits
-use Rattle.spec_protocol.specs.Commits.{is_piece}
+use Rattle.spec_protocol.specs.machine.Spheres.{Cursor, Role, Plain, Record, Replay, Sphere, limit_in, whole_limit}
+use Rattle.spec_protocol.specs.machine.Placing.{replays}
+use Rattle.spec_protocol.specs.machine.Asking.{is_short}
+use Rattle.spec_protocol.specs.machine.Commits as commits
+use Rattle.spec_protocol.specs.machine.Commits.{is_piece}
 use Rattle.dl_sphere.specs.declared.moved.DmaSize.{DmaSize}
 use Rattle.dl_sphere.specs.declared.moved.Moved.{Moved}
 

@@ -3,9 +3,9 @@ use Rattle.std.specs.Prelude.{ℕ, Option, Some, None}
 use Rattle.dl_entry.specs.declared.End.{End}
 use Rattle.dl_entry.specs.declared.Request.{Request}
 use Rattle.spec_log.specs.declared.LogParts.{LogParts}
-use Rattle.spec_protocol.specs.Spheres.{Role, Plain, Record, Replay}
+use Rattle.spec_protocol.specs.machine.Spheres.{Role, Plain, Record, Replay}
 use Rattle.spec_play.specs.Transfers.{DmaGoes}
-use Rattle.spec_protocol.specs.Commits.{MovedSphere}
+use Rattle.spec_protocol.specs.machine.Commits.{MovedSphere}
 use Rattle.dl_replay.specs.Replaying.{end_of}
 use Rattle.dl_replay.specs.Left.{Stores}
 use Rattle.dl_sphere.specs.declared.moved.DmaSize.{DmaSize}

@@ -4,9 +4,9 @@ use Rattle.dl_entry.specs.declared.Commit.{Commit}
 use Rattle.dl_entry.specs.declared.Input.{Input}
 use Rattle.spec_log.specs.Log.{IsChunkSize}
 use Rattle.spec_play.specs.Progress.{position}
-use Rattle.spec_protocol.specs.Spheres as protocol
-use Rattle.spec_protocol.specs.Sound.{commits_in}
-use Rattle.spec_protocol.specs.Standing.{Stands}
+use Rattle.spec_protocol.specs.machine.Spheres as protocol
+use Rattle.spec_protocol.specs.promises.Sound.{commits_in}
+use Rattle.spec_protocol.specs.promises.Standing.{Stands}
 use Rattle.dl_record.specs.Recording.{IsFresh}
 use Rattle.dl_record.specs.Recording as recorder
 use Rattle.spec_play.specs.Noted.{Recorded, as_log, interrupt_kept}

@@ -1,5 +1,5 @@
 -- What a plan says of a sphere, as the definitions have it.
-use Rattle.spec_protocol.specs.Machine as protocol
+use Rattle.spec_protocol.specs.machine.Machine as protocol
 use Rattle.dl_sphere.specs.declared.setup.Role.{Role}
 use Rattle.dl_sphere.specs.declared.setup.SphereSetup.{SphereSetup}
 

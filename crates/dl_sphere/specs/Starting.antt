@@ -1,7 +1,7 @@
 -- What a sphere keeps for its role before its first commit.
 use Rattle.std.specs.Prelude.{ℕ, []}
 use Rattle.spec_play.specs.Noted.{nothing_recorded}
-use Rattle.spec_protocol.specs.Machine.{RoleSetup, IsPlain, IsRecorded, IsReplayed}
+use Rattle.spec_protocol.specs.machine.Machine.{RoleSetup, IsPlain, IsRecorded, IsReplayed}
 use Rattle.dl_replay.specs.Replaying.{replay_start}
 use Rattle.dl_sphere.specs.Roles.{Keeping, Plain, Recording, Replaying}
 

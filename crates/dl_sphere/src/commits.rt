@@ -2,9 +2,9 @@
 ghost use Rattle.std.specs.Prelude.{◌≡◌, ◌+◌, ◌^◌, ◌<◌, ◌++◌, IfOk, OnOk, length, map, Some};
 ghost use Rattle.spec_engine.specs.declared.answers.How.{How};
 ghost use Rattle.spec_play.specs.Effects.{chunk_commit, serial_commit, dma_commit, entry_of};
-ghost use Rattle.spec_protocol.specs.Commits.{is_piece, joined};
-ghost use Rattle.spec_protocol.specs.Spheres.{Cursor};
-ghost use Rattle.spec_protocol.specs.Asking.{is_short};
+ghost use Rattle.spec_protocol.specs.machine.Commits.{is_piece, joined};
+ghost use Rattle.spec_protocol.specs.machine.Spheres.{Cursor};
+ghost use Rattle.spec_protocol.specs.machine.Asking.{is_short};
 
 use dl_chunk::Chunk;
 use dl_entry::{Actor, Commit, CommitKind, Load, Loads, OutOfMemory, Outputs};

@@ -9,7 +9,7 @@ ghost use Rattle.spec_play.specs.Progress.{Progress};
 ghost use Rattle.spec_play.specs.Turns.{Turn, TurnOfDma};
 ghost use Rattle.spec_play.specs.Transfers.{dma_verdict};
 ghost use Rattle.spec_play.specs.Verdicts.{chunk_verdict, serial_verdict};
-ghost use Rattle.spec_protocol.specs.Spheres.{Replay, actor_of, limit_in, limit_of};
+ghost use Rattle.spec_protocol.specs.machine.Spheres.{Replay, actor_of, limit_in, limit_of};
 ghost use Rattle.dl_replay.specs.Served.{Served, nothing_served, served_left, served_stored};
 ghost use Rattle.dl_replay.specs.Judged.{HasRun, IsInside, chunk_judged, dma_judged, serial_judged};
 ghost use Rattle.dl_replay.specs.Judging.{transfer_verdict};

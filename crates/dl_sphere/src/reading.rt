@@ -4,10 +4,10 @@ ghost use Rattle.spec_isa.specs.declared.thread.Parts.{Parts};
 ghost use Rattle.spec_engine.specs.Flights.{IsInside, at, drain};
 ghost use Rattle.spec_kernel.specs.Devices.{Devices};
 ghost use Rattle.spec_play.specs.Progress.{position};
-ghost use Rattle.spec_protocol.specs.Commits.{MovedSphere, dma_moved};
-ghost use Rattle.spec_protocol.specs.Placing.{replays};
-ghost use Rattle.spec_protocol.specs.Sound.{IsSoundRequest};
-ghost use Rattle.spec_protocol.specs.Spheres.{limit_of, head_of, is_stopped, halves, is_in_pieces};
+ghost use Rattle.spec_protocol.specs.machine.Commits.{MovedSphere, dma_moved};
+ghost use Rattle.spec_protocol.specs.machine.Placing.{replays};
+ghost use Rattle.spec_protocol.specs.promises.Sound.{IsSoundRequest};
+ghost use Rattle.spec_protocol.specs.machine.Spheres.{limit_of, head_of, is_stopped, halves, is_in_pieces};
 ghost use Rattle.dl_fly.specs.Slots.{set_slot};
 ghost use Rattle.dl_sphere.specs.Moving.{SaysOutcome};
 ghost use Rattle.dl_sphere.specs.Reading.{end_in, pieces_in, log_in, SaysBytes};
@@ -28,7 +28,7 @@ use spec_log::{Log, ModeName};
 
 impl Sphere {
     /// How many instructions a new chunk of a thread may run.
-    #[tactic(auto, unfolding(spec_protocol::specs::Spheres::limit_of))]
+    #[tactic(auto, unfolding(spec_protocol::specs::machine::Spheres::limit_of))]
     pub fn limit(&self, thread: u8) -> u32
         ensures value { (t : Parts) → slice_get self.now.sphere.threads thread ≡ Some t →
             result ≡ limit_of self.now.s self.now.sphere.role thread t }
@@ -42,7 +42,7 @@ impl Sphere {
     }
 
     /// The actor whose turn it is to commit, where not every one may.
-    #[tactic(auto, unfolding(spec_protocol::specs::Spheres::head_of))]
+    #[tactic(auto, unfolding(spec_protocol::specs::machine::Spheres::head_of))]
     pub fn head(&self) -> Option<Actor>
         ensures { result ≡ head_of self.now.sphere }
     {
@@ -161,7 +161,7 @@ impl Sphere {
 
     /// How many bytes a DMA would store behind its count, where so many of the input are left; or why the replay leaves
     /// its log there.
-    #[tactic(auto, unfolding(spec_protocol::specs::Commits::dma_moved))]
+    #[tactic(auto, unfolding(spec_protocol::specs::machine::Commits::dma_moved))]
     pub fn dma_size(&self, input_left: u32) -> DmaSize
         requires { replays self.now.sphere.role ≡ true ⊎ IsSome self.now.sphere.progress.request }
         ensures bytes { (d : Devices) → length d.input ≡ input_left →
@@ -179,7 +179,7 @@ impl Sphere {
     }
 
     /// The words that a DMA would store: none where the replay leaves its log there, or none is asked for.
-    #[tactic(auto, unfolding(spec_protocol::specs::Commits::dma_moved))]
+    #[tactic(auto, unfolding(spec_protocol::specs::machine::Commits::dma_moved))]
     pub fn dma_words(&self, devices: &Devices) -> Result<Buffer, OutOfMemory>
         requires request { IfSome self.now.sphere.progress.request (IsSoundRequest (length self.now.sphere.memory)) }
         ensures words { IfOk result (λ words. (v : MovedSphere) → dma_moved devices.now self.now.sphere ≡ Some v → words.words ≡ v.words) }

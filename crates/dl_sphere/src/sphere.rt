@@ -6,12 +6,12 @@ ghost use Rattle.spec_kernel.specs.Devices.{Devices};
 ghost use Rattle.spec_kernel.specs.Interrupts.{takes_interrupt};
 ghost use Rattle.spec_play.specs.Progress.{position};
 ghost use Rattle.spec_log.specs.Log.{IsChunkSize};
-ghost use Rattle.spec_protocol.specs.Asking.{is_short};
-ghost use Rattle.spec_protocol.specs.Commits.{is_piece, chunk_moved, serial_moved, dma_moved, raised};
-ghost use Rattle.spec_protocol.specs.Machine.{sphere_of};
-ghost use Rattle.spec_protocol.specs.Placing.{replays};
-ghost use Rattle.spec_protocol.specs.Spheres.{limit_of, head_of, is_stopped, halves};
-ghost use Rattle.spec_protocol.specs.Sound.{HaveByteInput, IsSoundRequest};
+ghost use Rattle.spec_protocol.specs.machine.Asking.{is_short};
+ghost use Rattle.spec_protocol.specs.machine.Commits.{is_piece, chunk_moved, serial_moved, dma_moved, raised};
+ghost use Rattle.spec_protocol.specs.machine.Machine.{sphere_of};
+ghost use Rattle.spec_protocol.specs.machine.Placing.{replays};
+ghost use Rattle.spec_protocol.specs.machine.Spheres.{limit_of, head_of, is_stopped, halves};
+ghost use Rattle.spec_protocol.specs.promises.Sound.{HaveByteInput, IsSoundRequest};
 ghost use Rattle.dl_sphere.specs.Moving.{came, CanCommit, IsTurnOf, IsTurnOfDma};
 ghost use Rattle.dl_sphere.specs.Setups.{setup_of};
 
@@ -59,7 +59,7 @@ impl Model for Sphere {
 
 impl Sphere {
     /// Commits the closed chunk of a thread, whole or as a piece of a replayed commit, unless the replay leaves its log.
-    #[tactic(auto, unfolding(spec_protocol::specs::Commits::chunk_moved))]
+    #[tactic(auto, unfolding(spec_protocol::specs::machine::Commits::chunk_moved))]
     pub fn commit_chunk<G: Sig>(
         &mut self,
         thread: u8,

@@ -4,7 +4,7 @@ ghost use Rattle.dl_entry.specs.Numbers.{most_threads};
 ghost use Rattle.spec_kernel.specs.Serving.{console_written};
 ghost use Rattle.spec_log.specs.Log.{IsInput};
 ghost use Rattle.spec_play.specs.Effects.{serial_commit};
-ghost use Rattle.spec_protocol.specs.Sound.{HaveByteInput};
+ghost use Rattle.spec_protocol.specs.promises.Sound.{HaveByteInput};
 ghost use Rattle.dl_kernel.specs.Calls.{spawned_list};
 ghost use Rattle.dl_sphere.specs.Roles.{keeping_of, with_noted, CanNote};
 ghost use Rattle.dl_sphere.specs.Stepping.{taken_by, served_by, commit_by};

@@ -22,15 +22,15 @@ use Rattle.spec_engine.specs.Choices.{on_option, choose}
 use Rattle.spec_engine.specs.Chunks.{at_limit, reading, storing, loading, running, step}
 use Rattle.spec_engine.specs.Flights.{first_slot, free_slot}
 use Rattle.spec_engine.specs.Signatures.{meets}
-use Rattle.spec_protocol.specs.Asking.{grant_chunk, grant_serial, asking}
-use Rattle.spec_protocol.specs.Commits.{chunk_moved, serial_moved, dma_moved, raised}
-use Rattle.spec_protocol.specs.Finishing.{next, Finishes}
-use Rattle.spec_protocol.specs.Flying.{draining, delivering, retiring}
-use Rattle.spec_protocol.specs.Machine.{IsReplayed, Setup, world_of, act, happens}
-use Rattle.spec_protocol.specs.Placing.{placing, raising}
-use Rattle.spec_protocol.specs.Spheres.{head_of, turn_against, limit_of}
-use Rattle.spec_protocol.specs.Stepping.{stepping, cutting}
-use Rattle.spec_protocol.specs.Transferring.{transfer, transferring}
+use Rattle.spec_protocol.specs.machine.Asking.{grant_chunk, grant_serial, asking}
+use Rattle.spec_protocol.specs.machine.Commits.{chunk_moved, serial_moved, dma_moved, raised}
+use Rattle.spec_protocol.specs.machine.Finishing.{next, Finishes}
+use Rattle.spec_protocol.specs.machine.Flying.{draining, delivering, retiring}
+use Rattle.spec_protocol.specs.machine.Machine.{IsReplayed, Setup, world_of, act, happens}
+use Rattle.spec_protocol.specs.machine.Placing.{placing, raising}
+use Rattle.spec_protocol.specs.machine.Spheres.{head_of, turn_against, limit_of}
+use Rattle.spec_protocol.specs.machine.Stepping.{stepping, cutting}
+use Rattle.spec_protocol.specs.machine.Transferring.{transfer, transferring}
 use Rattle.spec_play.proofs.Programs.{image}
 use Rattle.spec_finishing.specs.Work.{commit_work, plays_work}
 use Rattle.spec_finishing.specs.Rank.{replay_left, price, under_way, rank}

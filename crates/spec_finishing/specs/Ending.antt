@@ -4,13 +4,13 @@ use Rattle.spec_log.specs.declared.LogParts.{LogParts}
 use Rattle.spec_engine.specs.Flights.{at}
 use Rattle.spec_protocol.specs.declared.event.Event.{Event}
 use Rattle.spec_protocol.specs.declared.reply.Reply.{Reply}
-use Rattle.spec_protocol.specs.Spheres.{Role, Plain, Record, Replay, Sphere, is_over}
-use Rattle.spec_protocol.specs.World.{World, Move, sphere_at}
-use Rattle.spec_protocol.specs.Placing.{replays}
-use Rattle.spec_protocol.specs.Machine.{ReplaySetup, IsReplayed, SphereSetup, Setup, world_of, happens, world_after, moves}
-use Rattle.spec_protocol.specs.Serial.{serial_start}
-use Rattle.spec_protocol.specs.Finishing.{Finishes}
-use Rattle.spec_protocol.specs.Promises.{IsSetup, after}
+use Rattle.spec_protocol.specs.machine.Spheres.{Role, Plain, Record, Replay, Sphere, is_over}
+use Rattle.spec_protocol.specs.machine.World.{World, Move, sphere_at}
+use Rattle.spec_protocol.specs.machine.Placing.{replays}
+use Rattle.spec_protocol.specs.machine.Machine.{ReplaySetup, IsReplayed, SphereSetup, Setup, world_of, happens, world_after, moves}
+use Rattle.spec_protocol.specs.machine.Serial.{serial_start}
+use Rattle.spec_protocol.specs.machine.Finishing.{Finishes}
+use Rattle.spec_protocol.specs.promises.Promises.{IsSetup, after}
 use Rattle.spec_finishing.specs.Work.{plays_work, moves_work}
 use Rattle.spec_finishing.specs.Rank.{potential, under_way, rank}
 

@@ -3,10 +3,10 @@ use Rattle.std.specs.Prelude.{◌≡◌, ℕ, List, ◌++◌, slice_get, Some}
 use Rattle.spec_log.specs.declared.LogParts.{LogParts}
 use Rattle.spec_play.specs.Plays.{play}
 use Rattle.spec_protocol.specs.declared.event.Event.{Event}
-use Rattle.spec_protocol.specs.Spheres.{Cursor, Replay, Sphere}
-use Rattle.spec_protocol.specs.Machine.{last_played, ReplaySetup, IsReplayed, SphereSetup, Setup}
-use Rattle.spec_protocol.specs.Finishing.{FinishesAfter}
-use Rattle.spec_protocol.specs.Promises.{after}
+use Rattle.spec_protocol.specs.machine.Spheres.{Cursor, Replay, Sphere}
+use Rattle.spec_protocol.specs.machine.Machine.{last_played, ReplaySetup, IsReplayed, SphereSetup, Setup}
+use Rattle.spec_protocol.specs.machine.Finishing.{FinishesAfter}
+use Rattle.spec_protocol.specs.promises.Promises.{after}
 use Rattle.spec_replay.specs.Promises.{IsPlayed}
 use Rattle.spec_finishing.specs.Ending.{CanFinish}
 

@@ -1,11 +1,11 @@
 -- Finishing as a function of the world: so what a run comes to is one of its setup and its schedule.
 use Rattle.std.specs.Prelude.{ℕ, zero, suc, ◌+◌, ◌*◌, ◌^◌, ◌<◌, ◌≤◌, List, [], ◌∷◌, length, Some, None}
 use Rattle.spec_protocol.specs.declared.event.Event.{Event}
-use Rattle.spec_protocol.specs.World.{World}
-use Rattle.spec_protocol.specs.Machine.{Setup, happens, world_after}
-use Rattle.spec_protocol.specs.Finishing.{next}
-use Rattle.spec_protocol.specs.Promises.{after}
-use Rattle.spec_protocol.specs.Sound.{IsWithinLimits}
+use Rattle.spec_protocol.specs.machine.World.{World}
+use Rattle.spec_protocol.specs.machine.Machine.{Setup, happens, world_after}
+use Rattle.spec_protocol.specs.machine.Finishing.{next}
+use Rattle.spec_protocol.specs.promises.Promises.{after}
+use Rattle.spec_protocol.specs.promises.Sound.{IsWithinLimits}
 use Rattle.spec_finishing.specs.Ending.{work, Ends, CanFinish}
 
 -- the next events, each after the one before, until none is left or there were so many

@@ -6,10 +6,10 @@ use Rattle.spec_play.specs.Progress.{position}
 use Rattle.spec_play.specs.Plays.{Played, opened}
 use Rattle.spec_engine.specs.Flights.{Flight, at, told_at}
 use Rattle.spec_engine.specs.Chunks.{is_open}
-use Rattle.spec_protocol.specs.Spheres.{Cursor, Role, Plain, Record, Replay, Sphere, is_over}
-use Rattle.spec_protocol.specs.World.{World, Occupant, core_of}
-use Rattle.spec_protocol.specs.Machine.{first_played, SphereSetup, Setup}
-use Rattle.spec_protocol.specs.Finishing.{Who, least, standing}
+use Rattle.spec_protocol.specs.machine.Spheres.{Cursor, Role, Plain, Record, Replay, Sphere, is_over}
+use Rattle.spec_protocol.specs.machine.World.{World, Occupant, core_of}
+use Rattle.spec_protocol.specs.machine.Machine.{first_played, SphereSetup, Setup}
+use Rattle.spec_protocol.specs.machine.Finishing.{Who, least, standing}
 use Rattle.spec_finishing.specs.Work.{commits_work}
 
 -- ---- flights

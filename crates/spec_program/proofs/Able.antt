@@ -7,7 +7,7 @@ use Rattle.dl_files.specs.Contents.{Contents}
 use Rattle.dl_plan.specs.Values.{RoleValues, Plain, Record, Replay, SphereValues, PlanValues}
 use Rattle.spec_log.specs.declared.LogParts.{LogParts}
 use Rattle.spec_log.specs.Reading.{read_of}
-use Rattle.spec_protocol.specs.Machine.{ReplaySetup, RoleSetup, IsReplayed, SphereSetup}
+use Rattle.spec_protocol.specs.machine.Machine.{ReplaySetup, RoleSetup, IsReplayed, SphereSetup}
 use Rattle.spec_finishing.specs.Ending.{CanFinish}
 use Rattle.spec_program.specs.Built.{bad_log, role_of, spheres_of}
 use Rattle.spec_program.specs.Files.{RoleRead, PlainRead, RecordRead, ReplayRead, SphereRead, PlanRead, read_at, log_at, schedule_read, input_read, role_read, sphere_read, spheres_read, plan_read}

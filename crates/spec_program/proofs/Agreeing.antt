@@ -4,8 +4,8 @@ use Rattle.dl_elf.specs.Images.{Image}
 use Rattle.dl_elf.specs.Loading.{image_of}
 use Rattle.spec_log.specs.declared.LogParts.{LogParts}
 use Rattle.spec_log.specs.Reading.{ParseError}
-use Rattle.spec_protocol.specs.Logged.{sphere_in}
-use Rattle.spec_protocol.specs.Machine.{RecordSetup, RoleSetup, IsRecorded, IsReplayed, SphereSetup}
+use Rattle.spec_protocol.specs.machine.Logged.{sphere_in}
+use Rattle.spec_protocol.specs.machine.Machine.{RecordSetup, RoleSetup, IsRecorded, IsReplayed, SphereSetup}
 use Rattle.spec_run.specs.Runs.{executed}
 use Rattle.spec_run.specs.Texts.{account_as, account_text, log_of_points}
 use Rattle.spec_run.proofs.Described.{recordings_reproduced}

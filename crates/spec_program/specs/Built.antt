@@ -10,8 +10,8 @@ use Rattle.dl_plan.specs.Values.{PlanValues}
 use Rattle.spec_log.specs.declared.ModeName.{ModeName}
 use Rattle.spec_log.specs.Reading.{ParseError}
 use Rattle.spec_protocol.specs.declared.event.Event.{Event}
-use Rattle.spec_protocol.specs.Machine.{RoleSetup, IsPlain, IsRecorded, IsReplayed, SphereSetup, Setup}
-use Rattle.spec_protocol.specs.World.{Numbers}
+use Rattle.spec_protocol.specs.machine.Machine.{RoleSetup, IsPlain, IsRecorded, IsReplayed, SphereSetup, Setup}
+use Rattle.spec_protocol.specs.machine.World.{Numbers}
 use Rattle.spec_program.specs.declared.status.Refusal.{Refusal}
 use Rattle.spec_program.specs.Files.{ScheduleRead, ScriptRead, EventsDrawn, RoleRead, PlainRead, RecordRead, ReplayRead, SphereRead}
 use Rattle.spec_program.specs.Lines.{image_line, log_line, script_line}

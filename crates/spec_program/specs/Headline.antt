@@ -4,8 +4,8 @@
 -- sphere tells the play of its log on its image, and nothing else.
 use Rattle.std.specs.Prelude.{◌≡◌, ℕ, List, Option, Some, if◌then◌else◌}
 use Rattle.dl_files.specs.Contents.{Contents}
-use Rattle.spec_protocol.specs.Serial.{serial_start, CanDoAll}
-use Rattle.spec_protocol.specs.Sound.{IsWithinLimits}
+use Rattle.spec_protocol.specs.machine.Serial.{serial_start, CanDoAll}
+use Rattle.spec_protocol.specs.promises.Sound.{IsWithinLimits}
 use Rattle.spec_run.specs.Runs.{diverges}
 use Rattle.spec_run.specs.Texts.{summary_text}
 use Rattle.spec_program.specs.declared.status.Status.{Status}

@@ -9,7 +9,7 @@ use Rattle.dl_plan.specs.Values.{PlanValues}
 use Rattle.spec_log.specs.declared.LogParts.{LogParts}
 use Rattle.spec_play.specs.Plays.{Played, play}
 use Rattle.spec_protocol.specs.declared.event.Event.{Event}
-use Rattle.spec_protocol.specs.Machine.{Setup}
+use Rattle.spec_protocol.specs.machine.Machine.{Setup}
 use Rattle.spec_run.specs.Runs.{diverges, end_of, has_diverged}
 use Rattle.spec_run.specs.Texts.{log_text, account_text, console_text, played_account, report_text, summary_text}
 use Rattle.spec_program.specs.declared.status.Refusal.{Refusal}

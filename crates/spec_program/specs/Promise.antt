@@ -2,7 +2,7 @@
 use Rattle.std.specs.Prelude.{◌≡◌, ℕ, List, Some}
 use Rattle.dl_files.specs.Contents.{Contents}
 use Rattle.dl_words.specs.Commands.{Run, command_of}
-use Rattle.spec_protocol.specs.Serial.{serial_start, CanDoAll}
+use Rattle.spec_protocol.specs.machine.Serial.{serial_start, CanDoAll}
 use Rattle.spec_program.specs.Ends.{DoesFinish}
 use Rattle.spec_program.specs.Outcomes.{outcome_of, ran}
 use Rattle.spec_program.specs.Tasks.{Task, IsTask, setup_in, points_in}

@@ -6,7 +6,7 @@ use Rattle.dl_files.specs.Contents.{Contents}
 use Rattle.dl_words.specs.Commands.{CommandValues, Run, Inspect, Walk, Make, Drill, Asm, command_of}
 use Rattle.spec_log.specs.declared.LogParts.{LogParts}
 use Rattle.spec_log.specs.Reading.{ParseError}
-use Rattle.spec_protocol.specs.Sound.{IsWithinLimits}
+use Rattle.spec_protocol.specs.promises.Sound.{IsWithinLimits}
 use Rattle.spec_program.specs.declared.status.Refusal.{Refusal}
 use Rattle.spec_program.specs.Built.{bad_image, bad_log}
 use Rattle.spec_program.specs.Files.{read_at, log_at}

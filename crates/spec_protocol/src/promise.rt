@@ -1,17 +1,17 @@
 //! What is promised of the protocol. Each promise is a clause of a function that does nothing.
-ghost use Rattle.spec_protocol.specs.AsRecorded.{PlainMovesAsRecorded};
-ghost use Rattle.spec_protocol.specs.Committers.{CommittersAreTold};
-ghost use Rattle.spec_protocol.specs.ConsoleBytes.{ConsoleIsPutOut};
-ghost use Rattle.spec_protocol.specs.Lasts.{SpheresKeepLasts};
-ghost use Rattle.spec_protocol.specs.Promises.{CommitsAreSerial, InvariantsHold, MovesAreSerial, SizesAreKept};
-ghost use Rattle.spec_protocol.specs.Logs.{LogsAreFresh};
-ghost use Rattle.spec_protocol.specs.LogsOfPoints.{LogsAreOfPoints};
-ghost use Rattle.spec_protocol.specs.Judging.{LogsAreSeenAlike};
-ghost use Rattle.spec_protocol.specs.Notable.{NotesFitLogs};
-ghost use Rattle.spec_protocol.specs.Pieces.{PiecesCountNothing, PiecesStayTogether, StoppedSpheresStay};
-ghost use Rattle.spec_protocol.specs.PlayingBack.{LogsPlayBack};
-ghost use Rattle.spec_protocol.specs.Replying.{AsksAreGranted, GrantsAreClear, PointsAreMade};
-ghost use Rattle.spec_protocol.specs.Sound.{EventsKeepSound, WorldsAreSound};
+ghost use Rattle.spec_protocol.specs.promises.AsRecorded.{PlainMovesAsRecorded};
+ghost use Rattle.spec_protocol.specs.promises.Committers.{CommittersAreTold};
+ghost use Rattle.spec_protocol.specs.promises.ConsoleBytes.{ConsoleIsPutOut};
+ghost use Rattle.spec_protocol.specs.promises.Lasts.{SpheresKeepLasts};
+ghost use Rattle.spec_protocol.specs.promises.Promises.{CommitsAreSerial, InvariantsHold, MovesAreSerial, SizesAreKept};
+ghost use Rattle.spec_protocol.specs.promises.Logs.{LogsAreFresh};
+ghost use Rattle.spec_protocol.specs.promises.LogsOfPoints.{LogsAreOfPoints};
+ghost use Rattle.spec_protocol.specs.promises.Judging.{LogsAreSeenAlike};
+ghost use Rattle.spec_protocol.specs.promises.Notable.{NotesFitLogs};
+ghost use Rattle.spec_protocol.specs.promises.Pieces.{PiecesCountNothing, PiecesStayTogether, StoppedSpheresStay};
+ghost use Rattle.spec_protocol.specs.promises.PlayingBack.{LogsPlayBack};
+ghost use Rattle.spec_protocol.specs.promises.Replying.{AsksAreGranted, GrantsAreClear, PointsAreMade};
+ghost use Rattle.spec_protocol.specs.promises.Sound.{EventsKeepSound, WorldsAreSound};
 
 /// For every setup and every list of events, in any order: the plain and recorded spheres, with their threads, requests,
 /// current memories, commits and logs, and the devices with the console, are those of executing the serialisation points

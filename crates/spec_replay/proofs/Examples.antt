@@ -30,18 +30,18 @@ use Rattle.spec_engine.specs.Choices.{on_option, choose}
 use Rattle.spec_engine.specs.Chunks.{at_limit, reading, storing, loading, running, step}
 use Rattle.spec_engine.specs.Flights.{first_slot, free_slot}
 use Rattle.spec_engine.specs.Signatures.{meets}
-use Rattle.spec_protocol.specs.Asking.{grant_chunk, grant_serial, asking}
-use Rattle.spec_protocol.specs.Commits.{chunk_moved, serial_moved, dma_moved, raised}
-use Rattle.spec_protocol.specs.Finishing.{next}
-use Rattle.spec_protocol.specs.Flying.{draining, delivering, retiring}
-use Rattle.spec_protocol.specs.Machine.{IsReplayed, world_of, act, happens, world_after}
-use Rattle.spec_protocol.specs.Placing.{placing, raising}
-use Rattle.spec_protocol.specs.Serial.{do_point}
-use Rattle.spec_protocol.specs.Shown.{shown}
-use Rattle.spec_protocol.specs.Spheres.{Role, Plain, Record, Replay, head_of, turn_against, limit_of}
-use Rattle.spec_protocol.specs.Stepping.{stepping, cutting}
-use Rattle.spec_protocol.specs.Transferring.{transfer, transferring}
-use Rattle.spec_protocol.specs.World.{World, sphere_at}
+use Rattle.spec_protocol.specs.machine.Asking.{grant_chunk, grant_serial, asking}
+use Rattle.spec_protocol.specs.machine.Commits.{chunk_moved, serial_moved, dma_moved, raised}
+use Rattle.spec_protocol.specs.machine.Finishing.{next}
+use Rattle.spec_protocol.specs.machine.Flying.{draining, delivering, retiring}
+use Rattle.spec_protocol.specs.machine.Machine.{IsReplayed, world_of, act, happens, world_after}
+use Rattle.spec_protocol.specs.machine.Placing.{placing, raising}
+use Rattle.spec_protocol.specs.machine.Serial.{do_point}
+use Rattle.spec_protocol.specs.machine.Shown.{shown}
+use Rattle.spec_protocol.specs.machine.Spheres.{Role, Plain, Record, Replay, head_of, turn_against, limit_of}
+use Rattle.spec_protocol.specs.machine.Stepping.{stepping, cutting}
+use Rattle.spec_protocol.specs.machine.Transferring.{transfer, transferring}
+use Rattle.spec_protocol.specs.machine.World.{World, sphere_at}
 
 -- ---- scenes
 

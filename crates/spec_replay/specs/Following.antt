@@ -10,7 +10,7 @@ use Rattle.spec_kernel.specs.Interrupts.{is_live}
 use Rattle.spec_play.specs.Progress.{position}
 use Rattle.spec_play.specs.Turns.{Now, Turn, TurnOfDma, Ended}
 use Rattle.spec_play.specs.Plays.{Played, play_one}
-use Rattle.spec_protocol.specs.Spheres.{Cursor, Replay, Sphere, whole_limit}
+use Rattle.spec_protocol.specs.machine.Spheres.{Cursor, Replay, Sphere, whole_limit}
 
 -- ---- the state
 

@@ -6,10 +6,10 @@ use Rattle.spec_play.specs.Progress.{position}
 use Rattle.spec_play.specs.Turns.{Ended}
 use Rattle.spec_play.specs.Plays.{Played, opened, plays, play}
 use Rattle.spec_protocol.specs.declared.event.Event.{Event}
-use Rattle.spec_protocol.specs.Spheres.{Cursor, Replay, Sphere, is_over}
-use Rattle.spec_protocol.specs.Machine.{last_played, first_played, ReplaySetup, IsReplayed, SphereSetup, Setup}
-use Rattle.spec_protocol.specs.Shown.{shown_of}
-use Rattle.spec_protocol.specs.Promises.{IsSetup, after}
+use Rattle.spec_protocol.specs.machine.Spheres.{Cursor, Replay, Sphere, is_over}
+use Rattle.spec_protocol.specs.machine.Machine.{last_played, first_played, ReplaySetup, IsReplayed, SphereSetup, Setup}
+use Rattle.spec_protocol.specs.machine.Shown.{shown_of}
+use Rattle.spec_protocol.specs.promises.Promises.{IsSetup, after}
 use Rattle.spec_replay.specs.Following.{Follows}
 
 -- ---- every replay is its log's play

@@ -3,10 +3,10 @@ use Rattle.std.proofs.Common.{◌≡◌, ℕ, List, refl, ap, ◌∙◌, sym, ge
 use Rattle.spec_log.specs.declared.ModeName.{ModeName}
 use Rattle.spec_kernel.specs.Devices.{devices_of}
 use Rattle.spec_protocol.specs.declared.event.Event.{Event}
-use Rattle.spec_protocol.specs.Machine.{RoleSetup, IsPlain, IsRecorded, IsReplayed, SphereSetup, Setup, sphere_of}
-use Rattle.spec_protocol.specs.Serial.{SerialState, serial_start, do_points}
-use Rattle.spec_protocol.specs.Logged.{sphere_in, supplied, logged}
-use Rattle.spec_protocol.specs.Sound.{image_at, no_image}
+use Rattle.spec_protocol.specs.machine.Machine.{RoleSetup, IsPlain, IsRecorded, IsReplayed, SphereSetup, Setup, sphere_of}
+use Rattle.spec_protocol.specs.machine.Serial.{SerialState, serial_start, do_points}
+use Rattle.spec_protocol.specs.machine.Logged.{sphere_in, supplied, logged}
+use Rattle.spec_protocol.specs.promises.Sound.{image_at, no_image}
 use Rattle.std.proofs.Common.{map}
 use Rattle.spec_log.specs.Bytes.{log_bytes}
 use Rattle.spec_run.specs.Runs.{points_of, executed}

@@ -11,17 +11,17 @@ use Rattle.spec_play.specs.Progress.{position}
 use Rattle.spec_play.specs.Turns.{Now, Turn, TurnOfDma, Ended}
 use Rattle.spec_play.specs.Plays.{Played, play}
 use Rattle.spec_protocol.specs.declared.event.Event.{Event}
-use Rattle.spec_protocol.specs.Spheres.{Recording, Role, Plain, Record, Replay, Cursor, Sphere, no_sphere, is_over}
-use Rattle.spec_protocol.specs.Placing.{replays}
-use Rattle.spec_protocol.specs.World.{World, sphere_at}
-use Rattle.spec_protocol.specs.Machine.{last_played, ReplaySetup, RecordSetup, RoleSetup, IsPlain, IsRecorded, IsReplayed, SphereSetup, Setup, world_of, happens, world_after}
-use Rattle.spec_protocol.specs.Serial.{serial_start, serial, CanDoAll}
-use Rattle.spec_protocol.specs.Logged.{sphere_in, supplied, logged}
-use Rattle.spec_protocol.specs.Logs.{IsLogFresh}
-use Rattle.spec_protocol.specs.Shown.{shown_of}
-use Rattle.spec_protocol.specs.Finishing.{next, Finishes}
-use Rattle.spec_protocol.specs.Promises.{IsSetup, after, WillRecord}
-use Rattle.spec_protocol.specs.PlayingBack.{PlaysBack}
+use Rattle.spec_protocol.specs.machine.Spheres.{Recording, Role, Plain, Record, Replay, Cursor, Sphere, no_sphere, is_over}
+use Rattle.spec_protocol.specs.machine.Placing.{replays}
+use Rattle.spec_protocol.specs.machine.World.{World, sphere_at}
+use Rattle.spec_protocol.specs.machine.Machine.{last_played, ReplaySetup, RecordSetup, RoleSetup, IsPlain, IsRecorded, IsReplayed, SphereSetup, Setup, world_of, happens, world_after}
+use Rattle.spec_protocol.specs.machine.Serial.{serial_start, serial, CanDoAll}
+use Rattle.spec_protocol.specs.machine.Logged.{sphere_in, supplied, logged}
+use Rattle.spec_protocol.specs.promises.Logs.{IsLogFresh}
+use Rattle.spec_protocol.specs.machine.Shown.{shown_of}
+use Rattle.spec_protocol.specs.machine.Finishing.{next, Finishes}
+use Rattle.spec_protocol.specs.promises.Promises.{IsSetup, after, WillRecord}
+use Rattle.spec_protocol.specs.promises.PlayingBack.{PlaysBack}
 use Rattle.spec_replay.specs.Promises.{IsPlayed}
 use Rattle.spec_finishing.specs.Ending.{Ends, CanFinish, IsAtEnd}
 use Rattle.spec_finishing.specs.Function.{finished, finishing_of, most_events}

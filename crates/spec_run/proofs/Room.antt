@@ -21,15 +21,15 @@ use Rattle.spec_engine.specs.declared.answers.Deliver.{Deliver}
 use Rattle.spec_engine.specs.Flights.{Flight, at, drain, deliver}
 use Rattle.spec_engine.specs.Chunks.{fresh}
 use Rattle.spec_protocol.specs.declared.event.Event.{Event}
-use Rattle.spec_protocol.specs.Spheres.{Cursor, Role, Plain, Record, Replay, Sphere, no_sphere, limit_of, halves}
-use Rattle.spec_protocol.specs.Commits.{MovedSphere, granted_as, by_verdict, joined, replayed_chunk, chunk_in, chunk_moved, serial_in, serial_moved, live_dma, dma_log, dma_by_verdict, dma_in, dma_moved, role_raised, raised}
-use Rattle.spec_protocol.specs.World.{Numbers, Occupant, World, After, moment, sphere_at, with_sphere, thread_afresh, core_of}
-use Rattle.spec_protocol.specs.Flying.{drain_slot, reads_of, writes_of, told, delivering, retiring}
-use Rattle.spec_protocol.specs.Placing.{replays, with_renewed, raise_in}
-use Rattle.spec_protocol.specs.Machine.{SphereSetup, Setup, sphere_of, world_of, act, happens, world_after}
-use Rattle.spec_protocol.specs.Invariants.{IsGood}
-use Rattle.spec_protocol.specs.Promises.{after}
-use Rattle.spec_protocol.specs.Sound.{IsWithinLimits}
+use Rattle.spec_protocol.specs.machine.Spheres.{Cursor, Role, Plain, Record, Replay, Sphere, no_sphere, limit_of, halves}
+use Rattle.spec_protocol.specs.machine.Commits.{MovedSphere, granted_as, by_verdict, joined, replayed_chunk, chunk_in, chunk_moved, serial_in, serial_moved, live_dma, dma_log, dma_by_verdict, dma_in, dma_moved, role_raised, raised}
+use Rattle.spec_protocol.specs.machine.World.{Numbers, Occupant, World, After, moment, sphere_at, with_sphere, thread_afresh, core_of}
+use Rattle.spec_protocol.specs.machine.Flying.{drain_slot, reads_of, writes_of, told, delivering, retiring}
+use Rattle.spec_protocol.specs.machine.Placing.{replays, with_renewed, raise_in}
+use Rattle.spec_protocol.specs.machine.Machine.{SphereSetup, Setup, sphere_of, world_of, act, happens, world_after}
+use Rattle.spec_protocol.specs.promises.Invariants.{IsGood}
+use Rattle.spec_protocol.specs.promises.Promises.{after}
+use Rattle.spec_protocol.specs.promises.Sound.{IsWithinLimits}
 use Rattle.spec_protocol.proofs.Moves.AnyEvent.{branch, any-event}
 use Rattle.spec_protocol.proofs.Points.Counts.{act-untold}
 use Rattle.spec_protocol.proofs.Invariants.Schedules.{happens-preserved, first_held, start-good}

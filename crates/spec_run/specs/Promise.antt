@@ -7,14 +7,14 @@ use Rattle.spec_log.specs.declared.LogParts.{LogParts}
 use Rattle.spec_play.specs.Progress.{position}
 use Rattle.spec_play.specs.Plays.{FitsImage}
 use Rattle.spec_protocol.specs.declared.event.Event.{Event}
-use Rattle.spec_protocol.specs.Spheres.{Role, Plain, Record, Replay, Cursor, Sphere}
-use Rattle.spec_protocol.specs.Placing.{replays}
-use Rattle.spec_protocol.specs.World.{sphere_at}
-use Rattle.spec_protocol.specs.Machine.{ReplaySetup, RecordSetup, RoleSetup, IsPlain, IsRecorded, IsReplayed, SphereSetup, Setup}
-use Rattle.spec_protocol.specs.Serial.{serial_start, CanDoAll}
-use Rattle.spec_protocol.specs.Logged.{sphere_in}
-use Rattle.spec_protocol.specs.Sound.{IsWithinLimits, image_at}
-use Rattle.spec_protocol.specs.Promises.{IsSetup, after}
+use Rattle.spec_protocol.specs.machine.Spheres.{Role, Plain, Record, Replay, Cursor, Sphere}
+use Rattle.spec_protocol.specs.machine.Placing.{replays}
+use Rattle.spec_protocol.specs.machine.World.{sphere_at}
+use Rattle.spec_protocol.specs.machine.Machine.{ReplaySetup, RecordSetup, RoleSetup, IsPlain, IsRecorded, IsReplayed, SphereSetup, Setup}
+use Rattle.spec_protocol.specs.machine.Serial.{serial_start, CanDoAll}
+use Rattle.spec_protocol.specs.machine.Logged.{sphere_in}
+use Rattle.spec_protocol.specs.promises.Sound.{IsWithinLimits, image_at}
+use Rattle.spec_protocol.specs.promises.Promises.{IsSetup, after}
 use Rattle.spec_finishing.specs.Ending.{CanFinish, IsAtEnd}
 use Rattle.spec_finishing.specs.Function.{finished}
 use Rattle.spec_run.specs.Runs.{points_of, executed, played, end_of}

@@ -12,11 +12,11 @@ use Rattle.spec_log.specs.Bytes.{log_bytes}
 use Rattle.spec_play.specs.Progress.{position}
 use Rattle.spec_play.specs.Plays.{Played}
 use Rattle.spec_protocol.specs.declared.event.Event.{Event}
-use Rattle.spec_protocol.specs.Spheres.{Sphere}
-use Rattle.spec_protocol.specs.Machine.{RoleSetup, IsPlain, IsRecorded, IsReplayed, SphereSetup, Setup}
-use Rattle.spec_protocol.specs.Serial.{SerialState, serial_start}
-use Rattle.spec_protocol.specs.Logged.{sphere_in, supplied, logged}
-use Rattle.spec_protocol.specs.Sound.{image_at}
+use Rattle.spec_protocol.specs.machine.Spheres.{Sphere}
+use Rattle.spec_protocol.specs.machine.Machine.{RoleSetup, IsPlain, IsRecorded, IsReplayed, SphereSetup, Setup}
+use Rattle.spec_protocol.specs.machine.Serial.{SerialState, serial_start}
+use Rattle.spec_protocol.specs.machine.Logged.{sphere_in, supplied, logged}
+use Rattle.spec_protocol.specs.promises.Sound.{image_at}
 use Rattle.spec_run.specs.Runs.{points_of, counts_of, executed, played, end_of}
 
 -- ---- logs

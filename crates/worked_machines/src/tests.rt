@@ -1,6 +1,6 @@
 //! Machines that were worked out event by event.
 ghost use Rattle.std.specs.Prelude.{◌≡◌, true, IfOk};
-ghost use Rattle.spec_protocol.specs.Sound.{AreFew};
+ghost use Rattle.spec_protocol.specs.promises.Sound.{AreFew};
 ghost use Rattle.dl_machine.specs.Setups.{IsWithin};
 
 use dl_elf::load;

@@ -11,13 +11,13 @@ use Rattle.spec_play.specs.Turns.{Now, Turn, TurnOfDma, Ended}
 use Rattle.spec_engine.specs.declared.answers.How.{How}
 use Rattle.spec_engine.specs.Chunks.{Chunk, is_serial}
 use Rattle.spec_engine.specs.Flights.{at}
-use Rattle.spec_protocol.specs.Spheres.{other_than, turn_in, turn_against, Cursor, Role, Plain, Record, Replay, Sphere, actor_of, head_in, head_of, is_over, is_stopped, limit_in, limit_of, whole_limit}
-use Rattle.spec_protocol.specs.Placing.{replays}
-use Rattle.spec_protocol.specs.Asking.{asks_serial, is_short}
-use Rattle.spec_protocol.specs.Commits.{is_piece}
-use Rattle.spec_protocol.specs.World.{Occupant, World, sphere_at}
-use Rattle.spec_protocol.specs.Invariants.{Closes, LimitFits}
-use Rattle.spec_protocol.specs.Sound.{IsSoundIf, IsSoundRequest, IsSoundRole}
+use Rattle.spec_protocol.specs.machine.Spheres.{other_than, turn_in, turn_against, Cursor, Role, Plain, Record, Replay, Sphere, actor_of, head_in, head_of, is_over, is_stopped, limit_in, limit_of, whole_limit}
+use Rattle.spec_protocol.specs.machine.Placing.{replays}
+use Rattle.spec_protocol.specs.machine.Asking.{asks_serial, is_short}
+use Rattle.spec_protocol.specs.machine.Commits.{is_piece}
+use Rattle.spec_protocol.specs.machine.World.{Occupant, World, sphere_at}
+use Rattle.spec_protocol.specs.promises.Invariants.{Closes, LimitFits}
+use Rattle.spec_protocol.specs.promises.Sound.{IsSoundIf, IsSoundRequest, IsSoundRole}
 use Rattle.dl_sphere.specs.Moving.{CanCommit, IsPartIn, IsTurnOf, IsTurnOfDma}
 use Rattle.dl_machine.specs.declared.one_core.Held.{Held as Seen}
 use Rattle.dl_machine.specs.Cores.{seen}

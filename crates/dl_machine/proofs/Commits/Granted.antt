@@ -13,10 +13,10 @@ use Rattle.spec_engine.specs.declared.answers.How.{How}
 use Rattle.spec_engine.specs.Signatures.{Signature, nothing, signed}
 use Rattle.spec_engine.specs.Chunks.{Chunk}
 use Rattle.spec_engine.specs.Flights.{Flights, at}
-use Rattle.spec_protocol.specs.Spheres.{Sphere}
-use Rattle.spec_protocol.specs.Commits.{CommitOutcome, Granted, Piece, Diverged, MovedSphere, is_piece, chunk_moved, serial_moved}
-use Rattle.spec_protocol.specs.World.{After, Occupant, World, OfChunk, OfSerial, moment, sphere_at, held_afresh, flown}
-use Rattle.spec_protocol.specs.Asking.{CommitRequest, is_short, granted, grant_chunk, grant_serial}
+use Rattle.spec_protocol.specs.machine.Spheres.{Sphere}
+use Rattle.spec_protocol.specs.machine.Commits.{CommitOutcome, Granted, Piece, Diverged, MovedSphere, is_piece, chunk_moved, serial_moved}
+use Rattle.spec_protocol.specs.machine.World.{After, Occupant, World, OfChunk, OfSerial, moment, sphere_at, held_afresh, flown}
+use Rattle.spec_protocol.specs.machine.Asking.{CommitRequest, is_short, granted, grant_chunk, grant_serial}
 use Rattle.dl_machine.specs.declared.one_core.Held.{Held as Seen}
 use Rattle.dl_machine.specs.Cores.{seen, writes_in}
 use Rattle.dl_machine.specs.Rows.{Cores, Spheres, nth_sphere, with_held, with_nth}

@@ -5,10 +5,10 @@ use Rattle.spec_isa.specs.Words.{Stored}
 use Rattle.spec_kernel.specs.Devices.{Devices}
 use Rattle.spec_engine.specs.Flights.{AreOfSize}
 use Rattle.spec_engine.specs.Signatures.{Signature, nothing, signed}
-use Rattle.spec_protocol.specs.Spheres.{Role, Plain, Record, Replay, Sphere}
-use Rattle.spec_protocol.specs.Placing.{replays}
-use Rattle.spec_protocol.specs.Commits.{CommitOutcome, MovedSphere, live_dma, dma_in, dma_moved}
-use Rattle.spec_protocol.specs.World.{World}
+use Rattle.spec_protocol.specs.machine.Spheres.{Role, Plain, Record, Replay, Sphere}
+use Rattle.spec_protocol.specs.machine.Placing.{replays}
+use Rattle.spec_protocol.specs.machine.Commits.{CommitOutcome, MovedSphere, live_dma, dma_in, dma_moved}
+use Rattle.spec_protocol.specs.machine.World.{World}
 use Rattle.spec_protocol.proofs.Memory.Covering.{bits-signed}
 use Rattle.dl_machine.specs.Ready.{IsReady}
 use Rattle.dl_machine.specs.Transfers.{ComesTo}

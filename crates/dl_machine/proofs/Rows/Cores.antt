@@ -5,7 +5,7 @@ use Rattle.std.proofs.lemmas.Grind.{common_steps}
 use Rattle.std.proofs.lemmas.List.Elements.{All-set, All-get_or}
 use Rattle.std.specs.List.{position, position_or_len}
 use Rattle.spec_engine.specs.Flights.{at}
-use Rattle.spec_protocol.specs.World.{Occupant}
+use Rattle.spec_protocol.specs.machine.World.{Occupant}
 use Rattle.dl_machine.specs.Cores.{Core, holding}
 use Rattle.dl_machine.specs.Rows.{AreCores, IsAlike, Cores, held_by, with_held}
 

@@ -1,9 +1,9 @@
 -- The cores that a machine begins with are as many as were asked for, each with what it holds at first.
 use Rattle.std.proofs.Common.{◌≡◌, ℕ, zero, suc, ◌+◌, List, [], ◌∷◌, ◌++◌, length, Option, Some, None, refl, sym, ap, ◌∙◌, arith}
 use Rattle.std.specs.Prelude.{slice_get}
-use Rattle.spec_protocol.specs.Spheres.{Sphere}
-use Rattle.spec_protocol.specs.World.{Occupant, Numbers}
-use Rattle.spec_protocol.specs.Machine.{first_cores}
+use Rattle.spec_protocol.specs.machine.Spheres.{Sphere}
+use Rattle.spec_protocol.specs.machine.World.{Occupant, Numbers}
+use Rattle.spec_protocol.specs.machine.Machine.{first_cores}
 use Rattle.dl_machine.specs.Setups.{first_held}
 
 more_cores : (z : Numbers) (i n : ℕ) (ps : List Sphere) → first_cores z i (suc n) ps ≡ first_cores z i n ps ++ first_held z (i + n) (slice_get ps n) ∷ []

@@ -3,7 +3,7 @@ use Rattle.std.proofs.Common.{◌≡◌, ℕ, ◌<◌, List, length, get_or, map
 use Rattle.std.proofs.lemmas.List.{map-set, get_or-map, get_or-set_same}
 use Rattle.std.proofs.lemmas.Grind.{common_steps}
 use Rattle.std.proofs.lemmas.List.Elements.{All-get_or}
-use Rattle.spec_protocol.specs.Spheres.{Sphere, no_sphere}
+use Rattle.spec_protocol.specs.machine.Spheres.{Sphere, no_sphere}
 use Rattle.dl_sphere.specs.SizedSpheres.{SizedSphere}
 use Rattle.dl_machine.specs.Rows.{AreSpheres, IsOfStandard, Spheres, sphere_in, nth_sphere, with_nth}
 

@@ -3,10 +3,10 @@ use Rattle.std.proofs.Common.{◌≡◌, ℕ, zero, suc, ◌^◌, ◌<◌, All, 
 use Rattle.std.specs.Prelude.{slice_get}
 use Rattle.std.proofs.lemmas.Grind.{common_steps}
 use Rattle.std.proofs.lemmas.Option.{same_Some}
-use Rattle.spec_protocol.specs.Machine as protocol
-use Rattle.spec_protocol.specs.Machine.{world_of}
-use Rattle.spec_protocol.specs.Promises.{IsSetup}
-use Rattle.spec_protocol.specs.Sound.{IsImage, IsWithinLimits}
+use Rattle.spec_protocol.specs.machine.Machine as protocol
+use Rattle.spec_protocol.specs.machine.Machine.{world_of}
+use Rattle.spec_protocol.specs.promises.Promises.{IsSetup}
+use Rattle.spec_protocol.specs.promises.Sound.{IsImage, IsWithinLimits}
 use Rattle.spec_protocol.proofs.Invariants.Schedules.{start-good}
 use Rattle.spec_protocol.proofs.Sound.Schedules.{worlds_sound}
 use Rattle.dl_sphere.specs.declared.setup.SphereSetup.{SphereSetup}

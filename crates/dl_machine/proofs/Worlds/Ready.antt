@@ -4,7 +4,7 @@ use Rattle.std.specs.Prelude.{IfSome, option_map}
 use Rattle.std.proofs.lemmas.Option.{none-some, same_Some, slice_get_within}
 use Rattle.spec_engine.specs.Flights.{Flight, AreInside, AreOfSize, IsInside, IsOfSize, at}
 use Rattle.spec_engine.specs.Chunks.{Chunk}
-use Rattle.spec_protocol.specs.World.{Occupant, World, sphere_at}
+use Rattle.spec_protocol.specs.machine.World.{Occupant, World, sphere_at}
 use Rattle.dl_machine.specs.Cores.{seen, reads_in, writes_in}
 use Rattle.dl_machine.specs.declared.one_core.Held.{Held as Seen}
 use Rattle.dl_machine.specs.Held.{IsOf, sphere_of}

@@ -9,8 +9,8 @@ use Rattle.spec_kernel.specs.Devices.{Devices}
 use Rattle.spec_kernel.specs.Needs.{Need, need}
 use Rattle.spec_kernel.specs.Answers.{taken}
 use Rattle.spec_log.specs.Log.{IsInput}
-use Rattle.spec_protocol.specs.Sound.{HaveByteInput}
-use Rattle.spec_protocol.specs.Notable.{IsInputIf}
+use Rattle.spec_protocol.specs.promises.Sound.{HaveByteInput}
+use Rattle.spec_protocol.specs.promises.Notable.{IsInputIf}
 use Rattle.spec_protocol.proofs.Sound.Devices.{taken-sound}
 use Rattle.dl_kernel.specs.Outside.{record_left, devices_left}
 

@@ -5,9 +5,9 @@ use Rattle.std.proofs.lemmas.Bool.{true≢false}
 use Rattle.dl_entry.specs.declared.Request.{Request}
 use Rattle.spec_isa.specs.declared.thread.Parts.{Parts}
 use Rattle.spec_log.specs.Log.{IsLog}
-use Rattle.spec_protocol.specs.Sound.{IsSoundRequest}
-use Rattle.spec_protocol.specs.Placing.{replays}
-use Rattle.spec_protocol.specs.Spheres.{Cursor, Replay, Sphere, limit_in, limit_of, whole_limit}
+use Rattle.spec_protocol.specs.promises.Sound.{IsSoundRequest}
+use Rattle.spec_protocol.specs.machine.Placing.{replays}
+use Rattle.spec_protocol.specs.machine.Spheres.{Cursor, Replay, Sphere, limit_in, limit_of, whole_limit}
 use Rattle.spec_protocol.proofs.Sound.Limits.{whole-most}
 use Rattle.dl_sphere.specs.Inside.{sphere_in}
 use Rattle.dl_sphere.specs.Roles.{role_of, keeping_of, Keeping, Plain, Recording, Replaying as Replays, HasFew, IsKeepingOf, IsLive, IsReplayed, IsSphere}

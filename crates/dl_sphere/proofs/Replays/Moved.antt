@@ -15,9 +15,9 @@ use Rattle.spec_play.specs.Progress.{Progress, position, Used}
 use Rattle.spec_play.specs.Transfers.{DmaVerdict, DmaGoes, DmaFails}
 use Rattle.spec_play.specs.Turns.{Ended}
 use Rattle.spec_play.specs.Verdicts.{LogVerdict, Goes, Fails}
-use Rattle.spec_protocol.specs.Commits as commits
-use Rattle.spec_protocol.specs.Commits.{by_verdict, dma_by_verdict}
-use Rattle.spec_protocol.specs.Spheres.{Role, Replay, Sphere}
+use Rattle.spec_protocol.specs.machine.Commits as commits
+use Rattle.spec_protocol.specs.machine.Commits.{by_verdict, dma_by_verdict}
+use Rattle.spec_protocol.specs.machine.Spheres.{Role, Replay, Sphere}
 use Rattle.spec_protocol.proofs.Logs.Growing.{pushed_length}
 use Rattle.dl_replay.specs.Replaying.{Replaying, commits_of, cursor_of}
 use Rattle.dl_sphere.specs.Judging.{JudgedSphere, Before, judged_by, dma_judged_by}

@@ -2,10 +2,10 @@
 use Rattle.std.proofs.Common.{◌≡◌, ℕ, zero, suc, ◌<◌, ◌≤◌, List, [], ◌∷◌, ◌++◌, length, Option, Some, None, refl, sym, ap, ◌∙◌, subst, arith}
 use Rattle.std.proofs.lemmas.Option.{none-some}
 use Rattle.spec_protocol.specs.declared.event.Event.{Event}
-use Rattle.spec_protocol.specs.World.{World}
-use Rattle.spec_protocol.specs.Machine.{Setup, world_of, happens, world_after}
-use Rattle.spec_protocol.specs.Finishing.{next, Finishes}
-use Rattle.spec_protocol.specs.Promises.{after}
+use Rattle.spec_protocol.specs.machine.World.{World}
+use Rattle.spec_protocol.specs.machine.Machine.{Setup, world_of, happens, world_after}
+use Rattle.spec_protocol.specs.machine.Finishing.{next, Finishes}
+use Rattle.spec_protocol.specs.promises.Promises.{after}
 use Rattle.spec_replay.specs.Promises.{ReplaysArePlays}
 use Rattle.spec_replay.proofs.Replays.All.{replays_follow}
 use Rattle.spec_finishing.specs.Rank.{rank}

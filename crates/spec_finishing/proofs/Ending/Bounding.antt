@@ -3,14 +3,14 @@ use Rattle.std.proofs.Common.{◌≡◌, ℕ, zero, suc, ◌+◌, ◌-◌, ◌*�
 use Rattle.spec_play.specs.Progress.{no_progress, nothing_used}
 use Rattle.spec_play.specs.Plays.{opened}
 use Rattle.spec_protocol.specs.declared.event.Event.{Event}
-use Rattle.spec_protocol.specs.World.{Numbers, World, Move}
-use Rattle.spec_protocol.specs.Commits.{turned}
-use Rattle.spec_protocol.specs.Machine.{first_threads, first_played, RoleSetup, IsPlain, IsRecorded, IsReplayed, SphereSetup, Setup, role_of, sphere_of, world_of, happens, world_after, with_move, moves}
+use Rattle.spec_protocol.specs.machine.World.{Numbers, World, Move}
+use Rattle.spec_protocol.specs.machine.Commits.{turned}
+use Rattle.spec_protocol.specs.machine.Machine.{first_threads, first_played, RoleSetup, IsPlain, IsRecorded, IsReplayed, SphereSetup, Setup, role_of, sphere_of, world_of, happens, world_after, with_move, moves}
 use Rattle.spec_isa.specs.Threads.{started}
-use Rattle.spec_protocol.specs.Serial.{SerialState, serial_start}
-use Rattle.spec_protocol.specs.Shown.{shown_of}
-use Rattle.spec_protocol.specs.Moves.{do_if}
-use Rattle.spec_protocol.specs.Promises.{after}
+use Rattle.spec_protocol.specs.machine.Serial.{SerialState, serial_start}
+use Rattle.spec_protocol.specs.machine.Shown.{shown_of}
+use Rattle.spec_protocol.specs.machine.Moves.{do_if}
+use Rattle.spec_protocol.specs.promises.Promises.{after}
 use Rattle.spec_protocol.proofs.Invariants.Schedules.{happens-preserved, start-shown}
 use Rattle.spec_replay.specs.Promises.{ReplaysArePlays}
 use Rattle.spec_finishing.specs.Work.{commits_work, setup_work, plays_work, moves_work}

@@ -1,10 +1,10 @@
 -- Finishing as a function gives the list that finishes.
 use Rattle.std.proofs.Common.{◌≡◌, ℕ, zero, suc, ◌≤◌, List, [], ◌∷◌, length, Option, Some, None, refl, sym, ap, ◌∙◌, subst, arith}
 use Rattle.spec_protocol.specs.declared.event.Event.{Event}
-use Rattle.spec_protocol.specs.World.{World}
-use Rattle.spec_protocol.specs.Machine.{happens}
-use Rattle.spec_protocol.specs.Finishing.{Finishes}
-use Rattle.spec_protocol.specs.Promises.{after}
+use Rattle.spec_protocol.specs.machine.World.{World}
+use Rattle.spec_protocol.specs.machine.Machine.{happens}
+use Rattle.spec_protocol.specs.machine.Finishing.{Finishes}
+use Rattle.spec_protocol.specs.promises.Promises.{after}
 use Rattle.spec_finishing.specs.Ending.{Ends}
 use Rattle.spec_finishing.specs.Function.{finishing, FinishingIsAFunction}
 use Rattle.spec_finishing.proofs.Ending.All.{finishing_all}

@@ -3,12 +3,12 @@ use Rattle.std.proofs.Common.{◌≡◌, ℕ, ◌<◌, true, List, [], ◌∷◌
 use Rattle.std.specs.Prelude.{slice_get}
 use Rattle.spec_log.specs.declared.LogParts.{LogParts}
 use Rattle.spec_protocol.specs.declared.event.Event.{Event}
-use Rattle.spec_protocol.specs.Spheres.{Sphere, is_over}
-use Rattle.spec_protocol.specs.World.{World}
-use Rattle.spec_protocol.specs.Machine.{ReplaySetup, IsReplayed, SphereSetup, Setup, world_of, happens, world_after}
-use Rattle.spec_protocol.specs.Shown.{shown_of}
-use Rattle.spec_protocol.specs.Finishing.{next, Finishes}
-use Rattle.spec_protocol.specs.Promises.{after}
+use Rattle.spec_protocol.specs.machine.Spheres.{Sphere, is_over}
+use Rattle.spec_protocol.specs.machine.World.{World}
+use Rattle.spec_protocol.specs.machine.Machine.{ReplaySetup, IsReplayed, SphereSetup, Setup, world_of, happens, world_after}
+use Rattle.spec_protocol.specs.machine.Shown.{shown_of}
+use Rattle.spec_protocol.specs.machine.Finishing.{next, Finishes}
+use Rattle.spec_protocol.specs.promises.Promises.{after}
 use Rattle.spec_replay.proofs.Replays.Stopping.{stopped_played}
 use Rattle.spec_finishing.specs.Ending.{IsAtEnd, CanFinish}
 use Rattle.spec_finishing.specs.Finished.{HasPlayed, ReplaysAreFinished}

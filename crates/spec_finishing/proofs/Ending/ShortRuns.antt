@@ -14,18 +14,18 @@ use Rattle.spec_play.specs.Plays.{opened}
 use Rattle.spec_engine.specs.declared.answers.How.{How}
 use Rattle.spec_engine.specs.Flights.{Flight, at}
 use Rattle.spec_protocol.specs.declared.event.Event.{Event}
-use Rattle.spec_protocol.specs.Spheres.{Role, Plain, Record, Replay, Sphere, limit_of}
-use Rattle.spec_protocol.specs.Commits.{serial_in, serial_moved, live_dma, dma_log, dma_in, dma_moved}
-use Rattle.spec_protocol.specs.Placing.{replays}
-use Rattle.spec_protocol.specs.World.{Numbers, World, What, OfChunk, OfSerial, OfDma, OfRaise, Move, sphere_at}
-use Rattle.spec_protocol.specs.Machine.{first_played, RoleSetup, IsPlain, IsRecorded, IsReplayed, SphereSetup, Setup, world_of, happens, moves}
-use Rattle.spec_protocol.specs.Serial.{SerialState}
-use Rattle.spec_protocol.specs.Shown.{words_of, flying, shown_of}
-use Rattle.spec_protocol.specs.Moves.{ChunkFits, FitsChunk, FitsWhat, FitsAt, FitsIf}
-use Rattle.spec_protocol.specs.Invariants.{current}
-use Rattle.spec_protocol.specs.Promises.{after}
-use Rattle.spec_protocol.specs.Notable.{IsInputIf}
-use Rattle.spec_protocol.specs.Sound.{IsRole, IsImage, IsWithinLimits, HaveBytes, IsSoundRequest, IsSoundIf, IsSoundRole, image_at, HaveByteInput, IsSound}
+use Rattle.spec_protocol.specs.machine.Spheres.{Role, Plain, Record, Replay, Sphere, limit_of}
+use Rattle.spec_protocol.specs.machine.Commits.{serial_in, serial_moved, live_dma, dma_log, dma_in, dma_moved}
+use Rattle.spec_protocol.specs.machine.Placing.{replays}
+use Rattle.spec_protocol.specs.machine.World.{Numbers, World, What, OfChunk, OfSerial, OfDma, OfRaise, Move, sphere_at}
+use Rattle.spec_protocol.specs.machine.Machine.{first_played, RoleSetup, IsPlain, IsRecorded, IsReplayed, SphereSetup, Setup, world_of, happens, moves}
+use Rattle.spec_protocol.specs.machine.Serial.{SerialState}
+use Rattle.spec_protocol.specs.machine.Shown.{words_of, flying, shown_of}
+use Rattle.spec_protocol.specs.machine.Moves.{ChunkFits, FitsChunk, FitsWhat, FitsAt, FitsIf}
+use Rattle.spec_protocol.specs.promises.Invariants.{current}
+use Rattle.spec_protocol.specs.promises.Promises.{after}
+use Rattle.spec_protocol.specs.promises.Notable.{IsInputIf}
+use Rattle.spec_protocol.specs.promises.Sound.{IsRole, IsImage, IsWithinLimits, HaveBytes, IsSoundRequest, IsSoundIf, IsSoundRole, image_at, HaveByteInput, IsSound}
 use Rattle.spec_protocol.proofs.Invariants.Schedules.{happens-preserved, start-shown}
 use Rattle.spec_protocol.proofs.Invariants.Asks.{shown_at, shown_over}
 use Rattle.spec_protocol.proofs.Moves.AnyMemory.{over}

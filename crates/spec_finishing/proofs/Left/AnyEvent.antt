@@ -2,13 +2,13 @@
 use Rattle.std.proofs.Common.{◌≡◌, ℕ, ◌+◌, ◌≤◌, Option, Some, None, refl, ap, arith}
 use Rattle.spec_isa.specs.declared.thread.Parts.{Parts}
 use Rattle.spec_protocol.specs.declared.reply.Reply.{Reply}
-use Rattle.spec_protocol.specs.World.{World, Move, After, sphere_at, with_sphere, core_of, answered}
-use Rattle.spec_protocol.specs.Serial.{SerialState}
-use Rattle.spec_protocol.specs.Shown.{shown_of}
-use Rattle.spec_protocol.specs.Commits.{raised}
-use Rattle.spec_protocol.specs.Stepping.{stepping, cutting}
-use Rattle.spec_protocol.specs.Flying.{draining, delivering, retiring}
-use Rattle.spec_protocol.specs.Placing.{placing, with_renewed, raise_in, raising}
+use Rattle.spec_protocol.specs.machine.World.{World, Move, After, sphere_at, with_sphere, core_of, answered}
+use Rattle.spec_protocol.specs.machine.Serial.{SerialState}
+use Rattle.spec_protocol.specs.machine.Shown.{shown_of}
+use Rattle.spec_protocol.specs.machine.Commits.{raised}
+use Rattle.spec_protocol.specs.machine.Stepping.{stepping, cutting}
+use Rattle.spec_protocol.specs.machine.Flying.{draining, delivering, retiring}
+use Rattle.spec_protocol.specs.machine.Placing.{placing, with_renewed, raise_in, raising}
 use Rattle.spec_protocol.proofs.Moves.AnyEvent.{any-step, any-cut, any-place, any-raise}
 use Rattle.spec_finishing.specs.Rank.{flights_rank}
 use Rattle.spec_finishing.proofs.Left.Flying.{drain-most, deliver-most, retire-most}

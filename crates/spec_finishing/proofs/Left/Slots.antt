@@ -5,7 +5,7 @@ use Rattle.spec_isa.specs.Words.{Stored}
 use Rattle.spec_engine.specs.Signatures.{Signature}
 use Rattle.spec_engine.specs.Flights.{Flight, at, told_at, tell, free_slot, fill_at}
 use Rattle.spec_engine.proofs.Searches.{told-tell, told-tell_other, free_slot-within, free_slot-free}
-use Rattle.spec_protocol.specs.World.{flown}
+use Rattle.spec_protocol.specs.machine.World.{flown}
 use Rattle.spec_finishing.specs.Rank.{untold_cores, flight_rank, flights_rank}
 
 -- ---- a slot

@@ -3,13 +3,13 @@ use Rattle.std.proofs.Common.{◌≡◌, ℕ, ◌+◌, ◌<◌, ◌≤◌, Optio
 use Rattle.std.specs.Prelude.{slice_get}
 use Rattle.std.proofs.lemmas.Option.{none-some}
 use Rattle.spec_protocol.specs.declared.event.Event.{Event}
-use Rattle.spec_protocol.specs.Spheres.{Cursor, Replay, Sphere}
-use Rattle.spec_protocol.specs.World.{Numbers, World, Move, After}
-use Rattle.spec_protocol.specs.Machine.{Setup, core_no, sphere_no, slot_no, act, happens}
-use Rattle.spec_protocol.specs.Serial.{SerialState}
-use Rattle.spec_protocol.specs.Shown.{shown_of}
-use Rattle.spec_protocol.specs.Moves.{do_if, FitsIf, Fits}
-use Rattle.spec_protocol.specs.Invariants.{IsGood}
+use Rattle.spec_protocol.specs.machine.Spheres.{Cursor, Replay, Sphere}
+use Rattle.spec_protocol.specs.machine.World.{Numbers, World, Move, After}
+use Rattle.spec_protocol.specs.machine.Machine.{Setup, core_no, sphere_no, slot_no, act, happens}
+use Rattle.spec_protocol.specs.machine.Serial.{SerialState}
+use Rattle.spec_protocol.specs.machine.Shown.{shown_of}
+use Rattle.spec_protocol.specs.machine.Moves.{do_if, FitsIf, Fits}
+use Rattle.spec_protocol.specs.promises.Invariants.{IsGood}
 use Rattle.spec_protocol.proofs.Invariants.Preserved.{Preserved}
 use Rattle.spec_protocol.proofs.Invariants.Schedules.{happens-preserved}
 use Rattle.spec_finishing.specs.Work.{move_work}

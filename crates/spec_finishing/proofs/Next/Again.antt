@@ -14,11 +14,11 @@ use Rattle.spec_engine.proofs.Choosing.{keep_option, keep_choose}
 use Rattle.spec_engine.proofs.Searches.{first_some}
 use Rattle.spec_protocol.specs.declared.event.Event.{Event}
 use Rattle.spec_protocol.specs.declared.reply.Reply.{Reply}
-use Rattle.spec_protocol.specs.Spheres.{is_stopped}
-use Rattle.spec_protocol.specs.World.{World, Occupant, After, sphere_at, runs, core_of, answered}
-use Rattle.spec_protocol.specs.Stepping.{reply_of_step, stepped, step_held, stepping}
-use Rattle.spec_protocol.specs.Machine.{core_no, act, with_event, happens}
-use Rattle.spec_protocol.specs.Finishing.{Who, least, standing, untold, deliver_or_retire, for_flight, for_held, for_core, for_actor, for_who, for_slot, for_standing, next}
+use Rattle.spec_protocol.specs.machine.Spheres.{is_stopped}
+use Rattle.spec_protocol.specs.machine.World.{World, Occupant, After, sphere_at, runs, core_of, answered}
+use Rattle.spec_protocol.specs.machine.Stepping.{reply_of_step, stepped, step_held, stepping}
+use Rattle.spec_protocol.specs.machine.Machine.{core_no, act, with_event, happens}
+use Rattle.spec_protocol.specs.machine.Finishing.{Who, least, standing, untold, deliver_or_retire, for_flight, for_held, for_core, for_actor, for_who, for_slot, for_standing, next}
 use Rattle.spec_protocol.proofs.Memory.Slots.{at-set_same, at_within}
 use Rattle.spec_finishing.proofs.Next.Turns.{no-flight}
 use Rattle.spec_finishing.proofs.Next.UnderWay.{OnCore, on-core}

@@ -10,15 +10,15 @@ use Rattle.spec_engine.specs.Flights.{Flight, at}
 use Rattle.spec_engine.specs.Chunks.{Chunk, is_open}
 use Rattle.spec_engine.proofs.Searches.{first_some}
 use Rattle.spec_protocol.specs.declared.event.Event.{Event}
-use Rattle.spec_protocol.specs.Spheres.{Sphere}
-use Rattle.spec_protocol.specs.Placing.{replays}
-use Rattle.spec_protocol.specs.World.{World, Occupant, After, sphere_at, core_of}
-use Rattle.spec_protocol.specs.Stepping.{stepping}
-use Rattle.spec_protocol.specs.Asking.{asking}
-use Rattle.spec_protocol.specs.Transferring.{transferring}
-use Rattle.spec_protocol.specs.Machine.{Setup, core_no, sphere_no, act, happens}
-use Rattle.spec_protocol.specs.Shown.{shown_of}
-use Rattle.spec_protocol.specs.Finishing.{Who, least, standing, for_flight, for_held, for_core, for_actor, for_who, for_slot, for_standing, next}
+use Rattle.spec_protocol.specs.machine.Spheres.{Sphere}
+use Rattle.spec_protocol.specs.machine.Placing.{replays}
+use Rattle.spec_protocol.specs.machine.World.{World, Occupant, After, sphere_at, core_of}
+use Rattle.spec_protocol.specs.machine.Stepping.{stepping}
+use Rattle.spec_protocol.specs.machine.Asking.{asking}
+use Rattle.spec_protocol.specs.machine.Transferring.{transferring}
+use Rattle.spec_protocol.specs.machine.Machine.{Setup, core_no, sphere_no, act, happens}
+use Rattle.spec_protocol.specs.machine.Shown.{shown_of}
+use Rattle.spec_protocol.specs.machine.Finishing.{Who, least, standing, for_flight, for_held, for_core, for_actor, for_who, for_slot, for_standing, next}
 use Rattle.spec_protocol.proofs.Memory.Slots.{at_within}
 use Rattle.spec_protocol.proofs.Moves.AnyEvent.{any-step}
 use Rattle.spec_finishing.specs.Rank.{held_under_way, core_under_way, actor_under_way, under_way}

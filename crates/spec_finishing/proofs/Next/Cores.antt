@@ -11,12 +11,12 @@ use Rattle.spec_engine.specs.Flights.{at, passes, first_slot}
 use Rattle.spec_engine.specs.Chunks.{step, is_open, fresh}
 use Rattle.spec_engine.proofs.Searches.{first_least, first_is}
 use Rattle.spec_protocol.specs.declared.reply.Reply.{Reply}
-use Rattle.spec_protocol.specs.Spheres.{Sphere, is_stopped, limit_of, halves}
-use Rattle.spec_protocol.specs.World.{World, Occupant, After, sphere_at, with_core, thread_afresh, held_afresh, runs, core_of, answered}
-use Rattle.spec_protocol.specs.Stepping.{stepped, step_held, stepping}
-use Rattle.spec_protocol.specs.Placing.{unless_elsewhere, place_thread, placing}
-use Rattle.spec_protocol.specs.Machine.{Setup}
-use Rattle.spec_protocol.specs.Finishing.{standing}
+use Rattle.spec_protocol.specs.machine.Spheres.{Sphere, is_stopped, limit_of, halves}
+use Rattle.spec_protocol.specs.machine.World.{World, Occupant, After, sphere_at, with_core, thread_afresh, held_afresh, runs, core_of, answered}
+use Rattle.spec_protocol.specs.machine.Stepping.{stepped, step_held, stepping}
+use Rattle.spec_protocol.specs.machine.Placing.{unless_elsewhere, place_thread, placing}
+use Rattle.spec_protocol.specs.machine.Machine.{Setup}
+use Rattle.spec_protocol.specs.machine.Finishing.{standing}
 use Rattle.spec_protocol.proofs.Memory.Slots.{at-set_same, at-set_other, at_within}
 use Rattle.spec_finishing.specs.Rank.{held_under_way}
 use Rattle.spec_protocol.proofs.Moves.Threads.{run-status}

@@ -6,14 +6,14 @@ use Rattle.spec_isa.specs.Words.{Stored}
 use Rattle.spec_engine.specs.declared.answers.Deliver.{Deliver}
 use Rattle.spec_engine.specs.Flights.{Flight, at, deliver}
 use Rattle.spec_protocol.specs.declared.event.Event.{Event}
-use Rattle.spec_protocol.specs.World.{World, Occupant, After, with_slot, core_of}
-use Rattle.spec_protocol.specs.Flying.{drain_slot, draining, told, delivering, reads_of, writes_of, retiring}
-use Rattle.spec_protocol.specs.Placing.{placing}
-use Rattle.spec_protocol.specs.Machine.{Setup, core_no, sphere_no, slot_no, act, with_event, happens}
-use Rattle.spec_protocol.specs.Serial.{SerialState}
-use Rattle.spec_protocol.specs.Shown.{shown_of}
-use Rattle.spec_protocol.specs.Moves.{do_if}
-use Rattle.spec_protocol.specs.Finishing.{untold, deliver_or_retire, for_flight, Who, least, standing}
+use Rattle.spec_protocol.specs.machine.World.{World, Occupant, After, with_slot, core_of}
+use Rattle.spec_protocol.specs.machine.Flying.{drain_slot, draining, told, delivering, reads_of, writes_of, retiring}
+use Rattle.spec_protocol.specs.machine.Placing.{placing}
+use Rattle.spec_protocol.specs.machine.Machine.{Setup, core_no, sphere_no, slot_no, act, with_event, happens}
+use Rattle.spec_protocol.specs.machine.Serial.{SerialState}
+use Rattle.spec_protocol.specs.machine.Shown.{shown_of}
+use Rattle.spec_protocol.specs.machine.Moves.{do_if}
+use Rattle.spec_protocol.specs.machine.Finishing.{untold, deliver_or_retire, for_flight, Who, least, standing}
 use Rattle.spec_protocol.proofs.Memory.Slots.{at_within}
 use Rattle.spec_protocol.proofs.Moves.AnyEvent.{any-place}
 use Rattle.spec_protocol.proofs.Invariants.Schedules.{happens-preserved}

@@ -7,9 +7,9 @@ use Rattle.spec_engine.specs.declared.answers.Deliver.{Deliver}
 use Rattle.spec_engine.specs.declared.answers.Retire.{Retire}
 use Rattle.spec_engine.specs.Flights.{Flight, at, told_at, all_told, tell, meets_chunk, has_none, deliver, Delivered, is_done, retire, Retired}
 use Rattle.spec_engine.proofs.Searches.{all_told-from}
-use Rattle.spec_protocol.specs.World.{World, Occupant, After, with_slot, answered}
-use Rattle.spec_protocol.specs.Flying.{drain_slot, draining, reads_of, writes_of, told, deliver_to, delivering, reply_of_retire, retiring}
-use Rattle.spec_protocol.specs.Finishing.{untold}
+use Rattle.spec_protocol.specs.machine.World.{World, Occupant, After, with_slot, answered}
+use Rattle.spec_protocol.specs.machine.Flying.{drain_slot, draining, reads_of, writes_of, told, deliver_to, delivering, reply_of_retire, retiring}
+use Rattle.spec_protocol.specs.machine.Finishing.{untold}
 use Rattle.spec_protocol.proofs.Memory.Slots.{at_within}
 use Rattle.spec_finishing.specs.Rank.{flight_rank, flights_rank}
 use Rattle.spec_finishing.specs.Ending.{furthers_finishing}

@@ -10,7 +10,7 @@ use Rattle.spec_engine.specs.Flights.{Flight, at, first_slot, bounces}
 use Rattle.spec_engine.specs.Chunks.{Chunk, Stepping, closes, marked, ran, at_limit, has_room, reading, storing, loading, running, step, is_open}
 use Rattle.spec_engine.proofs.Choosing.{keep_option, keep_choose}
 use Rattle.spec_engine.proofs.Searches.{first_some}
-use Rattle.spec_protocol.specs.Stepping.{reply_of_step}
+use Rattle.spec_protocol.specs.machine.Stepping.{reply_of_step}
 use Rattle.spec_finishing.specs.Ending.{furthers_finishing}
 
 -- the chunk, which had run n instructions, has run one more or is closed

@@ -8,11 +8,11 @@ use Rattle.spec_isa.specs.Words.{lays}
 use Rattle.spec_engine.specs.Flights.{Flight, at}
 use Rattle.spec_engine.proofs.Searches.{first_none}
 use Rattle.spec_play.specs.Turns.{Now, Turn, TurnOfDma, Ended}
-use Rattle.spec_protocol.specs.Spheres.{Cursor, Role, Plain, Record, Replay, Sphere, no_sphere, is_over, actor_of}
-use Rattle.spec_protocol.specs.World.{World, sphere_at}
-use Rattle.spec_protocol.specs.Machine.{SphereSetup, Setup}
-use Rattle.spec_protocol.specs.Shown.{flying, shown, shown_from, shown_of}
-use Rattle.spec_protocol.specs.Finishing.{Who, who_in, who_of, least, standing}
+use Rattle.spec_protocol.specs.machine.Spheres.{Cursor, Role, Plain, Record, Replay, Sphere, no_sphere, is_over, actor_of}
+use Rattle.spec_protocol.specs.machine.World.{World, sphere_at}
+use Rattle.spec_protocol.specs.machine.Machine.{SphereSetup, Setup}
+use Rattle.spec_protocol.specs.machine.Shown.{flying, shown, shown_from, shown_of}
+use Rattle.spec_protocol.specs.machine.Finishing.{Who, who_in, who_of, least, standing}
 use Rattle.spec_finishing.specs.Ending.{IsAtEnd}
 use Rattle.spec_finishing.proofs.Paying.GoingOn.{GoesOn}
 use Rattle.spec_finishing.proofs.Left.AnyAsk.{nothing_flies}

@@ -12,13 +12,13 @@ use Rattle.spec_play.specs.Turns.{Ended}
 use Rattle.spec_play.specs.Verdicts.{LogVerdict, Goes, Fails, chunk_verdict}
 use Rattle.spec_play.specs.Plays.{opened, with_threads}
 use Rattle.spec_engine.specs.declared.answers.How.{How}
-use Rattle.spec_protocol.specs.Spheres.{Cursor, Role, Replay, Sphere, is_over, limit_of}
-use Rattle.spec_protocol.specs.Commits.{turned, is_piece, joined, by_verdict, replayed_chunk, chunk_in, chunk_moved}
-use Rattle.spec_protocol.specs.Placing.{replays}
-use Rattle.spec_protocol.specs.World.{Numbers}
-use Rattle.spec_protocol.specs.Machine.{first_played, SphereSetup}
-use Rattle.spec_protocol.specs.Serial.{laid}
-use Rattle.spec_protocol.specs.Moves.{ChunkFits}
+use Rattle.spec_protocol.specs.machine.Spheres.{Cursor, Role, Replay, Sphere, is_over, limit_of}
+use Rattle.spec_protocol.specs.machine.Commits.{turned, is_piece, joined, by_verdict, replayed_chunk, chunk_in, chunk_moved}
+use Rattle.spec_protocol.specs.machine.Placing.{replays}
+use Rattle.spec_protocol.specs.machine.World.{Numbers}
+use Rattle.spec_protocol.specs.machine.Machine.{first_played, SphereSetup}
+use Rattle.spec_protocol.specs.machine.Serial.{laid}
+use Rattle.spec_protocol.specs.machine.Moves.{ChunkFits}
 use Rattle.spec_finishing.specs.Work.{commit_work}
 use Rattle.spec_finishing.specs.Rank.{replay_left, price}
 use Rattle.spec_finishing.proofs.Paying.Affording.{Afforded, Enough, Lone}

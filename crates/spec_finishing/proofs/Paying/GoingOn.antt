@@ -10,8 +10,8 @@ use Rattle.spec_log.specs.declared.LogParts.{LogParts}
 use Rattle.spec_play.specs.Progress.{position}
 use Rattle.spec_play.specs.Turns.{Now, Turn, TurnOfDma}
 use Rattle.spec_play.specs.Plays.{Played, opened, plays}
-use Rattle.spec_protocol.specs.Spheres.{Cursor, Replay, Sphere, is_over, whole_limit, limit_of}
-use Rattle.spec_protocol.specs.Machine.{first_played, SphereSetup}
+use Rattle.spec_protocol.specs.machine.Spheres.{Cursor, Replay, Sphere, is_over, whole_limit, limit_of}
+use Rattle.spec_protocol.specs.machine.Machine.{first_played, SphereSetup}
 use Rattle.spec_protocol.proofs.Moves.Granted.{get-set_same}
 use Rattle.spec_replay.specs.Following.{IsWhole, StandsAt, Follows}
 use Rattle.spec_finishing.specs.Work.{commit_work}

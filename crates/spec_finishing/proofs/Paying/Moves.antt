@@ -5,14 +5,14 @@ use Rattle.spec_isa.specs.declared.thread.Parts.{Parts}
 use Rattle.spec_isa.specs.Runs.{run}
 use Rattle.spec_kernel.specs.Devices.{Devices}
 use Rattle.spec_engine.specs.declared.answers.How.{How}
-use Rattle.spec_protocol.specs.Spheres.{Cursor, Replay, Sphere, is_over, is_stopped}
-use Rattle.spec_protocol.specs.Commits.{MovedSphere, is_piece, chunk_moved, serial_moved, dma_moved, raised}
-use Rattle.spec_protocol.specs.Placing.{replays}
-use Rattle.spec_protocol.specs.World.{Numbers, What, OfChunk, OfSerial, OfDma, OfRaise, Move}
-use Rattle.spec_protocol.specs.Asking.{is_short}
-use Rattle.spec_protocol.specs.Machine.{SphereSetup}
-use Rattle.spec_protocol.specs.Serial.{SerialState, laid, do_serial, do_dma, do_raise}
-use Rattle.spec_protocol.specs.Moves.{move_chunk, do_what, FitsChunk, FitsSerial}
+use Rattle.spec_protocol.specs.machine.Spheres.{Cursor, Replay, Sphere, is_over, is_stopped}
+use Rattle.spec_protocol.specs.machine.Commits.{MovedSphere, is_piece, chunk_moved, serial_moved, dma_moved, raised}
+use Rattle.spec_protocol.specs.machine.Placing.{replays}
+use Rattle.spec_protocol.specs.machine.World.{Numbers, What, OfChunk, OfSerial, OfDma, OfRaise, Move}
+use Rattle.spec_protocol.specs.machine.Asking.{is_short}
+use Rattle.spec_protocol.specs.machine.Machine.{SphereSetup}
+use Rattle.spec_protocol.specs.machine.Serial.{SerialState, laid, do_serial, do_dma, do_raise}
+use Rattle.spec_protocol.specs.machine.Moves.{move_chunk, do_what, FitsChunk, FitsSerial}
 use Rattle.spec_finishing.specs.Work.{serial_work, dma_work, what_work}
 use Rattle.spec_finishing.specs.Rank.{price, spheres_rank}
 use Rattle.spec_finishing.proofs.Paying.Plays.{paid, words-paid}

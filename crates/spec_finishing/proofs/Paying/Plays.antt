@@ -10,9 +10,9 @@ use Rattle.spec_play.specs.Verdicts.{LogVerdict, Goes, Fails}
 use Rattle.spec_play.specs.Transfers.{DmaVerdict, DmaGoes, DmaFails, dma_verdict}
 use Rattle.spec_play.specs.Plays.{Played, opened, settled, thread_verdict, play_thread, dma_settled, play_now, play_one, plays}
 use Rattle.spec_kernel.specs.Needs.{next_kind}
-use Rattle.spec_protocol.specs.Spheres.{Cursor, is_over}
-use Rattle.spec_protocol.specs.Commits.{turned}
-use Rattle.spec_protocol.specs.Machine.{first_played, SphereSetup}
+use Rattle.spec_protocol.specs.machine.Spheres.{Cursor, is_over}
+use Rattle.spec_protocol.specs.machine.Commits.{turned}
+use Rattle.spec_protocol.specs.machine.Machine.{first_played, SphereSetup}
 use Rattle.spec_finishing.specs.Work.{commit_work, commits_work}
 use Rattle.spec_finishing.specs.Rank.{play_left, replay_left, price}
 use Rattle.spec_finishing.proofs.Left.Pricing.{price-sum, price-least, price-most}

@@ -15,11 +15,11 @@ use Rattle.spec_play.specs.Progress.{position, with_dma, with_dma_used}
 use Rattle.spec_play.specs.Turns.{TurnOfDma, Ended}
 use Rattle.spec_play.specs.Verdicts.{LogVerdict, Goes, Fails, serial_verdict}
 use Rattle.spec_play.specs.Transfers.{DmaVerdict, DmaGoes, DmaFails, dma_verdict}
-use Rattle.spec_protocol.specs.Spheres.{Cursor, Role, Replay, Sphere, is_over, is_in_pieces}
-use Rattle.spec_protocol.specs.Commits.{MovedSphere, turned, by_verdict, serial_in, serial_moved, dma_by_verdict, dma_in, dma_moved}
-use Rattle.spec_protocol.specs.Machine.{SphereSetup}
-use Rattle.spec_protocol.specs.Serial.{laid}
-use Rattle.spec_protocol.specs.Moves.{SerialFits, DmaFits}
+use Rattle.spec_protocol.specs.machine.Spheres.{Cursor, Role, Replay, Sphere, is_over, is_in_pieces}
+use Rattle.spec_protocol.specs.machine.Commits.{MovedSphere, turned, by_verdict, serial_in, serial_moved, dma_by_verdict, dma_in, dma_moved}
+use Rattle.spec_protocol.specs.machine.Machine.{SphereSetup}
+use Rattle.spec_protocol.specs.machine.Serial.{laid}
+use Rattle.spec_protocol.specs.machine.Moves.{SerialFits, DmaFits}
 use Rattle.spec_finishing.specs.Work.{stored, dma_stored, thread_work, turn_work, now_work, commit_work}
 use Rattle.spec_finishing.specs.Rank.{replay_left, price}
 use Rattle.spec_finishing.proofs.Paying.Plays.{left-over, left-turned, words-paid, whole-pays}

@@ -4,13 +4,13 @@ use Rattle.std.specs.Prelude.{slice_get, IsSome}
 use Rattle.std.proofs.lemmas.Bool.{true≢false}
 use Rattle.std.proofs.lemmas.Option.{none-some}
 use Rattle.spec_kernel.specs.Devices.{Devices}
-use Rattle.spec_protocol.specs.Spheres.{Cursor, Role, Plain, Record, Replay, Sphere, is_over, is_stopped}
-use Rattle.spec_protocol.specs.Commits.{dma_moved}
-use Rattle.spec_protocol.specs.Placing.{replays}
-use Rattle.spec_protocol.specs.World.{Numbers, What, OfChunk, OfSerial, OfDma, OfRaise, Move}
-use Rattle.spec_protocol.specs.Machine.{SphereSetup, Setup}
-use Rattle.spec_protocol.specs.Serial.{SerialState}
-use Rattle.spec_protocol.specs.Moves.{do_what, do_at, do_move, FitsWhat, FitsAt, Fits}
+use Rattle.spec_protocol.specs.machine.Spheres.{Cursor, Role, Plain, Record, Replay, Sphere, is_over, is_stopped}
+use Rattle.spec_protocol.specs.machine.Commits.{dma_moved}
+use Rattle.spec_protocol.specs.machine.Placing.{replays}
+use Rattle.spec_protocol.specs.machine.World.{Numbers, What, OfChunk, OfSerial, OfDma, OfRaise, Move}
+use Rattle.spec_protocol.specs.machine.Machine.{SphereSetup, Setup}
+use Rattle.spec_protocol.specs.machine.Serial.{SerialState}
+use Rattle.spec_protocol.specs.machine.Moves.{do_what, do_at, do_move, FitsWhat, FitsAt, Fits}
 use Rattle.spec_finishing.specs.Work.{what_work, role_work, sphere_work, move_work}
 use Rattle.spec_finishing.specs.Rank.{price, spheres_rank}
 use Rattle.spec_finishing.proofs.Paying.GoingOn.{GoesOn}

@@ -6,8 +6,8 @@ use Rattle.std.proofs.lemmas.List.{length-replicate}
 use Rattle.spec_log.specs.declared.ModeName.{ModeName}
 use Rattle.spec_log.specs.Log.{IsSection, IsLog}
 use Rattle.spec_play.specs.Recording.{new_log}
-use Rattle.spec_protocol.specs.Machine.{RoleSetup, IsPlain, IsRecorded, IsReplayed, SphereSetup, Setup}
-use Rattle.spec_protocol.specs.Sound.{IsRole, IsImage, IsWithinLimits}
+use Rattle.spec_protocol.specs.machine.Machine.{RoleSetup, IsPlain, IsRecorded, IsReplayed, SphereSetup, Setup}
+use Rattle.spec_protocol.specs.promises.Sound.{IsRole, IsImage, IsWithinLimits}
 
 abbrev with_role : RoleSetup → SphereSetup
 with_role role = record { memory = replicate 4096 0; entry = 0; role = role }

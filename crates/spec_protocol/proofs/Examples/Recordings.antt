@@ -7,7 +7,7 @@ use Rattle.spec_log.specs.declared.ModeName.{ModeName}
 use Rattle.spec_engine.specs.declared.answers.How.{How}
 use Rattle.spec_protocol.specs.declared.event.Event.{Event}
 use Rattle.spec_protocol.specs.declared.reply.Reply.{Reply}
-use Rattle.spec_protocol.specs.Machine.{IsRecorded, Setup, world_of, world_after}
+use Rattle.spec_protocol.specs.machine.Machine.{IsRecorded, Setup, world_of, world_after}
 use Rattle.spec_isa.specs.Instruction.{serial_of, loads_of, next_of, load_of, store_of, one}
 use Rattle.spec_isa.specs.Words.{lay, read, merged}
 use Rattle.spec_kernel.specs.Answers.{answer}
@@ -25,17 +25,17 @@ use Rattle.spec_engine.specs.Choices.{on_option, choose}
 use Rattle.spec_engine.specs.Chunks.{at_limit, reading, storing, loading, running, step}
 use Rattle.spec_engine.specs.Flights.{first_slot, free_slot}
 use Rattle.spec_engine.specs.Signatures.{meets}
-use Rattle.spec_protocol.specs.Asking.{grant_chunk, grant_serial, asking}
-use Rattle.spec_protocol.specs.Commits.{chunk_moved, serial_moved, dma_moved, raised}
-use Rattle.spec_protocol.specs.Finishing.{next}
-use Rattle.spec_protocol.specs.Flying.{draining, delivering, retiring}
-use Rattle.spec_protocol.specs.Machine.{act, happens}
-use Rattle.spec_protocol.specs.Placing.{placing, raising}
-use Rattle.spec_protocol.specs.Serial.{do_point}
-use Rattle.spec_protocol.specs.Shown.{shown}
-use Rattle.spec_protocol.specs.Spheres.{head_of, turn_against, limit_of}
-use Rattle.spec_protocol.specs.Stepping.{stepping, cutting}
-use Rattle.spec_protocol.specs.Transferring.{transfer, transferring}
+use Rattle.spec_protocol.specs.machine.Asking.{grant_chunk, grant_serial, asking}
+use Rattle.spec_protocol.specs.machine.Commits.{chunk_moved, serial_moved, dma_moved, raised}
+use Rattle.spec_protocol.specs.machine.Finishing.{next}
+use Rattle.spec_protocol.specs.machine.Flying.{draining, delivering, retiring}
+use Rattle.spec_protocol.specs.machine.Machine.{act, happens}
+use Rattle.spec_protocol.specs.machine.Placing.{placing, raising}
+use Rattle.spec_protocol.specs.machine.Serial.{do_point}
+use Rattle.spec_protocol.specs.machine.Shown.{shown}
+use Rattle.spec_protocol.specs.machine.Spheres.{head_of, turn_against, limit_of}
+use Rattle.spec_protocol.specs.machine.Stepping.{stepping, cutting}
+use Rattle.spec_protocol.specs.machine.Transferring.{transfer, transferring}
 use Rattle.spec_protocol.proofs.Examples.Scenes.{alone, replies, log_in}
 
 -- two instructions, and then the call that ends the thread

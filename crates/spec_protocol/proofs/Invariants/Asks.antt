@@ -13,13 +13,13 @@ use Rattle.spec_engine.specs.Flights.{Flight, at, first_slot, is_full, meets_chu
 use Rattle.spec_engine.specs.Chunks.{Chunk, is_serial, is_empty_serial}
 use Rattle.spec_engine.specs.Laws.{CoversWords}
 use Rattle.spec_engine.proofs.Searches.{first_none}
-use Rattle.spec_protocol.specs.Spheres.{other_than, takes_turns, turn_against, Role, Plain, Record, Replay, Sphere, is_stopped, recording_turn, head_in, head_of, is_in_pieces}
-use Rattle.spec_protocol.specs.Commits.{MovedSphere, is_piece, chunk_moved, serial_moved}
-use Rattle.spec_protocol.specs.World.{Occupant, World, moment, sphere_at, answered}
-use Rattle.spec_protocol.specs.Asking.{move_at, is_short, chunk_request, grant_chunk, serial_request, grant_serial, asks_serial, asking}
-use Rattle.spec_protocol.specs.Serial.{do_moved, do_serial}
-use Rattle.spec_protocol.specs.Shown.{flying, shown, shown_of}
-use Rattle.spec_protocol.specs.Moves.{move_chunk, do_at, do_move, ChunkFits, SerialFits, FitsChunk, FitsSerial, FitsAt, Fits}
+use Rattle.spec_protocol.specs.machine.Spheres.{other_than, takes_turns, turn_against, Role, Plain, Record, Replay, Sphere, is_stopped, recording_turn, head_in, head_of, is_in_pieces}
+use Rattle.spec_protocol.specs.machine.Commits.{MovedSphere, is_piece, chunk_moved, serial_moved}
+use Rattle.spec_protocol.specs.machine.World.{Occupant, World, moment, sphere_at, answered}
+use Rattle.spec_protocol.specs.machine.Asking.{move_at, is_short, chunk_request, grant_chunk, serial_request, grant_serial, asks_serial, asking}
+use Rattle.spec_protocol.specs.machine.Serial.{do_moved, do_serial}
+use Rattle.spec_protocol.specs.machine.Shown.{flying, shown, shown_of}
+use Rattle.spec_protocol.specs.machine.Moves.{move_chunk, do_at, do_move, ChunkFits, SerialFits, FitsChunk, FitsSerial, FitsAt, Fits}
 use Rattle.spec_protocol.proofs.Memory.Laying.{AllLack_nil, AllLack_flip}
 use Rattle.spec_protocol.proofs.Memory.Slots.{words-other}
 use Rattle.spec_protocol.proofs.Memory.Covering.{bits-signed, CoversWords-signed, apart-covered, flying-all_lack}
@@ -28,8 +28,8 @@ use Rattle.spec_protocol.proofs.Moves.AnyMemory.{over, relaid, chunk-relaid}
 use Rattle.spec_protocol.proofs.Invariants.Preserved.{Preserved, shown-get, unchanged-preserved}
 use Rattle.spec_protocol.proofs.Moves.AnyEvent.{any-ask}
 use Rattle.spec_protocol.proofs.Invariants.Granting.{Grants, granted-preserved}
-use Rattle.spec_protocol.specs.Currency.{seen_by, Meets, IsCurrent, AllLack}
-use Rattle.spec_protocol.specs.Invariants.{current, IsGoodHeld, IsGood}
+use Rattle.spec_protocol.specs.promises.Currency.{seen_by, Meets, IsCurrent, AllLack}
+use Rattle.spec_protocol.specs.promises.Invariants.{current, IsGoodHeld, IsGood}
 
 -- ---- what is shown of the sphere that asks
 

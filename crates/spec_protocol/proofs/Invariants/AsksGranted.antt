@@ -15,14 +15,14 @@ use Rattle.spec_engine.proofs.Marking.{covers_hit}
 use Rattle.spec_engine.proofs.Searches.{first_none, first_some, full_at}
 use Rattle.spec_protocol.specs.declared.event.Event.{Event}
 use Rattle.spec_protocol.specs.declared.reply.Reply.{Reply}
-use Rattle.spec_protocol.specs.Spheres.{other_than, turn_in, turn_against, Role, Plain, Record, Replay, Sphere, is_stopped, recording_turn, head_in, head_of}
-use Rattle.spec_protocol.specs.Placing.{replays}
-use Rattle.spec_protocol.specs.Commits.{CommitOutcome, Granted, Piece, Diverged, MovedSphere, is_piece, chunk_moved, serial_moved}
-use Rattle.spec_protocol.specs.World.{Occupant, World, moment, sphere_at, After, answered}
-use Rattle.spec_protocol.specs.Asking.{CommitRequest, chunk_request, granted, grant_chunk, unless_denied, serial_request, grant_serial, unless_busy, asks_serial, ask_arbiter, unless_turn, ask_closed, ask_held, asking}
-use Rattle.spec_protocol.specs.Machine.{world_of, core_no, act, happens, world_after}
-use Rattle.spec_protocol.specs.Invariants.{IsGoodHeld, IsGood}
-use Rattle.spec_protocol.specs.Replying.{makes_point, IsInTurns, IsGranted, AsksAreGranted, LoadsLack, IsClearOf, GrantsAreClear}
+use Rattle.spec_protocol.specs.machine.Spheres.{other_than, turn_in, turn_against, Role, Plain, Record, Replay, Sphere, is_stopped, recording_turn, head_in, head_of}
+use Rattle.spec_protocol.specs.machine.Placing.{replays}
+use Rattle.spec_protocol.specs.machine.Commits.{CommitOutcome, Granted, Piece, Diverged, MovedSphere, is_piece, chunk_moved, serial_moved}
+use Rattle.spec_protocol.specs.machine.World.{Occupant, World, moment, sphere_at, After, answered}
+use Rattle.spec_protocol.specs.machine.Asking.{CommitRequest, chunk_request, granted, grant_chunk, unless_denied, serial_request, grant_serial, unless_busy, asks_serial, ask_arbiter, unless_turn, ask_closed, ask_held, asking}
+use Rattle.spec_protocol.specs.machine.Machine.{world_of, core_no, act, happens, world_after}
+use Rattle.spec_protocol.specs.promises.Invariants.{IsGoodHeld, IsGood}
+use Rattle.spec_protocol.specs.promises.Replying.{makes_point, IsInTurns, IsGranted, AsksAreGranted, LoadsLack, IsClearOf, GrantsAreClear}
 use Rattle.spec_protocol.proofs.Memory.Laying.{AllLack_flip}
 use Rattle.spec_protocol.proofs.Memory.Covering.{uncovered-lacks, apart-covered}
 use Rattle.spec_protocol.proofs.Moves.Granted.{chunk-lives, serial-lives}

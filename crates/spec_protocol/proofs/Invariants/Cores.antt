@@ -8,19 +8,19 @@ use Rattle.spec_engine.specs.declared.answers.How.{How}
 use Rattle.spec_engine.specs.declared.answers.CutReply.{CutReply}
 use Rattle.spec_engine.specs.Flights.{Flight, at}
 use Rattle.spec_engine.specs.Chunks.{Chunk, step, Cutting, cut_open}
-use Rattle.spec_protocol.specs.World.{Occupant, World, Move, After, sphere_at, with_core, answered}
-use Rattle.spec_protocol.specs.Shown.{shown_of}
-use Rattle.spec_protocol.specs.Moves.{do_if, FitsIf}
+use Rattle.spec_protocol.specs.machine.World.{Occupant, World, Move, After, sphere_at, with_core, answered}
+use Rattle.spec_protocol.specs.machine.Shown.{shown_of}
+use Rattle.spec_protocol.specs.machine.Moves.{do_if, FitsIf}
 pub use Rattle.spec_protocol.proofs.Moves.AnyEvent.{branch}
 use Rattle.spec_protocol.proofs.Moves.AnyEvent.{any-step, any-cut}
-use Rattle.spec_protocol.specs.Stepping.{with_chunk, stepped, stepping, cut_to, cutting}
+use Rattle.spec_protocol.specs.machine.Stepping.{with_chunk, stepped, stepping, cut_to, cutting}
 use Rattle.spec_protocol.proofs.Memory.Slots.{at-set_same, at-set_other}
 use Rattle.spec_protocol.proofs.Memory.Steps.{SameBase}
 use Rattle.spec_protocol.proofs.Memory.Current.{step-good}
 use Rattle.spec_protocol.proofs.Invariants.Preserved.{SameSizes, PointIs, Preserved, unchanged-preserved}
-use Rattle.spec_protocol.specs.Currency.{IsCurrent}
+use Rattle.spec_protocol.specs.promises.Currency.{IsCurrent}
 use Rattle.spec_protocol.proofs.Invariants.Held.{thread-same}
-use Rattle.spec_protocol.specs.Invariants.{IsGoodChunk, current, IsGoodOver, IsOfThread, IsGoodHeld, IsAlone, IsGood}
+use Rattle.spec_protocol.specs.promises.Invariants.{IsGoodChunk, current, IsGoodOver, IsOfThread, IsGoodHeld, IsAlone, IsGood}
 
 -- ---- rows of cores and slots
 

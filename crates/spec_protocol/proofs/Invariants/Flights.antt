@@ -14,19 +14,19 @@ use Rattle.spec_engine.specs.Chunks.{Chunk, squash, is_fourth, halved, fresh, ne
 use Rattle.spec_engine.specs.Laws.{CoversWords}
 use Rattle.spec_engine.proofs.Searches.{told-tell_other, all_told-at}
 use Rattle.spec_protocol.specs.declared.reply.Reply.{Reply}
-use Rattle.spec_protocol.specs.Spheres.{Role, Plain, Record, Replay, Sphere, halves}
-use Rattle.spec_protocol.specs.Placing.{replays}
-use Rattle.spec_protocol.specs.World.{Occupant, World, Move, After, sphere_at, with_memory, with_core, with_slot, answered}
-use Rattle.spec_protocol.specs.Shown.{words_of, flying, shown, shown_of}
-use Rattle.spec_protocol.specs.Moves.{do_if, FitsIf}
-use Rattle.spec_protocol.specs.Flying.{reply_of_drain, drain_slot, draining, reads_of, writes_of, squashed, told, delivering, reply_of_retire, retiring}
+use Rattle.spec_protocol.specs.machine.Spheres.{Role, Plain, Record, Replay, Sphere, halves}
+use Rattle.spec_protocol.specs.machine.Placing.{replays}
+use Rattle.spec_protocol.specs.machine.World.{Occupant, World, Move, After, sphere_at, with_memory, with_core, with_slot, answered}
+use Rattle.spec_protocol.specs.machine.Shown.{words_of, flying, shown, shown_of}
+use Rattle.spec_protocol.specs.machine.Moves.{do_if, FitsIf}
+use Rattle.spec_protocol.specs.machine.Flying.{reply_of_drain, drain_slot, draining, reads_of, writes_of, squashed, told, delivering, reply_of_retire, retiring}
 use Rattle.spec_protocol.proofs.Memory.Laying.{lays_append, AllLack_flip, Apart_lack, Apart_first, Apart_last, Apart-append, lays-lay}
 use Rattle.spec_protocol.proofs.Memory.Slots.{at-set_same, at-set_other, at_within, before, behind, flying-at, flying-set, flying_same, words-same, words-other}
 use Rattle.spec_protocol.proofs.Invariants.Preserved.{SameSizes, PointIs, Preserved, sphere-same, sphere-other, shown_from-same, shown-unmoved, set-itself, unchanged-preserved}
 use Rattle.spec_protocol.proofs.Invariants.Cores.{set-cases, alone-set, held_there, others-differ, branch}
 use Rattle.spec_protocol.proofs.Invariants.Held.{chunk-beside, Beside, held-beside}
-use Rattle.spec_protocol.specs.Currency.{IsQuiet}
-use Rattle.spec_protocol.specs.Invariants.{IsFlightCovered, IsGoodChunk, current, IsGoodOver, IsOfThread, IsGoodHeld, IsGood}
+use Rattle.spec_protocol.specs.promises.Currency.{IsQuiet}
+use Rattle.spec_protocol.specs.promises.Invariants.{IsFlightCovered, IsGoodChunk, current, IsGoodOver, IsOfThread, IsGoodHeld, IsGood}
 
 -- ---- a slot is set to what stands there
 

@@ -9,15 +9,15 @@ use Rattle.spec_isa.specs.declared.thread.Parts.{Parts}
 use Rattle.spec_isa.specs.Words.{lays, Apart}
 use Rattle.spec_engine.specs.Signatures.{Signature, nothing}
 use Rattle.spec_engine.specs.Flights.{Flight, at, is_full}
-use Rattle.spec_protocol.specs.Spheres.{Sphere, is_stopped, halves}
-use Rattle.spec_protocol.specs.Placing.{replays}
-use Rattle.spec_protocol.specs.Commits.{CommitOutcome, Granted, Piece, Diverged, MovedSphere}
-use Rattle.spec_protocol.specs.World.{Numbers, Occupant, World, moment, sphere_at, with_sphere, flown}
-use Rattle.spec_protocol.specs.Asking.{CommitRequest, goes_on_with, point_at, move_at, world_with, granted}
-use Rattle.spec_protocol.specs.Serial.{do_moved}
-use Rattle.spec_protocol.specs.Shown.{flying, shown_of}
-use Rattle.spec_protocol.specs.Moves.{do_move, Fits}
-use Rattle.spec_protocol.specs.Shown.{flying}
+use Rattle.spec_protocol.specs.machine.Spheres.{Sphere, is_stopped, halves}
+use Rattle.spec_protocol.specs.machine.Placing.{replays}
+use Rattle.spec_protocol.specs.machine.Commits.{CommitOutcome, Granted, Piece, Diverged, MovedSphere}
+use Rattle.spec_protocol.specs.machine.World.{Numbers, Occupant, World, moment, sphere_at, with_sphere, flown}
+use Rattle.spec_protocol.specs.machine.Asking.{CommitRequest, goes_on_with, point_at, move_at, world_with, granted}
+use Rattle.spec_protocol.specs.machine.Serial.{do_moved}
+use Rattle.spec_protocol.specs.machine.Shown.{flying, shown_of}
+use Rattle.spec_protocol.specs.machine.Moves.{do_move, Fits}
+use Rattle.spec_protocol.specs.machine.Shown.{flying}
 use Rattle.spec_protocol.proofs.Memory.Slots.{Flew, flown-flew}
 use Rattle.spec_protocol.proofs.Moves.Granted.{Divergence, MovesOnly}
 use Rattle.spec_protocol.proofs.Moves.AnyMemory.{relaid}
@@ -25,8 +25,8 @@ use Rattle.spec_protocol.proofs.Invariants.Preserved.{SameSizes, point_for, Poin
 use Rattle.spec_protocol.proofs.Invariants.Cores.{set-cases, alone-set}
 use Rattle.spec_protocol.proofs.Invariants.Landing.{afresh-begins, afresh-held, moved_world, Lands, landed-held, elsewhere-held, moved-shown}
 use Rattle.spec_protocol.proofs.Invariants.Held.{KeepsThread, thread-stays}
-use Rattle.spec_protocol.specs.Invariants.{IsFlightCovered, IsGoodChunk, current, IsOfThread, IsGoodHeld, IsGood}
-use Rattle.spec_protocol.specs.Currency.{AllLack}
+use Rattle.spec_protocol.specs.promises.Invariants.{IsFlightCovered, IsGoodChunk, current, IsOfThread, IsGoodHeld, IsGood}
+use Rattle.spec_protocol.specs.promises.Currency.{AllLack}
 
 -- ---- a request that is granted, or diverges
 

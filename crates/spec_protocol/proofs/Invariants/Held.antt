@@ -7,12 +7,12 @@ use Rattle.spec_kernel.specs.Interrupts.{is_live}
 use Rattle.spec_engine.specs.Signatures.{Signature}
 use Rattle.spec_engine.specs.Flights.{Flight}
 use Rattle.spec_engine.specs.Chunks.{Chunk}
-use Rattle.spec_protocol.specs.Spheres.{Role, Sphere, is_stopped, limit_of, halves}
-use Rattle.spec_protocol.specs.Placing.{replays}
-use Rattle.spec_protocol.specs.World.{Numbers, Occupant, World, sphere_at}
+use Rattle.spec_protocol.specs.machine.Spheres.{Role, Sphere, is_stopped, limit_of, halves}
+use Rattle.spec_protocol.specs.machine.Placing.{replays}
+use Rattle.spec_protocol.specs.machine.World.{Numbers, Occupant, World, sphere_at}
 use Rattle.spec_protocol.proofs.Memory.Steps.{SameBase}
-use Rattle.spec_protocol.specs.Currency.{IsCurrent, IsQuiet}
-use Rattle.spec_protocol.specs.Invariants.{IsGoodChunk, current, IsGoodOver, LimitFits, IsOfThread, IsGoodHeld}
+use Rattle.spec_protocol.specs.promises.Currency.{IsCurrent, IsQuiet}
+use Rattle.spec_protocol.specs.promises.Invariants.{IsGoodChunk, current, IsGoodOver, LimitFits, IsOfThread, IsGoodHeld}
 
 -- ---- what is said of the thread
 

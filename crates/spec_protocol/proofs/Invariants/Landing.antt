@@ -14,11 +14,11 @@ use Rattle.spec_engine.specs.Flights.{Flight, told_at}
 use Rattle.spec_engine.specs.Chunks.{Chunk, fresh}
 use Rattle.spec_engine.specs.Laws.{CoversWords}
 use Rattle.spec_engine.proofs.Marking.{covers_hit}
-use Rattle.spec_protocol.specs.Spheres.{Role, Plain, Record, Replay, Sphere, limit_of, halves}
-use Rattle.spec_protocol.specs.Commits.{MovedSphere}
-use Rattle.spec_protocol.specs.World.{Numbers, Occupant, World, sphere_at, thread_afresh, held_afresh}
-use Rattle.spec_protocol.specs.Serial.{do_moved}
-use Rattle.spec_protocol.specs.Shown.{flying, shown, shown_from, shown_of}
+use Rattle.spec_protocol.specs.machine.Spheres.{Role, Plain, Record, Replay, Sphere, limit_of, halves}
+use Rattle.spec_protocol.specs.machine.Commits.{MovedSphere}
+use Rattle.spec_protocol.specs.machine.World.{Numbers, Occupant, World, sphere_at, thread_afresh, held_afresh}
+use Rattle.spec_protocol.specs.machine.Serial.{do_moved}
+use Rattle.spec_protocol.specs.machine.Shown.{flying, shown, shown_from, shown_of}
 use Rattle.spec_protocol.proofs.Memory.Laying.{Agree-lays, Agree-unseen, Unseen}
 use Rattle.spec_protocol.proofs.Memory.Slots.{Flew}
 use Rattle.spec_protocol.proofs.Memory.Running.{Live_local}
@@ -26,8 +26,8 @@ use Rattle.spec_protocol.proofs.Moves.AnyMemory.{relaid}
 use Rattle.spec_protocol.proofs.Invariants.Preserved.{sphere-same, sphere-other, shown-set}
 use Rattle.spec_protocol.proofs.Invariants.Flights.{begun-good}
 use Rattle.spec_protocol.proofs.Invariants.Held.{KeepsThread, thread-stays, held-beside}
-use Rattle.spec_protocol.specs.Currency.{seen_by}
-use Rattle.spec_protocol.specs.Invariants.{IsFlightCovered, IsGoodChunk, current, IsOfThread, IsGoodHeld}
+use Rattle.spec_protocol.specs.promises.Currency.{seen_by}
+use Rattle.spec_protocol.specs.promises.Invariants.{IsFlightCovered, IsGoodChunk, current, IsOfThread, IsGoodHeld}
 
 -- ---- a chunk at its beginning
 

@@ -16,16 +16,16 @@ use Rattle.spec_play.specs.Transfers.{DmaVerdict, DmaGoes, DmaFails, dma_verdict
 use Rattle.spec_play.specs.Lasts.{IsOfCommits}
 use Rattle.spec_play.proofs.Lasts.{IsOf, last-effect, last-dma, chunk-of, serial-of}
 use Rattle.spec_engine.specs.declared.answers.How.{How}
-use Rattle.spec_protocol.specs.Spheres.{Cursor, Role, Plain, Record, Replay, Sphere, no_sphere}
-use Rattle.spec_protocol.specs.Commits.{MovedSphere, by_verdict, joined, replayed_chunk, chunk_in, chunk_moved, is_piece, serial_in, serial_moved, live_dma, dma_log, dma_by_verdict, dma_in, dma_moved, raised}
-use Rattle.spec_protocol.specs.World.{Numbers, World, Move, What, OfChunk, OfSerial, OfDma, OfRaise, sphere_at}
-use Rattle.spec_protocol.specs.Asking.{is_short}
-use Rattle.spec_protocol.specs.Machine.{SphereSetup, Setup, sphere_of, world_of, moves}
-use Rattle.spec_protocol.specs.Serial.{SerialState, serial_start, laid, do_serial, do_dma, do_raise}
-use Rattle.spec_protocol.specs.Shown.{shown, shown_of}
-use Rattle.spec_protocol.specs.Moves.{move_chunk, do_what, do_at, do_move, do_moves}
-use Rattle.spec_protocol.specs.Promises.{after}
-use Rattle.spec_protocol.specs.Lasts.{SpheresKeepLasts}
+use Rattle.spec_protocol.specs.machine.Spheres.{Cursor, Role, Plain, Record, Replay, Sphere, no_sphere}
+use Rattle.spec_protocol.specs.machine.Commits.{MovedSphere, by_verdict, joined, replayed_chunk, chunk_in, chunk_moved, is_piece, serial_in, serial_moved, live_dma, dma_log, dma_by_verdict, dma_in, dma_moved, raised}
+use Rattle.spec_protocol.specs.machine.World.{Numbers, World, Move, What, OfChunk, OfSerial, OfDma, OfRaise, sphere_at}
+use Rattle.spec_protocol.specs.machine.Asking.{is_short}
+use Rattle.spec_protocol.specs.machine.Machine.{SphereSetup, Setup, sphere_of, world_of, moves}
+use Rattle.spec_protocol.specs.machine.Serial.{SerialState, serial_start, laid, do_serial, do_dma, do_raise}
+use Rattle.spec_protocol.specs.machine.Shown.{shown, shown_of}
+use Rattle.spec_protocol.specs.machine.Moves.{move_chunk, do_what, do_at, do_move, do_moves}
+use Rattle.spec_protocol.specs.promises.Promises.{after}
+use Rattle.spec_protocol.specs.promises.Lasts.{SpheresKeepLasts}
 use Rattle.spec_protocol.proofs.Invariants.Preserved.{shown-get}
 use Rattle.spec_protocol.proofs.Moves.Granted.{get-set_other, get-set_same}
 use Rattle.spec_protocol.proofs.Invariants.Schedules.{moves_are}

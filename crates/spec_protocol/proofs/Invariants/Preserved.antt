@@ -4,15 +4,15 @@ use Rattle.std.specs.Prelude.{slice_get}
 use Rattle.dl_entry.specs.declared.Actor.{Actor}
 use Rattle.dl_entry.specs.declared.CommitKind.{CommitKind}
 use Rattle.dl_entry.specs.declared.Point.{Point}
-use Rattle.spec_protocol.specs.Asking.{is_short}
+use Rattle.spec_protocol.specs.machine.Asking.{is_short}
 use Rattle.spec_isa.specs.Words.{lays}
 use Rattle.spec_engine.specs.Flights.{Flight}
-use Rattle.spec_protocol.specs.Spheres.{Sphere, no_sphere}
-use Rattle.spec_protocol.specs.Placing.{replays}
-use Rattle.spec_protocol.specs.World.{Numbers, World, What, OfChunk, OfSerial, OfDma, OfRaise, Move, After, sphere_at}
-use Rattle.spec_protocol.specs.Shown.{flying, shown, shown_from, shown_of}
-use Rattle.spec_protocol.specs.Moves.{do_if, FitsIf}
-use Rattle.spec_protocol.specs.Invariants.{IsGood}
+use Rattle.spec_protocol.specs.machine.Spheres.{Sphere, no_sphere}
+use Rattle.spec_protocol.specs.machine.Placing.{replays}
+use Rattle.spec_protocol.specs.machine.World.{Numbers, World, What, OfChunk, OfSerial, OfDma, OfRaise, Move, After, sphere_at}
+use Rattle.spec_protocol.specs.machine.Shown.{flying, shown, shown_from, shown_of}
+use Rattle.spec_protocol.specs.machine.Moves.{do_if, FitsIf}
+use Rattle.spec_protocol.specs.promises.Invariants.{IsGood}
 
 -- ---- what an event preserves
 

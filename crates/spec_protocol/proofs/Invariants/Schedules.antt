@@ -4,13 +4,13 @@ use Rattle.std.proofs.lemmas.Option.{none-some}
 use Rattle.spec_isa.specs.Words.{lays, Apart}
 use Rattle.spec_engine.specs.Flights.{Flight, at}
 use Rattle.spec_protocol.specs.declared.event.Event.{Event}
-use Rattle.spec_protocol.specs.Spheres.{Sphere, no_sphere}
-use Rattle.spec_protocol.specs.World.{Numbers, Occupant, World, Move, After, held_afresh, sphere_at}
-use Rattle.spec_protocol.specs.Machine.{SphereSetup, Setup, first_cores, world_of, core_no, sphere_no, slot_no, act, with_event, happens, world_after, with_move, moves, sphere_of}
-use Rattle.spec_protocol.specs.Serial.{SerialState, serial_start}
-use Rattle.spec_protocol.specs.Shown.{flying, shown, shown_from, shown_of}
-use Rattle.spec_protocol.specs.Moves.{do_if, do_moves, FitsIf, FitAll}
-use Rattle.spec_protocol.specs.Promises.{IsSetup, MovesAreSerial, InvariantsHold, SizesAreKept}
+use Rattle.spec_protocol.specs.machine.Spheres.{Sphere, no_sphere}
+use Rattle.spec_protocol.specs.machine.World.{Numbers, Occupant, World, Move, After, held_afresh, sphere_at}
+use Rattle.spec_protocol.specs.machine.Machine.{SphereSetup, Setup, first_cores, world_of, core_no, sphere_no, slot_no, act, with_event, happens, world_after, with_move, moves, sphere_of}
+use Rattle.spec_protocol.specs.machine.Serial.{SerialState, serial_start}
+use Rattle.spec_protocol.specs.machine.Shown.{flying, shown, shown_from, shown_of}
+use Rattle.spec_protocol.specs.machine.Moves.{do_if, do_moves, FitsIf, FitAll}
+use Rattle.spec_protocol.specs.promises.Promises.{IsSetup, MovesAreSerial, InvariantsHold, SizesAreKept}
 use Rattle.spec_protocol.proofs.Invariants.Preserved.{Preserved, SameSizes, same_sizes}
 use Rattle.spec_protocol.proofs.Invariants.Cores.{step-preserved, cut-preserved}
 use Rattle.spec_protocol.proofs.Invariants.Flights.{drain-preserved, deliver-preserved, retire-preserved}
@@ -18,7 +18,7 @@ use Rattle.spec_protocol.proofs.Invariants.Landing.{afresh-begins, afresh-held}
 use Rattle.spec_protocol.proofs.Invariants.Asks.{ask-preserved}
 use Rattle.spec_protocol.proofs.Invariants.Threads.{place-preserved, raise-preserved}
 use Rattle.spec_protocol.proofs.Invariants.Transfers.{dma-preserved}
-use Rattle.spec_protocol.specs.Invariants.{IsGoodHeld, IsGood}
+use Rattle.spec_protocol.specs.promises.Invariants.{IsGoodHeld, IsGood}
 use Rattle.std.proofs.lemmas.List.{length-replicate, length-map}
 
 -- ---- one event

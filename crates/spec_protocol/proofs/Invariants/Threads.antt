@@ -11,13 +11,13 @@ use Rattle.spec_kernel.specs.Interrupts.{is_live, has_handler, takes_interrupt, 
 use Rattle.spec_engine.specs.Signatures.{nothing}
 use Rattle.spec_engine.specs.Flights.{Flight, at}
 use Rattle.spec_engine.proofs.Searches.{first_none, first_some}
-use Rattle.spec_protocol.specs.Spheres.{Role, Plain, Record, Replay, Sphere, no_sphere, is_stopped, limit_of, halves}
-use Rattle.spec_protocol.specs.Commits.{role_raised, raised}
-use Rattle.spec_protocol.specs.World.{Occupant, World, moment, sphere_at, with_sphere, with_core, held_afresh, runs, core_of, OfRaise, answered}
-use Rattle.spec_protocol.specs.Placing.{placing, replays, with_renewed, raise_in, raising}
-use Rattle.spec_protocol.specs.Serial.{do_raise}
-use Rattle.spec_protocol.specs.Shown.{flying, shown, shown_of}
-use Rattle.spec_protocol.specs.Moves.{do_at, do_move, FitsRaise, FitsAt, Fits}
+use Rattle.spec_protocol.specs.machine.Spheres.{Role, Plain, Record, Replay, Sphere, no_sphere, is_stopped, limit_of, halves}
+use Rattle.spec_protocol.specs.machine.Commits.{role_raised, raised}
+use Rattle.spec_protocol.specs.machine.World.{Occupant, World, moment, sphere_at, with_sphere, with_core, held_afresh, runs, core_of, OfRaise, answered}
+use Rattle.spec_protocol.specs.machine.Placing.{placing, replays, with_renewed, raise_in, raising}
+use Rattle.spec_protocol.specs.machine.Serial.{do_raise}
+use Rattle.spec_protocol.specs.machine.Shown.{flying, shown, shown_of}
+use Rattle.spec_protocol.specs.machine.Moves.{do_at, do_move, FitsRaise, FitsAt, Fits}
 use Rattle.spec_protocol.proofs.Moves.Granted.{get-set_other}
 use Rattle.spec_protocol.proofs.Moves.AnyMemory.{over}
 use Rattle.spec_protocol.proofs.Moves.AnyEvent.{Raises, any-place, any-raise}
@@ -27,7 +27,7 @@ use Rattle.spec_protocol.proofs.Invariants.Landing.{afresh-begins, afresh-held, 
 use Rattle.spec_protocol.proofs.Invariants.Granting.{unflown}
 use Rattle.spec_protocol.proofs.Invariants.Asks.{shown_at, shown_over}
 use Rattle.spec_protocol.proofs.Invariants.Held.{KeepsThread, thread-stays}
-use Rattle.spec_protocol.specs.Invariants.{IsGoodChunk, current, IsOfThread, IsGoodHeld, IsGood}
+use Rattle.spec_protocol.specs.promises.Invariants.{IsGoodChunk, current, IsOfThread, IsGoodHeld, IsGood}
 
 -- a sphere with a thread is one of the spheres
 inside : (w : World) (i k : ℕ) (t : Parts) → slice_get (sphere_at w i).threads k ≡ Some t → i < length w.spheres

@@ -6,7 +6,7 @@ use Rattle.std.proofs.lemmas.Bool.{true≢false, cases_eq, eq-eqb, ne_eqb, lt-lt
 use Rattle.std.proofs.lemmas.List.{append_assoc}
 use Rattle.spec_log.specs.Reading.{is_earlier}
 use Rattle.spec_log.specs.Noting.{insert_by}
-use Rattle.spec_protocol.specs.Logged.{threads}
+use Rattle.spec_protocol.specs.machine.Logged.{threads}
 use Rattle.spec_protocol.proofs.Logs.Inserting.{both_tests, is_of_moment, found_first}
 
 -- ---- before and behind

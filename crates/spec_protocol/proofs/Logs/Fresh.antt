@@ -7,7 +7,7 @@ use Rattle.spec_isa.specs.declared.thread.Parts.{Parts}
 use Rattle.spec_log.specs.declared.Interrupt.{Interrupt}
 use Rattle.spec_kernel.specs.Interrupts.{interrupted}
 use Rattle.spec_play.specs.Verdicts.{interrupt_at}
-use Rattle.spec_protocol.specs.Sound.{AreFresh}
+use Rattle.spec_protocol.specs.promises.Sound.{AreFresh}
 use Rattle.spec_protocol.proofs.Logs.Growing.{get_cases, set_none, append_none}
 use Rattle.spec_protocol.proofs.Logs.Lookups.{raised_to, interrupt-other}
 

@@ -19,9 +19,9 @@ use Rattle.spec_play.specs.Progress.{position}
 use Rattle.spec_play.specs.Verdicts.{interrupt_at}
 use Rattle.spec_log.specs.Noting.{order_with}
 use Rattle.spec_play.specs.Recording.{noted, input_noted}
-use Rattle.spec_protocol.specs.Spheres.{Sphere}
-pub use Rattle.spec_protocol.specs.Sound.{commits_if, commits_in}
-pub use Rattle.spec_protocol.specs.Standing.{OrderStands, SizesStand, Stands}
+use Rattle.spec_protocol.specs.machine.Spheres.{Sphere}
+pub use Rattle.spec_protocol.specs.promises.Sound.{commits_if, commits_in}
+pub use Rattle.spec_protocol.specs.promises.Standing.{OrderStands, SizesStand, Stands}
 use Rattle.spec_protocol.proofs.Logs.Inserting.{with_short, with_size}
 use Rattle.spec_protocol.proofs.Moves.Granted.{get-set_other, get-set_same, get-append}
 use Rattle.spec_protocol.proofs.Moves.Threads.{IsNew, AreNew}

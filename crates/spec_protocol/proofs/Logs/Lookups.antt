@@ -12,7 +12,7 @@ use Rattle.spec_log.specs.Size.{is_thread, sizes_of_thread}
 use Rattle.spec_log.specs.Head.{is_dma_at}
 use Rattle.spec_play.specs.Verdicts.{interrupt_at}
 use Rattle.spec_log.specs.Noting.{insert_interrupt}
-pub use Rattle.spec_protocol.specs.Standing.{short_at, count_of, DmasBelow}
+pub use Rattle.spec_protocol.specs.promises.Standing.{short_at, count_of, DmasBelow}
 use Rattle.spec_protocol.proofs.Logs.Inserting.{with_short, find-inserted_other, find-inserted, length-inserted}
 
 -- ---- by thread and commits

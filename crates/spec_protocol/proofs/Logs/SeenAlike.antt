@@ -23,8 +23,8 @@ use Rattle.spec_play.specs.Effects.{Effect, chunk_effect}
 use Rattle.spec_play.specs.Progress.{Used, with_interrupt}
 use Rattle.spec_play.specs.Turns.{is_size_used, are_sizes_used}
 use Rattle.spec_play.specs.Verdicts.{LogVerdict, Goes, Fails, unless, interrupt_at, with_interrupted, ended, chunk_why, chunk_verdict}
-use Rattle.spec_protocol.specs.Judging.{why_of, interrupt_why, ChunksAreJudged, AreCommits, ShortSizesAreUsed, SizesAreUsed, DueAreCounted, LogsAreSeenAlike}
-use Rattle.spec_protocol.specs.Sound.{commits_if, is_due_in, due, commits_among, IsDoneInOrder}
+use Rattle.spec_protocol.specs.promises.Judging.{why_of, interrupt_why, ChunksAreJudged, AreCommits, ShortSizesAreUsed, SizesAreUsed, DueAreCounted, LogsAreSeenAlike}
+use Rattle.spec_protocol.specs.promises.Sound.{commits_if, is_due_in, due, commits_among, IsDoneInOrder}
 use Rattle.spec_protocol.proofs.Invariants.Cores.{branch}
 use Rattle.spec_protocol.proofs.Replays.Uses.{due-most}
 

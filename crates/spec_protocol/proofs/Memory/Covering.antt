@@ -18,10 +18,10 @@ use Rattle.spec_engine.specs.Chunks.{Chunk, with_line}
 use Rattle.spec_engine.specs.Laws.{CoversLoads, CoversWords}
 use Rattle.spec_engine.proofs.Marking.{covers_insert, covers_more, covers_hit}
 use Rattle.spec_engine.proofs.Searches.{first_none}
-use Rattle.spec_protocol.specs.Shown.{words_of, flying}
+use Rattle.spec_protocol.specs.machine.Shown.{words_of, flying}
 use Rattle.spec_protocol.proofs.Memory.Laying.{Lacks-append, Unseen}
-use Rattle.spec_protocol.specs.Currency.{seen_by, IsQuiet, AllLack}
-use Rattle.spec_protocol.specs.Invariants.{IsFlightCovered, AreCovered}
+use Rattle.spec_protocol.specs.promises.Currency.{seen_by, IsQuiet, AllLack}
+use Rattle.spec_protocol.specs.promises.Invariants.{IsFlightCovered, AreCovered}
 
 pub CoversWords_more : (i l : ℕ) (g : Signature) (ws : List Stored) → CoversWords i g ws → CoversWords i (insert l g) ws
 CoversWords_more i l g [] c = tt

@@ -15,13 +15,13 @@ use Rattle.spec_engine.specs.Flights.{Flight, is_none, first_slot, bounces}
 use Rattle.spec_engine.specs.Chunks.{Chunk, Stepping, step}
 use Rattle.spec_engine.specs.Laws.{StepAgrees}
 use Rattle.spec_engine.proofs.Stepping.{steps_are}
-use Rattle.spec_protocol.specs.Shown.{flying}
+use Rattle.spec_protocol.specs.machine.Shown.{flying}
 use Rattle.spec_protocol.proofs.Memory.Laying.{Agree, Agree-lays, Agree-unseen}
 use Rattle.spec_protocol.proofs.Memory.Running.{Touches_local, Touches_more, one_local, one_serial}
 use Rattle.spec_protocol.proofs.Memory.Covering.{clear, clear-lacks, unseen_from}
 use Rattle.spec_protocol.proofs.Memory.Steps.{SameBase, Looks, step-stays}
-use Rattle.spec_protocol.specs.Currency.{Meets, Touches, RunTouches, seen_by, StoresAnew, IsCurrent, IsQuiet}
-use Rattle.spec_protocol.specs.Invariants.{AreCovered, IsGoodChunk}
+use Rattle.spec_protocol.specs.promises.Currency.{Meets, Touches, RunTouches, seen_by, StoresAnew, IsCurrent, IsQuiet}
+use Rattle.spec_protocol.specs.promises.Invariants.{AreCovered, IsGoodChunk}
 
 -- ---- a run that goes on
 

@@ -5,7 +5,7 @@ use Rattle.std.proofs.lemmas.Bool.{cases_lt}
 use Rattle.std.proofs.lemmas.List.{get_or_past}
 use Rattle.spec_isa.specs.Words.{Stored, lay, lays, read, Lacks, Apart}
 use Rattle.spec_isa.specs.Masks.{or_byte}
-use Rattle.spec_protocol.specs.Currency.{AllLack}
+use Rattle.spec_protocol.specs.promises.Currency.{AllLack}
 use Rattle.spec_isa.proofs.MemoryLaws.{length_lay, given, byte-lay, byte-lay_other}
 use Rattle.spec_isa.proofs.BufferLaws.{lay-lay}
 

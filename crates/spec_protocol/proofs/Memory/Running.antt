@@ -11,7 +11,7 @@ use Rattle.spec_kernel.specs.Needs.{fetched, next_kind}
 use Rattle.spec_engine.specs.declared.answers.How.{How}
 use Rattle.spec_engine.specs.Chunks.{Chunk}
 use Rattle.spec_protocol.proofs.Memory.Laying.{Agree, Agree-lays, Agree-read}
-use Rattle.spec_protocol.specs.Currency.{Meets, Touches, RunTouches, seen_by, IsCurrent}
+use Rattle.spec_protocol.specs.promises.Currency.{Meets, Touches, RunTouches, seen_by, IsCurrent}
 
 -- ---- one instruction
 

@@ -20,8 +20,8 @@ use Rattle.spec_engine.proofs.Choosing.{keep_option, keep_choose}
 use Rattle.spec_engine.proofs.Marking.{covers_insert, covers_more, hits_more}
 use Rattle.spec_protocol.proofs.Memory.Running.{outside_serial}
 use Rattle.spec_protocol.proofs.Memory.Covering.{CoversLoads_more, CoversLoads-load, length-load, load-word, CoversWords-store, Apart-store, length-store, bits-with_line, clear}
-use Rattle.spec_protocol.specs.Currency.{Touches, seen_by, StoresAnew}
-use Rattle.spec_protocol.specs.Invariants.{Closes}
+use Rattle.spec_protocol.specs.promises.Currency.{Touches, seen_by, StoresAnew}
+use Rattle.spec_protocol.specs.promises.Invariants.{Closes}
 
 -- ---- what is kept
 

@@ -7,8 +7,8 @@ use Rattle.spec_log.specs.declared.LogParts.{LogParts}
 use Rattle.spec_kernel.specs.Devices.{Devices}
 use Rattle.spec_play.specs.Verdicts.{LogVerdict, Goes, Fails, chunk_verdict}
 use Rattle.spec_play.specs.Transfers.{DmaVerdict, DmaGoes, DmaFails, dma_verdict}
-use Rattle.spec_protocol.specs.Spheres.{Recording, Cursor, Role, Plain, Record, Replay, Sphere}
-use Rattle.spec_protocol.specs.Commits.{MovedSphere, by_verdict, joined, replayed_chunk, chunk_in, chunk_moved, dma_by_verdict, live_dma, dma_log, dma_in, dma_moved}
+use Rattle.spec_protocol.specs.machine.Spheres.{Recording, Cursor, Role, Plain, Record, Replay, Sphere}
+use Rattle.spec_protocol.specs.machine.Commits.{MovedSphere, by_verdict, joined, replayed_chunk, chunk_in, chunk_moved, dma_by_verdict, live_dma, dma_log, dma_in, dma_moved}
 
 -- the sphere over another memory
 abbrev pub over : List ℕ → Sphere → Sphere

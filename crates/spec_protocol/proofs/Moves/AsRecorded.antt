@@ -3,9 +3,9 @@ use Rattle.std.proofs.Common.{Option, Some, None, refl}
 use Rattle.dl_entry.specs.declared.Request.{Request}
 use Rattle.spec_log.specs.declared.LogParts.{LogParts}
 use Rattle.spec_kernel.specs.Devices.{Devices}
-use Rattle.spec_protocol.specs.Spheres.{Recording, Role, Plain, Record, Sphere}
-use Rattle.spec_protocol.specs.Commits.{live_dma, dma_log, chunk_moved, serial_moved, dma_moved, raised}
-use Rattle.spec_protocol.specs.AsRecorded.{in_role, MoveAlikeIf, PlainMovesAsRecorded}
+use Rattle.spec_protocol.specs.machine.Spheres.{Recording, Role, Plain, Record, Sphere}
+use Rattle.spec_protocol.specs.machine.Commits.{live_dma, dma_log, chunk_moved, serial_moved, dma_moved, raised}
+use Rattle.spec_protocol.specs.promises.AsRecorded.{in_role, MoveAlikeIf, PlainMovesAsRecorded}
 
 dma_alike : (a b : Role) (devices : Devices) (p : Sphere) (recording : Recording) (o : Option Request) → MoveAlikeIf (live_dma a devices (in_role Plain p) o) (live_dma b devices (in_role (Record recording) p) o)
 dma_alike a b devices p recording None = tt

@@ -8,12 +8,12 @@ use Rattle.spec_engine.specs.Signatures.{Signature, nothing, signed}
 use Rattle.spec_engine.specs.Flights.{Flight, at, free_slot, has_none, fill_at, fill, told_at, tell}
 use Rattle.spec_engine.proofs.Searches.{told-zero, told-tell, told-tell_other, free_slot-within}
 use Rattle.spec_protocol.specs.declared.event.Event.{Event}
-use Rattle.spec_protocol.specs.Commits.{CommitOutcome, Granted, Piece, Diverged, MovedSphere, is_piece, chunk_moved, serial_moved}
-use Rattle.spec_protocol.specs.World.{Occupant, World, After, moment, sphere_at, answered}
-use Rattle.spec_protocol.specs.Asking.{CommitRequest, chunk_request, granted, grant_chunk, serial_request, grant_serial}
-use Rattle.spec_protocol.specs.Transferring.{dma_with}
-use Rattle.spec_protocol.specs.Machine.{core_no, sphere_no, act, happens}
-use Rattle.spec_protocol.specs.Committers.{CommittersAreTold}
+use Rattle.spec_protocol.specs.machine.Commits.{CommitOutcome, Granted, Piece, Diverged, MovedSphere, is_piece, chunk_moved, serial_moved}
+use Rattle.spec_protocol.specs.machine.World.{Occupant, World, After, moment, sphere_at, answered}
+use Rattle.spec_protocol.specs.machine.Asking.{CommitRequest, chunk_request, granted, grant_chunk, serial_request, grant_serial}
+use Rattle.spec_protocol.specs.machine.Transferring.{dma_with}
+use Rattle.spec_protocol.specs.machine.Machine.{core_no, sphere_no, act, happens}
+use Rattle.spec_protocol.specs.promises.Committers.{CommittersAreTold}
 use Rattle.spec_protocol.proofs.Moves.AnyEvent.{any-ask, any-transfer}
 use Rattle.spec_protocol.proofs.Memory.Slots.{at-set}
 

@@ -18,7 +18,7 @@ use Rattle.spec_kernel.specs.Calls.{Called, gives, exit, spawned, spawn, set_han
 use Rattle.spec_kernel.specs.Serving.{StepResult, outside_called, is_outside, inside_called, device_loaded, device_stored, serve_kind, serve}
 use Rattle.spec_protocol.proofs.Moves.AnyEvent.{branch}
 use Rattle.spec_protocol.proofs.Moves.Granted.{either_serve}
-pub use Rattle.spec_protocol.specs.Standing.{IsNew, AreNew}
+pub use Rattle.spec_protocol.specs.promises.Standing.{IsNew, AreNew}
 
 -- ---- instructions
 

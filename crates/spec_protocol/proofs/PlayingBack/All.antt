@@ -21,14 +21,14 @@ use Rattle.spec_log.specs.Noting.{no_sizes}
 use Rattle.spec_play.specs.Recording.{new_log, interrupt_noted}
 use Rattle.spec_play.specs.Plays.{Played, opened, plays, play}
 use Rattle.spec_engine.specs.declared.answers.How.{How}
-use Rattle.spec_protocol.specs.Spheres.{Recording, Role, Record, Sphere}
-use Rattle.spec_protocol.specs.Commits.{MovedSphere, is_piece, chunk_in, chunk_moved, serial_in, serial_moved, dma_in, dma_moved, live_dma, dma_log, role_raised, raised}
-use Rattle.spec_protocol.specs.World.{Numbers, What, OfChunk, OfSerial, OfDma, OfRaise, Move}
-use Rattle.spec_protocol.specs.Asking.{is_short}
-use Rattle.spec_protocol.specs.Machine.{first_threads, last_played, first_played, new_recording, SphereSetup, role_of, sphere_of, moves, world_of}
-use Rattle.spec_protocol.specs.Serial.{SerialState, serial_start, laid, do_moved, do_serial, do_dma, do_raise}
-use Rattle.spec_protocol.specs.Moves.{move_chunk, do_what, do_at, do_move, do_moves, FitsChunk, FitsSerial, FitsRaise, FitsWhat, FitsAt, Fits, FitAll}
-use Rattle.spec_protocol.specs.PlayingBack.{PlaysBack, LogsPlayBack}
+use Rattle.spec_protocol.specs.machine.Spheres.{Recording, Role, Record, Sphere}
+use Rattle.spec_protocol.specs.machine.Commits.{MovedSphere, is_piece, chunk_in, chunk_moved, serial_in, serial_moved, dma_in, dma_moved, live_dma, dma_log, role_raised, raised}
+use Rattle.spec_protocol.specs.machine.World.{Numbers, What, OfChunk, OfSerial, OfDma, OfRaise, Move}
+use Rattle.spec_protocol.specs.machine.Asking.{is_short}
+use Rattle.spec_protocol.specs.machine.Machine.{first_threads, last_played, first_played, new_recording, SphereSetup, role_of, sphere_of, moves, world_of}
+use Rattle.spec_protocol.specs.machine.Serial.{SerialState, serial_start, laid, do_moved, do_serial, do_dma, do_raise}
+use Rattle.spec_protocol.specs.machine.Moves.{move_chunk, do_what, do_at, do_move, do_moves, FitsChunk, FitsSerial, FitsRaise, FitsWhat, FitsAt, Fits, FitAll}
+use Rattle.spec_protocol.specs.promises.PlayingBack.{PlaysBack, LogsPlayBack}
 use Rattle.spec_protocol.proofs.Moves.Granted.{get-set_same}
 use Rattle.spec_protocol.proofs.Moves.Elsewhere.{at-away}
 use Rattle.spec_protocol.proofs.Logs.Lookups.{short_at}

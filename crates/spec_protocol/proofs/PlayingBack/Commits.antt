@@ -12,7 +12,7 @@ use Rattle.spec_play.specs.Effects.{Effect}
 use Rattle.spec_play.specs.Progress.{Progress, with_effect, Used, position}
 use Rattle.spec_play.specs.Verdicts.{Goes, interrupt_at, with_interrupted}
 use Rattle.spec_play.specs.Plays.{Played, settled, play_thread, play_now, play_one}
-use Rattle.spec_protocol.specs.Spheres.{Sphere}
+use Rattle.spec_protocol.specs.machine.Spheres.{Sphere}
 use Rattle.spec_protocol.proofs.Moves.Granted.{get-set_other, get-set_same, get-append}
 use Rattle.spec_protocol.proofs.Logs.Growing.{Stands, Ahead, ThreadCommit, HasCommitted, has_committed-parts, get_cases, new_is, grows_of, set_none, SizesAhead, Behind}
 use Rattle.spec_protocol.proofs.PlayingBack.Verdicts.{size-says}

@@ -22,7 +22,7 @@ use Rattle.spec_play.specs.Turns.{Turn, turn_of, turn_of_thread, next_actor, at_
 use Rattle.spec_play.specs.Verdicts.{Goes, Fails, interrupt_at, with_interrupted, ended}
 use Rattle.spec_log.specs.Noting.{order_with}
 use Rattle.spec_play.specs.Plays.{Played, thread_verdict}
-use Rattle.spec_protocol.specs.Spheres.{Sphere}
+use Rattle.spec_protocol.specs.machine.Spheres.{Sphere}
 use Rattle.spec_protocol.proofs.Moves.Threads.{IsNew, LookAlike}
 use Rattle.spec_protocol.proofs.Logs.Lookups.{get-behind}
 use Rattle.spec_protocol.proofs.Logs.Growing.{OrderStands, Behind, ThreadCommit}

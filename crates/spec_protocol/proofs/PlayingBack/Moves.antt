@@ -24,12 +24,12 @@ use Rattle.spec_play.specs.Progress.{position}
 use Rattle.spec_play.specs.Recording.{noted, interrupt_noted}
 use Rattle.spec_play.specs.Plays.{Played, plays}
 use Rattle.spec_engine.specs.declared.answers.How.{How}
-use Rattle.spec_protocol.specs.Spheres.{other_than, turn_in, turn_against, Recording, Role, Record, Sphere, recording_turn, head_in, head_of, limit_in, limit_of, is_in_pieces}
-use Rattle.spec_protocol.specs.Commits.{MovedSphere, is_piece, chunk_in, serial_noted, serial_in, dma_log, raised, dma_as}
-use Rattle.spec_protocol.specs.World.{Numbers}
-use Rattle.spec_protocol.specs.Asking.{is_short}
-use Rattle.spec_protocol.specs.Serial.{laid}
-use Rattle.spec_protocol.specs.Moves.{ChunkFits, SerialFits}
+use Rattle.spec_protocol.specs.machine.Spheres.{other_than, turn_in, turn_against, Recording, Role, Record, Sphere, recording_turn, head_in, head_of, limit_in, limit_of, is_in_pieces}
+use Rattle.spec_protocol.specs.machine.Commits.{MovedSphere, is_piece, chunk_in, serial_noted, serial_in, dma_log, raised, dma_as}
+use Rattle.spec_protocol.specs.machine.World.{Numbers}
+use Rattle.spec_protocol.specs.machine.Asking.{is_short}
+use Rattle.spec_protocol.specs.machine.Serial.{laid}
+use Rattle.spec_protocol.specs.machine.Moves.{ChunkFits, SerialFits}
 use Rattle.spec_protocol.proofs.Moves.Threads.{run-keeps, serve-keeps}
 use Rattle.spec_protocol.proofs.Moves.Answering.{dma-most}
 use Rattle.spec_protocol.proofs.Logs.Growing.{Stands, Ahead, ThreadCommit, commit_of, HasCommitted, has_committed-parts, has_committed-stands}

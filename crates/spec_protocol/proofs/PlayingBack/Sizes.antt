@@ -13,7 +13,7 @@ use Rattle.spec_play.specs.Effects.{chunk_effect}
 use Rattle.spec_play.specs.Progress.{Progress, Used}
 use Rattle.spec_play.specs.Verdicts.{Fails, unless, ended, chunk_why, chunk_verdict, serial_verdict}
 use Rattle.spec_play.specs.Plays.{Played, size_or_standard, thread_verdict}
-use Rattle.spec_protocol.specs.Spheres.{whole_limit}
+use Rattle.spec_protocol.specs.machine.Spheres.{whole_limit}
 
 -- ---- a chunk
 

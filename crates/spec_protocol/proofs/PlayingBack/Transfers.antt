@@ -25,7 +25,7 @@ use Rattle.spec_log.specs.Noting.{order_with}
 use Rattle.spec_play.specs.Recording.{noted, dma_noted}
 use Rattle.spec_play.specs.Transfers.{DmaGoes, DmaFails, is_for, transferred, dma_unless, dma_verdict}
 use Rattle.spec_play.specs.Plays.{Played, dma_settled, play_now, play_one}
-use Rattle.spec_protocol.specs.Spheres.{Sphere}
+use Rattle.spec_protocol.specs.machine.Spheres.{Sphere}
 use Rattle.spec_protocol.proofs.Logs.Inserting.{with_size}
 use Rattle.spec_protocol.proofs.Moves.Granted.{get-set_other, get-set_same}
 use Rattle.spec_protocol.proofs.Logs.Lookups.{get-behind, a_dma, interrupt-other, interrupt-same, length-raised}

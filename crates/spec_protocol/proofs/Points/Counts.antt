@@ -8,13 +8,13 @@ use Rattle.spec_engine.specs.Signatures.{Signature}
 use Rattle.spec_engine.specs.Flights.{Flight, at, drain, retire}
 use Rattle.spec_engine.specs.Chunks.{step, cut}
 use Rattle.spec_protocol.specs.declared.event.Event.{Event}
-use Rattle.spec_protocol.specs.Commits.{CommitOutcome, Granted, Piece, Diverged, MovedSphere, is_piece, chunk_moved, serial_moved}
-use Rattle.spec_protocol.specs.World.{Occupant, World, After, moment, sphere_at, with_sphere, with_slot, core_of}
-use Rattle.spec_protocol.specs.Stepping.{reply_of_step, reply_of_cut}
-use Rattle.spec_protocol.specs.Asking.{CommitRequest, chunk_request, granted, grant_chunk, grant_serial}
-use Rattle.spec_protocol.specs.Flying.{drain_slot, told, delivering, retiring, reply_of_drain, reply_of_retire}
-use Rattle.spec_protocol.specs.Placing.{with_renewed, raise_in}
-use Rattle.spec_protocol.specs.Machine.{act, name_of, with_point, happens}
+use Rattle.spec_protocol.specs.machine.Commits.{CommitOutcome, Granted, Piece, Diverged, MovedSphere, is_piece, chunk_moved, serial_moved}
+use Rattle.spec_protocol.specs.machine.World.{Occupant, World, After, moment, sphere_at, with_sphere, with_slot, core_of}
+use Rattle.spec_protocol.specs.machine.Stepping.{reply_of_step, reply_of_cut}
+use Rattle.spec_protocol.specs.machine.Asking.{CommitRequest, chunk_request, granted, grant_chunk, grant_serial}
+use Rattle.spec_protocol.specs.machine.Flying.{drain_slot, told, delivering, retiring, reply_of_drain, reply_of_retire}
+use Rattle.spec_protocol.specs.machine.Placing.{with_renewed, raise_in}
+use Rattle.spec_protocol.specs.machine.Machine.{act, name_of, with_point, happens}
 use Rattle.spec_protocol.proofs.Moves.AnyEvent.{any-event}
 use Rattle.dl_entry.specs.declared.Counts.{Counts}
 use Rattle.dl_entry.specs.Counts.{counted}
@@ -22,7 +22,7 @@ use Rattle.spec_engine.specs.declared.answers.Stepped.{Stepped}
 use Rattle.spec_engine.specs.declared.answers.CutReply.{CutReply}
 use Rattle.spec_engine.specs.declared.answers.Drain.{Drain}
 use Rattle.spec_engine.specs.declared.answers.Retire.{Retire}
-use Rattle.spec_protocol.specs.Replying.{makes_point, IsAt, PointsAreMade}
+use Rattle.spec_protocol.specs.promises.Replying.{makes_point, IsAt, PointsAreMade}
 
 pub record Untold (w : World) (a : After) : Type 0 where
   pub points : a.world.points ≡ w.points

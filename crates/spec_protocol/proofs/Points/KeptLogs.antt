@@ -22,10 +22,10 @@ use Rattle.spec_kernel.specs.Serving.{serve}
 use Rattle.spec_play.specs.Effects.{chunk_effect, serial_effect, dma_commit}
 use Rattle.spec_play.specs.Progress.{position}
 use Rattle.spec_play.specs.Recording.{noted, interrupt_noted}
-use Rattle.spec_protocol.specs.Spheres.{Recording, Record, Sphere}
-use Rattle.spec_protocol.specs.Commits.{MovedSphere, chunk_in, serial_noted, dma_log, role_raised, raised}
-use Rattle.spec_protocol.specs.Serial.{SerialState, laid}
-use Rattle.spec_protocol.specs.Logged.{Supplied, actors_of, is_short_chunk, logged}
+use Rattle.spec_protocol.specs.machine.Spheres.{Recording, Record, Sphere}
+use Rattle.spec_protocol.specs.machine.Commits.{MovedSphere, chunk_in, serial_noted, dma_log, role_raised, raised}
+use Rattle.spec_protocol.specs.machine.Serial.{SerialState, laid}
+use Rattle.spec_protocol.specs.machine.Logged.{Supplied, actors_of, is_short_chunk, logged}
 use Rattle.spec_protocol.proofs.Moves.Granted.{get-set_other, get-set_same}
 use Rattle.spec_protocol.proofs.Logs.Lookups.{count_of}
 use Rattle.spec_protocol.proofs.Logs.Growing.{commits_in, commits_if, ThreadCommit, commit_of, HasCommitted, has_committed-stands, Grows, grows_of, Stands, counts-stand}

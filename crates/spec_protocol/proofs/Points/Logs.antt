@@ -7,17 +7,17 @@ use Rattle.spec_isa.specs.Threads.{started}
 use Rattle.spec_log.specs.declared.ModeName.{ModeName}
 use Rattle.spec_log.specs.declared.LogParts.{LogParts}
 use Rattle.spec_play.specs.Recording.{new_log}
-use Rattle.spec_protocol.specs.Spheres.{Record, Sphere}
-use Rattle.spec_protocol.specs.Placing.{replays}
-use Rattle.spec_protocol.specs.World.{World, sphere_at}
+use Rattle.spec_protocol.specs.machine.Spheres.{Record, Sphere}
+use Rattle.spec_protocol.specs.machine.Placing.{replays}
+use Rattle.spec_protocol.specs.machine.World.{World, sphere_at}
 use Rattle.spec_protocol.specs.declared.event.Event.{Event}
-use Rattle.spec_protocol.specs.Machine.{first_threads, RecordSetup, IsRecorded, SphereSetup, Setup, role_of, sphere_of}
-use Rattle.spec_protocol.specs.Serial.{serial_start, do_points}
-use Rattle.spec_protocol.specs.Shown.{shown, shown_of}
-use Rattle.spec_protocol.specs.Logged.{supplied, logged}
-use Rattle.spec_protocol.specs.Promises.{IsSetup, after}
-use Rattle.spec_protocol.specs.LogsOfPoints.{LogsAreOfPoints}
-use Rattle.spec_protocol.specs.Logs.{LogsAreFresh}
+use Rattle.spec_protocol.specs.machine.Machine.{first_threads, RecordSetup, IsRecorded, SphereSetup, Setup, role_of, sphere_of}
+use Rattle.spec_protocol.specs.machine.Serial.{serial_start, do_points}
+use Rattle.spec_protocol.specs.machine.Shown.{shown, shown_of}
+use Rattle.spec_protocol.specs.machine.Logged.{supplied, logged}
+use Rattle.spec_protocol.specs.promises.Promises.{IsSetup, after}
+use Rattle.spec_protocol.specs.promises.LogsOfPoints.{LogsAreOfPoints}
+use Rattle.spec_protocol.specs.promises.Logs.{LogsAreFresh}
 use Rattle.spec_protocol.proofs.Invariants.Preserved.{shown-get}
 use Rattle.spec_protocol.proofs.Logs.Growing.{commits_in, commits_if, Stands}
 use Rattle.spec_protocol.proofs.PlayingBack.All.{start-stands}

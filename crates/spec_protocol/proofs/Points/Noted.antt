@@ -16,7 +16,7 @@ use Rattle.spec_play.specs.Effects.{dma_commit}
 use Rattle.spec_log.specs.Noting.{order_with}
 use Rattle.spec_play.specs.Verdicts.{interrupt_at}
 use Rattle.spec_play.specs.Recording.{noted, input_noted, dma_noted, interrupt_noted}
-use Rattle.spec_protocol.specs.Logged.{Supplied, actors_of, is_short_chunk, shorts_of, interrupts_of, listed, inputs_of, data_at, dmas_of, order_in, sizes_in, all_shorts, all_interrupts, logged}
+use Rattle.spec_protocol.specs.machine.Logged.{Supplied, actors_of, is_short_chunk, shorts_of, interrupts_of, listed, inputs_of, data_at, dmas_of, order_in, sizes_in, all_shorts, all_interrupts, logged}
 use Rattle.spec_protocol.proofs.Logs.Inserting.{with_size}
 use Rattle.spec_protocol.proofs.Logs.Lookups.{none-there}
 use Rattle.spec_protocol.proofs.Logs.Growing.{ThreadCommit}

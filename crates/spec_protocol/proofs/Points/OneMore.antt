@@ -10,7 +10,7 @@ use Rattle.spec_log.specs.declared.Interrupt.{Interrupt}
 use Rattle.spec_log.specs.declared.DmaRecord.{DmaRecord}
 use Rattle.spec_log.specs.declared.ShortSize.{ShortSize}
 use Rattle.spec_log.specs.Size.{is_thread}
-use Rattle.spec_protocol.specs.Logged.{Supplied, actors_of, sizes_of, is_short_chunk, shorts_of, interrupts_of, data_at, dmas_of, threads}
+use Rattle.spec_protocol.specs.machine.Logged.{Supplied, actors_of, sizes_of, is_short_chunk, shorts_of, interrupts_of, data_at, dmas_of, threads}
 use Rattle.spec_protocol.proofs.Logs.Lookups.{count_of}
 use Rattle.spec_protocol.proofs.Logs.Entries.{Are}
 

@@ -16,7 +16,7 @@ use Rattle.spec_kernel.specs.Needs.{Need, Write, Read, Random, Clock, MomentWord
 use Rattle.spec_kernel.specs.Answers.{refused, Answered, went, write_answer, answer_write, answer_read, answer_random, answer_input, answer, taken}
 use Rattle.spec_kernel.specs.Calls.{Called, called}
 use Rattle.spec_kernel.specs.Serving.{output_of, outside_called, inside_called, is_outside, device_loaded, device_stored, serve_kind, serve, bytes_out, store_written, console_written}
-use Rattle.spec_protocol.specs.ConsoleBytes.{on_console}
+use Rattle.spec_protocol.specs.promises.ConsoleBytes.{on_console}
 
 -- the console after the devices' answer has what the outputs say
 abbrev Tells : Devices → Devices → List Output → Type 0

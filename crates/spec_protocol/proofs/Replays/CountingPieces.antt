@@ -5,17 +5,17 @@ use Rattle.spec_isa.specs.declared.thread.Parts.{Parts}
 use Rattle.spec_isa.specs.Runs.{Run, run}
 use Rattle.spec_kernel.specs.Devices.{Devices}
 use Rattle.spec_engine.specs.declared.answers.How.{How}
-use Rattle.spec_protocol.specs.Spheres.{Cursor, Replay, Sphere}
-use Rattle.spec_protocol.specs.Placing.{replays}
-use Rattle.spec_protocol.specs.Commits.{MovedSphere, is_piece, chunk_in, chunk_moved}
-use Rattle.spec_protocol.specs.World.{Numbers, World, OfChunk, Move, sphere_at}
-use Rattle.spec_protocol.specs.Asking.{is_short}
-use Rattle.spec_protocol.specs.Machine.{happens}
-use Rattle.spec_protocol.specs.Serial.{SerialState, laid}
-use Rattle.spec_protocol.specs.Shown.{shown, shown_of}
-use Rattle.spec_protocol.specs.Moves.{move_chunk, do_what, do_at, do_move, do_if, FitsChunk, FitsWhat, FitsAt, Fits, FitsIf}
-use Rattle.spec_protocol.specs.Promises.{after}
-use Rattle.spec_protocol.specs.Pieces.{CountsNothing, PiecesCountNothing}
+use Rattle.spec_protocol.specs.machine.Spheres.{Cursor, Replay, Sphere}
+use Rattle.spec_protocol.specs.machine.Placing.{replays}
+use Rattle.spec_protocol.specs.machine.Commits.{MovedSphere, is_piece, chunk_in, chunk_moved}
+use Rattle.spec_protocol.specs.machine.World.{Numbers, World, OfChunk, Move, sphere_at}
+use Rattle.spec_protocol.specs.machine.Asking.{is_short}
+use Rattle.spec_protocol.specs.machine.Machine.{happens}
+use Rattle.spec_protocol.specs.machine.Serial.{SerialState, laid}
+use Rattle.spec_protocol.specs.machine.Shown.{shown, shown_of}
+use Rattle.spec_protocol.specs.machine.Moves.{move_chunk, do_what, do_at, do_move, do_if, FitsChunk, FitsWhat, FitsAt, Fits, FitsIf}
+use Rattle.spec_protocol.specs.promises.Promises.{after}
+use Rattle.spec_protocol.specs.promises.Pieces.{CountsNothing, PiecesCountNothing}
 use Rattle.spec_protocol.proofs.Moves.Granted.{get-set_same}
 use Rattle.spec_protocol.proofs.Invariants.Preserved.{shown-get}
 use Rattle.spec_protocol.proofs.Invariants.Schedules.{happens-preserved, invariants_hold}

@@ -14,8 +14,8 @@ use Rattle.spec_log.specs.Size.{is_thread}
 use Rattle.spec_kernel.specs.Interrupts.{is_live}
 use Rattle.spec_play.specs.Progress.{Progress, position, Used}
 use Rattle.spec_play.specs.Turns.{Now, Turn, Ended, has_left_over, at_end, turn_of_thread, turn_of, next_actor, now_at}
-use Rattle.spec_protocol.specs.Spheres.{actor_of}
-use Rattle.spec_protocol.specs.Sound.{commits_if, commits_among, IsDoneInOrder, IsNamed}
+use Rattle.spec_protocol.specs.machine.Spheres.{actor_of}
+use Rattle.spec_protocol.specs.promises.Sound.{commits_if, commits_among, IsDoneInOrder, IsNamed}
 use Rattle.spec_protocol.proofs.Moves.Threads.{AreNew}
 use Rattle.spec_protocol.proofs.Logs.Growing.{commits-other, commits-same}
 use Rattle.spec_protocol.proofs.Invariants.Cores.{branch}

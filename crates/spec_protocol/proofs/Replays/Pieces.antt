@@ -14,17 +14,17 @@ use Rattle.spec_play.specs.Turns.{Now, Turn, TurnOfDma, Ended}
 use Rattle.spec_play.specs.Verdicts.{LogVerdict, Goes, Fails, chunk_verdict, serial_verdict}
 use Rattle.spec_play.specs.Transfers.{DmaVerdict, DmaGoes, DmaFails, dma_verdict}
 use Rattle.spec_engine.specs.declared.answers.How.{How}
-use Rattle.spec_protocol.specs.Spheres.{other_than, turn_in, turn_against, Cursor, Role, Plain, Record, Replay, Sphere, is_over, is_stopped, actor_of, head_in, head_of, is_in_pieces, no_sphere}
-use Rattle.spec_protocol.specs.Commits.{MovedSphere, is_piece, joined, by_verdict, replayed_chunk, chunk_in, chunk_moved, serial_in, serial_moved, live_dma, dma_by_verdict, dma_log, dma_in, dma_moved, role_raised, raised}
-use Rattle.spec_protocol.specs.World.{Numbers, World, What, OfChunk, OfSerial, OfDma, OfRaise, Move, sphere_at}
-use Rattle.spec_protocol.specs.Asking.{is_short}
-use Rattle.spec_protocol.specs.Placing.{replays}
-use Rattle.spec_protocol.specs.Machine.{first_threads, RoleSetup, IsPlain, IsRecorded, IsReplayed, SphereSetup, role_of, sphere_of, moves, world_of}
-use Rattle.spec_protocol.specs.Serial.{SerialState, serial_start, laid, do_serial, do_dma, do_raise}
-use Rattle.spec_protocol.specs.Shown.{shown, shown_of}
-use Rattle.spec_protocol.specs.Moves.{move_chunk, do_what, do_at, do_move, do_moves, FitsChunk, FitsSerial, FitsRaise, FitsWhat, FitsAt, Fits, FitsIf, FitAll}
-use Rattle.spec_protocol.specs.Promises.{after}
-use Rattle.spec_protocol.specs.Pieces.{IsChunkOf, PiecesStayTogether, StoppedSpheresStay}
+use Rattle.spec_protocol.specs.machine.Spheres.{other_than, turn_in, turn_against, Cursor, Role, Plain, Record, Replay, Sphere, is_over, is_stopped, actor_of, head_in, head_of, is_in_pieces, no_sphere}
+use Rattle.spec_protocol.specs.machine.Commits.{MovedSphere, is_piece, joined, by_verdict, replayed_chunk, chunk_in, chunk_moved, serial_in, serial_moved, live_dma, dma_by_verdict, dma_log, dma_in, dma_moved, role_raised, raised}
+use Rattle.spec_protocol.specs.machine.World.{Numbers, World, What, OfChunk, OfSerial, OfDma, OfRaise, Move, sphere_at}
+use Rattle.spec_protocol.specs.machine.Asking.{is_short}
+use Rattle.spec_protocol.specs.machine.Placing.{replays}
+use Rattle.spec_protocol.specs.machine.Machine.{first_threads, RoleSetup, IsPlain, IsRecorded, IsReplayed, SphereSetup, role_of, sphere_of, moves, world_of}
+use Rattle.spec_protocol.specs.machine.Serial.{SerialState, serial_start, laid, do_serial, do_dma, do_raise}
+use Rattle.spec_protocol.specs.machine.Shown.{shown, shown_of}
+use Rattle.spec_protocol.specs.machine.Moves.{move_chunk, do_what, do_at, do_move, do_moves, FitsChunk, FitsSerial, FitsRaise, FitsWhat, FitsAt, Fits, FitsIf, FitAll}
+use Rattle.spec_protocol.specs.promises.Promises.{after}
+use Rattle.spec_protocol.specs.promises.Pieces.{IsChunkOf, PiecesStayTogether, StoppedSpheresStay}
 use Rattle.spec_protocol.proofs.Moves.Granted.{get-set_other, get-set_same, turn-is}
 use Rattle.spec_protocol.proofs.Invariants.Preserved.{shown-get}
 use Rattle.spec_protocol.proofs.Invariants.Schedules.{happens-preserved, moves_are, invariants_hold}

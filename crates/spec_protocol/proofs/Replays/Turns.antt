@@ -11,9 +11,9 @@ use Rattle.spec_log.specs.Log.{IsLog}
 use Rattle.spec_kernel.specs.Interrupts.{is_live}
 use Rattle.spec_play.specs.Progress.{Progress, position, Used}
 use Rattle.spec_play.specs.Turns.{Now, Turn, TurnOfDma, Ended, has_left_over, at_end, turn_of_thread, turn_of, next_actor, now_at}
-use Rattle.spec_protocol.specs.Spheres.{is_over}
-use Rattle.spec_protocol.specs.Commits.{turned}
-use Rattle.spec_protocol.specs.Sound.{IsDoneInOrder, due, IsSoundCursor}
+use Rattle.spec_protocol.specs.machine.Spheres.{is_over}
+use Rattle.spec_protocol.specs.machine.Commits.{turned}
+use Rattle.spec_protocol.specs.promises.Sound.{IsDoneInOrder, due, IsSoundCursor}
 use Rattle.spec_protocol.proofs.Invariants.Cores.{branch}
 use Rattle.spec_protocol.proofs.Sound.Limits.{whole-positive}
 use Rattle.spec_protocol.proofs.Replays.Order.{now-named}

@@ -8,7 +8,7 @@ use Rattle.spec_isa.specs.declared.thread.Parts.{Parts}
 use Rattle.spec_log.specs.declared.Interrupt.{Interrupt}
 use Rattle.spec_log.specs.Log.{ComesBefore}
 use Rattle.spec_play.specs.Verdicts.{interrupt_at}
-use Rattle.spec_protocol.specs.Sound.{commits_if, is_due, is_due_in, due}
+use Rattle.spec_protocol.specs.promises.Sound.{commits_if, is_due, is_due_in, due}
 use Rattle.spec_protocol.proofs.Logs.Inserting.{both_tests}
 use Rattle.spec_protocol.proofs.Moves.Threads.{AreNew}
 use Rattle.spec_protocol.proofs.Logs.Growing.{commits-other, commits-same}

@@ -15,10 +15,10 @@ use Rattle.spec_play.specs.Progress.{position, with_effect, Used, with_interrupt
 use Rattle.spec_play.specs.Turns.{Turn, Ended}
 use Rattle.spec_play.specs.Plays.{with_threads}
 use Rattle.spec_play.specs.Verdicts.{LogVerdict, Goes, Fails, unless, interrupt_at, with_interrupted, ended}
-use Rattle.spec_protocol.specs.Spheres.{Cursor, Role, Replay, Sphere, is_over, actor_of}
-use Rattle.spec_protocol.specs.Commits.{diverged, by_verdict}
-use Rattle.spec_protocol.specs.Machine.{SphereSetup}
-use Rattle.spec_protocol.specs.Sound.{IsDoneInOrder, due, IsSoundCursor, IsSoundRole, IsSoundSphere, HaveByteInput}
+use Rattle.spec_protocol.specs.machine.Spheres.{Cursor, Role, Replay, Sphere, is_over, actor_of}
+use Rattle.spec_protocol.specs.machine.Commits.{diverged, by_verdict}
+use Rattle.spec_protocol.specs.machine.Machine.{SphereSetup}
+use Rattle.spec_protocol.specs.promises.Sound.{IsDoneInOrder, due, IsSoundCursor, IsSoundRole, IsSoundSphere, HaveByteInput}
 use Rattle.spec_protocol.proofs.Invariants.Cores.{branch}
 use Rattle.spec_protocol.proofs.Sound.Words.{sound-none}
 use Rattle.spec_protocol.proofs.Replays.Order.{done-commit}

@@ -18,16 +18,16 @@ use Rattle.spec_engine.specs.Signatures.{Signature, nothing, signed}
 use Rattle.spec_engine.specs.Flights.{Flight, at, free_slot, fill_at, meets_chunk, told_at, drain_words, tell, Delivered, deliver, is_done, Retired, retire}
 use Rattle.spec_engine.specs.Chunks.{fresh, step, cut, squash}
 use Rattle.spec_protocol.specs.declared.event.Event.{Event}
-use Rattle.spec_protocol.specs.Spheres.{turn_against, Sphere, no_sphere, is_stopped, head_of, limit_of, halves}
-use Rattle.spec_protocol.specs.Commits.{CommitOutcome, Granted, Piece, Diverged, MovedSphere, is_piece, chunk_moved, serial_moved, raised}
-use Rattle.spec_protocol.specs.World.{Numbers, Occupant, World, After, moment, sphere_at, with_sphere, with_memory, with_core, with_slot, thread_afresh, held_afresh, core_of, flown, answered}
-use Rattle.spec_protocol.specs.Stepping.{stepped, cut_to}
-use Rattle.spec_protocol.specs.Flying.{reply_of_drain, reads_of, writes_of, squashed, told, delivering, retiring}
-use Rattle.spec_protocol.specs.Asking.{CommitRequest, goes_on_with, granted, is_short, chunk_request, grant_chunk, serial_request, grant_serial}
-use Rattle.spec_protocol.specs.Transferring.{dma_done}
-use Rattle.spec_protocol.specs.Placing.{with_renewed, raise_in}
-use Rattle.spec_protocol.specs.Machine.{act}
-use Rattle.spec_protocol.specs.Invariants.{IsGood}
+use Rattle.spec_protocol.specs.machine.Spheres.{turn_against, Sphere, no_sphere, is_stopped, head_of, limit_of, halves}
+use Rattle.spec_protocol.specs.machine.Commits.{CommitOutcome, Granted, Piece, Diverged, MovedSphere, is_piece, chunk_moved, serial_moved, raised}
+use Rattle.spec_protocol.specs.machine.World.{Numbers, Occupant, World, After, moment, sphere_at, with_sphere, with_memory, with_core, with_slot, thread_afresh, held_afresh, core_of, flown, answered}
+use Rattle.spec_protocol.specs.machine.Stepping.{stepped, cut_to}
+use Rattle.spec_protocol.specs.machine.Flying.{reply_of_drain, reads_of, writes_of, squashed, told, delivering, retiring}
+use Rattle.spec_protocol.specs.machine.Asking.{CommitRequest, goes_on_with, granted, is_short, chunk_request, grant_chunk, serial_request, grant_serial}
+use Rattle.spec_protocol.specs.machine.Transferring.{dma_done}
+use Rattle.spec_protocol.specs.machine.Placing.{with_renewed, raise_in}
+use Rattle.spec_protocol.specs.machine.Machine.{act}
+use Rattle.spec_protocol.specs.promises.Invariants.{IsGood}
 use Rattle.spec_protocol.proofs.Invariants.Preserved.{sphere-same, sphere-other}
 pub use Rattle.spec_protocol.proofs.Moves.AnyEvent.{Raises, Transfers}
 use Rattle.spec_protocol.proofs.Moves.AnyEvent.{MayAsk, any-event}

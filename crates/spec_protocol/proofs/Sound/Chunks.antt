@@ -18,8 +18,8 @@ use Rattle.spec_engine.specs.Signatures.{Signature, insert, line}
 use Rattle.spec_engine.specs.Flights.{Flight, first_slot, bounces}
 use Rattle.spec_engine.specs.Chunks.{Chunk, Stepping, Cutting, fresh, closes, marked, ran, at_limit, has_room, reading, storing, loading, running, step, cut_open, cut, squash, is_fourth, halved, next_squashes}
 use Rattle.spec_engine.proofs.Choosing.{keep_option, keep_choose}
-use Rattle.spec_protocol.specs.Invariants.{Closes}
-use Rattle.spec_protocol.specs.Sound.{AreSoundWords, IsSoundChunk}
+use Rattle.spec_protocol.specs.promises.Invariants.{Closes}
+use Rattle.spec_protocol.specs.promises.Sound.{AreSoundWords, IsSoundChunk}
 use Rattle.spec_protocol.proofs.Moves.Threads.{next-kept}
 use Rattle.spec_protocol.proofs.Invariants.Cores.{branch}
 use Rattle.spec_protocol.proofs.Sound.Words.{IsSoundWord, sound-none, sound-put, store-sound, held-length, put-length}

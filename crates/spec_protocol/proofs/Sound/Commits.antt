@@ -17,10 +17,10 @@ use Rattle.spec_play.specs.Effects.{Effect, chunk_effect, serial_effect}
 use Rattle.spec_play.specs.Progress.{Progress, position, with_effect}
 use Rattle.spec_play.specs.Plays.{with_threads}
 use Rattle.spec_play.specs.Recording.{noted}
-use Rattle.spec_protocol.specs.Spheres.{Role, Sphere}
-use Rattle.spec_protocol.specs.Commits.{MovedSphere, granted_as}
-use Rattle.spec_protocol.specs.Machine.{SphereSetup}
-use Rattle.spec_protocol.specs.Sound.{AreSoundWords, IsSoundIf, IsSoundLog, IsSoundRole, IsSoundThread, IsSoundSphere, HaveByteInput}
+use Rattle.spec_protocol.specs.machine.Spheres.{Role, Sphere}
+use Rattle.spec_protocol.specs.machine.Commits.{MovedSphere, granted_as}
+use Rattle.spec_protocol.specs.machine.Machine.{SphereSetup}
+use Rattle.spec_protocol.specs.promises.Sound.{AreSoundWords, IsSoundIf, IsSoundLog, IsSoundRole, IsSoundThread, IsSoundSphere, HaveByteInput}
 use Rattle.spec_protocol.proofs.Moves.Threads.{AreNew, serve-keeps}
 use Rattle.spec_protocol.proofs.Logs.Growing.{get_cases, pushed_length}
 use Rattle.spec_protocol.proofs.Moves.Spawning.{serve-few}

@@ -17,8 +17,8 @@ use Rattle.spec_kernel.specs.Needs.{Need, Write, Read, Random, Clock, MomentWord
 use Rattle.spec_kernel.specs.Answers.{went, write_answer, answer_write, read_answer, answer_read, answer_random, first_byte, Answered, answer, Taken, taken, dma_bytes, dma_taken, refused, nothing_now}
 use Rattle.spec_kernel.specs.Serving.{store_written, console_written}
 use Rattle.dl_entry.specs.declared.Output.{Output}
-use Rattle.spec_protocol.specs.Notable.{IsInputIf}
-use Rattle.spec_protocol.specs.Sound.{AreBytes, HaveByteInput}
+use Rattle.spec_protocol.specs.promises.Notable.{IsInputIf}
+use Rattle.spec_protocol.specs.promises.Sound.{AreBytes, HaveByteInput}
 use Rattle.spec_protocol.proofs.Invariants.Cores.{branch}
 use Rattle.spec_protocol.proofs.Sound.Threads.{Brings, BringsIf}
 

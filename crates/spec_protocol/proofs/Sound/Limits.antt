@@ -11,8 +11,8 @@ use Rattle.spec_log.specs.declared.Sizes.{Sizes}
 use Rattle.spec_log.specs.declared.LogParts.{LogParts}
 use Rattle.spec_log.specs.Log.{IsSizes, IsShortSize, IsLog}
 use Rattle.spec_log.specs.Size.{is_thread, sizes_of_thread, thread_size, size_in}
-use Rattle.spec_protocol.specs.Spheres.{Role, Plain, Record, Replay, whole_limit, limit_of}
-use Rattle.spec_protocol.specs.Sound.{IsSoundRole}
+use Rattle.spec_protocol.specs.machine.Spheres.{Role, Plain, Record, Replay, whole_limit, limit_of}
+use Rattle.spec_protocol.specs.promises.Sound.{IsSoundRole}
 use Rattle.spec_protocol.proofs.Invariants.Cores.{branch}
 
 -- ---- lists

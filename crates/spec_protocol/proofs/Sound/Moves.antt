@@ -24,10 +24,10 @@ use Rattle.spec_play.specs.Turns.{Turn}
 use Rattle.spec_play.specs.Plays.{with_threads}
 use Rattle.spec_play.specs.Recording.{noted, input_noted}
 use Rattle.spec_play.specs.Verdicts.{ended, chunk_why, chunk_verdict, Given, given, serial_why, served_verdict, serial_verdict}
-use Rattle.spec_protocol.specs.Spheres.{Cursor, Role, Plain, Record, Replay, Sphere, whole_limit}
-use Rattle.spec_protocol.specs.Commits.{joined, piece_moved, replayed_chunk, chunk_in, chunk_moved, served_as, serial_noted, serial_in, serial_moved}
-use Rattle.spec_protocol.specs.Machine.{SphereSetup}
-use Rattle.spec_protocol.specs.Sound.{IsDoneInOrder, AreSoundWords, IsSoundIf, HasThread, IsSoundCursor, IsSoundLog, IsSoundRole, IsSoundThread, IsSoundSphere, HaveByteInput}
+use Rattle.spec_protocol.specs.machine.Spheres.{Cursor, Role, Plain, Record, Replay, Sphere, whole_limit}
+use Rattle.spec_protocol.specs.machine.Commits.{joined, piece_moved, replayed_chunk, chunk_in, chunk_moved, served_as, serial_noted, serial_in, serial_moved}
+use Rattle.spec_protocol.specs.machine.Machine.{SphereSetup}
+use Rattle.spec_protocol.specs.promises.Sound.{IsDoneInOrder, AreSoundWords, IsSoundIf, HasThread, IsSoundCursor, IsSoundLog, IsSoundRole, IsSoundThread, IsSoundSphere, HaveByteInput}
 use Rattle.spec_protocol.proofs.Moves.Granted.{get-set_same}
 use Rattle.spec_protocol.proofs.Invariants.Cores.{branch}
 use Rattle.spec_protocol.proofs.Sound.Threads.{Brings, BringsIf}

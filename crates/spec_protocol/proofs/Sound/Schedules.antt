@@ -20,15 +20,15 @@ use Rattle.spec_engine.specs.declared.answers.How.{How}
 use Rattle.spec_engine.specs.Flights.{Flight, at}
 use Rattle.spec_engine.specs.Chunks.{Chunk, step, cut}
 use Rattle.spec_protocol.specs.declared.event.Event.{Event}
-use Rattle.spec_protocol.specs.Spheres.{turn_in, turn_against, Cursor, Role, Replay, Sphere, no_sphere, is_over, is_stopped, head_of, head_in, whole_limit, pieces_of, limit_of, halves}
-use Rattle.spec_protocol.specs.Commits.{MovedSphere, is_piece, chunk_moved, serial_moved}
-use Rattle.spec_protocol.specs.Asking.{is_short}
-use Rattle.spec_protocol.specs.World.{Numbers, Occupant, World, After, moment, sphere_at}
-use Rattle.spec_protocol.specs.Placing.{replays}
-use Rattle.spec_protocol.specs.Machine.{RoleSetup, IsPlain, IsRecorded, IsReplayed, SphereSetup, Setup, role_of, sphere_of, world_of, act, name_of, with_event, happens, world_after}
-use Rattle.spec_protocol.specs.Invariants.{IsGood}
-use Rattle.spec_protocol.specs.Promises.{IsSetup, AreSizesKept}
-use Rattle.spec_protocol.specs.Sound.{IsRole, IsImage, IsWithinLimits, AreSoundWords, no_image, image_at, size_of, IsSoundCursor, IsSoundRole, IsSoundThread, IsSoundSphere, IsSoundChunk, HaveByteInput, IsSound, WorldsAreSound, EventsKeepSound}
+use Rattle.spec_protocol.specs.machine.Spheres.{turn_in, turn_against, Cursor, Role, Replay, Sphere, no_sphere, is_over, is_stopped, head_of, head_in, whole_limit, pieces_of, limit_of, halves}
+use Rattle.spec_protocol.specs.machine.Commits.{MovedSphere, is_piece, chunk_moved, serial_moved}
+use Rattle.spec_protocol.specs.machine.Asking.{is_short}
+use Rattle.spec_protocol.specs.machine.World.{Numbers, Occupant, World, After, moment, sphere_at}
+use Rattle.spec_protocol.specs.machine.Placing.{replays}
+use Rattle.spec_protocol.specs.machine.Machine.{RoleSetup, IsPlain, IsRecorded, IsReplayed, SphereSetup, Setup, role_of, sphere_of, world_of, act, name_of, with_event, happens, world_after}
+use Rattle.spec_protocol.specs.promises.Invariants.{IsGood}
+use Rattle.spec_protocol.specs.promises.Promises.{IsSetup, AreSizesKept}
+use Rattle.spec_protocol.specs.promises.Sound.{IsRole, IsImage, IsWithinLimits, AreSoundWords, no_image, image_at, size_of, IsSoundCursor, IsSoundRole, IsSoundThread, IsSoundSphere, IsSoundChunk, HaveByteInput, IsSound, WorldsAreSound, EventsKeepSound}
 use Rattle.spec_protocol.proofs.Invariants.Preserved.{SameSizes}
 use Rattle.spec_protocol.proofs.Moves.Granted.{turn-is}
 use Rattle.spec_protocol.proofs.Moves.Transfers.{dma-turn_is}

@@ -17,7 +17,7 @@ use Rattle.spec_kernel.specs.Answers.{refused, bad_buffer}
 use Rattle.spec_kernel.specs.Interrupts.{interrupted}
 use Rattle.spec_kernel.specs.Calls.{Called, with_result, gives, exit, spawned, spawn, set_handler, returned, iret, is_dma_buffer, request_dma, called}
 use Rattle.spec_kernel.specs.Serving.{StepResult, alone, copy_of, outside_called, inside_called, is_outside, device_loaded, device_stored, faulted, serve_kind, serve}
-use Rattle.spec_protocol.specs.Sound.{AreSoundWords, IsSoundRequest, IsSoundIf}
+use Rattle.spec_protocol.specs.promises.Sound.{AreSoundWords, IsSoundRequest, IsSoundIf}
 use Rattle.spec_protocol.proofs.Moves.Threads.{any-call}
 use Rattle.spec_protocol.proofs.Moves.Granted.{either_serve}
 use Rattle.spec_protocol.proofs.Invariants.Cores.{branch}

@@ -17,7 +17,7 @@ use Rattle.spec_isa.specs.Arithmetic.{amo_result}
 use Rattle.spec_isa.proofs.BufferLaws.{merged_number}
 use Rattle.spec_kernel.specs.Copies.{bytes_put, copied, dma_words}
 use Rattle.spec_engine.specs.Flights.{AreInside}
-use Rattle.spec_protocol.specs.Sound.{IsByte, HasBytes, HaveBytes, AreSoundWords, IsSoundRequest}
+use Rattle.spec_protocol.specs.promises.Sound.{IsByte, HasBytes, HaveBytes, AreSoundWords, IsSoundRequest}
 use Rattle.spec_protocol.proofs.Invariants.Cores.{branch}
 
 -- ---- put

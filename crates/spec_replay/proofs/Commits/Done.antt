@@ -16,9 +16,9 @@ use Rattle.spec_play.specs.Turns.{Now, Turn, TurnOfDma, Ended, now_at}
 use Rattle.spec_play.specs.Verdicts.{LogVerdict, Goes, Fails}
 use Rattle.spec_play.specs.Transfers.{DmaVerdict, DmaGoes, DmaFails, dma_verdict}
 use Rattle.spec_play.specs.Plays.{Played, with_threads, settled, thread_verdict, play_thread, dma_settled, play_now, play_one, plays}
-use Rattle.spec_protocol.specs.Spheres.{Cursor, Replay, Sphere}
-use Rattle.spec_protocol.specs.Commits.{turned, diverged, by_verdict, dma_by_verdict}
-use Rattle.spec_protocol.specs.Serial.{laid}
+use Rattle.spec_protocol.specs.machine.Spheres.{Cursor, Replay, Sphere}
+use Rattle.spec_protocol.specs.machine.Commits.{turned, diverged, by_verdict, dma_by_verdict}
+use Rattle.spec_protocol.specs.machine.Serial.{laid}
 use Rattle.spec_replay.specs.Following.{IsWhole, IsMovedOn, StandsAt, Follows}
 use Rattle.spec_replay.proofs.Commits.Standing.{set_twice, whole-stands}
 use Rattle.spec_replay.proofs.Commits.Judging.{AlikeEffects, AreAlike}

@@ -10,10 +10,10 @@ use Rattle.spec_log.specs.declared.LogParts.{LogParts}
 use Rattle.spec_kernel.specs.Devices.{Devices}
 use Rattle.spec_play.specs.Turns.{Now, Turn}
 use Rattle.spec_play.specs.Plays.{Played}
-use Rattle.spec_protocol.specs.Spheres.{Cursor, Role, Sphere, whole_limit, pieces_of, limit_in, limit_of}
-use Rattle.spec_protocol.specs.Commits.{piece_moved}
-use Rattle.spec_protocol.specs.World.{Numbers}
-use Rattle.spec_protocol.specs.Serial.{laid}
+use Rattle.spec_protocol.specs.machine.Spheres.{Cursor, Role, Sphere, whole_limit, pieces_of, limit_in, limit_of}
+use Rattle.spec_protocol.specs.machine.Commits.{piece_moved}
+use Rattle.spec_protocol.specs.machine.World.{Numbers}
+use Rattle.spec_protocol.specs.machine.Serial.{laid}
 use Rattle.spec_protocol.proofs.Moves.Granted.{get-set_same}
 use Rattle.spec_protocol.proofs.Moves.Threads.{run-keeps}
 use Rattle.spec_replay.specs.Following.{IsMovedOn, StandsAt, Follows}

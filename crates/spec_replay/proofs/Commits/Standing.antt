@@ -5,7 +5,7 @@ use Rattle.spec_log.specs.declared.LogParts.{LogParts}
 use Rattle.spec_play.specs.Turns.{Now, Turn, TurnOfDma, Ended, now_at}
 use Rattle.spec_play.specs.Plays.{Played}
 use Rattle.spec_play.proofs.Going.{Lives, turn-lives}
-use Rattle.spec_protocol.specs.Spheres.{Cursor, Sphere}
+use Rattle.spec_protocol.specs.machine.Spheres.{Cursor, Sphere}
 use Rattle.spec_protocol.proofs.PlayingBack.Sizes.{limit-some}
 use Rattle.spec_replay.specs.Following.{IsWhole, StandsAt}
 

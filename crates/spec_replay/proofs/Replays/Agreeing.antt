@@ -8,12 +8,12 @@ use Rattle.spec_log.specs.declared.LogParts.{LogParts}
 use Rattle.spec_play.specs.Progress.{position}
 use Rattle.spec_play.specs.Turns.{Now, Turn, TurnOfDma, Ended}
 use Rattle.spec_play.specs.Plays.{Played, opened, plays}
-use Rattle.spec_protocol.specs.Spheres.{Cursor, Sphere, is_over}
+use Rattle.spec_protocol.specs.machine.Spheres.{Cursor, Sphere, is_over}
 use Rattle.spec_replay.specs.Following.{IsWhole, IsMovedOn, StandsAt}
 use Rattle.spec_replay.specs.Promises.{SameState, ends_between, Agree, ReplaysAgree}
 use Rattle.spec_replay.proofs.Replays.Stopping.{IsLast, IsAt, is_at, Reached, last_of, meet, end_between, whole_now}
 use Rattle.spec_replay.proofs.Replays.All.{replays_follow}
-use Rattle.spec_protocol.specs.Machine.{first_played}
+use Rattle.spec_protocol.specs.machine.Machine.{first_played}
 
 -- ---- states
 

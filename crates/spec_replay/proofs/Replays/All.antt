@@ -6,12 +6,12 @@ use Rattle.spec_isa.specs.Threads.{started}
 use Rattle.spec_log.specs.declared.LogParts.{LogParts}
 use Rattle.spec_play.specs.Progress.{no_progress, nothing_used}
 use Rattle.spec_play.specs.Plays.{Played, opened}
-use Rattle.spec_protocol.specs.Spheres.{Cursor, Sphere}
-use Rattle.spec_protocol.specs.Commits.{turned}
-use Rattle.spec_protocol.specs.World.{Numbers, Move}
-use Rattle.spec_protocol.specs.Machine.{first_threads, first_played, ReplaySetup, IsReplayed, SphereSetup, role_of, sphere_of, moves, world_of}
-use Rattle.spec_protocol.specs.Serial.{SerialState, serial_start}
-use Rattle.spec_protocol.specs.Moves.{do_what, do_at, do_move, do_moves, FitsAt, Fits, FitAll}
+use Rattle.spec_protocol.specs.machine.Spheres.{Cursor, Sphere}
+use Rattle.spec_protocol.specs.machine.Commits.{turned}
+use Rattle.spec_protocol.specs.machine.World.{Numbers, Move}
+use Rattle.spec_protocol.specs.machine.Machine.{first_threads, first_played, ReplaySetup, IsReplayed, SphereSetup, role_of, sphere_of, moves, world_of}
+use Rattle.spec_protocol.specs.machine.Serial.{SerialState, serial_start}
+use Rattle.spec_protocol.specs.machine.Moves.{do_what, do_at, do_move, do_moves, FitsAt, Fits, FitAll}
 use Rattle.spec_protocol.proofs.Moves.Elsewhere.{at-away}
 use Rattle.spec_protocol.proofs.Invariants.Schedules.{start-sphere, moves_are}
 use Rattle.spec_replay.specs.Promises.{ReplaysArePlays}

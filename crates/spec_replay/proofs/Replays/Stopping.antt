@@ -8,12 +8,12 @@ use Rattle.spec_play.specs.Progress.{position}
 use Rattle.spec_play.specs.Turns.{Now, Turn, TurnOfDma, Ended}
 use Rattle.spec_play.specs.Plays.{Played, opened, play_one, plays, play}
 use Rattle.spec_play.proofs.Going.{over-stays, plays-stay, play-over}
-use Rattle.spec_protocol.specs.Spheres.{Cursor, Replay, Sphere, is_over}
+use Rattle.spec_protocol.specs.machine.Spheres.{Cursor, Replay, Sphere, is_over}
 use Rattle.spec_replay.specs.Following.{IsWhole, StandsAt, EndsWithin, Follows}
 use Rattle.spec_replay.specs.Promises.{ends_between, StoppedArePlayed}
 use Rattle.spec_replay.proofs.Replays.Ending.{ends-between}
 use Rattle.spec_replay.proofs.Replays.All.{replays_follow}
-use Rattle.spec_protocol.specs.Machine.{last_played, first_played}
+use Rattle.spec_protocol.specs.machine.Machine.{last_played, first_played}
 
 -- ---- the last state of a play, told by a replay that has stopped
 

@@ -5,7 +5,7 @@ use Rattle.dl_plan.specs.Values.{plan_view}
 use Rattle.dl_run.specs.Ran.{IsOver}
 use Rattle.dl_run.specs.Schedules.{events_in}
 use Rattle.spec_protocol.specs.declared.event.Event.{Event}
-use Rattle.spec_protocol.specs.Machine.{Setup}
+use Rattle.spec_protocol.specs.machine.Machine.{Setup}
 use Rattle.dl_commands.specs.Jobs.{IsRunOf}
 use Rattle.dl_commands.proofs.running.run.Goals as goal
 

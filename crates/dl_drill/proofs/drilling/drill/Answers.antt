@@ -3,8 +3,8 @@ use Rattle.std.proofs.lemmas.Result.{IfOk-weaker}
 use Rattle.dl_run.specs.Ran.{IsOver}
 use Rattle.spec_protocol.specs.declared.event.Event.{Event}
 use Rattle.spec_log.specs.declared.ModeName.{ModeName}
-use Rattle.spec_protocol.specs.Machine.{Setup}
-use Rattle.spec_protocol.specs.Sound.{image_at}
+use Rattle.spec_protocol.specs.machine.Machine.{Setup}
+use Rattle.spec_protocol.specs.promises.Sound.{image_at}
 use Rattle.spec_run.specs.Texts.{log_of_points, summary_text}
 use Rattle.spec_program.specs.Drills.{drill_text, recording_events}
 use Rattle.spec_program.specs.Lines.{line}

@@ -2,7 +2,7 @@ use Rattle.std.proofs.Common.{◌∙◌, List, [], ◌∷◌, ◌++◌, length, 
 use Rattle.dl_elf.specs.Images.{Image}
 use Rattle.dl_sphere.specs.declared.setup.SphereSetup.{SphereSetup}
 use Rattle.dl_sphere.specs.Setups.{role_setup, setup_of}
-use Rattle.spec_protocol.specs.Machine as protocol
+use Rattle.spec_protocol.specs.machine.Machine as protocol
 use Rattle.dl_drill.proofs.setup.one_sphere.Goals as goal
 
 pub returns-clause-value : goal.returns-clause-value

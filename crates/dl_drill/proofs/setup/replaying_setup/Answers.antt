@@ -1,6 +1,6 @@
 use Rattle.std.proofs.Common.{◌∙◌, [], ◌∷◌, ap, refl, rules, arith}
 use Rattle.spec_log.specs.declared.LogParts.{LogParts}
-use Rattle.spec_protocol.specs.Machine.{IsReplayed}
+use Rattle.spec_protocol.specs.machine.Machine.{IsReplayed}
 use Rattle.spec_program.specs.Drills.{drill_sphere}
 use Rattle.dl_drill.proofs.setup.replaying_setup.Goals as goal
 

@@ -1,8 +1,8 @@
 use Rattle.std.proofs.Common.{◌≡◌, Bool, true, false, refl, ◌+◌, subst, sym, ap, ◌∙◌, arith, List}
 use Rattle.std.proofs.lemmas.Result.{err_from_is_err_and}
 use Rattle.spec_protocol.specs.declared.event.Event.{Event}
-use Rattle.spec_protocol.specs.Machine.{Setup}
-use Rattle.spec_protocol.specs.World.{World}
+use Rattle.spec_protocol.specs.machine.Machine.{Setup}
+use Rattle.spec_protocol.specs.machine.World.{World}
 use Rattle.dl_machine.specs.Events.{wants_memory}
 use Rattle.dl_machine.specs.Runs.{IsRun}
 use Rattle.dl_finish.specs.Runs.{HasBegun}

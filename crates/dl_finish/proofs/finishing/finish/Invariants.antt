@@ -1,7 +1,7 @@
 use Rattle.std.proofs.Common.{◌≡◌, ◌≤◌, ◌-◌, ◌^◌, ℕ, Some}
 use Rattle.spec_protocol.specs.declared.event.Event.{Event}
 use Rattle.spec_protocol.specs.declared.reply.Reply.{Reply}
-use Rattle.spec_protocol.specs.Finishing.{next}
+use Rattle.spec_protocol.specs.machine.Finishing.{next}
 use Rattle.dl_finish.proofs.Going.{Going}
 use Rattle.dl_finish.proofs.finishing.finish.Given as goal
 

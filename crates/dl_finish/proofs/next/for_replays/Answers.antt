@@ -1,7 +1,7 @@
 use Rattle.std.proofs.Common.{arith, ◌≡◌, ℕ, ◌<◌, None, length, sym, ap, ◌∙◌}
-use Rattle.spec_protocol.specs.Spheres.{Sphere}
-use Rattle.spec_protocol.specs.World.{sphere_at}
-use Rattle.spec_protocol.specs.Finishing.{for_who}
+use Rattle.spec_protocol.specs.machine.Spheres.{Sphere}
+use Rattle.spec_protocol.specs.machine.World.{sphere_at}
+use Rattle.spec_protocol.specs.machine.Finishing.{for_who}
 use Rattle.dl_finish.specs.Turns.{turn_in}
 use Rattle.dl_finish.proofs.Searching.{least_is, least_is_none}
 use Rattle.dl_finish.proofs.next.for_replays.Goals as goal

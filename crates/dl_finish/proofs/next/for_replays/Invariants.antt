@@ -1,5 +1,5 @@
 use Rattle.std.proofs.Common.{◌≡◌, ℕ, ◌<◌, None}
-use Rattle.spec_protocol.specs.World.{sphere_at}
+use Rattle.spec_protocol.specs.machine.World.{sphere_at}
 use Rattle.dl_finish.specs.Turns.{turn_in}
 use Rattle.dl_finish.proofs.next.for_replays.Given as goal
 

@@ -1,5 +1,5 @@
 use Rattle.std.proofs.Common.{◌≡◌, ◌-◌}
-use Rattle.spec_protocol.specs.Finishing.{untold}
+use Rattle.spec_protocol.specs.machine.Finishing.{untold}
 use Rattle.dl_finish.proofs.next.untold.Given as goal
 
 abbrev pub invariant-loop-core : goal.invariant-loop-core

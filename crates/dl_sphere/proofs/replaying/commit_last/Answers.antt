@@ -2,8 +2,8 @@ use Rattle.std.proofs.Common.{◌≡◌, ◌+◌, sym, ap}
 use Rattle.dl_entry.specs.declared.Commit.{Commit}
 use Rattle.spec_isa.specs.Runs.{Run}
 use Rattle.spec_play.specs.Effects.{chunk_commit}
-use Rattle.spec_protocol.specs.Commits.{joined}
-use Rattle.spec_protocol.specs.Spheres.{Cursor}
+use Rattle.spec_protocol.specs.machine.Commits.{joined}
+use Rattle.spec_protocol.specs.machine.Spheres.{Cursor}
 use Rattle.dl_replay.specs.Replaying.{cursor_of}
 use Rattle.dl_sphere.proofs.replaying.commit_last.Goals as goal
 

@@ -3,7 +3,7 @@ use Rattle.std.specs.Prelude.{IsSome}
 use Rattle.std.proofs.lemmas.Grind.{common_steps}
 use Rattle.dl_machine.specs.Cores.{Core, to_chunk}
 use Rattle.spec_engine.specs.Chunks.{cut}
-use Rattle.spec_protocol.specs.World.{Occupant}
+use Rattle.spec_protocol.specs.machine.World.{Occupant}
 use Rattle.dl_machine.proofs.Rows.Cores.{core_at, cores_set, row_left}
 use Rattle.dl_machine.proofs.cores.Cores.cut.Goals as goal
 

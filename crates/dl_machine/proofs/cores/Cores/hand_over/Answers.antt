@@ -2,7 +2,7 @@ use Rattle.std.proofs.Common.{◌<◌, length, arith, None, Option, sym, ap, ◌
 use Rattle.std.proofs.lemmas.Grind.{common_steps}
 use Rattle.dl_machine.specs.Cores.{Core, writes_in}
 use Rattle.spec_engine.specs.Signatures.{nothing}
-use Rattle.spec_protocol.specs.World.{Occupant}
+use Rattle.spec_protocol.specs.machine.World.{Occupant}
 use Rattle.dl_machine.proofs.Rows.Cores.{core_at, cores_set, row_left}
 use Rattle.dl_machine.proofs.cores.Cores.hand_over.Goals as goal
 

@@ -2,8 +2,8 @@ use Rattle.std.proofs.Common.{◌∷◌, ◌++◌, [], List, Option, map, refl, 
 use Rattle.std.proofs.lemmas.Grind.{common_steps}
 use Rattle.std.proofs.lemmas.List.{map-append}
 use Rattle.std.proofs.lemmas.List.Elements.{All-push}
-use Rattle.spec_protocol.specs.World.{Occupant}
-use Rattle.spec_protocol.specs.Machine.{first_cores}
+use Rattle.spec_protocol.specs.machine.World.{Occupant}
+use Rattle.spec_protocol.specs.machine.Machine.{first_cores}
 use Rattle.dl_machine.specs.Cores.{Core}
 use Rattle.dl_machine.specs.Rows.{IsAlike, held_by}
 use Rattle.dl_machine.specs.Setups.{numbers_with}

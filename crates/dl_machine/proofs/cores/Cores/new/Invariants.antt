@@ -1,5 +1,5 @@
 use Rattle.std.proofs.Common.{◌≡◌, ◌≤◌, All, map, vec_len, vec_capacity}
-use Rattle.spec_protocol.specs.Machine.{first_cores}
+use Rattle.spec_protocol.specs.machine.Machine.{first_cores}
 use Rattle.dl_machine.specs.Setups.{numbers_with}
 use Rattle.dl_machine.specs.Rows.{IsAlike, held_by}
 use Rattle.dl_machine.proofs.cores.Cores.new.Given as goal

@@ -1,7 +1,7 @@
 use Rattle.std.proofs.Common.{◌<◌, length, arith, None, Option}
 use Rattle.std.proofs.lemmas.Grind.{common_steps}
 use Rattle.dl_machine.specs.Cores.{Core}
-use Rattle.spec_protocol.specs.World.{Occupant}
+use Rattle.spec_protocol.specs.machine.World.{Occupant}
 use Rattle.dl_machine.proofs.Rows.Cores.{cores_set, row_left}
 use Rattle.dl_machine.proofs.cores.Cores.rest.Goals as goal
 

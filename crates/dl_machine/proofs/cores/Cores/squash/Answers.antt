@@ -1,8 +1,8 @@
 use Rattle.std.proofs.Common.{◌<◌, length, arith, Option}
 use Rattle.std.proofs.lemmas.Grind.{common_steps}
 use Rattle.dl_machine.specs.Cores.{Core}
-use Rattle.spec_protocol.specs.Flying.{squashed}
-use Rattle.spec_protocol.specs.World.{Occupant}
+use Rattle.spec_protocol.specs.machine.Flying.{squashed}
+use Rattle.spec_protocol.specs.machine.World.{Occupant}
 use Rattle.dl_machine.proofs.Rows.Cores.{cores_set, row_left}
 use Rattle.dl_machine.proofs.cores.Cores.squash.Goals as goal
 

@@ -2,7 +2,7 @@ use Rattle.std.proofs.Common.{◌<◌, length, arith, option_map, Option, sym, a
 use Rattle.std.proofs.lemmas.Grind.{common_steps}
 use Rattle.dl_machine.specs.Cores.{Core, IsOpen, to_chunk}
 use Rattle.spec_engine.specs.Chunks.{step}
-use Rattle.spec_protocol.specs.World.{Occupant}
+use Rattle.spec_protocol.specs.machine.World.{Occupant}
 use Rattle.dl_machine.proofs.Rows.Cores.{core_at, cores_set, row_left}
 use Rattle.dl_machine.proofs.cores.Cores.step.Goals as goal
 

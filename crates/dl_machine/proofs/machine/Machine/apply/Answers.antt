@@ -1,8 +1,8 @@
 use Rattle.std.proofs.Common.{◌≡◌, ◌≤◌, sym, ◌∙◌, ap, subst}
 use Rattle.std.specs.Prelude.{slice_index}
 use Rattle.dl_entry.specs.declared.Counts.{Counts}
-use Rattle.spec_protocol.specs.World.{World}
-use Rattle.spec_protocol.specs.Machine.{happens}
+use Rattle.spec_protocol.specs.machine.World.{World}
+use Rattle.spec_protocol.specs.machine.Machine.{happens}
 use Rattle.dl_machine.proofs.Worlds.Events.{act_counts, happens_reply, replies_few, world_left}
 use Rattle.dl_machine.proofs.Worlds.Promised.{led_on, run_more, run_ready}
 use Rattle.dl_machine.proofs.machine.Machine.apply.Goals as goal

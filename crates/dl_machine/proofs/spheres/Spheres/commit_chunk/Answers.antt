@@ -2,9 +2,9 @@ use Rattle.std.proofs.Common.{◌≡◌, ◌^◌, ◌<◌, length, IfOk, Some, s
 use Rattle.std.proofs.lemmas.Grind.{common_steps}
 use Rattle.spec_kernel.specs.Devices.{Devices}
 use Rattle.spec_engine.specs.declared.answers.How.{How}
-use Rattle.spec_protocol.specs.Asking.{is_short}
-use Rattle.spec_protocol.specs.Commits.{chunk_moved, is_piece}
-use Rattle.spec_protocol.specs.Spheres.{Sphere}
+use Rattle.spec_protocol.specs.machine.Asking.{is_short}
+use Rattle.spec_protocol.specs.machine.Commits.{chunk_moved, is_piece}
+use Rattle.spec_protocol.specs.machine.Spheres.{Sphere}
 use Rattle.dl_sphere.specs.declared.moved.Moved.{Moved}
 use Rattle.dl_sphere.specs.SizedSpheres.{SizedSphere}
 use Rattle.dl_sphere.specs.Moving.{CanCommit, came}

@@ -2,12 +2,12 @@ use Rattle.std.proofs.Common.{rules, ◌≡◌, ◌+◌, zero, suc, All, List, [
 use Rattle.std.proofs.lemmas.List.{map-append, take_more}
 use Rattle.std.proofs.lemmas.Grind.{common_steps}
 use Rattle.std.proofs.lemmas.Simd.{map-map}
-use Rattle.spec_protocol.specs.Spheres.{Sphere}
-use Rattle.spec_protocol.specs.Machine.{sphere_of}
+use Rattle.spec_protocol.specs.machine.Spheres.{Sphere}
+use Rattle.spec_protocol.specs.machine.Machine.{sphere_of}
 use Rattle.dl_sphere.specs.Setups.{setup_of}
 use Rattle.dl_sphere.specs.SizedSpheres.{SizedSphere}
 use Rattle.dl_sphere.specs.declared.setup.SphereSetup.{SphereSetup}
-use Rattle.spec_protocol.specs.Sound.{IsImage}
+use Rattle.spec_protocol.specs.promises.Sound.{IsImage}
 use Rattle.dl_machine.specs.Rows.{IsOfStandard, sphere_in}
 use Rattle.dl_machine.proofs.spheres.Spheres.new.Goals as goal
 

@@ -1,6 +1,6 @@
 use Rattle.std.proofs.Common.{◌≡◌, ◌≤◌, All, length, map, take, vec_len, vec_capacity}
-use Rattle.spec_protocol.specs.Machine.{sphere_of}
-use Rattle.spec_protocol.specs.Sound.{IsImage}
+use Rattle.spec_protocol.specs.machine.Machine.{sphere_of}
+use Rattle.spec_protocol.specs.promises.Sound.{IsImage}
 use Rattle.dl_sphere.specs.Setups.{setup_of}
 use Rattle.dl_machine.specs.Rows.{IsOfStandard, sphere_in}
 use Rattle.dl_machine.proofs.spheres.Spheres.new.Given as goal

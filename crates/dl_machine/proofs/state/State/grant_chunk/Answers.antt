@@ -5,10 +5,10 @@ use Rattle.dl_entry.specs.declared.CommitKind.{CommitKind}
 use Rattle.dl_entry.specs.declared.Point.{Point}
 use Rattle.spec_engine.specs.Flights.{at}
 use Rattle.spec_protocol.specs.declared.reply.Reply.{Reply}
-use Rattle.spec_protocol.specs.Spheres.{turn_against, Sphere, head_of, is_stopped}
-use Rattle.spec_protocol.specs.Commits.{MovedSphere}
-use Rattle.spec_protocol.specs.World.{After, World, sphere_at}
-use Rattle.spec_protocol.specs.Asking.{asks_serial, grant_chunk, is_short}
+use Rattle.spec_protocol.specs.machine.Spheres.{turn_against, Sphere, head_of, is_stopped}
+use Rattle.spec_protocol.specs.machine.Commits.{MovedSphere}
+use Rattle.spec_protocol.specs.machine.World.{After, World, sphere_at}
+use Rattle.spec_protocol.specs.machine.Asking.{asks_serial, grant_chunk, is_short}
 use Rattle.dl_sphere.specs.declared.moved.Moved.{Moved}
 use Rattle.dl_sphere.specs.declared.moved.Moved.TheVariants as moved_as
 use Rattle.dl_sphere.specs.Moving.{came}

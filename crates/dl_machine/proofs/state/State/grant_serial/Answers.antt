@@ -8,10 +8,10 @@ use Rattle.spec_kernel.specs.Devices.{Devices}
 use Rattle.spec_engine.specs.Flights.{at}
 use Rattle.spec_engine.specs.Signatures.{Signature, nothing, signed}
 use Rattle.spec_protocol.specs.declared.reply.Reply.{Reply}
-use Rattle.spec_protocol.specs.Spheres.{turn_against, Sphere, head_of, is_stopped}
-use Rattle.spec_protocol.specs.Commits.{MovedSphere, serial_moved}
-use Rattle.spec_protocol.specs.World.{After, World, moment, sphere_at}
-use Rattle.spec_protocol.specs.Asking.{grant_serial}
+use Rattle.spec_protocol.specs.machine.Spheres.{turn_against, Sphere, head_of, is_stopped}
+use Rattle.spec_protocol.specs.machine.Commits.{MovedSphere, serial_moved}
+use Rattle.spec_protocol.specs.machine.World.{After, World, moment, sphere_at}
+use Rattle.spec_protocol.specs.machine.Asking.{grant_serial}
 use Rattle.dl_sphere.specs.declared.moved.Moved.{Moved}
 use Rattle.dl_sphere.specs.declared.moved.Moved.TheVariants as moved_as
 use Rattle.dl_sphere.specs.Moving.{came}

@@ -1,6 +1,6 @@
 use Rattle.std.proofs.Common.{◌∙◌, ap, sym, arith}
 use Rattle.spec_play.specs.Progress.{position}
-use Rattle.spec_protocol.specs.Spheres.{Sphere}
+use Rattle.spec_protocol.specs.machine.Spheres.{Sphere}
 use Rattle.dl_run.proofs.Over.{few_commits}
 use Rattle.dl_run.proofs.run.Run.commits.Goals as goal
 

@@ -1,6 +1,6 @@
 use Rattle.std.proofs.Common.{◌∙◌, ap, sym, refl}
 use Rattle.dl_entry.specs.declared.SphereLine.{SphereLine}
-use Rattle.spec_protocol.specs.Machine.{IsPlain, IsRecorded}
+use Rattle.spec_protocol.specs.machine.Machine.{IsPlain, IsRecorded}
 use Rattle.dl_sphere.specs.Setups.{role_setup}
 use Rattle.dl_run.proofs.Over.{line-plain, line-recorded, line-replayed, not-replayed}
 use Rattle.dl_run.proofs.run.Run.line.Goals as goal

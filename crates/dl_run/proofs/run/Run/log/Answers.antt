@@ -2,7 +2,7 @@ use Rattle.std.proofs.Common.{◌∙◌, ap, sym, inl, inr}
 use Rattle.dl_sphere.specs.Setups.{role_setup}
 use Rattle.dl_run.proofs.Over.{log-is, no-log}
 use Rattle.dl_run.proofs.run.Run.log.Goals as goal
-use Rattle.spec_protocol.specs.Machine.{RecordSetup}
+use Rattle.spec_protocol.specs.machine.Machine.{RecordSetup}
 
 pub returns-in-Plain : goal.returns-in-Plain
 returns-in-Plain c es over =

@@ -3,9 +3,9 @@ use Rattle.std.specs.Prelude.{IsSome, Some}
 use Rattle.std.proofs.lemmas.Result.{IfOk-weaker}
 use Rattle.spec_log.specs.declared.ModeName.{ModeName}
 use Rattle.spec_protocol.specs.declared.event.Event.{Event}
-use Rattle.spec_protocol.specs.Machine.{RecordSetup, IsRecorded}
-use Rattle.spec_protocol.specs.Sound.{image_at}
-use Rattle.spec_protocol.specs.Spheres.{Role, Sphere}
+use Rattle.spec_protocol.specs.machine.Machine.{RecordSetup, IsRecorded}
+use Rattle.spec_protocol.specs.promises.Sound.{image_at}
+use Rattle.spec_protocol.specs.machine.Spheres.{Role, Sphere}
 use Rattle.spec_run.specs.Texts.{log_of_points}
 use Rattle.dl_sphere.specs.Reading.{log_in}
 use Rattle.dl_run.specs.Ran.{IsOver}

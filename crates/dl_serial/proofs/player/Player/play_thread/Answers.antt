@@ -4,7 +4,7 @@ use Rattle.spec_isa.specs.Runs.{Run, run}
 use Rattle.spec_play.specs.Plays.{settled}
 use Rattle.spec_play.specs.Verdicts.{chunk_verdict, serial_verdict}
 use Rattle.spec_play.specs.Turns.{Turn}
-use Rattle.spec_protocol.specs.Spheres.{whole_limit}
+use Rattle.spec_protocol.specs.machine.Spheres.{whole_limit}
 use Rattle.spec_protocol.proofs.Moves.Threads.{run-keeps}
 use Rattle.spec_protocol.proofs.Sound.Limits.{whole-positive, whole-most}
 use Rattle.dl_replay.specs.Replaying.{cursor_of}

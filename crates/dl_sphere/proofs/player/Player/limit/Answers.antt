@@ -1,6 +1,6 @@
 use Rattle.std.proofs.Common.{◌≡◌, sym, ap, subst, ◌∙◌}
 use Rattle.std.specs.Prelude.{slice_index}
-use Rattle.spec_protocol.specs.Spheres.{Replay, limit_in}
+use Rattle.spec_protocol.specs.machine.Spheres.{Replay, limit_in}
 use Rattle.dl_replay.specs.Replaying.{Replaying, cursor_of}
 use Rattle.dl_sphere.specs.Played.{replaying_of}
 use Rattle.dl_sphere.proofs.player.Player.limit.Goals as goal

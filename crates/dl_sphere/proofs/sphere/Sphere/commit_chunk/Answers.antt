@@ -7,9 +7,9 @@ use Rattle.spec_log.specs.Log.{IsLog}
 use Rattle.spec_play.specs.Effects.{Effect, chunk_commit, counted}
 use Rattle.spec_play.specs.Progress.{position, Used}
 use Rattle.spec_play.specs.Verdicts.{Goes, chunk_verdict}
-use Rattle.spec_protocol.specs.Asking.{is_short}
-use Rattle.spec_protocol.specs.Commits.{Diverged, Granted, is_piece, joined, chunk_moved}
-use Rattle.spec_protocol.specs.Spheres.{Cursor, Replay, Sphere}
+use Rattle.spec_protocol.specs.machine.Asking.{is_short}
+use Rattle.spec_protocol.specs.machine.Commits.{Diverged, Granted, is_piece, joined, chunk_moved}
+use Rattle.spec_protocol.specs.machine.Spheres.{Cursor, Replay, Sphere}
 use Rattle.dl_replay.specs.Replaying.{Replaying, commits_of, cursor_of}
 use Rattle.dl_replay.proofs.PutBack.{same_commits}
 use Rattle.dl_sphere.specs.declared.part.Part.{Part}

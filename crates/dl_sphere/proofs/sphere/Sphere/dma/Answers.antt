@@ -5,8 +5,8 @@ use Rattle.dl_entry.specs.declared.Request.{Request}
 use Rattle.spec_kernel.specs.Answers.{dma_bytes}
 use Rattle.spec_play.specs.Effects.{dma_commit}
 use Rattle.spec_play.specs.Transfers.{dma_verdict}
-use Rattle.spec_protocol.specs.Commits.{Diverged, Granted, MovedSphere, dma_moved}
-use Rattle.spec_protocol.specs.Spheres.{Replay, Sphere}
+use Rattle.spec_protocol.specs.machine.Commits.{Diverged, Granted, MovedSphere, dma_moved}
+use Rattle.spec_protocol.specs.machine.Spheres.{Replay, Sphere}
 use Rattle.spec_protocol.proofs.Logs.Growing.{pushed_length}
 use Rattle.dl_replay.specs.Replaying.{cursor_of}
 use Rattle.dl_sphere.specs.declared.part.Part.{Part}

@@ -1,6 +1,6 @@
 use Rattle.std.proofs.Common.{◌^◌, length, sym, subst}
 use Rattle.std.specs.Prelude.{IfSome}
-use Rattle.spec_protocol.specs.Sound.{IsSoundRequest}
+use Rattle.spec_protocol.specs.promises.Sound.{IsSoundRequest}
 use Rattle.dl_sphere.specs.SizedSpheres.{SizedSphere}
 use Rattle.dl_sphere.proofs.Replays.Limits.{sound-within}
 use Rattle.dl_sphere.proofs.sphere.Sphere.dma_words.Goals as goal

@@ -1,6 +1,6 @@
 use Rattle.std.proofs.Common.{◌≡◌, ◌≤◌, ◌∙◌, Some, sym, ap, subst}
 use Rattle.std.specs.Prelude.{slice_get, slice_index}
-use Rattle.spec_protocol.specs.Spheres.{limit_of}
+use Rattle.spec_protocol.specs.machine.Spheres.{limit_of}
 use Rattle.dl_replay.specs.Replaying.{cursor_of}
 use Rattle.dl_sphere.specs.declared.part.Part.{Part}
 use Rattle.dl_sphere.specs.Roles.{role_in}

@@ -2,9 +2,9 @@ use Rattle.std.proofs.Common.{◌≡◌, ◌∙◌, Some, sym, ap, subst, refl, 
 use Rattle.std.specs.Prelude.{slice_get}
 use Rattle.spec_isa.specs.declared.thread.Parts.{Parts}
 use Rattle.spec_kernel.specs.Interrupts.{interrupted}
-use Rattle.spec_protocol.specs.Spheres.{Sphere, Role}
-use Rattle.spec_protocol.specs.Commits.{raised, role_raised}
-use Rattle.spec_protocol.specs.Placing.{replays}
+use Rattle.spec_protocol.specs.machine.Spheres.{Sphere, Role}
+use Rattle.spec_protocol.specs.machine.Commits.{raised, role_raised}
+use Rattle.spec_protocol.specs.machine.Placing.{replays}
 use Rattle.dl_sphere.specs.Roles.{keeping_of, role_in, role_of, with_raised, CanRaise, IsLive, IsSphere}
 use Rattle.dl_sphere.specs.Inside.{sphere_in, sphere_with}
 use Rattle.dl_sphere.specs.SizedSpheres.{SizedSphere}

@@ -12,11 +12,11 @@ use Rattle.spec_kernel.specs.Serving.{serve}
 use Rattle.spec_play.specs.Effects.{Effect, counted, serial_commit}
 use Rattle.spec_play.specs.Progress.{position, Used}
 use Rattle.spec_play.specs.Verdicts.{Goes, serial_verdict}
-use Rattle.spec_protocol.specs.Spheres.{Replay, Sphere, Role}
+use Rattle.spec_protocol.specs.machine.Spheres.{Replay, Sphere, Role}
 use Rattle.dl_replay.specs.Replaying.{cursor_of}
 use Rattle.dl_sphere.specs.declared.part.Part.{Part}
 use Rattle.dl_sphere.specs.Replayed.{before}
-use Rattle.spec_protocol.specs.Commits.{Diverged, Granted, MovedSphere, serial_moved}
+use Rattle.spec_protocol.specs.machine.Commits.{Diverged, Granted, MovedSphere, serial_moved}
 use Rattle.spec_protocol.proofs.Logs.Growing.{commits_if, pushed_length}
 use Rattle.spec_protocol.proofs.Moves.Threads.{serve-keeps}
 use Rattle.dl_kernel.specs.Calls.{spawned_list}

@@ -3,12 +3,12 @@ use Rattle.std.specs.Prelude.{◌≡◌, ℕ, List}
 use Rattle.spec_log.specs.declared.ModeName.{ModeName}
 use Rattle.spec_log.specs.declared.LogParts.{LogParts}
 use Rattle.spec_protocol.specs.declared.event.Event.{Event}
-use Rattle.spec_protocol.specs.Spheres.{Recording, Record}
-use Rattle.spec_protocol.specs.World.{sphere_at}
-use Rattle.spec_protocol.specs.Machine.{RecordSetup, SphereSetup, Setup}
-use Rattle.spec_protocol.specs.Serial.{serial_start}
-use Rattle.spec_protocol.specs.Logged.{supplied, logged}
-use Rattle.spec_protocol.specs.Promises.{WillRecord, after}
+use Rattle.spec_protocol.specs.machine.Spheres.{Recording, Record}
+use Rattle.spec_protocol.specs.machine.World.{sphere_at}
+use Rattle.spec_protocol.specs.machine.Machine.{RecordSetup, SphereSetup, Setup}
+use Rattle.spec_protocol.specs.machine.Serial.{serial_start}
+use Rattle.spec_protocol.specs.machine.Logged.{supplied, logged}
+use Rattle.spec_protocol.specs.promises.Promises.{WillRecord, after}
 
 -- the log that the points of sphere i tell, in this mode
 abbrev pub log_of_points : Setup → List Event → (i : ℕ) → ModeName → LogParts

@@ -7,10 +7,10 @@ use Rattle.spec_engine.specs.Signatures.{Signature, nothing, signed}
 use Rattle.spec_engine.specs.Flights.{is_full}
 use Rattle.spec_engine.specs.Asking.{ask}
 use Rattle.spec_protocol.specs.declared.reply.Reply.{Reply}
-use Rattle.spec_protocol.specs.Spheres.{is_stopped, turn_against}
-use Rattle.spec_protocol.specs.Commits.{CommitOutcome, Granted, Piece, Diverged, MovedSphere, dma_moved}
-use Rattle.spec_protocol.specs.World.{World, moment, sphere_at, with_sphere, flown, OfDma, Move, After, answered}
-use Rattle.spec_protocol.specs.Asking.{unless_denied, unless_turn}
+use Rattle.spec_protocol.specs.machine.Spheres.{is_stopped, turn_against}
+use Rattle.spec_protocol.specs.machine.Commits.{CommitOutcome, Granted, Piece, Diverged, MovedSphere, dma_moved}
+use Rattle.spec_protocol.specs.machine.World.{World, moment, sphere_at, with_sphere, flown, OfDma, Move, After, answered}
+use Rattle.spec_protocol.specs.machine.Asking.{unless_denied, unless_turn}
 
 abbrev pub dma_move : World → (i : ℕ) → Move
 dma_move w i = record { moment = moment w; sphere = i; what = OfDma }

@@ -7,7 +7,7 @@ use Rattle.spec_engine.specs.Signatures.{Signature, nothing}
 use Rattle.spec_engine.specs.Flights.{Flight, at, drain, deliver, retire}
 use Rattle.spec_engine.specs.Chunks.{squash}
 use Rattle.spec_protocol.specs.declared.reply.Reply.{Reply}
-use Rattle.spec_protocol.specs.World.{World, Occupant, sphere_at, with_memory, with_core, with_slot, After, answered}
+use Rattle.spec_protocol.specs.machine.World.{World, Occupant, sphere_at, with_memory, with_core, with_slot, After, answered}
 
 -- ---- Drain
 

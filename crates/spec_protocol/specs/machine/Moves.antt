@@ -8,12 +8,12 @@ use Rattle.spec_kernel.specs.Devices.{Devices}
 use Rattle.spec_kernel.specs.Needs.{next_kind}
 use Rattle.spec_kernel.specs.Interrupts.{is_live, takes_interrupt}
 use Rattle.spec_engine.specs.declared.answers.How.{How}
-use Rattle.spec_protocol.specs.Spheres.{turn_against, Sphere, is_stopped, head_of, limit_of, is_in_pieces}
-use Rattle.spec_protocol.specs.Commits.{is_piece, chunk_moved, dma_moved}
-use Rattle.spec_protocol.specs.World.{Numbers, What, OfChunk, OfSerial, OfDma, OfRaise, Move}
-use Rattle.spec_protocol.specs.Asking.{is_short}
-use Rattle.spec_protocol.specs.Placing.{replays}
-use Rattle.spec_protocol.specs.Serial.{SerialState, do_moved, do_serial, do_dma, do_raise}
+use Rattle.spec_protocol.specs.machine.Spheres.{turn_against, Sphere, is_stopped, head_of, limit_of, is_in_pieces}
+use Rattle.spec_protocol.specs.machine.Commits.{is_piece, chunk_moved, dma_moved}
+use Rattle.spec_protocol.specs.machine.World.{Numbers, What, OfChunk, OfSerial, OfDma, OfRaise, Move}
+use Rattle.spec_protocol.specs.machine.Asking.{is_short}
+use Rattle.spec_protocol.specs.machine.Placing.{replays}
+use Rattle.spec_protocol.specs.machine.Serial.{SerialState, do_moved, do_serial, do_dma, do_raise}
 
 -- ---- one move
 

@@ -1,14 +1,14 @@
 -- What is promised of these definitions, for every setup within its limits and every list of events.
 use Rattle.std.specs.Prelude.{◌≡◌, ℕ, ◌<◌, false, List, length, slice_get, Some}
 use Rattle.spec_protocol.specs.declared.event.Event.{Event}
-use Rattle.spec_protocol.specs.Spheres.{Sphere}
-use Rattle.spec_protocol.specs.Placing.{replays}
-use Rattle.spec_protocol.specs.World.{World}
-use Rattle.spec_protocol.specs.Machine.{RecordSetup, IsRecorded, SphereSetup, Setup, world_of, world_after, moves}
-use Rattle.spec_protocol.specs.Serial.{serial_start, serial, CanDoAll}
-use Rattle.spec_protocol.specs.Shown.{shown_of}
-use Rattle.spec_protocol.specs.Invariants.{IsGood}
-use Rattle.spec_protocol.specs.Moves.{do_moves, FitAll}
+use Rattle.spec_protocol.specs.machine.Spheres.{Sphere}
+use Rattle.spec_protocol.specs.machine.Placing.{replays}
+use Rattle.spec_protocol.specs.machine.World.{World}
+use Rattle.spec_protocol.specs.machine.Machine.{RecordSetup, IsRecorded, SphereSetup, Setup, world_of, world_after, moves}
+use Rattle.spec_protocol.specs.machine.Serial.{serial_start, serial, CanDoAll}
+use Rattle.spec_protocol.specs.machine.Shown.{shown_of}
+use Rattle.spec_protocol.specs.promises.Invariants.{IsGood}
+use Rattle.spec_protocol.specs.machine.Moves.{do_moves, FitAll}
 
 -- a chunk can run an instruction, and a write buffer can hold a word
 pub record IsSetup (s : Setup) : Type 0 where

@@ -4,11 +4,11 @@ use Rattle.std.specs.Prelude.{◌≡◌, ◌≢◌, ℕ, ◌<◌, true, false, L
 use Rattle.spec_play.specs.Turns.{Turn}
 use Rattle.spec_engine.specs.declared.answers.How.{How}
 use Rattle.spec_protocol.specs.declared.event.Event.{Event}
-use Rattle.spec_protocol.specs.Spheres.{Cursor, Replay, Sphere, is_over, is_stopped}
-use Rattle.spec_protocol.specs.Commits.{is_piece}
-use Rattle.spec_protocol.specs.World.{World, What, OfChunk, OfSerial, OfDma, OfRaise, Move, sphere_at}
-use Rattle.spec_protocol.specs.Machine.{Setup, happens}
-use Rattle.spec_protocol.specs.Promises.{IsSetup, after}
+use Rattle.spec_protocol.specs.machine.Spheres.{Cursor, Replay, Sphere, is_over, is_stopped}
+use Rattle.spec_protocol.specs.machine.Commits.{is_piece}
+use Rattle.spec_protocol.specs.machine.World.{World, What, OfChunk, OfSerial, OfDma, OfRaise, Move, sphere_at}
+use Rattle.spec_protocol.specs.machine.Machine.{Setup, happens}
+use Rattle.spec_protocol.specs.promises.Promises.{IsSetup, after}
 
 -- ---- in pieces
 

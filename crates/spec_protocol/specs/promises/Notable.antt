@@ -10,13 +10,13 @@ use Rattle.spec_kernel.specs.Needs.{need}
 use Rattle.spec_kernel.specs.Answers.{taken, dma_bytes}
 use Rattle.spec_engine.specs.declared.answers.How.{How}
 use Rattle.spec_engine.specs.Flights.{at}
-use Rattle.spec_protocol.specs.Spheres.{Sphere}
-use Rattle.spec_protocol.specs.Asking.{is_short}
-use Rattle.spec_protocol.specs.Placing.{replays}
-use Rattle.spec_protocol.specs.World.{Occupant, World, moment, sphere_at}
-use Rattle.spec_protocol.specs.Machine.{Setup}
-use Rattle.spec_protocol.specs.Invariants.{IsGood}
-use Rattle.spec_protocol.specs.Sound.{IsWithinLimits, IsSound}
+use Rattle.spec_protocol.specs.machine.Spheres.{Sphere}
+use Rattle.spec_protocol.specs.machine.Asking.{is_short}
+use Rattle.spec_protocol.specs.machine.Placing.{replays}
+use Rattle.spec_protocol.specs.machine.World.{Occupant, World, moment, sphere_at}
+use Rattle.spec_protocol.specs.machine.Machine.{Setup}
+use Rattle.spec_protocol.specs.promises.Invariants.{IsGood}
+use Rattle.spec_protocol.specs.promises.Sound.{IsWithinLimits, IsSound}
 
 -- a chunk that was closed so: it is no larger than a standard chunk, and over 0 where it is short
 pub record IsNotable (s : ℕ) (h : Occupant) (how : How) : Type 0 where

@@ -3,8 +3,8 @@ use Rattle.std.specs.Prelude.{◌≡◌, ℕ, Bool, Option, Some, None}
 use Rattle.spec_isa.specs.declared.thread.Parts.{Parts}
 use Rattle.spec_isa.specs.Runs.{Run}
 use Rattle.spec_kernel.specs.Devices.{Devices}
-use Rattle.spec_protocol.specs.Spheres.{Recording, Role, Plain, Record, Sphere}
-use Rattle.spec_protocol.specs.Commits.{MovedSphere, chunk_moved, serial_moved, dma_moved, raised}
+use Rattle.spec_protocol.specs.machine.Spheres.{Recording, Role, Plain, Record, Sphere}
+use Rattle.spec_protocol.specs.machine.Commits.{MovedSphere, chunk_moved, serial_moved, dma_moved, raised}
 
 abbrev pub in_role : Role → Sphere → Sphere
 in_role role p = record p { role = role }

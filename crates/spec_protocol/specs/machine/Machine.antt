@@ -13,14 +13,14 @@ use Rattle.spec_play.specs.Recording.{new_log}
 use Rattle.spec_play.specs.Plays.{Played, opened, plays}
 use Rattle.spec_protocol.specs.declared.event.Event.{Event}
 use Rattle.spec_protocol.specs.declared.reply.Reply.{Reply}
-use Rattle.spec_protocol.specs.Spheres.{Recording, Role, Plain, Record, Replay, Sphere}
-use Rattle.spec_protocol.specs.Commits.{turned}
-use Rattle.spec_protocol.specs.World.{Numbers, Occupant, World, held_afresh, After, Move}
-use Rattle.spec_protocol.specs.Stepping.{stepping, cutting}
-use Rattle.spec_protocol.specs.Asking.{asking}
-use Rattle.spec_protocol.specs.Flying.{draining, delivering, retiring}
-use Rattle.spec_protocol.specs.Placing.{placing, raising}
-use Rattle.spec_protocol.specs.Transferring.{transferring}
+use Rattle.spec_protocol.specs.machine.Spheres.{Recording, Role, Plain, Record, Replay, Sphere}
+use Rattle.spec_protocol.specs.machine.Commits.{turned}
+use Rattle.spec_protocol.specs.machine.World.{Numbers, Occupant, World, held_afresh, After, Move}
+use Rattle.spec_protocol.specs.machine.Stepping.{stepping, cutting}
+use Rattle.spec_protocol.specs.machine.Asking.{asking}
+use Rattle.spec_protocol.specs.machine.Flying.{draining, delivering, retiring}
+use Rattle.spec_protocol.specs.machine.Placing.{placing, raising}
+use Rattle.spec_protocol.specs.machine.Transferring.{transferring}
 
 -- ---- the start
 

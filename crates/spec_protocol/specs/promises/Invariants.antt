@@ -7,11 +7,11 @@ use Rattle.spec_engine.specs.declared.answers.How.{How}
 use Rattle.spec_engine.specs.Flights.{Flight, at}
 use Rattle.spec_engine.specs.Chunks.{Chunk}
 use Rattle.spec_engine.specs.Laws.{CoversWords, CoversLoads}
-use Rattle.spec_protocol.specs.Spheres.{Role, Sphere, is_stopped, limit_of, halves}
-use Rattle.spec_protocol.specs.Placing.{replays}
-use Rattle.spec_protocol.specs.World.{Occupant, World, sphere_at}
-use Rattle.spec_protocol.specs.Shown.{flying}
-use Rattle.spec_protocol.specs.Currency.{IsCurrent, IsQuiet}
+use Rattle.spec_protocol.specs.machine.Spheres.{Role, Sphere, is_stopped, limit_of, halves}
+use Rattle.spec_protocol.specs.machine.Placing.{replays}
+use Rattle.spec_protocol.specs.machine.World.{Occupant, World, sphere_at}
+use Rattle.spec_protocol.specs.machine.Shown.{flying}
+use Rattle.spec_protocol.specs.promises.Currency.{IsCurrent, IsQuiet}
 
 -- ---- flights
 

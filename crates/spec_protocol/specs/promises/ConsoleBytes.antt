@@ -6,10 +6,10 @@ use Rattle.dl_entry.specs.declared.Output.{Output}
 use Rattle.dl_entry.specs.declared.Point.{Point}
 use Rattle.spec_kernel.specs.Numbers.{channel_console}
 use Rattle.spec_protocol.specs.declared.event.Event.{Event}
-use Rattle.spec_protocol.specs.Machine.{Setup}
-use Rattle.spec_protocol.specs.Serial.{SerialState, serial_start, do_point}
-use Rattle.spec_protocol.specs.Logged.{sphere_in}
-use Rattle.spec_protocol.specs.Promises.{IsSetup, after}
+use Rattle.spec_protocol.specs.machine.Machine.{Setup}
+use Rattle.spec_protocol.specs.machine.Serial.{SerialState, serial_start, do_point}
+use Rattle.spec_protocol.specs.machine.Logged.{sphere_in}
+use Rattle.spec_protocol.specs.promises.Promises.{IsSetup, after}
 
 -- what it puts out, if that is on the console's channel
 abbrev pub on_console : Output → List ℕ

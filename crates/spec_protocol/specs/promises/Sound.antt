@@ -20,11 +20,11 @@ use Rattle.spec_engine.specs.Signatures.{is_size}
 use Rattle.spec_engine.specs.Flights.{Flight, AreInside, at}
 use Rattle.spec_engine.specs.Chunks.{Chunk}
 use Rattle.spec_protocol.specs.declared.event.Event.{Event}
-use Rattle.spec_protocol.specs.Spheres.{Cursor, Role, Plain, Record, Replay, Sphere, is_over, actor_of, whole_limit}
-use Rattle.spec_protocol.specs.World.{Occupant, World, moment, sphere_at}
-use Rattle.spec_protocol.specs.Machine.{RoleSetup, IsPlain, IsRecorded, IsReplayed, SphereSetup, Setup, happens}
-use Rattle.spec_protocol.specs.Promises.{AreSizesKept, after}
-use Rattle.spec_protocol.specs.Invariants.{IsGood}
+use Rattle.spec_protocol.specs.machine.Spheres.{Cursor, Role, Plain, Record, Replay, Sphere, is_over, actor_of, whole_limit}
+use Rattle.spec_protocol.specs.machine.World.{Occupant, World, moment, sphere_at}
+use Rattle.spec_protocol.specs.machine.Machine.{RoleSetup, IsPlain, IsRecorded, IsReplayed, SphereSetup, Setup, happens}
+use Rattle.spec_protocol.specs.promises.Promises.{AreSizesKept, after}
+use Rattle.spec_protocol.specs.promises.Invariants.{IsGood}
 
 -- ---- the limits of a setup
 

@@ -3,10 +3,10 @@ use Rattle.std.specs.Prelude.{◌≡◌, ℕ, List, slice_get, Some}
 use Rattle.spec_log.specs.declared.LogParts.{LogParts}
 use Rattle.spec_play.specs.Plays.{play, FitsImage}
 use Rattle.spec_protocol.specs.declared.event.Event.{Event}
-use Rattle.spec_protocol.specs.Spheres.{Recording, Record, Sphere}
-use Rattle.spec_protocol.specs.Machine.{last_played, RecordSetup, SphereSetup, Setup}
-use Rattle.spec_protocol.specs.Shown.{shown_of}
-use Rattle.spec_protocol.specs.Promises.{WillRecord, after}
+use Rattle.spec_protocol.specs.machine.Spheres.{Recording, Record, Sphere}
+use Rattle.spec_protocol.specs.machine.Machine.{last_played, RecordSetup, SphereSetup, Setup}
+use Rattle.spec_protocol.specs.machine.Shown.{shown_of}
+use Rattle.spec_protocol.specs.promises.Promises.{WillRecord, after}
 
 -- the log fits the image, and its play leaves this memory, these threads, and these commits with this request
 pub record PlaysBack (log : LogParts) (image : SphereSetup) (p : Sphere) : Type 0 where

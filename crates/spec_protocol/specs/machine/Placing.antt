@@ -4,9 +4,9 @@ use Rattle.dl_entry.specs.declared.Point.{Point}
 use Rattle.spec_isa.specs.declared.thread.Parts.{Parts}
 use Rattle.spec_kernel.specs.Interrupts.{is_live, has_handler}
 use Rattle.spec_protocol.specs.declared.reply.Reply.{Reply}
-use Rattle.spec_protocol.specs.Spheres.{Role, Plain, Record, Replay}
-use Rattle.spec_protocol.specs.Commits.{raised}
-use Rattle.spec_protocol.specs.World.{World, moment, sphere_at, with_sphere, with_core, held_afresh, core_of, OfRaise, After, answered}
+use Rattle.spec_protocol.specs.machine.Spheres.{Role, Plain, Record, Replay}
+use Rattle.spec_protocol.specs.machine.Commits.{raised}
+use Rattle.spec_protocol.specs.machine.World.{World, moment, sphere_at, with_sphere, with_core, held_afresh, core_of, OfRaise, After, answered}
 
 -- ---- Place
 

@@ -10,9 +10,9 @@ use Rattle.spec_isa.specs.Runs.{run}
 use Rattle.spec_kernel.specs.Devices.{Devices, devices_of}
 use Rattle.spec_kernel.specs.Needs.{next_kind}
 use Rattle.spec_kernel.specs.Interrupts.{is_live, takes_interrupt}
-use Rattle.spec_protocol.specs.Spheres.{Role, Plain, Record, Replay, Sphere}
-use Rattle.spec_protocol.specs.Commits.{MovedSphere, chunk_moved, serial_moved, dma_moved, raised}
-use Rattle.spec_protocol.specs.Machine.{Setup, sphere_of}
+use Rattle.spec_protocol.specs.machine.Spheres.{Role, Plain, Record, Replay, Sphere}
+use Rattle.spec_protocol.specs.machine.Commits.{MovedSphere, chunk_moved, serial_moved, dma_moved, raised}
+use Rattle.spec_protocol.specs.machine.Machine.{Setup, sphere_of}
 
 -- the spheres between two points, and the devices. A replayed sphere stays as it began, since its log says what it does
 pub record SerialState : Type 0 where

@@ -5,10 +5,10 @@ use Rattle.spec_log.specs.declared.LogParts.{LogParts}
 use Rattle.spec_play.specs.Progress.{position}
 use Rattle.spec_play.specs.Verdicts.{interrupt_at}
 use Rattle.spec_protocol.specs.declared.event.Event.{Event}
-use Rattle.spec_protocol.specs.Spheres.{Recording, Record, Sphere}
-use Rattle.spec_protocol.specs.World.{sphere_at}
-use Rattle.spec_protocol.specs.Machine.{RecordSetup, SphereSetup, Setup}
-use Rattle.spec_protocol.specs.Promises.{WillRecord, after}
+use Rattle.spec_protocol.specs.machine.Spheres.{Recording, Record, Sphere}
+use Rattle.spec_protocol.specs.machine.World.{sphere_at}
+use Rattle.spec_protocol.specs.machine.Machine.{RecordSetup, SphereSetup, Setup}
+use Rattle.spec_protocol.specs.promises.Promises.{WillRecord, after}
 
 -- it counts the sphere's commits; and of a thread it has no interrupt at a later number of commits than the thread's, and
 -- at that number only where the thread is masked: so the next one is of a new moment

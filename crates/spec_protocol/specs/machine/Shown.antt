@@ -2,9 +2,9 @@
 use Rattle.std.specs.Prelude.{ℕ, suc, List, [], ◌∷◌, ◌++◌, nat_eq, Option, Some, None, if◌then◌else◌}
 use Rattle.spec_isa.specs.Words.{Stored, lays}
 use Rattle.spec_engine.specs.Flights.{Flight}
-use Rattle.spec_protocol.specs.Spheres.{Sphere}
-use Rattle.spec_protocol.specs.World.{World}
-use Rattle.spec_protocol.specs.Serial.{SerialState}
+use Rattle.spec_protocol.specs.machine.Spheres.{Sphere}
+use Rattle.spec_protocol.specs.machine.World.{World}
+use Rattle.spec_protocol.specs.machine.Serial.{SerialState}
 
 -- the words left in a slot, if its flight is of sphere i
 abbrev pub words_of : (i : ℕ) → Option Flight → List Stored

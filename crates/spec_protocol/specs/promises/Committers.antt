@@ -2,8 +2,8 @@
 use Rattle.std.specs.Prelude.{◌≡◌, ◌≢◌, ℕ, true, false, Some, None}
 use Rattle.spec_engine.specs.Flights.{Flight, at, told_at}
 use Rattle.spec_protocol.specs.declared.event.Event.{Event}
-use Rattle.spec_protocol.specs.World.{World}
-use Rattle.spec_protocol.specs.Machine.{core_no, happens}
+use Rattle.spec_protocol.specs.machine.World.{World}
+use Rattle.spec_protocol.specs.machine.Machine.{core_no, happens}
 
 -- the event put the flight into slot k, which was free
 pub record Begins (w : World) (e : Event) (k : ℕ) (f : Flight) : Type 0 where

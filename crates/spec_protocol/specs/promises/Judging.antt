@@ -21,8 +21,8 @@ use Rattle.spec_kernel.specs.Interrupts.{takes_interrupt}
 use Rattle.spec_play.specs.Progress.{Progress, Used}
 use Rattle.spec_play.specs.Turns.{are_sizes_used}
 use Rattle.spec_play.specs.Verdicts.{LogVerdict, Goes, Fails, interrupt_at, chunk_why, chunk_verdict}
-use Rattle.spec_protocol.specs.Spheres.{whole_limit}
-use Rattle.spec_protocol.specs.Sound.{commits_in, is_due_in, due, IsDoneInOrder}
+use Rattle.spec_protocol.specs.machine.Spheres.{whole_limit}
+use Rattle.spec_protocol.specs.promises.Sound.{commits_in, is_due_in, due, IsDoneInOrder}
 
 -- ---- a chunk's verdict
 

@@ -6,8 +6,8 @@ use Rattle.spec_engine.specs.declared.answers.CutReply.{CutReply}
 use Rattle.spec_engine.specs.Flights.{at}
 use Rattle.spec_engine.specs.Chunks.{Chunk, Stepping, step, Cutting, cut, is_open}
 use Rattle.spec_protocol.specs.declared.reply.Reply.{Reply}
-use Rattle.spec_protocol.specs.Spheres.{is_stopped}
-use Rattle.spec_protocol.specs.World.{World, Occupant, sphere_at, with_core, After, answered}
+use Rattle.spec_protocol.specs.machine.Spheres.{is_stopped}
+use Rattle.spec_protocol.specs.machine.World.{World, Occupant, sphere_at, with_core, After, answered}
 
 abbrev pub with_chunk : World → (core : ℕ) → Occupant → Chunk → World
 with_chunk w c h ch = with_core w c (Some (record h { chunk = ch }))
