@@ -1,5 +1,6 @@
 -- What a log keeps of commits that are noted one after another.
-use Rattle.std.specs.Prelude.{ℕ, ◌+◌, ◌==◌, nat_lt, nat_le, Bool, ◌&&◌, List, [], ◌∷◌, ◌++◌, length, replicate, fold, slice_index, slice_set, slice_get, max, Option, Some, None, if◌then◌else◌}
+use Rattle.std.specs.Prelude.{ℕ, ◌+◌, ◌==◌, nat_lt, nat_le, Bool, ◌&&◌, List, [], ◌∷◌, ◌++◌, length, replicate, fold, slice_index, slice_set}
+use Rattle.std.specs.Prelude.{slice_get, max, Option, Some, None, if◌then◌else◌}
 use Rattle.std.specs.List.{list_all, range_with_len}
 use Rattle.dl_entry.specs.declared.actor.Actor.{Actor}
 use Rattle.dl_entry.specs.declared.actor.Actor.TheVariants.{Thread, Dma}
