@@ -2,4 +2,5 @@
 pub mod Scenes
 pub mod Recordings
 pub mod TwoThreads
+pub mod TwoChunks
 pub mod Limits

@@ -14,7 +14,7 @@ alone cores role size ws =
     record {
       cores = cores;
       window = 2;
-      numbers = record { s = 100; capacity = 16; bits = 64 };
+      numbers = record { s = 100; capacity = 16; bits = 64; depth = 1 };
       seed = 0;
       input = [];
       spheres = record { memory = image size ws; entry = 0; role = role } ∷ [];
