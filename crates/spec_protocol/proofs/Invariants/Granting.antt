@@ -107,7 +107,7 @@ record IsPromoted (q : CommitRequest) (p : Sphere) (x : Occupant) : Type 0 where
   untaken : was_interrupted chunk state ≡ false
   is : record { thread = q.thread; chunk = chunk; younger = None } ≡ x
 
-promoted_cases : (z : Numbers) (q : CommitRequest) (p : Sphere) (x : Occupant) (younger : Option Chunk) (o : Option Parts) → q.younger ≡ younger → slice_get p.threads q.thread ≡ o → promoted z q p younger o ≡ Some x → IsAfresh z q.sphere q.thread p x ⊎ IsPromoted q p x
+promoted_cases : (z : Numbers) (q : CommitRequest) (p : Sphere) (x : Occupant) (younger : Option Chunk) (o : Option Parts) → q.younger ≡ younger → slice_get p.threads q.thread ≡ o → promoted z q.sphere q.thread p younger o ≡ Some x → IsAfresh z q.sphere q.thread p x ⊎ IsPromoted q p x
 promoted_cases z q p x None o was there e = inl (afresh-begins z q.sphere q.thread p x (ap (thread_afresh z q.sphere q.thread p) there ∙ e))
 promoted_cases z q p x (Some y) None was there e = absurd (none-some x e)
 promoted_cases z q p x (Some y) (Some t) was there e =

@@ -232,7 +232,7 @@ module _ (P : Properties) (w : World) (keeps : Keeps w.numbers P) (good : IsGood
   GoesOnHeld q = (y : Chunk) → q.younger ≡ Some y → P.held (record { thread = q.thread; chunk = y; younger = None })
 
   promoted-held : (q : CommitRequest) (p : Sphere) (younger : Option Chunk) (o : Option Parts) → q.younger ≡ younger → slice_get p.threads q.thread ≡ o → P.sphere (suc (moment w)) q.sphere p → GoesOnHeld q
-      → (x : Occupant) → promoted w.numbers q p younger o ≡ Some x → P.held x
+      → (x : Occupant) → promoted w.numbers q.sphere q.thread p younger o ≡ Some x → P.held x
   promoted-held q p None o was there sphere goes x e = afresh-property P w.numbers (suc (moment w)) q.sphere q.thread p o keeps sphere there x e
   promoted-held q p (Some y) None was there sphere goes x e = absurd (none-some x e)
   promoted-held q p (Some y) (Some t) was there sphere goes x e =

@@ -41,17 +41,17 @@ abbrev pub was_interrupted : Chunk → Parts → Bool
 was_interrupted y t = t.mask && not y.start.mask
 
 -- the younger chunk becomes the older; if there is none, or after an interrupt, a new one begins
-abbrev pub promoted : Numbers → CommitRequest → Sphere → Option Chunk → Option Parts → Option Occupant
-promoted z q p None o = thread_afresh z q.sphere q.thread p o
-promoted z q p (Some y) None = None
-promoted z q p (Some y) (Some t) =
+abbrev pub promoted : Numbers → (i thread : ℕ) → Sphere → (younger : Option Chunk) → Option Parts → Option Occupant
+promoted z i k p None o = thread_afresh z i k p o
+promoted z i k p (Some y) None = None
+promoted z i k p (Some y) (Some t) =
     if is_live t && not (was_interrupted y t)
-    then Some (record { thread = q.thread; chunk = y; younger = None })
-    else thread_afresh z q.sphere q.thread p (Some t)
+    then Some (record { thread = k; chunk = y; younger = None })
+    else thread_afresh z i k p (Some t)
 
 -- what a core goes on with after its granted request, where the sphere is p
 abbrev pub goes_on_with : Numbers → CommitRequest → Sphere → Option Occupant
-goes_on_with z q p = promoted z q p q.younger (slice_get p.threads q.thread)
+goes_on_with z q p = promoted z q.sphere q.thread p q.younger (slice_get p.threads q.thread)
 
 -- the words fly, and the core, which is told, goes on with its thread as it is now
 abbrev pub world_with : World → (core : ℕ) → CommitRequest → Signature → MovedSphere → World
