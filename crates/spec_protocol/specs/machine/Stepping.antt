@@ -12,6 +12,8 @@ use Rattle.spec_protocol.specs.machine.Spheres.{Role, is_stopped, limit_after, h
 use Rattle.spec_protocol.specs.machine.World.{Numbers, World, Occupant, sphere_at, with_core, After, answered}
 use Rattle.spec_protocol.specs.machine.Placing.{replays}
 
+-- ---- the older chunk
+
 abbrev pub with_chunk : World → (core : ℕ) → Occupant → Chunk → World
 with_chunk w c h ch = with_core w c (Some (record h { chunk = ch }))
 
@@ -77,6 +79,8 @@ step_held w c (Some h) =
 -- the core runs one instruction
 unfoldable pub stepping : World → (core : ℕ) → After
 stepping w c = step_held w c (at w.cores c)
+
+-- ---- Cut
 
 abbrev pub reply_of_cut : CutReply → Reply
 reply_of_cut CutReply.Waiting = Reply.Waiting
