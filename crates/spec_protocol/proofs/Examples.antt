@@ -3,4 +3,5 @@ pub mod Scenes
 pub mod Recordings
 pub mod TwoThreads
 pub mod TwoChunks
+pub mod Abandoned
 pub mod Limits

@@ -20,6 +20,10 @@ alone cores role size ws =
       spheres = record { memory = image size ws; entry = 0; role = role } ∷ [];
     }
 
+-- with so many chunks of a core
+abbrev pub deep : (depth : ℕ) → Setup → Setup
+deep n s = record s { numbers = record s.numbers { depth = n } }
+
 -- what a list of events answers, one reply for each
 abbrev pub replies : World → List Event → List Reply
 replies w [] = []

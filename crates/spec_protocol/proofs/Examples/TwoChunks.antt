@@ -37,10 +37,7 @@ use Rattle.spec_protocol.specs.machine.Spheres.{head_of, turn_against, limit_of,
 use Rattle.spec_protocol.specs.machine.Stepping.{stepping, cutting}
 use Rattle.spec_protocol.specs.machine.Transferring.{transfer, transferring}
 use Rattle.spec_protocol.specs.machine.World.{Occupant}
-use Rattle.spec_protocol.proofs.Examples.Scenes.{alone, replies, log_in}
-
-abbrev deep : (depth : ℕ) → Setup → Setup
-deep n s = record s { numbers = record s.numbers { depth = n } }
+use Rattle.spec_protocol.proofs.Examples.Scenes.{alone, deep, replies, log_in}
 
 -- two instructions, and then the call that ends the thread; the chunk is cut off after the first
 abbrev exits : (depth : ℕ) → Setup
