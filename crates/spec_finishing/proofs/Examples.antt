@@ -51,7 +51,7 @@ replay code log =
     record {
       cores = 1;
       window = 2;
-      numbers = record { s = 100; capacity = 1; bits = 64 };
+      numbers = record { s = 100; capacity = 1; bits = 64; depth = 1 };
       seed = 0;
       input = [];
       spheres = record { memory = image 512 code; entry = 0; role = IsReplayed (record { log = log }) } ∷ [];

@@ -56,7 +56,7 @@ replay log =
     (record {
       cores = 1;
       window = 2;
-      numbers = record { s = 100; capacity = 16; bits = 64 };
+      numbers = record { s = 100; capacity = 16; bits = 64; depth = 1 };
       seed = 0;
       input = [];
       spheres = record { memory = code; entry = 0; role = IsReplayed (record { log = log }) } ∷ [];

@@ -17,7 +17,7 @@ least =
     record {
       cores = 1;
       window = 1;
-      numbers = record { s = 16; capacity = 1; bits = 64 };
+      numbers = record { s = 16; capacity = 1; bits = 64; depth = 1 };
       seed = 0;
       input = [];
       spheres = with_role IsPlain ∷ with_role (IsRecorded (record { mode = ModeName.Picolog })) ∷ with_role (IsReplayed (record { log = new_log ModeName.OrderSize 16 })) ∷ [];
@@ -73,6 +73,8 @@ within_limits =
       window = (omega arith, omega arith);
       few = (omega arith, omega arith);
       chunk = (omega arith, omega arith);
+      depth = omega arith;
+      most_depth = omega arith;
       buffer = omega arith;
       most_buffer = omega arith;
       signature = refl;

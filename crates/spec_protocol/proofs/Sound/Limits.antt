@@ -11,7 +11,7 @@ use Rattle.spec_log.specs.declared.Sizes.{Sizes}
 use Rattle.spec_log.specs.declared.LogParts.{LogParts}
 use Rattle.spec_log.specs.Log.{IsSizes, IsShortSize, IsLog}
 use Rattle.spec_log.specs.Size.{is_thread, sizes_of_thread, thread_size, size_in}
-use Rattle.spec_protocol.specs.machine.Spheres.{Role, Plain, Record, Replay, whole_limit, limit_of}
+use Rattle.spec_protocol.specs.machine.Spheres.{Role, Plain, Record, Replay, whole_limit, limit_of, limit_after, limit_after}
 use Rattle.spec_protocol.specs.promises.Sound.{IsSoundRole}
 use Rattle.spec_protocol.proofs.Invariants.Cores.{branch}
 
@@ -99,4 +99,12 @@ unfolding limit_of
 limit-most s commits threads Plain k t l is = l
 limit-most s commits threads (Record recording) k t l is = l
 limit-most s commits threads (Replay b) k t l is =
+    let a = whole-most b.log k t.commits is.log in let c = is.log.s.1 in omega (arith, a, c)
+
+-- so is that of the commit after it
+pub after-most : (s commits : ℕ) (threads : List Parts) (role : Role) (k : ℕ) (t : Parts) → s ≤ 4096 → IsSoundRole s commits threads role → limit_after s role k t ≤ 4096
+unfolding limit_after
+after-most s commits threads Plain k t l is = l
+after-most s commits threads (Record log) k t l is = l
+after-most s commits threads (Replay b) k t l is =
     let a = whole-most b.log k t.commits is.log in let c = is.log.s.1 in omega (arith, a, c)
