@@ -87,6 +87,11 @@ fn read_size(draft: &mut Draft, source: &Source<'_>, at: &mut usize) -> Result<(
 {
     match draft.mode {
         ModeName::OrderSize => read_next(&mut draft.each, source, at, draft.shape),
-        ModeName::OrderOnly | ModeName::Picolog => read_next(&mut draft.short, source, at, draft.shape),
+        ModeName::OrderOnly | ModeName::Picolog => read_next(
+            &mut draft.short,
+            source,
+            at,
+            draft.shape,
+        ),
     }
 }
