@@ -60,7 +60,7 @@ replay code log =
 -- in order-only, without sizes, of thread 0
 abbrev unsized : (count : ℕ) → List Actor → LogParts
 unsized count order =
-    record { mode = ModeName.OrderOnly; s = 100; count = count; order = order; sizes = Sizes.Short []; interrupts = []; inputs = []; dmas = [] }
+    record { version = 1; threads = 15; mode = ModeName.OrderOnly; s = 100; count = count; order = order; sizes = Sizes.Short []; interrupts = []; inputs = []; dmas = [] }
 
 abbrev empty_log : LogParts
 empty_log = unsized 0 []

@@ -126,10 +126,12 @@ kept_head OrderSize order position dma last live = slice_get order position
 kept_head OrderOnly order position dma last live = slice_get order position
 kept_head Picolog order position dma last live = head_by_turn dma last live
 
--- the log of what is kept, with its records
+-- the log of what is kept, with its records: of version 1
 abbrev pub log_of : ModeName → Kept → List Interrupt → List Input → List DmaRecord → LogParts
 log_of mode kept interrupts inputs dmas =
     record {
+      version = 1;
+      threads = most_threads;
       mode = mode;
       s = kept.s;
       count = kept.count;

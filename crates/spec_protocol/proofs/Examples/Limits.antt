@@ -34,6 +34,7 @@ none good before = record { few = omega arith; each = λ k d l. absurd (omega (a
 empty_log : IsLog (new_log ModeName.OrderSize 16)
 empty_log =
     record {
+      version = (refl, refl);
       s = (omega arith, omega arith);
       count = omega arith;
       order = (refl, λ k d l. absurd (omega (arith, l)));
