@@ -25,7 +25,7 @@ new_log mode s =
 abbrev pub note_of : Commit → (short : Bool) → Note
 note_of c short = record { actor = c.actor; size = c.size; short = short }
 
--- a commit more; of a thread's commit the index is the number of its commits before
+-- one more commit; the index of a thread's commit is the number of that thread's commits before it
 abbrev pub noted : Commit → (index : ℕ) → (short : Bool) → LogParts → LogParts
 noted c i short log =
     record log {
