@@ -4,12 +4,12 @@ use Rattle.std.specs.List.{All, concat}
 use Rattle.dl_elf.specs.Images.{IsSize}
 use Rattle.spec_isa.specs.Words.{IsBytes}
 
--- its size is that of a memory, and its bytes are bytes
+-- it has the size of a memory, and each of its values is a byte
 pub record IsMemory (memory : List ℕ) : Type 0 where
   pub size : IsSize (length memory)
   pub bytes : IsBytes memory
 
--- these pages are whole, and a memory one after another
+-- these pages are whole, and one after another they are a memory
 pub record IsPaged (pages : List (List ℕ)) : Type 0 where
   pub whole : All (λ page. length page ≡ 4096) pages
   pub memory : IsMemory (concat pages)

@@ -64,7 +64,7 @@ pub(crate) fn keep(pages: &mut [Page], mut renewals: Vec<Option<Shared>>)
     }
 }
 
-// Copies the bytes from a place on: those of its page, and then of the pages after that.
+// Copies the bytes from a place on: those of its page, and then those of the pages after it.
 pub(crate) fn copy_pages(pages: &[Page], at: usize, into: &mut [u8])
     requires paged { IsPaged pages.now }
     requires inside { at + length into.old ≤ length (concat pages.now) }
