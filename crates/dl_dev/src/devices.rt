@@ -107,7 +107,7 @@ impl Devices {
         self.pipes[pipe as usize].put(bytes)
     }
 
-    /// Moves a pipe's first bytes into a buffer, as many as that holds, and gives their number. The rest of the buffer is kept.
+    /// Moves a pipe's first bytes into a buffer, as many as that holds, and gives their number. The rest of it is kept.
     pub fn pipe_get(&mut self, pipe: u8, into: &mut [u8]) -> u32
         requires { pipe < pipe_count }
         ensures count { result ≡ length (pipe_first self.old pipe (length into.old)) }

@@ -16,7 +16,7 @@ use std::alloc::Global;
 // The bytes of `step` as one number, little-endian.
 const STEP: u32 = 0x7065_7473;
 
-/// The events of a script, whose lines end with LF, except that the last need not. A line is empty or spaces alone, or begins
+/// The events of a script, whose lines end with LF; the last need not. A line is empty or spaces alone, or begins
 /// with `#`, or is one of `step C`, `cut C`, `ask C`, `drain K`, `deliver C K`, `retire K`, `place C S T`, `raise S T V`
 /// and `dma S`, with spaces between and around: numbers of 1 to 10 decimal digits, V at most 2^32 - 1 and the others at
 /// most 255. The first line that is none of these, or holds the event after the 2^24th, is refused by its number, from 1.

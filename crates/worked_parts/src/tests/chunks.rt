@@ -22,7 +22,7 @@ fn begun<G: Sig>(alloc: Global, limit: u32, halves: bool) -> Result<Chunk<G>, Al
     Ok(chunk)
 }
 
-// The limit of a chunk that was squashed so many times.
+// The limit of a chunk after so many squashes.
 fn limit_after(alloc: Global, limit: u32, halves: bool, squashes: u32) -> Result<u32, AllocError>
     requires least { 1 ≤ limit }
     requires most { limit ≤ 16 }
@@ -43,7 +43,7 @@ fn each_fourth_squash_halves_the_limit(rt: HostRuntime) -> Result<(), Fail> {
     Ok(())
 }
 
-// A limit, whether it is halved, how many squashes there are, and the limit then.
+// A limit, whether it is halved, how many squashes there are, and the limit after them.
 const LIMITS: &[(u32, bool, u32, u32)] = &[
     (16, true, 3, 16),
     (16, true, 4, 8),
