@@ -45,7 +45,7 @@ impl Display for Round {
     }
 }
 
-/// Steps a chunk of the program from its start, so many times, and gives the outcome of the last.
+/// Steps a chunk of the program from its start, that many times, and gives the outcome of the last.
 pub fn last_of(
     alloc: Global,
     room: Room,

@@ -31,7 +31,7 @@ impl Text {
         }
     }
 
-    /// A text with nothing in it, and with room for so many bytes.
+    /// A text with nothing in it, and with room for that many bytes.
     pub fn with_room(alloc: Global, bytes: usize) -> Result<Text, OutOfMemory>
         ensures { IfOk result (λ text. text ≡ []) }
     {

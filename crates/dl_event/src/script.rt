@@ -19,7 +19,7 @@ const STEP: u32 = 0x7065_7473;
 /// The events of a script, whose lines end with LF; the last need not. A line is empty or spaces alone, or begins
 /// with `#`, or is one of `step C`, `cut C`, `ask C`, `drain K`, `deliver C K`, `retire K`, `place C S T`, `raise S T V`
 /// and `dma S`, with spaces between and around: numbers of 1 to 10 decimal digits, V at most 2^32 - 1 and the others at
-/// most 255. The first line that is none of these, or holds the event after the 2^24th, is refused by its number, from 1.
+/// most 255. The first line that is none of these, or holds the event after the 2^24th, is refused, by its number from 1.
 pub fn parse_script(alloc: Global, bytes: &[u8]) -> Result<Events, ScriptError>
     ensures read { IfOk result (λ events. script_of bytes.now ≡ Ok events) }
     ensures refused { IfErr result (Refuses (script_of bytes.now)) }

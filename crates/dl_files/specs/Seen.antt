@@ -14,7 +14,7 @@ pub record Seen : Type 0 where
   pub unread : ℕ
   pub changes : ℕ
 
--- files that tell what they hold, and have had so many faults
+-- files that tell what they hold, and have had that many faults
 abbrev pub telling : Contents → (faults : ℕ) → (last : Option (List ℕ)) → Seen
 telling m faults last = record { known = Some m; faults = faults; last = last; unread = 0; changes = 0 }
 

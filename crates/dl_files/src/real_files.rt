@@ -12,7 +12,7 @@ use std::marker::Model;
 use std::{fs, io, rt};
 
 /// The files of the system that `R` reaches, seen as their counts. Each refusal is counted, even that of an absent file,
-/// except when memory runs out. Reading a file of more than 2^30 bytes whole is a fault, once so many are read; parts can be
+/// except when memory runs out. Reading a file of more than 2^30 bytes whole is a fault, once that many are read; parts can be
 /// read of a file of any size.
 #[derive(Drop)]
 pub struct RealFiles<R> {

@@ -23,7 +23,7 @@ new_tracked thread index value = record { thread = thread; index = index; raised
 abbrev pub tracked_from : ℕ → List (List (Mark Raised)) → List Tracked
 tracked_from = entries_from tracked_of
 
--- what was raised at a thread after so many of its commits
+-- what was raised at a thread after that many of its commits
 abbrev pub raised_at : List Tracked → ℕ → ℕ → Option Raised
 raised_at entries thread index =
     option_map (λ s. s.raised) (find (λ s. (s.thread == thread) && (s.index == index)) entries)

@@ -9,7 +9,7 @@ use dl_entry::{Bytes, Input, OutOfMemory, Sequence};
 use std::alloc::Global;
 use std::marker::Model;
 
-/// Inputs in the order of commits, of which the first so many were taken.
+/// Inputs in the order of commits, and how many of them have been taken.
 #[derive(Debug, Drop)]
 pub struct Inputs {
     alloc: Global,

@@ -84,7 +84,7 @@ impl Interrupts {
         Ok(())
     }
 
-    /// The value that was raised at a thread after so many of its commits, taken or not.
+    /// The value that was raised at a thread after that many of its commits, taken or not.
     pub fn at(&self, thread: u8, index: u32) -> Option<u32>
         ensures { result ≡ option_map (λ r. r.value) (raised_at self.now.entries thread index) }
     {

@@ -28,7 +28,7 @@ power_of v = 2 + v % 5
 
 -- ---- instructions, each with its registers and numbers as the assembler writes them
 
--- the number so far below 0, in two's complement
+-- the number that far below 0, in two's complement
 abbrev pub below : (bits distance : ℕ) → ℕ
 below bits n = 2 ^ bits - n
 
@@ -47,7 +47,7 @@ lw rd offset rs1 = Instr.Load LoadOp.Lw rd rs1 offset
 abbrev pub sw : (rs2 offset rs1 : ℕ) → Instr
 sw rs2 offset rs1 = Instr.Store StoreOp.Sw rs1 rs2 offset
 
--- back by so many bytes
+-- back by that many bytes
 abbrev pub bne_back : (rs1 rs2 distance : ℕ) → Instr
 bne_back rs1 rs2 n = Instr.Branch BranchOp.Bne rs1 rs2 (below 13 n / 2)
 

@@ -10,7 +10,7 @@ pub const SIZE: u32 = 16_777_216;
 // The size of a page of it.
 const PAGE: u32 = 4096;
 
-/// Puts to the first pages and takes a snapshot, so many times, and gives the last snapshot.
+/// Puts to the first pages and takes a snapshot, that many times, and gives the last snapshot.
 pub fn last_of(memory: &mut Memory, pages: u32, rounds: u32) -> Result<Snapshot, AllocError>
     requires { length memory.old ≡ 16777216 }
     ensures { IfOk result (λ snapshot. length snapshot ≡ 16777216) }

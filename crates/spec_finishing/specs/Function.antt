@@ -8,12 +8,12 @@ use Rattle.spec_protocol.specs.promises.Promises.{after}
 use Rattle.spec_protocol.specs.promises.Sound.{IsWithinLimits}
 use Rattle.spec_finishing.specs.Ending.{work, Ends, CanFinish}
 
--- the next events, each after the one before, until none is left or there have been so many
+-- the next events, each after the one before, until none is left or the fuel is used up
 abbrev pub finishing : (fuel : ℕ) → World → List Event
 finishing zero w = []
 finishing (suc n) w = elim (next w) [ None ↦ [] | Some e ↦ e ∷ finishing n (happens w e).world ]
 
--- at most so many events finish a run
+-- at most this many events finish a run
 abbrev pub most_events : Setup → List Event → ℕ
 most_events s es = (s.cores + 6) * work s es
 

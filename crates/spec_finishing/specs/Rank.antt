@@ -30,17 +30,17 @@ flights_rank cores (slot ∷ slots) = flight_rank cores slot + flights_rank core
 
 -- ---- replays
 
--- the work that a play has left after its first i commits and so many instructions in pieces of the next: all of it
+-- the work that a play has left after its first i commits and that many instructions in pieces of the next: all of it
 -- minus theirs
 abbrev pub play_left : LogParts → Played → (i total : ℕ) → ℕ
 play_left log y i total = commits_work log y 0 log.count - commits_work log y 0 i - total
 
--- what a replay of the image has left after so many commits: nothing if it has stopped
+-- what a replay of the image has left after that many commits: nothing if it has stopped
 unfoldable pub replay_left : SphereSetup → Cursor → (commits : ℕ) → ℕ
 replay_left image b i =
     if is_over b.now then 0 else play_left b.log (first_played image b.log) i b.total
 
--- how many events there may be for so much work
+-- how many events there may be for that much work
 unfoldable pub price : (cores work : ℕ) → ℕ
 price cores work = (cores + 6) * work
 

@@ -47,7 +47,7 @@ now_work log y (Turn k) = turn_work log y k (slice_get y.threads k)
 unfoldable pub commit_work : LogParts → Played → ℕ
 commit_work log y = now_work log y y.now
 
--- of so many commits after the first i
+-- of that many commits after the first i
 abbrev pub commits_work : LogParts → Played → (i commits : ℕ) → ℕ
 commits_work log y i zero = 0
 commits_work log y i (suc n) = commit_work log (plays log y i) + commits_work log y (suc i) n

@@ -1,4 +1,4 @@
-//! The parts of a thread, and what one instruction can come to.
+//! The parts of a thread, what a load read, and why an instruction is serial.
 
 /// Whether a thread is live, or how it stopped.
 #[derive(Clone, Copy, Debug, PartialEq, Eq)]

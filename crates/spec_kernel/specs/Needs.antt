@@ -29,9 +29,9 @@ next_operation t m = operation_of t (fetched t m)
 pub data Need : Type 0 where
   -- to put these bytes on a channel
   Write : (channel : ℕ) (bytes : List ℕ) → Need
-  -- at most so many bytes from a channel, for a buffer
+  -- at most this many bytes from a channel, for a buffer
   Read : (channel buf len : ℕ) → Need
-  -- so many random bytes, for a buffer
+  -- this many random bytes, for a buffer
   Random : (buf len : ℕ) → Need
   -- the moment
   Clock : Need

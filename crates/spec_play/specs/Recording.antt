@@ -44,7 +44,7 @@ input_noted (Some r) log = record log { inputs = log.inputs ++ r ∷ [] }
 abbrev pub dma_noted : (position : ℕ) → (bytes : List ℕ) → LogParts → LogParts
 dma_noted position bytes log = record log { dmas = log.dmas ++ record { position = position; bytes = bytes } ∷ [] }
 
--- a thread took an interrupt after so many of its commits
+-- a thread took an interrupt after that many of its commits
 abbrev pub interrupt_noted : (thread commits value : ℕ) → LogParts → LogParts
 interrupt_noted k i value log =
     record log { interrupts = insert_interrupt (record { thread = k; index = i; value = value }) log.interrupts }

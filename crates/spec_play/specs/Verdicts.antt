@@ -26,7 +26,7 @@ unless (Some why) verdict = Fails why
 
 -- ---- the interrupt at the end of a commit
 
--- the value that is logged for a thread after so many of its commits
+-- the value that is logged for a thread after that many of its commits
 abbrev pub interrupt_at : List Interrupt → (thread commits : ℕ) → Option ℕ
 interrupt_at interrupts k commits =
     option_map (λ i. i.value) (find (λ i. nat_eq i.thread k && nat_eq i.index commits) interrupts)

@@ -6,6 +6,6 @@ use dl_entry::End;
 pub enum WalkEnd {
     /// The play has ended in this way.
     Ended(End),
-    /// So many commits are done, as many as were asked for, and the log has more.
+    /// This many commits are done, as many as were asked for, and the log has more.
     Reached(u32),
 }

@@ -26,8 +26,8 @@ fn console_takes_all(rt: HostRuntime) -> Result<(), Fail> {
     Ok(())
 }
 
-/// What is done to a pipe: bytes are put, so many of which it takes; or these bytes are got, or looked at, in a buffer of so
-/// many.
+/// What is done to a pipe: bytes are put, of which it takes that many; or these bytes are got, or looked at, in a buffer
+/// of that many.
 enum Step {
     Put(&'static [u8], u32),
     Get(usize, &'static [u8]),

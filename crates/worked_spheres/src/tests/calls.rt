@@ -50,7 +50,7 @@ fn caller(instruction: u8, call: [u32; 4]) -> Parts
     parts
 }
 
-// So many threads, at least two, the first of which calls, and the second of which has ended.
+// That many threads, at least two: the first one calls, and the second one has ended.
 fn threads(first: &Parts, count: u8) -> Threads
     requires { IsThread first.now }
     ensures { 0 < length result }
@@ -86,7 +86,7 @@ fn calls_give_their_results(rt: HostRuntime) {
     }
 }
 
-// The first of so many threads after its call, in a memory of that size, if that DMA was asked for before.
+// The first of that many threads after its call, in a memory of that size, if that DMA was asked for before.
 fn called(caller: &Parts, count: u8, outstanding: Option<Request>, size: u32) -> Parts
     requires { IsThread caller.now }
 {

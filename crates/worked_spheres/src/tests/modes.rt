@@ -36,7 +36,7 @@ enum Kept {
     Short(&'static [ShortSize]),
 }
 
-/// A question with its answer: an actor's size at an index; a thread's limit at an index; whether all sizes are used by so many
+/// A question with its answer: an actor's size at an index; a thread's limit at an index; whether all sizes are used by that many
 /// commits of each thread; whose commit is next at a position, after which thread's, given which threads are live.
 enum Look {
     Size(Actor, u32, Option<u32>),
