@@ -11,7 +11,7 @@ pub first_loaded-none : (file : List ℕ) → first_loaded file 0 ≡ []
 unfolding first_loaded
 first_loaded-none file = refl
 
--- the segment, where it is loaded
+-- the segment, if it is loaded
 abbrev kept : Bool → Segment → List Segment
 kept loaded s = cond loaded (s ∷ []) []
 

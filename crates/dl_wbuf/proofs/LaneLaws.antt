@@ -58,7 +58,7 @@ pub word_over-any : (a b mask value below : ℕ) → word_over (bytes_of a mask 
 unfolding word_over bytes_of
 word_over-any a b m v below = refl
 
--- lane k of a store is the value's byte k where bit k of the mask is set, and else nothing
+-- lane k of a store is the value's byte k if bit k of the mask is set, and else nothing
 pub lane-bytes_of : (k a mask value : ℕ) → k < 4 → lane (bytes_of a mask value) k ≡ some_if (nat_eq (bit_and (mask / 2 ^ k) 1) 1) (slice_index (value % 256 ∷ value / 256 % 256 ∷ value / 65536 % 256 ∷ value / 16777216 % 256 ∷ []) k)
 unfolding bytes_of
 lane-bytes_of zero a m v h = rw (shr_and_one m 0, bit_at_lowest m) refl

@@ -124,7 +124,7 @@ IsOpen-again t e d h was =
 
 -- ---- the places then
 
--- where the probe for a number ends at the slot, no slot holds it
+-- if the probe for a number ends at the slot, no slot holds it
 lacks-after : (t : Slots) (a : ℕ) (e : Entry) → IsOpen t → a ≢ e.number → slot_of t a ≡ slot_of t e.number → (i : ℕ) (d : Entry) → Held t e i d → d.number ≢ a
 lacks-after t a e h ne same i d (inl it) = λ f. ne (sym f ∙ ap (λ x. x.number) (sym it.1))
 lacks-after t a e h ne same i d (inr it) = λ f. it.0 (sym (h.stands i d it.1) ∙ ap (slot_of t) f ∙ same)

@@ -1,4 +1,4 @@
--- Where a probe ends: it comes upon a free slot, and a slot that is set elsewhere leaves it as it was.
+-- Where a probe ends: it meets a free slot, and a slot that is set elsewhere makes no difference to it.
 use Rattle.std.proofs.Common.{◌≡◌, ◌≢◌, ℕ, ◌+◌, ◌-◌, ◌*◌, ◌<◌, ◌≤◌, inl, inr, zero, suc, Bool, true, false, List, [], ◌∷◌, length, get_or, drop, Option, Some, None, refl, sym, ap, ◌∙◌, arith, length-drop, subst}
 use Rattle.std.specs.Prelude.{slice_set}
 use Rattle.std.specs.List.{position, position_or_len}
@@ -93,7 +93,7 @@ probe_fits slots start a inside =
     let lt : position_or_len (fits a) (drop start slots) < length (drop start slots) = omega (arith, length-drop start slots) in
     rw (get_or-drop start slots (position_or_len (fits a) (drop start slots)) None) at (passes_at_first (fits a) (drop start slots) None lt)
 
--- the entry of the number that is probed for comes where the probe ends
+-- the entry of the number that is probed for is put where the probe ends
 pub probe_found : (slots : List (Option Entry)) (start : ℕ) (e : Entry) → probe slots start e.number < length slots → probe (slice_set slots (probe slots start e.number) (Some e)) start e.number ≡ probe slots start e.number
 probe_found slots start e inside =
     let i : ℕ = position_or_len (fits e.number) (drop start slots) in
