@@ -1,4 +1,4 @@
--- With one program header more there is one loaded segment more, or as many.
+-- With one more program header there is one more loaded segment, or as many.
 use Rattle.std.proofs.Common.{◌≡◌, ℕ, ◌+◌, ◌*◌, Bool, true, false, cond, List, [], ◌∷◌, ◌++◌, inl, inr, refl, sym, ap, ◌∙◌, eq-eqb, append-nil, arith}
 use Rattle.std.proofs.lemmas.List.FromFn.{filter_of_map_range_with_len_more}
 use Rattle.std.proofs.lemmas.Bool.Decides.{eqb_tells}

@@ -139,7 +139,7 @@ all_read lines i events read end =
     ap (outcome lines) (position_from-zero (is_refused lines) (range_with_len 0 (length lines)) ∙ none)
     ∙ ap (λ x. Ok (events_of x)) (sym (take_all i lines (omega arith))) ∙ ap Ok (sym read.held)
 
--- ---- lines in a row that hold one event
+-- ---- lines in a row that hold the same event
 
 -- that many lines in a row that hold the same event add it that many times
 pub some_read : (lines : List Line) (i n : ℕ) (events : List Event) (e : Event) (more : List Line) → IsRead lines i events → drop i lines ≡ replicate n (Holds e) ++ more → length events + n ≤ 2 ^ 24 → IsRead lines (i + n) (events ++ replicate n e)

@@ -225,7 +225,7 @@ contents_of-IsWrite name bytes old new i entry w =
     let first = FirstAt-place name new i w.place in
     write-contents name bytes entry.0 old new i first w.added (name-read name new i entry first w.read)
 
--- after the write each place that had a name has it still
+-- after the write each place that had a name still has it
 pub NamesStay-IsWrite : (name bytes : List ℕ) (old new : List Entry) (i : ℕ) (entry : Entry) → IsWrite name old new i entry
     → NamesStay old (set new i (entry.0, bytes))
 NamesStay-IsWrite name bytes old new i entry w j h =

@@ -10,11 +10,11 @@ use Rattle.dl_moments.specs.declared.lane.Mark.{Mark}
 use Rattle.dl_moments.specs.Marks.{with_mark, value_at}
 use Rattle.dl_moments.specs.Entries.{entries_from}
 
--- of entries of two threads the one of the lower thread is earlier
+-- of entries of two threads, that of the lower thread is earlier
 pub earlier-lower : (t i u j : ℕ) → t < u → is_earlier t i u j ≡ true
 earlier-lower t i u j h = rw (lt-ltb t u h) refl
 
--- of two entries of one thread the one of the lower index is earlier
+-- of two entries of the same thread, that of the lower index is earlier
 pub earlier-same : (t i j : ℕ) → is_earlier t i t j ≡ nat_lt i j
 earlier-same t i j = rw (le-ltb t t (omega arith), eq-eqb t t refl) refl
 

@@ -40,7 +40,7 @@ same_count lanes t old new h is e =
     let was : old.marks ≡ get_or (map marks_of lanes) t [] = ap marks_of is ∙ sym (get_or-map lanes t old h) in
     ap length now ∙ (e ∙ ap length was)
 
--- empty lists with one empty list more are empty lists
+-- empty lists with one more empty list are empty lists
 pub empty_lane : {V : Type 0} (lanes : List (LaneState V)) (n : ℕ) (new : LaneState V) → map marks_of lanes ≡ replicate n [] → new.marks ≡ []
     → map marks_of (lanes ++ new ∷ []) ≡ replicate (n + 1) []
 empty_lane lanes n new e none =

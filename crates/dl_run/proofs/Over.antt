@@ -219,7 +219,7 @@ none-left [] (suc i) l = refl
 none-left (x ∷ xs) zero l = absurd (omega (arith, l))
 none-left (x ∷ xs) (suc i) l = none-left xs i (omega (arith, l))
 
--- a line more
+-- one more line
 lines-more : (x : SerialState) (xs : List SphereSetup) (i : ℕ) (ls : List SphereLine) (line : SphereLine) → i < length xs → line ≡ line_as (get_or xs i no_image) (sphere_in x i) (get_or xs i no_image).role → (ls ++ line ∷ []) ++ lines_from x (suc i) (drop (suc i) xs) ≡ ls ++ lines_from x i (drop i xs)
 lines-more x xs i ls line inside is =
     append_assoc ls (line ∷ []) (lines_from x (suc i) (drop (suc i) xs))

@@ -20,7 +20,7 @@ use Rattle.dl_run.specs.Taken.{IsNew, HasTaken}
 
 -- ---- runs
 
--- a short run's world has room for one commit more
+-- a short run's world has room for one more commit
 pub run_room : (s : Setup) (es : List Event) (w : World) → IsRun s es w → length es ≤ 2 ^ 24 → HasRoom w
 run_room s es w run few =
     subst HasRoom (sym run.here) (record { few = λ i within live. leaves_room s es i run.limits few within live })
@@ -62,7 +62,7 @@ done_few : (all left : List Event) (new now : World) → (d : Driving all left n
 done_few all left new now d few =
     let both = ap length d.both in let l = length-append d.done left in omega (arith, both, l, few)
 
--- before each event of a short schedule there is room for one commit more
+-- before each event of a short schedule there is room for one more commit
 pub driving_room : (all left : List Event) (new now : World) → Driving all left new now → length all ≤ 2 ^ 24 → HasRoom now
 driving_room all left new now d few =
     run_room d.setup d.done now (d.taken d.setup d.first) (done_few all left new now d few)

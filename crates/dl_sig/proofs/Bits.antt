@@ -59,7 +59,7 @@ bit_after ws p q l =
       | inr ne ↦ bit_other ws p q l ne ∙ sym (λ i. ne_eqb q p ne i || has_bit ws q)
     ]
 
--- words with one bit more set are their bank with the bit's place put in
+-- words with one more bit set are their bank with the bit's place put in
 pub words_set : (ws : List ℕ) (p : ℕ) → p < 32 * length ws → of_words (with_bit ws p) ≡ with_place p (of_words ws)
 words_set ws p l =
     let same : length (with_bit ws p) ≡ length ws = length-set ws (p / 32) _ in

@@ -141,7 +141,7 @@ whole-then w m v n u h =
     )
     (rw (new.lane0, new.lane1, new.lane2, new.lane3) refl)
 
--- an exact mask and value are exact still after the bytes of another store are laid over them
+-- an exact mask and value are still exact after the bytes of another store are laid over them
 pub IsExact-then : (w m v n u : ℕ) → IsExact w m v → IsExact w (bit_or m (n % 16)) (word_over (bytes_of 0 n u) v)
 IsExact-then w m v n u h =
     record {

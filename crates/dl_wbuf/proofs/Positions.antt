@@ -125,7 +125,7 @@ left-drained d a o s ss lacks h =
 
 -- ---- a table and its words
 
--- what a look-up comes to
+-- the outcome of a look-up
 pub position-found : (capacity drained : ℕ) (table : Slots) (ws : List Stored) (number slot : ℕ) (o r : Option ℕ) → IsPlaced capacity drained table ws → slot ≡ slot_of table number → o ≡ place_in table slot → r ≡ left drained o → position (is_of number) ws ≡ r
 position-found c d t ws a slot o r h at held is = sym (is ∙ ap (left d) (held ∙ ap (place_in t) at) ∙ h.places a)
 

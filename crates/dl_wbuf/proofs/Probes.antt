@@ -47,7 +47,7 @@ used_drop (suc n) [] = omega arith
 used_drop (suc n) (None ∷ ss) = used_drop n ss
 used_drop (suc n) (Some e ∷ ss) = omega (arith, used_drop n ss)
 
--- with half of the slots used at most, a probe that begins in the first half ends at a slot
+-- with at most half of the slots used, a probe that begins in the first half ends at a slot
 pub probe_inside : (slots : List (Option Entry)) (start a room : ℕ) → used slots ≤ room → 2 * room ≤ length slots → 2 * start < length slots → probe slots start a < length slots
 probe_inside slots start a room h half starts =
     let e : length (drop start slots) + start ≡ length slots = omega (arith, length-drop start slots) in

@@ -15,7 +15,7 @@ use Rattle.spec_engine.specs.Laws.{CoversWords, CoversLoads, IsCovered, ChunksAr
 use Rattle.spec_engine.proofs.Marking.{covers_insert, covers_more}
 use Rattle.spec_engine.proofs.Choosing.{keep_option, keep_choose}
 
--- ---- one line more
+-- ---- one more line
 
 words_more : (i l : ℕ) (g : Signature) (ws : List Stored) → CoversWords i g ws → CoversWords i (insert l g) ws
 words_more i l g [] all = tt

@@ -63,13 +63,13 @@ more_right s t a = meets_more s t s (set.insert t a) (λ p e. grind (members, ru
 more_left : (s t : set.FinSet nat_cmp) (a : ℕ) → meets s t ≡ true → meets (set.insert s a) t ≡ true
 more_left s t a = meets_more s t (set.insert s a) t (λ p e. grind (members, rules))
 
--- signatures that hit do so still after an insert into the second
+-- signatures that hit still do so after an insert into the second
 pub hits_more : (l : ℕ) (g h : Signature) → hits g h ≡ true → hits g (insert l h) ≡ true
 hits_more l g h e =
     let p = and_parts (meets g.low h.low) (meets g.high h.high) e in
     and_from (meets g.low (insert l h).low) (meets g.high (insert l h).high) (more_right g.low h.low _ p.0) (more_right g.high h.high _ p.1)
 
--- signatures that hit do so still after an insert into the first
+-- signatures that hit still do so after an insert into the first
 pub hits_more_left : (l : ℕ) (g h : Signature) → hits g h ≡ true → hits (insert l g) h ≡ true
 hits_more_left l g h e =
     let p = and_parts (meets g.low h.low) (meets g.high h.high) e in

@@ -51,7 +51,7 @@ pub added : (f : List ℕ → Option LabelPlace) (label name : List ℕ) (place 
     → cond (bytes_eq label name) (Some place) (f name) ≡ entry_after (f name) (bytes_eq name label) place
 added f label name place none = added-by f label name place (bytes_eq name label) refl none
 
--- ---- the first place of a list with one element more
+-- ---- the first place of a list with one more element
 
 place-push : (n m : ℕ) (b : Bool) → n ≤ m
     → cond (ltb (cond (eqb n m) (m + cond b 0 1) n) (m + 1)) (Some (cond (eqb n m) (m + cond b 0 1) n)) None
