@@ -17,6 +17,6 @@ abbrev pub busy_by : Option ℕ → AskedSerial
 busy_by None = AskedSerial.Grant
 busy_by (Some k) = AskedSerial.SphereBusy k
 
--- a serial step waits for the flight in the lowest slot that is of its sphere
+-- a serial step waits for the flight of its sphere in the lowest slot
 abbrev pub ask_serial : (sphere : ℕ) → List (Option Flight) → AskedSerial
 ask_serial i slots = busy_by (first_slot (is_of_sphere i) slots)

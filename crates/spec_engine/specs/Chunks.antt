@@ -167,6 +167,6 @@ is_serial (Some How.Serial) = true
 is_serial (Some How.Overflow) = false
 is_serial (Some How.Cut) = false
 
--- it closed before a serial instruction and has run none
+-- it closed before a serial instruction, and has run nothing
 abbrev pub is_empty_serial : Chunk → Bool
 is_empty_serial ch = nat_eq ch.done.n 0 && is_serial ch.closed

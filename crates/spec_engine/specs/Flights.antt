@@ -144,7 +144,7 @@ abbrev pub AreInside : (size : ℕ) → List Stored → Type 0
 AreInside size [] = Unit {0}
 AreInside size (s ∷ ss) = (4 * s.number + 4 ≤ size) × AreInside size ss
 
--- if there is a flight, each of its words left does
+-- if there is a flight, each of the words that it has left does
 abbrev pub IsInside : (size : ℕ) → Option Flight → Type 0
 IsInside size None = Unit {0}
 IsInside size (Some f) = AreInside size f.words

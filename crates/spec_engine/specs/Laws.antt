@@ -88,7 +88,7 @@ pub record IsCovered (ch : Chunk) : Type 0 where
   pub words : CoversWords ch.sphere ch.writes ch.done.words
   pub loads : CoversLoads ch.sphere ch.reads ch.done.loads
 
--- this holds for a fresh chunk, and keeps holding
+-- this is true of a fresh chunk, and stays true
 pub record ChunksAreCovered : Type 0 where
   pub begun : (bits i : ℕ) (t : Parts) (limit : ℕ) (halves : Bool)
       → IsCovered (fresh bits i t limit halves)

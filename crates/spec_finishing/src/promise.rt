@@ -7,8 +7,9 @@ ghost use Rattle.spec_finishing.specs.Function.{FinishingIsAFunction, RunsAreSho
 /// of finishing come to an end, and then no flight is left and every replay is complete or has diverged. Each of them is
 /// done: none is bounced, denied, busy, full or out of turn. Each reduces what is left to do, which is never below 0.
 /// What takes effect at one of them is in a replayed sphere.
-/// There are at most as many as there are cores, plus six, for each unit of the run's work: the instructions, the commits,
-/// and the words stored by the kernel and by DMAs, of the replays' plays and of what the schedule did in the other spheres.
+/// For each unit of the run's work there are at most as many of them as there are cores, plus six. The work is the
+/// instructions, the commits, and the words stored by the kernel and by DMAs, of the replays' plays and of what the schedule
+/// did in the other spheres.
 pub fn finishing_ends()
     ensures { FinishingEnds }
 {}

@@ -1,4 +1,4 @@
--- What the devices answer, and what they are afterwards.
+-- What the devices answer, and their state afterwards.
 use Rattle.std.specs.Prelude.{ℕ, ◌%◌, ◌^◌, nat_eq, nat_lt, List, [], ◌∷◌, length, take, if◌then◌else◌, Option, Some, None}
 use Rattle.dl_entry.specs.declared.Input.{Input}
 use Rattle.dl_entry.specs.declared.Request.{Request}
@@ -25,7 +25,7 @@ pub record Answered : Type 0 where
   pub input : Input
   pub devices : Devices
 
--- the number of bytes that went; if none did of a length over 0, 'nothing now'
+-- the number of bytes that went, or 'nothing now' if none went of a length over 0
 abbrev pub went : (count len : ℕ) → ℕ
 went count len = if nat_eq count 0 then if nat_eq len 0 then 0 else nothing_now else count
 

@@ -27,7 +27,7 @@ with_result result t = at_pc t register_a0 result (following t)
 abbrev pub gives : Option Request → Parts → (result : ℕ) → Called
 gives request t result = record { thread = with_result result t; spawned = []; request = request }
 
--- exit: the thread ends with the code; a0 stays
+-- exit: the thread ends with the code; a0 stays as it is
 abbrev pub exit : Option Request → Parts → Called
 exit request t =
     record { thread = record t { pc = following t; status = ThreadStatus.Ended (a0 t) }; spawned = []; request = request }
@@ -68,7 +68,7 @@ abbrev pub iret : Option Request → Parts → Called
 iret request t =
     if t.mask then record { thread = returned t; spawned = []; request = request } else gives request t refused
 
--- a DMA's buffer consists of words, with one word before the bytes
+-- a DMA's buffer is aligned to words, and has one word before the bytes
 abbrev pub is_dma_buffer : (size buf len : ℕ) → Bool
 is_dma_buffer size buf len = nat_eq (buf % 4) 0 && nat_le (buf + 4 + len) size
 

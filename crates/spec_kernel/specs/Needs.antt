@@ -53,7 +53,7 @@ a1 t = register t register_a1
 abbrev pub a2 : Parts → ℕ
 a2 t = register t register_a2
 
--- lengths are cut to 4,096
+-- lengths are capped at 4,096
 abbrev pub cut : ℕ → ℕ
 cut len = min len most_bytes
 

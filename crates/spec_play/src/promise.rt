@@ -8,9 +8,9 @@ pub fn recorders_keep_logs()
     ensures { RecordersKeepLogs }
 {}
 
-/// A walk of up to some number of commits does the first commits of the log's play. It has ended, in the same way as the play,
-/// exactly if the play ends below that number of commits or the log has no more commits than that; and then it leaves what
-/// the play leaves. Else it has stopped with that number of commits done.
+/// A walk of up to some number of commits does the first commits of the log's play. It has ended, in the same way as the
+/// play, exactly if the play ends below that number of commits or the log has no more commits than that; and then it leaves
+/// what the play leaves. Else it has stopped with that number of commits done.
 pub fn walks_are_plays()
     ensures { WalksArePlays }
 {}

@@ -65,7 +65,7 @@ StoppedArePlayed =
     → IsReplay image asked s es i p → p.role ≡ Replay b → is_over b.now ≡ true
     → IsPlayed (last_played image asked.log) p b
 
--- ---- all replays of one log on one image agree
+-- ---- all replays of the same log on the same image agree
 
 -- the same memory, with the stores of pieces, and the same threads
 pub record SameState (p q : Sphere) : Type 0 where
