@@ -15,7 +15,7 @@ pub trait Files {
     fn faults(&self) -> u64
         ensures { result ≡ (seen self.now).faults };
 
-    /// The bytes of the file `name`, in memory of `alloc`.
+    /// The bytes of the file `name`, in memory from `alloc`.
     fn read(&mut self, alloc: Global, name: &str) -> Result<Vec<u8>, FileError>
         ensures bytes { IfOk result (λ bytes. Holds (seen self.old).known name.now bytes.items) }
         ensures ok { OnOk result (seen self.new ≡ seen self.old) }
@@ -32,7 +32,7 @@ pub trait Files {
         ensures no_memory { IfErr result (λ e. e ≢ FileError.OutOfMemory) };
 
     /// Copies the first bytes of the file `name` into a piece, as many as fit. A file of which no other part can be
-    /// read, for example a pipe, is read whole, in memory of `alloc`.
+    /// read, for example a pipe, is read whole, in memory from `alloc`.
     fn begin(&mut self, alloc: Global, name: &str, into: &mut [u8]) -> Result<Beginning, FileError>
         ensures begins { IfOk result (Begins (seen self.old).known name.now (length into.old) into.new) }
         ensures ok { OnOk result (seen self.new ≡ seen self.old) }

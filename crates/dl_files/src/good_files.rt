@@ -30,7 +30,7 @@ impl Model for GoodFiles {
 }
 
 impl GoodFiles {
-    /// No files yet; those to come are kept in memory of `alloc`.
+    /// No files yet; those to come are kept in memory from `alloc`.
     pub fn new(alloc: Global) -> Self
         ensures { result ≡ empty }
     {

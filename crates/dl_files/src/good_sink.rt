@@ -21,7 +21,7 @@ impl Model for GoodSink {
 }
 
 impl GoodSink {
-    /// A sink that has taken nothing yet, and keeps what it takes in memory of `alloc`.
+    /// A sink that has taken nothing yet, and keeps what it takes in memory from `alloc`.
     pub fn new(alloc: Global) -> Self
         ensures { result ≡ [] }
     {

@@ -42,7 +42,7 @@ impl Model for MemFiles {
 }
 
 impl MemFiles {
-    /// These files, with the calls failing whose numbers `failing` lists. If memory runs out, the
+    /// These files, of which the calls with the numbers in `failing` will fail. If memory runs out, the
     /// files are given up.
     pub fn new(alloc: Global, files: GoodFiles, failing: &[u64]) -> Result<Self, FileError>
         ensures ok { IfOk result (λ mem. mem ≡ record {

@@ -25,7 +25,7 @@ impl Model for MemSink {
 }
 
 impl MemSink {
-    /// A sink that has taken nothing yet. The calls whose numbers `failing` lists will fail.
+    /// A sink that has taken nothing yet. The calls with the numbers in `failing` will fail.
     pub fn new(alloc: Global, failing: &[u64]) -> Result<Self, SinkError>
         ensures ok { IfOk result (λ sink. sink ≡ record { taken = []; calls = unmade failing.now }) }
         ensures only { IfErr result (λ e. e ≡ SinkError.OutOfMemory) }

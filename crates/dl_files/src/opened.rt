@@ -74,7 +74,7 @@ pub(crate) fn write_opened<F: Write + Drop>(opened: io::Result<F>, bytes: &[u8])
     Ok(file)
 }
 
-// Why a file can't be read that couldn't be opened.
+// Why a file that couldn't be opened can't be read.
 fn why_unopened(error: &io::Error) -> FileError
     ensures absent { (result ≡ FileError.Absent) ↔ (error_kind error.now ≡ ErrorKind.NotFound) }
     ensures memory { result ≢ FileError.OutOfMemory }

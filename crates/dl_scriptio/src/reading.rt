@@ -23,7 +23,7 @@ pub enum ScriptRead {
     Refused(u64),
 }
 
-/// What the file `name` says as a script, in memory of `alloc`. It is read piece after piece, and no piece after a line
+/// What the file `name` says as a script, in memory from `alloc`. It is read piece after piece, and no piece after a line
 /// that is refused; but a file of which no part can be read, for example a pipe, and one with a line as long as a piece
 /// are read at once.
 pub fn read_script_file<F: Files>(
@@ -64,7 +64,7 @@ pub fn read_script_file<F: Files>(
     read_at_once(alloc, files, name)
 }
 
-// The same, in memory of `alloc` for all bytes of the file.
+// The same, in memory from `alloc` for all bytes of the file.
 fn read_at_once<F: Files>(alloc: Global, files: &mut F, name: &str) -> Result<ScriptRead, FileError>
     ensures read { IfOk result (λ r. SaysScript (F.seen files.old).known name.now (read_view r)) }
     ensures few { IfOk result (λ r. IfOk (read_view r) (λ events. length events ≤ 2 ^ 24)) }

@@ -48,7 +48,7 @@ has_room s (Some b) = s.room b.number
 abbrev pub accessed : Sight → (read : Option ℕ) → Option Load → Option Stored → Did
 accessed s a load store = unless_held (holder s a) (if has_room s store then Did.Next load else Did.NoRoom)
 
--- a fetch outside memory faults, and may be held up; a serial instruction is not run
+-- a fetch outside memory faults, and any other may be held up; a serial instruction is not run
 abbrev pub did : Sight → Parts → Did
 did s t =
     let f = fetched_word s t in

@@ -76,7 +76,7 @@ impl Buffer {
         self.words.len() as u32
     }
 
-    /// Whether there is no word.
+    /// Whether it is empty.
     pub fn is_empty(&self) -> bool
         ensures { result ≡ (length self.now.words == 0) }
     {
