@@ -1,4 +1,4 @@
--- Numbers as the fields of instructions, and words, hold them, and the ranges of statements.
+-- Numbers as instructions' fields and words hold them, and the ranges of statements.
 use Rattle.std.specs.Prelude.{ℕ, ◌-◌, ◌/◌, ◌%◌, ◌^◌, ◌==◌, Bool, true, false, ◌&&◌, nat_le, nat_lt, List, [], ◌∷◌, replicate, Option, Some, None, if◌then◌else◌}
 use Rattle.spec_isa.specs.declared.instr.Instr.{Instr}
 use Rattle.spec_isa.specs.Encoding.{spelling}

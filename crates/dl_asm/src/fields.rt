@@ -39,7 +39,7 @@ pub fn fields(form: Form, text: &[u8]) -> Option<(Registers, &[u8])>
     }
 }
 
-// A statement that takes none.
+// For a statement that takes none.
 fn no_registers() -> Registers
     ensures { result ≡ record { rd = 0; rs1 = 0; rs2 = 0 } }
 {

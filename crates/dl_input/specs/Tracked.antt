@@ -1,4 +1,4 @@
--- Interrupts by thread and index, each with whether it was taken.
+-- Interrupts by thread and index, and whether each was taken.
 use Rattle.std.specs.Prelude.{ℕ, ◌==◌, Bool, true, false, ◌&&◌, List, find, Option, Some, None, option_map}
 use Rattle.spec_log.specs.declared.records.Interrupt.{Interrupt}
 use Rattle.spec_log.specs.Noting.{insert_by}

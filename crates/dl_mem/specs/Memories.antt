@@ -14,6 +14,6 @@ pub record IsPaged (pages : List (List ℕ)) : Type 0 where
   pub whole : All (λ page. length page ≡ 4096) pages
   pub memory : IsMemory (concat pages)
 
--- what is there for a page has the page's bytes
+-- what is there for a page, if anything, has the page's bytes
 abbrev pub Renews : (pages : List (List ℕ)) → List (Option (List ℕ)) → Type 0
 Renews pages renewals = (i : ℕ) → IfSome (slice_index_or renewals i None) (λ shared. shared ≡ slice_index_or pages i [])

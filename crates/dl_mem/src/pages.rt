@@ -54,7 +54,7 @@ pub(crate) fn renewals(
     Ok(renewals)
 }
 
-// Has the pages keep that, which changes none of their bytes.
+// Makes the pages keep that, which changes none of their bytes.
 pub(crate) fn keep(pages: &mut [Page], mut renewals: Vec<Option<Shared>>)
     requires { Renews pages.old renewals.items }
     ensures { pages.new ≡ pages.old }
