@@ -53,7 +53,7 @@ in_order =
     Retired ∷ NotDone ∷ NoCommit ∷ Placed ∷ Elsewhere ∷ NoThread ∷ Ended ∷ Raised ∷ Masked ∷ NoHandler ∷
     FromLog ∷ DmaDone ∷ NoDma ∷ Diverged ∷ []
 
--- `r NAME COUNT`, where the reply was given at all
+-- `r NAME COUNT`, if the reply was given at all
 abbrev pub reply_line : ReplyName → (count : ℕ) → List ℕ
 reply_line name count = if nat_lt 0 count then line (codes "r") (word_of name ∷ decimal count ∷ []) else []
 

@@ -13,7 +13,7 @@ use Rattle.dl_asm.specs.Numbers.{number_in}
 use Rattle.dl_asm.specs.Values.{holds, takes_distance, address_number, distance_number, instr_of, words_of}
 use Rattle.dl_asm.specs.Lines.{Said, Misspelled, Unknown, Unfit, Says, said, label_of, count_said, count_of}
 
--- lines end with LF; what stands after the last LF is one more, which may be empty
+-- lines end with LF; what comes after the last LF is one more, which may be empty
 abbrev pub lines_of : (source : List ℕ) → List (List ℕ)
 lines_of source = slice_split (λ c. c == 10) source
 
@@ -48,7 +48,7 @@ number_of form here label value =
     if length value == 0 then Some (address_number 0)
     else option_or (number_in value) (option_map (number_by_label form here) label)
 
--- labels is where each label is
+-- `labels` says where each label is
 abbrev pub number_said : (here : ℕ) (labels : List ℕ → Option ℕ) → Said → Option Number
 number_said here labels (Says form registers value) = number_of form here (labels value) value
 number_said here labels _ = None

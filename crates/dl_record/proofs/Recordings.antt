@@ -1,4 +1,4 @@
--- What stands together in a recorder stands so with a commit or an interrupt more.
+-- What a recorder holds together still holds together with one more commit or interrupt.
 use Rattle.std.proofs.Common.{◌≡◌, ℕ, ◌+◌, ◌-◌, ◌^◌, ◌<◌, ◌≤◌, ◌==◌, ◌&&◌, Bool, true, false, List, [], ◌∷◌, All, length, map, get_or, slice_index, Option, Some, None, IfSome, option_map, Result, Ok, Err, OnOk, OnErr, ◌⊎◌, inl, inr, refl, sym, arith}
 use Rattle.std.proofs.lemmas.Bool.{cases_lt, cases_eq, cases_Bool}
 use Rattle.std.proofs.lemmas.List.{length_push, get_or-set_same, get_or-set_other, set_past}
@@ -98,7 +98,7 @@ dmas-with dmas n (Some bytes) few h good positions are =
           (All-weaker (λ dma. dma.position < n) (λ dma. dma.position < n + 1) (λ dma l. omega arith) dmas positions) (omega arith),
     )
 
--- a recording is one still with a commit more and its records
+-- a recording is still one with one more commit and its records
 pub IsRecording-commit : (mode : ModeName) (kept : Kept) (interrupts : List Interrupt) (inputs : List Input) (dmas : List DmaRecord)
     (commit : Commit) (short : Bool) (input : Option Input) (bytes : Option (List ℕ))
     → IsRecording mode kept interrupts inputs dmas → CanCommit kept commit short → IfThere IsInput input → IfThere AreFewBytes bytes
@@ -124,7 +124,7 @@ IsRecording-commit mode kept interrupts inputs dmas commit short input bytes r c
       positions = d.2;
     }
 
--- a recording is one still with an interrupt more
+-- a recording is still one with one more interrupt
 pub IsRecording-interrupt : (mode : ModeName) (kept : Kept) (interrupts : List Interrupt) (inputs : List Input) (dmas : List DmaRecord) (interrupt : Interrupt)
     → IsRecording mode kept interrupts inputs dmas → IsInterrupt most_threads interrupt → length (insert_interrupt interrupt interrupts) < 2 ^ 32
     → IsRecording mode kept (insert_interrupt interrupt interrupts) inputs dmas

@@ -64,7 +64,7 @@ impl<M: Noting> Recorder<M> {
         })
     }
 
-    /// Makes room for one commit with its records, and one interrupt. Where there is room for both it isn't refused.
+    /// Makes room for one commit with its records, and one interrupt. If there is already room for both, it isn't refused.
     pub fn reserve(&mut self) -> Result<(), OutOfMemory>
         ensures kept { self.new.kept ≡ self.old.kept }
         ensures interrupts { self.new.interrupts ≡ self.old.interrupts }
@@ -80,7 +80,7 @@ impl<M: Noting> Recorder<M> {
         self.dmas.reserve()
     }
 
-    /// Notes a commit, whether its chunk is short, and its record. With room it isn't refused.
+    /// Notes a commit, whether its chunk is short, and its record. If there is room, it isn't refused.
     pub fn commit(
         &mut self,
         commit: &Commit,
@@ -110,7 +110,7 @@ impl<M: Noting> Recorder<M> {
         Ok(())
     }
 
-    /// Notes an interrupt of a new moment. With room it isn't refused.
+    /// Notes an interrupt of a new moment. If there is room, it isn't refused.
     pub fn interrupt(&mut self, thread: u8, index: u32, value: u32) -> Result<(), OutOfMemory>
         requires thread { thread ≤ greatest_thread }
         requires fresh { IsFresh self.old.interrupts thread index }

@@ -16,7 +16,7 @@ pub const A2: usize = 12;
 
 pub const A7: usize = 17;
 
-/// The causes of faults, which are the ISA's.
+/// The causes of faults, as the ISA numbers them.
 pub const JUMP_MISALIGNED: u8 = 0;
 
 pub const FETCH_OUTSIDE: u8 = 1;

@@ -105,7 +105,7 @@ abbrev goes_on_log : LogParts
 goes_on_log =
     record { version = 1; threads = 15; mode = ModeName.OrderSize; s = 100; count = 3; order = Actor.Thread 0 ∷ Actor.Thread 0 ∷ Actor.Thread 0 ∷ []; sizes = Sizes.Each (2 ∷ 0 ∷ 0 ∷ []); interrupts = []; inputs = []; dmas = [] }
 
--- where no thread lives
+-- with no live thread
 abbrev none_live_log : LogParts
 none_live_log =
     record { version = 1; threads = 15; mode = ModeName.Picolog; s = 100; count = 3; order = []; sizes = Sizes.Short []; interrupts = []; inputs = []; dmas = [] }
@@ -161,12 +161,12 @@ pub record AreWalked : Type 0 where
   pub not_begun : how_walked complete_log exits_code 0 ≡ WalkEnd.Reached 0
   pub one : how_walked complete_log exits_code 1 ≡ WalkEnd.Reached 1
   pub one_commit : length (walked complete_log exits_code 0 1).commits ≡ 1
-  -- at the count the end is looked at, and it is no other for more
+  -- at the count the end is looked at, and beyond it the end is the same
   pub all : how_walked complete_log exits_code 2 ≡ WalkEnd.Ended (End.Complete 2)
   pub more : how_walked complete_log exits_code 5 ≡ WalkEnd.Ended (End.Complete 2)
   pub none : how_walked ended_at_once_log exits_code 0 ≡ WalkEnd.Ended (End.Complete 0)
   pub left_over : how_walked left_over_log exits_code 2 ≡ WalkEnd.Ended (End.Diverged 2 Why.LeftOver)
-  -- a thread that isn't live is looked at below the number alone
+  -- that a thread isn't live is looked at only below the number
   pub before_no_thread : how_walked goes_on_log exits_code 2 ≡ WalkEnd.Reached 2
   pub at_no_thread : how_walked goes_on_log exits_code 3 ≡ WalkEnd.Ended (End.Diverged 2 Why.NoThread)
   pub before_short : how_walked short_log exits_code 0 ≡ WalkEnd.Reached 0

@@ -7,12 +7,12 @@ use Rattle.spec_play.specs.Effects.{dma_commit}
 use Rattle.spec_play.specs.Recording.{note_of}
 use Rattle.spec_play.specs.Noted.{Recorded, GrowsAlike, RecordersKeepLogs}
 
--- a DMA has a size where each commit has, whatever its index
+-- if each commit has a size, a DMA has one too, whatever its index
 dma_sizes : (sizes : Sizes) (i j : ℕ) → sizes_at sizes i (note_of dma_commit false) ≡ sizes_at sizes j (note_of dma_commit false)
 dma_sizes (Sizes.Each sizes) i j = refl
 dma_sizes (Sizes.Short sizes) i j = refl
 
--- read as a log, what a recorder keeps grows by each thing kept as a log does in which it is noted
+-- read as a log, what a recorder keeps grows with each thing that is kept, as a log does in which that is noted
 pub grows-alike : (r : Recorded) → GrowsAlike r
 grows-alike r =
     record {

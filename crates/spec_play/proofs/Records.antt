@@ -77,7 +77,7 @@ pub record AreRead : Type 0 where
   pub interrupt_taken : (play (of_two (2 ∷ 0 ∷ []) (interrupt_after 2 ∷ [])) handler_code 0).now ≡ Ended (End.Complete 2)
   pub interrupt_early : (play (of_two (2 ∷ 0 ∷ []) (interrupt_after 1 ∷ [])) handler_code 0).now ≡ Ended (End.Diverged 0 Why.Interrupt)
   pub interrupt_late : (play (of_two (2 ∷ 0 ∷ []) (interrupt_after 3 ∷ [])) handler_code 0).now ≡ Ended (End.Diverged 2 Why.LeftOver)
-  -- a thread with a handler takes none while it handles one, and none once it has ended
+  -- a thread with a handler takes no interrupt while it handles one, and none once it has ended
   pub interrupt_masked : (play (of_sizes (2 ∷ 0 ∷ 1 ∷ []) (interrupt_after 2 ∷ interrupt_after 3 ∷ [])) handler_code 0).now ≡ Ended (End.Diverged 2 Why.Interrupt)
   pub not_masked : (play (of_sizes (2 ∷ 0 ∷ 1 ∷ []) (interrupt_after 3 ∷ [])) handler_code 0).now ≡ Ended (End.Complete 3)
   pub interrupt_ended : (play (of_sizes (2 ∷ 0 ∷ 1 ∷ 0 ∷ []) (interrupt_after 4 ∷ [])) handler_exits_code 0).now ≡ Ended (End.Diverged 3 Why.Interrupt)

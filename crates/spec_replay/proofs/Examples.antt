@@ -1,4 +1,4 @@
--- Replays of small logs, event by event: what each answers, and where the sphere then stands.
+-- Replays of small logs, event by event: what each answers, and where the sphere then is.
 use Rattle.std.proofs.Common.{◌≡◌, ℕ, true, false, List, [], ◌∷◌, Option, Some, None, refl}
 use Rattle.dl_entry.specs.declared.Actor.{Actor}
 use Rattle.dl_entry.specs.declared.Commit.{Commit}
@@ -176,13 +176,13 @@ pub record AreReplayed : Type 0 where
       ∷ Reply.Closed How.Serial ∷ Reply.Granted ∷ Reply.Idle ∷ []
   pub empty_last_commits : commits_after (replay unsized_log) empty_last_events ≡ two_commits
   pub empty_last_now : now_after (replay unsized_log) empty_last_events ≡ Some (Ended (End.Complete 2))
-  -- the pieces count where a commit is too short, and no commit is noted
+  -- the pieces count if a commit is too short, and no commit is noted
   pub longer_replies : replies (replay longer_log) longer_events
       ≡ Reply.Ran ∷ Reply.Closed How.Cut ∷ Reply.Piece ∷ Reply.Ran ∷ Reply.Closed How.Serial ∷ Reply.Diverged 0 (Why.Short 3 2)
       ∷ Reply.Stopped ∷ []
   pub longer_commits : commits_after (replay longer_log) longer_events ≡ []
   pub longer_now : now_after (replay longer_log) longer_events ≡ Some (Ended (End.Diverged 0 (Why.Short 3 2)))
-  -- where a serial step is logged one instruction is run
+  -- if a serial step is logged, one instruction is run
   pub serial_replies : replies (replay serial_log) serial_events ≡ Reply.Closed How.Limit ∷ Reply.Waiting ∷ Reply.Diverged 0 Why.NotSerial ∷ Reply.Stopped ∷ []
   -- after a piece it is the same thread's turn
   pub refused_replies : replies (replay whole_log) refused_events

@@ -75,7 +75,7 @@ serial-few now k m (Record recording) t devices p few live =
 serial-few now k m (Replay b) t devices p few live =
     verdict-few (suc now) k b (serial_verdict b.log p.progress b.used k p.threads t p.memory) devices p live
 
--- a live DMA is one commit more
+-- a live DMA is one more commit
 live-few : (now : ℕ) (role : Role) (devices : Devices) (p : Sphere) (request : Option Request) (v : MovedSphere) → position p.progress < now → live_dma role devices p request ≡ Some v → Few (suc now) v.sphere
 live-few now role devices p None v few e live = absurd (none-some v e)
 live-few now role devices p (Some request) v few e live =
@@ -163,7 +163,7 @@ fewer-keeps z =
 
 -- ---- the first event
 
--- a sphere that replays no log has come nowhere
+-- a sphere that replays no log has done nothing
 abbrev IsNew : Sphere → Type 0
 IsNew p = replays p.role ≡ false → p.progress ≡ no_progress
 
@@ -296,7 +296,7 @@ counted-moment : (w : World) (e : Event) → moment (happens w e).world ≡ suc 
 unfolding happens
 counted-moment w e = let h = ap (λ (n : Counts). n.events) (act-untold w e).counts in omega (arith, h)
 
--- after so many events
+-- after that many events
 record IsRoomy (n : ℕ) (w : World) : Type 0 where
   good : IsGood w
   count : moment w ≡ n

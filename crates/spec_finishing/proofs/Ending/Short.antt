@@ -57,7 +57,7 @@ dma-most request bytes few =
 
 -- ---- a serial step
 
--- what came is at most 4,096 bytes, where it is copied
+-- what came is at most 4,096 bytes, if it is copied
 abbrev pub FewIf : Option Need → Option Input → Type 0
 FewIf o None = Unit {0}
 FewIf o (Some r) = length (copy_of o r) ≤ 4096

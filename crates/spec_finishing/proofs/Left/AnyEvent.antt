@@ -1,4 +1,4 @@
--- Whatever the event, flights have no more left than before, but for the flight of its move.
+-- Whatever the event, flights have no more left than before, except for the flight of its move.
 use Rattle.std.proofs.Common.{◌≡◌, ℕ, ◌+◌, ◌≤◌, Option, Some, None, refl, ap, arith}
 use Rattle.spec_isa.specs.declared.thread.Parts.{Parts}
 use Rattle.spec_protocol.specs.declared.reply.Reply.{Reply}

@@ -1,4 +1,4 @@
--- Where the next event of finishing is a step, and its instruction ran, the next event is that step again.
+-- If the next event of finishing is a step, and its instruction ran, the next event is that step again.
 use Rattle.std.proofs.Common.{◌≡◌, ℕ, ◌/◌, Bool, true, false, eqb, cond, List, [], ◌∷◌, length, Option, Some, None, refl, sym, ap, ◌∙◌, subst}
 use Rattle.std.proofs.Math.Nat.{mod-eq_of_lt}
 use Rattle.std.proofs.lemmas.Option.{none-some}
@@ -25,7 +25,7 @@ use Rattle.spec_finishing.proofs.Next.UnderWay.{OnCore, on-core}
 use Rattle.spec_finishing.proofs.Next.StepRises.{step-rises}
 use Rattle.spec_finishing.proofs.Next.Cores.{first_set, runs_it, step_is}
 
--- ---- a step leaves its chunk open, where its instruction ran
+-- ---- a step leaves its chunk open, if its instruction ran
 
 pub record Opens (s : Stepping) : Type 0 where
   pub opened : s.reply ≡ Stepped.Ran → is_open s.chunk ≡ true
@@ -79,9 +79,9 @@ step_opens capacity m xs c ch open_ =
     (λ _. reading_opens xs c ch a (running capacity shown xs c (read shown a)) (running_opens capacity shown xs c (read shown a) (marked ch a) open_))
     (λ _. closes_opens How.Serial ch)
 
--- ---- where a step is next
+-- ---- if a step is next
 
--- no flight stands, it is a thread's turn, and that thread's chunk is open on the core
+-- no flight is left, it is a thread's turn, and that thread's chunk is open on the core
 pub record StepIsNext (w : World) (c : ℕ) : Type 0 where
   pub none : standing w ≡ None
   pub sphere : ℕ

@@ -1,4 +1,4 @@
--- Where a flight stands, the next event of finishing is done and makes less of what is left of the flights.
+-- If there is a flight, the next event of finishing is done and reduces what is left of the flights.
 use Rattle.std.proofs.Common.{◌≡◌, ℕ, zero, suc, ◌+◌, ◌<◌, ◌≤◌, inl, inr, Bool, true, false, cond, List, [], ◌∷◌, length, Option, Some, None, refl, sym, ap, ◌∙◌, subst, arith, set}
 use Rattle.std.proofs.lemmas.Bool.{cases_eq, and_from}
 use Rattle.std.proofs.lemmas.Option.{none-some}
