@@ -1,4 +1,4 @@
--- Events of flights never increase what is left of the flights.
+-- Events of flights never make more of what is left of the flights.
 use Rattle.std.proofs.Common.{◌≡◌, ℕ, zero, suc, ◌≤◌, cond, List, [], ◌∷◌, length, Option, Some, None, refl, ap, arith, set}
 use Rattle.spec_isa.specs.Words.{Stored}
 use Rattle.spec_engine.specs.declared.answers.Deliver.{Deliver}

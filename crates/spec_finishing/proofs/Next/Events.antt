@@ -1,4 +1,4 @@
--- If there is a flight, or a thread is on no core, the next event of finishing is done and reduces what is left.
+-- Where a flight stands, or a thread is on no core, the next event of finishing is done and makes less of what is left.
 use Rattle.std.proofs.Common.{◌≡◌, ℕ, ◌<◌, true, List, [], ◌∷◌, length, Option, Some, None, refl, sym, ap, ◌∙◌, subst, arith}
 use Rattle.std.proofs.Math.Nat.{mod-eq_of_lt}
 use Rattle.dl_entry.specs.declared.Actor.{Actor}
