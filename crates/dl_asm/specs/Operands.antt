@@ -1,5 +1,6 @@
 -- Operands: numbers and names, alone or with parentheses, separated by commas.
-use Rattle.std.specs.Prelude.{ℕ, ◌-◌, ◌==◌, Bool, false, not, ◌&&◌, ◌||◌, nat_eq, nat_lt, List, [], ◌∷◌, length, take, map, codes, Option, Some, None, is_some, if◌then◌else◌}
+use Rattle.std.specs.Prelude.{ℕ, ◌-◌, ◌==◌, Bool, false, not, ◌&&◌, ◌||◌, nat_eq, nat_lt, List, [], ◌∷◌, length, take, map, codes, Option, Some, None}
+use Rattle.std.specs.Prelude.{is_some, if◌then◌else◌}
 use Rattle.std.specs.List.{list_all, slice_split, ends_with}
 use Rattle.dl_asm.specs.Texts.{trimmed, place_of, before, behind, is_name}
 use Rattle.dl_asm.specs.Numbers.{number_in, register_in}

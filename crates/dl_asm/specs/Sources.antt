@@ -1,5 +1,6 @@
 -- A source: its lines, the place of each, its labels, the rules that its lines break, and its words.
-use Rattle.std.specs.Prelude.{ℕ, zero, suc, ◌++◌, ◌+◌, ◌*◌, ◌==◌, Bool, true, false, not, nat_lt, List, [], length, take, get_or, Option, Some, None, if◌then◌else◌}
+use Rattle.std.specs.Prelude.{ℕ, zero, suc, ◌++◌, ◌+◌, ◌*◌, ◌==◌, Bool, true, false, not, nat_lt, List, [], length, take, get_or, Option, Some, None}
+use Rattle.std.specs.Prelude.{if◌then◌else◌}
 use Rattle.std.specs.List.{slice_split, sum_by, list_any, position}
 use Rattle.std.specs.Option.{option_map, option_or}
 use Rattle.std.specs.Str.{bytes_eq}

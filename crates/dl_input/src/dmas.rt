@@ -1,5 +1,6 @@
 //! The data of DMAs by their positions.
-ghost use Rattle.std.specs.Prelude.{◌≡◌, ℕ, ◌-◌, ◌<◌, ◌≤◌, false, [], ◌∷◌, ◌++◌, None, Some, length, slice_index_or, IfOk, IsOk, IsTrue, MatchOption, OnOk, OnErr};
+ghost use Rattle.std.specs.Prelude.{◌≡◌, ℕ, ◌-◌, ◌<◌, ◌≤◌, false, [], ◌∷◌, ◌++◌, None, Some, length, slice_index_or, IfOk, IsOk, IsTrue, MatchOption};
+ghost use Rattle.std.specs.Prelude.{OnOk, OnErr};
 ghost use Rattle.dl_entry.specs.Numbers.{most_bytes};
 ghost use Rattle.std.specs.List.{list_all};
 ghost use Rattle.std.specs.Slice.{IsItemAt};

@@ -8,6 +8,7 @@ use Rattle.spec_log.specs.declared.records.DmaRecord.{DmaRecord}
 use Rattle.spec_log.specs.declared.sizes.ShortSize.{ShortSize}
 use Rattle.spec_log.specs.declared.sizes.Sizes.{Sizes}
 use Rattle.spec_log.specs.declared.sizes.Sizes.TheVariants.{Each, Short}
+use Rattle.dl_entry.specs.Numbers.{most_threads}
 use Rattle.spec_log.specs.Log.{IsActor, IsLog}
 use Rattle.spec_log.specs.Noting.{Kept, log_of}
 
@@ -23,7 +24,7 @@ pub record Recording : Type 0 where
 -- a commit that can be noted: of an actor of a log, no larger than a standard chunk, over 0 if it is short, and with
 -- fewer than 2^24 commits before it
 pub record CanCommit (kept : Kept) (commit : Commit) (short : Bool) : Type 0 where
-  pub actor : IsActor commit.actor
+  pub actor : IsActor most_threads commit.actor
   pub size : commit.size ≤ kept.s
   pub over : short ≡ true → 1 ≤ commit.size
   pub few : kept.count < 2 ^ 24

@@ -1,5 +1,6 @@
 -- Flights: commits whose stores are still being made visible, each in its slot.
-use Rattle.std.specs.Prelude.{ℕ, zero, suc, ◌+◌, ◌*◌, ◌≤◌, ◌≡◌, ◌/◌, ◌%◌, ◌^◌, Bool, true, false, ◌&&◌, ◌||◌, nat_eq, List, [], ◌∷◌, Option, Some, None, bit_or, if◌then◌else◌, slice_set, slice_index_or}
+use Rattle.std.specs.Prelude.{ℕ, zero, suc, ◌+◌, ◌*◌, ◌≤◌, ◌≡◌, ◌/◌, ◌%◌, ◌^◌, Bool, true, false, ◌&&◌, ◌||◌, nat_eq, List, [], ◌∷◌, Option, Some}
+use Rattle.std.specs.Prelude.{None, bit_or, if◌then◌else◌, slice_set, slice_index_or}
 use Rattle.std.specs.List.{position}
 use Rattle.spec_isa.specs.Words.{Stored, lay}
 use Rattle.spec_engine.specs.declared.answers.Drain.{Drain}

@@ -1,5 +1,6 @@
 -- What each instruction does: first, from the registers alone, an operation; then what that operation asks of memory and what it leaves.
-use Rattle.std.specs.Prelude.{ℕ, ◌+◌, ◌-◌, ◌*◌, ◌/◌, ◌%◌, ◌^◌, Bool, false, nat_eq, nat_le, nat_lt, ◌&&◌, ◌||◌, List, slice_index, slice_set, Option, Some, None, if◌then◌else◌}
+use Rattle.std.specs.Prelude.{ℕ, ◌+◌, ◌-◌, ◌*◌, ◌/◌, ◌%◌, ◌^◌, Bool, false, nat_eq, nat_le, nat_lt, ◌&&◌, ◌||◌, List, slice_index, slice_set, Option}
+use Rattle.std.specs.Prelude.{Some, None, if◌then◌else◌}
 use Rattle.spec_isa.specs.declared.instr.LoadOp.{LoadOp}
 use Rattle.spec_isa.specs.declared.instr.StoreOp.{StoreOp}
 use Rattle.spec_isa.specs.declared.instr.Instr.{Instr}
@@ -7,7 +8,8 @@ use Rattle.spec_isa.specs.declared.thread.Parts.{Parts}
 use Rattle.spec_isa.specs.declared.thread.Load.{Load}
 use Rattle.spec_isa.specs.declared.thread.Kind.{Kind}
 use Rattle.spec_isa.specs.declared.operation.Operation.{Operation}
-use Rattle.spec_isa.specs.Numbers.{jump_misaligned, load_misaligned, load_outside, store_misaligned, store_outside, moment_address, input_address, console_address}
+use Rattle.spec_isa.specs.Numbers.{jump_misaligned, load_misaligned, load_outside, store_misaligned, store_outside, moment_address, input_address}
+use Rattle.spec_isa.specs.Numbers.{console_address}
 use Rattle.spec_isa.specs.Arithmetic.{add, extended, holds, immediate_result, shift_result, register_result, amo_result}
 use Rattle.spec_isa.specs.Words.{Stored, is_inside}
 use Rattle.spec_isa.specs.Masks.{some_if}

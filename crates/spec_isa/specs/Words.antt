@@ -1,5 +1,6 @@
 -- Memory as a list of bytes, and the words that are stored in it. A word goes by its number, a quarter of its address.
-use Rattle.std.specs.Prelude.{◌≢◌, ℕ, ◌+◌, ◌*◌, ◌/◌, ◌^◌, ◌<◌, Bool, true, false, List, [], ◌∷◌, Option, Some, None, if◌then◌else◌, nat_eq, nat_le, slice_set, slice_index}
+use Rattle.std.specs.Prelude.{◌≢◌, ℕ, ◌+◌, ◌*◌, ◌/◌, ◌^◌, ◌<◌, Bool, true, false, List, [], ◌∷◌, Option, Some, None, if◌then◌else◌, nat_eq, nat_le}
+use Rattle.std.specs.Prelude.{slice_set, slice_index}
 
 -- bytes to be stored in the word of that number, the first at address 4 * number
 pub record Stored : Type 0 where

@@ -1,6 +1,8 @@
 //! The numbers that stand for something.
 ghost use Rattle.std.specs.Prelude.{◌≡◌};
-ghost use Rattle.spec_kernel.specs.Numbers.{call_exit, call_spawn, call_write, call_read, call_random, call_clock, call_handler, call_iret, call_dma, call_self, call_yield, call_ended, pipe_count, channel_console, channel_input, pipe_size, most_input, random_stream};
+ghost use Rattle.spec_kernel.specs.Numbers.{call_exit, call_spawn, call_write, call_read, call_random, call_clock, call_handler, call_iret, call_dma};
+ghost use Rattle.spec_kernel.specs.Numbers.{call_self, call_yield, call_ended, pipe_count, channel_console, channel_input, pipe_size, most_input};
+ghost use Rattle.spec_kernel.specs.Numbers.{random_stream};
 
 /// The kernel calls.
 pub const CALL_EXIT: u32 = 0;

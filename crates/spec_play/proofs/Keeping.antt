@@ -1,5 +1,6 @@
 -- What a recorder keeps, as a log: by the definitions alone.
 use Rattle.std.proofs.Common.{◌≡◌, ℕ, ◌+◌, false, refl, ap}
+use Rattle.dl_entry.specs.Numbers.{most_threads}
 use Rattle.spec_log.specs.declared.Sizes.{Sizes}
 use Rattle.spec_log.specs.Noting.{order_with, sizes_at}
 use Rattle.spec_play.specs.Effects.{dma_commit}
@@ -17,6 +18,8 @@ grows-alike r =
     record {
       commit = λ c short. refl;
       dma_commit = λ i. ap (λ (z : Sizes). record {
+        version = 1;
+        threads = most_threads;
         mode = r.mode;
         s = r.kept.s;
         count = r.kept.count + 1;

@@ -2,14 +2,17 @@
 use Rattle.std.specs.Prelude.{ℕ, ◌+◌, Bool, List, [], ◌∷◌, ◌++◌, Option, Some, None}
 use Rattle.dl_entry.specs.declared.Commit.{Commit}
 use Rattle.dl_entry.specs.declared.Input.{Input}
+use Rattle.dl_entry.specs.Numbers.{most_threads}
 use Rattle.spec_log.specs.declared.ModeName.{ModeName}
 use Rattle.spec_log.specs.declared.LogParts.{LogParts}
 use Rattle.spec_log.specs.Noting.{Note, no_sizes, order_with, sizes_at, insert_interrupt}
 
--- before the first commit
+-- before the first commit, of version 1
 abbrev pub new_log : ModeName → (s : ℕ) → LogParts
 new_log mode s =
     record {
+      version = 1;
+      threads = most_threads;
       mode = mode;
       s = s;
       count = 0;

@@ -56,7 +56,7 @@ replay log =
     (record {
       cores = 1;
       window = 2;
-      numbers = record { s = 100; capacity = 16; bits = 64 };
+      numbers = record { s = 100; capacity = 16; bits = 64; depth = 1 };
       seed = 0;
       input = [];
       spheres = record { memory = code; entry = 0; role = IsReplayed (record { log = log }) } ∷ [];
@@ -82,7 +82,7 @@ commits_after w es = (sphere_at (world_after w es) 0).progress.commits
 
 abbrev sized : (count : ℕ) → List Actor → List ℕ → LogParts
 sized count order sizes =
-    record { mode = ModeName.OrderSize; s = 100; count = count; order = order; sizes = Sizes.Each sizes; interrupts = []; inputs = []; dmas = [] }
+    record { version = 1; threads = 15; mode = ModeName.OrderSize; s = 100; count = count; order = order; sizes = Sizes.Each sizes; interrupts = []; inputs = []; dmas = [] }
 
 -- no commit
 abbrev empty_log : LogParts
@@ -99,7 +99,7 @@ whole_log = sized 2 (Actor.Thread 0 ∷ Actor.Thread 0 ∷ []) (2 ∷ 0 ∷ [])
 -- the same in order-only
 abbrev unsized_log : LogParts
 unsized_log =
-    record { mode = ModeName.OrderOnly; s = 100; count = 2; order = Actor.Thread 0 ∷ Actor.Thread 0 ∷ []; sizes = Sizes.Short []; interrupts = []; inputs = []; dmas = [] }
+    record { version = 1; threads = 15; mode = ModeName.OrderOnly; s = 100; count = 2; order = Actor.Thread 0 ∷ Actor.Thread 0 ∷ []; sizes = Sizes.Short []; interrupts = []; inputs = []; dmas = [] }
 
 -- a longer chunk
 abbrev longer_log : LogParts

@@ -16,7 +16,7 @@ use Rattle.spec_protocol.specs.declared.event.Event.{Event}
 use Rattle.spec_protocol.specs.declared.reply.Reply.{Reply}
 use Rattle.spec_protocol.specs.machine.Spheres.{is_stopped}
 use Rattle.spec_protocol.specs.machine.World.{World, Occupant, After, sphere_at, runs, core_of, answered}
-use Rattle.spec_protocol.specs.machine.Stepping.{reply_of_step, stepped, step_held, stepping}
+use Rattle.spec_protocol.specs.machine.Stepping.{reply_of_step, stepped, step_held, stepping, younger_for, step_younger}
 use Rattle.spec_protocol.specs.machine.Machine.{core_no, act, with_event, happens}
 use Rattle.spec_protocol.specs.machine.Finishing.{Who, least, standing, untold, deliver_or_retire, for_flight, for_held, for_core, for_actor, for_who, for_slot, for_standing, next}
 use Rattle.spec_protocol.proofs.Memory.Slots.{at-set_same, at_within}
@@ -166,7 +166,7 @@ unfolding stepping
 stopped_is w c h is stopped =
     let s = step w.numbers.capacity (sphere_at w h.chunk.sphere).memory w.slots c h.chunk in
     ap (step_held w c) is
-    ∙ ap {A = Bool} (λ b. cond b (answered w Reply.Stopped) (cond (is_open h.chunk) (stepped w c h s) (answered w Reply.Waiting))) stopped
+    ∙ ap {A = Bool} (λ b. cond b (answered w Reply.Stopped) (cond (is_open h.chunk) (stepped w c h s) (step_younger w c h (younger_for w.numbers (sphere_at w h.chunk.sphere).role h h.younger)))) stopped
 
 step_again : (w : World) (c : ℕ) (n : StepIsNext w c) (b : Bool) → is_stopped (sphere_at w n.held.chunk.sphere).role ≡ b → Again c (stepping w c)
 step_again w c n true stopped = subst (Again c) (sym (stopped_is w c n.held n.on.there stopped)) (λ e. absurd (cc))

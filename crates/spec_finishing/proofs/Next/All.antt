@@ -43,7 +43,7 @@ core_is w c h there = mod-eq_of_lt (at_within w.cores c h there)
 -- ---- Step
 
 step_move : (w : World) (c : ℕ) → (stepping w c).move ≡ None
-step_move w c = any-step w (λ (a : After). a.move ≡ None) (λ r none. refl) c (λ h is opened. refl)
+step_move w c = any-step w (λ (a : After). a.move ≡ None) (λ r none. refl) c (λ h is opened. refl) (λ h y is e opened. refl)
 
 step_act : (s : Setup) (w : World) (who : Who) (k c : ℕ) (h : Occupant) → Known s w → Known s (happens w (Event.Step c)).world → standing w ≡ None → least 0 w.spheres ≡ Some who → who.actor ≡ Actor.Thread k → core_of w who.sphere k ≡ Some c → OnCore w who.sphere k c h → is_open h.chunk ≡ true
     → Lowers s w (Event.Step c)

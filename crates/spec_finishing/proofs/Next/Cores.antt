@@ -13,7 +13,7 @@ use Rattle.spec_engine.proofs.Searches.{first_least, first_is}
 use Rattle.spec_protocol.specs.declared.reply.Reply.{Reply}
 use Rattle.spec_protocol.specs.machine.Spheres.{Sphere, is_stopped, limit_of, halves}
 use Rattle.spec_protocol.specs.machine.World.{World, Occupant, After, sphere_at, with_core, thread_afresh, held_afresh, runs, core_of, answered}
-use Rattle.spec_protocol.specs.machine.Stepping.{stepped, step_held, stepping}
+use Rattle.spec_protocol.specs.machine.Stepping.{stepped, step_held, stepping, younger_for, step_younger}
 use Rattle.spec_protocol.specs.machine.Placing.{unless_elsewhere, place_thread, placing}
 use Rattle.spec_protocol.specs.machine.Machine.{Setup}
 use Rattle.spec_protocol.specs.machine.Finishing.{standing}
@@ -67,9 +67,10 @@ pub step_is : (w : World) (c : ℕ) (h : Occupant) → at w.cores c ≡ Some h �
 unfolding stepping
 step_is w c h is going open_ =
     let s = step w.numbers.capacity (sphere_at w h.chunk.sphere).memory w.slots c h.chunk in
+    let closed = step_younger w c h (younger_for w.numbers (sphere_at w h.chunk.sphere).role h h.younger) in
     ap (step_held w c) is
-    ∙ ap {A = Bool} (λ b. cond b (answered w Reply.Stopped) (cond (is_open h.chunk) (stepped w c h s) (answered w Reply.Waiting))) going
-    ∙ ap {A = Bool} (λ b. cond b (stepped w c h s) (answered w Reply.Waiting)) open_
+    ∙ ap {A = Bool} (λ b. cond b (answered w Reply.Stopped) (cond (is_open h.chunk) (stepped w c h s) closed)) going
+    ∙ ap {A = Bool} (λ b. cond b (stepped w c h s) closed) open_
 
 -- the step's chunk has got further
 pub record StepRose (w : World) (i k : ℕ) (n : ℕ) (a : After) : Type 0 where
@@ -113,7 +114,7 @@ thread_lives s w i k a =
 abbrev new_held : World → (i k : ℕ) → Parts → Occupant
 new_held w i k t =
     let p = sphere_at w i in
-    record { thread = k; chunk = fresh w.numbers.bits i t (limit_of w.numbers.s p.role k t) (halves p.role) }
+    record { thread = k; chunk = fresh w.numbers.bits i t (limit_of w.numbers.s p.role k t) (halves p.role); younger = None }
 
 chunk_is : (w : World) (i k : ℕ) (t : Parts) → slice_get (sphere_at w i).threads k ≡ Some t → is_live t ≡ true → held_afresh w.numbers i k (sphere_at w i) ≡ Some (new_held w i k t)
 chunk_is w i k t is live =
