@@ -11,7 +11,7 @@ use std::alloc::Global;
 use std::process::Abort;
 use std::test::Fail;
 
-/// The actors, the sizes, and whether the chunks were closed early: two threads, whose chunks that were closed early are
+/// The actors, the sizes, and whether the chunks were closed early: two threads, with chunks that were closed early
 /// between others and a DMA.
 const COMMITS: &[(u8, u32, bool)] = &[
     (1, 2, true),
