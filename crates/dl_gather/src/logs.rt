@@ -19,9 +19,9 @@ pub fn good_log(alloc: Global, sphere: usize, read: LogRead) -> Result<Log, Halt
 {
     match read {
         LogRead::Good(log) => Ok(log),
-        LogRead::Malformed(number, offset) => Err(Halt::Refused(
+        LogRead::Malformed(fault) => Err(Halt::Refused(
             Refusal::Grammar,
-            log_line(alloc, sphere, number, offset)?,
+            log_line(alloc, sphere, fault.number, fault.offset)?,
         )),
     }
 }

@@ -6,7 +6,8 @@ use Rattle.std.proofs.lemmas.List.{drop_at, take_at, take-append-drop, length-ta
 use Rattle.std.proofs.lemmas.List.Elements.{All-nil, All-cons, All-drop, All-take}
 use Rattle.std.specs.Int.{byte_at, bytes_low_first}
 use Rattle.spec_log.specs.Bytes.{little}
-use Rattle.spec_log.specs.Fields.{ParseError, Read, Reader, continues, read, gives, raw, passes as judge, number, number_of}
+use Rattle.spec_log.specs.declared.fault.Fault.{Fault}
+use Rattle.spec_log.specs.Fields.{Read, Reader, continues, read, gives, raw, passes as judge, number, number_of}
 use Rattle.dl_logfmt.proofs.ByteNumbers.{IsByte, length-little, number_of-little, little-number_of, number_of-below}
 
 -- what was read: a good value, whose bytes these are, and the bytes behind it
@@ -44,7 +45,7 @@ Codes-via reader other bytes_of good same codes =
       finds = λ before bytes x after are e. codes.finds before bytes x after are (sym (same _ _) ∙ e);
     }
 
-same_ok : {X : Type 0} (r : Result X ParseError) (x y : X) → r ≡ Ok x → r ≡ Ok y → x ≡ y
+same_ok : {X : Type 0} (r : Result X Fault) (x y : X) → r ≡ Ok x → r ≡ Ok y → x ≡ y
 same_ok r x y e f = cc
 
 -- to read nothing is to read the one good value, whose bytes are none
@@ -65,7 +66,7 @@ Codes-gives {X} x good is only =
     }
 
 -- where one reading behind another gave a value, the first gave one too, and the second went on from it
-pub continued : {X Y : Type 0} (r : Result (Read X) ParseError) (next : X → ℕ → Result (Read Y) ParseError) (y : Read Y)
+pub continued : {X Y : Type 0} (r : Result (Read X) Fault) (next : X → ℕ → Result (Read Y) Fault) (y : Read Y)
     → continues r next ≡ Ok y → (x : Read X) × (r ≡ Ok x) × (next x.value x.after ≡ Ok y)
 continued (Ok x) next y e = (x, refl, e)
 continued (Err fault) next y e = cc
@@ -95,7 +96,7 @@ module _ {X : Type 0} (bytes_of : X → List ℕ) (good : X → Type 0) (before 
       }
 
   -- where the next reader goes on
-  found_next : {Y : Type 0} (next : Reader Y) (result : Result (Read Y) ParseError) (f : Found bytes_of good before bytes x after)
+  found_next : {Y : Type 0} (next : Reader Y) (result : Result (Read Y) Fault) (f : Found bytes_of good before bytes x after)
       → next (before ++ bytes) after ≡ result → next ((before ++ bytes_of x) ++ f.rest) (length (before ++ bytes_of x)) ≡ result
   found_next next result f e =
       let same : before ++ bytes ≡ (before ++ bytes_of x) ++ f.rest =
@@ -146,12 +147,12 @@ Codes-read first next part bytes_of good rest_of rest_good codes rests =
     (λ x y g r. ((subst good (sym r.0) g, r.1), rw r.0 refl))
 
 -- a test that is passed
-pub untested : {X : Type 0} (b : Bool) (x y : X) (fault : ParseError) → (if b then Err fault else Ok x) ≡ Ok y → (b ≡ false) × (x ≡ y)
+pub untested : {X : Type 0} (b : Bool) (x y : X) (fault : Fault) → (if b then Err fault else Ok x) ≡ Ok y → (b ≡ false) × (x ≡ y)
 untested true x y fault e = cc
 untested false x y fault e = (refl, same_ok (Ok x) x y refl e)
 
 -- where a test lets a value through, it has passed
-pub tested : {X : Type 0} (b : Bool) (x y : X) (fault : ParseError) → (if b then Ok x else Err fault) ≡ Ok y → (b ≡ true) × (x ≡ y)
+pub tested : {X : Type 0} (b : Bool) (x y : X) (fault : Fault) → (if b then Ok x else Err fault) ≡ Ok y → (b ≡ true) × (x ≡ y)
 tested true x y fault e = (refl, same_ok (Ok x) x y refl e)
 tested false x y fault e = cc
 
@@ -220,7 +221,7 @@ Codes-number width fault passes =
           rw (e, number_of-little width x g.0, g.1) refl;
       finds = λ before bytes x after are e.
           let all = before ++ bytes in
-          let judged : List ℕ → ℕ → Result (Read ℕ) ParseError =
+          let judged : List ℕ → ℕ → Result (Read ℕ) Fault =
           λ (field : List ℕ) (at : ℕ). judge (passes (number_of field)) fault (length before) (number_of field) all at in
           let s = continued (raw width all (length before)) judged (record { value = x; after = after }) e in
           let f = (Codes-raw width).finds before bytes s.0.value s.0.after are s.1 in

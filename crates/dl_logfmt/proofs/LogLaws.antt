@@ -18,7 +18,8 @@ use Rattle.spec_log.specs.declared.draft.Draft.{Draft}
 use Rattle.spec_log.specs.declared.log.LogParts.{LogParts}
 use Rattle.spec_log.specs.Bytes.{u8, u16, u32, little, magic as magic_bytes, section, header_bytes, order_bytes, sizes_bytes, interrupt_bytes, input_bytes, dma_bytes, log_bytes}
 use Rattle.spec_log.specs.Log.{ComesBefore, IsVersion, most_standard, IsStandard, IsOrder, IsSizes, IsInterrupt, AreInterrupts, IsInput, AreInputs, IsDmaRecord, AreDmas, IsLog}
-use Rattle.spec_log.specs.Fields.{ParseError, Read, Reader, Stage, continues, read, gives, number, field, any, at_most, from_to, staged, all_of}
+use Rattle.spec_log.specs.declared.fault.Fault.{Fault}
+use Rattle.spec_log.specs.Fields.{Read, Reader, Stage, continues, read, gives, number, field, any, at_most, from_to, staged, all_of}
 use Rattle.spec_log.specs.Reading.{is_earlier, interrupt, input, dma, size, short_size, magic, version, mode, mode_of, thread_count, threads, chunk_size, commits, order, sizes, interrupts, inputs, dmas, stages, blank, ended, log_of, sizes_in, read_of}
 use Rattle.dl_logfmt.proofs.ByteNumbers.{IsByte}
 use Rattle.dl_logfmt.proofs.Codes.{Codes, Codes-as, Codes-via, Codes-then, Codes-gives, Codes-skip, Codes-part, untested}
@@ -103,12 +104,12 @@ same-sizes Picolog t s c (Each xs) h = absurd h
 same-sizes Picolog t s c (Short xs) h = refl
 
 -- what is read and put somewhere, and then put elsewhere
-put-put : {X Y Z : Type 0} (r : Result (Read X) ParseError) (first : X → Y) (second : Y → Z) (bytes : List ℕ)
+put-put : {X Y Z : Type 0} (r : Result (Read X) Fault) (first : X → Y) (second : Y → Z) (bytes : List ℕ)
     → continues r (λ x. gives (second (first x)) bytes) ≡ continues (continues r (λ x. gives (first x) bytes)) (λ y. gives (second y) bytes)
 put-put (Ok r) first second bytes = refl
 put-put (Err fault) first second bytes = refl
 
-put-on : {X Y Z : Type 0} (r : Result (Read X) ParseError) (put : X → Y) (next : Y → Reader Z) (bytes : List ℕ)
+put-on : {X Y Z : Type 0} (r : Result (Read X) Fault) (put : X → Y) (next : Y → Reader Z) (bytes : List ℕ)
     → continues (continues r (λ x. gives (put x) bytes)) (λ y after. next y bytes after) ≡ continues r (λ x after. next (put x) bytes after)
 put-on (Ok r) put next bytes = refl
 put-on (Err fault) put next bytes = refl
@@ -221,7 +222,7 @@ Codes-from_interrupts h m c o z good =
     (Codes-interrupts h good) (λ i g. Codes-from_inputs h m c o z i)
     (λ i l r. ap (λ (l : Draft). l.interrupts) r.2.2))
 
-each-put : (h : Shape) (c : ℕ) (o : List Actor) (bytes : List ℕ) (r : Result (Read ℕ) ParseError)
+each-put : (h : Shape) (c : ℕ) (o : List Actor) (bytes : List ℕ) (r : Result (Read ℕ) Fault)
     → continues (continues r (λ n after. entries (λ x y. true) (size h) None n bytes after)) (λ xs. gives (whole h OrderSize c o (Each xs) [] [] []) bytes)
     ≡ continues (continues r (λ n after. read (entries (λ x y. true) (size h) None n) (λ xs. gives (Each xs)) bytes after)) (λ z. gives (whole h OrderSize c o z [] [] []) bytes)
 each-put h c o bytes (Ok r) =
@@ -351,7 +352,7 @@ log-draft l h = rw (same-sizes l.mode l.threads l.s l.count l.sizes h.sizes) ref
 Codes-draft : Codes (all_of stages blank) (λ l. log_bytes (log_of l)) Known-version
 Codes-draft = Codes-as (all_of stages blank) bytes-all (λ l. log_bytes (log_of l)) Known-version Known-version Codes-all (λ l h. all-written l) (λ l h. h) (λ l h. h)
 
-read-whole : (bytes : List ℕ) (r : Result (Read Draft) ParseError) (log : LogParts)
+read-whole : (bytes : List ℕ) (r : Result (Read Draft) Fault) (log : LogParts)
     → ended bytes r ≡ Ok log → (x : Read Draft) × (r ≡ Ok x) × (length bytes ≤ x.after) × (log_of x.value ≡ log)
 read-whole bytes (Ok x) log e =
     let t = untested (nat_lt x.after (length bytes)) (log_of x.value) log (record { number = 7; offset = x.after }) e in

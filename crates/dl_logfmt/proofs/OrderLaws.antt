@@ -11,7 +11,8 @@ use Rattle.spec_log.specs.declared.mode_name.ModeName.{ModeName}
 use Rattle.spec_log.specs.declared.mode_name.ModeName.TheVariants.{OrderSize, OrderOnly, Picolog}
 use Rattle.spec_log.specs.Bytes.{u8, u32, nibbles, order_bytes}
 use Rattle.spec_log.specs.Log.{IsActor, IsOrder}
-use Rattle.spec_log.specs.Fields.{ParseError, Read, Reader, continues, read, gives, raw, any, field, at_most, repeated}
+use Rattle.spec_log.specs.declared.fault.Fault.{Fault}
+use Rattle.spec_log.specs.Fields.{Read, Reader, continues, read, gives, raw, any, field, at_most, repeated}
 use Rattle.spec_log.specs.Reading.{actor_of, more_actors, ordered}
 use Rattle.dl_logfmt.proofs.Streams.{number-passed}
 use Rattle.dl_logfmt.proofs.Codes.{Codes, Codes-as, Codes-read, Codes-then, Codes-gives}
@@ -154,13 +155,13 @@ Codes-order mode threads count all small =
 -- A stage of a file reads one byte of actors each time, of as many actors as this count.
 module _ {D : Type 0} (one : D → Reader D) (set : List Actor → D) (count : ℕ)
     (on : (xs : List Actor) (bytes : List ℕ) (at : ℕ) → one (set xs) bytes at ≡ read (more_actors count xs) (λ ys. gives (set ys)) bytes at) where
-  last-one : (xs : List Actor) (bytes : List ℕ) (r : Result (Read ℕ) ParseError)
+  last-one : (xs : List Actor) (bytes : List ℕ) (r : Result (Read ℕ) Fault)
       → continues (continues (continues r (λ byte. gives (xs ++ actor_of byte ∷ []) bytes)) (λ ys. gives (set ys) bytes)) (λ d after. gives d bytes after)
       ≡ continues (continues r (λ byte. gives (actor_of byte ∷ []) bytes)) (λ ys. gives (set (xs ++ ys)) bytes)
   last-one xs bytes (Ok r) = refl
   last-one xs bytes (Err fault) = refl
 
-  two-pushed : (xs : List Actor) (a b : Actor) (bytes : List ℕ) (r : Result (Read (List Actor)) ParseError)
+  two-pushed : (xs : List Actor) (a b : Actor) (bytes : List ℕ) (r : Result (Read (List Actor)) Fault)
       → continues r (λ ys. gives (set (((xs ++ a ∷ []) ++ b ∷ []) ++ ys)) bytes)
       ≡ continues (continues r (λ ys. gives (a ∷ b ∷ ys) bytes)) (λ ys. gives (set (xs ++ ys)) bytes)
   two-pushed xs a b bytes (Ok r) =
@@ -170,7 +171,7 @@ module _ {D : Type 0} (one : D → Reader D) (set : List Actor → D) (count : �
   two-more : (n k : ℕ) (xs : List Actor) (bytes : List ℕ)
       → ((a b : Actor) (at : ℕ) → repeated one k (set ((xs ++ a ∷ []) ++ b ∷ [])) bytes at
       ≡ read (actors n) (λ ys. gives (set (((xs ++ a ∷ []) ++ b ∷ []) ++ ys))) bytes at)
-      → (r : Result (Read ℕ) ParseError)
+      → (r : Result (Read ℕ) Fault)
       → continues (continues (continues r (λ byte. gives ((xs ++ actor_of (byte % 16) ∷ []) ++ actor_of (byte / 16) ∷ []) bytes)) (λ ys. gives (set ys) bytes)) (λ d after. repeated one k d bytes after)
       ≡ continues (continues r (λ byte after. read (actors n) (λ ys. gives (actor_of (byte % 16) ∷ actor_of (byte / 16) ∷ ys)) bytes after)) (λ ys. gives (set (xs ++ ys)) bytes)
   two-more n k xs bytes rest (Ok r) =
@@ -193,7 +194,7 @@ module _ {D : Type 0} (one : D → Reader D) (set : List Actor → D) (count : �
       (λ a b to. repeated-actors n ((xs ++ a ∷ []) ++ b ∷ []) bytes to (λ h. omega (arith, length_push (xs ++ a ∷ []) b, length_push xs a)))
       (any 1 bytes at))
 
-  counted-actors : (bytes : List ℕ) (r : Result (Read ℕ) ParseError) → ((x : Read ℕ) → r ≡ Ok x → 0 < x.value → x.value ≡ count)
+  counted-actors : (bytes : List ℕ) (r : Result (Read ℕ) Fault) → ((x : Read ℕ) → r ≡ Ok x → 0 < x.value → x.value ≡ count)
       → continues (continues r (λ n. gives (n / 2 + n % 2) bytes)) (λ k after. repeated one k (set []) bytes after)
       ≡ continues (continues r (λ n after. actors n bytes after)) (λ xs. gives (set xs) bytes)
   counted-actors bytes (Ok r) all = repeated-actors r.value [] bytes r.after (λ h. omega (arith, all r refl h))

@@ -7,7 +7,8 @@ use Rattle.spec_log.specs.declared.draft.Draft.{Draft}
 use Rattle.spec_log.specs.declared.mode_name.ModeName.{ModeName}
 use Rattle.spec_log.specs.declared.mode_name.ModeName.TheVariants.{OrderSize, OrderOnly, Picolog}
 use Rattle.dl_entry.specs.Numbers.{least_chunk}
-use Rattle.spec_log.specs.Fields.{ParseError, Reader, Stage, fails, read, gives, number, field, any, at_most, from_to, one_more}
+use Rattle.spec_log.specs.declared.fault.Fault.{Fault}
+use Rattle.spec_log.specs.Fields.{Reader, Stage, fails, read, gives, number, field, any, at_most, from_to, one_more}
 use Rattle.spec_log.specs.Log.{most_standard}
 use Rattle.spec_log.specs.Reading.{interrupt, input, dma, is_earlier, last_actor, log_of, more_actors, one_size, ordered, short_size, size, size_count, thread_count, two_actors}
 use Rattle.dl_logfmt.specs.Answer.{Answers, Makes}
@@ -117,7 +118,7 @@ module _ {D : Type 0} (stage : Stage D) (stages : List (Stage D)) (d : D) where
       → rest_in (stage ∷ stages) None d whole from ≡ rest_in (stage ∷ stages) (Some n) d whole to
   rest-times whole from to n e = rw e refl
 
-  rest-no_times : (whole : List ℕ) (from : ℕ) (fault : ParseError) → stage.times d whole from ≡ Err fault → rest_in (stage ∷ stages) None d whole from ≡ Err fault
+  rest-no_times : (whole : List ℕ) (from : ℕ) (fault : Fault) → stage.times d whole from ≡ Err fault → rest_in (stage ∷ stages) None d whole from ≡ Err fault
   rest-no_times whole from fault e = rw e refl
 
   -- where the first was read once more, it is left once less
@@ -125,7 +126,7 @@ module _ {D : Type 0} (stage : Stage D) (stages : List (Stage D)) (d : D) where
       → rest_in (stage ∷ stages) (Some (suc left)) d whole from ≡ rest_in (stage ∷ stages) (Some left) e whole to
   rest-once left whole from to e h = rw h refl
 
-  rest-not_once : (left : ℕ) (whole : List ℕ) (from : ℕ) (fault : ParseError) → stage.one d whole from ≡ Err fault
+  rest-not_once : (left : ℕ) (whole : List ℕ) (from : ℕ) (fault : Fault) → stage.one d whole from ≡ Err fault
       → rest_in (stage ∷ stages) (Some (suc left)) d whole from ≡ Err fault
   rest-not_once left whole from fault h = rw h refl
 
@@ -152,10 +153,10 @@ module _ (stage : StageName) (left : Option ℕ) (d : Draft) (bytes : List ℕ) 
   -- how many times it is read can't be read
   pub times-unread : (after : ℕ) (error : LogError) → left ≡ None → Answers ((stage_at stage).times d bytes at) (Err error) after
       → Steps bytes here at (Err error) here after
-  times-unread after (Malformed number offset) none e =
+  times-unread after (Malformed fault) none e =
       let s = stage_at stage in
       let ss = ahead (next stage) in
-      let stops = step-stops 4 (s.times d) (rest_in (s ∷ ss) None d) bytes at (record { number = number; offset = offset })
+      let stops = step-stops 4 (s.times d) (rest_in (s ∷ ss) None d) bytes at fault
       (Streams-times stage d) inside e (λ whole from fault h. rest-no_times s ss d whole from fault h) in
       rw none (refl, λ before behind. rw (ahead-more stage some) (stops before behind))
   times-unread after OutOfMemory none e = tt
@@ -192,12 +193,12 @@ module _ (stage : StageName) (left : Option ℕ) (d : Draft) (bytes : List ℕ) 
   -- the stage can't be read
   pub once-unread : (n : ℕ) (e : Draft) (after : ℕ) (error : LogError) → left ≡ Some n → 0 < n → Makes ((stage_at stage).one d bytes at) (Err error) d e after
       → Steps bytes here at (Err error) (record { stage = stage; left = left; draft = e }) after
-  once-unread n e after (Malformed number offset) is more (h, still) =
+  once-unread n e after (Malformed fault) is more (h, still) =
       let s = stage_at stage in
       let ss = ahead (next stage) in
       let up : n ≡ suc (n - 1) = omega arith in
       let whole : left ≡ Some (suc (n - 1)) = is ∙ ap (λ (k : ℕ). Some k) up in
-      let stops = step-stops 4103 (s.one d) (rest_in (s ∷ ss) (Some (suc (n - 1))) d) bytes at (record { number = number; offset = offset })
+      let stops = step-stops 4103 (s.one d) (rest_in (s ∷ ss) (Some (suc (n - 1))) d) bytes at fault
       (Streams-once stage d) inside h (λ whole from fault k. rest-not_once s ss d (n - 1) whole from fault k) in (
         ap (λ (f : Draft). record { stage = stage; left = left; draft = f }) still,
         rw whole (λ before behind. rw (ahead-more stage some) (stops before behind)),
@@ -217,8 +218,8 @@ Came-then bytes p at q middle r after a b =
 -- where a step fails, all was read up to it, with that error
 pub step-exit : (bytes : List ℕ) (p : Parser) (at : ℕ) (q : Parser) (middle : ℕ) (r : Parser) (after : ℕ) (error : LogError)
     → Came bytes p at q middle → Steps bytes q middle (Err error) r after → Reads bytes p at (Err error) r middle
-step-exit bytes p at q middle r after (Malformed number offset) came (still, stops) =
-    subst (λ (z : Parser). Came bytes p at z middle × Stops bytes (remaining z) middle (record { number = number; offset = offset })) (sym still) (came, stops)
+step-exit bytes p at q middle r after (Malformed fault) came (still, stops) =
+    subst (λ (z : Parser). Came bytes p at z middle × Stops bytes (remaining z) middle fault) (sym still) (came, stops)
 step-exit bytes p at q middle r after OutOfMemory came h = tt
 
 -- a list extends itself
@@ -272,7 +273,7 @@ whole-said q bytes is = ap (λ (s : StageName). said_in (ahead s) q.draft bytes)
 
 -- a byte follows
 feeds-behind : (bytes : List ℕ) (p : Parser) (at : ℕ) (q : Parser) (after : ℕ) → Came bytes p at q after → q.stage ≡ End → after < length bytes
-    → Feeds bytes p at (Err (Malformed 7 after)) q after
+    → Feeds bytes p at (Err (Malformed (record { number = 7; offset = after }))) q after
 feeds-behind bytes p at q after came is more = (
   (λ k. absurd (omega arith)),
   omega arith,
@@ -293,28 +294,28 @@ feeds-whole bytes p at q after came is none = (
       rw (whole-remaining q whole (length before + after) is, whole-said q whole is, outside) refl,
 )
 
-said-cut : (stages : List (Stage Draft)) (left : Option ℕ) (d : Draft) (bytes : List ℕ) (at : ℕ) (fault : ParseError) → rest_in stages left d bytes at ≡ Err fault → fails 1 (length bytes) ≡ said_in stages d bytes
+said-cut : (stages : List (Stage Draft)) (left : Option ℕ) (d : Draft) (bytes : List ℕ) (at : ℕ) (fault : Fault) → rest_in stages left d bytes at ≡ Err fault → fails 1 (length bytes) ≡ said_in stages d bytes
 said-cut [] left d bytes at fault h = let e = sym (rest-end left d bytes at) ∙ h in absurd cc
 said-cut (stage ∷ stages) left d bytes at fault h = refl
 
 -- the bytes end inside a field
-feeds-short : (bytes : List ℕ) (p : Parser) (at : ℕ) (q : Parser) (after offset : ℕ)
-    → Reads bytes p at (Err (Malformed 1 offset)) q after → Feeds bytes p at (Ok tt) q after
-feeds-short bytes p at q after offset (came, stops) = (
+feeds-short : (bytes : List ℕ) (p : Parser) (at : ℕ) (q : Parser) (after : ℕ) (fault : Fault) → fault.number ≡ 1
+    → Reads bytes p at (Err (Malformed fault)) q after → Feeds bytes p at (Ok tt) q after
+feeds-short bytes p at q after fault is (came, stops) = (
   came,
   λ before.
       let s = stops before [] in
-      let fault : ParseError = record { number = 1; offset = length before + offset } in
-      let here : remaining q (before ++ bytes) (length before + after) ≡ Err fault =
-      subst (λ (b : List ℕ). remaining q (before ++ b) (length before + after) ≡ Err fault) (append-nil bytes) (s.same (λ k. refl)) in
-      let end : length before + offset ≡ length (before ++ bytes) = omega (arith, length-append before bytes, s.short refl) in
-      rw (here, end) (said-cut (ahead q.stage) q.left q.draft (before ++ bytes) (length before + after) fault here),
+      let short : Fault = record { number = fault.number; offset = length before + fault.offset } in
+      let here : remaining q (before ++ bytes) (length before + after) ≡ Err short =
+      subst (λ (b : List ℕ). remaining q (before ++ b) (length before + after) ≡ Err short) (append-nil bytes) (s.same (λ k. refl)) in
+      let end : length before + fault.offset ≡ length (before ++ bytes) = omega (arith, length-append before bytes, s.short is) in
+      rw (here, is, end) (said-cut (ahead q.stage) q.left q.draft (before ++ bytes) (length before + after) short here),
 )
 
 -- a fault that stays
-feeds-fault : (bytes : List ℕ) (p : Parser) (at : ℕ) (q : Parser) (after : ℕ) (number offset : ℕ) → (number ≡ 1 → ⊥)
-    → Reads bytes p at (Err (Malformed number offset)) q after → Feeds bytes p at (Err (Malformed number offset)) q after
-feeds-fault bytes p at q after number offset other (came, stops) = (
+feeds-fault : (bytes : List ℕ) (p : Parser) (at : ℕ) (q : Parser) (after : ℕ) (fault : Fault) → (fault.number ≡ 1 → ⊥)
+    → Reads bytes p at (Err (Malformed fault)) q after → Feeds bytes p at (Err (Malformed fault)) q after
+feeds-fault bytes p at q after fault other (came, stops) = (
   other,
   (stops [] []).within,
   λ before behind.
@@ -324,7 +325,7 @@ feeds-fault bytes p at q after number offset other (came, stops) = (
 -- the log is whole, and something follows or not
 pub feeds-end : (bytes : List ℕ) (p : Parser) (at : ℕ) (q : Parser) (after : ℕ) (result : Result (Unit {0}) LogError)
     → Reads bytes p at (Ok tt) q after
-    → MatchResult result (λ u. (after == length bytes) ≡ true) (λ error. ((after == length bytes) ≡ false) × (error ≡ Malformed 7 after))
+    → MatchResult result (λ u. (after == length bytes) ≡ true) (λ error. ((after == length bytes) ≡ false) × (error ≡ Malformed (record { number = 7; offset = after })))
     → Feeds bytes p at result q after
 feeds-end bytes p at q after (Ok u) (came, is) h =
     feeds-whole bytes p at q after came is (omega (arith, eqb-true after (length bytes) h))
@@ -333,11 +334,10 @@ feeds-end bytes p at q after (Err error) (came, is) h =
     (feeds-behind bytes p at q after came is (omega (arith, came.within, eqb-false after (length bytes) h.0)))
 
 -- a fault was met, which stays or not
-pub feeds-lasting : (bytes : List ℕ) (p : Parser) (at : ℕ) (q : Parser) (after number offset : ℕ) (result : Result (Unit {0}) LogError)
-    → Reads bytes p at (Err (Malformed number offset)) q after
-    → MatchResult result (λ u. number ≡ 1) (λ error. (number ≡ 1 → ⊥) × (error ≡ Malformed number offset))
+pub feeds-lasting : (bytes : List ℕ) (p : Parser) (at : ℕ) (q : Parser) (after : ℕ) (fault : Fault) (result : Result (Unit {0}) LogError)
+    → Reads bytes p at (Err (Malformed fault)) q after
+    → MatchResult result (λ u. fault.number ≡ 1) (λ error. (fault.number ≡ 1 → ⊥) × (error ≡ Malformed fault))
     → Feeds bytes p at result q after
-feeds-lasting bytes p at q after number offset (Ok u) h is =
-    feeds-short bytes p at q after offset (subst (λ (n : ℕ). Reads bytes p at (Err (Malformed n offset)) q after) is h)
-feeds-lasting bytes p at q after number offset (Err error) h is =
-    subst (λ (x : LogError). Feeds bytes p at (Err x) q after) (sym is.1) (feeds-fault bytes p at q after number offset is.0 h)
+feeds-lasting bytes p at q after fault (Ok u) h is = feeds-short bytes p at q after fault is h
+feeds-lasting bytes p at q after fault (Err error) h is =
+    subst (λ (x : LogError). Feeds bytes p at (Err x) q after) (sym is.1) (feeds-fault bytes p at q after fault is.0 h)

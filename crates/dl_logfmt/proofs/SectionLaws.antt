@@ -6,7 +6,8 @@ use Rattle.std.proofs.lemmas.List.Elements.{All-from_recursion, recursion_from_A
 use Rattle.std.specs.Bool.{Decides}
 use Rattle.spec_log.specs.Log.{IsSection}
 use Rattle.spec_log.specs.Bytes.{little, section}
-use Rattle.spec_log.specs.Fields.{ParseError, Read, Reader, continues, read, gives, any, passes, comes_after, last, next_entry, one_more, repeated}
+use Rattle.spec_log.specs.declared.fault.Fault.{Fault}
+use Rattle.spec_log.specs.Fields.{Read, Reader, continues, read, gives, any, passes, comes_after, last, next_entry, one_more, repeated}
 use Rattle.dl_logfmt.proofs.Codes.{Codes, Codes-as, Codes-read, Codes-then, Codes-gives, Codes-number, continued, tested, found_as}
 
 -- so many entries, each of which comes after the one before it; the fault is at the entry's first byte
@@ -40,7 +41,7 @@ Codes-judged {X} earlier entry bytes_of good last codes =
       reads = λ x g before rest. rw (codes.reads x g.0 before rest, g.1) refl;
       finds = λ before bytes x after are e.
           let all = before ++ bytes in
-          let next : X → ℕ → Result (Read X) ParseError = λ (y : X) (at : ℕ). passes (comes_after earlier last y) 6 (length before) y all at in
+          let next : X → ℕ → Result (Read X) Fault = λ (y : X) (at : ℕ). passes (comes_after earlier last y) 6 (length before) y all at in
           let s = continued (entry all (length before)) next (record { value = x; after = after }) e in
           let f = codes.finds before bytes s.0.value s.0.after are s.1 in
           let t = tested (comes_after earlier last s.0.value) s.0 (record { value = x; after = after }) (record { number = 6; offset = length before }) s.2 in
@@ -138,7 +139,7 @@ last-push xs x =
 -- A stage of a file reads one entry more each time.
 module _ {D X : Type 0} (one : D → Reader D) (set : List X → D) (earlier : X → X → Bool) (entry : Reader X)
     (on : (xs : List X) (bytes : List ℕ) (at : ℕ) → one (set xs) bytes at ≡ read (one_more earlier entry xs) (λ ys. gives (set ys)) bytes at) where
-  one-pushed : (xs : List X) (x : X) (bytes : List ℕ) (r : Result (Read (List X)) ParseError)
+  one-pushed : (xs : List X) (x : X) (bytes : List ℕ) (r : Result (Read (List X)) Fault)
       → continues r (λ ys. gives (set ((xs ++ x ∷ []) ++ ys)) bytes)
       ≡ continues (continues r (λ ys. gives (x ∷ ys) bytes)) (λ ys. gives (set (xs ++ ys)) bytes)
   one-pushed xs x bytes (Ok r) = rw append_assoc refl
@@ -146,7 +147,7 @@ module _ {D X : Type 0} (one : D → Reader D) (set : List X → D) (earlier : X
 
   one-entered : (n : ℕ) (xs : List X) (bytes : List ℕ)
       → ((xs : List X) (at : ℕ) → repeated one n (set xs) bytes at ≡ read (entries earlier entry (last xs) n) (λ ys. gives (set (xs ++ ys))) bytes at)
-      → (r : Result (Read X) ParseError)
+      → (r : Result (Read X) Fault)
       → continues (continues (continues r (λ x. gives (xs ++ x ∷ []) bytes)) (λ ys. gives (set ys) bytes)) (λ d after. repeated one n d bytes after)
       ≡ continues (continues r (λ x after. read (entries earlier entry (Some x) n) (λ ys. gives (x ∷ ys)) bytes after)) (λ ys. gives (set (xs ++ ys)) bytes)
   one-entered n xs bytes rest (Ok r) =
@@ -160,7 +161,7 @@ module _ {D X : Type 0} (one : D → Reader D) (set : List X → D) (earlier : X
   repeated-entries (suc n) xs bytes at =
       rw (on xs bytes at) (one-entered n xs bytes (λ ys to. repeated-entries n ys bytes to) (next_entry earlier entry xs bytes at))
 
-  counted-entries : (bytes : List ℕ) (r : Result (Read ℕ) ParseError)
+  counted-entries : (bytes : List ℕ) (r : Result (Read ℕ) Fault)
       → continues r (λ n after. repeated one n (set []) bytes after)
       ≡ continues (continues r (λ n after. entries earlier entry None n bytes after)) (λ xs. gives (set xs) bytes)
   counted-entries bytes (Ok r) = repeated-entries r.value [] bytes r.after

@@ -4,13 +4,14 @@ use Rattle.std.specs.List.{list_any}
 use Rattle.std.proofs.lemmas.Bool.{ltb-false, ltb-true, le-ltb, lt-ltb, leb-true}
 use Rattle.std.proofs.lemmas.List.{drop_at, drop-drop, drop-append-le, take-append-le, length-drop}
 use Rattle.spec_log.specs.Log.{input_kinds}
-use Rattle.spec_log.specs.Fields.{ParseError, Read, Reader, continues, fails, read, gives, raw, passes, number, number_of, field, any, at_most, from_to, comes_after, last, next_entry, one_more}
+use Rattle.spec_log.specs.declared.fault.Fault.{Fault}
+use Rattle.spec_log.specs.Fields.{Read, Reader, continues, fails, read, gives, raw, passes, number, number_of, field, any, at_most, from_to, comes_after, last, next_entry, one_more}
 use Rattle.spec_log.specs.declared.shape.Shape.{Shape}
 use Rattle.spec_log.specs.Reading.{thread, size, short_size, interrupt, counted, input, dma}
 use Rattle.dl_logfmt.specs.Streams.{Holds, Streams, Leads, Stops}
 
 -- a bound may be wider
-pub Holds-wider : {X : Type 0} (most wider : ℕ) (before bytes behind : List ℕ) (from at : ℕ) (r whole : Result (Read X) ParseError)
+pub Holds-wider : {X : Type 0} (most wider : ℕ) (before bytes behind : List ℕ) (from at : ℕ) (r whole : Result (Read X) Fault)
     → from ≤ at → at + most ≤ from + wider → Holds most before bytes behind at r whole → Holds wider before bytes behind from r whole
 Holds-wider most wider before bytes behind from at (Ok r) whole low high h =
     record { same = h.same; onward = omega (arith, h.onward); within = h.within; few = omega (arith, h.few) }
@@ -74,7 +75,7 @@ module _ (before bytes behind : List ℕ) (at : ℕ) where
   all = before ++ (bytes ++ behind)
 
   -- one stream behind another
-  read-holds : {X Y : Type 0} (m n : ℕ) (next : X → Reader Y) (r whole : Result (Read X) ParseError)
+  read-holds : {X Y : Type 0} (m n : ℕ) (next : X → Reader Y) (r whole : Result (Read X) Fault)
       → ((x : X) → Streams n (next x)) → Holds m before bytes behind at r whole
       → Holds (m + n) before bytes behind at (continues r (λ x after. next x bytes after)) (continues whole (λ x after. next x all after))
   read-holds m n next (Ok r) whole s h =
@@ -92,7 +93,7 @@ module _ (before bytes behind : List ℕ) (at : ℕ) where
       record { within = h; short = λ e. absurd (other e); same = λ k. refl }
 
   -- a stream whose value has to pass that test
-  judged-holds : {X Y : Type 0} (m fault : ℕ) (test : X → Bool) (value : X → Y) (r whole : Result (Read X) ParseError) → (fault ≡ 1 → ⊥) → at ≤ length bytes
+  judged-holds : {X Y : Type 0} (m fault : ℕ) (test : X → Bool) (value : X → Y) (r whole : Result (Read X) Fault) → (fault ≡ 1 → ⊥) → at ≤ length bytes
       → Holds m before bytes behind at r whole
       → Holds m before bytes behind at (continues r (λ x after. passes (test x) fault at (value x) bytes after))
       (continues whole (λ x after. passes (test x) fault (length before + at) (value x) all after))
@@ -148,7 +149,7 @@ Streams-interrupt shape =
     Streams-read 4 0 (any 4) _ (Streams-any 4) (λ value. Streams-gives _)))
 
 -- a number that passed its test
-same-value : {X : Type 0} (r : Result X ParseError) (x y : X) → r ≡ Ok x → r ≡ Ok y → x ≡ y
+same-value : {X : Type 0} (r : Result X Fault) (x y : X) → r ≡ Ok x → r ≡ Ok y → x ≡ y
 same-value r x y e f = cc
 
 passed : (fault start x : ℕ) (y : Read ℕ) (after : ℕ) (good : Bool) (bytes : List ℕ)
@@ -159,7 +160,7 @@ passed fault start x y after true bytes e =
 passed fault start x y after false bytes e = cc
 
 -- the value of a number that was read passed its test
-pub number-passed : (fault start : ℕ) (test : ℕ → Bool) (r : Result (Read (List ℕ)) ParseError) (bytes : List ℕ) (x : Read ℕ)
+pub number-passed : (fault start : ℕ) (test : ℕ → Bool) (r : Result (Read (List ℕ)) Fault) (bytes : List ℕ) (x : Read ℕ)
     → continues r (λ f after. passes (test (number_of f)) fault start (number_of f) bytes after) ≡ Ok x → test x.value ≡ true
 number-passed fault start test (Ok r) bytes x e =
     let p = passed fault start (number_of r.value) x r.after (test (number_of r.value)) bytes e in
@@ -167,7 +168,7 @@ number-passed fault start test (Ok r) bytes x e =
 number-passed fault start test (Err f) bytes x e = cc
 
 -- at most 4,096 bytes behind their number
-counted-holds : (before bytes behind : List ℕ) (at : ℕ) (r whole : Result (Read ℕ) ParseError)
+counted-holds : (before bytes behind : List ℕ) (at : ℕ) (r whole : Result (Read ℕ) Fault)
     → ((x : Read ℕ) → r ≡ Ok x → x.value ≤ 4096) → Holds 2 before bytes behind at r whole
     → Holds 4098 before bytes behind at (continues r (λ n after. raw n bytes after)) (continues whole (λ n after. raw n (before ++ (bytes ++ behind)) after))
 counted-holds before bytes behind at (Ok r) whole small h =
@@ -202,14 +203,14 @@ pub step-leads : {X Y : Type 0} (most : ℕ) (unit : Reader X) (first second : R
     → ((whole : List ℕ) (from to : ℕ) → unit whole from ≡ Ok (record { value = x; after = to }) → first whole from ≡ second whole to)
     → Leads bytes first at second after × (after ≤ length bytes) × (after ≤ at + most)
 step-leads {X} most unit first second bytes at after x s inside e on =
-    let goes = λ (before behind : List ℕ). subst (λ (r : Result (Read X) ParseError). Holds most before bytes behind at r (unit (before ++ (bytes ++ behind)) (length before + at))) e (s.holds before bytes behind at inside) in
+    let goes = λ (before behind : List ℕ). subst (λ (r : Result (Read X) Fault). Holds most before bytes behind at r (unit (before ++ (bytes ++ behind)) (length before + at))) e (s.holds before bytes behind at inside) in
     (λ before behind. on _ _ _ (goes before behind).same, (goes [] []).within, (goes [] []).few)
 
 -- where a stream has a fault, and a whole that begins with it has the same, the bytes stop the whole with that fault
-pub step-stops : {X Y : Type 0} (most : ℕ) (unit : Reader X) (reader : Reader Y) (bytes : List ℕ) (at : ℕ) (fault : ParseError)
+pub step-stops : {X Y : Type 0} (most : ℕ) (unit : Reader X) (reader : Reader Y) (bytes : List ℕ) (at : ℕ) (fault : Fault)
     → Streams most unit → at ≤ length bytes → unit bytes at ≡ Err fault
-    → ((whole : List ℕ) (from : ℕ) (fault : ParseError) → unit whole from ≡ Err fault → reader whole from ≡ Err fault)
+    → ((whole : List ℕ) (from : ℕ) (fault : Fault) → unit whole from ≡ Err fault → reader whole from ≡ Err fault)
     → Stops bytes reader at fault
 step-stops {X} most unit reader bytes at fault s inside e on before behind =
-    let h = subst (λ (r : Result (Read X) ParseError). Holds most before bytes behind at r (unit (before ++ (bytes ++ behind)) (length before + at))) e (s.holds before bytes behind at inside) in
+    let h = subst (λ (r : Result (Read X) Fault). Holds most before bytes behind at r (unit (before ++ (bytes ++ behind)) (length before + at))) e (s.holds before bytes behind at inside) in
     record { within = h.within; short = h.short; same = λ k. on _ _ _ (h.same k) }

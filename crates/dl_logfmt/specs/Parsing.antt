@@ -1,6 +1,7 @@
 -- A log of which a part was read: what is still to be read of it, how it grows, and what its bytes say.
 use Rattle.std.specs.Prelude.{◌≡◌, ℕ, ◌+◌, ◌-◌, ◌*◌, ◌<◌, ◌≤◌, List, [], ◌∷◌, ◌++◌, length, take, drop, Option, Some, None, Result, Ok, Err}
-use Rattle.spec_log.specs.Fields.{ParseError, Reader, Stage, fails, gives, once}
+use Rattle.spec_log.specs.declared.fault.Fault.{Fault}
+use Rattle.spec_log.specs.Fields.{Reader, Stage, fails, gives, once}
 use Rattle.spec_log.specs.Reading.{stages, magic, version, mode, threads, chunk_size, commits, order, sizes, interrupts, inputs, dmas, blank, ended, log_of}
 use Rattle.spec_log.specs.declared.draft.Draft.{Draft}
 use Rattle.spec_log.specs.declared.log.LogParts.{LogParts}
@@ -140,23 +141,21 @@ pub record Came (bytes : List ℕ) (p : Parser) (at : ℕ) (q : Parser) (after :
 -- what comes next was read, or is a fault; want of memory alone has no cause
 abbrev pub Steps : List ℕ → Parser → ℕ → Result (Unit {0}) LogError → Parser → ℕ → Type 0
 Steps bytes p at (Ok x) q after = Came bytes p at q after × (most q < most p)
-Steps bytes p at (Err (Malformed number offset)) q after =
-    (q ≡ p) × Stops bytes (remaining p) at (record { number = number; offset = offset })
+Steps bytes p at (Err (Malformed fault)) q after = (q ≡ p) × Stops bytes (remaining p) at fault
 Steps bytes p at (Err OutOfMemory) q after = Unit {0}
 
 -- the log was read to its end, or up to a fault
 abbrev pub Reads : List ℕ → Parser → ℕ → Result (Unit {0}) LogError → Parser → ℕ → Type 0
 Reads bytes p at (Ok x) q after = Came bytes p at q after × (q.stage ≡ End)
-Reads bytes p at (Err (Malformed number offset)) q after =
-    Came bytes p at q after × Stops bytes (remaining q) after (record { number = number; offset = offset })
+Reads bytes p at (Err (Malformed fault)) q after = Came bytes p at q after × Stops bytes (remaining q) after fault
 Reads bytes p at (Err OutOfMemory) q after = Unit {0}
 
 -- what bytes say that were read to their end: a log if no stage is left, else they end inside a field
-abbrev pub said_in : List (Stage Draft) → Draft → List ℕ → Result LogParts ParseError
+abbrev pub said_in : List (Stage Draft) → Draft → List ℕ → Result LogParts Fault
 said_in [] d bytes = Ok (log_of d)
 said_in (stage ∷ behind) d bytes = fails 1 (length bytes)
 
-abbrev pub said : Parser → List ℕ → Result LogParts ParseError
+abbrev pub said : Parser → List ℕ → Result LogParts Fault
 said p bytes = said_in (ahead p.stage) p.draft bytes
 
 -- a call read on as far as the bytes go, or came to a fault that stays whatever follows
@@ -165,9 +164,9 @@ Feeds bytes p at (Ok x) q after =
     Came bytes p at q after
     × ((before : List ℕ) →
     ended (before ++ bytes) (remaining q (before ++ bytes) (length before + after)) ≡ said q (before ++ bytes))
-Feeds bytes p at (Err (Malformed number offset)) q after =
-    (number ≡ 1 → ⊥) × (offset ≤ length bytes)
+Feeds bytes p at (Err (Malformed fault)) q after =
+    (fault.number ≡ 1 → ⊥) × (fault.offset ≤ length bytes)
     × ((before behind : List ℕ) →
     ended (before ++ (bytes ++ behind)) (remaining p (before ++ (bytes ++ behind)) (length before + at))
-    ≡ fails number (length before + offset))
+    ≡ fails fault.number (length before + fault.offset))
 Feeds bytes p at (Err OutOfMemory) q after = Unit {0}

@@ -6,7 +6,7 @@ ghost use Rattle.spec_log.specs.Reading.{thread};
 
 use crate::error::LogError;
 use byteorder::{ByteOrder, LittleEndian};
-use spec_log::Shape;
+use spec_log::{Fault, Shape};
 
 /// The number of a value out of its range.
 pub const FIELD: u8 = 5;
@@ -18,7 +18,10 @@ pub fn read_raw<'a>(bytes: &'a [u8], at: &mut usize, width: usize) -> Result<&'a
         (λ error. Answers (raw width bytes.now at.old) (Err error) at.new) }
     ensures no_memory { IfErr result (λ e. e ≢ LogError.OutOfMemory) }
 {
-    let short = LogError::Malformed(1, bytes.len() as u64);
+    let short = LogError::Malformed(Fault {
+        number: 1,
+        offset: bytes.len() as u64,
+    });
     let Some(left) = bytes.get(*at..) else {
         return Err(short);
     };
@@ -57,12 +60,15 @@ pub fn read_u32(bytes: &[u8], at: &mut usize) -> Result<u32, LogError>
 pub fn judge(good: bool, number: u8, start: usize) -> Result<(), LogError>
     ensures { MatchResult result
         (λ _. good ≡ true)
-        (λ error. (good ≡ false) × (error ≡ LogError.Malformed number start)) }
+        (λ error. (good ≡ false) × (error ≡ LogError.Malformed (record { number = number; offset = start }))) }
 {
     if good {
         Ok(())
     } else {
-        Err(LogError::Malformed(number, start as u64))
+        Err(LogError::Malformed(Fault {
+            number,
+            offset: start as u64,
+        }))
     }
 }
 

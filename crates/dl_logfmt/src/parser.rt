@@ -8,7 +8,7 @@ use crate::source::Source;
 use crate::stage_name::StageName;
 use crate::stages::{read_once, read_times};
 use dl_entry::Sequence;
-use spec_log::{Draft, ModeName, Order, Shape};
+use spec_log::{Draft, Fault, ModeName, Order, Shape};
 use std::alloc::Global;
 
 /// The stage that is read, how many times it still is once that is known, and what was read.
@@ -53,7 +53,7 @@ impl Parser {
     {
         match self.read(source, at) {
             Ok(()) => judge(*at == source.bytes.len(), 7, *at),
-            Err(LogError::Malformed(number, offset)) => lasting(number, offset),
+            Err(LogError::Malformed(fault)) => lasting(fault),
             Err(LogError::OutOfMemory) => Err(LogError::OutOfMemory),
         }
     }
@@ -98,14 +98,14 @@ impl Parser {
 }
 
 /// A fault that stays whatever follows: one that isn't that the bytes end inside a field.
-fn lasting(number: u8, offset: u64) -> Result<(), LogError>
+fn lasting(fault: Fault) -> Result<(), LogError>
     ensures { MatchResult result
-        (λ _. number ≡ 1)
-        (λ error. (number ≢ 1) × (error ≡ LogError.Malformed number offset)) }
+        (λ _. fault.number ≡ 1)
+        (λ error. (fault.number ≢ 1) × (error ≡ LogError.Malformed fault)) }
 {
-    if number == 1 {
+    if fault.number == 1 {
         Ok(())
     } else {
-        Err(LogError::Malformed(number, offset))
+        Err(LogError::Malformed(fault))
     }
 }

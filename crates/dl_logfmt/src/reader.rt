@@ -1,16 +1,16 @@
 //! A log read from its bytes in pieces.
 ghost use Rattle.std.specs.Prelude.{◌≡◌, ℕ, ◌<◌, ◌^◌, List, [], ◌++◌, ◌≤◌, length, drop, Err, IsErrOf, OnOk};
-ghost use Rattle.spec_log.specs.Reading.{ParseError, log_of as log_in, read_of};
+ghost use Rattle.spec_log.specs.declared.fault.Fault.{Fault};
+ghost use Rattle.spec_log.specs.Reading.{log_of as log_in, read_of};
 ghost use Rattle.dl_logfmt.specs.Answer.{IsReading};
 ghost use Rattle.dl_logfmt.specs.Feeding.{HasFed, IsFeeding, fed};
 
 use crate::error::LogError;
 use crate::parser::Parser;
-use crate::refusal::Refusal;
 use crate::source::Source;
 use crate::stage_name::StageName;
 use dl_entry::OutOfMemory;
-use spec_log::{Draft, Log, LogParts, ModeName, Sizes};
+use spec_log::{Draft, Fault, Log, LogParts, ModeName, Sizes};
 use std::alloc::Global;
 use std::marker::Model;
 
@@ -21,7 +21,7 @@ pub struct LogReader {
     parser: Parser,
     pending: Vec<u8>,
     start: u64,
-    refusal: Option<Refusal>,
+    refusal: Option<Fault>,
 }
 
 impl Model for LogReader {
@@ -59,12 +59,12 @@ impl LogReader {
         ensures fed { (bytes : List ℕ) → HasFed bytes self.old → ¬ (IsErrOf result LogError.OutOfMemory)
             → HasFed (bytes ++ piece.now) self.new }
         ensures memory { IsErrOf result LogError.OutOfMemory → self.new ≡ self.old }
-        ensures refused { (bytes : List ℕ) (fault : ParseError) → HasFed bytes self.old
+        ensures refused { (bytes : List ℕ) (fault : Fault) → HasFed bytes self.old
             → fed (read_of bytes) ≡ Err fault → ¬ (IsErrOf result LogError.OutOfMemory) }
         ensures few { OnOk result ((bytes : List ℕ) → HasFed bytes self.old → length (bytes ++ piece.now) < 2 ^ 64) }
     {
         if let Some(refusal) = self.refusal {
-            return Err(LogError::Malformed(refusal.number, refusal.offset));
+            return Err(LogError::Malformed(refusal));
         }
         let mark = self.parser.mark();
         let held = self.pending.len();
@@ -82,10 +82,13 @@ impl LogReader {
                 self.start += at as u64;
                 Ok(())
             }
-            Err(LogError::Malformed(number, offset)) => {
-                let offset = self.start + offset;
-                self.refusal = Some(Refusal { number, offset });
-                Err(LogError::Malformed(number, offset))
+            Err(LogError::Malformed(fault)) => {
+                let refusal = Fault {
+                    number: fault.number,
+                    offset: self.start + fault.offset,
+                };
+                self.refusal = Some(refusal);
+                Err(LogError::Malformed(refusal))
             }
             Err(LogError::OutOfMemory) => {
                 self.pending.truncate(held);
@@ -101,10 +104,13 @@ impl LogReader {
         ensures no_memory { ¬ (IsErrOf result LogError.OutOfMemory) }
     {
         if let Some(refusal) = self.refusal {
-            return Err(LogError::Malformed(refusal.number, refusal.offset));
+            return Err(LogError::Malformed(refusal));
         }
         if self.parser.stage != StageName::End {
-            return Err(LogError::Malformed(1, self.start + self.pending.len() as u64));
+            return Err(LogError::Malformed(Fault {
+                number: 1,
+                offset: self.start + self.pending.len() as u64,
+            }));
         }
         Ok(Log::new(log_of(self.parser.draft)))
     }

@@ -8,7 +8,8 @@ use Rattle.std.specs.Option.{option_map}
 use Rattle.dl_files.specs.Contents.{Contents, HoldsAt, part_of}
 use Rattle.dl_logio.specs.Files.{SaysLog}
 use Rattle.dl_logfmt.specs.declared.error.LogError.{LogError}
-use Rattle.spec_log.specs.Reading.{ParseError, read_of}
+use Rattle.spec_log.specs.declared.fault.Fault.{Fault}
+use Rattle.spec_log.specs.Reading.{read_of}
 use Rattle.spec_log.specs.declared.log.LogParts.{LogParts}
 
 -- the name, where it is known and there, begins with these bytes
@@ -56,7 +57,7 @@ none_left zero (x ∷ xs) h e = absurd (omega arith)
 none_left (suc room) (x ∷ xs) h e = absurd cc
 
 -- at the end of the name, all of it is read
-pub all_read : (known : Option Contents) (name bytes : List ℕ) (offset room : ℕ) (read : Result LogParts ParseError) → 0 < room → length bytes ≡ offset → IsFront known name bytes → HoldsAt known name offset room [] → read_of bytes ≡ read → SaysLog known name read
+pub all_read : (known : Option Contents) (name bytes : List ℕ) (offset room : ℕ) (read : Result LogParts Fault) → 0 < room → length bytes ≡ offset → IsFront known name bytes → HoldsAt known name offset room [] → read_of bytes ≡ read → SaysLog known name read
 all_read None name bytes offset room read some at front held is = tt
 all_read (Some m) name bytes offset room read some at front held is =
     let part = part_at m name offset room [] (get m name) held in
@@ -66,7 +67,7 @@ all_read (Some m) name bytes offset room read some at front held is =
     ap (option_map read_of) part.1 ∙ ap (λ (b : List ℕ). Some (read_of b)) (sym whole ∙ front m refl part.0 part.1) ∙ ap Some is
 
 -- a fault of the first bytes is one of the whole
-pub fault_read : (known : Option Contents) (name bytes : List ℕ) (offset room : ℕ) (piece : List ℕ) (fault : ParseError) → length bytes ≡ offset → IsFront known name bytes → HoldsAt known name offset room piece → ((rest : List ℕ) → read_of ((bytes ++ piece) ++ rest) ≡ Err fault) → SaysLog known name (Err fault)
+pub fault_read : (known : Option Contents) (name bytes : List ℕ) (offset room : ℕ) (piece : List ℕ) (fault : Fault) → length bytes ≡ offset → IsFront known name bytes → HoldsAt known name offset room piece → ((rest : List ℕ) → read_of ((bytes ++ piece) ++ rest) ≡ Err fault) → SaysLog known name (Err fault)
 fault_read None name bytes offset room piece fault at front held stays = tt
 fault_read (Some m) name bytes offset room piece fault at front held stays =
     let part = part_at m name offset room piece (get m name) held in
@@ -81,5 +82,5 @@ pub ok_is_none : {u : Unit {0}} → ◌≡◌ {A = Result (Unit {0}) LogError} (
 ok_is_none e = absurd cc
 
 -- a malformed log is no want of memory
-pub malformed_is_none : (error : LogError) (number offset : ℕ) → error ≡ LogError.Malformed number offset → ◌≡◌ {A = Result (Unit {0}) LogError} (Err error) (Err LogError.OutOfMemory) → ⊥
-malformed_is_none error number offset is e = absurd cc
+pub malformed_is_none : (error : LogError) (fault : Fault) → error ≡ LogError.Malformed fault → ◌≡◌ {A = Result (Unit {0}) LogError} (Err error) (Err LogError.OutOfMemory) → ⊥
+malformed_is_none error fault is e = absurd cc

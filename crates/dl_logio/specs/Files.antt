@@ -5,16 +5,17 @@ use Rattle.dl_files.specs.Contents.{Contents, with_file}
 use Rattle.dl_files.specs.Seen.{Seen, IsUnwritten}
 use Rattle.dl_files.specs.declared.FileError.{FileError}
 use Rattle.dl_logio.specs.declared.reading.LogRead.{LogRead}
-use Rattle.spec_log.specs.Reading.{ParseError, read_of}
+use Rattle.spec_log.specs.declared.fault.Fault.{Fault}
+use Rattle.spec_log.specs.Reading.{read_of}
 use Rattle.spec_log.specs.declared.log.LogParts.{LogParts}
 
 -- the log, or the first of its fields that isn't good
-abbrev pub read_view : LogRead → Result LogParts ParseError
+abbrev pub read_view : LogRead → Result LogParts Fault
 read_view (LogRead.Good log) = Ok log
-read_view (LogRead.Malformed number offset) = Err (record { number = number; offset = offset })
+read_view (LogRead.Malformed fault) = Err fault
 
 -- where known, the name's bytes are read so
-abbrev pub SaysLog : Option Contents → (name : List ℕ) → Result LogParts ParseError → Type 0
+abbrev pub SaysLog : Option Contents → (name : List ℕ) → Result LogParts Fault → Type 0
 SaysLog known name read = IfSome known (λ m. option_map read_of (get m name) ≡ Some read)
 
 -- memory ran out in the write of these bytes to that name: nothing has changed, or it holds the first of them

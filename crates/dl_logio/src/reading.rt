@@ -7,7 +7,7 @@ ghost use Rattle.spec_log.specs.Reading.{read_of};
 
 use crate::PIECE;
 use dl_files::{FileError, Files};
-use dl_logfmt::{Log, LogError, LogReader};
+use dl_logfmt::{Fault, Log, LogError, LogReader};
 use std::alloc::Global;
 
 /// What a file says as a log.
@@ -15,8 +15,8 @@ use std::alloc::Global;
 pub enum LogRead {
     /// The log.
     Good(Log),
-    /// The number of what is wrong, and the offset of the field or entry where it is, in bytes, as in `LogError`.
-    Malformed(u8, u64),
+    /// The first fault.
+    Malformed(Fault),
 }
 
 /// What the file `name` says as a log, in memory of `alloc`. Nothing is read behind a field that isn't good.
@@ -39,7 +39,7 @@ pub fn read_log_file<F: Files>(
         }
         match reader.feed(&piece[..n]) {
             Ok(()) => {}
-            Err(LogError::Malformed(number, at)) => return Ok(LogRead::Malformed(number, at)),
+            Err(LogError::Malformed(fault)) => return Ok(LogRead::Malformed(fault)),
             Err(LogError::OutOfMemory) => return Err(FileError::OutOfMemory),
         }
         offset += n as u64;
@@ -53,7 +53,7 @@ fn end_of(reader: LogReader) -> Result<LogRead, FileError>
 {
     match reader.end() {
         Ok(log) => Ok(LogRead::Good(log)),
-        Err(LogError::Malformed(number, at)) => Ok(LogRead::Malformed(number, at)),
+        Err(LogError::Malformed(fault)) => Ok(LogRead::Malformed(fault)),
         Err(LogError::OutOfMemory) => Err(FileError::OutOfMemory),
     }
 }

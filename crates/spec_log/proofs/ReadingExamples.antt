@@ -5,7 +5,8 @@ use Rattle.spec_log.specs.declared.mode_name.ModeName.TheVariants.{OrderSize, Or
 use Rattle.spec_log.specs.declared.sizes.Sizes.TheVariants.{Each, Short}
 use Rattle.spec_log.specs.declared.log.LogParts.{LogParts}
 use Rattle.spec_log.specs.Bytes.{log_bytes}
-use Rattle.spec_log.specs.Reading.{ParseError, read_of}
+use Rattle.spec_log.specs.declared.fault.Fault.{Fault}
+use Rattle.spec_log.specs.Reading.{read_of}
 
 -- a log with an entry in each section
 abbrev full : LogParts
@@ -50,7 +51,7 @@ in_turn = record sized { mode = Picolog; count = 2 ^ 24; order = []; sizes = Sho
 pub read_of-in_turn : read_of (log_bytes in_turn) ≡ Ok in_turn
 read_of-in_turn = refl
 
-abbrev fault : ℕ → ℕ → Result LogParts ParseError
+abbrev fault : ℕ → ℕ → Result LogParts Fault
 fault number offset = Err (record { number = number; offset = offset })
 
 -- a byte behind the last section

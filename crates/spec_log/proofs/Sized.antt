@@ -4,15 +4,16 @@ use Rattle.spec_log.specs.declared.mode_name.ModeName.{ModeName}
 use Rattle.spec_log.specs.declared.mode_name.ModeName.TheVariants.{OrderSize, OrderOnly, Picolog}
 use Rattle.spec_log.specs.declared.draft.Draft.{Draft}
 use Rattle.spec_log.specs.declared.log.LogParts.{LogParts}
-use Rattle.spec_log.specs.Fields.{ParseError, Read, Reader, Stage, all_of, continues, fails, field, from_to, gives, number_of, passes, raw, repeated, staged}
+use Rattle.spec_log.specs.declared.fault.Fault.{Fault}
+use Rattle.spec_log.specs.Fields.{Read, Reader, Stage, all_of, continues, fails, field, from_to, gives, number_of, passes, raw, repeated, staged}
 use Rattle.spec_log.specs.Reading.{blank, magic, version, mode, threads, chunk_size, log_of, one_size, order, sizes, interrupts, inputs, dmas, commits, read_of, stages}
 
 -- where something is read behind something, both were read
-then_read : {X Y : Type 0} (r : Result (Read X) ParseError) (next : X → ℕ → Result Y ParseError) (y : Y) → continues r next ≡ Ok y → (x : Read X) × (r ≡ Ok x) × (next x.value x.after ≡ Ok y)
+then_read : {X Y : Type 0} (r : Result (Read X) Fault) (next : X → ℕ → Result Y Fault) (y : Y) → continues r next ≡ Ok y → (x : Read X) × (r ≡ Ok x) × (next x.value x.after ≡ Ok y)
 then_read (Ok x) next y e = (x, refl, e)
 then_read (Err fault) next y e = absurd cc
 
-same_read : {X : Type 0} (a b : Read X) → ◌≡◌ {A = Result (Read X) ParseError} (Ok a) (Ok b) → a ≡ b
+same_read : {X : Type 0} (a b : Read X) → ◌≡◌ {A = Result (Read X) Fault} (Ok a) (Ok b) → a ≡ b
 same_read a b e = cc
 
 -- a reader keeps what is known of the draft
@@ -20,7 +21,7 @@ abbrev Keeps : (Draft → Type 0) → (Draft → Reader Draft) → Type 0
 Keeps known reader = (d : Draft) (bytes : List ℕ) (at : ℕ) (x : Read Draft) → known d → reader d bytes at ≡ Ok x → known x.value
 
 -- what puts a value that keeps it does
-put_keeps : {X : Type 0} (known : Draft → Type 0) (reading : Result (Read X) ParseError) (put : X → Draft) (bytes : List ℕ) (x : Read Draft)
+put_keeps : {X : Type 0} (known : Draft → Type 0) (reading : Result (Read X) Fault) (put : X → Draft) (bytes : List ℕ) (x : Read Draft)
     → ((y : X) → known (put y)) → continues reading (λ y after. gives (put y) bytes after) ≡ Ok x → known x.value
 put_keeps known reading put bytes x good e =
     let r = then_read reading (λ y after. gives (put y) bytes after) x e in
@@ -100,7 +101,7 @@ all_sized : (d : Draft) (bytes : List ℕ) (at : ℕ) (x : Read Draft) → all_o
 all_sized =
     behind_it magic (drop 1 stages) (behind_it version (drop 2 stages) (behind_it mode (drop 3 stages) (behind_it threads (drop 4 stages) sized)))
 
-log_read : (b : Bool) (at : ℕ) (p log : LogParts) → ◌≡◌ {A = Result LogParts ParseError} (if b then fails 7 at else Ok p) (Ok log) → p ≡ log
+log_read : (b : Bool) (at : ℕ) (p log : LogParts) → ◌≡◌ {A = Result LogParts Fault} (if b then fails 7 at else Ok p) (Ok log) → p ≡ log
 log_read true at p log e = absurd cc
 log_read false at p log e = cc
 

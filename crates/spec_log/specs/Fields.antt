@@ -2,14 +2,10 @@
 -- order, and each is checked when it has been read whole.
 use Rattle.std.specs.Prelude.{ℕ, zero, suc, ◌+◌, ◌-◌, ◌*◌, nat_lt, nat_le, Bool, true, ◌&&◌, List, []}
 use Rattle.std.specs.Prelude.{◌∷◌, ◌++◌, length, take, drop, Option, Some, None, slice_get, Result, Ok, Err, if◌then◌else◌}
+use Rattle.spec_log.specs.declared.fault.Fault.{Fault}
 
--- what is wrong, by number: 1 is that the bytes end inside a field. The offset is that of the field or entry, but for 1
--- the number of all bytes.
-pub record ParseError : Type 0 where
-  pub number : ℕ
-  pub offset : ℕ
-
-abbrev pub fails : {X : Type 0} → ℕ → ℕ → Result X ParseError
+-- the fault number 1 is that the bytes end inside a field
+abbrev pub fails : {X : Type 0} → ℕ → ℕ → Result X Fault
 fails number offset = Err (record { number = number; offset = offset })
 
 -- what was read, and the offset behind it
@@ -19,9 +15,9 @@ pub record Read (X : Type 0) : Type 0 where
 
 -- a reader gives what stands at an offset of the bytes, or a fault
 abbrev pub Reader : Type 0 → Type 0
-Reader X = List ℕ → ℕ → Result (Read X) ParseError
+Reader X = List ℕ → ℕ → Result (Read X) Fault
 
-abbrev pub continues : {X Y : Type 0} → Result (Read X) ParseError → (X → ℕ → Result Y ParseError) → Result Y ParseError
+abbrev pub continues : {X Y : Type 0} → Result (Read X) Fault → (X → ℕ → Result Y Fault) → Result Y Fault
 continues (Ok r) next = next r.value r.after
 continues (Err fault) next = Err fault
 

@@ -14,8 +14,8 @@ use Rattle.spec_log.specs.declared.sizes.ShortSize.{ShortSize}
 use Rattle.spec_log.specs.declared.sizes.Sizes.{Sizes}
 use Rattle.spec_log.specs.declared.sizes.Sizes.TheVariants.{Each, Short}
 use Rattle.spec_log.specs.declared.draft.Draft.{Draft}
+use Rattle.spec_log.specs.declared.fault.Fault.{Fault}
 use Rattle.spec_log.specs.declared.log.LogParts.{LogParts}
-pub use Rattle.spec_log.specs.Fields.{ParseError}
 use Rattle.spec_log.specs.Fields.{Read, Reader, Stage, fails, continues, gives, read, number}
 use Rattle.spec_log.specs.Fields.{field, any, at_most, from_to, counted_in, one_more, once, listed, all_of}
 use Rattle.spec_log.specs.Log.{input_kinds, most_standard}
@@ -190,8 +190,8 @@ log_of d =
     }
 
 -- a log, behind which nothing follows
-abbrev pub ended : List ℕ → Result (Read Draft) ParseError → Result LogParts ParseError
+abbrev pub ended : List ℕ → Result (Read Draft) Fault → Result LogParts Fault
 ended bytes reading = continues reading (λ d after. if nat_lt after (length bytes) then fails 7 after else Ok (log_of d))
 
-abbrev pub read_of : List ℕ → Result LogParts ParseError
+abbrev pub read_of : List ℕ → Result LogParts Fault
 read_of bytes = ended bytes (all_of stages blank bytes 0)

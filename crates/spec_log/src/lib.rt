@@ -2,6 +2,7 @@
 #![tactic(auto)]
 
 mod draft;
+mod fault;
 mod log;
 mod mode_name;
 mod records;
@@ -9,6 +10,7 @@ mod shape;
 mod sizes;
 
 pub use draft::Draft;
+pub use fault::Fault;
 pub use log::{Log, LogParts};
 pub use mode_name::ModeName;
 pub use records::{DmaRecord, Interrupt, Order};

@@ -3,7 +3,7 @@ use Rattle.std.proofs.Common.{◌≡◌, ℕ, Result, Ok, Err, refl, sym, ap, �
 use Rattle.dl_elf.specs.Images.{Image}
 use Rattle.dl_elf.specs.Loading.{image_of}
 use Rattle.spec_log.specs.declared.LogParts.{LogParts}
-use Rattle.spec_log.specs.Reading.{ParseError}
+use Rattle.spec_log.specs.declared.fault.Fault.{Fault}
 use Rattle.spec_protocol.specs.machine.Logged.{sphere_in}
 use Rattle.spec_protocol.specs.machine.Machine.{RecordSetup, RoleSetup, IsRecorded, IsReplayed, SphereSetup}
 use Rattle.spec_run.specs.Runs.{executed}
@@ -29,7 +29,7 @@ same_image s r x y file size a b = same_Ok a.image b.image (sym a.loaded ∙ (λ
 abbrev replays_log : LogParts → RoleSetup
 replays_log log = IsReplayed (record { log = log })
 
-replayed_by : (i : ℕ) (o : Result LogParts ParseError) (r : RoleSetup) → (refusing (bad_log i) o >> λ log. Ok (replays_log log)) ≡ Ok r → (parts : LogParts) × (o ≡ Ok parts) × (r ≡ replays_log parts)
+replayed_by : (i : ℕ) (o : Result LogParts Fault) (r : RoleSetup) → (refusing (bad_log i) o >> λ log. Ok (replays_log log)) ≡ Ok r → (parts : LogParts) × (o ≡ Ok parts) × (r ≡ replays_log parts)
 replayed_by i (Err fault) r e = absurd cc
 replayed_by i (Ok parts) r e = (parts, refl, sym (same_Ok (replays_log parts) r e))
 

@@ -7,7 +7,8 @@ use Rattle.dl_elf.specs.Loading.{image_of}
 use Rattle.dl_files.specs.Contents.{Contents}
 use Rattle.dl_words.specs.Commands.{CommandValues, Run, Inspect, Walk, Make, Drill, Asm}
 use Rattle.spec_log.specs.declared.LogParts.{LogParts}
-use Rattle.spec_log.specs.Reading.{ParseError, read_of}
+use Rattle.spec_log.specs.declared.fault.Fault.{Fault}
+use Rattle.spec_log.specs.Reading.{read_of}
 use Rattle.spec_run.proofs.Described.{runs_described}
 use Rattle.spec_program.specs.declared.status.Status.{Status}
 use Rattle.spec_program.specs.Built.{bad_image, bad_log}
@@ -50,7 +51,7 @@ there : (m : Contents) (name bytes : List ℕ) → file_at m name ≡ Ok bytes �
 there m name bytes e = given (get m name) name bytes (not_refused absent (read_at m name) bytes e)
 
 -- the bytes of a file that is read as a log
-log_there : (m : Contents) (name : List ℕ) (read : Result LogParts ParseError) → log_file_at m name ≡ Ok read → (bytes : List ℕ) × (get m name ≡ Some bytes) × (read_of bytes ≡ read)
+log_there : (m : Contents) (name : List ℕ) (read : Result LogParts Fault) → log_file_at m name ≡ Ok read → (bytes : List ℕ) × (get m name ≡ Some bytes) × (read_of bytes ≡ read)
 log_there m name read e =
     let file = then_ok (read_at m name) _ read (not_refused absent (log_at m name) read e) in
     (file.0, given (get m name) name file.0 file.1, same_Ok (read_of file.0) read file.2)

@@ -7,7 +7,7 @@ use Rattle.dl_elf.specs.Loading.{image_of}
 use Rattle.dl_files.specs.Contents.{Contents}
 use Rattle.dl_plan.specs.Plans.{plan_of}
 use Rattle.spec_log.specs.declared.LogParts.{LogParts}
-use Rattle.spec_log.specs.Reading.{ParseError}
+use Rattle.spec_log.specs.declared.fault.Fault.{Fault}
 use Rattle.spec_protocol.specs.machine.Machine.{RoleSetup, IsReplayed, SphereSetup}
 use Rattle.spec_protocol.specs.promises.Sound.{no_image, image_at}
 use Rattle.spec_program.specs.Built.{bad_image, bad_log, images_of, role_of, spheres_of, events_of}
@@ -35,7 +35,7 @@ pub record IsMade (s : SphereRead) (x : SphereSetup) : Type 0 where
   pub entry : x.entry ≡ image.entry
   pub role : role_of 0 s.role ≡ Ok x.role
 
-log_any : (i j : ℕ) (o : Result LogParts ParseError) (r : RoleSetup) → (refusing (bad_log i) o >> λ log. Ok (IsReplayed (record { log = log }))) ≡ Ok r → (refusing (bad_log j) o >> λ log. Ok (IsReplayed (record { log = log }))) ≡ Ok r
+log_any : (i j : ℕ) (o : Result LogParts Fault) (r : RoleSetup) → (refusing (bad_log i) o >> λ log. Ok (IsReplayed (record { log = log }))) ≡ Ok r → (refusing (bad_log j) o >> λ log. Ok (IsReplayed (record { log = log }))) ≡ Ok r
 log_any i j (Err fault) r e = absurd cc
 log_any i j (Ok log) r e = e
 

@@ -8,7 +8,7 @@ use Rattle.dl_plan.specs.declared.Mode.{Mode}
 use Rattle.dl_plan.specs.declared.Sizes.{Sizes}
 use Rattle.dl_plan.specs.Values.{PlanValues}
 use Rattle.spec_log.specs.declared.ModeName.{ModeName}
-use Rattle.spec_log.specs.Reading.{ParseError}
+use Rattle.spec_log.specs.declared.fault.Fault.{Fault}
 use Rattle.spec_protocol.specs.declared.event.Event.{Event}
 use Rattle.spec_protocol.specs.machine.Machine.{RoleSetup, IsPlain, IsRecorded, IsReplayed, SphereSetup, Setup}
 use Rattle.spec_protocol.specs.machine.World.{Numbers}
@@ -34,7 +34,7 @@ images_of i (s ∷ ss) =
 
 -- ---- spheres, once there are images of all
 
-abbrev pub bad_log : (sphere : ℕ) → ParseError → Refused
+abbrev pub bad_log : (sphere : ℕ) → Fault → Refused
 bad_log i fault = record { why = Refusal.Grammar; line = log_line i fault.number fault.offset }
 
 abbrev pub mode_named : Mode → ModeName

@@ -6,7 +6,8 @@ use Rattle.dl_files.specs.Contents.{Contents}
 use Rattle.dl_plan.specs.declared.Mode.{Mode}
 use Rattle.dl_plan.specs.Values.{ScheduleValues, Script, Seeded, RoleValues, Plain, Record, Replay, SphereValues, PlanValues}
 use Rattle.spec_log.specs.declared.LogParts.{LogParts}
-use Rattle.spec_log.specs.Reading.{ParseError, read_of}
+use Rattle.spec_log.specs.declared.fault.Fault.{Fault}
+use Rattle.spec_log.specs.Reading.{read_of}
 use Rattle.spec_protocol.specs.declared.event.Event.{Event}
 use Rattle.spec_program.specs.Stages.{◌>>◌}
 
@@ -21,7 +22,7 @@ pub record RecordInputs : Type 0 where
 
 -- of what is replayed, the log, or the first of its fields that isn't good
 pub record ReplayInputs : Type 0 where
-  pub log : Result LogParts ParseError
+  pub log : Result LogParts Fault
 
 pub data RoleRead : Type 0 where
   PlainRead : RoleRead
@@ -45,7 +46,7 @@ abbrev pub read_at : Contents → (name : List ℕ) → Result (List ℕ) (List 
 read_at m name = ok_or (get m name) name
 
 -- what the file of that name says as a log
-abbrev pub log_at : Contents → (name : List ℕ) → Result (Result LogParts ParseError) (List ℕ)
+abbrev pub log_at : Contents → (name : List ℕ) → Result (Result LogParts Fault) (List ℕ)
 log_at m name = read_at m name >> λ bytes. Ok (read_of bytes)
 
 -- what the file of that name says as a script

@@ -5,7 +5,7 @@ use Rattle.dl_elf.specs.Loading.{image_of}
 use Rattle.dl_files.specs.Contents.{Contents}
 use Rattle.dl_words.specs.Commands.{CommandValues, Run, Inspect, Walk, Make, Drill, Asm, command_of}
 use Rattle.spec_log.specs.declared.LogParts.{LogParts}
-use Rattle.spec_log.specs.Reading.{ParseError}
+use Rattle.spec_log.specs.declared.fault.Fault.{Fault}
 use Rattle.spec_protocol.specs.promises.Sound.{IsWithinLimits}
 use Rattle.spec_program.specs.declared.status.Refusal.{Refusal}
 use Rattle.spec_program.specs.Built.{bad_image, bad_log}
@@ -43,23 +43,23 @@ IsWithin (Assembling file name) = Unit {0}
 abbrev pub file_at : Contents → (name : List ℕ) → Result (List ℕ) Refused
 file_at m name = refusing absent (read_at m name)
 
-abbrev pub log_file_at : Contents → (name : List ℕ) → Result (Result LogParts ParseError) Refused
+abbrev pub log_file_at : Contents → (name : List ℕ) → Result (Result LogParts Fault) Refused
 log_file_at m name = refusing absent (log_at m name)
 
-abbrev pub log_in : (read : Result LogParts ParseError) → Result LogParts Refused
+abbrev pub log_in : (read : Result LogParts Fault) → Result LogParts Refused
 log_in read = refusing (bad_log 0) read
 
 abbrev pub image_in : (memory : ℕ) → (bytes : List ℕ) → Result Image Refused
 image_in memory bytes = refusing (bad_image 0) (image_of bytes memory)
 
-abbrev pub inspect_in : (read : Result LogParts ParseError) → Result Work Refused
+abbrev pub inspect_in : (read : Result LogParts Fault) → Result Work Refused
 inspect_in read = log_in read >> λ parts. Ok (Inspecting parts)
 
 abbrev pub inspect_at : Contents → (log : List ℕ) → Result Work Refused
 inspect_at m log = log_file_at m log >> inspect_in
 
 -- both files are read before either is looked at, and the image is looked at first
-abbrev pub walk_in : (memory : ℕ) → (program : List ℕ) → (read : Result LogParts ParseError) → Result Work Refused
+abbrev pub walk_in : (memory : ℕ) → (program : List ℕ) → (read : Result LogParts Fault) → Result Work Refused
 walk_in memory program read =
     image_in memory program >> λ loaded.
     log_in read >> λ parts.

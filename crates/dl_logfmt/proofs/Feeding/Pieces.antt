@@ -4,13 +4,13 @@ use Rattle.std.proofs.lemmas.Bool.{ne_eqb}
 use Rattle.std.proofs.lemmas.List.{take-append-drop, length-take-le}
 use Rattle.spec_log.specs.Log.{IsLog}
 use Rattle.spec_log.specs.declared.draft.Draft.{Draft}
+use Rattle.spec_log.specs.declared.fault.Fault.{Fault}
 use Rattle.spec_log.specs.Fields.{Stage, fails}
 use Rattle.spec_log.specs.Reading.{ended, log_of, read_of}
 use Rattle.dl_logfmt.proofs.LogLaws.{log-good}
 use Rattle.dl_logfmt.specs.declared.error.LogError.TheVariants.{Malformed}
 use Rattle.dl_logfmt.specs.declared.stage_name.StageName.TheVariants.{End}
 use Rattle.dl_logfmt.specs.declared.parser.Parser.{Parser}
-use Rattle.dl_logfmt.specs.declared.refusal.Refusal.{Refusal}
 use Rattle.dl_logfmt.specs.Parsing.{Came, Feeds, ahead, remaining, said, said_in, unread}
 use Rattle.dl_logfmt.specs.Feeding.{Feeding, FedTo, HasFed, Holding, Refused, fed}
 use Rattle.dl_logfmt.proofs.Parsing.{ahead-more, whole-said}
@@ -32,7 +32,7 @@ pub holding : (bytes : List ℕ) (r : Feeding) → r.refusal ≡ None → HasFed
 holding bytes r is h = subst (FedTo bytes r) is h
 
 -- a reader with a refusal was fed bytes that have that fault, whatever follows
-pub refused : (bytes : List ℕ) (r : Feeding) (refusal : Refusal) → r.refusal ≡ Some refusal → HasFed bytes r → Refused bytes refusal
+pub refused : (bytes : List ℕ) (r : Feeding) (refusal : Fault) → r.refusal ≡ Some refusal → HasFed bytes r → Refused bytes refusal
 refused bytes r refusal is h = subst (FedTo bytes r) is h
 
 -- what a parser says of more bytes
@@ -54,7 +54,7 @@ leads-more bytes piece rest r h e at came =
     (subst (λ (n : ℕ). remaining r.parser (h.used ++ ((r.pending ++ piece) ++ rest)) n ≡ remaining e (h.used ++ ((r.pending ++ piece) ++ rest)) (length h.used + at)) zero_is lead)
 
 -- a piece that was taken
-held-on : (bytes piece : List ℕ) (r : Feeding) (e : Parser) (at : ℕ) (refusal : Option Refusal) → Holding bytes r → Feeds (r.pending ++ piece) r.parser 0 (Ok tt) e at
+held-on : (bytes piece : List ℕ) (r : Feeding) (e : Parser) (at : ℕ) (refusal : Option Fault) → Holding bytes r → Feeds (r.pending ++ piece) r.parser 0 (Ok tt) e at
     → Holding (bytes ++ piece) (record { parser = e; pending = drop at (r.pending ++ piece); start = r.start + at; refusal = refusal })
 held-on bytes piece r e at refusal h (came, says) =
     let pending = r.pending ++ piece in
@@ -86,49 +86,46 @@ fed-on bytes piece all left r e at none fed whole rest feeds =
     (subst (λ (z : List ℕ). Holding (bytes ++ piece) (record { parser = e; pending = z; start = r.start + at; refusal = r.refusal })) (sym (rest ∙ ap (drop at) whole)) held)
 
 -- a fault in a piece
-held-refused : (bytes piece : List ℕ) (r : Feeding) (e : Parser) (at number offset : ℕ) → Holding bytes r
-    → Feeds (r.pending ++ piece) r.parser 0 (Err (Malformed number offset)) e at
-    → Refused (bytes ++ piece) (record { number = number; offset = r.start + offset })
-held-refused bytes piece r e at number offset h (other, inside, fault) =
+held-refused : (bytes piece : List ℕ) (r : Feeding) (e : Parser) (at : ℕ) (fault : Fault) → Holding bytes r
+    → Feeds (r.pending ++ piece) r.parser 0 (Err (Malformed fault)) e at
+    → Refused (bytes ++ piece) (record { number = fault.number; offset = r.start + fault.offset })
+held-refused bytes piece r e at fault h (other, inside, says) =
     record {
       lasting = other;
       later = λ rest.
           let zero_is : length h.used + 0 ≡ length h.used = omega arith in
-          let there : length h.used + offset ≡ r.start + offset = omega (arith, h.start) in
-          let f = subst (λ (n : ℕ). ended (h.used ++ ((r.pending ++ piece) ++ rest)) (remaining r.parser (h.used ++ ((r.pending ++ piece) ++ rest)) n) ≡ fails number (length h.used + offset)) zero_is (fault h.used rest) in
+          let there : length h.used + fault.offset ≡ r.start + fault.offset = omega (arith, h.start) in
+          let f = subst (λ (n : ℕ). ended (h.used ++ ((r.pending ++ piece) ++ rest)) (remaining r.parser (h.used ++ ((r.pending ++ piece) ++ rest)) n) ≡ fails fault.number (length h.used + fault.offset)) zero_is (says h.used rest) in
           later-more bytes piece rest r h
-          ∙ subst (λ (whole : List ℕ). ended whole (remaining r.parser whole (length h.used)) ≡ fails number (r.start + offset)) (sym (whole-is bytes piece h.used r.pending rest h.split))
-          (f ∙ ap (λ (n : ℕ). fails number n) there);
+          ∙ subst (λ (whole : List ℕ). ended whole (remaining r.parser whole (length h.used)) ≡ fails fault.number (r.start + fault.offset)) (sym (whole-is bytes piece h.used r.pending rest h.split))
+          (f ∙ ap (λ (n : ℕ). fails fault.number n) there);
     }
 
 -- where a piece has a fault, the bytes so far with the piece have it, at its offset from the start of all
-pub fed-refused : (bytes piece all : List ℕ) (r : Feeding) (e : Parser) (at number offset : ℕ) → r.refusal ≡ None → HasFed bytes r → all ≡ r.pending ++ piece
-    → Feeds all r.parser 0 (Err (Malformed number offset)) e at → Refused (bytes ++ piece) (record { number = number; offset = r.start + offset })
-fed-refused bytes piece all r e at number offset none fed whole feeds =
-    held-refused bytes piece r e at number offset (holding bytes r none fed)
-    (subst (λ (z : List ℕ). Feeds z r.parser 0 (Err (Malformed number offset)) e at) whole feeds)
+pub fed-refused : (bytes piece all : List ℕ) (r : Feeding) (e : Parser) (at : ℕ) (fault : Fault) → r.refusal ≡ None → HasFed bytes r → all ≡ r.pending ++ piece
+    → Feeds all r.parser 0 (Err (Malformed fault)) e at → Refused (bytes ++ piece) (record { number = fault.number; offset = r.start + fault.offset })
+fed-refused bytes piece all r e at fault none fed whole feeds =
+    held-refused bytes piece r e at fault (holding bytes r none fed)
+    (subst (λ (z : List ℕ). Feeds z r.parser 0 (Err (Malformed fault)) e at) whole feeds)
 
 -- a fault that was met before
-pub refused-more : (bytes piece : List ℕ) (refusal : Refusal) → Refused bytes refusal → Refused (bytes ++ piece) refusal
+pub refused-more : (bytes piece : List ℕ) (refusal : Fault) → Refused bytes refusal → Refused (bytes ++ piece) refusal
 refused-more bytes piece refusal h =
     record {
       lasting = h.lasting;
-      later = λ rest. subst (λ (whole : List ℕ). read_of whole ≡ fails refusal.number refusal.offset) (sym (append_assoc bytes piece rest)) (h.later (piece ++ rest));
+      later = λ rest. subst (λ (whole : List ℕ). read_of whole ≡ Err refusal) (sym (append_assoc bytes piece rest)) (h.later (piece ++ rest));
     }
 
 -- what is said of the bytes so far
 
-refused-now : (bytes : List ℕ) (refusal : Refusal) → Refused bytes refusal → read_of bytes ≡ fails refusal.number refusal.offset
-refused-now bytes refusal h =
-    subst (λ (whole : List ℕ). read_of whole ≡ fails refusal.number refusal.offset) (append-nil bytes) (h.later [])
-
 -- of bytes that were refused, reading them at once says the same fault
-pub refused-says : (bytes : List ℕ) (refusal : Refusal) → Refused bytes refusal → read_of bytes ≡ Err (record { number = refusal.number; offset = refusal.offset })
-refused-says bytes refusal h = refused-now bytes refusal h
+pub refused-says : (bytes : List ℕ) (refusal : Fault) → Refused bytes refusal → read_of bytes ≡ Err refusal
+refused-says bytes refusal h =
+    subst (λ (whole : List ℕ). read_of whole ≡ Err refusal) (append-nil bytes) (h.later [])
 
 -- of bytes that were refused, feeding them answers that fault
-pub refused-fed : (bytes : List ℕ) (refusal : Refusal) → Refused bytes refusal → fed (read_of bytes) ≡ Err (record { number = refusal.number; offset = refusal.offset })
-refused-fed bytes refusal h = rw (refused-now bytes refusal h, ne_eqb refusal.number 1 h.lasting) refl
+pub refused-fed : (bytes : List ℕ) (refusal : Fault) → Refused bytes refusal → fed (read_of bytes) ≡ Err refusal
+refused-fed bytes refusal h = rw (refused-says bytes refusal h, ne_eqb refusal.number 1 h.lasting) refl
 
 said-fed : (stages : List (Stage Draft)) (d : Draft) (bytes : List ℕ) → fed (said_in stages d bytes) ≡ Ok tt
 said-fed [] d bytes = refl

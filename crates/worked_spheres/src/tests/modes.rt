@@ -1,5 +1,6 @@
 //! The lists of small recordings in each mode.
 ghost use Rattle.std.specs.Prelude.{◌≡◌, IfOk};
+ghost use Rattle.dl_entry.specs.Numbers.{most_threads};
 ghost use Rattle.spec_log.specs.Log.{IsActor};
 ghost use Rattle.spec_log.specs.declared.sizes.Sizes.TheVariants.{Short};
 ghost use Rattle.dl_mode.specs.Lists.{AreLists};
@@ -228,7 +229,7 @@ fn noted<M: Noting>(alloc: Global) -> Result<M::Log, OutOfMemory> {
 }
 
 fn actor_of(code: u8) -> Actor
-    ensures { IsActor result }
+    ensures { IsActor most_threads result }
 {
     if code < 15 {
         Actor::Thread(code)

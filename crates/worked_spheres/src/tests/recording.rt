@@ -1,5 +1,6 @@
 //! The bytes of logs that were recorded.
 ghost use Rattle.std.specs.Prelude.{◌≡◌, ◌+◌, ◌<◌, Contains, IfOk, IfSome, OnOk};
+ghost use Rattle.dl_entry.specs.Numbers.{most_threads};
 ghost use Rattle.spec_log.specs.Log.{IsActor, IsInput, AreFewBytes, input_kinds};
 ghost use Rattle.dl_record.specs.Recording.{CanCommit};
 
@@ -107,7 +108,7 @@ fn note_commit<M: Noting>(
 }
 
 fn commit(alloc: Global, code: u8, size: u32) -> Commit
-    ensures actor { IsActor result.actor }
+    ensures actor { IsActor most_threads result.actor }
     ensures size { result.size ≡ size }
 {
     let actor = if code < 15 {

@@ -1,5 +1,5 @@
 //! The bytes of the logs of small recordings, and bytes that aren't a log.
-use dl_logfmt::{LogError, read_log, write_log};
+use dl_logfmt::{Fault, LogError, read_log, write_log};
 use std::alloc::Global;
 use std::test::Fail;
 
@@ -16,7 +16,7 @@ fn logs_are_read_and_written_back(rt: HostRuntime) -> Result<(), Fail> {
 fn cut_logs_end_inside_a_field(rt: HostRuntime) {
     for bytes in &[EXITS, FULL] {
         for length in 0..bytes.len() {
-            let short = Some(LogError::Malformed(1, length as u64));
+            let short = Some(malformed(1, length as u64));
             assert!(rt; read_log(rt.alloc(), &bytes[..length]).err() == short);
         }
     }
@@ -26,10 +26,14 @@ fn cut_logs_end_inside_a_field(rt: HostRuntime) {
 fn the_first_wrong_field_is_named(rt: HostRuntime) -> Result<(), Fail> {
     for (bytes, at, wrong, number, offset) in WRONG {
         let bytes = overwritten(rt.alloc(), bytes, *at, wrong)?;
-        let malformed = Some(LogError::Malformed(*number, *offset));
-        assert!(rt; read_log(rt.alloc(), &bytes).err() == malformed, "{at}");
+        let error = Some(malformed(*number, *offset));
+        assert!(rt; read_log(rt.alloc(), &bytes).err() == error, "{at}");
     }
     Ok(())
+}
+
+pub fn malformed(number: u8, offset: u64) -> LogError {
+    LogError::Malformed(Fault { number, offset })
 }
 
 /// The bytes with others from an offset on, or after their end.

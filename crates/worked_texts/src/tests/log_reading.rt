@@ -1,4 +1,5 @@
 //! Worked logs, read in pieces, and bytes that aren't a log.
+use super::log_bytes::malformed;
 use dl_logfmt::{Log, LogError, LogReader, write_log};
 use std::alloc::Global;
 use std::test::Fail;
@@ -27,19 +28,19 @@ fn cut_logs_are_refused_at_their_end_alone(rt: HostRuntime) {
     for length in 0..FULL.len() {
         let mut reader = LogReader::new(rt.alloc());
         assert!(rt; reader.feed(&FULL[..length]) == Ok(()));
-        assert!(rt; reader.end().err() == Some(LogError::Malformed(1, length as u64)));
+        assert!(rt; reader.end().err() == Some(malformed(1, length as u64)));
     }
 }
 
 #[test]
 fn faults_stay_whatever_follows(rt: HostRuntime) {
     for (bytes, number, offset) in WRONG {
-        let malformed = LogError::Malformed(*number, *offset);
+        let error = malformed(*number, *offset);
         let mut reader = LogReader::new(rt.alloc());
         for piece in &[*bytes, &[], EXITS] {
-            assert!(rt; reader.feed(piece) == Err(malformed));
+            assert!(rt; reader.feed(piece) == Err(error));
         }
-        assert!(rt; reader.end().err() == Some(malformed));
+        assert!(rt; reader.end().err() == Some(error));
     }
 }
 

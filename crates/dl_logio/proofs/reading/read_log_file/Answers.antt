@@ -6,7 +6,8 @@ use Rattle.dl_files.specs.Seen.{Seen}
 use Rattle.dl_logio.specs.Files.{SaysLog, read_view}
 use Rattle.dl_logfmt.specs.Feeding.{IsFeeding, fed as said_of}
 use Rattle.dl_logfmt.proofs.Feeding.Faults.{faults_last}
-use Rattle.spec_log.specs.Reading.{ParseError, read_of}
+use Rattle.spec_log.specs.declared.fault.Fault.{Fault}
+use Rattle.spec_log.specs.Reading.{read_of}
 use Rattle.dl_logio.proofs.Pieces.{held_by, none_read, more_read, all_read, fault_read, malformed_is_none, ok_is_none}
 use Rattle.dl_logio.proofs.reading.read_log_file.Goals as goal
 
@@ -39,10 +40,10 @@ returns-in-Err-Malformed-clause-read g c =
     let held = held_by known _ name offset _ piece (ap (λ (s : Seen). s.known) c.loop-reader.invariant.seen) c.in_ok-n.ensures.bytes in
     let bad = c.in-Err-Malformed in
     let whole = fed.0 ++ piece in
-    let fault : ParseError = record { number = bad.number; offset = bad.at } in
+    let fault : Fault = bad.fault in
     let said = subst (λ e. IsFeeding (said_of (read_of whole)) (Err e)) bad.field-0-is (bad.ensures.answer fed.0 fed.1) in
-    let still = bad.ensures.fed fed.0 fed.1 (λ o. malformed_is_none bad.field-0 bad.number bad.at bad.field-0-is o) in
-    subst (λ (f : ParseError). SaysLog known name (Err f)) (λ k. record { number = sym bad.number-is k; offset = sym bad.at-is k })
+    let still = bad.ensures.fed fed.0 fed.1 (λ o. malformed_is_none bad.field-0 fault bad.field-0-is o) in
+    subst (λ (f : Fault). SaysLog known name (Err f)) (sym bad.fault-is)
     (fault_read known name fed.0 offset (length c.loop-reader.piece) piece fault fed.2 fed.4 held (λ rest. faults_last whole rest c.feed.new.self fault still said))
 
 pub loop-reader-preserved : goal.loop-reader-preserved

@@ -25,7 +25,7 @@ invariant_of-self-in-Err-Malformed c =
     let reads = rw c.in-Err-Malformed.field-0-is at c.in-Err-Malformed.ensures.reads in (
       bytes ++ c.args.piece.now,
       All-append (λ byte. byte < 256) bytes c.args.piece.now are (All-from_get_or (λ byte. byte < 256) c.args.piece.now 0 (λ i h. (c.type_inv.piece i).fits)),
-      fed-refused bytes c.args.piece.now c.deref.result.now _ c.feed.new.self c.feed.new.at c.in-Err-Malformed.number c.in-Err-Malformed.offset c.in_default.is fed all reads,
+      fed-refused bytes c.args.piece.now c.deref.result.now _ c.feed.new.self c.feed.new.at c.in-Err-Malformed.fault c.in_default.is fed all reads,
     )
 
 pub invariant_of-self-in-Err-OutOfMemory : goal.invariant_of-self-in-Err-OutOfMemory
@@ -59,14 +59,14 @@ returns-in-Err-Malformed-clause-answer c bytes fed =
     let all : c.deref.result.now ≡ c.self.inside.pending.items ++ c.args.piece.now = grind (arith, common_steps) in
     let reads = rw c.in-Err-Malformed.field-0-is at c.in-Err-Malformed.ensures.reads in
     refused-fed (bytes ++ c.args.piece.now) _
-    (fed-refused bytes c.args.piece.now c.deref.result.now _ c.feed.new.self c.feed.new.at c.in-Err-Malformed.number c.in-Err-Malformed.offset c.in_default.is inside all reads)
+    (fed-refused bytes c.args.piece.now c.deref.result.now _ c.feed.new.self c.feed.new.at c.in-Err-Malformed.fault c.in_default.is inside all reads)
 
 pub returns-in-Err-Malformed-clause-fed : goal.returns-in-Err-Malformed-clause-fed
 returns-in-Err-Malformed-clause-fed c bytes fed some =
     let inside = subst (HasFed bytes) (sym c.self.view_is) fed in
     let all : c.deref.result.now ≡ c.self.inside.pending.items ++ c.args.piece.now = grind (arith, common_steps) in
     let reads = rw c.in-Err-Malformed.field-0-is at c.in-Err-Malformed.ensures.reads in
-    fed-refused bytes c.args.piece.now c.deref.result.now _ c.feed.new.self c.feed.new.at c.in-Err-Malformed.number c.in-Err-Malformed.offset c.in_default.is inside all reads
+    fed-refused bytes c.args.piece.now c.deref.result.now _ c.feed.new.self c.feed.new.at c.in-Err-Malformed.fault c.in_default.is inside all reads
 
 pub returns-in-Ok-clause-few : goal.returns-in-Ok-clause-few
 returns-in-Ok-clause-few c bytes fed =
