@@ -83,6 +83,17 @@ THREE = Machine(
     RECORDING,
 )
 
+# its first instruction alone makes a chunk, so that a second chunk is in flight when that one is asked for
+TWO_CHUNKS = Machine(
+    "two-chunks",
+    {
+        "plan.toml": plan(recorded("order-size"), top="depth = 2\n"),
+        "a.elf": EXIT,
+        "s.txt": script("step 0", "cut 0", "step 0", "step 0", "ask 0", "ask 0", "step 0", "ask 0"),
+    },
+    RECORDING,
+)
+
 # thread 0 spawns thread 1 at 20 (hex) and loads the word into which that one stores
 RACE = Machine(
     "two-threads-race",
@@ -174,7 +185,7 @@ WALK = Machine("walk", {"a.elf": EXIT, "a.log": LOG}, [], ["walk", "a.elf", "409
 MAKE = Machine("make", {}, ["x.elf"], ["make", "6", "x.elf"])
 ASM = Machine("asm", {"a.s": SOURCE}, ["x.elf"], ["asm", "a.s", "x.elf"])
 
-MACHINES = [THREE, RACE, PIECES, DMA, INTERRUPT, CONSOLE, DIVERGED, PIPE, INSPECT, WALK, MAKE, ASM]
+MACHINES = [THREE, TWO_CHUNKS, RACE, PIECES, DMA, INTERRUPT, CONSOLE, DIVERGED, PIPE, INSPECT, WALK, MAKE, ASM]
 
 
 def refused(name, status, **files):

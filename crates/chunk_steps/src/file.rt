@@ -1,7 +1,7 @@
 //! The program that is stepped.
 use std::alloc::{AllocError, Global};
 
-// A header and one segment, all of it loaded at 0: the 23 words of code.
+// A header and one segment, all of which is loaded at 0: the 23 words of code.
 const HEADER: [u8; 84] = [
     0x7f, 0x45, 0x4c, 0x46, 0x01, 0x01, 0x01, 0x00, 0x00, 0x00, 0x00, 0x00, 0x00, 0x00, 0x00, 0x00,
     0x02, 0x00, 0xf3, 0x00, 0x01, 0x00, 0x00, 0x00, 0x00, 0x00, 0x00, 0x00, 0x34, 0x00, 0x00, 0x00,
@@ -11,7 +11,7 @@ const HEADER: [u8; 84] = [
     0x04, 0x00, 0x00, 0x00,
 ];
 
-// Over and over: store x3 at x4 and at the 15 words behind it, load x5 and x6 from the first and the last of these, x3 := x5 + 3,
+// Over and over: store x3 at x4 and at the 15 words after it, load x5 and x6 from the first and the last of these, x3 := x5 + 3,
 // x4 := x4 + x2.
 const LOOP: [u32; 21] = [
     0x0032_2023,

@@ -1,6 +1,6 @@
-//! Steps chunks of 4,096 instructions, three of four of which store, through buffers of 16 and of 4,096 words and signatures of
-//! 64 and of 2,048 bits, and prints what each came to. Its first word says how often each is stepped, without it once; a second
-//! one leaves out the buffers of another size, and a third the signatures of another.
+//! Steps chunks of 4,096 instructions, three in four of which store, through buffers of 16 and of 4,096 words and signatures
+//! of 64 and of 2,048 bits, and prints the outcome of each. Its first word says how often each is stepped, once if there is
+//! none; a second word leaves out buffers of any other size, and a third signatures of any other.
 #![tactic(auto)]
 
 ghost use Rattle.std.specs.Prelude.{◌≡◌, ◌≤◌, true};
@@ -36,7 +36,7 @@ fn number(word: Option<String>) -> anyhow::Result<Option<u32>> {
     }
 }
 
-// How often each is stepped, and which alone.
+// How often each is stepped, and which ones only.
 #[derive(Drop)]
 struct Choice {
     rounds: u32,

@@ -26,7 +26,7 @@ impl Display for Room {
     }
 }
 
-/// What a chunk came to.
+/// The outcome of a chunk.
 #[derive(Drop)]
 pub struct Round {
     steps: u32,
@@ -45,7 +45,7 @@ impl Display for Round {
     }
 }
 
-/// Steps a chunk of the program from its start, so many times, and gives what the last came to.
+/// Steps a chunk of the program from its start, that many times, and gives the outcome of the last.
 pub fn last_of(
     alloc: Global,
     room: Room,

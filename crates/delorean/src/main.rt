@@ -1,8 +1,9 @@
 //! The program: it hands its words, the real files and the standard output to the one call `delorean`, and ends with its status.
 #![tactic(auto)]
 
-ghost use Rattle.std.specs.Prelude.{◌≡◌, ◌≢◌, [], IfOk, IfErr, OnErr, IsErr};
+ghost use Rattle.std.specs.Prelude.{◌≡◌, ◌≢◌, [], drop, IfOk, IfErr, OnErr, IsErr};
 ghost use Rattle.std.specs.IoError.{error_kind};
+ghost use Rattle.std.specs.Vec.Iter.{into_iter_items};
 ghost use Rattle.spec_program.specs.declared.status.Status.{Status};
 
 use dl_commands::delorean;
@@ -42,15 +43,19 @@ fn words_of(alloc: Global, args: io::Result<Args<Global>>) -> io::Result<Vec<Str
     ensures no_text { IfErr args (λ e. error_kind e ≡ ErrorKind.InvalidData
         → IfOk result (λ words. words.items ≡ [])) }
     ensures refused { IfErr args (λ e. error_kind e ≢ ErrorKind.InvalidData → IsErr result) }
+    ensures rest { IfOk args (λ all. IfOk result (λ words. words.items ≡ drop 1 (into_iter_items all))) }
 {
     match args {
-        Ok(args) => Ok(behind_first(alloc, args)?),
+        Ok(args) => Ok(after_first(alloc, args)?),
         Err(error) if error.kind() == ErrorKind::InvalidData => Ok(Vec::new(alloc)),
         Err(error) => Err(error),
     }
 }
 
-fn behind_first(alloc: Global, mut args: Args<Global>) -> Result<Vec<String>, AllocError> {
+// All but the first.
+fn after_first(alloc: Global, mut args: Args<Global>) -> Result<Vec<String>, AllocError>
+    ensures rest { IfOk result (λ words. words.items ≡ drop 1 (into_iter_items args)) }
+{
     let mut words = Vec::new(alloc);
     let _ = args.next();
     for word in args {

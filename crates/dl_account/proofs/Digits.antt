@@ -4,7 +4,7 @@ use Rattle.std.proofs.lemmas.Fmt.{decimal_digit, decimal_step}
 use Rattle.std.proofs.lemmas.Grind.{drop-set_at}
 use Rattle.std.proofs.lemmas.List.{append_assoc, length-set, take_all}
 
--- the digits behind `start` are those that follow the digits of `rest`
+-- the digits after `start` are those that follow the digits of `rest`
 pub record IsWritten (field : List ℕ) (start rest n : ℕ) : Type 0 where
   pub len : length field ≡ 21
   pub low : 0 < start
@@ -13,7 +13,7 @@ pub record IsWritten (field : List ℕ) (start rest n : ℕ) : Type 0 where
   pub fits : rest < 2 ^ 64
   pub digits : decimal n ≡ decimal rest ++ drop (start + 1) field
 
--- a number of two digits at least has room for two
+-- a number of at least two digits has room for two
 pub room : (rest start : ℕ) → 10 ≤ rest → rest < 10 ^ start → (1 < start) × (rest / 10 < 10 ^ (start - 1))
 room rest zero large small = absurd (omega arith)
 room rest (suc zero) large small = absurd (omega arith)

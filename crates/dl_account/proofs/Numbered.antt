@@ -22,7 +22,7 @@ numbered_on text n old xs i d here =
     ∙ sym (numbered-push text n (take i xs) (get_or xs i d))
     ∙ ap (λ (some : List _). numbered text n some) (sym (take_at_read xs i d here).1))
 
--- the same where they are numbered from 0
+-- the same if they are numbered from 0
 pub numbered_more : {X : Type 0} (text : ℕ → X → List ℕ) (old : List ℕ) (xs : List X) (i : ℕ) (d : X) → i < length xs → old ++ numbered text 0 (take i xs) ++ text i (get_or xs i d) ≡ old ++ numbered text 0 (take (i + 1) xs)
 numbered_more text old xs i d here =
     let number : i ≡ 0 + i = omega arith in

@@ -1,4 +1,4 @@
--- The account of a sphere: its commits, and its state where its replay did not diverge.
+-- The account of a sphere: its commits, and its state if its replay did not diverge.
 use Rattle.std.specs.Prelude.{ℕ, List, [], ◌∷◌, ◌++◌, codes, decimal, Option}
 use Rattle.dl_entry.specs.declared.commit.Commit.{Commit}
 use Rattle.dl_entry.specs.declared.end.End.{End}
@@ -15,7 +15,7 @@ abbrev pub end_fields : End → List (List ℕ)
 end_fields (Complete commits) = codes "complete" ∷ decimal commits ∷ []
 end_fields (Diverged index why) = codes "diverged" ∷ decimal index ∷ why_fields why
 
--- the state at the end, where the sphere did not diverge
+-- the state at the end, if the sphere did not diverge
 abbrev pub final_lines : List Parts → Option Request → (memory : List ℕ) → End → List ℕ
 final_lines threads request memory (Complete commits) = state_lines threads request memory
 final_lines threads request memory (Diverged index why) = []

@@ -3,7 +3,7 @@ use Rattle.std.specs.Prelude.{ℕ, ◌+◌, ◌/◌, ◌%◌, true, List, [], �
 use Rattle.std.specs.Fmt.{digit_glyph}
 use Rattle.std.specs.Int.{to_be_bytes, w32}
 
--- a field stands after a space
+-- a field comes after a space
 abbrev pub spaced : List ℕ → List ℕ
 spaced field = codes " " ++ field
 

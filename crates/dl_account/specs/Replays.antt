@@ -14,7 +14,7 @@ number_of Dma = 6
 number_of (SizeOfSerial logged) = 7
 number_of LeftOver = 8
 
--- the sizes that belong to it: the logged one, and the one found
+-- the sizes that belong to it: the logged one and the one found
 abbrev pub sizes_of : Why → List ℕ
 sizes_of (Short logged found) = logged ∷ found ∷ []
 sizes_of (SizeOfSerial logged) = logged ∷ []

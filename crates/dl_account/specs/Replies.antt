@@ -2,7 +2,10 @@
 use Rattle.std.specs.Prelude.{ℕ, nat_lt, if◌then◌else◌, List, [], ◌∷◌, codes, decimal, flat_map}
 use Rattle.dl_entry.specs.declared.counts.Counts.{Counts}
 use Rattle.dl_entry.specs.declared.reply_name.ReplyName.{ReplyName}
-use Rattle.dl_entry.specs.declared.reply_name.ReplyName.TheVariants.{Ran, Closed, Bounced, Waiting, Idle, Stopped, NothingRun, Granted, Piece, NotClosed, NotTurn, WindowFull, Denied, SphereBusy, Drained, Clean, Delivered, Squashed, Already, Retired, NotDone, NoCommit, Placed, Elsewhere, NoThread, Ended, Raised, Masked, NoHandler, FromLog, DmaDone, NoDma, Diverged}
+use Rattle.dl_entry.specs.declared.reply_name.ReplyName.TheVariants.{Ran, Closed, Bounced, Waiting, Idle, Stopped, NothingRun, Granted, Piece}
+use Rattle.dl_entry.specs.declared.reply_name.ReplyName.TheVariants.{NotClosed, NotTurn, WindowFull, Denied, SphereBusy, Drained, Clean, Delivered}
+use Rattle.dl_entry.specs.declared.reply_name.ReplyName.TheVariants.{Squashed, Already, Retired, NotDone, NoCommit, Placed, Elsewhere, NoThread}
+use Rattle.dl_entry.specs.declared.reply_name.ReplyName.TheVariants.{Ended, Raised, Masked, NoHandler, FromLog, DmaDone, NoDma, Diverged}
 use Rattle.dl_entry.specs.Counts.{count_of}
 use Rattle.dl_account.specs.Lines.{line}
 
@@ -50,7 +53,7 @@ in_order =
     Retired ∷ NotDone ∷ NoCommit ∷ Placed ∷ Elsewhere ∷ NoThread ∷ Ended ∷ Raised ∷ Masked ∷ NoHandler ∷
     FromLog ∷ DmaDone ∷ NoDma ∷ Diverged ∷ []
 
--- `r NAME COUNT`, where the reply was given at all
+-- `r NAME COUNT`, if the reply was given at all
 abbrev pub reply_line : ReplyName → (count : ℕ) → List ℕ
 reply_line name count = if nat_lt 0 count then line (codes "r") (word_of name ∷ decimal count ∷ []) else []
 

@@ -8,7 +8,7 @@ use Rattle.spec_isa.specs.declared.thread.ThreadStatus.{ThreadStatus}
 use Rattle.spec_isa.specs.declared.thread.ThreadStatus.TheVariants.{Live, Ended, Fault}
 use Rattle.dl_account.specs.Lines.{hex_bytes, hex_word, line, numbered}
 
--- whether a thread goes on, and how it ended if not
+-- whether a thread is live, and if not, how it ended
 abbrev pub status_word : ThreadStatus → List ℕ
 status_word Live = codes "live"
 status_word (Ended number) = codes "ended:" ++ decimal number
@@ -25,7 +25,7 @@ thread_line number t =
     (decimal number ∷ hex_word t.pc ∷ status_word t.status ∷ hex_word t.handler ∷ mask_word t.mask
     ∷ map hex_word (drop 1 t.x))
 
--- `h N PC A0 A1` with the saved values, where interrupts are masked
+-- `h N PC A0 A1` with the saved values, if interrupts are masked
 abbrev pub saved_line : ℕ → Parts → List ℕ
 saved_line number t =
     if t.mask
@@ -35,19 +35,19 @@ saved_line number t =
 abbrev pub thread_lines : ℕ → Parts → List ℕ
 thread_lines number t = thread_line number t ++ saved_line number t
 
--- `d BUF LEN`, where a request is outstanding
+-- `d BUF LEN`, if a request is outstanding
 abbrev pub request_lines : Option Request → List ℕ
 request_lines None = []
 request_lines (Some request) = line (codes "d") (hex_word request.buf ∷ decimal request.len ∷ [])
 
--- a memory's rows of 32 bytes, of which its whole pages have a whole number
+-- a memory's rows of 32 bytes: its whole pages have a whole number of them
 abbrev pub rows : List ℕ → List (List ℕ)
 rows memory = first_chunks 32 (length memory / 32) memory
 
 abbrev pub is_zero : List ℕ → Bool
 is_zero row = list_all (λ byte. nat_eq byte 0) row
 
--- `m ADDR HEX`, where the row isn't all zero
+-- `m ADDR HEX`, unless the row is all zero
 abbrev pub row_line : ℕ → List ℕ → List ℕ
 row_line number row =
     if is_zero row then [] else line (codes "m") (hex_word (32 * number) ∷ hex_bytes row ∷ [])

@@ -20,7 +20,7 @@ sphere_fields (Plain commits) = codes "plain" ∷ decimal commits ∷ []
 sphere_fields (Complete commits) = codes "complete" ∷ decimal commits ∷ []
 sphere_fields (Diverged index why) = codes "diverged" ∷ decimal index ∷ why_fields why
 
--- `s SPHERE record COMMITS`, or what else its role and end are
+-- `s SPHERE record COMMITS`, or whatever its role and end are
 abbrev pub sphere_line : ℕ → SphereLine → List ℕ
 sphere_line number sphere = line (codes "s") (decimal number ∷ sphere_fields sphere)
 

@@ -1,4 +1,4 @@
-//! The account of a sphere: its commits, and its state where its replay did not diverge.
+//! The account of a sphere: its commits, and its state if its replay did not diverge.
 ghost use Rattle.std.specs.Prelude.{◌≡◌, ◌++◌, codes, flat_map, OnOk, IfOk};
 ghost use Rattle.dl_account.specs.Account.{account_of, end_fields, final_lines};
 ghost use Rattle.dl_account.specs.Lines.{line, spaced};
@@ -14,7 +14,7 @@ use dl_mem::Memory;
 use dl_thread::Threads;
 use std::alloc::Global;
 
-/// The account of a sphere: each whole commit with its loads and outputs; where its replay did not diverge the threads,
+/// The account of a sphere: each whole commit with its loads and outputs; if its replay did not diverge, the threads,
 /// the outstanding DMA request and the rows of memory that are not all zero; and how it ended.
 pub fn account_text(
     alloc: Global,
@@ -34,7 +34,7 @@ pub fn account_text(
     Ok(text.into_bytes())
 }
 
-// The state at the end, where the sphere did not diverge.
+// The state at the end, if the sphere did not diverge.
 fn put_final(
     text: &mut Text,
     threads: &Threads,

@@ -7,7 +7,7 @@ ghost use Rattle.dl_entry.specs.Actor.{code};
 use crate::text::{Text, high_digit, low_digit};
 use dl_entry::{Commit, Load, OutOfMemory, Output};
 
-/// The bytes of a load's line. A commit's has fewer, or hardly more.
+/// The bytes of a load's line. A commit's line has fewer, or hardly more.
 const LINE: usize = 20;
 
 // How many bytes the lines of commits take, or a few more, if none has an output: so a text with this room seldom grows.
@@ -19,7 +19,7 @@ pub(crate) fn room_for(commits: &[Commit]) -> usize {
     room
 }
 
-// The lines of each, of which the first has that number.
+// The lines of each commit; the first one has that number.
 pub(crate) fn put_commits(
     text: &mut Text,
     first: u32,

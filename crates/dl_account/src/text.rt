@@ -7,7 +7,7 @@ use dl_entry::OutOfMemory;
 use std::alloc::Global;
 use std::marker::Model;
 
-/// A text that grows at its end, seen as its bytes. After a want of memory it is as before the call.
+/// A text that grows at its end, seen as its bytes. If memory runs out, it is as before the call.
 #[derive(Drop)]
 pub struct Text {
     bytes: Vec<u8>,
@@ -31,7 +31,7 @@ impl Text {
         }
     }
 
-    /// A text with nothing in it, and with room for so many bytes.
+    /// A text with nothing in it, and with room for that many bytes.
     pub fn with_room(alloc: Global, bytes: usize) -> Result<Text, OutOfMemory>
         ensures { IfOk result (λ text. text ≡ []) }
     {
@@ -97,7 +97,7 @@ impl Text {
         self.cut_on_err(len, put)
     }
 
-    /// Two fields: a word, and a number of what it names.
+    /// Two fields: a word, and how many there are of what it names.
     pub fn put_count(&mut self, word: &[u8], n: u32) -> Result<(), OutOfMemory>
         ensures ok { OnOk result (self.new ≡ self.old ++ spaced word.now ++ spaced (decimal n)) }
         ensures err { OnErr result (self.new ≡ self.old) }
@@ -142,7 +142,7 @@ impl Text {
         Ok(())
     }
 
-    /// The decimal digits of a number: those before the last one, and that.
+    /// The decimal digits of a number: those before the last one, and the last one.
     pub fn put_digits(&mut self, n: u128) -> Result<(), OutOfMemory>
         ensures ok { OnOk result (self.new ≡ self.old ++ decimal n) }
         ensures err { OnErr result (self.new ≡ self.old) }
@@ -172,7 +172,7 @@ impl Text {
         Ok(())
     }
 
-    // The outcome of a put, after which only the first `len` bytes stay if it failed.
+    // The outcome of a put; if it failed, only the first `len` bytes are kept.
     fn cut_on_err(&mut self, len: usize, put: Result<(), OutOfMemory>) -> Result<(), OutOfMemory>
         ensures outcome { result ≡ put }
         ensures ok { OnOk put (self.new ≡ self.old) }

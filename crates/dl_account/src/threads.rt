@@ -1,4 +1,4 @@
-//! The lines of threads: each one, and what it saved where interrupts are masked.
+//! The lines of threads: each one, and what it saved if interrupts are masked.
 ghost use Rattle.std.specs.Prelude.{◌≡◌, ◌<◌, ◌++◌, codes, decimal, flat_map, map, drop, length, OnOk};
 ghost use Rattle.dl_account.specs.Lines.{hex_word, numbered, spaced};
 ghost use Rattle.dl_account.specs.States.{mask_word, saved_line, status_word, thread_line, thread_lines};
@@ -40,7 +40,7 @@ fn put_thread_place(text: &mut Text, number: u8, thread: &Thread) -> Result<(), 
     text.put_hex_word(thread.pc())
 }
 
-// Whether a thread goes on, and how it ended if not.
+// Whether a thread is live, and if not, how it ended.
 fn put_status(text: &mut Text, status: ThreadStatus) -> Result<(), OutOfMemory>
     ensures { OnOk result (text.new ≡ text.old ++ spaced (status_word status)) }
 {
@@ -66,7 +66,7 @@ fn put_handler(text: &mut Text, thread: &Thread) -> Result<(), OutOfMemory>
     text.put_word(if thread.mask() { b"1" } else { b"0" })
 }
 
-// The registers but x0.
+// The registers except x0.
 fn put_registers(text: &mut Text, registers: &[u32]) -> Result<(), OutOfMemory>
     requires { 0 < length registers.now }
     ensures { OnOk result (text.new ≡ text.old ++ flat_map spaced (map hex_word (drop 1 registers.now))) }
@@ -83,7 +83,7 @@ fn put_words(text: &mut Text, words: &[u32]) -> Result<(), OutOfMemory>
     Ok(())
 }
 
-// The values that a thread saved, where interrupts are masked.
+// The values that a thread saved, if interrupts are masked.
 fn put_saved(text: &mut Text, number: u8, thread: &Thread) -> Result<(), OutOfMemory>
     ensures { OnOk result (text.new ≡ text.old ++ saved_line number thread.now) }
 {

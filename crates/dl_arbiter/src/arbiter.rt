@@ -7,7 +7,7 @@ use dl_fly::{Flight, Flights};
 use dl_sig::Sig;
 use spec_engine::answers::{Asked, AskedSerial};
 
-/// The request for a chunk's commit, which has these reads and writes.
+/// The request for the commit of a chunk with these reads and writes.
 pub fn ask<G: Sig>(reads: &G, writes: &G, flights: &Flights<G>) -> Asked
     requires reads { AreOfSize (G.marks reads.now).bits flights.now.slots }
     requires writes { AreOfSize (G.marks writes.now).bits flights.now.slots }

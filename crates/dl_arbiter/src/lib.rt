@@ -1,4 +1,4 @@
-//! Which flight a request for a commit runs into: the least that hits it, or none.
+//! Which flight stops a request for a commit: the one in the lowest slot that hits it, or none.
 #![tactic(auto)]
 
 pub mod arbiter;

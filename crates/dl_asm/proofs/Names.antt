@@ -4,7 +4,7 @@ use Rattle.std.specs.List.{find}
 use Rattle.std.specs.Str.{bytes_eq}
 use Rattle.dl_asm.specs.Mnemonics.{named}
 
--- in a table of operations by their names, what stands beside a name is the first operation of that name
+-- in a table of operations by their names, what a name names is the first operation with that name
 pub named-find : {A : Type 0} (name_of : A → List ℕ) (name : List ℕ) (all : List A) → named name (map (λ a. (name_of a, a)) all) ≡ find (λ a. bytes_eq name (name_of a)) all
 named-find name_of name [] = refl
 named-find name_of name (a ∷ all) = ap (λ rest. if bytes_eq name (name_of a) then Some a else rest) (named-find name_of name all)

@@ -1,4 +1,4 @@
--- Which words the lines of a source give, where these stand, and what their file is loaded to.
+-- Which words the lines of a source give, where those are, and what their file is loaded to.
 pub mod Counting
 pub mod Labels
 pub mod Coding

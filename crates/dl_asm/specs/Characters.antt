@@ -6,7 +6,7 @@ use Rattle.std.specs.Char.{is_ascii_graphic, is_ascii_alphabetic, is_ascii_alpha
 abbrev pub is_blank : ℕ → Bool
 is_blank c = (c == 32) || (c == 9)
 
--- what may stand in a line
+-- what a line may contain
 abbrev pub is_printable : ℕ → Bool
 is_printable c = is_ascii_graphic c || is_blank c
 

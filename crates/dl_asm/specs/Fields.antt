@@ -1,4 +1,4 @@
--- What a form of statement takes of its operands: registers, and the text of a value.
+-- What a form of statement takes from its operands: registers, and the text of a value.
 use Rattle.std.specs.Prelude.{ℕ, ◌==◌, List, [], length, Option, Some, None, is_some, if◌then◌else◌}
 use Rattle.std.specs.Option.{option_and_then, option_map}
 use Rattle.dl_asm.specs.declared.form.Form.{Form}
@@ -6,7 +6,7 @@ use Rattle.dl_asm.specs.declared.fields.Registers.{Registers}
 use Rattle.dl_asm.specs.Numbers.{number_in, register_in}
 use Rattle.dl_asm.specs.Operands.{memory_in, is_value, operands_in, two_of, three_of}
 
--- a register that the form doesn't have is x0, and its value no text
+-- a register that the form doesn't have is x0, and a value that it doesn't have is an empty text
 abbrev pub Fields : Type 0
 Fields = Registers × List ℕ
 
@@ -16,7 +16,7 @@ fields rd rs1 rs2 value = (record { rd = rd; rs1 = rs1; rs2 = rs2 }, value)
 abbrev pub value_in : List ℕ → Option (List ℕ)
 value_in text = if is_value text then Some text else None
 
--- ---- memory operands: a base register, behind the text of an offset or alone
+-- ---- memory operands: a base register, after the text of an offset or alone
 
 abbrev pub offset_of : List ℕ × List ℕ → Option (List ℕ)
 offset_of memory = value_in (memory.0)
@@ -35,14 +35,14 @@ fields_none text = if length text == 0 then Some (fields 0 0 0 []) else None
 abbrev pub fields_v : List ℕ → Option Fields
 fields_v text = option_and_then (λ value. Some (fields 0 0 0 value)) (value_in text)
 
--- a number alone: what a label stands for would hang on it
+-- only a number, because what labels stand for would depend on it
 abbrev pub fields_number : List ℕ → Option Fields
 fields_number text = if is_some (number_in text) then Some (fields 0 0 0 text) else None
 
 abbrev pub fields_rv : List ℕ × List ℕ → Option Fields
 fields_rv texts = option_and_then (λ rd. option_map (λ value. fields rd 0 0 value) (value_in (texts.1))) (register_in (texts.0))
 
--- loads and JALR have the register that they write in front, stores the one that they store
+-- loads and JALR begin with the register that they write, stores with the one that they store
 abbrev pub fields_load : List ℕ × List ℕ → Option Fields
 fields_load texts =
     option_and_then (λ rd.
@@ -113,7 +113,7 @@ of_two read text = option_and_then read (two_of (operands_in text))
 abbrev pub of_three : (List ℕ × List ℕ × List ℕ → Option Fields) → List ℕ → Option Fields
 of_three read text = option_and_then read (three_of (operands_in text))
 
--- none where the operands are not of the form's number and kinds
+-- none if the operands don't match the form in number and kind
 unfoldable pub fields_of : Form → List ℕ → Option Fields
 fields_of (Form.Register op) text = of_three fields_rrr text
 fields_of (Form.Immediate op) text = of_three fields_rrv text

@@ -4,25 +4,25 @@ use Rattle.std.specs.List.{flat_map}
 use Rattle.byteorder.specs.Endian.{little_bytes}
 use Rattle.dl_elf.specs.Images.{Image}
 
--- of an ELF32 program for RISC-V, the least byte first, with entry 0, and a program header at 52
+-- of a little-endian ELF32 program for RISC-V, with entry 0 and a program header at 52
 abbrev pub header : List ℕ
 header =
     0x7F ∷ 0x45 ∷ 0x4C ∷ 0x46 ∷ 1 ∷ 1 ∷ 1 ∷ 0 ∷ 0 ∷ 0 ∷ 0 ∷ 0 ∷ 0 ∷ 0 ∷ 0 ∷ 0
     ∷ 2 ∷ 0 ∷ 0xF3 ∷ 0 ∷ 1 ∷ 0 ∷ 0 ∷ 0 ∷ 0 ∷ 0 ∷ 0 ∷ 0 ∷ 0x34 ∷ 0 ∷ 0 ∷ 0 ∷ 0 ∷ 0 ∷ 0 ∷ 0 ∷ 0 ∷ 0 ∷ 0 ∷ 0
     ∷ 0x34 ∷ 0 ∷ 0x20 ∷ 0 ∷ 1 ∷ 0 ∷ 0 ∷ 0 ∷ 0 ∷ 0 ∷ 0 ∷ 0 ∷ []
 
--- loaded from byte 84 of the file to address 0, in front of the two sizes
+-- loaded from byte 84 of the file to address 0; the two sizes come next
 abbrev pub placed : List ℕ
 placed = 1 ∷ 0 ∷ 0 ∷ 0 ∷ 0x54 ∷ 0 ∷ 0 ∷ 0 ∷ 0 ∷ 0 ∷ 0 ∷ 0 ∷ 0 ∷ 0 ∷ 0 ∷ 0 ∷ []
 
--- it may be read, written and run, and begins at a word
+-- it may be read, written and run, and is aligned to a word
 abbrev pub allowed : List ℕ
 allowed = 7 ∷ 0 ∷ 0 ∷ 0 ∷ 4 ∷ 0 ∷ 0 ∷ 0 ∷ []
 
 abbrev pub program_header : (size : ℕ) → List ℕ
 program_header size = placed ++ little_bytes 4 size ++ little_bytes 4 size ++ allowed
 
--- each word the least byte first
+-- each word little-endian
 abbrev pub code_of : (words : List ℕ) → List ℕ
 code_of words = flat_map (little_bytes 4) words
 

@@ -13,7 +13,7 @@ use Rattle.dl_asm.specs.Sources.{place_of, has_label}
 unfoldable pub entry_in : Labels → (name : List ℕ) → Option LabelPlace
 entry_in labels name = get_by (λ key. slice_cmp nat_cmp name key.now) labels.places
 
--- the place of the line of an index, cut beyond every range
+-- the place of the line at an index, cut off beyond every range
 abbrev pub entry_at : List (List ℕ) → (index : ℕ) → LabelPlace
 entry_at lines i = record { line = i; words = capped (place_of lines i) }
 

@@ -18,14 +18,14 @@ use Rattle.dl_asm.specs.Values.{within}
 abbrev pub label_in : List ℕ → Option (List ℕ)
 label_in text = if nat_lt (place_of 58 text) (length text) && is_name (before 58 text) then Some (before 58 text) else None
 
--- that the line begins with, behind blanks
+-- the one that the line begins with, after blanks
 unfoldable pub label_of : List ℕ → Option (List ℕ)
 label_of line = label_in (after_blanks line)
 
 abbrev pub after_label : List ℕ → List ℕ
 after_label text = if is_some (label_in text) then behind 58 text else text
 
--- what stands between the label and the comment, which begins with `#`
+-- what is between the label and the comment, which begins with `#`
 abbrev pub statement_of : List ℕ → List ℕ
 statement_of line = trimmed (before 35 (after_label (after_blanks line)))
 
@@ -37,7 +37,7 @@ operands_of statement = trimmed (other_words statement)
 
 -- ---- what it says
 
--- nothing; what has no form of a line; a mnemonic that is none; operands that aren't the form's; or a statement by its
+-- nothing; something without the form of a line; an unknown mnemonic; operands that aren't the form's; or a statement, by its
 -- form, its registers and the text of its value
 pub data Said : Type 0 where
   Nothing : Said
@@ -63,7 +63,7 @@ said_in statement =
 unfoldable pub said : (line : List ℕ) → Said
 said line = if list_all is_printable line then said_in (statement_of line) else Misspelled
 
--- ---- how many words it takes; where it breaks a rule, by its mnemonic alone
+-- ---- how many words it takes; if it breaks a rule, by its mnemonic alone
 
 abbrev pub zeros_capped : Option Number → ℕ
 zeros_capped None = 0

@@ -1,4 +1,4 @@
--- The mnemonics of statements: those of the ISA manual for its instructions, and two of words of data.
+-- The mnemonics of statements: those of the ISA manual for its instructions, and two for words of data.
 use Rattle.std.specs.Prelude.{ℕ, Bool, true, false, List, [], ◌∷◌, map, codes, Option, Some, None, if◌then◌else◌}
 use Rattle.std.specs.Borrow.{Bor}
 use Rattle.std.specs.List.{find}
@@ -82,7 +82,7 @@ amo_name AmoOp.Amomax = codes "amomax"
 amo_name AmoOp.Amominu = codes "amominu"
 amo_name AmoOp.Amomaxu = codes "amomaxu"
 
--- ---- the order of an atomic operation, as it stands behind the operation's dot
+-- ---- the order of an atomic operation, as it is written after the operation's dot
 
 abbrev pub order : (acquire release : Bool) → Order
 order acquire release = record { acquire = acquire; release = release }
@@ -132,12 +132,12 @@ form_named name =
     (option_or (option_map Form.Branch (find (λ op. bytes_eq name (branch_name op)) branches))
     (option_or (plain_form name) (atomic_form name)))))))
 
--- ---- tables of the code, of names with what they name
+-- ---- the code's tables of names with what they name
 
 abbrev pub entries : {A : Type 0} → List (Bor (List ℕ) × A) → List (List ℕ × A)
 entries table = map (λ entry. (entry.0.now, entry.1)) table
 
--- what stands beside the first entry of that name
+-- what the first entry with that name names
 abbrev pub named : {A : Type 0} → (name : List ℕ) → List (List ℕ × A) → Option A
 named name [] = None
 named name (entry ∷ rest) = if bytes_eq name (entry.0) then Some (entry.1) else named name rest

@@ -9,8 +9,8 @@ use Rattle.dl_asm.specs.declared.error.AsmError.TheVariants.{Refused, OutOfMemor
 use Rattle.dl_asm.specs.Sources.{lines_of, place_of, broken_at, instr_at, words_in}
 use Rattle.dl_asm.specs.File.{file_of, code_of, image_by}
 
--- of the words of a source: no line breaks a rule; they are at most 16,777,216 bytes, and those of its lines; and at the place of a line with an
--- instruction stands the word that denotes it
+-- of the words of a source: no line breaks a rule; they are at most 16,777,216 bytes, and those of its lines; and at the place
+-- of a line with an instruction is the word that denotes it
 pub record IsCode (lines : List (List ℕ)) (words : List ℕ) : Type 0 where
   pub fits : length words ≤ 4194304
   pub kept : (i : ℕ) → i < length lines → broken_at lines i ≡ None
@@ -28,7 +28,7 @@ pub record Assembles (source file : List ℕ) : Type 0 where
   pub code : IsCode (lines_of source) (words_in (lines_of source))
   pub image : IsFile (words_in (lines_of source)) file
 
--- the line of that number, counted from 1, breaks the rule and none that stands in front of it, and no line before it
+-- the line of that number, counted from 1, breaks the rule and none that comes before it, and no line before that line
 -- breaks any
 pub record IsRefused (lines : List (List ℕ)) (line : ℕ) (rule : Rule) : Type 0 where
   pub within : line ≤ length lines
@@ -37,7 +37,7 @@ pub record IsRefused (lines : List (List ℕ)) (line : ℕ) (rule : Rule) : Type
   pub broken : broken_at lines index ≡ Some rule
   pub first : (i : ℕ) → i < index → broken_at lines i ≡ None
 
--- why there is no file; of memory that ran out nothing is said
+-- why there is no file; if memory ran out, nothing is said
 abbrev pub Refuses : (source : List ℕ) → AsmError → Type 0
 Refuses source (Refused line rule) = IsRefused (lines_of source) line rule
 Refuses source OutOfMemory = Unit {0}

@@ -1,4 +1,4 @@
--- What the code reads of a line, as the definitions see it.
+-- What the code reads from a line, as the definitions see it.
 use Rattle.dl_asm.specs.declared.line.Line.{Line}
 use Rattle.dl_asm.specs.declared.line.Line.TheVariants.{Nothing, Misspelled, Unknown, Unfit, Says}
 use Rattle.dl_asm.specs.Lines as lines

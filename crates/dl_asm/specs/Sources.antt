@@ -1,5 +1,6 @@
 -- A source: its lines, the place of each, its labels, the rules that its lines break, and its words.
-use Rattle.std.specs.Prelude.{ℕ, zero, suc, ◌++◌, ◌+◌, ◌*◌, ◌==◌, Bool, true, false, not, nat_lt, List, [], length, take, get_or, Option, Some, None, if◌then◌else◌}
+use Rattle.std.specs.Prelude.{ℕ, zero, suc, ◌++◌, ◌+◌, ◌*◌, ◌==◌, Bool, true, false, not, nat_lt, List, [], length, take, get_or, Option, Some, None}
+use Rattle.std.specs.Prelude.{if◌then◌else◌}
 use Rattle.std.specs.List.{slice_split, sum_by, list_any, position}
 use Rattle.std.specs.Option.{option_map, option_or}
 use Rattle.std.specs.Str.{bytes_eq}
@@ -12,7 +13,7 @@ use Rattle.dl_asm.specs.Numbers.{number_in}
 use Rattle.dl_asm.specs.Values.{holds, takes_distance, address_number, distance_number, instr_of, words_of}
 use Rattle.dl_asm.specs.Lines.{Said, Misspelled, Unknown, Unfit, Says, said, label_of, count_said, count_of}
 
--- lines end with LF; what stands after the last LF is one more, which may be empty
+-- lines end with LF; what comes after the last LF is one more, which may be empty
 abbrev pub lines_of : (source : List ℕ) → List (List ℕ)
 lines_of source = slice_split (λ c. c == 10) source
 
@@ -47,7 +48,7 @@ number_of form here label value =
     if length value == 0 then Some (address_number 0)
     else option_or (number_in value) (option_map (number_by_label form here) label)
 
--- labels is where each label is
+-- `labels` says where each label is
 abbrev pub number_said : (here : ℕ) (labels : List ℕ → Option ℕ) → Said → Option Number
 number_said here labels (Says form registers value) = number_of form here (labels value) value
 number_said here labels _ = None

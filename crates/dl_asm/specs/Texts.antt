@@ -1,4 +1,4 @@
--- Pieces of a line: what is left between blanks, names and mnemonics.
+-- Pieces of a line: what is left without blanks, names, and mnemonics.
 use Rattle.std.specs.Prelude.{ℕ, ◌-◌, ◌==◌, Bool, not, ◌&&◌, false, List, [], ◌∷◌, length, take, drop}
 use Rattle.std.specs.List.{list_all, position_or_len, before_first, after_first, suffix_len}
 use Rattle.dl_asm.specs.Characters.{is_blank, begins_name, continues_name, begins_mnemonic, continues_mnemonic}
@@ -14,11 +14,11 @@ before_blanks text = take (length text - suffix_len is_blank text) text
 abbrev pub trimmed : List ℕ → List ℕ
 trimmed text = before_blanks (after_blanks text)
 
--- the place of the first character of a code, and the length where there is none
+-- the place of the first character of that code, or the length if there is none
 abbrev pub place_of : (code : ℕ) → List ℕ → ℕ
 place_of code text = position_or_len (λ c. c == code) text
 
--- what stands before it, and behind it
+-- what comes before it, and what comes after it
 abbrev pub before : (code : ℕ) → List ℕ → List ℕ
 before code text = before_first (λ c. c == code) text
 

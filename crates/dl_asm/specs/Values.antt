@@ -1,4 +1,4 @@
--- Numbers as the fields of instructions and words hold them, and the ranges of statements.
+-- Numbers as instructions' fields and words hold them, and the ranges of statements.
 use Rattle.std.specs.Prelude.{ℕ, ◌-◌, ◌/◌, ◌%◌, ◌^◌, ◌==◌, Bool, true, false, ◌&&◌, nat_le, nat_lt, List, [], ◌∷◌, replicate, Option, Some, None, if◌then◌else◌}
 use Rattle.spec_isa.specs.declared.instr.Instr.{Instr}
 use Rattle.spec_isa.specs.Encoding.{spelling}
@@ -11,11 +11,11 @@ use Rattle.dl_asm.specs.declared.fields.Registers.{Registers}
 abbrev pub within : (below above : ℕ) → Number → Bool
 within below above n = nat_le n.magnitude (if n.negative then below else above)
 
--- the targets of branches and jumps have no lowest bit
+-- the lowest bit of a branch's or a jump's target is 0
 abbrev pub even : Number → Bool
 even n = n.magnitude % 2 == 0
 
--- whether a form can hold the number; one without a value holds 0 alone
+-- whether a form can hold the number; one without a value holds only 0
 unfoldable pub holds : Form → Number → Bool
 holds (Form.Register op) n = within 0 0 n
 holds (Form.Immediate op) n = within 2048 2047 n
@@ -64,7 +64,7 @@ takes_distance Form.Zero = false
 abbrev pub address_number : (address : ℕ) → Number
 address_number address = record { negative = false; magnitude = address }
 
--- under 0 where it stands before
+-- below 0 if it comes before
 abbrev pub distance_number : (from to : ℕ) → Number
 distance_number from to = record { negative = nat_lt to from; magnitude = if nat_lt to from then from - to else to - from }
 
@@ -73,11 +73,11 @@ distance_number from to = record { negative = nat_lt to from; magnitude = if nat
 abbrev pub bits : (width : ℕ) → Number → ℕ
 bits width n = (if n.negative then 2 ^ width - n.magnitude else n.magnitude) % 2 ^ width
 
--- without the lowest
+-- without the lowest bit
 abbrev pub half_bits : (width : ℕ) → Number → ℕ
 half_bits width n = bits width n / 2
 
--- ---- the instruction of a statement; `.word` and `.zero` are none
+-- ---- the instruction of a statement; `.word` and `.zero` have none
 
 unfoldable pub instr_of : Form → Registers → Number → Option Instr
 instr_of (Form.Register op) r n = Some (Instr.Register op r.rd r.rs1 r.rs2)

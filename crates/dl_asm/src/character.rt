@@ -9,7 +9,7 @@ pub fn is_blank(byte: u8) -> bool
     byte == b' ' || byte == b'\t'
 }
 
-/// Whether it may stand in a line.
+/// Whether a line may contain it.
 pub fn is_printable(byte: u8) -> bool
     ensures { result ≡ characters.is_printable byte }
 {

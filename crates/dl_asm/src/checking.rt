@@ -1,4 +1,4 @@
-//! The rules of a line: what it says, where it stands, and the labels of the source.
+//! The rules of a line: what it says, where it is, and the labels of the source.
 ghost use Rattle.std.specs.Prelude.{◌≡◌, ◌≤◌, ◌+◌, ℕ, Bool, List, Option, Some, None, not, MatchResult, IfOk, IfSome, true, false, length};
 ghost use Rattle.std.specs.Option.{option_map};
 ghost use Rattle.dl_asm.specs.declared.form.Form.{Form};
@@ -19,7 +19,7 @@ use crate::number::Number;
 use crate::statement::Statement;
 use crate::value::{MOST_WORDS, holds, takes_distance};
 
-/// The statement of a line, if it has one, or the first rule that the line breaks: `here` words stand before it, and
+/// The statement of a line, if it has one, or the first rule that the line breaks: there are `here` words before it, and
 /// `twice` says whether an earlier line has its label.
 pub fn check(
     line: &Line<'_>,
@@ -88,7 +88,7 @@ fn is_out_of_range(form: Form, number: Option<Number>) -> bool
     }
 }
 
-// What the value of a statement stands for; none where no line has the label that it names.
+// What the value of a statement stands for; none if no line has the label that it names.
 fn number(form: Form, value: &[u8], here: u32, labels: &Labels<'_>) -> Option<Number>
     requires { here ≤ 4194304 }
     ensures { (places : List ℕ → Option ℕ) → IsWhere labels.now places

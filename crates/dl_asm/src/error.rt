@@ -1,14 +1,14 @@
 //! Why a source is not assembled.
 use thiserror::Error;
 
-/// A rule that a line can break. Of several the first of this order is told.
+/// A rule that a line can break. If it breaks several, the first in this order is told.
 #[derive(Clone, Copy, Debug, PartialEq, Eq)]
 pub enum Rule {
-    /// It hasn't the form of a line.
+    /// It doesn't have the form of a line.
     Syntax,
-    /// Its mnemonic is none.
+    /// Its mnemonic is unknown.
     Mnemonic,
-    /// Its operands are not of its mnemonic's number and kinds.
+    /// Its operands don't match its mnemonic in number and kind.
     Operands,
     /// Its value is out of range.
     Range,

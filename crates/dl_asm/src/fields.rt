@@ -1,4 +1,4 @@
-//! What a form of statement takes of its operands.
+//! What a form of statement takes from its operands.
 ghost use Rattle.std.specs.Prelude.{◌≡◌, MatchOption, None, Some};
 ghost use Rattle.dl_asm.specs.Fields as fields;
 ghost use Rattle.dl_asm.specs.Fields.{of_two, of_three};
@@ -10,7 +10,7 @@ use crate::operands::{three, two};
 use crate::register::read_register;
 use spec_isa::field::Reg;
 
-/// The registers of a statement: x0 where it has none in that place.
+/// The registers of a statement: x0 for each that it doesn't have.
 #[derive(Clone, Copy)]
 pub struct Registers {
     pub rd: Reg,
@@ -18,7 +18,7 @@ pub struct Registers {
     pub rs2: Reg,
 }
 
-/// The registers, and the text of the value, where the operands are of the form's number and kinds.
+/// The registers, and the text of the value, if the operands match the form in number and kind.
 #[tactic(auto, unfolding(crate::specs::Fields::fields_of))]
 pub fn fields(form: Form, text: &[u8]) -> Option<(Registers, &[u8])>
     ensures { MatchOption result (fields.fields_of form text.now ≡ None)
@@ -39,7 +39,7 @@ pub fn fields(form: Form, text: &[u8]) -> Option<(Registers, &[u8])>
     }
 }
 
-// A statement that takes none.
+// For a statement that takes none.
 fn no_registers() -> Registers
     ensures { result ≡ record { rd = 0; rs1 = 0; rs2 = 0 } }
 {
@@ -196,7 +196,7 @@ fn atomic(text: &[u8]) -> Option<(Registers, &[u8])>
     Some((Registers { rd, rs1, rs2 }, &[]))
 }
 
-// The text itself, where it is one of a value.
+// The text itself, if it is that of a value.
 fn value(text: &[u8]) -> Option<&[u8]>
     ensures { MatchOption result (fields.value_in text.now ≡ None) (λ value. fields.value_in text.now ≡ Some value.now) }
 {

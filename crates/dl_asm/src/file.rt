@@ -6,7 +6,7 @@ ghost use Rattle.dl_asm.specs.File.{file_of, code_of, image_by};
 
 use std::alloc::{AllocError, Global};
 
-// Header and program header up to the sizes: loaded from byte 84 on to address 0.
+// Header, and program header up to the sizes: the file from byte 84 on is loaded to address 0.
 const FRONT: [u8; 68] = [
     0x7F, 0x45, 0x4C, 0x46, 1, 1, 1, 0, 0, 0, 0, 0, 0, 0, 0, 0, 2, 0, 0xF3, 0, 1, 0, 0, 0, 0, 0, 0,
     0, 0x34, 0, 0, 0, 0, 0, 0, 0, 0, 0, 0, 0, 0x34, 0, 0x20, 0, 1, 0, 0, 0, 0, 0, 0, 0, 1, 0, 0, 0,

@@ -18,7 +18,7 @@ pub struct LabelPlace {
 /// For each label the first line that has it.
 #[derive(Drop)]
 pub struct Labels<'a> {
-    // In the order of their names: whoever writes a source chooses them, and could choose many of one hash.
+    // Ordered by name and not hashed, because whoever writes a source could choose many names of the same hash.
     places: BTreeMap<&'a [u8], LabelPlace>,
 }
 
@@ -59,7 +59,7 @@ impl<'a> Labels<'a> {
     }
 }
 
-/// The labels of a source, whose lines are parted by LF.
+/// The labels of a source, whose lines are separated by LF.
 pub fn labels_of(alloc: Global, source: &[u8]) -> Result<Labels<'_>, AllocError>
     ensures { IfOk result (AreLabels (lines_of source.now)) }
 {

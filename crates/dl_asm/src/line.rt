@@ -22,11 +22,11 @@ use crate::value::MOST_WORDS;
 pub enum Line<'a> {
     /// No statement.
     Nothing,
-    /// It hasn't the form of a line.
+    /// It doesn't have the form of a line.
     Misspelled,
-    /// Its mnemonic is none.
+    /// Its mnemonic is unknown.
     Unknown,
-    /// Its operands are not those of its form.
+    /// Its operands aren't those of its form.
     Unfit(Form),
     /// A statement: its form, its registers and the text of its value.
     Says(Form, Registers, &'a [u8]),
@@ -93,7 +93,7 @@ fn read_statement(statement: &[u8]) -> Line<'_>
     }
 }
 
-// What stands between the label and the comment.
+// What is between the label and the comment.
 fn statement(line: &[u8]) -> &[u8]
     ensures { result.now ≡ lines.statement_of line.now }
 {

@@ -226,7 +226,7 @@ fn atomic_named(name: &[u8], order: Order) -> Option<Form>
     }
 }
 
-// What stands beside the name in the table, if it is there.
+// What the name names in the table, if it is there.
 fn named<T: Copy>(name: &[u8], table: &[(&[u8], T)]) -> Option<T>
     ensures { result ≡ names.named name.now (names.entries table.now) }
 {

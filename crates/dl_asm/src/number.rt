@@ -21,7 +21,7 @@ impl Number {
     ghost use Rattle.dl_asm.specs.Numbers.{number_in, number_capped};
     ghost use Rattle.dl_asm.specs.Values as values;
 
-    /// The number that a text writes, if it writes one. Beyond the reach of every range it is cut.
+    /// The number that a text writes, if it writes one, cut off beyond the reach of every range.
     pub fn read(text: &[u8]) -> Option<Number>
         ensures { result ≡ option_map number_capped (number_in text.now) }
     {
@@ -72,7 +72,7 @@ impl Number {
         self.magnitude % 2 == 0
     }
 
-    /// Its bits in two's complement, below `modulus`, a power of 2 that it doesn't pass.
+    /// Its bits in two's complement, below `modulus`, a power of 2 that it doesn't exceed.
     pub fn bits(self, modulus: u64) -> u32
         requires some { 0 < modulus }
         requires most { modulus ≤ 2 ^ 32 }
@@ -120,7 +120,7 @@ fn are_hexadecimal(digits: &[u8]) -> bool
     digits.iter().all(|digit| digit.is_ascii_hexdigit())
 }
 
-/// The number that decimal digits write, with no 0 before others.
+/// The number that decimal digits write, with no 0 before other digits.
 pub fn decimal(digits: &[u8]) -> Option<u64>
     ensures { result ≡ option_map capped (decimal_in digits.now) }
 {

@@ -21,7 +21,7 @@ pub fn is_value(text: &[u8]) -> bool
     is_plain(text) && read_register(text).is_none()
 }
 
-/// What stands before the parentheses, and between them.
+/// What is before the parentheses, and what is between them.
 pub fn memory(text: &[u8]) -> Option<(&[u8], &[u8])>
     ensures { MatchOption result (memory_in text.now ≡ None)
         (λ parts. memory_in text.now ≡ Some (parts.0.now, parts.1.now)) }

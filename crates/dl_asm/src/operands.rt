@@ -1,4 +1,4 @@
-//! The operands of a statement, parted by commas.
+//! The operands of a statement, separated by commas.
 ghost use Rattle.std.specs.Prelude.{◌≡◌, ◌∷◌, [], MatchOption, None, Some};
 ghost use Rattle.dl_asm.specs.Operands as operands;
 ghost use Rattle.dl_asm.specs.Operands.{operands_in, two_of, three_of};
@@ -18,7 +18,7 @@ pub fn are_operands(text: &[u8]) -> bool
         .all(|operand| is_operand(trimmed(operand)))
 }
 
-/// The first operand, and the text of the others where there are any.
+/// The first operand, and the text of the others if there are any.
 pub fn first_operand(text: &[u8]) -> (&[u8], Option<&[u8]>)
     ensures { MatchOption result.1 (operands_in text.now ≡ result.0.now ∷ [])
         (λ rest. operands_in text.now ≡ result.0.now ∷ operands_in rest.now) }
@@ -29,7 +29,7 @@ pub fn first_operand(text: &[u8]) -> (&[u8], Option<&[u8]>)
     }
 }
 
-/// Two operands, where there are two.
+/// Two operands, if there are two.
 pub fn two(text: &[u8]) -> Option<(&[u8], &[u8])>
     ensures { MatchOption result (two_of (operands_in text.now) ≡ None)
         (λ texts. two_of (operands_in text.now) ≡ Some (texts.0.now, texts.1.now)) }
@@ -42,7 +42,7 @@ pub fn two(text: &[u8]) -> Option<(&[u8], &[u8])>
     }
 }
 
-/// Three operands, where there are three.
+/// Three operands, if there are three.
 pub fn three(text: &[u8]) -> Option<(&[u8], &[u8], &[u8])>
     ensures { MatchOption result (three_of (operands_in text.now) ≡ None)
         (λ texts. three_of (operands_in text.now) ≡ Some (texts.0.now, texts.1.now, texts.2.now)) }

@@ -12,7 +12,7 @@ use crate::value::instr;
 use dl_isa::encode;
 use std::alloc::AllocError;
 
-/// A statement with the number of its value, 0 where it has none.
+/// A statement with the number of its value, 0 if it has none.
 #[derive(Clone, Copy)]
 pub struct Statement {
     pub form: Form,
@@ -33,7 +33,7 @@ pub fn append(words: &mut Vec<u32>, statement: Option<Statement>) -> Result<(), 
 }
 
 impl Statement {
-    /// Appends its words, where its form holds its number.
+    /// Appends its words, if its form holds its number.
     pub fn append_to(self, words: &mut Vec<u32>) -> Result<(), AllocError>
         requires { values.holds self.form self.number ≡ true }
         ensures words { OnOk result (words.new.items ≡ words.old.items ++ values.words_of self.form self.registers self.number) }

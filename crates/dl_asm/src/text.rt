@@ -35,7 +35,7 @@ fn before_blanks(text: &[u8]) -> &[u8]
     &text[..end]
 }
 
-/// What stands before the first byte of that value, and behind it, where there is one.
+/// What comes before the first byte of that value, and what comes after it, if there is one.
 pub fn split_once(text: &[u8], byte: u8) -> Option<(&[u8], &[u8])>
     ensures { MatchOption result (texts.place_of byte text.now ≡ length text.now)
         (λ parts. (texts.place_of byte text.now < length text.now) × (parts.0.now ≡ texts.before byte text.now)
@@ -45,7 +45,7 @@ pub fn split_once(text: &[u8], byte: u8) -> Option<(&[u8], &[u8])>
     Some((&text[..place], &text[place + 1..]))
 }
 
-/// What stands before the first blank, and behind it.
+/// What comes before the first blank, and what comes after it.
 pub fn split_word(text: &[u8]) -> (&[u8], &[u8])
     ensures word { result.0.now ≡ texts.first_word text.now }
     ensures rest { result.1.now ≡ texts.other_words text.now }

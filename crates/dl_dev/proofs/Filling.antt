@@ -15,18 +15,18 @@ unfolding random_bytes random_after
 bytes-suc zero g = refl
 bytes-suc (suc i) g = ap (λ bytes. (pcg32 g).0 % 2 ^ 8 ∷ bytes) (bytes-suc i (pcg32 g).1)
 
--- the first i bytes are there, and the words stand behind them
+-- the first i bytes are there, and the words are in the state after them
 pub record IsFilled (start : Lcg) (i : ℕ) (into : List ℕ) (words : Lcg) : Type 0 where
   pub bytes : take i into ≡ random_bytes i start
   pub moved : words ≡ random_after i start
   pub stream : words.increment ≡ start.increment
 
--- before the first byte nothing is filled, and the words stand at their start
+-- before the first byte nothing is filled, and the words are in their first state
 pub none_filled : (start : Lcg) (into : List ℕ) → IsFilled start 0 into start
 unfolding random_bytes random_after
 none_filled start into = record { bytes = refl; moved = refl; stream = refl }
 
--- with the low byte of the next word put behind the filled bytes, one byte more is filled
+-- with the low byte of the next word put after the filled bytes, one more byte is filled
 pub one_filled : (start : Lcg) (i : ℕ) (into : List ℕ) (words : Lcg) (byte : ℕ) → IsFilled start i into words → i < length into → byte ≡ (pcg32 words).0 % 2 ^ 8
     → IsFilled start (i + 1) (set into i byte) (pcg32 words).1
 one_filled start i into words byte filled within is =

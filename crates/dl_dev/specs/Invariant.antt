@@ -3,7 +3,7 @@ use Rattle.std.specs.Prelude.{◌≡◌, ℕ, ◌≤◌, List, length}
 use Rattle.rand_pcg.specs.Lcg.{Lcg, increment_of}
 use Rattle.spec_kernel.specs.Numbers.{most_input, random_stream}
 
--- so many bytes of the input are taken, and the random words are of their stream
+-- this many bytes of the input have been taken, and the random words are those of their stream
 pub record AreDevices (input : List ℕ) (taken : ℕ) (words : Lcg) : Type 0 where
   pub within : taken ≤ length input
   pub few : length input ≤ most_input

@@ -10,11 +10,11 @@ use spec_kernel::numbers::{MOST_INPUT, PIPE_COUNT, RANDOM_STREAM};
 use std::alloc::{AllocError, Global};
 use std::marker::Model;
 
-/// What stands outside the spheres. All room but the console's is made by `new`.
+/// What is outside the spheres. `new` makes all room except the console's.
 #[derive(Drop)]
 pub struct Devices {
     input: Vec<u8>,
-    // how many bytes of the input are taken
+    // how many bytes of the input have been taken
     taken: usize,
     console: Vec<u8>,
     pipes: [Pipe; PIPE_COUNT],
@@ -50,7 +50,7 @@ impl Devices {
         })
     }
 
-    /// The bytes of the input that nobody took yet.
+    /// The bytes of the input that haven't been taken yet.
     pub fn input(&self) -> &[u8]
         ensures value { result.now ≡ self.now.input }
         ensures few { length self.now.input ≤ 2 ^ 24 }
@@ -76,7 +76,7 @@ impl Devices {
         byte
     }
 
-    /// Takes the next `n` bytes of the input, or all that are left where these are fewer.
+    /// Takes the next `n` bytes of the input, or all that are left if there are fewer.
     pub fn input_take(&mut self, n: u32)
         ensures { self.new ≡ input_taken n self.old }
     {
@@ -91,7 +91,7 @@ impl Devices {
         self.console.extend_from_slice(bytes)
     }
 
-    /// All bytes that were put on the console.
+    /// All bytes that have been put on the console.
     pub fn console(&self) -> &[u8]
         ensures { result.now ≡ self.now.console }
     {
@@ -107,7 +107,7 @@ impl Devices {
         self.pipes[pipe as usize].put(bytes)
     }
 
-    /// Moves a pipe's first bytes into a buffer, as many as that holds, and gives their number. The rest of the buffer stays.
+    /// Moves a pipe's first bytes into a buffer, as many as that holds, and gives their number. The rest of it is kept.
     pub fn pipe_get(&mut self, pipe: u8, into: &mut [u8]) -> u32
         requires { pipe < pipe_count }
         ensures count { result ≡ length (pipe_first self.old pipe (length into.old)) }

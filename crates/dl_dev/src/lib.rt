@@ -1,5 +1,5 @@
 //! The devices that all spheres share: callers see them as what is left of the input, the console, eight pipes and the
-//! place of the random words.
+//! state of the random words.
 #![tactic(auto)]
 
 mod devices;

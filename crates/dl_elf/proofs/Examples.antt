@@ -4,7 +4,7 @@ use Rattle.dl_elf.specs.Rules.{broken, overlap}
 use Rattle.dl_elf.specs.Segments.{first_loaded}
 use Rattle.dl_elf.specs.Loading.{image_of}
 
--- a header with so many program headers
+-- a header with that many program headers
 abbrev header : (entry count : ℕ) → List ℕ
 header entry count =
     0x7F ∷ 0x45 ∷ 0x4C ∷ 0x46 ∷ 1 ∷ 1 ∷ 1 ∷ 0 ∷ 0 ∷ 0 ∷ 0 ∷ 0 ∷ 0 ∷ 0 ∷ 0 ∷ 0 ∷ 2 ∷ 0 ∷ 243 ∷ 0 ∷ 1 ∷ 0 ∷ 0 ∷ 0 ∷ entry ∷ 0 ∷ 0 ∷ 0
@@ -37,7 +37,7 @@ shared : broken (header 0 2 ++ program_header 1 0 7 0 5 ++ program_header 1 0 0 
 unfolding overlap first_loaded
 shared = refl
 
--- one ends where the other begins
+-- one segment ends where the other begins
 side_by_side : broken (header 0 2 ++ program_header 1 0 8 0 4 ++ program_header 1 0 0 0 8) 12 ≡ None
 unfolding overlap first_loaded
 side_by_side = refl

@@ -51,7 +51,7 @@ late_rule file size rule kept refused =
     late (list_all (is_in_file file) (loaded_of file)) (list_all (is_in_memory size) (loaded_of file)) (overlap size (loaded_of file)) (is_entry size (entry_of file)) (length (loaded_of file) == 0) rule
     (sym (ap (λ o. option_or o (broken_by_segments file size (entry_of file) (loaded_of file))) kept) ∙ refused_by file size rule (broken file size) refused)
 
--- what the rules on the segments say, where none is broken
+-- what the rules on the segments say, if none is broken
 pub record Keeps (file : List ℕ) (size entry : ℕ) (segments : List Segment) : Type 0 where
   pub in_file : list_all (is_in_file file) segments ≡ true
   pub in_memory : list_all (is_in_memory size) segments ≡ true
@@ -70,7 +70,7 @@ keeps file size entry segments none =
       inside = ltb-true _ _ (both _ _ p.started).1;
     }
 
--- segments that are those of a file that breaks no rule on them keep the rules, wherever they stand
+-- the segments of a file that breaks no rule on them keep the rules, in whatever order they are
 pub keeps_there : (file : List ℕ) (size entry : ℕ) (here there segments : List Segment) (o : Option ℕ) → o ≡ None → o ≡ broken_by_segments file size entry here → here ≡ segments → there ≡ segments → Keeps file size entry there
 keeps_there file size entry here there segments o none is e f =
     let P : List Segment → Type 0 = Keeps file size entry in subst P (e ∙ sym f) (keeps file size entry here (sym none ∙ is))

@@ -56,7 +56,7 @@ filler-no segments n a s inside is test =
 abbrev copied_byte : (file old : List ℕ) (s : Segment) (a : ℕ) → Bool → ℕ
 copied_byte file old s a filled = cond filled (get_or file (s.offset + (a - s.address)) 0) (get_or old a 0)
 
--- where no two segments share an address, a memory with the next segment copied is filled by one segment more
+-- if no two segments share an address, a memory with the next segment copied is filled by one more segment
 pub filled-more : (file : List ℕ) (segments : List Segment) (size n : ℕ) (s : Segment) (old new : List ℕ) → overlap size segments ≡ false → n < length segments → s ≡ get_or segments n s
     → length new ≡ length old → ((a : ℕ) → a < length old → get_or new a 0 ≡ copied_byte file old s a (fills a s))
     → IsFilled file segments size n old → IsFilled file segments size (n + 1) new

@@ -1,4 +1,4 @@
--- With one program header more there is one loaded segment more, or as many.
+-- With one more program header there is one more loaded segment, or as many.
 use Rattle.std.proofs.Common.{◌≡◌, ℕ, ◌+◌, ◌*◌, Bool, true, false, cond, List, [], ◌∷◌, ◌++◌, inl, inr, refl, sym, ap, ◌∙◌, eq-eqb, append-nil, arith}
 use Rattle.std.proofs.lemmas.List.FromFn.{filter_of_map_range_with_len_more}
 use Rattle.std.proofs.lemmas.Bool.Decides.{eqb_tells}
@@ -11,7 +11,7 @@ pub first_loaded-none : (file : List ℕ) → first_loaded file 0 ≡ []
 unfolding first_loaded
 first_loaded-none file = refl
 
--- the segment, where it is loaded
+-- the segment, if it is loaded
 abbrev kept : Bool → Segment → List Segment
 kept loaded s = cond loaded (s ∷ []) []
 

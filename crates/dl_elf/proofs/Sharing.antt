@@ -1,4 +1,4 @@
--- Segments overlap where two have an address inside memory, and only there.
+-- Segments overlap exactly if two of them have the same address inside memory.
 use Rattle.std.proofs.Common.{◌≡◌, ℕ, ◌+◌, ◌<◌, ◌≤◌, ◌⊎◌, inl, inr, Bool, true, false, nat_lt, ◌&&◌, ◌||◌, List, [], ◌∷◌, get_or, refl, sym, ap, ap₂, subst, arith}
 use Rattle.std.proofs.lemmas.Bool.Decides.{leb_tells, nat_tests}
 use Rattle.std.proofs.lemmas.List.Folds.{list_any_at, list_any_none}
@@ -49,7 +49,7 @@ shared_by_two segments a two = grind (arith, nat_tests)
 unshared : (segments : List Segment) (a : ℕ) → sharers segments a ≤ 1 → nat_lt 1 (sharers segments a) ≡ false
 unshared segments a one = grind (arith, nat_tests)
 
--- where more than one segment has an address inside memory, segments overlap
+-- if more than one segment has an address inside memory, segments overlap
 pub overlap-found : (size a : ℕ) (segments : List Segment) → a < size → 1 < sharers segments a → overlap size segments ≡ true
 unfolding overlap
 overlap-found size a segments inside two =
@@ -58,13 +58,13 @@ overlap-found size a segments inside two =
     (omega (arith, length-range_with_len 0 size))
     (let P : ℕ → Type 0 = λ x. nat_lt 1 (sharers segments x) ≡ true in subst P (sym same) (shared_by_two segments a two))
 
--- where no address is in more than one segment, none overlap
+-- if no address is in more than one segment, none overlap
 pub overlap-none : (size : ℕ) (segments : List Segment) → ((a : ℕ) → sharers segments a ≤ 1) → overlap size segments ≡ false
 unfolding overlap
 overlap-none size segments apart =
     list_any_none (λ x. nat_lt 1 (sharers segments x)) (range_with_len 0 size) (λ k d inside. unshared segments _ (apart _))
 
--- where no segments overlap, an address inside memory is in one at most
+-- if no segments overlap, an address inside memory is in at most one
 pub overlap-apart : (size a : ℕ) (segments : List Segment) → overlap size segments ≡ false → a < size → sharers segments a ≤ 1
 overlap-apart size a segments none inside =
     elim (leb_tells (sharers segments a) 1) [

@@ -1,4 +1,4 @@
--- Segments in the order of their addresses overlap where one begins before all before it have ended, and only there.
+-- Segments in the order of their addresses overlap exactly if one begins before all before it have ended.
 use Rattle.std.proofs.Common.{◌≡◌, ℕ, ◌+◌, ◌<◌, ◌≤◌, inl, inr, true, false, List, length, get_or, take, ap, ◌∙◌, subst, leb-true, take_all, arith}
 use Rattle.std.proofs.lemmas.List.Sums.{count_by_more_yes, count_by_more_no, sum_by-take-le, AllPass-from_list_all}
 use Rattle.std.proofs.lemmas.List.{get_or_default}
@@ -21,7 +21,7 @@ more_yes sorted n d inside a h = count_by_more_yes (has_address a) sorted n d in
 more_no : (sorted : List Segment) (n : ℕ) (d : Segment) → n < length sorted → (a : ℕ) → Lacks (get_or sorted n d) a → sharers (take (n + 1) sorted) a ≡ sharers (take n sorted) a
 more_no sorted n d inside a h = count_by_more_no (has_address a) sorted n d inside h.test
 
--- past a segment without bytes the sweep is where it was
+-- after a segment without bytes the sweep is where it was
 pub swept-empty : (sorted : List Segment) (n end : ℕ) (d : Segment) → n < length sorted → (get_or sorted n d).memory_size ≡ 0 → Swept sorted n end → Swept sorted (n + 1) end
 swept-empty sorted n end d inside empty s =
     let same : (a : ℕ) → sharers (take (n + 1) sorted) a ≡ sharers (take n sorted) a =
@@ -66,7 +66,7 @@ pub swept-all : (sorted : List Segment) (n end size : ℕ) → length sorted ≤
 swept-all sorted n end size all s =
     overlap-none size sorted (λ a. let whole : take n sorted ≡ sorted = take_all n sorted all in let P : List Segment → Type 0 = λ xs. sharers xs a ≤ 1 in subst P whole (s.apart a))
 
--- what a hit shows, where each segment lies in the memory
+-- what a hit shows, if each segment lies in the memory
 pub hit-overlaps : (sorted : List Segment) (n end size : ℕ) (d : Segment) → n < length sorted → (get_or sorted n d).address < end → ((get_or sorted n d).memory_size ≡ 0 → ⊥) → IsNonDecreasingBy (λ s. s.address) sorted → list_all (is_in_memory size) sorted ≡ true → Swept sorted n end → overlap size sorted ≡ true
 hit-overlaps sorted n end size d inside before some rising fit s =
     let first = get_or sorted n d in

@@ -1,4 +1,4 @@
--- The fields of a file at fixed places: numbers, the least byte first.
+-- The fields of a file at fixed places: numbers, little-endian.
 use Rattle.std.specs.Prelude.{ℕ, List, drop, slice_index}
 use Rattle.byteorder.specs.Endian.{little_number}
 

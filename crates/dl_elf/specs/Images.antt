@@ -1,4 +1,4 @@
--- What a file of a program is loaded to: the memory's size, where the first thread starts, and every byte of the memory.
+-- What a program's file is loaded to: the memory's size, where the first thread starts, and every byte of the memory.
 use Rattle.std.specs.Prelude.{◌≡◌, ℕ, ◌^◌, ◌%◌, ◌<◌, ◌≤◌, List, length}
 
 -- the sizes of a memory: whole pages of 4,096 bytes, from one to 4,096 of them

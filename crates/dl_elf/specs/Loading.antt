@@ -7,7 +7,7 @@ use Rattle.dl_elf.specs.Fields.{byte, entry_of}
 use Rattle.dl_elf.specs.Segments.{loaded_of, fills}
 use Rattle.dl_elf.specs.Rules.{broken}
 
--- the file's byte where a segment is filled from it, else 0
+-- the file's byte if a segment is filled from it there, else 0
 abbrev pub byte_from : (file : List ℕ) (address : ℕ) → Option Segment → ℕ
 byte_from file address None = 0
 byte_from file address (Some segment) = byte file (segment.offset + (address - segment.address))

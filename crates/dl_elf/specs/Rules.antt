@@ -1,5 +1,5 @@
--- The rules that a file keeps to be an image in a memory of a size. Their numbers are their order, and the first broken
--- rule is told. Sums are exact: none wraps.
+-- The rules that a file must keep to be an image in a memory of a given size. They are numbered in their order, and the
+-- first broken one is told. Sums are exact: none wraps.
 use Rattle.std.specs.Prelude.{ℕ, ◌+◌, ◌*◌, ◌%◌, ◌==◌, Bool, ◌&&◌, not, nat_lt, nat_le, List, [], ◌∷◌, length, take, Option, Some, None, if◌then◌else◌}
 use Rattle.std.specs.List.{range_with_len, list_any, list_all, count_by}
 use Rattle.std.specs.Option.{option_or}
@@ -21,7 +21,7 @@ is_elf file = bytes_eq (0x7F ∷ 0x45 ∷ 0x4C ∷ 0x46 ∷ []) (take 4 file) &&
 abbrev pub is_narrow : (file : List ℕ) → Bool
 is_narrow file = byte file 4 == 1
 
--- the least byte first
+-- little-endian
 abbrev pub is_little : (file : List ℕ) → Bool
 is_little file = byte file 5 == 1
 
@@ -32,7 +32,7 @@ is_program file = half file 16 == 2
 abbrev pub is_riscv : (file : List ℕ) → Bool
 is_riscv file = half file 18 == 243
 
--- neither compressed instructions, nor an ABI of floating point, nor one of fewer registers; other flags aren't looked at
+-- no compressed instructions, no floating-point ABI, and no ABI with fewer registers; other flags aren't looked at
 abbrev pub is_plain : (file : List ℕ) → Bool
 is_plain file = word file 36 % 16 == 0
 
@@ -55,7 +55,7 @@ broken_by_header file =
 
 -- ---- the loaded segments, each rule over all of them
 
--- what is filled from the file lies in the file, and is no more than the segment has in memory
+-- what is filled from the file is within the file, and is no more than the segment has in memory
 abbrev pub is_in_file : (file : List ℕ) → Segment → Bool
 is_in_file file segment =
     nat_le (segment.offset + segment.file_size) (length file) && nat_le segment.file_size segment.memory_size

@@ -25,7 +25,7 @@ first_loaded file headers = filter is_loaded (map (λ i. segment_at file (table_
 abbrev pub loaded_of : (file : List ℕ) → List Segment
 loaded_of file = first_loaded file (count_of file)
 
--- the addresses of a segment are as many as it has bytes in memory
+-- a segment has as many addresses as it has bytes in memory
 abbrev pub has_address : (address : ℕ) → Segment → Bool
 has_address address segment = nat_le segment.address address && nat_lt address (segment.address + segment.memory_size)
 

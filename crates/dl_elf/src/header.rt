@@ -74,7 +74,7 @@ fn has_table(file: &[u8]) -> bool
     half(file, 42) as usize == PROGRAM_HEADER_SIZE && end <= file.len()
 }
 
-/// The two bytes at a place, the least first.
+/// The two bytes at a place, little-endian.
 pub fn half(file: &[u8], place: usize) -> u16
     requires { place + 2 ≤ length file.now }
     ensures { result ≡ half_at file.now place }
@@ -82,7 +82,7 @@ pub fn half(file: &[u8], place: usize) -> u16
     LittleEndian::read_u16(&file[place..])
 }
 
-/// The four bytes at a place, the least first.
+/// The four bytes at a place, little-endian.
 pub fn word(file: &[u8], place: usize) -> u32
     requires { place + 4 ≤ length file.now }
     ensures { result ≡ word_at file.now place }

@@ -15,7 +15,7 @@ pub enum ElfError {
     OutOfMemory,
 }
 
-/// A program laid out in a memory of a size: its bytes, and the address at which its first thread starts.
+/// A program laid out in a memory of a given size: its bytes, and the address at which its first thread starts.
 #[derive(Debug, Drop)]
 pub struct Image {
     size: u32,

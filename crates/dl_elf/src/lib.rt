@@ -1,4 +1,4 @@
-//! Images: what a file of ELF32 is loaded to, in a memory of a size, or the first rule that it breaks.
+//! Images: what an ELF32 file is loaded to in a memory of a given size, or the first rule that it breaks.
 #![tactic(auto)]
 
 mod header;

@@ -14,7 +14,7 @@ use crate::overlapping::overlap;
 use crate::segment::{Segment, loaded_segments};
 use std::alloc::{AllocError, Global};
 
-/// The image in a file, for a memory of `size` bytes. `Refused`: the number of the first rule that the file breaks.
+/// The image in a file, for a memory of `size` bytes. `Refused` has the number of the first rule that the file breaks.
 pub fn load(alloc: Global, bytes: &[u8], size: u32) -> Result<Image, ElfError>
     requires { IsSize size }
     ensures { MatchResult result
@@ -85,7 +85,7 @@ fn is_entry(size: u32, entry: u32) -> bool
     entry % 4 == 0 && entry < size
 }
 
-// Zeros, but for what is filled from the file.
+// Zeros, except for what is filled from the file.
 fn memory(
     alloc: Global,
     file: &[u8],

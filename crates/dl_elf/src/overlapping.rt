@@ -7,7 +7,7 @@ ghost use Rattle.dl_elf.specs.Rules.{is_in_memory, overlap as do_overlap};
 use crate::segment::Segment;
 use std::alloc::{AllocError, Global};
 
-/// Whether two of the segments share an address, all of them being in a memory of that size.
+/// Whether two of the segments share an address. All of them are in a memory of that size.
 pub fn overlap(alloc: Global, segments: &[Segment], size: u32) -> Result<bool, AllocError>
     requires { list_all (is_in_memory size) segments.now ≡ true }
     ensures { IfOk result (λ shared. shared ≡ do_overlap size segments.now) }
@@ -24,7 +24,7 @@ fn by_address(alloc: Global, segments: &[Segment]) -> Result<Vec<Segment>, Alloc
     Ok(sorted)
 }
 
-// The same of segments in the order of their addresses, where each has to begin after all before it. A segment without
+// The same for segments in the order of their addresses, where each must begin after all before it. A segment without
 // bytes has no address to share.
 fn neighbours_overlap(sorted: &[Segment], size: u32) -> bool
     requires inside { list_all (is_in_memory size) sorted.now ≡ true }

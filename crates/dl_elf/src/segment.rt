@@ -8,8 +8,8 @@ use std::alloc::{AllocError, Global};
 
 const LOADED: u32 = 1;
 
-/// What loading takes from a program header: the kind of its segment, where the file has its bytes, the address in memory
-/// from which it lies, and how many bytes of it are filled from the file and how many it has in memory.
+/// What loading takes from a program header: the kind of its segment, where the file has its bytes, the address at which it
+/// begins in memory, how many of its bytes are filled from the file, and how many it has in memory.
 #[derive(Clone, Copy)]
 pub struct Segment {
     pub kind: u32,
@@ -22,7 +22,7 @@ pub struct Segment {
 impl Segment {
     ghost use Rattle.dl_elf.specs.Rules.{is_in_file as in_file, is_in_memory as in_memory};
 
-    /// Whether its bytes lie in the file, and are no more than it has in memory.
+    /// Whether its bytes are within the file, and are no more than it has in memory.
     pub fn is_in_file(&self, file: &[u8]) -> bool
         ensures { result ≡ in_file file.now self.now }
     {
@@ -30,7 +30,7 @@ impl Segment {
             && self.file_size <= self.memory_size
     }
 
-    /// Whether it lies in a memory of that size.
+    /// Whether it is within a memory of that size.
     pub fn is_in_memory(&self, size: u32) -> bool
         ensures { result ≡ in_memory size self.now }
     {

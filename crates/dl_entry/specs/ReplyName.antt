@@ -1,7 +1,10 @@
 -- The names of replies in the order of a report.
 use Rattle.std.specs.Prelude.{ℕ}
 use Rattle.dl_entry.specs.declared.reply_name.ReplyName.{ReplyName}
-use Rattle.dl_entry.specs.declared.reply_name.ReplyName.TheVariants.{Ran, Closed, Bounced, Waiting, Idle, Stopped, NothingRun, Granted, Piece, NotClosed, NotTurn, WindowFull, Denied, SphereBusy, Drained, Clean, Delivered, Squashed, Already, Retired, NotDone, NoCommit, Placed, Elsewhere, NoThread, Ended, Raised, Masked, NoHandler, FromLog, DmaDone, NoDma, Diverged}
+use Rattle.dl_entry.specs.declared.reply_name.ReplyName.TheVariants.{Ran, Closed, Bounced, Waiting, Idle, Stopped, NothingRun, Granted, Piece}
+use Rattle.dl_entry.specs.declared.reply_name.ReplyName.TheVariants.{NotClosed, NotTurn, WindowFull, Denied, SphereBusy, Drained, Clean, Delivered}
+use Rattle.dl_entry.specs.declared.reply_name.ReplyName.TheVariants.{Squashed, Already, Retired, NotDone, NoCommit, Placed, Elsewhere, NoThread}
+use Rattle.dl_entry.specs.declared.reply_name.ReplyName.TheVariants.{Ended, Raised, Masked, NoHandler, FromLog, DmaDone, NoDma, Diverged}
 
 -- the place of a name, from 0
 abbrev pub place : ReplyName → ℕ

@@ -1,6 +1,7 @@
 //! The numbers of records and logs that stand for something.
 ghost use Rattle.std.specs.Prelude.{◌≡◌};
-ghost use Rattle.dl_entry.specs.Numbers.{kind_write, kind_read, kind_random, kind_clock, kind_moment, kind_input, most_bytes, least_chunk, most_chunk, most_threads, greatest_thread, dma_code};
+ghost use Rattle.dl_entry.specs.Numbers.{kind_write, kind_read, kind_random, kind_clock, kind_moment, kind_input, most_bytes, least_chunk};
+ghost use Rattle.dl_entry.specs.Numbers.{most_chunk, most_threads, greatest_thread, dma_code};
 
 /// The kinds of records: of outside calls, and of the device words that can be read.
 pub const KIND_WRITE: u8 = 2;

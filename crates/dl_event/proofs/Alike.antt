@@ -1,4 +1,4 @@
--- Lines in a row that are alike: what they hold, and how they stand at the front of a text.
+-- Lines in a row that are alike: what they hold, and how they come at the front of a text.
 use Rattle.std.proofs.Common.{◌≡◌, ℕ, zero, suc, ◌+◌, ◌-◌, ◌*◌, ◌/◌, ◌<◌, ◌≤◌, List, [], ◌∷◌, ◌++◌, length, take, drop, replicate, length-append, refl, sym, ap, ap₂, subst, ◌∙◌, arith, append_assoc, get_or, inl, inr, min}
 use Rattle.std.specs.Array.{IsFirstChunk}
 use Rattle.std.specs.Int.{from_le_bytes, to_le_bytes, w64}
@@ -13,7 +13,7 @@ use Rattle.dl_event.specs.declared.line.Line.TheVariants.{Holds}
 use Rattle.dl_event.specs.Script.{lines_of}
 use Rattle.dl_event.specs.Reading.{IsBehind, IsLine}
 
--- so many lines like this one
+-- that many lines like this one
 abbrev pub copies : ℕ → (line : List ℕ) → List ℕ
 copies zero line = []
 copies (suc n) line = line ++ copies n line
@@ -22,7 +22,7 @@ pub length_copies : (n : ℕ) (line : List ℕ) → length (copies n line) ≡ n
 length_copies zero line = omega arith
 length_copies (suc n) line = (let a = length-append line (copies n line) in let b = length_copies n line in grind arith)
 
--- there are as many bytes as lines at least
+-- there are at least as many bytes as lines
 pub copies_long : (n : ℕ) (line : List ℕ) → 1 ≤ length line → n ≤ length (copies n line)
 copies_long zero line some = omega arith
 copies_long (suc n) line some = omega (arith, copies_long n line some, length-append line (copies n line))
@@ -37,12 +37,12 @@ copies_hold (suc n) line behind e is =
 
 -- ---- a text with such lines at its front
 
--- so many lines like this one, and then the rest
+-- that many lines like this one, and then the rest
 pub record HasAlike (text line rest : List ℕ) (times : ℕ) : Type 0 where
   pub some : 1 ≤ length line
   pub split : text ≡ copies times line ++ rest
 
--- a text that agrees for so many bytes with what is behind its first line has as many more such lines as these bytes make
+-- a text that agrees for that many bytes with what comes after its first line has as many further such lines as these bytes make
 pub alike_behind_line : (k n : ℕ) (text line behind : List ℕ) → text ≡ line ++ behind → k * length line ≤ n → take n text ≡ take n behind → n ≤ length behind → behind ≡ copies k line ++ drop (k * length line) behind
 alike_behind_line zero n text line behind split few same long = ap (λ (j : ℕ). drop j behind) (let e : 0 ≡ 0 * length line = grind arith in e)
 alike_behind_line (suc k) n text line behind split few same long =
@@ -50,7 +50,7 @@ alike_behind_line (suc k) n text line behind split few same long =
     let m : ℕ = n - size in
     let all : n ≡ size + m = omega arith in
     let agree : take (size + m) text ≡ take (size + m) behind = subst (λ (j : ℕ). take j text ≡ take j behind) all same in
-    -- what is behind begins with the line too
+    -- what comes after it begins with the line too
     let first : take size behind ≡ line =
     sym (take-take size (size + m) behind (omega arith))
     ∙ ap (take size) (sym agree)
@@ -89,7 +89,7 @@ alike_first text size n k some within few same long =
 pub alike_shorter : (text line rest : List ℕ) (times : ℕ) → HasAlike text line rest times → times + length rest ≤ length text
 alike_shorter text line rest times h = omega (arith, ap length h.split, length-append (copies times line) rest, copies_long times line h.some)
 
--- the rest is behind the text
+-- the rest is a rest of the text
 pub alike_behind : (text line rest : List ℕ) (times : ℕ) → HasAlike text line rest times → IsBehind text rest
 alike_behind text line rest times h =
     let l = ap length h.split ∙ length-append (copies times line) rest in

@@ -1,4 +1,4 @@
--- A script is the events of its lines, where none is refused, and else refused by the first line that is; and how a reader
+-- A script is the events of its lines, if none is refused, and else refused by the first line that is; and how a reader
 -- comes to them, line after line.
 use Rattle.std.proofs.Common.{replicate, length-append, append-nil, append_assoc, ◌≡◌, ℕ, ◌+◌, ◌-◌, ◌^◌, ◌<◌, ◌≤◌, Bool, true, false, cond, List, [], ◌∷◌, ◌++◌, length, take, drop, get_or, map, length-drop, length-take, subst, add-one, ◌≢◌, Some, None, Ok, Err, refl, sym, ap, ap₂, ◌∙◌, inl, inr, arith, suc, zero, below_more, eqb}
 use Rattle.std.specs.List.{All, AllWithin, HoldsAt, position_from, range_with_len, slice_get, slice_split}
@@ -63,13 +63,13 @@ here-and-behind lines n line more e =
     let behind : drop (suc n) lines ≡ more = cc in
     (l, slice_get_read lines (length lines) n line refl l same, rw add-one behind)
 
--- ---- texts behind one another
+-- ---- the rest of a text
 
--- a text is behind itself
+-- a text is a rest of itself
 pub behind_itself : (text : List ℕ) → IsBehind text text
 behind_itself text = record { short = omega arith; same = ap (λ (n : ℕ). drop n text) (let n : 0 ≡ length text - length text = omega arith in n) }
 
--- what is behind what is behind is behind
+-- a rest of a rest is a rest
 pub behind_more : (text left rest : List ℕ) → IsBehind text left → IsBehind left rest → IsBehind text rest
 behind_more text left rest a b =
     let la = a.short in
@@ -80,7 +80,7 @@ behind_more text left rest a b =
       same = b.same ∙ ap (drop (length left - length rest)) a.same ∙ drop-drop (length left - length rest) (length text - length left) text ∙ ap (λ (n : ℕ). drop n text) count;
     }
 
--- the text from a place on is behind it
+-- the text from a place on is a rest of it
 pub behind_from : (text : List ℕ) (n : ℕ) → n ≤ length text → IsBehind text (drop n text)
 behind_from text n l =
     let d = length-drop n text in
@@ -93,7 +93,7 @@ behind_part text n l = rw (take_all (length text - n) (drop n text) (omega (arit
 
 -- ---- lines that are read
 
--- the first line of the text that is left is the next line of the script, and the lines behind it are left
+-- the first line of the text that is left is the next line of the script, and the lines after it are left
 pub next_left : (script text : List ℕ) (r : SoFar) (line : Line) (rest : List ℕ) → IsReadTo script text r → lines_of text ≡ line ∷ lines_of rest → (slice_get (lines_of script) r.lines ≡ Some line) × (lines_of rest ≡ drop (r.lines + 1) (lines_of script))
 next_left script text r line rest to is =
     let at = here-and-behind (lines_of script) r.lines line (lines_of rest) (sym to.left ∙ is) in
@@ -132,16 +132,16 @@ one_refused lines i events line read at wrong =
     let first = first-from (is_refused lines) 0 (length lines) i (omega arith) (omega (arith, slice_get_within lines i line at)) (refused-at lines i events line read at ∙ wrong) read.taken in
     ap (outcome lines) (position_from-zero (is_refused lines) (range_with_len 0 (length lines)) ∙ first)
 
--- where the last line is read and none was refused, the script is the events that were read
+-- if the last line is read and none was refused, the script is the events that were read
 pub all_read : (lines : List Line) (i : ℕ) (events : List Event) → IsRead lines i events → i ≡ length lines → outcome lines (first_refused lines) ≡ Ok events
 all_read lines i events read end =
     let none = none-from (is_refused lines) 0 (length lines) (λ k l. read.taken k (omega arith)) in
     ap (outcome lines) (position_from-zero (is_refused lines) (range_with_len 0 (length lines)) ∙ none)
     ∙ ap (λ x. Ok (events_of x)) (sym (take_all i lines (omega arith))) ∙ ap Ok (sym read.held)
 
--- ---- lines in a row that hold one event
+-- ---- lines in a row that hold the same event
 
--- so many lines in a row that hold one event add it so many times
+-- that many lines in a row that hold the same event add it that many times
 pub some_read : (lines : List Line) (i n : ℕ) (events : List Event) (e : Event) (more : List Line) → IsRead lines i events → drop i lines ≡ replicate n (Holds e) ++ more → length events + n ≤ 2 ^ 24 → IsRead lines (i + n) (events ++ replicate n e)
 some_read lines i zero events e more read at few =
     let same : i ≡ i + 0 = omega arith in
@@ -154,7 +154,7 @@ some_read lines i (suc n) events e more read at few =
     let same : i + 1 + n ≡ i + suc n = omega arith in
     subst (λ (k : ℕ). IsRead lines k (events ++ e ∷ replicate n e)) same (subst (IsRead lines (i + 1 + n)) (append_assoc events (e ∷ []) (replicate n e)) rest)
 
--- behind them the other lines are left
+-- after them the other lines are left
 pub some_left : (script text : List ℕ) (r : SoFar) (n : ℕ) (e : Event) (rest : List ℕ) → IsReadTo script text r → lines_of text ≡ replicate n (Holds e) ++ lines_of rest → length r.events + n ≤ 2 ^ 24 → IsReadTo script rest (record { lines = r.lines + n; events = r.events ++ replicate n e })
 some_left script text r n e rest to is few =
     let held : List Line = replicate n (Holds e) in

@@ -1,4 +1,4 @@
--- One event more behind events that are held with how often each comes in a row.
+-- One more event after events that are held together with how often each comes in a row.
 use Rattle.std.proofs.Common.{◌≡◌, ℕ, ◌+◌, ◌-◌, List, [], ◌∷◌, ◌++◌, length, set, get_or, sym, ap, ◌∙◌, arith, append_assoc, append-nil}
 use Rattle.std.specs.Prelude.{flat_map, replicate}
 use Rattle.std.proofs.Math.ListN.{length-append}
@@ -12,7 +12,7 @@ use Rattle.dl_event.specs.Repeated.{expanded, EndsWith}
 all_of : Repeated → List Event
 all_of r = replicate r.times r.event
 
--- a last one comes behind the others, as often as it comes
+-- a last one comes after the others, as often as it comes
 pub expanded-push : (rs : List Repeated) (r : Repeated) → expanded (rs ++ r ∷ []) ≡ expanded rs ++ replicate r.times r.event
 unfolding all_of
 expanded-push rs r =
@@ -21,7 +21,7 @@ expanded-push rs r =
 more_often : ℕ → Repeated → Repeated
 more_often n r = record { event = r.event; times = r.times + n }
 
--- the last one comes so many times more
+-- the last one comes that many times more
 pub expanded-again : (event : Event) (rs : List Repeated) (count n : ℕ) (r : Repeated) → EndsWith event rs → count ≡ length rs → r ≡ get_or rs (count - 1) r → expanded (set rs (count - 1) (record { event = r.event; times = r.times + n })) ≡ expanded rs ++ replicate n event
 unfolding more_often
 expanded-again event rs count n r ends all at =

@@ -1,4 +1,4 @@
--- The words of a line are the one at its front, behind spaces, and those behind that.
+-- The words of a line are the first one, after any spaces, and those after that.
 use Rattle.std.proofs.Common.{◌≡◌, ℕ, ◌<◌, ◌≤◌, ◌≢◌, not, eqb, List, [], ◌∷◌, ◌++◌, length, take, drop, get_or, refl, sym, ap, ◌∙◌, ◌⊎◌, inl, inr, arith, suc, zero, subst, ap₂, length-take, false, Option, Some, None, MatchOption, unwrap_or}
 use Rattle.std.specs.List.{All, AllWithin, HoldsAt, filter, slice_split}
 use Rattle.std.specs.Str.{bytes_eq}
@@ -22,7 +22,7 @@ words-spaces zero line l h = refl
 words-spaces (suc n) [] l h = absurd (omega arith)
 words-spaces (suc n) (x ∷ xs) l h = ap (λ b. words_of (b ∷ xs)) (h 0 0 (omega arith)) ∙ words-spaces n xs (omega arith) (λ k d m. h (suc k) d (omega arith))
 
--- a line of spaces alone has no word
+-- a line of nothing but spaces has no word
 pub words-blank : (line : List ℕ) → IsSpaces (length line) line → words_of line ≡ []
 words-blank line h = words-spaces (length line) line (omega arith) h ∙ ap words_of (drop_all (length line) line (omega arith))
 

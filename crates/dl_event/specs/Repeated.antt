@@ -1,4 +1,4 @@
--- Events that are held with how often each comes in a row.
+-- Events that are held together with how often each comes in a row.
 use Rattle.std.specs.Prelude.{ℕ, ◌≡◌, ◌∷◌, ◌++◌, [], List, flat_map, replicate}
 use Rattle.spec_protocol.specs.declared.event.Event.{Event}
 use Rattle.dl_event.specs.declared.events.Repeated.{Repeated}

@@ -8,7 +8,7 @@ use Rattle.dl_event.specs.declared.line.Line.{Line}
 use Rattle.dl_event.specs.declared.line.Line.TheVariants.{Holds, Wrong}
 use Rattle.dl_event.specs.Line.{line_of}
 
--- lines end with LF; after the last LF stands one more, which may be empty
+-- lines end with LF; after the last LF there is one more, which may be empty
 abbrev pub lines_of : List ℕ → List Line
 lines_of bytes = map line_of (slice_split (λ byte. nat_eq byte 10) bytes)
 
@@ -19,7 +19,7 @@ event_in _ = None
 abbrev pub events_of : List Line → List Event
 events_of lines = filter_map event_in lines
 
--- a line is refused where it is wrong, or holds an event after 2^24 others
+-- a line is refused if it is wrong, or holds an event after 2^24 others
 abbrev pub is_refused_after : List Event → Option Line → Bool
 is_refused_after before (Some Wrong) = true
 is_refused_after before (Some (Holds event)) = nat_le (2 ^ 24) (length before)
@@ -31,16 +31,16 @@ is_refused lines index = is_refused_after (events_of (take index lines)) (slice_
 abbrev pub first_refused : List Line → Option ℕ
 first_refused lines = position (is_refused lines) (range_with_len 0 (length lines))
 
--- indices are counted from 0, and the numbers of lines from 1
+-- indices count from 0, and the numbers of lines from 1
 abbrev pub outcome : List Line → Option ℕ → Result (List Event) ℕ
 outcome lines None = Ok (events_of lines)
 outcome lines (Some index) = Err (index + 1)
 
--- the events, where no line is refused, and else the number of the first that is
+-- the events, if no line is refused, and else the number of the first that is
 abbrev pub script_of : List ℕ → Result (List Event) ℕ
 script_of bytes = outcome (lines_of bytes) (first_refused (lines_of bytes))
 
--- the error that refuses the script, if not for want of memory
+-- the error that refuses the script, unless memory ran out
 abbrev pub Refuses : Result (List Event) ℕ → ScriptError → Type 0
 Refuses meant (Refused line) = meant ≡ Err line
 Refuses meant OutOfMemory = Unit {0}

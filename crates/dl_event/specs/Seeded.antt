@@ -4,7 +4,7 @@ use Rattle.rand_pcg.specs.Lcg.{Lcg, started, increment_of}
 use Rattle.rand_pcg.specs.Pcg.{multiplier_64, pcg32}
 use Rattle.spec_protocol.specs.declared.event.Event.{Event}
 
--- a word has its actors, and a value, in places of their own
+-- the actors and the value of a word, each in bits of its own
 abbrev pub core_in : ℕ → ℕ
 core_in w = w / 64 % 8
 
@@ -20,8 +20,8 @@ slot_in w = w / 65536 % 8
 abbrev pub value_in : ℕ → ℕ
 value_in w = w / 524288
 
--- the event of a word: of 64 words in a row, 40 are steps, 6 ask, 6 drain, 5 deliver and 3 retire, and one each places,
--- cuts, raises and is a DMA
+-- the event of a word, by its lowest six bits: of their 64 values 40 are steps, 6 asks, 6 drains, 5 delivers and 3 retires,
+-- and one each is a place, a cut, a raise and a DMA
 abbrev pub drawn : ℕ → Event
 drawn w =
     let kind = w % 64 in
@@ -35,7 +35,7 @@ drawn w =
     else if nat_eq kind 62 then Event.Raise (sphere_in w) (thread_in w) (value_in w)
     else Event.Dma (sphere_in w)
 
--- where the random words of a seed's schedule stand at first
+-- the state of the random words at the start of a seed's schedule
 abbrev pub seeded : (seed : ℕ) → Lcg
 seeded seed = started 64 multiplier_64 seed (increment_of 64 1)
 

@@ -1,11 +1,11 @@
-//! Why a text is no script.
+//! Why a text isn't a script.
 use std::alloc::AllocError;
 use thiserror::Error;
 
 /// Why there are no events.
 #[derive(Clone, Copy, Debug, PartialEq, Eq, Error)]
 pub enum ScriptError {
-    /// The line of that number, counted from 1, is no line of a script, or holds the event after the 2^24th.
+    /// The line of that number, counted from 1, isn't a line of a script, or holds the event after the 2^24th.
     #[error("line {0} is refused")]
     Refused(u64),
     /// Memory ran out.

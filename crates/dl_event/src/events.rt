@@ -57,7 +57,7 @@ impl Events {
         &self.repeated
     }
 
-    /// Puts an event behind the others, so many times in a row.
+    /// Puts an event after the others, that many times in a row.
     pub fn push(&mut self, event: Event, times: u32) -> Result<(), AllocError>
         requires { length self.old + times < 2 ^ 32 }
         ensures ok { OnOk result (self.new ≡ self.old ++ replicate times event) }

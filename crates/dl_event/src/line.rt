@@ -28,7 +28,7 @@ pub(crate) fn read_line(line: &[u8]) -> Line
     }
 }
 
-// The event of a word and the numbers behind it.
+// The event of a word and the numbers after it.
 fn read_event(word: &[u8], rest: &[u8]) -> Option<Event>
     ensures { said (word.now ∷ words_of rest.now) ≡ held result }
 {
@@ -39,7 +39,7 @@ fn read_event(word: &[u8], rest: &[u8]) -> Option<Event>
     }
 }
 
-// The same where there are two numbers at least.
+// The same if there are at least two numbers.
 fn read_longer(word: &[u8], first: &[u8], second: &[u8], rest: &[u8]) -> Option<Event>
     ensures { said (word.now ∷ first.now ∷ second.now ∷ words_of rest.now) ≡ held result }
 {
@@ -89,7 +89,7 @@ fn event_of_three(word: &[u8], first: u8, second: u8, third: &[u8]) -> Option<Ev
     }
 }
 
-// The first word, and what stands after it.
+// The first word, and what comes after it.
 fn first_word(line: &[u8]) -> Option<(&[u8], &[u8])>
     ensures { MatchOption result (words_of line.now ≡ [])
         (λ found. words_of line.now ≡ found.0.now ∷ words_of found.1.now) }
@@ -98,7 +98,7 @@ fn first_word(line: &[u8]) -> Option<(&[u8], &[u8])>
     Some(split_word(&line[start..]))
 }
 
-// Splits a line that begins with a word behind that word.
+// Splits a line that begins with a word, after that word.
 fn split_word(line: &[u8]) -> (&[u8], &[u8])
     requires begins { 0 < length line.now }
     requires word { slice_index line.now 0 ≢ 32 }

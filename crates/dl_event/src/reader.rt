@@ -33,7 +33,7 @@ impl Model for ScriptReader {
 }
 
 impl ScriptReader {
-    /// A reader of a script of which nothing was read.
+    /// A reader of a script of which nothing has been read.
     pub fn new(alloc: Global) -> ScriptReader
         ensures read { (script : List ℕ) → IsReadTo script script result }
         ensures lines { result.lines ≡ 0 }
@@ -44,8 +44,8 @@ impl ScriptReader {
         }
     }
 
-    /// Reads the lines of a text that end with LF, and gives the reader and the text behind them, which has no LF: the
-    /// beginning of a line, or the script's last one. Refused is the first line, from 1, that `parse_script` refuses.
+    /// Reads the lines of a text that end with LF, and gives the reader and the text after them, which has no LF: the
+    /// beginning of a line, or the script's last one. The line refused, from 1, is the one that `parse_script` refuses.
     pub fn read_lines(mut self, text: &[u8]) -> Result<(ScriptReader, &[u8]), ScriptError>
         requires { self.lines + length text.now < 2 ^ 64 }
         ensures read { IfOk result (λ r. (script tail : List ℕ)

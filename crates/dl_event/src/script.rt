@@ -13,13 +13,13 @@ use crate::reader::ScriptReader;
 use spec_protocol::Event;
 use std::alloc::Global;
 
-// The bytes of `step` as one number, the first one the least.
+// The bytes of `step` as one number, little-endian.
 const STEP: u32 = 0x7065_7473;
 
-/// The events of a script, whose lines end with LF, but the last need not. A line is empty or spaces alone, or begins
+/// The events of a script, whose lines end with LF; the last need not. A line is empty or spaces alone, or begins
 /// with `#`, or is one of `step C`, `cut C`, `ask C`, `drain K`, `deliver C K`, `retire K`, `place C S T`, `raise S T V`
 /// and `dma S`, with spaces between and around: numbers of 1 to 10 decimal digits, V at most 2^32 - 1 and the others at
-/// most 255. Refused is the first line, from 1, that is none of these or holds the event after the 2^24th.
+/// most 255. The first line that is none of these, or holds the event after the 2^24th, is refused, by its number from 1.
 pub fn parse_script(alloc: Global, bytes: &[u8]) -> Result<Events, ScriptError>
     ensures read { IfOk result (λ events. script_of bytes.now ≡ Ok events) }
     ensures refused { IfErr result (Refuses (script_of bytes.now)) }
@@ -29,7 +29,7 @@ pub fn parse_script(alloc: Global, bytes: &[u8]) -> Result<Events, ScriptError>
     reader.read_last(last)
 }
 
-// What a first line that ends with LF says, and the text behind the LF.
+// What a first line that ends with LF says, and the text after the LF.
 pub(crate) fn next_line(text: &[u8]) -> Option<(Line, &[u8])>
     ensures lines { MatchOption result (AllWithin (λ byte. byte ≢ 10) text.now 0 (length text.now))
         (λ read. (tail : List ℕ) → lines_of (text.now ++ tail) ≡ read.0 ∷ lines_of (read.1.now ++ tail)) }
@@ -40,8 +40,8 @@ pub(crate) fn next_line(text: &[u8]) -> Option<(Line, &[u8])>
     Some((read_line(&text[..end]), &text[end + 1..]))
 }
 
-// The event of a first line in its shortest form, how many lines in a row are like it, at most so many, and the text
-// behind them.
+// The event of a first line in its shortest form, how many lines in a row are like it, up to `most`, and the text
+// after them.
 pub(crate) fn short_lines(text: &[u8], most: u32) -> Option<(Event, u32, &[u8])>
     ensures lines { IfSome result (λ read. (tail : List ℕ)
         → lines_of (text.now ++ tail) ≡ replicate read.1 (Holds read.0) ++ lines_of (read.2.now ++ tail)) }
@@ -59,7 +59,7 @@ pub(crate) fn short_lines(text: &[u8], most: u32) -> Option<(Event, u32, &[u8])>
     Some((event, 1 + more as u32, &behind[more * size..]))
 }
 
-// At least how many bytes two texts have in common at their front. They are compared in eights.
+// A lower bound of how many bytes two texts have in common at their front: they are compared eight at a time.
 fn common(a: &[u8], b: &[u8]) -> usize
     ensures same { take result a.now ≡ take result b.now }
     ensures within { result ≤ length a.now }
@@ -74,7 +74,7 @@ fn common(a: &[u8], b: &[u8]) -> usize
     n
 }
 
-// The eight bytes of a text from a place on, as one number, where there are as many.
+// The eight bytes of a text from a place on, as one number, if there are that many.
 fn eight_at(text: &[u8], at: usize) -> Option<u64>
     requires { at ≤ length text.now }
     ensures { IfSome result (λ n. (at + 8 ≤ length text.now) × (take 8 (drop at text.now) ≡ to_le_bytes w64 n)) }

@@ -8,7 +8,7 @@ use rand_pcg::Lcg64Xsh32;
 use spec_protocol::Event;
 use std::marker::Model;
 
-/// A seed's schedule, which has no end: seen as the state from which its random words come.
+/// A seed's schedule, which has no end, seen as the state that its random words come from.
 #[derive(Debug, Drop)]
 pub struct Seeded {
     words: Lcg64Xsh32,

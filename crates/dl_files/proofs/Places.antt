@@ -17,17 +17,17 @@ use Rattle.dl_files.specs.Entries.{Entry, contents_of, place_of, name_at, bytes_
 abbrev same : List ℕ → List ℕ → Bool
 same = eq_by_cmp (slice_cmp nat_cmp)
 
--- the bytes of a name, where an entry has it
+-- the bytes of a name, if an entry has it
 abbrev found : List ℕ → List Entry → Option (List ℕ)
 found = find (slice_cmp nat_cmp)
 
--- the first entry of this name stands at i
+-- the first entry of this name is at i
 abbrev pub FirstAt : List Entry → List ℕ → ℕ → Type 0
 FirstAt [] name i = ⊥
 FirstAt (e ∷ es) name zero = e.0 ≡ name
 FirstAt (e ∷ es) name (suc i) = (e.0 ≢ name) × FirstAt es name i
 
--- the test is true of equal names alone
+-- the test is true only of equal names
 same-true : (x y : List ℕ) → same x y ≡ true → x ≡ y
 same-true x y e = (bytes_eq-Decides x y).0 (sym (is_eq-slice_cmp x y) ∙ e)
 
@@ -45,7 +45,7 @@ differ x y e same = let t : bytes_eq x y ≡ true = (bytes_eq-Decides x y).1 sam
 abbrev is_name : List ℕ → Entry → Bool
 is_name name e = bytes_eq e.0 name
 
--- how many entries stand before the first of the name
+-- how many entries are before the first with the name
 abbrev first : List ℕ → List Entry → ℕ
 first name es = position_or_len (is_name name) es
 
@@ -55,7 +55,7 @@ first-here name e es t = rw t refl
 first-later : (name : List ℕ) (e : Entry) (es : List Entry) → bytes_eq e.0 name ≡ false → first name (e ∷ es) ≡ suc (first name es)
 first-later name e es t = rw t (omega arith)
 
--- what stands first in a list is there
+-- what comes first in a list is there
 pub FirstAt-first : (name : List ℕ) (es : List Entry) → first name es < length es → FirstAt es name (first name es)
 FirstAt-first name [] h = absurd (omega arith)
 FirstAt-first name (e ∷ es) h =
@@ -65,7 +65,7 @@ FirstAt-first name (e ∷ es) h =
           subst (FirstAt (e ∷ es) name) (sym p) (differ e.0 name t, FirstAt-first name es (omega arith))
     ] refl
 
--- where no entry has the name, none is found
+-- if no entry has the name, none is found
 pub found-past : (name : List ℕ) (es : List Entry) → length es ≤ first name es → found name es ≡ None
 found-past name [] h = refl
 found-past name (e ∷ es) h =
@@ -125,7 +125,7 @@ some_first name es i false h e = cc
 pub FirstAt-place : (name : List ℕ) (es : List Entry) (i : ℕ) → place_of name es ≡ Some i → FirstAt es name i
 FirstAt-place name es i e = some_first name es i (nat_lt (first name es) (length es)) (λ t. ltb-true _ _ t) e
 
--- where no place was found, nothing is found
+-- if no place was found, nothing is found
 none_past : (name : List ℕ) (es : List Entry) (b : Bool) → (b ≡ false → length es ≤ first name es)
     → cond b (Some (first name es)) None ≡ None → found name es ≡ None
 none_past name es true h e = cc
@@ -192,7 +192,7 @@ none_there : (name : List ℕ) (es : List Entry) (b : Bool) → (b ≡ false →
 none_there name es true h e = cc
 none_there name es false h e = h refl
 
--- a name that is pushed where it was not stands at the end
+-- a name that wasn't there and is pushed is at the end
 pub place_of-push : (name : List ℕ) (entry : Entry) (es : List Entry) → entry.0 ≡ name → place_of name es ≡ None
     → place_of name (es ++ entry ∷ []) ≡ Some (length es)
 place_of-push name entry es e none =
@@ -225,7 +225,7 @@ contents_of-IsWrite name bytes old new i entry w =
     let first = FirstAt-place name new i w.place in
     write-contents name bytes entry.0 old new i first w.added (name-read name new i entry first w.read)
 
--- after the write each place that had a name has it still
+-- after the write each place that had a name still has it
 pub NamesStay-IsWrite : (name bytes : List ℕ) (old new : List Entry) (i : ℕ) (entry : Entry) → IsWrite name old new i entry
     → NamesStay old (set new i (entry.0, bytes))
 NamesStay-IsWrite name bytes old new i entry w j h =
@@ -262,12 +262,12 @@ pub named-place : (name : List ℕ) (es : List Entry) (r : Option ℕ) → r ≡
 named-place name es (Some i) e = name_at-first name es i (FirstAt-place name es i (sym e))
 named-place name es None e = tt
 
--- at a place that was looked up stand the bytes that the files hold under the name
+-- at a place that was looked up are the bytes that the files hold under the name
 pub found-place : (name : List ℕ) (es : List Entry) (r : Option ℕ) → r ≡ place_of name es → IfSome r (λ i. get (contents_of es) name ≡ bytes_at es i)
 found-place name es (Some i) e = get-contents_of name es ∙ found-first name es i (FirstAt-place name es i (sym e))
 found-place name es None e = tt
 
--- where no place was found the files don't have the name
+-- if no place was found, the files don't have the name
 pub absent-place : (name : List ℕ) (es : List Entry) (r : Option ℕ) → r ≡ place_of name es → IfNone r (get (contents_of es) name ≡ None)
 absent-place name es (Some i) e = tt
 absent-place name es None e = get-contents_of name es ∙ found-absent name es (sym e)

@@ -15,15 +15,15 @@ numbered_code =
     code_by (List ℕ × (ℕ × ℕ)) (coded× (coded_list coded_ℕ) (coded× coded_ℕ coded_ℕ))
     (λ c. (c.failing, (c.made, c.faults))) (λ p. record { failing = p.0; made = p.1.0; faults = p.1.1 }) (λ _. refl)
 
--- no call was made yet
+-- no call has been made yet
 abbrev pub unmade : List ℕ → Numbered
 unmade failing = record { failing = failing; made = 0; faults = 0 }
 
--- the call to come fails
+-- the next call fails
 abbrev pub FailsNext : Numbered → Type 0
 FailsNext calls = Contains calls.failing calls.made
 
--- after a call that went well
+-- after a call that succeeded
 abbrev pub passed : Numbered → Numbered
 passed calls = record calls { made = next calls.made }
 

@@ -1,4 +1,4 @@
--- What files hold, where it is known: a finite map from names to bytes.
+-- What files hold, if it is known: a finite map from names to bytes.
 use Rattle.std.specs.Prelude.{◌≡◌, ◌≢◌, ℕ, ◌≤◌, List, [], ◌++◌, take, drop, Option, None, Some, IsSome, IfSome, option_map, unwrap_or}
 use Rattle.std.specs.Ordering.{nat_cmp}
 use Rattle.std.specs.Cmp.Lexicographic.{slice_cmp}
@@ -14,23 +14,23 @@ Contents = FinMap (slice_cmp nat_cmp) (List ℕ)
 abbrev pub contents_code : Coded Contents
 contents_code = code (coded_list coded_ℕ) (coded_list coded_ℕ)
 
--- where known, these are the name's bytes
+-- if known, these are the name's bytes
 abbrev pub Holds : Option Contents → List ℕ → List ℕ → Type 0
 Holds known name bytes = IfSome known (λ m. get m name ≡ Some bytes)
 
--- the name's bytes from an offset on, as many as fit in a piece of that room
+-- the name's bytes from an offset on, as many as fit in a piece of that size
 abbrev pub part_of : Contents → (name : List ℕ) → (offset room : ℕ) → Option (List ℕ)
 part_of m name offset room = option_map (λ bytes. take room (drop offset bytes)) (get m name)
 
--- where known, these are the name's bytes from an offset on, as many as fit in a piece of that room
+-- if known, these are the name's bytes from an offset on, as many as fit in a piece of that size
 abbrev pub HoldsAt : Option Contents → (name : List ℕ) → (offset room : ℕ) → (bytes : List ℕ) → Type 0
 HoldsAt known name offset room bytes = IfSome known (λ m. part_of m name offset room ≡ Some bytes)
 
--- where known, the name is there
+-- if known, the name is there
 abbrev pub IsThere : Option Contents → List ℕ → Type 0
 IsThere known name = IfSome known (λ m. IsSome (get m name))
 
--- where known, these are the first bytes of a name, as many as fit in a piece of that room, or all of them
+-- if known, these are the first bytes of a name, as many as fit in a piece of that size, or all of them
 abbrev pub Begins : Option Contents → (name : List ℕ) → (room : ℕ) → (piece : List ℕ) → Beginning → Type 0
 Begins known name room piece (Beginning.Part n) = (n ≤ room) × HoldsAt known name 0 room (take n piece)
 Begins known name room piece (Beginning.Whole bytes) = Holds known name bytes.items
@@ -39,11 +39,11 @@ Begins known name room piece (Beginning.Whole bytes) = Holds known name bytes.it
 abbrev pub with_file : List ℕ → List ℕ → Option Contents → Option Contents
 with_file name bytes known = option_map (λ m. insert m name bytes) known
 
--- the contents once these bytes follow those of the name, which is made where it isn't there
+-- the contents once these bytes follow those of the name, which is made if it isn't there
 abbrev pub more : List ℕ → List ℕ → Contents → Contents
 more name bytes m = insert m name (unwrap_or (get m name) [] ++ bytes)
 
--- the same, where known
+-- the same, if known
 abbrev pub with_more : List ℕ → List ℕ → Option Contents → Option Contents
 with_more name bytes known = option_map (more name bytes) known
 
@@ -53,6 +53,6 @@ SameBut name None None = Unit {0}
 SameBut name (Some old) (Some new) = (other : List ℕ) → other ≢ name → get new other ≡ get old other
 SameBut name _ _ = ⊥
 
--- where known, the last fault is at this name
+-- if known, the last fault is at this name
 abbrev pub IsLast : Option (List ℕ) → List ℕ → Type 0
 IsLast last name = IfSome last (λ n. n ≡ name)

@@ -5,10 +5,10 @@ use Rattle.std.specs.Prelude.{ℕ, ◌+◌, ◌-◌, ◌^◌, ◌≤◌, min, ma
 abbrev pub greatest : ℕ
 greatest = 2 ^ 64 - 1
 
--- the count after one more; the greatest stays
+-- the count after one more; the greatest count stays
 abbrev pub next : ℕ → ℕ
 next n = max n (min (n + 1) greatest)
 
--- the count rose; the greatest counts as risen in every call
+-- the count rose; at its greatest it counts as risen in every call
 abbrev pub Rose : ℕ → ℕ → Type 0
 Rose old new = min (old + 1) greatest ≤ new

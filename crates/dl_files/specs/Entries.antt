@@ -1,4 +1,4 @@
--- Files as a list: each name in the order in which it came, with its bytes.
+-- Files as a list: the names in the order in which they came, each with its bytes.
 use Rattle.std.specs.Prelude.{◌≡◌, ℕ, ◌<◌, List, [], ◌∷◌, ◌++◌, length, Option, option_map, slice_get, position, is_some, if◌then◌else◌}
 use Rattle.std.specs.Str.{bytes_eq}
 use Rattle.std.specs.FinMap.{from_entries}
@@ -24,7 +24,7 @@ name_at entries i = option_map (λ (e : Entry). e.0) (slice_get entries i)
 abbrev pub bytes_at : List Entry → ℕ → Option (List ℕ)
 bytes_at entries i = option_map (λ (e : Entry). e.1) (slice_get entries i)
 
--- the list with the name in it: a new name stands at the end and has no bytes
+-- the list with the name in it: a new name comes last and has no bytes
 abbrev pub with_name : List ℕ → List Entry → List Entry
 with_name name entries = if is_some (place_of name entries) then entries else entries ++ (name, []) ∷ []
 

@@ -5,8 +5,8 @@ use Rattle.dl_files.specs.Contents.{Contents, IsLast, IsThere, SameBut}
 use Rattle.dl_files.specs.Count.{Rose, next}
 use Rattle.dl_files.specs.declared.error.FileError.{FileError}
 
--- what the files hold, where they tell it; how many calls failed, and the name of the last that did, where it is told; and
--- where they don't tell what they hold, how many reads failed, and how many calls may have changed a file
+-- what the files hold, if they tell it; how many calls failed, and the name of the last that did, if it is told; and if
+-- they don't tell what they hold, how many reads failed, and how many calls may have changed a file
 pub record Seen : Type 0 where
   pub known : Option Contents
   pub faults : ℕ
@@ -14,11 +14,11 @@ pub record Seen : Type 0 where
   pub unread : ℕ
   pub changes : ℕ
 
--- files that tell what they hold, and have so many faults
+-- files that tell what they hold, and have had that many faults
 abbrev pub telling : Contents → (faults : ℕ) → (last : Option (List ℕ)) → Seen
 telling m faults last = record { known = Some m; faults = faults; last = last; unread = 0; changes = 0 }
 
--- how many calls failed of files that tell nothing, how many of these were reads, and how many may have changed a file
+-- of files that tell nothing, how many calls failed, how many of those were reads, and how many calls may have changed a file
 pub record Counts : Type 0 where
   pub faults : ℕ
   pub unread : ℕ
@@ -30,7 +30,7 @@ untold c = record { known = None; faults = c.faults; last = None; unread = c.unr
 abbrev pub uncounted : Counts
 uncounted = record { faults = 0; unread = 0; changes = 0 }
 
--- the counts after a read that failed, a call that changed a file, and one that was to
+-- the counts after a read that failed, a call that changed a file, and a call that was to change one but failed
 abbrev pub with_unread : Counts → Counts
 with_unread c = record { faults = next c.faults; unread = next c.unread; changes = c.changes }
 
@@ -54,12 +54,12 @@ pub record IsUnread (name : List ℕ) (old new : Seen) : Type 0 where
   pub kept : IsKept old new
   pub unread : IfNone old.known (Rose old.unread new.unread)
 
--- that name is absent: it is known to be missing, or else its read failed
+-- that name is absent: it is known to be missing, or if nothing is known, its read failed
 pub record IsAbsent (name : List ℕ) (old new : Seen) : Type 0 where
   pub known : IfSome old.known (λ m. (get m name ≡ None) × (new ≡ old))
   pub unknown : IfNone old.known (IsUnread name old new)
 
--- a read of that name stopped so
+-- a read of that name stopped for this reason
 abbrev pub ReadStops : (name : List ℕ) → (old new : Seen) → FileError → Type 0
 ReadStops name old new FileError.Failed = IsThere old.known name × IsUnread name old new
 ReadStops name old new FileError.Absent = IsAbsent name old new
@@ -71,7 +71,7 @@ ReadStops name old new FileError.OutOfMemory = IsThere old.known name × (new �
 abbrev pub IsChange : (old new : Seen) → Type 0
 IsChange old new = IfNone old.known (Rose old.changes new.changes)
 
--- a call has changed the files to these, where they are known
+-- a call has changed the files to these, if they are known
 pub record IsWritten (now : Option Contents) (old new : Seen) : Type 0 where
   pub known : new.known ≡ now
   pub faults : new.faults ≡ old.faults
@@ -87,7 +87,7 @@ pub record IsUnwritten (name : List ℕ) (old new : Seen) : Type 0 where
   pub unread : new.unread ≡ old.unread
   pub changed : IsChange old new
 
--- a write to that name stopped so
+-- a write to that name stopped for this reason
 abbrev pub WriteStops : (name : List ℕ) → (old new : Seen) → FileError → Type 0
 WriteStops name old new FileError.Failed = IsUnwritten name old new
 WriteStops name old new FileError.Absent = ⊥

@@ -1,4 +1,4 @@
--- What a sink took, where it is known: a list of bytes.
+-- What a sink took, if it is known: a list of bytes.
 use Rattle.std.specs.Prelude.{ℕ, List, ◌++◌, take, Option, option_map}
 
 -- what was taken once the first n bytes of a piece are taken too

@@ -5,7 +5,7 @@ ghost use Rattle.dl_files.specs.Calls.{unmade, FailsNext, passed, faulted};
 use std::alloc::{AllocError, Global};
 use std::marker::Model;
 
-// A number and a count stay once they are `u64::MAX`.
+// The number and the count stay as they are once they are `u64::MAX`.
 #[derive(Drop)]
 pub(crate) struct Calls {
     failing: Vec<u64>,

@@ -11,7 +11,7 @@ pub enum FileError {
     /// There is no file of that name.
     #[error("there is no such file")]
     Absent,
-    /// There was no memory, and the files are as before.
+    /// Memory ran out, and the files are as before.
     #[error("out of memory")]
     OutOfMemory,
 }
@@ -22,7 +22,7 @@ pub enum SinkError {
     /// Nothing was taken, and the count of faults rose.
     #[error("the output could not be written")]
     Failed,
-    /// There was no memory, and nothing was taken.
+    /// Memory ran out, and nothing was taken.
     #[error("out of memory")]
     OutOfMemory,
 }

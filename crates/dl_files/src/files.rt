@@ -15,7 +15,7 @@ pub trait Files {
     fn faults(&self) -> u64
         ensures { result ≡ (seen self.now).faults };
 
-    /// The bytes of the file `name`, in memory of `alloc`.
+    /// The bytes of the file `name`, in memory from `alloc`.
     fn read(&mut self, alloc: Global, name: &str) -> Result<Vec<u8>, FileError>
         ensures bytes { IfOk result (λ bytes. Holds (seen self.old).known name.now bytes.items) }
         ensures ok { OnOk result (seen self.new ≡ seen self.old) }
@@ -32,7 +32,7 @@ pub trait Files {
         ensures no_memory { IfErr result (λ e. e ≢ FileError.OutOfMemory) };
 
     /// Copies the first bytes of the file `name` into a piece, as many as fit. A file of which no other part can be
-    /// read, as a pipe, is read whole, in memory of `alloc`.
+    /// read, for example a pipe, is read whole, in memory from `alloc`.
     fn begin(&mut self, alloc: Global, name: &str, into: &mut [u8]) -> Result<Beginning, FileError>
         ensures begins { IfOk result (Begins (seen self.old).known name.now (length into.old) into.new) }
         ensures ok { OnOk result (seen self.new ≡ seen self.old) }
@@ -43,20 +43,20 @@ pub trait Files {
         Ok(Beginning::Part(n))
     }
 
-    /// Makes `bytes` the bytes of the file `name`. After `Failed` nothing is known of that file alone.
+    /// Makes `bytes` the bytes of the file `name`. After `Failed` nothing is known of that file, and only of that one.
     fn write(&mut self, name: &str, bytes: &[u8]) -> Result<(), FileError>
         ensures written { OnOk result (IsWritten (with_file name.now bytes.now (seen self.old).known)
             (seen self.old) (seen self.new)) }
         ensures err { IfErr result (WriteStops name.now (seen self.old) (seen self.new)) };
 
-    /// Makes the file `name` one of no bytes. After `Failed` nothing is known of that file alone.
+    /// Makes the file `name` an empty one. After `Failed` nothing is known of that file, and only of that one.
     fn create(&mut self, name: &str) -> Result<(), FileError>
         ensures created { OnOk result (IsWritten (with_file name.now [] (seen self.old).known)
             (seen self.old) (seen self.new)) }
         ensures err { IfErr result (WriteStops name.now (seen self.old) (seen self.new)) };
 
-    /// Puts `bytes` after those of the file `name`, which is made where it isn't there. After `Failed`
-    /// nothing is known of that file alone.
+    /// Puts `bytes` after those of the file `name`, which is made if it isn't there. After `Failed`
+    /// nothing is known of that file, and only of that one.
     fn append(&mut self, name: &str, bytes: &[u8]) -> Result<(), FileError>
         ensures appended { OnOk result (IsWritten (with_more name.now bytes.now (seen self.old).known)
             (seen self.old) (seen self.new)) }

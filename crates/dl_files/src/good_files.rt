@@ -12,7 +12,7 @@ use std::alloc::Global;
 use std::marker::Model;
 
 /// Files in memory, seen as their contents. They have no faults: the count is 0 and no call fails.
-/// The only refusals are that a name is absent and that there is no memory.
+/// The only refusals are that a name is absent and that memory ran out.
 #[derive(Drop)]
 pub struct GoodFiles {
     store: Store,
@@ -30,7 +30,7 @@ impl Model for GoodFiles {
 }
 
 impl GoodFiles {
-    /// No files, which are to be kept in memory of `alloc`.
+    /// No files yet; those to come are kept in memory from `alloc`.
     pub fn new(alloc: Global) -> Self
         ensures { result ≡ empty }
     {

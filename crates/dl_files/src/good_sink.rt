@@ -6,7 +6,7 @@ use std::alloc::Global;
 use std::marker::Model;
 
 /// A sink in memory, seen as what it took. It has no faults: the count is 0 and no call fails. It
-/// takes each piece whole, and its only refusal is that there is no memory.
+/// takes each piece whole, and its only refusal is that memory ran out.
 #[derive(Drop)]
 pub struct GoodSink {
     bytes: Vec<u8>,
@@ -21,7 +21,7 @@ impl Model for GoodSink {
 }
 
 impl GoodSink {
-    /// A sink that took nothing yet, and keeps what it takes in memory of `alloc`.
+    /// A sink that has taken nothing yet, and keeps what it takes in memory from `alloc`.
     pub fn new(alloc: Global) -> Self
         ensures { result ≡ [] }
     {

@@ -1,5 +1,5 @@
-//! The outside of the tool: files and a sink as traits, over which everything above is proved, with
-//! ones in memory, ones in memory whose calls fail as a list says, and the real ones.
+//! The outside of the tool: files and a sink as traits, over which everything above is proved; with
+//! some in memory, some in memory whose calls fail as a list says, and the real ones.
 #![tactic(auto)]
 
 mod beginning;

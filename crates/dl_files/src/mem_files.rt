@@ -14,12 +14,12 @@ use std::marker::Model;
 
 /// Files in memory some of whose calls fail. Calls that read, write, create or append are numbered
 /// together, from 0 in the order in which they are made. A read of an absent name takes no number, since
-/// the name is looked up first, and nor does a call that finds no memory.
+/// the name is looked up first; nor does a call for which memory ran out.
 #[derive(Drop)]
 pub struct MemFiles {
     store: Store,
     calls: Calls,
-    // The place in the store of the last fault's name.
+    // The place of the last fault's name in the store.
     last: Option<usize>,
 }
 
@@ -42,8 +42,8 @@ impl Model for MemFiles {
 }
 
 impl MemFiles {
-    /// These files, of which the calls whose numbers `failing` lists are to fail. Where there is no
-    /// memory the files are given up.
+    /// These files, of which the calls with the numbers in `failing` will fail. If memory runs out, the
+    /// files are given up.
     pub fn new(alloc: Global, files: GoodFiles, failing: &[u64]) -> Result<Self, FileError>
         ensures ok { IfOk result (λ mem. mem ≡ record {
           contents = files;
@@ -59,7 +59,7 @@ impl MemFiles {
         })
     }
 
-    // The call that comes fails at the name, which is added without bytes where it is new.
+    // The next call fails at the name, which is added without bytes if it is new.
     fn fault(&mut self, name: &str) -> Result<(), AllocError>
         ensures others { OnOk result
             (SameBut name.now (Some self.old.contents) (Some self.new.contents)) }

@@ -8,7 +8,7 @@ use std::alloc::Global;
 use std::marker::Model;
 
 /// A sink in memory some of whose calls fail. Calls of `put` are numbered from 0 in the order in
-/// which they are made; one that finds no memory takes no number. A call that fails takes nothing,
+/// which they are made; one for which memory ran out takes no number. A call that fails takes nothing,
 /// and any other takes the piece whole.
 #[derive(Drop)]
 pub struct MemSink {
@@ -25,7 +25,7 @@ impl Model for MemSink {
 }
 
 impl MemSink {
-    /// A sink that took nothing yet. The calls whose numbers `failing` lists are to fail.
+    /// A sink that has taken nothing yet. The calls with the numbers in `failing` will fail.
     pub fn new(alloc: Global, failing: &[u64]) -> Result<Self, SinkError>
         ensures ok { IfOk result (λ sink. sink ≡ record { taken = []; calls = unmade failing.now }) }
         ensures only { IfErr result (λ e. e ≡ SinkError.OutOfMemory) }

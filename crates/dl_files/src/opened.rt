@@ -1,6 +1,6 @@
 //! What is done with a file that was opened, or could not be: it is read, whole or a part of it, or written.
 //!
-//! Each call says what it reads or writes of any file. Which file is opened, and how, is the caller's.
+//! Each call says what it reads or writes, of any file. Which file is opened, and how, is up to the caller.
 ghost use Rattle.std.specs.Prelude.{◌≡◌, ◌≢◌, ◌↔◌, ◌<◌, ◌≤◌, ◌^◌, length, take, vec_len, IfOk, IfErr, IsOkAnd, IsErrAnd, IsErrOf};
 ghost use Rattle.std.specs.IoError.{error_kind};
 ghost use Rattle.std.specs.Io.KnownBytes.{Appends};
@@ -34,7 +34,7 @@ pub(crate) fn read_opened<F: Read + Drop>(
     }
 }
 
-/// The bytes of the file from `offset` on, as many as fit into the piece. None reaches as far as 2^63 bytes.
+/// The bytes of the file from `offset` on, as many as fit into the piece. No file reaches as far as 2^63 bytes.
 pub(crate) fn fill_opened<F: Read + Seek + Drop>(
     opened: io::Result<F>,
     offset: u64,
@@ -64,7 +64,7 @@ pub(crate) fn fill_opened<F: Read + Seek + Drop>(
     }
 }
 
-/// The file once the bytes are written to it, where it is.
+/// The file once the bytes are written to it at its position.
 pub(crate) fn write_opened<F: Write + Drop>(opened: io::Result<F>, bytes: &[u8]) -> io::Result<F>
     ensures written { IfOk result (λ after.
         IsOkAnd opened (λ before. Appends (F.contents before) (F.contents after) bytes.now)) }
@@ -74,7 +74,7 @@ pub(crate) fn write_opened<F: Write + Drop>(opened: io::Result<F>, bytes: &[u8])
     Ok(file)
 }
 
-// Why a file that could not be opened can't be read.
+// Why a file that couldn't be opened can't be read.
 fn why_unopened(error: &io::Error) -> FileError
     ensures absent { (result ≡ FileError.Absent) ↔ (error_kind error.now ≡ ErrorKind.NotFound) }
     ensures memory { result ≢ FileError.OutOfMemory }

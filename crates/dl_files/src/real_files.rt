@@ -1,5 +1,5 @@
 //! The files of the system, which tell nothing of their contents. What is read and written of an opened file is proved of any
-//! file, in `opened.rt`; which name is opened, and whether to be read, emptied or added to, is trusted.
+//! file, in `opened.rt`; which name is opened, and whether to read it, empty it or add to it, is trusted.
 ghost use Rattle.std.specs.Fs.{asks_append, asks_create, asks_truncate};
 ghost use Rattle.std.specs.Prelude.{◌≡◌, ◌≢◌, ◌↔◌, None, true, false, ◌≤◌, ◌^◌, length, vec_len, IfOk, IfErr, IsOk, OnOk, IsErrOf};
 ghost use Rattle.dl_files.specs.Seen.{uncounted, untold, with_change, with_unread, with_unwritten};
@@ -11,9 +11,9 @@ use std::fs::OpenOptions;
 use std::marker::Model;
 use std::{fs, io, rt};
 
-/// The files of the system that `R` reaches, seen as their counts. Each refusal but for memory is counted, also that of an
-/// absent file. To read a file of more than 2^30 bytes whole is a fault, once so many are read; a part is read of a file of
-/// any size.
+/// The files of the system that `R` reaches, seen as their counts. Each refusal is counted, even that of an absent file,
+/// except when memory runs out. Reading a file of more than 2^30 bytes whole is a fault, once that many are read; parts can be
+/// read of a file of any size.
 #[derive(Drop)]
 pub struct RealFiles<R> {
     rt: R,
@@ -55,7 +55,7 @@ impl<R: rt::Files> RealFiles<R> {
         self.unread = self.unread.saturating_add(1);
     }
 
-    // What is answered of a read. One that failed is counted.
+    // What a read answers. One that failed is counted.
     fn settle_read<T: Drop>(&mut self, read: Result<T, FileError>) -> Result<T, FileError>
         ensures answer { result ≡ read }
         ensures ok { OnOk result (self.new ≡ self.old) }
@@ -69,7 +69,7 @@ impl<R: rt::Files> RealFiles<R> {
         read
     }
 
-    // What is answered of a write, which is counted.
+    // What a write answers. Each one is counted.
     fn settle_write<T: Drop>(&mut self, done: io::Result<T>) -> Result<(), FileError>
         ensures done { IsOk result ↔ IsOk done }
         ensures ok { OnOk result (self.new ≡ with_change self.old) }
@@ -114,7 +114,7 @@ impl<R: rt::Files> Files for RealFiles<R> {
         self.settle_read(read)
     }
 
-    // Of a pipe or a device no part can be read but the next.
+    // Of a pipe or a device only the next part can be read.
     fn begin(
         &mut self,
         alloc: Global,
@@ -156,7 +156,7 @@ impl<R: rt::Files> Files for RealFiles<R> {
     }
 }
 
-// A file that is added to, and made where it isn't there.
+// A file that is added to, and made if it isn't there.
 fn added_to() -> OpenOptions
     ensures append { asks_append result ≡ true }
     ensures create { asks_create result ≡ true }

@@ -1,5 +1,5 @@
 //! The standard output, which does not tell what it took. How bytes are handed to it is proved of any writer, in `streams.rt`;
-//! that it is the one which they are handed to is trusted.
+//! that they are handed to it and to no other is trusted.
 ghost use Rattle.std.specs.Prelude.{◌≡◌, None, ◌≤◌, ◌<◌, length, IfOk, IfErr, OnOk};
 ghost use Rattle.dl_files.specs.Count.{next};
 

@@ -75,7 +75,7 @@ impl Store {
         file.bytes.as_slice()
     }
 
-    // The place of the name, which is added without bytes where it is new.
+    // The place of the name, which is added without bytes if it is new.
     pub(crate) fn touch(&mut self, name: &str) -> Result<usize, AllocError>
         ensures ok { IfOk result (λ place. place_of name.now self.new ≡ Some place) }
         ensures named { IfOk result (λ place. name_at self.new place ≡ Some name.now) }
@@ -117,7 +117,7 @@ impl Store {
         Ok(())
     }
 
-    // A new name is added with its bytes at once, so that it is not there where its bytes find no room.
+    // A new name is added together with its bytes, so that it isn't there if there is no room for them.
     pub(crate) fn append(&mut self, name: &str, bytes: &[u8]) -> Result<(), AllocError>
         ensures ok { OnOk result
             (contents_of self.new ≡ more name.now bytes.now (contents_of self.old)) }

@@ -1,4 +1,4 @@
-//! How bytes go through a reader or a writer: all of them, in as many calls as that takes, and on after an interruption.
+//! How bytes go through a reader or a writer: all of them, in as many calls as that takes, going on after an interruption.
 ghost use Rattle.std.specs.Prelude.{◌≡◌, ◌≢◌, ℕ, ◌<◌, ◌≤◌, ◌^◌, length, take, vec_len, IfOk, IfErr, OnOk, OnErr, IsErrOf};
 ghost use Rattle.std.specs.IoError.{error_kind};
 ghost use Rattle.std.specs.Io.KnownBytes.{Appends, Consumes, IsAtEnd, Keeps};
@@ -8,7 +8,7 @@ use std::alloc::{AllocError, Global};
 use std::io;
 use std::io::{ErrorKind, Read, Write};
 
-/// The greatest file that is read whole, in bytes.
+/// The size in bytes of the largest file that is read whole.
 const LARGEST: usize = 1 << 30;
 
 // How many bytes are read at a time.
@@ -17,11 +17,11 @@ const PIECE: usize = 1 << 15;
 /// Why a reader could not be read whole.
 #[derive(Drop)]
 pub(crate) enum Unread {
-    /// A read failed so.
+    /// A read failed with this error.
     Failed(io::Error),
     /// It has more than 2^30 bytes.
     TooLarge,
-    /// There was no memory.
+    /// Memory ran out.
     OutOfMemory,
 }
 
@@ -92,7 +92,7 @@ pub(crate) fn fill<R: Read>(reader: &mut R, into: &mut [u8]) -> io::Result<usize
     Err(io::Error::from(ErrorKind::TimedOut))
 }
 
-/// Hands all of the bytes to the writer; where it refuses, it has the first of them.
+/// Hands all of the bytes to the writer; if it refuses, it has the first of them.
 pub(crate) fn write_whole<W: Write>(writer: &mut W, bytes: &[u8]) -> io::Result<()>
     ensures all { OnOk result (Appends (W.contents writer.old) (W.contents writer.new) bytes.now) }
     ensures part { OnErr result (IsPartWritten (W.contents writer.old) (W.contents writer.new) bytes.now) }

@@ -1,4 +1,4 @@
--- Finishing goes on event by event, and ends where all events that finish the run are done.
+-- Finishing goes on event by event, and ends once all events that finish the run are done.
 use Rattle.std.proofs.Common.{◌≡◌, ℕ, ◌+◌, true, ◌^◌, ◌<◌, ◌≤◌, List, [], ◌∷◌, ◌++◌, length, take, Some, None, refl, sym, ap, ◌∙◌, subst, arith, append_assoc}
 use Rattle.std.specs.Prelude.{slice_get}
 use Rattle.std.proofs.lemmas.Option.{none-some, same_Some}
@@ -122,7 +122,7 @@ going_by from now e done (f ∷ left) is finishes at goes alone room run few =
 pub going_next : (from now : World) (e : Event) → Going from now → Some e ≡ next now → Going from (happens now e).world
 going_next from now e g is = going_by from now e g.done g.left is g.finishes g.is g.goes g.alone g.room g.run g.few
 
--- where it was a step, and its instruction ran, the same event is next again
+-- if it was a step, and its instruction ran, the same event is next again
 pub step_again : (now new : World) (e : Event) (r : Reply) → next now ≡ Some e → new ≡ (happens now e).world → r ≡ (happens now e).reply → (c : ℕ) → e ≡ Event.Step c → r ≡ Reply.Ran → next new ≡ Some e
 step_again now new e r is world reply c step ran =
     let same : next now ≡ Some (Event.Step c) = is ∙ ap (λ (x : Event). Some x) step in
@@ -147,11 +147,11 @@ all_are s es from now g run =
 nothing_behind : (xs : List Event) → xs ++ [] ≡ xs
 nothing_behind xs = grind (arith, common_steps)
 
--- where no event is next, the world is finished
+-- if no event is next, the world is finished
 pub going_finished : (from now : World) → Going from now → None ≡ next now → IsFinished now
 going_finished from now g is = next-none now (sym is)
 
--- where no event is next, finishing has ended for every setup and schedule that led to the first world
+-- if no event is next, finishing has ended for every setup and schedule that led to the first world
 pub going_ended : (from now : World) → Going from now → None ≡ next now → (s : Setup) (es : List Event) → IsRun s es from → HasEnded s es now
 going_ended from now g is s es run =
     let fs = finishing_of s es in
@@ -187,7 +187,7 @@ next_left : (now : World) (e : Event) (left : List Event) → Some e ≡ next no
 next_left now e [] is goes = absurd (none-some e (sym goes ∙ sym is))
 next_left now e (f ∷ left) is goes = sym goes.0 ∙ sym is
 
--- where the next event wants memory, the events so far are the first of those that finish the run
+-- if the next event takes memory, the events so far are the first of those that finish the run
 pub going_begun : (from now : World) (e : Event) → Going from now → Some e ≡ next now → wants_memory e ≡ true → (s : Setup) (es : List Event) → IsRun s es from → HasBegun s es now
 going_begun from now e g is wants s es run =
     let all = all_are s es from now g run in

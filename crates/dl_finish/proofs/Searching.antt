@@ -1,4 +1,4 @@
--- The searches for the least core, sphere and thread find the ones that the definitions name.
+-- The searches for the lowest core, sphere and thread find the ones that the definitions name.
 use Rattle.std.proofs.Common.{◌≡◌, ℕ, zero, suc, ◌+◌, ◌-◌, ◌<◌, Bool, true, false, cond, List, [], ◌∷◌, length, get_or, Option, Some, None, refl, sym, ap, ◌∙◌, arith}
 use Rattle.std.proofs.lemmas.Option.{none-some}
 use Rattle.dl_entry.specs.declared.Actor.{Actor}
@@ -16,13 +16,13 @@ untold_more : (c n m t : ℕ) → n ≡ suc m → told_at t c ≡ true → untol
 untold_more c n m t is told =
     ap (λ (k : ℕ). untold c k t) is ∙ ap (λ (b : Bool). cond b (untold (suc c) m t) (Some c)) told
 
--- where core c was told, the search for one that wasn't goes on at the core behind it
+-- if core c was told, the search for one that wasn't goes on at the core after it
 pub untold_next : (c n t : ℕ) → c < n → told_at t c ≡ true → untold c (n - c) t ≡ untold (c + 1) (n - (c + 1)) t
 untold_next c n t l told =
     let e : suc c ≡ c + 1 = omega arith in
     untold_more c (n - c) (n - (c + 1)) t (omega (arith, l)) told ∙ ap (λ (d : ℕ). untold d (n - (c + 1)) t) e
 
--- where core c wasn't told, it is the first from c on that wasn't
+-- if core c wasn't told, it is the first from c on that wasn't
 pub untold_here : (c n t : ℕ) → c < n → told_at t c ≡ false → untold c (n - c) t ≡ Some c
 untold_here c n t l told =
     let e : n - c ≡ suc (n - suc c) = omega (arith, l) in
@@ -46,7 +46,7 @@ least_is n (p ∷ ps) (suc i) k actor e l before here =
     ∙ ap (λ (o : Option Actor). who_in n o (least (suc n) ps)) (before zero (omega arith))
     ∙ least_is (suc n) ps i k actor (omega (arith, e)) (omega (arith, l)) (λ j m. before (suc j) (omega (arith, m))) here
 
--- where it is no actor's turn in any sphere, no sphere goes on
+-- if it is no actor's turn in any sphere, no sphere goes on
 pub least_is_none : (n : ℕ) (ps : List Sphere) → ((j : ℕ) → j < length ps → turn_in (get_or ps j no_sphere).role ≡ None) → least n ps ≡ None
 least_is_none n [] each = refl
 least_is_none n (p ∷ ps) each =
@@ -72,13 +72,13 @@ some_passes : (c i k : ℕ) (o : Option Occupant) (e : Event) → Some e ≡ if_
 some_passes c i k None e is = absurd (none-some e (sym is))
 some_passes c i k (Some h) e is = some_by c h (runs i k h) e is
 
--- where a core is the first with an event for the thread, that event is next
+-- if a core is the first with an event for the thread, that event is next
 pub for_core_is : (w : World) (i k c : ℕ) (e : Event) → c < length w.cores → ((j : ℕ) → j < c → on_core w j i k ≡ None) → Some e ≡ on_core w c i k → Some e ≡ for_core w i k (core_of w i k)
 for_core_is w i k c e l before here =
     let s = some_passes c i k (at w.cores c) e here in
     s.1 ∙ ap (for_core w i k) (first_is (runs i k) w.cores c l (λ j m. none_passes j i k (at w.cores j) (before j m)) s.0)
 
--- where no core has an event for the thread, the next event places it on core 0
+-- if no core has an event for the thread, the next event places it on core 0
 pub for_core_none : (w : World) (i k : ℕ) → ((j : ℕ) → j < length w.cores → on_core w j i k ≡ None) → Some (Event.Place 0 i k) ≡ for_core w i k (core_of w i k)
 for_core_none w i k each =
     ap (for_core w i k) (first_is_none (runs i k) w.cores (λ j m. none_passes j i k (at w.cores j) (each j m)))

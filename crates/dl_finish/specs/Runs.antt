@@ -1,4 +1,4 @@
--- What finishing is asked of, and what it leaves.
+-- What finishing starts from, and what it leaves.
 use Rattle.std.specs.Prelude.{◌≡◌, ℕ, ◌+◌, ◌<◌, true, List, ◌++◌, length, take, slice_get, Some}
 use Rattle.spec_log.specs.declared.LogParts.{LogParts}
 use Rattle.spec_protocol.specs.declared.event.Event.{Event}
@@ -21,7 +21,7 @@ pub record HasEnded (s : Setup) (es : List Event) (w : World) : Type 0 where
       → image.role ≡ IsReplayed asked
       → HasPlayed image asked.log s (es ++ finishing_of s es) i
 
--- the first ones of them have, and not all: the next one takes memory
+-- the first of those events have happened, but not all: the next one takes memory
 pub record HasBegun (s : Setup) (es : List Event) (w : World) : Type 0 where
   pub events : ℕ
   pub some_left : events < length (finishing_of s es)

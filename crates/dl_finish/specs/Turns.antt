@@ -7,7 +7,7 @@ use Rattle.spec_protocol.specs.machine.Spheres.{Role, Plain, Record, Replay, act
 use Rattle.spec_protocol.specs.machine.World.{World, Occupant, runs}
 use Rattle.spec_protocol.specs.machine.Finishing.{for_held}
 
--- the actor whose turn it is in a replay that goes on
+-- the actor whose turn it is in a replay that still goes on
 abbrev pub turn_in : Role → Option Actor
 turn_in Plain = None
 turn_in (Record recording) = None

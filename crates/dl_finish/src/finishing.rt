@@ -13,9 +13,9 @@ use dl_machine::Machine;
 use dl_sig::Sig;
 use spec_protocol::{Event, Reply};
 
-/// Takes the next event until none is left. Then no flight stands, and every replay is complete or has diverged; for each unit
-/// of the run's work there were as many events at most as there are cores, and six; and none was bounced, denied, busy, full
-/// or out of turn. Where memory was wanting some of these events have happened, each of them whole.
+/// Takes the next event until there is none. Then no flight is left, and every replay is complete or has diverged; for each
+/// unit of the run's work there were at most as many events as there are cores, plus six; and none was bounced, denied,
+/// busy, full or out of turn. If memory ran out, some of these events have happened, each of them whole.
 pub fn finish<G: Sig>(machine: &mut Machine<G>) -> Result<(), OutOfMemory>
     requires events { machine.old.counts.events ≤ 2 ^ 32 }
     requires commits { HasRoom machine.old }

@@ -1,4 +1,4 @@
-//! Finishing: after the schedule flights are made visible, and replays go on to their ends.
+//! Finishing: after the schedule, flights are made visible, and replays go on to their ends.
 #![tactic(auto)]
 
 mod finishing;

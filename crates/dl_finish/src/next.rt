@@ -12,8 +12,8 @@ use dl_sig::Sig;
 use dl_sphere::Sphere;
 use spec_protocol::Event;
 
-/// The event that comes next once a schedule has ended: the least slot's flight is made visible, or else the least replay
-/// goes on. None comes where no flight stands and every replay is complete or has diverged.
+/// The event that comes next once a schedule has ended: the lowest slot's flight is made visible, or else the lowest
+/// replay goes on. There is none if no flight is left and every replay is complete or has diverged.
 #[tactic(auto, unfolding(spec_protocol::specs::machine::Finishing::next))]
 pub fn next_event<G: Sig>(machine: &Machine<G>) -> Option<Event>
     ensures { result ≡ next machine.now }
@@ -28,7 +28,7 @@ pub fn next_event<G: Sig>(machine: &Machine<G>) -> Option<Event>
     }
 }
 
-// The least slot with a flight.
+// The lowest slot with a flight.
 fn standing<G: Sig>(slots: &[Option<Flight<G>>]) -> Option<u8>
     requires { length slots.now ≤ 8 }
     ensures value { result ≡ first_slot (λ f. true) slots.now }
@@ -71,7 +71,7 @@ fn for_flight<G: Sig>(k: u8, flight: &Flight<G>, cores: u8) -> Event
     }
 }
 
-// The least core that was not told.
+// The lowest core that was not told.
 fn untold(told: u8, cores: u8) -> Option<u8>
     requires { cores ≤ 8 }
     ensures { result ≡ untold_from 0 cores told }
@@ -91,7 +91,7 @@ fn was_told(told: u8, core: u8) -> bool
     told >> core & 1 == 1
 }
 
-// Of the replays that go on the least does its next event.
+// The lowest replay that still goes on does its next event.
 fn for_replays<G: Sig>(machine: &Machine<G>) -> Option<Event>
     ensures { result ≡ for_who machine.now (least 0 machine.now.spheres) }
 {
@@ -103,7 +103,7 @@ fn for_replays<G: Sig>(machine: &Machine<G>) -> Option<Event>
     None
 }
 
-// Whose turn it is in a replay that goes on.
+// Whose turn it is in a replay that still goes on.
 #[tactic(auto, unfolding(spec_protocol::specs::machine::Spheres::head_of))]
 fn turn(sphere: &Sphere) -> Option<Actor>
     ensures { result ≡ turn_in sphere.now.sphere.role }
@@ -123,7 +123,7 @@ fn for_actor<G: Sig>(machine: &Machine<G>, sphere: u8, actor: Actor) -> Event
     }
 }
 
-// A thread is placed on core 0 where it is on no core.
+// A thread is placed on core 0 if it is on no core.
 fn for_thread<G: Sig>(machine: &Machine<G>, sphere: u8, thread: u8) -> Event
     ensures { let core = core_of machine.now sphere thread in
         Some result ≡ for_core machine.now sphere thread core }
@@ -136,7 +136,7 @@ fn for_thread<G: Sig>(machine: &Machine<G>, sphere: u8, thread: u8) -> Event
     Event::Place(0, sphere, thread)
 }
 
-// Where the core runs the thread, an open chunk is stepped, and a closed one asks.
+// If the core runs the thread, an open chunk is stepped, and a closed one asks.
 fn on_core<G: Sig>(machine: &Machine<G>, core: u8, sphere: u8, thread: u8) -> Option<Event>
     requires { core < length machine.now.cores }
     ensures { result ≡ event_on_core machine.now core sphere thread }

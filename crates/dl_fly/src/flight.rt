@@ -6,8 +6,8 @@ use dl_sig::Sig;
 use dl_wbuf::Buffer;
 use std::marker::Model;
 
-/// A commit whose stores are still being made visible: the sphere that it is of, the words left in the order of their first
-/// store, the lines that it stores to, and the cores that were told. Bit c of `told` stands for core c.
+/// A commit whose stores are still being made visible: its sphere, the words left in the order of their first store, the
+/// lines that it stores to, and the cores that were told. Bit c of `told` stands for core c.
 #[derive(Drop)]
 pub struct Flight<G: Sig> {
     pub sphere: u8,
@@ -72,7 +72,7 @@ impl<G: Sig> Flight<G> {
         self.told |= 1 << core;
     }
 
-    // Whether no word is left, and each of so many cores was told.
+    // Whether no word is left, and each of that many cores was told.
     pub(crate) fn is_done(&self, cores: u8) -> bool
         requires { cores ≤ 8 }
         ensures { result ≡ is_done cores self.now }

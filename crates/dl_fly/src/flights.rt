@@ -1,4 +1,4 @@
-//! The slots of flights, all of which `new` makes. No other call takes memory.
+//! The slots for flights, all of which `new` makes. No other call takes memory.
 ghost use Rattle.std.specs.Prelude.{◌≡◌, ◌<◌, ◌≤◌, false, None, Some, IfOk, length, option_map, replicate};
 ghost use Rattle.spec_engine.specs.Flights.{IsInside, IsOfSize, at, bounces, deliver, drain, fill, first_slot, free_slot, is_full, retire};
 
@@ -10,7 +10,7 @@ use spec_engine::answers::{Deliver, Drain, Retire};
 use std::alloc::{AllocError, Global};
 use std::marker::Model;
 
-/// From 1 to 8 slots, each free or with its flight, which is told to from 1 to 8 cores.
+/// From 1 to 8 slots, each free or with its flight; flights are told to from 1 to 8 cores.
 #[derive(Drop)]
 pub struct Flights<G: Sig> {
     cores: u8,
@@ -35,7 +35,7 @@ impl<G: Sig> Model for Flights<G> {
 impl<G: Sig> Flights<G> {
     ghost use Rattle.dl_fly.specs.Slots.{set_slot};
 
-    /// `window` free slots, from 1 to 8, of flights that are told to `cores` cores, from 1 to 8.
+    /// `window` free slots, from 1 to 8, for flights that are told to `cores` cores, from 1 to 8.
     pub fn new(alloc: Global, window: u8, cores: u8) -> Result<Flights<G>, AllocError>
         requires some_slot { 1 ≤ window }
         requires most_slots { window ≤ 8 }
@@ -67,7 +67,7 @@ impl<G: Sig> Flights<G> {
         &self.slots
     }
 
-    /// The flight in slot `k`, if one stands there.
+    /// The flight in slot `k`, if one is there.
     pub fn get(&self, k: u8) -> Option<&Flight<G>>
         requires { k < length self.now.slots }
         ensures { option_map (λ f. f.now) result ≡ at self.now.slots k }
@@ -82,7 +82,7 @@ impl<G: Sig> Flights<G> {
         slot::free(&self.slots).is_none()
     }
 
-    /// The least slot whose flight holds up the reading of a line by a core, which was told of it.
+    /// The lowest slot whose flight holds up the reading of a line by a core, which was told of it.
     pub fn holder(&self, core: u8, line: u32) -> Option<u8>
         ensures { result ≡ first_slot (bounces core line) self.now.slots }
     {
@@ -90,7 +90,7 @@ impl<G: Sig> Flights<G> {
         Some(k as u8)
     }
 
-    /// Puts a flight into the least free slot, and gives its number.
+    /// Puts a flight into the lowest free slot, and gives that slot's number.
     pub fn add(&mut self, flight: Flight<G>) -> u8
         requires { is_full self.old.slots ≡ false }
         ensures slot { Some result ≡ free_slot self.old.slots }
@@ -130,7 +130,7 @@ impl<G: Sig> Flights<G> {
         slot::deliver(&mut self.slots[k as usize], core, reads, writes)
     }
 
-    /// The slot becomes free, where no word is left in its flight and each core was told.
+    /// The slot becomes free, if no word is left in its flight and each core was told.
     pub fn retire(&mut self, k: u8) -> Retire
         requires { k < length self.old.slots }
         ensures reply { result ≡ (retire self.old.cores (at self.old.slots k)).reply }

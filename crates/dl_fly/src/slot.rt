@@ -7,7 +7,7 @@ use dl_mem::Memory;
 use dl_sig::Sig;
 use spec_engine::answers::{Deliver, Drain, Retire};
 
-// The least free slot.
+// The lowest free slot.
 #[tactic(auto, unfolding(spec_engine::specs::Flights::free_slot))]
 pub(crate) fn free<G: Sig>(slots: &[Option<Flight<G>>]) -> Option<usize>
     ensures value { result ≡ free_slot slots.now }
@@ -25,7 +25,7 @@ fn is_free<G: Sig>(slot: &Option<Flight<G>>) -> bool
     }
 }
 
-// The least slot whose flight holds up a line for the core.
+// The lowest slot whose flight holds up a line for the core.
 #[tactic(auto, unfolding(spec_engine::specs::Flights::first_slot))]
 pub(crate) fn holder<G: Sig>(slots: &[Option<Flight<G>>], core: u8, line: u32) -> Option<usize>
     ensures value { result ≡ first_slot (bounces core line) slots.now }

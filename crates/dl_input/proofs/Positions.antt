@@ -1,4 +1,4 @@
--- Among rising records a position stands behind all lower ones, or nowhere.
+-- Among rising records a position comes after all lower ones, or is nowhere.
 use Rattle.std.proofs.Common.{◌≡◌, ℕ, zero, suc, ◌+◌, ◌-◌, ◌<◌, nat_lt, Bool, true, List, [], ◌∷◌, length, get_or, Some, None, inl, inr, refl, ap, sym, subst, ◌∙◌, arith}
 use Rattle.std.proofs.Math.ListN.{set}
 use Rattle.std.proofs.lemmas.Option.{none-some}
@@ -22,7 +22,7 @@ rises-between dmas r i j d h l =
     let e : i + suc (j - i - 1) ≡ j = omega arith in
     subst (λ (k : ℕ). (get_or dmas i d).position < (get_or dmas k d).position) e (rises-far dmas r i (j - i - 1) d (omega arith))
 
--- among rising records those of lower positions stand before all others
+-- among rising records those of lower positions come before all others
 pub partitioned : (dmas : List (DmaRecord)) (position : ℕ) → Rises dmas → IsPartitionedBy (λ m. nat_lt m.position position) dmas
 partitioned dmas position r i j d le below t =
     elim (cases_lt i j) [
@@ -36,7 +36,7 @@ Below position dmas p = (k : ℕ) (d : DmaRecord) → k < p → (get_or dmas k d
 below-rest : (position : ℕ) (m : DmaRecord) (ms : List (DmaRecord)) (p : ℕ) → Below position (m ∷ ms) (suc p) → Below position ms p
 below-rest position m ms p h k d l = h (suc k) d (omega arith)
 
--- a record of the position that stands behind lower ones gives the position's bytes
+-- a record of the position that comes after lower ones gives the position's bytes
 pub bytes_at-found : (position : ℕ) (dmas : List (DmaRecord)) (p : ℕ) (x : DmaRecord) → p < length dmas → Below position dmas p
     → x ≡ get_or dmas p x → x.position ≡ position → Some x.bytes ≡ bytes_at position dmas
 bytes_at-found position [] p x within below is here = absurd (omega arith)
@@ -53,7 +53,7 @@ bytes_at-none position [] h = refl
 bytes_at-none position (m ∷ ms) h =
     rw (ne_eqb m.position position (h 0 m (omega arith))) (bytes_at-none position ms (λ k d l e. h (suc k) d (omega arith) e))
 
--- behind a higher position at a place, and before a lower one, the position stands nowhere
+-- after lower positions, and with a higher one at the place, the position is nowhere
 pub bytes_at-missed : (position : ℕ) (dmas : List (DmaRecord)) (p : ℕ) → Rises dmas → Below position dmas p
     → ((d : DmaRecord) → p < length dmas → position < (get_or dmas p d).position) → None ≡ bytes_at position dmas
 bytes_at-missed position dmas p r below above =
@@ -69,7 +69,7 @@ bytes_at-missed position dmas p r below above =
       ]
     ])
 
--- taking the position's record marks the place at which it stands
+-- taking the position's record marks the place that it is at
 pub taken_at-found : (position : ℕ) (dmas : List DmaRecord) (taken : List Bool) (p : ℕ) → length taken ≡ length dmas → p < length dmas → Below position dmas p
     → ((d : DmaRecord) → (get_or dmas p d).position ≡ position) → taken_at position dmas taken ≡ set taken p true
 taken_at-found position [] taken p same h below here = absurd (omega arith)
@@ -88,7 +88,7 @@ taken_at-none position (m ∷ ms) (x ∷ xs) same h =
       | inr e ↦ rw (ne_eqb m.position position e) (ap (λ (ys : List Bool). x ∷ ys) (taken_at-none position ms xs (omega arith) (rw (ne_eqb m.position position e) at h)))
     ]
 
--- where no record has the position, taking it marks none
+-- if no record has the position, taking it marks none
 pub taken_at-missed : (position : ℕ) (dmas : List DmaRecord) (taken : List Bool) (p : ℕ) → length taken ≡ length dmas → Rises dmas → Below position dmas p
     → ((d : DmaRecord) → p < length dmas → position < (get_or dmas p d).position) → taken_at position dmas taken ≡ taken
 taken_at-missed position dmas taken p same rises below above =

@@ -28,7 +28,7 @@ slice_get-lane [] rest t i d h = absurd (omega arith)
 slice_get-lane (m ∷ lane) rest t zero d h = refl
 slice_get-lane (m ∷ lane) rest t (suc i) d h = slice_get-lane lane rest t i d (omega arith)
 
--- a place behind a thread's entries is one among the rest
+-- a place after a thread's entries is one among the rest
 pub slice_get-behind : (lane : List (Mark Raised)) (rest : List Tracked) (t i : ℕ) → length lane ≤ i
     → slice_get (map (tracked_of t) lane ++ rest) i ≡ slice_get rest (i - length lane)
 slice_get-behind [] rest t i h = let e : i ≡ i - 0 = omega arith in ap (slice_get rest) e

@@ -12,13 +12,13 @@ abbrev pub bytes_at : ℕ → List DmaRecord → Option (List ℕ)
 bytes_at position [] = None
 bytes_at position (dma ∷ dmas) = if dma.position == position then Some dma.bytes else bytes_at position dmas
 
--- the marks with that of a position set
+-- the marks, with that of a position set
 abbrev pub taken_at : ℕ → List DmaRecord → List Bool → List Bool
 taken_at position [] taken = taken
 taken_at position (dma ∷ dmas) [] = []
 taken_at position (dma ∷ dmas) (mark ∷ taken) = if dma.position == position then true ∷ taken else mark ∷ taken_at position dmas taken
 
--- the position stands at a place, or nowhere
+-- the position is at a place, or nowhere
 pub record Stands (position : ℕ) (dmas : List DmaRecord) (place : ℕ) : Type 0 where
   pub within : place < length dmas
   pub bytes : (d : DmaRecord) → bytes_at position dmas ≡ Some (slice_index_or dmas place d).bytes

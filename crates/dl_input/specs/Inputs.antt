@@ -8,6 +8,6 @@ pub record InputList : Type 0 where
   pub taken : ℕ
   pub room : Bool
 
--- how many are taken with one more, if there is one
+-- how many are taken once one more is, if there is one
 abbrev pub one_taken : InputList → ℕ
 one_taken list = if nat_lt list.taken (length list.inputs) then list.taken + 1 else list.taken

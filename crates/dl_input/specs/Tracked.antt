@@ -1,4 +1,4 @@
--- Interrupts by thread and index, each with whether it was taken.
+-- Interrupts by thread and index, and whether each was taken.
 use Rattle.std.specs.Prelude.{ℕ, ◌==◌, Bool, true, false, ◌&&◌, List, find, Option, Some, None, option_map}
 use Rattle.spec_log.specs.declared.records.Interrupt.{Interrupt}
 use Rattle.spec_log.specs.Noting.{insert_by}
@@ -19,23 +19,23 @@ tracked_of thread mark = record { thread = thread; index = mark.index; raised = 
 abbrev pub new_tracked : ℕ → ℕ → ℕ → Tracked
 new_tracked thread index value = record { thread = thread; index = index; raised = record { value = value; taken = false } }
 
--- those of a thread, and of the threads behind it
+-- those of a thread, and of the threads after it
 abbrev pub tracked_from : ℕ → List (List (Mark Raised)) → List Tracked
 tracked_from = entries_from tracked_of
 
--- what was raised at a thread with so many of its commits before
+-- what was raised at a thread after that many of its commits
 abbrev pub raised_at : List Tracked → ℕ → ℕ → Option Raised
 raised_at entries thread index =
     option_map (λ s. s.raised) (find (λ s. (s.thread == thread) && (s.index == index)) entries)
 
--- an interrupt at its place, instead of another of the same moment
+-- an interrupt put in its place, instead of another of the same moment
 abbrev pub insert_tracked : Tracked → List Tracked → List Tracked
 insert_tracked = insert_by (λ s. s.thread) (λ s. s.index)
 
 abbrev pub interrupt_of : Tracked → Interrupt
 interrupt_of tracked = record { thread = tracked.thread; index = tracked.index; value = tracked.raised.value }
 
--- what stands at a moment, marked as taken
+-- what is at a moment, marked as taken
 abbrev pub marked : ℕ → ℕ → Option Raised → List Tracked → List Tracked
 marked thread index None entries = entries
 marked thread index (Some raised) entries =

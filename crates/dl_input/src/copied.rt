@@ -1,4 +1,4 @@
-//! Bytes that are copied into a log, with memory that may stand ready for them.
+//! Bytes that are copied into a log, with memory that may be ready for them.
 ghost use Rattle.std.specs.Prelude.{◌≡◌, ◌≤◌, [], length, vec_capacity, IfOk, IsOk, OnOk, OnErr};
 ghost use Rattle.dl_entry.specs.Numbers.{most_bytes};
 
@@ -9,7 +9,7 @@ use std::mem;
 /// The most bytes of a record.
 pub const MOST: usize = 4096;
 
-/// A copy of the bytes: of their own length where there is memory for it, else in the spare room.
+/// A copy of the bytes: of their own length if there is memory for it, else in the spare room.
 pub fn copied(alloc: Global, bytes: &[u8], spare: &mut Vec<u8>) -> Result<Bytes, OutOfMemory>
     requires few { length bytes.now ≤ most_bytes }
     requires empty { spare.old.items ≡ [] }

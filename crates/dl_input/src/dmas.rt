@@ -1,5 +1,6 @@
 //! The data of DMAs by their positions.
-ghost use Rattle.std.specs.Prelude.{◌≡◌, ℕ, ◌-◌, ◌<◌, ◌≤◌, false, [], ◌∷◌, ◌++◌, None, Some, length, slice_index_or, IfOk, IsOk, IsTrue, MatchOption, OnOk, OnErr};
+ghost use Rattle.std.specs.Prelude.{◌≡◌, ℕ, ◌-◌, ◌<◌, ◌≤◌, false, [], ◌∷◌, ◌++◌, None, Some, length, slice_index_or, IfOk, IsOk, IsTrue, MatchOption};
+ghost use Rattle.std.specs.Prelude.{OnOk, OnErr};
 ghost use Rattle.dl_entry.specs.Numbers.{most_bytes};
 ghost use Rattle.std.specs.List.{list_all};
 ghost use Rattle.std.specs.Slice.{IsItemAt};
@@ -39,7 +40,7 @@ impl Model for Dmas {
 }
 
 impl Dmas {
-    /// No DMA, which takes no memory yet.
+    /// No DMA; this takes no memory yet.
     pub fn new(alloc: Global) -> Dmas
         ensures dmas { result.dmas ≡ [] }
         ensures taken { result.taken ≡ [] }
@@ -52,7 +53,7 @@ impl Dmas {
         }
     }
 
-    /// Makes room for one DMA more.
+    /// Makes room for one more DMA.
     pub fn reserve(&mut self) -> Result<(), OutOfMemory>
         ensures dmas { self.new.dmas ≡ self.old.dmas }
         ensures taken { self.new.taken ≡ self.old.taken }
@@ -65,7 +66,7 @@ impl Dmas {
         Ok(())
     }
 
-    /// Adds the data of a DMA with a greater position at the end. With room it isn't refused.
+    /// Adds the data of a DMA with a greater position at the end. If there is room, it isn't refused.
     pub fn note(&mut self, position: u32, bytes: &[u8]) -> Result<(), OutOfMemory>
         requires few { length bytes.now ≤ most_bytes }
         requires greater { (d : Record) → 0 < length self.old.dmas → (slice_index_or self.old.dmas (length self.old.dmas - 1) d).position < position }
@@ -136,7 +137,7 @@ impl Dmas {
     }
 }
 
-/// The place at which a position stands.
+/// The place that a position is at.
 fn place_of(dmas: &[DmaRecord], position: u32) -> Option<usize>
     requires { Rises dmas.now }
     ensures { MatchOption result (Misses position dmas.now) (Stands position dmas.now) }

@@ -9,7 +9,7 @@ use dl_entry::{Bytes, Input, OutOfMemory, Sequence};
 use std::alloc::Global;
 use std::marker::Model;
 
-/// Inputs in the order of commits, of which the first so many were taken.
+/// Inputs in the order of commits, and how many of them have been taken.
 #[derive(Debug, Drop)]
 pub struct Inputs {
     alloc: Global,
@@ -35,7 +35,7 @@ impl Model for Inputs {
 }
 
 impl Inputs {
-    /// No input, which takes no memory yet.
+    /// No input; this takes no memory yet.
     pub fn new(alloc: Global) -> Inputs
         ensures inputs { result.inputs ≡ [] }
         ensures taken { result.taken ≡ 0 }
@@ -48,7 +48,7 @@ impl Inputs {
         }
     }
 
-    /// Makes room for one input more.
+    /// Makes room for one more input.
     pub fn reserve(&mut self) -> Result<(), OutOfMemory>
         ensures inputs { self.new.inputs ≡ self.old.inputs }
         ensures taken { self.new.taken ≡ self.old.taken }
@@ -60,7 +60,7 @@ impl Inputs {
         Ok(())
     }
 
-    /// Adds an input at the end. With room it isn't refused.
+    /// Adds an input at the end. If there is room, it isn't refused.
     pub fn note(&mut self, input: &Input) -> Result<(), OutOfMemory>
         requires { length input.now.bytes ≤ most_bytes }
         ensures ok { OnOk result (self.new.inputs ≡ self.old.inputs ++ input.now ∷ []) }

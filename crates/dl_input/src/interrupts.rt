@@ -17,8 +17,8 @@ pub struct Raised {
     pub taken: bool,
 }
 
-/// Interrupts by thread, and for one thread by the number of its commits before. 32 bits count them: beyond that there is
-/// no room.
+/// Interrupts by thread, and for one thread by the number of its commits before. They are counted in 32 bits: beyond that
+/// there is no room.
 #[derive(Debug, Drop)]
 pub struct Interrupts {
     moments: Moments<Raised>,
@@ -51,7 +51,7 @@ impl Interrupts {
         })
     }
 
-    /// Makes room for one interrupt more.
+    /// Makes room for one more interrupt.
     pub fn reserve(&mut self) -> Result<(), OutOfMemory>
         ensures entries { self.new.entries ≡ self.old.entries }
         ensures ok { OnOk result (IsTrue self.new.room) }
@@ -63,7 +63,7 @@ impl Interrupts {
         self.moments.reserve()
     }
 
-    /// Notes an interrupt of a new moment. With room it isn't refused.
+    /// Notes an interrupt of a new moment. If there is room, it isn't refused.
     pub fn note(&mut self, thread: u8, index: u32, value: u32) -> Result<(), OutOfMemory>
         requires thread { thread ≤ greatest_thread }
         requires fresh { raised_at self.old.entries thread index ≡ None }
@@ -84,7 +84,7 @@ impl Interrupts {
         Ok(())
     }
 
-    /// The value that was raised at a thread with so many of its commits before, taken or not.
+    /// The value that was raised at a thread after that many of its commits, taken or not.
     pub fn at(&self, thread: u8, index: u32) -> Option<u32>
         ensures { result ≡ option_map (λ r. r.value) (raised_at self.now.entries thread index) }
     {

@@ -13,14 +13,14 @@ use Rattle.dl_account.specs.Lines.{numbered}
 use Rattle.dl_account.proofs.Numbered.{numbered_more}
 use Rattle.dl_inspect.specs.Inspection.{each_of, sized_line}
 
-as_many : (s count : ℕ) (order : List Actor) (sizes : Sizes) → IsOrder OrderSize count order → IsSizes OrderSize s count sizes → length (each_of sizes) ≡ length order
-as_many s count order (Each sizes) ordered sized = sized.0 ∙ sym ordered.0
-as_many s count order (Short sizes) ordered sized = absurd sized
+as_many : (t s count : ℕ) (order : List Actor) (sizes : Sizes) → IsOrder OrderSize t count order → IsSizes OrderSize t s count sizes → length (each_of sizes) ≡ length order
+as_many t s count order (Each sizes) ordered sized = sized.0 ∙ sym ordered.0
+as_many t s count order (Short sizes) ordered sized = absurd sized
 
 -- in order-size a log has a size for each commit of its order
 pub each_is_sized : (log : LogParts) → IsLog log → log.mode ≡ OrderSize → length (each_of log.sizes) ≡ length log.order
 each_is_sized log good mode =
-    as_many log.s log.count log.order log.sizes (rw mode at good.order) (rw mode at good.sizes)
+    as_many log.threads log.s log.count log.order log.sizes (rw mode at good.order) (rw mode at good.sizes)
 
 -- the text of the first i commits, and that of the next, are the text of i + 1
 pub sized_more : (old : List ℕ) (order : List Actor) (sizes : List ℕ) (i : ℕ) (actor : Actor) (size : ℕ) → length sizes ≡ length order → i < length order → old ++ numbered sized_line 0 (take i (zip order sizes)) ++ sized_line i (get_or order i actor, get_or sizes i size) ≡ old ++ numbered sized_line 0 (take (i + 1) (zip order sizes))

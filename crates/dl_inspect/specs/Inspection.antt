@@ -23,12 +23,12 @@ mode_word Picolog = codes "picolog"
 abbrev pub head_line : LogParts → List ℕ
 head_line log = line (codes "log") (decimal 1 ∷ mode_word log.mode ∷ decimal log.s ∷ decimal log.count ∷ [])
 
--- the sizes, where each commit has one
+-- the sizes, if each commit has one
 abbrev pub each_of : Sizes → List ℕ
 each_of (Each sizes) = sizes
 each_of (Short sizes) = []
 
--- the sizes, where those have one that were closed early
+-- the sizes, if only commits that were closed early have one
 abbrev pub short_of : Sizes → List ShortSize
 short_of (Each sizes) = []
 short_of (Short sizes) = sizes
@@ -52,7 +52,7 @@ order_lines Picolog order sizes = []
 abbrev pub size_line : ShortSize → List ℕ
 size_line short = line (codes "z") (decimal short.thread ∷ decimal short.index ∷ decimal short.size ∷ [])
 
--- the sizes of commits that were closed early; in order-size the sizes stand in the order's lines
+-- the sizes of commits that were closed early; in order-size the sizes are in the order's lines
 abbrev pub size_lines : ModeName → Sizes → List ℕ
 size_lines OrderSize sizes = []
 size_lines OrderOnly sizes = flat_map size_line (short_of sizes)
@@ -63,7 +63,7 @@ abbrev pub interrupt_line : Interrupt → List ℕ
 interrupt_line interrupt =
     line (codes "i") (decimal interrupt.thread ∷ decimal interrupt.index ∷ hex_word interrupt.value ∷ [])
 
--- no bytes are `-`
+-- no bytes are written as `-`
 abbrev pub bytes_word : List ℕ → List ℕ
 bytes_word bytes = if nat_eq (length bytes) 0 then codes "-" else hex_bytes bytes
 

@@ -1,4 +1,4 @@
-//! The lines of entries that stand in a log's sections.
+//! The lines of the entries in a log's sections.
 ghost use Rattle.std.specs.Prelude.{◌≡◌, ℕ, List, ◌++◌, flat_map, OnOk};
 ghost use Rattle.dl_account.specs.Lines.{spaced};
 ghost use Rattle.dl_inspect.specs.Inspection.{bytes_word, dma_line, input_line, interrupt_line};
@@ -60,7 +60,7 @@ impl Entry for DmaRecord {
     }
 }
 
-// A field that is bytes; no bytes are `-`.
+// A field that is bytes; no bytes are written as `-`.
 fn put_bytes(text: &mut Text, bytes: &[u8]) -> Result<(), OutOfMemory>
     ensures { OnOk result (text.new ≡ text.old ++ spaced (bytes_word bytes.now)) }
 {

@@ -7,7 +7,7 @@ use dl_account::Text;
 use dl_entry::OutOfMemory;
 use spec_log::{LogParts, ModeName, ShortSize, Sizes};
 
-// In order-size there are none: the sizes stand in the order's lines.
+// In order-size there are none: the sizes are in the order's lines.
 pub(crate) fn put_sizes(text: &mut Text, parts: &LogParts) -> Result<(), OutOfMemory>
     ensures { OnOk result (text.new ≡ text.old ++ size_lines parts.now.mode parts.now.sizes) }
 {

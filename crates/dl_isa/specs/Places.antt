@@ -1,4 +1,4 @@
--- The places of a word's fields, and the instruction that the tables find by them.
+-- The places of a word's fields, and the instruction that the tables find from them.
 use Rattle.std.specs.Prelude.{ℕ, ◌/◌, ◌%◌, ◌^◌, Bool, nat_eq, Option, None, option_map}
 use Rattle.spec_isa.specs.declared.instr.Instr.{Instr}
 use Rattle.spec_isa.specs.Denoted.{amo_op, arithmetic_of, atomic_of, by_fields, upper_field}
@@ -43,11 +43,11 @@ instr_under opcode w = by_fields opcode (rd_of w) (funct3_of w) (rs1_of w) (rs2_
 abbrev pub atomic_under : (funct5 word : ℕ) → Option Instr
 atomic_under funct5 w = atomic_of (rd_of w) (rs1_of w) (rs2_of w) funct5 (acquire_of w) (release_of w)
 
--- a shift by a constant, where the word is one
+-- a shift by a constant, if the word is one
 abbrev pub shift_in : ℕ → Option Instr
 shift_in w = arithmetic_of (rd_of w) (funct3_of w) (rs1_of w) (rs2_of w) (funct7_of w) None
 
--- an atomic operation other than LR and SC, where the word is one
+-- an atomic operation other than LR and SC, if the word is one
 abbrev pub amo_in : ℕ → Option Instr
 amo_in w =
     option_map (λ op. Instr.Amo op (rd_of w) (rs1_of w) (rs2_of w) (acquire_of w) (release_of w)) (amo_op (funct5_of w))

@@ -1,4 +1,4 @@
-//! The codes of the operations: funct3 with funct7, or funct5 of an atomic one.
+//! The codes of the operations: funct3 with funct7, or for an atomic one funct5.
 ghost use Rattle.std.specs.Prelude.{◌≡◌, ℕ, ◌<◌, ◌^◌};
 ghost use Rattle.spec_isa.specs.Encoding.{amo_code, branch_code, immediate_code, load_code, register_code, shift_code, store_code};
 

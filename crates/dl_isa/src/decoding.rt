@@ -8,7 +8,7 @@ use crate::tables::{amo_of, branch_of, immediate_of, load_of, register_of, shift
 use crate::word::Word;
 use spec_isa::instr::Instr;
 
-/// The instruction that a word denotes, or none where it is outside the table.
+/// The instruction that a word denotes, or none if it is outside the table.
 #[inline(always)]
 pub fn decode(w: u32) -> Option<Instr>
     ensures value { result ≡ denoted w }
@@ -178,7 +178,7 @@ fn atomic_word(w: Word) -> Option<Instr>
     }
 }
 
-// There is no second register: its place is 0.
+// There is no second register: its field is 0.
 fn load_reserved(w: Word) -> Option<Instr>
     ensures { result ≡ atomic_under 0x02 w.0 }
 {

@@ -1,4 +1,4 @@
-//! Decoding and encoding undo each other.
+//! Decoding and encoding are inverse to each other.
 ghost use Rattle.std.specs.Prelude.{◌≡◌, ◌↔◌, IfSome, IsNone, Some};
 ghost use Rattle.spec_isa.specs.Denoted.{denoted};
 
@@ -6,7 +6,7 @@ use crate::decoding::decode;
 use crate::encoding::encode;
 use spec_isa::instr::Instr;
 
-/// The word itself, decoded and encoded again; none where it is outside the table.
+/// The word itself, decoded and encoded again; none if it is outside the table.
 pub fn respelled(w: u32) -> Option<u32>
     ensures same { IfSome result (λ v. v ≡ w) }
     ensures outside { IsNone result ↔ IsNone (denoted w) }

@@ -1,14 +1,15 @@
 -- Reading an entry of a section undoes writing it.
-use Rattle.std.proofs.Common.{◌≡◌, ℕ, zero, suc, ◌<◌, ◌≤◌, ◌^◌, ◌==◌, ◌||◌, Bool, true, false, List, [], ◌∷◌, ◌++◌, All, Contains, length, get_or, nat_le, inl, inr, refl, ap, sym, ◌∙◌, append-nil, append_assoc, arith, eq-eqb, lit<}
+use Rattle.std.proofs.Common.{◌≡◌, ℕ, zero, suc, ◌<◌, ◌≤◌, ◌^◌, ◌==◌, ◌||◌, Bool, true, false, List, [], ◌∷◌, ◌++◌, All, Contains, length, get_or, nat_le, nat_lt, inl, inr, refl, ap, sym, ◌∙◌, append-nil, append_assoc, arith, eq-eqb, lit<}
 use Rattle.std.specs.Bool.{Decides}
 use Rattle.std.specs.List.{list_any}
-use Rattle.std.proofs.lemmas.Bool.{leb-true, le-leb, eqb-true, or_cases, and_parts, and_from}
+use Rattle.std.proofs.lemmas.Bool.{leb-true, le-leb, ltb-true, lt-ltb, eqb-true, or_cases, and_parts, and_from}
 use Rattle.std.proofs.lemmas.Bool.Decides.{Decides-or, Decides-and, Decides-ltb, Decides-eqb}
 use Rattle.std.proofs.lemmas.List.Elements.{All-contains, All-from_recursion}
 use Rattle.spec_log.specs.Bytes.{little, u8, u16, u32, counted_bytes, short_size_bytes, interrupt_bytes, input_bytes, dma_bytes}
-use Rattle.spec_log.specs.Log.{ComesBefore, IsShortSize, IsInterrupt, AreFewBytes, input_kinds, IsInput, IsDmaRecord}
+use Rattle.spec_log.specs.Log.{ComesBefore, IsVersion, IsStandard, IsShortSize, IsInterrupt, AreFewBytes, input_kinds, IsInput, IsDmaRecord}
+use Rattle.spec_log.specs.declared.shape.Shape.{Shape}
 use Rattle.spec_log.specs.Fields.{Reader, read, gives, raw, number, field, any, at_most, from_to}
-use Rattle.spec_log.specs.Reading.{thread, is_earlier, short_size, interrupt, counted, input, dma}
+use Rattle.spec_log.specs.Reading.{thread, is_earlier, size, short_size, interrupt, counted, input, dma}
 use Rattle.dl_logfmt.proofs.ByteNumbers.{IsByte}
 use Rattle.dl_logfmt.proofs.Codes.{Codes, Codes-as, Codes-read, Codes-gives, Codes-number, Codes-raw}
 
@@ -63,9 +64,14 @@ Codes-field width fault test is to from =
 pub Codes-u32 : Codes (any 4) u32 (λ x. x < 2 ^ 32)
 Codes-u32 = Codes-field 4 5 (λ x. true) (λ x. x < 2 ^ 32) (λ x h l. l) (λ x h. (h, refl))
 
-Codes-thread : Codes thread u8 (λ t. t ≤ 14)
-Codes-thread =
-    Codes-field 1 5 (at_most 14) (λ t. t ≤ 14) (λ t h l. leb-true t 14 h) (λ t h. (omega arith, le-leb t 14 h))
+-- a log's version has so many threads and such standard chunks
+abbrev pub IsShape : Shape → Type 0
+IsShape shape = IsVersion shape.version shape.threads × IsStandard shape.version shape.s
+
+Codes-thread : (shape : Shape) → IsShape shape → Codes (thread shape) u8 (λ t. t < shape.threads)
+Codes-thread shape good =
+    Codes-field 1 5 (λ t. nat_lt t shape.threads) (λ t. t < shape.threads) (λ t h l. ltb-true t shape.threads h)
+    (λ t h. (omega (arith, h, good.0.1), lt-ltb t shape.threads h))
 
 Codes-counted : Codes counted counted_bytes AreFewBytes
 Codes-counted =
@@ -74,8 +80,8 @@ Codes-counted =
     (λ n h. Codes-as (raw n) (λ bytes. bytes) (λ bytes. bytes) _ _ (Codes-raw n) (λ x j. refl) (λ x j. (sym j.0, j.1)) (λ x j. (sym j.0, j.1)))
 
 -- the parts that several entries have: a thread, a number of 32 bits, and bytes with their count
-abbrev thread_part : {X : Type 0} → (X → ℕ) → Part X ℕ
-thread_part of = record { of = of; reader = thread; bytes_of = u8; good = λ t. t ≤ 14; codes = Codes-thread }
+abbrev thread_part : {X : Type 0} (shape : Shape) → IsShape shape → (X → ℕ) → Part X ℕ
+thread_part shape good of = record { of = of; reader = thread shape; bytes_of = u8; good = λ t. t < shape.threads; codes = Codes-thread shape good }
 
 abbrev u32_part : {X : Type 0} → (X → ℕ) → Part X ℕ
 u32_part of = record { of = of; reader = any 4; bytes_of = u32; good = λ x. x < 2 ^ 32; codes = Codes-u32 }
@@ -88,24 +94,29 @@ pub Decides-earlier : (t i u j : ℕ) → Decides (is_earlier t i u j) (ComesBef
 Decides-earlier t i u j =
     Decides-or _ _ (Decides-ltb t u) (Decides-and _ _ (Decides-eqb t u) (Decides-ltb i j))
 
+-- reading a size undoes writing it
+pub Codes-size : (shape : Shape) → IsShape shape → Codes (size shape) u16 (λ n. n ≤ shape.s)
+Codes-size shape good =
+    Codes-field 2 5 (at_most shape.s) (λ n. n ≤ shape.s) (λ n h l. leb-true n shape.s h) (λ n h. (omega (arith, h, good.1.1), le-leb n shape.s h))
+
 -- reading a short size undoes writing it
-pub Codes-short_size : (s : ℕ) → s ≤ 4096 → Codes (short_size s) short_size_bytes (IsShortSize s)
-Codes-short_size s small =
-    Codes-as (short_size s) short_size_bytes short_size_bytes _ (IsShortSize s)
-    (Codes-three (thread_part (λ x. x.thread)) (u32_part (λ x. x.index))
-    (record { of = λ x. x.size; reader = field 2 (from_to 1 s); bytes_of = u16; good = λ size. (1 ≤ size) × (size ≤ s); codes = Codes-size s small })
+pub Codes-short_size : (shape : Shape) → IsShape shape → Codes (short_size shape) short_size_bytes (IsShortSize shape.threads shape.s)
+Codes-short_size shape good =
+    Codes-as (short_size shape) short_size_bytes short_size_bytes _ (IsShortSize shape.threads shape.s)
+    (Codes-three (thread_part shape good (λ x. x.thread)) (u32_part (λ x. x.index))
+    (record { of = λ x. x.size; reader = field 2 (from_to 1 shape.s); bytes_of = u16; good = λ size. (1 ≤ size) × (size ≤ shape.s); codes = Codes-over_0 shape.s good.1.1 })
     (λ t i size. record { thread = t; index = i; size = size }) (λ t i size. (refl, refl, refl)) (λ x. refl))
     (λ x h. refl) (λ x h. (h.0, h.1, h.2.0, h.2.1)) (λ x h. (h.0, h.1, (h.2, h.3))) where
-      Codes-size : (s : ℕ) → s ≤ 4096 → Codes (field 2 (from_to 1 s)) u16 (λ size. (1 ≤ size) × (size ≤ s))
-      Codes-size s small =
+      Codes-over_0 : (s : ℕ) → s ≤ 4096 → Codes (field 2 (from_to 1 s)) u16 (λ size. (1 ≤ size) × (size ≤ s))
+      Codes-over_0 s small =
           Codes-field 2 5 (from_to 1 s) (λ size. (1 ≤ size) × (size ≤ s))
           (λ x h l. let p = and_parts (nat_le 1 x) (nat_le x s) h in (leb-true 1 x p.0, leb-true x s p.1))
           (λ x h. (omega (arith, h.1), and_from (nat_le 1 x) (nat_le x s) (le-leb 1 x h.0) (le-leb x s h.1)))
 
 -- reading an interrupt undoes writing it
-pub Codes-interrupt : Codes interrupt interrupt_bytes IsInterrupt
-Codes-interrupt =
-    Codes-three (thread_part (λ x. x.thread)) (u32_part (λ x. x.index)) (u32_part (λ x. x.value))
+pub Codes-interrupt : (shape : Shape) → IsShape shape → Codes (interrupt shape) interrupt_bytes (IsInterrupt shape.threads)
+Codes-interrupt shape good =
+    Codes-three (thread_part shape good (λ x. x.thread)) (u32_part (λ x. x.index)) (u32_part (λ x. x.value))
     (λ t i value. record { thread = t; index = i; value = value }) (λ t i value. (refl, refl, refl)) (λ x. refl)
 
 any-contains : (xs : List ℕ) (x : ℕ) → list_any (λ k. k == x) xs ≡ true → Contains xs x

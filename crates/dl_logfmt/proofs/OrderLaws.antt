@@ -4,6 +4,7 @@ use Rattle.std.proofs.lemmas.Bool.{leb-true, le-leb, eqb-true, ne_eqb, cases_eq}
 use Rattle.std.proofs.lemmas.List.{nil_from_length, length_push}
 use Rattle.std.proofs.lemmas.List.Elements.{All-nil, All-cons, All-head, All-tail}
 use Rattle.dl_entry.specs.Actor.{code}
+use Rattle.dl_entry.specs.Numbers.{most_threads}
 use Rattle.dl_entry.specs.declared.actor.Actor.{Actor}
 use Rattle.dl_entry.specs.declared.actor.Actor.TheVariants.{Thread, Dma}
 use Rattle.spec_log.specs.declared.mode_name.ModeName.{ModeName}
@@ -29,11 +30,11 @@ order_of mode count = read (field 4 (λ n. n == ordered mode count)) actors
 actor_of-thread : (half : ℕ) → (half ≡ 15 → ⊥) → actor_of half ≡ Thread half
 actor_of-thread half h = rw (ne_eqb half 15 h) refl
 
-actor_of-code : (actor : Actor) → IsActor actor → actor_of (code actor) ≡ actor
+actor_of-code : (actor : Actor) → IsActor most_threads actor → actor_of (code actor) ≡ actor
 actor_of-code (Thread thread) h = actor_of-thread thread (λ e. omega arith)
 actor_of-code Dma h = refl
 
-code-small : (actor : Actor) → IsActor actor → code actor ≤ 15
+code-small : (actor : Actor) → IsActor most_threads actor → code actor ≤ 15
 code-small (Thread thread) h = omega arith
 code-small Dma h = omega arith
 
@@ -41,17 +42,17 @@ code-actor_of : (half : ℕ) → code (actor_of half) ≡ half
 code-actor_of half =
     elim (cases_eq half 15) [ inl e ↦ rw e refl | inr h ↦ rw (actor_of-thread half h) refl ]
 
-actor_of-good : (half : ℕ) → half ≤ 15 → IsActor (actor_of half)
+actor_of-good : (half : ℕ) → half ≤ 15 → IsActor most_threads (actor_of half)
 actor_of-good half h =
     elim (cases_eq half 15) [ inl e ↦ rw e tt | inr n ↦ rw (actor_of-thread half n) (omega arith) ]
 
 abbrev pub AreActors : ℕ → List Actor → Type 0
-AreActors n actors = (length actors ≡ n) × All IsActor actors
+AreActors n actors = (length actors ≡ n) × All (IsActor most_threads) actors
 
 Codes-none : Codes (actors 0) nibbles (AreActors 0)
 Codes-none =
     Codes-as (gives []) (λ xs. []) nibbles (λ xs. xs ≡ []) (AreActors 0) (Codes-gives [] (λ xs. xs ≡ []) refl (λ y e. e))
-    (λ xs e. rw e refl) (λ xs e. rw e (refl, All-nil IsActor)) (λ xs g. nil_from_length xs g.0)
+    (λ xs e. rw e refl) (λ xs e. rw e (refl, All-nil (IsActor most_threads))) (λ xs g. nil_from_length xs g.0)
 
 Codes-one : Codes (actors 1) nibbles (AreActors 1)
 Codes-one =
@@ -64,7 +65,7 @@ Codes-one =
           → (byte : ℕ) × (byte ≤ 15) × (y ≡ actor_of byte ∷ []) × (nibbles y ≡ u8 byte ++ [])
       one_split [] g = absurd (omega (arith, g.0))
       one_split (a ∷ []) g =
-          let good : IsActor a = All-head IsActor a [] g.1 in
+          let good : IsActor most_threads a = All-head (IsActor most_threads) a [] g.1 in
           let small = code-small a good in
           let low : code a % 256 ≡ code a = omega arith in
           (code a, small, rw (actor_of-code a good) refl, rw low refl)
@@ -73,7 +74,7 @@ Codes-one =
       one_join : (byte : ℕ) (y : List Actor) → byte ≤ 15 → y ≡ actor_of byte ∷ [] → AreActors 1 y × (nibbles y ≡ u8 byte ++ [])
       one_join byte y g e =
           let low : byte % 256 ≡ byte = omega arith in
-          rw (e, code-actor_of byte, low) ((refl, All-cons IsActor (actor_of byte) [] (actor_of-good byte g) (All-nil IsActor)), refl)
+          rw (e, code-actor_of byte, low) ((refl, All-cons (IsActor most_threads) (actor_of byte) [] (actor_of-good byte g) (All-nil (IsActor most_threads))), refl)
 
 -- two actors in a byte, and the others
 abbrev paired : ℕ → List Actor → List Actor
@@ -94,16 +95,16 @@ pair_split : (n : ℕ) (y : List Actor) → AreActors (suc (suc n)) y
 pair_split n [] g = absurd (omega (arith, g.0))
 pair_split n (a ∷ []) g = absurd (omega (arith, g.0))
 pair_split n (a ∷ b ∷ y) g =
-    let good_a : IsActor a = All-head IsActor a (b ∷ y) g.1 in
-    let tail : All IsActor (b ∷ y) = All-tail IsActor a (b ∷ y) g.1 in
-    let good_b : IsActor b = All-head IsActor b y tail in
+    let good_a : IsActor most_threads a = All-head (IsActor most_threads) a (b ∷ y) g.1 in
+    let tail : All (IsActor most_threads) (b ∷ y) = All-tail (IsActor most_threads) a (b ∷ y) g.1 in
+    let good_b : IsActor most_threads b = All-head (IsActor most_threads) b y tail in
     let small_a = code-small a good_a in
     let small_b = code-small b good_b in
     let byte = code a + 16 * code b in
     let low : byte % 16 ≡ code a = omega arith in
     let high : byte / 16 ≡ code b = omega arith in
     let same : byte % 256 ≡ byte = omega arith in
-    (byte, omega arith, (y, rw (low, high, actor_of-code a good_a, actor_of-code b good_b) refl, (omega (arith, g.0), All-tail IsActor b y tail)), rw same refl)
+    (byte, omega arith, (y, rw (low, high, actor_of-code a good_a, actor_of-code b good_b) refl, (omega (arith, g.0), All-tail (IsActor most_threads) b y tail)), rw same refl)
 
 pair_join : (n byte : ℕ) (y : List Actor) → byte < 256 → (rest : List Actor) × (y ≡ paired byte rest) × AreActors n rest
     → AreActors (suc (suc n)) y × (nibbles y ≡ u8 byte ++ nibbles (drop 2 y))
@@ -112,8 +113,8 @@ pair_join n byte y small r =
     let high : byte / 16 ≤ 15 = omega arith in
     let same : byte % 256 ≡ byte = omega arith in
     let whole : byte % 16 + 16 * (byte / 16) ≡ byte = omega arith in
-    let tail = All-cons IsActor (actor_of (byte / 16)) r.0 (actor_of-good (byte / 16) high) r.2.1 in
-    let good = All-cons IsActor (actor_of (byte % 16)) (actor_of (byte / 16) ∷ r.0) (actor_of-good (byte % 16) low) tail in
+    let tail = All-cons (IsActor most_threads) (actor_of (byte / 16)) r.0 (actor_of-good (byte / 16) high) r.2.1 in
+    let good = All-cons (IsActor most_threads) (actor_of (byte % 16)) (actor_of (byte / 16) ∷ r.0) (actor_of-good (byte % 16) low) tail in
     rw (r.1, code-actor_of (byte % 16), code-actor_of (byte / 16), whole, same) ((omega (arith, r.2.0), good), refl)
 
 pub Codes-actors : (n : ℕ) → Codes (actors n) nibbles (AreActors n)
@@ -125,15 +126,15 @@ Codes-actors (suc (suc n)) =
     (Codes-field 1 5 (λ x. true) (λ byte. byte < 256) (λ b h l. l) (λ b h. (h, refl)))
     (λ byte g. Codes-rest n byte (Codes-actors n)) (pair_split n) (pair_join n)
 
-order_good : (mode : ModeName) (count : ℕ) (order : List Actor) → (length order ≡ ordered mode count) × All IsActor order → IsOrder mode count order
+order_good : (mode : ModeName) (count : ℕ) (order : List Actor) → (length order ≡ ordered mode count) × All (IsActor most_threads) order → IsOrder mode most_threads count order
 order_good OrderSize count order h = h
 order_good OrderOnly count order h = h
 order_good Picolog count order h = nil_from_length order h.0
 
-order_parts : (mode : ModeName) (count : ℕ) (order : List Actor) → IsOrder mode count order → (length order ≡ ordered mode count) × All IsActor order
+order_parts : (mode : ModeName) (count : ℕ) (order : List Actor) → IsOrder mode most_threads count order → (length order ≡ ordered mode count) × All (IsActor most_threads) order
 order_parts OrderSize count order h = h
 order_parts OrderOnly count order h = h
-order_parts Picolog count order h = rw h (refl, All-nil IsActor)
+order_parts Picolog count order h = rw h (refl, All-nil (IsActor most_threads))
 
 ordered-small : (mode : ModeName) (count : ℕ) → count ≤ 2 ^ 24 → ordered mode count < 2 ^ 32
 ordered-small OrderSize count h = omega arith
@@ -141,14 +142,14 @@ ordered-small OrderOnly count h = omega arith
 ordered-small Picolog count h = omega arith
 
 -- reading an order undoes writing it
-pub Codes-order : (mode : ModeName) (count : ℕ) → count ≤ 2 ^ 24 → Codes (order_of mode count) order_bytes (IsOrder mode count)
-Codes-order mode count small =
-    Codes-as (order_of mode count) order_bytes order_bytes _ (IsOrder mode count)
-    (Codes-read (field 4 (λ n. n == ordered mode count)) actors length u32 (λ n. n ≡ ordered mode count) nibbles (All IsActor)
+pub Codes-order : (mode : ModeName) (threads count : ℕ) → threads ≡ most_threads → count ≤ 2 ^ 24 → Codes (order_of mode count) order_bytes (IsOrder mode threads count)
+Codes-order mode threads count all small =
+    rw all (Codes-as (order_of mode count) order_bytes order_bytes _ (IsOrder mode most_threads count)
+    (Codes-read (field 4 (λ n. n == ordered mode count)) actors length u32 (λ n. n ≡ ordered mode count) nibbles (All (IsActor most_threads))
     (Codes-field 4 5 (λ n. n == ordered mode count) (λ n. n ≡ ordered mode count) (λ n h l. eqb-true n (ordered mode count) h)
     (λ n h. (rw h (ordered-small mode count small), eq-eqb n (ordered mode count) h)))
     (λ n g. Codes-actors n))
-    (λ order h. refl) (order_good mode count) (order_parts mode count)
+    (λ order h. refl) (order_good mode count) (order_parts mode count))
 
 -- A stage of a file reads one byte of actors each time, of as many actors as this count.
 module _ {D : Type 0} (one : D → Reader D) (set : List Actor → D) (count : ℕ)

@@ -6,13 +6,15 @@ use Rattle.dl_entry.specs.declared.actor.Actor.{Actor}
 use Rattle.spec_log.specs.declared.draft.Draft.{Draft}
 use Rattle.spec_log.specs.declared.mode_name.ModeName.{ModeName}
 use Rattle.spec_log.specs.declared.mode_name.ModeName.TheVariants.{OrderSize, OrderOnly, Picolog}
+use Rattle.dl_entry.specs.Numbers.{least_chunk}
 use Rattle.spec_log.specs.Fields.{ParseError, Reader, Stage, fails, read, gives, number, field, any, at_most, from_to, one_more}
-use Rattle.spec_log.specs.Reading.{interrupt, input, dma, is_earlier, last_actor, log_of, more_actors, one_size, ordered, short_size, size_count, two_actors}
+use Rattle.spec_log.specs.Log.{most_standard}
+use Rattle.spec_log.specs.Reading.{interrupt, input, dma, is_earlier, last_actor, log_of, more_actors, one_size, ordered, short_size, size, size_count, thread_count, two_actors}
 use Rattle.dl_logfmt.specs.Answer.{Answers, Makes}
 use Rattle.dl_logfmt.specs.declared.error.LogError.{LogError}
 use Rattle.dl_logfmt.specs.declared.error.LogError.TheVariants.{Malformed, OutOfMemory}
 use Rattle.dl_logfmt.specs.declared.stage_name.StageName.{StageName}
-use Rattle.dl_logfmt.specs.declared.stage_name.StageName.TheVariants.{Magic, Version, Mode, Spare, ChunkSize, Count, Order, Sizes, Interrupts, Inputs, Dmas, End}
+use Rattle.dl_logfmt.specs.declared.stage_name.StageName.TheVariants.{Magic, Version, Mode, Threads, ChunkSize, Count, Order, Sizes, Interrupts, Inputs, Dmas, End}
 use Rattle.dl_logfmt.specs.declared.parser.Parser.{Parser}
 use Rattle.dl_logfmt.specs.Parsing.{Came, Extends, Feeds, Grew, Reads, Steps, ahead, cut, mark_of, most, next, rank, remaining, said, said_in, stage_at}
 use Rattle.dl_logfmt.specs.Streams.{Stops, Streams, rest_in}
@@ -23,7 +25,7 @@ pub ahead-more : (stage : StageName) → (stage ≡ End → ⊥) → ahead stage
 ahead-more Magic more = refl
 ahead-more Version more = refl
 ahead-more Mode more = refl
-ahead-more Spare more = refl
+ahead-more Threads more = refl
 ahead-more ChunkSize more = refl
 ahead-more Count more = refl
 ahead-more Order more = refl
@@ -37,7 +39,7 @@ rank-more : (stage : StageName) → (stage ≡ End → ⊥) → (rank stage ≤ 
 rank-more Magic more = (omega arith, omega arith)
 rank-more Version more = (omega arith, omega arith)
 rank-more Mode more = (omega arith, omega arith)
-rank-more Spare more = (omega arith, omega arith)
+rank-more Threads more = (omega arith, omega arith)
 rank-more ChunkSize more = (omega arith, omega arith)
 rank-more Count more = (omega arith, omega arith)
 rank-more Order more = (omega arith, omega arith)
@@ -64,7 +66,7 @@ Streams-times : (stage : StageName) (d : Draft) → Streams 4 ((stage_at stage).
 Streams-times Magic d = Streams-one 1
 Streams-times Version d = Streams-one 1
 Streams-times Mode d = Streams-one 1
-Streams-times Spare d = Streams-one 1
+Streams-times Threads d = Streams-one 1
 Streams-times ChunkSize d = Streams-one 1
 Streams-times Count d = Streams-one 1
 Streams-times Order d = Streams-put 4 4 (field 4 (λ n. n == ordered d.mode d.count)) _ (omega arith) (Streams-field 4 (λ n. n == ordered d.mode d.count))
@@ -80,28 +82,28 @@ Streams-actors false order = Streams-put 1 1 (any 1) _ (omega arith) (Streams-an
 
 Streams-size : (m : ModeName) (d : Draft) → Streams 4103 (one_size m d)
 Streams-size OrderSize d =
-    Streams-put 2 4103 (one_more (λ x y. true) (field 2 (at_most d.s)) d.each) _ (omega arith) (Streams-one_more 2 (λ x y. true) (field 2 (at_most d.s)) d.each (Streams-field 2 (at_most d.s)))
+    Streams-put 2 4103 (one_more (λ x y. true) (size d.shape) d.each) _ (omega arith) (Streams-one_more 2 (λ x y. true) (size d.shape) d.each (Streams-field 2 (at_most d.shape.s)))
 Streams-size OrderOnly d =
-    Streams-put 7 4103 (one_more (λ x y. is_earlier x.thread x.index y.thread y.index) (short_size d.s) d.short) _ (omega arith) (Streams-one_more 7 _ (short_size d.s) d.short (Streams-short_size d.s))
+    Streams-put 7 4103 (one_more (λ x y. is_earlier x.thread x.index y.thread y.index) (short_size d.shape) d.short) _ (omega arith) (Streams-one_more 7 _ (short_size d.shape) d.short (Streams-short_size d.shape))
 Streams-size Picolog d =
-    Streams-put 7 4103 (one_more (λ x y. is_earlier x.thread x.index y.thread y.index) (short_size d.s) d.short) _ (omega arith) (Streams-one_more 7 _ (short_size d.s) d.short (Streams-short_size d.s))
-
-Streams-constant : (width fault value : ℕ) (d : Draft) → width ≤ 4103 → (fault ≡ 1 → ⊥) → Streams 4103 (read (number width fault (λ x. x == value)) (λ x. gives d))
-Streams-constant width fault value d le other =
-    Streams-put width 4103 (number width fault (λ x. x == value)) (λ x. d) le (Streams-number width fault (λ x. x == value) other)
+    Streams-put 7 4103 (one_more (λ x y. is_earlier x.thread x.index y.thread y.index) (short_size d.shape) d.short) _ (omega arith) (Streams-one_more 7 _ (short_size d.shape) d.short (Streams-short_size d.shape))
 
 -- what a stage reads each time is a stream
 Streams-once : (stage : StageName) (d : Draft) → Streams 4103 ((stage_at stage).one d)
-Streams-once Magic d = Streams-constant 4 2 0x4E524C44 d (omega arith) (λ e. absurd (omega arith))
-Streams-once Version d = Streams-constant 1 3 1 d (omega arith) (λ e. absurd (omega arith))
+Streams-once Magic d = Streams-put 4 4103 (number 4 2 (λ x. x == 0x4E524C44)) _ (omega arith) (Streams-number 4 2 (λ x. x == 0x4E524C44) (λ e. absurd (omega arith)))
+Streams-once Version d = Streams-put 1 4103 (number 1 3 (λ x. x == 1)) _ (omega arith) (Streams-number 1 3 (λ x. x == 1) (λ e. absurd (omega arith)))
 Streams-once Mode d = Streams-put 1 4103 (number 1 4 (at_most 2)) _ (omega arith) (Streams-number 1 4 (at_most 2) (λ e. absurd (omega arith)))
-Streams-once Spare d = Streams-constant 2 5 0 d (omega arith) (λ e. absurd (omega arith))
-Streams-once ChunkSize d = Streams-put 4 4103 (field 4 (from_to 16 4096)) _ (omega arith) (Streams-field 4 (from_to 16 4096))
+Streams-once Threads d =
+    Streams-put 2 4103 (thread_count d.shape.version) _ (omega arith) (Streams-put 2 2 (field 2 (λ x. x == 0)) _ (omega arith) (Streams-field 2 (λ x. x == 0)))
+Streams-once ChunkSize d =
+    Streams-put 4 4103 (field 4 (from_to least_chunk (most_standard d.shape.version))) _ (omega arith)
+    (Streams-field 4 (from_to least_chunk (most_standard d.shape.version)))
 Streams-once Count d = Streams-put 4 4103 (field 4 (at_most (2 ^ 24))) _ (omega arith) (Streams-field 4 (at_most (2 ^ 24)))
 Streams-once Order d = Streams-put 1 4103 (more_actors d.count d.order) _ (omega arith) (Streams-actors (length d.order + 1 == d.count) d.order)
 Streams-once Sizes d = Streams-size d.mode d
 Streams-once Interrupts d =
-    Streams-put 9 4103 (one_more (λ x y. is_earlier x.thread x.index y.thread y.index) interrupt d.interrupts) _ (omega arith) (Streams-one_more 9 _ interrupt d.interrupts Streams-interrupt)
+    Streams-put 9 4103 (one_more (λ x y. is_earlier x.thread x.index y.thread y.index) (interrupt d.shape) d.interrupts) _ (omega arith)
+    (Streams-one_more 9 _ (interrupt d.shape) d.interrupts (Streams-interrupt d.shape))
 Streams-once Inputs d =
     Streams-put 4103 4103 (one_more (λ x y. true) input d.inputs) _ (omega arith) (Streams-one_more 4103 (λ x y. true) input d.inputs Streams-input)
 Streams-once Dmas d =

@@ -5,7 +5,8 @@ use Rattle.std.proofs.lemmas.Bool.{ltb-false, ltb-true, le-ltb, lt-ltb, leb-true
 use Rattle.std.proofs.lemmas.List.{drop_at, drop-drop, drop-append-le, take-append-le, length-drop}
 use Rattle.spec_log.specs.Log.{input_kinds}
 use Rattle.spec_log.specs.Fields.{ParseError, Read, Reader, continues, fails, read, gives, raw, passes, number, number_of, field, any, at_most, from_to, comes_after, last, next_entry, one_more}
-use Rattle.spec_log.specs.Reading.{thread, short_size, interrupt, counted, input, dma}
+use Rattle.spec_log.specs.declared.shape.Shape.{Shape}
+use Rattle.spec_log.specs.Reading.{thread, size, short_size, interrupt, counted, input, dma}
 use Rattle.dl_logfmt.specs.Streams.{Holds, Streams, Leads, Stops}
 
 -- a bound may be wider
@@ -135,15 +136,15 @@ pub Streams-any : (width : ℕ) → Streams width (any width)
 Streams-any width = Streams-field width (λ x. true)
 
 -- the entry of a short chunk's size is a stream of 7 bytes
-pub Streams-short_size : (s : ℕ) → Streams 7 (short_size s)
-Streams-short_size s =
-    Streams-read 1 6 thread _ (Streams-field 1 (at_most 14)) (λ t. Streams-read 4 2 (any 4) _ (Streams-any 4) (λ i.
-    Streams-read 2 0 (field 2 (from_to 1 s)) _ (Streams-field 2 (from_to 1 s)) (λ size. Streams-gives _)))
+pub Streams-short_size : (shape : Shape) → Streams 7 (short_size shape)
+Streams-short_size shape =
+    Streams-read 1 6 (thread shape) _ (Streams-field 1 (λ t. nat_lt t shape.threads)) (λ t. Streams-read 4 2 (any 4) _ (Streams-any 4) (λ i.
+    Streams-read 2 0 (field 2 (from_to 1 shape.s)) _ (Streams-field 2 (from_to 1 shape.s)) (λ size. Streams-gives _)))
 
 -- the entry of an interrupt is a stream of 9 bytes
-pub Streams-interrupt : Streams 9 interrupt
-Streams-interrupt =
-    Streams-read 1 8 thread _ (Streams-field 1 (at_most 14)) (λ t. Streams-read 4 4 (any 4) _ (Streams-any 4) (λ i.
+pub Streams-interrupt : (shape : Shape) → Streams 9 (interrupt shape)
+Streams-interrupt shape =
+    Streams-read 1 8 (thread shape) _ (Streams-field 1 (λ t. nat_lt t shape.threads)) (λ t. Streams-read 4 4 (any 4) _ (Streams-any 4) (λ i.
     Streams-read 4 0 (any 4) _ (Streams-any 4) (λ value. Streams-gives _)))
 
 -- a number that passed its test

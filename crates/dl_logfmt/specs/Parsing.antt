@@ -1,13 +1,13 @@
 -- A log of which a part was read: what is still to be read of it, how it grows, and what its bytes say.
 use Rattle.std.specs.Prelude.{◌≡◌, ℕ, ◌+◌, ◌-◌, ◌*◌, ◌<◌, ◌≤◌, List, [], ◌∷◌, ◌++◌, length, take, drop, Option, Some, None, Result, Ok, Err}
 use Rattle.spec_log.specs.Fields.{ParseError, Reader, Stage, fails, gives, once}
-use Rattle.spec_log.specs.Reading.{stages, magic, version, mode, spare, chunk_size, commits, order, sizes, interrupts, inputs, dmas, blank, ended, log_of}
+use Rattle.spec_log.specs.Reading.{stages, magic, version, mode, threads, chunk_size, commits, order, sizes, interrupts, inputs, dmas, blank, ended, log_of}
 use Rattle.spec_log.specs.declared.draft.Draft.{Draft}
 use Rattle.spec_log.specs.declared.log.LogParts.{LogParts}
 use Rattle.dl_logfmt.specs.declared.error.LogError.{LogError}
 use Rattle.dl_logfmt.specs.declared.error.LogError.TheVariants.{Malformed, OutOfMemory}
 use Rattle.dl_logfmt.specs.declared.stage_name.StageName.{StageName}
-use Rattle.dl_logfmt.specs.declared.stage_name.StageName.TheVariants.{Magic, Version, Mode, Spare, ChunkSize, Count}
+use Rattle.dl_logfmt.specs.declared.stage_name.StageName.TheVariants.{Magic, Version, Mode, Threads, ChunkSize, Count}
 use Rattle.dl_logfmt.specs.declared.stage_name.StageName.TheVariants.{Order, Sizes, Interrupts, Inputs, Dmas, End}
 use Rattle.dl_logfmt.specs.declared.parser.Parser.{Parser}
 use Rattle.dl_logfmt.specs.declared.mark.Mark.{Mark}
@@ -18,7 +18,7 @@ abbrev pub stage_at : StageName → Stage Draft
 stage_at Magic = magic
 stage_at Version = version
 stage_at Mode = mode
-stage_at Spare = spare
+stage_at Threads = threads
 stage_at ChunkSize = chunk_size
 stage_at Count = commits
 stage_at Order = order
@@ -32,8 +32,8 @@ stage_at End = once gives
 abbrev pub next : StageName → StageName
 next Magic = Version
 next Version = Mode
-next Mode = Spare
-next Spare = ChunkSize
+next Mode = Threads
+next Threads = ChunkSize
 next ChunkSize = Count
 next Count = Order
 next Order = Sizes
@@ -48,7 +48,7 @@ abbrev pub rank : StageName → ℕ
 rank Magic = 0
 rank Version = 1
 rank Mode = 2
-rank Spare = 3
+rank Threads = 3
 rank ChunkSize = 4
 rank Count = 5
 rank Order = 6
@@ -101,8 +101,8 @@ mark_of p =
     record {
       stage = p.stage;
       left = p.left;
+      shape = p.draft.shape;
       mode = p.draft.mode;
-      s = p.draft.s;
       count = p.draft.count;
       order = length p.draft.order;
       each = length p.draft.each;
@@ -119,8 +119,8 @@ cut mark p =
       stage = mark.stage;
       left = mark.left;
       draft = record {
+        shape = mark.shape;
         mode = mark.mode;
-        s = mark.s;
         count = mark.count;
         order = take mark.order p.draft.order;
         each = take mark.each p.draft.each;

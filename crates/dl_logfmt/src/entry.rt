@@ -1,9 +1,11 @@
 //! The entries of a log's sections.
 ghost use Rattle.std.specs.Prelude.{◌≡◌, ℕ, ◌<◌, ◌≤◌, Bool, true, List, length, nat_lt};
+ghost use Rattle.dl_entry.specs.Numbers.{most_chunk, most_threads};
 ghost use Rattle.spec_log.specs.Bytes.{u16 as size_bytes, short_size_bytes, interrupt_bytes, input_bytes, dma_bytes};
 ghost use Rattle.spec_log.specs.Log.{IsShortSize, IsInterrupt, IsInput, IsDmaRecord};
-ghost use Rattle.spec_log.specs.Fields.{Reader, field, at_most};
-ghost use Rattle.spec_log.specs.Reading.{short_size, interrupt, input, dma, is_earlier};
+ghost use Rattle.spec_log.specs.Fields.{Reader};
+ghost use Rattle.spec_log.specs.Reading.{size, short_size, interrupt, input, dma, is_earlier};
+ghost use Rattle.spec_log.specs.declared.shape.Shape.{Shape};
 ghost use Rattle.dl_logfmt.specs.Answer.{Answers};
 
 use crate::error::LogError;
@@ -13,11 +15,11 @@ use crate::recorded::{is_before, read_counted, read_kind, read_short};
 use crate::source::Source;
 use crate::unit::Unit;
 use dl_entry::Input;
-use spec_log::{DmaRecord, Interrupt, ShortSize};
+use spec_log::{DmaRecord, Interrupt, Shape, ShortSize};
 
 /// What stands in a section.
 pub trait Entry: Drop {
-    ghost reader: { ℕ → Reader Self };
+    ghost reader: { Shape → Reader Self };
 
     ghost earlier: { Self → Self → Bool };
 
@@ -25,11 +27,11 @@ pub trait Entry: Drop {
 
     ghost bytes: { Self → List ℕ };
 
-    /// The next entry of a log whose standard chunks have `s` instructions.
-    fn read(source: &Source<'_>, at: &mut usize, s: u32) -> Result<Self, LogError>
+    /// The next entry of a log of this shape.
+    fn read(source: &Source<'_>, at: &mut usize, shape: Shape) -> Result<Self, LogError>
     where
         Self: Sized,
-        ensures { Answers (reader s source.now.bytes.now at.old) result at.new };
+        ensures { Answers (reader shape source.now.bytes.now at.old) result at.new };
 
     /// Whether a later entry of the section may follow this one.
     fn comes_before(&self, later: &Self) -> bool
@@ -43,18 +45,18 @@ pub trait Entry: Drop {
 
 /// The size of a commit, where each commit has one.
 impl Entry for u32 {
-    ghost reader = { λ s. field 2 (at_most s) };
+    ghost reader = { size };
 
     ghost earlier = { λ x y. true };
 
-    ghost good = { λ size. size ≤ 4096 };
+    ghost good = { λ size. size ≤ most_chunk };
 
     ghost bytes = { size_bytes };
 
-    fn read(source: &Source<'_>, at: &mut usize, s: u32) -> Result<u32, LogError> {
+    fn read(source: &Source<'_>, at: &mut usize, shape: Shape) -> Result<u32, LogError> {
         let start = *at;
         let size = u32::from(read_u16(source.bytes, at)?);
-        judge(size <= s, FIELD, start)?;
+        judge(size <= shape.s, FIELD, start)?;
         Ok(size)
     }
 
@@ -74,14 +76,14 @@ impl Entry for ShortSize {
 
     ghost earlier = { λ x y. is_earlier x.thread x.index y.thread y.index };
 
-    ghost good = { IsShortSize 4096 };
+    ghost good = { IsShortSize most_threads most_chunk };
 
     ghost bytes = { short_size_bytes };
 
-    fn read(source: &Source<'_>, at: &mut usize, s: u32) -> Result<ShortSize, LogError> {
-        let thread = read_thread(source.bytes, at)?;
+    fn read(source: &Source<'_>, at: &mut usize, shape: Shape) -> Result<ShortSize, LogError> {
+        let thread = read_thread(source.bytes, at, shape)?;
         let index = read_u32(source.bytes, at)?;
-        let size = read_short(source.bytes, at, s)?;
+        let size = read_short(source.bytes, at, shape.s)?;
         Ok(ShortSize {
             thread,
             index,
@@ -103,16 +105,16 @@ impl Entry for ShortSize {
 }
 
 impl Entry for Interrupt {
-    ghost reader = { λ s. interrupt };
+    ghost reader = { interrupt };
 
     ghost earlier = { λ x y. is_earlier x.thread x.index y.thread y.index };
 
-    ghost good = { IsInterrupt };
+    ghost good = { IsInterrupt most_threads };
 
     ghost bytes = { interrupt_bytes };
 
-    fn read(source: &Source<'_>, at: &mut usize, _: u32) -> Result<Interrupt, LogError> {
-        let thread = read_thread(source.bytes, at)?;
+    fn read(source: &Source<'_>, at: &mut usize, shape: Shape) -> Result<Interrupt, LogError> {
+        let thread = read_thread(source.bytes, at, shape)?;
         let index = read_u32(source.bytes, at)?;
         let value = read_u32(source.bytes, at)?;
         Ok(Interrupt {
@@ -136,7 +138,7 @@ impl Entry for Interrupt {
 }
 
 impl Entry for Input {
-    ghost reader = { λ s. input };
+    ghost reader = { λ shape. input };
 
     ghost earlier = { λ x y. true };
 
@@ -144,7 +146,7 @@ impl Entry for Input {
 
     ghost bytes = { input_bytes };
 
-    fn read(source: &Source<'_>, at: &mut usize, _: u32) -> Result<Input, LogError> {
+    fn read(source: &Source<'_>, at: &mut usize, _: Shape) -> Result<Input, LogError> {
         let kind = read_kind(source.bytes, at)?;
         let answer = read_u32(source.bytes, at)?;
         let bytes = read_counted(source, at)?;
@@ -169,7 +171,7 @@ impl Entry for Input {
 }
 
 impl Entry for DmaRecord {
-    ghost reader = { λ s. dma };
+    ghost reader = { λ shape. dma };
 
     ghost earlier = { λ x y. nat_lt x.position y.position };
 
@@ -177,7 +179,7 @@ impl Entry for DmaRecord {
 
     ghost bytes = { dma_bytes };
 
-    fn read(source: &Source<'_>, at: &mut usize, _: u32) -> Result<DmaRecord, LogError> {
+    fn read(source: &Source<'_>, at: &mut usize, _: Shape) -> Result<DmaRecord, LogError> {
         let position = read_u32(source.bytes, at)?;
         let bytes = read_counted(source, at)?;
         Ok(DmaRecord { position, bytes })

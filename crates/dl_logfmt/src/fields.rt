@@ -1,11 +1,13 @@
 //! The fields of a log that stand alone.
 ghost use Rattle.std.specs.Prelude.{◌≡◌, ◌≢◌, ◌^◌, ◌==◌, IfErr};
 ghost use Rattle.spec_log.specs.Fields.{number, field, at_most, from_to};
-ghost use Rattle.spec_log.specs.Reading.{mode_of as mode_by};
+ghost use Rattle.dl_entry.specs.Numbers.{least_chunk, most_chunk};
+ghost use Rattle.spec_log.specs.Reading.{mode_of as mode_by, thread_count};
 ghost use Rattle.dl_logfmt.specs.Answer.{Answers};
 
 use crate::error::LogError;
 use crate::numbers::{FIELD, judge, read_u8, read_u16, read_u32};
+use dl_entry::{LEAST_CHUNK, MOST_CHUNK, MOST_THREADS};
 use spec_log::ModeName;
 
 /// The magic word.
@@ -41,15 +43,15 @@ pub fn read_code(bytes: &[u8], at: &mut usize) -> Result<u8, LogError>
     Ok(code)
 }
 
-/// The two zero bytes.
-pub fn read_spare(bytes: &[u8], at: &mut usize) -> Result<u16, LogError>
-    ensures value { Answers (field 2 (λ spare. spare == 0) bytes.now at.old) result at.new }
+/// How many threads the log may have: version 1 doesn't say it, and has two zero bytes there.
+pub fn read_threads(bytes: &[u8], at: &mut usize) -> Result<u8, LogError>
+    ensures value { Answers (thread_count 1 bytes.now at.old) result at.new }
     ensures no_memory { IfErr result (λ e. e ≢ LogError.OutOfMemory) }
 {
     let start = *at;
     let spare = read_u16(bytes, at)?;
     judge(spare == 0, FIELD, start)?;
-    Ok(spare)
+    Ok(MOST_THREADS)
 }
 
 /// The mode of a code.
@@ -65,12 +67,12 @@ pub fn mode_of(code: u8) -> ModeName
 
 /// The standard chunk size.
 pub fn read_chunk_size(bytes: &[u8], at: &mut usize) -> Result<u32, LogError>
-    ensures value { Answers (field 4 (from_to 16 4096) bytes.now at.old) result at.new }
+    ensures value { Answers (field 4 (from_to least_chunk most_chunk) bytes.now at.old) result at.new }
     ensures no_memory { IfErr result (λ e. e ≢ LogError.OutOfMemory) }
 {
     let start = *at;
     let s = read_u32(bytes, at)?;
-    judge(16 <= s && s <= 4096, FIELD, start)?;
+    judge(LEAST_CHUNK <= s && s <= MOST_CHUNK, FIELD, start)?;
     Ok(s)
 }
 

@@ -5,15 +5,15 @@ ghost use Rattle.dl_logfmt.specs.Parsing.{cut as cut_back, mark_of};
 use crate::parser::Parser;
 use crate::stage_name::StageName;
 use dl_entry::Sequence;
-use spec_log::ModeName;
+use spec_log::{ModeName, Shape};
 
 /// What a parser reads next, the fields that it has read, and the numbers of its entries.
 #[derive(Clone, Copy)]
 pub struct Mark {
     pub stage: StageName,
     pub left: Option<u32>,
+    pub shape: Shape,
     pub mode: ModeName,
-    pub s: u32,
     pub count: u32,
     pub order: usize,
     pub each: usize,
@@ -32,8 +32,8 @@ impl Parser {
         Mark {
             stage: self.stage,
             left: self.left,
+            shape: draft.shape,
             mode: draft.mode,
-            s: draft.s,
             count: draft.count,
             order: draft.order.len(),
             each: draft.each.len(),
@@ -50,8 +50,8 @@ impl Parser {
     {
         self.stage = mark.stage;
         self.left = mark.left;
+        self.draft.shape = mark.shape;
         self.draft.mode = mark.mode;
-        self.draft.s = mark.s;
         self.draft.count = mark.count;
         cut(&mut self.draft.order, mark.order);
         cut(&mut self.draft.each, mark.each);

@@ -6,7 +6,7 @@ ghost use Rattle.spec_log.specs.Reading.{thread};
 
 use crate::error::LogError;
 use byteorder::{ByteOrder, LittleEndian};
-use dl_entry::GREATEST_THREAD;
+use spec_log::Shape;
 
 /// The number of a value out of its range.
 pub const FIELD: u8 = 5;
@@ -66,13 +66,13 @@ pub fn judge(good: bool, number: u8, start: usize) -> Result<(), LogError>
     }
 }
 
-/// A thread's number.
-pub fn read_thread(bytes: &[u8], at: &mut usize) -> Result<u8, LogError>
-    ensures value { Answers (thread bytes.now at.old) result at.new }
+/// A thread's number, in a log of this shape.
+pub fn read_thread(bytes: &[u8], at: &mut usize, shape: Shape) -> Result<u8, LogError>
+    ensures value { Answers (thread shape bytes.now at.old) result at.new }
     ensures no_memory { IfErr result (λ e. e ≢ LogError.OutOfMemory) }
 {
     let start = *at;
     let thread = read_u8(bytes, at)?;
-    judge(thread <= GREATEST_THREAD, FIELD, start)?;
+    judge(thread < shape.threads, FIELD, start)?;
     Ok(thread)
 }

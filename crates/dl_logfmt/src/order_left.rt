@@ -1,5 +1,6 @@
 //! What is left of the order.
 ghost use Rattle.std.specs.Prelude.{◌≡◌, ◌<◌, ◌^◌, length, All};
+ghost use Rattle.dl_entry.specs.Numbers.{most_threads};
 ghost use Rattle.spec_log.specs.Bytes.{order_bytes};
 ghost use Rattle.spec_log.specs.Log.{IsActor};
 ghost use Rattle.dl_logfmt.specs.Writing.{IsNextUnit};
@@ -17,6 +18,7 @@ pub struct OrderLeft<'a> {
 
 impl<'a> Model for OrderLeft<'a> {
     ghost use Rattle.std.specs.Prelude.{ℕ, ◌<◌, ◌^◌, List, length, All};
+    ghost use Rattle.dl_entry.specs.Numbers.{most_threads};
     ghost use Rattle.spec_log.specs.Log.{IsActor};
     ghost use Rattle.dl_logfmt.specs.Writing.{order_left};
 
@@ -24,13 +26,13 @@ impl<'a> Model for OrderLeft<'a> {
 
     ghost view = { λ o. order_left o.begun o.actors.now };
 
-    ghost invariant = { λ o. (length o.actors.now < 2 ^ 32) × All IsActor o.actors.now };
+    ghost invariant = { λ o. (length o.actors.now < 2 ^ 32) × All (IsActor most_threads) o.actors.now };
 }
 
 impl<'a> OrderLeft<'a> {
     pub fn new(actors: &'a [Actor]) -> OrderLeft<'a>
         requires few { length actors.now < 2 ^ 32 }
-        requires each { All IsActor actors.now }
+        requires each { All (IsActor most_threads) actors.now }
         ensures { result ≡ order_bytes actors.now }
     {
         OrderLeft {

@@ -8,7 +8,7 @@ use crate::source::Source;
 use crate::stage_name::StageName;
 use crate::stages::{read_once, read_times};
 use dl_entry::Sequence;
-use spec_log::{Draft, ModeName, Order};
+use spec_log::{Draft, ModeName, Order, Shape};
 use std::alloc::Global;
 
 /// The stage that is read, how many times it still is once that is known, and what was read.
@@ -28,8 +28,12 @@ impl Parser {
             stage: StageName::Magic,
             left: None,
             draft: Draft {
+                shape: Shape {
+                    version: 0,
+                    threads: 0,
+                    s: 0,
+                },
                 mode: ModeName::OrderSize,
-                s: 0,
                 count: 0,
                 order: Order::new(alloc),
                 each: Sequence::new(alloc),

@@ -126,8 +126,8 @@ fn log_of(draft: Draft) -> LogParts
     ensures { result ≡ log_in draft }
 {
     let Draft {
+        shape,
         mode,
-        s,
         count,
         order,
         each,
@@ -141,8 +141,10 @@ fn log_of(draft: Draft) -> LogParts
         ModeName::OrderOnly | ModeName::Picolog => Sizes::Short(short),
     };
     LogParts {
+        version: shape.version,
+        threads: shape.threads,
         mode,
-        s,
+        s: shape.s,
         count,
         order,
         sizes,

@@ -9,18 +9,19 @@ use crate::error::LogError;
 use crate::numbers::judge;
 use crate::source::Source;
 use dl_entry::Sequence;
+use spec_log::Shape;
 
-/// Reads one entry more of a list, in a log whose standard chunks have `s` instructions.
+/// Reads one entry more of a list, in a log of this shape.
 pub fn read_next<E: Entry>(
     list: &mut Sequence<E>,
     source: &Source<'_>,
     at: &mut usize,
-    s: u32,
+    shape: Shape,
 ) -> Result<(), LogError>
-    ensures made { Makes (one_more E.earlier (E.reader s) list.old source.now.bytes.now at.old) result list.old list.new at.new }
+    ensures made { Makes (one_more E.earlier (E.reader shape) list.old source.now.bytes.now at.old) result list.old list.new at.new }
     ensures grown { Extends list.old list.new }
 {
-    let entry = read_entry(source, at, s, list)?;
+    let entry = read_entry(source, at, shape, list)?;
     list.push(entry)?;
     Ok(())
 }
@@ -29,13 +30,13 @@ pub fn read_next<E: Entry>(
 fn read_entry<E: Entry>(
     source: &Source<'_>,
     at: &mut usize,
-    s: u32,
+    shape: Shape,
     before: &Sequence<E>,
 ) -> Result<E, LogError>
-    ensures { Answers (next_entry E.earlier (E.reader s) before.now source.now.bytes.now at.old) result at.new }
+    ensures { Answers (next_entry E.earlier (E.reader shape) before.now source.now.bytes.now at.old) result at.new }
 {
     let start = *at;
-    let entry = E::read(source, at, s)?;
+    let entry = E::read(source, at, shape)?;
     judge(follows(before, &entry), 6, start)?;
     Ok(entry)
 }

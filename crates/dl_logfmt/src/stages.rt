@@ -5,7 +5,7 @@ ghost use Rattle.spec_log.specs.Reading.{one_size, size_count};
 
 use crate::error::LogError;
 use crate::fields::{
-    mode_of, read_chunk_size, read_code, read_count, read_magic, read_sized, read_spare,
+    mode_of, read_chunk_size, read_code, read_count, read_magic, read_sized, read_threads,
     read_version,
 };
 use crate::numbers::read_u32;
@@ -65,20 +65,16 @@ pub fn read_once(
         StageName::Magic => {
             read_magic(bytes, at)?;
         }
-        StageName::Version => {
-            read_version(bytes, at)?;
-        }
+        StageName::Version => draft.shape.version = read_version(bytes, at)?,
         StageName::Mode => draft.mode = mode_of(read_code(bytes, at)?),
-        StageName::Spare => {
-            read_spare(bytes, at)?;
-        }
-        StageName::ChunkSize => draft.s = read_chunk_size(bytes, at)?,
+        StageName::Threads => draft.shape.threads = read_threads(bytes, at)?,
+        StageName::ChunkSize => draft.shape.s = read_chunk_size(bytes, at)?,
         StageName::Count => draft.count = read_count(bytes, at)?,
         StageName::Order => read_actors(&mut draft.order, bytes, at, draft.count)?,
         StageName::Sizes => read_size(draft, source, at)?,
-        StageName::Interrupts => read_next(&mut draft.interrupts, source, at, draft.s)?,
-        StageName::Inputs => read_next(&mut draft.inputs, source, at, draft.s)?,
-        StageName::Dmas => read_next(&mut draft.dmas, source, at, draft.s)?,
+        StageName::Interrupts => read_next(&mut draft.interrupts, source, at, draft.shape)?,
+        StageName::Inputs => read_next(&mut draft.inputs, source, at, draft.shape)?,
+        StageName::Dmas => read_next(&mut draft.dmas, source, at, draft.shape)?,
         StageName::End => {}
     }
     Ok(())
@@ -90,7 +86,12 @@ fn read_size(draft: &mut Draft, source: &Source<'_>, at: &mut usize) -> Result<(
     ensures grown { Grew draft.old draft.new }
 {
     match draft.mode {
-        ModeName::OrderSize => read_next(&mut draft.each, source, at, draft.s),
-        ModeName::OrderOnly | ModeName::Picolog => read_next(&mut draft.short, source, at, draft.s),
+        ModeName::OrderSize => read_next(&mut draft.each, source, at, draft.shape),
+        ModeName::OrderOnly | ModeName::Picolog => read_next(
+            &mut draft.short,
+            source,
+            at,
+            draft.shape,
+        ),
     }
 }

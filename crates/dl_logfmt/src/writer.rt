@@ -58,7 +58,7 @@ fn header<'a>(parts: &LogParts) -> Unit<'a>
 {
     let mut fixed = Fixed::new();
     fixed.put(b"DLRN");
-    fixed.put_u8(1);
+    fixed.put_u8(parts.version);
     fixed.put_u8(parts.mode.code());
     fixed.put_u16(0);
     fixed.put_u32(parts.s);

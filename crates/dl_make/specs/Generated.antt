@@ -14,7 +14,7 @@ use Rattle.dl_asm.specs.File.{file_of}
 
 -- ---- what the number says
 
--- the threads beside the first one: 1 to 7
+-- the threads besides the first one: 1 to 7
 abbrev pub spawned_of : (number : ℕ) → ℕ
 spawned_of v = 1 + v % 7
 
@@ -22,13 +22,13 @@ spawned_of v = 1 + v % 7
 abbrev pub rounds_of : (number : ℕ) → ℕ
 rounds_of v = 16 + v / 8 % 1024
 
--- the words of the threads' own are 4, 8, 16, 32 or 64 bytes apart, by the power of 2
+-- the threads' own words are 4, 8, 16, 32 or 64 bytes apart: 2 to this power
 abbrev pub power_of : (number : ℕ) → ℕ
 power_of v = 2 + v % 5
 
 -- ---- instructions, each with its registers and numbers as the assembler writes them
 
--- so far below 0, in two's complement
+-- the number that far below 0, in two's complement
 abbrev pub below : (bits distance : ℕ) → ℕ
 below bits n = 2 ^ bits - n
 
@@ -47,7 +47,7 @@ lw rd offset rs1 = Instr.Load LoadOp.Lw rd rs1 offset
 abbrev pub sw : (rs2 offset rs1 : ℕ) → Instr
 sw rs2 offset rs1 = Instr.Store StoreOp.Sw rs1 rs2 offset
 
--- back by so many bytes
+-- back by that many bytes
 abbrev pub bne_back : (rs1 rs2 distance : ℕ) → Instr
 bne_back rs1 rs2 n = Instr.Branch BranchOp.Bne rs1 rs2 (below 13 n / 2)
 
@@ -63,7 +63,7 @@ exit = 0
 abbrev pub spawn : ℕ
 spawn = 1
 
--- the register that stays 0, and that of the threads that are still to be spawned
+-- the register that stays 0, and the one with the number of threads still to be spawned
 abbrev pub zero : ℕ
 zero = 0
 
@@ -77,7 +77,7 @@ own = 5
 abbrev pub again : ℕ
 again = 6
 
--- the number that it adds, the address of the shared word, what stood there, and what its own word takes
+-- the number that it adds, the address of the shared word, what was there before, and what its own word takes
 abbrev pub added : ℕ
 added = 7
 
@@ -106,7 +106,7 @@ spawning p =
     ∷ addi register_a0 zero 0
     ∷ []
 
--- each thread, from address 36 on: it adds 1 to the word at 992, and what stood there to its own word, behind 1,024
+-- each thread, from address 36 on: it adds 1 to the word at 992, and what was there before to its own word, which is from 1,024 on
 abbrev pub adding : (power rounds : ℕ) → List Instr
 adding h n =
     slli own register_a0 h

@@ -13,7 +13,7 @@ use dl_entry::OutOfMemory;
 use dl_isa::{Instr, encode};
 use std::alloc::{AllocError, Global};
 
-/// The file of the image that a number stands for, in its short form. Every memory has room for it.
+/// The file, in its short form, of the image that a number stands for. Every memory has room for that image.
 pub fn make(alloc: Global, number: u32) -> Result<Vec<u8>, OutOfMemory>
     ensures bytes { IfOk result (λ file. file.items ≡ made number) }
     ensures length { IfOk result (λ file. length file.items ≡ 176) }

@@ -76,7 +76,7 @@ pub fn sw(rs2: u32, rs1: u32) -> Instr
     }
 }
 
-/// Back by so many bytes while the register isn't 0.
+/// Back by that many bytes while the register isn't 0.
 pub fn bne_back(rs1: u32, distance: u32) -> Instr
     requires rs1 { rs1 < 2 ^ 5 }
     requires some { 0 < distance }

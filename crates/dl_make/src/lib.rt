@@ -1,4 +1,4 @@
-//! Generated images: for each number the file of a program whose threads all store to one word.
+//! Generated images: for each number the file of a program whose threads all store to the same word.
 #![tactic(auto)]
 
 mod image;

@@ -22,7 +22,7 @@ const A1: u32 = 11;
 
 const A2: u32 = 12;
 
-// The register that stays 0, and that of the threads that are still to be spawned.
+// The register that stays 0, and the one with the number of threads still to be spawned.
 const ZERO: u32 = 0;
 
 const LEFT: u32 = 8;
@@ -32,7 +32,7 @@ const OWN: u32 = 5;
 
 const AGAIN: u32 = 6;
 
-// The number that it adds, the address of the shared word, what stood there, and what its own word takes.
+// The number that it adds, the address of the shared word, what was there before, and what its own word takes.
 const ADDED: u32 = 7;
 
 const SHARED: u32 = 28;
@@ -57,7 +57,7 @@ pub fn rounds(number: u32) -> u32
     16 + number / 8 % 1024
 }
 
-/// How far the threads' own words are apart, as a power of 2.
+/// How far apart the threads' own words are, as a power of 2.
 pub fn power(number: u32) -> u32
     ensures value { result ≡ generated.power_of number }
     ensures below { result < 2 ^ 5 }

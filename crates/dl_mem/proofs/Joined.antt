@@ -8,7 +8,7 @@ use Rattle.std.proofs.lemmas.List.{get_or_append_left, get_or-append_right, set-
 use Rattle.std.proofs.lemmas.List.Elements.{All-cons}
 use Rattle.spec_isa.specs.Words.{with_byte}
 
--- pages of one size
+-- pages of the same size
 abbrev pub AllLong : ℕ → List (List ℕ) → Type 0
 AllLong n pages = All (λ page. length page ≡ n) pages
 
@@ -18,7 +18,7 @@ first_long n p ps h = h 0 [] (omega arith)
 rest_long : (n : ℕ) (p : List ℕ) (ps : List (List ℕ)) → AllLong n (p ∷ ps) → AllLong n ps
 rest_long n p ps h = λ k d lt. h (suc k) d (omega arith)
 
--- pages of one size have that many bytes each
+-- pages of the same size have that many bytes each
 pub length_concat : (n : ℕ) (ps : List (List ℕ)) → AllLong n ps → length (concat ps) ≡ length ps * n
 length_concat n [] h = omega arith
 length_concat n (p ∷ ps) h =

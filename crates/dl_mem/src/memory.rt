@@ -1,4 +1,4 @@
-//! The bytes of one sphere. They are read and written by the word: four bytes from a multiple of 4 on, the least one first.
+//! The bytes of one sphere. They are read and written by the word: four bytes from a multiple of 4 on, little-endian.
 ghost use Rattle.std.specs.Prelude.{◌≡◌, ◌+◌, ◌/◌, ◌%◌, ◌<◌, ◌≤◌, length, take, drop, IfOk};
 ghost use Rattle.std.specs.List.{concat};
 ghost use Rattle.spec_isa.specs.Words.{lay, read};
@@ -31,7 +31,7 @@ impl Model for Memory {
 }
 
 impl Memory {
-    /// A memory of an image's bytes.
+    /// A memory with an image's bytes.
     pub fn new(alloc: Global, image: &Image) -> Result<Memory, AllocError>
         ensures { IfOk result (λ memory. memory ≡ image.now.bytes) }
     {
@@ -42,7 +42,7 @@ impl Memory {
         })
     }
 
-    /// A memory of a snapshot's bytes, which shares them until they are put to.
+    /// A memory with a snapshot's bytes, which it shares until something is put to them.
     pub fn from_snapshot(alloc: Global, from: &Snapshot) -> Result<Memory, AllocError>
         ensures { IfOk result (λ memory. memory ≡ from.now) }
     {
@@ -79,7 +79,7 @@ impl Memory {
         copy_pages(&self.pages, addr as usize, into);
     }
 
-    /// Writes those bytes of the value whose bits of the mask are set into the word at an address inside.
+    /// Writes those bytes of the value whose bits are set in the mask into the word at an address inside.
     pub fn put(&mut self, addr: u32, mask: u8, value: u32)
         requires aligned { addr % 4 ≡ 0 }
         requires inside { addr + 4 ≤ length self.old }
@@ -91,7 +91,7 @@ impl Memory {
         self.pages[at / PAGE].put(at % PAGE, mask, value);
     }
 
-    /// The memory as it is now. It copies the pages that were put to since the last snapshot, and shares the others with that.
+    /// The memory as it is now. It copies the pages that were put to since the last snapshot, and shares the others with it.
     pub fn snapshot(&mut self) -> Result<Snapshot, AllocError>
         ensures ok { IfOk result (λ snapshot. snapshot ≡ self.old) }
         ensures unchanged { self.new ≡ self.old }

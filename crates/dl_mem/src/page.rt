@@ -41,7 +41,7 @@ impl Page {
         }
     }
 
-    /// A page of the bytes that a snapshot shows.
+    /// A page with the bytes that a snapshot shows.
     pub(crate) fn from_shared(shared: Shared) -> Page
         ensures { result ≡ shared }
     {
@@ -66,7 +66,7 @@ impl Page {
         into.copy_from_slice(&self.bytes[at..at + into.len()]);
     }
 
-    /// Writes those bytes of the value whose bits of the mask are set into the word at a place.
+    /// Writes those bytes of the value whose bits are set in the mask into the word at a place.
     pub(crate) fn put(&mut self, at: usize, mask: u8, value: u32)
         requires aligned { at % 4 ≡ 0 }
         requires inside { at + 4 ≤ 4096 }
@@ -76,7 +76,7 @@ impl Page {
         self.is_marked = true;
     }
 
-    /// The bytes for one more snapshot: those of the last one, or a copy where there is a mark.
+    /// The bytes for one more snapshot: those of the last one, or a copy if there is a mark.
     pub(crate) fn share(&self, alloc: Global) -> Result<Shared, AllocError>
         ensures { IfOk result (λ shared. shared ≡ self.now) }
     {
@@ -86,7 +86,7 @@ impl Page {
         }
     }
 
-    /// One more owner of what a snapshot took, where there is a mark: this page will keep it.
+    /// One more owner of what a snapshot took, if there is a mark: this page will keep it.
     pub(crate) fn renewal(&self, shared: &Shared) -> Result<Option<Shared>, AllocError>
         requires { shared.now ≡ self.now }
         ensures { IfOk result (λ renewal. IfSome renewal (λ shared. shared ≡ self.now)) }
@@ -119,7 +119,7 @@ pub(crate) fn word_at(bytes: &[u8; PAGE], at: usize) -> u32
     u32::from_le_bytes([bytes[at], bytes[at + 1], bytes[at + 2], bytes[at + 3]])
 }
 
-// Lays the masked bytes of a value into the four from that place on.
+// Lays the masked bytes of a value over the four from that place on.
 fn put_masked(bytes: &mut [u8], at: usize, mask: u8, value: u32)
     requires aligned { at % 4 ≡ 0 }
     requires inside { at + 4 ≤ length bytes.old }

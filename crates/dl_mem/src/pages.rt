@@ -54,7 +54,7 @@ pub(crate) fn renewals(
     Ok(renewals)
 }
 
-// Has the pages keep that, which changes none of their bytes.
+// Makes the pages keep that, which changes none of their bytes.
 pub(crate) fn keep(pages: &mut [Page], mut renewals: Vec<Option<Shared>>)
     requires { Renews pages.old renewals.items }
     ensures { pages.new ≡ pages.old }
@@ -64,7 +64,7 @@ pub(crate) fn keep(pages: &mut [Page], mut renewals: Vec<Option<Shared>>)
     }
 }
 
-// Copies the bytes from a place on: those of its page, and then of the pages after that.
+// Copies the bytes from a place on: those of its page, and then those of the pages after it.
 pub(crate) fn copy_pages(pages: &[Page], at: usize, into: &mut [u8])
     requires paged { IsPaged pages.now }
     requires inside { at + length into.old ≤ length (concat pages.now) }

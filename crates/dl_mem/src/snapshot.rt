@@ -8,8 +8,8 @@ use crate::page::{PAGE, word_at};
 use crate::shared::Shared;
 use std::marker::Model;
 
-/// The bytes of a memory at the moment of `Memory::snapshot`, whatever is put later. Snapshots share the pages that were not
-/// put to between them.
+/// The bytes of a memory at the moment of `Memory::snapshot`, whatever is put to it later. Snapshots share the pages that
+/// were not put to between them.
 #[derive(Debug, Drop)]
 pub struct Snapshot {
     pages: Vec<Shared>,

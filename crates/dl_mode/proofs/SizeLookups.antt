@@ -7,6 +7,7 @@ use Rattle.dl_entry.specs.declared.actor.Actor.{Actor}
 use Rattle.dl_entry.specs.declared.actor.Actor.TheVariants.{Thread, Dma}
 use Rattle.spec_log.specs.declared.sizes.ShortSize.{ShortSize}
 use Rattle.spec_log.specs.Noting.{Kept, noted, insert_size, short_with, done_with}
+use Rattle.dl_entry.specs.Numbers.{most_threads}
 use Rattle.spec_log.specs.Log.{IsActor}
 use Rattle.std.proofs.lemmas.List.Sums.{fold_more}
 use Rattle.dl_mode.specs.Counts.{done_by, AreAmong, counted}
@@ -112,7 +113,7 @@ Each-noted order sizes short done (Thread u) size h each counted t i =
     ])
 
 pub Done-noted : (order : List Actor) (sizes : List ℕ) (done : List ℕ) (actor : Actor) (size : ℕ) → length sizes ≡ length order
-    → length done ≡ 15 → IsActor actor → Done order sizes done → Done (order ++ actor ∷ []) (sizes ++ size ∷ []) (done_with done actor)
+    → length done ≡ most_threads → IsActor most_threads actor → Done order sizes done → Done (order ++ actor ∷ []) (sizes ++ size ∷ []) (done_with done actor)
 Done-noted order sizes done Dma size h all good counted t =
     rw (sizes_of_thread-push t order sizes Dma size h, append-nil (sizes_of_thread t order sizes)) (counted t)
 Done-noted order sizes done (Thread u) size h all good counted t =
@@ -159,7 +160,7 @@ length-done_with done Dma = refl
 
 -- sizes and counts stand together with an order still after a commit more
 pub IsWhole-noted : (order : List Actor) (sizes : List ℕ) (threads new : ThreadSizes) (actor : Actor) (size : ℕ) → IsWhole order sizes threads
-    → IsActor actor → length order < 2 ^ 24 → new.sizes ≡ short_with threads.sizes threads.done actor size true → new.done ≡ done_with threads.done actor
+    → IsActor most_threads actor → length order < 2 ^ 24 → new.sizes ≡ short_with threads.sizes threads.done actor size true → new.done ≡ done_with threads.done actor
     → IsWhole (order ++ actor ∷ []) (sizes ++ size ∷ []) new
 IsWhole-noted order sizes threads new actor size w good few e d =
     record {

@@ -1,7 +1,8 @@
 -- The lists of a log that depend on its mode.
 use Rattle.std.specs.Prelude.{◌≡◌, ℕ, ◌^◌, ◌≤◌}
 use Rattle.spec_log.specs.declared.mode_name.ModeName.{ModeName}
-use Rattle.spec_log.specs.Log.{IsChunkSize, IsOrder, IsSizes, AreShortSizes}
+use Rattle.dl_entry.specs.Numbers.{most_threads}
+use Rattle.spec_log.specs.Log.{IsStandard, IsOrder, IsSizes, AreShortSizes}
 use Rattle.spec_log.specs.declared.sizes.Sizes.{Sizes}
 use Rattle.spec_log.specs.declared.sizes.Sizes.TheVariants.{Each, Short}
 use Rattle.spec_log.specs.Noting.{Kept}
@@ -11,15 +12,15 @@ use Rattle.dl_mode.specs.declared.lists.Lists.{Lists}
 abbrev pub lists_of : ModeName → Kept → Lists
 lists_of mode kept = record { mode = mode; s = kept.s; count = kept.count; order = kept.order; sizes = kept.sizes }
 
--- lists of a mode, in a log's ranges and orders
+-- lists of a mode, in the ranges and orders of a log of version 1
 pub record AreLists (mode : ModeName) (lists : Lists) : Type 0 where
   pub is_mode : lists.mode ≡ mode
-  pub s : IsChunkSize lists.s
+  pub s : IsStandard 1 lists.s
   pub count : lists.count ≤ 2 ^ 24
-  pub order : IsOrder mode lists.count lists.order
-  pub sizes : IsSizes mode lists.s lists.count lists.sizes
+  pub order : IsOrder mode most_threads lists.count lists.order
+  pub sizes : IsSizes mode most_threads lists.s lists.count lists.sizes
 
 -- the sizes are those of short chunks
 abbrev pub AreShort : ℕ → Sizes → Type 0
 AreShort s (Each sizes) = ⊥
-AreShort s (Short sizes) = AreShortSizes s sizes
+AreShort s (Short sizes) = AreShortSizes most_threads s sizes

@@ -64,7 +64,7 @@ pub trait Noting: Mode {
 
     /// Notes a commit, and whether its chunk is short. With room it isn't refused.
     fn note(log: &mut Self::Log, commit: &Commit, closed_short: bool) -> Result<(), OutOfMemory>
-        requires actor { IsActor commit.now.actor }
+        requires actor { IsActor most_threads commit.now.actor }
         requires commits { (Self.logged log.old).kept.count < 2 ^ 24 }
         ensures ok { OnOk result ((Self.logged log.new).kept ≡ noted Self.mode (Self.logged log.old).kept (note_of commit.now closed_short)) }
         ensures err { OnErr result ((Self.logged log.new).kept ≡ (Self.logged log.old).kept) }

@@ -1,6 +1,7 @@
 //! Order-size: the order of commits, and the size of each.
 ghost use Rattle.std.specs.Prelude.{◌≡◌, ◌^◌, ◌<◌, Bool, IfOk, IsOk, IsTrue, OnOk, OnErr};
 ghost use Rattle.spec_log.specs.declared.mode_name.ModeName.TheVariants.{OrderSize as BySize};
+ghost use Rattle.dl_entry.specs.Numbers.{most_threads};
 ghost use Rattle.spec_log.specs.Log.{IsActor};
 ghost use Rattle.spec_log.specs.Noting.{noted, nothing_kept};
 ghost use Rattle.dl_mode.specs.Lists.{AreLists};
@@ -54,7 +55,7 @@ impl OrderSizeLog {
 
     /// Adds a commit. With room it isn't refused.
     fn push(&mut self, actor: Actor, size: u32) -> Result<(), OutOfMemory>
-        requires actor { IsActor actor }
+        requires actor { IsActor most_threads actor }
         requires commits { self.old.kept.count < 2 ^ 24 }
         ensures ok { (short : Bool) → OnOk result (self.new.kept ≡ noted BySize self.old.kept (note actor size short)) }
         ensures err { OnErr result (self.new.kept ≡ self.old.kept) }

@@ -47,7 +47,7 @@ impl ThreadSizes {
 
     /// Sizes in a log's order, of which no commit is counted.
     pub fn from_list(alloc: Global, list: &[ShortSize], s: u32) -> Result<ThreadSizes, OutOfMemory>
-        requires { AreShortSizes s list.now }
+        requires { AreShortSizes most_threads s list.now }
         ensures sizes { IfOk result (λ threads. threads.sizes ≡ list.now) }
         ensures done { IfOk result (λ threads. threads.done ≡ replicate most_threads 0) }
     {
@@ -85,7 +85,7 @@ impl ThreadSizes {
 
     /// Counts a commit, and keeps its size where its chunk is short. With room it isn't refused.
     pub fn note(&mut self, actor: Actor, size: u32, short: bool) -> Result<(), OutOfMemory>
-        requires actor { IsActor actor }
+        requires actor { IsActor most_threads actor }
         requires few { done_by self.old.done actor + 1 < 2 ^ 32 }
         ensures sizes { OnOk result (self.new.sizes ≡ short_with self.old.sizes self.old.done actor size short) }
         ensures done { OnOk result (self.new.done ≡ done_with self.old.done actor) }

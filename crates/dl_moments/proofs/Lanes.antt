@@ -16,7 +16,7 @@ get_or-map [] t d h = absurd (omega arith)
 get_or-map (x ∷ xs) zero d h = refl
 get_or-map (x ∷ xs) (suc t) d h = get_or-map xs t d (omega arith)
 
--- where one list has become another by a function, it alone has changed, by that function
+-- if one list has become another by a function, only it has changed, by that function
 pub changed_lane : {V : Type 0} (lanes : List (LaneState V)) (t : ℕ) (old new : LaneState V) (f : List (Mark V) → List (Mark V)) → t < length lanes
     → old ≡ get_or lanes t old → new.marks ≡ f old.marks
     → map marks_of (set lanes t new) ≡ set (map marks_of lanes) t (f (get_or (map marks_of lanes) t []))
@@ -24,13 +24,13 @@ changed_lane lanes t old new f h is e =
     let was : old.marks ≡ get_or (map marks_of lanes) t [] = ap marks_of is ∙ sym (get_or-map lanes t old h) in
     map-set marks_of lanes t new ∙ ap (λ (m : List (Mark _)). set (map marks_of lanes) t m) (e ∙ ap f was)
 
--- where one list has the same values, so have all
+-- if one list has the same values, so have all
 pub same_lane : {V : Type 0} (lanes : List (LaneState V)) (t : ℕ) (old new : LaneState V) → t < length lanes
     → old ≡ get_or lanes t old → new.marks ≡ old.marks → map marks_of (set lanes t new) ≡ map marks_of lanes
 same_lane lanes t old new h is e =
     changed_lane lanes t old new (λ m. m) h is e ∙ set-get_or (map marks_of lanes) t []
 
--- where one list is as long as before, it is so among all
+-- if one list is as long as before, it is so among all
 pub same_count : {V : Type 0} (lanes : List (LaneState V)) (t : ℕ) (old new : LaneState V) → t < length lanes
     → old ≡ get_or lanes t old → length new.marks ≡ length old.marks
     → length (get_or (map marks_of (set lanes t new)) t []) ≡ length (get_or (map marks_of lanes) t [])
@@ -40,7 +40,7 @@ same_count lanes t old new h is e =
     let was : old.marks ≡ get_or (map marks_of lanes) t [] = ap marks_of is ∙ sym (get_or-map lanes t old h) in
     ap length now ∙ (e ∙ ap length was)
 
--- empty lists with one empty list more are empty lists
+-- empty lists with one more empty list are empty lists
 pub empty_lane : {V : Type 0} (lanes : List (LaneState V)) (n : ℕ) (new : LaneState V) → map marks_of lanes ≡ replicate n [] → new.marks ≡ []
     → map marks_of (lanes ++ new ∷ []) ≡ replicate (n + 1) []
 empty_lane lanes n new e none =
@@ -50,7 +50,7 @@ empty_lane lanes n new e none =
 abbrev pub Roomy : {V : Type 0} → List (LaneState V) → ℕ → Type 0
 Roomy {V} lanes n = (k : ℕ) (d : LaneState V) → k < n → (get_or lanes k d).room ≡ true
 
--- with room in the next list, one list more has room
+-- with room in the next list, one more list has room
 pub Roomy-more : {V : Type 0} (lanes : List (LaneState V)) (t : ℕ) (new : LaneState V) → t < length lanes → Roomy lanes t → new.room ≡ true → Roomy (set lanes t new) (t + 1)
 Roomy-more lanes t new h rooms room k d l =
     elim (cases_eq k t) [
@@ -58,12 +58,12 @@ Roomy-more lanes t new h rooms room k d l =
       | inr other ↦ rw (get_or-set_other lanes t k new d other) (rooms k d (omega arith))
     ]
 
--- where each list has room, all have
+-- if each list has room, all have
 pub all_room : {V : Type 0} (lanes : List (LaneState V)) → Roomy lanes (length lanes) → list_all (λ lane. lane.room) lanes ≡ true
 all_room [] h = refl
 all_room (x ∷ xs) h = rw (h 0 x (omega arith), all_room xs (λ k d l. h (suc k) d (omega arith))) refl
 
--- room in a list where there is room in each
+-- room in a list if there is room in each
 pub room_at : {V : Type 0} (lanes : List (LaneState V)) (t : ℕ) (d : LaneState V) → t < length lanes → list_all (λ lane. lane.room) lanes ≡ true → (get_or lanes t d).room ≡ true
 room_at [] t d h e = absurd (omega arith)
 room_at (x ∷ xs) zero d h e = (and_parts x.room (list_all (λ lane. lane.room) xs) e).0
@@ -77,7 +77,7 @@ same_room (x ∷ xs) zero old new h is e =
     ap (λ (b : Bool). b && list_all (λ lane. lane.room) xs) (e ∙ ap (λ (lane : LaneState _). lane.room) is)
 same_room (x ∷ xs) (suc t) old new h is e = ap (λ (b : Bool). x.room && b) (same_room xs t old new (omega arith) is e)
 
--- where each list has room, each has it still after one with room was set among them
+-- if each list has room, each still has it after one with room was set among them
 pub Roomy-set : {V : Type 0} (lanes : List (LaneState V)) (n t : ℕ) (new : LaneState V) → t < length lanes → Roomy lanes n → new.room ≡ true → Roomy (set lanes t new) n
 Roomy-set lanes n t new h rooms room k d l =
     elim (cases_eq k t) [

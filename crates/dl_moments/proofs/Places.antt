@@ -1,4 +1,4 @@
--- Among rising marks an index stands behind all lower ones, or is missing there.
+-- Among rising marks an index comes after all lower ones, or is missing there.
 use Rattle.std.proofs.Common.{◌≡◌, ℕ, zero, suc, ◌+◌, ◌-◌, ◌<◌, ◌≤◌, nat_lt, true, List, [], ◌∷◌, ◌++◌, length, get_or, take, drop, Some, None, inl, inr, refl, ap, sym, subst, ◌∙◌, arith, add-one}
 use Rattle.std.proofs.Math.ListN.{set}
 use Rattle.std.proofs.lemmas.List.{get_or_default}
@@ -22,7 +22,7 @@ rises-between marks r i j d h l =
     let e : i + suc (j - i - 1) ≡ j = omega arith in
     subst (λ (k : ℕ). (get_or marks i d).index < (get_or marks k d).index) e (rises-far marks r i (j - i - 1) d (omega arith))
 
--- among rising marks those of lower indices stand before all others
+-- among rising marks those of lower indices come before all others
 pub partitioned : {V : Type 0} (marks : List (Mark V)) (index : ℕ) → Rises marks → IsPartitionedBy (λ m. nat_lt m.index index) marks
 partitioned marks index r i j d le below t =
     elim (cases_lt i j) [
@@ -77,7 +77,7 @@ value_at-none index [] h = refl
 value_at-none index (m ∷ ms) h =
     rw (ne_eqb m.index index (h 0 m (omega arith))) (value_at-none index ms (λ k d l e. h (suc k) d (omega arith) e))
 
--- behind a higher index at a place, and before a lower one, the index stands nowhere
+-- after lower indices, and with a higher one at the place, the index is nowhere
 pub value_at-missed : {V : Type 0} (index : ℕ) (marks : List (Mark V)) (p : ℕ) → Rises marks → Below index marks p
     → ((d : Mark V) → p < length marks → index < (get_or marks p d).index) → None ≡ value_at index marks
 value_at-missed index marks p r below above =
@@ -135,7 +135,7 @@ Rises-with_mark index value marks r k d h =
     let up = chain-rises 0 (with_mark index value marks) (chain-with 0 index value marks (omega arith) (chain-start marks r)) k d (omega arith) in
     subst (λ (n : ℕ). (get_or (with_mark index value marks) k d).index < (get_or (with_mark index value marks) n d).index) (sym (add-one k)) up
 
--- a mark of the index that stands behind lower ones is the place of the index
+-- a mark of the index that comes after lower ones is the place of the index
 pub stands : {V : Type 0} (index : ℕ) (marks : List (Mark V)) (place : ℕ) → place < length marks → Below index marks place
     → ((d : Mark V) → (get_or marks place d).index ≡ index) → Stands index marks place
 stands index marks place within below here =
@@ -146,7 +146,7 @@ stands index marks place within below here =
           (get_or_default marks place d (get_or marks place d) within) (here d));
     }
 
--- behind lower marks and before a higher one the index is missing, and its value is put there
+-- after lower marks and before a higher one the index is missing, and its value is put there
 pub misses : {V : Type 0} (index : ℕ) (marks : List (Mark V)) (place : ℕ) → Rises marks → place ≤ length marks → Below index marks place
     → ((d : Mark V) → place < length marks → index < (get_or marks place d).index) → Misses index marks place
 misses index marks place rises within below above =

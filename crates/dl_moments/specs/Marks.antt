@@ -7,7 +7,7 @@ use Rattle.dl_moments.specs.declared.lane.Mark.{Mark}
 abbrev pub Rises : {V : Type 0} → List (Mark V) → Type 0
 Rises marks = AllAdjacentBelow (λ x y. x.index < y.index) marks (length marks)
 
--- a value put at an index, in place of another that stands there
+-- a value put at an index, in place of any other that is there
 abbrev pub with_mark : {V : Type 0} → ℕ → V → List (Mark V) → List (Mark V)
 with_mark index value [] = record { index = index; value = value } ∷ []
 with_mark index value (mark ∷ marks) =
@@ -20,17 +20,17 @@ abbrev pub value_at : {V : Type 0} → ℕ → List (Mark V) → Option V
 value_at index [] = None
 value_at index (mark ∷ marks) = if mark.index == index then Some mark.value else value_at index marks
 
--- a value put in place of another, where one stands
+-- a value put in place of another, if there is one
 abbrev pub with_mark_if : {V : Type 0} → ℕ → V → List (Mark V) → List (Mark V)
 with_mark_if index value marks = if is_some (value_at index marks) then with_mark index value marks else marks
 
--- the index stands at a place
+-- the index is at a place
 pub record Stands {V : Type 0} (index : ℕ) (marks : List (Mark V)) (place : ℕ) : Type 0 where
   pub within : place < length marks
   pub put : (value : V) → with_mark index value marks ≡ slice_set marks place (record { index = index; value = value })
   pub value : (d : Mark V) → value_at index marks ≡ Some (slice_index_or marks place d).value
 
--- the index stands nowhere, and is to be put at a place
+-- the index is nowhere, and is to be put at a place
 pub record Misses {V : Type 0} (index : ℕ) (marks : List (Mark V)) (place : ℕ) : Type 0 where
   pub within : place ≤ length marks
   pub put : (value : V) → with_mark index value marks ≡ insert marks place (record { index = index; value = value })

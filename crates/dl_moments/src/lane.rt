@@ -32,7 +32,7 @@ impl<V> Model for Lane<V> {
 }
 
 impl<V: Copy> Lane<V> {
-    /// No value, which takes no memory yet.
+    /// No value; this takes no memory yet.
     pub fn new(alloc: Global) -> Self
         ensures { result.marks ≡ [] }
     {
@@ -51,7 +51,7 @@ impl<V: Copy> Lane<V> {
         Ok(())
     }
 
-    /// Puts a value at an index, in place of another that stands there. With room it isn't refused.
+    /// Puts a value at an index, in place of any other that is there. If there is room, it isn't refused.
     pub fn put(&mut self, index: u32, value: V) -> Result<(), OutOfMemory>
         ensures ok { OnOk result (self.new.marks ≡ with_mark index value self.old.marks) }
         ensures err { OnErr result (self.new.marks ≡ self.old.marks) }
@@ -64,7 +64,7 @@ impl<V: Copy> Lane<V> {
         Ok(())
     }
 
-    /// Puts a value in place of the one that stands at an index, if there is one.
+    /// Puts a value in place of the one at an index, if there is one.
     pub fn set(&mut self, index: u32, value: V)
         ensures marks { self.new.marks ≡ with_mark_if index value self.old.marks }
         ensures count { length self.new.marks ≡ length self.old.marks }
@@ -94,7 +94,7 @@ impl<V: Copy> Lane<V> {
     }
 }
 
-/// The place at which an index stands, else that at which it is to be put.
+/// The place that an index is at, else the place where it is to be put.
 fn place_of<V>(marks: &[Mark<V>], index: u32) -> Result<usize, usize>
     requires { Rises marks.now }
     ensures { MatchResult result (Stands index marks.now) (Misses index marks.now) }

@@ -56,7 +56,7 @@ impl<V: Copy> Moments<V> {
         Ok(())
     }
 
-    /// Puts a thread's value at an index, in place of another that stands there. With room it isn't refused.
+    /// Puts a thread's value at an index, in place of any other that is there. If there is room, it isn't refused.
     pub fn put(&mut self, thread: u8, index: u32, value: V) -> Result<(), OutOfMemory>
         requires { thread ≤ greatest_thread }
         ensures ok { let lane = slice_index_or self.old.lanes thread [] in
@@ -68,7 +68,7 @@ impl<V: Copy> Moments<V> {
         lane.put(index, value)
     }
 
-    /// Puts a value in place of a thread's that stands at an index, if there is one.
+    /// Puts a value in place of the thread's value at an index, if there is one.
     pub fn set(&mut self, thread: u8, index: u32, value: V)
         ensures lanes { let lane = slice_index_or self.old.lanes thread [] in
             self.new.lanes ≡ slice_set self.old.lanes thread (with_mark_if index value lane) }

@@ -12,8 +12,8 @@ use Rattle.dl_plan.specs.Optional.{◌>>=◌, if_there, passes, each_of}
 -- the keys of a plan at the top
 abbrev pub top_keys : List (List ℕ)
 top_keys =
-    codes "cores" ∷ codes "chunk" ∷ codes "buffer" ∷ codes "window" ∷ codes "signature" ∷ codes "seed" ∷ codes "events" ∷ codes "script"
-    ∷ codes "input" ∷ codes "console" ∷ codes "report" ∷ codes "sphere" ∷ []
+    codes "cores" ∷ codes "chunk" ∷ codes "buffer" ∷ codes "window" ∷ codes "depth" ∷ codes "signature" ∷ codes "seed" ∷ codes "events"
+    ∷ codes "script" ∷ codes "input" ∷ codes "console" ∷ codes "report" ∷ codes "sphere" ∷ []
 
 -- the keys of a sphere
 abbrev pub sphere_keys : List (List ℕ)
@@ -39,6 +39,7 @@ pub record TopEntries : Type 0 where
   pub chunk : ℤ
   pub buffer : ℤ
   pub window : ℤ
+  pub depth : Option ℤ
   pub signature : ℤ
   pub seed : Option ℤ
   pub events : Option ℤ
@@ -87,6 +88,7 @@ top_of ms =
     number ms (codes "chunk") >>= λ chunk.
     number ms (codes "buffer") >>= λ buffer.
     number ms (codes "window") >>= λ window.
+    optional_number ms (codes "depth") >>= λ depth.
     number ms (codes "signature") >>= λ signature.
     optional_number ms (codes "seed") >>= λ seed.
     optional_number ms (codes "events") >>= λ events.
@@ -94,7 +96,10 @@ top_of ms =
     optional_text ms (codes "input") >>= λ input.
     optional_text ms (codes "console") >>= λ console.
     optional_text ms (codes "report") >>= λ report.
-    Some (record { cores = cores; chunk = chunk; buffer = buffer; window = window; signature = signature; seed = seed; events = events; script = script; input = input; console = console; report = report })
+    Some (record {
+      cores = cores; chunk = chunk; buffer = buffer; window = window; depth = depth; signature = signature; seed = seed;
+      events = events; script = script; input = input; console = console; report = report;
+    })
 
 abbrev pub sphere_of : Members → Option SphereEntries
 sphere_of ms =

@@ -6,16 +6,17 @@ use Rattle.dl_plan.specs.Entries.{TopEntries, SphereEntries, Entries}
 use Rattle.dl_plan.specs.Limits.{limited, signature_of, memory_of}
 use Rattle.dl_plan.specs.Optional.{◌>>=◌, if_there}
 
--- the numbers at the top; a seed that is absent is 0
+-- the numbers at the top; a depth that is absent is 1, and a seed 0
 abbrev pub sizes_of : TopEntries → Option Sizes
 sizes_of top =
     limited 1 8 top.cores >>= λ cores.
     limited 16 4096 top.chunk >>= λ chunk.
     limited 1 4096 top.buffer >>= λ buffer.
     limited 1 8 top.window >>= λ window.
+    limited 1 2 (unwrap_or top.depth (pos 1)) >>= λ depth.
     signature_of top.signature >>= λ signature.
     limited 0 9223372036854775807 (unwrap_or top.seed (pos 0)) >>= λ seed.
-    Some (record { cores = cores; chunk = chunk; buffer = buffer; window = window; signature = signature; seed = seed })
+    Some (record { cores = cores; chunk = chunk; buffer = buffer; window = window; depth = depth; signature = signature; seed = seed })
 
 -- the number of events, if one is there
 abbrev pub events_in : TopEntries → Option (Option ℕ)

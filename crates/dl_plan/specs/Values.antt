@@ -66,12 +66,14 @@ pub record IsMemory (n : ℕ) : Type 0 where
   pub within : (4096 ≤ n) × (n ≤ 2 ^ 24)
   pub paged : n % 4096 ≡ 0
 
--- the cores, the instructions of a chunk, the words of a buffer, the commits in flight, the bits of a signature and the seed
+-- the cores, the instructions of a chunk, the words of a buffer, the commits in flight, the chunks of a core, the bits of a
+-- signature and the seed
 pub record AreSizes (s : Sizes) : Type 0 where
   pub cores : (1 ≤ s.cores) × (s.cores ≤ 8)
   pub chunk : (16 ≤ s.chunk) × (s.chunk ≤ 4096)
   pub buffer : (1 ≤ s.buffer) × (s.buffer ≤ 4096)
   pub window : (1 ≤ s.window) × (s.window ≤ 8)
+  pub depth : (1 ≤ s.depth) × (s.depth ≤ 2)
   pub signature : IsTrue (is_signature s.signature)
   pub seed : s.seed < 2 ^ 63
 

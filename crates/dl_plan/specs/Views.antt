@@ -15,6 +15,7 @@ top_view t = record {
   chunk = t.chunk;
   buffer = t.buffer;
   window = t.window;
+  depth = t.depth;
   signature = t.signature;
   seed = t.seed;
   events = t.events;

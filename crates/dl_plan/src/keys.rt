@@ -12,11 +12,12 @@ use toml::value::Array;
 use toml::{Table, Value};
 
 /// The keys of a plan at the top.
-const TOP_KEYS: [&str; 12] = [
+const TOP_KEYS: [&str; 13] = [
     "cores",
     "chunk",
     "buffer",
     "window",
+    "depth",
     "signature",
     "seed",
     "events",

@@ -27,6 +27,8 @@ pub struct Sizes {
     pub buffer: u32,
     /// Commits in flight, 1 to 8.
     pub window: u8,
+    /// Chunks that a core may have in flight, 1 or 2.
+    pub depth: u8,
     /// Bits of a signature, a power of two from 64 to 2048.
     pub signature: u32,
     /// The seed of the devices' random bytes and of a schedule that is drawn, below 2^63.

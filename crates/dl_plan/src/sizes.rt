@@ -53,6 +53,7 @@ fn sizes_of(top: &TopEntries<'_>) -> Option<Sizes>
         chunk: limited(top.chunk, 16, 4096)? as u32,
         buffer: limited(top.buffer, 1, 4096)? as u32,
         window: limited(top.window, 1, 8)? as u8,
+        depth: limited(top.depth.unwrap_or(1), 1, 2)? as u8,
         signature: signature_of(top.signature)?,
         seed: limited(top.seed.unwrap_or(0), 0, i64::MAX as u64)?,
     })

@@ -1,4 +1,4 @@
--- What stands together in a recorder stands so with a commit or an interrupt more.
+-- What a recorder holds together still holds together with one more commit or interrupt.
 use Rattle.std.proofs.Common.{◌≡◌, ℕ, ◌+◌, ◌-◌, ◌^◌, ◌<◌, ◌≤◌, ◌==◌, ◌&&◌, Bool, true, false, List, [], ◌∷◌, All, length, map, get_or, slice_index, Option, Some, None, IfSome, option_map, Result, Ok, Err, OnOk, OnErr, ◌⊎◌, inl, inr, refl, sym, arith}
 use Rattle.std.proofs.lemmas.Bool.{cases_lt, cases_eq, cases_Bool}
 use Rattle.std.proofs.lemmas.List.{length_push, get_or-set_same, get_or-set_other, set_past}
@@ -15,6 +15,7 @@ use Rattle.spec_log.specs.declared.records.DmaRecord.{DmaRecord}
 use Rattle.spec_log.specs.declared.sizes.ShortSize.{ShortSize}
 use Rattle.spec_log.specs.declared.sizes.Sizes.{Sizes}
 use Rattle.spec_log.specs.declared.sizes.Sizes.TheVariants.{Each, Short}
+use Rattle.dl_entry.specs.Numbers.{most_threads}
 use Rattle.spec_log.specs.Log.{IsActor, IsOrder, IsSizes, IsShortSize, AreShortSizes, IsInterrupt, IsInput, AreInputs, IsDmaRecord, AreDmas, AreFewBytes}
 use Rattle.spec_log.specs.Noting.{Kept, Note, noted, order_with, short_with, sizes_with, done_with, insert_interrupt}
 use Rattle.spec_log.proofs.Sections.{IsSection-push}
@@ -34,25 +35,25 @@ done_with-few done (Thread u) n h t =
       ]
     ]
 
-order-noted : (mode : ModeName) (count : ℕ) (order : List Actor) (actor : Actor) → IsActor actor → IsOrder mode count order
-    → IsOrder mode (count + 1) (order_with mode order actor)
-order-noted OrderSize count order actor good o = (omega (arith, length_push order actor, o.0), All-push IsActor order actor o.1 good)
-order-noted OrderOnly count order actor good o = (omega (arith, length_push order actor, o.0), All-push IsActor order actor o.1 good)
+order-noted : (mode : ModeName) (count : ℕ) (order : List Actor) (actor : Actor) → IsActor most_threads actor → IsOrder mode most_threads count order
+    → IsOrder mode most_threads (count + 1) (order_with mode order actor)
+order-noted OrderSize count order actor good o = (omega (arith, length_push order actor, o.0), All-push (IsActor most_threads) order actor o.1 good)
+order-noted OrderOnly count order actor good o = (omega (arith, length_push order actor, o.0), All-push (IsActor most_threads) order actor o.1 good)
 order-noted Picolog count order actor good o = o
 
-short-noted : (s count : ℕ) (sizes : List ShortSize) (done : List ℕ) (actor : Actor) (size : ℕ) (short : Bool) → IsActor actor → size ≤ s
+short-noted : (s count : ℕ) (sizes : List ShortSize) (done : List ℕ) (actor : Actor) (size : ℕ) (short : Bool) → IsActor most_threads actor → size ≤ s
     → (short ≡ true → 1 ≤ size) → count < 2 ^ 24 → ((t : ℕ) → slice_index done t ≤ count) → length sizes ≤ count
-    → AreShortSizes s sizes → AreShortSizes s (short_with sizes done actor size short)
+    → AreShortSizes most_threads s sizes → AreShortSizes most_threads s (short_with sizes done actor size short)
 short-noted s count sizes done Dma size short good fits over few counts room are = are
 short-noted s count sizes done (Thread t) size false good fits over few counts room are = are
 short-noted s count sizes done (Thread t) size true good fits over few counts room are =
-    IsSection-insert (λ x. x.thread) (λ x. x.index) (IsShortSize s) (record { thread = t; index = slice_index done t; size = size }) sizes
+    IsSection-insert (λ x. x.thread) (λ x. x.index) (IsShortSize most_threads s) (record { thread = t; index = slice_index done t; size = size }) sizes
     (omega (arith, few, room, length-insert (λ x. x.thread) (λ x. x.index) (record { thread = t; index = slice_index done t; size = size }) sizes))
     (good, omega (arith, counts t), over refl, fits) are
 
-sizes-noted : (mode : ModeName) (s count : ℕ) (sizes : Sizes) (done : List ℕ) (note : Note) → IsActor note.actor → note.size ≤ s
+sizes-noted : (mode : ModeName) (s count : ℕ) (sizes : Sizes) (done : List ℕ) (note : Note) → IsActor most_threads note.actor → note.size ≤ s
     → (note.short ≡ true → 1 ≤ note.size) → count < 2 ^ 24 → ((t : ℕ) → slice_index done t ≤ count) → length (short_sizes sizes) ≤ count
-    → IsSizes mode s count sizes → IsSizes mode s (count + 1) (sizes_with sizes done note)
+    → IsSizes mode most_threads s count sizes → IsSizes mode most_threads s (count + 1) (sizes_with sizes done note)
 sizes-noted OrderSize s count (Each sizes) done note good fits over few counts room are =
     (omega (arith, length_push sizes note.size, are.0), All-push (λ size. size ≤ s) sizes note.size are.1 fits)
 sizes-noted OrderSize s count (Short sizes) done note good fits over few counts room are = absurd are
@@ -97,7 +98,7 @@ dmas-with dmas n (Some bytes) few h good positions are =
           (All-weaker (λ dma. dma.position < n) (λ dma. dma.position < n + 1) (λ dma l. omega arith) dmas positions) (omega arith),
     )
 
--- a recording is one still with a commit more and its records
+-- a recording is still one with one more commit and its records
 pub IsRecording-commit : (mode : ModeName) (kept : Kept) (interrupts : List Interrupt) (inputs : List Input) (dmas : List DmaRecord)
     (commit : Commit) (short : Bool) (input : Option Input) (bytes : Option (List ℕ))
     → IsRecording mode kept interrupts inputs dmas → CanCommit kept commit short → IfThere IsInput input → IfThere AreFewBytes bytes
@@ -107,6 +108,7 @@ IsRecording-commit mode kept interrupts inputs dmas commit short input bytes r c
     let d = dmas-with dmas kept.count bytes can.few r.few_dmas few r.positions r.log.dmas in
     record {
       log = record {
+        version = r.log.version;
         s = r.log.s;
         count = omega (arith, can.few);
         order = order-noted mode kept.count kept.order commit.actor can.actor r.log.order;
@@ -122,18 +124,19 @@ IsRecording-commit mode kept interrupts inputs dmas commit short input bytes r c
       positions = d.2;
     }
 
--- a recording is one still with an interrupt more
+-- a recording is still one with one more interrupt
 pub IsRecording-interrupt : (mode : ModeName) (kept : Kept) (interrupts : List Interrupt) (inputs : List Input) (dmas : List DmaRecord) (interrupt : Interrupt)
-    → IsRecording mode kept interrupts inputs dmas → IsInterrupt interrupt → length (insert_interrupt interrupt interrupts) < 2 ^ 32
+    → IsRecording mode kept interrupts inputs dmas → IsInterrupt most_threads interrupt → length (insert_interrupt interrupt interrupts) < 2 ^ 32
     → IsRecording mode kept (insert_interrupt interrupt interrupts) inputs dmas
 IsRecording-interrupt mode kept interrupts inputs dmas interrupt r good few =
     record {
       log = record {
+        version = r.log.version;
         s = r.log.s;
         count = r.log.count;
         order = r.log.order;
         sizes = r.log.sizes;
-        interrupts = IsSection-insert (λ i. i.thread) (λ i. i.index) IsInterrupt interrupt interrupts few good r.log.interrupts;
+        interrupts = IsSection-insert (λ i. i.thread) (λ i. i.index) (IsInterrupt most_threads) interrupt interrupts few good r.log.interrupts;
         inputs = r.log.inputs;
         dmas = r.log.dmas;
       };

@@ -8,6 +8,7 @@ use Rattle.spec_log.specs.declared.records.DmaRecord.{DmaRecord}
 use Rattle.spec_log.specs.declared.sizes.ShortSize.{ShortSize}
 use Rattle.spec_log.specs.declared.sizes.Sizes.{Sizes}
 use Rattle.spec_log.specs.declared.sizes.Sizes.TheVariants.{Each, Short}
+use Rattle.dl_entry.specs.Numbers.{most_threads}
 use Rattle.spec_log.specs.Log.{IsActor, IsLog}
 use Rattle.spec_log.specs.Noting.{Kept, log_of}
 
@@ -20,10 +21,10 @@ pub record Recording : Type 0 where
   pub room : Bool
   pub interrupt_room : Bool
 
--- a commit that can be noted: of an actor of a log, no larger than a standard chunk, over 0 where it is short, and
--- not the 2^24th but one
+-- a commit that can be noted: of an actor of a log, no larger than a standard chunk, over 0 if it is short, and with
+-- fewer than 2^24 commits before it
 pub record CanCommit (kept : Kept) (commit : Commit) (short : Bool) : Type 0 where
-  pub actor : IsActor commit.actor
+  pub actor : IsActor most_threads commit.actor
   pub size : commit.size ≤ kept.s
   pub over : short ≡ true → 1 ≤ commit.size
   pub few : kept.count < 2 ^ 24
@@ -42,7 +43,7 @@ abbrev pub short_sizes : Sizes → List ShortSize
 short_sizes (Each sizes) = []
 short_sizes (Short sizes) = sizes
 
--- what stands together in a recorder: a log, of which no part has more than there are commits
+-- what a recorder holds together: a log, of which no part has more entries than there are commits
 pub record IsRecording (mode : ModeName) (kept : Kept) (interrupts : List Interrupt) (inputs : List Input) (dmas : List DmaRecord) : Type 0 where
   pub log : IsLog (log_of mode kept interrupts inputs dmas)
   pub done : (t : ℕ) → slice_index kept.done t ≤ kept.count

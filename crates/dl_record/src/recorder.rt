@@ -1,12 +1,12 @@
 //! The recorder of a sphere.
 ghost use Rattle.std.specs.Prelude.{◌≡◌, ◌^◌, ◌≤◌, ◌+◌, [], IfOk, IfSome, IsOk, IsTrue, OnOk, OnErr, ◌<◌, option_map, All};
 ghost use Rattle.dl_entry.specs.Numbers.{greatest_thread};
-ghost use Rattle.spec_log.specs.Log.{IsChunkSize, IsInput, AreFewBytes};
+ghost use Rattle.spec_log.specs.Log.{IsStandard, IsInput, AreFewBytes};
 ghost use Rattle.spec_log.specs.Noting.{nothing_kept, noted, insert_interrupt, log_of};
 ghost use Rattle.dl_mode.specs.Logged.{note_of};
 ghost use Rattle.dl_record.specs.Recording.{CanCommit, IsFresh, interrupt, with_input, with_dma};
 
-use dl_entry::{Commit, Input, OutOfMemory};
+use dl_entry::{Commit, Input, MOST_THREADS, OutOfMemory};
 use dl_input::{Dmas, Inputs, Interrupts};
 use dl_mode::Noting;
 use spec_log::{Log, LogParts};
@@ -48,7 +48,7 @@ impl<M: Noting> Model for Recorder<M> {
 impl<M: Noting> Recorder<M> {
     /// Nothing is noted yet; a standard chunk has `s` instructions.
     pub fn new(alloc: Global, s: u32) -> Result<Recorder<M>, OutOfMemory>
-        requires { IsChunkSize s }
+        requires { IsStandard 1 s }
         ensures kept { IfOk result (λ recorder. recorder.kept ≡ nothing_kept M.mode s) }
         ensures interrupts { IfOk result (λ recorder. recorder.interrupts ≡ []) }
         ensures inputs { IfOk result (λ recorder. recorder.inputs ≡ []) }
@@ -64,7 +64,7 @@ impl<M: Noting> Recorder<M> {
         })
     }
 
-    /// Makes room for one commit with its records, and one interrupt. Where there is room for both it isn't refused.
+    /// Makes room for one commit with its records, and one interrupt. If there is already room for both, it isn't refused.
     pub fn reserve(&mut self) -> Result<(), OutOfMemory>
         ensures kept { self.new.kept ≡ self.old.kept }
         ensures interrupts { self.new.interrupts ≡ self.old.interrupts }
@@ -80,7 +80,7 @@ impl<M: Noting> Recorder<M> {
         self.dmas.reserve()
     }
 
-    /// Notes a commit, whether its chunk is short, and its record. With room it isn't refused.
+    /// Notes a commit, whether its chunk is short, and its record. If there is room, it isn't refused.
     pub fn commit(
         &mut self,
         commit: &Commit,
@@ -110,7 +110,7 @@ impl<M: Noting> Recorder<M> {
         Ok(())
     }
 
-    /// Notes an interrupt of a new moment. With room it isn't refused.
+    /// Notes an interrupt of a new moment. If there is room, it isn't refused.
     pub fn interrupt(&mut self, thread: u8, index: u32, value: u32) -> Result<(), OutOfMemory>
         requires thread { thread ≤ greatest_thread }
         requires fresh { IsFresh self.old.interrupts thread index }
@@ -132,6 +132,8 @@ impl<M: Noting> Recorder<M> {
     {
         let lists = M::lists(self.alloc, &self.log)?;
         Ok(Log::new(LogParts {
+            version: 1,
+            threads: MOST_THREADS,
             mode: lists.mode,
             s: lists.s,
             count: lists.count,

@@ -34,24 +34,24 @@ each-few s k (a ∷ order) (x ∷ sizes) i z all e =
       | inr other ↦ each-few s k order sizes i z tail (rw other at e)
     ]
 
-short-few : (s k i z : ℕ) (sizes : List ShortSize) → All (IsShortSize s) sizes
+short-few : (t s k i z : ℕ) (sizes : List ShortSize) → All (IsShortSize t s) sizes
     → option_map (λ short. short.size) (find (λ short. (short.thread == k) && (short.index == i)) sizes) ≡ Some z → z ≤ s
-short-few s k i z [] all e = cc
-short-few s k i z (short ∷ sizes) all e =
-    let head = All-head (IsShortSize s) short sizes all in
-    let tail = All-tail (IsShortSize s) short sizes all in
+short-few t s k i z [] all e = cc
+short-few t s k i z (short ∷ sizes) all e =
+    let head = All-head (IsShortSize t s) short sizes all in
+    let tail = All-tail (IsShortSize t s) short sizes all in
     elim (cases_Bool ((short.thread == k) && (short.index == i))) [
       | inl own ↦ let f = rw own at e in let same : short.size ≡ z = cc in omega (arith, head.3)
-      | inr other ↦ short-few s k i z sizes tail (rw other at e)
+      | inr other ↦ short-few t s k i z sizes tail (rw other at e)
     ]
 
-sizes-few : (mode : ModeName) (s count : ℕ) (order : List Actor) (sizes : Sizes) (k i z : ℕ) → IsSizes mode s count sizes → thread_size order sizes k i ≡ Some z → z ≤ s
-sizes-few OrderSize s count order (Each sizes) k i z are e = each-few s k order sizes i z are.1 e
-sizes-few OrderSize s count order (Short sizes) k i z are e = absurd are
-sizes-few OrderOnly s count order (Each sizes) k i z are e = absurd are
-sizes-few OrderOnly s count order (Short sizes) k i z are e = short-few s k i z sizes are.each e
-sizes-few Picolog s count order (Each sizes) k i z are e = absurd are
-sizes-few Picolog s count order (Short sizes) k i z are e = short-few s k i z sizes are.each e
+sizes-few : (mode : ModeName) (t s count : ℕ) (order : List Actor) (sizes : Sizes) (k i z : ℕ) → IsSizes mode t s count sizes → thread_size order sizes k i ≡ Some z → z ≤ s
+sizes-few OrderSize t s count order (Each sizes) k i z are e = each-few s k order sizes i z are.1 e
+sizes-few OrderSize t s count order (Short sizes) k i z are e = absurd are
+sizes-few OrderOnly t s count order (Each sizes) k i z are e = absurd are
+sizes-few OrderOnly t s count order (Short sizes) k i z are e = short-few t s k i z sizes are.each e
+sizes-few Picolog t s count order (Each sizes) k i z are e = absurd are
+sizes-few Picolog t s count order (Short sizes) k i z are e = short-few t s k i z sizes are.each e
 
 limit-by : (s : ℕ) (o : Option ℕ) → 1 ≤ s → ((z : ℕ) → o ≡ Some z → z ≤ s) → elim o [ None ↦ s | Some z ↦ max 1 z ] ≤ s
 limit-by s None one few = omega arith
@@ -64,7 +64,7 @@ limit-few log k i is =
       is.s.0,
       is.s.1,
       limit-by log.s (thread_size log.order log.sizes k i) (omega (arith, is.s.0))
-          (λ z e. sizes-few log.mode log.s log.count log.order log.sizes k i z is.sizes e),
+          (λ z e. sizes-few log.mode log.threads log.s log.count log.order log.sizes k i z is.sizes e),
     )
 
 -- the instructions of a commit's pieces are few enough to be counted

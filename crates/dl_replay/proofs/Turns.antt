@@ -13,17 +13,17 @@ use Rattle.dl_replay.specs.Replaying.{commits_of}
 use Rattle.dl_replay.proofs.Counts.{sizes-used}
 
 -- where each commit has its size, all are used
-pub each-used : (mode : ModeName) (s count : ℕ) (sizes : Sizes) (ts : List Parts) → mode ≡ OrderSize → IsSizes mode s count sizes → are_sizes_used ts sizes ≡ true
-each-used OrderSize s count (Each sizes) ts e are = refl
-each-used OrderSize s count (Short sizes) ts e are = absurd are
-each-used OrderOnly s count sizes ts e are = cc
-each-used Picolog s count sizes ts e are = cc
+pub each-used : (mode : ModeName) (t s count : ℕ) (sizes : Sizes) (ts : List Parts) → mode ≡ OrderSize → IsSizes mode t s count sizes → are_sizes_used ts sizes ≡ true
+each-used OrderSize t s count (Each sizes) ts e are = refl
+each-used OrderSize t s count (Short sizes) ts e are = absurd are
+each-used OrderOnly t s count sizes ts e are = cc
+each-used Picolog t s count sizes ts e are = cc
 
 -- in a mode that keeps short sizes, all are used just where the threads have done those commits
-pub short-used : (mode : ModeName) (s count : ℕ) (sizes : Sizes) (order : List Actor) (commits : List ℕ) (ts : List Parts) → (mode ≡ OrderSize → ⊥)
-    → IsSizes mode s count sizes → length ts ≤ 15 → commits ≡ commits_of ts → sizes_used order sizes commits ≡ are_sizes_used ts sizes
-short-used OrderSize s count sizes order commits ts e are h is = absurd (e refl)
-short-used OrderOnly s count (Each sizes) order commits ts e are h is = absurd are
-short-used OrderOnly s count (Short sizes) order commits ts e are h is = rw is (sizes-used ts sizes h)
-short-used Picolog s count (Each sizes) order commits ts e are h is = absurd are
-short-used Picolog s count (Short sizes) order commits ts e are h is = rw is (sizes-used ts sizes h)
+pub short-used : (mode : ModeName) (t s count : ℕ) (sizes : Sizes) (order : List Actor) (commits : List ℕ) (ts : List Parts) → (mode ≡ OrderSize → ⊥)
+    → IsSizes mode t s count sizes → length ts ≤ 15 → commits ≡ commits_of ts → sizes_used order sizes commits ≡ are_sizes_used ts sizes
+short-used OrderSize t s count sizes order commits ts e are h is = absurd (e refl)
+short-used OrderOnly t s count (Each sizes) order commits ts e are h is = absurd are
+short-used OrderOnly t s count (Short sizes) order commits ts e are h is = rw is (sizes-used ts sizes h)
+short-used Picolog t s count (Each sizes) order commits ts e are h is = absurd are
+short-used Picolog t s count (Short sizes) order commits ts e are h is = rw is (sizes-used ts sizes h)

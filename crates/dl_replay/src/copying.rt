@@ -1,5 +1,6 @@
 //! The parts of a log, each copied into the store that it is looked up in.
 ghost use Rattle.std.specs.Prelude.{◌≡◌, map, IfOk};
+ghost use Rattle.dl_entry.specs.Numbers.{most_threads};
 ghost use Rattle.spec_log.specs.Log.{IsLog, AreInterrupts, AreInputs, AreDmas};
 ghost use Rattle.dl_input.specs.Tracked.{interrupt_of};
 ghost use Rattle.dl_mode.specs.Lists.{lists_of};
@@ -37,7 +38,7 @@ fn sizes_of(alloc: Global, sizes: &Sizes) -> Result<Sizes, OutOfMemory>
 }
 
 pub fn interrupts_of(alloc: Global, list: &[Interrupt]) -> Result<Interrupts, OutOfMemory>
-    requires { AreInterrupts list.now }
+    requires { AreInterrupts most_threads list.now }
     ensures { IfOk result (λ interrupts. map interrupt_of interrupts.entries ≡ list.now) }
 {
     let mut interrupts = Interrupts::new(alloc)?;

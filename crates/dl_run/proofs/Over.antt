@@ -98,7 +98,7 @@ end_now b (Turn k) how e = absurd (none-some how e)
 end_now b TurnOfDma how e = absurd (none-some how e)
 end_now b (Ended x) how e = cc
 
--- where a sphere has an end, it is what its role ends with
+-- if a sphere has an end, it is what its role ends with
 pub end-some : (role : Role) (n : ℕ) (how : End) → end_in role ≡ Some how → how ≡ end_as role n
 end-some Plain n how e = absurd (none-some how e)
 end-some (Record recording) n how e = absurd (none-some how e)
@@ -199,7 +199,7 @@ line-replayed es r i asked how over inside is ended =
     ap line_of_end (ended ∙ ends-as-played es r i asked (position (sphere_at r.world i).progress) over inside is)
     ∙ ap (line_as (image_at r.setup i) (sphere_in (executed r.setup es) i)) (sym is)
 
--- a replayed sphere has diverged in the machine where it does in the texts
+-- a replayed sphere has diverged in the machine if it does in the texts
 pub diverges-replayed : (es : List Event) (r : Ran) (i : ℕ) (asked : ReplaySetup) (how : End) → IsOver es r → i < length r.setup.spheres → (image_at r.setup i).role ≡ IsReplayed asked → how ≡ end_as (sphere_at r.world i).role (position (sphere_at r.world i).progress) → has_diverged how ≡ diverges_as (image_at r.setup i) (image_at r.setup i).role
 diverges-replayed es r i asked how over inside is ended =
     ap has_diverged (ended ∙ ends-as-played es r i asked (position (sphere_at r.world i).progress) over inside is)
@@ -219,7 +219,7 @@ none-left [] (suc i) l = refl
 none-left (x ∷ xs) zero l = absurd (omega (arith, l))
 none-left (x ∷ xs) (suc i) l = none-left xs i (omega (arith, l))
 
--- a line more
+-- one more line
 lines-more : (x : SerialState) (xs : List SphereSetup) (i : ℕ) (ls : List SphereLine) (line : SphereLine) → i < length xs → line ≡ line_as (get_or xs i no_image) (sphere_in x i) (get_or xs i no_image).role → (ls ++ line ∷ []) ++ lines_from x (suc i) (drop (suc i) xs) ≡ ls ++ lines_from x i (drop i xs)
 lines-more x xs i ls line inside is =
     append_assoc ls (line ∷ []) (lines_from x (suc i) (drop (suc i) xs))
@@ -229,7 +229,7 @@ lines-more x xs i ls line inside is =
 one_more : (i : ℕ) → i + 1 ≡ suc i
 one_more i = omega arith
 
--- with the line of sphere i behind the lines before it, the lines to come begin at sphere i + 1
+-- with the line of sphere i after the lines before it, the lines to come begin at sphere i + 1
 pub lines-after : (x : SerialState) (xs : List SphereSetup) (i : ℕ) (ls : List SphereLine) (line : SphereLine) → i < length xs → line ≡ line_as (get_or xs i no_image) (sphere_in x i) (get_or xs i no_image).role → (ls ++ line ∷ []) ++ lines_from x (i + 1) (drop (i + 1) xs) ≡ ls ++ lines_from x i (drop i xs)
 lines-after x xs i ls line inside is =
     ap (λ (n : ℕ). (ls ++ line ∷ []) ++ lines_from x n (drop n xs)) (one_more i) ∙ lines-more x xs i ls line inside is
@@ -237,12 +237,12 @@ lines-after x xs i ls line inside is =
 abbrev here : List SphereSetup → ℕ → Bool
 here xs i = diverges_as (get_or xs i no_image) (get_or xs i no_image).role
 
--- where sphere i hasn't diverged, a sphere from i on has where a later one has
+-- if sphere i hasn't diverged, a sphere from i on has diverged if a later one has
 pub diverges-later : (xs : List SphereSetup) (i : ℕ) → i < length xs → here xs i ≡ false → diverges (drop (suc i) xs) ≡ diverges (drop i xs)
 diverges-later xs i inside is =
     ap (λ (b : Bool). b || diverges (drop (suc i) xs)) (sym is) ∙ ap diverges (sym (image-next xs i inside))
 
--- where sphere i has diverged, a sphere from i on has
+-- if sphere i has diverged, a sphere from i on has
 pub diverges-here : (xs : List SphereSetup) (i : ℕ) → i < length xs → here xs i ≡ true → true ≡ diverges (drop i xs)
 diverges-here xs i inside is =
     ap (λ (b : Bool). b || diverges (drop (suc i) xs)) (sym is) ∙ ap diverges (sym (image-next xs i inside))

@@ -20,7 +20,7 @@ use Rattle.dl_run.specs.Taken.{IsNew, HasTaken}
 
 -- ---- runs
 
--- a short run's world has room for one commit more
+-- a short run's world has room for one more commit
 pub run_room : (s : Setup) (es : List Event) (w : World) → IsRun s es w → length es ≤ 2 ^ 24 → HasRoom w
 run_room s es w run few =
     subst HasRoom (sym run.here) (record { few = λ i within live. leaves_room s es i run.limits few within live })
@@ -62,7 +62,7 @@ done_few : (all left : List Event) (new now : World) → (d : Driving all left n
 done_few all left new now d few =
     let both = ap length d.both in let l = length-append d.done left in omega (arith, both, l, few)
 
--- before each event of a short schedule there is room for one commit more
+-- before each event of a short schedule there is room for one more commit
 pub driving_room : (all left : List Event) (new now : World) → Driving all left new now → length all ≤ 2 ^ 24 → HasRoom now
 driving_room all left new now d few =
     run_room d.setup d.done now (d.taken d.setup d.first) (done_few all left new now d few)
@@ -77,7 +77,7 @@ driving_events all left new now d few =
 nothing_behind : (xs : List Event) → xs ++ [] ≡ xs
 nothing_behind xs = grind (arith, common_steps)
 
--- where no event is left, all are taken
+-- if no event is left, all are taken
 pub driving_end : (all : List Event) (new now : World) → Driving all [] new now → HasTaken all new now
 driving_end all new now d =
     subst (λ (es : List Event). HasTaken es new now) (sym (nothing_behind d.done) ∙ d.both) d.taken
@@ -92,13 +92,13 @@ repeated_here rs i d l =
     let all : r.times ≡ r.times - 0 = omega arith in
     ap expanded (drop-cons rs i d l) ∙ (λ j. replicate (all j) r.event ++ expanded (drop (next j) rs))
 
--- where it still comes, it comes next
+-- if it still comes, it comes next
 pub one_of : (times n : ℕ) (e : Event) (rest : List Event) → n < times → replicate (times - n) e ++ rest ≡ e ∷ (replicate (times - (n + 1)) e ++ rest)
 one_of times n e rest l =
     let more : times - n ≡ suc (times - (n + 1)) = omega arith in
     ap (λ (m : ℕ). replicate m e ++ rest) more
 
--- where it comes no more, the others are left
+-- if it comes no more, the others are left
 pub none_of : (times n : ℕ) (e : Event) (rest : List Event) → times ≤ n → replicate (times - n) e ++ rest ≡ rest
 none_of times n e rest l =
     let none : times - n ≡ 0 = omega arith in
@@ -106,7 +106,7 @@ none_of times n e rest l =
 
 -- ---- events that are drawn
 
--- where no event is asked for, none is drawn
+-- if no event is asked for, none is drawn
 pub none_drawn : (n : ℕ) (g : Lcg) → n ≡ 0 → schedule n g ≡ []
 unfolding schedule
 none_drawn n g e = ap (λ (m : ℕ). schedule m g) e

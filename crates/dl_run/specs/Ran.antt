@@ -1,4 +1,4 @@
--- A machine whose run is over, beside the setup that it was made of.
+-- A machine whose run is over, with the setup that it was made from.
 use Rattle.std.specs.Prelude.{◌≡◌, ◌≤◌, ◌^◌, List, length}
 use Rattle.spec_protocol.specs.declared.event.Event.{Event}
 use Rattle.spec_protocol.specs.machine.World.{World}

@@ -4,7 +4,7 @@ use Rattle.spec_protocol.specs.declared.event.Event.{Event}
 use Rattle.dl_event.specs.Seeded.{seeded, schedule}
 use Rattle.dl_run.specs.declared.schedule.Schedule.{Schedule}
 
--- those that are listed, or so many that are drawn from the seed
+-- those that are listed, or that many drawn from the seed
 abbrev pub events_in : Schedule → List Event
 events_in (Schedule.Script events) = events
 events_in (Schedule.Seeded seed events) = schedule events (seeded seed)

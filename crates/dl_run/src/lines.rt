@@ -13,7 +13,7 @@ use dl_sphere::Role;
 use std::alloc::Global;
 
 impl Run {
-    /// Whether a replayed sphere has left its log.
+    /// Whether any replayed sphere has left its log.
     pub fn diverged(&self) -> bool
         ensures { result ≡ diverges self.now.setup.spheres }
     {

@@ -6,6 +6,6 @@ use dl_event::Events;
 pub enum Schedule {
     /// These.
     Script(Events),
-    /// So many, which are drawn from the seed one at a time.
+    /// This many, drawn from the seed one at a time.
     Seeded { seed: u64, events: u32 },
 }

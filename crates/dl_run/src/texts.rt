@@ -15,7 +15,7 @@ use spec_log::Log;
 use std::alloc::Global;
 
 impl Run {
-    /// A sphere's log; none where the sphere isn't recorded.
+    /// A sphere's log; none if the sphere isn't recorded.
     pub fn log(&self, sphere: usize) -> Result<Option<Log>, OutOfMemory>
         requires { sphere < length self.now.setup.spheres }
         ensures { IfOk result (λ log. (es : List Event) → IsOver es self.now → log_bytes_if log ≡ log_text self.now.setup es sphere) }

@@ -11,7 +11,7 @@ use Rattle.dl_files.specs.Contents.{Contents, Holds, HoldsAt, part_of}
 use Rattle.spec_protocol.specs.declared.event.Event.{Event}
 use Rattle.dl_scriptio.specs.Files.{SaysScript, IsReadAs}
 
--- where the name is known and there, its script is read up to the offset
+-- if the name is known and there, its script is read up to the offset
 abbrev pub IsReadFrom : Option Contents → (name : List ℕ) → (offset : ℕ) → SoFar → Type 0
 IsReadFrom known name offset r = (m : Contents) → known ≡ Some m → (content : List ℕ) → get m name ≡ Some content → IsReadTo content (drop offset content) r
 
@@ -19,7 +19,7 @@ IsReadFrom known name offset r = (m : Contents) → known ≡ Some m → (conten
 pub held_by : (known seen : Option Contents) (name : List ℕ) (offset room : ℕ) (piece : List ℕ) → seen ≡ known → HoldsAt seen name offset room piece → HoldsAt known name offset room piece
 held_by known seen name offset room piece same = subst (λ (t : Option Contents). HoldsAt t name offset room piece) same
 
--- the bytes behind the offset are the piece, and what is behind it
+-- the bytes after the offset are the piece, and what comes after it
 abbrev pub IsSplit : (offset room : ℕ) (piece content : List ℕ) → Type 0
 IsSplit offset room piece content = drop offset content ≡ piece ++ drop room (drop offset content)
 
@@ -31,7 +31,7 @@ part_at : (offset room : ℕ) (piece : List ℕ) (o : Option (List ℕ)) (conten
 part_at offset room piece None content e is = absurd cc
 part_at offset room piece (Some bytes) content e is = let same : bytes ≡ content = cc in subst (λ (x : List ℕ). take room (drop offset x) ≡ piece) same cc
 
--- where the piece is the name's behind the offset, the content is split so
+-- if the piece is the name's bytes from the offset on, the content is split in this way
 pub held_split : (known : Option Contents) (m : Contents) (name content : List ℕ) (offset room : ℕ) (piece : List ℕ) → HoldsAt known name offset room piece → known ≡ Some m → get m name ≡ Some content → IsSplit offset room piece content
 held_split None m name content offset room piece held e is = absurd cc
 held_split (Some k) m name content offset room piece held e is =
@@ -56,7 +56,7 @@ read_on script rest piece last r offset is behind to =
     in
     subst (λ (text : List ℕ). IsReadTo script text r) left to
 
--- behind a piece that isn't full there is nothing
+-- after a piece that isn't full there is nothing
 pub no_rest : (room : ℕ) (bytes piece : List ℕ) → bytes ≡ piece ++ drop room bytes → length piece < room → drop room bytes ≡ []
 no_rest room bytes piece is short = drop_of_length-le bytes (
     let count = ap length is ∙ length-append piece (drop room bytes) in
@@ -64,7 +64,7 @@ no_rest room bytes piece is short = drop_of_length-le bytes (
     omega arith
     )
 
--- an answer that tells what the script means where it is well, and else why it is refused, is read as the script
+-- an answer that tells what the script means if it is good, and else why it is refused, is what the script means
 pub read_as : (meant : Result (List Event) ℕ) (read : Result (List Event) ScriptError) → IfOk read (λ events. meant ≡ Ok events) → IfErr read (λ e. Refuses meant e) → IsReadAs meant read
 read_as meant (Ok events) ok err = ok
 read_as meant (Err error) ok err = err

@@ -12,11 +12,11 @@ abbrev pub read_view : ScriptRead → Result (List Event) ℕ
 read_view (ScriptRead.Good events) = Ok events
 read_view (ScriptRead.Refused line) = Err line
 
--- where known, the name's bytes are read so
+-- if known, this is what the name's bytes say
 abbrev pub SaysScript : Option Contents → (name : List ℕ) → Result (List Event) ℕ → Type 0
 SaysScript known name read = IfSome known (λ m. option_map script_of (get m name) ≡ Some read)
 
--- the answer of a call that reads a script is what the script means; want of memory alone has no cause
+-- the answer of a call that reads a script is what the script means, unless memory ran out
 abbrev pub IsReadAs : (meant : Result (List Event) ℕ) → Result (List Event) ScriptError → Type 0
 IsReadAs meant (Ok events) = meant ≡ Ok events
 IsReadAs meant (Err error) = Refuses meant error

@@ -1,4 +1,4 @@
-//! Scripts in files: they are read in pieces, so that no more of a file than a piece stands in memory beside the events.
+//! Scripts in files: they are read in pieces, so that besides the events no more than a piece of a file is in memory.
 #![tactic(auto)]
 
 mod reading;

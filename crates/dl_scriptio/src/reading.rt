@@ -11,7 +11,7 @@ use dl_event::{Events, ScriptError, ScriptReader, parse_script};
 use dl_files::{Beginning, FileError, Files};
 use std::alloc::Global;
 
-/// A script of more bytes is read at once, as a file that may be too large for that.
+/// A script of more bytes is read at once, which fails if the file is too large for that.
 const LARGEST: u64 = 1 << 30;
 
 /// What a file says as a script.
@@ -23,8 +23,9 @@ pub enum ScriptRead {
     Refused(u64),
 }
 
-/// What the file `name` says as a script, in memory of `alloc`. It is read piece after piece, and nothing behind a line
-/// that is refused; but a file of which no part can be read, as a pipe, and one with a line as long as a piece, are read at once.
+/// What the file `name` says as a script, in memory from `alloc`. It is read piece after piece, and no piece after a line
+/// that is refused; but a file of which no part can be read, for example a pipe, and one with a line as long as a piece
+/// are read at once.
 pub fn read_script_file<F: Files>(
     alloc: Global,
     files: &mut F,
@@ -63,7 +64,7 @@ pub fn read_script_file<F: Files>(
     read_at_once(alloc, files, name)
 }
 
-// The same, in memory of `alloc` for all bytes of the file.
+// The same, in memory from `alloc` for all bytes of the file.
 fn read_at_once<F: Files>(alloc: Global, files: &mut F, name: &str) -> Result<ScriptRead, FileError>
     ensures read { IfOk result (λ r. SaysScript (F.seen files.old).known name.now (read_view r)) }
     ensures few { IfOk result (λ r. IfOk (read_view r) (λ events. length events ≤ 2 ^ 24)) }
@@ -83,7 +84,7 @@ fn script_in(alloc: Global, bytes: &[u8]) -> Result<ScriptRead, FileError>
     said(parse_script(alloc, bytes))
 }
 
-// What a script says that was read so.
+// What a script says, from what reading it answered.
 fn said(read: Result<Events, ScriptError>) -> Result<ScriptRead, FileError>
     requires { IfOk read (λ events. length events ≤ 2 ^ 24) }
     ensures read { IfOk result (λ r. (meant : Result (List Event) _) → IsReadAs meant read → meant ≡ read_view r) }

@@ -12,7 +12,7 @@ use Rattle.dl_sig.specs.Banks.{Places, no_place, with_place, with_places, set_be
 use Rattle.dl_sig.specs.Words.{share, joined}
 use Rattle.dl_sig.proofs.Sets.{none_below, one_more, either_below, meet_at, apart_below}
 
--- banks of one size have as many words
+-- banks of the same size have the same number of words
 pub same_words : (ws vs : List ℕ) (b other : Places) → of_words ws ≡ b → of_words vs ≡ other → other.size ≡ b.size → length vs ≡ length ws
 same_words ws vs b other e f same =
     let sizes : 32 * length vs ≡ 32 * length ws = ap (λ (p : Places). p.size) f ∙ same ∙ sym (ap (λ (p : Places). p.size) e) in
@@ -59,7 +59,7 @@ bit_after ws p q l =
       | inr ne ↦ bit_other ws p q l ne ∙ sym (λ i. ne_eqb q p ne i || has_bit ws q)
     ]
 
--- words with one bit more set are their bank with the bit's place put in
+-- words with one more bit set are their bank with the bit's place put in
 pub words_set : (ws : List ℕ) (p : ℕ) → p < 32 * length ws → of_words (with_bit ws p) ≡ with_place p (of_words ws)
 words_set ws p l =
     let same : length (with_bit ws p) ≡ length ws = length-set ws (p / 32) _ in
@@ -132,7 +132,7 @@ word_apart : (ws vs : List ℕ) → ((i : ℕ) → i < length ws → bit_and (ge
 word_apart ws vs none =
     apart_below (has_bit ws) (has_bit vs) (32 * length ws) (λ p l. no_both (get_or ws (p / 32) 0) (get_or vs (p / 32) 0) (p % 32) (none (p / 32) (omega arith)))
 
--- two banks of one size
+-- two banks of the same size
 
 words_meet : (ws vs : List ℕ) → (of_words vs).size ≡ (of_words ws).size → (i : ℕ) → i < length ws → get_or ws i 0 < 2 ^ 32 → bit_and (get_or ws i 0) (get_or vs i 0) ≢ 0 → true ≡ meets (of_words ws).set (of_words vs).set
 words_meet ws vs same i l small ne =
@@ -159,7 +159,7 @@ none_shared (w ∷ ws) [] e same i l = absurd (omega arith)
 none_shared (w ∷ ws) (v ∷ vs) e same zero l = eqb-true (bit_and w v) 0 (not-false _ (or_parts (not (eqb (bit_and w v) 0)) (share ws vs) e).0)
 none_shared (w ∷ ws) (v ∷ vs) e same (suc i) l = none_shared ws vs (or_parts (not (eqb (bit_and w v) 0)) (share ws vs) e).1 (omega arith) i (omega arith)
 
--- words share a bit with as many others exactly where their banks meet, if they are words of 32 bits
+-- words of 32 bits share a bit with the same number of others exactly if their banks meet
 pub words_share : (ws vs : List ℕ) → length vs ≡ length ws → ((i : ℕ) → Fits w32 (get_or ws i 0)) → share ws vs ≡ meets (of_words ws).set (of_words vs).set
 words_share ws vs same small =
     let sizes : 32 * length vs ≡ 32 * length ws = ap (λ (n : ℕ). 32 * n) same in

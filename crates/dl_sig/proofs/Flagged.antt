@@ -31,14 +31,14 @@ flags_set xs p l =
     (λ i. record { size = same i; set = set_below (has_flag (set xs p true)) (same i) })
     ∙ (λ i. record { size = length xs; set = one_more (has_flag xs) (has_flag (set xs p true)) (length xs) p l (λ q. flag_after xs p q l) i })
 
--- ---- two banks of one size
+-- ---- two banks of the same size
 
--- two banks of one size meet where a flag is set in both
+-- two banks of the same size meet if some flag is set in both
 pub flags_meet : (xs ys : List Bool) → (of_flags ys).size ≡ (of_flags xs).size → (i : ℕ) → i < length xs → has_flag xs i ≡ true → has_flag ys i ≡ true → true ≡ meets (of_flags xs).set (of_flags ys).set
 flags_meet xs ys same i l a b =
     meet_at (has_flag xs) (has_flag ys) (length xs) i l a b ∙ ap (λ (n : ℕ). meets (of_flags xs).set (set_below (has_flag ys) n)) (sym same)
 
--- two banks of one size don't meet where no flag is set in both
+-- two banks of the same size don't meet if no flag is set in both
 pub flags_apart : (xs ys : List Bool) → (of_flags ys).size ≡ (of_flags xs).size → ((i : ℕ) → i < length xs → (has_flag xs i && has_flag ys i) ≡ false) → false ≡ meets (of_flags xs).set (of_flags ys).set
 flags_apart xs ys same none =
     apart_below (has_flag xs) (has_flag ys) (length xs) none ∙ ap (λ (n : ℕ). meets (of_flags xs).set (set_below (has_flag ys) n)) (sym same)
@@ -46,7 +46,7 @@ flags_apart xs ys same none =
 abbrev pub either_flags : (xs ys : List Bool) → List Bool
 either_flags xs ys = zip2 ◌||◌ xs ys
 
--- the flags set in either of two banks of one size are the first with the places of the second put in
+-- the flags set in either of two banks of the same size are the first with the places of the second put in
 pub flags_joined : (xs ys : List Bool) → (of_flags ys).size ≡ (of_flags xs).size → of_flags (either_flags xs ys) ≡ with_places (of_flags ys) (of_flags xs)
 flags_joined xs ys same =
     let long : length (either_flags xs ys) ≡ length xs = length-zip2 ◌||◌ xs ys (sym same) in

@@ -1,4 +1,4 @@
--- Two lists of words share a bit where eight lanes do, or a single word, or what is left of them.
+-- Two lists of words share a bit if eight lanes do, or a single word, or what is left of them.
 use Rattle.std.proofs.Common.{◌≡◌, ◌≢◌, ℕ, zero, suc, ◌+◌, ◌<◌, inl, inr, Bool, true, false, not, ◌||◌, eqb, List, [], ◌∷◌, length, get_or, take, drop, refl, sym, ◌∙◌, ap, arith, bit_and, bit_or}
 use Rattle.std.proofs.lemmas.Bool.{eq-eqb, ne_eqb, cases_eq}
 use Rattle.std.proofs.lemmas.Nat.{and_le_r}
@@ -34,7 +34,7 @@ fold_some a (w ∷ ws) (v ∷ vs) =
     ap (λ (b : Bool). b || share ws vs) (some_or a (bit_and w v)) ∙
     or_assoc (not (eqb a 0)) (not (eqb (bit_and w v) 0)) (share ws vs)
 
--- the ands of two lists' words, joined by or, aren't 0 exactly where the lists share a bit
+-- the ands of two lists' words, joined by or, aren't 0 exactly if the lists share a bit
 pub fold_share : (ws vs : List ℕ) → not (eqb (fold_l bit_or 0 (zip2 bit_and ws vs)) 0) ≡ share ws vs
 fold_share ws vs = fold_some 0 ws vs
 

@@ -29,16 +29,16 @@ module _ {A : Type 0} (f : A → A → A) where
   length-merged_to (suc i) (x ∷ xs) [] = refl
   length-merged_to (suc i) (x ∷ xs) (y ∷ ys) = ap suc (length-merged_to i xs ys)
 
-  -- ---- one element more
+  -- ---- one more element
 
-  -- with element i set to the merged pair, one element more is merged
+  -- with element i set to the merged pair, one more element is merged
   pub merge_one : (i : ℕ) (xs ys : List A) (d : A) → length ys ≡ length xs → i < length xs → set (merged_to i xs ys) i (f (get_or (merged_to i xs ys) i d) (get_or ys i d)) ≡ merged_to (suc i) xs ys
   merge_one i [] ys d same l = absurd (omega arith)
   merge_one i (x ∷ xs) [] d same l = absurd (omega arith)
   merge_one zero (x ∷ xs) (y ∷ ys) d same l = ap (λ (zs : List A). f x y ∷ zs) (none_merged xs ys)
   merge_one (suc i) (x ∷ xs) (y ∷ ys) d same l = ap (λ (zs : List A). f x y ∷ zs) (merge_one i xs ys d (omega arith) (omega arith))
 
-  -- ---- a chunk of m elements more
+  -- ---- a chunk of m more elements
 
   merge_front : (m : ℕ) (xs ys : List A) → put_chunk 0 xs (zip2 f (take m xs) (take m ys)) ≡ merged_to m xs ys
   merge_front m [] ys = refl
@@ -46,7 +46,7 @@ module _ {A : Type 0} (f : A → A → A) where
   merge_front (suc m) (x ∷ xs) [] = refl
   merge_front (suc m) (x ∷ xs) (y ∷ ys) = ap (λ (zs : List A). f x y ∷ zs) (merge_front m xs ys)
 
-  -- with the m elements from i on set to their merged pairs, m elements more are merged
+  -- with the m elements from i on set to their merged pairs, m more elements are merged
   pub merge_chunk : (i m : ℕ) (xs ys : List A) → length ys ≡ length xs → put_chunk i (merged_to i xs ys) (zip2 f (chunk i m (merged_to i xs ys)) (chunk i m ys)) ≡ merged_to (i + m) xs ys
   merge_chunk i m [] ys same = refl
   merge_chunk i m (x ∷ xs) [] same = absurd (omega arith)

@@ -42,13 +42,13 @@ unfolding set_below
 member has zero p = contains-empty nat_cmp p ∙ sym (λ i. le-ltb p 0 (omega arith) i && has p)
 member has (suc n) p = member_step has n p (has n) refl (member has n p)
 
--- a number below the bound is in the set exactly where it passes the test
+-- a number below the bound is in the set exactly if it passes the test
 pub member_at : (has : ℕ → Bool) (n p : ℕ) → p < n → has p ≡ set.contains (set_below has n) p
 member_at has n p l = sym (member has n p ∙ (λ i. lt-ltb p n l i && has p))
 
 -- ---- changes
 
--- where no number passes the test the set is empty
+-- if no number passes the test, the set is empty
 pub none_below : (has : ℕ → Bool) (n : ℕ) → ((p : ℕ) → has p ≡ false) → set_below has n ≡ set.empty
 none_below has n none =
     same_set nat_cmp_total nat_cmp-IsAntisymmetric _ _
@@ -66,7 +66,7 @@ more_step has after n p l q same =
       | inr e ↦ (λ i. ltb q n && (ne_eqb q p e i || has q)) ∙ sym (λ i. ne_eqb q p e i || (ltb q n && has q))
     ]
 
--- for a test that passes one number more, below the bound, the set has that number more
+-- for a test that passes one more number, below the bound, the set has that number in addition
 pub one_more : (has after : ℕ → Bool) (n p : ℕ) → p < n → ((q : ℕ) → after q ≡ (eqb q p || has q)) → set_below after n ≡ set.insert (set_below has n) p
 one_more has after n p l same =
     same_set nat_cmp_total nat_cmp-IsAntisymmetric _ _
@@ -87,12 +87,12 @@ either_below has other after n same =
 
 -- ---- two sets
 
--- the sets of two tests meet where a number below the bound passes both
+-- the sets of two tests meet if a number below the bound passes both
 pub meet_at : (has other : ℕ → Bool) (n p : ℕ) → p < n → has p ≡ true → other p ≡ true → true ≡ meets (set_below has n) (set_below other n)
 meet_at has other n p l a b =
     sym (meets_at (set_below has n) (set_below other n) p (sym (member_at has n p l) ∙ a) (sym (member_at other n p l) ∙ b))
 
--- the sets of two tests don't meet where no number below the bound passes both
+-- the sets of two tests don't meet if no number below the bound passes both
 pub apart_below : (has other : ℕ → Bool) (n : ℕ) → ((p : ℕ) → p < n → (has p && other p) ≡ false) → false ≡ meets (set_below has n) (set_below other n)
 apart_below has other n apart =
     sym (apart_from (set_below has n) (set_below other n)

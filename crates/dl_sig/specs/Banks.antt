@@ -29,14 +29,14 @@ has_bit words p = nat_eq (slice_index_or words (p / 32) 0 / 2 ^ (p % 32) % 2) 1
 abbrev pub has_flag : List Bool → (place : ℕ) → Bool
 has_flag flags p = slice_index_or flags p false
 
--- the places of these words, and of these flags
+-- the places set in these words, and in these flags
 abbrev pub of_words : List ℕ → Places
 of_words words = let n = 32 * length words in record { size = n; set = set_below (has_bit words) n }
 
 abbrev pub of_flags : List Bool → Places
 of_flags flags = let n = length flags in record { size = n; set = set_below (has_flag flags) n }
 
--- the banks of a signature of so many bits
+-- the banks of a signature of that many bits
 pub record AreBanks (bits : ℕ) (low high : Places) : Type 0 where
   pub size : is_size bits ≡ true
   pub low_size : low.size ≡ bank bits

@@ -1,4 +1,4 @@
--- The union of two signatures of one size, bank by bank.
+-- The union of two signatures of the same size, bank by bank.
 use Rattle.std.specs.FinSet as set
 use Rattle.spec_engine.specs.Signatures.{Signature}
 

@@ -1,4 +1,4 @@
--- Two lists of words of 32 bits: whether they share a bit, and the bits of either.
+-- Two lists of 32-bit words: whether they share a bit, and the bits of either.
 use Rattle.std.specs.Prelude.{ℕ, Bool, false, not, ◌||◌, nat_eq, List, [], ◌∷◌, bit_and, bit_or}
 use Rattle.std.specs.Simd.Lanes.{zip2}
 

@@ -28,7 +28,7 @@ impl Model for Bank {
 impl Bank {
     ghost use Rattle.dl_sig.specs.Banks.{no_place, with_place, with_places};
 
-    // No place is set of `size`, a multiple of 32.
+    // A bank of `size` places, a multiple of 32, none of which is set.
     pub(crate) fn new(alloc: Global, size: u32) -> Result<Bank, AllocError>
         requires { size % 32 ≡ 0 }
         ensures { IfOk result (λ b. b ≡ no_place size) }
@@ -58,7 +58,7 @@ impl Bank {
         self.words[place as usize / 32] >> (place % 32) & 1 == 1
     }
 
-    // Whether both have a place.
+    // Whether both have some place set.
     pub(crate) fn meets(&self, other: &Bank) -> bool
         requires { other.now.size ≡ self.now.size }
         ensures { result ≡ meets self.now.set other.now.set }
@@ -66,7 +66,7 @@ impl Bank {
         words::share(&self.words, &other.words)
     }
 
-    // Sets the places of the other too.
+    // Sets the other's places too.
     pub(crate) fn join(&mut self, other: &Bank)
         requires { other.now.size ≡ self.old.size }
         ensures { self.new ≡ with_places other.now self.old }

@@ -27,7 +27,7 @@ impl Model for Flags {
 impl Flags {
     ghost use Rattle.dl_sig.specs.Banks.{no_place, with_place, with_places};
 
-    // No place of `size` is set.
+    // A bank of `size` places, none of which is set.
     pub(crate) fn new(alloc: Global, size: u32) -> Result<Flags, AllocError>
         ensures { IfOk result (λ b. b ≡ no_place size) }
     {
@@ -56,7 +56,7 @@ impl Flags {
         self.flags[place as usize]
     }
 
-    // Whether both have a place.
+    // Whether both have some place set.
     pub(crate) fn meets(&self, other: &Flags) -> bool
         requires { other.now.size ≡ self.now.size }
         ensures { result ≡ meets self.now.set other.now.set }
@@ -69,7 +69,7 @@ impl Flags {
         false
     }
 
-    // Sets the places of the other too.
+    // Sets the other's places too.
     pub(crate) fn join(&mut self, other: &Flags)
         requires { other.now.size ≡ self.old.size }
         ensures { self.new ≡ with_places other.now self.old }

@@ -2,7 +2,7 @@
 ghost use Rattle.std.specs.Prelude.{◌≡◌, ◌<◌, true};
 ghost use Rattle.spec_engine.specs.Signatures.{bank, is_size, low_place, high_place};
 
-// The line modulo the bank's size, a power of two: so its lowest bits.
+// The line modulo the bank's size, which is a power of two: so its lowest bits.
 pub(crate) fn low(bits: u32, line: u32) -> u32
     requires { is_size bits ≡ true }
     ensures value { result ≡ low_place bits line }
@@ -11,7 +11,7 @@ pub(crate) fn low(bits: u32, line: u32) -> u32
     line & (bits / 2 - 1)
 }
 
-// The highest bits of a product of 32 bits.
+// The highest bits of a 32-bit product.
 pub(crate) fn high(bits: u32, line: u32) -> u32
     requires { is_size bits ≡ true }
     ensures value { result ≡ high_place bits line }

@@ -5,7 +5,7 @@ ghost use Rattle.dl_sig.specs.Unions.{union};
 
 use std::alloc::{AllocError, Global};
 
-/// A signature: the lines that were inserted, and some that were not, since lines share places.
+/// A signature: the lines that were inserted, and some that were not, because lines share places.
 pub trait Sig: Drop {
     /// Its size in bits, and the places set in its two banks.
     ghost marks: { Self → Signature };
@@ -28,7 +28,7 @@ pub trait Sig: Drop {
         requires { (marks other.now).bits ≡ (marks self.old).bits }
         ensures { marks self.new ≡ union (marks self.old) (marks other.now) };
 
-    /// Whether both banks share a place with those of another signature of the same size.
+    /// Whether each bank shares a place with that of another signature of the same size.
     fn hits(&self, other: &Self) -> bool
         requires { (marks other.now).bits ≡ (marks self.now).bits }
         ensures { result ≡ hits (marks self.now) (marks other.now) };

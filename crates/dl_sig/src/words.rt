@@ -1,4 +1,4 @@
-//! The words of two banks of one size: eight lanes at a time, and a plain loop over the rest.
+//! The words of two banks of the same size: eight lanes at a time, and a plain loop over the rest.
 ghost use Rattle.std.specs.Prelude.{◌≡◌, ◌≤◌, ◌+◌, length};
 ghost use Rattle.std.specs.Simd.Lanes.{chunk, put_chunk};
 ghost use Rattle.spec_engine.specs.Signatures.{meets};
@@ -7,7 +7,7 @@ ghost use Rattle.dl_sig.specs.Words.{share, joined};
 
 use std::simd::prelude::*;
 
-// Whether both banks have a place.
+// Whether both banks have some place set.
 pub(crate) fn share(left: &[u32], right: &[u32]) -> bool
     requires { length right.now ≡ length left.now }
     ensures { result ≡ meets (of_words left.now).set (of_words right.now).set }
@@ -26,7 +26,7 @@ pub(crate) fn share(left: &[u32], right: &[u32]) -> bool
     false
 }
 
-// Whether both have a bit at one place of the eight words from `start` on.
+// Whether both have the same bit set in the eight words from `start` on.
 fn share_lanes(left: &[u32], right: &[u32], start: usize) -> bool
     requires in_left { start + 8 ≤ length left.now }
     requires in_right { start + 8 ≤ length right.now }
@@ -36,7 +36,7 @@ fn share_lanes(left: &[u32], right: &[u32], start: usize) -> bool
     both.reduce_or() != 0
 }
 
-// Sets the places of the other bank too.
+// Sets the other bank's places too.
 pub(crate) fn join(words: &mut [u32], others: &[u32])
     requires { length others.now ≡ length words.old }
     ensures { of_words words.new ≡ with_places (of_words others.now) (of_words words.old) }
@@ -50,7 +50,7 @@ pub(crate) fn join(words: &mut [u32], others: &[u32])
     }
 }
 
-// The same in the eight words from `start` on.
+// The same for the eight words from `start` on.
 fn join_lanes(words: &mut [u32], others: &[u32], start: usize)
     requires in_words { start + 8 ≤ length words.old }
     requires in_others { start + 8 ≤ length others.now }

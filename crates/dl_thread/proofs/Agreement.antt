@@ -1,4 +1,4 @@
--- What an operation comes to over a view agrees with the instruction's outcome on the bytes that the view shows.
+-- The outcome of an operation over a view agrees with the instruction's outcome on the bytes that the view shows.
 use Rattle.std.proofs.Common.{◌≡◌, ℕ, ◌/◌, length, Bool, true, false, cond, List, Option, Some, None, refl}
 use Rattle.spec_isa.specs.declared.thread.Parts.{Parts}
 use Rattle.spec_isa.specs.declared.thread.Load.{Load}

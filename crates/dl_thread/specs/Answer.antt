@@ -1,4 +1,4 @@
--- What one instruction of a thread comes to over a view.
+-- The outcome of one instruction of a thread over a view.
 use Rattle.std.specs.Prelude.{◌≡◌, ℕ, ◌/◌, Bool, true, List, length, Option, Some, None, if◌then◌else◌}
 use Rattle.spec_isa.specs.declared.thread.Parts.{Parts}
 use Rattle.spec_isa.specs.declared.thread.Load.{Load}
@@ -8,14 +8,14 @@ use Rattle.spec_isa.specs.Instruction.{InstructionOutcome, value_at, serial_of, 
 use Rattle.dl_thread.specs.declared.answer.Did.{Did}
 use Rattle.dl_thread.specs.Sight.{Sight}
 
--- the word that the thread fetches, and the word that it then loads, 0 where it loads none
+-- the word that the thread fetches, and the word that it then loads, 0 if it loads none
 abbrev pub fetched_word : Sight → Parts → ℕ
 fetched_word s t = read s.bytes (t.pc / 4)
 
 abbrev pub loaded_word : Sight → Parts → ℕ
 loaded_word s t = value_at s.bytes (loads_of t (fetched_word s t))
 
--- what the instruction loads, stores and leaves, where it is run
+-- what the instruction loads, stores and leaves, if it is run
 abbrev pub load_made : Sight → Parts → Option Load
 load_made s t = load_of t (fetched_word s t) (loaded_word s t)
 
@@ -25,7 +25,7 @@ store_made s t = store_of t (fetched_word s t) (loaded_word s t)
 abbrev pub thread_next : Sight → Parts → Parts
 thread_next s t = next_of t (fetched_word s t) (loaded_word s t)
 
--- ---- the checks, each before what follows it
+-- ---- the checks, each before those that follow it
 
 abbrev pub unless_held : Option ℕ → Did → Did
 unless_held None d = d
@@ -44,11 +44,11 @@ abbrev pub has_room : Sight → Option Stored → Bool
 has_room s None = true
 has_room s (Some b) = s.room b.number
 
--- the load may be held up, and the store may find no room
+-- the load may be held up, and there may be no room for the store
 abbrev pub accessed : Sight → (read : Option ℕ) → Option Load → Option Stored → Did
 accessed s a load store = unless_held (holder s a) (if has_room s store then Did.Next load else Did.NoRoom)
 
--- a fetch outside memory faults, and may be held up; a serial instruction is not run
+-- a fetch outside memory faults, and any other may be held up; a serial instruction is not run
 abbrev pub did : Sight → Parts → Did
 did s t =
     let f = fetched_word s t in
@@ -60,7 +60,7 @@ did s t =
 
 -- ---- what is left by it
 
--- a thread or its memory's bytes move on only where the instruction was run
+-- a thread or its memory's bytes move on only if the instruction was run
 abbrev pub after : {A : Type 0} → Did → (old next : A) → A
 after (Did.Next load) old next = next
 after (Did.Serial kind) old next = old
@@ -74,9 +74,9 @@ with_store m (Some b) = lay m b
 abbrev pub bytes_next : Sight → Parts → List ℕ
 bytes_next s t = with_store s.bytes (store_made s t)
 
--- ---- what the view was asked for, and answered
+-- ---- what the view was asked for, and what it answered
 
--- a word, where nothing holds up its reading
+-- a word, if nothing holds up its reading
 abbrev pub unheld : Option ℕ → ℕ → Option ℕ
 unheld None a = Some a
 unheld (Some k) a = None
@@ -84,7 +84,7 @@ unheld (Some k) a = None
 abbrev pub fetch_read : Sight → Parts → Option ℕ
 fetch_read s t = if is_inside (length s.bytes) t.pc then unheld (s.held (t.pc / 4)) (t.pc / 4) else None
 
--- a load is also read where the instruction then finds no room
+-- a load is read even if there is then no room for the store
 abbrev pub load_read : Did → Option ℕ → Option ℕ
 load_read (Did.Next load) a = a
 load_read (Did.Serial kind) a = None
@@ -122,7 +122,7 @@ Sees Read Wrote s t d v w =
 -- ---- in short
 
 -- from the bytes m the instruction of that outcome was run, and left the thread t and the bytes n; or it is serial; or it
--- was not run for want of room or for a flight
+-- was not run, because there was no room or a flight held it up
 abbrev pub Agrees : Did → InstructionOutcome → (t : Parts) (m n : List ℕ) → Type 0
 Agrees (Did.Next load) o t m n = (store : Option Stored) × (o ≡ InstructionOutcome.Next t load store) × (n ≡ with_store m store)
 Agrees (Did.Serial kind) o t m n = o ≡ InstructionOutcome.Serial kind

@@ -1,4 +1,4 @@
--- What an operation that is not serial comes to over a view, once it is carried out.
+-- The outcome over a view of carrying out an operation that is not serial.
 use Rattle.std.specs.Prelude.{ℕ, List, Option, None}
 use Rattle.spec_isa.specs.declared.thread.Parts.{Parts}
 use Rattle.spec_isa.specs.declared.operation.Operation.{Operation}
@@ -9,7 +9,7 @@ use Rattle.dl_thread.specs.declared.answer.Did.{Did}
 use Rattle.dl_thread.specs.Sight.{Sight}
 use Rattle.dl_thread.specs.Answer.{accessed, load_read, store_laid, with_store, Seen}
 
--- the word that it loads, 0 where it loads none
+-- the word that it loads, 0 if it loads none
 abbrev pub word_for : Sight → Operation → ℕ
 word_for s p = value_at s.bytes (word_loaded p)
 

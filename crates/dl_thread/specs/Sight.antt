@@ -2,7 +2,7 @@
 use Rattle.std.specs.Prelude.{◌≡◌, ℕ, ◌+◌, ◌%◌, ◌≤◌, Bool, true, List, Option, Some, None, Result, Ok, Err}
 use Rattle.spec_isa.specs.Words.{Stored, lay, read}
 
--- the bytes; of each word, by its number, the flight that holds its reading up, and whether there is room for a store to it
+-- the bytes; for each word, by its number, the flight that holds up its reading, and whether there is room for a store to it
 pub record Sight : Type 0 where
   pub bytes : List ℕ
   pub held : ℕ → Option ℕ

@@ -1,4 +1,4 @@
-//! Loads and stores of bytes, halves and words, by way of the words that a view has.
+//! Loads and stores of bytes, halves and words, through the words of a view.
 ghost use Rattle.std.specs.Prelude.{◌≡◌, ◌/◌, ◌%◌, true, false, length, OnOk, OnErr};
 ghost use Rattle.spec_isa.specs.Words.{is_inside};
 ghost use Rattle.spec_isa.specs.Masks.{bytes_of};
@@ -21,7 +21,7 @@ pub(crate) fn load_word<V: View>(addr: u32, v: &mut V) -> Result<u32, u8>
     v.load(addr / 4 * 4)
 }
 
-// What a load's register takes of that word.
+// What a load's register takes from that word.
 pub(crate) fn taken(op: LoadOp, word: u32, addr: u32) -> u32
     ensures { result ≡ loaded op word addr }
 {
@@ -49,7 +49,7 @@ pub(crate) fn store_part<V: View>(op: StoreOp, addr: u32, value: u32, v: &mut V)
     v.store(addr / 4 * 4, part.mask, part.value)
 }
 
-// Bytes of a word, those of `value` whose bits `mask` has.
+// Bytes of a word: those of `value` whose bits are set in `mask`.
 #[derive(Clone, Copy)]
 struct Part {
     mask: u8,

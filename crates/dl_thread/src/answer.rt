@@ -1,7 +1,7 @@
-//! What one instruction comes to.
+//! The outcome of one instruction.
 use spec_isa::thread::{Kind, Load};
 
-/// What one instruction comes to. Other than `Next` the thread is as it was.
+/// The outcome of one instruction. Except after `Next` the thread is as it was.
 #[derive(Clone, Copy, Debug, PartialEq, Eq)]
 pub enum Did {
     /// It was run, and made this load.

@@ -19,7 +19,7 @@ pub(crate) fn is_taken(op: BranchOp, a: u32, b: u32) -> bool
     }
 }
 
-// What an operation gives of a register and an extended immediate.
+// What an operation gives for a register and an extended immediate.
 pub(crate) fn immediate(op: ImmediateOp, a: u32, b: u32) -> u32
     ensures { result ≡ immediate_result op a b }
 {
@@ -33,7 +33,7 @@ pub(crate) fn immediate(op: ImmediateOp, a: u32, b: u32) -> u32
     }
 }
 
-// What a shift gives, by fewer than 32 places.
+// What a shift by fewer than 32 places gives.
 pub(crate) fn shifted(op: ShiftOp, a: u32, places: u32) -> u32
     requires { places < 2 ^ 5 }
     ensures { result ≡ shift_result op a places }
@@ -45,7 +45,7 @@ pub(crate) fn shifted(op: ShiftOp, a: u32, places: u32) -> u32
     }
 }
 
-// What an operation gives of two registers.
+// What an operation gives for two registers.
 pub(crate) fn computed(op: RegisterOp, a: u32, b: u32) -> u32
     ensures { result ≡ register_result op a b }
 {
@@ -71,7 +71,7 @@ pub(crate) fn computed(op: RegisterOp, a: u32, b: u32) -> u32
     }
 }
 
-// The signed number that a word stands for.
+// The signed number that a word represents.
 fn wide(a: u32) -> i64
     ensures value { result ≡ signed a }
     ensures fits { FitsSigned w32 result }
@@ -86,7 +86,7 @@ fn high(product: i64) -> u32
     (product.cast_unsigned() >> 32) as u32
 }
 
-// A signed quotient, towards 0; that of -2^31 by -1 wraps, and that by 0 is -1.
+// A signed quotient, rounded towards 0; that of -2^31 by -1 wraps, and that by 0 is -1.
 fn divided(a: u32, b: u32) -> u32
     ensures { result ≡ register_result RegisterOp.Div a b }
 {
@@ -112,7 +112,7 @@ fn remainder(a: u32, b: u32) -> u32
     }
 }
 
-// What an atomic operation stores, of the old word and a register.
+// What an atomic operation stores, from the old word and a register.
 pub(crate) fn combined(op: AmoOp, old: u32, value: u32) -> u32
     ensures { result ≡ amo_result op old value }
 {
@@ -129,7 +129,7 @@ pub(crate) fn combined(op: AmoOp, old: u32, value: u32) -> u32
     }
 }
 
-// A number of `bits` bits, its highest one copied into those above.
+// A number of `bits` bits, with its highest one copied into those above.
 pub(crate) fn extend(bits: u32, a: u32) -> u32
     requires some { 1 ≤ bits }
     requires below { bits < 32 }

@@ -19,7 +19,7 @@ use spec_isa::operation::Operation;
 use spec_isa::thread::{Kind, Load};
 
 /// One instruction of a thread over a view, in the order of its checks: a fetch outside memory, a fetch that is held up, a
-/// serial instruction, a load that is held up, a store without room. Where one of them stands, the thread is unchanged.
+/// serial instruction, a load that is held up, a store without room. If any of them applies, the thread is unchanged.
 #[inline(always)]
 #[tactic(auto, unfolding(spec_isa::specs::Instruction::serial_of, spec_isa::specs::Instruction::loads_of, spec_isa::specs::Instruction::next_of, spec_isa::specs::Instruction::load_of, spec_isa::specs::Instruction::store_of))]
 pub fn one<V: View>(t: &mut Thread, v: &mut V) -> Did
@@ -111,7 +111,7 @@ fn perform<V: View>(operation: Operation, t: &mut Thread, v: &mut V) -> Did
     }
 }
 
-// Sets a register, and goes on behind the instruction.
+// Sets a register, and goes on after the instruction.
 fn finish(t: &mut Thread, rd: Reg, value: u32) -> Did
     ensures did { result ≡ Did.Next None }
     ensures thread { t.new ≡ at_pc t.old rd value (following t.old) }
@@ -121,7 +121,7 @@ fn finish(t: &mut Thread, rd: Reg, value: u32) -> Did
     Did::Next(None)
 }
 
-// The same with a value that was loaded.
+// The same for a value that was loaded.
 fn finish_load(t: &mut Thread, rd: Reg, addr: u32, value: u32) -> Did
     ensures did { result ≡ Did.Next (Some (record { addr = addr; value = value })) }
     ensures thread { t.new ≡ at_pc t.old rd value (following t.old) }

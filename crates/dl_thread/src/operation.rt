@@ -1,4 +1,4 @@
-//! The operation of an instruction, by the registers alone.
+//! The operation of an instruction, from the registers alone.
 ghost use Rattle.std.specs.Prelude.{◌≡◌};
 ghost use Rattle.spec_isa.specs.Arithmetic.{add, extended};
 ghost use Rattle.spec_isa.specs.Instruction.{operation_of};
@@ -122,7 +122,7 @@ fn onward(t: &Thread, rd: Reg, value: u32) -> Operation
     }
 }
 
-// A jump, which keeps the place that follows it.
+// A jump, which keeps the address after it.
 fn jump(t: &Thread, rd: Reg, pc: u32) -> Operation
     ensures { result ≡ Operation.Go rd (add t.now.pc 4) pc }
 {

@@ -1,4 +1,4 @@
-//! Why an operation is serial, and so is not carried out.
+//! Why an operation is serial and so is not carried out.
 ghost use Rattle.std.specs.Prelude.{◌≡◌, ◌<◌};
 ghost use Rattle.spec_isa.specs.Operations.{is_device_load, is_device_store, load_refusal, load_size, refuses, store_refusal, store_size};
 ghost use Rattle.spec_isa.specs.Words.{is_inside};
@@ -73,7 +73,7 @@ pub(crate) fn has_word(size: u32, addr: u32) -> bool
     size >= 4 && addr / 4 * 4 <= size - 4
 }
 
-// LW alone reads a device, the moment or the next input byte.
+// Only LW reads a device: the moment or the next input byte.
 fn reads_device(op: LoadOp, addr: u32) -> bool
     ensures { result ≡ is_device_load op addr }
 {
@@ -83,7 +83,7 @@ fn reads_device(op: LoadOp, addr: u32) -> bool
     }
 }
 
-// SW alone writes a device, the console.
+// Only SW writes a device: the console.
 fn writes_device(op: StoreOp, addr: u32) -> bool
     ensures { result ≡ is_device_store op addr }
 {

@@ -6,10 +6,10 @@ ghost use Rattle.spec_isa.specs.Threads.{started};
 use crate::state::Thread;
 use std::marker::Model;
 
-/// How many places for threads a row has.
+/// How many threads a row has places for.
 pub const PLACES: usize = 15;
 
-/// The threads of a sphere, at least 1 and at most as many as a row has places, seen as the list of their parts.
+/// The threads of a sphere, at least 1 and at most as many as a row has places for, seen as the list of their parts.
 #[derive(Debug, Drop)]
 pub struct Threads {
     row: [Thread; PLACES],
@@ -68,7 +68,7 @@ impl Threads {
         self.row[n as usize] = *thread;
     }
 
-    /// Adds a thread at the end. False, with nothing changed, if no place is free.
+    /// Adds a thread at the end. If no place is free, gives false and changes nothing.
     pub fn add(&mut self, thread: &Thread) -> bool
         ensures added { result ≡ nat_lt (length self.old) row_places }
         ensures threads { self.new ≡ (if result then self.old ++ thread.now ∷ [] else self.old) }

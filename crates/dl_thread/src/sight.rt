@@ -8,15 +8,15 @@ ghost use Rattle.dl_thread.specs.Sight.{Sight, IsWord, Answers, Lays};
 #[derive(Clone, Copy, Debug, PartialEq, Eq)]
 pub struct Full;
 
-/// A memory as one thread sees it. Calls take the byte address of a word; what is said of them goes by its number.
+/// A memory as one thread sees it. Calls take the byte address of a word; their clauses go by its number.
 pub trait View {
     /// What it shows.
     ghost sight: { Self → Sight };
 
-    /// How it changes where a word is read.
+    /// How it changes when a word is read.
     ghost Read: { Self → ℕ → Self → Type 0 };
 
-    /// How it changes by a store.
+    /// How it changes when a word is stored.
     ghost Wrote: { Self → Stored → Self → Type 0 };
 
     /// The number of bytes that it shows.
@@ -39,7 +39,7 @@ pub trait View {
         ensures read { OnOk result (Read self.old (word / 4) self.new) }
         ensures held { OnErr result (self.new ≡ self.old) };
 
-    /// Stores those bytes of `value` whose bits `mask` has, bit 0 being that of the lowest byte, into the word at `word`.
+    /// Stores into the word at `word` those bytes of `value` whose bits are set in `mask`; bit 0 is for the lowest byte.
     fn store(&mut self, word: u32, mask: u8, value: u32) -> Result<(), Full>
         requires { IsWord (length (sight self.old).bytes) word }
         ensures laid { OnOk result (Lays (sight self.old) (bytes_of (word / 4) mask value) (sight self.new)) }

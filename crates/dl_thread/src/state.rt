@@ -121,7 +121,7 @@ impl Thread {
         self.parts.saved_a1
     }
 
-    /// Whether it goes on.
+    /// Whether it is live, or how it stopped.
     pub fn status(&self) -> ThreadStatus
         ensures { result ≡ self.now.status }
     {
@@ -150,7 +150,7 @@ impl Thread {
         self.parts.pc.wrapping_add(4)
     }
 
-    // Sets a register, of which x0 keeps its 0, and the pc.
+    // Sets the pc and a register, except that x0 stays 0.
     pub(crate) fn go(&mut self, rd: Reg, value: u32, pc: u32)
         requires { pc % 4 ≡ 0 }
         ensures { self.new ≡ at_pc self.old rd value pc }

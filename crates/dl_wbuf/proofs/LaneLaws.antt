@@ -58,7 +58,7 @@ pub word_over-any : (a b mask value below : ℕ) → word_over (bytes_of a mask 
 unfolding word_over bytes_of
 word_over-any a b m v below = refl
 
--- lane k of a store is the value's byte k where bit k of the mask is set, and else nothing
+-- lane k of a store is the value's byte k if bit k of the mask is set, and else nothing
 pub lane-bytes_of : (k a mask value : ℕ) → k < 4 → lane (bytes_of a mask value) k ≡ some_if (nat_eq (bit_and (mask / 2 ^ k) 1) 1) (slice_index (value % 256 ∷ value / 256 % 256 ∷ value / 65536 % 256 ∷ value / 16777216 % 256 ∷ []) k)
 unfolding bytes_of
 lane-bytes_of zero a m v h = rw (shr_and_one m 0, bit_at_lowest m) refl
@@ -141,7 +141,7 @@ whole-then w m v n u h =
     )
     (rw (new.lane0, new.lane1, new.lane2, new.lane3) refl)
 
--- an exact mask and value are exact still after the bytes of another store are laid over them
+-- an exact mask and value are still exact after the bytes of another store are laid over them
 pub IsExact-then : (w m v n u : ℕ) → IsExact w m v → IsExact w (bit_or m (n % 16)) (word_over (bytes_of 0 n u) v)
 IsExact-then w m v n u h =
     record {

@@ -32,7 +32,7 @@ other_word r s rs byte ne h =
       | inr elsewhere ↦ rw elsewhere.0 h
     ]
 
--- one store more
+-- one more store
 byte_held-put : (ws : List Stored) (s : Stored) (byte : ℕ) → byte_held (put ws s) byte ≡ later (byte_held ws byte) (byte_held (s ∷ []) byte)
 byte_held-put [] s byte = sym (later_none _)
 byte_held-put (r ∷ rs) s byte =

@@ -124,7 +124,7 @@ IsOpen-again t e d h was =
 
 -- ---- the places then
 
--- where the probe for a number ends at the slot, no slot holds it
+-- if the probe for a number ends at the slot, no slot holds it
 lacks-after : (t : Slots) (a : ℕ) (e : Entry) → IsOpen t → a ≢ e.number → slot_of t a ≡ slot_of t e.number → (i : ℕ) (d : Entry) → Held t e i d → d.number ≢ a
 lacks-after t a e h ne same i d (inl it) = λ f. ne (sym f ∙ ap (λ x. x.number) (sym it.1))
 lacks-after t a e h ne same i d (inr it) = λ f. it.0 (sym (h.stands i d it.1) ∙ ap (slot_of t) f ∙ same)
@@ -159,13 +159,13 @@ pub record IsSet (old new : Slots) (e : Entry) : Type 0 where
   pub opened : IsOpen new
   pub places : (a : ℕ) → place new a ≡ cond (eqb a e.number) (Some e.place) (place old a)
 
--- with room left, a number's slot is set and listed as taken: no other number's place changes, and it is a table still
+-- with room left, a number's slot is set and listed as taken: no other number's place changes, and it is still a table
 pub IsSet-taken : (t : Slots) (slot : ℕ) (e : Entry) (taken : List ℕ) → IsOpen t → slot ≡ slot_of t e.number → length t.taken < t.room → taken ≡ t.taken ++ slot ∷ [] → IsSet t (record t { slots = slice_set t.slots slot (Some e); taken = taken }) e
 IsSet-taken t slot e taken h here lt more =
     let new = IsOpen-taken t e h lt in
     rw (more, here) (record { opened = new; places = λ a. place-after t a e _ h new })
 
--- a number's slot that was set is set again: no other number's place changes, and it is a table still
+-- a number's slot that was set is set again: no other number's place changes, and it is still a table
 pub IsSet-again : (t : Slots) (slot : ℕ) (e : Entry) (was : Option Entry) → IsOpen t → slot ≡ slot_of t e.number → was ≡ get_or t.slots slot was → is_some was ≡ true → IsSet t (record t { slots = slice_set t.slots slot (Some e) }) e
 IsSet-again t slot e was h here is some =
     let stood = entry_at t.slots (slot_of t e.number) was (slot_inside t e.number h) (rw here at is) some in

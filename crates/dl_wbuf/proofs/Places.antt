@@ -1,4 +1,4 @@
--- What it means for the definitions where the first word of a number stands, or that none does.
+-- What it means for the definitions where the first word of a number is, or that there is none.
 use Rattle.std.proofs.Common.{◌≡◌, ℕ, ◌+◌, ◌/◌, ◌%◌, ◌<◌, ◌⊎◌, inl, inr, suc, Bool, true, false, eqb, ltb, List, [], ◌∷◌, ◌++◌, length, get_or, Some, None, refl, ap, subst, arith}
 use Rattle.std.specs.Prelude.{slice_set}
 use Rattle.std.specs.List.{position, position_or_len}
@@ -13,7 +13,7 @@ use Rattle.dl_wbuf.specs.Buffers.{lane, byte_held}
 abbrev pub is_of : ℕ → Stored → Bool
 is_of a s = eqb s.number a
 
--- the word of that number stands at a place
+-- the word of that number is at a place
 pub record IsFound (ws : List Stored) (a i : ℕ) : Type 0 where
   pub inside : i < length ws
   pub held : holds ws a ≡ true
@@ -22,7 +22,7 @@ pub record IsFound (ws : List Stored) (a i : ℕ) : Type 0 where
   pub seen : (below : ℕ) (d : Stored) → over ws a below ≡ word_over (get_or ws i d) below
   pub byte : (at : ℕ) (d : Stored) → at / 4 ≡ a → byte_held ws at ≡ lane (get_or ws i d) (at % 4)
 
--- no word of that number stands
+-- there is no word of that number
 pub record IsMissing (ws : List Stored) (a : ℕ) : Type 0 where
   pub held : holds ws a ≡ false
   pub puts : (s : Stored) → s.number ≡ a → put ws s ≡ ws ++ s ∷ []
@@ -88,7 +88,7 @@ IsFound-place ws a i h =
           let f = rw test at h in cc
     ]
 
--- where no word of a number stands, none is seen, and a store of that number comes last
+-- if there is no word of a number, none is seen, and a store of that number comes last
 pub IsMissing-place : (ws : List Stored) (a : ℕ) → position (is_of a) ws ≡ None → IsMissing ws a
 IsMissing-place ws a h =
     elim (located ws a) [
@@ -98,7 +98,7 @@ IsMissing-place ws a h =
       | inr missing ↦ missing.0
     ]
 
--- a number is held exactly where a first word of it stands
+-- a number is held exactly if there is a first word of it
 pub holds-place : (ws : List Stored) (a : ℕ) → holds ws a ≡ is_some (position (is_of a) ws)
 holds-place ws a =
     elim (located ws a) [

@@ -1,4 +1,4 @@
--- Where the first word of a number stands, as words are put, stored again and taken out.
+-- Where the first word of a number is, as words are put, stored again and taken out.
 use Rattle.std.proofs.Common.{◌≡◌, ◌≢◌, ℕ, ◌+◌, ◌-◌, ◌<◌, ◌≤◌, inl, inr, zero, suc, Bool, true, false, cond, eqb, List, [], ◌∷◌, ◌++◌, length, get_or, take, Option, Some, None, refl, sym, ap, ◌∙◌, arith, length-append, subst}
 use Rattle.std.specs.Prelude.{slice_set}
 use Rattle.std.specs.List.{position, position_or_len}
@@ -51,7 +51,7 @@ position-other p xs y fails =
 pub position-again : {X : Type 0} (p : X → Bool) (xs : List X) (i : ℕ) (y d : X) → p y ≡ p (get_or xs i d) → position p (slice_set xs i y) ≡ position p xs
 position-again p xs i y d e = rw (position_or_len-set p xs i y d e, length-set xs i y) refl
 
--- ---- words that stand apart
+-- ---- words that are apart
 
 lacking : (ws : List Stored) (a : ℕ) → Lacks a ws → position_or_len (is_of a) ws ≡ length ws
 lacking [] a lacks = refl
@@ -69,7 +69,7 @@ before (s ∷ ss) (suc i) d apart inside =
     let ne : s.number ≢ (get_or ss i d).number = λ e. lacks_at ss s.number i d apart.0 (omega arith) (sym e) in
     rw (ne_eqb _ _ ne) (omega (arith, before ss i d apart.1 (omega arith)))
 
--- a word stands nowhere before its place
+-- a word is nowhere before its place
 pub position-before : (ws : List Stored) (i : ℕ) (d : Stored) → Apart ws → i < length ws → position (is_of (get_or ws i d).number) (take i ws) ≡ None
 position-before ws i d apart inside = none_at_end _ (take i ws) (omega (arith, before ws i d apart inside))
 
@@ -125,11 +125,11 @@ left-drained d a o s ss lacks h =
 
 -- ---- a table and its words
 
--- what a look-up comes to
+-- the outcome of a look-up
 pub position-found : (capacity drained : ℕ) (table : Slots) (ws : List Stored) (number slot : ℕ) (o r : Option ℕ) → IsPlaced capacity drained table ws → slot ≡ slot_of table number → o ≡ place_in table slot → r ≡ left drained o → position (is_of number) ws ≡ r
 position-found c d t ws a slot o r h at held is = sym (is ∙ ap (left d) (held ∙ ap (place_in t) at) ∙ h.places a)
 
--- with one word more taken out, but fewer than the capacity, the table has the places of those left
+-- with one more word taken out, but fewer than the capacity, the table has the places of those left
 pub IsPlaced-drained : (capacity drained next : ℕ) (table : Slots) (ws : List Stored) (s : Stored) (ss : List Stored) → ws ≡ s ∷ ss → Apart ws → IsPlaced capacity drained table ws → next ≡ 1 + drained → next ≢ capacity → IsPlaced capacity next table ss
 IsPlaced-drained c d n t ws s ss e apart h next ne =
     let was = rw e at h in
@@ -140,7 +140,7 @@ IsPlaced-drained c d n t ws s ss e apart h next ne =
       few = omega (arith, was.few);
     })
 
--- a word that stands is stored again
+-- a word that is there is stored again
 pub IsPlaced-again : (capacity drained : ℕ) (table : Slots) (ws : List Stored) (i : ℕ) (new d : Stored) → new.number ≡ (get_or ws i d).number → IsPlaced capacity drained table ws → IsPlaced capacity drained table (slice_set ws i new)
 IsPlaced-again c n t ws i new d same h =
     record {
@@ -163,7 +163,7 @@ IsPlaced-new c n old t ws new number is none h places taken room =
       few = h.few;
     }
 
--- ---- a table made anew
+-- ---- a table that is filled anew
 
 -- the first i words have their places
 pub record IsFilled (table : Slots) (ws : List Stored) (i : ℕ) : Type 0 where

@@ -1,4 +1,4 @@
--- Where a probe ends: it comes upon a free slot, and a slot that is set elsewhere leaves it as it was.
+-- Where a probe ends: it meets a free slot, and a slot that is set elsewhere makes no difference to it.
 use Rattle.std.proofs.Common.{◌≡◌, ◌≢◌, ℕ, ◌+◌, ◌-◌, ◌*◌, ◌<◌, ◌≤◌, inl, inr, zero, suc, Bool, true, false, List, [], ◌∷◌, length, get_or, drop, Option, Some, None, refl, sym, ap, ◌∙◌, arith, length-drop, subst}
 use Rattle.std.specs.Prelude.{slice_set}
 use Rattle.std.specs.List.{position, position_or_len}
@@ -47,7 +47,7 @@ used_drop (suc n) [] = omega arith
 used_drop (suc n) (None ∷ ss) = used_drop n ss
 used_drop (suc n) (Some e ∷ ss) = omega (arith, used_drop n ss)
 
--- with half of the slots used at most, a probe that begins in the first half ends at a slot
+-- with at most half of the slots used, a probe that begins in the first half ends at a slot
 pub probe_inside : (slots : List (Option Entry)) (start a room : ℕ) → used slots ≤ room → 2 * room ≤ length slots → 2 * start < length slots → probe slots start a < length slots
 probe_inside slots start a room h half starts =
     let e : length (drop start slots) + start ≡ length slots = omega (arith, length-drop start slots) in
@@ -93,7 +93,7 @@ probe_fits slots start a inside =
     let lt : position_or_len (fits a) (drop start slots) < length (drop start slots) = omega (arith, length-drop start slots) in
     rw (get_or-drop start slots (position_or_len (fits a) (drop start slots)) None) at (passes_at_first (fits a) (drop start slots) None lt)
 
--- the entry of the number that is probed for comes where the probe ends
+-- the entry of the number that is probed for is put where the probe ends
 pub probe_found : (slots : List (Option Entry)) (start : ℕ) (e : Entry) → probe slots start e.number < length slots → probe (slice_set slots (probe slots start e.number) (Some e)) start e.number ≡ probe slots start e.number
 probe_found slots start e inside =
     let i : ℕ = position_or_len (fits e.number) (drop start slots) in

@@ -1,4 +1,4 @@
--- A write buffer: the words stored, each at the place of its first store, and for how many there is room.
+-- A write buffer: the words stored, in the order of each one's first store, and how many there is room for.
 use Rattle.std.specs.Prelude.{◌≡◌, ℕ, ◌/◌, ◌%◌, Bool, List, [], ◌∷◌, length, Option, None, if◌then◌else◌, nat_eq, nat_lt, ◌||◌}
 use Rattle.spec_isa.specs.Words.{Stored, later, put, holds}
 
@@ -6,7 +6,7 @@ pub record Words : Type 0 where
   pub capacity : ℕ
   pub words : List Stored
 
--- whether a store to word number a is taken
+-- whether there is room for a store to word number a
 abbrev pub has_room : Words → (a : ℕ) → Bool
 has_room w a = holds w.words a || nat_lt (length w.words) w.capacity
 
@@ -27,11 +27,11 @@ abbrev pub puts : List Stored → (stores : List Stored) → List Stored
 puts ws [] = ws
 puts ws (s ∷ ss) = puts (put ws s) ss
 
--- the byte that the last of these stores to have one has for that address
+-- the byte for that address that the last of these stores with such a byte has
 abbrev pub last_stored : (stores : List Stored) → (byte : ℕ) → Option ℕ
 last_stored [] byte = None
 last_stored (s ∷ ss) byte = later (byte_held (s ∷ []) byte) (last_stored ss byte)
 
--- whichever stores the words are of, the answer is the byte that was stored last at the address
+-- whichever stores the words come from, the answer is the byte that was stored last at the address
 abbrev pub IsLast : List Stored → (byte : ℕ) → (answer : Option ℕ) → Type 0
 IsLast words byte answer = (stores : List Stored) → words ≡ puts [] stores → answer ≡ last_stored stores byte

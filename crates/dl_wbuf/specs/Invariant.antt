@@ -4,7 +4,7 @@ use Rattle.std.specs.List.{position}
 use Rattle.spec_isa.specs.Words.{Stored, Apart}
 use Rattle.dl_wbuf.specs.Tables.{Slots, place}
 
--- each word stands once, and no more words stand than there may; these are from 1 to 4,096, and there is room for them
+-- each word is there once, and there are no more than the capacity, which is from 1 to 4,096; and room is made for that many
 pub record IsBuffer (capacity room : ℕ) (words : List Stored) : Type 0 where
   pub apart : Apart words
   pub within : length words ≤ capacity
@@ -12,12 +12,12 @@ pub record IsBuffer (capacity room : ℕ) (words : List Stored) : Type 0 where
   pub most : capacity ≤ 4096
   pub made : capacity ≤ room
 
--- which of the words left it is that came at this place, where `drained` have been taken out: none, if it is one of these
+-- which of the words left came at this place, if `drained` have been taken out: none, if it is one of these
 abbrev pub left : (drained : ℕ) → (place : Option ℕ) → Option ℕ
 left drained None = None
 left drained (Some i) = if nat_lt i drained then None else Some (i - drained)
 
--- the table has a place for each word left, counted from the first that came since it was last emptied; `drained` of these have
+-- the table has the place of each word left, counted from the first that came since it was last emptied; `drained` words have
 -- been taken out since, and there is room for twice the capacity
 pub record IsPlaced (capacity drained : ℕ) (table : Slots) (words : List Stored) : Type 0 where
   pub places : (a : ℕ) → left drained (place table a) ≡ position (λ s. nat_eq s.number a) words

@@ -1,11 +1,10 @@
--- A table with open addressing: for some numbers a place each. A slot is free, or is taken by the entry of a number, which stands
--- in the first slot from its home on that was free. Homes lie in the first half, so that a probe comes upon a free slot before the
--- end.
+-- A table with open addressing: for some numbers a place each. A slot is free, or is taken by the entry of a number, which is in
+-- the first slot from its home on that was free. Homes lie in the first half, so that a probe meets a free slot before the end.
 use Rattle.std.specs.Prelude.{◌≡◌, ℕ, ◌+◌, ◌*◌, ◌/◌, ◌%◌, ◌^◌, ◌<◌, ◌≤◌, Bool, true, List, [], ◌∷◌, length, drop, Option, Some, None, nat_eq}
 use Rattle.std.specs.List.{position_or_len, Contains, slice_index_or}
 use Rattle.dl_wbuf.specs.declared.entry.Entry.{Entry}
 
--- the slots, those of them that are taken, for how many of these there is room, and of how many bits a hash loses the lowest
+-- the slots, those of them that are taken, how many of these there is room for, and how many of its lowest bits a hash loses
 pub record Slots : Type 0 where
   pub slots : List (Option Entry)
   pub taken : List ℕ
@@ -31,7 +30,7 @@ used (Some e ∷ ss) = 1 + used ss
 abbrev pub probe : List (Option Entry) → (start number : ℕ) → ℕ
 probe slots start a = start + position_or_len (fits a) (drop start slots)
 
--- the slot of a number: that which its entry takes, or would take
+-- the slot of a number: the one that its entry takes, or would take
 abbrev pub slot_of : Slots → (number : ℕ) → ℕ
 slot_of t a = probe t.slots (home t.shift a) a
 

@@ -24,7 +24,7 @@ pub struct Full;
 pub struct Buffer {
     capacity: u32,
     words: VecDeque<Stored>,
-    // where each word stands, counted from the first that came since the table was last emptied
+    // the place of each word, counted from the first that came since the table was last emptied
     table: Table,
     // how many have been taken out since
     drained: u32,
@@ -57,7 +57,7 @@ impl Buffer {
         })
     }
 
-    /// For how many words there is room, from 1 to 4,096.
+    /// How many words there is room for, from 1 to 4,096.
     pub fn capacity(&self) -> u32
         ensures value { result ≡ self.now.capacity }
         ensures least { 1 ≤ result }
@@ -66,7 +66,7 @@ impl Buffer {
         self.capacity
     }
 
-    /// How many words stand.
+    /// How many words there are.
     pub fn len(&self) -> u32
         ensures value { result ≡ length self.now.words }
         ensures within { length self.now.words ≤ self.now.capacity }
@@ -76,14 +76,14 @@ impl Buffer {
         self.words.len() as u32
     }
 
-    /// Whether no word stands.
+    /// Whether it is empty.
     pub fn is_empty(&self) -> bool
         ensures { result ≡ (length self.now.words == 0) }
     {
         self.words.is_empty()
     }
 
-    /// Whether a store to the word of an address is taken.
+    /// Whether there is room for a store to the word of an address.
     pub fn has_room(&self, word: u32) -> bool
         ensures { result ≡ has_room self.now (word / 4) }
     {
@@ -100,7 +100,7 @@ impl Buffer {
         self.words[i].byte(byte % 4)
     }
 
-    /// The word at an address as it is seen through the buffer, `below` being what lies below.
+    /// The word at an address as it is seen through the buffer; `below` is what lies below.
     #[inline(always)]
     pub fn over(&self, word: u32, below: u32) -> u32
         ensures value { result ≡ over self.now.words (word / 4) below }
@@ -144,7 +144,7 @@ impl Buffer {
         self.drained = 0;
     }
 
-    /// Stores the masked bytes of a value in a word. `Full`: the word is new, and as many words stand as there may; nothing
+    /// Stores the masked bytes of a value in a word. `Full`: the word is new and there is no room for one more; nothing
     /// is stored.
     #[inline(always)]
     pub fn put(&mut self, word: u32, mask: u8, value: u32) -> Result<(), Full>
@@ -170,7 +170,7 @@ impl Buffer {
         Ok(())
     }
 
-    // Where the word of that number stands.
+    // The place of the word of that number.
     #[inline(always)]
     fn place(&self, number: u32) -> Option<usize>
         ensures value { result ≡ position (λ s. s.number == number) self.now.words }
@@ -180,7 +180,7 @@ impl Buffer {
     }
 }
 
-// Which of the words left it is that came at this place, if it is one.
+// Which of the words left came at this place, if one of them did.
 fn left(place: Option<u32>, drained: u32) -> Option<usize>
     ensures { result ≡ left drained place }
 {

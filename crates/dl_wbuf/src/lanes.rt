@@ -1,8 +1,8 @@
-//! The bytes of a word, picked by a mask: bit k stands for byte k, counted from the least.
+//! The bytes of a word, picked by a mask: bit k stands for byte k, counted from the lowest.
 ghost use Rattle.std.specs.Prelude.{◌≡◌, if◌then◌else◌};
 ghost use Rattle.spec_isa.specs.Masks.{bytes_of, word_over};
 
-/// The word below, but for the masked bytes, which are those of the value.
+/// The word below, except for the masked bytes, which are those of the value.
 pub(crate) fn laid_over(below: u32, mask: u8, value: u32) -> u32
     ensures { result ≡ word_over (bytes_of 0 mask value) below }
 {

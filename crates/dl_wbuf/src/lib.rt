@@ -1,4 +1,4 @@
-//! A write buffer: the stores of a chunk that is not in memory yet, seen as a list of words in the order of their first store.
+//! A write buffer: a chunk's stores that aren't in memory yet, seen as a list of words in the order of their first store.
 #![tactic(auto)]
 
 pub mod buffer;

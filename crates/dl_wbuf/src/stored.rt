@@ -1,4 +1,4 @@
-//! One word's store: which of its bytes, and what they are.
+//! One word's store: which of its bytes are stored, and what they are.
 use crate::lanes::laid_over;
 use std::marker::Model;
 

@@ -1,4 +1,4 @@
-//! The table that says where a word stands. It is made once, and no later call takes memory.
+//! The table that says where a word is. It is made once, and no later call takes memory.
 ghost use Rattle.std.specs.Prelude.{◌≡◌, ℕ, ◌*◌, ◌+◌, ◌<◌, ◌≤◌, length, None, Some, if◌then◌else◌, nat_eq, IfOk};
 ghost use Rattle.dl_wbuf.specs.Tables.{home, slot_of, place_in, place};
 
@@ -26,7 +26,7 @@ impl Model for Table {
 }
 
 impl Table {
-    // A table of no number, with room for `room`, from 1 to 8,192. Its slots are a power of two, at least twice as many.
+    // An empty table with room for `room` numbers, from 1 to 8,192. It has a power of two of slots, at least twice as many.
     pub(crate) fn new(alloc: Global, room: u32) -> Result<Table, AllocError>
         requires least { 1 ≤ room }
         requires most { room ≤ 8192 }
@@ -49,7 +49,7 @@ impl Table {
         self.place_in(self.slot(number))
     }
 
-    // The slot of a number: that which its entry takes, or would take.
+    // The slot of a number: the one that its entry takes, or would take.
     pub(crate) fn slot(&self, number: u32) -> usize
         ensures value { result ≡ slot_of self.now number }
         ensures within { result < length self.now.slots }
@@ -59,7 +59,7 @@ impl Table {
         home + first_fit(rest, number).unwrap_or(rest.len())
     }
 
-    // The place that stands in a slot.
+    // The place that a slot's entry has.
     pub(crate) fn place_in(&self, slot: usize) -> Option<u32>
         requires { slot < length self.now.slots }
         ensures { result ≡ place_in self.now slot }

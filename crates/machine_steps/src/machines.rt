@@ -12,7 +12,7 @@ use std::alloc::Global;
 use std::fmt;
 use std::fmt::{Display, Formatter, Write};
 
-/// What a schedule came to.
+/// The outcome of a schedule.
 #[derive(Clone, Copy)]
 pub struct Outcome {
     cores: u8,
@@ -33,7 +33,7 @@ impl Display for Outcome {
     }
 }
 
-/// Runs that many rounds, of 2^24 events at most.
+/// Runs that many rounds, of at most 2^24 events.
 pub fn in_rounds(alloc: Global, cores: u8, rounds: u32) -> anyhow::Result<Outcome> {
     let mut machine = machine_of(alloc, cores)?;
     for _ in 0..rounds {
@@ -78,7 +78,7 @@ pub fn drawn(alloc: Global, cores: u8, events: u32) -> anyhow::Result<Outcome> {
     Ok(outcome_of(&machine, cores, "drawn"))
 }
 
-// The machine takes the event, while it has taken fewer than 2^24.
+// The machine takes the event, if it has taken fewer than 2^24.
 fn take(machine: &mut Machine<Banked>, event: Event) -> Result<(), OutOfMemory> {
     if machine.counts().events < 1 << 24 {
         machine.apply(event)?;

@@ -1,6 +1,6 @@
-//! Runs two schedules on machines of 1, 4 and 8 cores, with as many recorded spheres and slots, and prints what each came to. In
+//! Runs two schedules on machines of 1, 4 and 8 cores, with as many recorded spheres and slots, and prints the outcomes. In
 //! rounds each core fills its chunk and asks, and then all flights are made visible; the other schedule is drawn from a seed.
-//! Three words take one machine alone: its cores, and how many rounds and how many drawn events there are.
+//! Three words ask for one machine only: its cores, and how many rounds and how many drawn events there are.
 #![tactic(auto)]
 
 mod file;

@@ -1,5 +1,5 @@
 //! Puts to 0, 1, 16, 256 and 4,096 pages of a memory of 16 MiB and takes a snapshot, over and over, and prints what the last
-//! snapshots hold. Its first word says how often, without it three times; a second one leaves out other numbers of pages.
+//! snapshots hold. Its first word says how often, three times if there is none; a second one leaves out other numbers of pages.
 #![tactic(auto)]
 
 ghost use Rattle.std.specs.Prelude.{◌≡◌, length};

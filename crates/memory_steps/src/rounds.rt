@@ -10,7 +10,7 @@ pub const SIZE: u32 = 16_777_216;
 // The size of a page of it.
 const PAGE: u32 = 4096;
 
-/// Puts to the first pages and takes a snapshot, so many times, and gives the last snapshot.
+/// Puts to the first pages and takes a snapshot, that many times, and gives the last snapshot.
 pub fn last_of(memory: &mut Memory, pages: u32, rounds: u32) -> Result<Snapshot, AllocError>
     requires { length memory.old ≡ 16777216 }
     ensures { IfOk result (λ snapshot. length snapshot ≡ 16777216) }
@@ -23,7 +23,7 @@ pub fn last_of(memory: &mut Memory, pages: u32, rounds: u32) -> Result<Snapshot,
     Ok(last)
 }
 
-// Puts to the first word of each of so many pages.
+// Puts to the first word of each of that many pages.
 #[tactic(auto, using(spec_isa::proofs::MemoryLaws::length_lay))]
 fn put_to(memory: &mut Memory, pages: u32, round: u32)
     requires { length memory.old ≡ 16777216 }
@@ -34,7 +34,7 @@ fn put_to(memory: &mut Memory, pages: u32, round: u32)
     }
 }
 
-/// Of the first words of all pages.
+/// A checksum of the first words of all pages.
 pub fn checksum(snapshot: &Snapshot) -> u32
     requires { length snapshot.now ≡ 16777216 }
 {

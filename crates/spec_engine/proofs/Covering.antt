@@ -15,7 +15,7 @@ use Rattle.spec_engine.specs.Laws.{CoversWords, CoversLoads, IsCovered, ChunksAr
 use Rattle.spec_engine.proofs.Marking.{covers_insert, covers_more}
 use Rattle.spec_engine.proofs.Choosing.{keep_option, keep_choose}
 
--- ---- one line more
+-- ---- one more line
 
 words_more : (i l : ℕ) (g : Signature) (ws : List Stored) → CoversWords i g ws → CoversWords i (insert l g) ws
 words_more i l g [] all = tt
@@ -25,7 +25,7 @@ loads_more : (i l : ℕ) (g : Signature) (ls : List Load) → CoversLoads i g ls
 loads_more i l g [] all = tt
 loads_more i l g (x ∷ xs) all = (covers_more l (line i (x.addr / 4)) g all.0, loads_more i l g xs all.1)
 
--- ---- one word or load more
+-- ---- one more word or load
 
 put_by : (i : ℕ) (g : Signature) (r : Stored) (rs : List Stored) (s : Stored) (b : Bool) → covers g (line i r.number) ≡ true → CoversWords i g rs → CoversWords i g (put rs s)
     → CoversWords i g (if b then merged r s ∷ rs else r ∷ put rs s)

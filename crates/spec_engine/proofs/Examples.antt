@@ -15,7 +15,7 @@ places_of_8 = refl
 places_of_296 : high_place 64 296 ≡ 30
 places_of_296 = refl
 
--- lines 0 and 32 share the first bank's place alone
+-- lines 0 and 32 share only the first bank's place
 low_of_32 : low_place 64 32 ≡ low_place 64 0
 low_of_32 = refl
 

@@ -32,7 +32,7 @@ pub meets_at : (s t : set.FinSet nat_cmp) (p : ℕ) → set.contains s p ≡ tru
 meets_at s t p a b =
     true_from_ne_false (meets s t) (λ e. true≢false (sym (and_from (set.contains s p) (set.contains t p) a b) ∙ apart_at s t e p))
 
--- sets that have more places meet where these did
+-- sets still meet when they have more places
 pub meets_more : (s t u v : set.FinSet nat_cmp) → ((p : ℕ) → both s t p ≡ true → both u v p ≡ true) → meets s t ≡ true → meets u v ≡ true
 meets_more s t u v more met =
     true_from_ne_false (meets u v)
@@ -48,7 +48,7 @@ covers_insert l g = grind (members, rules)
 pub covers_more : (l k : ℕ) (g : Signature) → covers g k ≡ true → covers (insert l g) k ≡ true
 covers_more l k g e = grind (members, rules)
 
--- two signatures of one size that cover the same line hit
+-- two signatures of the same size that cover the same line hit
 pub covers_hit : (g h : Signature) (l : ℕ) → h.bits ≡ g.bits → covers g l ≡ true → covers h l ≡ true → hits g h ≡ true
 covers_hit g h l same a b =
     let p = and_parts (set.contains g.low (low_place g.bits l)) (set.contains g.high (high_place g.bits l)) a in
@@ -63,13 +63,13 @@ more_right s t a = meets_more s t s (set.insert t a) (λ p e. grind (members, ru
 more_left : (s t : set.FinSet nat_cmp) (a : ℕ) → meets s t ≡ true → meets (set.insert s a) t ≡ true
 more_left s t a = meets_more s t (set.insert s a) t (λ p e. grind (members, rules))
 
--- signatures that hit do so still after an insert into the second
+-- signatures that hit still do so after an insert into the second
 pub hits_more : (l : ℕ) (g h : Signature) → hits g h ≡ true → hits g (insert l h) ≡ true
 hits_more l g h e =
     let p = and_parts (meets g.low h.low) (meets g.high h.high) e in
     and_from (meets g.low (insert l h).low) (meets g.high (insert l h).high) (more_right g.low h.low _ p.0) (more_right g.high h.high _ p.1)
 
--- signatures that hit do so still after an insert into the first
+-- signatures that hit still do so after an insert into the first
 pub hits_more_left : (l : ℕ) (g h : Signature) → hits g h ≡ true → hits (insert l g) h ≡ true
 hits_more_left l g h e =
     let p = and_parts (meets g.low h.low) (meets g.high h.high) e in
@@ -84,7 +84,7 @@ one_low s a =
       | false ↦ λ e. apart_from s (set.insert set.empty a) (λ p. grind (members, rules))
     ] refl
 
--- a signature hits that of one line alone exactly where it covers the line
+-- a signature hits the signature of a single line exactly if it covers that line
 pub hits_one : (g : Signature) (l : ℕ) → hits g (insert l (nothing g.bits)) ≡ covers g l
 hits_one g l = (λ i. one_low g.low (low_place g.bits l) i && one_low g.high (high_place g.bits l) i)
 

@@ -12,7 +12,7 @@ use Rattle.spec_engine.specs.Flights.{told_at, all_told, Flight, tell, at, passe
 
 -- ---- the cores told
 
--- where no bit is set, no core was told
+-- if no bit is set, no core was told
 pub told-zero : (c : ℕ) → told_at 0 c ≡ false
 told-zero c = ap (λ (b : ℕ). eqb b 1) (bit_at-zero c)
 
@@ -24,24 +24,24 @@ told-tell f c = let e = bit_at_or f.told (2 ^ c) c in let s = bit_at-pow_same c 
 pub told-tell_other : (f : Flight) (c d : ℕ) → d ≢ c → told_at (tell f c).told d ≡ told_at f.told d
 told-tell_other f c d ne = ap (λ (b : ℕ). eqb b 1) (let e = bit_at_or f.told (2 ^ c) d in let s = bit_at-pow_other c d ne in grind arith)
 
--- where all cores below n were told, each of them was
+-- if all cores below n were told, each of them was
 pub all_told-at : (n t c : ℕ) → all_told n t ≡ true → c < n → told_at t c ≡ true
 all_told-at zero t c all l = grind arith
 all_told-at (suc n) t c all l =
     let p = and_parts (told_at t n) (all_told n t) all in
     elim (cases_lt c n) [ inl h ↦ all_told-at n t c p.1 h | inr h ↦ (let e : c ≡ n = omega arith in ap (told_at t) e ∙ p.0) ]
 
--- where each core below n was told, all were
+-- if each core below n was told, all were
 pub all_told-from : (n t : ℕ) → ((c : ℕ) → c < n → told_at t c ≡ true) → all_told n t ≡ true
 all_told-from zero t each = refl
 all_told-from (suc n) t each = and_from (told_at t n) (all_told n t) (each n (omega arith)) (all_told-from n t (λ c l. each c (omega arith)))
 
--- ---- the least slot
+-- ---- the lowest slot
 
 position_none : {X : Type 0} (p : X → Bool) (xs : List X) → position p xs ≡ None → (k : ℕ) (d : X) → k < length xs → p (get_or xs k d) ≡ false
 position_none p xs e k d l = grind (arith, common_steps, fails_before_first)
 
--- where a search finds no slot, nothing in any slot passes the test
+-- if a search finds no slot, nothing in any slot passes the test
 pub first_none : {A : Type 0} (p : A → Bool) (xs : List (Option A)) → first_slot p xs ≡ None → (k : ℕ) (x : A) → at xs k ≡ Some x → p x ≡ false
 unfolding first_slot
 first_none p xs e k x is =
@@ -54,12 +54,12 @@ found_at : {A : Type 0} (p : A → Bool) (o : Option A) → passes p o ≡ true 
 found_at p None e = absurd (true≢false (sym e))
 found_at p (Some x) e = (x, refl, e)
 
--- what stands at the slot that is found passes the test
+-- what is in the slot that is found passes the test
 pub first_some : {A : Type 0} (p : A → Bool) (xs : List (Option A)) (k : ℕ) → first_slot p xs ≡ Some k → (x : A) × (at xs k ≡ Some x) × (p x ≡ true)
 unfolding first_slot
 first_some p xs k e = found_at p (at xs k) (position-Some (passes p) xs k None e).1
 
--- and nothing in a lesser slot does
+-- and nothing in a lower slot does
 pub first_least : {A : Type 0} (p : A → Bool) (xs : List (Option A)) (k : ℕ) → first_slot p xs ≡ Some k → (j : ℕ) (x : A) → j < k → at xs j ≡ Some x → p x ≡ false
 unfolding first_slot
 first_least p xs k e j x l is = ap (passes p) (sym is) ∙ (position-Some (passes p) xs k None e).2 j l
@@ -92,7 +92,7 @@ first_is p xs k l before e =
     let found = position_or_len_is (passes p) xs k None (omega arith) before (λ _. e) in
     sym (cond-true (ltb (position_or_len (passes p) xs) (length xs)) _ _ (lt-ltb _ _ (omega arith)) ∙ ap Some found)
 
--- where the content of no slot passes the test, the search finds none
+-- if the content of no slot passes the test, the search finds none
 pub first_is_none : {A : Type 0} (p : A → Bool) (xs : List (Option A)) → ((j : ℕ) → j < length xs → passes p (at xs j) ≡ false) → None ≡ first_slot p xs
 unfolding first_slot
 first_is_none p xs each =

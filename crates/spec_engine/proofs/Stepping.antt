@@ -11,7 +11,7 @@ use Rattle.spec_engine.specs.Chunks.{Chunk, Stepping, closes, at_limit, reading,
 use Rattle.spec_engine.specs.Laws.{StepAgrees, StepsAreInstructions}
 use Rattle.spec_engine.proofs.Choosing.{keep_option, keep_choose}
 
--- what a step of the chunk `from` comes to agrees with its run on the memory, also where lines were noted in between
+-- the outcome of a step of the chunk `from` agrees with its run on the memory, even if lines were noted in between
 Agrees : List ℕ → Chunk → Stepping → Type 0
 Agrees m ch s = StepAgrees m ch s s.reply
 

@@ -14,7 +14,7 @@ use Rattle.spec_engine.specs.Signatures.{Signature, nothing, insert, line}
 use Rattle.spec_engine.specs.Flights.{Flight, first_slot, bounces}
 
 pub record Chunk : Type 0 where
-  -- of a thread of this sphere, and the thread as it was where the chunk began
+  -- the sphere of its thread, and the thread as it was when the chunk began
   pub sphere : ℕ
   pub start : Parts
   -- the run so far: the present thread, the words stored, the loads, and the number of instructions
@@ -25,7 +25,7 @@ pub record Chunk : Type 0 where
   pub closed : Option How
   -- how many instructions it may run
   pub limit : ℕ
-  -- whether squashes halve the limit, and how many squashes there were since the limit was set
+  -- whether squashes halve the limit, and how many squashes there have been since the limit was set
   pub halves : Bool
   pub squashes : ℕ
 
@@ -44,7 +44,7 @@ fresh bits i t limit halves =
       squashes = 0;
     }
 
--- what a core has its chunks run on: for how many instructions and words there is room, and the chunk
+-- what a core runs its chunks on: how many instructions and words there is room for, and the chunk
 pub record Engine : Type 0 where
   pub most : ℕ
   pub capacity : ℕ
@@ -68,7 +68,7 @@ pub record Stepping : Type 0 where
 abbrev pub closes : How → Chunk → Stepping
 closes how ch = record { reply = Stepped.Closed how; chunk = record ch { closed = Some how } }
 
--- the word's line is among those read
+-- with the word's line among those read
 abbrev pub marked : Chunk → (number : ℕ) → Chunk
 marked ch a = record ch { reads = insert (line ch.sphere a) ch.reads }
 
@@ -76,25 +76,25 @@ abbrev pub with_line : (sphere : ℕ) → Option Stored → Signature → Signat
 with_line i None g = g
 with_line i (Some s) g = insert (line i s.number) g
 
--- an instruction was run, which left this thread, load and store
+-- after an instruction that left this thread, load and store
 abbrev pub ran : Chunk → Parts → Option Load → Option Stored → Chunk
 ran ch t load store = record ch { done = followed ch.done (Next t load store); writes = with_line ch.sphere store ch.writes }
 
--- a chunk that has run as many instructions as it may closes
+-- a chunk closes once it has run as many instructions as it may
 unfoldable pub at_limit : Chunk → Stepping
 at_limit ch = choose (nat_eq ch.done.n ch.limit) (closes How.Limit ch) (record { reply = Stepped.Ran; chunk = ch })
 
--- a store to a word that is held already finds room, and one to a new word where fewer than the capacity are held
+-- there is room for a store to a word that is already held, and for one to a new word if fewer than the capacity are held
 abbrev pub has_room : (capacity : ℕ) → List Stored → Option Stored → Bool
 has_room capacity ws None = true
 has_room capacity ws (Some s) = holds ws s.number || nat_lt (length ws) capacity
 
--- the flights hold the word's reading up, or it is read: its line is noted, whatever then comes
+-- either a flight holds up the reading of the word, or the word is read: then its line is noted, whatever comes next
 unfoldable pub reading : List (Option Flight) → (core : ℕ) → Chunk → (number : ℕ) → (Chunk → Stepping) → Stepping
 reading slots c ch a then_ =
     on_option (first_slot (bounces c (line ch.sphere a)) slots) (then_ (marked ch a)) (λ k. record { reply = Stepped.Bounced k; chunk = ch })
 
--- the instruction f, w being the word that it loads: a store that finds no room closes the chunk, and it is not run
+-- the instruction f, where w is the word that it loads: if there is no room for its store, the chunk closes and it is not run
 unfoldable pub storing : (capacity : ℕ) → (f w : ℕ) → Chunk → Stepping
 storing capacity f w ch =
     let t = ch.done.thread in
@@ -113,8 +113,8 @@ unfoldable pub running : (capacity : ℕ) → List ℕ → List (Option Flight) 
 running capacity shown slots c f ch =
     on_option (serial_of ch.done.thread f (length shown)) (loading capacity shown slots c f ch) (λ kind. closes How.Serial ch)
 
--- one instruction of core c's chunk, on the memory with the chunk's own stores laid over it, beside these flights: the fetch,
--- unless the pc is outside memory, which is a fault; a serial instruction; the load; the store
+-- one instruction of core c's chunk, on the memory with the chunk's own stores laid over it, beside these flights: first the fetch,
+-- unless the pc is outside memory, which is a fault; then whether the instruction is serial; then its load; then its store
 unfoldable pub step : (capacity : ℕ) → (memory : List ℕ) → List (Option Flight) → (core : ℕ) → Chunk → Stepping
 step capacity m slots c ch =
     let pc = ch.done.thread.pc in
@@ -140,7 +140,7 @@ cut_open ch None =
 abbrev pub cut : Chunk → Cutting
 cut ch = cut_open ch ch.closed
 
--- each fourth squash halves the limit, never below 1
+-- every fourth squash halves the limit, but never below 1
 abbrev pub is_fourth : Chunk → Bool
 is_fourth ch = ch.halves && nat_eq ch.squashes 3
 
@@ -167,6 +167,6 @@ is_serial (Some How.Serial) = true
 is_serial (Some How.Overflow) = false
 is_serial (Some How.Cut) = false
 
--- it closed before a serial instruction without having run any
+-- it closed before a serial instruction, and has run nothing
 abbrev pub is_empty_serial : Chunk → Bool
 is_empty_serial ch = nat_eq ch.done.n 0 && is_serial ch.closed

@@ -1,5 +1,6 @@
 -- Flights: commits whose stores are still being made visible, each in its slot.
-use Rattle.std.specs.Prelude.{ℕ, zero, suc, ◌+◌, ◌*◌, ◌≤◌, ◌≡◌, ◌/◌, ◌%◌, ◌^◌, Bool, true, false, ◌&&◌, ◌||◌, nat_eq, List, [], ◌∷◌, Option, Some, None, bit_or, if◌then◌else◌, slice_set, slice_index_or}
+use Rattle.std.specs.Prelude.{ℕ, zero, suc, ◌+◌, ◌*◌, ◌≤◌, ◌≡◌, ◌/◌, ◌%◌, ◌^◌, Bool, true, false, ◌&&◌, ◌||◌, nat_eq, List, [], ◌∷◌, Option, Some}
+use Rattle.std.specs.Prelude.{None, bit_or, if◌then◌else◌, slice_set, slice_index_or}
 use Rattle.std.specs.List.{position}
 use Rattle.spec_isa.specs.Words.{Stored, lay}
 use Rattle.spec_engine.specs.declared.answers.Drain.{Drain}
@@ -19,7 +20,7 @@ pub record Flights : Type 0 where
   pub cores : ℕ
   pub slots : List (Option Flight)
 
--- what stands at slot k
+-- what slot k holds
 abbrev pub at : {A : Type 0} → List (Option A) → (k : ℕ) → Option A
 at xs k = slice_index_or xs k None
 
@@ -33,11 +34,11 @@ abbrev pub is_none : {A : Type 0} → Option A → Bool
 is_none None = true
 is_none (Some x) = false
 
--- the least slot that holds something that passes the test
+-- the lowest slot that holds something that passes the test
 unfoldable pub first_slot : {A : Type 0} → (A → Bool) → List (Option A) → Option ℕ
 first_slot p xs = position (passes p) xs
 
--- the least free slot
+-- the lowest free slot
 unfoldable pub free_slot : {A : Type 0} → List (Option A) → Option ℕ
 free_slot xs = position is_none xs
 
@@ -49,7 +50,7 @@ abbrev pub fill_at : {A : Type 0} → Option ℕ → A → List (Option A) → L
 fill_at None x xs = xs
 fill_at (Some k) x xs = slice_set xs k (Some x)
 
--- with this in the least free slot
+-- with this in the lowest free slot
 abbrev pub fill : {A : Type 0} → A → List (Option A) → List (Option A)
 fill x xs = fill_at (free_slot xs) x xs
 
@@ -64,7 +65,7 @@ abbrev pub all_told : (n told : ℕ) → Bool
 all_told zero t = true
 all_told (suc n) t = told_at t n && all_told n t
 
--- it holds up a line that core c reads: the core was told, and the line hits the lines stored to
+-- it holds up core c's reading of a line: the core was told, and the line hits the lines stored to
 abbrev pub bounces : (core line : ℕ) → Flight → Bool
 bounces c l f = told_at f.told c && covers f.writes l
 
@@ -99,7 +100,7 @@ pub record Delivered : Type 0 where
 abbrev pub tell : Flight → (core : ℕ) → Flight
 tell f c = record f { told = bit_or f.told (2 ^ c) }
 
--- core c, whose chunk has these reads and writes, is told; the chunk is to be squashed where the flight hits it
+-- core c, whose chunk has these reads and writes, is told; the chunk is to be squashed if the flight hits it
 abbrev pub deliver : (core : ℕ) → (reads writes : Signature) → Option Flight → Delivered
 deliver c reads writes None = record { reply = Deliver.NoCommit; slot = None }
 deliver c reads writes (Some f) =
@@ -118,7 +119,7 @@ abbrev pub has_none : List Stored → Bool
 has_none [] = true
 has_none (s ∷ ss) = false
 
--- no word is left, and each of the cores was told
+-- no word is left, and every core was told
 abbrev pub is_done : (cores : ℕ) → Flight → Bool
 is_done n f = has_none f.words && all_told n f.told
 
@@ -128,14 +129,14 @@ retire n None = record { reply = Retire.NoCommit; slot = None }
 retire n (Some f) =
     if is_done n f then record { reply = Retire.Retired; slot = None } else record { reply = Retire.NotDone; slot = Some f }
 
--- ---- what the calls of one slot ask for
+-- ---- what calls on one slot require
 
--- its signature has so many bits, if there is a flight
+-- if there is a flight, its signature has that many bits
 abbrev pub IsOfSize : (bits : ℕ) → Option Flight → Type 0
 IsOfSize bits None = Unit {0}
 IsOfSize bits (Some f) = f.writes.bits ≡ bits
 
--- the same of every slot
+-- the same for every slot
 pub record AreOfSize (bits : ℕ) (slots : List (Option Flight)) : Type 0 where
   pub each : (k : ℕ) → IsOfSize bits (at slots k)
 
@@ -144,7 +145,7 @@ abbrev pub AreInside : (size : ℕ) → List Stored → Type 0
 AreInside size [] = Unit {0}
 AreInside size (s ∷ ss) = (4 * s.number + 4 ≤ size) × AreInside size ss
 
--- the words left do, if there is a flight
+-- if there is a flight, each of the words that it has left does
 abbrev pub IsInside : (size : ℕ) → Option Flight → Type 0
 IsInside size None = Unit {0}
 IsInside size (Some f) = AreInside size f.words

@@ -17,8 +17,8 @@ pub record SignaturesCover : Type 0 where
   pub inserted : (l : ℕ) (g : Signature) → covers (insert l g) l ≡ true
   pub earlier : (l k : ℕ) (g : Signature) → covers g k ≡ true → covers (insert l g) k ≡ true
 
--- two signatures of one size that cover one line hit, an insert loses no hit, and a line hits as the signature of that
--- line alone
+-- two signatures of the same size that cover the same line hit, an insert loses no hit, and a line hits as the signature of
+-- that line alone does
 pub record SignaturesHit : Type 0 where
   pub shared : (g h : Signature) (l : ℕ)
       → h.bits ≡ g.bits
@@ -29,7 +29,7 @@ pub record SignaturesHit : Type 0 where
   pub kept_left : (l : ℕ) (g h : Signature) → hits g h ≡ true → hits (insert l g) h ≡ true
   pub alone : (g : Signature) (l : ℕ) → hits g (insert l (nothing g.bits)) ≡ covers g l
 
--- telling a core changes what is known of no other, and all are told exactly where each is
+-- telling a core changes nothing for any other core, and all are told exactly if each is
 pub record CoresAreTold : Type 0 where
   pub none : (c : ℕ) → told_at 0 c ≡ false
   pub same : (f : Flight) (c : ℕ) → told_at (tell f c).told c ≡ true
@@ -37,7 +37,7 @@ pub record CoresAreTold : Type 0 where
   pub each : (n t c : ℕ) → all_told n t ≡ true → c < n → told_at t c ≡ true
   pub all : (n t : ℕ) → ((c : ℕ) → c < n → told_at t c ≡ true) → all_told n t ≡ true
 
--- the slot that is found passes the test, and no lesser one does
+-- the slot that is found passes the test, and no lower one does
 pub record FindsTheLeast : Type 0 where
   pub none : (p : Flight → Bool) (xs : List (Option Flight))
       → first_slot p xs ≡ None
@@ -54,7 +54,7 @@ pub record FindsTheLeast : Type 0 where
       → at xs j ≡ Some f
       → p f ≡ false
 
--- a step that ran has done one instruction of the run; one that closed the chunk for a serial instruction met one on the
+-- a step that ran has done one instruction of the run; a step that closed the chunk for a serial instruction met one on the
 -- memory that it sees; any other step leaves the run as it was
 abbrev pub StepAgrees : List ℕ → Chunk → Stepping → Stepped → Type 0
 StepAgrees m ch s Stepped.Ran = s.chunk.done ≡ more m ch.done
@@ -88,7 +88,7 @@ pub record IsCovered (ch : Chunk) : Type 0 where
   pub words : CoversWords ch.sphere ch.writes ch.done.words
   pub loads : CoversLoads ch.sphere ch.reads ch.done.loads
 
--- that is so of a fresh chunk, and stays so
+-- this is true of a fresh chunk, and stays true
 pub record ChunksAreCovered : Type 0 where
   pub begun : (bits i : ℕ) (t : Parts) (limit : ℕ) (halves : Bool)
       → IsCovered (fresh bits i t limit halves)

@@ -1,7 +1,7 @@
 //! What the calls of the engine answer.
 
-/// How a chunk was closed: it has run as many instructions as it may, its next instruction is serial, its next store finds
-/// no room, or an event cut it off.
+/// How a chunk was closed: it has run as many instructions as it may, its next instruction is serial, there is no room for
+/// its next store, or an event cut it off.
 #[derive(Clone, Copy, Debug, PartialEq, Eq)]
 pub enum How {
     Limit,
@@ -10,7 +10,7 @@ pub enum How {
     Cut,
 }
 
-/// What one step of a chunk comes to.
+/// The outcome of one step of a chunk.
 #[derive(Clone, Copy, Debug, PartialEq, Eq)]
 pub enum Stepped {
     /// One instruction was run, and the chunk goes on.
@@ -21,7 +21,7 @@ pub enum Stepped {
     Bounced(u8),
 }
 
-/// What cutting a chunk off comes to.
+/// The outcome of cutting a chunk off.
 #[derive(Clone, Copy, Debug, PartialEq, Eq)]
 pub enum CutReply {
     /// It was closed before.
@@ -32,7 +32,7 @@ pub enum CutReply {
     Closed,
 }
 
-/// What draining a slot comes to.
+/// The outcome of draining a slot.
 #[derive(Clone, Copy, Debug, PartialEq, Eq)]
 pub enum Drain {
     /// The slot is free.
@@ -43,7 +43,7 @@ pub enum Drain {
     Drained,
 }
 
-/// What telling a core of a slot's flight comes to.
+/// The outcome of telling a core of a slot's flight.
 #[derive(Clone, Copy, Debug, PartialEq, Eq)]
 pub enum Deliver {
     /// The slot is free.
@@ -56,7 +56,7 @@ pub enum Deliver {
     Delivered,
 }
 
-/// What retiring a slot's flight comes to.
+/// The outcome of retiring a slot's flight.
 #[derive(Clone, Copy, Debug, PartialEq, Eq)]
 pub enum Retire {
     /// The slot is free.
@@ -67,18 +67,18 @@ pub enum Retire {
     Retired,
 }
 
-/// What the request for a chunk's commit comes to.
+/// The outcome of a request for a chunk's commit.
 #[derive(Clone, Copy, Debug, PartialEq, Eq)]
 pub enum Asked {
     Grant,
-    /// This flight hits what the chunk has read or written, and none of a lesser slot does.
+    /// This flight hits what the chunk has read or written, and none in a lower slot does.
     Denied(u8),
 }
 
-/// What the request for a serial step comes to.
+/// The outcome of a request for a serial step.
 #[derive(Clone, Copy, Debug, PartialEq, Eq)]
 pub enum AskedSerial {
     Grant,
-    /// This flight is of the same sphere, and none of a lesser slot is.
+    /// This flight is of the same sphere, and none in a lower slot is.
     SphereBusy(u8),
 }

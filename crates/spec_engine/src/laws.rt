@@ -6,17 +6,17 @@ pub fn signatures_cover()
     ensures { SignaturesCover }
 {}
 
-/// Two signatures of one size that cover one line hit, and an insert loses no hit.
+/// Two signatures of the same size that cover the same line hit, and an insert loses no hit.
 pub fn signatures_hit()
     ensures { SignaturesHit }
 {}
 
-/// A core is told exactly where it was told of that flight.
+/// A core counts as told of a flight exactly if it was told of that flight.
 pub fn cores_are_told()
     ensures { CoresAreTold }
 {}
 
-/// Searches give the least slot that passes a test.
+/// Searches give the lowest slot that passes a test.
 pub fn finds_the_least()
     ensures { FindsTheLeast }
 {}

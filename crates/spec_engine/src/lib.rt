@@ -1,5 +1,5 @@
 //! The engine below the machine as definitions: signatures of lines, flights in their slots, the chunk of one core and its
-//! step, and which flight an ask runs into; with the plain answers that these speak of.
+//! step, and which flight stops a request; with the plain answers that these use.
 #![tactic(auto)]
 
 pub mod answers;

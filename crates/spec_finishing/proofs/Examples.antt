@@ -51,7 +51,7 @@ replay code log =
     record {
       cores = 1;
       window = 2;
-      numbers = record { s = 100; capacity = 1; bits = 64 };
+      numbers = record { s = 100; capacity = 1; bits = 64; depth = 1 };
       seed = 0;
       input = [];
       spheres = record { memory = image 512 code; entry = 0; role = IsReplayed (record { log = log }) } ∷ [];
@@ -60,7 +60,7 @@ replay code log =
 -- in order-only, without sizes, of thread 0
 abbrev unsized : (count : ℕ) → List Actor → LogParts
 unsized count order =
-    record { mode = ModeName.OrderOnly; s = 100; count = count; order = order; sizes = Sizes.Short []; interrupts = []; inputs = []; dmas = [] }
+    record { version = 1; threads = 15; mode = ModeName.OrderOnly; s = 100; count = count; order = order; sizes = Sizes.Short []; interrupts = []; inputs = []; dmas = [] }
 
 abbrev empty_log : LogParts
 empty_log = unsized 0 []

@@ -1,4 +1,4 @@
--- What is left to do, as a number, and that no event makes more of it.
+-- What is left to do, as a number, and that no event increases it.
 pub mod Pricing
 pub mod Slots
 pub mod Flying

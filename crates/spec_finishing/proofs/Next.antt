@@ -1,4 +1,4 @@
--- The next event of finishing is done, and makes less of what is left.
+-- The next event of finishing is done, and reduces what is left.
 pub mod Flights
 pub mod Turns
 pub mod UnderWay

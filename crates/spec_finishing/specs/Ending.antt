@@ -14,11 +14,11 @@ use Rattle.spec_protocol.specs.promises.Promises.{IsSetup, after}
 use Rattle.spec_finishing.specs.Work.{plays_work, moves_work}
 use Rattle.spec_finishing.specs.Rank.{potential, under_way, rank}
 
--- the work of a run: of the plays of its replayed spheres, and of what its schedule did in the others
+-- the work of a run: that of the plays of its replayed spheres, and that of what its schedule did in the others
 abbrev pub work : Setup → List Event → ℕ
 work s es = plays_work s.spheres + moves_work s.numbers (serial_start s) (moves (world_of s) es)
 
--- the replies of finishing's events that did what they are for: none is bounced, denied, busy, full or out of turn
+-- the replies to events of finishing that did what they are for: none is bounced, denied, busy, full or out of turn
 abbrev pub furthers_finishing : Reply → Bool
 furthers_finishing Reply.Ran = true
 furthers_finishing (Reply.Closed how) = true
@@ -54,7 +54,7 @@ furthers_finishing Reply.DmaDone = true
 furthers_finishing Reply.NoDma = false
 furthers_finishing (Reply.Diverged i why) = true
 
--- each of these events furthers finishing and makes less what is left, which is never below 0
+-- each of these events furthers finishing and reduces what is left, which is never below 0
 abbrev pub Falls : Setup → World → List Event → Type 0
 Falls s w [] = under_way w ≤ potential s w
 Falls s w (e ∷ es) =
@@ -64,23 +64,23 @@ Falls s w (e ∷ es) =
     × (rank s a.world < rank s w)
     × Falls s a.world es
 
--- what took effect, if anything did, was of a replayed sphere
+-- what took effect, if anything did, was in a replayed sphere
 abbrev pub OfReplay : World → Option Move → Type 0
 OfReplay w None = Unit {0}
 OfReplay w (Some m) = replays (sphere_at w m.sphere).role ≡ true
 
--- so it is at each of these events
+-- the same for each of these events
 abbrev pub OfReplays : World → List Event → Type 0
 OfReplays w [] = Unit {0}
 OfReplays w (e ∷ es) = let a = happens w e in OfReplay w a.move × OfReplays a.world es
 
--- a replay that goes on no more; plain and recorded spheres have no end
+-- a replay has ended; plain and recorded spheres have no end to reach
 abbrev pub IsAtEnd : Role → Type 0
 IsAtEnd Plain = Unit {0}
 IsAtEnd (Record recording) = Unit {0}
 IsAtEnd (Replay b) = is_over b.now ≡ true
 
--- no flight stands, and every replay is complete or has diverged
+-- no flight is left, and every replay is complete or has diverged
 pub record IsFinished (w : World) : Type 0 where
   pub flights : (k : ℕ) → at w.slots k ≡ None
   pub replays : (i : ℕ) (p : Sphere) → slice_get w.spheres i ≡ Some p → IsAtEnd p.role
@@ -91,7 +91,7 @@ pub record Ends (s : Setup) (es finishing : List Event) : Type 0 where
   pub only : (others : List Event) → Finishes (after s es) others → others ≡ finishing
   pub falls : Falls s (after s es) finishing
   pub alone : OfReplays (after s es) finishing
-  -- for each unit of the run's work there are as many events at most as there are cores, and six
+  -- for each unit of the run's work there are at most as many events as there are cores, plus six
   pub first : rank s (after s es) ≤ (s.cores + 6) * work s es
   pub few : length finishing ≤ (s.cores + 6) * work s es
   pub finished : IsFinished (world_after (after s es) finishing)

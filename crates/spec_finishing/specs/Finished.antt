@@ -10,7 +10,7 @@ use Rattle.spec_protocol.specs.promises.Promises.{after}
 use Rattle.spec_replay.specs.Promises.{IsPlayed}
 use Rattle.spec_finishing.specs.Ending.{CanFinish}
 
--- sphere i, which was set up by the image to replay the log, has done its log's whole play. Its words are in memory: none flies
+-- sphere i, which was set up from the image to replay the log, has done its log's whole play. Its words are in memory: none is in flight
 pub record HasPlayed (image : SphereSetup) (log : LogParts) (s : Setup) (es : List Event) (i : ℕ) : Type 0 where
   pub sphere : Sphere
   pub cursor : Cursor

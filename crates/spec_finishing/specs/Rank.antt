@@ -1,4 +1,4 @@
--- What is left to do before a world is finished, as a number that each event of finishing makes less.
+-- What is left to do before a world is finished, as a number that each event of finishing reduces.
 use Rattle.std.specs.Prelude.{ℕ, zero, suc, ◌+◌, ◌-◌, ◌*◌, List, [], ◌∷◌, length, Option, Some, None, if◌then◌else◌}
 use Rattle.dl_entry.specs.declared.Actor.{Actor}
 use Rattle.spec_log.specs.declared.LogParts.{LogParts}
@@ -30,17 +30,17 @@ flights_rank cores (slot ∷ slots) = flight_rank cores slot + flights_rank core
 
 -- ---- replays
 
--- the work that a play has left after its first i commits and so many instructions of the next one's pieces: all of it
--- less theirs
+-- the work that a play has left after its first i commits and that many instructions in pieces of the next: all of it
+-- minus theirs
 abbrev pub play_left : LogParts → Played → (i total : ℕ) → ℕ
 play_left log y i total = commits_work log y 0 log.count - commits_work log y 0 i - total
 
--- what a replay of the image has left after so many commits: none where it has stopped
+-- what a replay of the image has left after that many commits: nothing if it has stopped
 unfoldable pub replay_left : SphereSetup → Cursor → (commits : ℕ) → ℕ
 replay_left image b i =
     if is_over b.now then 0 else play_left b.log (first_played image b.log) i b.total
 
--- how many events there may be for so much work
+-- how many events there may be for that much work
 unfoldable pub price : (cores work : ℕ) → ℕ
 price cores work = (cores + 6) * work
 
@@ -61,7 +61,7 @@ potential s w = flights_rank s.cores w.slots + spheres_rank s.cores s.spheres w.
 
 -- ---- what is under way
 
--- one where the thread is on a core, its chunk's instructions, and one where the chunk is closed
+-- one if the thread is on a core, plus its chunk's instructions, plus one if the chunk is closed
 abbrev pub held_under_way : Option Occupant → ℕ
 held_under_way None = 0
 held_under_way (Some h) = suc (h.chunk.done.n + (if is_open h.chunk then 0 else 1))
@@ -82,7 +82,7 @@ abbrev pub standing_under_way : World → Option ℕ → ℕ
 standing_under_way w (Some k) = 0
 standing_under_way w None = who_under_way w (least 0 w.spheres)
 
--- where no flight stands, by the thread whose turn it is in the least replay that goes on
+-- if no flight is left: of the thread whose turn it is, in the lowest-numbered replay that still goes on
 unfoldable pub under_way : World → ℕ
 under_way w = standing_under_way w (standing w)
 

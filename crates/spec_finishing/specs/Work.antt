@@ -19,7 +19,7 @@ use Rattle.spec_protocol.specs.machine.Moves.{do_move}
 
 -- ---- of a play
 
--- the words that a serial step stores, or none where it diverges
+-- the words that a serial step stores, or none if it diverges
 abbrev pub stored : LogVerdict → ℕ
 stored (Goes e u) = length e.words
 stored (Fails why) = 0
@@ -29,7 +29,7 @@ abbrev pub dma_stored : DmaVerdict → ℕ
 dma_stored (DmaGoes words) = length words
 dma_stored (DmaFails why) = 0
 
--- of the next commit of thread k, which is t: a serial step's words, or a chunk's instructions, also where that diverges
+-- of the next commit of thread k, which is t: a serial step's words, or a chunk's instructions even if it diverges
 abbrev pub thread_work : LogParts → Played → (thread : ℕ) → Parts → Option Kind → ℕ
 thread_work log y k t (Some kind) = stored (serial_verdict log y.progress y.used k y.threads t y.memory)
 thread_work log y k t None = (run y.memory t (size_or_standard log k t.commits)).n
@@ -43,16 +43,16 @@ now_work log y (Ended how) = 0
 now_work log y TurnOfDma = suc (dma_stored (dma_verdict log y.progress y.used))
 now_work log y (Turn k) = turn_work log y k (slice_get y.threads k)
 
--- of a play's next commit, which counts as one itself, also where it diverges
+-- of a play's next commit, which itself counts as one, even if it diverges
 unfoldable pub commit_work : LogParts → Played → ℕ
 commit_work log y = now_work log y y.now
 
--- of so many commits after the first i
+-- of that many commits after the first i
 abbrev pub commits_work : LogParts → Played → (i commits : ℕ) → ℕ
 commits_work log y i zero = 0
 commits_work log y i (suc n) = commit_work log (plays log y i) + commits_work log y (suc i) n
 
--- of a sphere that is replayed, its log's play
+-- of a replayed sphere: that of its log's play
 abbrev pub setup_work : SphereSetup → RoleSetup → ℕ
 setup_work image IsPlain = 0
 setup_work image (IsRecorded asked) = 0

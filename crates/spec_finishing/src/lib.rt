@@ -1,4 +1,4 @@
-//! That finishing ends: after any schedule flights are made visible and replays come to their ends, within a bound.
+//! That finishing ends: after any schedule, flights are made visible and replays come to their ends, within a bound.
 #![tactic(auto)]
 
 mod promise;

@@ -3,25 +3,26 @@ ghost use Rattle.spec_finishing.specs.Ending.{FinishingEnds};
 ghost use Rattle.spec_finishing.specs.Finished.{ReplaysAreFinished};
 ghost use Rattle.spec_finishing.specs.Function.{FinishingIsAFunction, RunsAreShort, SetupsCanFinish};
 
-/// After every list of events, where there are cores and slots and each replayed log has a standard size over 0: the events
-/// of finishing come to an end, and then no flight stands and every replay is complete or has diverged. Each of them is
-/// done: none is bounced, denied, busy, full or out of turn. Each makes less of what is left to do, which is never below 0.
-/// What takes effect at one of them is of a replayed sphere.
-/// They are no more than the number of cores, and six, for each unit of the run's work: the instructions, the commits, and
-/// the words stored by the kernel and by DMAs, of the replays' plays and of what the schedule did in the other spheres.
+/// After every list of events, if there are cores and slots and each replayed log has a standard size over 0: the events
+/// of finishing come to an end, and then no flight is left and every replay is complete or has diverged. Each of them is
+/// done: none is bounced, denied, busy, full or out of turn. Each reduces what is left to do, which is never below 0.
+/// What takes effect at one of them is in a replayed sphere.
+/// For each unit of the run's work there are at most as many of them as there are cores, plus six. The work is the
+/// instructions, the commits, and the words stored by the kernel and by DMAs, of the replays' plays and of what the schedule
+/// did in the other spheres.
 pub fn finishing_ends()
     ensures { FinishingEnds }
 {}
 
 /// Whatever the schedule, after the events that finish it every replayed sphere has done its log's whole play on its image:
 /// it has the play's commits, with their loads and outputs, and the play's end. Its memory, with no word in flight, and its
-/// threads are those of the play, unless that end is within a commit, of which pieces may stand.
+/// threads are those of the play, unless that end is within a commit, of which some pieces may be done.
 pub fn replays_are_finished()
     ensures { ReplaysAreFinished }
 {}
 
 /// The events that finish a run are a function of its setup and its schedule, and so are its points, its replies and its last
-/// world: the next events one after another, no more than the bound or any greater number, are those of `finishing_ends`.
+/// world: the next events one after another, up to the bound or any greater number, are those of `finishing_ends`.
 pub fn finishing_is_a_function()
     ensures { FinishingIsAFunction }
 {}
@@ -31,8 +32,8 @@ pub fn setups_can_finish()
     ensures { SetupsCanFinish }
 {}
 
-/// For every setup within its limits and every schedule of up to 2^32 events: these and the events that finish it are fewer
-/// than 2^63.
+/// For every setup within its limits and every schedule of up to 2^32 events: these and the events that finish it are
+/// together fewer than 2^63.
 pub fn runs_are_short()
     ensures { RunsAreShort }
 {}

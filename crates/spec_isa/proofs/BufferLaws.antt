@@ -1,5 +1,5 @@
--- Stores that lie over a memory, each word at the place of its first store: how words and bytes are read through them, and
--- that a store put among them is the store laid last.
+-- Stores laid over a memory, in the order of each word's first store: how words and bytes are read through them, and
+-- that a store put among them is the same as the store laid last.
 use Rattle.std.proofs.Common.{◌≡◌, ◌≢◌, ℕ, ◌+◌, ◌*◌, ◌/◌, ◌<◌, inl, inr, Bool, true, false, cond, eqb, List, [], ◌∷◌, length, Option, Some, None, refl, sym, ap, ◌∙◌, subst}
 use Rattle.std.specs.Prelude.{slice_index}
 use Rattle.std.proofs.lemmas.Bool.Decides.{eqb_tells}
@@ -11,7 +11,7 @@ use Rattle.spec_isa.proofs.MemoryLaws.{length_lay, given, byte-lay, read_lay_oth
 
 -- ---- the words stay apart
 
--- two stores of one word, as one, are of that word
+-- two stores to one word, as one, are to that word
 pub merged_number : (r s : Stored) → (merged r s).number ≡ r.number
 unfolding merged
 merged_number r s = refl
@@ -25,7 +25,7 @@ Lacks-put a (r ∷ rs) s lacks ne =
       | inr h ↦ rw h.0 (lacks.0, Lacks-put a rs s lacks.1 ne)
     ]
 
--- where no two stores are of one word, none are after one more is put among them
+-- if no two stores are to the same word, that stays so after one more is put among them
 pub Apart-put : (ws : List Stored) (s : Stored) → Apart ws → Apart (put ws s)
 unfolding merged
 Apart-put [] s apart = (tt, tt)
@@ -78,7 +78,7 @@ given-merged : (r s : Stored) (i : ℕ) → r.number ≡ s.number → given (mer
 unfolding merged
 given-merged r s i e = rw (← e) (simp later_cond)
 
--- two stores of one word, one after the other
+-- two stores to the same word, one after the other
 pub lay-merged : (m : List ℕ) (r s : Stored) → r.number ≡ s.number → lay m (merged r s) ≡ lay (lay m r) s
 lay-merged m r s e =
     same_number_lists _ _ (length_lay m (merged r s) ∙ sym (length_lay (lay m r) s ∙ length_lay m r))
@@ -88,7 +88,7 @@ lay-merged m r s e =
     ∙ or_later (given r i) (given s i) (slice_index m i)
     ∙ sym (byte-lay (lay m r) s i (rw (length_lay m r) lt) ∙ ap (or_byte (given s i)) (byte-lay m r i lt)))
 
--- of two words, at most one is that of an address
+-- of two words, at most one has the byte of an address
 given_apart : (r s : Stored) (i below : ℕ) → r.number ≢ s.number → or_byte (given s i) (or_byte (given r i) below) ≡ or_byte (given r i) (or_byte (given s i) below)
 given_apart r s i below ne =
     elim (eqb_tells (i / 4) r.number) [
@@ -96,7 +96,7 @@ given_apart r s i below ne =
       | inl h ↦ let other : eqb (i / 4) s.number ≡ false = ne_eqb (i / 4) s.number (λ e. ne (sym h.1 ∙ e)) in rw other refl
     ]
 
--- stores of two words, in either order
+-- stores to two words, in either order
 pub lay-lay : (m : List ℕ) (r s : Stored) → r.number ≢ s.number → lay (lay m r) s ≡ lay (lay m s) r
 lay-lay m r s ne =
     same_number_lists _ _ (length_lay (lay m r) s ∙ length_lay m r ∙ sym (length_lay (lay m s) r ∙ length_lay m s))
@@ -110,7 +110,7 @@ lay-lays_lacking : (m : List ℕ) (ws : List Stored) (s : Stored) → Lacks s.nu
 lay-lays_lacking m [] s lacks = refl
 lay-lays_lacking m (r ∷ rs) s lacks = lay-lays_lacking (lay m r) rs s lacks.1 ∙ ap (λ n. lays n rs) (lay-lay m r s lacks.0)
 
--- a store put among the others is the store laid last
+-- a store put among the others is the same as the store laid last
 pub lays_put : (m : List ℕ) (ws : List Stored) (s : Stored) → Apart ws → lays m (put ws s) ≡ lay (lays m ws) s
 lays_put m [] s apart = refl
 lays_put m (r ∷ rs) s apart =

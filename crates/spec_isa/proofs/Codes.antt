@@ -122,7 +122,7 @@ register_code_fits RegisterOp.Divu = record { low = lit< tt; high = lit< tt }
 register_code_fits RegisterOp.Rem = record { low = lit< tt; high = lit< tt }
 register_code_fits RegisterOp.Remu = record { low = lit< tt; high = lit< tt }
 
--- a shift's funct3 is none of the other operations with an immediate
+-- no other operation with an immediate has a shift's funct3
 pub arithmetic_of-shift : (op : ShiftOp) (rd rs1 amount : ℕ) → arithmetic_of rd ((shift_code op).0) rs1 amount ((shift_code op).1) (immediate_op ((shift_code op).0)) ≡ Some (Instr.Shift op rd rs1 amount)
 arithmetic_of-shift ShiftOp.Slli rd rs1 amount = refl
 arithmetic_of-shift ShiftOp.Srli rd rs1 amount = refl
@@ -134,7 +134,7 @@ shift_code_fits ShiftOp.Slli = record { low = lit< tt; high = lit< tt }
 shift_code_fits ShiftOp.Srli = record { low = lit< tt; high = lit< tt }
 shift_code_fits ShiftOp.Srai = record { low = lit< tt; high = lit< tt }
 
--- by its funct5 each AMO is found, with its registers and its two bits, and no LR or SC
+-- each AMO, and no LR or SC, is found by its funct5, with its registers and its two bits
 pub atomic_of-amo : (op : AmoOp) (rd rs1 rs2 : ℕ) (acquire release : Bool) → atomic_of rd rs1 rs2 (amo_code op) acquire release ≡ Some (Instr.Amo op rd rs1 rs2 acquire release)
 atomic_of-amo AmoOp.Amoadd rd rs1 rs2 acquire release = refl
 atomic_of-amo AmoOp.Amoswap rd rs1 rs2 acquire release = refl
@@ -167,21 +167,21 @@ atomic_fits n true false fits = omega arith
 atomic_fits n false true fits = omega arith
 atomic_fits n false false fits = omega arith
 
--- without the least two, the high seven bits are the funct5 that they were made of
+-- without the lowest two, the high seven bits are the funct5 that they were made from
 pub atomic_funct5 : (funct5 : ℕ) (acquire release : Bool) → atomic funct5 acquire release / 4 ≡ funct5
 atomic_funct5 n true true = omega arith
 atomic_funct5 n true false = omega arith
 atomic_funct5 n false true = omega arith
 atomic_funct5 n false false = omega arith
 
--- the second least of the high seven bits is set exactly where the instruction acquires
+-- the second lowest of the high seven bits is set exactly if the instruction acquires
 pub atomic_acquire : (funct5 : ℕ) (acquire release : Bool) → eqb (atomic funct5 acquire release / 2 % 2) 1 ≡ acquire
 atomic_acquire n true true = eq-eqb _ _ (omega arith)
 atomic_acquire n true false = eq-eqb _ _ (omega arith)
 atomic_acquire n false true = ne_eqb _ _ (omega arith)
 atomic_acquire n false false = ne_eqb _ _ (omega arith)
 
--- the least of the high seven bits is set exactly where the instruction releases
+-- the lowest of the high seven bits is set exactly if the instruction releases
 pub atomic_release : (funct5 : ℕ) (acquire release : Bool) → eqb (atomic funct5 acquire release % 2) 1 ≡ release
 atomic_release n true true = eq-eqb _ _ (omega arith)
 atomic_release n false true = eq-eqb _ _ (omega arith)

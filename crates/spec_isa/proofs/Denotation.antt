@@ -1,4 +1,4 @@
--- The instruction that the tables find is spelled by the word; where they find none, the word denotes none.
+-- The instruction that the tables find is spelled by the word; if they find none, the word denotes none.
 use Rattle.std.proofs.Common.{◌≡◌, ℕ, zero, suc, ◌+◌, ◌*◌, ◌/◌, ◌%◌, ◌^◌, ◌<◌, Bool, true, false, eqb, cond, ◌&&◌, List, [], ◌∷◌, Option, Some, None, refl, sym, subst, arith}
 use Rattle.std.specs.Prelude.{find, option_map}
 use Rattle.std.proofs.lemmas.Bool.{eqb-true, cond_both, and_parts}
@@ -181,6 +181,6 @@ meaning : (w : ℕ) (o : Option Instr) → IsRight w o → ((i : Instr) → Deno
 meaning w None right every = λ i d. let e = every i d in cc
 meaning w (Some i) right every = right
 
--- a word of 32 bits denotes the instruction that the tables find, and none where they find none
+-- a word of 32 bits denotes the instruction that the tables find, and none if they find none
 pub denoted_is_meaning : (w : ℕ) → w < 2 ^ 32 → IsMeaning w (denoted w)
 denoted_is_meaning w h = meaning w (denoted w) (denoted_right w h) (λ i. denotes_denoted)

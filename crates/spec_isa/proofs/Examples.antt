@@ -57,7 +57,7 @@ mul_found = refl
 lr_found : denoted 0x140522AF ≡ Some (Instr.LoadReserved 5 10 true false)
 lr_found = refl
 
--- the same with a second register, which is no instruction
+-- the same with a second register, which isn't an instruction
 lr_refused : denoted 0x141522AF ≡ None
 lr_refused = refl
 

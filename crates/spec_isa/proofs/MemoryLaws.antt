@@ -1,4 +1,4 @@
--- Words of a memory after stores: a store changes no length and no other word, and leaves bytes bytes.
+-- Words of a memory after stores: a store changes neither the length nor any other word, and what was bytes stays bytes.
 use Rattle.std.proofs.Common.{◌≡◌, ◌≢◌, ℕ, ◌+◌, ◌*◌, ◌/◌, ◌%◌, ◌^◌, ◌<◌, inl, inr, Bool, true, false, cond, eqb, List, [], ◌∷◌, length, Option, Some, None, refl, ap, ◌∙◌, arith, get_or-set_other, get_or-set_same}
 use Rattle.std.specs.Prelude.{slice_index, slice_set}
 use Rattle.std.proofs.Math.ListN.{length-set}
@@ -9,17 +9,17 @@ use Rattle.spec_isa.specs.Masks.{word_over, or_byte, bytes_of, some_if}
 
 -- ---- lengths
 
--- a memory is as long after a byte, or none, is stored
+-- a memory is as long as before after a byte, or none, is stored
 pub length_with_byte : (m : List ℕ) (a : ℕ) (b : Option ℕ) → length (with_byte m a b) ≡ length m
 length_with_byte m a None = refl
 length_with_byte m a (Some b) = length-set m a b
 
--- a memory is as long after a store
+-- a memory is as long as before after a store
 pub length_lay : (m : List ℕ) (s : Stored) → length (lay m s) ≡ length m
 unfolding lay
 length_lay m s = simp length_with_byte
 
--- a memory is as long after any list of stores
+-- a memory is as long as before after any list of stores
 pub length_lays : (m : List ℕ) (ss : List Stored) → length (lays m ss) ≡ length m
 length_lays m [] = refl
 length_lays m (s ∷ ss) = length_lays (lay m s) ss ∙ length_lay m s
@@ -36,7 +36,7 @@ byte_there m a i (Some b) e lt = rw e (get_or-set_same m a b 0 lt)
 
 -- ---- the bytes of one store
 
--- a store leaves the bytes of other words
+-- a store leaves the bytes of other words as they were
 pub byte-lay_other : (m : List ℕ) (s : Stored) (i : ℕ) → i / 4 ≢ s.number → slice_index (lay m s) i ≡ slice_index m i
 unfolding lay
 byte-lay_other m s i ne =
@@ -45,7 +45,7 @@ byte-lay_other m s i ne =
     ∙ byte_elsewhere _ (4 * s.number + 1) i s.b1 (λ e. ne (omega arith))
     ∙ byte_elsewhere m (4 * s.number) i s.b0 (λ e. ne (omega arith))
 
--- of its own word it has the bytes
+-- the bytes of its own word are the store's
 byte0-lay : (m : List ℕ) (s : Stored) (i : ℕ) → i ≡ 4 * s.number → i < length m → slice_index (lay m s) i ≡ or_byte s.b0 (slice_index m i)
 unfolding lay
 byte0-lay m s i e lt =
@@ -137,7 +137,7 @@ IsBytesAt-lay_other m s a ne h =
       at3 = rw (byte-lay_other m s (4 * a + 3) (λ e. ne (omega arith))) h.at3;
     }
 
--- a word of four bytes gives these back
+-- a word made of four bytes gives these back
 word_bytes : (x y z w : ℕ) → x < 2 ^ 8 → y < 2 ^ 8 → z < 2 ^ 8 → let n = x + y * 2 ^ 8 + z * 2 ^ 16 + w * 2 ^ 24 in
     (n % 2 ^ 8 ≡ x) × (n / 2 ^ 8 % 2 ^ 8 ≡ y) × (n / 2 ^ 16 % 2 ^ 8 ≡ z)
 word_bytes x y z w hx hy hz = (omega arith, omega arith, omega arith)
@@ -145,7 +145,7 @@ word_bytes x y z w hx hy hz = (omega arith, omega arith, omega arith)
 last_byte : (x y z w : ℕ) → x < 2 ^ 8 → y < 2 ^ 8 → z < 2 ^ 8 → w < 2 ^ 8 → (x + y * 2 ^ 8 + z * 2 ^ 16 + w * 2 ^ 24) / 2 ^ 24 % 2 ^ 8 ≡ w
 last_byte x y z w hx hy hz hw = omega arith
 
--- a store's word inside memory reads as before the store, but for the bytes that the store has
+-- a store's word inside memory reads as before the store, except for the bytes that the store has
 pub read_lay_at : (m : List ℕ) (s : Stored) → 4 * s.number + 3 < length m → IsBytesAt m s.number → read (lay m s) s.number ≡ word_over s (read m s.number)
 unfolding read word_over
 read_lay_at m s lt h =
@@ -183,7 +183,7 @@ IsBytes-with_byte : (m : List ℕ) (a : ℕ) (c : Bool) (b : ℕ) → b < 2 ^ 8 
 IsBytes-with_byte m a true b lt h = IsBytes-set m a b lt h
 IsBytes-with_byte m a false b lt h = h
 
--- a memory's bytes are bytes still after a store of some bytes of a value
+-- a memory's bytes are still bytes after a store of some bytes of a value
 pub IsBytes-lay : (m : List ℕ) (number mask value : ℕ) → IsBytes m → IsBytes (lay m (bytes_of number mask value))
 unfolding lay bytes_of
 IsBytes-lay m w k v h =

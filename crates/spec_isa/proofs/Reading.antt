@@ -1,4 +1,4 @@
--- A word made of fields is read by these fields.
+-- A word made of fields is read by those fields.
 use Rattle.std.proofs.Common.{◌≡◌, ◌≢◌, ℕ, ◌/◌, ◌%◌, ◌^◌, arith, ◌∙◌}
 use Rattle.std.proofs.lemmas.Bool.{ne_eqb, cond-false}
 use Rattle.spec_isa.specs.Encoding.{word_of}
@@ -10,7 +10,7 @@ denoted_other w other =
     cond-false _ _ _ (ne_eqb w 0x00000073 (λ e. omega arith))
     ∙ cond-false _ _ _ (ne_eqb w 0x00100073 (λ e. omega arith))
 
--- a word made of fields that fit denotes what the tables find by them, but for the opcode of ECALL and EBREAK
+-- a word made of fields that fit denotes what the tables find by them, unless it has the opcode of ECALL and EBREAK
 pub denoted-word_of : {o d f a b h : ℕ} → Fit o d f a b h → o ≢ 0x73 → denoted (word_of o d f a b h) ≡ by_fields o d f a b h
 denoted-word_of {o} {d} {f} {a} {b} {h} fit other =
     denoted_other (word_of o d f a b h) (rw (opcode_back fit) other)

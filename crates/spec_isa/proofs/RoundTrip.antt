@@ -1,4 +1,4 @@
--- The word that an instruction is spelled by denotes that instruction.
+-- The word that spells an instruction denotes that instruction.
 use Rattle.std.proofs.Common.{◌≡◌, ◌≢◌, ℕ, ◌/◌, ◌%◌, ◌^◌, ◌<◌, Bool, Some, refl, sym, ap, arith, ◌∙◌, lit<}
 use Rattle.spec_isa.specs.declared.instr.BranchOp.{BranchOp}
 use Rattle.spec_isa.specs.declared.instr.LoadOp.{LoadOp}
@@ -128,7 +128,7 @@ denoted-spelling (Instr.Amo op rd rs1 rs2 acquire release) h = amo op rd rs1 rs2
 pub denotes_denoted : {w : ℕ} {i : Instr} → Denotes w i → denoted w ≡ Some i
 denotes_denoted {w} {i} d = ap denoted d.spelled ∙ denoted-spelling i d.fields
 
--- a word denotes one instruction at most
+-- a word denotes at most one instruction
 pub denotes_one : {w : ℕ} {i j : Instr} → Denotes w i → Denotes w j → i ≡ j
 denotes_one first second =
     let e = sym (denotes_denoted first) ∙ denotes_denoted second in cc

@@ -12,7 +12,7 @@ pub record Fit (opcode rd funct3 rs1 rs2 funct7 : ℕ) : Type 0 where
   pub rs2_fits : rs2 < 2 ^ 5
   pub funct7_fits : funct7 < 2 ^ 7
 
--- a word made of fields that fit has the opcode in its least seven bits
+-- a word made of fields that fit has the opcode in its lowest seven bits
 pub opcode_back : {o d f a b h : ℕ} → Fit o d f a b h → word_of o d f a b h % 2 ^ 7 ≡ o
 opcode_back fit = omega arith
 
@@ -48,13 +48,13 @@ fit w h =
       funct7_fits = omega arith;
     }
 
--- a word is the one that is made of the fields read from it
+-- a word is made of the fields that are read from it
 pub word_back : (w : ℕ) → w ≡ word_of (w % 2 ^ 7) (w / 2 ^ 7 % 2 ^ 5) (w / 2 ^ 12 % 2 ^ 3) (w / 2 ^ 15 % 2 ^ 5) (w / 2 ^ 20 % 2 ^ 5) (w / 2 ^ 25)
 word_back w = omega arith
 
 -- ---- the immediates
 
--- an immediate is its least five bits and the rest of it, each put in its place
+-- an immediate is its lowest five bits and the rest of it, each put in its place
 pub immediate_back : (imm : ℕ) → imm % 2 ^ 5 + imm / 2 ^ 5 * 2 ^ 5 ≡ imm
 immediate_back imm = omega arith
 
@@ -68,7 +68,7 @@ immediate_high b h fits = omega arith
 abbrev pub branch_low : ℕ → ℕ
 branch_low offset = offset % 2 ^ 4 * 2 + offset / 2 ^ 10 % 2
 
--- the part that stands in funct7
+-- the part that is in funct7
 abbrev pub branch_high : ℕ → ℕ
 branch_high offset = offset / 2 ^ 11 * 2 ^ 6 + offset / 2 ^ 4 % 2 ^ 6
 
@@ -76,11 +76,11 @@ branch_high offset = offset / 2 ^ 11 * 2 ^ 6 + offset / 2 ^ 4 % 2 ^ 6
 pub branch_back : (offset : ℕ) → offset < 2 ^ 12 → branch_offset (branch_low offset) (branch_high offset) ≡ offset
 branch_back offset fits = omega arith
 
--- of the offset that a branch's word has, the low part is what stands in rd
+-- the low part of the offset in a branch's word is what is in rd
 pub branch_low_back : (d h : ℕ) → d < 2 ^ 5 → h < 2 ^ 7 → branch_low (branch_offset d h) ≡ d
 branch_low_back d h d_fits h_fits = omega arith
 
--- of the offset that a branch's word has, the high part is what stands in funct7
+-- the high part of the offset in a branch's word is what is in funct7
 pub branch_high_back : (d h : ℕ) → d < 2 ^ 5 → h < 2 ^ 7 → branch_high (branch_offset d h) ≡ h
 branch_high_back d h d_fits h_fits = omega arith
 

@@ -1,5 +1,6 @@
--- The results of the computing instructions, on words of 32 bits. Sums wrap, and a signed value stands for its two's complement.
-use Rattle.std.specs.Prelude.{ℕ, ◌+◌, ◌-◌, ◌*◌, ◌/◌, ◌%◌, ◌^◌, Bool, not, nat_eq, nat_lt, nat_le, if◌then◌else◌, ℤ, pos, ◌*ℤ◌, int_lt, int_le, int_div, int_rem, bit_and, bit_or, bit_xor}
+-- The results of the computing instructions, on words of 32 bits. Sums wrap, and a signed value is held as its two's complement.
+use Rattle.std.specs.Prelude.{ℕ, ◌+◌, ◌-◌, ◌*◌, ◌/◌, ◌%◌, ◌^◌, Bool, not, nat_eq, nat_lt, nat_le, if◌then◌else◌, ℤ, pos, ◌*ℤ◌, int_lt, int_le}
+use Rattle.std.specs.Prelude.{int_div, int_rem, bit_and, bit_or, bit_xor}
 use Rattle.std.specs.Int.{w32, w64, cast_signed, cast_unsigned, int_shr}
 use Rattle.spec_isa.specs.declared.instr.BranchOp.{BranchOp}
 use Rattle.spec_isa.specs.declared.instr.ImmediateOp.{ImmediateOp}
@@ -8,7 +9,7 @@ use Rattle.spec_isa.specs.declared.instr.RegisterOp.{RegisterOp}
 use Rattle.spec_isa.specs.declared.instr.AmoOp.{AmoOp}
 use Rattle.spec_isa.specs.Encoding.{bit}
 
--- the signed number that a word stands for, and the word that stands for it
+-- the signed number that a word represents, and the word that represents it
 abbrev pub signed : ℕ → ℤ
 signed a = cast_signed w32 a
 
@@ -21,7 +22,7 @@ add a b = (a + b) % 2 ^ 32
 abbrev pub sub : ℕ → ℕ → ℕ
 sub a b = (a + (2 ^ 32 - b)) % 2 ^ 32
 
--- a number of so many bits, its highest bit copied into those above
+-- a number of that many bits, with its highest bit copied into those above
 abbrev pub extended : (bits a : ℕ) → ℕ
 extended bits a = if nat_lt a (2 ^ (bits - 1)) then a else a + (2 ^ 32 - 2 ^ bits)
 
@@ -47,7 +48,7 @@ shift_result ShiftOp.Slli a n = a * 2 ^ n % 2 ^ 32
 shift_result ShiftOp.Srli a n = a / 2 ^ n
 shift_result ShiftOp.Srai a n = word (int_shr (signed a) n)
 
--- shifts go by the low five bits of the amount; products of 64 bits are cut into halves; nothing traps
+-- shifts take the low five bits of the amount; products of 64 bits are cut into halves; nothing traps
 abbrev pub register_result : RegisterOp → ℕ → ℕ → ℕ
 register_result RegisterOp.Add a b = add a b
 register_result RegisterOp.Sub a b = sub a b

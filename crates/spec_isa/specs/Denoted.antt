@@ -59,7 +59,7 @@ register_op funct3 funct7 =
     find (λ x. nat_eq ((register_code x).0) funct3 && nat_eq ((register_code x).1) funct7)
     registers
 
--- the immediates, from the fields in whose places they stand
+-- the immediates, from the fields that hold them
 abbrev pub branch_offset : (rd funct7 : ℕ) → ℕ
 branch_offset rd funct7 = funct7 / 2 ^ 6 * 2 ^ 11 + rd % 2 * 2 ^ 10 + funct7 % 2 ^ 6 * 2 ^ 4 + rd / 2
 

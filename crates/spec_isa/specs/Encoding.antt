@@ -1,4 +1,4 @@
--- The words of the instructions, as the ISA manual's opcode listings spell them: each by fields at fixed places.
+-- The words of the instructions, as the ISA manual's opcode listings spell them: each made of fields at fixed places.
 use Rattle.std.specs.Prelude.{◌≡◌, ℕ, ◌+◌, ◌*◌, ◌/◌, ◌%◌, ◌^◌, ◌<◌, Bool, true, false, Option, Some, None}
 use Rattle.spec_isa.specs.declared.instr.BranchOp.{BranchOp}
 use Rattle.spec_isa.specs.declared.instr.LoadOp.{LoadOp}
@@ -118,7 +118,7 @@ bit false = 0
 abbrev pub atomic : ℕ → Bool → Bool → ℕ
 atomic funct5 acquire release = funct5 * 4 + bit acquire * 2 + bit release
 
--- the word that an instruction is spelled by
+-- the word that spells an instruction
 abbrev pub spelling : Instr → ℕ
 spelling (Instr.Lui rd imm) = upper_word 0x37 rd imm
 spelling (Instr.Auipc rd imm) = upper_word 0x17 rd imm
@@ -163,7 +163,7 @@ pub record Denotes (word : ℕ) (i : Instr) : Type 0 where
   pub fields : HasFields i
   pub spelled : word ≡ spelling i
 
--- the instruction that a word denotes, or none where it denotes none
+-- the instruction that a word denotes, or none if it denotes none
 abbrev pub IsMeaning : ℕ → Option Instr → Type 0
 IsMeaning word None = (i : Instr) → ¬ Denotes word i
 IsMeaning word (Some i) = Denotes word i

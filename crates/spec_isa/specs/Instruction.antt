@@ -1,4 +1,4 @@
--- One instruction. It looks at memory only by the word that it fetches, f, and by one word that it may load, w.
+-- One instruction. Of memory it sees only the word that it fetches, f, and one word that it may load, w.
 use Rattle.std.specs.Prelude.{ℕ, ◌/◌, List, length, Option, Some, None, if◌then◌else◌}
 use Rattle.spec_isa.specs.declared.instr.Instr.{Instr}
 use Rattle.spec_isa.specs.declared.thread.Parts.{Parts}
@@ -18,7 +18,7 @@ operation_found (Some i) t = operation i t
 abbrev pub operation_of : Parts → (f : ℕ) → Operation
 operation_of t f = operation_found (denoted f) t
 
--- why the instruction is serial, or none where it is run; a fetch outside memory faults
+-- why the instruction is serial, or none if it is run; a fetch outside memory faults
 unfoldable pub serial_of : Parts → (f size : ℕ) → Option Kind
 serial_of t f size = if is_inside size t.pc then refuses size (operation_of t f) else Some (Kind.Fault fetch_outside)
 
@@ -35,7 +35,7 @@ load_of t f w = load_then (operation_of t f) w
 unfoldable pub store_of : Parts → (f w : ℕ) → Option Stored
 store_of t f w = store_then (operation_of t f) t w
 
--- what an instruction comes to
+-- the outcome of an instruction
 pub data InstructionOutcome : Type 0 where
   Next : (thread : Parts) (load : Option Load) (store : Option Stored) → InstructionOutcome
   Serial : (kind : Kind) → InstructionOutcome
@@ -44,7 +44,7 @@ abbrev pub unless : Option Kind → InstructionOutcome → InstructionOutcome
 unless None outcome = outcome
 unless (Some kind) outcome = Serial kind
 
--- the word of that number, 0 where there is none
+-- the word of that number, or 0 if there is none
 abbrev pub value_at : List ℕ → Option ℕ → ℕ
 value_at m None = 0
 value_at m (Some a) = read m a

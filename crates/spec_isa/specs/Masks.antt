@@ -1,4 +1,4 @@
--- A store as a mask and a value: bit b of the mask says that byte b of the word takes that byte of the value.
+-- A store as a mask and a value: where bit b of the mask is set, byte b of the word takes byte b of the value.
 use Rattle.std.specs.Prelude.{ℕ, ◌+◌, ◌*◌, ◌/◌, ◌%◌, ◌^◌, Bool, true, false, nat_eq, List, [], ◌∷◌, Option, Some, None, if◌then◌else◌}
 use Rattle.spec_isa.specs.Words.{Stored}
 
@@ -6,7 +6,7 @@ abbrev pub some_if : Bool → ℕ → Option ℕ
 some_if true b = Some b
 some_if false b = None
 
--- the store of these bytes of the value in that word
+-- the store of these bytes of the value to the word of that number
 unfoldable pub bytes_of : (number mask value : ℕ) → Stored
 bytes_of w m v =
     record {
@@ -29,14 +29,14 @@ abbrev pub or_byte : Option ℕ → ℕ → ℕ
 or_byte None below = below
 or_byte (Some b) below = b
 
--- the word below, but for the bytes that the store has
+-- the word below, except for the bytes that the store has
 unfoldable pub word_over : Stored → (below : ℕ) → ℕ
 word_over s w =
     or_byte s.b0 (w % 2 ^ 8) + or_byte s.b1 (w / 2 ^ 8 % 2 ^ 8) * 2 ^ 8
     + or_byte s.b2 (w / 2 ^ 16 % 2 ^ 8) * 2 ^ 16
     + or_byte s.b3 (w / 2 ^ 24 % 2 ^ 8) * 2 ^ 24
 
--- a word read through stores that lie over the memory, of which one at most is of it
+-- a word of memory read through stores laid over it, at most one of which is to that word
 abbrev pub over : List Stored → (number below : ℕ) → ℕ
 over [] a w = w
 over (s ∷ ss) a w = if nat_eq s.number a then word_over s w else over ss a w

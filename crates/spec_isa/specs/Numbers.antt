@@ -21,7 +21,7 @@ register_a2 = 12
 abbrev pub register_a7 : ℕ
 register_a7 = 17
 
--- ---- causes of faults, which are the ISA's
+-- ---- causes of faults, as the ISA numbers them
 
 abbrev pub jump_misaligned : ℕ
 jump_misaligned = 0
@@ -53,18 +53,18 @@ store_outside = 7
 
 -- ---- addresses of the device words
 
--- to be loaded: the moment
+-- a load gives the moment
 abbrev pub moment_address : ℕ
 moment_address = 0xF0000000
 
--- to be loaded: the next byte of the input
+-- a load gives the next byte of the input
 abbrev pub input_address : ℕ
 input_address = 0xF0000004
 
--- to be stored to: a byte for the console
+-- a store puts a byte on the console
 abbrev pub console_address : ℕ
 console_address = 0xF0000008
 
--- how many threads a sphere has places for
+-- how many threads a sphere has room for
 abbrev pub row_places : ℕ
 row_places = 15

@@ -1,5 +1,6 @@
--- What each instruction does: first from the registers alone, an operation; then what that asks of memory and what it leaves.
-use Rattle.std.specs.Prelude.{ℕ, ◌+◌, ◌-◌, ◌*◌, ◌/◌, ◌%◌, ◌^◌, Bool, false, nat_eq, nat_le, nat_lt, ◌&&◌, ◌||◌, List, slice_index, slice_set, Option, Some, None, if◌then◌else◌}
+-- What each instruction does: first, from the registers alone, an operation; then what that operation asks of memory and what it leaves.
+use Rattle.std.specs.Prelude.{ℕ, ◌+◌, ◌-◌, ◌*◌, ◌/◌, ◌%◌, ◌^◌, Bool, false, nat_eq, nat_le, nat_lt, ◌&&◌, ◌||◌, List, slice_index, slice_set, Option}
+use Rattle.std.specs.Prelude.{Some, None, if◌then◌else◌}
 use Rattle.spec_isa.specs.declared.instr.LoadOp.{LoadOp}
 use Rattle.spec_isa.specs.declared.instr.StoreOp.{StoreOp}
 use Rattle.spec_isa.specs.declared.instr.Instr.{Instr}
@@ -7,7 +8,8 @@ use Rattle.spec_isa.specs.declared.thread.Parts.{Parts}
 use Rattle.spec_isa.specs.declared.thread.Load.{Load}
 use Rattle.spec_isa.specs.declared.thread.Kind.{Kind}
 use Rattle.spec_isa.specs.declared.operation.Operation.{Operation}
-use Rattle.spec_isa.specs.Numbers.{jump_misaligned, load_misaligned, load_outside, store_misaligned, store_outside, moment_address, input_address, console_address}
+use Rattle.spec_isa.specs.Numbers.{jump_misaligned, load_misaligned, load_outside, store_misaligned, store_outside, moment_address, input_address}
+use Rattle.spec_isa.specs.Numbers.{console_address}
 use Rattle.spec_isa.specs.Arithmetic.{add, extended, holds, immediate_result, shift_result, register_result, amo_result}
 use Rattle.spec_isa.specs.Words.{Stored, is_inside}
 use Rattle.spec_isa.specs.Masks.{some_if}
@@ -34,7 +36,7 @@ at_pc t rd value pc = record t { pc = pc; x = with_register t.x rd value }
 abbrev pub branched : Parts → Bool → ℕ → Operation
 branched t taken offset = Operation.Go 0 0 (if taken then add t.pc (extended 13 (offset * 2)) else following t)
 
--- a target of JALR loses its lowest bit
+-- JALR clears the lowest bit of its target
 abbrev pub operation : Instr → Parts → Operation
 operation (Instr.Lui rd imm) t = Operation.Go rd (imm * 2 ^ 12) (following t)
 operation (Instr.Auipc rd imm) t = Operation.Go rd (add t.pc (imm * 2 ^ 12)) (following t)
@@ -56,7 +58,7 @@ operation (Instr.Amo op rd rs1 rs2 _ _) t = Operation.Amo op rd (register t rs1)
 
 -- ---- whether the operation is carried out, or is serial
 
--- how many bytes an access has
+-- how many bytes an access reads or writes
 abbrev pub load_size : LoadOp → ℕ
 load_size LoadOp.Lb = 1
 load_size LoadOp.Lbu = 1
@@ -69,7 +71,7 @@ store_size StoreOp.Sb = 1
 store_size StoreOp.Sh = 2
 store_size StoreOp.Sw = 4
 
--- LW alone reads a device, and SW alone writes one
+-- only LW reads a device, and only SW writes one
 abbrev pub is_device_load : LoadOp → ℕ → Bool
 is_device_load LoadOp.Lw a = nat_eq a moment_address || nat_eq a input_address
 is_device_load LoadOp.Lb a = false
@@ -82,7 +84,7 @@ is_device_store StoreOp.Sw a = nat_eq a console_address
 is_device_store StoreOp.Sb a = false
 is_device_store StoreOp.Sh a = false
 
--- why an access of so many bytes is serial: it is misaligned, or to a device word, or outside memory
+-- why an access of that width is serial: it is misaligned, or to a device word, or outside memory
 abbrev pub refusal : (size width addr : ℕ) (is_device : Bool) (device misaligned outside : Kind) → Option Kind
 refusal size width a is_device device misaligned outside =
     if nat_eq (a % width) 0
@@ -97,7 +99,7 @@ abbrev pub store_refusal : (size width addr : ℕ) → Bool → Option Kind
 store_refusal size width a is_device =
     refusal size width a is_device Kind.DeviceStore (Kind.Fault store_misaligned) (Kind.Fault store_outside)
 
--- why the operation is serial, in a memory of that size; a jump faults where its target is misaligned
+-- why the operation is serial, in a memory of that size; a jump faults if its target is misaligned
 abbrev pub refuses : (size : ℕ) → Operation → Option Kind
 refuses size (Operation.Go rd value pc) = if nat_eq (pc % 4) 0 then None else Some (Kind.Fault jump_misaligned)
 refuses size (Operation.Stop kind) = Some kind
@@ -107,7 +109,7 @@ refuses size (Operation.LoadReserved rd a) = load_refusal size 4 a false
 refuses size (Operation.StoreConditional rd a v) = store_refusal size 4 a false
 refuses size (Operation.Amo op rd a v) = store_refusal size 4 a false
 
--- ---- what it asks of memory, and what it leaves, w being the word that it loads
+-- ---- what it asks of memory, and what it leaves; w is the word that it loads
 
 -- the number of the word that is loaded
 abbrev pub word_loaded : Operation → Option ℕ
@@ -119,7 +121,7 @@ word_loaded (Operation.LoadReserved rd a) = Some (a / 4)
 word_loaded (Operation.StoreConditional rd a v) = None
 word_loaded (Operation.Amo op rd a v) = Some (a / 4)
 
--- the value that a load's register takes, of the bytes from an address on
+-- the value that a load's register takes, from the bytes at an address
 abbrev pub loaded : LoadOp → (w addr : ℕ) → ℕ
 loaded LoadOp.Lb w a = extended 8 (w / 2 ^ (8 * (a % 4)) % 2 ^ 8)
 loaded LoadOp.Lh w a = extended 16 (w / 2 ^ (8 * (a % 4)) % 2 ^ 16)
@@ -127,7 +129,7 @@ loaded LoadOp.Lw w a = w
 loaded LoadOp.Lbu w a = w / 2 ^ (8 * (a % 4)) % 2 ^ 8
 loaded LoadOp.Lhu w a = w / 2 ^ (8 * (a % 4)) % 2 ^ 16
 
--- the lowest `size` bytes of a value, stored from byte number `from` of a word on: what byte k of the word takes
+-- what byte k of a word takes when the lowest `size` bytes of a value are stored from byte number `from` on
 abbrev pub part : (size from value k : ℕ) → Option ℕ
 part size from v k = some_if (nat_le from k && nat_lt k (from + size)) (v / 2 ^ (8 * (k - from)) % 2 ^ 8)
 
@@ -139,11 +141,11 @@ abbrev pub reserves : Option ℕ → ℕ → Bool
 reserves None a = false
 reserves (Some r) a = nat_eq r a
 
--- SC gives 0 where it stores, else 1
+-- SC gives 0 if it stores, else 1
 abbrev pub after_conditional : Bool → Parts → ℕ → Parts
 after_conditional done t rd = record (at_pc t rd (if done then 0 else 1) (following t)) { reservation = None }
 
--- the thread after it
+-- the thread after the operation
 abbrev pub thread_then : Operation → Parts → (w : ℕ) → Parts
 thread_then (Operation.Go rd value pc) t w = at_pc t rd value pc
 thread_then (Operation.Stop kind) t w = t

@@ -5,7 +5,7 @@ use Rattle.spec_isa.specs.declared.thread.Load.{Load}
 use Rattle.spec_isa.specs.Words.{Stored, lays, put}
 use Rattle.spec_isa.specs.Instruction.{InstructionOutcome, Next, Serial, one}
 
--- the thread as it now is, the words stored, each at the place of its first store, the loads in order, and the number of instructions
+-- the thread as it is now, the words stored, in the order of each one's first store, the loads in order, and the number of instructions
 pub record Run : Type 0 where
   pub thread : Parts
   pub words : List Stored
@@ -29,7 +29,7 @@ followed r (Serial kind) = r
 followed r (Next t load store) =
     record { thread = t; words = with_store r.words store; loads = with_load r.loads load; n = suc r.n }
 
--- one instruction more
+-- one more instruction
 abbrev pub more : List ℕ → Run → Run
 more m r = followed r (one r.thread (lays m r.words))
 

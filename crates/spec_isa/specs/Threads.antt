@@ -3,7 +3,7 @@ use Rattle.std.specs.Prelude.{◌≡◌, ℕ, ◌%◌, false, length, slice_inde
 use Rattle.spec_isa.specs.declared.thread.Parts.{Parts}
 use Rattle.spec_isa.specs.declared.thread.ThreadStatus.{ThreadStatus}
 
--- its places in the code are multiples of 4, and register 0 is 0
+-- its pc, its saved pc and its handler are multiples of 4, and register 0 is 0
 pub record IsThread (t : Parts) : Type 0 where
   pub pc : t.pc % 4 ≡ 0
   pub saved_pc : t.saved_pc % 4 ≡ 0
@@ -11,7 +11,7 @@ pub record IsThread (t : Parts) : Type 0 where
   pub zero : slice_index t.x 0 ≡ 0
   pub registers : length t.x ≡ 32
 
--- a new thread at an entry: its registers are 0, and it has no handler
+-- a new thread at an entry: its registers are 0 and it has no handler
 abbrev pub started : (entry : ℕ) → Parts
 started entry =
     record {

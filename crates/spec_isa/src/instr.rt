@@ -1,4 +1,4 @@
-//! The sixty instructions of RV32IMA with FENCE.I, by the names of the ISA manual; each keeps all its fields.
+//! The sixty instructions of RV32IMA with FENCE.I, by the names of the ISA manual; each with all its fields.
 use crate::field::{Imm12, Imm20, Reg};
 
 /// A conditional branch's comparison.

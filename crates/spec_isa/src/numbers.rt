@@ -1,6 +1,8 @@
 //! The numbers that stand for something.
 ghost use Rattle.std.specs.Prelude.{◌≡◌};
-ghost use Rattle.spec_isa.specs.Numbers.{register_sp, register_a0, register_a1, register_a2, register_a7, jump_misaligned, fetch_outside, illegal, breakpoint, load_misaligned, load_outside, store_misaligned, store_outside, moment_address, input_address, console_address};
+ghost use Rattle.spec_isa.specs.Numbers.{register_sp, register_a0, register_a1, register_a2, register_a7, jump_misaligned, fetch_outside, illegal};
+ghost use Rattle.spec_isa.specs.Numbers.{breakpoint, load_misaligned, load_outside, store_misaligned, store_outside, moment_address, input_address};
+ghost use Rattle.spec_isa.specs.Numbers.{console_address};
 
 /// The registers of a call, by their names in the calling convention: the stack pointer, the arguments, of which the
 /// first takes the result, and the call's number.
@@ -14,7 +16,7 @@ pub const A2: usize = 12;
 
 pub const A7: usize = 17;
 
-/// The causes of faults, which are the ISA's.
+/// The causes of faults, as the ISA numbers them.
 pub const JUMP_MISALIGNED: u8 = 0;
 
 pub const FETCH_OUTSIDE: u8 = 1;

@@ -3,7 +3,7 @@ use crate::field::Reg;
 use crate::instr::{AmoOp, LoadOp, StoreOp};
 use crate::thread::Kind;
 
-/// What is to be done: the only step left that looks at memory.
+/// What is to be done. Only doing it may still look at memory.
 #[derive(Clone, Copy, Debug, PartialEq, Eq)]
 pub enum Operation {
     /// `rd` takes the value, and the thread goes on at `pc`.

@@ -1,16 +1,16 @@
-//! The parts of a thread, and what one instruction can come to.
+//! The parts of a thread, what a load read, and why an instruction is serial.
 
-/// Whether a thread goes on.
+/// Whether a thread is live, or how it stopped.
 #[derive(Clone, Copy, Debug, PartialEq, Eq)]
 pub enum ThreadStatus {
     Live,
     /// It ended itself, with this code.
     Ended(u32),
-    /// It stopped at an instruction that cannot be run, with the ISA's number of the cause.
+    /// It stopped at an instruction that cannot be run; this is the ISA's number for the cause.
     Fault(u8),
 }
 
-/// All of a thread: its pc, its registers x0 to x31, the word address that it has reserved, its interrupt handler (0 is
+/// All of a thread: its pc, its registers x0 to x31, the word address that it has reserved, its interrupt handler (0 if
 /// none) with the mask and the values saved while it runs, its status and the number of its commits.
 #[derive(Clone, Copy, Debug, PartialEq, Eq)]
 pub struct Parts {
@@ -40,6 +40,6 @@ pub enum Kind {
     Break,
     DeviceLoad,
     DeviceStore,
-    /// It cannot be run, with the ISA's number of the cause.
+    /// It cannot be run; this is the ISA's number for the cause.
     Fault(u8),
 }

@@ -23,11 +23,11 @@ pub record Called : Type 0 where
 abbrev pub with_result : ℕ → Parts → Parts
 with_result result t = at_pc t register_a0 result (following t)
 
--- a result, and nothing else
+-- a result and nothing else
 abbrev pub gives : Option Request → Parts → (result : ℕ) → Called
 gives request t result = record { thread = with_result result t; spawned = []; request = request }
 
--- exit: the thread ends with the code; a0 stays
+-- exit: the thread ends with the code; a0 stays as it is
 abbrev pub exit : Option Request → Parts → Called
 exit request t =
     record { thread = record t { pc = following t; status = ThreadStatus.Ended (a0 t) }; spawned = []; request = request }
@@ -37,21 +37,21 @@ abbrev pub spawned : (entry sp arg : ℕ) → Parts
 spawned entry sp arg =
     let t = started entry in record t { x = with_register (with_register t.x register_sp sp) register_a0 arg }
 
--- spawn: the new thread's number; refused where there is no place for one more, or the entry is no place in code
+-- spawn: the new thread's number; refused if there is no room for one more, or the entry isn't a code address
 abbrev pub spawn : List Parts → Option Request → Parts → Called
 spawn threads request t =
     if nat_lt (length threads) most_threads && nat_eq (a0 t % 4) 0
     then record { thread = with_result (length threads) t; spawned = spawned (a0 t) (a1 t) (a2 t) ∷ []; request = request }
     else gives request t refused
 
--- handler: where interrupts go, 0 for none; refused where that is no place in code
+-- handler: where interrupts go, 0 for none; refused if that isn't a code address
 abbrev pub set_handler : Option Request → Parts → Called
 set_handler request t =
     if nat_eq (a0 t % 4) 0
     then record { thread = with_result 0 (record t { handler = a0 t }); spawned = []; request = request }
     else gives request t refused
 
--- the thread where its interrupt came, with the pc, a0 and a1 of then
+-- the thread where the interrupt came, with the pc, a0 and a1 that it had then
 abbrev pub returned : Parts → Parts
 returned t =
     record t {
@@ -63,16 +63,16 @@ returned t =
       saved_a1 = 0;
     }
 
--- iret: the handler returns; refused where none runs
+-- iret: the handler returns; refused if none is running
 abbrev pub iret : Option Request → Parts → Called
 iret request t =
     if t.mask then record { thread = returned t; spawned = []; request = request } else gives request t refused
 
--- a buffer for a DMA is words, with one word before the bytes
+-- a DMA's buffer is aligned to words, and has one word before the bytes
 abbrev pub is_dma_buffer : (size buf len : ℕ) → Bool
 is_dma_buffer size buf len = nat_eq (buf % 4) 0 && nat_le (buf + 4 + len) size
 
--- dma: a request; refused where one is outstanding
+-- dma: a request; refused if one is outstanding
 abbrev pub request_dma : (size : ℕ) → Option Request → Parts → Called
 request_dma size None t =
     if is_dma_buffer size (a0 t) (cut (a1 t))
@@ -81,7 +81,7 @@ request_dma size None t =
 request_dma size (Some request) t =
     gives (Some request) t (if is_dma_buffer size (a0 t) (cut (a1 t)) then refused else bad_buffer)
 
--- ended: whether that thread is live still; refused where there is none
+-- ended: whether that thread is still live; refused if there is none
 abbrev pub has_ended : Option Parts → ℕ
 has_ended None = refused
 has_ended (Some t) = if is_live t then 0 else 1

@@ -1,17 +1,17 @@
--- What stands outside the spheres: the input that is left, the console, eight pipes, and a source of random bytes.
+-- What is outside the spheres: the input that is left, the console, eight pipes, and a source of random bytes.
 use Rattle.std.specs.Prelude.{ℕ, zero, suc, ◌-◌, ◌%◌, ◌^◌, List, [], ◌∷◌, ◌++◌, length, take, drop, replicate, slice_index_or, slice_set}
 use Rattle.rand_pcg.specs.Lcg.{Lcg, started, increment_of}
 use Rattle.rand_pcg.specs.Pcg.{multiplier_64, pcg32}
 use Rattle.spec_kernel.specs.Numbers.{pipe_count, pipe_size, most_input, random_stream}
 
 pub record Devices : Type 0 where
-  -- the bytes of the input that nobody took yet
+  -- the bytes of the input that haven't been taken yet
   pub input : List ℕ
-  -- all bytes that were put on the console
+  -- all bytes that have been put on the console
   pub console : List ℕ
-  -- of each pipe its bytes, the next one to be read first
+  -- the bytes of each pipe, the next one to be read first
   pub pipes : List (List ℕ)
-  -- where the random words stand
+  -- the state of the random words
   pub random : Lcg
 
 -- before the first event: the first 2^24 bytes of an input, empty pipes, and the random words of a seed's stream 2
@@ -28,7 +28,7 @@ devices_of input seed =
 abbrev pub input_taken : ℕ → Devices → Devices
 input_taken n d = record d { input = drop n d.input }
 
--- with these bytes more on the console
+-- with these further bytes on the console
 abbrev pub console_put : List ℕ → Devices → Devices
 console_put bytes d = record d { console = d.console ++ bytes }
 
@@ -38,11 +38,11 @@ pipe_at d pipe = slice_index_or d.pipes pipe []
 abbrev pub with_pipe : Devices → ℕ → List ℕ → Devices
 with_pipe d pipe bytes = record d { pipes = slice_set d.pipes pipe bytes }
 
--- as many of these bytes, from the first, as find room in a pipe of 256
+-- as many of these bytes, from the first on, as a pipe of 256 has room for
 abbrev pub pipe_fitting : Devices → ℕ → List ℕ → List ℕ
 pipe_fitting d pipe bytes = take (pipe_size - length (pipe_at d pipe)) bytes
 
--- with these of the bytes at the pipe's end
+-- with those at the pipe's end
 abbrev pub pipe_put : Devices → ℕ → List ℕ → Devices
 pipe_put d pipe bytes = with_pipe d pipe (pipe_at d pipe ++ pipe_fitting d pipe bytes)
 
@@ -59,7 +59,7 @@ unfoldable pub random_bytes : ℕ → Lcg → List ℕ
 random_bytes zero g = []
 random_bytes (suc n) g = (pcg32 g).0 % 2 ^ 8 ∷ random_bytes n (pcg32 g).1
 
--- where the random words stand n words later
+-- the state of the random words n words later
 unfoldable pub random_after : ℕ → Lcg → Lcg
 random_after zero g = g
 random_after (suc n) g = random_after n (pcg32 g).1

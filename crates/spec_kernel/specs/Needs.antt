@@ -1,4 +1,4 @@
--- What a thread's next step, where it is serial, wants from outside.
+-- What a thread's next step, if it is serial, needs from outside.
 use Rattle.std.specs.Prelude.{ℕ, ◌+◌, ◌/◌, min, nat_eq, nat_le, List, length, take, drop, Option, Some, None, if◌then◌else◌}
 use Rattle.dl_entry.specs.Numbers.{most_bytes}
 use Rattle.spec_isa.specs.declared.thread.Parts.{Parts}
@@ -16,7 +16,7 @@ use Rattle.spec_kernel.specs.Numbers.{call_write, call_read, call_random, call_c
 abbrev pub fetched : Parts → List ℕ → ℕ
 fetched t m = read m (t.pc / 4)
 
--- why it is serial, or none where it is not
+-- why it is serial, or none if it is not
 unfoldable pub next_kind : Parts → List ℕ → Option Kind
 next_kind t m = serial_of t (fetched t m) (length m)
 
@@ -29,9 +29,9 @@ next_operation t m = operation_of t (fetched t m)
 pub data Need : Type 0 where
   -- to put these bytes on a channel
   Write : (channel : ℕ) (bytes : List ℕ) → Need
-  -- at most so many bytes of a channel, for a buffer
+  -- at most this many bytes from a channel, for a buffer
   Read : (channel buf len : ℕ) → Need
-  -- so many random bytes, for a buffer
+  -- this many random bytes, for a buffer
   Random : (buf len : ℕ) → Need
   -- the moment
   Clock : Need
@@ -53,11 +53,11 @@ a1 t = register t register_a1
 abbrev pub a2 : Parts → ℕ
 a2 t = register t register_a2
 
--- lengths are cut to 4,096
+-- lengths are capped at 4,096
 abbrev pub cut : ℕ → ℕ
 cut len = min len most_bytes
 
--- a buffer that ends beyond the memory is bad, and nothing is wanted for it
+-- a buffer that ends beyond the memory is bad, and nothing is needed for it
 abbrev pub if_inside : (size buf len : ℕ) → Need → Option Need
 if_inside size buf len need = if nat_le (buf + len) size then Some need else None
 
@@ -98,6 +98,6 @@ need_of (Some Kind.DeviceStore) t m = None
 need_of (Some (Kind.Fault cause)) t m = None
 need_of None t m = None
 
--- what the next step wants, if anything
+-- what the next step needs, if anything
 unfoldable pub need : Parts → List ℕ → Option Need
 need t m = need_of (next_kind t m) t m

@@ -41,7 +41,7 @@ call_ended = 11
 
 -- ---- channels
 
--- the channels below are pipes
+-- the channels below this number are pipes
 abbrev pub pipe_count : ℕ
 pipe_count = 8
 
@@ -57,10 +57,10 @@ channel_input = 9
 abbrev pub pipe_size : ℕ
 pipe_size = 256
 
--- the bytes that are taken of an input
+-- the most bytes that are taken of an input
 abbrev pub most_input : ℕ
 most_input = 2 ^ 24
 
--- the stream of the random words
+-- the stream that the random words come from
 abbrev pub random_stream : ℕ
 random_stream = 2

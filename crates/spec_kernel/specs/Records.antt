@@ -1,4 +1,4 @@
--- Whether a record of a log is what a step wants from outside.
+-- Whether a log's record is what a step needs from outside.
 use Rattle.std.specs.Prelude.{ℕ, Bool, false, ◌&&◌, ◌||◌, nat_eq, nat_le, length, Option, Some, None}
 use Rattle.dl_entry.specs.declared.Input.{Input}
 use Rattle.dl_entry.specs.Numbers.{kind_write, kind_read, kind_random, kind_clock, kind_moment, kind_input}
@@ -43,7 +43,7 @@ fits_kind InputWord r = has_no_bytes r
 unfoldable pub fits : Need → Input → Bool
 fits need r = nat_eq r.kind (kind_of need) && fits_kind need r
 
--- a record fits no step that wants none
+-- no record fits a step that needs none
 abbrev pub fits_if : Option Need → Input → Bool
 fits_if None r = false
 fits_if (Some need) r = fits need r

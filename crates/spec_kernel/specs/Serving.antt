@@ -1,4 +1,4 @@
--- What a serial step does, with what came from outside for it, if it wanted something.
+-- What a serial step does, with what came from outside for it, if it needed something.
 use Rattle.std.specs.Prelude.{ℕ, ◌%◌, ◌^◌, Bool, ◌&&◌, nat_le, nat_lt, List, [], ◌∷◌, ◌++◌, length, take, Option, Some, None, if◌then◌else◌}
 use Rattle.dl_entry.specs.declared.Input.{Input}
 use Rattle.dl_entry.specs.declared.Load.{Load}
@@ -55,7 +55,7 @@ output_of (Some MomentWord) r = []
 output_of (Some InputWord) r = []
 output_of None r = []
 
--- an outside call: the record's result goes to a0; without a record its buffer was bad
+-- an outside call: the record's result goes to a0; if there is no record, the buffer was bad
 abbrev pub outside_called : Option Need → Option Request → Parts → Option Input → StepResult
 outside_called need request t None = alone request (with_result bad_buffer t)
 outside_called need request t (Some r) =
@@ -71,13 +71,13 @@ outside_called need request t (Some r) =
 abbrev pub inside_called : Called → StepResult
 inside_called c = record { thread = c.thread; spawned = c.spawned; request = c.request; words = []; loads = []; outputs = [] }
 
--- the calls from write to clock, which stand between spawn and handler, go outside
+-- the calls from write to clock, whose numbers are between those of spawn and handler, go outside
 abbrev pub is_outside : Parts → Bool
 is_outside t = nat_lt call_spawn (number_of t) && nat_lt (number_of t) call_handler
 
 -- ---- device words
 
--- a load of a device word, which gives what came, and is told as a load
+-- a load of a device word: it gives what came, and is told as a load
 abbrev pub device_loaded : Option Request → Parts → Operation → Option Input → StepResult
 device_loaded request t (Operation.Load op rd a) (Some r) =
     record (alone request (at_pc t rd r.result (following t))) { loads = record { address = a; value = r.result } ∷ [] }
@@ -124,6 +124,6 @@ store_written (Some Kind.DeviceLoad) outputs d = d
 store_written (Some (Kind.Fault cause)) outputs d = d
 store_written None outputs d = d
 
--- the devices after a step that left these outputs: a store to the console's word has put its byte there
+-- the devices after a step that left these outputs: a store to the console's word has put its byte on the console
 unfoldable pub console_written : Parts → List ℕ → List Output → Devices → Devices
 console_written t m outputs d = store_written (next_kind t m) outputs d

@@ -1,6 +1,8 @@
 //! The numbers that stand for something.
 ghost use Rattle.std.specs.Prelude.{◌≡◌};
-ghost use Rattle.spec_kernel.specs.Numbers.{call_exit, call_spawn, call_write, call_read, call_random, call_clock, call_handler, call_iret, call_dma, call_self, call_yield, call_ended, pipe_count, channel_console, channel_input, pipe_size, most_input, random_stream};
+ghost use Rattle.spec_kernel.specs.Numbers.{call_exit, call_spawn, call_write, call_read, call_random, call_clock, call_handler, call_iret, call_dma};
+ghost use Rattle.spec_kernel.specs.Numbers.{call_self, call_yield, call_ended, pipe_count, channel_console, channel_input, pipe_size, most_input};
+ghost use Rattle.spec_kernel.specs.Numbers.{random_stream};
 
 /// The kernel calls.
 pub const CALL_EXIT: u32 = 0;
@@ -27,7 +29,7 @@ pub const CALL_YIELD: u32 = 10;
 
 pub const CALL_ENDED: u32 = 11;
 
-/// The channels below are pipes.
+/// The channels below this number are pipes.
 pub const PIPE_COUNT: usize = 8;
 
 pub const CHANNEL_CONSOLE: u32 = 8;
@@ -37,10 +39,10 @@ pub const CHANNEL_INPUT: u32 = 9;
 /// The bytes that a pipe holds.
 pub const PIPE_SIZE: usize = 256;
 
-/// The bytes that are taken of an input.
+/// The most bytes that are taken of an input.
 pub const MOST_INPUT: usize = 1 << 24;
 
-/// The stream of the random words.
+/// The stream that the random words come from.
 pub const RANDOM_STREAM: u64 = 2;
 
 /// Each constant is the number that its definition gives.

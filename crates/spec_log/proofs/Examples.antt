@@ -14,7 +14,7 @@ use Rattle.spec_log.specs.Size.{size_in}
 -- a log with standard chunks of 100, and no interrupt, input or DMA
 abbrev plain_log : ModeName → ℕ → List Actor → Sizes → LogParts
 plain_log mode count order sizes =
-    record { mode = mode; s = 100; count = count; order = order; sizes = sizes; interrupts = []; inputs = []; dmas = [] }
+    record { version = 1; threads = 15; mode = mode; s = 100; count = count; order = order; sizes = sizes; interrupts = []; inputs = []; dmas = [] }
 
 -- thread 0 runs two instructions and then exits
 abbrev exits : LogParts

@@ -11,6 +11,8 @@ use Rattle.spec_log.specs.Reading.{ParseError, read_of}
 abbrev full : LogParts
 full =
     record {
+      version = 1;
+      threads = 15;
       mode = OrderOnly;
       s = 4096;
       count = 3;
@@ -27,6 +29,8 @@ read_of-full = refl
 abbrev sized : LogParts
 sized =
     record {
+      version = 1;
+      threads = 15;
       mode = OrderSize;
       s = 16;
       count = 2;

@@ -5,7 +5,7 @@ use Rattle.spec_log.specs.declared.mode_name.ModeName.TheVariants.{OrderSize, Or
 use Rattle.spec_log.specs.declared.draft.Draft.{Draft}
 use Rattle.spec_log.specs.declared.log.LogParts.{LogParts}
 use Rattle.spec_log.specs.Fields.{ParseError, Read, Reader, Stage, all_of, continues, fails, field, from_to, gives, number_of, passes, raw, repeated, staged}
-use Rattle.spec_log.specs.Reading.{blank, magic, version, mode, spare, chunk_size, log_of, one_size, order, sizes, interrupts, inputs, dmas, commits, read_of, stages}
+use Rattle.spec_log.specs.Reading.{blank, magic, version, mode, threads, chunk_size, log_of, one_size, order, sizes, interrupts, inputs, dmas, commits, read_of, stages}
 
 -- where something is read behind something, both were read
 then_read : {X Y : Type 0} (r : Result (Read X) ParseError) (next : X → ℕ → Result Y ParseError) (y : Y) → continues r next ≡ Ok y → (x : Read X) × (r ≡ Ok x) × (next x.value x.after ≡ Ok y)
@@ -45,7 +45,7 @@ on_keeps known stage behind keeps rest d bytes at x good e =
     rest r.0.value bytes r.0.after x (staged_keeps known stage keeps d bytes at r.0 good r.1) r.2
 
 abbrev IsSized : Draft → Type 0
-IsSized d = 16 ≤ d.s
+IsSized d = 16 ≤ d.shape.s
 
 size_keeps : (m : ModeName) (d : Draft) (bytes : List ℕ) (at : ℕ) (x : Read Draft) → IsSized d → one_size m d bytes at ≡ Ok x → IsSized x.value
 size_keeps OrderSize d bytes at x good e = put_keeps IsSized _ (λ each. record d { each = each }) bytes x (λ y. good) e
@@ -82,8 +82,8 @@ sized : (d : Draft) (bytes : List ℕ) (at : ℕ) (x : Read Draft) → all_of (d
 sized d bytes at x e =
     let stage = then_read (staged chunk_size d bytes at) (λ y after. all_of (drop 5 stages) y bytes after) x e in
     let once = then_read (chunk_size.one d bytes at) (λ y after. gives y bytes after) stage.0 stage.1 in
-    let put = then_read (field 4 (from_to 16 4096) bytes at) (λ s after. gives (record d { s = s }) bytes after) once.0 once.1 in
-    let made : Read Draft = record { value = record d { s = put.0.value }; after = put.0.after } in
+    let put = then_read (field 4 (from_to 16 4096) bytes at) (λ s after. gives (record d { shape = record d.shape { s = s } }) bytes after) once.0 once.1 in
+    let made : Read Draft = record { value = record d { shape = record d.shape { s = put.0.value } }; after = put.0.after } in
     let same : made ≡ once.0 = same_read made once.0 put.2 in
     let again : once.0 ≡ stage.0 = same_read once.0 stage.0 once.2 in
     rest_sized stage.0.value bytes stage.0.after x
@@ -98,7 +98,7 @@ behind_it stage behind rest d bytes at x e =
 
 all_sized : (d : Draft) (bytes : List ℕ) (at : ℕ) (x : Read Draft) → all_of stages d bytes at ≡ Ok x → IsSized x.value
 all_sized =
-    behind_it magic (drop 1 stages) (behind_it version (drop 2 stages) (behind_it mode (drop 3 stages) (behind_it spare (drop 4 stages) sized)))
+    behind_it magic (drop 1 stages) (behind_it version (drop 2 stages) (behind_it mode (drop 3 stages) (behind_it threads (drop 4 stages) sized)))
 
 log_read : (b : Bool) (at : ℕ) (p log : LogParts) → ◌≡◌ {A = Result LogParts ParseError} (if b then fails 7 at else Ok p) (Ok log) → p ≡ log
 log_read true at p log e = absurd cc

@@ -30,9 +30,9 @@ u32 number = little 4 number
 abbrev pub magic : List ℕ
 magic = 0x44 ∷ 0x4C ∷ 0x52 ∷ 0x4E ∷ []
 
--- the magic word, version 1, the mode, two zero bytes, the standard chunk size and the number of commits
+-- the magic word, the version, the mode, two zero bytes, the standard chunk size and the number of commits
 abbrev pub header_bytes : LogParts → List ℕ
-header_bytes log = magic ++ u8 1 ++ u8 (mode_code log.mode) ++ u16 0 ++ u32 log.s ++ u32 log.count
+header_bytes log = magic ++ u8 log.version ++ u8 (mode_code log.mode) ++ u16 0 ++ u32 log.s ++ u32 log.count
 
 -- a section is the count of its entries, and then each entry's bytes
 abbrev pub section : {X : Type 0} → (X → List ℕ) → List X → List ℕ

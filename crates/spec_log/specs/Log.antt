@@ -4,7 +4,7 @@ use Rattle.std.specs.List.{AllAdjacentBelow}
 use Rattle.dl_entry.specs.declared.actor.Actor.{Actor}
 use Rattle.dl_entry.specs.declared.actor.Actor.TheVariants.{Thread, Dma}
 use Rattle.dl_entry.specs.declared.input.Input.{Input}
-use Rattle.dl_entry.specs.Numbers.{kind_write, kind_read, kind_random, kind_clock, kind_moment, kind_input, most_bytes, least_chunk, most_chunk, greatest_thread}
+use Rattle.dl_entry.specs.Numbers.{kind_write, kind_read, kind_random, kind_clock, kind_moment, kind_input, most_bytes, least_chunk, most_chunk, most_threads}
 use Rattle.spec_log.specs.declared.mode_name.ModeName.{ModeName}
 use Rattle.spec_log.specs.declared.mode_name.ModeName.TheVariants.{OrderSize, OrderOnly, Picolog}
 use Rattle.spec_log.specs.declared.records.Interrupt.{Interrupt}
@@ -14,16 +14,28 @@ use Rattle.spec_log.specs.declared.sizes.Sizes.{Sizes}
 use Rattle.spec_log.specs.declared.sizes.Sizes.TheVariants.{Each, Short}
 use Rattle.spec_log.specs.declared.log.LogParts.{LogParts}
 
--- an actor of a log is one of the threads that a sphere may have, or a DMA
-abbrev pub IsActor : Actor → Type 0
-IsActor (Thread thread) = thread ≤ greatest_thread
-IsActor Dma = Unit {0}
+-- a log is of version 1, which has 15 threads
+abbrev pub IsVersion : (version threads : ℕ) → Type 0
+IsVersion version threads = (version ≡ 1) × (threads ≡ most_threads)
+
+-- the most instructions of a standard chunk, by the version
+abbrev pub most_standard : (version : ℕ) → ℕ
+most_standard version = most_chunk
+
+-- a standard chunk of a log has at least 16 instructions
+abbrev pub IsStandard : (version s : ℕ) → Type 0
+IsStandard version s = (least_chunk ≤ s) × (s ≤ most_standard version)
+
+-- an actor of a log is one of the threads that it may have, or a DMA
+abbrev pub IsActor : (threads : ℕ) → Actor → Type 0
+IsActor threads (Thread thread) = thread < threads
+IsActor threads Dma = Unit {0}
 
 -- the order names the actor of each commit; in picolog, where threads take turns, it is empty
-abbrev pub IsOrder : ModeName → ℕ → List Actor → Type 0
-IsOrder OrderSize count order = (length order ≡ count) × All IsActor order
-IsOrder OrderOnly count order = (length order ≡ count) × All IsActor order
-IsOrder Picolog count order = order ≡ []
+abbrev pub IsOrder : ModeName → (threads count : ℕ) → List Actor → Type 0
+IsOrder OrderSize threads count order = (length order ≡ count) × All (IsActor threads) order
+IsOrder OrderOnly threads count order = (length order ≡ count) × All (IsActor threads) order
+IsOrder Picolog threads count order = order ≡ []
 
 -- a thread's moment comes before another: of an earlier thread, or earlier in the same thread
 abbrev pub ComesBefore : (thread index later_thread later_index : ℕ) → Type 0
@@ -36,29 +48,29 @@ pub record IsSection {X : Type 0} (good : X → Type 0) (before : X → X → Ty
   pub rising : AllAdjacentBelow before entries (length entries)
 
 -- the size of a short chunk is over 0 and no more than a standard chunk's
-abbrev pub IsShortSize : ℕ → ShortSize → Type 0
-IsShortSize s short = (short.thread ≤ greatest_thread) × (short.index < 2 ^ 32) × (1 ≤ short.size) × (short.size ≤ s)
+abbrev pub IsShortSize : (threads s : ℕ) → ShortSize → Type 0
+IsShortSize threads s short = (short.thread < threads) × (short.index < 2 ^ 32) × (1 ≤ short.size) × (short.size ≤ s)
 
-abbrev pub AreShortSizes : ℕ → List ShortSize → Type 0
-AreShortSizes s sizes =
-    IsSection (IsShortSize s) (λ x y. ComesBefore x.thread x.index y.thread y.index) sizes
+abbrev pub AreShortSizes : (threads s : ℕ) → List ShortSize → Type 0
+AreShortSizes threads s sizes =
+    IsSection (IsShortSize threads s) (λ x y. ComesBefore x.thread x.index y.thread y.index) sizes
 
 -- in order-size each commit has a size, in the other modes the short chunks
-abbrev pub IsSizes : ModeName → ℕ → ℕ → Sizes → Type 0
-IsSizes OrderSize s count (Each sizes) = (length sizes ≡ count) × All (λ size. size ≤ s) sizes
-IsSizes OrderSize s count (Short sizes) = ⊥
-IsSizes OrderOnly s count (Each sizes) = ⊥
-IsSizes OrderOnly s count (Short sizes) = AreShortSizes s sizes
-IsSizes Picolog s count (Each sizes) = ⊥
-IsSizes Picolog s count (Short sizes) = AreShortSizes s sizes
+abbrev pub IsSizes : ModeName → (threads s count : ℕ) → Sizes → Type 0
+IsSizes OrderSize threads s count (Each sizes) = (length sizes ≡ count) × All (λ size. size ≤ s) sizes
+IsSizes OrderSize threads s count (Short sizes) = ⊥
+IsSizes OrderOnly threads s count (Each sizes) = ⊥
+IsSizes OrderOnly threads s count (Short sizes) = AreShortSizes threads s sizes
+IsSizes Picolog threads s count (Each sizes) = ⊥
+IsSizes Picolog threads s count (Short sizes) = AreShortSizes threads s sizes
 
 -- interrupts stand by thread, and for one thread by the number of its commits before
-abbrev pub IsInterrupt : Interrupt → Type 0
-IsInterrupt interrupt = (interrupt.thread ≤ greatest_thread) × (interrupt.index < 2 ^ 32) × (interrupt.value < 2 ^ 32)
+abbrev pub IsInterrupt : (threads : ℕ) → Interrupt → Type 0
+IsInterrupt threads interrupt = (interrupt.thread < threads) × (interrupt.index < 2 ^ 32) × (interrupt.value < 2 ^ 32)
 
-abbrev pub AreInterrupts : List Interrupt → Type 0
-AreInterrupts interrupts =
-    IsSection IsInterrupt (λ x y. ComesBefore x.thread x.index y.thread y.index) interrupts
+abbrev pub AreInterrupts : (threads : ℕ) → List Interrupt → Type 0
+AreInterrupts threads interrupts =
+    IsSection (IsInterrupt threads) (λ x y. ComesBefore x.thread x.index y.thread y.index) interrupts
 
 -- no more bytes than a record may have
 abbrev pub AreFewBytes : List ℕ → Type 0
@@ -82,16 +94,17 @@ IsDmaRecord dma = (dma.position < 2 ^ 32) × AreFewBytes dma.bytes
 abbrev pub AreDmas : List DmaRecord → Type 0
 AreDmas dmas = IsSection IsDmaRecord (λ x y. x.position < y.position) dmas
 
--- a standard chunk has 16 to 4,096 instructions
+-- a standard chunk of a machine has 16 to 4,096 instructions
 abbrev pub IsChunkSize : ℕ → Type 0
 IsChunkSize s = (least_chunk ≤ s) × (s ≤ most_chunk)
 
 -- the parts are a log's
 pub record IsLog (log : LogParts) : Type 0 where
-  pub s : IsChunkSize log.s
+  pub version : IsVersion log.version log.threads
+  pub s : IsStandard log.version log.s
   pub count : log.count ≤ 2 ^ 24
-  pub order : IsOrder log.mode log.count log.order
-  pub sizes : IsSizes log.mode log.s log.count log.sizes
-  pub interrupts : AreInterrupts log.interrupts
+  pub order : IsOrder log.mode log.threads log.count log.order
+  pub sizes : IsSizes log.mode log.threads log.s log.count log.sizes
+  pub interrupts : AreInterrupts log.threads log.interrupts
   pub inputs : AreInputs log.inputs
   pub dmas : AreDmas log.dmas

@@ -1,5 +1,6 @@
 -- What a log keeps of commits that are noted one after another.
-use Rattle.std.specs.Prelude.{ℕ, ◌+◌, ◌==◌, nat_lt, nat_le, Bool, ◌&&◌, List, [], ◌∷◌, ◌++◌, length, replicate, fold, slice_index, slice_set, slice_get, max, Option, Some, None, if◌then◌else◌}
+use Rattle.std.specs.Prelude.{ℕ, ◌+◌, ◌==◌, nat_lt, nat_le, Bool, ◌&&◌, List, [], ◌∷◌, ◌++◌, length, replicate, fold, slice_index, slice_set}
+use Rattle.std.specs.Prelude.{slice_get, max, Option, Some, None, if◌then◌else◌}
 use Rattle.std.specs.List.{list_all, range_with_len}
 use Rattle.dl_entry.specs.declared.actor.Actor.{Actor}
 use Rattle.dl_entry.specs.declared.actor.Actor.TheVariants.{Thread, Dma}
@@ -125,10 +126,12 @@ kept_head OrderSize order position dma last live = slice_get order position
 kept_head OrderOnly order position dma last live = slice_get order position
 kept_head Picolog order position dma last live = head_by_turn dma last live
 
--- the log of what is kept, with its records
+-- the log of what is kept, with its records: of version 1
 abbrev pub log_of : ModeName → Kept → List Interrupt → List Input → List DmaRecord → LogParts
 log_of mode kept interrupts inputs dmas =
     record {
+      version = 1;
+      threads = most_threads;
       mode = mode;
       s = kept.s;
       count = kept.count;

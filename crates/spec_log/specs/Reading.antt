@@ -4,11 +4,12 @@ use Rattle.std.specs.List.{list_any}
 use Rattle.dl_entry.specs.declared.actor.Actor.{Actor}
 use Rattle.dl_entry.specs.declared.actor.Actor.TheVariants.{Thread, Dma}
 use Rattle.dl_entry.specs.declared.input.Input.{Input}
-use Rattle.dl_entry.specs.Numbers.{most_bytes, greatest_thread, dma_code}
+use Rattle.dl_entry.specs.Numbers.{most_bytes, least_chunk, most_threads, dma_code}
 use Rattle.spec_log.specs.declared.mode_name.ModeName.{ModeName}
 use Rattle.spec_log.specs.declared.mode_name.ModeName.TheVariants.{OrderSize, OrderOnly, Picolog}
 use Rattle.spec_log.specs.declared.records.Interrupt.{Interrupt}
 use Rattle.spec_log.specs.declared.records.DmaRecord.{DmaRecord}
+use Rattle.spec_log.specs.declared.shape.Shape.{Shape}
 use Rattle.spec_log.specs.declared.sizes.ShortSize.{ShortSize}
 use Rattle.spec_log.specs.declared.sizes.Sizes.{Sizes}
 use Rattle.spec_log.specs.declared.sizes.Sizes.TheVariants.{Each, Short}
@@ -17,21 +18,20 @@ use Rattle.spec_log.specs.declared.log.LogParts.{LogParts}
 pub use Rattle.spec_log.specs.Fields.{ParseError}
 use Rattle.spec_log.specs.Fields.{Read, Reader, Stage, fails, continues, gives, read, number}
 use Rattle.spec_log.specs.Fields.{field, any, at_most, from_to, counted_in, one_more, once, listed, all_of}
-use Rattle.spec_log.specs.Log.{input_kinds}
+use Rattle.spec_log.specs.Log.{input_kinds, most_standard}
 
 -- Faults of a log: 1 the bytes end inside a field, 2 the magic word, 3 the version, 4 the mode, 5 another value out of its
 -- range, 6 an entry that doesn't come after the one before it, 7 bytes behind the last section.
 
--- a number that has one value, which a draft needn't keep
-abbrev pub constant : (width fault value : ℕ) → Stage Draft
-constant width fault value = once (λ d. read (number width fault (λ x. x == value)) (λ x. gives d))
-
--- "DLRN", the version, the mode, and two zero bytes
+-- "DLRN"
 abbrev pub magic : Stage Draft
-magic = constant 4 2 0x4E524C44
+magic = once (λ d. read (number 4 2 (λ x. x == 0x4E524C44)) (λ x. gives d))
 
+-- the version is 1
 abbrev pub version : Stage Draft
-version = constant 1 3 1
+version =
+    once (λ d. read (number 1 3 (λ x. x == 1)) (λ version.
+    gives (record d { shape = record d.shape { version = version } })))
 
 abbrev pub mode_of : ℕ → ModeName
 mode_of code = if code == 0 then OrderSize else if code == 1 then OrderOnly else Picolog
@@ -39,11 +39,19 @@ mode_of code = if code == 0 then OrderSize else if code == 1 then OrderOnly else
 abbrev pub mode : Stage Draft
 mode = once (λ d. read (number 1 4 (at_most 2)) (λ code. gives (record d { mode = mode_of code })))
 
-abbrev pub spare : Stage Draft
-spare = constant 2 5 0
+-- how many threads a log may have isn't in version 1: it is 15, and two bytes are 0
+abbrev pub thread_count : (version : ℕ) → Reader ℕ
+thread_count _ = read (field 2 (λ x. x == 0)) (λ spare. gives most_threads)
+
+abbrev pub threads : Stage Draft
+threads =
+    once (λ d. read (thread_count d.shape.version) (λ threads.
+    gives (record d { shape = record d.shape { threads = threads } })))
 
 abbrev pub chunk_size : Stage Draft
-chunk_size = once (λ d. read (field 4 (from_to 16 4096)) (λ s. gives (record d { s = s })))
+chunk_size =
+    once (λ d. read (field 4 (from_to least_chunk (most_standard d.shape.version))) (λ s.
+    gives (record d { shape = record d.shape { s = s } })))
 
 abbrev pub commits : Stage Draft
 commits = once (λ d. read (field 4 (at_most (2 ^ 24))) (λ count. gives (record d { count = count })))
@@ -75,16 +83,21 @@ order =
       one = λ d. read (more_actors d.count d.order) (λ order. gives (record d { order = order }));
     }
 
-abbrev pub thread : Reader ℕ
-thread = field 1 (at_most greatest_thread)
+-- a thread is one of those that a log of the shape may have
+abbrev pub thread : Shape → Reader ℕ
+thread shape = field 1 (λ number. nat_lt number shape.threads)
 
 -- a thread's moment is earlier: of a lower thread, or with fewer of its commits before
 abbrev pub is_earlier : (thread index later_thread later_index : ℕ) → Bool
 is_earlier t i u j = nat_lt t u || ((t == u) && nat_lt i j)
 
-abbrev pub short_size : ℕ → Reader ShortSize
-short_size s =
-    read thread (λ t. read (any 4) (λ i. read (field 2 (from_to 1 s)) (λ size.
+-- the size of a commit, where each commit has one
+abbrev pub size : Shape → Reader ℕ
+size shape = field 2 (at_most shape.s)
+
+abbrev pub short_size : Shape → Reader ShortSize
+short_size shape =
+    read (thread shape) (λ t. read (any 4) (λ i. read (field 2 (from_to 1 shape.s)) (λ size.
     gives (record { thread = t; index = i; size = size }))))
 
 -- the number of sizes is that of the commits where each commit has one
@@ -94,25 +107,25 @@ size_count OrderOnly count = any 4
 size_count Picolog count = any 4
 
 abbrev pub one_size : ModeName → Draft → Reader Draft
-one_size OrderSize d = read (one_more (λ x y. true) (field 2 (at_most d.s)) d.each) (λ each. gives (record d { each = each }))
+one_size OrderSize d = read (one_more (λ x y. true) (size d.shape) d.each) (λ each. gives (record d { each = each }))
 one_size OrderOnly d =
-    read (one_more (λ x y. is_earlier x.thread x.index y.thread y.index) (short_size d.s) d.short) (λ short.
+    read (one_more (λ x y. is_earlier x.thread x.index y.thread y.index) (short_size d.shape) d.short) (λ short.
     gives (record d { short = short }))
 one_size Picolog d =
-    read (one_more (λ x y. is_earlier x.thread x.index y.thread y.index) (short_size d.s) d.short) (λ short.
+    read (one_more (λ x y. is_earlier x.thread x.index y.thread y.index) (short_size d.shape) d.short) (λ short.
     gives (record d { short = short }))
 
 abbrev pub sizes : Stage Draft
 sizes = record { times = λ d. size_count d.mode d.count; one = λ d. one_size d.mode d }
 
-abbrev pub interrupt : Reader Interrupt
-interrupt =
-    read thread (λ t. read (any 4) (λ i. read (any 4) (λ value.
+abbrev pub interrupt : Shape → Reader Interrupt
+interrupt shape =
+    read (thread shape) (λ t. read (any 4) (λ i. read (any 4) (λ value.
     gives (record { thread = t; index = i; value = value }))))
 
 abbrev pub interrupts : Stage Draft
 interrupts =
-    listed (λ d. read (one_more (λ x y. is_earlier x.thread x.index y.thread y.index) interrupt d.interrupts) (λ interrupts.
+    listed (λ d. read (one_more (λ x y. is_earlier x.thread x.index y.thread y.index) (interrupt d.shape) d.interrupts) (λ interrupts.
     gives (record d { interrupts = interrupts })))
 
 abbrev pub counted : Reader (List ℕ)
@@ -137,14 +150,14 @@ dmas =
 -- the stages of a log
 abbrev pub stages : List (Stage Draft)
 stages =
-    magic ∷ version ∷ mode ∷ spare ∷ chunk_size ∷ commits ∷ order ∷ sizes ∷ interrupts ∷ inputs ∷ dmas ∷ []
+    magic ∷ version ∷ mode ∷ threads ∷ chunk_size ∷ commits ∷ order ∷ sizes ∷ interrupts ∷ inputs ∷ dmas ∷ []
 
 -- nothing was read
 abbrev pub blank : Draft
 blank =
     record {
+      shape = record { version = 0; threads = 0; s = 0 };
       mode = OrderSize;
-      s = 0;
       count = 0;
       order = [];
       each = [];
@@ -164,8 +177,10 @@ sizes_in Picolog each short = Short short
 abbrev pub log_of : Draft → LogParts
 log_of d =
     record {
+      version = d.shape.version;
+      threads = d.shape.threads;
       mode = d.mode;
-      s = d.s;
+      s = d.shape.s;
       count = d.count;
       order = d.order;
       sizes = sizes_in d.mode d.each d.short;

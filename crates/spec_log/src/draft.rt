@@ -1,6 +1,7 @@
 //! A log of which a part was read.
 use crate::mode_name::ModeName;
 use crate::records::{DmaRecord, Interrupt, Order};
+use crate::shape::Shape;
 use crate::sizes::ShortSize;
 use dl_entry::{Input, Sequence};
 
@@ -8,8 +9,8 @@ use dl_entry::{Input, Sequence};
 /// lists stays empty.
 #[derive(Debug, Drop)]
 pub struct Draft {
+    pub shape: Shape,
     pub mode: ModeName,
-    pub s: u32,
     pub count: u32,
     pub order: Order,
     pub each: Sequence<u32>,

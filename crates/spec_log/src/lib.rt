@@ -5,10 +5,12 @@ mod draft;
 mod log;
 mod mode_name;
 mod records;
+mod shape;
 mod sizes;
 
 pub use draft::Draft;
 pub use log::{Log, LogParts};
 pub use mode_name::ModeName;
 pub use records::{DmaRecord, Interrupt, Order};
+pub use shape::Shape;
 pub use sizes::{ShortSize, Sizes};

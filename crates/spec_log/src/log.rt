@@ -8,9 +8,12 @@ use crate::sizes::Sizes;
 use dl_entry::{Input, Sequence};
 use std::marker::Model;
 
-/// The parts of a log: the standard chunk size `s`, the number of commits, and the five sections.
+/// The parts of a log: its version, how many threads it may have, the standard chunk size `s`, the number of commits, and
+/// the five sections.
 #[derive(Debug, Drop)]
 pub struct LogParts {
+    pub version: u8,
+    pub threads: u8,
     pub mode: ModeName,
     pub s: u32,
     pub count: u32,

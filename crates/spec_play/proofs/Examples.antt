@@ -28,87 +28,87 @@ use Rattle.spec_play.proofs.Programs.{exits_code, clock_code}
 -- a log of its own image
 abbrev complete_log : LogParts
 complete_log =
-    record { mode = ModeName.OrderSize; s = 100; count = 2; order = Actor.Thread 0 ∷ Actor.Thread 0 ∷ []; sizes = Sizes.Each (2 ∷ 0 ∷ []); interrupts = []; inputs = []; dmas = [] }
+    record { version = 1; threads = 15; mode = ModeName.OrderSize; s = 100; count = 2; order = Actor.Thread 0 ∷ Actor.Thread 0 ∷ []; sizes = Sizes.Each (2 ∷ 0 ∷ []); interrupts = []; inputs = []; dmas = [] }
 
 -- without an order
 abbrev complete_in_turn_log : LogParts
 complete_in_turn_log =
-    record { mode = ModeName.Picolog; s = 100; count = 2; order = []; sizes = Sizes.Short []; interrupts = []; inputs = []; dmas = [] }
+    record { version = 1; threads = 15; mode = ModeName.Picolog; s = 100; count = 2; order = []; sizes = Sizes.Short []; interrupts = []; inputs = []; dmas = [] }
 
 -- a thread that is not there
 abbrev no_thread_log : LogParts
 no_thread_log =
-    record { mode = ModeName.OrderSize; s = 100; count = 2; order = Actor.Thread 5 ∷ Actor.Thread 0 ∷ []; sizes = Sizes.Each (2 ∷ 0 ∷ []); interrupts = []; inputs = []; dmas = [] }
+    record { version = 1; threads = 15; mode = ModeName.OrderSize; s = 100; count = 2; order = Actor.Thread 5 ∷ Actor.Thread 0 ∷ []; sizes = Sizes.Each (2 ∷ 0 ∷ []); interrupts = []; inputs = []; dmas = [] }
 
 -- a longer chunk
 abbrev short_log : LogParts
 short_log =
-    record { mode = ModeName.OrderSize; s = 100; count = 2; order = Actor.Thread 0 ∷ Actor.Thread 0 ∷ []; sizes = Sizes.Each (3 ∷ 0 ∷ []); interrupts = []; inputs = []; dmas = [] }
+    record { version = 1; threads = 15; mode = ModeName.OrderSize; s = 100; count = 2; order = Actor.Thread 0 ∷ Actor.Thread 0 ∷ []; sizes = Sizes.Each (3 ∷ 0 ∷ []); interrupts = []; inputs = []; dmas = [] }
 
 -- a serial step where a chunk comes
 abbrev not_serial_log : LogParts
 not_serial_log =
-    record { mode = ModeName.OrderSize; s = 100; count = 2; order = Actor.Thread 0 ∷ Actor.Thread 0 ∷ []; sizes = Sizes.Each (0 ∷ 0 ∷ []); interrupts = []; inputs = []; dmas = [] }
+    record { version = 1; threads = 15; mode = ModeName.OrderSize; s = 100; count = 2; order = Actor.Thread 0 ∷ Actor.Thread 0 ∷ []; sizes = Sizes.Each (0 ∷ 0 ∷ []); interrupts = []; inputs = []; dmas = [] }
 
 -- no record for the clock
 abbrev no_input_log : LogParts
 no_input_log =
-    record { mode = ModeName.OrderSize; s = 100; count = 2; order = Actor.Thread 0 ∷ Actor.Thread 0 ∷ []; sizes = Sizes.Each (1 ∷ 0 ∷ []); interrupts = []; inputs = []; dmas = [] }
+    record { version = 1; threads = 15; mode = ModeName.OrderSize; s = 100; count = 2; order = Actor.Thread 0 ∷ Actor.Thread 0 ∷ []; sizes = Sizes.Each (1 ∷ 0 ∷ []); interrupts = []; inputs = []; dmas = [] }
 
 -- a record of another kind
 abbrev other_input_log : LogParts
 other_input_log =
-    record { mode = ModeName.OrderSize; s = 100; count = 2; order = Actor.Thread 0 ∷ Actor.Thread 0 ∷ []; sizes = Sizes.Each (1 ∷ 0 ∷ []); interrupts = []; inputs = record { kind = 4; result = 7; bytes = [] } ∷ []; dmas = [] }
+    record { version = 1; threads = 15; mode = ModeName.OrderSize; s = 100; count = 2; order = Actor.Thread 0 ∷ Actor.Thread 0 ∷ []; sizes = Sizes.Each (1 ∷ 0 ∷ []); interrupts = []; inputs = record { kind = 4; result = 7; bytes = [] } ∷ []; dmas = [] }
 
 -- the clock's record
 abbrev clocked_log : LogParts
 clocked_log =
-    record { mode = ModeName.OrderSize; s = 100; count = 2; order = Actor.Thread 0 ∷ Actor.Thread 0 ∷ []; sizes = Sizes.Each (1 ∷ 0 ∷ []); interrupts = []; inputs = record { kind = 5; result = 7; bytes = [] } ∷ []; dmas = [] }
+    record { version = 1; threads = 15; mode = ModeName.OrderSize; s = 100; count = 2; order = Actor.Thread 0 ∷ Actor.Thread 0 ∷ []; sizes = Sizes.Each (1 ∷ 0 ∷ []); interrupts = []; inputs = record { kind = 5; result = 7; bytes = [] } ∷ []; dmas = [] }
 
 -- an interrupt for a thread without a handler
 abbrev no_handler_log : LogParts
 no_handler_log =
-    record { mode = ModeName.OrderSize; s = 100; count = 2; order = Actor.Thread 0 ∷ Actor.Thread 0 ∷ []; sizes = Sizes.Each (2 ∷ 0 ∷ []); interrupts = record { thread = 0; index = 1; value = 5 } ∷ []; inputs = []; dmas = [] }
+    record { version = 1; threads = 15; mode = ModeName.OrderSize; s = 100; count = 2; order = Actor.Thread 0 ∷ Actor.Thread 0 ∷ []; sizes = Sizes.Each (2 ∷ 0 ∷ []); interrupts = record { thread = 0; index = 1; value = 5 } ∷ []; inputs = []; dmas = [] }
 
 -- a DMA that nobody asked for
 abbrev no_request_log : LogParts
 no_request_log =
-    record { mode = ModeName.OrderSize; s = 100; count = 1; order = Actor.Dma ∷ []; sizes = Sizes.Each (0 ∷ []); interrupts = []; inputs = []; dmas = record { position = 0; bytes = [] } ∷ [] }
+    record { version = 1; threads = 15; mode = ModeName.OrderSize; s = 100; count = 1; order = Actor.Dma ∷ []; sizes = Sizes.Each (0 ∷ []); interrupts = []; inputs = []; dmas = record { position = 0; bytes = [] } ∷ [] }
 
 -- a size for a serial step
 abbrev size_of_serial_log : LogParts
 size_of_serial_log =
-    record { mode = ModeName.OrderSize; s = 100; count = 2; order = Actor.Thread 0 ∷ Actor.Thread 0 ∷ []; sizes = Sizes.Each (2 ∷ 1 ∷ []); interrupts = []; inputs = []; dmas = [] }
+    record { version = 1; threads = 15; mode = ModeName.OrderSize; s = 100; count = 2; order = Actor.Thread 0 ∷ Actor.Thread 0 ∷ []; sizes = Sizes.Each (2 ∷ 1 ∷ []); interrupts = []; inputs = []; dmas = [] }
 
 -- a size for a DMA, which comes before all that is wrong with it
 abbrev size_of_dma_log : LogParts
 size_of_dma_log =
-    record { mode = ModeName.OrderSize; s = 100; count = 1; order = Actor.Dma ∷ []; sizes = Sizes.Each (3 ∷ []); interrupts = []; inputs = []; dmas = [] }
+    record { version = 1; threads = 15; mode = ModeName.OrderSize; s = 100; count = 1; order = Actor.Dma ∷ []; sizes = Sizes.Each (3 ∷ []); interrupts = []; inputs = []; dmas = [] }
 
 -- a record that nothing takes
 abbrev left_over_log : LogParts
 left_over_log =
-    record { mode = ModeName.OrderSize; s = 100; count = 2; order = Actor.Thread 0 ∷ Actor.Thread 0 ∷ []; sizes = Sizes.Each (2 ∷ 0 ∷ []); interrupts = []; inputs = record { kind = 5; result = 0; bytes = [] } ∷ []; dmas = [] }
+    record { version = 1; threads = 15; mode = ModeName.OrderSize; s = 100; count = 2; order = Actor.Thread 0 ∷ Actor.Thread 0 ∷ []; sizes = Sizes.Each (2 ∷ 0 ∷ []); interrupts = []; inputs = record { kind = 5; result = 0; bytes = [] } ∷ []; dmas = [] }
 
 -- a size of a commit that never comes
 abbrev size_left_over_log : LogParts
 size_left_over_log =
-    record { mode = ModeName.OrderOnly; s = 100; count = 2; order = Actor.Thread 0 ∷ Actor.Thread 0 ∷ []; sizes = Sizes.Short (record { thread = 0; index = 2; size = 1 } ∷ []); interrupts = []; inputs = []; dmas = [] }
+    record { version = 1; threads = 15; mode = ModeName.OrderOnly; s = 100; count = 2; order = Actor.Thread 0 ∷ Actor.Thread 0 ∷ []; sizes = Sizes.Short (record { thread = 0; index = 2; size = 1 } ∷ []); interrupts = []; inputs = []; dmas = [] }
 
 -- no commit
 abbrev ended_at_once_log : LogParts
 ended_at_once_log =
-    record { mode = ModeName.OrderSize; s = 100; count = 0; order = []; sizes = Sizes.Each []; interrupts = []; inputs = []; dmas = [] }
+    record { version = 1; threads = 15; mode = ModeName.OrderSize; s = 100; count = 0; order = []; sizes = Sizes.Each []; interrupts = []; inputs = []; dmas = [] }
 
 -- a thread that has ended
 abbrev goes_on_log : LogParts
 goes_on_log =
-    record { mode = ModeName.OrderSize; s = 100; count = 3; order = Actor.Thread 0 ∷ Actor.Thread 0 ∷ Actor.Thread 0 ∷ []; sizes = Sizes.Each (2 ∷ 0 ∷ 0 ∷ []); interrupts = []; inputs = []; dmas = [] }
+    record { version = 1; threads = 15; mode = ModeName.OrderSize; s = 100; count = 3; order = Actor.Thread 0 ∷ Actor.Thread 0 ∷ Actor.Thread 0 ∷ []; sizes = Sizes.Each (2 ∷ 0 ∷ 0 ∷ []); interrupts = []; inputs = []; dmas = [] }
 
--- where no thread lives
+-- with no live thread
 abbrev none_live_log : LogParts
 none_live_log =
-    record { mode = ModeName.Picolog; s = 100; count = 3; order = []; sizes = Sizes.Short []; interrupts = []; inputs = []; dmas = [] }
+    record { version = 1; threads = 15; mode = ModeName.Picolog; s = 100; count = 3; order = []; sizes = Sizes.Short []; interrupts = []; inputs = []; dmas = [] }
 
 pub record ArePlayed : Type 0 where
   pub complete : (play complete_log exits_code 0).now ≡ Ended (End.Complete 2)
@@ -161,12 +161,12 @@ pub record AreWalked : Type 0 where
   pub not_begun : how_walked complete_log exits_code 0 ≡ WalkEnd.Reached 0
   pub one : how_walked complete_log exits_code 1 ≡ WalkEnd.Reached 1
   pub one_commit : length (walked complete_log exits_code 0 1).commits ≡ 1
-  -- at the count the end is looked at, and it is no other for more
+  -- at the count the end is looked at, and beyond it the end is the same
   pub all : how_walked complete_log exits_code 2 ≡ WalkEnd.Ended (End.Complete 2)
   pub more : how_walked complete_log exits_code 5 ≡ WalkEnd.Ended (End.Complete 2)
   pub none : how_walked ended_at_once_log exits_code 0 ≡ WalkEnd.Ended (End.Complete 0)
   pub left_over : how_walked left_over_log exits_code 2 ≡ WalkEnd.Ended (End.Diverged 2 Why.LeftOver)
-  -- a thread that isn't live is looked at below the number alone
+  -- that a thread isn't live is looked at only below the number
   pub before_no_thread : how_walked goes_on_log exits_code 2 ≡ WalkEnd.Reached 2
   pub at_no_thread : how_walked goes_on_log exits_code 3 ≡ WalkEnd.Ended (End.Diverged 2 Why.NoThread)
   pub before_short : how_walked short_log exits_code 0 ≡ WalkEnd.Reached 0

@@ -21,7 +21,7 @@ use Rattle.spec_play.proofs.Positions.{position-more}
 
 -- ---- a play that has ended stays
 
--- a play that has ended is the same after one commit more is asked for
+-- a play that has ended is the same after one more commit is asked for
 pub over-stays : (log : LogParts) (y : Played) (how : End) → y.now ≡ Ended how → play_one log y ≡ y
 unfolding play_one
 over-stays log y how e = ap (play_now log y) e
@@ -33,7 +33,7 @@ plays-stay log y i (suc n) how e =
     let h : suc n + i ≡ suc (n + i) = omega arith in
     ap (plays log y) h ∙ ap (play_one log) (plays-stay log y i n how e) ∙ over-stays log (plays log y i) how e
 
--- ---- one commit more at most
+-- ---- at most one more commit
 
 -- the second list of commits is the first and then some more, or none
 pub record IsBehind (xs ys : List Commit) : Type 0 where
@@ -96,7 +96,7 @@ plays-behind log y i (suc n) =
       same = ap (λ (j : ℕ). (plays log y j).progress.commits) h ∙ m.same ∙ ap (λ (cs : List Commit). cs ++ m.rest) b.same ∙ append_assoc (plays log y i).progress.commits b.rest m.rest;
     }
 
--- a play asked for i commits has done i at most
+-- a play asked for i commits has done at most i
 pub plays-most : (log : LogParts) (memory : List ℕ) (entry i : ℕ) → position (plays log (opened log memory entry) i).progress ≤ i
 plays-most log memory entry zero = omega arith
 plays-most log memory entry (suc i) =
@@ -157,7 +157,7 @@ turn_below : (i k : ℕ) (ts : List Parts) (o : Option Actor) (below left : Bool
 turn_below i k ts o true left e = turn_named i k ts o e
 turn_below i k ts o false left e = no_turn i k left e
 
--- a thread that has the turn lives
+-- a thread that has the turn is live
 pub turn-lives : (log : LogParts) (p : Progress) (u : Used) (ts : List Parts) (k : ℕ) → now_at log p u ts ≡ Turn k → Lives ts k
 unfolding now_at
 turn-lives log p u ts k e = turn_below (position p) k ts (next_actor log p ts) (nat_lt (position p) log.count) (has_left_over log u ts) e
@@ -201,7 +201,7 @@ goes_over log y (inr g) =
 pub play-over : (log : LogParts) (memory : List ℕ) (entry : ℕ) → (how : End) × ((play log memory entry).now ≡ Ended how)
 play-over log memory entry = goes_over log (play log memory entry) (plays-go log memory entry log.count)
 
--- where a play has ended is where the whole play has
+-- if a play has ended, the whole play has ended there
 pub last-is : (log : LogParts) (memory : List ℕ) (entry i : ℕ) (how : End) → (plays log (opened log memory entry) i).now ≡ Ended how → plays log (opened log memory entry) i ≡ play log memory entry
 last-is log memory entry i how e =
     let start = opened log memory entry in

@@ -1,22 +1,25 @@
 -- What a recorder keeps, as a log: by the definitions alone.
 use Rattle.std.proofs.Common.{◌≡◌, ℕ, ◌+◌, false, refl, ap}
+use Rattle.dl_entry.specs.Numbers.{most_threads}
 use Rattle.spec_log.specs.declared.Sizes.{Sizes}
 use Rattle.spec_log.specs.Noting.{order_with, sizes_at}
 use Rattle.spec_play.specs.Effects.{dma_commit}
 use Rattle.spec_play.specs.Recording.{note_of}
 use Rattle.spec_play.specs.Noted.{Recorded, GrowsAlike, RecordersKeepLogs}
 
--- a DMA has a size where each commit has, whatever its index
+-- if each commit has a size, a DMA has one too, whatever its index
 dma_sizes : (sizes : Sizes) (i j : ℕ) → sizes_at sizes i (note_of dma_commit false) ≡ sizes_at sizes j (note_of dma_commit false)
 dma_sizes (Sizes.Each sizes) i j = refl
 dma_sizes (Sizes.Short sizes) i j = refl
 
--- read as a log, what a recorder keeps grows by each thing kept as a log does in which it is noted
+-- read as a log, what a recorder keeps grows with each thing that is kept, as a log does in which that is noted
 pub grows-alike : (r : Recorded) → GrowsAlike r
 grows-alike r =
     record {
       commit = λ c short. refl;
       dma_commit = λ i. ap (λ (z : Sizes). record {
+        version = 1;
+        threads = most_threads;
         mode = r.mode;
         s = r.kept.s;
         count = r.kept.count + 1;

@@ -1,4 +1,4 @@
--- Each commit of a thread makes it the last one, and a DMA makes none.
+-- Each commit of a thread makes that thread the last one, and a DMA changes nothing.
 use Rattle.std.proofs.Common.{◌≡◌, ℕ, zero, suc, Bool, true, false, cond, List, [], ◌∷◌, ◌++◌, Option, Some, None, refl, sym, ap, ◌∙◌}
 use Rattle.std.specs.Prelude.{slice_get}
 use Rattle.std.specs.Option.{option_or}
@@ -21,7 +21,7 @@ use Rattle.spec_play.specs.Transfers.{DmaVerdict, DmaGoes, DmaFails, dma_verdict
 use Rattle.spec_play.specs.Plays.{Played, opened, settled, size_or_standard, thread_verdict, play_thread, dma_settled, play_now, play_one, plays}
 use Rattle.spec_play.specs.Lasts.{IsOfCommits, PlaysKeepLasts}
 
--- ---- one commit more
+-- ---- one more commit
 
 pushed_thread : (k : ℕ) (cs : List Commit) (c : Commit) → c.actor ≡ Actor.Thread k → last_thread (cs ++ c ∷ []) ≡ Some k
 pushed_thread k [] c e = ap thread_of e
@@ -41,7 +41,7 @@ last-dma p last = last ∙ sym (pushed_dma p.commits dma_commit refl)
 
 -- ---- a verdict's commit is its thread's
 
--- a verdict that goes on has a commit of that thread
+-- the commit of a verdict that goes is that thread's
 abbrev pub IsOf : (thread : ℕ) → LogVerdict → Type 0
 IsOf k (Goes e u) = e.commit.actor ≡ Actor.Thread k
 IsOf k (Fails why) = Unit {0}

@@ -7,7 +7,7 @@ abbrev pub bytes_of : List ℕ → List ℕ
 bytes_of [] = []
 bytes_of (w ∷ ws) = bytes_low_first 0 4 w ++ bytes_of ws
 
--- code in a memory of so many bytes
+-- code in a memory of that many bytes
 abbrev pub image : (size : ℕ) → List ℕ → List ℕ
 image size ws = let bytes = bytes_of ws in bytes ++ replicate (size - length bytes) 0
 
@@ -19,11 +19,11 @@ exits_code = bytes_of (0x00000893 ∷ 0x00700513 ∷ 0x00000073 ∷ [])
 abbrev pub clock_code : List ℕ
 clock_code = bytes_of (0x00500893 ∷ 0x00000073 ∷ [])
 
--- the call that asks for 4 bytes at 16, behind its arguments and before 8 bytes
+-- the call that asks for 4 bytes at 16, after its arguments and before 8 bytes
 abbrev pub dma_code : List ℕ
 dma_code = image 24 (0x00800893 ∷ 0x01000513 ∷ 0x00400593 ∷ 0x00000073 ∷ [])
 
--- the call that sets a handler at 20, and jumps to themselves behind it and in the handler
+-- the call that sets a handler at 20; after it, and in the handler, jumps to themselves
 abbrev pub handler_code : List ℕ
 handler_code = bytes_of (0x00600893 ∷ 0x01400513 ∷ 0x00000073 ∷ 0x0000006F ∷ 0x00000013 ∷ 0x0000006F ∷ [])
 

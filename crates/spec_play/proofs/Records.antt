@@ -29,7 +29,7 @@ use Rattle.spec_play.proofs.Programs.{exits_code, clock_code, dma_code, handler_
 
 abbrev of_dmas : (count : ℕ) → List Actor → List ℕ → List DmaRecord → LogParts
 of_dmas count order sizes dmas =
-    record { mode = ModeName.OrderSize; s = 100; count = count; order = order; sizes = Sizes.Each sizes; interrupts = []; inputs = []; dmas = dmas }
+    record { version = 1; threads = 15; mode = ModeName.OrderSize; s = 100; count = count; order = order; sizes = Sizes.Each sizes; interrupts = []; inputs = []; dmas = dmas }
 
 -- the call and then its DMA
 abbrev of_dma : List DmaRecord → LogParts
@@ -43,17 +43,17 @@ of_two_dmas dmas =
 -- without an order
 abbrev of_dma_in_turn : List DmaRecord → LogParts
 of_dma_in_turn dmas =
-    record { mode = ModeName.Picolog; s = 100; count = 3; order = []; sizes = Sizes.Short []; interrupts = []; inputs = []; dmas = dmas }
+    record { version = 1; threads = 15; mode = ModeName.Picolog; s = 100; count = 3; order = []; sizes = Sizes.Short []; interrupts = []; inputs = []; dmas = dmas }
 
 -- two commits of a thread
 abbrev of_two : List ℕ → List Interrupt → LogParts
 of_two sizes interrupts =
-    record { mode = ModeName.OrderSize; s = 100; count = 2; order = Actor.Thread 0 ∷ Actor.Thread 0 ∷ []; sizes = Sizes.Each sizes; interrupts = interrupts; inputs = []; dmas = [] }
+    record { version = 1; threads = 15; mode = ModeName.OrderSize; s = 100; count = 2; order = Actor.Thread 0 ∷ Actor.Thread 0 ∷ []; sizes = Sizes.Each sizes; interrupts = interrupts; inputs = []; dmas = [] }
 
 -- as many commits of a thread as there are sizes
 abbrev of_sizes : List ℕ → List Interrupt → LogParts
 of_sizes sizes interrupts =
-    record { mode = ModeName.OrderSize; s = 100; count = length sizes; order = map (λ (n : ℕ). Actor.Thread 0) sizes; sizes = Sizes.Each sizes; interrupts = interrupts; inputs = []; dmas = [] }
+    record { version = 1; threads = 15; mode = ModeName.OrderSize; s = 100; count = length sizes; order = map (λ (n : ℕ). Actor.Thread 0) sizes; sizes = Sizes.Each sizes; interrupts = interrupts; inputs = []; dmas = [] }
 
 abbrev data_at : (position : ℕ) → List ℕ → DmaRecord
 data_at position bytes = record { position = position; bytes = bytes }
@@ -77,7 +77,7 @@ pub record AreRead : Type 0 where
   pub interrupt_taken : (play (of_two (2 ∷ 0 ∷ []) (interrupt_after 2 ∷ [])) handler_code 0).now ≡ Ended (End.Complete 2)
   pub interrupt_early : (play (of_two (2 ∷ 0 ∷ []) (interrupt_after 1 ∷ [])) handler_code 0).now ≡ Ended (End.Diverged 0 Why.Interrupt)
   pub interrupt_late : (play (of_two (2 ∷ 0 ∷ []) (interrupt_after 3 ∷ [])) handler_code 0).now ≡ Ended (End.Diverged 2 Why.LeftOver)
-  -- a thread with a handler takes none while it handles one, and none once it has ended
+  -- a thread with a handler takes no interrupt while it handles one, and none once it has ended
   pub interrupt_masked : (play (of_sizes (2 ∷ 0 ∷ 1 ∷ []) (interrupt_after 2 ∷ interrupt_after 3 ∷ [])) handler_code 0).now ≡ Ended (End.Diverged 2 Why.Interrupt)
   pub not_masked : (play (of_sizes (2 ∷ 0 ∷ 1 ∷ []) (interrupt_after 3 ∷ [])) handler_code 0).now ≡ Ended (End.Complete 3)
   pub interrupt_ended : (play (of_sizes (2 ∷ 0 ∷ 1 ∷ 0 ∷ []) (interrupt_after 4 ∷ [])) handler_exits_code 0).now ≡ Ended (End.Diverged 3 Why.Interrupt)

@@ -52,7 +52,7 @@ no_end n how e = cc
 no_stop : (n : ℕ) (how : End) → WalkEnd.Ended how ≡ WalkEnd.Reached n → ⊥
 no_stop n how e = cc
 
--- ---- where the play has ended by then
+-- ---- if the play has ended by then
 
 over_walk : (log : LogParts) (memory : List ℕ) (entry to : ℕ) (how : End) → (plays log (opened log memory entry) to).now ≡ Ended how → IsWalk log (walked log memory entry to) (play log memory entry) to
 over_walk log memory entry to how is =
@@ -94,7 +94,7 @@ over_walk log memory entry to how is =
           by true (looked log to i at_) ∙ ap WalkEnd.Ended (same_how how other (sym over ∙ e));
     }
 
--- ---- where it goes on
+-- ---- if it goes on
 
 going_walk : (log : LogParts) (memory : List ℕ) (entry to : ℕ) → let y = plays log (opened log memory entry) to in GoesOn log y to → ((how : End) → y.now ≡ Ended how → ⊥) → walk_end log to (position y.progress) y.now ≡ WalkEnd.Reached (position y.progress)
     → IsWalk log (walked log memory entry to) (play log memory entry) to
@@ -141,6 +141,6 @@ turn_walk log memory entry to TurnOfDma is =
       | inr g ↦ going_walk log memory entry to g going (ap (walk_end log to (position y.progress)) is)
     ]
 
--- a walk has the first commits of its log's play, as many as it goes to, and ends where the play has ended by then
+-- a walk has the first commits of its log's play, as many as it goes to, and ends if the play has ended by then
 pub walks_are_plays : WalksArePlays
 walks_are_plays log memory entry to = turn_walk log memory entry to (plays log (opened log memory entry) to).now refl

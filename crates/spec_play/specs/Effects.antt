@@ -21,7 +21,7 @@ pub record Effect : Type 0 where
   pub request : Option Request
   pub commit : Commit
 
--- the end of a thread's commit: its reservation is gone, and it counts one commit more
+-- the end of a thread's commit: its reservation is gone, and it counts one more commit
 abbrev pub counted : Parts → Parts
 counted t = record t { reservation = None; commits = t.commits + 1 }
 

@@ -1,5 +1,4 @@
--- What a recorder keeps and the log that a recording grows are one: each grows by the same with a commit, a record or an
--- interrupt.
+-- What a recorder keeps and the log of a recording are the same: a commit, a record or an interrupt makes them grow alike.
 use Rattle.std.specs.Prelude.{◌≡◌, ℕ, Bool, false, List, [], ◌∷◌, ◌++◌, Some}
 use Rattle.dl_entry.specs.declared.Commit.{Commit}
 use Rattle.dl_entry.specs.declared.Input.{Input}
@@ -11,7 +10,7 @@ use Rattle.spec_log.specs.Noting.{Kept, nothing_kept, noted as kept_with, index_
 use Rattle.spec_play.specs.Effects.{dma_commit}
 use Rattle.spec_play.specs.Recording.{new_log, note_of, noted, input_noted, dma_noted, interrupt_noted}
 
--- what a recorder keeps in a mode: of the commits, and the records
+-- what a recorder keeps in a mode: what it needs of the commits, and the records
 pub record Recorded : Type 0 where
   pub mode : ModeName
   pub kept : Kept
@@ -47,7 +46,7 @@ pub record GrowsAlike (r : Recorded) : Type 0 where
   -- the index of a thread's commit is the number of its commits that are kept
   pub commit : (c : Commit) (short : Bool)
       → as_log (commit_kept c short r) ≡ noted c (index_of r.kept.done c.actor) short (as_log r)
-  -- a DMA's index is of no account
+  -- a DMA's index makes no difference
   pub dma_commit : (i : ℕ)
       → as_log (commit_kept dma_commit false r) ≡ noted dma_commit i false (as_log r)
   pub interrupt : (k i value : ℕ)

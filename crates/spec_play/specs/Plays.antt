@@ -16,7 +16,7 @@ use Rattle.spec_play.specs.Turns.{Now, Turn, TurnOfDma, Ended, now_at}
 use Rattle.spec_play.specs.Verdicts.{LogVerdict, Goes, Fails, chunk_verdict, serial_verdict}
 use Rattle.spec_play.specs.Transfers.{DmaVerdict, DmaGoes, DmaFails, dma_verdict}
 
--- where a play stands between two commits
+-- the state of a play between two commits
 pub record Played : Type 0 where
   pub memory : List ℕ
   pub threads : List Parts
@@ -38,7 +38,7 @@ opened log memory entry =
 
 -- ---- one commit
 
--- thread k has this state now, and the spawned ones stand behind all others
+-- thread k is now as the effect says, and the spawned threads come after all others
 abbrev pub with_threads : (thread : ℕ) → Effect → List Parts → List Parts
 with_threads k e threads = slice_set threads k e.thread ++ e.spawned
 
@@ -55,11 +55,11 @@ settled log y k (Goes e u) =
       now = now_at log progress u threads;
     }
 
--- the size of a commit, or the standard size where none is logged
+-- the size of a commit, or the standard size if none is logged
 abbrev pub size_or_standard : LogParts → (thread commits : ℕ) → ℕ
 size_or_standard log k commits = elim (size_in log (Actor.Thread k) commits) [ None ↦ log.s | Some z ↦ z ]
 
--- the serial step of thread k, which is t, where its next instruction is serial; else as many instructions as are logged
+-- the serial step of thread k, which is t, if its next instruction is serial; else as many instructions as are logged
 abbrev pub thread_verdict : LogParts → Played → (thread : ℕ) → Parts → Option Kind → LogVerdict
 thread_verdict log y k t (Some kind) = serial_verdict log y.progress y.used k y.threads t y.memory
 thread_verdict log y k t None =
@@ -87,7 +87,7 @@ play_now log y (Ended how) = y
 play_now log y TurnOfDma = dma_settled log y (dma_verdict log y.progress y.used)
 play_now log y (Turn k) = play_thread log y k (slice_get y.threads k)
 
--- one commit more; or the end, where it diverges; a play that has ended stays
+-- one more commit, or the end if that diverges; a play that has ended stays as it is
 unfoldable pub play_one : LogParts → Played → Played
 play_one log y = play_now log y y.now
 
@@ -102,6 +102,6 @@ plays log y (suc i) = play_one log (plays log y i)
 abbrev pub play : LogParts → (memory : List ℕ) → (entry : ℕ) → Played
 play log memory entry = plays log (opened log memory entry) log.count
 
--- a log fits an image whose play is complete
+-- a log fits an image if its play there is complete
 abbrev pub FitsImage : LogParts → (memory : List ℕ) → (entry : ℕ) → Type 0
 FitsImage log memory entry = (play log memory entry).now ≡ Ended (End.Complete log.count)

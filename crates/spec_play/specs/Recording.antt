@@ -2,14 +2,17 @@
 use Rattle.std.specs.Prelude.{ℕ, ◌+◌, Bool, List, [], ◌∷◌, ◌++◌, Option, Some, None}
 use Rattle.dl_entry.specs.declared.Commit.{Commit}
 use Rattle.dl_entry.specs.declared.Input.{Input}
+use Rattle.dl_entry.specs.Numbers.{most_threads}
 use Rattle.spec_log.specs.declared.ModeName.{ModeName}
 use Rattle.spec_log.specs.declared.LogParts.{LogParts}
 use Rattle.spec_log.specs.Noting.{Note, no_sizes, order_with, sizes_at, insert_interrupt}
 
--- before the first commit
+-- before the first commit, of version 1
 abbrev pub new_log : ModeName → (s : ℕ) → LogParts
 new_log mode s =
     record {
+      version = 1;
+      threads = most_threads;
       mode = mode;
       s = s;
       count = 0;
@@ -25,7 +28,7 @@ new_log mode s =
 abbrev pub note_of : Commit → (short : Bool) → Note
 note_of c short = record { actor = c.actor; size = c.size; short = short }
 
--- a commit more; of a thread's commit the index is the number of its commits before
+-- one more commit; the index of a thread's commit is the number of that thread's commits before it
 abbrev pub noted : Commit → (index : ℕ) → (short : Bool) → LogParts → LogParts
 noted c i short log =
     record log {
@@ -44,7 +47,7 @@ input_noted (Some r) log = record log { inputs = log.inputs ++ r ∷ [] }
 abbrev pub dma_noted : (position : ℕ) → (bytes : List ℕ) → LogParts → LogParts
 dma_noted position bytes log = record log { dmas = log.dmas ++ record { position = position; bytes = bytes } ∷ [] }
 
--- a thread took an interrupt after so many of its commits
+-- a thread took an interrupt after that many of its commits
 abbrev pub interrupt_noted : (thread commits value : ℕ) → LogParts → LogParts
 interrupt_noted k i value log =
     record log { interrupts = insert_interrupt (record { thread = k; index = i; value = value }) log.interrupts }

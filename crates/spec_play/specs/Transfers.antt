@@ -11,7 +11,7 @@ use Rattle.spec_kernel.specs.Copies.{dma_words}
 use Rattle.spec_play.specs.Progress.{Progress, position, Used}
 use Rattle.spec_play.specs.Verdicts.{serial_why}
 
--- the words that it stores, or the reason
+-- the words that it stores, or the reason why it fails
 pub data DmaVerdict : Type 0 where
   DmaGoes : (words : List Stored) → DmaVerdict
   DmaFails : (why : Why) → DmaVerdict

@@ -19,12 +19,12 @@ pub data Now : Type 0 where
 
 -- ---- at the end of the log
 
--- a size that names a commit is used by it
+-- a size that names a commit is used once that commit is done
 abbrev pub is_size_used : Option Parts → ShortSize → Bool
 is_size_used None short = false
 is_size_used (Some t) short = nat_lt short.index t.commits
 
--- where each commit has its size, all are used once all commits are done
+-- if each commit has a size, all of them are used once all commits are done
 abbrev pub are_sizes_used : List Parts → Sizes → Bool
 are_sizes_used threads (Sizes.Each sizes) = true
 are_sizes_used threads (Sizes.Short sizes) =
@@ -43,9 +43,9 @@ abbrev pub at_end : (commits : ℕ) → (left_over : Bool) → Now
 at_end i true = Ended (End.Diverged i Why.LeftOver)
 at_end i false = Ended (End.Complete i)
 
--- ---- before it
+-- ---- before the end of the log
 
--- a thread whose turn it is must live
+-- a thread whose turn it is must be live
 abbrev pub turn_of_thread : (commits thread : ℕ) → Option Parts → Now
 turn_of_thread i k None = Ended (End.Diverged i Why.NoThread)
 turn_of_thread i k (Some t) = if is_live t then Turn k else Ended (End.Diverged i Why.NoThread)

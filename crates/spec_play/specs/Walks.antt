@@ -1,4 +1,4 @@
--- A log walked: the first commits of its play, up to a number that is asked for.
+-- The walk of a log: the first commits of its play, up to a number that is asked for.
 use Rattle.std.specs.Prelude.{◌≡◌, ℕ, ◌<◌, ◌≤◌, ◌⊎◌, ◌||◌, Bool, nat_le, nat_lt, List, length, take, Option, if◌then◌else◌}
 use Rattle.dl_entry.specs.declared.Commit.{Commit}
 use Rattle.dl_entry.specs.declared.End.{End}
@@ -18,7 +18,7 @@ pub record Walked : Type 0 where
   pub request : Option Request
   pub end : WalkEnd
 
--- with `to` commits done where the log has more, the end isn't looked at
+-- once `to` commits are done, the end isn't looked at if the log has more
 abbrev pub is_looked_at : LogParts → (to i : ℕ) → Bool
 is_looked_at log to i = nat_lt i to || nat_le log.count to
 
@@ -60,7 +60,7 @@ pub record IsWalk (log : LogParts) (v : Walked) (y : Played) (to : ℕ) : Type 0
   pub commits : v.commits ≡ take to y.progress.commits
   pub ended : (how : End) → v.end ≡ WalkEnd.Ended how → HasEnded v y how
   pub reached : (i : ℕ) → v.end ≡ WalkEnd.Reached i → HasReached log v to i
-  -- it ends where the play ends at fewer commits, or the log has no more
+  -- it ends if the play ends at fewer commits, or if the log has no more
   pub ends : (how : End) → y.now ≡ Ended how → (position y.progress < to) ⊎ (log.count ≤ to)
       → v.end ≡ WalkEnd.Ended how
 

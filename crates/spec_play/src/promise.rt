@@ -3,20 +3,20 @@ ghost use Rattle.spec_play.specs.Lasts.{PlaysKeepLasts};
 ghost use Rattle.spec_play.specs.Noted.{RecordersKeepLogs};
 ghost use Rattle.spec_play.specs.Walks.{WalksArePlays};
 
-/// With each commit, record and interrupt that is noted, the log of what a recorder keeps grows as the log of a recording.
+/// With each commit, record and interrupt that is noted, the log of what a recorder keeps grows as a recording's log does.
 pub fn recorders_keep_logs()
     ensures { RecordersKeepLogs }
 {}
 
-/// A walk of up to so many commits does the first ones of the log's play. It has ended, and as the play does, exactly where
-/// the play ends below that number of commits, or where the log has no more commits than that; and then it leaves what the
-/// play leaves. Else it has stopped with that number of commits done.
+/// A walk of up to some number of commits does the first commits of the log's play. It has ended, in the same way as the
+/// play, exactly if the play ends below that number of commits or the log has no more commits than that; and then it leaves
+/// what the play leaves. Else it has stopped with that number of commits done.
 pub fn walks_are_plays()
     ensures { WalksArePlays }
 {}
 
-/// After any number of commits of a play: the thread that committed last is the last one among the commits, DMAs passed
-/// over.
+/// After any number of commits of a play, the thread that committed last is the last one among the commits, with DMAs
+/// passed over.
 pub fn plays_keep_lasts()
     ensures { PlaysKeepLasts }
 {}

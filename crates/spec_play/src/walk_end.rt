@@ -4,8 +4,8 @@ use dl_entry::End;
 /// A walk ends as the play of its log does, or stops before that end.
 #[derive(Clone, Copy, Debug, PartialEq, Eq)]
 pub enum WalkEnd {
-    /// The play has ended so.
+    /// The play has ended in this way.
     Ended(End),
-    /// So many commits are done, as many as were asked for, and the log has more.
+    /// This many commits are done, as many as were asked for, and the log has more.
     Reached(u32),
 }

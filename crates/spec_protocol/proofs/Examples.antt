@@ -2,4 +2,6 @@
 pub mod Scenes
 pub mod Recordings
 pub mod TwoThreads
+pub mod TwoChunks
+pub mod Abandoned
 pub mod Limits

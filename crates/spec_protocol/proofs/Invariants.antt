@@ -9,5 +9,6 @@ pub mod Asks
 pub mod Threads
 pub mod Transfers
 pub mod Schedules
+pub mod OneChunk
 pub mod AsksGranted
 pub mod Lasts

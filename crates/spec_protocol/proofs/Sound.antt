@@ -1,4 +1,5 @@
 -- Within the limits of a setup every world is sound: its words, threads, chunks, devices and logs.
+pub mod Held
 pub mod Changes
 pub mod Words
 pub mod Threads

@@ -14,4 +14,5 @@ pub mod Logs
 pub mod AsRecorded
 pub mod Committers
 pub mod Lasts
+pub mod OneChunk
 pub mod ConsoleBytes

@@ -8,6 +8,7 @@ ghost use Rattle.spec_protocol.specs.promises.Logs.{LogsAreFresh};
 ghost use Rattle.spec_protocol.specs.promises.LogsOfPoints.{LogsAreOfPoints};
 ghost use Rattle.spec_protocol.specs.promises.Judging.{LogsAreSeenAlike};
 ghost use Rattle.spec_protocol.specs.promises.Notable.{NotesFitLogs};
+ghost use Rattle.spec_protocol.specs.promises.OneChunk.{CoresHaveOneChunk};
 ghost use Rattle.spec_protocol.specs.promises.Pieces.{PiecesCountNothing, PiecesStayTogether, StoppedSpheresStay};
 ghost use Rattle.spec_protocol.specs.promises.PlayingBack.{LogsPlayBack};
 ghost use Rattle.spec_protocol.specs.promises.Replying.{AsksAreGranted, GrantsAreClear, PointsAreMade};
@@ -28,12 +29,18 @@ pub fn moves_are_serial()
 {}
 
 /// After every list of events: no two flying words of a sphere are one, and a flight's signature covers the lines of its
-/// words; a core's thread is on no other core, and its chunk began from the thread's state, has signatures that cover
-/// what it loaded and stored, stands to its limit as its closing says, and is current where no flight of its sphere that
-/// the core was not told of hits its reads: its run is that of the current memory, and where it was closed before a serial
-/// instruction, or before a store that finds no room, that instruction comes next.
+/// words; a core's thread is on no other core, its older chunk began from the thread's state, and its younger one, if there
+/// is one, from the state that the older's commit will leave. Each has signatures that cover what it loaded and stored,
+/// stands to its limit as its closing says, and is current where no flight of its sphere that the core was not told of hits
+/// its reads: its run is that of the current memory, for the younger with the older's stores laid over it, and where it was
+/// closed before a serial instruction, or before a store that finds no room, that instruction comes next.
 pub fn invariants_hold()
     ensures { InvariantsHold }
+{}
+
+/// After every list of events of a machine of depth 1: no core has a younger chunk, and no step begins one.
+pub fn cores_have_one_chunk()
+    ensures { CoresHaveOneChunk }
 {}
 
 /// After every list of events there are as many spheres, cores and slots as at first, and the sizes are the same.

@@ -1,4 +1,4 @@
--- Replays of small logs, event by event: what each answers, and where the sphere then stands.
+-- Replays of small logs, event by event: what each answers, and where the sphere then is.
 use Rattle.std.proofs.Common.{◌≡◌, ℕ, true, false, List, [], ◌∷◌, Option, Some, None, refl}
 use Rattle.dl_entry.specs.declared.Actor.{Actor}
 use Rattle.dl_entry.specs.declared.Commit.{Commit}
@@ -56,7 +56,7 @@ replay log =
     (record {
       cores = 1;
       window = 2;
-      numbers = record { s = 100; capacity = 16; bits = 64 };
+      numbers = record { s = 100; capacity = 16; bits = 64; depth = 1 };
       seed = 0;
       input = [];
       spheres = record { memory = code; entry = 0; role = IsReplayed (record { log = log }) } ∷ [];
@@ -82,7 +82,7 @@ commits_after w es = (sphere_at (world_after w es) 0).progress.commits
 
 abbrev sized : (count : ℕ) → List Actor → List ℕ → LogParts
 sized count order sizes =
-    record { mode = ModeName.OrderSize; s = 100; count = count; order = order; sizes = Sizes.Each sizes; interrupts = []; inputs = []; dmas = [] }
+    record { version = 1; threads = 15; mode = ModeName.OrderSize; s = 100; count = count; order = order; sizes = Sizes.Each sizes; interrupts = []; inputs = []; dmas = [] }
 
 -- no commit
 abbrev empty_log : LogParts
@@ -99,7 +99,7 @@ whole_log = sized 2 (Actor.Thread 0 ∷ Actor.Thread 0 ∷ []) (2 ∷ 0 ∷ [])
 -- the same in order-only
 abbrev unsized_log : LogParts
 unsized_log =
-    record { mode = ModeName.OrderOnly; s = 100; count = 2; order = Actor.Thread 0 ∷ Actor.Thread 0 ∷ []; sizes = Sizes.Short []; interrupts = []; inputs = []; dmas = [] }
+    record { version = 1; threads = 15; mode = ModeName.OrderOnly; s = 100; count = 2; order = Actor.Thread 0 ∷ Actor.Thread 0 ∷ []; sizes = Sizes.Short []; interrupts = []; inputs = []; dmas = [] }
 
 -- a longer chunk
 abbrev longer_log : LogParts
@@ -176,13 +176,13 @@ pub record AreReplayed : Type 0 where
       ∷ Reply.Closed How.Serial ∷ Reply.Granted ∷ Reply.Idle ∷ []
   pub empty_last_commits : commits_after (replay unsized_log) empty_last_events ≡ two_commits
   pub empty_last_now : now_after (replay unsized_log) empty_last_events ≡ Some (Ended (End.Complete 2))
-  -- the pieces count where a commit is too short, and no commit is noted
+  -- the pieces count if a commit is too short, and no commit is noted
   pub longer_replies : replies (replay longer_log) longer_events
       ≡ Reply.Ran ∷ Reply.Closed How.Cut ∷ Reply.Piece ∷ Reply.Ran ∷ Reply.Closed How.Serial ∷ Reply.Diverged 0 (Why.Short 3 2)
       ∷ Reply.Stopped ∷ []
   pub longer_commits : commits_after (replay longer_log) longer_events ≡ []
   pub longer_now : now_after (replay longer_log) longer_events ≡ Some (Ended (End.Diverged 0 (Why.Short 3 2)))
-  -- where a serial step is logged one instruction is run
+  -- if a serial step is logged, one instruction is run
   pub serial_replies : replies (replay serial_log) serial_events ≡ Reply.Closed How.Limit ∷ Reply.Waiting ∷ Reply.Diverged 0 Why.NotSerial ∷ Reply.Stopped ∷ []
   -- after a piece it is the same thread's turn
   pub refused_replies : replies (replay whole_log) refused_events

@@ -1,4 +1,4 @@
--- Every replay is its log's play, and does all of it; so all replays of one log agree.
+-- Every replay is its log's play, and does all of it; so all replays of the same log agree.
 pub mod Moved
 pub mod All
 pub mod Ending

@@ -14,15 +14,15 @@ use Rattle.spec_protocol.specs.machine.Spheres.{Cursor, Replay, Sphere, whole_li
 
 -- ---- the state
 
--- no piece stands, and memory and threads are the play's
+-- no piece of the next commit is done, and memory and threads are the play's
 pub record IsWhole (y : Played) (p : Sphere) (b : Cursor) : Type 0 where
   pub memory : p.memory ≡ y.memory
   pub threads : p.threads ≡ y.threads
   pub total : b.total ≡ 0
   pub loads : b.loads ≡ []
 
--- memory and threads are the play's, moved on by thread k, which is t there, over the instructions of the pieces of its
--- present commit, which has room for one more at least. Nothing else has come between, and the reservation stands
+-- memory and threads are the play's, except that thread k, which is t there, has run the instructions of the pieces of its
+-- present commit, in which there is room for at least one more. Nothing else has come between, and the reservation is kept
 pub record IsMovedOn (log : LogParts) (y : Played) (k : ℕ) (t : Parts) (p : Sphere) (b : Cursor) : Type 0 where
   pub is : slice_get y.threads k ≡ Some t
   pub live : is_live t ≡ true
@@ -40,7 +40,7 @@ StandsAt log y (Ended how) p b = IsWhole y p b
 
 -- ---- the end
 
--- the replay has ended within the play's next commit, which diverges: it gives the play this end, and nothing else
+-- the replay has ended within the play's next commit, which diverges: all that it does to the play is give it this end
 pub record EndsWithin (log : LogParts) (y : Played) (b : Cursor) : Type 0 where
   pub why : Why
   pub over : b.now ≡ Ended (End.Diverged (position y.progress) why)
@@ -48,16 +48,16 @@ pub record EndsWithin (log : LogParts) (y : Played) (b : Cursor) : Type 0 where
 
 -- ---- both
 
--- the replayed sphere p, with its current memory, stands at y of the play
+-- the replayed sphere p, with its current memory, has followed the play as far as y
 pub record Follows (log : LogParts) (y : Played) (p : Sphere) : Type 0 where
   pub cursor : Cursor
   pub role : p.role ≡ Replay cursor
   pub same_log : cursor.log ≡ log
-  -- the same whole commits, with their loads and outputs, the same request, and as much of the log is used
+  -- the same whole commits, with their loads and outputs, the same request, and the same parts of the log used
   pub progress : p.progress ≡ y.progress
   pub used : cursor.used ≡ y.used
   -- it is the same actor's turn, or both have ended in the same way; or the replay has, within the play's next commit
   pub now : (cursor.now ≡ y.now) ⊎ EndsWithin log y cursor
-  -- where the play has ended, so has the replay
+  -- if the play has ended, so has the replay
   pub ended : (how : End) → y.now ≡ Ended how → cursor.now ≡ Ended how
   pub state : StandsAt log y y.now p cursor

@@ -14,7 +14,7 @@ use Rattle.spec_replay.specs.Following.{Follows}
 
 -- ---- every replay is its log's play
 
--- sphere i was set up by the image, to replay the log, whose standard size is over 0; after the events it is p, with its
+-- sphere i was set up from the image, to replay the log, whose standard size is over 0; after the events it is p, with its
 -- current memory
 pub record IsReplay
     (image : SphereSetup) (asked : ReplaySetup) (s : Setup) (es : List Event) (i : ℕ) (p : Sphere)
@@ -25,7 +25,7 @@ pub record IsReplay
   pub standard : 0 < asked.log.s
   pub shown : slice_get (shown_of (after s es)).spheres i ≡ Some p
 
--- it stands in the play of its log on its image at the number of its whole commits
+-- it has followed the play of its log on its image as far as the number of its whole commits
 abbrev pub ReplaysArePlays : Type 0
 ReplaysArePlays =
     (image : SphereSetup) (asked : ReplaySetup) (s : Setup) (es : List Event) (i : ℕ) (p : Sphere)
@@ -34,7 +34,7 @@ ReplaysArePlays =
 
 -- ---- a replay that has stopped has done the whole play
 
--- the reasons that come between two commits: no live thread has the turn, or something of the log is left over
+-- the reasons that arise between two commits: no live thread has the turn, or something of the log is left over
 abbrev pub is_between : Why → Bool
 is_between Why.NoThread = true
 is_between (Why.Short size run) = false
@@ -50,8 +50,8 @@ abbrev pub ends_between : End → Bool
 ends_between (End.Complete commits) = true
 ends_between (End.Diverged commits why) = is_between why
 
--- it has the play's commits, with their loads and outputs, and the play's end; and its memory and threads, unless it has
--- ended within a commit, of which pieces may stand
+-- it has the play's commits, with their loads and outputs, and the play's end; and the play's memory and threads, unless it
+-- has ended within a commit, of which some pieces may be done
 pub record IsPlayed (y : Played) (p : Sphere) (b : Cursor) : Type 0 where
   pub progress : p.progress ≡ y.progress
   pub now : b.now ≡ y.now
@@ -65,7 +65,7 @@ StoppedArePlayed =
     → IsReplay image asked s es i p → p.role ≡ Replay b → is_over b.now ≡ true
     → IsPlayed (last_played image asked.log) p b
 
--- ---- all replays of one log on one image agree
+-- ---- all replays of the same log on the same image agree
 
 -- the same memory, with the stores of pieces, and the same threads
 pub record SameState (p q : Sphere) : Type 0 where
@@ -73,14 +73,14 @@ pub record SameState (p q : Sphere) : Type 0 where
   pub threads : p.threads ≡ q.threads
 
 pub record Agree (p q : Sphere) (b c : Cursor) : Type 0 where
-  -- after as many whole commits these are the same, with their loads and outputs
+  -- after the same number of whole commits these are the same, with their loads and outputs
   pub progress : position p.progress ≡ position q.progress → p.progress ≡ q.progress
-  -- and after as many instructions in pieces of the next commit, so are memory and threads
+  -- and after the same number of instructions in pieces of the next commit, so are memory and threads
   pub state : position p.progress ≡ position q.progress → b.total ≡ c.total → SameState p q
-  -- where both have stopped, they have done the same commits, and have ended in the same way
+  -- if both have stopped, they have done the same commits, and have ended in the same way
   pub commits : is_over b.now ≡ true → is_over c.now ≡ true → p.progress ≡ q.progress
   pub ends : is_over b.now ≡ true → is_over c.now ≡ true → b.now ≡ c.now
-  -- and with the same memory and threads, unless that was within a commit, of which they may have done other
+  -- and with the same memory and threads, unless that was within a commit, of which they may have done different
   -- pieces
   pub final : (how : End) → b.now ≡ Ended how → ends_between how ≡ true → is_over c.now ≡ true
       → SameState p q

@@ -1,5 +1,5 @@
 //! Every replay is the play of its log, whatever the timing: a sphere that is replayed on cores, with speculation, flights and
-//! pieces, does whole commits of the play and no others; and all replays of one log on one image agree.
+//! pieces, does whole commits of the play and no others; and all replays of the same log on the same image agree.
 #![tactic(auto)]
 
 mod promise;

@@ -13,7 +13,7 @@ use Rattle.spec_run.specs.Runs.{points_of, executed}
 use Rattle.spec_run.specs.Texts.{account_as, account_text, console_text, log_as, log_of_points, log_text}
 use Rattle.spec_run.specs.Promise.{AccountsAgree, AreAlike, TextsAreOfPoints}
 
--- two runs that agree on a replayed sphere's image and log write equal accounts of it
+-- two runs that agree on a replayed sphere's image and log write the same account of it
 pub accounts_agree : AccountsAgree
 unfolding account_text
 accounts_agree s z es fs i j log role same =
@@ -50,7 +50,7 @@ log_same s z es fs i (IsReplayed asked) a points = refl
 image_same : (s z : Setup) (i : ℕ) → AreAlike s z → image_at s i ≡ image_at z i
 image_same s z i a = ap (λ (images : List SphereSetup). get_or images i no_image) a.spheres
 
--- where two runs differ in cores, windows, buffers and signatures at most, and their points are the same,
+-- if two runs differ at most in cores, windows, buffers and signatures, and their points are the same,
 -- so are their logs, accounts and consoles
 pub texts_of_points : TextsAreOfPoints
 unfolding log_text account_text console_text

@@ -57,7 +57,7 @@ get_is (q ∷ ps) (suc i) p e = get_is ps i p e
 
 -- ---- what is known of the last world
 
--- whatever it is by its list of events: its spheres are the executed ones, of the kinds of the setup, and so are its devices
+-- apart from its list of events: its spheres are the executed ones, of the kinds of the setup, and its devices are the executed ones
 record IsKnown (s : Setup) (w : World) : Type 0 where
   executes : (i : ℕ) (p : Sphere)
       → slice_get (shown_of w).spheres i ≡ Some p
@@ -103,7 +103,7 @@ known s es is = subst (IsKnown s) (after_both (world_of s) es (finishing_of s es
 ends : (s : Setup) (es : List Event) → CanFinish s → Ends s es (finishing_of s es)
 ends s es can = function_finishes s es (most_events s es) can (omega arith)
 
--- no word flies, so what is shown is there
+-- no word is in flight, so memory is as it is shown
 shown : (s : Setup) (es : List Event) → CanFinish s → (shown_of (finished s es)).spheres ≡ (finished s es).spheres
 shown s es can =
     let w : World = finished s es in
@@ -152,7 +152,7 @@ over_how (Turn k) e = absurd (true≢false (sym e))
 over_how TurnOfDma e = absurd (true≢false (sym e))
 over_how (Ended how) e = (how, refl)
 
--- a play that is complete leaves its state; of one that diverged none is described
+-- a complete play leaves its state; of one that diverged, no state is described
 held_played : (y : Played) (p : Sphere) (b : Cursor) (how : End) → IsPlayed y p b → b.now ≡ Ended how → account_of p.progress.commits p.threads p.progress.request p.memory (end_of b.now) ≡ played_account y
 held_played y p b (End.Complete n) is over =
     let progress = is.progress in

@@ -24,7 +24,7 @@ use Rattle.spec_protocol.specs.declared.event.Event.{Event}
 use Rattle.spec_protocol.specs.machine.Spheres.{Cursor, Role, Plain, Record, Replay, Sphere, no_sphere, limit_of, halves}
 use Rattle.spec_protocol.specs.machine.Commits.{MovedSphere, granted_as, by_verdict, joined, replayed_chunk, chunk_in, chunk_moved, serial_in, serial_moved, live_dma, dma_log, dma_by_verdict, dma_in, dma_moved, role_raised, raised}
 use Rattle.spec_protocol.specs.machine.World.{Numbers, Occupant, World, After, moment, sphere_at, with_sphere, thread_afresh, core_of}
-use Rattle.spec_protocol.specs.machine.Flying.{drain_slot, reads_of, writes_of, told, delivering, retiring}
+use Rattle.spec_protocol.specs.machine.Flying.{drain_slot, reads_of, writes_of, told, delivering, retiring, younger_of, hits_younger}
 use Rattle.spec_protocol.specs.machine.Placing.{replays, with_renewed, raise_in}
 use Rattle.spec_protocol.specs.machine.Machine.{SphereSetup, Setup, sphere_of, world_of, act, happens, world_after}
 use Rattle.spec_protocol.specs.promises.Invariants.{IsGood}
@@ -75,7 +75,7 @@ serial-few now k m (Record recording) t devices p few live =
 serial-few now k m (Replay b) t devices p few live =
     verdict-few (suc now) k b (serial_verdict b.log p.progress b.used k p.threads t p.memory) devices p live
 
--- a live DMA is one commit more
+-- a live DMA is one more commit
 live-few : (now : ℕ) (role : Role) (devices : Devices) (p : Sphere) (request : Option Request) (v : MovedSphere) → position p.progress < now → live_dma role devices p request ≡ Some v → Few (suc now) v.sphere
 live-few now role devices p None v few e live = absurd (none-some v e)
 live-few now role devices p (Some request) v few e live =
@@ -143,9 +143,13 @@ fewer-keeps : (z : Numbers) → Keeps z fewer
 fewer-keeps z =
     record {
       later = λ now i p k. few-later now p k;
-      stepped = λ now c p slots h sphere opened k. tt;
-      cut = λ h k. tt;
+      stepped = λ now c p slots h sphere opened none k. tt;
+      cut_younger = λ h y there same k. tt;
+      cut = λ h none k. tt;
+      younger = λ now c p slots h y sphere same is k. tt;
       squashed = λ h k. tt;
+      squashed_younger = λ h k. tt;
+      promoted = λ h y there same k. tt;
       afresh = λ now i k p t sphere is live. tt;
       told = λ f c k. tt;
       drained = λ now f s ss p e k few. (tt, few);
@@ -159,7 +163,7 @@ fewer-keeps z =
 
 -- ---- the first event
 
--- a sphere that replays no log has come nowhere
+-- a sphere that replays no log has done nothing
 abbrev IsNew : Sphere → Type 0
 IsNew p = replays p.role ≡ false → p.progress ≡ no_progress
 
@@ -187,18 +191,19 @@ drain-then w k f new =
     let p = sphere_at w f.sphere in
     new-set w.spheres f.sphere (record p { memory = (drain p.memory (Some f)).memory }) (new f.sphere) new
 
-told-then : (w : World) (c : ℕ) (o : Option Occupant) (d : Deliver) → AreNew w.spheres → Then (told w c o d)
-told-then w c o Deliver.NoCommit new = new
-told-then w c o Deliver.Already new = new
-told-then w c o Deliver.Squashed new = new
-told-then w c o Deliver.Delivered new = new
+told-then : (w : World) (c : ℕ) (o : Option Occupant) (d : Deliver) (hit : Bool) → AreNew w.spheres → Then (told w c o d hit)
+told-then w c o Deliver.NoCommit hit new = new
+told-then w c o Deliver.Already hit new = new
+told-then w c o Deliver.Squashed hit new = new
+told-then w c o Deliver.Delivered true new = new
+told-then w c o Deliver.Delivered false new = new
 
 deliver-then : (w : World) (c k : ℕ) → AreNew w.spheres → Then (delivering w c k)
 unfolding delivering
 deliver-then w c k new =
     let o = at w.cores c in
     let d = deliver c (reads_of w o) (writes_of w o) (at w.slots k) in
-    told-then (record w { slots = set w.slots k d.slot }) c o d.reply new
+    told-then (record w { slots = set w.slots k d.slot }) c o d.reply (hits_younger (at w.slots k) (younger_of o)) new
 
 retire-then : (w : World) (k : ℕ) → AreNew w.spheres → Then (retiring w k)
 unfolding retiring
@@ -243,7 +248,9 @@ first-then w e k =
     (record {
       answers = λ r none. k.spheres;
       steps = λ c h is opened. k.spheres;
-      cuts = λ c h is. k.spheres;
+      youngers = λ c h y is e opened. k.spheres;
+      cuts = λ c h is none. k.spheres;
+      cut_youngers = λ c h y is e. k.spheres;
       chunks = λ c h how may chunk none. absurd (none-some how (sym (k.cores c h may.is) ∙ may.closed));
       serials = λ c h how may serial none. absurd (none-some how (sym (k.cores c h may.is) ∙ may.closed));
       drains = λ j f is. drain-then w j f k.spheres;
@@ -269,7 +276,7 @@ start-new s (d ∷ ds) (suc i) live = start-new s ds i live
 afresh-open : (z : Numbers) (i k : ℕ) (p : Sphere) (o : Option Parts) (h : Occupant) → thread_afresh z i k p o ≡ Some h → h.chunk.closed ≡ None
 afresh-open z i k p None h e = absurd (none-some h e)
 afresh-open z i k p (Some t) h e =
-    let new : Occupant = record { thread = k; chunk = fresh z.bits i t (limit_of z.s p.role k t) (halves p.role) } in
+    let new : Occupant = record { thread = k; chunk = fresh z.bits i t (limit_of z.s p.role k t) (halves p.role); younger = None } in
     branch (λ (o : Option Occupant). o ≡ Some h → h.chunk.closed ≡ None) (is_live t) (Some new) None
     (λ _ q. subst (λ (x : Occupant). x.chunk.closed ≡ None) (let r : new ≡ h = cc in r) refl)
     (λ _ q. absurd (none-some h q)) e
@@ -289,7 +296,7 @@ counted-moment : (w : World) (e : Event) → moment (happens w e).world ≡ suc 
 unfolding happens
 counted-moment w e = let h = ap (λ (n : Counts). n.events) (act-untold w e).counts in omega (arith, h)
 
--- after so many events
+-- after that many events
 record IsRoomy (n : ℕ) (w : World) : Type 0 where
   good : IsGood w
   count : moment w ≡ n

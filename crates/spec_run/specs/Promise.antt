@@ -33,21 +33,21 @@ abbrev pub account_held : Sphere → List ℕ
 account_held p =
     account_of p.progress.commits p.threads p.progress.request p.memory (end_as p.role (position p.progress))
 
--- a sphere is replayed where it was set up so; and a recording has this log
+-- a sphere is replayed if it was set up so, and a recording has this log
 abbrev pub HasRole : Setup → (schedule : List Event) → (i : ℕ) → RoleSetup → Role → Type 0
 HasRole s es i IsPlain role = replays role ≡ false
 HasRole s es i (IsRecorded asked) role = role ≡ Record (record { log = log_of_points s es i asked.mode })
 HasRole s es i (IsReplayed asked) role = (b : Cursor) × (role ≡ Replay b)
 
--- sphere i of the finished machine, which was set up by the image
+-- sphere i of the finished machine, which was set up from the image
 pub record IsDescribed (s : Setup) (es : List Event) (i : ℕ) (image : SphereSetup) : Type 0 where
   pub role : HasRole s es i image.role (sphere_at (finished s es) i).role
   pub account : account_held (sphere_at (finished s es) i)
       ≡ account_as image (sphere_in (executed s es) i) image.role
-  -- a plain or recorded one has the commits that are executed
+  -- a plain or recorded one has the commits of executing the points
   pub executed : replays (sphere_at (finished s es) i).role ≡ false
       → (sphere_at (finished s es) i).progress ≡ (sphere_in (executed s es) i).progress
-  -- a replayed one has ended, as its log's play
+  -- a replayed one has ended, as its log's play has
   pub over : IsAtEnd (sphere_at (finished s es) i).role
   pub played : (asked : ReplaySetup) (b : Cursor)
       → image.role ≡ IsReplayed asked
@@ -64,7 +64,7 @@ SpheresAreDescribed =
 
 -- ---- the whole run
 
--- there are as many spheres as were set up, the devices are the executed ones, and each point can be done as it says
+-- there are as many spheres as were set up, the devices are those of executing the points, and each point can be done as it says
 pub record IsRunDescribed (s : Setup) (es : List Event) : Type 0 where
   pub spheres : length (finished s es).spheres ≡ length s.spheres
   pub devices : (finished s es).devices ≡ (executed s es).devices
@@ -88,7 +88,7 @@ RecordingsAreReproduced =
     → image.role ≡ IsRecorded asked
     → IsReproduced image (log_of_points s es i asked.mode) (sphere_in (executed s es) i)
 
--- two runs that agree on a sphere's image, memory size and log write equal accounts of it, whatever else differs: cores,
+-- two runs that agree on a sphere's image, memory size and log write the same account of it, whatever else differs: cores,
 -- buffers, windows, signatures, schedules, devices and the other spheres
 abbrev pub AccountsAgree : Type 0
 AccountsAgree =
@@ -97,7 +97,7 @@ AccountsAgree =
     → image_at z j ≡ image_at s i
     → account_text z fs j ≡ account_text s es i
 
--- the setups differ in cores, windows, buffers and signatures at most
+-- the setups differ at most in cores, windows, buffers and signatures
 pub record AreAlike (s z : Setup) : Type 0 where
   pub chunk : s.numbers.s ≡ z.numbers.s
   pub seed : s.seed ≡ z.seed
@@ -109,8 +109,8 @@ pub record HaveSameTexts (s z : Setup) (es fs : List Event) : Type 0 where
   pub accounts : (i : ℕ) → account_text s es i ≡ account_text z fs i
   pub console : console_text s es ≡ console_text z fs
 
--- where the points of two such runs are the same, so are the logs, the accounts and the console: a false hit of signatures
--- changes them only by the order of commits
+-- if the points of two such runs are the same, so are the logs, the accounts and the console: a false hit of signatures
+-- changes them only through the order of commits
 abbrev pub TextsAreOfPoints : Type 0
 TextsAreOfPoints =
     (s z : Setup) (es fs : List Event)
@@ -120,7 +120,7 @@ TextsAreOfPoints =
 
 -- ---- room
 
--- after a schedule of at most 2^24 events a plain or recorded sphere has fewer commits: the first event commits nothing
+-- after a schedule of at most 2^24 events a plain or recorded sphere has fewer commits, because the first event commits nothing
 abbrev pub SchedulesLeaveRoom : Type 0
 SchedulesLeaveRoom =
     (s : Setup) (es : List Event) (i : ℕ)

@@ -1,5 +1,5 @@
--- What a run comes to: the points of its schedule and of finishing; the spheres and devices that executing these points
--- leaves; and what each log that is replayed plays to.
+-- The outcome of a run: the points of its schedule and of finishing; the spheres and devices that executing these points
+-- leaves; and what the play of each replayed log leaves.
 use Rattle.std.specs.Prelude.{Bool, true, false, ◌||◌, List, [], ◌∷◌}
 use Rattle.dl_entry.specs.declared.End.{End}
 use Rattle.dl_entry.specs.declared.Point.{Point}
@@ -33,7 +33,7 @@ executed s es = serial s (points_of s es)
 abbrev pub played : LogParts → SphereSetup → Played
 played log image = last_played image log
 
--- how a whole play ended; each has
+-- how a whole play ended, as each has
 abbrev pub end_of : Now → End
 end_of (Ended how) = how
 end_of (Turn thread) = End.Complete 0
@@ -43,13 +43,13 @@ abbrev pub has_diverged : End → Bool
 has_diverged (End.Complete commits) = false
 has_diverged (End.Diverged index why) = true
 
--- whether the play of what is replayed on the image diverges
+-- whether the play of the log that is replayed on the image, if one is, diverges
 abbrev pub diverges_as : SphereSetup → RoleSetup → Bool
 diverges_as image IsPlain = false
 diverges_as image (IsRecorded asked) = false
 diverges_as image (IsReplayed asked) = has_diverged (end_of (played asked.log image).now)
 
--- whether that of any sphere does
+-- whether that of any of these spheres does
 abbrev pub diverges : List SphereSetup → Bool
 diverges [] = false
 diverges (image ∷ images) = diverges_as image image.role || diverges images

@@ -1,5 +1,5 @@
 -- The texts of a run: the log and the account of each sphere, the console, the report and the summary. Every value in them
--- is one of executing the points whole, one at a time, or of playing a log on its image.
+-- comes from executing the points whole, one at a time, or from playing a log on its image.
 use Rattle.std.specs.Prelude.{ℕ, suc, List, [], ◌∷◌}
 use Rattle.dl_account.specs.Account.{account_of}
 use Rattle.dl_account.specs.Report.{report_of}

@@ -1,4 +1,4 @@
-//! What a run of the whole machine comes to: the texts of its spheres, its console, its report and its summary, and the
+//! The outcome of a run of the whole machine: the texts of its spheres, its console, its report and its summary, and the
 //! promises that the machine holds what they tell.
 #![tactic(auto)]
 

@@ -3,7 +3,7 @@ ghost use Rattle.spec_run.specs.Promise.{AccountsAgree, RecordingsAreReproduced,
 
 /// Once a run is over, what a sphere of the machine holds is what its account tells: a plain or recorded one has the
 /// commits, threads, request and memory of executing the points whole, one at a time, and a recorded one the log of
-/// these points; a replayed one has the commits and the end of its log's play, and where it is complete the play's
+/// these points; a replayed one has the commits and the end of its log's play, and if it is complete, the play's
 /// threads, request and memory.
 pub fn spheres_are_described()
     ensures { SpheresAreDescribed }
@@ -20,12 +20,12 @@ pub fn recordings_are_reproduced()
     ensures { RecordingsAreReproduced }
 {}
 
-/// Two runs that agree on a sphere's image, memory size and log write equal accounts of it, whatever else differs.
+/// Two runs that agree on a sphere's image, memory size and log write the same account of it, whatever else differs.
 pub fn accounts_agree()
     ensures { AccountsAgree }
 {}
 
-/// Two runs that differ in cores, windows, buffers and signatures at most, and make the same points, have the same logs,
+/// Two runs that differ at most in cores, windows, buffers and signatures, and make the same points, have the same logs,
 /// accounts and console.
 pub fn texts_are_of_points()
     ensures { TextsAreOfPoints }

@@ -82,7 +82,7 @@ fn replays_go_as_they_were_worked(rt: HostRuntime) -> Result<(), Fail> {
     Ok(())
 }
 
-// Once by the events that are told, and once more by `finish`, which comes to as many.
+// Once by the events that are listed, and once more by `finish`, which takes as many events.
 fn goes_as_worked(rt: &impl Abort, alloc: Global, row: &Row) -> Result<(), Fail> {
     let mut stepped = machine_of(alloc, row)?;
     for &(event, reply) in row.events {
@@ -117,7 +117,7 @@ fn finished(alloc: Global, row: &Row) -> Result<Machine<Banked>, Fail> {
     Ok(machine)
 }
 
-// The reply, if the machine is young enough.
+// The reply, if the machine may still take events.
 fn take(machine: &mut Machine<Banked>, event: Event) -> Result<Option<Reply>, OutOfMemory> {
     if machine.counts().events >= 1 << 24 {
         return Ok(None);
@@ -143,7 +143,7 @@ fn have_lived(
     Ok(())
 }
 
-// Whether the sphere has come to what is said of it.
+// Whether the sphere has become what is said of it.
 fn has_lived(alloc: Global, sphere: &Sphere, life: &Life) -> Result<bool, OutOfMemory> {
     let has_ended = match life.role {
         Lived::Plain => sphere.end().is_none(),
@@ -224,14 +224,14 @@ fn role_of(alloc: Global, lived: Lived) -> Result<Role, Fail> {
     }
 }
 
-// What stands in a file of 16 words of code before them.
+// What a file of 16 words of code has before them.
 const HEAD: [u8; 84] = [
     0x7F, 0x45, 0x4C, 0x46, 1, 1, 1, 0, 0, 0, 0, 0, 0, 0, 0, 0, 2, 0, 0xF3, 0, 1, 0, 0, 0, 0, 0, 0,
     0, 0x34, 0, 0, 0, 0, 0, 0, 0, 0, 0, 0, 0, 0x34, 0, 0x20, 0, 1, 0, 0, 0, 0, 0, 0, 0, 1, 0, 0, 0,
     0x54, 0, 0, 0, 0, 0, 0, 0, 0, 0, 0, 0, 0x40, 0, 0, 0, 0x40, 0, 0, 0, 7, 0, 0, 0, 4, 0, 0, 0,
 ];
 
-// The file of that code, with zeros behind it.
+// The file of that code, with zeros after it.
 fn file_of(alloc: Global, code: &[u32]) -> Result<Vec<u8>, AllocError> {
     let mut file = Vec::from_slice(alloc, &HEAD)?;
     for i in 0..16 {

@@ -1,4 +1,4 @@
-//! What single parts of the machine, and of what it is made of, do.
+//! What single parts of the machine do, and the parts that those are made of.
 
 mod buffers;
 mod chunks;

@@ -301,7 +301,7 @@ const CHANGED: &[Changed] = &[
     },
 ];
 
-/// Words, and what is answered and said where no file but the plan and the script is there.
+/// Words, and what is answered and said if only the plan and the script are there.
 struct Words {
     words: &'static [&'static str],
     status: Status,
@@ -362,7 +362,7 @@ const WORDS: &[Words] = &[
     },
 ];
 
-/// What is answered and said where calls fail, and how many of the files are then whole.
+/// What is answered and said if calls fail, and how many of the files are then whole.
 #[derive(Clone, Copy)]
 struct Left {
     status: Status,
@@ -407,7 +407,7 @@ const FAULTS: &[Fault] = &[
     (6, b"fault r.txt\n", 2),
 ];
 
-// The calls of the files that fail where the first put fails too.
+// The calls of the files that fail when the first put fails too.
 const FAULTS_OF_SINK: &[(&[u64], Left)] = &[
     (
         &[],
@@ -504,7 +504,7 @@ fn are_left<F: Files>(
     }
 }
 
-// A sink that takes one byte a call takes the same, and where its second call fails, one byte; the files are written whole.
+// A sink that takes one byte a call takes the same, or one byte if its second call fails; the files are written whole.
 #[test]
 fn a_narrow_sink_takes_byte_after_byte(rt: HostRuntime) -> Result<(), Fail> {
     takes(&rt, rt.alloc(), &[], Status::Done, SUMMARY)?;
@@ -526,7 +526,7 @@ fn takes(
     Ok(())
 }
 
-// The trusted edge: std's own calls write what is read, and find what is written.
+// The trusted edge: std's own calls write what is then read, and find what was written.
 #[test]
 fn real_files_are_read_and_written(rt: HostRuntime) -> Result<(), Fail> {
     let alloc = rt.alloc();
@@ -550,7 +550,7 @@ const FILES: &[(&str, &[u8])] = &[("plan.toml", PLAN), ("s.txt", SCRIPT), ("a.el
 
 const INSPECT: &[&str] = &["inspect", "a.log"];
 
-// A log that is cut anywhere says in pieces of any size what it says at once.
+// A log that is cut off anywhere says the same in pieces of any size as it says at once.
 #[test]
 fn cut_logs_say_in_pieces_what_they_say_at_once(rt: HostRuntime) {
     for length in 0..DMA_LOG.len() {

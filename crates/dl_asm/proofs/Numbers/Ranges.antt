@@ -56,7 +56,7 @@ first-true : (a b : Bool) → (a && b) ≡ true → a ≡ true
 first-true true b e = refl
 first-true false b e = e
 
--- a cut number fits a form just where the number does
+-- a cut-off number fits a form exactly if the number does
 pub holds-capped : (form : Form) (n : Number) → holds form (number_capped n) ≡ holds form n
 unfolding holds
 holds-capped (Form.Register op) n = within-capped 0 0 n (lit< tt) (lit< tt)

@@ -37,7 +37,7 @@ pub exact-number : (form : Form) (registers : Registers) (value : List ℕ) (exa
 exact-number form registers value None number e out = cc
 exact-number form registers value (Some n) number e out = sym (e ∙ ap Some (number-capped form n (not-true (holds form n) out)))
 
--- where the place of a label is known cut, so is the number that is made of it
+-- if the place of a label is known cut off, so is the number that is made from it
 pub number-by-place : (f : ℕ → Number) (place : Option ℕ) (there : ℕ) (number : Number) → Some there ≡ option_map capped place
     → ((exact : ℕ) → there ≡ capped exact → number ≡ number_capped (f exact)) → Some number ≡ option_map number_capped (option_map f place)
 number-by-place f None there number e h = cc
@@ -48,7 +48,7 @@ pub place-words : (labels : Labels) (places : List ℕ → Option ℕ) (name : L
     → Some place.words ≡ option_map capped (places name)
 place-words labels places name place is e = ap (option_map (λ p. p.words)) e ∙ is.each name
 
--- where a cut number is missing the number is
+-- if a cut-off number is missing, so is the number
 pub none-capped : (o : Option Number) → None ≡ option_map number_capped o → o ≡ None
 none-capped None e = refl
 none-capped (Some n) e = cc

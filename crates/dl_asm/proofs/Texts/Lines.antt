@@ -18,7 +18,7 @@ line-turn {g} s t u source f xs x r gave is step rest done callee tests =
     let turn = YieldsList-turn (YieldsList-from_slice_split g (λ b. eqb b 10) source rest done callee tests) xs _ gave r _ x is step in
     (turn.0, turn.1 ∙ get_or_default (lines_of source) (length xs) x.now [] turn.0)
 
--- where no line is given, as many were given as the source has
+-- if no line is given, as many were given as the source has
 pub line-end : {F : Type 0} {g : Mut F (Bor ℕ × Unit {0}) Bool} (s t u : Split ℕ F) (source : List ℕ) (f : F) (xs : List (Bor (List ℕ))) (r : Option (Bor (List ℕ)))
     → Yields (split_steps g) s xs t → r ≡ None → split_steps g t r u → split_rest s ≡ source → split_done s ≡ false → split_callee s ≡ f
     → ((y : ℕ) (b : Bool) (q : F) → CalledAt g f y b q → (q ≡ f) × (b ≡ eqb y 10)) → length xs ≡ length (lines_of source)

@@ -1,4 +1,4 @@
--- The operands of a text are the one before its first comma, and those behind.
+-- The operands of a text are the one before its first comma, and those after it.
 use Rattle.std.proofs.Common.{◌≡◌, ℕ, ◌<◌, Bool, true, false, eqb, List, [], ◌∷◌, length, map, None, refl, ap, ◌∙◌, arith}
 use Rattle.std.specs.List.{slice_split, onto_first}
 use Rattle.std.proofs.lemmas.List.{length-map}
@@ -20,7 +20,7 @@ split-whole (c ∷ cs) e = split-front c cs (eqb c 44) refl (split-whole cs) e
 pub operands-one : (text : List ℕ) → place_of 44 text ≡ length text → operands_in text ≡ trimmed text ∷ []
 operands-one text e = ap (map trimmed) (split-whole text e)
 
--- a text with a comma has the operand before it, and then those behind
+-- a text with a comma has the operand before it, and then those after it
 pub operands-more : (text : List ℕ) → place_of 44 text < length text → operands_in text ≡ trimmed (before 44 text) ∷ operands_in (behind 44 text)
 operands-more text l = ap (map trimmed) (slice_split_first (λ c. eqb c 44) text 0 l)
 
@@ -36,11 +36,11 @@ three-past : (a b c : List ℕ) (texts : List (List ℕ)) → 0 < length texts �
 three-past a b c [] l = absurd (omega arith)
 three-past a b c (d ∷ texts) l = refl
 
--- no two, and no three, where others follow them
+-- neither two nor three, if others follow them
 pub two-of-more : (texts : List (List ℕ)) (a b rest more : List ℕ) → texts ≡ a ∷ operands_in rest → operands_in rest ≡ b ∷ operands_in more → two_of texts ≡ None
 two-of-more texts a b rest more e f = ap two_of (e ∙ ap (λ t. a ∷ t) f) ∙ two-past a b (operands_in more) (operands-some more)
 
--- of a text with more than three operands there are no three
+-- a text with more than three operands doesn't have three
 pub three-of-more : (texts : List (List ℕ)) (a b c rest more last : List ℕ) → texts ≡ a ∷ operands_in rest → operands_in rest ≡ b ∷ operands_in more → operands_in more ≡ c ∷ operands_in last → three_of texts ≡ None
 three-of-more texts a b c rest more last e f g =
     ap three_of (e ∙ ap (λ t. a ∷ t) (f ∙ ap (λ t. b ∷ t) g)) ∙ three-past a b c (operands_in last) (operands-some last)

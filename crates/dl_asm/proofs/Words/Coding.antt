@@ -80,7 +80,7 @@ spelled-by : (statement : Option Statement) (words : List ℕ) (place : ℕ) →
 spelled-by None words place e h = tt
 spelled-by (Some s) words place e h = spelled-there (values.instr_of s.form s.registers s.number) s.form s.number words place e h
 
--- behind the last line, the words are the source's code
+-- after the last line, the words are the source's code
 pub all-coded : (lines : List (List ℕ)) (i index : ℕ) (words : List ℕ) → IsCoded lines i index words → i ≡ length lines → IsCode lines words
 all-coded lines i index words before end = record {
   fits = omega (arith, ap length before.made, before.placed i (omega arith), before.fits);

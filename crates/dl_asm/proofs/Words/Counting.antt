@@ -1,4 +1,4 @@
--- A line gives as many words as it counts, and they stand at its place.
+-- A line gives as many words as it counts, and they are at its place.
 use Rattle.std.proofs.Common.{◌≡◌, ℕ, ◌+◌, ◌<◌, ◌≤◌, Bool, true, false, not, ◌&&◌, cond, List, [], ◌∷◌, ◌++◌, length, get_or, Option, Some, None, IfSome, is_some, refl, sym, ap, ◌∙◌, ◌⊎◌, arith, suc, zero, inl, inr, eqb}
 use Rattle.std.specs.List.{list_all}
 use Rattle.std.specs.Option.{option_or, option_map}
@@ -142,7 +142,7 @@ length-said here places twice (Says form r value) some b h =
 abbrev pub ArePlaced : List (List ℕ) → ℕ → Type 0
 ArePlaced lines i = (k : ℕ) → k ≤ i → length (words_up_to lines k) ≡ place_of lines k
 
--- the word of a line stands at its place, among the words of the lines before another
+-- the word of a line is at its place, among the words of the lines before another
 abbrev pub IsThere : List (List ℕ) → (k j w : ℕ) → Type 0
 IsThere lines k j w = (place_of lines k < length (words_up_to lines j)) × (get_or (words_up_to lines j) (place_of lines k) 0 ≡ w)
 
@@ -162,7 +162,7 @@ word-next lines k j w before placed e (inr l) =
       get_or_append_left front (words_at lines j) 0 (place_of lines k) there.0 ∙ there.1,
     )
 
--- the word of a line stands at its place among those of all lines before j
+-- the word of a line is at its place among those of all lines before j
 pub word-there : (lines : List (List ℕ)) (k j w : ℕ) → k < j → ArePlaced lines j → words_at lines k ≡ w ∷ [] → IsThere lines k j w
 word-there lines k zero w l placed e = absurd (omega arith)
 word-there lines k (suc j) w l placed e =

@@ -1,4 +1,4 @@
--- A table of labels has, after one more line, that line's label too, where no earlier one has it.
+-- A table of labels has, after one more line, that line's label too, if no earlier one has it.
 use Rattle.std.proofs.Common.{◌≡◌, ℕ, ◌+◌, ◌<◌, ◌≤◌, Bool, true, false, cond, eqb, ltb, ◌&&◌, zero, suc, List, [], ◌∷◌, ◌++◌, length, take, get_or, Option, Some, None, is_some, min, refl, sym, ap, ap₂, ◌∙◌, ◌^◌, arith, length-take}
 use Rattle.std.specs.List.{position, position_or_len, list_any}
 use Rattle.std.specs.Option.{option_map, option_or}
@@ -51,7 +51,7 @@ pub added : (f : List ℕ → Option LabelPlace) (label name : List ℕ) (place 
     → cond (bytes_eq label name) (Some place) (f name) ≡ entry_after (f name) (bytes_eq name label) place
 added f label name place none = added-by f label name place (bytes_eq name label) refl none
 
--- ---- the first place of a list with one element more
+-- ---- the first place of a list with one more element
 
 place-push : (n m : ℕ) (b : Bool) → n ≤ m
     → cond (ltb (cond (eqb n m) (m + cond b 0 1) n) (m + 1)) (Some (cond (eqb n m) (m + cond b 0 1) n)) None
@@ -126,12 +126,12 @@ any-place n m i = any-placed n m i (ltb n m)
 pub repeated : (lines : List (List ℕ)) (name : List ℕ) (i : ℕ) → list_any (has_label name) (take i lines) ≡ is_before (position (has_label name) lines) i
 repeated lines name i = any-below (has_label name) lines i ∙ any-place (position_or_len (has_label name) lines) (length lines) i
 
--- an entry that the table has is of an earlier line just where the line found for it is
+-- an entry that the table has is of an earlier line exactly if the line found for it is
 pub entry-before : (lines : List (List ℕ)) (found : Option ℕ) (place : LabelPlace) (i : ℕ) → Some place ≡ option_map (entry_at lines) found → ltb place.line i ≡ is_before found i
 entry-before lines None place i e = cc
 entry-before lines (Some k) place i e = let same : place ≡ entry_at lines k = cc in ap (λ q. ltb q.line i) same
 
--- where the table has no entry no earlier line has the name
+-- if the table has no entry, no earlier line has the name
 pub entry-absent : (lines : List (List ℕ)) (found : Option ℕ) (i : ℕ) → None ≡ option_map (entry_at lines) found → false ≡ is_before found i
 entry-absent lines None i e = refl
 entry-absent lines (Some k) i e = cc

@@ -1,4 +1,4 @@
--- A sphere that is set up to be replayed is so for ever, and no other one becomes so.
+-- A sphere that is set up to be replayed stays a replayed one, and no other one becomes one.
 use Rattle.std.proofs.Common.{◌≡◌, ℕ, zero, suc, Bool, true, false, List, [], ◌∷◌, map, Option, Some, None, refl, sym, ap, ◌∙◌, set}
 use Rattle.std.specs.Prelude.{slice_get}
 use Rattle.std.proofs.lemmas.Option.{none-some}
@@ -99,7 +99,7 @@ kinds_set (image ∷ images) (x ∷ ps) zero p q is same all =
     let e : x ≡ p = cc in (same ∙ ap (λ (y : Sphere). replays y.role) (sym e) ∙ all.0, all.1)
 kinds_set (image ∷ images) (x ∷ ps) (suc i) p q is same all = (all.0, kinds_set images ps i p q is same all.1)
 
--- a sphere is replayed where its setup has it so
+-- a sphere is replayed if its setup says so
 pub kind-at : (images : List SphereSetup) (ps : List Sphere) (i : ℕ) (image : SphereSetup) (p : Sphere) → slice_get images i ≡ Some image → slice_get ps i ≡ Some p → AreOfKinds images ps → replays p.role ≡ is_replayed image.role
 kind-at [] ps i image p there is all = absurd (none-some image there)
 kind-at (a ∷ images) [] i image p there is all = absurd (none-some p is)

@@ -1,4 +1,4 @@
--- What is known of every world of a run: that it is good, its sizes, and that its replays stand beside their plays.
+-- What is known of every world of a run: that it is good, its sizes, and that its replays are beside their plays.
 use Rattle.std.proofs.Common.{◌≡◌, ℕ, zero, suc, ◌<◌, true, false, List, [], ◌∷◌, ◌++◌, length, Some, refl, sym, ap, ◌∙◌, subst, arith}
 use Rattle.std.specs.Prelude.{slice_get}
 use Rattle.std.proofs.lemmas.Bool.{true≢false}
@@ -21,7 +21,7 @@ use Rattle.spec_finishing.proofs.Ending.KindsKept.{is_replayed, AreOfKinds, kind
 use Rattle.spec_finishing.proofs.Paying.Standing.{AllGoOn}
 use Rattle.spec_protocol.proofs.Points.Serial.{shown_length}
 
--- the world is good, has the sizes of its setup, and its replays stand beside their plays
+-- the world is good, has the sizes of its setup, and its replays are beside their plays
 pub record Known (s : Setup) (w : World) : Type 0 where
   pub good : IsGood w
   pub sizes : AreSizesKept s w
@@ -29,7 +29,7 @@ pub record Known (s : Setup) (w : World) : Type 0 where
 
 -- ---- images
 
--- what is found in a list stands before its end
+-- what is found in a list is before its end
 pub within : {A : Type 0} (xs : List A) (i : ℕ) (x : A) → slice_get xs i ≡ Some x → i < length xs
 within [] i x is = absurd (none-some x is)
 within (y ∷ ys) zero x is = omega arith
@@ -69,7 +69,7 @@ goes_after plays s es can i image p b there is role going =
     (plays image asked.0 s es i p
     (record { setup = can.setup; there = there; replays = asked.1; standard = can.standard i image asked.0 there asked.1; shown = is })) role going
 
--- so much is known of the world after every schedule
+-- all this is known of the world after every schedule
 pub known-after : ReplaysArePlays → (s : Setup) (es : List Event) → CanFinish s → Known s (after s es)
 known-after plays s es can =
     record {
@@ -81,9 +81,9 @@ known-after plays s es can =
       };
     }
 
--- ---- one event more
+-- ---- one more event
 
--- an event behind a schedule happens in the world after it
+-- an event after a schedule happens in the world that the schedule leaves
 pub after-event : (w : World) (es : List Event) (e : Event) → world_after w (es ++ e ∷ []) ≡ (happens (world_after w es) e).world
 after-event w [] e = refl
 after-event w (f ∷ es) e = after-event (happens w f).world es e

@@ -57,7 +57,7 @@ dma-most request bytes few =
 
 -- ---- a serial step
 
--- what came is at most 4,096 bytes, where it is copied
+-- what came is at most 4,096 bytes, if it is copied
 abbrev pub FewIf : Option Need → Option Input → Type 0
 FewIf o None = Unit {0}
 FewIf o (Some r) = length (copy_of o r) ≤ 4096
@@ -171,7 +171,7 @@ size-with-most s (Some z) each = each z refl
 
 standard-most : (log : LogParts) (k n : ℕ) → IsLog log → size_or_standard log k n ≤ log.s
 standard-most log k n is =
-    size-with-most log.s (size_in log (Actor.Thread k) n) (λ z e. size-most log.mode log.s log.count k n z log.order log.sizes is.sizes e)
+    size-with-most log.s (size_in log (Actor.Thread k) n) (λ z e. size-most log.mode log.threads log.s log.count k n z log.order log.sizes is.sizes e)
 
 thread-few : (log : LogParts) (y : Played) (k : ℕ) (t : Parts) (o : Option Kind) → IsLog log → thread_work log y k t o ≤ 4096
 thread-few log y k t (Some kind) is = serial-words log y.progress y.used k y.threads t y.memory is

@@ -23,7 +23,7 @@ use Rattle.spec_finishing.proofs.Left.Slots.{flown-most}
 use Rattle.spec_finishing.proofs.Paying.Moves.{serial_most, dma_most, what_most, sphere_most, move_most}
 use Rattle.spec_finishing.proofs.Left.AnyEvent.{Flies, still_flies}
 
--- ---- the move's most, where the sphere is known
+-- ---- the move's most, if the sphere is known
 
 most_at : (c : ℕ) (w : World) (m : Move) → m.sphere < length w.spheres → move_most c (shown_of w) m ≡ what_most c (over (current w m.sphere) (sphere_at w m.sphere)) w.devices m.moment m.what
 most_at c w m within = ap (sphere_most c w.devices m) (shown_at w m.sphere within ∙ ap Some (shown_over w m.sphere))
@@ -49,14 +49,14 @@ chunk_flies c w d h how held =
 
 -- ---- a serial step
 
--- no word of a sphere flies where no flight is of it
+-- no word of a sphere is in flight if no flight is of that sphere
 pub nothing_flies : (i : ℕ) (xs : List (Option Flight)) → ((k : ℕ) (f : Flight) → at xs k ≡ Some f → f.sphere ≢ i) → flying i xs ≡ []
 nothing_flies i [] others = refl
 nothing_flies i (None ∷ xs) others = nothing_flies i xs (λ k f e. others (suc k) f e)
 nothing_flies i (Some f ∷ xs) others =
     (λ j. words-other i f (others 0 f refl) j ++ nothing_flies i xs (λ k g e. others (suc k) g e) j)
 
--- where no flight of the sphere stands, it is shown as it is
+-- if no flight of the sphere is left, it is shown as it is
 shown_same : (w : World) (i : ℕ) → flying i w.slots ≡ [] → over (current w i) (sphere_at w i) ≡ sphere_at w i
 shown_same w i e = (λ j. over (lays (sphere_at w i).memory (e j)) (sphere_at w i))
 
@@ -76,7 +76,7 @@ serial_flies c w d h held none =
 
 -- ---- the event
 
--- an ask leaves flights with no more left than before, but for its move's
+-- an ask leaves flights with no more left than before, except for its move's
 pub ask-flies : (c : ℕ) (w : World) (d : ℕ) → IsGood w → Flies c w (asking w d)
 ask-flies c w d good =
     any-ask w (Flies c w) (λ r none. still_flies c w r) d (λ h how may chunk none. chunk_flies c w d h how (good.held d h may.is)) (λ h how may serial none. serial_flies c w d h (good.held d h may.is) none)
@@ -94,7 +94,7 @@ dma_most_is c w i within =
     ∙ ap (dma_most c) (dma-relaid w.devices (sphere_at w i) (current w i))
     ∙ dma_most_relaid c (current w i) (dma_moved w.devices (sphere_at w i))
 
--- a DMA leaves flights with no more left than before, but for its move's
+-- a DMA leaves flights with no more left than before, except for its move's
 pub dma-flies : (c : ℕ) (w : World) (i : ℕ) → Flies c w (transferring w i)
 dma-flies c w i =
     any-transfer w (Flies c w) (λ r none. still_flies c w r) i

@@ -1,4 +1,4 @@
--- Whatever the event, flights have no more left than before, but for the flight of its move.
+-- Whatever the event, flights have no more left than before, except for the flight of its move.
 use Rattle.std.proofs.Common.{◌≡◌, ℕ, ◌+◌, ◌≤◌, Option, Some, None, refl, ap, arith}
 use Rattle.spec_isa.specs.declared.thread.Parts.{Parts}
 use Rattle.spec_protocol.specs.declared.reply.Reply.{Reply}
@@ -31,11 +31,11 @@ still_flies c w r = omega arith
 
 -- a step adds nothing to what is left of the flights
 pub step-flies : (c : ℕ) (w : World) (d : ℕ) → Flies c w (stepping w d)
-step-flies c w d = any-step w (Flies c w) (λ r none. still_flies c w r) d (λ h is opened. omega arith)
+step-flies c w d = any-step w (Flies c w) (λ r none. still_flies c w r) d (λ h is opened. omega arith) (λ h y is e opened. omega arith)
 
 -- a cut adds nothing to what is left of the flights
 pub cut-flies : (c : ℕ) (w : World) (d : ℕ) → Flies c w (cutting w d)
-cut-flies c w d = any-cut w (Flies c w) (λ r none. still_flies c w r) d (λ h is. omega arith)
+cut-flies c w d = any-cut w (Flies c w) (λ r none. still_flies c w r) d (λ h is none. omega arith) (λ h y is e. omega arith)
 
 -- ---- flights
 

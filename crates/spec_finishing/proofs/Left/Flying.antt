@@ -1,12 +1,12 @@
--- Events of flights never make more of what is left of the flights.
-use Rattle.std.proofs.Common.{◌≡◌, ℕ, zero, suc, ◌≤◌, cond, List, [], ◌∷◌, length, Option, Some, None, refl, ap, arith, set}
+-- Events of flights never increase what is left of the flights.
+use Rattle.std.proofs.Common.{◌≡◌, ℕ, zero, suc, ◌≤◌, cond, List, [], ◌∷◌, length, Option, Some, None, refl, ap, arith, set, Bool, true, false}
 use Rattle.spec_isa.specs.Words.{Stored}
 use Rattle.spec_engine.specs.declared.answers.Deliver.{Deliver}
 use Rattle.spec_engine.specs.declared.answers.Retire.{Retire}
 use Rattle.spec_engine.specs.Signatures.{Signature}
 use Rattle.spec_engine.specs.Flights.{Flight, at, told_at, tell, meets_chunk, drain_words, deliver, Delivered, is_done, retire, Retired}
 use Rattle.spec_protocol.specs.machine.World.{World, Occupant, After, sphere_at, with_slot}
-use Rattle.spec_protocol.specs.machine.Flying.{drain_slot, draining, reads_of, writes_of, told, deliver_to, delivering, retiring}
+use Rattle.spec_protocol.specs.machine.Flying.{drain_slot, draining, reads_of, writes_of, told, deliver_to, delivering, retiring, younger_of, hits_younger}
 use Rattle.spec_protocol.proofs.Memory.Slots.{at_within}
 use Rattle.spec_protocol.proofs.Invariants.Cores.{branch}
 use Rattle.spec_finishing.specs.Rank.{flight_rank, flights_rank}
@@ -45,11 +45,12 @@ set_none c (x ∷ xs) zero e = omega arith
 set_none c (x ∷ xs) (suc k) e = let r = set_none c xs k e in omega (arith, r)
 
 -- what holds of the slots holds of them in the world in which a core was told
-pub told_world : (P : List (Option Flight) → Type 0) (w : World) (d : ℕ) (held : Option Occupant) (reply : Deliver) → P w.slots → P (told w d held reply).world.slots
-told_world P w d held Deliver.NoCommit p = p
-told_world P w d held Deliver.Already p = p
-told_world P w d held Deliver.Squashed p = p
-told_world P w d held Deliver.Delivered p = p
+pub told_world : (P : List (Option Flight) → Type 0) (w : World) (d : ℕ) (held : Option Occupant) (reply : Deliver) (hit : Bool) → P w.slots → P (told w d held reply hit).world.slots
+told_world P w d held Deliver.NoCommit hit p = p
+told_world P w d held Deliver.Already hit p = p
+told_world P w d held Deliver.Squashed hit p = p
+told_world P w d held Deliver.Delivered true p = p
+told_world P w d held Deliver.Delivered false p = p
 
 deliver_most : (c d : ℕ) (reads writes : Signature) (xs : List (Option Flight)) (k : ℕ) (o : Option Flight) → at xs k ≡ o → flights_rank c (set xs k (deliver d reads writes o).slot) ≤ flights_rank c xs
 deliver_most c d reads writes xs k None e = set_none c xs k e
@@ -63,7 +64,7 @@ deliver_most c d reads writes xs k (Some f) e =
 deliver_to_most : (c : ℕ) (w : World) (d k : ℕ) (held : Option Occupant) → NoMore c w (deliver_to w d k held)
 deliver_to_most c w d k held =
     let v = deliver d (reads_of w held) (writes_of w held) (at w.slots k) in
-    told_world (λ xs. flights_rank c xs ≤ flights_rank c w.slots) (with_slot w k v.slot) d held v.reply
+    told_world (λ xs. flights_rank c xs ≤ flights_rank c w.slots) (with_slot w k v.slot) d held v.reply (hits_younger (at w.slots k) (younger_of held))
     (deliver_most c d (reads_of w held) (writes_of w held) w.slots k (at w.slots k) refl)
 
 -- a delivery leaves the flights no more than they had

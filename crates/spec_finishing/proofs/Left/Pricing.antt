@@ -1,4 +1,4 @@
--- The price of work: none costs nothing, one unit as many events as there are cores and six, and two works what both do.
+-- The price of work: no work costs nothing, one unit as many events as there are cores plus six, and two works what both cost.
 use Rattle.std.proofs.Common.{◌≡◌, ℕ, zero, suc, ◌+◌, ◌*◌, ◌≤◌, inl, inr, ap, arith}
 use Rattle.std.proofs.lemmas.Bool.{cases_lt}
 use Rattle.spec_finishing.specs.Rank.{price}

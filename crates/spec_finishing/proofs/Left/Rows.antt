@@ -1,4 +1,4 @@
--- What is left of all spheres changes, where one of them does, by what is left of it.
+-- What is left of all spheres changes, if one of them does, by what is left of it.
 use Rattle.std.proofs.Common.{◌≡◌, ℕ, zero, suc, ◌+◌, ◌≤◌, false, List, [], ◌∷◌, Option, Some, refl, arith, set}
 use Rattle.std.specs.Prelude.{slice_get}
 use Rattle.std.proofs.lemmas.Bool.{true≢false}
@@ -26,7 +26,7 @@ spheres-set c (a ∷ images) (x ∷ ps) zero image p q there is =
     omega (arith, h, g)
 spheres-set c (a ∷ images) (x ∷ ps) (suc i) image p q there is = let r = spheres-set c images ps i image p q there is in omega (arith, r)
 
--- where one sphere pays, all do
+-- if one sphere pays, all do
 pub spheres-pay : (c : ℕ) (images : List SphereSetup) (ps : List Sphere) (i : ℕ) (image : SphereSetup) (p q : Sphere) (l n : ℕ) → slice_get images i ≡ Some image → slice_get ps i ≡ Some p → sphere_rank c image q + l ≤ sphere_rank c image p + n
     → spheres_rank c images (set ps i q) + l ≤ spheres_rank c images ps + n
 spheres-pay c images ps i image p q l n there is pays = let r = spheres-set c images ps i image p q there is in omega (arith, r, pays)

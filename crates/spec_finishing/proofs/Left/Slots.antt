@@ -1,4 +1,4 @@
--- What is left to do of the flights, after a slot has changed, a core was told or a new flight stands.
+-- What is left to do of the flights, after a slot has changed, a core was told or a new flight was added.
 use Rattle.std.proofs.Common.{◌≡◌, ℕ, zero, suc, ◌+◌, ◌<◌, ◌≤◌, inl, inr, Bool, true, false, cond, List, [], ◌∷◌, length, Option, Some, None, refl, ap, ◌∙◌, arith, set}
 use Rattle.std.proofs.lemmas.Bool.{cases_eq}
 use Rattle.spec_isa.specs.Words.{Stored}

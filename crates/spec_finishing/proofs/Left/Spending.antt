@@ -1,4 +1,4 @@
--- No event makes more of what is left but by its own work, and a move of a replay makes it less.
+-- No event increases what is left, except by its own work, and a move of a replay reduces it.
 use Rattle.std.proofs.Common.{◌≡◌, ℕ, ◌+◌, ◌<◌, ◌≤◌, Option, Some, None, refl, ap, ◌∙◌, subst, arith}
 use Rattle.std.specs.Prelude.{slice_get}
 use Rattle.std.proofs.lemmas.Option.{none-some}
@@ -55,7 +55,7 @@ if_pays s z x (Some m) positive stands fits = move-pays s.cores s z x m positive
 shown_rank : (s : Setup) (w : World) → spheres_rank s.cores s.spheres (shown_of w).spheres ≡ spheres_rank s.cores s.spheres w.spheres
 shown_rank s w = spheres-shown s.cores s.spheres w.slots 0 w.spheres
 
--- an event makes no more of what is left than the price of its move's work
+-- an event increases what is left by no more than the price of its move's work
 pub happens-spends : (s : Setup) (w : World) (e : Event) → Known s w → potential s (happens w e).world ≤ potential s w + price s.cores (if_work (shown_of w) (happens w e).move)
 happens-spends s w e known =
     let a = happens w e in
@@ -79,7 +79,7 @@ moves_more s w a m (Some n) p b e move known kept flies is role =
     let same = ap (λ (x : SerialState). spheres_rank s.cores s.spheres x.spheres) (kept.whole ∙ ap (do_if w.numbers (shown_of w)) (move ∙ e)) in
     omega (arith, flies, pays, now, was, same, most)
 
--- a move of a replay makes it less, by the events behind it
+-- a move of a replay reduces it, by that move's events
 pub happens-less : (s : Setup) (w : World) (e : Event) (m : Move) (p : Sphere) (b : Cursor) → Known s w → (happens w e).move ≡ Some m → slice_get (shown_of w).spheres m.sphere ≡ Some p → p.role ≡ Replay b
     → potential s (happens w e).world + what_more m.what ≤ potential s w
 happens-less s w e m p b known move is role =

@@ -1,4 +1,4 @@
--- Where the next event of finishing is a step, and its instruction ran, the next event is that step again.
+-- If the next event of finishing is a step, and its instruction ran, the next event is that step again.
 use Rattle.std.proofs.Common.{◌≡◌, ℕ, ◌/◌, Bool, true, false, eqb, cond, List, [], ◌∷◌, length, Option, Some, None, refl, sym, ap, ◌∙◌, subst}
 use Rattle.std.proofs.Math.Nat.{mod-eq_of_lt}
 use Rattle.std.proofs.lemmas.Option.{none-some}
@@ -16,7 +16,7 @@ use Rattle.spec_protocol.specs.declared.event.Event.{Event}
 use Rattle.spec_protocol.specs.declared.reply.Reply.{Reply}
 use Rattle.spec_protocol.specs.machine.Spheres.{is_stopped}
 use Rattle.spec_protocol.specs.machine.World.{World, Occupant, After, sphere_at, runs, core_of, answered}
-use Rattle.spec_protocol.specs.machine.Stepping.{reply_of_step, stepped, step_held, stepping}
+use Rattle.spec_protocol.specs.machine.Stepping.{reply_of_step, stepped, step_held, stepping, younger_for, step_younger}
 use Rattle.spec_protocol.specs.machine.Machine.{core_no, act, with_event, happens}
 use Rattle.spec_protocol.specs.machine.Finishing.{Who, least, standing, untold, deliver_or_retire, for_flight, for_held, for_core, for_actor, for_who, for_slot, for_standing, next}
 use Rattle.spec_protocol.proofs.Memory.Slots.{at-set_same, at_within}
@@ -25,7 +25,7 @@ use Rattle.spec_finishing.proofs.Next.UnderWay.{OnCore, on-core}
 use Rattle.spec_finishing.proofs.Next.StepRises.{step-rises}
 use Rattle.spec_finishing.proofs.Next.Cores.{first_set, runs_it, step_is}
 
--- ---- a step leaves its chunk open, where its instruction ran
+-- ---- a step leaves its chunk open, if its instruction ran
 
 pub record Opens (s : Stepping) : Type 0 where
   pub opened : s.reply ≡ Stepped.Ran → is_open s.chunk ≡ true
@@ -79,9 +79,9 @@ step_opens capacity m xs c ch open_ =
     (λ _. reading_opens xs c ch a (running capacity shown xs c (read shown a)) (running_opens capacity shown xs c (read shown a) (marked ch a) open_))
     (λ _. closes_opens How.Serial ch)
 
--- ---- where a step is next
+-- ---- if a step is next
 
--- no flight stands, it is a thread's turn, and that thread's chunk is open on the core
+-- no flight is left, it is a thread's turn, and that thread's chunk is open on the core
 pub record StepIsNext (w : World) (c : ℕ) : Type 0 where
   pub none : standing w ≡ None
   pub sphere : ℕ
@@ -166,7 +166,7 @@ unfolding stepping
 stopped_is w c h is stopped =
     let s = step w.numbers.capacity (sphere_at w h.chunk.sphere).memory w.slots c h.chunk in
     ap (step_held w c) is
-    ∙ ap {A = Bool} (λ b. cond b (answered w Reply.Stopped) (cond (is_open h.chunk) (stepped w c h s) (answered w Reply.Waiting))) stopped
+    ∙ ap {A = Bool} (λ b. cond b (answered w Reply.Stopped) (cond (is_open h.chunk) (stepped w c h s) (step_younger w c h (younger_for w.numbers (sphere_at w h.chunk.sphere).role h h.younger)))) stopped
 
 step_again : (w : World) (c : ℕ) (n : StepIsNext w c) (b : Bool) → is_stopped (sphere_at w n.held.chunk.sphere).role ≡ b → Again c (stepping w c)
 step_again w c n true stopped = subst (Again c) (sym (stopped_is w c n.held n.on.there stopped)) (λ e. absurd (cc))

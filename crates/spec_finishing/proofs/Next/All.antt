@@ -1,4 +1,4 @@
--- Whatever the next event of finishing is, it is done and makes less of what is left; and without one all is finished.
+-- Whatever the next event of finishing is, it is done and reduces what is left; and if there is none, all is finished.
 use Rattle.std.proofs.Common.{◌≡◌, ℕ, ◌+◌, ◌<◌, ◌≤◌, Bool, true, false, cond, length, Option, Some, None, refl, sym, ap, ◌∙◌, subst, arith}
 use Rattle.std.specs.Prelude.{slice_get}
 use Rattle.std.proofs.Math.Nat.{mod-eq_of_lt}
@@ -43,7 +43,7 @@ core_is w c h there = mod-eq_of_lt (at_within w.cores c h there)
 -- ---- Step
 
 step_move : (w : World) (c : ℕ) → (stepping w c).move ≡ None
-step_move w c = any-step w (λ (a : After). a.move ≡ None) (λ r none. refl) c (λ h is opened. refl)
+step_move w c = any-step w (λ (a : After). a.move ≡ None) (λ r none. refl) c (λ h is opened. refl) (λ h y is e opened. refl)
 
 step_act : (s : Setup) (w : World) (who : Who) (k c : ℕ) (h : Occupant) → Known s w → Known s (happens w (Event.Step c)).world → standing w ≡ None → least 0 w.spheres ≡ Some who → who.actor ≡ Actor.Thread k → core_of w who.sphere k ≡ Some c → OnCore w who.sphere k c h → is_open h.chunk ≡ true
     → Lowers s w (Event.Step c)
@@ -173,14 +173,14 @@ standing_next w None none e = (none, who_next w (least 0 w.spheres) e)
 standing_next w (Some k) stands e =
     let f = first_some (λ (x : Flight). true) w.slots k stands in absurd (none-some _ (sym (sym (ap (for_slot w k) f.1) ∙ e)))
 
--- where there is no next event all is finished
+-- if there is no next event, all is finished
 pub next-none : (w : World) → next w ≡ None → IsFinished w
 unfolding next
 next-none w e =
     let r = standing_next w (standing w) refl e in
     record { flights = no-flight w r.0; replays = least-none 0 w.spheres r.1 }
 
--- where there is no next event no flight stands
+-- if there is no next event, no flight is left
 pub next-stands : (w : World) → next w ≡ None → standing w ≡ None
 unfolding next
 next-stands w e = (standing_next w (standing w) refl e).0

@@ -1,4 +1,4 @@
--- Where no flight stands and it is an actor's turn, its commit is done: a closed chunk's ask, or a DMA.
+-- If no flight is left and it is an actor's turn, its commit is done: a closed chunk's ask, or a DMA.
 use Rattle.std.proofs.Common.{◌≡◌, ℕ, ◌+◌, ◌<◌, ◌≤◌, Bool, true, false, eqb, cond, List, length, Option, Some, None, refl, sym, ap, ◌∙◌, subst, arith}
 use Rattle.std.proofs.lemmas.Bool.{true≢false, and_parts, eqb-true, eq-eqb}
 use Rattle.dl_entry.specs.declared.Actor.{Actor}
@@ -31,7 +31,7 @@ pub record Commits (i n : ℕ) (a : After) : Type 0 where
   pub sphere : move.sphere ≡ i
   pub more : n + 3 ≤ what_more move.what
 
--- ---- with no flight standing
+-- ---- with no flight left
 
 not_full : (xs : List (Option Flight)) (o : Option ℕ) → free_slot xs ≡ o → ((k : ℕ) → at xs k ≡ None) → 0 < length xs → is_none o ≡ false
 not_full xs None e none l = absurd (true≢false (sym (ap is_none (none 0)) ∙ full_at xs e 0 l))

@@ -1,4 +1,4 @@
--- Where no flight stands and it is a thread's turn, placing it or stepping its chunk makes less of what is left.
+-- If no flight is left and it is a thread's turn, placing it or stepping its chunk reduces what is left.
 use Rattle.std.proofs.Common.{◌≡◌, ℕ, suc, ◌<◌, Bool, true, false, eqb, cond, List, length, Option, Some, None, refl, sym, ap, ◌∙◌, subst, arith, set}
 use Rattle.std.specs.Prelude.{slice_get}
 use Rattle.std.proofs.Math.ListN.{length-set}
@@ -13,7 +13,7 @@ use Rattle.spec_engine.proofs.Searches.{first_least, first_is}
 use Rattle.spec_protocol.specs.declared.reply.Reply.{Reply}
 use Rattle.spec_protocol.specs.machine.Spheres.{Sphere, is_stopped, limit_of, halves}
 use Rattle.spec_protocol.specs.machine.World.{World, Occupant, After, sphere_at, with_core, thread_afresh, held_afresh, runs, core_of, answered}
-use Rattle.spec_protocol.specs.machine.Stepping.{stepped, step_held, stepping}
+use Rattle.spec_protocol.specs.machine.Stepping.{stepped, step_held, stepping, younger_for, step_younger}
 use Rattle.spec_protocol.specs.machine.Placing.{unless_elsewhere, place_thread, placing}
 use Rattle.spec_protocol.specs.machine.Machine.{Setup}
 use Rattle.spec_protocol.specs.machine.Finishing.{standing}
@@ -39,7 +39,7 @@ first_set p xs c v found l e =
     (λ j m. ap (passes p) (at-set_other xs c j (Some v) (λ h. omega arith)) ∙ passes_no p (at xs j) (λ x h. first_least p xs c found j x m h))
     (ap (passes p) (at-set_same xs c (Some v) l) ∙ e))
 
--- what is put in the first place is found, where nothing was
+-- what is put in the first place is found, if nothing was
 first_put : {A : Type 0} (p : A → Bool) (xs : List (Option A)) (v : A) → 0 < length xs → p v ≡ true → first_slot p (set xs 0 (Some v)) ≡ Some 0
 first_put p xs v l e =
     sym (first_is p (set xs 0 (Some v)) 0 (let h = length-set xs 0 (Some v) in omega (arith, h)) (λ j m. absurd (omega arith)) (ap (passes p) (at-set_same xs 0 (Some v) l) ∙ e))
@@ -50,7 +50,7 @@ runs_it i k h sphere thread = and_from (eqb h.chunk.sphere i) (eqb h.thread k) (
 
 -- ---- one core changes
 
--- the event is done, changes core c alone, which runs the thread then, and more is under way
+-- the event is done, changes only core c, which then runs the thread, and more is under way
 pub record Rose (w : World) (i k : ℕ) (a : After) : Type 0 where
   pub done : furthers_finishing a.reply ≡ true
   pub core : ℕ
@@ -67,11 +67,12 @@ pub step_is : (w : World) (c : ℕ) (h : Occupant) → at w.cores c ≡ Some h �
 unfolding stepping
 step_is w c h is going open_ =
     let s = step w.numbers.capacity (sphere_at w h.chunk.sphere).memory w.slots c h.chunk in
+    let closed = step_younger w c h (younger_for w.numbers (sphere_at w h.chunk.sphere).role h h.younger) in
     ap (step_held w c) is
-    ∙ ap {A = Bool} (λ b. cond b (answered w Reply.Stopped) (cond (is_open h.chunk) (stepped w c h s) (answered w Reply.Waiting))) going
-    ∙ ap {A = Bool} (λ b. cond b (stepped w c h s) (answered w Reply.Waiting)) open_
+    ∙ ap {A = Bool} (λ b. cond b (answered w Reply.Stopped) (cond (is_open h.chunk) (stepped w c h s) closed)) going
+    ∙ ap {A = Bool} (λ b. cond b (stepped w c h s) closed) open_
 
--- the step's chunk is begun further
+-- the step's chunk has got further
 pub record StepRose (w : World) (i k : ℕ) (n : ℕ) (a : After) : Type 0 where
   pub rose : Rose w i k a
   pub more : suc n < held_under_way (Some rose.held)
@@ -102,7 +103,7 @@ step-rose s w i k c h none a on found open_ =
 
 -- ---- Place
 
--- the thread lives
+-- the thread is live
 thread_lives : (s : Setup) (w : World) (i k : ℕ) → HasActor s w i (Actor.Thread k) → (t : Parts) × (slice_get (sphere_at w i).threads k ≡ Some t) × (is_live t ≡ true)
 thread_lives s w i k a =
     let h = has-run a.image a.sphere a.cursor k a.goes (turn-of s w i k a) in
@@ -113,7 +114,7 @@ thread_lives s w i k a =
 abbrev new_held : World → (i k : ℕ) → Parts → Occupant
 new_held w i k t =
     let p = sphere_at w i in
-    record { thread = k; chunk = fresh w.numbers.bits i t (limit_of w.numbers.s p.role k t) (halves p.role) }
+    record { thread = k; chunk = fresh w.numbers.bits i t (limit_of w.numbers.s p.role k t) (halves p.role); younger = None }
 
 chunk_is : (w : World) (i k : ℕ) (t : Parts) → slice_get (sphere_at w i).threads k ≡ Some t → is_live t ≡ true → held_afresh w.numbers i k (sphere_at w i) ≡ Some (new_held w i k t)
 chunk_is w i k t is live =

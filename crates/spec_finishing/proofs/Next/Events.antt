@@ -1,5 +1,5 @@
--- Where a flight stands, or a thread is on no core, the next event of finishing is done and makes less of what is left.
-use Rattle.std.proofs.Common.{◌≡◌, ℕ, ◌<◌, true, List, [], ◌∷◌, length, Option, Some, None, refl, sym, ap, ◌∙◌, subst, arith}
+-- If there is a flight, or a thread is on no core, the next event of finishing is done and reduces what is left.
+use Rattle.std.proofs.Common.{◌≡◌, ℕ, ◌<◌, true, List, [], ◌∷◌, length, Option, Some, None, refl, sym, ap, ◌∙◌, subst, arith, Bool, false}
 use Rattle.std.proofs.Math.Nat.{mod-eq_of_lt}
 use Rattle.dl_entry.specs.declared.Actor.{Actor}
 use Rattle.spec_isa.specs.Words.{Stored}
@@ -7,7 +7,7 @@ use Rattle.spec_engine.specs.declared.answers.Deliver.{Deliver}
 use Rattle.spec_engine.specs.Flights.{Flight, at, deliver}
 use Rattle.spec_protocol.specs.declared.event.Event.{Event}
 use Rattle.spec_protocol.specs.machine.World.{World, Occupant, After, with_slot, core_of}
-use Rattle.spec_protocol.specs.machine.Flying.{drain_slot, draining, told, delivering, reads_of, writes_of, retiring}
+use Rattle.spec_protocol.specs.machine.Flying.{drain_slot, draining, told, delivering, reads_of, writes_of, retiring, younger_of, hits_younger}
 use Rattle.spec_protocol.specs.machine.Placing.{placing}
 use Rattle.spec_protocol.specs.machine.Machine.{Setup, core_no, sphere_no, slot_no, act, with_event, happens}
 use Rattle.spec_protocol.specs.machine.Serial.{SerialState}
@@ -34,7 +34,7 @@ pub record Lowers (s : Setup) (w : World) (e : Event) : Type 0 where
   pub less : rank s (happens w e).world < rank s w
   pub alone : OfReplay w (happens w e).move
 
--- ---- a flight stands
+-- ---- there is a flight
 
 no_move_spheres : (s : Setup) (w : World) (e : Event) → Known s w → (happens w e).move ≡ None → spheres_rank s.cores s.spheres (happens w e).world.spheres ≡ spheres_rank s.cores s.spheres w.spheres
 no_move_spheres s w e known none =
@@ -68,11 +68,12 @@ drain_move : (w : World) (k : ℕ) (o : Option Flight) → (drain_slot w k o).mo
 drain_move w k None = refl
 drain_move w k (Some f) = refl
 
-told_move : (w : World) (c : ℕ) (held : Option Occupant) (reply : Deliver) → (told w c held reply).move ≡ None
-told_move w c held Deliver.NoCommit = refl
-told_move w c held Deliver.Already = refl
-told_move w c held Deliver.Squashed = refl
-told_move w c held Deliver.Delivered = refl
+told_move : (w : World) (c : ℕ) (held : Option Occupant) (reply : Deliver) (hit : Bool) → (told w c held reply hit).move ≡ None
+told_move w c held Deliver.NoCommit hit = refl
+told_move w c held Deliver.Already hit = refl
+told_move w c held Deliver.Squashed hit = refl
+told_move w c held Deliver.Delivered true = refl
+told_move w c held Deliver.Delivered false = refl
 
 slot_is : (w : World) (k : ℕ) (f : Flight) → at w.slots k ≡ Some f → slot_no w k ≡ k
 slot_is w k f is = mod-eq_of_lt (at_within w.slots k f is)
@@ -93,7 +94,7 @@ deliver_act s w c k f known stands is found =
     flight_falls s w (Event.Deliver c k) k known stands
     (subst (λ (e : ℕ). FlightFalls s.cores w (delivering w e j)) (sym core)
     (subst (λ (e : ℕ). FlightFalls s.cores w (delivering w c e)) (sym (slot_is w k f is)) (deliver-falls s.cores w c k f is found)))
-    (let held = at w.cores d in let v = deliver d (reads_of w held) (writes_of w held) (at w.slots j) in told_move (with_slot w j v.slot) d held v.reply)
+    (let held = at w.cores d in let v = deliver d (reads_of w held) (writes_of w held) (at w.slots j) in told_move (with_slot w j v.slot) d held v.reply (hits_younger (at w.slots j) (younger_of held)))
 
 retire_act : (s : Setup) (w : World) (k : ℕ) (f : Flight) → Known s w → standing w ≡ Some k → at w.slots k ≡ Some f → f.words ≡ [] → untold 0 (length w.cores) f.told ≡ None → Lowers s w (Event.Retire k)
 unfolding act retiring
@@ -107,7 +108,7 @@ told_falls s w k f None known stands is words e = retire_act s w k f known stand
 told_falls s w k f (Some c) known stands is words e =
     deliver_act s w c k f known stands is (ap (λ (n : ℕ). untold 0 n f.told) (sym known.sizes.cores) ∙ e)
 
--- the next event of a standing flight leaves less
+-- the next event of a flight leaves less
 pub words_fall : (s : Setup) (w : World) (k : ℕ) (f : Flight) (ws : List Stored) → Known s w → standing w ≡ Some k → at w.slots k ≡ Some f → f.words ≡ ws → Lowers s w (for_flight (length w.cores) k f ws)
 words_fall s w k f [] known stands is words = told_falls s w k f (untold 0 (length w.cores) f.told) known stands is words refl
 words_fall s w k f (x ∷ xs) known stands is words = drain_act s w k f x xs known stands is words
@@ -132,7 +133,7 @@ reply_happens : (w : World) (e : Event) → (happens w e).reply ≡ (act w e).re
 unfolding happens
 reply_happens w e = refl
 
--- an event by which a thread's chunk has come further, and which moves nothing, leaves less
+-- an event by which a thread's chunk has got further, and which moves nothing, leaves less
 pub rose_falls : (s : Setup) (w : World) (who : Who) (k : ℕ) (e : Event) → Known s w → Known s (happens w e).world → standing w ≡ None → least 0 w.spheres ≡ Some who → who.actor ≡ Actor.Thread k → (r : Rose w who.sphere k (act w e)) → (act w e).move ≡ None → under_way w < held_under_way (Some r.held) → Lowers s w e
 rose_falls s w who k e known next_known none is thread r no_move more =
     let now = ap under_way (world_happens w e) ∙ rose_under_way w who k (act w e) none is thread r in

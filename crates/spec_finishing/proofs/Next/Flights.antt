@@ -1,4 +1,4 @@
--- Where a flight stands, the next event of finishing is done and makes less of what is left of the flights.
+-- If there is a flight, the next event of finishing is done and reduces what is left of the flights.
 use Rattle.std.proofs.Common.{◌≡◌, ℕ, zero, suc, ◌+◌, ◌<◌, ◌≤◌, inl, inr, Bool, true, false, cond, List, [], ◌∷◌, length, Option, Some, None, refl, sym, ap, ◌∙◌, subst, arith, set}
 use Rattle.std.proofs.lemmas.Bool.{cases_eq, and_from}
 use Rattle.std.proofs.lemmas.Option.{none-some}
@@ -8,7 +8,7 @@ use Rattle.spec_engine.specs.declared.answers.Retire.{Retire}
 use Rattle.spec_engine.specs.Flights.{Flight, at, told_at, all_told, tell, meets_chunk, has_none, deliver, Delivered, is_done, retire, Retired}
 use Rattle.spec_engine.proofs.Searches.{all_told-from}
 use Rattle.spec_protocol.specs.machine.World.{World, Occupant, After, with_slot, answered}
-use Rattle.spec_protocol.specs.machine.Flying.{drain_slot, draining, reads_of, writes_of, told, deliver_to, delivering, reply_of_retire, retiring}
+use Rattle.spec_protocol.specs.machine.Flying.{drain_slot, draining, reads_of, writes_of, told, deliver_to, delivering, reply_of_retire, retiring, younger_of, hits_younger}
 use Rattle.spec_protocol.specs.machine.Finishing.{untold}
 use Rattle.spec_protocol.proofs.Memory.Slots.{at_within}
 use Rattle.spec_finishing.specs.Rank.{flight_rank, flights_rank}
@@ -51,18 +51,20 @@ untold_some : (c n d t : ℕ) → untold c n t ≡ Some d → (d < c + n) × (to
 untold_some c zero d t e = absurd (none-some d e)
 untold_some c (suc n) d t e = untold_if (told_at t c) c n d t refl e (untold_some (suc c) n d t)
 
-told_reply : (w : World) (d : ℕ) (held : Option Occupant) (b : Bool) → furthers_finishing (told w d held (cond b Deliver.Squashed Deliver.Delivered)).reply ≡ true
-told_reply w d held true = refl
-told_reply w d held false = refl
+told_reply : (w : World) (d : ℕ) (held : Option Occupant) (b hit : Bool) → furthers_finishing (told w d held (cond b Deliver.Squashed Deliver.Delivered) hit).reply ≡ true
+told_reply w d held true hit = refl
+told_reply w d held false true = refl
+told_reply w d held false false = refl
 
 delivered : (c : ℕ) (w : World) (d k : ℕ) (held : Option Occupant) (f : Flight) → at w.slots k ≡ Some f → d < c → told_at f.told d ≡ false → FlightFalls c w (deliver_to w d k held)
 delivered c w d k held f is l untold_ =
-    subst (λ (o : Option Flight). FlightFalls c w (let v = deliver d (reads_of w held) (writes_of w held) o in told (with_slot w k v.slot) d held v.reply)) (sym is)
-    (subst (λ (b : Bool). FlightFalls c w (let v = cond {A = Delivered} b (record { reply = Deliver.Already; slot = Some f }) (record { reply = cond (meets_chunk (reads_of w held) (writes_of w held) f) Deliver.Squashed Deliver.Delivered; slot = Some (tell f d) }) in told (with_slot w k v.slot) d held v.reply)) (sym untold_)
+    subst (λ (o : Option Flight). FlightFalls c w (let v = deliver d (reads_of w held) (writes_of w held) o in told (with_slot w k v.slot) d held v.reply (hits_younger o (younger_of held)))) (sym is)
+    (subst (λ (b : Bool). FlightFalls c w (let v = cond {A = Delivered} b (record { reply = Deliver.Already; slot = Some f }) (record { reply = cond (meets_chunk (reads_of w held) (writes_of w held) f) Deliver.Squashed Deliver.Delivered; slot = Some (tell f d) }) in told (with_slot w k v.slot) d held v.reply (hits_younger (Some f) (younger_of held)))) (sym untold_)
     (let b = meets_chunk (reads_of w held) (writes_of w held) f in
+    let hit = hits_younger (Some f) (younger_of held) in
     record {
-      done = told_reply (with_slot w k (Some (tell f d))) d held b;
-      less = told_world (λ xs. flights_rank c xs < flights_rank c w.slots) (with_slot w k (Some (tell f d))) d held (cond b Deliver.Squashed Deliver.Delivered)
+      done = told_reply (with_slot w k (Some (tell f d))) d held b hit;
+      less = told_world (λ xs. flights_rank c xs < flights_rank c w.slots) (with_slot w k (Some (tell f d))) d held (cond b Deliver.Squashed Deliver.Delivered) hit
           (set_less c w.slots k f (Some (tell f d)) is (let h = untold-tell c f d l untold_ in omega (arith, h)));
     }))
 

@@ -1,4 +1,4 @@
--- With no flight standing a step of an open chunk is never held up: it runs an instruction or closes the chunk.
+-- With no flight left, a step of an open chunk is never held up: it runs an instruction or closes the chunk.
 use Rattle.std.proofs.Common.{◌≡◌, ℕ, suc, ◌+◌, ◌/◌, ◌<◌, Bool, true, eqb, cond, List, length, Option, Some, None, refl, sym, ap, ◌∙◌, arith}
 use Rattle.std.proofs.lemmas.Option.{none-some}
 use Rattle.spec_isa.specs.Words.{lays, read, is_inside}
@@ -19,7 +19,7 @@ pub record Rises (i n : ℕ) (s : Stepping) : Type 0 where
   pub done : furthers_finishing (reply_of_step s.reply) ≡ true
   pub more : n < s.chunk.done.n + cond (is_open s.chunk) 0 1
 
--- where every slot is free, none is found
+-- if every slot is free, none is found
 pub none_found : (p : Flight → Bool) (xs : List (Option Flight)) (o : Option ℕ) → first_slot p xs ≡ o → ((k : ℕ) → at xs k ≡ None) → o ≡ None
 none_found p xs None e none = refl
 none_found p xs (Some k) e none = let f = first_some p xs k e in absurd (none-some f.0 (sym (none k) ∙ f.1))

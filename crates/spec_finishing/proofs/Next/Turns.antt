@@ -1,4 +1,4 @@
--- Where no flight stands: the replay whose turn it is, which is shown as it is.
+-- If no flight is left: the replay whose turn it is, which is shown as it is.
 use Rattle.std.proofs.Common.{◌≡◌, ℕ, zero, suc, ◌+◌, ◌<◌, true, false, List, [], ◌∷◌, length, Option, Some, None, refl, sym, ap, ◌∙◌, subst, arith, get_or}
 use Rattle.std.specs.Prelude.{slice_get}
 use Rattle.std.proofs.lemmas.Bool.{true≢false}
@@ -18,7 +18,7 @@ use Rattle.spec_finishing.proofs.Paying.GoingOn.{GoesOn}
 use Rattle.spec_finishing.proofs.Left.AnyAsk.{nothing_flies}
 use Rattle.spec_finishing.proofs.Ending.Knowing.{Known}
 
--- ---- the least replay that goes on
+-- ---- the lowest replay that still goes on
 
 pub record FoundIn (i : ℕ) (ps : List Sphere) (who : Who) : Type 0 where
   pub index : ℕ
@@ -78,16 +78,16 @@ ends_of i Plain others e = (tt, e)
 ends_of i (Record recording) others e = (tt, e)
 ends_of i (Replay b) others e = ends_in i b (actor_of b.now) others refl e
 
--- where no sphere is the next to go on, no replay is short of its end
+-- if no sphere is the next to go on, no replay is short of its end
 pub least-none : (i : ℕ) (ps : List Sphere) → least i ps ≡ None → (j : ℕ) (p : Sphere) → slice_get ps j ≡ Some p → IsAtEnd p.role
 least-none i [] e j p is = absurd (none-some p is)
 least-none i (q ∷ ps) e zero p is =
     let h : q ≡ p = cc in subst (λ (y : Sphere). IsAtEnd y.role) h (ends_of i q.role (least (suc i) ps) e).0
 least-none i (q ∷ ps) e (suc j) p is = least-none (suc i) ps (ends_of i q.role (least (suc i) ps) e).1 j p is
 
--- ---- no flight stands
+-- ---- no flight is left
 
--- where no flight is left standing every slot is free
+-- if no flight is left, every slot is free
 pub no-flight : (w : World) → standing w ≡ None → (k : ℕ) → at w.slots k ≡ None
 no-flight w none k = empty_slot w none k (at w.slots k) refl
   where
@@ -103,7 +103,7 @@ shown_itself : (xs : List (Option Flight)) (n : ℕ) (ps : List Sphere) → ((j 
 shown_itself xs n [] empty = refl
 shown_itself xs n (p ∷ ps) empty = (λ j. itself xs n p empty j ∷ shown_itself xs (suc n) ps empty j)
 
--- where no flight stands the spheres are shown as they are
+-- if no flight is left, the spheres are shown as they are
 pub shown-itself : (w : World) → standing w ≡ None → (shown_of w).spheres ≡ w.spheres
 shown-itself w none =
     shown_itself w.slots 0 w.spheres (λ i. nothing_flies i w.slots (λ k f e. absurd (none-some f (sym (no-flight w none k) ∙ e))))
@@ -165,6 +165,6 @@ thread_turn (Turn j) k e = let h : j ≡ k = cc in ap Turn h
 thread_turn TurnOfDma k e = cc
 thread_turn (Ended how) k e = absurd (none-some (Actor.Thread k) e)
 
--- where a thread has the turn the replay's cursor says so
+-- if a thread has the turn, the replay's cursor says so
 pub turn-of : (s : Setup) (w : World) (i k : ℕ) → (h : HasActor s w i (Actor.Thread k)) → h.cursor.now ≡ Turn k
 turn-of s w i k h = thread_turn h.cursor.now k h.turn

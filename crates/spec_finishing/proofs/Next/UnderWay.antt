@@ -39,7 +39,7 @@ closes_most capacity ch (Some How.Serial) e closes = let l = closes.early How.Se
 closes_most capacity ch (Some How.Overflow) e closes = let l = closes.early How.Overflow e (λ h. cc) in omega (arith, l)
 closes_most capacity ch (Some How.Cut) e closes = let l = closes.early How.Cut e (λ h. cc) in omega (arith, l)
 
--- with no flight standing, a chunk is what its instructions do on its sphere's memory
+-- with no flight left, a chunk is what its instructions do on its sphere's memory
 chunk_ran : (s : Setup) (w : World) (c : ℕ) (h : Occupant) → Known s w → standing w ≡ None → at w.cores c ≡ Some h → (run (sphere_at w h.chunk.sphere).memory h.chunk.start h.chunk.done.n).n ≡ h.chunk.done.n
 chunk_ran s w c h known none is =
     let i = h.chunk.sphere in
@@ -123,12 +123,12 @@ under_way-most s w known = standing_most s w (standing w) known refl
 
 -- ---- how much is under way
 
--- while a flight stands nothing counts as under way
+-- while there is a flight, nothing counts as under way
 pub under_way-flight : (w : World) (k : ℕ) → standing w ≡ Some k → under_way w ≡ 0
 unfolding under_way
 under_way-flight w k e = ap (standing_under_way w) e
 
--- where no flight stands, what is under way is what the next replay's actor has begun
+-- if no flight is left, what is under way is what the next replay's actor has begun
 pub under_way-actor : (w : World) (who : Who) → standing w ≡ None → least 0 w.spheres ≡ Some who → under_way w ≡ actor_under_way w who.sphere who.actor
 unfolding under_way
 under_way-actor w who none e = ap (standing_under_way w) none ∙ ap (who_under_way w) e

@@ -20,7 +20,7 @@ use Rattle.spec_finishing.proofs.Paying.Runs.{run-longer, run-joined, run-serial
 
 -- ---- the limit of a commit, and what its play runs
 
--- the play runs as many instructions as the limit says, but none where 1 stands for a logged 0
+-- the play runs as many instructions as the limit says, except that it runs none if the limit of 1 is for a logged 0
 abbrev LimitIs : (whole size : ℕ) → Type 0
 LimitIs whole size = (whole ≡ size) ⊎ ((size ≡ 0) × (whole ≡ 1))
 
@@ -34,7 +34,7 @@ limit_is log k commits = size_limit log.s (size_in log (Actor.Thread k) commits)
 
 -- ---- what is afforded
 
--- the next commit has more work than the instructions that were run, in pieces and since; or it is a lone one in place of a logged 0
+-- the next commit has more work than the instructions that were run, in pieces and since; or it is a single one in place of a logged 0
 pub data Afforded (work total n : ℕ) : Type 0 where
   Enough : total + suc n ≤ work → Afforded work total n
   Lone : total ≡ 0 → n ≤ 1 → 1 ≤ work → Afforded work total n
@@ -83,7 +83,7 @@ afforded log y k t total n turn is ran more within most =
 pieces_same : (k total : ℕ) → pieces_of (Turn k) k total ≡ total
 pieces_same k total = ap (λ (b : Bool). cond b total 0) (eq-eqb k k refl)
 
--- of the commit's limit the pieces are taken off
+-- the pieces are taken off the commit's limit
 pub part-limit : (s : ℕ) (b : Cursor) (k : ℕ) (m : List ℕ) (t : Parts) → b.now ≡ Turn k → limit_of s (Replay b) k (run m t b.total).thread ≡ max 1 (whole_limit b.log k t.commits - b.total)
 unfolding limit_of
 part-limit s b k m t turn =

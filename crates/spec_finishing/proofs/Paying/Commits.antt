@@ -1,4 +1,4 @@
--- A commit or a piece of a replay pays, with what its play has left less, for a new flight and for the events behind it.
+-- A commit or a piece of a replay pays, with the work that its play then no longer has left, for a new flight and its events.
 use Rattle.std.proofs.Common.{◌≡◌, ◌≢◌, ℕ, suc, ◌+◌, ◌-◌, ◌<◌, ◌≤◌, Bool, true, false, [], ◌∷◌, ◌++◌, Some, refl, sym, ap, ◌∙◌, subst, arith}
 use Rattle.std.specs.Prelude.{slice_get}
 use Rattle.std.proofs.lemmas.Bool.{true≢false}
@@ -34,7 +34,7 @@ use Rattle.spec_play.proofs.Positions.{position-more}
 abbrev pub next_work : SphereSetup → Sphere → Cursor → ℕ
 next_work image p b = commit_work b.log (play_of image b p)
 
--- the work that a play has behind its next commit
+-- the work that a play has after its next commit
 abbrev pub behind : SphereSetup → Sphere → Cursor → ℕ
 behind image p b = later b.log (first_played image b.log) (position p.progress)
 
@@ -60,8 +60,8 @@ how_some How.Cut n capacity positive cut room e = cut refl
 
 -- with c cores, the replay p of that image, with cursor b, goes on
 module _ (c : ℕ) (image : SphereSetup) (p : Sphere) (b : Cursor) (role : p.role ≡ Replay b) (going : is_over b.now ≡ false) (g : GoesOn image p b) where
-  -- what a replay that goes on has left: the price of its next commit and of those behind, but for the pieces that are
-  -- done
+  -- what a replay that goes on has left: the price of its next commit and of those after it, except for the pieces
+  -- that are done
   pub rank-before : sphere_rank c image p ≡ price c ((next_work image p b + behind image p b) - b.total)
   rank-before =
       (λ i. sphere_rank c image (record p { role = role i }))

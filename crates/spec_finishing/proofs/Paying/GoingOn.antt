@@ -20,7 +20,7 @@ use Rattle.spec_finishing.proofs.Paying.Plays.{plays-ahead}
 
 -- ---- beside its play
 
--- where the play of its log stands after the replay's whole commits
+-- where the play of its log is after the replay's whole commits
 abbrev pub play_of : SphereSetup → Cursor → Sphere → Played
 play_of image b p = plays b.log (first_played image b.log) (position p.progress)
 
@@ -116,7 +116,7 @@ thread-now image p b k t h =
     ap (λ (ts : List Parts). slice_get ts k) h.threads
     ∙ get-set_same (play_of image b p).threads k (run (play_of image b p).memory t b.total).thread t h.is
 
--- a part of n instructions more is paid for
+-- a part of n further instructions is paid for
 pub part-afforded : (image : SphereSetup) (p : Sphere) (b : Cursor) (k : ℕ) (t u : Parts) (s n : ℕ) → b.now ≡ Turn k → HasPieces image p b k t → slice_get p.threads k ≡ Some u → (run p.memory u n).n ≡ n → n ≤ limit_of s (Replay b) k u
     → Afforded (commit_work b.log (play_of image b p)) b.total n
 part-afforded image p b k t u s n turn h is ran most =

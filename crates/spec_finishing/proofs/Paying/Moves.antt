@@ -1,4 +1,4 @@
--- Every move pays for its flight: in a replay with what its play has left less, else with its own work.
+-- Every move pays for its flight: in a replay with the work that its play then no longer has left, else with its own work.
 use Rattle.std.proofs.Common.{◌≡◌, ℕ, suc, ◌+◌, ◌<◌, ◌≤◌, false, List, length, Option, Some, None, refl, sym, ap, ◌∙◌, arith, set}
 use Rattle.std.specs.Prelude.{slice_get}
 use Rattle.spec_isa.specs.declared.thread.Parts.{Parts}
@@ -50,7 +50,7 @@ sphere_most c devices m (Some p) = what_most c p devices m.moment m.what
 abbrev pub move_most : (c : ℕ) → SerialState → Move → ℕ
 move_most c x m = sphere_most c x.devices m (slice_get x.spheres m.sphere)
 
--- what a replay pays more: for a chunk's instructions, and three
+-- what a replay pays beyond that: for a chunk's instructions, and three more
 abbrev pub what_more : What → ℕ
 what_more (OfChunk k how n limit) = n + 3
 what_more (OfSerial k) = 3
@@ -105,7 +105,7 @@ module _ (c : ℕ) (images : List SphereSetup) (x : SerialState) (i : ℕ) (imag
 
   -- it is a replay, with cursor b, and goes on beside its play unless it is over
   module _ (b : Cursor) (role : p.role ≡ Replay b) (goes : is_over b.now ≡ false → GoesOn image p b) where
-    -- a chunk of a replay pays for its flight with what the play has left less
+    -- a chunk of a replay pays for its flight with the work that the play then no longer has left
     pub chunk_paid : (z : Numbers) (k : ℕ) (how : How) (n limit : ℕ) (o : Option Parts) → 0 < z.capacity → slice_get p.threads k ≡ o → FitsChunk z p k how n limit o
         → spheres_rank c images (move_chunk z x i k how n limit p o).spheres + paid c n ≤ spheres_rank c images x.spheres + 0
     chunk_paid z k how n limit None positive thread fits = absurd fits
@@ -114,7 +114,7 @@ module _ (c : ℕ) (images : List SphereSetup) (x : SerialState) (i : ℕ) (imag
         let pays = chunk-pays c image p b role going (goes going) z k t how n limit (is_short z.s how limit) x.devices positive thread fits in
         spheres-pay c images x.spheres i image p (laid (chunk_moved k (is_piece how) (is_short z.s how limit) (run p.memory t n) x.devices p)) (paid c n) 0 there is (omega (arith, pays))
 
-    -- a serial step of a replay pays for its flight with what the play has left less
+    -- a serial step of a replay pays for its flight with the work that the play then no longer has left
     pub serial_paid : (k moment : ℕ) (o : Option Parts) → slice_get p.threads k ≡ o → FitsSerial p k o
         → spheres_rank c images (do_serial x i k moment p o).spheres + (serial_most c p x.devices moment k o + 3) ≤ spheres_rank c images x.spheres + 0
     serial_paid k moment None thread fits = absurd fits
@@ -124,7 +124,7 @@ module _ (c : ℕ) (images : List SphereSetup) (x : SerialState) (i : ℕ) (imag
         let pays = serial-pays c image p b k moment t x.devices role going (goes going) thread fits in
         spheres-pay c images x.spheres i image p (laid v) ((length v.words + c + 1) + 3) 0 there is (omega (arith, pays))
 
-  -- a DMA of a sphere pays for its flight, in a replay with what the play has left less
+  -- a DMA of a sphere pays for its flight, in a replay with the work that the play then no longer has left
   pub dma_paid : (o : Option MovedSphere) → DmaPays c image p o → (o ≡ None → ⊥)
       → spheres_rank c images (do_dma x i o).spheres + (dma_most c o + 3) ≤ spheres_rank c images x.spheres + 0
   dma_paid None pays some = absurd (some refl)

@@ -74,7 +74,7 @@ pub left-over : (image : SphereSetup) (b : Cursor) (i : ℕ) → is_over b.now �
 unfolding replay_left
 left-over image b i e = ap {A = Bool} (λ o. cond o 0 (play_left b.log (first_played image b.log) i b.total)) e
 
--- a replay that goes on has left what its play has, but for the pieces that are done
+-- a replay that goes on has left what its play has, except for the pieces that are done
 pub left-going : (image : SphereSetup) (b : Cursor) (i : ℕ) → is_over b.now ≡ false → replay_left image b i ≡ play_left b.log (first_played image b.log) i b.total
 unfolding replay_left
 left-going image b i e = ap {A = Bool} (λ o. cond o 0 (play_left b.log (first_played image b.log) i b.total)) e
@@ -88,7 +88,7 @@ pub left-most : (image : SphereSetup) (b : Cursor) (i : ℕ) → replay_left ima
 unfolding replay_left
 left-most image b i = less_or_none (is_over b.now) (play_left b.log (first_played image b.log) i b.total)
 
--- the work of so many commits is that of the first ones and of those behind them
+-- the work of that many commits is that of the first ones and of those after them
 work_split : (log : LogParts) (x : Played) (i m n : ℕ) → commits_work log x i (m + n) ≡ commits_work log x i m + commits_work log x (m + i) n
 work_split log x i zero n =
     let few : 0 + n ≡ n = omega arith in
@@ -105,7 +105,7 @@ work_split log x i (suc m) n =
     let b = ap (λ (j : ℕ). commits_work log x j n) e in
     omega (arith, h, a, b)
 
--- what a play has left is the work of the commits behind those that are done, but for the pieces that are
+-- what a play has left is the work of the commits after those that are done, except for the pieces that are done
 left-behind : (log : LogParts) (x : Played) (i total : ℕ) → play_left log x i total ≡ commits_work log x i (log.count - i) - total
 left-behind log x i total =
     let behind : commits_work log x 0 log.count - commits_work log x 0 i ≡ commits_work log x i (log.count - i) =
@@ -130,17 +130,17 @@ left-behind log x i total =
     in
     ap (λ (n : ℕ). n - total) behind
 
--- the commits behind the next one
+-- the commits after the next one
 abbrev pub later : LogParts → Played → ℕ → ℕ
 later log x i = commits_work log x (suc i) (log.count - suc i)
 
--- what a play has left is its next commit and what comes behind, but for the pieces that are done
+-- what a play has left is its next commit and what comes after it, except for the pieces that are done
 pub left-step : (log : LogParts) (x : Played) (i total : ℕ) → i < log.count → play_left log x i total ≡ (commit_work log (plays log x i) + later log x i) - total
 left-step log x i total l =
     let e : log.count - i ≡ suc (log.count - suc i) = omega arith in
     left-behind log x i total ∙ ap (λ (n : ℕ). commits_work log x i n - total) e
 
--- behind a whole commit a replay has no more left than its play has from the next one on
+-- after a whole commit a replay has no more left than its play has from the next one on
 pub left-turned : (image : SphereSetup) (log : LogParts) (p : Progress) (u : Used) (ts : List Parts) (i : ℕ) → position p ≡ suc i → replay_left image (turned log p u ts) (position p) ≤ later log (first_played image log) i
 left-turned image log p u ts i e =
     let x = first_played image log in
@@ -155,7 +155,7 @@ left-turned image log p u ts i e =
 abbrev pub paid : (c n : ℕ) → ℕ
 paid c n = (n + c + 1) + (n + 3)
 
--- where the work is enough for n instructions, what is left pays for them
+-- if the work is enough for n instructions, what is left pays for them
 pub afford-paid : (c work total n : ℕ) → Afforded work total n → paid c n ≤ price c (work - total)
 afford-paid c work total n (Enough l) =
     let a = price-least c (suc n) (work - total) (omega arith) in let b = price-most c n in omega (arith, a, b)
@@ -171,7 +171,7 @@ afford-some work total n (Lone none few some) = omega arith
 pub words-paid : (c n : ℕ) → (n + c + 1) + 3 ≤ price c (suc n)
 words-paid c n = let b = price-most c n in omega (arith, b)
 
--- a whole commit pays with its work but the pieces
+-- a whole commit pays with its work, except for the pieces
 pub whole-pays : (c work total after paid_ : ℕ) → suc total ≤ work → paid_ ≤ price c (work - total) → (left : ℕ) → left ≤ after → price c left + paid_ ≤ price c ((work + after) - total)
 whole-pays c work total after paid_ some enough left most =
     let e : (work + after) - total ≡ after + (work - total) = omega arith in

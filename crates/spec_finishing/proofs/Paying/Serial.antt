@@ -43,7 +43,7 @@ no_pieces p b role e =
       | inr past ↦ omega arith
     ]
 
--- where no piece stands, the sphere is as its play's
+-- if no piece is done, the sphere is as its play's
 record Unmoved (image : SphereSetup) (p : Sphere) (b : Cursor) (t u : Parts) : Type 0 where
   thread : u ≡ t
   memory : p.memory ≡ (play_of image b p).memory

@@ -1,4 +1,4 @@
--- Each move of a run pays, where every replay that goes on stands beside its play.
+-- Each move of a run pays, if every replay that goes on is beside its play.
 use Rattle.std.proofs.Common.{◌≡◌, ℕ, ◌+◌, ◌<◌, ◌≤◌, Bool, true, false, List, Option, Some, None, refl, sym, ap, ◌∙◌, arith}
 use Rattle.std.specs.Prelude.{slice_get, IsSome}
 use Rattle.std.proofs.lemmas.Bool.{true≢false}
@@ -18,7 +18,7 @@ use Rattle.spec_finishing.proofs.Paying.Serial.{dma-pays}
 use Rattle.spec_finishing.proofs.Paying.Moves.{what_most, sphere_most, move_most, what_more, what_own, chunk_paid, serial_paid, dma_paid}
 use Rattle.spec_protocol.proofs.Replays.Pieces.{no_raise}
 
--- every sphere has its image, and every replay that goes on stands beside its play
+-- every sphere has its image, and every replay that goes on is beside its play
 pub record AllGoOn (s : Setup) (x : SerialState) : Type 0 where
   pub images : (i : ℕ) (p : Sphere) → slice_get x.spheres i ≡ Some p → (image : SphereSetup) × (slice_get s.spheres i ≡ Some image)
   pub goes : (i : ℕ) (image : SphereSetup) (p : Sphere) (b : Cursor) → slice_get s.spheres i ≡ Some image → slice_get x.spheres i ≡ Some p → p.role ≡ Replay b → is_over b.now ≡ false → GoesOn image p b

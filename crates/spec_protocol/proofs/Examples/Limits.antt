@@ -17,7 +17,7 @@ least =
     record {
       cores = 1;
       window = 1;
-      numbers = record { s = 16; capacity = 1; bits = 64 };
+      numbers = record { s = 16; capacity = 1; bits = 64; depth = 1 };
       seed = 0;
       input = [];
       spheres = with_role IsPlain ∷ with_role (IsRecorded (record { mode = ModeName.Picolog })) ∷ with_role (IsReplayed (record { log = new_log ModeName.OrderSize 16 })) ∷ [];
@@ -34,6 +34,7 @@ none good before = record { few = omega arith; each = λ k d l. absurd (omega (a
 empty_log : IsLog (new_log ModeName.OrderSize 16)
 empty_log =
     record {
+      version = (refl, refl);
       s = (omega arith, omega arith);
       count = omega arith;
       order = (refl, λ k d l. absurd (omega (arith, l)));
@@ -73,6 +74,8 @@ within_limits =
       window = (omega arith, omega arith);
       few = (omega arith, omega arith);
       chunk = (omega arith, omega arith);
+      depth = omega arith;
+      most_depth = omega arith;
       buffer = omega arith;
       most_buffer = omega arith;
       signature = refl;

@@ -14,11 +14,15 @@ alone cores role size ws =
     record {
       cores = cores;
       window = 2;
-      numbers = record { s = 100; capacity = 16; bits = 64 };
+      numbers = record { s = 100; capacity = 16; bits = 64; depth = 1 };
       seed = 0;
       input = [];
       spheres = record { memory = image size ws; entry = 0; role = role } ∷ [];
     }
+
+-- with so many chunks of a core
+abbrev pub deep : (depth : ℕ) → Setup → Setup
+deep n s = record s { numbers = record s.numbers { depth = n } }
 
 -- what a list of events answers, one reply for each
 abbrev pub replies : World → List Event → List Reply

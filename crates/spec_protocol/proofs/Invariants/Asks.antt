@@ -1,10 +1,12 @@
 -- The event Ask keeps the invariant.
-use Rattle.std.proofs.Common.{cond, ◌≡◌, ℕ, zero, suc, ◌<◌, Bool, true, false, not, ◌&&◌, eqb, List, [], ◌∷◌, ◌++◌, length, Option, Some, None, refl, sym, ap, ◌∙◌, subst, arith}
+use Rattle.std.proofs.Common.{cond, ◌≡◌, ℕ, zero, suc, ◌<◌, Bool, true, false, not, ◌&&◌, eqb, List, [], ◌∷◌, ◌++◌, length, Option, Some, None, refl, sym, ap, ◌∙◌, subst, arith, inl, inr}
 use Rattle.std.specs.Prelude.{slice_get, IsSome}
 use Rattle.std.proofs.lemmas.Bool.{true≢false, and_parts, and_from, or_parts, eqb-true, eqb-false, eq-eqb, not-true, not-false}
+use Rattle.std.proofs.lemmas.Option.{none-some}
 use Rattle.dl_entry.specs.declared.Actor.{Actor}
-use Rattle.spec_isa.specs.Words.{Stored, lays}
+use Rattle.spec_isa.specs.Words.{Stored, lays, Apart}
 use Rattle.spec_isa.specs.Runs.{Run, run_start, run}
+use Rattle.spec_isa.specs.declared.thread.Parts.{Parts}
 use Rattle.spec_log.specs.declared.ModeName.{ModeName}
 use Rattle.spec_kernel.specs.Needs.{next_kind}
 use Rattle.spec_engine.specs.declared.answers.How.{How}
@@ -13,7 +15,7 @@ use Rattle.spec_engine.specs.Flights.{Flight, at, first_slot, is_full, meets_chu
 use Rattle.spec_engine.specs.Chunks.{Chunk, is_serial, is_empty_serial}
 use Rattle.spec_engine.specs.Laws.{CoversWords}
 use Rattle.spec_engine.proofs.Searches.{first_none}
-use Rattle.spec_protocol.specs.machine.Spheres.{other_than, takes_turns, turn_against, Role, Plain, Record, Replay, Sphere, is_stopped, recording_turn, head_in, head_of, is_in_pieces}
+use Rattle.spec_protocol.specs.machine.Spheres.{other_than, takes_turns, turn_against, Role, Plain, Record, Replay, Sphere, is_stopped, recording_turn, head_in, is_in_pieces}
 use Rattle.spec_protocol.specs.machine.Commits.{MovedSphere, is_piece, chunk_moved, serial_moved}
 use Rattle.spec_protocol.specs.machine.World.{Occupant, World, moment, sphere_at, answered}
 use Rattle.spec_protocol.specs.machine.Asking.{move_at, is_short, chunk_request, grant_chunk, serial_request, grant_serial, asks_serial, asking}
@@ -23,13 +25,16 @@ use Rattle.spec_protocol.specs.machine.Moves.{move_chunk, do_at, do_move, ChunkF
 use Rattle.spec_protocol.proofs.Memory.Laying.{AllLack_nil, AllLack_flip}
 use Rattle.spec_protocol.proofs.Memory.Slots.{words-other}
 use Rattle.spec_protocol.proofs.Memory.Covering.{bits-signed, CoversWords-signed, apart-covered, flying-all_lack}
-use Rattle.spec_protocol.proofs.Moves.Granted.{HasTurn, chunk-stores, chunk-lives, serial-lives, chunk-moves, serial-moves}
+use Rattle.spec_protocol.proofs.Moves.Granted.{HasTurn, chunk-stores, chunk-lives, serial-lives, chunk-moves, serial-moves, MovesOnly, Leaves, chunk-leaves, piece-replayed}
 use Rattle.spec_protocol.proofs.Moves.AnyMemory.{over, relaid, chunk-relaid}
 use Rattle.spec_protocol.proofs.Invariants.Preserved.{Preserved, shown-get, unchanged-preserved}
 use Rattle.spec_protocol.proofs.Moves.AnyEvent.{any-ask}
-use Rattle.spec_protocol.proofs.Invariants.Granting.{Grants, granted-preserved}
+use Rattle.spec_protocol.proofs.Invariants.Granting.{Grants, granted-preserved, GoesOn}
 use Rattle.spec_protocol.specs.promises.Currency.{seen_by, Meets, IsCurrent, AllLack}
-use Rattle.spec_protocol.specs.promises.Invariants.{current, IsGoodHeld, IsGood}
+use Rattle.spec_protocol.specs.promises.Invariants.{current, IsGoodHeld, IsGood, IsGoodOver}
+use Rattle.spec_protocol.specs.machine.Placing.{replays}
+use Rattle.spec_protocol.specs.machine.Stepping.{may_follow}
+use Rattle.spec_protocol.proofs.Invariants.Held.{fits-stays}
 
 -- ---- what is shown of the sphere that asks
 
@@ -140,6 +145,42 @@ chunk_fits_at w h how within start fits =
     subst (FitsAt w.numbers w.devices (move_at (moment w) (chunk_request w h how))) (sym (shown_at w i within ∙ ap Some (shown_over w i)))
     (subst (FitsChunk w.numbers p h.thread how h.chunk.done.n h.chunk.limit) (sym start) fits)
 
+chunk_turn : (w : World) (h : Occupant) (how : How) → is_stopped (sphere_at w h.chunk.sphere).role ≡ false → turn_against (sphere_at w h.chunk.sphere) (Actor.Thread h.thread) ≡ None → Apart h.chunk.done.words
+    → MovesOnly h.thread w.devices (sphere_at w h.chunk.sphere) (chunk_move w h how)
+chunk_turn w h how going turn apart =
+    let p = sphere_at w h.chunk.sphere in
+    chunk-moves h.thread (is_piece how) (is_short w.numbers.s how h.chunk.limit) h.chunk.done w.devices p (has_turn h.thread p going turn) apart
+
+-- the younger chunk goes on after a chunk that is granted whole
+chunk_goes : (w : World) (c : ℕ) (h : Occupant) (how : How) (y : Chunk) → h.younger ≡ Some y → IsGoodHeld w c h → is_stopped (sphere_at w h.chunk.sphere).role ≡ false → MovesOnly h.thread w.devices (sphere_at w h.chunk.sphere) (chunk_move w h how)
+    → Leaves h.thread (sphere_at w h.chunk.sphere) h.chunk.done (chunk_move w h how) → GoesOn w c (chunk_request w h how) (chunk_move w h how) y
+chunk_goes w c h how y e held going moves leaves =
+    let b = held.follows y e in
+    let p = sphere_at w h.chunk.sphere in
+    let q = (chunk_move w h how).sphere in
+    record {
+      sphere = b.sphere;
+      start = λ t there untaken. elim (leaves.thread t there) [
+        | inl same ↦ same ∙ sym b.start
+        | inr m ↦ absurd (true≢false (sym (and_from t.mask (not y.start.mask) m.0 (ap (λ (u : Parts). not u.mask) b.start ∙ ap not m.1)) ∙ untaken))
+      ];
+      halving = b.halving ∙ sym moves.keeps.halving;
+      limit = λ _. fits-stays p.role q.role _ _ y.limit moves.keeps.replaying (leaves.limits w.numbers.s y.start) (b.limit going);
+      chunk = subst (λ (ws : List Stored). IsGoodOver w c h.chunk.sphere ws y) (sym leaves.words) (held.younger y e);
+    }
+
+piece_alone : (how : How) → is_piece how ≡ true → may_follow true (Some how) ≡ false
+piece_alone How.Limit e = absurd (true≢false (sym e))
+piece_alone How.Serial e = refl
+piece_alone How.Overflow e = refl
+piece_alone How.Cut e = refl
+
+-- no younger chunk follows a piece
+none_over_piece : (w : World) (c : ℕ) (h : Occupant) (how : How) (o : Option Chunk) → h.younger ≡ o → IsGoodHeld w c h → h.chunk.closed ≡ Some how → replays (sphere_at w h.chunk.sphere).role ≡ true → is_piece how ≡ true → h.younger ≡ None
+none_over_piece w c h how None is held closed replayed piece = is
+none_over_piece w c h how (Some y) is held closed replayed piece =
+    absurd (true≢false (sym (held.follows y is).allowed ∙ (λ j. may_follow (replayed j) (closed j)) ∙ piece_alone how piece))
+
 chunk_grants : (w : World) (c : ℕ) (h : Occupant) (how : How) → IsGood w → at w.cores c ≡ Some h → h.chunk.closed ≡ Some how → is_stopped (sphere_at w h.chunk.sphere).role ≡ false → turn_against (sphere_at w h.chunk.sphere) (Actor.Thread h.thread) ≡ None
     → is_full w.slots ≡ false → asks_serial h.chunk (sphere_at w h.chunk.sphere).role ≡ false → first_slot (meets_chunk h.chunk.reads h.chunk.writes) w.slots ≡ None
     → Grants w c h (chunk_request w h how) h.chunk.writes (chunk_move w h how)
@@ -167,6 +208,8 @@ chunk_grants w c h how good is closed going turn free chunk none =
       tells = refl;
       whole = chunk_whole w h how held.sphere held.thread.start live.runs;
       fits = chunk_fits_at w h how held.sphere held.thread.start (chunk_fits w c h how held live closed going turn chunk);
+      goes = λ granted y e. chunk_goes w c h how y e held going (chunk_turn w h how going turn held.chunk.apart) (chunk-leaves h.thread (is_piece how) short h.chunk.done w.devices p h.chunk.start held.thread.start granted);
+      pieces = λ e. let q = piece-replayed h.thread (is_piece how) short h.chunk.done w.devices p e in none_over_piece w c h how h.younger refl held closed q.0 q.1;
     }
 
 -- ---- a serial step
@@ -256,6 +299,8 @@ serial_grants w c h good is going turn free serial none =
             whole = not-true (is_in_pieces p.role) asks.1;
             serial = serial_next (current w i) h.chunk live (serial_closed h.chunk.closed parts.1) (eqb-true h.chunk.done.n 0 parts.0);
           });
+      goes = λ granted y e. absurd (none-some y e);
+      pieces = λ e. refl;
     }
 
 -- ---- the event

@@ -1,32 +1,32 @@
 -- The events of flights keep the invariant: Drain, Deliver and Retire.
+use Rattle.std.specs.Prelude.{option_map}
 use Rattle.std.proofs.Common.{◌≡◌, ◌≢◌, ℕ, ◌<◌, ◌≤◌, inl, inr, Bool, true, false, eqb, cond, ◌&&◌, List, [], ◌∷◌, ◌++◌, length, Option, Some, None, refl, sym, ap, ◌∙◌, subst, arith, set}
 use Rattle.std.proofs.Math.ListN.{length-set}
 use Rattle.std.proofs.lemmas.Bool.{true≢false, and_parts, or_parts, cases_eq}
 use Rattle.std.proofs.lemmas.List.{set-get_or}
 use Rattle.std.proofs.lemmas.Option.{none-some}
-use Rattle.spec_isa.specs.declared.thread.Parts.{Parts}
 use Rattle.spec_isa.specs.Words.{Stored, lay, lays, Lacks, Apart}
 use Rattle.spec_engine.specs.declared.answers.Deliver.{Deliver}
 use Rattle.spec_engine.specs.declared.answers.Retire.{Retire}
 use Rattle.spec_engine.specs.Signatures.{Signature, hits}
 use Rattle.spec_engine.specs.Flights.{Flight, at, told_at, all_told, meets_chunk, drain_words, Delivered, tell, deliver, has_none, is_done, Retired, retire}
-use Rattle.spec_engine.specs.Chunks.{Chunk, squash, is_fourth, halved, fresh, next_squashes}
+use Rattle.spec_engine.specs.Chunks.{Chunk, squash, is_fourth, halved, next_squashes}
 use Rattle.spec_engine.specs.Laws.{CoversWords}
 use Rattle.spec_engine.proofs.Searches.{told-tell_other, all_told-at}
 use Rattle.spec_protocol.specs.declared.reply.Reply.{Reply}
 use Rattle.spec_protocol.specs.machine.Spheres.{Role, Plain, Record, Replay, Sphere, halves}
 use Rattle.spec_protocol.specs.machine.Placing.{replays}
-use Rattle.spec_protocol.specs.machine.World.{Occupant, World, Move, After, sphere_at, with_memory, with_core, with_slot, answered}
+use Rattle.spec_protocol.specs.machine.World.{Occupant, World, Move, After, sphere_at, with_memory, with_core, with_slot, answered, Numbers}
 use Rattle.spec_protocol.specs.machine.Shown.{words_of, flying, shown, shown_of}
 use Rattle.spec_protocol.specs.machine.Moves.{do_if, FitsIf}
-use Rattle.spec_protocol.specs.machine.Flying.{reply_of_drain, drain_slot, draining, reads_of, writes_of, squashed, told, delivering, reply_of_retire, retiring}
+use Rattle.spec_protocol.specs.machine.Flying.{reply_of_drain, drain_slot, draining, reads_of, writes_of, squashed, told, delivering, reply_of_retire, retiring, younger_of, hits_younger, squashed_younger}
 use Rattle.spec_protocol.proofs.Memory.Laying.{lays_append, AllLack_flip, Apart_lack, Apart_first, Apart_last, Apart-append, lays-lay}
 use Rattle.spec_protocol.proofs.Memory.Slots.{at-set_same, at-set_other, at_within, before, behind, flying-at, flying-set, flying_same, words-same, words-other}
 use Rattle.spec_protocol.proofs.Invariants.Preserved.{SameSizes, PointIs, Preserved, sphere-same, sphere-other, shown_from-same, shown-unmoved, set-itself, unchanged-preserved}
 use Rattle.spec_protocol.proofs.Invariants.Cores.{set-cases, alone-set, held_there, others-differ, branch}
-use Rattle.spec_protocol.proofs.Invariants.Held.{chunk-beside, Beside, held-beside}
+use Rattle.spec_protocol.proofs.Invariants.Held.{chunk-beside, Beside, held-beside, begun-good}
 use Rattle.spec_protocol.specs.promises.Currency.{IsQuiet}
-use Rattle.spec_protocol.specs.promises.Invariants.{IsFlightCovered, IsGoodChunk, current, IsGoodOver, IsOfThread, IsGoodHeld, IsGood}
+use Rattle.spec_protocol.specs.promises.Invariants.{IsFlightCovered, IsGoodChunk, current, IsGoodOver, IsOfThread, IsGoodHeld, IsGood, Follows}
 
 -- ---- a slot is set to what stands there
 
@@ -301,30 +301,6 @@ either_most : (b : Bool) (limit most : ℕ) → 0 < limit → limit ≤ most →
 either_most true limit most positive l = omega arith
 either_most false limit most positive l = l
 
--- on core c, beside those slots and over that memory
-module _ (capacity bits : ℕ) (xs : List (Option Flight)) (c : ℕ) (m : List ℕ) where
-  -- a chunk that has run nothing is good, however often it was squashed
-  pub begun-good : (size i : ℕ) (t : Parts) (limit : ℕ) (halving : Bool) (squashes : ℕ) → size ≡ bits → 0 < limit → IsGoodChunk capacity bits xs c m (record (fresh size i t limit halving) { squashes = squashes })
-  begun-good size i t limit halving squashes same positive =
-      record {
-        reads_size = same;
-        writes_size = same;
-        apart = tt;
-        writes = tt;
-        loads = tt;
-        closes = record {
-          positive = positive;
-          opened = λ e. positive;
-          full = λ e. absurd (none-some _ e);
-          early = λ how e. absurd (none-some how e);
-          cut = λ e. absurd (none-some _ e);
-          room = λ e. absurd (none-some _ e);
-          few = omega arith;
-          few_loads = omega arith;
-        };
-        live = λ q. record { runs = refl; touches = λ j l. absurd (omega arith); next = tt };
-      }
-
 -- a chunk that begins again from its start
 squash_good : (capacity : ℕ) (xs : List (Option Flight)) (c : ℕ) (m : List ℕ) (ch : Chunk) (bits : ℕ) → 0 < ch.limit → ch.reads.bits ≡ bits → IsGoodChunk capacity bits xs c m (squash ch)
 squash_good capacity xs c m ch bits positive size =
@@ -353,14 +329,36 @@ squash_thread s p k ch positive is =
           };
     }
 
-squash_held : (w : World) (k c : ℕ) (o : Option Flight) (h : Occupant) → IsGoodHeld w c h → IsGoodHeld (with_slot w k o) c (record h { chunk = squash h.chunk })
+squash_held : (w : World) (k c : ℕ) (o : Option Flight) (h : Occupant) → IsGoodHeld w c h → IsGoodHeld (with_slot w k o) c (record h { chunk = squash h.chunk; younger = None })
 squash_held w k c o h good =
     let positive = good.chunk.closes.positive in
     record {
       sphere = good.sphere;
       thread = squash_thread w.numbers.s (sphere_at w h.chunk.sphere) h.thread h.chunk positive good.thread;
       chunk = squash_good w.numbers.capacity (set w.slots k o) c (current (with_slot w k o) h.chunk.sphere) h.chunk w.numbers.bits positive good.chunk.reads_size;
+      follows = λ y e. absurd (none-some y e);
+      younger = λ y e. absurd (none-some y e);
     }
+
+squash_follows : (z : Numbers) (p : Sphere) (k : ℕ) (older y : Chunk) → 0 < y.limit → Follows z p k older y → Follows z p k older (squash y)
+squash_follows z p k older y positive is =
+    record {
+      deep = is.deep;
+      sphere = is.sphere;
+      allowed = is.allowed;
+      start = is.start;
+      halving = is.halving;
+      limit = λ going.
+          let l = is.limit going in
+          record {
+            most = either_most (is_fourth y) y.limit _ positive l.most;
+            replayed = λ r. not_halved y p.role is.halving r ∙ l.replayed r;
+          };
+    }
+
+was_squashed : (o : Option Chunk) (y : Chunk) → option_map squash o ≡ Some y → (x : Chunk) × (o ≡ Some x) × (squash x ≡ y)
+was_squashed None y e = absurd (none-some y e)
+was_squashed (Some x) y e = (x, refl, (let q : squash x ≡ y = cc in q))
 
 abbrev tell_in : World → (slot core : ℕ) → Flight → World
 tell_in w k c f = with_slot w k (Some (tell f c))
@@ -380,16 +378,47 @@ told_over w k c f i ws ch good is free chunk =
     (ap (λ (m : List ℕ). lays m ws) (slot_memory w k (Some (tell f c)) i (at_within w.slots k f is) (told_slot w k c f good is)))
     (told_quiet w.slots k f c c ch.sphere ch.reads is (λ _. free)) chunk
 
-told_own : (w : World) (k c : ℕ) (f : Flight) (x : Occupant) → IsGood w → at w.slots k ≡ Some f → hits f.writes x.chunk.reads ≡ false → at w.cores c ≡ Some x → IsGoodHeld (tell_in w k c f) c x
-told_own w k c f x good is free there =
+told_own : (w : World) (k c : ℕ) (f : Flight) (x : Occupant) → IsGood w → at w.slots k ≡ Some f → hits f.writes x.chunk.reads ≡ false → ((y : Chunk) → x.younger ≡ Some y → hits f.writes y.reads ≡ false) → at w.cores c ≡ Some x
+    → IsGoodHeld (tell_in w k c f) c x
+told_own w k c f x good is free younger_free there =
     let held = good.held c x there in
-    record { sphere = held.sphere; thread = held.thread; chunk = told_over w k c f x.chunk.sphere [] x.chunk good is free held.chunk }
+    record {
+      sphere = held.sphere;
+      thread = held.thread;
+      chunk = told_over w k c f x.chunk.sphere [] x.chunk good is free held.chunk;
+      follows = held.follows;
+      younger = λ y e. told_over w k c f x.chunk.sphere x.chunk.done.words y good is (younger_free y e) (held.younger y e);
+    }
+
+-- where the older is not hit, the younger may begin again
+squash_younger_held : (w : World) (k c : ℕ) (f : Flight) (x : Occupant) → IsGood w → at w.slots k ≡ Some f → hits f.writes x.chunk.reads ≡ false → at w.cores c ≡ Some x → IsGoodHeld (tell_in w k c f) c (record x { younger = option_map squash x.younger })
+squash_younger_held w k c f x good is free there =
+    let held = good.held c x there in
+    let v = tell_in w k c f in
+    let i = x.chunk.sphere in
+    record {
+      sphere = held.sphere;
+      thread = held.thread;
+      chunk = told_over w k c f i [] x.chunk good is free held.chunk;
+      follows = λ y e.
+          let s = was_squashed x.younger y e in
+          subst (Follows w.numbers (sphere_at w i) x.thread x.chunk) s.2
+          (squash_follows w.numbers (sphere_at w i) x.thread x.chunk s.0 (held.younger s.0 s.1).closes.positive (held.follows s.0 s.1));
+      younger = λ y e.
+          let s = was_squashed x.younger y e in
+          let g = held.younger s.0 s.1 in
+          subst (IsGoodOver v c i x.chunk.done.words) s.2
+          (squash_good w.numbers.capacity v.slots c (lays (current v i) x.chunk.done.words) s.0 w.numbers.bits g.closes.positive g.reads_size);
+    }
 
 told_sizes : (w : World) (k c : ℕ) (f : Flight) → SameSizes w (tell_in w k c f)
 told_sizes w k c f = record { numbers = refl; spheres = refl; cores = refl; slots = length-set w.slots k (Some (tell f c)) }
 
-delivered_preserved : (w : World) (k c : ℕ) (f : Flight) (held : Option Occupant) → IsGood w → at w.slots k ≡ Some f → at w.cores c ≡ held → meets_chunk (reads_of w held) (writes_of w held) f ≡ false → Preserved w (answered (tell_in w k c f) Reply.Delivered)
-delivered_preserved w k c f held good is there free =
+younger_free : (f : Flight) (o : Option Chunk) (y : Chunk) → hits_younger (Some f) o ≡ false → o ≡ Some y → hits f.writes y.reads ≡ false
+younger_free f o y free e = (or_parts (hits f.writes y.reads) (hits f.writes y.writes) (ap (hits_younger (Some f)) (sym e) ∙ free)).0
+
+delivered_preserved : (w : World) (k c : ℕ) (f : Flight) (held : Option Occupant) → IsGood w → at w.slots k ≡ Some f → at w.cores c ≡ held → meets_chunk (reads_of w held) (writes_of w held) f ≡ false → hits_younger (Some f) (younger_of held) ≡ false → Preserved w (answered (tell_in w k c f) Reply.Delivered)
+delivered_preserved w k c f held good is there free free_younger =
     record {
       good = slot_good w k (Some (tell f c)) (at_within w.slots k f is) good (told_slot w k c f good is)
           (λ d x e. elim (cases_eq d c) [
@@ -399,6 +428,7 @@ delivered_preserved w k c f held good is there free =
                 subst (λ (n : ℕ). IsGoodHeld (tell_in w k c f) n x) (sym dc)
                 (told_own w k c f x good is
                 (or_parts (hits f.writes x.chunk.reads) (hits f.writes x.chunk.writes) (ap (λ (o : Option Occupant). meets_chunk (reads_of w o) (writes_of w o) f) (sym h) ∙ free)).0
+                (λ y there_y. younger_free f x.younger y (ap (λ (o : Option Occupant). hits_younger (Some f) (younger_of o)) (sym h) ∙ free_younger) there_y)
                 own)
                 )
             | inr ne ↦ told_other w k c f d x good is ne e
@@ -432,9 +462,32 @@ squashed_good : (w : World) (k c : ℕ) (f : Flight) (held : Option Occupant) �
 squashed_good w k c f None good is there =
     told_good w k c f None good is (λ x e. absurd (none-some x e)) (λ h e. absurd (none-some h e))
 squashed_good w k c f (Some h) good is there =
-    told_good w k c f (Some (record h { chunk = squash h.chunk })) good is
-    (λ x e. subst (IsGoodHeld (tell_in w k c f) c) (let q : record h { chunk = squash h.chunk } ≡ x = cc in q) (squash_held w k c (Some (tell f c)) h (good.held c h there)))
-    (others-differ w c h (squash h.chunk) good there refl)
+    let x : Occupant = record h { chunk = squash h.chunk; younger = None } in
+    told_good w k c f (Some x) good is
+    (λ y e. subst (IsGoodHeld (tell_in w k c f) c) (let q : x ≡ y = cc in q) (squash_held w k c (Some (tell f c)) h (good.held c h there)))
+    (others-differ w c h x good there refl refl)
+
+-- the older chunk is not hit, and the younger begins again
+younger_squashed_good : (w : World) (k c : ℕ) (f : Flight) (held : Option Occupant) → IsGood w → at w.slots k ≡ Some f → at w.cores c ≡ held → meets_chunk (reads_of w held) (writes_of w held) f ≡ false → IsGood (with_core (tell_in w k c f) c (squashed_younger held))
+younger_squashed_good w k c f None good is there free =
+    told_good w k c f None good is (λ x e. absurd (none-some x e)) (λ h e. absurd (none-some h e))
+younger_squashed_good w k c f (Some h) good is there free =
+    let x : Occupant = record h { younger = option_map squash h.younger } in
+    told_good w k c f (Some x) good is
+    (λ y e. subst (IsGoodHeld (tell_in w k c f) c) (let q : x ≡ y = cc in q)
+    (squash_younger_held w k c f h good is (or_parts (hits f.writes h.chunk.reads) (hits f.writes h.chunk.writes) free).0 there))
+    (others-differ w c h x good there refl refl)
+
+younger_squashed_preserved : (w : World) (k c : ℕ) (f : Flight) (held : Option Occupant) → IsGood w → at w.slots k ≡ Some f → at w.cores c ≡ held → meets_chunk (reads_of w held) (writes_of w held) f ≡ false
+    → Preserved w (answered (with_core (tell_in w k c f) c (squashed_younger held)) Reply.Squashed)
+younger_squashed_preserved w k c f held good is there free =
+    record {
+      good = younger_squashed_good w k c f held good is there free;
+      sizes = record { numbers = refl; spheres = refl; cores = length-set w.cores c (squashed_younger held); slots = length-set w.slots k (Some (tell f c)) };
+      point = refl;
+      whole = slot_shown w k (Some (tell f c)) (at_within w.slots k f is) (told_slot w k c f good is);
+      fits = tt;
+    }
 
 squashed_preserved : (w : World) (k c : ℕ) (f : Flight) (held : Option Occupant) → IsGood w → at w.slots k ≡ Some f → at w.cores c ≡ held → Preserved w (answered (with_core (tell_in w k c f) c (squashed held)) Reply.Squashed)
 squashed_preserved w k c f held good is there =
@@ -447,16 +500,18 @@ squashed_preserved w k c f held good is there =
     }
 
 deliver_slot_preserved : (w : World) (c k : ℕ) (held : Option Occupant) (o : Option Flight) → at w.cores c ≡ held → at w.slots k ≡ o → IsGood w
-    → let d = deliver c (reads_of w held) (writes_of w held) o in Preserved w (told (with_slot w k d.slot) c held d.reply)
+    → let d = deliver c (reads_of w held) (writes_of w held) o in Preserved w (told (with_slot w k d.slot) c held d.reply (hits_younger o (younger_of held)))
 deliver_slot_preserved w c k held None there is good = unchanged-preserved w _ (unchanged w k None is) refl refl good
 deliver_slot_preserved w c k held (Some f) there is good =
-    branch (λ (d : Delivered). Preserved w (told (with_slot w k d.slot) c held d.reply)) (told_at f.told c)
+    branch (λ (d : Delivered). Preserved w (told (with_slot w k d.slot) c held d.reply (hits_younger (Some f) (younger_of held)))) (told_at f.told c)
     (record { reply = Deliver.Already; slot = Some f })
     (record { reply = cond (meets_chunk (reads_of w held) (writes_of w held) f) Deliver.Squashed Deliver.Delivered; slot = Some (tell f c) })
     (λ _. unchanged-preserved w _ (unchanged w k (Some f) is) refl refl good)
-    (λ _. branch (λ (r : Deliver). Preserved w (told (tell_in w k c f) c held r)) (meets_chunk (reads_of w held) (writes_of w held) f) Deliver.Squashed Deliver.Delivered
+    (λ _. branch (λ (r : Deliver). Preserved w (told (tell_in w k c f) c held r (hits_younger (Some f) (younger_of held)))) (meets_chunk (reads_of w held) (writes_of w held) f) Deliver.Squashed Deliver.Delivered
     (λ _. squashed_preserved w k c f held good is there)
-    (λ free. delivered_preserved w k c f held good is there free))
+    (λ free. branch (Preserved w) (hits_younger (Some f) (younger_of held)) (answered (with_core (tell_in w k c f) c (squashed_younger held)) Reply.Squashed) (answered (tell_in w k c f) Reply.Delivered)
+    (λ _. younger_squashed_preserved w k c f held good is there free)
+    (λ free_younger. delivered_preserved w k c f held good is there free free_younger)))
 
 -- the event Deliver keeps the invariant
 pub deliver-preserved : (w : World) (c k : ℕ) → IsGood w → Preserved w (delivering w c k)

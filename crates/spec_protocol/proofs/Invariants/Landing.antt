@@ -24,10 +24,9 @@ use Rattle.spec_protocol.proofs.Memory.Slots.{Flew}
 use Rattle.spec_protocol.proofs.Memory.Running.{Live_local}
 use Rattle.spec_protocol.proofs.Moves.AnyMemory.{relaid}
 use Rattle.spec_protocol.proofs.Invariants.Preserved.{sphere-same, sphere-other, shown-set}
-use Rattle.spec_protocol.proofs.Invariants.Flights.{begun-good}
-use Rattle.spec_protocol.proofs.Invariants.Held.{KeepsThread, thread-stays, held-beside}
+use Rattle.spec_protocol.proofs.Invariants.Held.{KeepsThread, thread-stays, held-beside, follows-stays, begun-good}
 use Rattle.spec_protocol.specs.promises.Currency.{seen_by}
-use Rattle.spec_protocol.specs.promises.Invariants.{IsFlightCovered, IsGoodChunk, current, IsOfThread, IsGoodHeld}
+use Rattle.spec_protocol.specs.promises.Invariants.{IsFlightCovered, IsGoodChunk, current, IsOfThread, IsGoodHeld, Follows}
 
 -- ---- a chunk at its beginning
 
@@ -42,7 +41,7 @@ pub fresh-good : (capacity bits : ℕ) (xs : List (Option Flight)) (c : ℕ) (m 
 fresh-good capacity bits xs c m i t limit halving positive = begun-good capacity bits xs c m bits i t limit halving 0 refl positive
 
 abbrev afresh : Numbers → (i k : ℕ) → Sphere → Parts → Occupant
-afresh z i k p t = record { thread = k; chunk = fresh z.bits i t (limit_of z.s p.role k t) (halves p.role) }
+afresh z i k p t = record { thread = k; chunk = fresh z.bits i t (limit_of z.s p.role k t) (halves p.role); younger = None }
 
 -- what a core begins with, if it does: a live thread of the sphere
 pub record IsAfresh (z : Numbers) (i k : ℕ) (p : Sphere) (h : Occupant) : Type 0 where
@@ -73,6 +72,8 @@ afresh-held v i k c p h within positive there b =
       thread = subst (λ (q : Sphere). IsOfThread v.numbers.s q k (afresh v.numbers i k p t).chunk) (sym there)
           (record { start = b.start; lives = b.lives; halving = refl; limit = λ going. record { most = omega arith; replayed = λ r. refl } });
       chunk = fresh-good v.numbers.capacity v.numbers.bits v.slots c (current v i) i t (limit_of v.numbers.s p.role k t) (halves p.role) (limit-positive v.numbers.s p.role k t positive);
+      follows = λ y e. absurd (none-some y e);
+      younger = λ y e. absurd (none-some y e);
     })
 
 -- ---- the other chunks
@@ -135,6 +136,12 @@ landed_here w q f ys cores devices d x l good =
       thread = subst (λ (p : Sphere). IsOfThread w.numbers.s p x.thread x.chunk) (sym there) (thread-stays w.numbers.s (sphere_at w i) q x.thread x.chunk l.keeps good.thread);
       chunk = subst (λ (m : List ℕ). IsGoodChunk w.numbers.capacity w.numbers.bits ys d m x.chunk) memory
           (landed_chunk w.numbers.capacity w.numbers.bits w.slots ys d (current w i) [] x.chunk f l.flew l.sphere l.covered l.untold good.chunk);
+      follows = λ y e. subst (λ (p : Sphere). Follows w.numbers p x.thread x.chunk y) (sym there) (follows-stays w.numbers (sphere_at w i) q x.thread x.chunk y l.keeps (good.follows y e));
+      younger = λ y e.
+          let of = (good.follows y e).sphere in
+          subst (λ (m : List ℕ). IsGoodChunk w.numbers.capacity w.numbers.bits ys d (lays m x.chunk.done.words) y) memory
+          (landed_chunk w.numbers.capacity w.numbers.bits w.slots ys d (current w i) x.chunk.done.words y f
+          (subst (λ (n : ℕ). Flew n f w.slots ys) (sym of) l.flew) (l.sphere ∙ sym of) l.covered l.untold (good.younger y e));
     }
 
 -- what a core holds of the moved sphere stays good, where the words land as they should

@@ -38,7 +38,7 @@ act_preserved w (Event.Dma i) good = dma-preserved w (sphere_no w i) good
 -- counts and points are no part of what is kept
 held_counted : (a : After) (c : ℕ) (h : Occupant) → IsGoodHeld a.world c h → IsGoodHeld (with_event a) c h
 held_counted a c h g =
-    record { sphere = g.sphere; thread = g.thread; chunk = g.chunk }
+    record { sphere = g.sphere; thread = g.thread; chunk = g.chunk; follows = g.follows; younger = g.younger }
 
 good_counted : (a : After) → IsGood a.world → IsGood (with_event a)
 good_counted a g =

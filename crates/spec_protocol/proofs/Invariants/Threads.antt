@@ -11,7 +11,7 @@ use Rattle.spec_kernel.specs.Interrupts.{is_live, has_handler, takes_interrupt, 
 use Rattle.spec_engine.specs.Signatures.{nothing}
 use Rattle.spec_engine.specs.Flights.{Flight, at}
 use Rattle.spec_engine.proofs.Searches.{first_none, first_some}
-use Rattle.spec_protocol.specs.machine.Spheres.{Role, Plain, Record, Replay, Sphere, no_sphere, is_stopped, limit_of, halves}
+use Rattle.spec_protocol.specs.machine.Spheres.{Role, Plain, Record, Replay, Sphere, no_sphere, is_stopped, limit_of, halves, limit_after}
 use Rattle.spec_protocol.specs.machine.Commits.{role_raised, raised}
 use Rattle.spec_protocol.specs.machine.World.{Occupant, World, moment, sphere_at, with_sphere, with_core, held_afresh, runs, core_of, OfRaise, answered}
 use Rattle.spec_protocol.specs.machine.Placing.{placing, replays, with_renewed, raise_in, raising}
@@ -26,8 +26,8 @@ use Rattle.spec_protocol.proofs.Invariants.Cores.{set-cases, alone-set, held_the
 use Rattle.spec_protocol.proofs.Invariants.Landing.{afresh-begins, afresh-held, elsewhere-held}
 use Rattle.spec_protocol.proofs.Invariants.Granting.{unflown}
 use Rattle.spec_protocol.proofs.Invariants.Asks.{shown_at, shown_over}
-use Rattle.spec_protocol.proofs.Invariants.Held.{KeepsThread, thread-stays}
-use Rattle.spec_protocol.specs.promises.Invariants.{IsGoodChunk, current, IsOfThread, IsGoodHeld, IsGood}
+use Rattle.spec_protocol.proofs.Invariants.Held.{KeepsThread, thread-stays, follows-stays}
+use Rattle.spec_protocol.specs.promises.Invariants.{IsGoodChunk, current, IsOfThread, IsGoodHeld, IsGood, Follows}
 
 -- a sphere with a thread is one of the spheres
 inside : (w : World) (i k : ℕ) (t : Parts) → slice_get (sphere_at w i).threads k ≡ Some t → i < length w.spheres
@@ -62,11 +62,11 @@ place-preserved w c i k good =
 
 -- ---- Raise
 
-raised_role : (k n value : ℕ) (role : Role) → (halves (role_raised k n value role) ≡ halves role) × (replays (role_raised k n value role) ≡ replays role) × ((s j : ℕ) (u : Parts) → limit_of s (role_raised k n value role) j u ≡ limit_of s role j u) × (is_stopped (role_raised k n value role) ≡ is_stopped role)
-unfolding limit_of
-raised_role k n value Plain = (refl, refl, λ s j u. refl, refl)
-raised_role k n value (Record recording) = (refl, refl, λ s j u. refl, refl)
-raised_role k n value (Replay b) = (refl, refl, λ s j u. refl, refl)
+raised_role : (k n value : ℕ) (role : Role) → (halves (role_raised k n value role) ≡ halves role) × (replays (role_raised k n value role) ≡ replays role) × ((s j : ℕ) (u : Parts) → limit_of s (role_raised k n value role) j u ≡ limit_of s role j u) × (is_stopped (role_raised k n value role) ≡ is_stopped role) × ((s j : ℕ) (u : Parts) → limit_after s (role_raised k n value role) j u ≡ limit_after s role j u)
+unfolding limit_of limit_after
+raised_role k n value Plain = (refl, refl, λ s j u. refl, refl, λ s j u. refl)
+raised_role k n value (Record recording) = (refl, refl, λ s j u. refl, refl, λ s j u. refl)
+raised_role k n value (Replay b) = (refl, refl, λ s j u. refl, refl, λ s j u. refl)
 
 raised_here : (w : World) (k value : ℕ) (t : Parts) (d : ℕ) (x : Occupant) → x.chunk.sphere < length w.spheres → x.thread ≢ k → IsGoodHeld w d x → IsGoodHeld (with_sphere w x.chunk.sphere (raised k value t (sphere_at w x.chunk.sphere))) d x
 unfolding raised
@@ -83,12 +83,15 @@ raised_here w k value t d x within ne good =
       replaying = r.1;
       going = λ e. sym r.3 ∙ e;
       limits = λ e u. r.2 w.numbers.s x.thread u;
+      after = λ e u. r.4 w.numbers.s x.thread u;
     }
     in
     record {
       sphere = subst (λ (n : ℕ). i < n) (sym (length-set w.spheres i q)) good.sphere;
       thread = subst (λ (y : Sphere). IsOfThread w.numbers.s y x.thread x.chunk) (sym there) (thread-stays w.numbers.s p q x.thread x.chunk keeps good.thread);
       chunk = subst (λ (m : List ℕ). IsGoodChunk w.numbers.capacity w.numbers.bits w.slots d m x.chunk) (ap (λ (y : Sphere). lays y.memory (flying i w.slots)) (sym there)) good.chunk;
+      follows = λ y e. subst (λ (z : Sphere). Follows w.numbers z x.thread x.chunk y) (sym there) (follows-stays w.numbers p q x.thread x.chunk y keeps (good.follows y e));
+      younger = λ y e. subst (λ (m : List ℕ). IsGoodChunk w.numbers.capacity w.numbers.bits w.slots d (lays m x.chunk.done.words) y) (ap (λ (z : Sphere). lays z.memory (flying i w.slots)) (sym there)) (good.younger y e);
     }
 
 raised_held : (w : World) (i k value : ℕ) (t : Parts) (d : ℕ) (x : Occupant) → IsGood w → i < length w.spheres → (x.chunk.sphere ≡ i → x.thread ≢ k) → IsGoodHeld w d x → IsGoodHeld (with_sphere w i (raised k value t (sphere_at w i))) d x

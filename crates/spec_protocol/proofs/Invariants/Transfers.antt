@@ -113,6 +113,7 @@ done_good w i v good t free none =
                 replaying = moves.replaying;
                 going = λ h. t.going;
                 limits = λ h u. moves.limits w.numbers.s x.thread u h;
+                after = λ h u. moves.after w.numbers.s x.thread u;
               };
             })
             (good.held d x e)

@@ -108,17 +108,17 @@ each_used order sizes done threads count long each ordered same =
     let m = same k ∙ ordered k ∙ ap (commits_among k) all in
     le-leb (length (sizes_of_thread k order sizes)) (slice_index done k) (omega (arith, n, m)))
 
-by_mode : (mode : ModeName) (s count : ℕ) (order : List Actor) (sizes : Sizes) (done : List ℕ) (threads : List Parts) → IsOrder mode count order → IsSizes mode s count sizes → IsDoneInOrder mode order count threads → AreCommits done threads
+by_mode : (mode : ModeName) (t s count : ℕ) (order : List Actor) (sizes : Sizes) (done : List ℕ) (threads : List Parts) → IsOrder mode t count order → IsSizes mode t s count sizes → IsDoneInOrder mode order count threads → AreCommits done threads
     → sizes_used order sizes done ≡ are_sizes_used threads sizes
-by_mode ModeName.OrderSize s count order (Sizes.Each sizes) done threads is each ordered same = each_used order sizes done threads count is.0 each.0 ordered same
-by_mode ModeName.OrderSize s count order (Sizes.Short sizes) done threads is each ordered same = absurd each
-by_mode ModeName.OrderOnly s count order (Sizes.Each sizes) done threads is each ordered same = absurd each
-by_mode ModeName.OrderOnly s count order (Sizes.Short sizes) done threads is each ordered same = shorts_used order sizes threads done same
-by_mode ModeName.Picolog s count order (Sizes.Each sizes) done threads is each ordered same = absurd each
-by_mode ModeName.Picolog s count order (Sizes.Short sizes) done threads is each ordered same = shorts_used order sizes threads done same
+by_mode ModeName.OrderSize t s count order (Sizes.Each sizes) done threads is each ordered same = each_used order sizes done threads count is.0 each.0 ordered same
+by_mode ModeName.OrderSize t s count order (Sizes.Short sizes) done threads is each ordered same = absurd each
+by_mode ModeName.OrderOnly t s count order (Sizes.Each sizes) done threads is each ordered same = absurd each
+by_mode ModeName.OrderOnly t s count order (Sizes.Short sizes) done threads is each ordered same = shorts_used order sizes threads done same
+by_mode ModeName.Picolog t s count order (Sizes.Each sizes) done threads is each ordered same = absurd each
+by_mode ModeName.Picolog t s count order (Sizes.Short sizes) done threads is each ordered same = shorts_used order sizes threads done same
 
 sizes_alike : SizesAreUsed
-sizes_alike log threads is ordered done same = by_mode log.mode log.s log.count log.order log.sizes done threads is.order is.sizes ordered same
+sizes_alike log threads is ordered done same = by_mode log.mode log.threads log.s log.count log.order log.sizes done threads is.order is.sizes ordered same
 
 -- ---- interrupts
 

@@ -8,6 +8,7 @@ use Rattle.std.proofs.lemmas.Option.{none-some}
 use Rattle.dl_entry.specs.declared.Actor.{Actor}
 use Rattle.dl_entry.specs.declared.Why.{Why}
 use Rattle.spec_isa.specs.declared.thread.Parts.{Parts}
+use Rattle.spec_isa.specs.Words.{lays}
 use Rattle.spec_kernel.specs.Interrupts.{is_live, has_handler}
 use Rattle.spec_engine.specs.declared.answers.How.{How}
 use Rattle.spec_engine.specs.Signatures.{nothing, signed}
@@ -16,10 +17,10 @@ use Rattle.spec_engine.specs.Chunks.{Chunk, step, cut, is_open}
 use Rattle.spec_engine.specs.Asking.{ask, denied_by, busy_by}
 use Rattle.spec_protocol.specs.declared.event.Event.{Event}
 use Rattle.spec_protocol.specs.declared.reply.Reply.{Reply}
-use Rattle.spec_protocol.specs.machine.Spheres.{turn_against, Sphere, no_sphere, is_stopped, head_of}
+use Rattle.spec_protocol.specs.machine.Spheres.{turn_against, Sphere, no_sphere, is_stopped}
 use Rattle.spec_protocol.specs.machine.Commits.{CommitOutcome, Granted, Piece, Diverged, MovedSphere, dma_in, dma_moved}
 use Rattle.spec_protocol.specs.machine.World.{Occupant, World, After, sphere_at, with_core, held_afresh, core_of, answered}
-use Rattle.spec_protocol.specs.machine.Stepping.{stepped, step_held, stepping, cut_to, cut_held, cutting}
+use Rattle.spec_protocol.specs.machine.Stepping.{stepped, step_held, stepping, cut_to, cut_held, cutting, stepped_younger, younger_for, step_younger, cut_younger, cut_in}
 use Rattle.spec_protocol.specs.machine.Flying.{drain_slot, draining, delivering, retiring}
 use Rattle.spec_protocol.specs.machine.Asking.{grant_chunk, grant_serial, unless_denied, unless_busy, asks_serial, ask_arbiter, unless_turn, ask_closed, ask_held, asking}
 use Rattle.spec_protocol.specs.machine.Transferring.{dma_done, transfer, dma_with, dma_if, transferring}
@@ -62,8 +63,18 @@ pub record Transfers (w : World) (i : ℕ) (v : MovedSphere) : Type 0 where
 abbrev pub AfterStep : World → (After → Type 0) → (core : ℕ) → Occupant → Type 0
 AfterStep w Q c h = at w.cores c ≡ Some h → h.chunk.closed ≡ None → Q (stepped w c h (step w.numbers.capacity (sphere_at w h.chunk.sphere).memory w.slots c h.chunk))
 
+-- of the younger chunk, that there is or that begins
+abbrev pub AfterStepYounger : World → (After → Type 0) → (core : ℕ) → Occupant → Chunk → Type 0
+AfterStepYounger w Q c h y =
+    let p = sphere_at w h.chunk.sphere in
+    at w.cores c ≡ Some h → younger_for w.numbers p.role h h.younger ≡ Some y → y.closed ≡ None
+    → Q (stepped_younger w c h (step w.numbers.capacity (lays p.memory h.chunk.done.words) w.slots c y))
+
 abbrev pub AfterCut : World → (After → Type 0) → (core : ℕ) → Occupant → Type 0
-AfterCut w Q c h = at w.cores c ≡ Some h → Q (cut_to w c h (cut h.chunk))
+AfterCut w Q c h = at w.cores c ≡ Some h → h.younger ≡ None → Q (cut_to w c h (cut h.chunk))
+
+abbrev pub AfterCutYounger : World → (After → Type 0) → (core : ℕ) → Occupant → Chunk → Type 0
+AfterCutYounger w Q c h y = at w.cores c ≡ Some h → h.younger ≡ Some y → Q (cut_younger w c h (cut y))
 
 -- a chunk that meets no flight
 abbrev pub AfterChunk : World → (After → Type 0) → (core : ℕ) → Occupant → How → Type 0
@@ -110,33 +121,46 @@ dma_within w i v e =
 
 -- a predicate of what an event comes to in world w, which holds of every answer alone; no such reply makes a point
 module _ (w : World) (Q : After → Type 0) (still : (r : Reply) → makes_point r ≡ false → Q (answered w r)) where
-  held_step : (c : ℕ) (o : Option Occupant) → at w.cores c ≡ o → ((h : Occupant) → AfterStep w Q c h) → Q (step_held w c o)
-  held_step c None is each = still Reply.Idle refl
-  held_step c (Some h) is each =
+  after_closed : (c : ℕ) (h : Occupant) (o : Option Chunk) → at w.cores c ≡ Some h → younger_for w.numbers (sphere_at w h.chunk.sphere).role h h.younger ≡ o → ((y : Chunk) → AfterStepYounger w Q c h y) → Q (step_younger w c h o)
+  after_closed c h None is e younger = still Reply.Waiting refl
+  after_closed c h (Some y) is e younger =
+      let p = sphere_at w h.chunk.sphere in
+      branch Q (is_open y) (stepped_younger w c h (step w.numbers.capacity (lays p.memory h.chunk.done.words) w.slots c y)) (answered w Reply.Waiting)
+      (λ opened. younger y is e (open_is y opened))
+      (λ _. still Reply.Waiting refl)
+
+  held_step : (c : ℕ) (o : Option Occupant) → at w.cores c ≡ o → ((h : Occupant) → AfterStep w Q c h) → ((h : Occupant) (y : Chunk) → AfterStepYounger w Q c h y) → Q (step_held w c o)
+  held_step c None is older younger = still Reply.Idle refl
+  held_step c (Some h) is older younger =
       let p = sphere_at w h.chunk.sphere in
       let s = step w.numbers.capacity p.memory w.slots c h.chunk in
-      branch Q (is_stopped p.role) (answered w Reply.Stopped) (cond (is_open h.chunk) (stepped w c h s) (answered w Reply.Waiting))
+      let o = younger_for w.numbers p.role h h.younger in
+      branch Q (is_stopped p.role) (answered w Reply.Stopped) (cond (is_open h.chunk) (stepped w c h s) (step_younger w c h o))
       (λ _. still Reply.Stopped refl)
-      (λ _. branch Q (is_open h.chunk) (stepped w c h s) (answered w Reply.Waiting)
-      (λ opened. each h is (open_is h.chunk opened))
-      (λ _. still Reply.Waiting refl))
+      (λ _. branch Q (is_open h.chunk) (stepped w c h s) (step_younger w c h o)
+      (λ opened. older h is (open_is h.chunk opened))
+      (λ _. after_closed c h o is refl (younger h)))
 
-  -- a step runs an open chunk
-  pub any-step : (c : ℕ) → ((h : Occupant) → AfterStep w Q c h) → Q (stepping w c)
+  -- a step runs an open chunk, the older or the younger
+  pub any-step : (c : ℕ) → ((h : Occupant) → AfterStep w Q c h) → ((h : Occupant) (y : Chunk) → AfterStepYounger w Q c h y) → Q (stepping w c)
   unfolding stepping
-  any-step c each = held_step c (at w.cores c) refl each
+  any-step c older younger = held_step c (at w.cores c) refl older younger
 
-  held_cut : (c : ℕ) (o : Option Occupant) → at w.cores c ≡ o → ((h : Occupant) → AfterCut w Q c h) → Q (cut_held w c o)
-  held_cut c None is each = still Reply.Idle refl
-  held_cut c (Some h) is each =
-      branch Q (is_stopped (sphere_at w h.chunk.sphere).role) (answered w Reply.Stopped) (cut_to w c h (cut h.chunk))
+  cut_either : (c : ℕ) (h : Occupant) (o : Option Chunk) → at w.cores c ≡ Some h → h.younger ≡ o → AfterCut w Q c h → ((y : Chunk) → AfterCutYounger w Q c h y) → Q (cut_in w c h o)
+  cut_either c h None is e older younger = older is e
+  cut_either c h (Some y) is e older younger = younger y is e
+
+  held_cut : (c : ℕ) (o : Option Occupant) → at w.cores c ≡ o → ((h : Occupant) → AfterCut w Q c h) → ((h : Occupant) (y : Chunk) → AfterCutYounger w Q c h y) → Q (cut_held w c o)
+  held_cut c None is older younger = still Reply.Idle refl
+  held_cut c (Some h) is older younger =
+      branch Q (is_stopped (sphere_at w h.chunk.sphere).role) (answered w Reply.Stopped) (cut_in w c h h.younger)
       (λ _. still Reply.Stopped refl)
-      (λ _. each h is)
+      (λ _. cut_either c h h.younger is refl (older h) (younger h))
 
-  -- a cut closes a chunk
-  pub any-cut : (c : ℕ) → ((h : Occupant) → AfterCut w Q c h) → Q (cutting w c)
+  -- a cut closes the younger chunk, or the older where there is none
+  pub any-cut : (c : ℕ) → ((h : Occupant) → AfterCut w Q c h) → ((h : Occupant) (y : Chunk) → AfterCutYounger w Q c h y) → Q (cutting w c)
   unfolding cutting
-  any-cut c each = held_cut c (at w.cores c) refl each
+  any-cut c older younger = held_cut c (at w.cores c) refl older younger
 
   denied : (a : After) (o : Option ℕ) → (o ≡ None → Q a) → Q (unless_denied (denied_by o) w a)
   denied a None each = each refl
@@ -272,7 +296,9 @@ module _ (w : World) (Q : After → Type 0) (still : (r : Reply) → makes_point
 pub record Cases (w : World) (Q : After → Type 0) : Type 0 where
   pub answers : (r : Reply) → makes_point r ≡ false → Q (answered w r)
   pub steps : (c : ℕ) (h : Occupant) → AfterStep w Q c h
+  pub youngers : (c : ℕ) (h : Occupant) (y : Chunk) → AfterStepYounger w Q c h y
   pub cuts : (c : ℕ) (h : Occupant) → AfterCut w Q c h
+  pub cut_youngers : (c : ℕ) (h : Occupant) (y : Chunk) → AfterCutYounger w Q c h y
   pub chunks : (c : ℕ) (h : Occupant) (how : How) → AfterChunk w Q c h how
   pub serials : (c : ℕ) (h : Occupant) (how : How) → AfterSerial w Q c h how
   pub drains : (k : ℕ) (f : Flight) → AfterDrain w Q k f
@@ -286,8 +312,8 @@ pub record Cases (w : World) (Q : After → Type 0) : Type 0 where
 -- and so of what the event comes to
 pub any-event : (w : World) (Q : After → Type 0) → Cases w Q → (e : Event) → Q (act w e)
 unfolding act
-any-event w Q each (Event.Step c) = any-step w Q each.answers (core_no w c) (each.steps (core_no w c))
-any-event w Q each (Event.Cut c) = any-cut w Q each.answers (core_no w c) (each.cuts (core_no w c))
+any-event w Q each (Event.Step c) = any-step w Q each.answers (core_no w c) (each.steps (core_no w c)) (each.youngers (core_no w c))
+any-event w Q each (Event.Cut c) = any-cut w Q each.answers (core_no w c) (each.cuts (core_no w c)) (each.cut_youngers (core_no w c))
 any-event w Q each (Event.Ask c) = any-ask w Q each.answers (core_no w c) (each.chunks (core_no w c)) (each.serials (core_no w c))
 any-event w Q each (Event.Drain k) = any-drain w Q each.answers (slot_no w k) (each.drains (slot_no w k))
 any-event w Q each (Event.Deliver c k) = each.delivers (core_no w c) (slot_no w k)

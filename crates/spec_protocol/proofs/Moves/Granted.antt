@@ -1,7 +1,7 @@
 -- What a granted request leaves alone in its sphere, whatever its role: the memory, the other threads and their limits.
-use Rattle.std.proofs.Common.{◌≡◌, ◌≢◌, ℕ, zero, suc, ◌+◌, ◌-◌, Bool, true, false, eqb, cond, List, [], ◌∷◌, ◌++◌, length, Option, Some, None, refl, sym, ap, ◌∙◌, subst, set}
+use Rattle.std.proofs.Common.{◌≡◌, ◌≢◌, ℕ, zero, suc, ◌+◌, ◌-◌, Bool, true, false, eqb, cond, List, [], ◌∷◌, ◌++◌, length, Option, Some, None, refl, sym, ap, ◌∙◌, subst, set, ◌⊎◌, inl, inr, not, arith}
 use Rattle.std.specs.Prelude.{slice_get, slice_set, max}
-use Rattle.std.proofs.lemmas.Bool.{true≢false, eqb-true, ne_eqb}
+use Rattle.std.proofs.lemmas.Bool.{true≢false, eqb-true, ne_eqb, and_parts, not-true}
 use Rattle.std.proofs.lemmas.Option.{none-some}
 use Rattle.dl_entry.specs.declared.Actor.{Actor}
 use Rattle.dl_entry.specs.declared.Input.{Input}
@@ -22,12 +22,12 @@ use Rattle.spec_kernel.specs.Needs.{Need, Write, Read, Random, Clock, MomentWord
 use Rattle.spec_kernel.specs.Interrupts.{takes_interrupt, interrupted}
 use Rattle.spec_kernel.specs.Serving.{StepResult, copy_of, outside_called, is_outside, inside_called, device_loaded, device_stored, serve_kind, serve, console_written}
 use Rattle.spec_kernel.specs.Calls.{called}
-use Rattle.spec_play.specs.Effects.{Effect, chunk_effect, serial_effect}
-use Rattle.spec_play.specs.Progress.{Progress, Used}
+use Rattle.spec_play.specs.Effects.{Effect, chunk_effect, serial_effect, counted}
+use Rattle.spec_play.specs.Progress.{Progress, Used, with_interrupt}
 use Rattle.spec_play.specs.Turns.{Now, Turn, TurnOfDma, Ended}
 use Rattle.spec_play.specs.Verdicts.{LogVerdict, Goes, Fails, unless, interrupt_at, with_interrupted, chunk_why, chunk_verdict, Given, given, serial_why, served_verdict, serial_verdict}
 use Rattle.spec_play.specs.Plays.{with_threads}
-use Rattle.spec_protocol.specs.machine.Spheres.{other_than, turn_in, Cursor, Role, Plain, Record, Replay, Sphere, is_over, is_stopped, actor_of, head_in, whole_limit, pieces_of, limit_in, limit_of, halves}
+use Rattle.spec_protocol.specs.machine.Spheres.{other_than, turn_in, Cursor, Role, Plain, Record, Replay, Sphere, is_over, is_stopped, actor_of, whole_limit, pieces_of, limit_in, limit_of, halves, limit_after_in, limit_after}
 use Rattle.spec_protocol.specs.machine.Commits.{CommitOutcome, Granted, Piece, Diverged, MovedSphere, granted_as, by_verdict, joined, piece_moved, replayed_chunk, chunk_in, chunk_moved, serial_in, serial_moved, serial_noted}
 use Rattle.spec_protocol.specs.machine.Placing.{replays}
 use Rattle.spec_kernel.specs.Answers.{taken}
@@ -90,6 +90,7 @@ pub record KeepsOthers (k : ℕ) (p q : Sphere) : Type 0 where
   pub halving : halves q.role ≡ halves p.role
   pub replaying : replays q.role ≡ replays p.role
   pub limits : (s j : ℕ) (t : Parts) → j ≢ k → is_stopped q.role ≡ false → limit_of s q.role j t ≡ limit_of s p.role j t
+  pub after : (s j : ℕ) (t : Parts) → limit_after s q.role j t ≡ limit_after s p.role j t
 
 -- a divergence stores nothing, changes no thread and no device, and stops the sphere
 abbrev pub Divergence : Devices → Sphere → MovedSphere → CommitOutcome → Type 0
@@ -112,7 +113,7 @@ threads_kept : (k : ℕ) (e : Effect) (ts : List Parts) (j : ℕ) (t : Parts) �
 threads_kept k e ts j t ne is = get-append (slice_set ts k e.thread) e.spawned j t (get-set_other ts k j e.thread ne ∙ is)
 
 verdict_moves : (k : ℕ) (b : Cursor) (verdict : LogVerdict) (devices : Devices) (p : Sphere) → p.role ≡ Replay b → b.now ≡ Turn k → ((e : Effect) (u : Used) → verdict ≡ Goes e u → Apart e.words) → MovesOnly k devices p (by_verdict b k verdict devices p)
-unfolding limit_of
+unfolding limit_of limit_after
 verdict_moves k b (Fails why) devices p is turn apart =
     record {
       keeps = record {
@@ -121,6 +122,7 @@ verdict_moves k b (Fails why) devices p is turn apart =
         halving = ap halves (sym is);
         replaying = ap replays (sym is);
         limits = λ s j t ne going. absurd (true≢false going);
+        after = λ s j t. ap (λ (q : Role). limit_after_in q s j t.commits) (sym is);
       };
       apart = tt;
       divergence = (refl, refl, refl, refl);
@@ -135,6 +137,7 @@ verdict_moves k b (Goes e u) devices p is turn apart =
         limits = λ s j t ne going.
             ap (λ (n : ℕ). max 1 (whole_limit b.log j t.commits - n)) (pieces_none _ j ∙ sym (ap (λ (now : Now). pieces_of now j b.total) turn ∙ pieces_other k j b.total ne))
             ∙ ap (λ (r : Role). limit_in r s j t.commits) (sym is);
+        after = λ s j t. ap (λ (q : Role). limit_after_in q s j t.commits) (sym is);
       };
       apart = apart e u refl;
       divergence = tt;
@@ -162,9 +165,9 @@ chunk_words log p u k r e v is =
     unless_words (chunk_why (size_in log (Actor.Thread k) r.thread.commits) r.n) (with_interrupted (interrupt_at log.interrupts k x.thread.commits) x u) r.words
     (λ f w h. interrupted_words (interrupt_at log.interrupts k x.thread.commits) x u f w h) e v is
 
-granted_moves : (k : ℕ) (role : Role) (e : Effect) (ds devices : Devices) (p : Sphere) → halves role ≡ halves p.role → replays role ≡ replays p.role → ((s j : ℕ) (t : Parts) → limit_of s role j t ≡ limit_of s p.role j t) → Apart e.words
+granted_moves : (k : ℕ) (role : Role) (e : Effect) (ds devices : Devices) (p : Sphere) → halves role ≡ halves p.role → replays role ≡ replays p.role → ((s j : ℕ) (t : Parts) → limit_of s role j t ≡ limit_of s p.role j t) → ((s j : ℕ) (t : Parts) → limit_after s role j t ≡ limit_after s p.role j t) → Apart e.words
     → MovesOnly k ds p (granted_as role k e devices p)
-granted_moves k role e ds devices p halving replaying limits apart =
+granted_moves k role e ds devices p halving replaying limits after apart =
     record {
       keeps = record {
         memory = refl;
@@ -172,13 +175,14 @@ granted_moves k role e ds devices p halving replaying limits apart =
         halving = halving;
         replaying = replaying;
         limits = λ s j t ne going. limits s j t;
+        after = after;
       };
       apart = apart;
       divergence = tt;
     }
 
 piece_moves : (k : ℕ) (b : Cursor) (r : Run) (devices : Devices) (p : Sphere) → p.role ≡ Replay b → b.now ≡ Turn k → Apart r.words → MovesOnly k devices p (piece_moved b k r devices p)
-unfolding limit_of
+unfolding limit_of limit_after
 piece_moves k b r devices p is turn apart =
     record {
       keeps = record {
@@ -190,6 +194,7 @@ piece_moves k b r devices p is turn apart =
             ap (λ (n : ℕ). max 1 (whole_limit b.log j t.commits - n))
             (ap (λ (now : Now). pieces_of now j (b.total + r.n)) turn ∙ pieces_other k j (b.total + r.n) ne ∙ sym (ap (λ (now : Now). pieces_of now j b.total) turn ∙ pieces_other k j b.total ne))
             ∙ ap (λ (q : Role). limit_in q s j t.commits) (sym is);
+        after = λ s j t. ap (λ (q : Role). limit_after_in q s j t.commits) (sym is);
       };
       apart = apart;
       divergence = tt;
@@ -202,11 +207,11 @@ replayed_moves k b false r devices p is turn apart =
     (λ e u h. subst Apart (sym (chunk_words b.log p.progress b.used k (joined b r) e u h)) apart)
 
 chunk_in_moves : (k : ℕ) (role : Role) (piece short : Bool) (r : Run) (devices : Devices) (p : Sphere) → p.role ≡ role → HasTurn k role p → Apart r.words → MovesOnly k devices p (chunk_in role k piece short r devices p)
-unfolding limit_of
+unfolding limit_of limit_after
 chunk_in_moves k Plain piece short r devices p is turn apart =
-    granted_moves k Plain (chunk_effect k p.progress.request r) devices devices p (ap halves (sym is)) (ap replays (sym is)) (λ s j t. ap (λ (q : Role). limit_in q s j t.commits) (sym is)) apart
+    granted_moves k Plain (chunk_effect k p.progress.request r) devices devices p (ap halves (sym is)) (ap replays (sym is)) (λ s j t. ap (λ (q : Role). limit_in q s j t.commits) (sym is)) (λ s j t. ap (λ (q : Role). limit_after_in q s j t.commits) (sym is)) apart
 chunk_in_moves k (Record recording) piece short r devices p is turn apart =
-    granted_moves k (Record _) (chunk_effect k p.progress.request r) devices devices p (ap halves (sym is)) (ap replays (sym is)) (λ s j t. ap (λ (q : Role). limit_in q s j t.commits) (sym is)) apart
+    granted_moves k (Record _) (chunk_effect k p.progress.request r) devices devices p (ap halves (sym is)) (ap replays (sym is)) (λ s j t. ap (λ (q : Role). limit_in q s j t.commits) (sym is)) (λ s j t. ap (λ (q : Role). limit_after_in q s j t.commits) (sym is)) apart
 chunk_in_moves k (Replay b) piece short r devices p is turn apart =
     replayed_moves k b piece r devices p is (turn-is b.now k turn.going turn.turn) apart
 
@@ -311,15 +316,15 @@ serial_apart log p u k ts t m e v is =
     unless_apart (serial_why (size_in log (Actor.Thread k) t.commits)) (served_verdict log p k ts t m g) (λ f w h. served_apart log p k ts t m g f w h) e v is
 
 serial_in_moves : (k moment : ℕ) (role : Role) (t : Parts) (devices : Devices) (p : Sphere) → p.role ≡ role → HasTurn k role p → MovesOnly k devices p (serial_in role k moment t devices p)
-unfolding limit_of
+unfolding limit_of limit_after
 serial_in_moves k moment Plain t devices p is turn =
     let g = taken (need t p.memory) devices moment in
     let v = serve k p.threads p.progress.request t p.memory g.input in
-    granted_moves k Plain (serial_effect k v) devices (console_written t p.memory v.outputs g.devices) p (ap halves (sym is)) (ap replays (sym is)) (λ s j u. ap (λ (q : Role). limit_in q s j u.commits) (sym is)) (serve-apart k p.threads p.progress.request t p.memory g.input)
+    granted_moves k Plain (serial_effect k v) devices (console_written t p.memory v.outputs g.devices) p (ap halves (sym is)) (ap replays (sym is)) (λ s j u. ap (λ (q : Role). limit_in q s j u.commits) (sym is)) (λ s j u. ap (λ (q : Role). limit_after_in q s j u.commits) (sym is)) (serve-apart k p.threads p.progress.request t p.memory g.input)
 serial_in_moves k moment (Record recording) t devices p is turn =
     let g = taken (need t p.memory) devices moment in
     let v = serve k p.threads p.progress.request t p.memory g.input in
-    granted_moves k (Record (record recording { log = serial_noted k t g recording.log p })) (serial_effect k v) devices (console_written t p.memory v.outputs g.devices) p (ap halves (sym is)) (ap replays (sym is)) (λ s j u. ap (λ (q : Role). limit_in q s j u.commits) (sym is)) (serve-apart k p.threads p.progress.request t p.memory g.input)
+    granted_moves k (Record (record recording { log = serial_noted k t g recording.log p })) (serial_effect k v) devices (console_written t p.memory v.outputs g.devices) p (ap halves (sym is)) (ap replays (sym is)) (λ s j u. ap (λ (q : Role). limit_in q s j u.commits) (sym is)) (λ s j u. ap (λ (q : Role). limit_after_in q s j u.commits) (sym is)) (serve-apart k p.threads p.progress.request t p.memory g.input)
 serial_in_moves k moment (Replay b) t devices p is turn =
     verdict_moves k b (serial_verdict b.log p.progress b.used k p.threads t p.memory) devices p is (turn-is b.now k turn.going turn.turn)
     (λ e u h. serial_apart b.log p.progress b.used k p.threads t p.memory e u h)
@@ -350,3 +355,94 @@ serial_in_lives (Replay b) k moment t devices p live = absurd (true≢false live
 pub serial-lives : (k moment : ℕ) (t : Parts) (devices : Devices) (p : Sphere) → replays p.role ≡ false → (serial_moved k moment t devices p).outcome ≡ Granted
 unfolding serial_moved
 serial-lives k moment t devices p live = serial_in_lives p.role k moment t devices p live
+
+-- ---- what a whole commit of a chunk leaves for the thread's next chunk
+
+-- it stores the run's words and counts its thread, which may have taken an interrupt; the next commit has the limit that it
+-- had behind this one
+pub record Leaves (k : ℕ) (p : Sphere) (r : Run) (v : MovedSphere) : Type 0 where
+  pub words : v.words ≡ r.words
+  pub thread : (t : Parts) → slice_get v.sphere.threads k ≡ Some t → (t ≡ counted r.thread) ⊎ ((t.mask ≡ true) × ((counted r.thread).mask ≡ false))
+  pub limits : (s : ℕ) (t : Parts) → limit_of s v.sphere.role k t ≡ limit_after s p.role k t
+
+-- the thread of an effect is this one, or this one after an interrupt
+abbrev IsLeft : Parts → Parts → Type 0
+IsLeft u t = (t ≡ u) ⊎ ((t.mask ≡ true) × (u.mask ≡ false))
+
+put_there : (k : ℕ) (e : Effect) (ts : List Parts) (u t : Parts) → slice_get ts k ≡ Some u → slice_get (with_threads k e ts) k ≡ Some t → e.thread ≡ t
+put_there k e ts u t is there =
+    let h : Some e.thread ≡ Some t = sym (get-append (slice_set ts k e.thread) e.spawned k e.thread (get-set_same ts k e.thread u is)) ∙ there in cc
+
+left_by : (value : ℕ) (e f : Effect) (u v : Used) (b : Bool) → takes_interrupt e.thread ≡ b → cond b (Goes (record e { thread = interrupted value e.thread }) u) (Fails Why.Interrupt) ≡ Goes f v → IsLeft e.thread f.thread
+left_by value e f u v true takes is =
+    let g : record e { thread = interrupted value e.thread } ≡ f = cc in
+    inr (ap (λ (x : Effect). x.thread.mask) (sym g), not-true e.thread.mask (and_parts _ (not e.thread.mask) takes).1)
+left_by value e f u v false takes is = cc
+
+interrupted_thread : (o : Option ℕ) (e : Effect) (u : Used) (f : Effect) (v : Used) → with_interrupted o e u ≡ Goes f v → IsLeft e.thread f.thread
+interrupted_thread None e u f v is = let g : e ≡ f = cc in inl (ap (λ (x : Effect). x.thread) (sym g))
+interrupted_thread (Some value) e u f v is = left_by value e f (with_interrupt u) v (takes_interrupt e.thread) refl is
+
+unless_thread : (o : Option Why) (x : LogVerdict) (t : Parts) → ((e : Effect) (u : Used) → x ≡ Goes e u → IsLeft t e.thread) → (e : Effect) (u : Used) → unless o x ≡ Goes e u → IsLeft t e.thread
+unless_thread None x t each e u is = each e u is
+unless_thread (Some why) x t each e u is = cc
+
+chunk_thread : (log : LogParts) (p : Progress) (u : Used) (k : ℕ) (r : Run) (e : Effect) (v : Used) → chunk_verdict log p u k r ≡ Goes e v → IsLeft (counted r.thread) e.thread
+unfolding chunk_verdict
+chunk_thread log p u k r e v is =
+    let x = chunk_effect k p.request r in
+    unless_thread (chunk_why (size_in log (Actor.Thread k) r.thread.commits) r.n) (with_interrupted (interrupt_at log.interrupts k x.thread.commits) x u) (counted r.thread)
+    (λ f w h. interrupted_thread (interrupt_at log.interrupts k x.thread.commits) x u f w h) e v is
+
+effect_leaves : (k : ℕ) (role : Role) (e : Effect) (devices : Devices) (p : Sphere) (r : Run) (u : Parts) → slice_get p.threads k ≡ Some u → e.words ≡ r.words → IsLeft (counted r.thread) e.thread → ((s : ℕ) (t : Parts) → limit_of s role k t ≡ limit_after s p.role k t)
+    → Leaves k p r (granted_as role k e devices p)
+effect_leaves k role e devices p r u is words thread limits =
+    record {
+      words = words;
+      thread = λ t there. subst (IsLeft (counted r.thread)) (put_there k e p.threads u t is there) thread;
+      limits = limits;
+    }
+
+none_taken : (n : ℕ) → max 1 (n - 0) ≡ max 1 n
+none_taken n = omega arith
+
+verdict_leaves : (k : ℕ) (b : Cursor) (verdict : LogVerdict) (devices : Devices) (p : Sphere) (r : Run) (u : Parts) → p.role ≡ Replay b → slice_get p.threads k ≡ Some u → ((e : Effect) (x : Used) → verdict ≡ Goes e x → (e.words ≡ r.words) × IsLeft (counted r.thread) e.thread)
+    → (by_verdict b k verdict devices p).outcome ≡ Granted → Leaves k p r (by_verdict b k verdict devices p)
+unfolding limit_of limit_after
+verdict_leaves k b (Fails why) devices p r u role is each granted = absurd (let h : Diverged _ why ≡ Granted = granted in cc)
+verdict_leaves k b (Goes e x) devices p r u role is each granted =
+    let g = each e x refl in
+    effect_leaves k _ e devices p r u is g.0 g.1
+    (λ s t. ap (λ (n : ℕ). max 1 (whole_limit b.log k t.commits - n)) (pieces_none _ k) ∙ none_taken (whole_limit b.log k t.commits) ∙ ap (λ (q : Role). limit_after_in q s k t.commits) (sym role))
+
+leaves_in : (role : Role) (k : ℕ) (piece short : Bool) (r : Run) (devices : Devices) (p : Sphere) (u : Parts) → p.role ≡ role → slice_get p.threads k ≡ Some u → (chunk_in role k piece short r devices p).outcome ≡ Granted → Leaves k p r (chunk_in role k piece short r devices p)
+unfolding limit_of limit_after
+leaves_in Plain k piece short r devices p u role is granted =
+    effect_leaves k Plain (chunk_effect k p.progress.request r) devices p r u is refl (inl refl) (λ s t. ap (λ (q : Role). limit_after_in q s k t.commits) (sym role))
+leaves_in (Record log) k piece short r devices p u role is granted =
+    effect_leaves k (Record _) (chunk_effect k p.progress.request r) devices p r u is refl (inl refl) (λ s t. ap (λ (q : Role). limit_after_in q s k t.commits) (sym role))
+leaves_in (Replay b) k true short r devices p u role is granted = absurd (let h : Piece ≡ Granted = granted in cc)
+leaves_in (Replay b) k false short r devices p u role is granted =
+    verdict_leaves k b (chunk_verdict b.log p.progress b.used k (joined b r)) devices p r u role is
+    (λ e x h. (chunk_words b.log p.progress b.used k (joined b r) e x h, chunk_thread b.log p.progress b.used k (joined b r) e x h)) granted
+
+-- what a chunk leaves that is granted whole
+pub chunk-leaves : (k : ℕ) (piece short : Bool) (r : Run) (devices : Devices) (p : Sphere) (u : Parts) → slice_get p.threads k ≡ Some u → (chunk_moved k piece short r devices p).outcome ≡ Granted → Leaves k p r (chunk_moved k piece short r devices p)
+unfolding chunk_moved
+chunk-leaves k piece short r devices p u is granted = leaves_in p.role k piece short r devices p u refl is granted
+
+-- a plain or recorded sphere has no pieces, nor has one whose chunk was closed by its limit or before a serial instruction
+piece_in : (role : Role) (k : ℕ) (piece short : Bool) (r : Run) (devices : Devices) (p : Sphere) → (chunk_in role k piece short r devices p).outcome ≡ Piece → (replays role ≡ true) × (piece ≡ true)
+piece_in Plain k piece short r devices p e = absurd (let h : Granted ≡ Piece = e in cc)
+piece_in (Record log) k piece short r devices p e = absurd (let h : Granted ≡ Piece = e in cc)
+piece_in (Replay b) k true short r devices p e = (refl, refl)
+piece_in (Replay b) k false short r devices p e = absurd (no_piece b k (chunk_verdict b.log p.progress b.used k (joined b r)) devices p e)
+  where
+    no_piece : (b : Cursor) (k : ℕ) (verdict : LogVerdict) (devices : Devices) (p : Sphere) → (by_verdict b k verdict devices p).outcome ≡ Piece → ⊥
+    no_piece b k (Fails why) devices p e = let h : Diverged _ why ≡ Piece = e in cc
+    no_piece b k (Goes f u) devices p e = let h : Granted ≡ Piece = e in cc
+
+-- only a replay commits in pieces, of chunks that may be pieces
+pub piece-replayed : (k : ℕ) (piece short : Bool) (r : Run) (devices : Devices) (p : Sphere) → (chunk_moved k piece short r devices p).outcome ≡ Piece → (replays p.role ≡ true) × (piece ≡ true)
+unfolding chunk_moved
+piece-replayed k piece short r devices p e = piece_in p.role k piece short r devices p e

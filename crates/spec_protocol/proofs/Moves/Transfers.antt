@@ -18,7 +18,7 @@ use Rattle.spec_play.specs.Progress.{Progress, position, Used}
 use Rattle.spec_play.specs.Turns.{Now, Turn, TurnOfDma, Ended}
 use Rattle.spec_play.specs.Verdicts.{serial_why}
 use Rattle.spec_play.specs.Transfers.{DmaVerdict, DmaGoes, DmaFails, is_for, transferred, dma_unless, dma_verdict}
-use Rattle.spec_protocol.specs.machine.Spheres.{other_than, turn_in, turn_against, Cursor, Role, Plain, Record, Replay, Sphere, is_over, is_stopped, actor_of, whole_limit, pieces_of, limit_in, limit_of, halves}
+use Rattle.spec_protocol.specs.machine.Spheres.{other_than, turn_in, turn_against, Cursor, Role, Plain, Record, Replay, Sphere, is_over, is_stopped, actor_of, whole_limit, pieces_of, limit_in, limit_of, halves, limit_after_in, limit_after}
 use Rattle.spec_protocol.specs.machine.Commits.{Granted, MovedSphere, dma_as, live_dma, dma_log, dma_by_verdict, dma_in, dma_moved}
 use Rattle.spec_protocol.specs.machine.Placing.{replays}
 use Rattle.spec_protocol.proofs.Moves.Granted.{bytes_apart, pieces_none, Divergence}
@@ -30,6 +30,7 @@ pub record DmaMoves (devices : Devices) (p : Sphere) (v : MovedSphere) : Type 0 
   pub halving : halves v.sphere.role ≡ halves p.role
   pub replaying : replays v.sphere.role ≡ replays p.role
   pub limits : (s j : ℕ) (t : Parts) → is_stopped v.sphere.role ≡ false → limit_of s v.sphere.role j t ≡ limit_of s p.role j t
+  pub after : (s j : ℕ) (t : Parts) → limit_after s v.sphere.role j t ≡ limit_after s p.role j t
   pub apart : Apart v.words
   pub divergence : Divergence devices p v v.outcome
 
@@ -42,29 +43,30 @@ dma-turn_is (Turn k) going e = absurd (none-some (Actor.Thread k) (sym e))
 dma-turn_is TurnOfDma going e = refl
 dma-turn_is (Ended how) going e = absurd (true≢false going)
 
-as_moves : (role : Role) (words : List Stored) (ds devices : Devices) (p : Sphere) → halves role ≡ halves p.role → replays role ≡ replays p.role → ((s j : ℕ) (t : Parts) → limit_of s role j t ≡ limit_of s p.role j t) → Apart words
+as_moves : (role : Role) (words : List Stored) (ds devices : Devices) (p : Sphere) → halves role ≡ halves p.role → replays role ≡ replays p.role → ((s j : ℕ) (t : Parts) → limit_of s role j t ≡ limit_of s p.role j t) → ((s j : ℕ) (t : Parts) → limit_after s role j t ≡ limit_after s p.role j t) → Apart words
     → DmaMoves ds p (dma_as role words devices p)
-as_moves role words ds devices p halving replaying limits apart =
+as_moves role words ds devices p halving replaying limits after apart =
     record {
       memory = refl;
       threads = refl;
       halving = halving;
       replaying = replaying;
       limits = λ s j t going. limits s j t;
+      after = after;
       apart = apart;
       divergence = tt;
     }
 
 live_moves : (role : Role) (devices : Devices) (p : Sphere) (o : Option Request) (v : MovedSphere) → halves role ≡ halves p.role → replays role ≡ replays p.role → ((s j : ℕ) (t : Parts) → limit_of s role j t ≡ limit_of s p.role j t)
-    → live_dma role devices p o ≡ Some v → DmaMoves devices p v
-live_moves role devices p None v halving replaying limits is = absurd (none-some v is)
-live_moves role devices p (Some request) v halving replaying limits is =
+    → ((s j : ℕ) (t : Parts) → limit_after s role j t ≡ limit_after s p.role j t) → live_dma role devices p o ≡ Some v → DmaMoves devices p v
+live_moves role devices p None v halving replaying limits after is = absurd (none-some v is)
+live_moves role devices p (Some request) v halving replaying limits after is =
     let words = dma_words request (dma_bytes devices request) in
     subst (DmaMoves devices p) (let h : dma_as role words (dma_taken devices request) p ≡ v = cc in h)
-    (as_moves role words devices (dma_taken devices request) p halving replaying limits (words_apart request (dma_bytes devices request)))
+    (as_moves role words devices (dma_taken devices request) p halving replaying limits after (words_apart request (dma_bytes devices request)))
 
 verdict_moves : (b : Cursor) (verdict : DmaVerdict) (devices : Devices) (p : Sphere) → p.role ≡ Replay b → b.now ≡ TurnOfDma → ((ws : List Stored) → verdict ≡ DmaGoes ws → Apart ws) → DmaMoves devices p (dma_by_verdict b verdict devices p)
-unfolding limit_of
+unfolding limit_of limit_after
 verdict_moves b (DmaFails why) devices p is turn apart =
     record {
       memory = refl;
@@ -72,6 +74,7 @@ verdict_moves b (DmaFails why) devices p is turn apart =
       halving = ap halves (sym is);
       replaying = ap replays (sym is);
       limits = λ s j t going. absurd (true≢false going);
+      after = λ s j t. ap (λ (q : Role). limit_after_in q s j t.commits) (sym is);
       apart = tt;
       divergence = (refl, refl, refl, refl);
     }
@@ -80,6 +83,7 @@ verdict_moves b (DmaGoes words) devices p is turn apart =
     (λ s j t.
     ap (λ (n : ℕ). max 1 (whole_limit b.log j t.commits - n)) (pieces_none _ j ∙ sym (ap (λ (now : Now). pieces_of now j b.total) turn))
     ∙ ap (λ (q : Role). limit_in q s j t.commits) (sym is))
+    (λ s j t. ap (λ (q : Role). limit_after_in q s j t.commits) (sym is))
     (apart words refl)
 
 by_fit : (b : Bool) (ws us : List Stored) → Apart ws → cond b (DmaGoes ws) (DmaFails Why.Dma) ≡ DmaGoes us → Apart us
@@ -103,11 +107,11 @@ verdict_apart log p u ws e =
     unless_apart (serial_why (size_in log Actor.Dma (position p))) (transferred (position p) p.request next) (λ vs h. transferred_apart (position p) p.request next vs h) ws e
 
 in_moves : (role : Role) (devices : Devices) (p : Sphere) (v : MovedSphere) → p.role ≡ role → is_stopped role ≡ false → turn_in role p Actor.Dma ≡ None → dma_in role devices p ≡ Some v → DmaMoves devices p v
-unfolding limit_of
+unfolding limit_of limit_after
 in_moves Plain devices p v is going turn e =
-    live_moves Plain devices p p.progress.request v (ap halves (sym is)) (ap replays (sym is)) (λ s j t. ap (λ (q : Role). limit_in q s j t.commits) (sym is)) e
+    live_moves Plain devices p p.progress.request v (ap halves (sym is)) (ap replays (sym is)) (λ s j t. ap (λ (q : Role). limit_in q s j t.commits) (sym is)) (λ s j t. ap (λ (q : Role). limit_after_in q s j t.commits) (sym is)) e
 in_moves (Record recording) devices p v is going turn e =
-    live_moves (Record (record recording { log = dma_log recording.log devices p p.progress.request })) devices p p.progress.request v (ap halves (sym is)) (ap replays (sym is)) (λ s j t. ap (λ (q : Role). limit_in q s j t.commits) (sym is)) e
+    live_moves (Record (record recording { log = dma_log recording.log devices p p.progress.request })) devices p p.progress.request v (ap halves (sym is)) (ap replays (sym is)) (λ s j t. ap (λ (q : Role). limit_in q s j t.commits) (sym is)) (λ s j t. ap (λ (q : Role). limit_after_in q s j t.commits) (sym is)) e
 in_moves (Replay b) devices p v is going turn e =
     subst (DmaMoves devices p) (let h : dma_by_verdict b (dma_verdict b.log p.progress b.used) devices p ≡ v = cc in h)
     (verdict_moves b (dma_verdict b.log p.progress b.used) devices p is (dma-turn_is b.now going turn) (λ ws h. verdict_apart b.log p.progress b.used ws h))

@@ -1,5 +1,5 @@
 -- No event touches the points and the counts by itself: they grow only where the event is counted.
-use Rattle.std.proofs.Common.{◌≡◌, ℕ, false, Option, Some, None, refl, sym, ap, length}
+use Rattle.std.proofs.Common.{◌≡◌, ℕ, false, Option, Some, None, refl, sym, ap, length, Bool, true}
 use Rattle.std.specs.Prelude.{is_some}
 use Rattle.spec_isa.specs.declared.thread.Parts.{Parts}
 use Rattle.spec_engine.specs.declared.answers.How.{How}
@@ -11,13 +11,14 @@ use Rattle.spec_protocol.specs.declared.event.Event.{Event}
 use Rattle.spec_protocol.specs.machine.Commits.{CommitOutcome, Granted, Piece, Diverged, MovedSphere, is_piece, chunk_moved, serial_moved}
 use Rattle.spec_protocol.specs.machine.World.{Occupant, World, After, moment, sphere_at, with_sphere, with_slot, core_of}
 use Rattle.spec_protocol.specs.machine.Stepping.{reply_of_step, reply_of_cut}
-use Rattle.spec_protocol.specs.machine.Asking.{CommitRequest, chunk_request, granted, grant_chunk, grant_serial}
+use Rattle.spec_protocol.specs.machine.Asking.{CommitRequest, chunk_request, granted, grant_chunk, grant_serial, serial_request}
 use Rattle.spec_protocol.specs.machine.Flying.{drain_slot, told, delivering, retiring, reply_of_drain, reply_of_retire}
 use Rattle.spec_protocol.specs.machine.Placing.{with_renewed, raise_in}
 use Rattle.spec_protocol.specs.machine.Machine.{act, name_of, with_point, happens}
 use Rattle.spec_protocol.proofs.Moves.AnyEvent.{any-event}
 use Rattle.dl_entry.specs.declared.Counts.{Counts}
 use Rattle.dl_entry.specs.Counts.{counted}
+use Rattle.spec_isa.specs.Words.{lays}
 use Rattle.spec_engine.specs.declared.answers.Stepped.{Stepped}
 use Rattle.spec_engine.specs.declared.answers.CutReply.{CutReply}
 use Rattle.spec_engine.specs.declared.answers.Drain.{Drain}
@@ -64,20 +65,21 @@ chunk_untold w c h how =
 
 serial_untold : (w : World) (c : ℕ) (h : Occupant) → Untold w (grant_serial w c h)
 unfolding grant_serial
-serial_untold w c h = granted_untold w c _ _ (serial_moved h.thread (moment w) h.chunk.start w.devices (sphere_at w h.chunk.sphere)) _
+serial_untold w c h = granted_untold w c (serial_request h) _ (serial_moved h.thread (moment w) h.chunk.start w.devices (sphere_at w h.chunk.sphere)) _
 
 drain_untold : (w : World) (k : ℕ) (f : Flight) → Untold w (drain_slot w k (Some f))
 drain_untold w k f = record { points = refl; counts = refl; exactly = drain_none (drain (sphere_at w f.sphere).memory (Some f)).reply; moment = tt }
 
-told_untold : (w : World) (k c : ℕ) (v : Option Flight) (held : Option Occupant) (d : Deliver) → Untold w (told (with_slot w k v) c held d)
-told_untold w k c v held Deliver.NoCommit = record { points = refl; counts = refl; exactly = refl; moment = tt }
-told_untold w k c v held Deliver.Already = record { points = refl; counts = refl; exactly = refl; moment = tt }
-told_untold w k c v held Deliver.Squashed = record { points = refl; counts = refl; exactly = refl; moment = tt }
-told_untold w k c v held Deliver.Delivered = record { points = refl; counts = refl; exactly = refl; moment = tt }
+told_untold : (w : World) (k c : ℕ) (v : Option Flight) (held : Option Occupant) (d : Deliver) (hit : Bool) → Untold w (told (with_slot w k v) c held d hit)
+told_untold w k c v held Deliver.NoCommit hit = record { points = refl; counts = refl; exactly = refl; moment = tt }
+told_untold w k c v held Deliver.Already hit = record { points = refl; counts = refl; exactly = refl; moment = tt }
+told_untold w k c v held Deliver.Squashed hit = record { points = refl; counts = refl; exactly = refl; moment = tt }
+told_untold w k c v held Deliver.Delivered true = record { points = refl; counts = refl; exactly = refl; moment = tt }
+told_untold w k c v held Deliver.Delivered false = record { points = refl; counts = refl; exactly = refl; moment = tt }
 
 deliver_untold : (w : World) (c k : ℕ) → Untold w (delivering w c k)
 unfolding delivering
-deliver_untold w c k = told_untold w k c _ (at w.cores c) _
+deliver_untold w c k = told_untold w k c _ (at w.cores c) _ _
 
 retire_untold : (w : World) (k : ℕ) → Untold w (retiring w k)
 unfolding retiring
@@ -100,7 +102,11 @@ act-untold w e =
       steps = λ c h is opened.
           let s = step w.numbers.capacity (sphere_at w h.chunk.sphere).memory w.slots c h.chunk in
           record { points = refl; counts = refl; exactly = step_none s.reply; moment = tt };
-      cuts = λ c h is. record { points = refl; counts = refl; exactly = cut_none (cut h.chunk).reply; moment = tt };
+      youngers = λ c h y is e opened.
+          let s = step w.numbers.capacity (lays (sphere_at w h.chunk.sphere).memory h.chunk.done.words) w.slots c y in
+          record { points = refl; counts = refl; exactly = step_none s.reply; moment = tt };
+      cuts = λ c h is none. record { points = refl; counts = refl; exactly = cut_none (cut h.chunk).reply; moment = tt };
+      cut_youngers = λ c h y is e. record { points = refl; counts = refl; exactly = cut_none (cut y).reply; moment = tt };
       chunks = λ c h how may chunk none. chunk_untold w c h how;
       serials = λ c h how may serial none. serial_untold w c h;
       drains = λ k f is. drain_untold w k f;

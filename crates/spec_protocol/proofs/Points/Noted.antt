@@ -6,6 +6,7 @@ use Rattle.dl_entry.specs.declared.Actor.{Actor}
 use Rattle.dl_entry.specs.declared.CommitKind.{CommitKind}
 use Rattle.dl_entry.specs.declared.Input.{Input}
 use Rattle.dl_entry.specs.declared.Point.{Point}
+use Rattle.dl_entry.specs.Numbers.{most_threads}
 use Rattle.spec_log.specs.declared.ModeName.{ModeName}
 use Rattle.spec_log.specs.declared.Interrupt.{Interrupt}
 use Rattle.spec_log.specs.declared.DmaRecord.{DmaRecord}
@@ -142,6 +143,8 @@ commit-logged mode s cs c moment i size kind short l is actor sized early =
     ap (λ (b : Bool). input_noted c.input (noted c.commit n b (logged mode s cs))) early
     ∙ input_listed c.input (noted c.commit n (is_short_chunk kind short) (logged mode s cs))
     ∙ (λ h. record {
+      version = 1;
+      threads = most_threads;
       mode = mode;
       s = s;
       count = (count_of_more ps q 1 refl ∙ ap (λ (qs : List Point). length (actors_of qs)) all) h;
@@ -162,6 +165,8 @@ dma-logged mode s cs moment i n kind short bytes is =
     let all = sym (points-more cs c) in
     let here : 0 + length (actors_of ps) ≡ n = omega arith in
     (λ h. record {
+      version = 1;
+      threads = most_threads;
       mode = mode;
       s = s;
       count = (count_of_more ps q 1 refl ∙ ap (λ (qs : List Point). length (actors_of qs)) all) h;
@@ -181,6 +186,8 @@ raise-logged mode s cs moment i k n value l is none =
     let c : Supplied = record { point = q; input = None; bytes = [] } in
     let all = sym (points-more cs c) in
     (λ h. record {
+      version = 1;
+      threads = most_threads;
       mode = mode;
       s = s;
       count = (sym (ap (λ (as_ : List Actor). length as_) (nothing_behind (actors_of ps) _ (actors_of (q ∷ [])) (actors-append ps (q ∷ [])) refl)) ∙ ap (λ (qs : List Point). length (actors_of qs)) all) h;

@@ -1,14 +1,14 @@
 -- What an event may change of a world, taken apart once: where spheres, flights, chunks and devices have properties that each
 -- change keeps, every event keeps them.
-use Rattle.std.proofs.Common.{◌≡◌, ℕ, suc, ◌^◌, ◌<◌, inl, inr, true, false, cond, List, [], ◌∷◌, length, Option, Some, None, refl, sym, ap, ◌∙◌, subst, set, get_or}
-use Rattle.std.specs.Prelude.{slice_get}
+use Rattle.std.proofs.Common.{◌≡◌, ℕ, suc, ◌^◌, ◌<◌, inl, inr, true, false, cond, List, [], ◌∷◌, length, Option, Some, None, refl, sym, ap, ◌∙◌, subst, set, get_or, Bool, not, ◌&&◌}
+use Rattle.std.specs.Prelude.{slice_get, option_map}
 use Rattle.std.proofs.Math.ListN.{length-set}
 use Rattle.std.proofs.lemmas.Bool.{cases_eq, cases_lt}
 use Rattle.std.proofs.lemmas.List.{get_or_past}
 use Rattle.std.proofs.lemmas.Option.{none-some}
 use Rattle.dl_entry.specs.declared.Actor.{Actor}
 use Rattle.spec_isa.specs.declared.thread.Parts.{Parts}
-use Rattle.spec_isa.specs.Words.{Stored, lay}
+use Rattle.spec_isa.specs.Words.{Stored, lay, lays}
 use Rattle.spec_kernel.specs.Devices.{Devices}
 use Rattle.spec_kernel.specs.Interrupts.{is_live}
 use Rattle.spec_engine.specs.declared.answers.How.{How}
@@ -16,22 +16,23 @@ use Rattle.spec_engine.specs.declared.answers.Deliver.{Deliver}
 use Rattle.spec_engine.specs.declared.answers.Retire.{Retire}
 use Rattle.spec_engine.specs.Signatures.{Signature, nothing, signed}
 use Rattle.spec_engine.specs.Flights.{Flight, at, free_slot, fill_at, meets_chunk, told_at, drain_words, tell, Delivered, deliver, is_done, Retired, retire}
-use Rattle.spec_engine.specs.Chunks.{fresh, step, cut, squash}
+use Rattle.spec_engine.specs.Chunks.{fresh, step, cut, squash, Chunk}
 use Rattle.spec_protocol.specs.declared.event.Event.{Event}
-use Rattle.spec_protocol.specs.machine.Spheres.{turn_against, Sphere, no_sphere, is_stopped, head_of, limit_of, halves}
+use Rattle.spec_protocol.specs.machine.Spheres.{turn_against, Sphere, no_sphere, is_stopped, limit_of, halves}
 use Rattle.spec_protocol.specs.machine.Commits.{CommitOutcome, Granted, Piece, Diverged, MovedSphere, is_piece, chunk_moved, serial_moved, raised}
 use Rattle.spec_protocol.specs.machine.World.{Numbers, Occupant, World, After, moment, sphere_at, with_sphere, with_memory, with_core, with_slot, thread_afresh, held_afresh, core_of, flown, answered}
-use Rattle.spec_protocol.specs.machine.Stepping.{stepped, cut_to}
-use Rattle.spec_protocol.specs.machine.Flying.{reply_of_drain, reads_of, writes_of, squashed, told, delivering, retiring}
-use Rattle.spec_protocol.specs.machine.Asking.{CommitRequest, goes_on_with, granted, is_short, chunk_request, grant_chunk, serial_request, grant_serial}
+use Rattle.spec_protocol.specs.machine.Stepping.{stepped, cut_to, stepped_younger, younger_for, cut_younger}
+use Rattle.spec_protocol.specs.machine.Flying.{reply_of_drain, reads_of, writes_of, squashed, told, delivering, retiring, younger_of, hits_younger, squashed_younger}
+use Rattle.spec_protocol.specs.machine.Asking.{CommitRequest, goes_on_with, granted, is_short, chunk_request, grant_chunk, serial_request, grant_serial, was_interrupted, promoted}
 use Rattle.spec_protocol.specs.machine.Transferring.{dma_done}
 use Rattle.spec_protocol.specs.machine.Placing.{with_renewed, raise_in}
 use Rattle.spec_protocol.specs.machine.Machine.{act}
 use Rattle.spec_protocol.specs.promises.Invariants.{IsGood}
 use Rattle.spec_protocol.proofs.Invariants.Preserved.{sphere-same, sphere-other}
-pub use Rattle.spec_protocol.proofs.Moves.AnyEvent.{Raises, Transfers}
 use Rattle.spec_protocol.proofs.Moves.AnyEvent.{MayAsk, any-event}
 use Rattle.spec_protocol.proofs.Invariants.Cores.{set-cases, branch}
+use Rattle.spec_protocol.proofs.Invariants.Held.{open-alone, younger-good}
+pub use Rattle.spec_protocol.proofs.Moves.AnyEvent.{Raises, Transfers}
 
 -- ---- properties of the parts
 
@@ -66,10 +67,17 @@ pub record Asks (w : World) (c : ℕ) (h : Occupant) (how : How) : Type 0 where
 -- each change keeps them
 pub record Keeps (z : Numbers) (P : Properties) : Type 0 where
   pub later : (now i : ℕ) (p : Sphere) → P.sphere now i p → P.sphere (suc now) i p
-  pub stepped : (now c : ℕ) (p : Sphere) (slots : List (Option Flight)) (h : Occupant) → P.sphere now h.chunk.sphere p → h.chunk.closed ≡ None → P.held h → P.held (record h { chunk = (step z.capacity p.memory slots c h.chunk).chunk })
-  pub cut : (h : Occupant) → P.held h → P.held (record h { chunk = (cut h.chunk).chunk })
-  pub squashed : (h : Occupant) → P.held h → P.held (record h { chunk = squash h.chunk })
-  pub afresh : (now i k : ℕ) (p : Sphere) (t : Parts) → P.sphere now i p → slice_get p.threads k ≡ Some t → is_live t ≡ true → P.held (record { thread = k; chunk = fresh z.bits i t (limit_of z.s p.role k t) (halves p.role) })
+  -- an older chunk changes where there is no younger
+  pub stepped : (now c : ℕ) (p : Sphere) (slots : List (Option Flight)) (h : Occupant) → P.sphere now h.chunk.sphere p → h.chunk.closed ≡ None → h.younger ≡ None → P.held h → P.held (record h { chunk = (step z.capacity p.memory slots c h.chunk).chunk })
+  pub cut_younger : (h : Occupant) (y : Chunk) → h.younger ≡ Some y → y.sphere ≡ h.chunk.sphere → P.held h → P.held (record h { younger = Some (cut y).chunk })
+  pub cut : (h : Occupant) → h.younger ≡ None → P.held h → P.held (record h { chunk = (cut h.chunk).chunk })
+  -- the younger of which a step speaks, and the younger that there is
+  pub younger : (now c : ℕ) (p : Sphere) (slots : List (Option Flight)) (h : Occupant) (y : Chunk) → P.sphere now h.chunk.sphere p → y.sphere ≡ h.chunk.sphere → younger_for z p.role h h.younger ≡ Some y → P.held h
+      → P.held (record h { younger = Some (step z.capacity (lays p.memory h.chunk.done.words) slots c y).chunk })
+  pub squashed : (h : Occupant) → P.held h → P.held (record h { chunk = squash h.chunk; younger = None })
+  pub squashed_younger : (h : Occupant) → P.held h → P.held (record h { younger = option_map squash h.younger })
+  pub promoted : (h : Occupant) (y : Chunk) → h.younger ≡ Some y → y.sphere ≡ h.chunk.sphere → P.held h → P.held (record { thread = h.thread; chunk = y; younger = None })
+  pub afresh : (now i k : ℕ) (p : Sphere) (t : Parts) → P.sphere now i p → slice_get p.threads k ≡ Some t → is_live t ≡ true → P.held (record { thread = k; chunk = fresh z.bits i t (limit_of z.s p.role k t) (halves p.role); younger = None })
   pub told : (f : Flight) (c : ℕ) → P.flight f → P.flight (tell f c)
   pub drained : (now : ℕ) (f : Flight) (s : Stored) (ss : List Stored) (p : Sphere) → f.words ≡ s ∷ ss → P.flight f → P.sphere now f.sphere p → P.flight (record f { words = ss }) × P.sphere now f.sphere (record p { memory = lay p.memory s })
   pub chunk : (w : World) (c : ℕ) (h : Occupant) (how : How) → w.numbers ≡ z → Asks w c h how → Holds P (moment w) w
@@ -124,8 +132,8 @@ later-holds P z w keeps h =
 pub afresh-property : (P : Properties) (z : Numbers) (now i k : ℕ) (p : Sphere) (o : Option Parts) → Keeps z P → P.sphere now i p → slice_get p.threads k ≡ o → (h : Occupant) → thread_afresh z i k p o ≡ Some h → P.held h
 afresh-property P z now i k p None keeps sphere is h e = absurd (none-some h e)
 afresh-property P z now i k p (Some t) keeps sphere is h e =
-    branch (λ (o : Option Occupant). o ≡ Some h → P.held h) (is_live t) (Some (record { thread = k; chunk = fresh z.bits i t (limit_of z.s p.role k t) (halves p.role) })) None
-    (λ live q. subst P.held (let r : record { thread = k; chunk = fresh z.bits i t (limit_of z.s p.role k t) (halves p.role) } ≡ h = cc in r) (keeps.afresh now i k p t sphere is live))
+    branch (λ (o : Option Occupant). o ≡ Some h → P.held h) (is_live t) (Some (record { thread = k; chunk = fresh z.bits i t (limit_of z.s p.role k t) (halves p.role); younger = None })) None
+    (λ live q. subst P.held (let r : record { thread = k; chunk = fresh z.bits i t (limit_of z.s p.role k t) (halves p.role); younger = None } ≡ h = cc in r) (keeps.afresh now i k p t sphere is live))
     (λ _ q. absurd (none-some h q)) e
 
 afresh-holds : (P : Properties) (now : ℕ) (w : World) (c i k : ℕ) (p : Sphere) → Keeps w.numbers P → P.sphere now i p → Holds P now w → Holds P now (with_core w c (held_afresh w.numbers i k p))
@@ -153,7 +161,11 @@ moved-holds P w i v writes t cores lands held k =
 -- a core is told, and its chunk begins again where it is hit
 squashed-held : (P : Properties) (z : Numbers) (o : Option Occupant) → Keeps z P → ((h : Occupant) → o ≡ Some h → P.held h) → (x : Occupant) → squashed o ≡ Some x → P.held x
 squashed-held P z None keeps old x e = absurd (none-some x e)
-squashed-held P z (Some h) keeps old x e = held-is P (record h { chunk = squash h.chunk }) x e (keeps.squashed h (old h refl))
+squashed-held P z (Some h) keeps old x e = held-is P (record h { chunk = squash h.chunk; younger = None }) x e (keeps.squashed h (old h refl))
+
+younger-squashed : (P : Properties) (z : Numbers) (o : Option Occupant) → Keeps z P → ((h : Occupant) → o ≡ Some h → P.held h) → (x : Occupant) → squashed_younger o ≡ Some x → P.held x
+younger-squashed P z None keeps old x e = absurd (none-some x e)
+younger-squashed P z (Some h) keeps old x e = held-is P (record h { younger = option_map squash h.younger }) x e (keeps.squashed_younger h (old h refl))
 
 delivered-slot : (P : Properties) (z : Numbers) (c : ℕ) (reads writes : Signature) (o : Option Flight) → Keeps z P → ((f : Flight) → o ≡ Some f → P.flight f) → (x : Flight) → (deliver c reads writes o).slot ≡ Some x → P.flight x
 delivered-slot P z c reads writes None keeps old x e = absurd (none-some x e)
@@ -193,24 +205,54 @@ module _ (P : Properties) (w : World) (keeps : Keeps w.numbers P) (good : IsGood
       let p = sphere_at w h.chunk.sphere in
       let s = step w.numbers.capacity p.memory w.slots c h.chunk in
       core-holds P (suc (moment w)) w c (Some (record h { chunk = s.chunk }))
-      (λ x q. held-is P (record h { chunk = s.chunk }) x q (keeps.stepped (moment w) c p w.slots h (k.spheres h.chunk.sphere (good.held c h is).sphere) opened (k.held c h is))) same
+      (λ x q. held-is P (record h { chunk = s.chunk }) x q (keeps.stepped (moment w) c p w.slots h (k.spheres h.chunk.sphere (good.held c h is).sphere) opened (open-alone w c h opened (good.held c h is)) (k.held c h is))) same
 
-  cut-then : (c : ℕ) (h : Occupant) → at w.cores c ≡ Some h → Then P w (cut_to w c h (cut h.chunk))
-  cut-then c h is =
+  younger-then : (c : ℕ) (h : Occupant) (y : Chunk) → at w.cores c ≡ Some h → younger_for w.numbers (sphere_at w h.chunk.sphere).role h h.younger ≡ Some y
+      → Then P w (stepped_younger w c h (step w.numbers.capacity (lays (sphere_at w h.chunk.sphere).memory h.chunk.done.words) w.slots c y))
+  younger-then c h y is e =
+      let p = sphere_at w h.chunk.sphere in
+      let s = step w.numbers.capacity (lays p.memory h.chunk.done.words) w.slots c y in
+      let held = good.held c h is in
+      core-holds P (suc (moment w)) w c (Some (record h { younger = Some s.chunk }))
+      (λ x q. held-is P (record h { younger = Some s.chunk }) x q
+      (keeps.younger (moment w) c p w.slots h y (k.spheres h.chunk.sphere held.sphere) (younger-good w c h y good.standard held e).0.sphere e (k.held c h is))) same
+
+  cut-then : (c : ℕ) (h : Occupant) → at w.cores c ≡ Some h → h.younger ≡ None → Then P w (cut_to w c h (cut h.chunk))
+  cut-then c h is none =
       core-holds P (suc (moment w)) w c (Some (record h { chunk = (cut h.chunk).chunk }))
-      (λ x q. held-is P (record h { chunk = (cut h.chunk).chunk }) x q (keeps.cut h (k.held c h is))) same
+      (λ x q. held-is P (record h { chunk = (cut h.chunk).chunk }) x q (keeps.cut h none (k.held c h is))) same
 
-  goes-on-holds : (c : ℕ) (q : CommitRequest) (p : Sphere) → P.sphere (suc (moment w)) q.sphere p → Holds P (suc (moment w)) (with_core w c (goes_on_with w.numbers q p))
-  goes-on-holds c q p sphere = afresh-holds P (suc (moment w)) w c q.sphere q.thread p keeps sphere same
+  cut-younger-then : (c : ℕ) (h : Occupant) (y : Chunk) → at w.cores c ≡ Some h → h.younger ≡ Some y → Then P w (cut_younger w c h (cut y))
+  cut-younger-then c h y is e =
+      core-holds P (suc (moment w)) w c (Some (record h { younger = Some (cut y).chunk }))
+      (λ x q. held-is P (record h { younger = Some (cut y).chunk }) x q (keeps.cut_younger h y e ((good.held c h is).follows y e).sphere (k.held c h is))) same
 
-  granted-then : (c : ℕ) (q : CommitRequest) (writes : Signature) (v : MovedSphere) (o : CommitOutcome) → Lands P (suc (moment w)) q.sphere v → Then P w (granted w c q writes v o)
-  granted-then c q writes v Granted lands =
+  -- the younger chunk of a request has the property as the older
+  abbrev GoesOnHeld : CommitRequest → Type 0
+  GoesOnHeld q = (y : Chunk) → q.younger ≡ Some y → P.held (record { thread = q.thread; chunk = y; younger = None })
+
+  promoted-held : (q : CommitRequest) (p : Sphere) (younger : Option Chunk) (o : Option Parts) → q.younger ≡ younger → slice_get p.threads q.thread ≡ o → P.sphere (suc (moment w)) q.sphere p → GoesOnHeld q
+      → (x : Occupant) → promoted w.numbers q.sphere q.thread p younger o ≡ Some x → P.held x
+  promoted-held q p None o was there sphere goes x e = afresh-property P w.numbers (suc (moment w)) q.sphere q.thread p o keeps sphere there x e
+  promoted-held q p (Some y) None was there sphere goes x e = absurd (none-some x e)
+  promoted-held q p (Some y) (Some t) was there sphere goes x e =
+      let new : Occupant = record { thread = q.thread; chunk = y; younger = None } in
+      branch (λ (r : Option Occupant). r ≡ Some x → P.held x) (is_live t && not (was_interrupted y t)) (Some new) (thread_afresh w.numbers q.sphere q.thread p (Some t))
+      (λ _ r. held-is P new x r (goes y was))
+      (λ _ r. afresh-property P w.numbers (suc (moment w)) q.sphere q.thread p (Some t) keeps sphere there x r) e
+
+  goes-on-holds : (c : ℕ) (q : CommitRequest) (p : Sphere) → P.sphere (suc (moment w)) q.sphere p → GoesOnHeld q → Holds P (suc (moment w)) (with_core w c (goes_on_with w.numbers q p))
+  goes-on-holds c q p sphere goes =
+      core-holds P (suc (moment w)) w c (goes_on_with w.numbers q p) (λ x e. promoted-held q p q.younger (slice_get p.threads q.thread) refl refl sphere goes x e) same
+
+  granted-then : (c : ℕ) (q : CommitRequest) (writes : Signature) (v : MovedSphere) (o : CommitOutcome) → Lands P (suc (moment w)) q.sphere v → GoesOnHeld q → Then P w (granted w c q writes v o)
+  granted-then c q writes v Granted lands goes =
       moved-holds P w q.sphere v writes (2 ^ c) (with_core w c (goes_on_with w.numbers q v.sphere)).cores lands
-      (goes-on-holds c q v.sphere lands.sphere).held same
-  granted-then c q writes v Piece lands =
+      (goes-on-holds c q v.sphere lands.sphere goes).held same
+  granted-then c q writes v Piece lands goes =
       moved-holds P w q.sphere v writes (2 ^ c) (with_core w c (goes_on_with w.numbers q v.sphere)).cores lands
-      (goes-on-holds c q v.sphere lands.sphere).held same
-  granted-then c q writes v (Diverged i why) lands = sphere-holds P (suc (moment w)) w q.sphere v.sphere lands.sphere same
+      (goes-on-holds c q v.sphere lands.sphere goes).held same
+  granted-then c q writes v (Diverged i why) lands goes = sphere-holds P (suc (moment w)) w q.sphere v.sphere lands.sphere same
 
   asks : (c : ℕ) (h : Occupant) (how : How) → MayAsk w c h how → Asks w c h how
   asks c h how may = record { good = good; is = may.is; closed = may.closed; going = may.going; turn = may.turn }
@@ -220,11 +262,13 @@ module _ (P : Properties) (w : World) (keeps : Keeps w.numbers P) (good : IsGood
   chunk-then c h how may =
       granted-then c (chunk_request w h how) h.chunk.writes
       (chunk_moved h.thread (is_piece how) (is_short w.numbers.s how h.chunk.limit) h.chunk.done w.devices (sphere_at w h.chunk.sphere)) _ (keeps.chunk w c h how refl (asks c h how may) k)
+      (λ y e. keeps.promoted h y e ((good.held c h may.is).follows y e).sphere (k.held c h may.is))
 
   serial-then : (c : ℕ) (h : Occupant) (how : How) → MayAsk w c h how → Then P w (grant_serial w c h)
   unfolding grant_serial
   serial-then c h how may =
       granted-then c (serial_request h) _ (serial_moved h.thread (moment w) h.chunk.start w.devices (sphere_at w h.chunk.sphere)) _ (keeps.serial w c h how (asks c h how may) k)
+      (λ y e. absurd (none-some y e))
 
   drain-then : (j : ℕ) (f : Flight) (ws : List Stored) → at w.slots j ≡ Some f → f.words ≡ ws
       → let d = drain_words (sphere_at w f.sphere).memory f ws in Then P w (answered (with_slot (with_memory w f.sphere d.memory) j d.slot) (reply_of_drain d.reply))
@@ -237,18 +281,19 @@ module _ (P : Properties) (w : World) (keeps : Keeps w.numbers P) (good : IsGood
       slot-holds P (suc (moment w)) (with_memory w f.sphere (lay p.memory s)) j (Some (record f { words = ss })) (λ x q. flight-is P (record f { words = ss }) x q r.0)
       (sphere-holds P (suc (moment w)) w f.sphere (record p { memory = lay p.memory s }) r.1 same)
 
-  told-then : (v : World) (c : ℕ) (d : Deliver) → Holds P (suc (moment w)) v → Then P w (told v c (at w.cores c) d)
-  told-then v c Deliver.NoCommit h = h
-  told-then v c Deliver.Already h = h
-  told-then v c Deliver.Squashed h = core-holds P (suc (moment w)) v c (squashed (at w.cores c)) (squashed-held P w.numbers (at w.cores c) keeps (k.held c)) h
-  told-then v c Deliver.Delivered h = h
+  told-then : (v : World) (c : ℕ) (d : Deliver) (hit : Bool) → Holds P (suc (moment w)) v → Then P w (told v c (at w.cores c) d hit)
+  told-then v c Deliver.NoCommit hit h = h
+  told-then v c Deliver.Already hit h = h
+  told-then v c Deliver.Squashed hit h = core-holds P (suc (moment w)) v c (squashed (at w.cores c)) (squashed-held P w.numbers (at w.cores c) keeps (k.held c)) h
+  told-then v c Deliver.Delivered true h = core-holds P (suc (moment w)) v c (squashed_younger (at w.cores c)) (younger-squashed P w.numbers (at w.cores c) keeps (k.held c)) h
+  told-then v c Deliver.Delivered false h = h
 
   deliver-then : (c j : ℕ) → Then P w (delivering w c j)
   unfolding delivering
   deliver-then c j =
       let o = at w.cores c in
       let d = deliver c (reads_of w o) (writes_of w o) (at w.slots j) in
-      told-then (with_slot w j d.slot) c d.reply
+      told-then (with_slot w j d.slot) c d.reply (hits_younger (at w.slots j) (younger_of o))
       (slot-holds P (suc (moment w)) w j d.slot (delivered-slot P w.numbers c (reads_of w o) (writes_of w o) (at w.slots j) keeps (k.flights j)) same)
 
   retire-then : (j : ℕ) → Then P w (retiring w j)
@@ -282,7 +327,9 @@ module _ (P : Properties) (w : World) (keeps : Keeps w.numbers P) (good : IsGood
       (record {
         answers = λ r none. same;
         steps = step-then;
+        youngers = λ c h y is e opened. younger-then c h y is e;
         cuts = cut-then;
+        cut_youngers = cut-younger-then;
         chunks = λ c h how may chunk none. chunk-then c h how may;
         serials = λ c h how may serial none. serial-then c h how may;
         drains = λ j f is. drain-then j f f.words is refl;

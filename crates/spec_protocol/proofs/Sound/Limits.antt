@@ -11,7 +11,7 @@ use Rattle.spec_log.specs.declared.Sizes.{Sizes}
 use Rattle.spec_log.specs.declared.LogParts.{LogParts}
 use Rattle.spec_log.specs.Log.{IsSizes, IsShortSize, IsLog}
 use Rattle.spec_log.specs.Size.{is_thread, sizes_of_thread, thread_size, size_in}
-use Rattle.spec_protocol.specs.machine.Spheres.{Role, Plain, Record, Replay, whole_limit, limit_of}
+use Rattle.spec_protocol.specs.machine.Spheres.{Role, Plain, Record, Replay, whole_limit, limit_of, limit_after, limit_after}
 use Rattle.spec_protocol.specs.promises.Sound.{IsSoundRole}
 use Rattle.spec_protocol.proofs.Invariants.Cores.{branch}
 
@@ -50,26 +50,26 @@ sizes-in k s (actor ∷ order) (z ∷ sizes) all =
     (λ _. (all.0, sizes-in k s order sizes all.1))
     (λ _. sizes-in k s order sizes all.1)
 
-short-found : (s : ℕ) (o : Option ShortSize) (z : ℕ) → ((x : ShortSize) → o ≡ Some x → IsShortSize s x) → option_map (λ short. short.size) o ≡ Some z → z ≤ s
-short-found s None z each e = absurd (none-some z e)
-short-found s (Some x) z each e = let l = (each x refl).3 in let q : x.size ≡ z = cc in omega (arith, l, q)
+short-found : (t s : ℕ) (o : Option ShortSize) (z : ℕ) → ((x : ShortSize) → o ≡ Some x → IsShortSize t s x) → option_map (λ short. short.size) o ≡ Some z → z ≤ s
+short-found t s None z each e = absurd (none-some z e)
+short-found t s (Some x) z each e = let l = (each x refl).3 in let q : x.size ≡ z = cc in omega (arith, l, q)
 
 each-size : (s k n z : ℕ) (order : List Actor) (sizes : List ℕ) → All (λ y. y ≤ s) sizes → slice_get (sizes_of_thread k order sizes) n ≡ Some z → z ≤ s
 each-size s k n z order sizes all e = get-in (λ y. y ≤ s) (sizes_of_thread k order sizes) n z (sizes-in k s order sizes (all-in (λ y. y ≤ s) sizes all)) e
 
-short-size : (s k n z : ℕ) (sizes : List ShortSize) → All (IsShortSize s) sizes → option_map (λ short. short.size) (find (λ short. eqb short.thread k && eqb short.index n) sizes) ≡ Some z → z ≤ s
-short-size s k n z sizes all e =
-    short-found s (find (λ short. eqb short.thread k && eqb short.index n) sizes) z
-    (λ x h. find-in (IsShortSize s) (λ short. eqb short.thread k && eqb short.index n) sizes x (all-in (IsShortSize s) sizes all) h) e
+short-size : (t s k n z : ℕ) (sizes : List ShortSize) → All (IsShortSize t s) sizes → option_map (λ short. short.size) (find (λ short. eqb short.thread k && eqb short.index n) sizes) ≡ Some z → z ≤ s
+short-size t s k n z sizes all e =
+    short-found t s (find (λ short. eqb short.thread k && eqb short.index n) sizes) z
+    (λ x h. find-in (IsShortSize t s) (λ short. eqb short.thread k && eqb short.index n) sizes x (all-in (IsShortSize t s) sizes all) h) e
 
 -- no thread's commit is larger than a standard chunk
-pub size-most : (mode : ModeName) (s count k n z : ℕ) (order : List Actor) (sizes : Sizes) → IsSizes mode s count sizes → thread_size order sizes k n ≡ Some z → z ≤ s
-size-most ModeName.OrderSize s count k n z order (Sizes.Each sizes) is e = each-size s k n z order sizes is.1 e
-size-most ModeName.OrderSize s count k n z order (Sizes.Short sizes) is e = absurd is
-size-most ModeName.OrderOnly s count k n z order (Sizes.Each sizes) is e = absurd is
-size-most ModeName.OrderOnly s count k n z order (Sizes.Short sizes) is e = short-size s k n z sizes is.each e
-size-most ModeName.Picolog s count k n z order (Sizes.Each sizes) is e = absurd is
-size-most ModeName.Picolog s count k n z order (Sizes.Short sizes) is e = short-size s k n z sizes is.each e
+pub size-most : (mode : ModeName) (t s count k n z : ℕ) (order : List Actor) (sizes : Sizes) → IsSizes mode t s count sizes → thread_size order sizes k n ≡ Some z → z ≤ s
+size-most ModeName.OrderSize t s count k n z order (Sizes.Each sizes) is e = each-size s k n z order sizes is.1 e
+size-most ModeName.OrderSize t s count k n z order (Sizes.Short sizes) is e = absurd is
+size-most ModeName.OrderOnly t s count k n z order (Sizes.Each sizes) is e = absurd is
+size-most ModeName.OrderOnly t s count k n z order (Sizes.Short sizes) is e = short-size t s k n z sizes is.each e
+size-most ModeName.Picolog t s count k n z order (Sizes.Each sizes) is e = absurd is
+size-most ModeName.Picolog t s count k n z order (Sizes.Short sizes) is e = short-size t s k n z sizes is.each e
 
 -- ---- limits
 
@@ -91,7 +91,7 @@ whole-positive log k n is = by-positive log.s (size_in log (Actor.Thread k) n) (
 -- the limit that a log gives a commit is at most its standard size
 pub whole-most : (log : LogParts) (k n : ℕ) → IsLog log → whole_limit log k n ≤ log.s
 whole-most log k n is =
-    by-most log.s (size_in log (Actor.Thread k) n) (let l = is.s.0 in omega (arith, l)) (λ z e. size-most log.mode log.s log.count k n z log.order log.sizes is.sizes e)
+    by-most log.s (size_in log (Actor.Thread k) n) (let l = is.s.0 in omega (arith, l)) (λ z e. size-most log.mode log.threads log.s log.count k n z log.order log.sizes is.sizes e)
 
 -- the limit of a chunk in a sound sphere is at most 4,096
 pub limit-most : (s commits : ℕ) (threads : List Parts) (role : Role) (k : ℕ) (t : Parts) → s ≤ 4096 → IsSoundRole s commits threads role → limit_of s role k t ≤ 4096
@@ -99,4 +99,12 @@ unfolding limit_of
 limit-most s commits threads Plain k t l is = l
 limit-most s commits threads (Record recording) k t l is = l
 limit-most s commits threads (Replay b) k t l is =
+    let a = whole-most b.log k t.commits is.log in let c = is.log.s.1 in omega (arith, a, c)
+
+-- so is that of the commit after it
+pub after-most : (s commits : ℕ) (threads : List Parts) (role : Role) (k : ℕ) (t : Parts) → s ≤ 4096 → IsSoundRole s commits threads role → limit_after s role k t ≤ 4096
+unfolding limit_after
+after-most s commits threads Plain k t l is = l
+after-most s commits threads (Record log) k t l is = l
+after-most s commits threads (Replay b) k t l is =
     let a = whole-most b.log k t.commits is.log in let c = is.log.s.1 in omega (arith, a, c)

@@ -11,16 +11,16 @@ use Rattle.dl_entry.specs.declared.ReplyName.{ReplyName}
 use Rattle.dl_entry.specs.ReplyName.{place}
 use Rattle.dl_entry.specs.Counts.{count_of, counted}
 use Rattle.spec_isa.specs.declared.thread.Parts.{Parts}
-use Rattle.spec_isa.specs.Words.{Stored, lay}
+use Rattle.spec_isa.specs.Words.{Stored, lay, lays}
 use Rattle.spec_isa.specs.Threads.{started}
-use Rattle.spec_isa.proofs.MemoryLaws.{length_lay}
+use Rattle.spec_isa.proofs.MemoryLaws.{length_lay, length_lays}
 use Rattle.spec_play.specs.Progress.{position, no_progress, nothing_used}
 use Rattle.spec_play.specs.Turns.{Now, Turn, TurnOfDma}
 use Rattle.spec_engine.specs.declared.answers.How.{How}
 use Rattle.spec_engine.specs.Flights.{Flight, at}
 use Rattle.spec_engine.specs.Chunks.{Chunk, step, cut}
 use Rattle.spec_protocol.specs.declared.event.Event.{Event}
-use Rattle.spec_protocol.specs.machine.Spheres.{turn_in, turn_against, Cursor, Role, Replay, Sphere, no_sphere, is_over, is_stopped, head_of, head_in, whole_limit, pieces_of, limit_of, halves}
+use Rattle.spec_protocol.specs.machine.Spheres.{turn_in, turn_against, Cursor, Role, Replay, Sphere, no_sphere, is_over, is_stopped, whole_limit, pieces_of, limit_of, halves}
 use Rattle.spec_protocol.specs.machine.Commits.{MovedSphere, is_piece, chunk_moved, serial_moved}
 use Rattle.spec_protocol.specs.machine.Asking.{is_short}
 use Rattle.spec_protocol.specs.machine.World.{Numbers, Occupant, World, After, moment, sphere_at}
@@ -48,6 +48,7 @@ use Rattle.spec_protocol.proofs.Replays.Verdicts.{as-role}
 use Rattle.spec_protocol.proofs.Replays.Turns.{turned-sound}
 use Rattle.spec_protocol.proofs.Sound.Moves.{chunk-sound, serial-sound}
 use Rattle.spec_protocol.proofs.Sound.Transfers.{dma-moved-sound, raised-sound}
+use Rattle.spec_protocol.proofs.Sound.Held.{IsSoundHeld, older-only, older-alone, with-younger, squashed-sound, younger-sound}
 
 -- ---- the properties
 
@@ -56,7 +57,7 @@ sound s =
     record {
       sphere = λ now i p. IsSoundSphere s.numbers.s (image_at s i) now p;
       flight = λ f. AreSoundWords (size_of s f.sphere) f.words;
-      held = λ h. IsSoundChunk s.numbers.capacity (size_of s h.chunk.sphere) h.chunk;
+      held = IsSoundHeld s;
       devices = HaveByteInput;
     }
 
@@ -155,7 +156,7 @@ sound-chunk s w c h how asks k =
     let i = h.chunk.sphere in
     let p = sphere_at w i in
     let held = asks.good.held c h asks.is in
-    let ch = k.held c h asks.is in
+    let ch = (k.held c h asks.is).older in
     let sphere = k.spheres i held.sphere in
     landed s (suc (moment w)) i _
     (chunk-sound s.numbers.s (image_at s i) (moment w) h.thread h.chunk.start w.devices p sphere held.thread.start k.devices
@@ -182,14 +183,22 @@ sound-keeps : (s : Setup) → IsWithinLimits s → Keeps s.numbers (sound s)
 sound-keeps s limits =
     record {
       later = λ now i p k. as-role s.numbers.s (image_at s i) now p.role p k.role k;
-      stepped = λ now c p slots h sphere opened k.
-          in-own s (step s.numbers.capacity p.memory slots c h.chunk).chunk h.chunk.sphere
-          (step-sound s.numbers.capacity (size_of s h.chunk.sphere) h.chunk.sphere p.memory slots c h.chunk sphere.size (record { sphere = refl; sound = k }));
-      cut = λ h k. in-own s (cut h.chunk).chunk h.chunk.sphere (cut-sound s.numbers.capacity (size_of s h.chunk.sphere) h.chunk.sphere h.chunk (record { sphere = refl; sound = k }));
-      squashed = λ h k. squash-sound s.numbers.capacity (size_of s h.chunk.sphere) h.chunk k;
-      afresh = λ now i k p t sphere is live.
-          fresh-sound s.numbers.capacity (size_of s i) s.numbers.bits i t (limit_of s.numbers.s p.role k t) (halves p.role)
-          (limit-most s.numbers.s (position p.progress) p.threads p.role k t limits.chunk.1 sphere.role) (sphere.threads k t is).thread;
+      stepped = λ now c p slots h sphere opened none k. older-alone s h _ none
+          (in-own s (step s.numbers.capacity p.memory slots c h.chunk).chunk h.chunk.sphere
+          (step-sound s.numbers.capacity (size_of s h.chunk.sphere) h.chunk.sphere p.memory slots c h.chunk sphere.size (record { sphere = refl; sound = k.older })));
+      cut = λ h none k. older-alone s h _ none (in-own s (cut h.chunk).chunk h.chunk.sphere (cut-sound s.numbers.capacity (size_of s h.chunk.sphere) h.chunk.sphere h.chunk (record { sphere = refl; sound = k.older })));
+      younger = λ now c p slots h y sphere same is k.
+          with-younger s h _ k
+          (step-sound s.numbers.capacity (size_of s h.chunk.sphere) h.chunk.sphere (lays p.memory h.chunk.done.words) slots c y (length_lays p.memory h.chunk.done.words ∙ sphere.size)
+          (record { sphere = same; sound = younger-sound s now p h y h.younger limits.chunk.1 sphere k refl is })).sound;
+      cut_younger = λ h y there same k.
+          with-younger s h _ k (cut-sound s.numbers.capacity (size_of s h.chunk.sphere) h.chunk.sphere y (record { sphere = same; sound = k.younger y there })).sound;
+      squashed = λ h k. older-only s _ (squash-sound s.numbers.capacity (size_of s h.chunk.sphere) h.chunk k.older) refl;
+      squashed_younger = λ h k. record { older = k.older; younger = λ x e. squashed-sound s h h.younger refl k x e };
+      promoted = λ h y there same k. older-only s _ (subst (λ (n : ℕ). IsSoundChunk s.numbers.capacity (size_of s n) y) (sym same) (k.younger y there)) refl;
+      afresh = λ now i k p t sphere is live. older-only s _
+          (fresh-sound s.numbers.capacity (size_of s i) s.numbers.bits i t (limit_of s.numbers.s p.role k t) (halves p.role)
+          (limit-most s.numbers.s (position p.progress) p.threads p.role k t limits.chunk.1 sphere.role) (sphere.threads k t is).thread) refl;
       told = λ f c k. k;
       drained = λ now f w ws p e words k. drained-both s now f w ws p e words k;
       chunk = λ w c h how numbers asks k. sound-chunk s w c h how asks k;
@@ -203,7 +212,8 @@ sound-keeps s limits =
 -- ---- an event
 
 holds-of : (s : Setup) (w : World) → IsSound s w → Holds (sound s) (moment w) w
-holds-of s w k = record { spheres = k.spheres; flights = k.flights; held = k.held; devices = k.devices }
+holds-of s w k =
+    record { spheres = k.spheres; flights = k.flights; held = λ c h e. record { older = k.held c h e; younger = λ y. k.younger c h y e }; devices = k.devices }
 
 counted-moment : (w : World) (a : After) → a.world.counts ≡ w.counts → moment (with_event a) ≡ suc (moment w)
 counted-moment w a e = let h = ap (λ (n : Counts). n.events) e in omega (arith, h)
@@ -243,7 +253,8 @@ counted-sound s w a sizes replies e k =
       replies = replies;
       spheres = λ i l. subst (λ (n : ℕ). IsSoundSphere s.numbers.s (image_at s i) n (sphere_at a.world i)) (sym e) (k.spheres i l);
       flights = k.flights;
-      held = k.held;
+      held = λ c h e. (k.held c h e).older;
+      younger = λ c h y e. (k.held c h e).younger y;
     }
 
 -- every event keeps what is sound
@@ -292,7 +303,7 @@ pub setup-within : (s : Setup) → IsWithinLimits s → IsSetup s
 setup-within s limits =
     record { chunk = (let l = limits.chunk.0 in omega (arith, l)); buffer = (let l = limits.buffer in omega (arith, l)) }
 
-start-held : (s : Setup) (c : ℕ) (h : Occupant) → IsWithinLimits s → ((i : ℕ) → i < length (world_of s).spheres → IsSoundSphere s.numbers.s (image_at s i) 0 (sphere_at (world_of s) i)) → at (world_of s).cores c ≡ Some h → IsSoundChunk s.numbers.capacity (size_of s h.chunk.sphere) h.chunk
+start-held : (s : Setup) (c : ℕ) (h : Occupant) → IsWithinLimits s → ((i : ℕ) → i < length (world_of s).spheres → IsSoundSphere s.numbers.s (image_at s i) 0 (sphere_at (world_of s) i)) → at (world_of s).cores c ≡ Some h → IsSoundHeld s h
 start-held s c h limits spheres e =
     let ps = (world_of s).spheres in
     let r = first_held s.numbers 0 s.cores c ps h e in
@@ -311,7 +322,8 @@ start-sound s limits =
       replies = λ k. let e = no-replies 33 k in omega (arith, e);
       spheres = spheres;
       flights = λ k f e. absurd (free_slots s.window k f e);
-      held = λ c h e. start-held s c h limits spheres e;
+      held = λ c h e. (start-held s c h limits spheres e).older;
+      younger = λ c h y e. (start-held s c h limits spheres e).younger y;
     }
 
 -- ---- schedules

@@ -1,8 +1,10 @@
 -- The event Ask: a closed chunk is to be committed, or a serial step to be done.
-use Rattle.std.specs.Prelude.{ℕ, ◌^◌, Bool, true, false, not, ◌&&◌, nat_eq, nat_lt, Option, Some, None, if◌then◌else◌}
+use Rattle.std.specs.Prelude.{ℕ, ◌^◌, Bool, true, false, not, ◌&&◌, nat_lt, slice_get, Option, Some, None, if◌then◌else◌}
 use Rattle.dl_entry.specs.declared.Actor.{Actor}
 use Rattle.dl_entry.specs.declared.CommitKind.{CommitKind}
 use Rattle.dl_entry.specs.declared.Point.{Point}
+use Rattle.spec_isa.specs.declared.thread.Parts.{Parts}
+use Rattle.spec_kernel.specs.Interrupts.{is_live}
 use Rattle.spec_engine.specs.declared.answers.How.{How}
 use Rattle.spec_engine.specs.declared.answers.Asked.{Asked}
 use Rattle.spec_engine.specs.declared.answers.AskedSerial.{AskedSerial}
@@ -11,14 +13,14 @@ use Rattle.spec_engine.specs.Flights.{at, is_full}
 use Rattle.spec_engine.specs.Chunks.{Chunk, is_empty_serial}
 use Rattle.spec_engine.specs.Asking.{ask, ask_serial}
 use Rattle.spec_protocol.specs.declared.reply.Reply.{Reply}
-use Rattle.spec_protocol.specs.machine.Spheres.{turn_against, Role, Sphere, is_stopped, head_of, is_in_pieces}
+use Rattle.spec_protocol.specs.machine.Spheres.{turn_against, Role, Sphere, is_stopped, is_in_pieces}
 use Rattle.spec_protocol.specs.machine.Commits.{CommitOutcome, Granted, Piece, Diverged, MovedSphere, is_piece, chunk_moved, serial_moved}
-use Rattle.spec_protocol.specs.machine.World.{Numbers, World, Occupant, moment, sphere_at, with_sphere, with_core, held_afresh, flown, What, OfChunk, OfSerial, Move, After, answered}
+use Rattle.spec_protocol.specs.machine.World.{Numbers, World, Occupant, moment, sphere_at, with_sphere, with_core, thread_afresh, flown, What, OfChunk, OfSerial, Move, After, answered}
 
 -- ---- a granted request
 
--- a request of a core: its sphere and thread, what it is in full, its kind as a point, its instructions, and whether its
--- chunk was closed before its standard size
+-- a request of a core: its sphere and thread, what it is in full, its kind as a point, its instructions, whether its
+-- chunk was closed before its standard size, and the younger chunk that follows it
 pub record CommitRequest : Type 0 where
   pub sphere : ℕ
   pub thread : ℕ
@@ -26,6 +28,7 @@ pub record CommitRequest : Type 0 where
   pub kind : CommitKind
   pub n : ℕ
   pub short : Bool
+  pub younger : Option Chunk
 
 abbrev pub point_at : (moment : ℕ) → CommitRequest → CommitKind → Point
 point_at now q kind = Point.Commit now q.sphere (Actor.Thread q.thread) kind q.n q.short
@@ -33,9 +36,22 @@ point_at now q kind = Point.Commit now q.sphere (Actor.Thread q.thread) kind q.n
 abbrev pub move_at : (moment : ℕ) → CommitRequest → Move
 move_at now q = record { moment = now; sphere = q.sphere; what = q.what }
 
--- what a core goes on with after its granted request, where the sphere is p: the thread as it is now, and a new chunk of it
+-- the thread has taken an interrupt since its younger chunk began
+abbrev pub was_interrupted : Chunk → Parts → Bool
+was_interrupted y t = t.mask && not y.start.mask
+
+-- the younger chunk becomes the older; if there is none, or after an interrupt, a new one begins
+abbrev pub promoted : Numbers → (i thread : ℕ) → Sphere → (younger : Option Chunk) → Option Parts → Option Occupant
+promoted z i k p None o = thread_afresh z i k p o
+promoted z i k p (Some y) None = None
+promoted z i k p (Some y) (Some t) =
+    if is_live t && not (was_interrupted y t)
+    then Some (record { thread = k; chunk = y; younger = None })
+    else thread_afresh z i k p (Some t)
+
+-- what a core goes on with after its granted request, where the sphere is p
 abbrev pub goes_on_with : Numbers → CommitRequest → Sphere → Option Occupant
-goes_on_with z q p = held_afresh z q.sphere q.thread p
+goes_on_with z q p = promoted z q.sphere q.thread p q.younger (slice_get p.threads q.thread)
 
 -- the words fly, and the core, which is told, goes on with its thread as it is now
 abbrev pub world_with : World → (core : ℕ) → CommitRequest → Signature → MovedSphere → World
@@ -89,6 +105,7 @@ chunk_request w h how =
       kind = CommitKind.Chunk;
       n = ch.done.n;
       short = is_short w.numbers.s how ch.limit;
+      younger = h.younger;
     }
 
 unfoldable pub grant_chunk : World → (core : ℕ) → Occupant → How → After
@@ -112,6 +129,7 @@ serial_request h =
       kind = CommitKind.Serial;
       n = 0;
       short = false;
+      younger = None;
     }
 
 -- the thread has run nothing since its last commit

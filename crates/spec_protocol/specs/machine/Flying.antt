@@ -1,11 +1,11 @@
 -- The events of flights: Drain, Deliver and Retire.
-use Rattle.std.specs.Prelude.{ℕ, length, Option, Some, None}
+use Rattle.std.specs.Prelude.{ℕ, Bool, false, length, Option, Some, None, option_map, if◌then◌else◌}
 use Rattle.spec_engine.specs.declared.answers.Drain.{Drain}
 use Rattle.spec_engine.specs.declared.answers.Deliver.{Deliver}
 use Rattle.spec_engine.specs.declared.answers.Retire.{Retire}
 use Rattle.spec_engine.specs.Signatures.{Signature, nothing}
-use Rattle.spec_engine.specs.Flights.{Flight, at, drain, deliver, retire}
-use Rattle.spec_engine.specs.Chunks.{squash}
+use Rattle.spec_engine.specs.Flights.{Flight, at, drain, meets_chunk, deliver, retire}
+use Rattle.spec_engine.specs.Chunks.{Chunk, squash}
 use Rattle.spec_protocol.specs.declared.reply.Reply.{Reply}
 use Rattle.spec_protocol.specs.machine.World.{World, Occupant, sphere_at, with_memory, with_core, with_slot, After, answered}
 
@@ -37,20 +37,38 @@ abbrev pub writes_of : World → Option Occupant → Signature
 writes_of w None = nothing w.numbers.bits
 writes_of w (Some h) = h.chunk.writes
 
+-- the older chunk begins again, and the younger is abandoned
 abbrev pub squashed : Option Occupant → Option Occupant
 squashed None = None
-squashed (Some h) = Some (record h { chunk = squash h.chunk })
+squashed (Some h) = Some (record h { chunk = squash h.chunk; younger = None })
 
-abbrev pub told : World → (core : ℕ) → Option Occupant → Deliver → After
-told w c held Deliver.NoCommit = answered w Reply.NoCommit
-told w c held Deliver.Already = answered w Reply.Already
-told w c held Deliver.Squashed = answered (with_core w c (squashed held)) Reply.Squashed
-told w c held Deliver.Delivered = answered w Reply.Delivered
+abbrev pub younger_of : Option Occupant → Option Chunk
+younger_of None = None
+younger_of (Some h) = h.younger
+
+-- whether the flight hits what the younger chunk has read or written
+abbrev pub hits_younger : Option Flight → Option Chunk → Bool
+hits_younger None y = false
+hits_younger (Some f) None = false
+hits_younger (Some f) (Some y) = meets_chunk y.reads y.writes f
+
+-- the younger chunk alone begins again
+abbrev pub squashed_younger : Option Occupant → Option Occupant
+squashed_younger None = None
+squashed_younger (Some h) = Some (record h { younger = option_map squash h.younger })
+
+-- of the core's two chunks the older was asked first: a hit is on the younger alone
+abbrev pub told : World → (core : ℕ) → Option Occupant → Deliver → (hit : Bool) → After
+told w c held Deliver.NoCommit hit = answered w Reply.NoCommit
+told w c held Deliver.Already hit = answered w Reply.Already
+told w c held Deliver.Squashed hit = answered (with_core w c (squashed held)) Reply.Squashed
+told w c held Deliver.Delivered hit =
+    if hit then answered (with_core w c (squashed_younger held)) Reply.Squashed else answered w Reply.Delivered
 
 abbrev pub deliver_to : World → (core slot : ℕ) → Option Occupant → After
 deliver_to w c k held =
     let d = deliver c (reads_of w held) (writes_of w held) (at w.slots k) in
-    told (with_slot w k d.slot) c held d.reply
+    told (with_slot w k d.slot) c held d.reply (hits_younger (at w.slots k) (younger_of held))
 
 -- the core is told of the slot's flight
 unfoldable pub delivering : World → (core slot : ℕ) → After

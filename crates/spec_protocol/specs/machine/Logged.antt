@@ -1,11 +1,12 @@
 -- The log of a recorded sphere, told by its points and by what came from outside at each: nothing else is in a log.
 use Rattle.std.specs.Prelude.{ℕ, suc, ◌+◌, Bool, false, nat_eq, List, [], ◌∷◌, ◌++◌, length, map, slice_get, slice_index_or, Option, Some, None, if◌then◌else◌}
-use Rattle.std.specs.List.{flat_map}
+use Rattle.std.specs.List.{flat_map, range_with_len}
 use Rattle.dl_entry.specs.declared.Actor.{Actor}
 use Rattle.dl_entry.specs.declared.CommitKind.{CommitKind}
 use Rattle.dl_entry.specs.declared.Input.{Input}
 use Rattle.dl_entry.specs.declared.Point.{Point}
 use Rattle.dl_entry.specs.declared.Request.{Request}
+use Rattle.dl_entry.specs.Numbers.{most_threads}
 use Rattle.spec_isa.specs.declared.thread.Parts.{Parts}
 use Rattle.spec_log.specs.declared.ModeName.{ModeName}
 use Rattle.spec_log.specs.declared.Interrupt.{Interrupt}
@@ -134,7 +135,7 @@ dmas_of n (c ∷ cs) = data_at n c.point c.bytes ++ dmas_of (n + length (actors_
 
 -- the threads that a sphere can have
 abbrev pub threads : List ℕ
-threads = 0 ∷ 1 ∷ 2 ∷ 3 ∷ 4 ∷ 5 ∷ 6 ∷ 7 ∷ 8 ∷ 9 ∷ 10 ∷ 11 ∷ 12 ∷ 13 ∷ 14 ∷ []
+threads = range_with_len 0 most_threads
 
 -- ---- the log
 
@@ -163,6 +164,8 @@ abbrev pub logged : ModeName → (s : ℕ) → List Supplied → LogParts
 logged mode s cs =
     let ps = map (λ c. c.point) cs in
     record {
+      version = 1;
+      threads = most_threads;
       mode = mode;
       s = s;
       count = length (actors_of ps);

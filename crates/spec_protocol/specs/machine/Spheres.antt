@@ -114,6 +114,15 @@ limit_in (Replay b) s k commits = max 1 (whole_limit b.log k commits - pieces_of
 unfoldable pub limit_of : (s : ℕ) → Role → (thread : ℕ) → Parts → ℕ
 limit_of s role k t = limit_in role s k t.commits
 
+abbrev pub limit_after_in : Role → (s thread commits : ℕ) → ℕ
+limit_after_in Plain s k commits = s
+limit_after_in (Record recording) s k commits = s
+limit_after_in (Replay b) s k commits = max 1 (whole_limit b.log k commits)
+
+-- how many a chunk of thread k may run that follows the thread's present commit, which will leave t
+unfoldable pub limit_after : (s : ℕ) → Role → (thread : ℕ) → Parts → ℕ
+limit_after s role k t = limit_after_in role s k t.commits
+
 -- ---- more of roles
 
 -- in a recorded sphere squashes halve a chunk's limit

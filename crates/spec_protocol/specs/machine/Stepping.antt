@@ -1,13 +1,18 @@
 -- The events of a running chunk: Step and Cut.
-use Rattle.std.specs.Prelude.{ℕ, Option, Some, None, if◌then◌else◌}
+use Rattle.std.specs.Prelude.{ℕ, Bool, true, false, not, ◌&&◌, nat_lt, Option, Some, None, if◌then◌else◌}
+use Rattle.spec_isa.specs.Words.{lays}
+use Rattle.spec_play.specs.Effects.{counted}
 use Rattle.spec_engine.specs.declared.answers.How.{How}
 use Rattle.spec_engine.specs.declared.answers.Stepped.{Stepped}
 use Rattle.spec_engine.specs.declared.answers.CutReply.{CutReply}
 use Rattle.spec_engine.specs.Flights.{at}
-use Rattle.spec_engine.specs.Chunks.{Chunk, Stepping, step, Cutting, cut, is_open}
+use Rattle.spec_engine.specs.Chunks.{Chunk, fresh, Stepping, step, Cutting, cut, is_open}
 use Rattle.spec_protocol.specs.declared.reply.Reply.{Reply}
-use Rattle.spec_protocol.specs.machine.Spheres.{is_stopped}
-use Rattle.spec_protocol.specs.machine.World.{World, Occupant, sphere_at, with_core, After, answered}
+use Rattle.spec_protocol.specs.machine.Spheres.{Role, is_stopped, limit_after, halves}
+use Rattle.spec_protocol.specs.machine.World.{Numbers, World, Occupant, sphere_at, with_core, After, answered}
+use Rattle.spec_protocol.specs.machine.Placing.{replays}
+
+-- ---- the older chunk
 
 abbrev pub with_chunk : World → (core : ℕ) → Occupant → Chunk → World
 with_chunk w c h ch = with_core w c (Some (record h { chunk = ch }))
@@ -20,6 +25,48 @@ reply_of_step (Stepped.Bounced k) = Reply.Bounced k
 abbrev pub stepped : World → (core : ℕ) → Occupant → Stepping → After
 stepped w c h s = answered (with_chunk w c h s.chunk) (reply_of_step s.reply)
 
+-- ---- the younger chunk
+
+abbrev pub with_younger : World → (core : ℕ) → Occupant → Chunk → World
+with_younger w c h y = with_core w c (Some (record h { younger = Some y }))
+
+abbrev pub stepped_younger : World → (core : ℕ) → Occupant → Stepping → After
+stepped_younger w c h s = answered (with_younger w c h s.chunk) (reply_of_step s.reply)
+
+-- whether a chunk may follow one that was closed so. In a replay one that was cut off, or found no room, is a piece, and none
+-- follows it
+abbrev pub may_follow : (replays : Bool) → Option How → Bool
+may_follow b None = false
+may_follow b (Some How.Limit) = true
+may_follow b (Some How.Serial) = false
+may_follow b (Some How.Overflow) = not b
+may_follow b (Some How.Cut) = not b
+
+-- the chunk that follows the older one: it begins from the state that the older's commit will leave, with the limit of the
+-- commit after that
+abbrev pub younger_afresh : Numbers → Role → Occupant → Chunk
+younger_afresh z role h =
+    let t = counted h.chunk.done.thread in
+    fresh z.bits h.chunk.sphere t (limit_after z.s role h.thread t) (halves role)
+
+-- the younger chunk that Step speaks of: the one that there is, or else one that begins
+abbrev pub younger_for : Numbers → Role → Occupant → Option Chunk → Option Chunk
+younger_for z role h (Some y) = Some y
+younger_for z role h None =
+    if nat_lt 1 z.depth && may_follow (replays role) h.chunk.closed then Some (younger_afresh z role h) else None
+
+-- ---- Step
+
+-- the older chunk is closed, so the younger one runs an instruction: its own stores lie over the older's, and these over
+-- memory
+abbrev pub step_younger : World → (core : ℕ) → Occupant → (younger : Option Chunk) → After
+step_younger w c h None = answered w Reply.Waiting
+step_younger w c h (Some y) =
+    let p = sphere_at w h.chunk.sphere in
+    if is_open y
+    then stepped_younger w c h (step w.numbers.capacity (lays p.memory h.chunk.done.words) w.slots c y)
+    else answered w Reply.Waiting
+
 -- the core's own stores lie over the memory of its sphere as it stands now, drained or not
 abbrev pub step_held : World → (core : ℕ) → Option Occupant → After
 step_held w c None = answered w Reply.Idle
@@ -27,11 +74,13 @@ step_held w c (Some h) =
     let p = sphere_at w h.chunk.sphere in
     if is_stopped p.role then answered w Reply.Stopped
     else if is_open h.chunk then stepped w c h (step w.numbers.capacity p.memory w.slots c h.chunk)
-    else answered w Reply.Waiting
+    else step_younger w c h (younger_for w.numbers p.role h h.younger)
 
 -- the core runs one instruction
 unfoldable pub stepping : World → (core : ℕ) → After
 stepping w c = step_held w c (at w.cores c)
+
+-- ---- Cut
 
 abbrev pub reply_of_cut : CutReply → Reply
 reply_of_cut CutReply.Waiting = Reply.Waiting
@@ -41,11 +90,19 @@ reply_of_cut CutReply.Closed = Reply.Closed How.Cut
 abbrev pub cut_to : World → (core : ℕ) → Occupant → Cutting → After
 cut_to w c h s = answered (with_chunk w c h s.chunk) (reply_of_cut s.reply)
 
+abbrev pub cut_younger : World → (core : ℕ) → Occupant → Cutting → After
+cut_younger w c h s = answered (with_younger w c h s.chunk) (reply_of_cut s.reply)
+
+-- the younger chunk is cut off if there is one, else the older. None begins
+abbrev pub cut_in : World → (core : ℕ) → Occupant → (younger : Option Chunk) → After
+cut_in w c h None = cut_to w c h (cut h.chunk)
+cut_in w c h (Some y) = cut_younger w c h (cut y)
+
 abbrev pub cut_held : World → (core : ℕ) → Option Occupant → After
 cut_held w c None = answered w Reply.Idle
 cut_held w c (Some h) =
     if is_stopped (sphere_at w h.chunk.sphere).role then answered w Reply.Stopped
-    else cut_to w c h (cut h.chunk)
+    else cut_in w c h h.younger
 
 -- the core's chunk is cut off
 unfoldable pub cutting : World → (core : ℕ) → After

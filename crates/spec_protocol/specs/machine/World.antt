@@ -13,16 +13,20 @@ use Rattle.spec_engine.specs.Chunks.{Chunk, fresh}
 use Rattle.spec_protocol.specs.declared.reply.Reply.{Reply}
 use Rattle.spec_protocol.specs.machine.Spheres.{Sphere, no_sphere, halves, limit_of}
 
--- the standard size of a chunk, the words that a write buffer holds, and the bits of a signature
+-- the standard size of a chunk, the words that a write buffer holds, the bits of a signature, and how many chunks a core
+-- may have at once
 pub record Numbers : Type 0 where
   pub s : ℕ
   pub capacity : ℕ
   pub bits : ℕ
+  pub depth : ℕ
 
--- what a core holds that isn't idle: a thread of the chunk's sphere, by its number, and its running chunk
+-- what a core holds that isn't idle: a thread of the chunk's sphere, by its number, its running chunk, which is the older
+-- one, and maybe a younger one, which follows it
 pub record Occupant : Type 0 where
   pub thread : ℕ
   pub chunk : Chunk
+  pub younger : Option Chunk
 
 pub record World : Type 0 where
   pub numbers : Numbers
@@ -63,7 +67,7 @@ abbrev pub thread_afresh : Numbers → (i thread : ℕ) → Sphere → Option Pa
 thread_afresh z i k p None = None
 thread_afresh z i k p (Some t) =
     if is_live t
-    then Some (record { thread = k; chunk = fresh z.bits i t (limit_of z.s p.role k t) (halves p.role) })
+    then Some (record { thread = k; chunk = fresh z.bits i t (limit_of z.s p.role k t) (halves p.role); younger = None })
     else None
 
 abbrev pub held_afresh : Numbers → (i thread : ℕ) → Sphere → Option Occupant

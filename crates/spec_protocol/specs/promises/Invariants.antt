@@ -1,17 +1,18 @@
 -- What holds of every world that the machine comes to.
 use Rattle.std.specs.Prelude.{◌≡◌, ◌≢◌, ℕ, ◌<◌, ◌≤◌, true, false, List, [], length, slice_get, Option, Some, None}
-use Rattle.spec_isa.specs.declared.thread.Parts.{Parts}
 use Rattle.spec_isa.specs.Words.{Stored, lays, Apart}
 use Rattle.spec_kernel.specs.Interrupts.{is_live}
+use Rattle.spec_play.specs.Effects.{counted}
 use Rattle.spec_engine.specs.declared.answers.How.{How}
 use Rattle.spec_engine.specs.Flights.{Flight, at}
 use Rattle.spec_engine.specs.Chunks.{Chunk}
 use Rattle.spec_engine.specs.Laws.{CoversWords, CoversLoads}
-use Rattle.spec_protocol.specs.machine.Spheres.{Role, Sphere, is_stopped, limit_of, halves}
+use Rattle.spec_protocol.specs.machine.Spheres.{Role, Sphere, is_stopped, limit_of, limit_after, halves}
 use Rattle.spec_protocol.specs.machine.Placing.{replays}
-use Rattle.spec_protocol.specs.machine.World.{Occupant, World, sphere_at}
+use Rattle.spec_protocol.specs.machine.World.{Numbers, Occupant, World, sphere_at}
 use Rattle.spec_protocol.specs.machine.Shown.{flying}
 use Rattle.spec_protocol.specs.promises.Currency.{IsCurrent, IsQuiet}
+use Rattle.spec_protocol.specs.machine.Stepping.{may_follow}
 
 -- ---- flights
 
@@ -53,10 +54,10 @@ pub record IsGoodChunk (capacity bits : ℕ) (slots : List (Option Flight)) (c :
 abbrev pub current : World → (i : ℕ) → List ℕ
 current w i = lays (sphere_at w i).memory (flying i w.slots)
 
--- a chunk's limit is that of its thread, or in a recording less
-pub record LimitFits (s : ℕ) (role : Role) (k : ℕ) (t : Parts) (limit : ℕ) : Type 0 where
-  pub most : limit ≤ limit_of s role k t
-  pub replayed : replays role ≡ true → limit ≡ limit_of s role k t
+-- a chunk's limit is the whole one of its commit, or in a recording less
+pub record LimitFits (role : Role) (whole limit : ℕ) : Type 0 where
+  pub most : limit ≤ whole
+  pub replayed : replays role ≡ true → limit ≡ whole
 
 -- the chunk of core c is good where these words lie over the current memory of sphere i
 abbrev pub IsGoodOver : World → (core i : ℕ) → List Stored → Chunk → Type 0
@@ -67,13 +68,26 @@ pub record IsOfThread (s : ℕ) (p : Sphere) (k : ℕ) (ch : Chunk) : Type 0 whe
   pub start : slice_get p.threads k ≡ Some ch.start
   pub lives : is_live ch.start ≡ true
   pub halving : ch.halves ≡ halves p.role
-  pub limit : is_stopped p.role ≡ false → LimitFits s p.role k ch.start ch.limit
+  pub limit : is_stopped p.role ≡ false → LimitFits p.role (limit_of s p.role k ch.start) ch.limit
 
--- core c holds a thread of a sphere that there is, whose chunk is good over the current memory
+-- chunk y of thread k follows the older one, which is no piece: it began from the state that the older's commit will leave,
+-- with the limit of the commit after that
+pub record Follows (z : Numbers) (p : Sphere) (k : ℕ) (older y : Chunk) : Type 0 where
+  pub deep : 1 < z.depth
+  pub sphere : y.sphere ≡ older.sphere
+  pub allowed : may_follow (replays p.role) older.closed ≡ true
+  pub start : y.start ≡ counted older.done.thread
+  pub halving : y.halves ≡ halves p.role
+  pub limit : is_stopped p.role ≡ false → LimitFits p.role (limit_after z.s p.role k y.start) y.limit
+
+-- core c holds a thread of a sphere that there is. Its older chunk is good over the current memory, and its younger one over
+-- that with the older's stores
 pub record IsGoodHeld (w : World) (c : ℕ) (h : Occupant) : Type 0 where
   pub sphere : h.chunk.sphere < length w.spheres
   pub thread : IsOfThread w.numbers.s (sphere_at w h.chunk.sphere) h.thread h.chunk
   pub chunk : IsGoodOver w c h.chunk.sphere [] h.chunk
+  pub follows : (y : Chunk) → h.younger ≡ Some y → Follows w.numbers (sphere_at w h.chunk.sphere) h.thread h.chunk y
+  pub younger : (y : Chunk) → h.younger ≡ Some y → IsGoodOver w c h.chunk.sphere h.chunk.done.words y
 
 -- a thread is on one core at most
 abbrev pub IsAlone : List (Option Occupant) → Type 0

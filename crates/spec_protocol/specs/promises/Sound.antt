@@ -53,6 +53,8 @@ pub record IsWithinLimits (s : Setup) : Type 0 where
   pub window : AreFew s.window
   pub few : AreFew (length s.spheres)
   pub chunk : IsChunkSize s.numbers.s
+  pub depth : 1 ≤ s.numbers.depth
+  pub most_depth : s.numbers.depth ≤ 2
   pub buffer : 1 ≤ s.numbers.capacity
   pub most_buffer : s.numbers.capacity ≤ 4096
   pub signature : is_size s.numbers.bits ≡ true
@@ -258,6 +260,10 @@ pub record IsSound (s : Setup) (w : World) : Type 0 where
   pub held : (c : ℕ) (h : Occupant)
       → at w.cores c ≡ Some h
       → IsSoundChunk s.numbers.capacity (size_of s h.chunk.sphere) h.chunk
+  pub younger : (c : ℕ) (h : Occupant) (y : Chunk)
+      → at w.cores c ≡ Some h
+      → h.younger ≡ Some y
+      → IsSoundChunk s.numbers.capacity (size_of s h.chunk.sphere) y
 
 -- ---- the promises
 

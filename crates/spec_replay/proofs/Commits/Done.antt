@@ -24,9 +24,9 @@ use Rattle.spec_replay.proofs.Commits.Standing.{set_twice, whole-stands}
 use Rattle.spec_replay.proofs.Commits.Judging.{AlikeEffects, AreAlike}
 use Rattle.spec_play.proofs.Positions.{position-more}
 
--- ---- where a sphere stands
+-- ---- where a sphere is
 
--- it stands in the play at the number of its whole commits
+-- it is in the play at the number of its whole commits
 abbrev pub Reaches : LogParts → Played → Sphere → Type 0
 Reaches log start p = Follows log (plays log start (position p.progress)) p
 
@@ -38,20 +38,20 @@ pub record Beside (log : LogParts) (y : Played) (p : Sphere) (b : Cursor) : Type
   pub used : b.used ≡ y.used
   pub standard : 0 < log.s
 
--- ---- the end alone
+-- ---- only the end
 
--- the play is given this end alone
+-- the play is given this end and nothing else
 abbrev pub ended_by : Played → Why → Played
 ended_by y why = record y { now = Ended (End.Diverged (position y.progress) why) }
 
 same_end : (p : Progress) (y : Played) (why : Why) → p ≡ y.progress → Ended (End.Diverged (position p) why) ≡ Ended (End.Diverged (position y.progress) why)
 same_end p y why e = ap (λ (g : Progress). Ended (End.Diverged (position g) why)) e
 
--- one commit more makes the list longer by one
+-- one more commit makes the list longer by one
 pub one_more : (cs : List Commit) (c : Commit) → length (cs ++ c ∷ []) ≡ suc (length cs)
 one_more cs c = let h = length-append cs (c ∷ []) in omega arith
 
--- a replay follows its log's play where no piece stands and all else is the play's
+-- a replay follows its log's play if no piece is done and all else is the play's
 whole_follows : (log : LogParts) (z : Played) (q : Sphere) (c : Cursor) → q.role ≡ Replay c → c.log ≡ log → 0 < log.s → q.progress ≡ z.progress → c.used ≡ z.used → c.now ≡ z.now → now_at log z.progress z.used z.threads ≡ z.now → IsWhole z q c → Follows log z q
 whole_follows log z q c role same standard progress used now turn w =
     record {
@@ -65,9 +65,9 @@ whole_follows log z q c role same standard progress used now turn w =
       state = whole-stands log z q c standard turn w;
     }
 
--- the replayed sphere p, with cursor b, stands beside y of its log's play
+-- the replayed sphere p, with cursor b, is beside y of its log's play
 module _ (log : LogParts) (y : Played) (p : Sphere) (b : Cursor) (devices : Devices) (s : Beside log y p b) where
-  -- where the play's next commit diverges, so does the replay
+  -- if the play's next commit diverges, so does the replay
   diverged-follows : (why : Why) (now : Now) → y.now ≡ now → ((how : End) → now ≡ Ended how → ⊥) → StandsAt log y now p b → play_one log y ≡ ended_by y why
       → ((c : Cursor) → c.total ≡ b.total → c.loads ≡ b.loads → StandsAt log y now p b → StandsAt log y now (laid (diverged b why devices p)) c) → Follows log y (laid (diverged b why devices p))
   diverged-follows why now is going state one keeps =
@@ -83,7 +83,7 @@ module _ (log : LogParts) (y : Played) (p : Sphere) (b : Cursor) (devices : Devi
         state = subst (λ (n : Now). StandsAt log y n (laid (diverged b why devices p)) c) (sym is) (keeps c refl refl state);
       }
 
-  -- where both commit alike, the replay follows the play that has settled it
+  -- if both commit alike, the replay follows the play that has settled it
   goes_follow : (k : ℕ) (x : Parts) (e f : Effect) (u v : Used) → p.threads ≡ set y.threads k x → AlikeEffects p.memory y.memory e f → u ≡ v
       → Follows log (settled log y k (Goes f v)) (laid (by_verdict b k (Goes e u) devices p))
   goes_follow k x e f u v threads alike used =
@@ -120,7 +120,7 @@ module _ (log : LogParts) (start y : Played) (p : Sphere) (b : Cursor) (k : ℕ)
   unfolding play_one
   play_judged w is = ap (play_now log y) h.turn ∙ ap (play_thread log y k) h.moved.is ∙ ap (settled log y k) is
 
-  -- a verdict that is alike to the play's leaves the sphere in its log's play
+  -- a verdict like the play's leaves the sphere in its log's play
   pub commit-reaches : (v w : LogVerdict) (devices : Devices) → thread_verdict log y k t (next_kind t y.memory) ≡ w → AreAlike p.memory y.memory v w → Reaches log start (laid (by_verdict b k v devices p))
   commit-reaches (Goes e u) (Goes f g) devices is alike =
       let one : plays log start (suc (position p.progress)) ≡ settled log y k (Goes f g) = ap (play_one log) (sym h.at_) ∙ play_judged (Goes f g) is in

@@ -11,7 +11,7 @@ use Rattle.spec_protocol.proofs.Memory.Covering.{Apart-store}
 
 -- ---- stores and loads
 
--- a run in which no word comes twice has none twice after its next instruction
+-- a run in which no word comes twice has no word twice after its next instruction
 pub apart_followed : (r : Run) (o : InstructionOutcome) → Apart r.words → Apart (followed r o).words
 apart_followed r (Serial kind) a = a
 apart_followed r (Next u load store) a = Apart-store r.words store a
@@ -21,7 +21,7 @@ pub run-apart : (m : List ℕ) (t : Parts) (n : ℕ) → Apart (run m t n).words
 run-apart m t zero = tt
 run-apart m t (suc n) = apart_followed (run m t n) (one (run m t n).thread (lays m (run m t n).words)) (run-apart m t n)
 
--- the memory after one store more
+-- the memory after one more store
 abbrev lay_if : List ℕ → Option Stored → List ℕ
 lay_if m None = m
 lay_if m (Some s) = lay m s

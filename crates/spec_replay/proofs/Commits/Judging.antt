@@ -1,4 +1,4 @@
--- What a log says of a chunk does not rest on how its stores are listed.
+-- What a log says of a chunk does not depend on how its stores are listed.
 use Rattle.std.proofs.Common.{◌≡◌, ℕ, Bool, true, false, cond, List, Option, Some, None, refl, sym, ap, ◌∙◌}
 use Rattle.dl_entry.specs.declared.Actor.{Actor}
 use Rattle.dl_entry.specs.declared.Why.{Why}
@@ -13,7 +13,7 @@ use Rattle.spec_play.specs.Verdicts.{LogVerdict, Goes, Fails, unless, interrupt_
 
 -- ---- verdicts that are alike
 
--- all but the lists of words is the same, and on m and on n these leave the same memory
+-- everything except the lists of words is the same, and laid on m and on n these leave the same memory
 pub record AlikeEffects (m n : List ℕ) (e f : Effect) : Type 0 where
   pub thread : e.thread ≡ f.thread
   pub spawned : e.spawned ≡ f.spawned
@@ -21,14 +21,14 @@ pub record AlikeEffects (m n : List ℕ) (e f : Effect) : Type 0 where
   pub request : e.request ≡ f.request
   pub commit : e.commit ≡ f.commit
 
--- the two verdicts go on with effects that are alike on those memories, or fail for one reason
+-- the two verdicts go, with effects that are alike on those memories, or fail for the same reason
 abbrev pub AreAlike : (m n : List ℕ) → LogVerdict → LogVerdict → Type 0
 AreAlike m n (Goes e u) (Goes f v) = AlikeEffects m n e f × (u ≡ v)
 AreAlike m n (Goes e u) (Fails why) = ⊥
 AreAlike m n (Fails why) (Goes f v) = ⊥
 AreAlike m n (Fails why) (Fails other) = why ≡ other
 
--- a verdict is alike to itself on one memory
+-- a verdict is like itself on one memory
 pub alike_same : (m n : List ℕ) (v : LogVerdict) → m ≡ n → AreAlike m n v v
 alike_same m n (Goes e u) h = (record { thread = refl; spawned = refl; memory = ap (λ (x : List ℕ). lays x e.words) h; request = refl; commit = refl }, refl)
 alike_same m n (Fails why) h = refl
@@ -64,7 +64,7 @@ chunk_words log p u k r ws =
     let o : Option ℕ = interrupt_at log.interrupts k e.thread.commits in
     ap (unless why) (interrupted_words o ws e u) ∙ unless_words why ws (with_interrupted o e u)
 
--- of two runs that differ in their words alone
+-- of two runs that differ only in their words
 pub chunks-alike : (m n : List ℕ) (log : LogParts) (p : Progress) (u : Used) (k : ℕ) (r s : Run) → record r { words = s.words } ≡ s → lays m r.words ≡ lays n s.words → AreAlike m n (chunk_verdict log p u k r) (chunk_verdict log p u k s)
 chunks-alike m n log p u k r s same h =
     let v : LogVerdict = chunk_verdict log p u k r in

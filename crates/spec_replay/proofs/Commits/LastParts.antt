@@ -83,7 +83,7 @@ module _ (log : LogParts) (start y : Played) (p : Sphere) (b : Cursor) (k : ℕ)
 
   -- ---- a chunk, by how it was closed
 
-  -- at its limit the commit has all its instructions; and where a serial one comes next, it has all that it can have
+  -- at its limit the commit has all its instructions; and if a serial one comes next, it has all that it can have
   all_ran : (z : Numbers) (u : Parts) (how : How) (n limit : ℕ) → IsPart y k t u p b n (run p.memory u n) → ChunkFits z p k u how n limit → b.total + limit ≡ whole_limit log k t.commits → is_piece how ≡ false
       → run y.memory t (whole_limit log k t.commits) ≡ run y.memory t (b.total + n)
   all_ran z u How.Limit n limit part f limited last =

@@ -1,4 +1,4 @@
--- All replays of one log on one image agree, since each is the log's play.
+-- All replays of the same log on the same image agree, because each is the log's play.
 use Rattle.std.proofs.Common.{◌≡◌, ℕ, suc, true, Some, sym, ap, ◌∙◌, subst, set}
 use Rattle.dl_entry.specs.declared.End.{End}
 use Rattle.spec_isa.specs.declared.thread.Parts.{Parts}
@@ -17,7 +17,7 @@ use Rattle.spec_protocol.specs.machine.Machine.{first_played}
 
 -- ---- states
 
--- where no piece stands, or as many instructions of pieces, what is moved on is the same
+-- if no piece is done, or the same number of instructions in pieces, what is moved on is the same
 moved_same : (log : LogParts) (y : Played) (k : ℕ) (t u : Parts) (p q : Sphere) (b c : Cursor) → IsMovedOn log y k t p b → IsMovedOn log y k u q c → b.total ≡ c.total → SameState p q
 moved_same log y k t u p q b c m n total =
     let same : t ≡ u = (let h : Some t ≡ Some u = sym m.is ∙ n.is in cc) in
@@ -36,7 +36,7 @@ state_same log y (Ended how) p q b c m n total = whole_same y p q b c m n
 
 -- ---- the promise
 
--- the other one stands here too, where it is as far in whole commits
+-- the other one is here too, if it is as far in whole commits
 same_place : (log : LogParts) (start : Played) (p q : Sphere) (c : Cursor) → Reached log start q c → position p.progress ≡ position q.progress → IsAt log (plays log start (position p.progress)) q c
 same_place log start p q c l e = subst (λ (n : ℕ). IsAt log (plays log start n) q c) (sym e) l
 
@@ -70,7 +70,7 @@ two_agree log start p q b c k l =
       final = λ how is between stopped. final_same log start p q b c how k l is between stopped;
     }
 
--- two replays of one log on one image agree
+-- two replays of the same log on the same image agree
 pub replays_alike : ReplaysAgree
 replays_alike image asked s z es fs i j p q b c x w role other =
     let log = asked.log in

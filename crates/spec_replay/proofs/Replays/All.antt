@@ -56,7 +56,7 @@ start_reaches asked z image s role =
 
 -- ---- the promise
 
--- after every schedule a replayed sphere stands in its log's play
+-- after every schedule a replayed sphere is in its log's play
 pub replays_follow : ReplaysArePlays
 replays_follow image asked s es i p r =
     let log = asked.log in

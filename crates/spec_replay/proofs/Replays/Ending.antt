@@ -1,4 +1,4 @@
--- A commit that diverges has a reason of its own: no play ends within a commit by a reason that comes between two.
+-- A commit that diverges has a reason of its own: no play ends within a commit for a reason that arises between two.
 use Rattle.std.proofs.Common.{◌≡◌, ℕ, suc, Bool, true, false, eqb, cond, List, length, Option, Some, None, refl, sym, ap, ◌∙◌, arith}
 use Rattle.std.specs.Prelude.{slice_get, nat_lt}
 use Rattle.std.proofs.lemmas.Bool.{true≢false}
@@ -104,11 +104,11 @@ dma_within log p u =
 
 -- ---- plays
 
--- the play had ended so before
+-- the play had already ended in this way
 abbrev EndedBefore : Played → Why → Type 0
 EndedBefore y why = y.now ≡ Ended (End.Diverged (position y.progress) why)
 
--- one commit more is not none
+-- one more commit isn't none
 no_more : (cs : List Commit) (c : Commit) (ds : List Commit) → length ds ≡ suc (length cs) → cs ≡ ds → {A : Type 0} → A
 no_more cs c ds size same = absurd (let h : length cs ≡ length ds = ap (λ (x : List Commit). length x) same in omega arith)
 
@@ -138,7 +138,7 @@ within_now log y (Ended how) why same between = ap (λ (x : Played). x.now) same
 within_now log y (Turn k) why same between = within_thread log y k (slice_get y.threads k) why same between
 within_now log y TurnOfDma why same between = within_dma log y (dma_verdict log y.progress y.used) why (dma_within log y.progress y.used) same between
 
--- where a play's next commit gives it an end that comes between two commits, and nothing else, it had ended so before
+-- if a play's next commit gives it an end that arises between two commits, and nothing else, it had already ended in that way
 pub ends-between : (log : LogParts) (y : Played) (why : Why) → play_one log y ≡ ended_by y why → is_between why ≡ true → y.now ≡ Ended (End.Diverged (position y.progress) why)
 unfolding play_one
 ends-between log y why same between = within_now log y y.now why same between

@@ -1,4 +1,4 @@
--- What each move makes of a replayed sphere: it stands in the play of its log again.
+-- What each move makes of a replayed sphere: it is in the play of its log again.
 use Rattle.std.proofs.Common.{◌≡◌, ℕ, ◌<◌, ◌≤◌, inl, inr, false, List, Option, Some, None, refl, sym, ap, ◌∙◌, subst, arith, set}
 use Rattle.std.specs.Prelude.{slice_get, IsSome, ◌⊎◌}
 use Rattle.std.proofs.lemmas.Bool.{true≢false, ltb-false}
@@ -70,7 +70,7 @@ pub turn_of_dma : (p : Sphere) (b : Cursor) → p.role ≡ Replay b → is_stopp
 unfolding turn_against
 turn_of_dma p b role going free = dma-turn_is b.now (not_over p.role b role going) (ap (λ (r : Role). turn_in r p Actor.Dma) (sym role) ∙ free)
 
--- where it is a thread's, that thread has the turn
+-- if it is a thread's, that thread has the turn
 has_turn : (log : LogParts) (start y : Played) (p : Sphere) (b : Cursor) (k : ℕ) → y ≡ plays log start (position p.progress) → (g : Going log y p b (Turn k)) → HasTurn log start y p b k g.state.0
 has_turn log start y p b k at_ g = record { at_ = at_; beside = g.beside; same = g.same; turn = g.turn; moved = g.state.1 }
 
@@ -79,7 +79,7 @@ has_turn log start y p b k at_ g = record { at_ = at_; beside = g.beside; same =
 serial_now : (b : Cursor) (r : Role) → r ≡ Replay b → is_in_pieces r ≡ false → b.total ≡ 0
 serial_now b r role none = let h : b.total ≤ 0 = ltb-false 0 b.total (ap is_in_pieces (sym role) ∙ none) in omega arith
 
--- where no piece stands, memory and threads are the play's
+-- if no piece is done, memory and threads are the play's
 unmoved : (log : LogParts) (y : Played) (k : ℕ) (t : Parts) (p : Sphere) (b : Cursor) → IsMovedOn log y k t p b → b.total ≡ 0 → (p.memory ≡ y.memory) × (p.threads ≡ y.threads)
 unmoved log y k t p b m none = (
   m.memory ∙ ap (λ (n : ℕ). lays y.memory (run y.memory t n).words) none,
@@ -102,13 +102,13 @@ serial_reaches log start y p b k u devices at_ g there f =
 
 -- ---- moves
 
--- the sphere i stands in the play
+-- the sphere i is in the play
 pub record StandsInPlay (log : LogParts) (start : Played) (x : SerialState) (i : ℕ) : Type 0 where
   pub sphere : Sphere
   pub there : slice_get x.spheres i ≡ Some sphere
   pub reaches : Reaches log start sphere
 
--- the replayed sphere i, which is p, stands in the play of its log
+-- the replayed sphere i, which is p, is in the play of its log
 module _ (log : LogParts) (start : Played) (x : SerialState) (i : ℕ) (p : Sphere) (s : 0 < log.s) (is : slice_get x.spheres i ≡ Some p) (f : Reaches log start p) where
   moved_stands : (v : MovedSphere) → Reaches log start (laid v) → StandsInPlay log start (do_moved x i v) i
   moved_stands v r = record { sphere = laid v; there = get-set_same x.spheres i (laid v) p is; reaches = r }

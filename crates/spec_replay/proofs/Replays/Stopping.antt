@@ -17,7 +17,7 @@ use Rattle.spec_protocol.specs.machine.Machine.{last_played, first_played}
 
 -- ---- the last state of a play, told by a replay that has stopped
 
--- this is how far the play comes
+-- this is how far the play gets
 pub record IsLast (log : LogParts) (start : Played) (n : ℕ) (p : Sphere) (b : Cursor) : Type 0 where
   pub how : End
   pub over : b.now ≡ Ended how
@@ -45,15 +45,15 @@ last_with log start p b (inr w) stopped same =
       progress = same ∙ ap (λ (x : Played). x.progress) (sym w.diverges);
     }
 
--- ---- a replay that stands in the play, by its cursor
+-- ---- a replay that is in the play, by its cursor
 
--- the sphere stands where the play does, or ends within its next commit
+-- the sphere is where the play is, or ends within its next commit
 pub record IsAt (log : LogParts) (y : Played) (p : Sphere) (b : Cursor) : Type 0 where
   pub progress : p.progress ≡ y.progress
   pub now : (b.now ≡ y.now) ⊎ EndsWithin log y b
   pub state : StandsAt log y y.now p b
 
--- a replayed sphere that follows its log's play stands at the play's place
+-- a replayed sphere that follows its log's play is at the play's place
 pub is_at : (log : LogParts) (y : Played) (p : Sphere) (b : Cursor) → p.role ≡ Replay b → Follows log y p → IsAt log y p b
 is_at log y p b role f =
     let e : f.cursor ≡ b = (let h : Replay f.cursor ≡ Replay b = sym f.role ∙ role in cc) in
@@ -76,14 +76,14 @@ meet log start m n how other a b =
 same_end : (a b : End) → Ended a ≡ Ended b → a ≡ b
 same_end a b e = cc
 
--- a replay that has ended between two commits stands where the play has ended
+-- a replay that has ended between two commits is where the play has ended
 pub end_between : (log : LogParts) (y : Played) (b : Cursor) (how : End) (o : (b.now ≡ y.now) ⊎ EndsWithin log y b) → b.now ≡ Ended how → ends_between how ≡ true → y.now ≡ Ended how
 end_between log y b how (inl e) is between = sym e ∙ is
 end_between log y b how (inr w) is between =
     let h : End.Diverged (position y.progress) w.why ≡ how = same_end _ how (sym w.over ∙ is) in
     ends-between log y w.why w.diverges (ap ends_between h ∙ between) ∙ ap Ended h
 
--- where the play is over the replay has done whole commits
+-- if the play is over, the replay has done whole commits
 pub whole_now : (log : LogParts) (y : Played) (p : Sphere) (b : Cursor) (how : End) → y.now ≡ Ended how → StandsAt log y y.now p b → IsWhole y p b
 whole_now log y p b how e s = subst (λ (now : Now). StandsAt log y now p b) e s
 

@@ -1,6 +1,6 @@
 //! What the worked machines run, from address 0.
 
-// It makes a thread at 32, loads a word and exits with 1; the thread stores 9 to that word and exits.
+// It spawns a thread at 32, loads a word and exits with 1; that thread stores 9 to the word and exits.
 pub(crate) const RACE: &[u32] = &[
     0x0010_0893,
     0x0200_0513,
@@ -35,7 +35,7 @@ pub(crate) const WRITES_TO_PIPE: &[u32] = &[
     0x0000_0073,
 ];
 
-// It reads up to 8 bytes of channel 0, loads the first word of them, and exits.
+// It reads up to 8 bytes from channel 0, loads the first word of them, and exits.
 pub(crate) const READS_FROM_PIPE: &[u32] = &[
     0x0030_0893,
     0x1000_0593,
@@ -46,7 +46,7 @@ pub(crate) const READS_FROM_PIPE: &[u32] = &[
     0x0000_0073,
 ];
 
-// It asks for a DMA of up to 4 bytes, loads the word behind its count, and exits.
+// It asks for a DMA of up to 4 bytes, loads the word after its count, and exits.
 pub(crate) const TRANSFERS: &[u32] = &[
     0x0080_0893,
     0x1000_0513,
@@ -57,7 +57,7 @@ pub(crate) const TRANSFERS: &[u32] = &[
     0x0000_0073,
 ];
 
-// It names a handler, and does no more; nor does the handler.
+// It sets a handler, and does nothing more; nor does the handler.
 pub(crate) const HANDLES: &[u32] = &[
     0x0060_0893,
     0x0140_0513,
@@ -70,7 +70,7 @@ pub(crate) const HANDLES: &[u32] = &[
 // It exits with 7.
 pub(crate) const EXITS: &[u32] = &[0x0000_0893, 0x0070_0513, 0x0000_0073];
 
-// It loads the moment and a byte of the input, stores that byte to the console, and loads one byte there.
+// It loads the moment and a byte of the input, stores that byte to the console, and loads one byte from there.
 pub(crate) const USES_DEVICES: &[u32] = &[
     0xF000_02B7,
     0x0002_A303,
@@ -100,7 +100,7 @@ pub(crate) const STORES_BESIDE: &[u32] = &[
     0x0000_0073,
 ];
 
-// It makes a thread at 32, loads a word and exits with 1; the thread stores to a word whose line has both bits of the first's.
+// It spawns a thread at 32, loads a word and exits with 1; that thread stores to a word whose line has the same bits.
 pub(crate) const SHARES_BITS: &[u32] = &[
     0x0010_0893,
     0x0200_0513,
@@ -116,7 +116,7 @@ pub(crate) const SHARES_BITS: &[u32] = &[
     0x0000_0073,
 ];
 
-// It makes a thread at 32 and loads a word over and over; the thread stores to it over and over.
+// It spawns a thread at 32 and loads a word over and over; that thread stores to the word over and over.
 pub(crate) const LOADS_AND_STORES: &[u32] = &[
     0x0010_0893,
     0x0200_0513,

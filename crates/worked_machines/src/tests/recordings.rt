@@ -34,7 +34,7 @@ pub(crate) const ROWS: &[Row] = &[
     FLIGHT_LEFT,
 ];
 
-// A thread makes another one, which stores on a second core while the first loads: the load is denied, squashed and bounced,
+// A thread spawns another one, which stores on a second core while the first loads: the load is denied, squashed and bounced,
 // and then done again.
 const SPAWN_AND_RACE: Row = Row {
     name: "spawn and race",
@@ -93,7 +93,7 @@ const SPAWN_AND_RACE: Row = Row {
     console: b"",
 };
 
-// The same where the two words are in other lines with the same bits: the load is denied though nothing is stored to its word.
+// The same with the words in different lines of the same bits: the load is denied though nothing is stored to its word.
 const FALSE_HIT: Row = Row {
     name: "false hit",
     cores: 2,
@@ -208,7 +208,7 @@ const TURNS: Row = Row {
     console: b"",
 };
 
-// The same in picolog and with one flight at most: the window is full where the load was denied, and the new thread has its turn.
+// The same in picolog with at most one flight: the window is full where the load was denied, and the new thread has its turn.
 const TURNS_IN_A_FULL_WINDOW: Row = Row {
     name: "turns in a full window",
     cores: 2,
@@ -862,7 +862,7 @@ const STORE_BESIDE: Row = Row {
     console: b"",
 };
 
-// A flight that stands after the schedule is drained and retired.
+// A flight that is left after the schedule is drained and retired.
 const FLIGHT_LEFT: Row = Row {
     name: "flight left",
     cores: 1,

@@ -36,7 +36,7 @@ pub(crate) const ROWS: &[Row] = &[
     FLIGHT_AND_REPLAY,
 ];
 
-// Two threads were recorded on two cores, and are replayed on one, which holds now the one, now the other.
+// Two threads were recorded on two cores, and are replayed on one, which holds now one of them, now the other.
 const RACE_REPLAYED: Row = Row {
     name: "race replayed",
     cores: 1,
@@ -87,7 +87,7 @@ const RACE_REPLAYED: Row = Row {
     console: b"",
 };
 
-// With a buffer of one word a commit goes in two pieces, and the reservation stays.
+// With a buffer of one word, a commit is done in two pieces, and the reservation stays.
 const PIECES: Row = Row {
     name: "pieces",
     cores: 1,
@@ -206,7 +206,7 @@ const EMPTY_LAST_PART: Row = Row {
     console: b"",
 };
 
-// The recording with a DMA beside a store, with one flight at most: threads and DMAs wait for each other's turns.
+// The recording with a DMA beside a store, with at most one flight: threads and DMAs wait for each other's turns.
 const STORE_BESIDE_REPLAYED: Row = Row {
     name: "store beside replayed",
     cores: 1,
@@ -254,7 +254,7 @@ const STORE_BESIDE_REPLAYED: Row = Row {
     console: b"",
 };
 
-// Its log with a DMA of five bytes, where four are asked for.
+// Its log with a DMA of five bytes, though four are asked for.
 const DMA_TOO_LONG: Row = Row {
     name: "dma too long",
     cores: 1,
@@ -336,7 +336,7 @@ const DMA_REPLAYED: Row = Row {
     console: b"",
 };
 
-// What was read of a pipe comes from the log, and no other sphere is there.
+// What was read from a pipe comes from the log, and no other sphere is there.
 const PIPE_REPLAYED: Row = Row {
     name: "pipe replayed",
     cores: 1,
@@ -440,7 +440,7 @@ const TOO_SHORT: Row = Row {
     console: b"",
 };
 
-// A serial step is logged where the next instruction is none.
+// A serial step is logged, and the next instruction isn't serial.
 const NOT_SERIAL: Row = Row {
     name: "not serial",
     cores: 1,
@@ -640,7 +640,7 @@ const INTERRUPT_REPLAYED: Row = Row {
     console: b"",
 };
 
-// What was loaded of the devices comes from the log, and the console stays empty.
+// What was loaded from the devices comes from the log, and the console stays empty.
 const DEVICE_WORDS_REPLAYED: Row = Row {
     name: "device words replayed",
     cores: 1,
@@ -720,7 +720,7 @@ const NEXT_INSTRUCTION_REPLAYED: Row = Row {
     console: b"",
 };
 
-// A flight stands, and the replay on the second core is at its start: the flight goes first.
+// There is a flight, and the replay on the second core is at its start: the flight goes first.
 const FLIGHT_AND_REPLAY: Row = Row {
     name: "flight and replay",
     cores: 2,

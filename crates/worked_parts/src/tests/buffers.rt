@@ -1,4 +1,4 @@
-//! Words that collide, that are stored again and that are taken out.
+//! Words that collide, words that are stored again, and words that are taken out.
 use dl_wbuf::{Buffer, Full, Stored};
 use std::process::Abort;
 use std::test::Fail;
@@ -92,7 +92,7 @@ fn tells_words_apart_that_collide(rt: HostRuntime) -> Result<(), Fail> {
     Ok(())
 }
 
-// With room for four words the probes for numbers 0, 13, 34 and 47 begin at one slot.
+// With room for four words, the probes for numbers 0, 13, 34 and 47 begin at the same slot.
 const COLLIDES: &[Step] = &[
     Step::Put((0, 0b1111, 1), Ok(())),
     Step::Put((52, 0b1111, 53), Ok(())),
@@ -104,7 +104,7 @@ const COLLIDES: &[Step] = &[
     Step::Over(188, 7, 7),
 ];
 
-// More words come than the table has room for, until it is made anew, and again.
+// More words come than the table has room for, so that it is filled anew, and more than once.
 #[test]
 fn finds_the_words_left_as_others_come(rt: HostRuntime) -> Result<(), Fail> {
     let mut buffer = Buffer::new(rt.alloc(), 2)?;

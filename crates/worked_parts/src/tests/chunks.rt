@@ -22,7 +22,7 @@ fn begun<G: Sig>(alloc: Global, limit: u32, halves: bool) -> Result<Chunk<G>, Al
     Ok(chunk)
 }
 
-// The limit of a chunk that was squashed so many times.
+// The limit of a chunk after that many squashes.
 fn limit_after(alloc: Global, limit: u32, halves: bool, squashes: u32) -> Result<u32, AllocError>
     requires least { 1 ≤ limit }
     requires most { limit ≤ 16 }
@@ -43,7 +43,7 @@ fn each_fourth_squash_halves_the_limit(rt: HostRuntime) -> Result<(), Fail> {
     Ok(())
 }
 
-// A limit, whether it is halved, how many squashes there are, and the limit then.
+// A limit, whether it is halved, how many squashes there are, and the limit after them.
 const LIMITS: &[(u32, bool, u32, u32)] = &[
     (16, true, 3, 16),
     (16, true, 4, 8),
@@ -85,7 +85,7 @@ fn closes(rt: &impl Abort, chunk: &mut Chunk<Banked>, mem: &Memory, flights: &Fl
     assert!(rt; chunk.closed().is_none());
 }
 
-// Whether so many instructions have run, and left this in x10.
+// Whether that many instructions have run, and left this in x10.
 fn has_run(chunk: &Chunk<Banked>, n: u32, x10: u32) -> bool {
     chunk.n() == n && chunk.state().x()[10] == x10
 }

@@ -26,8 +26,8 @@ fn console_takes_all(rt: HostRuntime) -> Result<(), Fail> {
     Ok(())
 }
 
-/// What is done to a pipe: bytes are put, of which it takes so many, or those bytes are got, or looked at, into a room of so
-/// many.
+/// What is done to a pipe: bytes are put, of which it takes that many; or these bytes are got, or looked at, in a buffer
+/// of that many.
 enum Step {
     Put(&'static [u8], u32),
     Get(usize, &'static [u8]),
@@ -63,7 +63,7 @@ fn looks_at(devices: &Devices, size: usize, bytes: &[u8]) -> bool {
     holds(&room, count, bytes)
 }
 
-// The room begins with the bytes, and the one behind them is as it was.
+// The buffer begins with the bytes, and the byte after them is as it was.
 fn holds(room: &[u8], count: u32, bytes: &[u8]) -> bool {
     count as usize == bytes.len() && room.starts_with(bytes) && room.get(bytes.len()) == Some(&9)
 }
@@ -76,7 +76,7 @@ const STEPS: &[Step] = &[
     Step::Put(&[9], 0),
     Step::Get(0, &[]),
     Step::Get(199, &[7; 199]),
-    // the next bytes lie across the end of the block
+    // the next bytes go across the end of the block
     Step::Put(&[1, 2, 3], 3),
     Step::Look(2, &[7, 8]),
     Step::Get(

@@ -173,7 +173,7 @@ fn words() -> [(u32, Instr); 17] {
 
 #[test]
 fn refuses_words_outside_the_table(rt: HostRuntime) {
-    // mret, csrrw, lr.w with a second register, lwu of 64 bits, slli by 32, sub with funct7 7F
+    // mret, csrrw, lr.w with a second register, RV64's lwu, slli by 32, sub with funct7 7F
     for word in &[
         0x3020_0073,
         0x3000_1073,

@@ -1,4 +1,4 @@
-//! Tables of calls of each kind of files and of sink through the traits, some of which fail.
+//! Tables of calls, some of which fail, of each kind of files and of sink, through the traits.
 ghost use Rattle.std.specs.Prelude.{IsErrOf};
 ghost use Rattle.dl_files.specs.Count.{Rose};
 
@@ -17,7 +17,7 @@ fn copy<F: Files>(alloc: Global, files: &mut F, from: &str, to: &str) -> Result<
     files.write(to, bytes.as_slice())
 }
 
-// What is proved of any files shows that good ones do not fail.
+// What is proved of any files shows that good ones don't fail.
 fn copy_good(alloc: Global, files: &mut GoodFiles, from: &str, to: &str) -> Result<(), FileError>
     ensures { IsErrOf result FileError.Failed → ⊥ }
 {
@@ -87,7 +87,7 @@ fn follow<F: Files>(rt: &impl Abort, alloc: Global, files: &mut F, steps: &[Step
     }
 }
 
-// Any files that had none of these names.
+// Any files, with none of these names there before.
 const KEPT: &[Step] = &[
     (Call::Write(b"one"), "dl_files_a", Ok(b""), 0),
     (Call::Write(b"longer"), "dl_files_b", Ok(b""), 0),
@@ -124,7 +124,7 @@ fn files_keep_what_is_written(rt: HostRuntime) -> Result<(), Fail> {
     Ok(())
 }
 
-// Real files without these names, once nothing was refused.
+// Real files without these names, after calls none of which was refused.
 const REFUSED: &[Step] = &[
     (Call::Read, "dl_files_a", Err(FileError::Absent), 1),
     (Call::Read, ".", Err(FileError::Failed), 2),
@@ -158,7 +158,7 @@ fn keeps_long_bytes<F: Files>(alloc: Global, files: &mut F) -> Result<bool, Fail
     )
 }
 
-// Files of which "a" alone is there, and whose listed calls fail.
+// Files of which only "a" is there, and whose listed calls fail.
 const LISTED: &[Step] = &[
     (Call::Write(b"xy"), "b", Ok(b""), 0),
     (Call::Read, "z", Err(FileError::Absent), 0),
@@ -215,7 +215,7 @@ fn listed_calls_of_a_sink_fail(rt: HostRuntime) -> Result<(), Fail> {
     Ok(())
 }
 
-// A piece, what its call answers, what was taken then, and the count of faults.
+// A piece, what its call answers, what has been taken then, and the count of faults.
 type Put = (&'static [u8], Result<usize, SinkError>, &'static [u8], u64);
 
 const PUTS: &[Put] = &[

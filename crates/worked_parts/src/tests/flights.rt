@@ -1,4 +1,4 @@
-//! Slots as they are made, the least free one, and what is done to a flight that stands.
+//! Slots as they are made, the lowest free one, and what is done to a flight in its slot.
 ghost use Rattle.std.specs.Prelude.{◌≡◌, ◌∷◌, [], ◌≤◌, ℕ, Some, IfOk};
 ghost use Rattle.spec_engine.specs.Flights.{IsInside, IsOfSize};
 
@@ -53,7 +53,7 @@ fn storing(alloc: Global) -> Result<Flight<PlainSet>, Fail>
     Ok(flight)
 }
 
-// One slot, in which this flight stands, which is told to one core.
+// One slot, with this flight, which is told to one core.
 #[tactic(auto, unfolding(spec_engine::specs::Flights::free_slot))]
 fn standing(alloc: Global, flight: Flight<PlainSet>) -> Result<Flights<PlainSet>, AllocError>
     ensures { IfOk result (λ f. f ≡ record { cores = 1; slots = Some flight ∷ [] }) }

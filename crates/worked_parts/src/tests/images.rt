@@ -1,4 +1,4 @@
-//! Files of a few instructions, and what is refused of them. The numbers are those of the rules.
+//! Files of a few instructions, and which changes of them are refused. The numbers are those of the rules.
 use byteorder::{ByteOrder, LittleEndian};
 use dl_elf::{ElfError, load};
 use std::alloc::{AllocError, Global};
@@ -14,7 +14,7 @@ const FILE: [u8; 96] = [
     0x04, 0x00, 0x00, 0x00, 0x93, 0x08, 0x00, 0x00, 0x13, 0x05, 0x70, 0x00, 0x73, 0x00, 0x00, 0x00,
 ];
 
-// The rule that the file breaks once a byte of its headers is changed by that mask, 0 where it is still an image.
+// The rule that the file breaks once a byte of its headers is changed by that mask, 0 if it is still an image.
 const CHANGED: &[(u8, [u8; 84])] = &[
     (
         0x40,
@@ -36,7 +36,7 @@ const CHANGED: &[(u8, [u8; 84])] = &[
     ),
 ];
 
-// A word of the headers put in place of what stands there, and the rule that the file then breaks.
+// A word of the headers put in place of what is there, and the rule that the file then breaks.
 const HOSTILE: &[(&str, usize, u32, u8)] = &[
     (
         "the program headers begin at the last address",
@@ -70,7 +70,7 @@ const FOUR_SEGMENTS: &[[u32; 8]] = &[
     [1, 184, 4, 100, 2, 4, 7, 4],
 ];
 
-// The number of the rule that a file breaks in a memory of 4,096 bytes, 0 where it is an image.
+// The number of the rule that a file breaks in a memory of 4,096 bytes, 0 if it is an image.
 fn rule(rt: &impl AllocGlobal, file: &[u8]) -> Result<u8, AllocError> {
     match load(rt.alloc(), file, 4096) {
         Ok(_) => Ok(0),
@@ -158,7 +158,7 @@ fn loads_several_segments(rt: HostRuntime) -> Result<(), Fail> {
     Ok(())
 }
 
-// A file that starts at address 4, of the four segments.
+// A file of the four segments, whose program starts at address 4.
 fn of_four_segments(alloc: Global) -> Result<Vec<u8>, AllocError> {
     let mut header = FILE;
     header[24] = 4;
@@ -171,7 +171,7 @@ fn of_four_segments(alloc: Global) -> Result<Vec<u8>, AllocError> {
     Ok(file)
 }
 
-// The bytes of a memory are these, and then zeros.
+// Whether the bytes of a memory are these, and then zeros.
 fn begins_with(memory: &[u8], bytes: &[u8]) -> bool {
     match memory.strip_prefix(bytes) {
         Some(rest) => rest.iter().all(|byte| *byte == 0),

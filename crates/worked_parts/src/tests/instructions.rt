@@ -119,7 +119,7 @@ fn thread(x1: u32, x2: u32) -> Thread {
     Thread::from_parts(&parts)
 }
 
-// What one instruction came to, and what it left.
+// The outcome of one instruction, and what it left.
 #[derive(Clone, Copy, PartialEq, Eq)]
 struct After {
     did: Did,
@@ -193,7 +193,7 @@ fn loads_stores_and_jumps(rt: HostRuntime) {
     }
 }
 
-// An instruction, x1, what it came to, and then pc, x3 and the word of memory.
+// An instruction, x1, its outcome, and then pc, x3 and the word of memory.
 const DONE: &[(u32, u32, Did, u32, u32, u32)] = &[
     (
         0x0000_8183,
@@ -341,7 +341,7 @@ fn faulted(cause: u8) -> Did {
     Did::Serial(Kind::Fault(cause))
 }
 
-// LR and then SC of one word.
+// LR and then SC of the same word.
 const RESERVE_AND_STORE: [u32; 2] = [0x1000_A1AF, 0x1820_A1AF];
 
 #[test]

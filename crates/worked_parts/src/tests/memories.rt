@@ -1,4 +1,4 @@
-//! Words that are put by a mask, snapshots, and bytes that lie in two pages.
+//! Words that are put with a mask, snapshots, and bytes that lie in two pages.
 ghost use Rattle.dl_elf.specs.Images.{IsSize};
 
 use super::small::SEVEN;
@@ -27,7 +27,7 @@ fn word(rt: &impl Abort, memory: &Memory, word: u32) -> u32 {
     memory.word(word)
 }
 
-// A mask by which a value is put to the first word, one after another, and that word then.
+// Masks with which a value is put to the first word, one after another, each with that word then.
 const MASKED: &[(u8, u32)] = &[
     (0b0000, 0x0070_0513),
     (0b0101, 0x00BB_05DD),

@@ -1,4 +1,4 @@
-//! Values that are put in another order than theirs, put again, and set.
+//! Values that are put out of their order, put again, and set.
 use dl_entry::OutOfMemory;
 use dl_moments::{Mark, Moments};
 use std::alloc::Global;
@@ -7,7 +7,7 @@ use std::test::Fail;
 // A thread, an index and a value that is put there.
 const PUT: &[(u8, u32, u32)] = &[(3, 9, 1), (0, 2, 2), (3, 4, 3), (14, 0, 4), (3, 9, 5)];
 
-// A thread, an index, and the value that then stands there.
+// A thread, an index, and the value that is there then.
 const STANDS: &[(u8, u32, Option<u32>)] = &[
     (3, 9, Some(5)),
     (3, 4, Some(3)),

@@ -1,4 +1,4 @@
-//! Requests beside no flight, beside one that hits, and beside one of the same sphere.
+//! Requests with no flight, with one that hits, and with one of the same sphere.
 ghost use Rattle.std.specs.Prelude.{◌≡◌, IfOk};
 
 use dl_arbiter::{Asked, AskedSerial, Flights, Sig, ask, ask_serial};

@@ -1,4 +1,4 @@
-//! Single lines that hit and that do not, and two lines joined, in both kinds of signature.
+//! Single lines that hit and that don't, and two lines joined, in both kinds of signature.
 ghost use Rattle.std.specs.Prelude.{◌≡◌, true};
 ghost use Rattle.spec_engine.specs.Signatures.{is_size};
 
@@ -26,7 +26,7 @@ const MISS: Seen = Seen {
     hits_once_cleared: false,
 };
 
-// What a signature of one line shows of another line.
+// What a signature of one line shows about another line.
 fn compared<G: Sig>(alloc: Global, bits: u32, marked: u32, line: u32) -> Result<Seen, AllocError>
     requires { is_size bits ≡ true }
 {
@@ -44,7 +44,7 @@ fn compared<G: Sig>(alloc: Global, bits: u32, marked: u32, line: u32) -> Result<
     })
 }
 
-// Whether a signature of one line covers it, and another line, once it has joined a signature of that.
+// Whether a signature of one line, once joined with a signature of another, covers both lines.
 fn covers_both<G: Sig>(alloc: Global, bits: u32, marked: u32, line: u32) -> Result<bool, AllocError>
     requires { is_size bits ≡ true }
 {
@@ -56,7 +56,7 @@ fn covers_both<G: Sig>(alloc: Global, bits: u32, marked: u32, line: u32) -> Resu
     Ok(signature.covers(marked) && signature.covers(line))
 }
 
-/// The least size of a signature and the greatest.
+/// The smallest size of a signature and the largest.
 #[derive(Clone, Copy)]
 enum Size {
     Least,
@@ -74,9 +74,9 @@ fn bits(size: Size) -> u32
 
 /// A size, the line that is marked, another line, and what is seen of it.
 const COMPARED: &[(Size, u32, u32, Seen)] = &[
-    // both set the same bits, one word a bank
+    // both set the same bits; one word to a bank
     (Size::Least, 8, 296, HIT),
-    // they share a bit of the first bank alone
+    // they share a bit in the first bank only
     (Size::Least, 0, 32, MISS),
     (Size::Least, 0, 1, MISS),
     // the last bit of the first bank

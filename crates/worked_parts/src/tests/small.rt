@@ -1,4 +1,4 @@
-//! The file of an image that several parts are tried over.
+//! The file of an image that several parts are tried with.
 
 // A file whose code is the words 00700513 (a0 := 7) and 00000073 (a call).
 pub(super) const SEVEN: [u8; 92] = [

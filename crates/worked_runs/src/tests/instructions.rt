@@ -1,4 +1,4 @@
-//! Recordings whose instructions meet their edges.
+//! Recordings of instructions at their edge cases.
 use super::{PLAN, RUN, answer_in_memory, holds};
 use dl_files::{Files, GoodFiles, GoodSink};
 use spec_program::status::Status;
@@ -6,7 +6,7 @@ use std::alloc::Global;
 use std::process::Abort;
 use std::test::Fail;
 
-// DIV and REM of -2^31 by -1; DIV, DIVU, REM and REMU of 7 by 0; MULHSU twice and MULHU. The results stand in x11 to x20.
+// DIV and REM of -2^31 by -1; DIV, DIVU, REM and REMU of 7 by 0; MULHSU twice and MULHU. The results are in x11 to x20.
 const DIVISION_IMAGE: &[u8] =
     b"\x7fELF\x01\x01\x01\0\0\0\0\0\0\0\0\0\x02\0\xf3\0\x01\0\0\0\0\0\0\04\0\0\0\0\0\0\0\0\0\0\04\0 \0\x01\0\0\0\0\0\
       \0\0\x01\0\0\0T\0\0\0\0\0\0\0\0\0\0\0\xbc\0\0\0\xbc\0\0\0\x07\0\0\0\x04\0\0\0\xb7\x02\0\x80\x93\x82\x02\07\x03\

@@ -1,5 +1,5 @@
-//! A log that is written and read in two pieces, in memory and over real files; and calls that fail while the commands that run
-//! no plan read and write.
+//! A log that is written and read in two pieces, in memory and over real files; and calls that fail while the commands that
+//! don't run a plan read and write.
 use super::answer;
 use dl_files::{Files, GoodFiles, MemFiles, MemSink, RealFiles};
 use spec_program::status::Status;
@@ -78,7 +78,7 @@ fn a_log_of_two_pieces_comes_round_over_real_files(rt: HostRuntime) -> Result<()
     comes_round(&rt, alloc, &mut files)
 }
 
-// The log that is recorded has the worked bytes, and its walk says the account that was recorded.
+// The log that is recorded has the worked bytes, and its walk gives the account that was recorded.
 fn comes_round<F: Files>(rt: &impl Abort, alloc: Global, files: &mut F) -> Result<(), Fail> {
     says(
         rt,
@@ -114,7 +114,7 @@ struct Failing {
     said: &'static [u8],
 }
 
-// A log of two pieces is read by three calls, the last at its end; of one whose first field is bad the second piece is never
+// A log of two pieces is read by three calls, the last at its end; if its first field is bad, the second piece is never
 // asked for.
 const FAILING: &[Failing] = &[
     Failing {

@@ -1,5 +1,5 @@
-//! Worked recordings and replays, each with every file that is read and every byte that is to be written. They are from
-//! outside the code.
+//! Worked recordings and replays, each with every file that is read and every byte that is to be written. They come
+//! from outside the code.
 use super::{Case, RUN, come_out};
 use spec_program::status::Status;
 use std::test::Fail;

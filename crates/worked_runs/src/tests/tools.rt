@@ -1,5 +1,5 @@
-//! The commands that run no plan, each with every file that is read, what is said and every byte that is to be written. They
-//! are from outside the code.
+//! The commands that don't run a plan, each with every file that is read, what is said and every byte that is to be written.
+//! They come from outside the code.
 use super::{Case, come_out};
 use spec_program::status::Status;
 use std::test::Fail;

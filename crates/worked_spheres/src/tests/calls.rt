@@ -21,7 +21,7 @@ const FILE: &[u8] = &[
     0x13, 0x00, 0x00, 0x00,
 ];
 
-// The results that stand for no number.
+// The results that aren't numbers.
 const UNKNOWN_CALL: u32 = 0xFFFF_FFFF;
 
 const BAD_BUFFER: u32 = 0xFFFF_FFFE;
@@ -50,7 +50,7 @@ fn caller(instruction: u8, call: [u32; 4]) -> Parts
     parts
 }
 
-// So many threads, at least two, the first of which calls, and the second of which has ended.
+// That many threads, at least two: the first one calls, and the second one has ended.
 fn threads(first: &Parts, count: u8) -> Threads
     requires { IsThread first.now }
     ensures { 0 < length result }
@@ -86,7 +86,7 @@ fn calls_give_their_results(rt: HostRuntime) {
     }
 }
 
-// The first of so many threads after its call, in a memory of that size, where that DMA was asked for before.
+// The first of that many threads after its call, in a memory of that size, if that DMA was asked for before.
 fn called(caller: &Parts, count: u8, outstanding: Option<Request>, size: u32) -> Parts
     requires { IsThread caller.now }
 {
@@ -217,7 +217,7 @@ fn is_record(left: &Option<Input>, expected: &Option<Record>) -> bool {
 // A record's kind, result and bytes.
 type Record = (u8, u32, &'static [u8]);
 
-// At which instruction the thread stands, its call, and the record that is left.
+// The instruction that the thread is at, its call, and the record that is left.
 const ANSWERS: &[(u8, [u32; 4], Option<Record>)] = &[
     (0, [2, 0, 0, 4], Some((2, 4, &[]))),
     (0, [2, 0, 0, 300], Some((2, 252, &[]))),
@@ -283,7 +283,7 @@ const RANDOM: [u32; 4] = [4, 0, 4, 0];
 
 const CLOCK: [u32; 4] = [5, 0, 0, 0];
 
-// At which instruction the thread stands, its call, a record, and whether it fits.
+// The instruction that the thread is at, its call, a record, and whether it fits.
 const RECORDS: &[(u8, [u32; 4], Record, bool)] = &[
     (0, WRITE, (2, 4, &[]), true),
     (0, WRITE, (2, 0, &[]), true),

@@ -11,8 +11,8 @@ use std::alloc::Global;
 use std::process::Abort;
 use std::test::Fail;
 
-/// The actors, the sizes, and whether the chunks were closed early: two threads, whose early closed chunks stand between
-/// others and a DMA.
+/// The actors, the sizes, and whether the chunks were closed early: two threads, with chunks that were closed early
+/// between others and a DMA.
 const COMMITS: &[(u8, u32, bool)] = &[
     (1, 2, true),
     (15, 0, false),
@@ -22,7 +22,7 @@ const COMMITS: &[(u8, u32, bool)] = &[
     (0, 0, false),
 ];
 
-/// What a log of them keeps: its mode, the order, the sizes, and what is seen of it.
+/// What a log of them keeps: its mode, the order, the sizes, and what it answers.
 struct Told {
     mode: ModeName,
     order: &'static [Actor],
@@ -36,8 +36,8 @@ enum Kept {
     Short(&'static [ShortSize]),
 }
 
-/// A question with its answer: an actor's size at an index; a thread's limit at an index; whether all sizes are used by so many
-/// commits of each thread; whose commit is next at a position, after which thread's, of those that live.
+/// A question with its answer: an actor's size at an index; a thread's limit at an index; whether all sizes are used by that many
+/// commits of each thread; whose commit is next at a position, after which thread's, given which threads are live.
 enum Look {
     Size(Actor, u32, Option<u32>),
     Limit(u8, u32, u32),
@@ -145,7 +145,7 @@ const PICOLOG: Told = Told {
     ],
 };
 
-// Of three threads the second doesn't live.
+// Of three threads the second isn't live.
 const THREE: &[bool] = &[true, false, true];
 
 #[test]

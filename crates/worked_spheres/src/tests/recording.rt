@@ -50,7 +50,7 @@ struct Row {
     log: &'static [u8],
 }
 
-/// The bytes of a recording's log. A step that no recorder takes fails.
+/// The bytes of a recording's log. A step that no recorder would take fails.
 fn recorded<M: Noting>(rt: &impl Abort, alloc: Global, row: &Row) -> Result<Vec<u8>, Fail> {
     assert!(rt; 16 <= row.s && row.s <= 4096);
     assert!(rt; row.steps.len() < 100);
@@ -137,7 +137,7 @@ fn input(rt: &impl Abort, alloc: Global, record: &Record) -> Result<Option<Input
     }))
 }
 
-/// That of a call's answer, or of a device word.
+/// The kind, which is that of a call's answer or of a device word.
 fn kind_of(kind: u8) -> u8
     ensures { Contains input_kinds result }
 {

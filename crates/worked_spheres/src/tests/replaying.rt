@@ -75,7 +75,7 @@ fn ended_in<M: Noting>(
     Ok(replayer.ended())
 }
 
-/// The thread asks, where thread 0 is alone.
+/// The thread asks; there is only thread 0.
 fn ask<M: Noting>(
     replayer: &mut Replayer<M>,
     thread: u8,
@@ -154,7 +154,7 @@ const ROWS: &[Row] = &[
         serial: true,
         end: End::Diverged(0, Why::Short(3, 2)),
     },
-    // A serial step is logged: there is a chunk, and then there is one.
+    // A serial step is logged: in the first row there is a chunk, and in the second a serial step.
     Row {
         log: b"\x44\x4C\x52\x4E\x01\x00\x00\x00\x64\x00\x00\x00\x01\x00\x00\x00\
           \x01\x00\x00\x00\x00\
@@ -173,7 +173,7 @@ const ROWS: &[Row] = &[
         serial: true,
         end: End::Complete(1),
     },
-    // An interrupt is logged behind it, of a thread without a handler.
+    // An interrupt is logged after it, for a thread without a handler.
     Row {
         log: b"\x44\x4C\x52\x4E\x01\x00\x00\x00\x64\x00\x00\x00\x01\x00\x00\x00\
           \x01\x00\x00\x00\x00\

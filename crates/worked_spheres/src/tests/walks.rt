@@ -1,4 +1,4 @@
-//! Worked logs, walked over their images.
+//! Worked logs, walked on their images.
 use dl_entry::{End, Why};
 use dl_logfmt::read_log;
 use dl_mem::Memory;
@@ -83,8 +83,8 @@ fn has_sizes(commits: &[Commit], sizes: &[u32]) -> bool {
     commits.len() == sizes.len() && commits.iter().zip(sizes).all(|(c, size)| c.size == *size)
 }
 
-// Logs: of `EXIT` as it was recorded, in order-size and in order-only; with a longer chunk; with a thread that isn't there;
-// with a record that nothing takes; and of `DMA` in picolog.
+// Logs: of `EXIT` as it was recorded, in order-size and in order-only; of `EXIT` with a longer chunk, with a thread that
+// isn't there, and with a record that nothing takes; and of `DMA` in picolog.
 const RECORDED: &[u8] = b"\x44\x4C\x52\x4E\x01\x00\x00\x00\x64\x00\x00\x00\x02\x00\x00\x00\
       \x02\x00\x00\x00\x00\x02\x00\x00\x00\x02\x00\x00\x00\x00\x00\x00\
       \x00\x00\x00\x00\x00\x00\x00\x00\x00";

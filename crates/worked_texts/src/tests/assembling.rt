@@ -1,4 +1,4 @@
-//! Sources with their words, by another assembler and a model apart from this code, and sources that are refused.
+//! Sources with their words, from another assembler and a model apart from this code, and sources that are refused.
 use dl_asm::Rule::{LabelTwice, Mnemonic, NoLabel, Operands, Range, Syntax, TooLong};
 use dl_asm::{AsmError, Rule, assemble};
 use std::alloc::Global;
@@ -47,7 +47,7 @@ fn a_source_is_its_words(rt: HostRuntime) -> Result<(), Fail> {
     Ok(())
 }
 
-// Whether a file is two headers and then these words, the least byte of each first.
+// Whether a file is two headers and then these words, little-endian.
 pub(super) fn has_words(file: &[u8], words: &[u32]) -> bool {
     file.len() == 84 + words.len() * 4
         && file[84..]
@@ -211,7 +211,7 @@ const REFUSED: &[(&str, u64, Rule)] = &[
     ("beq x0, x0, a\nnop\n.zero 1023\na:", 1, Range),
 ];
 
-// The sixty instructions and `.word`, at the ends of their ranges, each behind its word.
+// The sixty instructions and `.word`, at the ends of their ranges, each after its word.
 const INSTRUCTIONS: &str = "\
     01100FB3 add x31, x0, x17\n\
     40880233 sub x4, x16, x8\n\
@@ -435,7 +435,7 @@ const OUT_OF_RANGE: &str = "\
     addi x1, x0, 99999999999999999999999999\n\
     addi x1, x0, -0xFFFFFFFF";
 
-// No lines.
+// Texts that aren't lines.
 const MISSPELLED: &str = "\
     add x1 x2, x3\n\
     add x1, x2, x3,\n\
@@ -459,7 +459,7 @@ const MISSPELLED: &str = "\
     5\n\
     ecall ~";
 
-// No mnemonics.
+// Words that aren't mnemonics.
 const UNKNOWN: &str = "\
     nop\n\
     li x1, 5\n\
@@ -478,7 +478,7 @@ const UNKNOWN: &str = "\
     subi x1, x2, 3\n\
     csrrw x1, x2, x3";
 
-// Operands of another number or kind.
+// Operands of the wrong number or kind.
 const UNFIT: &str = "\
     add x1, x2\n\
     add x1, x2, x3, x4\n\

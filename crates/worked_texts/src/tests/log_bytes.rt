@@ -1,4 +1,4 @@
-//! The bytes of the logs of small recordings, and bytes that are no log.
+//! The bytes of the logs of small recordings, and bytes that aren't a log.
 use dl_logfmt::{LogError, read_log, write_log};
 use std::alloc::Global;
 use std::test::Fail;
@@ -32,7 +32,7 @@ fn the_first_wrong_field_is_named(rt: HostRuntime) -> Result<(), Fail> {
     Ok(())
 }
 
-/// The bytes with others from an offset on, or behind their end.
+/// The bytes with others from an offset on, or after their end.
 fn overwritten(alloc: Global, bytes: &[u8], at: usize, wrong: &[u8]) -> Result<Vec<u8>, Fail> {
     let mut out = Vec::new(alloc);
     out.extend_from_slice(bytes.get(..at).unwrap_or(bytes))?;
@@ -59,7 +59,7 @@ const LOGS: &[&[u8]] = &[
       \x00\x00\x00\x00\
       \x00\x00\x00\x00\
       \x00\x00\x00\x00",
-    // Two threads, of which one is odd in the order.
+    // Two threads, the second of which has the third and the sixth commit.
     b"\x44\x4C\x52\x4E\x01\x00\x00\x00\x64\x00\x00\x00\x06\x00\x00\x00\
       \x06\x00\x00\x00\x00\x01\x10\
       \x06\x00\x00\x00\x03\x00\x00\x00\x03\x00\x02\x00\x00\x00\x00\x00\
@@ -137,7 +137,7 @@ const FULL: &[u8] = b"\x44\x4C\x52\x4E\x01\x01\x00\x00\x00\x10\x00\x00\x03\x00\x
   \x02\x00\x00\x00\x03\x02\x00\x00\x00\x02\x00\x93\x08\x11\x00\x00\x00\x00\x00\x00\
   \x02\x00\x00\x00\x01\x00\x00\x00\x02\x00\x41\xFF\x02\x00\x00\x00\x00\x00";
 
-/// A log, the offset at which bytes are wrong, these bytes, and the number and the offset of the fault.
+/// A log, the offset at which bytes are wrong, those bytes, and the number and the offset of the fault.
 const WRONG: &[(&[u8], usize, &[u8], u8, u64)] = &[
     (FULL, 0, b"\x45", 2, 0),
     (FULL, 4, b"\x02", 3, 4),

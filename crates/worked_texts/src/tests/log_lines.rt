@@ -14,7 +14,7 @@ fn each_entry_has_a_line(rt: HostRuntime) -> Result<(), Fail> {
 
 /// The header, the order, the sizes, the interrupts, the inputs and the DMAs of each, and its text.
 const LOGS: &[(&[u8], &[u8])] = &[
-    // Sizes stand in the order's lines. There are two interrupts, an input with bytes and one without, and a DMA.
+    // Sizes are in the order's lines. There are two interrupts, an input with bytes and one without, and a DMA.
     (
         b"\x44\x4C\x52\x4E\x01\x00\x00\x00\x00\x10\x00\x00\x04\x00\x00\x00\
           \x04\x00\x00\x00\x0E\xEF\

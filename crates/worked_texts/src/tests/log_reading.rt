@@ -1,4 +1,4 @@
-//! Worked logs, read in pieces, and bytes that are no log.
+//! Worked logs, read in pieces, and bytes that aren't a log.
 use dl_logfmt::{Log, LogError, LogReader, write_log};
 use std::alloc::Global;
 use std::test::Fail;
@@ -60,7 +60,7 @@ const FULL: &[u8] = b"\x44\x4C\x52\x4E\x01\x01\x00\x00\x00\x10\x00\x00\x03\x00\x
   \x02\x00\x00\x00\x01\x00\x00\x00\x02\x00\x41\xFF\x02\x00\x00\x00\x00\x00";
 
 /// Bytes with the number and the offset of their fault: another version, a header that claims too many commits,
-/// and a byte behind the log.
+/// and a byte after the log.
 const WRONG: &[(&[u8], u8, u64)] = &[
     (b"\x44\x4C\x52\x4E\x02", 3, 4),
     (

@@ -15,7 +15,7 @@ fn pieces_join_to_the_log(rt: HostRuntime) -> Result<(), Fail> {
     Ok(())
 }
 
-// Whether the pieces that fill this room are the bytes, and then there is none.
+// Whether the pieces that are written into this room are the bytes, and then there are no more.
 fn writes(log: &Log, bytes: &[u8], room: &mut [u8]) -> bool
     requires { 0 < length room.old }
 {

@@ -1,4 +1,4 @@
-//! Images of some numbers, from a model apart from this code.
+//! The images of some numbers, from a model apart from this code.
 use super::assembling::has_words;
 use dl_make::make;
 use std::test::Fail;
@@ -37,7 +37,7 @@ fn a_number_makes_its_image(rt: HostRuntime) -> Result<(), Fail> {
     Ok(())
 }
 
-// A number, and the words of its image that differ.
+// A number, and those words of its image that depend on it.
 const IMAGES: &[(u32, u32, u32, u32)] = &[
     (0, 0x0010_0413, 0x0025_1293, 0x0100_0313),
     (6, 0x0070_0413, 0x0035_1293, 0x0100_0313),

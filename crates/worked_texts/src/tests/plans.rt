@@ -1,4 +1,4 @@
-//! Plans that are read, and plans that are refused: each is one plan with a change.
+//! Plans that are read, and plans that are refused, each of which is the same plan with a change.
 use dl_plan::{Plan, PlanError, read_plan};
 use std::alloc::Global;
 use std::process::Abort;
@@ -24,7 +24,7 @@ const PLAN: &str = "cores = 1\n\
 const SPHERE: &str =
     "[[sphere]]\nimage = \"a.elf\"\nmemory = 4096\nrole = \"record\"\nmode = \"order-size\"\nlog = \"a.log\"\naccount = \"a.txt\"\n";
 
-/// A plan with what the other has not.
+/// A plan with what the other one doesn't have.
 const OTHER: &str = "cores = 8\n\
       chunk = 64\n\
       buffer = 8\n\
@@ -51,14 +51,14 @@ const OTHER: &str = "cores = 8\n\
       log = \"a.log\"\n\
       account = \"c.txt\"\n";
 
-/// What the plan reads as once its first `from` is `to`.
+/// What the plan is read as once its first `from` is `to`.
 fn changed(alloc: Global, from: &str, to: &str) -> Result<Result<Plan, PlanError>, Fail> {
     let (before, after) = PLAN.split_once(from).ok_or("nothing to change")?;
     let text = format!(in alloc; "{before}{to}{after}")?;
     Ok(read_plan(alloc, "p.toml", text.as_bytes()))
 }
 
-// Whether the plan is refused after each change by the rule of that number.
+// Whether the plan is refused after each change, by the rule of that number.
 fn are_refused(rt: &impl Abort, alloc: Global, changes: &[(&str, &str, u8)]) -> Result<(), Fail> {
     for (from, to, rule) in changes {
         let refused = changed(alloc, from, to)?.err();

@@ -1,4 +1,4 @@
-//! Which words mean a command, and which.
+//! Which words mean a command, and which command.
 use dl_words::{Command, OutOfMemory, read_words};
 use std::alloc::Global;
 

@@ -3,7 +3,7 @@ use Rattle.std.specs.List.{suffix_len}
 use Rattle.dl_asm.specs.Characters.{is_blank}
 use Rattle.dl_asm.proofs.text.before_blanks.Given as goal
 
--- what stands from the end on are blanks
+-- what is from the end on is blanks
 pub record IsCut (text : List ℕ) (end : ℕ) : Type 0 where
   pub within : end ≤ length text
   pub blanks : end + suffix_len is_blank text ≡ length text + suffix_len is_blank (take end text)

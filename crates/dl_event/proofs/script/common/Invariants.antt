@@ -1,7 +1,7 @@
 use Rattle.std.proofs.Common.{◌≡◌, ◌≤◌, ◌-◌, length, take}
 use Rattle.dl_event.proofs.script.common.Given as goal
 
--- so many bytes are the same
+-- that many bytes are the same
 abbrev pub invariant-loop-x : goal.invariant-loop-x
 invariant-loop-x l = record {
   same : take l.n l.a ≡ take l.n l.b;

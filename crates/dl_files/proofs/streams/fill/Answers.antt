@@ -7,7 +7,7 @@ use lib.Seq.{take-add, take-append-le}
 use Rattle.dl_files.proofs.streams.fill.Goals as goal
 use Rattle.dl_files.proofs.streams.fill.Goals.{in-Ok, in-Err}
 
--- what stands in front once n bytes more were read behind the first a
+-- what is in front once n more bytes were read after the first a
 front-read : (a k n : ℕ) (xs ys : List ℕ) → a ≤ length xs → n ≤ length ys → take (a + n) (put_mid a k xs ys) ≡ take a xs ++ take n ys
 front-read a k n xs ys within fits =
     let after = post_of a k xs in

@@ -9,7 +9,7 @@ use Rattle.dl_finish.specs.Runs.{HasBegun}
 use Rattle.dl_finish.proofs.Going.{Going, going_start, going_next, going_finished, going_ended, going_begun, happens_events, step_again}
 use Rattle.dl_finish.proofs.finishing.finish.Goals as goal
 
--- it takes memory, where otherwise an error were an answer
+-- it takes memory, because otherwise it couldn't have answered an error
 wants_if : (b : Bool) → (b ≡ false → false ≡ true) → b ≡ true
 wants_if true or_else = refl
 wants_if false or_else = or_else refl

@@ -11,7 +11,7 @@ invariant-loop-event g l = Going l.initial.machine l.machine
 abbrev pub decreases-loop-event : goal.decreases-loop-event
 decreases-loop-event g l = 2 ^ 63 - l.machine.counts.events
 
--- where it was a step, and its instruction ran, it is next again
+-- if it was a step, and its instruction ran, it is next again
 abbrev pub invariant-loop-machine : goal.invariant-loop-machine
 invariant-loop-machine g l = record {
   going : Going l.fn.machine l.machine;

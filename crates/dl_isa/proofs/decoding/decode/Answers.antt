@@ -1,4 +1,4 @@
--- The tables find what the word denotes, and a word denotes one instruction at most.
+-- The tables find what the word denotes, and a word denotes at most one instruction.
 use Rattle.std.proofs.Common.{◌∙◌, sym, subst}
 use Rattle.spec_isa.specs.Encoding.{IsMeaning}
 use Rattle.spec_isa.proofs.RoundTrip.{denotes_denoted}

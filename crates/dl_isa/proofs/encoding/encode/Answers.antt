@@ -1,4 +1,4 @@
--- The word that an instruction is spelled by is read back as that instruction.
+-- The word that spells an instruction is read back as that instruction.
 use Rattle.spec_isa.proofs.RoundTrip.{denotes_denoted}
 use Rattle.dl_isa.proofs.encoding.encode.Goals as goal
 

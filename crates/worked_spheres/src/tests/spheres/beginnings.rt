@@ -1,4 +1,4 @@
-//! How spheres stand before their first commit.
+//! What spheres are before their first commit.
 ghost use Rattle.std.specs.Prelude.{◌≡◌, length};
 
 use super::{Begins, begin};
@@ -18,7 +18,7 @@ const FILE: &[u8] = &[
     0x04, 0x00, 0x00, 0x00, 0x73, 0x00, 0x00, 0x00,
 ];
 
-/// A role with standard chunks of 1,000 instructions: the limit of thread 0, whose turn it is, and the end.
+/// A role, with standard chunks of 1,000 instructions: the limit of thread 0, whose turn it is, and the end.
 #[derive(Clone, Copy)]
 struct Row {
     role: Begins,
@@ -83,7 +83,7 @@ const ROWS: &[Row] = &[
         head: Some(Actor::Thread(0)),
         end: None,
     },
-    // A chunk of thread 5 is logged, which there isn't.
+    // A chunk of thread 5 is logged, and there is no such thread.
     Row {
         role: Begins::Replayed(
             b"\x44\x4C\x52\x4E\x01\x00\x00\x00\x64\x00\x00\x00\x01\x00\x00\x00\

@@ -46,8 +46,8 @@ const HANDLES: [u8; 108] = [
 /// A commit: its actor, its kind and its size.
 type Line = (Actor, CommitKind, u32);
 
-/// What a sphere of a file has done after a chunk, a serial step, and then the DMA that this asks for or, unless it is
-/// replayed, an interrupt with the value 5: its commits, the place and x10 of its thread, its log, and its end.
+/// What a sphere of a file has done after a chunk, a serial step, and then the DMA that the step asks for or, unless the
+/// sphere is replayed, an interrupt with the value 5: its commits, its thread's pc and x10, its log, and its end.
 #[derive(Clone, Copy)]
 struct Scene {
     file: &'static [u8],
@@ -114,7 +114,7 @@ fn run(alloc: Global, sphere: &Sphere) -> Result<Chunk<PlainSet>, Fail> {
     Ok(chunk)
 }
 
-/// Commits the chunk of thread 0, which is closed so.
+/// Commits the chunk of thread 0, which was closed in that way.
 fn commit_chunk<G: Sig>(
     rt: &impl Abort,
     sphere: &mut Sphere,
@@ -137,7 +137,7 @@ fn commit_chunk<G: Sig>(
     Ok(())
 }
 
-/// Whether a chunk that is closed so is a piece of a replayed commit.
+/// Whether a chunk that was closed in that way is a piece of a replayed commit.
 fn is_piece(how: How) -> bool
     ensures { result ≡ is_piece how }
 {

@@ -4,7 +4,7 @@ use Rattle.dl_files.specs.Entries.{Entry, place_of, contents_of}
 use Rattle.dl_files.proofs.Places.{place_of-push, SameBut-push}
 use Rattle.dl_files.proofs.store.Store.touch.Goals as goal
 
--- a name that was added stands at the place that was answered
+-- a name that was added is at the place that was answered
 place_added : {E : Type 0} (name : List ℕ) (old new : List Entry) (r : Result ℕ E) → place_of name old ≡ None
     → IfOk r (λ place. place ≡ length old) → OnOk r (new ≡ old ++ (name, []) ∷ []) → IfOk r (λ place. place_of name new ≡ Some place)
 place_added name old new (Ok place) none at added = ap (place_of name) added ∙ place_of-push name (name, []) old refl none ∙ ap Some (sym at)

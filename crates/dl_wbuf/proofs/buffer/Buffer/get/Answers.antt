@@ -1,4 +1,4 @@
--- The byte of the stored word, or none, by where it stands.
+-- The byte of the stored word, or none, by where the word is.
 use Rattle.std.proofs.Common.{◌/◌, refl, sym, ◌∙◌}
 use Rattle.dl_wbuf.proofs.Lasts.{byte_held-last}
 use Rattle.dl_wbuf.proofs.Places.{IsFound-place, IsMissing-place}

@@ -1,4 +1,4 @@
--- A new word is taken where there is room, and one that stands always.
+-- A new word is taken if there is room, and one that is there always.
 use Rattle.std.proofs.Common.{◌≡◌, ◌/◌, ◌||◌, true, false, Bool, length, nat_lt, refl, sym, ap, ◌∙◌, rules}
 use Rattle.std.specs.Option.{is_some}
 use Rattle.std.proofs.lemmas.Bool.{lt-ltb, or_right}

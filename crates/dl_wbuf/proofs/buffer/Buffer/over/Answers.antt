@@ -1,4 +1,4 @@
--- The stored word, or none, by where it stands.
+-- The stored word, or none, by where it is.
 use Rattle.std.proofs.Common.{◌/◌, sym}
 use Rattle.dl_wbuf.proofs.Places.{IsFound-place, IsMissing-place}
 use Rattle.dl_wbuf.proofs.buffer.Buffer.over.Goals as goal

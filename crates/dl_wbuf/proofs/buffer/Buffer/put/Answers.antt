@@ -1,4 +1,4 @@
--- A word that stands is stored again in its place, and a new one comes last, where there is room.
+-- A word that is there is stored again in its place, and a new one comes last, if there is room.
 use Rattle.std.proofs.Common.{◌≡◌, ◌/◌, ◌≤◌, ◌<◌, length, sym, ap, ◌∙◌, rules}
 use Rattle.std.proofs.lemmas.Bool.{le-ltb}
 use Rattle.dl_wbuf.proofs.Positions.{position-found, IsPlaced-again, IsPlaced-new}

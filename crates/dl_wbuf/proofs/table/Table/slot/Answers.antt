@@ -1,4 +1,4 @@
--- The first slot from the home on that fits, which stands before the end.
+-- The first slot from the home on that fits, which is before the end.
 use Rattle.std.proofs.Common.{◌≡◌, ◌<◌, ◌+◌, ◌-◌, List, Option, length, take, drop, refl, ap, ◌∙◌, arith}
 use Rattle.std.specs.List.{position_or_len}
 use Rattle.std.specs.Option.{unwrap_or}

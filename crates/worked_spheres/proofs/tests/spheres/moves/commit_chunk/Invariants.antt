@@ -3,7 +3,7 @@ use Rattle.std.proofs.Common.{Option, Some, None}
 use Rattle.spec_engine.specs.declared.answers.How.{How}
 use Rattle.worked_spheres.proofs.tests.spheres.moves.commit_chunk.Given as goal
 
--- how a chunk was closed: by Limit, where nothing else closed it
+-- how a chunk was closed: by Limit, if nothing else closed it
 abbrev pub how_of : Option How → How
 how_of None = How.Limit
 how_of (Some how) = how
