@@ -213,7 +213,7 @@ def contents(folder):
 
 @dataclass
 class Ended:
-    """How a run ended: status is None where it was stopped after its seconds, and below 0 where a signal ended it.
+    """How a run ended: status is None if it was stopped after its seconds, and below 0 if a signal ended it.
     `peak` is in bytes, and at least what the calling script had itself."""
 
     status: int

@@ -21,7 +21,7 @@ static void *(*real_malloc)(size_t) = __libc_malloc;
 static void *(*real_calloc)(size_t, size_t) = __libc_calloc;
 static void *(*real_realloc)(void *, size_t) = __libc_realloc;
 
-/* How many requests are granted before the refused one; below 0 after it, and where none is refused. */
+/* How many requests are granted before the refused one; below 0 after it, and if none is refused. */
 static long left = -1;
 static const char *mark;
 
@@ -45,7 +45,7 @@ void *malloc(size_t size) __attribute__((alias("refusing_malloc")));
 void *calloc(size_t number, size_t size) __attribute__((alias("refusing_calloc")));
 void *realloc(void *old, size_t size) __attribute__((alias("refusing_realloc")));
 
-/* Where a program brings its own malloc, as one that is built with an address sanitizer does, that one is found before
+/* If a program brings its own malloc, as one that is built with an address sanitizer does, that one is found before
    ours, and is a jump to its body. The jump is bent to `ours`, by way of a page near it. The body is answered. */
 static void *bent(const char *name, void *ours, void *body) {
     unsigned char *jump = dlsym(RTLD_DEFAULT, name);

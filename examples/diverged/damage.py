@@ -49,7 +49,7 @@ def no_thread(log):
 
 
 def short(log):
-    log.sizes[5] = 2  # one instruction stands before the call
+    log.sizes[5] = 2  # one instruction comes before the call
 
 
 def not_serial(log):

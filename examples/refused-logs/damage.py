@@ -17,7 +17,7 @@ damaged = [
     changed(5, 3),  # 4: the mode
     changed(8, 15),  # 5: the standard size is less than 16
     changed(INTERRUPTS, 2)[:INTERRUPTS + 13] + entry + good[INTERRUPTS + 13:],  # 6: the same interrupt twice
-    good + b"\0",  # 7: a byte behind the last section
+    good + b"\0",  # 7: a byte after the last section
 ]
 for number, data in enumerate(damaged, 1):
     Path(f"{number}.log").write_bytes(data)

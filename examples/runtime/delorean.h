@@ -2,7 +2,7 @@
 #ifndef DELOREAN_H
 #define DELOREAN_H
 
-/* What a call answers where it isn't done. */
+/* What a call answers if it isn't done. */
 #define UNKNOWN 0xFFFFFFFFu     /* there is no such call */
 #define BAD_BUFFER 0xFFFFFFFEu  /* the buffer ends beyond the memory; a dma's isn't at a multiple of 4 */
 #define NOTHING_NOW 0xFFFFFFFDu /* the pipe is full or empty, or the input is at its end: try again later */
@@ -21,7 +21,7 @@ static inline _Noreturn void exit(unsigned code) {
     __builtin_unreachable();
 }
 
-/* A new thread that begins at entry, with sp and, in a0, arg; its number. Refused with 15 threads, or where entry isn't a
+/* A new thread that begins at entry, with sp and, in a0, arg; its number. Refused with 15 threads, or if entry isn't a
    multiple of 4. For functions of C there is start_thread. */
 static inline unsigned spawn(void (*entry)(void), void *sp, unsigned arg) {
     return kernel((unsigned)entry, (unsigned)sp, arg, 1);
@@ -43,10 +43,10 @@ static inline unsigned random(void *to, unsigned length) { return kernel((unsign
 /* The number of events before the one that granted this call. */
 static inline unsigned clock(void) { return kernel(0, 0, 0, 5); }
 
-/* Where this thread's interrupts begin: interrupt_entry, or 0 for none; 0. Refused where it isn't a multiple of 4. */
+/* Where this thread's interrupts begin: interrupt_entry, or 0 for none; 0. Refused if it isn't a multiple of 4. */
 static inline unsigned handler(void (*entry)(void)) { return kernel((unsigned)entry, 0, 0, 6); }
 
-/* Asks for bytes of the input: when the request is done, their number is at to, and they stand behind it; 0. Refused while
+/* Asks for bytes of the input: when the request is done, their number is at to, and they come after it; 0. Refused while
    a request of this sphere is outstanding. */
 static inline unsigned dma(volatile unsigned *to, unsigned length) { return kernel((unsigned)to, length, 0, 8); }
 
@@ -56,7 +56,7 @@ static inline unsigned self(void) { return kernel(0, 0, 0, 9); }
 /* Ends a chunk, and does nothing else; 0. */
 static inline unsigned yield(void) { return kernel(0, 0, 0, 10); }
 
-/* 1 where the thread has ended or faulted, else 0. Refused where there is none. */
+/* 1 if the thread has ended or faulted, else 0. Refused if there is none. */
 static inline unsigned ended(unsigned thread) { return kernel(thread, 0, 0, 11); }
 
 /* The devices' words: the moment, the next byte of the input or 0xFFFFFFFF, and the console. */
@@ -64,7 +64,7 @@ static inline unsigned ended(unsigned thread) { return kernel(thread, 0, 0, 11);
 #define INPUT_BYTE (*(volatile const unsigned *)0xF0000004u)
 #define CONSOLE_BYTE (*(volatile unsigned *)0xF0000008u)
 
-/* The program's own, where it calls handler(interrupt_entry). */
+/* The program's own, if it calls handler(interrupt_entry). */
 void on_interrupt(unsigned value);
 
 struct stack {

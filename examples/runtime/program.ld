@@ -1,6 +1,6 @@
 /* Code and constants from address 0 on, then, from a multiple of 256 on, data and zeros: so a small change of the code moves
    no data, and accounts before and after it can be compared. The stacks are among the zeros, so the plan's memory covers
-   all where it isn't less than the two loaded segments. */
+   all if it isn't less than the two loaded segments. */
 ENTRY(_start)
 PHDRS { code PT_LOAD FLAGS(5); data PT_LOAD FLAGS(6); }
 SECTIONS

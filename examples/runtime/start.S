@@ -42,7 +42,7 @@ done:
 
 # An interrupt enters here, on the stack of the interrupted thread, with the value in a0. The kernel has saved a0, a1
 # and the pc; the rest that C may change is saved here around on_interrupt(value), which is the program's own, or does
-# nothing where the program has none.
+# nothing if the program has none.
     .section .text.interrupt, "ax"
     .globl interrupt_entry
 interrupt_entry:

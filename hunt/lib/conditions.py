@@ -108,7 +108,7 @@ def read_condition(texts, names):
 
 
 class Ended:
-    """What an account tells of the end: of each thread how it stands, the words of memory, and what the console got."""
+    """What an account tells of the end: of each thread its state, the words of memory, and what the console got."""
 
     def __init__(self, account):
         self.threads, self.rows, self.console, self.state, self.commits = [], {}, b"", [], 0

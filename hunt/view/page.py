@@ -21,7 +21,7 @@ def page(picture, title):
 
 
 def _json(model):
-    """JSON that ends no script: no <, >, & or line separator in it stands as itself."""
+    """JSON that ends no script: no <, >, & or line separator in it is written as itself."""
     text = json.dumps(model, separators=(",", ":"))  # ASCII alone
     return text.replace("<", "\\u003c").replace(">", "\\u003e").replace("&", "\\u0026")
 

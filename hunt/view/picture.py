@@ -163,7 +163,7 @@ class Picture:
     # ------------------------------------------------------------ marks
 
     def marks(self, commit):
-        """The marks of a commit, as (entry, how many entries it stands for): the entries of chosen words, but that equal loads in
+        """The marks of a commit, as (entry, how many entries it is for): the entries of chosen words, but that equal loads in
         a row at one place are one mark."""
         chosen, out = set(self.chosen), []
         for e in range(self.first[commit], self.first[commit + 1]):

@@ -1,4 +1,4 @@
-"""A trace as a line of steps on which one stands, always before a step: `Timeline(trace)`. Where a break or watch point stops,
+"""A trace as a line of steps, with a place that is always before a step: `Timeline(trace)`. Where a break or watch point stops,
 forwards or backwards, is looked up in the trace; nothing is run for it."""
 
 from bisect import bisect_left
@@ -13,7 +13,7 @@ STEP, BEGIN, END = "step", "begin", "end"
 
 # A break point (length 0) or a watch point.
 Point = namedtuple("Point", "kind addr length")
-# Where one comes to stand. thread: the one that is told of; None if it is all the same. addr: the byte of a watch point.
+# Where one comes to. thread: the one that is told of; None if it is all the same. addr: the byte of a watch point.
 Stop = namedtuple("Stop", "reason at thread addr", defaults=(None,))
 
 # Of several reasons at one place the first of these is told; the others are there when one goes on.
@@ -111,7 +111,7 @@ class Timeline:
     # ------------------------------------------------------------ onwards and back
 
     def forward(self, points, stepped=None, told=None):
-        """Where one comes to stand going on: at the next break point, before the next watched access, or after the next step of
+        """Where one comes to going on: at the next break point, before the next watched access, or after the next step of
         the thread `stepped`. A break point right here counts unless it is that of the thread `told`. gdb for RISC-V has a watch
         point stop before the access, steps once, and then says what has changed."""
         at, stops = self.at, [self._end()]
@@ -131,7 +131,7 @@ class Timeline:
         return min(stops, key=lambda stop: (stop.at, _RANK[stop.reason]))
 
     def backward(self, points, stepped=None):
-        """Where one comes to stand going back: before the last step that a break point is at, after the last watched access
+        """Where one comes to going back: before the last step that a break point is at, after the last watched access
         (which gdb then steps back over), or before the last step of the thread `stepped`."""
         at, stops = self.at, [Stop(BEGIN, 0, self.thread_at(0))]
         for point in points:
