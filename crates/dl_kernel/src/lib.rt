@@ -8,10 +8,12 @@ mod copying;
 mod inside;
 mod need;
 mod outside;
+mod past;
 mod peek;
 mod record;
 mod results;
 mod serving;
+mod state;
 mod threads;
 
 pub use copying::{copied, dma_words};
@@ -21,8 +23,10 @@ pub use dl_mem::Memory;
 pub use dl_thread::{Thread, Threads};
 pub use inside::sphere_call;
 pub use outside::{outside_call, outside_record, outside_take};
+pub use past::Past;
 pub use record::{Injected, inject, wants_record};
 pub use serving::{Step, StepResult, serve};
+pub use state::State;
 pub use threads::{
     counted, interrupted, is_live, live_of, lives, settle, takes_interrupt, thread_at,
 };

@@ -1,6 +1,6 @@
 mod Rising
 mod Lookups
-mod Counts
+pub mod Counts
 mod Turns
 mod Verdicts
 mod Lists

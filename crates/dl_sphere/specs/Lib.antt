@@ -9,4 +9,3 @@ pub mod Played
 pub mod Judging
 pub mod Reading
 pub mod Starting
-pub mod Replayed

@@ -13,6 +13,7 @@ use crate::recording::Recording;
 use crate::setup::{Role, SphereSetup};
 use crate::sphere::Sphere;
 use dl_entry::OutOfMemory;
+use dl_kernel::{Past, State};
 use dl_mem::Memory;
 use dl_thread::Threads;
 use std::alloc::Global;
@@ -25,16 +26,19 @@ impl Sphere {
         ensures image { IfOk result (λ p. IsImage (setup_of setup.now)) }
     {
         let image = &setup.image;
-        Ok(Sphere {
-            alloc,
-            s,
+        let state = State {
             memory: Memory::new(alloc, image)?,
             threads: Threads::start(image.entry()),
-            commits: Vec::new(alloc),
-            last: None,
             request: None,
-            part: part_of(alloc, &setup.role, s)?,
-        })
+            last: None,
+        };
+        let past = Past {
+            alloc,
+            commits: Vec::new(alloc),
+            state,
+        };
+        let part = part_of(alloc, &setup.role, s)?;
+        Ok(Sphere { s, past, part })
     }
 }
 

@@ -1,5 +1,5 @@
 //! What a sphere keeps for its role.
-ghost use Rattle.std.specs.Prelude.{◌≡◌, ◌≤◌, ◌++◌, ◌∷◌, [], None, false, IfOk, IfSome, IsOk, IsTrue, OnOk, OnErr, option_map};
+ghost use Rattle.std.specs.Prelude.{◌≡◌, ◌≤◌, None, false, IfOk, IfSome, IsOk, IsTrue, OnOk, OnErr, option_map};
 ghost use Rattle.dl_entry.specs.Numbers.{greatest_thread};
 ghost use Rattle.spec_log.specs.Log.{IsInput, AreFewBytes};
 ghost use Rattle.dl_sphere.specs.Roles.{keeping_of, with_noted, with_raised, CanNote, CanRaise, has_room};
@@ -23,28 +23,8 @@ pub(crate) struct Replay {
     pub(crate) loads: Vec<Load>,
 }
 
-// Keeps a commit, and notes it where the sphere is recorded; or neither.
-pub(crate) fn keep(
-    commits: &mut Vec<Commit>,
-    part: &mut Part,
-    commit: Commit,
-    short: bool,
-    dma: Option<&[u8]>,
-) -> Result<(), OutOfMemory>
-    requires commit { CanNote commit short (keeping_of part.old) }
-    requires dma { IfSome dma (λ bytes. AreFewBytes bytes.now) }
-    ensures commits { OnOk result (commits.new.items ≡ commits.old.items ++ commit ∷ []) }
-    ensures noted { OnOk result (keeping_of part.new ≡ with_noted commit short None (option_map (λ b. b.now) dma.entry) (keeping_of part.old)) }
-    ensures same_commits { OnErr result (commits.new.items ≡ commits.old.items) }
-    ensures same_part { OnErr result (keeping_of part.new ≡ keeping_of part.old) }
-{
-    commits.reserve(1)?;
-    note(part, &commit, short, dma)?;
-    commits.push_reserved(commit);
-    Ok(())
-}
-
-fn note(
+// Notes a commit, where the sphere is recorded.
+pub(crate) fn note(
     part: &mut Part,
     commit: &Commit,
     short: bool,

@@ -49,7 +49,7 @@ impl Sphere {
         match &self.part {
             Part::Plain => None,
             Part::Recorded(recording) => match recording.mode() {
-                ModeName::Picolog => Some(Actor::Thread(turn(self.last, &self.threads)?)),
+                ModeName::Picolog => Some(Actor::Thread(turn(&self.past.state)?)),
                 ModeName::OrderSize | ModeName::OrderOnly => None,
             },
             Part::Replayed(replay) => replay.player.head(),
@@ -112,20 +112,20 @@ impl Sphere {
     pub fn threads(&self) -> &Threads
         ensures { result.now ≡ self.now.sphere.threads }
     {
-        &self.threads
+        &self.past.state.threads
     }
 
     /// The outstanding DMA request.
     pub fn request(&self) -> Option<Request>
         ensures { result ≡ self.now.sphere.progress.request }
     {
-        self.request
+        self.past.state.request
     }
 
     pub fn memory(&self) -> &Memory
         ensures { result.now ≡ self.now.sphere.memory }
     {
-        &self.memory
+        &self.past.state.memory
     }
 
     /// The whole commits so far, the first one first.
@@ -133,7 +133,7 @@ impl Sphere {
         ensures value { result.now ≡ self.now.sphere.progress.commits }
         ensures all { position self.now.sphere.progress ≡ length result.now }
     {
-        &self.commits
+        &self.past.commits
     }
 
     /// The log of a recording so far.
@@ -156,7 +156,7 @@ impl Sphere {
         ensures memory { let m = (drain self.old.sphere.memory (at flights.old.slots k)).memory in
             self.new ≡ record self.old { sphere = record self.old.sphere { memory = m } } }
     {
-        flights.drain(k, &mut self.memory)
+        flights.drain(k, &mut self.past.state.memory)
     }
 
     /// How many bytes a DMA would store behind its count, where so many of the input are left; or why the replay leaves
@@ -170,8 +170,10 @@ impl Sphere {
             SaysOutcome result (position self.now.sphere.progress) (dma_moved d self.now.sphere) }
     {
         match &self.part {
-            Part::Plain | Part::Recorded(_) => DmaSize::Bytes(live_size(self.request, input_left)),
-            Part::Replayed(replay) => match replay.player.dma_size(self.request) {
+            Part::Plain | Part::Recorded(_) => {
+                DmaSize::Bytes(live_size(self.past.state.request, input_left))
+            },
+            Part::Replayed(replay) => match replay.player.dma_size(self.past.state.request) {
                 Ok(bytes) => DmaSize::Bytes(bytes),
                 Err(why) => DmaSize::Diverged(why),
             },
@@ -185,12 +187,14 @@ impl Sphere {
         ensures words { IfOk result (λ words. (v : MovedSphere) → dma_moved devices.now self.now.sphere ≡ Some v → words.words ≡ v.words) }
         ensures none { IfOk result (λ words. dma_moved devices.now self.now.sphere ≡ None → words.words ≡ []) }
     {
-        let _ = self.memory.size();
+        let alloc = self.past.alloc;
+        let state = &self.past.state;
+        let _ = state.memory.size();
         match &self.part {
-            Part::Plain | Part::Recorded(_) => live_words(self.alloc, self.request, devices),
-            Part::Replayed(replay) => match replay.player.dma_words(self.request, &self.memory)? {
+            Part::Plain | Part::Recorded(_) => live_words(alloc, state.request, devices),
+            Part::Replayed(replay) => match replay.player.dma_words(state.request, &state.memory)? {
                 Ok(words) => Ok(words),
-                Err(_) => Ok(Buffer::new(self.alloc, 1)?),
+                Err(_) => Ok(Buffer::new(alloc, 1)?),
             },
         }
     }

@@ -1,188 +1,194 @@
 //! The commits of a sphere that is replayed, each judged by its log.
-ghost use Rattle.std.specs.Prelude.{◌≡◌, ◌+◌, ◌<◌, ◌≤◌, ◌^◌, [], ◌++◌, Option, Some, None, IfOk, OnOk, OnErr, length, slice_get, slice_index, slice_set};
-ghost use Rattle.dl_entry.specs.declared.input.Request.{Request};
+ghost use Rattle.std.specs.Prelude.{◌≡◌, ℕ, Bool, ◌<◌, ◌≤◌, ◌^◌, [], Some, IfOk, IsSome, OnOk, OnErr, length, slice_get, slice_index};
 ghost use Rattle.spec_isa.specs.declared.thread.Parts.{Parts};
-ghost use Rattle.spec_play.specs.Progress.{Progress};
-ghost use Rattle.spec_play.specs.Transfers.{dma_verdict};
-ghost use Rattle.spec_play.specs.Turns.{Turn, TurnOfDma};
-ghost use Rattle.spec_play.specs.Verdicts.{chunk_verdict, serial_verdict};
 ghost use Rattle.spec_isa.specs.Runs.{Run};
+ghost use Rattle.spec_engine.specs.declared.answers.How.{How};
+ghost use Rattle.spec_kernel.specs.Devices.{Devices};
 ghost use Rattle.spec_play.specs.Effects.{chunk_commit};
-ghost use Rattle.dl_replay.specs.Judged.{IsInside};
-ghost use Rattle.spec_protocol.specs.machine.Commits.{joined};
+ghost use Rattle.spec_play.specs.Progress.{position};
+ghost use Rattle.spec_play.specs.Turns.{Turn, TurnOfDma};
+ghost use Rattle.spec_play.specs.Verdicts.{chunk_verdict};
+ghost use Rattle.spec_protocol.specs.machine.Commits.{is_piece, by_verdict, chunk_moved, piece_moved, serial_moved, dma_moved};
 ghost use Rattle.spec_protocol.specs.machine.Spheres as protocol;
-ghost use Rattle.dl_replay.specs.Replaying.{Agrees, commits_of, cursor_of};
-ghost use Rattle.dl_sphere.specs.Judging.{judged_by, dma_judged_by, why_of, words_of};
-ghost use Rattle.dl_sphere.specs.Replayed.{before};
+ghost use Rattle.dl_replay.specs.Judged.{IsInside};
+ghost use Rattle.dl_sphere.specs.Inside.{cursor_in, replayed_at, IsAt, IsSphereAt};
+ghost use Rattle.dl_sphere.specs.Judging.{judged_as};
+ghost use Rattle.dl_sphere.specs.Moving.{came, CanCommit};
 
-use crate::commits::{dma_commit, joined_commit, serial_commit};
+use crate::commits::{count, dma_commit, is_piece, joined_commit, serial_commit};
+use crate::moved::Moved;
 use crate::part::Replay;
+use crate::words;
 use dl_chunk::Chunk;
-use dl_entry::{Commit, OutOfMemory, Request, Why};
-use dl_kernel::thread_at;
-use dl_mem::Memory;
+use dl_entry::{Commit, OutOfMemory, Why};
+use dl_kernel::{Past, thread_at};
 use dl_replay::Verdict;
 use dl_sig::Sig;
-use dl_thread::{Load, Thread, Threads};
-use dl_wbuf::Buffer;
-use std::alloc::Global;
+use dl_thread::Thread;
 
-// Commits a piece of the thread's commit: so many instructions, which made these loads and left the thread in this state.
-pub(crate) fn commit_piece(
+// Commits a part of the thread's commit: a piece, or the last one, unless the replay leaves its log there.
+pub(crate) fn commit_part<G: Sig>(
     replay: &mut Replay,
-    threads: &mut Threads,
-    thread: u8,
-    state: &Thread,
-    loads: &[Load],
-    n: u32,
-) -> Result<(), OutOfMemory>
-    requires turn { replay.old.player.now ≡ Turn thread }
-    requires thread { thread < length threads.old }
-    requires some { 1 ≤ n }
-    requires few { n < protocol.limit_in (protocol.Replay (cursor_of replay.old.player [])) 0 thread (slice_index replay.old.player.commits thread) }
-    ensures replay { OnOk result (replay.new.player ≡ record replay.old.player { total = replay.old.player.total + n }) }
-    ensures loads { OnOk result (replay.new.loads.items ≡ replay.old.loads.items ++ loads.now) }
-    ensures threads { OnOk result (threads.new ≡ slice_set threads.old thread state.now) }
-    ensures replay_still { OnErr result (replay.new.player ≡ replay.old.player) }
-    ensures loads_still { OnErr result (replay.new.loads.items ≡ replay.old.loads.items) }
-    ensures threads_still { OnErr result (threads.new ≡ threads.old) }
-{
-    replay.loads.extend_from_slice(loads)?;
-    replay.player.accept_piece(thread, n);
-    threads.set(thread, state);
-    Ok(())
-}
-
-// Commits the last part of the thread's commit, or tells why the replay leaves its log there.
-pub(crate) fn commit_last<G: Sig>(
-    alloc: Global,
-    replay: &mut Replay,
-    commits: &mut Vec<Commit>,
-    threads: &mut Threads,
+    past: &mut Past,
     thread: u8,
     chunk: &Chunk<G>,
-) -> Result<Option<Why>, OutOfMemory>
-    requires turn { replay.old.player.now ≡ Turn thread }
-    requires thread { thread < length threads.old }
-    requires commits { replay.old.player.commits ≡ commits_of threads.old }
-    requires same { (t : Parts) → slice_get threads.old thread ≡ Some t → chunk.now.chunk.done.thread.commits ≡ t.commits }
-    requires few { replay.old.player.total + chunk.now.chunk.done.n < 2 ^ 32 }
-    ensures judged { (p : Progress) (request : Option Request) → Agrees replay.old.player p → p.request ≡ request →
-        let b = cursor_of replay.old.player replay.old.loads.items in
-        let v = chunk_verdict b.log p b.used thread (joined b chunk.now.chunk.done) in
-        IfOk result (λ why. record { why = why; replay = replay.new.player; loads = replay.new.loads.items; threads = threads.new; request = request; commits = commits.new.items; words = [] }
-        ≡ record (judged_by p thread (before replay.old threads.old request commits.old.items) v) { words = [] }) }
-    ensures replay_still { OnErr result (replay.new.player ≡ replay.old.player) }
-    ensures loads_still { OnErr result (replay.new.loads.items ≡ replay.old.loads.items) }
-    ensures threads_still { OnErr result (threads.new ≡ threads.old) }
-    ensures commits_still { OnErr result (commits.new.items ≡ commits.old.items) }
+) -> Result<Moved, OutOfMemory>
+    ghost how: { How }
+    requires thread { thread < length past.old.state.threads }
+    requires chunk { (s : ℕ) × CanCommit s (replayed_at past.old replay.old) thread how chunk.now.chunk }
+    requires few { position (replayed_at past.old replay.old).progress < 2 ^ 24 }
+    requires at { IsAt past.old replay.old }
+    ensures moved { IfOk result (λ m. (short : Bool) (d : Devices) →
+        came m (replayed_at past.new replay.new) d
+        ≡ chunk_moved thread (is_piece how) short chunk.now.chunk.done d (replayed_at past.old replay.old)) }
+    ensures at { (s : ℕ) → IsSphereAt s past.old replay.old → IsSphereAt s past.new replay.new }
+    ensures still { OnErr result (replayed_at past.new replay.new ≡ replayed_at past.old replay.old) }
 {
+    let _ = thread_at(&past.state.threads, thread);
+    let words = words::copied(past.alloc, chunk.words())?;
+    if is_piece(chunk) {
+        commit_piece(replay, past, thread, chunk)?;
+        return Ok(Moved::Piece(words));
+    }
+    let done = count(&past.commits);
     let size = replay.player.pieces() + chunk.n();
-    let commit = joined_commit(alloc, thread, size, &replay.loads, chunk)?;
-    end_chunk(replay, commits, threads, thread, chunk.state(), commit)
+    let commit = joined_commit(past.alloc, thread, size, &replay.loads, chunk)?;
+    match end_chunk(replay, past, thread, chunk.state(), commit)? {
+        None => Ok(Moved::Granted(words)),
+        Some(why) => Ok(Moved::Diverged(done, why)),
+    }
+}
+
+// Commits a piece of the thread's commit.
+fn commit_piece<G: Sig>(
+    replay: &mut Replay,
+    past: &mut Past,
+    thread: u8,
+    chunk: &Chunk<G>,
+) -> Result<(), OutOfMemory>
+    requires turn { replay.old.player.now ≡ Turn thread }
+    requires thread { thread < length past.old.state.threads }
+    requires some { 1 ≤ chunk.now.chunk.done.n }
+    requires few { chunk.now.chunk.done.n
+        < protocol.limit_in (protocol.Replay (cursor_in replay.old)) 0 thread (slice_index replay.old.player.commits thread) }
+    requires same { (t : Parts) → slice_get past.old.state.threads thread ≡ Some t →
+        chunk.now.chunk.done.thread.commits ≡ t.commits }
+    ensures moved { OnOk result ((d : Devices) → replayed_at past.new replay.new
+        ≡ (piece_moved (cursor_in replay.old) thread chunk.now.chunk.done d (replayed_at past.old replay.old)).sphere) }
+    ensures at { (s : ℕ) → IsSphereAt s past.old replay.old → IsSphereAt s past.new replay.new }
+    ensures still { OnErr result (replayed_at past.new replay.new ≡ replayed_at past.old replay.old) }
+{
+    let _ = thread_at(&past.state.threads, thread);
+    replay.loads.extend_from_slice(chunk.loads())?;
+    replay.player.accept_piece(thread, chunk.n());
+    past.state.threads.set(thread, chunk.state());
+    Ok(())
 }
 
 // Ends a commit of the thread, whose last part has left it in this state, or tells why the replay leaves its log there.
 fn end_chunk(
     replay: &mut Replay,
-    commits: &mut Vec<Commit>,
-    threads: &mut Threads,
+    past: &mut Past,
     thread: u8,
     state: &Thread,
     commit: Commit,
 ) -> Result<Option<Why>, OutOfMemory>
     requires turn { replay.old.player.now ≡ Turn thread }
-    requires thread { thread < length threads.old }
-    requires commits { replay.old.player.commits ≡ commits_of threads.old }
-    requires same { (t : Parts) → slice_get threads.old thread ≡ Some t → state.now.commits ≡ t.commits }
-    ensures judged { (p : Progress) (r : Run) (request : Option Request) → Agrees replay.old.player p → p.request ≡ request →
-        r.thread ≡ state.now → r.n ≡ commit.size → commit ≡ chunk_commit thread r →
-        let v = chunk_verdict replay.old.player.log p replay.old.player.used thread r in
-        IfOk result (λ why. record { why = why; replay = replay.new.player; loads = replay.new.loads.items; threads = threads.new; request = request; commits = commits.new.items; words = [] }
-        ≡ record (judged_by p thread (before replay.old threads.old request commits.old.items) v) { words = [] }) }
-    ensures replay_still { OnErr result (replay.new.player ≡ replay.old.player) }
-    ensures loads_still { OnErr result (replay.new.loads.items ≡ replay.old.loads.items) }
-    ensures threads_still { OnErr result (threads.new ≡ threads.old) }
-    ensures commits_still { OnErr result (commits.new.items ≡ commits.old.items) }
+    requires thread { thread < length past.old.state.threads }
+    requires same { (t : Parts) → slice_get past.old.state.threads thread ≡ Some t → state.now.commits ≡ t.commits }
+    requires at { IsAt past.old replay.old }
+    ensures moved { (r : Run) (d : Devices) → r.thread ≡ state.now → r.n ≡ commit.size → commit ≡ chunk_commit thread r →
+        let b = cursor_in replay.old in
+        let p = replayed_at past.old replay.old in
+        IfOk result (λ why. judged_as why (position p.progress) r.words (replayed_at past.new replay.new) d
+        ≡ by_verdict b thread (chunk_verdict b.log p.progress b.used thread r) d p) }
+    ensures at { (s : ℕ) → IsSphereAt s past.old replay.old → IsSphereAt s past.new replay.new }
+    ensures still { OnErr result (replayed_at past.new replay.new ≡ replayed_at past.old replay.old) }
 {
-    commits.reserve(1)?;
-    let found = thread_at(threads, thread);
-    threads.set(thread, state);
-    match replay.player.end_chunk(thread, commit.size, threads) {
+    past.commits.reserve(1)?;
+    let found = thread_at(&past.state.threads, thread);
+    past.state.threads.set(thread, state);
+    match replay
+        .player
+        .end_chunk(thread, commit.size, &mut past.state.threads)
+    {
         Verdict::Went => {
-            commits.push_reserved(commit);
+            past.commits.push_reserved(commit);
+            past.state.last = Some(thread);
             replay.loads.clear();
+            // there are at most 15
+            let _ = past.state.threads.len();
             Ok(None)
         }
         Verdict::Diverged(why) => {
-            threads.set(thread, &found);
+            past.state.threads.set(thread, &found);
             Ok(Some(why))
         }
     }
 }
 
-// Does the serial step of the thread, and gives the words that the kernel stores for it, or tells why the replay leaves its
-// log there.
+// Does the serial step of the thread, unless the replay leaves its log there.
 pub(crate) fn serve_step(
     replay: &mut Replay,
-    commits: &mut Vec<Commit>,
-    threads: &mut Threads,
-    request: &mut Option<Request>,
-    memory: &Memory,
+    past: &mut Past,
     thread: u8,
-) -> Result<Result<Buffer, Why>, OutOfMemory>
+) -> Result<Moved, OutOfMemory>
     requires turn { replay.old.player.now ≡ Turn thread }
-    requires thread { thread < length threads.old }
-    requires commits { replay.old.player.commits ≡ commits_of threads.old }
-    ensures judged { (p : Progress) (t : Parts) → Agrees replay.old.player p → p.request ≡ request.old → slice_get threads.old thread ≡ Some t →
-        let v = serial_verdict replay.old.player.log p replay.old.player.used thread threads.old t memory.now in
-        IfOk result (λ r. record { why = why_of r; replay = replay.new.player; loads = replay.new.loads.items; threads = threads.new; request = request.new; commits = commits.new.items; words = words_of r }
-        ≡ judged_by p thread (before replay.old threads.old request.old commits.old.items) v) }
-    ensures replay_still { OnErr result (replay.new.player ≡ replay.old.player) }
-    ensures loads_still { OnErr result (replay.new.loads.items ≡ replay.old.loads.items) }
-    ensures threads_still { OnErr result (threads.new ≡ threads.old) }
-    ensures request_still { OnErr result (request.new ≡ request.old) }
-    ensures commits_still { OnErr result (commits.new.items ≡ commits.old.items) }
+    requires thread { thread < length past.old.state.threads }
+    requires few { position (replayed_at past.old replay.old).progress < 2 ^ 24 }
+    requires at { IsAt past.old replay.old }
+    ensures moved { IfOk result (λ m. (moment : ℕ) (t : Parts) (d : Devices) →
+        slice_get past.old.state.threads thread ≡ Some t →
+        came m (replayed_at past.new replay.new) d ≡ serial_moved thread moment t d (replayed_at past.old replay.old)) }
+    ensures at { (s : ℕ) → IsSphereAt s past.old replay.old → IsSphereAt s past.new replay.new }
+    ensures still { OnErr result (replayed_at past.new replay.new ≡ replayed_at past.old replay.old) }
 {
-    commits.reserve(1)?;
-    match replay.player.serve_step(thread, threads, request, memory)? {
+    let _ = thread_at(&past.state.threads, thread);
+    let done = count(&past.commits);
+    past.commits.reserve(1)?;
+    let state = &mut past.state;
+    match replay.player.serve_step(
+        thread,
+        &mut state.threads,
+        &mut state.request,
+        &state.memory,
+    )? {
         Ok(left) => {
-            commits.push_reserved(serial_commit(thread, left.loads, left.outputs));
+            past.commits
+                .push_reserved(serial_commit(thread, left.loads, left.outputs));
+            past.state.last = Some(thread);
             replay.loads.clear();
-            Ok(Ok(left.words))
+            // there are at most 15
+            let _ = past.state.threads.len();
+            Ok(Moved::Granted(left.words))
         }
-        Err(why) => Ok(Err(why)),
+        Err(why) => Ok(Moved::Diverged(done, why)),
     }
 }
 
-// Does the DMA, and gives the words that it stores, or tells why the replay leaves its log there.
-pub(crate) fn serve_dma(
-    alloc: Global,
-    replay: &mut Replay,
-    commits: &mut Vec<Commit>,
-    threads: &Threads,
-    request: &mut Option<Request>,
-    memory: &Memory,
-) -> Result<Result<Buffer, Why>, OutOfMemory>
+// Does the DMA, unless the replay leaves its log there.
+pub(crate) fn serve_dma(replay: &mut Replay, past: &mut Past) -> Result<Moved, OutOfMemory>
     requires turn { replay.old.player.now ≡ TurnOfDma }
-    requires commits { replay.old.player.commits ≡ commits_of threads.now }
-    requires request { IsInside (length memory.now) request.old }
-    ensures judged { (p : Progress) → Agrees replay.old.player p → p.request ≡ request.old →
-        let v = dma_verdict replay.old.player.log p replay.old.player.used in
-        IfOk result (λ r. record { why = why_of r; replay = replay.new.player; loads = replay.new.loads.items; threads = threads.now; request = request.new; commits = commits.new.items; words = words_of r }
-        ≡ dma_judged_by p (before replay.old threads.now request.old commits.old.items) v) }
-    ensures replay_still { OnErr result (replay.new.player ≡ replay.old.player) }
-    ensures loads_still { OnErr result (replay.new.loads.items ≡ replay.old.loads.items) }
-    ensures request_still { OnErr result (request.new ≡ request.old) }
-    ensures commits_still { OnErr result (commits.new.items ≡ commits.old.items) }
+    requires request { IsInside (length past.old.state.memory) past.old.state.request }
+    requires few { position (replayed_at past.old replay.old).progress < 2 ^ 24 }
+    requires at { IsAt past.old replay.old }
+    ensures moved { IfOk result (λ m. (d : Devices) →
+        Some (came m (replayed_at past.new replay.new) d) ≡ dma_moved d (replayed_at past.old replay.old)) }
+    ensures at { (s : ℕ) → IsSphereAt s past.old replay.old → IsSphereAt s past.new replay.new }
+    ensures still { OnErr result (replayed_at past.new replay.new ≡ replayed_at past.old replay.old) }
 {
-    commits.reserve(1)?;
-    match replay.player.serve_dma(threads, request, memory)? {
+    let done = count(&past.commits);
+    past.commits.reserve(1)?;
+    let state = &mut past.state;
+    match replay
+        .player
+        .serve_dma(&state.threads, &mut state.request, &state.memory)?
+    {
         Ok(words) => {
-            commits.push_reserved(dma_commit(alloc));
+            past.commits.push_reserved(dma_commit(past.alloc));
             replay.loads.clear();
-            Ok(Ok(words))
+            Ok(Moved::Granted(words))
         }
-        Err(why) => Ok(Err(why)),
+        Err(why) => Ok(Moved::Diverged(done, why)),
     }
 }

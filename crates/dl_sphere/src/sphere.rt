@@ -15,33 +15,25 @@ ghost use Rattle.spec_protocol.specs.promises.Sound.{HaveByteInput, IsSoundReque
 ghost use Rattle.dl_sphere.specs.Moving.{came, CanCommit, IsTurnOf, IsTurnOfDma};
 ghost use Rattle.dl_sphere.specs.Setups.{setup_of};
 
-use crate::commits::{chunk_commit, count, is_piece, is_short};
+use crate::commits::{chunk_commit, dma_commit, is_short};
 use crate::moved::Moved;
-use crate::part::{Part, keep, note_interrupt};
-use crate::replaying::{commit_last, commit_piece, serve_dma, serve_step};
+use crate::part::{Part, note, note_interrupt};
+use crate::replaying::{commit_part, serve_dma, serve_step};
 use crate::stepping::live_step;
 use crate::transferring::live_dma;
 use crate::words;
 use dl_chunk::Chunk;
 use dl_dev::Devices;
-use dl_entry::{Commit, OutOfMemory, Request};
-use dl_kernel::{Step, counted, interrupted, settle, thread_at};
-use dl_mem::Memory;
+use dl_entry::OutOfMemory;
+use dl_kernel::{Past, Step, counted, interrupted, settle, thread_at};
 use dl_sig::Sig;
-use dl_thread::Threads;
-use std::alloc::Global;
 use std::marker::Model;
 
 /// A sphere in its role.
 #[derive(Drop)]
 pub struct Sphere {
-    pub(crate) alloc: Global,
     pub(crate) s: u32,
-    pub(crate) memory: Memory,
-    pub(crate) threads: Threads,
-    pub(crate) commits: Vec<Commit>,
-    pub(crate) last: Option<u8>,
-    pub(crate) request: Option<Request>,
+    pub(crate) past: Past,
     pub(crate) part: Part,
 }
 
@@ -74,35 +66,18 @@ impl Sphere {
         ensures standard { self.new.s ≡ self.old.s }
         ensures err { OnErr result (self.new ≡ self.old) }
     {
-        let _ = thread_at(&self.threads, thread);
-        let words = words::copied(self.alloc, chunk.words())?;
         if let Part::Replayed(replay) = &mut self.part {
-            if is_piece(chunk) {
-                let (state, n) = (chunk.state(), chunk.n());
-                commit_piece(replay, &mut self.threads, thread, state, chunk.loads(), n)?;
-                return Ok(Moved::Piece(words));
-            }
-            let left = commit_last(
-                self.alloc,
-                replay,
-                &mut self.commits,
-                &mut self.threads,
-                thread,
-                chunk,
-            )?;
-            if let Some(why) = left {
-                return Ok(Moved::Diverged(count(&self.commits), why));
-            }
-            self.last = Some(thread);
-            let _ = self.threads.len();
-            return Ok(Moved::Granted(words));
+            return commit_part(replay, &mut self.past, thread, chunk);
         }
-        let commit = chunk_commit(self.alloc, thread, chunk)?;
-        let short = is_short(self.s, chunk);
-        keep(&mut self.commits, &mut self.part, commit, short, None)?;
+        let _ = thread_at(&self.past.state.threads, thread);
+        let words = words::copied(self.past.alloc, chunk.words())?;
+        let commit = chunk_commit(self.past.alloc, thread, chunk)?;
+        self.past.commits.reserve(1)?;
+        note(&mut self.part, &commit, is_short(self.s, chunk), None)?;
+        self.past.commits.push_reserved(commit);
         let after = counted(chunk.state());
-        self.threads.set(thread, &after);
-        self.last = Some(thread);
+        self.past.state.threads.set(thread, &after);
+        self.past.state.last = Some(thread);
         Ok(Moved::Granted(words))
     }
 
@@ -123,43 +98,24 @@ impl Sphere {
         ensures err { OnErr result (self.new ≡ self.old) }
         ensures devices { OnErr result (devices.new ≡ devices.old) }
     {
-        let found = thread_at(&self.threads, thread);
         if let Part::Replayed(replay) = &mut self.part {
-            let served = serve_step(
-                replay,
-                &mut self.commits,
-                &mut self.threads,
-                &mut self.request,
-                &self.memory,
-                thread,
-            )?;
-            let words = match served {
-                Ok(words) => words,
-                Err(why) => return Ok(Moved::Diverged(count(&self.commits), why)),
-            };
-            self.last = Some(thread);
-            let _ = self.threads.len();
-            return Ok(Moved::Granted(words));
+            return serve_step(replay, &mut self.past, thread);
         }
+        self.past.commits.reserve(1)?;
+        let state = &self.past.state;
         let step = Step {
             number: thread,
-            thread: found,
-            threads: &self.threads,
-            request: self.request,
-            memory: &self.memory,
+            thread: thread_at(&state.threads, thread),
+            threads: &state.threads,
+            request: state.request,
+            memory: &state.memory,
         };
-        let left = live_step(
-            self.alloc,
-            &mut self.commits,
-            &mut self.part,
-            &step,
-            devices,
-            moment,
-        )?;
+        let left = live_step(self.past.alloc, &mut self.part, &step, devices, moment)?;
+        self.past.commits.push_reserved(left.commit);
         let after = counted(&left.thread);
-        settle(&mut self.threads, thread, &after, left.spawned);
-        self.request = left.request;
-        self.last = Some(thread);
+        settle(&mut self.past.state.threads, thread, &after, left.spawned);
+        self.past.state.request = left.request;
+        self.past.state.last = Some(thread);
         Ok(Moved::Granted(left.words))
     }
 
@@ -175,33 +131,17 @@ impl Sphere {
         ensures err { OnErr result (self.new ≡ self.old) }
         ensures devices { OnErr result (devices.new ≡ devices.old) }
     {
-        let _ = self.memory.size();
+        let _ = self.past.state.memory.size();
         if let Part::Replayed(replay) = &mut self.part {
-            let served = serve_dma(
-                self.alloc,
-                replay,
-                &mut self.commits,
-                &self.threads,
-                &mut self.request,
-                &self.memory,
-            )?;
-            let words = match served {
-                Ok(words) => words,
-                Err(why) => return Ok(Moved::Diverged(count(&self.commits), why)),
-            };
-            return Ok(Moved::Granted(words));
+            return serve_dma(replay, &mut self.past);
         }
-        let Some(request) = self.request else {
+        let Some(request) = self.past.state.request else {
             unreachable!();
         };
-        let words = live_dma(
-            self.alloc,
-            &mut self.commits,
-            &mut self.part,
-            &request,
-            devices,
-        )?;
-        self.request = None;
+        self.past.commits.reserve(1)?;
+        let words = live_dma(self.past.alloc, &mut self.part, &request, devices)?;
+        self.past.commits.push_reserved(dma_commit(self.past.alloc));
+        self.past.state.request = None;
         Ok(Moved::Granted(words))
     }
 
@@ -215,9 +155,10 @@ impl Sphere {
         ensures standard { self.new.s ≡ self.old.s }
         ensures err { OnErr result (self.new ≡ self.old) }
     {
-        let found = thread_at(&self.threads, thread);
+        let found = thread_at(&self.past.state.threads, thread);
         note_interrupt(&mut self.part, thread, found.commits(), value)?;
-        self.threads.set(thread, &interrupted(value, &found));
+        let after = interrupted(value, &found);
+        self.past.state.threads.set(thread, &after);
         Ok(())
     }
 }

@@ -18,21 +18,21 @@ use dl_thread::Thread;
 use dl_wbuf::Buffer;
 use std::alloc::Global;
 
-// What a step leaves of its sphere, but for the commit: its thread, the thread that it spawned, the outstanding DMA request,
-// and the words to fly.
+// What a step leaves of its sphere: its commit, its thread, the thread that it spawned, the outstanding DMA request, and the
+// words to fly.
 #[derive(Drop)]
 pub(crate) struct Left {
+    pub(crate) commit: Commit,
     pub(crate) thread: Thread,
     pub(crate) spawned: Option<Thread>,
     pub(crate) request: Option<Request>,
     pub(crate) words: Buffer,
 }
 
-// Does the step, keeps its commit and notes it where the sphere is recorded; or nothing of all that.
+// Does the step, and notes its commit if the sphere is recorded; or nothing of all that.
 #[tactic(auto, using(crate::proofs::Live::Devices::record_taken, crate::proofs::Live::Devices::devices_taken, crate::proofs::Live::Devices::input_taken))]
 pub(crate) fn live_step(
     alloc: Global,
-    commits: &mut Vec<Commit>,
     part: &mut Part,
     step: &Step<'_>,
     devices: &mut Devices,
@@ -45,12 +45,11 @@ pub(crate) fn live_step(
     ensures room { IfOk result (λ l. OnSome l.spawned (length step.now.threads.now < most_threads)) }
     ensures request { IfOk result (λ l. l.request ≡ (served_by step.now devices.old moment).request) }
     ensures words { IfOk result (λ l. l.words.words ≡ (served_by step.now devices.old moment).words) }
-    ensures commits { OnOk result (commits.new.items ≡ commits.old.items ++ commit_by step.now devices.old moment ∷ []) }
+    ensures commit { IfOk result (λ l. l.commit ≡ commit_by step.now devices.old moment) }
     ensures noted { OnOk result (keeping_of part.new
         ≡ with_noted (commit_by step.now devices.old moment) false (taken_by step.now devices.old moment).input None (keeping_of part.old)) }
     ensures devices { let s = step.now in
         OnOk result (devices.new ≡ console_written s.thread s.memory.now (served_by s devices.old moment).outputs (taken_by s devices.old moment).devices) }
-    ensures commits_still { OnErr result (commits.new.items ≡ commits.old.items) }
     ensures part_still { OnErr result (keeping_of part.new ≡ keeping_of part.old) }
     ensures devices_still { OnErr result (devices.new ≡ devices.old) }
 {
@@ -67,12 +66,11 @@ pub(crate) fn live_step(
         outputs,
     } = served;
     let commit = serial_commit(step.number, loads, outputs);
-    commits.reserve(1)?;
     reserve(part)?;
     outside_take(&step.thread, step.memory, &commit.outputs, devices)?;
     note_reserved(part, &commit, input.as_ref());
-    commits.push_reserved(commit);
     Ok(Left {
+        commit,
         thread,
         spawned,
         request,

@@ -1,8 +1,7 @@
--- What the replayer answers of a request makes of the sphere what the verdict says.
-use Rattle.std.proofs.Common.{◌≡◌, ℕ, Bool, true, false, List, [], ◌∷◌, ◌++◌, Option, Some, None, Ok, refl, sym, ap, ◌∙◌, cond}
+-- What a verdict by which a commit goes on says of the commit and of its words.
+use Rattle.std.proofs.Common.{◌≡◌, ℕ, Bool, true, false, List, Option, Some, None, sym, ap, ◌∙◌, cond}
 use Rattle.std.proofs.lemmas.Bool.{true≢false}
 use Rattle.dl_entry.specs.declared.Commit.{Commit}
-use Rattle.dl_entry.specs.declared.Request.{Request}
 use Rattle.dl_entry.specs.declared.Why.{Why}
 use Rattle.spec_isa.specs.declared.thread.Parts.{Parts}
 use Rattle.spec_isa.specs.Runs.{Run}
@@ -12,13 +11,6 @@ use Rattle.spec_play.specs.Effects.{Effect, chunk_commit, chunk_effect, serial_c
 use Rattle.spec_kernel.specs.Serving.{serve}
 use Rattle.spec_play.specs.Progress.{Progress, Used, with_interrupt}
 use Rattle.spec_play.specs.Verdicts.{LogVerdict, Goes, Fails, Given, with_interrupted, interrupt_at, chunk_verdict, unless, served_verdict, serial_verdict}
-use Rattle.dl_kernel.specs.declared.serving.StepResult.{StepResult}
-use Rattle.dl_replay.specs.Served.{Served, nothing_served, served_left}
-use Rattle.dl_replay.specs.declared.verdict.Verdict.{Verdict}
-use Rattle.dl_replay.specs.Judged as replay
-use Rattle.dl_replay.specs.Judged.{chunk_judged, serial_judged}
-use Rattle.dl_replay.specs.Replaying.{Replaying}
-use Rattle.dl_sphere.specs.Judging.{Before, judged_by}
 
 -- ---- the commit of a verdict
 
@@ -83,77 +75,3 @@ pub serial_commits : (log : LogParts) (p : Progress) (u : Used) (k : ℕ) (ts : 
     → f.commit ≡ serial_commit k f.commit.loads f.commit.outputs
 unfolding serial_verdict
 serial_commits log p u k ts t m f w is = served-commits log p k ts t m _ f w (unless-keeps _ _ f w is)
-
--- ---- answers
-
-went : Verdict → Bool
-went Verdict.Went = true
-went (Verdict.Diverged why) = false
-
-why_in : Why → Verdict → Why
-why_in d Verdict.Went = d
-why_in d (Verdict.Diverged why) = why
-
--- The commit of thread k that comes after progress p is judged, of a sphere that is as b says; new, ts and q are the replay,
--- the threads and the request that the replayer leaves.
-module _ (p : Progress) (k : ℕ) (b : Before) (new : Replaying) (ts : List Parts) (q : Option Request) where
-  -- a chunk of which the replayer answers that it went is judged so
-  pub chunk_went : (mid : List Parts) (served : Served) (v : LogVerdict) (c : Commit) (s : Served)
-      → ((f : Effect) (w : Used) → v ≡ Goes f w → f.commit ≡ c)
-      → record { verdict = Verdict.Went; replay = new; threads = ts; request = q; served = s } ≡ chunk_judged b.replay p k b.threads mid b.request served v
-      → record { why = None; replay = new; loads = []; threads = ts; request = q; commits = b.commits ++ c ∷ []; words = [] }
-      ≡ record (judged_by p k b v) { words = [] }
-  unfolding went
-  chunk_went mid served (Fails why) c s commit is = absurd (true≢false (ap (λ (j : replay.Judged). went j.verdict) is))
-  chunk_went mid served (Goes e u) c s commit is =
-      let same : c ≡ e.commit = sym (commit e u refl) in
-      λ i. record {
-        why = None;
-        replay = (is i).replay;
-        loads = [];
-        threads = (is i).threads;
-        request = (is i).request;
-        commits = b.commits ++ same i ∷ [];
-        words = [];
-      }
-
-  -- a chunk of which the replayer answers that it diverges is judged so
-  pub chunk_left : (mid : List Parts) (served : Served) (v : LogVerdict) (why : Why) (s : Served)
-      → record { verdict = Verdict.Diverged why; replay = new; threads = ts; request = q; served = s } ≡ chunk_judged b.replay p k b.threads mid b.request served v
-      → record { why = Some why; replay = new; loads = b.loads; threads = b.threads; request = q; commits = b.commits; words = [] }
-      ≡ record (judged_by p k b v) { words = [] }
-  unfolding went why_in
-  chunk_left mid served (Goes e u) why s is = absurd (true≢false (sym (ap (λ (j : replay.Judged). went j.verdict) is)))
-  chunk_left mid served (Fails because) why s is =
-      let same : why ≡ because = ap (λ (j : replay.Judged). why_in why j.verdict) is in
-      λ i. record {
-        why = Some (same i);
-        replay = (is i).replay;
-        loads = b.loads;
-        threads = b.threads;
-        request = (is i).request;
-        commits = b.commits;
-        words = [];
-      }
-
-  -- a serial step of which the replayer answers that it went is judged so
-  pub step_went : (v : LogVerdict) (left : StepResult)
-      → ((f : Effect) (w : Used) → v ≡ Goes f w → f.commit ≡ serial_commit k f.commit.loads f.commit.outputs)
-      → record { verdict = Verdict.Went; replay = new; threads = ts; request = q; served = served_left (Ok left) } ≡ serial_judged b.replay p k b.threads b.request nothing_served v
-      → record { why = None; replay = new; loads = []; threads = ts; request = q; commits = b.commits ++ serial_commit k left.loads left.outputs ∷ []; words = left.words.words }
-      ≡ judged_by p k b v
-  unfolding went
-  step_went (Fails why) left commit is = absurd (true≢false (ap (λ (j : replay.Judged). went j.verdict) is))
-  step_went (Goes e u) left commit is =
-      let lists : left.loads ≡ e.commit.loads = ap (λ (j : replay.Judged). j.served.loads) is in
-      let outputs : left.outputs ≡ e.commit.outputs = ap (λ (j : replay.Judged). j.served.outputs) is in
-      let same : serial_commit k left.loads left.outputs ≡ e.commit = (λ i. serial_commit k (lists i) (outputs i)) ∙ sym (commit e u refl) in
-      λ i. record {
-        why = None;
-        replay = (is i).replay;
-        loads = [];
-        threads = (is i).threads;
-        request = (is i).request;
-        commits = b.commits ++ same i ∷ [];
-        words = (is i).served.words;
-      }

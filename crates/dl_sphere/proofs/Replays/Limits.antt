@@ -1,31 +1,30 @@
 -- A replay stands with its sphere, and the limits of its chunks and its requests are within their bounds.
-use Rattle.std.proofs.Common.{◌≡◌, ℕ, false, zero, suc, ◌+◌, ◌^◌, ◌<◌, ◌≤◌, List, [], ◌∷◌, length, Option, Some, None, refl, subst, arith}
-use Rattle.std.specs.Prelude.{slice_get, IfSome}
+use Rattle.std.proofs.Common.{◌≡◌, ℕ, false, ◌+◌, ◌^◌, ◌<◌, ◌≤◌, Option, Some, None, refl, subst, arith}
+use Rattle.std.specs.Prelude.{IfSome}
 use Rattle.std.proofs.lemmas.Bool.{true≢false}
 use Rattle.dl_entry.specs.declared.Request.{Request}
 use Rattle.spec_isa.specs.declared.thread.Parts.{Parts}
 use Rattle.spec_log.specs.Log.{IsLog}
 use Rattle.spec_protocol.specs.promises.Sound.{IsSoundRequest}
 use Rattle.spec_protocol.specs.machine.Placing.{replays}
-use Rattle.spec_protocol.specs.machine.Spheres.{Cursor, Replay, Sphere, limit_in, limit_of, whole_limit}
+use Rattle.spec_protocol.specs.machine.Spheres.{Cursor, Replay as IsReplay, Sphere, limit_in, whole_limit}
 use Rattle.spec_protocol.proofs.Sound.Limits.{whole-most}
-use Rattle.dl_sphere.specs.Inside.{sphere_in}
-use Rattle.dl_sphere.specs.Roles.{role_of, keeping_of, Keeping, Plain, Recording, Replaying as Replays, HasFew, IsKeepingOf, IsLive, IsReplayed, IsSphere}
+use Rattle.dl_sphere.specs.Inside.{sphere_at, sphere_in, IsAt, IsSphereAt}
+use Rattle.dl_sphere.specs.Roles.{role_in, role_of, keeping_of, Keeping, Plain, Recording, Replaying as Replays, HasFew, IsKeepingOf, IsLive, IsSphere}
 use Rattle.dl_sphere.specs.declared.part.Part.{Part}
-use Rattle.dl_sphere.specs.declared.part.Replay.{Replay as Replaying}
+use Rattle.dl_sphere.specs.declared.part.Replay.{Replay}
 use Rattle.dl_sphere.specs.declared.sphere.Sphere.TheInside.{Inside}
 
 -- a replayed sphere that stands is as far in its log as its player
-pub replayed : (a : Inside) (r : Replaying) → a.part ≡ Part.Replayed r → IsSphere a.s (sphere_in a) (keeping_of a.part) → IsReplayed (sphere_in a) r.player
-replayed a r is h = subst (λ (part : Part). IsKeepingOf a.s (sphere_in a) (keeping_of part)) is h.kept
+pub replayed : (a : Inside) (r : Replay) → a.part ≡ Part.Replayed r → IsSphere a.s (sphere_in a) (keeping_of a.part) → IsAt a.past r
+replayed a r is h = subst (λ (part : Part). IsKeepingOf a.s (sphere_at a.past (role_in part)) (keeping_of part)) is h.kept
 
 -- a replayed sphere stands with its player and its loads
-pub stands_replayed : (a : Inside) (r : Replaying) → a.part ≡ Part.Replayed r → IsSphere a.s (sphere_in a) (keeping_of a.part)
-    → IsSphere a.s (sphere_in a) (Replays r.player r.loads.items)
-stands_replayed a r is h = subst (λ (part : Part). IsSphere a.s (sphere_in a) (keeping_of part)) is h
+pub stands_replayed : (a : Inside) (r : Replay) → a.part ≡ Part.Replayed r → IsSphere a.s (sphere_in a) (keeping_of a.part) → IsSphereAt a.s a.past r
+stands_replayed a r is h = subst (λ (part : Part). IsSphere a.s (sphere_at a.past (role_in part)) (keeping_of part)) is h
 
 -- a part that isn't a replayed one is live
-pub live_part : (part : Part) → ((r : Replaying) → part ≡ Part.Replayed r → ⊥) → IsLive (keeping_of part)
+pub live_part : (part : Part) → ((r : Replay) → part ≡ Part.Replayed r → ⊥) → IsLive (keeping_of part)
 live_part Part.Plain other = tt
 live_part (Part.Recorded r) other = tt
 live_part (Part.Replayed r) other = other r refl
@@ -43,15 +42,15 @@ few_live s p (Recording r) live h = h.few
 few_live s p (Replays r loads) live h = absurd live
 
 -- a part and those before it are few enough to be counted
-pub part-fits : (b : Cursor) (k n : ℕ) (t : Parts) → IsLog b.log → b.total < whole_limit b.log k t.commits → n ≤ limit_in (Replay b) 0 k t.commits → b.total + n < 2 ^ 32
+pub part-fits : (b : Cursor) (k n : ℕ) (t : Parts) → IsLog b.log → b.total < whole_limit b.log k t.commits → n ≤ limit_in (IsReplay b) 0 k t.commits → b.total + n < 2 ^ 32
 part-fits b k n t is room within = let a = whole-most b.log k t.commits is in let c = is.s.1 in omega (arith, a, c, room, within)
 
 -- the limit of a replay's chunk is at least 1
-pub replay-least : (s : ℕ) (b : Cursor) (k n : ℕ) → 1 ≤ limit_in (Replay b) s k n
+pub replay-least : (s : ℕ) (b : Cursor) (k n : ℕ) → 1 ≤ limit_in (IsReplay b) s k n
 replay-least s b k n = omega arith
 
 -- the limit of a replay's chunk is at most 4,096
-pub replay-most : (s : ℕ) (b : Cursor) (k n : ℕ) → IsLog b.log → limit_in (Replay b) s k n ≤ 4096
+pub replay-most : (s : ℕ) (b : Cursor) (k n : ℕ) → IsLog b.log → limit_in (IsReplay b) s k n ≤ 4096
 replay-most s b k n is = let a = whole-most b.log k n is in let c = is.s.1 in omega (arith, a, c)
 
 -- a request inside a memory is inside the largest

@@ -1,74 +1,131 @@
-use Rattle.std.proofs.Common.{◌≡◌, ◌∷◌, ◌++◌, [], List, Some, None, sym, ap, ◌∙◌}
+use Rattle.std.proofs.Common.{◌≡◌, ◌∷◌, ◌++◌, ◌≤◌, [], List, None, Some, sym, ap, refl, subst, ◌∙◌}
 use Rattle.std.specs.Prelude.{slice_set}
 use Rattle.dl_entry.specs.declared.Commit.{Commit}
-use Rattle.spec_play.specs.Effects.{Effect}
-use Rattle.spec_play.specs.Progress.{Used}
-use Rattle.spec_play.specs.Verdicts.{Goes, chunk_verdict}
+use Rattle.spec_isa.specs.declared.thread.Load.{Load}
+use Rattle.spec_isa.specs.declared.thread.Parts.{Parts}
+use Rattle.spec_isa.specs.Runs.{Run}
+use Rattle.spec_play.specs.Progress.{position}
+use Rattle.spec_play.specs.Verdicts.{LogVerdict, Fails, chunk_verdict}
+use Rattle.spec_protocol.specs.machine.Commits.{by_verdict}
+use Rattle.spec_protocol.specs.machine.Spheres.{Replay}
 use Rattle.dl_replay.specs.Served.{nothing_served}
 use Rattle.dl_replay.specs.Judged.{HasRun}
-use Rattle.dl_replay.specs.Replaying.{commits_of}
+use Rattle.dl_replay.specs.Replaying.{commits_of, cursor_of}
 use Rattle.dl_replay.proofs.PutBack.{put_back, same_commits}
-use Rattle.dl_sphere.specs.Replayed.{before}
-use Rattle.dl_sphere.proofs.Replays.Judging.{chunk_commits, chunk_went, chunk_left}
+use Rattle.dl_sphere.specs.Inside.{cursor_in, replayed_at, sphere_with}
+use Rattle.dl_sphere.specs.Judging.{judged_as}
+use Rattle.dl_sphere.specs.Roles.{Replaying, IsSphere}
+use Rattle.dl_sphere.proofs.Replays.Judging.{chunk_commits, chunk_words}
+use Rattle.dl_sphere.proofs.Replays.Moved.{chunk_went, chunk_left, granted, left, stands_granted, stands_left}
 use Rattle.dl_sphere.proofs.replaying.end_chunk.Goals as goal
 
 pub end_chunk-requires-clause-commits : goal.end_chunk-requires-clause-commits
 end_chunk-requires-clause-commits c =
-    let ts = c.args.threads.now in
+    let ts = c.args.past.now.state.threads in
     let k = c.args.thread in
     let s = c.args.state.now in
     let t = c.thread_at-found.result in
-    c.requires.commits ∙ sym (same_commits ts k s t c.thread_at-found.ensures.thread (c.requires.same t c.thread_at-found.ensures.thread)) ∙ sym (ap commits_of c.set.ensures)
+    c.requires.at.commits ∙ sym (same_commits ts k s t c.thread_at-found.ensures.thread (c.requires.same t c.thread_at-found.ensures.thread)) ∙ sym (ap commits_of c.set.ensures)
 
-pub returns-in-Went-clause-judged : goal.returns-in-Went-clause-judged
-returns-in-Went-clause-judged c p r request a q thread n whole =
-    let r0 = c.args.replay.now.player in
+pub returns-in-Went-clause-moved : goal.returns-in-Went-clause-moved
+returns-in-Went-clause-moved c r d thread n whole =
+    let past = c.args.past.now in
+    let replay = c.args.replay.now in
+    let x = replayed_at past replay in
+    let r0 = replay.player in
+    let loads = replay.loads.items in
     let k = c.args.thread in
-    let ts = c.args.threads.now in
+    let ts = past.state.threads in
+    let q = past.state.request in
     let mid = c.set.new.self in
-    let cs = c.args.commits.now.items in
-    let v = chunk_verdict r0.log p r0.used k r in
+    let new = c.end_chunk.new.self in
+    let us = c.end_chunk.new.threads in
+    let v = chunk_verdict r0.log x.progress r0.used k r in
     let run : HasRun ts mid k c.args.commit.size r = record { after = c.set.ensures ∙ ap (λ s. slice_set ts k s) (sym thread); total = n } in
-    let said = rw c.in-Went.is at (c.end_chunk.ensures.judged p ts r request nothing_served a q run) in
-    let commits : c.push_reserved.new.self.items ≡ cs ++ c.args.commit ∷ [] =
+    let said = rw c.in-Went.is at (c.end_chunk.ensures.judged x.progress ts r q nothing_served c.requires.at.agrees refl run) in
+    let w = chunk_went x r0 new us q k v mid nothing_served nothing_served said in
+    let commits : c.push_reserved.new.self.items ≡ past.commits.items ++ c.args.commit ∷ [] =
     c.push_reserved.ensures.items ∙ ap (λ (xs : List Commit). xs ++ c.args.commit ∷ []) c.in_ok-reserve.ensures.items
     in
-    let commit : (f : Effect) (w : Used) → v ≡ Goes f w → f.commit ≡ c.args.commit = λ f w is. chunk_commits r0.log p r0.used k r f w is ∙ sym whole in
-    (λ i. record {
-      why = None;
-      replay = c.end_chunk.new.self;
-      loads = c.clear.ensures.items i;
-      threads = c.end_chunk.new.threads;
-      request = request;
-      commits = commits i;
-      words = [];
-    })
-    ∙ chunk_went p k (before c.args.replay.now ts request cs) c.end_chunk.new.self c.end_chunk.new.threads request mid nothing_served v c.args.commit nothing_served commit said
+    (λ i. judged_as None (position x.progress) r.words (sphere_with past.state.memory us (commits i) (Some k) q (Replay (cursor_of new (c.clear.ensures.items i)))) d)
+    ∙ granted x r0 loads new us q k v c.args.commit r.words d w
+    (chunk_commits r0.log x.progress r0.used k r w.effect w.used w.verdict ∙ sym whole) (chunk_words r0.log x.progress r0.used k r w.effect w.used w.verdict)
 
-pub returns-in-Diverged-clause-judged : goal.returns-in-Diverged-clause-judged
-returns-in-Diverged-clause-judged c p r request a q thread n whole =
-    let r0 = c.args.replay.now.player in
-    let loads = c.args.replay.now.loads.items in
+pub returns-in-Went-clause-at : goal.returns-in-Went-clause-at
+returns-in-Went-clause-at c s h =
+    let past = c.args.past.now in
+    let replay = c.args.replay.now in
+    let x = replayed_at past replay in
+    let r0 = replay.player in
     let k = c.args.thread in
-    let ts = c.args.threads.now in
+    let ts = past.state.threads in
+    let q = past.state.request in
     let mid = c.set.new.self in
-    let cs = c.args.commits.now.items in
+    let new = c.end_chunk.new.self in
+    let us = c.end_chunk.new.threads in
+    let r : Run = record { thread = c.args.state.now; words = []; loads = []; n = c.args.commit.size } in
+    let v = chunk_verdict r0.log x.progress r0.used k r in
+    let run : HasRun ts mid k c.args.commit.size r = record { after = c.set.ensures; total = refl } in
+    let said = rw c.in-Went.is at (c.end_chunk.ensures.judged x.progress ts r q nothing_served c.requires.at.agrees refl run) in
+    let w = chunk_went x r0 new us q k v mid nothing_served nothing_served said in
+    let commits : c.push_reserved.new.self.items ≡ past.commits.items ++ c.args.commit ∷ [] =
+    c.push_reserved.ensures.items ∙ ap (λ (xs : List Commit). xs ++ c.args.commit ∷ []) c.in_ok-reserve.ensures.items
+    in
+    let at : List Commit → List Load → Type 0 =
+    λ cs loads. IsSphere s (sphere_with past.state.memory us cs (Some k) q (Replay (cursor_of new loads))) (Replaying new loads)
+    in
+    subst (λ cs. at cs c.clear.new.self.items) (sym commits) (subst (at (past.commits.items ++ c.args.commit ∷ [])) (sym c.clear.ensures.items)
+    (stands_granted x r0 replay.loads.items new us q k v c.args.commit s (subst (λ l. l ≤ 15) c.len.ensures.value c.len.ensures.few) w h))
+
+pub returns-in-Diverged-clause-moved : goal.returns-in-Diverged-clause-moved
+returns-in-Diverged-clause-moved c r d thread n whole =
+    let past = c.args.past.now in
+    let replay = c.args.replay.now in
+    let x = replayed_at past replay in
+    let r0 = replay.player in
+    let loads = replay.loads.items in
+    let k = c.args.thread in
+    let ts = past.state.threads in
+    let q = past.state.request in
+    let mid = c.set.new.self in
+    let new = c.end_chunk.new.self in
     let why = c.in-Diverged.why in
     let found = c.thread_at-found.result in
-    let v = chunk_verdict r0.log p r0.used k r in
+    let v = chunk_verdict r0.log x.progress r0.used k r in
     let run : HasRun ts mid k c.args.commit.size r = record { after = c.set.ensures ∙ ap (λ s. slice_set ts k s) (sym thread); total = n } in
-    let said = rw c.in-Diverged.is at (c.end_chunk.ensures.judged p ts r request nothing_served a q run) in
-    let left = c.end_chunk.ensures.threads_left why c.in-Diverged.is in
+    let said = rw c.in-Diverged.is at (c.end_chunk.ensures.judged x.progress ts r q nothing_served c.requires.at.agrees refl run) in
+    let l = chunk_left x r0 new c.end_chunk.new.threads q k v mid nothing_served nothing_served why said refl in
     let back : c.set-in-Diverged.new.self ≡ ts =
-    c.set-in-Diverged.ensures ∙ ap (λ xs. slice_set xs k found) (left ∙ c.set.ensures) ∙ put_back ts k c.args.state.now found c.thread_at-found.ensures.thread
+    c.set-in-Diverged.ensures ∙ ap (λ xs. slice_set xs k found) (c.end_chunk.ensures.threads_left why c.in-Diverged.is ∙ c.set.ensures) ∙ put_back ts k c.args.state.now found c.thread_at-found.ensures.thread
     in
-    (λ i. record {
-      why = Some why;
-      replay = c.end_chunk.new.self;
-      loads = loads;
-      threads = back i;
-      request = request;
-      commits = c.in_ok-reserve.ensures.items i;
-      words = [];
-    })
-    ∙ chunk_left p k (before c.args.replay.now ts request cs) c.end_chunk.new.self c.end_chunk.new.threads request mid nothing_served v why nothing_served said
+    (λ i. judged_as (Some why) (position x.progress) r.words (sphere_with past.state.memory (back i) (c.in_ok-reserve.ensures.items i) past.state.last q (Replay (cursor_of new loads))) d)
+    ∙ left x r0 loads new ts q why v (Fails why) d c.requires.at.agrees.done l
+    ∙ ap (λ (o : LogVerdict). by_verdict (cursor_in replay) k o d x) (sym l.verdict)
+
+pub returns-in-Diverged-clause-at : goal.returns-in-Diverged-clause-at
+returns-in-Diverged-clause-at c s h =
+    let past = c.args.past.now in
+    let replay = c.args.replay.now in
+    let x = replayed_at past replay in
+    let r0 = replay.player in
+    let loads = replay.loads.items in
+    let k = c.args.thread in
+    let ts = past.state.threads in
+    let q = past.state.request in
+    let mid = c.set.new.self in
+    let new = c.end_chunk.new.self in
+    let why = c.in-Diverged.why in
+    let found = c.thread_at-found.result in
+    let r : Run = record { thread = c.args.state.now; words = []; loads = []; n = c.args.commit.size } in
+    let v = chunk_verdict r0.log x.progress r0.used k r in
+    let run : HasRun ts mid k c.args.commit.size r = record { after = c.set.ensures; total = refl } in
+    let said = rw c.in-Diverged.is at (c.end_chunk.ensures.judged x.progress ts r q nothing_served c.requires.at.agrees refl run) in
+    let l = chunk_left x r0 new c.end_chunk.new.threads q k v mid nothing_served nothing_served why said refl in
+    let back : c.set-in-Diverged.new.self ≡ ts =
+    c.set-in-Diverged.ensures ∙ ap (λ xs. slice_set xs k found) (c.end_chunk.ensures.threads_left why c.in-Diverged.is ∙ c.set.ensures) ∙ put_back ts k c.args.state.now found c.thread_at-found.ensures.thread
+    in
+    let at : List Parts → List Commit → Type 0 =
+    λ us cs. IsSphere s (sphere_with past.state.memory us cs past.state.last q (Replay (cursor_of new loads))) (Replaying new loads)
+    in
+    subst (λ us. at us c.reserve.new.self.items) (sym back) (subst (at ts) (sym c.in_ok-reserve.ensures.items)
+    (stands_left x r0 loads new ts q why v (Fails why) s l h))

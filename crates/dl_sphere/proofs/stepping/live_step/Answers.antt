@@ -1,4 +1,4 @@
-use Rattle.std.proofs.Common.{◌≡◌, ◌≤◌, ◌∷◌, ◌++◌, [], ◌∙◌, false, length, None, sym, ap, subst}
+use Rattle.std.proofs.Common.{◌≡◌, ◌≤◌, ◌∙◌, false, length, None, sym, ap, subst}
 use Rattle.std.specs.Prelude.{IfSome}
 use Rattle.dl_entry.specs.declared.Commit.{Commit}
 use Rattle.spec_kernel.specs.Devices.{Devices}
@@ -79,8 +79,8 @@ returns-clause-words c =
     in
     ap (λ (v : StepResult). v.words) served
 
-pub returns-clause-commits : goal.returns-clause-commits
-returns-clause-commits c =
+pub returns-clause-commit : goal.returns-clause-commit
+returns-clause-commit c =
     let s = c.args.step.now in
     let d = c.args.devices.now in
     let n = need s.thread s.memory.now in
@@ -89,8 +89,7 @@ returns-clause-commits c =
     let served : result_in c.in_ok-served.served ≡ serve s.number s.threads.now s.request s.thread s.memory.now g.input =
     c.in_ok-served.ensures.served ∙ ap (λ o. serve s.number s.threads.now s.request s.thread s.memory.now o) is
     in
-    let commit = c.serial_commit-commit.ensures ∙ ap (λ (v : StepResult). serial_commit s.number v.loads v.outputs) served in
-    c.push_reserved.ensures.items ∙ (λ i. c.in_ok-reserve.ensures.items i ++ commit i ∷ [])
+    c.serial_commit-commit.ensures ∙ ap (λ (v : StepResult). serial_commit s.number v.loads v.outputs) served
 
 pub returns-clause-noted : goal.returns-clause-noted
 returns-clause-noted c =
@@ -104,7 +103,7 @@ returns-clause-noted c =
     in
     let commit = c.serial_commit-commit.ensures ∙ ap (λ (v : StepResult). serial_commit s.number v.loads v.outputs) served in
     let input = c.as_ref-2.ensures.value ∙ c.in_ok-input.ensures.left ∙ record_taken c.args.moment d n in
-    c.note_reserved.ensures ∙ (λ i. with_noted (commit i) false (input i) None (c.in_ok-reserve-2.ensures.same i))
+    c.note_reserved.ensures ∙ (λ i. with_noted (commit i) false (input i) None (c.in_ok-reserve.ensures.same i))
 
 pub returns-clause-devices : goal.returns-clause-devices
 returns-clause-devices c =

@@ -13,8 +13,8 @@ use Rattle.dl_sphere.proofs.transferring.live_dma.Goals as goal
 taken : (d : Devices) (request : Request) (input : List ℕ) (left count : ℕ) → input ≡ d.input → left ≡ length d.input → count ≡ min request.len left → take count input ≡ dma_bytes d request
 taken d request input left count i l m = ap (take count) i ∙ ap (λ n. take n d.input) (m ∙ ap (min request.len) l) ∙ take_min request.len d.input
 
-pub keep-requires-clause-dma : goal.keep-requires-clause-dma
-keep-requires-clause-dma c =
+pub note-requires-clause-dma : goal.note-requires-clause-dma
+note-requires-clause-dma c =
     let d = c.args.devices.now in
     let request = c.args.request.now in
     let bytes = taken d request c.input.result.now c.input_left.result c.min-count.result c.input.ensures.value c.input_left.ensures.value c.min-count.ensures in
@@ -32,4 +32,4 @@ returns-clause-noted c =
     let d = c.args.devices.now in
     let request = c.args.request.now in
     let bytes = taken d request c.input.result.now c.input_left.result c.min-count.result c.input.ensures.value c.input_left.ensures.value c.min-count.ensures in
-    c.in_ok-keep.ensures.noted ∙ (λ i. with_noted (c.dma_commit.ensures i) false None (Some (bytes i)) (keeping_of c.args.part.now))
+    c.in_ok-note.ensures.noted ∙ (λ i. with_noted (c.dma_commit.ensures i) false None (Some (bytes i)) (keeping_of c.args.part.now))

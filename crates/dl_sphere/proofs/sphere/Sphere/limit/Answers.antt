@@ -13,8 +13,8 @@ returns-in-Replayed-clause-value c t is =
     let a = c.self.inside in
     let r = c.in-Replayed.replay in
     let kept = replayed a r c.in-Replayed.is c.self.invariant in
-    let here : slice_get a.threads c.args.thread ≡ Some t = ap (λ (v : SizedSphere). slice_get v.sphere.threads c.args.thread) c.self.view_is ∙ is in
-    c.limit.ensures.of_thread a.s r.loads.items a.threads t c.self.invariant.threads kept.commits here
+    let here : slice_get a.past.state.threads c.args.thread ≡ Some t = ap (λ (v : SizedSphere). slice_get v.sphere.threads c.args.thread) c.self.view_is ∙ is in
+    c.limit.ensures.of_thread a.s r.loads.items a.past.state.threads t c.self.invariant.threads kept.commits here
     ∙ sym (ap (λ (part : Part). limit_of a.s (role_in part) c.args.thread t) c.in-Replayed.is)
     ∙ ap (λ (v : SizedSphere). limit_of v.s v.sphere.role c.args.thread t) c.self.view_is
 

@@ -28,14 +28,14 @@ invariant_of-self-2 c =
     let a = c.self.inside in
     let k = c.args.thread in
     let t = c.thread_at-found.result in
-    let q : Sphere = sphere_with a.memory c.set.new.self a.commits.items a.last a.request (role_in c.note_interrupt.new.part) in
+    let q : Sphere = sphere_with a.past.state.memory c.set.new.self a.past.commits.items a.past.state.last a.past.state.request (role_in c.note_interrupt.new.part) in
     let start : slice_get c.args.self.now.sphere.threads k ≡ Some t =
     sym (ap (λ (v : SizedSphere). slice_get v.sphere.threads k) c.self.view_is) ∙ c.thread_at-found.ensures.thread
     in
     let live : IsLive (keeping_of a.part) = live_role (keeping_of a.part) (ap (λ (v : SizedSphere). replays v.sphere.role) c.self.view_is ∙ c.requires.recorded) in
     let noted = c.in_ok-note_interrupt.ensures.noted ∙ ap (λ n. with_raised k n c.args.value (keeping_of a.part)) c.commits.ensures in
     subst (IsSphere a.s q) (sym noted)
-    (raised_stand (sphere_in a) q k c.args.value t a.s (keeping_of a.part) c.thread_at-found.ensures.thread (c.requires.there t start) (c.set.ensures ∙ ap (set a.threads k) c.interrupted.ensures) refl live c.self.invariant)
+    (raised_stand (sphere_in a) q k c.args.value t a.s (keeping_of a.part) c.thread_at-found.ensures.thread (c.requires.there t start) (c.set.ensures ∙ ap (set a.past.state.threads k) c.interrupted-after.ensures) refl live c.self.invariant)
 
 pub returns-clause-ok : goal.returns-clause-ok
 unfolding raised
@@ -49,10 +49,10 @@ returns-clause-ok c =
     sym (ap (λ (s : SizedSphere). slice_get s.sphere.threads k) c.self.view_is) ∙ c.thread_at-found.ensures.thread
     in
     let same : x ≡ t = (let e : Some x ≡ Some t = sym start ∙ is in cc) in
-    let made : List Parts → Role → Sphere = λ us role. sphere_with a.memory us a.commits.items a.last a.request role in
-    let threads : c.set.new.self ≡ set a.threads k (interrupted v t) = c.set.ensures ∙ ap (set a.threads k) (c.interrupted.ensures ∙ ap (interrupted v) same) in
+    let made : List Parts → Role → Sphere = λ us role. sphere_with a.past.state.memory us a.past.commits.items a.past.state.last a.past.state.request role in
+    let threads : c.set.new.self ≡ set a.past.state.threads k (interrupted v t) = c.set.ensures ∙ ap (set a.past.state.threads k) (c.interrupted-after.ensures ∙ ap (interrupted v) same) in
     let role : role_in c.note_interrupt.new.part ≡ role_raised k t.commits v (role_in a.part) =
     ap role_of (c.in_ok-note_interrupt.ensures.noted ∙ ap (λ n. with_raised k n v (keeping_of a.part)) (c.commits.ensures ∙ ap (λ (y : Parts). y.commits) same))
     ∙ raised_role k t.commits v (keeping_of a.part)
     in
-    ap (λ us. made us (role_in c.note_interrupt.new.part)) threads ∙ ap (made (set a.threads k (interrupted v t))) role ∙ ap (λ (s : SizedSphere). raised k v t s.sphere) c.self.view_is
+    ap (λ us. made us (role_in c.note_interrupt.new.part)) threads ∙ ap (made (set a.past.state.threads k (interrupted v t))) role ∙ ap (λ (s : SizedSphere). raised k v t s.sphere) c.self.view_is
