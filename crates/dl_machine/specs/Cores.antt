@@ -15,7 +15,7 @@ pub record Core : Type 0 where
 
 abbrev pub held_if : (busy : Bool) → (thread : ℕ) → Chunk → Option Occupant
 held_if false k ch = None
-held_if true k ch = Some (record { thread = k; chunk = ch })
+held_if true k ch = Some (record { thread = k; chunk = ch; younger = None })
 
 abbrev pub core_of : (busy : Bool) → (thread : ℕ) → Engine → Core
 core_of busy k e = record { most = e.most; capacity = e.capacity; bits = e.chunk.reads.bits; held = held_if busy k e.chunk }
@@ -38,7 +38,7 @@ seen h = record { sphere = h.chunk.sphere; thread = h.thread; closed = not (is_o
 
 -- the numbers of a core and a sphere
 abbrev pub numbers_of : Core → SizedSphere → Numbers
-numbers_of c p = record { s = p.s; capacity = c.capacity; bits = c.bits }
+numbers_of c p = record { s = p.s; capacity = c.capacity; bits = c.bits; depth = 1 }
 
 -- thread k of sphere i, which is p, with a fresh chunk
 abbrev pub afresh : Core → SizedSphere → (i thread : ℕ) → Option Occupant

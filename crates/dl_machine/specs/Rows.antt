@@ -58,4 +58,4 @@ with_nth i p r = record r { spheres = slice_set r.spheres i p }
 
 -- the numbers of the cores and a sphere
 abbrev pub numbers_in : Cores → SizedSphere → Numbers
-numbers_in r p = record { s = p.s; capacity = r.capacity; bits = r.bits }
+numbers_in r p = record { s = p.s; capacity = r.capacity; bits = r.bits; depth = 1 }

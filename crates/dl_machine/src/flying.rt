@@ -28,7 +28,7 @@ impl<G: Sig> State<G> {
     }
 
     // The core is told of the slot's flight.
-    #[tactic(auto, unfolding(spec_protocol::specs::machine::Flying::delivering))]
+    #[tactic(auto, using(crate::proofs::Worlds::Alone::none_hit), unfolding(spec_protocol::specs::machine::Flying::delivering))]
     pub(crate) fn deliver(&mut self, core: u8, k: u8) -> Reply
         requires core { core < length self.old.cores }
         requires slot { k < length self.old.slots }
@@ -56,8 +56,8 @@ impl<G: Sig> State<G> {
     // The core is told now, or isn't.
     fn told(&mut self, core: u8, reply: Deliver) -> Reply
         requires core { core < length self.old.cores }
-        ensures reply { result ≡ (told self.old core (at self.old.cores core) reply).reply }
-        ensures world { self.new ≡ left (told self.old core (at self.old.cores core) reply) }
+        ensures reply { result ≡ (told self.old core (at self.old.cores core) reply false).reply }
+        ensures world { self.new ≡ left (told self.old core (at self.old.cores core) reply false) }
     {
         match reply {
             Deliver::NoCommit => Reply::NoCommit,

@@ -100,7 +100,7 @@ impl<G: Sig> Core<G> {
         self.busy = true;
         self.thread = thread;
         self.chunk
-            .begin(sphere, state, of.limit(thread), of.halves());
+            .begin(sphere, state, of.limit(thread, false), of.halves());
     }
 
     /// Abandons what it holds.

@@ -12,7 +12,7 @@ use spec_protocol::Reply;
 impl<G: Sig> State<G> {
     // The core runs one instruction.
     #[inline(always)]
-    #[tactic(auto, unfolding(spec_protocol::specs::machine::Stepping::stepping))]
+    #[tactic(auto, using(crate::proofs::Worlds::Alone::stepping_alone))]
     pub(crate) fn step(&mut self, core: u8) -> Reply
         requires core { core < length self.old.cores }
         requires ready { IsReady self.old }
@@ -34,7 +34,7 @@ impl<G: Sig> State<G> {
     }
 
     // The core's chunk is cut off.
-    #[tactic(auto, unfolding(spec_protocol::specs::machine::Stepping::cutting))]
+    #[tactic(auto, using(crate::proofs::Worlds::Alone::cutting_alone))]
     pub(crate) fn cut(&mut self, core: u8) -> Reply
         requires core { core < length self.old.cores }
         requires ready { IsReady self.old }

@@ -43,9 +43,12 @@ with_grant w c held p words marks devices point =
 abbrev pub point_in : World → Seen → CommitKind → (n : ℕ) → (short : Bool) → Point
 point_in w held kind n short = Point.Commit (moment w) held.sphere (Actor.Thread held.thread) kind n short
 
--- the chunk that a core holds
+-- the chunk that a core holds, and the younger one
 abbrev pub chunk_of : Occupant → Chunk
 chunk_of h = h.chunk
+
+abbrev pub younger_in : Occupant → Option Chunk
+younger_in h = h.younger
 
 -- ---- the code's steps
 
@@ -72,7 +75,7 @@ module _ (cores : Cores) (spheres : Spheres) (flights : Flights) (devices : Devi
         → after_flight (world_in then_ after_ flights devices counts more)
         ≡ with_grant (world_in cores spheres flights devices counts points) c held (nth_sphere held.sphere after_) words marks devices point
     grant_done then_ ec es ep =
-        let again = set_again cores.held c None (held_afresh (record { s = spheres.s; capacity = cores.capacity; bits = cores.bits }) held.sphere held.thread (nth_sphere held.sphere after_)) in
+        let again = set_again cores.held c None (held_afresh (record { s = spheres.s; capacity = cores.capacity; bits = cores.bits; depth = 1 }) held.sphere held.thread (nth_sphere held.sphere after_)) in
         cc
 
     -- where the core has its lines still and the devices have changed, the parts of a grant are the world after it
@@ -95,8 +98,8 @@ closed_is (Some h) ch how e c = ap (λ (d : Chunk). d.closed) (same_Some _ _ c) 
 
 -- ---- a chunk
 
-abbrev pub chunk_asked : World → Seen → How → Chunk → CommitRequest
-chunk_asked w held how ch =
+abbrev pub chunk_asked : World → Seen → How → Chunk → (younger : Option Chunk) → CommitRequest
+chunk_asked w held how ch younger =
     record {
       sphere = held.sphere;
       thread = held.thread;
@@ -104,6 +107,7 @@ chunk_asked w held how ch =
       kind = CommitKind.Chunk;
       n = ch.done.n;
       short = is_short w.numbers.s how ch.limit;
+      younger = younger;
     }
 
 -- what a granted chunk makes of its sphere
@@ -111,21 +115,23 @@ abbrev pub moved_by : World → Seen → How → Chunk → MovedSphere
 moved_by w held how ch =
     chunk_moved held.thread (is_piece how) (is_short w.numbers.s how ch.limit) ch.done w.devices (sphere_at w held.sphere)
 
-chunk_is : (w : World) (c : ℕ) (h : Occupant) (how : How) → grant_chunk w c h how ≡ (let v = moved_by w (seen h) how h.chunk in granted w c (chunk_asked w (seen h) how h.chunk) h.chunk.writes v v.outcome)
+chunk_is : (w : World) (c : ℕ) (h : Occupant) (how : How) → grant_chunk w c h how ≡ (let v = moved_by w (seen h) how h.chunk in granted w c (chunk_asked w (seen h) how h.chunk h.younger) h.chunk.writes v v.outcome)
 unfolding grant_chunk
 chunk_is w c h how = refl
 
 -- a chunk's request comes to what the move of its sphere makes of the world
-pub chunk_after : (w : World) (c : ℕ) (how : How) (o : Option Occupant) (held : Seen) (ch : Chunk) (marks : Signature) (v : MovedSphere) → option_map seen o ≡ Some held → Some ch ≡ option_map chunk_of o → marks ≡ writes_in w.numbers.bits o → v ≡ moved_by w held how ch
-    → Some (granted w c (chunk_asked w held how ch) marks v v.outcome) ≡ option_map (λ h. grant_chunk w c h how) o
-chunk_after w c how None held ch marks v eh ec em ev = absurd (none-some held eh)
-chunk_after w c how (Some h) held ch marks v eh ec em ev =
+pub chunk_after : (w : World) (c : ℕ) (how : How) (o : Option Occupant) (held : Seen) (ch : Chunk) (y : Option Chunk) (marks : Signature) (v : MovedSphere) → option_map seen o ≡ Some held → Some ch ≡ option_map chunk_of o → Some y ≡ option_map younger_in o
+    → marks ≡ writes_in w.numbers.bits o → v ≡ moved_by w held how ch → Some (granted w c (chunk_asked w held how ch y) marks v v.outcome) ≡ option_map (λ h. grant_chunk w c h how) o
+chunk_after w c how None held ch y marks v eh ec ey em ev = absurd (none-some held eh)
+chunk_after w c how (Some h) held ch y marks v eh ec ey em ev =
     let seen_ : held ≡ seen h = sym (same_Some _ _ eh) in
     let same : ch ≡ h.chunk = same_Some _ _ ec in
-    ap (λ (u : MovedSphere). Some (granted w c (chunk_asked w held how ch) marks u u.outcome)) ev
-    ∙ ap (λ (m : Signature). Some (let u = moved_by w held how ch in granted w c (chunk_asked w held how ch) m u u.outcome)) em
-    ∙ ap (λ (d : Chunk). Some (let u = moved_by w held how d in granted w c (chunk_asked w held how d) h.chunk.writes u u.outcome)) same
-    ∙ ap (λ (s : Seen). Some (let u = moved_by w s how h.chunk in granted w c (chunk_asked w s how h.chunk) h.chunk.writes u u.outcome)) seen_
+    let younger : y ≡ h.younger = same_Some _ _ ey in
+    ap (λ (u : MovedSphere). Some (granted w c (chunk_asked w held how ch y) marks u u.outcome)) ev
+    ∙ ap (λ (m : Signature). Some (let u = moved_by w held how ch in granted w c (chunk_asked w held how ch y) m u u.outcome)) em
+    ∙ ap (λ (z : Option Chunk). Some (let u = moved_by w held how ch in granted w c (chunk_asked w held how ch z) h.chunk.writes u u.outcome)) younger
+    ∙ ap (λ (d : Chunk). Some (let u = moved_by w held how d in granted w c (chunk_asked w held how d h.younger) h.chunk.writes u u.outcome)) same
+    ∙ ap (λ (s : Seen). Some (let u = moved_by w s how h.chunk in granted w c (chunk_asked w s how h.chunk h.younger) h.chunk.writes u u.outcome)) seen_
     ∙ ap (λ (a : After). Some a) (sym (chunk_is w c h how))
 
 -- ---- a serial step
@@ -139,6 +145,7 @@ serial_asked held =
       kind = CommitKind.Serial;
       n = 0;
       short = false;
+      younger = None;
     }
 
 serial_is : (w : World) (c : ℕ) (h : Occupant) → grant_serial w c h ≡ (let v = serial_moved h.thread (moment w) h.chunk.start w.devices (sphere_at w h.chunk.sphere) in granted w c (serial_asked (seen h)) (signed h.chunk.sphere v.words (nothing w.numbers.bits)) v v.outcome)
@@ -186,7 +193,7 @@ granted_passes w c q marks v (Diverged i why) = refl
 pub chunk_passes : (w : World) (c : ℕ) (h : Occupant) (how : How) → passes_checks (grant_chunk w c h how).reply ≡ true
 chunk_passes w c h how =
     let v = moved_by w (seen h) how h.chunk in
-    ap (λ (a : After). passes_checks a.reply) (chunk_is w c h how) ∙ granted_passes w c (chunk_asked w (seen h) how h.chunk) h.chunk.writes v v.outcome
+    ap (λ (a : After). passes_checks a.reply) (chunk_is w c h how) ∙ granted_passes w c (chunk_asked w (seen h) how h.chunk h.younger) h.chunk.writes v v.outcome
 
 -- a granted serial step answers as what passed every check
 pub serial_passes : (w : World) (c : ℕ) (h : Occupant) → passes_checks (grant_serial w c h).reply ≡ true

@@ -17,6 +17,7 @@ use Rattle.dl_machine.specs.Ready.{HasRoom, IsReady}
 use Rattle.dl_machine.specs.Requests.{closed_by}
 use Rattle.dl_machine.specs.Rows.{Spheres, nth_sphere, with_nth}
 use Rattle.dl_machine.specs.States.{left, world_in}
+use Rattle.dl_machine.proofs.Worlds.Alone.{none_younger}
 use Rattle.dl_machine.proofs.Commits.Able.{can_commit, few_commits}
 use Rattle.dl_machine.proofs.Commits.Granted.{point_in, moved_by, grant_done, held_after, closed_is, chunk_after}
 use Rattle.dl_machine.proofs.state.State.grant_chunk.Goals as goal
@@ -55,7 +56,9 @@ returns-in-Granted-clause-reply g c =
     let closed : option_map closed_by (at w.cores core) ≡ Some (Some how) = subst (λ (u : World). option_map closed_by (at u.cores core) ≡ Some (Some how)) (sym view) c.requires.closed in
     let shut : ch.closed ≡ Some how = closed_is (at w.cores core) ch how closed c.chunk-chunk.ensures in
     let moved : v ≡ moved_by w c.args.held how ch = subst (λ (m : Moved). came m p x.devices ≡ moved_by w c.args.held how ch) c.in-Granted.is (c.in_ok-moved.ensures.ok x.devices how shut) in
-    let after = chunk_after w core how (at w.cores core) c.args.held ch (writes_in w.numbers.bits (at w.cores core)) v held c.chunk-chunk.ensures refl moved in
+    let ready : IsReady w = subst IsReady (sym view) c.requires.ready in
+    let alone = none_younger w core (at w.cores core) c.args.held ready refl refl held in
+    let after = chunk_after w core how (at w.cores core) c.args.held ch None (writes_in w.numbers.bits (at w.cores core)) v held c.chunk-chunk.ensures alone refl moved in
     subst (λ (u : World). Some Reply.Granted ≡ option_map (λ h. (grant_chunk u core h how).reply) (at u.cores core)) view
     (held_after (λ (a : After). a.reply) (λ h. grant_chunk w core h how) (at w.cores core) _ after)
 
@@ -73,7 +76,9 @@ returns-in-Granted-clause-world g c =
     let closed : option_map closed_by (at w.cores core) ≡ Some (Some how) = subst (λ (u : World). option_map closed_by (at u.cores core) ≡ Some (Some how)) (sym view) c.requires.closed in
     let shut : ch.closed ≡ Some how = closed_is (at w.cores core) ch how closed c.chunk-chunk.ensures in
     let moved : v ≡ moved_by w c.args.held how ch = subst (λ (m : Moved). came m p x.devices ≡ moved_by w c.args.held how ch) c.in-Granted.is (c.in_ok-moved.ensures.ok x.devices how shut) in
-    let after = chunk_after w core how (at w.cores core) c.args.held ch _ v held c.chunk-chunk.ensures c.hand_over-writes.ensures.given moved in
+    let ready : IsReady w = subst IsReady (sym view) c.requires.ready in
+    let alone = none_younger w core (at w.cores core) c.args.held ready refl refl held in
+    let after = chunk_after w core how (at w.cores core) c.args.held ch None _ v held c.chunk-chunk.ensures alone c.hand_over-writes.ensures.given moved in
     let point : c.push_reserved.new.self.items ≡ x.points.items ++ point_in w c.args.held CommitKind.Chunk ch.done.n (is_short w.numbers.s how ch.limit) ∷ [] = cc in
     let done = grant_done x.cores x.spheres x.flights x.devices x.counts x.points.items core c.args.held c.commit_chunk.new.self c.in-Granted.words.words _ _ _ c.hand_over-writes.new.self c.hand_over-writes.ensures.core c.in_ok-moved.ensures.others point in
     subst (λ (u : World). Some c.go_on.new.self ≡ option_map (λ h. left (grant_chunk u core h how)) (at u.cores core)) view
@@ -93,7 +98,9 @@ returns-in-Piece-clause-reply g c =
     let closed : option_map closed_by (at w.cores core) ≡ Some (Some how) = subst (λ (u : World). option_map closed_by (at u.cores core) ≡ Some (Some how)) (sym view) c.requires.closed in
     let shut : ch.closed ≡ Some how = closed_is (at w.cores core) ch how closed c.chunk-chunk.ensures in
     let moved : v ≡ moved_by w c.args.held how ch = subst (λ (m : Moved). came m p x.devices ≡ moved_by w c.args.held how ch) c.in-Piece.is (c.in_ok-moved.ensures.ok x.devices how shut) in
-    let after = chunk_after w core how (at w.cores core) c.args.held ch (writes_in w.numbers.bits (at w.cores core)) v held c.chunk-chunk.ensures refl moved in
+    let ready : IsReady w = subst IsReady (sym view) c.requires.ready in
+    let alone = none_younger w core (at w.cores core) c.args.held ready refl refl held in
+    let after = chunk_after w core how (at w.cores core) c.args.held ch None (writes_in w.numbers.bits (at w.cores core)) v held c.chunk-chunk.ensures alone refl moved in
     subst (λ (u : World). Some Reply.Piece ≡ option_map (λ h. (grant_chunk u core h how).reply) (at u.cores core)) view
     (held_after (λ (a : After). a.reply) (λ h. grant_chunk w core h how) (at w.cores core) _ after)
 
@@ -111,7 +118,9 @@ returns-in-Piece-clause-world g c =
     let closed : option_map closed_by (at w.cores core) ≡ Some (Some how) = subst (λ (u : World). option_map closed_by (at u.cores core) ≡ Some (Some how)) (sym view) c.requires.closed in
     let shut : ch.closed ≡ Some how = closed_is (at w.cores core) ch how closed c.chunk-chunk.ensures in
     let moved : v ≡ moved_by w c.args.held how ch = subst (λ (m : Moved). came m p x.devices ≡ moved_by w c.args.held how ch) c.in-Piece.is (c.in_ok-moved.ensures.ok x.devices how shut) in
-    let after = chunk_after w core how (at w.cores core) c.args.held ch _ v held c.chunk-chunk.ensures c.hand_over-writes-in-Piece.ensures.given moved in
+    let ready : IsReady w = subst IsReady (sym view) c.requires.ready in
+    let alone = none_younger w core (at w.cores core) c.args.held ready refl refl held in
+    let after = chunk_after w core how (at w.cores core) c.args.held ch None _ v held c.chunk-chunk.ensures alone c.hand_over-writes-in-Piece.ensures.given moved in
     let point : c.push_reserved-in-Piece.new.self.items ≡ x.points.items ++ point_in w c.args.held CommitKind.Piece ch.done.n (is_short w.numbers.s how ch.limit) ∷ [] = cc in
     let done = grant_done x.cores x.spheres x.flights x.devices x.counts x.points.items core c.args.held c.commit_chunk.new.self c.in-Piece.words.words _ _ _ c.hand_over-writes-in-Piece.new.self c.hand_over-writes-in-Piece.ensures.core c.in_ok-moved.ensures.others point in
     subst (λ (u : World). Some c.go_on-in-Piece.new.self ≡ option_map (λ h. left (grant_chunk u core h how)) (at u.cores core)) view
@@ -131,7 +140,9 @@ returns-in-Diverged-clause-reply g c =
     let closed : option_map closed_by (at w.cores core) ≡ Some (Some how) = subst (λ (u : World). option_map closed_by (at u.cores core) ≡ Some (Some how)) (sym view) c.requires.closed in
     let shut : ch.closed ≡ Some how = closed_is (at w.cores core) ch how closed c.chunk-chunk.ensures in
     let moved : v ≡ moved_by w c.args.held how ch = subst (λ (m : Moved). came m p x.devices ≡ moved_by w c.args.held how ch) c.in-Diverged.is (c.in_ok-moved.ensures.ok x.devices how shut) in
-    let after = chunk_after w core how (at w.cores core) c.args.held ch (writes_in w.numbers.bits (at w.cores core)) v held c.chunk-chunk.ensures refl moved in
+    let ready : IsReady w = subst IsReady (sym view) c.requires.ready in
+    let alone = none_younger w core (at w.cores core) c.args.held ready refl refl held in
+    let after = chunk_after w core how (at w.cores core) c.args.held ch None (writes_in w.numbers.bits (at w.cores core)) v held c.chunk-chunk.ensures alone refl moved in
     subst (λ (u : World). Some (Reply.Diverged c.in-Diverged.commits c.in-Diverged.why) ≡ option_map (λ h. (grant_chunk u core h how).reply) (at u.cores core)) view
     (held_after (λ (a : After). a.reply) (λ h. grant_chunk w core h how) (at w.cores core) _ after)
 
@@ -149,7 +160,9 @@ returns-in-Diverged-clause-world g c =
     let closed : option_map closed_by (at w.cores core) ≡ Some (Some how) = subst (λ (u : World). option_map closed_by (at u.cores core) ≡ Some (Some how)) (sym view) c.requires.closed in
     let shut : ch.closed ≡ Some how = closed_is (at w.cores core) ch how closed c.chunk-chunk.ensures in
     let moved : v ≡ moved_by w c.args.held how ch = subst (λ (m : Moved). came m p x.devices ≡ moved_by w c.args.held how ch) c.in-Diverged.is (c.in_ok-moved.ensures.ok x.devices how shut) in
-    let after = chunk_after w core how (at w.cores core) c.args.held ch (writes_in w.numbers.bits (at w.cores core)) v held c.chunk-chunk.ensures refl moved in
+    let ready : IsReady w = subst IsReady (sym view) c.requires.ready in
+    let alone = none_younger w core (at w.cores core) c.args.held ready refl refl held in
+    let after = chunk_after w core how (at w.cores core) c.args.held ch None (writes_in w.numbers.bits (at w.cores core)) v held c.chunk-chunk.ensures alone refl moved in
     let world : world_in x.cores c.commit_chunk.new.self x.flights x.devices x.counts c.reserve.new.self.items ≡ world_in x.cores (with_nth c.args.held.sphere p x.spheres) x.flights x.devices x.counts x.points.items =
     ap (λ (s : Spheres). world_in x.cores s x.flights x.devices x.counts c.reserve.new.self.items) c.in_ok-moved.ensures.others
     ∙ ap (λ (ps : List Point). world_in x.cores (with_nth c.args.held.sphere p x.spheres) x.flights x.devices x.counts ps) c.reserve.ensures.items
