@@ -7,9 +7,9 @@ use Rattle.spec_engine.specs.Flights.{Flight, at}
 use Rattle.spec_protocol.specs.declared.reply.Reply.{Reply}
 use Rattle.spec_protocol.specs.machine.Flying.{hits_younger, younger_of}
 use Rattle.spec_protocol.specs.machine.Spheres.{is_stopped}
-use Rattle.spec_protocol.specs.machine.Stepping.{cut_held, cut_in, cut_to, cutting, step_behind, step_held, stepped, stepping, younger_for}
+use Rattle.spec_protocol.specs.machine.Stepping.{cut_held, cut_in, cut_to, cutting, step_younger, step_held, stepped, stepping, younger_for}
 use Rattle.spec_protocol.specs.machine.World.{After, Occupant, World, answered, sphere_at}
-use Rattle.spec_protocol.proofs.Invariants.Held.{one-alone, one-none}
+use Rattle.spec_protocol.proofs.Invariants.OneChunk.{one-alone, one-none}
 use Rattle.dl_machine.specs.Cores.{seen}
 use Rattle.dl_machine.specs.declared.one_core.Held.{Held as Seen}
 use Rattle.dl_machine.specs.Ready.{IsReady}
@@ -48,7 +48,7 @@ step_of w c None ready one is = refl
 step_of w c (Some h) ready one is =
     let p = sphere_at w h.chunk.sphere in
     let none : younger_for w.numbers p.role h h.younger ≡ None = ap (younger_for w.numbers p.role h) (alone w c h ready one is) ∙ one-none w.numbers p.role h (omega (arith, one)) in
-    ap (λ (y : Option Chunk). if is_stopped p.role then answered w Reply.Stopped else if is_open h.chunk then stepped w c h (step w.numbers.capacity p.memory w.slots c h.chunk) else step_behind w c h y) none
+    ap (λ (y : Option Chunk). if is_stopped p.role then answered w Reply.Stopped else if is_open h.chunk then stepped w c h (step w.numbers.capacity p.memory w.slots c h.chunk) else step_younger w c h y) none
 
 pub stepping_alone : (w : World) (c : ℕ) → IsReady w → w.numbers.depth ≡ 1 → stepping w c ≡ step_alone w c (at w.cores c)
 unfolding stepping
