@@ -13,6 +13,6 @@ Holds w c h = option_map seen (at w.cores c) ≡ Some h
 abbrev pub closed_by : Occupant → Option How
 closed_by h = h.chunk.closed
 
--- its chunk was closed so
+-- its older chunk was closed so
 abbrev pub IsClosedBy : World → (core : ℕ) → How → Type 0
 IsClosedBy w c how = option_map closed_by (at w.cores c) ≡ Some (Some how)
