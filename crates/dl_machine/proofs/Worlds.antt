@@ -1,6 +1,5 @@
 -- Every world that a setup comes to is ready, counts its events, and has what the protocol promises.
 pub mod First
 pub mod Ready
-pub mod Alone
 pub mod Events
 pub mod Promised

@@ -1,8 +1,11 @@
 -- A core in code.
 use Rattle.std.specs.Prelude.{◌≡◌, ◌≤◌, ◌<◌, ◌+◌, ◌^◌, ℕ, Bool, true, false, not, ◌&&◌, nat_lt, Option, Some, None, slice_get}
+use Rattle.spec_isa.specs.declared.thread.Parts.{Parts}
+use Rattle.spec_kernel.specs.Interrupts.{is_live}
+use Rattle.spec_engine.specs.declared.answers.How.{How}
 use Rattle.spec_engine.specs.Signatures.{Signature, nothing}
 use Rattle.spec_engine.specs.Chunks.{Chunk, is_open}
-use Rattle.spec_protocol.specs.machine.Asking.{promoted}
+use Rattle.spec_protocol.specs.machine.Asking.{promoted, was_interrupted}
 use Rattle.spec_protocol.specs.machine.Spheres.{Sphere}
 use Rattle.spec_protocol.specs.machine.Stepping.{may_follow}
 use Rattle.spec_protocol.specs.machine.World.{Occupant, Numbers, held_afresh}
@@ -70,6 +73,14 @@ pair_in c h = record { most = c.most; capacity = c.capacity; depth = c.depth; ol
 abbrev pub with_pair : Occupant → Pair → Occupant
 with_pair h p = record h { chunk = p.older; younger = p.younger }
 
+-- a chunk that was closed so has run up to its limit
+abbrev pub is_whole : Option How → Bool
+is_whole None = false
+is_whole (Some How.Limit) = true
+is_whole (Some How.Serial) = false
+is_whole (Some How.Overflow) = false
+is_whole (Some How.Cut) = false
+
 -- where the older chunk is closed: no step runs the younger, if there is one, and none may begin
 abbrev pub waits_for : (depth : ℕ) → (replays : Bool) → Occupant → Option Chunk → Bool
 waits_for depth b h None = not (nat_lt 1 depth && may_follow b h.chunk.closed)
@@ -94,6 +105,12 @@ CanStepHeld limit c (Some h) = CanStep limit (pair_in c h)
 -- the lines that the older chunk has stored to are given up
 abbrev pub given_up : Occupant → Occupant
 given_up h = record h { chunk = record h.chunk { writes = nothing h.chunk.reads.bits } }
+
+-- the younger chunk goes on: there is one, and its thread lives and was not interrupted since it began
+abbrev pub stays : (younger : Option Chunk) → Option Parts → Bool
+stays None o = false
+stays (Some y) None = false
+stays (Some y) (Some t) = is_live t && not (was_interrupted y t)
 
 -- what is held once the older chunk is committed, where its sphere is p
 abbrev pub goes_on : Numbers → Sphere → Option Occupant → Option Occupant

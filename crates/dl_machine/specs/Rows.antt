@@ -1,5 +1,6 @@
 -- The rows of cores and of spheres in code.
 use Rattle.std.specs.Prelude.{◌≡◌, ℕ, ◌≤◌, true, All, length, List, Option, slice_set, slice_index_or}
+use Rattle.spec_engine.specs.Flights.{at}
 use Rattle.spec_engine.specs.Signatures.{is_size}
 use Rattle.spec_protocol.specs.machine.Spheres.{Sphere, no_sphere}
 use Rattle.spec_protocol.specs.machine.World.{Occupant, Numbers}
@@ -30,6 +31,10 @@ pub record AreCores (capacity bits depth : ℕ) (row : List Core) : Type 0 where
 
 abbrev pub held_by : Core → Option Occupant
 held_by c = c.held
+
+-- core c
+abbrev pub core_in : Cores → (core : ℕ) → Core
+core_in r c = record { most = 4096; capacity = r.capacity; bits = r.bits; depth = r.depth; held = at r.held c }
 
 -- with this held by core c
 abbrev pub with_held : (core : ℕ) → Option Occupant → Cores → Cores

@@ -1,17 +1,19 @@
 //! One core.
-ghost use Rattle.std.specs.Prelude.{◌≡◌, ◌≤◌, Bool, true, Some, IfOk, IsSome, option_map};
+ghost use Rattle.std.specs.Prelude.{◌≡◌, ◌≤◌, true, Some, IfOk, IsSome, option_map, slice_get};
 ghost use Rattle.spec_engine.specs.Signatures.{is_size, nothing};
 ghost use Rattle.spec_engine.specs.Flights.{passes};
+ghost use Rattle.spec_protocol.specs.machine.Asking.{was_interrupted as interrupted_since};
 ghost use Rattle.spec_protocol.specs.machine.Flying.{squashed, squashed_younger, younger_of};
 ghost use Rattle.spec_protocol.specs.machine.World.{runs};
 ghost use Rattle.dl_chunk.specs.Pairs.{pair_cut, pair_step};
+ghost use Rattle.dl_machine.specs.Cores.{is_whole as is_whole_if, stays};
 
 use dl_chunk::{Chunk, CutReply, How, Pair, Stepped, Which};
 use dl_fly::Flights;
 use dl_mem::Memory;
 use dl_sig::Sig;
 use dl_sphere::Sphere;
-use dl_thread::ThreadStatus;
+use dl_thread::{Thread, ThreadStatus};
 use std::alloc::{AllocError, Global};
 use std::marker::Model;
 
@@ -119,14 +121,17 @@ impl<G: Sig> Core<G> {
         self.pair.squash(Which::Older);
     }
 
-    /// Whether no step runs its chunks, of which the older is closed, and none begins. No younger begins after a piece.
+    /// Whether no step runs one of its chunks, where the older is closed. In a replay a younger begins only after a whole chunk.
     pub(crate) fn waits(&self, replays: bool) -> bool
         requires { IsSome self.now.held }
         ensures { Some result ≡ option_map (waits self.now.depth replays) self.now.held }
     {
         match self.pair.younger() {
             Some(younger) => younger.closed().is_some(),
-            None => !self.pair.begins_younger() || replays && is_piece(self.pair.older().closed()),
+            None => {
+                let whole = is_whole(self.pair.older().closed());
+                !self.pair.begins_younger() || replays && !whole
+            }
         }
     }
 
@@ -226,9 +231,13 @@ impl<G: Sig> Core<G> {
 
     // Whether the younger chunk goes on: there is one, and its thread lives and was not interrupted since it began.
     fn keeps_younger(&self, of: &Sphere) -> bool
-        ensures { result ≡ keeps_younger (younger_of self.now.held) self.now.held of.now.sphere }
+        requires { IsSome self.now.held }
+        ensures { let threads = of.now.sphere.threads in
+            Some result ≡ option_map (λ h. stays h.younger (slice_get threads h.thread)) self.now.held }
     {
-        let (Some(younger), Some(state)) = (self.pair.younger(), of.threads().get(self.thread)) else {
+        let (Some(younger), Some(state)) =
+            (self.pair.younger(), of.threads().get(self.thread))
+        else {
             return false;
         };
         state.status() == ThreadStatus::Live && !was_interrupted(younger, state)
@@ -237,14 +246,17 @@ impl<G: Sig> Core<G> {
 
 // Whether the thread has taken an interrupt since a chunk of it began.
 fn was_interrupted<G: Sig>(chunk: &Chunk<G>, state: &Thread) -> bool
-    ensures { result ≡ was_interrupted chunk.now.chunk state.now }
+    ensures { result ≡ interrupted_since chunk.now.chunk state.now }
 {
     state.mask() && !chunk.start().mask()
 }
 
-// Whether a chunk that was closed so is a piece in a replay.
-fn is_piece(closed: Option<How>) -> bool
-    ensures { result ≡ not (may_follow true closed) ... }
+// Whether a chunk that was closed so has run up to its limit.
+fn is_whole(closed: Option<How>) -> bool
+    ensures { result ≡ is_whole_if closed }
 {
-    matches!(closed, Some(How::Overflow | How::Cut))
+    match closed {
+        Some(How::Limit) => true,
+        Some(How::Serial | How::Overflow | How::Cut) | None => false,
+    }
 }
