@@ -1,3 +1,4 @@
 pub mod Stores
 pub mod Seeing
 pub mod Engines
+pub mod Pairs

@@ -1,6 +1,6 @@
 -- What a chunk stores and marks: its words, over its sphere's memory, and the lines that it reads and stores to.
-use Rattle.std.specs.Prelude.{◌≡◌, ℕ, [], Option, Some, None}
-use Rattle.spec_isa.specs.Words.{Stored, put}
+use Rattle.std.specs.Prelude.{◌≡◌, ℕ, List, [], Option, Some, None}
+use Rattle.spec_isa.specs.Words.{Stored, IsBytes, lays, put}
 use Rattle.dl_wbuf.specs.Buffers.{Words}
 use Rattle.spec_engine.specs.Signatures.{Signature, nothing, insert, line}
 
@@ -29,6 +29,11 @@ with_written None n = n
 with_written (Some s) n =
     record n { words = record n.words { words = put n.words.words s }; writes = insert (line n.sphere s.number) n.writes }
 
--- both signatures have one size
-pub record AreNotes (sphere : ℕ) (reads writes : Signature) : Type 0 where
+-- laid over bytes, the words leave bytes
+pub record LeaveBytes (words : List Stored) : Type 0 where
+  pub each : (m : List ℕ) → IsBytes m → IsBytes (lays m words)
+
+-- both signatures have one size, and the words are of bytes
+pub record AreNotes (words : List Stored) (reads writes : Signature) : Type 0 where
   pub size : writes.bits ≡ reads.bits
+  pub bytes : LeaveBytes words

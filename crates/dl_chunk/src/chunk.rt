@@ -1,11 +1,13 @@
 //! The chunk of one core. `new` makes room for the loads and the words of the largest chunk; no other call takes memory.
-ghost use Rattle.std.specs.Prelude.{◌≡◌, ◌≤◌, ◌<◌, true, None, IfOk};
-ghost use Rattle.spec_engine.specs.Chunks.{cut, fresh, new_engine, squash, with_chunk};
+ghost use Rattle.std.specs.Prelude.{◌≡◌, ◌≤◌, ◌<◌, ◌/◌, ◌+◌, ◌^◌, true, None, IfOk};
+ghost use Rattle.spec_engine.specs.Chunks.{cut, fresh, is_open, new_engine, squash, with_chunk};
 ghost use Rattle.spec_engine.specs.Signatures.{is_size, nothing};
 
+use crate::base::Base;
 use crate::store::Store;
 use crate::view::run_one;
 use dl_fly::Flights;
+use dl_kernel::counted;
 use dl_mem::Memory;
 use dl_sig::Sig;
 use dl_thread::{Did, Load, Thread};
@@ -51,6 +53,10 @@ impl<G: Sig> Model for Chunk<G> {
 
 impl<G: Sig> Chunk<G> {
     ghost use Rattle.dl_chunk.specs.Engines.{restarted, stepped, with_ran};
+    ghost use Rattle.dl_chunk.specs.Pairs.{following};
+    ghost use Rattle.dl_chunk.specs.Stores.{LeaveBytes};
+    ghost use Rattle.spec_isa.specs.Masks.{over};
+    ghost use Rattle.spec_isa.specs.Words.{Apart};
     ghost use Rattle.spec_engine.specs.Chunks.{at_limit, closes};
 
     /// Room for chunks of `s` instructions and `c` words, each from 1 to 4,096, with signatures of `bits` bits, a power of two
@@ -93,6 +99,18 @@ impl<G: Sig> Chunk<G> {
         self.squashes = 0;
     }
 
+    // Begins the chunk that follows an older one of its thread, from the state that the older one's commit will leave.
+    pub(crate) fn follow(&mut self, older: &Chunk<G>, limit: u32)
+        requires least { 1 ≤ limit }
+        requires most { limit ≤ self.old.most }
+        requires bits { older.now.chunk.reads.bits ≡ self.old.chunk.reads.bits }
+        requires commits { older.now.chunk.done.thread.commits + 1 < 2 ^ 32 }
+        ensures { self.new ≡ with_chunk (following limit older.now.chunk) self.old }
+    {
+        let sphere = older.sphere();
+        self.begin(sphere, &counted(older.state()), limit, older.halves);
+    }
+
     /// Runs one instruction on the memory beside the flights, unless a flight that the core was told of holds it up or the
     /// chunk closes before it.
     pub fn step(&mut self, mem: &Memory, flights: &Flights<G>, core: u8) -> Stepped
@@ -101,7 +119,17 @@ impl<G: Sig> Chunk<G> {
         ensures chunk { let s = stepped mem.now flights.now.slots core self.old in
             self.new ≡ with_chunk s.chunk self.old }
     {
-        match run_one(&mut self.state, &mut self.store, mem, flights, core) {
+        self.step_over(mem, flights, core)
+    }
+
+    // Runs one instruction on the base, as `step` does on the memory.
+    pub(crate) fn step_over<B: Base>(&mut self, base: &B, flights: &Flights<G>, core: u8) -> Stepped
+        requires { self.old.chunk.closed ≡ None }
+        ensures reply { result ≡ (stepped (B.bytes base.now) flights.now.slots core self.old).reply }
+        ensures chunk { let s = stepped (B.bytes base.now) flights.now.slots core self.old in
+            self.new ≡ with_chunk s.chunk self.old }
+    {
+        match run_one(&mut self.state, &mut self.store, base, flights, core) {
             Did::Next(load) => self.ran(load),
             Did::Serial(_) => self.close(How::Serial),
             Did::NoRoom => self.close(How::Overflow),
@@ -138,6 +166,13 @@ impl<G: Sig> Chunk<G> {
             self.squashes = 0;
             self.limit = (self.limit / 2).max(1);
         }
+    }
+
+    /// The thread as it was where the chunk began.
+    pub fn start(&self) -> &Thread
+        ensures { result.now ≡ self.now.chunk.start }
+    {
+        &self.start
     }
 
     /// The thread as the chunk has it.
@@ -184,6 +219,13 @@ impl<G: Sig> Chunk<G> {
         self.closed
     }
 
+    // Whether it is not closed.
+    pub(crate) fn is_open(&self) -> bool
+        ensures { result ≡ is_open self.now.chunk }
+    {
+        self.closed.is_none()
+    }
+
     /// How many instructions the chunk may run, from 1 to 4,096.
     pub fn limit(&self) -> u32
         ensures value { result ≡ self.now.chunk.limit }
@@ -215,6 +257,16 @@ impl<G: Sig> Chunk<G> {
             self.new ≡ with_chunk (record self.old.chunk { writes = nothing bits }) self.old }
     {
         self.store.hand_over(writes)
+    }
+
+    // The word at an address as it is seen through the words stored, `below` being what lies below.
+    #[inline(always)]
+    pub(crate) fn over(&self, addr: u32, below: u32) -> u32
+        ensures value { result ≡ over self.now.chunk.done.words (addr / 4) below }
+        ensures apart { Apart self.now.chunk.done.words }
+        ensures bytes { LeaveBytes self.now.chunk.done.words }
+    {
+        self.store.over(addr, below)
     }
 
     // Begins at the start again.

@@ -1,8 +1,10 @@
-//! The chunk that a core runs: callers see it as a record of the definition, and each step as the definition's step over the
-//! memory and the flights that are handed in.
+//! The chunks that a core runs, one or two: callers see them as records of the definition, and each step as the definition's step
+//! over the memory and the flights that are handed in.
 #![tactic(auto)]
 
+mod base;
 pub mod chunk;
+pub mod pair;
 mod store;
 mod view;
 
@@ -12,4 +14,5 @@ pub use dl_mem::Memory;
 pub use dl_sig::Sig;
 pub use dl_thread::{Load, Thread};
 pub use dl_wbuf::Buffer;
+pub use pair::{Pair, Which};
 pub use spec_engine::answers::{CutReply, How, Stepped};

@@ -32,11 +32,11 @@ impl<G: Sig> Model for Store<G> {
 
     ghost view = { λ s. record { sphere = s.sphere; words = s.words; reads = G.marks s.reads; writes = G.marks s.writes } };
 
-    ghost invariant = { λ s. AreNotes s.sphere (G.marks s.reads) (G.marks s.writes) };
+    ghost invariant = { λ s. AreNotes s.words.words (G.marks s.reads) (G.marks s.writes) };
 }
 
 impl<G: Sig> Store<G> {
-    ghost use Rattle.dl_chunk.specs.Stores.{bare, emptied, with_read, with_written};
+    ghost use Rattle.dl_chunk.specs.Stores.{LeaveBytes, bare, emptied, with_read, with_written};
 
     // No word and no line, with room for `c` words.
     pub(crate) fn new(alloc: Global, c: u32, bits: u32) -> Result<Store<G>, AllocError>
@@ -85,6 +85,16 @@ impl<G: Sig> Store<G> {
         ensures { G.marks result.now ≡ self.now.writes }
     {
         &self.writes
+    }
+
+    // The word at an address as it is seen through the words stored, `below` being what lies below.
+    #[inline(always)]
+    pub(crate) fn over(&self, addr: u32, below: u32) -> u32
+        ensures value { result ≡ over self.now.words.words (addr / 4) below }
+        ensures apart { Apart self.now.words.words }
+        ensures bytes { LeaveBytes self.now.words.words }
+    {
+        self.words.over(addr, below)
     }
 
     // Gives up the lines stored to, for a signature of no line.

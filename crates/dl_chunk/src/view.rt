@@ -1,41 +1,41 @@
-//! A sphere's memory as a chunk on a core sees it: with the chunk's own words over it, and words held up by the flights that
-//! the core was told of.
+//! A base as a chunk on a core sees it: with the chunk's own words over it, and words held up by the flights that the core was
+//! told of.
 ghost use Rattle.std.specs.Prelude.{◌≡◌, Some};
 ghost use Rattle.dl_thread.specs.Answer.{after, did, thread_next};
 ghost use Rattle.dl_chunk.specs.Seeing.{left, shown};
 
+use crate::base::Base;
 use crate::store::Store;
 use dl_fly::Flights;
-use dl_mem::Memory;
 use dl_sig::Sig;
 use dl_thread::{Did, Full, Thread, View, one};
 
-// The memory and the flights, beside what the chunk stores and marks.
+// The base and the flights, beside what the chunk stores and marks.
 #[derive(Drop)]
-struct Seen<'a, G: Sig> {
-    memory: &'a Memory,
+struct Seen<'a, B: Base, G: Sig> {
+    base: &'a B,
     flights: &'a Flights<G>,
     core: u8,
     store: &'a mut Store<G>,
 }
 
-impl<'a, G: Sig> View for Seen<'a, G> {
+impl<'a, B: Base, G: Sig> View for Seen<'a, B, G> {
     ghost use Rattle.dl_chunk.specs.Stores.{with_read, with_written};
     ghost use Rattle.dl_chunk.specs.Seeing.{IsSame};
 
-    ghost sight = { λ v. shown v.memory.now v.flights.now.slots v.core v.store.now };
+    ghost sight = { λ v. shown (B.bytes v.base.now) v.flights.now.slots v.core v.store.now };
 
     ghost Read = { λ v a w.
-        IsSame v.memory.now w.memory.now v.flights.now w.flights.now v.core w.core v.store.ghost_name w.store.ghost_name
+        IsSame (B.bytes v.base.now) (B.bytes w.base.now) v.flights.now w.flights.now v.core w.core v.store.ghost_name w.store.ghost_name
         × (w.store.now ≡ with_read (Some a) v.store.now) };
 
     ghost Wrote = { λ v b w.
-        IsSame v.memory.now w.memory.now v.flights.now w.flights.now v.core w.core v.store.ghost_name w.store.ghost_name
+        IsSame (B.bytes v.base.now) (B.bytes w.base.now) v.flights.now w.flights.now v.core w.core v.store.ghost_name w.store.ghost_name
         × (w.store.now ≡ with_written (Some b) v.store.now) };
 
     #[tactic(auto, using(spec_isa::proofs::MemoryLaws::length_lays))]
     fn size(&self) -> u32 {
-        self.memory.size()
+        self.base.size()
     }
 
     #[inline(always)]
@@ -43,7 +43,7 @@ impl<'a, G: Sig> View for Seen<'a, G> {
         if let Some(flight) = self.flights.holder(self.core, self.store.line(addr)) {
             return Err(flight);
         }
-        let word = self.store.words().over(addr, self.memory.word(addr));
+        let word = self.store.over(addr, self.base.word(addr));
         self.store.note_read(addr);
         Ok(word)
     }
@@ -59,22 +59,22 @@ impl<'a, G: Sig> View for Seen<'a, G> {
     }
 }
 
-// One instruction of a thread over the memory, beside the flights, by what its chunk stores and marks.
-pub(crate) fn run_one<G: Sig>(
+// One instruction of a thread over the base, beside the flights, by what its chunk stores and marks.
+pub(crate) fn run_one<B: Base, G: Sig>(
     state: &mut Thread,
     store: &mut Store<G>,
-    memory: &Memory,
+    base: &B,
     flights: &Flights<G>,
     core: u8,
 ) -> Did
-    ensures did { result ≡ did (shown memory.now flights.now.slots core store.old) state.old }
-    ensures thread { let s = shown memory.now flights.now.slots core store.old in
+    ensures did { result ≡ did (shown (B.bytes base.now) flights.now.slots core store.old) state.old }
+    ensures thread { let s = shown (B.bytes base.now) flights.now.slots core store.old in
         state.new ≡ after result state.old (thread_next s state.old) }
-    ensures store { let s = shown memory.now flights.now.slots core store.old in
+    ensures store { let s = shown (B.bytes base.now) flights.now.slots core store.old in
         store.new ≡ left s state.old result store.old }
 {
     let mut seen = Seen {
-        memory,
+        base,
         flights,
         core,
         store,

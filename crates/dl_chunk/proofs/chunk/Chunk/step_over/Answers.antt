@@ -5,12 +5,12 @@ use Rattle.spec_engine.specs.declared.answers.Stepped.{Stepped}
 use Rattle.spec_engine.specs.Chunks.{Stepping, at_limit, closes}
 use Rattle.dl_chunk.specs.Engines.{Terms, Executed, chunk_of, with_ran}
 use Rattle.dl_chunk.proofs.Stepping.{step_next, step_serial, step_full, step_bounced, reply_is, engine_is}
-use Rattle.dl_chunk.proofs.chunk.Chunk.step.Goals as goal
+use Rattle.dl_chunk.proofs.chunk.Chunk.step_over.Goals as goal
 
 pub returns-in-Next-clause-reply : goal.returns-in-Next-clause-reply
 returns-in-Next-clause-reply g c =
     let x = c.self.inside in
-    let m = c.args.mem.now in
+    let m = g.B.Base.bytes c.args.base.now in
     let slots = c.args.flights.now.slots in
     let core = c.args.core in
     let t : Terms = record { start = x.start; limit = x.limit; halves = x.halves; squashes = x.squashes } in
@@ -27,7 +27,7 @@ returns-in-Next-clause-reply g c =
 pub returns-in-Next-clause-chunk : goal.returns-in-Next-clause-chunk
 returns-in-Next-clause-chunk g c =
     let x = c.self.inside in
-    let m = c.args.mem.now in
+    let m = g.B.Base.bytes c.args.base.now in
     let slots = c.args.flights.now.slots in
     let core = c.args.core in
     let t : Terms = record { start = x.start; limit = x.limit; halves = x.halves; squashes = x.squashes } in
@@ -44,7 +44,7 @@ returns-in-Next-clause-chunk g c =
 pub returns-in-Serial-clause-reply : goal.returns-in-Serial-clause-reply
 returns-in-Serial-clause-reply g c =
     let x = c.self.inside in
-    let m = c.args.mem.now in
+    let m = g.B.Base.bytes c.args.base.now in
     let slots = c.args.flights.now.slots in
     let core = c.args.core in
     let t : Terms = record { start = x.start; limit = x.limit; halves = x.halves; squashes = x.squashes } in
@@ -61,7 +61,7 @@ returns-in-Serial-clause-reply g c =
 pub returns-in-Serial-clause-chunk : goal.returns-in-Serial-clause-chunk
 returns-in-Serial-clause-chunk g c =
     let x = c.self.inside in
-    let m = c.args.mem.now in
+    let m = g.B.Base.bytes c.args.base.now in
     let slots = c.args.flights.now.slots in
     let core = c.args.core in
     let t : Terms = record { start = x.start; limit = x.limit; halves = x.halves; squashes = x.squashes } in
@@ -78,7 +78,7 @@ returns-in-Serial-clause-chunk g c =
 pub returns-in-NoRoom-clause-reply : goal.returns-in-NoRoom-clause-reply
 returns-in-NoRoom-clause-reply g c =
     let x = c.self.inside in
-    let m = c.args.mem.now in
+    let m = g.B.Base.bytes c.args.base.now in
     let slots = c.args.flights.now.slots in
     let core = c.args.core in
     let t : Terms = record { start = x.start; limit = x.limit; halves = x.halves; squashes = x.squashes } in
@@ -95,7 +95,7 @@ returns-in-NoRoom-clause-reply g c =
 pub returns-in-NoRoom-clause-chunk : goal.returns-in-NoRoom-clause-chunk
 returns-in-NoRoom-clause-chunk g c =
     let x = c.self.inside in
-    let m = c.args.mem.now in
+    let m = g.B.Base.bytes c.args.base.now in
     let slots = c.args.flights.now.slots in
     let core = c.args.core in
     let t : Terms = record { start = x.start; limit = x.limit; halves = x.halves; squashes = x.squashes } in
@@ -112,7 +112,7 @@ returns-in-NoRoom-clause-chunk g c =
 pub returns-in-Bounced-clause-reply : goal.returns-in-Bounced-clause-reply
 returns-in-Bounced-clause-reply g c =
     let x = c.self.inside in
-    let m = c.args.mem.now in
+    let m = g.B.Base.bytes c.args.base.now in
     let slots = c.args.flights.now.slots in
     let core = c.args.core in
     let t : Terms = record { start = x.start; limit = x.limit; halves = x.halves; squashes = x.squashes } in
@@ -129,7 +129,7 @@ returns-in-Bounced-clause-reply g c =
 pub returns-in-Bounced-clause-chunk : goal.returns-in-Bounced-clause-chunk
 returns-in-Bounced-clause-chunk g c =
     let x = c.self.inside in
-    let m = c.args.mem.now in
+    let m = g.B.Base.bytes c.args.base.now in
     let slots = c.args.flights.now.slots in
     let core = c.args.core in
     let t : Terms = record { start = x.start; limit = x.limit; halves = x.halves; squashes = x.squashes } in
