@@ -19,7 +19,7 @@ use spec_protocol::Reply;
 impl<G: Sig> State<G> {
     // The core runs one instruction.
     #[inline(always)]
-    #[tactic(auto, unfolding(spec_protocol::specs::machine::Stepping::stepping))]
+    #[tactic(auto, using(crate::proofs::Stepping::step_waits), unfolding(spec_protocol::specs::machine::Stepping::stepping))]
     pub(crate) fn step(&mut self, core: u8) -> Reply
         requires core { core < length self.old.cores }
         requires ready { IsReady self.old }
@@ -90,6 +90,17 @@ impl<G: Sig> State<G> {
         if self.spheres.get(held.sphere).stopped() {
             return Reply::Stopped;
         }
+        self.cut_chunk(core, held)
+    }
+
+    // The chunk that Cut speaks of is cut off.
+    fn cut_chunk(&mut self, core: u8, held: Held) -> Reply
+        requires core { core < length self.old.cores }
+        requires held { Holds self.old core held }
+        requires going { is_stopped (sphere_at self.old held.sphere).role ≡ false }
+        ensures reply { result ≡ (cutting self.old core).reply }
+        ensures world { self.new ≡ left (cutting self.old core) }
+    {
         let reply = self.cores.cut(core);
         reply_of_cut(reply)
     }
