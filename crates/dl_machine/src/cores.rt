@@ -161,8 +161,8 @@ impl<G: Sig> Cores<G> {
         requires core { core < length self.old.held }
         requires held { IsSome (at self.old.held core) }
         ensures reply { Some result ≡ option_map (λ h. (pair_cut (pair_in (core_in self.old core) h)).reply) (at self.old.held core) }
-        ensures core { let cut_off = λ h. with_pair h (pair_cut (pair_in (core_in self.old core) h)).pair in
-            self.new ≡ with_held core (option_map cut_off (at self.old.held core)) self.old }
+        ensures core { let c = core_in self.old core in
+            self.new ≡ with_held core (option_map (λ h. with_pair h (pair_cut (pair_in c h)).pair) (at self.old.held core)) self.old }
     {
         let core = &mut self.row[core as usize];
         core.cut()

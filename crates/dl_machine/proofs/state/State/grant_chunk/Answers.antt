@@ -83,7 +83,7 @@ returns-in-Granted-clause-world g c =
     let on : World → World = λ u. with_core u core (goes_on u.numbers (sphere_at u i) (at u.cores core)) in
     let done = grant_done x.cores x.spheres x.flights x.devices x.counts x.points.items core c.args.held c.commit_chunk.new.self c.in-Granted.words.words _ _ _ c.hand_over-writes.new.self within c.hand_over-writes.ensures.core c.in_ok-moved.ensures.others point in
     subst (λ (u : World). Some c.go_on.new.self ≡ option_map (λ h. left (grant_chunk u core h how)) (at u.cores core)) view
-    (ap (λ (u : World). Some u) (c.go_on.ensures ∙ ap on c.fly_from.ensures ∙ done ∙ ap (λ (goes : Option Occupant). with_grant w core c.args.held p c.in-Granted.words.words _ x.devices _ goes) (goes_as w.numbers p (at w.cores core) c.args.held held)) ∙ held_after left (λ h. grant_chunk w core h how) (at w.cores core) _ after)
+    (ap (λ (u : World). Some u) (c.go_on.ensures ∙ ap on c.fly_from.ensures ∙ done ∙ ap (λ (goes : Option Occupant). with_grant w core c.args.held p c.in-Granted.words.words (g.G.Sig.marks c.hand_over-writes.result) x.devices (point_in w c.args.held CommitKind.Chunk ch.done.n (is_short w.numbers.s how ch.limit)) goes) (goes_as w.numbers p (at w.cores core) c.args.held held)) ∙ held_after left (λ h. grant_chunk w core h how) (at w.cores core) _ after)
 
 pub returns-in-Piece-clause-reply : goal.returns-in-Piece-clause-reply
 returns-in-Piece-clause-reply g c =
@@ -126,7 +126,7 @@ returns-in-Piece-clause-world g c =
     let on : World → World = λ u. with_core u core (goes_on u.numbers (sphere_at u i) (at u.cores core)) in
     let done = grant_done x.cores x.spheres x.flights x.devices x.counts x.points.items core c.args.held c.commit_chunk.new.self c.in-Piece.words.words _ _ _ c.hand_over-writes-in-Piece.new.self within c.hand_over-writes-in-Piece.ensures.core c.in_ok-moved.ensures.others point in
     subst (λ (u : World). Some c.go_on-in-Piece.new.self ≡ option_map (λ h. left (grant_chunk u core h how)) (at u.cores core)) view
-    (ap (λ (u : World). Some u) (c.go_on-in-Piece.ensures ∙ ap on c.fly_from-in-Piece.ensures ∙ done ∙ ap (λ (goes : Option Occupant). with_grant w core c.args.held p c.in-Piece.words.words _ x.devices _ goes) (goes_as w.numbers p (at w.cores core) c.args.held held)) ∙ held_after left (λ h. grant_chunk w core h how) (at w.cores core) _ after)
+    (ap (λ (u : World). Some u) (c.go_on-in-Piece.ensures ∙ ap on c.fly_from-in-Piece.ensures ∙ done ∙ ap (λ (goes : Option Occupant). with_grant w core c.args.held p c.in-Piece.words.words (g.G.Sig.marks c.hand_over-writes-in-Piece.result) x.devices (point_in w c.args.held CommitKind.Piece ch.done.n (is_short w.numbers.s how ch.limit)) goes) (goes_as w.numbers p (at w.cores core) c.args.held held)) ∙ held_after left (λ h. grant_chunk w core h how) (at w.cores core) _ after)
 
 pub returns-in-Diverged-clause-reply : goal.returns-in-Diverged-clause-reply
 returns-in-Diverged-clause-reply g c =
