@@ -1,33 +1,40 @@
 -- The rows of cores and of spheres in code.
 use Rattle.std.specs.Prelude.{◌≡◌, ℕ, ◌≤◌, true, All, length, List, Option, slice_set, slice_index_or}
+use Rattle.spec_engine.specs.Flights.{at}
 use Rattle.spec_engine.specs.Signatures.{is_size}
 use Rattle.spec_protocol.specs.machine.Spheres.{Sphere, no_sphere}
 use Rattle.spec_protocol.specs.machine.World.{Occupant, Numbers}
 use Rattle.dl_sphere.specs.SizedSpheres.{SizedSphere}
 use Rattle.dl_machine.specs.Cores.{Core}
 
--- the words that a buffer holds, the bits of a signature, and what each core holds
+-- the words that a buffer holds, the bits of a signature, how many chunks a core may have, and what each core holds
 pub record Cores : Type 0 where
   pub capacity : ℕ
   pub bits : ℕ
+  pub depth : ℕ
   pub held : List (Option Occupant)
 
 -- the cores are alike
-pub record IsAlike (words lines : ℕ) (c : Core) : Type 0 where
+pub record IsAlike (words lines depth : ℕ) (c : Core) : Type 0 where
   pub most : c.most ≡ 4096
   pub capacity : c.capacity ≡ words
   pub bits : c.bits ≡ lines
+  pub depth : c.depth ≡ depth
 
-pub record AreCores (capacity bits : ℕ) (row : List Core) : Type 0 where
+pub record AreCores (capacity bits depth : ℕ) (row : List Core) : Type 0 where
   pub some_core : 1 ≤ length row
   pub most_cores : length row ≤ 8
   pub least : 1 ≤ capacity
   pub most : capacity ≤ 4096
   pub size : is_size bits ≡ true
-  pub each : All (IsAlike capacity bits) row
+  pub each : All (IsAlike capacity bits depth) row
 
 abbrev pub held_by : Core → Option Occupant
 held_by c = c.held
+
+-- core c
+abbrev pub core_in : Cores → (core : ℕ) → Core
+core_in r c = record { most = 4096; capacity = r.capacity; bits = r.bits; depth = r.depth; held = at r.held c }
 
 -- with this held by core c
 abbrev pub with_held : (core : ℕ) → Option Occupant → Cores → Cores
@@ -58,4 +65,4 @@ with_nth i p r = record r { spheres = slice_set r.spheres i p }
 
 -- the numbers of the cores and a sphere
 abbrev pub numbers_in : Cores → SizedSphere → Numbers
-numbers_in r p = record { s = p.s; capacity = r.capacity; bits = r.bits }
+numbers_in r p = record { s = p.s; capacity = r.capacity; bits = r.bits; depth = r.depth }

@@ -16,7 +16,7 @@ setup_in s =
     record {
       cores = s.cores;
       window = s.window;
-      numbers = record { s = s.s; capacity = s.capacity; bits = s.bits };
+      numbers = record { s = s.s; capacity = s.capacity; bits = s.bits; depth = s.depth };
       seed = s.seed;
       input = s.input;
       spheres = map setup_of s.spheres;
@@ -31,10 +31,12 @@ pub record IsWithin (s : Setup) : Type 0 where
   pub least : 1 ≤ s.capacity
   pub most : s.capacity ≤ 4096
   pub signature : is_size s.bits ≡ true
+  pub depth : 1 ≤ s.depth
+  pub most_depth : s.depth ≤ 2
 
 -- the numbers of a setup whose spheres are made
 abbrev pub numbers_with : Setup → Spheres → Numbers
-numbers_with s r = record { s = r.s; capacity = s.capacity; bits = s.bits }
+numbers_with s r = record { s = r.s; capacity = s.capacity; bits = s.bits; depth = s.depth }
 
 -- what core i holds at first: thread 0 of its own sphere, if there is one
 abbrev pub first_held : Numbers → (i : ℕ) → Option Sphere → Option Occupant

@@ -12,7 +12,7 @@ use Rattle.dl_machine.specs.Rows.{Cores, Spheres}
 abbrev pub world_in : Cores → Spheres → Flights → Devices → Counts → List Point → World
 world_in cores spheres flights devices counts points =
     record {
-      numbers = record { s = spheres.s; capacity = cores.capacity; bits = cores.bits };
+      numbers = record { s = spheres.s; capacity = cores.capacity; bits = cores.bits; depth = cores.depth };
       spheres = spheres.spheres;
       slots = flights.slots;
       cores = cores.held;

@@ -1,10 +1,11 @@
 //! The event Ask: a closed chunk is to be committed, or a serial step to be done.
-ghost use Rattle.std.specs.Prelude.{◌≡◌, ◌<◌, ◌^◌, None, Some, true, false, length, option_map, slice_set, IfOk, OnErr, OnOk};
+ghost use Rattle.std.specs.Prelude.{◌≡◌, ◌<◌, ◌^◌, None, Some, true, false, length, option_map, IfOk, IsSome, OnErr, OnOk};
 ghost use Rattle.spec_engine.specs.Flights.{at, is_full};
 ghost use Rattle.spec_engine.specs.Signatures.{line, signed};
 ghost use Rattle.spec_protocol.specs.machine.Asking.{ask_arbiter, asking, asks_serial, grant_chunk, grant_serial, is_short as short_of};
 ghost use Rattle.spec_protocol.specs.machine.Spheres.{is_stopped, turn_against as turn_before};
-ghost use Rattle.spec_protocol.specs.machine.World.{flown, held_afresh, sphere_at};
+ghost use Rattle.spec_protocol.specs.machine.World.{flown, sphere_at, with_core};
+ghost use Rattle.dl_machine.specs.Cores.{goes_on};
 ghost use Rattle.dl_machine.specs.Events.{passes_checks};
 ghost use Rattle.dl_machine.specs.Held.{IsOf};
 ghost use Rattle.dl_machine.specs.Ready.{HasRoom, IsReady};
@@ -38,7 +39,7 @@ impl<G: Sig> State<G> {
         let Some(held) = self.held(core) else {
             return Ok(Reply::Idle);
         };
-        let Some(how) = self.cores.chunk(core).closed() else {
+        let Some(how) = self.cores.older(core).closed() else {
             return Ok(Reply::NotClosed);
         };
         let sphere = self.spheres.get(held.sphere);
@@ -80,7 +81,7 @@ impl<G: Sig> State<G> {
             }
             return self.grant_serial(core, held);
         }
-        let chunk = self.cores.chunk(core);
+        let chunk = self.cores.older(core);
         if let Asked::Denied(k) = ask(chunk.reads(), chunk.writes(), &self.flights) {
             return Ok(Reply::Denied(k));
         }
@@ -98,7 +99,7 @@ impl<G: Sig> State<G> {
             Some result ≡ option_map (λ h. asks_serial h.chunk role) (at self.now.cores core) }
     {
         how == How::Serial
-            && self.cores.chunk(core).n() == 0
+            && self.cores.older(core).n() == 0
             && !self.spheres.get(held.sphere).in_pieces()
     }
 
@@ -122,7 +123,7 @@ impl<G: Sig> State<G> {
     {
         self.points.reserve(1)?;
         let empty = G::empty(self.alloc, self.cores.bits())?;
-        let chunk = self.cores.chunk(core);
+        let chunk = self.cores.older(core);
         let (n, limit) = (chunk.n(), chunk.limit());
         let short = is_short(self.spheres.s(), how, limit);
         let moment = self.counts.events;
@@ -132,14 +133,16 @@ impl<G: Sig> State<G> {
                 self.points
                     .push_reserved(point_of(moment, held, CommitKind::Chunk, n, short));
                 let writes = self.cores.hand_over(core, empty);
-                self.go_on(core, held, words, writes);
+                self.fly_from(core, held.sphere, words, writes);
+                self.go_on(core, held.sphere);
                 Ok(Reply::Granted)
             }
             Moved::Piece(words) => {
                 self.points
                     .push_reserved(point_of(moment, held, CommitKind::Piece, n, short));
                 let writes = self.cores.hand_over(core, empty);
-                self.go_on(core, held, words, writes);
+                self.fly_from(core, held.sphere, words, writes);
+                self.go_on(core, held.sphere);
                 Ok(Reply::Piece)
             }
             Moved::Diverged(commits, why) => Ok(Reply::Diverged(commits, why)),
@@ -173,7 +176,8 @@ impl<G: Sig> State<G> {
                 sign(&mut writes, held.sphere, &words);
                 self.points
                     .push_reserved(point_of(moment, held, CommitKind::Serial, 0, false));
-                self.go_on(core, held, words, writes);
+                self.fly_from(core, held.sphere, words, writes);
+                self.begin(core, held.sphere, held.thread);
                 Ok(Reply::Granted)
             }
             Moved::Piece(_) => unreachable!(),
@@ -181,24 +185,32 @@ impl<G: Sig> State<G> {
         }
     }
 
-    // The words fly, and the core, which is told, goes on with its thread as it is now.
-    fn go_on(&mut self, core: u8, held: Held, words: Buffer, writes: G)
-        requires core { core < length self.old.cores }
+    // The words of the core's commit fly, of which it is told.
+    fn fly_from(&mut self, core: u8, sphere: u8, words: Buffer, writes: G)
         requires few { core < 8 }
-        requires sphere { held.sphere < length self.old.spheres }
         requires window { is_full self.old.slots ≡ false }
         ensures { let w = self.old in self.new ≡ record w {
-          slots = flown held.sphere words.words (G.marks writes) (2 ^ core) w.slots;
-          cores = slice_set w.cores core (held_afresh w.numbers held.sphere held.thread (sphere_at w held.sphere));
+          slots = flown sphere words.words (G.marks writes) (2 ^ core) w.slots;
         } }
     {
         self.fly(Flight {
-            sphere: held.sphere,
+            sphere,
             words,
             writes,
             told: 1 << core,
         });
-        self.begin(core, held.sphere, held.thread);
+    }
+
+    // The core goes on once its older chunk is committed.
+    fn go_on(&mut self, core: u8, sphere: u8)
+        requires core { core < length self.old.cores }
+        requires held { IsSome (at self.old.cores core) }
+        requires sphere { sphere < length self.old.spheres }
+        ensures { let w = self.old in
+            self.new ≡ with_core w core (goes_on w.numbers (sphere_at w sphere) (at w.cores core)) }
+    {
+        let of = self.spheres.get(sphere);
+        self.cores.go_on(core, of);
     }
 }
 

@@ -1,12 +1,12 @@
 //! The row of cores.
 ghost use Rattle.std.specs.Prelude.{◌≡◌, ◌≤◌, ◌<◌, true, None, Some, IfOk, IfSome, IsSome, length, option_map, slice_get};
 ghost use Rattle.std.specs.List.{position};
-ghost use Rattle.spec_engine.specs.Chunks.{cut, step};
 ghost use Rattle.spec_engine.specs.Flights.{at, first_slot, passes};
 ghost use Rattle.spec_engine.specs.Signatures.{is_size, nothing};
-ghost use Rattle.spec_protocol.specs.machine.Flying.{squashed};
+ghost use Rattle.spec_protocol.specs.machine.Flying.{squashed, squashed_younger, younger_of};
 ghost use Rattle.spec_protocol.specs.machine.Machine.{first_cores};
 ghost use Rattle.spec_protocol.specs.machine.World.{held_afresh, runs};
+ghost use Rattle.dl_chunk.specs.Pairs.{pair_cut, pair_step};
 ghost use Rattle.dl_machine.specs.Cores.{holding, idle};
 ghost use Rattle.dl_machine.specs.Setups.{IsWithin, first_held, numbers_with};
 
@@ -21,11 +21,13 @@ use dl_sphere::Sphere;
 use std::alloc::{AllocError, Global};
 use std::marker::Model;
 
-// From 1 to 8 cores, which are alike: their chunks may store `capacity` words, and have signatures of `bits` bits.
+// From 1 to 8 cores, which are alike: each may have `depth` chunks, which may store `capacity` words each and have signatures of
+// `bits` bits.
 #[derive(Drop)]
 pub(crate) struct Cores<G: Sig> {
     capacity: u32,
     bits: u32,
+    depth: u8,
     row: Vec<Core<G>>,
 }
 
@@ -39,14 +41,14 @@ impl<G: Sig> Model for Cores<G> {
 
     ghost coded = { Prim.hlevel (codes, places_code) };
 
-    ghost view = { λ c. record { capacity = c.capacity; bits = c.bits; held = map held_by c.row.items } };
+    ghost view = { λ c. record { capacity = c.capacity; bits = c.bits; depth = c.depth; held = map held_by c.row.items } };
 
-    ghost invariant = { λ c. AreCores c.capacity c.bits c.row.items };
+    ghost invariant = { λ c. AreCores c.capacity c.bits c.depth c.row.items };
 }
 
 impl<G: Sig> Cores<G> {
-    ghost use Rattle.dl_machine.specs.Cores.{IsOpen, reads_in, seen, to_chunk, writes_in};
-    ghost use Rattle.dl_machine.specs.Rows.{numbers_in, with_held};
+    ghost use Rattle.dl_machine.specs.Cores.{CanStepHeld, given_up, goes_on, pair_in, reads_in, seen, waits, with_pair, writes_in};
+    ghost use Rattle.dl_machine.specs.Rows.{core_in, numbers_in, with_held};
 
     /// The cores of a setup, each with thread 0 of its own sphere, or idle where there is none.
     pub(crate) fn new(
@@ -56,7 +58,7 @@ impl<G: Sig> Cores<G> {
     ) -> Result<Cores<G>, AllocError>
         requires { IsWithin setup.now }
         ensures { let z = numbers_with setup.now spheres.now in
-            IfOk result (λ c. c ≡ record { capacity = setup.now.capacity; bits = setup.now.bits; held = first_cores z 0 setup.now.cores spheres.now.spheres }) }
+            IfOk result (λ c. c ≡ record { capacity = setup.now.capacity; bits = setup.now.bits; depth = setup.now.depth; held = first_cores z 0 setup.now.cores spheres.now.spheres }) }
     {
         let mut row = Vec::with_capacity(alloc, setup.cores as usize)?;
         for core in 0..setup.cores {
@@ -65,6 +67,7 @@ impl<G: Sig> Cores<G> {
         Ok(Cores {
             capacity: setup.capacity,
             bits: setup.bits,
+            depth: setup.depth,
             row,
         })
     }
@@ -125,32 +128,47 @@ impl<G: Sig> Cores<G> {
         core.rest();
     }
 
-    /// A core runs one instruction of its chunk.
-    pub(crate) fn step(&mut self, core: u8, memory: &Memory, flights: &Flights<G>) -> Stepped
-        requires core { core < length self.old.held }
-        requires open { IsOpen (at self.old.held core) }
-        ensures reply { let f = step self.old.capacity memory.now flights.now.slots core in
-            Some result ≡ option_map (λ h. (f h.chunk).reply) (at self.old.held core) }
-        ensures core { let f = step self.old.capacity memory.now flights.now.slots core in
-            self.new ≡ with_held core (option_map (to_chunk (λ ch. (f ch).chunk)) (at self.old.held core)) self.old }
+    /// Whether no step runs a chunk of a core, whose older one is closed. No younger begins after a piece of a replayed commit.
+    pub(crate) fn waits(&self, core: u8, replays: bool) -> bool
+        requires core { core < length self.now.held }
+        requires held { IsSome (at self.now.held core) }
+        ensures { Some result ≡ option_map (waits self.now.depth replays) (at self.now.held core) }
     {
-        let runner = &mut self.row[core as usize];
-        runner.step(memory, flights, core)
+        self.row[core as usize].waits(replays)
     }
 
-    /// A core's chunk is cut off.
+    /// A core runs one instruction of a chunk. A younger chunk that begins for that has this limit.
+    pub(crate) fn step(
+        &mut self,
+        core: u8,
+        memory: &Memory,
+        flights: &Flights<G>,
+        limit: u32,
+    ) -> Stepped
+        requires core { core < length self.old.held }
+        requires runs { CanStepHeld limit (core_in self.old core) (at self.old.held core) }
+        ensures reply { let f = pair_step memory.now flights.now.slots core limit in
+            Some result ≡ option_map (λ h. (f (pair_in (core_in self.old core) h)).reply) (at self.old.held core) }
+        ensures core { let f = pair_step memory.now flights.now.slots core limit in
+            self.new ≡ with_held core (option_map (λ h. with_pair h (f (pair_in (core_in self.old core) h)).pair) (at self.old.held core)) self.old }
+    {
+        let runner = &mut self.row[core as usize];
+        runner.step(memory, flights, core, limit)
+    }
+
+    /// A core's younger chunk is cut off, or the older where there is no younger.
     pub(crate) fn cut(&mut self, core: u8) -> CutReply
         requires core { core < length self.old.held }
         requires held { IsSome (at self.old.held core) }
-        ensures reply { Some result ≡ option_map (λ h. (cut h.chunk).reply) (at self.old.held core) }
-        ensures core { let cut_off = to_chunk (λ ch. (cut ch).chunk) in
+        ensures reply { Some result ≡ option_map (λ h. (pair_cut (pair_in (core_in self.old core) h)).reply) (at self.old.held core) }
+        ensures core { let cut_off = λ h. with_pair h (pair_cut (pair_in (core_in self.old core) h)).pair in
             self.new ≡ with_held core (option_map cut_off (at self.old.held core)) self.old }
     {
         let core = &mut self.row[core as usize];
         core.cut()
     }
 
-    /// A core's chunk begins again, if it isn't idle.
+    /// A core's older chunk begins again, and the younger is abandoned, if it isn't idle.
     pub(crate) fn squash(&mut self, core: u8)
         requires { core < length self.old.held }
         ensures { self.new ≡ with_held core (squashed (at self.old.held core)) self.old }
@@ -159,16 +177,34 @@ impl<G: Sig> Cores<G> {
         core.squash();
     }
 
-    /// The chunk that a core holds.
-    pub(crate) fn chunk(&self, core: u8) -> &Chunk<G>
+    /// A core's younger chunk alone begins again.
+    pub(crate) fn squash_younger(&mut self, core: u8)
+        requires core { core < length self.old.held }
+        requires younger { IsSome (younger_of (at self.old.held core)) }
+        ensures { self.new ≡ with_held core (squashed_younger (at self.old.held core)) self.old }
+    {
+        let core = &mut self.row[core as usize];
+        core.squash_younger();
+    }
+
+    /// The older chunk that a core holds.
+    pub(crate) fn older(&self, core: u8) -> &Chunk<G>
         requires core { core < length self.now.held }
         requires held { IsSome (at self.now.held core) }
         ensures { Some result.now.chunk ≡ option_map (λ h. h.chunk) (at self.now.held core) }
     {
-        self.row[core as usize].chunk()
+        self.row[core as usize].older()
     }
 
-    /// The lines that a core's chunk has read.
+    /// The younger chunk that a core holds, if there is one.
+    pub(crate) fn younger(&self, core: u8) -> Option<&Chunk<G>>
+        requires { core < length self.now.held }
+        ensures { option_map (λ e. e.now.chunk) result ≡ younger_of (at self.now.held core) }
+    {
+        self.row[core as usize].younger()
+    }
+
+    /// The lines that a core's older chunk has read.
     pub(crate) fn reads(&self, core: u8) -> &G
         requires { core < length self.now.held }
         ensures { G.marks result.now ≡ reads_in self.now.bits (at self.now.held core) }
@@ -176,7 +212,7 @@ impl<G: Sig> Cores<G> {
         self.row[core as usize].reads()
     }
 
-    /// The lines that a core's chunk has stored to.
+    /// The lines that a core's older chunk has stored to.
     pub(crate) fn writes(&self, core: u8) -> &G
         requires { core < length self.now.held }
         ensures { G.marks result.now ≡ writes_in self.now.bits (at self.now.held core) }
@@ -184,15 +220,26 @@ impl<G: Sig> Cores<G> {
         self.row[core as usize].writes()
     }
 
-    /// A core gives up the lines that its chunk has stored to, and is idle.
+    /// A core gives up the lines that its older chunk has stored to.
     pub(crate) fn hand_over(&mut self, core: u8, writes: G) -> G
         requires core { core < length self.old.held }
         requires empty { G.marks writes ≡ nothing self.old.bits }
         ensures given { G.marks result ≡ writes_in self.old.bits (at self.old.held core) }
-        ensures core { self.new ≡ with_held core None self.old }
+        ensures core { self.new ≡ with_held core (option_map given_up (at self.old.held core)) self.old }
     {
         let core = &mut self.row[core as usize];
         core.hand_over(writes)
+    }
+
+    /// A core goes on once its older chunk is committed, which left its sphere as it is now.
+    pub(crate) fn go_on(&mut self, core: u8, of: &Sphere)
+        requires core { core < length self.old.held }
+        requires held { IsSome (at self.old.held core) }
+        ensures { let z = numbers_in self.old of.now in
+            self.new ≡ with_held core (goes_on z of.now.sphere (at self.old.held core)) self.old }
+    {
+        let core = &mut self.row[core as usize];
+        core.go_on(of);
     }
 }
 
@@ -205,9 +252,9 @@ fn first<G: Sig>(
 ) -> Result<Core<G>, AllocError>
     requires { IsWithin setup.now }
     ensures { let z = numbers_with setup.now spheres.now in
-        IfOk result (λ c. c ≡ holding (first_held z core (slice_get spheres.now.spheres core)) (idle 4096 setup.now.capacity setup.now.bits)) }
+        IfOk result (λ c. c ≡ holding (first_held z core (slice_get spheres.now.spheres core)) (idle 4096 setup.now.capacity setup.now.bits setup.now.depth)) }
 {
-    let mut made = Core::new(alloc, setup.capacity, setup.bits)?;
+    let mut made = Core::new(alloc, setup.capacity, setup.bits, setup.depth)?;
     if core < spheres.len() {
         made.begin(core, 0, spheres.get(core));
     }

@@ -1,24 +1,26 @@
 //! One core.
-ghost use Rattle.std.specs.Prelude.{◌≡◌, ◌≤◌, true, Some, IfOk, IsSome, option_map};
-ghost use Rattle.spec_engine.specs.Chunks.{cut, step};
+ghost use Rattle.std.specs.Prelude.{◌≡◌, ◌≤◌, true, Some, IfOk, IsSome, option_map, slice_get};
 ghost use Rattle.spec_engine.specs.Signatures.{is_size, nothing};
 ghost use Rattle.spec_engine.specs.Flights.{passes};
-ghost use Rattle.spec_protocol.specs.machine.Flying.{squashed};
+ghost use Rattle.spec_protocol.specs.machine.Asking.{was_interrupted as interrupted_since};
+ghost use Rattle.spec_protocol.specs.machine.Flying.{squashed, squashed_younger, younger_of};
 ghost use Rattle.spec_protocol.specs.machine.World.{runs};
+ghost use Rattle.dl_chunk.specs.Pairs.{pair_cut, pair_step};
+ghost use Rattle.dl_machine.specs.Cores.{is_whole as is_whole_if, stays};
 
-use dl_chunk::{Chunk, CutReply, Stepped};
+use dl_chunk::{Chunk, CutReply, How, Pair, Stepped, Which};
 use dl_fly::Flights;
 use dl_mem::Memory;
 use dl_sig::Sig;
 use dl_sphere::Sphere;
-use dl_thread::ThreadStatus;
+use dl_thread::{Thread, ThreadStatus};
 use std::alloc::{AllocError, Global};
 use std::marker::Model;
 
 // The most instructions that any chunk may run.
 const MOST: u32 = 4096;
 
-/// What a core holds that isn't idle: a sphere's thread, and whether its chunk is closed.
+/// What a core holds that isn't idle: a sphere's thread, and whether its older chunk is closed.
 #[derive(Clone, Copy, Debug, PartialEq, Eq)]
 pub struct Held {
     pub sphere: u8,
@@ -26,12 +28,12 @@ pub struct Held {
     pub closed: bool,
 }
 
-/// A core, which keeps its chunk's buffers while it is idle.
+/// A core, which keeps its chunks' buffers while it is idle.
 #[derive(Drop)]
 pub(crate) struct Core<G: Sig> {
     busy: bool,
     thread: u8,
-    chunk: Chunk<G>,
+    pair: Pair<G>,
 }
 
 impl<G: Sig> Model for Core<G> {
@@ -43,25 +45,32 @@ impl<G: Sig> Model for Core<G> {
 
     ghost coded = { Prim.hlevel (codes, places_code) };
 
-    ghost view = { λ c. core_of c.busy c.thread c.chunk };
+    ghost view = { λ c. core_of c.busy c.thread c.pair };
 
-    ghost invariant = { λ c. IsAtRest c.busy c.chunk.chunk };
+    ghost invariant = { λ c. IsAtRest c.busy c.pair };
 }
 
 impl<G: Sig> Core<G> {
-    ghost use Rattle.dl_machine.specs.Cores.{IsOpen, afresh, holding, idle, reads_in, seen, to_chunk, writes_in};
+    ghost use Rattle.dl_machine.specs.Cores.{CanStepHeld, afresh, given_up, goes_on, holding, idle, numbers_of, pair_in, reads_in, seen, waits, with_pair, writes_in};
 
-    /// An idle core, whose chunks may store `capacity` words.
-    pub(crate) fn new(alloc: Global, capacity: u32, bits: u32) -> Result<Core<G>, AllocError>
+    /// An idle core, which may have `depth` chunks that store `capacity` words each.
+    pub(crate) fn new(
+        alloc: Global,
+        capacity: u32,
+        bits: u32,
+        depth: u8,
+    ) -> Result<Core<G>, AllocError>
         requires least { 1 ≤ capacity }
         requires most { capacity ≤ 4096 }
         requires bits { is_size bits ≡ true }
-        ensures { IfOk result (λ c. c ≡ idle 4096 capacity bits) }
+        requires some_chunk { 1 ≤ depth }
+        requires most_chunks { depth ≤ 2 }
+        ensures { IfOk result (λ c. c ≡ idle 4096 capacity bits depth) }
     {
         Ok(Core {
             busy: false,
             thread: 0,
-            chunk: Chunk::new(alloc, MOST, capacity, bits)?,
+            pair: Pair::new(alloc, MOST, capacity, bits, depth)?,
         })
     }
 
@@ -72,10 +81,11 @@ impl<G: Sig> Core<G> {
         if !self.busy {
             return None;
         }
+        let older = self.pair.older();
         Some(Held {
-            sphere: self.chunk.sphere(),
+            sphere: older.sphere(),
             thread: self.thread,
-            closed: self.chunk.closed().is_some(),
+            closed: older.closed().is_some(),
         })
     }
 
@@ -83,7 +93,7 @@ impl<G: Sig> Core<G> {
     pub(crate) fn runs(&self, sphere: u8, thread: u8) -> bool
         ensures { result ≡ passes (runs sphere thread) self.now.held }
     {
-        self.busy && self.chunk.sphere() == sphere && self.thread == thread
+        self.busy && self.pair.older().sphere() == sphere && self.thread == thread
     }
 
     /// Goes on with thread `thread` of a sphere as it is now, by a chunk of its own, or rests where there is no such live thread.
@@ -99,8 +109,8 @@ impl<G: Sig> Core<G> {
         }
         self.busy = true;
         self.thread = thread;
-        self.chunk
-            .begin(sphere, state, of.limit(thread), of.halves());
+        self.pair
+            .begin(sphere, state, of.limit(thread, false), of.halves());
     }
 
     /// Abandons what it holds.
@@ -108,67 +118,145 @@ impl<G: Sig> Core<G> {
         ensures { self.new ≡ holding None self.old }
     {
         self.busy = false;
-        self.chunk.squash();
+        self.pair.squash(Which::Older);
     }
 
-    /// Runs one instruction of its chunk, as the core of that number.
-    #[tactic(auto, using(crate::proofs::Signatures::SameSize::step_bits))]
-    pub(crate) fn step(&mut self, memory: &Memory, flights: &Flights<G>, core: u8) -> Stepped
-        requires { IsOpen self.old.held }
-        ensures reply { let f = step self.old.capacity memory.now flights.now.slots core in
-            Some result ≡ option_map (λ h. (f h.chunk).reply) self.old.held }
-        ensures core { let f = step self.old.capacity memory.now flights.now.slots core in
-            self.new ≡ holding (option_map (to_chunk (λ ch. (f ch).chunk)) self.old.held) self.old }
+    /// Whether no step runs one of its chunks, where the older is closed. In a replay a younger begins only after a whole chunk.
+    pub(crate) fn waits(&self, replays: bool) -> bool
+        requires { IsSome self.now.held }
+        ensures { Some result ≡ option_map (waits self.now.depth replays) self.now.held }
     {
-        self.chunk.step(memory, flights, core)
+        match self.pair.younger() {
+            Some(younger) => younger.closed().is_some(),
+            None => {
+                let whole = is_whole(self.pair.older().closed());
+                !self.pair.begins_younger() || replays && !whole
+            }
+        }
     }
 
-    /// Cuts its chunk off.
+    /// Runs one instruction of a chunk, as the core of that number. A younger chunk that begins for that has this limit.
+    pub(crate) fn step(
+        &mut self,
+        memory: &Memory,
+        flights: &Flights<G>,
+        core: u8,
+        limit: u32,
+    ) -> Stepped
+        requires { CanStepHeld limit self.old self.old.held }
+        ensures reply { let f = pair_step memory.now flights.now.slots core limit in
+            Some result ≡ option_map (λ h. (f (pair_in self.old h)).reply) self.old.held }
+        ensures core { let f = pair_step memory.now flights.now.slots core limit in
+            self.new ≡ holding (option_map (λ h. with_pair h (f (pair_in self.old h)).pair) self.old.held) self.old }
+    {
+        self.pair.step(memory, flights, core, limit)
+    }
+
+    /// Cuts off its younger chunk, or the older where there is no younger.
     pub(crate) fn cut(&mut self) -> CutReply
         requires { IsSome self.old.held }
-        ensures reply { Some result ≡ option_map (λ h. (cut h.chunk).reply) self.old.held }
-        ensures core { self.new ≡ holding (option_map (to_chunk (λ ch. (cut ch).chunk)) self.old.held) self.old }
+        ensures reply { Some result ≡ option_map (λ h. (pair_cut (pair_in self.old h)).reply) self.old.held }
+        ensures core { self.new ≡ holding (option_map (λ h. with_pair h (pair_cut (pair_in self.old h)).pair) self.old.held) self.old }
     {
-        self.chunk.cut()
+        self.pair.cut()
     }
 
-    /// Puts its chunk back to where it began, if it isn't idle.
+    /// Puts its older chunk back to where it began, and abandons the younger, if it isn't idle.
     pub(crate) fn squash(&mut self)
         ensures { self.new ≡ holding (squashed self.old.held) self.old }
     {
-        self.chunk.squash();
+        self.pair.squash(Which::Older);
     }
 
-    /// The chunk that it holds.
-    pub(crate) fn chunk(&self) -> &Chunk<G>
+    /// Puts its younger chunk alone back to where it began.
+    pub(crate) fn squash_younger(&mut self)
+        requires { IsSome (younger_of self.old.held) }
+        ensures { self.new ≡ holding (squashed_younger self.old.held) self.old }
+    {
+        self.pair.squash(Which::Younger);
+    }
+
+    /// The older chunk that it holds.
+    pub(crate) fn older(&self) -> &Chunk<G>
         requires { IsSome self.now.held }
         ensures chunk { Some result.now.chunk ≡ option_map (λ h. h.chunk) self.now.held }
     {
-        &self.chunk
+        self.pair.older()
     }
 
-    /// The lines that its chunk has read.
+    /// The younger chunk that it holds, if there is one.
+    pub(crate) fn younger(&self) -> Option<&Chunk<G>>
+        ensures { option_map (λ e. e.now.chunk) result ≡ younger_of self.now.held }
+    {
+        self.pair.younger()
+    }
+
+    /// The lines that its older chunk has read.
     pub(crate) fn reads(&self) -> &G
         ensures { G.marks result.now ≡ reads_in self.now.bits self.now.held }
     {
-        self.chunk.reads()
+        self.pair.older().reads()
     }
 
-    /// The lines that its chunk has stored to.
+    /// The lines that its older chunk has stored to.
     pub(crate) fn writes(&self) -> &G
         ensures { G.marks result.now ≡ writes_in self.now.bits self.now.held }
     {
-        self.chunk.writes()
+        self.pair.older().writes()
     }
 
-    /// Gives up the lines that its chunk has stored to, and rests.
+    /// Gives up the lines that its older chunk has stored to.
     pub(crate) fn hand_over(&mut self, writes: G) -> G
         requires { G.marks writes ≡ nothing self.old.bits }
         ensures given { G.marks result ≡ writes_in self.old.bits self.old.held }
-        ensures core { self.new ≡ holding None self.old }
+        ensures core { self.new ≡ holding (option_map given_up self.old.held) self.old }
     {
-        let given = self.chunk.hand_over(writes);
-        self.rest();
-        given
+        self.pair.hand_over(writes)
+    }
+
+    /// Goes on once its older chunk is committed, which left the sphere as it is now: the younger chunk becomes the older, or
+    /// the thread goes on by a chunk of its own.
+    pub(crate) fn go_on(&mut self, of: &Sphere)
+        requires held { IsSome self.old.held }
+        requires most { self.old.most ≡ 4096 }
+        ensures { self.new ≡ holding (goes_on (numbers_of self.old of.now) of.now.sphere self.old.held) self.old }
+    {
+        if self.keeps_younger(of) {
+            self.pair.promote();
+            return;
+        }
+        let sphere = self.pair.older().sphere();
+        self.begin(sphere, self.thread, of);
+    }
+
+    // Whether the younger chunk goes on: there is one, and its thread lives and was not interrupted since it began.
+    fn keeps_younger(&self, of: &Sphere) -> bool
+        requires { IsSome self.now.held }
+        ensures { let threads = of.now.sphere.threads in
+            Some result ≡ option_map (λ h. stays h.younger (slice_get threads h.thread)) self.now.held }
+    {
+        let (Some(younger), Some(state)) =
+            (self.pair.younger(), of.threads().get(self.thread))
+        else {
+            return false;
+        };
+        state.status() == ThreadStatus::Live && !was_interrupted(younger, state)
+    }
+}
+
+// Whether the thread has taken an interrupt since a chunk of it began.
+fn was_interrupted<G: Sig>(chunk: &Chunk<G>, state: &Thread) -> bool
+    ensures { result ≡ interrupted_since chunk.now.chunk state.now }
+{
+    state.mask() && !chunk.start().mask()
+}
+
+// Whether a chunk that was closed so has run up to its limit.
+fn is_whole(closed: Option<How>) -> bool
+    ensures { result ≡ is_whole_if closed }
+{
+    match closed {
+        Some(How::Limit) => true,
+        Some(How::Serial | How::Overflow | How::Cut) | None => false,
     }
 }

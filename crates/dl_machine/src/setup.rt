@@ -11,6 +11,8 @@ pub struct Setup {
     pub s: u32,
     pub capacity: u32,
     pub bits: u32,
+    /// How many chunks of its thread a core may have in flight, 1 or 2.
+    pub depth: u8,
     pub seed: u64,
     pub input: Bytes,
     pub spheres: Sequence<SphereSetup>,

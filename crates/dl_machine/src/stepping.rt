@@ -1,9 +1,16 @@
 //! The events of a running chunk: Step and Cut.
-ghost use Rattle.std.specs.Prelude.{◌≡◌, ◌<◌, length};
+ghost use Rattle.std.specs.Prelude.{◌≡◌, ◌≤◌, ◌<◌, true, false, length, slice_get, Some};
+ghost use Rattle.spec_isa.specs.declared.thread.Parts.{Parts};
+ghost use Rattle.spec_play.specs.Effects.{counted};
+ghost use Rattle.spec_protocol.specs.machine.Spheres.{is_stopped, limit_after};
 ghost use Rattle.spec_protocol.specs.machine.Stepping.{cutting, reply_of_cut as cut_named, reply_of_step as step_named, stepping};
-ghost use Rattle.dl_machine.specs.Ready.{IsReady};
+ghost use Rattle.spec_protocol.specs.machine.World.{sphere_at};
+ghost use Rattle.dl_machine.specs.Held.{IsOf};
+ghost use Rattle.dl_machine.specs.Ready.{HasRoom, IsReady};
+ghost use Rattle.dl_machine.specs.Requests.{Holds, Runs};
 ghost use Rattle.dl_machine.specs.States.{left};
 
+use crate::one_core::Held;
 use crate::state::State;
 use dl_chunk::{CutReply, How, Stepped};
 use dl_sig::Sig;
@@ -12,10 +19,11 @@ use spec_protocol::Reply;
 impl<G: Sig> State<G> {
     // The core runs one instruction.
     #[inline(always)]
-    #[tactic(auto, unfolding(spec_protocol::specs::machine::Stepping::stepping))]
+    #[tactic(auto, using(crate::proofs::Stepping::step_waits), unfolding(spec_protocol::specs::machine::Stepping::stepping))]
     pub(crate) fn step(&mut self, core: u8) -> Reply
         requires core { core < length self.old.cores }
         requires ready { IsReady self.old }
+        requires room { HasRoom self.old }
         ensures reply { result ≡ (stepping self.old core).reply }
         ensures world { self.new ≡ left (stepping self.old core) }
     {
@@ -26,11 +34,46 @@ impl<G: Sig> State<G> {
         if sphere.stopped() {
             return Reply::Stopped;
         }
-        if held.closed {
+        if held.closed && self.cores.waits(core, sphere.replays()) {
             return Reply::Waiting;
         }
-        let stepped = self.cores.step(core, sphere.memory(), &self.flights);
+        self.step_chunk(core, held)
+    }
+
+    // The core runs one instruction of the chunk that Step speaks of.
+    #[inline(always)]
+    fn step_chunk(&mut self, core: u8, held: Held) -> Reply
+        requires core { core < length self.old.cores }
+        requires ready { IsReady self.old }
+        requires room { HasRoom self.old }
+        requires held { Holds self.old core held }
+        requires good { IsOf self.old held }
+        requires going { is_stopped (sphere_at self.old held.sphere).role ≡ false }
+        requires runs { Runs self.old core held }
+        ensures reply { result ≡ (stepping self.old core).reply }
+        ensures world { self.new ≡ left (stepping self.old core) }
+    {
+        let limit = self.younger_limit(held);
+        let memory = self.spheres.get(held.sphere).memory();
+        let stepped = self.cores.step(core, memory, &self.flights, limit);
         reply_of_step(stepped)
+    }
+
+    // The limit of a younger chunk that begins, which nothing looks at where the older is open.
+    #[inline(always)]
+    fn younger_limit(&self, held: Held) -> u32
+        requires { IsOf self.now held }
+        ensures value { let p = sphere_at self.now held.sphere in
+            held.closed ≡ true → (t : Parts) → slice_get p.threads held.thread ≡ Some t →
+            result ≡ limit_after self.now.numbers.s p.role held.thread (counted t) }
+        ensures least { 1 ≤ result }
+        ensures most { result ≤ 4096 }
+    {
+        if held.closed {
+            self.spheres.get(held.sphere).limit(held.thread, true)
+        } else {
+            1
+        }
     }
 
     // The core's chunk is cut off.
@@ -47,6 +90,17 @@ impl<G: Sig> State<G> {
         if self.spheres.get(held.sphere).stopped() {
             return Reply::Stopped;
         }
+        self.cut_chunk(core, held)
+    }
+
+    // The chunk that Cut speaks of is cut off.
+    fn cut_chunk(&mut self, core: u8, held: Held) -> Reply
+        requires core { core < length self.old.cores }
+        requires held { Holds self.old core held }
+        requires going { is_stopped (sphere_at self.old held.sphere).role ≡ false }
+        ensures reply { result ≡ (cutting self.old core).reply }
+        ensures world { self.new ≡ left (cutting self.old core) }
+    {
         let reply = self.cores.cut(core);
         reply_of_cut(reply)
     }

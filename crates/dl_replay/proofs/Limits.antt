@@ -13,9 +13,11 @@ use Rattle.spec_log.specs.declared.sizes.Sizes.{Sizes}
 use Rattle.spec_log.specs.declared.sizes.Sizes.TheVariants.{Each, Short}
 use Rattle.spec_log.specs.Log.{IsLog, IsSizes, IsShortSize}
 use Rattle.spec_log.specs.Size.{is_thread, sizes_of_thread, thread_size}
+use Rattle.spec_play.specs.Effects.{counted}
 use Rattle.spec_play.specs.Turns.{Turn}
-use Rattle.spec_protocol.specs.machine.Spheres.{Replay, limit_in, limit_of, whole_limit, pieces_of}
+use Rattle.spec_protocol.specs.machine.Spheres.{Replay, limit_in, limit_of, limit_after, whole_limit, pieces_of}
 use Rattle.dl_replay.specs.Replaying.{Replaying, commits_at, commits_of, cursor_of}
+use Rattle.dl_replay.specs.Replays.{IsReplaying}
 use Rattle.dl_replay.proofs.Counts.{commits-found}
 
 first-few : (s x z : ℕ) (xs : List ℕ) (i : ℕ) → x ≤ s → ((j : ℕ) → slice_get xs j ≡ Some z → z ≤ s) → slice_get (x ∷ xs) i ≡ Some z → z ≤ s
@@ -67,6 +69,10 @@ limit-few log k i is =
           (λ z e. sizes-few log.mode log.threads log.s log.count log.order log.sizes k i z is.sizes e),
     )
 
+-- a thread has done fewer commits than can be counted
+pub commits-fit : (r : Replaying) (k commits : ℕ) → IsReplaying r → commits ≡ slice_index r.commits k → commits + 1 < 2 ^ 32
+commits-fit r k commits is e = omega (arith, e, is.commits k, is.within, is.is_log.count)
+
 -- the instructions of a commit's pieces are few enough to be counted
 pub pieces-fit : (r : Replaying) (k i n : ℕ) → IsLog r.log → r.now ≡ Turn k → 1 ≤ n → n < limit_in (Replay (cursor_of r [])) 0 k i → r.total + n < 2 ^ 32
 pieces-fit r k i n is e one few =
@@ -86,3 +92,12 @@ module _ (r : Replaying) (k : ℕ) (ts : List Parts) (t : Parts) where
   limit-is s loads commits whole pieces rest limit c w p d m few e is =
       let size : whole ≡ whole_limit r.log k t.commits = w ∙ ap (whole_limit r.log k) (c ∙ thread-commits few e is) in
       omega (arith, size, p, d, m)
+
+  -- the whole commit after the present one is the limit of a chunk of it
+  pub after-is : (s : ℕ) (loads : List Load) (commits whole limit : ℕ) → commits ≡ slice_index r.commits k
+      → whole ≡ whole_limit r.log k (commits + 1) → limit ≡ max whole 1
+      → length ts ≤ 15 → r.commits ≡ commits_of ts → slice_get ts k ≡ Some t → limit ≡ limit_after s (Replay (cursor_of r loads)) k (counted t)
+  unfolding limit_after
+  after-is s loads commits whole limit c w m few e is =
+      let size : whole ≡ whole_limit r.log k (t.commits + 1) = w ∙ ap (λ (n : ℕ). whole_limit r.log k (n + 1)) (c ∙ thread-commits few e is) in
+      omega (arith, size, m)

@@ -6,3 +6,4 @@ pub mod Replays
 pub mod Served
 pub mod Judged
 pub mod Left
+pub mod Limits

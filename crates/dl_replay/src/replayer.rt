@@ -9,13 +9,14 @@ ghost use Rattle.spec_play.specs.Progress.{Progress};
 ghost use Rattle.spec_play.specs.Turns.{Turn, TurnOfDma};
 ghost use Rattle.spec_play.specs.Verdicts.{chunk_verdict, serial_verdict};
 ghost use Rattle.spec_play.specs.Transfers.{dma_verdict};
-ghost use Rattle.spec_protocol.specs.machine.Spheres.{Replay, actor_of, limit_in, limit_of, pieces_of};
+ghost use Rattle.spec_protocol.specs.machine.Spheres.{Replay, actor_of, limit_in, pieces_of};
 ghost use Rattle.spec_protocol.specs.promises.Standing.{AreNew};
 ghost use Rattle.dl_kernel.specs.Calls.{spawned_list};
 ghost use Rattle.dl_replay.specs.Seen.{used_seen};
 ghost use Rattle.dl_replay.specs.Replaying.{Agrees, replay_start, commits_of, cursor_of, end_of};
 ghost use Rattle.dl_replay.specs.Replays.{advanced};
 ghost use Rattle.dl_replay.specs.Judging.{transfer_verdict};
+ghost use Rattle.dl_replay.specs.Limits.{chunk_limit, chunk_limit_in};
 ghost use Rattle.dl_replay.specs.Left.{SaysSize, verdict_left, verdict_stored};
 ghost use Rattle.dl_replay.specs.Judged.{HasRun, IsInside, chunk_judged, diverged, dma_judged, serial_judged};
 ghost use Rattle.dl_replay.specs.Served.{Served, nothing_served, served_left, served_stored};
@@ -102,16 +103,20 @@ impl<M: Mode> Replayer<M> {
         }
     }
 
-    /// How many instructions a new chunk of the thread may run: the logged size, or else a standard chunk's, less those of
-    /// the pieces before it, and 1 at least.
-    pub fn limit(&self, thread: u8) -> u32
+    /// How many instructions a chunk of the thread may run: the logged size, or else a standard chunk's, and 1 at least. It is
+    /// of the thread's present commit, less the pieces before it; or of the commit after that one.
+    pub fn limit(&self, thread: u8, after: bool) -> u32
         ensures value { (s : ℕ) (loads : List Load) →
-            result ≡ limit_in (Replay (cursor_of self.now loads)) s thread (slice_index self.now.commits thread) }
+            result ≡ chunk_limit_in after (Replay (cursor_of self.now loads)) s thread (slice_index self.now.commits thread) }
         ensures of_thread { (s : ℕ) (loads : List Load) (threads : List Parts) (t : Parts) →
             length threads ≤ most_threads → self.now.commits ≡ commits_of threads → slice_get threads thread ≡ Some t →
-            result ≡ limit_of s (Replay (cursor_of self.now loads)) thread t }
+            result ≡ chunk_limit after s (Replay (cursor_of self.now loads)) thread t }
     {
-        let whole = self.log.limit(thread, self.commits_of(thread));
+        let commits = self.commits_of(thread);
+        if after {
+            return self.log.limit(thread, commits + 1).max(1);
+        }
+        let whole = self.log.limit(thread, commits);
         whole.saturating_sub(self.pieces_of(thread)).max(1)
     }
 

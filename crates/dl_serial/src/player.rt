@@ -96,7 +96,7 @@ impl<M: Mode> Player<M> {
         ensures { let p = self.old in OnOk result (self.new ≡ record p { played = play_one p.log p.played }) }
     {
         let thread = thread_at(&self.sphere.threads, number);
-        let limit = self.replayer.limit(number);
+        let limit = self.replayer.limit(number, false);
         let chunk = run(self.alloc, &mut self.sphere.store, &thread, limit)?;
         if chunk.n == 0 {
             return serve_step(&mut self.replayer, &mut self.sphere, number);

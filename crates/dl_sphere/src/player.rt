@@ -9,10 +9,11 @@ ghost use Rattle.spec_play.specs.Progress.{Progress};
 ghost use Rattle.spec_play.specs.Turns.{Turn, TurnOfDma};
 ghost use Rattle.spec_play.specs.Transfers.{dma_verdict};
 ghost use Rattle.spec_play.specs.Verdicts.{chunk_verdict, serial_verdict};
-ghost use Rattle.spec_protocol.specs.machine.Spheres.{Replay, actor_of, limit_in, limit_of};
+ghost use Rattle.spec_protocol.specs.machine.Spheres.{Replay, actor_of, limit_in};
 ghost use Rattle.dl_replay.specs.Served.{Served, nothing_served, served_left, served_stored};
 ghost use Rattle.dl_replay.specs.Judged.{HasRun, IsInside, chunk_judged, dma_judged, serial_judged};
 ghost use Rattle.dl_replay.specs.Judging.{transfer_verdict};
+ghost use Rattle.dl_replay.specs.Limits.{chunk_limit, chunk_limit_in};
 ghost use Rattle.dl_replay.specs.Left.{SaysSize, verdict_left, verdict_stored};
 ghost use Rattle.dl_replay.specs.Replaying.{Agrees, replay_start, commits_of, cursor_of, end_of};
 
@@ -91,14 +92,14 @@ impl Player {
         in_mode!(&self.players, replayer => replayer.pieces())
     }
 
-    pub(crate) fn limit(&self, thread: u8) -> u32
+    pub(crate) fn limit(&self, thread: u8, after: bool) -> u32
         ensures value { (s : ℕ) (loads : List Load) →
-            result ≡ limit_in (Replay (cursor_of self.now loads)) s thread (slice_index self.now.commits thread) }
+            result ≡ chunk_limit_in after (Replay (cursor_of self.now loads)) s thread (slice_index self.now.commits thread) }
         ensures of_thread { (s : ℕ) (loads : List Load) (threads : List Parts) (t : Parts) →
             length threads ≤ most_threads → self.now.commits ≡ commits_of threads → slice_get threads thread ≡ Some t →
-            result ≡ limit_of s (Replay (cursor_of self.now loads)) thread t }
+            result ≡ chunk_limit after s (Replay (cursor_of self.now loads)) thread t }
     {
-        in_mode!(&self.players, replayer => replayer.limit(thread))
+        in_mode!(&self.players, replayer => replayer.limit(thread, after))
     }
 
     // A piece of the present commit went, of `n` instructions.

@@ -7,8 +7,9 @@ ghost use Rattle.spec_play.specs.Progress.{position};
 ghost use Rattle.spec_protocol.specs.machine.Commits.{MovedSphere, dma_moved};
 ghost use Rattle.spec_protocol.specs.machine.Placing.{replays};
 ghost use Rattle.spec_protocol.specs.promises.Sound.{IsSoundRequest};
-ghost use Rattle.spec_protocol.specs.machine.Spheres.{limit_of, head_of, is_stopped, halves, is_in_pieces};
+ghost use Rattle.spec_protocol.specs.machine.Spheres.{head_of, is_stopped, halves, is_in_pieces};
 ghost use Rattle.dl_fly.specs.Slots.{set_slot};
+ghost use Rattle.dl_replay.specs.Limits.{chunk_limit};
 ghost use Rattle.dl_sphere.specs.Moving.{SaysOutcome};
 ghost use Rattle.dl_sphere.specs.Reading.{end_in, pieces_in, log_in, SaysBytes};
 
@@ -27,17 +28,18 @@ use dl_wbuf::Buffer;
 use spec_log::{Log, ModeName};
 
 impl Sphere {
-    /// How many instructions a new chunk of a thread may run.
-    #[tactic(auto, unfolding(spec_protocol::specs::machine::Spheres::limit_of))]
-    pub fn limit(&self, thread: u8) -> u32
+    /// How many instructions a chunk of a thread may run that begins now: one of the thread's present commit, or one of the
+    /// commit after that.
+    #[tactic(auto, unfolding(spec_protocol::specs::machine::Spheres::limit_of, spec_protocol::specs::machine::Spheres::limit_after))]
+    pub fn limit(&self, thread: u8, after: bool) -> u32
         ensures value { (t : Parts) → slice_get self.now.sphere.threads thread ≡ Some t →
-            result ≡ limit_of self.now.s self.now.sphere.role thread t }
+            result ≡ chunk_limit after self.now.s self.now.sphere.role thread t }
         ensures least { 1 ≤ result }
         ensures most { result ≤ 4096 }
     {
         match &self.part {
             Part::Plain | Part::Recorded(_) => self.s,
-            Part::Replayed(replay) => replay.player.limit(thread),
+            Part::Replayed(replay) => replay.player.limit(thread, after),
         }
     }
 

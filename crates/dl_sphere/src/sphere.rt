@@ -10,7 +10,7 @@ ghost use Rattle.spec_protocol.specs.machine.Asking.{is_short};
 ghost use Rattle.spec_protocol.specs.machine.Commits.{is_piece, chunk_moved, serial_moved, dma_moved, raised};
 ghost use Rattle.spec_protocol.specs.machine.Machine.{sphere_of};
 ghost use Rattle.spec_protocol.specs.machine.Placing.{replays};
-ghost use Rattle.spec_protocol.specs.machine.Spheres.{limit_of, head_of, is_stopped, halves};
+ghost use Rattle.spec_protocol.specs.machine.Spheres.{head_of, is_stopped, halves};
 ghost use Rattle.spec_protocol.specs.promises.Sound.{HaveByteInput, IsSoundRequest};
 ghost use Rattle.dl_sphere.specs.Moving.{came, CanCommit, IsTurnOf, IsTurnOfDma};
 ghost use Rattle.dl_sphere.specs.Setups.{setup_of};

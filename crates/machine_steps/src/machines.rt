@@ -116,6 +116,7 @@ fn machine_of(alloc: Global, cores: u8) -> anyhow::Result<Machine<Banked>> {
         s: 101,
         capacity: 16,
         bits: 2048,
+        depth: 1,
         seed: 0,
         input: Bytes::new(alloc),
         spheres,

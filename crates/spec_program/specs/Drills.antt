@@ -25,7 +25,7 @@ recording v =
     record {
       cores = 4;
       window = 2;
-      numbers = record { s = 64; capacity = 8; bits = 128 };
+      numbers = record { s = 64; capacity = 8; bits = 128; depth = 1 };
       seed = v;
       input = [];
       spheres = drill_sphere v (IsRecorded (record { mode = ModeName.OrderOnly })) ∷ [];
@@ -44,7 +44,7 @@ replaying v =
     record {
       cores = 1;
       window = 1;
-      numbers = record { s = 64; capacity = 1; bits = 64 };
+      numbers = record { s = 64; capacity = 1; bits = 64; depth = 1 };
       seed = 0;
       input = [];
       spheres = drill_sphere v (IsReplayed (record { log = recorded_log v })) ∷ [];

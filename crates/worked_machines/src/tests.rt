@@ -210,6 +210,7 @@ fn setup_of(alloc: Global, row: &Row) -> Result<Setup, Fail> {
         s: row.s,
         capacity: row.capacity,
         bits: 64,
+        depth: 1,
         seed: 0,
         input: Bytes::from_slice(alloc, row.input)?,
         spheres,

@@ -29,6 +29,8 @@ limits_within s within images input =
       window = within.window;
       few = let n : length (map setup_of s.spheres) ≡ length s.spheres = grind (arith, common_steps) in let f = within.few in (omega arith, omega arith);
       chunk = within.chunk;
+      depth = within.depth;
+      most_depth = within.most_depth;
       buffer = within.least;
       most_buffer = within.most;
       signature = within.signature;

@@ -4,6 +4,7 @@ use Rattle.std.specs.Prelude.{IfSome, option_map}
 use Rattle.std.proofs.lemmas.Option.{none-some, same_Some, slice_get_within}
 use Rattle.spec_engine.specs.Flights.{Flight, AreInside, AreOfSize, IsInside, IsOfSize, at}
 use Rattle.spec_engine.specs.Chunks.{Chunk}
+use Rattle.spec_protocol.specs.machine.Flying.{younger_of}
 use Rattle.spec_protocol.specs.machine.World.{Occupant, World, sphere_at}
 use Rattle.dl_machine.specs.Cores.{seen, reads_in, writes_in}
 use Rattle.dl_machine.specs.declared.one_core.Held.{Held as Seen}
@@ -37,6 +38,17 @@ reads_fit w c k ready = subst (λ (n : ℕ). IsOfSize n (at w.slots k)) (sym (re
 -- the signature of a core's writes has the size of those in the slots
 pub writes_fit : (w : World) (c k : ℕ) → IsReady w → IsOfSize (writes_in w.numbers.bits (at w.cores c)).bits (at w.slots k)
 writes_fit w c k ready = subst (λ (n : ℕ). IsOfSize n (at w.slots k)) (sym (writes_size w c (at w.cores c) ready refl)) (slot_size w k (at w.slots k) ready refl)
+
+-- the signatures of a core's younger chunk have the size of those in the slots
+pub younger_sizes : (w : World) (c k : ℕ) (o : Option Occupant) (y : Chunk) → IsReady w → at w.cores c ≡ o → younger_of o ≡ Some y → IsOfSize y.reads.bits (at w.slots k) × IsOfSize y.writes.bits (at w.slots k)
+younger_sizes w c k None y ready is e = absurd (none-some y e)
+younger_sizes w c k (Some h) y ready is e =
+    let good = (ready.good.held c h is).younger y e in
+    let slot = slot_size w k (at w.slots k) ready refl in
+    (
+      subst (λ (n : ℕ). IsOfSize n (at w.slots k)) (sym good.reads_size) slot,
+      subst (λ (n : ℕ). IsOfSize n (at w.slots k)) (sym good.writes_size) slot,
+    )
 
 -- a flight's words lie in the memory of its sphere
 pub flight_inside : (w : World) (k : ℕ) (o : Option Flight) → IsReady w → at w.slots k ≡ o → IfSome (option_map sphere_of o) (λ i. (i < length w.spheres) × IsInside (length (sphere_at w i).memory) o)

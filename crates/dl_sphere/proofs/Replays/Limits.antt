@@ -1,5 +1,5 @@
 -- A replay stands with its sphere, and the limits of its chunks and its requests are within their bounds.
-use Rattle.std.proofs.Common.{◌≡◌, ℕ, false, zero, suc, ◌+◌, ◌^◌, ◌<◌, ◌≤◌, List, [], ◌∷◌, length, Option, Some, None, refl, subst, arith}
+use Rattle.std.proofs.Common.{◌≡◌, ℕ, Bool, true, false, zero, suc, ◌+◌, ◌^◌, ◌<◌, ◌≤◌, List, [], ◌∷◌, length, Option, Some, None, refl, subst, arith}
 use Rattle.std.specs.Prelude.{slice_get, IfSome}
 use Rattle.std.proofs.lemmas.Bool.{true≢false}
 use Rattle.dl_entry.specs.declared.Request.{Request}
@@ -7,8 +7,9 @@ use Rattle.spec_isa.specs.declared.thread.Parts.{Parts}
 use Rattle.spec_log.specs.Log.{IsLog}
 use Rattle.spec_protocol.specs.promises.Sound.{IsSoundRequest}
 use Rattle.spec_protocol.specs.machine.Placing.{replays}
-use Rattle.spec_protocol.specs.machine.Spheres.{Cursor, Replay, Sphere, limit_in, limit_of, whole_limit}
+use Rattle.spec_protocol.specs.machine.Spheres.{Cursor, Role, Plain as Live, Record, Replay, Sphere, limit_in, limit_of, limit_after, whole_limit}
 use Rattle.spec_protocol.proofs.Sound.Limits.{whole-most}
+use Rattle.dl_replay.specs.Limits.{chunk_limit, chunk_limit_in}
 use Rattle.dl_sphere.specs.Inside.{sphere_in}
 use Rattle.dl_sphere.specs.Roles.{role_of, keeping_of, Keeping, Plain, Recording, Replaying as Replays, HasFew, IsKeepingOf, IsLive, IsReplayed, IsSphere}
 use Rattle.dl_sphere.specs.declared.part.Part.{Part}
@@ -46,13 +47,25 @@ few_live s p (Replays r loads) live h = absurd live
 pub part-fits : (b : Cursor) (k n : ℕ) (t : Parts) → IsLog b.log → b.total < whole_limit b.log k t.commits → n ≤ limit_in (Replay b) 0 k t.commits → b.total + n < 2 ^ 32
 part-fits b k n t is room within = let a = whole-most b.log k t.commits is in let c = is.s.1 in omega (arith, a, c, room, within)
 
+-- a chunk of a thread that isn't replayed may run a standard chunk's instructions
+pub live-limit : (after : Bool) (s : ℕ) (role : Role) (k : ℕ) (t : Parts) → replays role ≡ false → chunk_limit after s role k t ≡ s
+unfolding limit_of limit_after
+live-limit false s Live k t live = refl
+live-limit false s (Record recording) k t live = refl
+live-limit false s (Replay b) k t live = absurd (true≢false live)
+live-limit true s Live k t live = refl
+live-limit true s (Record recording) k t live = refl
+live-limit true s (Replay b) k t live = absurd (true≢false live)
+
 -- the limit of a replay's chunk is at least 1
-pub replay-least : (s : ℕ) (b : Cursor) (k n : ℕ) → 1 ≤ limit_in (Replay b) s k n
-replay-least s b k n = omega arith
+pub replay-least : (after : Bool) (s : ℕ) (b : Cursor) (k n : ℕ) → 1 ≤ chunk_limit_in after (Replay b) s k n
+replay-least false s b k n = omega arith
+replay-least true s b k n = omega arith
 
 -- the limit of a replay's chunk is at most 4,096
-pub replay-most : (s : ℕ) (b : Cursor) (k n : ℕ) → IsLog b.log → limit_in (Replay b) s k n ≤ 4096
-replay-most s b k n is = let a = whole-most b.log k n is in let c = is.s.1 in omega (arith, a, c)
+pub replay-most : (after : Bool) (s : ℕ) (b : Cursor) (k n : ℕ) → IsLog b.log → chunk_limit_in after (Replay b) s k n ≤ 4096
+replay-most false s b k n is = let a = whole-most b.log k n is in let c = is.s.1 in omega (arith, a, c)
+replay-most true s b k n is = let a = whole-most b.log k (n + 1) is in let c = is.s.1 in omega (arith, a, c)
 
 -- a request inside a memory is inside the largest
 pub sound-within : (size most : ℕ) (o : Option Request) → size ≤ most → IfSome o (IsSoundRequest size) → IfSome o (IsSoundRequest most)

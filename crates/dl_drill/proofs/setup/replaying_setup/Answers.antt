@@ -5,7 +5,7 @@ use Rattle.spec_program.specs.Drills.{drill_sphere}
 use Rattle.dl_drill.proofs.setup.replaying_setup.Goals as goal
 
 pub returns-clause-value : goal.returns-clause-value
-returns-clause-value c = λ i. record { cores = 1; window = 1; numbers = record { s = 64; capacity = 1; bits = 64 }; seed = 0; input = c.new.ensures i; spheres = (c.in_ok-spheres.ensures.value ∙ ap (λ (log : LogParts). drill_sphere c.args.number (IsReplayed (record { log = log })) ∷ []) c.requires) i }
+returns-clause-value c = λ i. record { cores = 1; window = 1; numbers = record { s = 64; capacity = 1; bits = 64; depth = 1 }; seed = 0; input = c.new.ensures i; spheres = (c.in_ok-spheres.ensures.value ∙ ap (λ (log : LogParts). drill_sphere c.args.number (IsReplayed (record { log = log })) ∷ []) c.requires) i }
 
 pub returns-clause-within : goal.returns-clause-within
 returns-clause-within c =

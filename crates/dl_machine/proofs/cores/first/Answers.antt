@@ -13,7 +13,7 @@ returns g c =
     let s = c.args.setup.now in
     let r = c.args.spheres.now in
     let z = numbers_with s r in
-    let rest = idle 4096 s.capacity s.bits in
+    let rest = idle 4096 s.capacity s.bits s.depth in
     let from = λ (p : Option Sphere). holding (first_held z c.args.core p) rest in
     elim c.if-core-len.branch [
       | then-core-len w ↦

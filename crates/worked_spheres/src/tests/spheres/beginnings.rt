@@ -49,7 +49,7 @@ fn stands(sphere: &Sphere, row: &Row) -> bool
 fn has_limit(sphere: &Sphere, limit: u32) -> bool
     requires { length sphere.now.sphere.threads ≡ 1 }
 {
-    sphere.limit(0) == limit
+    sphere.limit(0, false) == limit
 }
 
 const ROWS: &[Row] = &[

@@ -105,7 +105,7 @@ fn run(alloc: Global, sphere: &Sphere) -> Result<Chunk<PlainSet>, Fail> {
     let thread = first(sphere);
     let flights = Flights::new(alloc, 1, 1)?;
     let mut chunk = Chunk::new(alloc, 4096, 1, 64)?;
-    chunk.begin(0, &thread, sphere.limit(0), sphere.halves());
+    chunk.begin(0, &thread, sphere.limit(0, false), sphere.halves());
     for _ in 0..4 {
         if chunk.closed().is_none() {
             chunk.step(sphere.memory(), &flights, 0);
@@ -121,7 +121,7 @@ fn commit_chunk<G: Sig>(
     chunk: &Chunk<G>,
     how: How,
 ) -> Result<(), Fail> {
-    let (thread, limit) = (first(sphere), sphere.limit(0));
+    let (thread, limit) = (first(sphere), sphere.limit(0, false));
     assert!(rt; chunk.closed() == Some(how));
     assert!(rt; !is_piece(how));
     assert!(rt; chunk.state().commits() == thread.commits());

@@ -13,7 +13,7 @@ use Rattle.dl_machine.proofs.cores.Cores.new.Goals as goal
 pub loop-core-preserved : goal.loop-core-preserved
 loop-core-preserved g c =
     let s = c.args.setup.now in
-    let new : IsAlike s.capacity s.bits c.in_ok-first.field-0 = rw c.in_ok-first.ensures (record { most = refl; capacity = refl; bits = refl }) in
+    let new : IsAlike s.capacity s.bits s.depth c.in_ok-first.field-0 = rw c.in_ok-first.ensures (record { most = refl; capacity = refl; bits = refl; depth = refl }) in
     let z = numbers_with s c.args.spheres.now in
     let ps = c.args.spheres.now.spheres in
     let k = c.loop-core.core in
@@ -24,7 +24,7 @@ loop-core-preserved g c =
           ∙ ap (λ (hs : List (Option Occupant)). hs ++ held_by c.in_ok-first.field-0 ∷ []) c.loop-core.invariant.held
           ∙ ap (λ (d : Core). first_cores z 0 k ps ++ held_by d ∷ []) c.in_ok-first.ensures
           ∙ sym (first_more z k ps);
-      each = rw c.push_reserved.ensures.items (All-push (IsAlike s.capacity s.bits) _ _ c.loop-core.invariant.each new);
+      each = rw c.push_reserved.ensures.items (All-push (IsAlike s.capacity s.bits s.depth) _ _ c.loop-core.invariant.each new);
       len = grind (arith, common_steps);
       room = grind (arith, common_steps);
     }

@@ -1,4 +1,4 @@
-use Rattle.std.proofs.Common.{◌≡◌, [], ◌∷◌, ◌++◌, ◌<◌, false, List, length, None, Some, refl, sym, ap, ◌∙◌, subst}
+use Rattle.std.proofs.Common.{◌≡◌, [], ◌∷◌, ◌++◌, ◌<◌, false, List, length, Option, None, Some, refl, sym, ap, ◌∙◌, subst}
 use Rattle.std.specs.Prelude.{option_map}
 use Rattle.dl_entry.specs.declared.Actor.{Actor}
 use Rattle.dl_entry.specs.declared.CommitKind.{CommitKind}
@@ -7,18 +7,19 @@ use Rattle.spec_engine.specs.Flights.{at}
 use Rattle.spec_protocol.specs.declared.reply.Reply.{Reply}
 use Rattle.spec_protocol.specs.machine.Spheres.{turn_against, Sphere, head_of, is_stopped}
 use Rattle.spec_protocol.specs.machine.Commits.{MovedSphere}
-use Rattle.spec_protocol.specs.machine.World.{After, World, sphere_at}
+use Rattle.spec_protocol.specs.machine.World.{After, Occupant, World, sphere_at, with_core}
+use Rattle.spec_protocol.specs.machine.Flying.{younger_of}
 use Rattle.spec_protocol.specs.machine.Asking.{asks_serial, grant_chunk, is_short}
 use Rattle.dl_sphere.specs.declared.moved.Moved.{Moved}
 use Rattle.dl_sphere.specs.declared.moved.Moved.TheVariants as moved_as
 use Rattle.dl_sphere.specs.Moving.{came}
-use Rattle.dl_machine.specs.Cores.{seen, writes_in}
+use Rattle.dl_machine.specs.Cores.{goes_on, seen, writes_in}
 use Rattle.dl_machine.specs.Ready.{HasRoom, IsReady}
 use Rattle.dl_machine.specs.Requests.{closed_by}
 use Rattle.dl_machine.specs.Rows.{Spheres, nth_sphere, with_nth}
 use Rattle.dl_machine.specs.States.{left, world_in}
 use Rattle.dl_machine.proofs.Commits.Able.{can_commit, few_commits}
-use Rattle.dl_machine.proofs.Commits.Granted.{point_in, moved_by, grant_done, held_after, closed_is, chunk_after}
+use Rattle.dl_machine.proofs.Commits.Granted.{point_in, moved_by, with_grant, grant_done, goes_as, held_after, closed_is, chunk_after, younger_is}
 use Rattle.dl_machine.proofs.state.State.grant_chunk.Goals as goal
 
 pub commit_chunk-requires-clause-chunk : goal.commit_chunk-requires-clause-chunk
@@ -33,7 +34,7 @@ commit_chunk-requires-clause-chunk g c =
     let going : is_stopped (sphere_at w c.args.held.sphere).role ≡ false = subst (λ (u : World). is_stopped (sphere_at u c.args.held.sphere).role ≡ false) (sym view) c.requires.going in
     let free : turn_against (sphere_at w c.args.held.sphere) (Actor.Thread c.args.held.thread) ≡ None = subst (λ (u : World). turn_against (sphere_at u c.args.held.sphere) (Actor.Thread c.args.held.thread) ≡ None) (sym view) c.requires.turn in
     let whole : Some false ≡ option_map (λ h. asks_serial h.chunk (sphere_at w c.args.held.sphere).role) (at w.cores core) = subst (λ (u : World). Some false ≡ option_map (λ h. asks_serial h.chunk (sphere_at u c.args.held.sphere).role) (at u.cores core)) (sym view) c.requires.chunk in
-    (c.args.how, can_commit w core _ c.args.held c.args.how c.chunk-chunk.result.now.chunk ready refl held closed c.chunk-chunk.ensures going free whole)
+    (c.args.how, can_commit w core _ c.args.held c.args.how c.older-chunk.result.now.chunk ready refl held closed c.older-chunk.ensures going free whole)
 
 pub commit_chunk-requires-clause-few : goal.commit_chunk-requires-clause-few
 commit_chunk-requires-clause-few g c =
@@ -48,14 +49,15 @@ returns-in-Granted-clause-reply g c =
     let view : w ≡ c.args.self.now = c.self.view_is in
     let core = c.args.core in
     let how = c.args.how in
-    let ch = c.chunk-chunk.result.now.chunk in
+    let ch = c.older-chunk.result.now.chunk in
     let p : Sphere = nth_sphere c.args.held.sphere c.commit_chunk.new.self in
     let v : MovedSphere = came (moved_as.Granted c.in-Granted.words) p x.devices in
     let held : option_map seen (at w.cores core) ≡ Some c.args.held = subst (λ (u : World). option_map seen (at u.cores core) ≡ Some c.args.held) (sym view) c.requires.held in
     let closed : option_map closed_by (at w.cores core) ≡ Some (Some how) = subst (λ (u : World). option_map closed_by (at u.cores core) ≡ Some (Some how)) (sym view) c.requires.closed in
-    let shut : ch.closed ≡ Some how = closed_is (at w.cores core) ch how closed c.chunk-chunk.ensures in
+    let shut : ch.closed ≡ Some how = closed_is (at w.cores core) ch how closed c.older-chunk.ensures in
     let moved : v ≡ moved_by w c.args.held how ch = subst (λ (m : Moved). came m p x.devices ≡ moved_by w c.args.held how ch) c.in-Granted.is (c.in_ok-moved.ensures.ok x.devices how shut) in
-    let after = chunk_after w core how (at w.cores core) c.args.held ch (writes_in w.numbers.bits (at w.cores core)) v held c.chunk-chunk.ensures refl moved in
+    let younger = younger_is (at w.cores core) c.args.held held in
+    let after = chunk_after w core how (at w.cores core) c.args.held ch (younger_of (at w.cores core)) (writes_in w.numbers.bits (at w.cores core)) v held c.older-chunk.ensures younger refl moved in
     subst (λ (u : World). Some Reply.Granted ≡ option_map (λ h. (grant_chunk u core h how).reply) (at u.cores core)) view
     (held_after (λ (a : After). a.reply) (λ h. grant_chunk w core h how) (at w.cores core) _ after)
 
@@ -66,18 +68,22 @@ returns-in-Granted-clause-world g c =
     let view : w ≡ c.args.self.now = c.self.view_is in
     let core = c.args.core in
     let how = c.args.how in
-    let ch = c.chunk-chunk.result.now.chunk in
+    let ch = c.older-chunk.result.now.chunk in
     let p : Sphere = nth_sphere c.args.held.sphere c.commit_chunk.new.self in
     let v : MovedSphere = came (moved_as.Granted c.in-Granted.words) p x.devices in
     let held : option_map seen (at w.cores core) ≡ Some c.args.held = subst (λ (u : World). option_map seen (at u.cores core) ≡ Some c.args.held) (sym view) c.requires.held in
     let closed : option_map closed_by (at w.cores core) ≡ Some (Some how) = subst (λ (u : World). option_map closed_by (at u.cores core) ≡ Some (Some how)) (sym view) c.requires.closed in
-    let shut : ch.closed ≡ Some how = closed_is (at w.cores core) ch how closed c.chunk-chunk.ensures in
+    let shut : ch.closed ≡ Some how = closed_is (at w.cores core) ch how closed c.older-chunk.ensures in
     let moved : v ≡ moved_by w c.args.held how ch = subst (λ (m : Moved). came m p x.devices ≡ moved_by w c.args.held how ch) c.in-Granted.is (c.in_ok-moved.ensures.ok x.devices how shut) in
-    let after = chunk_after w core how (at w.cores core) c.args.held ch _ v held c.chunk-chunk.ensures c.hand_over-writes.ensures.given moved in
+    let younger = younger_is (at w.cores core) c.args.held held in
+    let after = chunk_after w core how (at w.cores core) c.args.held ch (younger_of (at w.cores core)) _ v held c.older-chunk.ensures younger c.hand_over-writes.ensures.given moved in
     let point : c.push_reserved.new.self.items ≡ x.points.items ++ point_in w c.args.held CommitKind.Chunk ch.done.n (is_short w.numbers.s how ch.limit) ∷ [] = cc in
-    let done = grant_done x.cores x.spheres x.flights x.devices x.counts x.points.items core c.args.held c.commit_chunk.new.self c.in-Granted.words.words _ _ _ c.hand_over-writes.new.self c.hand_over-writes.ensures.core c.in_ok-moved.ensures.others point in
+    let within : core < length x.cores.held = subst (λ (u : World). core < length u.cores) (sym view) c.requires.core in
+    let i = c.args.held.sphere in
+    let on : World → World = λ u. with_core u core (goes_on u.numbers (sphere_at u i) (at u.cores core)) in
+    let done = grant_done x.cores x.spheres x.flights x.devices x.counts x.points.items core c.args.held c.commit_chunk.new.self c.in-Granted.words.words _ _ _ c.hand_over-writes.new.self within c.hand_over-writes.ensures.core c.in_ok-moved.ensures.others point in
     subst (λ (u : World). Some c.go_on.new.self ≡ option_map (λ h. left (grant_chunk u core h how)) (at u.cores core)) view
-    (ap (λ (u : World). Some u) (c.go_on.ensures ∙ done) ∙ held_after left (λ h. grant_chunk w core h how) (at w.cores core) _ after)
+    (ap (λ (u : World). Some u) (c.go_on.ensures ∙ ap on c.fly_from.ensures ∙ done ∙ ap (λ (goes : Option Occupant). with_grant w core c.args.held p c.in-Granted.words.words _ x.devices _ goes) (goes_as w.numbers p (at w.cores core) c.args.held held)) ∙ held_after left (λ h. grant_chunk w core h how) (at w.cores core) _ after)
 
 pub returns-in-Piece-clause-reply : goal.returns-in-Piece-clause-reply
 returns-in-Piece-clause-reply g c =
@@ -86,14 +92,15 @@ returns-in-Piece-clause-reply g c =
     let view : w ≡ c.args.self.now = c.self.view_is in
     let core = c.args.core in
     let how = c.args.how in
-    let ch = c.chunk-chunk.result.now.chunk in
+    let ch = c.older-chunk.result.now.chunk in
     let p : Sphere = nth_sphere c.args.held.sphere c.commit_chunk.new.self in
     let v : MovedSphere = came (moved_as.Piece c.in-Piece.words) p x.devices in
     let held : option_map seen (at w.cores core) ≡ Some c.args.held = subst (λ (u : World). option_map seen (at u.cores core) ≡ Some c.args.held) (sym view) c.requires.held in
     let closed : option_map closed_by (at w.cores core) ≡ Some (Some how) = subst (λ (u : World). option_map closed_by (at u.cores core) ≡ Some (Some how)) (sym view) c.requires.closed in
-    let shut : ch.closed ≡ Some how = closed_is (at w.cores core) ch how closed c.chunk-chunk.ensures in
+    let shut : ch.closed ≡ Some how = closed_is (at w.cores core) ch how closed c.older-chunk.ensures in
     let moved : v ≡ moved_by w c.args.held how ch = subst (λ (m : Moved). came m p x.devices ≡ moved_by w c.args.held how ch) c.in-Piece.is (c.in_ok-moved.ensures.ok x.devices how shut) in
-    let after = chunk_after w core how (at w.cores core) c.args.held ch (writes_in w.numbers.bits (at w.cores core)) v held c.chunk-chunk.ensures refl moved in
+    let younger = younger_is (at w.cores core) c.args.held held in
+    let after = chunk_after w core how (at w.cores core) c.args.held ch (younger_of (at w.cores core)) (writes_in w.numbers.bits (at w.cores core)) v held c.older-chunk.ensures younger refl moved in
     subst (λ (u : World). Some Reply.Piece ≡ option_map (λ h. (grant_chunk u core h how).reply) (at u.cores core)) view
     (held_after (λ (a : After). a.reply) (λ h. grant_chunk w core h how) (at w.cores core) _ after)
 
@@ -104,18 +111,22 @@ returns-in-Piece-clause-world g c =
     let view : w ≡ c.args.self.now = c.self.view_is in
     let core = c.args.core in
     let how = c.args.how in
-    let ch = c.chunk-chunk.result.now.chunk in
+    let ch = c.older-chunk.result.now.chunk in
     let p : Sphere = nth_sphere c.args.held.sphere c.commit_chunk.new.self in
     let v : MovedSphere = came (moved_as.Piece c.in-Piece.words) p x.devices in
     let held : option_map seen (at w.cores core) ≡ Some c.args.held = subst (λ (u : World). option_map seen (at u.cores core) ≡ Some c.args.held) (sym view) c.requires.held in
     let closed : option_map closed_by (at w.cores core) ≡ Some (Some how) = subst (λ (u : World). option_map closed_by (at u.cores core) ≡ Some (Some how)) (sym view) c.requires.closed in
-    let shut : ch.closed ≡ Some how = closed_is (at w.cores core) ch how closed c.chunk-chunk.ensures in
+    let shut : ch.closed ≡ Some how = closed_is (at w.cores core) ch how closed c.older-chunk.ensures in
     let moved : v ≡ moved_by w c.args.held how ch = subst (λ (m : Moved). came m p x.devices ≡ moved_by w c.args.held how ch) c.in-Piece.is (c.in_ok-moved.ensures.ok x.devices how shut) in
-    let after = chunk_after w core how (at w.cores core) c.args.held ch _ v held c.chunk-chunk.ensures c.hand_over-writes-in-Piece.ensures.given moved in
+    let younger = younger_is (at w.cores core) c.args.held held in
+    let after = chunk_after w core how (at w.cores core) c.args.held ch (younger_of (at w.cores core)) _ v held c.older-chunk.ensures younger c.hand_over-writes-in-Piece.ensures.given moved in
     let point : c.push_reserved-in-Piece.new.self.items ≡ x.points.items ++ point_in w c.args.held CommitKind.Piece ch.done.n (is_short w.numbers.s how ch.limit) ∷ [] = cc in
-    let done = grant_done x.cores x.spheres x.flights x.devices x.counts x.points.items core c.args.held c.commit_chunk.new.self c.in-Piece.words.words _ _ _ c.hand_over-writes-in-Piece.new.self c.hand_over-writes-in-Piece.ensures.core c.in_ok-moved.ensures.others point in
+    let within : core < length x.cores.held = subst (λ (u : World). core < length u.cores) (sym view) c.requires.core in
+    let i = c.args.held.sphere in
+    let on : World → World = λ u. with_core u core (goes_on u.numbers (sphere_at u i) (at u.cores core)) in
+    let done = grant_done x.cores x.spheres x.flights x.devices x.counts x.points.items core c.args.held c.commit_chunk.new.self c.in-Piece.words.words _ _ _ c.hand_over-writes-in-Piece.new.self within c.hand_over-writes-in-Piece.ensures.core c.in_ok-moved.ensures.others point in
     subst (λ (u : World). Some c.go_on-in-Piece.new.self ≡ option_map (λ h. left (grant_chunk u core h how)) (at u.cores core)) view
-    (ap (λ (u : World). Some u) (c.go_on-in-Piece.ensures ∙ done) ∙ held_after left (λ h. grant_chunk w core h how) (at w.cores core) _ after)
+    (ap (λ (u : World). Some u) (c.go_on-in-Piece.ensures ∙ ap on c.fly_from-in-Piece.ensures ∙ done ∙ ap (λ (goes : Option Occupant). with_grant w core c.args.held p c.in-Piece.words.words _ x.devices _ goes) (goes_as w.numbers p (at w.cores core) c.args.held held)) ∙ held_after left (λ h. grant_chunk w core h how) (at w.cores core) _ after)
 
 pub returns-in-Diverged-clause-reply : goal.returns-in-Diverged-clause-reply
 returns-in-Diverged-clause-reply g c =
@@ -124,14 +135,15 @@ returns-in-Diverged-clause-reply g c =
     let view : w ≡ c.args.self.now = c.self.view_is in
     let core = c.args.core in
     let how = c.args.how in
-    let ch = c.chunk-chunk.result.now.chunk in
+    let ch = c.older-chunk.result.now.chunk in
     let p : Sphere = nth_sphere c.args.held.sphere c.commit_chunk.new.self in
     let v : MovedSphere = came (moved_as.Diverged c.in-Diverged.commits c.in-Diverged.why) p x.devices in
     let held : option_map seen (at w.cores core) ≡ Some c.args.held = subst (λ (u : World). option_map seen (at u.cores core) ≡ Some c.args.held) (sym view) c.requires.held in
     let closed : option_map closed_by (at w.cores core) ≡ Some (Some how) = subst (λ (u : World). option_map closed_by (at u.cores core) ≡ Some (Some how)) (sym view) c.requires.closed in
-    let shut : ch.closed ≡ Some how = closed_is (at w.cores core) ch how closed c.chunk-chunk.ensures in
+    let shut : ch.closed ≡ Some how = closed_is (at w.cores core) ch how closed c.older-chunk.ensures in
     let moved : v ≡ moved_by w c.args.held how ch = subst (λ (m : Moved). came m p x.devices ≡ moved_by w c.args.held how ch) c.in-Diverged.is (c.in_ok-moved.ensures.ok x.devices how shut) in
-    let after = chunk_after w core how (at w.cores core) c.args.held ch (writes_in w.numbers.bits (at w.cores core)) v held c.chunk-chunk.ensures refl moved in
+    let younger = younger_is (at w.cores core) c.args.held held in
+    let after = chunk_after w core how (at w.cores core) c.args.held ch (younger_of (at w.cores core)) (writes_in w.numbers.bits (at w.cores core)) v held c.older-chunk.ensures younger refl moved in
     subst (λ (u : World). Some (Reply.Diverged c.in-Diverged.commits c.in-Diverged.why) ≡ option_map (λ h. (grant_chunk u core h how).reply) (at u.cores core)) view
     (held_after (λ (a : After). a.reply) (λ h. grant_chunk w core h how) (at w.cores core) _ after)
 
@@ -142,14 +154,15 @@ returns-in-Diverged-clause-world g c =
     let view : w ≡ c.args.self.now = c.self.view_is in
     let core = c.args.core in
     let how = c.args.how in
-    let ch = c.chunk-chunk.result.now.chunk in
+    let ch = c.older-chunk.result.now.chunk in
     let p : Sphere = nth_sphere c.args.held.sphere c.commit_chunk.new.self in
     let v : MovedSphere = came (moved_as.Diverged c.in-Diverged.commits c.in-Diverged.why) p x.devices in
     let held : option_map seen (at w.cores core) ≡ Some c.args.held = subst (λ (u : World). option_map seen (at u.cores core) ≡ Some c.args.held) (sym view) c.requires.held in
     let closed : option_map closed_by (at w.cores core) ≡ Some (Some how) = subst (λ (u : World). option_map closed_by (at u.cores core) ≡ Some (Some how)) (sym view) c.requires.closed in
-    let shut : ch.closed ≡ Some how = closed_is (at w.cores core) ch how closed c.chunk-chunk.ensures in
+    let shut : ch.closed ≡ Some how = closed_is (at w.cores core) ch how closed c.older-chunk.ensures in
     let moved : v ≡ moved_by w c.args.held how ch = subst (λ (m : Moved). came m p x.devices ≡ moved_by w c.args.held how ch) c.in-Diverged.is (c.in_ok-moved.ensures.ok x.devices how shut) in
-    let after = chunk_after w core how (at w.cores core) c.args.held ch (writes_in w.numbers.bits (at w.cores core)) v held c.chunk-chunk.ensures refl moved in
+    let younger = younger_is (at w.cores core) c.args.held held in
+    let after = chunk_after w core how (at w.cores core) c.args.held ch (younger_of (at w.cores core)) (writes_in w.numbers.bits (at w.cores core)) v held c.older-chunk.ensures younger refl moved in
     let world : world_in x.cores c.commit_chunk.new.self x.flights x.devices x.counts c.reserve.new.self.items ≡ world_in x.cores (with_nth c.args.held.sphere p x.spheres) x.flights x.devices x.counts x.points.items =
     ap (λ (s : Spheres). world_in x.cores s x.flights x.devices x.counts c.reserve.new.self.items) c.in_ok-moved.ensures.others
     ∙ ap (λ (ps : List Point). world_in x.cores (with_nth c.args.held.sphere p x.spheres) x.flights x.devices x.counts ps) c.reserve.ensures.items

@@ -10,7 +10,7 @@ use Rattle.spec_engine.specs.Signatures.{Signature, nothing, signed}
 use Rattle.spec_protocol.specs.declared.reply.Reply.{Reply}
 use Rattle.spec_protocol.specs.machine.Spheres.{turn_against, Sphere, head_of, is_stopped}
 use Rattle.spec_protocol.specs.machine.Commits.{MovedSphere, serial_moved}
-use Rattle.spec_protocol.specs.machine.World.{After, World, moment, sphere_at}
+use Rattle.spec_protocol.specs.machine.World.{After, World, moment, sphere_at, held_afresh, with_core}
 use Rattle.spec_protocol.specs.machine.Asking.{grant_serial}
 use Rattle.dl_sphere.specs.declared.moved.Moved.{Moved}
 use Rattle.dl_sphere.specs.declared.moved.Moved.TheVariants as moved_as
@@ -69,9 +69,11 @@ returns-in-Granted-clause-world g c =
     c.sign.ensures ∙ ap (signed c.args.held.sphere words) (c.in_ok-writes.ensures ∙ ap nothing c.bits.ensures.value)
     in
     let point : c.push_reserved.new.self.items ≡ x.points.items ++ point_in w c.args.held CommitKind.Serial 0 false ∷ [] = cc in
+    let i = c.args.held.sphere in
+    let on : World → World = λ u. with_core u core (held_afresh u.numbers i c.args.held.thread (sphere_at u i)) in
     let done = serial_done x.cores x.spheres x.flights x.devices x.counts x.points.items core c.args.held c.serial_step.new.self words _ _ _ d c.in_ok-moved.ensures.others point in
-    subst (λ (u : World). Some c.go_on.new.self ≡ option_map (λ h. left (grant_serial u core h)) (at u.cores core)) view
-    (ap (λ (u : World). Some u) (c.go_on.ensures ∙ done ∙ ap (λ (m : Signature). with_grant w core c.args.held p words m d (point_in w c.args.held CommitKind.Serial 0 false)) marks)
+    subst (λ (u : World). Some c.begin.new.self ≡ option_map (λ h. left (grant_serial u core h)) (at u.cores core)) view
+    (ap (λ (u : World). Some u) (c.begin.ensures ∙ ap on c.fly_from.ensures ∙ done ∙ ap (λ (m : Signature). with_grant w core c.args.held p words m d (point_in w c.args.held CommitKind.Serial 0 false) (held_afresh w.numbers i c.args.held.thread p)) marks)
     ∙ held_after left (grant_serial w core) (at w.cores core) _ after)
 
 -- no serial step is a piece of a commit

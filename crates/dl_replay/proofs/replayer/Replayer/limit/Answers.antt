@@ -1,7 +1,18 @@
-use Rattle.dl_replay.proofs.Limits.{limit-is}
+use Rattle.std.proofs.Common.{◌≡◌, Bool, sym, subst}
+use Rattle.spec_protocol.specs.machine.Spheres.{Replay}
+use Rattle.dl_replay.specs.Limits.{chunk_limit}
+use Rattle.dl_replay.specs.Replaying.{cursor_of}
+use Rattle.dl_replay.proofs.Limits.{after-is, limit-is}
 use Rattle.dl_replay.proofs.replayer.Replayer.limit.Goals as goal
 
 pub returns-clause-of_thread : goal.returns-clause-of_thread
 returns-clause-of_thread g c s loads threads t few e is =
-    limit-is c.args.self.now c.args.thread threads t s loads c.commits_of.result c.limit-whole.result c.pieces_of.result c.saturating_sub.result c.max.result
-    c.commits_of.ensures (rw (← c.self.view_is) c.limit-whole.ensures) c.pieces_of.ensures c.saturating_sub.ensures c.max.ensures few e is
+    subst (λ (after : Bool). c.max-2.result ≡ chunk_limit after s (Replay (cursor_of c.args.self.now loads)) c.args.thread t) (sym c.if-after.false)
+    (limit-is c.args.self.now c.args.thread threads t s loads c.commits_of-commits.result c.limit-whole.result c.pieces_of.result c.saturating_sub.result c.max-2.result
+    c.commits_of-commits.ensures (rw (← c.self.view_is) c.limit-whole.ensures) c.pieces_of.ensures c.saturating_sub.ensures c.max-2.ensures few e is)
+
+pub returns-then-after-clause-of_thread : goal.returns-then-after-clause-of_thread
+returns-then-after-clause-of_thread g c s loads threads t few e is =
+    subst (λ (after : Bool). c.max.result ≡ chunk_limit after s (Replay (cursor_of c.args.self.now loads)) c.args.thread t) (sym c.if-after.true)
+    (after-is c.args.self.now c.args.thread threads t s loads c.commits_of-commits.result c.limit.result c.max.result
+    c.commits_of-commits.ensures (rw (← c.self.view_is) c.limit.ensures) c.max.ensures few e is)

@@ -1,0 +1,67 @@
+use Rattle.std.proofs.Common.{◌≡◌, false, Some, List, refl, sym, ap, ◌∙◌, subst}
+use Rattle.std.specs.Prelude.{option_map}
+use Rattle.spec_engine.specs.Flights.{at}
+use Rattle.spec_protocol.specs.machine.Spheres.{is_stopped}
+use Rattle.spec_protocol.specs.machine.Stepping.{reply_of_step, stepping}
+use Rattle.spec_protocol.specs.machine.World.{World, sphere_at}
+use Rattle.dl_chunk.specs.Pairs.{pair_step}
+use Rattle.dl_sphere.specs.SizedSpheres.{SizedSphere}
+use Rattle.dl_machine.specs.Cores.{pair_in, seen}
+use Rattle.dl_machine.specs.Ready.{HasRoom, IsReady}
+use Rattle.dl_machine.specs.Requests.{Runs}
+use Rattle.dl_machine.specs.States.{left, world_in}
+use Rattle.dl_machine.proofs.Stepping.{HasLimit, can_step_held, core_here, named, reply_done, step_of_pair, world_done}
+use Rattle.dl_machine.proofs.state.State.step_chunk.Goals as goal
+
+pub step-stepped-requires-clause-runs : goal.step-stepped-requires-clause-runs
+step-stepped-requires-clause-runs g c =
+    let x = c.self.inside in
+    let w : World = world_in x.cores x.spheres x.flights x.devices x.counts x.points.items in
+    let view : w ≡ c.args.self.now = c.self.view_is in
+    let core = c.args.core in
+    let held : option_map seen (at w.cores core) ≡ Some c.args.held = subst (λ (u : World). option_map seen (at u.cores core) ≡ Some c.args.held) (sym view) c.requires.held in
+    let going : is_stopped (sphere_at w c.args.held.sphere).role ≡ false = subst (λ (u : World). is_stopped (sphere_at u c.args.held.sphere).role ≡ false) (sym view) c.requires.going in
+    let runs : Runs w core c.args.held = subst (λ (u : World). Runs u core c.args.held) (sym view) c.requires.runs in
+    let ready : IsReady w = subst IsReady (sym view) c.requires.ready in
+    let room : HasRoom w = subst HasRoom (sym view) c.requires.room in
+    can_step_held w core (at w.cores core) c.args.held c.younger_limit-limit.result ready room refl held going runs c.younger_limit-limit.ensures.least c.younger_limit-limit.ensures.most
+
+pub returns-clause-reply : goal.returns-clause-reply
+returns-clause-reply g c =
+    let x = c.self.inside in
+    let w : World = world_in x.cores x.spheres x.flights x.devices x.counts x.points.items in
+    let view : w ≡ c.args.self.now = c.self.view_is in
+    let core = c.args.core in
+    let held : option_map seen (at w.cores core) ≡ Some c.args.held = subst (λ (u : World). option_map seen (at u.cores core) ≡ Some c.args.held) (sym view) c.requires.held in
+    let going : is_stopped (sphere_at w c.args.held.sphere).role ≡ false = subst (λ (u : World). is_stopped (sphere_at u c.args.held.sphere).role ≡ false) (sym view) c.requires.going in
+    let runs : Runs w core c.args.held = subst (λ (u : World). Runs u core c.args.held) (sym view) c.requires.runs in
+    let ready : IsReady w = subst IsReady (sym view) c.requires.ready in
+    let limit = c.younger_limit-limit.result in
+    let has : HasLimit w c.args.held limit = subst (λ (u : World). HasLimit u c.args.held limit) (sym view) c.younger_limit-limit.ensures.value in
+    let m = c.memory-memory.result.now in
+    let memory : m ≡ (sphere_at w c.args.held.sphere).memory = c.memory-memory.ensures ∙ ap (λ (p : SizedSphere). p.sphere.memory) c.get.ensures in
+    let step = λ h. pair_step m w.slots core limit (pair_in (core_here w core) h) in
+    let after = step_of_pair w core (at w.cores core) c.args.held limit m ready refl held going runs has memory in
+    let reply = named reply_of_step (λ h. (step h).reply) (at w.cores core) c.step-stepped.result c.step-stepped.ensures.reply in
+    c.reply_of_step.ensures
+    ∙ reply_done w core (λ h. reply_of_step (step h).reply) (λ h. (step h).pair) (at w.cores core) _ _ reply after
+    ∙ ap (λ (u : World). (stepping u core).reply) view
+
+pub returns-clause-world : goal.returns-clause-world
+returns-clause-world g c =
+    let x = c.self.inside in
+    let w : World = world_in x.cores x.spheres x.flights x.devices x.counts x.points.items in
+    let view : w ≡ c.args.self.now = c.self.view_is in
+    let core = c.args.core in
+    let held : option_map seen (at w.cores core) ≡ Some c.args.held = subst (λ (u : World). option_map seen (at u.cores core) ≡ Some c.args.held) (sym view) c.requires.held in
+    let going : is_stopped (sphere_at w c.args.held.sphere).role ≡ false = subst (λ (u : World). is_stopped (sphere_at u c.args.held.sphere).role ≡ false) (sym view) c.requires.going in
+    let runs : Runs w core c.args.held = subst (λ (u : World). Runs u core c.args.held) (sym view) c.requires.runs in
+    let ready : IsReady w = subst IsReady (sym view) c.requires.ready in
+    let limit = c.younger_limit-limit.result in
+    let has : HasLimit w c.args.held limit = subst (λ (u : World). HasLimit u c.args.held limit) (sym view) c.younger_limit-limit.ensures.value in
+    let m = c.memory-memory.result.now in
+    let memory : m ≡ (sphere_at w c.args.held.sphere).memory = c.memory-memory.ensures ∙ ap (λ (p : SizedSphere). p.sphere.memory) c.get.ensures in
+    let step = λ h. pair_step m w.slots core limit (pair_in (core_here w core) h) in
+    let after = step_of_pair w core (at w.cores core) c.args.held limit m ready refl held going runs has memory in
+    world_done x.cores x.spheres x.flights x.devices x.counts x.points.items core (λ h. reply_of_step (step h).reply) (λ h. (step h).pair) (at w.cores core) c.step-stepped.new.self _ c.step-stepped.ensures.core after
+    ∙ ap (λ (u : World). left (stepping u core)) view
